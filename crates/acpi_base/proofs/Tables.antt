@@ -1,0 +1,170 @@
+-- Tables: their checksums, their lengths, and what they are as sinks.
+use Rattle.std.proofs.Common.{◌≡◌, ◌≢◌, ℕ, ◌+◌, ◌-◌, ◌%◌, ◌<◌, ◌≤◌, ◌^◌, List, [], ◌∷◌, ◌++◌, length, take, drop, nat_lt, true, false, refl, sym, ◌∙◌, ap, arith, append_assoc, length-append}
+use Rattle.std.specs.Prelude.{Result, Ok, Err, OnOk, OnErr, IfErr, sum, slice_set}
+use Rattle.std.proofs.lemmas.List.{append-nil, take_at}
+use Rattle.std.proofs.lemmas.Bool.Decides.{nat_tests}
+use Rattle.acpi_base.specs.declared.error.Error.{Error}
+use Rattle.acpi_base.specs.declared.error.Error.TheVariants.{Memory, FieldWidth}
+use Rattle.acpi_base.specs.Bytes.{le, put, complement}
+use Rattle.acpi_base.specs.Sink.{Took, Refused}
+use Rattle.acpi_base.specs.Sdt.{with_checksum, sealed, added, fits, sdt_of}
+use Rattle.std.proofs.lemmas.List.Sums.{sum_by-append}
+use Rattle.acpi_base.specs.Contents.{IsTable}
+use Rattle.acpi_base.proofs.Puts.{put-put, put_comm, length-put, sum-put, put-append}
+
+-- ---- checksums
+
+-- the checksum's byte once it was cleared
+cleared : (c : List ℕ) → 10 ≤ length c → sum (take 1 (drop 9 (put 9 (0 ∷ []) c))) ≡ 0
+unfolding put
+cleared (x0 ∷ x1 ∷ x2 ∷ x3 ∷ x4 ∷ x5 ∷ x6 ∷ x7 ∷ x8 ∷ x9 ∷ r) h = refl
+cleared c h = absurd (omega arith)
+
+pub sum-with_checksum : (bytes : List ℕ) → 10 ≤ length bytes → sum (with_checksum bytes) % 256 ≡ 0
+sum-with_checksum bytes h =
+    let c = put 9 (0 ∷ []) bytes in
+    let k = complement (sum c) in
+    let long : length c ≡ length bytes = length-put 9 (0 ∷ []) bytes h in
+    let again : put 9 (k ∷ []) c ≡ with_checksum bytes = put-put 9 (k ∷ []) (0 ∷ []) bytes refl h in
+    let sums : sum (put 9 (k ∷ []) c) + sum (take 1 (drop 9 c)) ≡ sum c + sum (k ∷ []) = sum-put 9 (k ∷ []) c (omega (arith, long)) in
+    omega (arith, ap sum again, sums, cleared bytes h)
+
+-- a checksum made true twice
+checksum_again : (b : List ℕ) → 10 ≤ length b → with_checksum (with_checksum b) ≡ with_checksum b
+unfolding put
+checksum_again (x0 ∷ x1 ∷ x2 ∷ x3 ∷ x4 ∷ x5 ∷ x6 ∷ x7 ∷ x8 ∷ x9 ∷ r) h = refl
+checksum_again b h = absurd (omega arith)
+
+-- ---- lengths
+
+sealed_sealed : (c d : List ℕ) → 10 ≤ length c → sealed (sealed c ++ d) ≡ sealed (c ++ d)
+unfolding put
+sealed_sealed (x0 ∷ x1 ∷ x2 ∷ x3 ∷ x4 ∷ x5 ∷ x6 ∷ x7 ∷ x8 ∷ x9 ∷ r) d h = refl
+sealed_sealed c d h = absurd (omega arith)
+
+pub length-with_checksum : (c : List ℕ) → 10 ≤ length c → length (with_checksum c) ≡ length c
+length-with_checksum c h = length-put 9 (complement (sum (put 9 (0 ∷ []) c)) ∷ []) c h
+
+length-sealed : (c : List ℕ) → 10 ≤ length c → length (sealed c) ≡ length c
+length-sealed c h =
+    let one : length (put 4 (le 4 (length c)) c) ≡ length c = length-put 4 (le 4 (length c)) c (omega arith) in
+    length-with_checksum (put 4 (le 4 (length c)) c) (omega (arith, one)) ∙ one
+
+pub length-added : (b a : List ℕ) → 10 ≤ length b → length (added b a) ≡ length b + length a
+length-added b [] h = omega arith
+length-added b (x ∷ a) h = length-sealed (b ++ x ∷ a) (omega (arith, length-append b (x ∷ a))) ∙ length-append b (x ∷ a)
+
+pub added_added : (b a c : List ℕ) → 10 ≤ length b → added (added b a) c ≡ added b (a ++ c)
+added_added b [] c h = refl
+added_added b (x ∷ a) [] h = ap (λ t. sealed (b ++ x ∷ t)) (sym (append-nil a))
+added_added b (x ∷ a) (y ∷ c) h =
+    sealed_sealed (b ++ x ∷ a) (y ∷ c) (omega (arith, length-append b (x ∷ a))) ∙ ap sealed (append_assoc b (x ∷ a) (y ∷ c))
+
+-- ---- as a sink
+
+fits_added : (b a c : List ℕ) → 10 ≤ length b → length b + length a < 2 ^ 32 → fits (added b a) c ≡ fits b (a ++ c)
+fits_added b [] c long h = refl
+fits_added b (x ∷ a) [] long h = grind (arith, nat_tests, h, length-append (x ∷ a) [])
+fits_added b (x ∷ a) (y ∷ c) long h =
+    ap (λ n. nat_lt n (2 ^ 32)) (omega (arith, length-added b (x ∷ a) long, length-append (x ∷ a) (y ∷ c)))
+
+sdt_took : (b a : List ℕ) → 10 ≤ length b → length b + length a < 2 ^ 32 → Took (sdt_of b) a (sdt_of (added b a))
+unfolding sdt_of
+sdt_took b a h small = record {
+  moved = λ i. record { shows = λ c. added_added b a c h i; takes = λ c. fits_added b a c h small i; wants_memory = true };
+}
+
+pub sdt_ok : {T : Type 0} (r : Result T Error) (b a new : List ℕ) → OnOk r (new ≡ added b a) → (36 ≤ length b) × (length b < 2 ^ 32) → OnOk r (length b + length a < 2 ^ 32) → OnOk r (Took (sdt_of b) a (sdt_of new))
+sdt_ok (Ok x) b a new is header small = rw is (sdt_took b a (omega (arith, header.0)) small)
+sdt_ok (Err e) b a new is header small = tt
+
+too_long : (b a more : List ℕ) → length b < 2 ^ 32 → 2 ^ 32 ≤ length b + length a → fits b (a ++ more) ≡ false
+too_long b [] more small long = absurd (omega arith)
+too_long b (x ∷ a) more small long = grind (arith, nat_tests, small, long, length-append (x ∷ a) more)
+
+pub sdt_err : {T : Type 0} (r : Result T Error) (b a new : List ℕ) → OnErr r (new ≡ b) → (36 ≤ length b) × (length b < 2 ^ 32) → IfErr r (λ e. e ≢ Memory → (e ≡ FieldWidth) × (2 ^ 32 ≤ length b + length a)) → IfErr r (λ e. Refused e (sdt_of b) a (sdt_of new))
+unfolding sdt_of
+sdt_err (Ok x) b a new same header cause = tt
+sdt_err (Err e) b a new same header cause = record {
+  beginning = record { part = []; rest = a; joined = refl; took = record { moved = ap sdt_of same } };
+  memory = λ is. refl;
+  cause = λ is_other more. too_long b a more header.1 (cause is_other).1;
+}
+
+-- ---- what the calls leave
+
+-- a length patched in while the checksum is cleared
+pub set_length_is : (b l c0 c1 : List ℕ) (r r' s : ℕ) → 36 ≤ length b → length l ≡ 4 → c0 ≡ put 9 (0 ∷ []) b → c1 ≡ put 4 l c0
+    → r ≡ sum c0 % 256 → r' < 256 → (r' + sum c0) % 256 ≡ (r + sum c1) % 256 → s ≡ (256 - r') % 256
+    → (put 9 (s ∷ []) c1 ≡ with_checksum (put 4 l b)) × (r' ≡ sum (put 9 (0 ∷ []) (put 9 (s ∷ []) c1)) % 256)
+set_length_is b l c0 c1 r r' s long four is0 is1 sums small step complements =
+    let size0 : length c0 ≡ length b = ap length is0 ∙ length-put 9 (0 ∷ []) b (omega arith) in
+    let size1 : length c1 ≡ length b = ap length is1 ∙ length-put 4 l c0 (omega arith) ∙ size0 in
+    let sizel : length (put 4 l b) ≡ length b = length-put 4 l b (omega arith) in
+    let swap : c1 ≡ put 9 (0 ∷ []) (put 4 l b) = is1 ∙ ap (put 4 l) is0 ∙ put_comm 4 9 l (0 ∷ []) b (omega arith) (omega arith) in
+    let over : put 9 (s ∷ []) c1 ≡ put 9 (s ∷ []) (put 4 l b) = ap (put 9 (s ∷ [])) swap ∙ put-put 9 (s ∷ []) (0 ∷ []) (put 4 l b) refl (omega (arith, sizel)) in
+    let same : s ≡ complement (sum (put 9 (0 ∷ []) (put 4 l b))) = omega (arith, complements, step, sums, small, ap sum swap) in
+    let back : put 9 (0 ∷ []) (put 9 (s ∷ []) c1) ≡ c1 = put-put 9 (0 ∷ []) (s ∷ []) c1 refl (omega (arith, size1)) ∙ ap (put 9 (0 ∷ [])) swap ∙ put-put 9 (0 ∷ []) (0 ∷ []) (put 4 l b) refl (omega (arith, sizel)) ∙ sym swap in
+    (over ∙ ap (λ k. put 9 (k ∷ []) (put 4 l b)) same, omega (arith, ap sum back, step, sums, small))
+
+-- ---- laws
+
+pub sum-added : (table bytes : List ℕ) → 36 ≤ length table → sum table % 256 ≡ 0 → sum (added table bytes) % 256 ≡ 0
+sum-added table [] h zero = zero
+sum-added table (x ∷ xs) h zero =
+    let all = table ++ x ∷ xs in
+    let long : length all ≡ length table + length (x ∷ xs) = length-append table (x ∷ xs) in
+    let told : length (put 4 (le 4 (length all)) all) ≡ length all = length-put 4 (le 4 (length all)) all (omega (arith, long)) in
+    sum-with_checksum (put 4 (le 4 (length all)) all) (omega (arith, told, long))
+
+-- the length stands at 4
+told_at : (c : List ℕ) → 10 ≤ length c → take 4 (drop 4 (sealed c)) ≡ le 4 (length c)
+unfolding put
+told_at (x0 ∷ x1 ∷ x2 ∷ x3 ∷ x4 ∷ x5 ∷ x6 ∷ x7 ∷ x8 ∷ x9 ∷ r) h = refl
+told_at c h = absurd (omega arith)
+
+pub added_tells : (table bytes : List ℕ) → 36 ≤ length table → 1 ≤ length bytes
+    → (length (added table bytes) ≡ length table + length bytes) × (take 4 (drop 4 (added table bytes)) ≡ le 4 (length table + length bytes))
+added_tells table [] h some = absurd (omega arith)
+added_tells table (x ∷ xs) h some =
+    let long : length (table ++ x ∷ xs) ≡ length table + length (x ∷ xs) = length-append table (x ∷ xs) in
+    (length-added table (x ∷ xs) (omega arith), told_at (table ++ x ∷ xs) (omega (arith, long)) ∙ ap (le 4) long)
+
+-- the bytes of a vector that was written through a slice
+pub written_back : (n : ℕ) (new old : List ℕ) → length new ≡ n → take n (new ++ drop (length new) old) ≡ new
+written_back n new old size = take_at new (drop (length new) old) n size
+
+-- what a table keeps
+pub sealed_table : (bytes b : List ℕ) (r : ℕ) → bytes ≡ with_checksum b → 36 ≤ length b → length b < 2 ^ 32 → r ≡ sum (put 9 (0 ∷ []) bytes) % 256 → IsTable bytes r
+sealed_table bytes b r is long small sums =
+    let size : length bytes ≡ length b = ap length is ∙ length-with_checksum b (omega arith) in
+    record { header = omega (arith, size); fits = omega (arith, size); sealed = is ∙ sym (checksum_again b (omega arith)) ∙ sym (ap with_checksum is); running = sums }
+
+-- bytes added at the end leave the sum of all but the checksum true
+pub sum_extended : (b a : List ℕ) (r r' : ℕ) → 36 ≤ length b → r ≡ sum (put 9 (0 ∷ []) b) % 256 → r' ≡ (r + sum a) % 256 → r' ≡ sum (put 9 (0 ∷ []) (b ++ a)) % 256
+sum_extended b a r r' long before now =
+    omega (arith, before, now, ap sum (put-append 9 (0 ∷ []) b a (omega arith)), sum_by-append (λ v. v) (put 9 (0 ∷ []) b) a)
+
+-- the same of all bytes, without a length
+pub sum_all_is : (b c0 : List ℕ) (r s : ℕ) → 36 ≤ length b → c0 ≡ put 9 (0 ∷ []) b → r ≡ sum c0 % 256 → s ≡ (256 - r) % 256
+    → (put 9 (s ∷ []) c0 ≡ with_checksum b) × (r ≡ sum (put 9 (0 ∷ []) (put 9 (s ∷ []) c0)) % 256)
+sum_all_is b c0 r s long is0 sums complements =
+    let size0 : length c0 ≡ length b = ap length is0 ∙ length-put 9 (0 ∷ []) b (omega arith) in
+    let over : put 9 (s ∷ []) c0 ≡ put 9 (s ∷ []) b = ap (put 9 (s ∷ [])) is0 ∙ put-put 9 (s ∷ []) (0 ∷ []) b refl (omega arith) in
+    let same : s ≡ complement (sum (put 9 (0 ∷ []) b)) = omega (arith, complements, sums, ap sum is0) in
+    let back : put 9 (0 ∷ []) (put 9 (s ∷ []) c0) ≡ c0 = put-put 9 (0 ∷ []) (s ∷ []) c0 refl (omega (arith, size0)) ∙ ap (put 9 (0 ∷ [])) is0 ∙ put-put 9 (0 ∷ []) (0 ∷ []) b refl (omega arith) ∙ sym is0 in
+    (over ∙ ap (λ k. put 9 (k ∷ []) b) same, omega (arith, ap sum back, sums))
+
+set_at_nine : (bytes : List ℕ) (b : ℕ) → 10 ≤ length bytes → slice_set bytes 9 b ≡ put 9 (b ∷ []) bytes
+unfolding put
+set_at_nine (x0 ∷ x1 ∷ x2 ∷ x3 ∷ x4 ∷ x5 ∷ x6 ∷ x7 ∷ x8 ∷ x9 ∷ r) b h = refl
+set_at_nine bytes b h = absurd (omega arith)
+
+-- a checksum that is written again
+pub checksum_set : (bytes : List ℕ) (r s : ℕ) → IsTable bytes r → s ≡ (256 - r) % 256 → slice_set bytes 9 s ≡ bytes
+checksum_set bytes r s is complements =
+    let same : s ≡ complement (sum (put 9 (0 ∷ []) bytes)) = omega (arith, complements, is.running) in
+    set_at_nine bytes s (omega (arith, is.header)) ∙ ap (λ k. put 9 (k ∷ []) bytes) same ∙ sym is.sealed
+
+pub table_is_zero : (bytes : List ℕ) (r : ℕ) → IsTable bytes r → sum bytes % 256 ≡ 0
+table_is_zero bytes r is = ap (λ b. sum b % 256) is.sealed ∙ sum-with_checksum bytes (omega (arith, is.header))

@@ -1,0 +1,16 @@
+-- Vectors of bytes as sinks.
+use Rattle.std.specs.Prelude.{ℕ, List, ◌++◌, true, IsTrue, refl, Vec}
+use Rattle.std.specs.declared.alloc.Global.{Global}
+use Rattle.acpi_base.specs.Sink.{Meaning}
+
+-- it shows all that it holds
+unfoldable pub buffer_of : Vec ℕ Global → Meaning
+buffer_of held = record {
+  shows = λ more. held.items ++ more;
+  takes = λ _. true;
+  wants_memory = true;
+}
+
+pub buffer_takes : (held : Vec ℕ Global) (bytes : List ℕ) → IsTrue ((buffer_of held).takes bytes)
+unfolding buffer_of
+buffer_takes held bytes = refl

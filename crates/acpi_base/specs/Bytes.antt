@@ -1,0 +1,20 @@
+-- Bytes, and numbers as bytes.
+use Rattle.std.specs.Prelude.{ℕ, ◌+◌, ◌-◌, ◌%◌, ◌<◌, List, [], ◌∷◌, ◌++◌, length, take, drop}
+use Rattle.std.specs.Int.{bytes_low_first}
+
+-- each is a byte
+abbrev pub AreBytes : List ℕ → Type 0
+AreBytes [] = Unit {0}
+AreBytes (b ∷ bytes) = (b < 256) × AreBytes bytes
+
+-- the lowest w bytes of v, lowest first (ACPI 6.5, 5.2)
+abbrev pub le : ℕ → ℕ → List ℕ
+le w v = bytes_low_first 0 w v
+
+-- the bytes `with` over those that begin at an offset
+unfoldable pub put : ℕ → List ℕ → List ℕ → List ℕ
+put offset with bytes = take offset bytes ++ (with ++ drop (offset + length with) bytes)
+
+-- what makes a sum zero modulo 256
+abbrev pub complement : ℕ → ℕ
+complement n = (256 - n % 256) % 256

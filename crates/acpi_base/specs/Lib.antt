@@ -1,0 +1,11 @@
+pub mod Bytes
+pub mod Sink
+pub mod Object
+pub mod Checksum
+pub mod Buffer
+pub mod Number
+pub mod Sum
+pub mod Header
+pub mod Contents
+pub mod Sdt
+pub mod Laws

@@ -1,0 +1,15 @@
+//! What every other crate stands on: sinks and objects, checksums, numbers and system description tables.
+#![tactic(auto)]
+
+pub mod buffer;
+pub mod checksum;
+pub mod constant;
+pub mod error;
+pub mod laws;
+pub mod number;
+pub mod object;
+pub mod patch;
+pub mod sdt;
+pub mod sink;
+pub mod sum;
+pub mod summed;

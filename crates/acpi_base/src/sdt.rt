@@ -1,0 +1,220 @@
+//! System description tables whose contents are the caller's.
+
+ghost use Rattle.std.specs.Prelude.{◌≡◌, ◌≢◌, ◌≤◌, ◌<◌, ◌+◌, ◌-◌, ◌%◌, ◌^◌, ◌++◌, [], ◌∷◌, ◌↔◌, length, replicate, sum, OnOk, OnErr, IfErr, IfOk, IsTrue};
+ghost use Rattle.acpi_base.specs.Bytes.{le, put};
+ghost use Rattle.acpi_base.specs.Header.{header};
+ghost use Rattle.acpi_base.specs.Object.{whole, whole_ends_well, Wrote};
+ghost use Rattle.acpi_base.specs.Sink.{Took, Refused};
+ghost use Rattle.acpi_base.specs.Sdt.{with_checksum, added, sdt_of, sdt_takes_nothing, sdt_takes_beginning};
+
+use crate::error::{Error, R};
+use crate::object::Aml;
+use crate::patch::{patch, write_at};
+use crate::sink::AmlSink;
+use crate::sum::Sum;
+use std::alloc::Global;
+use std::marker::Model;
+
+/// Who made a table: the creator's id in the standard header (ACPI 6.5, 5.2.6, offset 28).
+pub const CREATOR_ID: [u8; 4] = *b"RVAT";
+
+/// The creator's revision in the standard header (offset 32).
+pub const CREATOR_REVISION: [u8; 4] = [0, 0, 0, 1];
+
+/// A table: the standard header (ACPI 6.5, 5.2.6), and bytes of the caller's behind it. Its checksum is true after
+/// every call, and its length after every call that adds bytes.
+#[derive(Drop)]
+pub struct Sdt {
+    bytes: Vec<u8>,
+    sum: Sum,
+}
+
+impl Model for Sdt {
+    ghost use Rattle.acpi_base.specs.Contents.{Contents, IsTable};
+
+    ghost Value = { Contents };
+
+    ghost view = { λ s. record { bytes = s.bytes.items; summed = s.sum.summed } };
+
+    ghost invariant = { λ s. IsTable s.bytes.items s.sum.value };
+}
+
+/// A table takes bytes at its end while its length fits 32 bits, and is whole after each call.
+impl AmlSink for Sdt {
+    ghost meaning = { λ s. sdt_of s.bytes };
+
+    ghost takes_nothing = { λ s. sdt_takes_nothing s.bytes };
+
+    ghost takes_beginning = { λ s. sdt_takes_beginning s.bytes };
+
+    fn byte(&mut self, byte: u8) -> R<()>
+        ensures ok { OnOk result (Took (sdt_of self.old.bytes) (byte ∷ []) (sdt_of self.new.bytes)) }
+        ensures err { IfErr result (λ e. Refused e (sdt_of self.old.bytes) (byte ∷ []) (sdt_of self.new.bytes)) }
+        ensures cost { self.new.summed ≤ self.old.summed + 9 }
+        ensures grows { self.old.summed ≤ self.new.summed }
+    {
+        self.append_slice(&[byte])
+    }
+
+    fn vec(&mut self, v: &[u8]) -> R<()>
+        ensures ok { OnOk result (Took (sdt_of self.old.bytes) v.now (sdt_of self.new.bytes)) }
+        ensures err { IfErr result (λ e. Refused e (sdt_of self.old.bytes) v.now (sdt_of self.new.bytes)) }
+        ensures cost { self.new.summed ≤ self.old.summed + length v.now + 8 }
+        ensures grows { self.old.summed ≤ self.new.summed }
+    {
+        self.append_slice(v)
+    }
+}
+
+/// A table writes its bytes.
+impl Aml for Sdt {
+    ghost object = { λ s. whole s.bytes };
+
+    ghost ends_well = { λ s. whole_ends_well s.bytes };
+
+    fn to_aml_bytes(&self, sink: &mut dyn AmlSink) -> R<()> {
+        sink.vec(&self.bytes)
+    }
+}
+
+// The standard header with a checksum of zero, and zeros up to the size.
+fn header_and_zeros(
+    alloc: Global,
+    signature: [u8; 4],
+    size: u32,
+    revision: u8,
+    oem_id: [u8; 6],
+    oem_table: [u8; 8],
+    oem_revision: u32,
+) -> R<Vec<u8>>
+    requires { 36 ≤ size }
+    ensures bytes { IfOk result (λ v. v.items ≡ header signature size revision oem_id oem_table oem_revision ++ replicate (size - 36) 0) }
+    ensures len { IfOk result (λ v. length v.items ≡ size) }
+    ensures err { IfErr result (λ e. e ≡ Error.Memory) }
+{
+    let mut bytes = Vec::with_capacity(alloc, size as usize)?;
+    bytes.extend_from_slice(&signature)?;
+    bytes.extend_from_slice(&size.to_le_bytes())?;
+    bytes.extend_from_slice(&[revision, 0])?;
+    bytes.extend_from_slice(&oem_id)?;
+    bytes.extend_from_slice(&oem_table)?;
+    bytes.extend_from_slice(&oem_revision.to_le_bytes())?;
+    bytes.extend_from_slice(&CREATOR_ID)?;
+    bytes.extend_from_slice(&CREATOR_REVISION)?;
+    bytes.resize(size as usize, 0)?;
+    Ok(bytes)
+}
+
+// Puts a length in its place and makes the checksum true, where the sum is that of all other bytes.
+fn set_length(bytes: &mut [u8], running: &mut Sum, size: u32)
+    requires header { 36 ≤ length bytes.old }
+    requires summed { running.old.value ≡ sum (put 9 (0 ∷ []) bytes.old) % 256 }
+    ensures bytes { bytes.new ≡ with_checksum (put 4 (le 4 size) bytes.old) }
+    ensures sum { running.new.value ≡ sum (put 9 (0 ∷ []) bytes.new) % 256 }
+    ensures counted { running.new.summed ≡ running.old.summed + 8 }
+{
+    write_at(bytes, 9, &[0]);
+    patch(bytes, running, 4, &size.to_le_bytes());
+    write_at(bytes, 9, &[running.checksum()]);
+}
+
+// Makes the checksum true, and answers the sum of all other bytes.
+fn sum_all(bytes: &mut [u8]) -> Sum
+    requires { 36 ≤ length bytes.old }
+    ensures bytes { bytes.new ≡ with_checksum bytes.old }
+    ensures sum { result.value ≡ sum (put 9 (0 ∷ []) bytes.new) % 256 }
+{
+    write_at(bytes, 9, &[0]);
+    let mut running = Sum::new();
+    running.add(bytes);
+    write_at(bytes, 9, &[running.checksum()]);
+    running
+}
+
+impl Sdt {
+    /// A table of `length` bytes: the standard header, and zeros up to that length. ShortTable below 36.
+    pub fn new(
+        alloc: Global,
+        signature: [u8; 4],
+        length: u32,
+        revision: u8,
+        oem_id: [u8; 6],
+        oem_table: [u8; 8],
+        oem_revision: u32,
+    ) -> R<Sdt>
+        ensures ok { IfOk result (λ table. table.bytes ≡ with_checksum
+            (header signature length revision oem_id oem_table oem_revision ++ replicate (length - 36) 0)) }
+        ensures long { OnOk result (36 ≤ length) }
+        ensures err { IfErr result (λ e. e ≢ Error.Memory → (e ≡ Error.ShortTable) × (length < 36)) }
+    {
+        if length < 36 {
+            return Err(Error::ShortTable);
+        }
+        let mut bytes = header_and_zeros(
+            alloc,
+            signature,
+            length,
+            revision,
+            oem_id,
+            oem_table,
+            oem_revision,
+        )?;
+        let sum = sum_all(&mut bytes);
+        Ok(Sdt { bytes, sum })
+    }
+
+    /// Makes the checksum at offset 9 true. It is so after every call, and this one changes nothing.
+    pub fn update_checksum(&mut self)
+        ensures bytes { self.new.bytes ≡ with_checksum self.old.bytes }
+        ensures same { self.new.bytes ≡ self.old.bytes }
+        ensures summed { self.new.summed ≡ self.old.summed }
+    {
+        self.bytes[9] = self.sum.checksum();
+    }
+
+    /// Adds bytes at the end, and makes the length and the checksum true. No bytes change nothing. FieldWidth where
+    /// the length would reach 2^32.
+    pub fn append_slice(&mut self, slice: &[u8]) -> R<()>
+        ensures ok { OnOk result (self.new.bytes ≡ added self.old.bytes slice.now) }
+        ensures fits { OnOk result (length self.old.bytes + length slice.now < 2 ^ 32) }
+        ensures err { OnErr result (self.new.bytes ≡ self.old.bytes) }
+        ensures cause { IfErr result (λ e. e ≢ Error.Memory → (e ≡ Error.FieldWidth) × (2 ^ 32 ≤ length self.old.bytes + length slice.now)) }
+        ensures header { (36 ≤ length self.old.bytes) × (length self.old.bytes < 2 ^ 32) }
+        ensures cost { self.new.summed ≤ self.old.summed + length slice.now + 8 }
+        ensures grows { self.old.summed ≤ self.new.summed }
+    {
+        let Ok(size) = u32::try_from(self.bytes.len() + slice.len()) else {
+            return Err(Error::FieldWidth);
+        };
+        if slice.is_empty() {
+            return Ok(());
+        }
+        self.bytes.extend_from_slice(slice)?;
+        self.sum.add(slice);
+        set_length(&mut self.bytes, &mut self.sum, size);
+        Ok(())
+    }
+
+    /// The table's bytes, which sum to zero.
+    pub fn as_slice(&self) -> &[u8]
+        ensures bytes { result.now ≡ self.now.bytes }
+        ensures zero { sum result.now % 256 ≡ 0 }
+    {
+        &self.bytes
+    }
+
+    /// How many bytes the table has: 36 at least, and below 2^32.
+    pub fn len(&self) -> usize
+        ensures len { result ≡ length self.now.bytes }
+        ensures header { (36 ≤ length self.now.bytes) × (length self.now.bytes < 2 ^ 32) }
+    {
+        self.bytes.len()
+    }
+
+    /// Whether the table has no bytes, which is never so.
+    pub fn is_empty(&self) -> bool
+        ensures { IsTrue result ↔ (length self.now.bytes ≡ 0) }
+    {
+        self.bytes.is_empty()
+    }
+}

@@ -1,0 +1,4 @@
+//! What AML and its reading speak of: terms, names, and why bytes couldn't be read.
+#![tactic(auto)]
+
+pub mod read_error;
