@@ -1,4 +1,6 @@
 //! What AML and its reading speak of: terms, names, and why bytes couldn't be read.
 #![tactic(auto)]
 
+pub mod mode;
+pub mod op;
 pub mod read_error;
