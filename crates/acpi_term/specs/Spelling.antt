@@ -5,7 +5,7 @@ use Rattle.acpi_base.specs.Number.{number_limit}
 use Rattle.acpi_base.specs.Object.{Object}
 use Rattle.acpi_term.specs.declared.mode.Mode.{Mode}
 use Rattle.acpi_term.specs.declared.mode.Mode.TheVariants.{Term, Element, Count}
-use Rattle.acpi_term.specs.Tree.{Entry, named, reserved, Head, number, ones, text, local, arg, call, scope, device, method, power, field, region, define, mutex, acquire, release, buffer, pack, varpack, branch, loop, otherwise, op, Terms, end, term, count, one}
+use Rattle.acpi_term.specs.Tree.{Entry, named, reserved, Head, number, text, call, scope, device, method, power, field, region, define, mutex, acquire, release, buffer, pack, varpack, branch, loop, otherwise, op, Terms, end, term, count, one}
 use Rattle.acpi_term.specs.Name.{AreSegments, IsName, IsText}
 use Rattle.acpi_term.specs.Length.{limit, least_width, framed, FitsFrame}
 use Rattle.acpi_term.specs.Operator.{operands}

@@ -3,4 +3,6 @@
 
 pub mod mode;
 pub mod op;
+pub mod path_text;
 pub mod read_error;
+pub mod row;
