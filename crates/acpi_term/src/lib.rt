@@ -1,4 +1,8 @@
 //! What AML and its reading speak of: terms, names, and why bytes couldn't be read.
 #![tactic(auto)]
 
+pub mod mode;
+pub mod op;
+pub mod path_text;
 pub mod read_error;
+pub mod row;
