@@ -1,0 +1,4 @@
+pub mod EndsWell
+pub mod Region
+pub mod Field
+pub mod Builder
