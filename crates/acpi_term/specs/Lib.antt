@@ -7,3 +7,4 @@ pub mod Operator
 pub mod Row
 pub mod Spelling
 pub mod Splits
+pub mod Laws
