@@ -1,1 +1,2 @@
 pub mod Builders
+pub mod Fields

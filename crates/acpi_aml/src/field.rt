@@ -1,6 +1,6 @@
 //! Fields of operation regions.
 
-ghost use Rattle.std.specs.Prelude.{◌≡◌, ◌≢◌, ◌++◌, ℕ, List, [], map, OnOk, IfErr, None, Some};
+ghost use Rattle.std.specs.Prelude.{◌≡◌, ◌≢◌, ◌++◌, ℕ, List, [], ◌∷◌, OnOk, IfErr, None, Some};
 ghost use Rattle.acpi_base.specs.Object.{whole, whole_ends_well, Builds};
 ghost use Rattle.acpi_term.specs.Tree.{field};
 ghost use Rattle.acpi_term.specs.Row.{row, entry_bytes, entries_bytes, entries_end};

@@ -21,7 +21,7 @@ pub struct Mutex {
 impl Aml for Mutex {
     ghost object = { λ o. row (mutex o.path o.level) [] };
 
-    ghost ends_well = { λ o. whole_ends_well _ };
+    ghost ends_well = { λ o. whole_ends_well (91 ∷ 1 ∷ o.path ++ o.level ∷ []) };
 
     fn to_aml_bytes(&self, sink: &mut dyn AmlSink) -> R<()> {
         write_parts(sink, &[&[0x5b, 0x01], &self.path.bytes, &[self.level]])
@@ -50,7 +50,7 @@ pub struct Acquire {
 impl Aml for Acquire {
     ghost object = { λ o. row (acquire o.path o.timeout) [] };
 
-    ghost ends_well = { λ o. whole_ends_well _ };
+    ghost ends_well = { λ o. whole_ends_well (91 ∷ 35 ∷ o.path) };
 
     fn to_aml_bytes(&self, sink: &mut dyn AmlSink) -> R<()> {
         write_parts(
@@ -81,7 +81,7 @@ pub struct Release {
 impl Aml for Release {
     ghost object = { λ o. row (release o.path) [] };
 
-    ghost ends_well = { λ o. whole_ends_well _ };
+    ghost ends_well = { λ o. whole_ends_well (91 ∷ 39 ∷ o.path) };
 
     fn to_aml_bytes(&self, sink: &mut dyn AmlSink) -> R<()> {
         write_parts(sink, &[&[0x5b, 0x27], &self.path.bytes])
