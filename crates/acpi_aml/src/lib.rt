@@ -4,6 +4,7 @@
 pub mod builder;
 pub mod control;
 pub mod field;
+pub mod laws;
 pub mod method;
 pub mod mutex;
 pub mod name;
