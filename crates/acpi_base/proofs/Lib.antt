@@ -5,4 +5,5 @@ pub mod Rows
 pub mod Checksums
 pub mod Buffers
 pub mod Puts
+pub mod Records
 pub mod Tables

@@ -1,10 +1,10 @@
-use Rattle.std.proofs.Common.{◌≡◌, ℕ, List, [], ◌++◌, Bool, true, false, ◌||◌, IsTrue, None, Some, refl}
+use Rattle.std.proofs.Common.{◌≡◌, ℕ, List, [], ◌++◌, Bool, true, false, ◌||◌, IsTrue, None, Some, refl, sym}
 use Rattle.std.specs.Prelude.{Result, Ok, Err, IsErrAnd, IfErr, OnOk}
 use Rattle.std.proofs.lemmas.Result.{err_from_is_err_and}
 use Rattle.acpi_base.specs.declared.error.Error.{Error}
 use Rattle.acpi_base.specs.declared.error.Error.TheVariants.{Memory}
 use Rattle.acpi_base.specs.Sink.{Meaning, Took, Refused}
-use Rattle.acpi_base.specs.Object.{Object, Wrote, WriteRefused}
+use Rattle.acpi_base.specs.Object.{Object, whole, Wrote, WriteRefused}
 use Rattle.acpi_base.proofs.Sinks.{took_nothing, took_more, refused_later, refused_longer}
 
 or_true : (a b : Bool) → IsTrue b → IsTrue (a || b)
@@ -56,3 +56,11 @@ gives_nothing e o m other is =
       memory = λ same. absurd (other same);
       cause = λ _ more taken. (is.1, took);
     }
+
+-- bytes that were made beforehand, given to a sink at once
+pub wrote_whole : {T : Type 0} (r : Result T Error) (made bytes : List ℕ) (m k : Meaning) → made ≡ bytes → OnOk r (Took m made k) → OnOk r (Wrote (whole bytes) m k)
+wrote_whole (Ok x) made bytes m k same took = record { is_whole = refl; took = rw same at took }
+wrote_whole (Err e) made bytes m k same took = tt
+
+pub refused_whole : {T : Type 0} (r : Result T Error) (made bytes : List ℕ) (m k : Meaning) → made ≡ bytes → IfErr r (λ e. Refused e m made k) → IfErr r (λ e. WriteRefused e (whole bytes) m k)
+refused_whole r made bytes m k same refused = answered r (whole bytes) made m k (sym same) refused

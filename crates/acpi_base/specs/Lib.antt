@@ -5,6 +5,8 @@ pub mod Checksum
 pub mod Buffer
 pub mod Number
 pub mod Text
+pub mod Row
+pub mod Gas
 pub mod Sum
 pub mod Header
 pub mod Contents

@@ -1,0 +1,126 @@
+//! Addresses of registers.
+
+ghost use Rattle.std.specs.Prelude.{◌≡◌, ◌+◌, ◌*◌, ◌^◌};
+ghost use Rattle.acpi_base.specs.Object.{whole, whole_ends_well};
+
+use crate::error::R;
+use crate::object::Aml;
+use crate::record::{Row, record};
+use crate::sink::AmlSink;
+
+/// Where a register lies (ACPI 6.5, 5.2.3.2, offset 0).
+#[derive(Clone, Copy, Debug, Default)]
+pub enum AddressSpace {
+    #[default]
+    SystemMemory = 0x00,
+    SystemIo = 0x01,
+    PciConfigSpace = 0x02,
+    EmbeddedController = 0x03,
+    Smbus = 0x04,
+    SystemCmos = 0x05,
+    PciBarTarget = 0x06,
+    Ipmi = 0x07,
+    GeneralPursposeIo = 0x08,
+    GenericSerialBus = 0x09,
+    PlatformCommunicationsChannel = 0x0a,
+    PlatformRuntimeMechanism = 0x0b,
+    FunctionalFixedHardware = 0x7f,
+}
+
+/// How wide a register's accesses are (ACPI 6.5, 5.2.3.2, offset 3).
+#[derive(Clone, Copy, Debug, Default)]
+pub enum AccessSize {
+    #[default]
+    Undefined,
+    ByteAccess,
+    WordAccess,
+    DwordAccess,
+    QwordAccess,
+}
+
+/// The address of a register: 12 bytes (ACPI 6.5, 5.2.3.2, Generic Address Structure). Widths and offsets are in bits.
+#[derive(Clone, Copy, Debug, Default)]
+pub struct GAS {
+    pub address_space_id: AddressSpace,
+    pub register_bit_width: u8,
+    pub register_bit_offset: u8,
+    pub access_size: AccessSize,
+    pub address: u64,
+}
+
+impl GAS {
+    ghost use Rattle.acpi_base.specs.Gas.{gas_bytes};
+
+    pub fn new(
+        address_space_id: AddressSpace,
+        register_bit_width: u8,
+        register_bit_offset: u8,
+        access_size: AccessSize,
+        address: u64,
+    ) -> GAS
+        ensures { result ≡ record { address_space_id = address_space_id; register_bit_width = register_bit_width; register_bit_offset = register_bit_offset; access_size = access_size; address = address } }
+    {
+        GAS {
+            address_space_id,
+            register_bit_width,
+            register_bit_offset,
+            access_size,
+            address,
+        }
+    }
+
+    /// A register in the configuration space of a PCI function of segment 0, bus 0: the device at bit 32 of the address,
+    /// the function at bit 16, and the register's offset in bytes.
+    pub fn new_pci_config(
+        register_bit_width: u8,
+        access_size: AccessSize,
+        device: u8,
+        function: u8,
+        register: u16,
+    ) -> GAS
+        ensures { result ≡ record { address_space_id = AddressSpace.PciConfigSpace; register_bit_width = register_bit_width; register_bit_offset = 0; access_size = access_size; address = device * 2 ^ 32 + function * 2 ^ 16 + register } }
+    {
+        let address = u64::from(device) * 0x1_0000_0000
+            + u64::from(function) * 0x1_0000
+            + u64::from(register);
+        GAS::new(
+            AddressSpace::PciConfigSpace,
+            register_bit_width,
+            0,
+            access_size,
+            address,
+        )
+    }
+
+    /// The size of an address in bytes.
+    pub fn len() -> usize
+        ensures { result ≡ 12 }
+    {
+        12
+    }
+
+    /// The bytes of the address, for records that hold one.
+    pub fn bytes(&self) -> [u8; 12]
+        ensures { result ≡ gas_bytes self.now }
+    {
+        record(&[
+            Row::Byte(self.address_space_id as u8),
+            Row::Byte(self.register_bit_width),
+            Row::Byte(self.register_bit_offset),
+            Row::Byte(self.access_size as u8),
+            Row::QWord(self.address),
+        ])
+    }
+}
+
+impl Aml for GAS {
+    ghost use Rattle.acpi_base.specs.Gas.{gas_bytes};
+
+    ghost object = { λ g. whole (gas_bytes g) };
+
+    ghost ends_well = { λ g. whole_ends_well (gas_bytes g) };
+
+    fn to_aml_bytes(&self, sink: &mut dyn AmlSink) -> R<()> {
+        sink.vec(&self.bytes())
+    }
+}
