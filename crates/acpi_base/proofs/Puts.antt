@@ -2,6 +2,7 @@ use Rattle.std.proofs.Common.{◌≡◌, ℕ, ◌+◌, ◌%◌, ◌≤◌, List,
 use Rattle.std.specs.Prelude.{sum}
 use Rattle.std.proofs.lemmas.List.{take-append-le, drop-append-le, take_at, drop_at, length-take-le, take-append-drop, drop-drop}
 use Rattle.std.proofs.lemmas.List.Sums.{sum_by-append}
+use Rattle.std.proofs.lemmas.Slice.{drop-append-drop}
 use borrow.Rule.Slice.PartMut.{put_mid}
 use Rattle.acpi_base.specs.Bytes.{put}
 
@@ -82,3 +83,22 @@ sum_step r s1 s2 m a f0 f1 h k e = omega arith
 pub put-append : (i : ℕ) (a x y : List ℕ) → i + length a ≤ length x → put i a (x ++ y) ≡ put i a x ++ y
 unfolding put
 put-append i a x y h = rw (take-append-le i x y (omega arith), drop-append-le (i + length a) x y h) (simp append_assoc)
+
+take-put : (n i : ℕ) (a x : List ℕ) → n ≤ i → i ≤ length x → take n (put i a x) ≡ take n x
+unfolding put
+take-put n i a x h k =
+    take-append-le n (take i x) (a ++ drop (i + length a) x) (omega (arith, length-take-le i x k)) ∙ sym (take-append-le n (take i x) (drop i x) (omega (arith, length-take-le i x k))) ∙ ap (take n) (take-append-drop i x)
+
+drop-put : (n i : ℕ) (a x : List ℕ) → i + length a ≤ n → i + length a ≤ length x → drop n (put i a x) ≡ drop n x
+unfolding put
+drop-put n i a x h k =
+    ap (drop n) (sym (append_assoc (take i x) a (drop (i + length a) x)))
+    ∙ drop-append-drop (i + length a) x (take i x ++ a) n h (omega (arith, length-append (take i x) a, length-take-le i x (omega arith)))
+
+-- what is written over doesn't matter
+pub put_over : (i j : ℕ) (a b x : List ℕ) → i ≤ j → j + length b ≤ i + length a → i + length a ≤ length x → put i a (put j b x) ≡ put i a x
+unfolding put
+put_over i j a b x low high within =
+    let front : take i (put j b x) ≡ take i x = take-put i j b x low (omega arith) in
+    let back : drop (i + length a) (put j b x) ≡ drop (i + length a) x = drop-put (i + length a) j b x high (omega arith) in
+    rw (front, back) refl

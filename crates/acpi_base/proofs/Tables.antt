@@ -1,7 +1,8 @@
 -- Tables: their checksums, their lengths, and what they are as sinks.
-use Rattle.std.proofs.Common.{◌≡◌, ◌≢◌, ℕ, ◌+◌, ◌-◌, ◌%◌, ◌<◌, ◌≤◌, ◌^◌, List, [], ◌∷◌, ◌++◌, length, take, drop, nat_lt, true, false, refl, sym, ◌∙◌, ap, arith, append_assoc, length-append}
+use Rattle.std.proofs.Common.{◌≡◌, ◌≢◌, ℕ, ◌+◌, ◌-◌, ◌%◌, ◌<◌, ◌≤◌, ◌^◌, List, [], ◌∷◌, ◌++◌, length, take, drop, get_or, nat_lt, true, false, refl, sym, ◌∙◌, ap, arith, inl, inr, append_assoc, length-append}
 use Rattle.std.specs.Prelude.{Result, Ok, Err, OnOk, OnErr, IfErr, sum, slice_set}
 use Rattle.std.proofs.lemmas.List.{append-nil, take_at}
+use Rattle.std.proofs.lemmas.Bool.{cases_lt}
 use Rattle.std.proofs.lemmas.Bool.Decides.{nat_tests}
 use Rattle.acpi_base.specs.declared.error.Error.{Error}
 use Rattle.acpi_base.specs.declared.error.Error.TheVariants.{Memory, FieldWidth}
@@ -10,7 +11,7 @@ use Rattle.acpi_base.specs.Sink.{Took, Refused}
 use Rattle.acpi_base.specs.Sdt.{with_checksum, sealed, added, fits, sdt_of}
 use Rattle.std.proofs.lemmas.List.Sums.{sum_by-append}
 use Rattle.acpi_base.specs.Contents.{IsTable}
-use Rattle.acpi_base.proofs.Puts.{put-put, put_comm, length-put, sum-put, put-append}
+use Rattle.acpi_base.proofs.Puts.{put-put, put_comm, put_over, length-put, sum-put, put-append}
 
 -- ---- checksums
 
@@ -129,6 +130,39 @@ added_tells table [] h some = absurd (omega arith)
 added_tells table (x ∷ xs) h some =
     let long : length (table ++ x ∷ xs) ≡ length table + length (x ∷ xs) = length-append table (x ∷ xs) in
     (length-added table (x ∷ xs) (omega arith), told_at (table ++ x ∷ xs) (omega (arith, long)) ∙ ap (le 4) long)
+
+-- bytes written while the checksum is cleared are written all the same
+cleared_put : (i x : ℕ) (a b : List ℕ) → 10 ≤ length b → i + length a ≤ length b → put 9 (x ∷ []) (put i a (put 9 (0 ∷ []) b)) ≡ put 9 (x ∷ []) (put i a b)
+cleared_put i x a b long within =
+    let size : length (put i a b) ≡ length b = length-put i a b within in
+    elim (cases_lt 9 i) [
+      | inl after ↦ ap (put 9 (x ∷ [])) (sym (put_comm 9 i (0 ∷ []) a b after within)) ∙ put-put 9 (x ∷ []) (0 ∷ []) (put i a b) refl (omega (arith, size))
+      | inr low ↦ elim (cases_lt (i + length a) 10) [
+        | inl before ↦ ap (put 9 (x ∷ [])) (put_comm i 9 a (0 ∷ []) b (omega arith) (omega arith)) ∙ put-put 9 (x ∷ []) (0 ∷ []) (put i a b) refl (omega (arith, size))
+        | inr high ↦ ap (put 9 (x ∷ [])) (put_over i 9 a (0 ∷ []) b low (omega arith) within)
+      ]
+    ]
+
+-- the byte at 9, among all
+nine : (c : List ℕ) → 10 ≤ length c → sum (take 1 (drop 9 c)) ≡ 0 + get_or c 9 0
+nine (x0 ∷ x1 ∷ x2 ∷ x3 ∷ x4 ∷ x5 ∷ x6 ∷ x7 ∷ x8 ∷ x9 ∷ r) h = refl
+nine c h = absurd (omega arith)
+
+at_nine : (c : List ℕ) → 10 ≤ length c → sum (put 9 (0 ∷ []) c) + get_or c 9 0 ≡ sum c
+at_nine c h = omega (arith, sum-put 9 (0 ∷ []) c h, nine c h)
+
+-- bytes written over others
+pub overwrite_is : (b w c0 c1 : List ℕ) (i r r1 r2 s : ℕ) → 36 ≤ length b → i + length w ≤ length b → c0 ≡ put 9 (0 ∷ []) b → c1 ≡ put i w c0
+    → r ≡ sum c0 % 256 → r1 < 256 → (r1 + sum c0) % 256 ≡ (r + sum c1) % 256 → (r2 + get_or c1 9 0) % 256 ≡ r1 → r2 < 256 → s ≡ (256 - r2) % 256
+    → (put 9 (s ∷ []) c1 ≡ with_checksum (put i w b)) × (r2 ≡ sum (put 9 (0 ∷ []) (put 9 (s ∷ []) c1)) % 256)
+overwrite_is b w c0 c1 i r r1 r2 s long within is0 is1 sums small step taken small2 complements =
+    let size0 : length c0 ≡ length b = ap length is0 ∙ length-put 9 (0 ∷ []) b (omega arith) in
+    let size1 : length c1 ≡ length b = ap length is1 ∙ length-put i w c0 (omega (arith, size0)) ∙ size0 in
+    let same : (x : ℕ) → put 9 (x ∷ []) c1 ≡ put 9 (x ∷ []) (put i w b) = λ x. ap (λ c. put 9 (x ∷ []) c) (is1 ∙ ap (put i w) is0) ∙ cleared_put i x w b (omega arith) within in
+    let others : r2 ≡ sum (put 9 (0 ∷ []) c1) % 256 = omega (arith, at_nine c1 (omega (arith, size1)), step, sums, small, taken, small2) in
+    let is : s ≡ complement (sum (put 9 (0 ∷ []) (put i w b))) = omega (arith, complements, others, ap sum (same 0)) in
+    let back : put 9 (0 ∷ []) (put 9 (s ∷ []) c1) ≡ put 9 (0 ∷ []) c1 = put-put 9 (0 ∷ []) (s ∷ []) c1 refl (omega (arith, size1)) in
+    (same s ∙ ap (λ k. put 9 (k ∷ []) (put i w b)) is, omega (arith, others, ap sum back))
 
 -- the bytes of a vector that was written through a slice
 pub written_back : (n : ℕ) (new old : List ℕ) → length new ≡ n → take n (new ++ drop (length new) old) ≡ new

@@ -7,6 +7,7 @@ pub mod Number
 pub mod Text
 pub mod Row
 pub mod Gas
+pub mod Address
 pub mod Sum
 pub mod Header
 pub mod Contents

@@ -1,6 +1,7 @@
 //! What every other crate stands on: sinks and objects, checksums, numbers and system description tables.
 #![tactic(auto)]
 
+pub mod address;
 pub mod buffer;
 pub mod checksum;
 pub mod constant;
@@ -17,3 +18,4 @@ pub mod sink;
 pub mod sum;
 pub mod summed;
 pub mod text;
+pub mod value;

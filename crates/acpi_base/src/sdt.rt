@@ -12,6 +12,7 @@ use crate::object::Aml;
 use crate::patch::{patch, write_at};
 use crate::sink::AmlSink;
 use crate::sum::Sum;
+use crate::value::SdtValue;
 use std::alloc::Global;
 use std::marker::Model;
 
@@ -118,6 +119,22 @@ fn set_length(bytes: &mut [u8], running: &mut Sum, size: u32)
     write_at(bytes, 9, &[running.checksum()]);
 }
 
+// Writes bytes over others and makes the checksum true, where the sum is that of all bytes but the checksum.
+fn overwrite(bytes: &mut [u8], running: &mut Sum, offset: usize, with: &[u8])
+    requires header { 36 ≤ length bytes.old }
+    requires within { offset + length with.now ≤ length bytes.old }
+    requires summed { running.old.value ≡ sum (put 9 (0 ∷ []) bytes.old) % 256 }
+    ensures bytes { bytes.new ≡ with_checksum (put offset with.now bytes.old) }
+    ensures sum { running.new.value ≡ sum (put 9 (0 ∷ []) bytes.new) % 256 }
+    ensures grows { running.old.summed ≤ running.new.summed }
+{
+    write_at(bytes, 9, &[0]);
+    patch(bytes, running, offset, with);
+    let over_checksum = bytes[9];
+    running.take(&[over_checksum]);
+    write_at(bytes, 9, &[running.checksum()]);
+}
+
 // Makes the checksum true, and answers the sum of all other bytes.
 fn sum_all(bytes: &mut [u8]) -> Sum
     requires { 36 ≤ length bytes.old }
@@ -193,6 +210,73 @@ impl Sdt {
         self.sum.add(slice);
         set_length(&mut self.bytes, &mut self.sum, size);
         Ok(())
+    }
+
+    /// Adds a value's bytes at the end, as `append_slice` does.
+    pub fn append<T: SdtValue>(&mut self, value: T) -> R<()>
+        ensures ok { OnOk result (self.new.bytes ≡ added self.old.bytes (T.value_bytes value)) }
+        ensures fits { OnOk result (length self.old.bytes + length (T.value_bytes value) < 2 ^ 32) }
+        ensures err { OnErr result (self.new.bytes ≡ self.old.bytes) }
+        ensures cause { IfErr result (λ e. e ≢ Error.Memory → (e ≡ Error.FieldWidth) × (2 ^ 32 ≤ length self.old.bytes + length (T.value_bytes value))) }
+        ensures cost { self.new.summed ≤ self.old.summed + length (T.value_bytes value) + 8 }
+        ensures grows { self.old.summed ≤ self.new.summed }
+    {
+        value.append_to(self)
+    }
+
+    /// Writes bytes over those that begin at an offset, and makes the checksum true. The bytes' end isn't past the
+    /// table's.
+    pub fn write_bytes(&mut self, offset: usize, slice: &[u8])
+        requires { offset + length slice.now ≤ length self.old.bytes }
+        ensures bytes { self.new.bytes ≡ with_checksum (put offset slice.now self.old.bytes) }
+        ensures grows { self.old.summed ≤ self.new.summed }
+    {
+        overwrite(&mut self.bytes, &mut self.sum, offset, slice);
+    }
+
+    /// Writes a value's bytes at an offset, as `write_bytes` does.
+    pub fn write<T: SdtValue>(&mut self, offset: usize, value: T)
+        requires { offset + length (T.value_bytes value) ≤ length self.old.bytes }
+        ensures bytes { self.new.bytes ≡ with_checksum (put offset (T.value_bytes value) self.old.bytes) }
+        ensures grows { self.old.summed ≤ self.new.summed }
+    {
+        value.write_to(self, offset);
+    }
+
+    /// Writes a byte at an offset.
+    pub fn write_u8(&mut self, offset: usize, value: u8)
+        requires { offset + 1 ≤ length self.old.bytes }
+        ensures bytes { self.new.bytes ≡ with_checksum (put offset (value ∷ []) self.old.bytes) }
+        ensures grows { self.old.summed ≤ self.new.summed }
+    {
+        self.write_bytes(offset, &[value]);
+    }
+
+    /// Writes two bytes at an offset, the lowest first.
+    pub fn write_u16(&mut self, offset: usize, value: u16)
+        requires { offset + 2 ≤ length self.old.bytes }
+        ensures bytes { self.new.bytes ≡ with_checksum (put offset (le 2 value) self.old.bytes) }
+        ensures grows { self.old.summed ≤ self.new.summed }
+    {
+        self.write_bytes(offset, &value.to_le_bytes());
+    }
+
+    /// Writes four bytes at an offset, the lowest first.
+    pub fn write_u32(&mut self, offset: usize, value: u32)
+        requires { offset + 4 ≤ length self.old.bytes }
+        ensures bytes { self.new.bytes ≡ with_checksum (put offset (le 4 value) self.old.bytes) }
+        ensures grows { self.old.summed ≤ self.new.summed }
+    {
+        self.write_bytes(offset, &value.to_le_bytes());
+    }
+
+    /// Writes eight bytes at an offset, the lowest first.
+    pub fn write_u64(&mut self, offset: usize, value: u64)
+        requires { offset + 8 ≤ length self.old.bytes }
+        ensures bytes { self.new.bytes ≡ with_checksum (put offset (le 8 value) self.old.bytes) }
+        ensures grows { self.old.summed ≤ self.new.summed }
+    {
+        self.write_bytes(offset, &value.to_le_bytes());
     }
 
     /// The table's bytes, which sum to zero.

@@ -1,6 +1,6 @@
 //! The running sum of a table.
 
-ghost use Rattle.std.specs.Prelude.{◌≡◌, ◌+◌, ◌-◌, ◌%◌, true, false, length, sum};
+ghost use Rattle.std.specs.Prelude.{◌≡◌, ◌+◌, ◌-◌, ◌%◌, ◌<◌, true, false, length, sum};
 
 use crate::summed::Summed;
 use std::marker::Model;
@@ -43,6 +43,7 @@ impl Sum {
     fn change(&mut self, bytes: &[u8], takes: bool)
         ensures added { takes ≡ false → self.new.value ≡ (self.old.value + sum bytes.now) % 256 }
         ensures taken { takes ≡ true → (self.new.value + sum bytes.now) % 256 ≡ self.old.value }
+        ensures range { self.new.value < 256 }
         ensures counted { self.new.summed ≡ self.old.summed + length bytes.now }
     {
         let mut value = self.value;
@@ -68,6 +69,7 @@ impl Sum {
     /// Takes bytes out of the sum.
     pub fn take(&mut self, bytes: &[u8])
         ensures value { (self.new.value + sum bytes.now) % 256 ≡ self.old.value }
+        ensures range { self.new.value < 256 }
         ensures counted { self.new.summed ≡ self.old.summed + length bytes.now }
     {
         self.change(bytes, true);
