@@ -1,10 +1,12 @@
 -- What holds of the definitions, whatever calls there are.
-use Rattle.std.specs.Prelude.{◌≡◌, ℕ, ◌+◌, ◌^◌, ◌<◌, ◌≤◌, List, ◌++◌, length, Some, None}
+use Rattle.std.specs.Prelude.{◌≡◌, ℕ, ◌+◌, ◌^◌, ◌<◌, ◌≤◌, List, ◌++◌, length, Some, None, true}
 use Rattle.acpi_base.specs.Bytes.{AreBytes}
 use Rattle.acpi_base.specs.Number.{number_limit, number_bytes, number_width}
 use Rattle.acpi_base.specs.Object.{Object, all_of}
 use Rattle.acpi_term.specs.declared.mode.Mode.{Mode}
 use Rattle.acpi_term.specs.Tree.{Head, Terms, count, one}
+use Rattle.acpi_term.specs.Name.{IsName}
+use Rattle.acpi_term.specs.PathText.{is_name_text, path_spelling, path_of}
 use Rattle.acpi_term.specs.Length.{value, Frames, limit, length_bytes, framed, FitsFrame, least_width}
 use Rattle.acpi_term.specs.Row.{row, over, layout, own, own_width, writer_width}
 use Rattle.acpi_term.specs.Spelling.{Takes, IsStandard, IsWritten, SpellEach, Spells, inner}
@@ -26,6 +28,12 @@ RowsOverMean =
     → Takes arity m h (count ts) → IsStandard h → IsWritten h → own h (count ts) ≡ None → Spells arity (inner h) bytes ts
     → (over (layout h (own_width h) (count ts)) bytes).end ≡ None
     → Spells arity m (over (layout h (own_width h) (count ts)) bytes).front (one h (writer_width h (count ts) bytes) ts)
+
+-- ---- names
+
+-- A text of 1 to 255 standard segments names a name, and the path of that text, which is whole.
+abbrev pub NameTextsAreNames : Type 0
+NameTextsAreNames = (text : List ℕ) → is_name_text text ≡ true → IsName (path_spelling text) × ((path_of text).end ≡ None) × ((path_of text).front ≡ path_spelling text)
 
 -- ---- lengths and numbers
 

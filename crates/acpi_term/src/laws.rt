@@ -1,6 +1,6 @@
 //! Laws over the definitions that the contracts cite. Each function is a law: it does nothing, and ensures it.
 
-ghost use Rattle.acpi_term.specs.Laws.{RowsMean, RowsOverMean, LengthsAreSpelled, FramesAreSpelled, FramesAreLeast, FramesEndWithTheirContent, FieldLengthsAreLeast, NumbersAreLeast};
+ghost use Rattle.acpi_term.specs.Laws.{RowsMean, RowsOverMean, NameTextsAreNames, LengthsAreSpelled, FramesAreSpelled, FramesAreLeast, FramesEndWithTheirContent, FieldLengthsAreLeast, NumbersAreLeast};
 
 /// A whole row spells its term over the terms of its children.
 pub fn rows_mean()
@@ -10,6 +10,11 @@ pub fn rows_mean()
 /// A whole row round bytes that spell all children spells its term.
 pub fn rows_over_mean()
     ensures { RowsOverMean }
+{}
+
+/// A text of standard segments names a name (ACPI 6.5, 20.2.2).
+pub fn name_texts_are_names()
+    ensures { NameTextsAreNames }
 {}
 
 /// A length has its value in each width that carries it, and nothing else has (ACPI 6.5, 20.2.4).
