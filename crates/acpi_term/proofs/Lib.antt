@@ -3,3 +3,9 @@ pub mod Lengths
 pub mod PathTexts
 pub mod NameTexts
 pub mod Rows
+pub mod Reading
+pub mod Steps
+pub mod Texts
+pub mod Names
+pub mod Frames
+pub mod Entries
