@@ -9,3 +9,6 @@ pub mod Texts
 pub mod Names
 pub mod Frames
 pub mod Entries
+pub mod Opens
+pub mod Openings
+pub mod Again
