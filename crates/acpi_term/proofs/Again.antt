@@ -9,10 +9,10 @@ use Rattle.acpi_term.specs.declared.op.Op.{Op}
 use Rattle.acpi_term.specs.declared.op.Op.TheVariants.{CreateField}
 use Rattle.acpi_term.specs.declared.mode.Mode.{Mode}
 use Rattle.acpi_term.specs.declared.mode.Mode.TheVariants.{Term, Element}
-use Rattle.acpi_term.specs.Tree.{Head, number, ones, text, local, arg, call, scope, device, method, power, field, region, define, mutex, acquire, release, buffer, pack, varpack, branch, loop, otherwise, op, Terms, end, term, count, depth}
+use Rattle.acpi_term.specs.Tree.{Head, number, call, scope, device, method, power, buffer, pack, varpack, branch, loop, otherwise, op, Terms, end, term, count, depth}
 use Rattle.acpi_term.specs.Operator.{opcode}
 use Rattle.acpi_term.specs.Spelling.{spelled, spelling, inner, next, FitsHead, Fits}
-use Rattle.acpi_term.proofs.Reading.{Fault, Deep, ◌>>=◌, least_of, One, assembled, follows, fills, Reader, counted, all_of, wants_no_more, close, term_at}
+use Rattle.acpi_term.proofs.Reading.{Fault, Deep, ◌>>=◌, least_of, assembled, follows, fills, Reader, counted, all_of, wants_no_more, close, term_at}
 use Rattle.acpi_term.proofs.Names.{name_some}
 use Rattle.acpi_term.proofs.Opens.{opened, open_again}
 
@@ -35,7 +35,7 @@ guards_then true false x k y g e = rw e refl
 guards_then false c x k y g e = refl
 
 -- no terms have no bytes
-nothing_inside : (c : Terms) → count c ≡ 0 → spelling c ≡ []
+pub nothing_inside : (c : Terms) → count c ≡ 0 → spelling c ≡ []
 nothing_inside end e = refl
 nothing_inside (term h w c o) e = absurd (omega arith)
 

@@ -6,7 +6,7 @@ use Rattle.acpi_base.specs.Bytes.{AreBytes, le}
 use Rattle.acpi_term.specs.Length.{limit, length_bytes, framed, FitsFrame}
 use Rattle.acpi_term.proofs.Bytes.{bytes_take, bytes_drop, le_step}
 use Rattle.acpi_term.proofs.Lengths.{long_below, long_fits, long_is, length_long}
-use Rattle.acpi_term.proofs.Reading.{Bad, ◌>>=◌, cut_at, high_at, length_at, sized_at, frame_at}
+use Rattle.acpi_term.proofs.Reading.{Bad, cut_at, high_at, length_at, sized_at, frame_at}
 use Rattle.acpi_term.proofs.Steps.{bind_ok, ok_is, chosen, passed, admitted, Takes}
 
 cut_takes : (n : ℕ) (bytes s rest : List ℕ) → AreBytes bytes → cut_at n bytes ≡ Ok (s, rest) → Takes bytes s rest × AreBytes s × (length s ≡ n)

@@ -12,3 +12,5 @@ pub mod Entries
 pub mod Opens
 pub mod Openings
 pub mod Again
+pub mod Taken
+pub mod Unique

@@ -1,11 +1,11 @@
 -- Heads: what is opened was spelled so.
-use Rattle.std.proofs.Common.{◌≡◌, ℕ, zero, suc, ◌+◌, ◌-◌, ◌*◌, ◌/◌, ◌%◌, ◌^◌, ◌<◌, ◌≤◌, Bool, true, false, cond, ltb, leb, eqb, List, [], ◌∷◌, ◌++◌, length, Option, Some, None, Result, Ok, Err, refl, sym, ap, subst, ◌∙◌, append_assoc, arith}
+use Rattle.std.proofs.Common.{◌≡◌, ℕ, ◌+◌, ◌-◌, ◌/◌, ◌%◌, ◌^◌, ◌<◌, ◌≤◌, Bool, true, false, cond, ltb, eqb, List, [], ◌∷◌, ◌++◌, length, Option, Some, None, Result, Ok, Err, refl, sym, ap, subst, ◌∙◌, append_assoc, arith}
 use Rattle.std.specs.Prelude.{◌&&◌, nat_le}
 use Rattle.std.proofs.lemmas.Bool.{ltb-true, leb-true, eqb-true, le-leb, ne_eqb, and_parts}
 use Rattle.std.proofs.lemmas.Bool.Decides.{nat_tests}
 use Rattle.std.proofs.lemmas.List.{append-nil}
 use Rattle.acpi_base.specs.Bytes.{AreBytes, le}
-use Rattle.acpi_base.specs.Number.{prefix, number_limit, number_bytes}
+use Rattle.acpi_base.specs.Number.{prefix, number_limit}
 use Rattle.acpi_term.specs.declared.op.Op.{Op}
 use Rattle.acpi_term.specs.declared.op.Op.TheVariants.{CreateField}
 use Rattle.acpi_term.specs.declared.mode.Mode.{Mode}
@@ -101,11 +101,13 @@ module _ (arity : List ℕ → ℕ) (m : Mode) where
 
   number_is : (b w v : ℕ) (bytes rest : List ℕ) → b ≡ prefix w → (w ≡ 0 → ⊥) → v < number_limit w → v < 2 ^ 64 → IsHigh w v bytes rest → OpenTakes (b ∷ bytes) (follows (number v) w 0 rest)
   number_is b w v bytes rest is some lt top t =
-      let wide : eqb w 0 ≡ false = ne_eqb w 0 some in
-      (t.fits, λ inside after e nothing. (
-        rw wide (bare_parts (prefix w ∷ le w v) rest inside after (b ∷ bytes) (rw (is, t.parts) refl) e),
-        record { takes = refl; is_standard = top; owns = refl; fits = lt },
-      ))
+      let wide : eqb w 0 ≡ false = ne_eqb w 0 some in (
+        t.fits,
+        λ inside after e nothing. (
+          rw wide (bare_parts (prefix w ∷ le w v) rest inside after (b ∷ bytes) (rw (is, t.parts) refl) e),
+          record { takes = refl; is_standard = top; owns = refl; fits = lt },
+        ),
+      )
 
   number_reads : (b w : ℕ) (bytes : List ℕ) → b ≡ prefix w → (w ≡ 0 → ⊥) → 256 ^ w ≤ number_limit w → number_limit w ≤ 2 ^ 64 → AreBytes bytes → Reads (number_at w bytes) (b ∷ bytes)
   unfolding Reads
@@ -208,34 +210,46 @@ module _ (arity : List ℕ → ℕ) (m : Mode) where
 
   scope_reads : (rest bytes : List ℕ) → bytes ≡ (16 ∷ []) ++ rest → InsideReads scope_inside rest bytes
   scope_reads rest bytes is w name tail content after f p e fits =
-      opens (fills (scope name) w tail after) bytes (fits, f.after_fits, λ n enough. (
-        boxed_parts (16 ∷ []) name rest content tail after bytes w is f.parts e,
-        record { takes = tt; is_standard = p; owns = refl; fits = subst (FitsFrame w) e f.fits },
-      ))
+      opens (fills (scope name) w tail after) bytes (
+        fits,
+        f.after_fits,
+        λ n enough. (
+          boxed_parts (16 ∷ []) name rest content tail after bytes w is f.parts e,
+          record { takes = tt; is_standard = p; owns = refl; fits = subst (FitsFrame w) e f.fits },
+        ),
+      )
 
   device_reads : (rest bytes : List ℕ) → bytes ≡ (91 ∷ 130 ∷ []) ++ rest → InsideReads device_inside rest bytes
   device_reads rest bytes is w name tail content after f p e fits =
-      opens (fills (device name) w tail after) bytes (fits, f.after_fits, λ n enough. (
-        boxed_parts (91 ∷ 130 ∷ []) name rest content tail after bytes w is f.parts e,
-        record { takes = tt; is_standard = p; owns = refl; fits = subst (FitsFrame w) e f.fits },
-      ))
+      opens (fills (device name) w tail after) bytes (
+        fits,
+        f.after_fits,
+        λ n enough. (
+          boxed_parts (91 ∷ 130 ∷ []) name rest content tail after bytes w is f.parts e,
+          record { takes = tt; is_standard = p; owns = refl; fits = subst (FitsFrame w) e f.fits },
+        ),
+      )
 
   method_is : (rest bytes : List ℕ) (w : ℕ) (name inside content after : List ℕ) (args : ℕ) (serialized : Bool) → bytes ≡ (20 ∷ []) ++ rest → Framed rest w content after → IsName name → args ≤ 7
       → content ≡ (name ++ method_flags args serialized ∷ []) ++ inside → AreBytes inside → Reads (Ok (fills (method name args serialized) w inside after)) bytes
   method_is rest bytes w name inside content after args serialized is f p few e fits =
-      opens (fills (method name args serialized) w inside after) bytes (fits, f.after_fits, λ n enough. (
-        boxed_parts (20 ∷ []) (name ++ method_flags args serialized ∷ []) rest content inside after bytes w is f.parts e,
-        record { takes = tt; is_standard = p; owns = rw (le-leb args 7 few) refl; fits = subst (FitsFrame w) e f.fits },
-      ))
+      opens (fills (method name args serialized) w inside after) bytes (
+        fits,
+        f.after_fits,
+        λ n enough. (
+          boxed_parts (20 ∷ []) (name ++ method_flags args serialized ∷ []) rest content inside after bytes w is f.parts e,
+          record { takes = tt; is_standard = p; owns = rw (le-leb args 7 few) refl; fits = subst (FitsFrame w) e f.fits },
+        ),
+      )
 
   method_reads : (rest bytes : List ℕ) → bytes ≡ (20 ∷ []) ++ rest → InsideReads method_inside rest bytes
   method_reads rest bytes is w name [] content after f p e fits = refused bytes
   method_reads rest bytes is w name (flags ∷ inside) content after f p e fits =
       where_it_holds (ltb flags 16) _ bytes (λ h.
-          let lt : flags < 16 = ltb-true flags 16 h in
-          let back : flags ≡ method_flags (flags % 8) (nat_le 8 flags) = sym (serialized_flags flags (nat_le 8 flags) refl lt) in
-          method_is rest bytes w name inside content after (flags % 8) (nat_le 8 flags) is f p (omega arith)
-          (grouped name (method_flags (flags % 8) (nat_le 8 flags) ∷ []) inside content (flags ∷ inside) e (ap (λ (x : ℕ). x ∷ inside) back)) fits.1)
+      let lt : flags < 16 = ltb-true flags 16 h in
+      let back : flags ≡ method_flags (flags % 8) (nat_le 8 flags) = sym (serialized_flags flags (nat_le 8 flags) refl lt) in
+      method_is rest bytes w name inside content after (flags % 8) (nat_le 8 flags) is f p (omega arith)
+      (grouped name (method_flags (flags % 8) (nat_le 8 flags) ∷ []) inside content (flags ∷ inside) e (ap (λ (x : ℕ). x ∷ inside) back)) fits.1)
 
   power_reads : (rest bytes : List ℕ) → bytes ≡ (91 ∷ 132 ∷ []) ++ rest → InsideReads power_inside rest bytes
   unfolding Reads
@@ -244,10 +258,14 @@ module _ (arity : List ℕ → ℕ) (m : Mode) where
       let h = bind_ok (high_at 2 tail) (λ h. Ok (fills (power name level h.0) w h.1 after)) o r in
       let t = high_takes 2 tail h.0 fits.1 h.1 in
       let same : content ≡ (name ++ level ∷ le 2 h.0.0) ++ h.0.1 = grouped name (level ∷ le 2 h.0.0) h.0.1 content (level ∷ tail) e (ap (λ (l : List ℕ). level ∷ l) t.parts) in
-      opens (fills (power name level h.0.0) w h.0.1 after) bytes (t.fits, f.after_fits, λ n enough. (
-        boxed_parts (91 ∷ 132 ∷ []) (name ++ level ∷ le 2 h.0.0) rest content h.0.1 after bytes w is f.parts same,
-        record { takes = tt; is_standard = (p, fits.0, t.below); owns = refl; fits = subst (FitsFrame w) same f.fits },
-      )) o h.2
+      opens (fills (power name level h.0.0) w h.0.1 after) bytes (
+        t.fits,
+        f.after_fits,
+        λ n enough. (
+          boxed_parts (91 ∷ 132 ∷ []) (name ++ level ∷ le 2 h.0.0) rest content h.0.1 after bytes w is f.parts same,
+          record { takes = tt; is_standard = (p, fits.0, t.below); owns = refl; fits = subst (FitsFrame w) same f.fits },
+        ),
+      ) o h.2
 
   field_is : (rest bytes : List ℕ) (w : ℕ) (name inside content after : List ℕ) (access lock update : ℕ) (entries : List Entry) → bytes ≡ (91 ∷ 129 ∷ []) ++ rest → Framed rest w content after → IsName name
       → access ≤ 5 → lock ≤ 1 → update ≤ 2 → content ≡ name ++ field_flags access lock update ∷ inside → AreEntries inside entries → OpenTakes bytes (follows (field name access lock update entries) w 0 after)
@@ -256,12 +274,14 @@ module _ (arity : List ℕ → ℕ) (m : Mode) where
       let same : content ≡ before ++ [] = e ∙ ap (λ (l : List ℕ). name ++ field_flags access lock update ∷ l) t.parts ∙ sym (append-nil before) in
       let parts : bytes ≡ ((91 ∷ 129 ∷ []) ++ framed w (before ++ [])) ++ after = boxed_parts (91 ∷ 129 ∷ []) before rest content [] after bytes w is f.parts same in
       let fits : FitsFrame w (before ++ []) = subst (FitsFrame w) same f.fits in
-      let head : FitsHead arity m (field name access lock update entries) w 0 [] = record { takes = refl; is_standard = (p, a, l, u, t.standard); owns = entries_owned entries t.fits; fits = (t.fits, fits) } in
-      (f.after_fits, λ inner after_it split nothing.
-          let none = nothing refl in
-          let rest_is : after ≡ after_it = split ∙ ap (λ (l : List ℕ). l ++ after_it) none in
-          subst (λ (l : List ℕ). (bytes ≡ spelled (field name access lock update entries) w 0 l ++ after_it) × FitsHead arity m (field name access lock update entries) w 0 l) (sym none)
-          (parts ∙ ap (λ (l : List ℕ). ((91 ∷ 129 ∷ []) ++ framed w (before ++ [])) ++ l) rest_is, head))
+      let head : FitsHead arity m (field name access lock update entries) w 0 [] = record { takes = refl; is_standard = (p, a, l, u, t.standard); owns = entries_owned entries t.fits; fits = (t.fits, fits) } in (
+        f.after_fits,
+        λ inner after_it split nothing.
+            let none = nothing refl in
+            let rest_is : after ≡ after_it = split ∙ ap (λ (l : List ℕ). l ++ after_it) none in
+            subst (λ (l : List ℕ). (bytes ≡ spelled (field name access lock update entries) w 0 l ++ after_it) × FitsHead arity m (field name access lock update entries) w 0 l) (sym none)
+            (parts ∙ ap (λ (l : List ℕ). ((91 ∷ 129 ∷ []) ++ framed w (before ++ [])) ++ l) rest_is, head),
+      )
 
   field_reads : (rest bytes : List ℕ) → bytes ≡ (91 ∷ 129 ∷ []) ++ rest → InsideReads field_inside rest bytes
   unfolding Reads

@@ -1,5 +1,5 @@
 -- What holds of the definitions, whatever calls there are.
-use Rattle.std.specs.Prelude.{◌≡◌, ℕ, ◌+◌, ◌^◌, ◌<◌, ◌≤◌, List, ◌++◌, length, Some, None, true}
+use Rattle.std.specs.Prelude.{◌≡◌, ◌↔◌, ℕ, ◌+◌, ◌^◌, ◌<◌, ◌≤◌, List, ◌++◌, length, Some, None, true}
 use Rattle.acpi_base.specs.Bytes.{AreBytes}
 use Rattle.acpi_base.specs.Number.{number_limit, number_bytes, number_width}
 use Rattle.acpi_base.specs.Object.{Object, all_of}
@@ -10,6 +10,7 @@ use Rattle.acpi_term.specs.PathText.{is_name_text, path_spelling, path_of}
 use Rattle.acpi_term.specs.Length.{value, Frames, limit, length_bytes, framed, FitsFrame, least_width}
 use Rattle.acpi_term.specs.Row.{row, over, layout, own, own_width, writer_width}
 use Rattle.acpi_term.specs.Spelling.{Takes, IsStandard, IsWritten, SpellEach, Spells, inner}
+use Rattle.acpi_term.specs.Splits.{Splits}
 
 -- ---- rows
 
@@ -28,6 +29,24 @@ RowsOverMean =
     → Takes arity m h (count ts) → IsStandard h → IsWritten h → own h (count ts) ≡ None → Spells arity (inner h) bytes ts
     → (over (layout h (own_width h) (count ts)) bytes).end ≡ None
     → Spells arity m (over (layout h (own_width h) (count ts)) bytes).front (one h (writer_width h (count ts) bytes) ts)
+
+-- ---- unique reading
+
+-- At most one list of terms is spelled, wherever the first stands, and no other bytes spell it.
+abbrev pub AtMostOneList : Type 0
+AtMostOneList =
+    ((arity : List ℕ → ℕ) (m : Mode) (bytes : List ℕ) (ts us : Terms) → Spells arity m bytes ts → Spells arity m bytes us → ts ≡ us)
+    × ((arity : List ℕ → ℕ) (m : Mode) (a b : List ℕ) (ts : Terms) → Spells arity m a ts → Spells arity m b ts → a ≡ b)
+
+-- Of the beginnings of the bytes at most one spells a term, and as one term only.
+abbrev pub AtMostOneFront : Type 0
+AtMostOneFront =
+    (arity : List ℕ → ℕ) (m : Mode) (g h : Head) (v w : ℕ) (c d : Terms) (a b x y : List ℕ)
+    → Spells arity m a (one g v c) → Spells arity m b (one h w d) → a ++ x ≡ b ++ y → (a ≡ b) × (one g v c ≡ one h w d) × (x ≡ y)
+
+-- The spelling as a function and as a relation over cuts are the same.
+abbrev pub SplitsAgree : Type 0
+SplitsAgree = (arity : List ℕ → ℕ) (m : Mode) (bytes : List ℕ) (ts : Terms) → Spells arity m bytes ts ↔ Splits arity m bytes ts
 
 -- ---- names
 
