@@ -1,4 +1,16 @@
 pub mod Bytes
 pub mod Lengths
 pub mod PathTexts
+pub mod NameTexts
 pub mod Rows
+pub mod Reading
+pub mod Steps
+pub mod Texts
+pub mod Names
+pub mod Frames
+pub mod Entries
+pub mod Opens
+pub mod Openings
+pub mod Again
+pub mod Taken
+pub mod Unique

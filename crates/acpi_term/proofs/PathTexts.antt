@@ -16,7 +16,7 @@ either_some : (t : Bool) (b : ℕ) (ps : List (List ℕ)) → 0 < length (cond t
 either_some true b ps = omega arith
 either_some false b ps = begun_some b ps
 
-some_parts : (text : List ℕ) → 0 < length (parts text)
+pub some_parts : (text : List ℕ) → 0 < length (parts text)
 some_parts [] = omega arith
 some_parts (b ∷ text) = either_some (eqb b 46) b (parts text)
 

@@ -1,13 +1,16 @@
 -- What holds of the definitions, whatever calls there are.
-use Rattle.std.specs.Prelude.{◌≡◌, ℕ, ◌+◌, ◌^◌, ◌<◌, ◌≤◌, List, ◌++◌, length, Some, None}
+use Rattle.std.specs.Prelude.{◌≡◌, ◌↔◌, ℕ, ◌+◌, ◌^◌, ◌<◌, ◌≤◌, List, ◌++◌, length, Some, None, true}
 use Rattle.acpi_base.specs.Bytes.{AreBytes}
 use Rattle.acpi_base.specs.Number.{number_limit, number_bytes, number_width}
 use Rattle.acpi_base.specs.Object.{Object, all_of}
 use Rattle.acpi_term.specs.declared.mode.Mode.{Mode}
 use Rattle.acpi_term.specs.Tree.{Head, Terms, count, one}
+use Rattle.acpi_term.specs.Name.{IsName}
+use Rattle.acpi_term.specs.PathText.{is_name_text, path_spelling, path_of}
 use Rattle.acpi_term.specs.Length.{value, Frames, limit, length_bytes, framed, FitsFrame, least_width}
 use Rattle.acpi_term.specs.Row.{row, over, layout, own, own_width, writer_width}
 use Rattle.acpi_term.specs.Spelling.{Takes, IsStandard, IsWritten, SpellEach, Spells, inner}
+use Rattle.acpi_term.specs.Splits.{Splits}
 
 -- ---- rows
 
@@ -26,6 +29,30 @@ RowsOverMean =
     → Takes arity m h (count ts) → IsStandard h → IsWritten h → own h (count ts) ≡ None → Spells arity (inner h) bytes ts
     → (over (layout h (own_width h) (count ts)) bytes).end ≡ None
     → Spells arity m (over (layout h (own_width h) (count ts)) bytes).front (one h (writer_width h (count ts) bytes) ts)
+
+-- ---- unique reading
+
+-- At most one list of terms is spelled, wherever the first stands, and no other bytes spell it.
+abbrev pub AtMostOneList : Type 0
+AtMostOneList =
+    ((arity : List ℕ → ℕ) (m : Mode) (bytes : List ℕ) (ts us : Terms) → Spells arity m bytes ts → Spells arity m bytes us → ts ≡ us)
+    × ((arity : List ℕ → ℕ) (m : Mode) (a b : List ℕ) (ts : Terms) → Spells arity m a ts → Spells arity m b ts → a ≡ b)
+
+-- Of the beginnings of the bytes at most one spells a term, and as one term only.
+abbrev pub AtMostOneFront : Type 0
+AtMostOneFront =
+    (arity : List ℕ → ℕ) (m : Mode) (g h : Head) (v w : ℕ) (c d : Terms) (a b x y : List ℕ)
+    → Spells arity m a (one g v c) → Spells arity m b (one h w d) → a ++ x ≡ b ++ y → (a ≡ b) × (one g v c ≡ one h w d) × (x ≡ y)
+
+-- The spelling as a function and as a relation over cuts are the same.
+abbrev pub SplitsAgree : Type 0
+SplitsAgree = (arity : List ℕ → ℕ) (m : Mode) (bytes : List ℕ) (ts : Terms) → Spells arity m bytes ts ↔ Splits arity m bytes ts
+
+-- ---- names
+
+-- A text of 1 to 255 standard segments names a name, and the path of that text, which is whole.
+abbrev pub NameTextsAreNames : Type 0
+NameTextsAreNames = (text : List ℕ) → is_name_text text ≡ true → IsName (path_spelling text) × ((path_of text).end ≡ None) × ((path_of text).front ≡ path_spelling text)
 
 -- ---- lengths and numbers
 

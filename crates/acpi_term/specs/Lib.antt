@@ -8,3 +8,4 @@ pub mod Row
 pub mod Spelling
 pub mod Splits
 pub mod Laws
+pub mod Arity

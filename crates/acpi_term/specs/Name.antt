@@ -10,7 +10,7 @@ abbrev pub is_part : ℕ → Bool
 is_part b = is_lead b || (nat_le 48 b && nat_le b 57)
 
 -- the four bytes of a standard segment, NameSeg
-abbrev pub is_segment : ℕ → ℕ → ℕ → ℕ → Bool
+unfoldable pub is_segment : ℕ → ℕ → ℕ → ℕ → Bool
 is_segment a b c d = is_lead a && is_part b && is_part c && is_part d
 
 -- so many standard segments

@@ -3,6 +3,7 @@ use Rattle.std.specs.Prelude.{ℕ, ◌==◌, ◌&&◌, ◌||◌, nat_le, Bool, t
 use Rattle.acpi_base.specs.declared.error.Error.{Error}
 use Rattle.acpi_base.specs.declared.error.Error.TheVariants.{NamePart, PathParts}
 use Rattle.acpi_base.specs.Object.{Object, whole, ended}
+use Rattle.acpi_term.specs.Name.{is_segment}
 
 abbrev pub begun : ℕ → List (List ℕ) → List (List ℕ)
 begun b [] = (b ∷ []) ∷ []
@@ -17,6 +18,15 @@ parts (b ∷ text) = if b == 46 then [] ∷ parts text else begun b (parts text)
 abbrev pub are_fours : List (List ℕ) → Bool
 are_fours [] = true
 are_fours (p ∷ ps) = length p == 4 && are_fours ps
+
+-- a part that is a standard segment
+abbrev pub is_standard : List ℕ → Bool
+is_standard (a ∷ b ∷ c ∷ d ∷ []) = is_segment a b c d
+is_standard _ = false
+
+abbrev pub are_standard : List (List ℕ) → Bool
+are_standard [] = true
+are_standard (p ∷ ps) = is_standard p && are_standard ps
 
 -- whether one of four bytes is a dot
 abbrev pub dotted : ℕ → ℕ → ℕ → ℕ → Bool
@@ -53,3 +63,7 @@ path_spelling text = root text ++ (lead (length (parts (unrooted text))) ++ join
 -- the path of a text, as an object
 abbrev pub path_of : List ℕ → Object
 path_of text = ended (parts_end (parts (unrooted text))) (whole (path_spelling text))
+
+-- a text that names 1 to 255 standard segments
+abbrev pub is_name_text : List ℕ → Bool
+is_name_text text = are_standard (parts (unrooted text)) && nat_le (length (parts (unrooted text))) 255

@@ -1,6 +1,6 @@
 //! Laws over the definitions that the contracts cite. Each function is a law: it does nothing, and ensures it.
 
-ghost use Rattle.acpi_term.specs.Laws.{RowsMean, RowsOverMean, LengthsAreSpelled, FramesAreSpelled, FramesAreLeast, FramesEndWithTheirContent, FieldLengthsAreLeast, NumbersAreLeast};
+ghost use Rattle.acpi_term.specs.Laws.{RowsMean, RowsOverMean, AtMostOneList, AtMostOneFront, SplitsAgree, NameTextsAreNames, LengthsAreSpelled, FramesAreSpelled, FramesAreLeast, FramesEndWithTheirContent, FieldLengthsAreLeast, NumbersAreLeast};
 
 /// A whole row spells its term over the terms of its children.
 pub fn rows_mean()
@@ -10,6 +10,26 @@ pub fn rows_mean()
 /// A whole row round bytes that spell all children spells its term.
 pub fn rows_over_mean()
     ensures { RowsOverMean }
+{}
+
+/// At most one list of terms is spelled by given bytes, and only these bytes spell it.
+pub fn at_most_one_list()
+    ensures { AtMostOneList }
+{}
+
+/// At most one beginning of given bytes spells a term, and only one.
+pub fn at_most_one_front()
+    ensures { AtMostOneFront }
+{}
+
+/// The spelling is the relation of bytes and terms by cuts.
+pub fn splits_agree()
+    ensures { SplitsAgree }
+{}
+
+/// A text of standard segments names a name (ACPI 6.5, 20.2.2).
+pub fn name_texts_are_names()
+    ensures { NameTextsAreNames }
 {}
 
 /// A length has its value in each width that carries it, and nothing else has (ACPI 6.5, 20.2.4).

@@ -3,6 +3,7 @@
 
 pub mod laws;
 pub mod mode;
+pub mod name_string;
 pub mod op;
 pub mod path_text;
 pub mod read_error;

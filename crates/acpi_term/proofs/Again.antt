@@ -1,0 +1,159 @@
+-- What is spelled is read, as far as the depth goes.
+use Rattle.std.proofs.Common.{◌≡◌, ℕ, zero, suc, ◌-◌, ◌<◌, ◌≤◌, max, Bool, true, false, cond, leb, ltb, List, [], ◌∷◌, ◌++◌, length, Result, Ok, Err, refl, sym, ap, subst, ◌∙◌, append_assoc, arith}
+use Rattle.std.specs.Prelude.{◌&&◌}
+use Rattle.std.proofs.lemmas.Bool.{le-ltb, le-leb, lt-leb}
+use Rattle.std.proofs.lemmas.Bool.Decides.{nat_tests}
+use Rattle.std.proofs.lemmas.List.{append-nil, length-append}
+use Rattle.acpi_base.specs.Number.{number_bytes}
+use Rattle.acpi_term.specs.declared.op.Op.{Op}
+use Rattle.acpi_term.specs.declared.op.Op.TheVariants.{CreateField}
+use Rattle.acpi_term.specs.declared.mode.Mode.{Mode}
+use Rattle.acpi_term.specs.declared.mode.Mode.TheVariants.{Term, Element}
+use Rattle.acpi_term.specs.Tree.{Head, number, call, scope, device, method, power, buffer, pack, varpack, branch, loop, otherwise, op, Terms, end, term, count, depth}
+use Rattle.acpi_term.specs.Operator.{opcode}
+use Rattle.acpi_term.specs.Spelling.{spelled, spelling, inner, next, FitsHead, Fits}
+use Rattle.acpi_term.proofs.Reading.{Fault, Deep, ◌>>=◌, least_of, assembled, follows, fills, Reader, counted, all_of, wants_no_more, close, term_at}
+use Rattle.acpi_term.proofs.Names.{name_some}
+use Rattle.acpi_term.proofs.Opens.{opened, open_again}
+
+-- the terms are at most so deep
+abbrev pub within : Terms → ℕ → Bool
+within end d = true
+within (term h w children others) zero = false
+within (term h w children others) (suc d) = within children d && within others (suc d)
+
+abbrev pub guarded : {X : Type 0} → Bool → X → Result X Fault
+guarded b x = cond b (Ok x) (Err Deep)
+
+guard_then : {X Y : Type 0} (b : Bool) (x : X) (k : X → Result Y Fault) (y : Y) → k x ≡ Ok y → (guarded b x >>= k) ≡ guarded b y
+guard_then true x k y e = e
+guard_then false x k y e = refl
+
+guards_then : {X Y Z : Type 0} (b c : Bool) (x : X) (k : X → Result Y Fault) (y : Y) (g : X → Y → Z) → k x ≡ guarded c y → (guarded b x >>= λ t. k t >>= λ o. Ok (g t o)) ≡ guarded (b && c) (g x y)
+guards_then true true x k y g e = rw e refl
+guards_then true false x k y g e = rw e refl
+guards_then false c x k y g e = refl
+
+-- no terms have no bytes
+pub nothing_inside : (c : Terms) → count c ≡ 0 → spelling c ≡ []
+nothing_inside end e = refl
+nothing_inside (term h w c o) e = absurd (omega arith)
+
+module _ (arity : List ℕ → ℕ) where
+  abbrev pub CountedAgain : Terms → Type 0
+  CountedAgain ts = (d : ℕ) (m : Mode) (rest : List ℕ) → Fits arity m ts → counted (term_at arity d) (count ts) m (spelling ts ++ rest) ≡ guarded (within ts d) (ts, rest)
+
+  abbrev pub AllAgain : Terms → Type 0
+  AllAgain ts = (d : ℕ) (m : Mode) (n : ℕ) → length (spelling ts) ≤ n → Fits arity m ts → all_of (term_at arity d) n m (spelling ts) ≡ guarded (within ts d) ts
+
+  pub record Again (ts : Terms) : Type 0 where
+    pub several : CountedAgain ts
+    pub whole : AllAgain ts
+
+  -- several, with nothing after them
+  several_only : (ts : Terms) → CountedAgain ts → (d : ℕ) (m : Mode) → Fits arity m ts → counted (term_at arity d) (count ts) m (spelling ts) ≡ guarded (within ts d) (ts, [])
+  several_only ts law d m f = ap (counted (term_at arity d) (count ts) m) (sym (append-nil (spelling ts))) ∙ law d m [] f
+
+  follows_closes : (h : Head) (w : ℕ) (c : Terms) → Again c → (d : ℕ) (rest : List ℕ) → Fits arity (inner h) c → close (term_at arity d) (follows h w (count c) (spelling c ++ rest)) ≡ guarded (within c d) (h, w, c, rest)
+  unfolding close
+  follows_closes h w c law d rest f = rw (law.several d (inner h) rest f) (guard_then (within c d) (c, rest) (λ x. Ok (h, w, x.0, x.1)) (h, w, c, rest) refl)
+
+  fills_closes : (h : Head) (w : ℕ) (c : Terms) → Again c → (d : ℕ) (rest : List ℕ) → least_of h ≤ count c → Fits arity (inner h) c → close (term_at arity d) (fills h w (spelling c) rest) ≡ guarded (within c d) (h, w, c, rest)
+  unfolding close assembled
+  fills_closes h w c law d rest enough f =
+      let long : ltb (count c) (least_of h) ≡ false = le-ltb (count c) (least_of h) enough in
+      rw (law.whole d (inner h) (length (spelling c)) (omega arith) f) (guard_then (within c d) c (λ x. assembled h w x >>= λ t. Ok (t.0, t.1, t.2, rest)) (h, w, c, rest) (rw long refl))
+
+  closes : (h : Head) (w : ℕ) (c : Terms) → Again c → (d : ℕ) (m : Mode) (rest : List ℕ) → FitsHead arity m h w (count c) (spelling c) → Fits arity (inner h) c
+      → close (term_at arity d) (opened h w (count c) (spelling c) rest) ≡ guarded (within c d) (h, w, c, rest)
+  unfolding close
+  closes (scope name) w c law d m rest fh f = fills_closes (scope name) w c law d rest (omega arith) f
+  closes (device name) w c law d m rest fh f = fills_closes (device name) w c law d rest (omega arith) f
+  closes (method name args serialized) w c law d m rest fh f = fills_closes (method name args serialized) w c law d rest (omega arith) f
+  closes (power name level order) w c law d m rest fh f = fills_closes (power name level order) w c law d rest (omega arith) f
+  closes varpack w c law d m rest fh f = fills_closes varpack w c law d rest fh.takes f
+  closes branch w c law d m rest fh f = fills_closes branch w c law d rest fh.takes f
+  closes loop w c law d m rest fh f = fills_closes loop w c law d rest fh.takes f
+  closes otherwise w c law d m rest fh f = fills_closes otherwise w c law d rest (omega arith) f
+  closes pack w c law d m rest fh f = rw (several_only c law.several d Element f) (guard_then (within c d) (c, []) (λ x. wants_no_more (term_at arity d) pack w x.0 x.1 rest) (pack, w, c, rest) refl)
+  closes (buffer bytes) w c law d m rest fh f =
+      let n : count c ≡ 1 = fh.takes in
+      let r : counted (term_at arity d) 1 Term (spelling c ++ bytes) ≡ guarded (within c d) (c, bytes) = subst (λ k. counted (term_at arity d) k Term (spelling c ++ bytes) ≡ guarded (within c d) (c, bytes)) n (law.several d Term bytes f) in
+      rw r (guard_then (within c d) (c, bytes) (λ x. Ok (buffer x.1, w, x.0, rest)) (buffer bytes, w, c, rest) refl)
+  closes h w c law d m rest fh f = follows_closes h w c law d rest f
+
+  -- one term is read again
+  step : (h : Head) (w : ℕ) (c : Terms) → Again c → (d : ℕ) (m : Mode) (rest : List ℕ) → FitsHead arity m h w (count c) (spelling c) → Fits arity (inner h) c
+      → term_at arity (suc d) m (spelled h w (count c) (spelling c) ++ rest) ≡ guarded (within c d) (h, w, c, rest)
+  unfolding term_at
+  step h w c law d m rest fh f = rw (open_again arity m h w (count c) (spelling c) rest fh (nothing_inside c)) (closes h w c law d m rest fh f)
+
+  several_more : (h : Head) (w : ℕ) (c o : Terms) → Again c → CountedAgain o → CountedAgain (term h w c o)
+  unfolding counted term_at
+  several_more h w c o law others zero m rest f = refl
+  several_more h w c o law others (suc d) m rest f =
+      ap (counted (term_at arity (suc d)) (suc (count o)) m) (append_assoc (spelled h w (count c) (spelling c)) (spelling o) rest)
+      ∙ rw (step h w c law d m (spelling o ++ rest) f.0 f.1)
+      (guards_then (within c d) (within o (suc d)) (h, w, c, spelling o ++ rest) (λ t. counted (term_at arity (suc d)) (count o) (next m) t.3) (o, rest) (λ t x. (term t.0 t.1 t.2 x.0, x.1)) (others (suc d) (next m) rest f.2))
+
+-- ---- all of the bytes
+
+number_some : (v w : ℕ) (inside : List ℕ) → 0 < length (number_bytes v w ++ inside)
+number_some v w inside = grind arith
+
+opcode_some : (o : Op) (inside : List ℕ) → 0 < length (opcode o ++ inside)
+opcode_some CreateField inside = omega arith
+opcode_some o inside = omega arith
+
+less : (n : ℕ) → suc n - 1 ≡ n
+less n = omega arith
+
+pub all_more : (p : Reader) (n : ℕ) (m : Mode) (bytes : List ℕ) → 0 < length bytes → length bytes ≤ n
+    → all_of p n m bytes ≡ (p m bytes >>= λ t. all_of p (n - 1) (next m) t.3 >>= λ others. Ok (term t.0 t.1 t.2 others))
+unfolding all_of
+all_more p n m [] some le = absurd (omega arith)
+all_more p zero m (b ∷ bytes) some le = absurd (omega arith)
+all_more p (suc n) m (b ∷ bytes) some le = rw (less n) refl
+
+module _ (arity : List ℕ → ℕ) where
+  -- a term has at least a byte
+  pub head_some : (m : Mode) (h : Head) (w n : ℕ) (inside : List ℕ) → FitsHead arity m h w n inside → 0 < length (spelled h w n inside)
+  head_some m (number v) w n inside f = number_some v w inside
+  head_some m (call name) w n inside f = omega (arith, length-append name inside, name_some name f.is_standard)
+  head_some m (op o) w n inside f = opcode_some o inside
+  head_some m h w n inside f = omega arith
+
+  -- one term, and then the others, to the end
+  all_step : (h : Head) (w : ℕ) (c o : Terms) → Again arity c → AllAgain arity o → (d : ℕ) (m : Mode) (n : ℕ) → length (spelling o) ≤ n → Fits arity m (term h w c o)
+      → (term_at arity d m (spelling (term h w c o)) >>= λ t. all_of (term_at arity d) n (next m) t.3 >>= λ x. Ok (term t.0 t.1 t.2 x)) ≡ guarded (within (term h w c o) d) (term h w c o)
+  unfolding term_at
+  all_step h w c o law others zero m n le f = refl
+  all_step h w c o law others (suc d) m n le f =
+      rw (step arity h w c law d m (spelling o) f.0 f.1)
+      (guards_then (within c d) (within o (suc d)) (h, w, c, spelling o) (λ t. all_of (term_at arity (suc d)) n (next m) t.3) o (λ t x. term t.0 t.1 t.2 x) (others (suc d) (next m) n le f.2))
+
+  all_one_more : (h : Head) (w : ℕ) (c o : Terms) → Again arity c → AllAgain arity o → AllAgain arity (term h w c o)
+  all_one_more h w c o law others d m n le f =
+      let some = head_some m h w (count c) (spelling c) f.0 in
+      let len = length-append (spelled h w (count c) (spelling c)) (spelling o) in
+      all_more (term_at arity d) n m (spelling (term h w c o)) (omega (arith, some, len)) le
+      ∙ all_step h w c o law others d m (n - 1) (omega (arith, some, len, le)) f
+
+  -- what is spelled is read
+  pub again : (ts : Terms) → Again arity ts
+  unfolding counted all_of
+  again end = record { several = λ d m rest f. refl; whole = λ d m n le f. refl }
+  again (term h w c o) = record {
+    several = several_more arity h w c o (again c) (again o).several;
+    whole = all_one_more h w c o (again c) (again o).whole;
+  }
+
+-- ---- how deep terms are
+
+both_leb : (a b d : ℕ) → (leb a d && leb b (suc d)) ≡ leb (max (suc a) b) (suc d)
+both_leb a b d = grind (arith, nat_tests)
+
+pub within_is : (ts : Terms) (d : ℕ) → within ts d ≡ leb (depth ts) d
+within_is end d = sym (le-leb 0 d (omega arith))
+within_is (term h w c o) zero = sym (lt-leb (max (suc (depth c)) (depth o)) 0 (omega arith))
+within_is (term h w c o) (suc d) = rw (within_is c d, within_is o (suc d)) (both_leb (depth c) (depth o) d)

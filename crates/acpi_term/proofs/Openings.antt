@@ -1,0 +1,418 @@
+-- Heads: what is opened was spelled so.
+use Rattle.std.proofs.Common.{◌≡◌, ℕ, ◌+◌, ◌-◌, ◌/◌, ◌%◌, ◌^◌, ◌<◌, ◌≤◌, Bool, true, false, cond, ltb, eqb, List, [], ◌∷◌, ◌++◌, length, Option, Some, None, Result, Ok, Err, refl, sym, ap, subst, ◌∙◌, append_assoc, arith}
+use Rattle.std.specs.Prelude.{◌&&◌, nat_le}
+use Rattle.std.proofs.lemmas.Bool.{ltb-true, leb-true, eqb-true, le-leb, ne_eqb, and_parts}
+use Rattle.std.proofs.lemmas.Bool.Decides.{nat_tests}
+use Rattle.std.proofs.lemmas.List.{append-nil}
+use Rattle.acpi_base.specs.Bytes.{AreBytes, le}
+use Rattle.acpi_base.specs.Number.{prefix, number_limit}
+use Rattle.acpi_term.specs.declared.op.Op.{Op}
+use Rattle.acpi_term.specs.declared.op.Op.TheVariants.{CreateField}
+use Rattle.acpi_term.specs.declared.mode.Mode.{Mode}
+use Rattle.acpi_term.specs.Tree.{Entry, Head, number, ones, text, local, arg, call, scope, device, method, power, field, region, define, mutex, acquire, release, buffer, pack, varpack, branch, loop, otherwise, op}
+use Rattle.acpi_term.specs.Name.{IsName, IsText}
+use Rattle.acpi_term.specs.Length.{framed, FitsFrame}
+use Rattle.acpi_term.specs.Operator.{opcode, operands}
+use Rattle.acpi_term.specs.Row.{entries_bytes, field_flags, method_flags}
+use Rattle.acpi_term.specs.Spelling.{spelled, arguments, FitsHead}
+use Rattle.acpi_term.proofs.Bytes.{bytes_after}
+use Rattle.acpi_term.proofs.Reading.{Fault, Bad, ◌>>=◌, name_at, frame_at, text_at, high_at, entries_at, op_of, begins_name, number_at, string_at, After, named_at, define_after, release_after, mutex_after, region_after, acquire_after, Inside, framed_at, scope_inside, device_inside, method_inside, power_inside, field_inside, plain_at, counted_frame, package_at, buffer_at, operator_at, extended_at, local_at, opcode_at, Opened, follows, fills, packs, begins, open_at, least_of}
+use Rattle.acpi_term.proofs.Steps.{bind_ok, ok_is, admitted}
+use Rattle.acpi_term.proofs.Names.{name_takes}
+use Rattle.acpi_term.proofs.Texts.{text_takes}
+use Rattle.acpi_term.proofs.Frames.{IsHigh, high_takes, Framed, frame_takes}
+use Rattle.acpi_term.proofs.Entries.{AreEntries, entries_takes, entries_owned}
+
+-- ---- parts
+
+one_byte : (b k : ℕ) (rest : List ℕ) → b ≡ k → b ∷ rest ≡ (k ∷ []) ++ rest
+one_byte b k rest is = ap (λ (x : ℕ). x ∷ rest) is
+
+two_bytes : (b k x j : ℕ) (rest : List ℕ) → b ≡ k → x ≡ j → b ∷ x ∷ rest ≡ (k ∷ j ∷ []) ++ rest
+two_bytes b k x j rest is also = rw (is, also) refl
+
+bare_parts : (before rest inside after bytes : List ℕ) → bytes ≡ before ++ rest → rest ≡ inside ++ after → bytes ≡ (before ++ inside) ++ after
+bare_parts before rest inside after bytes is e = is ∙ ap (λ (l : List ℕ). before ++ l) e ∙ sym (append_assoc before inside after)
+
+-- the same of an opcode, a name and further bytes before the rest
+named_parts : (code name mid rest tail inside after bytes : List ℕ) → bytes ≡ code ++ rest → rest ≡ name ++ (mid ++ tail) → tail ≡ inside ++ after → bytes ≡ ((code ++ (name ++ mid)) ++ inside) ++ after
+named_parts code name mid rest tail inside after bytes is e f =
+    bare_parts (code ++ (name ++ mid)) tail inside after bytes (is ∙ ap (λ (l : List ℕ). code ++ l) (e ∙ sym (append_assoc name mid tail)) ∙ sym (append_assoc code (name ++ mid) tail)) f
+
+boxed_parts : (code before rest content inside after bytes : List ℕ) (w : ℕ) → bytes ≡ code ++ rest → rest ≡ framed w content ++ after → content ≡ before ++ inside → bytes ≡ (code ++ framed w (before ++ inside)) ++ after
+boxed_parts code before rest content inside after bytes w is e f =
+    is ∙ ap (λ (l : List ℕ). code ++ l) e ∙ ap (λ (l : List ℕ). code ++ (framed w l ++ after)) f ∙ sym (append_assoc code (framed w (before ++ inside)) after)
+
+tail_parts : (code after_it rest content inside after bytes : List ℕ) (w : ℕ) → bytes ≡ code ++ rest → rest ≡ framed w content ++ after → content ≡ inside ++ after_it → bytes ≡ (code ++ framed w (inside ++ after_it)) ++ after
+tail_parts code after_it rest content inside after bytes w is e f =
+    is ∙ ap (λ (l : List ℕ). code ++ l) e ∙ ap (λ (l : List ℕ). code ++ (framed w l ++ after)) f ∙ sym (append_assoc code (framed w (inside ++ after_it)) after)
+
+grouped : (name mid inside content tail : List ℕ) → content ≡ name ++ tail → tail ≡ mid ++ inside → content ≡ (name ++ mid) ++ inside
+grouped name mid inside content tail e f = e ∙ ap (λ (l : List ℕ). name ++ l) f ∙ sym (append_assoc name mid inside)
+
+serialized_flags : (flags : ℕ) (t : Bool) → nat_le 8 flags ≡ t → flags < 16 → method_flags (flags % 8) t ≡ flags
+serialized_flags flags true h lt = let high : 8 ≤ flags = leb-true 8 flags h in omega arith
+serialized_flags flags false h lt = let low : flags < 8 = grind (arith, nat_tests) in omega arith
+
+-- the flags of a field are the three numbers
+flags_is : (b : ℕ) → field_flags (b % 16) (b / 16 % 2) (b / 32) ≡ b
+flags_is b = omega arith
+
+module _ (arity : List ℕ → ℕ) (m : Mode) where
+  -- what the bytes of an opened head are, whichever children and bytes after them follow
+  abbrev pub OpenTakes : List ℕ → Opened → Type 0
+  OpenTakes bytes (follows h w n rest) =
+      AreBytes rest × ((inside after : List ℕ) → rest ≡ inside ++ after → (n ≡ 0 → inside ≡ []) → (bytes ≡ spelled h w n inside ++ after) × FitsHead arity m h w n inside)
+  OpenTakes bytes (fills h w inside after) = AreBytes inside × AreBytes after × ((n : ℕ) → least_of h ≤ n → (bytes ≡ spelled h w n inside ++ after) × FitsHead arity m h w n inside)
+  OpenTakes bytes (packs w n inside after) = AreBytes inside × AreBytes after × (bytes ≡ spelled pack w n inside ++ after) × FitsHead arity m pack w n inside
+  OpenTakes bytes (begins w content after) =
+      AreBytes content × AreBytes after × ((inside rest : List ℕ) → content ≡ inside ++ rest → (bytes ≡ spelled (buffer rest) w 1 inside ++ after) × FitsHead arity m (buffer rest) w 1 inside)
+
+  -- a reading that ended in o
+  Reads : Result Opened Fault → List ℕ → Type 0
+  Reads r bytes = (o : Opened) → r ≡ Ok o → OpenTakes bytes o
+
+  opens : (o : Opened) (bytes : List ℕ) → OpenTakes bytes o → Reads (Ok o) bytes
+  unfolding Reads
+  opens o bytes t x e = subst (OpenTakes bytes) (ok_is o x e) t
+
+  refused : (bytes : List ℕ) → Reads (Err Bad) bytes
+  unfolding Reads
+  refused bytes x e = absurd cc
+
+  either_way : (b : Bool) (x y : Result Opened Fault) (bytes : List ℕ) → (b ≡ true → Reads x bytes) → (b ≡ false → Reads y bytes) → Reads (cond b x y) bytes
+  either_way true x y bytes f g = f refl
+  either_way false x y bytes f g = g refl
+
+  -- a test that has to hold
+  where_it_holds : (b : Bool) (x : Result Opened Fault) (bytes : List ℕ) → (b ≡ true → Reads x bytes) → Reads (cond b x (Err Bad)) bytes
+  where_it_holds b x bytes f = either_way b x (Err Bad) bytes f (λ _. refused bytes)
+
+  -- ---- rows with nothing framed
+
+  -- a head of width 0 that n children follow, after these bytes
+  record IsBare (h : Head) (n : ℕ) (before : List ℕ) : Type 0 where
+    row : (inside : List ℕ) → spelled h 0 n inside ≡ before ++ inside
+    fits : (inside : List ℕ) → FitsHead arity m h 0 n inside
+
+  bare_reads : (h : Head) (n : ℕ) (before rest bytes : List ℕ) → IsBare h n before → bytes ≡ before ++ rest → AreBytes rest → Reads (Ok (follows h 0 n rest)) bytes
+  bare_reads h n before rest bytes row is fits =
+      opens (follows h 0 n rest) bytes (fits, λ inside after e nothing. (bare_parts before rest inside after bytes is e ∙ ap (λ (l : List ℕ). l ++ after) (sym (row.row inside)), row.fits inside))
+
+  number_is : (b w v : ℕ) (bytes rest : List ℕ) → b ≡ prefix w → (w ≡ 0 → ⊥) → v < number_limit w → v < 2 ^ 64 → IsHigh w v bytes rest → OpenTakes (b ∷ bytes) (follows (number v) w 0 rest)
+  number_is b w v bytes rest is some lt top t =
+      let wide : eqb w 0 ≡ false = ne_eqb w 0 some in (
+        t.fits,
+        λ inside after e nothing. (
+          rw wide (bare_parts (prefix w ∷ le w v) rest inside after (b ∷ bytes) (rw (is, t.parts) refl) e),
+          record { takes = refl; is_standard = top; owns = refl; fits = lt },
+        ),
+      )
+
+  number_reads : (b w : ℕ) (bytes : List ℕ) → b ≡ prefix w → (w ≡ 0 → ⊥) → 256 ^ w ≤ number_limit w → number_limit w ≤ 2 ^ 64 → AreBytes bytes → Reads (number_at w bytes) (b ∷ bytes)
+  unfolding Reads
+  number_reads b w bytes is some fits top bs o e =
+      let h = bind_ok (high_at w bytes) (λ h. Ok (follows (number h.0) w 0 h.1)) o e in
+      let t = high_takes w bytes h.0 bs h.1 in
+      opens (follows (number h.0.0) w 0 h.0.1) (b ∷ bytes) (number_is b w h.0.0 bytes h.0.1 is some (omega (arith, t.below, fits)) (omega (arith, t.below, fits, top)) t) o h.2
+
+  small_reads : (b : ℕ) (rest : List ℕ) → b < 2 → AreBytes rest → Reads (Ok (follows (number b) 0 0 rest)) (b ∷ rest)
+  small_reads b rest lt fits = bare_reads (number b) 0 (b ∷ []) rest (b ∷ rest) (record { row = λ inside. refl; fits = λ inside. record { takes = refl; is_standard = omega arith; owns = refl; fits = lt } }) refl fits
+
+  ones_reads : (b : ℕ) (rest : List ℕ) → b ≡ 255 → AreBytes rest → Reads (Ok (follows ones 0 0 rest)) (b ∷ rest)
+  ones_reads b rest is fits = bare_reads ones 0 (255 ∷ []) rest (b ∷ rest) (record { row = λ inside. refl; fits = λ inside. record { takes = refl; is_standard = tt; owns = refl; fits = refl } }) (one_byte b 255 rest is) fits
+
+  local_reads : (b k : ℕ) (rest : List ℕ) → b ≡ 96 + k → k ≤ 7 → AreBytes rest → Reads (Ok (follows (local k) 0 0 rest)) (b ∷ rest)
+  local_reads b k rest is few fits =
+      bare_reads (local k) 0 ((96 + k) ∷ []) rest (b ∷ rest) (record { row = λ inside. refl; fits = λ inside. record { takes = refl; is_standard = tt; owns = rw (le-leb k 7 few) refl; fits = refl } }) (one_byte b (96 + k) rest is) fits
+
+  arg_reads : (b k : ℕ) (rest : List ℕ) → b ≡ 104 + k → k ≤ 6 → AreBytes rest → Reads (Ok (follows (arg k) 0 0 rest)) (b ∷ rest)
+  arg_reads b k rest is few fits =
+      bare_reads (arg k) 0 ((104 + k) ∷ []) rest (b ∷ rest) (record { row = λ inside. refl; fits = λ inside. record { takes = refl; is_standard = tt; owns = rw (le-leb k 6 few) refl; fits = refl } }) (one_byte b (104 + k) rest is) fits
+
+  op_is : (b : ℕ) (o : Op) → op_of b ≡ Some o → b ∷ [] ≡ opcode o
+  op_is b o e = grind (arith, nat_tests)
+
+  op_reads : (o : Op) (rest bytes : List ℕ) → bytes ≡ opcode o ++ rest → AreBytes rest → Reads (Ok (follows (op o) 0 (operands o) rest)) bytes
+  op_reads o rest bytes is fits = bare_reads (op o) (operands o) (opcode o) rest bytes (record { row = λ inside. refl; fits = λ inside. record { takes = refl; is_standard = tt; owns = refl; fits = refl } }) is fits
+
+  operator_reads : (b : ℕ) (found : Option Op) (rest : List ℕ) → op_of b ≡ found → AreBytes rest → Reads (operator_at found rest) (b ∷ rest)
+  operator_reads b None rest is fits = refused (b ∷ rest)
+  operator_reads b (Some o) rest is fits = op_reads o rest (b ∷ rest) (ap (λ (l : List ℕ). l ++ rest) (op_is b o is)) fits
+
+  string_is : (bytes s rest all : List ℕ) → all ≡ 13 ∷ bytes → AreBytes bytes → IsText s × (bytes ≡ s ++ 0 ∷ rest) → Reads (Ok (follows (text s) 0 0 rest)) all
+  string_is bytes s rest all is fits t =
+      bare_reads (text s) 0 (13 ∷ s ++ 0 ∷ []) rest all (record { row = λ inside. refl; fits = λ inside. record { takes = refl; is_standard = t.0; owns = refl; fits = refl } })
+      (is ∙ ap (λ (l : List ℕ). 13 ∷ l) (t.1 ∙ sym (append_assoc s (0 ∷ []) rest))) (bytes_after s (0 ∷ rest) (subst AreBytes t.1 fits)).1
+
+  string_reads : (b : ℕ) (bytes : List ℕ) → b ≡ 13 → AreBytes bytes → Reads (string_at bytes) (b ∷ bytes)
+  unfolding Reads
+  string_reads b bytes is fits o e =
+      let t = bind_ok (text_at bytes) (λ t. Ok (follows (text t.0) 0 0 t.1)) o e in
+      string_is bytes t.0.0 t.0.1 (b ∷ bytes) (one_byte b 13 bytes is) fits (text_takes bytes t.0.0 t.0.1 t.1) o t.2
+
+  -- ---- names
+
+  -- what follows a name that was read
+  abbrev AfterReads : After → List ℕ → List ℕ → Type 0
+  AfterReads k rest bytes = (name tail : List ℕ) → IsName name → rest ≡ name ++ tail → AreBytes tail → Reads (k name tail) bytes
+
+  named_reads : (k : After) (rest bytes : List ℕ) → AreBytes rest → AfterReads k rest bytes → Reads (named_at k rest) bytes
+  unfolding Reads
+  named_reads k rest bytes fits next o e =
+      let n = bind_ok (name_at rest) (λ n. k n.0 n.1) o e in
+      let t = name_takes rest n.0.0 n.0.1 fits n.1 in
+      next n.0.0 n.0.1 t.0 t.1 (bytes_after n.0.0 n.0.1 (subst AreBytes t.1 fits)) o n.2
+
+  define_reads : (rest bytes : List ℕ) → bytes ≡ (8 ∷ []) ++ rest → AfterReads define_after rest bytes
+  define_reads rest bytes is name tail p e fits =
+      bare_reads (define name) 1 (8 ∷ name) tail bytes (record { row = λ inside. refl; fits = λ inside. record { takes = refl; is_standard = p; owns = refl; fits = refl } }) (is ∙ ap (λ (l : List ℕ). 8 ∷ l) e) fits
+
+  release_reads : (rest bytes : List ℕ) → bytes ≡ (91 ∷ 39 ∷ []) ++ rest → AfterReads release_after rest bytes
+  release_reads rest bytes is name tail p e fits =
+      bare_reads (release name) 0 (91 ∷ 39 ∷ name) tail bytes (record { row = λ inside. refl; fits = λ inside. record { takes = refl; is_standard = p; owns = refl; fits = refl } })
+      (is ∙ ap (λ (l : List ℕ). 91 ∷ 39 ∷ l) e) fits
+
+  mutex_reads : (rest bytes : List ℕ) → bytes ≡ (91 ∷ 1 ∷ []) ++ rest → AfterReads mutex_after rest bytes
+  mutex_reads rest bytes is name [] p e fits = refused bytes
+  mutex_reads rest bytes is name (level ∷ tail) p e fits =
+      bare_reads (mutex name level) 0 (91 ∷ 1 ∷ name ++ level ∷ []) tail bytes (record { row = λ inside. refl; fits = λ inside. record { takes = refl; is_standard = (p, fits.0); owns = refl; fits = refl } })
+      (is ∙ ap (λ (l : List ℕ). 91 ∷ 1 ∷ l) (e ∙ sym (append_assoc name (level ∷ []) tail))) fits.1
+
+  region_reads : (rest bytes : List ℕ) → bytes ≡ (91 ∷ 128 ∷ []) ++ rest → AfterReads region_after rest bytes
+  region_reads rest bytes is name [] p e fits = refused bytes
+  region_reads rest bytes is name (space ∷ tail) p e fits =
+      bare_reads (region name space) 2 (91 ∷ 128 ∷ name ++ space ∷ []) tail bytes (record { row = λ inside. refl; fits = λ inside. record { takes = refl; is_standard = (p, fits.0); owns = refl; fits = refl } })
+      (is ∙ ap (λ (l : List ℕ). 91 ∷ 128 ∷ l) (e ∙ sym (append_assoc name (space ∷ []) tail))) fits.1
+
+  acquire_reads : (rest bytes : List ℕ) → bytes ≡ (91 ∷ 35 ∷ []) ++ rest → AfterReads acquire_after rest bytes
+  unfolding Reads
+  acquire_reads rest bytes is name tail p e fits o r =
+      let h = bind_ok (high_at 2 tail) (λ h. Ok (follows (acquire name h.0) 0 0 h.1)) o r in
+      let t = high_takes 2 tail h.0 fits h.1 in
+      bare_reads (acquire name h.0.0) 0 (91 ∷ 35 ∷ name ++ le 2 h.0.0) h.0.1 bytes (record { row = λ inside. refl; fits = λ inside. record { takes = refl; is_standard = (p, t.below); owns = refl; fits = refl } })
+      (is ∙ ap (λ (l : List ℕ). 91 ∷ 35 ∷ l) (grouped name (le 2 h.0.0) h.0.1 rest tail e t.parts)) t.fits o h.2
+
+  -- ---- names in frames
+
+  -- what follows a name in a frame that was read
+  abbrev InsideReads : Inside → List ℕ → List ℕ → Type 0
+  InsideReads k rest bytes = (w : ℕ) (name tail content after : List ℕ) → Framed rest w content after → IsName name → content ≡ name ++ tail → AreBytes tail → Reads (k w name tail after) bytes
+
+  framed_reads : (k : Inside) (rest bytes : List ℕ) → AreBytes rest → InsideReads k rest bytes → Reads (framed_at k rest) bytes
+  unfolding Reads
+  framed_reads k rest bytes fits next o e =
+      let f = bind_ok (frame_at rest) (λ f. name_at f.1 >>= λ n. k f.0 n.0 n.1 f.2) o e in
+      let t = frame_takes rest f.0 fits f.1 in
+      let n = bind_ok (name_at f.0.1) (λ n. k f.0.0 n.0 n.1 f.0.2) o f.2 in
+      let p = name_takes f.0.1 n.0.0 n.0.1 t.inside_fits n.1 in
+      next f.0.0 n.0.0 n.0.1 f.0.1 f.0.2 t p.0 p.1 (bytes_after n.0.0 n.0.1 (subst AreBytes p.1 t.inside_fits)) o n.2
+
+  scope_reads : (rest bytes : List ℕ) → bytes ≡ (16 ∷ []) ++ rest → InsideReads scope_inside rest bytes
+  scope_reads rest bytes is w name tail content after f p e fits =
+      opens (fills (scope name) w tail after) bytes (
+        fits,
+        f.after_fits,
+        λ n enough. (
+          boxed_parts (16 ∷ []) name rest content tail after bytes w is f.parts e,
+          record { takes = tt; is_standard = p; owns = refl; fits = subst (FitsFrame w) e f.fits },
+        ),
+      )
+
+  device_reads : (rest bytes : List ℕ) → bytes ≡ (91 ∷ 130 ∷ []) ++ rest → InsideReads device_inside rest bytes
+  device_reads rest bytes is w name tail content after f p e fits =
+      opens (fills (device name) w tail after) bytes (
+        fits,
+        f.after_fits,
+        λ n enough. (
+          boxed_parts (91 ∷ 130 ∷ []) name rest content tail after bytes w is f.parts e,
+          record { takes = tt; is_standard = p; owns = refl; fits = subst (FitsFrame w) e f.fits },
+        ),
+      )
+
+  method_is : (rest bytes : List ℕ) (w : ℕ) (name inside content after : List ℕ) (args : ℕ) (serialized : Bool) → bytes ≡ (20 ∷ []) ++ rest → Framed rest w content after → IsName name → args ≤ 7
+      → content ≡ (name ++ method_flags args serialized ∷ []) ++ inside → AreBytes inside → Reads (Ok (fills (method name args serialized) w inside after)) bytes
+  method_is rest bytes w name inside content after args serialized is f p few e fits =
+      opens (fills (method name args serialized) w inside after) bytes (
+        fits,
+        f.after_fits,
+        λ n enough. (
+          boxed_parts (20 ∷ []) (name ++ method_flags args serialized ∷ []) rest content inside after bytes w is f.parts e,
+          record { takes = tt; is_standard = p; owns = rw (le-leb args 7 few) refl; fits = subst (FitsFrame w) e f.fits },
+        ),
+      )
+
+  method_reads : (rest bytes : List ℕ) → bytes ≡ (20 ∷ []) ++ rest → InsideReads method_inside rest bytes
+  method_reads rest bytes is w name [] content after f p e fits = refused bytes
+  method_reads rest bytes is w name (flags ∷ inside) content after f p e fits =
+      where_it_holds (ltb flags 16) _ bytes (λ h.
+      let lt : flags < 16 = ltb-true flags 16 h in
+      let back : flags ≡ method_flags (flags % 8) (nat_le 8 flags) = sym (serialized_flags flags (nat_le 8 flags) refl lt) in
+      method_is rest bytes w name inside content after (flags % 8) (nat_le 8 flags) is f p (omega arith)
+      (grouped name (method_flags (flags % 8) (nat_le 8 flags) ∷ []) inside content (flags ∷ inside) e (ap (λ (x : ℕ). x ∷ inside) back)) fits.1)
+
+  power_reads : (rest bytes : List ℕ) → bytes ≡ (91 ∷ 132 ∷ []) ++ rest → InsideReads power_inside rest bytes
+  unfolding Reads
+  power_reads rest bytes is w name [] content after f p e fits o r = absurd cc
+  power_reads rest bytes is w name (level ∷ tail) content after f p e fits o r =
+      let h = bind_ok (high_at 2 tail) (λ h. Ok (fills (power name level h.0) w h.1 after)) o r in
+      let t = high_takes 2 tail h.0 fits.1 h.1 in
+      let same : content ≡ (name ++ level ∷ le 2 h.0.0) ++ h.0.1 = grouped name (level ∷ le 2 h.0.0) h.0.1 content (level ∷ tail) e (ap (λ (l : List ℕ). level ∷ l) t.parts) in
+      opens (fills (power name level h.0.0) w h.0.1 after) bytes (
+        t.fits,
+        f.after_fits,
+        λ n enough. (
+          boxed_parts (91 ∷ 132 ∷ []) (name ++ level ∷ le 2 h.0.0) rest content h.0.1 after bytes w is f.parts same,
+          record { takes = tt; is_standard = (p, fits.0, t.below); owns = refl; fits = subst (FitsFrame w) same f.fits },
+        ),
+      ) o h.2
+
+  field_is : (rest bytes : List ℕ) (w : ℕ) (name inside content after : List ℕ) (access lock update : ℕ) (entries : List Entry) → bytes ≡ (91 ∷ 129 ∷ []) ++ rest → Framed rest w content after → IsName name
+      → access ≤ 5 → lock ≤ 1 → update ≤ 2 → content ≡ name ++ field_flags access lock update ∷ inside → AreEntries inside entries → OpenTakes bytes (follows (field name access lock update entries) w 0 after)
+  field_is rest bytes w name inside content after access lock update entries is f p a l u e t =
+      let before = name ++ field_flags access lock update ∷ entries_bytes entries in
+      let same : content ≡ before ++ [] = e ∙ ap (λ (l : List ℕ). name ++ field_flags access lock update ∷ l) t.parts ∙ sym (append-nil before) in
+      let parts : bytes ≡ ((91 ∷ 129 ∷ []) ++ framed w (before ++ [])) ++ after = boxed_parts (91 ∷ 129 ∷ []) before rest content [] after bytes w is f.parts same in
+      let fits : FitsFrame w (before ++ []) = subst (FitsFrame w) same f.fits in
+      let head : FitsHead arity m (field name access lock update entries) w 0 [] = record { takes = refl; is_standard = (p, a, l, u, t.standard); owns = entries_owned entries t.fits; fits = (t.fits, fits) } in (
+        f.after_fits,
+        λ inner after_it split nothing.
+            let none = nothing refl in
+            let rest_is : after ≡ after_it = split ∙ ap (λ (l : List ℕ). l ++ after_it) none in
+            subst (λ (l : List ℕ). (bytes ≡ spelled (field name access lock update entries) w 0 l ++ after_it) × FitsHead arity m (field name access lock update entries) w 0 l) (sym none)
+            (parts ∙ ap (λ (l : List ℕ). ((91 ∷ 129 ∷ []) ++ framed w (before ++ [])) ++ l) rest_is, head),
+      )
+
+  field_reads : (rest bytes : List ℕ) → bytes ≡ (91 ∷ 129 ∷ []) ++ rest → InsideReads field_inside rest bytes
+  unfolding Reads
+  field_reads rest bytes is w name [] content after f p e fits o r = absurd cc
+  field_reads rest bytes is w name (flags ∷ inside) content after f p e fits o r =
+      let low = admitted (ltb (flags % 16) 6) Bad _ o r in
+      let high = admitted (ltb flags 96) Bad _ o low.1 in
+      let a = bind_ok (entries_at (length inside) inside) (λ e. Ok (follows (field name (flags % 16) (flags / 16 % 2) (flags / 32) e) w 0 after)) o high.1 in
+      let t = entries_takes (length inside) inside a.0 fits.1 a.1 in
+      let small : flags % 16 < 6 = ltb-true _ 6 low.0 in
+      let top : flags < 96 = ltb-true _ 96 high.0 in
+      opens (follows (field name (flags % 16) (flags / 16 % 2) (flags / 32) a.0) w 0 after) bytes
+      (field_is rest bytes w name inside content after (flags % 16) (flags / 16 % 2) (flags / 32) a.0 is f p (omega arith) (omega arith) (omega arith) (e ∙ ap (λ (x : ℕ). name ++ x ∷ inside) (sym (flags_is flags))) t) o a.2
+
+  -- ---- other frames
+
+  -- a head whose row is its opcode and a frame
+  record IsPlain (h : Head) (k : ℕ) : Type 0 where
+    row : (w n : ℕ) (inside : List ℕ) → spelled h w n inside ≡ (k ∷ []) ++ framed w inside
+    fits : (w n : ℕ) (inside : List ℕ) → least_of h ≤ n → FitsFrame w inside → FitsHead arity m h w n inside
+
+  plain_reads : (h : Head) (k b : ℕ) (rest : List ℕ) → IsPlain h k → b ≡ k → AreBytes rest → Reads (plain_at h rest) (b ∷ rest)
+  unfolding Reads
+  plain_reads h k b rest p is fits o e =
+      let f = bind_ok (frame_at rest) (λ f. Ok (fills h f.0 f.1 f.2)) o e in
+      let t = frame_takes rest f.0 fits f.1 in
+      let parts : b ∷ rest ≡ ((k ∷ []) ++ framed f.0.0 f.0.1) ++ f.0.2 = boxed_parts (k ∷ []) [] rest f.0.1 f.0.1 f.0.2 (b ∷ rest) f.0.0 (one_byte b k rest is) t.parts refl in
+      opens (fills h f.0.0 f.0.1 f.0.2) (b ∷ rest) (t.inside_fits, t.after_fits, λ n enough. (parts ∙ ap (λ (l : List ℕ). l ++ f.0.2) (sym (p.row f.0.0 n f.0.1)), p.fits f.0.0 n f.0.1 enough t.fits)) o f.2
+
+  package_is : (b w : ℕ) (rest content after : List ℕ) → b ≡ 18 → Framed rest w content after → Reads (counted_frame w content after) (b ∷ rest)
+  package_is b w rest [] after is f = refused (b ∷ rest)
+  package_is b w rest (n ∷ inside) after is f =
+      opens (packs w n inside after) (b ∷ rest) (
+        f.inside_fits.1,
+        f.after_fits,
+        boxed_parts (18 ∷ []) (n ∷ []) rest (n ∷ inside) inside after (b ∷ rest) w (one_byte b 18 rest is) f.parts refl,
+        record { takes = tt; is_standard = tt; owns = rw (le-leb n 255 (omega (arith, f.inside_fits.0))) refl; fits = f.fits },
+      )
+
+  package_reads : (b : ℕ) (rest : List ℕ) → b ≡ 18 → AreBytes rest → Reads (package_at rest) (b ∷ rest)
+  unfolding Reads
+  package_reads b rest is fits o e =
+      let f = bind_ok (frame_at rest) (λ f. counted_frame f.0 f.1 f.2) o e in
+      package_is b f.0.0 rest f.0.1 f.0.2 is (frame_takes rest f.0 fits f.1) o f.2
+
+  buffer_is : (b w : ℕ) (rest content after : List ℕ) → b ≡ 17 → Framed rest w content after → OpenTakes (b ∷ rest) (begins w content after)
+  buffer_is b w rest content after is f = (
+    f.inside_fits,
+    f.after_fits,
+    λ inside bytes e. (
+      tail_parts (17 ∷ []) bytes rest content inside after (b ∷ rest) w (one_byte b 17 rest is) f.parts e,
+      record { takes = refl; is_standard = bytes_after inside bytes (subst AreBytes e f.inside_fits); owns = refl; fits = subst (FitsFrame w) e f.fits },
+    ),
+  )
+
+  buffer_reads : (b : ℕ) (rest : List ℕ) → b ≡ 17 → AreBytes rest → Reads (buffer_at rest) (b ∷ rest)
+  unfolding Reads
+  buffer_reads b rest is fits o e =
+      let f = bind_ok (frame_at rest) (λ f. Ok (begins f.0 f.1 f.2)) o e in
+      opens (begins f.0.0 f.0.1 f.0.2) (b ∷ rest) (buffer_is b f.0.0 rest f.0.1 f.0.2 is (frame_takes rest f.0 fits f.1)) o f.2
+
+  -- ---- opcodes
+
+  extended_reads : (b : ℕ) (rest : List ℕ) → b ≡ 91 → AreBytes rest → Reads (extended_at rest) (b ∷ rest)
+  extended_reads b [] is fits = refused (b ∷ [])
+  extended_reads b (x ∷ rest) is fits =
+      let all = b ∷ x ∷ rest in
+      let two = λ (k : ℕ) (h : eqb x k ≡ true). two_bytes b 91 x k rest is (eqb-true x k h) in
+      either_way (eqb x 1) _ _ all (λ h. named_reads mutex_after rest all fits.1 (mutex_reads rest all (two 1 h)))
+      (λ _. either_way (eqb x 19) _ _ all (λ h. op_reads CreateField rest all (two 19 h) fits.1)
+      (λ _. either_way (eqb x 35) _ _ all (λ h. named_reads acquire_after rest all fits.1 (acquire_reads rest all (two 35 h)))
+      (λ _. either_way (eqb x 39) _ _ all (λ h. named_reads release_after rest all fits.1 (release_reads rest all (two 39 h)))
+      (λ _. either_way (eqb x 128) _ _ all (λ h. named_reads region_after rest all fits.1 (region_reads rest all (two 128 h)))
+      (λ _. either_way (eqb x 129) _ _ all (λ h. framed_reads field_inside rest all fits.1 (field_reads rest all (two 129 h)))
+      (λ _. either_way (eqb x 130) _ _ all (λ h. framed_reads device_inside rest all fits.1 (device_reads rest all (two 130 h)))
+      (λ _. where_it_holds (eqb x 132) _ all (λ h. framed_reads power_inside rest all fits.1 (power_reads rest all (two 132 h))))))))))
+
+  local_or_op_reads : (b : ℕ) (rest : List ℕ) → AreBytes rest → Reads (local_at b rest) (b ∷ rest)
+  local_or_op_reads b rest fits =
+      either_way (nat_le 96 b && nat_le b 103) _ _ (b ∷ rest)
+      (λ h. let p = and_parts (nat_le 96 b) (nat_le b 103) h in let low = leb-true 96 b p.0 in let high = leb-true b 103 p.1 in local_reads b (b - 96) rest (omega arith) (omega arith) fits)
+      (λ h. either_way (nat_le 104 b && nat_le b 110) _ _ (b ∷ rest)
+      (λ h. let p = and_parts (nat_le 104 b) (nat_le b 110) h in let low = leb-true 104 b p.0 in let high = leb-true b 110 p.1 in arg_reads b (b - 104) rest (omega arith) (omega arith) fits)
+      (λ h. operator_reads b (op_of b) rest refl fits))
+
+  varpack_plain : IsPlain varpack 19
+  varpack_plain = record { row = λ w n inside. refl; fits = λ w n inside enough f. record { takes = enough; is_standard = tt; owns = refl; fits = f } }
+
+  branch_plain : IsPlain branch 160
+  branch_plain = record { row = λ w n inside. refl; fits = λ w n inside enough f. record { takes = enough; is_standard = tt; owns = refl; fits = f } }
+
+  loop_plain : IsPlain loop 162
+  loop_plain = record { row = λ w n inside. refl; fits = λ w n inside enough f. record { takes = enough; is_standard = tt; owns = refl; fits = f } }
+
+  otherwise_plain : IsPlain otherwise 161
+  otherwise_plain = record { row = λ w n inside. refl; fits = λ w n inside enough f. record { takes = tt; is_standard = tt; owns = refl; fits = f } }
+
+  opcode_reads : (b : ℕ) (rest : List ℕ) → AreBytes rest → Reads (opcode_at b rest) (b ∷ rest)
+  opcode_reads b rest fits =
+      let all = b ∷ rest in
+      let first = λ (k : ℕ) (h : eqb b k ≡ true). one_byte b k rest (eqb-true b k h) in
+      either_way (ltb b 2) _ _ all (λ h. small_reads b rest (ltb-true b 2 h) fits)
+      (λ _. either_way (eqb b 8) _ _ all (λ h. named_reads define_after rest all fits (define_reads rest all (first 8 h)))
+      (λ _. either_way (eqb b 10) _ _ all (λ h. number_reads b 1 rest (eqb-true b 10 h) (λ z. cc) (omega arith) (omega arith) fits)
+      (λ _. either_way (eqb b 11) _ _ all (λ h. number_reads b 2 rest (eqb-true b 11 h) (λ z. cc) (omega arith) (omega arith) fits)
+      (λ _. either_way (eqb b 12) _ _ all (λ h. number_reads b 4 rest (eqb-true b 12 h) (λ z. cc) (omega arith) (omega arith) fits)
+      (λ _. either_way (eqb b 13) _ _ all (λ h. string_reads b rest (eqb-true b 13 h) fits)
+      (λ _. either_way (eqb b 14) _ _ all (λ h. number_reads b 8 rest (eqb-true b 14 h) (λ z. cc) (omega arith) (omega arith) fits)
+      (λ _. either_way (eqb b 16) _ _ all (λ h. framed_reads scope_inside rest all fits (scope_reads rest all (first 16 h)))
+      (λ _. either_way (eqb b 17) _ _ all (λ h. buffer_reads b rest (eqb-true b 17 h) fits)
+      (λ _. either_way (eqb b 18) _ _ all (λ h. package_reads b rest (eqb-true b 18 h) fits)
+      (λ _. either_way (eqb b 19) _ _ all (λ h. plain_reads varpack 19 b rest varpack_plain (eqb-true b 19 h) fits)
+      (λ _. either_way (eqb b 20) _ _ all (λ h. framed_reads method_inside rest all fits (method_reads rest all (first 20 h)))
+      (λ _. either_way (eqb b 91) _ _ all (λ h. extended_reads b rest (eqb-true b 91 h) fits)
+      (λ _. either_way (eqb b 160) _ _ all (λ h. plain_reads branch 160 b rest branch_plain (eqb-true b 160 h) fits)
+      (λ _. either_way (eqb b 161) _ _ all (λ h. plain_reads otherwise 161 b rest otherwise_plain (eqb-true b 161 h) fits)
+      (λ _. either_way (eqb b 162) _ _ all (λ h. plain_reads loop 162 b rest loop_plain (eqb-true b 162 h) fits)
+      (λ _. either_way (eqb b 255) _ _ all (λ h. ones_reads b rest (eqb-true b 255 h) fits)
+      (λ _. local_or_op_reads b rest fits)))))))))))))))))
+
+  call_is : (bytes name rest : List ℕ) → AreBytes bytes → IsName name × (bytes ≡ name ++ rest) → Reads (Ok (follows (call name) 0 (arguments arity m name) rest)) bytes
+  call_is bytes name rest fits t =
+      bare_reads (call name) (arguments arity m name) name rest bytes (record { row = λ inside. refl; fits = λ inside. record { takes = refl; is_standard = t.0; owns = refl; fits = refl } }) t.1 (bytes_after name rest (subst AreBytes t.1 fits))
+
+  call_reads : (bytes : List ℕ) → AreBytes bytes → Reads (name_at bytes >>= λ n. Ok (follows (call n.0) 0 (arguments arity m n.0) n.1)) bytes
+  unfolding Reads
+  call_reads bytes fits o e =
+      let n = bind_ok (name_at bytes) (λ n. Ok (follows (call n.0) 0 (arguments arity m n.0) n.1)) o e in
+      call_is bytes n.0.0 n.0.1 fits (name_takes bytes n.0.0 n.0.1 fits n.1) o n.2
+
+  pub open_takes : (bytes : List ℕ) (o : Opened) → AreBytes bytes → open_at arity m bytes ≡ Ok o → OpenTakes bytes o
+  unfolding open_at Reads
+  open_takes [] o fits e = absurd cc
+  open_takes (b ∷ rest) o fits e = either_way (begins_name b) _ _ (b ∷ rest) (λ h. call_reads (b ∷ rest) fits) (λ h. opcode_reads b rest fits.1) o e

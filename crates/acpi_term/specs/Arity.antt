@@ -1,0 +1,18 @@
+-- How many arguments names take.
+use Rattle.std.specs.Prelude.{ℕ, ◌&&◌, ◌||◌, not, nat_le, Bool, true, false, if◌then◌else◌, List, [], ◌∷◌}
+use Rattle.std.specs.Str.{bytes_eq}
+
+-- whether a list states a number for a name
+abbrev pub is_stated : List (List ℕ × ℕ) → List ℕ → Bool
+is_stated [] name = false
+is_stated (a ∷ all) name = bytes_eq a.0 name || is_stated all name
+
+-- each name once, with a number from 0 to 7 (ACPI 6.5, 20.2.5.2, MethodFlags)
+abbrev pub are_arities : List (List ℕ × ℕ) → Bool
+are_arities [] = true
+are_arities (a ∷ all) = nat_le a.1 7 && not (is_stated all a.0) && are_arities all
+
+-- how many arguments a name takes: none if it isn't stated
+abbrev pub arity : List (List ℕ × ℕ) → List ℕ → ℕ
+arity [] name = 0
+arity (a ∷ all) name = if bytes_eq a.0 name then a.1 else arity all name

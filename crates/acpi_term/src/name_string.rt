@@ -1,0 +1,182 @@
+//! Names, and how many arguments they take.
+
+ghost use Rattle.std.specs.Prelude.{◌≡◌, ◌≢◌, ℕ, List, true, false, OnOk, IfOk, IfErr};
+ghost use Rattle.std.specs.Cmp.Lexicographic.{pointwise};
+ghost use Rattle.std.specs.Bool.{nat_eq};
+ghost use Rattle.acpi_term.specs.Name.{is_lead, is_part, is_segment, IsName};
+ghost use Rattle.acpi_term.specs.PathText.{parts, are_standard, path_spelling, is_name_text};
+ghost use Rattle.acpi_term.specs.Arity.{is_stated, are_arities, arity};
+
+use crate::path_text::{path_bytes, split_root};
+use crate::read_error::ReadError;
+use acpi_base::error::Error;
+use std::alloc::Global;
+use std::marker::Model;
+
+/// A name, as the bytes that spell it (ACPI 6.5, 20.2.2, NameString).
+#[derive(Debug, Drop)]
+pub struct NameString {
+    bytes: Vec<u8>,
+}
+
+impl Model for NameString {
+    ghost Value = { List ℕ };
+
+    ghost view = { λ name. name.bytes.items };
+
+    ghost invariant = { λ name. IsName name.bytes.items };
+}
+
+impl NameString {
+    /// The name of a text: a `\` or none, and then 1 to 255 standard segments between dots. Refused by NameText where it
+    /// isn't one.
+    #[tactic(auto, using(crate::proofs::NameTexts::no_name, crate::proofs::NameTexts::nonstandard, crate::proofs::NameTexts::is_name, crate::proofs::NameTexts::is_text))]
+    pub fn new(alloc: Global, text: &str) -> Result<NameString, ReadError>
+        ensures ok { IfOk result (λ name. name ≡ path_spelling text.now) }
+        ensures standard { OnOk result (is_name_text text.now ≡ true) }
+        ensures err { IfErr result (λ e. e ≢ ReadError.Memory → (e ≡ ReadError.NameText) × (is_name_text text.now ≡ false)) }
+    {
+        let (_, rest) = split_root(text.as_bytes());
+        if !are_standard(rest) {
+            return Err(ReadError::NameText);
+        }
+        match path_bytes(alloc, text) {
+            Ok(bytes) => Ok(NameString { bytes }),
+            Err(Error::Memory) => Err(ReadError::Memory),
+            Err(_) => Err(ReadError::NameText),
+        }
+    }
+
+    /// The name that these bytes spell.
+    pub fn from_spelling(bytes: Vec<u8>) -> NameString
+        requires { IsName bytes.items }
+        ensures { result ≡ bytes.items }
+    {
+        NameString { bytes }
+    }
+
+    /// The bytes that spell it.
+    pub fn as_bytes(&self) -> &[u8]
+        ensures bytes { result.now ≡ self.now }
+        ensures name { IsName self.now }
+    {
+        &self.bytes
+    }
+}
+
+/// Names are equal where their bytes are.
+impl PartialEq for NameString {
+    ghost use Rattle.std.specs.Cmp.{partial_equiv_from_equiv};
+    ghost use Rattle.std.specs.Cmp.Lexicographic.{nat_list_eq_equiv};
+
+    ghost eq = { pointwise nat_eq };
+
+    ghost laws = { partial_equiv_from_equiv nat_list_eq_equiv };
+
+    fn eq(&self, other: &NameString) -> bool {
+        self.as_bytes() == other.as_bytes()
+    }
+}
+
+#[tactic(auto, unfolding(crate::specs::Name::is_segment))]
+fn is_segment(a: u8, b: u8, c: u8, d: u8) -> bool
+    ensures { result ≡ is_segment a b c d }
+{
+    is_lead(a) && is_part(b) && is_part(c) && is_part(d)
+}
+
+fn is_lead(b: u8) -> bool
+    ensures { result ≡ is_lead b }
+{
+    b.is_ascii_uppercase() || b == b'_'
+}
+
+fn is_part(b: u8) -> bool
+    ensures { result ≡ is_part b }
+{
+    is_lead(b) || b.is_ascii_digit()
+}
+
+/// Whether all parts between dots are standard segments.
+#[tactic(auto, using(crate::proofs::NameTexts::short, crate::proofs::NameTexts::other, crate::proofs::NameTexts::long))]
+fn are_standard(text: &[u8]) -> bool
+    ensures { result ≡ are_standard (parts text.now) }
+{
+    let mut rest = text;
+    while let [a, b, c, d, tail @ ..] = rest {
+        if !is_segment(*a, *b, *c, *d) {
+            return false;
+        }
+        let Some((x, more)) = tail.split_first() else {
+            return true;
+        };
+        if *x != 0x2e {
+            return false;
+        }
+        rest = more;
+    }
+    false
+}
+
+/// How many arguments names take, which no reader of bytes can find out.
+#[derive(Debug, Drop)]
+pub struct Arities {
+    counts: Vec<(NameString, u8)>,
+}
+
+impl Model for Arities {
+    ghost Value = { List (List ℕ × ℕ) };
+
+    ghost view = { λ arities. arities.counts.items };
+}
+
+impl Arities {
+    /// The list's numbers. Refused by Arity if a name stands twice or a number is more than 7.
+    pub fn new(counts: Vec<(NameString, u8)>) -> Result<Arities, ReadError>
+        ensures ok { IfOk result (λ arities. arities ≡ counts.items) }
+        ensures fit { OnOk result (are_arities counts.items ≡ true) }
+        ensures err { IfErr result (λ e. (e ≡ ReadError.Arity) × (are_arities counts.items ≡ false)) }
+    {
+        if are_arities(&counts) {
+            Ok(Arities { counts })
+        } else {
+            Err(ReadError::Arity)
+        }
+    }
+
+    /// How many arguments a name takes: none if it isn't stated.
+    pub fn count_of(&self, name: &[u8]) -> u8
+        ensures { result ≡ arity self.now name.now }
+    {
+        for (stated, count) in &self.counts {
+            if stated.as_bytes() == name {
+                return *count;
+            }
+        }
+        0
+    }
+}
+
+fn is_stated(counts: &[(NameString, u8)], name: &[u8]) -> bool
+    ensures { result ≡ is_stated counts.now name.now }
+{
+    for (stated, _) in counts {
+        if stated.as_bytes() == name {
+            return true;
+        }
+    }
+    false
+}
+
+fn are_arities(counts: &[(NameString, u8)]) -> bool
+    ensures { result ≡ are_arities counts.now }
+{
+    let mut rest = counts;
+    while let Some(((name, count), others)) = rest.split_first() {
+        if *count > 7 || is_stated(others, name.as_bytes()) {
+            return false;
+        }
+        rest = others;
+    }
+    true
+}
