@@ -4,6 +4,7 @@ pub mod Object
 pub mod Checksum
 pub mod Buffer
 pub mod Number
+pub mod Text
 pub mod Sum
 pub mod Header
 pub mod Contents

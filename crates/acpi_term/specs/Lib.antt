@@ -1,1 +1,10 @@
 pub mod ReadError
+pub mod Name
+pub mod PathText
+pub mod Length
+pub mod Tree
+pub mod Operator
+pub mod Row
+pub mod Spelling
+pub mod Splits
+pub mod Laws

@@ -1,4 +1,9 @@
 //! What AML and its reading speak of: terms, names, and why bytes couldn't be read.
 #![tactic(auto)]
 
+pub mod laws;
+pub mod mode;
+pub mod op;
+pub mod path_text;
 pub mod read_error;
+pub mod row;

@@ -1,0 +1,56 @@
+-- What objects mean that aren't rows as they stand.
+use Rattle.std.proofs.Common.{◌≡◌, ℕ, ◌≤◌, ◌<◌, ◌^◌, List, [], ◌∷◌, ◌++◌, length, Some, None, refl, sym, ap, subst, ◌∙◌, arith}
+use Rattle.std.specs.Prelude.{Option}
+use Rattle.std.proofs.lemmas.List.{append-nil}
+use Rattle.std.proofs.lemmas.Bool.Decides.{nat_tests}
+use Rattle.acpi_base.specs.declared.error.Error.{Error}
+use Rattle.acpi_base.specs.Number as numbers
+use Rattle.acpi_base.specs.Text as texts
+use Rattle.acpi_base.specs.Object.{Object, whole, all_of}
+use Rattle.acpi_base.proofs.Lists.{joined_whole, chain_whole}
+use Rattle.acpi_term.specs.declared.mode.Mode.{Mode}
+use Rattle.acpi_term.specs.declared.mode.Mode.TheVariants.{Element, Count}
+use Rattle.acpi_term.specs.Name.{IsName, IsText}
+use Rattle.acpi_term.specs.Tree.{number, ones, text, call, pack, varpack, Terms, end, count, one}
+use Rattle.acpi_term.specs.Row.{own, row, over, layout, writer_width}
+use Rattle.acpi_term.specs.Spelling.{Spells, arguments}
+use Rattle.acpi_term.proofs.Rows.{rows_mean, rows_over_mean, ended_none}
+use Rattle.acpi_aml.specs.Builder.{Builder, package_of}
+use Rattle.acpi_aml.specs.Meaning.{Means}
+
+pub numbers_mean : (arity : List ℕ → ℕ) (v : ℕ) → v < 2 ^ 64 → Means arity (whole (numbers.number v)) (one (number v) (numbers.number_width v) end)
+numbers_mean arity v small m h =
+    let spells = rows_mean arity m (number v) [] end refl small tt tt refl in
+    subst (λ (bytes : List ℕ). Spells arity m bytes (one (number v) (numbers.number_width v) end)) (append-nil (numbers.number v)) spells
+
+pub constants_mean : (arity : List ℕ → ℕ) → Means arity (whole (0 ∷ [])) (one (number 0) 0 end) × Means arity (whole (1 ∷ [])) (one (number 1) 0 end) × Means arity (whole (255 ∷ [])) (one ones 0 end)
+constants_mean arity = (numbers_mean arity 0 (omega arith), numbers_mean arity 1 (omega arith), λ m h. rows_mean arity m ones [] end refl tt tt tt refl)
+
+pub texts_mean : (arity : List ℕ → ℕ) (s : List ℕ) → IsText s → Means arity (whole (texts.text s)) (one (text s) 0 end)
+texts_mean arity s is m h =
+    let spells = rows_mean arity m (text s) [] end refl is tt tt refl in
+    subst (λ (bytes : List ℕ). Spells arity m bytes (one (text s) 0 end)) (append-nil (texts.text s)) spells
+
+pub names_mean : (arity : List ℕ → ℕ) (m : Mode) (name : List ℕ) → IsName name → arguments arity m name ≡ 0 → Spells arity m name (one (call name) 0 end)
+names_mean arity m name is none =
+    let spells = rows_mean arity m (call name) [] end (sym none) is tt tt refl in
+    subst (λ (bytes : List ℕ). Spells arity m bytes (one (call name) 0 end)) (append-nil name) spells
+
+pub builders_mean : (arity : List ℕ → ℕ) (b : Builder) (elements : Terms) → count elements ≡ b.elements → b.elements ≤ 255 → Spells arity Element b.bytes elements
+    → Means arity (package_of b) (one pack (writer_width pack b.elements b.bytes) elements)
+builders_mean arity b elements same few spells m h =
+    let owns : own pack (count elements) ≡ None = grind (arith, nat_tests) in
+    subst (λ k. (over (layout pack 0 k) b.bytes).end ≡ None → Spells arity m (over (layout pack 0 k) b.bytes).front (one pack (writer_width pack k b.bytes) elements)) same
+    (λ end_none. rows_over_mean arity m pack b.bytes elements tt tt tt owns spells end_none) h
+
+pub var_packages_mean : (arity : List ℕ → ℕ) (object : Object) (terms : Terms) → 1 ≤ count terms → Spells arity Count object.front terms
+    → Means arity (row varpack (object ∷ [])) (one varpack (writer_width varpack (count terms) object.front) terms)
+var_packages_mean arity object terms some spells m h =
+    let a = ended_none (all_of (object ∷ [])).end (over (layout varpack 0 1) (all_of (object ∷ [])).front) h in
+    let first = joined_whole object.front object.wants_memory (whole []) object.end a.0 in
+    let front : (all_of (object ∷ [])).front ≡ object.front = ap (λ (o : Object). o.front) (chain_whole object (whole []) first.0) ∙ append-nil object.front in
+    let means : (over (layout varpack 0 1) object.front).end ≡ None → Spells arity m (over (layout varpack 0 1) object.front).front (one varpack (writer_width varpack (count terms) object.front) terms) =
+    λ e. rows_over_mean arity m varpack object.front terms some tt tt refl spells e in
+    let fits : (over (layout varpack 0 1) object.front).end ≡ None = subst (λ (bytes : List ℕ). (over (layout varpack 0 1) bytes).end ≡ None) front a.1 in
+    subst (λ (bytes : List ℕ). Spells arity m bytes (one varpack (writer_width varpack (count terms) object.front) terms))
+    (sym (a.2 ∙ ap (λ (bytes : List ℕ). (over (layout varpack 0 1) bytes).front) front)) (means fits)

@@ -1,0 +1,42 @@
+-- Packages that grow.
+use Rattle.std.specs.Prelude.{◌≡◌, ℕ, ◌+◌, nat_lt, if◌then◌else◌, List, [], ◌∷◌, ◌++◌, true, Option, Some, None, IsTrue, refl}
+use Rattle.acpi_base.specs.declared.error.Error.TheVariants.{PackageElements}
+use Rattle.acpi_base.specs.Sink.{Meaning}
+use Rattle.acpi_base.specs.Object.{Object, ended}
+use Rattle.acpi_term.specs.Tree.{pack}
+use Rattle.acpi_term.specs.Row.{layout, over}
+
+-- the bytes of the elements, and how many were counted
+pub record Builder : Type 0 where
+  pub bytes : List ℕ
+  pub elements : ℕ
+
+abbrev pub new_builder : Builder
+new_builder = record { bytes = []; elements = 0 }
+
+-- an element, where there is room for one more
+abbrev pub element_of : Builder → Object → Object
+element_of b object = ended (if nat_lt b.elements 255 then None else Some PackageElements) object
+
+abbrev pub with_element : Builder → Object → Builder
+with_element b object = record { bytes = b.bytes ++ object.front; elements = b.elements + 1 }
+
+abbrev pub with_elements : Builder → List Object → Builder
+with_elements b [] = b
+with_elements b (object ∷ objects) = with_elements (with_element b object) objects
+
+-- what it writes
+abbrev pub package_of : Builder → Object
+package_of b = over (layout pack 0 b.elements) b.bytes
+
+-- As a sink it shows its count and then all its bytes, and counts nothing.
+unfoldable pub builder_of : Builder → Meaning
+builder_of b = record {
+  shows = λ more. b.elements ∷ b.bytes ++ more;
+  takes = λ _. true;
+  wants_memory = true;
+}
+
+pub builder_takes : (b : Builder) (bytes : List ℕ) → IsTrue ((builder_of b).takes bytes)
+unfolding builder_of
+builder_takes b bytes = refl

@@ -1,0 +1,100 @@
+//! Packages that grow by an element at a time.
+
+ghost use Rattle.std.specs.Prelude.{◌≡◌, ◌++◌, [], ◌∷◌, None, OnOk, OnErr, IfErr};
+ghost use Rattle.acpi_base.specs.Object.{IsOwnEnd, Wrote, WriteRefused};
+ghost use Rattle.acpi_term.specs.Tree.{pack};
+ghost use Rattle.acpi_term.specs.Row.{over, layout};
+ghost use Rattle.acpi_aml.specs.Builder.{Builder, new_builder, element_of, with_element, package_of, builder_of, builder_takes};
+ghost use Rattle.acpi_aml.specs.EndsWell.{boxed_ends_well};
+
+use acpi_base::buffer::append;
+use acpi_base::error::{Error, R};
+use acpi_base::object::Aml;
+use acpi_base::parts::write_parts;
+use acpi_base::sink::AmlSink;
+use acpi_term::row::frame_length;
+use std::alloc::Global;
+use std::marker::Model;
+
+/// A package (ACPI 6.5, 20.2.5.4, DefPackage) to which elements are added one by one. Where its content is too large for
+/// a PkgLength it is refused when written, and gives nothing then.
+#[derive(Drop)]
+pub struct PackageBuilder {
+    bytes: Vec<u8>,
+    elements: u8,
+}
+
+impl Model for PackageBuilder {
+    ghost Value = { Builder };
+
+    ghost view = { λ b. record { bytes = b.bytes.items; elements = b.elements } };
+}
+
+/// As a sink it takes any bytes into its content, and doesn't count them.
+impl AmlSink for PackageBuilder {
+    ghost meaning = { builder_of };
+
+    ghost takes_nothing = { λ b. builder_takes b [] };
+
+    ghost takes_beginning = { λ b a _ _. builder_takes b a };
+
+    #[tactic(auto, unfolding(crate::specs::Builder::builder_of))]
+    fn byte(&mut self, byte: u8) -> R<()> {
+        self.bytes.push(byte)?;
+        Ok(())
+    }
+
+    #[tactic(auto, unfolding(crate::specs::Builder::builder_of))]
+    fn vec(&mut self, v: &[u8]) -> R<()> {
+        self.bytes.extend_from_slice(v)?;
+        Ok(())
+    }
+}
+
+impl Aml for PackageBuilder {
+    ghost object = { package_of };
+
+    ghost ends_well = { λ b. boxed_ends_well (18 ∷ []) ((b.elements ∷ []) ++ b.bytes) };
+
+    fn to_aml_bytes(&self, sink: &mut dyn AmlSink) -> R<()> {
+        write_package(sink, self.elements, &self.bytes)
+    }
+}
+
+impl PackageBuilder {
+    /// A package without elements.
+    pub fn new(alloc: Global) -> PackageBuilder
+        ensures { result ≡ new_builder }
+    {
+        PackageBuilder {
+            bytes: Vec::new(alloc),
+            elements: 0,
+        }
+    }
+
+    /// Adds an element. PackageElements at the 256th, else the element's refusal; the package is unchanged then.
+    pub fn add_element(&mut self, element: &dyn Aml) -> R<()>
+        ensures ok { OnOk result (self.new ≡ with_element self.old (object element.now)) }
+        ensures whole { OnOk result ((element_of self.old (object element.now)).end ≡ None) }
+        ensures unchanged { OnErr result (self.new ≡ self.old) }
+        ensures err { IfErr result (λ e. IsOwnEnd e (element_of self.old (object element.now))) }
+    {
+        if self.elements == 255 {
+            return Err(Error::PackageElements);
+        }
+        let mut aside = Vec::new(*self.bytes.allocator());
+        append(element, &mut aside)?;
+        self.bytes.extend_from_slice(&aside)?;
+        self.elements += 1;
+        Ok(())
+    }
+}
+
+// Writes a package of so many elements, whose bytes are given.
+fn write_package(sink: &mut dyn AmlSink, count: u8, elements: &[u8]) -> R<()>
+    ensures ok { OnOk result (Wrote (over (layout pack 0 count) elements.now) (meaning sink.old) (meaning sink.new)) }
+    ensures err { IfErr result (λ e. WriteRefused e (over (layout pack 0 count) elements.now) (meaning sink.old) (meaning sink.new)) }
+{
+    let (length, used) = frame_length(elements.len() + 1)?;
+    write_parts(sink, &[&[0x12], &length[..used], &[count], elements])
+}

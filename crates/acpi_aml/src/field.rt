@@ -1,0 +1,122 @@
+//! Fields of operation regions.
+
+ghost use Rattle.std.specs.Prelude.{◌≡◌, ◌≢◌, ◌++◌, ℕ, List, [], ◌∷◌, OnOk, IfErr, None, Some};
+ghost use Rattle.acpi_base.specs.Object.{whole, whole_ends_well, Builds};
+ghost use Rattle.acpi_term.specs.Tree.{field};
+ghost use Rattle.acpi_term.specs.Row.{row, entry_bytes, entries_bytes, entries_end};
+ghost use Rattle.acpi_aml.specs.Field.{access_number, lock_number, update_number, entry_of, entries_of};
+
+use crate::path::Path;
+use acpi_base::error::{Error, R};
+use acpi_base::object::Aml;
+use acpi_base::sink::AmlSink;
+use acpi_term::row::{field_length, frame};
+use std::marker::Model;
+
+/// How wide the accesses to a field are (ACPI 6.5, 20.2.5.2, AccessType).
+#[derive(Clone, Copy, Debug, PartialEq)]
+pub enum FieldAccessType {
+    Any,
+    Byte,
+    Word,
+    DWord,
+    QWord,
+    Buffer,
+}
+
+/// Whether an access takes the global lock (LockRule).
+#[derive(Clone, Copy, Debug, PartialEq)]
+pub enum FieldLockRule {
+    NoLock,
+    Lock,
+}
+
+/// What becomes of the bits of an access that a field doesn't have (UpdateRule).
+#[derive(Clone, Copy, Debug, PartialEq)]
+pub enum FieldUpdateRule {
+    Preserve,
+    WriteAsOnes,
+    WriteAsZeroes,
+}
+
+/// Bits of a field, under a name or under none.
+#[derive(Clone, Copy, Debug, PartialEq)]
+pub enum FieldEntry {
+    Named([u8; 4], usize),
+    Reserved(usize),
+}
+
+/// Names for the bits of an operation region (ACPI 6.5, 20.2.5.2, DefField).
+#[derive(Drop)]
+pub struct Field {
+    bytes: Vec<u8>,
+}
+
+impl Model for Field {
+    ghost Value = { List ℕ };
+
+    ghost view = { λ o. o.bytes.items };
+}
+
+impl Aml for Field {
+    ghost object = { λ o. whole o };
+
+    ghost ends_well = { λ o. whole_ends_well o };
+
+    #[tactic(auto, using(acpi_base::proofs::Objects::refused_by_sink))]
+    fn to_aml_bytes(&self, sink: &mut dyn AmlSink) -> R<()> {
+        sink.vec(&self.bytes)
+    }
+}
+
+impl Field {
+    /// PkgLength where an entry has 2^28 bits or more, and where the whole would.
+    pub fn new(
+        path: Path,
+        access_type: FieldAccessType,
+        lock_rule: FieldLockRule,
+        update_rule: FieldUpdateRule,
+        fields: Vec<FieldEntry>,
+    ) -> R<Field>
+        ensures { Builds result (row (field path (access_number access_type) (lock_number lock_rule) (update_number update_rule) (entries_of fields.items)) []) }
+    {
+        let alloc = *fields.allocator();
+        let mut content = path.bytes;
+        content.push(access_type as u8 + 16 * (lock_rule as u8) + 32 * (update_rule as u8))?;
+        append_entries(&fields, &mut content)?;
+        let bytes = frame(alloc, &[0x5b, 0x81], &content)?;
+        Ok(Field { bytes })
+    }
+}
+
+// Writes entries at the end of a vector, one after another.
+fn append_entries(entries: &[FieldEntry], bytes: &mut Vec<u8>) -> R<()>
+    ensures ok { OnOk result (bytes.new.items ≡ bytes.old.items ++ entries_bytes (entries_of entries.now)) }
+    ensures end { OnOk result (entries_end (entries_of entries.now) ≡ None) }
+    ensures err { IfErr result (λ e. e ≢ Error.Memory → entries_end (entries_of entries.now) ≡ Some e) }
+{
+    for entry in entries {
+        append_entry(*entry, bytes)?;
+    }
+    Ok(())
+}
+
+fn append_entry(entry: FieldEntry, bytes: &mut Vec<u8>) -> R<()>
+    ensures ok { OnOk result (bytes.new.items ≡ bytes.old.items ++ entry_bytes (entry_of entry)) }
+    ensures end { OnOk result (entries_end (entry_of entry ∷ []) ≡ None) }
+    ensures err { IfErr result (λ e. e ≢ Error.Memory → entries_end (entry_of entry ∷ []) ≡ Some e) }
+{
+    match entry {
+        FieldEntry::Named(name, bits) => {
+            let (length, used) = field_length(bits)?;
+            bytes.extend_from_slice(&name)?;
+            bytes.extend_from_slice(&length[..used])?;
+        }
+        FieldEntry::Reserved(bits) => {
+            let (length, used) = field_length(bits)?;
+            bytes.push(0x00)?;
+            bytes.extend_from_slice(&length[..used])?;
+        }
+    }
+    Ok(())
+}

@@ -1,0 +1,14 @@
+//! Objects of AML: names, frames of named objects, packages, methods and what they are made of.
+#![tactic(auto)]
+
+pub mod builder;
+pub mod control;
+pub mod field;
+pub mod laws;
+pub mod method;
+pub mod mutex;
+pub mod name;
+pub mod package;
+pub mod path;
+pub mod region;
+pub mod scope;

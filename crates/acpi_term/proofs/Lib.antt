@@ -1,0 +1,4 @@
+pub mod Bytes
+pub mod Lengths
+pub mod PathTexts
+pub mod Rows

@@ -1,0 +1,65 @@
+-- What holds of the definitions, whatever calls there are.
+use Rattle.std.specs.Prelude.{◌≡◌, ℕ, ◌+◌, ◌^◌, ◌<◌, ◌≤◌, List, ◌++◌, length, Some, None}
+use Rattle.acpi_base.specs.Bytes.{AreBytes}
+use Rattle.acpi_base.specs.Number.{number_limit, number_bytes, number_width}
+use Rattle.acpi_base.specs.Object.{Object, all_of}
+use Rattle.acpi_term.specs.declared.mode.Mode.{Mode}
+use Rattle.acpi_term.specs.Tree.{Head, Terms, count, one}
+use Rattle.acpi_term.specs.Length.{value, Frames, limit, length_bytes, framed, FitsFrame, least_width}
+use Rattle.acpi_term.specs.Row.{row, over, layout, own, own_width, writer_width}
+use Rattle.acpi_term.specs.Spelling.{Takes, IsStandard, IsWritten, SpellEach, Spells, inner}
+
+-- ---- rows
+
+-- A row that is whole spells the term of its head over the terms that its children spell, wherever it stands, in the
+-- width that is written.
+abbrev pub RowsMean : Type 0
+RowsMean =
+    (arity : List ℕ → ℕ) (m : Mode) (h : Head) (objects : List Object) (ts : Terms)
+    → Takes arity m h (length objects) → IsStandard h → IsWritten h → SpellEach arity (inner h) objects ts
+    → (row h objects).end ≡ None → Spells arity m (row h objects).front (one h (writer_width h (length objects) (all_of objects).front) ts)
+
+-- The same round bytes that spell all children.
+abbrev pub RowsOverMean : Type 0
+RowsOverMean =
+    (arity : List ℕ → ℕ) (m : Mode) (h : Head) (bytes : List ℕ) (ts : Terms)
+    → Takes arity m h (count ts) → IsStandard h → IsWritten h → own h (count ts) ≡ None → Spells arity (inner h) bytes ts
+    → (over (layout h (own_width h) (count ts)) bytes).end ≡ None
+    → Spells arity m (over (layout h (own_width h) (count ts)) bytes).front (one h (writer_width h (count ts) bytes) ts)
+
+-- ---- lengths and numbers
+
+-- The bytes of a value in a width have that value, and bytes that have a value are its bytes in their width.
+abbrev pub LengthsAreSpelled : Type 0
+LengthsAreSpelled =
+    ((w v : ℕ) → v < limit w → AreBytes (length_bytes w v) × (value (length_bytes w v) ≡ Some v) × (length (length_bytes w v) ≡ w))
+    × ((p : List ℕ) (v : ℕ) → AreBytes p → value p ≡ Some v → (v < limit (length p)) × (length_bytes (length p) v ≡ p))
+
+-- What frames a content are its lengths in the widths that fit it.
+abbrev pub FramesAreSpelled : Type 0
+FramesAreSpelled =
+    ((w : ℕ) (content : List ℕ) → FitsFrame w content → (p : List ℕ) × Frames p content × (length p ≡ w) × (framed w content ≡ p ++ content))
+    × ((p content : List ℕ) → Frames p content → FitsFrame (length p) content × (framed (length p) content ≡ p ++ content))
+
+-- The written frame fits, and nothing that frames the content is shorter. A content of 2^28 - 4 bytes or more has none.
+abbrev pub FramesAreLeast : Type 0
+FramesAreLeast =
+    ((content : List ℕ) → 4 + length content < 2 ^ 28 → FitsFrame (least_width (length content)) content)
+    × ((p content : List ℕ) → Frames p content → (least_width (length content) ≤ length p) × (4 + length content < 2 ^ 28))
+
+-- The first bytes of a frame tell where it ends.
+abbrev pub FramesEndWithTheirContent : Type 0
+FramesEndWithTheirContent = (w v : ℕ) (content : List ℕ) → FitsFrame w content → value (length_bytes w (w + length content)) ≡ Some v → v ≡ length (framed w content)
+
+-- A field entry's length is written in the least width that carries it and that width together, or in 4 bytes where none
+-- does. From 2^28 bits on it has no width.
+abbrev pub FieldLengthsAreLeast : Type 0
+FieldLengthsAreLeast =
+    ((bits : ℕ) → bits < 2 ^ 28 → bits < limit (least_width bits)) × ((bits w : ℕ) → w + bits < limit w → (least_width bits ≤ w) × (least_width bits + bits < limit (least_width bits)))
+    × ((bits : ℕ) → 2 ^ 28 ≤ 4 + bits → least_width bits ≡ 4) × ((bits w : ℕ) → bits < limit w → bits < 2 ^ 28)
+
+-- The written width carries the number, and no other that does is shorter. From 2^64 on there is none.
+abbrev pub NumbersAreLeast : Type 0
+NumbersAreLeast =
+    ((v : ℕ) → v < 2 ^ 64 → v < number_limit (number_width v))
+    × ((v w : ℕ) → v < number_limit w → (v < 2 ^ 64) × (number_width v ≤ w) × (length (number_bytes v (number_width v)) ≤ length (number_bytes v w)))

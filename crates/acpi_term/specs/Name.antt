@@ -1,0 +1,35 @@
+-- Names, as the bytes that spell them (ACPI 6.5, 20.2.2, NameString).
+use Rattle.std.specs.Prelude.{◌≡◌, ℕ, zero, suc, ◌≤◌, ◌<◌, ◌==◌, ◌&&◌, ◌||◌, nat_le, Bool, true, List, [], ◌∷◌}
+
+-- LeadNameChar: `A` to `Z` or `_`
+abbrev pub is_lead : ℕ → Bool
+is_lead b = (nat_le 65 b && nat_le b 90) || b == 95
+
+-- NameChar: also a digit
+abbrev pub is_part : ℕ → Bool
+is_part b = is_lead b || (nat_le 48 b && nat_le b 57)
+
+-- the four bytes of a standard segment, NameSeg
+abbrev pub is_segment : ℕ → ℕ → ℕ → ℕ → Bool
+is_segment a b c d = is_lead a && is_part b && is_part c && is_part d
+
+-- so many standard segments
+pub data AreSegments : ℕ → List ℕ → Type 0 where
+  no_more : AreSegments zero []
+  one_more : {n a b c d : ℕ} {s : List ℕ} → is_segment a b c d ≡ true → AreSegments n s → AreSegments (suc n) (a ∷ b ∷ c ∷ d ∷ s)
+
+-- One segment; DualNamePrefix and two; or MultiNamePrefix, a count and so many, here never fewer than three.
+pub data IsPath : List ℕ → Type 0 where
+  single : {s : List ℕ} → AreSegments 1 s → IsPath s
+  double : {s : List ℕ} → AreSegments 2 s → IsPath (46 ∷ s)
+  multiple : {n : ℕ} {s : List ℕ} → 3 ≤ n → n < 256 → AreSegments n s → IsPath (47 ∷ n ∷ s)
+
+-- a RootChar or none, and a path
+pub data IsName : List ℕ → Type 0 where
+  relative : {s : List ℕ} → IsPath s → IsName s
+  rooted : {s : List ℕ} → IsPath s → IsName (92 ∷ s)
+
+-- AsciiCharList (ACPI 6.5, 20.2.3): bytes 01 to 7F
+abbrev pub IsText : List ℕ → Type 0
+IsText [] = Unit {0}
+IsText (b ∷ s) = (0 < b) × (b < 128) × IsText s

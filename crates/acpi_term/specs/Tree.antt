@@ -1,0 +1,64 @@
+-- Terms without where they lie in memory (ACPI 6.5, 20.2.5): each is a head, a width and its children.
+use Rattle.std.specs.Prelude.{ℕ, suc, max, List, Bool}
+use Rattle.acpi_term.specs.declared.op.Op.{Op}
+
+-- An entry of a field: its bits, and in how many bytes they are told.
+pub data Entry : Type 0 where
+  -- name, bits, width
+  named : List ℕ → ℕ → ℕ → Entry
+  -- bits, width
+  reserved : ℕ → ℕ → Entry
+
+-- What a term is, beside its width and its children. A name is the bytes that spell it.
+pub data Head : Type 0 where
+  number : ℕ → Head
+  ones : Head
+  text : List ℕ → Head
+  local : ℕ → Head
+  arg : ℕ → Head
+  -- a name, and its arguments if it has any
+  call : List ℕ → Head
+  scope : List ℕ → Head
+  device : List ℕ → Head
+  -- name, number of arguments, whether serialized
+  method : List ℕ → ℕ → Bool → Head
+  -- name, system level, resource order
+  power : List ℕ → ℕ → ℕ → Head
+  -- name, access type, lock rule, update rule, entries
+  field : List ℕ → ℕ → ℕ → ℕ → List Entry → Head
+  -- name, address space
+  region : List ℕ → ℕ → Head
+  -- a name that is given a value
+  define : List ℕ → Head
+  -- name, level
+  mutex : List ℕ → ℕ → Head
+  -- name, timeout
+  acquire : List ℕ → ℕ → Head
+  release : List ℕ → Head
+  -- the bytes after the size
+  buffer : List ℕ → Head
+  pack : Head
+  varpack : Head
+  branch : Head
+  loop : Head
+  otherwise : Head
+  op : Op → Head
+
+-- A list of terms: the first one's head, width and children, and the others. The width of a number is that of its bytes
+-- after the prefix, 0 for the bytes 00 and 01; of a framed term that of its PkgLength, 1 to 4; of any other term it is 0.
+pub data Terms : Type 0 where
+  end : Terms
+  term : Head → ℕ → Terms → Terms → Terms
+
+abbrev pub count : Terms → ℕ
+count end = 0
+count (term h w children others) = suc (count others)
+
+-- one for a term without children, one more than its deepest child for another; of several the deepest
+abbrev pub depth : Terms → ℕ
+depth end = 0
+depth (term h w children others) = max (suc (depth children)) (depth others)
+
+-- a term alone
+abbrev pub one : Head → ℕ → Terms → Terms
+one h w children = term h w children end

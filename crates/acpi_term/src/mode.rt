@@ -1,0 +1,12 @@
+//! Where a term stands.
+
+/// Where a term stands, which says how many arguments follow a name.
+#[derive(Clone, Copy, Debug, PartialEq, Eq)]
+pub enum Mode {
+    /// As a term or an operand: a name is followed by its arguments.
+    Term,
+    /// As an element of a package: a name stands alone.
+    Element,
+    /// As the count of a VarPackage, a term that elements follow.
+    Count,
+}
