@@ -1,0 +1,88 @@
+//! Tables that are what their header says.
+
+ghost use Rattle.std.specs.Prelude.{◌≡◌, ℕ, List, ◌+◌, ◌%◌, ◌≤◌, ◌↔◌, length, sum, take, slice_index, IsTrue, IsOk, IfOk, IfErr};
+ghost use Rattle.acpi_read.specs.Field.{field};
+ghost use Rattle.acpi_read.specs.Table.{IsTable, IsFault};
+
+use acpi_base::checksum::Checksum;
+use acpi_term::read_error::ReadError;
+use std::marker::Model;
+
+/// A table (ACPI 6.5, 5.2.6) as it was handed in: 36 bytes at least, as many as it tells at offset 4, which sum to
+/// zero modulo 256. It borrows its bytes, takes no memory and copies nothing.
+#[derive(Drop)]
+pub struct Table<'a> {
+    bytes: &'a [u8],
+}
+
+impl<'a> Model for Table<'a> {
+    ghost Value = { List ℕ };
+
+    ghost view = { λ t. t.bytes.now };
+
+    ghost invariant = { λ t. IsTable t.bytes.now };
+}
+
+// What stands in the four bytes at an offset, lowest first.
+fn dword_at(bytes: &[u8], offset: usize) -> u32
+    requires { offset + 4 ≤ length bytes.now }
+    ensures { result ≡ field offset 4 bytes.now }
+{
+    u32::from_le_bytes([
+        bytes[offset],
+        bytes[offset + 1],
+        bytes[offset + 2],
+        bytes[offset + 3],
+    ])
+}
+
+fn sums_to_zero(bytes: &[u8]) -> bool
+    ensures { IsTrue result ↔ (sum bytes.now % 256 ≡ 0) }
+{
+    let mut checksum = Checksum::default();
+    checksum.append(bytes);
+    checksum.raw_value() == 0
+}
+
+impl<'a> Table<'a> {
+    /// The bytes as a table. ShortHeader with the number of bytes where there are fewer than 36, TableLength at 4 where
+    /// the length there isn't the number of bytes, Sum at 9 where all bytes don't sum to zero; the first of these.
+    pub fn check(bytes: &'a [u8]) -> Result<Table<'a>, ReadError>
+        ensures ok { IsOk result ↔ IsTable bytes.now }
+        ensures value { IfOk result (λ table. table ≡ bytes.now) }
+        ensures err { IfErr result (λ e. IsFault e bytes.now) }
+    {
+        if bytes.len() < 36 {
+            return Err(ReadError::ShortHeader(bytes.len()));
+        }
+        if dword_at(bytes, 4) as usize != bytes.len() {
+            return Err(ReadError::TableLength(4));
+        }
+        if !sums_to_zero(bytes) {
+            return Err(ReadError::Sum(9));
+        }
+        Ok(Table { bytes })
+    }
+
+    /// The four bytes at offset 0, which name the kind of table.
+    pub fn signature(&self) -> [u8; 4]
+        ensures { result ≡ take 4 self.now }
+    {
+        [self.bytes[0], self.bytes[1], self.bytes[2], self.bytes[3]]
+    }
+
+    /// The byte at offset 8.
+    pub fn revision(&self) -> u8
+        ensures { result ≡ slice_index self.now 8 }
+    {
+        self.bytes[8]
+    }
+
+    /// All bytes of the table, as they were handed in.
+    pub fn bytes(&self) -> &'a [u8]
+        ensures bytes { result.now ≡ self.now }
+        ensures table { IsTable self.now }
+    {
+        self.bytes
+    }
+}

@@ -1,0 +1,12 @@
+//! Tables and bytecode of ACPI: everything under one name, as in the Rust crate `acpi_tables`.
+#![tactic(auto)]
+
+pub mod aml;
+pub mod read;
+pub mod sdt;
+
+pub use acpi_base::checksum::Checksum;
+pub use acpi_base::error::{Error, R};
+pub use acpi_base::object::{Aml, u8sum};
+pub use acpi_base::sdt::{CREATOR_ID, CREATOR_REVISION};
+pub use acpi_base::sink::AmlSink;

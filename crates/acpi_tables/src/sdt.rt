@@ -1,0 +1,3 @@
+//! Tables whose contents are the caller's (ACPI 6.5, 5.2.6).
+
+pub use acpi_base::sdt::Sdt;

@@ -1,0 +1,3 @@
+pub mod Command
+pub mod Fault
+pub mod Program

@@ -1,0 +1,8 @@
+//! The program `acpiread` but its arguments and its exit.
+#![tactic(auto)]
+
+pub mod command;
+pub mod fault;
+pub mod program;
+#[cfg(test)]
+mod tests;
