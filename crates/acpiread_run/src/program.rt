@@ -42,7 +42,7 @@ fn table_report(alloc: Global, bytes: &[u8]) -> Result<String, Fault>
     Ok(report_table(alloc, &table)?)
 }
 
-// What the words ask for: they are looked at first, then the file is read, then its header is checked.
+// What the words ask for. No file is opened for words that ask for nothing, and none is reported that isn't a table.
 fn report<R: Files>(rt: &R, alloc: Global, words: &[String]) -> Result<String, Fault>
     ensures ok { IfOk result (λ text. IsReport (string_bytes text)) }
     ensures asked { IsNoCommand (map (λ word. string_bytes word) words.now) → result ≡ Err Fault.Usage }
