@@ -16,3 +16,4 @@ pub use Rattle.acpi_term.specs.Tree
 pub use Rattle.acpi_term.specs.Row
 pub use Rattle.acpi_read.specs.Table
 pub use Rattle.acpi_read.specs.Report
+pub mod Refusing

@@ -13,3 +13,15 @@ pub use acpi_aml::scope::{Device, PowerResource, Scope};
 pub use acpi_base::constant::{ONE, ONES, One, Ones, ZERO, Zero};
 pub use acpi_base::number::{Byte, DWord, QWord, Usize, Word};
 pub use acpi_base::text::{AmlStr, AmlString};
+pub use acpi_ops::arithmetic::{
+    Add, Decrement, Increment, Mod, Multiply, ShiftLeft, ShiftRight, Subtract,
+};
+pub use acpi_ops::bitwise::{And, Nand, Nor, Or, Xor};
+pub use acpi_ops::comparison::{Equal, GreaterThan, LAnd, LOr, LessThan};
+pub use acpi_ops::objects::{
+    Concat, ConcatRes, DeRefOf, Index, Mid, ObjectType, SizeOf, ToBuffer, ToInteger, ToString,
+};
+pub use acpi_ops::opposite::{GreaterEqual, LessEqual, NotEqual};
+pub use acpi_ops::statement::{
+    Break, CreateDWordField, CreateField, CreateQWordField, Notify, Return, Store,
+};

@@ -2,6 +2,7 @@
 #![tactic(auto)]
 
 pub mod aml;
+pub mod gas;
 pub mod read;
 pub mod sdt;
 
@@ -10,3 +11,6 @@ pub use acpi_base::error::{Error, R};
 pub use acpi_base::object::{Aml, u8sum};
 pub use acpi_base::sdt::{CREATOR_ID, CREATOR_REVISION};
 pub use acpi_base::sink::AmlSink;
+
+#[cfg(test)]
+mod tests;

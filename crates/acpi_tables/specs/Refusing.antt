@@ -1,0 +1,26 @@
+-- Sinks and objects of the tests, which refuse.
+use Rattle.std.specs.Prelude.{◌≡◌, ◌≢◌, ℕ, ◌≤◌, List, [], ◌∷◌, ◌++◌, length, nat_le, true, false, IsTrue, refl, Some, None}
+use Rattle.std.proofs.Common.{arith, length-append}
+use Rattle.std.proofs.lemmas.Bool.Decides.{nat_tests}
+use Rattle.acpi_base.specs.declared.error.Error.TheVariants.{Memory, Sink}
+use Rattle.acpi_base.specs.Sink.{Meaning}
+use Rattle.acpi_base.specs.Object.{Object}
+
+-- a sink that holds some bytes and has room for so many more
+unfoldable pub short_of : List ℕ → ℕ → Meaning
+short_of held room = record { shows = λ more. held ++ more; takes = λ more. nat_le (length more) room; wants_memory = true }
+
+pub short_takes_nothing : (held : List ℕ) (room : ℕ) → IsTrue ((short_of held room).takes [])
+unfolding short_of
+short_takes_nothing held room = grind (arith, nat_tests)
+
+pub short_takes_beginning : (held : List ℕ) (room : ℕ) (a b : List ℕ) → IsTrue ((short_of held room).takes (a ++ b)) → IsTrue ((short_of held room).takes a)
+unfolding short_of
+short_takes_beginning held room a b taken = grind (arith, nat_tests, length-append a b, taken)
+
+-- an object that gives four bytes and then refuses
+abbrev pub broken : Object
+broken = record { front = 1 ∷ 2 ∷ 3 ∷ 4 ∷ []; end = Some (Sink 9); wants_memory = false }
+
+pub broken_ends_well : broken.end ≢ Some Memory
+broken_ends_well is = cc

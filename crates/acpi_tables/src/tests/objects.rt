@@ -1,0 +1,260 @@
+//! Named and framed objects, byte for byte.
+
+use super::{bytes_of, expect, writes};
+use crate::aml::{
+    Acquire, Add, AmlString, Arg, CreateField, Device, Else, Field, FieldAccessType, FieldEntry,
+    FieldLockRule, FieldUpdateRule, If, LessThan, Local, Method, MethodCall, Mutex, Name, NotEqual,
+    ONE, OpRegion, OpRegionSpace, Path, PowerResource, Release, Return, Scope, While, ZERO,
+};
+use crate::{Aml, Error, R};
+use std::alloc::Global;
+use std::process::Abort;
+use std::test::Fail;
+
+fn path(alloc: Global, text: &str) -> R<Path> {
+    Path::new(alloc, text)
+}
+
+fn none(alloc: Global) -> Vec<&'static dyn Aml> {
+    Vec::new(alloc)
+}
+
+fn refuses_path<RT: Abort>(rt: &RT, alloc: Global, text: &str, error: Error) {
+    assert_eq!(rt; path(alloc, text).err(), Some(error));
+}
+
+#[test]
+fn paths(rt: HostRuntime) -> Result<(), Fail> {
+    let alloc = rt.alloc();
+    refuses_path(&rt, alloc, "", Error::NamePart);
+    refuses_path(&rt, alloc, "ABC", Error::NamePart);
+    refuses_path(&rt, alloc, "ABCD.", Error::NamePart);
+    writes(&rt, alloc, path(alloc, "\\_SB_.COM1"), b"\x5c\x2e_SB_COM1")?;
+    writes(
+        &rt,
+        alloc,
+        path(alloc, "_SB_.PCI0.COM1"),
+        b"\x2f\x03_SB_PCI0COM1",
+    )?;
+    writes(&rt, alloc, path(alloc, "FLD0"), b"FLD0")?;
+    writes(&rt, alloc, Name::new_field_name(alloc, "FLD0"), b"FLD0")
+}
+
+// A text of so many parts more than one.
+fn parts(alloc: Global, more: usize) -> Result<String, Fail> {
+    let mut text = String::new(alloc);
+    text.push_str("_SB_")?;
+    for _ in 0..more {
+        text.push_str(".ABCD")?;
+    }
+    Ok(text)
+}
+
+#[test]
+fn long_paths(rt: HostRuntime) -> Result<(), Fail> {
+    let alloc = rt.alloc();
+    let long = bytes_of(alloc, &path(alloc, parts(alloc, 254)?.as_str())?)?;
+    assert_eq!(rt; long.len(), 1022);
+    assert!(rt; long.starts_with(b"\x2f\xff_SB_ABCD"));
+    refuses_path(&rt, alloc, parts(alloc, 255)?.as_str(), Error::PathParts);
+    Ok(())
+}
+
+#[test]
+fn strings(rt: HostRuntime) -> Result<(), Fail> {
+    let alloc = rt.alloc();
+    let mut text: AmlString = String::new(alloc);
+    expect(&rt, alloc, &text, &[0x0d, 0x00])?;
+    text.push_str("ACPI")?;
+    expect(&rt, alloc, &text, b"\x0dACPI\0")
+}
+
+#[test]
+fn methods(rt: HostRuntime) -> Result<(), Fail> {
+    let alloc = rt.alloc();
+    let answer = Return::new(alloc, &15u8)?;
+    let body: Vec<&dyn Aml> = vec![in alloc; &answer as &dyn Aml]?;
+    let method = Method::new(path(alloc, "_STA")?, 0, false, body);
+    writes(&rt, alloc, method, b"\x14\x09_STA\x00\xa4\x0a\x0f")?;
+    let serialized = Method::new(path(alloc, "_STA")?, 7, true, none(alloc));
+    writes(&rt, alloc, serialized, b"\x14\x06_STA\x0f")?;
+    let eight = Method::new(path(alloc, "_STA")?, 8, false, none(alloc));
+    assert_eq!(rt; eight.err(), Some(Error::MethodArgs));
+    Ok(())
+}
+
+#[test]
+fn calls(rt: HostRuntime) -> Result<(), Fail> {
+    let alloc = rt.alloc();
+    let five = 5u8;
+    let args: Vec<&dyn Aml> = vec![in alloc; &ONE as &dyn Aml, &five]?;
+    writes(
+        &rt,
+        alloc,
+        MethodCall::new(path(alloc, "MTHD")?, args),
+        b"MTHD\x01\x0a\x05",
+    )
+}
+
+#[test]
+fn variables(rt: HostRuntime) -> Result<(), Fail> {
+    let alloc = rt.alloc();
+    expect(&rt, alloc, &Arg(0), &[0x68])?;
+    expect(&rt, alloc, &Arg(6), &[0x6e])?;
+    expect(&rt, alloc, &Local(0), &[0x60])?;
+    expect(&rt, alloc, &Local(7), &[0x67])?;
+    assert_eq!(rt; bytes_of(alloc, &Arg(7)).err(), Some(Error::ArgNumber));
+    assert_eq!(rt; bytes_of(alloc, &Local(8)).err(), Some(Error::LocalNumber));
+    Ok(())
+}
+
+#[test]
+fn regions(rt: HostRuntime) -> Result<(), Fail> {
+    let alloc = rt.alloc();
+    let region = OpRegion::new(
+        path(alloc, "PRST")?,
+        OpRegionSpace::SystemIO,
+        &0xcd8u16,
+        &12u8,
+    );
+    writes(&rt, alloc, region, b"\x5b\x80PRST\x01\x0b\xd8\x0c\x0a\x0c")
+}
+
+fn field(alloc: Global, entries: Vec<FieldEntry>) -> R<Field> {
+    Field::new(
+        path(alloc, "PRST")?,
+        FieldAccessType::Byte,
+        FieldLockRule::NoLock,
+        FieldUpdateRule::WriteAsZeroes,
+        entries,
+    )
+}
+
+#[test]
+fn fields(rt: HostRuntime) -> Result<(), Fail> {
+    let alloc = rt.alloc();
+    let entries = vec![in alloc; FieldEntry::Reserved(32), FieldEntry::Named(*b"CPEN", 1)]?;
+    writes(
+        &rt,
+        alloc,
+        field(alloc, entries),
+        b"\x5b\x81\x0dPRST\x41\x00\x20CPEN\x01",
+    )?;
+    let flags = Field::new(
+        path(alloc, "PRST")?,
+        FieldAccessType::Buffer,
+        FieldLockRule::Lock,
+        FieldUpdateRule::WriteAsOnes,
+        Vec::new(alloc),
+    );
+    writes(&rt, alloc, flags, b"\x5b\x81\x06PRST\x35")
+}
+
+// A field of one reserved entry ends so.
+fn reserved<RT: Abort>(rt: &RT, alloc: Global, bits: usize, end: &[u8]) -> Result<(), Fail> {
+    let bytes = bytes_of(
+        alloc,
+        &field(alloc, vec![in alloc; FieldEntry::Reserved(bits)]?)?,
+    )?;
+    assert!(rt; bytes.ends_with(end));
+    assert_eq!(rt; bytes.len(), 8 + end.len());
+    Ok(())
+}
+
+#[test]
+fn field_lengths(rt: HostRuntime) -> Result<(), Fail> {
+    let alloc = rt.alloc();
+    reserved(&rt, alloc, 62, &[0x00, 0x3e])?;
+    reserved(&rt, alloc, 63, &[0x00, 0x4f, 0x03])?;
+    reserved(&rt, alloc, 4093, &[0x00, 0x4d, 0xff])?;
+    reserved(&rt, alloc, 4094, &[0x00, 0x8e, 0xff, 0x00])?;
+    reserved(&rt, alloc, 0xfff_ffff, &[0x00, 0xcf, 0xff, 0xff, 0xff])?;
+    let wide = vec![in alloc; FieldEntry::Reserved(0x1000_0000)]?;
+    assert_eq!(rt; field(alloc, wide).err(), Some(Error::PkgLength));
+    Ok(())
+}
+
+fn hid(alloc: Global) -> R<Name> {
+    Name::new(path(alloc, "_HID")?, &1u8)
+}
+
+#[test]
+fn devices(rt: HostRuntime) -> Result<(), Fail> {
+    let alloc = rt.alloc();
+    let name = hid(alloc)?;
+    expect(&rt, alloc, &name, b"\x08_HID\x01")?;
+    let inside: Vec<&dyn Aml> = vec![in alloc; &name as &dyn Aml]?;
+    writes(
+        &rt,
+        alloc,
+        Device::new(path(alloc, "COM1")?, inside),
+        b"\x5b\x82\x0bCOM1\x08_HID\x01",
+    )
+}
+
+#[test]
+fn scopes(rt: HostRuntime) -> Result<(), Fail> {
+    let alloc = rt.alloc();
+    let name = hid(alloc)?;
+    let inside: Vec<&dyn Aml> = vec![in alloc; &name as &dyn Aml]?;
+    let raw = Scope::raw(path(alloc, "_SB_")?, bytes_of(alloc, &name)?)?;
+    writes(&rt, alloc, Scope::new(path(alloc, "_SB_")?, inside), &raw)?;
+    let power = PowerResource::new(path(alloc, "PRSC")?, 0, 0, none(alloc));
+    writes(&rt, alloc, power, b"\x5b\x84\x08PRSC\x00\x00\x00")
+}
+
+#[test]
+fn branches(rt: HostRuntime) -> Result<(), Fail> {
+    let alloc = rt.alloc();
+    let differs = NotEqual::new(alloc, &Arg(0), &ZERO)?;
+    let answer = Return::new(alloc, &ONE)?;
+    let body: Vec<&dyn Aml> = vec![in alloc; &answer as &dyn Aml]?;
+    writes(
+        &rt,
+        alloc,
+        If::new(&differs, body),
+        &[0xa0, 0x07, 0x92, 0x93, 0x68, 0x00, 0xa4, 0x01],
+    )?;
+    writes(&rt, alloc, Else::new(none(alloc)), &[0xa1, 0x01])
+}
+
+#[test]
+fn loops(rt: HostRuntime) -> Result<(), Fail> {
+    let alloc = rt.alloc();
+    let below = LessThan::new(alloc, &Local(0), &5u8)?;
+    let next = Add::new(alloc, &Local(0), &Local(0), &ONE)?;
+    let body: Vec<&dyn Aml> = vec![in alloc; &next as &dyn Aml]?;
+    let wanted = [0xa2, 0x09, 0x95, 0x60, 0x0a, 0x05, 0x72, 0x60, 0x01, 0x60];
+    writes(&rt, alloc, While::new(&below, body), &wanted)
+}
+
+#[test]
+fn mutexes(rt: HostRuntime) -> Result<(), Fail> {
+    let alloc = rt.alloc();
+    expect(
+        &rt,
+        alloc,
+        &Mutex::new(path(alloc, "MUTX")?, 3),
+        b"\x5b\x01MUTX\x03",
+    )?;
+    expect(
+        &rt,
+        alloc,
+        &Acquire::new(path(alloc, "MUTX")?, 0xffff),
+        b"\x5b\x23MUTX\xff\xff",
+    )?;
+    expect(
+        &rt,
+        alloc,
+        &Release::new(path(alloc, "MUTX")?),
+        b"\x5b\x27MUTX",
+    )
+}
+
+#[test]
+fn buffer_fields(rt: HostRuntime) -> Result<(), Fail> {
+    let alloc = rt.alloc();
+    let name = Name::new_field_name(alloc, "FLD0")?;
+    let field = CreateField::new(alloc, &name, &Arg(0), &0u8, &8u8);
+    writes(&rt, alloc, field, b"\x5b\x13\x68\x00\x0a\x08FLD0")
+}
