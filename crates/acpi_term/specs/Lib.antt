@@ -10,3 +10,4 @@ pub mod Splits
 pub mod Laws
 pub mod Arity
 pub mod View
+pub mod Carried
