@@ -14,3 +14,4 @@ pub mod Openings
 pub mod Again
 pub mod Taken
 pub mod Unique
+pub mod Spells

@@ -1,4 +1,4 @@
--- At most one list of terms is spelled, and the first term of a list ends at one place.
+-- Bytes spell one list of terms or none, and the first term of a list ends at one place.
 use Rattle.std.proofs.Common.{◌≡◌, ℕ, ◌≤◌, max, cond, leb, List, ◌++◌, length, Ok, Err, refl, sym, ap, subst, ◌∙◌, arith}
 use Rattle.std.specs.Prelude.{◌↔◌}
 use Rattle.std.proofs.lemmas.Bool.{le-leb}

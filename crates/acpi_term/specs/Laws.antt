@@ -38,7 +38,7 @@ AtMostOneList =
     ((arity : List ℕ → ℕ) (m : Mode) (bytes : List ℕ) (ts us : Terms) → Spells arity m bytes ts → Spells arity m bytes us → ts ≡ us)
     × ((arity : List ℕ → ℕ) (m : Mode) (a b : List ℕ) (ts : Terms) → Spells arity m a ts → Spells arity m b ts → a ≡ b)
 
--- Of the beginnings of the bytes at most one spells a term, and as one term only.
+-- Where two beginnings of the same bytes spell a term each, they are one beginning and one term.
 abbrev pub AtMostOneFront : Type 0
 AtMostOneFront =
     (arity : List ℕ → ℕ) (m : Mode) (g h : Head) (v w : ℕ) (c d : Terms) (a b x y : List ℕ)

@@ -9,3 +9,5 @@ pub mod Spelling
 pub mod Splits
 pub mod Laws
 pub mod Arity
+pub mod View
+pub mod Carried

@@ -8,3 +8,5 @@ pub mod op;
 pub mod path_text;
 pub mod read_error;
 pub mod row;
+pub mod spell;
+pub mod term;

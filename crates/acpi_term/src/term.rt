@@ -1,0 +1,121 @@
+//! Terms.
+
+use crate::name_string::NameString;
+use crate::op::Op;
+
+/// Terms that nest deeper than this aren't read.
+pub const MAX_DEPTH: usize = 255;
+
+/// An entry of a field (ACPI 6.5, 20.2.5.2): how many bits it has, and in how many bytes these are told, 1 to 4.
+#[derive(Debug, Drop, PartialEq)]
+pub enum TermEntry {
+    /// A segment, the bits and the width.
+    Named([u8; 4], u32, u8),
+    /// The bits and the width.
+    Reserved(u32, u8),
+}
+
+/// A term (ACPI 6.5, 20.2.3 and 20.2.5). The width of a framed one is that of its PkgLength, from 1 to 4 bytes.
+#[derive(Debug, Drop, PartialEq)]
+pub enum Term {
+    /// A width of 0 stands for the bytes 00 and 01, another for so many bytes after a prefix.
+    Number {
+        value: u64,
+        width: u8,
+    },
+    Ones,
+    Text(String),
+    Local(u8),
+    Arg(u8),
+    /// A name, with its arguments if it takes any.
+    Call {
+        name: NameString,
+        args: Vec<Term>,
+    },
+    Scope {
+        width: u8,
+        name: NameString,
+        body: Vec<Term>,
+    },
+    Device {
+        width: u8,
+        name: NameString,
+        body: Vec<Term>,
+    },
+    Method {
+        width: u8,
+        name: NameString,
+        args: u8,
+        serialized: bool,
+        body: Vec<Term>,
+    },
+    PowerResource {
+        width: u8,
+        name: NameString,
+        level: u8,
+        order: u16,
+        body: Vec<Term>,
+    },
+    Field {
+        width: u8,
+        name: NameString,
+        access: u8,
+        lock: u8,
+        update: u8,
+        entries: Vec<TermEntry>,
+    },
+    OpRegion {
+        name: NameString,
+        space: u8,
+        offset: Box<Term>,
+        length: Box<Term>,
+    },
+    Name {
+        name: NameString,
+        value: Box<Term>,
+    },
+    Mutex {
+        name: NameString,
+        level: u8,
+    },
+    Acquire {
+        name: NameString,
+        timeout: u16,
+    },
+    Release {
+        name: NameString,
+    },
+    /// The bytes after the size needn't be as many as it says.
+    Buffer {
+        width: u8,
+        size: Box<Term>,
+        bytes: Vec<u8>,
+    },
+    Package {
+        width: u8,
+        elements: Vec<Term>,
+    },
+    VarPackage {
+        width: u8,
+        count: Box<Term>,
+        elements: Vec<Term>,
+    },
+    If {
+        width: u8,
+        predicate: Box<Term>,
+        body: Vec<Term>,
+    },
+    While {
+        width: u8,
+        predicate: Box<Term>,
+        body: Vec<Term>,
+    },
+    Else {
+        width: u8,
+        body: Vec<Term>,
+    },
+    Op {
+        op: Op,
+        operands: Vec<Term>,
+    },
+}
