@@ -1,0 +1,6 @@
+pub mod Layout
+pub mod Bert
+pub mod Facs
+pub mod Rsdp
+pub mod Spcr
+pub mod Tpm2

@@ -1,0 +1,9 @@
+//! Records and tables of a fixed layout. No call here takes memory.
+#![tactic(auto)]
+
+pub mod bert;
+pub mod facs;
+pub mod header;
+pub mod rsdp;
+pub mod spcr;
+pub mod tpm2;
