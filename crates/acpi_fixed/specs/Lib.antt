@@ -4,3 +4,5 @@ pub mod Facs
 pub mod Rsdp
 pub mod Spcr
 pub mod Tpm2
+pub mod Fadt
+pub mod Laws

@@ -3,7 +3,9 @@
 
 pub mod bert;
 pub mod facs;
+pub mod fadt;
 pub mod header;
+pub mod laws;
 pub mod rsdp;
 pub mod spcr;
 pub mod tpm2;
