@@ -5,7 +5,6 @@ use Rattle.acpi_base.specs.Bytes.{put, complement}
 use Rattle.acpi_base.specs.Sdt.{with_checksum}
 use Rattle.std.proofs.lemmas.List.{append-nil}
 use Rattle.acpi_base.proofs.Puts.{put-put}
-use Rattle.acpi_base.proofs.Tables.{sum-with_checksum, length-with_checksum}
 
 -- the checksum cleared, all bytes summed, and the complement written
 pub sealed_is : (b c new : List ℕ) (z r s : ℕ) → 36 ≤ length b → c ≡ put 9 (0 ∷ []) b → z ≡ 0 → r ≡ (z + sum c) % 256 → s ≡ (256 - r) % 256 → new ≡ put 9 (s ∷ []) c → new ≡ with_checksum b
@@ -22,9 +21,3 @@ pub parts_are : (h l e c new a b d : List ℕ) → h ≡ a → l ≡ b → e ≡
 parts_are h l e c new a b d is_a is_b is_d is set =
     let flat : c ≡ a ++ (b ++ d) = is ∙ ap (λ t. h ++ (l ++ t)) (append-nil e) ∙ cc in
     set ∙ ap with_checksum flat
-
--- ---- what such a table is
-
--- a table's own checksum
-pub sealed_sum : (b : List ℕ) → 36 ≤ length b → sum (with_checksum b) % 256 ≡ 0
-sealed_sum b long = sum-with_checksum b (omega arith)

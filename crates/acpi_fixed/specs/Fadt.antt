@@ -55,78 +55,78 @@ profile_number Tablet = 8
 -- the standard header (5.2.6), whose fields are the caller's here
 abbrev pub header_rows : FADTBuilder → List (List ℕ)
 header_rows f =
-    ( f.signature           -- 0
-    ∷ le 4 f.length         -- 4
+    (f.signature  -- 0
+    ∷ le 4 f.length  -- 4
     ∷ byte f.major_version  -- 8
-    ∷ byte f.checksum       -- 9
-    ∷ f.oem_id              -- 10
-    ∷ f.oem_table_id        -- 16
-    ∷ le 4 f.oem_revision   -- 24
-    ∷ f.creator_id          -- 28
-    ∷ f.creator_revision    -- 32
+    ∷ byte f.checksum  -- 9
+    ∷ f.oem_id  -- 10
+    ∷ f.oem_table_id  -- 16
+    ∷ le 4 f.oem_revision  -- 24
+    ∷ f.creator_id  -- 28
+    ∷ f.creator_revision  -- 32
     ∷ [])
 
 -- what was there before addresses of 64 bits
 abbrev pub legacy_rows : FADTBuilder → List (List ℕ)
 legacy_rows f =
-    ( le 4 f.firmware_ctrl         -- 36
-    ∷ le 4 f.dsdt                  -- 40
-    ∷ byte 0                       -- 44: reserved
+    (le 4 f.firmware_ctrl  -- 36
+    ∷ le 4 f.dsdt  -- 40
+    ∷ byte 0  -- 44: reserved
     ∷ byte f.preferred_pm_profile  -- 45
-    ∷ le 2 f.sci_int               -- 46
-    ∷ le 4 f.smi_cmd               -- 48
-    ∷ byte f.acpi_enable           -- 52
-    ∷ byte f.acpi_disable          -- 53
-    ∷ byte f.s4bios_req            -- 54
-    ∷ byte f.pstate_cnt            -- 55
-    ∷ le 4 f.pm1a_evt_blk          -- 56
-    ∷ le 4 f.pm1b_evt_blk          -- 60
-    ∷ le 4 f.pm1a_cnt_blk          -- 64
-    ∷ le 4 f.pm1b_cnt_blk          -- 68
-    ∷ le 4 f.pm2_cnt_blk           -- 72
-    ∷ le 4 f.pm_tmr_blk            -- 76
-    ∷ le 4 f.gpe0_blk              -- 80
-    ∷ le 4 f.gpe1_blk              -- 84
-    ∷ byte f.pm1_evt_len           -- 88
-    ∷ byte f.pm1_cnt_len           -- 89
-    ∷ byte f.pm2_cnt_len           -- 90
-    ∷ byte f.pm_tmr_len            -- 91
-    ∷ byte f.gpe0_blk_len          -- 92
-    ∷ byte f.gpe1_blk_len          -- 93
-    ∷ byte f.gpe1_base             -- 94
-    ∷ byte f.cst_cnt               -- 95
-    ∷ le 2 f.p_lvl2_lat            -- 96
-    ∷ le 2 f.p_lvl3_lat            -- 98
-    ∷ le 2 f.flush_size            -- 100
-    ∷ le 2 f.flush_stride          -- 102
-    ∷ byte f.duty_offset           -- 104
-    ∷ byte f.duty_width            -- 105
-    ∷ byte f.day_alrm              -- 106
-    ∷ byte f.mon_alrm              -- 107
-    ∷ byte f.century               -- 108
-    ∷ le 2 f.iapc_boot_arch        -- 109
-    ∷ byte 0                       -- 111: reserved
-    ∷ le 4 f.flags                 -- 112
+    ∷ le 2 f.sci_int  -- 46
+    ∷ le 4 f.smi_cmd  -- 48
+    ∷ byte f.acpi_enable  -- 52
+    ∷ byte f.acpi_disable  -- 53
+    ∷ byte f.s4bios_req  -- 54
+    ∷ byte f.pstate_cnt  -- 55
+    ∷ le 4 f.pm1a_evt_blk  -- 56
+    ∷ le 4 f.pm1b_evt_blk  -- 60
+    ∷ le 4 f.pm1a_cnt_blk  -- 64
+    ∷ le 4 f.pm1b_cnt_blk  -- 68
+    ∷ le 4 f.pm2_cnt_blk  -- 72
+    ∷ le 4 f.pm_tmr_blk  -- 76
+    ∷ le 4 f.gpe0_blk  -- 80
+    ∷ le 4 f.gpe1_blk  -- 84
+    ∷ byte f.pm1_evt_len  -- 88
+    ∷ byte f.pm1_cnt_len  -- 89
+    ∷ byte f.pm2_cnt_len  -- 90
+    ∷ byte f.pm_tmr_len  -- 91
+    ∷ byte f.gpe0_blk_len  -- 92
+    ∷ byte f.gpe1_blk_len  -- 93
+    ∷ byte f.gpe1_base  -- 94
+    ∷ byte f.cst_cnt  -- 95
+    ∷ le 2 f.p_lvl2_lat  -- 96
+    ∷ le 2 f.p_lvl3_lat  -- 98
+    ∷ le 2 f.flush_size  -- 100
+    ∷ le 2 f.flush_stride  -- 102
+    ∷ byte f.duty_offset  -- 104
+    ∷ byte f.duty_width  -- 105
+    ∷ byte f.day_alrm  -- 106
+    ∷ byte f.mon_alrm  -- 107
+    ∷ byte f.century  -- 108
+    ∷ le 2 f.iapc_boot_arch  -- 109
+    ∷ byte 0  -- 111: reserved
+    ∷ le 4 f.flags  -- 112
     ∷ [])
 
 abbrev pub extended_rows : FADTBuilder → List (List ℕ)
 extended_rows f =
-    ( gas_bytes f.reset_reg              -- 116
-    ∷ byte f.reset_value                 -- 128
-    ∷ le 2 f.arm_boot_arch               -- 129
-    ∷ byte f.fadt_minor_version          -- 131
-    ∷ le 8 f.x_firmware_ctrl             -- 132
-    ∷ le 8 f.x_dsdt                      -- 140
-    ∷ gas_bytes f.x_pm1a_evt_blk         -- 148
-    ∷ gas_bytes f.x_pm1b_evt_blk         -- 160
-    ∷ gas_bytes f.x_pm1a_cnt_blk         -- 172
-    ∷ gas_bytes f.x_pm1b_cnt_blk         -- 184
-    ∷ gas_bytes f.x_pm2_cnt_blk          -- 196
-    ∷ gas_bytes f.x_pm_tmr_blk           -- 208
-    ∷ gas_bytes f.x_gpe0_blk             -- 220
-    ∷ gas_bytes f.x_gpe1_blk             -- 232
-    ∷ gas_bytes f.sleep_control_reg      -- 244
-    ∷ gas_bytes f.sleep_status_reg       -- 256
+    (gas_bytes f.reset_reg  -- 116
+    ∷ byte f.reset_value  -- 128
+    ∷ le 2 f.arm_boot_arch  -- 129
+    ∷ byte f.fadt_minor_version  -- 131
+    ∷ le 8 f.x_firmware_ctrl  -- 132
+    ∷ le 8 f.x_dsdt  -- 140
+    ∷ gas_bytes f.x_pm1a_evt_blk  -- 148
+    ∷ gas_bytes f.x_pm1b_evt_blk  -- 160
+    ∷ gas_bytes f.x_pm1a_cnt_blk  -- 172
+    ∷ gas_bytes f.x_pm1b_cnt_blk  -- 184
+    ∷ gas_bytes f.x_pm2_cnt_blk  -- 196
+    ∷ gas_bytes f.x_pm_tmr_blk  -- 208
+    ∷ gas_bytes f.x_gpe0_blk  -- 220
+    ∷ gas_bytes f.x_gpe1_blk  -- 232
+    ∷ gas_bytes f.sleep_control_reg  -- 244
+    ∷ gas_bytes f.sleep_status_reg  -- 256
     ∷ le 8 f.hypervisor_vendor_identity  -- 268
     ∷ [])
 

@@ -98,6 +98,10 @@ tpm2_with t (Some area) = table (codes "TPM2") 76 1 t.oem
     ∷ le 8 area.base_addr  -- at 68
     ∷ [])
 
+abbrev pub tpm2_size : Option LogArea → ℕ
+tpm2_size None = 52
+tpm2_size (Some area) = 76
+
 abbrev pub tpm2_bytes : Tpm2 → List ℕ
 tpm2_bytes t = tpm2_with t t.log_area
 

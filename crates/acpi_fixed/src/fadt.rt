@@ -1,6 +1,6 @@
 //! FADT: what the hardware of ACPI is like, and where the FACS and the DSDT are.
 
-ghost use Rattle.std.specs.Prelude.{◌≡◌, bit_or};
+ghost use Rattle.std.specs.Prelude.{◌≡◌, bit_or, length};
 ghost use Rattle.acpi_base.specs.Object.{whole, whole_ends_well};
 
 use crate::header::seal;
@@ -172,8 +172,9 @@ impl FADT {
     }
 
     // The table's bytes.
-    fn bytes(&self) -> [u8; 276]
-        ensures { result ≡ fadt_bytes self.now }
+    pub(crate) fn bytes(&self) -> [u8; 276]
+        ensures bytes { result ≡ fadt_bytes self.now }
+        ensures len { length result ≡ 276 }
     {
         let mut bytes = record(&[
             Row::Bytes(&self.table.header()),
