@@ -14,7 +14,7 @@ pub type AmlStr = &'static str;
 pub type AmlString = String;
 
 /// A string: its prefix, its bytes and a zero. A standard one has bytes 01 to 7F alone.
-impl Aml for &'static str {
+impl Aml for &str {
     ghost object = { λ s. whole (text s.now) };
 
     ghost ends_well = { λ s. whole_ends_well (text s.now) };

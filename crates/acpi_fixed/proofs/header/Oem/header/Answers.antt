@@ -1,0 +1,5 @@
+use Rattle.std.proofs.Common.{◌∙◌, append_assoc}
+use Rattle.acpi_fixed.proofs.header.Oem.header.Goals as goal
+
+pub returns : goal.returns
+returns c = c.record.ensures ∙ simp append_assoc

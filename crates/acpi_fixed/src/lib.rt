@@ -1,0 +1,11 @@
+//! Records and tables of a fixed layout. No call here takes memory.
+#![tactic(auto)]
+
+pub mod bert;
+pub mod facs;
+pub mod fadt;
+pub mod header;
+pub mod laws;
+pub mod rsdp;
+pub mod spcr;
+pub mod tpm2;

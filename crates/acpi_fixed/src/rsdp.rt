@@ -1,0 +1,100 @@
+//! RSDP: where the search for the tables begins.
+
+ghost use Rattle.std.specs.Prelude.{◌≡◌, ◌%◌, sum, length};
+ghost use Rattle.acpi_base.specs.Bytes.{complement};
+ghost use Rattle.acpi_base.specs.Object.{whole, whole_ends_well};
+
+use acpi_base::error::R;
+use acpi_base::object::Aml;
+use acpi_base::record::{Row, record};
+use acpi_base::sink::AmlSink;
+use acpi_base::sum::Sum;
+
+/// The Root System Description Pointer (ACPI 6.5, 5.2.5.3): 36 bytes. Its address of an RSDT and its last three bytes
+/// are zero. It is written as its fields stand.
+#[derive(Clone, Copy)]
+pub struct Rsdp {
+    /// `RSD PTR `, with a blank at its end.
+    pub signature: [u8; 8],
+    /// Makes the sum of the first 20 bytes zero.
+    pub checksum: u8,
+    pub oem_id: [u8; 6],
+    pub revision: u8,
+    /// The size in bytes.
+    pub length: u32,
+    /// The physical address of the XSDT.
+    pub xsdt_addr: u64,
+    /// Makes the sum of all bytes zero.
+    pub extended_checksum: u8,
+}
+
+// What makes the sum of bytes zero.
+fn complement_of(bytes: &[u8]) -> u8
+    ensures { result ≡ complement (sum bytes.now) }
+{
+    let mut sum = Sum::new();
+    sum.add(bytes);
+    sum.checksum()
+}
+
+impl Rsdp {
+    ghost use Rattle.std.specs.Prelude.{take};
+    ghost use Rattle.acpi_fixed.specs.Rsdp.{rsdp_bytes, rsdp_for};
+
+    /// The pointer to the XSDT at a physical address, of revision 2, with both checksums made.
+    pub fn new(oem_id: [u8; 6], xsdt_addr: u64) -> Rsdp
+        ensures { result ≡ rsdp_for oem_id xsdt_addr }
+    {
+        let mut rsdp = Rsdp {
+            signature: *b"RSD PTR ",
+            checksum: 0,
+            oem_id,
+            revision: 2,
+            length: 36,
+            xsdt_addr,
+            extended_checksum: 0,
+        };
+        let unsummed = rsdp.bytes();
+        rsdp.checksum = complement_of(&unsummed[..20]);
+        rsdp.extended_checksum = complement_of(&rsdp.bytes());
+        rsdp
+    }
+
+    /// The size in bytes.
+    pub fn len() -> usize
+        ensures { result ≡ 36 }
+    {
+        36
+    }
+
+    // The pointer's bytes.
+    fn bytes(&self) -> [u8; 36]
+        ensures bytes { result ≡ rsdp_bytes self.now }
+        ensures len { length result ≡ 36 }
+    {
+        let rsdp = *self;
+        record(&[
+            Row::Bytes(&rsdp.signature),
+            Row::Byte(rsdp.checksum),
+            Row::Bytes(&rsdp.oem_id),
+            Row::Byte(rsdp.revision),
+            Row::DWord(0),
+            Row::DWord(rsdp.length),
+            Row::QWord(rsdp.xsdt_addr),
+            Row::Byte(rsdp.extended_checksum),
+            Row::Bytes(&[0; 3]),
+        ])
+    }
+}
+
+impl Aml for Rsdp {
+    ghost use Rattle.acpi_fixed.specs.Rsdp.{rsdp_bytes};
+
+    ghost object = { λ r. whole (rsdp_bytes r) };
+
+    ghost ends_well = { λ r. whole_ends_well (rsdp_bytes r) };
+
+    fn to_aml_bytes(&self, sink: &mut dyn AmlSink) -> R<()> {
+        sink.vec(&self.bytes())
+    }
+}

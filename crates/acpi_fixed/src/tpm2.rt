@@ -1,0 +1,409 @@
+//! TCPA and TPM2: where a trusted platform module is, and its log.
+
+ghost use Rattle.std.specs.Prelude.{◌≡◌, ◌<◌, bit_or, Some, None, OnOk, IfErr};
+ghost use Rattle.acpi_base.specs.Object.{whole, whole_ends_well};
+
+use crate::header::{Oem, seal};
+use acpi_base::error::{Error, R};
+use acpi_base::gas::GAS;
+use acpi_base::object::Aml;
+use acpi_base::record::{Row, record};
+use acpi_base::sink::AmlSink;
+
+/// What kind of machine a module is in (TCG ACPI Specification, offset 36 of TCPA and TPM2).
+#[derive(Clone, Copy, Debug, Default, PartialEq)]
+pub enum PlatformClass {
+    #[default]
+    Client = 0,
+    Server = 1,
+}
+
+impl PlatformClass {
+    ghost use Rattle.acpi_fixed.specs.Tpm2.{class_number};
+
+    fn number(self) -> u16
+        ensures { result ≡ class_number self }
+    {
+        self as u16
+    }
+}
+
+/// TCPA of a client (TCG ACPI Specification, TPM 1.2, client platform): 50 bytes.
+#[derive(Drop)]
+pub struct TpmClient1_2 {
+    oem: Oem,
+    log_area_min_len: u32,
+    log_area_start_addr: u64,
+}
+
+impl TpmClient1_2 {
+    ghost use Rattle.acpi_fixed.specs.Tpm2.{client_bytes};
+
+    /// A log area of at least so many bytes at a physical address.
+    pub fn new(
+        oem_id: [u8; 6],
+        oem_table_id: [u8; 8],
+        oem_revision: u32,
+        log_area_min_len: u32,
+        log_area_start_addr: u64,
+    ) -> TpmClient1_2
+        ensures { result ≡ record { oem = record { id = oem_id; table_id = oem_table_id; revision = oem_revision }; log_area_min_len = log_area_min_len; log_area_start_addr = log_area_start_addr } }
+    {
+        TpmClient1_2 {
+            oem: Oem {
+                id: oem_id,
+                table_id: oem_table_id,
+                revision: oem_revision,
+            },
+            log_area_min_len,
+            log_area_start_addr,
+        }
+    }
+
+    // The table's bytes.
+    fn bytes(&self) -> [u8; 50]
+        ensures { result ≡ client_bytes self.now }
+    {
+        let mut bytes = record(&[
+            Row::Bytes(&self.oem.header(*b"TCPA", 50, 2)),
+            Row::Word(PlatformClass::Client.number()),
+            Row::DWord(self.log_area_min_len),
+            Row::QWord(self.log_area_start_addr),
+        ]);
+        seal(&mut bytes);
+        bytes
+    }
+}
+
+impl Aml for TpmClient1_2 {
+    ghost use Rattle.acpi_fixed.specs.Tpm2.{client_bytes};
+
+    ghost object = { λ t. whole (client_bytes t) };
+
+    ghost ends_well = { λ t. whole_ends_well (client_bytes t) };
+
+    fn to_aml_bytes(&self, sink: &mut dyn AmlSink) -> R<()> {
+        sink.vec(&self.bytes())
+    }
+}
+
+// Device flags of TCPA (offset 58).
+const PCI_DEVICE: u8 = 1;
+
+const BUS_IS_PNP: u8 = 2;
+
+const CONFIG_ADDRESS_VALID: u8 = 4;
+
+// Interrupt flags of TCPA (offset 59).
+const EDGE_TRIGGERED: u8 = 1;
+
+const ACTIVE_LOW: u8 = 2;
+
+const SCI_BY_GPE: u8 = 4;
+
+const GLOBAL_INTERRUPT: u8 = 8;
+
+/// TCPA of a server (TCG ACPI Specification, TPM 1.2, server platform): 100 bytes, for revision 1.2 of the TCG
+/// specification. Its checksum is that of the fields as they stand when it is written.
+#[derive(Clone, Copy)]
+pub struct TpmServer1_2 {
+    oem: Oem,
+    log_area_min_len: u64,
+    log_area_start_addr: u64,
+    device_flags: u8,
+    interrupt_flags: u8,
+    gpe: u8,
+    gsi: u32,
+    base_addr: GAS,
+    config_addr: GAS,
+    pci_segment: u8,
+    pci_bus: u8,
+    pci_device: u8,
+    pci_function: u8,
+}
+
+impl TpmServer1_2 {
+    ghost use Rattle.acpi_fixed.specs.Tpm2.{server_bytes, server_at_first};
+
+    /// A table in which everything behind the TCG revision is zero.
+    pub fn new(oem_id: [u8; 6], oem_table_id: [u8; 8], oem_revision: u32) -> TpmServer1_2
+        ensures { result ≡ server_at_first (record { id = oem_id; table_id = oem_table_id; revision = oem_revision }) }
+    {
+        TpmServer1_2 {
+            oem: Oem {
+                id: oem_id,
+                table_id: oem_table_id,
+                revision: oem_revision,
+            },
+            log_area_min_len: 0,
+            log_area_start_addr: 0,
+            device_flags: 0,
+            interrupt_flags: 0,
+            gpe: 0,
+            gsi: 0,
+            base_addr: GAS::default(),
+            config_addr: GAS::default(),
+            pci_segment: 0,
+            pci_bus: 0,
+            pci_device: 0,
+            pci_function: 0,
+        }
+    }
+
+    /// A log area of at least so many bytes (offset 40) at a physical address (offset 48).
+    pub fn log_area(mut self, log_area_min_len: u64, log_area_start_addr: u64) -> TpmServer1_2
+        ensures { result ≡ record self { log_area_min_len = log_area_min_len; log_area_start_addr = log_area_start_addr } }
+    {
+        self.log_area_min_len = log_area_min_len;
+        self.log_area_start_addr = log_area_start_addr;
+        self
+    }
+
+    /// The interrupt is active low (interrupt flag 2).
+    pub fn active_low(mut self) -> TpmServer1_2
+        ensures { result ≡ record self { interrupt_flags = bit_or self.interrupt_flags 2 } }
+    {
+        self.interrupt_flags |= ACTIVE_LOW;
+        self
+    }
+
+    /// The interrupt is edge triggered (interrupt flag 1).
+    pub fn edge_triggered(mut self) -> TpmServer1_2
+        ensures { result ≡ record self { interrupt_flags = bit_or self.interrupt_flags 1 } }
+    {
+        self.interrupt_flags |= EDGE_TRIGGERED;
+        self
+    }
+
+    /// The bit of the general purpose event that the module raises (offset 60), with interrupt flag 4.
+    pub fn sci_gpe(mut self, sci_gpe_bit: u8) -> TpmServer1_2
+        ensures { result ≡ record self { gpe = sci_gpe_bit; interrupt_flags = bit_or self.interrupt_flags 4 } }
+    {
+        self.gpe = sci_gpe_bit;
+        self.interrupt_flags |= SCI_BY_GPE;
+        self
+    }
+
+    /// The global system interrupt (offset 64), with interrupt flag 8.
+    pub fn gsi(mut self, gsi: u32) -> TpmServer1_2
+        ensures { result ≡ record self { gsi = gsi; interrupt_flags = bit_or self.interrupt_flags 8 } }
+    {
+        self.gsi = gsi;
+        self.interrupt_flags |= GLOBAL_INTERRUPT;
+        self
+    }
+
+    /// The module is on a plug and play bus (device flag 2).
+    pub fn bus_is_pnp(mut self) -> TpmServer1_2
+        ensures { result ≡ record self { device_flags = bit_or self.device_flags 2 } }
+    {
+        self.device_flags |= BUS_IS_PNP;
+        self
+    }
+
+    /// The module's PCI function: segment, bus, device and function (offsets 96 to 99), with device flag 1.
+    pub fn pci_sbdf(mut self, segment: u8, bus: u8, device: u8, function: u8) -> TpmServer1_2
+        requires device { device < 32 }
+        requires function { function < 8 }
+        ensures { result ≡ record self { pci_segment = segment; pci_bus = bus; pci_device = device; pci_function = function; device_flags = bit_or self.device_flags 1 } }
+    {
+        self.pci_segment = segment;
+        self.pci_bus = bus;
+        self.pci_device = device;
+        self.pci_function = function;
+        self.device_flags |= PCI_DEVICE;
+        self
+    }
+
+    /// Where the module's registers are (offset 68).
+    pub fn base_addr(mut self, addr: GAS) -> TpmServer1_2
+        ensures { result ≡ record self { base_addr = addr } }
+    {
+        self.base_addr = addr;
+        self
+    }
+
+    /// Where the module's configuration is (offset 84), with device flag 4.
+    pub fn config_addr(mut self, addr: GAS) -> TpmServer1_2
+        ensures { result ≡ record self { config_addr = addr; device_flags = bit_or self.device_flags 4 } }
+    {
+        self.config_addr = addr;
+        self.device_flags |= CONFIG_ADDRESS_VALID;
+        self
+    }
+
+    /// The size in bytes.
+    pub fn len() -> usize
+        ensures { result ≡ 100 }
+    {
+        100
+    }
+
+    // The table's bytes.
+    fn bytes(&self) -> [u8; 100]
+        ensures { result ≡ server_bytes self.now }
+    {
+        let mut bytes = record(&[
+            Row::Bytes(&self.oem.header(*b"TCPA", 100, 2)),
+            Row::Word(PlatformClass::Server.number()),
+            Row::Word(0),
+            Row::QWord(self.log_area_min_len),
+            Row::QWord(self.log_area_start_addr),
+            Row::Bytes(&[1, 2]),
+            Row::Byte(self.device_flags),
+            Row::Byte(self.interrupt_flags),
+            Row::Byte(self.gpe),
+            Row::Bytes(&[0; 3]),
+            Row::DWord(self.gsi),
+            Row::Bytes(&self.base_addr.bytes()),
+            Row::DWord(0),
+            Row::Bytes(&self.config_addr.bytes()),
+            Row::Byte(self.pci_segment),
+            Row::Byte(self.pci_bus),
+            Row::Byte(self.pci_device),
+            Row::Byte(self.pci_function),
+        ]);
+        seal(&mut bytes);
+        bytes
+    }
+}
+
+impl Aml for TpmServer1_2 {
+    ghost use Rattle.acpi_fixed.specs.Tpm2.{server_bytes};
+
+    ghost object = { λ t. whole (server_bytes t) };
+
+    ghost ends_well = { λ t. whole_ends_well (server_bytes t) };
+
+    fn to_aml_bytes(&self, sink: &mut dyn AmlSink) -> R<()> {
+        sink.vec(&self.bytes())
+    }
+}
+
+/// How a module is started (TCG ACPI Specification, TPM2, offset 48).
+#[derive(Clone, Copy, Debug, Default, PartialEq)]
+pub enum StartMethod {
+    #[default]
+    LegacyUse = 1,
+    AcpiStart = 2,
+    Mmio = 6,
+    Crb = 7,
+    CrbAndAcpiStart = 8,
+    CrbAndSmcHvc = 11,
+    I2cFifo = 12,
+}
+
+impl StartMethod {
+    ghost use Rattle.acpi_fixed.specs.Tpm2.{method_number};
+
+    fn number(self) -> u32
+        ensures { result ≡ method_number self }
+    {
+        self as u32
+    }
+}
+
+// A log area: at least so many bytes, at a physical address.
+#[derive(Clone, Copy)]
+struct LogArea {
+    min_len: u32,
+    base_addr: u64,
+}
+
+/// TPM2 (TCG ACPI Specification, TPM 2.0): 52 bytes, and 76 with a log area.
+#[derive(Drop)]
+pub struct Tpm2 {
+    oem: Oem,
+    platform_class: PlatformClass,
+    crb_or_fifo_base: u64,
+    start_method: StartMethod,
+    log_area: Option<LogArea>,
+}
+
+impl Tpm2 {
+    ghost use Rattle.acpi_fixed.specs.Tpm2.{tpm2_bytes, LogAreaOnce};
+
+    /// A module whose control area or FIFO is at a physical address, without a log area.
+    pub fn new(
+        oem_id: [u8; 6],
+        oem_table_id: [u8; 8],
+        oem_revision: u32,
+        platform_class: PlatformClass,
+        crb_or_fifo_base: u64,
+        start_method: StartMethod,
+    ) -> Tpm2
+        ensures { result ≡ record { oem = record { id = oem_id; table_id = oem_table_id; revision = oem_revision }; platform_class = platform_class; crb_or_fifo_base = crb_or_fifo_base; start_method = start_method; log_area = None } }
+    {
+        Tpm2 {
+            oem: Oem {
+                id: oem_id,
+                table_id: oem_table_id,
+                revision: oem_revision,
+            },
+            platform_class,
+            crb_or_fifo_base,
+            start_method,
+            log_area: None,
+        }
+    }
+
+    /// Adds a log area of at least so many bytes at a physical address. LogAreaSet where the table has one; it then
+    /// stays as it is.
+    pub fn set_log_area(&mut self, min_len: u32, base_addr: u64) -> R<()>
+        ensures { LogAreaOnce self.old min_len base_addr self.new result }
+    {
+        if self.log_area.is_some() {
+            return Err(Error::LogAreaSet);
+        }
+        self.log_area = Some(LogArea { min_len, base_addr });
+        Ok(())
+    }
+
+    // The table's bytes, if it has no log area.
+    fn bytes(&self) -> [u8; 52]
+        ensures { result ≡ tpm2_bytes (record self.now { log_area = None }) }
+    {
+        let mut bytes = record(&[
+            Row::Bytes(&self.oem.header(*b"TPM2", 52, 1)),
+            Row::Word(self.platform_class.number()),
+            Row::Word(0),
+            Row::QWord(self.crb_or_fifo_base),
+            Row::DWord(self.start_method.number()),
+        ]);
+        seal(&mut bytes);
+        bytes
+    }
+
+    // The table's bytes with a log area.
+    fn bytes_with(&self, area: LogArea) -> [u8; 76]
+        ensures { result ≡ tpm2_bytes (record self.now { log_area = Some area }) }
+    {
+        let mut bytes = record(&[
+            Row::Bytes(&self.oem.header(*b"TPM2", 76, 1)),
+            Row::Word(self.platform_class.number()),
+            Row::Word(0),
+            Row::QWord(self.crb_or_fifo_base),
+            Row::DWord(self.start_method.number()),
+            Row::Bytes(&[0; 12]),
+            Row::DWord(area.min_len),
+            Row::QWord(area.base_addr),
+        ]);
+        seal(&mut bytes);
+        bytes
+    }
+}
+
+impl Aml for Tpm2 {
+    ghost use Rattle.acpi_fixed.specs.Tpm2.{tpm2_bytes};
+
+    ghost object = { λ t. whole (tpm2_bytes t) };
+
+    ghost ends_well = { λ t. whole_ends_well (tpm2_bytes t) };
+
+    fn to_aml_bytes(&self, sink: &mut dyn AmlSink) -> R<()> {
+        match self.log_area {
+            None => sink.vec(&self.bytes()),
+            Some(area) => sink.vec(&self.bytes_with(area)),
+        }
+    }
+}
