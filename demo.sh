@@ -1,5 +1,5 @@
 #!/bin/sh
-# Has one program write a table and the other read it: whole, and without its last byte. Both are proved before they are
+# Has one program write tables and the other read them: whole, and one without its last byte. Both are proved before they are
 # built, with everything that they stand on. The first run takes minutes, and a later one seconds.
 set -eu
 cd "$(dirname "$0")"
@@ -38,7 +38,7 @@ expect() {
 for crate in $(libraries acpi_example acpiread); do
     quietly "$crate" lib
 done
-quietly acpi_example run -- "$work/table"
+quietly acpi_example run -- "$work/table" "$work/namespace"
 quietly acpiread run -- table "$work/table"
 read=crates/acpiread/out/acpiread
 
@@ -52,3 +52,7 @@ line=$("$read" table "$work/cut" 2>&1) || status=$?
 echo "$line"
 expect "$line" 'refused at 4: TableLength'
 expect "status $status" 'status 1'
+
+line=$("$read" table "$work/namespace") || true
+echo "$line"
+expect "$line" 'DSDT length 87 revision 2 sum 0'

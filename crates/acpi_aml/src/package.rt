@@ -74,11 +74,11 @@ impl Aml for VarPackageTerm {
 }
 
 impl VarPackageTerm {
-    /// `data` writes the number of elements and then these. Its refusal, else PkgLength from 2^28 bytes on.
-    pub fn new(alloc: Global, data: &dyn Aml) -> R<VarPackageTerm>
-        ensures { Builds result (row varpack (object data.now ∷ [])) }
+    /// `contents` writes the number of elements and then these. Its refusal, else PkgLength from 2^28 bytes on.
+    pub fn new(alloc: Global, contents: &dyn Aml) -> R<VarPackageTerm>
+        ensures { Builds result (row varpack (object contents.now ∷ [])) }
     {
-        let bytes = boxed(alloc, &[0x13], &[], &[data])?;
+        let bytes = boxed(alloc, &[0x13], &[], &[contents])?;
         Ok(VarPackageTerm { bytes })
     }
 }

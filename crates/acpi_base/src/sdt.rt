@@ -3,7 +3,7 @@
 ghost use Rattle.std.specs.Prelude.{◌≡◌, ◌≢◌, ◌≤◌, ◌<◌, ◌+◌, ◌-◌, ◌%◌, ◌^◌, ◌++◌, [], ◌∷◌, ◌↔◌, length, replicate, sum, OnOk, OnErr, IfErr, IfOk, IsTrue};
 ghost use Rattle.acpi_base.specs.Bytes.{le, put};
 ghost use Rattle.acpi_base.specs.Header.{header};
-ghost use Rattle.acpi_base.specs.Object.{whole, whole_ends_well, Wrote};
+ghost use Rattle.acpi_base.specs.Object.{whole, whole_ends_well, Wrote, WriteRefused};
 ghost use Rattle.acpi_base.specs.Sink.{Took, Refused};
 ghost use Rattle.acpi_base.specs.Sdt.{with_checksum, added, sdt_of, sdt_takes_nothing, sdt_takes_beginning};
 
@@ -301,4 +301,12 @@ impl Sdt {
     {
         self.bytes.is_empty()
     }
+}
+
+/// Writes an object at the end of a table. Length and checksum are true after each part that the object writes.
+pub fn append_object(aml: &dyn Aml, table: &mut Sdt) -> R<()>
+    ensures ok { OnOk result (Wrote (object aml.now) (sdt_of table.old.bytes) (sdt_of table.new.bytes)) }
+    ensures err { IfErr result (λ e. WriteRefused e (object aml.now) (sdt_of table.old.bytes) (sdt_of table.new.bytes)) }
+{
+    aml.to_aml_bytes(table)
 }
