@@ -1,5 +1,5 @@
 -- TCPA and TPM2 (TCG ACPI Specification, TPM 1.2 client and server platforms, TPM 2.0).
-use Rattle.std.specs.Prelude.{◌≡◌, ℕ, List, [], ◌∷◌, ◌++◌, codes, Option, Some, None, IsSome, Result, Ok, Err}
+use Rattle.std.specs.Prelude.{◌≡◌, ℕ, List, [], ◌∷◌, codes, Option, Some, None, IsSome, Result, Ok, Err}
 use Rattle.acpi_base.specs.Bytes.{le}
 use Rattle.acpi_base.specs.Gas.{gas_bytes}
 use Rattle.acpi_base.specs.declared.error.Error.{Error}

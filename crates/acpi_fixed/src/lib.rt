@@ -8,4 +8,6 @@ pub mod header;
 pub mod laws;
 pub mod rsdp;
 pub mod spcr;
+#[cfg(test)]
+mod tests;
 pub mod tpm2;
