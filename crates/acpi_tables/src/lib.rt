@@ -2,9 +2,15 @@
 #![tactic(auto)]
 
 pub mod aml;
+pub mod bert;
+pub mod facs;
+pub mod fadt;
 pub mod gas;
 pub mod read;
+pub mod rsdp;
 pub mod sdt;
+pub mod spcr;
+pub mod tpm2;
 
 pub use acpi_base::checksum::Checksum;
 pub use acpi_base::error::{Error, R};
