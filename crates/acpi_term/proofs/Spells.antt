@@ -9,9 +9,9 @@ use Rattle.acpi_term.specs.declared.term.Term.{Term}
 use Rattle.acpi_term.specs.declared.term.TermEntry.{TermEntry}
 use Rattle.acpi_term.specs.Length.{limit, framed, FitsFrame}
 use Rattle.acpi_term.specs.Row.{bits_of, width_of, entry_bytes, entries_bytes}
-use Rattle.acpi_term.specs.Tree.{Entry, Head, pack, Terms, end, term, count, one}
+use Rattle.acpi_term.specs.Tree.{Entry, pack, Terms, end, term, count}
 use Rattle.acpi_term.specs.Spelling.{spelled, spelling, CarryBits}
-use Rattle.acpi_term.specs.View.{Parts, joined, entry_view, view, views}
+use Rattle.acpi_term.specs.View.{Parts, entry_view, view, views}
 use Rattle.acpi_term.proofs.Entries.{entries_owned}
 use Rattle.acpi_term.proofs.Opens.{owned}
 use Rattle.acpi_term.specs.Carried.{IsUnfit, IsCarried, AreCarried, single, Added, IsUncarried, Laid, Unlaid, IsField, IsNoField}

@@ -10,3 +10,5 @@ pub mod read_error;
 pub mod row;
 pub mod spell;
 pub mod term;
+#[cfg(test)]
+mod tests;

@@ -1,4 +1,4 @@
-use Rattle.std.proofs.Common.{◌≡◌, ◌<◌, length, rules, arith}
+use Rattle.std.proofs.Common.{rules}
 use Rattle.acpi_term.proofs.Spells.{on_both, package_is}
 use Rattle.acpi_term.proofs.spell.lay_package.Goals as goal
 

@@ -1,4 +1,4 @@
-use Rattle.std.proofs.Common.{rules, ◌≡◌, ◌≢◌, arith, get_or, refl}
+use Rattle.std.proofs.Common.{rules}
 use Rattle.std.proofs.lemmas.Result.{err_from_is_err_and}
 use Rattle.acpi_term.proofs.Spells.{entries_start, entries_go_on, entries_stop, entries_done}
 use Rattle.acpi_term.proofs.spell.spell_entries.Goals as goal
