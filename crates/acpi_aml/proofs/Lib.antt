@@ -1,3 +1,5 @@
+pub mod Buffers
 pub mod Builders
+pub mod Digits
 pub mod Fields
 pub mod Meanings

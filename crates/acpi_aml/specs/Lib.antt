@@ -1,6 +1,10 @@
+pub mod Buffer
 pub mod EndsWell
 pub mod Region
 pub mod Field
 pub mod Builder
+pub mod Hex
+pub mod Eisa
+pub mod Uuid
 pub mod Meaning
 pub mod Laws

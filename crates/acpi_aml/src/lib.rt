@@ -1,9 +1,12 @@
 //! Objects of AML: names, frames of named objects, packages, methods and what they are made of.
 #![tactic(auto)]
 
+pub mod buffer;
 pub mod builder;
 pub mod control;
+pub mod eisa;
 pub mod field;
+mod hex;
 pub mod laws;
 pub mod method;
 pub mod mutex;
@@ -12,3 +15,4 @@ pub mod package;
 pub mod path;
 pub mod region;
 pub mod scope;
+pub mod uuid;

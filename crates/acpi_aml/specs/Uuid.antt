@@ -1,0 +1,19 @@
+-- UUIDs (ACPI 6.5, 19.6.142).
+use Rattle.std.specs.Prelude.{ℕ, ◌==◌, ◌&&◌, Bool, if◌then◌else◌, List, ◌++◌, length, reverse, slice_index, slice_range, Option, Some, None}
+use Rattle.acpi_aml.specs.Hex.{hex_bytes}
+
+-- 36 characters, with `-` between groups of 8, 4, 4, 4 and 12
+abbrev pub is_grouped : List ℕ → Bool
+is_grouped text = length text == 36 && slice_index text 8 == 45 && slice_index text 13 == 45 && slice_index text 18 == 45 && slice_index text 23 == 45
+
+-- the bytes of the groups, of which the first three are numbers, lowest byte first
+abbrev pub grouped : Option (List ℕ) → Option (List ℕ) → Option (List ℕ) → Option (List ℕ) → Option (List ℕ) → Option (List ℕ)
+grouped (Some a) (Some b) (Some c) (Some d) (Some e) = Some (reverse a ++ (reverse b ++ (reverse c ++ (d ++ e))))
+grouped _ _ _ _ _ = None
+
+-- the 16 bytes of a text, where it is hexadecimal digits in these groups
+abbrev pub uuid_bytes : List ℕ → Option (List ℕ)
+uuid_bytes text =
+    if is_grouped text
+    then grouped (hex_bytes (slice_range text 0 8)) (hex_bytes (slice_range text 9 13)) (hex_bytes (slice_range text 14 18)) (hex_bytes (slice_range text 19 23)) (hex_bytes (slice_range text 24 36))
+    else None

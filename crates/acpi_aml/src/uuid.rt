@@ -1,0 +1,83 @@
+//! UUIDs.
+
+ghost use Rattle.std.specs.Prelude.{◌≡◌, ℕ, List, length, IfOk, IfErr, Some, None};
+ghost use Rattle.acpi_aml.specs.Buffer.{buffer_of_bytes};
+ghost use Rattle.acpi_aml.specs.EndsWell.{bytes_end_well};
+ghost use Rattle.acpi_aml.specs.Uuid.{is_grouped, uuid_bytes};
+
+use crate::hex::hex_bytes;
+use acpi_base::error::{Error, R};
+use acpi_base::object::Aml;
+use acpi_base::record::{Row, record};
+use acpi_base::sink::AmlSink;
+use std::marker::Model;
+
+/// A UUID as a buffer of 16 bytes (ACPI 6.5, 19.6.142).
+#[derive(Drop)]
+pub struct Uuid {
+    bytes: [u8; 16],
+}
+
+impl Model for Uuid {
+    ghost Value = { List ℕ };
+
+    ghost view = { λ u. u.bytes };
+}
+
+impl Aml for Uuid {
+    ghost object = { λ u. buffer_of_bytes u };
+
+    ghost ends_well = { λ u. bytes_end_well u };
+
+    fn to_aml_bytes(&self, sink: &mut dyn AmlSink) -> R<()> {
+        let bytes = record::<20>(&[
+            Row::Bytes(&[0x11, 0x13, 0x0a, 0x10]),
+            Row::Bytes(&self.bytes),
+        ]);
+        sink.vec(&bytes)
+    }
+}
+
+impl Uuid {
+    /// The UUID of a text: groups of 8, 4, 4, 4 and 12 hexadecimal digits of either case with `-` between them. UuidText
+    /// unless it is that. The first three groups are numbers, which stand lowest byte first.
+    pub fn new(name: &str) -> R<Uuid>
+        ensures ok { IfOk result (λ u. uuid_bytes name.now ≡ Some u) }
+        ensures size { IfOk result (λ u. length u ≡ 16) }
+        ensures err { IfErr result (λ e. (e ≡ Error.UuidText) × (uuid_bytes name.now ≡ None)) }
+    {
+        match read_groups(name.as_bytes()) {
+            Some(bytes) => Ok(Uuid { bytes }),
+            None => Err(Error::UuidText),
+        }
+    }
+}
+
+fn read_groups(text: &[u8]) -> Option<[u8; 16]>
+    ensures { result ≡ uuid_bytes text.now }
+{
+    if !is_grouped(text) {
+        return None;
+    }
+    let mut a = hex_bytes::<4>(&text[0..8])?;
+    let mut b = hex_bytes::<2>(&text[9..13])?;
+    let mut c = hex_bytes::<2>(&text[14..18])?;
+    let d = hex_bytes::<2>(&text[19..23])?;
+    let e = hex_bytes::<6>(&text[24..36])?;
+    a.reverse();
+    b.reverse();
+    c.reverse();
+    Some(record(&[
+        Row::Bytes(&a),
+        Row::Bytes(&b),
+        Row::Bytes(&c),
+        Row::Bytes(&d),
+        Row::Bytes(&e),
+    ]))
+}
+
+fn is_grouped(text: &[u8]) -> bool
+    ensures { result ≡ is_grouped text.now }
+{
+    text.len() == 36 && text[8] == b'-' && text[13] == b'-' && text[18] == b'-' && text[23] == b'-'
+}
