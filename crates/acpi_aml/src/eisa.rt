@@ -34,7 +34,8 @@ impl Aml for EISAName {
 }
 
 impl EISAName {
-    /// The id of a text: `A` to `Z` three times, and four hexadecimal digits of either case. EisaText unless it is that.
+    /// The id of a text of three letters from `A` to `Z` and four hexadecimal digits, whose letters may be of either case.
+    /// EisaText unless it is that.
     pub fn new(name: &str) -> R<EISAName>
         ensures ok { IfOk result (λ e. eisa_value name.now ≡ Some e) }
         ensures err { IfErr result (λ e. (e ≡ Error.EisaText) × (eisa_value name.now ≡ None)) }

@@ -1,1 +1,3 @@
+pub mod Items
 pub mod Meanings
+pub mod Spaces

@@ -1,1 +1,4 @@
+pub mod Descriptor
+pub mod AddressSpace
+pub mod Item
 pub mod Laws

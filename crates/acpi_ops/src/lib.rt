@@ -1,9 +1,11 @@
-//! Operators of AML.
+//! Operators of AML, and resource descriptors.
 #![tactic(auto)]
 
+pub mod address_space;
 pub mod arithmetic;
 pub mod bitwise;
 pub mod comparison;
+pub mod descriptor;
 pub mod laws;
 pub mod objects;
 pub mod opposite;

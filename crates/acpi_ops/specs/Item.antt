@@ -1,0 +1,29 @@
+-- How bytes split into resource items (ACPI 6.5, 6.4.2 and 6.4.3).
+use Rattle.std.specs.Prelude.{◌≡◌, ℕ, ◌+◌, ◌*◌, ◌%◌, nat_lt, if◌then◌else◌, List, [], ◌∷◌, ◌++◌, length, Option, Some, None}
+
+-- the size that follows a large item's tag, with the tag and itself
+abbrev pub large_size : List ℕ → Option ℕ
+large_size (low ∷ high ∷ more) = Some (3 + (low + 256 * high))
+large_size _ = None
+
+-- The size of the item that begins here. Of a small item, whose tag has bit 7 clear, the tag's bits 0 to 2 count the
+-- bytes after it.
+abbrev pub item_size : List ℕ → Option ℕ
+item_size [] = None
+item_size (tag ∷ more) = if nat_lt tag 128 then Some (1 + tag % 8) else large_size more
+
+-- the bytes are one item
+pub record IsItem (bytes : List ℕ) : Type 0 where
+  pub size : item_size bytes ≡ Some (length bytes)
+
+abbrev pub AreItems : List (List ℕ) → Type 0
+AreItems [] = Unit {0}
+AreItems (item ∷ items) = IsItem item × AreItems items
+
+abbrev pub joined : List (List ℕ) → List ℕ
+joined [] = []
+joined (item ∷ items) = item ++ joined items
+
+-- the bytes are these items, one after another
+abbrev pub SplitsInto : List ℕ → List (List ℕ) → Type 0
+SplitsInto bytes items = AreItems items × (bytes ≡ joined items)
