@@ -21,3 +21,7 @@ pub package_bytes : (r : Result (List ℕ) Error) → Builds r (row pack (whole 
 unfolding length_bytes
 package_bytes (Ok bytes) built = built.is
 package_bytes (Err e) built = tt
+
+pub wrote_as : {T : Type 0} (r : Result T Error) (o : Object) (m m' n n' : Meaning) → m ≡ m' → n ≡ n' → OnOk r (Wrote o m n) → OnOk r (Wrote o m' n')
+wrote_as (Ok x) o m m' n n' p q wrote = rw (← p, ← q) wrote
+wrote_as (Err e) o m m' n n' p q wrote = tt

@@ -1,11 +1,12 @@
 //! Tables of the caller's contents.
 
-ghost use Rattle.std.specs.Prelude.{◌≡◌, [], ◌∷◌, codes, IfOk};
+ghost use Rattle.std.specs.Prelude.{◌≡◌, [], ◌∷◌, codes, IfOk, OnOk};
 ghost use Rattle.acpi_tables.specs.Header.{header};
-ghost use Rattle.acpi_tables.specs.Sdt.{with_checksum, added};
+ghost use Rattle.acpi_tables.specs.Object.{whole, Wrote};
+ghost use Rattle.acpi_tables.specs.Sdt.{with_checksum, added, sdt_of};
 
 use acpi_tables::aml::{ONE, Package, ZERO};
-use acpi_tables::sdt::{Sdt, append_object};
+use acpi_tables::sdt::Sdt;
 use acpi_tables::{Aml, R};
 use std::alloc::Global;
 
@@ -32,6 +33,13 @@ fn contents(alloc: Global) -> R<Package>
     Package::new(vec![in alloc; &ZERO as &dyn Aml, &ONE]?)
 }
 
+// A table takes an object as any sink does.
+fn write(contents: &Package, table: &mut Sdt) -> R<()>
+    ensures { OnOk result (Wrote (whole contents.now) (sdt_of table.old.bytes) (sdt_of table.new.bytes)) }
+{
+    contents.to_aml_bytes(table)
+}
+
 /// A definition block that holds a package of 0 and 1.
 pub fn package_block(alloc: Global) -> R<Sdt>
     ensures { IfOk result (λ table. table.bytes ≡ added
@@ -39,6 +47,6 @@ pub fn package_block(alloc: Global) -> R<Sdt>
         (0x12 ∷ 4 ∷ 2 ∷ 0 ∷ 1 ∷ [])) }
 {
     let mut table = empty_block(alloc)?;
-    append_object(&contents(alloc)?, &mut table)?;
+    write(&contents(alloc)?, &mut table)?;
     Ok(table)
 }
