@@ -3,3 +3,4 @@ pub mod Builders
 pub mod Digits
 pub mod Fields
 pub mod Meanings
+pub mod Uuids

@@ -1,20 +1,21 @@
 -- What objects mean that aren't rows as they stand.
-use Rattle.std.proofs.Common.{◌≡◌, ℕ, ◌≤◌, ◌<◌, ◌^◌, List, [], ◌∷◌, ◌++◌, length, Some, None, refl, sym, ap, subst, ◌∙◌, arith}
-use Rattle.std.specs.Prelude.{Option}
+use Rattle.std.proofs.Common.{◌≡◌, ℕ, ◌+◌, ◌≤◌, ◌<◌, ◌^◌, List, [], ◌∷◌, ◌++◌, length, None, refl, sym, ap, subst, ◌∙◌, arith, length-append}
 use Rattle.std.proofs.lemmas.List.{append-nil}
 use Rattle.std.proofs.lemmas.Bool.Decides.{nat_tests}
-use Rattle.acpi_base.specs.declared.error.Error.{Error}
+use Rattle.acpi_base.specs.Bytes.{AreBytes}
 use Rattle.acpi_base.specs.Number as numbers
 use Rattle.acpi_base.specs.Text as texts
-use Rattle.acpi_base.specs.Object.{Object, whole, all_of}
+use Rattle.acpi_base.specs.Object.{Object, whole, ended, all_of}
 use Rattle.acpi_base.proofs.Lists.{joined_whole, chain_whole}
 use Rattle.acpi_term.specs.declared.mode.Mode.{Mode}
-use Rattle.acpi_term.specs.declared.mode.Mode.TheVariants.{Element, Count}
+use Rattle.acpi_term.specs.declared.mode.Mode.TheVariants.{Term, Element, Count}
 use Rattle.acpi_term.specs.Name.{IsName, IsText}
-use Rattle.acpi_term.specs.Tree.{number, ones, text, call, pack, varpack, Terms, end, count, one}
-use Rattle.acpi_term.specs.Row.{own, row, over, layout, writer_width}
+use Rattle.acpi_term.specs.Tree.{number, ones, text, buffer, call, pack, varpack, Terms, end, count, one}
+use Rattle.acpi_term.specs.Row.{own, row, boxed_object, over, layout, frame_end, writer_width}
+use Rattle.acpi_term.specs.Length.{least_width, framed}
 use Rattle.acpi_term.specs.Spelling.{Spells, arguments}
 use Rattle.acpi_term.proofs.Rows.{rows_mean, rows_over_mean, ended_none}
+use Rattle.acpi_aml.specs.Buffer.{buffer_of_bytes}
 use Rattle.acpi_aml.specs.Builder.{Builder, package_of}
 use Rattle.acpi_aml.specs.Meaning.{Means}
 
@@ -54,3 +55,33 @@ var_packages_mean arity object terms some spells m h =
     let fits : (over (layout varpack 0 1) object.front).end ≡ None = subst (λ (bytes : List ℕ). (over (layout varpack 0 1) bytes).end ≡ None) front a.1 in
     subst (λ (bytes : List ℕ). Spells arity m bytes (one varpack (writer_width varpack (count terms) object.front) terms))
     (sym (a.2 ∙ ap (λ (bytes : List ℕ). (over (layout varpack 0 1) bytes).front) front)) (means fits)
+
+-- what a frame can count is small
+framed_small : (code content : List ℕ) → (ended (frame_end (length content)) (whole (code ++ framed (least_width (length content)) content))).end ≡ None → 4 + length content < 2 ^ 28
+framed_small code content h =
+    let a : frame_end (length content) ≡ None = (ended_none (frame_end (length content)) (whole (code ++ framed (least_width (length content)) content)) h).0 in
+    grind (arith, nat_tests)
+
+pub buffers_mean : (arity : List ℕ → ℕ) (bytes : List ℕ) → AreBytes bytes
+    → Means arity (buffer_of_bytes bytes) (one (buffer bytes) (writer_width (buffer bytes) 1 (numbers.number (length bytes))) (one (number (length bytes)) (numbers.number_width (length bytes)) end))
+buffers_mean arity bytes are m h =
+    let n = length bytes in
+    let size = numbers.number n in
+    let fits = framed_small (17 ∷ []) ((size ++ []) ++ bytes) h in
+    let small : n < 2 ^ 64 = omega (arith, length-append (size ++ []) bytes) in
+    let spells = rows_mean arity m (buffer bytes) (whole size ∷ []) (one (number n) (numbers.number_width n) end) refl are tt (numbers_mean arity n small Term refl, tt) h in
+    subst (λ (l : List ℕ). Spells arity m (buffer_of_bytes bytes).front (one (buffer bytes) (writer_width (buffer bytes) 1 l) (one (number n) (numbers.number_width n) end))) (append-nil size) spells
+
+pub buffer_terms_mean : (arity : List ℕ → ℕ) (object : Object) (size rest : List ℕ) (t : Terms) → object.front ≡ size ++ rest → count t ≡ 1 → Spells arity Term size t → AreBytes rest
+    → Means arity (row (buffer []) (object ∷ [])) (one (buffer rest) (writer_width (buffer rest) 1 size) t)
+buffer_terms_mean arity object size rest t parts single spells are m h =
+    let a = ended_none (all_of (object ∷ [])).end (over (layout (buffer []) 0 1) (all_of (object ∷ [])).front) h in
+    let first = joined_whole object.front object.wants_memory (whole []) object.end a.0 in
+    let front : (all_of (object ∷ [])).front ++ [] ≡ size ++ rest =
+    append-nil (all_of (object ∷ [])).front ∙ ap (λ (o : Object). o.front) (chain_whole object (whole []) first.0) ∙ append-nil object.front ∙ parts in
+    let same : over (layout (buffer []) 0 1) (all_of (object ∷ [])).front ≡ over (layout (buffer rest) 0 1) size = ap (boxed_object (17 ∷ [])) front in
+    let fits : (over (layout (buffer rest) 0 1) size).end ≡ None = subst (λ (o : Object). o.end ≡ None) same a.1 in
+    let means : Spells arity m (over (layout (buffer rest) 0 1) size).front (one (buffer rest) (writer_width (buffer rest) 1 size) t) =
+    subst (λ (k : ℕ). (over (layout (buffer rest) 0 k) size).end ≡ None → Spells arity m (over (layout (buffer rest) 0 k) size).front (one (buffer rest) (writer_width (buffer rest) k size) t)) single
+    (λ e. rows_over_mean arity m (buffer rest) size t single are tt refl spells e) fits in
+    subst (λ (l : List ℕ). Spells arity m l (one (buffer rest) (writer_width (buffer rest) 1 size) t)) (sym (a.2 ∙ ap (λ (o : Object). o.front) same)) means

@@ -1,8 +1,8 @@
 -- Objects that are refused for a value of their own, or by their length, never want memory.
-use Rattle.std.specs.Prelude.{◌≡◌, ◌≢◌, ℕ, List, Bool, true, false, nat_lt, nat_le, ◌+◌, ◌^◌, length, [], ◌∷◌, ◌++◌, if◌then◌else◌, Option, Some, None}
+use Rattle.std.specs.Prelude.{◌≢◌, ℕ, List, Bool, true, false, nat_lt, nat_le, ◌+◌, ◌^◌, length, [], ◌∷◌, ◌++◌, if◌then◌else◌, Some, None}
 use Rattle.acpi_base.specs.declared.error.Error.{Error}
 use Rattle.acpi_base.specs.declared.error.Error.TheVariants.{Memory, ArgNumber, LocalNumber, PkgLength}
-use Rattle.acpi_base.specs.Object.{Object, whole, whole_ends_well, ended}
+use Rattle.acpi_base.specs.Object.{whole, whole_ends_well, ended}
 use Rattle.acpi_base.specs.Number.{number}
 use Rattle.acpi_term.specs.Tree.{arg, local}
 use Rattle.acpi_term.specs.Row.{row, boxed_object}

@@ -1,14 +1,16 @@
 -- What holds of the definitions, whatever calls there are.
 use Rattle.std.specs.Prelude.{◌≡◌, ℕ, ◌≤◌, ◌<◌, ◌^◌, List, [], ◌∷◌, ◌++◌, length, None}
+use Rattle.acpi_base.specs.Bytes.{AreBytes}
 use Rattle.acpi_base.specs.Number as numbers
 use Rattle.acpi_base.specs.Text as texts
 use Rattle.acpi_base.specs.Object.{Object, whole, all_of}
 use Rattle.acpi_term.specs.declared.mode.Mode.{Mode}
-use Rattle.acpi_term.specs.declared.mode.Mode.TheVariants.{Element, Count}
+use Rattle.acpi_term.specs.declared.mode.Mode.TheVariants.{Term, Element, Count}
 use Rattle.acpi_term.specs.Name.{IsName, IsText}
-use Rattle.acpi_term.specs.Tree.{number, ones, text, call, scope, pack, varpack, Terms, end, count, one}
+use Rattle.acpi_term.specs.Tree.{number, ones, text, buffer, call, scope, pack, varpack, Terms, end, count, one}
 use Rattle.acpi_term.specs.Row.{row, over, layout, writer_width}
 use Rattle.acpi_term.specs.Spelling.{Spells, arguments}
+use Rattle.acpi_aml.specs.Buffer.{buffer_of_bytes}
 use Rattle.acpi_aml.specs.Builder.{Builder, new_builder, with_elements, package_of}
 use Rattle.acpi_aml.specs.Meaning.{Means}
 
@@ -51,3 +53,15 @@ abbrev pub VarPackagesMean : Type 0
 VarPackagesMean =
     (arity : List ℕ → ℕ) (object : Object) (terms : Terms) → 1 ≤ count terms → Spells arity Count object.front terms
     → Means arity (row varpack (object ∷ [])) (one varpack (writer_width varpack (count terms) object.front) terms)
+
+-- A buffer of bytes, as `BufferData`, `ResourceTemplate` and `Uuid` are, is the buffer of their number and the bytes.
+abbrev pub BuffersMean : Type 0
+BuffersMean =
+    (arity : List ℕ → ℕ) (bytes : List ℕ) → AreBytes bytes
+    → Means arity (buffer_of_bytes bytes) (one (buffer bytes) (writer_width (buffer bytes) 1 (numbers.number (length bytes))) (one (number (length bytes)) (numbers.number_width (length bytes)) end))
+
+-- A buffer of an object that spells one term and has bytes after it is the buffer of this term and these bytes.
+abbrev pub BufferTermsMean : Type 0
+BufferTermsMean =
+    (arity : List ℕ → ℕ) (object : Object) (size rest : List ℕ) (t : Terms) → object.front ≡ size ++ rest → count t ≡ 1 → Spells arity Term size t → AreBytes rest
+    → Means arity (row (buffer []) (object ∷ [])) (one (buffer rest) (writer_width (buffer rest) 1 size) t)

@@ -38,11 +38,11 @@ impl Aml for BufferTerm {
 }
 
 impl BufferTerm {
-    /// `data` writes the size and then the bytes. Its refusal, else PkgLength from 2^28 bytes on.
-    pub fn new(alloc: Global, data: &dyn Aml) -> R<BufferTerm>
-        ensures { Builds result (row (buffer []) (object data.now ∷ [])) }
+    /// `content` writes the size and then the bytes. Its refusal, else PkgLength from 2^28 bytes on.
+    pub fn new(alloc: Global, content: &dyn Aml) -> R<BufferTerm>
+        ensures { Builds result (row (buffer []) (object content.now ∷ [])) }
     {
-        let bytes = boxed(alloc, &[0x11], &[], &[data])?;
+        let bytes = boxed(alloc, &[0x11], &[], &[content])?;
         Ok(BufferTerm { bytes })
     }
 }

@@ -1,6 +1,6 @@
 //! EISA ids.
 
-ghost use Rattle.std.specs.Prelude.{◌≡◌, ◌≤◌, ℕ, IfOk, IfErr, Some, None};
+ghost use Rattle.std.specs.Prelude.{◌≡◌, ◌<◌, ◌≤◌, ◌^◌, ℕ, IfOk, IfErr, Some, None};
 ghost use Rattle.acpi_base.specs.Number.{number};
 ghost use Rattle.acpi_base.specs.Object.{whole, whole_ends_well};
 ghost use Rattle.acpi_aml.specs.Eisa.{packed, eisa_value};
@@ -38,6 +38,7 @@ impl EISAName {
     /// EisaText unless it is that.
     pub fn new(name: &str) -> R<EISAName>
         ensures ok { IfOk result (λ e. eisa_value name.now ≡ Some e) }
+        ensures range { IfOk result (λ e. e < 2 ^ 32) }
         ensures err { IfErr result (λ e. (e ≡ Error.EisaText) × (eisa_value name.now ≡ None)) }
     {
         match eisa(name.as_bytes()) {

@@ -1,7 +1,7 @@
 //! Laws over the definitions that the contracts cite. Each function is a law: it does nothing, and ensures it. What the
 //! constructors mean that are rows is the law of rows, `acpi_term::laws::rows_mean`.
 
-ghost use Rattle.acpi_aml.specs.Laws.{BuildersMakePackages, RawIsScope, NumbersMean, ConstantsMean, TextsMean, NamesMean, BuildersMean, VarPackagesMean};
+ghost use Rattle.acpi_aml.specs.Laws.{BuildersMakePackages, RawIsScope, NumbersMean, ConstantsMean, TextsMean, NamesMean, BuildersMean, VarPackagesMean, BuffersMean, BufferTermsMean};
 
 /// A builder to which elements were added writes their package.
 pub fn builders_make_packages()
@@ -41,4 +41,14 @@ pub fn builders_mean()
 /// A variable package spells the terms of its data.
 pub fn var_packages_mean()
     ensures { VarPackagesMean }
+{}
+
+/// A buffer of bytes spells their number and the bytes.
+pub fn buffers_mean()
+    ensures { BuffersMean }
+{}
+
+/// A buffer of an object spells the first term of its bytes and the bytes after that.
+pub fn buffer_terms_mean()
+    ensures { BufferTermsMean }
 {}

@@ -1,6 +1,7 @@
 //! UUIDs.
 
 ghost use Rattle.std.specs.Prelude.{◌≡◌, ℕ, List, length, IfOk, IfErr, Some, None};
+ghost use Rattle.acpi_base.specs.Bytes.{AreBytes};
 ghost use Rattle.acpi_aml.specs.Buffer.{buffer_of_bytes};
 ghost use Rattle.acpi_aml.specs.EndsWell.{bytes_end_well};
 ghost use Rattle.acpi_aml.specs.Uuid.{is_grouped, uuid_bytes};
@@ -44,6 +45,7 @@ impl Uuid {
     pub fn new(name: &str) -> R<Uuid>
         ensures ok { IfOk result (λ u. uuid_bytes name.now ≡ Some u) }
         ensures size { IfOk result (λ u. length u ≡ 16) }
+        ensures bytes { IfOk result (λ u. AreBytes u) }
         ensures err { IfErr result (λ e. (e ≡ Error.UuidText) × (uuid_bytes name.now ≡ None)) }
     {
         match read_groups(name.as_bytes()) {

@@ -1,9 +1,8 @@
 -- Resource items.
-use Rattle.std.proofs.Common.{◌≡◌, ℕ, ◌+◌, ◌*◌, List, [], ◌∷◌, ◌++◌, length, take, map, Bool, true, false, cond, Some, None, refl, sym, ap, ◌∙◌, arith, append_assoc}
-use Rattle.std.specs.Prelude.{Option, nat_lt}
+use Rattle.std.proofs.Common.{◌≡◌, ℕ, List, [], ◌∷◌, ◌++◌, length, take, map, Bool, true, false, cond, Some, None, refl, sym, ap, ◌∙◌, append_assoc}
+use Rattle.std.specs.Prelude.{nat_lt}
 use Rattle.std.proofs.Math.Seq.{take-append_seam}
-use Rattle.std.proofs.lemmas.List.{append_cancel_left, append-nil}
-use Rattle.acpi_base.specs.declared.error.Error.{Error}
+use Rattle.std.proofs.lemmas.List.{append_cancel_left}
 use Rattle.acpi_base.specs.declared.error.Error.TheVariants.{AddressRange}
 use Rattle.acpi_base.specs.declared.gas.GAS.{GAS}
 use Rattle.acpi_base.specs.Object.{Object, whole, ended, all_of}

@@ -1,10 +1,8 @@
 -- Address spaces (ACPI 6.5, 6.4.3.5).
-use Rattle.std.specs.Prelude.{◌≡◌, ◌≢◌, ℕ, ◌+◌, ◌-◌, ◌*◌, ◌^◌, nat_le, nat_lt, ◌&&◌, Bool, true, false, if◌then◌else◌, List, ◌∷◌, ◌++◌, Option, Some, None}
-use Rattle.acpi_base.specs.declared.error.Error.{Error}
+use Rattle.std.specs.Prelude.{◌≢◌, ℕ, ◌+◌, ◌-◌, ◌*◌, ◌^◌, nat_le, nat_lt, ◌&&◌, Bool, true, false, if◌then◌else◌, List, ◌∷◌, ◌++◌, Option, Some, None}
 use Rattle.acpi_base.specs.declared.error.Error.TheVariants.{Memory, AddressRange}
 use Rattle.acpi_base.specs.Bytes.{le}
 use Rattle.acpi_base.specs.Object.{Object, whole, whole_ends_well, ended}
-use Rattle.acpi_ops.specs.Descriptor.{bit}
 use Rattle.acpi_ops.specs.declared.address_space.AddressSpace.{AddressSpace}
 use Rattle.acpi_ops.specs.declared.address_space.AddressSpaceCacheable.{AddressSpaceCacheable}
 use Rattle.acpi_ops.specs.declared.address_space.AddressSpaceCacheable.TheVariants as cacheable

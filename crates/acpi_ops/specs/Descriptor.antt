@@ -1,5 +1,5 @@
 -- Resource descriptors (ACPI 6.5, 6.4).
-use Rattle.std.specs.Prelude.{ℕ, ◌+◌, ◌*◌, Bool, if◌then◌else◌, List, [], ◌∷◌, ◌++◌}
+use Rattle.std.specs.Prelude.{ℕ, ◌+◌, Bool, if◌then◌else◌, List, [], ◌∷◌, ◌++◌}
 use Rattle.acpi_base.specs.Bytes.{le}
 use Rattle.acpi_base.specs.Gas.{gas_bytes}
 use Rattle.acpi_base.specs.declared.gas.GAS.{GAS}

@@ -1,7 +1,5 @@
-use Rattle.std.proofs.Common.{◌≡◌, length, arith, refl, [], sym, ◌∙◌, Some, None, length-set}
+use Rattle.std.proofs.Common.{arith, refl, [], sym, ◌∙◌, length-set}
 use Rattle.std.proofs.lemmas.List.{length-replicate}
-use Rattle.std.specs.Prelude.{◌*◌, ◌+◌, slice_index}
-use Rattle.acpi_aml.specs.Hex.{hex_byte}
 use Rattle.acpi_aml.proofs.Digits.{read_none, read_more, read_all, read_fails}
 use Rattle.acpi_aml.proofs.hex.hex_bytes.Goals as goal
 
