@@ -1,5 +1,6 @@
 //! What no contract says: bytes from outside, and that each call succeeds where memory is ample.
 
+mod buffers;
 mod objects;
 mod operators;
 mod packages;

@@ -2,9 +2,10 @@
 
 use super::{bytes_of, expect};
 use crate::aml::{ONE, ONES, Usize, ZERO};
-use crate::sdt::Sdt;
+use crate::sdt::{GenericAddress, Sdt};
 use crate::{AmlSink, Checksum, Error, R, u8sum};
 use std::alloc::Global;
+use std::process::Abort;
 use std::test::Fail;
 
 #[test]
@@ -110,5 +111,74 @@ fn short_tables(rt: HostRuntime) -> Result<(), Fail> {
     let long = Sdt::new(rt.alloc(), *b"DSDT", 40, 2, *b"FOOBAR", *b"CAFEDEAD", 1)?;
     assert_eq!(rt; long.len(), 40);
     assert!(rt; long.as_slice().ends_with(&[0, 0, 0, 1, 0, 0, 0, 0]));
+    Ok(())
+}
+
+// The empty block of a length of 36, at whose offset 9 stands the checksum.
+fn checksum_is<RT: Abort>(rt: &RT, table: &Sdt, len: usize, checksum: u8) {
+    assert_eq!(rt; table.len(), len);
+    assert_eq!(rt; table.as_slice().get(9), Some(&checksum));
+}
+
+#[test]
+fn values_at_the_end_and_at_offsets(rt: HostRuntime) -> Result<(), Fail> {
+    let mut table = dsdt(rt.alloc())?;
+    table.append(0x1234u16)?;
+    checksum_is(&rt, &table, 38, 0x17);
+    assert!(rt; 36 < table.len());
+    table.write_u8(36, 0);
+    checksum_is(&rt, &table, 38, 0x4b);
+    table.append([0u8; 0])?;
+    checksum_is(&rt, &table, 38, 0x4b);
+    Ok(())
+}
+
+#[test]
+fn a_length_that_the_caller_wrote(rt: HostRuntime) -> Result<(), Fail> {
+    let mut table = dsdt(rt.alloc())?;
+    table.write_u8(9, 0xff);
+    checksum_is(&rt, &table, 36, 0x5f);
+    table.write_u32(4, 1000);
+    checksum_is(&rt, &table, 36, 0x98);
+    assert_eq!(rt;
+        table.as_slice().get(4..8),
+        Some([0xe8, 0x03, 0x00, 0x00].as_slice())
+    );
+    table.byte(0xaa)?;
+    checksum_is(&rt, &table, 37, 0xb4);
+    assert_eq!(rt; table.as_slice().get(4..8), Some([37, 0, 0, 0].as_slice()));
+    Ok(())
+}
+
+#[test]
+fn values_of_every_width(rt: HostRuntime) -> Result<(), Fail> {
+    let mut table = dsdt(rt.alloc())?;
+    table.append(0x0102_0304_0506_0708u64)?;
+    table.append(0x1122_3344u32)?;
+    table.append(0x99u8)?;
+    table.append(GenericAddress::io_port_address::<u32>(0x3f8))?;
+    assert!(rt;
+        table.as_slice().ends_with(&[
+            8, 7, 6, 5, 4, 3, 2, 1, 0x44, 0x33, 0x22, 0x11, 0x99, 1, 0x20, 0, 3, 0xf8, 3, 0, 0, 0,
+            0, 0, 0
+        ])
+    );
+    Ok(())
+}
+
+#[test]
+fn values_written_over(rt: HostRuntime) -> Result<(), Fail> {
+    let mut table = Sdt::new(rt.alloc(), *b"SSDT", 60, 2, *b"FOOBAR", *b"CAFEDEAD", 1)?;
+    table.write(36, GenericAddress::mmio_address::<u64>(0x1000));
+    table.write_u16(48, 0x1234);
+    table.write_u64(50, 0x0102_0304_0506_0708);
+    table.write_bytes(58, &[0xab, 0xcd]);
+    assert!(rt;
+        table.as_slice().ends_with(&[
+            0, 0x40, 0, 4, 0, 0x10, 0, 0, 0, 0, 0, 0, 0x34, 0x12, 8, 7, 6, 5, 4, 3, 2, 1, 0xab,
+            0xcd
+        ])
+    );
+    assert_eq!(rt; u8sum(&table)?, 0);
     Ok(())
 }

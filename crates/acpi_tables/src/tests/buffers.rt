@@ -1,0 +1,269 @@
+//! Buffers, ids and resource descriptors, byte for byte.
+
+use super::{expect, writes};
+use crate::aml::{
+    AddressSpace, AddressSpaceCacheable, BufferData, BufferTerm, Device, EISAName, IO, Interrupt,
+    Memory32Fixed, Name, Path, Register, ResourceTemplate, Uuid,
+};
+use crate::gas::{self, AccessSize, GAS};
+use crate::sdt::{Sdt, append_object};
+use crate::{Aml, Error, R};
+use std::alloc::Global;
+use std::process::Abort;
+use std::test::Fail;
+
+#[test]
+fn buffers(rt: HostRuntime) -> Result<(), Fail> {
+    let alloc = rt.alloc();
+    writes(
+        &rt,
+        alloc,
+        BufferData::new(Vec::new(alloc)),
+        &[0x11, 0x02, 0x00],
+    )?;
+    writes(
+        &rt,
+        alloc,
+        BufferData::new(vec![in alloc; 1u8, 2]?),
+        &[0x11, 0x05, 0x0a, 0x02, 0x01, 0x02],
+    )?;
+    writes(
+        &rt,
+        alloc,
+        BufferTerm::new(alloc, &2u8),
+        &[0x11, 0x03, 0x0a, 0x02],
+    )?;
+    writes(
+        &rt,
+        alloc,
+        ResourceTemplate::new(Vec::new(alloc)),
+        &[0x11, 0x05, 0x0a, 0x02, 0x79, 0x00],
+    )
+}
+
+fn refuses_id<RT: Abort>(rt: &RT, text: &str) {
+    assert_eq!(rt; EISAName::new(text).err(), Some(Error::EisaText));
+}
+
+#[test]
+fn eisa_ids(rt: HostRuntime) -> Result<(), Fail> {
+    let alloc = rt.alloc();
+    writes(
+        &rt,
+        alloc,
+        EISAName::new("PNP0A03"),
+        &[0x0c, 0x41, 0xd0, 0x0a, 0x03],
+    )?;
+    writes(
+        &rt,
+        alloc,
+        EISAName::new("PNP0a03"),
+        &[0x0c, 0x41, 0xd0, 0x0a, 0x03],
+    )?;
+    writes(
+        &rt,
+        alloc,
+        EISAName::new("PNP0501"),
+        &[0x0c, 0x41, 0xd0, 0x05, 0x01],
+    )?;
+    writes(&rt, alloc, EISAName::new("PNP0000"), &[0x0b, 0x41, 0xd0])?;
+    refuses_id(&rt, "pnp0A03");
+    refuses_id(&rt, "PNP0A0");
+    refuses_id(&rt, "PNP0A03F");
+    refuses_id(&rt, "PNP0A0G");
+    Ok(())
+}
+
+fn refuses_uuid<RT: Abort>(rt: &RT, text: &str) {
+    assert_eq!(rt; Uuid::new(text).err(), Some(Error::UuidText));
+}
+
+#[test]
+fn uuids(rt: HostRuntime) -> Result<(), Fail> {
+    let alloc = rt.alloc();
+    let wanted = [
+        0x11, 0x13, 0x0a, 0x10, 0x5b, 0x4d, 0xdb, 0x33, 0xf7, 0x1f, 0x1c, 0x40, 0x96, 0x57, 0x74,
+        0x41, 0xc0, 0x3d, 0xd7, 0x66,
+    ];
+    writes(
+        &rt,
+        alloc,
+        Uuid::new("33DB4D5B-1FF7-401C-9657-7441C03DD766"),
+        &wanted,
+    )?;
+    writes(
+        &rt,
+        alloc,
+        Uuid::new("33db4d5b-1ff7-401c-9657-7441c03dd766"),
+        &wanted,
+    )?;
+    refuses_uuid(&rt, "33DB4D5B-1FF7-401C-9657-7441C03DD76");
+    refuses_uuid(&rt, "33DB4D5B-1FF7-401C-9657-7441C03DD7666");
+    refuses_uuid(&rt, "33DB4D5B-1FF7-401C-9657 7441C03DD766");
+    refuses_uuid(&rt, "33DB4D5G-1FF7-401C-9657-7441C03DD766");
+    Ok(())
+}
+
+#[test]
+fn registers(rt: HostRuntime) -> Result<(), Fail> {
+    let alloc = rt.alloc();
+    let register = Register::new(GAS::new(
+        gas::AddressSpace::SystemMemory,
+        32,
+        0,
+        AccessSize::DwordAccess,
+        0x1000,
+    ));
+    let inside: Vec<&dyn Aml> = vec![in alloc; &register as &dyn Aml]?;
+    let wanted = [
+        0x11, 0x14, 0x0a, 0x11, 0x82, 0x0c, 0x00, 0x00, 0x20, 0x00, 0x03, 0x00, 0x10, 0x00, 0x00,
+        0x00, 0x00, 0x00, 0x00, 0x79, 0x00,
+    ];
+    writes(&rt, alloc, ResourceTemplate::new(inside), &wanted)?;
+    let config = GAS::new_pci_config(16, AccessSize::WordAccess, 31, 7, 0x40);
+    expect(
+        &rt,
+        alloc,
+        &config,
+        &[
+            0x02, 0x10, 0x00, 0x02, 0x40, 0x00, 0x07, 0x00, 0x1f, 0x00, 0x00, 0x00,
+        ],
+    )
+}
+
+#[test]
+fn descriptors(rt: HostRuntime) -> Result<(), Fail> {
+    let alloc = rt.alloc();
+    expect(
+        &rt,
+        alloc,
+        &Interrupt::new(true, true, false, false, 4),
+        &[0x89, 0x06, 0x00, 0x03, 0x01, 0x04, 0x00, 0x00, 0x00],
+    )?;
+    expect(
+        &rt,
+        alloc,
+        &Interrupt::new(true, true, true, true, u32::MAX),
+        &[0x89, 0x06, 0x00, 0x0f, 0x01, 0xff, 0xff, 0xff, 0xff],
+    )?;
+    expect(
+        &rt,
+        alloc,
+        &IO::new(0x3f8, 0x3f8, 0, 8),
+        &[0x47, 0x01, 0xf8, 0x03, 0xf8, 0x03, 0x00, 0x08],
+    )?;
+    expect(
+        &rt,
+        alloc,
+        &Memory32Fixed::new(true, 0xfed0_0000, 0x400),
+        &[
+            0x86, 0x09, 0x00, 0x01, 0x00, 0x00, 0xd0, 0xfe, 0x00, 0x04, 0x00, 0x00,
+        ],
+    )
+}
+
+fn refuses_range<RT: Abort>(rt: &RT, alloc: Global, aml: &dyn Aml) -> Result<(), Fail> {
+    let mut bytes = Vec::new(alloc);
+    assert_eq!(rt; aml.to_aml_bytes(&mut bytes), Err(Error::AddressRange));
+    assert_eq!(rt; bytes.len(), 0);
+    Ok(())
+}
+
+#[test]
+fn address_spaces(rt: HostRuntime) -> Result<(), Fail> {
+    let alloc = rt.alloc();
+    let bus = AddressSpace::new_bus_number(0u16, 0xff);
+    expect(
+        &rt,
+        alloc,
+        &bus,
+        &[
+            0x88, 0x0d, 0x00, 0x02, 0x0c, 0x00, 0x00, 0x00, 0x00, 0x00, 0xff, 0x00, 0x00, 0x00,
+            0x00, 0x01,
+        ],
+    )?;
+    let memory = AddressSpace::new_memory(
+        AddressSpaceCacheable::Cacheable,
+        true,
+        0xc000_0000u32,
+        0xc000_ffff,
+        Some(1),
+    );
+    expect(
+        &rt,
+        alloc,
+        &memory,
+        &[
+            0x87, 0x17, 0x00, 0x00, 0x0c, 0x03, 0, 0, 0, 0, 0x00, 0x00, 0x00, 0xc0, 0xff, 0xff,
+            0x00, 0xc0, 1, 0, 0, 0, 0x00, 0x00, 0x01, 0x00,
+        ],
+    )?;
+    refuses_range(&rt, alloc, &AddressSpace::new_io(0u16, 0xffff, None))?;
+    refuses_range(&rt, alloc, &AddressSpace::new_io(5u16, 4, None))?;
+    refuses_range(&rt, alloc, &AddressSpace::new_io(0u64, u64::MAX, None))
+}
+
+#[test]
+fn ranges_of_one_and_of_all_but_one(rt: HostRuntime) -> Result<(), Fail> {
+    let alloc = rt.alloc();
+    let one = AddressSpace::new_io(5u16, 5, None);
+    expect(
+        &rt,
+        alloc,
+        &one,
+        &[
+            0x88, 0x0d, 0x00, 0x01, 0x0c, 0x03, 0x00, 0x00, 0x05, 0x00, 0x05, 0x00, 0x00, 0x00,
+            0x01, 0x00,
+        ],
+    )?;
+    let most = AddressSpace::new_io(1u16, 0xffff, None);
+    expect(
+        &rt,
+        alloc,
+        &most,
+        &[
+            0x88, 0x0d, 0x00, 0x01, 0x0c, 0x03, 0x00, 0x00, 0x01, 0x00, 0xff, 0xff, 0x00, 0x00,
+            0xff, 0xff,
+        ],
+    )
+}
+
+const COM1: [u8; 50] = [
+    0x5b, 0x82, 0x30, 0x2e, 0x5f, 0x53, 0x42, 0x5f, 0x43, 0x4f, 0x4d, 0x31, 0x08, 0x5f, 0x48, 0x49,
+    0x44, 0x0c, 0x41, 0xd0, 0x05, 0x01, 0x08, 0x5f, 0x43, 0x52, 0x53, 0x11, 0x16, 0x0a, 0x13, 0x89,
+    0x06, 0x00, 0x03, 0x01, 0x04, 0x00, 0x00, 0x00, 0x47, 0x01, 0xf8, 0x03, 0xf8, 0x03, 0x00, 0x08,
+    0x79, 0x00,
+];
+
+fn com1(alloc: Global) -> R<Device> {
+    let id = Name::new(Path::new(alloc, "_HID")?, &EISAName::new("PNP0501")?)?;
+    let (interrupt, ports) = (
+        Interrupt::new(true, true, false, false, 4),
+        IO::new(0x3f8, 0x3f8, 0, 8),
+    );
+    let resources = ResourceTemplate::new(vec![in alloc; &interrupt as &dyn Aml, &ports]?)?;
+    let current = Name::new(Path::new(alloc, "_CRS")?, &resources)?;
+    Device::new(
+        Path::new(alloc, "_SB_.COM1")?,
+        vec![in alloc; &id as &dyn Aml, &current]?,
+    )
+}
+
+#[test]
+fn a_serial_port(rt: HostRuntime) -> Result<(), Fail> {
+    let alloc = rt.alloc();
+    writes(&rt, alloc, com1(alloc), &COM1)?;
+    let mut table = Sdt::new(
+        alloc,
+        *b"DSDT",
+        36,
+        2,
+        *b"FOOBAR",
+        *b"CAFEDEAD",
+        0xdead_beef,
+    )?;
+    append_object(&com1(alloc)?, &mut table)?;
+    assert_eq!(rt; table.len(), 86);
+    assert_eq!(rt; table.as_slice().get(9), Some(&0x47));
+    Ok(())
+}
