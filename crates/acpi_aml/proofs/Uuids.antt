@@ -4,6 +4,7 @@ use Rattle.std.specs.Prelude.{Option, IsTrue, nat_le, ◌&&◌, slice_range}
 use Rattle.std.proofs.lemmas.List.{reverse-append}
 use Rattle.std.proofs.lemmas.Bool.Decides.{nat_tests}
 use Rattle.acpi_base.specs.Bytes.{AreBytes}
+use Rattle.acpi_term.proofs.Bytes.{bytes_both}
 use Rattle.acpi_aml.specs.Hex.{hex_digit, paired, hex_byte, led, hex_bytes}
 use Rattle.acpi_aml.specs.Uuid.{is_grouped, grouped, uuid_bytes}
 
@@ -44,20 +45,16 @@ hex_are_bytes [] bytes h = let e : [] ≡ bytes = cc in subst AreBytes e tt
 hex_are_bytes (odd ∷ []) bytes h = absurd cc
 hex_are_bytes (high ∷ low ∷ more) bytes h = led_bytes (hex_byte high low) (hex_bytes more) bytes (byte_small high low) (hex_are_bytes more) h
 
-joined : (a b : List ℕ) → AreBytes a → AreBytes b → AreBytes (a ++ b)
-joined [] b first second = second
-joined (x ∷ a) b first second = (first.0, joined a b first.1 second)
-
 turned : (a : List ℕ) → AreBytes a → AreBytes (reverse a)
 turned [] is = tt
-turned (x ∷ a) is = subst AreBytes (sym (reverse-append (x ∷ []) a)) (joined (reverse a) (x ∷ []) (turned a is.1) (is.0, tt))
+turned (x ∷ a) is = subst AreBytes (sym (reverse-append (x ∷ []) a)) (bytes_both (reverse a) (x ∷ []) (turned a is.1) (is.0, tt))
 
 grouped_bytes : (a b c d e : Option (List ℕ)) (u : List ℕ) → ((l : List ℕ) → a ≡ Some l → AreBytes l) → ((l : List ℕ) → b ≡ Some l → AreBytes l) → ((l : List ℕ) → c ≡ Some l → AreBytes l)
     → ((l : List ℕ) → d ≡ Some l → AreBytes l) → ((l : List ℕ) → e ≡ Some l → AreBytes l) → grouped a b c d e ≡ Some u → AreBytes u
 grouped_bytes (Some a) (Some b) (Some c) (Some d) (Some e) u p q r s t h =
     let k : reverse a ++ (reverse b ++ (reverse c ++ (d ++ e))) ≡ u = cc in
     subst AreBytes k
-    (joined (reverse a) _ (turned a (p a refl)) (joined (reverse b) _ (turned b (q b refl)) (joined (reverse c) _ (turned c (r c refl)) (joined d e (s d refl) (t e refl)))))
+    (bytes_both (reverse a) _ (turned a (p a refl)) (bytes_both (reverse b) _ (turned b (q b refl)) (bytes_both (reverse c) _ (turned c (r c refl)) (bytes_both d e (s d refl) (t e refl)))))
 grouped_bytes None b c d e u p q r s t h = absurd cc
 grouped_bytes (Some a) None c d e u p q r s t h = absurd cc
 grouped_bytes (Some a) (Some b) None d e u p q r s t h = absurd cc

@@ -1,6 +1,7 @@
 -- What holds of the definitions, whatever calls there are.
-use Rattle.std.specs.Prelude.{◌≡◌, ℕ, Bool, List, [], ◌∷◌, ◌++◌, length, map, None}
+use Rattle.std.specs.Prelude.{◌≡◌, ℕ, ◌<◌, Bool, List, [], ◌∷◌, ◌++◌, length, map, None}
 use Rattle.acpi_base.specs.declared.gas.GAS.{GAS}
+use Rattle.acpi_base.specs.Bytes.{AreBytes}
 use Rattle.acpi_base.specs.Object.{Object, all_of}
 use Rattle.acpi_term.specs.declared.mode.Mode.{Mode}
 use Rattle.acpi_term.specs.declared.mode.Mode.TheVariants.{Term}
@@ -11,7 +12,7 @@ use Rattle.acpi_term.specs.Operator.{operands}
 use Rattle.acpi_term.specs.Row.{row}
 use Rattle.acpi_term.specs.Spelling.{SpellEach, Spells}
 use Rattle.acpi_ops.specs.declared.address_space.AddressSpace.{AddressSpace}
-use Rattle.acpi_ops.specs.AddressSpace.{space}
+use Rattle.acpi_ops.specs.AddressSpace as spaces
 use Rattle.acpi_ops.specs.Descriptor.{fixed_bytes, port_bytes, interrupt_bytes, register_bytes}
 use Rattle.acpi_ops.specs.Item.{IsItem, AreItems, SplitsInto}
 
@@ -34,9 +35,9 @@ pub record DescriptorsAreItems : Type 0 where
   pub port : (min max alignment size : ℕ) → IsItem (port_bytes min max alignment size)
   pub interrupt : (flags number : ℕ) → IsItem (interrupt_bytes flags number)
   pub register : (gas : GAS) → IsItem (register_bytes gas)
-  pub word : (a : AddressSpace ℕ) → (space 136 2 a).end ≡ None → IsItem (space 136 2 a).front
-  pub dword : (a : AddressSpace ℕ) → (space 135 4 a).end ≡ None → IsItem (space 135 4 a).front
-  pub qword : (a : AddressSpace ℕ) → (space 138 8 a).end ≡ None → IsItem (space 138 8 a).front
+  pub word : (a : AddressSpace ℕ) → (spaces.space 136 2 a).end ≡ None → IsItem (spaces.space 136 2 a).front
+  pub dword : (a : AddressSpace ℕ) → (spaces.space 135 4 a).end ≡ None → IsItem (spaces.space 135 4 a).front
+  pub qword : (a : AddressSpace ℕ) → (spaces.space 138 8 a).end ≡ None → IsItem (spaces.space 138 8 a).front
 
 -- The bytes of whole descriptors and the end tag split into these, each an item, and the end tag. These are the bytes
 -- that a resource template has in its buffer.
@@ -44,3 +45,11 @@ abbrev pub TemplatesSplit : Type 0
 TemplatesSplit =
     (objects : List Object) → (all_of objects).end ≡ None → AreItems (map (λ o. o.front) objects)
     → SplitsInto ((all_of objects).front ++ 121 ∷ 0 ∷ []) (map (λ o. o.front) objects ++ (121 ∷ 0 ∷ []) ∷ [])
+
+-- Each descriptor is bytes, where its fields of one byte are.
+pub record DescriptorsAreBytes : Type 0 where
+  pub fixed : (read_write : Bool) (base size : ℕ) → AreBytes (fixed_bytes read_write base size)
+  pub port : (min max alignment size : ℕ) → alignment < 256 → size < 256 → AreBytes (port_bytes min max alignment size)
+  pub interrupt : (flags number : ℕ) → flags < 256 → AreBytes (interrupt_bytes flags number)
+  pub register : (gas : GAS) → gas.register_bit_width < 256 → gas.register_bit_offset < 256 → AreBytes (register_bytes gas)
+  pub space : (tag w : ℕ) (a : AddressSpace ℕ) → tag < 256 → a.kind < 256 → a.flags < 256 → AreBytes (spaces.space tag w a).front
