@@ -55,4 +55,4 @@ expect "status $status" 'status 1'
 
 line=$("$read" table "$work/namespace") || true
 echo "$line"
-expect "$line" 'DSDT length 87 revision 2 sum 0'
+expect "$line" 'DSDT length 137 revision 2 sum 0'
