@@ -1,5 +1,5 @@
 -- Packages that grow.
-use Rattle.std.specs.Prelude.{◌≡◌, ℕ, ◌+◌, nat_lt, if◌then◌else◌, List, [], ◌∷◌, ◌++◌, true, Option, Some, None, IsTrue, refl}
+use Rattle.std.specs.Prelude.{ℕ, ◌+◌, nat_lt, if◌then◌else◌, List, [], ◌∷◌, ◌++◌, true, Some, None, IsTrue, refl}
 use Rattle.acpi_base.specs.declared.error.Error.TheVariants.{PackageElements}
 use Rattle.acpi_base.specs.Sink.{Meaning}
 use Rattle.acpi_base.specs.Object.{Object, ended}
