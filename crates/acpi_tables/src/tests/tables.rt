@@ -136,17 +136,16 @@ fn values_at_the_end_and_at_offsets(rt: HostRuntime) -> Result<(), Fail> {
 #[test]
 fn a_length_that_the_caller_wrote(rt: HostRuntime) -> Result<(), Fail> {
     let mut table = dsdt(rt.alloc())?;
+    assert_eq!(rt; table.len(), 36);
     table.write_u8(9, 0xff);
     checksum_is(&rt, &table, 36, 0x5f);
+    assert_eq!(rt; table.len(), 36);
     table.write_u32(4, 1000);
     checksum_is(&rt, &table, 36, 0x98);
-    assert_eq!(rt;
-        table.as_slice().get(4..8),
-        Some([0xe8, 0x03, 0x00, 0x00].as_slice())
-    );
+    assert!(rt; table.as_slice().starts_with(b"DSDT\xe8\x03\0\0"));
     table.byte(0xaa)?;
     checksum_is(&rt, &table, 37, 0xb4);
-    assert_eq!(rt; table.as_slice().get(4..8), Some([37, 0, 0, 0].as_slice()));
+    assert!(rt; table.as_slice().starts_with(b"DSDT\x25\0\0\0"));
     Ok(())
 }
 
@@ -169,9 +168,13 @@ fn values_of_every_width(rt: HostRuntime) -> Result<(), Fail> {
 #[test]
 fn values_written_over(rt: HostRuntime) -> Result<(), Fail> {
     let mut table = Sdt::new(rt.alloc(), *b"SSDT", 60, 2, *b"FOOBAR", *b"CAFEDEAD", 1)?;
+    assert_eq!(rt; table.len(), 60);
     table.write(36, GenericAddress::mmio_address::<u64>(0x1000));
+    assert_eq!(rt; table.len(), 60);
     table.write_u16(48, 0x1234);
+    assert_eq!(rt; table.len(), 60);
     table.write_u64(50, 0x0102_0304_0506_0708);
+    assert_eq!(rt; table.len(), 60);
     table.write_bytes(58, &[0xab, 0xcd]);
     assert!(rt;
         table.as_slice().ends_with(&[
