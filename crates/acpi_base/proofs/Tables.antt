@@ -180,9 +180,9 @@ sum_extended b a r r' long before now =
     omega (arith, before, now, ap sum (put-append 9 (0 ∷ []) b a (omega arith)), sum_by-append (λ v. v) (put 9 (0 ∷ []) b) a)
 
 -- the same of all bytes, without a length
-pub sum_all_is : (b c0 : List ℕ) (r s : ℕ) → 36 ≤ length b → c0 ≡ put 9 (0 ∷ []) b → r ≡ sum c0 % 256 → s ≡ (256 - r) % 256
+pub seal_is : (b c0 : List ℕ) (r s : ℕ) → 36 ≤ length b → c0 ≡ put 9 (0 ∷ []) b → r ≡ sum c0 % 256 → s ≡ (256 - r) % 256
     → (put 9 (s ∷ []) c0 ≡ with_checksum b) × (r ≡ sum (put 9 (0 ∷ []) (put 9 (s ∷ []) c0)) % 256)
-sum_all_is b c0 r s long is0 sums complements =
+seal_is b c0 r s long is0 sums complements =
     let size0 : length c0 ≡ length b = ap length is0 ∙ length-put 9 (0 ∷ []) b (omega arith) in
     let over : put 9 (s ∷ []) c0 ≡ put 9 (s ∷ []) b = ap (put 9 (s ∷ [])) is0 ∙ put-put 9 (s ∷ []) (0 ∷ []) b refl (omega arith) in
     let same : s ≡ complement (sum (put 9 (0 ∷ []) b)) = omega (arith, complements, sums, ap sum is0) in

@@ -7,6 +7,7 @@ pub mod checksum;
 pub mod constant;
 pub mod error;
 pub mod gas;
+pub mod header;
 pub mod laws;
 pub mod number;
 pub mod object;

@@ -8,6 +8,7 @@ ghost use Rattle.acpi_base.specs.Sink.{Took, Refused};
 ghost use Rattle.acpi_base.specs.Sdt.{with_checksum, added, sdt_of, sdt_takes_nothing, sdt_takes_beginning};
 
 use crate::error::{Error, R};
+use crate::header::{header, seal};
 use crate::object::Aml;
 use crate::patch::{patch, write_at};
 use crate::sink::AmlSink;
@@ -15,12 +16,6 @@ use crate::sum::Sum;
 use crate::value::SdtValue;
 use std::alloc::Global;
 use std::marker::Model;
-
-/// Who made a table: the creator's id in the standard header (ACPI 6.5, 5.2.6, offset 28).
-pub const CREATOR_ID: [u8; 4] = *b"RVAT";
-
-/// The creator's revision in the standard header (offset 32).
-pub const CREATOR_REVISION: [u8; 4] = [0, 0, 0, 1];
 
 /// A table: the standard header (ACPI 6.5, 5.2.6), and bytes of the caller's behind it. Its checksum is true after
 /// every call, and its length after every call that adds bytes.
@@ -78,31 +73,16 @@ impl Aml for Sdt {
     }
 }
 
-// The standard header with a checksum of zero, and zeros up to the size.
-fn header_and_zeros(
-    alloc: Global,
-    signature: [u8; 4],
-    size: u32,
-    revision: u8,
-    oem_id: [u8; 6],
-    oem_table: [u8; 8],
-    oem_revision: u32,
-) -> R<Vec<u8>>
-    requires { 36 ≤ size }
-    ensures bytes { IfOk result (λ v. v.items ≡ header signature size revision oem_id oem_table oem_revision ++ replicate (size - 36) 0) }
+// A header, and zeros up to the size.
+fn with_zeros(alloc: Global, header: &[u8], size: usize) -> R<Vec<u8>>
+    requires { length header.now ≤ size }
+    ensures bytes { IfOk result (λ v. v.items ≡ header.now ++ replicate (size - length header.now) 0) }
     ensures len { IfOk result (λ v. length v.items ≡ size) }
     ensures err { IfErr result (λ e. e ≡ Error.Memory) }
 {
-    let mut bytes = Vec::with_capacity(alloc, size as usize)?;
-    bytes.extend_from_slice(&signature)?;
-    bytes.extend_from_slice(&size.to_le_bytes())?;
-    bytes.extend_from_slice(&[revision, 0])?;
-    bytes.extend_from_slice(&oem_id)?;
-    bytes.extend_from_slice(&oem_table)?;
-    bytes.extend_from_slice(&oem_revision.to_le_bytes())?;
-    bytes.extend_from_slice(&CREATOR_ID)?;
-    bytes.extend_from_slice(&CREATOR_REVISION)?;
-    bytes.resize(size as usize, 0)?;
+    let mut bytes = Vec::with_capacity(alloc, size)?;
+    bytes.extend_from_slice(header)?;
+    bytes.resize(size, 0)?;
     Ok(bytes)
 }
 
@@ -135,19 +115,6 @@ fn overwrite(bytes: &mut [u8], running: &mut Sum, offset: usize, with: &[u8])
     write_at(bytes, 9, &[running.checksum()]);
 }
 
-// Makes the checksum true, and answers the sum of all other bytes.
-fn sum_all(bytes: &mut [u8]) -> Sum
-    requires { 36 ≤ length bytes.old }
-    ensures bytes { bytes.new ≡ with_checksum bytes.old }
-    ensures sum { result.value ≡ sum (put 9 (0 ∷ []) bytes.new) % 256 }
-{
-    write_at(bytes, 9, &[0]);
-    let mut running = Sum::new();
-    running.add(bytes);
-    write_at(bytes, 9, &[running.checksum()]);
-    running
-}
-
 impl Sdt {
     /// A table of `length` bytes: the standard header, and zeros up to that length. ShortTable below 36.
     pub fn new(
@@ -167,16 +134,9 @@ impl Sdt {
         if length < 36 {
             return Err(Error::ShortTable);
         }
-        let mut bytes = header_and_zeros(
-            alloc,
-            signature,
-            length,
-            revision,
-            oem_id,
-            oem_table,
-            oem_revision,
-        )?;
-        let sum = sum_all(&mut bytes);
+        let header = header(signature, length, revision, oem_id, oem_table, oem_revision);
+        let mut bytes = with_zeros(alloc, &header, length as usize)?;
+        let sum = seal(&mut bytes);
         Ok(Sdt { bytes, sum })
     }
 

@@ -8,7 +8,7 @@ use Rattle.acpi_base.specs.Sdt.{with_checksum}
 use Rattle.acpi_base.proofs.Tables.{sum-with_checksum, length-with_checksum}
 use Rattle.acpi_fixed.specs.declared.fadt.FADT.{FADT}
 use Rattle.acpi_fixed.specs.declared.fadt.FADTBuilder.{FADTBuilder}
-use Rattle.acpi_fixed.specs.declared.header.Oem.{Oem}
+use Rattle.acpi_fixed.specs.declared.oem.Oem.{Oem}
 use Rattle.acpi_fixed.specs.declared.tpm2.LogArea.{LogArea}
 use Rattle.acpi_fixed.specs.declared.tpm2.Tpm2.{Tpm2}
 use Rattle.acpi_fixed.specs.Fadt.{builder_bytes, fadt_bytes}

@@ -5,7 +5,7 @@ use Rattle.acpi_base.specs.Sdt.{with_checksum}
 use Rattle.acpi_base.specs.declared.gas.GAS.{GAS}
 use Rattle.acpi_base.specs.declared.gas.AddressSpace.TheVariants.{SystemMemory}
 use Rattle.acpi_base.specs.declared.gas.AccessSize.TheVariants.{Undefined}
-use Rattle.acpi_fixed.specs.declared.header.Oem.{Oem}
+use Rattle.acpi_fixed.specs.declared.oem.Oem.{Oem}
 
 -- a row of one byte
 abbrev pub byte : ℕ → List ℕ

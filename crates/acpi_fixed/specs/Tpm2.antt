@@ -5,7 +5,7 @@ use Rattle.acpi_base.specs.Gas.{gas_bytes}
 use Rattle.acpi_base.specs.declared.error.Error.{Error}
 use Rattle.acpi_base.specs.declared.error.Error.TheVariants.{LogAreaSet}
 use Rattle.acpi_fixed.specs.Layout.{byte, table, no_register}
-use Rattle.acpi_fixed.specs.declared.header.Oem.{Oem}
+use Rattle.acpi_fixed.specs.declared.oem.Oem.{Oem}
 use Rattle.acpi_fixed.specs.declared.tpm2.PlatformClass.{PlatformClass}
 use Rattle.acpi_fixed.specs.declared.tpm2.PlatformClass.TheVariants.{Client, Server}
 use Rattle.acpi_fixed.specs.declared.tpm2.StartMethod.{StartMethod}

@@ -3,12 +3,11 @@
 ghost use Rattle.std.specs.Prelude.{◌≡◌, bit_or, length};
 ghost use Rattle.acpi_base.specs.Object.{whole, whole_ends_well};
 
-use crate::header::seal;
 use acpi_base::error::R;
 use acpi_base::gas::GAS;
+use acpi_base::header::{CREATOR_ID, CREATOR_REVISION, seal};
 use acpi_base::object::Aml;
 use acpi_base::record::{Row, record};
-use acpi_base::sdt::{CREATOR_ID, CREATOR_REVISION};
 use acpi_base::sink::AmlSink;
 
 /// Fixed feature flags (ACPI 6.5, 5.2.9, table 5.10). Bits 1 to 3, 7, 8, 13, 14, 16 and 17 are ignored where the

@@ -4,8 +4,8 @@
 pub mod bert;
 pub mod facs;
 pub mod fadt;
-pub mod header;
 pub mod laws;
+mod oem;
 pub mod rsdp;
 pub mod spcr;
 #[cfg(test)]

@@ -3,9 +3,10 @@
 ghost use Rattle.std.specs.Prelude.{◌≡◌, ◌<◌, bit_or, Some, None, OnOk, IfErr};
 ghost use Rattle.acpi_base.specs.Object.{whole, whole_ends_well};
 
-use crate::header::{Oem, seal};
+use crate::oem::Oem;
 use acpi_base::error::{Error, R};
 use acpi_base::gas::GAS;
+use acpi_base::header::seal;
 use acpi_base::object::Aml;
 use acpi_base::record::{Row, record};
 use acpi_base::sink::AmlSink;

@@ -5,5 +5,5 @@ use Rattle.acpi_base.proofs.sdt.Sdt.new.Goals as goal
 pub invariant_of-result : goal.invariant_of-result
 invariant_of-result c =
     let size : length c.deref_mut.result.now ≡ c.args.length = ap length c.deref_mut.ensures.value ∙ c.in_ok-bytes.ensures.len in
-    rw (written_back _ c.sum_all-sum.new.bytes c.in_ok-bytes.bytes.items (c.sum_all-sum.auto.bytes ∙ c.deref_mut.ensures.len))
-    (sealed_table _ _ _ c.sum_all-sum.ensures.bytes (omega (arith, size, c.if-length-lt36.false)) (omega (arith, size, c.ranges.length.fits)) c.sum_all-sum.ensures.sum)
+    rw (written_back _ c.seal-sum.new.bytes c.in_ok-bytes.bytes.items (c.seal-sum.auto.bytes ∙ c.deref_mut.ensures.len))
+    (sealed_table _ _ _ c.seal-sum.ensures.bytes (omega (arith, size, c.if-length-lt36.false)) (omega (arith, size, c.ranges.length.fits)) c.seal-sum.ensures.sum)
