@@ -1,3 +1,9 @@
 pub mod Field
 pub mod Table
+pub mod Cause
+pub mod Opened
+pub mod Terms
 pub mod Report
+pub mod Lines
+pub mod Size
+pub mod Laws

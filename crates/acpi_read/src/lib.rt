@@ -1,5 +1,9 @@
-//! Reading: checked tables, and what is told of them as text.
+//! Reading: checked tables, terms of AML, and what is told of both as text.
 #![tactic(auto)]
 
+pub mod laws;
 pub mod report;
 pub mod table;
+pub mod terms;
+#[cfg(test)]
+mod tests;

@@ -50,10 +50,10 @@ path_one : (s : List ℕ) → IsSegment s → IsPath s
 path_one s p = rw p.is (single (one_more p.good no_more))
 
 -- a byte and what is read after it
-headed : (b k : ℕ) (more s rest : List ℕ) → b ≡ k → more ≡ s ++ rest → b ∷ more ≡ k ∷ s ++ rest
+pub headed : (b k : ℕ) (more s rest : List ℕ) → b ≡ k → more ≡ s ++ rest → b ∷ more ≡ k ∷ s ++ rest
 headed b k more s rest e f = rw (e, f) refl
 
-two_parts : (b : ℕ) (more s r t rest : List ℕ) → b ≡ 46 → more ≡ s ++ r → r ≡ t ++ rest → b ∷ more ≡ (46 ∷ s ++ t) ++ rest
+pub two_parts : (b : ℕ) (more s r t rest : List ℕ) → b ≡ 46 → more ≡ s ++ r → r ≡ t ++ rest → b ∷ more ≡ (46 ∷ s ++ t) ++ rest
 two_parts b more s r t rest e f g = rw (e, f, g) (ap (λ (l : List ℕ). 46 ∷ l) (sym (append_assoc s t rest)))
 
 -- a count of segments
@@ -61,7 +61,7 @@ two_parts b more s r t rest e f g = rw (e, f, g) (ap (λ (l : List ℕ). 46 ∷ 
 segments_one : (n : ℕ) (s t : List ℕ) → IsSegment s → AreSegments n t → AreSegments (suc n) (s ++ t)
 segments_one n s t p q = rw p.is (one_more p.good q)
 
-segments_takes : (n : ℕ) (bytes s rest : List ℕ) → segments_at n bytes ≡ Ok (s, rest) → AreSegments n s × (bytes ≡ s ++ rest)
+pub segments_takes : (n : ℕ) (bytes s rest : List ℕ) → segments_at n bytes ≡ Ok (s, rest) → AreSegments n s × (bytes ≡ s ++ rest)
 unfolding segments_at
 segments_takes zero bytes s rest e = subst (λ (p : List ℕ × List ℕ). AreSegments 0 p.0 × (bytes ≡ p.0 ++ p.1)) (ok_is {A = List ℕ × List ℕ} ([], bytes) (s, rest) e) (no_more, refl)
 segments_takes (suc n) bytes s rest e =
@@ -78,7 +78,7 @@ unfolding segments_at
 segments_again n s rest no_more = refl
 segments_again n s rest (one_more {n = k} {s = t} h p) = rw (h, segments_again k t rest p) refl
 
-many_parts : (b n : ℕ) (after s rest : List ℕ) → b ≡ 47 → after ≡ s ++ rest → b ∷ n ∷ after ≡ (47 ∷ n ∷ s) ++ rest
+pub many_parts : (b n : ℕ) (after s rest : List ℕ) → b ≡ 47 → after ≡ s ++ rest → b ∷ n ∷ after ≡ (47 ∷ n ∷ s) ++ rest
 many_parts b n after s rest is e = rw (is, e) refl
 
 many_takes : (b : ℕ) (after s rest : List ℕ) → b ≡ 47 → AreBytes after → several_at after ≡ Ok (s, rest) → IsPath s × (b ∷ after ≡ s ++ rest)
@@ -92,7 +92,7 @@ many_takes b (n ∷ after) s rest is fits e =
     let all = many_parts b n after x.0.0 x.0.1 is t.1 in
     subst (λ (p : List ℕ × List ℕ). IsPath p.0 × (b ∷ n ∷ after ≡ p.0 ++ p.1)) same (multiple (ltb-false n 3 g.0) (fits.0) t.0, all)
 
-path_takes : (bytes s rest : List ℕ) → AreBytes bytes → path_at bytes ≡ Ok (s, rest) → IsPath s × (bytes ≡ s ++ rest)
+pub path_takes : (bytes s rest : List ℕ) → AreBytes bytes → path_at bytes ≡ Ok (s, rest) → IsPath s × (bytes ≡ s ++ rest)
 unfolding path_at
 path_takes [] s rest fits e = absurd cc
 path_takes (b ∷ more) s rest fits e =

@@ -8,6 +8,7 @@ pub mod op;
 pub mod path_text;
 pub mod read_error;
 pub mod row;
+pub mod segment;
 pub mod spell;
 pub mod term;
 #[cfg(test)]

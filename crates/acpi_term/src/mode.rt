@@ -1,5 +1,7 @@
 //! Where a term stands.
 
+ghost use Rattle.std.specs.Prelude.{◌≡◌};
+
 /// Where a term stands, which says how many arguments follow a name.
 #[derive(Clone, Copy, Debug, PartialEq, Eq)]
 pub enum Mode {
@@ -9,4 +11,18 @@ pub enum Mode {
     Element,
     /// As the count of a VarPackage, a term that elements follow.
     Count,
+}
+
+impl Mode {
+    ghost use Rattle.acpi_term.specs.Spelling.{next};
+
+    /// Where the terms after it stand.
+    pub fn next(self) -> Mode
+        ensures { result ≡ next self }
+    {
+        match self {
+            Mode::Term => Mode::Term,
+            Mode::Element | Mode::Count => Mode::Element,
+        }
+    }
 }

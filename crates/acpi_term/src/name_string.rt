@@ -3,12 +3,15 @@
 ghost use Rattle.std.specs.Prelude.{◌≡◌, ◌≢◌, ℕ, List, true, false, OnOk, IfOk, IfErr};
 ghost use Rattle.std.specs.Cmp.Lexicographic.{pointwise};
 ghost use Rattle.std.specs.Bool.{nat_eq};
-ghost use Rattle.acpi_term.specs.Name.{is_lead, is_part, is_segment, IsName};
+ghost use Rattle.acpi_term.specs.Name.{IsName};
 ghost use Rattle.acpi_term.specs.PathText.{parts, are_standard, path_spelling, is_name_text};
 ghost use Rattle.acpi_term.specs.Arity.{is_stated, are_arities, arity};
+ghost use Rattle.acpi_term.specs.Spelling.{arguments};
 
+use crate::mode::Mode;
 use crate::path_text::{path_bytes, split_root};
 use crate::read_error::ReadError;
+use crate::segment::is_segment;
 use acpi_base::error::Error;
 use std::alloc::Global;
 use std::marker::Model;
@@ -78,25 +81,6 @@ impl PartialEq for NameString {
     }
 }
 
-#[tactic(auto, unfolding(crate::specs::Name::is_segment))]
-fn is_segment(a: u8, b: u8, c: u8, d: u8) -> bool
-    ensures { result ≡ is_segment a b c d }
-{
-    is_lead(a) && is_part(b) && is_part(c) && is_part(d)
-}
-
-fn is_lead(b: u8) -> bool
-    ensures { result ≡ is_lead b }
-{
-    b.is_ascii_uppercase() || b == b'_'
-}
-
-fn is_part(b: u8) -> bool
-    ensures { result ≡ is_part b }
-{
-    is_lead(b) || b.is_ascii_digit()
-}
-
 /// Whether all parts between dots are standard segments.
 #[tactic(auto, using(crate::proofs::NameTexts::short, crate::proofs::NameTexts::other, crate::proofs::NameTexts::long))]
 fn are_standard(text: &[u8]) -> bool
@@ -154,6 +138,21 @@ impl Arities {
             }
         }
         0
+    }
+
+    /// How many arguments follow a name that stands so.
+    pub fn arguments(&self, mode: Mode, name: &[u8]) -> u8
+        ensures { result ≡ arguments (arity self.now) mode name.now }
+    {
+        match mode {
+            Mode::Term | Mode::Count => self.count_of(name),
+            Mode::Element => 0,
+        }
+    }
+
+    /// Where the list has its memory from.
+    pub fn allocator(&self) -> Global {
+        *self.counts.allocator()
     }
 }
 

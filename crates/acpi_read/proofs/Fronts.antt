@@ -1,0 +1,102 @@
+-- The front of bytes that a name was read from, as it is cut off them.
+use Rattle.std.proofs.Common.{◌≡◌, ℕ, suc, ◌+◌, ◌-◌, ◌<◌, ◌≤◌, List, [], ◌∷◌, ◌++◌, length, take, drop, Option, Some, None, Result, Ok, Err, refl, sym, ap, ◌∙◌, append_assoc, arith}
+use Rattle.std.proofs.lemmas.Bool.{le-ltb}
+use Rattle.std.proofs.lemmas.List.{append-nil, take_at, drop_at, length-append}
+use Rattle.acpi_base.specs.Bytes.{AreBytes}
+use Rattle.acpi_term.specs.Name.{IsName}
+use Rattle.acpi_term.proofs.Reading.{Fault, ◌>>=◌, segment_at, segments_at, several_at, path_at, name_at}
+use Rattle.acpi_term.proofs.Names.{segment_takes, segments_takes, path_takes, name_takes, headed, two_parts, many_parts}
+use Rattle.acpi_read.specs.Cause.{FailsBy}
+
+-- so many bytes can be cut off, and what a reading answers is these and the others
+pub record CutAt (n : ℕ) (bytes : List ℕ) (read : Result (List ℕ × List ℕ) Fault) : Type 0 where
+  pub within : n ≤ length bytes
+  pub is : read ≡ Ok (take n bytes, drop n bytes)
+
+cut_at_parts : (bytes s rest : List ℕ) (n : ℕ) (read : Result (List ℕ × List ℕ) Fault) → bytes ≡ s ++ rest → n ≡ length s → read ≡ Ok (s, rest) → CutAt n bytes read
+cut_at_parts bytes s rest n read is len e =
+    let front : take n bytes ≡ s = ap (take n) is ∙ take_at s rest n (sym len) in
+    let back : drop n bytes ≡ rest = ap (drop n) is ∙ drop_at s rest n (sym len) in
+    record { within = omega (arith, length-append s rest, ap length is); is = rw (front, back) e }
+
+-- ---- several segments
+
+-- what is read after a front that was read before
+abbrev pub after_front : List ℕ → Result (List ℕ × List ℕ) Fault → Result (List ℕ × List ℕ) Fault
+after_front front read = read >>= λ s. Ok (front ++ s.0, s.1)
+
+-- what was read of several segments, and what is still to be read
+pub record SegmentsRead (count i : ℕ) (bytes rest : List ℕ) : Type 0 where
+  pub front : List ℕ
+  pub parts : bytes ≡ front ++ rest
+  pub is : segments_at count bytes ≡ after_front front (segments_at (count - i) rest)
+
+whole : (r : Result (List ℕ × List ℕ) Fault) → r ≡ after_front [] r
+whole (Ok x) = refl
+whole (Err e) = refl
+
+pub segments_begin : (count : ℕ) (bytes : List ℕ) → SegmentsRead count 0 bytes bytes
+segments_begin count bytes =
+    let n : count - 0 ≡ count = omega arith in
+    record { front = []; parts = refl; is = rw n (whole (segments_at count bytes)) }
+
+regrouped : (front s : List ℕ) (r : Result (List ℕ × List ℕ) Fault) → after_front front (after_front s r) ≡ after_front (front ++ s) r
+regrouped front s (Ok t) = ap (λ (l : List ℕ). Ok (l, t.1)) (sym (append_assoc front s t.0))
+regrouped front s (Err e) = refl
+
+pub segments_go_on : (count i : ℕ) (bytes rest s after : List ℕ) → i < count → SegmentsRead count i bytes rest → segment_at rest ≡ Ok (s, after) → SegmentsRead count (i + 1) bytes after
+unfolding segments_at
+segments_go_on count i bytes rest s after lt so_far e =
+    let k : count - i ≡ suc (count - (i + 1)) = omega arith in
+    let one : segments_at (count - i) rest ≡ after_front s (segments_at (count - (i + 1)) after) = rw (k, e) refl in
+    record {
+      front = so_far.front ++ s;
+      parts = so_far.parts ∙ ap (λ (l : List ℕ). so_far.front ++ l) (segment_takes rest s after e).1 ∙ sym (append_assoc so_far.front s after);
+      is = so_far.is ∙ ap (after_front so_far.front) one ∙ regrouped so_far.front s (segments_at (count - (i + 1)) after);
+    }
+
+pub segments_fail : (k : Option Fault) (count i : ℕ) (bytes rest : List ℕ) → i < count → SegmentsRead count i bytes rest → FailsBy k (segment_at rest) → FailsBy k (segments_at count bytes)
+unfolding segments_at
+segments_fail None count i bytes rest lt so_far h = tt
+segments_fail (Some f) count i bytes rest lt so_far h =
+    let n : count - i ≡ suc (count - (i + 1)) = omega arith in
+    let one : segments_at (count - i) rest ≡ Err f = rw (n, h) refl in
+    so_far.is ∙ ap (after_front so_far.front) one
+
+pub segments_end : (count i : ℕ) (bytes rest : List ℕ) → count ≤ i → SegmentsRead count i bytes rest → CutAt (length bytes - length rest) bytes (segments_at count bytes)
+unfolding segments_at
+segments_end count i bytes rest le so_far =
+    let n : count - i ≡ 0 = omega arith in
+    let read : segments_at count bytes ≡ Ok (so_far.front, rest) = so_far.is ∙ rw (n, append-nil so_far.front) refl in
+    cut_at_parts bytes so_far.front rest (length bytes - length rest) (segments_at count bytes) so_far.parts (omega (arith, ap length so_far.parts, length-append so_far.front rest)) read
+
+pub segments_shorter : (count i : ℕ) (bytes rest : List ℕ) → SegmentsRead count i bytes rest → length rest ≤ length bytes
+segments_shorter count i bytes rest so_far = omega (arith, ap length so_far.parts, length-append so_far.front rest)
+
+-- ---- paths and names
+
+pub two_cut : (b : ℕ) (more s r t rest : List ℕ) → b ≡ 46 → segment_at more ≡ Ok (s, r) → segment_at r ≡ Ok (t, rest) → CutAt (1 + length s + length t) (b ∷ more) (path_at (b ∷ more))
+unfolding path_at
+two_cut b more s r t rest is e f =
+    let parts = two_parts b more s r t rest is (segment_takes more s r e).1 (segment_takes r t rest f).1 in
+    cut_at_parts (b ∷ more) (46 ∷ s ++ t) rest (1 + length s + length t) (path_at (b ∷ more)) parts (omega (arith, length-append s t)) (rw (is, e, f) refl)
+
+pub several_fail : (k : Option Fault) (b n : ℕ) (after : List ℕ) → b ≡ 47 → 3 ≤ n → FailsBy k (segments_at n after) → FailsBy k (path_at (b ∷ n ∷ after))
+unfolding path_at several_at
+several_fail None b n after is ge h = tt
+several_fail (Some f) b n after is ge h = rw (is, le-ltb n 3 ge, h) refl
+
+pub several_cut : (b n : ℕ) (after s rest : List ℕ) → b ≡ 47 → 3 ≤ n → segments_at n after ≡ Ok (s, rest) → CutAt (2 + length s) (b ∷ n ∷ after) (path_at (b ∷ n ∷ after))
+unfolding path_at several_at
+several_cut b n after s rest is ge e =
+    let parts = many_parts b n after s rest is (segments_takes n after s rest e).1 in
+    cut_at_parts (b ∷ n ∷ after) (47 ∷ n ∷ s) rest (2 + length s) (path_at (b ∷ n ∷ after)) parts (omega arith) (rw (is, le-ltb n 3 ge, e) refl)
+
+pub rooted_cut : (b : ℕ) (more s rest : List ℕ) → AreBytes more → b ≡ 92 → path_at more ≡ Ok (s, rest) → CutAt (1 + length s) (b ∷ more) (name_at (b ∷ more))
+unfolding name_at
+rooted_cut b more s rest fits is e =
+    let parts = headed b 92 more s rest is (path_takes more s rest fits e).1 in
+    cut_at_parts (b ∷ more) (92 ∷ s) rest (1 + length s) (name_at (b ∷ more)) parts (omega arith) (rw (is, e) refl)
+
+pub is_name : (bytes s rest : List ℕ) → AreBytes bytes → name_at bytes ≡ Ok (s, rest) → IsName s
+is_name bytes s rest fits e = (name_takes bytes s rest fits e).0

@@ -1,0 +1,14 @@
+pub mod Fronts
+pub mod Numbers
+pub mod EntryLists
+pub mod Strings
+pub mod Within
+pub mod TermLists
+pub mod Closings
+pub mod Refusals
+pub mod Written
+pub mod Told
+pub mod Dotted
+pub mod Lines
+pub mod Sizes
+pub mod Widths

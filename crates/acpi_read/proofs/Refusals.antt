@@ -1,0 +1,65 @@
+-- What reading all of the bytes says of them.
+use Rattle.std.proofs.Common.{◌≡◌, ℕ, ◌≤◌, leb, List, length, Result, Ok, Err, sym, ◌∙◌, inl, inr}
+use Rattle.std.specs.Prelude.{IfOk, IfErr}
+use Rattle.std.proofs.lemmas.Bool.{leb-false}
+use Rattle.acpi_base.specs.Bytes.{AreBytes}
+use Rattle.acpi_term.specs.declared.mode.Mode.TheVariants.{Term}
+use Rattle.acpi_term.specs.declared.read_error.ReadError.{ReadError}
+use Rattle.acpi_term.specs.declared.read_error.ReadError.TheVariants as errors
+use Rattle.acpi_term.specs.Tree.{Terms, depth}
+use Rattle.acpi_term.proofs.Reading.{Fault, Deep, Bad, all_of, term_at}
+use Rattle.acpi_term.proofs.Steps.{chosen}
+use Rattle.acpi_term.proofs.Taken.{list_takes}
+use Rattle.acpi_term.proofs.Unique.{reads}
+use Rattle.acpi_read.specs.Cause.{Answers, IsTold}
+use Rattle.acpi_read.specs.Terms.{AreRead, AreTooDeep, AreRefused, IsUnread}
+
+module _ (arity : List ℕ → ℕ) (bytes : List ℕ) where
+  abbrev read : Result Terms Fault
+  read = all_of (term_at arity 255) (length bytes) Term bytes
+
+  pub is_read : {X : Type 0} (view : X → Terms) (r : Result X ReadError) → AreBytes bytes → Answers view r read → IfOk r (λ x. AreRead arity bytes (view x))
+  is_read view (Ok x) fits given =
+      let t = list_takes arity 255 (length bytes) Term bytes (view x) fits given in
+      record { spelled = (t.fits, t.parts); shallow = t.deep }
+  is_read view (Err e) fits given = tt
+
+  too_deep : (offset : ℕ) → offset ≤ length bytes → read ≡ Err Deep → AreTooDeep arity bytes offset
+  too_deep offset within failed = record {
+    within = within;
+    deep = λ ts s. elim (chosen (leb (depth ts) 255) (Ok ts) (Err Deep) (Err Deep) (sym (reads arity Term 255 bytes ts s) ∙ failed)) [
+      | inl b ↦ absurd cc
+      | inr b ↦ leb-false (depth ts) 255 b.0
+    ];
+  }
+
+  refused : (offset : ℕ) → offset ≤ length bytes → read ≡ Err Bad → AreRefused arity bytes offset
+  refused offset within failed = record {
+    within = within;
+    no_terms = λ ts s. elim (chosen (leb (depth ts) 255) (Ok ts) (Err Deep) (Err Bad) (sym (reads arity Term 255 bytes ts s) ∙ failed)) [
+      | inl b ↦ absurd cc
+      | inr b ↦ absurd cc
+    ];
+  }
+
+  unread : {X : Type 0} (view : X → Terms) (e : ReadError) → Answers view (Err e) read → IsTold (length bytes) e → IsUnread arity bytes e
+  unread view errors.Memory given told = tt
+  unread view (errors.Truncated offset) given told = refused offset told given
+  unread view (errors.Opcode offset) given told = refused offset told given
+  unread view errors.NameText given told = told
+  unread view (errors.Length offset) given told = refused offset told given
+  unread view (errors.Number offset) given told = told
+  unread view (errors.Count offset) given told = refused offset told given
+  unread view (errors.Flags offset) given told = refused offset told given
+  unread view (errors.Text offset) given told = refused offset told given
+  unread view (errors.TooDeep offset) given told = too_deep offset told given
+  unread view errors.Arity given told = told
+  unread view (errors.ShortHeader offset) given told = told
+  unread view (errors.TableLength offset) given told = told
+  unread view (errors.Sum offset) given told = told
+  unread view (errors.Structure offset) given told = told
+  unread view (errors.UnknownSource offset) given told = told
+
+  pub is_unread : {X : Type 0} (view : X → Terms) (r : Result X ReadError) → Answers view r read → IfErr r (IsTold (length bytes)) → IfErr r (IsUnread arity bytes)
+  is_unread view (Ok x) given told = tt
+  is_unread view (Err e) given told = unread view e given told

@@ -1,0 +1,27 @@
+use Rattle.std.proofs.Common.{◌+◌, ◌*◌, length}
+use Rattle.acpi_term.specs.Arity.{arity}
+use Rattle.acpi_term.specs.View.{views}
+use Rattle.acpi_term.proofs.Reading.{term_at}
+use Rattle.acpi_read.proofs.TermLists.{SeveralRead, AllRead}
+use Rattle.acpi_read.proofs.terms.+read.Given as goal
+
+abbrev pub decreases-term : goal.decreases-term
+decreases-term l = 3 * l.depth
+
+abbrev pub decreases-all : goal.decreases-all
+decreases-all l = 3 * l.depth + 1
+
+abbrev pub decreases-several : goal.decreases-several
+decreases-several l = 3 * l.depth + 1
+
+abbrev pub decreases-close : goal.decreases-close
+decreases-close l = 3 * l.depth + 2
+
+abbrev pub invariant-all-all : goal.invariant-all-all
+invariant-all-all l = AllRead (term_at (arity l.arities) l.depth) l.fn.mode l.bytes (views l.terms.items) l.at l.rest
+
+abbrev pub decreases-all-all : goal.decreases-all-all
+decreases-all-all l = length l.rest
+
+abbrev pub invariant-several-several : goal.invariant-several-several
+invariant-several-several l = SeveralRead (term_at (arity l.arities) l.depth) l.fn.mode l.count l.counter l.bytes (views l.terms.items) l.at l.rest

@@ -1,0 +1,8 @@
+use Rattle.std.proofs.Common.{arith}
+use Rattle.acpi_term.proofs.Bytes.{bytes_each}
+use Rattle.acpi_read.proofs.Fronts.{is_name}
+use Rattle.acpi_read.proofs.terms.name.name.Goals as goal
+
+pub from_spelling-name-requires : goal.from_spelling-name-requires
+from_spelling-name-requires c =
+    rw c.in_ok-from_slice.ensures.items (is_name c.args.bytes.now c.in_ok-spelling.spelling.now c.in_ok-spelling.rest.now (bytes_each c.args.bytes.now (λ i. omega (arith, c.type_inv.bytes i))) c.in_ok-spelling.ensures)

@@ -1,0 +1,167 @@
+-- The text that is told of terms: a line for each, its children after it, two spaces deeper.
+use Rattle.std.specs.Prelude.{ℕ, zero, suc, ◌+◌, ◌/◌, ◌%◌, ◌^◌, nat_lt, nat_le, ◌==◌, ◌&&◌, not, Bool, true, if◌then◌else◌, List, [], ◌∷◌, ◌++◌, length, map, codes}
+use Rattle.std.specs.Fmt.{decimal}
+use Rattle.acpi_term.specs.declared.op.Op.{Op}
+use Rattle.acpi_term.specs.declared.op.Op.TheVariants.{LNot, LEqual, LLess, LGreater, LAnd, LOr, Increment, Decrement, Break, ObjectType, SizeOf, Return, DeRefOf, Add, Concat, Subtract, Multiply, ShiftLeft, ShiftRight, And, Nand, Or, Nor, Xor, ConcatRes, Mod, Index, ToString, CreateDWordField, CreateQWordField, ToBuffer, ToInteger, Store, Notify, Mid, CreateField}
+use Rattle.acpi_term.specs.Tree.{Entry, named, reserved, Head, number, ones, text, local, arg, call, scope, device, method, power, field, region, define, mutex, acquire, release, buffer, pack, varpack, branch, loop, otherwise, op, Terms, end, term, count}
+use Rattle.acpi_term.specs.Length.{least_width}
+use Rattle.acpi_term.specs.Row.{bits_of, width_of, Layout, bare, boxed, tailed, layout, writer_width}
+use Rattle.acpi_term.specs.Spelling.{spelling}
+use Rattle.acpi_read.specs.Report.{printable}
+
+-- ---- bytes and names
+
+-- a hexadecimal digit, in lower case
+abbrev pub hex_digit : ℕ → ℕ
+hex_digit n = if nat_lt n 10 then 48 + n else 87 + n
+
+abbrev pub hex_byte : ℕ → List ℕ
+hex_byte b = hex_digit (b / 16) ∷ hex_digit (b % 16) ∷ []
+
+abbrev pub hex_bytes : List ℕ → List ℕ
+hex_bytes [] = []
+hex_bytes (b ∷ bytes) = hex_byte b ++ hex_bytes bytes
+
+-- a byte of a string: `"`, `\` and what doesn't print as `\x` and two digits
+abbrev pub quoted_byte : ℕ → List ℕ
+quoted_byte b = if nat_le 32 b && nat_le b 126 && not (b == 34) && not (b == 92) then b ∷ [] else 92 ∷ 120 ∷ hex_byte b
+
+abbrev pub quoted_bytes : List ℕ → List ℕ
+quoted_bytes [] = []
+quoted_bytes (b ∷ bytes) = quoted_byte b ++ quoted_bytes bytes
+
+-- segments with dots between them
+abbrev pub dotted_segments : List ℕ → List ℕ
+dotted_segments (a ∷ b ∷ c ∷ d ∷ e ∷ rest) = a ∷ b ∷ c ∷ d ∷ 46 ∷ dotted_segments (e ∷ rest)
+dotted_segments bytes = bytes
+
+abbrev pub tail : List ℕ → List ℕ
+tail [] = []
+tail (b ∷ rest) = rest
+
+-- the segments of a path, without what counts them
+abbrev pub segments_of : List ℕ → List ℕ
+segments_of [] = []
+segments_of (b ∷ rest) = if b == 46 then rest else (if b == 47 then tail rest else b ∷ rest)
+
+-- the text of a name that these bytes spell (ACPI 6.5, 20.2.2)
+abbrev pub name_text : List ℕ → List ℕ
+name_text [] = []
+name_text (b ∷ rest) = if b == 92 then 92 ∷ dotted_segments (segments_of rest) else dotted_segments (segments_of (b ∷ rest))
+
+-- ---- widths
+
+-- a width that no writer of ours would choose
+abbrev pub told_width : Bool → ℕ → List ℕ
+told_width chosen w = if chosen then [] else codes " width " ++ decimal w
+
+-- whether a frame of this layout round these bytes can be written
+abbrev pub is_writable : Layout → List ℕ → Bool
+is_writable (bare before) inside = true
+is_writable (boxed code before) inside = nat_lt (4 + length (before ++ inside)) (2 ^ 28)
+is_writable (tailed code after) inside = nat_lt (4 + length (inside ++ after)) (2 ^ 28)
+
+-- whether a writer chooses the width for a head with n children, whose spellings joined are the bytes inside
+abbrev pub is_chosen : Head → ℕ → ℕ → List ℕ → Bool
+is_chosen h w n inside = w == writer_width h n inside && is_writable (layout h w n) inside
+
+abbrev pub is_entry_chosen : Entry → Bool
+is_entry_chosen e = width_of e == least_width (bits_of e) && nat_lt (bits_of e) (2 ^ 28)
+
+-- ---- lines
+
+abbrev pub op_text : Op → List ℕ
+op_text LNot = codes "lnot"
+op_text LEqual = codes "lequal"
+op_text LLess = codes "lless"
+op_text LGreater = codes "lgreater"
+op_text LAnd = codes "land"
+op_text LOr = codes "lor"
+op_text Increment = codes "increment"
+op_text Decrement = codes "decrement"
+op_text Break = codes "break"
+op_text ObjectType = codes "objecttype"
+op_text SizeOf = codes "sizeof"
+op_text Return = codes "return"
+op_text DeRefOf = codes "derefof"
+op_text Add = codes "add"
+op_text Concat = codes "concat"
+op_text Subtract = codes "subtract"
+op_text Multiply = codes "multiply"
+op_text ShiftLeft = codes "shiftleft"
+op_text ShiftRight = codes "shiftright"
+op_text And = codes "and"
+op_text Nand = codes "nand"
+op_text Or = codes "or"
+op_text Nor = codes "nor"
+op_text Xor = codes "xor"
+op_text ConcatRes = codes "concatres"
+op_text Mod = codes "mod"
+op_text Index = codes "index"
+op_text ToString = codes "tostring"
+op_text CreateDWordField = codes "createdwordfield"
+op_text CreateQWordField = codes "createqwordfield"
+op_text ToBuffer = codes "tobuffer"
+op_text ToInteger = codes "tointeger"
+op_text Store = codes "store"
+op_text Notify = codes "notify"
+op_text Mid = codes "mid"
+op_text CreateField = codes "createfield"
+
+-- a buffer's bytes after its size, and a space before them if there are any
+abbrev pub data_text : List ℕ → List ℕ
+data_text [] = []
+data_text (b ∷ bytes) = 32 ∷ hex_bytes (b ∷ bytes)
+
+-- what a line says of a head with n children
+abbrev pub head_text : Head → ℕ → List ℕ
+head_text (number v) n = codes "number " ++ decimal v
+head_text ones n = codes "ones"
+head_text (text s) n = codes "text \"" ++ quoted_bytes s ++ codes "\""
+head_text (local k) n = codes "local " ++ decimal k
+head_text (arg k) n = codes "arg " ++ decimal k
+head_text (call name) n = codes "name " ++ name_text name ++ codes " args " ++ decimal n
+head_text (scope name) n = codes "scope " ++ name_text name
+head_text (device name) n = codes "device " ++ name_text name
+head_text (method name args serialized) n = codes "method " ++ name_text name ++ codes " args " ++ decimal args ++ codes " serialized " ++ (if serialized then codes "1" else codes "0")
+head_text (power name level order) n = codes "power " ++ name_text name ++ codes " level " ++ decimal level ++ codes " order " ++ decimal order
+head_text (field name access lock update entries) n = codes "field " ++ name_text name ++ codes " access " ++ decimal access ++ codes " lock " ++ decimal lock ++ codes " update " ++ decimal update
+head_text (region name space) n = codes "region " ++ name_text name ++ codes " space " ++ decimal space
+head_text (define name) n = codes "define " ++ name_text name
+head_text (mutex name level) n = codes "mutex " ++ name_text name ++ codes " level " ++ decimal level
+head_text (acquire name timeout) n = codes "acquire " ++ name_text name ++ codes " timeout " ++ decimal timeout
+head_text (release name) n = codes "release " ++ name_text name
+head_text (buffer bytes) n = codes "buffer data" ++ data_text bytes
+head_text pack n = codes "package " ++ decimal n
+head_text varpack n = codes "varpackage"
+head_text branch n = codes "if"
+head_text loop n = codes "while"
+head_text otherwise n = codes "else"
+head_text (op o) n = op_text o
+
+-- a line, at a depth
+abbrev pub indent : ℕ → List ℕ
+indent zero = []
+indent (suc d) = 32 ∷ 32 ∷ indent d
+
+abbrev pub line : ℕ → List ℕ → List ℕ → List ℕ
+line d said width = indent d ++ said ++ width ++ 10 ∷ []
+
+abbrev pub entry_text : Entry → List ℕ
+entry_text (named name bits w) = codes "entry " ++ map printable name ++ codes " bits " ++ decimal bits
+entry_text (reserved bits w) = codes "reserved bits " ++ decimal bits
+
+abbrev pub entry_lines : ℕ → List Entry → List ℕ
+entry_lines d [] = []
+entry_lines d (e ∷ entries) = line d (entry_text e) (told_width (is_entry_chosen e) (width_of e)) ++ entry_lines d entries
+
+-- a field's entries, which are no terms
+abbrev pub own_lines : ℕ → Head → List ℕ
+own_lines d (field name access lock update entries) = entry_lines d entries
+own_lines d _ = []
+
+-- the lines of terms at a depth
+abbrev pub lines : ℕ → Terms → List ℕ
+lines d end = []
+lines d (term h w children others) =
+    line d (head_text h (count children)) (told_width (is_chosen h w (count children) (spelling children)) w) ++ own_lines (suc d) h ++ lines (suc d) children ++ lines d others

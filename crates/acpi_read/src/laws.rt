@@ -1,0 +1,8 @@
+//! Laws over the definitions that the contracts cite. Each function is a law: it does nothing, and ensures it.
+
+ghost use Rattle.acpi_read.specs.Laws.{WrittenTablesPass};
+
+/// A table to which something was written passes `Table::check`.
+pub fn written_tables_pass()
+    ensures { WrittenTablesPass }
+{}

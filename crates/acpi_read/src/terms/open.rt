@@ -1,0 +1,494 @@
+//! The heads of terms: what stands before their children (ACPI 6.5, 20.2.3 and 20.2.5).
+
+ghost use Rattle.std.specs.Prelude.{◌≡◌, ◌≤◌, length, IfOk};
+ghost use Rattle.acpi_term.specs.Arity.{arity};
+ghost use Rattle.acpi_term.specs.Spelling.{inner, arguments};
+ghost use Rattle.acpi_term.specs.Tree.{term, number, varpack, branch, loop, otherwise};
+ghost use Rattle.acpi_term.specs.View.{views, view};
+ghost use Rattle.acpi_term.proofs.Reading.{follows, op_of, number_at, string_at, named_at, define_after, mutex_after, region_after, acquire_after, release_after, framed_at, scope_inside, device_inside, method_inside, power_inside, field_inside, plain_at, package_at, buffer_at, extended_at, local_at, opcode_at, open_at};
+ghost use Rattle.acpi_read.specs.Cause.{Gives};
+ghost use Rattle.acpi_read.specs.Opened.{seen, head_of, width_of, lead_head, lead_width, LiesWithin, IsFilled, IsAlone};
+
+use crate::terms::cause::Cause;
+use crate::terms::field::entries;
+use crate::terms::frame::{frame, number};
+use crate::terms::name::{begins_name, name};
+use crate::terms::text::text;
+use acpi_term::mode::Mode;
+use acpi_term::name_string::{Arities, NameString};
+use acpi_term::op::Op;
+use acpi_term::term::Term;
+use std::alloc::Global;
+
+/// A term whose children fill a frame, without them: the width of its length, and what is its own.
+#[derive(Drop)]
+pub enum Frame {
+    Scope(u8, NameString),
+    Device(u8, NameString),
+    Method(u8, NameString, u8, bool),
+    PowerResource(u8, NameString, u8, u16),
+    Else(u8),
+}
+
+/// The same of a term whose first child stands apart from the others.
+#[derive(Clone, Copy)]
+pub enum Lead {
+    VarPackage(u8),
+    If(u8),
+    While(u8),
+}
+
+impl Frame {
+    /// The term with these children.
+    pub fn with(self, children: Vec<Term>) -> Term
+        ensures { view result ≡ (head_of self, width_of self, views children.items) }
+    {
+        match self {
+            Frame::Scope(width, name) => Term::Scope {
+                width,
+                name,
+                body: children,
+            },
+            Frame::Device(width, name) => Term::Device {
+                width,
+                name,
+                body: children,
+            },
+            Frame::Method(width, name, args, serialized) => Term::Method {
+                width,
+                name,
+                args,
+                serialized,
+                body: children,
+            },
+            Frame::PowerResource(width, name, level, order) => Term::PowerResource {
+                width,
+                name,
+                level,
+                order,
+                body: children,
+            },
+            Frame::Else(width) => Term::Else {
+                width,
+                body: children,
+            },
+        }
+    }
+}
+
+impl Lead {
+    /// Where the first child stands.
+    pub fn mode(self) -> Mode
+        ensures { result ≡ inner (lead_head self) }
+    {
+        match self {
+            Lead::VarPackage(_) => Mode::Count,
+            Lead::If(_) | Lead::While(_) => Mode::Term,
+        }
+    }
+
+    /// The term with these children.
+    pub fn with(self, first: Box<Term>, others: Vec<Term>) -> Term
+        ensures { view result ≡ (lead_head self, lead_width self, term (view first.value).0 (view first.value).1 (view first.value).2 (views others.items)) }
+    {
+        match self {
+            Lead::VarPackage(width) => Term::VarPackage {
+                width,
+                count: first,
+                elements: others,
+            },
+            Lead::If(width) => Term::If {
+                width,
+                predicate: first,
+                body: others,
+            },
+            Lead::While(width) => Term::While {
+                width,
+                predicate: first,
+                body: others,
+            },
+        }
+    }
+}
+
+/// What the children of a term are read from.
+#[derive(Drop)]
+pub enum Opened<'a> {
+    /// A term without children, and the rest.
+    Leaf(Term, &'a [u8]),
+    /// A name, how many arguments it has, and the rest.
+    Call(NameString, u8, &'a [u8]),
+    /// An operator, and the rest.
+    Operator(Op, &'a [u8]),
+    /// A region's name and space, and the rest.
+    Region(NameString, u8, &'a [u8]),
+    /// A name that is given a value, and the rest.
+    Define(NameString, &'a [u8]),
+    /// A frame, the content after what is its own, and what follows.
+    Framed(Frame, &'a [u8], &'a [u8]),
+    Led(Lead, &'a [u8], &'a [u8]),
+    /// The width, how many elements, the content after it, and what follows.
+    Package(u8, u8, &'a [u8], &'a [u8]),
+    /// The width, the content, and what follows.
+    Buffer(u8, &'a [u8], &'a [u8]),
+}
+
+fn operator_of(byte: u8) -> Option<Op>
+    ensures { result ≡ op_of byte }
+{
+    match byte {
+        0x92 => Some(Op::LNot),
+        0x93 => Some(Op::LEqual),
+        0x95 => Some(Op::LLess),
+        0x94 => Some(Op::LGreater),
+        0x90 => Some(Op::LAnd),
+        0x91 => Some(Op::LOr),
+        0x75 => Some(Op::Increment),
+        0x76 => Some(Op::Decrement),
+        0xa5 => Some(Op::Break),
+        0x8e => Some(Op::ObjectType),
+        0x87 => Some(Op::SizeOf),
+        0xa4 => Some(Op::Return),
+        0x83 => Some(Op::DeRefOf),
+        0x72 => Some(Op::Add),
+        0x73 => Some(Op::Concat),
+        0x74 => Some(Op::Subtract),
+        0x77 => Some(Op::Multiply),
+        0x79 => Some(Op::ShiftLeft),
+        0x7a => Some(Op::ShiftRight),
+        0x7b => Some(Op::And),
+        0x7c => Some(Op::Nand),
+        0x7d => Some(Op::Or),
+        0x7e => Some(Op::Nor),
+        0x7f => Some(Op::Xor),
+        0x84 => Some(Op::ConcatRes),
+        0x85 => Some(Op::Mod),
+        0x88 => Some(Op::Index),
+        0x9c => Some(Op::ToString),
+        0x8a => Some(Op::CreateDWordField),
+        0x8f => Some(Op::CreateQWordField),
+        0x96 => Some(Op::ToBuffer),
+        0x99 => Some(Op::ToInteger),
+        0x70 => Some(Op::Store),
+        0x86 => Some(Op::Notify),
+        0x9e => Some(Op::Mid),
+        _ => None,
+    }
+}
+
+/// The byte that is the number itself.
+fn small_number(byte: u8, rest: &[u8]) -> Opened<'_>
+    ensures gives { seen result ≡ follows (number byte) 0 0 rest.now }
+    ensures alone { IsAlone result }
+{
+    Opened::Leaf(
+        Term::Number {
+            value: u64::from(byte),
+            width: 0,
+        },
+        rest,
+    )
+}
+
+fn wide_number(width: u8, bytes: &[u8]) -> Result<Opened<'_>, Cause>
+    requires { width ≤ 8 }
+    ensures gives { Gives seen result (number_at width bytes.now) }
+    ensures alone { IfOk result IsAlone }
+{
+    let (value, rest) = number(width, bytes)?;
+    Ok(Opened::Leaf(Term::Number { value, width }, rest))
+}
+
+fn string(alloc: Global, bytes: &[u8]) -> Result<Opened<'_>, Cause>
+    ensures gives { Gives seen result (string_at bytes.now) }
+    ensures alone { IfOk result IsAlone }
+{
+    let (text, rest) = text(alloc, bytes)?;
+    Ok(Opened::Leaf(Term::Text(text), rest))
+}
+
+fn define(alloc: Global, bytes: &[u8]) -> Result<Opened<'_>, Cause>
+    ensures gives { Gives seen result (named_at define_after bytes.now) }
+    ensures alone { IfOk result IsAlone }
+{
+    let (name, rest) = name(alloc, bytes)?;
+    Ok(Opened::Define(name, rest))
+}
+
+fn mutex(alloc: Global, bytes: &[u8]) -> Result<Opened<'_>, Cause>
+    ensures gives { Gives seen result (named_at mutex_after bytes.now) }
+    ensures alone { IfOk result IsAlone }
+{
+    let (name, rest) = name(alloc, bytes)?;
+    let Some((level, rest)) = rest.split_first() else {
+        return Err(Cause::Truncated);
+    };
+    let level = *level;
+    Ok(Opened::Leaf(Term::Mutex { name, level }, rest))
+}
+
+fn acquire(alloc: Global, bytes: &[u8]) -> Result<Opened<'_>, Cause>
+    ensures gives { Gives seen result (named_at acquire_after bytes.now) }
+    ensures alone { IfOk result IsAlone }
+{
+    let (name, rest) = name(alloc, bytes)?;
+    let (timeout, rest) = number(2, rest)?;
+    let timeout = timeout as u16;
+    Ok(Opened::Leaf(Term::Acquire { name, timeout }, rest))
+}
+
+fn release(alloc: Global, bytes: &[u8]) -> Result<Opened<'_>, Cause>
+    ensures gives { Gives seen result (named_at release_after bytes.now) }
+    ensures alone { IfOk result IsAlone }
+{
+    let (name, rest) = name(alloc, bytes)?;
+    Ok(Opened::Leaf(Term::Release { name }, rest))
+}
+
+fn region(alloc: Global, bytes: &[u8]) -> Result<Opened<'_>, Cause>
+    ensures gives { Gives seen result (named_at region_after bytes.now) }
+    ensures alone { IfOk result IsAlone }
+{
+    let (name, rest) = name(alloc, bytes)?;
+    let Some((space, rest)) = rest.split_first() else {
+        return Err(Cause::Truncated);
+    };
+    Ok(Opened::Region(name, *space, rest))
+}
+
+fn scope(alloc: Global, bytes: &[u8]) -> Result<Opened<'_>, Cause>
+    ensures gives { Gives seen result (framed_at scope_inside bytes.now) }
+    ensures alone { IfOk result IsAlone }
+{
+    let (width, content, after) = frame(bytes)?;
+    let (name, inside) = name(alloc, content)?;
+    Ok(Opened::Framed(Frame::Scope(width, name), inside, after))
+}
+
+fn device(alloc: Global, bytes: &[u8]) -> Result<Opened<'_>, Cause>
+    ensures gives { Gives seen result (framed_at device_inside bytes.now) }
+    ensures alone { IfOk result IsAlone }
+{
+    let (width, content, after) = frame(bytes)?;
+    let (name, inside) = name(alloc, content)?;
+    Ok(Opened::Framed(Frame::Device(width, name), inside, after))
+}
+
+fn method(alloc: Global, bytes: &[u8]) -> Result<Opened<'_>, Cause>
+    ensures gives { Gives seen result (framed_at method_inside bytes.now) }
+    ensures alone { IfOk result IsAlone }
+{
+    let (width, content, after) = frame(bytes)?;
+    let (name, inside) = name(alloc, content)?;
+    let Some((flags, inside)) = inside.split_first() else {
+        return Err(Cause::Truncated);
+    };
+    let flags = *flags;
+    if flags >= 16 {
+        return Err(Cause::Flags);
+    }
+    Ok(Opened::Framed(
+        Frame::Method(width, name, flags % 8, flags >= 8),
+        inside,
+        after,
+    ))
+}
+
+fn power_resource(alloc: Global, bytes: &[u8]) -> Result<Opened<'_>, Cause>
+    ensures gives { Gives seen result (framed_at power_inside bytes.now) }
+    ensures alone { IfOk result IsAlone }
+{
+    let (width, content, after) = frame(bytes)?;
+    let (name, inside) = name(alloc, content)?;
+    let Some((level, inside)) = inside.split_first() else {
+        return Err(Cause::Truncated);
+    };
+    let (order, inside) = number(2, inside)?;
+    Ok(Opened::Framed(
+        Frame::PowerResource(width, name, *level, order as u16),
+        inside,
+        after,
+    ))
+}
+
+fn flagged<'a>(
+    alloc: Global,
+    width: u8,
+    name: NameString,
+    bytes: &[u8],
+    after: &'a [u8],
+) -> Result<Opened<'a>, Cause>
+    ensures gives { Gives seen result (field_inside width name bytes.now after.now) }
+    ensures alone { IfOk result IsAlone }
+{
+    let Some((flags, rest)) = bytes.split_first() else {
+        return Err(Cause::Truncated);
+    };
+    let flags = *flags;
+    if flags % 16 >= 6 {
+        return Err(Cause::Flags);
+    }
+    if flags >= 96 {
+        return Err(Cause::Flags);
+    }
+    let entries = entries(alloc, rest)?;
+    Ok(Opened::Leaf(
+        Term::Field {
+            width,
+            name,
+            access: flags % 16,
+            lock: flags / 16 % 2,
+            update: flags / 32,
+            entries,
+        },
+        after,
+    ))
+}
+
+fn field(alloc: Global, bytes: &[u8]) -> Result<Opened<'_>, Cause>
+    ensures gives { Gives seen result (framed_at field_inside bytes.now) }
+    ensures alone { IfOk result IsAlone }
+{
+    let (width, content, after) = frame(bytes)?;
+    let (name, inside) = name(alloc, content)?;
+    flagged(alloc, width, name, inside, after)
+}
+
+fn otherwise(bytes: &[u8]) -> Result<Opened<'_>, Cause>
+    ensures gives { Gives seen result (plain_at otherwise bytes.now) }
+    ensures alone { IfOk result IsAlone }
+{
+    let (width, content, after) = frame(bytes)?;
+    Ok(Opened::Framed(Frame::Else(width), content, after))
+}
+
+fn branch(bytes: &[u8]) -> Result<Opened<'_>, Cause>
+    ensures gives { Gives seen result (plain_at branch bytes.now) }
+    ensures alone { IfOk result IsAlone }
+{
+    let (width, content, after) = frame(bytes)?;
+    Ok(Opened::Led(Lead::If(width), content, after))
+}
+
+fn repetition(bytes: &[u8]) -> Result<Opened<'_>, Cause>
+    ensures gives { Gives seen result (plain_at loop bytes.now) }
+    ensures alone { IfOk result IsAlone }
+{
+    let (width, content, after) = frame(bytes)?;
+    Ok(Opened::Led(Lead::While(width), content, after))
+}
+
+fn var_package(bytes: &[u8]) -> Result<Opened<'_>, Cause>
+    ensures gives { Gives seen result (plain_at varpack bytes.now) }
+    ensures alone { IfOk result IsAlone }
+{
+    let (width, content, after) = frame(bytes)?;
+    Ok(Opened::Led(Lead::VarPackage(width), content, after))
+}
+
+fn package(bytes: &[u8]) -> Result<Opened<'_>, Cause>
+    ensures gives { Gives seen result (package_at bytes.now) }
+    ensures alone { IfOk result IsAlone }
+{
+    let (width, content, after) = frame(bytes)?;
+    let Some((count, inside)) = content.split_first() else {
+        return Err(Cause::Truncated);
+    };
+    Ok(Opened::Package(width, *count, inside, after))
+}
+
+fn buffer(bytes: &[u8]) -> Result<Opened<'_>, Cause>
+    ensures gives { Gives seen result (buffer_at bytes.now) }
+    ensures alone { IfOk result IsAlone }
+{
+    let (width, content, after) = frame(bytes)?;
+    Ok(Opened::Buffer(width, content, after))
+}
+
+/// After the byte 5B.
+fn extended(alloc: Global, bytes: &[u8]) -> Result<Opened<'_>, Cause>
+    ensures gives { Gives seen result (extended_at bytes.now) }
+    ensures alone { IfOk result IsAlone }
+{
+    match bytes {
+        [] => Err(Cause::Truncated),
+        [0x01, rest @ ..] => mutex(alloc, rest),
+        [0x13, rest @ ..] => Ok(Opened::Operator(Op::CreateField, rest)),
+        [0x23, rest @ ..] => acquire(alloc, rest),
+        [0x27, rest @ ..] => release(alloc, rest),
+        [0x80, rest @ ..] => region(alloc, rest),
+        [0x81, rest @ ..] => field(alloc, rest),
+        [0x82, rest @ ..] => device(alloc, rest),
+        [0x84, rest @ ..] => power_resource(alloc, rest),
+        [_, ..] => Err(Cause::Opcode),
+    }
+}
+
+fn local_or_operator(byte: u8, rest: &[u8]) -> Result<Opened<'_>, Cause>
+    ensures gives { Gives seen result (local_at byte rest.now) }
+    ensures alone { IfOk result IsAlone }
+{
+    if byte >= 0x60 && byte <= 0x67 {
+        return Ok(Opened::Leaf(Term::Local(byte - 0x60), rest));
+    }
+    if byte >= 0x68 && byte <= 0x6e {
+        return Ok(Opened::Leaf(Term::Arg(byte - 0x68), rest));
+    }
+    match operator_of(byte) {
+        None => Err(Cause::Opcode),
+        Some(op) => Ok(Opened::Operator(op, rest)),
+    }
+}
+
+fn opcode(alloc: Global, byte: u8, rest: &[u8]) -> Result<Opened<'_>, Cause>
+    ensures gives { Gives seen result (opcode_at byte rest.now) }
+    ensures alone { IfOk result IsAlone }
+{
+    match byte {
+        0x00 | 0x01 => Ok(small_number(byte, rest)),
+        0x08 => define(alloc, rest),
+        0x0a => wide_number(1, rest),
+        0x0b => wide_number(2, rest),
+        0x0c => wide_number(4, rest),
+        0x0d => string(alloc, rest),
+        0x0e => wide_number(8, rest),
+        0x10 => scope(alloc, rest),
+        0x11 => buffer(rest),
+        0x12 => package(rest),
+        0x13 => var_package(rest),
+        0x14 => method(alloc, rest),
+        0x5b => extended(alloc, rest),
+        0xa0 => branch(rest),
+        0xa1 => otherwise(rest),
+        0xa2 => repetition(rest),
+        0xff => Ok(Opened::Leaf(Term::Ones, rest)),
+        _ => local_or_operator(byte, rest),
+    }
+}
+
+#[tactic(auto, unfolding(acpi_term::proofs::Reading::open_at))]
+fn open_head<'a>(arities: &Arities, mode: Mode, bytes: &'a [u8]) -> Result<Opened<'a>, Cause>
+    ensures gives { Gives seen result (open_at (arity arities.now) mode bytes.now) }
+    ensures alone { IfOk result IsAlone }
+{
+    let alloc = arities.allocator();
+    let Some((byte, rest)) = bytes.split_first() else {
+        return Err(Cause::Truncated);
+    };
+    if !begins_name(*byte) {
+        return opcode(alloc, *byte, rest);
+    }
+    let (name, rest) = name(alloc, bytes)?;
+    let count = arities.arguments(mode, name.as_bytes());
+    Ok(Opened::Call(name, count, rest))
+}
+
+/// The head of the term at the front, and where its children are, which is within the bytes.
+pub fn open<'a>(arities: &Arities, mode: Mode, bytes: &'a [u8]) -> Result<Opened<'a>, Cause>
+    ensures gives { Gives seen result (open_at (arity arities.now) mode bytes.now) }
+    ensures alone { IfOk result IsAlone }
+    ensures within { IfOk result (λ opened. LiesWithin (length bytes.now) (seen opened)) }
+    ensures filled { IfOk result (λ opened. IsFilled (seen opened)) }
+{
+    open_head(arities, mode, bytes)
+}

@@ -1,0 +1,5 @@
+//! What no contract says: bytes from outside, which kind of error is told, and that each call succeeds where memory is
+//! ample.
+
+mod report;
+mod terms;
