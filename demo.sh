@@ -1,6 +1,6 @@
 #!/bin/sh
-# Has one program write tables and the other read them: whole, and one without its last byte. Both are proved before they are
-# built, with everything that they stand on. The first run takes minutes, and a later one seconds.
+# Has one program write tables and the other read them: one whole, and without its last byte, and one with its AML. Both are
+# proved before they are built, with everything that they stand on. The first run takes minutes, and a later one seconds.
 set -eu
 cd "$(dirname "$0")"
 
@@ -53,6 +53,23 @@ echo "$line"
 expect "$line" 'refused at 4: TableLength'
 expect "status $status" 'status 1'
 
-line=$("$read" table "$work/namespace") || true
-echo "$line"
-expect "$line" 'DSDT length 137 revision 2 sum 0'
+lines=$("$read" dsdt "$work/namespace") || true
+echo "$lines"
+expect "$lines" 'DSDT length 137 revision 2 sum 0
+scope \_SB_
+  device REGS
+    method _STA args 0 serialized 0
+      return
+        number 15
+    region PRST space 1
+      number 3288
+      number 12
+    field PRST access 1 lock 0 update 2
+      reserved bits 32
+      entry CPEN bits 1
+device _SB_.COM1
+  define _HID
+    number 17158209
+  define _CRS
+    buffer data 8906000301040000004701f803f80300087900
+      number 19'

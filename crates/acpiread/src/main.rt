@@ -1,4 +1,5 @@
-//! Reads ACPI tables and AML: `acpiread table FILE`.
+//! Reads ACPI tables and AML: `acpiread table FILE`, `acpiread aml FILE [NAME=N ..]` and
+//! `acpiread dsdt FILE [NAME=N ..]`.
 #![tactic(auto)]
 
 use acpiread_run::program::run;

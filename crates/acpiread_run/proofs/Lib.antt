@@ -1,2 +1,3 @@
-mod Words
+mod Faults
+mod Stated
 mod Writers

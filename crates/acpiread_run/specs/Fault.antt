@@ -1,6 +1,9 @@
 -- Why there is no report.
-use Rattle.std.specs.Prelude.{◌≡◌, ℕ, Some, None}
+use Rattle.std.specs.Prelude.{◌≡◌, ℕ, ◌+◌, Some, None, List, ◌++◌, codes}
+use Rattle.std.specs.Fmt.{decimal}
+use Rattle.std.specs.Option.{option_map}
 use Rattle.acpi_term.specs.declared.read_error.ReadError.{ReadError}
+use Rattle.acpi_term.specs.declared.read_error.ReadError.TheVariants.{Memory}
 use Rattle.acpi_term.specs.ReadError.{name_of, offset_of}
 use Rattle.acpiread_run.specs.declared.fault.Fault.{Fault}
 use Rattle.acpiread_run.specs.declared.fault.Fault.TheVariants.{Usage, RefusedAt, Refused}
@@ -11,8 +14,26 @@ status_of Usage = 2
 status_of (RefusedAt offset kind) = 1
 status_of (Refused kind) = 1
 
+-- the line for standard error, without its end
+abbrev pub line_of : Fault → List ℕ
+line_of Usage = codes "usage: acpiread table FILE | aml FILE [NAME=N ..] | dsdt FILE [NAME=N ..]"
+line_of (RefusedAt offset kind) = codes "refused at " ++ decimal offset ++ codes ": " ++ kind.now
+line_of (Refused kind) = codes "refused: " ++ kind.now
+
 -- the refusal's name, and its offset where it has one
 abbrev pub IsRefusal : ReadError → Fault → Type 0
 IsRefusal error Usage = ⊥
 IsRefusal error (RefusedAt offset kind) = (offset_of error ≡ Some offset) × (kind.now ≡ name_of error)
 IsRefusal error (Refused kind) = (offset_of error ≡ None) × (kind.now ≡ name_of error)
+
+-- the same of bytes that begin so far after the file's first
+abbrev pub IsRefusalAfter : ℕ → ReadError → Fault → Type 0
+IsRefusalAfter start error Usage = ⊥
+IsRefusalAfter start error (RefusedAt offset kind) = (option_map (λ n. start + n) (offset_of error) ≡ Some offset) × (kind.now ≡ name_of error)
+IsRefusalAfter start error (Refused kind) = (offset_of error ≡ None) × (kind.now ≡ name_of error)
+
+-- usage is told only where a fact holds, and nothing else but want of memory
+abbrev pub IsUsageWhere : Type 0 → Fault → Type 0
+IsUsageWhere fact Usage = fact
+IsUsageWhere fact (RefusedAt offset kind) = ⊥
+IsUsageWhere fact (Refused kind) = IsRefusal Memory (Refused kind)

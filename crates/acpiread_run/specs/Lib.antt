@@ -1,3 +1,4 @@
 pub mod Command
 pub mod Fault
+pub mod Report
 pub mod Program

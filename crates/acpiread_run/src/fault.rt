@@ -1,22 +1,23 @@
 //! Why there is no report.
 
-ghost use Rattle.std.specs.Prelude.{◌≡◌};
-ghost use Rattle.acpiread_run.specs.Fault.{status_of, IsRefusal};
+ghost use Rattle.std.specs.Prelude.{◌≡◌, Some, ◌+◌, ◌<◌, ◌^◌, IfSome};
+ghost use Rattle.acpi_term.specs.ReadError.{offset_of};
+ghost use Rattle.acpi_term.specs.declared.read_error.ReadError.TheVariants.{Memory};
+ghost use Rattle.acpiread_run.specs.Fault.{status_of, line_of, IsRefusal, IsRefusalAfter};
 
 use acpi_term::read_error::ReadError;
+use std::alloc::{AllocError, AllocFailed};
+use std::fmt;
 use thiserror::Error;
 
 /// Why the program prints no report. What it displays is the line for standard error.
 #[derive(Debug, Drop, Error)]
 pub enum Fault {
     /// Wrong words, or a file that can't be read.
-    #[error("usage: acpiread table FILE | aml FILE [NAME=N ..] | dsdt FILE [NAME=N ..]")]
     Usage,
     /// The file's bytes were refused, at an offset from its first byte.
-    #[error("refused at {offset}: {kind}")]
     RefusedAt { offset: usize, kind: &'static str },
     /// A refusal that has no offset.
-    #[error("refused: {kind}")]
     Refused { kind: &'static str },
 }
 
@@ -30,6 +31,38 @@ impl Fault {
             Fault::Usage => 2,
         }
     }
+
+    /// The fault of bytes that begin so far after the file's first.
+    pub(crate) fn after(start: usize, error: ReadError) -> Fault
+        requires { IfSome (offset_of error) (λ offset. start + offset < 2 ^ 64) }
+        ensures { IsRefusalAfter start error result }
+    {
+        let kind = error.name();
+        match error.offset() {
+            Some(offset) => Fault::RefusedAt {
+                offset: start + offset,
+                kind,
+            },
+            None => Fault::Refused { kind },
+        }
+    }
+}
+
+impl fmt::Display for Fault {
+    ghost output = { λ fault. Some (line_of fault) };
+
+    fn fmt<W: fmt::Write>(&self, f: &mut fmt::Formatter<W>) -> fmt::Result {
+        match self {
+            Fault::Usage => {
+                write!(
+                    f,
+                    "usage: acpiread table FILE | aml FILE [NAME=N ..] | dsdt FILE [NAME=N ..]"
+                )
+            }
+            Fault::RefusedAt { offset, kind } => write!(f, "refused at {offset}: {kind}"),
+            Fault::Refused { kind } => write!(f, "refused: {kind}"),
+        }
+    }
 }
 
 impl From<ReadError> for Fault {
@@ -41,5 +74,21 @@ impl From<ReadError> for Fault {
             Some(offset) => Fault::RefusedAt { offset, kind },
             None => Fault::Refused { kind },
         }
+    }
+}
+
+impl From<AllocError> for Fault {
+    ghost from_gives = { λ _ fault. IsRefusal Memory fault };
+
+    fn from(_error: AllocError) -> Fault {
+        Fault::from(ReadError::Memory)
+    }
+}
+
+impl<T: Drop> From<AllocFailed<T>> for Fault {
+    ghost from_gives = { λ _ fault. IsRefusal Memory fault };
+
+    fn from(_error: AllocFailed<T>) -> Fault {
+        Fault::from(ReadError::Memory)
     }
 }

@@ -4,5 +4,6 @@
 pub mod command;
 pub mod fault;
 pub mod program;
+pub mod report;
 #[cfg(test)]
 mod tests;

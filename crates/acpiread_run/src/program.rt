@@ -3,13 +3,12 @@
 ghost use Rattle.std.specs.Prelude.{◌≡◌, ◌≢◌, map, string_bytes, IfOk, IfErr};
 ghost use Rattle.std.specs.IoError.{error_kind};
 ghost use Rattle.acpiread_run.specs.Command.{IsNoCommand};
-ghost use Rattle.acpiread_run.specs.Fault.{IsRefusal};
-ghost use Rattle.acpiread_run.specs.Program.{IsReportOf, IsFaultOf, IsReport, Ended};
+ghost use Rattle.acpiread_run.specs.Fault.{IsRefusal, IsUsageWhere};
+ghost use Rattle.acpiread_run.specs.Program.{IsReport, IsToldFor, Ended};
 
 use crate::command::{Command, parse};
 use crate::fault::Fault;
-use acpi_read::report::report_table;
-use acpi_read::table::Table;
+use crate::report::{aml_report, dsdt_report, table_report};
 use acpi_term::read_error::ReadError;
 use std::alloc::Global;
 use std::io::{ErrorKind, Read, Write};
@@ -26,6 +25,7 @@ fn read_file<R: Files>(rt: &R, alloc: Global, file: &str) -> io::Result<Vec<u8>>
 fn unread(error: io::Error) -> Fault
     ensures memory { error_kind error ≡ ErrorKind.OutOfMemory → IsRefusal ReadError.Memory result }
     ensures other { error_kind error ≢ ErrorKind.OutOfMemory → result ≡ Fault.Usage }
+    ensures told { IsUsageWhere (Unit {0}) result }
 {
     match error.kind() {
         ErrorKind::OutOfMemory => Fault::from(ReadError::Memory),
@@ -33,34 +33,31 @@ fn unread(error: io::Error) -> Fault
     }
 }
 
-// The report of the table that a file has.
-fn table_report(alloc: Global, bytes: &[u8]) -> Result<String, Fault>
-    ensures ok { IfOk result (λ text. IsReportOf bytes.now (string_bytes text)) }
-    ensures err { IfErr result (λ fault. IsFaultOf bytes.now fault) }
-{
-    let table = Table::check(bytes)?;
-    Ok(report_table(alloc, &table)?)
-}
-
-// What the words ask for. No file is opened for words that ask for nothing, and none is reported that isn't a table.
+// What the words ask for. No file is opened for words that ask for nothing.
 fn report<R: Files>(rt: &R, alloc: Global, words: &[String]) -> Result<String, Fault>
-    ensures ok { IfOk result (λ text. IsReport (string_bytes text)) }
-    ensures asked { IsNoCommand (map (λ word. string_bytes word) words.now) → result ≡ Err Fault.Usage }
+    ensures ok { IfOk result (λ text. IsReport (map (λ word. string_bytes word) words.now) (string_bytes text)) }
+    ensures err { IfErr result (IsToldFor (map (λ word. string_bytes word) words.now)) }
+    ensures asked { IfErr result (λ fault. IsNoCommand (map (λ word. string_bytes word) words.now) → IsUsageWhere (Unit {0}) fault) }
 {
-    let Some(command) = parse(words) else {
-        return Err(Fault::Usage);
-    };
-    match command {
+    match parse(alloc, words)? {
         Command::Table(file) => {
             let bytes = read_file(rt, alloc, file).map_err(unread)?;
             table_report(alloc, &bytes)
+        }
+        Command::Aml(file, arities) => {
+            let bytes = read_file(rt, alloc, file).map_err(unread)?;
+            aml_report(alloc, &bytes, &arities)
+        }
+        Command::Dsdt(file, arities) => {
+            let bytes = read_file(rt, alloc, file).map_err(unread)?;
+            dsdt_report(alloc, &bytes, &arities)
         }
     }
 }
 
 /// Runs the program on the words after its name, and answers its exit status. 0: the report went to `out`. 1: the
-/// file was refused, `err` has a line that says why, and `out` has nothing. 2: the words are wrong or the file can't be
-/// read, `err` has the line on usage, and `out` has nothing. An error is one of `out` or `err`.
+/// file was refused or memory ran out, `err` has a line that says why, and `out` has nothing. 2: the words are wrong or
+/// the file can't be read, `err` has the line on usage, and `out` has nothing. An error is one of `out` or `err`.
 pub fn run<R: Files, O: Write, E: Write>(
     rt: &R,
     alloc: Global,

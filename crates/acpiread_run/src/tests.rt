@@ -1,5 +1,9 @@
 //! Runs of the program on files: every status and text.
 
+mod aml;
+mod dsdt;
+mod words;
+
 use crate::program::run;
 use std::io::{Error, ErrorKind, Write};
 use std::process::{Abort, Process};
@@ -50,6 +54,39 @@ fn ends(
     Ok(())
 }
 
+// What a report on a file of these bytes has to be.
+fn prints(
+    rt: &(impl Files + AllocGlobal + Abort),
+    file: &str,
+    bytes: &[u8],
+    words: &[&str],
+    out: &str,
+) -> io::Result<()> {
+    fs::write(rt, file, bytes)?;
+    ends(rt, words, 0, out, "")?;
+    fs::remove_file(rt, file)
+}
+
+// The kind that a file of these bytes has to be refused by, at whatever offset.
+fn refuses(
+    rt: &(impl Files + AllocGlobal + Abort),
+    file: &str,
+    bytes: &[u8],
+    words: &[&str],
+    kind: &str,
+) -> io::Result<()> {
+    fs::write(rt, file, bytes)?;
+    let mut printed = Vec::new(rt.alloc());
+    let mut told = Vec::new(rt.alloc());
+    let answer = run(rt, rt.alloc(), &owned(rt, words)?, &mut printed, &mut told)?;
+    let end = format!(in rt.alloc(); ": {kind}\n")?;
+    assert_eq!(rt; answer, 1, "status of {words:?}");
+    assert!(rt; printed.is_empty(), "output of {words:?}");
+    assert!(rt; told.starts_with(b"refused at "), "errors of {words:?}");
+    assert!(rt; told.ends_with(end.as_bytes()), "kind of {words:?}");
+    fs::remove_file(rt, file)
+}
+
 #[test]
 fn reports_tables(rt: HostRuntime) -> Result<(), Fail> {
     let path = path(&rt, rt.process(), "tables")?;
@@ -91,25 +128,6 @@ fn refuses_bytes(rt: HostRuntime) -> Result<(), Fail> {
         fs::write(&rt, file, bytes)?;
         ends(&rt, &["table", file], 1, "", line)?;
     }
-    fs::remove_file(&rt, file)?;
-    Ok(())
-}
-
-#[test]
-fn tells_usage(rt: HostRuntime) -> Result<(), Fail> {
-    let path = path(&rt, rt.process(), "usage")?;
-    let file = path.as_str();
-    // A file that isn't there, and a folder in its place.
-    ends(&rt, &["table", file], 2, "", USAGE)?;
-    let folder = env::temp_dir(&rt)?;
-    ends(&rt, &["table", folder.as_str()], 2, "", USAGE)?;
-    fs::write(&rt, file, DSDT.as_slice())?;
-    for word in ["tables", "Table", "aml", "dsdt"] {
-        ends(&rt, &[word, file], 2, "", USAGE)?;
-    }
-    ends(&rt, &[], 2, "", USAGE)?;
-    ends(&rt, &["table"], 2, "", USAGE)?;
-    ends(&rt, &["table", file, file], 2, "", USAGE)?;
     fs::remove_file(&rt, file)?;
     Ok(())
 }

@@ -1,0 +1,17 @@
+use Rattle.std.proofs.Common.{inr}
+use Rattle.std.proofs.lemmas.List.{take_rest}
+use Rattle.acpiread_run.proofs.report.dsdt_report.Goals as goal
+
+pub returns-in-Err-clause-err : goal.returns-in-Err-clause-err
+returns-in-Err-clause-err c = inr (record {
+  is_table = c.in_ok-text.ensures.ok.is_table;
+  terms = record { error = c.in-Err.error; refusal = c.after.ensures; cause = rw take_rest at c.in-Err.ensures.err };
+})
+
+pub returns-clause-ok : goal.returns-clause-ok
+returns-clause-ok c = record {
+  is_table = c.in_ok-text.ensures.ok.is_table;
+  terms = _;
+  read = rw take_rest at c.in-Ok.ensures.ok;
+  is = rw (← c.in_ok-text.ensures.ok.is, ← c.deref.ensures.value, ← c.in_ok-lines.ensures.ok, ← c.as_str.ensures.value) c.in_ok-push_str.ensures.bytes;
+}

@@ -1,0 +1,49 @@
+-- Reports of bytes.
+use Rattle.std.specs.Prelude.{◌≡◌, ◌≢◌, ◌⊎◌, ℕ, List, ◌++◌, drop}
+use Rattle.acpi_term.specs.declared.read_error.ReadError.{ReadError}
+use Rattle.acpi_term.specs.declared.read_error.ReadError.TheVariants.{Memory}
+use Rattle.acpi_term.specs.Tree.{Terms}
+use Rattle.acpi_read.specs.Table.{IsTable, IsFault}
+use Rattle.acpi_read.specs.Terms.{AreRead, IsUnread}
+use Rattle.acpi_read.specs.Report.{header_line}
+use Rattle.acpi_read.specs.Lines.{lines}
+use Rattle.acpiread_run.specs.declared.fault.Fault.{Fault}
+use Rattle.acpiread_run.specs.Fault.{IsRefusal, IsRefusalAfter}
+
+-- the bytes are a table, and a text is its report
+pub record IsTableReport (bytes text : List ℕ) : Type 0 where
+  pub is_table : IsTable bytes
+  pub is : text ≡ header_line bytes
+
+-- the bytes spell terms, and a text is their report
+pub record IsAmlReport (arity : List ℕ → ℕ) (bytes text : List ℕ) : Type 0 where
+  pub terms : Terms
+  pub read : AreRead arity bytes terms
+  pub is : text ≡ lines 0 terms
+
+-- the bytes are a table that has terms after its header, and a text is the table's report and the terms' after it
+pub record IsDsdtReport (arity : List ℕ → ℕ) (bytes text : List ℕ) : Type 0 where
+  pub is_table : IsTable bytes
+  pub terms : Terms
+  pub read : AreRead arity (drop 36 bytes) terms
+  pub is : text ≡ header_line bytes ++ lines 0 terms
+
+-- a fault tells what is at fault in the bytes of a table, or that memory ran out
+pub record IsTableFault (bytes : List ℕ) (fault : Fault) : Type 0 where
+  pub error : ReadError
+  pub refusal : IsRefusal error fault
+  pub cause : error ≢ Memory → IsFault error bytes
+
+-- a fault tells why the bytes from an offset on aren't read as terms, or that memory ran out
+pub record IsTermsFault (arity : List ℕ → ℕ) (start : ℕ) (bytes : List ℕ) (fault : Fault) : Type 0 where
+  pub error : ReadError
+  pub refusal : IsRefusalAfter start error fault
+  pub cause : IsUnread arity (drop start bytes) error
+
+-- the bytes are a table, and a fault is one of the terms after its header
+pub record IsBodyFault (arity : List ℕ → ℕ) (bytes : List ℕ) (fault : Fault) : Type 0 where
+  pub is_table : IsTable bytes
+  pub terms : IsTermsFault arity 36 bytes fault
+
+abbrev pub IsDsdtFault : (List ℕ → ℕ) → List ℕ → Fault → Type 0
+IsDsdtFault arity bytes fault = IsTableFault bytes fault ⊎ IsBodyFault arity bytes fault

@@ -1,0 +1,48 @@
+//! Reports of bytes, wherever they come from.
+
+ghost use Rattle.std.specs.Prelude.{string_bytes, IfOk, IfErr};
+ghost use Rattle.acpi_term.specs.Arity.{arity};
+ghost use Rattle.acpiread_run.specs.Report.{IsTableReport, IsAmlReport, IsDsdtReport, IsTableFault, IsTermsFault, IsDsdtFault};
+
+use crate::fault::Fault;
+use acpi_read::report::{report_table, report_terms};
+use acpi_read::table::Table;
+use acpi_read::terms::terms;
+use acpi_term::name_string::Arities;
+use std::alloc::Global;
+
+/// Where the terms of a table begin: after its header.
+const BODY: usize = 36;
+
+/// The report of a table.
+pub fn table_report(alloc: Global, bytes: &[u8]) -> Result<String, Fault>
+    ensures ok { IfOk result (λ text. IsTableReport bytes.now (string_bytes text)) }
+    ensures err { IfErr result (IsTableFault bytes.now) }
+{
+    let table = Table::check(bytes)?;
+    Ok(report_table(alloc, &table)?)
+}
+
+/// The report of the terms that the bytes spell, where names have these numbers of arguments.
+pub fn aml_report(alloc: Global, bytes: &[u8], arities: &Arities) -> Result<String, Fault>
+    ensures ok { IfOk result (λ text. IsAmlReport (arity arities.now) bytes.now (string_bytes text)) }
+    ensures err { IfErr result (IsTermsFault (arity arities.now) 0 bytes.now) }
+{
+    let terms = terms(bytes, arities)?;
+    Ok(report_terms(alloc, &terms)?)
+}
+
+/// The report of a table, and of the terms after its header.
+pub fn dsdt_report(alloc: Global, bytes: &[u8], arities: &Arities) -> Result<String, Fault>
+    ensures ok { IfOk result (λ text. IsDsdtReport (arity arities.now) bytes.now (string_bytes text)) }
+    ensures err { IfErr result (IsDsdtFault (arity arities.now) bytes.now) }
+{
+    let mut text = table_report(alloc, bytes)?;
+    let body = match terms(&bytes[BODY..], arities) {
+        Ok(body) => body,
+        Err(error) => return Err(Fault::after(BODY, error)),
+    };
+    let lines = report_terms(alloc, &body)?;
+    text.push_str(lines.as_str())?;
+    Ok(text)
+}
