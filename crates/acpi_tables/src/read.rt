@@ -1,7 +1,8 @@
 //! Reading what anyone has written: tables that are checked, their reports, and the terms of AML.
 
-pub use acpi_read::report::report_table;
+pub use acpi_read::report::{report_table, report_terms};
 pub use acpi_read::table::Table;
+pub use acpi_read::terms::{terms, terms_of};
 pub use acpi_term::name_string::{Arities, NameString};
 pub use acpi_term::op::Op;
 pub use acpi_term::read_error::ReadError;

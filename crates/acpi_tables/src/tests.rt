@@ -4,6 +4,7 @@ mod buffers;
 mod objects;
 mod operators;
 mod packages;
+mod reading;
 mod refusing;
 mod tables;
 
