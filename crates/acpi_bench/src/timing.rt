@@ -1,0 +1,67 @@
+//! Times of reading.
+
+ghost use Rattle.std.specs.Prelude.{IfOk};
+ghost use Rattle.acpi_term.specs.Arity.{arity};
+ghost use Rattle.acpi_bench.specs.Counted.{AreCounted};
+
+use crate::fault::Fault;
+use acpi_tables::read::{Arities, terms};
+use std::fmt;
+use std::fmt::{Display, Formatter, Write};
+use std::rt::Clock;
+use std::time::{Duration, Instant};
+
+/// How many terms there are at the top, and how many nanoseconds it took to read them and to drop them.
+#[derive(Clone, Copy, Debug)]
+pub struct Times {
+    pub terms: usize,
+    pub read: u64,
+    pub dropped: u64,
+}
+
+/// Nanoseconds that are shown as milliseconds, with tenths.
+#[derive(Clone, Copy, Debug)]
+pub struct Millis(pub u64);
+
+impl Display for Millis {
+    fn fmt<W: Write>(&self, f: &mut Formatter<W>) -> fmt::Result {
+        let tenths = self.0 / 100_000;
+        write!(f, "{}.{}", tenths / 10, tenths % 10)
+    }
+}
+
+// A time past 2^64 nanoseconds is shown as the last one.
+fn nanos(time: Duration) -> u64 {
+    u64::try_from(time.as_nanos()).unwrap_or(u64::MAX)
+}
+
+// Reads terms and drops them.
+fn once(rt: &impl Clock, bytes: &[u8], arities: &Arities) -> Result<Times, Fault>
+    ensures { IfOk result (λ times. AreCounted (arity arities.now) bytes.now times.terms) }
+{
+    let start = Instant::now(rt)?;
+    let list = terms(bytes, arities)?;
+    let read = nanos(start.elapsed(rt)?);
+    let count = list.len();
+    let start = Instant::now(rt)?;
+    drop(list);
+    let dropped = nanos(start.elapsed(rt)?);
+    Ok(Times {
+        terms: count,
+        read,
+        dropped,
+    })
+}
+
+/// The least times of so many turns, and of one at least.
+pub fn least(rt: &impl Clock, bytes: &[u8], arities: &Arities, turns: u8) -> Result<Times, Fault>
+    ensures { IfOk result (λ times. AreCounted (arity arities.now) bytes.now times.terms) }
+{
+    let mut least = once(rt, bytes, arities)?;
+    for _ in 1..turns {
+        let next = once(rt, bytes, arities)?;
+        least.read = least.read.min(next.read);
+        least.dropped = least.dropped.min(next.dropped);
+    }
+    Ok(least)
+}
