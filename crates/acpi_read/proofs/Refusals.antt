@@ -1,5 +1,5 @@
 -- What reading all of the bytes says of them.
-use Rattle.std.proofs.Common.{◌≡◌, ℕ, ◌≤◌, leb, List, length, Result, Ok, Err, sym, ◌∙◌, inl, inr}
+use Rattle.std.proofs.Common.{◌≡◌, ℕ, ◌≤◌, leb, List, length, Result, Ok, Err, refl, sym, ◌∙◌, inl, inr, arith}
 use Rattle.std.specs.Prelude.{IfOk, IfErr}
 use Rattle.std.proofs.lemmas.Bool.{leb-false}
 use Rattle.acpi_base.specs.Bytes.{AreBytes}
@@ -7,10 +7,11 @@ use Rattle.acpi_term.specs.declared.mode.Mode.TheVariants.{Term}
 use Rattle.acpi_term.specs.declared.read_error.ReadError.{ReadError}
 use Rattle.acpi_term.specs.declared.read_error.ReadError.TheVariants as errors
 use Rattle.acpi_term.specs.Tree.{Terms, depth}
+use Rattle.acpi_term.specs.Spelling.{Spells}
 use Rattle.acpi_term.proofs.Reading.{Fault, Deep, Bad, all_of, term_at}
 use Rattle.acpi_term.proofs.Steps.{chosen}
 use Rattle.acpi_term.proofs.Taken.{list_takes}
-use Rattle.acpi_term.proofs.Unique.{reads}
+use Rattle.acpi_term.proofs.Unique.{reads, one_list}
 use Rattle.acpi_read.specs.Cause.{Answers, IsTold}
 use Rattle.acpi_read.specs.Terms.{AreRead, AreTooDeep, AreRefused, IsUnread}
 
@@ -63,3 +64,33 @@ module _ (arity : List ℕ → ℕ) (bytes : List ℕ) where
   pub is_unread : {X : Type 0} (view : X → Terms) (r : Result X ReadError) → Answers view r read → IfErr r (IsTold (length bytes)) → IfErr r (IsUnread arity bytes)
   is_unread view (Ok x) given told = tt
   is_unread view (Err e) given told = unread view e given told
+
+  -- ---- where terms are spelled
+
+  module _ (ts : Terms) (s : Spells arity Term bytes ts) (shallow : depth ts ≤ 255) where
+    pub only_these : (us : Terms) → AreRead arity bytes us → us ≡ ts
+    only_these us r = one_list arity Term bytes us ts r.spelled s
+
+    none_refused : {e : ReadError} (offset : ℕ) → AreRefused arity bytes offset → e ≡ errors.Memory
+    none_refused offset r = absurd (r.no_terms ts s)
+
+    pub only_memory : (e : ReadError) → IsUnread arity bytes e → e ≡ errors.Memory
+    only_memory errors.Memory r = refl
+    only_memory (errors.Truncated offset) r = none_refused offset r
+    only_memory (errors.Opcode offset) r = none_refused offset r
+    only_memory errors.NameText r = absurd r
+    only_memory (errors.Length offset) r = none_refused offset r
+    only_memory (errors.Number offset) r = absurd r
+    only_memory (errors.Count offset) r = none_refused offset r
+    only_memory (errors.Flags offset) r = none_refused offset r
+    only_memory (errors.Text offset) r = none_refused offset r
+    only_memory (errors.TooDeep offset) r = absurd (omega (arith, r.deep ts s, shallow))
+    only_memory errors.Arity r = absurd r
+    only_memory (errors.ShortHeader offset) r = absurd r
+    only_memory (errors.TableLength offset) r = absurd r
+    only_memory (errors.Sum offset) r = absurd r
+    only_memory (errors.Structure offset) r = absurd r
+    only_memory (errors.UnknownSource offset) r = absurd r
+
+pub spelled_are_read : (arity : List ℕ → ℕ) (bytes : List ℕ) (ts : Terms) → Spells arity Term bytes ts → depth ts ≤ 255 → ((us : Terms) → AreRead arity bytes us → us ≡ ts) × ((e : ReadError) → IsUnread arity bytes e → e ≡ errors.Memory)
+spelled_are_read arity bytes ts s shallow = (only_these arity bytes ts s shallow, only_memory arity bytes ts s shallow)

@@ -14,8 +14,8 @@ pub mod tpm2;
 
 pub use acpi_base::checksum::Checksum;
 pub use acpi_base::error::{Error, R};
-pub use acpi_base::object::{Aml, u8sum};
 pub use acpi_base::header::{CREATOR_ID, CREATOR_REVISION};
+pub use acpi_base::object::{Aml, u8sum};
 pub use acpi_base::sink::AmlSink;
 
 #[cfg(test)]

@@ -4,6 +4,7 @@ mod buffers;
 mod objects;
 mod operators;
 mod values;
+mod widths;
 
 use crate::read::{Arities, NameString, Term, report_terms, terms, terms_of};
 use crate::{Aml, R};

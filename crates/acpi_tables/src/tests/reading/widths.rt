@@ -1,0 +1,75 @@
+//! Widths that no writer of ours chooses: they are read, kept and told.
+
+use super::{nothing_stated, prints};
+use crate::read::terms;
+use std::test::Fail;
+
+#[test]
+fn numbers(rt: HostRuntime) -> Result<(), Fail> {
+    let alloc = rt.alloc();
+    let none = nothing_stated(alloc)?;
+    prints(&rt, alloc, &[0x0a, 0x01], &none, "number 1 width 1\n")?;
+    prints(
+        &rt,
+        alloc,
+        &[0x0e, 0, 0, 0, 0, 0, 0, 0, 0],
+        &none,
+        "number 0 width 8\n",
+    )?;
+    prints(
+        &rt,
+        alloc,
+        &[0x0c, 0x02, 0x00, 0x00, 0x00],
+        &none,
+        "number 2 width 4\n",
+    )
+}
+
+#[test]
+fn frames(rt: HostRuntime) -> Result<(), Fail> {
+    let alloc = rt.alloc();
+    let none = nothing_stated(alloc)?;
+    prints(
+        &rt,
+        alloc,
+        &[0x12, 0x45, 0x00, 0x02, 0x00, 0x01],
+        &none,
+        "package 2 width 2\n  number 0\n  number 1\n",
+    )?;
+    prints(
+        &rt,
+        alloc,
+        &[0x11, 0x85, 0x00, 0x00, 0x00, 0xab],
+        &none,
+        "buffer data ab width 3\n  number 0\n",
+    )?;
+    assert!(rt; terms(&[0x12, 0x05, 0x02, 0x00, 0x01], &none).is_err());
+    Ok(())
+}
+
+#[test]
+fn entries(rt: HostRuntime) -> Result<(), Fail> {
+    let alloc = rt.alloc();
+    let none = nothing_stated(alloc)?;
+    prints(
+        &rt,
+        alloc,
+        b"\x5b\x81\x08PRST\x00\x00\x3f",
+        &none,
+        "field PRST access 0 lock 0 update 0\n  reserved bits 63 width 1\n",
+    )?;
+    prints(
+        &rt,
+        alloc,
+        b"\x5b\x81\x09PRST\x00\x00\x4f\x03",
+        &none,
+        "field PRST access 0 lock 0 update 0\n  reserved bits 63\n",
+    )?;
+    prints(
+        &rt,
+        alloc,
+        b"\x5b\x81\x0cPRST\x00CPEN\x41\x00",
+        &none,
+        "field PRST access 0 lock 0 update 0\n  entry CPEN bits 1 width 2\n",
+    )
+}
