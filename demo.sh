@@ -1,6 +1,7 @@
 #!/bin/sh
-# Has one program write tables and the other read them: one whole, and without its last byte, and one with its AML. Both are
-# proved before they are built, with everything that they stand on. The first run takes minutes, and a later one seconds.
+# Has one program write tables and the other read them: each whole, one without its last byte, and one with its AML. Then the
+# reader meets what only the system can give it. Both are proved before they are built, with everything that they stand on.
+# The first run takes minutes, and a later one seconds.
 set -eu
 cd "$(dirname "$0")"
 
@@ -14,22 +15,41 @@ expect() {
 }
 
 prove_libraries acpi_example acpiread
-quietly acpi_example run -- "$work/table" "$work/namespace"
-quietly acpiread run -- table "$work/table"
+mkdir "$work/acpi"
+quietly acpi_example run -- "$work/acpi"
+quietly acpiread run -- table "$work/acpi/package"
 read=crates/acpiread/out/acpiread
 
-line=$("$read" table "$work/table") || true
-echo "$line"
-expect "$line" 'DSDT length 41 revision 2 sum 0'
+# A table that was written, and the line that the reader tells of it.
+tells() {
+    line=$("$read" table "$work/acpi/$1") || true
+    echo "$line"
+    expect "$line" "$2"
+}
 
-head -c 40 "$work/table" >"$work/cut"
-status=0
-line=$("$read" table "$work/cut" 2>&1) || status=$?
-echo "$line"
-expect "$line" 'refused at 4: TableLength'
-expect "status $status" 'status 1'
+tells package 'DSDT length 41 revision 2 sum 0'
+tells madt 'APIC length 72 revision 1 sum 0'
+tells mcfg 'MCFG length 60 revision 1 sum 0'
+tells srat 'SRAT length 128 revision 1 sum 0'
+tells xsdt 'XSDT length 60 revision 1 sum 0'
 
-lines=$("$read" dsdt "$work/namespace") || true
+# What a run ends with that prints no report: its status, its line, and the words.
+ends() {
+    wanted=$1
+    told=$2
+    shift 2
+    status=0
+    line=$("$read" "$@" 2>&1 >"$output") || status=$?
+    echo "$line"
+    expect "$line" "$told"
+    expect "status $status" "status $wanted"
+}
+
+output=/dev/null
+head -c 40 "$work/acpi/package" >"$work/cut"
+ends 1 'refused at 4: TableLength' table "$work/cut"
+
+lines=$("$read" dsdt "$work/acpi/namespace") || true
 echo "$lines"
 expect "$lines" 'DSDT length 137 revision 2 sum 0
 scope \_SB_
@@ -49,3 +69,10 @@ device _SB_.COM1
   define _CRS
     buffer data 8906000301040000004701f803f80300087900
       number 19'
+
+# A word that is no text, a file without an end, too little memory, and output that can't be written.
+ends 2 'usage: acpiread table FILE | aml FILE [NAME=N ..] | dsdt FILE [NAME=N ..]' table "$(printf 'table\377')"
+ends 1 'refused at 4: TableLength' table /dev/zero
+(ulimit -v 100000 && ends 1 'refused: Memory' aml /dev/zero)
+output=/dev/full
+ends 1 "the output can't be written" table "$work/acpi/package"

@@ -6,10 +6,10 @@ use Rattle.acpi_base.specs.Sink.{Meaning, Took, Refused}
 use Rattle.acpi_base.specs.Number.{number}
 use Rattle.acpi_base.specs.Object.{Object, whole, ended, Wrote, WriteRefused}
 use Rattle.acpi_base.proofs.Objects.{wrote_whole, refused_whole}
-use Rattle.acpi_term.specs.Tree.{buffer}
+use Rattle.acpi_term.specs.Tree.{def_buffer}
 use Rattle.acpi_term.specs.Length.{least_width, length_bytes}
 use Rattle.acpi_term.specs.Row.{frame_end, row}
-use Rattle.acpi_aml.specs.Buffer.{buffer_of_bytes}
+use Rattle.acpi_term.specs.Template.{buffer_of_bytes}
 
 -- the buffer of a size and bytes, where these are so many
 sized : List ℕ → ℕ → Object
@@ -19,7 +19,7 @@ sized bytes n = ended (frame_end n) (whole (17 ∷ length_bytes (least_width n) 
 pub sixteen : (bytes : List ℕ) → length bytes ≡ 16 → buffer_of_bytes bytes ≡ whole (17 ∷ 19 ∷ 10 ∷ 16 ∷ bytes)
 unfolding length_bytes sized
 sixteen bytes size =
-    let told : buffer_of_bytes bytes ≡ sized bytes (length (10 ∷ 16 ∷ bytes)) = ap (λ (n : ℕ). row (buffer bytes) (whole (number n) ∷ [])) size in
+    let told : buffer_of_bytes bytes ≡ sized bytes (length (10 ∷ 16 ∷ bytes)) = ap (λ (n : ℕ). row (def_buffer bytes) (whole (number n) ∷ [])) size in
     told ∙ ap (λ (n : ℕ). sized bytes (suc (suc n))) size
 
 module _ {T : Type 0} (r : Result T Error) (made bytes : List ℕ) (m k : Meaning) (size : length bytes ≡ 16) (same : made ≡ 17 ∷ 19 ∷ 10 ∷ 16 ∷ bytes) where

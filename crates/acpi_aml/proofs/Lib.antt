@@ -4,3 +4,4 @@ pub mod Digits
 pub mod Fields
 pub mod Meanings
 pub mod Uuids
+pub mod Families

@@ -5,7 +5,7 @@ use Rattle.std.proofs.lemmas.List.{reverse-append}
 use Rattle.std.proofs.lemmas.Bool.Decides.{nat_tests}
 use Rattle.acpi_base.specs.Bytes.{AreBytes}
 use Rattle.acpi_term.proofs.Bytes.{bytes_both}
-use Rattle.acpi_aml.specs.Hex.{hex_digit, paired, hex_byte, led, hex_bytes}
+use Rattle.acpi_aml.specs.Hex.{digit_value, paired, byte_of_digits, led, bytes_of_digits}
 use Rattle.acpi_aml.specs.Uuid.{is_grouped, grouped, uuid_bytes}
 
 tested : (s t u : Bool) (x y z v : ℕ) → (IsTrue s → x < 16) → (IsTrue t → y < 16) → (IsTrue u → z < 16)
@@ -24,7 +24,7 @@ upper b h = grind (arith, nat_tests)
 lower : (b : ℕ) → IsTrue (nat_le 97 b && nat_le b 102) → b - 97 + 10 < 16
 lower b h = grind (arith, nat_tests)
 
-digit_small : (b v : ℕ) → hex_digit b ≡ Some v → v < 16
+digit_small : (b v : ℕ) → digit_value b ≡ Some v → v < 16
 digit_small b v h = tested (nat_le 48 b && nat_le b 57) (nat_le 65 b && nat_le b 70) (nat_le 97 b && nat_le b 102) (b - 48) (b - 65 + 10) (b - 97 + 10) v (decimal b) (upper b) (lower b) h
 
 paired_small : (o p : Option ℕ) (v : ℕ) → ((d : ℕ) → o ≡ Some d → d < 16) → ((d : ℕ) → p ≡ Some d → d < 16) → paired o p ≡ Some v → v < 256
@@ -32,18 +32,18 @@ paired_small (Some d) (Some e) v a b h = let k : 16 * d + e ≡ v = cc in omega 
 paired_small (Some d) None v a b h = absurd cc
 paired_small None p v a b h = absurd cc
 
-byte_small : (high low v : ℕ) → hex_byte high low ≡ Some v → v < 256
-byte_small high low v = paired_small (hex_digit high) (hex_digit low) v (digit_small high) (digit_small low)
+byte_small : (high low v : ℕ) → byte_of_digits high low ≡ Some v → v < 256
+byte_small high low v = paired_small (digit_value high) (digit_value low) v (digit_small high) (digit_small low)
 
 led_bytes : (o : Option ℕ) (p : Option (List ℕ)) (bytes : List ℕ) → ((v : ℕ) → o ≡ Some v → v < 256) → ((l : List ℕ) → p ≡ Some l → AreBytes l) → led o p ≡ Some bytes → AreBytes bytes
 led_bytes (Some b) (Some l) bytes first rest h = let e : b ∷ l ≡ bytes = cc in subst AreBytes e (first b refl, rest l refl)
 led_bytes (Some b) None bytes first rest h = absurd cc
 led_bytes None p bytes first rest h = absurd cc
 
-pub hex_are_bytes : (text bytes : List ℕ) → hex_bytes text ≡ Some bytes → AreBytes bytes
-hex_are_bytes [] bytes h = let e : [] ≡ bytes = cc in subst AreBytes e tt
-hex_are_bytes (odd ∷ []) bytes h = absurd cc
-hex_are_bytes (high ∷ low ∷ more) bytes h = led_bytes (hex_byte high low) (hex_bytes more) bytes (byte_small high low) (hex_are_bytes more) h
+pub digits_are_bytes : (text bytes : List ℕ) → bytes_of_digits text ≡ Some bytes → AreBytes bytes
+digits_are_bytes [] bytes h = let e : [] ≡ bytes = cc in subst AreBytes e tt
+digits_are_bytes (odd ∷ []) bytes h = absurd cc
+digits_are_bytes (high ∷ low ∷ more) bytes h = led_bytes (byte_of_digits high low) (bytes_of_digits more) bytes (byte_small high low) (digits_are_bytes more) h
 
 turned : (a : List ℕ) → AreBytes a → AreBytes (reverse a)
 turned [] is = tt
@@ -67,6 +67,6 @@ passed false o u h = absurd cc
 
 pub uuid_are_bytes : (text u : List ℕ) → uuid_bytes text ≡ Some u → AreBytes u
 uuid_are_bytes text u h =
-    grouped_bytes (hex_bytes (slice_range text 0 8)) (hex_bytes (slice_range text 9 13)) (hex_bytes (slice_range text 14 18)) (hex_bytes (slice_range text 19 23)) (hex_bytes (slice_range text 24 36)) u
-    (hex_are_bytes (slice_range text 0 8)) (hex_are_bytes (slice_range text 9 13)) (hex_are_bytes (slice_range text 14 18)) (hex_are_bytes (slice_range text 19 23)) (hex_are_bytes (slice_range text 24 36))
+    grouped_bytes (bytes_of_digits (slice_range text 0 8)) (bytes_of_digits (slice_range text 9 13)) (bytes_of_digits (slice_range text 14 18)) (bytes_of_digits (slice_range text 19 23)) (bytes_of_digits (slice_range text 24 36)) u
+    (digits_are_bytes (slice_range text 0 8)) (digits_are_bytes (slice_range text 9 13)) (digits_are_bytes (slice_range text 14 18)) (digits_are_bytes (slice_range text 19 23)) (digits_are_bytes (slice_range text 24 36))
     (passed (is_grouped text) _ u h)

@@ -1,10 +1,10 @@
 -- Packages that grow.
-use Rattle.std.specs.Prelude.{ℕ, ◌+◌, nat_lt, if◌then◌else◌, List, [], ◌∷◌, ◌++◌, true, Some, None, IsTrue, refl}
+use Rattle.std.specs.Prelude.{ℕ, ◌+◌, nat_lt, if◌then◌else◌, List, [], ◌∷◌, ◌++◌, true, false, Some, None, IsTrue, refl}
 use Rattle.acpi_base.specs.declared.error.Error.TheVariants.{PackageElements}
 use Rattle.acpi_base.specs.Sink.{Meaning}
-use Rattle.acpi_base.specs.Object.{Object, ended}
-use Rattle.acpi_term.specs.Tree.{pack}
-use Rattle.acpi_term.specs.Row.{layout, over}
+use Rattle.acpi_base.specs.Object.{Object, whole, ended}
+use Rattle.acpi_term.specs.Tree.{def_package}
+use Rattle.acpi_term.specs.Row.{layout, around}
 
 -- the bytes of the elements, and how many were counted
 pub record Builder : Type 0 where
@@ -27,13 +27,14 @@ with_elements b (object ∷ objects) = with_elements (with_element b object) obj
 
 -- what it writes
 abbrev pub package_of : Builder → Object
-package_of b = over (layout pack 0 b.elements) b.bytes
+package_of b = around (layout def_package 0 b.elements) (whole b.bytes)
 
 -- As a sink it shows its count and then all its bytes, and counts nothing.
 unfoldable pub builder_of : Builder → Meaning
 builder_of b = record {
   shows = λ more. b.elements ∷ b.bytes ++ more;
   takes = λ _. true;
+  tells = λ _. false;
   wants_memory = true;
 }
 

@@ -1,14 +1,14 @@
 -- EISA ids (ACPI 6.5, 19.3.4).
 use Rattle.std.specs.Prelude.{ℕ, ◌+◌, ◌-◌, ◌*◌, ◌^◌, nat_le, ◌&&◌, Bool, if◌then◌else◌, List, [], ◌∷◌, Option, Some, None}
 use Rattle.std.specs.Int.{w32, swap_bytes}
-use Rattle.acpi_aml.specs.Hex.{hex_byte}
+use Rattle.acpi_aml.specs.Hex.{byte_of_digits}
 
 abbrev pub is_upper : ℕ → Bool
-is_upper b = nat_le 65 b && nat_le b 90
+is_upper b = nat_le 0x41 b && nat_le b 0x5a
 
 -- three letters, by their place in the alphabet, at bits 26, 21 and 16, and two bytes below
 abbrev pub packed : ℕ → ℕ → ℕ → ℕ → ℕ → ℕ
-packed a b c high low = (a - 64) * 2 ^ 26 + (b - 64) * 2 ^ 21 + (c - 64) * 2 ^ 16 + high * 2 ^ 8 + low
+packed a b c high low = (a - 0x40) * 2 ^ 26 + (b - 0x40) * 2 ^ 21 + (c - 0x40) * 2 ^ 16 + high * 2 ^ 8 + low
 
 -- the 32 bits with their bytes the other way round, where both bytes are there
 abbrev pub swapped : ℕ → ℕ → ℕ → Option ℕ → Option ℕ → Option ℕ
@@ -17,5 +17,5 @@ swapped a b c _ _ = None
 
 -- the id of a text, where it is three upper-case letters and four hexadecimal digits
 abbrev pub eisa_value : List ℕ → Option ℕ
-eisa_value (a ∷ b ∷ c ∷ d ∷ e ∷ f ∷ g ∷ []) = if is_upper a && is_upper b && is_upper c then swapped a b c (hex_byte d e) (hex_byte f g) else None
+eisa_value (a ∷ b ∷ c ∷ d ∷ e ∷ f ∷ g ∷ []) = if is_upper a && is_upper b && is_upper c then swapped a b c (byte_of_digits d e) (byte_of_digits f g) else None
 eisa_value _ = None

@@ -8,7 +8,7 @@ use Rattle.acpi_aml.specs.declared.field.FieldUpdateRule.{FieldUpdateRule}
 use Rattle.acpi_aml.specs.declared.field.FieldUpdateRule.TheVariants as update
 use Rattle.acpi_aml.specs.declared.field.FieldEntry.{FieldEntry}
 use Rattle.acpi_aml.specs.declared.field.FieldEntry.TheVariants.{Named, Reserved}
-use Rattle.acpi_term.specs.Tree.{Entry}
+use Rattle.acpi_term.specs.Tree.{Entry, Head, def_field}
 use Rattle.acpi_term.specs.Row.{named_entry, reserved_entry}
 
 -- AccessType
@@ -38,3 +38,8 @@ entry_of (Reserved bits) = reserved_entry bits
 
 abbrev pub entries_of : List FieldEntry → List Entry
 entries_of entries = map entry_of entries
+
+-- a field's head
+abbrev pub field_head : List ℕ → FieldAccessType → FieldLockRule → FieldUpdateRule → List FieldEntry → Head
+field_head path access_type lock_rule update_rule fields =
+    def_field path (access_number access_type) (lock_number lock_rule) (update_number update_rule) (entries_of fields)

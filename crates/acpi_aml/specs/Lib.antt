@@ -1,4 +1,3 @@
-pub mod Buffer
 pub mod EndsWell
 pub mod Region
 pub mod Field

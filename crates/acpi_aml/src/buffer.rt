@@ -1,117 +1,86 @@
 //! Buffers.
 
-ghost use Rattle.std.specs.Prelude.{ℕ, List, [], ◌∷◌, map, IfOk, IfErr};
-ghost use Rattle.acpi_base.specs.Object.{whole, whole_ends_well, Builds, Built, IsOwnEnd};
-ghost use Rattle.acpi_term.specs.Tree.{buffer};
+ghost use Rattle.std.specs.Prelude.{◌≡◌, ◌≤◌, [], ◌∷◌, take, map};
+ghost use Rattle.acpi_base.specs.Number.{number};
+ghost use Rattle.acpi_base.specs.Object.{Builds};
+ghost use Rattle.acpi_term.specs.Made.{Makes};
+ghost use Rattle.acpi_term.specs.Tree.{def_buffer};
 ghost use Rattle.acpi_term.specs.Row.{row};
-ghost use Rattle.acpi_aml.specs.Buffer.{buffer_of_bytes, template};
+ghost use Rattle.acpi_term.specs.Template.{buffer_of_bytes, template};
 
+use crate::written::Written;
 use acpi_base::buffer::append_all;
 use acpi_base::error::R;
 use acpi_base::object::Aml;
-use acpi_base::sink::AmlSink;
-use acpi_term::row::{boxed, tailed};
+use acpi_term::row::{frame_length, framed, insert, with_room};
 use std::alloc::Global;
-use std::marker::Model;
 
 /// A buffer whose size and bytes an object writes (ACPI 6.5, 20.2.5.4, DefBuffer).
-#[derive(Drop)]
-pub struct BufferTerm {
-    bytes: Vec<u8>,
-}
+pub type BufferTerm = Written<DefBuffer>;
 
-impl Model for BufferTerm {
-    ghost Value = { List ℕ };
-
-    ghost view = { λ o. o.bytes.items };
-}
-
-impl Aml for BufferTerm {
-    ghost object = { λ o. whole o };
-
-    ghost ends_well = { λ o. whole_ends_well o };
-
-    #[tactic(auto, using(acpi_base::proofs::Objects::refused_by_sink))]
-    fn to_aml_bytes(&self, sink: &mut dyn AmlSink) -> R<()> {
-        sink.vec(&self.bytes)
-    }
-}
+pub struct DefBuffer;
 
 impl BufferTerm {
     /// `content` writes the size and then the bytes. Its refusal, else PkgLength from 2^28 bytes on.
     pub fn new(alloc: Global, content: &dyn Aml) -> R<BufferTerm>
-        ensures { Builds result (row (buffer []) (object content.now ∷ [])) }
+        ensures { Builds result (row (def_buffer []) (object content.now ∷ [])) }
     {
-        let bytes = boxed(alloc, &[0x11], &[], &[content])?;
-        Ok(BufferTerm { bytes })
+        let before = with_room(alloc, &[])?;
+        let bytes = framed(&[0x11], before, &[content], &[])?;
+        Ok(Written::of(bytes))
     }
 }
 
 /// A buffer of bytes, with their number as its size (ACPI 6.5, 20.2.5.4, DefBuffer).
-#[derive(Drop)]
-pub struct BufferData {
-    bytes: Vec<u8>,
-}
+pub type BufferData = Written<ByteList>;
 
-impl Model for BufferData {
-    ghost Value = { List ℕ };
-
-    ghost view = { λ o. o.bytes.items };
-}
-
-impl Aml for BufferData {
-    ghost object = { λ o. whole o };
-
-    ghost ends_well = { λ o. whole_ends_well o };
-
-    #[tactic(auto, using(acpi_base::proofs::Objects::refused_by_sink))]
-    fn to_aml_bytes(&self, sink: &mut dyn AmlSink) -> R<()> {
-        sink.vec(&self.bytes)
-    }
-}
+pub struct ByteList;
 
 impl BufferData {
     /// PkgLength from 2^28 bytes on.
     pub fn new(content: Vec<u8>) -> R<BufferData>
         ensures { Builds result (buffer_of_bytes content.items) }
     {
-        let alloc = *content.allocator();
-        let bytes = buffer_of_bytes(alloc, &content)?;
-        Ok(BufferData { bytes })
+        let bytes = buffer_of_bytes(content)?;
+        Ok(Written::of(bytes))
     }
 }
 
-// The buffer of bytes.
-fn buffer_of_bytes(alloc: Global, content: &[u8]) -> R<Vec<u8>>
-    ensures ok { IfOk result (λ v. Built (buffer_of_bytes content.now) v.items) }
-    ensures err { IfErr result (λ e. IsOwnEnd e (buffer_of_bytes content.now)) }
+// The buffer of the bytes that are there, which are moved up once.
+fn buffer_of_bytes(content: Vec<u8>) -> R<Vec<u8>>
+    ensures { Makes result (buffer_of_bytes content.items) }
 {
-    let size = content.len();
-    tailed(alloc, &[0x11], &[&size], content)
+    let (size, digits) = number_bytes(content.len() as u64);
+    let ([a, b, c, d], used) = frame_length(digits + content.len())?;
+    let mut bytes = content;
+    insert(
+        &mut bytes,
+        0,
+        &[0x11, a, b, c, d][..1 + used],
+        &size[..digits],
+    )?;
+    Ok(bytes)
+}
+
+// A number in its shortest form: the first of nine bytes, and how many they are.
+fn number_bytes(value: u64) -> ([u8; 9], usize)
+    ensures within { result.1 ≤ 9 }
+    ensures is { take result.1 result.0 ≡ number value }
+{
+    let [a, b, c, d, e, f, g, h] = value.to_le_bytes();
+    match value {
+        0..=1 => ([a, 0, 0, 0, 0, 0, 0, 0, 0], 1),
+        2..=0xff => ([0x0a, a, 0, 0, 0, 0, 0, 0, 0], 2),
+        0x100..=0xffff => ([0x0b, a, b, 0, 0, 0, 0, 0, 0], 3),
+        0x1_0000..=0xffff_ffff => ([0x0c, a, b, c, d, 0, 0, 0, 0], 5),
+        _ => ([0x0e, a, b, c, d, e, f, g, h], 9),
+    }
 }
 
 /// A buffer of resource descriptors and their end tag (ACPI 6.5, 19.6.120 and 6.4.2.9).
-#[derive(Drop)]
-pub struct ResourceTemplate {
-    bytes: Vec<u8>,
-}
+pub type ResourceTemplate = Written<ResourceDescriptors>;
 
-impl Model for ResourceTemplate {
-    ghost Value = { List ℕ };
-
-    ghost view = { λ o. o.bytes.items };
-}
-
-impl Aml for ResourceTemplate {
-    ghost object = { λ o. whole o };
-
-    ghost ends_well = { λ o. whole_ends_well o };
-
-    #[tactic(auto, using(acpi_base::proofs::Objects::refused_by_sink))]
-    fn to_aml_bytes(&self, sink: &mut dyn AmlSink) -> R<()> {
-        sink.vec(&self.bytes)
-    }
-}
+pub struct ResourceDescriptors;
 
 impl ResourceTemplate {
     /// The descriptors are lent for the call. The first one's refusal, else PkgLength from 2^28 bytes on. The end tag's
@@ -119,11 +88,10 @@ impl ResourceTemplate {
     pub fn new(children: Vec<&dyn Aml>) -> R<ResourceTemplate>
         ensures { Builds result (template (map (λ child. object child.now) children.entry.items)) }
     {
-        let alloc = *children.allocator();
-        let mut content = Vec::new(alloc);
+        let mut content = with_room(*children.allocator(), &[])?;
         append_all(&children, &mut content)?;
         content.extend_from_slice(&[0x79, 0x00])?;
-        let bytes = buffer_of_bytes(alloc, &content)?;
-        Ok(ResourceTemplate { bytes })
+        let bytes = buffer_of_bytes(content)?;
+        Ok(Written::of(bytes))
     }
 }

@@ -1,11 +1,11 @@
 //! Packages that grow by an element at a time.
 
 ghost use Rattle.std.specs.Prelude.{◌≡◌, ◌++◌, [], ◌∷◌, None, OnOk, OnErr, IfErr};
-ghost use Rattle.acpi_base.specs.Object.{IsOwnEnd, Wrote, WriteRefused};
-ghost use Rattle.acpi_term.specs.Tree.{pack};
-ghost use Rattle.acpi_term.specs.Row.{over, layout};
+ghost use Rattle.acpi_base.specs.Object.{whole, IsOwnEnd, Wrote, WriteRefused};
+ghost use Rattle.acpi_term.specs.Tree.{def_package};
+ghost use Rattle.acpi_term.specs.Row.{around, layout};
 ghost use Rattle.acpi_aml.specs.Builder.{Builder, new_builder, element_of, with_element, package_of, builder_of, builder_takes};
-ghost use Rattle.acpi_aml.specs.EndsWell.{boxed_ends_well};
+ghost use Rattle.acpi_aml.specs.EndsWell.{frame_ends_well};
 
 use acpi_base::buffer::append;
 use acpi_base::error::{Error, R};
@@ -54,7 +54,7 @@ impl AmlSink for PackageBuilder {
 impl Aml for PackageBuilder {
     ghost object = { package_of };
 
-    ghost ends_well = { λ b. boxed_ends_well (18 ∷ []) ((b.elements ∷ []) ++ b.bytes) };
+    ghost ends_well = { λ b. frame_ends_well (0x12 ∷ []) ((b.elements ∷ []) ++ (b.bytes ++ [])) };
 
     fn to_aml_bytes(&self, sink: &mut dyn AmlSink) -> R<()> {
         write_package(sink, self.elements, &self.bytes)
@@ -82,9 +82,11 @@ impl PackageBuilder {
         if self.elements == 255 {
             return Err(Error::PackageElements);
         }
-        let mut aside = Vec::new(*self.bytes.allocator());
-        append(element, &mut aside)?;
-        self.bytes.extend_from_slice(&aside)?;
+        let before = self.bytes.len();
+        if let Err(refusal) = append(element, &mut self.bytes) {
+            self.bytes.truncate(before);
+            return Err(refusal);
+        }
         self.elements += 1;
         Ok(())
     }
@@ -92,8 +94,8 @@ impl PackageBuilder {
 
 // Writes a package of so many elements, whose bytes are given.
 fn write_package(sink: &mut dyn AmlSink, count: u8, elements: &[u8]) -> R<()>
-    ensures ok { OnOk result (Wrote (over (layout pack 0 count) elements.now) (meaning sink.old) (meaning sink.new)) }
-    ensures err { IfErr result (λ e. WriteRefused e (over (layout pack 0 count) elements.now) (meaning sink.old) (meaning sink.new)) }
+    ensures ok { OnOk result (Wrote (around (layout def_package 0 count) (whole elements.now)) (meaning sink.old) (meaning sink.new)) }
+    ensures err { IfErr result (λ e. WriteRefused e (around (layout def_package 0 count) (whole elements.now)) (meaning sink.old) (meaning sink.new)) }
 {
     let (length, used) = frame_length(elements.len() + 1)?;
     write_parts(sink, &[&[0x12], &length[..used], &[count], elements])

@@ -5,7 +5,7 @@ ghost use Rattle.acpi_base.specs.Number.{number};
 ghost use Rattle.acpi_base.specs.Object.{whole, whole_ends_well};
 ghost use Rattle.acpi_aml.specs.Eisa.{packed, eisa_value};
 
-use crate::hex::hex_byte;
+use crate::hex::byte_of_digits;
 use acpi_base::error::{Error, R};
 use acpi_base::object::Aml;
 use acpi_base::sink::AmlSink;
@@ -14,13 +14,15 @@ use std::marker::Model;
 /// The id of a device by its maker's three letters and four digits, as a number of 32 bits (ACPI 6.5, 19.3.4).
 #[derive(Drop)]
 pub struct EISAName {
-    value: u32,
+    pub(crate) value: u32,
 }
 
 impl Model for EISAName {
     ghost Value = { ℕ };
 
     ghost view = { λ e. e.value };
+
+    ghost invariant = { λ e. e.value < 2 ^ 32 };
 }
 
 impl Aml for EISAName {
@@ -57,16 +59,16 @@ fn eisa(text: &[u8]) -> Option<u32>
     if !(a.is_ascii_uppercase() && b.is_ascii_uppercase() && c.is_ascii_uppercase()) {
         return None;
     }
-    let high = hex_byte(*d, *e)?;
-    let low = hex_byte(*f, *g)?;
+    let high = byte_of_digits(*d, *e)?;
+    let low = byte_of_digits(*f, *g)?;
     Some(packed(*a, *b, *c, high, low).swap_bytes())
 }
 
 // Three letters at bits 26, 21 and 16, and two bytes below.
 fn packed(a: u8, b: u8, c: u8, high: u8, low: u8) -> u32
-    requires a { (64 ≤ a) × (a ≤ 90) }
-    requires b { (64 ≤ b) × (b ≤ 90) }
-    requires c { (64 ≤ c) × (c ≤ 90) }
+    requires a { (0x40 ≤ a) × (a ≤ 0x5a) }
+    requires b { (0x40 ≤ b) × (b ≤ 0x5a) }
+    requires c { (0x40 ≤ c) × (c ≤ 0x5a) }
     ensures { result ≡ packed a b c high low }
 {
     u32::from(a - 64) * 0x400_0000

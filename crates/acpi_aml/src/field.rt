@@ -1,17 +1,14 @@
 //! Fields of operation regions.
 
-ghost use Rattle.std.specs.Prelude.{◌≡◌, ◌≢◌, ◌++◌, ℕ, List, [], ◌∷◌, OnOk, IfErr, None, Some};
-ghost use Rattle.acpi_base.specs.Object.{whole, whole_ends_well, Builds};
-ghost use Rattle.acpi_term.specs.Tree.{field};
+ghost use Rattle.std.specs.Prelude.{◌≡◌, ◌≢◌, ◌++◌, [], ◌∷◌, OnOk, IfErr, None, Some};
+ghost use Rattle.acpi_base.specs.Object.{Builds};
 ghost use Rattle.acpi_term.specs.Row.{row, entry_bytes, entries_bytes, entries_end};
-ghost use Rattle.acpi_aml.specs.Field.{access_number, lock_number, update_number, entry_of, entries_of};
+ghost use Rattle.acpi_aml.specs.Field.{field_head, entry_of, entries_of};
 
 use crate::path::Path;
+use crate::written::Written;
 use acpi_base::error::{Error, R};
-use acpi_base::object::Aml;
-use acpi_base::sink::AmlSink;
 use acpi_term::row::{field_length, frame};
-use std::marker::Model;
 
 /// How wide the accesses to a field are (ACPI 6.5, 20.2.5.2, AccessType).
 #[derive(Clone, Copy, Debug, PartialEq)]
@@ -47,27 +44,9 @@ pub enum FieldEntry {
 }
 
 /// Names for the bits of an operation region (ACPI 6.5, 20.2.5.2, DefField).
-#[derive(Drop)]
-pub struct Field {
-    bytes: Vec<u8>,
-}
+pub type Field = Written<DefField>;
 
-impl Model for Field {
-    ghost Value = { List ℕ };
-
-    ghost view = { λ o. o.bytes.items };
-}
-
-impl Aml for Field {
-    ghost object = { λ o. whole o };
-
-    ghost ends_well = { λ o. whole_ends_well o };
-
-    #[tactic(auto, using(acpi_base::proofs::Objects::refused_by_sink))]
-    fn to_aml_bytes(&self, sink: &mut dyn AmlSink) -> R<()> {
-        sink.vec(&self.bytes)
-    }
-}
+pub struct DefField;
 
 impl Field {
     /// PkgLength where an entry has 2^28 bits or more, and where the whole would.
@@ -78,14 +57,13 @@ impl Field {
         update_rule: FieldUpdateRule,
         fields: Vec<FieldEntry>,
     ) -> R<Field>
-        ensures { Builds result (row (field path (access_number access_type) (lock_number lock_rule) (update_number update_rule) (entries_of fields.items)) []) }
+        ensures { Builds result (row (field_head path access_type lock_rule update_rule fields.items) []) }
     {
-        let alloc = *fields.allocator();
         let mut content = path.bytes;
         content.push(access_type as u8 + 16 * (lock_rule as u8) + 32 * (update_rule as u8))?;
         append_entries(&fields, &mut content)?;
-        let bytes = frame(alloc, &[0x5b, 0x81], &content)?;
-        Ok(Field { bytes })
+        let bytes = frame(&[0x5b, 0x81], content)?;
+        Ok(Written::of(bytes))
     }
 }
 

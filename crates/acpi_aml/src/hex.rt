@@ -1,11 +1,11 @@
 //! Hexadecimal digits.
 
 ghost use Rattle.std.specs.Prelude.{◌≡◌, ◌<◌, ◌*◌, length, IfSome};
-ghost use Rattle.acpi_aml.specs.Hex.{hex_digit, hex_byte, hex_bytes};
+ghost use Rattle.acpi_aml.specs.Hex.{digit_value, byte_of_digits, bytes_of_digits};
 
 // The value of a digit of either case.
-fn hex_digit(digit: u8) -> Option<u8>
-    ensures value { result ≡ hex_digit digit }
+fn digit_value(digit: u8) -> Option<u8>
+    ensures value { result ≡ digit_value digit }
     ensures small { IfSome result (λ d. d < 16) }
 {
     match digit {
@@ -17,22 +17,22 @@ fn hex_digit(digit: u8) -> Option<u8>
 }
 
 /// The byte of two digits.
-pub(crate) fn hex_byte(high: u8, low: u8) -> Option<u8>
-    ensures { result ≡ hex_byte high low }
+pub(crate) fn byte_of_digits(high: u8, low: u8) -> Option<u8>
+    ensures { result ≡ byte_of_digits high low }
 {
-    let high = hex_digit(high)?;
-    let low = hex_digit(low)?;
+    let high = digit_value(high)?;
+    let low = digit_value(low)?;
     Some(16 * high + low)
 }
 
 /// The bytes of twice as many digits.
-pub(crate) fn hex_bytes<const N: usize>(text: &[u8]) -> Option<[u8; N]>
+pub(crate) fn bytes_of_digits<const N: usize>(text: &[u8]) -> Option<[u8; N]>
     requires { length text.now ≡ 2 * N }
-    ensures { result ≡ hex_bytes text.now }
+    ensures { result ≡ bytes_of_digits text.now }
 {
     let mut bytes = [0; N];
     for i in 0..N {
-        bytes[i] = hex_byte(text[2 * i], text[2 * i + 1])?;
+        bytes[i] = byte_of_digits(text[2 * i], text[2 * i + 1])?;
     }
     Some(bytes)
 }

@@ -1,7 +1,9 @@
-//! Laws over the definitions that the contracts cite. Each function is a law: it does nothing, and ensures it. What the
-//! constructors mean that are rows is the law of rows, `acpi_term::laws::rows_mean`.
+//! Laws over the definitions that the contracts cite. Each function is a law: it does nothing, and ensures it.
 
-ghost use Rattle.acpi_aml.specs.Laws.{BuildersMakePackages, RawIsScope, NumbersMean, ConstantsMean, TextsMean, NamesMean, BuildersMean, VarPackagesMean, BuffersMean, BufferTermsMean};
+ghost use Rattle.acpi_aml.specs.Laws.{BuildersMakePackages, RawIsScope, NamesOfObjectsMean, RegionsMean, FieldsMean, AllStatementsMean, CallsMean, TemplatesMean, NumbersMean, ConstantsMean, TextsMean, NamesMean, PathsMean, BuildersMean, VarPackagesMean, BuffersMean, BufferTermsMean, UuidMeans, EisaNameMeans};
+
+use crate::eisa::EISAName;
+use crate::uuid::Uuid;
 
 /// A builder to which elements were added writes their package.
 pub fn builders_make_packages()
@@ -12,6 +14,50 @@ pub fn builders_make_packages()
 pub fn raw_is_scope()
     ensures { RawIsScope }
 {}
+
+/// Scopes, devices, methods, power resources, names, mutexes, and what takes and gives these, spell their terms.
+pub fn named_objects_mean()
+    ensures { NamesOfObjectsMean }
+{}
+
+/// Operation regions of every space spell their terms.
+pub fn regions_mean()
+    ensures { RegionsMean }
+{}
+
+/// Fields of every access, lock and update rule spell their terms.
+pub fn fields_mean()
+    ensures { FieldsMean }
+{}
+
+/// Branches, loops, packages, arguments and local variables spell their terms.
+pub fn statements_mean()
+    ensures { AllStatementsMean }
+{}
+
+/// A call with the stated number of arguments spells the call.
+pub fn calls_mean()
+    ensures { CallsMean }
+{}
+
+/// A resource template spells the buffer of its descriptors and the end tag.
+pub fn templates_mean()
+    ensures { TemplatesMean }
+{}
+
+/// Any UUID spells the buffer of its 16 bytes.
+pub fn uuid_means(uuid: &Uuid)
+    ensures { UuidMeans uuid.now }
+{
+    let _ = &uuid.bytes;
+}
+
+/// Any EISA id spells its number.
+pub fn eisa_name_means(id: &EISAName)
+    ensures { EisaNameMeans id.now }
+{
+    let _ = &id.value;
+}
 
 /// Each number spells the number, in the width that is written.
 pub fn numbers_mean()
@@ -31,6 +77,11 @@ pub fn texts_mean()
 /// A path, or a field's name, spells a call without arguments.
 pub fn names_mean()
     ensures { NamesMean }
+{}
+
+/// The path of a text of standard segments spells a call without arguments.
+pub fn paths_mean()
+    ensures { PathsMean }
 {}
 
 /// A builder spells the package of what its bytes spell.

@@ -16,3 +16,4 @@ pub mod path;
 pub mod region;
 pub mod scope;
 pub mod uuid;
+pub mod written;

@@ -2,7 +2,7 @@
 
 ghost use Rattle.std.specs.Prelude.{◌≡◌, ℕ, List, [], ◌∷◌, ◌++◌};
 ghost use Rattle.acpi_base.specs.Object.{whole_ends_well};
-ghost use Rattle.acpi_term.specs.Tree.{mutex, acquire, release};
+ghost use Rattle.acpi_term.specs.Tree.{def_mutex, def_acquire, def_release};
 ghost use Rattle.acpi_term.specs.Row.{row};
 
 use crate::path::Path;
@@ -19,9 +19,9 @@ pub struct Mutex {
 }
 
 impl Aml for Mutex {
-    ghost object = { λ o. row (mutex o.path o.level) [] };
+    ghost object = { λ o. row (def_mutex o.path o.level) [] };
 
-    ghost ends_well = { λ o. whole_ends_well (91 ∷ 1 ∷ o.path ++ o.level ∷ []) };
+    ghost ends_well = { λ o. whole_ends_well (0x5b ∷ 0x01 ∷ o.path ++ o.level ∷ []) };
 
     fn to_aml_bytes(&self, sink: &mut dyn AmlSink) -> R<()> {
         write_parts(sink, &[&[0x5b, 0x01], &self.path.bytes, &[self.level]])
@@ -48,9 +48,9 @@ pub struct Acquire {
 }
 
 impl Aml for Acquire {
-    ghost object = { λ o. row (acquire o.path o.timeout) [] };
+    ghost object = { λ o. row (def_acquire o.path o.timeout) [] };
 
-    ghost ends_well = { λ o. whole_ends_well (91 ∷ 35 ∷ o.path) };
+    ghost ends_well = { λ o. whole_ends_well (0x5b ∷ 0x23 ∷ o.path) };
 
     fn to_aml_bytes(&self, sink: &mut dyn AmlSink) -> R<()> {
         write_parts(
@@ -79,9 +79,9 @@ pub struct Release {
 }
 
 impl Aml for Release {
-    ghost object = { λ o. row (release o.path) [] };
+    ghost object = { λ o. row (def_release o.path) [] };
 
-    ghost ends_well = { λ o. whole_ends_well (91 ∷ 39 ∷ o.path) };
+    ghost ends_well = { λ o. whole_ends_well (0x5b ∷ 0x27 ∷ o.path) };
 
     fn to_aml_bytes(&self, sink: &mut dyn AmlSink) -> R<()> {
         write_parts(sink, &[&[0x5b, 0x27], &self.path.bytes])

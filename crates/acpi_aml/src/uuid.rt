@@ -1,28 +1,29 @@
 //! UUIDs.
 
-ghost use Rattle.std.specs.Prelude.{◌≡◌, ℕ, List, length, IfOk, IfErr, Some, None};
-ghost use Rattle.acpi_base.specs.Bytes.{AreBytes};
-ghost use Rattle.acpi_aml.specs.Buffer.{buffer_of_bytes};
+ghost use Rattle.std.specs.Prelude.{◌≡◌, ℕ, List, IfOk, IfErr, Some, None};
+ghost use Rattle.acpi_term.specs.Template.{buffer_of_bytes};
 ghost use Rattle.acpi_aml.specs.EndsWell.{bytes_end_well};
-ghost use Rattle.acpi_aml.specs.Uuid.{is_grouped, uuid_bytes};
+ghost use Rattle.acpi_aml.specs.Uuid.{IsUuid, is_grouped, uuid_bytes};
 
-use crate::hex::hex_bytes;
+use crate::hex::bytes_of_digits;
 use acpi_base::error::{Error, R};
 use acpi_base::object::Aml;
-use acpi_base::record::{Row, record};
+use acpi_base::record::{Field, record};
 use acpi_base::sink::AmlSink;
 use std::marker::Model;
 
 /// A UUID as a buffer of 16 bytes (ACPI 6.5, 19.6.142).
 #[derive(Drop)]
 pub struct Uuid {
-    bytes: [u8; 16],
+    pub(crate) bytes: [u8; 16],
 }
 
 impl Model for Uuid {
     ghost Value = { List ℕ };
 
     ghost view = { λ u. u.bytes };
+
+    ghost invariant = { λ u. IsUuid u.bytes };
 }
 
 impl Aml for Uuid {
@@ -32,8 +33,8 @@ impl Aml for Uuid {
 
     fn to_aml_bytes(&self, sink: &mut dyn AmlSink) -> R<()> {
         let bytes = record::<20>(&[
-            Row::Bytes(&[0x11, 0x13, 0x0a, 0x10]),
-            Row::Bytes(&self.bytes),
+            Field::Bytes(&[0x11, 0x13, 0x0a, 0x10]),
+            Field::Bytes(&self.bytes),
         ]);
         sink.vec(&bytes)
     }
@@ -44,8 +45,7 @@ impl Uuid {
     /// unless it is that. The first three groups are numbers, which stand lowest byte first.
     pub fn new(name: &str) -> R<Uuid>
         ensures ok { IfOk result (λ u. uuid_bytes name.now ≡ Some u) }
-        ensures size { IfOk result (λ u. length u ≡ 16) }
-        ensures bytes { IfOk result (λ u. AreBytes u) }
+        ensures uuid { IfOk result (λ u. IsUuid u) }
         ensures err { IfErr result (λ e. (e ≡ Error.UuidText) × (uuid_bytes name.now ≡ None)) }
     {
         match read_groups(name.as_bytes()) {
@@ -61,20 +61,20 @@ fn read_groups(text: &[u8]) -> Option<[u8; 16]>
     if !is_grouped(text) {
         return None;
     }
-    let mut a = hex_bytes::<4>(&text[0..8])?;
-    let mut b = hex_bytes::<2>(&text[9..13])?;
-    let mut c = hex_bytes::<2>(&text[14..18])?;
-    let d = hex_bytes::<2>(&text[19..23])?;
-    let e = hex_bytes::<6>(&text[24..36])?;
+    let mut a = bytes_of_digits::<4>(&text[0..8])?;
+    let mut b = bytes_of_digits::<2>(&text[9..13])?;
+    let mut c = bytes_of_digits::<2>(&text[14..18])?;
+    let d = bytes_of_digits::<2>(&text[19..23])?;
+    let e = bytes_of_digits::<6>(&text[24..36])?;
     a.reverse();
     b.reverse();
     c.reverse();
     Some(record(&[
-        Row::Bytes(&a),
-        Row::Bytes(&b),
-        Row::Bytes(&c),
-        Row::Bytes(&d),
-        Row::Bytes(&e),
+        Field::Bytes(&a),
+        Field::Bytes(&b),
+        Field::Bytes(&c),
+        Field::Bytes(&d),
+        Field::Bytes(&e),
     ]))
 }
 

@@ -1,10 +1,11 @@
-use Rattle.std.proofs.Common.{◌≡◌, ℕ, ◌+◌, ◌%◌, ◌<◌, List, [], ◌∷◌, ◌++◌, Bool, true, false, ◌||◌, IsTrue, None, sum, refl, ap, arith, ◌∙◌, zero-add}
+use Rattle.std.proofs.Common.{◌≡◌, ℕ, ◌+◌, ◌%◌, ◌<◌, List, [], ◌∷◌, ◌++◌, Bool, true, false, ◌||◌, IsTrue, None, Some, sum, refl, ap, arith, inl, inr, ◌∙◌, zero-add}
+use Rattle.std.specs.Prelude.{◌⊎◌}
 use Rattle.std.proofs.lemmas.List.{append-nil}
 use Rattle.acpi_base.specs.declared.error.Error.{Error}
 use Rattle.acpi_base.specs.declared.error.Error.TheVariants.{Memory}
-use Rattle.acpi_base.specs.Sink.{Took}
-use Rattle.acpi_base.specs.Object.{Object, Wrote, WriteRefused, IsOwnRefusal}
-use Rattle.acpi_base.specs.Checksum.{checksum_of, checksum_takes, checksum_wants_none}
+use Rattle.acpi_base.specs.Sink.{Took, IsTold}
+use Rattle.acpi_base.specs.Object.{Object, Wrote, WriteRefused, EndsIn, IsOwnRefusal}
+use Rattle.acpi_base.specs.Checksum.{checksum_of, checksum_wants_none}
 
 pub checksum_took : (old new : ℕ) (bytes : List ℕ) → new < 256 → Took (checksum_of old) bytes (checksum_of new) → new ≡ (old + sum bytes) % 256
 unfolding checksum_of
@@ -24,10 +25,15 @@ or_false true h = h
 or_false false h = h
 
 -- a checksum refuses nothing, so a refused write is refused by the object
+only_object : (e : Error) (o : Object) (old new : ℕ) → EndsIn e o (checksum_of old) (checksum_of new) ⊎ IsTold e (checksum_of old) o.front → o.end ≡ Some e
+unfolding checksum_of
+only_object e o old new (inl ended) = ended.end
+only_object e o old new (inr told) = absurd (let t = told.told in cc)
+
 pub own_refusal : (e : Error) (o : Object) (old new : ℕ) → WriteRefused e o (checksum_of old) (checksum_of new) → IsOwnRefusal e o
 own_refusal e o old new refused = record {
   memory = λ is. or_false o.wants_memory (rw (checksum_wants_none old) at (refused.memory is));
-  cause = λ is. (refused.cause is [] (checksum_takes old (o.front ++ []))).0;
+  cause = λ is. only_object e o old new (refused.cause is);
 }
 
 pub front_summed : (o : Object) (value : ℕ) → value < 256 → Wrote o (checksum_of 0) (checksum_of value) → value ≡ sum o.front % 256

@@ -1,5 +1,6 @@
 pub mod Sinks
 pub mod Objects
+pub mod Bytes
 pub mod Lists
 pub mod Rows
 pub mod Checksums
@@ -7,3 +8,4 @@ pub mod Buffers
 pub mod Puts
 pub mod Records
 pub mod Tables
+pub mod Walks

@@ -1,4 +1,4 @@
-use Rattle.std.proofs.Common.{◌≡◌, ℕ, List, [], ◌++◌, Bool, true, false, ◌||◌, IsTrue, None, Some, refl, sym}
+use Rattle.std.proofs.Common.{◌≡◌, ℕ, List, [], ◌++◌, Bool, true, false, ◌||◌, IsTrue, None, Some, refl, sym, inl, inr}
 use Rattle.std.specs.Prelude.{Result, Ok, Err, IsErrAnd, IfErr, OnOk}
 use Rattle.std.proofs.lemmas.Result.{err_from_is_err_and}
 use Rattle.acpi_base.specs.declared.error.Error.{Error}
@@ -11,16 +11,12 @@ or_true : (a b : Bool) → IsTrue b → IsTrue (a || b)
 or_true true b h = refl
 or_true false b h = h
 
-both : (b : Bool) → b ≡ false → IsTrue b → ⊥
-both true f t = cc
-both false f t = cc
-
 -- an object is refused where the sink refuses its bytes
 pub refused_by_sink : (e : Error) (o : Object) (m k : Meaning) → Refused e m o.front k → WriteRefused e o m k
 refused_by_sink e o m k refused = record {
   beginning = refused.beginning;
   memory = λ is. or_true o.wants_memory m.wants_memory (refused.memory is);
-  cause = λ is more taken. absurd (both _ (refused.cause is more) taken);
+  cause = λ is. inr (refused.cause is);
 }
 
 -- the sink took `a`, and then refused `b`, and the object is these and `rest`
@@ -54,7 +50,7 @@ gives_nothing e o m other is =
     record {
       beginning = record { part = []; rest = o.front; joined = refl; took = took_nothing m };
       memory = λ same. absurd (other same);
-      cause = λ _ more taken. (is.1, took);
+      cause = λ _. inl (record { end = is.1; took = took });
     }
 
 -- bytes that were made beforehand, given to a sink at once

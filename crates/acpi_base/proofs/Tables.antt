@@ -6,11 +6,16 @@ use Rattle.std.proofs.lemmas.Bool.{cases_lt}
 use Rattle.std.proofs.lemmas.Bool.Decides.{nat_tests}
 use Rattle.acpi_base.specs.declared.error.Error.{Error}
 use Rattle.acpi_base.specs.declared.error.Error.TheVariants.{Memory, FieldWidth}
-use Rattle.acpi_base.specs.Bytes.{le, put, complement}
+use Rattle.acpi_base.specs.Bytes.{le, carried, put, complement}
+use Rattle.acpi_base.specs.declared.oem.Oem.{Oem}
+use Rattle.acpi_base.proofs.Bytes.{carried_le}
 use Rattle.acpi_base.specs.Sink.{Took, Refused}
-use Rattle.acpi_base.specs.Sdt.{with_checksum, sealed, added, fits, sdt_of}
+use Rattle.acpi_base.specs.Object.{Object, Wrote}
+use Rattle.acpi_base.specs.Header.{header}
+use Rattle.acpi_base.specs.Table.{with_checksum, table_of, IsTrueTable}
+use Rattle.acpi_base.specs.Sdt.{sealed, added, overwritten, Contents, Addition, AddedObject, fits, sdt_of, is_field_width}
 use Rattle.std.proofs.lemmas.List.Sums.{sum_by-append}
-use Rattle.acpi_base.specs.Contents.{IsTable}
+use Rattle.acpi_base.specs.Kept.{IsKept}
 use Rattle.acpi_base.proofs.Puts.{put-put, put_comm, put_over, length-put, sum-put, put-append}
 
 -- ---- checksums
@@ -72,25 +77,33 @@ fits_added b (x ∷ a) (y ∷ c) long h =
 sdt_took : (b a : List ℕ) → 10 ≤ length b → length b + length a < 2 ^ 32 → Took (sdt_of b) a (sdt_of (added b a))
 unfolding sdt_of
 sdt_took b a h small = record {
-  moved = λ i. record { shows = λ c. added_added b a c h i; takes = λ c. fits_added b a c h small i; wants_memory = true };
+  moved = λ i. record { shows = λ c. added_added b a c h i; takes = λ c. fits_added b a c h small i; tells = is_field_width; wants_memory = true };
 }
 
-pub sdt_ok : {T : Type 0} (r : Result T Error) (b a new : List ℕ) → OnOk r (new ≡ added b a) → (36 ≤ length b) × (length b < 2 ^ 32) → OnOk r (length b + length a < 2 ^ 32) → OnOk r (Took (sdt_of b) a (sdt_of new))
-sdt_ok (Ok x) b a new is header small = rw is (sdt_took b a (omega (arith, header.0)) small)
-sdt_ok (Err e) b a new is header small = tt
+pub sdt_ok : (r : Result Unit Error) (old new : Contents) (a : List ℕ) → Addition r old a new → (36 ≤ length old.bytes) × (length old.bytes < 2 ^ 32) → OnOk r (Took (sdt_of old.bytes) a (sdt_of new.bytes))
+sdt_ok (Ok x) old new a adds header = rw adds.ok (sdt_took old.bytes a (omega (arith, header.0)) adds.fits)
+sdt_ok (Err e) old new a adds header = tt
 
 too_long : (b a more : List ℕ) → length b < 2 ^ 32 → 2 ^ 32 ≤ length b + length a → fits b (a ++ more) ≡ false
 too_long b [] more small long = absurd (omega arith)
 too_long b (x ∷ a) more small long = grind (arith, nat_tests, small, long, length-append (x ∷ a) more)
 
-pub sdt_err : {T : Type 0} (r : Result T Error) (b a new : List ℕ) → OnErr r (new ≡ b) → (36 ≤ length b) × (length b < 2 ^ 32) → IfErr r (λ e. e ≢ Memory → (e ≡ FieldWidth) × (2 ^ 32 ≤ length b + length a)) → IfErr r (λ e. Refused e (sdt_of b) a (sdt_of new))
+pub sdt_err : (r : Result Unit Error) (old new : Contents) (a : List ℕ) → Addition r old a new → (36 ≤ length old.bytes) × (length old.bytes < 2 ^ 32) → IfErr r (λ e. Refused e (sdt_of old.bytes) a (sdt_of new.bytes))
 unfolding sdt_of
-sdt_err (Ok x) b a new same header cause = tt
-sdt_err (Err e) b a new same header cause = record {
-  beginning = record { part = []; rest = a; joined = refl; took = record { moved = ap sdt_of same } };
+sdt_err (Ok x) old new a adds header = tt
+sdt_err (Err e) old new a adds header = record {
+  beginning = record { part = []; rest = a; joined = refl; took = record { moved = ap sdt_of adds.err } };
   memory = λ is. refl;
-  cause = λ is_other more. too_long b a more header.1 (cause is_other).1;
+  cause = λ is_other.
+      let is = adds.cause is_other in
+      record { told = ap is_field_width is.0; untaken = λ more. too_long old.bytes a more header.1 is.1 };
 }
+
+-- what a whole object that was written leaves
+pub sdt_wrote : {T : Type 0} (r : Result T Error) (o : Object) (old new : List ℕ) → OnOk r (Wrote o (sdt_of old) (sdt_of new)) → OnOk r (AddedObject o old new)
+unfolding sdt_of
+sdt_wrote (Ok x) o old new wrote = record { is_whole = wrote.is_whole; is = ap (λ m. m.shows []) wrote.took.moved ∙ ap (added old) (append-nil o.front) }
+sdt_wrote (Err e) o old new wrote = tt
 
 -- ---- what the calls leave
 
@@ -110,26 +123,60 @@ set_length_is b l c0 c1 r r' s long four is0 is1 sums small step complements =
 
 -- ---- laws
 
-pub sum-added : (table bytes : List ℕ) → 36 ≤ length table → sum table % 256 ≡ 0 → sum (added table bytes) % 256 ≡ 0
-sum-added table [] h zero = zero
-sum-added table (x ∷ xs) h zero =
-    let all = table ++ x ∷ xs in
-    let long : length all ≡ length table + length (x ∷ xs) = length-append table (x ∷ xs) in
-    let told : length (put 4 (le 4 (length all)) all) ≡ length all = length-put 4 (le 4 (length all)) all (omega (arith, long)) in
-    sum-with_checksum (put 4 (le 4 (length all)) all) (omega (arith, told, long))
-
--- the length stands at 4
-told_at : (c : List ℕ) → 10 ≤ length c → take 4 (drop 4 (sealed c)) ≡ le 4 (length c)
+-- the length stands at 4, whatever the checksum
+field_kept : (c : List ℕ) → 10 ≤ length c → take 4 (drop 4 (with_checksum c)) ≡ take 4 (drop 4 c)
 unfolding put
-told_at (x0 ∷ x1 ∷ x2 ∷ x3 ∷ x4 ∷ x5 ∷ x6 ∷ x7 ∷ x8 ∷ x9 ∷ r) h = refl
-told_at c h = absurd (omega arith)
+field_kept (x0 ∷ x1 ∷ x2 ∷ x3 ∷ x4 ∷ x5 ∷ x6 ∷ x7 ∷ x8 ∷ x9 ∷ r) h = refl
+field_kept c h = absurd (omega arith)
 
-pub added_tells : (table bytes : List ℕ) → 36 ≤ length table → 1 ≤ length bytes
-    → (length (added table bytes) ≡ length table + length bytes) × (take 4 (drop 4 (added table bytes)) ≡ le 4 (length table + length bytes))
-added_tells table [] h some = absurd (omega arith)
-added_tells table (x ∷ xs) h some =
-    let long : length (table ++ x ∷ xs) ≡ length table + length (x ∷ xs) = length-append table (x ∷ xs) in
-    (length-added table (x ∷ xs) (omega arith), told_at (table ++ x ∷ xs) (omega (arith, long)) ∙ ap (le 4) long)
+field_put : (c : List ℕ) (v : ℕ) → 10 ≤ length c → take 4 (drop 4 (put 4 (le 4 v) c)) ≡ le 4 v
+unfolding put
+field_put (x0 ∷ x1 ∷ x2 ∷ x3 ∷ x4 ∷ x5 ∷ x6 ∷ x7 ∷ x8 ∷ x9 ∷ r) v h = refl
+field_put c v h = absurd (omega arith)
+
+-- a true checksum over bytes that tell their length
+pub checked_is_true : (c : List ℕ) (n : ℕ) → 36 ≤ length c → length c ≡ n → n < 2 ^ 32 → take 4 (drop 4 c) ≡ le 4 n → IsTrueTable (with_checksum c) × (length (with_checksum c) ≡ n)
+checked_is_true c n long is small told =
+    let size : length (with_checksum c) ≡ n = length-with_checksum c (omega arith) ∙ is in
+    let most : 256 ^ 4 ≡ 2 ^ 32 = refl in
+    let tells : carried (take 4 (drop 4 (with_checksum c))) ≡ n = ap carried (field_kept c (omega arith) ∙ told) ∙ carried_le 4 n (omega (arith, most)) in
+    (record { header = omega (arith, size, is); tells = tells ∙ sym size; zero = sum-with_checksum c (omega arith) }, size)
+
+header_tells : (s : List ℕ) (size revision : ℕ) (oem : Oem) (rest : List ℕ) → length s ≡ 4 → take 4 (drop 4 (header s size revision oem ++ rest)) ≡ le 4 size
+header_tells (a ∷ b ∷ c ∷ d ∷ []) size revision oem rest h = refl
+header_tells (a ∷ b ∷ c ∷ d ∷ e ∷ s) size revision oem rest h = absurd (omega arith)
+header_tells s size revision oem rest h = absurd (omega arith)
+
+pub length-header : (s : List ℕ) (size revision : ℕ) (oem : Oem) → length s ≡ 4 → length oem.id ≡ 6 → length oem.table_id ≡ 8 → length (header s size revision oem) ≡ 36
+length-header s size revision oem four six eight =
+    simp length-append (omega (arith, four, six, eight))
+
+pub table_is_true : (s body : List ℕ) (revision : ℕ) (oem : Oem) → length s ≡ 4 → length oem.id ≡ 6 → length oem.table_id ≡ 8 → 36 + length body < 2 ^ 32
+    → IsTrueTable (table_of s revision oem body) × (length (table_of s revision oem body) ≡ 36 + length body)
+table_is_true s body revision oem four six eight small =
+    let h = header s (36 + length body) revision oem in
+    let size : length (h ++ body) ≡ 36 + length body = omega (arith, length-append h body, length-header s (36 + length body) revision oem four six eight) in
+    checked_is_true (h ++ body) (36 + length body) (omega (arith, size)) size small (header_tells s (36 + length body) revision oem body four)
+
+pub sealed_is_true : (c : List ℕ) → 36 ≤ length c → length c < 2 ^ 32 → IsTrueTable (sealed c) × (length (sealed c) ≡ length c)
+sealed_is_true c long small =
+    let told = put 4 (le 4 (length c)) c in
+    let size : length told ≡ length c = length-put 4 (le 4 (length c)) c (omega arith) in
+    checked_is_true told (length c) (omega (arith, size)) size small (field_put c (length c) (omega arith))
+
+pub added_is_true : (table bytes : List ℕ) → 36 ≤ length table → 1 ≤ length bytes → length table + length bytes < 2 ^ 32
+    → IsTrueTable (added table bytes) × (length (added table bytes) ≡ length table + length bytes)
+added_is_true table [] long some small = absurd (omega arith)
+added_is_true table (x ∷ xs) long some small =
+    let size : length (table ++ x ∷ xs) ≡ length table + length (x ∷ xs) = length-append table (x ∷ xs) in
+    let is = sealed_is_true (table ++ x ∷ xs) (omega (arith, size)) (omega (arith, size)) in
+    (is.0, is.1 ∙ size)
+
+pub overwritten_is_zero : (table bytes : List ℕ) (offset : ℕ) → 36 ≤ length table → offset + length bytes ≤ length table
+    → (sum (overwritten table offset bytes) % 256 ≡ 0) × (length (overwritten table offset bytes) ≡ length table)
+overwritten_is_zero table bytes offset long within =
+    let size : length (put offset bytes table) ≡ length table = length-put offset bytes table within in
+    (sum-with_checksum (put offset bytes table) (omega (arith, size)), length-with_checksum (put offset bytes table) (omega (arith, size)) ∙ size)
 
 -- bytes written while the checksum is cleared are written all the same
 cleared_put : (i x : ℕ) (a b : List ℕ) → 10 ≤ length b → i + length a ≤ length b → put 9 (x ∷ []) (put i a (put 9 (0 ∷ []) b)) ≡ put 9 (x ∷ []) (put i a b)
@@ -169,7 +216,7 @@ pub written_back : (n : ℕ) (new old : List ℕ) → length new ≡ n → take 
 written_back n new old size = take_at new (drop (length new) old) n size
 
 -- what a table keeps
-pub sealed_table : (bytes b : List ℕ) (r : ℕ) → bytes ≡ with_checksum b → 36 ≤ length b → length b < 2 ^ 32 → r ≡ sum (put 9 (0 ∷ []) bytes) % 256 → IsTable bytes r
+pub sealed_table : (bytes b : List ℕ) (r : ℕ) → bytes ≡ with_checksum b → 36 ≤ length b → length b < 2 ^ 32 → r ≡ sum (put 9 (0 ∷ []) bytes) % 256 → IsKept bytes r
 sealed_table bytes b r is long small sums =
     let size : length bytes ≡ length b = ap length is ∙ length-with_checksum b (omega arith) in
     record { header = omega (arith, size); fits = omega (arith, size); sealed = is ∙ sym (checksum_again b (omega arith)) ∙ sym (ap with_checksum is); running = sums }
@@ -195,10 +242,10 @@ set_at_nine (x0 ∷ x1 ∷ x2 ∷ x3 ∷ x4 ∷ x5 ∷ x6 ∷ x7 ∷ x8 ∷ x9 �
 set_at_nine bytes b h = absurd (omega arith)
 
 -- a checksum that is written again
-pub checksum_set : (bytes : List ℕ) (r s : ℕ) → IsTable bytes r → s ≡ (256 - r) % 256 → slice_set bytes 9 s ≡ bytes
+pub checksum_set : (bytes : List ℕ) (r s : ℕ) → IsKept bytes r → s ≡ (256 - r) % 256 → slice_set bytes 9 s ≡ bytes
 checksum_set bytes r s is complements =
     let same : s ≡ complement (sum (put 9 (0 ∷ []) bytes)) = omega (arith, complements, is.running) in
     set_at_nine bytes s (omega (arith, is.header)) ∙ ap (λ k. put 9 (k ∷ []) bytes) same ∙ sym is.sealed
 
-pub table_is_zero : (bytes : List ℕ) (r : ℕ) → IsTable bytes r → sum bytes % 256 ≡ 0
+pub table_is_zero : (bytes : List ℕ) (r : ℕ) → IsKept bytes r → sum bytes % 256 ≡ 0
 table_is_zero bytes r is = ap (λ b. sum b % 256) is.sealed ∙ sum-with_checksum bytes (omega (arith, is.header))

@@ -1,13 +1,14 @@
 -- Vectors of bytes as sinks.
-use Rattle.std.specs.Prelude.{ℕ, List, ◌++◌, true, IsTrue, refl, Vec}
+use Rattle.std.specs.Prelude.{ℕ, List, ◌++◌, true, false, IsTrue, refl, Vec}
 use Rattle.std.specs.declared.alloc.Global.{Global}
 use Rattle.acpi_base.specs.Sink.{Meaning}
 
--- it shows all that it holds
+-- it shows all that it holds, and refuses nothing but for want of memory
 unfoldable pub buffer_of : Vec ℕ Global → Meaning
 buffer_of held = record {
   shows = λ more. held.items ++ more;
   takes = λ _. true;
+  tells = λ _. false;
   wants_memory = true;
 }
 

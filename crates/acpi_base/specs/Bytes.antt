@@ -1,5 +1,5 @@
 -- Bytes, and numbers as bytes.
-use Rattle.std.specs.Prelude.{ℕ, ◌+◌, ◌-◌, ◌%◌, ◌<◌, List, [], ◌∷◌, ◌++◌, length, take, drop}
+use Rattle.std.specs.Prelude.{ℕ, ◌+◌, ◌-◌, ◌*◌, ◌%◌, ◌<◌, List, [], ◌∷◌, ◌++◌, length, take, drop}
 use Rattle.std.specs.Int.{bytes_low_first}
 
 -- each is a byte
@@ -10,6 +10,15 @@ AreBytes (b ∷ bytes) = (b < 256) × AreBytes bytes
 -- the lowest w bytes of v, lowest first (ACPI 6.5, 5.2)
 abbrev pub le : ℕ → ℕ → List ℕ
 le w v = bytes_low_first 0 w v
+
+-- the number that bytes carry, lowest first
+abbrev pub carried : List ℕ → ℕ
+carried [] = 0
+carried (b ∷ bytes) = b + 256 * carried bytes
+
+-- the number in the w bytes at an offset
+abbrev pub field_at : ℕ → ℕ → List ℕ → ℕ
+field_at offset w bytes = carried (take w (drop offset bytes))
 
 -- the bytes `with` over those that begin at an offset
 unfoldable pub put : ℕ → List ℕ → List ℕ → List ℕ

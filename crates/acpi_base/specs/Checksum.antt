@@ -7,6 +7,7 @@ unfoldable pub checksum_of : ℕ → Meaning
 checksum_of value = record {
   shows = λ more. (value + sum more) % 256 ∷ [];
   takes = λ _. true;
+  tells = λ _. false;
   wants_memory = false;
 }
 

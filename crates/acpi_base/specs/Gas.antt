@@ -1,27 +1,29 @@
 -- Addresses of registers (ACPI 6.5, 5.2.3.2, Generic Address Structure).
-use Rattle.std.specs.Prelude.{ℕ, List, ◌∷◌}
-use Rattle.acpi_base.specs.Bytes.{le}
+use Rattle.std.specs.Prelude.{ℕ, ◌+◌, ◌*◌, ◌^◌, List, [], ◌∷◌}
+use Rattle.acpi_base.specs.Layout.{byte, qword, record_of}
 use Rattle.acpi_base.specs.declared.gas.GAS.{GAS}
 use Rattle.acpi_base.specs.declared.gas.AddressSpace.{AddressSpace}
 use Rattle.acpi_base.specs.declared.gas.AddressSpace.TheVariants as spaces
 use Rattle.acpi_base.specs.declared.gas.AccessSize.{AccessSize}
 use Rattle.acpi_base.specs.declared.gas.AccessSize.TheVariants as sizes
 
+-- Address Space ID
 abbrev pub space_number : AddressSpace → ℕ
-space_number spaces.SystemMemory = 0
-space_number spaces.SystemIo = 1
-space_number spaces.PciConfigSpace = 2
-space_number spaces.EmbeddedController = 3
-space_number spaces.Smbus = 4
-space_number spaces.SystemCmos = 5
-space_number spaces.PciBarTarget = 6
-space_number spaces.Ipmi = 7
-space_number spaces.GeneralPursposeIo = 8
-space_number spaces.GenericSerialBus = 9
-space_number spaces.PlatformCommunicationsChannel = 10
-space_number spaces.PlatformRuntimeMechanism = 11
-space_number spaces.FunctionalFixedHardware = 127
+space_number spaces.SystemMemory = 0x00
+space_number spaces.SystemIo = 0x01
+space_number spaces.PciConfigSpace = 0x02
+space_number spaces.EmbeddedController = 0x03
+space_number spaces.Smbus = 0x04
+space_number spaces.SystemCmos = 0x05
+space_number spaces.PciBarTarget = 0x06
+space_number spaces.Ipmi = 0x07
+space_number spaces.GeneralPursposeIo = 0x08
+space_number spaces.GenericSerialBus = 0x09
+space_number spaces.PlatformCommunicationsChannel = 0x0a
+space_number spaces.PlatformRuntimeMechanism = 0x0b
+space_number spaces.FunctionalFixedHardware = 0x7f
 
+-- Access Size
 abbrev pub size_number : AccessSize → ℕ
 size_number sizes.Undefined = 0
 size_number sizes.ByteAccess = 1
@@ -29,6 +31,31 @@ size_number sizes.WordAccess = 2
 size_number sizes.DwordAccess = 3
 size_number sizes.QwordAccess = 4
 
--- address space, width, offset, access size, and the address at 4
 abbrev pub gas_bytes : GAS → List ℕ
-gas_bytes g = space_number g.address_space_id ∷ g.register_bit_width ∷ g.register_bit_offset ∷ size_number g.access_size ∷ le 8 g.address
+gas_bytes g = record_of
+    (byte (space_number g.address_space_id)  -- 0: Address Space ID
+    ∷ byte g.register_bit_width  -- 1: Register Bit Width
+    ∷ byte g.register_bit_offset  -- 2: Register Bit Offset
+    ∷ byte (size_number g.access_size)  -- 3: Access Size
+    ∷ qword g.address  -- 4: Address
+    ∷ [])
+
+-- a register of so many bits at an address
+abbrev pub gas : AddressSpace → ℕ → ℕ → AccessSize → ℕ → GAS
+gas space bit_width bit_offset size address = record {
+  address_space_id = space;
+  register_bit_width = bit_width;
+  register_bit_offset = bit_offset;
+  access_size = size;
+  address = address;
+}
+
+-- In the configuration space of a PCI function of segment 0, bus 0, the address has the device at bit 32, the function at
+-- bit 16, and the register's offset below.
+abbrev pub pci_config_gas : ℕ → AccessSize → ℕ → ℕ → ℕ → GAS
+pci_config_gas bit_width size device function register =
+    gas spaces.PciConfigSpace bit_width 0 size (device * 2 ^ 32 + function * 2 ^ 16 + register)
+
+-- a register address of which everything is zero
+abbrev pub no_register : GAS
+no_register = gas spaces.SystemMemory 0 0 sizes.Undefined 0

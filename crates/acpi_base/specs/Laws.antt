@@ -1,17 +1,33 @@
 -- What holds of the definitions, whatever calls there are.
-use Rattle.std.specs.Prelude.{◌≡◌, ℕ, ◌+◌, ◌-◌, ◌%◌, ◌<◌, ◌≤◌, length, List, [], ◌++◌, sum, take, drop, false, None}
+use Rattle.std.specs.Prelude.{◌≡◌, ℕ, ◌+◌, ◌-◌, ◌^◌, ◌%◌, ◌<◌, ◌≤◌, length, List, [], ◌∷◌, ◌++◌, sum, false, None}
+use Rattle.std.specs.Int.{to_le_bytes, w16, w32, w64}
 use Rattle.acpi_base.specs.declared.error.Error.{Error}
 use Rattle.acpi_base.specs.Bytes.{le}
 use Rattle.acpi_base.specs.Sink.{Meaning, after}
 use Rattle.acpi_base.specs.Object.{Object, Wrote, WriteRefused}
 use Rattle.acpi_base.specs.Checksum.{checksum_of}
-use Rattle.acpi_base.specs.Sdt.{added}
+use Rattle.acpi_base.specs.Table.{table_of, IsTrueTable}
+use Rattle.acpi_base.specs.Sdt.{added, overwritten}
+use Rattle.acpi_base.specs.declared.oem.Oem.{Oem}
 
 abbrev pub WritesJoin : Type 0
 WritesJoin = (sink : Meaning) (a b : List ℕ) → after (after sink a) b ≡ after sink (a ++ b)
 
 abbrev pub NothingChangesNothing : Type 0
 NothingChangesNothing = (sink : Meaning) → after sink [] ≡ sink
+
+-- A sink that is given bytes one by one.
+abbrev pub after_each : Meaning → List ℕ → Meaning
+after_each sink [] = sink
+after_each sink (b ∷ bytes) = after_each (after sink (b ∷ [])) bytes
+
+-- A number is its bytes, lowest first, at once or one by one.
+abbrev pub WordsAreBytes : Type 0
+WordsAreBytes =
+    (sink : Meaning) (v : ℕ)
+    → ((after sink (to_le_bytes w16 v) ≡ after sink (le 2 v)) × (after sink (le 2 v) ≡ after_each sink (le 2 v)))
+    × ((after sink (to_le_bytes w32 v) ≡ after sink (le 4 v)) × (after sink (le 4 v) ≡ after_each sink (le 4 v)))
+    × ((after sink (to_le_bytes w64 v) ≡ after sink (le 8 v)) × (after sink (le 8 v) ≡ after_each sink (le 8 v)))
 
 abbrev pub FrontsAreSummed : Type 0
 FrontsAreSummed = (object : Object) (value : ℕ) → value < 256 → Wrote object (checksum_of 0) (checksum_of value) → value ≡ sum object.front % 256
@@ -29,13 +45,23 @@ DeleteRestores =
 abbrev pub ValueMakesZero : Type 0
 ValueMakesZero = (raw value : ℕ) → raw < 256 → value ≡ (256 - raw) % 256 → (raw + value) % 256 ≡ 0
 
-abbrev pub AddedSumsToZero : Type 0
-AddedSumsToZero = (table bytes : List ℕ) → 36 ≤ length table → sum table % 256 ≡ 0 → sum (added table bytes) % 256 ≡ 0
+-- What has a header, and a length below 2^32, is a table.
+abbrev pub TablesAreTrue : Type 0
+TablesAreTrue =
+    (signature body : List ℕ) (revision : ℕ) (oem : Oem) → length signature ≡ 4 → length oem.id ≡ 6 → length oem.table_id ≡ 8 → 36 + length body < 2 ^ 32
+    → IsTrueTable (table_of signature revision oem body) × (length (table_of signature revision oem body) ≡ 36 + length body)
 
-abbrev pub AddedTellsItsLength : Type 0
-AddedTellsItsLength =
-    (table bytes : List ℕ) → 36 ≤ length table → 1 ≤ length bytes
-    → (length (added table bytes) ≡ length table + length bytes) × (take 4 (drop 4 (added table bytes)) ≡ le 4 (length table + length bytes))
+-- So is what bytes were added to, whatever its length field held before.
+abbrev pub AddedIsTrue : Type 0
+AddedIsTrue =
+    (table bytes : List ℕ) → 36 ≤ length table → 1 ≤ length bytes → length table + length bytes < 2 ^ 32
+    → IsTrueTable (added table bytes) × (length (added table bytes) ≡ length table + length bytes)
+
+-- Whatever is written over, the bytes sum to zero, and are as many.
+abbrev pub OverwrittenSumsToZero : Type 0
+OverwrittenSumsToZero =
+    (table bytes : List ℕ) (offset : ℕ) → 36 ≤ length table → offset + length bytes ≤ length table
+    → (sum (overwritten table offset bytes) % 256 ≡ 0) × (length (overwritten table offset bytes) ≡ length table)
 
 abbrev pub AddedAtOnce : Type 0
 AddedAtOnce = (table a b : List ℕ) → 36 ≤ length table → added (added table a) b ≡ added table (a ++ b)

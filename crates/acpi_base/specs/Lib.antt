@@ -5,11 +5,14 @@ pub mod Checksum
 pub mod Buffer
 pub mod Number
 pub mod Text
-pub mod Row
+pub mod Layout
+pub mod Record
 pub mod Gas
 pub mod Address
 pub mod Sum
 pub mod Header
-pub mod Contents
+pub mod Table
+pub mod Kept
 pub mod Sdt
+pub mod Walk
 pub mod Laws

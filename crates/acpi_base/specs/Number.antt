@@ -8,7 +8,7 @@ number_limit w = if w == 0 then 2 else (if w == 1 then 2 ^ 8 else (if w == 2 the
 
 -- BytePrefix, WordPrefix, DWordPrefix, QWordPrefix
 abbrev pub prefix : ℕ → ℕ
-prefix w = if w == 1 then 10 else (if w == 2 then 11 else (if w == 4 then 12 else 14))
+prefix w = if w == 1 then 0x0a else (if w == 2 then 0x0b else (if w == 4 then 0x0c else 0x0e))
 
 -- a number in its width
 abbrev pub number_bytes : ℕ → ℕ → List ℕ

@@ -1,8 +1,8 @@
 -- Objects.
-use Rattle.std.specs.Prelude.{◌≡◌, ◌≢◌, ℕ, List, [], ◌∷◌, ◌++◌, Bool, false, ◌||◌, IsTrue, Option, Some, None, Result, Ok, Err}
+use Rattle.std.specs.Prelude.{◌≡◌, ◌≢◌, ℕ, List, [], ◌∷◌, ◌++◌, Bool, false, ◌||◌, ◌⊎◌, IsTrue, Option, Some, None, Result, Ok, Err}
 use Rattle.acpi_base.specs.declared.error.Error.{Error}
 use Rattle.acpi_base.specs.declared.error.Error.TheVariants.{Memory}
-use Rattle.acpi_base.specs.Sink.{Meaning, Took, TookBeginning}
+use Rattle.acpi_base.specs.Sink.{Meaning, Took, TookBeginning, IsTold}
 
 -- What an object writes: its bytes, the refusal that it ends in where it isn't whole, and whether it may want memory of
 -- its own.
@@ -41,13 +41,18 @@ pub record Wrote (object : Object) (old new : Meaning) : Type 0 where
   pub is_whole : object.end ≡ None
   pub took : Took old object.front new
 
+-- All of the object's bytes went, and then it ended in the refusal.
+pub record EndsIn (error : Error) (object : Object) (old new : Meaning) : Type 0 where
+  pub end : object.end ≡ Some error
+  pub took : Took old object.front new
+
 -- The write was refused. A beginning of the bytes went. Want of memory is told only where the object or the sink may
--- want memory; any other refusal is the object's end, after all its bytes, wherever the sink takes these, alone or with
--- more after them.
+-- want memory. Any other refusal is the object's end, after all its bytes, or one of the sink's, where it doesn't take
+-- these.
 pub record WriteRefused (error : Error) (object : Object) (old new : Meaning) : Type 0 where
   pub beginning : TookBeginning old object.front new
   pub memory : error ≡ Memory → IsTrue (object.wants_memory || old.wants_memory)
-  pub cause : error ≢ Memory → (more : List ℕ) → IsTrue (old.takes (object.front ++ more)) → (object.end ≡ Some error) × Took old object.front new
+  pub cause : error ≢ Memory → EndsIn error object old new ⊎ IsTold error old object.front
 
 -- A refusal that is none of a sink's: want of memory, where the object may want it, or the object's end.
 pub record IsOwnRefusal (error : Error) (object : Object) : Type 0 where

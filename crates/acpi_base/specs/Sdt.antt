@@ -1,13 +1,20 @@
 -- Tables to which bytes are added.
-use Rattle.std.specs.Prelude.{ℕ, ◌+◌, ◌^◌, List, [], ◌∷◌, ◌++◌, length, sum, nat_lt, Bool, true, IsTrue, refl}
+use Rattle.std.specs.Prelude.{◌≡◌, ◌≢◌, ℕ, ◌+◌, ◌^◌, ◌<◌, ◌≤◌, ◌%◌, List, [], ◌∷◌, ◌++◌, length, sum, nat_lt, Bool, true, false, IsTrue, refl, None, Result, Ok, Err, OnOk, OnErr, IfErr}
 use Rattle.std.proofs.Common.{arith, length-append}
 use Rattle.std.proofs.lemmas.Bool.Decides.{nat_tests}
-use Rattle.acpi_base.specs.Bytes.{le, put, complement}
+use Rattle.acpi_base.specs.declared.error.Error.{Error}
+use Rattle.acpi_base.specs.declared.error.Error.TheVariants.{Memory, FieldWidth}
+use Rattle.acpi_base.specs.Bytes.{le, put}
 use Rattle.acpi_base.specs.Sink.{Meaning}
+use Rattle.acpi_base.specs.Object.{Object}
+use Rattle.acpi_base.specs.Table.{with_checksum}
 
--- the bytes with the checksum at 9 made true
-abbrev pub with_checksum : List ℕ → List ℕ
-with_checksum bytes = put 9 (complement (sum (put 9 (0 ∷ []) bytes)) ∷ []) bytes
+-- its bytes, and how many bytes were summed for it
+pub record Contents : Type 0 where
+  pub bytes : List ℕ
+  pub summed : ℕ
+
+-- ---- what calls make of the bytes
 
 -- the bytes with their length at 4 and the checksum made true
 abbrev pub sealed : List ℕ → List ℕ
@@ -18,14 +25,44 @@ abbrev pub added : List ℕ → List ℕ → List ℕ
 added table [] = table
 added table (b ∷ bytes) = sealed (table ++ b ∷ bytes)
 
+-- a table over whose bytes at an offset others were written
+abbrev pub overwritten : List ℕ → ℕ → List ℕ → List ℕ
+overwritten table offset bytes = with_checksum (put offset bytes table)
+
+-- Bytes were added at the end, or the call was refused and nothing changed: by FieldWidth where the length would reach
+-- 2^32, and there alone. A few bytes beside those that were added are summed.
+pub record Addition (result : Result Unit Error) (old : Contents) (bytes : List ℕ) (new : Contents) : Type 0 where
+  pub ok : OnOk result (new.bytes ≡ added old.bytes bytes)
+  pub fits : OnOk result (length old.bytes + length bytes < 2 ^ 32)
+  pub err : OnErr result (new.bytes ≡ old.bytes)
+  pub cause : IfErr result (λ e. e ≢ Memory → (e ≡ FieldWidth) × (2 ^ 32 ≤ length old.bytes + length bytes))
+  pub cost : new.summed ≤ old.summed + length bytes + 8
+  pub grows : old.summed ≤ new.summed
+
+-- a whole object was written at the end
+pub record AddedObject (object : Object) (old new : List ℕ) : Type 0 where
+  pub is_whole : object.end ≡ None
+  pub is : new ≡ added old object.front
+
+-- bytes were written over those at an offset
+pub record Overwriting (old : Contents) (offset : ℕ) (bytes : List ℕ) (new : Contents) : Type 0 where
+  pub is : new.bytes ≡ overwritten old.bytes offset bytes
+  pub grows : old.summed ≤ new.summed
+
+-- ---- as a sink
+
 -- whether the table's length still fits 32 bits with these bytes added
 abbrev pub fits : List ℕ → List ℕ → Bool
 fits table [] = true
 fits table (b ∷ bytes) = nat_lt (length table + length (b ∷ bytes)) (2 ^ 32)
 
+abbrev pub is_field_width : Error → Bool
+is_field_width FieldWidth = true
+is_field_width _ = false
+
 -- a table as a sink
 unfoldable pub sdt_of : List ℕ → Meaning
-sdt_of table = record { shows = added table; takes = fits table; wants_memory = true }
+sdt_of table = record { shows = added table; takes = fits table; tells = is_field_width; wants_memory = true }
 
 pub sdt_takes_nothing : (table : List ℕ) → IsTrue ((sdt_of table).takes [])
 unfolding sdt_of

@@ -3,4 +3,4 @@ use Rattle.std.specs.Prelude.{ℕ, List, [], ◌∷◌, ◌++◌}
 
 -- StringPrefix, the text and a zero
 abbrev pub text : List ℕ → List ℕ
-text s = 13 ∷ s ++ 0 ∷ []
+text s = 0x0d ∷ s ++ 0 ∷ []

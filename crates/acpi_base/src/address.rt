@@ -1,10 +1,10 @@
 //! Addresses of registers as plain fields, for tables of the caller's own contents.
 
 ghost use Rattle.std.specs.Prelude.{◌≡◌, ℕ};
-ghost use Rattle.acpi_base.specs.Address.{address_bytes};
+ghost use Rattle.acpi_base.specs.Address.{address_bytes, address_at};
 
 use crate::error::R;
-use crate::record::{Row, record};
+use crate::record::{Field, record};
 use crate::sdt::Sdt;
 use crate::value::SdtValue;
 
@@ -74,7 +74,7 @@ pub struct GenericAddress {
 impl GenericAddress {
     /// A register at a port, as wide as `T`.
     pub fn io_port_address<T: AccessWidth>(address: u16) -> GenericAddress
-        ensures { result ≡ record { address_space_id = 1; register_bit_width = T.WIDTH; register_bit_offset = 0; access_size = T.SIZE; address = address } }
+        ensures { result ≡ address_at 1 T.WIDTH T.SIZE address }
     {
         GenericAddress {
             address_space_id: 1,
@@ -87,7 +87,7 @@ impl GenericAddress {
 
     /// A register in memory, as wide as `T`.
     pub fn mmio_address<T: AccessWidth>(address: u64) -> GenericAddress
-        ensures { result ≡ record { address_space_id = 0; register_bit_width = T.WIDTH; register_bit_offset = 0; access_size = T.SIZE; address = address } }
+        ensures { result ≡ address_at 0 T.WIDTH T.SIZE address }
     {
         GenericAddress {
             address_space_id: 0,
@@ -102,11 +102,11 @@ impl GenericAddress {
         ensures { result ≡ address_bytes self.now }
     {
         record(&[
-            Row::Byte(self.address_space_id),
-            Row::Byte(self.register_bit_width),
-            Row::Byte(self.register_bit_offset),
-            Row::Byte(self.access_size),
-            Row::QWord(self.address),
+            Field::Byte(self.address_space_id),
+            Field::Byte(self.register_bit_width),
+            Field::Byte(self.register_bit_offset),
+            Field::Byte(self.access_size),
+            Field::QWord(self.address),
         ])
     }
 }

@@ -1,6 +1,6 @@
 //! Vectors as sinks, and objects written at a vector's end.
 
-ghost use Rattle.std.specs.Prelude.{◌≡◌, ◌++◌, [], ◌∷◌, map, OnOk, IfErr};
+ghost use Rattle.std.specs.Prelude.{◌≡◌, ◌++◌, [], ◌∷◌, length, take, map, OnOk, OnErr, IfErr};
 ghost use Rattle.acpi_base.specs.Buffer.{buffer_of, buffer_takes};
 ghost use Rattle.acpi_base.specs.Object.{all_of, Appended, Wrote, WriteRefused, IsOwnEnd};
 
@@ -36,10 +36,11 @@ fn write_into(aml: &dyn Aml, bytes: &mut Vec<u8>) -> R<()>
     aml.to_aml_bytes(bytes)
 }
 
-/// Writes an object at the end of a vector.
+/// Writes an object at the end of a vector. Refused, it may have left a beginning of its bytes there.
 pub fn append(aml: &dyn Aml, bytes: &mut Vec<u8>) -> R<()>
     ensures ok { OnOk result (Appended (object aml.now) bytes.old.items bytes.new.items) }
     ensures err { IfErr result (λ e. IsOwnEnd e (object aml.now)) }
+    ensures kept { OnErr result (take (length bytes.old.items) bytes.new.items ≡ bytes.old.items) }
 {
     write_into(aml, bytes)
 }
@@ -51,10 +52,11 @@ fn write_value<T: Aml>(value: &T, bytes: &mut Vec<u8>) -> R<()>
     value.to_aml_bytes(bytes)
 }
 
-/// Writes an object of a known type at the end of a vector.
+/// Writes an object of a known type at the end of a vector, as `append` does.
 pub fn append_value<T: Aml>(value: &T, bytes: &mut Vec<u8>) -> R<()>
     ensures ok { OnOk result (Appended (T.object value.now) bytes.old.items bytes.new.items) }
     ensures err { IfErr result (λ e. IsOwnEnd e (T.object value.now)) }
+    ensures kept { OnErr result (take (length bytes.old.items) bytes.new.items ≡ bytes.old.items) }
 {
     write_value(value, bytes)
 }

@@ -1,11 +1,11 @@
 //! Addresses of registers.
 
-ghost use Rattle.std.specs.Prelude.{◌≡◌, ◌+◌, ◌*◌, ◌^◌};
+ghost use Rattle.std.specs.Prelude.{◌≡◌};
 ghost use Rattle.acpi_base.specs.Object.{whole, whole_ends_well};
 
 use crate::error::R;
 use crate::object::Aml;
-use crate::record::{Row, record};
+use crate::record::{Field, record};
 use crate::sink::AmlSink;
 
 /// Where a register lies (ACPI 6.5, 5.2.3.2, offset 0).
@@ -49,8 +49,9 @@ pub struct GAS {
 }
 
 impl GAS {
-    ghost use Rattle.acpi_base.specs.Gas.{gas_bytes};
+    ghost use Rattle.acpi_base.specs.Gas.{gas, pci_config_gas, gas_bytes};
 
+    /// A register of so many bits, at a bit of the bytes at an address.
     pub fn new(
         address_space_id: AddressSpace,
         register_bit_width: u8,
@@ -58,7 +59,7 @@ impl GAS {
         access_size: AccessSize,
         address: u64,
     ) -> GAS
-        ensures { result ≡ record { address_space_id = address_space_id; register_bit_width = register_bit_width; register_bit_offset = register_bit_offset; access_size = access_size; address = address } }
+        ensures { result ≡ gas address_space_id register_bit_width register_bit_offset access_size address }
     {
         GAS {
             address_space_id,
@@ -78,7 +79,7 @@ impl GAS {
         function: u8,
         register: u16,
     ) -> GAS
-        ensures { result ≡ record { address_space_id = AddressSpace.PciConfigSpace; register_bit_width = register_bit_width; register_bit_offset = 0; access_size = access_size; address = device * 2 ^ 32 + function * 2 ^ 16 + register } }
+        ensures { result ≡ pci_config_gas register_bit_width access_size device function register }
     {
         let address = u64::from(device) * 0x1_0000_0000
             + u64::from(function) * 0x1_0000
@@ -104,11 +105,11 @@ impl GAS {
         ensures { result ≡ gas_bytes self.now }
     {
         record(&[
-            Row::Byte(self.address_space_id as u8),
-            Row::Byte(self.register_bit_width),
-            Row::Byte(self.register_bit_offset),
-            Row::Byte(self.access_size as u8),
-            Row::QWord(self.address),
+            Field::Byte(self.address_space_id as u8),
+            Field::Byte(self.register_bit_width),
+            Field::Byte(self.register_bit_offset),
+            Field::Byte(self.access_size as u8),
+            Field::QWord(self.address),
         ])
     }
 }

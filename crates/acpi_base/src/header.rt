@@ -3,10 +3,11 @@
 ghost use Rattle.std.specs.Prelude.{◌≡◌, ◌≤◌, ◌%◌, [], ◌∷◌, length, sum};
 ghost use Rattle.acpi_base.specs.Bytes.{put};
 ghost use Rattle.acpi_base.specs.Header.{header};
-ghost use Rattle.acpi_base.specs.Sdt.{with_checksum};
+ghost use Rattle.acpi_base.specs.Table.{with_checksum};
 
+use crate::oem::Oem;
 use crate::patch::write_at;
-use crate::record::{Row, record};
+use crate::record::{Field, record};
 use crate::sum::Sum;
 
 /// Who made a table: the creator's id in the standard header (ACPI 6.5, 5.2.6, offset 28).
@@ -15,28 +16,20 @@ pub const CREATOR_ID: [u8; 4] = *b"RVAT";
 /// The creator's revision in the standard header (offset 32).
 pub const CREATOR_REVISION: [u8; 4] = [0, 0, 0, 1];
 
-/// The header of a table of so many bytes (ACPI 6.5, 5.2.6): 36 bytes, with a checksum of zero. Who the table is from stands at
-/// the offsets 10, 16 and 24.
-pub fn header(
-    signature: [u8; 4],
-    size: u32,
-    revision: u8,
-    oem_id: [u8; 6],
-    oem_table_id: [u8; 8],
-    oem_revision: u32,
-) -> [u8; 36]
-    ensures { result ≡ header signature size revision oem_id oem_table_id oem_revision }
+/// The header of a table of so many bytes (ACPI 6.5, 5.2.6): 36 bytes, with a checksum of zero.
+pub fn header(signature: [u8; 4], size: u32, revision: u8, oem: Oem) -> [u8; 36]
+    ensures { result ≡ header signature size revision oem }
 {
     record(&[
-        Row::Bytes(&signature),
-        Row::DWord(size),
-        Row::Byte(revision),
-        Row::Byte(0),
-        Row::Bytes(&oem_id),
-        Row::Bytes(&oem_table_id),
-        Row::DWord(oem_revision),
-        Row::Bytes(&CREATOR_ID),
-        Row::Bytes(&CREATOR_REVISION),
+        Field::Bytes(&signature),
+        Field::DWord(size),
+        Field::Byte(revision),
+        Field::Byte(0),
+        Field::Bytes(&oem.id),
+        Field::Bytes(&oem.table_id),
+        Field::DWord(oem.revision),
+        Field::Bytes(&CREATOR_ID),
+        Field::Bytes(&CREATOR_REVISION),
     ])
 }
 

@@ -1,7 +1,8 @@
 //! Laws over the definitions that the contracts cite. Each function is a law: it does nothing, and ensures it.
 
 ghost use Rattle.std.specs.Prelude.{◌≡◌, ℕ};
-ghost use Rattle.acpi_base.specs.Laws.{WritesJoin, NothingChangesNothing, FrontsAreSummed, WholeObjectsAreSummed, DeleteRestores, ValueMakesZero, AddedSumsToZero, AddedTellsItsLength, AddedAtOnce};
+ghost use Rattle.acpi_base.specs.Laws.{WritesJoin, NothingChangesNothing, FrontsAreSummed, WholeObjectsAreSummed, DeleteRestores, ValueMakesZero, WordsAreBytes, TablesAreTrue, AddedIsTrue, OverwrittenSumsToZero, AddedAtOnce};
+ghost use Rattle.acpi_base.specs.Walk.{OneWalk};
 
 use crate::object::Aml;
 
@@ -13,6 +14,11 @@ pub fn writes_join()
 /// No bytes change nothing.
 pub fn nothing_changes_nothing()
     ensures { NothingChangesNothing }
+{}
+
+/// A number of two, four or eight bytes is its bytes, lowest first, at once or one by one.
+pub fn words_are_bytes()
+    ensures { WordsAreBytes }
 {}
 
 /// A new checksum into which a whole object went is the sum of the object's bytes.
@@ -43,17 +49,27 @@ pub fn numbers_have_one_front()
     ensures size { (n : ℕ) → ⟦<usize as Aml>⟧.object n ≡ ⟦<u64 as Aml>⟧.object n }
 {}
 
-/// A table to which bytes were added sums to zero.
-pub fn added_sums_to_zero()
-    ensures { AddedSumsToZero }
+/// A table of any contents has its length at offset 4 and sums to zero, while its length fits 32 bits.
+pub fn tables_are_true()
+    ensures { TablesAreTrue }
 {}
 
-/// A table to which some bytes were added tells its own length at offset 4.
-pub fn added_tells_its_length()
-    ensures { AddedTellsItsLength }
+/// So does a table to which some bytes were added.
+pub fn added_is_true()
+    ensures { AddedIsTrue }
+{}
+
+/// A table over whose bytes others were written sums to zero.
+pub fn overwritten_sums_to_zero()
+    ensures { OverwrittenSumsToZero }
 {}
 
 /// A table to which bytes are added in two parts is one to which they are added at once.
 pub fn added_at_once()
     ensures { AddedAtOnce }
+{}
+
+/// At most one list of structures walks a table.
+pub fn at_most_one_walk()
+    ensures { OneWalk }
 {}

@@ -11,6 +11,7 @@ pub mod header;
 pub mod laws;
 pub mod number;
 pub mod object;
+pub mod oem;
 pub mod parts;
 pub mod patch;
 pub mod record;

@@ -1,7 +1,8 @@
-//! Bytes written over others.
+//! Bytes written over others, and what they change in a table.
 
-ghost use Rattle.std.specs.Prelude.{◌≡◌, ◌+◌, ◌*◌, ◌%◌, ◌<◌, ◌≤◌, length, sum};
-ghost use Rattle.acpi_base.specs.Bytes.{put};
+ghost use Rattle.std.specs.Prelude.{◌≡◌, ◌+◌, ◌*◌, ◌%◌, ◌<◌, ◌≤◌, [], ◌∷◌, length, sum};
+ghost use Rattle.acpi_base.specs.Bytes.{le, put};
+ghost use Rattle.acpi_base.specs.Table.{with_checksum};
 
 use crate::sum::Sum;
 
@@ -24,4 +25,33 @@ pub fn patch(bytes: &mut [u8], running: &mut Sum, offset: usize, with: &[u8])
     running.take(&bytes[offset..offset + with.len()]);
     running.add(with);
     write_at(bytes, offset, with);
+}
+
+/// Puts a table's length in its place at 4 and makes the checksum true, where the sum is that of all bytes but the checksum.
+pub fn set_length(bytes: &mut [u8], running: &mut Sum, size: u32)
+    requires header { 36 ≤ length bytes.old }
+    requires summed { running.old.value ≡ sum (put 9 (0 ∷ []) bytes.old) % 256 }
+    ensures bytes { bytes.new ≡ with_checksum (put 4 (le 4 size) bytes.old) }
+    ensures sum { running.new.value ≡ sum (put 9 (0 ∷ []) bytes.new) % 256 }
+    ensures counted { running.new.summed ≡ running.old.summed + 8 }
+{
+    write_at(bytes, 9, &[0]);
+    patch(bytes, running, 4, &size.to_le_bytes());
+    write_at(bytes, 9, &[running.checksum()]);
+}
+
+/// Writes bytes over a table's at an offset and makes the checksum true, where the sum is that of all bytes but the checksum.
+pub fn overwrite(bytes: &mut [u8], running: &mut Sum, offset: usize, with: &[u8])
+    requires header { 36 ≤ length bytes.old }
+    requires within { offset + length with.now ≤ length bytes.old }
+    requires summed { running.old.value ≡ sum (put 9 (0 ∷ []) bytes.old) % 256 }
+    ensures bytes { bytes.new ≡ with_checksum (put offset with.now bytes.old) }
+    ensures sum { running.new.value ≡ sum (put 9 (0 ∷ []) bytes.new) % 256 }
+    ensures grows { running.old.summed ≤ running.new.summed }
+{
+    write_at(bytes, 9, &[0]);
+    patch(bytes, running, offset, with);
+    let over_checksum = bytes[9];
+    running.take(&[over_checksum]);
+    write_at(bytes, 9, &[running.checksum()]);
 }

@@ -1,16 +1,19 @@
 //! System description tables whose contents are the caller's.
 
 ghost use Rattle.std.specs.Prelude.{◌≡◌, ◌≢◌, ◌≤◌, ◌<◌, ◌+◌, ◌-◌, ◌%◌, ◌^◌, ◌++◌, [], ◌∷◌, ◌↔◌, length, replicate, sum, OnOk, OnErr, IfErr, IfOk, IsTrue};
-ghost use Rattle.acpi_base.specs.Bytes.{le, put};
-ghost use Rattle.acpi_base.specs.Header.{header};
+ghost use Rattle.std.specs.Int.{to_le_bytes, w16, w32, w64};
+ghost use Rattle.acpi_base.specs.Bytes.{le};
+ghost use Rattle.acpi_base.specs.Layout.{zeros};
 ghost use Rattle.acpi_base.specs.Object.{whole, whole_ends_well, Wrote, WriteRefused};
 ghost use Rattle.acpi_base.specs.Sink.{Took, Refused};
-ghost use Rattle.acpi_base.specs.Sdt.{with_checksum, added, sdt_of, sdt_takes_nothing, sdt_takes_beginning};
+ghost use Rattle.acpi_base.specs.Table.{with_checksum, table_of};
+ghost use Rattle.acpi_base.specs.Sdt.{Addition, Overwriting, AddedObject, sdt_of, sdt_takes_nothing, sdt_takes_beginning};
 
 use crate::error::{Error, R};
 use crate::header::{header, seal};
 use crate::object::Aml;
-use crate::patch::{patch, write_at};
+use crate::oem::Oem;
+use crate::patch::{overwrite, set_length};
 use crate::sink::AmlSink;
 use crate::sum::Sum;
 use crate::value::SdtValue;
@@ -26,16 +29,18 @@ pub struct Sdt {
 }
 
 impl Model for Sdt {
-    ghost use Rattle.acpi_base.specs.Contents.{Contents, IsTable};
+    ghost use Rattle.acpi_base.specs.Sdt.{Contents};
+    ghost use Rattle.acpi_base.specs.Kept.{IsKept};
 
     ghost Value = { Contents };
 
     ghost view = { λ s. record { bytes = s.bytes.items; summed = s.sum.summed } };
 
-    ghost invariant = { λ s. IsTable s.bytes.items s.sum.value };
+    ghost invariant = { λ s. IsKept s.bytes.items s.sum.value };
 }
 
 /// A table takes bytes at its end while its length fits 32 bits, and is whole after each call.
+#[tactic(auto, using(crate::proofs::Tables::sdt_ok, crate::proofs::Tables::sdt_err))]
 impl AmlSink for Sdt {
     ghost meaning = { λ s. sdt_of s.bytes };
 
@@ -46,17 +51,39 @@ impl AmlSink for Sdt {
     fn byte(&mut self, byte: u8) -> R<()>
         ensures ok { OnOk result (Took (sdt_of self.old.bytes) (byte ∷ []) (sdt_of self.new.bytes)) }
         ensures err { IfErr result (λ e. Refused e (sdt_of self.old.bytes) (byte ∷ []) (sdt_of self.new.bytes)) }
-        ensures cost { self.new.summed ≤ self.old.summed + 9 }
-        ensures grows { self.old.summed ≤ self.new.summed }
+        ensures adds { Addition result self.old (byte ∷ []) self.new }
     {
         self.append_slice(&[byte])
+    }
+
+    fn word(&mut self, word: u16) -> R<()>
+        ensures ok { OnOk result (Took (sdt_of self.old.bytes) (to_le_bytes w16 word) (sdt_of self.new.bytes)) }
+        ensures err { IfErr result (λ e. Refused e (sdt_of self.old.bytes) (to_le_bytes w16 word) (sdt_of self.new.bytes)) }
+        ensures adds { Addition result self.old (to_le_bytes w16 word) self.new }
+    {
+        self.append_slice(&word.to_le_bytes())
+    }
+
+    fn dword(&mut self, dword: u32) -> R<()>
+        ensures ok { OnOk result (Took (sdt_of self.old.bytes) (to_le_bytes w32 dword) (sdt_of self.new.bytes)) }
+        ensures err { IfErr result (λ e. Refused e (sdt_of self.old.bytes) (to_le_bytes w32 dword) (sdt_of self.new.bytes)) }
+        ensures adds { Addition result self.old (to_le_bytes w32 dword) self.new }
+    {
+        self.append_slice(&dword.to_le_bytes())
+    }
+
+    fn qword(&mut self, qword: u64) -> R<()>
+        ensures ok { OnOk result (Took (sdt_of self.old.bytes) (to_le_bytes w64 qword) (sdt_of self.new.bytes)) }
+        ensures err { IfErr result (λ e. Refused e (sdt_of self.old.bytes) (to_le_bytes w64 qword) (sdt_of self.new.bytes)) }
+        ensures adds { Addition result self.old (to_le_bytes w64 qword) self.new }
+    {
+        self.append_slice(&qword.to_le_bytes())
     }
 
     fn vec(&mut self, v: &[u8]) -> R<()>
         ensures ok { OnOk result (Took (sdt_of self.old.bytes) v.now (sdt_of self.new.bytes)) }
         ensures err { IfErr result (λ e. Refused e (sdt_of self.old.bytes) v.now (sdt_of self.new.bytes)) }
-        ensures cost { self.new.summed ≤ self.old.summed + length v.now + 8 }
-        ensures grows { self.old.summed ≤ self.new.summed }
+        ensures adds { Addition result self.old v.now self.new }
     {
         self.append_slice(v)
     }
@@ -86,35 +113,6 @@ fn with_zeros(alloc: Global, header: &[u8], size: usize) -> R<Vec<u8>>
     Ok(bytes)
 }
 
-// Puts a length in its place and makes the checksum true, where the sum is that of all other bytes.
-fn set_length(bytes: &mut [u8], running: &mut Sum, size: u32)
-    requires header { 36 ≤ length bytes.old }
-    requires summed { running.old.value ≡ sum (put 9 (0 ∷ []) bytes.old) % 256 }
-    ensures bytes { bytes.new ≡ with_checksum (put 4 (le 4 size) bytes.old) }
-    ensures sum { running.new.value ≡ sum (put 9 (0 ∷ []) bytes.new) % 256 }
-    ensures counted { running.new.summed ≡ running.old.summed + 8 }
-{
-    write_at(bytes, 9, &[0]);
-    patch(bytes, running, 4, &size.to_le_bytes());
-    write_at(bytes, 9, &[running.checksum()]);
-}
-
-// Writes bytes over others and makes the checksum true, where the sum is that of all bytes but the checksum.
-fn overwrite(bytes: &mut [u8], running: &mut Sum, offset: usize, with: &[u8])
-    requires header { 36 ≤ length bytes.old }
-    requires within { offset + length with.now ≤ length bytes.old }
-    requires summed { running.old.value ≡ sum (put 9 (0 ∷ []) bytes.old) % 256 }
-    ensures bytes { bytes.new ≡ with_checksum (put offset with.now bytes.old) }
-    ensures sum { running.new.value ≡ sum (put 9 (0 ∷ []) bytes.new) % 256 }
-    ensures grows { running.old.summed ≤ running.new.summed }
-{
-    write_at(bytes, 9, &[0]);
-    patch(bytes, running, offset, with);
-    let over_checksum = bytes[9];
-    running.take(&[over_checksum]);
-    write_at(bytes, 9, &[running.checksum()]);
-}
-
 impl Sdt {
     /// A table of `length` bytes: the standard header, and zeros up to that length. ShortTable below 36.
     pub fn new(
@@ -126,16 +124,24 @@ impl Sdt {
         oem_table: [u8; 8],
         oem_revision: u32,
     ) -> R<Sdt>
-        ensures ok { IfOk result (λ table. table.bytes ≡ with_checksum
-            (header signature length revision oem_id oem_table oem_revision ++ replicate (length - 36) 0)) }
+        ensures ok { IfOk result (λ table. table.bytes ≡ table_of signature revision
+            (record { id = oem_id; table_id = oem_table; revision = oem_revision }) (zeros (length - 36))) }
         ensures long { OnOk result (36 ≤ length) }
         ensures err { IfErr result (λ e. e ≢ Error.Memory → (e ≡ Error.ShortTable) × (length < 36)) }
     {
         if length < 36 {
             return Err(Error::ShortTable);
         }
-        let header = header(signature, length, revision, oem_id, oem_table, oem_revision);
-        let mut bytes = with_zeros(alloc, &header, length as usize)?;
+        let oem = Oem {
+            id: oem_id,
+            table_id: oem_table,
+            revision: oem_revision,
+        };
+        let mut bytes = with_zeros(
+            alloc,
+            &header(signature, length, revision, oem),
+            length as usize,
+        )?;
         let sum = seal(&mut bytes);
         Ok(Sdt { bytes, sum })
     }
@@ -149,16 +155,11 @@ impl Sdt {
         self.bytes[9] = self.sum.checksum();
     }
 
-    /// Adds bytes at the end, and makes the length and the checksum true. No bytes change nothing. FieldWidth where
-    /// the length would reach 2^32.
+    /// Adds bytes at the end, and makes the length at offset 4 and the checksum true. No bytes change nothing. FieldWidth
+    /// where the length would reach 2^32.
     pub fn append_slice(&mut self, slice: &[u8]) -> R<()>
-        ensures ok { OnOk result (self.new.bytes ≡ added self.old.bytes slice.now) }
-        ensures fits { OnOk result (length self.old.bytes + length slice.now < 2 ^ 32) }
-        ensures err { OnErr result (self.new.bytes ≡ self.old.bytes) }
-        ensures cause { IfErr result (λ e. e ≢ Error.Memory → (e ≡ Error.FieldWidth) × (2 ^ 32 ≤ length self.old.bytes + length slice.now)) }
+        ensures adds { Addition result self.old slice.now self.new }
         ensures header { (36 ≤ length self.old.bytes) × (length self.old.bytes < 2 ^ 32) }
-        ensures cost { self.new.summed ≤ self.old.summed + length slice.now + 8 }
-        ensures grows { self.old.summed ≤ self.new.summed }
     {
         let Ok(size) = u32::try_from(self.bytes.len() + slice.len()) else {
             return Err(Error::FieldWidth);
@@ -174,22 +175,16 @@ impl Sdt {
 
     /// Adds a value's bytes at the end, as `append_slice` does.
     pub fn append<T: SdtValue>(&mut self, value: T) -> R<()>
-        ensures ok { OnOk result (self.new.bytes ≡ added self.old.bytes (T.value_bytes value)) }
-        ensures fits { OnOk result (length self.old.bytes + length (T.value_bytes value) < 2 ^ 32) }
-        ensures err { OnErr result (self.new.bytes ≡ self.old.bytes) }
-        ensures cause { IfErr result (λ e. e ≢ Error.Memory → (e ≡ Error.FieldWidth) × (2 ^ 32 ≤ length self.old.bytes + length (T.value_bytes value))) }
-        ensures cost { self.new.summed ≤ self.old.summed + length (T.value_bytes value) + 8 }
-        ensures grows { self.old.summed ≤ self.new.summed }
+        ensures { Addition result self.old (T.value_bytes value) self.new }
     {
         value.append_to(self)
     }
 
-    /// Writes bytes over those that begin at an offset, and makes the checksum true. The bytes' end isn't past the
-    /// table's.
+    /// Writes bytes over those that begin at an offset, and makes the checksum true. The length stays as it was written.
+    /// The bytes' end isn't past the table's.
     pub fn write_bytes(&mut self, offset: usize, slice: &[u8])
         requires { offset + length slice.now ≤ length self.old.bytes }
-        ensures bytes { self.new.bytes ≡ with_checksum (put offset slice.now self.old.bytes) }
-        ensures grows { self.old.summed ≤ self.new.summed }
+        ensures { Overwriting self.old offset slice.now self.new }
     {
         overwrite(&mut self.bytes, &mut self.sum, offset, slice);
     }
@@ -197,8 +192,7 @@ impl Sdt {
     /// Writes a value's bytes at an offset, as `write_bytes` does.
     pub fn write<T: SdtValue>(&mut self, offset: usize, value: T)
         requires { offset + length (T.value_bytes value) ≤ length self.old.bytes }
-        ensures bytes { self.new.bytes ≡ with_checksum (put offset (T.value_bytes value) self.old.bytes) }
-        ensures grows { self.old.summed ≤ self.new.summed }
+        ensures { Overwriting self.old offset (T.value_bytes value) self.new }
     {
         value.write_to(self, offset);
     }
@@ -206,8 +200,7 @@ impl Sdt {
     /// Writes a byte at an offset.
     pub fn write_u8(&mut self, offset: usize, value: u8)
         requires { offset + 1 ≤ length self.old.bytes }
-        ensures bytes { self.new.bytes ≡ with_checksum (put offset (value ∷ []) self.old.bytes) }
-        ensures grows { self.old.summed ≤ self.new.summed }
+        ensures { Overwriting self.old offset (value ∷ []) self.new }
     {
         self.write_bytes(offset, &[value]);
     }
@@ -215,8 +208,7 @@ impl Sdt {
     /// Writes two bytes at an offset, the lowest first.
     pub fn write_u16(&mut self, offset: usize, value: u16)
         requires { offset + 2 ≤ length self.old.bytes }
-        ensures bytes { self.new.bytes ≡ with_checksum (put offset (le 2 value) self.old.bytes) }
-        ensures grows { self.old.summed ≤ self.new.summed }
+        ensures { Overwriting self.old offset (le 2 value) self.new }
     {
         self.write_bytes(offset, &value.to_le_bytes());
     }
@@ -224,8 +216,7 @@ impl Sdt {
     /// Writes four bytes at an offset, the lowest first.
     pub fn write_u32(&mut self, offset: usize, value: u32)
         requires { offset + 4 ≤ length self.old.bytes }
-        ensures bytes { self.new.bytes ≡ with_checksum (put offset (le 4 value) self.old.bytes) }
-        ensures grows { self.old.summed ≤ self.new.summed }
+        ensures { Overwriting self.old offset (le 4 value) self.new }
     {
         self.write_bytes(offset, &value.to_le_bytes());
     }
@@ -233,8 +224,7 @@ impl Sdt {
     /// Writes eight bytes at an offset, the lowest first.
     pub fn write_u64(&mut self, offset: usize, value: u64)
         requires { offset + 8 ≤ length self.old.bytes }
-        ensures bytes { self.new.bytes ≡ with_checksum (put offset (le 8 value) self.old.bytes) }
-        ensures grows { self.old.summed ≤ self.new.summed }
+        ensures { Overwriting self.old offset (le 8 value) self.new }
     {
         self.write_bytes(offset, &value.to_le_bytes());
     }
@@ -263,8 +253,18 @@ impl Sdt {
     }
 }
 
-/// Writes an object at the end of a table. Length and checksum are true after each part that the object writes.
+/// Writes an object at the end of a table. Length and checksum are true after each part that the object writes. The
+/// object's refusal, or FieldWidth where the length would reach 2^32.
+#[tactic(auto, using(crate::proofs::Tables::sdt_wrote))]
 pub fn append_object(aml: &dyn Aml, table: &mut Sdt) -> R<()>
+    ensures ok { OnOk result (AddedObject (object aml.now) table.old.bytes table.new.bytes) }
+    ensures err { IfErr result (λ e. WriteRefused e (object aml.now) (sdt_of table.old.bytes) (sdt_of table.new.bytes)) }
+{
+    write_into(aml, table)
+}
+
+// The same, by what sinks are.
+fn write_into(aml: &dyn Aml, table: &mut Sdt) -> R<()>
     ensures ok { OnOk result (Wrote (object aml.now) (sdt_of table.old.bytes) (sdt_of table.new.bytes)) }
     ensures err { IfErr result (λ e. WriteRefused e (object aml.now) (sdt_of table.old.bytes) (sdt_of table.new.bytes)) }
 {

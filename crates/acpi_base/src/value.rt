@@ -1,10 +1,10 @@
 //! Values that a table takes at its end or at an offset.
 
-ghost use Rattle.std.specs.Prelude.{◌≡◌, ◌≢◌, ℕ, ◌+◌, ◌≤◌, ◌<◌, ◌^◌, [], ◌∷◌, List, length, OnOk, OnErr, IfErr};
-ghost use Rattle.acpi_base.specs.Bytes.{le, put};
-ghost use Rattle.acpi_base.specs.Sdt.{with_checksum, added};
+ghost use Rattle.std.specs.Prelude.{ℕ, ◌+◌, ◌≤◌, [], ◌∷◌, List, length};
+ghost use Rattle.acpi_base.specs.Bytes.{le};
+ghost use Rattle.acpi_base.specs.Sdt.{Addition, Overwriting};
 
-use crate::error::{Error, R};
+use crate::error::R;
 use crate::sdt::Sdt;
 
 /// What can be put into a table by its bytes.
@@ -13,18 +13,12 @@ pub trait SdtValue: Drop {
 
     /// Adds the value's bytes at the table's end, as `Sdt::append_slice` does.
     fn append_to(&self, table: &mut Sdt) -> R<()>
-        ensures ok { OnOk result (table.new.bytes ≡ added table.old.bytes (value_bytes self.now)) }
-        ensures fits { OnOk result (length table.old.bytes + length (value_bytes self.now) < 2 ^ 32) }
-        ensures err { OnErr result (table.new.bytes ≡ table.old.bytes) }
-        ensures cause { IfErr result (λ e. e ≢ Error.Memory → (e ≡ Error.FieldWidth) × (2 ^ 32 ≤ length table.old.bytes + length (value_bytes self.now))) }
-        ensures cost { table.new.summed ≤ table.old.summed + length (value_bytes self.now) + 8 }
-        ensures grows { table.old.summed ≤ table.new.summed };
+        ensures { Addition result table.old (value_bytes self.now) table.new };
 
     /// Writes the value's bytes over those at an offset, as `Sdt::write_bytes` does.
     fn write_to(&self, table: &mut Sdt, offset: usize)
         requires { offset + length (value_bytes self.now) ≤ length table.old.bytes }
-        ensures bytes { table.new.bytes ≡ with_checksum (put offset (value_bytes self.now) table.old.bytes) }
-        ensures grows { table.old.summed ≤ table.new.summed };
+        ensures { Overwriting table.old offset (value_bytes self.now) table.new };
 }
 
 impl SdtValue for u8 {

@@ -1,63 +1,115 @@
-//! How long the terms of large tables take to read. `acpi_bench TURNS` reads definition blocks of 1, 2, 4 and 8 MiB, each
-//! so many times, and prints the least time of each. It ends with status 1 where twice the bytes take 2.3 times as long.
-//! With 0 turns it reads nothing.
+//! How long the terms of large tables take to read, and tables of many structures to build. `acpi_bench TURNS MIB KI` reads
+//! definition blocks of 1, 2, 4 and 8 MiB, builds tables of 1,024, 2,048 and 4,096 structures, but none that is larger than so
+//! many MiB or 1,024 structures, each so many times, and prints the least time of each. It ends with status 1 where twice the
+//! size takes 2.3 times as long. With 0 turns it does nothing.
 #![tactic(auto)]
 
 ghost use Rattle.std.specs.Prelude.{◌≡◌, IfOk};
 ghost use Rattle.acpi_bench.specs.Ratio.{are_linear};
 
+mod building;
 mod device;
 mod fault;
 mod ratio;
 mod table;
 mod timing;
 
+use crate::building::Kind;
 use crate::device::{arities, device};
 use crate::fault::Fault;
 use crate::ratio::{hundredths, is_too_slow};
 use crate::table::table_of;
-use crate::timing::{Millis, least};
+use crate::timing::{Millis, least, least_built};
 use std::process::ExitCode;
 use std::rt::{Clock, Env};
 use std::{env, io};
 
 fn main(rt: HostRuntime) -> Result<ExitCode, Fault> {
-    let Some(turns) = turns(&rt)? else {
-        eprintln!(rt; "usage: acpi_bench TURNS")?;
+    let Some((turns, mib, ki)) = numbers(&rt)? else {
+        eprintln!(rt; "usage: acpi_bench TURNS MIB KI")?;
         return Ok(ExitCode::from(2));
     };
-    if turns == 0 || is_linear(&rt, turns)? {
-        Ok(ExitCode::SUCCESS)
-    } else {
-        Ok(ExitCode::FAILURE)
+    if turns == 0 {
+        return Ok(ExitCode::SUCCESS);
     }
+    let is_read = is_read_linearly(&rt, turns, mib)?;
+    let is_built = is_built_linearly(&rt, turns, ki)?;
+    Ok(if is_read && is_built {
+        ExitCode::SUCCESS
+    } else {
+        ExitCode::FAILURE
+    })
 }
 
-// How often each table is read, if the first argument is a number from 0 to 255.
-fn turns(rt: &(impl Env + AllocGlobal)) -> io::Result<Option<u8>> {
-    let Some(word) = env::args(rt)?.nth(1) else {
+// How often each table is read or built, and how many MiB and how many times 1,024 structures the largest have, if the
+// arguments are three numbers from 0 to 255.
+fn numbers(rt: &(impl Env + AllocGlobal)) -> io::Result<Option<(u8, u8, u8)>> {
+    let mut words = env::args(rt)?.skip(1);
+    let (Some(turns), Some(mib), Some(ki)) = (words.next(), words.next(), words.next()) else {
         return Ok(None);
     };
-    Ok(word.as_str().parse::<u8>().ok())
+    let (Ok(turns), Ok(mib), Ok(ki)) = (
+        turns.as_str().parse(),
+        mib.as_str().parse(),
+        ki.as_str().parse(),
+    ) else {
+        return Ok(None);
+    };
+    Ok(Some((turns, mib, ki)))
+}
+
+// Builds the tables, prints the times and ratios, and answers whether no ratio is too large.
+fn is_built_linearly(
+    rt: &(impl Clock + Print + AllocGlobal),
+    turns: u8,
+    most: u8,
+) -> Result<bool, Fault> {
+    let alloc = rt.alloc();
+    let mut linear = true;
+    for (kind, name) in [
+        (Kind::Madt, "MADT"),
+        (Kind::Srat, "SRAT"),
+        (Kind::Xsdt, "XSDT"),
+    ] {
+        let mut measured = Vec::new(alloc);
+        for ki in [1u8, 2, 4] {
+            if ki > most {
+                break;
+            }
+            let time = least_built(rt, alloc, kind, ki as u32 * 1024, turns)?;
+            println!(rt; "{name} of {ki} Ki structures: {time} ns")?;
+            measured.push((ki, time))?;
+        }
+        let is_linear = print_ratios(rt, &measured, "Ki structures")?;
+        linear = linear && is_linear;
+    }
+    Ok(linear)
 }
 
 // Reads the tables, prints the times and ratios, and answers whether no ratio is too large.
-fn is_linear(rt: &(impl Clock + Print + AllocGlobal), turns: u8) -> Result<bool, Fault> {
+fn is_read_linearly(
+    rt: &(impl Clock + Print + AllocGlobal),
+    turns: u8,
+    most: u8,
+) -> Result<bool, Fault> {
     let alloc = rt.alloc();
     let (device, arities) = (device(alloc)?, arities(alloc)?);
     let mut measured = Vec::new(alloc);
     for mib in [1u8, 2, 4, 8] {
+        if mib > most {
+            break;
+        }
         let table = table_of(alloc, &device, mib as usize * 0x10_0000)?;
         let times = least(rt, &table.as_slice()[36..], &arities, turns)?;
         let (count, read, dropped) = (times.terms, Millis(times.read), Millis(times.dropped));
         println!(rt; "{mib} MiB: {count} terms, {read} ms, dropped in {dropped} ms")?;
         measured.push((mib, times.read))?;
     }
-    Ok(print_ratios(rt, &measured)?)
+    Ok(print_ratios(rt, &measured, "MiB")?)
 }
 
 // Prints the ratio of each time and the one before, and answers whether none is too large.
-fn print_ratios(rt: &impl Print, measured: &[(u8, u64)]) -> io::Result<bool>
+fn print_ratios(rt: &impl Print, measured: &[(u8, u64)], unit: &str) -> io::Result<bool>
     ensures { IfOk result (λ linear. linear ≡ are_linear measured.now) }
 {
     let Some(((less, earlier), others)) = measured.split_first() else {
@@ -68,11 +120,8 @@ fn print_ratios(rt: &impl Print, measured: &[(u8, u64)]) -> io::Result<bool>
     };
     let ratio = hundredths(*earlier, *later);
     let (whole, part) = (ratio / 100, ratio % 100);
-    println!(rt; "{less} to {more} MiB: {whole}.{part:02} times as long")?;
+    println!(rt; "{less} to {more} {unit}: {whole}.{part:02} times as long")?;
     let linear = !is_too_slow(*earlier, *later);
-    if !linear {
-        println!(rt; "too slow from {less} to {more} MiB: 2.3 times as long or more")?;
-    }
-    let others = print_ratios(rt, others)?;
+    let others = print_ratios(rt, others, unit)?;
     Ok(linear && others)
 }

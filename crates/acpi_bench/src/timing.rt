@@ -1,11 +1,13 @@
-//! Times of reading.
+//! Times of reading and of building.
 
 ghost use Rattle.std.specs.Prelude.{IfOk};
 ghost use Rattle.acpi_term.specs.Arity.{arity};
 ghost use Rattle.acpi_bench.specs.Counted.{AreCounted};
 
+use crate::building::{Kind, build};
 use crate::fault::Fault;
 use acpi_tables::read::{Arities, terms};
+use std::alloc::Global;
 use std::fmt;
 use std::fmt::{Display, Formatter, Write};
 use std::rt::Clock;
@@ -62,6 +64,28 @@ pub fn least(rt: &impl Clock, bytes: &[u8], arities: &Arities, turns: u8) -> Res
         let next = once(rt, bytes, arities)?;
         least.read = least.read.min(next.read);
         least.dropped = least.dropped.min(next.dropped);
+    }
+    Ok(least)
+}
+
+// The nanoseconds in which a table of so many structures is built and dropped.
+fn built_once(rt: &impl Clock, alloc: Global, kind: Kind, count: u32) -> Result<u64, Fault> {
+    let start = Instant::now(rt)?;
+    build(alloc, kind, count)?;
+    Ok(nanos(start.elapsed(rt)?))
+}
+
+/// The least nanoseconds of so many turns, and of one at least, in which a table of so many structures is built.
+pub fn least_built(
+    rt: &impl Clock,
+    alloc: Global,
+    kind: Kind,
+    count: u32,
+    turns: u8,
+) -> Result<u64, Fault> {
+    let mut least = built_once(rt, alloc, kind, count)?;
+    for _ in 1..turns {
+        least = least.min(built_once(rt, alloc, kind, count)?);
     }
     Ok(least)
 }

@@ -1,2 +1,2 @@
-pub mod Seals
+pub mod Registers
 pub mod Tables

@@ -1,22 +1,21 @@
 -- The Firmware ACPI Control Structure (ACPI 6.5, 5.2.10).
 use Rattle.std.specs.Prelude.{ℕ, List, [], ◌∷◌, codes}
-use Rattle.acpi_base.specs.Bytes.{le}
-use Rattle.acpi_fixed.specs.Layout.{byte, joined}
+use Rattle.acpi_base.specs.Layout.{byte, dword, qword, zeros, record_of}
 use Rattle.acpi_fixed.specs.declared.facs.FACS.{FACS}
 
 abbrev pub facs_bytes : FACS → List ℕ
-facs_bytes f = joined
-    (f.signature
-    ∷ le 4 f.length
-    ∷ le 4 f.hardware_signature
-    ∷ le 4 f.waking  -- at 12
-    ∷ le 4 f.lock
-    ∷ le 4 f.flags
-    ∷ le 8 f.x_waking  -- at 24
-    ∷ byte f.version
-    ∷ le 3 0
-    ∷ le 4 f.ospm_flags  -- at 36
-    ∷ le 24 0
+facs_bytes f = record_of
+    (f.signature  -- 0
+    ∷ dword f.length  -- 4: Length
+    ∷ dword f.hardware_signature  -- 8: Hardware Signature
+    ∷ dword f.waking  -- 12: Firmware Waking Vector
+    ∷ dword f.lock  -- 16: Global Lock
+    ∷ dword f.flags  -- 20: Flags
+    ∷ qword f.x_waking  -- 24: X Firmware Waking Vector
+    ∷ byte f.version  -- 32: Version
+    ∷ zeros 3  -- 33
+    ∷ dword f.ospm_flags  -- 36: OSPM Flags
+    ∷ zeros 24  -- 40
     ∷ [])
 
 abbrev pub facs_at_first : FACS

@@ -1,13 +1,17 @@
 -- What holds of the definitions, whatever calls there are.
-use Rattle.std.specs.Prelude.{◌≡◌, ℕ, ◌%◌, List, length, sum, take, drop}
-use Rattle.acpi_base.specs.Bytes.{le}
+use Rattle.std.specs.Prelude.{◌≡◌, ℕ, ◌%◌, List, length, sum, take}
+use Rattle.acpi_base.specs.Table.{IsTrueTable}
+use Rattle.acpi_base.specs.declared.oem.Oem.{Oem}
+use Rattle.acpi_fixed.specs.declared.bert.BERT.{BERT}
+use Rattle.acpi_fixed.specs.declared.spcr.SPCR.{SPCR}
+use Rattle.acpi_fixed.specs.declared.tpm2.TpmClient1_2.{TpmClient1_2}
+use Rattle.acpi_fixed.specs.declared.tpm2.TpmServer1_2.{TpmServer1_2}
+use Rattle.acpi_fixed.specs.declared.tpm2.Tpm2.{Tpm2}
+use Rattle.acpi_fixed.specs.Bert.{bert_bytes}
 use Rattle.acpi_fixed.specs.Rsdp.{rsdp_bytes, rsdp_for}
-
--- a table of so many bytes, which tells its size at 4 and sums to zero
-pub record IsTrueTable (size : ℕ) (bytes : List ℕ) : Type 0 where
-  pub long : length bytes ≡ size
-  pub told : take 4 (drop 4 bytes) ≡ le 4 size
-  pub zero : sum bytes % 256 ≡ 0
+use Rattle.acpi_fixed.specs.Spcr.{spcr_bytes}
+use Rattle.acpi_fixed.specs.Tcpa.{client_bytes, server_bytes}
+use Rattle.acpi_fixed.specs.Tpm2.{tpm2_bytes, tpm2_size}
 
 -- the first 20 bytes of a pointer that was made sum to zero, and all 36
 abbrev pub PointersSumToZero : Type 0
@@ -16,3 +20,20 @@ PointersSumToZero =
     → (length (rsdp_bytes (rsdp_for oem_id xsdt_addr)) ≡ 36)
     × (sum (take 20 (rsdp_bytes (rsdp_for oem_id xsdt_addr))) % 256 ≡ 0)
     × (sum (rsdp_bytes (rsdp_for oem_id xsdt_addr)) % 256 ≡ 0)
+
+-- ---- what is from this maker is a true table of its size, whatever else it holds
+
+abbrev pub BertsAreTrue : Oem → Type 0
+BertsAreTrue oem = (t : BERT) → t.oem ≡ oem → IsTrueTable (bert_bytes t) × (length (bert_bytes t) ≡ 48)
+
+abbrev pub SpcrsAreTrue : Oem → Type 0
+SpcrsAreTrue oem = (t : SPCR) → t.oem ≡ oem → IsTrueTable (spcr_bytes t) × (length (spcr_bytes t) ≡ 90)
+
+abbrev pub ClientsAreTrue : Oem → Type 0
+ClientsAreTrue oem = (t : TpmClient1_2) → t.oem ≡ oem → IsTrueTable (client_bytes t) × (length (client_bytes t) ≡ 50)
+
+abbrev pub ServersAreTrue : Oem → Type 0
+ServersAreTrue oem = (t : TpmServer1_2) → t.oem ≡ oem → IsTrueTable (server_bytes t) × (length (server_bytes t) ≡ 100)
+
+abbrev pub Tpm2sAreTrue : Oem → Type 0
+Tpm2sAreTrue oem = (t : Tpm2) → t.oem ≡ oem → IsTrueTable (tpm2_bytes t) × (length (tpm2_bytes t) ≡ tpm2_size t.log_area)

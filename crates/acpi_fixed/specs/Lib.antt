@@ -1,8 +1,10 @@
-pub mod Layout
+pub mod Oem
 pub mod Bert
 pub mod Facs
 pub mod Rsdp
 pub mod Spcr
+pub mod Class
+pub mod Tcpa
 pub mod Tpm2
 pub mod Fadt
 pub mod Laws

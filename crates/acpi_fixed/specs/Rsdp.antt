@@ -1,20 +1,20 @@
 -- The Root System Description Pointer (ACPI 6.5, 5.2.5.3).
 use Rattle.std.specs.Prelude.{ℕ, List, [], ◌∷◌, codes, take, sum}
-use Rattle.acpi_base.specs.Bytes.{le, complement}
-use Rattle.acpi_fixed.specs.Layout.{byte, joined}
+use Rattle.acpi_base.specs.Bytes.{complement}
+use Rattle.acpi_base.specs.Layout.{byte, dword, qword, zeros, record_of}
 use Rattle.acpi_fixed.specs.declared.rsdp.Rsdp.{Rsdp}
 
 abbrev pub rsdp_bytes : Rsdp → List ℕ
-rsdp_bytes r = joined
-    (r.signature
-    ∷ byte r.checksum  -- at 8
-    ∷ r.oem_id
-    ∷ byte r.revision  -- at 15
-    ∷ le 4 0  -- address of the RSDT
-    ∷ le 4 r.length  -- at 20
-    ∷ le 8 r.xsdt_addr
-    ∷ byte r.extended_checksum  -- at 32
-    ∷ le 3 0
+rsdp_bytes r = record_of
+    (r.signature  -- 0
+    ∷ byte r.checksum  -- 8: Checksum
+    ∷ r.oem_id  -- 9: OEMID
+    ∷ byte r.revision  -- 15: Revision
+    ∷ dword 0  -- 16: RsdtAddress
+    ∷ dword r.length  -- 20: Length
+    ∷ qword r.xsdt_addr  -- 24: XsdtAddress
+    ∷ byte r.extended_checksum  -- 32: Extended Checksum
+    ∷ zeros 3  -- 33
     ∷ [])
 
 -- the pointer before its checksums are made

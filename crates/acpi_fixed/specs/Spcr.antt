@@ -1,26 +1,42 @@
 -- The Serial Port Console Redirection table (Microsoft, SPCR revision 4).
-use Rattle.std.specs.Prelude.{ℕ, List, [], ◌∷◌, codes}
-use Rattle.acpi_base.specs.Bytes.{le}
-use Rattle.acpi_fixed.specs.Layout.{byte, table}
+use Rattle.std.specs.Prelude.{ℕ, List, [], ◌∷◌, ◌++◌, codes}
+use Rattle.acpi_base.specs.Gas.{gas_bytes, no_register}
+use Rattle.acpi_base.specs.Layout.{byte, word, dword, zeros, record_of}
+use Rattle.acpi_base.specs.Table.{table_of}
+use Rattle.acpi_base.specs.declared.oem.Oem.{Oem}
 use Rattle.acpi_fixed.specs.declared.spcr.SPCR.{SPCR}
 
-abbrev pub spcr_bytes : SPCR → List ℕ
-spcr_bytes t = table (codes "SPCR") 90 4 t.oem
-    (byte 21  -- interface type: the RISC-V supervisor binary interface
-    ∷ le 3 0
-    ∷ le 12 0  -- at 40: base address
-    ∷ le 2 0  -- interrupt type, and the interrupt of the old controller
-    ∷ le 4 0  -- at 54: global system interrupt
-    ∷ le 6 0  -- baud rate, parity, stop bits, flow control, terminal type, language
-    ∷ le 2 65535  -- at 64: PCI device id: none
-    ∷ le 2 65535  -- PCI vendor id: none
-    ∷ le 3 0  -- at 68: PCI bus, device and function
-    ∷ le 4 0  -- PCI flags
-    ∷ byte 0  -- at 75: PCI segment
-    ∷ le 4 0  -- clock frequency
-    ∷ le 4 0  -- precise baud rate
-    ∷ le 2 2  -- at 84: length of the namespace string
-    ∷ le 2 88  -- its offset
-    ∷ codes "."  -- at 88: no device of the namespace
-    ∷ byte 0
+abbrev pub spcr_fields : SPCR → List (List ℕ)
+spcr_fields t =
+    (byte 0x15  -- 36: Interface Type: the RISC-V supervisor binary interface
+    ∷ zeros 3  -- 37
+    ∷ gas_bytes no_register  -- 40: Base Address
+    ∷ byte 0  -- 52: Interrupt Type
+    ∷ byte 0  -- 53: IRQ
+    ∷ dword 0  -- 54: Global System Interrupt
+    ∷ byte 0  -- 58: Configured Baud Rate
+    ∷ byte 0  -- 59: Parity
+    ∷ byte 0  -- 60: Stop Bits
+    ∷ byte 0  -- 61: Flow Control
+    ∷ byte 0  -- 62: Terminal Type
+    ∷ byte 0  -- 63: Language
+    ∷ word 0xffff  -- 64: PCI Device ID: none
+    ∷ word 0xffff  -- 66: PCI Vendor ID: none
+    ∷ byte 0  -- 68: PCI Bus Number
+    ∷ byte 0  -- 69: PCI Device Number
+    ∷ byte 0  -- 70: PCI Function Number
+    ∷ dword 0  -- 71: PCI Flags
+    ∷ byte 0  -- 75: PCI Segment
+    ∷ dword 0  -- 76: UART Clock Frequency
+    ∷ dword 0  -- 80: Precise Baud Rate
+    ∷ word 2  -- 84: Namespace String Length
+    ∷ word 88  -- 86: Namespace String Offset
+    ∷ (codes "." ++ byte 0)  -- 88: Namespace String: no device
     ∷ [])
+
+abbrev pub spcr_bytes : SPCR → List ℕ
+spcr_bytes t = table_of (codes "SPCR") 4 t.oem (record_of (spcr_fields t))
+
+-- a console behind the supervisor binary interface
+abbrev pub spcr_for : Oem → SPCR
+spcr_for oem = record { oem = oem; lent = record {} }

@@ -1,111 +1,68 @@
--- TCPA and TPM2 (TCG ACPI Specification, TPM 1.2 client and server platforms, TPM 2.0).
+-- TPM2 (TCG ACPI Specification, TPM 2.0).
 use Rattle.std.specs.Prelude.{◌≡◌, ℕ, List, [], ◌∷◌, codes, Option, Some, None, IsSome, Result, Ok, Err}
-use Rattle.acpi_base.specs.Bytes.{le}
-use Rattle.acpi_base.specs.Gas.{gas_bytes}
+use Rattle.acpi_base.specs.Layout.{word, dword, qword, zeros, record_of}
+use Rattle.acpi_base.specs.Table.{table_of}
 use Rattle.acpi_base.specs.declared.error.Error.{Error}
 use Rattle.acpi_base.specs.declared.error.Error.TheVariants.{LogAreaSet}
-use Rattle.acpi_fixed.specs.Layout.{byte, table, no_register}
-use Rattle.acpi_fixed.specs.declared.oem.Oem.{Oem}
+use Rattle.acpi_base.specs.declared.oem.Oem.{Oem}
+use Rattle.acpi_fixed.specs.Class.{class_number}
 use Rattle.acpi_fixed.specs.declared.tpm2.PlatformClass.{PlatformClass}
-use Rattle.acpi_fixed.specs.declared.tpm2.PlatformClass.TheVariants.{Client, Server}
 use Rattle.acpi_fixed.specs.declared.tpm2.StartMethod.{StartMethod}
-use Rattle.acpi_fixed.specs.declared.tpm2.StartMethod.TheVariants.{LegacyUse, AcpiStart, Mmio, Crb, CrbAndAcpiStart, CrbAndSmcHvc, I2cFifo}
+use Rattle.acpi_fixed.specs.declared.tpm2.StartMethod.TheVariants as methods
 use Rattle.acpi_fixed.specs.declared.tpm2.LogArea.{LogArea}
-use Rattle.acpi_fixed.specs.declared.tpm2.TpmClient1_2.{TpmClient1_2}
-use Rattle.acpi_fixed.specs.declared.tpm2.TpmServer1_2.{TpmServer1_2}
 use Rattle.acpi_fixed.specs.declared.tpm2.Tpm2.{Tpm2}
 
--- ---- TCPA of a client
-
-abbrev pub client_bytes : TpmClient1_2 → List ℕ
-client_bytes t = table (codes "TCPA") 50 2 t.oem
-    (le 2 0  -- at 36: platform class: client
-    ∷ le 4 t.log_area_min_len
-    ∷ le 8 t.log_area_start_addr  -- at 42
-    ∷ [])
-
--- ---- TCPA of a server
-
-abbrev pub server_bytes : TpmServer1_2 → List ℕ
-server_bytes t = table (codes "TCPA") 100 2 t.oem
-    (le 2 1  -- at 36: platform class: server
-    ∷ le 2 0
-    ∷ le 8 t.log_area_min_len  -- at 40
-    ∷ le 8 t.log_area_start_addr
-    ∷ byte 1  -- at 56: revision 1.2 of the TCG specification
-    ∷ byte 2
-    ∷ byte t.device_flags
-    ∷ byte t.interrupt_flags
-    ∷ byte t.gpe  -- at 60
-    ∷ le 3 0
-    ∷ le 4 t.gsi  -- at 64
-    ∷ gas_bytes t.base_addr
-    ∷ le 4 0  -- at 80
-    ∷ gas_bytes t.config_addr
-    ∷ byte t.pci_segment  -- at 96
-    ∷ byte t.pci_bus
-    ∷ byte t.pci_device
-    ∷ byte t.pci_function
-    ∷ [])
-
-abbrev pub server_at_first : Oem → TpmServer1_2
-server_at_first oem = record {
-  oem = oem;
-  log_area_min_len = 0;
-  log_area_start_addr = 0;
-  device_flags = 0;
-  interrupt_flags = 0;
-  gpe = 0;
-  gsi = 0;
-  base_addr = no_register;
-  config_addr = no_register;
-  pci_segment = 0;
-  pci_bus = 0;
-  pci_device = 0;
-  pci_function = 0;
-}
-
--- ---- TPM2
-
-abbrev pub class_number : PlatformClass → ℕ
-class_number Client = 0
-class_number Server = 1
-
+-- Start Method
 abbrev pub method_number : StartMethod → ℕ
-method_number LegacyUse = 1
-method_number AcpiStart = 2
-method_number Mmio = 6
-method_number Crb = 7
-method_number CrbAndAcpiStart = 8
-method_number CrbAndSmcHvc = 11
-method_number I2cFifo = 12
+method_number methods.LegacyUse = 0x01
+method_number methods.AcpiStart = 0x02
+method_number methods.Mmio = 0x06
+method_number methods.Crb = 0x07
+method_number methods.CrbAndAcpiStart = 0x08
+method_number methods.CrbAndSmcHvc = 0x0b
+method_number methods.I2cFifo = 0x0c
 
--- a log area lies behind twelve bytes of parameters of the start method
+-- a log area lies behind the parameters of the start method
+abbrev pub area_fields : Option LogArea → List (List ℕ)
+area_fields None = []
+area_fields (Some area) =
+    zeros 12  -- 52: Start Method Specific Parameters
+    ∷ dword area.min_len  -- 64: Log Area Minimum Length
+    ∷ qword area.base_addr  -- 68: Log Area Start Address
+    ∷ []
+
+abbrev pub tpm2_fields : Tpm2 → Option LogArea → List (List ℕ)
+tpm2_fields t area =
+    (word (class_number t.platform_class)  -- 36: Platform Class
+    ∷ zeros 2  -- 38
+    ∷ qword t.crb_or_fifo_base  -- 40: Address of the CRB Control Area or of the FIFO
+    ∷ dword (method_number t.start_method)  -- 48: Start Method
+    ∷ area_fields area)
+
 abbrev pub tpm2_with : Tpm2 → Option LogArea → List ℕ
-tpm2_with t None = table (codes "TPM2") 52 1 t.oem
-    (le 2 (class_number t.platform_class)  -- at 36
-    ∷ le 2 0
-    ∷ le 8 t.crb_or_fifo_base  -- at 40
-    ∷ le 4 (method_number t.start_method)
-    ∷ [])
-tpm2_with t (Some area) = table (codes "TPM2") 76 1 t.oem
-    (le 2 (class_number t.platform_class)  -- at 36
-    ∷ le 2 0
-    ∷ le 8 t.crb_or_fifo_base  -- at 40
-    ∷ le 4 (method_number t.start_method)
-    ∷ le 12 0  -- at 52
-    ∷ le 4 area.min_len
-    ∷ le 8 area.base_addr  -- at 68
-    ∷ [])
+tpm2_with t area = table_of (codes "TPM2") 1 t.oem (record_of (tpm2_fields t area))
+
+abbrev pub tpm2_bytes : Tpm2 → List ℕ
+tpm2_bytes t = tpm2_with t t.log_area
 
 abbrev pub tpm2_size : Option LogArea → ℕ
 tpm2_size None = 52
 tpm2_size (Some area) = 76
 
-abbrev pub tpm2_bytes : Tpm2 → List ℕ
-tpm2_bytes t = tpm2_with t t.log_area
+-- without a log area
+abbrev pub tpm2_for : Oem → PlatformClass → ℕ → StartMethod → Tpm2
+tpm2_for oem class address method = record {
+  oem = oem;
+  platform_class = class;
+  crb_or_fifo_base = address;
+  start_method = method;
+  log_area = None;
+}
+
+abbrev pub with_area : ℕ → ℕ → Tpm2 → Tpm2
+with_area min_len base_addr t = record t { log_area = Some (record { min_len = min_len; base_addr = base_addr }) }
 
 -- a log area is set where there was none, and else refused and nothing changed
 abbrev pub LogAreaOnce : Tpm2 → ℕ → ℕ → Tpm2 → Result Unit Error → Type 0
-LogAreaOnce old min_len base_addr new (Ok _) = (old.log_area ≡ None) × (new ≡ record old { log_area = Some (record { min_len = min_len; base_addr = base_addr }) })
+LogAreaOnce old min_len base_addr new (Ok _) = (old.log_area ≡ None) × (new ≡ with_area min_len base_addr old)
 LogAreaOnce old min_len base_addr new (Err e) = (e ≡ LogAreaSet) × (IsSome old.log_area) × (new ≡ old)

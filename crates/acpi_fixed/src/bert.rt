@@ -3,11 +3,12 @@
 ghost use Rattle.std.specs.Prelude.{◌≡◌};
 ghost use Rattle.acpi_base.specs.Object.{whole, whole_ends_well};
 
-use crate::oem::Oem;
+use crate::sealed::sealed_record;
 use acpi_base::error::R;
-use acpi_base::header::seal;
+use acpi_base::header::header;
 use acpi_base::object::Aml;
-use acpi_base::record::{Row, record};
+use acpi_base::oem::Oem;
+use acpi_base::record::Field;
 use acpi_base::sink::AmlSink;
 
 /// The Boot Error Record Table (ACPI 6.5, 18.3.1): 48 bytes. It points at the memory in which firmware keeps the errors
@@ -20,7 +21,8 @@ pub struct BERT {
 }
 
 impl BERT {
-    ghost use Rattle.acpi_fixed.specs.Bert.{bert_bytes};
+    ghost use Rattle.acpi_fixed.specs.Bert.{bert_bytes, bert_for};
+    ghost use Rattle.acpi_fixed.specs.Oem.{oem_of};
 
     /// A region of so many bytes at a physical address.
     pub fn new(
@@ -30,7 +32,7 @@ impl BERT {
         error_region_length: u32,
         error_region_base: u64,
     ) -> BERT
-        ensures { result ≡ record { oem = record { id = oem_id; table_id = oem_table_id; revision = oem_revision }; error_region_length = error_region_length; error_region_base = error_region_base } }
+        ensures { result ≡ bert_for (oem_of oem_id oem_table_id oem_revision) error_region_length error_region_base }
     {
         BERT {
             oem: Oem {
@@ -47,13 +49,11 @@ impl BERT {
     fn bytes(&self) -> [u8; 48]
         ensures { result ≡ bert_bytes self.now }
     {
-        let mut bytes = record(&[
-            Row::Bytes(&self.oem.header(*b"BERT", 48, 1)),
-            Row::DWord(self.error_region_length),
-            Row::QWord(self.error_region_base),
-        ]);
-        seal(&mut bytes);
-        bytes
+        sealed_record(&[
+            Field::Bytes(&header(*b"BERT", 48, 1, self.oem)),
+            Field::DWord(self.error_region_length),
+            Field::QWord(self.error_region_base),
+        ])
     }
 }
 

@@ -5,7 +5,7 @@ ghost use Rattle.acpi_base.specs.Object.{whole, whole_ends_well};
 
 use acpi_base::error::R;
 use acpi_base::object::Aml;
-use acpi_base::record::{Row, record};
+use acpi_base::record::{Field, record};
 use acpi_base::sink::AmlSink;
 
 /// The Firmware ACPI Control Structure (ACPI 6.5, 5.2.10): 64 bytes, without a checksum. It is written as its fields
@@ -59,19 +59,18 @@ impl FACS {
     fn bytes(&self) -> [u8; 64]
         ensures { result ≡ facs_bytes self.now }
     {
-        let facs = *self;
         record(&[
-            Row::Bytes(&facs.signature),
-            Row::DWord(facs.length),
-            Row::DWord(facs.hardware_signature),
-            Row::DWord(facs.waking),
-            Row::DWord(facs.lock),
-            Row::DWord(facs.flags),
-            Row::QWord(facs.x_waking),
-            Row::Byte(facs.version),
-            Row::Bytes(&[0; 3]),
-            Row::DWord(facs.ospm_flags),
-            Row::Bytes(&[0; 24]),
+            Field::Bytes(&self.signature),
+            Field::DWord(self.length),
+            Field::DWord(self.hardware_signature),
+            Field::DWord(self.waking),
+            Field::DWord(self.lock),
+            Field::DWord(self.flags),
+            Field::QWord(self.x_waking),
+            Field::Byte(self.version),
+            Field::Bytes(&[0; 3]),
+            Field::DWord(self.ospm_flags),
+            Field::Bytes(&[0; 24]),
         ])
     }
 }

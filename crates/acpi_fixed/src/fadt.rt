@@ -1,44 +1,46 @@
 //! FADT: what the hardware of ACPI is like, and where the FACS and the DSDT are.
 
-ghost use Rattle.std.specs.Prelude.{◌≡◌, bit_or, length};
+ghost use Rattle.std.specs.Prelude.{◌≡◌};
 ghost use Rattle.acpi_base.specs.Object.{whole, whole_ends_well};
 
+use crate::sealed::sealed_record;
 use acpi_base::error::R;
 use acpi_base::gas::GAS;
-use acpi_base::header::{CREATOR_ID, CREATOR_REVISION, seal};
+use acpi_base::header::{CREATOR_ID, CREATOR_REVISION};
 use acpi_base::object::Aml;
-use acpi_base::record::{Row, record};
+use acpi_base::record::Field;
 use acpi_base::sink::AmlSink;
+use std::marker::Model;
 
 /// Fixed feature flags (ACPI 6.5, 5.2.9, table 5.10). Bits 1 to 3, 7, 8, 13, 14, 16 and 17 are ignored where the
 /// hardware is reduced. The last three are the values of one field of two bits, at bit 22.
 #[derive(Clone, Copy, Debug, PartialEq)]
 pub enum Flags {
-    Wbinvd = 0x1,
-    WbinvdFlush = 0x2,
-    ProcC1 = 0x4,
-    PLvl2Up = 0x8,
-    PwrButton = 0x10,
-    SlpButton = 0x20,
-    FixRtc = 0x40,
-    RtcS4 = 0x80,
-    TmrValExt = 0x100,
-    DckCap = 0x200,
-    ResetRegSup = 0x400,
-    SealedCase = 0x800,
-    Headless = 0x1000,
-    CpuSwSlp = 0x2000,
-    PciExpWak = 0x4000,
-    UsePlatformClock = 0x8000,
-    S4RtcStsValid = 0x1_0000,
-    RemotePowerOnCapable = 0x2_0000,
-    ForceApicClusterModel = 0x4_0000,
-    ForceApicPhysicalDestinationMode = 0x8_0000,
-    HwReducedAcpi = 0x10_0000,
-    LowPowerS0IdleCapable = 0x20_0000,
-    PersistentCpuCachesNotReported = 0,
-    PersistentCpuCachesNotPersistent = 0x40_0000,
-    PersistentCpuCachesArePersistent = 0x80_0000,
+    Wbinvd = 0x0000_0001,
+    WbinvdFlush = 0x0000_0002,
+    ProcC1 = 0x0000_0004,
+    PLvl2Up = 0x0000_0008,
+    PwrButton = 0x0000_0010,
+    SlpButton = 0x0000_0020,
+    FixRtc = 0x0000_0040,
+    RtcS4 = 0x0000_0080,
+    TmrValExt = 0x0000_0100,
+    DckCap = 0x0000_0200,
+    ResetRegSup = 0x0000_0400,
+    SealedCase = 0x0000_0800,
+    Headless = 0x0000_1000,
+    CpuSwSlp = 0x0000_2000,
+    PciExpWak = 0x0000_4000,
+    UsePlatformClock = 0x0000_8000,
+    S4RtcStsValid = 0x0001_0000,
+    RemotePowerOnCapable = 0x0002_0000,
+    ForceApicClusterModel = 0x0004_0000,
+    ForceApicPhysicalDestinationMode = 0x0008_0000,
+    HwReducedAcpi = 0x0010_0000,
+    LowPowerS0IdleCapable = 0x0020_0000,
+    PersistentCpuCachesNotReported = 0x0000_0000,
+    PersistentCpuCachesNotPersistent = 0x0040_0000,
+    PersistentCpuCachesArePersistent = 0x0080_0000,
 }
 
 impl Flags {
@@ -76,8 +78,8 @@ impl PmProfile {
 }
 
 /// The fields of the Fixed ACPI Description Table (ACPI 6.5, 5.2.9), from which `finalize` makes it. What is reserved is
-/// zero.
-#[derive(Clone, Copy)]
+/// zero. In `default` everything is, the length too, and `finalize` keeps it so.
+#[derive(Clone, Copy, Default)]
 pub struct FADTBuilder {
     /// `FACP`.
     pub signature: [u8; 4],
@@ -160,120 +162,39 @@ pub struct FADT {
     table: FADTBuilder,
 }
 
-impl FADT {
-    ghost use Rattle.acpi_fixed.specs.Fadt.{fadt_bytes};
+impl Model for FADT {
+    ghost use Rattle.acpi_fixed.specs.declared.fadt.FADTBuilder.{FADTBuilder};
 
+    ghost Value = { FADTBuilder };
+
+    ghost view = { λ t. t.table };
+
+    ghost inverse = { λ f. record { table = f } };
+}
+
+impl FADT {
     /// The size in bytes.
     pub fn len() -> usize
         ensures { result ≡ 276 }
     {
         276
     }
-
-    // The table's bytes.
-    pub(crate) fn bytes(&self) -> [u8; 276]
-        ensures bytes { result ≡ fadt_bytes self.now }
-        ensures len { length result ≡ 276 }
-    {
-        let mut bytes = record(&[
-            Row::Bytes(&self.table.header()),
-            Row::Bytes(&self.table.legacy()),
-            Row::Bytes(&self.table.extended()),
-        ]);
-        seal(&mut bytes);
-        bytes
-    }
 }
 
 impl Aml for FADT {
     ghost use Rattle.acpi_fixed.specs.Fadt.{fadt_bytes};
 
-    ghost object = { λ t. whole (fadt_bytes t) };
+    ghost object = { λ f. whole (fadt_bytes f) };
 
-    ghost ends_well = { λ t. whole_ends_well (fadt_bytes t) };
+    ghost ends_well = { λ f. whole_ends_well (fadt_bytes f) };
 
     fn to_aml_bytes(&self, sink: &mut dyn AmlSink) -> R<()> {
-        sink.vec(&self.bytes())
-    }
-}
-
-impl Default for FADTBuilder {
-    ghost use Rattle.acpi_fixed.specs.Fadt.{no_fields};
-
-    /// All fields are zero, the length too, and `finalize` keeps them so.
-    fn default() -> FADTBuilder
-        ensures { result ≡ no_fields }
-    {
-        FADTBuilder {
-            signature: [0; 4],
-            length: 0,
-            major_version: 0,
-            checksum: 0,
-            oem_id: [0; 6],
-            oem_table_id: [0; 8],
-            oem_revision: 0,
-            creator_id: [0; 4],
-            creator_revision: [0; 4],
-            firmware_ctrl: 0,
-            dsdt: 0,
-            preferred_pm_profile: 0,
-            sci_int: 0,
-            smi_cmd: 0,
-            acpi_enable: 0,
-            acpi_disable: 0,
-            s4bios_req: 0,
-            pstate_cnt: 0,
-            pm1a_evt_blk: 0,
-            pm1b_evt_blk: 0,
-            pm1a_cnt_blk: 0,
-            pm1b_cnt_blk: 0,
-            pm2_cnt_blk: 0,
-            pm_tmr_blk: 0,
-            gpe0_blk: 0,
-            gpe1_blk: 0,
-            pm1_evt_len: 0,
-            pm1_cnt_len: 0,
-            pm2_cnt_len: 0,
-            pm_tmr_len: 0,
-            gpe0_blk_len: 0,
-            gpe1_blk_len: 0,
-            gpe1_base: 0,
-            cst_cnt: 0,
-            p_lvl2_lat: 0,
-            p_lvl3_lat: 0,
-            flush_size: 0,
-            flush_stride: 0,
-            duty_offset: 0,
-            duty_width: 0,
-            day_alrm: 0,
-            mon_alrm: 0,
-            century: 0,
-            iapc_boot_arch: 0,
-            flags: 0,
-            reset_reg: GAS::default(),
-            reset_value: 0,
-            arm_boot_arch: 0,
-            fadt_minor_version: 0,
-            x_firmware_ctrl: 0,
-            x_dsdt: 0,
-            x_pm1a_evt_blk: GAS::default(),
-            x_pm1b_evt_blk: GAS::default(),
-            x_pm1a_cnt_blk: GAS::default(),
-            x_pm1b_cnt_blk: GAS::default(),
-            x_pm2_cnt_blk: GAS::default(),
-            x_pm_tmr_blk: GAS::default(),
-            x_gpe0_blk: GAS::default(),
-            x_gpe1_blk: GAS::default(),
-            sleep_control_reg: GAS::default(),
-            sleep_status_reg: GAS::default(),
-            hypervisor_vendor_identity: 0,
-        }
+        sink.vec(&self.table.bytes())
     }
 }
 
 impl FADTBuilder {
-    ghost use Rattle.acpi_fixed.specs.Fadt.{fadt_at_first, header_rows, legacy_rows, extended_rows, flag_number, profile_number};
-    ghost use Rattle.acpi_fixed.specs.Layout.{joined};
+    ghost use Rattle.acpi_fixed.specs.Fadt.{fadt_at_first, fadt_bytes, with_dsdt, with_facs, with_commands, with_flag, with_profile, with_gpe_info};
 
     /// A table of revision 6.5 and 276 bytes in which everything behind the header is zero.
     pub fn new(oem_id: [u8; 6], oem_table_id: [u8; 8], oem_revision: u32) -> FADTBuilder
@@ -295,14 +216,14 @@ impl FADTBuilder {
 
     /// The table of these fields, with its checksum made anew. The length stays as it stands.
     pub fn finalize(self) -> FADT
-        ensures { result ≡ record { table = self } }
+        ensures { result ≡ self }
     {
         FADT { table: self }
     }
 
     /// The DSDT's physical address of 32 bits (offset 40). The one of 64 bits becomes zero.
     pub fn dsdt_32(mut self, dsdt_physical_addr: u32) -> FADTBuilder
-        ensures { result ≡ record self { dsdt = dsdt_physical_addr; x_dsdt = 0 } }
+        ensures { result ≡ with_dsdt dsdt_physical_addr 0 self }
     {
         self.dsdt = dsdt_physical_addr;
         self.x_dsdt = 0;
@@ -311,7 +232,7 @@ impl FADTBuilder {
 
     /// The DSDT's physical address of 64 bits (offset 140). The one of 32 bits becomes zero.
     pub fn dsdt_64(mut self, dsdt_physical_addr: u64) -> FADTBuilder
-        ensures { result ≡ record self { dsdt = 0; x_dsdt = dsdt_physical_addr } }
+        ensures { result ≡ with_dsdt 0 dsdt_physical_addr self }
     {
         self.dsdt = 0;
         self.x_dsdt = dsdt_physical_addr;
@@ -320,7 +241,7 @@ impl FADTBuilder {
 
     /// The FACS's physical address of 32 bits (offset 36). The one of 64 bits becomes zero.
     pub fn firmware_ctrl_32(mut self, facs_physical_addr: u32) -> FADTBuilder
-        ensures { result ≡ record self { firmware_ctrl = facs_physical_addr; x_firmware_ctrl = 0 } }
+        ensures { result ≡ with_facs facs_physical_addr 0 self }
     {
         self.firmware_ctrl = facs_physical_addr;
         self.x_firmware_ctrl = 0;
@@ -329,7 +250,7 @@ impl FADTBuilder {
 
     /// The FACS's physical address of 64 bits (offset 132). The one of 32 bits becomes zero.
     pub fn firmware_ctrl_64(mut self, facs_physical_addr: u64) -> FADTBuilder
-        ensures { result ≡ record self { firmware_ctrl = 0; x_firmware_ctrl = facs_physical_addr } }
+        ensures { result ≡ with_facs 0 facs_physical_addr self }
     {
         self.firmware_ctrl = 0;
         self.x_firmware_ctrl = facs_physical_addr;
@@ -338,7 +259,7 @@ impl FADTBuilder {
 
     /// The values that the command port takes to turn ACPI on and off (offsets 52 and 53): 1 and 0.
     pub fn acpi_enable(mut self) -> FADTBuilder
-        ensures { result ≡ record self { acpi_enable = 1; acpi_disable = 0 } }
+        ensures { result ≡ with_commands 1 0 self }
     {
         self.acpi_enable = 1;
         self.acpi_disable = 0;
@@ -347,7 +268,7 @@ impl FADTBuilder {
 
     /// The values that the command port takes to turn ACPI on and off (offsets 52 and 53): 0 and 1.
     pub fn acpi_disable(mut self) -> FADTBuilder
-        ensures { result ≡ record self { acpi_enable = 0; acpi_disable = 1 } }
+        ensures { result ≡ with_commands 0 1 self }
     {
         self.acpi_enable = 0;
         self.acpi_disable = 1;
@@ -356,7 +277,7 @@ impl FADTBuilder {
 
     /// One more fixed feature flag (offset 112). Flags that are set stay set.
     pub fn flag(mut self, flags: Flags) -> FADTBuilder
-        ensures { result ≡ record self { flags = bit_or self.flags (flag_number flags) } }
+        ensures { result ≡ with_flag flags self }
     {
         self.flags |= flags.number();
         self
@@ -372,7 +293,7 @@ impl FADTBuilder {
         gpe1_blk_len: u8,
         gpe1_base: u8,
     ) -> FADTBuilder
-        ensures { result ≡ record self { gpe0_blk = gpe0_blk; gpe1_blk = gpe1_blk; gpe0_blk_len = gpe0_blk_len; gpe1_blk_len = gpe1_blk_len; gpe1_base = gpe1_base } }
+        ensures { result ≡ with_gpe_info gpe0_blk gpe1_blk gpe0_blk_len gpe1_blk_len gpe1_base self }
     {
         self.gpe0_blk = gpe0_blk;
         self.gpe1_blk = gpe1_blk;
@@ -384,98 +305,89 @@ impl FADTBuilder {
 
     /// The preferred power management profile (offset 45).
     pub fn preferred_pm_profile(mut self, profile: PmProfile) -> FADTBuilder
-        ensures { result ≡ record self { preferred_pm_profile = profile_number profile } }
+        ensures { result ≡ with_profile profile self }
     {
         self.preferred_pm_profile = profile.number();
         self
     }
 
-    // The header.
-    fn header(&self) -> [u8; 36]
-        ensures { result ≡ joined (header_rows self.now) }
+    // The table's bytes.
+    fn bytes(&self) -> [u8; 276]
+        ensures { result ≡ fadt_bytes self.now }
     {
-        let fields = *self;
-        record(&[
-            Row::Bytes(&fields.signature),
-            Row::DWord(fields.length),
-            Row::Byte(fields.major_version),
-            Row::Byte(fields.checksum),
-            Row::Bytes(&fields.oem_id),
-            Row::Bytes(&fields.oem_table_id),
-            Row::DWord(fields.oem_revision),
-            Row::Bytes(&fields.creator_id),
-            Row::Bytes(&fields.creator_revision),
-        ])
-    }
-
-    // What was there before 64 bit addresses.
-    fn legacy(&self) -> [u8; 80]
-        ensures { result ≡ joined (legacy_rows self.now) }
-    {
-        record(&[
-            Row::DWord(self.firmware_ctrl),
-            Row::DWord(self.dsdt),
-            Row::Byte(0),
-            Row::Byte(self.preferred_pm_profile),
-            Row::Word(self.sci_int),
-            Row::DWord(self.smi_cmd),
-            Row::Byte(self.acpi_enable),
-            Row::Byte(self.acpi_disable),
-            Row::Byte(self.s4bios_req),
-            Row::Byte(self.pstate_cnt),
-            Row::DWord(self.pm1a_evt_blk),
-            Row::DWord(self.pm1b_evt_blk),
-            Row::DWord(self.pm1a_cnt_blk),
-            Row::DWord(self.pm1b_cnt_blk),
-            Row::DWord(self.pm2_cnt_blk),
-            Row::DWord(self.pm_tmr_blk),
-            Row::DWord(self.gpe0_blk),
-            Row::DWord(self.gpe1_blk),
-            Row::Byte(self.pm1_evt_len),
-            Row::Byte(self.pm1_cnt_len),
-            Row::Byte(self.pm2_cnt_len),
-            Row::Byte(self.pm_tmr_len),
-            Row::Byte(self.gpe0_blk_len),
-            Row::Byte(self.gpe1_blk_len),
-            Row::Byte(self.gpe1_base),
-            Row::Byte(self.cst_cnt),
-            Row::Word(self.p_lvl2_lat),
-            Row::Word(self.p_lvl3_lat),
-            Row::Word(self.flush_size),
-            Row::Word(self.flush_stride),
-            Row::Byte(self.duty_offset),
-            Row::Byte(self.duty_width),
-            Row::Byte(self.day_alrm),
-            Row::Byte(self.mon_alrm),
-            Row::Byte(self.century),
-            Row::Word(self.iapc_boot_arch),
-            Row::Byte(0),
-            Row::DWord(self.flags),
-        ])
-    }
-
-    // The rest.
-    fn extended(&self) -> [u8; 160]
-        ensures { result ≡ joined (extended_rows self.now) }
-    {
-        record(&[
-            Row::Bytes(&self.reset_reg.bytes()),
-            Row::Byte(self.reset_value),
-            Row::Word(self.arm_boot_arch),
-            Row::Byte(self.fadt_minor_version),
-            Row::QWord(self.x_firmware_ctrl),
-            Row::QWord(self.x_dsdt),
-            Row::Bytes(&self.x_pm1a_evt_blk.bytes()),
-            Row::Bytes(&self.x_pm1b_evt_blk.bytes()),
-            Row::Bytes(&self.x_pm1a_cnt_blk.bytes()),
-            Row::Bytes(&self.x_pm1b_cnt_blk.bytes()),
-            Row::Bytes(&self.x_pm2_cnt_blk.bytes()),
-            Row::Bytes(&self.x_pm_tmr_blk.bytes()),
-            Row::Bytes(&self.x_gpe0_blk.bytes()),
-            Row::Bytes(&self.x_gpe1_blk.bytes()),
-            Row::Bytes(&self.sleep_control_reg.bytes()),
-            Row::Bytes(&self.sleep_status_reg.bytes()),
-            Row::QWord(self.hypervisor_vendor_identity),
+        let FADTBuilder {
+            signature,
+            oem_id,
+            oem_table_id,
+            creator_id,
+            creator_revision,
+            ..
+        } = *self;
+        sealed_record(&[
+            Field::Bytes(&signature),
+            Field::DWord(self.length),
+            Field::Byte(self.major_version),
+            Field::Byte(self.checksum),
+            Field::Bytes(&oem_id),
+            Field::Bytes(&oem_table_id),
+            Field::DWord(self.oem_revision),
+            Field::Bytes(&creator_id),
+            Field::Bytes(&creator_revision),
+            Field::DWord(self.firmware_ctrl),
+            Field::DWord(self.dsdt),
+            Field::Byte(0),
+            Field::Byte(self.preferred_pm_profile),
+            Field::Word(self.sci_int),
+            Field::DWord(self.smi_cmd),
+            Field::Byte(self.acpi_enable),
+            Field::Byte(self.acpi_disable),
+            Field::Byte(self.s4bios_req),
+            Field::Byte(self.pstate_cnt),
+            Field::DWord(self.pm1a_evt_blk),
+            Field::DWord(self.pm1b_evt_blk),
+            Field::DWord(self.pm1a_cnt_blk),
+            Field::DWord(self.pm1b_cnt_blk),
+            Field::DWord(self.pm2_cnt_blk),
+            Field::DWord(self.pm_tmr_blk),
+            Field::DWord(self.gpe0_blk),
+            Field::DWord(self.gpe1_blk),
+            Field::Byte(self.pm1_evt_len),
+            Field::Byte(self.pm1_cnt_len),
+            Field::Byte(self.pm2_cnt_len),
+            Field::Byte(self.pm_tmr_len),
+            Field::Byte(self.gpe0_blk_len),
+            Field::Byte(self.gpe1_blk_len),
+            Field::Byte(self.gpe1_base),
+            Field::Byte(self.cst_cnt),
+            Field::Word(self.p_lvl2_lat),
+            Field::Word(self.p_lvl3_lat),
+            Field::Word(self.flush_size),
+            Field::Word(self.flush_stride),
+            Field::Byte(self.duty_offset),
+            Field::Byte(self.duty_width),
+            Field::Byte(self.day_alrm),
+            Field::Byte(self.mon_alrm),
+            Field::Byte(self.century),
+            Field::Word(self.iapc_boot_arch),
+            Field::Byte(0),
+            Field::DWord(self.flags),
+            Field::Bytes(&self.reset_reg.bytes()),
+            Field::Byte(self.reset_value),
+            Field::Word(self.arm_boot_arch),
+            Field::Byte(self.fadt_minor_version),
+            Field::QWord(self.x_firmware_ctrl),
+            Field::QWord(self.x_dsdt),
+            Field::Bytes(&self.x_pm1a_evt_blk.bytes()),
+            Field::Bytes(&self.x_pm1b_evt_blk.bytes()),
+            Field::Bytes(&self.x_pm1a_cnt_blk.bytes()),
+            Field::Bytes(&self.x_pm1b_cnt_blk.bytes()),
+            Field::Bytes(&self.x_pm2_cnt_blk.bytes()),
+            Field::Bytes(&self.x_pm_tmr_blk.bytes()),
+            Field::Bytes(&self.x_gpe0_blk.bytes()),
+            Field::Bytes(&self.x_gpe1_blk.bytes()),
+            Field::Bytes(&self.sleep_control_reg.bytes()),
+            Field::Bytes(&self.sleep_status_reg.bytes()),
+            Field::QWord(self.hypervisor_vendor_identity),
         ])
     }
 }

@@ -5,8 +5,8 @@ pub mod bert;
 pub mod facs;
 pub mod fadt;
 pub mod laws;
-mod oem;
 pub mod rsdp;
+mod sealed;
 pub mod spcr;
 #[cfg(test)]
 mod tests;

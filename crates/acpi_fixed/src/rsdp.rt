@@ -6,7 +6,7 @@ ghost use Rattle.acpi_base.specs.Object.{whole, whole_ends_well};
 
 use acpi_base::error::R;
 use acpi_base::object::Aml;
-use acpi_base::record::{Row, record};
+use acpi_base::record::{Field, record};
 use acpi_base::sink::AmlSink;
 use acpi_base::sum::Sum;
 
@@ -72,17 +72,16 @@ impl Rsdp {
         ensures bytes { result ≡ rsdp_bytes self.now }
         ensures len { length result ≡ 36 }
     {
-        let rsdp = *self;
         record(&[
-            Row::Bytes(&rsdp.signature),
-            Row::Byte(rsdp.checksum),
-            Row::Bytes(&rsdp.oem_id),
-            Row::Byte(rsdp.revision),
-            Row::DWord(0),
-            Row::DWord(rsdp.length),
-            Row::QWord(rsdp.xsdt_addr),
-            Row::Byte(rsdp.extended_checksum),
-            Row::Bytes(&[0; 3]),
+            Field::Bytes(&self.signature),
+            Field::Byte(self.checksum),
+            Field::Bytes(&self.oem_id),
+            Field::Byte(self.revision),
+            Field::DWord(0),
+            Field::DWord(self.length),
+            Field::QWord(self.xsdt_addr),
+            Field::Byte(self.extended_checksum),
+            Field::Bytes(&[0; 3]),
         ])
     }
 }

@@ -3,11 +3,12 @@
 ghost use Rattle.std.specs.Prelude.{◌≡◌};
 ghost use Rattle.acpi_base.specs.Object.{whole, whole_ends_well};
 
-use crate::oem::Oem;
+use crate::sealed::sealed_record;
 use acpi_base::error::R;
-use acpi_base::header::seal;
+use acpi_base::header::header;
 use acpi_base::object::Aml;
-use acpi_base::record::{Row, record};
+use acpi_base::oem::Oem;
+use acpi_base::record::Field;
 use acpi_base::sink::AmlSink;
 use std::marker::PhantomData;
 
@@ -20,12 +21,13 @@ pub struct SPCR<'a> {
 }
 
 impl SPCR<'_> {
-    ghost use Rattle.acpi_fixed.specs.Spcr.{spcr_bytes};
+    ghost use Rattle.acpi_fixed.specs.Oem.{oem_of};
+    ghost use Rattle.acpi_fixed.specs.Spcr.{spcr_bytes, spcr_for};
 
     /// A console through calls of the RISC-V supervisor binary interface: interface type 21, no registers, no interrupt,
     /// no PCI device and no device of the namespace.
     pub fn sbi(oem_id: [u8; 6], oem_table_id: [u8; 8], oem_revision: u32) -> Self
-        ensures { result.oem ≡ record { id = oem_id; table_id = oem_table_id; revision = oem_revision } }
+        ensures { result ≡ spcr_for (oem_of oem_id oem_table_id oem_revision) }
     {
         SPCR {
             oem: Oem {
@@ -41,27 +43,33 @@ impl SPCR<'_> {
     fn bytes(&self) -> [u8; 90]
         ensures { result ≡ spcr_bytes self.now }
     {
-        let mut bytes = record(&[
-            Row::Bytes(&self.oem.header(*b"SPCR", 90, 4)),
-            Row::Byte(21),
-            Row::Bytes(&[0; 3]),
-            Row::Bytes(&[0; 12]),
-            Row::Bytes(&[0; 2]),
-            Row::DWord(0),
-            Row::Bytes(&[0; 6]),
-            Row::Word(0xffff),
-            Row::Word(0xffff),
-            Row::Bytes(&[0; 3]),
-            Row::DWord(0),
-            Row::Byte(0),
-            Row::DWord(0),
-            Row::DWord(0),
-            Row::Word(2),
-            Row::Word(88),
-            Row::Bytes(b".\0"),
-        ]);
-        seal(&mut bytes);
-        bytes
+        sealed_record(&[
+            Field::Bytes(&header(*b"SPCR", 90, 4, self.oem)),
+            Field::Byte(0x15),
+            Field::Bytes(&[0; 3]),
+            Field::Bytes(&[0; 12]),
+            Field::Byte(0),
+            Field::Byte(0),
+            Field::DWord(0),
+            Field::Byte(0),
+            Field::Byte(0),
+            Field::Byte(0),
+            Field::Byte(0),
+            Field::Byte(0),
+            Field::Byte(0),
+            Field::Word(0xffff),
+            Field::Word(0xffff),
+            Field::Byte(0),
+            Field::Byte(0),
+            Field::Byte(0),
+            Field::DWord(0),
+            Field::Byte(0),
+            Field::DWord(0),
+            Field::DWord(0),
+            Field::Word(2),
+            Field::Word(88),
+            Field::Bytes(b".\0"),
+        ])
     }
 }
 

@@ -1,14 +1,15 @@
 //! TCPA and TPM2: where a trusted platform module is, and its log.
 
-ghost use Rattle.std.specs.Prelude.{◌≡◌, ◌<◌, bit_or, Some, None, OnOk, IfErr};
+ghost use Rattle.std.specs.Prelude.{◌≡◌, ◌<◌, Some, None};
 ghost use Rattle.acpi_base.specs.Object.{whole, whole_ends_well};
 
-use crate::oem::Oem;
+use crate::sealed::sealed_record;
 use acpi_base::error::{Error, R};
 use acpi_base::gas::GAS;
-use acpi_base::header::seal;
+use acpi_base::header::header;
 use acpi_base::object::Aml;
-use acpi_base::record::{Row, record};
+use acpi_base::oem::Oem;
+use acpi_base::record::Field;
 use acpi_base::sink::AmlSink;
 
 /// What kind of machine a module is in (TCG ACPI Specification, offset 36 of TCPA and TPM2).
@@ -20,7 +21,7 @@ pub enum PlatformClass {
 }
 
 impl PlatformClass {
-    ghost use Rattle.acpi_fixed.specs.Tpm2.{class_number};
+    ghost use Rattle.acpi_fixed.specs.Class.{class_number};
 
     fn number(self) -> u16
         ensures { result ≡ class_number self }
@@ -38,7 +39,8 @@ pub struct TpmClient1_2 {
 }
 
 impl TpmClient1_2 {
-    ghost use Rattle.acpi_fixed.specs.Tpm2.{client_bytes};
+    ghost use Rattle.acpi_fixed.specs.Oem.{oem_of};
+    ghost use Rattle.acpi_fixed.specs.Tcpa.{client_bytes, client_for};
 
     /// A log area of at least so many bytes at a physical address.
     pub fn new(
@@ -48,7 +50,7 @@ impl TpmClient1_2 {
         log_area_min_len: u32,
         log_area_start_addr: u64,
     ) -> TpmClient1_2
-        ensures { result ≡ record { oem = record { id = oem_id; table_id = oem_table_id; revision = oem_revision }; log_area_min_len = log_area_min_len; log_area_start_addr = log_area_start_addr } }
+        ensures { result ≡ client_for (oem_of oem_id oem_table_id oem_revision) log_area_min_len log_area_start_addr }
     {
         TpmClient1_2 {
             oem: Oem {
@@ -65,19 +67,17 @@ impl TpmClient1_2 {
     fn bytes(&self) -> [u8; 50]
         ensures { result ≡ client_bytes self.now }
     {
-        let mut bytes = record(&[
-            Row::Bytes(&self.oem.header(*b"TCPA", 50, 2)),
-            Row::Word(PlatformClass::Client.number()),
-            Row::DWord(self.log_area_min_len),
-            Row::QWord(self.log_area_start_addr),
-        ]);
-        seal(&mut bytes);
-        bytes
+        sealed_record(&[
+            Field::Bytes(&header(*b"TCPA", 50, 2, self.oem)),
+            Field::Word(PlatformClass::Client.number()),
+            Field::DWord(self.log_area_min_len),
+            Field::QWord(self.log_area_start_addr),
+        ])
     }
 }
 
 impl Aml for TpmClient1_2 {
-    ghost use Rattle.acpi_fixed.specs.Tpm2.{client_bytes};
+    ghost use Rattle.acpi_fixed.specs.Tcpa.{client_bytes};
 
     ghost object = { λ t. whole (client_bytes t) };
 
@@ -124,11 +124,12 @@ pub struct TpmServer1_2 {
 }
 
 impl TpmServer1_2 {
-    ghost use Rattle.acpi_fixed.specs.Tpm2.{server_bytes, server_at_first};
+    ghost use Rattle.acpi_fixed.specs.Oem.{oem_of};
+    ghost use Rattle.acpi_fixed.specs.Tcpa.{server_bytes, server_at_first, with_log_area, with_device_flag, with_interrupt_flag, with_gpe, with_gsi, with_base, with_config, with_pci};
 
     /// A table in which everything behind the TCG revision is zero.
     pub fn new(oem_id: [u8; 6], oem_table_id: [u8; 8], oem_revision: u32) -> TpmServer1_2
-        ensures { result ≡ server_at_first (record { id = oem_id; table_id = oem_table_id; revision = oem_revision }) }
+        ensures { result ≡ server_at_first (oem_of oem_id oem_table_id oem_revision) }
     {
         TpmServer1_2 {
             oem: Oem {
@@ -153,7 +154,7 @@ impl TpmServer1_2 {
 
     /// A log area of at least so many bytes (offset 40) at a physical address (offset 48).
     pub fn log_area(mut self, log_area_min_len: u64, log_area_start_addr: u64) -> TpmServer1_2
-        ensures { result ≡ record self { log_area_min_len = log_area_min_len; log_area_start_addr = log_area_start_addr } }
+        ensures { result ≡ with_log_area log_area_min_len log_area_start_addr self }
     {
         self.log_area_min_len = log_area_min_len;
         self.log_area_start_addr = log_area_start_addr;
@@ -162,7 +163,7 @@ impl TpmServer1_2 {
 
     /// The interrupt is active low (interrupt flag 2).
     pub fn active_low(mut self) -> TpmServer1_2
-        ensures { result ≡ record self { interrupt_flags = bit_or self.interrupt_flags 2 } }
+        ensures { result ≡ with_interrupt_flag 2 self }
     {
         self.interrupt_flags |= ACTIVE_LOW;
         self
@@ -170,7 +171,7 @@ impl TpmServer1_2 {
 
     /// The interrupt is edge triggered (interrupt flag 1).
     pub fn edge_triggered(mut self) -> TpmServer1_2
-        ensures { result ≡ record self { interrupt_flags = bit_or self.interrupt_flags 1 } }
+        ensures { result ≡ with_interrupt_flag 1 self }
     {
         self.interrupt_flags |= EDGE_TRIGGERED;
         self
@@ -178,7 +179,7 @@ impl TpmServer1_2 {
 
     /// The bit of the general purpose event that the module raises (offset 60), with interrupt flag 4.
     pub fn sci_gpe(mut self, sci_gpe_bit: u8) -> TpmServer1_2
-        ensures { result ≡ record self { gpe = sci_gpe_bit; interrupt_flags = bit_or self.interrupt_flags 4 } }
+        ensures { result ≡ with_interrupt_flag 4 (with_gpe sci_gpe_bit self) }
     {
         self.gpe = sci_gpe_bit;
         self.interrupt_flags |= SCI_BY_GPE;
@@ -187,7 +188,7 @@ impl TpmServer1_2 {
 
     /// The global system interrupt (offset 64), with interrupt flag 8.
     pub fn gsi(mut self, gsi: u32) -> TpmServer1_2
-        ensures { result ≡ record self { gsi = gsi; interrupt_flags = bit_or self.interrupt_flags 8 } }
+        ensures { result ≡ with_interrupt_flag 8 (with_gsi gsi self) }
     {
         self.gsi = gsi;
         self.interrupt_flags |= GLOBAL_INTERRUPT;
@@ -196,7 +197,7 @@ impl TpmServer1_2 {
 
     /// The module is on a plug and play bus (device flag 2).
     pub fn bus_is_pnp(mut self) -> TpmServer1_2
-        ensures { result ≡ record self { device_flags = bit_or self.device_flags 2 } }
+        ensures { result ≡ with_device_flag 2 self }
     {
         self.device_flags |= BUS_IS_PNP;
         self
@@ -206,7 +207,7 @@ impl TpmServer1_2 {
     pub fn pci_sbdf(mut self, segment: u8, bus: u8, device: u8, function: u8) -> TpmServer1_2
         requires device { device < 32 }
         requires function { function < 8 }
-        ensures { result ≡ record self { pci_segment = segment; pci_bus = bus; pci_device = device; pci_function = function; device_flags = bit_or self.device_flags 1 } }
+        ensures { result ≡ with_device_flag 1 (with_pci segment bus device function self) }
     {
         self.pci_segment = segment;
         self.pci_bus = bus;
@@ -218,7 +219,7 @@ impl TpmServer1_2 {
 
     /// Where the module's registers are (offset 68).
     pub fn base_addr(mut self, addr: GAS) -> TpmServer1_2
-        ensures { result ≡ record self { base_addr = addr } }
+        ensures { result ≡ with_base addr self }
     {
         self.base_addr = addr;
         self
@@ -226,7 +227,7 @@ impl TpmServer1_2 {
 
     /// Where the module's configuration is (offset 84), with device flag 4.
     pub fn config_addr(mut self, addr: GAS) -> TpmServer1_2
-        ensures { result ≡ record self { config_addr = addr; device_flags = bit_or self.device_flags 4 } }
+        ensures { result ≡ with_device_flag 4 (with_config addr self) }
     {
         self.config_addr = addr;
         self.device_flags |= CONFIG_ADDRESS_VALID;
@@ -244,33 +245,31 @@ impl TpmServer1_2 {
     fn bytes(&self) -> [u8; 100]
         ensures { result ≡ server_bytes self.now }
     {
-        let mut bytes = record(&[
-            Row::Bytes(&self.oem.header(*b"TCPA", 100, 2)),
-            Row::Word(PlatformClass::Server.number()),
-            Row::Word(0),
-            Row::QWord(self.log_area_min_len),
-            Row::QWord(self.log_area_start_addr),
-            Row::Bytes(&[1, 2]),
-            Row::Byte(self.device_flags),
-            Row::Byte(self.interrupt_flags),
-            Row::Byte(self.gpe),
-            Row::Bytes(&[0; 3]),
-            Row::DWord(self.gsi),
-            Row::Bytes(&self.base_addr.bytes()),
-            Row::DWord(0),
-            Row::Bytes(&self.config_addr.bytes()),
-            Row::Byte(self.pci_segment),
-            Row::Byte(self.pci_bus),
-            Row::Byte(self.pci_device),
-            Row::Byte(self.pci_function),
-        ]);
-        seal(&mut bytes);
-        bytes
+        sealed_record(&[
+            Field::Bytes(&header(*b"TCPA", 100, 2, self.oem)),
+            Field::Word(PlatformClass::Server.number()),
+            Field::Word(0),
+            Field::QWord(self.log_area_min_len),
+            Field::QWord(self.log_area_start_addr),
+            Field::Bytes(&[1, 2]),
+            Field::Byte(self.device_flags),
+            Field::Byte(self.interrupt_flags),
+            Field::Byte(self.gpe),
+            Field::Bytes(&[0; 3]),
+            Field::DWord(self.gsi),
+            Field::Bytes(&self.base_addr.bytes()),
+            Field::DWord(0),
+            Field::Bytes(&self.config_addr.bytes()),
+            Field::Byte(self.pci_segment),
+            Field::Byte(self.pci_bus),
+            Field::Byte(self.pci_device),
+            Field::Byte(self.pci_function),
+        ])
     }
 }
 
 impl Aml for TpmServer1_2 {
-    ghost use Rattle.acpi_fixed.specs.Tpm2.{server_bytes};
+    ghost use Rattle.acpi_fixed.specs.Tcpa.{server_bytes};
 
     ghost object = { λ t. whole (server_bytes t) };
 
@@ -285,13 +284,13 @@ impl Aml for TpmServer1_2 {
 #[derive(Clone, Copy, Debug, Default, PartialEq)]
 pub enum StartMethod {
     #[default]
-    LegacyUse = 1,
-    AcpiStart = 2,
-    Mmio = 6,
-    Crb = 7,
-    CrbAndAcpiStart = 8,
-    CrbAndSmcHvc = 11,
-    I2cFifo = 12,
+    LegacyUse = 0x01,
+    AcpiStart = 0x02,
+    Mmio = 0x06,
+    Crb = 0x07,
+    CrbAndAcpiStart = 0x08,
+    CrbAndSmcHvc = 0x0b,
+    I2cFifo = 0x0c,
 }
 
 impl StartMethod {
@@ -322,7 +321,8 @@ pub struct Tpm2 {
 }
 
 impl Tpm2 {
-    ghost use Rattle.acpi_fixed.specs.Tpm2.{tpm2_bytes, LogAreaOnce};
+    ghost use Rattle.acpi_fixed.specs.Oem.{oem_of};
+    ghost use Rattle.acpi_fixed.specs.Tpm2.{tpm2_with, tpm2_for, LogAreaOnce};
 
     /// A module whose control area or FIFO is at a physical address, without a log area.
     pub fn new(
@@ -333,7 +333,7 @@ impl Tpm2 {
         crb_or_fifo_base: u64,
         start_method: StartMethod,
     ) -> Tpm2
-        ensures { result ≡ record { oem = record { id = oem_id; table_id = oem_table_id; revision = oem_revision }; platform_class = platform_class; crb_or_fifo_base = crb_or_fifo_base; start_method = start_method; log_area = None } }
+        ensures { result ≡ tpm2_for (oem_of oem_id oem_table_id oem_revision) platform_class crb_or_fifo_base start_method }
     {
         Tpm2 {
             oem: Oem {
@@ -362,35 +362,31 @@ impl Tpm2 {
 
     // The table's bytes, if it has no log area.
     fn bytes(&self) -> [u8; 52]
-        ensures { result ≡ tpm2_bytes (record self.now { log_area = None }) }
+        ensures { result ≡ tpm2_with self.now None }
     {
-        let mut bytes = record(&[
-            Row::Bytes(&self.oem.header(*b"TPM2", 52, 1)),
-            Row::Word(self.platform_class.number()),
-            Row::Word(0),
-            Row::QWord(self.crb_or_fifo_base),
-            Row::DWord(self.start_method.number()),
-        ]);
-        seal(&mut bytes);
-        bytes
+        sealed_record(&[
+            Field::Bytes(&header(*b"TPM2", 52, 1, self.oem)),
+            Field::Word(self.platform_class.number()),
+            Field::Word(0),
+            Field::QWord(self.crb_or_fifo_base),
+            Field::DWord(self.start_method.number()),
+        ])
     }
 
     // The table's bytes with a log area.
     fn bytes_with(&self, area: LogArea) -> [u8; 76]
-        ensures { result ≡ tpm2_bytes (record self.now { log_area = Some area }) }
+        ensures { result ≡ tpm2_with self.now (Some area) }
     {
-        let mut bytes = record(&[
-            Row::Bytes(&self.oem.header(*b"TPM2", 76, 1)),
-            Row::Word(self.platform_class.number()),
-            Row::Word(0),
-            Row::QWord(self.crb_or_fifo_base),
-            Row::DWord(self.start_method.number()),
-            Row::Bytes(&[0; 12]),
-            Row::DWord(area.min_len),
-            Row::QWord(area.base_addr),
-        ]);
-        seal(&mut bytes);
-        bytes
+        sealed_record(&[
+            Field::Bytes(&header(*b"TPM2", 76, 1, self.oem)),
+            Field::Word(self.platform_class.number()),
+            Field::Word(0),
+            Field::QWord(self.crb_or_fifo_base),
+            Field::DWord(self.start_method.number()),
+            Field::Bytes(&[0; 12]),
+            Field::DWord(area.min_len),
+            Field::QWord(area.base_addr),
+        ])
     }
 }
 

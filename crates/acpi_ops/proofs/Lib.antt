@@ -2,3 +2,4 @@ pub mod Bytes
 pub mod Items
 pub mod Meanings
 pub mod Spaces
+pub mod Templates

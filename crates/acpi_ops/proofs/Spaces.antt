@@ -1,17 +1,49 @@
--- Address spaces that are refused.
-use Rattle.std.proofs.Common.{◌≡◌, ℕ, List, [], Bool, true, false, Some, None, refl, cond}
+-- Address spaces: their size, and when they are refused.
+use Rattle.std.proofs.Common.{◌≡◌, ℕ, ◌+◌, ◌*◌, ◌-◌, List, [], ◌++◌, length, Bool, true, false, Some, None, refl, sym, ap, ◌∙◌, cond, arith}
+use Rattle.std.proofs.lemmas.List.{length-append}
 use Rattle.acpi_base.specs.declared.error.Error.{Error}
 use Rattle.acpi_base.specs.declared.error.Error.TheVariants.{AddressRange}
+use Rattle.acpi_base.specs.Bytes.{le}
 use Rattle.acpi_base.specs.Sink.{Meaning}
 use Rattle.acpi_base.specs.Object.{whole, ended, WriteRefused}
 use Rattle.acpi_base.proofs.Objects.{gives_nothing}
+use Rattle.acpi_base.proofs.Bytes.{length_le}
 use Rattle.acpi_ops.specs.declared.address_space.AddressSpace.{AddressSpace}
-use Rattle.acpi_ops.specs.AddressSpace.{is_range, space_bytes, space}
+use Rattle.acpi_ops.specs.AddressSpace.{or_zero, is_range, space_bytes, space}
 
 tested : (test : Bool) (bytes : List ℕ) (e : Error) → (ended (cond test None (Some AddressRange)) (whole bytes)).end ≡ Some e
     → ((ended (cond test None (Some AddressRange)) (whole bytes)).front ≡ []) × ((ended (cond test None (Some AddressRange)) (whole bytes)).end ≡ Some e)
 tested true bytes e h = absurd cc
 tested false bytes e h = (refl, h)
 
-pub space_refused : (tag w : ℕ) (a : AddressSpace ℕ) (e : Error) (m : Meaning) → e ≡ AddressRange → (space tag w a).end ≡ Some e → WriteRefused e (space tag w a) m m
-space_refused tag w a e m is end = gives_nothing e (space tag w a) m (λ memory. cc) (tested (is_range w a.min a.max) (space_bytes tag w a) e end)
+numbers : (w a b c d e : ℕ) → length (le w a ++ (le w b ++ (le w c ++ (le w d ++ (le w e ++ []))))) ≡ 5 * w
+numbers w a b c d e =
+    omega (
+      arith,
+      length_le w a,
+      length_le w b,
+      length_le w c,
+      length_le w d,
+      length_le w e,
+      length-append (le w a) (le w b ++ (le w c ++ (le w d ++ (le w e ++ [])))),
+      length-append (le w b) (le w c ++ (le w d ++ (le w e ++ []))),
+      length-append (le w c) (le w d ++ (le w e ++ [])),
+      length-append (le w d) (le w e ++ []),
+      length-append (le w e) [],
+    )
+
+module _ {T : Type 0} (number : T → ℕ) (tag w : ℕ) (a : AddressSpace T) where
+  pub space_length : (fields : List ℕ) → fields ≡ space_bytes number tag w a → length fields ≡ 6 + 5 * w
+  space_length fields is =
+      let n = numbers w 0 (number a.min) (number a.max) (or_zero number a.translation) (number a.max - number a.min + 1) in
+      ap length is ∙ omega (arith, n)
+
+  pub space_refused : (e : Error) (m : Meaning) → e ≡ AddressRange → (space number tag w a).end ≡ Some e → WriteRefused e (space number tag w a) m m
+  space_refused e m is end = gives_nothing e (space number tag w a) m (λ memory. cc) (tested (is_range number w a) (space_bytes number tag w a) e end)
+
+  front : (test : Bool) → test ≡ true → (ended (cond test None (Some AddressRange)) (whole (space_bytes number tag w a))).front ≡ space_bytes number tag w a
+  front true is = refl
+  front false is = absurd cc
+
+  pub space_front : (fields : List ℕ) → is_range number w a ≡ true → fields ≡ space_bytes number tag w a → (space number tag w a).front ≡ fields
+  space_front fields range is = front (is_range number w a) range ∙ sym is

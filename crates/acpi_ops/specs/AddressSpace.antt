@@ -1,7 +1,8 @@
 -- Address spaces (ACPI 6.5, 6.4.3.5).
-use Rattle.std.specs.Prelude.{◌≢◌, ℕ, ◌+◌, ◌-◌, ◌*◌, ◌^◌, nat_le, nat_lt, ◌&&◌, Bool, true, false, if◌then◌else◌, List, ◌∷◌, ◌++◌, Option, Some, None}
+use Rattle.std.specs.Prelude.{◌≢◌, ℕ, ◌+◌, ◌-◌, ◌*◌, ◌^◌, nat_le, nat_lt, ◌&&◌, Bool, true, false, if◌then◌else◌, List, [], ◌∷◌, Option, Some, None}
 use Rattle.acpi_base.specs.declared.error.Error.TheVariants.{Memory, AddressRange}
 use Rattle.acpi_base.specs.Bytes.{le}
+use Rattle.acpi_base.specs.Layout.{byte, word, record_of}
 use Rattle.acpi_base.specs.Object.{Object, whole, whole_ends_well, ended}
 use Rattle.acpi_ops.specs.declared.address_space.AddressSpace.{AddressSpace}
 use Rattle.acpi_ops.specs.declared.address_space.AddressSpaceCacheable.{AddressSpaceCacheable}
@@ -14,25 +15,47 @@ cacheable_number cacheable.Cacheable = 1
 cacheable_number cacheable.WriteCombining = 2
 cacheable_number cacheable.PreFetchable = 3
 
-abbrev pub or_zero : Option ℕ → ℕ
-or_zero (Some v) = v
-or_zero None = 0
+module _ {T : Type 0} (number : T → ℕ) where
+  abbrev pub or_zero : Option T → ℕ
+  or_zero (Some v) = number v
+  or_zero None = 0
 
--- the range isn't empty, and its size has w bytes
-abbrev pub is_range : ℕ → ℕ → ℕ → Bool
-is_range w min max = nat_le min max && nat_lt (max - min + 1) (2 ^ (8 * w))
+  -- the range isn't empty, and its size has w bytes
+  abbrev pub is_range : ℕ → AddressSpace T → Bool
+  is_range w a = nat_le (number a.min) (number a.max) && nat_lt (number a.max - number a.min + 1) (2 ^ (8 * w))
 
--- A descriptor of this tag, whose addresses have w bytes. Both ends of the range are fixed, and it has no granularity.
-abbrev pub space_bytes : ℕ → ℕ → AddressSpace ℕ → List ℕ
-space_bytes tag w a = tag ∷ (le 2 (3 + 5 * w) ++ a.kind ∷ 12 ∷ a.flags ∷ (le w 0 ++ (le w a.min ++ (le w a.max ++ (le w (or_zero a.translation) ++ le w (a.max - a.min + 1))))))
+  -- A descriptor of this first byte, whose addresses have w bytes. Both ends of the range are fixed, and it has no granularity.
+  abbrev pub space_bytes : ℕ → ℕ → AddressSpace T → List ℕ
+  space_bytes tag w a = record_of
+      (byte tag  -- 0
+      ∷ word (3 + 5 * w)  -- 1: Length
+      ∷ byte a.kind  -- 3: Resource Type
+      ∷ byte 0x0c  -- 4: General Flags, Max Address Fixed and Min Address Fixed
+      ∷ byte a.flags  -- 5: Type Specific Flags
+      ∷ le w 0  -- 6: Address Space Granularity
+      ∷ le w (number a.min)  -- 6 + w: Address Range Minimum
+      ∷ le w (number a.max)  -- 6 + 2 w: Address Range Maximum
+      ∷ le w (or_zero a.translation)  -- 6 + 3 w: Address Translation Offset
+      ∷ le w (number a.max - number a.min + 1)  -- 6 + 4 w: Address Length
+      ∷ [])
 
-abbrev pub space : ℕ → ℕ → AddressSpace ℕ → Object
-space tag w a = ended (if is_range w a.min a.max then None else Some AddressRange) (whole (space_bytes tag w a))
+  abbrev pub space : ℕ → ℕ → AddressSpace T → Object
+  space tag w a = ended (if is_range w a then None else Some AddressRange) (whole (space_bytes tag w a))
+
+-- Word, DWord and QWord Address Space Descriptors (6.4.3.5.3, 6.4.3.5.2 and 6.4.3.5.1)
+abbrev pub word_space : AddressSpace ℕ → Object
+word_space a = space (λ n. n) 0x88 2 a
+
+abbrev pub dword_space : AddressSpace ℕ → Object
+dword_space a = space (λ n. n) 0x87 4 a
+
+abbrev pub qword_space : AddressSpace ℕ → Object
+qword_space a = space (λ n. n) 0x8a 8 a
 
 -- an object behind a test
 tested_ends_well : (test : Bool) (bytes : List ℕ) → (ended (if test then None else Some AddressRange) (whole bytes)).end ≢ Some Memory
 tested_ends_well true bytes is = whole_ends_well bytes is
 tested_ends_well false bytes is = cc
 
-pub space_ends_well : (tag w : ℕ) (a : AddressSpace ℕ) → (space tag w a).end ≢ Some Memory
-space_ends_well tag w a = tested_ends_well (is_range w a.min a.max) (space_bytes tag w a)
+pub space_ends_well : {T : Type 0} (number : T → ℕ) (tag w : ℕ) (a : AddressSpace T) → (space number tag w a).end ≢ Some Memory
+space_ends_well number tag w a = tested_ends_well (is_range number w a) (space_bytes number tag w a)

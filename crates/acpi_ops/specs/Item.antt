@@ -1,5 +1,6 @@
 -- How bytes split into resource items (ACPI 6.5, 6.4.2 and 6.4.3).
-use Rattle.std.specs.Prelude.{◌≡◌, ℕ, ◌+◌, ◌*◌, ◌%◌, nat_lt, if◌then◌else◌, List, [], ◌∷◌, ◌++◌, length, Option, Some, None}
+use Rattle.std.specs.Prelude.{◌≡◌, ℕ, ◌+◌, ◌*◌, ◌%◌, nat_lt, if◌then◌else◌, List, [], ◌∷◌, length, Option, Some, None}
+use Rattle.std.specs.List.{concat}
 
 -- the size that follows a large item's tag, with the tag and itself
 abbrev pub large_size : List ℕ → Option ℕ
@@ -20,10 +21,6 @@ abbrev pub AreItems : List (List ℕ) → Type 0
 AreItems [] = Unit {0}
 AreItems (item ∷ items) = IsItem item × AreItems items
 
-abbrev pub joined : List (List ℕ) → List ℕ
-joined [] = []
-joined (item ∷ items) = item ++ joined items
-
 -- the bytes are these items, one after another
 abbrev pub SplitsInto : List ℕ → List (List ℕ) → Type 0
-SplitsInto bytes items = AreItems items × (bytes ≡ joined items)
+SplitsInto bytes items = AreItems items × (bytes ≡ concat items)

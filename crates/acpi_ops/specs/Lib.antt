@@ -1,4 +1,4 @@
-pub mod Descriptor
 pub mod AddressSpace
+pub mod Descriptor
 pub mod Item
 pub mod Laws

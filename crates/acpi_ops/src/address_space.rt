@@ -1,15 +1,163 @@
 //! Address spaces: ranges of memory, of ports and of bus numbers.
 
-ghost use Rattle.std.specs.Prelude.{◌≡◌, ◌≢◌, ◌+◌, ◌-◌, ◌*◌, ◌^◌, ◌<◌, ◌≤◌, IfOk, IfErr, None, Some};
-ghost use Rattle.acpi_base.specs.Object.{Built};
+ghost use Rattle.std.specs.Prelude.{◌≡◌, ℕ, ◌+◌, ◌-◌, ◌*◌, ◌^◌, ◌<◌, length, true, refl, OnOk, IfOk, IfErr, None, Some};
+ghost use Rattle.acpi_base.specs.Bytes.{le};
+ghost use Rattle.acpi_base.specs.Record.{field_bytes, fields_bytes};
+ghost use Rattle.acpi_base.specs.Sink.{Took, Refused};
 ghost use Rattle.acpi_ops.specs.Descriptor.{bit};
-ghost use Rattle.acpi_ops.specs.AddressSpace.{cacheable_number, space, space_ends_well};
+ghost use Rattle.acpi_ops.specs.AddressSpace.{cacheable_number, is_range, space_bytes, space, space_ends_well};
 
 use crate::descriptor::bit;
 use acpi_base::error::{Error, R};
 use acpi_base::object::Aml;
-use acpi_base::record::{Row, record};
+use acpi_base::record::{Field, record};
 use acpi_base::sink::AmlSink;
+
+/// A number type of addresses, with the tag of its descriptor (ACPI 6.5, 6.4.3.5).
+pub trait Address: Copy {
+    ghost TAG: { ℕ };
+
+    ghost WIDTH: { ℕ };
+
+    ghost LENGTH: { ℕ };
+
+    ghost LAST: { ℕ };
+
+    ghost number: { Self → ℕ };
+
+    /// The descriptor's first byte.
+    const TAG: u8;
+
+    /// The bytes that follow the descriptor's length.
+    const LENGTH: u16;
+
+    /// The last address.
+    const LAST: u64;
+
+    fn number(self) -> u64
+        ensures value { result ≡ number self }
+        ensures within { result < LAST + 1 };
+
+    /// A field of a descriptor.
+    fn field(value: u64) -> Field<'static>
+        requires { value < LAST + 1 }
+        ensures { field_bytes result ≡ le WIDTH value };
+
+    /// Writes the fields of a descriptor, five of them addresses.
+    fn write(fields: &[Field], sink: &mut dyn AmlSink) -> R<()>
+        requires { length (fields_bytes fields.now) ≡ 6 + 5 * WIDTH }
+        ensures ok { OnOk result (Took (meaning sink.old) (fields_bytes fields.now) (meaning sink.new)) }
+        ensures err { IfErr result (λ e. Refused e (meaning sink.old) (fields_bytes fields.now) (meaning sink.new)) };
+
+    ghost length_is: { LENGTH ≡ 3 + 5 * WIDTH };
+
+    ghost last_is: { LAST + 1 ≡ 2 ^ (8 * WIDTH) };
+}
+
+/// Addresses of a Word Address Space Descriptor.
+impl Address for u16 {
+    ghost TAG = { 0x88 };
+
+    ghost WIDTH = { 2 };
+
+    ghost LENGTH = { 13 };
+
+    ghost LAST = { 0xffff };
+
+    ghost number = { λ address. address };
+
+    const TAG: u8 = 0x88;
+
+    const LENGTH: u16 = 13;
+
+    const LAST: u64 = 0xffff;
+
+    ghost length_is = { refl };
+
+    ghost last_is = { refl };
+
+    fn number(self) -> u64 {
+        u64::from(self)
+    }
+
+    fn field(value: u64) -> Field<'static> {
+        Field::Word(value as u16)
+    }
+
+    fn write(fields: &[Field], sink: &mut dyn AmlSink) -> R<()> {
+        sink.vec(&record::<16>(fields))
+    }
+}
+
+/// Addresses of a DWord Address Space Descriptor.
+impl Address for u32 {
+    ghost TAG = { 0x87 };
+
+    ghost WIDTH = { 4 };
+
+    ghost LENGTH = { 23 };
+
+    ghost LAST = { 0xffff_ffff };
+
+    ghost number = { λ address. address };
+
+    const TAG: u8 = 0x87;
+
+    const LENGTH: u16 = 23;
+
+    const LAST: u64 = 0xffff_ffff;
+
+    ghost length_is = { refl };
+
+    ghost last_is = { refl };
+
+    fn number(self) -> u64 {
+        u64::from(self)
+    }
+
+    fn field(value: u64) -> Field<'static> {
+        Field::DWord(value as u32)
+    }
+
+    fn write(fields: &[Field], sink: &mut dyn AmlSink) -> R<()> {
+        sink.vec(&record::<26>(fields))
+    }
+}
+
+/// Addresses of a QWord Address Space Descriptor.
+impl Address for u64 {
+    ghost TAG = { 0x8a };
+
+    ghost WIDTH = { 8 };
+
+    ghost LENGTH = { 43 };
+
+    ghost LAST = { 0xffff_ffff_ffff_ffff };
+
+    ghost number = { λ address. address };
+
+    const TAG: u8 = 0x8a;
+
+    const LENGTH: u16 = 43;
+
+    const LAST: u64 = 0xffff_ffff_ffff_ffff;
+
+    ghost length_is = { refl };
+
+    ghost last_is = { refl };
+
+    fn number(self) -> u64 {
+        self
+    }
+
+    fn field(value: u64) -> Field<'static> {
+        Field::QWord(value)
+    }
+
+    fn write(fields: &[Field], sink: &mut dyn AmlSink) -> R<()> {
+        sink.vec(&record::<46>(fields))
+    }
+}
 
 /// How a range of memory may be cached (ACPI 6.5, 6.4.3.5.5, Memory Type).
 #[derive(Copy, Clone, Debug, PartialEq)]
@@ -35,7 +183,7 @@ pub struct AddressSpace<T> {
     translation: Option<T>,
 }
 
-impl<T: Copy> AddressSpace<T> {
+impl<T: Address> AddressSpace<T> {
     /// A range of memory, from its first address to its last, and what is added to its addresses on the other side of a
     /// bridge, or 0.
     pub fn new_memory(
@@ -84,125 +232,51 @@ impl<T: Copy> AddressSpace<T> {
     }
 }
 
-/// A Word Address Space Descriptor.
-impl Aml for AddressSpace<u16> {
-    ghost object = { λ a. space 136 2 a };
+impl<T: Address> AddressSpace<T> {
+    // The number of addresses in the range.
+    fn size(&self) -> R<u64>
+        ensures ok { IfOk result (λ size. (is_range T.number T.WIDTH self.now ≡ true) × (size ≡ T.number self.now.max - T.number self.now.min + 1)) }
+        ensures err { IfErr result (λ e. (e ≡ Error.AddressRange) × ((space T.number T.TAG T.WIDTH self.now).end ≡ Some e)) }
+    {
+        let (min, max) = (self.min.number(), self.max.number());
+        if max < min || max - min == T::LAST {
+            return Err(Error::AddressRange);
+        }
+        Ok(max - min + 1)
+    }
 
-    ghost ends_well = { λ a. space_ends_well 136 2 a };
+    // The fields of the range's descriptor.
+    fn fields(&self, size: u64) -> [Field<'static>; 10]
+        requires within { size < T.LAST + 1 }
+        requires is { size ≡ T.number self.now.max - T.number self.now.min + 1 }
+        ensures { fields_bytes result ≡ space_bytes T.number T.TAG T.WIDTH self.now }
+    {
+        let translation = match self.translation {
+            Some(offset) => offset.number(),
+            None => 0,
+        };
+        [
+            Field::Byte(T::TAG),
+            Field::Word(T::LENGTH),
+            Field::Byte(self.kind),
+            Field::Byte(0x0c),
+            Field::Byte(self.flags),
+            T::field(0),
+            T::field(self.min.number()),
+            T::field(self.max.number()),
+            T::field(translation),
+            T::field(size),
+        ]
+    }
+}
+
+impl<T: Address> Aml for AddressSpace<T> {
+    ghost object = { λ a. space T.number T.TAG T.WIDTH a };
+
+    ghost ends_well = { λ a. space_ends_well T.number T.TAG T.WIDTH a };
 
     fn to_aml_bytes(&self, sink: &mut dyn AmlSink) -> R<()> {
-        let bytes = word_bytes(self)?;
-        sink.vec(&bytes)
+        let size = self.size()?;
+        T::write(&self.fields(size), sink)
     }
-}
-
-fn word_bytes(range: &AddressSpace<u16>) -> R<[u8; 16]>
-    ensures ok { IfOk result (λ bytes. Built (space 136 2 range.now) bytes) }
-    ensures err { IfErr result (λ e. (e ≡ Error.AddressRange) × ((space 136 2 range.now).end ≡ Some e)) }
-{
-    if range.max < range.min {
-        return Err(Error::AddressRange);
-    }
-    let size = range.max - range.min;
-    if size == u16::MAX {
-        return Err(Error::AddressRange);
-    }
-    let translation = match range.translation {
-        Some(offset) => offset,
-        None => 0,
-    };
-    Ok(record(&[
-        Row::Byte(0x88),
-        Row::Word(13),
-        Row::Byte(range.kind),
-        Row::Byte(12),
-        Row::Byte(range.flags),
-        Row::Word(0),
-        Row::Word(range.min),
-        Row::Word(range.max),
-        Row::Word(translation),
-        Row::Word(size + 1),
-    ]))
-}
-
-/// A DWord Address Space Descriptor.
-impl Aml for AddressSpace<u32> {
-    ghost object = { λ a. space 135 4 a };
-
-    ghost ends_well = { λ a. space_ends_well 135 4 a };
-
-    fn to_aml_bytes(&self, sink: &mut dyn AmlSink) -> R<()> {
-        let bytes = dword_bytes(self)?;
-        sink.vec(&bytes)
-    }
-}
-
-fn dword_bytes(range: &AddressSpace<u32>) -> R<[u8; 26]>
-    ensures ok { IfOk result (λ bytes. Built (space 135 4 range.now) bytes) }
-    ensures err { IfErr result (λ e. (e ≡ Error.AddressRange) × ((space 135 4 range.now).end ≡ Some e)) }
-{
-    if range.max < range.min {
-        return Err(Error::AddressRange);
-    }
-    let size = range.max - range.min;
-    if size == u32::MAX {
-        return Err(Error::AddressRange);
-    }
-    let translation = match range.translation {
-        Some(offset) => offset,
-        None => 0,
-    };
-    Ok(record(&[
-        Row::Byte(0x87),
-        Row::Word(23),
-        Row::Byte(range.kind),
-        Row::Byte(12),
-        Row::Byte(range.flags),
-        Row::DWord(0),
-        Row::DWord(range.min),
-        Row::DWord(range.max),
-        Row::DWord(translation),
-        Row::DWord(size + 1),
-    ]))
-}
-
-/// A QWord Address Space Descriptor.
-impl Aml for AddressSpace<u64> {
-    ghost object = { λ a. space 138 8 a };
-
-    ghost ends_well = { λ a. space_ends_well 138 8 a };
-
-    fn to_aml_bytes(&self, sink: &mut dyn AmlSink) -> R<()> {
-        let bytes = qword_bytes(self)?;
-        sink.vec(&bytes)
-    }
-}
-
-fn qword_bytes(range: &AddressSpace<u64>) -> R<[u8; 46]>
-    ensures ok { IfOk result (λ bytes. Built (space 138 8 range.now) bytes) }
-    ensures err { IfErr result (λ e. (e ≡ Error.AddressRange) × ((space 138 8 range.now).end ≡ Some e)) }
-{
-    if range.max < range.min {
-        return Err(Error::AddressRange);
-    }
-    let size = range.max - range.min;
-    if size == u64::MAX {
-        return Err(Error::AddressRange);
-    }
-    let translation = match range.translation {
-        Some(offset) => offset,
-        None => 0,
-    };
-    Ok(record(&[
-        Row::Byte(0x8a),
-        Row::Word(43),
-        Row::Byte(range.kind),
-        Row::Byte(12),
-        Row::Byte(range.flags),
-        Row::QWord(0),
-        Row::QWord(range.min),
-        Row::QWord(range.max),
-        Row::QWord(translation),
-        Row::QWord(size + 1),
-    ]))
 }

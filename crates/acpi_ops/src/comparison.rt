@@ -1,179 +1,86 @@
-//! Comparisons and logical connectives.
+//! Comparisons, their opposites, and logical connectives.
 
-ghost use Rattle.std.specs.Prelude.{ℕ, List, [], ◌∷◌};
-ghost use Rattle.acpi_base.specs.Object.{whole, whole_ends_well, Builds};
-ghost use Rattle.acpi_term.specs.Tree.{op};
+ghost use Rattle.std.specs.Prelude.{refl};
 ghost use Rattle.acpi_term.specs.declared.op.Op.TheVariants as ops;
-ghost use Rattle.acpi_term.specs.Row.{row};
 
-use acpi_base::error::R;
-use acpi_base::object::Aml;
-use acpi_base::sink::AmlSink;
-use acpi_term::row::bare;
-use std::alloc::Global;
-use std::marker::Model;
+use crate::operator::{Negated, Operation, Operator, Pair};
+use acpi_term::op::Op;
 
 /// Whether the left operand equals the right one (ACPI 6.5, 20.2.5.4).
-#[derive(Drop)]
-pub struct Equal {
-    bytes: Vec<u8>,
-}
+pub type Equal = Operation<Pair, EqualOp>;
 
-impl Model for Equal {
-    ghost Value = { List ℕ };
+/// The operator of `Equal`.
+pub struct EqualOp;
 
-    ghost view = { λ o. o.bytes.items };
-}
+impl Operator<2> for EqualOp {
+    ghost OPERATOR = { ops.LEqual };
 
-impl Aml for Equal {
-    ghost object = { λ o. whole o };
+    const OPERATOR: Op = Op::LEqual;
 
-    ghost ends_well = { λ o. whole_ends_well o };
-
-    #[tactic(auto, using(acpi_base::proofs::Objects::refused_by_sink))]
-    fn to_aml_bytes(&self, sink: &mut dyn AmlSink) -> R<()> {
-        sink.vec(&self.bytes)
-    }
-}
-
-impl Equal {
-    /// Written in the order `left` and `right`. The first refusal in that order.
-    pub fn new(alloc: Global, left: &dyn Aml, right: &dyn Aml) -> R<Equal>
-        ensures { Builds result (row (op ops.LEqual) (object left.now ∷ object right.now ∷ [])) }
-    {
-        let bytes = bare(alloc, &[0x93], &[left, right])?;
-        Ok(Equal { bytes })
-    }
+    ghost takes = { refl };
 }
 
 /// Whether the left operand is less than the right one (ACPI 6.5, 20.2.5.4).
-#[derive(Drop)]
-pub struct LessThan {
-    bytes: Vec<u8>,
-}
+pub type LessThan = Operation<Pair, LessThanOp>;
 
-impl Model for LessThan {
-    ghost Value = { List ℕ };
+/// The operator of `LessThan`.
+pub struct LessThanOp;
 
-    ghost view = { λ o. o.bytes.items };
-}
+impl Operator<2> for LessThanOp {
+    ghost OPERATOR = { ops.LLess };
 
-impl Aml for LessThan {
-    ghost object = { λ o. whole o };
+    const OPERATOR: Op = Op::LLess;
 
-    ghost ends_well = { λ o. whole_ends_well o };
-
-    #[tactic(auto, using(acpi_base::proofs::Objects::refused_by_sink))]
-    fn to_aml_bytes(&self, sink: &mut dyn AmlSink) -> R<()> {
-        sink.vec(&self.bytes)
-    }
-}
-
-impl LessThan {
-    /// Written in the order `left` and `right`. The first refusal in that order.
-    pub fn new(alloc: Global, left: &dyn Aml, right: &dyn Aml) -> R<LessThan>
-        ensures { Builds result (row (op ops.LLess) (object left.now ∷ object right.now ∷ [])) }
-    {
-        let bytes = bare(alloc, &[0x95], &[left, right])?;
-        Ok(LessThan { bytes })
-    }
+    ghost takes = { refl };
 }
 
 /// Whether the left operand is greater than the right one (ACPI 6.5, 20.2.5.4).
-#[derive(Drop)]
-pub struct GreaterThan {
-    bytes: Vec<u8>,
+pub type GreaterThan = Operation<Pair, GreaterThanOp>;
+
+/// The operator of `GreaterThan`.
+pub struct GreaterThanOp;
+
+impl Operator<2> for GreaterThanOp {
+    ghost OPERATOR = { ops.LGreater };
+
+    const OPERATOR: Op = Op::LGreater;
+
+    ghost takes = { refl };
 }
 
-impl Model for GreaterThan {
-    ghost Value = { List ℕ };
+/// Whether the operands differ: the opposite of `Equal` (ACPI 6.5, 20.2.5.4).
+pub type NotEqual = Operation<Negated, EqualOp>;
 
-    ghost view = { λ o. o.bytes.items };
-}
+/// Whether the left operand isn't less than the right one: the opposite of `LessThan` (ACPI 6.5, 20.2.5.4).
+pub type GreaterEqual = Operation<Negated, LessThanOp>;
 
-impl Aml for GreaterThan {
-    ghost object = { λ o. whole o };
-
-    ghost ends_well = { λ o. whole_ends_well o };
-
-    #[tactic(auto, using(acpi_base::proofs::Objects::refused_by_sink))]
-    fn to_aml_bytes(&self, sink: &mut dyn AmlSink) -> R<()> {
-        sink.vec(&self.bytes)
-    }
-}
-
-impl GreaterThan {
-    /// Written in the order `left` and `right`. The first refusal in that order.
-    pub fn new(alloc: Global, left: &dyn Aml, right: &dyn Aml) -> R<GreaterThan>
-        ensures { Builds result (row (op ops.LGreater) (object left.now ∷ object right.now ∷ [])) }
-    {
-        let bytes = bare(alloc, &[0x94], &[left, right])?;
-        Ok(GreaterThan { bytes })
-    }
-}
+/// Whether the left operand isn't greater than the right one: the opposite of `GreaterThan` (ACPI 6.5, 20.2.5.4).
+pub type LessEqual = Operation<Negated, GreaterThanOp>;
 
 /// Whether both operands are true (ACPI 6.5, 20.2.5.4).
-#[derive(Drop)]
-pub struct LAnd {
-    bytes: Vec<u8>,
-}
+pub type LAnd = Operation<Pair, LAndOp>;
 
-impl Model for LAnd {
-    ghost Value = { List ℕ };
+/// The operator of `LAnd`.
+pub struct LAndOp;
 
-    ghost view = { λ o. o.bytes.items };
-}
+impl Operator<2> for LAndOp {
+    ghost OPERATOR = { ops.LAnd };
 
-impl Aml for LAnd {
-    ghost object = { λ o. whole o };
+    const OPERATOR: Op = Op::LAnd;
 
-    ghost ends_well = { λ o. whole_ends_well o };
-
-    #[tactic(auto, using(acpi_base::proofs::Objects::refused_by_sink))]
-    fn to_aml_bytes(&self, sink: &mut dyn AmlSink) -> R<()> {
-        sink.vec(&self.bytes)
-    }
-}
-
-impl LAnd {
-    /// Written in the order `left` and `right`. The first refusal in that order.
-    pub fn new(alloc: Global, left: &dyn Aml, right: &dyn Aml) -> R<LAnd>
-        ensures { Builds result (row (op ops.LAnd) (object left.now ∷ object right.now ∷ [])) }
-    {
-        let bytes = bare(alloc, &[0x90], &[left, right])?;
-        Ok(LAnd { bytes })
-    }
+    ghost takes = { refl };
 }
 
 /// Whether one operand is true (ACPI 6.5, 20.2.5.4).
-#[derive(Drop)]
-pub struct LOr {
-    bytes: Vec<u8>,
-}
+pub type LOr = Operation<Pair, LOrOp>;
 
-impl Model for LOr {
-    ghost Value = { List ℕ };
+/// The operator of `LOr`.
+pub struct LOrOp;
 
-    ghost view = { λ o. o.bytes.items };
-}
+impl Operator<2> for LOrOp {
+    ghost OPERATOR = { ops.LOr };
 
-impl Aml for LOr {
-    ghost object = { λ o. whole o };
+    const OPERATOR: Op = Op::LOr;
 
-    ghost ends_well = { λ o. whole_ends_well o };
-
-    #[tactic(auto, using(acpi_base::proofs::Objects::refused_by_sink))]
-    fn to_aml_bytes(&self, sink: &mut dyn AmlSink) -> R<()> {
-        sink.vec(&self.bytes)
-    }
-}
-
-impl LOr {
-    /// Written in the order `left` and `right`. The first refusal in that order.
-    pub fn new(alloc: Global, left: &dyn Aml, right: &dyn Aml) -> R<LOr>
-        ensures { Builds result (row (op ops.LOr) (object left.now ∷ object right.now ∷ [])) }
-    {
-        let bytes = bare(alloc, &[0x91], &[left, right])?;
-        Ok(LOr { bytes })
-    }
+    ghost takes = { refl };
 }

@@ -1,29 +1,31 @@
-//! Resource descriptors.
+//! Resource descriptors of fixed size.
 
-ghost use Rattle.std.specs.Prelude.{◌≡◌, ◌≤◌, ℕ, List};
+ghost use Rattle.std.specs.Prelude.{◌≡◌, ◌≤◌, ℕ, List, length};
 ghost use Rattle.acpi_base.specs.Object.{whole, whole_ends_well};
+ghost use Rattle.acpi_base.specs.Record.{fields_bytes};
 ghost use Rattle.acpi_ops.specs.Descriptor.{bit, fixed_bytes, port_bytes, interrupt_flags, interrupt_bytes, register_bytes};
 
 use acpi_base::error::R;
 use acpi_base::gas::GAS;
 use acpi_base::object::Aml;
-use acpi_base::record::{Row, record};
+use acpi_base::record::{Field, record};
 use acpi_base::sink::AmlSink;
-use std::marker::Model;
+use std::marker::{Model, PhantomData};
 
-/// A range of memory at a fixed address (ACPI 6.5, 6.4.3.4, 32-Bit Fixed Memory Range Descriptor).
+/// A resource descriptor of `N` bytes.
 #[derive(Drop)]
-pub struct Memory32Fixed {
-    bytes: [u8; 12],
+pub struct Descriptor<Kind, const N: usize> {
+    bytes: [u8; N],
+    kind: PhantomData<Kind>,
 }
 
-impl Model for Memory32Fixed {
+impl<Kind, const N: usize> Model for Descriptor<Kind, N> {
     ghost Value = { List ℕ };
 
     ghost view = { λ d. d.bytes };
 }
 
-impl Aml for Memory32Fixed {
+impl<Kind, const N: usize> Aml for Descriptor<Kind, N> {
     ghost object = { λ d. whole d };
 
     ghost ends_well = { λ d. whole_ends_well d };
@@ -34,90 +36,70 @@ impl Aml for Memory32Fixed {
     }
 }
 
-impl Memory32Fixed {
+impl<Kind, const N: usize> Descriptor<Kind, N> {
+    fn of(fields: &[Field]) -> Descriptor<Kind, N>
+        requires { length (fields_bytes fields.now) ≡ N }
+        ensures { result ≡ fields_bytes fields.now }
+    {
+        Descriptor {
+            bytes: record(fields),
+            kind: PhantomData,
+        }
+    }
+}
+
+/// A range of memory at a fixed address (ACPI 6.5, 6.4.3.4, 32-Bit Fixed Memory Range Descriptor).
+pub type Memory32Fixed = Descriptor<Memory32Kind, 12>;
+
+/// The kind of `Memory32Fixed`.
+pub struct Memory32Kind;
+
+impl Descriptor<Memory32Kind, 12> {
     /// The flag of what may be written too, at offset 3 of the descriptor; the first address at 4, and the size in bytes
     /// at 8.
-    pub fn new(read_write: bool, base: u32, length: u32) -> Memory32Fixed
+    pub fn new(read_write: bool, base: u32, length: u32) -> Descriptor<Memory32Kind, 12>
         ensures { result ≡ fixed_bytes read_write base length }
     {
-        Memory32Fixed {
-            bytes: record(&[
-                Row::Byte(0x86),
-                Row::Word(9),
-                Row::Byte(bit(read_write, 1)),
-                Row::DWord(base),
-                Row::DWord(length),
-            ]),
-        }
+        Descriptor::of(&[
+            Field::Byte(0x86),
+            Field::Word(9),
+            Field::Byte(bit(read_write, 1)),
+            Field::DWord(base),
+            Field::DWord(length),
+        ])
     }
 }
 
 /// A range of ports (ACPI 6.5, 6.4.2.5, I/O Port Descriptor).
-#[derive(Drop)]
-pub struct IO {
-    bytes: [u8; 8],
-}
+pub type IO = Descriptor<PortsKind, 8>;
 
-impl Model for IO {
-    ghost Value = { List ℕ };
+/// The kind of `IO`.
+pub struct PortsKind;
 
-    ghost view = { λ d. d.bytes };
-}
-
-impl Aml for IO {
-    ghost object = { λ d. whole d };
-
-    ghost ends_well = { λ d. whole_ends_well d };
-
-    #[tactic(auto, using(acpi_base::proofs::Objects::refused_by_sink))]
-    fn to_aml_bytes(&self, sink: &mut dyn AmlSink) -> R<()> {
-        sink.vec(&self.bytes)
-    }
-}
-
-impl IO {
+impl Descriptor<PortsKind, 8> {
     /// Ports that decode 16 bits: the least and the greatest first port, at offsets 2 and 4 of the descriptor, the step
     /// between these at 6, and the number of ports at 7.
-    pub fn new(min: u16, max: u16, alignment: u8, length: u8) -> IO
+    pub fn new(min: u16, max: u16, alignment: u8, length: u8) -> Descriptor<PortsKind, 8>
         ensures { result ≡ port_bytes min max alignment length }
     {
-        IO {
-            bytes: record(&[
-                Row::Byte(0x47),
-                Row::Byte(1),
-                Row::Word(min),
-                Row::Word(max),
-                Row::Byte(alignment),
-                Row::Byte(length),
-            ]),
-        }
+        Descriptor::of(&[
+            Field::Byte(0x47),
+            Field::Byte(1),
+            Field::Word(min),
+            Field::Word(max),
+            Field::Byte(alignment),
+            Field::Byte(length),
+        ])
     }
 }
 
 /// One interrupt (ACPI 6.5, 6.4.3.6, Extended Interrupt Descriptor).
-#[derive(Drop)]
-pub struct Interrupt {
-    bytes: [u8; 9],
-}
+pub type Interrupt = Descriptor<InterruptKind, 9>;
 
-impl Model for Interrupt {
-    ghost Value = { List ℕ };
+/// The kind of `Interrupt`.
+pub struct InterruptKind;
 
-    ghost view = { λ d. d.bytes };
-}
-
-impl Aml for Interrupt {
-    ghost object = { λ d. whole d };
-
-    ghost ends_well = { λ d. whole_ends_well d };
-
-    #[tactic(auto, using(acpi_base::proofs::Objects::refused_by_sink))]
-    fn to_aml_bytes(&self, sink: &mut dyn AmlSink) -> R<()> {
-        sink.vec(&self.bytes)
-    }
-}
-
-impl Interrupt {
+impl Descriptor<InterruptKind, 9> {
     /// The flags stand at offset 3 of the descriptor, from bit 0 on in the order of the arguments; the interrupt's number
     /// at 5.
     pub fn new(
@@ -126,53 +108,36 @@ impl Interrupt {
         active_low: bool,
         shared: bool,
         number: u32,
-    ) -> Interrupt
+    ) -> Descriptor<InterruptKind, 9>
         ensures { result ≡ interrupt_bytes (interrupt_flags consumer edge_triggered active_low shared) number }
     {
         let flags = bit(consumer, 1) + bit(edge_triggered, 2) + bit(active_low, 4) + bit(shared, 8);
-        Interrupt {
-            bytes: record(&[
-                Row::Byte(0x89),
-                Row::Word(6),
-                Row::Byte(flags),
-                Row::Byte(1),
-                Row::DWord(number),
-            ]),
-        }
+        Descriptor::of(&[
+            Field::Byte(0x89),
+            Field::Word(6),
+            Field::Byte(flags),
+            Field::Byte(1),
+            Field::DWord(number),
+        ])
     }
 }
 
 /// A register by its address (ACPI 6.5, 6.4.3.7, Generic Register Descriptor).
-#[derive(Drop)]
-pub struct Register {
-    bytes: [u8; 15],
-}
+pub type Register = Descriptor<RegisterKind, 15>;
 
-impl Model for Register {
-    ghost Value = { List ℕ };
+/// The kind of `Register`.
+pub struct RegisterKind;
 
-    ghost view = { λ d. d.bytes };
-}
-
-impl Aml for Register {
-    ghost object = { λ d. whole d };
-
-    ghost ends_well = { λ d. whole_ends_well d };
-
-    #[tactic(auto, using(acpi_base::proofs::Objects::refused_by_sink))]
-    fn to_aml_bytes(&self, sink: &mut dyn AmlSink) -> R<()> {
-        sink.vec(&self.bytes)
-    }
-}
-
-impl Register {
+impl Descriptor<RegisterKind, 15> {
     /// The address stands at offset 3 of the descriptor.
-    pub fn new(reg: GAS) -> Register
+    pub fn new(reg: GAS) -> Descriptor<RegisterKind, 15>
         ensures { result ≡ register_bytes reg }
     {
-        Register {
-            bytes: record(&[Row::Byte(0x82), Row::Word(12), Row::Bytes(&reg.bytes())]),
-        }
+        Descriptor::of(&[
+            Field::Byte(0x82),
+            Field::Word(12),
+            Field::Bytes(&reg.bytes()),
+        ])
     }
 }
 

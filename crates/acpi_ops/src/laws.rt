@@ -1,29 +1,84 @@
-//! Laws over the definitions that the contracts cite. Each function is a law: it does nothing, and ensures it. What the
-//! other operators mean is the law of rows, `acpi_term::laws::rows_mean`.
+//! Laws over the definitions that the contracts cite. Each function is a law: it does nothing, and ensures it.
 
-ghost use Rattle.acpi_ops.specs.Laws.{OppositesMean, SplitsInOneWay, DescriptorsAreItems, TemplatesSplit, DescriptorsAreBytes};
+ghost use Rattle.std.specs.Prelude.{List, [], ◌∷◌};
+ghost use Rattle.acpi_base.specs.Object.{Object};
+ghost use Rattle.acpi_ops.specs.Laws.{OperatorMeans, NegationMeans, SplitsInOneWay, DescriptorsAreItems, TemplatesSplit, DescriptorsAreBytes};
+ghost use Rattle.acpi_term.specs.declared.op.Op.TheVariants as ops;
 
-/// The opposite of a comparison spells the negation of the comparison of its operands.
-pub fn opposites_mean()
-    ensures { OppositesMean }
+use crate::operator::Operator;
+
+// ---- operators: over operands that spell terms, in the order that each shape writes, the term of the operator
+
+/// One operand: `Increment`, `Return` and their like.
+#[tactic(auto, using(crate::proofs::Meanings::operator_means))]
+pub fn single_means<O: Operator<1>>()
+    ensures { (a : Object) → OperatorMeans O.OPERATOR (a ∷ []) }
 {}
 
+/// Two operands: the comparisons, `LAnd`, `LOr` and `Notify`.
+#[tactic(auto, using(crate::proofs::Meanings::operator_means))]
+pub fn pair_means<O: Operator<2>>()
+    ensures { (left right : Object) → OperatorMeans O.OPERATOR (left ∷ right ∷ []) }
+{}
+
+/// An operand and a target: `Store`, `ToBuffer` and `ToInteger`.
+#[tactic(auto, using(crate::proofs::Meanings::operator_means))]
+pub fn put_means<O: Operator<2>>()
+    ensures { (target a : Object) → OperatorMeans O.OPERATOR (a ∷ target ∷ []) }
+{}
+
+/// Two operands and a target: `Add` and its like.
+#[tactic(auto, using(crate::proofs::Meanings::operator_means))]
+pub fn targeted_means<O: Operator<3>>()
+    ensures { (target a b : Object) → OperatorMeans O.OPERATOR (a ∷ b ∷ target ∷ []) }
+{}
+
+/// `Mid`.
+#[tactic(auto, using(crate::proofs::Meanings::operator_means))]
+pub fn part_means<O: Operator<4>>()
+    ensures { (source index size result_to : Object) → OperatorMeans O.OPERATOR (source ∷ index ∷ size ∷ result_to ∷ []) }
+{}
+
+/// `CreateField`.
+#[tactic(auto, using(crate::proofs::Meanings::operator_means))]
+pub fn bits_mean<O: Operator<4>>()
+    ensures { (name source bit_index bit_num : Object) → OperatorMeans O.OPERATOR (source ∷ bit_index ∷ bit_num ∷ name ∷ []) }
+{}
+
+/// `Break`, which has none.
+#[tactic(auto, using(crate::proofs::Meanings::operator_means))]
+pub fn break_means()
+    ensures { OperatorMeans ops.Break [] }
+{}
+
+/// The opposites of comparisons: the negation of the comparison's term.
+#[tactic(auto, using(crate::proofs::Meanings::negation_means))]
+pub fn negation_means<O: Operator<2>>()
+    ensures { (left right : Object) → NegationMeans O.OPERATOR (left ∷ right ∷ []) }
+{}
+
+// ---- resource descriptors
+
 /// Bytes split into resource items by their tags in one way at most.
+#[tactic(auto, using(crate::proofs::Items::splits_in_one_way))]
 pub fn items_split_in_one_way()
     ensures { SplitsInOneWay }
 {}
 
 /// Each descriptor that is written is one resource item.
+#[tactic(auto, using(crate::proofs::Items::descriptors_are_items))]
 pub fn descriptors_are_items()
     ensures { DescriptorsAreItems }
 {}
 
-/// What a resource template of items holds splits into these and the end tag.
+/// What a resource template holds splits into its descriptors, each an item, and the end tag (ACPI 6.5, 6.4).
+#[tactic(auto, using(crate::proofs::Templates::templates_split))]
 pub fn templates_split()
     ensures { TemplatesSplit }
 {}
 
 /// Each descriptor is bytes.
+#[tactic(auto, using(crate::proofs::Bytes::descriptors_are_bytes))]
 pub fn descriptors_are_bytes()
     ensures { DescriptorsAreBytes }
 {}

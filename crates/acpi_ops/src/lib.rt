@@ -8,5 +8,5 @@ pub mod comparison;
 pub mod descriptor;
 pub mod laws;
 pub mod objects;
-pub mod opposite;
+pub mod operator;
 pub mod statement;

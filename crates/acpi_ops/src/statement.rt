@@ -1,220 +1,99 @@
 //! Statements and fields of buffers.
 
-ghost use Rattle.std.specs.Prelude.{ℕ, List, [], ◌∷◌};
-ghost use Rattle.acpi_base.specs.Object.{whole, whole_ends_well, Builds};
-ghost use Rattle.acpi_term.specs.Tree.{op};
+ghost use Rattle.std.specs.Prelude.{[], ◌∷◌, refl};
+ghost use Rattle.acpi_base.specs.Object.{whole_ends_well};
 ghost use Rattle.acpi_term.specs.declared.op.Op.TheVariants as ops;
+ghost use Rattle.acpi_term.specs.Tree.{op};
 ghost use Rattle.acpi_term.specs.Row.{row};
 
+use crate::operator::{Bits, Operation, Operator, Pair, Put, Single, Targeted};
 use acpi_base::error::R;
 use acpi_base::object::Aml;
 use acpi_base::sink::AmlSink;
-use acpi_term::row::bare;
-use std::alloc::Global;
-use std::marker::Model;
+use acpi_term::op::Op;
 
-/// Puts a value under a name (ACPI 6.5, 20.2.5.4).
-#[derive(Drop)]
-pub struct Store {
-    bytes: Vec<u8>,
+/// Puts a value under a name, which is the first argument (ACPI 6.5, 20.2.5.4).
+pub type Store = Operation<Put, StoreOp>;
+
+/// The operator of `Store`.
+pub struct StoreOp;
+
+impl Operator<2> for StoreOp {
+    ghost OPERATOR = { ops.Store };
+
+    const OPERATOR: Op = Op::Store;
+
+    ghost takes = { refl };
 }
 
-impl Model for Store {
-    ghost Value = { List ℕ };
+/// Tells a device's driver of an event: the device, and a value (ACPI 6.5, 20.2.5.3).
+pub type Notify = Operation<Pair, NotifyOp>;
 
-    ghost view = { λ o. o.bytes.items };
-}
+/// The operator of `Notify`.
+pub struct NotifyOp;
 
-impl Aml for Store {
-    ghost object = { λ o. whole o };
+impl Operator<2> for NotifyOp {
+    ghost OPERATOR = { ops.Notify };
 
-    ghost ends_well = { λ o. whole_ends_well o };
+    const OPERATOR: Op = Op::Notify;
 
-    #[tactic(auto, using(acpi_base::proofs::Objects::refused_by_sink))]
-    fn to_aml_bytes(&self, sink: &mut dyn AmlSink) -> R<()> {
-        sink.vec(&self.bytes)
-    }
-}
-
-impl Store {
-    /// Written in the order `value` and `name`. The first refusal in that order.
-    pub fn new(alloc: Global, name: &dyn Aml, value: &dyn Aml) -> R<Store>
-        ensures { Builds result (row (op ops.Store) (object value.now ∷ object name.now ∷ [])) }
-    {
-        let bytes = bare(alloc, &[0x70], &[value, name])?;
-        Ok(Store { bytes })
-    }
-}
-
-/// Tells a device's driver of an event (ACPI 6.5, 20.2.5.3).
-#[derive(Drop)]
-pub struct Notify {
-    bytes: Vec<u8>,
-}
-
-impl Model for Notify {
-    ghost Value = { List ℕ };
-
-    ghost view = { λ o. o.bytes.items };
-}
-
-impl Aml for Notify {
-    ghost object = { λ o. whole o };
-
-    ghost ends_well = { λ o. whole_ends_well o };
-
-    #[tactic(auto, using(acpi_base::proofs::Objects::refused_by_sink))]
-    fn to_aml_bytes(&self, sink: &mut dyn AmlSink) -> R<()> {
-        sink.vec(&self.bytes)
-    }
-}
-
-impl Notify {
-    /// Written in the order `device` and `value`. The first refusal in that order.
-    pub fn new(alloc: Global, device: &dyn Aml, value: &dyn Aml) -> R<Notify>
-        ensures { Builds result (row (op ops.Notify) (object device.now ∷ object value.now ∷ [])) }
-    {
-        let bytes = bare(alloc, &[0x86], &[device, value])?;
-        Ok(Notify { bytes })
-    }
+    ghost takes = { refl };
 }
 
 /// Ends a method with a value (ACPI 6.5, 20.2.5.3).
-#[derive(Drop)]
-pub struct Return {
-    bytes: Vec<u8>,
+pub type Return = Operation<Single, ReturnOp>;
+
+/// The operator of `Return`.
+pub struct ReturnOp;
+
+impl Operator<1> for ReturnOp {
+    ghost OPERATOR = { ops.Return };
+
+    const OPERATOR: Op = Op::Return;
+
+    ghost takes = { refl };
 }
 
-impl Model for Return {
-    ghost Value = { List ℕ };
+/// A field of 32 bits in a buffer: its name, the buffer, and its first byte (ACPI 6.5, 20.2.5.2).
+pub type CreateDWordField = Operation<Targeted, CreateDWordFieldOp>;
 
-    ghost view = { λ o. o.bytes.items };
+/// The operator of `CreateDWordField`.
+pub struct CreateDWordFieldOp;
+
+impl Operator<3> for CreateDWordFieldOp {
+    ghost OPERATOR = { ops.CreateDWordField };
+
+    const OPERATOR: Op = Op::CreateDWordField;
+
+    ghost takes = { refl };
 }
 
-impl Aml for Return {
-    ghost object = { λ o. whole o };
+/// A field of 64 bits in a buffer: its name, the buffer, and its first byte (ACPI 6.5, 20.2.5.2).
+pub type CreateQWordField = Operation<Targeted, CreateQWordFieldOp>;
 
-    ghost ends_well = { λ o. whole_ends_well o };
+/// The operator of `CreateQWordField`.
+pub struct CreateQWordFieldOp;
 
-    #[tactic(auto, using(acpi_base::proofs::Objects::refused_by_sink))]
-    fn to_aml_bytes(&self, sink: &mut dyn AmlSink) -> R<()> {
-        sink.vec(&self.bytes)
-    }
-}
+impl Operator<3> for CreateQWordFieldOp {
+    ghost OPERATOR = { ops.CreateQWordField };
 
-impl Return {
-    /// The operand is lent for the call. Its refusal.
-    pub fn new(alloc: Global, a: &dyn Aml) -> R<Return>
-        ensures { Builds result (row (op ops.Return) (object a.now ∷ [])) }
-    {
-        let bytes = bare(alloc, &[0xa4], &[a])?;
-        Ok(Return { bytes })
-    }
-}
+    const OPERATOR: Op = Op::CreateQWordField;
 
-/// A field of 32 bits in a buffer (ACPI 6.5, 20.2.5.2).
-#[derive(Drop)]
-pub struct CreateDWordField {
-    bytes: Vec<u8>,
-}
-
-impl Model for CreateDWordField {
-    ghost Value = { List ℕ };
-
-    ghost view = { λ o. o.bytes.items };
-}
-
-impl Aml for CreateDWordField {
-    ghost object = { λ o. whole o };
-
-    ghost ends_well = { λ o. whole_ends_well o };
-
-    #[tactic(auto, using(acpi_base::proofs::Objects::refused_by_sink))]
-    fn to_aml_bytes(&self, sink: &mut dyn AmlSink) -> R<()> {
-        sink.vec(&self.bytes)
-    }
-}
-
-impl CreateDWordField {
-    /// Written in the order `a`, `b` and `target`. The first refusal in that order.
-    pub fn new(alloc: Global, target: &dyn Aml, a: &dyn Aml, b: &dyn Aml) -> R<CreateDWordField>
-        ensures { Builds result (row (op ops.CreateDWordField) (object a.now ∷ object b.now ∷ object target.now ∷ [])) }
-    {
-        let bytes = bare(alloc, &[0x8a], &[a, b, target])?;
-        Ok(CreateDWordField { bytes })
-    }
-}
-
-/// A field of 64 bits in a buffer (ACPI 6.5, 20.2.5.2).
-#[derive(Drop)]
-pub struct CreateQWordField {
-    bytes: Vec<u8>,
-}
-
-impl Model for CreateQWordField {
-    ghost Value = { List ℕ };
-
-    ghost view = { λ o. o.bytes.items };
-}
-
-impl Aml for CreateQWordField {
-    ghost object = { λ o. whole o };
-
-    ghost ends_well = { λ o. whole_ends_well o };
-
-    #[tactic(auto, using(acpi_base::proofs::Objects::refused_by_sink))]
-    fn to_aml_bytes(&self, sink: &mut dyn AmlSink) -> R<()> {
-        sink.vec(&self.bytes)
-    }
-}
-
-impl CreateQWordField {
-    /// Written in the order `a`, `b` and `target`. The first refusal in that order.
-    pub fn new(alloc: Global, target: &dyn Aml, a: &dyn Aml, b: &dyn Aml) -> R<CreateQWordField>
-        ensures { Builds result (row (op ops.CreateQWordField) (object a.now ∷ object b.now ∷ object target.now ∷ [])) }
-    {
-        let bytes = bare(alloc, &[0x8f], &[a, b, target])?;
-        Ok(CreateQWordField { bytes })
-    }
+    ghost takes = { refl };
 }
 
 /// A field of any bits in a buffer (ACPI 6.5, 20.2.5.2).
-#[derive(Drop)]
-pub struct CreateField {
-    bytes: Vec<u8>,
-}
+pub type CreateField = Operation<Bits, CreateFieldOp>;
 
-impl Model for CreateField {
-    ghost Value = { List ℕ };
+/// The operator of `CreateField`.
+pub struct CreateFieldOp;
 
-    ghost view = { λ o. o.bytes.items };
-}
+impl Operator<4> for CreateFieldOp {
+    ghost OPERATOR = { ops.CreateField };
 
-impl Aml for CreateField {
-    ghost object = { λ o. whole o };
+    const OPERATOR: Op = Op::CreateField;
 
-    ghost ends_well = { λ o. whole_ends_well o };
-
-    #[tactic(auto, using(acpi_base::proofs::Objects::refused_by_sink))]
-    fn to_aml_bytes(&self, sink: &mut dyn AmlSink) -> R<()> {
-        sink.vec(&self.bytes)
-    }
-}
-
-impl CreateField {
-    /// Written in the order `source`, `bit_index`, `bit_num` and `name`. The first refusal in that order.
-    pub fn new(
-        alloc: Global,
-        name: &dyn Aml,
-        source: &dyn Aml,
-        bit_index: &dyn Aml,
-        bit_num: &dyn Aml,
-    ) -> R<CreateField>
-        ensures { Builds result (row (op ops.CreateField) (object source.now ∷ object bit_index.now ∷ object bit_num.now ∷ object name.now ∷ [])) }
-    {
-        let bytes = bare(alloc, &[0x5b, 0x13], &[source, bit_index, bit_num, name])?;
-        Ok(CreateField { bytes })
-    }
+    ghost takes = { refl };
 }
 
 /// Ends the innermost loop (ACPI 6.5, 20.2.5.3).
@@ -231,7 +110,7 @@ impl Break {
 impl Aml for Break {
     ghost object = { λ _. row (op ops.Break) [] };
 
-    ghost ends_well = { λ _. whole_ends_well (165 ∷ []) };
+    ghost ends_well = { λ _. whole_ends_well (0xa5 ∷ []) };
 
     fn to_aml_bytes(&self, sink: &mut dyn AmlSink) -> R<()> {
         sink.byte(0xa5)

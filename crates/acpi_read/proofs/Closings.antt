@@ -9,15 +9,15 @@ use Rattle.acpi_term.specs.declared.read_error.ReadError.{ReadError}
 use Rattle.acpi_term.specs.declared.mode.Mode.TheVariants.{Term}
 use Rattle.acpi_term.specs.Tree.{Head, Terms, term, count}
 use Rattle.acpi_term.specs.Spelling.{inner, next}
-use Rattle.acpi_term.proofs.Reading.{Fault, Bad, ◌>>=◌, Opened, fills, open_at, Reader, least_of, all_of, assembled, close, term_at}
+use Rattle.acpi_term.specs.Reading.{Fault, Bad, ◌>>=◌, Opened, fills, open_at, Reader, least_of, all_of, assembled, close, term_at}
 use Rattle.acpi_term.proofs.Again.{all_more}
 use Rattle.acpi_term.proofs.Taken.{Found, term_shrinks}
-use Rattle.acpi_read.specs.declared.terms.open.Frame.{Frame}
-use Rattle.acpi_read.specs.declared.terms.open.Frame.TheVariants as frames
-use Rattle.acpi_read.specs.declared.terms.open.Lead.{Lead}
-use Rattle.acpi_read.specs.declared.terms.open.Lead.TheVariants as leads
+use Rattle.acpi_read.specs.declared.terms.open.Block.{Block}
+use Rattle.acpi_read.specs.declared.terms.open.Block.TheVariants as blocks
+use Rattle.acpi_read.specs.declared.terms.open.FirstAndBlock.{FirstAndBlock}
+use Rattle.acpi_read.specs.declared.terms.open.FirstAndBlock.TheVariants as firsts
 use Rattle.acpi_read.specs.Cause.{FailsBy, Answers}
-use Rattle.acpi_read.specs.Opened.{head_of, width_of, lead_head, lead_width}
+use Rattle.acpi_read.specs.TermStart.{block_head, block_width, first_head, first_width}
 
 -- ---- one term
 
@@ -45,34 +45,34 @@ enough : (h : Head) (w : ℕ) (c : Terms) (after : List ℕ) → least_of h ≤ 
 unfolding assembled
 enough h w c after le = let long : ltb (count c) (least_of h) ≡ false = le-ltb (count c) (least_of h) le in rw long refl
 
-frame_least : (f : Frame) → least_of (head_of f) ≡ 0
-frame_least (frames.Scope w name) = refl
-frame_least (frames.Device w name) = refl
-frame_least (frames.Method w name args serialized) = refl
-frame_least (frames.PowerResource w name level order) = refl
-frame_least (frames.Else w) = refl
+block_least : (f : Block) → least_of (block_head f) ≡ 0
+block_least (blocks.Scope w name) = refl
+block_least (blocks.Device w name) = refl
+block_least (blocks.Method w name args serialized) = refl
+block_least (blocks.PowerResource w name level order) = refl
+block_least (blocks.Else w) = refl
 
-frame_mode : (f : Frame) → inner (head_of f) ≡ Term
-frame_mode (frames.Scope w name) = refl
-frame_mode (frames.Device w name) = refl
-frame_mode (frames.Method w name args serialized) = refl
-frame_mode (frames.PowerResource w name level order) = refl
-frame_mode (frames.Else w) = refl
+block_mode : (f : Block) → inner (block_head f) ≡ Term
+block_mode (blocks.Scope w name) = refl
+block_mode (blocks.Device w name) = refl
+block_mode (blocks.Method w name args serialized) = refl
+block_mode (blocks.PowerResource w name level order) = refl
+block_mode (blocks.Else w) = refl
 
-lead_least : (f : Lead) → least_of (lead_head f) ≡ 1
-lead_least (leads.VarPackage w) = refl
-lead_least (leads.If w) = refl
-lead_least (leads.While w) = refl
+first_least : (f : FirstAndBlock) → least_of (first_head f) ≡ 1
+first_least (firsts.VarPackage w) = refl
+first_least (firsts.If w) = refl
+first_least (firsts.While w) = refl
 
-module _ (p : Reader) (f : Frame) (inside after : List ℕ) where
-  pub framed_is : (c : Terms) → all_of p (length inside) Term inside ≡ Ok c → close p (fills (head_of f) (width_of f) inside after) ≡ Ok (head_of f, width_of f, c, after)
+module _ (p : Reader) (f : Block) (inside after : List ℕ) where
+  pub block_is : (c : Terms) → all_of p (length inside) Term inside ≡ Ok c → close p (fills (block_head f) (block_width f) inside after) ≡ Ok (block_head f, block_width f, c, after)
   unfolding close
-  framed_is c read = rw (frame_mode f, read) (enough (head_of f) (width_of f) c after (omega (arith, frame_least f)))
+  block_is c read = rw (block_mode f, read) (enough (block_head f) (block_width f) c after (omega (arith, block_least f)))
 
-  pub framed_fails : (k : Option Fault) → FailsBy k (all_of p (length inside) Term inside) → FailsBy k (close p (fills (head_of f) (width_of f) inside after))
+  pub block_fails : (k : Option Fault) → FailsBy k (all_of p (length inside) Term inside) → FailsBy k (close p (fills (block_head f) (block_width f) inside after))
   unfolding close
-  framed_fails None h = tt
-  framed_fails (Some e) h = rw (frame_mode f, h) refl
+  block_fails None h = tt
+  block_fails (Some e) h = rw (block_mode f, h) refl
 
 -- ---- frames whose first child stands apart
 
@@ -98,31 +98,31 @@ module _ (arity : List ℕ → ℕ) (d : ℕ) where
   all_within (suc n) zero m (b ∷ bytes) fits le le' = absurd (omega arith)
   all_within (suc n) (suc k) m (b ∷ bytes) fits le le' = same_after n k m (b ∷ bytes) (term_at arity d m (b ∷ bytes)) fits le le' refl (λ rest. all_within n k (next m) rest)
 
-  module _ (f : Lead) (inside after : List ℕ) where
-    pub led_is_empty : length inside ≡ 0 → close (term_at arity d) (fills (lead_head f) (lead_width f) inside after) ≡ Err Bad
+  module _ (f : FirstAndBlock) (inside after : List ℕ) where
+    pub first_is_missing : length inside ≡ 0 → close (term_at arity d) (fills (first_head f) (first_width f) inside after) ≡ Err Bad
     unfolding close all_of assembled
-    led_is_empty none =
+    first_is_missing none =
         let is : inside ≡ [] = nil_from_length inside none in
-        rw (is, lead_least f) refl
+        rw (is, first_least f) refl
 
-    module _ (mode : Mode) (is : mode ≡ inner (lead_head f)) (some : 0 < length inside) where
-      pub first_fails : (k : Option Fault) → FailsBy k (term_at arity d mode inside) → FailsBy k (close (term_at arity d) (fills (lead_head f) (lead_width f) inside after))
+    module _ (mode : Mode) (is : mode ≡ inner (first_head f)) (some : 0 < length inside) where
+      pub first_fails : (k : Option Fault) → FailsBy k (term_at arity d mode inside) → FailsBy k (close (term_at arity d) (fills (first_head f) (first_width f) inside after))
       unfolding close
       first_fails None h = tt
       first_fails (Some e) h = rw (sym is, all_more (term_at arity d) (length inside) mode inside some (omega arith), h) refl
 
       module _ (h : Head) (w : ℕ) (c : Terms) (rest : List ℕ) (fits : AreBytes inside) (first : term_at arity d mode inside ≡ Ok (h, w, c, rest)) where
-        others_are : all_of (term_at arity d) (length inside) (inner (lead_head f)) inside ≡ others_of (length rest) mode (h, w, c, rest)
+        others_are : all_of (term_at arity d) (length inside) (inner (first_head f)) inside ≡ others_of (length rest) mode (h, w, c, rest)
         others_are =
             let s = term_shrinks arity d mode inside (h, w, c, rest) fits first in
             let shorter : length rest < length inside = s.less in
             rw (sym is, all_more (term_at arity d) (length inside) mode inside some (omega arith), first) (ap (λ (o : Result Terms Fault). o >>= λ others. Ok (term h w c others)) (all_within (length inside - 1) (length rest) (next mode) rest s.fits (omega (arith, shorter)) (omega arith)))
 
-        pub others_fail : (k : Option Fault) → FailsBy k (all_of (term_at arity d) (length rest) (next mode) rest) → FailsBy k (close (term_at arity d) (fills (lead_head f) (lead_width f) inside after))
+        pub others_fail : (k : Option Fault) → FailsBy k (all_of (term_at arity d) (length rest) (next mode) rest) → FailsBy k (close (term_at arity d) (fills (first_head f) (first_width f) inside after))
         unfolding close
         others_fail None e = tt
         others_fail (Some e) failed = rw (others_are, failed) refl
 
-        pub led_is : (others : Terms) → all_of (term_at arity d) (length rest) (next mode) rest ≡ Ok others → close (term_at arity d) (fills (lead_head f) (lead_width f) inside after) ≡ Ok (lead_head f, lead_width f, term h w c others, after)
+        pub first_is : (others : Terms) → all_of (term_at arity d) (length rest) (next mode) rest ≡ Ok others → close (term_at arity d) (fills (first_head f) (first_width f) inside after) ≡ Ok (first_head f, first_width f, term h w c others, after)
         unfolding close
-        led_is others read = rw (others_are, read) (enough (lead_head f) (lead_width f) (term h w c others) after (omega (arith, lead_least f)))
+        first_is others read = rw (others_are, read) (enough (first_head f) (first_width f) (term h w c others) after (omega (arith, first_least f)))

@@ -3,7 +3,7 @@ use Rattle.std.proofs.Common.{◌≡◌, ℕ, ◌-◌, ◌<◌, ◌≤◌, List,
 use Rattle.std.proofs.lemmas.List.{append-nil}
 use Rattle.acpi_base.specs.Bytes.{AreBytes}
 use Rattle.acpi_term.specs.Tree.{Entry}
-use Rattle.acpi_term.proofs.Reading.{Fault, ◌>>=◌, entry_at, entries_at}
+use Rattle.acpi_term.specs.Reading.{Fault, ◌>>=◌, entry_at, entries_at}
 use Rattle.acpi_term.proofs.Entries.{entry_takes, entries_step}
 use Rattle.acpi_read.specs.Cause.{FailsBy}
 

@@ -4,9 +4,10 @@ use Rattle.std.proofs.lemmas.Bool.{le-ltb}
 use Rattle.std.proofs.lemmas.List.{append-nil, take_at, drop_at, length-append}
 use Rattle.acpi_base.specs.Bytes.{AreBytes}
 use Rattle.acpi_term.specs.Name.{IsName}
-use Rattle.acpi_term.proofs.Reading.{Fault, ◌>>=◌, segment_at, segments_at, several_at, path_at, name_at}
+use Rattle.acpi_term.specs.Reading.{Fault, segment_at, segments_at, several_at, path_at, name_at}
 use Rattle.acpi_term.proofs.Names.{segment_takes, segments_takes, path_takes, name_takes, headed, two_parts, many_parts}
 use Rattle.acpi_read.specs.Cause.{FailsBy}
+use Rattle.acpi_read.proofs.After.{after_front, whole, regrouped}
 
 -- so many bytes can be cut off, and what a reading answers is these and the others
 pub record CutAt (n : ℕ) (bytes : List ℕ) (read : Result (List ℕ × List ℕ) Fault) : Type 0 where
@@ -21,28 +22,16 @@ cut_at_parts bytes s rest n read is len e =
 
 -- ---- several segments
 
--- what is read after a front that was read before
-abbrev pub after_front : List ℕ → Result (List ℕ × List ℕ) Fault → Result (List ℕ × List ℕ) Fault
-after_front front read = read >>= λ s. Ok (front ++ s.0, s.1)
-
 -- what was read of several segments, and what is still to be read
 pub record SegmentsRead (count i : ℕ) (bytes rest : List ℕ) : Type 0 where
   pub front : List ℕ
   pub parts : bytes ≡ front ++ rest
   pub is : segments_at count bytes ≡ after_front front (segments_at (count - i) rest)
 
-whole : (r : Result (List ℕ × List ℕ) Fault) → r ≡ after_front [] r
-whole (Ok x) = refl
-whole (Err e) = refl
-
 pub segments_begin : (count : ℕ) (bytes : List ℕ) → SegmentsRead count 0 bytes bytes
 segments_begin count bytes =
     let n : count - 0 ≡ count = omega arith in
     record { front = []; parts = refl; is = rw n (whole (segments_at count bytes)) }
-
-regrouped : (front s : List ℕ) (r : Result (List ℕ × List ℕ) Fault) → after_front front (after_front s r) ≡ after_front (front ++ s) r
-regrouped front s (Ok t) = ap (λ (l : List ℕ). Ok (l, t.1)) (sym (append_assoc front s t.0))
-regrouped front s (Err e) = refl
 
 pub segments_go_on : (count i : ℕ) (bytes rest s after : List ℕ) → i < count → SegmentsRead count i bytes rest → segment_at rest ≡ Ok (s, after) → SegmentsRead count (i + 1) bytes after
 unfolding segments_at

@@ -1,3 +1,4 @@
+mod After
 pub mod Fronts
 pub mod Numbers
 pub mod EntryLists
@@ -6,8 +7,7 @@ pub mod Within
 pub mod TermLists
 pub mod Closings
 pub mod Refusals
-pub mod Written
-pub mod Told
+pub mod Texts
 pub mod Dotted
 pub mod Lines
 pub mod Sizes

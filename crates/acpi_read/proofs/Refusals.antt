@@ -8,11 +8,11 @@ use Rattle.acpi_term.specs.declared.read_error.ReadError.{ReadError}
 use Rattle.acpi_term.specs.declared.read_error.ReadError.TheVariants as errors
 use Rattle.acpi_term.specs.Tree.{Terms, depth}
 use Rattle.acpi_term.specs.Spelling.{Spells}
-use Rattle.acpi_term.proofs.Reading.{Fault, Deep, Bad, all_of, term_at}
+use Rattle.acpi_term.specs.Reading.{Fault, Deep, Bad, all_of, term_at}
 use Rattle.acpi_term.proofs.Steps.{chosen}
 use Rattle.acpi_term.proofs.Taken.{list_takes}
 use Rattle.acpi_term.proofs.Unique.{reads, one_list}
-use Rattle.acpi_read.specs.Cause.{Answers, IsTold}
+use Rattle.acpi_read.specs.Cause.{Answers, IsPlaced}
 use Rattle.acpi_read.specs.Terms.{AreRead, AreTooDeep, AreRefused, IsUnread}
 
 module _ (arity : List ℕ → ℕ) (bytes : List ℕ) where
@@ -43,7 +43,7 @@ module _ (arity : List ℕ → ℕ) (bytes : List ℕ) where
     ];
   }
 
-  unread : {X : Type 0} (view : X → Terms) (e : ReadError) → Answers view (Err e) read → IsTold (length bytes) e → IsUnread arity bytes e
+  unread : {X : Type 0} (view : X → Terms) (e : ReadError) → Answers view (Err e) read → IsPlaced (length bytes) e → IsUnread arity bytes e
   unread view errors.Memory given told = tt
   unread view (errors.Truncated offset) given told = refused offset told given
   unread view (errors.Opcode offset) given told = refused offset told given
@@ -61,7 +61,7 @@ module _ (arity : List ℕ → ℕ) (bytes : List ℕ) where
   unread view (errors.Structure offset) given told = told
   unread view (errors.UnknownSource offset) given told = told
 
-  pub is_unread : {X : Type 0} (view : X → Terms) (r : Result X ReadError) → Answers view r read → IfErr r (IsTold (length bytes)) → IfErr r (IsUnread arity bytes)
+  pub is_unread : {X : Type 0} (view : X → Terms) (r : Result X ReadError) → Answers view r read → IfErr r (IsPlaced (length bytes)) → IfErr r (IsUnread arity bytes)
   is_unread view (Ok x) given told = tt
   is_unread view (Err e) given told = unread view e given told
 

@@ -1,6 +1,5 @@
 -- Sizes of spellings.
-use Rattle.std.proofs.Common.{◌≡◌, ℕ, zero, suc, ◌+◌, ◌^◌, ◌/◌, ◌<◌, ◌≤◌, max, List, [], ◌∷◌, ◌++◌, length, drop, get_or, eqb, false, refl, sym, ap, ◌∙◌, arith}
-use Rattle.std.specs.Prelude.{Option, Some, None}
+use Rattle.std.proofs.Common.{◌≡◌, ℕ, zero, suc, ◌+◌, ◌^◌, ◌/◌, ◌<◌, ◌≤◌, max, List, [], ◌∷◌, ◌++◌, length, drop, get_or, slice_set, eqb, false, refl, sym, ap, ◌∙◌, append_assoc, arith}
 use Rattle.std.proofs.lemmas.List.{append-nil, length-append}
 use Rattle.std.proofs.lemmas.Bool.{ne_eqb}
 use Rattle.acpi_base.specs.Bytes.{le}
@@ -8,14 +7,13 @@ use Rattle.acpi_base.specs.Number.{number_bytes}
 use Rattle.acpi_term.proofs.Bytes.{length_le}
 use Rattle.acpi_term.proofs.Lengths.{length_long}
 use Rattle.acpi_term.specs.declared.term.Term.{Term}
-use Rattle.acpi_term.specs.Carried.{single}
-use Rattle.acpi_term.specs.Length.{length_bytes, framed}
-use Rattle.acpi_term.specs.Row.{Layout, bare, boxed, tailed}
+use Rattle.acpi_term.specs.Length.{length_bytes, with_length}
+use Rattle.acpi_term.specs.Row.{Layout, bare, framed, layout}
 use Rattle.acpi_term.specs.Spelling.{laid, spelling}
-use Rattle.acpi_term.specs.Tree.{Terms, term}
-use Rattle.acpi_term.specs.View.{Parts, view, views}
-use Rattle.acpi_read.specs.Size.{capped, own_size, frame_of, parts_layout}
-use Rattle.acpi_read.proofs.Told.{dropped, past}
+use Rattle.acpi_term.specs.Tree.{Head, Terms, count}
+use Rattle.acpi_term.specs.View.{view, views, single, IsApart}
+use Rattle.acpi_read.specs.Size.{capped, own_size, frame_size, content_size, content_sizes, AreSized}
+use Rattle.acpi_read.proofs.Texts.{dropped, past}
 
 -- ---- widths
 
@@ -67,49 +65,76 @@ size_after s t = length-append s t
 pub size_order : (order : ℕ) → length (le 2 order) ≡ 2
 size_order order = length_le 2 order
 
-pub own_by : (p q : Parts) (n : ℕ) → p ≡ q → n ≡ capped (own_size (parts_layout q)) → n ≡ capped (own_size (parts_layout p))
-own_by p q n same is = is ∙ ap (λ (x : Parts). capped (own_size (parts_layout x))) (sym same)
-
 -- ---- a term over its children
 
-laid_bare : (l : Layout) (w : ℕ) (inside : List ℕ) → None ≡ frame_of l w → length (laid l w inside) ≡ own_size l + length inside
-laid_bare (bare before) w inside is = length-append before inside
-laid_bare (boxed code before) w inside is = absurd (cc)
-laid_bare (tailed code after) w inside is = absurd (cc)
-
-length_framed : (code content : List ℕ) (w : ℕ) → length (code ++ framed w content) ≡ length content + (length code + max w 1)
-length_framed code content w =
+laid_size : (l : Layout) (w : ℕ) (inside : List ℕ) → length (laid l w inside) ≡ (own_size l + length inside) + frame_size l w
+laid_size (bare before) w inside = omega (arith, length-append before inside)
+laid_size (framed code before after) w inside =
+    let content = before ++ (inside ++ after) in
     let v = w + length content in
-    omega (arith, length-append code (framed w content), length-append (length_bytes w v) content, length_length w v)
+    omega (arith, length-append code (with_length w content), length-append (length_bytes w v) content, length_length w v, length-append before (inside ++ after), length-append inside after)
 
-pub pair_is : (k v a b : ℕ) → ◌≡◌ {A = Option (ℕ × ℕ)} (Some (k, v)) (Some (a, b)) → (k ≡ a) × (v ≡ b)
-pair_is k v a b is = let p : ℕ × ℕ = (k, v) in let q : ℕ × ℕ = (a, b) in let e : p ≡ q = cc in (ap (λ (p : ℕ × ℕ). p.0) e, ap (λ (p : ℕ × ℕ). p.1) e)
+-- a term and others
+pub spelling_step : (t : Term) (ts : List Term) → spelling (views (t ∷ ts)) ≡ spelling (single (view t)) ++ spelling (views ts)
+spelling_step t ts = ap (λ (l : List ℕ). l ++ spelling (views ts)) (sym (append-nil (laid (layout (view t).0 (view t).1 (count (view t).2)) (view t).1 (spelling (view t).2))))
 
-laid_framed : (l : Layout) (w k v : ℕ) (inside : List ℕ) → Some (k, v) ≡ frame_of l w → length (laid l w inside) ≡ (own_size l + length inside) + (k + max v 1)
-laid_framed (bare before) w k v inside is = absurd (cc)
-laid_framed (boxed code before) w k v inside is =
-    let e = pair_is k v (length code) w is in
-    rw (e.0, e.1) (omega (arith, length_framed code (before ++ inside) w, length-append before inside))
-laid_framed (tailed code after) w k v inside is =
-    let e = pair_is k v (length code) w is in
-    rw (e.0, e.1) (omega (arith, length_framed code (inside ++ after) w, length-append inside after))
+pub sizes_step : (t : Term) (ts : List Term) → content_sizes (views (t ∷ ts)) ≡ content_sizes (single (view t)) ++ content_sizes (views ts)
+sizes_step t ts =
+    let here = capped (content_size (view t).0 (view t).1 (view t).2) in
+    ap (λ (l : List ℕ). here ∷ (l ++ content_sizes (views ts))) (sym (append-nil (content_sizes (view t).2)))
 
--- a term alone
-alone : (p : Parts) → length (spelling (single p)) ≡ length (laid (parts_layout p) p.1 (spelling p.2))
-alone p = ap length (append-nil (laid (parts_layout p) p.1 (spelling p.2)))
+-- terms in two lists
+spelling_both : (a b : List Term) → spelling (views (a ++ b)) ≡ spelling (views a) ++ spelling (views b)
+spelling_both [] b = refl
+spelling_both (t ∷ a) b =
+    let here = laid (layout (view t).0 (view t).1 (count (view t).2)) (view t).1 (spelling (view t).2) in
+    ap (λ (l : List ℕ). here ++ l) (spelling_both a b) ∙ sym (append_assoc here (spelling (views a)) (spelling (views b)))
 
-pub size_bare : (p : Parts) (n : ℕ) → None ≡ frame_of (parts_layout p) p.1 → n ≡ capped (own_size (parts_layout p) + length (spelling p.2)) → n ≡ capped (length (spelling (single p)))
-size_bare p n none is = is ∙ ap capped (sym (alone p ∙ laid_bare (parts_layout p) p.1 (spelling p.2) none))
+pub sizes_both : (a b : List Term) → content_sizes (views (a ++ b)) ≡ content_sizes (views a) ++ content_sizes (views b)
+sizes_both [] b = refl
+sizes_both (t ∷ a) b =
+    let here = capped (content_size (view t).0 (view t).1 (view t).2) in
+    let inside = content_sizes (view t).2 in
+    ap (λ (l : List ℕ). here ∷ (inside ++ l)) (sizes_both a b) ∙ ap (λ (l : List ℕ). here ∷ l) (sym (append_assoc inside (content_sizes (views a)) (content_sizes (views b))))
 
-pub size_framed : (p : Parts) (n k v m : ℕ) → Some (k, v) ≡ frame_of (parts_layout p) p.1 → n ≡ capped (own_size (parts_layout p) + length (spelling p.2)) → m ≡ capped (n + (k + max v 1)) → m ≡ capped (length (spelling (single p)))
-size_framed p n k v m some is sum =
-    let e = alone p ∙ laid_framed (parts_layout p) p.1 k v (spelling p.2) some in
-    omega (arith, is, sum, e)
+-- ---- sizes that are filled in
 
--- a first child and others
-pub size_both : (p : Parts) (o : Terms) (n m sum : ℕ) → n ≡ capped (length (spelling (single p))) → m ≡ capped (length (spelling o)) → sum ≡ capped (n + m) → sum ≡ capped (length (spelling (term p.0 p.1 p.2 o)))
-size_both p o n m sum first others is =
-    omega (arith, first, others, is, alone p, length-append (laid (parts_layout p) p.1 (spelling p.2)) (spelling o))
+set_last : (old rest : List ℕ) (x y : ℕ) → slice_set (old ++ x ∷ rest) (length old) y ≡ old ++ y ∷ rest
+set_last [] rest x y = refl
+set_last (o ∷ old) rest x y = ap (λ (l : List ℕ). o ∷ l) (set_last old rest x y)
 
-pub size_step : (t : Term) (ts : List Term) → spelling (views (t ∷ ts)) ≡ spelling (single (view t)) ++ spelling (views ts)
-size_step t ts = ap (λ (l : List ℕ). l ++ spelling (views ts)) (sym (append-nil (laid (parts_layout (view t)) (view t).1 (spelling (view t).2))))
+module _ (t : Term) (h : Head) (w : ℕ) (a b : List Term) (apart : IsApart t h w a b) (old one two three : List ℕ) (n m : ℕ) (placed : one ≡ old ++ 0 ∷ []) (first : AreSized (views a) one two n) (others : AreSized (views b) two three m) where
+  inside_is : three ≡ old ++ 0 ∷ content_sizes (view t).2
+  inside_is =
+      let p = content_sizes (views a) in
+      let q = content_sizes (views b) in
+      let joined : p ++ q ≡ content_sizes (view t).2 = sym (sizes_both a b) ∙ ap content_sizes apart.children in
+      let both : three ≡ (one ++ p) ++ q = others.added ∙ ap (λ (l : List ℕ). l ++ q) first.added in
+      let start : (one ++ p) ++ q ≡ one ++ content_sizes (view t).2 = append_assoc one p q ∙ ap (λ (l : List ℕ). one ++ l) joined in
+      both ∙ start ∙ ap (λ (l : List ℕ). l ++ content_sizes (view t).2) placed ∙ append_assoc old (0 ∷ []) (content_sizes (view t).2)
+
+  pub inside_long : length old < length three
+  inside_long = omega (arith, ap length inside_is, length-append old (0 ∷ content_sizes (view t).2))
+
+  module _ (place own inside content all : ℕ) (place_is : place ≡ length old) (own_is : own ≡ capped (own_size (layout h w (count (view t).2)))) (inside_sum : inside ≡ capped (n + m)) (sum : content ≡ capped (own + inside)) (framed_is : all ≡ capped (content + frame_size (layout h w (count (view t).2)) w)) where
+    pub sized_over : AreSized (single (view t)) old (slice_set three place content) all
+    sized_over =
+        let c = (view t).2 in
+        let l = layout h w (count c) in
+        let bytes : length (spelling (views a)) + length (spelling (views b)) ≡ length (spelling c) =
+        sym (length-append (spelling (views a)) (spelling (views b))) ∙ ap length (sym (spelling_both a b)) ∙ ap (λ (ts : Terms). length (spelling ts)) apart.children
+        in
+        let is : content ≡ capped (own_size l + length (spelling c)) = omega (arith, own_is, inside_sum, sum, first.spelled, others.spelled, bytes) in
+        let same : content_size h w c ≡ content_size (view t).0 (view t).1 c = ap (λ (k : Head). content_size k w c) apart.head ∙ ap (λ (v : ℕ). content_size (view t).0 v c) apart.width in
+        let alone : length (spelling (single (view t))) ≡ (own_size l + length (spelling c)) + frame_size l w =
+        ap length (append-nil (laid (layout (view t).0 (view t).1 (count c)) (view t).1 (spelling c)))
+        ∙ ap (λ (k : Head). length (laid (layout k (view t).1 (count c)) (view t).1 (spelling c))) (sym apart.head)
+        ∙ ap (λ (v : ℕ). length (laid (layout h v (count c)) v (spelling c))) (sym apart.width)
+        ∙ laid_size l w (spelling c)
+        in
+        record {
+          added =
+              ap (λ (i : ℕ). slice_set three i content) place_is ∙ ap (λ (s : List ℕ). slice_set s (length old) content) inside_is ∙ set_last old (content_sizes c) 0 content
+              ∙ ap (λ (x : ℕ). old ++ x ∷ content_sizes c) (is ∙ ap capped same) ∙ ap (λ (s : List ℕ). old ++ capped (content_size (view t).0 (view t).1 c) ∷ s) (sym (append-nil (content_sizes c)));
+          spelled = omega (arith, is, framed_is, alone);
+        }

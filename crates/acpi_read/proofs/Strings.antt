@@ -1,33 +1,22 @@
 -- Strings, read a byte after the other as a loop does.
-use Rattle.std.proofs.Common.{◌≡◌, ℕ, ◌<◌, ◌≤◌, List, [], ◌∷◌, ◌++◌, Result, Ok, Err, refl, sym, ap, ◌∙◌, append_assoc}
+use Rattle.std.proofs.Common.{◌≡◌, ℕ, ◌<◌, ◌≤◌, List, [], ◌∷◌, ◌++◌, Ok, Err, refl, ap, ◌∙◌}
 use Rattle.std.proofs.lemmas.Bool.{lt-ltb, le-ltb, ne_eqb}
 use Rattle.std.proofs.lemmas.List.{append-nil}
-use Rattle.acpi_term.proofs.Reading.{Fault, Bad, ◌>>=◌, text_at}
-
--- what is read after a front that was read before
-abbrev pub after_front : List ℕ → Result (List ℕ × List ℕ) Fault → Result (List ℕ × List ℕ) Fault
-after_front front read = read >>= λ t. Ok (front ++ t.0, t.1)
+use Rattle.acpi_term.specs.Reading.{Bad, text_at}
+use Rattle.acpi_read.proofs.After.{after_front, whole, regrouped}
 
 -- the text that was read, and what is still to be read
 pub record TextRead (bytes front rest : List ℕ) : Type 0 where
   pub is : text_at bytes ≡ after_front front (text_at rest)
 
-whole : (r : Result (List ℕ × List ℕ) Fault) → r ≡ after_front [] r
-whole (Ok x) = refl
-whole (Err e) = refl
-
 pub text_begins : (bytes : List ℕ) → TextRead bytes [] bytes
 text_begins bytes = record { is = whole (text_at bytes) }
-
-regrouped : (front : List ℕ) (b : ℕ) (r : Result (List ℕ × List ℕ) Fault) → after_front front (after_front (b ∷ []) r) ≡ after_front (front ++ b ∷ []) r
-regrouped front b (Ok t) = ap (λ (l : List ℕ). Ok (l, t.1)) (sym (append_assoc front (b ∷ []) t.0))
-regrouped front b (Err e) = refl
 
 pub text_goes_on : (bytes front rest after : List ℕ) (b : ℕ) → rest ≡ b ∷ after → (b ≡ 0 → ⊥) → b < 128 → TextRead bytes front rest → TextRead bytes (front ++ b ∷ []) after
 unfolding text_at
 text_goes_on bytes front rest after b is some low so_far =
     let one : text_at rest ≡ after_front (b ∷ []) (text_at after) = rw (is, ne_eqb b 0 some, lt-ltb b 128 low) refl in
-    record { is = so_far.is ∙ ap (after_front front) one ∙ regrouped front b (text_at after) }
+    record { is = so_far.is ∙ ap (after_front front) one ∙ regrouped front (b ∷ []) (text_at after) }
 
 pub text_ends : (bytes front rest after : List ℕ) (b : ℕ) → rest ≡ b ∷ after → b ≡ 0 → TextRead bytes front rest → text_at bytes ≡ Ok (front, after)
 unfolding text_at

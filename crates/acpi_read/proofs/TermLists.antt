@@ -6,7 +6,7 @@ use Rattle.acpi_term.specs.declared.term.Term.{Term}
 use Rattle.acpi_term.specs.Tree.{Head, Terms, end, term}
 use Rattle.acpi_term.specs.Spelling.{next}
 use Rattle.acpi_term.specs.View.{view, views}
-use Rattle.acpi_term.proofs.Reading.{Fault, Bad, ◌>>=◌, open_at, Reader, counted, all_of, term_at}
+use Rattle.acpi_term.specs.Reading.{Fault, Bad, ◌>>=◌, open_at, Reader, counted, all_of, term_at}
 use Rattle.acpi_term.proofs.Again.{all_more}
 use Rattle.acpi_term.proofs.Taken.{term_shrinks}
 use Rattle.acpi_read.specs.Cause.{FailsBy}

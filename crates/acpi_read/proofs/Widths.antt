@@ -1,20 +1,17 @@
 -- Which widths are told.
 use Rattle.std.proofs.Common.{◌≡◌, ℕ, ◌+◌, ◌^◌, ◌≤◌, Bool, true, false, List, ◌++◌, length, refl, sym, ap, ◌∙◌, arith, inl, inr}
-use Rattle.std.specs.Prelude.{Option, Some, None, ◌==◌, ◌&&◌, nat_lt}
+use Rattle.std.specs.Prelude.{Some, None, ◌==◌, ◌&&◌, nat_lt}
 use Rattle.std.proofs.lemmas.List.{length-append}
 use Rattle.std.proofs.lemmas.Bool.{cases_lt}
 use Rattle.std.proofs.lemmas.Bool.Decides.{nat_tests}
-use Rattle.acpi_base.specs.Number.{number_width}
 use Rattle.acpi_term.specs.Length.{least_width}
-use Rattle.acpi_term.specs.Row.{Layout, bare, boxed, tailed, layout, own_width, width_over}
+use Rattle.acpi_term.specs.Row.{Layout, bare, framed, code_of, layout, own_width, layout_width}
 use Rattle.acpi_term.specs.Spelling.{spelling}
-use Rattle.acpi_term.specs.Tree.{Head, number, ones, text, local, arg, call, region, define, mutex, acquire, release, op, count}
-use Rattle.acpi_term.specs.View.{Parts}
-use Rattle.acpi_read.specs.Lines.{is_writable, is_chosen, told_width}
-use Rattle.acpi_read.specs.Size.{capped, own_size, frame_of, parts_layout, HasWidth, number_told, term_told}
-use Rattle.acpi_read.proofs.Sizes.{pair_is}
+use Rattle.acpi_term.specs.Tree.{Head, number, Terms, count}
+use Rattle.acpi_read.specs.Lines.{is_writable, is_chosen}
+use Rattle.acpi_read.specs.Size.{capped, own_size, content_size}
 
-abbrev fits : ℕ → ℕ → Bool
+abbrev pub fits : ℕ → ℕ → Bool
 fits v size = v == least_width size && nat_lt (4 + size) (2 ^ 28)
 
 never : (b : Bool) → b && false ≡ false
@@ -35,48 +32,29 @@ fits_capped v full size is = elim (cases_lt full (2 ^ 28)) [
   | inr many ↦ too_large v full (omega arith) ∙ sym (too_large v size (omega arith))
 ]
 
-chosen_over : (l : Layout) (w o k v : ℕ) (inside : List ℕ) (size : ℕ) → ◌≡◌ {A = Option (ℕ × ℕ)} (Some (k, v)) (frame_of l w) → size ≡ capped (own_size l + length inside) → (w == width_over l o inside && is_writable l inside) ≡ fits v size
-chosen_over (bare before) w o k v inside size some is = absurd (cc)
-chosen_over (boxed code before) w o k v inside size some is =
-    let e = pair_is k v (length code) w some in
-    rw (sym e.1, length-append before inside) (fits_capped v (length before + length inside) size is)
-chosen_over (tailed code after) w o k v inside size some is =
-    let e = pair_is k v (length code) w some in
-    rw (sym e.1) (fits_capped v (length (inside ++ after)) size (is ∙ ap capped (omega (arith, length-append inside after))))
+over_frame : (l : Layout) (code : List ℕ) (w o : ℕ) (inside : List ℕ) (size : ℕ) → Some code ≡ code_of l → size ≡ capped (own_size l + length inside) → fits w size ≡ (w == layout_width l o inside && is_writable l inside)
+over_frame (bare before) code w o inside size some is = absurd (cc)
+over_frame (framed opcode before after) code w o inside size some is =
+    let full = length (before ++ (inside ++ after)) in
+    sym (fits_capped w full size (is ∙ ap capped (omega (arith, length-append before (inside ++ after), length-append inside after))))
 
-width_of_layout : (h : Head) (w n : ℕ) (inside : List ℕ) → width_over (layout h (own_width h) n) (own_width h) inside ≡ width_over (layout h w n) (own_width h) inside
+-- but for a number, no layout depends on the width
+width_of_layout : (h : Head) (w n : ℕ) (inside : List ℕ) → layout_width (layout h (own_width h) n) (own_width h) inside ≡ layout_width (layout h w n) (own_width h) inside
 width_of_layout (number v) w n inside = refl
 width_of_layout _ w n inside = refl
 
-width_of_frame : (l : Layout) (w k v : ℕ) → ◌≡◌ {A = Option (ℕ × ℕ)} (Some (k, v)) (frame_of l w) → v ≡ w
-width_of_frame (bare before) w k v some = absurd (cc)
-width_of_frame (boxed code before) w k v some = (pair_is k v (length code) w some).1
-width_of_frame (tailed code after) w k v some = (pair_is k v (length code) w some).1
+pub chosen_framed : (h : Head) (w : ℕ) (children : Terms) (code : List ℕ) (size : ℕ) → Some code ≡ code_of (layout h w (count children)) → size ≡ capped (content_size h w children) → fits w size ≡ is_chosen h w (count children) (spelling children)
+chosen_framed h w children code size some is =
+    let inside = spelling children in
+    let l = layout h w (count children) in
+    over_frame l code w (own_width h) inside size some is ∙ ap (λ (v : ℕ). w == v && is_writable l inside) (sym (width_of_layout h w (count children) inside))
 
-pub chosen_framed : (p : Parts) (k v size : ℕ) → ◌≡◌ {A = Option (ℕ × ℕ)} (Some (k, v)) (frame_of (parts_layout p) p.1) → size ≡ capped (own_size (parts_layout p) + length (spelling p.2))
-    → told_width (v == least_width size && nat_lt (4 + size) (2 ^ 28)) v ≡ term_told p
-chosen_framed p k v size some is =
-    let inside = spelling p.2 in
-    let l = parts_layout p in
-    let e : is_chosen p.0 p.1 (count p.2) inside ≡ fits v size =
-    ap (λ (o : ℕ). p.1 == o && is_writable l inside) (width_of_layout p.0 p.1 (count p.2) inside) ∙ chosen_over l p.1 (own_width p.0) k v inside size some is
-    in
-    ap (told_width (fits v size)) (width_of_frame l p.1 k v some) ∙ ap (λ (b : Bool). told_width b p.1) (sym e)
+over_bare : (l : Layout) (w o : ℕ) (inside : List ℕ) → None ≡ code_of l → (w == o) ≡ (w == layout_width l o inside && is_writable l inside)
+over_bare (bare before) w o inside none = sym (always (w == o))
+over_bare (framed code before after) w o inside none = absurd (cc)
 
-bare_told : (h : Head) (w n : ℕ) (inside : List ℕ) → ◌≡◌ {A = Option (ℕ × ℕ)} None (frame_of (layout h w n) w) → HasWidth h w → number_told h w ≡ told_width (is_chosen h w n inside) w
-bare_told (number v) w n inside none has = ap (λ (b : Bool). told_width b w) (sym (always (w == number_width v)))
-bare_told ones w n inside none has = rw has refl
-bare_told (text s) w n inside none has = rw has refl
-bare_told (local k) w n inside none has = rw has refl
-bare_told (arg k) w n inside none has = rw has refl
-bare_told (call name) w n inside none has = rw has refl
-bare_told (region name space) w n inside none has = rw has refl
-bare_told (define name) w n inside none has = rw has refl
-bare_told (mutex name level) w n inside none has = rw has refl
-bare_told (acquire name timeout) w n inside none has = rw has refl
-bare_told (release name) w n inside none has = rw has refl
-bare_told (op o) w n inside none has = rw has refl
-bare_told _ w n inside none has = absurd (cc)
-
-pub chosen_bare : (p : Parts) → ◌≡◌ {A = Option (ℕ × ℕ)} None (frame_of (parts_layout p) p.1) → HasWidth p.0 p.1 → number_told p.0 p.1 ≡ term_told p
-chosen_bare p none has = bare_told p.0 p.1 (count p.2) (spelling p.2) none has
+pub chosen_bare : (h : Head) (w : ℕ) (children : Terms) → None ≡ code_of (layout h w (count children)) → (w == own_width h) ≡ is_chosen h w (count children) (spelling children)
+chosen_bare h w children none =
+    let inside = spelling children in
+    let l = layout h w (count children) in
+    over_bare l w (own_width h) inside none ∙ ap (λ (v : ℕ). w == v && is_writable l inside) (sym (width_of_layout h w (count children) inside))

@@ -2,7 +2,7 @@
 use Rattle.std.specs.Prelude.{◌≡◌, ℕ, ◌≤◌, Option, Some, None, Result, Ok, Err}
 use Rattle.acpi_term.specs.declared.read_error.ReadError.{ReadError}
 use Rattle.acpi_term.specs.declared.read_error.ReadError.TheVariants as errors
-use Rattle.acpi_term.proofs.Reading.{Fault, Deep, Bad}
+use Rattle.acpi_term.specs.Reading.{Fault, Deep, Bad}
 use Rattle.acpi_read.specs.declared.terms.cause.Cause.{Cause}
 use Rattle.acpi_read.specs.declared.terms.cause.Cause.TheVariants as causes
 
@@ -31,13 +31,13 @@ Answers view (Ok x) read = read ≡ Ok (view x)
 Answers view (Err e) read = FailsBy (error_kind e) read
 
 -- an error of reading terms, at an offset up to the end
-abbrev pub IsTold : ℕ → ReadError → Type 0
-IsTold end errors.Memory = Unit {0}
-IsTold end (errors.Truncated offset) = offset ≤ end
-IsTold end (errors.Opcode offset) = offset ≤ end
-IsTold end (errors.Length offset) = offset ≤ end
-IsTold end (errors.Count offset) = offset ≤ end
-IsTold end (errors.Flags offset) = offset ≤ end
-IsTold end (errors.Text offset) = offset ≤ end
-IsTold end (errors.TooDeep offset) = offset ≤ end
-IsTold end _ = ⊥
+abbrev pub IsPlaced : ℕ → ReadError → Type 0
+IsPlaced end errors.Memory = Unit {0}
+IsPlaced end (errors.Truncated offset) = offset ≤ end
+IsPlaced end (errors.Opcode offset) = offset ≤ end
+IsPlaced end (errors.Length offset) = offset ≤ end
+IsPlaced end (errors.Count offset) = offset ≤ end
+IsPlaced end (errors.Flags offset) = offset ≤ end
+IsPlaced end (errors.Text offset) = offset ≤ end
+IsPlaced end (errors.TooDeep offset) = offset ≤ end
+IsPlaced end _ = ⊥

@@ -1,19 +1,11 @@
 -- What holds of what is read, whatever calls there are.
-use Rattle.std.specs.Prelude.{◌≡◌, ℕ, ◌%◌, ◌^◌, ◌<◌, ◌≤◌, List, length, sum}
-use Rattle.acpi_base.specs.Sdt.{added}
+use Rattle.std.specs.Prelude.{◌≡◌, ℕ, ◌≤◌, List}
 use Rattle.acpi_term.specs.declared.mode.Mode.TheVariants.{Term}
 use Rattle.acpi_term.specs.declared.read_error.ReadError.{ReadError}
 use Rattle.acpi_term.specs.declared.read_error.ReadError.TheVariants.{Memory}
 use Rattle.acpi_term.specs.Tree.{Terms, depth}
 use Rattle.acpi_term.specs.Spelling.{Spells}
-use Rattle.acpi_read.specs.Table.{IsTable}
 use Rattle.acpi_read.specs.Terms.{AreRead, IsUnread}
-
--- What was added to a table that sums to zero makes one that passes the check.
-abbrev pub WrittenTablesPass : Type 0
-WrittenTablesPass =
-    (table bytes : List ℕ) → 36 ≤ length table → sum table % 256 ≡ 0 → 1 ≤ length bytes → length (added table bytes) < 2 ^ 32
-    → IsTable (added table bytes)
 
 -- Where bytes spell terms that don't nest too deep, these alone are read, and nothing but want of memory keeps them from it.
 abbrev pub SpelledTermsAreRead : Type 0

@@ -1,7 +1,6 @@
-pub mod Field
 pub mod Table
 pub mod Cause
-pub mod Opened
+pub mod TermStart
 pub mod Terms
 pub mod Report
 pub mod Lines

@@ -1,13 +1,14 @@
 -- The text that is told of terms: a line for each, its children after it, two spaces deeper.
-use Rattle.std.specs.Prelude.{ℕ, zero, suc, ◌+◌, ◌/◌, ◌%◌, ◌^◌, nat_lt, nat_le, ◌==◌, ◌&&◌, not, Bool, true, if◌then◌else◌, List, [], ◌∷◌, ◌++◌, length, map, codes}
+use Rattle.std.specs.Prelude.{◌≡◌, ℕ, zero, suc, ◌+◌, ◌/◌, ◌%◌, ◌^◌, nat_lt, nat_le, ◌==◌, ◌&&◌, not, Bool, true, if◌then◌else◌, List, [], ◌∷◌, ◌++◌, length, map, codes}
 use Rattle.std.specs.Fmt.{decimal}
 use Rattle.acpi_term.specs.declared.op.Op.{Op}
 use Rattle.acpi_term.specs.declared.op.Op.TheVariants.{LNot, LEqual, LLess, LGreater, LAnd, LOr, Increment, Decrement, Break, ObjectType, SizeOf, Return, DeRefOf, Add, Concat, Subtract, Multiply, ShiftLeft, ShiftRight, And, Nand, Or, Nor, Xor, ConcatRes, Mod, Index, ToString, CreateDWordField, CreateQWordField, ToBuffer, ToInteger, Store, Notify, Mid, CreateField}
-use Rattle.acpi_term.specs.Tree.{Entry, named, reserved, Head, number, ones, text, local, arg, call, scope, device, method, power, field, region, define, mutex, acquire, release, buffer, pack, varpack, branch, loop, otherwise, op, Terms, end, term, count}
+use Rattle.acpi_term.specs.Tree.{Entry, named, reserved, Head, number, ones, string, local, arg, call, def_scope, def_device, def_method, def_power_res, def_field, def_op_region, def_name, def_mutex, def_acquire, def_release, def_buffer, def_package, def_var_package, def_if, def_while, def_else, op, Terms, end, term, count}
 use Rattle.acpi_term.specs.Length.{least_width}
-use Rattle.acpi_term.specs.Row.{bits_of, width_of, Layout, bare, boxed, tailed, layout, writer_width}
+use Rattle.acpi_term.specs.Row.{entry_bits, entry_width, Layout, bare, framed, layout, writer_width}
 use Rattle.acpi_term.specs.Spelling.{spelling}
 use Rattle.acpi_read.specs.Report.{printable}
+use Rattle.acpi_read.specs.Size.{content_sizes}
 
 -- ---- bytes and names
 
@@ -52,21 +53,20 @@ name_text (b ∷ rest) = if b == 92 then 92 ∷ dotted_segments (segments_of res
 -- ---- widths
 
 -- a width that no writer of ours would choose
-abbrev pub told_width : Bool → ℕ → List ℕ
-told_width chosen w = if chosen then [] else codes " width " ++ decimal w
+abbrev pub width_suffix : Bool → ℕ → List ℕ
+width_suffix chosen w = if chosen then [] else codes " width " ++ decimal w
 
 -- whether a frame of this layout round these bytes can be written
 abbrev pub is_writable : Layout → List ℕ → Bool
 is_writable (bare before) inside = true
-is_writable (boxed code before) inside = nat_lt (4 + length (before ++ inside)) (2 ^ 28)
-is_writable (tailed code after) inside = nat_lt (4 + length (inside ++ after)) (2 ^ 28)
+is_writable (framed code before after) inside = nat_lt (4 + length (before ++ (inside ++ after))) (2 ^ 28)
 
 -- whether a writer chooses the width for a head with n children, whose spellings joined are the bytes inside
 abbrev pub is_chosen : Head → ℕ → ℕ → List ℕ → Bool
 is_chosen h w n inside = w == writer_width h n inside && is_writable (layout h w n) inside
 
 abbrev pub is_entry_chosen : Entry → Bool
-is_entry_chosen e = width_of e == least_width (bits_of e) && nat_lt (bits_of e) (2 ^ 28)
+is_entry_chosen e = entry_width e == least_width (entry_bits e) && nat_lt (entry_bits e) (2 ^ 28)
 
 -- ---- lines
 
@@ -117,26 +117,26 @@ data_text (b ∷ bytes) = 32 ∷ hex_bytes (b ∷ bytes)
 abbrev pub head_text : Head → ℕ → List ℕ
 head_text (number v) n = codes "number " ++ decimal v
 head_text ones n = codes "ones"
-head_text (text s) n = codes "text \"" ++ quoted_bytes s ++ codes "\""
+head_text (string s) n = codes "text \"" ++ quoted_bytes s ++ codes "\""
 head_text (local k) n = codes "local " ++ decimal k
 head_text (arg k) n = codes "arg " ++ decimal k
 head_text (call name) n = codes "name " ++ name_text name ++ codes " args " ++ decimal n
-head_text (scope name) n = codes "scope " ++ name_text name
-head_text (device name) n = codes "device " ++ name_text name
-head_text (method name args serialized) n = codes "method " ++ name_text name ++ codes " args " ++ decimal args ++ codes " serialized " ++ (if serialized then codes "1" else codes "0")
-head_text (power name level order) n = codes "power " ++ name_text name ++ codes " level " ++ decimal level ++ codes " order " ++ decimal order
-head_text (field name access lock update entries) n = codes "field " ++ name_text name ++ codes " access " ++ decimal access ++ codes " lock " ++ decimal lock ++ codes " update " ++ decimal update
-head_text (region name space) n = codes "region " ++ name_text name ++ codes " space " ++ decimal space
-head_text (define name) n = codes "define " ++ name_text name
-head_text (mutex name level) n = codes "mutex " ++ name_text name ++ codes " level " ++ decimal level
-head_text (acquire name timeout) n = codes "acquire " ++ name_text name ++ codes " timeout " ++ decimal timeout
-head_text (release name) n = codes "release " ++ name_text name
-head_text (buffer bytes) n = codes "buffer data" ++ data_text bytes
-head_text pack n = codes "package " ++ decimal n
-head_text varpack n = codes "varpackage"
-head_text branch n = codes "if"
-head_text loop n = codes "while"
-head_text otherwise n = codes "else"
+head_text (def_scope name) n = codes "scope " ++ name_text name
+head_text (def_device name) n = codes "device " ++ name_text name
+head_text (def_method name args serialized) n = codes "method " ++ name_text name ++ codes " args " ++ decimal args ++ codes " serialized " ++ (if serialized then codes "1" else codes "0")
+head_text (def_power_res name level order) n = codes "power " ++ name_text name ++ codes " level " ++ decimal level ++ codes " order " ++ decimal order
+head_text (def_field name access lock update entries) n = codes "field " ++ name_text name ++ codes " access " ++ decimal access ++ codes " lock " ++ decimal lock ++ codes " update " ++ decimal update
+head_text (def_op_region name space) n = codes "region " ++ name_text name ++ codes " space " ++ decimal space
+head_text (def_name name) n = codes "define " ++ name_text name
+head_text (def_mutex name level) n = codes "mutex " ++ name_text name ++ codes " level " ++ decimal level
+head_text (def_acquire name timeout) n = codes "acquire " ++ name_text name ++ codes " timeout " ++ decimal timeout
+head_text (def_release name) n = codes "release " ++ name_text name
+head_text (def_buffer bytes) n = codes "buffer data" ++ data_text bytes
+head_text def_package n = codes "package " ++ decimal n
+head_text def_var_package n = codes "varpackage"
+head_text def_if n = codes "if"
+head_text def_while n = codes "while"
+head_text def_else n = codes "else"
 head_text (op o) n = op_text o
 
 -- a line, at a depth
@@ -151,17 +151,29 @@ abbrev pub entry_text : Entry → List ℕ
 entry_text (named name bits w) = codes "entry " ++ map printable name ++ codes " bits " ++ decimal bits
 entry_text (reserved bits w) = codes "reserved bits " ++ decimal bits
 
+abbrev pub entry_line : ℕ → Entry → List ℕ
+entry_line d e = line d (entry_text e) (width_suffix (is_entry_chosen e) (entry_width e))
+
 abbrev pub entry_lines : ℕ → List Entry → List ℕ
 entry_lines d [] = []
-entry_lines d (e ∷ entries) = line d (entry_text e) (told_width (is_entry_chosen e) (width_of e)) ++ entry_lines d entries
+entry_lines d (e ∷ entries) = entry_line d e ++ entry_lines d entries
 
 -- a field's entries, which are no terms
 abbrev pub own_lines : ℕ → Head → List ℕ
-own_lines d (field name access lock update entries) = entry_lines d entries
+own_lines d (def_field name access lock update entries) = entry_lines d entries
 own_lines d _ = []
+
+-- the width of a head over its children, if it is told
+abbrev pub term_suffix : Head → ℕ → Terms → List ℕ
+term_suffix h w children = width_suffix (is_chosen h w (count children) (spelling children)) w
 
 -- the lines of terms at a depth
 abbrev pub lines : ℕ → Terms → List ℕ
 lines d end = []
 lines d (term h w children others) =
-    line d (head_text h (count children)) (told_width (is_chosen h w (count children) (spelling children)) w) ++ own_lines (suc d) h ++ lines (suc d) children ++ lines d others
+    line d (head_text h (count children)) (term_suffix h w children) ++ own_lines (suc d) h ++ lines (suc d) children ++ lines d others
+
+-- The lines of terms were added to a text, and their sizes taken from the front of a list.
+pub record AreReported (depth : ℕ) (ts : Terms) (sizes left old new : List ℕ) : Type 0 where
+  pub added : new ≡ old ++ lines depth ts
+  pub taken : sizes ≡ content_sizes ts ++ left

@@ -1,57 +1,42 @@
--- How many bytes spell terms, as far as a length can count them.
-use Rattle.std.specs.Prelude.{◌≡◌, ℕ, ◌^◌, min, ◌==◌, Option, Some, None, List, [], ◌++◌, length, codes}
+-- How many bytes a frame's length has to count.
+use Rattle.std.specs.Prelude.{◌≡◌, ℕ, ◌+◌, ◌^◌, min, max, Option, Some, None, List, [], ◌∷◌, ◌++◌, length, codes}
 use Rattle.std.specs.Fmt.{decimal}
-use Rattle.acpi_base.specs.Number.{number_width}
-use Rattle.acpi_term.specs.Tree.{Head, number, ones, text, local, arg, call, region, define, mutex, acquire, release, op, count}
-use Rattle.acpi_term.specs.Row.{Layout, bare, boxed, tailed, layout}
+use Rattle.acpi_term.specs.Row.{Layout, bare, framed, before_of, after_of, layout}
 use Rattle.acpi_term.specs.Spelling.{spelling}
-use Rattle.acpi_term.specs.View.{Parts}
-use Rattle.acpi_read.specs.Lines.{is_chosen, told_width}
+use Rattle.acpi_term.specs.Tree.{Head, Terms, end, term, count}
 
 -- no length can count 2^28 or more
 abbrev pub capped : ℕ → ℕ
 capped n = min n (2 ^ 28)
 
--- the bytes that a layout adds to those of the children
+-- the bytes of a layout beside the children's and, of a framed one, its opcode and its length
 abbrev pub own_size : Layout → ℕ
-own_size (bare before) = length before
-own_size (boxed code before) = length before
-own_size (tailed code after) = length after
+own_size l = length (before_of l) + length (after_of l)
 
--- the size of a frame's opcode, and the width of its length
-abbrev pub frame_of : Layout → ℕ → Option (ℕ × ℕ)
-frame_of (bare before) w = None
-frame_of (boxed code before) w = Some (length code, w)
-frame_of (tailed code after) w = Some (length code, w)
+-- the same with the children's: of a framed term, what its length counts beside itself
+abbrev pub content_size : Head → ℕ → Terms → ℕ
+content_size h w children = own_size (layout h w (count children)) + length (spelling children)
 
-abbrev pub parts_layout : Parts → Layout
-parts_layout p = layout p.0 p.1 (count p.2)
+-- a frame's opcode and its length, if there is one
+abbrev pub frame_size : Layout → ℕ → ℕ
+frame_size (bare before) w = 0
+frame_size (framed code before after) w = length code + max w 1
 
--- any term but a number or a framed one has the width 0
-abbrev pub HasWidth : Head → ℕ → Type 0
-HasWidth ones w = w ≡ 0
-HasWidth (text s) w = w ≡ 0
-HasWidth (local k) w = w ≡ 0
-HasWidth (arg k) w = w ≡ 0
-HasWidth (call name) w = w ≡ 0
-HasWidth (region name space) w = w ≡ 0
-HasWidth (define name) w = w ≡ 0
-HasWidth (mutex name level) w = w ≡ 0
-HasWidth (acquire name timeout) w = w ≡ 0
-HasWidth (release name) w = w ≡ 0
-HasWidth (op o) w = w ≡ 0
-HasWidth _ w = Unit {0}
+-- the sizes of all terms' contents, each before those of its children
+abbrev pub content_sizes : Terms → List ℕ
+content_sizes end = []
+content_sizes (term h w children others) = capped (content_size h w children) ∷ content_sizes children ++ content_sizes others
+
+-- a list that begins with them
+abbrev pub HasSizes : Terms → List ℕ → Type 0
+HasSizes ts sizes = (left : List ℕ) × (sizes ≡ content_sizes ts ++ left)
+
+-- terms whose sizes were added to a list, and how many bytes spell them
+pub record AreSized (ts : Terms) (old new : List ℕ) (bytes : ℕ) : Type 0 where
+  pub added : new ≡ old ++ content_sizes ts
+  pub spelled : bytes ≡ capped (length (spelling ts))
 
 -- a width at the end of a line
-abbrev pub width_text : Option ℕ → List ℕ
-width_text None = []
-width_text (Some w) = codes " width " ++ decimal w
-
--- the end of a number's line
-abbrev pub number_told : Head → ℕ → List ℕ
-number_told (number v) w = told_width (w == number_width v) w
-number_told _ w = []
-
--- the end of a term's line
-abbrev pub term_told : Parts → List ℕ
-term_told p = told_width (is_chosen p.0 p.1 (count p.2) (spelling p.2)) p.1
+abbrev pub width_words : Option ℕ → List ℕ
+width_words None = []
+width_words (Some w) = codes " width " ++ decimal w

@@ -1,11 +1,6 @@
 //! Laws over the definitions that the contracts cite. Each function is a law: it does nothing, and ensures it.
 
-ghost use Rattle.acpi_read.specs.Laws.{WrittenTablesPass, SpelledTermsAreRead};
-
-/// A table to which something was written passes `Table::check`.
-pub fn written_tables_pass()
-    ensures { WrittenTablesPass }
-{}
+ghost use Rattle.acpi_read.specs.Laws.{SpelledTermsAreRead};
 
 /// Terms that are spelled, and nest no deeper than may be read, are what `terms` answers.
 pub fn spelled_terms_are_read()

@@ -1,24 +1,23 @@
 //! What is told of tables and terms as text.
 
 mod line;
-mod piece;
 mod size;
 mod width;
+mod words;
 
 ghost use Rattle.std.specs.Prelude.{◌≡◌, ◌++◌, IfErr, IfOk, OnOk, codes, map, string_bytes};
 ghost use Rattle.std.specs.Fmt.{decimal};
-ghost use Rattle.acpi_term.specs.Carried.{single};
-ghost use Rattle.acpi_term.specs.Row.{width_of};
-ghost use Rattle.acpi_term.specs.Tree.{count};
-ghost use Rattle.acpi_term.specs.View.{entry_view, view, views};
+ghost use Rattle.acpi_term.specs.View.{entry_view, head_of, view, views, single};
 ghost use Rattle.acpi_read.specs.Report.{header_line, printable};
-ghost use Rattle.acpi_read.specs.Lines.{told_width, is_entry_chosen, head_text, line, entry_text, entry_lines, own_lines, lines};
-ghost use Rattle.acpi_read.specs.Size.{term_told};
+ghost use Rattle.acpi_read.specs.Lines.{head_text, line, entry_text, entry_line, entry_lines, own_lines, lines, AreReported};
+ghost use Rattle.acpi_read.specs.Size.{width_words, HasSizes};
 
 use crate::report::line::push_head;
-use crate::report::piece::{push_indent, push_number};
-use crate::report::width::{push_entry_width, push_width};
+use crate::report::size::content_sizes;
+use crate::report::width::{push_width, shown_entry_width, shown_width};
+use crate::report::words::{push_indent, push_number};
 use crate::table::Table;
+use acpi_term::apart::{Kind, parts_of};
 use acpi_term::read_error::ReadError;
 use acpi_term::term::{Term, TermEntry};
 use std::alloc::{AllocError, Global};
@@ -52,99 +51,75 @@ pub fn report_terms(alloc: Global, terms: &[Term]) -> Result<String, ReadError>
     ensures ok { IfOk result (λ text. string_bytes text ≡ lines 0 (views terms.now)) }
     ensures err { IfErr result (λ e. e ≡ ReadError.Memory) }
 {
+    let sizes = content_sizes(alloc, terms)?;
     let mut text = String::new(alloc);
-    push_terms(0, terms, &mut text)?;
+    push_terms(0, terms, &sizes, &mut text)?;
     Ok(text)
 }
 
+// Of the sizes, those of the terms' contents are used, and what is left is answered.
 #[cycle(report)]
-fn push_terms(depth: usize, terms: &[Term], text: &mut String) -> Result<(), AllocError>
-    ensures { OnOk result (string_bytes text.new ≡ string_bytes text.old ++ lines depth (views terms.now)) }
+fn push_terms<'a>(
+    depth: usize,
+    terms: &[Term],
+    sizes: &'a [u32],
+    text: &mut String,
+) -> Result<&'a [u32], AllocError>
+    requires { HasSizes (views terms.now) sizes.now }
+    ensures { IfOk result (λ left. AreReported depth (views terms.now) sizes.now left.now (string_bytes text.old) (string_bytes text.new)) }
 {
+    let mut left = sizes;
     for term in terms {
-        push_term(depth, term, text)?;
+        left = push_term(depth, term, left, text)?;
     }
-    Ok(())
+    Ok(left)
 }
 
 #[cycle(report)]
-#[tactic(auto, using(crate::proofs::Lines::lines_over))]
-fn push_term(depth: usize, term: &Term, text: &mut String) -> Result<(), AllocError>
-    ensures { OnOk result (string_bytes text.new ≡ string_bytes text.old ++ lines depth (single (view term.now))) }
+fn push_term<'a>(
+    depth: usize,
+    term: &Term,
+    sizes: &'a [u32],
+    text: &mut String,
+) -> Result<&'a [u32], AllocError>
+    requires { HasSizes (single (view term.now)) sizes.now }
+    ensures { IfOk result (λ left. AreReported depth (single (view term.now)) sizes.now left.now (string_bytes text.old) (string_bytes text.new)) }
 {
-    push_line(depth, term, text)?;
+    let parts = parts_of(term);
+    let shown = shown_width(parts.kind, parts.width, sizes[0]);
+    let count = parts.first.len() + parts.others.len();
+    push_line(depth, parts.kind, count, shown, text)?;
     // No memory has room for so deep an indentation.
     let Some(deeper) = depth.checked_add(1) else {
         return Err(AllocError);
     };
-    push_own(deeper, term, text)?;
-    push_children(deeper, term, text)
+    push_own(deeper, parts.kind, text)?;
+    let left = push_terms(deeper, parts.first, &sizes[1..], text)?;
+    push_terms(deeper, parts.others, left, text)
 }
 
-#[cycle(report)]
-#[tactic(auto, using(crate::proofs::Lines::lines_both))]
-fn push_children(depth: usize, term: &Term, text: &mut String) -> Result<(), AllocError>
-    ensures { OnOk result (string_bytes text.new ≡ string_bytes text.old ++ lines depth (view term.now).2) }
-{
-    match term {
-        Term::Call { args, .. } => push_terms(depth, args, text),
-        Term::Scope { body, .. } => push_terms(depth, body, text),
-        Term::Device { body, .. } => push_terms(depth, body, text),
-        Term::Method { body, .. } => push_terms(depth, body, text),
-        Term::PowerResource { body, .. } => push_terms(depth, body, text),
-        Term::OpRegion { offset, length, .. } => {
-            push_term(depth, offset, text)?;
-            push_term(depth, length, text)
-        }
-        Term::Name { value, .. } => push_term(depth, value, text),
-        Term::Buffer { size, .. } => push_term(depth, size, text),
-        Term::Package { elements, .. } => push_terms(depth, elements, text),
-        Term::VarPackage {
-            count,
-            elements,
-            ..
-        } => {
-            push_term(depth, count, text)?;
-            push_terms(depth, elements, text)
-        }
-        Term::If {
-            predicate,
-            body,
-            ..
-        } => {
-            push_term(depth, predicate, text)?;
-            push_terms(depth, body, text)
-        }
-        Term::While {
-            predicate,
-            body,
-            ..
-        } => {
-            push_term(depth, predicate, text)?;
-            push_terms(depth, body, text)
-        }
-        Term::Else { body, .. } => push_terms(depth, body, text),
-        Term::Op { operands, .. } => push_terms(depth, operands, text),
-        _ => Ok(()),
-    }
-}
-
-#[tactic(auto, using(crate::proofs::Told::after_four))]
-fn push_line(depth: usize, term: &Term, text: &mut String) -> Result<(), AllocError>
-    ensures { OnOk result (string_bytes text.new ≡ string_bytes text.old ++ line depth (head_text (view term.now).0 (count (view term.now).2)) (term_told (view term.now))) }
+#[tactic(auto, using(crate::proofs::Texts::after_four))]
+fn push_line(
+    depth: usize,
+    kind: Kind<'_>,
+    count: usize,
+    shown: Option<u8>,
+    text: &mut String,
+) -> Result<(), AllocError>
+    ensures { OnOk result (string_bytes text.new ≡ string_bytes text.old ++ line depth (head_text (head_of kind.entry) count) (width_words shown)) }
 {
     push_indent(depth, text)?;
-    push_head(term, text)?;
-    push_width(term, text)?;
+    push_head(kind, count, text)?;
+    push_width(shown, text)?;
     text.push_str("\n")
 }
 
 // A field's entries.
-fn push_own(depth: usize, term: &Term, text: &mut String) -> Result<(), AllocError>
-    ensures { OnOk result (string_bytes text.new ≡ string_bytes text.old ++ own_lines depth (view term.now).0) }
+fn push_own(depth: usize, kind: Kind<'_>, text: &mut String) -> Result<(), AllocError>
+    ensures { OnOk result (string_bytes text.new ≡ string_bytes text.old ++ own_lines depth (head_of kind.entry)) }
 {
-    match term {
-        Term::Field { entries, .. } => push_entries(depth, entries, text),
+    match kind {
+        Kind::Field(_, _, _, _, entries) => push_entries(depth, entries, text),
         _ => Ok(()),
     }
 }
@@ -158,16 +133,14 @@ fn push_entries(depth: usize, entries: &[TermEntry], text: &mut String) -> Resul
     Ok(())
 }
 
-#[tactic(auto, using(crate::proofs::Told::after_four))]
+#[tactic(auto, using(crate::proofs::Texts::after_four))]
 fn push_entry(depth: usize, entry: &TermEntry, text: &mut String) -> Result<(), AllocError>
-    ensures { OnOk result (string_bytes text.new ≡ string_bytes text.old ++ line depth (entry_text (entry_view entry.now)) (told_width (is_entry_chosen (entry_view entry.now)) (width_of (entry_view entry.now)))) }
+    ensures { OnOk result (string_bytes text.new ≡ string_bytes text.old ++ entry_line depth (entry_view entry.now)) }
 {
     push_indent(depth, text)?;
     push_bits(entry, text)?;
-    match entry {
-        TermEntry::Named(_, bits, width) => push_entry_width(*bits, *width, text)?,
-        TermEntry::Reserved(bits, width) => push_entry_width(*bits, *width, text)?,
-    }
+    let (TermEntry::Named(_, bits, width) | TermEntry::Reserved(bits, width)) = entry;
+    push_width(shown_entry_width(*bits, *width), text)?;
     text.push_str("\n")
 }
 
@@ -180,7 +153,7 @@ fn push_bits(entry: &TermEntry, text: &mut String) -> Result<(), AllocError>
     }
 }
 
-#[tactic(auto, using(crate::proofs::Told::after_three))]
+#[tactic(auto, using(crate::proofs::Texts::after_three))]
 fn push_named_bits(name: &[u8], bits: u32, text: &mut String) -> Result<(), AllocError>
     ensures { OnOk result (string_bytes text.new ≡ string_bytes text.old ++ (codes "entry " ++ map printable name.now ++ codes " bits " ++ decimal bits)) }
 {

@@ -1,8 +1,9 @@
 //! Tables that are what their header says.
 
 ghost use Rattle.std.specs.Prelude.{◌≡◌, ℕ, List, ◌+◌, ◌%◌, ◌≤◌, ◌↔◌, length, sum, take, slice_index, IsTrue, IsOk, IfOk, IfErr};
-ghost use Rattle.acpi_read.specs.Field.{field};
-ghost use Rattle.acpi_read.specs.Table.{IsTable, IsFault};
+ghost use Rattle.acpi_base.specs.Bytes.{field_at};
+ghost use Rattle.acpi_base.specs.Table.{IsTrueTable};
+ghost use Rattle.acpi_read.specs.Table.{IsFault};
 
 use acpi_base::checksum::Checksum;
 use acpi_term::read_error::ReadError;
@@ -20,13 +21,13 @@ impl<'a> Model for Table<'a> {
 
     ghost view = { λ t. t.bytes.now };
 
-    ghost invariant = { λ t. IsTable t.bytes.now };
+    ghost invariant = { λ t. IsTrueTable t.bytes.now };
 }
 
 // What stands in the four bytes at an offset, lowest first.
 fn dword_at(bytes: &[u8], offset: usize) -> u32
     requires { offset + 4 ≤ length bytes.now }
-    ensures { result ≡ field offset 4 bytes.now }
+    ensures { result ≡ field_at offset 4 bytes.now }
 {
     u32::from_le_bytes([
         bytes[offset],
@@ -48,7 +49,7 @@ impl<'a> Table<'a> {
     /// The bytes as a table. ShortHeader with the number of bytes where there are fewer than 36, TableLength at 4 where
     /// the length there isn't the number of bytes, Sum at 9 where all bytes don't sum to zero; the first of these.
     pub fn check(bytes: &'a [u8]) -> Result<Table<'a>, ReadError>
-        ensures ok { IsOk result ↔ IsTable bytes.now }
+        ensures ok { IsOk result ↔ IsTrueTable bytes.now }
         ensures value { IfOk result (λ table. table ≡ bytes.now) }
         ensures err { IfErr result (λ e. IsFault e bytes.now) }
     {
@@ -81,7 +82,7 @@ impl<'a> Table<'a> {
     /// All bytes of the table, as they were handed in.
     pub fn bytes(&self) -> &'a [u8]
         ensures bytes { result.now ≡ self.now }
-        ensures table { IsTable self.now }
+        ensures table { IsTrueTable self.now }
     {
         self.bytes
     }

@@ -11,12 +11,12 @@ ghost use Rattle.std.specs.Prelude.{◌≡◌, ◌<◌, ◌≤◌, length, IfOk,
 ghost use Rattle.acpi_base.specs.Object.{IsOwnEnd};
 ghost use Rattle.acpi_term.specs.Arity.{arity};
 ghost use Rattle.acpi_term.specs.View.{view, views};
-ghost use Rattle.acpi_term.proofs.Reading.{Bad, counted, all_of, close, term_at};
-ghost use Rattle.acpi_read.specs.Cause.{Answers, IsTold, error_kind};
-ghost use Rattle.acpi_read.specs.Opened.{seen, LiesWithin, IsFilled, IsAlone};
+ghost use Rattle.acpi_term.specs.Reading.{Bad, counted, all_of, close, term_at};
+ghost use Rattle.acpi_read.specs.Cause.{Answers, IsPlaced, error_kind};
+ghost use Rattle.acpi_read.specs.TermStart.{seen, LiesWithin, IsFilled, IsAlone};
 ghost use Rattle.acpi_read.specs.Terms.{AreRead, IsUnread};
 
-use crate::terms::open::{Opened, open};
+use crate::terms::open::{TermStart, open};
 use acpi_base::buffer::append;
 use acpi_base::error::R;
 use acpi_base::object::Aml;
@@ -27,7 +27,7 @@ use acpi_term::term::{MAX_DEPTH, Term};
 
 /// One term, at most so deep, and the bytes after it. The bytes end so many after the first byte of all.
 #[cycle(read)]
-#[tactic(auto, unfolding(acpi_term::proofs::Reading::term_at))]
+#[tactic(auto, unfolding(acpi_term::specs::Reading::term_at))]
 fn term<'a>(
     arities: &Arities,
     mode: Mode,
@@ -39,7 +39,7 @@ fn term<'a>(
     ensures gives { Answers (λ x. ((view x.0).0, (view x.0).1, (view x.0).2, x.1.now)) result
         (term_at (arity arities.now) depth mode bytes.now) }
     ensures shorter { IfOk result (λ x. length x.1.now < length bytes.now) }
-    ensures told { IfErr result (IsTold end) }
+    ensures placed { IfErr result (IsPlaced end) }
 {
     let offset = end - bytes.len();
     if depth == 0 {
@@ -53,10 +53,10 @@ fn term<'a>(
 
 /// The term of a head that was opened at an offset, whose children are at most so deep.
 #[cycle(read)]
-#[tactic(auto, unfolding(acpi_term::proofs::Reading::close, acpi_term::proofs::Reading::counted))]
+#[tactic(auto, unfolding(acpi_term::specs::Reading::close, acpi_term::specs::Reading::counted))]
 fn close<'a>(
     arities: &Arities,
-    opened: Opened<'a>,
+    opened: TermStart<'a>,
     offset: usize,
     end: usize,
     depth: usize,
@@ -67,20 +67,20 @@ fn close<'a>(
     requires place { offset ≤ end }
     ensures gives { Answers (λ x. ((view x.0).0, (view x.0).1, (view x.0).2, x.1.now)) result
         (close (term_at (arity arities.now) depth) (seen opened.entry)) }
-    ensures told { IfErr result (IsTold end) }
+    ensures placed { IfErr result (IsPlaced end) }
 {
     let alloc = arities.allocator();
     match opened {
-        Opened::Leaf(leaf, rest) => Ok((leaf, rest)),
-        Opened::Call(name, count, rest) => {
+        TermStart::Leaf(leaf, rest) => Ok((leaf, rest)),
+        TermStart::Call(name, count, rest) => {
             let (args, rest) = several(arities, Mode::Term, count, rest, end, depth)?;
             Ok((Term::Call { name, args }, rest))
         }
-        Opened::Operator(op, rest) => {
+        TermStart::Operator(op, rest) => {
             let (operands, rest) = several(arities, Mode::Term, op.operands(), rest, end, depth)?;
             Ok((Term::Op { op, operands }, rest))
         }
-        Opened::Region(name, space, rest) => {
+        TermStart::Region(name, space, rest) => {
             let (offset, rest) = term(arities, Mode::Term, rest, end, depth)?;
             let (length, rest) = term(arities, Mode::Term, rest, end, depth)?;
             let offset = Box::new(alloc, offset)?;
@@ -93,27 +93,27 @@ fn close<'a>(
             };
             Ok((region, rest))
         }
-        Opened::Define(name, rest) => {
+        TermStart::Define(name, rest) => {
             let (value, rest) = term(arities, Mode::Term, rest, end, depth)?;
             let value = Box::new(alloc, value)?;
             Ok((Term::Name { name, value }, rest))
         }
-        Opened::Framed(frame, inside, after) => {
+        TermStart::Block(block, inside, after) => {
             let children = all(arities, Mode::Term, inside, end - after.len(), depth)?;
-            Ok((frame.with(children), after))
+            Ok((block.with(children), after))
         }
-        Opened::Led(lead, inside, after) => {
+        TermStart::FirstAndBlock(start, inside, after) => {
             if inside.is_empty() {
                 return Err(ReadError::Truncated(offset));
             }
             let end = end - after.len();
-            let mode = lead.mode();
+            let mode = start.mode();
             let (first, rest) = term(arities, mode, inside, end, depth)?;
             let others = all(arities, mode.next(), rest, end, depth)?;
             let first = Box::new(alloc, first)?;
-            Ok((lead.with(first, others), after))
+            Ok((start.with(first, others), after))
         }
-        Opened::Package(width, count, inside, after) => {
+        TermStart::Package(width, count, inside, after) => {
             let end = end - after.len();
             let (elements, rest) = several(arities, Mode::Element, count, inside, end, depth)?;
             if !rest.is_empty() {
@@ -121,7 +121,7 @@ fn close<'a>(
             }
             Ok((Term::Package { width, elements }, after))
         }
-        Opened::Buffer(width, content, after) => {
+        TermStart::Buffer(width, content, after) => {
             let (size, bytes) = term(arities, Mode::Term, content, end - after.len(), depth)?;
             let bytes = Vec::from_slice(alloc, bytes)?;
             let size = Box::new(alloc, size)?;
@@ -133,7 +133,7 @@ fn close<'a>(
 /// Where terms that are counted should go on: a package has too few elements, and anything else is cut off.
 fn missing(mode: Mode, end: usize) -> ReadError
     ensures kind { error_kind result ≡ Some Bad }
-    ensures told { IsTold end result }
+    ensures placed { IsPlaced end result }
 {
     match mode {
         Mode::Element => ReadError::Count(end),
@@ -154,9 +154,10 @@ fn several<'a>(
     requires { length bytes.now ≤ end }
     ensures gives { Answers (λ x. (views x.0.items, x.1.now)) result
         (counted (term_at (arity arities.now) depth) count mode bytes.now) }
-    ensures told { IfErr result (IsTold end) }
+    ensures placed { IfErr result (IsPlaced end) }
 {
-    let mut terms = Vec::new(arities.allocator());
+    let room = bytes.len().min(usize::from(count));
+    let mut terms = Vec::with_capacity(arities.allocator(), room)?;
     let mut rest = bytes;
     let mut at = mode;
     'several: for _ in 0..count {
@@ -183,7 +184,7 @@ fn all(
     requires { length bytes.now ≤ end }
     ensures gives { Answers (λ v. views v.items) result
         (all_of (term_at (arity arities.now) depth) (length bytes.now) mode bytes.now) }
-    ensures told { IfErr result (IsTold end) }
+    ensures placed { IfErr result (IsPlaced end) }
 {
     let mut terms = Vec::new(arities.allocator());
     let mut rest = bytes;
@@ -194,6 +195,7 @@ fn all(
         rest = after;
         at = at.next();
     }
+    terms.shrink_to_fit();
     Ok(terms)
 }
 

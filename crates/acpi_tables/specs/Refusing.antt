@@ -1,14 +1,19 @@
 -- Sinks and objects of the tests, which refuse.
-use Rattle.std.specs.Prelude.{◌≡◌, ◌≢◌, ℕ, ◌≤◌, List, [], ◌∷◌, ◌++◌, length, nat_le, true, false, IsTrue, refl, Some, None}
+use Rattle.std.specs.Prelude.{◌≡◌, ◌≢◌, ℕ, ◌≤◌, List, [], ◌∷◌, ◌++◌, length, nat_le, ◌==◌, Bool, true, false, IsTrue, refl, Some, None}
 use Rattle.std.proofs.Common.{arith, length-append}
 use Rattle.std.proofs.lemmas.Bool.Decides.{nat_tests}
+use Rattle.acpi_base.specs.declared.error.Error.{Error}
 use Rattle.acpi_base.specs.declared.error.Error.TheVariants.{Memory, Sink}
 use Rattle.acpi_base.specs.Sink.{Meaning}
 use Rattle.acpi_base.specs.Object.{Object}
 
--- a sink that holds some bytes and has room for so many more
+abbrev pub is_seventh : Error → Bool
+is_seventh (Sink n) = n == 7
+is_seventh _ = false
+
+-- a sink that holds some bytes, has room for so many more, and refuses others by Sink(7)
 unfoldable pub short_of : List ℕ → ℕ → Meaning
-short_of held room = record { shows = λ more. held ++ more; takes = λ more. nat_le (length more) room; wants_memory = true }
+short_of held room = record { shows = λ more. held ++ more; takes = λ more. nat_le (length more) room; tells = is_seventh; wants_memory = true }
 
 pub short_takes_nothing : (held : List ℕ) (room : ℕ) → IsTrue ((short_of held room).takes [])
 unfolding short_of

@@ -21,12 +21,13 @@ pub use acpi_ops::arithmetic::{
     Add, Decrement, Increment, Mod, Multiply, ShiftLeft, ShiftRight, Subtract,
 };
 pub use acpi_ops::bitwise::{And, Nand, Nor, Or, Xor};
-pub use acpi_ops::comparison::{Equal, GreaterThan, LAnd, LOr, LessThan};
+pub use acpi_ops::comparison::{
+    Equal, GreaterEqual, GreaterThan, LAnd, LOr, LessEqual, LessThan, NotEqual,
+};
 pub use acpi_ops::descriptor::{IO, Interrupt, Memory32Fixed, Register};
 pub use acpi_ops::objects::{
     Concat, ConcatRes, DeRefOf, Index, Mid, ObjectType, SizeOf, ToBuffer, ToInteger, ToString,
 };
-pub use acpi_ops::opposite::{GreaterEqual, LessEqual, NotEqual};
 pub use acpi_ops::statement::{
     Break, CreateDWordField, CreateField, CreateQWordField, Notify, Return, Store,
 };

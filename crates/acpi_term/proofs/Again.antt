@@ -9,10 +9,10 @@ use Rattle.acpi_term.specs.declared.op.Op.{Op}
 use Rattle.acpi_term.specs.declared.op.Op.TheVariants.{CreateField}
 use Rattle.acpi_term.specs.declared.mode.Mode.{Mode}
 use Rattle.acpi_term.specs.declared.mode.Mode.TheVariants.{Term, Element}
-use Rattle.acpi_term.specs.Tree.{Head, number, call, scope, device, method, power, buffer, pack, varpack, branch, loop, otherwise, op, Terms, end, term, count, depth}
+use Rattle.acpi_term.specs.Tree.{Head, number, call, def_scope, def_device, def_method, def_power_res, def_buffer, def_package, def_var_package, def_if, def_while, def_else, op, Terms, end, term, count, depth}
 use Rattle.acpi_term.specs.Operator.{opcode}
-use Rattle.acpi_term.specs.Spelling.{spelled, spelling, inner, next, FitsHead, Fits}
-use Rattle.acpi_term.proofs.Reading.{Fault, Deep, ◌>>=◌, least_of, assembled, follows, fills, Reader, counted, all_of, wants_no_more, close, term_at}
+use Rattle.acpi_term.specs.Spelling.{spelled, spelling, inner, next, IsLegal, AreLegal}
+use Rattle.acpi_term.specs.Reading.{Fault, Deep, ◌>>=◌, least_of, assembled, follows, fills, Reader, counted, all_of, wants_no_more, close, term_at}
 use Rattle.acpi_term.proofs.Names.{name_some}
 use Rattle.acpi_term.proofs.Opens.{opened, open_again}
 
@@ -41,49 +41,49 @@ nothing_inside (term h w c o) e = absurd (omega arith)
 
 module _ (arity : List ℕ → ℕ) where
   abbrev pub CountedAgain : Terms → Type 0
-  CountedAgain ts = (d : ℕ) (m : Mode) (rest : List ℕ) → Fits arity m ts → counted (term_at arity d) (count ts) m (spelling ts ++ rest) ≡ guarded (within ts d) (ts, rest)
+  CountedAgain ts = (d : ℕ) (m : Mode) (rest : List ℕ) → AreLegal arity m ts → counted (term_at arity d) (count ts) m (spelling ts ++ rest) ≡ guarded (within ts d) (ts, rest)
 
   abbrev pub AllAgain : Terms → Type 0
-  AllAgain ts = (d : ℕ) (m : Mode) (n : ℕ) → length (spelling ts) ≤ n → Fits arity m ts → all_of (term_at arity d) n m (spelling ts) ≡ guarded (within ts d) ts
+  AllAgain ts = (d : ℕ) (m : Mode) (n : ℕ) → length (spelling ts) ≤ n → AreLegal arity m ts → all_of (term_at arity d) n m (spelling ts) ≡ guarded (within ts d) ts
 
   pub record Again (ts : Terms) : Type 0 where
     pub several : CountedAgain ts
     pub whole : AllAgain ts
 
   -- several, with nothing after them
-  several_only : (ts : Terms) → CountedAgain ts → (d : ℕ) (m : Mode) → Fits arity m ts → counted (term_at arity d) (count ts) m (spelling ts) ≡ guarded (within ts d) (ts, [])
+  several_only : (ts : Terms) → CountedAgain ts → (d : ℕ) (m : Mode) → AreLegal arity m ts → counted (term_at arity d) (count ts) m (spelling ts) ≡ guarded (within ts d) (ts, [])
   several_only ts law d m f = ap (counted (term_at arity d) (count ts) m) (sym (append-nil (spelling ts))) ∙ law d m [] f
 
-  follows_closes : (h : Head) (w : ℕ) (c : Terms) → Again c → (d : ℕ) (rest : List ℕ) → Fits arity (inner h) c → close (term_at arity d) (follows h w (count c) (spelling c ++ rest)) ≡ guarded (within c d) (h, w, c, rest)
+  follows_closes : (h : Head) (w : ℕ) (c : Terms) → Again c → (d : ℕ) (rest : List ℕ) → AreLegal arity (inner h) c → close (term_at arity d) (follows h w (count c) (spelling c ++ rest)) ≡ guarded (within c d) (h, w, c, rest)
   unfolding close
   follows_closes h w c law d rest f = rw (law.several d (inner h) rest f) (guard_then (within c d) (c, rest) (λ x. Ok (h, w, x.0, x.1)) (h, w, c, rest) refl)
 
-  fills_closes : (h : Head) (w : ℕ) (c : Terms) → Again c → (d : ℕ) (rest : List ℕ) → least_of h ≤ count c → Fits arity (inner h) c → close (term_at arity d) (fills h w (spelling c) rest) ≡ guarded (within c d) (h, w, c, rest)
+  fills_closes : (h : Head) (w : ℕ) (c : Terms) → Again c → (d : ℕ) (rest : List ℕ) → least_of h ≤ count c → AreLegal arity (inner h) c → close (term_at arity d) (fills h w (spelling c) rest) ≡ guarded (within c d) (h, w, c, rest)
   unfolding close assembled
   fills_closes h w c law d rest enough f =
       let long : ltb (count c) (least_of h) ≡ false = le-ltb (count c) (least_of h) enough in
       rw (law.whole d (inner h) (length (spelling c)) (omega arith) f) (guard_then (within c d) c (λ x. assembled h w x >>= λ t. Ok (t.0, t.1, t.2, rest)) (h, w, c, rest) (rw long refl))
 
-  closes : (h : Head) (w : ℕ) (c : Terms) → Again c → (d : ℕ) (m : Mode) (rest : List ℕ) → FitsHead arity m h w (count c) (spelling c) → Fits arity (inner h) c
+  closes : (h : Head) (w : ℕ) (c : Terms) → Again c → (d : ℕ) (m : Mode) (rest : List ℕ) → IsLegal arity m h w (count c) (spelling c) → AreLegal arity (inner h) c
       → close (term_at arity d) (opened h w (count c) (spelling c) rest) ≡ guarded (within c d) (h, w, c, rest)
   unfolding close
-  closes (scope name) w c law d m rest fh f = fills_closes (scope name) w c law d rest (omega arith) f
-  closes (device name) w c law d m rest fh f = fills_closes (device name) w c law d rest (omega arith) f
-  closes (method name args serialized) w c law d m rest fh f = fills_closes (method name args serialized) w c law d rest (omega arith) f
-  closes (power name level order) w c law d m rest fh f = fills_closes (power name level order) w c law d rest (omega arith) f
-  closes varpack w c law d m rest fh f = fills_closes varpack w c law d rest fh.takes f
-  closes branch w c law d m rest fh f = fills_closes branch w c law d rest fh.takes f
-  closes loop w c law d m rest fh f = fills_closes loop w c law d rest fh.takes f
-  closes otherwise w c law d m rest fh f = fills_closes otherwise w c law d rest (omega arith) f
-  closes pack w c law d m rest fh f = rw (several_only c law.several d Element f) (guard_then (within c d) (c, []) (λ x. wants_no_more (term_at arity d) pack w x.0 x.1 rest) (pack, w, c, rest) refl)
-  closes (buffer bytes) w c law d m rest fh f =
+  closes (def_scope name) w c law d m rest fh f = fills_closes (def_scope name) w c law d rest (omega arith) f
+  closes (def_device name) w c law d m rest fh f = fills_closes (def_device name) w c law d rest (omega arith) f
+  closes (def_method name args serialized) w c law d m rest fh f = fills_closes (def_method name args serialized) w c law d rest (omega arith) f
+  closes (def_power_res name level order) w c law d m rest fh f = fills_closes (def_power_res name level order) w c law d rest (omega arith) f
+  closes def_var_package w c law d m rest fh f = fills_closes def_var_package w c law d rest fh.takes f
+  closes def_if w c law d m rest fh f = fills_closes def_if w c law d rest fh.takes f
+  closes def_while w c law d m rest fh f = fills_closes def_while w c law d rest fh.takes f
+  closes def_else w c law d m rest fh f = fills_closes def_else w c law d rest (omega arith) f
+  closes def_package w c law d m rest fh f = rw (several_only c law.several d Element f) (guard_then (within c d) (c, []) (λ x. wants_no_more (term_at arity d) def_package w x.0 x.1 rest) (def_package, w, c, rest) refl)
+  closes (def_buffer bytes) w c law d m rest fh f =
       let n : count c ≡ 1 = fh.takes in
       let r : counted (term_at arity d) 1 Term (spelling c ++ bytes) ≡ guarded (within c d) (c, bytes) = subst (λ k. counted (term_at arity d) k Term (spelling c ++ bytes) ≡ guarded (within c d) (c, bytes)) n (law.several d Term bytes f) in
-      rw r (guard_then (within c d) (c, bytes) (λ x. Ok (buffer x.1, w, x.0, rest)) (buffer bytes, w, c, rest) refl)
+      rw r (guard_then (within c d) (c, bytes) (λ x. Ok (def_buffer x.1, w, x.0, rest)) (def_buffer bytes, w, c, rest) refl)
   closes h w c law d m rest fh f = follows_closes h w c law d rest f
 
   -- one term is read again
-  step : (h : Head) (w : ℕ) (c : Terms) → Again c → (d : ℕ) (m : Mode) (rest : List ℕ) → FitsHead arity m h w (count c) (spelling c) → Fits arity (inner h) c
+  step : (h : Head) (w : ℕ) (c : Terms) → Again c → (d : ℕ) (m : Mode) (rest : List ℕ) → IsLegal arity m h w (count c) (spelling c) → AreLegal arity (inner h) c
       → term_at arity (suc d) m (spelled h w (count c) (spelling c) ++ rest) ≡ guarded (within c d) (h, w, c, rest)
   unfolding term_at
   step h w c law d m rest fh f = rw (open_again arity m h w (count c) (spelling c) rest fh (nothing_inside c)) (closes h w c law d m rest fh f)
@@ -117,14 +117,14 @@ all_more p (suc n) m (b ∷ bytes) some le = rw (less n) refl
 
 module _ (arity : List ℕ → ℕ) where
   -- a term has at least a byte
-  pub head_some : (m : Mode) (h : Head) (w n : ℕ) (inside : List ℕ) → FitsHead arity m h w n inside → 0 < length (spelled h w n inside)
+  pub head_some : (m : Mode) (h : Head) (w n : ℕ) (inside : List ℕ) → IsLegal arity m h w n inside → 0 < length (spelled h w n inside)
   head_some m (number v) w n inside f = number_some v w inside
   head_some m (call name) w n inside f = omega (arith, length-append name inside, name_some name f.is_standard)
   head_some m (op o) w n inside f = opcode_some o inside
   head_some m h w n inside f = omega arith
 
   -- one term, and then the others, to the end
-  all_step : (h : Head) (w : ℕ) (c o : Terms) → Again arity c → AllAgain arity o → (d : ℕ) (m : Mode) (n : ℕ) → length (spelling o) ≤ n → Fits arity m (term h w c o)
+  all_step : (h : Head) (w : ℕ) (c o : Terms) → Again arity c → AllAgain arity o → (d : ℕ) (m : Mode) (n : ℕ) → length (spelling o) ≤ n → AreLegal arity m (term h w c o)
       → (term_at arity d m (spelling (term h w c o)) >>= λ t. all_of (term_at arity d) n (next m) t.3 >>= λ x. Ok (term t.0 t.1 t.2 x)) ≡ guarded (within (term h w c o) d) (term h w c o)
   unfolding term_at
   all_step h w c o law others zero m n le f = refl

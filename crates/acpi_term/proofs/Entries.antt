@@ -6,11 +6,11 @@ use Rattle.acpi_base.specs.Bytes.{AreBytes}
 use Rattle.acpi_term.specs.Tree.{Entry, named, reserved}
 use Rattle.acpi_term.specs.Name.{AreSegments, no_more, one_more}
 use Rattle.acpi_term.specs.Length.{limit, length_bytes}
-use Rattle.acpi_term.specs.Row.{entry_bytes, entries_bytes, bits_of, width_of, entries_end}
-use Rattle.acpi_term.specs.Spelling.{EntryIsNamed, AreNamed, CarryBits}
+use Rattle.acpi_term.specs.Row.{entry_bytes, entries_bytes, entry_bits, entry_width, entries_end}
+use Rattle.acpi_term.specs.Spelling.{EntryIsNamed, AreNamed, EntriesFit}
 use Rattle.acpi_term.proofs.Bytes.{bytes_after}
 use Rattle.acpi_term.proofs.Lengths.{limit_top}
-use Rattle.acpi_term.proofs.Reading.{◌>>=◌, segment_at, length_at, entry_at, entries_at}
+use Rattle.acpi_term.specs.Reading.{◌>>=◌, segment_at, length_at, entry_at, entries_at}
 use Rattle.acpi_term.proofs.Steps.{bind_ok, ok_is, chosen}
 use Rattle.acpi_term.proofs.Names.{lead_of, lead_not, IsSegment, segment_takes}
 use Rattle.acpi_term.proofs.Frames.{length_takes, length_again, IsLength}
@@ -18,7 +18,7 @@ use Rattle.acpi_term.proofs.Frames.{length_takes, length_again, IsLength}
 pub record IsEntry (bytes : List ℕ) (e : Entry) (rest : List ℕ) : Type 0 where
   pub parts : bytes ≡ entry_bytes e ++ rest
   pub standard : EntryIsNamed e
-  pub fits : bits_of e < limit (width_of e)
+  pub fits : entry_bits e < limit (entry_width e)
   pub rest_fits : AreBytes rest
   pub less : length rest < length bytes
 
@@ -64,7 +64,7 @@ named_again : (s : List ℕ) (v w : ℕ) (rest : List ℕ) → AreSegments 1 s �
 unfolding entry_at
 named_again s v w rest (one_more {a} {b} {c} {d} h no_more) lt = let other : eqb a 0 ≡ false = lead_not a 0 (lead_of a b c d h) refl in rw (other, h, length_again w v rest lt) refl
 
-pub entry_again : (e : Entry) (rest : List ℕ) → EntryIsNamed e → bits_of e < limit (width_of e) → entry_at (entry_bytes e ++ rest) ≡ Ok (e, rest)
+pub entry_again : (e : Entry) (rest : List ℕ) → EntryIsNamed e → entry_bits e < limit (entry_width e) → entry_at (entry_bytes e ++ rest) ≡ Ok (e, rest)
 unfolding entry_at
 entry_again (named s v w) rest f lt = named_again s v w rest f lt
 entry_again (reserved v w) rest f lt = rw (length_again w v rest lt) refl
@@ -72,7 +72,7 @@ entry_again (reserved v w) rest f lt = rw (length_again w v rest lt) refl
 pub record AreEntries (bytes : List ℕ) (entries : List Entry) : Type 0 where
   pub parts : bytes ≡ entries_bytes entries
   pub standard : AreNamed entries
-  pub fits : CarryBits entries
+  pub fits : EntriesFit entries
 
 entries_more : (bytes : List ℕ) (e : Entry × List ℕ) (others : List Entry) → IsEntry bytes e.0 e.1 → AreEntries e.1 others → AreEntries bytes (e.0 ∷ others)
 entries_more bytes e others t o = record { parts = t.parts ∙ ap (λ (l : List ℕ). entry_bytes e.0 ++ l) o.parts; standard = (t.standard, o.standard); fits = (t.fits, o.fits) }
@@ -98,7 +98,7 @@ entry_some : (e : Entry) → EntryIsNamed e → 0 < length (entry_bytes e)
 entry_some (named s v w) (one_more h p) = omega arith
 entry_some (reserved v w) f = omega arith
 
-pub entries_again : (entries : List Entry) (n : ℕ) → length (entries_bytes entries) ≤ n → AreNamed entries → CarryBits entries → entries_at n (entries_bytes entries) ≡ Ok entries
+pub entries_again : (entries : List Entry) (n : ℕ) → length (entries_bytes entries) ≤ n → AreNamed entries → EntriesFit entries → entries_at n (entries_bytes entries) ≡ Ok entries
 unfolding entries_at
 entries_again [] n le f g = refl
 entries_again (e ∷ entries) n le f g =
@@ -108,8 +108,8 @@ entries_again (e ∷ entries) n le f g =
     ∙ rw (entry_again e (entries_bytes entries) f.0 g.0, entries_again entries (n - 1) (omega (arith, len, some, le)) f.1 g.1) refl
 
 -- entries whose widths carry their bits have fewer than 2^28
-pub entries_owned : (entries : List Entry) → CarryBits entries → entries_end entries ≡ None
+pub entries_owned : (entries : List Entry) → EntriesFit entries → entries_end entries ≡ None
 entries_owned [] f = refl
 entries_owned (e ∷ entries) f =
-    let small : ltb (bits_of e) (2 ^ 28) ≡ true = lt-ltb _ _ (limit_top (bits_of e) (width_of e) f.0) in
+    let small : ltb (entry_bits e) (2 ^ 28) ≡ true = lt-ltb _ _ (limit_top (entry_bits e) (entry_width e) f.0) in
     rw (small, entries_owned entries f.1) refl

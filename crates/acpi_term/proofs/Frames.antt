@@ -3,10 +3,10 @@ use Rattle.std.proofs.Common.{◌≡◌, ℕ, zero, suc, ◌+◌, ◌-◌, ◌*�
 use Rattle.std.proofs.lemmas.Bool.{ltb-false, ltb-true, le-ltb, lt-ltb}
 use Rattle.std.proofs.lemmas.List.{take_at, drop_at, take-append-drop, length-append, length-take}
 use Rattle.acpi_base.specs.Bytes.{AreBytes, le}
-use Rattle.acpi_term.specs.Length.{limit, length_bytes, framed, FitsFrame}
+use Rattle.acpi_term.specs.Length.{limit, length_bytes, with_length, FrameFits}
 use Rattle.acpi_term.proofs.Bytes.{bytes_take, bytes_drop, le_step}
 use Rattle.acpi_term.proofs.Lengths.{long_below, long_fits, long_is, length_long}
-use Rattle.acpi_term.proofs.Reading.{Bad, cut_at, high_at, length_at, sized_at, frame_at}
+use Rattle.acpi_term.specs.Reading.{Bad, cut_at, high_at, length_at, sized_at, frame_at}
 use Rattle.acpi_term.proofs.Steps.{bind_ok, ok_is, chosen, passed, admitted, Takes}
 
 cut_takes : (n : ℕ) (bytes s rest : List ℕ) → AreBytes bytes → cut_at n bytes ≡ Ok (s, rest) → Takes bytes s rest × AreBytes s × (length s ≡ n)
@@ -110,16 +110,16 @@ length_takes (b ∷ more) x fits e =
 
 -- a content that was cut off, with the length before it
 pub record Framed (bytes : List ℕ) (w : ℕ) (content after : List ℕ) : Type 0 where
-  pub parts : bytes ≡ framed w content ++ after
-  pub fits : FitsFrame w content
+  pub parts : bytes ≡ with_length w content ++ after
+  pub fits : FrameFits w content
   pub inside_fits : AreBytes content
   pub after_fits : AreBytes after
 
-pub frame_again : (w : ℕ) (content after : List ℕ) → FitsFrame w content → frame_at (framed w content ++ after) ≡ Ok (w, content, after)
+pub frame_again : (w : ℕ) (content after : List ℕ) → FrameFits w content → frame_at (with_length w content ++ after) ≡ Ok (w, content, after)
 unfolding frame_at
 frame_again w content after fits =
     let v = w + length content in
-    let grouped : framed w content ++ after ≡ length_bytes w v ++ (content ++ after) = append_assoc (length_bytes w v) content after in
+    let grouped : with_length w content ++ after ≡ length_bytes w v ++ (content ++ after) = append_assoc (length_bytes w v) content after in
     let enough : ltb v w ≡ false = le-ltb v w (omega arith) in
     let n : v - w ≡ length content = omega arith in
     rw (grouped, length_again w v (content ++ after) fits, enough, n, cut_again content after) refl

@@ -5,7 +5,7 @@ use Rattle.std.proofs.lemmas.Bool.{cases_lt, ltb-true, eqb-true, le-ltb, lt-ltb,
 use Rattle.std.proofs.lemmas.Bool.Decides.{nat_tests}
 use Rattle.acpi_base.specs.Bytes.{AreBytes, le}
 use Rattle.acpi_base.specs.Number.{number_limit, number_bytes, number_width}
-use Rattle.acpi_term.specs.Length.{carried, value, Frames, limit, length_bytes, framed, FitsFrame, least_width, StartsWithLength}
+use Rattle.acpi_term.specs.Length.{carried, value, Frames, limit, length_bytes, with_length, FrameFits, least_width, StartsWithLength}
 use Rattle.acpi_term.proofs.Bytes.{length_le, bytes_le, carried_le, le_carried, carried_below}
 
 -- ---- what a length can carry
@@ -199,12 +199,12 @@ means_length (b ∷ c ∷ more) v fits e =
 
 -- ---- frames
 
-pub frames_spelled : (p content : List ℕ) → Frames p content → FitsFrame (length p) content × (framed (length p) content ≡ p ++ content)
+pub frames_spelled : (p content : List ℕ) → Frames p content → FrameFits (length p) content × (with_length (length p) content ≡ p ++ content)
 frames_spelled p content f =
     let t = means_length p (length p + length content) f.bytes f.counts in
     (t.0, ap (λ l. l ++ content) t.1)
 
-pub frames_every : (w : ℕ) (content : List ℕ) → FitsFrame w content → (p : List ℕ) × Frames p content × (length p ≡ w) × (framed w content ≡ p ++ content)
+pub frames_every : (w : ℕ) (content : List ℕ) → FrameFits w content → (p : List ℕ) × Frames p content × (length p ≡ w) × (with_length w content ≡ p ++ content)
 frames_every w content fits =
     let t = length_means w (w + length content) fits in
     (length_bytes w (w + length content), record { bytes = t.bytes; counts = t.is ∙ ap (λ k. Some (k + length content)) (sym t.wide) }, t.wide, refl)
@@ -229,11 +229,11 @@ frames_least p content f =
     let t = frames_spelled p content f in
     (width_least (length content) (length p) t.0, width_bounds (length content) (length p) t.0)
 
-pub frame_ends : (w v : ℕ) (content : List ℕ) → FitsFrame w content → value (length_bytes w (w + length content)) ≡ Some v → v ≡ length (framed w content)
-frame_ends w v content fits e =
+pub frame_ends : (w : ℕ) (content : List ℕ) → FrameFits w content → value (length_bytes w (w + length content)) ≡ Some (length (with_length w content))
+frame_ends w content fits =
     let t = length_means w (w + length content) fits in
-    let is = some_is (w + length content) v (sym t.is ∙ e) in
-    omega (arith, is, t.wide, length-append (length_bytes w (w + length content)) content)
+    let size : w + length content ≡ length (with_length w content) = omega (arith, t.wide, length-append (length_bytes w (w + length content)) content) in
+    t.is ∙ ap (λ (n : ℕ). Some n) size
 
 -- ---- field entries
 

@@ -3,7 +3,7 @@ pub mod Lengths
 pub mod PathTexts
 pub mod NameTexts
 pub mod Rows
-pub mod Reading
+pub mod Inserts
 pub mod Steps
 pub mod Texts
 pub mod Names
@@ -15,3 +15,5 @@ pub mod Again
 pub mod Taken
 pub mod Unique
 pub mod Spells
+pub mod Depths
+pub mod Equals

@@ -1,4 +1,5 @@
 -- Texts of names.
+use Rattle.std.specs.List.{concat}
 use Rattle.std.proofs.Common.{◌≡◌, zero, ℕ, suc, ◌-◌, ◌<◌, get_or, take, drop, ◌≤◌, Bool, true, false, cond, eqb, List, [], ◌∷◌, ◌++◌, length, None, Some, refl, sym, ap, ◌∙◌, arith}
 use Rattle.std.specs.Prelude.{◌&&◌, nat_le}
 use Rattle.std.proofs.lemmas.Bool.{leb-true, eqb-true, and_parts, ne_eqb}
@@ -8,7 +9,7 @@ use Rattle.acpi_base.specs.declared.error.Error.{Error}
 use Rattle.acpi_base.specs.declared.error.Error.TheVariants.{NamePart, PathParts, Memory}
 use Rattle.acpi_base.specs.Object.{whole, ended, Built, IsOwnEnd}
 use Rattle.acpi_term.specs.Name.{is_lead, is_part, is_segment, AreSegments, no_more, one_more, IsPath, single, double, multiple, IsName, relative, rooted}
-use Rattle.acpi_term.specs.PathText.{parts, is_standard, are_standard, are_fours, dotted, joined, is_rooted, unrooted, lead, parts_end, path_spelling, path_of, is_name_text}
+use Rattle.acpi_term.specs.PathText.{parts, is_standard, are_standard, are_fours, dotted, is_rooted, unrooted, lead, parts_end, path_spelling, path_of, is_name_text}
 use Rattle.acpi_term.proofs.PathTexts as paths
 use Rattle.acpi_term.proofs.Rows.{ended_none}
 
@@ -92,9 +93,9 @@ segment_of (a ∷ b ∷ c ∷ []) n s h more = absurd cc
 segment_of (a ∷ b ∷ c ∷ d ∷ []) n s h more = one_more h more
 segment_of (a ∷ b ∷ c ∷ d ∷ e ∷ p) n s h more = absurd cc
 
-segments_of : (ps : List (List ℕ)) → are_standard ps ≡ true → AreSegments (length ps) (joined ps)
+segments_of : (ps : List (List ℕ)) → are_standard ps ≡ true → AreSegments (length ps) (concat ps)
 segments_of [] h = no_more
-segments_of (p ∷ ps) h = let both = and_parts (is_standard p) (are_standard ps) h in segment_of p (length ps) (joined ps) both.0 (segments_of ps both.1)
+segments_of (p ∷ ps) h = let both = and_parts (is_standard p) (are_standard ps) h in segment_of p (length ps) (concat ps) both.0 (segments_of ps both.1)
 
 path_from : (n : ℕ) (s : List ℕ) → 0 < n → n ≤ 255 → AreSegments n s → IsPath (lead n ++ s)
 path_from zero s some few h = absurd (omega arith)
@@ -115,8 +116,8 @@ parts_few text h = let both = and_parts (are_standard (parts (unrooted text))) (
 pub named : (text : List ℕ) → is_name_text text ≡ true → IsName (path_spelling text)
 named text h =
     let both = parts_few text h in
-    rooted_or (is_rooted text) (lead (length (parts (unrooted text))) ++ joined (parts (unrooted text)))
-    (path_from (length (parts (unrooted text))) (joined (parts (unrooted text))) (paths.some_parts (unrooted text)) both.1 (segments_of (parts (unrooted text)) both.0))
+    rooted_or (is_rooted text) (lead (length (parts (unrooted text))) ++ concat (parts (unrooted text)))
+    (path_from (length (parts (unrooted text))) (concat (parts (unrooted text))) (paths.some_parts (unrooted text)) both.1 (segments_of (parts (unrooted text)) both.0))
 
 whole_path : (t u : Bool) (b : List ℕ) → t ≡ true → u ≡ true
     → ((ended (cond t (cond u None (Some PathParts)) (Some NamePart)) (whole b)).end ≡ None) × ((ended (cond t (cond u None (Some PathParts)) (Some NamePart)) (whole b)).front ≡ b)

@@ -4,7 +4,7 @@ use Rattle.std.specs.Prelude.{◌&&◌}
 use Rattle.std.proofs.lemmas.Bool.{ltb-false, eqb-true, le-ltb, ne_eqb, and_parts}
 use Rattle.acpi_base.specs.Bytes.{AreBytes}
 use Rattle.acpi_term.specs.Name.{is_lead, is_part, is_segment, AreSegments, no_more, one_more, IsPath, single, double, multiple, IsName, relative, rooted}
-use Rattle.acpi_term.proofs.Reading.{Bad, ◌>>=◌, segment_at, segments_at, several_at, path_at, name_at}
+use Rattle.acpi_term.specs.Reading.{Bad, ◌>>=◌, segment_at, segments_at, several_at, path_at, name_at}
 use Rattle.acpi_term.proofs.Steps.{bind_ok, ok_is, chosen, passed, admitted}
 
 -- ---- segments

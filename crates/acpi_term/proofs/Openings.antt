@@ -9,14 +9,14 @@ use Rattle.acpi_base.specs.Number.{prefix, number_limit}
 use Rattle.acpi_term.specs.declared.op.Op.{Op}
 use Rattle.acpi_term.specs.declared.op.Op.TheVariants.{CreateField}
 use Rattle.acpi_term.specs.declared.mode.Mode.{Mode}
-use Rattle.acpi_term.specs.Tree.{Entry, Head, number, ones, text, local, arg, call, scope, device, method, power, field, region, define, mutex, acquire, release, buffer, pack, varpack, branch, loop, otherwise, op}
+use Rattle.acpi_term.specs.Tree.{Entry, Head, number, ones, string, local, arg, call, def_scope, def_device, def_method, def_power_res, def_field, def_op_region, def_name, def_mutex, def_acquire, def_release, def_buffer, def_package, def_var_package, def_if, def_while, def_else, op}
 use Rattle.acpi_term.specs.Name.{IsName, IsText}
-use Rattle.acpi_term.specs.Length.{framed, FitsFrame}
+use Rattle.acpi_term.specs.Length.{with_length, FrameFits}
 use Rattle.acpi_term.specs.Operator.{opcode, operands}
 use Rattle.acpi_term.specs.Row.{entries_bytes, field_flags, method_flags}
-use Rattle.acpi_term.specs.Spelling.{spelled, arguments, FitsHead}
+use Rattle.acpi_term.specs.Spelling.{spelled, arguments, IsLegal}
 use Rattle.acpi_term.proofs.Bytes.{bytes_after}
-use Rattle.acpi_term.proofs.Reading.{Fault, Bad, ◌>>=◌, name_at, frame_at, text_at, high_at, entries_at, op_of, begins_name, number_at, string_at, After, named_at, define_after, release_after, mutex_after, region_after, acquire_after, Inside, framed_at, scope_inside, device_inside, method_inside, power_inside, field_inside, plain_at, counted_frame, package_at, buffer_at, operator_at, extended_at, local_at, opcode_at, Opened, follows, fills, packs, begins, open_at, least_of}
+use Rattle.acpi_term.specs.Reading.{Fault, Bad, ◌>>=◌, name_at, frame_at, text_at, high_at, entries_at, op_of, begins_name, number_at, string_at, After, named_at, define_after, release_after, mutex_after, region_after, acquire_after, Inside, framed_at, scope_inside, device_inside, method_inside, power_inside, field_inside, plain_at, counted_frame, package_at, buffer_at, operator_at, extended_at, local_at, opcode_at, Opened, follows, fills, packs, begins, open_at, least_of}
 use Rattle.acpi_term.proofs.Steps.{bind_ok, ok_is, admitted}
 use Rattle.acpi_term.proofs.Names.{name_takes}
 use Rattle.acpi_term.proofs.Texts.{text_takes}
@@ -39,13 +39,13 @@ named_parts : (code name mid rest tail inside after bytes : List ℕ) → bytes 
 named_parts code name mid rest tail inside after bytes is e f =
     bare_parts (code ++ (name ++ mid)) tail inside after bytes (is ∙ ap (λ (l : List ℕ). code ++ l) (e ∙ sym (append_assoc name mid tail)) ∙ sym (append_assoc code (name ++ mid) tail)) f
 
-boxed_parts : (code before rest content inside after bytes : List ℕ) (w : ℕ) → bytes ≡ code ++ rest → rest ≡ framed w content ++ after → content ≡ before ++ inside → bytes ≡ (code ++ framed w (before ++ inside)) ++ after
-boxed_parts code before rest content inside after bytes w is e f =
-    is ∙ ap (λ (l : List ℕ). code ++ l) e ∙ ap (λ (l : List ℕ). code ++ (framed w l ++ after)) f ∙ sym (append_assoc code (framed w (before ++ inside)) after)
+frame_parts : (code rest content same after bytes : List ℕ) (w : ℕ) → bytes ≡ code ++ rest → rest ≡ with_length w content ++ after → content ≡ same → bytes ≡ (code ++ with_length w same) ++ after
+frame_parts code rest content same after bytes w is e f =
+    is ∙ ap (λ (l : List ℕ). code ++ l) e ∙ ap (λ (l : List ℕ). code ++ (with_length w l ++ after)) f ∙ sym (append_assoc code (with_length w same) after)
 
-tail_parts : (code after_it rest content inside after bytes : List ℕ) (w : ℕ) → bytes ≡ code ++ rest → rest ≡ framed w content ++ after → content ≡ inside ++ after_it → bytes ≡ (code ++ framed w (inside ++ after_it)) ++ after
-tail_parts code after_it rest content inside after bytes w is e f =
-    is ∙ ap (λ (l : List ℕ). code ++ l) e ∙ ap (λ (l : List ℕ). code ++ (framed w l ++ after)) f ∙ sym (append_assoc code (framed w (inside ++ after_it)) after)
+-- nothing stands after the children
+none_after : (before inside content : List ℕ) → content ≡ before ++ inside → content ≡ before ++ (inside ++ [])
+none_after before inside content e = e ∙ ap (λ (l : List ℕ). before ++ l) (sym (append-nil inside))
 
 grouped : (name mid inside content tail : List ℕ) → content ≡ name ++ tail → tail ≡ mid ++ inside → content ≡ (name ++ mid) ++ inside
 grouped name mid inside content tail e f = e ∙ ap (λ (l : List ℕ). name ++ l) f ∙ sym (append_assoc name mid inside)
@@ -62,11 +62,11 @@ module _ (arity : List ℕ → ℕ) (m : Mode) where
   -- what the bytes of an opened head are, whichever children and bytes after them follow
   abbrev pub OpenTakes : List ℕ → Opened → Type 0
   OpenTakes bytes (follows h w n rest) =
-      AreBytes rest × ((inside after : List ℕ) → rest ≡ inside ++ after → (n ≡ 0 → inside ≡ []) → (bytes ≡ spelled h w n inside ++ after) × FitsHead arity m h w n inside)
-  OpenTakes bytes (fills h w inside after) = AreBytes inside × AreBytes after × ((n : ℕ) → least_of h ≤ n → (bytes ≡ spelled h w n inside ++ after) × FitsHead arity m h w n inside)
-  OpenTakes bytes (packs w n inside after) = AreBytes inside × AreBytes after × (bytes ≡ spelled pack w n inside ++ after) × FitsHead arity m pack w n inside
+      AreBytes rest × ((inside after : List ℕ) → rest ≡ inside ++ after → (n ≡ 0 → inside ≡ []) → (bytes ≡ spelled h w n inside ++ after) × IsLegal arity m h w n inside)
+  OpenTakes bytes (fills h w inside after) = AreBytes inside × AreBytes after × ((n : ℕ) → least_of h ≤ n → (bytes ≡ spelled h w n inside ++ after) × IsLegal arity m h w n inside)
+  OpenTakes bytes (packs w n inside after) = AreBytes inside × AreBytes after × (bytes ≡ spelled def_package w n inside ++ after) × IsLegal arity m def_package w n inside
   OpenTakes bytes (begins w content after) =
-      AreBytes content × AreBytes after × ((inside rest : List ℕ) → content ≡ inside ++ rest → (bytes ≡ spelled (buffer rest) w 1 inside ++ after) × FitsHead arity m (buffer rest) w 1 inside)
+      AreBytes content × AreBytes after × ((inside rest : List ℕ) → content ≡ inside ++ rest → (bytes ≡ spelled (def_buffer rest) w 1 inside ++ after) × IsLegal arity m (def_buffer rest) w 1 inside)
 
   -- a reading that ended in o
   Reads : Result Opened Fault → List ℕ → Type 0
@@ -88,12 +88,12 @@ module _ (arity : List ℕ → ℕ) (m : Mode) where
   where_it_holds : (b : Bool) (x : Result Opened Fault) (bytes : List ℕ) → (b ≡ true → Reads x bytes) → Reads (cond b x (Err Bad)) bytes
   where_it_holds b x bytes f = either_way b x (Err Bad) bytes f (λ _. refused bytes)
 
-  -- ---- rows with nothing framed
+  -- ---- rows without a frame
 
   -- a head of width 0 that n children follow, after these bytes
   record IsBare (h : Head) (n : ℕ) (before : List ℕ) : Type 0 where
     row : (inside : List ℕ) → spelled h 0 n inside ≡ before ++ inside
-    fits : (inside : List ℕ) → FitsHead arity m h 0 n inside
+    fits : (inside : List ℕ) → IsLegal arity m h 0 n inside
 
   bare_reads : (h : Head) (n : ℕ) (before rest bytes : List ℕ) → IsBare h n before → bytes ≡ before ++ rest → AreBytes rest → Reads (Ok (follows h 0 n rest)) bytes
   bare_reads h n before rest bytes row is fits =
@@ -140,15 +140,15 @@ module _ (arity : List ℕ → ℕ) (m : Mode) where
   operator_reads b None rest is fits = refused (b ∷ rest)
   operator_reads b (Some o) rest is fits = op_reads o rest (b ∷ rest) (ap (λ (l : List ℕ). l ++ rest) (op_is b o is)) fits
 
-  string_is : (bytes s rest all : List ℕ) → all ≡ 13 ∷ bytes → AreBytes bytes → IsText s × (bytes ≡ s ++ 0 ∷ rest) → Reads (Ok (follows (text s) 0 0 rest)) all
+  string_is : (bytes s rest all : List ℕ) → all ≡ 13 ∷ bytes → AreBytes bytes → IsText s × (bytes ≡ s ++ 0 ∷ rest) → Reads (Ok (follows (string s) 0 0 rest)) all
   string_is bytes s rest all is fits t =
-      bare_reads (text s) 0 (13 ∷ s ++ 0 ∷ []) rest all (record { row = λ inside. refl; fits = λ inside. record { takes = refl; is_standard = t.0; owns = refl; fits = refl } })
+      bare_reads (string s) 0 (13 ∷ s ++ 0 ∷ []) rest all (record { row = λ inside. refl; fits = λ inside. record { takes = refl; is_standard = t.0; owns = refl; fits = refl } })
       (is ∙ ap (λ (l : List ℕ). 13 ∷ l) (t.1 ∙ sym (append_assoc s (0 ∷ []) rest))) (bytes_after s (0 ∷ rest) (subst AreBytes t.1 fits)).1
 
   string_reads : (b : ℕ) (bytes : List ℕ) → b ≡ 13 → AreBytes bytes → Reads (string_at bytes) (b ∷ bytes)
   unfolding Reads
   string_reads b bytes is fits o e =
-      let t = bind_ok (text_at bytes) (λ t. Ok (follows (text t.0) 0 0 t.1)) o e in
+      let t = bind_ok (text_at bytes) (λ t. Ok (follows (string t.0) 0 0 t.1)) o e in
       string_is bytes t.0.0 t.0.1 (b ∷ bytes) (one_byte b 13 bytes is) fits (text_takes bytes t.0.0 t.0.1 t.1) o t.2
 
   -- ---- names
@@ -166,31 +166,31 @@ module _ (arity : List ℕ → ℕ) (m : Mode) where
 
   define_reads : (rest bytes : List ℕ) → bytes ≡ (8 ∷ []) ++ rest → AfterReads define_after rest bytes
   define_reads rest bytes is name tail p e fits =
-      bare_reads (define name) 1 (8 ∷ name) tail bytes (record { row = λ inside. refl; fits = λ inside. record { takes = refl; is_standard = p; owns = refl; fits = refl } }) (is ∙ ap (λ (l : List ℕ). 8 ∷ l) e) fits
+      bare_reads (def_name name) 1 (8 ∷ name) tail bytes (record { row = λ inside. refl; fits = λ inside. record { takes = refl; is_standard = p; owns = refl; fits = refl } }) (is ∙ ap (λ (l : List ℕ). 8 ∷ l) e) fits
 
   release_reads : (rest bytes : List ℕ) → bytes ≡ (91 ∷ 39 ∷ []) ++ rest → AfterReads release_after rest bytes
   release_reads rest bytes is name tail p e fits =
-      bare_reads (release name) 0 (91 ∷ 39 ∷ name) tail bytes (record { row = λ inside. refl; fits = λ inside. record { takes = refl; is_standard = p; owns = refl; fits = refl } })
+      bare_reads (def_release name) 0 (91 ∷ 39 ∷ name) tail bytes (record { row = λ inside. refl; fits = λ inside. record { takes = refl; is_standard = p; owns = refl; fits = refl } })
       (is ∙ ap (λ (l : List ℕ). 91 ∷ 39 ∷ l) e) fits
 
   mutex_reads : (rest bytes : List ℕ) → bytes ≡ (91 ∷ 1 ∷ []) ++ rest → AfterReads mutex_after rest bytes
   mutex_reads rest bytes is name [] p e fits = refused bytes
   mutex_reads rest bytes is name (level ∷ tail) p e fits =
-      bare_reads (mutex name level) 0 (91 ∷ 1 ∷ name ++ level ∷ []) tail bytes (record { row = λ inside. refl; fits = λ inside. record { takes = refl; is_standard = (p, fits.0); owns = refl; fits = refl } })
+      bare_reads (def_mutex name level) 0 (91 ∷ 1 ∷ name ++ level ∷ []) tail bytes (record { row = λ inside. refl; fits = λ inside. record { takes = refl; is_standard = (p, fits.0); owns = refl; fits = refl } })
       (is ∙ ap (λ (l : List ℕ). 91 ∷ 1 ∷ l) (e ∙ sym (append_assoc name (level ∷ []) tail))) fits.1
 
   region_reads : (rest bytes : List ℕ) → bytes ≡ (91 ∷ 128 ∷ []) ++ rest → AfterReads region_after rest bytes
   region_reads rest bytes is name [] p e fits = refused bytes
   region_reads rest bytes is name (space ∷ tail) p e fits =
-      bare_reads (region name space) 2 (91 ∷ 128 ∷ name ++ space ∷ []) tail bytes (record { row = λ inside. refl; fits = λ inside. record { takes = refl; is_standard = (p, fits.0); owns = refl; fits = refl } })
+      bare_reads (def_op_region name space) 2 (91 ∷ 128 ∷ name ++ space ∷ []) tail bytes (record { row = λ inside. refl; fits = λ inside. record { takes = refl; is_standard = (p, fits.0); owns = refl; fits = refl } })
       (is ∙ ap (λ (l : List ℕ). 91 ∷ 128 ∷ l) (e ∙ sym (append_assoc name (space ∷ []) tail))) fits.1
 
   acquire_reads : (rest bytes : List ℕ) → bytes ≡ (91 ∷ 35 ∷ []) ++ rest → AfterReads acquire_after rest bytes
   unfolding Reads
   acquire_reads rest bytes is name tail p e fits o r =
-      let h = bind_ok (high_at 2 tail) (λ h. Ok (follows (acquire name h.0) 0 0 h.1)) o r in
+      let h = bind_ok (high_at 2 tail) (λ h. Ok (follows (def_acquire name h.0) 0 0 h.1)) o r in
       let t = high_takes 2 tail h.0 fits h.1 in
-      bare_reads (acquire name h.0.0) 0 (91 ∷ 35 ∷ name ++ le 2 h.0.0) h.0.1 bytes (record { row = λ inside. refl; fits = λ inside. record { takes = refl; is_standard = (p, t.below); owns = refl; fits = refl } })
+      bare_reads (def_acquire name h.0.0) 0 (91 ∷ 35 ∷ name ++ le 2 h.0.0) h.0.1 bytes (record { row = λ inside. refl; fits = λ inside. record { takes = refl; is_standard = (p, t.below); owns = refl; fits = refl } })
       (is ∙ ap (λ (l : List ℕ). 91 ∷ 35 ∷ l) (grouped name (le 2 h.0.0) h.0.1 rest tail e t.parts)) t.fits o h.2
 
   -- ---- names in frames
@@ -210,35 +210,38 @@ module _ (arity : List ℕ → ℕ) (m : Mode) where
 
   scope_reads : (rest bytes : List ℕ) → bytes ≡ (16 ∷ []) ++ rest → InsideReads scope_inside rest bytes
   scope_reads rest bytes is w name tail content after f p e fits =
-      opens (fills (scope name) w tail after) bytes (
+      let same = none_after name tail content e in
+      opens (fills (def_scope name) w tail after) bytes (
         fits,
         f.after_fits,
         λ n enough. (
-          boxed_parts (16 ∷ []) name rest content tail after bytes w is f.parts e,
-          record { takes = tt; is_standard = p; owns = refl; fits = subst (FitsFrame w) e f.fits },
+          frame_parts (16 ∷ []) rest content _ after bytes w is f.parts same,
+          record { takes = tt; is_standard = p; owns = refl; fits = subst (FrameFits w) same f.fits },
         ),
       )
 
   device_reads : (rest bytes : List ℕ) → bytes ≡ (91 ∷ 130 ∷ []) ++ rest → InsideReads device_inside rest bytes
   device_reads rest bytes is w name tail content after f p e fits =
-      opens (fills (device name) w tail after) bytes (
+      let same = none_after name tail content e in
+      opens (fills (def_device name) w tail after) bytes (
         fits,
         f.after_fits,
         λ n enough. (
-          boxed_parts (91 ∷ 130 ∷ []) name rest content tail after bytes w is f.parts e,
-          record { takes = tt; is_standard = p; owns = refl; fits = subst (FitsFrame w) e f.fits },
+          frame_parts (91 ∷ 130 ∷ []) rest content _ after bytes w is f.parts same,
+          record { takes = tt; is_standard = p; owns = refl; fits = subst (FrameFits w) same f.fits },
         ),
       )
 
   method_is : (rest bytes : List ℕ) (w : ℕ) (name inside content after : List ℕ) (args : ℕ) (serialized : Bool) → bytes ≡ (20 ∷ []) ++ rest → Framed rest w content after → IsName name → args ≤ 7
-      → content ≡ (name ++ method_flags args serialized ∷ []) ++ inside → AreBytes inside → Reads (Ok (fills (method name args serialized) w inside after)) bytes
+      → content ≡ (name ++ method_flags args serialized ∷ []) ++ inside → AreBytes inside → Reads (Ok (fills (def_method name args serialized) w inside after)) bytes
   method_is rest bytes w name inside content after args serialized is f p few e fits =
-      opens (fills (method name args serialized) w inside after) bytes (
+      let same = none_after (name ++ method_flags args serialized ∷ []) inside content e in
+      opens (fills (def_method name args serialized) w inside after) bytes (
         fits,
         f.after_fits,
         λ n enough. (
-          boxed_parts (20 ∷ []) (name ++ method_flags args serialized ∷ []) rest content inside after bytes w is f.parts e,
-          record { takes = tt; is_standard = p; owns = rw (le-leb args 7 few) refl; fits = subst (FitsFrame w) e f.fits },
+          frame_parts (20 ∷ []) rest content _ after bytes w is f.parts same,
+          record { takes = tt; is_standard = p; owns = rw (le-leb args 7 few) refl; fits = subst (FrameFits w) same f.fits },
         ),
       )
 
@@ -255,32 +258,32 @@ module _ (arity : List ℕ → ℕ) (m : Mode) where
   unfolding Reads
   power_reads rest bytes is w name [] content after f p e fits o r = absurd cc
   power_reads rest bytes is w name (level ∷ tail) content after f p e fits o r =
-      let h = bind_ok (high_at 2 tail) (λ h. Ok (fills (power name level h.0) w h.1 after)) o r in
+      let h = bind_ok (high_at 2 tail) (λ h. Ok (fills (def_power_res name level h.0) w h.1 after)) o r in
       let t = high_takes 2 tail h.0 fits.1 h.1 in
-      let same : content ≡ (name ++ level ∷ le 2 h.0.0) ++ h.0.1 = grouped name (level ∷ le 2 h.0.0) h.0.1 content (level ∷ tail) e (ap (λ (l : List ℕ). level ∷ l) t.parts) in
-      opens (fills (power name level h.0.0) w h.0.1 after) bytes (
+      let same = none_after (name ++ level ∷ le 2 h.0.0) h.0.1 content (grouped name (level ∷ le 2 h.0.0) h.0.1 content (level ∷ tail) e (ap (λ (l : List ℕ). level ∷ l) t.parts)) in
+      opens (fills (def_power_res name level h.0.0) w h.0.1 after) bytes (
         t.fits,
         f.after_fits,
         λ n enough. (
-          boxed_parts (91 ∷ 132 ∷ []) (name ++ level ∷ le 2 h.0.0) rest content h.0.1 after bytes w is f.parts same,
-          record { takes = tt; is_standard = (p, fits.0, t.below); owns = refl; fits = subst (FitsFrame w) same f.fits },
+          frame_parts (91 ∷ 132 ∷ []) rest content _ after bytes w is f.parts same,
+          record { takes = tt; is_standard = (p, fits.0, t.below); owns = refl; fits = subst (FrameFits w) same f.fits },
         ),
       ) o h.2
 
   field_is : (rest bytes : List ℕ) (w : ℕ) (name inside content after : List ℕ) (access lock update : ℕ) (entries : List Entry) → bytes ≡ (91 ∷ 129 ∷ []) ++ rest → Framed rest w content after → IsName name
-      → access ≤ 5 → lock ≤ 1 → update ≤ 2 → content ≡ name ++ field_flags access lock update ∷ inside → AreEntries inside entries → OpenTakes bytes (follows (field name access lock update entries) w 0 after)
+      → access ≤ 5 → lock ≤ 1 → update ≤ 2 → content ≡ name ++ field_flags access lock update ∷ inside → AreEntries inside entries → OpenTakes bytes (follows (def_field name access lock update entries) w 0 after)
   field_is rest bytes w name inside content after access lock update entries is f p a l u e t =
       let before = name ++ field_flags access lock update ∷ entries_bytes entries in
       let same : content ≡ before ++ [] = e ∙ ap (λ (l : List ℕ). name ++ field_flags access lock update ∷ l) t.parts ∙ sym (append-nil before) in
-      let parts : bytes ≡ ((91 ∷ 129 ∷ []) ++ framed w (before ++ [])) ++ after = boxed_parts (91 ∷ 129 ∷ []) before rest content [] after bytes w is f.parts same in
-      let fits : FitsFrame w (before ++ []) = subst (FitsFrame w) same f.fits in
-      let head : FitsHead arity m (field name access lock update entries) w 0 [] = record { takes = refl; is_standard = (p, a, l, u, t.standard); owns = entries_owned entries t.fits; fits = (t.fits, fits) } in (
+      let parts : bytes ≡ ((91 ∷ 129 ∷ []) ++ with_length w (before ++ [])) ++ after = frame_parts (91 ∷ 129 ∷ []) rest content _ after bytes w is f.parts same in
+      let fits : FrameFits w (before ++ []) = subst (FrameFits w) same f.fits in
+      let head : IsLegal arity m (def_field name access lock update entries) w 0 [] = record { takes = refl; is_standard = (p, a, l, u, t.standard); owns = entries_owned entries t.fits; fits = (t.fits, fits) } in (
         f.after_fits,
         λ inner after_it split nothing.
             let none = nothing refl in
             let rest_is : after ≡ after_it = split ∙ ap (λ (l : List ℕ). l ++ after_it) none in
-            subst (λ (l : List ℕ). (bytes ≡ spelled (field name access lock update entries) w 0 l ++ after_it) × FitsHead arity m (field name access lock update entries) w 0 l) (sym none)
-            (parts ∙ ap (λ (l : List ℕ). ((91 ∷ 129 ∷ []) ++ framed w (before ++ [])) ++ l) rest_is, head),
+            subst (λ (l : List ℕ). (bytes ≡ spelled (def_field name access lock update entries) w 0 l ++ after_it) × IsLegal arity m (def_field name access lock update entries) w 0 l) (sym none)
+            (parts ∙ ap (λ (l : List ℕ). ((91 ∷ 129 ∷ []) ++ with_length w (before ++ [])) ++ l) rest_is, head),
       )
 
   field_reads : (rest bytes : List ℕ) → bytes ≡ (91 ∷ 129 ∷ []) ++ rest → InsideReads field_inside rest bytes
@@ -289,36 +292,38 @@ module _ (arity : List ℕ → ℕ) (m : Mode) where
   field_reads rest bytes is w name (flags ∷ inside) content after f p e fits o r =
       let low = admitted (ltb (flags % 16) 6) Bad _ o r in
       let high = admitted (ltb flags 96) Bad _ o low.1 in
-      let a = bind_ok (entries_at (length inside) inside) (λ e. Ok (follows (field name (flags % 16) (flags / 16 % 2) (flags / 32) e) w 0 after)) o high.1 in
+      let a = bind_ok (entries_at (length inside) inside) (λ e. Ok (follows (def_field name (flags % 16) (flags / 16 % 2) (flags / 32) e) w 0 after)) o high.1 in
       let t = entries_takes (length inside) inside a.0 fits.1 a.1 in
       let small : flags % 16 < 6 = ltb-true _ 6 low.0 in
       let top : flags < 96 = ltb-true _ 96 high.0 in
-      opens (follows (field name (flags % 16) (flags / 16 % 2) (flags / 32) a.0) w 0 after) bytes
+      opens (follows (def_field name (flags % 16) (flags / 16 % 2) (flags / 32) a.0) w 0 after) bytes
       (field_is rest bytes w name inside content after (flags % 16) (flags / 16 % 2) (flags / 32) a.0 is f p (omega arith) (omega arith) (omega arith) (e ∙ ap (λ (x : ℕ). name ++ x ∷ inside) (sym (flags_is flags))) t) o a.2
 
   -- ---- other frames
 
   -- a head whose row is its opcode and a frame
   record IsPlain (h : Head) (k : ℕ) : Type 0 where
-    row : (w n : ℕ) (inside : List ℕ) → spelled h w n inside ≡ (k ∷ []) ++ framed w inside
-    fits : (w n : ℕ) (inside : List ℕ) → least_of h ≤ n → FitsFrame w inside → FitsHead arity m h w n inside
+    row : (w n : ℕ) (inside : List ℕ) → spelled h w n inside ≡ (k ∷ []) ++ with_length w (inside ++ [])
+    fits : (w n : ℕ) (inside : List ℕ) → least_of h ≤ n → FrameFits w (inside ++ []) → IsLegal arity m h w n inside
 
   plain_reads : (h : Head) (k b : ℕ) (rest : List ℕ) → IsPlain h k → b ≡ k → AreBytes rest → Reads (plain_at h rest) (b ∷ rest)
   unfolding Reads
   plain_reads h k b rest p is fits o e =
       let f = bind_ok (frame_at rest) (λ f. Ok (fills h f.0 f.1 f.2)) o e in
       let t = frame_takes rest f.0 fits f.1 in
-      let parts : b ∷ rest ≡ ((k ∷ []) ++ framed f.0.0 f.0.1) ++ f.0.2 = boxed_parts (k ∷ []) [] rest f.0.1 f.0.1 f.0.2 (b ∷ rest) f.0.0 (one_byte b k rest is) t.parts refl in
-      opens (fills h f.0.0 f.0.1 f.0.2) (b ∷ rest) (t.inside_fits, t.after_fits, λ n enough. (parts ∙ ap (λ (l : List ℕ). l ++ f.0.2) (sym (p.row f.0.0 n f.0.1)), p.fits f.0.0 n f.0.1 enough t.fits)) o f.2
+      let same = none_after [] f.0.1 f.0.1 refl in
+      let parts : b ∷ rest ≡ ((k ∷ []) ++ with_length f.0.0 (f.0.1 ++ [])) ++ f.0.2 = frame_parts (k ∷ []) rest f.0.1 (f.0.1 ++ []) f.0.2 (b ∷ rest) f.0.0 (one_byte b k rest is) t.parts same in
+      opens (fills h f.0.0 f.0.1 f.0.2) (b ∷ rest) (t.inside_fits, t.after_fits, λ n enough. (parts ∙ ap (λ (l : List ℕ). l ++ f.0.2) (sym (p.row f.0.0 n f.0.1)), p.fits f.0.0 n f.0.1 enough (subst (FrameFits f.0.0) same t.fits))) o f.2
 
   package_is : (b w : ℕ) (rest content after : List ℕ) → b ≡ 18 → Framed rest w content after → Reads (counted_frame w content after) (b ∷ rest)
   package_is b w rest [] after is f = refused (b ∷ rest)
   package_is b w rest (n ∷ inside) after is f =
+      let same = none_after (n ∷ []) inside (n ∷ inside) refl in
       opens (packs w n inside after) (b ∷ rest) (
         f.inside_fits.1,
         f.after_fits,
-        boxed_parts (18 ∷ []) (n ∷ []) rest (n ∷ inside) inside after (b ∷ rest) w (one_byte b 18 rest is) f.parts refl,
-        record { takes = tt; is_standard = tt; owns = rw (le-leb n 255 (omega (arith, f.inside_fits.0))) refl; fits = f.fits },
+        frame_parts (18 ∷ []) rest (n ∷ inside) _ after (b ∷ rest) w (one_byte b 18 rest is) f.parts same,
+        record { takes = tt; is_standard = tt; owns = rw (le-leb n 255 (omega (arith, f.inside_fits.0))) refl; fits = subst (FrameFits w) same f.fits },
       )
 
   package_reads : (b : ℕ) (rest : List ℕ) → b ≡ 18 → AreBytes rest → Reads (package_at rest) (b ∷ rest)
@@ -332,8 +337,8 @@ module _ (arity : List ℕ → ℕ) (m : Mode) where
     f.inside_fits,
     f.after_fits,
     λ inside bytes e. (
-      tail_parts (17 ∷ []) bytes rest content inside after (b ∷ rest) w (one_byte b 17 rest is) f.parts e,
-      record { takes = refl; is_standard = bytes_after inside bytes (subst AreBytes e f.inside_fits); owns = refl; fits = subst (FitsFrame w) e f.fits },
+      frame_parts (17 ∷ []) rest content _ after (b ∷ rest) w (one_byte b 17 rest is) f.parts e,
+      record { takes = refl; is_standard = bytes_after inside bytes (subst AreBytes e f.inside_fits); owns = refl; fits = subst (FrameFits w) e f.fits },
     ),
   )
 
@@ -367,16 +372,16 @@ module _ (arity : List ℕ → ℕ) (m : Mode) where
       (λ h. let p = and_parts (nat_le 104 b) (nat_le b 110) h in let low = leb-true 104 b p.0 in let high = leb-true b 110 p.1 in arg_reads b (b - 104) rest (omega arith) (omega arith) fits)
       (λ h. operator_reads b (op_of b) rest refl fits))
 
-  varpack_plain : IsPlain varpack 19
+  varpack_plain : IsPlain def_var_package 19
   varpack_plain = record { row = λ w n inside. refl; fits = λ w n inside enough f. record { takes = enough; is_standard = tt; owns = refl; fits = f } }
 
-  branch_plain : IsPlain branch 160
+  branch_plain : IsPlain def_if 160
   branch_plain = record { row = λ w n inside. refl; fits = λ w n inside enough f. record { takes = enough; is_standard = tt; owns = refl; fits = f } }
 
-  loop_plain : IsPlain loop 162
+  loop_plain : IsPlain def_while 162
   loop_plain = record { row = λ w n inside. refl; fits = λ w n inside enough f. record { takes = enough; is_standard = tt; owns = refl; fits = f } }
 
-  otherwise_plain : IsPlain otherwise 161
+  otherwise_plain : IsPlain def_else 161
   otherwise_plain = record { row = λ w n inside. refl; fits = λ w n inside enough f. record { takes = tt; is_standard = tt; owns = refl; fits = f } }
 
   opcode_reads : (b : ℕ) (rest : List ℕ) → AreBytes rest → Reads (opcode_at b rest) (b ∷ rest)
@@ -393,12 +398,12 @@ module _ (arity : List ℕ → ℕ) (m : Mode) where
       (λ _. either_way (eqb b 16) _ _ all (λ h. framed_reads scope_inside rest all fits (scope_reads rest all (first 16 h)))
       (λ _. either_way (eqb b 17) _ _ all (λ h. buffer_reads b rest (eqb-true b 17 h) fits)
       (λ _. either_way (eqb b 18) _ _ all (λ h. package_reads b rest (eqb-true b 18 h) fits)
-      (λ _. either_way (eqb b 19) _ _ all (λ h. plain_reads varpack 19 b rest varpack_plain (eqb-true b 19 h) fits)
+      (λ _. either_way (eqb b 19) _ _ all (λ h. plain_reads def_var_package 19 b rest varpack_plain (eqb-true b 19 h) fits)
       (λ _. either_way (eqb b 20) _ _ all (λ h. framed_reads method_inside rest all fits (method_reads rest all (first 20 h)))
       (λ _. either_way (eqb b 91) _ _ all (λ h. extended_reads b rest (eqb-true b 91 h) fits)
-      (λ _. either_way (eqb b 160) _ _ all (λ h. plain_reads branch 160 b rest branch_plain (eqb-true b 160 h) fits)
-      (λ _. either_way (eqb b 161) _ _ all (λ h. plain_reads otherwise 161 b rest otherwise_plain (eqb-true b 161 h) fits)
-      (λ _. either_way (eqb b 162) _ _ all (λ h. plain_reads loop 162 b rest loop_plain (eqb-true b 162 h) fits)
+      (λ _. either_way (eqb b 160) _ _ all (λ h. plain_reads def_if 160 b rest branch_plain (eqb-true b 160 h) fits)
+      (λ _. either_way (eqb b 161) _ _ all (λ h. plain_reads def_else 161 b rest otherwise_plain (eqb-true b 161 h) fits)
+      (λ _. either_way (eqb b 162) _ _ all (λ h. plain_reads def_while 162 b rest loop_plain (eqb-true b 162 h) fits)
       (λ _. either_way (eqb b 255) _ _ all (λ h. ones_reads b rest (eqb-true b 255 h) fits)
       (λ _. local_or_op_reads b rest fits)))))))))))))))))
 

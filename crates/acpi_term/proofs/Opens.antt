@@ -10,13 +10,13 @@ use Rattle.acpi_base.specs.Number.{number_limit, number_bytes}
 use Rattle.acpi_term.specs.declared.op.Op.{Op}
 use Rattle.acpi_term.specs.declared.op.Op.TheVariants.{LNot, LEqual, LLess, LGreater, LAnd, LOr, Increment, Decrement, Break, ObjectType, SizeOf, Return, DeRefOf, Add, Concat, Subtract, Multiply, ShiftLeft, ShiftRight, And, Nand, Or, Nor, Xor, ConcatRes, Mod, Index, ToString, CreateDWordField, CreateQWordField, ToBuffer, ToInteger, Store, Notify, Mid, CreateField}
 use Rattle.acpi_term.specs.declared.mode.Mode.{Mode}
-use Rattle.acpi_term.specs.Tree.{Entry, Head, number, ones, text, local, arg, call, scope, device, method, power, field, region, define, mutex, acquire, release, buffer, pack, varpack, branch, loop, otherwise, op}
+use Rattle.acpi_term.specs.Tree.{Entry, Head, number, ones, string, local, arg, call, def_scope, def_device, def_method, def_power_res, def_field, def_op_region, def_name, def_mutex, def_acquire, def_release, def_buffer, def_package, def_var_package, def_if, def_while, def_else, op}
 use Rattle.acpi_term.specs.Name.{is_segment, no_more, one_more, IsPath, single, double, multiple, IsName, relative, rooted}
-use Rattle.acpi_term.specs.Length.{framed, FitsFrame}
+use Rattle.acpi_term.specs.Length.{with_length, FrameFits}
 use Rattle.acpi_term.specs.Operator.{opcode, operands}
 use Rattle.acpi_term.specs.Row.{entries_bytes, field_flags, method_flags}
-use Rattle.acpi_term.specs.Spelling.{spelled, arguments, AreNamed, CarryBits, FitsHead}
-use Rattle.acpi_term.proofs.Reading.{◌>>=◌, name_at, begins_name, After, named_at, define_after, release_after, mutex_after, region_after, acquire_after, Inside, framed_at, scope_inside, device_inside, method_inside, power_inside, field_inside, opcode_at, Opened, follows, fills, packs, begins, open_at}
+use Rattle.acpi_term.specs.Spelling.{spelled, arguments, AreNamed, EntriesFit, IsLegal}
+use Rattle.acpi_term.specs.Reading.{◌>>=◌, name_at, begins_name, After, named_at, define_after, release_after, mutex_after, region_after, acquire_after, Inside, framed_at, scope_inside, device_inside, method_inside, power_inside, field_inside, opcode_at, Opened, follows, fills, packs, begins, open_at}
 use Rattle.acpi_term.proofs.Names.{lead_of, name_again}
 use Rattle.acpi_term.proofs.Texts.{text_again}
 use Rattle.acpi_term.proofs.Frames.{high_again, frame_again}
@@ -24,16 +24,16 @@ use Rattle.acpi_term.proofs.Entries.{entries_again}
 
 -- a head with n children, whose spellings joined are the bytes inside, where it is opened
 abbrev pub opened : Head → ℕ → ℕ → List ℕ → List ℕ → Opened
-opened (scope name) w n inside after = fills (scope name) w inside after
-opened (device name) w n inside after = fills (device name) w inside after
-opened (method name args serialized) w n inside after = fills (method name args serialized) w inside after
-opened (power name level order) w n inside after = fills (power name level order) w inside after
-opened varpack w n inside after = fills varpack w inside after
-opened branch w n inside after = fills branch w inside after
-opened loop w n inside after = fills loop w inside after
-opened otherwise w n inside after = fills otherwise w inside after
-opened pack w n inside after = packs w n inside after
-opened (buffer bytes) w n inside after = begins w (inside ++ bytes) after
+opened (def_scope name) w n inside after = fills (def_scope name) w inside after
+opened (def_device name) w n inside after = fills (def_device name) w inside after
+opened (def_method name args serialized) w n inside after = fills (def_method name args serialized) w inside after
+opened (def_power_res name level order) w n inside after = fills (def_power_res name level order) w inside after
+opened def_var_package w n inside after = fills def_var_package w inside after
+opened def_if w n inside after = fills def_if w inside after
+opened def_while w n inside after = fills def_while w inside after
+opened def_else w n inside after = fills def_else w inside after
+opened def_package w n inside after = packs w n inside after
+opened (def_buffer bytes) w n inside after = begins w (inside ++ bytes) after
 opened h w n inside after = follows h w n (inside ++ after)
 
 -- ---- parts
@@ -55,13 +55,14 @@ regroup a b c d = append_assoc (a ++ b) c d ∙ append_assoc a b (c ++ d)
 named_opens : (k : After) (name rest : List ℕ) → IsName name → named_at k (name ++ rest) ≡ k name rest
 named_opens k name rest p = rw (name_again name rest p) refl
 
-framed_opens : (k : Inside) (w : ℕ) (name mid inside after : List ℕ) → IsName name → FitsFrame w ((name ++ mid) ++ inside) → framed_at k (framed w ((name ++ mid) ++ inside) ++ after) ≡ k w name (mid ++ inside) after
-framed_opens k w name mid inside after p fits = rw (frame_again w ((name ++ mid) ++ inside) after fits, append_assoc name mid inside, name_again name (mid ++ inside) p) refl
+framed_opens : (k : Inside) (w : ℕ) (name mid inside after : List ℕ) → IsName name → FrameFits w ((name ++ mid) ++ (inside ++ [])) → framed_at k (with_length w ((name ++ mid) ++ (inside ++ [])) ++ after) ≡ k w name (mid ++ inside) after
+framed_opens k w name mid inside after p fits =
+    rw (frame_again w ((name ++ mid) ++ (inside ++ [])) after fits, append_assoc name mid (inside ++ []), name_again name (mid ++ (inside ++ [])) p, append-nil inside) refl
 
-plainly_opens : (k : Inside) (w : ℕ) (name inside after : List ℕ) → IsName name → FitsFrame w (name ++ inside) → framed_at k (framed w (name ++ inside) ++ after) ≡ k w name inside after
-plainly_opens k w name inside after p fits = rw (frame_again w (name ++ inside) after fits, name_again name inside p) refl
+plainly_opens : (k : Inside) (w : ℕ) (name inside after : List ℕ) → IsName name → FrameFits w (name ++ (inside ++ [])) → framed_at k (with_length w (name ++ (inside ++ [])) ++ after) ≡ k w name inside after
+plainly_opens k w name inside after p fits = rw (frame_again w (name ++ (inside ++ [])) after fits, name_again name (inside ++ []) p, append-nil inside) refl
 
-method_opens : (w : ℕ) (name : List ℕ) (args : ℕ) (serialized : Bool) (inside after : List ℕ) → args ≤ 7 → method_inside w name (method_flags args serialized ∷ inside) after ≡ Ok (fills (method name args serialized) w inside after)
+method_opens : (w : ℕ) (name : List ℕ) (args : ℕ) (serialized : Bool) (inside after : List ℕ) → args ≤ 7 → method_inside w name (method_flags args serialized ∷ inside) after ≡ Ok (fills (def_method name args serialized) w inside after)
 method_opens w name args true inside after few =
     let low : ltb (args + 8) 16 ≡ true = lt-ltb _ _ (omega arith) in
     let r : (args + 8) % 8 ≡ args = omega arith in
@@ -79,8 +80,8 @@ flags_low : (access lock update : ℕ) → access ≤ 5 → lock ≤ 1 → updat
     → (field_flags access lock update < 96) × (field_flags access lock update % 16 ≡ access) × (field_flags access lock update / 16 % 2 ≡ lock) × (field_flags access lock update / 32 ≡ update)
 flags_low access lock update a l u = (omega arith, omega arith, omega arith, omega arith)
 
-field_opens : (w : ℕ) (name : List ℕ) (access lock update : ℕ) (entries : List Entry) (after : List ℕ) → access ≤ 5 → lock ≤ 1 → update ≤ 2 → AreNamed entries → CarryBits entries
-    → field_inside w name (field_flags access lock update ∷ entries_bytes entries) after ≡ Ok (follows (field name access lock update entries) w 0 after)
+field_opens : (w : ℕ) (name : List ℕ) (access lock update : ℕ) (entries : List Entry) (after : List ℕ) → access ≤ 5 → lock ≤ 1 → update ≤ 2 → AreNamed entries → EntriesFit entries
+    → field_inside w name (field_flags access lock update ∷ entries_bytes entries) after ≡ Ok (follows (def_field name access lock update entries) w 0 after)
 field_opens w name access lock update entries after a l u f g =
     let p = flags_low access lock update a l u in
     let below : ltb (access + 16 * lock + 32 * update) 96 ≡ true = lt-ltb _ 96 p.0 in
@@ -177,42 +178,42 @@ module _ (arity : List ℕ → ℕ) (m : Mode) where
   op_opens CreateField rest = refl
 
   -- a head that fits is opened where it is spelled; where it has no children, nothing is inside
-  pub open_again : (h : Head) (w n : ℕ) (inside after : List ℕ) → FitsHead arity m h w n inside → (n ≡ 0 → inside ≡ []) → open_at arity m (spelled h w n inside ++ after) ≡ Ok (opened h w n inside after)
+  pub open_again : (h : Head) (w n : ℕ) (inside after : List ℕ) → IsLegal arity m h w n inside → (n ≡ 0 → inside ≡ []) → open_at arity m (spelled h w n inside ++ after) ≡ Ok (opened h w n inside after)
   unfolding open_at
   open_again (number v) w n inside after f nothing = rw (append_assoc (number_bytes v w) inside after, f.takes) (number_opens v w (inside ++ after) f.fits)
   open_again ones w n inside after f nothing = rw (f.fits, f.takes) refl
-  open_again (text s) w n inside after f nothing =
+  open_again (string s) w n inside after f nothing =
       rw (f.fits, f.takes) (ap (λ (l : List ℕ). open_at arity m (13 ∷ l)) (regroup s (0 ∷ []) inside after) ∙ rw (text_again s (inside ++ after) f.is_standard) refl)
   open_again (local k) w n inside after f nothing = rw (f.fits, f.takes) (local_opens k (inside ++ after) (leb-true k 7 (owned _ _ f.owns)))
   open_again (arg k) w n inside after f nothing = rw (f.fits, f.takes) (arg_opens k (inside ++ after) (leb-true k 6 (owned _ _ f.owns)))
   open_again (call name) w n inside after f nothing = rw (f.fits, append_assoc name inside after, f.takes) (call_opens name (inside ++ after) f.is_standard)
-  open_again (scope name) w n inside after f nothing = plainly_opens scope_inside w name inside after f.is_standard f.fits
-  open_again (device name) w n inside after f nothing = plainly_opens device_inside w name inside after f.is_standard f.fits
-  open_again (method name args serialized) w n inside after f nothing =
+  open_again (def_scope name) w n inside after f nothing = plainly_opens scope_inside w name inside after f.is_standard f.fits
+  open_again (def_device name) w n inside after f nothing = plainly_opens device_inside w name inside after f.is_standard f.fits
+  open_again (def_method name args serialized) w n inside after f nothing =
       framed_opens method_inside w name (method_flags args serialized ∷ []) inside after f.is_standard f.fits ∙ method_opens w name args serialized inside after (leb-true args 7 (owned _ _ f.owns))
-  open_again (power name level order) w n inside after f nothing =
+  open_again (def_power_res name level order) w n inside after f nothing =
       framed_opens power_inside w name (level ∷ le 2 order) inside after f.is_standard.0 f.fits ∙ rw (high_again 2 order inside f.is_standard.2) refl
-  open_again (field name access lock update entries) w n inside after f nothing =
+  open_again (def_field name access lock update entries) w n inside after f nothing =
       let mid = field_flags access lock update ∷ entries_bytes entries in
       let none : inside ≡ [] = nothing f.takes in
-      let fits : FitsFrame w ((name ++ mid) ++ []) = subst (λ (l : List ℕ). FitsFrame w ((name ++ mid) ++ l)) none f.fits.1 in
+      let fits : FrameFits w ((name ++ mid) ++ []) = subst (λ (l : List ℕ). FrameFits w ((name ++ mid) ++ (l ++ []))) none f.fits.1 in
       rw (none, f.takes)
       (framed_opens field_inside w name mid [] after f.is_standard.0 fits ∙ ap (λ (l : List ℕ). field_inside w name l after) (append-nil mid)
       ∙ field_opens w name access lock update entries after f.is_standard.1 f.is_standard.2 f.is_standard.3 f.is_standard.4 f.fits.0)
-  open_again (region name space) w n inside after f nothing =
+  open_again (def_op_region name space) w n inside after f nothing =
       rw (f.fits, f.takes) (ap (λ (l : List ℕ). open_at arity m (91 ∷ 128 ∷ l)) (regroup name (space ∷ []) inside after) ∙ named_opens region_after name (space ∷ (inside ++ after)) f.is_standard.0)
-  open_again (define name) w n inside after f nothing = rw (f.fits, f.takes) (ap (λ (l : List ℕ). open_at arity m (8 ∷ l)) (append_assoc name inside after) ∙ named_opens define_after name (inside ++ after) f.is_standard)
-  open_again (mutex name level) w n inside after f nothing =
+  open_again (def_name name) w n inside after f nothing = rw (f.fits, f.takes) (ap (λ (l : List ℕ). open_at arity m (8 ∷ l)) (append_assoc name inside after) ∙ named_opens define_after name (inside ++ after) f.is_standard)
+  open_again (def_mutex name level) w n inside after f nothing =
       rw (f.fits, f.takes) (ap (λ (l : List ℕ). open_at arity m (91 ∷ 1 ∷ l)) (regroup name (level ∷ []) inside after) ∙ named_opens mutex_after name (level ∷ (inside ++ after)) f.is_standard.0)
-  open_again (acquire name timeout) w n inside after f nothing =
+  open_again (def_acquire name timeout) w n inside after f nothing =
       rw (f.fits, f.takes)
       (ap (λ (l : List ℕ). open_at arity m (91 ∷ 35 ∷ l)) (regroup name (le 2 timeout) inside after) ∙ named_opens acquire_after name (le 2 timeout ++ (inside ++ after)) f.is_standard.0
       ∙ rw (high_again 2 timeout (inside ++ after) f.is_standard.1) refl)
-  open_again (release name) w n inside after f nothing = rw (f.fits, f.takes) (ap (λ (l : List ℕ). open_at arity m (91 ∷ 39 ∷ l)) (append_assoc name inside after) ∙ named_opens release_after name (inside ++ after) f.is_standard)
-  open_again (buffer bytes) w n inside after f nothing = rw (frame_again w (inside ++ bytes) after f.fits) refl
-  open_again pack w n inside after f nothing = rw (frame_again w (n ∷ inside) after f.fits) refl
-  open_again varpack w n inside after f nothing = rw (frame_again w inside after f.fits) refl
-  open_again branch w n inside after f nothing = rw (frame_again w inside after f.fits) refl
-  open_again loop w n inside after f nothing = rw (frame_again w inside after f.fits) refl
-  open_again otherwise w n inside after f nothing = rw (frame_again w inside after f.fits) refl
+  open_again (def_release name) w n inside after f nothing = rw (f.fits, f.takes) (ap (λ (l : List ℕ). open_at arity m (91 ∷ 39 ∷ l)) (append_assoc name inside after) ∙ named_opens release_after name (inside ++ after) f.is_standard)
+  open_again (def_buffer bytes) w n inside after f nothing = rw (frame_again w (inside ++ bytes) after f.fits) refl
+  open_again def_package w n inside after f nothing = rw (frame_again w (n ∷ (inside ++ [])) after f.fits, append-nil inside) refl
+  open_again def_var_package w n inside after f nothing = rw (frame_again w (inside ++ []) after f.fits, append-nil inside) refl
+  open_again def_if w n inside after f nothing = rw (frame_again w (inside ++ []) after f.fits, append-nil inside) refl
+  open_again def_while w n inside after f nothing = rw (frame_again w (inside ++ []) after f.fits, append-nil inside) refl
+  open_again def_else w n inside after f nothing = rw (frame_again w (inside ++ []) after f.fits, append-nil inside) refl
   open_again (op o) w n inside after f nothing = rw (f.fits, append_assoc (opcode o) inside after, f.takes) (op_opens o (inside ++ after))

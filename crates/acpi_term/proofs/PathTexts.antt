@@ -1,8 +1,8 @@
 -- Parts between dots.
-use Rattle.std.proofs.Common.{◌≡◌, ℕ, suc, ◌<◌, ◌≤◌, Bool, true, false, cond, eqb, List, [], ◌∷◌, length, refl, arith}
+use Rattle.std.proofs.Common.{◌≡◌, ℕ, suc, ◌<◌, ◌≤◌, Bool, true, false, cond, eqb, List, [], ◌∷◌, length, refl, sym, ap, ◌∙◌, arith}
 use Rattle.std.specs.Prelude.{◌||◌}
-use Rattle.std.proofs.lemmas.Bool.{ne_eqb}
-use Rattle.acpi_term.specs.PathText.{begun, parts, are_fours, dotted}
+use Rattle.std.proofs.lemmas.Bool.{ne_eqb, eqb-true, eqb-false}
+use Rattle.acpi_term.specs.PathText.{begun, parts, with_dots, AreDotless, are_fours, dotted}
 
 first : List (List ℕ) → ℕ
 first [] = 0
@@ -77,3 +77,34 @@ module _ (a b c d : ℕ) where
 
   pub dots : (tail : List ℕ) → dotted a b c d ≡ true → are_fours (parts (a ∷ b ∷ c ∷ d ∷ tail)) ≡ false
   dots tail h = dots_from (eqb a 46) (eqb b 46) (eqb c 46) (eqb d 46) (parts tail) (parts (b ∷ c ∷ d ∷ tail)) (parts (c ∷ d ∷ tail)) (parts (d ∷ tail)) (parts tail) h
+
+-- ---- dots
+
+begun_joins : (b : ℕ) (ps : List (List ℕ)) → with_dots (begun b ps) ≡ b ∷ with_dots ps
+begun_joins b [] = refl
+begun_joins b (p ∷ []) = refl
+begun_joins b (p ∷ q ∷ ps) = refl
+
+some_joins : (ps : List (List ℕ)) → 0 < length ps → with_dots ([] ∷ ps) ≡ 46 ∷ with_dots ps
+some_joins [] some = absurd (omega arith)
+some_joins (p ∷ ps) some = refl
+
+either_joins : (t : Bool) (b : ℕ) (ps : List (List ℕ)) → (t ≡ true → b ≡ 46) → 0 < length ps → with_dots (cond t ([] ∷ ps) (begun b ps)) ≡ b ∷ with_dots ps
+either_joins true b ps is some = some_joins ps some ∙ ap (λ (x : ℕ). x ∷ with_dots ps) (sym (is refl))
+either_joins false b ps is some = begun_joins b ps
+
+pub parts_join : (text : List ℕ) → with_dots (parts text) ≡ text
+parts_join [] = refl
+parts_join (b ∷ text) = either_joins (eqb b 46) b (parts text) (eqb-true b 46) (some_parts text) ∙ ap (λ (l : List ℕ). b ∷ l) (parts_join text)
+
+begun_dotless : (b : ℕ) (ps : List (List ℕ)) → (b ≡ 46 → ⊥) → AreDotless ps → AreDotless (begun b ps)
+begun_dotless b [] other are = ((other, tt), tt)
+begun_dotless b (p ∷ ps) other are = ((other, are.0), are.1)
+
+either_dotless : (t : Bool) (b : ℕ) (ps : List (List ℕ)) → (t ≡ false → b ≡ 46 → ⊥) → AreDotless ps → AreDotless (cond t ([] ∷ ps) (begun b ps))
+either_dotless true b ps other are = (tt, are)
+either_dotless false b ps other are = begun_dotless b ps (other refl) are
+
+pub parts_dotless : (text : List ℕ) → AreDotless (parts text)
+parts_dotless [] = (tt, tt)
+parts_dotless (b ∷ text) = either_dotless (eqb b 46) b (parts text) (eqb-false b 46) (parts_dotless text)

@@ -1,20 +1,18 @@
 -- Loops that spell.
-use Rattle.std.proofs.Common.{◌≡◌, ℕ, suc, ◌+◌, ◌<◌, ◌≤◌, List, [], ◌∷◌, ◌++◌, length, get_or, drop, refl, sym, ap, subst, ◌∙◌, append_assoc, arith, add-one, drop-cons}
-use Rattle.std.specs.Prelude.{map, ◌≢◌, Result, Ok, Err, IfOk, OnOk}
-use Rattle.std.proofs.lemmas.List.{append-nil, nil_from_length, length-drop}
-use Rattle.std.proofs.lemmas.Bool.{le-leb, leb-true}
+use Rattle.std.proofs.Common.{◌≡◌, ℕ, suc, ◌+◌, ◌<◌, ◌≤◌, ◌^◌, List, [], ◌∷◌, ◌++◌, length, get_or, drop, None, Some, refl, sym, ap, subst, ◌∙◌, append_assoc, arith, add-one, drop-cons}
+use Rattle.std.specs.Prelude.{map, ◌≢◌, ◌↔◌, Option}
+use Rattle.std.proofs.lemmas.List.{append-nil, nil_from_length, length-append, length-drop}
 use Rattle.acpi_base.specs.declared.error.Error.{Error}
 use Rattle.acpi_base.specs.declared.error.Error.TheVariants.{Memory}
 use Rattle.acpi_term.specs.declared.term.Term.{Term}
 use Rattle.acpi_term.specs.declared.term.TermEntry.{TermEntry}
-use Rattle.acpi_term.specs.Length.{limit, framed, FitsFrame}
-use Rattle.acpi_term.specs.Row.{bits_of, width_of, entry_bytes, entries_bytes}
-use Rattle.acpi_term.specs.Tree.{Entry, pack, Terms, end, term, count}
-use Rattle.acpi_term.specs.Spelling.{spelled, spelling, CarryBits}
-use Rattle.acpi_term.specs.View.{Parts, entry_view, view, views}
+use Rattle.acpi_term.specs.Length.{limit, with_length, FrameFits}
+use Rattle.acpi_term.specs.Row.{entry_bits, entry_width, entry_bytes, entries_bytes, Layout, bare, framed, code_of, before_of, after_of, field_flags, layout}
+use Rattle.acpi_term.specs.Tree.{Entry, Head, number, def_field, Terms, term, count}
+use Rattle.acpi_term.specs.Spelling.{laid, spelled, spelling, EntriesFit, LayoutFits, HeadFits}
+use Rattle.acpi_term.specs.View.{Parts, entry_view, view, views, single, IsApart}
 use Rattle.acpi_term.proofs.Entries.{entries_owned}
-use Rattle.acpi_term.proofs.Opens.{owned}
-use Rattle.acpi_term.specs.Carried.{IsUnfit, IsCarried, AreCarried, single, Added, IsUncarried, Laid, Unlaid, IsField, IsNoField}
+use Rattle.acpi_term.specs.Carried.{IsUnfit, AreCarried, Added, IsUncarried, ValuesFit, BareFits, Laid, Unlaid, OwnLaid, OwnUnlaid}
 
 dropped : {X : Type 0} (xs : List X) (i : ℕ) (x : X) → i < length xs → x ≡ get_or xs i x → drop i xs ≡ x ∷ drop (i + 1) xs
 dropped xs i x inside is = drop-cons xs i x inside ∙ rw (add-one, ← is) refl
@@ -27,30 +25,30 @@ past xs i all = nil_from_length (drop i xs) (omega (arith, length-drop i xs))
 -- as far as the entry i
 pub record EntriesGo (entries : List TermEntry) (i : ℕ) (old now : List ℕ) : Type 0 where
   pub parts : now ++ entries_bytes (map entry_view (drop i entries)) ≡ old ++ entries_bytes (map entry_view entries)
-  pub back : CarryBits (map entry_view (drop i entries)) → CarryBits (map entry_view entries)
-  pub on : CarryBits (map entry_view entries) → CarryBits (map entry_view (drop i entries))
+  pub back : EntriesFit (map entry_view (drop i entries)) → EntriesFit (map entry_view entries)
+  pub on : EntriesFit (map entry_view entries) → EntriesFit (map entry_view (drop i entries))
 
 pub entries_start : (entries : List TermEntry) (old : List ℕ) → EntriesGo entries 0 old old
 entries_start entries old = record { parts = refl; back = λ f. f; on = λ f. f }
 
 module _ (entries : List TermEntry) (i : ℕ) (old now : List ℕ) (g : EntriesGo entries i old now) where
-  pub entries_go_on : (e : TermEntry) (new : List ℕ) → i < length entries → e ≡ get_or entries i e → new ≡ now ++ entry_bytes (entry_view e) → bits_of (entry_view e) < limit (width_of (entry_view e)) → EntriesGo entries (i + 1) old new
+  pub entries_go_on : (e : TermEntry) (new : List ℕ) → i < length entries → e ≡ get_or entries i e → new ≡ now ++ entry_bytes (entry_view e) → entry_bits (entry_view e) < limit (entry_width (entry_view e)) → EntriesGo entries (i + 1) old new
   entries_go_on e new inside is added fits =
       let d = dropped entries i e inside is in
       record {
         parts = ap (λ (l : List ℕ). l ++ entries_bytes (map entry_view (drop (i + 1) entries))) added ∙ append_assoc now (entry_bytes (entry_view e)) (entries_bytes (map entry_view (drop (i + 1) entries)))
             ∙ ap (λ (l : List TermEntry). now ++ entries_bytes (map entry_view l)) (sym d) ∙ g.parts;
-        back = λ f. g.back (subst (λ (l : List TermEntry). CarryBits (map entry_view l)) (sym d) (fits, f));
-        on = λ f. (subst (λ (l : List TermEntry). CarryBits (map entry_view l)) d (g.on f)).1;
+        back = λ f. g.back (subst (λ (l : List TermEntry). EntriesFit (map entry_view l)) (sym d) (fits, f));
+        on = λ f. (subst (λ (l : List TermEntry). EntriesFit (map entry_view l)) d (g.on f)).1;
       }
 
-  pub entries_stop : (e : TermEntry) (error : Error) → IsUnfit error e → i < length entries → e ≡ get_or entries i e → (error ≡ Memory → ⊥) → CarryBits (map entry_view entries) → ⊥
-  entries_stop e error unfit inside is other f = unfit.cause other (subst (λ (l : List TermEntry). CarryBits (map entry_view l)) (dropped entries i e inside is) (g.on f)).0
+  pub entries_stop : (e : TermEntry) (error : Error) → IsUnfit error e → i < length entries → e ≡ get_or entries i e → (error ≡ Memory → ⊥) → EntriesFit (map entry_view entries) → ⊥
+  entries_stop e error unfit inside is other f = unfit.cause other (subst (λ (l : List TermEntry). EntriesFit (map entry_view l)) (dropped entries i e inside is) (g.on f)).0
 
-  pub entries_done : length entries ≤ i → (now ≡ old ++ entries_bytes (map entry_view entries)) × CarryBits (map entry_view entries)
+  pub entries_done : length entries ≤ i → (now ≡ old ++ entries_bytes (map entry_view entries)) × EntriesFit (map entry_view entries)
   entries_done all =
       let d = past entries i all in
-      (sym (append-nil now) ∙ ap (λ (l : List TermEntry). now ++ entries_bytes (map entry_view l)) (sym d) ∙ g.parts, g.back (subst (λ (l : List TermEntry). CarryBits (map entry_view l)) (sym d) tt))
+      (sym (append-nil now) ∙ ap (λ (l : List TermEntry). now ++ entries_bytes (map entry_view l)) (sym d) ∙ g.parts, g.back (subst (λ (l : List TermEntry). EntriesFit (map entry_view l)) (sym d) tt))
 
 -- ---- terms
 
@@ -91,85 +89,150 @@ module _ (terms : List Term) (i : ℕ) (old now : List ℕ) (g : TermsGo terms i
         carried = g.back (subst (λ (l : List Term). AreCarried (views l)) (sym d) tt);
       }
 
--- ---- a term over its children
+-- ---- lists in two parts
 
-pub laid_on : (p : Parts) (old inside own new : List ℕ) → Added p.2 [] inside → Laid p inside own → new ≡ old ++ own → Added (single p) old new
-laid_on p old inside own new children head is =
-    let c : IsCarried p.0 p.1 (count p.2) (spelling p.2) = subst (IsCarried p.0 p.1 (count p.2)) children.joined head.carried in
-    record {
-      carried = (c, children.carried, tt);
-      joined = is ∙ ap (λ (l : List ℕ). old ++ l) (head.is ∙ ap (spelled p.0 p.1 (count p.2)) children.joined ∙ sym (append-nil (spelled p.0 p.1 (count p.2) (spelling p.2))));
-    }
+spelled_both : (a b : List Term) → spelling (views (a ++ b)) ≡ spelling (views a) ++ spelling (views b)
+spelled_both [] b = refl
+spelled_both (t ∷ a) b =
+    let here = spelled (view t).0 (view t).1 (count (view t).2) (spelling (view t).2) in
+    ap (λ (l : List ℕ). here ++ l) (spelled_both a b) ∙ sym (append_assoc here (spelling (views a)) (spelling (views b)))
 
-pub unlaid_on : (p : Parts) (e : Error) (inside : List ℕ) → Added p.2 [] inside → Unlaid e p inside → IsUncarried e (single p)
-unlaid_on p e inside children stop = record { cause = λ other f. stop.cause other (subst (IsCarried p.0 p.1 (count p.2)) (sym children.joined) f.0) }
+carried_both : (a b : List Term) → AreCarried (views a) → AreCarried (views b) → AreCarried (views (a ++ b))
+carried_both [] b f g = g
+carried_both (t ∷ a) b f g = (f.0, f.1, carried_both a b f.2 g)
 
-pub children_stop : (p : Parts) (e : Error) → IsUncarried e p.2 → IsUncarried e (single p)
-children_stop p e stop = record { cause = λ other f. stop.cause other f.1 }
+carried_first : (a b : List Term) → AreCarried (views (a ++ b)) → AreCarried (views a)
+carried_first [] b f = tt
+carried_first (t ∷ a) b f = (f.0, f.1, carried_first a b f.2)
 
--- a first child and others
-pub added_both : (p : Parts) (o : Terms) (old mid new : List ℕ) → Added (single p) old mid → Added o mid new → Added (term p.0 p.1 p.2 o) old new
-added_both p o old mid new first others = record {
-  carried = first_carried p o first.carried others.carried;
-  joined =
-      others.joined ∙ ap (λ (l : List ℕ). l ++ spelling o) (first.joined ∙ ap (λ (l : List ℕ). old ++ l) (append-nil (spelled p.0 p.1 (count p.2) (spelling p.2))))
-      ∙ append_assoc old (spelled p.0 p.1 (count p.2) (spelling p.2)) (spelling o);
-}
+carried_others : (a b : List Term) → AreCarried (views (a ++ b)) → AreCarried (views b)
+carried_others [] b f = f
+carried_others (t ∷ a) b f = carried_others a b f.2
 
-pub first_stops : (p : Parts) (o : Terms) (e : Error) → IsUncarried e (single p) → IsUncarried e (term p.0 p.1 p.2 o)
-first_stops p o e stop = record { cause = λ other f. stop.cause other (f.0, f.1, tt) }
-
-pub others_stop : (p : Parts) (o : Terms) (e : Error) → IsUncarried e o → IsUncarried e (term p.0 p.1 p.2 o)
-others_stop p o e stop = record { cause = λ other f. stop.cause other f.2 }
-
-pub added_nothing : (old : List ℕ) → Added end old old
-added_nothing old = record { carried = tt; joined = sym (append-nil old) }
-
--- ---- packages and fields
-
--- what two clauses say of a result together
-pub on_both : {T : Type 0} (r : Result T Error) (P Q : T → Type 0) (F : Type 0) → IfOk r P → OnOk r F → ((v : T) → P v → F → Q v) → IfOk r Q
-on_both (Ok v) P Q F p f next = next v p f
-on_both (Err e) P Q F p f next = tt
-
-count_views : (ts : List Term) → count (views ts) ≡ length ts
+pub count_views : (ts : List Term) → count (views ts) ≡ length ts
 count_views [] = refl
 count_views (t ∷ ts) = ap suc (count_views ts)
 
-module _ (w : ℕ) (ts : List Term) (inside : List ℕ) where
-  pub package_is : (n : ℕ) (bytes : List ℕ) → bytes ≡ (18 ∷ []) ++ framed w ((n ∷ []) ++ inside) → n ≡ length ts → n < 256 → FitsFrame w ((n ∷ []) ++ inside) → Laid (pack, w, views ts) inside bytes
-  package_is n bytes is same few fits =
-      let c : n ≡ count (views ts) = same ∙ sym (count_views ts) in
+added_both : (a b : List Term) (old mid new : List ℕ) → Added (views a) old mid → Added (views b) mid new → Added (views (a ++ b)) old new
+added_both a b old mid new first others = record {
+  carried = carried_both a b first.carried others.carried;
+  joined =
+      others.joined ∙ ap (λ (l : List ℕ). l ++ spelling (views b)) first.joined ∙ append_assoc old (spelling (views a)) (spelling (views b))
+      ∙ ap (λ (l : List ℕ). old ++ l) (sym (spelled_both a b));
+}
+
+-- ---- a term over its children
+
+module _ (t : Term) (h : Head) (w : ℕ) (a b : List Term) (apart : IsApart t h w a b) where
+  counted : (n : ℕ) → n ≡ length a + length b → n ≡ count (view t).2
+  counted n is = is ∙ sym (length-append a b) ∙ sym (count_views (a ++ b)) ∙ ap count apart.children
+
+  pub laid_on : (n : ℕ) (old mid inside own new : List ℕ) → n ≡ length a + length b → Added (views a) [] mid → Added (views b) mid inside → Laid h w n inside own → new ≡ old ++ own → Added (single (view t)) old new
+  laid_on n old mid inside own new is first others head added =
+      let p = view t in
+      let all : Added p.2 [] inside = subst (λ (ts : Terms). Added ts [] inside) apart.children (added_both a b [] mid inside first others) in
+      let same : Laid p.0 p.1 (count p.2) (spelling p.2) own = rw (← apart.head, ← apart.width, ← counted n is, ← all.joined) head in
       record {
-        carried = record { owns = rw (← c) (rw (le-leb n 255 (omega arith)) refl); flags = tt; fits = subst (λ (k : ℕ). FitsFrame w (k ∷ inside)) c fits };
-        is = is ∙ ap (λ (k : ℕ). (18 ∷ []) ++ framed w (k ∷ inside)) c;
+        carried = (same.carried, all.carried, tt);
+        joined = added ∙ ap (λ (l : List ℕ). old ++ l) (same.is ∙ sym (append-nil (spelled p.0 p.1 (count p.2) (spelling p.2))));
       }
 
-  pub package_fits : (n : ℕ) (e : Error) → n ≡ length ts → (e ≢ Memory → FitsFrame w ((n ∷ []) ++ inside) → ⊥) → Unlaid e (pack, w, views ts) inside
-  package_fits n e same stop = record { cause = λ other c. stop other (subst (λ (k : ℕ). FitsFrame w (k ∷ inside)) (count_views ts ∙ sym same) c.fits) }
+  pub first_stop : (e : Error) → IsUncarried e (views a) → IsUncarried e (single (view t))
+  first_stop e stop = record { cause = λ other f. stop.cause other (carried_first a b (subst AreCarried (sym apart.children) f.1)) }
 
-  pub too_many : (e : Error) → 256 ≤ length ts → Unlaid e (pack, w, views ts) inside
-  too_many e many = record {
-    cause = λ other c.
-        let few : count (views ts) ≤ 255 = leb-true (count (views ts)) 255 (owned _ _ c.owns) in
-        absurd (omega (arith, count_views ts, few));
+  pub others_stop : (e : Error) → IsUncarried e (views b) → IsUncarried e (single (view t))
+  others_stop e stop = record { cause = λ other f. stop.cause other (carried_others a b (subst AreCarried (sym apart.children) f.1)) }
+
+  pub unlaid_on : (n : ℕ) (e : Error) (mid inside : List ℕ) → n ≡ length a + length b → Added (views a) [] mid → Added (views b) mid inside → Unlaid e h w n inside → IsUncarried e (single (view t))
+  unlaid_on n e mid inside is first others stop =
+      let p = view t in
+      let all : Added p.2 [] inside = subst (λ (ts : Terms). Added ts [] inside) apart.children (added_both a b [] mid inside first others) in
+      let same : Unlaid e p.0 p.1 (count p.2) (spelling p.2) = rw (← apart.head, ← apart.width, ← counted n is, ← all.joined) stop in
+      record { cause = λ other f. same.cause other f.0 }
+
+-- ---- a head round the bytes inside
+
+bare_in : (l : Layout) (w : ℕ) (inside : List ℕ) → None ≡ code_of l → w ≡ 0 → LayoutFits l w inside
+bare_in (bare before) w inside is zero = zero
+bare_in (framed code before after) w inside is zero = absurd cc
+
+bare_out : (l : Layout) (w : ℕ) (inside : List ℕ) → None ≡ code_of l → LayoutFits l w inside → w ≡ 0
+bare_out (bare before) w inside is fits = fits
+bare_out (framed code before after) w inside is fits = absurd cc
+
+laid_bare : (l : Layout) (w : ℕ) (inside : List ℕ) → None ≡ code_of l → laid l w inside ≡ before_of l ++ inside
+laid_bare (bare before) w inside is = refl
+laid_bare (framed code before after) w inside is = absurd cc
+
+bare_to : (h : Head) (w n : ℕ) (inside : List ℕ) → None ≡ code_of (layout h w n) → ValuesFit h w → BareFits h w → HeadFits h w n inside
+bare_to (number v) w n inside is values fits = values
+bare_to (def_field name access lock update entries) w n inside is values fits = absurd cc
+bare_to h w n inside is values fits = bare_in (layout h w n) w inside is fits
+
+bare_from : (h : Head) (w n : ℕ) (inside : List ℕ) → None ≡ code_of (layout h w n) → HeadFits h w n inside → ValuesFit h w × BareFits h w
+bare_from (number v) w n inside is fits = (fits, tt)
+bare_from (def_field name access lock update entries) w n inside is fits = absurd cc
+bare_from h w n inside is fits = (tt, bare_out (layout h w n) w inside is fits)
+
+frame_in : (l : Layout) (w : ℕ) (inside code : List ℕ) → Some code ≡ code_of l → LayoutFits l w inside ↔ FrameFits w (before_of l ++ (inside ++ after_of l))
+frame_in (bare before) w inside code is = absurd cc
+frame_in (framed own before after) w inside code is = (λ f. f, λ f. f)
+
+some_is : (a b : List ℕ) → ◌≡◌ {A = Option (List ℕ)} (Some a) (Some b) → a ≡ b
+some_is a b is = cc
+
+laid_frame : (l : Layout) (w : ℕ) (inside code : List ℕ) → Some code ≡ code_of l → laid l w inside ≡ code ++ with_length w (before_of l ++ (inside ++ after_of l))
+laid_frame (bare before) w inside code is = absurd cc
+laid_frame (framed own before after) w inside code is = rw (some_is code own is) refl
+
+frame_to : (h : Head) (w n : ℕ) (inside code : List ℕ) → Some code ≡ code_of (layout h w n) → ValuesFit h w → LayoutFits (layout h w n) w inside → HeadFits h w n inside
+frame_to (number v) w n inside code is values fits = values
+frame_to (def_field name access lock update entries) w n inside code is values fits = (values, fits)
+frame_to h w n inside code is values fits = fits
+
+frame_from : (h : Head) (w n : ℕ) (inside code : List ℕ) → Some code ≡ code_of (layout h w n) → HeadFits h w n inside → ValuesFit h w × LayoutFits (layout h w n) w inside
+frame_from (number v) w n inside code is fits = absurd cc
+frame_from (def_field name access lock update entries) w n inside code is fits = fits
+frame_from h w n inside code is fits = (tt, fits)
+
+values_of : (h : Head) (w n : ℕ) (inside : List ℕ) → HeadFits h w n inside → ValuesFit h w
+values_of (number v) w n inside fits = fits
+values_of (def_field name access lock update entries) w n inside fits = fits.0
+values_of h w n inside fits = tt
+
+module _ (h : Head) (w n : ℕ) (inside : List ℕ) where
+  pub bare_laid : (before bytes : List ℕ) → None ≡ code_of (layout h w n) → OwnLaid h w n before → bytes ≡ before ++ inside → BareFits h w → Laid h w n inside bytes
+  bare_laid before bytes is own made fits = record {
+    carried = record { owns = own.carried.owns; flags = own.carried.flags; fits = bare_to h w n inside is own.carried.values fits };
+    is = made ∙ ap (λ (l : List ℕ). l ++ inside) own.is ∙ sym (laid_bare (layout h w n) w inside is);
   }
 
-module _ (w : ℕ) (name : List ℕ) (flags : ℕ) (entries : List Entry) (inside : List ℕ) where
-  field_grouped : ((name ++ flags ∷ []) ++ entries_bytes entries) ++ inside ≡ (name ++ flags ∷ entries_bytes entries) ++ inside
-  field_grouped = ap (λ (l : List ℕ). l ++ inside) (append_assoc name (flags ∷ []) (entries_bytes entries))
+  pub bare_unlaid : (e : Error) → None ≡ code_of (layout h w n) → (e ≢ Memory → BareFits h w → ⊥) → Unlaid e h w n inside
+  bare_unlaid e is stop = record { cause = λ other c. stop other (bare_from h w n inside is c.fits).1 }
 
-  pub field_is : (before bytes : List ℕ) → before ≡ (name ++ flags ∷ []) ++ entries_bytes entries → CarryBits entries → FitsFrame w (before ++ inside) → bytes ≡ (91 ∷ 129 ∷ []) ++ framed w (before ++ inside) → IsField w name flags entries inside bytes
-  field_is before bytes is carry fits all =
-      let same : before ++ inside ≡ (name ++ flags ∷ entries_bytes entries) ++ inside = ap (λ (l : List ℕ). l ++ inside) is ∙ field_grouped in
+  pub frame_laid : (code before after bytes : List ℕ) → Some code ≡ code_of (layout h w n) → after ≡ after_of (layout h w n) → OwnLaid h w n before
+      → bytes ≡ code ++ with_length w (before ++ (inside ++ after)) → FrameFits w (before ++ (inside ++ after)) → Laid h w n inside bytes
+  frame_laid code before after bytes is tail own made fits =
+      let same : before ++ (inside ++ after) ≡ before_of (layout h w n) ++ (inside ++ after_of (layout h w n)) = rw (own.is, tail) refl in
       record {
-        owns = entries_owned entries carry;
-        carry = carry;
-        fits = subst (FitsFrame w) same fits;
-        is = all ∙ ap (λ (l : List ℕ). (91 ∷ 129 ∷ []) ++ framed w l) same;
+        carried = record { owns = own.carried.owns; flags = own.carried.flags; fits = frame_to h w n inside code is own.carried.values ((frame_in (layout h w n) w inside code is).1 (subst (FrameFits w) same fits)) };
+        is = made ∙ ap (λ (l : List ℕ). code ++ with_length w l) same ∙ sym (laid_frame (layout h w n) w inside code is);
       }
 
-  pub field_fits : (before : List ℕ) (e : Error) → before ≡ (name ++ flags ∷ []) ++ entries_bytes entries → (e ≢ Memory → FitsFrame w (before ++ inside) → ⊥) → IsNoField e w name flags entries inside
-  field_fits before e is stop =
-      let same : before ++ inside ≡ (name ++ flags ∷ entries_bytes entries) ++ inside = ap (λ (l : List ℕ). l ++ inside) is ∙ field_grouped in
-      record { cause = λ other carry fits. stop other (subst (FitsFrame w) (sym same) fits) }
+  pub frame_unlaid : (e : Error) (code before after : List ℕ) → Some code ≡ code_of (layout h w n) → after ≡ after_of (layout h w n) → OwnLaid h w n before
+      → (e ≢ Memory → FrameFits w (before ++ (inside ++ after)) → ⊥) → Unlaid e h w n inside
+  frame_unlaid e code before after is tail own stop = record {
+    cause = λ other c.
+        let same : before ++ (inside ++ after) ≡ before_of (layout h w n) ++ (inside ++ after_of (layout h w n)) = rw (own.is, tail) refl in
+        stop other (subst (FrameFits w) (sym same) ((frame_in (layout h w n) w inside code is).0 (frame_from h w n inside code is c.fits).1));
+  }
+
+  pub own_unlaid : (e : Error) → OwnUnlaid e h w n → Unlaid e h w n inside
+  own_unlaid e stop = record { cause = λ other c. stop.cause other (record { owns = c.owns; flags = c.flags; values = values_of h w n inside c.fits }) }
+
+pub field_laid : (name old new : List ℕ) (access lock update flags w n : ℕ) (entries : List Entry) → flags ≡ field_flags access lock update → flags < 2 ^ 8 → old ≡ name ++ flags ∷ [] → new ≡ old ++ entries_bytes entries → EntriesFit entries
+    → OwnLaid (def_field name access lock update entries) w n new
+field_laid name old new access lock update flags w n entries is small head made fits = record {
+  carried = record { owns = entries_owned entries fits; flags = rw (← is) small; values = fits };
+  is = made ∙ ap (λ (l : List ℕ). l ++ entries_bytes entries) head ∙ append_assoc name (flags ∷ []) (entries_bytes entries) ∙ ap (λ (k : ℕ). name ++ k ∷ entries_bytes entries) is;
+}

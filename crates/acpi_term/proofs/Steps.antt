@@ -1,7 +1,7 @@
 -- Steps of reading.
 use Rattle.std.proofs.Common.{◌≡◌, ℕ, Bool, true, false, cond, List, ◌++◌, Result, Ok, Err, refl, inl, inr, ◌⊎◌}
 use Rattle.acpi_base.specs.Bytes.{AreBytes}
-use Rattle.acpi_term.proofs.Reading.{Fault, ◌>>=◌}
+use Rattle.acpi_term.specs.Reading.{Fault, ◌>>=◌}
 
 -- the value of a step that did not fail
 pub bind_ok : {A B : Type 0} (r : Result A Fault) (f : A → Result B Fault) (y : B) → (r >>= f) ≡ Ok y → (x : A) × (r ≡ Ok x) × (f x ≡ Ok y)

@@ -5,9 +5,9 @@ use Rattle.std.proofs.lemmas.List.{append-nil, length-append}
 use Rattle.acpi_base.specs.Bytes.{AreBytes}
 use Rattle.acpi_term.specs.declared.mode.Mode.{Mode}
 use Rattle.acpi_term.specs.declared.mode.Mode.TheVariants.{Term, Element}
-use Rattle.acpi_term.specs.Tree.{Head, pack, buffer, Terms, end, term, count, depth}
-use Rattle.acpi_term.specs.Spelling.{spelled, spelling, inner, next, FitsHead, Fits}
-use Rattle.acpi_term.proofs.Reading.{Bad, ◌>>=◌, least_of, One, assembled, Opened, follows, fills, packs, begins, open_at, Reader, counted, all_of, wants_no_more, close, term_at}
+use Rattle.acpi_term.specs.Tree.{Head, def_package, def_buffer, Terms, end, term, count, depth}
+use Rattle.acpi_term.specs.Spelling.{spelled, spelling, inner, next, IsLegal, AreLegal}
+use Rattle.acpi_term.specs.Reading.{Bad, ◌>>=◌, least_of, One, assembled, Opened, follows, fills, packs, begins, open_at, Reader, counted, all_of, wants_no_more, close, term_at}
 use Rattle.acpi_term.proofs.Steps.{bind_ok, ok_is, passed}
 use Rattle.acpi_term.proofs.Openings.{OpenTakes, open_takes}
 use Rattle.acpi_term.proofs.Again.{head_some, nothing_inside}
@@ -23,21 +23,21 @@ module _ (arity : List ℕ → ℕ) where
   -- what the reading of one term, of several and of all took
   pub record OneTaken (d : ℕ) (m : Mode) (bytes : List ℕ) (x : Found) : Type 0 where
     pub parts : bytes ≡ spelled x.0 x.1 (count x.2) (spelling x.2) ++ x.3
-    pub head : FitsHead arity m x.0 x.1 (count x.2) (spelling x.2)
-    pub children : Fits arity (inner x.0) x.2
+    pub head : IsLegal arity m x.0 x.1 (count x.2) (spelling x.2)
+    pub children : AreLegal arity (inner x.0) x.2
     pub deep : depth x.2 < d
     pub rest_fits : AreBytes x.3
 
   pub record SeveralTaken (d n : ℕ) (m : Mode) (bytes : List ℕ) (x : Terms × List ℕ) : Type 0 where
     pub parts : bytes ≡ spelling x.0 ++ x.1
     pub number : count x.0 ≡ n
-    pub fits : Fits arity m x.0
+    pub fits : AreLegal arity m x.0
     pub deep : depth x.0 ≤ d
     pub rest_fits : AreBytes x.1
 
   pub record AllTaken (d : ℕ) (m : Mode) (bytes : List ℕ) (ts : Terms) : Type 0 where
     pub parts : bytes ≡ spelling ts
-    pub fits : Fits arity m ts
+    pub fits : AreLegal arity m ts
     pub deep : depth ts ≤ d
 
   -- a reader takes what it reads
@@ -89,25 +89,25 @@ module _ (arity : List ℕ → ℕ) where
     follows_takes : (h : Head) (w n : ℕ) (rest bytes : List ℕ) (m : Mode) (o : Terms × List ℕ) → OpenTakes arity m bytes (follows h w n rest) → SeveralTaken d n (inner h) rest o → OneTaken (suc d) m bytes (h, w, o.0, o.1)
     follows_takes h w n rest bytes m o t s =
         let f = t.1 (spelling o.0) o.1 s.parts (λ z. nothing_inside o.0 (s.number ∙ z)) in
-        let g = subst (λ (k : ℕ). (bytes ≡ spelled h w k (spelling o.0) ++ o.1) × FitsHead arity m h w k (spelling o.0)) (sym s.number) f in
+        let g = subst (λ (k : ℕ). (bytes ≡ spelled h w k (spelling o.0) ++ o.1) × IsLegal arity m h w k (spelling o.0)) (sym s.number) f in
         record { parts = g.0; head = g.1; children = s.fits; deep = omega (arith, s.deep); rest_fits = s.rest_fits }
 
     fills_takes : (h : Head) (w : ℕ) (inside after bytes : List ℕ) (m : Mode) (ts : Terms) → OpenTakes arity m bytes (fills h w inside after) → AllTaken d (inner h) inside ts → least_of h ≤ count ts → OneTaken (suc d) m bytes (h, w, ts, after)
     fills_takes h w inside after bytes m ts t s enough =
-        let g = subst (λ (l : List ℕ). (bytes ≡ spelled h w (count ts) l ++ after) × FitsHead arity m h w (count ts) l) s.parts (t.2 (count ts) enough) in
+        let g = subst (λ (l : List ℕ). (bytes ≡ spelled h w (count ts) l ++ after) × IsLegal arity m h w (count ts) l) s.parts (t.2 (count ts) enough) in
         record { parts = g.0; head = g.1; children = s.fits; deep = omega (arith, s.deep); rest_fits = t.1 }
 
-    packs_takes : (w n : ℕ) (inside after bytes : List ℕ) (m : Mode) (o : Terms × List ℕ) → OpenTakes arity m bytes (packs w n inside after) → SeveralTaken d n Element inside o → o.1 ≡ [] → OneTaken (suc d) m bytes (pack, w, o.0, after)
+    packs_takes : (w n : ℕ) (inside after bytes : List ℕ) (m : Mode) (o : Terms × List ℕ) → OpenTakes arity m bytes (packs w n inside after) → SeveralTaken d n Element inside o → o.1 ≡ [] → OneTaken (suc d) m bytes (def_package, w, o.0, after)
     packs_takes w n inside after bytes m o t s ended =
         let is : inside ≡ spelling o.0 = s.parts ∙ ap (λ (l : List ℕ). spelling o.0 ++ l) ended ∙ append-nil (spelling o.0) in
-        let f = subst (λ (l : List ℕ). (bytes ≡ spelled pack w n l ++ after) × FitsHead arity m pack w n l) is (t.2, t.3) in
-        let g = subst (λ (k : ℕ). (bytes ≡ spelled pack w k (spelling o.0) ++ after) × FitsHead arity m pack w k (spelling o.0)) (sym s.number) f in
+        let f = subst (λ (l : List ℕ). (bytes ≡ spelled def_package w n l ++ after) × IsLegal arity m def_package w n l) is (t.2, t.3) in
+        let g = subst (λ (k : ℕ). (bytes ≡ spelled def_package w k (spelling o.0) ++ after) × IsLegal arity m def_package w k (spelling o.0)) (sym s.number) f in
         record { parts = g.0; head = g.1; children = s.fits; deep = omega (arith, s.deep); rest_fits = t.1 }
 
-    begins_takes : (w : ℕ) (content after bytes : List ℕ) (m : Mode) (o : Terms × List ℕ) → OpenTakes arity m bytes (begins w content after) → SeveralTaken d 1 Term content o → OneTaken (suc d) m bytes (buffer o.1, w, o.0, after)
+    begins_takes : (w : ℕ) (content after bytes : List ℕ) (m : Mode) (o : Terms × List ℕ) → OpenTakes arity m bytes (begins w content after) → SeveralTaken d 1 Term content o → OneTaken (suc d) m bytes (def_buffer o.1, w, o.0, after)
     begins_takes w content after bytes m o t s =
         let f = t.2 (spelling o.0) o.1 s.parts in
-        let g = subst (λ (k : ℕ). (bytes ≡ spelled (buffer o.1) w k (spelling o.0) ++ after) × FitsHead arity m (buffer o.1) w k (spelling o.0)) (sym s.number) f in
+        let g = subst (λ (k : ℕ). (bytes ≡ spelled (def_buffer o.1) w k (spelling o.0) ++ after) × IsLegal arity m (def_buffer o.1) w k (spelling o.0)) (sym s.number) f in
         record { parts = g.0; head = g.1; children = s.fits; deep = omega (arith, s.deep); rest_fits = t.1 }
 
     close_takes : (o : Opened) (bytes : List ℕ) (m : Mode) (x : Found) → OpenTakes arity m bytes o → close p o ≡ Ok x → OneTaken (suc d) m bytes x
@@ -121,12 +121,12 @@ module _ (arity : List ℕ → ℕ) where
         let b = passed (ltb (count a.0) (least_of h)) Bad (Ok (h, w, a.0)) f.0 f.1 in
         subst (OneTaken (suc d) m bytes) (found_is (h, w, a.0) f.0 after x (ok_is {A = One} (h, w, a.0) f.0 b.1) (ok_is {A = Found} (f.0.0, f.0.1, f.0.2, after) x f.2)) (fills_takes h w inside after bytes m a.0 t (all_takes (length inside) (inner h) inside a.0 t.0 a.1) (ltb-false _ _ b.0))
     close_takes (packs w n inside after) bytes m x t e =
-        let a = bind_ok (counted p n Element inside) (λ c. wants_no_more p pack w c.0 c.1 after) x e in
-        let b = nothing_more pack w a.0.0 a.0.1 after x a.2 in
+        let a = bind_ok (counted p n Element inside) (λ c. wants_no_more p def_package w c.0 c.1 after) x e in
+        let b = nothing_more def_package w a.0.0 a.0.1 after x a.2 in
         subst (OneTaken (suc d) m bytes) b.1 (packs_takes w n inside after bytes m a.0 t (counted_takes n Element inside a.0 t.0 a.1) b.0)
     close_takes (begins w content after) bytes m x t e =
-        let a = bind_ok (counted p 1 Term content) (λ c. Ok (buffer c.1, w, c.0, after)) x e in
-        subst (OneTaken (suc d) m bytes) (ok_is {A = Found} (buffer a.0.1, w, a.0.0, after) x a.2) (begins_takes w content after bytes m a.0 t (counted_takes 1 Term content a.0 t.0 a.1))
+        let a = bind_ok (counted p 1 Term content) (λ c. Ok (def_buffer c.1, w, c.0, after)) x e in
+        subst (OneTaken (suc d) m bytes) (ok_is {A = Found} (def_buffer a.0.1, w, a.0.0, after) x a.2) (begins_takes w content after bytes m a.0 t (counted_takes 1 Term content a.0 t.0 a.1))
 
   pub term_takes : (d : ℕ) → TakesOne (term_at arity d) d
   unfolding term_at

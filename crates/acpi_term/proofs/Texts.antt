@@ -2,7 +2,7 @@
 use Rattle.std.proofs.Common.{◌≡◌, ℕ, ◌<◌, true, false, eqb, ltb, List, [], ◌∷◌, ◌++◌, Ok, refl, ap, subst, arith, inl, inr}
 use Rattle.std.proofs.lemmas.Bool.{ltb-true, eqb-true, eqb-false, lt-ltb, ne_eqb}
 use Rattle.acpi_term.specs.Name.{IsText}
-use Rattle.acpi_term.proofs.Reading.{Bad, text_at}
+use Rattle.acpi_term.specs.Reading.{Bad, text_at}
 use Rattle.acpi_term.proofs.Steps.{bind_ok, ok_is, chosen, admitted}
 
 end_parts : (b : ℕ) (more : List ℕ) → b ≡ 0 → b ∷ more ≡ [] ++ 0 ∷ more

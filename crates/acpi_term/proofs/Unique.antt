@@ -4,9 +4,9 @@ use Rattle.std.specs.Prelude.{◌↔◌}
 use Rattle.std.proofs.lemmas.Bool.{le-leb}
 use Rattle.acpi_term.specs.declared.mode.Mode.{Mode}
 use Rattle.acpi_term.specs.Tree.{Head, Terms, end, term, count, depth, one}
-use Rattle.acpi_term.specs.Spelling.{spelled, spelling, inner, next, FitsHead, Fits, Spells}
+use Rattle.acpi_term.specs.Spelling.{spelled, spelling, inner, next, IsLegal, AreLegal, Spells}
 use Rattle.acpi_term.specs.Splits.{Splits}
-use Rattle.acpi_term.proofs.Reading.{Deep, counted, all_of, term_at}
+use Rattle.acpi_term.specs.Reading.{Deep, counted, all_of, term_at}
 use Rattle.acpi_term.proofs.Steps.{ok_is}
 use Rattle.acpi_term.proofs.Again.{within, guarded, again, within_is}
 
@@ -25,11 +25,11 @@ module _ (arity : List ℕ → ℕ) (m : Mode) where
       let d = max (depth ts) (depth us) in
       ok_is ts us (sym (reads_shallow d bytes ts s (omega arith)) ∙ reads_shallow d bytes us t (omega arith))
 
-  first_reads : (d : ℕ) (t : Terms) (rest : List ℕ) → Fits arity m t → depth t ≤ d → counted (term_at arity d) (count t) m (spelling t ++ rest) ≡ Ok (t, rest)
+  first_reads : (d : ℕ) (t : Terms) (rest : List ℕ) → AreLegal arity m t → depth t ≤ d → counted (term_at arity d) (count t) m (spelling t ++ rest) ≡ Ok (t, rest)
   first_reads d t rest f shallow = (again arity t).several d m rest f ∙ ap (λ b. guarded b (t, rest)) (within_is t d ∙ le-leb (depth t) d shallow)
 
   -- so many terms at the front are these, and the bytes after them are those
-  pub one_front : (ts us : Terms) (x y : List ℕ) → count ts ≡ count us → Fits arity m ts → Fits arity m us → spelling ts ++ x ≡ spelling us ++ y → (ts ≡ us) × (x ≡ y)
+  pub one_front : (ts us : Terms) (x y : List ℕ) → count ts ≡ count us → AreLegal arity m ts → AreLegal arity m us → spelling ts ++ x ≡ spelling us ++ y → (ts ≡ us) × (x ≡ y)
   one_front ts us x y n f g e =
       let d = max (depth ts) (depth us) in
       let a = first_reads d ts x f (omega arith) in
@@ -51,9 +51,9 @@ module _ (arity : List ℕ → ℕ) where
       let inside = splits_spell (inner h) s.2 c s.6 in
       let others = splits_spell (next m) s.1 o s.7 in
       let first : s.0 ≡ spelled h w (count c) (spelling c) = s.4 ∙ ap (spelled h w (count c)) inside.1 in
-      ((subst (FitsHead arity m h w (count c)) inside.1 s.5, inside.0, others.0), s.3 ∙ ap (λ (l : List ℕ). l ++ s.1) first ∙ ap (λ (l : List ℕ). spelled h w (count c) (spelling c) ++ l) others.1)
+      ((subst (IsLegal arity m h w (count c)) inside.1 s.5, inside.0, others.0), s.3 ∙ ap (λ (l : List ℕ). l ++ s.1) first ∙ ap (λ (l : List ℕ). spelled h w (count c) (spelling c) ++ l) others.1)
 
-  terms_split : (m : Mode) (ts : Terms) → Fits arity m ts → Splits arity m (spelling ts) ts
+  terms_split : (m : Mode) (ts : Terms) → AreLegal arity m ts → Splits arity m (spelling ts) ts
   terms_split m end f = refl
   terms_split m (term h w c o) f = (spelled h w (count c) (spelling c), spelling o, spelling c, refl, refl, f.0, terms_split (inner h) c f.1, terms_split (next m) o f.2)
 

@@ -1,23 +1,30 @@
 -- Terms whose values and widths fit the bytes that they are spelled in, whatever their names and arguments are.
-use Rattle.std.specs.Prelude.{◌≡◌, ◌≢◌, ℕ, ◌^◌, ◌<◌, List, [], ◌∷◌, ◌++◌, None}
+use Rattle.std.specs.Prelude.{◌≡◌, ◌≢◌, ℕ, ◌^◌, ◌<◌, List, ◌++◌, None}
 use Rattle.acpi_base.specs.declared.error.Error.{Error}
 use Rattle.acpi_base.specs.declared.error.Error.TheVariants.{Memory}
-use Rattle.acpi_term.specs.Tree.{Entry, Head, field, Terms, end, term, count, one}
+use Rattle.acpi_base.specs.Number.{number_limit}
+use Rattle.acpi_term.specs.Tree.{Head, number, def_field, Terms, end, term, count}
 use Rattle.acpi_term.specs.declared.term.TermEntry.{TermEntry}
-use Rattle.acpi_term.specs.Length.{limit, framed, FitsFrame}
-use Rattle.acpi_term.specs.Row.{bits_of, width_of, entries_bytes, entries_end, field_flags, own}
-use Rattle.acpi_term.specs.Spelling.{spelled, spelling, CarryBits, FitsWidth}
-use Rattle.acpi_term.specs.View.{Parts, entry_view}
+use Rattle.acpi_term.specs.Length.{limit}
+use Rattle.acpi_term.specs.Row.{entry_bits, entry_width, field_flags, layout, before_of, own}
+use Rattle.acpi_term.specs.Spelling.{spelled, spelling, EntriesFit, HeadFits}
+use Rattle.acpi_term.specs.View.{entry_view}
 
 abbrev pub FlagsFit : Head → Type 0
-FlagsFit (field name access lock update entries) = field_flags access lock update < 2 ^ 8
+FlagsFit (def_field name access lock update entries) = field_flags access lock update < 2 ^ 8
 FlagsFit _ = Unit {0}
+
+-- a number fits its width, and the entries of a field fit theirs
+abbrev pub ValuesFit : Head → ℕ → Type 0
+ValuesFit (number v) w = v < number_limit w
+ValuesFit (def_field name access lock update entries) w = EntriesFit entries
+ValuesFit _ w = Unit {0}
 
 -- a head of this width with n children, whose spellings joined are the bytes inside
 pub record IsCarried (h : Head) (w n : ℕ) (inside : List ℕ) : Type 0 where
   pub owns : own h n ≡ None
   pub flags : FlagsFit h
-  pub fits : FitsWidth h w n inside
+  pub fits : HeadFits h w n inside
 
 abbrev pub AreCarried : Terms → Type 0
 AreCarried end = Unit {0}
@@ -25,11 +32,7 @@ AreCarried (term h w children others) = IsCarried h w (count children) (spelling
 
 -- A refusal that isn't for want of memory: the entry's width doesn't carry its bits.
 pub record IsUnfit (e : Error) (entry : TermEntry) : Type 0 where
-  pub cause : e ≢ Memory → bits_of (entry_view entry) < limit (width_of (entry_view entry)) → ⊥
-
--- a term alone as a list
-abbrev pub single : Parts → Terms
-single p = one p.0 p.1 p.2
+  pub cause : e ≢ Memory → entry_bits (entry_view entry) < limit (entry_width (entry_view entry)) → ⊥
 
 -- the spelling of terms that are carried was added to a list
 pub record Added (ts : Terms) (old new : List ℕ) : Type 0 where
@@ -40,20 +43,29 @@ pub record Added (ts : Terms) (old new : List ℕ) : Type 0 where
 pub record IsUncarried (e : Error) (ts : Terms) : Type 0 where
   pub cause : e ≢ Memory → AreCarried ts → ⊥
 
--- a head over the bytes inside
-pub record Laid (p : Parts) (inside bytes : List ℕ) : Type 0 where
-  pub carried : IsCarried p.0 p.1 (count p.2) inside
-  pub is : bytes ≡ spelled p.0 p.1 (count p.2) inside
+-- a head of this width over n children, whose spellings joined are the bytes inside
+pub record Laid (h : Head) (w n : ℕ) (inside bytes : List ℕ) : Type 0 where
+  pub carried : IsCarried h w n inside
+  pub is : bytes ≡ spelled h w n inside
 
-pub record Unlaid (e : Error) (p : Parts) (inside : List ℕ) : Type 0 where
-  pub cause : e ≢ Memory → IsCarried p.0 p.1 (count p.2) inside → ⊥
+pub record Unlaid (e : Error) (h : Head) (w n : ℕ) (inside : List ℕ) : Type 0 where
+  pub cause : e ≢ Memory → IsCarried h w n inside → ⊥
 
--- a field of these flags over the bytes inside, of which a field has none
-pub record IsField (w : ℕ) (name : List ℕ) (flags : ℕ) (entries : List Entry) (inside bytes : List ℕ) : Type 0 where
-  pub owns : entries_end entries ≡ None
-  pub carry : CarryBits entries
-  pub fits : FitsFrame w ((name ++ flags ∷ entries_bytes entries) ++ inside)
-  pub is : bytes ≡ (91 ∷ 129 ∷ []) ++ framed w ((name ++ flags ∷ entries_bytes entries) ++ inside)
+-- of the heads without a frame only a number has a width
+abbrev pub BareFits : Head → ℕ → Type 0
+BareFits (number v) w = Unit {0}
+BareFits _ w = w ≡ 0
 
-pub record IsNoField (e : Error) (w : ℕ) (name : List ℕ) (flags : ℕ) (entries : List Entry) (inside : List ℕ) : Type 0 where
-  pub cause : e ≢ Memory → CarryBits entries → FitsFrame w ((name ++ flags ∷ entries_bytes entries) ++ inside) → ⊥
+-- what a head itself holds fits its bytes
+pub record IsOwnCarried (h : Head) (w n : ℕ) : Type 0 where
+  pub owns : own h n ≡ None
+  pub flags : FlagsFit h
+  pub values : ValuesFit h w
+
+-- the bytes of a head that stand before its children
+pub record OwnLaid (h : Head) (w n : ℕ) (bytes : List ℕ) : Type 0 where
+  pub carried : IsOwnCarried h w n
+  pub is : bytes ≡ before_of (layout h w n)
+
+pub record OwnUnlaid (e : Error) (h : Head) (w n : ℕ) : Type 0 where
+  pub cause : e ≢ Memory → IsOwnCarried h w n → ⊥

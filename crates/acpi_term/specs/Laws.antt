@@ -2,13 +2,13 @@
 use Rattle.std.specs.Prelude.{◌≡◌, ◌↔◌, ℕ, ◌+◌, ◌^◌, ◌<◌, ◌≤◌, List, ◌++◌, length, Some, None, true}
 use Rattle.acpi_base.specs.Bytes.{AreBytes}
 use Rattle.acpi_base.specs.Number.{number_limit, number_bytes, number_width}
-use Rattle.acpi_base.specs.Object.{Object, all_of}
+use Rattle.acpi_base.specs.Object.{Object, whole, all_of}
 use Rattle.acpi_term.specs.declared.mode.Mode.{Mode}
 use Rattle.acpi_term.specs.Tree.{Head, Terms, count, one}
 use Rattle.acpi_term.specs.Name.{IsName}
-use Rattle.acpi_term.specs.PathText.{is_name_text, path_spelling, path_of}
-use Rattle.acpi_term.specs.Length.{value, Frames, limit, length_bytes, framed, FitsFrame, least_width}
-use Rattle.acpi_term.specs.Row.{row, over, layout, own, own_width, writer_width}
+use Rattle.acpi_term.specs.PathText.{parts, with_dots, AreDotless, is_name_text, path_spelling, path_of}
+use Rattle.acpi_term.specs.Length.{value, Frames, limit, length_bytes, with_length, FrameFits, least_width}
+use Rattle.acpi_term.specs.Row.{row, around, layout, own, own_width, writer_width}
 use Rattle.acpi_term.specs.Spelling.{Takes, IsStandard, IsWritten, SpellEach, Spells, inner}
 use Rattle.acpi_term.specs.Splits.{Splits}
 
@@ -27,8 +27,8 @@ abbrev pub RowsOverMean : Type 0
 RowsOverMean =
     (arity : List ℕ → ℕ) (m : Mode) (h : Head) (bytes : List ℕ) (ts : Terms)
     → Takes arity m h (count ts) → IsStandard h → IsWritten h → own h (count ts) ≡ None → Spells arity (inner h) bytes ts
-    → (over (layout h (own_width h) (count ts)) bytes).end ≡ None
-    → Spells arity m (over (layout h (own_width h) (count ts)) bytes).front (one h (writer_width h (count ts) bytes) ts)
+    → (around (layout h (own_width h) (count ts)) (whole bytes)).end ≡ None
+    → Spells arity m (around (layout h (own_width h) (count ts)) (whole bytes)).front (one h (writer_width h (count ts) bytes) ts)
 
 -- ---- unique reading
 
@@ -54,6 +54,10 @@ SplitsAgree = (arity : List ℕ → ℕ) (m : Mode) (bytes : List ℕ) (ts : Ter
 abbrev pub NameTextsAreNames : Type 0
 NameTextsAreNames = (text : List ℕ) → is_name_text text ≡ true → IsName (path_spelling text) × ((path_of text).end ≡ None) × ((path_of text).front ≡ path_spelling text)
 
+-- A text is its parts with dots between them, and no part has a dot.
+abbrev pub TextsAreTheirParts : Type 0
+TextsAreTheirParts = (text : List ℕ) → (with_dots (parts text) ≡ text) × AreDotless (parts text)
+
 -- ---- lengths and numbers
 
 -- The bytes of a value in a width have that value, and bytes that have a value are its bytes in their width.
@@ -65,18 +69,18 @@ LengthsAreSpelled =
 -- What frames a content are its lengths in the widths that fit it.
 abbrev pub FramesAreSpelled : Type 0
 FramesAreSpelled =
-    ((w : ℕ) (content : List ℕ) → FitsFrame w content → (p : List ℕ) × Frames p content × (length p ≡ w) × (framed w content ≡ p ++ content))
-    × ((p content : List ℕ) → Frames p content → FitsFrame (length p) content × (framed (length p) content ≡ p ++ content))
+    ((w : ℕ) (content : List ℕ) → FrameFits w content → (p : List ℕ) × Frames p content × (length p ≡ w) × (with_length w content ≡ p ++ content))
+    × ((p content : List ℕ) → Frames p content → FrameFits (length p) content × (with_length (length p) content ≡ p ++ content))
 
 -- The written frame fits, and nothing that frames the content is shorter. A content of 2^28 - 4 bytes or more has none.
 abbrev pub FramesAreLeast : Type 0
 FramesAreLeast =
-    ((content : List ℕ) → 4 + length content < 2 ^ 28 → FitsFrame (least_width (length content)) content)
+    ((content : List ℕ) → 4 + length content < 2 ^ 28 → FrameFits (least_width (length content)) content)
     × ((p content : List ℕ) → Frames p content → (least_width (length content) ≤ length p) × (4 + length content < 2 ^ 28))
 
--- The first bytes of a frame tell where it ends.
+-- The first bytes of a frame have a value, which tells where it ends.
 abbrev pub FramesEndWithTheirContent : Type 0
-FramesEndWithTheirContent = (w v : ℕ) (content : List ℕ) → FitsFrame w content → value (length_bytes w (w + length content)) ≡ Some v → v ≡ length (framed w content)
+FramesEndWithTheirContent = (w : ℕ) (content : List ℕ) → FrameFits w content → value (length_bytes w (w + length content)) ≡ Some (length (with_length w content))
 
 -- A field entry's length is written in the least width that carries it and that width together, or in 4 bytes where none
 -- does. From 2^28 bits on it has no width.

@@ -28,13 +28,13 @@ limit w = if w == 1 then 2 ^ 6 else (if w == 2 then 2 ^ 12 else (if w == 3 then 
 unfoldable pub length_bytes : ℕ → ℕ → List ℕ
 length_bytes w v = if w == 1 then v ∷ [] else (64 * (w - 1) + v % 16) ∷ le (w - 1) (v / 16)
 
--- a content after a length of so many bytes, which counts itself and the content
-abbrev pub framed : ℕ → List ℕ → List ℕ
-framed w content = length_bytes w (w + length content) ++ content
+-- a content after its PkgLength, of so many bytes, which counts itself and the content
+abbrev pub with_length : ℕ → List ℕ → List ℕ
+with_length w content = length_bytes w (w + length content) ++ content
 
 -- so many bytes can count themselves and the content
-abbrev pub FitsFrame : ℕ → List ℕ → Type 0
-FitsFrame w content = w + length content < limit w
+abbrev pub FrameFits : ℕ → List ℕ → Type 0
+FrameFits w content = w + length content < limit w
 
 -- The width that is written: the least of 1 to 4 that can count itself and n, or 4. A field entry's length doesn't count
 -- itself, and yet takes this width.

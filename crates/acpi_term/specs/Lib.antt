@@ -1,4 +1,5 @@
 pub mod ReadError
+pub mod Held
 pub mod Name
 pub mod PathText
 pub mod Length
@@ -11,3 +12,6 @@ pub mod Laws
 pub mod Arity
 pub mod View
 pub mod Carried
+pub mod Reading
+pub mod Template
+pub mod Made

@@ -3,11 +3,11 @@ use Rattle.std.specs.Prelude.{◌≡◌, ℕ, zero, suc, ◌≤◌, ◌<◌, ◌
 
 -- LeadNameChar: `A` to `Z` or `_`
 abbrev pub is_lead : ℕ → Bool
-is_lead b = (nat_le 65 b && nat_le b 90) || b == 95
+is_lead b = (nat_le 0x41 b && nat_le b 0x5a) || b == 0x5f
 
 -- NameChar: also a digit
 abbrev pub is_part : ℕ → Bool
-is_part b = is_lead b || (nat_le 48 b && nat_le b 57)
+is_part b = is_lead b || (nat_le 0x30 b && nat_le b 0x39)
 
 -- the four bytes of a standard segment, NameSeg
 unfoldable pub is_segment : ℕ → ℕ → ℕ → ℕ → Bool
@@ -21,15 +21,15 @@ pub data AreSegments : ℕ → List ℕ → Type 0 where
 -- One segment; DualNamePrefix and two; or MultiNamePrefix, a count and so many, here never fewer than three.
 pub data IsPath : List ℕ → Type 0 where
   single : {s : List ℕ} → AreSegments 1 s → IsPath s
-  double : {s : List ℕ} → AreSegments 2 s → IsPath (46 ∷ s)
-  multiple : {n : ℕ} {s : List ℕ} → 3 ≤ n → n < 256 → AreSegments n s → IsPath (47 ∷ n ∷ s)
+  double : {s : List ℕ} → AreSegments 2 s → IsPath (0x2e ∷ s)
+  multiple : {n : ℕ} {s : List ℕ} → 3 ≤ n → n < 256 → AreSegments n s → IsPath (0x2f ∷ n ∷ s)
 
 -- a RootChar or none, and a path
 pub data IsName : List ℕ → Type 0 where
   relative : {s : List ℕ} → IsPath s → IsName s
-  rooted : {s : List ℕ} → IsPath s → IsName (92 ∷ s)
+  rooted : {s : List ℕ} → IsPath s → IsName (0x5c ∷ s)
 
 -- AsciiCharList (ACPI 6.5, 20.2.3): bytes 01 to 7F
 abbrev pub IsText : List ℕ → Type 0
 IsText [] = Unit {0}
-IsText (b ∷ s) = (0 < b) × (b < 128) × IsText s
+IsText (b ∷ s) = (0 < b) × (b < 0x80) × IsText s

@@ -1,5 +1,6 @@
 -- Paths as texts: a `\` or none, and then parts between dots.
-use Rattle.std.specs.Prelude.{ℕ, ◌==◌, ◌&&◌, ◌||◌, nat_le, Bool, true, false, if◌then◌else◌, List, [], ◌∷◌, ◌++◌, length, Option, Some, None}
+use Rattle.std.specs.Prelude.{◌≢◌, ℕ, ◌==◌, ◌&&◌, ◌||◌, nat_le, Bool, true, false, if◌then◌else◌, List, [], ◌∷◌, ◌++◌, length, Option, Some, None}
+use Rattle.std.specs.List.{concat}
 use Rattle.acpi_base.specs.declared.error.Error.{Error}
 use Rattle.acpi_base.specs.declared.error.Error.TheVariants.{NamePart, PathParts}
 use Rattle.acpi_base.specs.Object.{Object, whole, ended}
@@ -12,7 +13,21 @@ begun b (p ∷ ps) = (b ∷ p) ∷ ps
 -- the parts between dots
 abbrev pub parts : List ℕ → List (List ℕ)
 parts [] = [] ∷ []
-parts (b ∷ text) = if b == 46 then [] ∷ parts text else begun b (parts text)
+parts (b ∷ text) = if b == 0x2e then [] ∷ parts text else begun b (parts text)
+
+-- parts with dots between them
+abbrev pub with_dots : List (List ℕ) → List ℕ
+with_dots [] = []
+with_dots (p ∷ []) = p
+with_dots (p ∷ q ∷ ps) = p ++ 0x2e ∷ with_dots (q ∷ ps)
+
+abbrev pub IsDotless : List ℕ → Type 0
+IsDotless [] = Unit {0}
+IsDotless (b ∷ p) = (b ≢ 0x2e) × IsDotless p
+
+abbrev pub AreDotless : List (List ℕ) → Type 0
+AreDotless [] = Unit {0}
+AreDotless (p ∷ ps) = IsDotless p × AreDotless ps
 
 -- each has four bytes
 abbrev pub are_fours : List (List ℕ) → Bool
@@ -30,27 +45,23 @@ are_standard (p ∷ ps) = is_standard p && are_standard ps
 
 -- whether one of four bytes is a dot
 abbrev pub dotted : ℕ → ℕ → ℕ → ℕ → Bool
-dotted a b c d = a == 46 || b == 46 || c == 46 || d == 46
-
-abbrev pub joined : List (List ℕ) → List ℕ
-joined [] = []
-joined (p ∷ ps) = p ++ joined ps
+dotted a b c d = a == 0x2e || b == 0x2e || c == 0x2e || d == 0x2e
 
 abbrev pub is_rooted : List ℕ → Bool
 is_rooted [] = false
-is_rooted (b ∷ text) = b == 92
+is_rooted (b ∷ text) = b == 0x5c
 
 -- the root of a text, if it has one
 abbrev pub root : List ℕ → List ℕ
-root text = if is_rooted text then 92 ∷ [] else []
+root text = if is_rooted text then 0x5c ∷ [] else []
 
 abbrev pub unrooted : List ℕ → List ℕ
 unrooted [] = []
-unrooted (b ∷ text) = if b == 92 then text else b ∷ text
+unrooted (b ∷ text) = if b == 0x5c then text else b ∷ text
 
 -- what stands before so many segments (ACPI 6.5, 20.2.2): nothing, DualNamePrefix, or MultiNamePrefix and their number
 abbrev pub lead : ℕ → List ℕ
-lead n = if n == 1 then [] else (if n == 2 then 46 ∷ [] else 47 ∷ n ∷ [])
+lead n = if n == 1 then [] else (if n == 2 then 0x2e ∷ [] else 0x2f ∷ n ∷ [])
 
 -- A part that hasn't four bytes comes before their number.
 abbrev pub parts_end : List (List ℕ) → Option Error
@@ -58,7 +69,7 @@ parts_end ps = if are_fours ps then (if nat_le (length ps) 255 then None else So
 
 -- the bytes that a text names
 abbrev pub path_spelling : List ℕ → List ℕ
-path_spelling text = root text ++ (lead (length (parts (unrooted text))) ++ joined (parts (unrooted text)))
+path_spelling text = root text ++ (lead (length (parts (unrooted text))) ++ concat (parts (unrooted text)))
 
 -- the path of a text, as an object
 abbrev pub path_of : List ℕ → Object

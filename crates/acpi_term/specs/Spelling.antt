@@ -5,19 +5,18 @@ use Rattle.acpi_base.specs.Number.{number_limit}
 use Rattle.acpi_base.specs.Object.{Object}
 use Rattle.acpi_term.specs.declared.mode.Mode.{Mode}
 use Rattle.acpi_term.specs.declared.mode.Mode.TheVariants.{Term, Element, Count}
-use Rattle.acpi_term.specs.Tree.{Entry, named, reserved, Head, number, text, call, scope, device, method, power, field, region, define, mutex, acquire, release, buffer, pack, varpack, branch, loop, otherwise, op, Terms, end, term, count, one}
+use Rattle.acpi_term.specs.Tree.{Entry, named, reserved, Head, number, string, call, def_scope, def_device, def_method, def_power_res, def_field, def_op_region, def_name, def_mutex, def_acquire, def_release, def_buffer, def_package, def_var_package, def_if, def_while, def_else, op, Terms, end, term, count, one}
 use Rattle.acpi_term.specs.Name.{AreSegments, IsName, IsText}
-use Rattle.acpi_term.specs.Length.{limit, least_width, framed, FitsFrame}
+use Rattle.acpi_term.specs.Length.{limit, least_width, with_length, FrameFits}
 use Rattle.acpi_term.specs.Operator.{operands}
-use Rattle.acpi_term.specs.Row.{bits_of, width_of, Layout, bare, boxed, tailed, layout, own}
+use Rattle.acpi_term.specs.Row.{entry_bits, entry_width, Layout, bare, framed, layout, own}
 
 -- ---- spellings
 
 -- a layout round these bytes, where a frame's length has the width w
 abbrev pub laid : Layout → ℕ → List ℕ → List ℕ
 laid (bare before) w inside = before ++ inside
-laid (boxed code before) w inside = code ++ framed w (before ++ inside)
-laid (tailed code after) w inside = code ++ framed w (inside ++ after)
+laid (framed code before after) w inside = code ++ with_length w (before ++ (inside ++ after))
 
 -- a head of this width with n children, whose spellings joined are the bytes inside
 abbrev pub spelled : Head → ℕ → ℕ → List ℕ → List ℕ
@@ -32,8 +31,8 @@ spelling (term h w children others) = spelled h w (count children) (spelling chi
 
 -- the first child of a head
 abbrev pub inner : Head → Mode
-inner pack = Element
-inner varpack = Count
+inner def_package = Element
+inner def_var_package = Count
 inner _ = Term
 
 -- what stands after it
@@ -55,45 +54,44 @@ AreNamed (e ∷ entries) = EntryIsNamed e × AreNamed entries
 -- Names, texts and data are the standard's, and numbers have their fields' ranges.
 abbrev pub IsStandard : Head → Type 0
 IsStandard (number v) = v < 2 ^ 64
-IsStandard (text s) = IsText s
+IsStandard (string s) = IsText s
 IsStandard (call name) = IsName name
-IsStandard (scope name) = IsName name
-IsStandard (device name) = IsName name
-IsStandard (method name args serialized) = IsName name
-IsStandard (power name level order) = IsName name × (level < 2 ^ 8) × (order < 2 ^ 16)
-IsStandard (field name access lock update entries) = IsName name × (access ≤ 5) × (lock ≤ 1) × (update ≤ 2) × AreNamed entries
-IsStandard (region name space) = IsName name × (space < 2 ^ 8)
-IsStandard (define name) = IsName name
-IsStandard (mutex name level) = IsName name × (level < 2 ^ 8)
-IsStandard (acquire name timeout) = IsName name × (timeout < 2 ^ 16)
-IsStandard (release name) = IsName name
-IsStandard (buffer bytes) = AreBytes bytes
+IsStandard (def_scope name) = IsName name
+IsStandard (def_device name) = IsName name
+IsStandard (def_method name args serialized) = IsName name
+IsStandard (def_power_res name level order) = IsName name × (level < 2 ^ 8) × (order < 2 ^ 16)
+IsStandard (def_field name access lock update entries) = IsName name × (access ≤ 5) × (lock ≤ 1) × (update ≤ 2) × AreNamed entries
+IsStandard (def_op_region name space) = IsName name × (space < 2 ^ 8)
+IsStandard (def_name name) = IsName name
+IsStandard (def_mutex name level) = IsName name × (level < 2 ^ 8)
+IsStandard (def_acquire name timeout) = IsName name × (timeout < 2 ^ 16)
+IsStandard (def_release name) = IsName name
+IsStandard (def_buffer bytes) = AreBytes bytes
 IsStandard _ = Unit {0}
 
 -- each entry's width carries its bits
-abbrev pub CarryBits : List Entry → Type 0
-CarryBits [] = Unit {0}
-CarryBits (e ∷ entries) = (bits_of e < limit (width_of e)) × CarryBits entries
+abbrev pub EntriesFit : List Entry → Type 0
+EntriesFit [] = Unit {0}
+EntriesFit (e ∷ entries) = (entry_bits e < limit (entry_width e)) × EntriesFit entries
 
 -- each entry has the width that is written
 abbrev pub HaveLeastWidths : List Entry → Type 0
 HaveLeastWidths [] = Unit {0}
-HaveLeastWidths (e ∷ entries) = (width_of e ≡ least_width (bits_of e)) × HaveLeastWidths entries
+HaveLeastWidths (e ∷ entries) = (entry_width e ≡ least_width (entry_bits e)) × HaveLeastWidths entries
 
-abbrev pub FitsIn : Layout → ℕ → List ℕ → Type 0
-FitsIn (bare before) w inside = w ≡ 0
-FitsIn (boxed code before) w inside = FitsFrame w (before ++ inside)
-FitsIn (tailed code after) w inside = FitsFrame w (inside ++ after)
+abbrev pub LayoutFits : Layout → ℕ → List ℕ → Type 0
+LayoutFits (bare before) w inside = w ≡ 0
+LayoutFits (framed code before after) w inside = FrameFits w (before ++ (inside ++ after))
 
 -- A number's width carries it, and a frame's length counts itself and the content. Any other head has the width 0.
-abbrev pub FitsWidth : Head → ℕ → ℕ → List ℕ → Type 0
-FitsWidth (number v) w n inside = v < number_limit w
-FitsWidth (field name access lock update entries) w n inside = CarryBits entries × FitsIn (layout (field name access lock update entries) w n) w inside
-FitsWidth h w n inside = FitsIn (layout h w n) w inside
+abbrev pub HeadFits : Head → ℕ → ℕ → List ℕ → Type 0
+HeadFits (number v) w n inside = v < number_limit w
+HeadFits (def_field name access lock update entries) w n inside = EntriesFit entries × LayoutFits (layout (def_field name access lock update entries) w n) w inside
+HeadFits h w n inside = LayoutFits (layout h w n) w inside
 
 -- the widths that a head itself holds are those that are written
 abbrev pub IsWritten : Head → Type 0
-IsWritten (field name access lock update entries) = HaveLeastWidths entries
+IsWritten (def_field name access lock update entries) = HaveLeastWidths entries
 IsWritten _ = Unit {0}
 
 module _ (arity : List ℕ → ℕ) where
@@ -106,36 +104,36 @@ module _ (arity : List ℕ → ℕ) where
   -- the head may have n children
   abbrev pub Takes : Mode → Head → ℕ → Type 0
   Takes m (call name) n = n ≡ arguments m name
-  Takes m (scope name) n = Unit {0}
-  Takes m (device name) n = Unit {0}
-  Takes m (method name args serialized) n = Unit {0}
-  Takes m (power name level order) n = Unit {0}
-  Takes m (region name space) n = n ≡ 2
-  Takes m (define name) n = n ≡ 1
-  Takes m (buffer bytes) n = n ≡ 1
-  Takes m pack n = Unit {0}
-  Takes m varpack n = 1 ≤ n
-  Takes m branch n = 1 ≤ n
-  Takes m loop n = 1 ≤ n
-  Takes m otherwise n = Unit {0}
+  Takes m (def_scope name) n = Unit {0}
+  Takes m (def_device name) n = Unit {0}
+  Takes m (def_method name args serialized) n = Unit {0}
+  Takes m (def_power_res name level order) n = Unit {0}
+  Takes m (def_op_region name space) n = n ≡ 2
+  Takes m (def_name name) n = n ≡ 1
+  Takes m (def_buffer bytes) n = n ≡ 1
+  Takes m def_package n = Unit {0}
+  Takes m def_var_package n = 1 ≤ n
+  Takes m def_if n = 1 ≤ n
+  Takes m def_while n = 1 ≤ n
+  Takes m def_else n = Unit {0}
   Takes m (op o) n = n ≡ operands o
   Takes m _ n = n ≡ 0
 
   -- a head of this width may have n children whose spellings are the bytes inside
-  pub record FitsHead (m : Mode) (h : Head) (w n : ℕ) (inside : List ℕ) : Type 0 where
+  pub record IsLegal (m : Mode) (h : Head) (w n : ℕ) (inside : List ℕ) : Type 0 where
     pub takes : Takes m h n
     pub is_standard : IsStandard h
     pub owns : own h n ≡ None
-    pub fits : FitsWidth h w n inside
+    pub fits : HeadFits h w n inside
 
   -- the terms have a spelling, where the first stands in that mode
-  abbrev pub Fits : Mode → Terms → Type 0
-  Fits m end = Unit {0}
-  Fits m (term h w children others) = FitsHead m h w (count children) (spelling children) × Fits (inner h) children × Fits (next m) others
+  abbrev pub AreLegal : Mode → Terms → Type 0
+  AreLegal m end = Unit {0}
+  AreLegal m (term h w children others) = IsLegal m h w (count children) (spelling children) × AreLegal (inner h) children × AreLegal (next m) others
 
 -- the bytes spell these terms, where the first stands in that mode
 abbrev pub Spells : (List ℕ → ℕ) → Mode → List ℕ → Terms → Type 0
-Spells arity m bytes ts = Fits arity m ts × (bytes ≡ spelling ts)
+Spells arity m bytes ts = AreLegal arity m ts × (bytes ≡ spelling ts)
 
 -- the objects spell a term each, where the first stands in that mode
 abbrev pub SpellEach : (List ℕ → ℕ) → Mode → List Object → Terms → Type 0

@@ -13,35 +13,35 @@ pub data Entry : Type 0 where
 pub data Head : Type 0 where
   number : ℕ → Head
   ones : Head
-  text : List ℕ → Head
+  string : List ℕ → Head
   local : ℕ → Head
   arg : ℕ → Head
   -- a name, and its arguments if it has any
   call : List ℕ → Head
-  scope : List ℕ → Head
-  device : List ℕ → Head
+  def_scope : List ℕ → Head
+  def_device : List ℕ → Head
   -- name, number of arguments, whether serialized
-  method : List ℕ → ℕ → Bool → Head
+  def_method : List ℕ → ℕ → Bool → Head
   -- name, system level, resource order
-  power : List ℕ → ℕ → ℕ → Head
+  def_power_res : List ℕ → ℕ → ℕ → Head
   -- name, access type, lock rule, update rule, entries
-  field : List ℕ → ℕ → ℕ → ℕ → List Entry → Head
+  def_field : List ℕ → ℕ → ℕ → ℕ → List Entry → Head
   -- name, address space
-  region : List ℕ → ℕ → Head
+  def_op_region : List ℕ → ℕ → Head
   -- a name that is given a value
-  define : List ℕ → Head
+  def_name : List ℕ → Head
   -- name, level
-  mutex : List ℕ → ℕ → Head
+  def_mutex : List ℕ → ℕ → Head
   -- name, timeout
-  acquire : List ℕ → ℕ → Head
-  release : List ℕ → Head
+  def_acquire : List ℕ → ℕ → Head
+  def_release : List ℕ → Head
   -- the bytes after the size
-  buffer : List ℕ → Head
-  pack : Head
-  varpack : Head
-  branch : Head
-  loop : Head
-  otherwise : Head
+  def_buffer : List ℕ → Head
+  def_package : Head
+  def_var_package : Head
+  def_if : Head
+  def_while : Head
+  def_else : Head
   op : Op → Head
 
 -- A list of terms: the first one's head, width and children, and the others. The width of a number is that of its bytes

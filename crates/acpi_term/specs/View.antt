@@ -1,9 +1,11 @@
 -- The terms that values of the code stand for.
-use Rattle.std.specs.Prelude.{ℕ, List, [], ◌∷◌, map, string_bytes}
-use Rattle.acpi_term.specs.Tree.{Entry, named, reserved, Head, number, ones, text, local, arg, call, scope, device, method, power, field, region, define, mutex, acquire, release, buffer, pack, varpack, branch, loop, otherwise, op, Terms, end, term}
+use Rattle.std.specs.Prelude.{◌≡◌, ℕ, List, [], ◌∷◌, ◌++◌, map, string_bytes}
+use Rattle.acpi_term.specs.Tree.{Entry, named, reserved, Head, number, ones, string, local, arg, call, def_scope, def_device, def_method, def_power_res, def_field, def_op_region, def_name, def_mutex, def_acquire, def_release, def_buffer, def_package, def_var_package, def_if, def_while, def_else, op, Terms, end, term, one}
 use Rattle.acpi_term.specs.declared.term.TermEntry.{TermEntry}
 use Rattle.acpi_term.specs.declared.term.TermEntry.TheVariants.{Named, Reserved}
 use Rattle.acpi_term.specs.declared.term.Term.{Term}
+use Rattle.acpi_term.specs.declared.apart.Kind.{Kind}
+use Rattle.acpi_term.specs.declared.apart.Kind.TheVariants as kinds
 use Rattle.acpi_term.specs.declared.term.Term.TheOpen.{Term-F}
 use Rattle.acpi_term.specs.declared.term.Term.TheFolds.{fold-Term}
 
@@ -11,9 +13,9 @@ use Rattle.acpi_term.specs.declared.term.Term.TheFolds.{fold-Term}
 abbrev pub Parts : Type 0
 Parts = Head × ℕ × Terms
 
-abbrev pub joined : List Parts → Terms
-joined [] = end
-joined (t ∷ ts) = term t.0 t.1 t.2 (joined ts)
+abbrev pub listed : List Parts → Terms
+listed [] = end
+listed (t ∷ ts) = term t.0 t.1 t.2 (listed ts)
 
 abbrev pub entry_view : TermEntry → Entry
 entry_view (Named name bits width) = named name bits width
@@ -22,27 +24,27 @@ entry_view (Reserved bits width) = reserved bits width
 abbrev pub view_step : Term-F Parts → Parts
 view_step (Term-F.Number value width) = (number value, width, end)
 view_step Term-F.Ones = (ones, 0, end)
-view_step (Term-F.Text s) = (text (string_bytes s), 0, end)
+view_step (Term-F.Text s) = (string (string_bytes s), 0, end)
 view_step (Term-F.Local n) = (local n, 0, end)
 view_step (Term-F.Arg n) = (arg n, 0, end)
-view_step (Term-F.Call name args) = (call name, 0, joined args.items)
-view_step (Term-F.Scope width name body) = (scope name, width, joined body.items)
-view_step (Term-F.Device width name body) = (device name, width, joined body.items)
-view_step (Term-F.Method width name args serialized body) = (method name args serialized, width, joined body.items)
-view_step (Term-F.PowerResource width name level order body) = (power name level order, width, joined body.items)
-view_step (Term-F.Field width name access lock update entries) = (field name access lock update (map entry_view entries.items), width, end)
-view_step (Term-F.OpRegion name space offset size) = (region name space, 0, joined (offset.value ∷ size.value ∷ []))
-view_step (Term-F.Name name value) = (define name, 0, joined (value.value ∷ []))
-view_step (Term-F.Mutex name level) = (mutex name level, 0, end)
-view_step (Term-F.Acquire name timeout) = (acquire name timeout, 0, end)
-view_step (Term-F.Release name) = (release name, 0, end)
-view_step (Term-F.Buffer width size bytes) = (buffer bytes.items, width, joined (size.value ∷ []))
-view_step (Term-F.Package width elements) = (pack, width, joined elements.items)
-view_step (Term-F.VarPackage width size elements) = (varpack, width, joined (size.value ∷ elements.items))
-view_step (Term-F.If width predicate body) = (branch, width, joined (predicate.value ∷ body.items))
-view_step (Term-F.While width predicate body) = (loop, width, joined (predicate.value ∷ body.items))
-view_step (Term-F.Else width body) = (otherwise, width, joined body.items)
-view_step (Term-F.Op o operands) = (op o, 0, joined operands.items)
+view_step (Term-F.Call name args) = (call name, 0, listed args.items)
+view_step (Term-F.Scope width name body) = (def_scope name, width, listed body.items)
+view_step (Term-F.Device width name body) = (def_device name, width, listed body.items)
+view_step (Term-F.Method width name args serialized body) = (def_method name args serialized, width, listed body.items)
+view_step (Term-F.PowerResource width name level order body) = (def_power_res name level order, width, listed body.items)
+view_step (Term-F.Field width name access lock update entries) = (def_field name access lock update (map entry_view entries.items), width, end)
+view_step (Term-F.OpRegion name space offset size) = (def_op_region name space, 0, listed (offset.value ∷ size.value ∷ []))
+view_step (Term-F.Name name value) = (def_name name, 0, listed (value.value ∷ []))
+view_step (Term-F.Mutex name level) = (def_mutex name level, 0, end)
+view_step (Term-F.Acquire name timeout) = (def_acquire name timeout, 0, end)
+view_step (Term-F.Release name) = (def_release name, 0, end)
+view_step (Term-F.Buffer width size bytes) = (def_buffer bytes.items, width, listed (size.value ∷ []))
+view_step (Term-F.Package width elements) = (def_package, width, listed elements.items)
+view_step (Term-F.VarPackage width size elements) = (def_var_package, width, listed (size.value ∷ elements.items))
+view_step (Term-F.If width predicate body) = (def_if, width, listed (predicate.value ∷ body.items))
+view_step (Term-F.While width predicate body) = (def_while, width, listed (predicate.value ∷ body.items))
+view_step (Term-F.Else width body) = (def_else, width, listed body.items)
+view_step (Term-F.Op o operands) = (op o, 0, listed operands.items)
 
 -- one term's
 abbrev pub view : Term → Parts
@@ -50,4 +52,40 @@ view = fold-Term Parts view_step
 
 -- the list of a list of terms
 abbrev pub views : List Term → Terms
-views ts = joined (map view ts)
+views ts = listed (map view ts)
+
+-- a term alone as a list
+abbrev pub single : Parts → Terms
+single p = one p.0 p.1 p.2
+
+-- the head that a kind stands for
+abbrev pub head_of : Kind → Head
+head_of (kinds.Number value) = number value
+head_of kinds.Ones = ones
+head_of (kinds.Text s) = string s.now
+head_of (kinds.Local n) = local n
+head_of (kinds.Arg n) = arg n
+head_of (kinds.Call name) = call name.now
+head_of (kinds.Scope name) = def_scope name.now
+head_of (kinds.Device name) = def_device name.now
+head_of (kinds.Method name args serialized) = def_method name.now args serialized
+head_of (kinds.PowerResource name level order) = def_power_res name.now level order
+head_of (kinds.Field name access lock update entries) = def_field name.now access lock update (map entry_view entries.now)
+head_of (kinds.OpRegion name space) = def_op_region name.now space
+head_of (kinds.Name name) = def_name name.now
+head_of (kinds.Mutex name level) = def_mutex name.now level
+head_of (kinds.Acquire name timeout) = def_acquire name.now timeout
+head_of (kinds.Release name) = def_release name.now
+head_of (kinds.Buffer bytes) = def_buffer bytes.now
+head_of kinds.Package = def_package
+head_of kinds.VarPackage = def_var_package
+head_of kinds.If = def_if
+head_of kinds.While = def_while
+head_of kinds.Else = def_else
+head_of (kinds.Op o) = op o
+
+-- a term taken apart: a head, a width, and its children in two lists
+pub record IsApart (t : Term) (h : Head) (w : ℕ) (first others : List Term) : Type 0 where
+  pub head : h ≡ (view t).0
+  pub width : w ≡ (view t).1
+  pub children : views (first ++ others) ≡ (view t).2

@@ -1,6 +1,10 @@
 //! Laws over the definitions that the contracts cite. Each function is a law: it does nothing, and ensures it.
 
-ghost use Rattle.acpi_term.specs.Laws.{RowsMean, RowsOverMean, AtMostOneList, AtMostOneFront, SplitsAgree, NameTextsAreNames, LengthsAreSpelled, FramesAreSpelled, FramesAreLeast, FramesEndWithTheirContent, FieldLengthsAreLeast, NumbersAreLeast};
+ghost use Rattle.std.specs.Prelude.{◌≡◌, List, true};
+ghost use Rattle.std.specs.Cmp.Lexicographic.{pointwise};
+ghost use Rattle.acpi_term.specs.declared.term.Term.{Term};
+ghost use Rattle.acpi_term.specs.View.{views};
+ghost use Rattle.acpi_term.specs.Laws.{RowsMean, RowsOverMean, AtMostOneList, AtMostOneFront, SplitsAgree, NameTextsAreNames, TextsAreTheirParts, LengthsAreSpelled, FramesAreSpelled, FramesAreLeast, FramesEndWithTheirContent, FieldLengthsAreLeast, NumbersAreLeast};
 
 /// A whole row spells its term over the terms of its children.
 pub fn rows_mean()
@@ -32,6 +36,11 @@ pub fn name_texts_are_names()
     ensures { NameTextsAreNames }
 {}
 
+/// A text is its parts with dots between them, and no part has a dot.
+pub fn texts_are_their_parts()
+    ensures { TextsAreTheirParts }
+{}
+
 /// A length has its value in each width that carries it, and nothing else has (ACPI 6.5, 20.2.4).
 pub fn lengths_are_spelled()
     ensures { LengthsAreSpelled }
@@ -47,7 +56,7 @@ pub fn frames_are_least()
     ensures { FramesAreLeast }
 {}
 
-/// A frame's length counts all of the frame.
+/// A frame's length is told, and counts all of the frame.
 pub fn frames_end_with_their_content()
     ensures { FramesEndWithTheirContent }
 {}
@@ -60,4 +69,9 @@ pub fn field_lengths_are_least()
 /// The width of a written number is the least.
 pub fn numbers_are_least()
     ensures { NumbersAreLeast }
+{}
+
+/// Two lists of terms with one view are equal.
+pub fn terms_are_their_views()
+    ensures { (a b : List Term) → views a ≡ views b → pointwise ⟦<crate::term::Term as PartialEq>⟧.eq a b ≡ true }
 {}

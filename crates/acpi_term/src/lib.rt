@@ -1,6 +1,7 @@
 //! What AML and its reading speak of: terms, names, and why bytes couldn't be read.
 #![tactic(auto)]
 
+pub mod apart;
 pub mod laws;
 pub mod mode;
 pub mod name_string;

@@ -3,6 +3,7 @@
 ghost use Rattle.std.specs.Prelude.{◌≡◌, ◌≢◌, ℕ, List, true, false, OnOk, IfOk, IfErr};
 ghost use Rattle.std.specs.Cmp.Lexicographic.{pointwise};
 ghost use Rattle.std.specs.Bool.{nat_eq};
+ghost use Rattle.acpi_term.specs.Held.{held, Holds};
 ghost use Rattle.acpi_term.specs.Name.{IsName};
 ghost use Rattle.acpi_term.specs.PathText.{parts, are_standard, path_spelling, is_name_text};
 ghost use Rattle.acpi_term.specs.Arity.{is_stated, are_arities, arity};
@@ -13,21 +14,28 @@ use crate::path_text::{path_bytes, split_root};
 use crate::read_error::ReadError;
 use crate::segment::is_segment;
 use acpi_base::error::Error;
-use std::alloc::Global;
+use std::alloc::{AllocError, Global};
 use std::marker::Model;
+
+/// Bytes that stand in the value where they are few, so that most names take no memory.
+#[derive(Debug, Drop)]
+pub(crate) enum NameBytes {
+    Few(u8, [u8; 14]),
+    Many(Box<Vec<u8>>),
+}
 
 /// A name, as the bytes that spell it (ACPI 6.5, 20.2.2, NameString).
 #[derive(Debug, Drop)]
 pub struct NameString {
-    bytes: Vec<u8>,
+    spelling: NameBytes,
 }
 
 impl Model for NameString {
     ghost Value = { List ℕ };
 
-    ghost view = { λ name. name.bytes.items };
+    ghost view = { λ name. held name.spelling };
 
-    ghost invariant = { λ name. IsName name.bytes.items };
+    ghost invariant = { λ name. Holds name.spelling × IsName (held name.spelling) };
 }
 
 impl NameString {
@@ -44,18 +52,10 @@ impl NameString {
             return Err(ReadError::NameText);
         }
         match path_bytes(alloc, text) {
-            Ok(bytes) => Ok(NameString { bytes }),
+            Ok(bytes) => Ok(name_of(alloc, &bytes)?),
             Err(Error::Memory) => Err(ReadError::Memory),
             Err(_) => Err(ReadError::NameText),
         }
-    }
-
-    /// The name that these bytes spell.
-    pub fn from_spelling(bytes: Vec<u8>) -> NameString
-        requires { IsName bytes.items }
-        ensures { result ≡ bytes.items }
-    {
-        NameString { bytes }
     }
 
     /// The bytes that spell it.
@@ -63,8 +63,32 @@ impl NameString {
         ensures bytes { result.now ≡ self.now }
         ensures name { IsName self.now }
     {
-        &self.bytes
+        match &self.spelling {
+            NameBytes::Few(count, bytes) => &bytes[..usize::from(*count)],
+            NameBytes::Many(bytes) => bytes,
+        }
     }
+}
+
+/// The name that these bytes spell.
+pub fn name_of(alloc: Global, spelling: &[u8]) -> Result<NameString, AllocError>
+    requires { IsName spelling.now }
+    ensures { IfOk result (λ name. name ≡ spelling.now) }
+{
+    let spelling = hold(alloc, spelling)?;
+    Ok(NameString { spelling })
+}
+
+fn hold(alloc: Global, bytes: &[u8]) -> Result<NameBytes, AllocError>
+    ensures { IfOk result (λ name. Holds name × (held name ≡ bytes.now)) }
+{
+    if bytes.len() > 14 {
+        let bytes = Vec::from_slice(alloc, bytes)?;
+        return Ok(NameBytes::Many(Box::new(alloc, bytes)?));
+    }
+    let mut few = [0; 14];
+    few[..bytes.len()].copy_from_slice(bytes);
+    Ok(NameBytes::Few(bytes.len() as u8, few))
 }
 
 /// Names are equal where their bytes are.
@@ -140,19 +164,19 @@ impl Arities {
         0
     }
 
-    /// How many arguments follow a name that stands so.
-    pub fn arguments(&self, mode: Mode, name: &[u8]) -> u8
-        ensures { result ≡ arguments (arity self.now) mode name.now }
-    {
-        match mode {
-            Mode::Term | Mode::Count => self.count_of(name),
-            Mode::Element => 0,
-        }
-    }
-
     /// Where the list has its memory from.
     pub fn allocator(&self) -> Global {
         *self.counts.allocator()
+    }
+}
+
+/// How many arguments follow a name that stands so.
+pub fn arguments(arities: &Arities, mode: Mode, name: &[u8]) -> u8
+    ensures { result ≡ arguments (arity arities.now) mode name.now }
+{
+    match mode {
+        Mode::Term | Mode::Count => arities.count_of(name),
+        Mode::Element => 0,
     }
 }
 

@@ -1,32 +1,30 @@
 //! Paths as texts.
 
 ghost use Rattle.std.specs.Prelude.{◌≡◌, ◌≢◌, ◌++◌, length, true, false, OnOk, IfOk, IfErr};
-ghost use Rattle.acpi_base.specs.Object.{Built, IsOwnEnd};
-ghost use Rattle.acpi_term.specs.PathText.{root, unrooted, dotted, parts, are_fours, joined, path_of};
+ghost use Rattle.std.specs.List.{concat};
+ghost use Rattle.acpi_term.specs.Made.{Makes};
+ghost use Rattle.acpi_term.specs.PathText.{root, unrooted, dotted, parts, are_fours, path_of};
 
+use crate::row::{insert, with_room};
 use acpi_base::error::{Error, R};
 use std::alloc::Global;
 
 /// The bytes of the path that a text names (ACPI 6.5, 20.2.2): a `\` or none, and then parts of four bytes between dots.
 /// Refused by NamePart if any part isn't four bytes long, and else by PathParts past 255 parts.
 pub fn path_bytes(alloc: Global, text: &str) -> R<Vec<u8>>
-    ensures ok { IfOk result (λ v. Built (path_of text.now) v.items) }
-    ensures err { IfErr result (λ e. IsOwnEnd e (path_of text.now)) }
+    ensures { Makes result (path_of text.now) }
 {
     let (root, rest) = split_root(text.as_bytes());
-    let mut segments = Vec::new(alloc);
-    let count = read_segments(rest, &mut segments)?;
+    let mut bytes = with_room(alloc, root)?;
+    let count = read_segments(rest, &mut bytes)?;
     let Ok(count) = u8::try_from(count) else {
         return Err(Error::PathParts);
     };
-    let mut bytes = Vec::with_capacity(alloc, segments.len() + 3)?;
-    bytes.extend_from_slice(root)?;
     match count {
         1 => {}
-        2 => bytes.push(0x2e)?,
-        _ => bytes.extend_from_slice(&[0x2f, count])?,
+        2 => insert(&mut bytes, root.len(), &[0x2e], &[])?,
+        _ => insert(&mut bytes, root.len(), &[0x2f], &[count])?,
     }
-    bytes.extend_from_slice(&segments)?;
     Ok(bytes)
 }
 
@@ -53,7 +51,7 @@ fn dotted(a: u8, b: u8, c: u8, d: u8) -> bool
 /// Adds the parts of four bytes between dots, and tells how many there are.
 #[tactic(auto, using(crate::proofs::PathTexts::short, crate::proofs::PathTexts::dots, crate::proofs::PathTexts::last, crate::proofs::PathTexts::long, crate::proofs::PathTexts::step))]
 fn read_segments(text: &[u8], segments: &mut Vec<u8>) -> R<usize>
-    ensures joined { OnOk result (segments.new.items ≡ segments.old.items ++ joined (parts text.now)) }
+    ensures added { OnOk result (segments.new.items ≡ segments.old.items ++ concat (parts text.now)) }
     ensures count { IfOk result (λ n. n ≡ length (parts text.now)) }
     ensures fours { OnOk result (are_fours (parts text.now) ≡ true) }
     ensures err { IfErr result (λ e. e ≢ Error.Memory → (e ≡ Error.NamePart) × (are_fours (parts text.now) ≡ false)) }

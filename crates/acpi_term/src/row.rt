@@ -1,13 +1,15 @@
 //! The making of rows.
 
-ghost use Rattle.std.specs.Prelude.{◌≡◌, ◌≤◌, ◌<◌, ◌+◌, ◌^◌, [], ◌∷◌, map, OnOk, IfOk, IfErr, None, Some};
-ghost use Rattle.acpi_base.specs.Object.{Built, IsOwnEnd};
+ghost use Rattle.std.specs.Prelude.{◌≡◌, ◌≤◌, ◌<◌, ◌+◌, ◌-◌, ◌^◌, [], ◌∷◌, ◌++◌, length, take, drop, map, OnOk, IfOk, IfErr, None, Some};
+ghost use Rattle.acpi_base.specs.Object.{all_of};
+ghost use Rattle.acpi_term.specs.Made.{Makes};
 ghost use Rattle.acpi_term.specs.Length.{limit, least_width, StartsWithLength};
-ghost use Rattle.acpi_term.specs.Row.{bare, boxed, tailed, around, frame_end, boxed_object};
+ghost use Rattle.acpi_term.specs.Row.{bare, framed, around, frame_end, frame};
 
 use acpi_base::buffer::{append_all, append_before};
 use acpi_base::error::{Error, R};
 use acpi_base::object::Aml;
+use acpi_base::patch::write_at;
 use std::alloc::Global;
 
 /// How many bytes a length is written in (ACPI 6.5, 20.2.4): the fewest that count themselves and so much.
@@ -80,54 +82,87 @@ pub fn field_length(bits: usize) -> R<([u8; 4], usize)>
     Ok((length_bytes(width, bits as u32), usize::from(width)))
 }
 
-/// The bytes, and then the children.
-pub fn bare(alloc: Global, before: &[u8], children: &[&dyn Aml]) -> R<Vec<u8>>
-    ensures ok { IfOk result (λ v. Built (around (bare before.now) (map (λ child. object child.now) children.now)) v.items) }
-    ensures err { IfErr result (λ e. IsOwnEnd e (around (bare before.now) (map (λ child. object child.now) children.now))) }
+// Room for what mostly follows, so that a vector needn't grow.
+const ROOM: usize = 64;
+
+/// A vector of these bytes with room for more.
+pub fn with_room(alloc: Global, bytes: &[u8]) -> R<Vec<u8>>
+    ensures ok { IfOk result (λ v. v.items ≡ bytes.now) }
+    ensures err { IfErr result (λ e. e ≡ Error.Memory) }
 {
-    let mut bytes = Vec::from_slice(alloc, before)?;
+    let mut vector = Vec::with_capacity(alloc, bytes.len() + ROOM)?;
+    vector.extend_from_slice(bytes)?;
+    Ok(vector)
+}
+
+/// Puts bytes, and then others, into a vector at a place.
+#[tactic(auto, using(crate::proofs::Inserts::inserted))]
+pub fn insert(bytes: &mut Vec<u8>, at: usize, first: &[u8], second: &[u8]) -> R<()>
+    requires { at ≤ length bytes.old.items }
+    ensures ok { OnOk result (bytes.new.items ≡ take at bytes.old.items ++ ((first.now ++ second.now) ++ drop at bytes.old.items)) }
+    ensures err { IfErr result (λ e. e ≡ Error.Memory) }
+{
+    let end = bytes.len();
+    bytes.extend_from_slice(first)?;
+    bytes.extend_from_slice(second)?;
+    fill(bytes, at, end, first, second);
+    Ok(())
+}
+
+// Moves the bytes between two places up to the end, and puts others where they were.
+#[tactic(auto, using(crate::proofs::Inserts::filled))]
+fn fill(bytes: &mut [u8], at: usize, end: usize, first: &[u8], second: &[u8])
+    requires order { at ≤ end }
+    requires room { end + (length first.now + length second.now) ≡ length bytes.old }
+    ensures { bytes.new ≡ take at bytes.old ++ ((first.now ++ second.now) ++ take (end - at) (drop at bytes.old)) }
+{
+    bytes.copy_within(at..end, at + (first.len() + second.len()));
+    write_at(bytes, at, first);
+    write_at(bytes, at + first.len(), second);
+}
+
+/// The bytes that are there, and then the children.
+pub fn bare_on(before: Vec<u8>, children: &[&dyn Aml]) -> R<Vec<u8>>
+    ensures { Makes result (around (bare before.items) (all_of (map (λ child. object child.now) children.now))) }
+{
+    let mut bytes = before;
     append_all(children, &mut bytes)?;
     Ok(bytes)
 }
 
-/// An opcode, and a content in a frame.
-pub fn frame(alloc: Global, code: &[u8], content: &[u8]) -> R<Vec<u8>>
-    ensures ok { IfOk result (λ v. Built (boxed_object code.now content.now) v.items) }
-    ensures err { IfErr result (λ e. IsOwnEnd e (boxed_object code.now content.now)) }
+/// The bytes, and then the children.
+pub fn bare(alloc: Global, before: &[u8], children: &[&dyn Aml]) -> R<Vec<u8>>
+    ensures { Makes result (around (bare before.now) (all_of (map (λ child. object child.now) children.now))) }
+{
+    let bytes = with_room(alloc, before)?;
+    bare_on(bytes, children)
+}
+
+/// An opcode, and a frame of the content that is there, which is moved up.
+pub fn frame(code: &[u8], content: Vec<u8>) -> R<Vec<u8>>
+    ensures { Makes result (frame code.now content.items) }
 {
     let (length, used) = frame_length(content.len())?;
-    let mut bytes = Vec::with_capacity(alloc, code.len() + used + content.len())?;
-    bytes.extend_from_slice(code)?;
-    bytes.extend_from_slice(&length[..used])?;
-    bytes.extend_from_slice(content)?;
+    let mut bytes = content;
+    insert(&mut bytes, 0, code, &length[..used])?;
     Ok(bytes)
 }
 
-/// An opcode, and a frame of the bytes and the children.
-pub fn boxed(alloc: Global, code: &[u8], before: &[u8], children: &[&dyn Aml]) -> R<Vec<u8>>
-    ensures ok { IfOk result (λ v. Built (around (boxed code.now before.now) (map (λ child. object child.now) children.now)) v.items) }
-    ensures err { IfErr result (λ e. IsOwnEnd e (around (boxed code.now before.now) (map (λ child. object child.now) children.now))) }
+/// An opcode, and a frame of the bytes that are there, the children, and bytes after them.
+pub fn framed(code: &[u8], before: Vec<u8>, children: &[&dyn Aml], after: &[u8]) -> R<Vec<u8>>
+    ensures { Makes result (around (framed code.now before.items after.now) (all_of (map (λ child. object child.now) children.now))) }
 {
-    let content = bare(alloc, before, children)?;
-    frame(alloc, code, &content)
-}
-
-/// An opcode, and a frame of the children and the bytes.
-pub fn tailed(alloc: Global, code: &[u8], children: &[&dyn Aml], after: &[u8]) -> R<Vec<u8>>
-    ensures ok { IfOk result (λ v. Built (around (tailed code.now after.now) (map (λ child. object child.now) children.now)) v.items) }
-    ensures err { IfErr result (λ e. IsOwnEnd e (around (tailed code.now after.now) (map (λ child. object child.now) children.now))) }
-{
-    let mut content = bare(alloc, &[], children)?;
+    let mut content = before;
+    append_all(children, &mut content)?;
     content.extend_from_slice(after)?;
-    frame(alloc, code, &content)
+    frame(code, content)
 }
 
 /// An opcode, and a frame of a child and the others.
-pub fn boxed_before(alloc: Global, code: &[u8], first: &dyn Aml, rest: &[&dyn Aml]) -> R<Vec<u8>>
-    ensures ok { IfOk result (λ v. Built (around (boxed code.now []) (object first.now ∷ map (λ child. object child.now) rest.now)) v.items) }
-    ensures err { IfErr result (λ e. IsOwnEnd e (around (boxed code.now []) (object first.now ∷ map (λ child. object child.now) rest.now))) }
+pub fn framed_before(alloc: Global, code: &[u8], first: &dyn Aml, rest: &[&dyn Aml]) -> R<Vec<u8>>
+    ensures { Makes result (around (framed code.now [] []) (all_of (object first.now ∷ map (λ child. object child.now) rest.now))) }
 {
-    let mut content = Vec::new(alloc);
+    let mut content = with_room(alloc, &[])?;
     append_before(first, rest, &mut content)?;
-    frame(alloc, code, &content)
+    frame(code, content)
 }

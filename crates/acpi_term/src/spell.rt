@@ -2,14 +2,13 @@
 
 ghost use Rattle.std.specs.Prelude.{◌≡◌, ◌≢◌, ◌<◌, ◌^◌, ◌++◌, OnOk, IfOk, IfErr, map};
 ghost use Rattle.acpi_base.specs.Number.{number_limit, number_bytes};
-ghost use Rattle.acpi_term.specs.Length.{limit, framed, FitsFrame, StartsWithLength};
-ghost use Rattle.acpi_term.specs.Row.{bits_of, width_of, entry_bytes, entries_bytes, field_flags};
-ghost use Rattle.acpi_term.specs.Spelling.{spelling, CarryBits};
-ghost use Rattle.acpi_term.specs.View.{view, views, entry_view};
-ghost use Rattle.acpi_term.specs.Carried.{IsUnfit, AreCarried, single, Added, IsUncarried, Laid, Unlaid, IsField, IsNoField};
-ghost use Rattle.acpi_term.specs.Tree.{pack};
+ghost use Rattle.acpi_term.specs.Length.{limit, with_length, FrameFits, StartsWithLength};
+ghost use Rattle.acpi_term.specs.Row.{entry_bits, entry_width, entry_bytes, entries_bytes, field_flags};
+ghost use Rattle.acpi_term.specs.Spelling.{spelling, EntriesFit};
+ghost use Rattle.acpi_term.specs.View.{view, views, entry_view, single, head_of};
+ghost use Rattle.acpi_term.specs.Carried.{IsUnfit, AreCarried, Added, IsUncarried, BareFits, Laid, Unlaid, OwnLaid, OwnUnlaid};
 
-use crate::op::Op;
+use crate::apart::{Kind, bytes_after, frame_code, parts_of};
 use crate::row::length_bytes;
 use crate::term::{Term, TermEntry};
 use acpi_base::error::{Error, R};
@@ -38,234 +37,143 @@ fn spell_all(alloc: Global, terms: &[Term], bytes: &mut Vec<u8>) -> R<()>
 }
 
 #[cycle(spell)]
-#[tactic(auto, using(crate::proofs::Spells::laid_on, crate::proofs::Spells::unlaid_on, crate::proofs::Spells::children_stop))]
 fn spell_term(alloc: Global, term: &Term, bytes: &mut Vec<u8>) -> R<()>
     ensures ok { OnOk result (Added (single (view term.now)) bytes.old.items bytes.new.items) }
     ensures err { IfErr result (λ e. IsUncarried e (single (view term.now))) }
 {
+    let parts = parts_of(term);
     let mut inside = Vec::new(alloc);
-    spell_children(alloc, term, &mut inside)?;
-    let own = lay(alloc, term, &inside)?;
+    spell_all(alloc, parts.first, &mut inside)?;
+    spell_all(alloc, parts.others, &mut inside)?;
+    let count = parts.first.len() + parts.others.len();
+    let own = lay(alloc, parts.kind, parts.width, count, &inside)?;
     bytes.extend_from_slice(&own)?;
     Ok(())
 }
 
-#[cycle(spell)]
-#[tactic(auto, using(crate::proofs::Spells::added_both, crate::proofs::Spells::first_stops, crate::proofs::Spells::others_stop, crate::proofs::Spells::added_nothing))]
-fn spell_children(alloc: Global, term: &Term, bytes: &mut Vec<u8>) -> R<()>
-    ensures ok { OnOk result (Added (view term.now).2 bytes.old.items bytes.new.items) }
-    ensures err { IfErr result (λ e. IsUncarried e (view term.now).2) }
+/// A term's own bytes round those of its children.
+#[tactic(auto, using(crate::proofs::Spells::bare_laid, crate::proofs::Spells::bare_unlaid, crate::proofs::Spells::frame_laid, crate::proofs::Spells::frame_unlaid, crate::proofs::Spells::own_unlaid))]
+fn lay(alloc: Global, kind: Kind<'_>, width: u8, count: usize, inside: &[u8]) -> R<Vec<u8>>
+    ensures ok { IfOk result (λ v. Laid (head_of kind.entry) width count inside.now v.items) }
+    ensures err { IfErr result (λ e. Unlaid e (head_of kind.entry) width count inside.now) }
 {
-    match term {
-        Term::Call { args, .. } => spell_all(alloc, args, bytes),
-        Term::Scope { body, .. } => spell_all(alloc, body, bytes),
-        Term::Device { body, .. } => spell_all(alloc, body, bytes),
-        Term::Method { body, .. } => spell_all(alloc, body, bytes),
-        Term::PowerResource { body, .. } => spell_all(alloc, body, bytes),
-        Term::OpRegion { offset, length, .. } => {
-            spell_term(alloc, offset, bytes)?;
-            spell_term(alloc, length, bytes)
-        }
-        Term::Name { value, .. } => spell_term(alloc, value, bytes),
-        Term::Buffer { size, .. } => spell_term(alloc, size, bytes),
-        Term::Package { elements, .. } => spell_all(alloc, elements, bytes),
-        Term::VarPackage {
-            count,
-            elements,
-            ..
-        } => {
-            spell_term(alloc, count, bytes)?;
-            spell_all(alloc, elements, bytes)
-        }
-        Term::If {
-            predicate,
-            body,
-            ..
-        } => {
-            spell_term(alloc, predicate, bytes)?;
-            spell_all(alloc, body, bytes)
-        }
-        Term::While {
-            predicate,
-            body,
-            ..
-        } => {
-            spell_term(alloc, predicate, bytes)?;
-            spell_all(alloc, body, bytes)
-        }
-        Term::Else { body, .. } => spell_all(alloc, body, bytes),
-        Term::Op { operands, .. } => spell_all(alloc, operands, bytes),
-        _ => Ok(()),
+    let before = own_bytes(alloc, kind, width, count)?;
+    match frame_code(kind) {
+        Some(code) => frame_in(alloc, code, width, &before, inside, bytes_after(kind)),
+        None => bare_in(alloc, kind, width, &before, inside),
     }
 }
 
-/// A term's own bytes round those of its children.
-fn lay(alloc: Global, term: &Term, inside: &[u8]) -> R<Vec<u8>>
-    ensures ok { IfOk result (λ v. Laid (view term.now) inside.now v.items) }
-    ensures err { IfErr result (λ e. Unlaid e (view term.now) inside.now) }
+/// The bytes that stand before a term's children, without a frame's opcode and length.
+fn own_bytes(alloc: Global, kind: Kind<'_>, width: u8, count: usize) -> R<Vec<u8>>
+    ensures ok { IfOk result (λ v. OwnLaid (head_of kind.entry) width count v.items) }
+    ensures err { IfErr result (λ e. OwnUnlaid e (head_of kind.entry) width count) }
 {
-    match term {
-        Term::Number { value, width } => {
-            let before = number_in(alloc, *value, *width)?;
-            both(alloc, &before, inside)
-        }
-        Term::Ones => both(alloc, &[0xff], inside),
-        Term::Text(text) => around(alloc, &[0x0d], text.as_bytes(), &[0], inside),
-        Term::Local(n) => {
-            if *n > 7 {
+    match kind {
+        Kind::Number(value) => number_in(alloc, value, width),
+        Kind::Ones => joined(alloc, &[0xff], &[], &[]),
+        Kind::Text(text) => joined(alloc, &[0x0d], text.as_bytes(), &[0x00]),
+        Kind::Local(n) => {
+            if n > 7 {
                 return Err(Error::LocalNumber);
             }
-            both(alloc, &[0x60 + *n], inside)
+            joined(alloc, &[0x60 + n], &[], &[])
         }
-        Term::Arg(n) => {
-            if *n > 6 {
+        Kind::Arg(n) => {
+            if n > 6 {
                 return Err(Error::ArgNumber);
             }
-            both(alloc, &[0x68 + *n], inside)
+            joined(alloc, &[0x68 + n], &[], &[])
         }
-        Term::Call { name, .. } => both(alloc, name.as_bytes(), inside),
-        Term::Scope { width, name, .. } => {
-            frame_in(alloc, &[0x10], *width, name.as_bytes(), inside)
+        Kind::Call(name) | Kind::Scope(name) | Kind::Device(name) => {
+            joined(alloc, name.as_bytes(), &[], &[])
         }
-        Term::Device { width, name, .. } => {
-            frame_in(alloc, &[0x5b, 0x82], *width, name.as_bytes(), inside)
-        }
-        Term::Method {
-            width,
-            name,
-            args,
-            serialized,
-            ..
-        } => {
-            if *args > 7 {
+        Kind::Method(name, args, serialized) => {
+            if args > 7 {
                 return Err(Error::MethodArgs);
             }
-            let flags = *args + if *serialized { 8 } else { 0 };
-            let before = both(alloc, name.as_bytes(), &[flags])?;
-            frame_in(alloc, &[0x14], *width, &before, inside)
+            let flags = args + if serialized { 8 } else { 0 };
+            joined(alloc, name.as_bytes(), &[flags], &[])
         }
-        Term::PowerResource {
-            width,
-            name,
-            level,
-            order,
-            ..
-        } => {
-            let [low, high] = order.to_le_bytes();
-            let before = both(alloc, name.as_bytes(), &[*level, low, high])?;
-            frame_in(alloc, &[0x5b, 0x84], *width, &before, inside)
+        Kind::PowerResource(name, level, order) => {
+            joined(alloc, name.as_bytes(), &[level], &order.to_le_bytes())
         }
-        Term::Field {
-            width,
-            name,
-            access,
-            lock,
-            update,
-            entries,
-        } => {
-            let flags = field_flags(*access, *lock, *update)?;
-            lay_field(alloc, *width, name.as_bytes(), flags, entries, inside)
+        Kind::Field(name, access, lock, update, entries) => {
+            let flags = field_flags(access, lock, update)?;
+            let mut bytes = joined(alloc, name.as_bytes(), &[flags], &[])?;
+            spell_entries(entries, &mut bytes)?;
+            Ok(bytes)
         }
-        Term::OpRegion { name, space, .. } => around(
-            alloc,
-            &[0x5b, 0x80],
-            name.as_bytes(),
-            &[*space],
-            inside,
-        ),
-        Term::Name { name, .. } => after_code(alloc, &[0x08], name.as_bytes(), inside),
-        Term::Mutex { name, level } => {
-            around(alloc, &[0x5b, 0x01], name.as_bytes(), &[*level], inside)
+        Kind::OpRegion(name, space) => joined(alloc, &[0x5b, 0x80], name.as_bytes(), &[space]),
+        Kind::Name(name) => joined(alloc, &[0x08], name.as_bytes(), &[]),
+        Kind::Mutex(name, level) => joined(alloc, &[0x5b, 0x01], name.as_bytes(), &[level]),
+        Kind::Acquire(name, timeout) => {
+            joined(
+                alloc,
+                &[0x5b, 0x23],
+                name.as_bytes(),
+                &timeout.to_le_bytes(),
+            )
         }
-        Term::Acquire { name, timeout } => around(
-            alloc,
-            &[0x5b, 0x23],
-            name.as_bytes(),
-            &timeout.to_le_bytes(),
-            inside,
-        ),
-        Term::Release { name } => after_code(alloc, &[0x5b, 0x27], name.as_bytes(), inside),
-        Term::Buffer { width, bytes, .. } => frame_in(alloc, &[0x11], *width, inside, bytes),
-        Term::Package { width, elements } => lay_package(alloc, *width, elements, inside),
-        Term::VarPackage { width, .. } => frame_in(alloc, &[0x13], *width, &[], inside),
-        Term::If { width, .. } => frame_in(alloc, &[0xa0], *width, &[], inside),
-        Term::While { width, .. } => frame_in(alloc, &[0xa2], *width, &[], inside),
-        Term::Else { width, .. } => frame_in(alloc, &[0xa1], *width, &[], inside),
-        Term::Op { op, .. } => both(alloc, op.code(), inside),
+        Kind::Release(name) => joined(alloc, &[0x5b, 0x27], name.as_bytes(), &[]),
+        Kind::Package => {
+            let Ok(count) = u8::try_from(count) else {
+                return Err(Error::PackageElements);
+            };
+            joined(alloc, &[count], &[], &[])
+        }
+        Kind::Buffer(_) | Kind::VarPackage | Kind::If | Kind::While | Kind::Else => {
+            Ok(Vec::new(alloc))
+        }
+        Kind::Op(op) => joined(alloc, op.code(), &[], &[]),
     }
 }
 
-/// A field whose flags are put together.
-#[tactic(auto, using(crate::proofs::Spells::field_is, crate::proofs::Spells::field_fits))]
-fn lay_field(
-    alloc: Global,
-    width: u8,
-    name: &[u8],
-    flags: u8,
-    entries: &[TermEntry],
-    inside: &[u8],
-) -> R<Vec<u8>>
-    ensures ok { IfOk result (λ v. IsField width name.now flags (map entry_view entries.now) inside.now v.items) }
-    ensures err { IfErr result (λ e. IsNoField e width name.now flags (map entry_view entries.now) inside.now) }
-{
-    let mut before = both(alloc, name, &[flags])?;
-    spell_entries(entries, &mut before)?;
-    frame_in(alloc, &[0x5b, 0x81], width, &before, inside)
-}
-
-#[tactic(auto, using(crate::proofs::Spells::package_is, crate::proofs::Spells::package_fits, crate::proofs::Spells::too_many))]
-fn lay_package(alloc: Global, width: u8, elements: &[Term], inside: &[u8]) -> R<Vec<u8>>
-    ensures ok { IfOk result (λ v. Laid (pack, width, views elements.now) inside.now v.items) }
-    ensures err { IfErr result (λ e. Unlaid e (pack, width, views elements.now) inside.now) }
-{
-    let Ok(count) = u8::try_from(elements.len()) else {
-        return Err(Error::PackageElements);
-    };
-    frame_in(alloc, &[0x12], width, &[count], inside)
-}
-
-fn both(alloc: Global, a: &[u8], b: &[u8]) -> R<Vec<u8>>
-    ensures ok { IfOk result (λ v. v.items ≡ a.now ++ b.now) }
+/// Three lists of bytes, one after another.
+fn joined(alloc: Global, a: &[u8], b: &[u8], c: &[u8]) -> R<Vec<u8>>
+    ensures ok { IfOk result (λ v. v.items ≡ a.now ++ (b.now ++ c.now)) }
     ensures err { IfErr result (λ e. e ≡ Error.Memory) }
 {
     let mut bytes = Vec::from_slice(alloc, a)?;
     bytes.extend_from_slice(b)?;
+    bytes.extend_from_slice(c)?;
     Ok(bytes)
 }
 
-fn after_code(alloc: Global, code: &[u8], name: &[u8], inside: &[u8]) -> R<Vec<u8>>
-    ensures ok { IfOk result (λ v. v.items ≡ (code.now ++ name.now) ++ inside.now) }
-    ensures err { IfErr result (λ e. e ≡ Error.Memory) }
+/// A term without a frame. Only a number has a width.
+fn bare_in(alloc: Global, kind: Kind<'_>, width: u8, before: &[u8], inside: &[u8]) -> R<Vec<u8>>
+    ensures ok { IfOk result (λ v. v.items ≡ before.now ++ inside.now) }
+    ensures fits { OnOk result (BareFits (head_of kind.entry) width) }
+    ensures err { IfErr result (λ e. e ≢ Error.Memory → BareFits (head_of kind.entry) width → ⊥) }
 {
-    let mut bytes = both(alloc, code, name)?;
-    bytes.extend_from_slice(inside)?;
-    Ok(bytes)
+    match kind {
+        Kind::Number(_) => {}
+        _ if width == 0 => {}
+        _ => return Err(Error::FieldWidth),
+    }
+    joined(alloc, before, inside, &[])
 }
 
-fn around(alloc: Global, code: &[u8], name: &[u8], after: &[u8], inside: &[u8]) -> R<Vec<u8>>
-    ensures ok { IfOk result (λ v. v.items ≡ ((code.now ++ name.now) ++ after.now) ++ inside.now) }
-    ensures err { IfErr result (λ e. e ≡ Error.Memory) }
+/// An opcode, and three contents joined in a frame of a width.
+fn frame_in(
+    alloc: Global,
+    code: &[u8],
+    width: u8,
+    before: &[u8],
+    inside: &[u8],
+    after: &[u8],
+) -> R<Vec<u8>>
+    ensures ok { IfOk result (λ v. v.items ≡ code.now ++ with_length width (before.now ++ (inside.now ++ after.now))) }
+    ensures fits { OnOk result (FrameFits width (before.now ++ (inside.now ++ after.now))) }
+    ensures err { IfErr result (λ e. e ≢ Error.Memory → FrameFits width (before.now ++ (inside.now ++ after.now)) → ⊥) }
 {
-    let mut bytes = after_code(alloc, code, name, after)?;
-    bytes.extend_from_slice(inside)?;
-    Ok(bytes)
-}
-
-/// An opcode, and two contents joined in a frame of a width.
-fn frame_in(alloc: Global, code: &[u8], width: u8, first: &[u8], second: &[u8]) -> R<Vec<u8>>
-    ensures ok { IfOk result (λ v. v.items ≡ code.now ++ framed width (first.now ++ second.now)) }
-    ensures fits { OnOk result (FitsFrame width (first.now ++ second.now)) }
-    ensures err { IfErr result (λ e. e ≢ Error.Memory → FitsFrame width (first.now ++ second.now) → ⊥) }
-{
-    let content = both(alloc, first, second)?;
+    let content = joined(alloc, before, inside, after)?;
     if content.len() >= 0x1000_0000 {
         return Err(Error::PkgLength);
     }
     let value = content.len() as u32 + u32::from(width);
     let length = length_in(width, value)?;
-    let mut bytes = both(alloc, code, &length[..usize::from(width)])?;
-    bytes.extend_from_slice(&content)?;
-    Ok(bytes)
+    joined(alloc, code, &length[..usize::from(width)], &content)
 }
 
 /// A value as a length of a width, whichever it is.
@@ -316,8 +224,8 @@ fn field_flags(access: u8, lock: u8, update: u8) -> R<u8>
 
 fn spell_entries(entries: &[TermEntry], bytes: &mut Vec<u8>) -> R<()>
     ensures ok { OnOk result (bytes.new.items ≡ bytes.old.items ++ entries_bytes (map entry_view entries.now)) }
-    ensures fits { OnOk result (CarryBits (map entry_view entries.now)) }
-    ensures err { IfErr result (λ e. e ≢ Error.Memory → CarryBits (map entry_view entries.now) → ⊥) }
+    ensures fits { OnOk result (EntriesFit (map entry_view entries.now)) }
+    ensures err { IfErr result (λ e. e ≢ Error.Memory → EntriesFit (map entry_view entries.now) → ⊥) }
 {
     for entry in entries {
         spell_entry(entry, bytes)?;
@@ -327,7 +235,7 @@ fn spell_entries(entries: &[TermEntry], bytes: &mut Vec<u8>) -> R<()>
 
 fn spell_entry(entry: &TermEntry, bytes: &mut Vec<u8>) -> R<()>
     ensures ok { OnOk result (bytes.new.items ≡ bytes.old.items ++ entry_bytes (entry_view entry.now)) }
-    ensures fits { OnOk result (bits_of (entry_view entry.now) < limit (width_of (entry_view entry.now))) }
+    ensures fits { OnOk result (entry_bits (entry_view entry.now) < limit (entry_width (entry_view entry.now))) }
     ensures err { IfErr result (λ e. IsUnfit e entry.now) }
 {
     let (bits, width) = match entry {

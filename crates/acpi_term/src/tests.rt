@@ -481,7 +481,7 @@ fn operands(rt: HostRuntime) -> Result<(), Fail> {
 
 fn begins(alloc: Global, size: usize, start: &[u8]) -> Result<bool, Fail> {
     let content = vec![in alloc; 0u8; size]?;
-    Ok(frame(alloc, &[], &content)?.as_slice().starts_with(start))
+    Ok(frame(&[], content)?.as_slice().starts_with(start))
 }
 
 #[test]

@@ -1,3 +1,3 @@
 mod Faults
+mod Readers
 mod Stated
-mod Writers

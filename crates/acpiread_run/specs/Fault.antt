@@ -1,5 +1,5 @@
 -- Why there is no report.
-use Rattle.std.specs.Prelude.{◌≡◌, ℕ, ◌+◌, Some, None, List, ◌++◌, codes}
+use Rattle.std.specs.Prelude.{◌≡◌, ℕ, ◌+◌, Option, Some, None, List, ◌++◌, codes}
 use Rattle.std.specs.Fmt.{decimal}
 use Rattle.std.specs.Option.{option_map}
 use Rattle.acpi_term.specs.declared.read_error.ReadError.{ReadError}
@@ -20,17 +20,23 @@ line_of Usage = codes "usage: acpiread table FILE | aml FILE [NAME=N ..] | dsdt 
 line_of (RefusedAt offset kind) = codes "refused at " ++ decimal offset ++ codes ": " ++ kind.now
 line_of (Refused kind) = codes "refused: " ++ kind.now
 
--- the refusal's name, and its offset where it has one
+-- the line for standard error where output can't be written, without its end
+abbrev pub unwritten : List ℕ
+unwritten = codes "the output can't be written"
+
+-- a refusal of that name, and of that offset where there is one
+abbrev pub IsNamed : Option ℕ → List ℕ → Fault → Type 0
+IsNamed place name Usage = ⊥
+IsNamed place name (RefusedAt offset kind) = (place ≡ Some offset) × (kind.now ≡ name)
+IsNamed place name (Refused kind) = (place ≡ None) × (kind.now ≡ name)
+
+-- the error's name, and its offset where it has one
 abbrev pub IsRefusal : ReadError → Fault → Type 0
-IsRefusal error Usage = ⊥
-IsRefusal error (RefusedAt offset kind) = (offset_of error ≡ Some offset) × (kind.now ≡ name_of error)
-IsRefusal error (Refused kind) = (offset_of error ≡ None) × (kind.now ≡ name_of error)
+IsRefusal error = IsNamed (offset_of error) (name_of error)
 
 -- the same of bytes that begin so far after the file's first
 abbrev pub IsRefusalAfter : ℕ → ReadError → Fault → Type 0
-IsRefusalAfter start error Usage = ⊥
-IsRefusalAfter start error (RefusedAt offset kind) = (option_map (λ n. start + n) (offset_of error) ≡ Some offset) × (kind.now ≡ name_of error)
-IsRefusalAfter start error (Refused kind) = (offset_of error ≡ None) × (kind.now ≡ name_of error)
+IsRefusalAfter start error = IsNamed (option_map (λ n. start + n) (offset_of error)) (name_of error)
 
 -- usage is told only where a fact holds, and nothing else but want of memory
 abbrev pub IsUsageWhere : Type 0 → Fault → Type 0

@@ -1,4 +1,5 @@
 pub mod Command
 pub mod Fault
+pub mod Input
 pub mod Report
 pub mod Program

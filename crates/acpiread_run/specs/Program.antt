@@ -1,5 +1,5 @@
 -- What a run of the program leaves.
-use Rattle.std.specs.Prelude.{◌≡◌, ◌≢◌, ◌≤◌, ◌⊎◌, ℕ, List, [], ◌∷◌, ◌++◌, Option}
+use Rattle.std.specs.Prelude.{◌≡◌, ◌⊎◌, ℕ, List, [], ◌∷◌, ◌++◌, Option}
 use Rattle.std.specs.Io.KnownBytes.{Keeps, Appends}
 use Rattle.acpi_term.specs.Arity.{arity}
 use Rattle.acpiread_run.specs.declared.command.Command.{Command}
@@ -7,7 +7,7 @@ use Rattle.acpiread_run.specs.declared.command.Command.TheVariants.{Table, Aml, 
 use Rattle.acpiread_run.specs.declared.fault.Fault.{Fault}
 use Rattle.acpiread_run.specs.Command.{Asks, IsNoCommand}
 use Rattle.acpiread_run.specs.Fault.{status_of, line_of, IsUsageWhere}
-use Rattle.acpiread_run.specs.Report.{IsTableReport, IsAmlReport, IsDsdtReport, IsTableFault, IsTermsFault, IsDsdtFault}
+use Rattle.acpiread_run.specs.Report.{IsTableReport, IsAmlReport, IsDsdtReport, IsTableFault, IsAmlFault, IsDsdtFault}
 
 -- a text is the report of bytes that a command asks for
 abbrev pub IsReportOf : Command → List ℕ → List ℕ → Type 0
@@ -18,7 +18,7 @@ IsReportOf (Dsdt file arities) bytes text = IsDsdtReport (arity arities) bytes t
 -- a fault is one of bytes that a command asks for
 abbrev pub IsFaultOf : Command → List ℕ → Fault → Type 0
 IsFaultOf (Table file) bytes fault = IsTableFault bytes fault
-IsFaultOf (Aml file arities) bytes fault = IsTermsFault (arity arities) 0 bytes fault
+IsFaultOf (Aml file arities) bytes fault = IsAmlFault (arity arities) bytes fault
 IsFaultOf (Dsdt file arities) bytes fault = IsDsdtFault (arity arities) bytes fault
 
 -- a text is the report of some bytes that the words ask for
@@ -35,30 +35,34 @@ pub record IsFailure (words : List (List ℕ)) (fault : Fault) : Type 0 where
   pub bytes : List ℕ
   pub fails : IsFaultOf command bytes fault
 
--- what is told where there is no report: usage, want of memory, or a fault of bytes
-abbrev pub IsToldFor : List (List ℕ) → Fault → Type 0
-IsToldFor words fault = IsUsageWhere (Unit {0}) fault ⊎ IsFailure words fault
-
--- a text is a report that the words ask for, and went to a writer
-pub record Reported (words : List (List ℕ)) (old new : Option (List ℕ)) : Type 0 where
-  pub text : List ℕ
-  pub report : IsReport words text
-  pub went : Appends old new text
-
--- The status is that of a fault, whose line went to a writer. Words that ask for nothing end with usage, unless memory
--- ran out.
-pub record Refused (words : List (List ℕ)) (old new : Option (List ℕ)) (status : ℕ) : Type 0 where
-  pub fault : Fault
-  pub is : status ≡ status_of fault
-  pub told : Appends old new (line_of fault ++ 10 ∷ [])
-  pub cause : IsToldFor words fault
+-- What is told where there is no report: usage, want of memory, or a fault of bytes. Words that ask for nothing end with
+-- usage, unless memory ran out.
+pub record IsToldFor (words : List (List ℕ)) (fault : Fault) : Type 0 where
+  pub cause : IsUsageWhere (Unit {0}) fault ⊎ IsFailure words fault
   pub asked : IsNoCommand words → IsUsageWhere (Unit {0}) fault
 
--- Status 0: a report went to standard output and nothing to standard error. Status 1 or 2: nothing went to standard
--- output, and a fault's line to standard error.
-pub record Ended (words : List (List ℕ)) (out out' err err' : Option (List ℕ)) (status : ℕ) : Type 0 where
-  pub known : status ≤ 2
-  pub reported : status ≡ 0 → Reported words out out'
-  pub silent : status ≡ 0 → Keeps err err'
-  pub kept : status ≢ 0 → Keeps out out'
-  pub refused : status ≢ 0 → Refused words err err' status
+-- status 0: a text went to standard output, and nothing to standard error
+pub record Printed (text : List ℕ) (out out' err err' : Option (List ℕ)) (status : ℕ) : Type 0 where
+  pub is : status ≡ 0
+  pub went : Appends out out' text
+  pub silent : Keeps err err'
+
+-- a fault's status, 1 or 2: its line went to standard error, and nothing to standard output
+pub record Told (fault : Fault) (out out' err err' : Option (List ℕ)) (status : ℕ) : Type 0 where
+  pub is : status ≡ status_of fault
+  pub went : Appends err err' (line_of fault ++ 10 ∷ [])
+  pub silent : Keeps out out'
+
+-- the report that the words ask for is printed, or a fault is told that stands in its way
+abbrev pub Ended : List (List ℕ) → Option (List ℕ) → Option (List ℕ) → Option (List ℕ) → Option (List ℕ) → ℕ → Type 0
+Ended words out out' err err' status =
+    ((text : List ℕ) × IsReport words text × Printed text out out' err err' status)
+    ⊎ ((fault : Fault) × IsToldFor words fault × Told fault out out' err err' status)
+
+-- Some words ended so, or usage or want of memory is told because there are none, or output can't be written, which ends
+-- with 1.
+abbrev pub Started : Option (List ℕ) → Option (List ℕ) → Option (List ℕ) → Option (List ℕ) → ℕ → Type 0
+Started out out' err err' status =
+    ((words : List (List ℕ)) × Ended words out out' err err' status)
+    ⊎ ((fault : Fault) × IsUsageWhere (Unit {0}) fault × Told fault out out' err err' status)
+    ⊎ (status ≡ 1)

@@ -1,9 +1,10 @@
 -- Reports of bytes.
-use Rattle.std.specs.Prelude.{◌≡◌, ◌≢◌, ◌⊎◌, ℕ, List, ◌++◌, drop}
+use Rattle.std.specs.Prelude.{◌≡◌, ◌≢◌, ◌⊎◌, ℕ, ◌-◌, ◌^◌, ◌<◌, ◌≤◌, List, ◌++◌, length, drop}
 use Rattle.acpi_term.specs.declared.read_error.ReadError.{ReadError}
-use Rattle.acpi_term.specs.declared.read_error.ReadError.TheVariants.{Memory}
+use Rattle.acpi_term.specs.declared.read_error.ReadError.TheVariants.{Memory, TableLength}
 use Rattle.acpi_term.specs.Tree.{Terms}
-use Rattle.acpi_read.specs.Table.{IsTable, IsFault}
+use Rattle.acpi_base.specs.Table.{IsTrueTable}
+use Rattle.acpi_read.specs.Table.{IsFault}
 use Rattle.acpi_read.specs.Terms.{AreRead, IsUnread}
 use Rattle.acpi_read.specs.Report.{header_line}
 use Rattle.acpi_read.specs.Lines.{lines}
@@ -12,18 +13,19 @@ use Rattle.acpiread_run.specs.Fault.{IsRefusal, IsRefusalAfter}
 
 -- the bytes are a table, and a text is its report
 pub record IsTableReport (bytes text : List ℕ) : Type 0 where
-  pub is_table : IsTable bytes
+  pub is_table : IsTrueTable bytes
   pub is : text ≡ header_line bytes
 
--- the bytes spell terms, and a text is their report
+-- the bytes are no more than a table can have and spell terms, and a text is their report
 pub record IsAmlReport (arity : List ℕ → ℕ) (bytes text : List ℕ) : Type 0 where
+  pub fits : length bytes < 2 ^ 32
   pub terms : Terms
   pub read : AreRead arity bytes terms
   pub is : text ≡ lines 0 terms
 
 -- the bytes are a table that has terms after its header, and a text is the table's report and the terms' after it
 pub record IsDsdtReport (arity : List ℕ → ℕ) (bytes text : List ℕ) : Type 0 where
-  pub is_table : IsTable bytes
+  pub is_table : IsTrueTable bytes
   pub terms : Terms
   pub read : AreRead arity (drop 36 bytes) terms
   pub is : text ≡ header_line bytes ++ lines 0 terms
@@ -40,9 +42,17 @@ pub record IsTermsFault (arity : List ℕ → ℕ) (start : ℕ) (bytes : List �
   pub refusal : IsRefusalAfter start error fault
   pub cause : IsUnread arity (drop start bytes) error
 
+-- there are more bytes than a table can have, and a fault tells the offset of the first that is too many
+pub record IsTooLong (bytes : List ℕ) (fault : Fault) : Type 0 where
+  pub more : 2 ^ 32 ≤ length bytes
+  pub refusal : IsRefusal (TableLength (2 ^ 32 - 1)) fault
+
+abbrev pub IsAmlFault : (List ℕ → ℕ) → List ℕ → Fault → Type 0
+IsAmlFault arity bytes fault = IsTermsFault arity 0 bytes fault ⊎ IsTooLong bytes fault
+
 -- the bytes are a table, and a fault is one of the terms after its header
 pub record IsBodyFault (arity : List ℕ → ℕ) (bytes : List ℕ) (fault : Fault) : Type 0 where
-  pub is_table : IsTable bytes
+  pub is_table : IsTrueTable bytes
   pub terms : IsTermsFault arity 36 bytes fault
 
 abbrev pub IsDsdtFault : (List ℕ → ℕ) → List ℕ → Fault → Type 0

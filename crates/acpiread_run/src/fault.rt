@@ -3,7 +3,7 @@
 ghost use Rattle.std.specs.Prelude.{◌≡◌, Some, ◌+◌, ◌<◌, ◌^◌, IfSome};
 ghost use Rattle.acpi_term.specs.ReadError.{offset_of};
 ghost use Rattle.acpi_term.specs.declared.read_error.ReadError.TheVariants.{Memory};
-ghost use Rattle.acpiread_run.specs.Fault.{status_of, line_of, IsRefusal, IsRefusalAfter};
+ghost use Rattle.acpiread_run.specs.Fault.{status_of, line_of, IsNamed, IsRefusal, IsRefusalAfter};
 
 use acpi_term::read_error::ReadError;
 use std::alloc::{AllocError, AllocFailed};
@@ -32,19 +32,23 @@ impl Fault {
         }
     }
 
+    // A refusal of this name, at this offset if there is one.
+    fn named(place: Option<usize>, kind: &'static str) -> Fault
+        ensures { IsNamed place kind.now result }
+    {
+        match place {
+            Some(offset) => Fault::RefusedAt { offset, kind },
+            None => Fault::Refused { kind },
+        }
+    }
+
     /// The fault of bytes that begin so far after the file's first.
     pub(crate) fn after(start: usize, error: ReadError) -> Fault
         requires { IfSome (offset_of error) (λ offset. start + offset < 2 ^ 64) }
         ensures { IsRefusalAfter start error result }
     {
-        let kind = error.name();
-        match error.offset() {
-            Some(offset) => Fault::RefusedAt {
-                offset: start + offset,
-                kind,
-            },
-            None => Fault::Refused { kind },
-        }
+        let place = error.offset().map(|offset| start + offset);
+        Fault::named(place, error.name())
     }
 }
 
@@ -69,11 +73,7 @@ impl From<ReadError> for Fault {
     ghost from_gives = { IsRefusal };
 
     fn from(error: ReadError) -> Fault {
-        let kind = error.name();
-        match error.offset() {
-            Some(offset) => Fault::RefusedAt { offset, kind },
-            None => Fault::Refused { kind },
-        }
+        Fault::named(error.offset(), error.name())
     }
 }
 

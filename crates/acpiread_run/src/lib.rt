@@ -3,6 +3,7 @@
 
 pub mod command;
 pub mod fault;
+mod input;
 pub mod program;
 pub mod report;
 #[cfg(test)]

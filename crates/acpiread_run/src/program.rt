@@ -1,27 +1,30 @@
 //! A run of the program.
 
-ghost use Rattle.std.specs.Prelude.{◌≡◌, ◌≢◌, map, string_bytes, IfOk, IfErr};
+ghost use Rattle.std.specs.Prelude.{◌≡◌, ◌≢◌, ◌∷◌, [], ◌++◌, map, string_bytes, IfOk, IfErr, OnOk, MatchResult};
 ghost use Rattle.std.specs.IoError.{error_kind};
-ghost use Rattle.acpiread_run.specs.Command.{IsNoCommand};
-ghost use Rattle.acpiread_run.specs.Fault.{IsRefusal, IsUsageWhere};
-ghost use Rattle.acpiread_run.specs.Program.{IsReport, IsToldFor, Ended};
+ghost use Rattle.std.specs.Io.KnownBytes.{Appends};
+ghost use Rattle.acpiread_run.specs.Fault.{unwritten, IsRefusal, IsUsageWhere};
+ghost use Rattle.acpiread_run.specs.Program.{IsReportOf, IsFaultOf, IsReport, IsToldFor, Printed, Told, Ended, Started};
 
 use crate::command::{Command, parse};
 use crate::fault::Fault;
+use crate::input::{read_table, read_terms};
 use crate::report::{aml_report, dsdt_report, table_report};
 use acpi_term::read_error::ReadError;
 use std::alloc::Global;
-use std::io::{ErrorKind, Read, Write};
-use std::rt::Files;
-use std::{fs, io};
+use std::io::{ErrorKind, Write};
+use std::rt::{Env, Files};
+use std::{env, fs, io};
 
-fn read_file<R: Files>(rt: &R, alloc: Global, file: &str) -> io::Result<Vec<u8>> {
-    let mut bytes = Vec::new(alloc);
-    fs::open(rt, file)?.read_to_end(&mut bytes)?;
-    Ok(bytes)
+// The bytes of a command's file, as far as its report needs them.
+fn read_file<R: Files>(rt: &R, alloc: Global, command: &Command<'_>) -> io::Result<Vec<u8>> {
+    match command {
+        Command::Table(file) | Command::Dsdt(file, _) => read_table(alloc, fs::open(rt, *file)?),
+        Command::Aml(file, _) => read_terms(alloc, fs::open(rt, *file)?),
+    }
 }
 
-// A file that can't be read ends as wrong words do, unless memory is what it wants.
+// Words or a file that can't be read end as wrong words do, unless memory is what they want.
 fn unread(error: io::Error) -> Fault
     ensures memory { error_kind error ≡ ErrorKind.OutOfMemory → IsRefusal ReadError.Memory result }
     ensures other { error_kind error ≢ ErrorKind.OutOfMemory → result ≡ Fault.Usage }
@@ -33,24 +36,48 @@ fn unread(error: io::Error) -> Fault
     }
 }
 
+// What a command reports of the bytes of its file.
+fn report_of(alloc: Global, command: &Command<'_>, bytes: &[u8]) -> Result<String, Fault>
+    ensures { MatchResult result (λ text. IsReportOf command.now bytes.now (string_bytes text)) (IsFaultOf command.now bytes.now) }
+{
+    match command {
+        Command::Table(_) => table_report(alloc, bytes),
+        Command::Aml(_, arities) => aml_report(alloc, bytes, arities),
+        Command::Dsdt(_, arities) => dsdt_report(alloc, bytes, arities),
+    }
+}
+
 // What the words ask for. No file is opened for words that ask for nothing.
 fn report<R: Files>(rt: &R, alloc: Global, words: &[String]) -> Result<String, Fault>
     ensures ok { IfOk result (λ text. IsReport (map (λ word. string_bytes word) words.now) (string_bytes text)) }
     ensures err { IfErr result (IsToldFor (map (λ word. string_bytes word) words.now)) }
-    ensures asked { IfErr result (λ fault. IsNoCommand (map (λ word. string_bytes word) words.now) → IsUsageWhere (Unit {0}) fault) }
 {
-    match parse(alloc, words)? {
-        Command::Table(file) => {
-            let bytes = read_file(rt, alloc, file).map_err(unread)?;
-            table_report(alloc, &bytes)
+    let command = parse(alloc, words)?;
+    let bytes = read_file(rt, alloc, &command).map_err(unread)?;
+    report_of(alloc, &command, &bytes)
+}
+
+// Tells a report, or why there is none, and answers the exit status.
+fn tell<O: Write, E: Write>(
+    report: Result<String, Fault>,
+    out: &mut O,
+    err: &mut E,
+) -> io::Result<u8>
+    ensures { IfOk result (λ status. MatchResult report
+        (λ text. Printed (string_bytes text) (O.contents out.old) (O.contents out.new) (E.contents err.old) (E.contents err.new) status)
+        (λ fault. Told fault (O.contents out.old) (O.contents out.new) (E.contents err.old) (E.contents err.new) status)) }
+{
+    match report {
+        Ok(text) => {
+            out.write_all(text.as_bytes())?;
+            out.flush()?;
+            Ok(0)
         }
-        Command::Aml(file, arities) => {
-            let bytes = read_file(rt, alloc, file).map_err(unread)?;
-            aml_report(alloc, &bytes, &arities)
-        }
-        Command::Dsdt(file, arities) => {
-            let bytes = read_file(rt, alloc, file).map_err(unread)?;
-            dsdt_report(alloc, &bytes, &arities)
+        Err(fault) => {
+            let status = fault.status();
+            writeln!(err, "{fault}")?;
+            err.flush()?;
+            Ok(status)
         }
     }
 }
@@ -68,17 +95,52 @@ pub fn run<R: Files, O: Write, E: Write>(
     ensures { IfOk result (λ status. Ended (map (λ word. string_bytes word) words.now)
         (O.contents out.old) (O.contents out.new) (E.contents err.old) (E.contents err.new) status) }
 {
-    match report(rt, alloc, words) {
-        Ok(text) => {
-            out.write_all(text.as_bytes())?;
-            out.flush()?;
-            Ok(0)
-        }
-        Err(fault) => {
-            let status = fault.status();
-            writeln!(err, "{fault}")?;
-            err.flush()?;
-            Ok(status)
-        }
-    }
+    tell(report(rt, alloc, words), out, err)
+}
+
+// The words after the program's name.
+fn own_words<R: Env + AllocGlobal>(rt: &R) -> Result<Vec<String>, Fault>
+    ensures { IfErr result (IsUsageWhere (Unit {0})) }
+{
+    let words = env::args(rt).map_err(unread)?;
+    Ok(words.skip(1).collect(rt.alloc())?)
+}
+
+// The line for a run whose output couldn't be written.
+fn tell_unwritten<E: Write>(err: &mut E) -> io::Result<()>
+    ensures { OnOk result (Appends (E.contents err.old) (E.contents err.new) (unwritten ++ 10 ∷ [])) }
+{
+    writeln!(err, "the output can't be written")?;
+    err.flush()
+}
+
+// Runs the program on its own words.
+fn run_own<R: Env + Files + AllocGlobal, O: Write, E: Write>(
+    rt: &R,
+    out: &mut O,
+    err: &mut E,
+) -> io::Result<u8>
+    ensures { IfOk result (Started (O.contents out.old) (O.contents out.new) (E.contents err.old) (E.contents err.new)) }
+{
+    let words = match own_words(rt) {
+        Ok(words) => words,
+        Err(fault) => return tell(Err(fault), out, err),
+    };
+    run(rt, rt.alloc(), &words, out, err)
+}
+
+/// Runs the program on its own words, and answers its exit status: that of `run`, that of a fault where the words can't
+/// be read, or 1 where output can't be written, which a line on `err` says unless that is what can't be written.
+pub fn start<R: Env + Files + AllocGlobal, O: Write, E: Write>(
+    rt: &R,
+    out: &mut O,
+    err: &mut E,
+) -> u8
+    ensures { Started (O.contents out.old) (O.contents out.new) (E.contents err.old) (E.contents err.new) result }
+{
+    let Ok(status) = run_own(rt, out, err) else {
+        let _told = tell_unwritten(err);
+        return 1;
+    };
+    status
 }

@@ -2,17 +2,21 @@
 
 ghost use Rattle.std.specs.Prelude.{string_bytes, IfOk, IfErr};
 ghost use Rattle.acpi_term.specs.Arity.{arity};
-ghost use Rattle.acpiread_run.specs.Report.{IsTableReport, IsAmlReport, IsDsdtReport, IsTableFault, IsTermsFault, IsDsdtFault};
+ghost use Rattle.acpiread_run.specs.Report.{IsTableReport, IsAmlReport, IsDsdtReport, IsTableFault, IsAmlFault, IsDsdtFault};
 
 use crate::fault::Fault;
 use acpi_read::report::{report_table, report_terms};
 use acpi_read::table::Table;
 use acpi_read::terms::terms;
 use acpi_term::name_string::Arities;
+use acpi_term::read_error::ReadError;
 use std::alloc::Global;
 
 /// Where the terms of a table begin: after its header.
 const BODY: usize = 36;
+
+/// The most bytes that a table can have: what its length can tell.
+pub(crate) const MOST_BYTES: usize = 0xffff_ffff;
 
 /// The report of a table.
 pub fn table_report(alloc: Global, bytes: &[u8]) -> Result<String, Fault>
@@ -23,11 +27,15 @@ pub fn table_report(alloc: Global, bytes: &[u8]) -> Result<String, Fault>
     Ok(report_table(alloc, &table)?)
 }
 
-/// The report of the terms that the bytes spell, where names have these numbers of arguments.
+/// The report of the terms that the bytes spell, where names have these numbers of arguments. More bytes than a table can
+/// have are refused as TableLength at the first of them that no table has.
 pub fn aml_report(alloc: Global, bytes: &[u8], arities: &Arities) -> Result<String, Fault>
     ensures ok { IfOk result (λ text. IsAmlReport (arity arities.now) bytes.now (string_bytes text)) }
-    ensures err { IfErr result (IsTermsFault (arity arities.now) 0 bytes.now) }
+    ensures err { IfErr result (IsAmlFault (arity arities.now) bytes.now) }
 {
+    if bytes.len() > MOST_BYTES {
+        return Err(Fault::from(ReadError::TableLength(MOST_BYTES)));
+    }
     let terms = terms(bytes, arities)?;
     Ok(report_terms(alloc, &terms)?)
 }

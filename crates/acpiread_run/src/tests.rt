@@ -2,6 +2,8 @@
 
 mod aml;
 mod dsdt;
+mod faults;
+mod files;
 mod words;
 
 use crate::program::run;

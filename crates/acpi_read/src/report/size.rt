@@ -1,23 +1,23 @@
 //! How many bytes spell terms, as far as a length can count them.
 
-ghost use Rattle.std.specs.Prelude.{◌≡◌, ◌+◌, length, map, max};
+ghost use Rattle.std.specs.Prelude.{◌≡◌, ℕ, ◌+◌, length, map, max, IfOk};
 ghost use Rattle.acpi_base.specs.Number.{number_bytes};
-ghost use Rattle.acpi_term.specs.Row.{entry_bytes, entries_bytes};
-ghost use Rattle.acpi_term.specs.Spelling.{spelling};
-ghost use Rattle.acpi_term.specs.Carried.{single};
-ghost use Rattle.acpi_term.specs.View.{view, views, entry_view};
-ghost use Rattle.acpi_read.specs.Size.{capped, own_size, frame_of, parts_layout, HasWidth};
+ghost use Rattle.acpi_term.specs.Row.{entry_bytes, entries_bytes, layout};
+ghost use Rattle.acpi_term.specs.View.{view, views, single, entry_view, head_of};
+ghost use Rattle.acpi_read.specs.Size.{capped, own_size, frame_size, content_sizes, AreSized};
 
+use acpi_term::apart::{Kind, frame_code, parts_of};
 use acpi_term::name_string::NameString;
 use acpi_term::term::{Term, TermEntry};
+use std::alloc::{AllocError, Global};
 
-// No length can count so many.
-const LIMIT: u32 = 0x1000_0000;
+/// No length can count so many.
+pub const LIMIT: u32 = 0x1000_0000;
 
 fn capped(n: usize) -> u32
     ensures { result ≡ capped n }
 {
-    if n < 0x1000_0000 { n as u32 } else { LIMIT }
+    if n < LIMIT as usize { n as u32 } else { LIMIT }
 }
 
 fn sum(a: u32, b: u32) -> u32
@@ -67,120 +67,69 @@ fn entries_size(entries: &[TermEntry]) -> u32
 }
 
 // The bytes of a term beside its children's and, of a framed one, its opcode and its length.
-fn own_size(term: &Term) -> u32
-    ensures { result ≡ capped (own_size (parts_layout (view term.now))) }
+fn own_size(kind: Kind<'_>, width: u8) -> u32
+    ensures { (n : ℕ) → result ≡ capped (own_size (layout (head_of kind.entry) width n)) }
 {
-    match term {
-        Term::Number { value, width } => number_size(*value, *width),
-        Term::Ones => 1,
-        Term::Text(text) => sum(capped(text.len()), 2),
-        Term::Local(_) => 1,
-        Term::Arg(_) => 1,
-        Term::Call { name, .. } => name_size(name, 0),
-        Term::Scope { name, .. } => name_size(name, 0),
-        Term::Device { name, .. } => name_size(name, 0),
-        Term::Method { name, .. } => name_size(name, 1),
-        Term::PowerResource { name, .. } => name_size(name, 3),
-        Term::Field { name, entries, .. } => sum(name_size(name, 1), entries_size(entries)),
-        Term::OpRegion { name, .. } => name_size(name, 3),
-        Term::Name { name, .. } => name_size(name, 1),
-        Term::Mutex { name, .. } => name_size(name, 3),
-        Term::Acquire { name, .. } => name_size(name, 4),
-        Term::Release { name } => name_size(name, 2),
-        Term::Buffer { bytes, .. } => capped(bytes.len()),
-        Term::Package { .. } => 1,
-        Term::VarPackage { .. } => 0,
-        Term::If { .. } => 0,
-        Term::While { .. } => 0,
-        Term::Else { .. } => 0,
-        Term::Op { op, .. } => capped(op.code().len()),
+    match kind {
+        Kind::Number(value) => number_size(value, width),
+        Kind::Ones | Kind::Local(_) | Kind::Arg(_) | Kind::Package => 1,
+        Kind::Text(text) => sum(capped(text.len()), 2),
+        Kind::Call(name) | Kind::Scope(name) | Kind::Device(name) => name_size(name, 0),
+        Kind::Method(name, ..) | Kind::Name(name) => name_size(name, 1),
+        Kind::PowerResource(name, ..) | Kind::OpRegion(name, _) | Kind::Mutex(name, _) => {
+            name_size(name, 3)
+        }
+        Kind::Field(name, _, _, _, entries) => sum(name_size(name, 1), entries_size(entries)),
+        Kind::Acquire(name, _) => name_size(name, 4),
+        Kind::Release(name) => name_size(name, 2),
+        Kind::Buffer(bytes) => capped(bytes.len()),
+        Kind::VarPackage | Kind::If | Kind::While | Kind::Else => 0,
+        Kind::Op(op) => capped(op.code().len()),
     }
 }
 
-/// The size of a framed term's opcode, and the width of its length.
-pub fn frame_of(term: &Term) -> Option<(u8, u8)>
-    ensures frame { result ≡ frame_of (parts_layout (view term.now)) (view term.now).1 }
-    ensures bare { HasWidth (view term.now).0 (view term.now).1 }
+/// The sizes of terms' contents, each before those of its children.
+pub fn content_sizes(alloc: Global, terms: &[Term]) -> Result<Vec<u32>, AllocError>
+    ensures { IfOk result (λ sizes. sizes.items ≡ content_sizes (views terms.now)) }
 {
-    match term {
-        Term::Scope { width, .. } => Some((1, *width)),
-        Term::Device { width, .. } => Some((2, *width)),
-        Term::Method { width, .. } => Some((1, *width)),
-        Term::PowerResource { width, .. } => Some((2, *width)),
-        Term::Field { width, .. } => Some((2, *width)),
-        Term::Buffer { width, .. } => Some((1, *width)),
-        Term::Package { width, .. } => Some((1, *width)),
-        Term::VarPackage { width, .. } => Some((1, *width)),
-        Term::If { width, .. } => Some((1, *width)),
-        Term::While { width, .. } => Some((1, *width)),
-        Term::Else { width, .. } => Some((1, *width)),
-        _ => None,
-    }
+    let mut sizes = Vec::new(alloc);
+    add_all(terms, &mut sizes)?;
+    Ok(sizes)
 }
 
-/// The bytes of a term beside, of a framed one, its opcode and its length.
+// Adds the sizes of terms' contents, and answers how many bytes spell the terms.
 #[cycle(size)]
-pub fn content_size(term: &Term) -> u32
-    ensures { result ≡ capped (own_size (parts_layout (view term.now)) + length (spelling (view term.now).2)) }
-{
-    sum(own_size(term), children_size(term))
-}
-
-#[cycle(size)]
-#[tactic(auto, using(crate::proofs::Sizes::size_bare, crate::proofs::Sizes::size_framed))]
-fn size(term: &Term) -> u32
-    ensures { result ≡ capped (length (spelling (single (view term.now)))) }
-{
-    let content = content_size(term);
-    match frame_of(term) {
-        None => content,
-        Some((code, width)) => sum(content, u32::from(code) + u32::from(width.max(1))),
-    }
-}
-
-#[cycle(size)]
-fn sizes(terms: &[Term]) -> u32
-    ensures { result ≡ capped (length (spelling (views terms.now))) }
+fn add_all(terms: &[Term], sizes: &mut Vec<u32>) -> Result<u32, AllocError>
+    ensures { IfOk result (λ bytes. AreSized (views terms.now) sizes.old.items sizes.new.items bytes) }
 {
     let mut all = 0;
     for term in terms {
-        all = sum(all, size(term));
+        all = sum(all, add_one(term, sizes)?);
     }
-    all
+    Ok(all)
 }
 
+// A term's size is known only after those of its children, before which it stands.
 #[cycle(size)]
-#[tactic(auto, using(crate::proofs::Sizes::size_both))]
-fn children_size(term: &Term) -> u32
-    ensures { result ≡ capped (length (spelling (view term.now).2)) }
+fn add_one(term: &Term, sizes: &mut Vec<u32>) -> Result<u32, AllocError>
+    ensures { IfOk result (λ bytes. AreSized (single (view term.now)) sizes.old.items sizes.new.items bytes) }
 {
-    match term {
-        Term::Call { args, .. } => sizes(args),
-        Term::Scope { body, .. } => sizes(body),
-        Term::Device { body, .. } => sizes(body),
-        Term::Method { body, .. } => sizes(body),
-        Term::PowerResource { body, .. } => sizes(body),
-        Term::OpRegion { offset, length, .. } => sum(size(offset), size(length)),
-        Term::Name { value, .. } => size(value),
-        Term::Buffer { size: bytes, .. } => size(bytes),
-        Term::Package { elements, .. } => sizes(elements),
-        Term::VarPackage {
-            count,
-            elements,
-            ..
-        } => sum(size(count), sizes(elements)),
-        Term::If {
-            predicate,
-            body,
-            ..
-        } => sum(size(predicate), sizes(body)),
-        Term::While {
-            predicate,
-            body,
-            ..
-        } => sum(size(predicate), sizes(body)),
-        Term::Else { body, .. } => sizes(body),
-        Term::Op { operands, .. } => sizes(operands),
-        _ => 0,
+    let parts = parts_of(term);
+    let place = sizes.len();
+    sizes.push(0)?;
+    let first = add_all(parts.first, sizes)?;
+    let others = add_all(parts.others, sizes)?;
+    let content = sum(own_size(parts.kind, parts.width), sum(first, others));
+    sizes[place] = content;
+    Ok(with_frame(parts.kind, parts.width, content))
+}
+
+// The bytes of a term whose content has a size.
+fn with_frame(kind: Kind<'_>, width: u8, content: u32) -> u32
+    ensures { (n : ℕ) → result ≡ capped (content + frame_size (layout (head_of kind.entry) width n) width) }
+{
+    match frame_code(kind) {
+        Some(code) => sum(content, sum(capped(code.len()), u32::from(width.max(1)))),
+        None => sum(content, 0),
     }
 }

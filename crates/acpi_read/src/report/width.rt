@@ -3,14 +3,17 @@
 ghost use Rattle.std.specs.Prelude.{◌≡◌, ◌+◌, ◌^◌, ◌==◌, ◌&&◌, ◌++◌, nat_lt, OnOk, string_bytes};
 ghost use Rattle.acpi_base.specs.Number.{number_width};
 ghost use Rattle.acpi_term.specs.Length.{least_width};
-ghost use Rattle.acpi_term.specs.View.{view};
-ghost use Rattle.acpi_read.specs.Lines.{told_width};
-ghost use Rattle.acpi_read.specs.Size.{width_text, number_told, term_told};
+ghost use Rattle.acpi_term.specs.Row.{own_width};
+ghost use Rattle.acpi_term.specs.Spelling.{spelling};
+ghost use Rattle.acpi_term.specs.Tree.{Terms, count};
+ghost use Rattle.acpi_term.specs.View.{head_of};
+ghost use Rattle.acpi_read.specs.Lines.{width_suffix, term_suffix, is_chosen};
+ghost use Rattle.acpi_read.specs.Size.{capped, content_size, width_words};
 
-use crate::report::piece::push_number;
-use crate::report::size::{content_size, frame_of};
+use crate::report::size::LIMIT;
+use crate::report::words::push_number;
+use acpi_term::apart::{Kind, frame_code};
 use acpi_term::row::least_width;
-use acpi_term::term::Term;
 use std::alloc::AllocError;
 
 fn number_width(value: u64) -> u8
@@ -25,67 +28,62 @@ fn number_width(value: u64) -> u8
     }
 }
 
-fn number_told(term: &Term) -> Option<u8>
-    ensures { width_text result ≡ number_told (view term.now).0 (view term.now).1 }
+// The width that a writer of this workspace chooses for what has no frame.
+fn own_width(kind: Kind<'_>) -> u8
+    ensures { result ≡ own_width (head_of kind.entry) }
 {
-    match term {
-        Term::Number { value, width } => unless(*width == number_width(*value), *width),
-        _ => None,
+    match kind {
+        Kind::Number(value) => number_width(value),
+        _ => 0,
     }
 }
 
-// A width, unless a writer of this workspace chooses it.
+// Whether a width is the least that counts a content of this size, and any does.
+fn is_least(width: u8, size: u32) -> bool
+    ensures { result ≡ (width == least_width size && nat_lt (4 + size) (2 ^ 28)) }
+{
+    width == least_width(size as usize) && size < LIMIT - 4
+}
+
+// Whether a writer of this workspace chooses a width for a term whose content has this size.
+fn is_chosen(kind: Kind<'_>, width: u8, size: u32) -> bool
+    ensures { (children : Terms) → size ≡ capped (content_size (head_of kind.entry) width children)
+        → result ≡ is_chosen (head_of kind.entry) width (count children) (spelling children) }
+{
+    match frame_code(kind) {
+        Some(_) => is_least(width, size),
+        None => width == own_width(kind),
+    }
+}
+
+// A width, unless it is the one that is chosen.
 fn unless(chosen: bool, width: u8) -> Option<u8>
-    ensures { width_text result ≡ told_width chosen width }
+    ensures { width_words result ≡ width_suffix chosen width }
 {
     if chosen { None } else { Some(width) }
 }
 
-fn frame_told(width: u8, size: u32) -> Option<u8>
-    ensures { width_text result ≡ told_width (width == least_width size && nat_lt (4 + size) (2 ^ 28)) width }
+/// The width of a term whose content has this size, if it is told.
+pub fn shown_width(kind: Kind<'_>, width: u8, size: u32) -> Option<u8>
+    ensures { (children : Terms) → size ≡ capped (content_size (head_of kind.entry) width children)
+        → width_words result ≡ term_suffix (head_of kind.entry) width children }
 {
-    unless(
-        width == least_width(size as usize) && size < 0x0fff_fffc,
-        width,
-    )
-}
-
-// A width that a writer of this workspace doesn't choose.
-#[tactic(auto, using(crate::proofs::Widths::chosen_bare))]
-fn told(term: &Term) -> Option<u8>
-    ensures { width_text result ≡ term_told (view term.now) }
-{
-    match frame_of(term) {
-        None => number_told(term),
-        Some((_, width)) => frame_told(width, content_size(term)),
-    }
-}
-
-fn push_told(told: Option<u8>, text: &mut String) -> Result<(), AllocError>
-    ensures { OnOk result (string_bytes text.new ≡ string_bytes text.old ++ width_text told) }
-{
-    match told {
-        None => Ok(()),
-        Some(width) => push_number(" width ", u64::from(width), text),
-    }
-}
-
-/// The width of a term, if it is told.
-pub fn push_width(term: &Term, text: &mut String) -> Result<(), AllocError>
-    ensures { OnOk result (string_bytes text.new ≡ string_bytes text.old ++ term_told (view term.now)) }
-{
-    push_told(told(term), text)
+    unless(is_chosen(kind, width, size), width)
 }
 
 /// The width of a field entry of so many bits, if it is told.
-pub fn push_entry_width(bits: u32, width: u8, text: &mut String) -> Result<(), AllocError>
-    ensures { OnOk result (string_bytes text.new ≡ string_bytes text.old ++ told_width (width == least_width bits && nat_lt bits (2 ^ 28)) width) }
+pub fn shown_entry_width(bits: u32, width: u8) -> Option<u8>
+    ensures { width_words result ≡ width_suffix (width == least_width bits && nat_lt bits (2 ^ 28)) width }
 {
-    push_told(
-        unless(
-            width == least_width(bits as usize) && bits < 0x1000_0000,
-            width,
-        ),
-        text,
-    )
+    unless(width == least_width(bits as usize) && bits < LIMIT, width)
+}
+
+/// A width, if it is told.
+pub fn push_width(shown: Option<u8>, text: &mut String) -> Result<(), AllocError>
+    ensures { OnOk result (string_bytes text.new ≡ string_bytes text.old ++ width_words shown) }
+{
+    match shown {
+        None => Ok(()),
+        Some(width) => push_number(" width ", u64::from(width), text),
+    }
 }

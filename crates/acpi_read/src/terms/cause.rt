@@ -3,7 +3,7 @@
 ghost use Rattle.std.specs.Prelude.{◌≡◌, ◌≢◌, Some};
 ghost use Rattle.acpi_read.specs.declared.terms.cause.Cause.TheVariants.{Memory};
 ghost use Rattle.acpi_term.specs.ReadError.{offset_of};
-ghost use Rattle.acpi_read.specs.Cause.{cause_kind, error_kind, IsTold};
+ghost use Rattle.acpi_read.specs.Cause.{cause_kind, error_kind, IsPlaced};
 
 use acpi_term::read_error::ReadError;
 use std::alloc::{AllocError, AllocFailed};
@@ -24,7 +24,7 @@ impl Cause {
     /// The error, for a term at an offset.
     pub fn at(self, offset: usize) -> ReadError
         ensures kind { error_kind result ≡ cause_kind self }
-        ensures told { IsTold offset result }
+        ensures placed { IsPlaced offset result }
         ensures place { self ≢ Cause.Memory → offset_of result ≡ Some offset }
     {
         match self {

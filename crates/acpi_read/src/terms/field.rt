@@ -2,7 +2,7 @@
 
 ghost use Rattle.std.specs.Prelude.{◌≡◌, length, map};
 ghost use Rattle.acpi_term.specs.View.{entry_view};
-ghost use Rattle.acpi_term.proofs.Reading.{entry_at, entries_at};
+ghost use Rattle.acpi_term.specs.Reading.{entry_at, entries_at};
 ghost use Rattle.acpi_read.specs.Cause.{Gives};
 
 use crate::terms::cause::Cause;
@@ -11,7 +11,7 @@ use crate::terms::name::segment;
 use acpi_term::term::TermEntry;
 use std::alloc::Global;
 
-#[tactic(auto, unfolding(acpi_term::proofs::Reading::entry_at))]
+#[tactic(auto, unfolding(acpi_term::specs::Reading::entry_at))]
 fn entry(bytes: &[u8]) -> Result<(TermEntry, &[u8]), Cause>
     ensures { Gives (λ x. (entry_view x.0, x.1.now)) result (entry_at bytes.now) }
 {

@@ -1,7 +1,7 @@
 //! Numbers, lengths and frames (ACPI 6.5, 20.2.3 and 20.2.4).
 
 ghost use Rattle.std.specs.Prelude.{◌≡◌, ◌≤◌, ◌<◌, ◌^◌, IfOk};
-ghost use Rattle.acpi_term.proofs.Reading.{cut_at, high_at, long_at, length_at, sized_at, frame_at};
+ghost use Rattle.acpi_term.specs.Reading.{cut_at, high_at, long_at, length_at, sized_at, frame_at};
 ghost use Rattle.acpi_read.specs.Cause.{Gives};
 
 use crate::terms::cause::Cause;
@@ -16,7 +16,7 @@ fn cut(size: usize, bytes: &[u8]) -> Result<(&[u8], &[u8]), Cause>
 }
 
 /// A number of so many bytes, lowest first, and the bytes after it.
-#[tactic(auto, unfolding(acpi_term::proofs::Reading::high_at))]
+#[tactic(auto, unfolding(acpi_term::specs::Reading::high_at))]
 pub fn number(size: u8, bytes: &[u8]) -> Result<(u64, &[u8]), Cause>
     requires { size ≤ 8 }
     ensures gives { Gives (λ x. (x.0, x.1.now)) result (high_at size bytes.now) }
@@ -45,7 +45,7 @@ fn long_length(following: u8, low: u8, bytes: &[u8]) -> Result<(u8, u32, &[u8]),
 }
 
 /// The width of a length in any of its forms, the length, and the bytes after it.
-#[tactic(auto, unfolding(acpi_term::proofs::Reading::length_at))]
+#[tactic(auto, unfolding(acpi_term::specs::Reading::length_at))]
 pub fn length(bytes: &[u8]) -> Result<(u8, u32, &[u8]), Cause>
     ensures { Gives (λ x. (x.0, x.1, x.2.now)) result (length_at bytes.now) }
 {
@@ -70,7 +70,7 @@ fn sized(width: u8, length: u32, bytes: &[u8]) -> Result<(u8, &[u8], &[u8]), Cau
 }
 
 /// The width of a frame's length, its content, and the bytes after it.
-#[tactic(auto, unfolding(acpi_term::proofs::Reading::frame_at))]
+#[tactic(auto, unfolding(acpi_term::specs::Reading::frame_at))]
 pub fn frame(bytes: &[u8]) -> Result<(u8, &[u8], &[u8]), Cause>
     ensures { Gives (λ x. (x.0, x.1.now, x.2.now)) result (frame_at bytes.now) }
 {

@@ -1,11 +1,11 @@
 //! Names (ACPI 6.5, 20.2.2).
 
 ghost use Rattle.std.specs.Prelude.{◌≡◌};
-ghost use Rattle.acpi_term.proofs.Reading.{begins_name, segment_at, segments_at, path_at, name_at};
+ghost use Rattle.acpi_term.specs.Reading.{begins_name, segment_at, segments_at, path_at, name_at};
 ghost use Rattle.acpi_read.specs.Cause.{Gives};
 
 use crate::terms::cause::Cause;
-use acpi_term::name_string::NameString;
+use acpi_term::name_string::{NameString, name_of};
 use acpi_term::segment::{is_lead, is_segment};
 use std::alloc::Global;
 
@@ -43,7 +43,7 @@ fn segments(count: u8, bytes: &[u8]) -> Result<(&[u8], &[u8]), Cause>
     Ok(bytes.split_at(bytes.len() - rest.len()))
 }
 
-#[tactic(auto, unfolding(acpi_term::proofs::Reading::path_at, acpi_term::proofs::Reading::several_at))]
+#[tactic(auto, unfolding(acpi_term::specs::Reading::path_at, acpi_term::specs::Reading::several_at))]
 fn path(bytes: &[u8]) -> Result<(&[u8], &[u8]), Cause>
     ensures { Gives (λ x. (x.0.now, x.1.now)) result (path_at bytes.now) }
 {
@@ -68,7 +68,7 @@ fn path(bytes: &[u8]) -> Result<(&[u8], &[u8]), Cause>
     Ok(bytes.split_at(1 + first.len() + second.len()))
 }
 
-#[tactic(auto, unfolding(acpi_term::proofs::Reading::name_at))]
+#[tactic(auto, unfolding(acpi_term::specs::Reading::name_at))]
 fn spelled_name(bytes: &[u8]) -> Result<(&[u8], &[u8]), Cause>
     ensures { Gives (λ x. (x.0.now, x.1.now)) result (name_at bytes.now) }
 {
@@ -87,6 +87,6 @@ pub fn name(alloc: Global, bytes: &[u8]) -> Result<(NameString, &[u8]), Cause>
     ensures { Gives (λ x. (x.0, x.1.now)) result (name_at bytes.now) }
 {
     let (spelling, rest) = spelled_name(bytes)?;
-    let name = NameString::from_spelling(Vec::from_slice(alloc, spelling)?);
+    let name = name_of(alloc, spelling)?;
     Ok((name, rest))
 }

@@ -3,11 +3,11 @@
 ghost use Rattle.std.specs.Prelude.{◌≡◌, ◌≤◌, length, IfOk};
 ghost use Rattle.acpi_term.specs.Arity.{arity};
 ghost use Rattle.acpi_term.specs.Spelling.{inner, arguments};
-ghost use Rattle.acpi_term.specs.Tree.{term, number, varpack, branch, loop, otherwise};
+ghost use Rattle.acpi_term.specs.Tree.{term, number, def_var_package, def_if, def_while, def_else};
 ghost use Rattle.acpi_term.specs.View.{views, view};
-ghost use Rattle.acpi_term.proofs.Reading.{follows, op_of, number_at, string_at, named_at, define_after, mutex_after, region_after, acquire_after, release_after, framed_at, scope_inside, device_inside, method_inside, power_inside, field_inside, plain_at, package_at, buffer_at, extended_at, local_at, opcode_at, open_at};
+ghost use Rattle.acpi_term.specs.Reading.{follows, op_of, number_at, string_at, named_at, define_after, mutex_after, region_after, acquire_after, release_after, framed_at, scope_inside, device_inside, method_inside, power_inside, field_inside, plain_at, package_at, buffer_at, extended_at, local_at, opcode_at, open_at};
 ghost use Rattle.acpi_read.specs.Cause.{Gives};
-ghost use Rattle.acpi_read.specs.Opened.{seen, head_of, width_of, lead_head, lead_width, LiesWithin, IsFilled, IsAlone};
+ghost use Rattle.acpi_read.specs.TermStart.{seen, block_head, block_width, first_head, first_width, LiesWithin, IsFilled, IsAlone};
 
 use crate::terms::cause::Cause;
 use crate::terms::field::entries;
@@ -15,14 +15,14 @@ use crate::terms::frame::{frame, number};
 use crate::terms::name::{begins_name, name};
 use crate::terms::text::text;
 use acpi_term::mode::Mode;
-use acpi_term::name_string::{Arities, NameString};
+use acpi_term::name_string::{Arities, NameString, arguments};
 use acpi_term::op::Op;
 use acpi_term::term::Term;
 use std::alloc::Global;
 
 /// A term whose children fill a frame, without them: the width of its length, and what is its own.
 #[derive(Drop)]
-pub enum Frame {
+pub enum Block {
     Scope(u8, NameString),
     Device(u8, NameString),
     Method(u8, NameString, u8, bool),
@@ -32,43 +32,43 @@ pub enum Frame {
 
 /// The same of a term whose first child stands apart from the others.
 #[derive(Clone, Copy)]
-pub enum Lead {
+pub enum FirstAndBlock {
     VarPackage(u8),
     If(u8),
     While(u8),
 }
 
-impl Frame {
+impl Block {
     /// The term with these children.
     pub fn with(self, children: Vec<Term>) -> Term
-        ensures { view result ≡ (head_of self, width_of self, views children.items) }
+        ensures { view result ≡ (block_head self, block_width self, views children.items) }
     {
         match self {
-            Frame::Scope(width, name) => Term::Scope {
+            Block::Scope(width, name) => Term::Scope {
                 width,
                 name,
                 body: children,
             },
-            Frame::Device(width, name) => Term::Device {
+            Block::Device(width, name) => Term::Device {
                 width,
                 name,
                 body: children,
             },
-            Frame::Method(width, name, args, serialized) => Term::Method {
+            Block::Method(width, name, args, serialized) => Term::Method {
                 width,
                 name,
                 args,
                 serialized,
                 body: children,
             },
-            Frame::PowerResource(width, name, level, order) => Term::PowerResource {
+            Block::PowerResource(width, name, level, order) => Term::PowerResource {
                 width,
                 name,
                 level,
                 order,
                 body: children,
             },
-            Frame::Else(width) => Term::Else {
+            Block::Else(width) => Term::Else {
                 width,
                 body: children,
             },
@@ -76,33 +76,33 @@ impl Frame {
     }
 }
 
-impl Lead {
+impl FirstAndBlock {
     /// Where the first child stands.
     pub fn mode(self) -> Mode
-        ensures { result ≡ inner (lead_head self) }
+        ensures { result ≡ inner (first_head self) }
     {
         match self {
-            Lead::VarPackage(_) => Mode::Count,
-            Lead::If(_) | Lead::While(_) => Mode::Term,
+            FirstAndBlock::VarPackage(_) => Mode::Count,
+            FirstAndBlock::If(_) | FirstAndBlock::While(_) => Mode::Term,
         }
     }
 
     /// The term with these children.
     pub fn with(self, first: Box<Term>, others: Vec<Term>) -> Term
-        ensures { view result ≡ (lead_head self, lead_width self, term (view first.value).0 (view first.value).1 (view first.value).2 (views others.items)) }
+        ensures { view result ≡ (first_head self, first_width self, term (view first.value).0 (view first.value).1 (view first.value).2 (views others.items)) }
     {
         match self {
-            Lead::VarPackage(width) => Term::VarPackage {
+            FirstAndBlock::VarPackage(width) => Term::VarPackage {
                 width,
                 count: first,
                 elements: others,
             },
-            Lead::If(width) => Term::If {
+            FirstAndBlock::If(width) => Term::If {
                 width,
                 predicate: first,
                 body: others,
             },
-            Lead::While(width) => Term::While {
+            FirstAndBlock::While(width) => Term::While {
                 width,
                 predicate: first,
                 body: others,
@@ -113,7 +113,7 @@ impl Lead {
 
 /// What the children of a term are read from.
 #[derive(Drop)]
-pub enum Opened<'a> {
+pub enum TermStart<'a> {
     /// A term without children, and the rest.
     Leaf(Term, &'a [u8]),
     /// A name, how many arguments it has, and the rest.
@@ -125,8 +125,8 @@ pub enum Opened<'a> {
     /// A name that is given a value, and the rest.
     Define(NameString, &'a [u8]),
     /// A frame, the content after what is its own, and what follows.
-    Framed(Frame, &'a [u8], &'a [u8]),
-    Led(Lead, &'a [u8], &'a [u8]),
+    Block(Block, &'a [u8], &'a [u8]),
+    FirstAndBlock(FirstAndBlock, &'a [u8], &'a [u8]),
     /// The width, how many elements, the content after it, and what follows.
     Package(u8, u8, &'a [u8], &'a [u8]),
     /// The width, the content, and what follows.
@@ -177,11 +177,11 @@ fn operator_of(byte: u8) -> Option<Op>
 }
 
 /// The byte that is the number itself.
-fn small_number(byte: u8, rest: &[u8]) -> Opened<'_>
+fn small_number(byte: u8, rest: &[u8]) -> TermStart<'_>
     ensures gives { seen result ≡ follows (number byte) 0 0 rest.now }
     ensures alone { IsAlone result }
 {
-    Opened::Leaf(
+    TermStart::Leaf(
         Term::Number {
             value: u64::from(byte),
             width: 0,
@@ -190,32 +190,32 @@ fn small_number(byte: u8, rest: &[u8]) -> Opened<'_>
     )
 }
 
-fn wide_number(width: u8, bytes: &[u8]) -> Result<Opened<'_>, Cause>
+fn wide_number(width: u8, bytes: &[u8]) -> Result<TermStart<'_>, Cause>
     requires { width ≤ 8 }
     ensures gives { Gives seen result (number_at width bytes.now) }
     ensures alone { IfOk result IsAlone }
 {
     let (value, rest) = number(width, bytes)?;
-    Ok(Opened::Leaf(Term::Number { value, width }, rest))
+    Ok(TermStart::Leaf(Term::Number { value, width }, rest))
 }
 
-fn string(alloc: Global, bytes: &[u8]) -> Result<Opened<'_>, Cause>
+fn string(alloc: Global, bytes: &[u8]) -> Result<TermStart<'_>, Cause>
     ensures gives { Gives seen result (string_at bytes.now) }
     ensures alone { IfOk result IsAlone }
 {
     let (text, rest) = text(alloc, bytes)?;
-    Ok(Opened::Leaf(Term::Text(text), rest))
+    Ok(TermStart::Leaf(Term::Text(text), rest))
 }
 
-fn define(alloc: Global, bytes: &[u8]) -> Result<Opened<'_>, Cause>
+fn define(alloc: Global, bytes: &[u8]) -> Result<TermStart<'_>, Cause>
     ensures gives { Gives seen result (named_at define_after bytes.now) }
     ensures alone { IfOk result IsAlone }
 {
     let (name, rest) = name(alloc, bytes)?;
-    Ok(Opened::Define(name, rest))
+    Ok(TermStart::Define(name, rest))
 }
 
-fn mutex(alloc: Global, bytes: &[u8]) -> Result<Opened<'_>, Cause>
+fn mutex(alloc: Global, bytes: &[u8]) -> Result<TermStart<'_>, Cause>
     ensures gives { Gives seen result (named_at mutex_after bytes.now) }
     ensures alone { IfOk result IsAlone }
 {
@@ -224,28 +224,28 @@ fn mutex(alloc: Global, bytes: &[u8]) -> Result<Opened<'_>, Cause>
         return Err(Cause::Truncated);
     };
     let level = *level;
-    Ok(Opened::Leaf(Term::Mutex { name, level }, rest))
+    Ok(TermStart::Leaf(Term::Mutex { name, level }, rest))
 }
 
-fn acquire(alloc: Global, bytes: &[u8]) -> Result<Opened<'_>, Cause>
+fn acquire(alloc: Global, bytes: &[u8]) -> Result<TermStart<'_>, Cause>
     ensures gives { Gives seen result (named_at acquire_after bytes.now) }
     ensures alone { IfOk result IsAlone }
 {
     let (name, rest) = name(alloc, bytes)?;
     let (timeout, rest) = number(2, rest)?;
     let timeout = timeout as u16;
-    Ok(Opened::Leaf(Term::Acquire { name, timeout }, rest))
+    Ok(TermStart::Leaf(Term::Acquire { name, timeout }, rest))
 }
 
-fn release(alloc: Global, bytes: &[u8]) -> Result<Opened<'_>, Cause>
+fn release(alloc: Global, bytes: &[u8]) -> Result<TermStart<'_>, Cause>
     ensures gives { Gives seen result (named_at release_after bytes.now) }
     ensures alone { IfOk result IsAlone }
 {
     let (name, rest) = name(alloc, bytes)?;
-    Ok(Opened::Leaf(Term::Release { name }, rest))
+    Ok(TermStart::Leaf(Term::Release { name }, rest))
 }
 
-fn region(alloc: Global, bytes: &[u8]) -> Result<Opened<'_>, Cause>
+fn region(alloc: Global, bytes: &[u8]) -> Result<TermStart<'_>, Cause>
     ensures gives { Gives seen result (named_at region_after bytes.now) }
     ensures alone { IfOk result IsAlone }
 {
@@ -253,28 +253,28 @@ fn region(alloc: Global, bytes: &[u8]) -> Result<Opened<'_>, Cause>
     let Some((space, rest)) = rest.split_first() else {
         return Err(Cause::Truncated);
     };
-    Ok(Opened::Region(name, *space, rest))
+    Ok(TermStart::Region(name, *space, rest))
 }
 
-fn scope(alloc: Global, bytes: &[u8]) -> Result<Opened<'_>, Cause>
+fn scope(alloc: Global, bytes: &[u8]) -> Result<TermStart<'_>, Cause>
     ensures gives { Gives seen result (framed_at scope_inside bytes.now) }
     ensures alone { IfOk result IsAlone }
 {
     let (width, content, after) = frame(bytes)?;
     let (name, inside) = name(alloc, content)?;
-    Ok(Opened::Framed(Frame::Scope(width, name), inside, after))
+    Ok(TermStart::Block(Block::Scope(width, name), inside, after))
 }
 
-fn device(alloc: Global, bytes: &[u8]) -> Result<Opened<'_>, Cause>
+fn device(alloc: Global, bytes: &[u8]) -> Result<TermStart<'_>, Cause>
     ensures gives { Gives seen result (framed_at device_inside bytes.now) }
     ensures alone { IfOk result IsAlone }
 {
     let (width, content, after) = frame(bytes)?;
     let (name, inside) = name(alloc, content)?;
-    Ok(Opened::Framed(Frame::Device(width, name), inside, after))
+    Ok(TermStart::Block(Block::Device(width, name), inside, after))
 }
 
-fn method(alloc: Global, bytes: &[u8]) -> Result<Opened<'_>, Cause>
+fn method(alloc: Global, bytes: &[u8]) -> Result<TermStart<'_>, Cause>
     ensures gives { Gives seen result (framed_at method_inside bytes.now) }
     ensures alone { IfOk result IsAlone }
 {
@@ -287,14 +287,14 @@ fn method(alloc: Global, bytes: &[u8]) -> Result<Opened<'_>, Cause>
     if flags >= 16 {
         return Err(Cause::Flags);
     }
-    Ok(Opened::Framed(
-        Frame::Method(width, name, flags % 8, flags >= 8),
+    Ok(TermStart::Block(
+        Block::Method(width, name, flags % 8, flags >= 8),
         inside,
         after,
     ))
 }
 
-fn power_resource(alloc: Global, bytes: &[u8]) -> Result<Opened<'_>, Cause>
+fn power_resource(alloc: Global, bytes: &[u8]) -> Result<TermStart<'_>, Cause>
     ensures gives { Gives seen result (framed_at power_inside bytes.now) }
     ensures alone { IfOk result IsAlone }
 {
@@ -304,8 +304,8 @@ fn power_resource(alloc: Global, bytes: &[u8]) -> Result<Opened<'_>, Cause>
         return Err(Cause::Truncated);
     };
     let (order, inside) = number(2, inside)?;
-    Ok(Opened::Framed(
-        Frame::PowerResource(width, name, *level, order as u16),
+    Ok(TermStart::Block(
+        Block::PowerResource(width, name, *level, order as u16),
         inside,
         after,
     ))
@@ -317,7 +317,7 @@ fn flagged<'a>(
     name: NameString,
     bytes: &[u8],
     after: &'a [u8],
-) -> Result<Opened<'a>, Cause>
+) -> Result<TermStart<'a>, Cause>
     ensures gives { Gives seen result (field_inside width name bytes.now after.now) }
     ensures alone { IfOk result IsAlone }
 {
@@ -332,7 +332,7 @@ fn flagged<'a>(
         return Err(Cause::Flags);
     }
     let entries = entries(alloc, rest)?;
-    Ok(Opened::Leaf(
+    Ok(TermStart::Leaf(
         Term::Field {
             width,
             name,
@@ -345,7 +345,7 @@ fn flagged<'a>(
     ))
 }
 
-fn field(alloc: Global, bytes: &[u8]) -> Result<Opened<'_>, Cause>
+fn field(alloc: Global, bytes: &[u8]) -> Result<TermStart<'_>, Cause>
     ensures gives { Gives seen result (framed_at field_inside bytes.now) }
     ensures alone { IfOk result IsAlone }
 {
@@ -354,39 +354,39 @@ fn field(alloc: Global, bytes: &[u8]) -> Result<Opened<'_>, Cause>
     flagged(alloc, width, name, inside, after)
 }
 
-fn otherwise(bytes: &[u8]) -> Result<Opened<'_>, Cause>
-    ensures gives { Gives seen result (plain_at otherwise bytes.now) }
+fn otherwise(bytes: &[u8]) -> Result<TermStart<'_>, Cause>
+    ensures gives { Gives seen result (plain_at def_else bytes.now) }
     ensures alone { IfOk result IsAlone }
 {
     let (width, content, after) = frame(bytes)?;
-    Ok(Opened::Framed(Frame::Else(width), content, after))
+    Ok(TermStart::Block(Block::Else(width), content, after))
 }
 
-fn branch(bytes: &[u8]) -> Result<Opened<'_>, Cause>
-    ensures gives { Gives seen result (plain_at branch bytes.now) }
+fn branch(bytes: &[u8]) -> Result<TermStart<'_>, Cause>
+    ensures gives { Gives seen result (plain_at def_if bytes.now) }
     ensures alone { IfOk result IsAlone }
 {
     let (width, content, after) = frame(bytes)?;
-    Ok(Opened::Led(Lead::If(width), content, after))
+    Ok(TermStart::FirstAndBlock(FirstAndBlock::If(width), content, after))
 }
 
-fn repetition(bytes: &[u8]) -> Result<Opened<'_>, Cause>
-    ensures gives { Gives seen result (plain_at loop bytes.now) }
+fn repetition(bytes: &[u8]) -> Result<TermStart<'_>, Cause>
+    ensures gives { Gives seen result (plain_at def_while bytes.now) }
     ensures alone { IfOk result IsAlone }
 {
     let (width, content, after) = frame(bytes)?;
-    Ok(Opened::Led(Lead::While(width), content, after))
+    Ok(TermStart::FirstAndBlock(FirstAndBlock::While(width), content, after))
 }
 
-fn var_package(bytes: &[u8]) -> Result<Opened<'_>, Cause>
-    ensures gives { Gives seen result (plain_at varpack bytes.now) }
+fn var_package(bytes: &[u8]) -> Result<TermStart<'_>, Cause>
+    ensures gives { Gives seen result (plain_at def_var_package bytes.now) }
     ensures alone { IfOk result IsAlone }
 {
     let (width, content, after) = frame(bytes)?;
-    Ok(Opened::Led(Lead::VarPackage(width), content, after))
+    Ok(TermStart::FirstAndBlock(FirstAndBlock::VarPackage(width), content, after))
 }
 
-fn package(bytes: &[u8]) -> Result<Opened<'_>, Cause>
+fn package(bytes: &[u8]) -> Result<TermStart<'_>, Cause>
     ensures gives { Gives seen result (package_at bytes.now) }
     ensures alone { IfOk result IsAlone }
 {
@@ -394,26 +394,26 @@ fn package(bytes: &[u8]) -> Result<Opened<'_>, Cause>
     let Some((count, inside)) = content.split_first() else {
         return Err(Cause::Truncated);
     };
-    Ok(Opened::Package(width, *count, inside, after))
+    Ok(TermStart::Package(width, *count, inside, after))
 }
 
-fn buffer(bytes: &[u8]) -> Result<Opened<'_>, Cause>
+fn buffer(bytes: &[u8]) -> Result<TermStart<'_>, Cause>
     ensures gives { Gives seen result (buffer_at bytes.now) }
     ensures alone { IfOk result IsAlone }
 {
     let (width, content, after) = frame(bytes)?;
-    Ok(Opened::Buffer(width, content, after))
+    Ok(TermStart::Buffer(width, content, after))
 }
 
 /// After the byte 5B.
-fn extended(alloc: Global, bytes: &[u8]) -> Result<Opened<'_>, Cause>
+fn extended(alloc: Global, bytes: &[u8]) -> Result<TermStart<'_>, Cause>
     ensures gives { Gives seen result (extended_at bytes.now) }
     ensures alone { IfOk result IsAlone }
 {
     match bytes {
         [] => Err(Cause::Truncated),
         [0x01, rest @ ..] => mutex(alloc, rest),
-        [0x13, rest @ ..] => Ok(Opened::Operator(Op::CreateField, rest)),
+        [0x13, rest @ ..] => Ok(TermStart::Operator(Op::CreateField, rest)),
         [0x23, rest @ ..] => acquire(alloc, rest),
         [0x27, rest @ ..] => release(alloc, rest),
         [0x80, rest @ ..] => region(alloc, rest),
@@ -424,23 +424,23 @@ fn extended(alloc: Global, bytes: &[u8]) -> Result<Opened<'_>, Cause>
     }
 }
 
-fn local_or_operator(byte: u8, rest: &[u8]) -> Result<Opened<'_>, Cause>
+fn local_or_operator(byte: u8, rest: &[u8]) -> Result<TermStart<'_>, Cause>
     ensures gives { Gives seen result (local_at byte rest.now) }
     ensures alone { IfOk result IsAlone }
 {
     if byte >= 0x60 && byte <= 0x67 {
-        return Ok(Opened::Leaf(Term::Local(byte - 0x60), rest));
+        return Ok(TermStart::Leaf(Term::Local(byte - 0x60), rest));
     }
     if byte >= 0x68 && byte <= 0x6e {
-        return Ok(Opened::Leaf(Term::Arg(byte - 0x68), rest));
+        return Ok(TermStart::Leaf(Term::Arg(byte - 0x68), rest));
     }
     match operator_of(byte) {
         None => Err(Cause::Opcode),
-        Some(op) => Ok(Opened::Operator(op, rest)),
+        Some(op) => Ok(TermStart::Operator(op, rest)),
     }
 }
 
-fn opcode(alloc: Global, byte: u8, rest: &[u8]) -> Result<Opened<'_>, Cause>
+fn opcode(alloc: Global, byte: u8, rest: &[u8]) -> Result<TermStart<'_>, Cause>
     ensures gives { Gives seen result (opcode_at byte rest.now) }
     ensures alone { IfOk result IsAlone }
 {
@@ -461,13 +461,13 @@ fn opcode(alloc: Global, byte: u8, rest: &[u8]) -> Result<Opened<'_>, Cause>
         0xa0 => branch(rest),
         0xa1 => otherwise(rest),
         0xa2 => repetition(rest),
-        0xff => Ok(Opened::Leaf(Term::Ones, rest)),
+        0xff => Ok(TermStart::Leaf(Term::Ones, rest)),
         _ => local_or_operator(byte, rest),
     }
 }
 
-#[tactic(auto, unfolding(acpi_term::proofs::Reading::open_at))]
-fn open_head<'a>(arities: &Arities, mode: Mode, bytes: &'a [u8]) -> Result<Opened<'a>, Cause>
+#[tactic(auto, unfolding(acpi_term::specs::Reading::open_at))]
+fn open_head<'a>(arities: &Arities, mode: Mode, bytes: &'a [u8]) -> Result<TermStart<'a>, Cause>
     ensures gives { Gives seen result (open_at (arity arities.now) mode bytes.now) }
     ensures alone { IfOk result IsAlone }
 {
@@ -479,12 +479,12 @@ fn open_head<'a>(arities: &Arities, mode: Mode, bytes: &'a [u8]) -> Result<Opene
         return opcode(alloc, *byte, rest);
     }
     let (name, rest) = name(alloc, bytes)?;
-    let count = arities.arguments(mode, name.as_bytes());
-    Ok(Opened::Call(name, count, rest))
+    let count = arguments(arities, mode, name.as_bytes());
+    Ok(TermStart::Call(name, count, rest))
 }
 
 /// The head of the term at the front, and where its children are, which is within the bytes.
-pub fn open<'a>(arities: &Arities, mode: Mode, bytes: &'a [u8]) -> Result<Opened<'a>, Cause>
+pub fn open<'a>(arities: &Arities, mode: Mode, bytes: &'a [u8]) -> Result<TermStart<'a>, Cause>
     ensures gives { Gives seen result (open_at (arity arities.now) mode bytes.now) }
     ensures alone { IfOk result IsAlone }
     ensures within { IfOk result (λ opened. LiesWithin (length bytes.now) (seen opened)) }

@@ -108,8 +108,8 @@ fn packages(rt: HostRuntime) -> Result<(), Fail> {
 #[test]
 fn texts(rt: HostRuntime) -> Result<(), Fail> {
     let alloc = rt.alloc();
-    let text = Term::Text(String::from_str(alloc, "a \"\\\n~\x7f")?);
-    assert!(rt; is_told(alloc, text, "text \"a \\x22\\x5c\\x0a~\\x7f\"\n")?);
+    let text = Term::Text(String::from_str(alloc, "\x01\x1f\x20!\"#[\\]~\x7f")?);
+    assert!(rt; is_told(alloc, text, "text \"\\x01\\x1f !\\x22#[\\x5c]~\\x7f\"\n")?);
     Ok(())
 }
 

@@ -222,3 +222,150 @@ fn replacements(rt: HostRuntime) -> Result<(), Fail> {
     assert_eq!(&rt; terms(&bytes, &none)?.len(), 1);
     Ok(())
 }
+
+// The bytes beside each other that are a term, and that are none.
+#[test]
+fn bounds_of_bytes(rt: HostRuntime) -> Result<(), Fail> {
+    let alloc = rt.alloc();
+    let none = nothing_stated(alloc)?;
+    reads(&rt, &[0x60], &none, &[Term::Local(0)])?;
+    reads(&rt, &[0x67], &none, &[Term::Local(7)])?;
+    reads(&rt, &[0x68], &none, &[Term::Arg(0)])?;
+    reads(&rt, &[0x6e], &none, &[Term::Arg(6)])?;
+    refused(&rt, &[0x6f], &none, "Opcode");
+    let text = Term::Text(String::from_str(alloc, "\x01\x7f")?);
+    reads(&rt, b"\x0d\x01\x7f\0", &none, &[text])?;
+    refused(&rt, b"\x0d\x01\x80\0", &none, "Text");
+    Ok(())
+}
+
+fn field(alloc: Global, access: u8, lock: u8, update: u8) -> Result<Term, Fail> {
+    Ok(Term::Field {
+        width: 1,
+        name: NameString::new(alloc, "PRST")?,
+        access,
+        lock,
+        update,
+        entries: Vec::new(alloc),
+    })
+}
+
+// Access from Any to Buffer, a lock, and an update rule.
+#[test]
+fn field_flags(rt: HostRuntime) -> Result<(), Fail> {
+    let alloc = rt.alloc();
+    let none = nothing_stated(alloc)?;
+    for access in 0..=5u8 {
+        for lock in 0..=1u8 {
+            for update in 0..=2u8 {
+                let mut bytes = *b"\x5b\x81\x06PRST\0";
+                bytes[7] = access | lock << 4 | update << 5;
+                reads(&rt, &bytes, &none, &[field(alloc, access, lock, update)?])?;
+            }
+        }
+    }
+    for flags in [0x06u8, 0x07, 0x08, 0x0f, 0x16, 0x60, 0x65, 0x70, 0x80, 0xff] {
+        let mut bytes = *b"\x5b\x81\x06PRST\0";
+        bytes[7] = flags;
+        refused(&rt, &bytes, &none, "Flags");
+    }
+    Ok(())
+}
+
+#[test]
+fn method_flags(rt: HostRuntime) -> Result<(), Fail> {
+    let alloc = rt.alloc();
+    let none = nothing_stated(alloc)?;
+    for (flags, args, serialized) in [(0, 0, false), (7, 7, false), (8, 0, true), (15, 7, true)] {
+        let mut bytes = *b"\x14\x06_STA\0";
+        bytes[6] = flags;
+        let method = Term::Method {
+            width: 1,
+            name: NameString::new(alloc, "_STA")?,
+            args,
+            serialized,
+            body: Vec::new(alloc),
+        };
+        reads(&rt, &bytes, &none, &[method])?;
+    }
+    for bit in 4..8u8 {
+        let mut bytes = *b"\x14\x06_STA\0";
+        bytes[6] = 1 << bit;
+        refused(&rt, &bytes, &none, "Flags");
+    }
+    Ok(())
+}
+
+// Bits 4 and 5 of a length's first byte are reserved where others follow it.
+#[test]
+fn reserved_bits(rt: HostRuntime) -> Result<(), Fail> {
+    let alloc = rt.alloc();
+    let none = nothing_stated(alloc)?;
+    let frames: [&[u8]; 3] = [
+        b"\x12\x45\x00\x02\x00\x01",
+        b"\x12\x86\x00\x00\x02\x00\x01",
+        b"\x12\xc7\x00\x00\x00\x02\x00\x01",
+    ];
+    for bytes in frames {
+        assert_eq!(&rt; terms(bytes, &none)?.len(), 1);
+        for bits in [0x10, 0x20, 0x30] {
+            let mut bytes = Vec::from_slice(alloc, bytes)?;
+            bytes[1] |= bits;
+            refused(&rt, &bytes, &none, "Length");
+        }
+    }
+    let entries: [&[u8]; 3] = [
+        b"\x5b\x81\x09PRST\0\0\x4f\x03",
+        b"\x5b\x81\x0aPRST\0\0\x8f\x03\x00",
+        b"\x5b\x81\x0bPRST\0\0\xcf\x03\x00\x00",
+    ];
+    for bytes in entries {
+        assert_eq!(&rt; terms(bytes, &none)?.len(), 1);
+        for bits in [0x10, 0x20, 0x30] {
+            let mut bytes = Vec::from_slice(alloc, bytes)?;
+            bytes[9] |= bits;
+            refused(&rt, &bytes, &none, "Length");
+        }
+    }
+    Ok(())
+}
+
+fn bare(alloc: Global, text: &str) -> Result<Term, Fail> {
+    Ok(Term::Call {
+        name: NameString::new(alloc, text)?,
+        args: Vec::new(alloc),
+    })
+}
+
+// Names of one segment, of two and of more, rooted and not.
+#[test]
+fn names(rt: HostRuntime) -> Result<(), Fail> {
+    let alloc = rt.alloc();
+    let none = nothing_stated(alloc)?;
+    let cases: [(&[u8], &str); 8] = [
+        (b"_SB_", "_SB_"),
+        (b"AZ09", "AZ09"),
+        (b"\\_SB_", "\\_SB_"),
+        (b"\x2e_SB_COM1", "_SB_.COM1"),
+        (b"\\\x2e_SB_COM1", "\\_SB_.COM1"),
+        (b"\x2f\x03_SB_PCI0COM1", "_SB_.PCI0.COM1"),
+        (b"\\\x2f\x03_SB_PCI0COM1", "\\_SB_.PCI0.COM1"),
+        (b"\x2f\x04_SB_PCI0COM1_HID", "_SB_.PCI0.COM1._HID"),
+    ];
+    for (bytes, text) in cases {
+        reads(&rt, bytes, &none, &[bare(alloc, text)?])?;
+        let mut more = Vec::from_slice(alloc, bytes)?;
+        more.push(0x60)?;
+        reads(&rt, &more, &none, &[bare(alloc, text)?, Term::Local(0)])?;
+        refused(&rt, &bytes[..bytes.len() - 1], &none, "Truncated");
+    }
+    for bytes in [
+        b"/SB_", b":SB_", b"@SB_", b"[SB_", b"`SB_", b"aSB_", b"0SB_",
+    ] {
+        assert!(&rt; terms(bytes.as_slice(), &none).is_err(), "{bytes:?}");
+    }
+    for bytes in [b"A/B_", b"A:B_", b"A@B_", b"A[B_", b"A`B_", b"AaB_"] {
+        refused(&rt, bytes.as_slice(), &none, "Opcode");
+    }
+    Ok(())
+}

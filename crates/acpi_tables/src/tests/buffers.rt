@@ -41,67 +41,72 @@ fn buffers(rt: HostRuntime) -> Result<(), Fail> {
     )
 }
 
-fn refuses_id<RT: Abort>(rt: &RT, text: &str) {
-    assert_eq!(rt; EISAName::new(text).err(), Some(Error::EisaText));
-}
-
+// The letters of an id stand in the two high bytes, five bits each, and its digits in the two low ones.
 #[test]
 fn eisa_ids(rt: HostRuntime) -> Result<(), Fail> {
     let alloc = rt.alloc();
-    writes(
-        &rt,
-        alloc,
-        EISAName::new("PNP0A03"),
-        &[0x0c, 0x41, 0xd0, 0x0a, 0x03],
-    )?;
-    writes(
-        &rt,
-        alloc,
-        EISAName::new("PNP0a03"),
-        &[0x0c, 0x41, 0xd0, 0x0a, 0x03],
-    )?;
-    writes(
-        &rt,
-        alloc,
-        EISAName::new("PNP0501"),
-        &[0x0c, 0x41, 0xd0, 0x05, 0x01],
-    )?;
-    writes(&rt, alloc, EISAName::new("PNP0000"), &[0x0b, 0x41, 0xd0])?;
-    refuses_id(&rt, "pnp0A03");
-    refuses_id(&rt, "PNP0A0");
-    refuses_id(&rt, "PNP0A03F");
-    refuses_id(&rt, "PNP0A0G");
-    Ok(())
+    for (text, wanted) in [
+        ("PNP0A03", [0x0c, 0x41, 0xd0, 0x0a, 0x03]),
+        ("PNP0a03", [0x0c, 0x41, 0xd0, 0x0a, 0x03]),
+        ("PNP0501", [0x0c, 0x41, 0xd0, 0x05, 0x01]),
+        ("INT0800", [0x0c, 0x25, 0xd4, 0x08, 0x00]),
+        ("AWY0001", [0x0c, 0x06, 0xf9, 0x00, 0x01]),
+        ("AZA9aFf", [0x0c, 0x07, 0x41, 0x9a, 0xff]),
+    ] {
+        writes(&rt, alloc, EISAName::new(text), &wanted)?;
+    }
+    writes(&rt, alloc, EISAName::new("PNP0000"), &[0x0b, 0x41, 0xd0])
 }
 
-fn refuses_uuid<RT: Abort>(rt: &RT, text: &str) {
-    assert_eq!(rt; Uuid::new(text).err(), Some(Error::UuidText));
+#[test]
+fn texts_of_no_id(rt: HostRuntime) {
+    for text in [
+        "PNP0A0", "PNP0A03F", "pnp0A03", "@NP0A03", "P[P0A03", "PN`0A03", "PN90A03", "PNP/A03",
+        "PNP0:03", "PNP0A@3", "PNP0A0G", "PNP0A0`", "PNPgA03",
+    ] {
+        assert_eq!(rt; EISAName::new(text).err(), Some(Error::EisaText));
+    }
 }
 
 #[test]
 fn uuids(rt: HostRuntime) -> Result<(), Fail> {
     let alloc = rt.alloc();
-    let wanted = [
+    let host_bridge = [
         0x11, 0x13, 0x0a, 0x10, 0x5b, 0x4d, 0xdb, 0x33, 0xf7, 0x1f, 0x1c, 0x40, 0x96, 0x57, 0x74,
         0x41, 0xc0, 0x3d, 0xd7, 0x66,
     ];
-    writes(
-        &rt,
-        alloc,
-        Uuid::new("33DB4D5B-1FF7-401C-9657-7441C03DD766"),
-        &wanted,
-    )?;
-    writes(
-        &rt,
-        alloc,
-        Uuid::new("33db4d5b-1ff7-401c-9657-7441c03dd766"),
-        &wanted,
-    )?;
-    refuses_uuid(&rt, "33DB4D5B-1FF7-401C-9657-7441C03DD76");
-    refuses_uuid(&rt, "33DB4D5B-1FF7-401C-9657-7441C03DD7666");
-    refuses_uuid(&rt, "33DB4D5B-1FF7-401C-9657 7441C03DD766");
-    refuses_uuid(&rt, "33DB4D5G-1FF7-401C-9657-7441C03DD766");
+    let properties = [
+        0x11, 0x13, 0x0a, 0x10, 0x14, 0xd8, 0xff, 0xda, 0xba, 0x6e, 0x8c, 0x4d, 0x8a, 0x91, 0xbc,
+        0x9b, 0xbf, 0x4a, 0xa3, 0x01,
+    ];
+    for (text, wanted) in [
+        ("33DB4D5B-1FF7-401C-9657-7441C03DD766", host_bridge),
+        ("33db4d5b-1ff7-401c-9657-7441c03dd766", host_bridge),
+        ("DaFfD814-6EBA-4D8C-8A91-BC9bBF4AA301", properties),
+    ] {
+        writes(&rt, alloc, Uuid::new(text), &wanted)?;
+    }
     Ok(())
+}
+
+#[test]
+fn texts_of_no_uuid(rt: HostRuntime) {
+    for text in [
+        "33DB4D5B-1FF7-401C-9657-7441C03DD76",
+        "33DB4D5B-1FF7-401C-9657-7441C03DD7666",
+        "33DB4D5B01FF7-401C-9657-7441C03DD766",
+        "33DB4D5B-1FF7_401C-9657-7441C03DD766",
+        "33DB4D5B-1FF7-401C/9657-7441C03DD766",
+        "33DB4D5B-1FF7-401C-9657 7441C03DD766",
+        "/3DB4D5B-1FF7-401C-9657-7441C03DD766",
+        "33DB4D5:-1FF7-401C-9657-7441C03DD766",
+        "33DB4D5B-@FF7-401C-9657-7441C03DD766",
+        "33DB4D5B-1FF7-40G1-9657-7441C03DD766",
+        "33DB4D5B-1FF7-401C-96`7-7441C03DD766",
+        "33DB4D5B-1FF7-401C-9657-7441C03DD76g",
+    ] {
+        assert_eq!(rt; Uuid::new(text).err(), Some(Error::UuidText));
+    }
 }
 
 #[test]
@@ -149,8 +154,8 @@ fn descriptors(rt: HostRuntime) -> Result<(), Fail> {
     expect(
         &rt,
         alloc,
-        &IO::new(0x3f8, 0x3f8, 0, 8),
-        &[0x47, 0x01, 0xf8, 0x03, 0xf8, 0x03, 0x00, 0x08],
+        &IO::new(0x3f0, 0x4f8, 4, 8),
+        &[0x47, 0x01, 0xf0, 0x03, 0xf8, 0x04, 0x04, 0x08],
     )?;
     expect(
         &rt,
@@ -162,6 +167,121 @@ fn descriptors(rt: HostRuntime) -> Result<(), Fail> {
     )
 }
 
+#[test]
+fn word_spaces(rt: HostRuntime) -> Result<(), Fail> {
+    let alloc = rt.alloc();
+    expect(
+        &rt,
+        alloc,
+        &AddressSpace::new_bus_number(0u16, 0xff),
+        &[
+            0x88, 0x0d, 0x00, 0x02, 0x0c, 0x00, 0x00, 0x00, 0x00, 0x00, 0xff, 0x00, 0x00, 0x00,
+            0x00, 0x01,
+        ],
+    )?;
+    // One port alone, and all but one.
+    expect(
+        &rt,
+        alloc,
+        &AddressSpace::new_io(5u16, 5, None),
+        &[
+            0x88, 0x0d, 0x00, 0x01, 0x0c, 0x03, 0x00, 0x00, 0x05, 0x00, 0x05, 0x00, 0x00, 0x00,
+            0x01, 0x00,
+        ],
+    )?;
+    expect(
+        &rt,
+        alloc,
+        &AddressSpace::new_io(1u16, 0xffff, Some(0x1234)),
+        &[
+            0x88, 0x0d, 0x00, 0x01, 0x0c, 0x03, 0x00, 0x00, 0x01, 0x00, 0xff, 0xff, 0x34, 0x12,
+            0xff, 0xff,
+        ],
+    )
+}
+
+#[test]
+fn double_word_spaces(rt: HostRuntime) -> Result<(), Fail> {
+    let alloc = rt.alloc();
+    expect(
+        &rt,
+        alloc,
+        &AddressSpace::new_memory(
+            AddressSpaceCacheable::Cacheable,
+            true,
+            0xc000_0000u32,
+            0xc000_ffff,
+            Some(1),
+        ),
+        &[
+            0x87, 0x17, 0x00, 0x00, 0x0c, 0x03, 0, 0, 0, 0, 0x00, 0x00, 0x00, 0xc0, 0xff, 0xff,
+            0x00, 0xc0, 1, 0, 0, 0, 0x00, 0x00, 0x01, 0x00,
+        ],
+    )?;
+    expect(
+        &rt,
+        alloc,
+        &AddressSpace::new_bus_number(1u32, u32::MAX),
+        &[
+            0x87, 0x17, 0x00, 0x02, 0x0c, 0x00, 0, 0, 0, 0, 0x01, 0x00, 0x00, 0x00, 0xff, 0xff,
+            0xff, 0xff, 0, 0, 0, 0, 0xff, 0xff, 0xff, 0xff,
+        ],
+    )
+}
+
+#[test]
+fn quad_word_spaces(rt: HostRuntime) -> Result<(), Fail> {
+    let alloc = rt.alloc();
+    expect(
+        &rt,
+        alloc,
+        &AddressSpace::new_memory(
+            AddressSpaceCacheable::PreFetchable,
+            false,
+            0x8_0000_0000u64,
+            0xf_ffff_ffff,
+            None,
+        ),
+        &[
+            0x8a, 0x2b, 0x00, 0x00, 0x0c, 0x06, 0, 0, 0, 0, 0, 0, 0, 0, 0, 0, 0, 0, 0x08, 0, 0, 0,
+            0xff, 0xff, 0xff, 0xff, 0x0f, 0, 0, 0, 0, 0, 0, 0, 0, 0, 0, 0, 0, 0, 0, 0, 0x08, 0, 0,
+            0,
+        ],
+    )?;
+    expect(
+        &rt,
+        alloc,
+        &AddressSpace::new_io(0x1_0000u64, 0x1_ffff, Some(0x1234_5678_9abc_def0)),
+        &[
+            0x8a, 0x2b, 0x00, 0x01, 0x0c, 0x03, 0, 0, 0, 0, 0, 0, 0, 0, 0, 0, 0x01, 0, 0, 0, 0, 0,
+            0xff, 0xff, 0x01, 0, 0, 0, 0, 0, 0xf0, 0xde, 0xbc, 0x9a, 0x78, 0x56, 0x34, 0x12, 0, 0,
+            0x01, 0, 0, 0, 0, 0,
+        ],
+    )
+}
+
+#[test]
+fn memory_types(rt: HostRuntime) -> Result<(), Fail> {
+    let alloc = rt.alloc();
+    for (cacheable, read_write, flags) in [
+        (AddressSpaceCacheable::NotCacheable, false, 0),
+        (AddressSpaceCacheable::Cacheable, false, 2),
+        (AddressSpaceCacheable::WriteCombining, true, 5),
+        (AddressSpaceCacheable::PreFetchable, true, 7),
+    ] {
+        let memory = AddressSpace::new_memory(cacheable, read_write, 0u16, 0, None);
+        expect(
+            &rt,
+            alloc,
+            &memory,
+            &[
+                0x88, 0x0d, 0x00, 0x00, 0x0c, flags, 0, 0, 0, 0, 0, 0, 0, 0, 0x01, 0x00,
+            ],
+        )?;
+    }
+    Ok(())
+}
+
 fn refuses_range<RT: Abort>(rt: &RT, alloc: Global, aml: &dyn Aml) -> Result<(), Fail> {
     let mut bytes = Vec::new(alloc);
     assert_eq!(rt; aml.to_aml_bytes(&mut bytes), Err(Error::AddressRange));
@@ -170,62 +290,12 @@ fn refuses_range<RT: Abort>(rt: &RT, alloc: Global, aml: &dyn Aml) -> Result<(),
 }
 
 #[test]
-fn address_spaces(rt: HostRuntime) -> Result<(), Fail> {
+fn ranges_without_a_length(rt: HostRuntime) -> Result<(), Fail> {
     let alloc = rt.alloc();
-    let bus = AddressSpace::new_bus_number(0u16, 0xff);
-    expect(
-        &rt,
-        alloc,
-        &bus,
-        &[
-            0x88, 0x0d, 0x00, 0x02, 0x0c, 0x00, 0x00, 0x00, 0x00, 0x00, 0xff, 0x00, 0x00, 0x00,
-            0x00, 0x01,
-        ],
-    )?;
-    let memory = AddressSpace::new_memory(
-        AddressSpaceCacheable::Cacheable,
-        true,
-        0xc000_0000u32,
-        0xc000_ffff,
-        Some(1),
-    );
-    expect(
-        &rt,
-        alloc,
-        &memory,
-        &[
-            0x87, 0x17, 0x00, 0x00, 0x0c, 0x03, 0, 0, 0, 0, 0x00, 0x00, 0x00, 0xc0, 0xff, 0xff,
-            0x00, 0xc0, 1, 0, 0, 0, 0x00, 0x00, 0x01, 0x00,
-        ],
-    )?;
-    refuses_range(&rt, alloc, &AddressSpace::new_io(0u16, 0xffff, None))?;
     refuses_range(&rt, alloc, &AddressSpace::new_io(5u16, 4, None))?;
+    refuses_range(&rt, alloc, &AddressSpace::new_io(0u16, u16::MAX, None))?;
+    refuses_range(&rt, alloc, &AddressSpace::new_io(0u32, u32::MAX, None))?;
     refuses_range(&rt, alloc, &AddressSpace::new_io(0u64, u64::MAX, None))
-}
-
-#[test]
-fn ranges_of_one_and_of_all_but_one(rt: HostRuntime) -> Result<(), Fail> {
-    let alloc = rt.alloc();
-    let one = AddressSpace::new_io(5u16, 5, None);
-    expect(
-        &rt,
-        alloc,
-        &one,
-        &[
-            0x88, 0x0d, 0x00, 0x01, 0x0c, 0x03, 0x00, 0x00, 0x05, 0x00, 0x05, 0x00, 0x00, 0x00,
-            0x01, 0x00,
-        ],
-    )?;
-    let most = AddressSpace::new_io(1u16, 0xffff, None);
-    expect(
-        &rt,
-        alloc,
-        &most,
-        &[
-            0x88, 0x0d, 0x00, 0x01, 0x0c, 0x03, 0x00, 0x00, 0x01, 0x00, 0xff, 0xff, 0x00, 0x00,
-            0xff, 0xff,
-        ],
-    )
 }
 
 const COM1: [u8; 50] = [

@@ -26,9 +26,23 @@ fn refuses_path<RT: Abort>(rt: &RT, alloc: Global, text: &str, error: Error) {
 #[test]
 fn paths(rt: HostRuntime) -> Result<(), Fail> {
     let alloc = rt.alloc();
-    refuses_path(&rt, alloc, "", Error::NamePart);
-    refuses_path(&rt, alloc, "ABC", Error::NamePart);
-    refuses_path(&rt, alloc, "ABCD.", Error::NamePart);
+    for text in [
+        "",
+        "\\",
+        "ABC",
+        "ABCDE",
+        "ABCD.",
+        ".ABCD",
+        "AB.D",
+        "A.CD",
+        "ABC.DEFG",
+        "ABCD..EFGH",
+        "ABCDEFGHI",
+        "ABCD.EF.H",
+        "ABCD\\EFGH",
+    ] {
+        refuses_path(&rt, alloc, text, Error::NamePart);
+    }
     writes(&rt, alloc, path(alloc, "\\_SB_.COM1"), b"\x5c\x2e_SB_COM1")?;
     writes(
         &rt,
@@ -99,25 +113,55 @@ fn calls(rt: HostRuntime) -> Result<(), Fail> {
 #[test]
 fn variables(rt: HostRuntime) -> Result<(), Fail> {
     let alloc = rt.alloc();
-    expect(&rt, alloc, &Arg(0), &[0x68])?;
-    expect(&rt, alloc, &Arg(6), &[0x6e])?;
-    expect(&rt, alloc, &Local(0), &[0x60])?;
-    expect(&rt, alloc, &Local(7), &[0x67])?;
-    assert_eq!(rt; bytes_of(alloc, &Arg(7)).err(), Some(Error::ArgNumber));
+    for (number, code) in [
+        (0, 0x60),
+        (1, 0x61),
+        (2, 0x62),
+        (3, 0x63),
+        (4, 0x64),
+        (5, 0x65),
+        (6, 0x66),
+        (7, 0x67),
+    ] {
+        expect(&rt, alloc, &Local(number), &[code])?;
+    }
+    for (number, code) in [
+        (0, 0x68),
+        (1, 0x69),
+        (2, 0x6a),
+        (3, 0x6b),
+        (4, 0x6c),
+        (5, 0x6d),
+        (6, 0x6e),
+    ] {
+        expect(&rt, alloc, &Arg(number), &[code])?;
+    }
     assert_eq!(rt; bytes_of(alloc, &Local(8)).err(), Some(Error::LocalNumber));
+    assert_eq!(rt; bytes_of(alloc, &Arg(7)).err(), Some(Error::ArgNumber));
     Ok(())
 }
 
 #[test]
 fn regions(rt: HostRuntime) -> Result<(), Fail> {
     let alloc = rt.alloc();
-    let region = OpRegion::new(
-        path(alloc, "PRST")?,
-        OpRegionSpace::SystemIO,
-        &0xcd8u16,
-        &12u8,
-    );
-    writes(&rt, alloc, region, b"\x5b\x80PRST\x01\x0b\xd8\x0c\x0a\x0c")
+    for (space, number) in [
+        (OpRegionSpace::SystemMemory, 0),
+        (OpRegionSpace::SystemIO, 1),
+        (OpRegionSpace::PCIConfig, 2),
+        (OpRegionSpace::EmbeddedControl, 3),
+        (OpRegionSpace::SMBus, 4),
+        (OpRegionSpace::SystemCMOS, 5),
+        (OpRegionSpace::PciBarTarget, 6),
+        (OpRegionSpace::IPMI, 7),
+        (OpRegionSpace::GeneralPurposeIO, 8),
+        (OpRegionSpace::GenericSerialBus, 9),
+    ] {
+        let mut wanted = *b"\x5b\x80PRST\xff\x0b\xd8\x0c\x0a\x0c";
+        wanted[6] = number;
+        let region = OpRegion::new(path(alloc, "PRST")?, space, &0xcd8u16, &12u8);
+        writes(&rt, alloc, region, &wanted)?;
+    }
+    Ok(())
 }
 
 fn field(alloc: Global, entries: Vec<FieldEntry>) -> R<Field> {
@@ -139,15 +183,56 @@ fn fields(rt: HostRuntime) -> Result<(), Fail> {
         alloc,
         field(alloc, entries),
         b"\x5b\x81\x0dPRST\x41\x00\x20CPEN\x01",
-    )?;
-    let flags = Field::new(
-        path(alloc, "PRST")?,
-        FieldAccessType::Buffer,
-        FieldLockRule::Lock,
-        FieldUpdateRule::WriteAsOnes,
-        Vec::new(alloc),
-    );
-    writes(&rt, alloc, flags, b"\x5b\x81\x06PRST\x35")
+    )
+}
+
+#[test]
+fn field_flags(rt: HostRuntime) -> Result<(), Fail> {
+    let alloc = rt.alloc();
+    for (access, lock, update, flags) in [
+        (
+            FieldAccessType::Any,
+            FieldLockRule::NoLock,
+            FieldUpdateRule::Preserve,
+            0x00,
+        ),
+        (
+            FieldAccessType::Byte,
+            FieldLockRule::Lock,
+            FieldUpdateRule::Preserve,
+            0x11,
+        ),
+        (
+            FieldAccessType::Word,
+            FieldLockRule::NoLock,
+            FieldUpdateRule::WriteAsOnes,
+            0x22,
+        ),
+        (
+            FieldAccessType::DWord,
+            FieldLockRule::Lock,
+            FieldUpdateRule::WriteAsZeroes,
+            0x53,
+        ),
+        (
+            FieldAccessType::QWord,
+            FieldLockRule::NoLock,
+            FieldUpdateRule::WriteAsZeroes,
+            0x44,
+        ),
+        (
+            FieldAccessType::Buffer,
+            FieldLockRule::Lock,
+            FieldUpdateRule::WriteAsOnes,
+            0x35,
+        ),
+    ] {
+        let mut wanted = *b"\x5b\x81\x06PRST\xff";
+        wanted[7] = flags;
+        let field = Field::new(path(alloc, "PRST")?, access, lock, update, Vec::new(alloc));
+        writes(&rt, alloc, field, &wanted)?;
+    }
+    Ok(())
 }
 
 // A field of one reserved entry ends so.
@@ -197,10 +282,12 @@ fn scopes(rt: HostRuntime) -> Result<(), Fail> {
     let alloc = rt.alloc();
     let name = hid(alloc)?;
     let inside: Vec<&dyn Aml> = vec![in alloc; &name as &dyn Aml]?;
+    let wanted = b"\x10\x0b_SB_\x08_HID\x01";
+    writes(&rt, alloc, Scope::new(path(alloc, "_SB_")?, inside), wanted)?;
     let raw = Scope::raw(path(alloc, "_SB_")?, bytes_of(alloc, &name)?)?;
-    writes(&rt, alloc, Scope::new(path(alloc, "_SB_")?, inside), &raw)?;
-    let power = PowerResource::new(path(alloc, "PRSC")?, 0, 0, none(alloc));
-    writes(&rt, alloc, power, b"\x5b\x84\x08PRSC\x00\x00\x00")
+    assert_eq!(rt; raw.as_slice(), wanted.as_slice());
+    let power = PowerResource::new(path(alloc, "PRSC")?, 5, 0x1234, none(alloc));
+    writes(&rt, alloc, power, b"\x5b\x84\x08PRSC\x05\x34\x12")
 }
 
 #[test]
@@ -242,6 +329,12 @@ fn mutexes(rt: HostRuntime) -> Result<(), Fail> {
         alloc,
         &Acquire::new(path(alloc, "MUTX")?, 0xffff),
         b"\x5b\x23MUTX\xff\xff",
+    )?;
+    expect(
+        &rt,
+        alloc,
+        &Acquire::new(path(alloc, "MUTX")?, 0x1234),
+        b"\x5b\x23MUTX\x34\x12",
     )?;
     expect(
         &rt,

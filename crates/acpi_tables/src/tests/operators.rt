@@ -1,260 +1,276 @@
-//! Every operator, byte for byte.
+//! Every operator: its bytes, and the term that they read back to.
 
-use super::{expect, writes};
-use crate::Aml;
+use super::reading::{nothing_stated, prints};
 use crate::aml::{
     Add, And, Arg, Break, Concat, ConcatRes, CreateDWordField, CreateField, CreateQWordField,
     DeRefOf, Decrement, Equal, GreaterEqual, GreaterThan, Increment, Index, LAnd, LOr, LessEqual,
     LessThan, Local, Mid, Mod, Multiply, Nand, Nor, NotEqual, Notify, ONE, ObjectType, Or, Return,
     ShiftLeft, ShiftRight, SizeOf, Store, Subtract, ToBuffer, ToInteger, ToString, While, Xor,
 };
+use crate::{Aml, R};
+use acpi_base::buffer::append_value;
+use std::alloc::Global;
+use std::process::Abort;
 use std::test::Fail;
+
+// What was made writes these bytes, and they read back to this operator over the terms of these lines.
+fn shows<RT: Abort, T: Aml + Drop>(
+    rt: &RT,
+    alloc: Global,
+    made: R<T>,
+    wanted: &[u8],
+    name: &str,
+    operands: &str,
+) -> Result<(), Fail> {
+    let mut bytes = Vec::new(alloc);
+    append_value(&made?, &mut bytes)?;
+    assert_eq!(rt; bytes.as_slice(), wanted);
+    let mut lines = String::from_str(alloc, name)?;
+    lines.push_str(operands)?;
+    prints(rt, alloc, &bytes, &nothing_stated(alloc)?, &lines)
+}
+
+const TO: Local = Local(7);
+
+const A: Local = Local(0);
+
+const B: Arg = Arg(0);
+
+fn targeted<RT: Abort, T: Aml + Drop>(
+    rt: &RT,
+    alloc: Global,
+    made: R<T>,
+    code: u8,
+    name: &str,
+) -> Result<(), Fail> {
+    let operands = "\n  local 0\n  arg 0\n  local 7\n";
+    shows(rt, alloc, made, &[code, 0x60, 0x68, 0x67], name, operands)
+}
+
+fn put<RT: Abort, T: Aml + Drop>(
+    rt: &RT,
+    alloc: Global,
+    made: R<T>,
+    code: u8,
+    name: &str,
+) -> Result<(), Fail> {
+    let operands = "\n  local 0\n  local 7\n";
+    shows(rt, alloc, made, &[code, 0x60, 0x67], name, operands)
+}
+
+fn pair<RT: Abort, T: Aml + Drop>(
+    rt: &RT,
+    alloc: Global,
+    made: R<T>,
+    code: u8,
+    name: &str,
+) -> Result<(), Fail> {
+    let operands = "\n  local 0\n  arg 0\n";
+    shows(rt, alloc, made, &[code, 0x60, 0x68], name, operands)
+}
+
+fn opposite<RT: Abort, T: Aml + Drop>(
+    rt: &RT,
+    alloc: Global,
+    made: R<T>,
+    code: u8,
+    name: &str,
+) -> Result<(), Fail> {
+    let operands = "\n    local 0\n    arg 0\n";
+    shows(rt, alloc, made, &[0x92, code, 0x60, 0x68], name, operands)
+}
+
+fn single<RT: Abort, T: Aml + Drop>(
+    rt: &RT,
+    alloc: Global,
+    made: R<T>,
+    code: u8,
+    name: &str,
+) -> Result<(), Fail> {
+    shows(rt, alloc, made, &[code, 0x60], name, "\n  local 0\n")
+}
+
+#[test]
+fn sums(rt: HostRuntime) -> Result<(), Fail> {
+    let alloc = rt.alloc();
+    targeted(&rt, alloc, Add::new(alloc, &TO, &A, &B), 0x72, "add")?;
+    targeted(
+        &rt,
+        alloc,
+        Subtract::new(alloc, &TO, &A, &B),
+        0x74,
+        "subtract",
+    )?;
+    targeted(
+        &rt,
+        alloc,
+        Multiply::new(alloc, &TO, &A, &B),
+        0x77,
+        "multiply",
+    )?;
+    targeted(&rt, alloc, Mod::new(alloc, &TO, &A, &B), 0x85, "mod")?;
+    targeted(
+        &rt,
+        alloc,
+        ShiftLeft::new(alloc, &TO, &A, &B),
+        0x79,
+        "shiftleft",
+    )?;
+    targeted(
+        &rt,
+        alloc,
+        ShiftRight::new(alloc, &TO, &A, &B),
+        0x7a,
+        "shiftright",
+    )
+}
+
+#[test]
+fn bits(rt: HostRuntime) -> Result<(), Fail> {
+    let alloc = rt.alloc();
+    targeted(&rt, alloc, And::new(alloc, &TO, &A, &B), 0x7b, "and")?;
+    targeted(&rt, alloc, Nand::new(alloc, &TO, &A, &B), 0x7c, "nand")?;
+    targeted(&rt, alloc, Or::new(alloc, &TO, &A, &B), 0x7d, "or")?;
+    targeted(&rt, alloc, Nor::new(alloc, &TO, &A, &B), 0x7e, "nor")?;
+    targeted(&rt, alloc, Xor::new(alloc, &TO, &A, &B), 0x7f, "xor")
+}
+
+#[test]
+fn joins_and_fields(rt: HostRuntime) -> Result<(), Fail> {
+    let alloc = rt.alloc();
+    targeted(&rt, alloc, Concat::new(alloc, &TO, &A, &B), 0x73, "concat")?;
+    targeted(
+        &rt,
+        alloc,
+        ConcatRes::new(alloc, &TO, &A, &B),
+        0x84,
+        "concatres",
+    )?;
+    targeted(&rt, alloc, Index::new(alloc, &TO, &A, &B), 0x88, "index")?;
+    targeted(
+        &rt,
+        alloc,
+        ToString::new(alloc, &TO, &A, &B),
+        0x9c,
+        "tostring",
+    )?;
+    targeted(
+        &rt,
+        alloc,
+        CreateDWordField::new(alloc, &TO, &A, &B),
+        0x8a,
+        "createdwordfield",
+    )?;
+    targeted(
+        &rt,
+        alloc,
+        CreateQWordField::new(alloc, &TO, &A, &B),
+        0x8f,
+        "createqwordfield",
+    )
+}
+
+#[test]
+fn values_put(rt: HostRuntime) -> Result<(), Fail> {
+    let alloc = rt.alloc();
+    put(&rt, alloc, Store::new(alloc, &TO, &A), 0x70, "store")?;
+    put(&rt, alloc, ToBuffer::new(alloc, &TO, &A), 0x96, "tobuffer")?;
+    put(
+        &rt,
+        alloc,
+        ToInteger::new(alloc, &TO, &A),
+        0x99,
+        "tointeger",
+    )
+}
 
 #[test]
 fn comparisons(rt: HostRuntime) -> Result<(), Fail> {
     let alloc = rt.alloc();
-    writes(
+    pair(&rt, alloc, Equal::new(alloc, &A, &B), 0x93, "lequal")?;
+    pair(&rt, alloc, LessThan::new(alloc, &A, &B), 0x95, "lless")?;
+    pair(
         &rt,
         alloc,
-        Equal::new(alloc, &Local(0), &Arg(0)),
-        &[0x93, 0x60, 0x68],
+        GreaterThan::new(alloc, &A, &B),
+        0x94,
+        "lgreater",
     )?;
-    writes(
-        &rt,
-        alloc,
-        LessThan::new(alloc, &Local(0), &Arg(0)),
-        &[0x95, 0x60, 0x68],
-    )?;
-    writes(
-        &rt,
-        alloc,
-        GreaterThan::new(alloc, &Local(0), &Arg(0)),
-        &[0x94, 0x60, 0x68],
-    )?;
-    writes(
-        &rt,
-        alloc,
-        LAnd::new(alloc, &Local(0), &Arg(0)),
-        &[0x90, 0x60, 0x68],
-    )?;
-    writes(
-        &rt,
-        alloc,
-        LOr::new(alloc, &Local(0), &Arg(0)),
-        &[0x91, 0x60, 0x68],
-    )?;
-    Ok(())
+    pair(&rt, alloc, LAnd::new(alloc, &A, &B), 0x90, "land")?;
+    pair(&rt, alloc, LOr::new(alloc, &A, &B), 0x91, "lor")?;
+    pair(&rt, alloc, Notify::new(alloc, &A, &B), 0x86, "notify")
 }
 
 #[test]
-fn opposites_and_kinds(rt: HostRuntime) -> Result<(), Fail> {
+fn opposites(rt: HostRuntime) -> Result<(), Fail> {
     let alloc = rt.alloc();
-    writes(
+    opposite(
         &rt,
         alloc,
-        NotEqual::new(alloc, &Local(0), &Arg(0)),
-        &[0x92, 0x93, 0x60, 0x68],
+        NotEqual::new(alloc, &A, &B),
+        0x93,
+        "lnot\n  lequal",
     )?;
-    writes(
+    opposite(
         &rt,
         alloc,
-        GreaterEqual::new(alloc, &Local(0), &Arg(0)),
-        &[0x92, 0x95, 0x60, 0x68],
+        GreaterEqual::new(alloc, &A, &B),
+        0x95,
+        "lnot\n  lless",
     )?;
-    writes(
+    opposite(
         &rt,
         alloc,
-        LessEqual::new(alloc, &Local(0), &Arg(0)),
-        &[0x92, 0x94, 0x60, 0x68],
-    )?;
-    writes(&rt, alloc, ObjectType::new(alloc, &Local(0)), &[0x8e, 0x60])?;
-    writes(&rt, alloc, SizeOf::new(alloc, &Local(0)), &[0x87, 0x60])?;
-    Ok(())
+        LessEqual::new(alloc, &A, &B),
+        0x94,
+        "lnot\n  lgreater",
+    )
 }
 
 #[test]
 fn values_of_one(rt: HostRuntime) -> Result<(), Fail> {
     let alloc = rt.alloc();
-    writes(&rt, alloc, Return::new(alloc, &Local(0)), &[0xa4, 0x60])?;
-    writes(&rt, alloc, DeRefOf::new(alloc, &Local(0)), &[0x83, 0x60])?;
-    writes(&rt, alloc, Increment::new(alloc, &Local(0)), &[0x75, 0x60])?;
-    writes(&rt, alloc, Decrement::new(alloc, &Local(0)), &[0x76, 0x60])?;
-    writes(
-        &rt,
-        alloc,
-        Add::new(alloc, &Local(7), &Local(0), &Arg(0)),
-        &[0x72, 0x60, 0x68, 0x67],
-    )?;
-    Ok(())
+    single(&rt, alloc, ObjectType::new(alloc, &A), 0x8e, "objecttype")?;
+    single(&rt, alloc, SizeOf::new(alloc, &A), 0x87, "sizeof")?;
+    single(&rt, alloc, DeRefOf::new(alloc, &A), 0x83, "derefof")?;
+    single(&rt, alloc, Return::new(alloc, &A), 0xa4, "return")?;
+    single(&rt, alloc, Increment::new(alloc, &A), 0x75, "increment")?;
+    single(&rt, alloc, Decrement::new(alloc, &A), 0x76, "decrement")
 }
 
 #[test]
-fn sums_and_joins(rt: HostRuntime) -> Result<(), Fail> {
+fn of_four(rt: HostRuntime) -> Result<(), Fail> {
     let alloc = rt.alloc();
-    writes(
-        &rt,
-        alloc,
-        Concat::new(alloc, &Local(7), &Local(0), &Arg(0)),
-        &[0x73, 0x60, 0x68, 0x67],
-    )?;
-    writes(
-        &rt,
-        alloc,
-        Subtract::new(alloc, &Local(7), &Local(0), &Arg(0)),
-        &[0x74, 0x60, 0x68, 0x67],
-    )?;
-    writes(
-        &rt,
-        alloc,
-        Multiply::new(alloc, &Local(7), &Local(0), &Arg(0)),
-        &[0x77, 0x60, 0x68, 0x67],
-    )?;
-    writes(
-        &rt,
-        alloc,
-        ShiftLeft::new(alloc, &Local(7), &Local(0), &Arg(0)),
-        &[0x79, 0x60, 0x68, 0x67],
-    )?;
-    writes(
-        &rt,
-        alloc,
-        ShiftRight::new(alloc, &Local(7), &Local(0), &Arg(0)),
-        &[0x7a, 0x60, 0x68, 0x67],
-    )?;
-    Ok(())
-}
-
-#[test]
-fn shifts_and_bits(rt: HostRuntime) -> Result<(), Fail> {
-    let alloc = rt.alloc();
-    writes(
-        &rt,
-        alloc,
-        And::new(alloc, &Local(7), &Local(0), &Arg(0)),
-        &[0x7b, 0x60, 0x68, 0x67],
-    )?;
-    writes(
-        &rt,
-        alloc,
-        Nand::new(alloc, &Local(7), &Local(0), &Arg(0)),
-        &[0x7c, 0x60, 0x68, 0x67],
-    )?;
-    writes(
-        &rt,
-        alloc,
-        Or::new(alloc, &Local(7), &Local(0), &Arg(0)),
-        &[0x7d, 0x60, 0x68, 0x67],
-    )?;
-    writes(
-        &rt,
-        alloc,
-        Nor::new(alloc, &Local(7), &Local(0), &Arg(0)),
-        &[0x7e, 0x60, 0x68, 0x67],
-    )?;
-    writes(
-        &rt,
-        alloc,
-        Xor::new(alloc, &Local(7), &Local(0), &Arg(0)),
-        &[0x7f, 0x60, 0x68, 0x67],
-    )?;
-    Ok(())
-}
-
-#[test]
-fn bits_and_templates(rt: HostRuntime) -> Result<(), Fail> {
-    let alloc = rt.alloc();
-    writes(
-        &rt,
-        alloc,
-        ConcatRes::new(alloc, &Local(7), &Local(0), &Arg(0)),
-        &[0x84, 0x60, 0x68, 0x67],
-    )?;
-    writes(
-        &rt,
-        alloc,
-        Mod::new(alloc, &Local(7), &Local(0), &Arg(0)),
-        &[0x85, 0x60, 0x68, 0x67],
-    )?;
-    writes(
-        &rt,
-        alloc,
-        Index::new(alloc, &Local(7), &Local(0), &Arg(0)),
-        &[0x88, 0x60, 0x68, 0x67],
-    )?;
-    writes(
-        &rt,
-        alloc,
-        ToString::new(alloc, &Local(7), &Local(0), &Arg(0)),
-        &[0x9c, 0x60, 0x68, 0x67],
-    )?;
-    writes(
-        &rt,
-        alloc,
-        CreateDWordField::new(alloc, &Local(7), &Local(0), &Arg(0)),
-        &[0x8a, 0x60, 0x68, 0x67],
-    )?;
-    Ok(())
-}
-
-#[test]
-fn parts_and_fields(rt: HostRuntime) -> Result<(), Fail> {
-    let alloc = rt.alloc();
-    writes(
-        &rt,
-        alloc,
-        CreateQWordField::new(alloc, &Local(7), &Local(0), &Arg(0)),
-        &[0x8f, 0x60, 0x68, 0x67],
-    )?;
-    writes(
-        &rt,
-        alloc,
-        ToBuffer::new(alloc, &Local(7), &Arg(0)),
-        &[0x96, 0x68, 0x67],
-    )?;
-    writes(
-        &rt,
-        alloc,
-        ToInteger::new(alloc, &Local(7), &Arg(0)),
-        &[0x99, 0x68, 0x67],
-    )?;
-    writes(
-        &rt,
-        alloc,
-        Store::new(alloc, &Local(7), &Arg(0)),
-        &[0x70, 0x68, 0x67],
-    )?;
-    writes(
-        &rt,
-        alloc,
-        Notify::new(alloc, &Local(0), &Arg(0)),
-        &[0x86, 0x60, 0x68],
-    )?;
-    Ok(())
-}
-
-#[test]
-fn conversions(rt: HostRuntime) -> Result<(), Fail> {
-    let alloc = rt.alloc();
-    writes(
+    shows(
         &rt,
         alloc,
         Mid::new(alloc, &Local(0), &Local(1), &Local(2), &Local(3)),
         &[0x9e, 0x60, 0x61, 0x62, 0x63],
+        "mid",
+        "\n  local 0\n  local 1\n  local 2\n  local 3\n",
     )?;
-    writes(
+    shows(
         &rt,
         alloc,
         CreateField::new(alloc, &Local(7), &Local(0), &Local(1), &Local(2)),
         &[0x5b, 0x13, 0x60, 0x61, 0x62, 0x67],
-    )?;
-    Ok(())
+        "createfield",
+        "\n  local 0\n  local 1\n  local 2\n  local 7\n",
+    )
 }
 
 #[test]
 fn breaks(rt: HostRuntime) -> Result<(), Fail> {
     let alloc = rt.alloc();
+    shows(&rt, alloc, Ok(Break::new()), &[0xa5], "break", "\n")?;
     let end = Break::new();
     let body: Vec<&dyn Aml> = vec![in alloc; &end as &dyn Aml]?;
-    let endless = While::new(&ONE, body)?;
-    expect(&rt, alloc, &endless, &[0xa2, 0x03, 0x01, 0xa5])
+    shows(
+        &rt,
+        alloc,
+        While::new(&ONE, body),
+        &[0xa2, 0x03, 0x01, 0xa5],
+        "while",
+        "\n  number 1\n  break\n",
+    )
 }

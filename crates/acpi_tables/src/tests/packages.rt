@@ -2,6 +2,7 @@
 
 use super::{bytes_of, expect};
 use crate::aml::{Arg, ONE, Package, PackageBuilder, Path, Scope, VarPackageTerm, ZERO};
+use crate::sdt::{Sdt, append_object};
 use crate::{Aml, AmlSink, Checksum, Error, u8sum};
 use std::alloc::Global;
 use std::test::Fail;
@@ -24,6 +25,63 @@ fn two_elements(rt: HostRuntime) -> Result<(), Fail> {
     let sink: &mut dyn AmlSink = &mut checksum;
     package.to_aml_bytes(sink)?;
     assert_eq!(rt; checksum.raw_value(), 0x19);
+    Ok(())
+}
+
+// The package in a table, whose checksum is 41.
+#[test]
+fn a_table_of_a_package(rt: HostRuntime) -> Result<(), Fail> {
+    let alloc = rt.alloc();
+    let package = Package::new(vec![in alloc; &ZERO as &dyn Aml, &ONE]?)?;
+    let mut table = Sdt::new(
+        alloc,
+        *b"DSDT",
+        36,
+        2,
+        *b"FOOBAR",
+        *b"CAFEDEAD",
+        0xdead_beef,
+    )?;
+    append_object(&package, &mut table)?;
+    assert_eq!(rt;
+        table.as_slice(),
+        b"DSDT\x29\0\0\0\x02\x41FOOBARCAFEDEAD\xef\xbe\xad\xdeRVAT\0\0\0\x01\x12\x04\x02\x00\x01".as_slice()
+    );
+    Ok(())
+}
+
+// A boxed object is given to each sink as the object itself is.
+#[test]
+fn a_boxed_package(rt: HostRuntime) -> Result<(), Fail> {
+    let alloc = rt.alloc();
+    let package = Package::new(vec![in alloc; &ZERO as &dyn Aml, &ONE]?)?;
+    let boxed: Box<dyn Aml + Drop> = Box::new(alloc, package)?;
+    let wanted = [0x12, 0x04, 0x02, 0x00, 0x01];
+    let mut bytes = Vec::new(alloc);
+    boxed.to_aml_bytes(&mut bytes)?;
+    assert_eq!(rt; bytes.as_slice(), wanted.as_slice());
+    let mut checksum = Checksum::default();
+    boxed.to_aml_bytes(&mut checksum)?;
+    assert_eq!(rt; checksum.raw_value(), 0x19);
+    let mut builder = PackageBuilder::new(alloc);
+    boxed.to_aml_bytes(&mut builder)?;
+    expect(
+        &rt,
+        alloc,
+        &builder,
+        &[0x12, 0x07, 0x00, 0x12, 0x04, 0x02, 0x00, 0x01],
+    )?;
+    let mut table = Sdt::new(
+        alloc,
+        *b"DSDT",
+        36,
+        2,
+        *b"FOOBAR",
+        *b"CAFEDEAD",
+        0xdead_beef,
+    )?;
+    boxed.to_aml_bytes(&mut table)?;
+    assert_eq!(rt; table.as_slice().get(36..), Some(wanted.as_slice()));
     Ok(())
 }
 

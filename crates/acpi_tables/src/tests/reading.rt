@@ -2,7 +2,6 @@
 
 mod buffers;
 mod objects;
-mod operators;
 mod values;
 mod widths;
 
@@ -13,7 +12,7 @@ use std::alloc::Global;
 use std::process::Abort;
 use std::test::Fail;
 
-fn nothing_stated(alloc: Global) -> Result<Arities, Fail> {
+pub(super) fn nothing_stated(alloc: Global) -> Result<Arities, Fail> {
     Ok(Arities::new(Vec::new(alloc))?)
 }
 
@@ -29,7 +28,7 @@ fn tells<RT: Abort>(rt: &RT, alloc: Global, terms: &[Term], lines: &str) -> Resu
 }
 
 // Bytes are read as the terms of these lines.
-fn prints<RT: Abort>(
+pub(super) fn prints<RT: Abort>(
     rt: &RT,
     alloc: Global,
     bytes: &[u8],

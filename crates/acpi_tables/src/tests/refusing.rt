@@ -2,7 +2,7 @@
 
 ghost use Rattle.acpi_tables.specs.Refusing.{short_of, short_takes_nothing, short_takes_beginning, broken, broken_ends_well};
 
-use super::bytes_of;
+use super::{bytes_of, expect};
 use crate::aml::{
     Add, Arg, Device, Else, If, Method, MethodCall, Name, NotEqual, ONE, OpRegion, OpRegionSpace,
     Package, PackageBuilder, Path, PowerResource, Scope, Store, VarPackageTerm, While, ZERO,
@@ -78,6 +78,12 @@ fn starve<RT: Abort>(rt: &RT, alloc: Global, aml: &dyn Aml) -> Result<(), Fail> 
 fn sinks_that_refuse(rt: HostRuntime) -> Result<(), Fail> {
     let alloc = rt.alloc();
     starve(&rt, alloc, &0x1234_5678u32)?;
+    expect(
+        &rt,
+        alloc,
+        &device(alloc)?,
+        b"\x5b\x82\x12\x2e_SB_COM1\x08_HID\x0b\x34\x12",
+    )?;
     starve(&rt, alloc, &device(alloc)?)?;
     let mut table = Sdt::new(
         alloc,

@@ -1,8 +1,11 @@
 //! Checksums, numbers, constants and tables, byte for byte.
 
+mod registers;
+mod values;
+
 use super::{bytes_of, expect};
 use crate::aml::{ONE, ONES, Usize, ZERO};
-use crate::sdt::{GenericAddress, Sdt};
+use crate::sdt::Sdt;
 use crate::{AmlSink, Checksum, Error, R, u8sum};
 use std::alloc::Global;
 use std::process::Abort;
@@ -91,16 +94,30 @@ fn dsdt(alloc: Global) -> R<Sdt> {
     )
 }
 
+// The table has this length, checksum and contents, and the rest of its header is that of `dsdt`.
+fn whole_is<RT: Abort>(rt: &RT, table: &Sdt, len: u8, checksum: u8, contents: &[u8]) {
+    let mut header = *b"DSDT\0\0\0\0\x02\0FOOBARCAFEDEAD\xef\xbe\xad\xdeRVAT\0\0\0\x01";
+    header[4] = len;
+    header[9] = checksum;
+    assert_eq!(rt; table.len(), 36 + contents.len());
+    assert_eq!(rt; table.as_slice().get(..36), Some(header.as_slice()));
+    assert_eq!(rt; table.as_slice().get(36..), Some(contents));
+}
+
 #[test]
 fn tables(rt: HostRuntime) -> Result<(), Fail> {
     let mut table = dsdt(rt.alloc())?;
-    assert_eq!(rt; table.len(), 36);
     assert!(rt; !table.is_empty());
-    assert_eq!(rt; table.as_slice().get(9), Some(&0x5f));
+    whole_is(&rt, &table, 36, 0x5f, &[]);
     table.append_slice(&[])?;
-    assert_eq!(rt; bytes_of(rt.alloc(), &table)?.as_slice(), table.as_slice());
+    whole_is(&rt, &table, 36, 0x5f, &[]);
     table.update_checksum();
-    assert_eq!(rt; table.as_slice().get(9), Some(&0x5f));
+    whole_is(&rt, &table, 36, 0x5f, &[]);
+    assert_eq!(rt; bytes_of(rt.alloc(), &table)?.as_slice(), table.as_slice());
+    table.append_slice(&[0x12, 0x04, 0x02, 0x00, 0x01])?;
+    whole_is(&rt, &table, 41, 0x41, &[0x12, 0x04, 0x02, 0x00, 0x01]);
+    table.update_checksum();
+    whole_is(&rt, &table, 41, 0x41, &[0x12, 0x04, 0x02, 0x00, 0x01]);
     Ok(())
 }
 
@@ -114,22 +131,16 @@ fn short_tables(rt: HostRuntime) -> Result<(), Fail> {
     Ok(())
 }
 
-// The empty block of a length of 36, at whose offset 9 stands the checksum.
-fn checksum_is<RT: Abort>(rt: &RT, table: &Sdt, len: usize, checksum: u8) {
-    assert_eq!(rt; table.len(), len);
-    assert_eq!(rt; table.as_slice().get(9), Some(&checksum));
-}
-
 #[test]
 fn values_at_the_end_and_at_offsets(rt: HostRuntime) -> Result<(), Fail> {
     let mut table = dsdt(rt.alloc())?;
     table.append(0x1234u16)?;
-    checksum_is(&rt, &table, 38, 0x17);
+    whole_is(&rt, &table, 38, 0x17, &[0x34, 0x12]);
     assert!(rt; 36 < table.len());
     table.write_u8(36, 0);
-    checksum_is(&rt, &table, 38, 0x4b);
+    whole_is(&rt, &table, 38, 0x4b, &[0x00, 0x12]);
     table.append([0u8; 0])?;
-    checksum_is(&rt, &table, 38, 0x4b);
+    whole_is(&rt, &table, 38, 0x4b, &[0x00, 0x12]);
     Ok(())
 }
 
@@ -138,50 +149,32 @@ fn a_length_that_the_caller_wrote(rt: HostRuntime) -> Result<(), Fail> {
     let mut table = dsdt(rt.alloc())?;
     assert_eq!(rt; table.len(), 36);
     table.write_u8(9, 0xff);
-    checksum_is(&rt, &table, 36, 0x5f);
+    whole_is(&rt, &table, 36, 0x5f, &[]);
     assert_eq!(rt; table.len(), 36);
     table.write_u32(4, 1000);
-    checksum_is(&rt, &table, 36, 0x98);
-    assert!(rt; table.as_slice().starts_with(b"DSDT\xe8\x03\0\0"));
+    assert_eq!(rt; table.len(), 36);
+    assert!(rt; table.as_slice().starts_with(b"DSDT\xe8\x03\0\0\x02\x98"));
     table.byte(0xaa)?;
-    checksum_is(&rt, &table, 37, 0xb4);
-    assert!(rt; table.as_slice().starts_with(b"DSDT\x25\0\0\0"));
+    whole_is(&rt, &table, 37, 0xb4, &[0xaa]);
     Ok(())
 }
 
 #[test]
-fn values_of_every_width(rt: HostRuntime) -> Result<(), Fail> {
+fn a_table_as_a_sink(rt: HostRuntime) -> Result<(), Fail> {
     let mut table = dsdt(rt.alloc())?;
-    table.append(0x0102_0304_0506_0708u64)?;
-    table.append(0x1122_3344u32)?;
-    table.append(0x99u8)?;
-    table.append(GenericAddress::io_port_address::<u32>(0x3f8))?;
-    assert!(rt;
-        table.as_slice().ends_with(&[
-            8, 7, 6, 5, 4, 3, 2, 1, 0x44, 0x33, 0x22, 0x11, 0x99, 1, 0x20, 0, 3, 0xf8, 3, 0, 0, 0,
-            0, 0, 0
-        ])
+    table.byte(0x12)?;
+    table.word(0x3456)?;
+    table.dword(0x789a_bcde)?;
+    table.qword(0x0102_0304_0506_0708)?;
+    table.vec(&[0xaa, 0xbb])?;
+    whole_is(
+        &rt,
+        &table,
+        53,
+        0x7d,
+        &[
+            0x12, 0x56, 0x34, 0xde, 0xbc, 0x9a, 0x78, 8, 7, 6, 5, 4, 3, 2, 1, 0xaa, 0xbb,
+        ],
     );
-    Ok(())
-}
-
-#[test]
-fn values_written_over(rt: HostRuntime) -> Result<(), Fail> {
-    let mut table = Sdt::new(rt.alloc(), *b"SSDT", 60, 2, *b"FOOBAR", *b"CAFEDEAD", 1)?;
-    assert_eq!(rt; table.len(), 60);
-    table.write(36, GenericAddress::mmio_address::<u64>(0x1000));
-    assert_eq!(rt; table.len(), 60);
-    table.write_u16(48, 0x1234);
-    assert_eq!(rt; table.len(), 60);
-    table.write_u64(50, 0x0102_0304_0506_0708);
-    assert_eq!(rt; table.len(), 60);
-    table.write_bytes(58, &[0xab, 0xcd]);
-    assert!(rt;
-        table.as_slice().ends_with(&[
-            0, 0x40, 0, 4, 0, 0x10, 0, 0, 0, 0, 0, 0, 0x34, 0x12, 8, 7, 6, 5, 4, 3, 2, 1, 0xab,
-            0xcd
-        ])
-    );
-    assert_eq!(rt; u8sum(&table)?, 0);
     Ok(())
 }

@@ -60,6 +60,22 @@ fn refuses_words(rt: HostRuntime) -> Result<(), Fail> {
 }
 
 #[test]
+fn takes_up_to_seven(rt: HostRuntime) -> Result<(), Fail> {
+    let path = path(&rt, rt.process(), "seven")?;
+    let file = path.as_str();
+    let bytes = b"MTHD\x60\x61\x62\x63\x64\x65\x66";
+    let locals = "local 0\nlocal 1\nlocal 2\nlocal 3\nlocal 4\nlocal 5\nlocal 6\n";
+    let none = format!(in rt.alloc(); "name MTHD args 0\n{locals}")?;
+    prints(&rt, file, bytes, &["aml", file, "MTHD=0"], none.as_str())?;
+    let mut all = String::from_str(rt.alloc(), "name MTHD args 7\n")?;
+    for line in locals.lines() {
+        writeln!(all, "  {line}")?;
+    }
+    prints(&rt, file, bytes, &["aml", file, "MTHD=7"], all.as_str())?;
+    Ok(())
+}
+
+#[test]
 fn tells_rooted_names_apart(rt: HostRuntime) -> Result<(), Fail> {
     let path = path(&rt, rt.process(), "rooted")?;
     let file = path.as_str();

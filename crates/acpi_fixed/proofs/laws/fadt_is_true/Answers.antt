@@ -1,12 +1,16 @@
-use Rattle.std.proofs.Common.{rules, sym, ◌∙◌, ap, length}
-use Rattle.acpi_fixed.proofs.Tables.{fadt_told, fadt_zero}
+use Rattle.std.proofs.Common.{◌≡◌, length, rules}
+use Rattle.acpi_fixed.specs.Fadt.{builder_bytes}
+use Rattle.acpi_fixed.proofs.Tables.{length-builder, length-fadt, fadt_is_zero, true_fadt}
 use Rattle.acpi_fixed.proofs.laws.fadt_is_true.Goals as goal
 
-pub returns-clause-long : goal.returns-clause-long
-returns-clause-long c = sym (ap length c.bytes.ensures.bytes) ∙ c.bytes.ensures.len
+size : (c : goal.Start) → length (builder_bytes c.args.fields) ≡ 276
+size c = length-builder c.args.fields (search rules) (search rules) (search rules) (search rules) (search rules)
 
-pub returns-clause-told : goal.returns-clause-told
-returns-clause-told c = fadt_told c.args.table.now (search rules)
+pub returns-clause-size : goal.returns-clause-size
+returns-clause-size c = length-fadt c.args.fields (size c)
 
 pub returns-clause-zero : goal.returns-clause-zero
-returns-clause-zero c = fadt_zero c.args.table.now (search rules)
+returns-clause-zero c = fadt_is_zero c.args.fields (size c)
+
+pub returns-clause-table : goal.returns-clause-table
+returns-clause-table c = true_fadt c.args.fields (search rules) (size c)

@@ -1,9 +1,14 @@
-use Rattle.std.proofs.Common.{List, string_bytes}
-use Rattle.acpi_term.specs.declared.term.Term.{Term}
-use Rattle.acpi_term.specs.View.{views}
-use Rattle.acpi_read.specs.Lines.{lines}
-use Rattle.acpi_read.proofs.Told.{Goes}
+use Rattle.std.proofs.Common.{◌+◌, ◌*◌, string_bytes}
+use Rattle.acpi_term.specs.Tree.{depth}
+use Rattle.acpi_term.specs.View.{view, views, single}
+use Rattle.acpi_read.proofs.Lines.{Going}
 use Rattle.acpi_read.proofs.report.+report.Given as goal
 
+abbrev pub decreases-push_terms : goal.decreases-push_terms
+decreases-push_terms l = 2 * depth (views l.terms.now) + 1
+
+abbrev pub decreases-push_term : goal.decreases-push_term
+decreases-push_term l = 2 * depth (single (view l.term.now))
+
 abbrev pub invariant-push_terms-loop-term : goal.invariant-push_terms-loop-term
-invariant-push_terms-loop-term l = Goes (λ (terms : List Term). lines l.depth (views terms)) l.terms l.term-index (string_bytes l.initial.text) (string_bytes l.text)
+invariant-push_terms-loop-term l = Going l.depth l.terms l.term-index l.sizes l.left (string_bytes l.initial.text) (string_bytes l.text)

@@ -2,7 +2,7 @@ use Rattle.std.proofs.Common.{List, map, string_bytes}
 use Rattle.acpi_term.specs.declared.term.TermEntry.{TermEntry}
 use Rattle.acpi_term.specs.View.{entry_view}
 use Rattle.acpi_read.specs.Lines.{entry_lines}
-use Rattle.acpi_read.proofs.Told.{Goes}
+use Rattle.acpi_read.proofs.Texts.{Goes}
 use Rattle.acpi_read.proofs.report.push_entries.Given as goal
 
 abbrev pub invariant-loop-entry : goal.invariant-loop-entry

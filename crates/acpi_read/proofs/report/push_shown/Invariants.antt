@@ -1,6 +1,6 @@
 use Rattle.std.proofs.Common.{map, string_bytes}
 use Rattle.acpi_read.specs.Report.{printable}
-use Rattle.acpi_read.proofs.Told.{Goes}
+use Rattle.acpi_read.proofs.Texts.{Goes}
 use Rattle.acpi_read.proofs.report.push_shown.Given as goal
 
 abbrev pub invariant-loop-byte : goal.invariant-loop-byte

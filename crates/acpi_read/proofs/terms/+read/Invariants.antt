@@ -1,7 +1,7 @@
 use Rattle.std.proofs.Common.{◌+◌, ◌*◌, length}
 use Rattle.acpi_term.specs.Arity.{arity}
 use Rattle.acpi_term.specs.View.{views}
-use Rattle.acpi_term.proofs.Reading.{term_at}
+use Rattle.acpi_term.specs.Reading.{term_at}
 use Rattle.acpi_read.proofs.TermLists.{SeveralRead, AllRead}
 use Rattle.acpi_read.proofs.terms.+read.Given as goal
 

@@ -9,4 +9,4 @@ pub returns-clause-ok : goal.returns-clause-ok
 returns-clause-ok c = is_read (arity c.args.arities.now) c.args.bytes.now (λ v. views v.items) c.all.result (bytes_each c.args.bytes.now (λ i. omega (arith, c.type_inv.bytes i))) c.all.ensures.gives
 
 pub returns-clause-err : goal.returns-clause-err
-returns-clause-err c = is_unread (arity c.args.arities.now) c.args.bytes.now (λ v. views v.items) c.all.result c.all.ensures.gives c.all.ensures.told
+returns-clause-err c = is_unread (arity c.args.arities.now) c.args.bytes.now (λ v. views v.items) c.all.result c.all.ensures.gives c.all.ensures.placed

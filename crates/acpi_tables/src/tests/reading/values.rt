@@ -5,7 +5,7 @@ use crate::aml::{
     AmlString, Arg, Local, MethodCall, Name, ONE, ONES, Package, PackageBuilder, Path,
     VarPackageTerm, ZERO,
 };
-use crate::read::terms_of;
+use crate::read::{NameString, ReadError, terms, terms_of};
 use crate::{Aml, AmlSink, Error};
 use std::test::Fail;
 
@@ -94,6 +94,38 @@ fn paths(rt: HostRuntime) -> Result<(), Fail> {
         Name::new(Path::new(alloc, "_UID")?, &7u8),
         "define _UID\n  number 7\n",
     )
+}
+
+// The characters next to those of a name's parts.
+#[test]
+fn name_characters(rt: HostRuntime) -> Result<(), Fail> {
+    let alloc = rt.alloc();
+    for text in ["AZ_9", "ZA0_", "_9Z0"] {
+        assert_eq!(rt; NameString::new(alloc, text)?.as_bytes(), text.as_bytes());
+    }
+    for text in [
+        "@BCD",
+        "[BCD",
+        "^BCD",
+        "`BCD",
+        "0BCD",
+        "9BCD",
+        "A/CD",
+        "AB:D",
+        "ABC@",
+        "A[CD",
+        "AB^D",
+        "ABC`",
+        "AB.D",
+        "ABCD.AB.D",
+    ] {
+        assert_eq!(rt;
+            NameString::new(alloc, text).err(),
+            Some(ReadError::NameText)
+        );
+        assert!(rt; terms(text.as_bytes(), &nothing_stated(alloc)?).is_err());
+    }
+    Ok(())
 }
 
 #[test]

@@ -1,7 +1,9 @@
 //! Widths that no writer of ours chooses: they are read, kept and told.
 
 use super::{nothing_stated, prints};
-use crate::read::terms;
+use crate::aml::BufferData;
+use crate::read::{Term, terms};
+use acpi_base::buffer::append_value;
 use std::test::Fail;
 
 #[test]
@@ -44,6 +46,32 @@ fn frames(rt: HostRuntime) -> Result<(), Fail> {
         "buffer data ab width 3\n  number 0\n",
     )?;
     assert!(rt; terms(&[0x12, 0x05, 0x02, 0x00, 0x01], &none).is_err());
+    Ok(())
+}
+
+// A length of four bytes whose last one counts.
+#[test]
+fn long_frames(rt: HostRuntime) -> Result<(), Fail> {
+    let alloc = rt.alloc();
+    let long = BufferData::new(vec![in alloc; 0xabu8; 0x10_0000]?)?;
+    let mut bytes = Vec::new(alloc);
+    append_value(&long, &mut bytes)?;
+    assert!(rt;
+        bytes.starts_with(&[
+            0x11, 0xc9, 0x00, 0x00, 0x01, 0x0c, 0x00, 0x00, 0x10, 0x00, 0xab
+        ])
+    );
+    let none = nothing_stated(alloc)?;
+    assert!(rt;
+        matches!(
+            terms(&bytes, &none)?.as_slice(),
+            [Term::Buffer { width: 4, .. }]
+        )
+    );
+    bytes.push(0)?;
+    assert_eq!(rt; terms(&bytes, &none)?.len(), 2);
+    bytes[4] = 0x02;
+    assert!(rt; terms(&bytes, &none).is_err());
     Ok(())
 }
 

@@ -1,5 +1,6 @@
-use Rattle.std.proofs.Common.{inr}
+use Rattle.std.proofs.Common.{rules, inr}
 use Rattle.std.proofs.lemmas.List.{take_rest}
+use Rattle.acpiread_run.proofs.Faults.{table_memory}
 use Rattle.acpiread_run.proofs.report.dsdt_report.Goals as goal
 
 pub returns-in-Err-clause-err : goal.returns-in-Err-clause-err
@@ -15,3 +16,6 @@ returns-clause-ok c = record {
   read = rw take_rest at c.in-Ok.ensures.ok;
   is = rw (← c.in_ok-text.ensures.ok.is, ← c.deref.ensures.value, ← c.in_ok-lines.ensures.ok, ← c.as_str.ensures.value) c.in_ok-push_str.ensures.bytes;
 }
+
+pub returns-in_err-push_str-clause-err : goal.returns-in_err-push_str-clause-err
+returns-in_err-push_str-clause-err c = search (rules, table_memory)

@@ -1,24 +1,26 @@
-use Rattle.std.proofs.Common.{ℕ, List, refl, rules}
-use Rattle.acpi_term.specs.declared.term.Term.{Term}
-use Rattle.acpi_term.specs.Spelling.{spelling}
-use Rattle.acpi_term.specs.View.{view, views}
-use Rattle.acpi_read.proofs.Sizes.{size_bare, size_framed, size_step, sums_start, sums_on, sums_done}
+use Rattle.std.proofs.Common.{rules, arith, ap}
+use Rattle.acpi_term.proofs.Depths.{first_shallow, others_shallow, element_shallow}
+use Rattle.acpi_term.specs.Tree.{count, depth}
+use Rattle.acpi_term.specs.View.{view}
+use Rattle.acpi_read.proofs.Sizes.{sized_over}
 use Rattle.acpi_read.proofs.report.size.+size.Goals as goal
 
-abbrev each : List Term → List ℕ
-each terms = spelling (views terms)
+pub add_all-add_one-requires : goal.add_all-add_one-requires
+add_all-add_one-requires t c =
+    let shallow = element_shallow c.args.terms.now c.loop-term.term-index c.term-item.result c.loop-term-test.true c.term-item.is in
+    (omega (arith, shallow, c.decreases), tt)
 
-pub size-returns-in-None : goal.size-returns-in-None
-size-returns-in-None t c = size_bare (view c.args.term.now) _ c.in-None.ensures.frame c.content_size-content.ensures
+pub add_one-add_all-requires : goal.add_one-add_all-requires
+add_one-add_all-requires t c =
+    let shallow = first_shallow c.parts_of-parts.result.first.now c.parts_of-parts.result.others.now in
+    (omega (arith, shallow, ap depth c.parts_of-parts.ensures.children, c.decreases), tt)
 
-pub size-returns-in-Some : goal.size-returns-in-Some
-size-returns-in-Some t c = size_framed (view c.args.term.now) c.content_size-content.result c.in-Some.code c.in-Some.width _ c.in-Some.ensures.frame c.content_size-content.ensures (search rules)
+pub add_one-add_all-requires-2 : goal.add_one-add_all-requires-2
+add_one-add_all-requires-2 t c =
+    let shallow = others_shallow c.parts_of-parts.result.first.now c.parts_of-parts.result.others.now in
+    (omega (arith, shallow, ap depth c.parts_of-parts.ensures.children, c.decreases), tt)
 
-pub sizes-loop-term-init : goal.sizes-loop-term-init
-sizes-loop-term-init t c = sums_start each _
-
-pub sizes-loop-term-preserved : goal.sizes-loop-term-preserved
-sizes-loop-term-preserved t c = sums_on each c.args.terms.now c.loop-term.term-index _ c.loop-term.invariant _ _ _ _ c.loop-term-test.true (search rules) (size_step _ _) c.size.ensures c.sum-all.ensures
-
-pub sizes-returns : goal.sizes-returns
-sizes-returns t c = sums_done each c.args.terms.now c.loop-term.term-index _ c.loop-term.invariant refl c.loop-term-test.false
+pub add_one-returns : goal.add_one-returns
+add_one-returns t c =
+    let n = count (view c.args.term.now).2 in
+    sized_over c.args.term.now _ _ _ _ c.parts_of-parts.ensures _ _ _ _ _ _ c.in_ok-push.ensures.items c.in_ok-first.ensures c.in_ok-others.ensures _ _ _ _ _ (search rules) (c.own_size.ensures n) c.sum.ensures c.sum-content.ensures (c.with_frame.ensures n)

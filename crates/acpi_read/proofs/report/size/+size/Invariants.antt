@@ -1,9 +1,20 @@
-use Rattle.std.proofs.Common.{List}
+use Rattle.std.proofs.Common.{◌+◌, ◌*◌, List}
 use Rattle.acpi_term.specs.declared.term.Term.{Term}
 use Rattle.acpi_term.specs.Spelling.{spelling}
-use Rattle.acpi_term.specs.View.{views}
+use Rattle.acpi_term.specs.Tree.{depth}
+use Rattle.acpi_term.specs.View.{view, views, single}
+use Rattle.acpi_read.specs.Size.{content_sizes}
 use Rattle.acpi_read.proofs.Sizes.{Sums}
+use Rattle.acpi_read.proofs.Texts.{Goes}
 use Rattle.acpi_read.proofs.report.size.+size.Given as goal
 
-abbrev pub invariant-sizes-loop-term : goal.invariant-sizes-loop-term
-invariant-sizes-loop-term l = Sums (λ (terms : List Term). spelling (views terms)) l.terms l.term-index l.all
+abbrev pub decreases-add_all : goal.decreases-add_all
+decreases-add_all l = 2 * depth (views l.terms.now) + 1
+
+abbrev pub decreases-add_one : goal.decreases-add_one
+decreases-add_one l = 2 * depth (single (view l.term.now))
+
+abbrev pub invariant-add_all-loop-term : goal.invariant-add_all-loop-term
+invariant-add_all-loop-term l =
+    Goes (λ (terms : List Term). content_sizes (views terms)) l.terms l.term-index l.initial.sizes.items l.sizes.items
+    × Sums (λ (terms : List Term). spelling (views terms)) l.terms l.term-index l.all

@@ -3,6 +3,6 @@ use Rattle.acpi_term.proofs.Bytes.{bytes_each}
 use Rattle.acpi_read.proofs.Fronts.{is_name}
 use Rattle.acpi_read.proofs.terms.name.name.Goals as goal
 
-pub from_spelling-name-requires : goal.from_spelling-name-requires
-from_spelling-name-requires c =
-    rw c.in_ok-from_slice.ensures.items (is_name c.args.bytes.now c.in_ok-spelling.spelling.now c.in_ok-spelling.rest.now (bytes_each c.args.bytes.now (λ i. omega (arith, c.type_inv.bytes i))) c.in_ok-spelling.ensures)
+pub name_of-requires : goal.name_of-requires
+name_of-requires c =
+    is_name c.args.bytes.now c.in_ok-spelling.spelling.now c.in_ok-spelling.rest.now (bytes_each c.args.bytes.now (λ i. omega (arith, c.type_inv.bytes i))) c.in_ok-spelling.ensures

@@ -1,6 +1,6 @@
 use Rattle.std.proofs.Common.{◌≡◌, ◌+◌, ◌∷◌, length, rules}
 use Rattle.acpi_read.proofs.Fronts.{CutAt, two_cut, several_cut}
-use Rattle.acpi_term.proofs.Reading.{path_at}
+use Rattle.acpi_term.specs.Reading.{path_at}
 use Rattle.acpi_read.proofs.terms.name.path.Goals as goal
 
 pub split_at-requires : goal.split_at-requires

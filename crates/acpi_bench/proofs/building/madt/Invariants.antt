@@ -1,0 +1,5 @@
+use Rattle.std.proofs.Common.{◌≡◌, length}
+use Rattle.acpi_bench.proofs.building.madt.Given as goal
+
+abbrev pub invariant-fill : goal.invariant-fill
+invariant-fill l = length l.table.counted.table.structures ≡ l.number

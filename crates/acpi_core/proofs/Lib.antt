@@ -1,0 +1,4 @@
+pub mod Patches
+pub mod Flats
+pub mod Offsets
+pub mod Kept

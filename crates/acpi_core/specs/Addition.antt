@@ -1,0 +1,31 @@
+-- What adding a structure makes of a table.
+use Rattle.std.specs.Prelude.{◌≡◌, ◌≢◌, ℕ, ◌+◌, ◌≤◌, Bool, List, length, if◌then◌else◌, Option, Some, None, Result, Ok, Err, OnOk, OnErr, IfErr}
+use Rattle.acpi_base.specs.declared.error.Error.{Error}
+use Rattle.acpi_base.specs.declared.error.Error.TheVariants.{Memory, FieldWidth}
+use Rattle.acpi_base.specs.Object.{Object}
+use Rattle.acpi_core.specs.Listing.{Listing, size_of, with_structure}
+use Rattle.acpi_core.specs.Flat.{has_space}
+
+-- a table, and how many bytes were summed for it
+pub record Counted : Type 0 where
+  pub table : Listing
+  pub summed : ℕ
+
+-- whether the length and the number of structures fit their fields with so many bytes more
+abbrev pub has_room : Listing → ℕ → Bool
+has_room t n = has_space (size_of t) n t.limit (length t.structures) t.count_width
+
+-- the refusal of a structure: its own, else FieldWidth where there is no room for it
+abbrev pub refusal_of : Listing → Option Error → ℕ → Option Error
+refusal_of t (Some e) n = Some e
+refusal_of t None n = if has_room t n then None else Some FieldWidth
+
+-- One structure more, or the table as it was. Beside the structure's bytes at most 16 are summed: the length that was
+-- told and the new one, and so for the number of structures.
+pub record Adds (result : Result Unit Error) (old : Counted) (structure : Object) (new : Counted) : Type 0 where
+  pub ok : OnOk result (new.table ≡ with_structure old.table structure.front)
+  pub accepted : OnOk result (refusal_of old.table structure.end (length structure.front) ≡ None)
+  pub err : OnErr result (new ≡ old)
+  pub cause : IfErr result (λ e. e ≢ Memory → refusal_of old.table structure.end (length structure.front) ≡ Some e)
+  pub cost : new.summed ≤ old.summed + length structure.front + 16
+  pub grows : old.summed ≤ new.summed

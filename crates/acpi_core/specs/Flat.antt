@@ -1,0 +1,46 @@
+-- Tables in one flat list: the fixed part, and behind it all structures.
+use Rattle.std.specs.Prelude.{◌≡◌, ℕ, ◌+◌, ◌-◌, ◌*◌, ◌%◌, ◌^◌, ◌<◌, ◌⊎◌, ◌==◌, ◌||◌, ◌&&◌, nat_lt, Bool, List, [], ◌∷◌, ◌++◌, length, sum}
+use Rattle.std.specs.List.{concat}
+use Rattle.acpi_base.specs.Bytes.{le, put}
+use Rattle.acpi_core.specs.Listing.{Listing, IsListing, bytes_of, start_of}
+use Rattle.acpi_core.specs.declared.form.Form.{Form}
+
+-- a table without structures
+abbrev pub new_listing : Form → List ℕ → List ℕ → Listing
+new_listing form before after = record {
+  signature = form.signature;
+  revision = form.revision;
+  oem = form.oem;
+  before = before;
+  count_width = form.count_width;
+  after = after;
+  limit = form.limit;
+  structures = [];
+}
+
+-- The parts of a flat table are those of this one: all bytes are its bytes, and the sum is that of all but the checksum.
+pub record IsFlat (t : Listing) (fixed body : List ℕ) (running count count_at count_width limit : ℕ) : Type 0 where
+  pub is : IsListing t
+  pub fixed_size : length fixed ≡ start_of t
+  pub bytes : fixed ++ body ≡ bytes_of t
+  pub joined : body ≡ concat t.structures
+  pub place : count_at ≡ 36 + length t.before
+  pub same_width : count_width ≡ t.count_width
+  pub same_limit : limit ≡ t.limit
+  pub counted : (count_width ≡ 0) ⊎ (count ≡ length t.structures)
+  pub sums : running ≡ sum (put 9 (0 ∷ []) (fixed ++ body)) % 256
+
+-- whether a length and a number of structures fit their fields, with so many bytes and one structure more
+abbrev pub has_space : ℕ → ℕ → ℕ → ℕ → ℕ → Bool
+has_space size more limit count width = nat_lt (size + more) limit && (width == 0 || nat_lt (count + 1) (2 ^ (8 * width)))
+
+-- a fixed part that tells another length and another number of structures, with a checksum of 0
+abbrev pub patched : ℕ → ℕ → ℕ → ℕ → List ℕ → List ℕ
+patched at width size count fixed = put at (le width count) (put 4 (le 4 size) (put 9 (0 ∷ []) fixed))
+
+-- A fixed part that tells another length and another number of structures, and whose checksum is that of a sum into which
+-- all that changed went, and the structure.
+pub record Settles (fixed : List ℕ) (old at width size count : ℕ) (structure settled : List ℕ) (new : ℕ) : Type 0 where
+  pub is : settled ≡ put 9 ((256 - new) % 256 ∷ []) (patched at width size count fixed)
+  pub sums : (new + sum (put 9 (0 ∷ []) fixed)) % 256 ≡ (old + (sum (patched at width size count fixed) + sum structure)) % 256
+  pub range : new < 256

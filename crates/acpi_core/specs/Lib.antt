@@ -1,0 +1,6 @@
+pub mod Listing
+pub mod Flat
+pub mod Addition
+pub mod Offset
+pub mod Walk
+pub mod Laws

@@ -1,0 +1,62 @@
+-- Tables of structures (ACPI 6.5, 5.2.6 and the sections of their signatures).
+use Rattle.std.specs.Prelude.{◌≡◌, ℕ, ◌+◌, ◌*◌, ◌^◌, ◌<◌, ◌≤◌, ◌⊎◌, List, [], ◌∷◌, ◌++◌, length}
+use Rattle.std.specs.List.{concat}
+use Rattle.acpi_base.specs.Bytes.{le}
+use Rattle.acpi_base.specs.Table.{table_of}
+use Rattle.acpi_base.specs.declared.oem.Oem.{Oem}
+
+-- A table: its header's values, the fields before and after the number of structures, which has 0, 2 or 4 bytes, what
+-- its length stays below, and its structures in order.
+pub record Listing : Type 0 where
+  pub signature : List ℕ
+  pub revision : ℕ
+  pub oem : Oem
+  pub before : List ℕ
+  pub count_width : ℕ
+  pub after : List ℕ
+  pub limit : ℕ
+  pub structures : List (List ℕ)
+
+-- the fixed fields behind the header, with the number of structures in its place
+abbrev pub fixed_fields : Listing → List ℕ
+fixed_fields t = t.before ++ (le t.count_width (length t.structures) ++ t.after)
+
+-- what stands behind the header
+abbrev pub body_of : Listing → List ℕ
+body_of t = fixed_fields t ++ concat t.structures
+
+-- The table's bytes: it tells their number at 4, and the byte at 9 makes their sum zero.
+abbrev pub bytes_of : Listing → List ℕ
+bytes_of t = table_of t.signature t.revision t.oem (body_of t)
+
+-- where the structures begin
+abbrev pub start_of : Listing → ℕ
+start_of t = 36 + length t.before + t.count_width + length t.after
+
+-- how many bytes the table has
+abbrev pub size_of : Listing → ℕ
+size_of t = start_of t + length (concat t.structures)
+
+-- the table with one structure more, at its end
+abbrev pub with_structure : Listing → List ℕ → Listing
+with_structure t structure = record {
+  signature = t.signature;
+  revision = t.revision;
+  oem = t.oem;
+  before = t.before;
+  count_width = t.count_width;
+  after = t.after;
+  limit = t.limit;
+  structures = t.structures ++ structure ∷ [];
+}
+
+-- The header's values have their fields' widths, the number of structures has two bytes, four or no place, and it and the
+-- length fit their fields.
+pub record IsListing (t : Listing) : Type 0 where
+  pub signature : length t.signature ≡ 4
+  pub id : length t.oem.id ≡ 6
+  pub table_id : length t.oem.table_id ≡ 8
+  pub width : (t.count_width ≡ 0) ⊎ ((t.count_width ≡ 2) ⊎ (t.count_width ≡ 4))
+  pub limit : t.limit ≤ 2 ^ 32
+  pub counted : (t.count_width ≡ 0) ⊎ (length t.structures < 2 ^ (8 * t.count_width))
+  pub fits : size_of t < t.limit

@@ -1,0 +1,8 @@
+//! The table behind every list, node and matrix table: a header, fixed fields, and structures one after another.
+#![tactic(auto)]
+
+pub mod form;
+pub mod laws;
+pub mod listed;
+pub mod settle;
+pub mod table;

@@ -1,0 +1,151 @@
+//! A table of structures.
+
+ghost use Rattle.std.specs.Prelude.{◌≡◌, ◌+◌, ◌^◌, ◌<◌, ◌≤◌, ◌⊎◌, length};
+ghost use Rattle.acpi_base.specs.Object.{whole, whole_ends_well};
+ghost use Rattle.acpi_core.specs.Listing.{IsListing, bytes_of, size_of};
+ghost use Rattle.acpi_core.specs.Flat.{new_listing};
+ghost use Rattle.acpi_core.specs.Addition.{Adds};
+
+use crate::form::Form;
+use crate::listed::Listed;
+use crate::settle::{grown, settle};
+use acpi_base::buffer::append_value;
+use acpi_base::error::R;
+use acpi_base::header::{header, seal};
+use acpi_base::object::Aml;
+use acpi_base::parts::write_parts;
+use acpi_base::patch::write_at;
+use acpi_base::sink::AmlSink;
+use acpi_base::sum::Sum;
+use std::alloc::Global;
+use std::marker::Model;
+
+/// A table (ACPI 6.5, 5.2.6) whose header and fixed fields have `N` bytes, and its structures one after another. Its
+/// length, its number of structures and its checksum are true after every call.
+#[derive(Drop)]
+pub struct Table<const N: usize> {
+    fixed: [u8; N],
+    body: Vec<u8>,
+    sum: Sum,
+    count: u32,
+    count_at: usize,
+    count_width: usize,
+    limit: usize,
+    listed: Listed,
+}
+
+impl<const N: usize> Model for Table<N> {
+    ghost use Rattle.acpi_core.specs.Addition.{Counted};
+    ghost use Rattle.acpi_core.specs.Flat.{IsFlat};
+
+    ghost Value = { Counted };
+
+    ghost view = { λ t. record { table = t.listed.table; summed = t.sum.summed } };
+
+    ghost invariant = { λ t. IsFlat t.listed.table t.fixed t.body.items t.sum.value t.count t.count_at t.count_width t.limit };
+}
+
+/// A table writes its fixed part and its structures.
+impl<const N: usize> Aml for Table<N> {
+    ghost object = { λ t. whole (bytes_of t.table) };
+
+    ghost ends_well = { λ t. whole_ends_well (bytes_of t.table) };
+
+    fn to_aml_bytes(&self, sink: &mut dyn AmlSink) -> R<()> {
+        write_parts(sink, &[&self.fixed, &self.body])
+    }
+}
+
+impl<const N: usize> Table<N> {
+    /// A table without structures. Its fixed fields are given up to the number of structures and behind it.
+    pub fn new(alloc: Global, form: Form, before: &[u8], after: &[u8]) -> Table<N>
+        requires size { 36 + length before.now + form.count_width + length after.now ≡ N }
+        requires width { (form.count_width ≡ 0) ⊎ ((form.count_width ≡ 2) ⊎ (form.count_width ≡ 4)) }
+        requires limit { (N < form.limit) × (form.limit ≤ 2 ^ 32) }
+        ensures table { result.table ≡ new_listing form before.now after.now }
+        ensures listing { IsListing result.table }
+    {
+        let mut fixed = [0; N];
+        let head = header(form.signature, N as u32, form.revision, form.oem);
+        write_at(&mut fixed, 0, &head);
+        write_at(&mut fixed, 36, before);
+        write_at(&mut fixed, N - after.len(), after);
+        let sum = seal(&mut fixed);
+        Table {
+            fixed,
+            body: Vec::new(alloc),
+            sum,
+            count: 0,
+            count_at: 36 + before.len(),
+            count_width: form.count_width,
+            limit: form.limit,
+            listed: Listed::new(&form, before, after),
+        }
+    }
+
+    /// Adds a structure of these bytes at the end. FieldWidth where the length or the number of structures would pass its
+    /// field.
+    pub fn add(&mut self, structure: &[u8]) -> R<()>
+        ensures { Adds result self.old (whole structure.now) self.new }
+    {
+        let (size, count) = grown(
+            N + self.body.len(),
+            structure.len(),
+            self.limit,
+            self.count,
+            self.count_width,
+        )?;
+        self.body.extend_from_slice(structure)?;
+        settle(
+            &mut self.fixed,
+            &mut self.sum,
+            self.count_at,
+            self.count_width,
+            size,
+            count,
+            structure,
+        );
+        self.count = count;
+        self.listed = Listed::with(&self.listed, structure);
+        Ok(())
+    }
+
+    /// Adds the bytes that an object writes as a structure at the end. The object's own refusal, else FieldWidth as `add`.
+    pub fn add_object<T: Aml>(&mut self, structure: &T) -> R<()>
+        ensures { Adds result self.old (T.object structure.now) self.new }
+    {
+        let start = self.body.len();
+        if let Err(refusal) = append_value(structure, &mut self.body) {
+            self.body.truncate(start);
+            return Err(refusal);
+        }
+        let added = self.body.len() - start;
+        match grown(N + start, added, self.limit, self.count, self.count_width) {
+            Err(refusal) => {
+                self.body.truncate(start);
+                Err(refusal)
+            }
+            Ok((size, count)) => {
+                settle(
+                    &mut self.fixed,
+                    &mut self.sum,
+                    self.count_at,
+                    self.count_width,
+                    size,
+                    count,
+                    &self.body[start..],
+                );
+                self.count = count;
+                self.listed = Listed::with(&self.listed, &self.body[start..]);
+                Ok(())
+            }
+        }
+    }
+
+    /// How many bytes the table has.
+    pub fn len(&self) -> u32
+        ensures { result ≡ size_of self.now.table }
+    {
+        (N + self.body.len()) as u32
+    }
+}

@@ -1,0 +1,3 @@
+pub mod Initiators
+pub mod Parts
+pub mod Windows

@@ -1,0 +1,197 @@
+-- The CXL Early Discovery Table (CXL 3.0, 9.17.1, in this project's profile).
+use Rattle.std.specs.Prelude.{◌≡◌, ◌≢◌, ℕ, ◌+◌, ◌*◌, ◌^◌, ◌==◌, Bool, true, false, List, [], ◌∷◌, ◌++◌, length, codes, if◌then◌else◌, Option, Some, None}
+use Rattle.acpi_base.specs.declared.error.Error.{Error}
+use Rattle.acpi_base.specs.declared.error.Error.TheVariants.{Memory, Targets}
+use Rattle.acpi_base.specs.Layout.{byte, word, dword, qword, zeros, record_of}
+use Rattle.acpi_base.specs.Object.{Object, whole, whole_ends_well, ended}
+use Rattle.acpi_base.specs.declared.oem.Oem.{Oem}
+use Rattle.acpi_core.specs.Listing.{Listing}
+use Rattle.acpi_lists.specs.declared.cedt.CxlVersion.{CxlVersion}
+use Rattle.acpi_lists.specs.declared.cedt.CxlVersion.TheVariants.{Cxl1_1, Cxl2}
+use Rattle.acpi_lists.specs.declared.cedt.InterleaveArithmetic.{InterleaveArithmetic}
+use Rattle.acpi_lists.specs.declared.cedt.InterleaveArithmetic.TheVariants.{Modulo, ModuloXor}
+use Rattle.acpi_lists.specs.declared.cedt.InterleaveGranularity.{InterleaveGranularity}
+use Rattle.acpi_lists.specs.declared.cedt.InterleaveGranularity.TheVariants.{Granularity256b, Granularity512b, Granularity1kb, Granularity2kb, Granularity4kb, Granularity8kb, Granularity16kb}
+use Rattle.acpi_lists.specs.declared.cedt.InterleaveWays.{InterleaveWays}
+use Rattle.acpi_lists.specs.declared.cedt.InterleaveWays.TheVariants.{Ways1, Ways2, Ways4, Ways8, Ways16, Ways3, Ways6, Ways12}
+use Rattle.acpi_lists.specs.declared.cedt.ProtocolType.{ProtocolType}
+use Rattle.acpi_lists.specs.declared.cedt.ProtocolType.TheVariants.{CxlIo, CxlMem}
+use Rattle.acpi_lists.specs.declared.cedt.CxlHostBridge.{CxlHostBridge}
+use Rattle.acpi_lists.specs.declared.cedt.PortAssociation.{PortAssociation}
+
+-- a table without structures
+abbrev pub cedt : Oem → Listing
+cedt oem = record {
+  signature = codes "CEDT";
+  revision = 1;
+  oem = oem;
+  before = [];
+  count_width = 0;
+  after = [];
+  limit = 2 ^ 32;
+  structures = [];
+}
+
+-- ---- CXL Host Bridge Structure
+
+abbrev pub version_number : CxlVersion → ℕ
+version_number Cxl1_1 = 0
+version_number Cxl2 = 1
+
+-- how many bytes of registers a bridge has: the RCRB of version 1.1, or the component registers
+abbrev pub registers_of : CxlVersion → ℕ
+registers_of Cxl1_1 = 0x2000
+registers_of Cxl2 = 0x10000
+
+abbrev pub host_bridge : ℕ → CxlVersion → ℕ → CxlHostBridge
+host_bridge uid version base = record { uid = uid; version = version; base = base }
+
+abbrev pub host_bridge_bytes : CxlHostBridge → List ℕ
+host_bridge_bytes b = record_of
+    (byte 0  -- 0: Type
+    ∷ byte 0  -- 1: reserved
+    ∷ word 32  -- 2: Record Length
+    ∷ dword b.uid  -- 4: UID
+    ∷ dword (version_number b.version)  -- 8: CXL Version
+    ∷ zeros 4  -- 12: reserved
+    ∷ qword b.base  -- 16: Base
+    ∷ qword (registers_of b.version)  -- 24: Length
+    ∷ [])
+
+-- ---- CXL Fixed Memory Window Structure
+
+abbrev pub arithmetic_number : InterleaveArithmetic → ℕ
+arithmetic_number Modulo = 0
+arithmetic_number ModuloXor = 1
+
+abbrev pub granularity_number : InterleaveGranularity → ℕ
+granularity_number Granularity256b = 0
+granularity_number Granularity512b = 1
+granularity_number Granularity1kb = 2
+granularity_number Granularity2kb = 3
+granularity_number Granularity4kb = 4
+granularity_number Granularity8kb = 5
+granularity_number Granularity16kb = 6
+
+-- Encoded Number of Interleave Ways
+abbrev pub ways_number : InterleaveWays → ℕ
+ways_number Ways1 = 0
+ways_number Ways2 = 1
+ways_number Ways4 = 2
+ways_number Ways8 = 3
+ways_number Ways16 = 4
+ways_number Ways3 = 8
+ways_number Ways6 = 9
+ways_number Ways12 = 10
+
+-- the number of ways
+abbrev pub ways_count : InterleaveWays → ℕ
+ways_count Ways1 = 1
+ways_count Ways2 = 2
+ways_count Ways4 = 4
+ways_count Ways8 = 8
+ways_count Ways16 = 16
+ways_count Ways3 = 3
+ways_count Ways6 = 6
+ways_count Ways12 = 12
+
+-- a window of memory, and its targets' ids, of four bytes each
+pub record Window : Type 0 where
+  pub base : ℕ
+  pub size : ℕ
+  pub arithmetic : InterleaveArithmetic
+  pub granularity : InterleaveGranularity
+  pub ways : InterleaveWays
+  pub restrictions : ℕ
+  pub qtg_id : ℕ
+  pub targets : List ℕ
+
+abbrev pub window : ℕ → ℕ → InterleaveArithmetic → InterleaveGranularity → InterleaveWays → ℕ → Window
+window base size arithmetic granularity ways qtg_id = record {
+  base = base;
+  size = size;
+  arithmetic = arithmetic;
+  granularity = granularity;
+  ways = ways;
+  restrictions = 0;
+  qtg_id = qtg_id;
+  targets = [];
+}
+
+abbrev pub window_head : Window → List ℕ
+window_head w = record_of
+    (byte 1  -- 0: Type
+    ∷ byte 0  -- 1: reserved
+    ∷ word (36 + length w.targets)  -- 2: Record Length
+    ∷ zeros 4  -- 4: reserved
+    ∷ qword w.base  -- 8: Base HPA
+    ∷ qword w.size  -- 16: Window Size
+    ∷ byte (ways_number w.ways)  -- 24: Encoded Number of Interleave Ways
+    ∷ byte (arithmetic_number w.arithmetic)  -- 25: Interleave Arithmetic
+    ∷ zeros 2  -- 26: reserved
+    ∷ dword (granularity_number w.granularity)  -- 28: Host Bridge Interleave Granularity
+    ∷ word w.restrictions  -- 32: Window Restrictions
+    ∷ word w.qtg_id  -- 34: QTG ID
+    ∷ [])
+
+abbrev pub window_bytes : Window → List ℕ
+window_bytes w = window_head w ++ w.targets  -- 36: Interleave Target List
+
+-- there are as many targets as ways
+abbrev pub has_targets : Window → Bool
+has_targets w = length w.targets == 4 * ways_count w.ways
+
+-- what is whole where the test holds, and else is refused before it gives anything
+abbrev pub targeted : Bool → List ℕ → Object
+targeted test bytes = ended (if test then None else Some Targets) (whole bytes)
+
+pub targeted_ends_well : (test : Bool) (bytes : List ℕ) → (targeted test bytes).end ≢ Some Memory
+targeted_ends_well true bytes is = whole_ends_well bytes is
+targeted_ends_well false bytes is = cc
+
+abbrev pub window_object : Window → Object
+window_object w = targeted (has_targets w) (window_bytes w)
+
+-- ---- CXL XOR Interleave Math Structure
+
+-- a number of maps, of eight bytes each
+pub record XorMaps : Type 0 where
+  pub granularity : InterleaveGranularity
+  pub count : ℕ
+  pub maps : List ℕ
+
+abbrev pub no_maps : InterleaveGranularity → XorMaps
+no_maps granularity = record { granularity = granularity; count = 0; maps = [] }
+
+abbrev pub maps_head : XorMaps → List ℕ
+maps_head x = record_of
+    (byte 2  -- 0: Type
+    ∷ byte 0  -- 1: reserved
+    ∷ word (8 + length x.maps)  -- 2: Record Length
+    ∷ zeros 2  -- 4: reserved
+    ∷ byte (granularity_number x.granularity)  -- 6: Host Bridge Interleave Granularity
+    ∷ byte x.count  -- 7: Number of Bitmap Entries
+    ∷ [])
+
+abbrev pub maps_bytes : XorMaps → List ℕ
+maps_bytes x = maps_head x ++ x.maps  -- 8: XORMAP List
+
+-- ---- RCEC Downstream Port Association Structure
+
+abbrev pub protocol_number : ProtocolType → ℕ
+protocol_number CxlIo = 0
+protocol_number CxlMem = 1
+
+abbrev pub port_association : ℕ → ℕ → ℕ → ℕ → ProtocolType → ℕ → PortAssociation
+port_association segment bus device function protocol base = record { segment = segment; bdf = bus * 256 + device * 8 + function; protocol = protocol; base = base }
+
+abbrev pub port_association_bytes : PortAssociation → List ℕ
+port_association_bytes p = record_of
+    (byte 3  -- 0: Type
+    ∷ byte 0  -- 1: reserved
+    ∷ word 17  -- 2: Record Length
+    ∷ word p.segment  -- 4: RCEC Segment Number
+    ∷ word p.bdf  -- 6: RCEC BDF: bus, device and function
+    ∷ byte (protocol_number p.protocol)  -- 8: Protocol Type
+    ∷ qword p.base  -- 9: Base Address
+    ∷ [])

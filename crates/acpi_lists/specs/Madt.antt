@@ -1,0 +1,80 @@
+-- The Multiple APIC Description Table (ACPI 6.5, 5.2.12).
+use Rattle.std.specs.Prelude.{◌≡◌, ℕ, ◌^◌, Bool, true, false, List, [], ◌∷◌, length, codes, Result, Err, OnOk, OnErr}
+use Rattle.acpi_base.specs.Layout.{dword, zeros, record_of}
+use Rattle.acpi_base.specs.Object.{whole}
+use Rattle.acpi_base.specs.Walk.{IsPiece, madt_walk}
+use Rattle.acpi_base.specs.declared.error.Error.{Error}
+use Rattle.acpi_base.specs.declared.error.Error.TheVariants.{ImsicSet}
+use Rattle.acpi_base.specs.declared.oem.Oem.{Oem}
+use Rattle.acpi_core.specs.Addition.{Counted, Adds}
+use Rattle.acpi_core.specs.Listing.{Listing, IsListing}
+use Rattle.acpi_core.specs.Walk.{IsWalkOf}
+use Rattle.acpi_lists.specs.MadtArm.{gicc_bytes, gicd_bytes, gic_msi_bytes, gicr_bytes, gic_its_bytes}
+use Rattle.acpi_lists.specs.MadtRiscv.{rintc_bytes, imsic_bytes, aplic_bytes, plic_bytes}
+use Rattle.acpi_lists.specs.MadtX86.{processor_local_apic_bytes, io_apic_bytes}
+use Rattle.acpi_lists.specs.declared.madt.LocalInterruptController.{LocalInterruptController}
+use Rattle.acpi_lists.specs.declared.madt.LocalInterruptController.TheVariants.{Riscv, Address}
+use Rattle.acpi_lists.specs.declared.madt.x86.ProcessorLocalApic.{ProcessorLocalApic}
+use Rattle.acpi_lists.specs.declared.madt.x86.IoApic.{IoApic}
+use Rattle.acpi_lists.specs.declared.madt.arm.Gicc.{Gicc}
+use Rattle.acpi_lists.specs.declared.madt.arm.Gicd.{Gicd}
+use Rattle.acpi_lists.specs.declared.madt.arm.GicMsi.{GicMsi}
+use Rattle.acpi_lists.specs.declared.madt.arm.Gicr.{Gicr}
+use Rattle.acpi_lists.specs.declared.madt.arm.GicIts.{GicIts}
+use Rattle.acpi_lists.specs.declared.madt.riscv.RINTC.{RINTC}
+use Rattle.acpi_lists.specs.declared.madt.riscv.IMSIC.{IMSIC}
+use Rattle.acpi_lists.specs.declared.madt.riscv.APLIC.{APLIC}
+use Rattle.acpi_lists.specs.declared.madt.riscv.PLIC.{PLIC}
+
+-- Local Interrupt Controller Address
+abbrev pub controller_address : LocalInterruptController → ℕ
+controller_address Riscv = 0
+controller_address (Address address) = address
+
+-- a table without structures
+abbrev pub madt : Oem → LocalInterruptController → Listing
+madt oem controller = record {
+  signature = codes "APIC";
+  revision = 1;
+  oem = oem;
+  before = record_of
+      (dword (controller_address controller)  -- 36: Local Interrupt Controller Address
+      ∷ zeros 4  -- 40: Flags
+      ∷ []);
+  count_width = 0;
+  after = [];
+  limit = 2 ^ 32;
+  structures = [];
+}
+
+-- a table, how many bytes were summed for it, and whether it was given its IMSIC
+pub record Controllers : Type 0 where
+  pub counted : Counted
+  pub has_imsic : Bool
+
+-- What a table keeps, whatever its structures tell of their lengths: it is one, and its structures begin where the walk
+-- does.
+pub record KeepsStart (t : Listing) : Type 0 where
+  pub is : IsListing t
+  pub walk : IsWalkOf madt_walk t
+
+-- The first IMSIC is added as any structure. Afterwards each is refused, and the table stays as it was.
+pub record AddsImsic (result : Result Unit Error) (old : Controllers) (imsic : List ℕ) (new : Controllers) : Type 0 where
+  pub first : old.has_imsic ≡ false → Adds result old.counted (whole imsic) new.counted
+  pub again : old.has_imsic ≡ true → (result ≡ Err ImsicSet) × (new ≡ old)
+  pub ok : OnOk result (new.has_imsic ≡ true)
+  pub err : OnErr result (new.has_imsic ≡ old.has_imsic)
+
+-- The byte at 1 is a structure's length, whatever its fields hold. A hardware id has eight bytes.
+pub record StructuresTellTheirLength : Type 0 where
+  pub processor_local_apic : (s : ProcessorLocalApic) → IsPiece madt_walk.sizes (processor_local_apic_bytes s)
+  pub io_apic : (s : IoApic) → IsPiece madt_walk.sizes (io_apic_bytes s)
+  pub gicc : (s : Gicc) → IsPiece madt_walk.sizes (gicc_bytes s)
+  pub gicd : (s : Gicd) → IsPiece madt_walk.sizes (gicd_bytes s)
+  pub gic_msi : (s : GicMsi) → IsPiece madt_walk.sizes (gic_msi_bytes s)
+  pub gicr : (s : Gicr) → IsPiece madt_walk.sizes (gicr_bytes s)
+  pub gic_its : (s : GicIts) → IsPiece madt_walk.sizes (gic_its_bytes s)
+  pub rintc : (s : RINTC) → IsPiece madt_walk.sizes (rintc_bytes s)
+  pub imsic : (s : IMSIC) → IsPiece madt_walk.sizes (imsic_bytes s)
+  pub aplic : (s : APLIC) → length s.hardware_id ≡ 8 → IsPiece madt_walk.sizes (aplic_bytes s)
+  pub plic : (s : PLIC) → length s.hardware_id ≡ 8 → IsPiece madt_walk.sizes (plic_bytes s)

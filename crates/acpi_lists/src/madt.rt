@@ -1,0 +1,150 @@
+//! MADT: the interrupt controllers of a machine.
+
+ghost use Rattle.std.specs.Prelude.{◌≡◌, false};
+ghost use Rattle.acpi_base.specs.Object.{whole, whole_ends_well};
+ghost use Rattle.acpi_base.specs.Table.{IsTrueTable};
+ghost use Rattle.acpi_base.specs.Walk.{madt_walk, ArePieces};
+ghost use Rattle.acpi_core.specs.Listing.{bytes_of};
+ghost use Rattle.acpi_core.specs.Walk.{IsWalked};
+ghost use Rattle.acpi_core.specs.Addition.{Adds};
+ghost use Rattle.acpi_lists.specs.Madt.{controller_address, madt, AddsImsic, StructuresTellTheirLength};
+ghost use Rattle.acpi_lists.specs.MadtRiscv.{imsic_bytes};
+
+mod arm;
+mod riscv;
+mod x86;
+
+use acpi_base::error::{Error, R};
+use acpi_base::object::Aml;
+use acpi_base::oem::Oem;
+use acpi_base::record::{Field, record};
+use acpi_base::sink::AmlSink;
+use acpi_core::form::Form;
+use acpi_core::table::Table;
+pub use arm::{GicIts, GicMsi, GicVersion, Gicc, Gicd, Gicr, Trigger};
+pub use riscv::{APLIC, HartStatus, IMSIC, PLIC, RINTC};
+use std::alloc::Global;
+use std::marker::Model;
+pub use x86::{IoApic, ProcessorLocalApic};
+
+/// Where every processor finds its own interrupt controller (ACPI 6.5, 5.2.12, offset 36): on RISC-V nowhere in memory,
+/// which is told as 0, and else at a physical address.
+#[derive(Clone, Copy, Debug, PartialEq)]
+pub enum LocalInterruptController {
+    Riscv,
+    Address(u32),
+}
+
+impl LocalInterruptController {
+    fn address(self) -> u32
+        ensures { result ≡ controller_address self }
+    {
+        match self {
+            LocalInterruptController::Riscv => 0,
+            LocalInterruptController::Address(address) => address,
+        }
+    }
+}
+
+/// Whether a processor can be used, or could be brought online later (ACPI 6.5, 5.2.12.2.1 and 5.2.12.14).
+#[derive(Clone, Copy, Debug, PartialEq)]
+pub enum EnabledStatus {
+    Disabled = 0,
+    Enabled = 1,
+    DisabledOnlineCapable = 2,
+}
+
+/// The Multiple APIC Description Table (ACPI 6.5, 5.2.12): structures that tell their type at offset 0 and their length in
+/// bytes at offset 1, from offset 44 on.
+#[derive(Drop)]
+pub struct MADT {
+    table: Table<44>,
+    has_imsic: bool,
+}
+
+impl Model for MADT {
+    ghost use Rattle.acpi_lists.specs.Madt.{Controllers, KeepsStart};
+
+    ghost Value = { Controllers };
+
+    ghost view = { λ t. record { counted = t.table; has_imsic = t.has_imsic } };
+
+    ghost invariant = { λ t. KeepsStart t.table.table };
+}
+
+impl Aml for MADT {
+    ghost object = { λ t. whole (bytes_of t.counted.table) };
+
+    ghost ends_well = { λ t. whole_ends_well (bytes_of t.counted.table) };
+
+    fn to_aml_bytes(&self, sink: &mut dyn AmlSink) -> R<()> {
+        self.table.to_aml_bytes(sink)
+    }
+}
+
+impl MADT {
+    /// A table without structures.
+    pub fn new(
+        alloc: Global,
+        oem_id: [u8; 6],
+        oem_table_id: [u8; 8],
+        oem_revision: u32,
+        int: LocalInterruptController,
+    ) -> MADT
+        ensures table { result.counted.table ≡ madt (record { id = oem_id; table_id = oem_table_id; revision = oem_revision }) int }
+        ensures imsic { result.has_imsic ≡ false }
+    {
+        let form = Form {
+            signature: *b"APIC",
+            revision: 1,
+            oem: Oem {
+                id: oem_id,
+                table_id: oem_table_id,
+                revision: oem_revision,
+            },
+            count_width: 0,
+            limit: 0x1_0000_0000,
+        };
+        let before: [u8; 8] = record(&[Field::DWord(int.address()), Field::DWord(0)]);
+        MADT {
+            table: Table::new(alloc, form, &before, &[]),
+            has_imsic: false,
+        }
+    }
+
+    /// Adds a structure, whose bytes are kept as it writes them. The structure's own refusal, else FieldWidth where the
+    /// length would reach 2^32.
+    pub fn add_structure<T: Aml + Drop>(&mut self, structure: T) -> R<()>
+        ensures adds { Adds result self.old.counted (T.object structure) self.new.counted }
+        ensures imsic { self.new.has_imsic ≡ self.old.has_imsic }
+    {
+        self.table.add_object(&structure)
+    }
+
+    /// Adds the one structure that tells of all incoming MSI controllers: ImsicSet the second time, whatever else would
+    /// refuse it, else FieldWidth where the length would reach 2^32. One that `add_structure` added isn't counted.
+    pub fn add_imsic(&mut self, imsic: IMSIC) -> R<()>
+        ensures { AddsImsic result self.old (imsic_bytes imsic) self.new }
+    {
+        if self.has_imsic {
+            return Err(Error::ImsicSet);
+        }
+        self.add_structure(imsic)?;
+        self.has_imsic = true;
+        Ok(())
+    }
+}
+
+/// A law: after any calls the table is a true one. Where each structure tells its length at offset 1, they are, in order,
+/// the one list that walks it.
+pub fn madt_is_walked(table: &MADT)
+    ensures is_true { IsTrueTable (bytes_of table.now.counted.table) }
+    ensures walked { ArePieces madt_walk.sizes table.now.counted.table.structures → IsWalked madt_walk table.now.counted.table }
+{
+    let _ = &table.table;
+}
+
+/// A law: each structure of this module tells its length at offset 1, whatever its fields hold.
+pub fn madt_structures_are_pieces()
+    ensures { StructuresTellTheirLength }
+{}

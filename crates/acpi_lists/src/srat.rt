@@ -1,0 +1,411 @@
+//! SRAT: which processors, memory and devices are near to each other.
+
+ghost use Rattle.std.specs.Prelude.{◌≡◌, ◌<◌, false, bit_or, IfOk, IfErr};
+ghost use Rattle.acpi_base.specs.Object.{Built, whole, whole_ends_well};
+ghost use Rattle.acpi_base.specs.Walk.{srat_walk};
+ghost use Rattle.acpi_core.specs.Listing.{bytes_of};
+ghost use Rattle.acpi_core.specs.Addition.{Adds};
+ghost use Rattle.acpi_core.specs.Walk.{IsWalked};
+ghost use Rattle.acpi_lists.specs.Srat.{srat, memory_affinity, memory_affinity_bytes, handle_object, handle_bytes, handle_type, is_address, addressed_ends_well, generic_initiator, generic_initiator_bytes, generic_initiator_object, rintc_affinity, rintc_affinity_bytes};
+
+use acpi_base::error::{Error, R};
+use acpi_base::object::Aml;
+use acpi_base::oem::Oem;
+use acpi_base::record::{Field, record};
+use acpi_base::sink::AmlSink;
+use acpi_core::form::Form;
+use acpi_core::table::Table;
+use std::alloc::Global;
+use std::marker::Model;
+
+/// The System Resource Affinity Table (ACPI 6.5, 5.2.16): structures from offset 48 on.
+#[derive(Drop)]
+pub struct SRAT {
+    table: Table<48>,
+}
+
+impl Model for SRAT {
+    ghost use Rattle.acpi_base.specs.Walk.{srat_walk};
+    ghost use Rattle.acpi_core.specs.Addition.{Counted};
+    ghost use Rattle.acpi_core.specs.Walk.{Keeps};
+
+    ghost Value = { Counted };
+
+    ghost view = { λ t. t.table };
+
+    ghost invariant = { λ t. Keeps srat_walk t.table.table };
+}
+
+impl Aml for SRAT {
+    ghost object = { λ t. whole (bytes_of t.table) };
+
+    ghost ends_well = { λ t. whole_ends_well (bytes_of t.table) };
+
+    fn to_aml_bytes(&self, sink: &mut dyn AmlSink) -> R<()> {
+        self.table.to_aml_bytes(sink)
+    }
+}
+
+impl SRAT {
+    /// A table without structures.
+    pub fn new(alloc: Global, oem_id: [u8; 6], oem_table_id: [u8; 8], oem_revision: u32) -> SRAT
+        ensures { result.table ≡ srat (record { id = oem_id; table_id = oem_table_id; revision = oem_revision }) }
+    {
+        let form = Form {
+            signature: *b"SRAT",
+            revision: 1,
+            oem: Oem {
+                id: oem_id,
+                table_id: oem_table_id,
+                revision: oem_revision,
+            },
+            count_width: 0,
+            limit: 0x1_0000_0000,
+        };
+        SRAT {
+            table: Table::new(alloc, form, &[1, 0, 0, 0, 0, 0, 0, 0, 0, 0, 0, 0], &[]),
+        }
+    }
+
+    /// Adds a range of memory. FieldWidth where the length would reach 2^32.
+    pub fn add_memory_affinity(&mut self, memory: MemoryAffinity) -> R<()>
+        ensures { Adds result self.old (whole (memory_affinity_bytes memory)) self.new }
+    {
+        self.table.add(&memory.bytes())
+    }
+
+    /// Adds a device that reaches memory by itself. PciAddress where its handle is no address, else FieldWidth where the
+    /// length would reach 2^32.
+    pub fn add_generic_initiator(&mut self, initiator: GenericInitiator) -> R<()>
+        ensures { Adds result self.old (generic_initiator_object initiator) self.new }
+    {
+        let bytes = initiator.bytes()?;
+        self.table.add(&bytes)
+    }
+
+    /// Adds a processor's interrupt controller. FieldWidth where the length would reach 2^32.
+    pub fn add_rintc_affinity(&mut self, rintc: RintcAffinity) -> R<()>
+        ensures { Adds result self.old (whole (rintc_affinity_bytes rintc)) self.new }
+    {
+        self.table.add(&rintc.bytes())
+    }
+}
+
+/// A law: after any calls the table is a true one, and its structures, in order, are the one list that walks it.
+pub fn srat_is_walked(table: &SRAT)
+    ensures { IsWalked srat_walk table.now.table }
+{
+    let _ = &table.table;
+}
+
+/// Flags of a range of memory (offset 28).
+const ENABLED: u32 = 1;
+
+const HOT_PLUGGABLE: u32 = 2;
+
+const NON_VOLATILE: u32 = 4;
+
+/// A range of memory and its proximity domain (ACPI 6.5, 5.2.16.2): 40 bytes.
+#[derive(Drop)]
+pub struct MemoryAffinity {
+    domain: u32,
+    base: u64,
+    size: u64,
+    flags: u32,
+}
+
+impl MemoryAffinity {
+    /// A range of `length` bytes from the physical address `base_address` on, without flags.
+    pub fn new(proximity_domain: u32, base_address: u64, length: u64) -> MemoryAffinity
+        ensures { result ≡ memory_affinity proximity_domain base_address length }
+    {
+        MemoryAffinity {
+            domain: proximity_domain,
+            base: base_address,
+            size: length,
+            flags: 0,
+        }
+    }
+
+    /// The range is in use (flag 1).
+    pub fn enabled(mut self) -> MemoryAffinity
+        ensures { result ≡ record self { flags = bit_or self.flags 1 } }
+    {
+        self.flags |= ENABLED;
+        self
+    }
+
+    /// The range may be added and removed while the system runs (flag 2).
+    pub fn hotpluggable(mut self) -> MemoryAffinity
+        ensures { result ≡ record self { flags = bit_or self.flags 2 } }
+    {
+        self.flags |= HOT_PLUGGABLE;
+        self
+    }
+
+    /// The range keeps its contents without power (flag 4).
+    pub fn nonvolatile(mut self) -> MemoryAffinity
+        ensures { result ≡ record self { flags = bit_or self.flags 4 } }
+    {
+        self.flags |= NON_VOLATILE;
+        self
+    }
+
+    // The structure's bytes.
+    fn bytes(&self) -> [u8; 40]
+        ensures { result ≡ memory_affinity_bytes self.now }
+    {
+        record(&[
+            Field::Byte(1),
+            Field::Byte(40),
+            Field::DWord(self.domain),
+            Field::Word(0),
+            Field::QWord(self.base),
+            Field::QWord(self.size),
+            Field::DWord(0),
+            Field::DWord(self.flags),
+            Field::QWord(0),
+        ])
+    }
+}
+
+impl Aml for MemoryAffinity {
+    ghost object = { λ m. whole (memory_affinity_bytes m) };
+
+    ghost ends_well = { λ m. whole_ends_well (memory_affinity_bytes m) };
+
+    fn to_aml_bytes(&self, sink: &mut dyn AmlSink) -> R<()> {
+        sink.vec(&self.bytes())
+    }
+}
+
+/// Which device a structure is about (ACPI 6.5, 5.2.16.6): by its ids in the namespace, or by its PCI address. A PCI
+/// address out of range is refused when written, by PciAddress.
+#[derive(Clone, Copy, Debug, PartialEq)]
+pub enum Handle {
+    Acpi {
+        hid: [u8; 8],
+        uid: [u8; 4],
+    },
+    Pci {
+        segment: u16,
+        bus: u8,
+        device: u8,
+        function: u8,
+    },
+}
+
+impl Handle {
+    /// The device of these `_HID` and `_UID`.
+    pub fn new_acpi(hid: [u8; 8], uid: [u8; 4]) -> Handle
+        ensures { result ≡ Handle.Acpi hid uid }
+    {
+        Handle::Acpi { hid, uid }
+    }
+
+    /// A PCI function: the device is below 32, the function below 8. The segment is 0 in a system with one.
+    pub fn new_pci(segment: u16, bus: u8, device: u8, function: u8) -> Handle
+        requires device { device < 32 }
+        requires function { function < 8 }
+        ensures { result ≡ Handle.Pci segment bus device function }
+    {
+        Handle::Pci {
+            segment,
+            bus,
+            device,
+            function,
+        }
+    }
+
+    // Device Handle Type.
+    fn kind(&self) -> u8
+        ensures { result ≡ handle_type self.now }
+    {
+        match self {
+            Handle::Acpi { .. } => 0,
+            Handle::Pci { .. } => 1,
+        }
+    }
+
+    // The handle's bytes.
+    fn bytes(&self) -> R<[u8; 16]>
+        ensures ok { IfOk result (λ bytes. Built (handle_object self.now) bytes) }
+        ensures err { IfErr result (λ e. (e ≡ Error.PciAddress) × (is_address self.now ≡ false)) }
+    {
+        match *self {
+            Handle::Acpi { hid, uid } => Ok(acpi_handle(hid, uid)),
+            Handle::Pci {
+                segment,
+                bus,
+                device,
+                function,
+            } => {
+                if device >= 32 || function >= 8 {
+                    return Err(Error::PciAddress);
+                }
+                Ok(record(&[
+                    Field::Word(segment),
+                    Field::Byte(bus),
+                    Field::Byte(device * 8 + function),
+                    Field::DWord(0),
+                    Field::QWord(0),
+                ]))
+            }
+        }
+    }
+}
+
+fn acpi_handle(hid: [u8; 8], uid: [u8; 4]) -> [u8; 16]
+    ensures { result ≡ handle_bytes (Handle.Acpi hid uid) }
+{
+    record(&[Field::Bytes(&hid), Field::Bytes(&uid), Field::DWord(0)])
+}
+
+impl Aml for Handle {
+    ghost object = { handle_object };
+
+    ghost ends_well = { λ h. addressed_ends_well (is_address h) (handle_bytes h) };
+
+    fn to_aml_bytes(&self, sink: &mut dyn AmlSink) -> R<()> {
+        let bytes = self.bytes()?;
+        sink.vec(&bytes)
+    }
+}
+
+/// Flags of an initiator (offset 24).
+const INITIATOR_ENABLED: u32 = 1;
+
+const ARCHITECTURAL_TRANSACTIONS: u32 = 2;
+
+/// A device that reaches memory by itself, and its proximity domain (ACPI 6.5, 5.2.16.6): 32 bytes.
+#[derive(Drop)]
+pub struct GenericInitiator {
+    domain: u32,
+    handle: Handle,
+    flags: u32,
+}
+
+impl GenericInitiator {
+    /// An initiator without flags.
+    pub fn new(proximity_domain: u32, handle: Handle) -> GenericInitiator
+        ensures { result ≡ generic_initiator proximity_domain handle }
+    {
+        GenericInitiator {
+            domain: proximity_domain,
+            handle,
+            flags: 0,
+        }
+    }
+
+    /// The initiator is in use (flag 1).
+    pub fn enabled(mut self) -> GenericInitiator
+        ensures { result ≡ record self { flags = bit_or self.flags 1 } }
+    {
+        self.flags |= INITIATOR_ENABLED;
+        self
+    }
+
+    /// It may use all transactions of the architecture (flag 2).
+    pub fn architectural(mut self) -> GenericInitiator
+        ensures { result ≡ record self { flags = bit_or self.flags 2 } }
+    {
+        self.flags |= ARCHITECTURAL_TRANSACTIONS;
+        self
+    }
+
+    // The structure's bytes.
+    fn bytes(&self) -> R<[u8; 32]>
+        ensures ok { IfOk result (λ bytes. Built (generic_initiator_object self.now) bytes) }
+        ensures err { IfErr result (λ e. (e ≡ Error.PciAddress) × (is_address self.now.handle ≡ false)) }
+    {
+        let handle = self.handle.bytes()?;
+        Ok(record(&[
+            Field::Byte(5),
+            Field::Byte(32),
+            Field::Byte(0),
+            Field::Byte(self.handle.kind()),
+            Field::DWord(self.domain),
+            Field::Bytes(&handle),
+            Field::DWord(self.flags),
+            Field::DWord(0),
+        ]))
+    }
+}
+
+impl Aml for GenericInitiator {
+    ghost object = { generic_initiator_object };
+
+    ghost ends_well = { λ g. addressed_ends_well (is_address g.handle) (generic_initiator_bytes g) };
+
+    fn to_aml_bytes(&self, sink: &mut dyn AmlSink) -> R<()> {
+        let bytes = self.bytes()?;
+        sink.vec(&bytes)
+    }
+}
+
+/// Flag of a processor's interrupt controller (offset 12).
+const RINTC_ENABLED: u32 = 1;
+
+/// A RISC-V processor's interrupt controller, its proximity domain and its clock domain (RISC-V profile): 20 bytes.
+#[derive(Clone, Copy, Debug)]
+pub struct RintcAffinity {
+    domain: u32,
+    uid: [u8; 4],
+    flags: u32,
+    clock_domain: u32,
+}
+
+impl RintcAffinity {
+    /// The processor of this `_UID`, in proximity domain 0, without flags.
+    pub fn new(acpi_processor_uid: [u8; 4], clock_domain: u32) -> RintcAffinity
+        ensures { result ≡ rintc_affinity acpi_processor_uid clock_domain }
+    {
+        RintcAffinity {
+            domain: 0,
+            uid: acpi_processor_uid,
+            flags: 0,
+            clock_domain,
+        }
+    }
+
+    /// The processor is in use (flag 1).
+    pub fn enabled(mut self) -> RintcAffinity
+        ensures { result ≡ record self { flags = bit_or self.flags 1 } }
+    {
+        self.flags |= RINTC_ENABLED;
+        self
+    }
+
+    /// The proximity domain (offset 4).
+    pub fn proximity_domain(mut self, proximity_domain: u32) -> RintcAffinity
+        ensures { result ≡ record self { domain = proximity_domain } }
+    {
+        self.domain = proximity_domain;
+        self
+    }
+
+    // The structure's bytes.
+    fn bytes(&self) -> [u8; 20]
+        ensures { result ≡ rintc_affinity_bytes self.now }
+    {
+        record(&[
+            Field::Byte(7),
+            Field::Byte(20),
+            Field::Word(0),
+            Field::DWord(self.domain),
+            Field::Bytes(&self.uid),
+            Field::DWord(self.flags),
+            Field::DWord(self.clock_domain),
+        ])
+    }
+}
+
+impl Aml for RintcAffinity {
+    ghost object = { λ r. whole (rintc_affinity_bytes r) };
+
+    ghost ends_well = { λ r. whole_ends_well (rintc_affinity_bytes r) };
+
+    fn to_aml_bytes(&self, sink: &mut dyn AmlSink) -> R<()> {
+        sink.vec(&self.bytes())
+    }
+}

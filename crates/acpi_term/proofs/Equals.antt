@@ -1,0 +1,172 @@
+-- Terms of the code with one view are equal.
+use Rattle.std.proofs.Common.{◌≡◌, max, List, [], ◌∷◌, Vec, true, false, ℕ, zero, suc, Bool, eqb, refl, sym, ap, subst, ◌∙◌, arith}
+use Rattle.std.specs.Prelude.{◌&&◌, map, nat_eq, string_bytes, String}
+use Rattle.std.specs.declared.alloc.Global.{Global}
+use Rattle.std.specs.Cmp.Lexicographic.{pointwise}
+use Rattle.std.specs.String.{string_eq}
+use Rattle.std.proofs.lemmas.Bool.Decides.{nat_tests}
+use denote.Enum.Bare.{sameb}
+use denote.Hole.Compared.{within, compared, settled}
+use mathlib.Core.Bool.{beq}
+use Rattle.acpi_term.specs.declared.op.Op.{Op}
+use Rattle.acpi_term.specs.declared.op.Op.TheVariants.{LNot}
+use Rattle.acpi_term.specs.contracts.op.Op.{the_type}
+use Rattle.acpi_term.specs.declared.term.TermEntry.{TermEntry}
+use Rattle.acpi_term.specs.declared.term.TermEntry.TheVariants.{Named, Reserved}
+use Rattle.acpi_term.specs.contracts.term.TermEntryPartialEq.TheImpl.{eq-value}
+use Rattle.acpi_term.specs.declared.term.Term.{Term}
+use Rattle.acpi_term.specs.declared.term.Term.TheOpen.{Term-F}
+use Rattle.acpi_term.specs.declared.term.Term.TheFolds.{fold_out-Term, map-Term}
+use Rattle.acpi_term.specs.declared.term.Term.TheViews.{out-Term, roll-Term, roll-out-Term}
+use Rattle.acpi_term.specs.declared.term.Term.TheBlock.{the_members, the_family, the_depth, member-Term, seen-the_row-Term-0, shape-the_row-Term-0, hidden-the_row-Term-0, shown-the_row-Term-0}
+use Rattle.acpi_term.specs.contracts.term.TermPartialEq.TheImpl.{the_step}
+use Rattle.acpi_term.specs.contracts.term.TermPartialEq.TheImpl.Laws.{local}
+use Rattle.acpi_term.specs.View.{Parts, entry_view, view, views, view_step}
+
+-- ---- values
+
+both : (a b : Bool) → a ≡ true → b ≡ true → a && b ≡ true
+both a b e f = rw (e, f) refl
+
+nat_same : (a b : ℕ) → a ≡ b → eqb a b ≡ true
+nat_same a b e = grind (arith, nat_tests)
+
+bytes_itself : (a : List ℕ) → pointwise nat_eq a a ≡ true
+bytes_itself [] = refl
+bytes_itself (x ∷ a) = both _ _ (nat_same x x refl) (bytes_itself a)
+
+bytes_same : (a b : List ℕ) → a ≡ b → pointwise nat_eq a b ≡ true
+bytes_same a b e = rw e (bytes_itself b)
+
+text_same : (s t : String Global) → string_bytes s ≡ string_bytes t → string_eq s t ≡ true
+text_same s t e = bytes_same (string_bytes s) (string_bytes t) e
+
+bool_itself : (a : Bool) → beq a a ≡ true
+bool_itself true = refl
+bool_itself false = refl
+
+bool_same : (a b : Bool) → a ≡ b → beq a b ≡ true
+bool_same a b e = rw e (bool_itself b)
+
+op_itself : (o : Op) → sameb the_type o o ≡ true
+op_itself LNot = refl
+op_itself o = refl
+
+op_same : (a b : Op) → a ≡ b → sameb the_type a b ≡ true
+op_same a b e = rw e (op_itself b)
+
+entry_same : (x y : TermEntry) → entry_view x ≡ entry_view y → eq-value.it x y ≡ true
+entry_same (Named name bits w) (Named name' bits' w') e =
+    let a : name ≡ name' = cc in let b : bits ≡ bits' = cc in let c : w ≡ w' = cc in
+    both _ _ (bytes_same name name' a) (both _ _ (nat_same bits bits' b) (nat_same w w' c))
+entry_same (Reserved bits w) (Reserved bits' w') e = let b : bits ≡ bits' = cc in let c : w ≡ w' = cc in both _ _ (nat_same bits bits' b) (nat_same w w' c)
+entry_same x y e = absurd cc
+
+entries_same : (xs ys : List TermEntry) → map entry_view xs ≡ map entry_view ys → pointwise eq-value.it xs ys ≡ true
+entries_same [] [] e = refl
+entries_same (x ∷ xs) (y ∷ ys) e = let a : entry_view x ≡ entry_view y = cc in let b : map entry_view xs ≡ map entry_view ys = cc in both _ _ (entry_same x y a) (entries_same xs ys b)
+entries_same x y e = absurd cc
+
+-- ---- terms, as far as a number of steps compares them
+
+abbrev same_at : ℕ → Term → Term → Bool
+same_at n t u = within the_members the_family the_depth Bool true the_step n member-Term t u
+
+abbrev AreSame : ℕ → Type 0
+AreSame n = (t u : Term) → view t ≡ view u → same_at n t u ≡ true
+
+first_view : (t u : Term) (ts us : List Term) → views (t ∷ ts) ≡ views (u ∷ us) → view t ≡ view u
+first_view t u ts us e =
+    let a : (view t).0 ≡ (view u).0 = cc in let b : (view t).1 ≡ (view u).1 = cc in let c : (view t).2 ≡ (view u).2 = cc in
+    λ i. (a i, b i, c i)
+
+other_views : (t u : Term) (ts us : List Term) → views (t ∷ ts) ≡ views (u ∷ us) → views ts ≡ views us
+other_views t u ts us e = cc
+
+lists_same : (n : ℕ) → AreSame n → (xs ys : List Term) → views xs ≡ views ys → pointwise (same_at n) xs ys ≡ true
+lists_same n below [] [] e = refl
+lists_same n below (x ∷ xs) (y ∷ ys) e = both _ _ (below x y (first_view x y xs ys e)) (lists_same n below xs ys (other_views x y xs ys e))
+lists_same n below x y e = absurd cc
+
+abbrev items_of : Vec Term Global → List Term
+items_of v = (shown-the_row-Term-0 (shape-the_row-Term-0 v) (hidden-the_row-Term-0 v)).items
+
+rows_same : (n : ℕ) → AreSame n → (v v' : Vec Term Global) → views v.items ≡ views v'.items → pointwise (same_at n) (items_of v) (items_of v') ≡ true
+rows_same n below v v' e =
+    subst (λ (x : Vec Term Global). pointwise (same_at n) x.items (items_of v') ≡ true) (sym (seen-the_row-Term-0 v))
+    (subst (λ (x : Vec Term Global). pointwise (same_at n) v.items x.items ≡ true) (sym (seen-the_row-Term-0 v')) (lists_same n below v.items v'.items e))
+
+seen : Term-F Term → Parts
+seen x = view_step (map-Term Term Parts view x)
+
+layer : (n : ℕ) → AreSame n → (x y : Term-F Term) → (seen x).0 ≡ (seen y).0 → (seen x).1 ≡ (seen y).1 → (seen x).2 ≡ (seen y).2 → same_at (suc n) (roll-Term x) (roll-Term y) ≡ true
+unfolding seen within out-Term denote.Hole.Carrier.out roll-Term denote.Hole.Carrier.roll
+layer n below (Term-F.Number v a) (Term-F.Number v' b) h w c = let e : v ≡ v' = cc in both _ _ (nat_same v v' e) (nat_same a b w)
+layer n below Term-F.Ones Term-F.Ones h w c = refl
+layer n below (Term-F.Text s) (Term-F.Text s') h w c = let e : string_bytes s ≡ string_bytes s' = cc in text_same s s' e
+layer n below (Term-F.Local k) (Term-F.Local k') h w c = let e : k ≡ k' = cc in nat_same k k' e
+layer n below (Term-F.Arg k) (Term-F.Arg k') h w c = let e : k ≡ k' = cc in nat_same k k' e
+layer n below (Term-F.Call name args) (Term-F.Call name' args') h w c = let e : name ≡ name' = cc in both _ _ (bytes_same name name' e) (rows_same n below args args' c)
+layer n below (Term-F.Scope a name body) (Term-F.Scope b name' body') h w c = let e : name ≡ name' = cc in both _ _ (nat_same a b w) (both _ _ (bytes_same name name' e) (rows_same n below body body' c))
+layer n below (Term-F.Device a name body) (Term-F.Device b name' body') h w c = let e : name ≡ name' = cc in both _ _ (nat_same a b w) (both _ _ (bytes_same name name' e) (rows_same n below body body' c))
+layer n below (Term-F.Method a name args serialized body) (Term-F.Method b name' args' serialized' body') h w c =
+    let e : name ≡ name' = cc in let f : args ≡ args' = cc in let g : serialized ≡ serialized' = cc in
+    both _ _ (nat_same a b w) (both _ _ (bytes_same name name' e) (both _ _ (nat_same args args' f) (both _ _ (bool_same serialized serialized' g) (rows_same n below body body' c))))
+layer n below (Term-F.PowerResource a name level order body) (Term-F.PowerResource b name' level' order' body') h w c =
+    let e : name ≡ name' = cc in let f : level ≡ level' = cc in let g : order ≡ order' = cc in
+    both _ _ (nat_same a b w) (both _ _ (bytes_same name name' e) (both _ _ (nat_same level level' f) (both _ _ (nat_same order order' g) (rows_same n below body body' c))))
+layer n below (Term-F.Field a name access lock update entries) (Term-F.Field b name' access' lock' update' entries') h w c =
+    let e : name ≡ name' = cc in let f : access ≡ access' = cc in let g : lock ≡ lock' = cc in let k : update ≡ update' = cc in
+    let l : map entry_view entries.items ≡ map entry_view entries'.items = cc in
+    both _ _ (nat_same a b w)
+    (both _ _ (bytes_same name name' e) (both _ _ (nat_same access access' f) (both _ _ (nat_same lock lock' g) (both _ _ (nat_same update update' k) (entries_same entries.items entries'.items l)))))
+layer n below (Term-F.OpRegion name space offset size) (Term-F.OpRegion name' space' offset' size') h w c =
+    let e : name ≡ name' = cc in let f : space ≡ space' = cc in
+    let s : views (size.value ∷ []) ≡ views (size'.value ∷ []) = other_views offset.value offset'.value (size.value ∷ []) (size'.value ∷ []) c in
+    both _ _ (bytes_same name name' e) (both _ _ (nat_same space space' f)
+    (both _ _ (below offset.value offset'.value (first_view offset.value offset'.value (size.value ∷ []) (size'.value ∷ []) c)) (below size.value size'.value (first_view size.value size'.value [] [] s))))
+layer n below (Term-F.Name name value) (Term-F.Name name' value') h w c =
+    let e : name ≡ name' = cc in both _ _ (bytes_same name name' e) (below value.value value'.value (first_view value.value value'.value [] [] c))
+layer n below (Term-F.Mutex name level) (Term-F.Mutex name' level') h w c = let e : name ≡ name' = cc in let f : level ≡ level' = cc in both _ _ (bytes_same name name' e) (nat_same level level' f)
+layer n below (Term-F.Acquire name timeout) (Term-F.Acquire name' timeout') h w c = let e : name ≡ name' = cc in let f : timeout ≡ timeout' = cc in both _ _ (bytes_same name name' e) (nat_same timeout timeout' f)
+layer n below (Term-F.Release name) (Term-F.Release name') h w c = let e : name ≡ name' = cc in bytes_same name name' e
+layer n below (Term-F.Buffer a size bytes) (Term-F.Buffer b size' bytes') h w c =
+    let e : bytes.items ≡ bytes'.items = cc in
+    both _ _ (nat_same a b w) (both _ _ (below size.value size'.value (first_view size.value size'.value [] [] c)) (bytes_same bytes.items bytes'.items e))
+layer n below (Term-F.Package a elements) (Term-F.Package b elements') h w c = both _ _ (nat_same a b w) (rows_same n below elements elements' c)
+layer n below (Term-F.VarPackage a size elements) (Term-F.VarPackage b size' elements') h w c =
+    both _ _ (nat_same a b w) (both _ _ (below size.value size'.value (first_view size.value size'.value elements.items elements'.items c))
+    (rows_same n below elements elements' (other_views size.value size'.value elements.items elements'.items c)))
+layer n below (Term-F.If a predicate body) (Term-F.If b predicate' body') h w c =
+    both _ _ (nat_same a b w) (both _ _ (below predicate.value predicate'.value (first_view predicate.value predicate'.value body.items body'.items c))
+    (rows_same n below body body' (other_views predicate.value predicate'.value body.items body'.items c)))
+layer n below (Term-F.While a predicate body) (Term-F.While b predicate' body') h w c =
+    both _ _ (nat_same a b w) (both _ _ (below predicate.value predicate'.value (first_view predicate.value predicate'.value body.items body'.items c))
+    (rows_same n below body body' (other_views predicate.value predicate'.value body.items body'.items c)))
+layer n below (Term-F.Else a body) (Term-F.Else b body') h w c = both _ _ (nat_same a b w) (rows_same n below body body' c)
+layer n below (Term-F.Op o operands) (Term-F.Op o' operands') h w c = let e : o ≡ o' = cc in both _ _ (op_same o o' e) (rows_same n below operands operands' c)
+layer n below x y h w c = absurd cc
+
+within_none : (t u : Term) → same_at zero t u ≡ true
+unfolding within
+within_none t u = refl
+
+are_same : (n : ℕ) → AreSame n
+unfolding seen
+are_same zero t u e = within_none t u
+are_same (suc n) t u e =
+    let f : seen (out-Term t) ≡ seen (out-Term u) = sym (fold_out-Term Parts view_step t) ∙ e ∙ fold_out-Term Parts view_step u in
+    let g = layer n (are_same n) (out-Term t) (out-Term u) (ap (λ (p : Parts). p.0) f) (ap (λ (p : Parts). p.1) f) (ap (λ (p : Parts). p.2) f) in
+    subst (λ (x : Term). same_at (suc n) x u ≡ true) (roll-out-Term t) (subst (λ (y : Term). same_at (suc n) (roll-Term (out-Term t)) y ≡ true) (roll-out-Term u) g)
+
+-- ---- as code compares them
+
+pub term_equal : (t u : Term) → view t ≡ view u → compared the_members the_family the_depth Bool true the_step member-Term t u ≡ true
+term_equal t u e =
+    let n = suc (max (the_depth member-Term t) (the_depth member-Term u)) in
+    sym (settled the_members the_family the_depth Bool true the_step local n member-Term t u (omega arith) (omega arith)) ∙ are_same n t u e
+
+pub terms_equal : (ts us : List Term) → views ts ≡ views us → pointwise (compared the_members the_family the_depth Bool true the_step member-Term) ts us ≡ true
+terms_equal [] [] e = refl
+terms_equal (t ∷ ts) (u ∷ us) e = both _ _ (term_equal t u (first_view t u ts us e)) (terms_equal ts us (other_views t u ts us e))
+terms_equal ts us e = absurd cc

@@ -1,0 +1,7 @@
+use Rattle.std.proofs.Common.{rules}
+use Rattle.acpi_term.proofs.Spells.{field_laid}
+use Rattle.acpi_term.proofs.spell.own_bytes.Goals as goal
+
+pub returns-in_ok-spell_entries-in-Field-clause-ok : goal.returns-in_ok-spell_entries-in-Field-clause-ok
+returns-in_ok-spell_entries-in-Field-clause-ok c =
+    rw c.in-Field.is (field_laid _ _ _ _ _ _ _ _ _ _ c.in_ok-flags-in-Field.ensures.ok (search rules) (search rules) c.in_ok-spell_entries-in-Field.ensures.ok c.in_ok-spell_entries-in-Field.ensures.fits)

@@ -1,0 +1,307 @@
+-- Reading terms from left to right, at most as deep as is said. It defines nothing: what is spelled is read, and what is
+-- read is spelled (`Again`, `Taken` in proofs/), which proves that bytes spell one list at most. It stands here since the
+-- program that reads is compared with it, part by part; what that program promises names the spelling alone.
+use Rattle.std.specs.Prelude.{ℕ, zero, suc, ◌+◌, ◌-◌, ◌*◌, ◌/◌, ◌%◌, ◌==◌, ◌&&◌, ◌||◌, nat_lt, nat_le, Bool, if◌then◌else◌, List, [], ◌∷◌, ◌++◌, length, take, drop, Option, Some, None, Result, Ok, Err}
+use Rattle.acpi_term.specs.declared.op.Op.{Op}
+use Rattle.acpi_term.specs.declared.op.Op.TheVariants.{LNot, LEqual, LLess, LGreater, LAnd, LOr, Increment, Decrement, Break, ObjectType, SizeOf, Return, DeRefOf, Add, Concat, Subtract, Multiply, ShiftLeft, ShiftRight, And, Nand, Or, Nor, Xor, ConcatRes, Mod, Index, ToString, CreateDWordField, CreateQWordField, ToBuffer, ToInteger, Store, Notify, Mid, CreateField}
+use Rattle.acpi_term.specs.declared.mode.Mode.{Mode}
+use Rattle.acpi_term.specs.declared.mode.Mode.TheVariants.{Term, Element}
+use Rattle.acpi_term.specs.Tree.{Entry, named, reserved, Head, number, ones, string, local, arg, call, def_scope, def_device, def_method, def_power_res, def_field, def_op_region, def_name, def_mutex, def_acquire, def_release, def_buffer, def_package, def_var_package, def_if, def_while, def_else, op, Terms, end, term, count}
+use Rattle.acpi_term.specs.Name.{is_lead, is_segment}
+use Rattle.acpi_term.specs.Operator.{operands}
+use Rattle.acpi_term.specs.Spelling.{arguments, inner, next}
+
+-- deeper than was asked for, or anything else
+pub data Fault : Type 0 where
+  Deep : Fault
+  Bad : Fault
+
+infixl 10 ◌>>=◌
+abbrev pub ◌>>=◌ : {A B : Type 0} → Result A Fault → (A → Result B Fault) → Result B Fault
+(Ok x) >>= f = f x
+(Err e) >>= f = Err e
+
+-- ---- names
+
+abbrev pub segment_at : List ℕ → Result (List ℕ × List ℕ) Fault
+segment_at (a ∷ b ∷ c ∷ d ∷ rest) = if is_segment a b c d then Ok (a ∷ b ∷ c ∷ d ∷ [], rest) else Err Bad
+segment_at _ = Err Bad
+
+unfoldable pub segments_at : ℕ → List ℕ → Result (List ℕ × List ℕ) Fault
+segments_at zero bytes = Ok ([], bytes)
+segments_at (suc n) bytes = segment_at bytes >>= λ s. segments_at n s.1 >>= λ t. Ok (s.0 ++ t.0, t.1)
+
+unfoldable pub several_at : List ℕ → Result (List ℕ × List ℕ) Fault
+several_at [] = Err Bad
+several_at (n ∷ rest) = if nat_lt n 3 then Err Bad else (segments_at n rest >>= λ s. Ok (0x2f ∷ n ∷ s.0, s.1))
+
+unfoldable pub path_at : List ℕ → Result (List ℕ × List ℕ) Fault
+path_at [] = Err Bad
+path_at (b ∷ rest) = if b == 0x2e then (segment_at rest >>= λ s. segment_at s.1 >>= λ t. Ok (0x2e ∷ s.0 ++ t.0, t.1)) else (if b == 0x2f then several_at rest else segment_at (b ∷ rest))
+
+unfoldable pub name_at : List ℕ → Result (List ℕ × List ℕ) Fault
+name_at [] = Err Bad
+name_at (b ∷ rest) = if b == 0x5c then (path_at rest >>= λ s. Ok (0x5c ∷ s.0, s.1)) else path_at (b ∷ rest)
+
+-- ---- frames
+
+abbrev pub cut_at : ℕ → List ℕ → Result (List ℕ × List ℕ) Fault
+cut_at n bytes = if nat_lt (length bytes) n then Err Bad else Ok (take n bytes, drop n bytes)
+
+-- a number of k bytes, lowest first
+unfoldable pub high_at : ℕ → List ℕ → Result (ℕ × List ℕ) Fault
+high_at zero bytes = Ok (0, bytes)
+high_at (suc k) [] = Err Bad
+high_at (suc k) (b ∷ rest) = high_at k rest >>= λ h. Ok (b + 256 * h.0, h.1)
+
+abbrev pub long_at : ℕ → ℕ → List ℕ → Result (ℕ × ℕ × List ℕ) Fault
+long_at k low bytes = if nat_lt low 16 then (high_at k bytes >>= λ h. Ok (k + 1, low + 16 * h.0, h.1)) else Err Bad
+
+-- a length in any width: the width, the length and the bytes after it
+unfoldable pub length_at : List ℕ → Result (ℕ × ℕ × List ℕ) Fault
+length_at [] = Err Bad
+length_at (b ∷ rest) = if nat_lt b 64 then Ok (1, b, rest) else long_at (b / 64) (b % 64) rest
+
+abbrev pub sized_at : ℕ → ℕ → List ℕ → Result (ℕ × List ℕ × List ℕ) Fault
+sized_at w v rest = if nat_lt v w then Err Bad else (cut_at (v - w) rest >>= λ c. Ok (w, c.0, c.1))
+
+-- the width of the length, the content, and the bytes after it
+unfoldable pub frame_at : List ℕ → Result (ℕ × List ℕ × List ℕ) Fault
+frame_at bytes = length_at bytes >>= λ l. sized_at l.0 l.1 l.2
+
+-- ---- fields
+
+unfoldable pub entry_at : List ℕ → Result (Entry × List ℕ) Fault
+entry_at [] = Err Bad
+entry_at (b ∷ rest) = if b == 0x00 then (length_at rest >>= λ l. Ok (reserved l.1 l.0, l.2)) else (segment_at (b ∷ rest) >>= λ s. length_at s.1 >>= λ l. Ok (named s.0 l.1 l.0, l.2))
+
+-- all of the bytes, which are at most n
+unfoldable pub entries_at : ℕ → List ℕ → Result (List Entry) Fault
+entries_at n [] = Ok []
+entries_at zero (b ∷ bytes) = Err Bad
+entries_at (suc n) (b ∷ bytes) = entry_at (b ∷ bytes) >>= λ e. entries_at n e.1 >>= λ others. Ok (e.0 ∷ others)
+
+-- ---- texts
+
+-- the bytes up to a zero, which is left out, and the bytes after it
+unfoldable pub text_at : List ℕ → Result (List ℕ × List ℕ) Fault
+text_at [] = Err Bad
+text_at (b ∷ rest) = if b == 0x00 then Ok ([], rest) else (if nat_lt b 0x80 then (text_at rest >>= λ t. Ok (b ∷ t.0, t.1)) else Err Bad)
+
+-- ---- heads
+
+-- A head that was read, with its width: where its children are read from.
+pub data Opened : Type 0 where
+  -- n children, and then the rest
+  follows : Head → ℕ → ℕ → List ℕ → Opened
+  -- children that fill the bytes inside, and the bytes after these
+  fills : Head → ℕ → List ℕ → List ℕ → Opened
+  -- a package's width, and n elements that fill the bytes inside
+  packs : ℕ → ℕ → List ℕ → List ℕ → Opened
+  -- a buffer's width, and a size and the other bytes inside
+  begins : ℕ → List ℕ → List ℕ → Opened
+
+abbrev pub op_of : ℕ → Option Op
+op_of b =
+    if b == 0x92 then Some LNot
+    else (if b == 0x93 then Some LEqual
+    else (if b == 0x95 then Some LLess
+    else (if b == 0x94 then Some LGreater
+    else (if b == 0x90 then Some LAnd
+    else (if b == 0x91 then Some LOr
+    else (if b == 0x75 then Some Increment
+    else (if b == 0x76 then Some Decrement
+    else (if b == 0xa5 then Some Break
+    else (if b == 0x8e then Some ObjectType
+    else (if b == 0x87 then Some SizeOf
+    else (if b == 0xa4 then Some Return
+    else (if b == 0x83 then Some DeRefOf
+    else (if b == 0x72 then Some Add
+    else (if b == 0x73 then Some Concat
+    else (if b == 0x74 then Some Subtract
+    else (if b == 0x77 then Some Multiply
+    else (if b == 0x79 then Some ShiftLeft
+    else (if b == 0x7a then Some ShiftRight
+    else (if b == 0x7b then Some And
+    else (if b == 0x7c then Some Nand
+    else (if b == 0x7d then Some Or
+    else (if b == 0x7e then Some Nor
+    else (if b == 0x7f then Some Xor
+    else (if b == 0x84 then Some ConcatRes
+    else (if b == 0x85 then Some Mod
+    else (if b == 0x88 then Some Index
+    else (if b == 0x9c then Some ToString
+    else (if b == 0x8a then Some CreateDWordField
+    else (if b == 0x8f then Some CreateQWordField
+    else (if b == 0x96 then Some ToBuffer
+    else (if b == 0x99 then Some ToInteger
+    else (if b == 0x70 then Some Store
+    else (if b == 0x86 then Some Notify
+    else (if b == 0x9e then Some Mid
+    else None))))))))))))))))))))))))))))))))))
+
+abbrev pub begins_name : ℕ → Bool
+begins_name b = is_lead b || b == 0x2e || b == 0x2f || b == 0x5c
+
+abbrev pub number_at : ℕ → List ℕ → Result Opened Fault
+number_at w bytes = high_at w bytes >>= λ h. Ok (follows (number h.0) w 0 h.1)
+
+abbrev pub string_at : List ℕ → Result Opened Fault
+string_at bytes = text_at bytes >>= λ t. Ok (follows (string t.0) 0 0 t.1)
+
+-- what a name is followed by, given the name and the bytes after it
+abbrev pub After : Type 0
+After = List ℕ → List ℕ → Result Opened Fault
+
+abbrev pub named_at : After → List ℕ → Result Opened Fault
+named_at k bytes = name_at bytes >>= λ n. k n.0 n.1
+
+abbrev pub define_after : After
+define_after name rest = Ok (follows (def_name name) 0 1 rest)
+
+abbrev pub release_after : After
+release_after name rest = Ok (follows (def_release name) 0 0 rest)
+
+abbrev pub mutex_after : After
+mutex_after name [] = Err Bad
+mutex_after name (level ∷ rest) = Ok (follows (def_mutex name level) 0 0 rest)
+
+abbrev pub region_after : After
+region_after name [] = Err Bad
+region_after name (space ∷ rest) = Ok (follows (def_op_region name space) 0 2 rest)
+
+abbrev pub acquire_after : After
+acquire_after name bytes = high_at 2 bytes >>= λ h. Ok (follows (def_acquire name h.0) 0 0 h.1)
+
+-- what a name in a frame is followed by, given the width, the name, the other bytes inside and the bytes after the frame
+abbrev pub Inside : Type 0
+Inside = ℕ → List ℕ → List ℕ → List ℕ → Result Opened Fault
+
+abbrev pub framed_at : Inside → List ℕ → Result Opened Fault
+framed_at k bytes = frame_at bytes >>= λ f. name_at f.1 >>= λ n. k f.0 n.0 n.1 f.2
+
+abbrev pub scope_inside : Inside
+scope_inside w name inside after = Ok (fills (def_scope name) w inside after)
+
+abbrev pub device_inside : Inside
+device_inside w name inside after = Ok (fills (def_device name) w inside after)
+
+abbrev pub method_inside : Inside
+method_inside w name [] after = Err Bad
+method_inside w name (flags ∷ inside) after = if nat_lt flags 16 then Ok (fills (def_method name (flags % 8) (nat_le 8 flags)) w inside after) else Err Bad
+
+abbrev pub power_inside : Inside
+power_inside w name [] after = Err Bad
+power_inside w name (level ∷ rest) after = high_at 2 rest >>= λ h. Ok (fills (def_power_res name level h.0) w h.1 after)
+
+abbrev pub field_inside : Inside
+field_inside w name [] after = Err Bad
+field_inside w name (b ∷ rest) after = if nat_lt (b % 16) 6 then (if nat_lt b 96 then (entries_at (length rest) rest >>= λ e. Ok (follows (def_field name (b % 16) (b / 16 % 2) (b / 32) e) w 0 after)) else Err Bad) else Err Bad
+
+-- a frame with nothing of its own
+abbrev pub plain_at : Head → List ℕ → Result Opened Fault
+plain_at h bytes = frame_at bytes >>= λ f. Ok (fills h f.0 f.1 f.2)
+
+abbrev pub counted_frame : ℕ → List ℕ → List ℕ → Result Opened Fault
+counted_frame w [] after = Err Bad
+counted_frame w (n ∷ inside) after = Ok (packs w n inside after)
+
+abbrev pub package_at : List ℕ → Result Opened Fault
+package_at bytes = frame_at bytes >>= λ f. counted_frame f.0 f.1 f.2
+
+abbrev pub buffer_at : List ℕ → Result Opened Fault
+buffer_at bytes = frame_at bytes >>= λ f. Ok (begins f.0 f.1 f.2)
+
+abbrev pub operator_at : Option Op → List ℕ → Result Opened Fault
+operator_at None rest = Err Bad
+operator_at (Some o) rest = Ok (follows (op o) 0 (operands o) rest)
+
+-- the second byte of a two byte opcode
+abbrev pub extended_at : List ℕ → Result Opened Fault
+extended_at [] = Err Bad
+extended_at (b ∷ rest) =
+    if b == 0x01 then named_at mutex_after rest
+    else (if b == 0x13 then operator_at (Some CreateField) rest
+    else (if b == 0x23 then named_at acquire_after rest
+    else (if b == 0x27 then named_at release_after rest
+    else (if b == 0x80 then named_at region_after rest
+    else (if b == 0x81 then framed_at field_inside rest
+    else (if b == 0x82 then framed_at device_inside rest
+    else (if b == 0x84 then framed_at power_inside rest
+    else Err Bad)))))))
+
+abbrev pub local_at : ℕ → List ℕ → Result Opened Fault
+local_at b rest =
+    if nat_le 0x60 b && nat_le b 0x67 then Ok (follows (local (b - 0x60)) 0 0 rest) else (if nat_le 0x68 b && nat_le b 0x6e then Ok (follows (arg (b - 0x68)) 0 0 rest) else operator_at (op_of b) rest)
+
+abbrev pub opcode_at : ℕ → List ℕ → Result Opened Fault
+opcode_at b rest =
+    if nat_lt b 2 then Ok (follows (number b) 0 0 rest)
+    else (if b == 0x08 then named_at define_after rest
+    else (if b == 0x0a then number_at 1 rest
+    else (if b == 0x0b then number_at 2 rest
+    else (if b == 0x0c then number_at 4 rest
+    else (if b == 0x0d then string_at rest
+    else (if b == 0x0e then number_at 8 rest
+    else (if b == 0x10 then framed_at scope_inside rest
+    else (if b == 0x11 then buffer_at rest
+    else (if b == 0x12 then package_at rest
+    else (if b == 0x13 then plain_at def_var_package rest
+    else (if b == 0x14 then framed_at method_inside rest
+    else (if b == 0x5b then extended_at rest
+    else (if b == 0xa0 then plain_at def_if rest
+    else (if b == 0xa1 then plain_at def_else rest
+    else (if b == 0xa2 then plain_at def_while rest
+    else (if b == 0xff then Ok (follows ones 0 0 rest)
+    else local_at b rest))))))))))))))))
+
+module _ (arity : List ℕ → ℕ) where
+  unfoldable pub open_at : Mode → List ℕ → Result Opened Fault
+  open_at m [] = Err Bad
+  open_at m (b ∷ rest) = if begins_name b then (name_at (b ∷ rest) >>= λ n. Ok (follows (call n.0) 0 (arguments arity m n.0) n.1)) else opcode_at b rest
+
+-- ---- terms
+
+-- how many children there must be in a frame
+abbrev pub least_of : Head → ℕ
+least_of def_if = 1
+least_of def_while = 1
+least_of def_var_package = 1
+least_of _ = 0
+
+-- a head, its width and its children
+abbrev pub One : Type 0
+One = Head × ℕ × Terms
+
+-- the same, where the children are enough
+unfoldable pub assembled : Head → ℕ → Terms → Result One Fault
+assembled h w c = if nat_lt (count c) (least_of h) then Err Bad else Ok (h, w, c)
+
+-- reads one term: its head, its width, its children and the bytes after it
+abbrev pub Reader : Type 0
+Reader = Mode → List ℕ → Result (Head × ℕ × Terms × List ℕ) Fault
+
+module _ (read : Reader) where
+  unfoldable pub counted : ℕ → Mode → List ℕ → Result (Terms × List ℕ) Fault
+  counted zero m bytes = Ok (end, bytes)
+  counted (suc n) m bytes = read m bytes >>= λ t. counted n (next m) t.3 >>= λ others. Ok (term t.0 t.1 t.2 others.0, others.1)
+
+  -- all of the bytes, which are at most n
+  unfoldable pub all_of : ℕ → Mode → List ℕ → Result Terms Fault
+  all_of n m [] = Ok end
+  all_of zero m (b ∷ bytes) = Err Bad
+  all_of (suc n) m (b ∷ bytes) = read m (b ∷ bytes) >>= λ t. all_of n (next m) t.3 >>= λ others. Ok (term t.0 t.1 t.2 others)
+
+  abbrev pub wants_no_more : Head → ℕ → Terms → List ℕ → List ℕ → Result (Head × ℕ × Terms × List ℕ) Fault
+  wants_no_more h w children [] after = Ok (h, w, children, after)
+  wants_no_more h w children (b ∷ rest) after = Err Bad
+
+  unfoldable pub close : Opened → Result (Head × ℕ × Terms × List ℕ) Fault
+  close (follows h w n rest) = counted n (inner h) rest >>= λ c. Ok (h, w, c.0, c.1)
+  close (fills h w inside after) = all_of (length inside) (inner h) inside >>= λ c. assembled h w c >>= λ t. Ok (t.0, t.1, t.2, after)
+  close (packs w n inside after) = counted n Element inside >>= λ c. wants_no_more def_package w c.0 c.1 after
+  close (begins w inside after) = counted 1 Term inside >>= λ c. Ok (def_buffer c.1, w, c.0, after)
+
+unfoldable pub term_at : (List ℕ → ℕ) → ℕ → Reader
+term_at arity zero m bytes = Err Deep
+term_at arity (suc d) m bytes = open_at arity m bytes >>= close (term_at arity d)

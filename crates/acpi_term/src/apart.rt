@@ -1,0 +1,180 @@
+//! Terms taken apart.
+
+ghost use Rattle.std.specs.Prelude.{◌≡◌, ℕ};
+ghost use Rattle.std.specs.Option.{option_map};
+ghost use Rattle.acpi_term.specs.Row.{code_of, after_of, layout};
+ghost use Rattle.acpi_term.specs.View.{head_of, IsApart};
+
+use crate::name_string::NameString;
+use crate::op::Op;
+use crate::term::{Term, TermEntry};
+use std::slice::from_ref;
+
+/// What a term is beside its width and its children, lent.
+#[derive(Clone, Copy, Debug)]
+pub enum Kind<'a> {
+    Number(u64),
+    Ones,
+    Text(&'a str),
+    Local(u8),
+    Arg(u8),
+    Call(&'a NameString),
+    Scope(&'a NameString),
+    Device(&'a NameString),
+    /// Name, number of arguments, whether serialized.
+    Method(&'a NameString, u8, bool),
+    /// Name, system level, resource order.
+    PowerResource(&'a NameString, u8, u16),
+    /// Name, access type, lock rule, update rule, entries.
+    Field(&'a NameString, u8, u8, u8, &'a [TermEntry]),
+    /// Name, address space.
+    OpRegion(&'a NameString, u8),
+    Name(&'a NameString),
+    Mutex(&'a NameString, u8),
+    Acquire(&'a NameString, u16),
+    Release(&'a NameString),
+    /// The bytes after the size.
+    Buffer(&'a [u8]),
+    Package,
+    VarPackage,
+    If,
+    While,
+    Else,
+    Op(Op),
+}
+
+/// A term taken apart. Its children are those of both lists, in order.
+#[derive(Clone, Copy, Debug)]
+pub struct Parts<'a> {
+    pub kind: Kind<'a>,
+    /// 0 where the term has none.
+    pub width: u8,
+    pub first: &'a [Term],
+    pub others: &'a [Term],
+}
+
+/// Takes a term apart.
+pub fn parts_of(term: &Term) -> Parts<'_>
+    ensures { IsApart term.now (head_of result.kind) result.width result.first.now result.others.now }
+{
+    match term {
+        Term::Number { value, width } => apart(Kind::Number(*value), *width, &[], &[]),
+        Term::Ones => apart(Kind::Ones, 0, &[], &[]),
+        Term::Text(text) => apart(Kind::Text(text), 0, &[], &[]),
+        Term::Local(n) => apart(Kind::Local(*n), 0, &[], &[]),
+        Term::Arg(n) => apart(Kind::Arg(*n), 0, &[], &[]),
+        Term::Call { name, args } => apart(Kind::Call(name), 0, args, &[]),
+        Term::Scope { width, name, body } => apart(Kind::Scope(name), *width, body, &[]),
+        Term::Device { width, name, body } => apart(Kind::Device(name), *width, body, &[]),
+        Term::Method {
+            width,
+            name,
+            args,
+            serialized,
+            body,
+        } => apart(Kind::Method(name, *args, *serialized), *width, body, &[]),
+        Term::PowerResource {
+            width,
+            name,
+            level,
+            order,
+            body,
+        } => apart(Kind::PowerResource(name, *level, *order), *width, body, &[]),
+        Term::Field {
+            width,
+            name,
+            access,
+            lock,
+            update,
+            entries,
+        } => apart(
+            Kind::Field(name, *access, *lock, *update, entries),
+            *width,
+            &[],
+            &[],
+        ),
+        Term::OpRegion {
+            name,
+            space,
+            offset,
+            length,
+        } => apart(
+            Kind::OpRegion(name, *space),
+            0,
+            from_ref(offset),
+            from_ref(length),
+        ),
+        Term::Name { name, value } => apart(Kind::Name(name), 0, from_ref(value), &[]),
+        Term::Mutex { name, level } => apart(Kind::Mutex(name, *level), 0, &[], &[]),
+        Term::Acquire { name, timeout } => apart(Kind::Acquire(name, *timeout), 0, &[], &[]),
+        Term::Release { name } => apart(Kind::Release(name), 0, &[], &[]),
+        Term::Buffer { width, size, bytes } => apart(
+            Kind::Buffer(bytes),
+            *width,
+            from_ref(size),
+            &[],
+        ),
+        Term::Package { width, elements } => apart(Kind::Package, *width, elements, &[]),
+        Term::VarPackage {
+            width,
+            count,
+            elements,
+        } => apart(Kind::VarPackage, *width, from_ref(count), elements),
+        Term::If {
+            width,
+            predicate,
+            body,
+        } => apart(Kind::If, *width, from_ref(predicate), body),
+        Term::While {
+            width,
+            predicate,
+            body,
+        } => apart(Kind::While, *width, from_ref(predicate), body),
+        Term::Else { width, body } => apart(Kind::Else, *width, body, &[]),
+        Term::Op { op, operands } => apart(Kind::Op(*op), 0, operands, &[]),
+    }
+}
+
+fn apart<'a>(kind: Kind<'a>, width: u8, first: &'a [Term], others: &'a [Term]) -> Parts<'a>
+    ensures kind { result.kind ≡ kind.entry }
+    ensures width { result.width ≡ width }
+    ensures first { result.first.now ≡ first.now }
+    ensures others { result.others.now ≡ others.now }
+{
+    Parts {
+        kind,
+        width,
+        first,
+        others,
+    }
+}
+
+/// The opcode of a framed term.
+pub fn frame_code(kind: Kind<'_>) -> Option<&'static [u8]>
+    ensures { (w n : ℕ) → option_map (λ code. code.now) result ≡ code_of (layout (head_of kind.entry) w n) }
+{
+    match kind {
+        Kind::Scope(_) => Some(&[0x10]),
+        Kind::Device(_) => Some(&[0x5b, 0x82]),
+        Kind::Method(..) => Some(&[0x14]),
+        Kind::PowerResource(..) => Some(&[0x5b, 0x84]),
+        Kind::Field(..) => Some(&[0x5b, 0x81]),
+        Kind::Buffer(_) => Some(&[0x11]),
+        Kind::Package => Some(&[0x12]),
+        Kind::VarPackage => Some(&[0x13]),
+        Kind::If => Some(&[0xa0]),
+        Kind::While => Some(&[0xa2]),
+        Kind::Else => Some(&[0xa1]),
+        _ => None,
+    }
+}
+
+/// What stands after a framed term's children: a buffer's bytes.
+pub fn bytes_after(kind: Kind<'_>) -> &[u8]
+    ensures { (w n : ℕ) → result.now ≡ after_of (layout (head_of kind.entry) w n) }
+{
+    match kind {
+        Kind::Buffer(bytes) => bytes,
+        _ => &[],
+    }
+}
