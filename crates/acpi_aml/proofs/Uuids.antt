@@ -4,7 +4,7 @@ use Rattle.std.specs.Prelude.{Option, IsTrue, nat_le, ◌&&◌, slice_range}
 use Rattle.std.proofs.lemmas.List.{reverse-append}
 use Rattle.std.proofs.lemmas.Bool.Decides.{nat_tests}
 use Rattle.acpi_base.specs.Bytes.{AreBytes}
-use Rattle.acpi_term.proofs.Bytes.{bytes_both}
+use Rattle.acpi_base.proofs.Bytes.{bytes_both}
 use Rattle.acpi_aml.specs.Hex.{digit_value, paired, byte_of_digits, led, bytes_of_digits}
 use Rattle.acpi_aml.specs.Uuid.{is_grouped, grouped, uuid_bytes}
 

@@ -1,8 +1,8 @@
 -- Packages that grow.
-use Rattle.std.specs.Prelude.{ℕ, ◌+◌, nat_lt, if◌then◌else◌, List, [], ◌∷◌, ◌++◌, true, false, Some, None, IsTrue, refl}
+use Rattle.std.specs.Prelude.{ℕ, ◌+◌, nat_lt, List, [], ◌∷◌, ◌++◌, true, false, IsTrue, refl}
 use Rattle.acpi_base.specs.declared.error.Error.TheVariants.{PackageElements}
 use Rattle.acpi_base.specs.Sink.{Meaning}
-use Rattle.acpi_base.specs.Object.{Object, whole, ended}
+use Rattle.acpi_base.specs.Object.{Object, whole, provided}
 use Rattle.acpi_term.specs.Tree.{def_package}
 use Rattle.acpi_term.specs.Row.{layout, around}
 
@@ -16,7 +16,7 @@ new_builder = record { bytes = []; elements = 0 }
 
 -- an element, where there is room for one more
 abbrev pub element_of : Builder → Object → Object
-element_of b object = ended (if nat_lt b.elements 255 then None else Some PackageElements) object
+element_of b object = provided (nat_lt b.elements 255) PackageElements object
 
 abbrev pub with_element : Builder → Object → Builder
 with_element b object = record { bytes = b.bytes ++ object.front; elements = b.elements + 1 }

@@ -49,7 +49,7 @@ pub type Field = Written<DefField>;
 pub struct DefField;
 
 impl Field {
-    /// PkgLength where an entry has 2^28 bits or more, and where the whole would.
+    /// PkgLength where an entry has 2^28 bits or more, and where the frame would have 2^28 bytes or more.
     pub fn new(
         path: Path,
         access_type: FieldAccessType,

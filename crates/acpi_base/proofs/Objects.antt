@@ -4,7 +4,7 @@ use Rattle.std.proofs.lemmas.Result.{err_from_is_err_and}
 use Rattle.acpi_base.specs.declared.error.Error.{Error}
 use Rattle.acpi_base.specs.declared.error.Error.TheVariants.{Memory}
 use Rattle.acpi_base.specs.Sink.{Meaning, Took, Refused}
-use Rattle.acpi_base.specs.Object.{Object, whole, Wrote, WriteRefused}
+use Rattle.acpi_base.specs.Object.{Object, whole, provided, Wrote, WriteRefused}
 use Rattle.acpi_base.proofs.Sinks.{took_nothing, took_more, refused_later, refused_longer}
 
 or_true : (a b : Bool) → IsTrue b → IsTrue (a || b)
@@ -53,6 +53,18 @@ gives_nothing e o m other is =
       cause = λ _. inl (record { end = is.1; took = took });
     }
 
+-- an object that wasn't provided
+pub refused_unprovided : (e x : Error) (test : Bool) (o : Object) (m : Meaning) → (x ≡ Memory → ⊥) → test ≡ false → e ≡ x → WriteRefused e (provided test x o) m m
+refused_unprovided e x test o m other fails is = rw (fails, is) (gives_nothing x (provided false x o) m other (refl, refl))
+
+-- and what was
+pub is_provided : (e : Error) (test : Bool) (bytes : List ℕ) → (provided test e (whole bytes)).end ≡ None → test ≡ true
+is_provided e true bytes h = refl
+is_provided e false bytes h = absurd cc
+
+pub provided_front : (e : Error) (test : Bool) (o : Object) → test ≡ true → (provided test e o).front ≡ o.front
+provided_front e test o holds = rw holds refl
+
 -- bytes that were made beforehand, given to a sink at once
 pub wrote_whole : {T : Type 0} (r : Result T Error) (made bytes : List ℕ) (m k : Meaning) → made ≡ bytes → OnOk r (Took m made k) → OnOk r (Wrote (whole bytes) m k)
 wrote_whole (Ok x) made bytes m k same took = record { is_whole = refl; took = rw same at took }
@@ -60,3 +72,9 @@ wrote_whole (Err e) made bytes m k same took = tt
 
 pub refused_whole : {T : Type 0} (r : Result T Error) (made bytes : List ℕ) (m k : Meaning) → made ≡ bytes → IfErr r (λ e. Refused e m made k) → IfErr r (λ e. WriteRefused e (whole bytes) m k)
 refused_whole r made bytes m k same refused = answered r (whole bytes) made m k (sym same) refused
+
+pub wrote_provided : {T : Type 0} (r : Result T Error) (e : Error) (test : Bool) (made bytes : List ℕ) (m k : Meaning) → test ≡ true → made ≡ bytes → OnOk r (Took m made k) → OnOk r (Wrote (provided test e (whole bytes)) m k)
+wrote_provided r e test made bytes m k holds same took = rw holds (wrote_whole r made bytes m k same took)
+
+pub refused_provided : {T : Type 0} (r : Result T Error) (e : Error) (test : Bool) (made bytes : List ℕ) (m k : Meaning) → test ≡ true → made ≡ bytes → IfErr r (λ x. Refused x m made k) → IfErr r (λ x. WriteRefused x (provided test e (whole bytes)) m k)
+refused_provided r e test made bytes m k holds same refused = rw holds (refused_whole r made bytes m k same refused)

@@ -32,7 +32,7 @@ pub fn structures_are_the_walk()
     ensures { StructuresAreTheWalk }
 {}
 
-/// No two structures have one offset.
+/// No two structures that have bytes have one offset.
 pub fn offsets_differ()
     ensures { OffsetsDiffer }
 {}

@@ -31,7 +31,7 @@ pub struct FACS {
 impl FACS {
     ghost use Rattle.acpi_fixed.specs.Facs.{facs_bytes, facs_at_first};
 
-    /// A structure of version 1 in which everything else is zero.
+    /// A structure with its signature, its length of 64 bytes and version 1. Everything else is zero.
     pub fn new() -> FACS
         ensures { result ≡ facs_at_first }
     {

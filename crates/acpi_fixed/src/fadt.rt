@@ -196,7 +196,7 @@ impl Aml for FADT {
 impl FADTBuilder {
     ghost use Rattle.acpi_fixed.specs.Fadt.{fadt_at_first, fadt_bytes, with_dsdt, with_facs, with_commands, with_flag, with_profile, with_gpe_info};
 
-    /// A table of revision 6.5 and 276 bytes in which everything behind the header is zero.
+    /// A table of revision 6.5 and 276 bytes. Everything behind the header is zero but the minor version, 5 (offset 131).
     pub fn new(oem_id: [u8; 6], oem_table_id: [u8; 8], oem_revision: u32) -> FADTBuilder
         ensures { result ≡ fadt_at_first oem_id oem_table_id oem_revision }
     {

@@ -8,6 +8,4 @@ pub mod laws;
 pub mod rsdp;
 mod sealed;
 pub mod spcr;
-#[cfg(test)]
-mod tests;
 pub mod tpm2;

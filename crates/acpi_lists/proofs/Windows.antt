@@ -1,27 +1,17 @@
 -- Windows of memory and their targets.
 use Rattle.std.proofs.Common.{◌≡◌, ℕ, ◌+◌, ◌*◌, ◌≤◌, ◌<◌, ◌^◌, ◌%◌, ◌/◌, List, [], ◌∷◌, ◌++◌, Bool, true, false, refl, ap, sym, ◌∙◌, arith, length, length-append}
 use Rattle.std.specs.Prelude.{Result, OnOk, IfErr, None, ◌==◌}
-use Rattle.acpi_base.specs.declared.error.Error.{Error}
 use Rattle.acpi_base.specs.Bytes.{le, field_at}
-use Rattle.acpi_base.specs.Sink.{Meaning, Took, Refused}
-use Rattle.acpi_base.specs.Object.{Wrote, WriteRefused}
+use Rattle.acpi_base.specs.Object.{whole}
 use Rattle.acpi_base.specs.Walk.{told_at, IsPiece}
 use Rattle.acpi_base.specs.declared.error.Error.TheVariants.{Targets}
 use Rattle.std.proofs.lemmas.Bool.{eqb-true}
 use Rattle.std.proofs.lemmas.Bool.Decides.{nat_tests}
-use Rattle.acpi_base.proofs.Objects.{wrote_whole, refused_whole, gives_nothing}
+use Rattle.acpi_base.proofs.Objects.{is_provided, provided_front}
 use Rattle.acpi_base.proofs.Bytes.{carried_le}
 use Rattle.acpi_lists.specs.declared.cedt.InterleaveWays.{InterleaveWays}
 use Rattle.acpi_lists.specs.declared.cedt.InterleaveWays.TheVariants.{Ways1, Ways2, Ways4, Ways8, Ways16, Ways3, Ways6, Ways12}
-use Rattle.acpi_lists.specs.Cedt.{Window, window_head, window_bytes, window_object, has_targets, targeted, ways_count, XorMaps, maps_head, maps_bytes}
-
-pub wrote_targeted : {T : Type 0} (r : Result T Error) (test : Bool) (made bytes : List ℕ) (m k : Meaning) → test ≡ true → made ≡ bytes → OnOk r (Took m made k) → OnOk r (Wrote (targeted test bytes) m k)
-wrote_targeted r true made bytes m k holds same took = wrote_whole r made bytes m k same took
-wrote_targeted r false made bytes m k holds same took = absurd cc
-
-pub refused_targeted : {T : Type 0} (r : Result T Error) (test : Bool) (made bytes : List ℕ) (m k : Meaning) → test ≡ true → made ≡ bytes → IfErr r (λ e. Refused e m made k) → IfErr r (λ e. WriteRefused e (targeted test bytes) m k)
-refused_targeted r true made bytes m k holds same refused = refused_whole r made bytes m k same refused
-refused_targeted r false made bytes m k holds same refused = absurd cc
+use Rattle.acpi_lists.specs.Cedt.{Window, window_head, window_bytes, window_object, has_targets, ways_count, XorMaps, maps_head, maps_bytes}
 
 most_ways : (w : InterleaveWays) → ways_count w ≤ 16
 most_ways Ways1 = omega arith
@@ -32,10 +22,6 @@ most_ways Ways16 = omega arith
 most_ways Ways3 = omega arith
 most_ways Ways6 = omega arith
 most_ways Ways12 = omega arith
-
-test_holds : (test : Bool) (bytes : List ℕ) → (targeted test bytes).end ≡ None → test ≡ true
-test_holds true bytes h = refl
-test_holds false bytes h = absurd cc
 
 -- a length of two bytes
 told : (n : ℕ) → n < 2 ^ 16 → n % 256 + 256 * (n / 256 % 256 + 256 * 0) ≡ n
@@ -50,24 +36,15 @@ window_piece w holds =
     let size : length (window_bytes w) ≡ 36 + length w.targets = omega arith in
     (omega (arith, size), told (36 + length w.targets) (omega (arith, few)) ∙ sym size)
 
-front_of : (test : Bool) (bytes : List ℕ) → test ≡ true → (targeted test bytes).front ≡ bytes
-front_of true bytes h = refl
-front_of false bytes h = absurd cc
-
 pub object_piece : (w : Window) → (window_object w).end ≡ None → IsPiece (told_at 2 2) (window_object w).front
-object_piece w whole =
-    let holds = test_holds (has_targets w) (window_bytes w) whole in
-    rw (front_of (has_targets w) (window_bytes w) holds) (window_piece w holds)
+object_piece w is_whole =
+    let holds = is_provided Targets (has_targets w) (window_bytes w) is_whole in
+    rw (provided_front Targets (has_targets w) (whole (window_bytes w)) holds) (window_piece w holds)
 
 pub maps_piece : (x : XorMaps) → length x.maps ≡ 8 * x.count → x.count < 256 → IsPiece (told_at 2 2) (maps_bytes x)
 maps_piece x whole few =
     let size : length (maps_bytes x) ≡ 8 + length x.maps = omega arith in
     (omega (arith, size), told (8 + length x.maps) (omega (arith, whole, few)) ∙ sym size)
-
--- a window whose targets aren't as many gives nothing
-pub untargeted : (test : Bool) (bytes : List ℕ) (m : Meaning) → test ≡ false → WriteRefused Targets (targeted test bytes) m m
-untargeted true bytes m h = absurd cc
-untargeted false bytes m h = gives_nothing Targets (targeted false bytes) m (λ is. cc) (refl, refl)
 
 pub isnt : (a b : ℕ) → (a ≡ b → ⊥) → (a == b) ≡ false
 isnt a b other = grind (arith, nat_tests)

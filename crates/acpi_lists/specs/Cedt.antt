@@ -3,7 +3,7 @@ use Rattle.std.specs.Prelude.{◌≡◌, ◌≢◌, ℕ, ◌+◌, ◌*◌, ◌^�
 use Rattle.acpi_base.specs.declared.error.Error.{Error}
 use Rattle.acpi_base.specs.declared.error.Error.TheVariants.{Memory, Targets}
 use Rattle.acpi_base.specs.Layout.{byte, word, dword, qword, zeros, record_of}
-use Rattle.acpi_base.specs.Object.{Object, whole, whole_ends_well, ended}
+use Rattle.acpi_base.specs.Object.{Object, whole, provided, provided_ends_well}
 use Rattle.acpi_base.specs.declared.oem.Oem.{Oem}
 use Rattle.acpi_core.specs.Listing.{Listing}
 use Rattle.acpi_lists.specs.declared.cedt.CxlVersion.{CxlVersion}
@@ -141,16 +141,11 @@ window_bytes w = window_head w ++ w.targets  -- 36: Interleave Target List
 abbrev pub has_targets : Window → Bool
 has_targets w = length w.targets == 4 * ways_count w.ways
 
--- what is whole where the test holds, and else is refused before it gives anything
-abbrev pub targeted : Bool → List ℕ → Object
-targeted test bytes = ended (if test then None else Some Targets) (whole bytes)
-
-pub targeted_ends_well : (test : Bool) (bytes : List ℕ) → (targeted test bytes).end ≢ Some Memory
-targeted_ends_well true bytes is = whole_ends_well bytes is
-targeted_ends_well false bytes is = cc
-
 abbrev pub window_object : Window → Object
-window_object w = targeted (has_targets w) (window_bytes w)
+window_object w = provided (has_targets w) Targets (whole (window_bytes w))
+
+pub window_ends_well : (w : Window) → (window_object w).end ≢ Some Memory
+window_ends_well w = provided_ends_well (has_targets w) Targets (window_bytes w) (λ is. cc)
 
 -- ---- CXL XOR Interleave Math Structure
 

@@ -1,9 +1,9 @@
 -- The System Resource Affinity Table (ACPI 6.5, 5.2.16).
-use Rattle.std.specs.Prelude.{◌≢◌, ℕ, ◌+◌, ◌*◌, ◌^◌, ◌&&◌, nat_lt, Bool, true, false, List, [], ◌∷◌, codes, if◌then◌else◌, Option, Some, None}
+use Rattle.std.specs.Prelude.{◌≢◌, ℕ, ◌+◌, ◌*◌, ◌^◌, ◌&&◌, nat_lt, Bool, true, false, List, [], ◌∷◌, codes, Some}
 use Rattle.acpi_base.specs.declared.error.Error.{Error}
 use Rattle.acpi_base.specs.declared.error.Error.TheVariants.{Memory, PciAddress}
 use Rattle.acpi_base.specs.Layout.{byte, word, dword, qword, zeros, record_of}
-use Rattle.acpi_base.specs.Object.{Object, whole, whole_ends_well, ended}
+use Rattle.acpi_base.specs.Object.{Object, whole, provided, provided_ends_well}
 use Rattle.acpi_base.specs.declared.oem.Oem.{Oem}
 use Rattle.acpi_core.specs.Listing.{Listing}
 use Rattle.acpi_lists.specs.declared.srat.Handle.{Handle}
@@ -18,7 +18,7 @@ srat oem = record {
   signature = codes "SRAT";
   revision = 1;
   oem = oem;
-  before = record_of (dword 1 ∷ zeros 8 ∷ []);  -- 36: reserved, 1 for backward compatibility; 40: reserved
+  before = record_of (dword 1 ∷ zeros 8 ∷ []);  -- 36: always 1; 40: reserved
   count_width = 0;
   after = [];
   limit = 2 ^ 32;
@@ -69,16 +69,11 @@ abbrev pub is_address : Handle → Bool
 is_address (Acpi hid uid) = true
 is_address (Pci segment bus device function) = nat_lt device 32 && nat_lt function 8
 
--- what is whole where the handle is an address, and else is refused before it gives anything
-abbrev pub addressed : Bool → List ℕ → Object
-addressed test bytes = ended (if test then None else Some PciAddress) (whole bytes)
-
-pub addressed_ends_well : (test : Bool) (bytes : List ℕ) → (addressed test bytes).end ≢ Some Memory
-addressed_ends_well true bytes is = whole_ends_well bytes is
-addressed_ends_well false bytes is = cc
-
 abbrev pub handle_object : Handle → Object
-handle_object h = addressed (is_address h) (handle_bytes h)
+handle_object h = provided (is_address h) PciAddress (whole (handle_bytes h))
+
+pub handle_ends_well : (h : Handle) → (handle_object h).end ≢ Some Memory
+handle_ends_well h = provided_ends_well (is_address h) PciAddress (handle_bytes h) (λ is. cc)
 
 abbrev pub generic_initiator : ℕ → Handle → GenericInitiator
 generic_initiator domain handle = record { domain = domain; handle = handle; flags = 0 }
@@ -96,7 +91,10 @@ generic_initiator_bytes g = record_of
     ∷ [])
 
 abbrev pub generic_initiator_object : GenericInitiator → Object
-generic_initiator_object g = addressed (is_address g.handle) (generic_initiator_bytes g)
+generic_initiator_object g = provided (is_address g.handle) PciAddress (whole (generic_initiator_bytes g))
+
+pub generic_initiator_ends_well : (g : GenericInitiator) → (generic_initiator_object g).end ≢ Some Memory
+generic_initiator_ends_well g = provided_ends_well (is_address g.handle) PciAddress (generic_initiator_bytes g) (λ is. cc)
 
 -- ---- RINTC Affinity Structure (RISC-V profile)
 

@@ -7,7 +7,7 @@ ghost use Rattle.acpi_base.specs.Walk.{cedt_walk};
 ghost use Rattle.acpi_core.specs.Listing.{bytes_of};
 ghost use Rattle.acpi_core.specs.Addition.{Adds};
 ghost use Rattle.acpi_core.specs.Walk.{IsWalked};
-ghost use Rattle.acpi_lists.specs.Cedt.{cedt, version_number, registers_of, host_bridge, host_bridge_bytes, arithmetic_number, granularity_number, ways_number, ways_count, window, window_head, window_bytes, window_object, has_targets, targeted_ends_well, no_maps, maps_head, maps_bytes, protocol_number, port_association, port_association_bytes};
+ghost use Rattle.acpi_lists.specs.Cedt.{cedt, version_number, registers_of, host_bridge, host_bridge_bytes, arithmetic_number, granularity_number, ways_number, ways_count, window, window_head, window_bytes, window_object, window_ends_well, has_targets, no_maps, maps_head, maps_bytes, protocol_number, port_association, port_association_bytes};
 
 use acpi_base::error::{Error, R};
 use acpi_base::object::Aml;
@@ -354,7 +354,7 @@ impl CxlFixedMemory {
 impl Aml for CxlFixedMemory {
     ghost object = { window_object };
 
-    ghost ends_well = { λ w. targeted_ends_well (has_targets w) (window_bytes w) };
+    ghost ends_well = { λ w. window_ends_well w };
 
     fn to_aml_bytes(&self, sink: &mut dyn AmlSink) -> R<()> {
         if self.targets.len() != 4 * self.ways.count() {

@@ -6,6 +6,4 @@ pub mod laws;
 pub mod madt;
 pub mod mcfg;
 pub mod srat;
-#[cfg(test)]
-mod tests;
 pub mod xsdt;

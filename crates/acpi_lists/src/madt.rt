@@ -46,7 +46,7 @@ impl LocalInterruptController {
     }
 }
 
-/// Whether a processor can be used, or could be brought online later (ACPI 6.5, 5.2.12.2.1 and 5.2.12.14).
+/// Whether a processor can be used, or could be brought online later (ACPI 6.5, 5.2.12.2 and 5.2.12.14).
 #[derive(Clone, Copy, Debug, PartialEq)]
 pub enum EnabledStatus {
     Disabled = 0,

@@ -6,7 +6,7 @@ ghost use Rattle.acpi_base.specs.Walk.{srat_walk};
 ghost use Rattle.acpi_core.specs.Listing.{bytes_of};
 ghost use Rattle.acpi_core.specs.Addition.{Adds};
 ghost use Rattle.acpi_core.specs.Walk.{IsWalked};
-ghost use Rattle.acpi_lists.specs.Srat.{srat, memory_affinity, memory_affinity_bytes, handle_object, handle_bytes, handle_type, is_address, addressed_ends_well, generic_initiator, generic_initiator_bytes, generic_initiator_object, rintc_affinity, rintc_affinity_bytes};
+ghost use Rattle.acpi_lists.specs.Srat.{srat, memory_affinity, memory_affinity_bytes, handle_object, handle_bytes, handle_ends_well, handle_type, is_address, generic_initiator, generic_initiator_bytes, generic_initiator_object, generic_initiator_ends_well, rintc_affinity, rintc_affinity_bytes};
 
 use acpi_base::error::{Error, R};
 use acpi_base::object::Aml;
@@ -264,7 +264,7 @@ fn acpi_handle(hid: [u8; 8], uid: [u8; 4]) -> [u8; 16]
 impl Aml for Handle {
     ghost object = { handle_object };
 
-    ghost ends_well = { λ h. addressed_ends_well (is_address h) (handle_bytes h) };
+    ghost ends_well = { λ h. handle_ends_well h };
 
     fn to_aml_bytes(&self, sink: &mut dyn AmlSink) -> R<()> {
         let bytes = self.bytes()?;
@@ -277,7 +277,8 @@ const INITIATOR_ENABLED: u32 = 1;
 
 const ARCHITECTURAL_TRANSACTIONS: u32 = 2;
 
-/// A device that reaches memory by itself, and its proximity domain (ACPI 6.5, 5.2.16.6): 32 bytes.
+/// A device that reaches memory by itself, and its proximity domain (ACPI 6.5, 5.2.16.6): 32 bytes. Refused when written, by
+/// PciAddress, where its handle is no address.
 #[derive(Drop)]
 pub struct GenericInitiator {
     domain: u32,
@@ -335,7 +336,7 @@ impl GenericInitiator {
 impl Aml for GenericInitiator {
     ghost object = { generic_initiator_object };
 
-    ghost ends_well = { λ g. addressed_ends_well (is_address g.handle) (generic_initiator_bytes g) };
+    ghost ends_well = { λ g. generic_initiator_ends_well g };
 
     fn to_aml_bytes(&self, sink: &mut dyn AmlSink) -> R<()> {
         let bytes = self.bytes()?;

@@ -8,7 +8,7 @@ use Rattle.acpi_base.specs.declared.gas.AccessSize.TheVariants as sizes
 use Rattle.acpi_base.specs.Bytes.{AreBytes, le}
 use Rattle.acpi_base.specs.Gas.{space_number, size_number, gas_bytes}
 use Rattle.acpi_base.specs.Layout.{byte, word, dword, record_of}
-use Rattle.acpi_base.specs.Object.{whole, ended}
+use Rattle.acpi_base.specs.Object.{whole, provided}
 use Rattle.acpi_base.proofs.Bytes.{bytes_both, bytes_le}
 use Rattle.acpi_ops.specs.declared.address_space.AddressSpace.{AddressSpace}
 use Rattle.acpi_ops.specs.AddressSpace.{or_zero, is_range, space_bytes}
@@ -50,7 +50,7 @@ joined : (fields : List (List ℕ)) → AreFields fields → AreBytes (record_of
 joined [] are = tt
 joined (field ∷ fields) are = bytes_both field (record_of fields) are.0 (joined fields are.1)
 
-tested : (test : Bool) (bytes : List ℕ) → AreBytes bytes → AreBytes (ended (cond test None (Some AddressRange)) (whole bytes)).front
+tested : (test : Bool) (bytes : List ℕ) → AreBytes bytes → AreBytes (provided test AddressRange (whole bytes)).front
 tested true bytes is = is
 tested false bytes is = tt
 

@@ -5,7 +5,7 @@ use Rattle.std.specs.List.{concat}
 use Rattle.std.proofs.Math.Seq.{take-append_seam}
 use Rattle.std.proofs.lemmas.List.{append_cancel_left}
 use Rattle.acpi_base.specs.declared.error.Error.TheVariants.{AddressRange}
-use Rattle.acpi_base.specs.Object.{whole, ended}
+use Rattle.acpi_base.specs.Object.{whole, provided}
 use Rattle.acpi_ops.specs.AddressSpace.{is_range, space_bytes}
 use Rattle.acpi_ops.specs.Item.{large_size, item_size, IsItem, AreItems, SplitsInto}
 use Rattle.acpi_ops.specs.Laws.{DescriptorsAreItems}
@@ -54,7 +54,7 @@ splits_in_one_way bytes a b first second = one_way a b first.0 second.0 (sym fir
 
 -- ---- descriptors
 
-whole_item : (test : Bool) (bytes : List ℕ) → IsItem bytes → (ended (cond test None (Some AddressRange)) (whole bytes)).end ≡ None → IsItem (ended (cond test None (Some AddressRange)) (whole bytes)).front
+whole_item : (test : Bool) (bytes : List ℕ) → IsItem bytes → (provided test AddressRange (whole bytes)).end ≡ None → IsItem (provided test AddressRange (whole bytes)).front
 whole_item true bytes is h = is
 whole_item false bytes is h = absurd cc
 

@@ -5,16 +5,15 @@ use Rattle.acpi_base.specs.declared.error.Error.{Error}
 use Rattle.acpi_base.specs.declared.error.Error.TheVariants.{AddressRange}
 use Rattle.acpi_base.specs.Bytes.{le}
 use Rattle.acpi_base.specs.Sink.{Meaning}
-use Rattle.acpi_base.specs.Object.{whole, ended, WriteRefused}
-use Rattle.acpi_base.proofs.Objects.{gives_nothing}
+use Rattle.acpi_base.specs.Object.{whole, provided, WriteRefused}
+use Rattle.acpi_base.proofs.Objects.{refused_unprovided, provided_front}
 use Rattle.acpi_base.proofs.Bytes.{length_le}
 use Rattle.acpi_ops.specs.declared.address_space.AddressSpace.{AddressSpace}
 use Rattle.acpi_ops.specs.AddressSpace.{or_zero, is_range, space_bytes, space}
 
-tested : (test : Bool) (bytes : List ℕ) (e : Error) → (ended (cond test None (Some AddressRange)) (whole bytes)).end ≡ Some e
-    → ((ended (cond test None (Some AddressRange)) (whole bytes)).front ≡ []) × ((ended (cond test None (Some AddressRange)) (whole bytes)).end ≡ Some e)
+tested : (test : Bool) (bytes : List ℕ) (e : Error) → (provided test AddressRange (whole bytes)).end ≡ Some e → test ≡ false
 tested true bytes e h = absurd cc
-tested false bytes e h = (refl, h)
+tested false bytes e h = refl
 
 numbers : (w a b c d e : ℕ) → length (le w a ++ (le w b ++ (le w c ++ (le w d ++ (le w e ++ []))))) ≡ 5 * w
 numbers w a b c d e =
@@ -39,11 +38,7 @@ module _ {T : Type 0} (number : T → ℕ) (tag w : ℕ) (a : AddressSpace T) wh
       ap length is ∙ omega (arith, n)
 
   pub space_refused : (e : Error) (m : Meaning) → e ≡ AddressRange → (space number tag w a).end ≡ Some e → WriteRefused e (space number tag w a) m m
-  space_refused e m is end = gives_nothing e (space number tag w a) m (λ memory. cc) (tested (is_range number w a) (space_bytes number tag w a) e end)
-
-  front : (test : Bool) → test ≡ true → (ended (cond test None (Some AddressRange)) (whole (space_bytes number tag w a))).front ≡ space_bytes number tag w a
-  front true is = refl
-  front false is = absurd cc
+  space_refused e m is end = refused_unprovided e AddressRange _ _ m (λ memory. cc) (tested (is_range number w a) (space_bytes number tag w a) e end) is
 
   pub space_front : (fields : List ℕ) → is_range number w a ≡ true → fields ≡ space_bytes number tag w a → (space number tag w a).front ≡ fields
-  space_front fields range is = front (is_range number w a) range ∙ sym is
+  space_front fields range is = provided_front AddressRange (is_range number w a) (whole (space_bytes number tag w a)) range ∙ sym is

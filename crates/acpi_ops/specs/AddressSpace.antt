@@ -1,9 +1,9 @@
 -- Address spaces (ACPI 6.5, 6.4.3.5).
-use Rattle.std.specs.Prelude.{◌≢◌, ℕ, ◌+◌, ◌-◌, ◌*◌, ◌^◌, nat_le, nat_lt, ◌&&◌, Bool, true, false, if◌then◌else◌, List, [], ◌∷◌, Option, Some, None}
+use Rattle.std.specs.Prelude.{◌≢◌, ℕ, ◌+◌, ◌-◌, ◌*◌, ◌^◌, nat_le, nat_lt, ◌&&◌, Bool, List, [], ◌∷◌, Option, Some, None}
 use Rattle.acpi_base.specs.declared.error.Error.TheVariants.{Memory, AddressRange}
 use Rattle.acpi_base.specs.Bytes.{le}
 use Rattle.acpi_base.specs.Layout.{byte, word, record_of}
-use Rattle.acpi_base.specs.Object.{Object, whole, whole_ends_well, ended}
+use Rattle.acpi_base.specs.Object.{Object, whole, provided, provided_ends_well}
 use Rattle.acpi_ops.specs.declared.address_space.AddressSpace.{AddressSpace}
 use Rattle.acpi_ops.specs.declared.address_space.AddressSpaceCacheable.{AddressSpaceCacheable}
 use Rattle.acpi_ops.specs.declared.address_space.AddressSpaceCacheable.TheVariants as cacheable
@@ -40,7 +40,7 @@ module _ {T : Type 0} (number : T → ℕ) where
       ∷ [])
 
   abbrev pub space : ℕ → ℕ → AddressSpace T → Object
-  space tag w a = ended (if is_range w a then None else Some AddressRange) (whole (space_bytes tag w a))
+  space tag w a = provided (is_range w a) AddressRange (whole (space_bytes tag w a))
 
 -- Word, DWord and QWord Address Space Descriptors (6.4.3.5.3, 6.4.3.5.2 and 6.4.3.5.1)
 abbrev pub word_space : AddressSpace ℕ → Object
@@ -52,10 +52,5 @@ dword_space a = space (λ n. n) 0x87 4 a
 abbrev pub qword_space : AddressSpace ℕ → Object
 qword_space a = space (λ n. n) 0x8a 8 a
 
--- an object behind a test
-tested_ends_well : (test : Bool) (bytes : List ℕ) → (ended (if test then None else Some AddressRange) (whole bytes)).end ≢ Some Memory
-tested_ends_well true bytes is = whole_ends_well bytes is
-tested_ends_well false bytes is = cc
-
 pub space_ends_well : {T : Type 0} (number : T → ℕ) (tag w : ℕ) (a : AddressSpace T) → (space number tag w a).end ≢ Some Memory
-space_ends_well number tag w a = tested_ends_well (is_range number w a) (space_bytes number tag w a)
+space_ends_well number tag w a = provided_ends_well (is_range number w a) AddressRange (space_bytes number tag w a) (λ is. cc)

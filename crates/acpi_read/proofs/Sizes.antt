@@ -4,7 +4,7 @@ use Rattle.std.proofs.lemmas.List.{append-nil, length-append}
 use Rattle.std.proofs.lemmas.Bool.{ne_eqb}
 use Rattle.acpi_base.specs.Bytes.{le}
 use Rattle.acpi_base.specs.Number.{number_bytes}
-use Rattle.acpi_term.proofs.Bytes.{length_le}
+use Rattle.acpi_base.proofs.Bytes.{length_le}
 use Rattle.acpi_term.proofs.Lengths.{length_long}
 use Rattle.acpi_term.specs.declared.term.Term.{Term}
 use Rattle.acpi_term.specs.Length.{length_bytes, with_length}

@@ -123,9 +123,11 @@ head_text (arg k) n = codes "arg " ++ decimal k
 head_text (call name) n = codes "name " ++ name_text name ++ codes " args " ++ decimal n
 head_text (def_scope name) n = codes "scope " ++ name_text name
 head_text (def_device name) n = codes "device " ++ name_text name
-head_text (def_method name args serialized) n = codes "method " ++ name_text name ++ codes " args " ++ decimal args ++ codes " serialized " ++ (if serialized then codes "1" else codes "0")
+head_text (def_method name args serialized) n =
+    codes "method " ++ name_text name ++ codes " args " ++ decimal args ++ codes " serialized " ++ (if serialized then codes "1" else codes "0")
 head_text (def_power_res name level order) n = codes "power " ++ name_text name ++ codes " level " ++ decimal level ++ codes " order " ++ decimal order
-head_text (def_field name access lock update entries) n = codes "field " ++ name_text name ++ codes " access " ++ decimal access ++ codes " lock " ++ decimal lock ++ codes " update " ++ decimal update
+head_text (def_field name access lock update entries) n =
+    codes "field " ++ name_text name ++ codes " access " ++ decimal access ++ codes " lock " ++ decimal lock ++ codes " update " ++ decimal update
 head_text (def_op_region name space) n = codes "region " ++ name_text name ++ codes " space " ++ decimal space
 head_text (def_name name) n = codes "define " ++ name_text name
 head_text (def_mutex name level) n = codes "mutex " ++ name_text name ++ codes " level " ++ decimal level

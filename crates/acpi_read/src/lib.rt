@@ -5,5 +5,3 @@ pub mod laws;
 pub mod report;
 pub mod table;
 pub mod terms;
-#[cfg(test)]
-mod tests;

@@ -8,7 +8,7 @@ use Rattle.acpi_term.specs.Name.{AreSegments, no_more, one_more}
 use Rattle.acpi_term.specs.Length.{limit, length_bytes}
 use Rattle.acpi_term.specs.Row.{entry_bytes, entries_bytes, entry_bits, entry_width, entries_end}
 use Rattle.acpi_term.specs.Spelling.{EntryIsNamed, AreNamed, EntriesFit}
-use Rattle.acpi_term.proofs.Bytes.{bytes_after}
+use Rattle.acpi_base.proofs.Bytes.{bytes_after}
 use Rattle.acpi_term.proofs.Lengths.{limit_top}
 use Rattle.acpi_term.specs.Reading.{◌>>=◌, segment_at, length_at, entry_at, entries_at}
 use Rattle.acpi_term.proofs.Steps.{bind_ok, ok_is, chosen}

@@ -4,7 +4,7 @@ use Rattle.std.proofs.lemmas.Bool.{ltb-false, ltb-true, le-ltb, lt-ltb}
 use Rattle.std.proofs.lemmas.List.{take_at, drop_at, take-append-drop, length-append, length-take}
 use Rattle.acpi_base.specs.Bytes.{AreBytes, le}
 use Rattle.acpi_term.specs.Length.{limit, length_bytes, with_length, FrameFits}
-use Rattle.acpi_term.proofs.Bytes.{bytes_take, bytes_drop, le_step}
+use Rattle.acpi_base.proofs.Bytes.{bytes_take, bytes_drop, le_step}
 use Rattle.acpi_term.proofs.Lengths.{long_below, long_fits, long_is, length_long}
 use Rattle.acpi_term.specs.Reading.{Bad, cut_at, high_at, length_at, sized_at, frame_at}
 use Rattle.acpi_term.proofs.Steps.{bind_ok, ok_is, chosen, passed, admitted, Takes}

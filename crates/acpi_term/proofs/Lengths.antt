@@ -3,10 +3,10 @@ use Rattle.std.proofs.Common.{◌≡◌, ℕ, zero, suc, ◌+◌, ◌-◌, ◌*�
 use Rattle.std.specs.Prelude.{◌&&◌}
 use Rattle.std.proofs.lemmas.Bool.{cases_lt, ltb-true, eqb-true, le-ltb, lt-ltb, eq-eqb, ne_eqb, and_parts}
 use Rattle.std.proofs.lemmas.Bool.Decides.{nat_tests}
-use Rattle.acpi_base.specs.Bytes.{AreBytes, le}
+use Rattle.acpi_base.specs.Bytes.{AreBytes, le, carried}
 use Rattle.acpi_base.specs.Number.{number_limit, number_bytes, number_width}
-use Rattle.acpi_term.specs.Length.{carried, value, Frames, limit, length_bytes, with_length, FrameFits, least_width, StartsWithLength}
-use Rattle.acpi_term.proofs.Bytes.{length_le, bytes_le, carried_le, le_carried, carried_below}
+use Rattle.acpi_term.specs.Length.{value, Frames, limit, length_bytes, with_length, FrameFits, least_width, StartsWithLength}
+use Rattle.acpi_base.proofs.Bytes.{length_le, bytes_le, carried_le, le_carried, carried_below}
 
 -- ---- what a length can carry
 

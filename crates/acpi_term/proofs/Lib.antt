@@ -1,4 +1,3 @@
-pub mod Bytes
 pub mod Lengths
 pub mod PathTexts
 pub mod NameTexts

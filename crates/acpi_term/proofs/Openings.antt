@@ -15,7 +15,7 @@ use Rattle.acpi_term.specs.Length.{with_length, FrameFits}
 use Rattle.acpi_term.specs.Operator.{opcode, operands}
 use Rattle.acpi_term.specs.Row.{entries_bytes, field_flags, method_flags}
 use Rattle.acpi_term.specs.Spelling.{spelled, arguments, IsLegal}
-use Rattle.acpi_term.proofs.Bytes.{bytes_after}
+use Rattle.acpi_base.proofs.Bytes.{bytes_after}
 use Rattle.acpi_term.specs.Reading.{Fault, Bad, ◌>>=◌, name_at, frame_at, text_at, high_at, entries_at, op_of, begins_name, number_at, string_at, After, named_at, define_after, release_after, mutex_after, region_after, acquire_after, Inside, framed_at, scope_inside, device_inside, method_inside, power_inside, field_inside, plain_at, counted_frame, package_at, buffer_at, operator_at, extended_at, local_at, opcode_at, Opened, follows, fills, packs, begins, open_at, least_of}
 use Rattle.acpi_term.proofs.Steps.{bind_ok, ok_is, admitted}
 use Rattle.acpi_term.proofs.Names.{name_takes}

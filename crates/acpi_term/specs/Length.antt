@@ -1,11 +1,6 @@
 -- PkgLengths, and the lengths of field entries, which have the same form (ACPI 6.5, 20.2.4).
 use Rattle.std.specs.Prelude.{◌≡◌, ℕ, ◌+◌, ◌-◌, ◌*◌, ◌/◌, ◌%◌, ◌^◌, ◌<◌, ◌≤◌, ◌==◌, ◌&&◌, nat_lt, if◌then◌else◌, Option, Some, None, List, [], ◌∷◌, ◌++◌, length, take}
-use Rattle.acpi_base.specs.Bytes.{AreBytes, le}
-
--- the number that bytes carry, lowest first
-abbrev pub carried : List ℕ → ℕ
-carried [] = 0
-carried (b ∷ bytes) = b + 256 * carried bytes
+use Rattle.acpi_base.specs.Bytes.{AreBytes, le, carried}
 
 -- The value of a length. The top two bits of its lead byte count the bytes that follow. With none the lead byte is the
 -- value; else its bits 4 and 5 are zero, its low four bits are the lowest of the value, and each following byte has the

@@ -12,5 +12,3 @@ pub mod row;
 pub mod segment;
 pub mod spell;
 pub mod term;
-#[cfg(test)]
-mod tests;

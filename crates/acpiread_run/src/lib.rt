@@ -3,8 +3,6 @@
 
 pub mod command;
 pub mod fault;
-mod input;
+pub mod input;
 pub mod program;
 pub mod report;
-#[cfg(test)]
-mod tests;

@@ -90,7 +90,8 @@ impl Aml for RINTC {
     }
 }
 
-/// What all incoming MSI controllers have in common (IMSIC, MADT structure of type 25): 16 bytes. A table has one at most.
+/// What all incoming MSI controllers have in common (IMSIC, MADT structure of type 25): 16 bytes. A table needs
+/// one, and `MADT::add_imsic` adds no second.
 #[derive(Clone, Copy, Debug)]
 pub struct IMSIC {
     num_supervisor_interrupt_identities: u16,
@@ -105,8 +106,8 @@ impl IMSIC {
     ghost use Rattle.acpi_lists.specs.MadtRiscv.{imsic, imsic_bytes};
 
     /// How many interrupts there are in supervisor mode (offset 8) and in a guest (offset 10), and how many bits of a
-    /// message's address tell the guest (offset 12), the hart (offset 13) and the group of harts (offset 14, whose lowest
-    /// bit is at offset 15).
+    /// message's address tell the guest (offset 12), the hart (offset 13) and the group of harts (offset 14), which begins
+    /// at this bit of the address (offset 15).
     pub fn new(
         num_supervisor_interrupt_identities: u16,
         num_guest_interrupt_identities: u16,
@@ -180,9 +181,9 @@ pub struct APLIC {
 impl APLIC {
     ghost use Rattle.acpi_lists.specs.MadtRiscv.{aplic, aplic_bytes};
 
-    /// A controller of an id (offset 3) and hardware id (offset 8), with so many domains that deliver to harts (offset 16),
-    /// the first of its global system interrupts (offset 20), its physical address (offset 24), its bytes (offset 32), and
-    /// how many sources it has (offset 18).
+    /// A controller of an id (offset 3) and hardware id (offset 8), with so many structures that deliver interrupts to
+    /// harts, one for each hart (offset 16), the first of its global system interrupts (offset 20), its physical address
+    /// (offset 24), its bytes (offset 32), and how many sources it has (offset 18).
     pub fn new(
         aplic_id: u8,
         hardware_id: [u8; 8],

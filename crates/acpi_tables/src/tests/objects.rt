@@ -2,9 +2,10 @@
 
 use super::{bytes_of, expect, writes};
 use crate::aml::{
-    Acquire, Add, AmlString, Arg, CreateField, Device, Else, Field, FieldAccessType, FieldEntry,
-    FieldLockRule, FieldUpdateRule, If, LessThan, Local, Method, MethodCall, Mutex, Name, NotEqual,
-    ONE, OpRegion, OpRegionSpace, Path, PowerResource, Release, Return, Scope, While, ZERO,
+    Acquire, Add, AmlStr, AmlString, Arg, CreateField, Device, Else, Field, FieldAccessType,
+    FieldEntry, FieldLockRule, FieldUpdateRule, If, LessThan, Local, Method, MethodCall, Mutex,
+    Name, NotEqual, ONE, OpRegion, OpRegionSpace, Path, PowerResource, Release, Return, Scope,
+    While, ZERO,
 };
 use crate::{Aml, Error, R};
 use std::alloc::Global;
@@ -80,7 +81,12 @@ fn strings(rt: HostRuntime) -> Result<(), Fail> {
     let mut text: AmlString = String::new(alloc);
     expect(&rt, alloc, &text, &[0x0d, 0x00])?;
     text.push_str("ACPI")?;
-    expect(&rt, alloc, &text, b"\x0dACPI\0")
+    expect(&rt, alloc, &text, b"\x0dACPI\0")?;
+    let text: AmlStr = "ab";
+    let mut bytes = Vec::new(alloc);
+    text.to_aml_bytes(&mut bytes)?;
+    assert_eq!(rt; bytes.as_slice(), b"\x0dab\0".as_slice());
+    Ok(())
 }
 
 #[test]
@@ -286,6 +292,8 @@ fn scopes(rt: HostRuntime) -> Result<(), Fail> {
     writes(&rt, alloc, Scope::new(path(alloc, "_SB_")?, inside), wanted)?;
     let raw = Scope::raw(path(alloc, "_SB_")?, bytes_of(alloc, &name)?)?;
     assert_eq!(rt; raw.as_slice(), wanted.as_slice());
+    let power = PowerResource::new(path(alloc, "PRSC")?, 0, 0, none(alloc));
+    writes(&rt, alloc, power, b"\x5b\x84\x08PRSC\0\0\0")?;
     let power = PowerResource::new(path(alloc, "PRSC")?, 5, 0x1234, none(alloc));
     writes(&rt, alloc, power, b"\x5b\x84\x08PRSC\x05\x34\x12")
 }

@@ -95,6 +95,12 @@ fn sinks_that_refuse(rt: HostRuntime) -> Result<(), Fail> {
         0xdead_beef,
     )?;
     device(alloc)?.to_aml_bytes(&mut table)?;
+    expect(
+        &rt,
+        alloc,
+        &table,
+        b"DSDT\x38\0\0\0\x02\x3eFOOBARCAFEDEAD\xef\xbe\xad\xdeRVAT\0\0\0\x01\x5b\x82\x12\x2e_SB_COM1\x08_HID\x0b\x34\x12",
+    )?;
     starve(&rt, alloc, &table)
 }
 
@@ -188,6 +194,7 @@ fn an_operand_that_refuses(rt: HostRuntime) -> Result<(), Fail> {
 #[test]
 fn the_first_refusal_in_written_order(rt: HostRuntime) {
     let alloc = rt.alloc();
+    refused(&rt, Store::new(alloc, &Arg(7), &ONE), Error::ArgNumber);
     refused(&rt, Store::new(alloc, &BROKEN, &Arg(7)), Error::ArgNumber);
     refused(&rt, Store::new(alloc, &Arg(7), &BROKEN), Error::Sink(9));
     refused(

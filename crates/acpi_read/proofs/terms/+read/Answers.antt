@@ -3,7 +3,7 @@ use Rattle.std.proofs.lemmas.List.{nil_from_length}
 use Rattle.std.proofs.lemmas.Result.{err_from_is_err_and}
 use Rattle.acpi_term.specs.Arity.{arity}
 use Rattle.acpi_term.specs.View.{view, views}
-use Rattle.acpi_term.proofs.Bytes.{bytes_each}
+use Rattle.acpi_base.proofs.Bytes.{bytes_each}
 use Rattle.acpi_term.specs.Reading.{term_at}
 use Rattle.acpi_read.specs.Cause.{Answers, cause_kind, error_kind}
 use Rattle.acpi_read.specs.TermStart.{seen}

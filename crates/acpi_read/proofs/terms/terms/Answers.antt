@@ -1,7 +1,7 @@
 use Rattle.std.proofs.Common.{arith}
 use Rattle.acpi_term.specs.Arity.{arity}
 use Rattle.acpi_term.specs.View.{views}
-use Rattle.acpi_term.proofs.Bytes.{bytes_each}
+use Rattle.acpi_base.proofs.Bytes.{bytes_each}
 use Rattle.acpi_read.proofs.Refusals.{is_read, is_unread}
 use Rattle.acpi_read.proofs.terms.terms.Goals as goal
 

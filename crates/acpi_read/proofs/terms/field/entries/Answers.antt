@@ -2,7 +2,7 @@ use Rattle.std.proofs.Common.{◌≡◌, ◌<◌, [], ◌∷◌, ◌++◌, lengt
 use Rattle.std.proofs.lemmas.List.{nil_from_length, map-append}
 use Rattle.std.proofs.lemmas.Result.{err_from_is_err_and}
 use Rattle.acpi_term.specs.View.{entry_view}
-use Rattle.acpi_term.proofs.Bytes.{bytes_each}
+use Rattle.acpi_base.proofs.Bytes.{bytes_each}
 use Rattle.acpi_read.specs.Cause.{cause_kind}
 use Rattle.acpi_read.proofs.EntryLists.{entries_begin, entries_go_on, entries_shrink, entries_fail, entries_end}
 use Rattle.acpi_read.proofs.terms.field.entries.Goals as goal

@@ -1,5 +1,5 @@
 use Rattle.std.proofs.Common.{arith}
-use Rattle.acpi_term.proofs.Bytes.{bytes_each}
+use Rattle.acpi_base.proofs.Bytes.{bytes_each}
 use Rattle.acpi_read.proofs.Fronts.{is_name}
 use Rattle.acpi_read.proofs.terms.name.name.Goals as goal
 

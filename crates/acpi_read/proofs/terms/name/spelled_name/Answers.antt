@@ -1,6 +1,6 @@
 use Rattle.std.proofs.Common.{◌≡◌, ◌+◌, ◌∷◌, length, arith, rules}
 use Rattle.acpi_base.specs.Bytes.{AreBytes}
-use Rattle.acpi_term.proofs.Bytes.{bytes_each}
+use Rattle.acpi_base.proofs.Bytes.{bytes_each}
 use Rattle.acpi_term.specs.Reading.{name_at}
 use Rattle.acpi_read.proofs.Fronts.{CutAt, rooted_cut}
 use Rattle.acpi_read.proofs.terms.name.spelled_name.Goals as goal

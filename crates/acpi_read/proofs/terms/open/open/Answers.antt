@@ -1,6 +1,6 @@
 use Rattle.std.proofs.Common.{arith}
 use Rattle.acpi_term.specs.Arity.{arity}
-use Rattle.acpi_term.proofs.Bytes.{bytes_each}
+use Rattle.acpi_base.proofs.Bytes.{bytes_each}
 use Rattle.acpi_read.proofs.Within.{is_within, is_filled}
 use Rattle.acpi_read.proofs.terms.open.open.Goals as goal
 

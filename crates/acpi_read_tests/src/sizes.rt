@@ -1,0 +1,267 @@
+//! The widths that lines tell, at each threshold: the sizes of contents are those of spelled bytes.
+
+use acpi_read::report::report_terms;
+use acpi_term::name_string::NameString;
+use acpi_term::op::Op;
+use acpi_term::spell::spell;
+use acpi_term::term::{Term, TermEntry};
+use std::alloc::Global;
+use std::process::Abort;
+use std::test::Fail;
+
+fn name(alloc: Global, text: &str) -> Result<NameString, Fail> {
+    Ok(NameString::new(alloc, text)?)
+}
+
+fn number(alloc: Global, value: u64, width: u8) -> Result<Box<Term>, Fail> {
+    Ok(Box::new(alloc, Term::Number { value, width })?)
+}
+
+// A string of so many bytes, which is spelled by two more.
+fn text(alloc: Global, size: usize) -> Result<Term, Fail> {
+    let mut text = String::new(alloc);
+    for _ in 0..size {
+        text.push('a')?;
+    }
+    Ok(Term::Text(text))
+}
+
+/// How many kinds of framed terms there are.
+const FRAMED: u8 = 11;
+
+// A term of each kind that has a frame, of a width, with padding of so many bytes in it.
+fn framed(alloc: Global, kind: u8, width: u8, padding: usize) -> Result<Term, Fail> {
+    let body = vec![in alloc; text(alloc, padding)?]?;
+    Ok(match kind {
+        0 => Term::Scope {
+            width,
+            name: name(alloc, "\\_SB_")?,
+            body,
+        },
+        1 => Term::Device {
+            width,
+            name: name(alloc, "_SB_.COM1")?,
+            body,
+        },
+        2 => Term::Method {
+            width,
+            name: name(alloc, "AAAA.BBBB.CCCC")?,
+            args: 2,
+            serialized: true,
+            body,
+        },
+        3 => Term::PowerResource {
+            width,
+            name: name(alloc, "PWR0")?,
+            level: 1,
+            order: 2,
+            body,
+        },
+        4 => Term::Field {
+            width,
+            name: name(alloc, "REGS")?,
+            access: 1,
+            lock: 0,
+            update: 0,
+            entries: entries(alloc, padding)?,
+        },
+        5 => Term::Buffer {
+            width,
+            size: number(alloc, 0x102, 2)?,
+            bytes: vec![in alloc; 0; padding]?,
+        },
+        6 => Term::Package {
+            width,
+            elements: body,
+        },
+        7 => Term::VarPackage {
+            width,
+            count: number(alloc, 0x102, 4)?,
+            elements: body,
+        },
+        8 => Term::If {
+            width,
+            predicate: number(alloc, 2, 1)?,
+            body,
+        },
+        9 => Term::While {
+            width,
+            predicate: number(alloc, 2, 8)?,
+            body,
+        },
+        _ => Term::Else { width, body },
+    })
+}
+
+// Entries of so many bytes: a named one at first where that many are left over.
+fn entries(alloc: Global, size: usize) -> Result<Vec<TermEntry>, Fail> {
+    let mut entries = Vec::new(alloc);
+    let mut left = size;
+    if left % 2 == 1 && left > 4 {
+        entries.push(TermEntry::Named(*b"AAAA", 1, 1))?;
+        left -= 5;
+    }
+    for _ in 0..left / 2 {
+        entries.push(TermEntry::Reserved(1, 1))?;
+    }
+    Ok(entries)
+}
+
+fn opcode_size(kind: u8) -> usize {
+    match kind {
+        1 | 3 | 4 => 2,
+        _ => 1,
+    }
+}
+
+// How many bytes are in the frame, by the bytes that spell it.
+fn content(alloc: Global, kind: u8, width: u8, terms: &[Term]) -> Result<usize, Fail> {
+    Ok(spell(alloc, terms)?.len() - opcode_size(kind) - usize::from(width))
+}
+
+// Whether the first line tells a width.
+fn tells(alloc: Global, terms: &[Term], width: u8) -> Result<bool, Fail> {
+    let report = report_terms(alloc, terms)?;
+    let line = report.as_str().lines().next().unwrap_or("");
+    let told = format!(in alloc; " width {width}")?;
+    Ok(line.ends_with(told.as_str()))
+}
+
+// One byte counts 62 bytes beside itself, two 4,093, and three 1,048,572.
+#[test]
+fn thresholds(rt: HostRuntime) -> Result<(), Fail> {
+    let alloc = rt.alloc();
+    for kind in 0..FRAMED {
+        for (size, least) in [(61, 1), (62, 1), (63, 2), (4092, 2), (4093, 2), (4094, 3)] {
+            for width in least..=4 {
+                let bare = vec![in alloc; framed(alloc, kind, 4, 0)?]?;
+                let own = content(alloc, kind, 4, &bare)?;
+                let terms = vec![in alloc; framed(alloc, kind, width, size - own)?]?;
+                assert_eq!(&rt;
+                    content(alloc, kind, width, &terms)?,
+                    size,
+                    "of kind {kind}"
+                );
+                let told = tells(alloc, &terms, width)?;
+                assert_eq!(&rt;
+                    told,
+                    width != least,
+                    "{size} bytes, kind {kind}, width {width}"
+                );
+            }
+        }
+    }
+    Ok(())
+}
+
+#[test]
+fn large_frames(rt: HostRuntime) -> Result<(), Fail> {
+    let alloc = rt.alloc();
+    for (size, least) in [(1_048_572, 3), (1_048_573, 4)] {
+        for width in least..=4 {
+            let terms = vec![in alloc; framed(alloc, 5, width, size - 3)?]?;
+            assert_eq!(&rt; content(alloc, 5, width, &terms)?, size);
+            assert_eq!(&rt; tells(alloc, &terms, width)?, width != least);
+        }
+    }
+    Ok(())
+}
+
+/// How many kinds of parts there are.
+const PARTS: u8 = 31;
+
+// Parts of each kind that has no frame, and of each width.
+fn part(alloc: Global, kind: u8) -> Result<Term, Fail> {
+    let width = kind % 5;
+    Ok(match kind {
+        0..=4 => Term::Number {
+            value: 1,
+            width: [0, 1, 2, 4, 8][usize::from(width)],
+        },
+        5 => Term::Ones,
+        6 => text(alloc, 3)?,
+        7 => Term::Local(7),
+        8 => Term::Arg(6),
+        9 => Term::Call {
+            name: name(alloc, "\\_SB_.PCI0")?,
+            args: vec![in alloc; Term::Ones, Term::Local(0)]?,
+        },
+        10 => Term::Call {
+            name: name(alloc, "AAAA.BBBB.CCCC")?,
+            args: Vec::new(alloc),
+        },
+        11 => Term::OpRegion {
+            name: name(alloc, "REGS")?,
+            space: 1,
+            offset: number(alloc, 1, 4)?,
+            length: number(alloc, 1, 2)?,
+        },
+        12 => Term::Name {
+            name: name(alloc, "_UID")?,
+            value: number(alloc, 1, 1)?,
+        },
+        13 => Term::Mutex {
+            name: name(alloc, "MTX0")?,
+            level: 1,
+        },
+        14 => Term::Acquire {
+            name: name(alloc, "MTX0")?,
+            timeout: 1,
+        },
+        15 => Term::Release {
+            name: name(alloc, "MTX0")?,
+        },
+        16 => Term::Op {
+            op: Op::Store,
+            operands: vec![in alloc; Term::Ones, Term::Local(0)]?,
+        },
+        17 => Term::Op {
+            op: Op::CreateField,
+            operands: vec![in alloc; Term::Ones, Term::Local(0), Term::Arg(0), Term::Arg(1)]?,
+        },
+        18 => Term::Op {
+            op: Op::Break,
+            operands: Vec::new(alloc),
+        },
+        19 => Term::Field {
+            width: 3,
+            name: name(alloc, "REGS")?,
+            access: 1,
+            lock: 0,
+            update: 0,
+            entries: vec![in alloc;
+                TermEntry::Named(*b"AAAA", 1, 4),
+                TermEntry::Reserved(1, 3),
+                TermEntry::Reserved(1, 1),
+            ]?,
+        },
+        _ => framed(alloc, kind - 20, 2, 3)?,
+    })
+}
+
+// What a frame has in it counts as many bytes as spell it.
+#[test]
+fn parts(rt: HostRuntime) -> Result<(), Fail> {
+    let alloc = rt.alloc();
+    for kind in 0..PARTS {
+        let size = spell(alloc, &vec![in alloc; part(alloc, kind)?]?)?.len();
+        is_counted(&rt, alloc, kind, 62 - 2 - size, 1)?;
+        is_counted(&rt, alloc, kind, 63 - 2 - size, 2)?;
+    }
+    Ok(())
+}
+
+fn is_counted(
+    rt: &impl Abort,
+    alloc: Global,
+    kind: u8,
+    padding: usize,
+    least: u8,
+) -> Result<(), Fail> {
+    for width in 1..=2 {
+        let body = vec![in alloc; part(alloc, kind)?, text(alloc, padding)?]?;
+        let terms = vec![in alloc; Term::Else { width, body }]?;
+        assert_eq!(rt; tells(alloc, &terms, width)?, width != least, "kind {kind}");
+    }
+    Ok(())
+}

@@ -1,0 +1,9 @@
+//! Tests of the tables: bytes from outside, worked out by hand from the layouts and not by this code.
+#![tactic(auto)]
+
+#[cfg(test)]
+mod fixed;
+#[cfg(test)]
+mod lists;
+#[cfg(test)]
+mod vectors;

@@ -1,0 +1,6 @@
+//! Tables of structures.
+
+mod affinity;
+mod cxl;
+mod entries;
+mod madt;

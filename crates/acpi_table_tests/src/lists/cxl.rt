@@ -1,0 +1,289 @@
+//! CEDT and its structures.
+
+use crate::vectors::{OEM, OEM_REVISION, OEM_TABLE, many, writes};
+use acpi_base::error::Error;
+use acpi_base::object::Aml;
+use acpi_tables::cedt::{
+    CEDT, CxlFixedMemory, CxlHostBridge, CxlVersion, InterleaveArithmetic, InterleaveGranularity,
+    InterleaveWays, PortAssociation, ProtocolType, XorInterleaveMath,
+};
+use std::alloc::Global;
+use std::test::Fail;
+
+#[test]
+fn cedt(rt: HostRuntime) -> Result<(), Fail> {
+    let alloc = rt.alloc();
+    let mut table = CEDT::new(alloc, OEM, OEM_TABLE, OEM_REVISION);
+    writes(
+        &rt,
+        alloc,
+        &table,
+        b"CEDT\x24\0\0\0\x01\x6fFOOBARCAFEDEAD\xef\xbe\xad\xdeRVAT\0\0\0\x01",
+    )?;
+    table.add_host_bridge(CxlHostBridge::new(0xcdef, CxlVersion::Cxl2, 0x8_1234_5678))?;
+    writes(
+        &rt,
+        alloc,
+        &table,
+        b"CEDT\x44\0\0\0\x01\x55FOOBARCAFEDEAD\xef\xbe\xad\xdeRVAT\0\0\0\x01\0\0\x20\0\xef\xcd\0\0\x01\0\0\0\0\0\0\0\x78\x56\x34\x12\x08\0\0\0\0\0\x01\0\0\0\0\0",
+    )
+}
+
+#[test]
+fn bridges_and_ports(rt: HostRuntime) -> Result<(), Fail> {
+    let alloc = rt.alloc();
+    writes(
+        &rt,
+        alloc,
+        &CxlHostBridge::new(0x0403_0201, CxlVersion::Cxl1_1, 0x1817_1615_1413_1211),
+        b"\0\0\x20\0\x01\x02\x03\x04\0\0\0\0\0\0\0\0\x11\x12\x13\x14\x15\x16\x17\x18\0\x20\0\0\0\0\0\0",
+    )?;
+    writes(
+        &rt,
+        alloc,
+        &PortAssociation::new(
+            0x100,
+            0xfe,
+            0x1f,
+            7,
+            ProtocolType::CxlMem,
+            0x1234_5678_90ab_cdef,
+        ),
+        b"\x03\0\x11\0\0\x01\xff\xfe\x01\xef\xcd\xab\x90\x78\x56\x34\x12",
+    )?;
+    writes(
+        &rt,
+        alloc,
+        &PortAssociation::new(0x0201, 3, 4, 5, ProtocolType::CxlIo, 6),
+        b"\x03\0\x11\0\x01\x02\x25\x03\0\x06\0\0\0\0\0\0\0",
+    )
+}
+
+fn window(
+    alloc: Global,
+    granularity: InterleaveGranularity,
+    ways: InterleaveWays,
+) -> CxlFixedMemory {
+    CxlFixedMemory::new(
+        alloc,
+        0x0807_0605_0403_0201,
+        0x1817_1615_1413_1211,
+        InterleaveArithmetic::ModuloXor,
+        granularity,
+        ways,
+        0x2221,
+    )
+}
+
+#[test]
+fn windows(rt: HostRuntime) -> Result<(), Fail> {
+    let alloc = rt.alloc();
+    let mut two = window(
+        alloc,
+        InterleaveGranularity::Granularity16kb,
+        InterleaveWays::Ways2,
+    )
+    .cxl_type_3_memory()
+    .volatile()
+    .fixed_configuration();
+    two.add_target(*b"abcd")?;
+    let mut bytes = Vec::new(alloc);
+    assert_eq!(rt; two.to_aml_bytes(&mut bytes), Err(Error::Targets));
+    assert!(rt; bytes.is_empty());
+    two.add_target(*b"efgh")?;
+    writes(
+        &rt,
+        alloc,
+        &two,
+        b"\x01\0\x2c\0\0\0\0\0\x01\x02\x03\x04\x05\x06\x07\x08\x11\x12\x13\x14\x15\x16\x17\x18\x01\x01\0\0\x06\0\0\0\x16\0\x21\x22abcdefgh",
+    )?;
+    two.add_target(*b"ijkl")?;
+    assert_eq!(rt; two.to_aml_bytes(&mut bytes), Err(Error::Targets));
+    assert!(rt; bytes.is_empty());
+    let mut table = CEDT::new(alloc, OEM, OEM_TABLE, OEM_REVISION);
+    assert_eq!(rt; table.add_fixed_memory(two), Err(Error::Targets));
+    many(&rt, alloc, &table, b"CEDT", 1, &[], &[], 0)
+}
+
+// A window of two ways and one target isn't added, and what was there stays.
+#[test]
+fn one_target_of_two(rt: HostRuntime) -> Result<(), Fail> {
+    let alloc = rt.alloc();
+    let mut table = CEDT::new(alloc, OEM, OEM_TABLE, OEM_REVISION);
+    table.add_host_bridge(CxlHostBridge::new(7, CxlVersion::Cxl2, 0x1000_0000))?;
+    let mut one = window(
+        alloc,
+        InterleaveGranularity::Granularity256b,
+        InterleaveWays::Ways2,
+    );
+    one.add_target(*b"abcd")?;
+    assert_eq!(rt; table.add_fixed_memory(one), Err(Error::Targets));
+    let bridge = b"\0\0\x20\0\x07\0\0\0\x01\0\0\0\0\0\0\0\0\0\0\x10\0\0\0\0\0\0\x01\0\0\0\0\0";
+    many(&rt, alloc, &table, b"CEDT", 1, &[], bridge, 1)
+}
+
+#[test]
+fn ways(rt: HostRuntime) -> Result<(), Fail> {
+    let alloc = rt.alloc();
+    let all = [
+        (InterleaveWays::Ways1, 0, 1u8),
+        (InterleaveWays::Ways2, 1, 2),
+        (InterleaveWays::Ways4, 2, 4),
+        (InterleaveWays::Ways8, 3, 8),
+        (InterleaveWays::Ways16, 4, 16),
+        (InterleaveWays::Ways3, 8, 3),
+        (InterleaveWays::Ways6, 9, 6),
+        (InterleaveWays::Ways12, 10, 12),
+    ];
+    for (ways, number, count) in all {
+        let mut made = CxlFixedMemory::new(
+            alloc,
+            0,
+            0,
+            InterleaveArithmetic::Modulo,
+            InterleaveGranularity::Granularity256b,
+            ways,
+            0,
+        );
+        let mut bytes = Vec::new(alloc);
+        for _ in 0..count {
+            assert_eq!(rt; made.to_aml_bytes(&mut bytes), Err(Error::Targets));
+            made.add_target([1, 2, 3, 4])?;
+        }
+        made.to_aml_bytes(&mut bytes)?;
+        assert_eq!(rt; bytes.len(), 36 + 4 * usize::from(count));
+        assert_eq!(rt; bytes[24], number);
+        assert_eq!(rt; bytes[2], 36 + 4 * count);
+        assert_eq!(rt; bytes[25], 0);
+        made.add_target([0; 4])?;
+        assert_eq!(rt; made.to_aml_bytes(&mut bytes), Err(Error::Targets));
+    }
+    Ok(())
+}
+
+#[test]
+fn granularities_and_restrictions(rt: HostRuntime) -> Result<(), Fail> {
+    let alloc = rt.alloc();
+    let all = [
+        (InterleaveGranularity::Granularity256b, 0),
+        (InterleaveGranularity::Granularity512b, 1),
+        (InterleaveGranularity::Granularity1kb, 2),
+        (InterleaveGranularity::Granularity2kb, 3),
+        (InterleaveGranularity::Granularity4kb, 4),
+        (InterleaveGranularity::Granularity8kb, 5),
+        (InterleaveGranularity::Granularity16kb, 6),
+    ];
+    for (granularity, number) in all {
+        let mut made = window(alloc, granularity, InterleaveWays::Ways1);
+        made.add_target([0; 4])?;
+        let mut bytes = Vec::new(alloc);
+        made.to_aml_bytes(&mut bytes)?;
+        assert_eq!(rt; bytes.len(), 40);
+        assert_eq!(rt; &bytes[28..34], [number, 0, 0, 0, 0, 0].as_slice());
+        let mut bytes = Vec::new(alloc);
+        XorInterleaveMath::new(alloc, granularity).to_aml_bytes(&mut bytes)?;
+        assert_eq!(rt; bytes.as_slice(), [2, 0, 8, 0, 0, 0, number, 0].as_slice());
+    }
+    let restricted = [
+        (
+            window(
+                alloc,
+                InterleaveGranularity::Granularity256b,
+                InterleaveWays::Ways1,
+            )
+            .cxl_type_2_memory(),
+            1,
+        ),
+        (
+            window(
+                alloc,
+                InterleaveGranularity::Granularity256b,
+                InterleaveWays::Ways1,
+            )
+            .cxl_type_3_memory(),
+            2,
+        ),
+        (
+            window(
+                alloc,
+                InterleaveGranularity::Granularity256b,
+                InterleaveWays::Ways1,
+            )
+            .volatile(),
+            4,
+        ),
+        (
+            window(
+                alloc,
+                InterleaveGranularity::Granularity256b,
+                InterleaveWays::Ways1,
+            )
+            .persistent(),
+            8,
+        ),
+        (
+            window(
+                alloc,
+                InterleaveGranularity::Granularity256b,
+                InterleaveWays::Ways1,
+            )
+            .fixed_configuration(),
+            16,
+        ),
+    ];
+    for (mut made, number) in restricted {
+        made.add_target([0; 4])?;
+        let mut bytes = Vec::new(alloc);
+        made.to_aml_bytes(&mut bytes)?;
+        assert_eq!(rt; bytes.len(), 40);
+        assert_eq!(rt; bytes[32], number);
+    }
+    Ok(())
+}
+
+#[test]
+fn maps(rt: HostRuntime) -> Result<(), Fail> {
+    let alloc = rt.alloc();
+    let mut math = XorInterleaveMath::new(alloc, InterleaveGranularity::Granularity512b);
+    math.add_xormap(0x0807_0605_0403_0201)?;
+    writes(
+        &rt,
+        alloc,
+        &math,
+        b"\x02\0\x10\0\0\0\x01\x01\x01\x02\x03\x04\x05\x06\x07\x08",
+    )?;
+    for _ in 1..255u16 {
+        math.add_xormap(u64::MAX)?;
+    }
+    assert_eq!(rt; math.add_xormap(0), Err(Error::FieldWidth));
+    let mut wanted = [0xff; 2048];
+    wanted[..16].copy_from_slice(b"\x02\0\0\x08\0\0\x01\xff\x01\x02\x03\x04\x05\x06\x07\x08");
+    writes(&rt, alloc, &math, &wanted)?;
+    let mut table = CEDT::new(alloc, OEM, OEM_TABLE, OEM_REVISION);
+    table.add_xor_interleave_math(math)?;
+    many(&rt, alloc, &table, b"CEDT", 1, &[], &wanted, 1)
+}
+
+#[test]
+fn many_structures(rt: HostRuntime) -> Result<(), Fail> {
+    let alloc = rt.alloc();
+    let mut table = CEDT::new(alloc, OEM, OEM_TABLE, OEM_REVISION);
+    for _ in 0..300u16 {
+        table.add_port_association(PortAssociation::new(1, 2, 3, 4, ProtocolType::CxlIo, 5))?;
+    }
+    let port = [3, 0, 17, 0, 1, 0, 0x1c, 2, 0, 5, 0, 0, 0, 0, 0, 0, 0];
+    many(&rt, alloc, &table, b"CEDT", 1, &[], &port, 300)?;
+    let mut table = CEDT::new(alloc, OEM, OEM_TABLE, OEM_REVISION);
+    for _ in 0..256u16 {
+        let mut window = window(
+            alloc,
+            InterleaveGranularity::Granularity256b,
+            InterleaveWays::Ways1,
+        );
+        window.add_target([9, 8, 7, 6])?;
+        table.add_fixed_memory(window)?;
+    }
+    let window =
+        b"\x01\0\x28\0\0\0\0\0\x01\x02\x03\x04\x05\x06\x07\x08\x11\x12\x13\x14\x15\x16\x17\x18\0\x01\0\0\0\0\0\0\0\0\x21\x22\x09\x08\x07\x06";
+    many(&rt, alloc, &table, b"CEDT", 1, &[], window, 256)
+}

@@ -1,0 +1,398 @@
+//! MADT and its structures.
+
+ghost use Rattle.std.specs.Prelude.{[], ◌∷◌, Some, false};
+ghost use Rattle.acpi_base.specs.declared.error.Error.TheVariants.{Sink};
+
+use crate::vectors::{OEM, OEM_REVISION, OEM_TABLE, writes};
+use acpi_base::error::{Error, R};
+use acpi_base::object::{Aml, u8sum};
+use acpi_base::sink::AmlSink;
+use acpi_tables::madt::{
+    APLIC, EnabledStatus, GicIts, GicMsi, GicVersion, Gicc, Gicd, Gicr, HartStatus, IMSIC, IoApic,
+    LocalInterruptController, MADT, PLIC, ProcessorLocalApic, RINTC, Trigger,
+};
+use std::alloc::Global;
+use std::process::Abort;
+use std::test::Fail;
+
+fn table(alloc: Global, int: LocalInterruptController) -> MADT {
+    MADT::new(alloc, OEM, OEM_TABLE, OEM_REVISION, int)
+}
+
+#[test]
+fn tables(rt: HostRuntime) -> Result<(), Fail> {
+    let alloc = rt.alloc();
+    let riscv = table(alloc, LocalInterruptController::Riscv);
+    let nothing =
+        b"APIC\x2c\0\0\0\x01\x6aFOOBARCAFEDEAD\xef\xbe\xad\xdeRVAT\0\0\0\x01\0\0\0\0\0\0\0\0";
+    writes(&rt, alloc, &riscv, nothing)?;
+    let mut x86 = table(alloc, LocalInterruptController::Address(0xfee0_0000));
+    x86.add_structure(ProcessorLocalApic::new(0, 0, EnabledStatus::Enabled))?;
+    let one =
+        b"APIC\x34\0\0\0\x01\x7bFOOBARCAFEDEAD\xef\xbe\xad\xdeRVAT\0\0\0\x01\0\0\xe0\xfe\0\0\0\0\0\x08\0\0\x01\0\0\0";
+    writes(&rt, alloc, &x86, one)
+}
+
+#[test]
+fn x86(rt: HostRuntime) -> Result<(), Fail> {
+    let alloc = rt.alloc();
+    let off = ProcessorLocalApic::new(1, 2, EnabledStatus::Disabled);
+    writes(&rt, alloc, &off, b"\0\x08\x01\x02\0\0\0\0")?;
+    let on = ProcessorLocalApic::new(0xff, 0xfe, EnabledStatus::Enabled);
+    writes(&rt, alloc, &on, b"\0\x08\xff\xfe\x01\0\0\0")?;
+    let later = ProcessorLocalApic::new(0, 0xff, EnabledStatus::DisabledOnlineCapable);
+    writes(&rt, alloc, &later, b"\0\x08\0\xff\x02\0\0\0")?;
+    let io = IoApic::new(1, 0x0504_0302, 0x0908_0706);
+    writes(
+        &rt,
+        alloc,
+        &io,
+        b"\x01\x0c\x01\0\x02\x03\x04\x05\x06\x07\x08\x09",
+    )?;
+    let last = IoApic::new(u8::MAX, u32::MAX, u32::MAX);
+    writes(
+        &rt,
+        alloc,
+        &last,
+        b"\x01\x0c\xff\0\xff\xff\xff\xff\xff\xff\xff\xff",
+    )
+}
+
+#[test]
+fn cpu_interfaces(rt: HostRuntime) -> Result<(), Fail> {
+    let alloc = rt.alloc();
+    let filled = Gicc::new(EnabledStatus::Enabled)
+        .cpu_interface_number(0x0403_0201)
+        .acpi_processor_uid(0x0807_0605)
+        .parking_protocol_version(0x1413_1211)
+        .performance_interrupt(0x1817_1615, Trigger::Edge)
+        .parked_address(0x2827_2625_2423_2221)
+        .base_address(0x3837_3635_3433_3231)
+        .virtual_registers(0x4847_4645_4443_4241)
+        .control_block_registers(0x5857_5655_5453_5251)
+        .maintenance_interrupt(0x6463_6261, Trigger::Level)
+        .redistributor_base(0x7877_7675_7473_7271)
+        .mpidr(0x8887_8685_8483_8281)
+        .power_efficiency_class(0x91)
+        .overflow_interrupt(0xa2a1)
+        .trbe_interrupt(0xb2b1);
+    let wanted = [
+        0x0b, 0x52, 0, 0, 0x01, 0x02, 0x03, 0x04, 0x05, 0x06, 0x07, 0x08, 0x03, 0, 0, 0, 0x11,
+        0x12, 0x13, 0x14, 0x15, 0x16, 0x17, 0x18, 0x21, 0x22, 0x23, 0x24, 0x25, 0x26, 0x27, 0x28,
+        0x31, 0x32, 0x33, 0x34, 0x35, 0x36, 0x37, 0x38, 0x41, 0x42, 0x43, 0x44, 0x45, 0x46, 0x47,
+        0x48, 0x51, 0x52, 0x53, 0x54, 0x55, 0x56, 0x57, 0x58, 0x61, 0x62, 0x63, 0x64, 0x71, 0x72,
+        0x73, 0x74, 0x75, 0x76, 0x77, 0x78, 0x81, 0x82, 0x83, 0x84, 0x85, 0x86, 0x87, 0x88, 0x91,
+        0, 0xa1, 0xa2, 0xb1, 0xb2,
+    ];
+    writes(&rt, alloc, &filled, &wanted)
+}
+
+#[test]
+fn cpu_interface_flags(rt: HostRuntime) -> Result<(), Fail> {
+    let alloc = rt.alloc();
+    let mut wanted = [0; 82];
+    wanted[0] = 0x0b;
+    wanted[1] = 0x52;
+    writes(&rt, alloc, &Gicc::new(EnabledStatus::Disabled), &wanted)?;
+    wanted[12] = 0x01;
+    writes(&rt, alloc, &Gicc::new(EnabledStatus::Enabled), &wanted)?;
+    let later = Gicc::new(EnabledStatus::DisabledOnlineCapable);
+    wanted[12] = 0x08;
+    writes(&rt, alloc, &later, &wanted)?;
+    let both = later
+        .maintenance_interrupt(9, Trigger::Edge)
+        .performance_interrupt(7, Trigger::Edge);
+    wanted[12] = 0x0e;
+    wanted[20] = 7;
+    wanted[56] = 9;
+    writes(&rt, alloc, &both, &wanted)?;
+    let levels = both
+        .performance_interrupt(u32::MAX, Trigger::Level)
+        .maintenance_interrupt(0, Trigger::Level);
+    wanted[20..24].copy_from_slice(&[0xff; 4]);
+    wanted[56] = 0;
+    writes(&rt, alloc, &levels, &wanted)
+}
+
+#[test]
+fn distributors(rt: HostRuntime) -> Result<(), Fail> {
+    let alloc = rt.alloc();
+    let versions = [
+        GicVersion::Unspecified,
+        GicVersion::GICv1,
+        GicVersion::GICv2,
+        GicVersion::GICv3,
+        GicVersion::GICv4,
+    ];
+    let mut wanted =
+        *b"\x0c\x18\0\0\x01\x02\x03\x04\x11\x12\x13\x14\x15\x16\x17\x18\0\0\0\0\0\0\0\0";
+    for (number, version) in [0, 1, 2, 3, 4].iter().zip(&versions) {
+        wanted[20] = *number;
+        let gicd = Gicd::new(0x0403_0201, 0x1817_1615_1413_1211, *version);
+        writes(&rt, alloc, &gicd, &wanted)?;
+    }
+    Ok(())
+}
+
+#[test]
+fn message_frames(rt: HostRuntime) -> Result<(), Fail> {
+    let alloc = rt.alloc();
+    let first = GicMsi::new();
+    writes(
+        &rt,
+        alloc,
+        &first,
+        b"\x0d\x18\0\0\0\0\0\0\0\0\0\0\0\0\0\0\0\0\0\0\0\0\0\0",
+    )?;
+    let own = first.spi_count_and_base(2, 64);
+    writes(
+        &rt,
+        alloc,
+        &own,
+        b"\x0d\x18\0\0\0\0\0\0\0\0\0\0\0\0\0\0\x01\0\0\0\x02\0\x40\0",
+    )?;
+    let filled = own
+        .gic_msi_frame_id(0x0403_0201)
+        .base_addr(0x1817_1615_1413_1211)
+        .spi_count_and_base(0x2221, 0x2423);
+    writes(
+        &rt,
+        alloc,
+        &filled,
+        b"\x0d\x18\0\0\x01\x02\x03\x04\x11\x12\x13\x14\x15\x16\x17\x18\x01\0\0\0\x21\x22\x23\x24",
+    )
+}
+
+#[test]
+fn redistributors_and_translation(rt: HostRuntime) -> Result<(), Fail> {
+    let alloc = rt.alloc();
+    let gicr = Gicr::new(0x1817_1615_1413_1211, 0x0403_0201);
+    writes(
+        &rt,
+        alloc,
+        &gicr,
+        b"\x0e\x10\0\0\x11\x12\x13\x14\x15\x16\x17\x18\x01\x02\x03\x04",
+    )?;
+    let its = GicIts::new(0x0403_0201, 0x1817_1615_1413_1211);
+    writes(
+        &rt,
+        alloc,
+        &its,
+        b"\x0f\x14\0\0\x01\x02\x03\x04\x11\x12\x13\x14\x15\x16\x17\x18\0\0\0\0",
+    )?;
+    let last = GicIts::new(u32::MAX, u64::MAX);
+    writes(
+        &rt,
+        alloc,
+        &last,
+        b"\x0f\x14\0\0\xff\xff\xff\xff\xff\xff\xff\xff\xff\xff\xff\xff\0\0\0\0",
+    )
+}
+
+#[test]
+fn harts(rt: HostRuntime) -> Result<(), Fail> {
+    let alloc = rt.alloc();
+    assert_eq!(rt; RINTC::len(), 36);
+    let statuses = [
+        HartStatus::Disabled,
+        HartStatus::Enabled,
+        HartStatus::OnlineCapable,
+    ];
+    let mut wanted =
+        *b"\x18\x24\x01\0\0\0\0\0\x11\x12\x13\x14\x15\x16\x17\x18\x21\x22\x23\x24\x31\x32\x33\x34\x41\x42\x43\x44\x45\x46\x47\x48\x51\x52\x53\x54";
+    for (number, status) in [0, 1, 2].iter().zip(&statuses) {
+        wanted[4] = *number;
+        let rintc = RINTC::new(
+            *status,
+            0x1817_1615_1413_1211,
+            0x2423_2221,
+            0x3433_3231,
+            0x4847_4645_4443_4241,
+            0x5453_5251,
+        );
+        writes(&rt, alloc, &rintc, &wanted)?;
+    }
+    Ok(())
+}
+
+fn imsic() -> IMSIC {
+    IMSIC::new(0x0201, 0x0403, 5, 6, 7, 8)
+}
+
+const IMSIC_BYTES: [u8; 16] = *b"\x19\x10\x01\0\0\0\0\0\x01\x02\x03\x04\x05\x06\x07\x08";
+
+#[test]
+fn controllers_of_harts(rt: HostRuntime) -> Result<(), Fail> {
+    let alloc = rt.alloc();
+    assert_eq!(rt; IMSIC::len(), 16);
+    assert_eq!(rt; APLIC::len(), 36);
+    assert_eq!(rt; PLIC::len(), 36);
+    writes(&rt, alloc, &imsic(), &IMSIC_BYTES)?;
+    let last = IMSIC::new(u16::MAX, u16::MAX, u8::MAX, u8::MAX, u8::MAX, u8::MAX);
+    writes(
+        &rt,
+        alloc,
+        &last,
+        b"\x19\x10\x01\0\0\0\0\0\xff\xff\xff\xff\xff\xff\xff\xff",
+    )?;
+    let aplic = APLIC::new(
+        1,
+        *b"RSCV0002",
+        0x1211,
+        0x2423_2221,
+        0x3837_3635_3433_3231,
+        0x4443_4241,
+        0x5251,
+    );
+    writes(
+        &rt,
+        alloc,
+        &aplic,
+        b"\x1a\x24\x01\x01\0\0\0\0RSCV0002\x11\x12\x51\x52\x21\x22\x23\x24\x31\x32\x33\x34\x35\x36\x37\x38\x41\x42\x43\x44",
+    )?;
+    let plic = PLIC::new(
+        2,
+        *b"RSCV0001",
+        0x1211,
+        0x1413,
+        0x2423_2221,
+        0x3837_3635_3433_3231,
+        0x4443_4241,
+    );
+    writes(
+        &rt,
+        alloc,
+        &plic,
+        b"\x1b\x24\x01\x02RSCV0001\x11\x12\x13\x14\0\0\0\0\x21\x22\x23\x24\x31\x32\x33\x34\x35\x36\x37\x38\x41\x42\x43\x44",
+    )
+}
+
+// The table's header, which has no structure in it, tells this length and ends in this checksum.
+fn head(size: u8, checksum: u8) -> [u8; 44] {
+    let mut head =
+        *b"APIC\0\0\0\0\x01\0FOOBARCAFEDEAD\xef\xbe\xad\xdeRVAT\0\0\0\x01\0\0\0\0\0\0\0\0";
+    head[4] = size;
+    head[9] = checksum;
+    head
+}
+
+// A table of such controllers writes its header, with this length and checksum, and so many of them.
+fn holds<RT: Abort>(
+    rt: &RT,
+    alloc: Global,
+    madt: &MADT,
+    size: u8,
+    checksum: u8,
+    imsics: u8,
+) -> Result<(), Fail> {
+    let mut wanted = Vec::new(alloc);
+    wanted.extend_from_slice(&head(size, checksum))?;
+    for _ in 0..imsics {
+        wanted.extend_from_slice(&IMSIC_BYTES)?;
+    }
+    writes(rt, alloc, madt, &wanted)
+}
+
+#[test]
+fn one_imsic(rt: HostRuntime) -> Result<(), Fail> {
+    let alloc = rt.alloc();
+    let mut madt = table(alloc, LocalInterruptController::Riscv);
+    madt.add_structure(imsic())?;
+    madt.add_imsic(imsic())?;
+    holds(&rt, alloc, &madt, 76, 0xae, 2)?;
+    assert_eq!(rt; madt.add_imsic(imsic()), Err(Error::ImsicSet));
+    holds(&rt, alloc, &madt, 76, 0xae, 2)
+}
+
+// Gives four bytes, and then refuses.
+#[derive(Drop)]
+struct Broken {}
+
+impl Aml for Broken {
+    ghost object = { λ _. record { front = 1 ∷ 2 ∷ 3 ∷ 4 ∷ []; end = Some (Sink 9); wants_memory = false } };
+
+    ghost ends_well = { λ _ is. Prim.cc };
+
+    fn to_aml_bytes(&self, sink: &mut dyn AmlSink) -> R<()> {
+        sink.vec(&[1, 2, 3, 4])?;
+        Err(Error::Sink(9))
+    }
+}
+
+#[test]
+fn a_structure_that_refuses(rt: HostRuntime) -> Result<(), Fail> {
+    let alloc = rt.alloc();
+    let mut madt = table(alloc, LocalInterruptController::Riscv);
+    assert_eq!(rt; madt.add_structure(Broken {}), Err(Error::Sink(9)));
+    holds(&rt, alloc, &madt, 44, 0x6a, 0)?;
+    madt.add_imsic(imsic())?;
+    assert_eq!(rt; madt.add_structure(Broken {}), Err(Error::Sink(9)));
+    holds(&rt, alloc, &madt, 60, 0x0c, 1)
+}
+
+// The sum of bytes modulo 256.
+fn sum_of(bytes: &[u8]) -> u8 {
+    let mut total: u8 = 0;
+    for byte in bytes {
+        total = total.wrapping_add(*byte);
+    }
+    total
+}
+
+// Adds a structure of one of two kinds in turn.
+fn add_nth(madt: &mut MADT, i: u16) -> R<()> {
+    let [low, high] = i.to_le_bytes();
+    if i % 2 == 0 {
+        madt.add_structure(ProcessorLocalApic::new(low, high, EnabledStatus::Enabled))
+    } else {
+        madt.add_structure(IoApic::new(low, 0xfec0_0000 + u32::from(i), u32::from(i)))
+    }
+}
+
+// Its bytes.
+fn append_nth(bytes: &mut Vec<u8>, i: u16) -> R<()> {
+    let [low, high] = i.to_le_bytes();
+    if i % 2 == 0 {
+        bytes.extend_from_slice(&[0, 8, low, high, 1, 0, 0, 0])?;
+    } else {
+        bytes.extend_from_slice(&[1, 12, low, 0, low, high, 0xc0, 0xfe, low, high, 0, 0])?;
+    }
+    Ok(())
+}
+
+// A table's header and its structures joined, summed anew.
+fn plain(alloc: Global, size: u32, structures: &[u8]) -> R<Vec<u8>> {
+    let [a, b, c, d] = size.to_le_bytes();
+    let front = [0x41, 0x50, 0x49, 0x43, a, b, c, d, 1];
+    let rest = b"FOOBARCAFEDEAD\xef\xbe\xad\xdeRVAT\0\0\0\x01\0\0\0\0\0\0\0\0";
+    let total = sum_of(&front)
+        .wrapping_add(sum_of(rest))
+        .wrapping_add(sum_of(structures));
+    let mut bytes = Vec::new(alloc);
+    bytes.extend_from_slice(&front)?;
+    bytes.push(total.wrapping_neg())?;
+    bytes.extend_from_slice(rest)?;
+    bytes.extend_from_slice(structures)?;
+    Ok(bytes)
+}
+
+// A table of so many structures has this length, sums to zero, and is the plain one.
+fn of_many<RT: Abort>(rt: &RT, alloc: Global, count: u16, size: u32) -> Result<(), Fail> {
+    let mut madt = table(alloc, LocalInterruptController::Riscv);
+    let mut structures = Vec::new(alloc);
+    for i in 0..count {
+        add_nth(&mut madt, i)?;
+        append_nth(&mut structures, i)?;
+    }
+    let wanted = plain(alloc, size, &structures)?;
+    assert_eq!(rt; wanted.len(), size as usize);
+    assert_eq!(rt; u8sum(&madt)?, 0);
+    writes(rt, alloc, &madt, &wanted)
+}
+
+#[test]
+fn many_structures(rt: HostRuntime) -> Result<(), Fail> {
+    let alloc = rt.alloc();
+    of_many(&rt, alloc, 256, 2604)?;
+    of_many(&rt, alloc, 300, 3044)
+}
