@@ -1,16 +1,16 @@
 #!/bin/sh
-# Reads definition blocks of 1, 2, 4 and 8 MiB, builds tables of 1,024, 2,048 and 4,096 structures, and prints how long each
-# takes, by the least of several turns. The program and what it stands on are proved first. The first run takes minutes, and a
-# later one seconds. Ends with status 1 where twice the size takes 2.3 times as long; on a loaded machine one measure may, so
-# it is said only of three in turn. Where valgrind is there, it prints the instructions of a turn too, which don't depend on
-# load.
+# Reads definition blocks of 1, 2, 4 and 8 MiB, builds tables of 1,024, 2,048 and 4,096 structures, reports 20,000 terms at depth
+# 1 and 250, and prints how long each takes, by the least of several turns. The program and what it stands on are proved first.
+# The first run takes minutes, and a later one seconds. Ends with status 1 where twice the size, or the other depth, takes 2.3
+# times as long; on a loaded machine one measure may, so it is said only of three in turn. Where valgrind is there, it prints
+# instructions too, which don't depend on load: those for 100 bytes, and for a term that is reported.
 set -eu
 cd "$(dirname "$0")"
 
 . ./crates.sh
 
 prove_libraries acpi_bench
-quietly acpi_bench run -- 0 0 0
+quietly acpi_bench run -- 0 0 0 0
 bench=crates/acpi_bench/out/acpi_bench
 
 # Freed memory stays with the program: else the system takes it back after the turns of the larger tables alone, and hands it
@@ -23,20 +23,28 @@ instructions() {
 }
 
 if command -v valgrind >/dev/null; then
-    one=$(instructions 1 1 0)
-    two=$(instructions 2 1 0)
+    one=$(instructions 1 1 0 0)
+    two=$(instructions 2 1 0 0)
     echo "1 MiB: $(((two - one) / 10486)) instructions for 100 bytes that are read and dropped"
 
     # In each turn three MADTs, SRATs and XSDTs are built, of the same numbers of structures.
     structures=$((1024 + 2048 + 4096))
     bytes=$((3 * (44 + 48 + 36) + structures * (10 + 40 + 8)))
-    one=$(instructions 1 0 4)
-    two=$(instructions 2 0 4)
+    one=$(instructions 1 0 4 0)
+    two=$(instructions 2 0 4 0)
     echo "lists: $((100 * (two - one) / bytes)) instructions for 100 bytes that are built and dropped"
+
+    # Both reports are made in each turn with 250 levels, the one at depth 1 in each with 1.
+    one=$(instructions 1 0 0 1)
+    two=$(instructions 2 0 0 1)
+    flat=$((two - one))
+    one=$(instructions 1 0 0 250)
+    two=$(instructions 2 0 0 250)
+    echo "report: $((flat / 20000)) instructions for a term at depth 1, $(((two - one - flat) / 20000)) at depth 250"
 fi
 
 for try in 1 2 3; do
-    "$bench" 15 8 4 && exit 0
+    "$bench" 15 8 4 250 && exit 0
 done
-echo 'too slow: twice the size takes 2.3 times as long or more' >&2
+echo 'too slow: twice the size, or the other depth, takes 2.3 times as long or more' >&2
 exit 1

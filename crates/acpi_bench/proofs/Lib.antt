@@ -1,3 +1,4 @@
 mod Tables
 mod Devices
 mod Counts
+mod Nestings

@@ -1,3 +1,4 @@
 pub mod Copies
 pub mod Counted
+pub mod Nesting
 pub mod Ratio

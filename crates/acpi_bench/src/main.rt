@@ -1,7 +1,8 @@
-//! How long the terms of large tables take to read, and tables of many structures to build. `acpi_bench TURNS MIB KI` reads
-//! definition blocks of 1, 2, 4 and 8 MiB, builds tables of 1,024, 2,048 and 4,096 structures, but none that is larger than so
-//! many MiB or 1,024 structures, each so many times, and prints the least time of each. It ends with status 1 where twice the
-//! size takes 2.3 times as long. With 0 turns it does nothing.
+//! How long the terms of large tables take to read and to report, and tables of many structures to build. `acpi_bench TURNS MIB
+//! KI LEVELS` reads definition blocks of 1, 2, 4 and 8 MiB, builds tables of 1,024, 2,048 and 4,096 structures, and reports
+//! 20,000 terms at depth 1 and 250, but none that is larger than so many MiB or 1,024 structures, or deeper than so many levels,
+//! each so many times, and prints the least time of each. It ends with status 1 where twice the size, or the other depth, takes
+//! 2.3 times as long. With 0 turns it does nothing.
 #![tactic(auto)]
 
 ghost use Rattle.std.specs.Prelude.{◌≡◌, IfOk};
@@ -10,6 +11,7 @@ ghost use Rattle.acpi_bench.specs.Ratio.{are_linear};
 mod building;
 mod device;
 mod fault;
+mod nesting;
 mod ratio;
 mod table;
 mod timing;
@@ -17,16 +19,17 @@ mod timing;
 use crate::building::Kind;
 use crate::device::{arities, device};
 use crate::fault::Fault;
+use crate::nesting::nested;
 use crate::ratio::{hundredths, is_too_slow};
 use crate::table::table_of;
-use crate::timing::{Millis, least, least_built};
+use crate::timing::{Millis, least, least_built, least_reported};
 use std::process::ExitCode;
 use std::rt::{Clock, Env};
 use std::{env, io};
 
 fn main(rt: HostRuntime) -> Result<ExitCode, Fault> {
-    let Some((turns, mib, ki)) = numbers(&rt)? else {
-        eprintln!(rt; "usage: acpi_bench TURNS MIB KI")?;
+    let Some((turns, mib, ki, levels)) = numbers(&rt)? else {
+        eprintln!(rt; "usage: acpi_bench TURNS MIB KI LEVELS")?;
         return Ok(ExitCode::from(2));
     };
     if turns == 0 {
@@ -34,28 +37,53 @@ fn main(rt: HostRuntime) -> Result<ExitCode, Fault> {
     }
     let is_read = is_read_linearly(&rt, turns, mib)?;
     let is_built = is_built_linearly(&rt, turns, ki)?;
-    Ok(if is_read && is_built {
+    let is_reported = is_reported_at_each_depth(&rt, turns, levels)?;
+    Ok(if is_read && is_built && is_reported {
         ExitCode::SUCCESS
     } else {
         ExitCode::FAILURE
     })
 }
 
-// How often each table is read or built, and how many MiB and how many times 1,024 structures the largest have, if the
-// arguments are three numbers from 0 to 255.
-fn numbers(rt: &(impl Env + AllocGlobal)) -> io::Result<Option<(u8, u8, u8)>> {
+// How often each is measured, how many MiB and how many times 1,024 structures the largest tables have, and how deep terms nest,
+// if the arguments are four numbers from 0 to 255.
+fn numbers(rt: &(impl Env + AllocGlobal)) -> io::Result<Option<(u8, u8, u8, u8)>> {
     let mut words = env::args(rt)?.skip(1);
-    let (Some(turns), Some(mib), Some(ki)) = (words.next(), words.next(), words.next()) else {
+    let (Some(turns), Some(mib)) = (words.next(), words.next()) else {
         return Ok(None);
     };
-    let (Ok(turns), Ok(mib), Ok(ki)) = (
-        turns.as_str().parse(),
-        mib.as_str().parse(),
-        ki.as_str().parse(),
-    ) else {
+    let (Some(ki), Some(levels)) = (words.next(), words.next()) else {
         return Ok(None);
     };
-    Ok(Some((turns, mib, ki)))
+    let (Ok(turns), Ok(mib)) = (turns.as_str().parse(), mib.as_str().parse()) else {
+        return Ok(None);
+    };
+    let (Ok(ki), Ok(levels)) = (ki.as_str().parse(), levels.as_str().parse()) else {
+        return Ok(None);
+    };
+    Ok(Some((turns, mib, ki, levels)))
+}
+
+// Reports 20,000 terms at each depth, prints the times and their ratio, and answers whether it isn't too large.
+fn is_reported_at_each_depth(
+    rt: &(impl Clock + Print + AllocGlobal),
+    turns: u8,
+    most: u8,
+) -> Result<bool, Fault> {
+    let alloc = rt.alloc();
+    let mut measured = Vec::new(alloc);
+    for levels in [1u8, 250] {
+        if levels > most {
+            break;
+        }
+        let time = least_reported(rt, &nested(alloc, levels - 1, 20_000)?, turns)?;
+        println!(rt;
+            "report of 20000 terms at depth {levels}: {} ms",
+            Millis(time)
+        )?;
+        measured.push((levels, time))?;
+    }
+    Ok(print_ratios(rt, &measured, "levels")?)
 }
 
 // Builds the tables, prints the times and ratios, and answers whether no ratio is too large.

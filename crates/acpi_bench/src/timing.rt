@@ -1,4 +1,4 @@
-//! Times of reading and of building.
+//! Times of reading, of building and of reporting.
 
 ghost use Rattle.std.specs.Prelude.{IfOk};
 ghost use Rattle.acpi_term.specs.Arity.{arity};
@@ -6,7 +6,7 @@ ghost use Rattle.acpi_bench.specs.Counted.{AreCounted};
 
 use crate::building::{Kind, build};
 use crate::fault::Fault;
-use acpi_tables::read::{Arities, terms};
+use acpi_tables::read::{Arities, Term, report_terms, terms};
 use std::alloc::Global;
 use std::fmt;
 use std::fmt::{Display, Formatter, Write};
@@ -86,6 +86,26 @@ pub fn least_built(
     let mut least = built_once(rt, alloc, kind, count)?;
     for _ in 1..turns {
         least = least.min(built_once(rt, alloc, kind, count)?);
+    }
+    Ok(least)
+}
+
+// The nanoseconds in which terms are reported, and the report dropped.
+fn reported_once(rt: &(impl Clock + AllocGlobal), terms: &[Term]) -> Result<u64, Fault> {
+    let start = Instant::now(rt)?;
+    drop(report_terms(rt.alloc(), terms)?);
+    Ok(nanos(start.elapsed(rt)?))
+}
+
+/// The least nanoseconds of so many turns, and of one at least, in which terms are reported.
+pub fn least_reported(
+    rt: &(impl Clock + AllocGlobal),
+    terms: &[Term],
+    turns: u8,
+) -> Result<u64, Fault> {
+    let mut least = reported_once(rt, terms)?;
+    for _ in 1..turns {
+        least = least.min(reported_once(rt, terms)?);
     }
     Ok(least)
 }

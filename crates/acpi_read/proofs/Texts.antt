@@ -50,9 +50,10 @@ after_four old a b c d one two three new p q r s = after_two old ((a ++ b) ++ c)
 
 -- ---- indentations
 
-twice : (d : ℕ) → indent (suc d) ≡ indent d ++ 32 ∷ 32 ∷ []
-twice zero = refl
-twice (suc d) = ap (λ (l : List ℕ). 32 ∷ 32 ∷ l) (twice d)
+joined : (d k : ℕ) → indent (d + k) ≡ indent d ++ indent k
+joined zero k = ap indent (let e : 0 + k ≡ k = omega arith in e)
+joined (suc d) k = (let e : suc d + k ≡ suc (d + k) = omega arith in ap indent e) ∙ ap (λ (l : List ℕ). 32 ∷ 32 ∷ l) (joined d k)
 
-pub indent_more : (d : ℕ) (old now new : List ℕ) → now ≡ old ++ indent d → new ≡ now ++ 32 ∷ 32 ∷ [] → new ≡ old ++ indent (d + 1)
-indent_more d old now new is added = added ∙ ap (λ (l : List ℕ). l ++ 32 ∷ 32 ∷ []) is ∙ append_assoc old (indent d) (32 ∷ 32 ∷ []) ∙ ap (λ (l : List ℕ). old ++ l) (rw add-one (sym (twice d)))
+pub indent_more : (d k n : ℕ) (old now new : List ℕ) → d + k ≡ n → now ≡ old ++ indent d → new ≡ now ++ indent k → new ≡ old ++ indent n
+indent_more d k n old now new total is added =
+    added ∙ ap (λ (l : List ℕ). l ++ indent k) is ∙ append_assoc old (indent d) (indent k) ∙ ap (λ (l : List ℕ). old ++ l) (sym (joined d k) ∙ ap indent total)

@@ -116,7 +116,9 @@ fn opcode_size(kind: u8) -> usize {
 
 // How many bytes are in the frame, by the bytes that spell it.
 fn content(alloc: Global, kind: u8, width: u8, terms: &[Term]) -> Result<usize, Fail> {
-    Ok(spell(alloc, terms)?.len() - opcode_size(kind) - usize::from(width))
+    let bytes = spell(alloc, terms)?;
+    let framed = bytes.len().saturating_sub(opcode_size(kind));
+    Ok(framed.saturating_sub(usize::from(width)))
 }
 
 // Whether the first line tells a width.
@@ -132,11 +134,18 @@ fn tells(alloc: Global, terms: &[Term], width: u8) -> Result<bool, Fail> {
 fn thresholds(rt: HostRuntime) -> Result<(), Fail> {
     let alloc = rt.alloc();
     for kind in 0..FRAMED {
-        for (size, least) in [(61, 1), (62, 1), (63, 2), (4092, 2), (4093, 2), (4094, 3)] {
+        for (size, least) in [
+            (61usize, 1),
+            (62, 1),
+            (63, 2),
+            (4092, 2),
+            (4093, 2),
+            (4094, 3),
+        ] {
             for width in least..=4 {
                 let bare = vec![in alloc; framed(alloc, kind, 4, 0)?]?;
                 let own = content(alloc, kind, 4, &bare)?;
-                let terms = vec![in alloc; framed(alloc, kind, width, size - own)?]?;
+                let terms = vec![in alloc; framed(alloc, kind, width, size.saturating_sub(own))?]?;
                 assert_eq!(&rt;
                     content(alloc, kind, width, &terms)?,
                     size,
@@ -244,9 +253,10 @@ fn part(alloc: Global, kind: u8) -> Result<Term, Fail> {
 fn parts(rt: HostRuntime) -> Result<(), Fail> {
     let alloc = rt.alloc();
     for kind in 0..PARTS {
+        // 62 and 63 bytes, two of which stand round the padding.
         let size = spell(alloc, &vec![in alloc; part(alloc, kind)?]?)?.len();
-        is_counted(&rt, alloc, kind, 62 - 2 - size, 1)?;
-        is_counted(&rt, alloc, kind, 63 - 2 - size, 2)?;
+        is_counted(&rt, alloc, kind, 60usize.saturating_sub(size), 1)?;
+        is_counted(&rt, alloc, kind, 61usize.saturating_sub(size), 2)?;
     }
     Ok(())
 }

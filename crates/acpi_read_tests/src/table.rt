@@ -3,12 +3,18 @@
 use acpi_read::report::report_table;
 use acpi_read::table::Table;
 use acpi_term::read_error::ReadError;
-use std::alloc::Global;
+use std::process::Abort;
 use std::test::Fail;
 
 // So many zeros, but for the length and the checksum.
-fn table(alloc: Global, size: usize, length: [u8; 4], checksum: u8) -> Result<Vec<u8>, Fail> {
-    let mut bytes = vec![in alloc; 0; size]?;
+fn table(
+    rt: &(impl Abort + AllocGlobal),
+    size: usize,
+    length: [u8; 4],
+    checksum: u8,
+) -> Result<Vec<u8>, Fail> {
+    let mut bytes = vec![in rt.alloc(); 0; size]?;
+    assert!(rt; bytes.len() >= 36);
     bytes[4..8].copy_from_slice(&length);
     bytes[9] = checksum;
     Ok(bytes)
@@ -28,11 +34,12 @@ fn lengths(rt: HostRuntime) -> Result<(), Fail> {
         (0x100_0000, [0, 0, 0, 1], 0xff),
     ];
     for (size, length, checksum) in cases {
-        let mut bytes = table(alloc, size, length, checksum)?;
+        let mut bytes = table(&rt, size, length, checksum)?;
+        assert!(&rt; bytes.len() >= 36);
         let report = report_table(alloc, &Table::check(&bytes)?)?;
         let line = format!(in alloc; "???? length {size} revision 0 sum 0\n")?;
         assert_eq!(&rt; report.as_str(), line.as_str());
-        bytes[9] = checksum - 1;
+        bytes[9] = checksum.wrapping_sub(1);
         assert_eq!(&rt; Table::check(&bytes).err(), Some(ReadError::Sum(9)));
         bytes[9] = checksum;
         // Another length, by each of its bytes, that the checksum makes up for.
@@ -50,7 +57,8 @@ fn lengths(rt: HostRuntime) -> Result<(), Fail> {
 #[test]
 fn signatures(rt: HostRuntime) -> Result<(), Fail> {
     let alloc = rt.alloc();
-    let mut bytes = table(alloc, 36, [36, 0, 0, 0], 0x63)?;
+    let mut bytes = table(&rt, 36, [36, 0, 0, 0], 0x63)?;
+    assert!(&rt; bytes.len() >= 36);
     bytes[..4].copy_from_slice(b"\x1f\x20\x7e\x7f");
     bytes[8] = 0x3d;
     let table = Table::check(&bytes)?;

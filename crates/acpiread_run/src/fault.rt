@@ -43,7 +43,7 @@ impl Fault {
     }
 
     /// The fault of bytes that begin so far after the file's first.
-    pub(crate) fn after(start: usize, error: ReadError) -> Fault
+    pub fn after(start: usize, error: ReadError) -> Fault
         requires { IfSome (offset_of error) (λ offset. start + offset < 2 ^ 64) }
         ensures { IsRefusalAfter start error result }
     {

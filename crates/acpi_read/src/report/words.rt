@@ -145,11 +145,14 @@ pub fn push_numbered(
     push_number(label, n, text)
 }
 
-/// Two spaces a level.
+/// Two spaces a level, of sixteen levels at once as far as there are so many.
 pub fn push_indent(depth: usize, text: &mut String) -> Result<(), AllocError>
     ensures { OnOk result (string_bytes text.new ≡ string_bytes text.old ++ indent depth) }
 {
-    for _done in 0..depth {
+    'many: for _sixteen in 0..depth / 16 {
+        text.push_str("                                ")?;
+    }
+    'one: for _done in 0..depth % 16 {
         text.push_str("  ")?;
     }
     Ok(())
