@@ -1,4 +1,4 @@
-use Rattle.std.proofs.Common.{◌≡◌, ◌≤◌, ◌<◌, ◌+◌, ℕ, suc, List, [], length, ap, ◌∙◌, arith, lit≤, codes}
+use Rattle.std.proofs.Common.{◌≡◌, ◌≤◌, ◌<◌, ◌+◌, ℕ, suc, List, length, ap, ◌∙◌, arith, lit≤, codes}
 use Rattle.acpi_base.proofs.Tables.{length-added, length-with_checksum, added_added}
 use Rattle.acpi_base.specs.Header.{header}
 use Rattle.acpi_base.specs.Object.{Object, whole}

@@ -1,12 +1,19 @@
 //! Terms that nest.
 
 ghost use Rattle.std.specs.Prelude.{◌≡◌, IfOk};
-ghost use Rattle.acpi_term.specs.View.{views};
+ghost use Rattle.acpi_term.specs.Tree.{number, end};
+ghost use Rattle.acpi_term.specs.View.{view, views};
 ghost use Rattle.acpi_bench.specs.Nesting.{numbers, inside};
 
 use acpi_tables::R;
 use acpi_tables::read::Term;
 use std::alloc::Global;
+
+fn zero() -> Term
+    ensures { view result ≡ (number 0, 0, end) }
+{
+    Term::Number { value: 0, width: 0 }
+}
 
 /// So many numbers, inside so many frames.
 pub fn nested(alloc: Global, frames: u8, count: u16) -> R<Vec<Term>>
@@ -14,7 +21,7 @@ pub fn nested(alloc: Global, frames: u8, count: u16) -> R<Vec<Term>>
 {
     let mut terms = Vec::with_capacity(alloc, usize::from(count))?;
     'fill: for _filled in 0..count {
-        terms.push(Term::Number { value: 0, width: 0 })?;
+        terms.push(zero())?;
     }
     'wrap: for _wrapped in 0..frames {
         let mut around = Vec::with_capacity(alloc, 1)?;
