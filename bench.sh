@@ -1,9 +1,10 @@
 #!/bin/sh
 # Reads definition blocks of 1, 2, 4 and 8 MiB, builds tables of 1,024, 2,048 and 4,096 structures, reports 20,000 terms at depth
 # 1 and 250, and prints how long each takes, by the least of several turns. The program and what it stands on are proved first.
-# The first run takes minutes, and a later one seconds. Ends with status 1 where twice the size, or the other depth, takes 2.3
-# times as long; on a loaded machine one measure may, so it is said only of three in turn. Where valgrind is there, it prints
-# instructions too, which don't depend on load: those for 100 bytes, and for a term that is reported.
+# The first run takes minutes, and a later one seconds. Ends with status 1 where twice the size takes 2.3 times as long; on a
+# loaded machine one measure may, so it is said only of three in turn. Where valgrind is there, it prints instructions too, which
+# don't depend on load: those for 100 bytes, and for a term that is reported. It ends with status 1 where a deep one takes twice as
+# many as one at the top.
 set -eu
 cd "$(dirname "$0")"
 
@@ -40,11 +41,16 @@ if command -v valgrind >/dev/null; then
     flat=$((two - one))
     one=$(instructions 1 0 0 250)
     two=$(instructions 2 0 0 250)
-    echo "report: $((flat / 20000)) instructions for a term at depth 1, $(((two - one - flat) / 20000)) at depth 250"
+    deep=$((two - one - flat))
+    echo "report: $((flat / 20000)) instructions for a term at depth 1, $((deep / 20000)) at depth 250"
+    if [ "$deep" -ge $((2 * flat)) ]; then
+        echo 'too slow: the report of a term depends on its depth' >&2
+        exit 1
+    fi
 fi
 
 for try in 1 2 3; do
     "$bench" 15 8 4 250 && exit 0
 done
-echo 'too slow: twice the size, or the other depth, takes 2.3 times as long or more' >&2
+echo 'too slow: twice the size takes 2.3 times as long or more' >&2
 exit 1

@@ -1,10 +1,10 @@
 -- Walks of tables.
-use Rattle.std.proofs.Common.{◌≡◌, ℕ, zero, suc, ◌+◌, ◌-◌, ◌<◌, ◌≤◌, ◌==◌, List, [], ◌∷◌, ◌++◌, length, take, drop, refl, sym, ap, ◌∙◌, arith, length-append, length-drop}
-use Rattle.std.specs.Prelude.{Option, Some, None}
+use Rattle.std.proofs.Common.{◌≡◌, ℕ, ◌+◌, ◌≤◌, List, [], ◌∷◌, ◌++◌, length, take, drop, refl, sym, ap, ◌∙◌, arith, length-append, length-drop}
+use Rattle.std.specs.Prelude.{Option, Some}
 use Rattle.std.specs.List.{concat}
-use Rattle.std.proofs.lemmas.List.{take-append-le, drop-append-le, take_at, drop_at, length-take-le}
+use Rattle.std.proofs.lemmas.List.{take-append-le, drop-append-le, take_at, drop_at}
 use Rattle.acpi_base.specs.Bytes.{carried, field_at}
-use Rattle.acpi_base.specs.Walk.{Sizes, each_of, told_at, by_source, Walk, source_size, IsPiece, ArePieces, HasSizes, Walks, OneWalk}
+use Rattle.acpi_base.specs.Walk.{Sizes, each_of, told_at, by_source, source_size, IsPiece, ArePieces, HasSizes, OneWalk}
 
 -- a field in the front of a list
 pub field_front : (offset w : ℕ) (a b : List ℕ) → offset + w ≤ length a → field_at offset w (a ++ b) ≡ field_at offset w a

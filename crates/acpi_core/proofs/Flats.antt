@@ -11,7 +11,7 @@ use Rattle.acpi_base.specs.Table.{with_checksum}
 use Rattle.acpi_base.proofs.Bytes.{length_le}
 use Rattle.acpi_base.proofs.Puts.{put_in, put-put, put_comm, length-put, put-append}
 use Rattle.acpi_base.proofs.Tables.{length-header, length-with_checksum}
-use Rattle.acpi_core.specs.Listing.{Listing, IsListing, fixed_fields, body_of, bytes_of, start_of, size_of, with_structure}
+use Rattle.acpi_core.specs.Listing.{Listing, IsListing, fixed_fields, body_of, bytes_of, size_of, with_structure}
 use Rattle.acpi_core.specs.Flat.{IsFlat, has_space, patched, Settles}
 use Rattle.acpi_base.specs.declared.error.Error.{Error}
 use Rattle.acpi_base.specs.declared.error.Error.TheVariants.{FieldWidth}

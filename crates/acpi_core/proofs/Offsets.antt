@@ -1,26 +1,25 @@
 -- Structures in their places.
-use Rattle.std.proofs.Common.{◌≡◌, ℕ, zero, suc, ◌+◌, ◌-◌, ◌*◌, ◌^◌, ◌<◌, ◌≤◌, List, [], ◌∷◌, ◌++◌, length, get_or, take, drop, refl, sym, ap, subst, ◌∙◌, arith, append_assoc, length-append, Bool, true, false, ⊎_elim, inl, inr}
-use Rattle.std.specs.Prelude.{sum, None, Some, ◌⊎◌, ◌&&◌, ◌||◌, ◌==◌, nat_lt, if◌then◌else◌}
+use Rattle.std.proofs.Common.{◌≡◌, ℕ, zero, suc, ◌+◌, ◌*◌, ◌^◌, ◌<◌, ◌≤◌, List, [], ◌∷◌, ◌++◌, length, get_or, take, drop, refl, sym, ap, subst, ◌∙◌, arith, append_assoc, length-append, Bool, true, false, ⊎_elim, inl, inr}
+use Rattle.std.specs.Prelude.{sum, None, Some, ◌⊎◌, if◌then◌else◌}
 use Rattle.std.specs.List.{concat}
-use Rattle.std.proofs.lemmas.List.{take-append-le, get_or_append_left, get_or_at, take_at, take_more, drop_at, drop_more, take-append-drop, length-take-le}
+use Rattle.std.proofs.lemmas.List.{take-append-le, get_or_append_left, get_or_at, take_at, drop_at, drop_more, take-append-drop, length-take-le}
 use Rattle.std.proofs.lemmas.Bool.{cases_lt}
 use Rattle.std.proofs.lemmas.Bool.Decides.{nat_tests}
 use Rattle.acpi_base.specs.Bytes.{le, carried, complement, put, field_at}
 use Rattle.acpi_base.specs.declared.error.Error.TheVariants.{FieldWidth}
 use Rattle.acpi_base.specs.Header.{header}
-use Rattle.acpi_base.specs.Table.{with_checksum}
-use Rattle.acpi_base.specs.Walk.{Sizes, Walk, Walks, ArePieces, HasSizes, Tells}
+use Rattle.acpi_base.specs.Walk.{Walk, Walks, ArePieces, HasSizes}
 use Rattle.acpi_base.proofs.Bytes.{length_le, carried_le}
 use Rattle.acpi_base.proofs.Puts.{put-append, length-put}
 use Rattle.acpi_base.proofs.Tables.{table_is_true, length-header}
 use Rattle.acpi_base.proofs.Walks.{one_walk, piece_has_bytes}
-use Rattle.acpi_core.specs.Listing.{Listing, IsListing, fixed_fields, body_of, bytes_of, start_of, size_of, with_structure}
-use Rattle.acpi_core.specs.Addition.{has_room, refusal_of}
+use Rattle.acpi_core.specs.Listing.{Listing, IsListing, fixed_fields, body_of, bytes_of, start_of, size_of}
+use Rattle.acpi_core.specs.Addition.{has_room}
 use Rattle.acpi_core.specs.Flat.{has_space}
-use Rattle.acpi_core.specs.Offset.{structure_at, offset_of, IsLater, KeepsStructures}
-use Rattle.acpi_core.specs.Walk.{IsWalkOf, Keeps, IsWalked}
+use Rattle.acpi_core.specs.Offset.{structure_at, offset_of}
+use Rattle.acpi_core.specs.Walk.{IsWalkOf}
 use Rattle.acpi_core.specs.Laws.{ListingsAreTrue, ListingsGrow, StructuresStandAtOffsets, StructuresAreAddedAtTheEnd, StructuresStay, StructuresAreTheWalk, OffsetsDiffer}
-use Rattle.acpi_core.proofs.Patches.{concat_push, concat_append}
+use Rattle.acpi_core.proofs.Patches.{concat_append}
 use Rattle.acpi_core.proofs.Flats.{length-fields, length-body, length-bytes, size_more}
 
 pub are_true : ListingsAreTrue

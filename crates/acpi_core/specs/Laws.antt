@@ -1,9 +1,8 @@
 -- What holds of tables of structures, whatever calls there are.
-use Rattle.std.specs.Prelude.{◌≡◌, ℕ, ◌+◌, ◌*◌, ◌<◌, ◌≤◌, List, ◌++◌, length, take, drop, None, false}
-use Rattle.acpi_base.specs.Bytes.{carried}
+use Rattle.std.specs.Prelude.{◌≡◌, ℕ, ◌<◌, List, ◌++◌, length, drop, None}
 use Rattle.acpi_base.specs.Table.{IsTrueTable}
-use Rattle.acpi_base.specs.Walk.{Walk, Walks, ArePieces, HasSizes, offsets_from}
-use Rattle.acpi_core.specs.Listing.{Listing, IsListing, bytes_of, start_of, size_of, with_structure}
+use Rattle.acpi_base.specs.Walk.{Walk, Walks, ArePieces, HasSizes}
+use Rattle.acpi_core.specs.Listing.{Listing, IsListing, bytes_of, size_of, with_structure}
 use Rattle.acpi_core.specs.Addition.{refusal_of}
 use Rattle.acpi_core.specs.Offset.{structure_at, offset_of, IsLater, KeepsStructures}
 use Rattle.acpi_core.specs.Walk.{IsWalkOf}

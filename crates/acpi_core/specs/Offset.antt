@@ -1,5 +1,5 @@
 -- Where structures stand in a table.
-use Rattle.std.specs.Prelude.{◌≡◌, ℕ, ◌+◌, ◌<◌, ◌≤◌, List, [], ◌++◌, length, take, slice_index_or}
+use Rattle.std.specs.Prelude.{◌≡◌, ℕ, ◌+◌, ◌<◌, List, [], ◌++◌, length, take, slice_index_or}
 use Rattle.std.specs.List.{concat}
 use Rattle.acpi_core.specs.Listing.{Listing, start_of}
 

@@ -1,4 +1,4 @@
-use Rattle.std.proofs.Common.{◌≡◌, ℕ, ◌+◌, ◌-◌, ◌≤◌, List, ◌++◌, true, refl, ◌∙◌, ap, sym, subst, arith, length, take, drop, None, length-append}
+use Rattle.std.proofs.Common.{◌≡◌, ℕ, ◌+◌, ◌-◌, ◌≤◌, List, ◌++◌, true, ◌∙◌, ap, sym, subst, arith, length, take, drop, None, length-append}
 use Rattle.acpi_base.specs.Object.{Appended}
 use Rattle.acpi_core.specs.Listing.{with_structure}
 use Rattle.acpi_core.specs.Flat.{has_space, Settles}

@@ -1,9 +1,6 @@
-use Rattle.std.proofs.Common.{◌≡◌, ◌+◌, ◌%◌, ◌++◌, [], ◌∷◌, ◌∙◌, ap, sym, refl, arith, length, replicate}
-use Rattle.std.specs.Prelude.{sum}
-use Rattle.acpi_base.specs.Bytes.{put}
+use Rattle.std.proofs.Common.{◌≡◌, ◌++◌, ◌∙◌, ap, refl, arith, length, replicate}
 use Rattle.acpi_base.specs.Header.{header}
-use Rattle.acpi_base.proofs.Tables.{length-header}
-use Rattle.acpi_core.specs.Flat.{IsFlat, new_listing}
+use Rattle.acpi_core.specs.Flat.{new_listing}
 use Rattle.acpi_core.proofs.Flats.{made_of, flat_new}
 use Rattle.acpi_core.proofs.table.Table.new.Goals as goal
 
