@@ -13,7 +13,7 @@ use Rattle.acpi_term.proofs.Openings.{OpenTakes, open_takes}
 use Rattle.acpi_read.specs.declared.terms.cause.Cause.{Cause}
 use Rattle.acpi_read.specs.declared.terms.open.TermStart as code
 use Rattle.acpi_read.specs.Cause.{Gives}
-use Rattle.acpi_read.specs.TermStart.{seen, LiesWithin, IsFilled}
+use Rattle.acpi_read.specs.TermStart.{seen, LiesWithin}
 
 framed_long : (code p before inside after : List ℕ) → (length inside ≤ length (code ++ (p ++ (before ++ (inside ++ after))))) × (length after ≤ length (code ++ (p ++ (before ++ (inside ++ after)))))
 framed_long code p before inside after =
@@ -42,14 +42,6 @@ module _ (arity : List ℕ → ℕ) (m : Mode) where
   opened_within bytes (begins w content after) t =
       let p = (t.2 [] content refl).0 in
       parts_within bytes (spelled (def_buffer content) w 1 []) after (length content) p (framed_long (0x11 ∷ []) (length_bytes w (w + length content)) [] [] content).1
-
-  opened_filled : (bytes : List ℕ) (o : Opened) → OpenTakes arity m bytes o → IsFilled o
-  opened_filled bytes (fills h w inside after) t = t.0
-  opened_filled bytes _ t = tt
-
-  pub is_filled : (bytes : List ℕ) (r : Result code.TermStart Cause) → AreBytes bytes → Gives seen r (open_at arity m bytes) → IfOk r (λ o. IsFilled (seen o))
-  is_filled bytes (Ok o) fits given = opened_filled bytes (seen o) (open_takes arity m bytes (seen o) fits given)
-  is_filled bytes (Err e) fits given = tt
 
   pub is_within : (bytes : List ℕ) (r : Result code.TermStart Cause) → AreBytes bytes → Gives seen r (open_at arity m bytes) → IfOk r (λ o. LiesWithin (length bytes) (seen o))
   is_within bytes (Ok o) fits given = opened_within bytes (seen o) (open_takes arity m bytes (seen o) fits given)

@@ -1,6 +1,5 @@
 -- The starts of terms, without where they lie in memory.
 use Rattle.std.specs.Prelude.{◌≡◌, ℕ, ◌+◌, ◌≤◌, length}
-use Rattle.acpi_base.specs.Bytes.{AreBytes}
 use Rattle.acpi_term.specs.Tree.{Head, call, def_scope, def_device, def_method, def_power_res, def_op_region, def_name, def_var_package, def_if, def_while, def_else, op, end}
 use Rattle.acpi_term.specs.Operator.{operands}
 use Rattle.acpi_term.specs.View.{view}
@@ -53,11 +52,6 @@ LiesWithin n (follows h w count rest) = length rest ≤ n
 LiesWithin n (fills h w inside after) = length inside + length after ≤ n
 LiesWithin n (packs w count inside after) = length inside + length after ≤ n
 LiesWithin n (begins w content after) = length content + length after ≤ n
-
--- what fills a frame is bytes
-abbrev pub IsFilled : Opened → Type 0
-IsFilled (fills h w inside after) = AreBytes inside
-IsFilled _ = Unit {0}
 
 -- a leaf has no children
 abbrev pub IsAlone : code.TermStart → Type 0

@@ -7,21 +7,24 @@ mod name;
 mod open;
 mod text;
 
-ghost use Rattle.std.specs.Prelude.{◌≡◌, ◌<◌, ◌≤◌, length, IfOk, OnOk, IfErr, Some, None};
+ghost use Rattle.std.specs.Prelude.{◌≡◌, ◌+◌, ◌<◌, ◌≤◌, length, IfOk, OnOk, IfErr, Some, None};
 ghost use Rattle.acpi_base.specs.Object.{IsOwnEnd};
 ghost use Rattle.acpi_term.specs.Arity.{arity};
+ghost use Rattle.acpi_term.specs.Operator.{operands};
+ghost use Rattle.acpi_term.specs.Reading.{Bad, follows, fills, packs, begins, counted, all_of, close, term_at};
+ghost use Rattle.acpi_term.specs.Tree.{call, def_op_region, def_name, op};
 ghost use Rattle.acpi_term.specs.View.{view, views};
-ghost use Rattle.acpi_term.specs.Reading.{Bad, counted, all_of, close, term_at};
 ghost use Rattle.acpi_read.specs.Cause.{Answers, IsPlaced, error_kind};
-ghost use Rattle.acpi_read.specs.TermStart.{seen, LiesWithin, IsFilled, IsAlone};
+ghost use Rattle.acpi_read.specs.TermStart.{seen, block_head, block_width, first_head, first_width, LiesWithin, IsAlone};
 ghost use Rattle.acpi_read.specs.Terms.{AreRead, IsUnread};
 
-use crate::terms::open::{TermStart, open};
+use crate::terms::open::{Block, FirstAndBlock, TermStart, open};
 use acpi_base::buffer::append;
 use acpi_base::error::R;
 use acpi_base::object::Aml;
 use acpi_term::mode::Mode;
-use acpi_term::name_string::Arities;
+use acpi_term::name_string::{Arities, NameString};
+use acpi_term::op::Op;
 use acpi_term::read_error::ReadError;
 use acpi_term::term::{MAX_DEPTH, Term};
 
@@ -51,7 +54,8 @@ fn term<'a>(
     }
 }
 
-/// The term of a head that was opened at an offset, whose children are at most so deep.
+/// The term of a head that was opened at an offset, whose children are at most so deep. Each kind with children has a function
+/// of its own, since every call pays for all of a function's locals.
 #[cycle(read)]
 #[tactic(auto, unfolding(acpi_term::specs::Reading::close, acpi_term::specs::Reading::counted))]
 fn close<'a>(
@@ -62,72 +66,216 @@ fn close<'a>(
     depth: usize,
 ) -> Result<(Term, &'a [u8]), ReadError>
     requires within { LiesWithin end (seen opened) }
-    requires filled { IsFilled (seen opened) }
     requires alone { IsAlone opened }
     requires place { offset ≤ end }
     ensures gives { Answers (λ x. ((view x.0).0, (view x.0).1, (view x.0).2, x.1.now)) result
         (close (term_at (arity arities.now) depth) (seen opened.entry)) }
     ensures placed { IfErr result (IsPlaced end) }
 {
-    let alloc = arities.allocator();
     match opened {
         TermStart::Leaf(leaf, rest) => Ok((leaf, rest)),
-        TermStart::Call(name, count, rest) => {
-            let (args, rest) = several(arities, Mode::Term, count, rest, end, depth)?;
-            Ok((Term::Call { name, args }, rest))
-        }
-        TermStart::Operator(op, rest) => {
-            let (operands, rest) = several(arities, Mode::Term, op.operands(), rest, end, depth)?;
-            Ok((Term::Op { op, operands }, rest))
-        }
-        TermStart::Region(name, space, rest) => {
-            let (offset, rest) = term(arities, Mode::Term, rest, end, depth)?;
-            let (length, rest) = term(arities, Mode::Term, rest, end, depth)?;
-            let offset = Box::new(alloc, offset)?;
-            let length = Box::new(alloc, length)?;
-            let region = Term::OpRegion {
-                name,
-                space,
-                offset,
-                length,
-            };
-            Ok((region, rest))
-        }
-        TermStart::Define(name, rest) => {
-            let (value, rest) = term(arities, Mode::Term, rest, end, depth)?;
-            let value = Box::new(alloc, value)?;
-            Ok((Term::Name { name, value }, rest))
-        }
-        TermStart::Block(block, inside, after) => {
-            let children = all(arities, Mode::Term, inside, end - after.len(), depth)?;
-            Ok((block.with(children), after))
-        }
+        TermStart::Call(name, count, rest) => call(arities, name, count, rest, end, depth),
+        TermStart::Operator(op, rest) => operator(arities, op, rest, end, depth),
+        TermStart::Region(name, space, rest) => region(arities, name, space, rest, end, depth),
+        TermStart::Define(name, rest) => define(arities, name, rest, end, depth),
+        TermStart::Block(head, inside, after) => block(arities, head, inside, after, end, depth),
         TermStart::FirstAndBlock(start, inside, after) => {
             if inside.is_empty() {
                 return Err(ReadError::Truncated(offset));
             }
-            let end = end - after.len();
-            let mode = start.mode();
-            let (first, rest) = term(arities, mode, inside, end, depth)?;
-            let others = all(arities, mode.next(), rest, end, depth)?;
-            let first = Box::new(alloc, first)?;
-            Ok((start.with(first, others), after))
+            first_and_block(arities, start, inside, after, end, depth)
         }
         TermStart::Package(width, count, inside, after) => {
-            let end = end - after.len();
-            let (elements, rest) = several(arities, Mode::Element, count, inside, end, depth)?;
-            if !rest.is_empty() {
-                return Err(ReadError::Count(offset));
-            }
-            Ok((Term::Package { width, elements }, after))
+            package(arities, width, count, inside, after, offset, end, depth)
         }
         TermStart::Buffer(width, content, after) => {
-            let (size, bytes) = term(arities, Mode::Term, content, end - after.len(), depth)?;
-            let bytes = Vec::from_slice(alloc, bytes)?;
-            let size = Box::new(alloc, size)?;
-            Ok((Term::Buffer { width, size, bytes }, after))
+            buffer(arities, width, content, after, end, depth)
         }
     }
+}
+
+/// A name and its arguments.
+#[cycle(read)]
+#[tactic(auto, unfolding(acpi_term::specs::Reading::close, acpi_term::specs::Reading::counted))]
+fn call<'a>(
+    arities: &Arities,
+    name: NameString,
+    count: u8,
+    rest: &'a [u8],
+    end: usize,
+    depth: usize,
+) -> Result<(Term, &'a [u8]), ReadError>
+    requires within { length rest.now ≤ end }
+    ensures gives { Answers (λ x. ((view x.0).0, (view x.0).1, (view x.0).2, x.1.now)) result
+        (close (term_at (arity arities.now) depth) (follows (call name) 0 count rest.now)) }
+    ensures placed { IfErr result (IsPlaced end) }
+{
+    let (args, rest) = several(arities, Mode::Term, count, rest, end, depth)?;
+    Ok((Term::Call { name, args }, rest))
+}
+
+/// An operator and its operands.
+#[cycle(read)]
+#[tactic(auto, unfolding(acpi_term::specs::Reading::close, acpi_term::specs::Reading::counted))]
+fn operator<'a>(
+    arities: &Arities,
+    code: Op,
+    rest: &'a [u8],
+    end: usize,
+    depth: usize,
+) -> Result<(Term, &'a [u8]), ReadError>
+    requires within { length rest.now ≤ end }
+    ensures gives { Answers (λ x. ((view x.0).0, (view x.0).1, (view x.0).2, x.1.now)) result
+        (close (term_at (arity arities.now) depth) (follows (op code) 0 (operands code) rest.now)) }
+    ensures placed { IfErr result (IsPlaced end) }
+{
+    let (operands, rest) = several(arities, Mode::Term, code.operands(), rest, end, depth)?;
+    Ok((Term::Op { op: code, operands }, rest))
+}
+
+/// A region, its offset and its length.
+#[cycle(read)]
+#[tactic(auto, unfolding(acpi_term::specs::Reading::close, acpi_term::specs::Reading::counted))]
+fn region<'a>(
+    arities: &Arities,
+    name: NameString,
+    space: u8,
+    rest: &'a [u8],
+    end: usize,
+    depth: usize,
+) -> Result<(Term, &'a [u8]), ReadError>
+    requires within { length rest.now ≤ end }
+    ensures gives { Answers (λ x. ((view x.0).0, (view x.0).1, (view x.0).2, x.1.now)) result
+        (close (term_at (arity arities.now) depth) (follows (def_op_region name space) 0 2 rest.now)) }
+    ensures placed { IfErr result (IsPlaced end) }
+{
+    let alloc = arities.allocator();
+    let (offset, rest) = term(arities, Mode::Term, rest, end, depth)?;
+    let (length, rest) = term(arities, Mode::Term, rest, end, depth)?;
+    let offset = Box::new(alloc, offset)?;
+    let length = Box::new(alloc, length)?;
+    let region = Term::OpRegion {
+        name,
+        space,
+        offset,
+        length,
+    };
+    Ok((region, rest))
+}
+
+/// A name and the value that it is given.
+#[cycle(read)]
+#[tactic(auto, unfolding(acpi_term::specs::Reading::close, acpi_term::specs::Reading::counted))]
+fn define<'a>(
+    arities: &Arities,
+    name: NameString,
+    rest: &'a [u8],
+    end: usize,
+    depth: usize,
+) -> Result<(Term, &'a [u8]), ReadError>
+    requires within { length rest.now ≤ end }
+    ensures gives { Answers (λ x. ((view x.0).0, (view x.0).1, (view x.0).2, x.1.now)) result
+        (close (term_at (arity arities.now) depth) (follows (def_name name) 0 1 rest.now)) }
+    ensures placed { IfErr result (IsPlaced end) }
+{
+    let (value, rest) = term(arities, Mode::Term, rest, end, depth)?;
+    let value = Box::new(arities.allocator(), value)?;
+    Ok((Term::Name { name, value }, rest))
+}
+
+/// A frame that its children fill.
+#[cycle(read)]
+#[tactic(auto, unfolding(acpi_term::specs::Reading::close, acpi_term::specs::Reading::counted))]
+fn block<'a>(
+    arities: &Arities,
+    head: Block,
+    inside: &[u8],
+    after: &'a [u8],
+    end: usize,
+    depth: usize,
+) -> Result<(Term, &'a [u8]), ReadError>
+    requires within { length inside.now + length after.now ≤ end }
+    ensures gives { Answers (λ x. ((view x.0).0, (view x.0).1, (view x.0).2, x.1.now)) result
+        (close (term_at (arity arities.now) depth) (fills (block_head head) (block_width head) inside.now after.now)) }
+    ensures placed { IfErr result (IsPlaced end) }
+{
+    let children = all(arities, Mode::Term, inside, end - after.len(), depth)?;
+    Ok((head.with(children), after))
+}
+
+/// A frame whose first child stands apart.
+#[cycle(read)]
+#[tactic(auto, unfolding(acpi_term::specs::Reading::close, acpi_term::specs::Reading::counted))]
+fn first_and_block<'a>(
+    arities: &Arities,
+    start: FirstAndBlock,
+    inside: &[u8],
+    after: &'a [u8],
+    end: usize,
+    depth: usize,
+) -> Result<(Term, &'a [u8]), ReadError>
+    requires within { length inside.now + length after.now ≤ end }
+    requires some { 0 < length inside.now }
+    ensures gives { Answers (λ x. ((view x.0).0, (view x.0).1, (view x.0).2, x.1.now)) result
+        (close (term_at (arity arities.now) depth) (fills (first_head start) (first_width start) inside.now after.now)) }
+    ensures placed { IfErr result (IsPlaced end) }
+{
+    let end = end - after.len();
+    let mode = start.mode();
+    let (first, rest) = term(arities, mode, inside, end, depth)?;
+    let others = all(arities, mode.next(), rest, end, depth)?;
+    let first = Box::new(arities.allocator(), first)?;
+    Ok((start.with(first, others), after))
+}
+
+/// A package of so many elements.
+#[cycle(read)]
+#[tactic(auto, unfolding(acpi_term::specs::Reading::close, acpi_term::specs::Reading::counted))]
+fn package<'a>(
+    arities: &Arities,
+    width: u8,
+    count: u8,
+    inside: &[u8],
+    after: &'a [u8],
+    offset: usize,
+    end: usize,
+    depth: usize,
+) -> Result<(Term, &'a [u8]), ReadError>
+    requires within { length inside.now + length after.now ≤ end }
+    requires place { offset ≤ end }
+    ensures gives { Answers (λ x. ((view x.0).0, (view x.0).1, (view x.0).2, x.1.now)) result
+        (close (term_at (arity arities.now) depth) (packs width count inside.now after.now)) }
+    ensures placed { IfErr result (IsPlaced end) }
+{
+    let end = end - after.len();
+    let (elements, rest) = several(arities, Mode::Element, count, inside, end, depth)?;
+    if !rest.is_empty() {
+        return Err(ReadError::Count(offset));
+    }
+    Ok((Term::Package { width, elements }, after))
+}
+
+/// A buffer's size and its bytes.
+#[cycle(read)]
+#[tactic(auto, unfolding(acpi_term::specs::Reading::close, acpi_term::specs::Reading::counted))]
+fn buffer<'a>(
+    arities: &Arities,
+    width: u8,
+    content: &[u8],
+    after: &'a [u8],
+    end: usize,
+    depth: usize,
+) -> Result<(Term, &'a [u8]), ReadError>
+    requires within { length content.now + length after.now ≤ end }
+    ensures gives { Answers (λ x. ((view x.0).0, (view x.0).1, (view x.0).2, x.1.now)) result
+        (close (term_at (arity arities.now) depth) (begins width content.now after.now)) }
+    ensures placed { IfErr result (IsPlaced end) }
+{
+    let alloc = arities.allocator();
+    let (size, bytes) = term(arities, Mode::Term, content, end - after.len(), depth)?;
+    let bytes = Vec::from_slice(alloc, bytes)?;
+    let size = Box::new(alloc, size)?;
+    Ok((Term::Buffer { width, size, bytes }, after))
 }
 
 /// Where terms that are counted should go on: a package has too few elements, and anything else is cut off.

@@ -7,7 +7,7 @@ ghost use Rattle.acpi_term.specs.Tree.{term, number, def_var_package, def_if, de
 ghost use Rattle.acpi_term.specs.View.{views, view};
 ghost use Rattle.acpi_term.specs.Reading.{follows, op_of, number_at, string_at, named_at, define_after, mutex_after, region_after, acquire_after, release_after, framed_at, scope_inside, device_inside, method_inside, power_inside, field_inside, plain_at, package_at, buffer_at, extended_at, local_at, opcode_at, open_at};
 ghost use Rattle.acpi_read.specs.Cause.{Gives};
-ghost use Rattle.acpi_read.specs.TermStart.{seen, block_head, block_width, first_head, first_width, LiesWithin, IsFilled, IsAlone};
+ghost use Rattle.acpi_read.specs.TermStart.{seen, block_head, block_width, first_head, first_width, LiesWithin, IsAlone};
 
 use crate::terms::cause::Cause;
 use crate::terms::field::entries;
@@ -488,7 +488,6 @@ pub fn open<'a>(arities: &Arities, mode: Mode, bytes: &'a [u8]) -> Result<TermSt
     ensures gives { Gives seen result (open_at (arity arities.now) mode bytes.now) }
     ensures alone { IfOk result IsAlone }
     ensures within { IfOk result (λ opened. LiesWithin (length bytes.now) (seen opened)) }
-    ensures filled { IfOk result (λ opened. IsFilled (seen opened)) }
 {
     open_head(arities, mode, bytes)
 }

@@ -62,36 +62,35 @@ pub term-returns-in-Err-clause-gives : goal.term-returns-in-Err-clause-gives
 term-returns-in-Err-clause-gives t c =
     rw c.at.ensures.kind (unopened (arity c.args.arities.now) c.args.depth c.args.mode c.args.bytes.now c.if-depth-eq0.false (cause_kind c.in-Err.cause) c.in-Err.ensures.gives)
 
-pub close-returns-in_ok-children-in-Block-clause-gives : goal.close-returns-in_ok-children-in-Block-clause-gives
-close-returns-in_ok-children-in-Block-clause-gives t c =
-    rw (c.in-Block.is, c.with.ensures) (block_is (term_at (arity c.args.arities.now) c.args.depth) c.in-Block.block c.in-Block.inside.now c.in-Block.after.now (views c.in_ok-children-in-Block.children.items) c.in_ok-children-in-Block.ensures.gives)
+pub block-returns-clause-gives : goal.block-returns-clause-gives
+block-returns-clause-gives t c =
+    rw c.with.ensures (block_is (term_at (arity c.args.arities.now) c.args.depth) c.args.head c.args.inside.now c.args.after.now (views c.in_ok-children.children.items) c.in_ok-children.ensures.gives)
 
 pub close-returns-then-is_empty-clause-gives : goal.close-returns-then-is_empty-clause-gives
 close-returns-then-is_empty-clause-gives t c =
     let none : length c.in-FirstAndBlock.inside.now ≡ 0 = search rules in
     rw c.in-FirstAndBlock.is (first_is_missing (arity c.args.arities.now) c.args.depth c.in-FirstAndBlock.start c.in-FirstAndBlock.inside.now c.in-FirstAndBlock.after.now none)
 
-pub close-returns-in_err-first-in-FirstAndBlock-clause-gives : goal.close-returns-in_err-first-in-FirstAndBlock-clause-gives
-close-returns-in_err-first-in-FirstAndBlock-clause-gives t c =
-    let p = err_from_is_err_and c.from_residual-in_err-first-in-FirstAndBlock.result c.from_residual-in_err-first-in-FirstAndBlock.ensures.1 in
-    let some : 0 < length c.in-FirstAndBlock.inside.now = search rules in
-    rw (p.1, p.2, c.in-FirstAndBlock.is) (first_fails (arity c.args.arities.now) c.args.depth c.in-FirstAndBlock.start c.in-FirstAndBlock.inside.now c.in-FirstAndBlock.after.now c.mode-mode.result c.mode-mode.ensures some (error_kind c.in_err-first-in-FirstAndBlock.field-0.0) c.in_err-first-in-FirstAndBlock.ensures.gives)
+pub first_and_block-returns-in_err-first-clause-gives : goal.first_and_block-returns-in_err-first-clause-gives
+first_and_block-returns-in_err-first-clause-gives t c =
+    let p = err_from_is_err_and c.from_residual.result c.from_residual.ensures.1 in
+    rw (p.1, p.2) (first_fails (arity c.args.arities.now) c.args.depth c.args.start c.args.inside.now c.args.after.now c.mode-mode.result c.mode-mode.ensures c.requires.some (error_kind c.in_err-first.field-0.0) c.in_err-first.ensures.gives)
 
-pub close-returns-in_err-others-in-FirstAndBlock-clause-gives : goal.close-returns-in_err-others-in-FirstAndBlock-clause-gives
-close-returns-in_err-others-in-FirstAndBlock-clause-gives t c =
-    let p = err_from_is_err_and c.from_residual-in_err-others-in-FirstAndBlock.result c.from_residual-in_err-others-in-FirstAndBlock.ensures.1 in
-    let some : 0 < length c.in-FirstAndBlock.inside.now = search rules in
-    let x = c.in_ok-first-in-FirstAndBlock.first in
-    let failed = rw c.next.ensures at c.in_err-others-in-FirstAndBlock.ensures.gives in
-    rw (p.1, p.2, c.in-FirstAndBlock.is) (others_fail (arity c.args.arities.now) c.args.depth c.in-FirstAndBlock.start c.in-FirstAndBlock.inside.now c.in-FirstAndBlock.after.now c.mode-mode.result c.mode-mode.ensures some (view x).0 (view x).1 (view x).2 c.in_ok-first-in-FirstAndBlock.rest.now (rw c.in-FirstAndBlock.is at c.requires.filled) c.in_ok-first-in-FirstAndBlock.ensures.gives (error_kind c.in_err-others-in-FirstAndBlock.field-0.0) failed)
+pub first_and_block-returns-in_err-others-clause-gives : goal.first_and_block-returns-in_err-others-clause-gives
+first_and_block-returns-in_err-others-clause-gives t c =
+    let p = err_from_is_err_and c.from_residual-in_err-others.result c.from_residual-in_err-others.ensures.1 in
+    let x = c.in_ok-first.first in
+    let failed = rw c.next.ensures at c.in_err-others.ensures.gives in
+    let filled = bytes_each c.args.inside.now (λ i. omega (arith, c.type_inv.inside i)) in
+    rw (p.1, p.2) (others_fail (arity c.args.arities.now) c.args.depth c.args.start c.args.inside.now c.args.after.now c.mode-mode.result c.mode-mode.ensures c.requires.some (view x).0 (view x).1 (view x).2 c.in_ok-first.rest.now filled c.in_ok-first.ensures.gives (error_kind c.in_err-others.field-0.0) failed)
 
-pub close-returns-in_ok-first-in-FirstAndBlock-2-clause-gives : goal.close-returns-in_ok-first-in-FirstAndBlock-2-clause-gives
-close-returns-in_ok-first-in-FirstAndBlock-2-clause-gives t c =
-    let some : 0 < length c.in-FirstAndBlock.inside.now = search rules in
-    let x = c.in_ok-first-in-FirstAndBlock.first in
-    let read = rw c.next.ensures at c.in_ok-others-in-FirstAndBlock.ensures.gives in
-    let boxed = c.in_ok-first-in-FirstAndBlock-2.ensures.ok in
-    rw (c.in-FirstAndBlock.is, c.with-in-FirstAndBlock.ensures, boxed) (first_is (arity c.args.arities.now) c.args.depth c.in-FirstAndBlock.start c.in-FirstAndBlock.inside.now c.in-FirstAndBlock.after.now c.mode-mode.result c.mode-mode.ensures some (view x).0 (view x).1 (view x).2 c.in_ok-first-in-FirstAndBlock.rest.now (rw c.in-FirstAndBlock.is at c.requires.filled) c.in_ok-first-in-FirstAndBlock.ensures.gives (views c.in_ok-others-in-FirstAndBlock.others.items) read)
+pub first_and_block-returns-clause-gives : goal.first_and_block-returns-clause-gives
+first_and_block-returns-clause-gives t c =
+    let x = c.in_ok-first.first in
+    let read = rw c.next.ensures at c.in_ok-others.ensures.gives in
+    let boxed = c.in_ok-first-2.ensures.ok in
+    let filled = bytes_each c.args.inside.now (λ i. omega (arith, c.type_inv.inside i)) in
+    rw (c.with.ensures, boxed) (first_is (arity c.args.arities.now) c.args.depth c.args.start c.args.inside.now c.args.after.now c.mode-mode.result c.mode-mode.ensures c.requires.some (view x).0 (view x).1 (view x).2 c.in_ok-first.rest.now filled c.in_ok-first.ensures.gives (views c.in_ok-others.others.items) read)
 
 pub term-returns-in-Ok-clause-shorter : goal.term-returns-in-Ok-clause-shorter
 term-returns-in-Ok-clause-shorter t c =

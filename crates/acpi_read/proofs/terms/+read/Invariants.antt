@@ -6,16 +6,40 @@ use Rattle.acpi_read.proofs.TermLists.{SeveralRead, AllRead}
 use Rattle.acpi_read.proofs.terms.+read.Given as goal
 
 abbrev pub decreases-term : goal.decreases-term
-decreases-term l = 3 * l.depth
+decreases-term l = 4 * l.depth
 
 abbrev pub decreases-all : goal.decreases-all
-decreases-all l = 3 * l.depth + 1
+decreases-all l = 4 * l.depth + 1
 
 abbrev pub decreases-several : goal.decreases-several
-decreases-several l = 3 * l.depth + 1
+decreases-several l = 4 * l.depth + 1
 
 abbrev pub decreases-close : goal.decreases-close
-decreases-close l = 3 * l.depth + 2
+decreases-close l = 4 * l.depth + 3
+
+abbrev pub decreases-call : goal.decreases-call
+decreases-call l = 4 * l.depth + 2
+
+abbrev pub decreases-operator : goal.decreases-operator
+decreases-operator l = 4 * l.depth + 2
+
+abbrev pub decreases-region : goal.decreases-region
+decreases-region l = 4 * l.depth + 2
+
+abbrev pub decreases-define : goal.decreases-define
+decreases-define l = 4 * l.depth + 2
+
+abbrev pub decreases-block : goal.decreases-block
+decreases-block l = 4 * l.depth + 2
+
+abbrev pub decreases-first_and_block : goal.decreases-first_and_block
+decreases-first_and_block l = 4 * l.depth + 2
+
+abbrev pub decreases-package : goal.decreases-package
+decreases-package l = 4 * l.depth + 2
+
+abbrev pub decreases-buffer : goal.decreases-buffer
+decreases-buffer l = 4 * l.depth + 2
 
 abbrev pub invariant-all-all : goal.invariant-all-all
 invariant-all-all l = AllRead (term_at (arity l.arities) l.depth) l.fn.mode l.bytes (views l.terms.items) l.at l.rest
