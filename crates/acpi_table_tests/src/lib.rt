@@ -2,7 +2,11 @@
 #![tactic(auto)]
 
 #[cfg(test)]
+mod broken;
+#[cfg(test)]
 mod fixed;
+#[cfg(test)]
+mod hest;
 #[cfg(test)]
 mod lists;
 #[cfg(test)]

@@ -1,8 +1,6 @@
 //! MADT and its structures.
 
-ghost use Rattle.std.specs.Prelude.{[], ◌∷◌, Some, false};
-ghost use Rattle.acpi_base.specs.declared.error.Error.TheVariants.{Sink};
-
+use crate::broken::Broken;
 use crate::vectors::{OEM, OEM_REVISION, OEM_TABLE, writes};
 use acpi_base::error::{Error, R};
 use acpi_base::object::{Aml, u8sum};
@@ -302,21 +300,6 @@ fn one_imsic(rt: HostRuntime) -> Result<(), Fail> {
     holds(&rt, alloc, &madt, 76, 0xae, 2)?;
     assert_eq!(rt; madt.add_imsic(imsic()), Err(Error::ImsicSet));
     holds(&rt, alloc, &madt, 76, 0xae, 2)
-}
-
-// Gives four bytes, and then refuses.
-#[derive(Drop)]
-struct Broken {}
-
-impl Aml for Broken {
-    ghost object = { λ _. record { front = 1 ∷ 2 ∷ 3 ∷ 4 ∷ []; end = Some (Sink 9); wants_memory = false } };
-
-    ghost ends_well = { λ _ is. Prim.cc };
-
-    fn to_aml_bytes(&self, sink: &mut dyn AmlSink) -> R<()> {
-        sink.vec(&[1, 2, 3, 4])?;
-        Err(Error::Sink(9))
-    }
 }
 
 #[test]

@@ -1,0 +1,6 @@
+pub mod Hest
+pub mod Aer
+pub mod Notification
+pub mod Generic
+pub mod Status
+pub mod Laws

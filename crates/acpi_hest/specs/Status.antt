@@ -1,0 +1,27 @@
+-- Generic Error Status Blocks (ACPI 6.5, 18.3.2.7.1).
+use Rattle.std.specs.Prelude.{ℕ, ◌+◌, ◌==◌, if◌then◌else◌, List, [], ◌∷◌}
+use Rattle.acpi_base.specs.Layout.{dword, zeros, record_of}
+use Rattle.acpi_hest.specs.declared.hest.status.ErrorSeverity.{ErrorSeverity}
+use Rattle.acpi_hest.specs.declared.hest.status.ErrorSeverity.TheVariants.{Recoverable, Fatal, Correctable, None}
+use Rattle.acpi_hest.specs.declared.hest.status.GenericErrorStatus.{GenericErrorStatus}
+
+abbrev pub severity_number : ErrorSeverity → ℕ
+severity_number Recoverable = 0
+severity_number Fatal = 1
+severity_number Correctable = 2
+severity_number None = 3
+
+-- none, one or several
+abbrev pub status_of : ℕ → ℕ → ℕ → ℕ
+status_of count one several = if count == 0 then 0 else (if count == 1 then one else several)
+
+-- one uncorrectable error is told by 1, one correctable by 2, several uncorrectable by 4 and several correctable by 8
+abbrev pub error_status : ℕ → ℕ → ErrorSeverity → GenericErrorStatus
+error_status correctable uncorrectable severity = record { status = status_of correctable 2 8 + status_of uncorrectable 1 4; severity = severity }
+
+abbrev pub error_status_bytes : GenericErrorStatus → List ℕ
+error_status_bytes s = record_of
+    (dword s.status  -- 0: Block Status
+    ∷ zeros 12  -- 4: Raw Data Offset; 8: Raw Data Length; 12: Data Length
+    ∷ dword (severity_number s.severity)  -- 16: Error Severity
+    ∷ [])

@@ -1,0 +1,165 @@
+//! How a source tells of an error.
+
+ghost use Rattle.std.specs.Prelude.{◌≡◌};
+ghost use Rattle.acpi_base.specs.Object.{whole, whole_ends_well};
+ghost use Rattle.acpi_hest.specs.Notification.{type_number, notification, notification_bytes, no_notification};
+
+use acpi_base::error::R;
+use acpi_base::object::Aml;
+use acpi_base::record::{Field, record};
+use acpi_base::sink::AmlSink;
+
+/// How a source tells of an error (ACPI 6.5, 18.3.2.9, Type). The last four are those of RISC-V.
+#[derive(Clone, Copy, Debug, Default)]
+pub enum NotificationType {
+    #[default]
+    Polled = 0,
+    ExternalIrq = 1,
+    LocalIrq = 2,
+    Sci = 3,
+    Nmi = 4,
+    Cmci = 5,
+    Mce = 6,
+    GpioSignal = 7,
+    Armv8Sea = 8,
+    Armv8Sei = 9,
+    ExternalGsiv = 10,
+    SoftwareException = 11,
+    RiscvSupervisorSoftwareEvent = 12,
+    RiscvLowPriorityRasInterrupt = 13,
+    RiscvHighPriorityRasInterrupt = 14,
+    RiscvHardwareErrorException = 15,
+}
+
+/// A Hardware Error Notification Structure (ACPI 6.5, 18.3.2.9): 28 bytes.
+#[derive(Clone, Copy, Debug)]
+pub struct NotificationStructure {
+    kind: u8,
+    length: u8,
+    conf_write_en: u16,
+    poll_interval_ms: u32,
+    vector: u32,
+    polling_threshold_value: u32,
+    polling_threshold_window_ms: u32,
+    error_threshold_value: u32,
+    error_threshold_window_ms: u32,
+}
+
+impl NotificationStructure {
+    /// A notification of a type, with zero in every other field but its length.
+    pub fn new(kind: NotificationType) -> NotificationStructure
+        ensures { result ≡ notification (type_number kind) 28 }
+    {
+        NotificationStructure {
+            kind: kind as u8,
+            length: 28,
+            ..NotificationStructure::none()
+        }
+    }
+
+    /// What a source has before it is given a notification: 28 zeros, its length among them.
+    pub(crate) fn none() -> NotificationStructure
+        ensures { result ≡ no_notification }
+    {
+        NotificationStructure {
+            kind: 0,
+            length: 0,
+            conf_write_en: 0,
+            poll_interval_ms: 0,
+            vector: 0,
+            polling_threshold_value: 0,
+            polling_threshold_window_ms: 0,
+            error_threshold_value: 0,
+            error_threshold_window_ms: 0,
+        }
+    }
+
+    /// Which of the fields may be written, a bit for each (offset 2).
+    pub fn conf_write_en(mut self, conf_write_en: u16) -> NotificationStructure
+        ensures { result ≡ record self { conf_write_en = conf_write_en } }
+    {
+        self.conf_write_en = conf_write_en;
+        self
+    }
+
+    /// How often to poll, in milliseconds (offset 4).
+    pub fn poll_interval_ms(mut self, poll_interval_ms: u32) -> NotificationStructure
+        ensures { result ≡ record self { poll_interval_ms = poll_interval_ms } }
+    {
+        self.poll_interval_ms = poll_interval_ms;
+        self
+    }
+
+    /// The interrupt, if the source has one (offset 8).
+    pub fn vector(mut self, vector: u32) -> NotificationStructure
+        ensures { result ≡ record self { vector = vector } }
+    {
+        self.vector = vector;
+        self
+    }
+
+    /// How many errors within the window make polling the way (offset 12).
+    pub fn polling_threshold_value(mut self, polling_threshold_value: u32) -> NotificationStructure
+        ensures { result ≡ record self { polling_threshold_value = polling_threshold_value } }
+    {
+        self.polling_threshold_value = polling_threshold_value;
+        self
+    }
+
+    /// The window of that number, in milliseconds (offset 16).
+    pub fn polling_threshold_window_ms(
+        mut self,
+        polling_threshold_window_ms: u32,
+    ) -> NotificationStructure
+        ensures { result ≡ record self { polling_threshold_window_ms = polling_threshold_window_ms } }
+    {
+        self.polling_threshold_window_ms = polling_threshold_window_ms;
+        self
+    }
+
+    /// How many errors within the window are one notification (offset 20).
+    pub fn error_threshold_value(mut self, error_threshold_value: u32) -> NotificationStructure
+        ensures { result ≡ record self { error_threshold_value = error_threshold_value } }
+    {
+        self.error_threshold_value = error_threshold_value;
+        self
+    }
+
+    /// The window of that number, in milliseconds (offset 24).
+    pub fn error_threshold_window_ms(
+        mut self,
+        error_threshold_window_ms: u32,
+    ) -> NotificationStructure
+        ensures { result ≡ record self { error_threshold_window_ms = error_threshold_window_ms } }
+    {
+        self.error_threshold_window_ms = error_threshold_window_ms;
+        self
+    }
+
+    /// The structure's bytes.
+    pub(crate) fn bytes(&self) -> [u8; 28]
+        ensures { result ≡ notification_bytes self.now }
+    {
+        record(&[
+            Field::Byte(self.kind),
+            Field::Byte(self.length),
+            Field::Word(self.conf_write_en),
+            Field::DWord(self.poll_interval_ms),
+            Field::DWord(self.vector),
+            Field::DWord(self.polling_threshold_value),
+            Field::DWord(self.polling_threshold_window_ms),
+            Field::DWord(self.error_threshold_value),
+            Field::DWord(self.error_threshold_window_ms),
+        ])
+    }
+}
+
+impl Aml for NotificationStructure {
+    ghost object = { λ n. whole (notification_bytes n) };
+
+    ghost ends_well = { λ n. whole_ends_well (notification_bytes n) };
+
+    fn to_aml_bytes(&self, sink: &mut dyn AmlSink) -> R<()> {
+        sink.vec(&self.bytes())
+    }
+}

@@ -1,0 +1,5 @@
+//! Tables of error sources.
+#![tactic(auto)]
+
+pub mod hest;
+pub mod laws;
