@@ -88,7 +88,7 @@ pub struct Aer<T> {
 const GLOBAL: u8 = 2;
 
 impl<T: Tail> Aer<T> {
-    /// The source of all devices of this kind, with zero in every field.
+    /// The source of all devices of this kind, with zero in every other field.
     pub fn new_global() -> Aer<T>
         ensures { result ≡ aer_global T.zero }
     {
