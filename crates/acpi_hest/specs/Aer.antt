@@ -1,4 +1,4 @@
--- Sources of PCI Express Advanced Error Reporting (ACPI 6.5, 18.3.2.3 to 18.3.2.5).
+-- Sources of PCI Express Advanced Error Reporting (ACPI 6.5, 18.3.2.4 to 18.3.2.6).
 use Rattle.std.specs.Prelude.{ℕ, List, [], ◌∷◌, ◌++◌}
 use Rattle.acpi_base.specs.Layout.{byte, word, dword, zeros, record_of}
 use Rattle.acpi_hest.specs.declared.hest.aer.Aer.{Aer}

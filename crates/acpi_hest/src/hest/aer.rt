@@ -1,9 +1,8 @@
 //! Sources of PCI Express Advanced Error Reporting (AER).
 
-ghost use Rattle.std.specs.Prelude.{◌≡◌, ℕ, ◌+◌, ◌<◌, List, length, refl, Some, OnOk, IfErr};
+ghost use Rattle.std.specs.Prelude.{◌≡◌, ℕ, ◌<◌, List, OnOk, IfErr};
 ghost use Rattle.acpi_base.specs.Object.{whole, whole_ends_well};
 ghost use Rattle.acpi_base.specs.Sink.{Took, Refused};
-ghost use Rattle.acpi_base.specs.Walk.{source_size};
 ghost use Rattle.acpi_hest.specs.Aer.{pci_device, aer_global, aer_of, aer_head, aer_bytes, root_port_bytes, device_bytes, bridge_bytes};
 
 use acpi_base::error::R;
@@ -11,7 +10,7 @@ use acpi_base::object::Aml;
 use acpi_base::record::{Field, record};
 use acpi_base::sink::AmlSink;
 
-/// Whether firmware handles a source's errors before the operating system (ACPI 6.5, 18.3.2.3, Flags).
+/// Whether firmware handles a source's errors before the operating system (ACPI 6.5, 18.3.2.4, Flags).
 #[derive(Copy, Clone, Debug, PartialEq)]
 pub enum FirmwareFirst {
     Disabled = 0,
@@ -44,8 +43,6 @@ impl PciDevice {
 pub trait Tail: Copy {
     ghost KIND: { ℕ };
 
-    ghost LENGTH: { ℕ };
-
     ghost zero: { Self };
 
     ghost bytes: { Self → List ℕ };
@@ -61,13 +58,9 @@ pub trait Tail: Copy {
     fn write(&self, sink: &mut dyn AmlSink) -> R<()>
         ensures ok { OnOk result (Took (meaning sink.old) (bytes self.now) (meaning sink.new)) }
         ensures err { IfErr result (λ e. Refused e (meaning sink.old) (bytes self.now) (meaning sink.new)) };
-
-    ghost length_is: { (tail : Self) → length (bytes tail) ≡ LENGTH };
-
-    ghost size_is: { source_size KIND ≡ Some (44 + LENGTH) };
 }
 
-/// An AER source (ACPI 6.5, 18.3.2.3 to 18.3.2.5): 44 bytes, and the tail of its kind.
+/// An AER source (ACPI 6.5, 18.3.2.4 to 18.3.2.6): 44 bytes, and the tail of its kind.
 #[derive(Clone, Copy, Debug)]
 pub struct Aer<T> {
     flags: u8,
@@ -212,13 +205,13 @@ impl<T: Tail> Aml for Aer<T> {
     }
 }
 
-/// A root port: 48 bytes (ACPI 6.5, 18.3.2.3).
+/// A root port: 48 bytes (ACPI 6.5, 18.3.2.4).
 pub type PcieAerRootPort = Aer<AerRootPort>;
 
-/// An endpoint: 44 bytes (ACPI 6.5, 18.3.2.4).
+/// An endpoint: 44 bytes (ACPI 6.5, 18.3.2.5).
 pub type PcieAerDevice = Aer<AerDevice>;
 
-/// A bridge: 56 bytes (ACPI 6.5, 18.3.2.5).
+/// A bridge: 56 bytes (ACPI 6.5, 18.3.2.6).
 pub type PcieAerBridge = Aer<AerBridge>;
 
 /// The tail of a root port.
@@ -254,17 +247,11 @@ impl AerBridge {
 impl Tail for AerRootPort {
     ghost KIND = { 6 };
 
-    ghost LENGTH = { 4 };
-
     ghost zero = { record { root_error_command = 0 } };
 
     ghost bytes = { root_port_bytes };
 
     const KIND: u16 = 6;
-
-    ghost length_is = { λ _. refl };
-
-    ghost size_is = { refl };
 
     fn zero() -> AerRootPort {
         AerRootPort {
@@ -280,17 +267,11 @@ impl Tail for AerRootPort {
 impl Tail for AerDevice {
     ghost KIND = { 7 };
 
-    ghost LENGTH = { 0 };
-
     ghost zero = { record {} };
 
     ghost bytes = { device_bytes };
 
     const KIND: u16 = 7;
-
-    ghost length_is = { λ _. refl };
-
-    ghost size_is = { refl };
 
     fn zero() -> AerDevice {
         AerDevice {}
@@ -304,17 +285,11 @@ impl Tail for AerDevice {
 impl Tail for AerBridge {
     ghost KIND = { 8 };
 
-    ghost LENGTH = { 12 };
-
     ghost zero = { record { secondary_uncorrectable_error_mask = 0; secondary_uncorrectable_error_severity = 0; secondary_aer_cap_ctrl = 0 } };
 
     ghost bytes = { bridge_bytes };
 
     const KIND: u16 = 8;
-
-    ghost length_is = { λ _. refl };
-
-    ghost size_is = { refl };
 
     fn zero() -> AerBridge {
         AerBridge {
