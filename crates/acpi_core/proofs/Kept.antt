@@ -18,14 +18,14 @@ accepted_whole : (t : Listing) (end : Option Error) (n : ℕ) → refusal_of t e
 accepted_whole t None n h = h
 accepted_whole t (Some e) n h = absurd cc
 
-pub listing_on : (r : Result Unit Error) (old new : Counted) (o : Object) → IsListing old.table → Adds r old o new → IsListing new.table
+pub listing_on : {T : Type 0} (r : Result T Error) (old new : Counted) (o : Object) → IsListing old.table → Adds r old o new → IsListing new.table
 listing_on (Ok u) old new o is adds = rw adds.ok (grow old.table o.front is (accepted_whole old.table o.end (length o.front) adds.accepted))
 listing_on (Err e) old new o is adds = rw adds.err is
 
 walk_more : (w : Walk) (t : Listing) (x : List ℕ) → IsWalkOf w t → IsWalkOf w (with_structure t x)
 walk_more w t x walk = record { start = walk.start; count_at = walk.count_at; count_width = walk.count_width; told = walk.told }
 
-pub walk_on : (w : Walk) (r : Result Unit Error) (old new : Counted) (o : Object) → IsWalkOf w old.table → Adds r old o new → IsWalkOf w new.table
+pub walk_on : (w : Walk) {T : Type 0} (r : Result T Error) (old new : Counted) (o : Object) → IsWalkOf w old.table → Adds r old o new → IsWalkOf w new.table
 walk_on w (Ok u) old new o walk adds = rw adds.ok (walk_more w old.table o.front walk)
 walk_on w (Err e) old new o walk adds = rw adds.err walk
 
@@ -33,12 +33,12 @@ accepted_end : (t : Listing) (end : Option Error) (n : ℕ) → refusal_of t end
 accepted_end t None n h = refl
 accepted_end t (Some e) n h = absurd cc
 
-pieces_on : (s : Sizes) (r : Result Unit Error) (old new : Counted) (o : Object) → ArePieces s old.table.structures → (o.end ≡ None → IsPiece s o.front) → Adds r old o new → ArePieces s new.table.structures
+pieces_on : (s : Sizes) {T : Type 0} (r : Result T Error) (old new : Counted) (o : Object) → ArePieces s old.table.structures → (o.end ≡ None → IsPiece s o.front) → Adds r old o new → ArePieces s new.table.structures
 pieces_on s (Ok u) old new o all one adds = rw adds.ok (pieces_push s old.table.structures o.front all (one (accepted_end old.table o.end (length o.front) adds.accepted)))
 pieces_on s (Err e) old new o all one adds = rw adds.err all
 
 -- an addition, accepted or refused, keeps what a table keeps
-pub keeps_on : (w : Walk) (r : Result Unit Error) (old new : Counted) (o : Object) → Keeps w old.table → (o.end ≡ None → IsPiece w.sizes o.front) → Adds r old o new → Keeps w new.table
+pub keeps_on : (w : Walk) {T : Type 0} (r : Result T Error) (old new : Counted) (o : Object) → Keeps w old.table → (o.end ≡ None → IsPiece w.sizes o.front) → Adds r old o new → Keeps w new.table
 keeps_on w r old new o kept one adds = record {
   is = listing_on r old new o kept.is adds;
   walk = walk_on w r old new o kept.walk adds;
@@ -60,12 +60,12 @@ refused_same (Ok u) a b m k same refused = tt
 refused_same (Err e) a b m k same refused = rw (← same) refused
 
 -- an addition of bytes that are those of a definition, to a table that is the only field of another
-pub keeps_bytes : (w : Walk) (r : Result Unit Error) (old new : Counted) (b bytes : List ℕ) → Keeps w old.table → IsPiece w.sizes bytes → b ≡ bytes → Adds r old (whole b) new → Keeps w new.table
+pub keeps_bytes : (w : Walk) {T : Type 0} (r : Result T Error) (old new : Counted) (b bytes : List ℕ) → Keeps w old.table → IsPiece w.sizes bytes → b ≡ bytes → Adds r old (whole b) new → Keeps w new.table
 keeps_bytes w r old new b bytes kept one is adds = keeps_on w r old new (whole b) kept (λ _. rw is one) adds
 
-pub adds_bytes : (r : Result Unit Error) (inside old new : Counted) (b bytes : List ℕ) → inside ≡ old → b ≡ bytes → Adds r inside (whole b) new → Adds r old (whole bytes) new
+pub adds_bytes : {T : Type 0} (r : Result T Error) (inside old new : Counted) (b bytes : List ℕ) → inside ≡ old → b ≡ bytes → Adds r inside (whole b) new → Adds r old (whole bytes) new
 adds_bytes r inside old new b bytes same is adds = rw (← same, ← is) adds
 
 -- an addition of an object
-pub adds_object : (r : Result Unit Error) (inside old new : Counted) (o : Object) → inside ≡ old → Adds r inside o new → Adds r old o new
+pub adds_object : {T : Type 0} (r : Result T Error) (inside old new : Counted) (o : Object) → inside ≡ old → Adds r inside o new → Adds r old o new
 adds_object r inside old new o same adds = rw (← same) adds

@@ -4,7 +4,7 @@ ghost use Rattle.std.specs.Prelude.{◌≡◌, ◌+◌, ◌^◌, ◌<◌, ◌≤
 ghost use Rattle.acpi_base.specs.Object.{whole, whole_ends_well};
 ghost use Rattle.acpi_core.specs.Listing.{IsListing, bytes_of, size_of};
 ghost use Rattle.acpi_core.specs.Flat.{new_listing};
-ghost use Rattle.acpi_core.specs.Addition.{Adds};
+ghost use Rattle.acpi_core.specs.Addition.{Adds, AddsAt};
 
 use crate::form::Form;
 use crate::listed::Listed;
@@ -140,6 +140,24 @@ impl<const N: usize> Table<N> {
                 Ok(())
             }
         }
+    }
+
+    /// As `add`, and answers where the structure begins.
+    pub fn add_at(&mut self, structure: &[u8]) -> R<u32>
+        ensures { AddsAt result self.old (whole structure.now) self.new }
+    {
+        let at = self.len();
+        self.add(structure)?;
+        Ok(at)
+    }
+
+    /// As `add_object`, and answers where the structure begins.
+    pub fn add_object_at<T: Aml>(&mut self, structure: &T) -> R<u32>
+        ensures { AddsAt result self.old (T.object structure.now) self.new }
+    {
+        let at = self.len();
+        self.add_object(structure)?;
+        Ok(at)
     }
 
     /// How many bytes the table has.
