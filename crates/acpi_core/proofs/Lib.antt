@@ -2,3 +2,4 @@ pub mod Patches
 pub mod Flats
 pub mod Offsets
 pub mod Kept
+pub mod Handles

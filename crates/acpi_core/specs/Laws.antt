@@ -1,10 +1,12 @@
 -- What holds of tables of structures, whatever calls there are.
-use Rattle.std.specs.Prelude.{◌≡◌, ℕ, ◌<◌, List, ◌++◌, length, drop, None}
+use Rattle.std.specs.Prelude.{◌≡◌, ℕ, ◌<◌, ◌≤◌, List, ◌++◌, length, drop, None, Result, IfOk}
+use Rattle.acpi_base.specs.declared.error.Error.{Error}
+use Rattle.acpi_base.specs.Object.{Object}
 use Rattle.acpi_base.specs.Table.{IsTrueTable}
 use Rattle.acpi_base.specs.Walk.{Walk, Walks, ArePieces, HasSizes}
 use Rattle.acpi_core.specs.Listing.{Listing, IsListing, bytes_of, size_of, with_structure}
-use Rattle.acpi_core.specs.Addition.{refusal_of}
-use Rattle.acpi_core.specs.Offset.{structure_at, offset_of, IsLater, KeepsStructures}
+use Rattle.acpi_core.specs.Addition.{Counted, Adds, AddsAt, refusal_of}
+use Rattle.acpi_core.specs.Offset.{structure_at, offset_of, IsLater, KeepsStructures, StandsAt}
 use Rattle.acpi_core.specs.Walk.{IsWalkOf}
 
 -- A table's length at 4 is the number of its bytes, which sum to zero.
@@ -40,3 +42,22 @@ StructuresAreTheWalk =
 abbrev pub OffsetsDiffer : Type 0
 OffsetsDiffer =
     (t : Listing) (w : Walk) (i j : ℕ) → HasSizes w.sizes → ArePieces w.sizes t.structures → i < j → j < length t.structures → offset_of t i < offset_of t j
+
+-- ---- handles
+
+-- An addition, accepted or refused, makes a later table, and what is later than a later table is later.
+pub record AdditionsAreLater : Type 0 where
+  pub one : (result : Result Unit Error) (old new : Counted) (o : Object) → Adds result old o new → IsLater old.table new.table
+  pub answered : (result : Result ℕ Error) (old new : Counted) (o : Object) → AddsAt result old o new → IsLater old.table new.table
+  pub more : (a b c : Listing) → IsLater a b → IsLater b c → IsLater a c
+
+-- A handle that an addition answers is where its structure stands, in this table and in every later one.
+pub record HandlesStand : Type 0 where
+  pub now : (result : Result ℕ Error) (old new : Counted) (o : Object) → AddsAt result old o new → IfOk result (λ at. StandsAt new.table at o.front)
+  pub later : (old new : Listing) (at : ℕ) (structure : List ℕ) → IsLater old new → StandsAt old at structure → StandsAt new at structure
+
+-- A new handle differs from all before: it is past every structure that has bytes.
+abbrev pub HandlesDiffer : Type 0
+HandlesDiffer =
+    (result : Result ℕ Error) (old new : Counted) (o : Object) (at : ℕ) (structure : List ℕ)
+    → AddsAt result old o new → StandsAt old.table at structure → 1 ≤ length structure → IfOk result (λ next. at < next)

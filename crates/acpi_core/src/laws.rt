@@ -1,6 +1,6 @@
 //! Laws over the definitions that the contracts cite. Each function is a law: it does nothing, and ensures it.
 
-ghost use Rattle.acpi_core.specs.Laws.{ListingsAreTrue, ListingsGrow, StructuresStandAtOffsets, StructuresAreAddedAtTheEnd, StructuresStay, StructuresAreTheWalk, OffsetsDiffer};
+ghost use Rattle.acpi_core.specs.Laws.{ListingsAreTrue, ListingsGrow, StructuresStandAtOffsets, StructuresAreAddedAtTheEnd, StructuresStay, StructuresAreTheWalk, OffsetsDiffer, AdditionsAreLater, HandlesStand, HandlesDiffer};
 
 /// A table of any structures tells its length and sums to zero.
 pub fn listings_are_true()
@@ -35,4 +35,19 @@ pub fn structures_are_the_walk()
 /// No two structures that have bytes have one offset.
 pub fn offsets_differ()
     ensures { OffsetsDiffer }
+{}
+
+/// Additions make later tables.
+pub fn additions_are_later()
+    ensures { AdditionsAreLater }
+{}
+
+/// At a handle the structure stands with which it was answered, now and after every later call.
+pub fn handles_stand()
+    ensures { HandlesStand }
+{}
+
+/// The handles of a table differ.
+pub fn handles_differ()
+    ensures { HandlesDiffer }
 {}
