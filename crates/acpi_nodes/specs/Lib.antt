@@ -1,0 +1,2 @@
+pub mod Pptt
+pub mod Resources

@@ -1,0 +1,95 @@
+-- The Processor Properties Topology Table (ACPI 6.5, 5.2.30).
+use Rattle.std.specs.Prelude.{ℕ, ◌+◌, ◌^◌, List, [], ◌∷◌, ◌++◌, length, codes}
+use Rattle.acpi_base.specs.Layout.{byte, word, dword, zeros, record_of}
+use Rattle.acpi_base.specs.declared.oem.Oem.{Oem}
+use Rattle.acpi_core.specs.Listing.{Listing}
+use Rattle.acpi_nodes.specs.declared.pptt.AllocationType.{AllocationType}
+use Rattle.acpi_nodes.specs.declared.pptt.AllocationType.TheVariants.{Read, Write, Both}
+use Rattle.acpi_nodes.specs.declared.pptt.CacheType.{CacheType}
+use Rattle.acpi_nodes.specs.declared.pptt.CacheType.TheVariants.{Data, Instruction, Unified}
+use Rattle.acpi_nodes.specs.declared.pptt.WritePolicy.{WritePolicy}
+use Rattle.acpi_nodes.specs.declared.pptt.WritePolicy.TheVariants.{Writeback, Writethrough}
+use Rattle.acpi_nodes.specs.declared.pptt.ProcessorNode.{ProcessorNode}
+use Rattle.acpi_nodes.specs.declared.pptt.CacheNode.{CacheNode}
+use Rattle.acpi_nodes.specs.declared.pptt.CacheNodeBuilder.{CacheNodeBuilder}
+use Rattle.acpi_nodes.specs.Resources.{no_resources}
+
+-- a table without nodes
+abbrev pub pptt : Oem → Listing
+pptt oem = record {
+  signature = codes "PPTT";
+  revision = 3;
+  oem = oem;
+  before = [];
+  count_width = 0;
+  after = [];
+  limit = 2 ^ 32;
+  structures = [];
+}
+
+-- ---- Processor hierarchy node structure (5.2.30.1)
+
+-- a node below the one at the offset `parent`; a root has 0 there
+abbrev pub processor : ℕ → ℕ → ProcessorNode
+processor parent id = record { flags = 0; parent = parent; acpi_processor_id = id; resources = no_resources }
+
+abbrev pub processor_head : ProcessorNode → List ℕ
+processor_head p = record_of
+    (byte 0  -- 0: Type
+    ∷ byte (20 + length p.resources.offsets)  -- 1: Length
+    ∷ zeros 2  -- 2: reserved
+    ∷ dword p.flags  -- 4: Flags
+    ∷ dword p.parent  -- 8: Parent
+    ∷ dword p.acpi_processor_id  -- 12: ACPI Processor ID
+    ∷ dword p.resources.count  -- 16: Number of private resources
+    ∷ [])
+
+abbrev pub processor_bytes : ProcessorNode → List ℕ
+processor_bytes p = processor_head p ++ p.resources.offsets  -- 20: Private resources
+
+-- ---- Cache Type Structure (5.2.30.2)
+
+-- Attributes: bits 0 and 1
+abbrev pub allocation_number : AllocationType → ℕ
+allocation_number Read = 0
+allocation_number Write = 1
+allocation_number Both = 2
+
+-- Attributes: bits 2 and 3
+abbrev pub type_number : CacheType → ℕ
+type_number Data = 0
+type_number Instruction = 4
+type_number Unified = 8
+
+-- Attributes: bit 4
+abbrev pub policy_number : WritePolicy → ℕ
+policy_number Writeback = 0
+policy_number Writethrough = 16
+
+-- the node of what a builder was given
+abbrev pub cache_of : CacheNodeBuilder → CacheNode
+cache_of b = record {
+  flags = b.flags;
+  next_level = b.next_level;
+  size = b.size;
+  sets = b.sets;
+  associativity = b.associativity;
+  attributes = b.attributes;
+  line_size = b.line_size;
+  id = b.id;
+}
+
+abbrev pub cache_bytes : CacheNode → List ℕ
+cache_bytes c = record_of
+    (byte 1  -- 0: Type
+    ∷ byte 28  -- 1: Length
+    ∷ zeros 2  -- 2: reserved
+    ∷ dword c.flags  -- 4: Flags
+    ∷ dword c.next_level  -- 8: Next Level of Cache
+    ∷ dword c.size  -- 12: Size
+    ∷ dword c.sets  -- 16: Number of sets
+    ∷ byte c.associativity  -- 20: Associativity
+    ∷ byte c.attributes  -- 21: Attributes
+    ∷ word c.line_size  -- 22: Line size
+    ∷ dword c.id  -- 24: Cache ID
+    ∷ [])

@@ -1,0 +1,5 @@
+//! Tables of nodes that point at each other.
+#![tactic(auto)]
+
+pub mod laws;
+pub mod pptt;

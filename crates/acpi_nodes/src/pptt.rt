@@ -1,0 +1,495 @@
+//! PPTT: how processors and their caches are arranged.
+
+ghost use Rattle.std.specs.Prelude.{◌≡◌, ◌≢◌, ◌<◌, bit_or, length, IsNone, IfSome, OnOk, OnErr, IfOk, IfErr};
+ghost use Rattle.acpi_base.specs.Object.{whole, whole_ends_well};
+ghost use Rattle.acpi_base.specs.Walk.{pptt_walk};
+ghost use Rattle.acpi_core.specs.Listing.{bytes_of};
+ghost use Rattle.acpi_core.specs.Addition.{AddsAt};
+ghost use Rattle.acpi_core.specs.Walk.{IsWalked};
+ghost use Rattle.acpi_nodes.specs.Resources.{no_resources, with_resource};
+ghost use Rattle.acpi_nodes.specs.Pptt.{pptt, processor, processor_head, processor_bytes, allocation_number, type_number, policy_number, cache_of, cache_bytes};
+
+use acpi_base::error::{Error, R};
+use acpi_base::object::Aml;
+use acpi_base::oem::Oem;
+use acpi_base::parts::write_parts;
+use acpi_base::record::{Field, record};
+use acpi_base::sink::AmlSink;
+use acpi_core::form::Form;
+use acpi_core::table::Table;
+use std::alloc::Global;
+use std::marker::Model;
+
+/// The Processor Properties Topology Table (ACPI 6.5, 5.2.30): nodes from offset 36 on.
+#[derive(Drop)]
+pub struct PPTT {
+    table: Table<36>,
+}
+
+impl Model for PPTT {
+    ghost use Rattle.acpi_base.specs.Walk.{pptt_walk};
+    ghost use Rattle.acpi_core.specs.Addition.{Counted};
+    ghost use Rattle.acpi_core.specs.Walk.{Keeps};
+
+    ghost Value = { Counted };
+
+    ghost view = { λ t. t.table };
+
+    ghost invariant = { λ t. Keeps pptt_walk t.table.table };
+}
+
+impl Aml for PPTT {
+    ghost object = { λ t. whole (bytes_of t.table) };
+
+    ghost ends_well = { λ t. whole_ends_well (bytes_of t.table) };
+
+    fn to_aml_bytes(&self, sink: &mut dyn AmlSink) -> R<()> {
+        self.table.to_aml_bytes(sink)
+    }
+}
+
+impl PPTT {
+    /// A table without nodes.
+    pub fn new(alloc: Global, oem_id: [u8; 6], oem_table_id: [u8; 8], oem_revision: u32) -> PPTT
+        ensures { result.table ≡ pptt (record { id = oem_id; table_id = oem_table_id; revision = oem_revision }) }
+    {
+        let form = Form {
+            signature: *b"PPTT",
+            revision: 3,
+            oem: Oem {
+                id: oem_id,
+                table_id: oem_table_id,
+                revision: oem_revision,
+            },
+            count_width: 0,
+            limit: 0x1_0000_0000,
+        };
+        PPTT {
+            table: Table::new(alloc, form, &[], &[]),
+        }
+    }
+
+    /// Adds a processor, or a group of them, and answers its offset. FieldWidth where the length would reach 2^32.
+    pub fn add_processor(&mut self, node: ProcessorNode) -> R<ProcessorHandle>
+        ensures { AddsAt result self.old (whole (processor_bytes node)) self.new }
+    {
+        let offset = self.table.add_object_at(&node)?;
+        Ok(ProcessorHandle { offset })
+    }
+
+    /// Adds a cache and answers its offset. FieldWidth where the length would reach 2^32.
+    pub fn add_cache(&mut self, node: CacheNode) -> R<CacheHandle>
+        ensures { AddsAt result self.old (whole (cache_bytes node)) self.new }
+    {
+        let offset = self.table.add_at(&node.bytes())?;
+        Ok(CacheHandle { offset })
+    }
+}
+
+/// A law: after any calls the table is a true one, and its nodes, in order, are the one list that walks it.
+pub fn pptt_is_walked(table: &PPTT)
+    ensures { IsWalked pptt_walk table.now.table }
+{
+    let _ = &table.table;
+}
+
+/// Where a processor's node begins in its table.
+#[derive(Copy, Clone, Debug)]
+pub struct ProcessorHandle {
+    offset: u32,
+}
+
+impl Model for ProcessorHandle {
+    ghost use Rattle.std.specs.Prelude.{ℕ};
+
+    ghost Value = { ℕ };
+
+    ghost view = { λ h. h.offset };
+
+    ghost inverse = { λ n. record { offset = n } };
+}
+
+/// Where a cache's node begins in its table.
+#[derive(Copy, Clone, Debug)]
+pub struct CacheHandle {
+    offset: u32,
+}
+
+impl Model for CacheHandle {
+    ghost use Rattle.std.specs.Prelude.{ℕ};
+
+    ghost Value = { ℕ };
+
+    ghost view = { λ h. h.offset };
+
+    ghost inverse = { λ n. record { offset = n } };
+}
+
+/// The offsets of a processor's own caches (offset 20): at most 58, so that the node's length has one byte.
+#[derive(Debug, Drop)]
+pub struct Resources {
+    count: u8,
+    offsets: Vec<u8>,
+}
+
+impl Model for Resources {
+    ghost use Rattle.std.specs.Prelude.{◌≡◌, ◌*◌, ◌≤◌, length};
+    ghost use Rattle.acpi_nodes.specs.Resources.{Resources};
+
+    ghost Value = { Resources };
+
+    ghost view = { λ r. record { count = r.count; offsets = r.offsets.items } };
+
+    ghost invariant = { λ r. (length r.offsets.items ≡ 4 * r.count) × (r.count ≤ 58) };
+}
+
+impl Resources {
+    // No caches.
+    fn new(alloc: Global) -> Resources
+        ensures { result ≡ no_resources }
+    {
+        Resources {
+            count: 0,
+            offsets: Vec::new(alloc),
+        }
+    }
+
+    // Adds an offset. FieldWidth at the 59th, and unchanged where it is refused.
+    fn push(&mut self, offset: u32) -> R<()>
+        ensures ok { OnOk result (self.new ≡ with_resource self.old offset) }
+        ensures room { OnOk result (self.old.count < 58) }
+        ensures err { OnErr result (self.new ≡ self.old) }
+        ensures cause { IfErr result (λ e. e ≢ Error.Memory → (e ≡ Error.FieldWidth) × (self.old.count ≡ 58)) }
+    {
+        if self.count == 58 {
+            return Err(Error::FieldWidth);
+        }
+        self.offsets.extend_from_slice(&offset.to_le_bytes())?;
+        self.count += 1;
+        Ok(())
+    }
+}
+
+/// Flags of a processor (offset 4).
+const PHYSICAL: u32 = 1;
+
+const VALID: u32 = 2;
+
+const THREAD: u32 = 4;
+
+const LEAF: u32 = 8;
+
+const IDENTICAL: u32 = 16;
+
+/// A processor or a group of processors (ACPI 6.5, 5.2.30.1): 20 bytes, and 4 for each of its own caches, of which there are
+/// at most 58. It is written as its fields stand.
+#[derive(Debug, Drop)]
+pub struct ProcessorNode {
+    pub flags: u32,
+    /// The offset of the node above; 0 for a root.
+    pub parent: u32,
+    /// The `_UID` of the processor, or of the group's container, where the flags tell that it is valid.
+    pub acpi_processor_id: u32,
+    resources: Resources,
+}
+
+impl ProcessorNode {
+    /// A node below another one of the same table, or a root, without flags and caches.
+    pub fn new(
+        alloc: Global,
+        parent: Option<&ProcessorHandle>,
+        acpi_processor_id: u32,
+    ) -> ProcessorNode
+        ensures root { IsNone parent.entry → result ≡ processor 0 acpi_processor_id }
+        ensures below { IfSome parent.entry (λ h. result ≡ processor h.now acpi_processor_id) }
+    {
+        let parent = match parent {
+            Some(handle) => handle.offset,
+            None => 0,
+        };
+        ProcessorNode {
+            flags: 0,
+            parent,
+            acpi_processor_id,
+            resources: Resources::new(alloc),
+        }
+    }
+
+    /// Adds a cache of its own, which is the nearest of its kind. FieldWidth at the 59th.
+    pub fn add_cache(mut self, cache: &CacheHandle) -> R<ProcessorNode>
+        ensures ok { IfOk result (λ p. p ≡ record self { resources = with_resource self.resources cache.now }) }
+        ensures room { OnOk result (self.resources.count < 58) }
+        ensures err { IfErr result (λ e. e ≢ Error.Memory → (e ≡ Error.FieldWidth) × (self.resources.count ≡ 58)) }
+    {
+        self.resources.push(cache.offset)?;
+        Ok(self)
+    }
+
+    /// The node is the boundary of a physical package (flag 1).
+    pub fn physical(mut self) -> ProcessorNode
+        ensures { result ≡ record self { flags = bit_or self.flags 1 } }
+    {
+        self.flags |= PHYSICAL;
+        self
+    }
+
+    /// The ACPI processor id is valid (flag 2).
+    pub fn valid(mut self) -> ProcessorNode
+        ensures { result ≡ record self { flags = bit_or self.flags 2 } }
+    {
+        self.flags |= VALID;
+        self
+    }
+
+    /// The processor is a thread (flag 4).
+    pub fn thread(mut self) -> ProcessorNode
+        ensures { result ≡ record self { flags = bit_or self.flags 4 } }
+    {
+        self.flags |= THREAD;
+        self
+    }
+
+    /// No node is below this one (flag 8).
+    pub fn leaf(mut self) -> ProcessorNode
+        ensures { result ≡ record self { flags = bit_or self.flags 8 } }
+    {
+        self.flags |= LEAF;
+        self
+    }
+
+    /// All processors below are of one implementation (flag 16).
+    pub fn identical(mut self) -> ProcessorNode
+        ensures { result ≡ record self { flags = bit_or self.flags 16 } }
+    {
+        self.flags |= IDENTICAL;
+        self
+    }
+
+    // The node's bytes before its caches.
+    fn head(&self) -> [u8; 20]
+        ensures { result ≡ processor_head self.now }
+    {
+        record(&[
+            Field::Byte(0),
+            Field::Byte(20 + 4 * self.resources.count),
+            Field::Word(0),
+            Field::DWord(self.flags),
+            Field::DWord(self.parent),
+            Field::DWord(self.acpi_processor_id),
+            Field::DWord(u32::from(self.resources.count)),
+        ])
+    }
+}
+
+impl Aml for ProcessorNode {
+    ghost object = { λ p. whole (processor_bytes p) };
+
+    ghost ends_well = { λ p. whole_ends_well (processor_bytes p) };
+
+    fn to_aml_bytes(&self, sink: &mut dyn AmlSink) -> R<()> {
+        write_parts(sink, &[&self.head(), &self.resources.offsets])
+    }
+}
+
+/// Which accesses fill a cache (offset 21, bits 0 and 1).
+#[derive(Copy, Clone, Debug, PartialEq)]
+pub enum AllocationType {
+    Read = 0,
+    Write = 1,
+    Both = 2,
+}
+
+/// What a cache holds (offset 21, bits 2 and 3).
+#[derive(Copy, Clone, Debug, PartialEq)]
+pub enum CacheType {
+    Data = 0,
+    Instruction = 4,
+    Unified = 8,
+}
+
+/// When a cache writes to the next level (offset 21, bit 4).
+#[derive(Copy, Clone, Debug, PartialEq)]
+pub enum WritePolicy {
+    Writeback = 0,
+    Writethrough = 16,
+}
+
+/// Flags of a cache (offset 4): which of its fields are valid.
+const SIZE: u32 = 1;
+
+const SETS: u32 = 2;
+
+const ASSOCIATIVITY: u32 = 4;
+
+const ALLOCATION: u32 = 8;
+
+const TYPE: u32 = 16;
+
+const POLICY: u32 = 32;
+
+const LINE_SIZE: u32 = 64;
+
+const ID: u32 = 128;
+
+/// What becomes the node of a cache. At first every field is zero, and none is valid but the next level; each call but
+/// `next_level` raises the flag of what it sets.
+#[derive(Default, Drop)]
+pub struct CacheNodeBuilder {
+    flags: u32,
+    next_level: u32,
+    size: u32,
+    sets: u32,
+    associativity: u8,
+    attributes: u8,
+    line_size: u16,
+    id: u32,
+}
+
+impl CacheNodeBuilder {
+    /// The cache behind this one, of the same table (offset 8). A last level has none, and 0 there.
+    pub fn next_level(mut self, cache: &CacheHandle) -> CacheNodeBuilder
+        ensures { result ≡ record self { next_level = cache.now } }
+    {
+        self.next_level = cache.offset;
+        self
+    }
+
+    /// The size in bytes (offset 12, flag 1).
+    pub fn size(mut self, size: u32) -> CacheNodeBuilder
+        ensures { result ≡ record self { flags = bit_or self.flags 1; size = size } }
+    {
+        self.flags |= SIZE;
+        self.size = size;
+        self
+    }
+
+    /// The number of sets (offset 16, flag 2).
+    pub fn sets(mut self, sets: u32) -> CacheNodeBuilder
+        ensures { result ≡ record self { flags = bit_or self.flags 2; sets = sets } }
+    {
+        self.flags |= SETS;
+        self.sets = sets;
+        self
+    }
+
+    /// The number of ways (offset 20, flag 4).
+    pub fn associativity(mut self, associativity: u8) -> CacheNodeBuilder
+        ensures { result ≡ record self { flags = bit_or self.flags 4; associativity = associativity } }
+    {
+        self.flags |= ASSOCIATIVITY;
+        self.associativity = associativity;
+        self
+    }
+
+    /// Which accesses fill it (offset 21, flag 8). Joined to the attributes that there are.
+    pub fn allocation_type(mut self, allocation: AllocationType) -> CacheNodeBuilder
+        ensures { result ≡ record self { flags = bit_or self.flags 8; attributes = bit_or self.attributes (allocation_number allocation) } }
+    {
+        self.flags |= ALLOCATION;
+        self.attributes |= allocation as u8;
+        self
+    }
+
+    /// What it holds (offset 21, flag 16). Joined to the attributes that there are.
+    pub fn cache_type(mut self, kind: CacheType) -> CacheNodeBuilder
+        ensures { result ≡ record self { flags = bit_or self.flags 16; attributes = bit_or self.attributes (type_number kind) } }
+    {
+        self.flags |= TYPE;
+        self.attributes |= kind as u8;
+        self
+    }
+
+    /// When it writes to the next level (offset 21, flag 32). Joined to the attributes that there are.
+    pub fn write_policy(mut self, policy: WritePolicy) -> CacheNodeBuilder
+        ensures { result ≡ record self { flags = bit_or self.flags 32; attributes = bit_or self.attributes (policy_number policy) } }
+    {
+        self.flags |= POLICY;
+        self.attributes |= policy as u8;
+        self
+    }
+
+    /// The size of a line in bytes (offset 22, flag 64).
+    pub fn line_size(mut self, line_size: u16) -> CacheNodeBuilder
+        ensures { result ≡ record self { flags = bit_or self.flags 64; line_size = line_size } }
+    {
+        self.flags |= LINE_SIZE;
+        self.line_size = line_size;
+        self
+    }
+
+    /// The cache's id, which no other cache of the table has (offset 24, flag 128).
+    pub fn id(mut self, id: u32) -> CacheNodeBuilder
+        ensures { result ≡ record self { flags = bit_or self.flags 128; id = id } }
+    {
+        self.flags |= ID;
+        self.id = id;
+        self
+    }
+
+    /// The node.
+    pub fn to_node(self) -> CacheNode
+        ensures { result ≡ cache_of self }
+    {
+        CacheNode {
+            flags: self.flags,
+            next_level: self.next_level,
+            size: self.size,
+            sets: self.sets,
+            associativity: self.associativity,
+            attributes: self.attributes,
+            line_size: self.line_size,
+            id: self.id,
+        }
+    }
+}
+
+/// A cache (ACPI 6.5, 5.2.30.2): 28 bytes.
+#[derive(Copy, Clone, Debug)]
+pub struct CacheNode {
+    flags: u32,
+    next_level: u32,
+    size: u32,
+    sets: u32,
+    associativity: u8,
+    attributes: u8,
+    line_size: u16,
+    id: u32,
+}
+
+impl CacheNode {
+    /// The size in bytes.
+    pub fn len() -> usize
+        ensures { result ≡ 28 }
+    {
+        28
+    }
+
+    // The node's bytes.
+    fn bytes(&self) -> [u8; 28]
+        ensures { result ≡ cache_bytes self.now }
+    {
+        record(&[
+            Field::Byte(1),
+            Field::Byte(28),
+            Field::Word(0),
+            Field::DWord(self.flags),
+            Field::DWord(self.next_level),
+            Field::DWord(self.size),
+            Field::DWord(self.sets),
+            Field::Byte(self.associativity),
+            Field::Byte(self.attributes),
+            Field::Word(self.line_size),
+            Field::DWord(self.id),
+        ])
+    }
+}
+
+impl Aml for CacheNode {
+    ghost object = { λ c. whole (cache_bytes c) };
+
+    ghost ends_well = { λ c. whole_ends_well (cache_bytes c) };
+
+    fn to_aml_bytes(&self, sink: &mut dyn AmlSink) -> R<()> {
+        sink.vec(&self.bytes())
+    }
+}
