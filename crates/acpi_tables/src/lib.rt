@@ -37,6 +37,7 @@ pub mod gas;
 pub mod hest;
 pub mod madt;
 pub mod mcfg;
+pub mod pptt;
 pub mod read;
 pub mod rsdp;
 pub mod sdt;

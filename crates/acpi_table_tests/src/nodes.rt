@@ -1,0 +1,3 @@
+//! Tables of nodes that point at each other.
+
+mod pptt;
