@@ -1,3 +1,4 @@
+pub mod IsaStrings
 pub mod Parts
 pub mod Pieces
 pub mod Placed

@@ -1,2 +1,4 @@
+pub mod Hart
 pub mod Pptt
 pub mod Resources
+pub mod Rhct

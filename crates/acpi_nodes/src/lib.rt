@@ -3,3 +3,4 @@
 
 pub mod laws;
 pub mod pptt;
+pub mod rhct;

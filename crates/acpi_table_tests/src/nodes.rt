@@ -1,3 +1,4 @@
 //! Tables of nodes that point at each other.
 
 mod pptt;
+mod rhct;

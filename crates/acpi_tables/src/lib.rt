@@ -39,6 +39,7 @@ pub mod madt;
 pub mod mcfg;
 pub mod pptt;
 pub mod read;
+pub mod rhct;
 pub mod rsdp;
 pub mod sdt;
 pub mod spcr;
