@@ -1,5 +1,6 @@
 -- The Processor Properties Topology Table (ACPI 6.5, 5.2.30).
-use Rattle.std.specs.Prelude.{ℕ, ◌+◌, ◌^◌, List, [], ◌∷◌, ◌++◌, length, codes}
+use Rattle.std.specs.Prelude.{◌≡◌, ℕ, ◌+◌, ◌^◌, List, [], ◌∷◌, ◌++◌, length, codes}
+use Rattle.acpi_base.specs.Bytes.{field_at}
 use Rattle.acpi_base.specs.Layout.{byte, word, dword, zeros, record_of}
 use Rattle.acpi_base.specs.declared.oem.Oem.{Oem}
 use Rattle.acpi_core.specs.Listing.{Listing}
@@ -93,3 +94,8 @@ cache_bytes c = record_of
     ∷ word c.line_size  -- 22: Line size
     ∷ dword c.id  -- 24: Cache ID
     ∷ [])
+
+-- Each node tells its kind at its offset, whatever its fields hold.
+pub record NodesTellKinds : Type 0 where
+  pub processors : (p : ProcessorNode) → field_at 0 1 (processor_bytes p) ≡ 0
+  pub caches : (c : CacheNode) → field_at 0 1 (cache_bytes c) ≡ 1

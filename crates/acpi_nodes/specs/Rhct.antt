@@ -1,10 +1,12 @@
 -- The RISC-V Hart Capabilities Table (RISC-V profile).
-use Rattle.std.specs.Prelude.{◌≢◌, ℕ, ◌+◌, ◌%◌, ◌^◌, nat_lt, Bool, List, [], ◌∷◌, ◌++◌, length, codes, Some}
+use Rattle.std.specs.Prelude.{◌≡◌, ◌≢◌, ℕ, ◌+◌, ◌%◌, ◌^◌, nat_lt, Bool, List, [], ◌∷◌, ◌++◌, length, codes, Some}
 use Rattle.acpi_base.specs.declared.error.Error.TheVariants.{Memory, FieldWidth}
+use Rattle.acpi_base.specs.Bytes.{field_at}
 use Rattle.acpi_base.specs.Layout.{byte, word, dword, qword, zeros, record_of}
 use Rattle.acpi_base.specs.Object.{Object, whole, provided, provided_ends_well}
 use Rattle.acpi_base.specs.declared.oem.Oem.{Oem}
 use Rattle.acpi_core.specs.Listing.{Listing}
+use Rattle.acpi_nodes.specs.Hart.{HartInfo, hart_info_bytes}
 use Rattle.acpi_nodes.specs.declared.rhct.CmoNode.{CmoNode}
 use Rattle.acpi_nodes.specs.declared.rhct.MmuNode.{MmuNode}
 use Rattle.acpi_nodes.specs.declared.rhct.VirtualAddressScheme.{VirtualAddressScheme}
@@ -85,3 +87,10 @@ mmu_bytes m = record_of
     ∷ byte 0  -- 6: reserved
     ∷ byte m.scheme  -- 7: MMU Type
     ∷ [])
+
+-- Each node tells its kind at its offset, whatever its fields hold.
+pub record NodesTellKinds : Type 0 where
+  pub isa_strings : (text : List ℕ) → field_at 0 2 (isa_string_bytes text) ≡ 0
+  pub cmos : (c : CmoNode) → field_at 0 2 (cmo_bytes c) ≡ 1
+  pub mmus : (m : MmuNode) → field_at 0 2 (mmu_bytes m) ≡ 2
+  pub harts : (h : HartInfo) → field_at 0 2 (hart_info_bytes h) ≡ 65535

@@ -1,4 +1,4 @@
 //! Laws of the tables. Each function is a law: it does nothing, and ensures it.
 
-pub use crate::pptt::pptt_is_walked;
-pub use crate::rhct::rhct_is_walked;
+pub use crate::pptt::{pptt_is_walked, pptt_nodes_tell_kinds};
+pub use crate::rhct::{rhct_is_walked, rhct_nodes_tell_kinds};

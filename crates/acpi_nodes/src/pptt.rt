@@ -7,7 +7,7 @@ ghost use Rattle.acpi_core.specs.Listing.{bytes_of};
 ghost use Rattle.acpi_core.specs.Addition.{AddsAt};
 ghost use Rattle.acpi_core.specs.Walk.{IsWalked};
 ghost use Rattle.acpi_nodes.specs.Resources.{no_resources, with_resource};
-ghost use Rattle.acpi_nodes.specs.Pptt.{pptt, processor, processor_head, processor_bytes, allocation_number, type_number, policy_number, cache_of, cache_bytes};
+ghost use Rattle.acpi_nodes.specs.Pptt.{pptt, processor, processor_head, processor_bytes, allocation_number, type_number, policy_number, cache_of, cache_bytes, NodesTellKinds};
 
 use acpi_base::error::{Error, R};
 use acpi_base::object::Aml;
@@ -92,6 +92,11 @@ pub fn pptt_is_walked(table: &PPTT)
 {
     let _ = &table.table;
 }
+
+/// A law: each node tells its kind at its offset, whatever its fields hold.
+pub fn pptt_nodes_tell_kinds()
+    ensures { NodesTellKinds }
+{}
 
 /// Where a processor's node begins in its table.
 #[derive(Copy, Clone, Debug)]

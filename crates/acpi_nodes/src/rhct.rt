@@ -7,7 +7,7 @@ ghost use Rattle.acpi_core.specs.Listing.{bytes_of};
 ghost use Rattle.acpi_core.specs.Addition.{Adds, AddsAt};
 ghost use Rattle.acpi_core.specs.Walk.{IsWalked};
 ghost use Rattle.acpi_nodes.specs.Hart.{hart_info, with_offset, hart_info_head, hart_info_bytes};
-ghost use Rattle.acpi_nodes.specs.Rhct.{rhct, isa_string_end, isa_string_head, isa_string_object, isa_string_ends_well, cmo, cmo_bytes, scheme_number, mmu, mmu_bytes};
+ghost use Rattle.acpi_nodes.specs.Rhct.{rhct, isa_string_end, isa_string_head, isa_string_object, isa_string_ends_well, cmo, cmo_bytes, scheme_number, mmu, mmu_bytes, NodesTellKinds};
 
 use acpi_base::error::{Error, R};
 use acpi_base::object::Aml;
@@ -117,6 +117,11 @@ pub fn rhct_is_walked(table: &RHCT)
 {
     let _ = &table.table;
 }
+
+/// A law: each node tells its kind at its offset, whatever its fields hold.
+pub fn rhct_nodes_tell_kinds()
+    ensures { NodesTellKinds }
+{}
 
 /// Where an ISA string's node begins in its table.
 #[derive(Debug, Drop)]
