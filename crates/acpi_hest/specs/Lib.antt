@@ -4,3 +4,5 @@ pub mod Notification
 pub mod Generic
 pub mod Status
 pub mod Laws
+pub mod Resource
+pub mod Rqsc
