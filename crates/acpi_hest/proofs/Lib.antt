@@ -1,1 +1,2 @@
 pub mod Controllers
+pub mod Boxes
