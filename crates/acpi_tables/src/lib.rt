@@ -38,6 +38,7 @@ pub mod hest;
 pub mod madt;
 pub mod mcfg;
 pub mod read;
+pub mod rqsc;
 pub mod rsdp;
 pub mod sdt;
 pub mod spcr;
