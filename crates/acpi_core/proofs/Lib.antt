@@ -3,3 +3,4 @@ pub mod Flats
 pub mod Offsets
 pub mod Kept
 pub mod Handles
+pub mod Parts

@@ -3,4 +3,7 @@ pub mod Aer
 pub mod Notification
 pub mod Generic
 pub mod Status
+pub mod ErrorData
 pub mod Laws
+pub mod Resource
+pub mod Rqsc

@@ -11,6 +11,7 @@ ghost use Rattle.acpi_hest.specs.Hest.{hest};
 ghost use Rattle.acpi_hest.specs.Laws.{SourcesHaveTheirSizes};
 
 mod aer;
+mod error_data;
 mod generic;
 mod notification;
 mod status;
@@ -25,6 +26,7 @@ pub use aer::{
     Aer, AerBridge, AerDevice, AerRootPort, FirmwareFirst, PciDevice, PcieAerBridge, PcieAerDevice,
     PcieAerRootPort, Tail,
 };
+pub use error_data::GenericErrorData;
 pub use generic::{EnabledStatus, GenericHardwareSource, GenericHardwareSourceV2};
 pub use notification::{NotificationStructure, NotificationType};
 pub use status::{ErrorSeverity, GenericErrorStatus};

@@ -3,3 +3,4 @@
 
 pub mod hest;
 pub mod laws;
+pub mod rqsc;

@@ -1,3 +1,2 @@
 pub mod Initiators
-pub mod Parts
 pub mod Windows

@@ -4,11 +4,11 @@ use crate::broken::Broken;
 use crate::vectors::{OEM, OEM_REVISION, OEM_TABLE, many, writes};
 use acpi_tables::gas::{AccessSize, AddressSpace, GAS};
 use acpi_tables::hest::{
-    EnabledStatus, ErrorSeverity, FirmwareFirst, GenericErrorStatus, GenericHardwareSource,
+    EnabledStatus, ErrorSeverity, FirmwareFirst, GenericErrorData, GenericErrorStatus, GenericHardwareSource,
     GenericHardwareSourceV2, HEST, NotificationStructure, NotificationType, PciDevice,
     PcieAerBridge, PcieAerDevice, PcieAerRootPort,
 };
-use acpi_tables::{Aml, Error};
+use acpi_tables::{Aml, Error, R};
 use std::alloc::Global;
 use std::test::Fail;
 
@@ -275,4 +275,69 @@ fn a_source_that_refuses(rt: HostRuntime) -> Result<(), Fail> {
     hest.add_structure(PcieAerRootPort::new_global())?;
     assert_eq!(&rt; hest.add_structure(Broken {}), Err(Error::Sink(9)));
     many(&rt, alloc, &hest, b"HEST", 1, &[1, 0, 0, 0], &ROOT_PORTS, 1)
+}
+
+// An entry's bytes, and how its write ended.
+fn entry_written(alloc: Global, entry: &GenericErrorData) -> (Vec<u8>, R<()>) {
+    let mut bytes = Vec::new(alloc);
+    let end = entry.to_aml_bytes(&mut bytes);
+    (bytes, end)
+}
+
+#[test]
+fn error_data(rt: HostRuntime) -> Result<(), Fail> {
+    let alloc = rt.alloc();
+    let mut entry = GenericErrorData::new(alloc, ErrorSeverity::Fatal);
+    entry.add_data(Box::new(alloc, 0x100u16)?)?;
+    let mut wanted = [0; 61];
+    wanted[2] = 1;
+    wanted[58] = 0x0b;
+    wanted[60] = 1;
+    let (bytes, end) = entry_written(alloc, &entry);
+    end?;
+    assert_eq!(&rt; bytes.as_slice(), &wanted[..]);
+    Ok(())
+}
+
+#[test]
+fn error_data_fields(rt: HostRuntime) -> Result<(), Fail> {
+    let alloc = rt.alloc();
+    let mut entry = GenericErrorData::new(alloc, ErrorSeverity::None);
+    entry.section_type = 0x0102;
+    entry.severity = ErrorSeverity::Correctable;
+    entry.revision = 0x0304;
+    entry.validation = 5;
+    entry.flags = 6;
+    entry.error_data_length = 0x0708_090a;
+    entry.fru_id = *b"\x10\x11\x12\x13\x14\x15\x16\x17\x18\x19\x1a\x1b\x1c\x1d\x1e\x1f";
+    entry.fru_text = *b"the unit to replace.";
+    entry.timestamp = *b"\x40\x41\x42\x43\x44\x45\x46\x47";
+    let (bytes, end) = entry_written(alloc, &entry);
+    end?;
+    assert_eq!(
+        &rt;
+        bytes.as_slice(),
+        &b"\x02\x01\x02\0\0\0\x04\x03\x05\x06\x0a\x09\x08\x07\x10\x11\x12\x13\x14\x15\x16\x17\x18\x19\x1a\x1b\x1c\x1d\x1e\x1fthe unit to replace.\x40\x41\x42\x43\x44\x45\x46\x47"[..],
+    );
+    Ok(())
+}
+
+#[test]
+fn error_data_refused(rt: HostRuntime) -> Result<(), Fail> {
+    let alloc = rt.alloc();
+    let mut entry = GenericErrorData::new(alloc, ErrorSeverity::Recoverable);
+    entry.add_data(Box::new(alloc, 7u8)?)?;
+    entry.add_data(Box::new(alloc, Broken {})?)?;
+    entry.add_data(Box::new(alloc, 8u8)?)?;
+    let mut wanted = [0; 64];
+    wanted[58] = 0x0a;
+    wanted[59] = 7;
+    wanted[60] = 1;
+    wanted[61] = 2;
+    wanted[62] = 3;
+    wanted[63] = 4;
+    let (bytes, end) = entry_written(alloc, &entry);
+    assert_eq!(&rt; end, Err(Error::Sink(9)));
+    assert_eq!(&rt; bytes.as_slice(), &wanted[..]);
+    Ok(())
 }

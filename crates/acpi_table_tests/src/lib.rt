@@ -12,4 +12,6 @@ mod lists;
 #[cfg(test)]
 mod nodes;
 #[cfg(test)]
+mod rqsc;
+#[cfg(test)]
 mod vectors;

@@ -40,6 +40,7 @@ pub mod mcfg;
 pub mod pptt;
 pub mod read;
 pub mod rhct;
+pub mod rqsc;
 pub mod rsdp;
 pub mod sdt;
 pub mod spcr;

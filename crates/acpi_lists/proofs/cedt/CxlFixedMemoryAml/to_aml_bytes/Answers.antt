@@ -3,7 +3,7 @@ use Rattle.acpi_base.specs.declared.error.Error.TheVariants.{Targets}
 use Rattle.acpi_base.specs.Object.{whole}
 use Rattle.acpi_base.proofs.Objects.{wrote_provided, refused_provided, refused_unprovided}
 use Rattle.acpi_lists.specs.Cedt.{window_head, window_bytes, has_targets, ways_count}
-use Rattle.acpi_lists.proofs.Parts.{two_parts}
+use Rattle.acpi_core.proofs.Parts.{two_parts}
 use Rattle.acpi_lists.proofs.Windows.{isnt}
 use Rattle.acpi_lists.proofs.cedt.CxlFixedMemoryAml.to_aml_bytes.Goals as goal
 

@@ -1,0 +1,117 @@
+-- Resources of RQSC (this project's profile).
+use Rattle.std.specs.Prelude.{◌≡◌, ◌≢◌, ℕ, ◌+◌, ◌^◌, nat_lt, Bool, List, [], ◌∷◌, ◌++◌, length, Some}
+use Rattle.acpi_base.specs.declared.error.Error.TheVariants.{Memory, FieldWidth}
+use Rattle.acpi_base.specs.Layout.{byte, word, dword, qword, zeros, record_of}
+use Rattle.acpi_base.specs.Object.{Object, whole, provided, provided_ends_well}
+use Rattle.acpi_hest.specs.declared.rqsc.resource.ResourceType.{ResourceType}
+use Rattle.acpi_hest.specs.declared.rqsc.resource.ResourceType.TheVariants as types
+use Rattle.acpi_hest.specs.declared.rqsc.resource.CacheResource.{CacheResource}
+use Rattle.acpi_hest.specs.declared.rqsc.resource.MemoryAffinityStructureResource.{MemoryAffinityStructureResource}
+use Rattle.acpi_hest.specs.declared.rqsc.resource.ACPIDeviceResource.{ACPIDeviceResource}
+use Rattle.acpi_hest.specs.declared.rqsc.resource.PCIDeviceResource.{PCIDeviceResource}
+use Rattle.acpi_hest.specs.declared.rqsc.resource.ResourceID.{ResourceID}
+use Rattle.acpi_hest.specs.declared.rqsc.resource.ResourceID.TheVariants.{Cache, MemoryAffinityStructure, ACPIDevice, PCIDevice, VendorSpecific}
+use Rattle.acpi_hest.specs.declared.rqsc.resource.ResourceStructure.{ResourceStructure}
+
+-- ---- payloads: Resource ID 1 and 2, and what is specific to the resource
+
+abbrev pub cache_resource : ℕ → CacheResource
+cache_resource cache_id = record { cache_id = cache_id }
+
+abbrev pub cache_bytes : CacheResource → List ℕ
+cache_bytes r = record_of
+    (dword r.cache_id  -- 0: Cache ID of PPTT
+    ∷ zeros 8  -- 4: reserved
+    ∷ [])
+
+abbrev pub memory_resource : ℕ → ℕ → MemoryAffinityStructureResource
+memory_resource domain bandwidth = record { proximity_domain = domain; raw_bandwidth_per_block = bandwidth }
+
+abbrev pub memory_bytes : MemoryAffinityStructureResource → List ℕ
+memory_bytes r = record_of
+    (dword r.proximity_domain  -- 0: Proximity Domain of SRAT
+    ∷ zeros 8  -- 4: reserved
+    ∷ qword r.raw_bandwidth_per_block  -- 12: bytes a second of a bandwidth block
+    ∷ [])
+
+abbrev pub acpi_resource : ℕ → ℕ → ACPIDeviceResource
+acpi_resource hid uid = record { acpi_hardware_id = hid; acpi_unique_id = uid }
+
+abbrev pub acpi_bytes : ACPIDeviceResource → List ℕ
+acpi_bytes r = record_of
+    (qword r.acpi_hardware_id  -- 0: _HID
+    ∷ dword r.acpi_unique_id  -- 8: _UID
+    ∷ [])
+
+abbrev pub pci_resource : ℕ → PCIDeviceResource
+pci_resource bdf = record { bdf = bdf }
+
+abbrev pub pci_bytes : PCIDeviceResource → List ℕ
+pci_bytes r = record_of
+    (dword r.bdf  -- 0: segment, bus, device and function
+    ∷ zeros 8  -- 4: reserved
+    ∷ [])
+
+-- ---- ids
+
+-- Resource ID Type
+abbrev pub id_number : ResourceID → ℕ
+id_number (Cache r) = 0
+id_number (MemoryAffinityStructure r) = 1
+id_number (ACPIDevice r) = 2
+id_number (PCIDevice r) = 3
+id_number (VendorSpecific kind bytes) = kind
+
+abbrev pub payload : ResourceID → List ℕ
+payload (Cache r) = cache_bytes r
+payload (MemoryAffinityStructure r) = memory_bytes r
+payload (ACPIDevice r) = acpi_bytes r
+payload (PCIDevice r) = pci_bytes r
+payload (VendorSpecific kind bytes) = bytes.items
+
+-- an id by itself
+abbrev pub id_bytes : ResourceID → List ℕ
+id_bytes id = id_number id ∷ payload id
+
+-- the same id; of a vendor's the bytes are the same, wherever they lie
+abbrev pub same_id : ResourceID → ResourceID → Type 0
+same_id (VendorSpecific kind bytes) (VendorSpecific other others) = (kind ≡ other) × (bytes.items ≡ others.items)
+same_id a b = a ≡ b
+
+-- ---- resources
+
+abbrev pub type_number : ResourceType → ℕ
+type_number types.Cache = 0
+type_number types.Memory = 1
+
+abbrev pub resource : ResourceType → ℕ → ResourceID → ResourceStructure
+resource kind flags id = record { kind = kind; flags = flags; id = id }
+
+abbrev pub resource_head : ResourceStructure → List ℕ
+resource_head r = record_of
+    (byte (type_number r.kind)  -- 0: Resource Type
+    ∷ byte 0  -- 1: reserved
+    ∷ word (8 + length (payload r.id))  -- 2: Length
+    ∷ word r.flags  -- 4: Resource Flags
+    ∷ byte 0  -- 6: reserved
+    ∷ byte (id_number r.id)  -- 7: Resource ID Type
+    ∷ [])
+
+abbrev pub resource_bytes : ResourceStructure → List ℕ
+resource_bytes r = resource_head r ++ payload r.id  -- 8: Resource ID 1
+
+-- its length fits its field
+abbrev pub resource_fits : ResourceStructure → Bool
+resource_fits r = nat_lt (length (resource_bytes r)) (2 ^ 16)
+
+abbrev pub resource_object : ResourceStructure → Object
+resource_object r = provided (resource_fits r) FieldWidth (whole (resource_bytes r))
+
+pub resource_ends_well : (r : ResourceStructure) → (resource_object r).end ≢ Some Memory
+resource_ends_well r = provided_ends_well (resource_fits r) FieldWidth (resource_bytes r) (λ is. cc)
+
+-- the same kind, flags and id
+pub record SameResource (a b : ResourceStructure) : Type 0 where
+  pub kind : a.kind ≡ b.kind
+  pub flags : a.flags ≡ b.flags
+  pub id : same_id a.id b.id

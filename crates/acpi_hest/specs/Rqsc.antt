@@ -1,0 +1,77 @@
+-- The RISC-V Quality of Service Controller table (this project's profile).
+use Rattle.std.specs.Prelude.{ℕ, ◌+◌, ◌*◌, ◌^◌, ◌≤◌, nat_lt, Bool, List, [], ◌∷◌, ◌++◌, length, codes}
+use Rattle.acpi_base.specs.Gas.{gas_bytes}
+use Rattle.acpi_base.specs.Layout.{byte, word, dword, record_of}
+use Rattle.acpi_base.specs.declared.gas.GAS.{GAS}
+use Rattle.acpi_base.specs.declared.oem.Oem.{Oem}
+use Rattle.acpi_core.specs.Listing.{Listing}
+use Rattle.acpi_hest.specs.declared.rqsc.ControllerType.{ControllerType}
+use Rattle.acpi_hest.specs.declared.rqsc.ControllerType.TheVariants.{Capacity, Bandwidth}
+use Rattle.acpi_hest.specs.declared.rqsc.resource.ResourceStructure.{ResourceStructure}
+use Rattle.acpi_hest.specs.Resource.{resource_bytes}
+
+-- a table without controllers: 36: the number of controllers, of four bytes
+abbrev pub rqsc : Oem → Listing
+rqsc oem = record {
+  signature = codes "RQSC";
+  revision = 1;
+  oem = oem;
+  before = [];
+  count_width = 4;
+  after = [];
+  limit = 2 ^ 32;
+  structures = [];
+}
+
+abbrev pub controller_number : ControllerType → ℕ
+controller_number Capacity = 0
+controller_number Bandwidth = 1
+
+-- a controller, how many resources it has, and their bytes
+pub record Controller : Type 0 where
+  pub kind : ℕ
+  pub register : GAS
+  pub rcid_count : ℕ
+  pub mcid_count : ℕ
+  pub flags : ℕ
+  pub count : ℕ
+  pub resources : List ℕ
+
+-- the length fits its field, and each resource has eight bytes at least
+pub record IsController (count : ℕ) (resources : List ℕ) : Type 0 where
+  pub fits : 28 + length resources ≤ 0xffff
+  pub counted : 8 * count ≤ length resources
+
+abbrev pub controller : ControllerType → GAS → ℕ → ℕ → ℕ → Controller
+controller kind register rcid_count mcid_count flags = record {
+  kind = controller_number kind;
+  register = register;
+  rcid_count = rcid_count;
+  mcid_count = mcid_count;
+  flags = flags;
+  count = 0;
+  resources = [];
+}
+
+abbrev pub controller_head : Controller → List ℕ
+controller_head q = record_of
+    (byte q.kind  -- 0: Controller Type
+    ∷ byte 0  -- 1: reserved
+    ∷ word (28 + length q.resources)  -- 2: Length
+    ∷ gas_bytes q.register  -- 4: Register Interface Address
+    ∷ dword q.rcid_count  -- 16: RCID Count
+    ∷ dword q.mcid_count  -- 20: MCID Count
+    ∷ word q.flags  -- 24: Controller Flags
+    ∷ word q.count  -- 26: Number of Resources
+    ∷ [])
+
+abbrev pub controller_bytes : Controller → List ℕ
+controller_bytes q = controller_head q ++ q.resources  -- 28: Resource Structures
+
+-- the controller with one resource more, at its end
+abbrev pub with_resource : Controller → ResourceStructure → Controller
+with_resource q r = record q { count = q.count + 1; resources = q.resources ++ resource_bytes r }
+
+-- the length still fits its field then
+abbrev pub has_room_for : Controller → ResourceStructure → Bool
+has_room_for q r = nat_lt (28 + length q.resources + length (resource_bytes r)) (2 ^ 16)

@@ -1,0 +1,113 @@
+//! Entries of error status blocks: one error each.
+
+ghost use Rattle.std.specs.Prelude.{◌≡◌, ◌++◌, ◌∷◌, [], map, OnOk, OnErr, IfErr};
+ghost use Rattle.acpi_base.specs.Object.{all_of, Wrote, WriteRefused};
+ghost use Rattle.acpi_hest.specs.ErrorData.{IsNewErrorData, error_data_head, error_data_object};
+
+use crate::hest::status::ErrorSeverity;
+use acpi_base::error::{Error, R};
+use acpi_base::object::Aml;
+use acpi_base::record::{Field, record};
+use acpi_base::sink::AmlSink;
+use std::alloc::Global;
+
+/// A Generic Error Data Entry (ACPI 6.5, 18.3.2.7.1), whose section type has two bytes here: 58 bytes, and its data in order.
+/// Its length field is what the caller writes there.
+#[derive(Drop)]
+pub struct GenericErrorData {
+    /// Which kind of section the data is (offset 0).
+    pub section_type: u16,
+    /// How severe the error is (offset 2).
+    pub severity: ErrorSeverity,
+    /// The revision of the entry's format (offset 6).
+    pub revision: u16,
+    /// Which of the id, the text and the time are given, a bit for each (offset 8).
+    pub validation: u8,
+    /// Flags of the section (offset 9).
+    pub flags: u8,
+    /// How many bytes of data follow (offset 10).
+    pub error_data_length: u32,
+    /// The id of the unit to replace (offset 14).
+    pub fru_id: [u8; 16],
+    /// Its name (offset 30).
+    pub fru_text: [u8; 20],
+    /// When the error was (offset 50).
+    pub timestamp: [u8; 8],
+    objects: Vec<Box<dyn Aml + Drop>>,
+}
+
+impl GenericErrorData {
+    /// An entry without data, with zero in every field but the severity.
+    pub fn new(alloc: Global, severity: ErrorSeverity) -> GenericErrorData
+        ensures { IsNewErrorData severity result }
+    {
+        GenericErrorData {
+            section_type: 0,
+            severity,
+            revision: 0,
+            validation: 0,
+            flags: 0,
+            error_data_length: 0,
+            fru_id: [0; 16],
+            fru_text: [0; 20],
+            timestamp: [0; 8],
+            objects: Vec::new(alloc),
+        }
+    }
+
+    /// Adds an object, which is written behind those before it. Refused only for want of memory, and unchanged then.
+    pub fn add_data(&mut self, part: Box<dyn Aml + Drop>) -> R<()>
+        ensures ok { OnOk result (self.new.objects.items ≡ self.old.objects.items ++ part ∷ []) }
+        ensures err { OnErr result (self.new.objects.items ≡ self.old.objects.items) }
+        ensures head { error_data_head self.new ≡ error_data_head self.old }
+        ensures cause { IfErr result (λ e. e ≡ Error.Memory) }
+    {
+        self.objects.push(part)?;
+        Ok(())
+    }
+
+    /// Writes the entry and then its objects, up to the first that is refused, which is the answer. What stands before the
+    /// refusal has been given.
+    pub fn to_aml_bytes(&self, sink: &mut dyn AmlSink) -> R<()>
+        ensures ok { OnOk result (Wrote (error_data_object self.now (map (λ part. object part) self.now.objects.items)) (meaning sink.old) (meaning sink.new)) }
+        ensures err { IfErr result (λ e. WriteRefused e (error_data_object self.now (map (λ part. object part) self.now.objects.items)) (meaning sink.old) (meaning sink.new)) }
+    {
+        sink.vec(&self.head())?;
+        write_all(&self.objects, sink)
+    }
+
+    // The entry's bytes before its data.
+    fn head(&self) -> [u8; 58]
+        ensures { result ≡ error_data_head self.now }
+    {
+        record(&[
+            Field::Word(self.section_type),
+            Field::DWord(self.severity as u32),
+            Field::Word(self.revision),
+            Field::Byte(self.validation),
+            Field::Byte(self.flags),
+            Field::DWord(self.error_data_length),
+            Field::Bytes(&self.fru_id),
+            Field::Bytes(&self.fru_text),
+            Field::Bytes(&self.timestamp),
+        ])
+    }
+}
+
+// Writes boxed objects, one after another.
+fn write_all(parts: &Vec<Box<dyn Aml + Drop>>, sink: &mut dyn AmlSink) -> R<()>
+    ensures ok { OnOk result (Wrote (all_of (map (λ part. object part) parts.now.items)) (meaning sink.old) (meaning sink.new)) }
+    ensures err { IfErr result (λ e. WriteRefused e (all_of (map (λ part. object part) parts.now.items)) (meaning sink.old) (meaning sink.new)) }
+{
+    for part in parts {
+        write_one(part, sink)?;
+    }
+    Ok(())
+}
+
+fn write_one(part: &Box<dyn Aml + Drop>, sink: &mut dyn AmlSink) -> R<()>
+    ensures ok { OnOk result (Wrote (object part.now) (meaning sink.old) (meaning sink.new)) }
+    ensures err { IfErr result (λ e. WriteRefused e (object part.now) (meaning sink.old) (meaning sink.new)) }
+{
+    part.to_aml_bytes(sink)
+}

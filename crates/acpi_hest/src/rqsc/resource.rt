@@ -1,0 +1,318 @@
+//! Resources that a controller shares out.
+
+ghost use Rattle.std.specs.Prelude.{◌≡◌, ◌++◌, length, IfOk, OnOk, IfErr};
+ghost use Rattle.acpi_base.specs.Object.{whole, whole_ends_well};
+ghost use Rattle.acpi_base.specs.Sink.{Took, Refused};
+ghost use Rattle.acpi_hest.specs.Resource.{cache_resource, cache_bytes, memory_resource, memory_bytes, acpi_resource, acpi_bytes, pci_resource, pci_bytes, id_number, payload, id_bytes, same_id, resource, resource_head, resource_bytes, resource_object, resource_ends_well, SameResource};
+
+use acpi_base::error::{Error, R};
+use acpi_base::object::Aml;
+use acpi_base::parts::write_parts;
+use acpi_base::record::{Field, record};
+use acpi_base::sink::AmlSink;
+
+/// What a resource is (offset 0).
+#[derive(Copy, Clone, Debug)]
+pub enum ResourceType {
+    Cache = 0,
+    Memory = 1,
+}
+
+/// A cache of PPTT, by its id: 12 bytes.
+#[derive(Drop, Clone, Debug)]
+pub struct CacheResource {
+    cache_id: u32,
+}
+
+impl CacheResource {
+    /// The cache whose structure in PPTT has this id.
+    pub fn new(cache_id: u32) -> CacheResource
+        ensures { result ≡ cache_resource cache_id }
+    {
+        CacheResource { cache_id }
+    }
+
+    fn bytes(&self) -> [u8; 12]
+        ensures { result ≡ cache_bytes self.now }
+    {
+        record(&[Field::DWord(self.cache_id), Field::QWord(0)])
+    }
+}
+
+impl Aml for CacheResource {
+    ghost object = { λ r. whole (cache_bytes r) };
+
+    ghost ends_well = { λ r. whole_ends_well (cache_bytes r) };
+
+    fn to_aml_bytes(&self, sink: &mut dyn AmlSink) -> R<()> {
+        sink.vec(&self.bytes())
+    }
+}
+
+/// Memory of a proximity domain of SRAT: 20 bytes.
+#[derive(Drop, Clone, Debug)]
+pub struct MemoryAffinityStructureResource {
+    proximity_domain: u32,
+    raw_bandwidth_per_block: u64,
+}
+
+impl MemoryAffinityStructureResource {
+    /// The memory of a domain, 0 where there is no SRAT, and how many bytes a second a block of bandwidth is.
+    pub fn new(
+        proximity_domain: u32,
+        raw_bandwidth_per_block: u64,
+    ) -> MemoryAffinityStructureResource
+        ensures { result ≡ memory_resource proximity_domain raw_bandwidth_per_block }
+    {
+        MemoryAffinityStructureResource {
+            proximity_domain,
+            raw_bandwidth_per_block,
+        }
+    }
+
+    fn bytes(&self) -> [u8; 20]
+        ensures { result ≡ memory_bytes self.now }
+    {
+        record(&[
+            Field::DWord(self.proximity_domain),
+            Field::QWord(0),
+            Field::QWord(self.raw_bandwidth_per_block),
+        ])
+    }
+}
+
+impl Aml for MemoryAffinityStructureResource {
+    ghost object = { λ r. whole (memory_bytes r) };
+
+    ghost ends_well = { λ r. whole_ends_well (memory_bytes r) };
+
+    fn to_aml_bytes(&self, sink: &mut dyn AmlSink) -> R<()> {
+        sink.vec(&self.bytes())
+    }
+}
+
+/// A device of the ACPI namespace: 12 bytes.
+#[derive(Drop, Clone, Debug)]
+pub struct ACPIDeviceResource {
+    acpi_hardware_id: u64,
+    acpi_unique_id: u32,
+}
+
+impl ACPIDeviceResource {
+    /// The device of these `_HID` and `_UID`.
+    pub fn new(acpi_hardware_id: u64, acpi_unique_id: u32) -> ACPIDeviceResource
+        ensures { result ≡ acpi_resource acpi_hardware_id acpi_unique_id }
+    {
+        ACPIDeviceResource {
+            acpi_hardware_id,
+            acpi_unique_id,
+        }
+    }
+
+    fn bytes(&self) -> [u8; 12]
+        ensures { result ≡ acpi_bytes self.now }
+    {
+        record(&[
+            Field::QWord(self.acpi_hardware_id),
+            Field::DWord(self.acpi_unique_id),
+        ])
+    }
+}
+
+impl Aml for ACPIDeviceResource {
+    ghost object = { λ r. whole (acpi_bytes r) };
+
+    ghost ends_well = { λ r. whole_ends_well (acpi_bytes r) };
+
+    fn to_aml_bytes(&self, sink: &mut dyn AmlSink) -> R<()> {
+        sink.vec(&self.bytes())
+    }
+}
+
+/// A PCI function: 12 bytes.
+#[derive(Drop, Clone, Debug)]
+pub struct PCIDeviceResource {
+    bdf: u32,
+}
+
+impl PCIDeviceResource {
+    /// The function of a segment, bus, device and function number, as the platform joins them.
+    pub fn new(bdf: u32) -> PCIDeviceResource
+        ensures { result ≡ pci_resource bdf }
+    {
+        PCIDeviceResource { bdf }
+    }
+
+    fn bytes(&self) -> [u8; 12]
+        ensures { result ≡ pci_bytes self.now }
+    {
+        record(&[Field::DWord(self.bdf), Field::QWord(0)])
+    }
+}
+
+impl Aml for PCIDeviceResource {
+    ghost object = { λ r. whole (pci_bytes r) };
+
+    ghost ends_well = { λ r. whole_ends_well (pci_bytes r) };
+
+    fn to_aml_bytes(&self, sink: &mut dyn AmlSink) -> R<()> {
+        sink.vec(&self.bytes())
+    }
+}
+
+/// Which resource it is. A vendor's has a type of its own, and its two ids and what follows them as bytes.
+#[derive(Drop, Debug)]
+pub enum ResourceID {
+    Cache(CacheResource),
+    MemoryAffinityStructure(MemoryAffinityStructureResource),
+    ACPIDevice(ACPIDeviceResource),
+    PCIDevice(PCIDeviceResource),
+    VendorSpecific(u8, Vec<u8>),
+}
+
+impl ResourceID {
+    /// The number of its type: 0 to 3 in the variants' order, or the vendor's.
+    pub fn resource_id_type(&self) -> u8
+        ensures { result ≡ id_number self.now }
+    {
+        match self {
+            ResourceID::Cache(_) => 0,
+            ResourceID::MemoryAffinityStructure(_) => 1,
+            ResourceID::ACPIDevice(_) => 2,
+            ResourceID::PCIDevice(_) => 3,
+            ResourceID::VendorSpecific(kind, _) => *kind,
+        }
+    }
+
+    /// How many bytes it has, that of its type among them.
+    pub fn len(&self) -> usize
+        ensures { result ≡ length (id_bytes self.now) }
+    {
+        match self {
+            ResourceID::Cache(_) => 13,
+            ResourceID::MemoryAffinityStructure(_) => 21,
+            ResourceID::ACPIDevice(_) => 13,
+            ResourceID::PCIDevice(_) => 13,
+            ResourceID::VendorSpecific(_, bytes) => 1 + bytes.len(),
+        }
+    }
+
+    /// An id of the same value; a vendor's bytes in memory from where this one has its own. Refused only for want of memory.
+    pub fn clone(&self) -> R<ResourceID>
+        ensures ok { IfOk result (λ id. same_id id self.now) }
+        ensures err { IfErr result (λ e. e ≡ Error.Memory) }
+    {
+        match self {
+            ResourceID::Cache(cache) => Ok(ResourceID::Cache(cache.clone()?)),
+            ResourceID::MemoryAffinityStructure(memory) => {
+                Ok(ResourceID::MemoryAffinityStructure(memory.clone()?))
+            }
+            ResourceID::ACPIDevice(device) => Ok(ResourceID::ACPIDevice(device.clone()?)),
+            ResourceID::PCIDevice(device) => Ok(ResourceID::PCIDevice(device.clone()?)),
+            ResourceID::VendorSpecific(kind, bytes) => Ok(ResourceID::VendorSpecific(
+                *kind,
+                bytes.to_vec(*bytes.allocator())?,
+            )),
+        }
+    }
+
+    // Gives a sink some bytes and then the payload's.
+    fn write_behind(&self, head: &[u8], sink: &mut dyn AmlSink) -> R<()>
+        ensures ok { OnOk result (Took (meaning sink.old) (head.now ++ payload self.now) (meaning sink.new)) }
+        ensures err { IfErr result (λ e. Refused e (meaning sink.old) (head.now ++ payload self.now) (meaning sink.new)) }
+    {
+        match self {
+            ResourceID::Cache(cache) => write_parts(sink, &[head, &cache.bytes()]),
+            ResourceID::MemoryAffinityStructure(memory) => {
+                write_parts(sink, &[head, &memory.bytes()])
+            }
+            ResourceID::ACPIDevice(device) => write_parts(sink, &[head, &device.bytes()]),
+            ResourceID::PCIDevice(device) => write_parts(sink, &[head, &device.bytes()]),
+            ResourceID::VendorSpecific(_, bytes) => write_parts(sink, &[head, bytes]),
+        }
+    }
+}
+
+impl Aml for ResourceID {
+    ghost object = { λ id. whole (id_bytes id) };
+
+    ghost ends_well = { λ id. whole_ends_well (id_bytes id) };
+
+    fn to_aml_bytes(&self, sink: &mut dyn AmlSink) -> R<()> {
+        self.write_behind(&[self.resource_id_type()], sink)
+    }
+}
+
+/// A resource that a controller shares out: 7 bytes, and its id's. It is refused when written, by FieldWidth, where it has more
+/// than 65,535.
+#[derive(Drop, Debug)]
+pub struct ResourceStructure {
+    kind: ResourceType,
+    flags: u16,
+    id: ResourceID,
+}
+
+impl ResourceStructure {
+    /// A resource with flags of its type (offset 4).
+    pub fn new(
+        resource_type: ResourceType,
+        resource_flags: u16,
+        resource_id: ResourceID,
+    ) -> ResourceStructure
+        ensures { result ≡ resource resource_type resource_flags resource_id }
+    {
+        ResourceStructure {
+            kind: resource_type,
+            flags: resource_flags,
+            id: resource_id,
+        }
+    }
+
+    /// How many bytes the resource has, also where these are too many to be written.
+    pub fn len(&self) -> usize
+        ensures { result ≡ length (resource_bytes self.now) }
+    {
+        7 + self.id.len()
+    }
+
+    /// A resource of the same value, as `ResourceID::clone` makes its id.
+    pub fn clone(&self) -> R<ResourceStructure>
+        ensures ok { IfOk result (λ r. SameResource r self.now) }
+        ensures err { IfErr result (λ e. e ≡ Error.Memory) }
+    {
+        Ok(ResourceStructure {
+            kind: self.kind,
+            flags: self.flags,
+            id: self.id.clone()?,
+        })
+    }
+
+    // The resource's bytes before its payload.
+    fn head(&self, size: u16) -> [u8; 8]
+        requires { size ≡ length (resource_bytes self.now) }
+        ensures { result ≡ resource_head self.now }
+    {
+        record(&[
+            Field::Byte(self.kind as u8),
+            Field::Byte(0),
+            Field::Word(size),
+            Field::Word(self.flags),
+            Field::Byte(0),
+            Field::Byte(self.id.resource_id_type()),
+        ])
+    }
+}
+
+impl Aml for ResourceStructure {
+    ghost object = { resource_object };
+
+    ghost ends_well = { λ r. resource_ends_well r };
+
+    fn to_aml_bytes(&self, sink: &mut dyn AmlSink) -> R<()> {
+        let size = self.len();
+        if size > 0xffff {
+            return Err(Error::FieldWidth);
+        }
+        self.id.write_behind(&self.head(size as u16), sink)
+    }
+}

@@ -1,0 +1,222 @@
+//! RQSC, its controllers and their resources.
+
+use crate::vectors::{OEM, OEM_REVISION, OEM_TABLE, many, writes};
+use acpi_base::buffer::append;
+use acpi_tables::Error;
+use acpi_tables::gas::{AccessSize, AddressSpace, GAS};
+use acpi_tables::rqsc::{
+    ACPIDeviceResource, CacheResource, ControllerType, MemoryAffinityStructureResource,
+    PCIDeviceResource, QoSController, RQSC, ResourceID, ResourceStructure, ResourceType,
+};
+use std::alloc::Global;
+use std::process::Abort;
+use std::test::Fail;
+
+fn table(alloc: Global) -> RQSC {
+    RQSC::new(alloc, OEM, OEM_TABLE, OEM_REVISION)
+}
+
+fn controller(alloc: Global) -> QoSController {
+    let register = GAS::new(
+        AddressSpace::SystemIo,
+        0x40,
+        3,
+        AccessSize::QwordAccess,
+        0x1122_3344_5566_7788,
+    );
+    QoSController::new(
+        alloc,
+        ControllerType::Bandwidth,
+        register,
+        0x0102_0304,
+        0x0506_0708,
+        0x090a,
+    )
+}
+
+// That controller.
+const CONTROLLER: [u8; 28] =
+    *b"\x01\0\x1c\0\x01\x40\x03\x04\x88\x77\x66\x55\x44\x33\x22\x11\x04\x03\x02\x01\x08\x07\x06\x05\x0a\x09\0\0";
+
+// A vendor's resource of so many bytes.
+fn vendors(alloc: Global, bytes: &[u8]) -> Result<ResourceStructure, Error> {
+    Ok(ResourceStructure::new(
+        ResourceType::Memory,
+        0x1213,
+        ResourceID::VendorSpecific(0x80, bytes.to_vec(alloc)?),
+    ))
+}
+
+#[test]
+fn controllers(rt: HostRuntime) -> Result<(), Fail> {
+    let alloc = rt.alloc();
+    let mut rqsc = table(alloc);
+    writes(
+        &rt,
+        alloc,
+        &rqsc,
+        b"RQSC\x28\0\0\0\x01\x52FOOBARCAFEDEAD\xef\xbe\xad\xdeRVAT\0\0\0\x01\0\0\0\0",
+    )?;
+    for _ in 0..256u16 {
+        rqsc.add_controller(controller(alloc))?;
+    }
+    many(
+        &rt,
+        alloc,
+        &rqsc,
+        b"RQSC",
+        1,
+        &[0, 1, 0, 0],
+        &CONTROLLER,
+        256,
+    )
+}
+
+#[test]
+fn capacity(rt: HostRuntime) -> Result<(), Fail> {
+    let alloc = rt.alloc();
+    let capacity =
+        QoSController::new(alloc, ControllerType::Capacity, GAS::default(), 0, u32::MAX, 1);
+    let mut wanted = [0; 28];
+    wanted[2] = 0x1c;
+    wanted[20] = 0xff;
+    wanted[21] = 0xff;
+    wanted[22] = 0xff;
+    wanted[23] = 0xff;
+    wanted[24] = 1;
+    writes(&rt, alloc, &capacity, &wanted)
+}
+
+#[test]
+fn payloads(rt: HostRuntime) -> Result<(), Fail> {
+    let alloc = rt.alloc();
+    let cache = CacheResource::new(0x0c0d_0e0f);
+    writes(&rt, alloc, &cache, b"\x0f\x0e\x0d\x0c\0\0\0\0\0\0\0\0")?;
+    writes(&rt, alloc, &cache.clone()?, b"\x0f\x0e\x0d\x0c\0\0\0\0\0\0\0\0")?;
+    let memory = MemoryAffinityStructureResource::new(0x1213_1415, 0x1617_1819_1a1b_1c1d);
+    writes(
+        &rt,
+        alloc,
+        &memory,
+        b"\x15\x14\x13\x12\0\0\0\0\0\0\0\0\x1d\x1c\x1b\x1a\x19\x18\x17\x16",
+    )?;
+    let acpi = ACPIDeviceResource::new(0x2021_2223_2425_2627, 0x2829_2a2b);
+    writes(&rt, alloc, &acpi, b"\x27\x26\x25\x24\x23\x22\x21\x20\x2b\x2a\x29\x28")?;
+    let pci = PCIDeviceResource::new(0x2c2d_2e2f);
+    writes(&rt, alloc, &pci, b"\x2f\x2e\x2d\x2c\0\0\0\0\0\0\0\0")
+}
+
+// An id by itself, and one that was cloned from it.
+fn is_written<RT: Abort>(
+    rt: &RT,
+    alloc: Global,
+    id: &ResourceID,
+    kind: u8,
+    wanted: &[u8],
+) -> Result<(), Fail> {
+    assert_eq!(rt; id.resource_id_type(), kind);
+    assert_eq!(rt; id.len(), wanted.len());
+    writes(rt, alloc, id, wanted)?;
+    writes(rt, alloc, &id.clone()?, wanted)
+}
+
+#[test]
+fn ids(rt: HostRuntime) -> Result<(), Fail> {
+    let alloc = rt.alloc();
+    let cache = ResourceID::Cache(CacheResource::new(0x0c0d_0e0f));
+    is_written(&rt, alloc, &cache, 0, b"\0\x0f\x0e\x0d\x0c\0\0\0\0\0\0\0\0")?;
+    let memory = ResourceID::MemoryAffinityStructure(MemoryAffinityStructureResource::new(
+        0x1213_1415,
+        0x1617_1819_1a1b_1c1d,
+    ));
+    is_written(
+        &rt,
+        alloc,
+        &memory,
+        1,
+        b"\x01\x15\x14\x13\x12\0\0\0\0\0\0\0\0\x1d\x1c\x1b\x1a\x19\x18\x17\x16",
+    )?;
+    let acpi =
+        ResourceID::ACPIDevice(ACPIDeviceResource::new(0x2021_2223_2425_2627, 0x2829_2a2b));
+    is_written(
+        &rt,
+        alloc,
+        &acpi,
+        2,
+        b"\x02\x27\x26\x25\x24\x23\x22\x21\x20\x2b\x2a\x29\x28",
+    )?;
+    let pci = ResourceID::PCIDevice(PCIDeviceResource::new(0x2c2d_2e2f));
+    is_written(&rt, alloc, &pci, 3, b"\x03\x2f\x2e\x2d\x2c\0\0\0\0\0\0\0\0")?;
+    let vendor = ResourceID::VendorSpecific(0xff, b"\x31\x32\x33".to_vec(alloc)?);
+    is_written(&rt, alloc, &vendor, 0xff, b"\xff\x31\x32\x33")?;
+    let nothing = ResourceID::VendorSpecific(0x80, Vec::new(alloc));
+    is_written(&rt, alloc, &nothing, 0x80, b"\x80")
+}
+
+#[test]
+fn resources(rt: HostRuntime) -> Result<(), Fail> {
+    let alloc = rt.alloc();
+    let cache = ResourceStructure::new(
+        ResourceType::Cache,
+        0x1011,
+        ResourceID::Cache(CacheResource::new(0x0c0d_0e0f)),
+    );
+    let first = b"\0\0\x14\0\x11\x10\0\0\x0f\x0e\x0d\x0c\0\0\0\0\0\0\0\0";
+    assert_eq!(&rt; cache.len(), 20);
+    writes(&rt, alloc, &cache, first)?;
+    writes(&rt, alloc, &cache.clone()?, first)?;
+    let vendor = vendors(alloc, b"\x31\x32\x33")?;
+    let second = b"\x01\0\x0b\0\x13\x12\0\x80\x31\x32\x33";
+    assert_eq!(&rt; vendor.len(), 11);
+    writes(&rt, alloc, &vendor, second)?;
+    writes(&rt, alloc, &vendor.clone()?, second)?;
+    let mut shared = controller(alloc);
+    assert_eq!(&rt; shared.len(), 28);
+    shared.add_resource(cache)?;
+    shared.add_resource(vendor)?;
+    assert_eq!(&rt; shared.len(), 59);
+    let mut wanted = Vec::new(alloc);
+    wanted.extend_from_slice(b"\x01\0\x3b\0")?;
+    wanted.extend_from_slice(&CONTROLLER[4..26])?;
+    wanted.extend_from_slice(&[2, 0])?;
+    wanted.extend_from_slice(first)?;
+    wanted.extend_from_slice(second)?;
+    writes(&rt, alloc, &shared, &wanted)?;
+    let copy = shared.clone()?;
+    assert_eq!(&rt; copy.len(), 59);
+    writes(&rt, alloc, &copy, &wanted)?;
+    let mut rqsc = table(alloc);
+    rqsc.add_controller(shared)?;
+    many(&rt, alloc, &rqsc, b"RQSC", 1, &[1, 0, 0, 0], &wanted, 1)
+}
+
+#[test]
+fn longest_controller(rt: HostRuntime) -> Result<(), Fail> {
+    let alloc = rt.alloc();
+    let mut full = controller(alloc);
+    assert_eq!(&rt; full.add_resource(vendors(alloc, &[0x5a; 65_500])?), Err(Error::FieldWidth));
+    assert_eq!(&rt; full.len(), 28);
+    writes(&rt, alloc, &full, &CONTROLLER)?;
+    full.add_resource(vendors(alloc, &[0x5a; 65_499])?)?;
+    assert_eq!(&rt; full.len(), 65_535);
+    assert_eq!(&rt; full.add_resource(vendors(alloc, &[])?), Err(Error::FieldWidth));
+    assert_eq!(&rt; full.len(), 65_535);
+    Ok(())
+}
+
+#[test]
+fn longest_resource(rt: HostRuntime) -> Result<(), Fail> {
+    let alloc = rt.alloc();
+    let longest = vendors(alloc, &[0x5a; 65_527])?;
+    assert_eq!(&rt; longest.len(), 65_535);
+    let mut wanted = Vec::new(alloc);
+    wanted.extend_from_slice(b"\x01\0\xff\xff\x13\x12\0\x80")?;
+    wanted.extend_from_slice(&[0x5a; 65_527])?;
+    writes(&rt, alloc, &longest, &wanted)?;
+    let longer = vendors(alloc, &[0x5a; 65_528])?;
+    assert_eq!(&rt; longer.len(), 65_536);
+    let mut bytes = Vec::new(alloc);
+    assert_eq!(&rt; append(&longer, &mut bytes), Err(Error::FieldWidth));
+    assert_eq!(&rt; bytes.len(), 0);
+    Ok(())
+}
