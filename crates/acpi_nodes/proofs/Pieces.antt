@@ -1,10 +1,10 @@
 -- Nodes tell their sizes.
 use Rattle.std.proofs.Common.{◌≡◌, ℕ, ◌+◌, ◌*◌, ◌≤◌, ◌<◌, ◌^◌, ◌%◌, ◌/◌, List, true, sym, ◌∙◌, arith, length, length-append}
 use Rattle.std.specs.Prelude.{None}
-use Rattle.acpi_base.specs.Layout.{zeros}
 use Rattle.std.proofs.lemmas.Bool.{ltb-true}
 use Rattle.std.proofs.lemmas.List.{length-replicate}
 use Rattle.acpi_base.specs.declared.error.Error.TheVariants.{FieldWidth}
+use Rattle.acpi_base.specs.Layout.{zeros}
 use Rattle.acpi_base.specs.Object.{whole}
 use Rattle.acpi_base.specs.Walk.{told_at, IsPiece}
 use Rattle.acpi_base.proofs.Objects.{is_provided, provided_front}
