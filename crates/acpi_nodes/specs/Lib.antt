@@ -1,0 +1,2 @@
+pub mod Pci
+pub mod Viot

@@ -1,0 +1,3 @@
+//! Laws of the tables. Each function is a law: it does nothing, and ensures it.
+
+pub use crate::viot::viot_is_walked;
