@@ -1,1 +1,3 @@
+pub mod Rimts
+pub mod Structures
 pub mod Viots

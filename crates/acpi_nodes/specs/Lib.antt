@@ -1,2 +1,4 @@
+pub mod Entries
 pub mod Pci
+pub mod Rimt
 pub mod Viot
