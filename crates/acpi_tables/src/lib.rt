@@ -38,11 +38,13 @@ pub mod hest;
 pub mod madt;
 pub mod mcfg;
 pub mod read;
+pub mod rimt;
 pub mod rsdp;
 pub mod sdt;
 pub mod spcr;
 pub mod srat;
 pub mod tpm2;
+pub mod viot;
 pub mod xsdt;
 
 pub use acpi_base::checksum::Checksum;
