@@ -1,5 +1,5 @@
 -- Devices of a RIMT, their sizes and their parts.
-use Rattle.std.proofs.Common.{◌≡◌, ℕ, ◌+◌, ◌*◌, ◌≤◌, ◌<◌, ◌^◌, List, [], ◌∷◌, ◌++◌, true, false, length, length-append, arith, refl, sym, ◌∙◌}
+use Rattle.std.proofs.Common.{◌≡◌, ℕ, ◌+◌, ◌*◌, ◌≤◌, ◌<◌, List, [], ◌∷◌, true, false, length, length-append, arith, refl, sym, ◌∙◌}
 use Rattle.std.specs.Prelude.{string_bytes, None}
 use Rattle.std.specs.List.{flat_map}
 use Rattle.acpi_base.specs.Walk.{told_at, IsPiece}

@@ -1,5 +1,5 @@
 -- Structures that end in entries.
-use Rattle.std.proofs.Common.{◌≡◌, ℕ, ◌+◌, ◌*◌, ◌≤◌, ◌<◌, ◌^◌, ◌%◌, ◌/◌, List, [], ◌++◌, Bool, true, false, nat_lt, length, take, get_or, arith, refl, ap, ◌∙◌, ◌∷◌, append_assoc}
+use Rattle.std.proofs.Common.{◌≡◌, ℕ, ◌+◌, ◌*◌, ◌≤◌, ◌<◌, ◌^◌, ◌%◌, ◌/◌, List, [], ◌++◌, true, false, nat_lt, length, take, get_or, arith, ap, ◌∙◌, ◌∷◌, append_assoc}
 use Rattle.std.specs.List.{flat_map}
 use Rattle.std.proofs.lemmas.List.{take_all, append-nil}
 use Rattle.acpi_base.proofs.Rows.{took_next_part, refused_at_part}

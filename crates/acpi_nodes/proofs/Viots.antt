@@ -1,11 +1,11 @@
 -- What a VIOT keeps over additions, and what it answers.
-use Rattle.std.proofs.Common.{◌≡◌, ℕ, ◌^◌, List, refl}
-use Rattle.std.specs.Prelude.{Result, Ok, Err, OnOk, OnErr}
+use Rattle.std.proofs.Common.{◌≡◌, ℕ, ◌^◌, List}
+use Rattle.std.specs.Prelude.{Result, Ok, Err}
 use Rattle.acpi_base.specs.declared.error.Error.{Error}
 use Rattle.acpi_base.specs.Object.{whole}
 use Rattle.acpi_base.specs.Walk.{IsPiece, viot_walk}
 use Rattle.acpi_core.specs.Addition.{Counted, Adds, AddsAt}
-use Rattle.acpi_core.proofs.Kept.{keeps_bytes, adds_bytes}
+use Rattle.acpi_core.proofs.Kept.{keeps_bytes}
 use Rattle.acpi_nodes.specs.Viot.{KeepsNodes}
 
 limit_on : {T : Type 0} (r : Result T Error) (old new : Counted) (b : List ℕ) → old.table.limit ≡ 2 ^ 16 → Adds r old (whole b) new → new.table.limit ≡ 2 ^ 16

@@ -1,7 +1,6 @@
 -- Structures that end in entries of one kind.
-use Rattle.std.specs.Prelude.{◌≢◌, ℕ, ◌^◌, nat_lt, Bool, List, [], length, Vec, if◌then◌else◌, Option, Some, None}
+use Rattle.std.specs.Prelude.{◌≢◌, ℕ, ◌^◌, nat_lt, Bool, List, [], length, Vec, Option, Some, None}
 use Rattle.std.specs.declared.alloc.Global.{Global}
-use Rattle.acpi_base.specs.declared.error.Error.{Error}
 use Rattle.acpi_base.specs.declared.error.Error.TheVariants.{Memory, FieldWidth}
 use Rattle.acpi_base.specs.Object.{Object, whole, provided, provided_ends_well}
 
@@ -20,7 +19,3 @@ structure_of bytes = provided (fits_word bytes) FieldWidth (whole bytes)
 
 pub structure_ends_well : (bytes : List ℕ) → (structure_of bytes).end ≢ Some Memory
 structure_ends_well bytes = provided_ends_well (fits_word bytes) FieldWidth bytes (λ is. cc)
-
--- a bit of a field of flags
-abbrev pub bit : Bool → ℕ → ℕ
-bit set value = if set then value else 0

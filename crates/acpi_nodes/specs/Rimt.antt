@@ -1,5 +1,5 @@
 -- The RISC-V I/O Mapping Table (this project's profile).
-use Rattle.std.specs.Prelude.{ℕ, ◌+◌, ◌*◌, ◌^◌, Bool, true, List, [], ◌∷◌, ◌++◌, length, codes, string_bytes, String, Vec, unwrap_or, is_some, Option, Some, None}
+use Rattle.std.specs.Prelude.{ℕ, ◌+◌, ◌*◌, ◌^◌, Bool, if◌then◌else◌, List, [], ◌∷◌, ◌++◌, length, codes, string_bytes, String, Vec, unwrap_or, is_some, Option, Some, None}
 use Rattle.std.specs.declared.alloc.Global.{Global}
 use Rattle.std.specs.List.{flat_map}
 use Rattle.acpi_base.specs.Layout.{byte, word, dword, qword, zeros, record_of}
@@ -11,7 +11,7 @@ use Rattle.acpi_nodes.specs.declared.rimt.Iommu.{Iommu}
 use Rattle.acpi_nodes.specs.declared.rimt.IdMapping.{IdMapping}
 use Rattle.acpi_nodes.specs.declared.rimt.PcieRootComplex.{PcieRootComplex}
 use Rattle.acpi_nodes.specs.declared.rimt.Platform.{Platform}
-use Rattle.acpi_nodes.specs.Entries.{entries_of, bit}
+use Rattle.acpi_nodes.specs.Entries.{entries_of}
 
 -- a table without devices: 36: number of devices, of four bytes
 abbrev pub rimt : Oem → Listing
@@ -25,6 +25,10 @@ rimt oem = record {
   limit = 2 ^ 32;
   structures = [];
 }
+
+-- a bit of a field of flags
+abbrev pub bit : Bool → ℕ → ℕ
+bit set value = if set then value else 0
 
 -- ---- interrupt wires
 

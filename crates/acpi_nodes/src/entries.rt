@@ -1,9 +1,9 @@
 //! Structures that end in entries of one kind.
 
-ghost use Rattle.std.specs.Prelude.{◌≡◌, ◌≤◌, ◌++◌, ℕ, List, OnOk, IfErr};
+ghost use Rattle.std.specs.Prelude.{◌≡◌, ◌++◌, ℕ, List, OnOk, IfErr};
 ghost use Rattle.std.specs.List.{flat_map};
 ghost use Rattle.acpi_base.specs.Sink.{Took, Refused};
-ghost use Rattle.acpi_nodes.specs.Entries.{entries_of, bit};
+ghost use Rattle.acpi_nodes.specs.Entries.{entries_of};
 
 use acpi_base::error::R;
 use acpi_base::parts::write_parts;
@@ -43,12 +43,4 @@ pub(crate) fn write_with_entries<T: Entry>(
         entry.write(sink)?;
     }
     Ok(())
-}
-
-/// A bit of a field of flags.
-pub(crate) fn bit(set: bool, value: u16) -> u16
-    ensures value { result ≡ bit set value }
-    ensures small { result ≤ value }
-{
-    if set { value } else { 0 }
 }

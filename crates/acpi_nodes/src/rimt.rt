@@ -7,9 +7,9 @@ ghost use Rattle.acpi_core.specs.Listing.{bytes_of};
 ghost use Rattle.acpi_core.specs.Addition.{Adds, AddsAt};
 ghost use Rattle.acpi_core.specs.Walk.{IsWalked};
 ghost use Rattle.acpi_nodes.specs.Entries.{entries_of, structure_of, structure_ends_well};
-ghost use Rattle.acpi_nodes.specs.Rimt.{rimt, interrupt_wire, wire_bytes, iommu, iommu_head, iommu_bytes, id_mapping, mapping_bytes, root_complex, root_complex_head, root_complex_bytes, platform, platform_head, platform_bytes};
+ghost use Rattle.acpi_nodes.specs.Rimt.{rimt, bit, interrupt_wire, wire_bytes, iommu, iommu_head, iommu_bytes, id_mapping, mapping_bytes, root_complex, root_complex_head, root_complex_bytes, platform, platform_head, platform_bytes};
 
-use crate::entries::{Entry, bit, entries_of, write_with_entries};
+use crate::entries::{Entry, entries_of, write_with_entries};
 pub use crate::pci::PciDevice;
 use acpi_base::error::{Error, R};
 use acpi_base::object::Aml;
@@ -122,6 +122,14 @@ impl Model for IommuOffset {
     ghost inverse = { λ n. record { offset = n } };
 }
 
+// A bit of a field of flags.
+fn bit(set: bool, value: u16) -> u16
+    ensures value { result ≡ bit set value }
+    ensures small { result ≤ value }
+{
+    if set { value } else { 0 }
+}
+
 /// An interrupt that an IOMMU raises by a wire: 8 bytes.
 #[derive(Drop)]
 pub struct InterruptWire {
@@ -132,8 +140,8 @@ pub struct InterruptWire {
 }
 
 impl InterruptWire {
-    /// The interrupt of this number at an APLIC: whether it is triggered by level (flag 1), and whether it is active high
-    /// (flag 2).
+    /// The interrupt of this number (offset 0) at the APLIC of an id (offset 6): whether it is triggered by level (flag 1 at
+    /// offset 4), and whether it is active high (flag 2).
     pub fn new(num: u32, level_trig: bool, polarity_high: bool, aplic_id: u16) -> InterruptWire
         ensures { result ≡ interrupt_wire num level_trig polarity_high aplic_id }
     {
@@ -187,8 +195,9 @@ pub struct Iommu {
 }
 
 impl Iommu {
-    /// The IOMMU of an id: the physical address of its registers, the PCI function that it is (flag 1), its proximity domain
-    /// (flag 2), and its interrupt wires. What isn't given is written as zeros.
+    /// The IOMMU of an id (offset 4): the physical address of its registers (offset 8), the PCI function that it is (flag 1 at
+    /// offset 16; the segment at 20, the function at 22), its proximity domain (flag 2; offset 24), and its interrupt wires
+    /// (their number at offset 28). What isn't given is written as zeros.
     pub fn new(
         id: u16,
         base_addr: Option<u64>,
@@ -242,6 +251,7 @@ impl Aml for Iommu {
 
     fn to_aml_bytes(&self, sink: &mut dyn AmlSink) -> R<()> {
         let wires = entries_of(&self.wires);
+        // The most that 65,535 bytes hold behind the head's 32.
         if wires.len() > 8187 {
             return Err(Error::FieldWidth);
         }
@@ -262,8 +272,9 @@ pub struct IdMapping {
 }
 
 impl IdMapping {
-    /// So many ids from `src_id` on are those from `dst_id` on at an IOMMU: whether address translation services (flag 1) and
-    /// page requests (flag 2) are allowed, and whether the devices are integrated endpoints of the root complex (flag 4).
+    /// `num_ids` ids (offset 8) from `src_id` (offset 0) on are those from `dst_id` (offset 4) on at an IOMMU (its offset at
+    /// 12): whether address translation services (flag 1 at offset 16) and page requests (flag 2) are allowed, and whether the
+    /// devices are integrated endpoints of the root complex (flag 4).
     pub fn new(
         src_id: u32,
         dst_id: u32,
@@ -331,8 +342,8 @@ pub struct PcieRootComplex {
 }
 
 impl PcieRootComplex {
-    /// The root complex of an id and a PCI segment: whether it supports address translation services (flag 1) and page requests
-    /// (flag 2), and the mappings of its devices' ids.
+    /// The root complex of an id (offset 4) and a PCI segment (offset 6): whether it supports address translation services (flag
+    /// 1 at offset 8) and page requests (flag 2), and the mappings of its devices' ids (their number at offset 14).
     pub fn new(
         id: u16,
         pci_segment: u16,
@@ -378,6 +389,7 @@ impl Aml for PcieRootComplex {
 
     fn to_aml_bytes(&self, sink: &mut dyn AmlSink) -> R<()> {
         let mappings = entries_of(&self.mappings);
+        // The most that 65,535 bytes hold behind the head's 16.
         if mappings.len() > 3275 {
             return Err(Error::FieldWidth);
         }
@@ -395,7 +407,8 @@ pub struct Platform {
 }
 
 impl Platform {
-    /// The device of an id, by its full name in the namespace, and the mappings of its ids.
+    /// The device of an id (offset 4), by its full name in the namespace (offset 12, with a zero behind it), and the mappings of
+    /// its ids (where they begin at offset 8, their number at 10).
     pub fn new(id: u16, name: String, id_mappings: Option<Vec<IdMapping>>) -> Platform
         ensures { result ≡ platform id name id_mappings }
     {
@@ -433,6 +446,7 @@ impl Aml for Platform {
     fn to_aml_bytes(&self, sink: &mut dyn AmlSink) -> R<()> {
         let name = self.name.as_bytes();
         let mappings = entries_of(&self.mappings);
+        // The head and the name's zero have 13 bytes of the 65,535.
         if name.len() > 65_522 || mappings.len() > (65_522 - name.len()) / 20 {
             return Err(Error::FieldWidth);
         }
