@@ -2,3 +2,6 @@ pub mod IsaStrings
 pub mod Parts
 pub mod Pieces
 pub mod Placed
+pub mod Rimts
+pub mod Structures
+pub mod Viots

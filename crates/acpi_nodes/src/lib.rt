@@ -1,6 +1,10 @@
-//! Tables of nodes that point at each other.
+//! Tables of nodes that name each other by their offsets.
 #![tactic(auto)]
 
+pub mod entries;
 pub mod laws;
+pub mod pci;
 pub mod pptt;
 pub mod rhct;
+pub mod rimt;
+pub mod viot;

@@ -1,4 +1,6 @@
-//! Tables of nodes that point at each other.
+//! Tables of nodes that name each other by their offsets.
 
 mod pptt;
 mod rhct;
+mod rimt;
+mod viot;

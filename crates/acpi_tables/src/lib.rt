@@ -40,12 +40,14 @@ pub mod mcfg;
 pub mod pptt;
 pub mod read;
 pub mod rhct;
+pub mod rimt;
 pub mod rqsc;
 pub mod rsdp;
 pub mod sdt;
 pub mod spcr;
 pub mod srat;
 pub mod tpm2;
+pub mod viot;
 pub mod xsdt;
 
 pub use acpi_base::checksum::Checksum;
