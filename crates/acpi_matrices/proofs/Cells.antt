@@ -1,5 +1,5 @@
 -- Cells of a system locality.
-use Rattle.std.proofs.Common.{◌≡◌, ℕ, ◌+◌, ◌*◌, ◌<◌, ◌≤◌, ◌^◌, List, ◌++◌, length, replicate, true, refl, sym, ap, ◌∙◌, arith, inl, inr, ⊎_elim, length-append}
+use Rattle.std.proofs.Common.{◌≡◌, ℕ, ◌+◌, ◌*◌, ◌<◌, ◌≤◌, ◌^◌, List, ◌++◌, length, replicate, true, ◌&&◌, nat_lt, refl, sym, ap, ◌∙◌, arith, inl, inr, ⊎_elim, length-append}
 use Rattle.std.specs.Prelude.{◌⊎◌}
 use Rattle.std.proofs.lemmas.Bool.{ltb-true, and_parts, cases_lt, cases_order}
 use Rattle.std.proofs.lemmas.List.{length-replicate}
@@ -12,6 +12,10 @@ use Rattle.acpi_base.proofs.Puts.{length-put}
 use Rattle.acpi_matrices.specs.Locality.{Locality, IsLocality, Cell, initiator_at, target_at, entry_at, has_cell, place_of, width_of, value_at, with_value, first_value, lists_size, locality, CellsAreSet, NewCellsAreUnreachable}
 use Rattle.acpi_matrices.proofs.Fields.{field_put, field_before, field_after, field_append, field_behind, field_filled, same_place}
 
+below : (i t initiators targets : ℕ) → (nat_lt i initiators && nat_lt t targets) ≡ true → (i < initiators) × (t < targets)
+below i t initiators targets has =
+    let both = and_parts (nat_lt i initiators) (nat_lt t targets) has in (ltb-true i initiators both.0, ltb-true t targets both.1)
+
 -- an entry's place among the entries
 entry_within : (i t initiators targets : ℕ) → i < initiators → t < targets → i * targets + t < initiators * targets
 entry_within i t initiators targets row column = omega (arith, mul-add-lt i targets t initiators row column, mul_comm targets initiators)
@@ -20,9 +24,8 @@ pub within : (l : Locality) (cell : Cell) → has_cell l cell ≡ true → place
 within l (initiator_at i) has = let lt : i < l.initiators = ltb-true _ _ has in omega (arith, lt)
 within l (target_at t) has = let lt : t < l.targets = ltb-true _ _ has in omega (arith, lt)
 within l (entry_at i t) has =
-    let row : i < l.initiators = ltb-true _ _ (and_parts _ _ has).0 in
-    let column : t < l.targets = ltb-true _ _ (and_parts _ _ has).1 in
-    omega (arith, entry_within i t l.initiators l.targets row column)
+    let is = below i t l.initiators l.targets has in
+    omega (arith, entry_within i t l.initiators l.targets is.0 is.1)
 
 -- two numbers apart, in so many bytes each
 stepped : (w a b : ℕ) → (a ≡ b → ⊥) → (a + 1 ≤ b → w * a + w ≤ w * b) → (b + 1 ≤ a → w * b + w ≤ w * a) → (w * a + w ≤ w * b) ⊎ (w * b + w ≤ w * a)
@@ -42,10 +45,10 @@ apart l (target_at t) (entry_at j u) has has' differ = let lt : t < l.targets = 
 apart l (entry_at i t) (initiator_at j) has has' differ = let lt : j < l.initiators = ltb-true _ _ has' in inl (omega (arith, lt))
 apart l (entry_at i t) (target_at u) has has' differ = let lt : u < l.targets = ltb-true _ _ has' in inl (omega (arith, lt))
 apart l (entry_at i t) (entry_at j u) has has' differ =
-    let column : t < l.targets = ltb-true _ _ (and_parts _ _ has).1 in
-    let column' : u < l.targets = ltb-true _ _ (and_parts _ _ has').1 in
+    let one = below i t l.initiators l.targets has in
+    let two = below j u l.initiators l.targets has' in
     let same : j * l.targets + u ≡ i * l.targets + t → ⊥ =
-    λ e. let is = same_place l.targets j u i t column' column e in differ (λ k. entry_at (is.0 k) (is.1 k)) in
+    λ e. let is = same_place l.targets j u i t two.1 one.1 e in differ (λ k. entry_at (is.0 k) (is.1 k)) in
     ⊎_elim (λ h. inl (omega (arith, h))) (λ h. inr (omega (arith, h))) (stepped 2 (j * l.targets + u) (i * l.targets + t) same (λ h. omega arith) (λ h. omega arith))
 
 length-value : (cell : Cell) (value : ℕ) → length (le (width_of cell) value) ≡ width_of cell
@@ -63,14 +66,13 @@ are_set l cell other value is has has' small =
     let b = le (width_of cell) value in
     let size = length-value cell value in
     let inside : p + width_of cell ≤ length l.lists = omega (arith, within l cell has, is.lists) in
-    let o = place_of l.initiators l.targets other in
-    (
+    let o = place_of l.initiators l.targets other in (
       stays l cell value is has,
       field_put p (width_of cell) b l.lists size inside ∙ carried_le (width_of cell) value small,
       λ differ. ⊎_elim
-        (λ low. field_before o (width_of other) p b l.lists low (omega (arith, inside)))
-        (λ high. field_after o (width_of other) p b l.lists (omega (arith, high, size)) (omega (arith, inside, size)))
-        (apart l cell other has has' differ)
+          (λ low. field_before o (width_of other) p b l.lists low (omega (arith, inside)))
+          (λ high. field_after o (width_of other) p b l.lists (omega (arith, high, size)) (omega (arith, inside, size)))
+          (apart l cell other has has' differ),
     )
 
 -- ---- a new matrix
@@ -92,6 +94,5 @@ are_unreachable hierarchy data_type transfer unit initiators targets (initiator_
 are_unreachable hierarchy data_type transfer unit initiators targets (target_at t) has =
     let lt : t < targets = ltb-true _ _ has in in_domains (4 * initiators + 4 * t) (4 * initiators + 4 * targets) (2 * (initiators * targets)) (omega (arith, lt))
 are_unreachable hierarchy data_type transfer unit initiators targets (entry_at i t) has =
-    let row : i < initiators = ltb-true _ _ (and_parts _ _ has).0 in
-    let column : t < targets = ltb-true _ _ (and_parts _ _ has).1 in
-    in_entries (2 * (i * targets + t)) (4 * initiators + 4 * targets) (2 * (initiators * targets)) (omega (arith, entry_within i t initiators targets row column))
+    let is = below i t initiators targets has in
+    in_entries (2 * (i * targets + t)) (4 * initiators + 4 * targets) (2 * (initiators * targets)) (omega (arith, entry_within i t initiators targets is.0 is.1))

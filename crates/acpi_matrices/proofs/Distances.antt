@@ -69,8 +69,8 @@ module _ (t : Distances) (a b v : ℕ) (is : IsMatrix t) (column : a < t.localit
 
   at_p : field_at p 1 twice ≡ v
   at_p = ⊎_elim (λ (e : p ≡ q). ap (λ k. field_at k 1 twice) e ∙ at_q)
-    (λ k. others q p v once (omega (arith, q_within, length-once)) (λ e. ⊎_elim (λ lt. omega (arith, lt, e)) (λ lt. omega (arith, lt, e)) k) ∙ written p v t.cells p_within)
-    (cases_order p q)
+      (λ k. others q p v once (omega (arith, q_within, length-once)) (λ e. ⊎_elim (λ lt. omega (arith, lt, e)) (λ lt. omega (arith, lt, e)) k) ∙ written p v t.cells p_within)
+      (cases_order p q)
 
   elsewhere : (k : ℕ) → (k ≡ p → ⊥) → (k ≡ q → ⊥) → field_at k 1 twice ≡ field_at k 1 t.cells
   elsewhere k not_p not_q = others q k v once (omega (arith, q_within, length-once)) not_q ∙ others p k v t.cells p_within not_p
@@ -84,32 +84,36 @@ module _ (t : Distances) (a b v : ℕ) (is : IsMatrix t) (column : a < t.localit
 
   either_way : (c d : ℕ) → c < n → d < n → field_at (place_of n c d) 1 twice ≡ field_at (place_of n d c) 1 twice
   either_way c d lt lt' =
-    let k = place_of n c d in
-    let m = place_of n d c in
-    ⊎_elim
+      let k = place_of n c d in
+      let m = place_of n d c in
+      ⊎_elim
       (λ (e : k ≡ p). ap (λ x. field_at x 1 twice) e ∙ at_p ∙ sym (ap (λ x. field_at x 1 twice) (mirror_p c d lt e) ∙ at_q))
       (λ away. ⊎_elim
-        (λ (e : k ≡ q). ap (λ x. field_at x 1 twice) e ∙ at_q ∙ sym (ap (λ x. field_at x 1 twice) (mirror_q c d lt e) ∙ at_p))
-        (λ away'.
-          let not_p : k ≡ p → ⊥ = λ e. ⊎_elim (λ l. omega (arith, l, e)) (λ l. omega (arith, l, e)) away in
-          let not_q : k ≡ q → ⊥ = λ e. ⊎_elim (λ l. omega (arith, l, e)) (λ l. omega (arith, l, e)) away' in
-          elsewhere k not_p not_q ∙ is.symmetric c d lt lt' ∙ sym (elsewhere m (λ e. not_q (mirror_p d c lt' e)) (λ e. not_p (mirror_q d c lt' e))))
-        (cases_order k q))
+      (λ (e : k ≡ q). ap (λ x. field_at x 1 twice) e ∙ at_q ∙ sym (ap (λ x. field_at x 1 twice) (mirror_q c d lt e) ∙ at_p))
+      (λ away'.
+      let not_p : k ≡ p → ⊥ = λ e. ⊎_elim (λ l. omega (arith, l, e)) (λ l. omega (arith, l, e)) away in
+      let not_q : k ≡ q → ⊥ = λ e. ⊎_elim (λ l. omega (arith, l, e)) (λ l. omega (arith, l, e)) away' in
+      elsewhere k not_p not_q ∙ is.symmetric c d lt lt' ∙ sym (elsewhere m (λ e. not_q (mirror_p d c lt' e)) (λ e. not_p (mirror_q d c lt' e))))
+      (cases_order k q))
       (cases_order k p)
 
   pub matrix : IsMatrix (with_distance t a b v)
   matrix = record { id = is.id; table_id = is.table_id; square = length-twice ∙ is.square; fits = is.fits; symmetric = either_way }
 
   pub set_is : IsMatrix (with_distance t a b v)
-    × (distance (with_distance t a b v) a b ≡ v)
-    × (distance (with_distance t a b v) b a ≡ v)
-    × ((c d : ℕ) → has_cell t c d ≡ true → ((c ≡ a) × (d ≡ b) → ⊥) → ((c ≡ b) × (d ≡ a) → ⊥) → distance (with_distance t a b v) c d ≡ distance t c d)
-  set_is = (matrix, at_p, at_q,
+      × (distance (with_distance t a b v) a b ≡ v)
+      × (distance (with_distance t a b v) b a ≡ v)
+      × ((c d : ℕ) → has_cell t c d ≡ true → ((c ≡ a) × (d ≡ b) → ⊥) → ((c ≡ b) × (d ≡ a) → ⊥) → distance (with_distance t a b v) c d ≡ distance t c d)
+  set_is = (
+    matrix,
+    at_p,
+    at_q,
     λ c d has not_ab not_ba.
-      let lt = ltb-true _ _ (and_parts _ _ has).0 in
-      elsewhere (place_of n c d)
-      (λ e. let is = one_place n a b c d column lt e in not_ab (is.1, is.0))
-      (λ e. let is = one_place n b a c d row lt e in not_ba (is.1, is.0)))
+        let lt = ltb-true _ _ (and_parts _ _ has).0 in
+        elsewhere (place_of n c d)
+        (λ e. let is = one_place n a b c d column lt e in not_ab (is.1, is.0))
+        (λ e. let is = one_place n b a c d row lt e in not_ba (is.1, is.0)),
+  )
 
 pub are_set : DistancesAreSet
 are_set t a b value is has = let both = and_parts _ _ has in set_is t a b value is (ltb-true _ _ both.0) (ltb-true _ _ both.1)
@@ -142,12 +146,12 @@ are_symmetric t is =
     omega (arith, length-append h (qword t.localities ++ t.cells), length-header (codes "SLIT") (36 + length (qword t.localities ++ t.cells)) 1 t.oem refl is.id is.table_id, length-inside t is) in
     let cell : (k : ℕ) → field_at (44 + k) 1 (slit_bytes t) ≡ field_at k 1 t.cells =
     λ k. field_after (44 + k) 1 9 (complement (sum (put 9 (0 ∷ []) y)) ∷ []) y (omega arith) (omega (arith, size))
-      ∙ ap (field_at (44 + k) 1) (sym (append_assoc h (qword t.localities) t.cells)) ∙ field_behind 44 k 1 (front_of t) t.cells (length-front t is) in
+    ∙ ap (field_at (44 + k) 1) (sym (append_assoc h (qword t.localities) t.cells)) ∙ field_behind 44 k 1 (front_of t) t.cells (length-front t is) in
     record {
       cells = λ a b has. cell (place_of t.localities a b);
       mirrored = λ a b has.
-        let both = and_parts _ _ has in
-        cell (place_of t.localities a b) ∙ is.symmetric a b (ltb-true _ _ both.0) (ltb-true _ _ both.1) ∙ sym (cell (place_of t.localities b a));
+          let both = and_parts _ _ has in
+          cell (place_of t.localities a b) ∙ is.symmetric a b (ltb-true _ _ both.0) (ltb-true _ _ both.1) ∙ sym (cell (place_of t.localities b a));
     }
 
 -- ---- in parts
@@ -201,10 +205,13 @@ parts_new oem n r0 r size cells head made sealed fixed six eight small few fille
     let inside : 36 + length (qword n ++ t.cells) ≡ size = omega (arith, length-append (qword n) t.cells, length_le 8 n, wide, is_size) in
     let front : made ≡ front_of t = is_made ∙ ap (λ h. h ++ le 8 n) is_head ∙ ap (λ k. header (codes "SLIT") k 1 oem ++ le 8 n) (sym inside) in
     let is_matrix : IsMatrix t = record {
-      id = six; table_id = eight; square = wide; fits = few;
+      id = six;
+      table_id = eight;
+      square = wide;
+      fits = few;
       symmetric = λ a b column row.
-        field_filled (place_of n a b) 1 (n * n) 10 (omega (arith, place_within n a b column row))
-        ∙ sym (field_filled (place_of n b a) 1 (n * n) 10 (omega (arith, place_within n b a row column)));
+          field_filled (place_of n a b) 1 (n * n) 10 (omega (arith, place_within n a b column row))
+          ∙ sym (field_filled (place_of n b a) 1 (n * n) 10 (omega (arith, place_within n b a row column)));
     } in
     let long : length made ≡ 44 = ap length front ∙ length-front t is_matrix in
     let k = complement (sum (put 9 (0 ∷ []) made)) in
