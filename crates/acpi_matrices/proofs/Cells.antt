@@ -1,15 +1,15 @@
 -- Cells of a system locality.
-use Rattle.std.proofs.Common.{◌≡◌, ℕ, ◌+◌, ◌*◌, ◌<◌, ◌≤◌, ◌^◌, List, ◌++◌, length, replicate, true, ◌&&◌, nat_lt, refl, sym, ap, ◌∙◌, arith, inl, inr, ⊎_elim, length-append}
+use Rattle.std.proofs.Common.{◌≡◌, ℕ, ◌+◌, ◌*◌, ◌<◌, ◌≤◌, ◌++◌, length, replicate, true, ◌&&◌, nat_lt, ap, ◌∙◌, arith, inl, inr, ⊎_elim, length-append}
 use Rattle.std.specs.Prelude.{◌⊎◌}
-use Rattle.std.proofs.lemmas.Bool.{ltb-true, and_parts, cases_lt, cases_order}
+use Rattle.std.proofs.lemmas.Bool.{ltb-true, and_parts, cases_order}
 use Rattle.std.proofs.lemmas.List.{length-replicate}
 use Rattle.std.proofs.lemmas.Nat.{mul-add-lt}
 use Rattle.std.proofs.Math.Nat.{mul_comm}
-use Rattle.acpi_base.specs.Bytes.{le, put, field_at}
+use Rattle.acpi_base.specs.Bytes.{le, field_at}
 use Rattle.acpi_base.specs.Layout.{zeros}
 use Rattle.acpi_base.proofs.Bytes.{length_le, carried_le}
 use Rattle.acpi_base.proofs.Puts.{length-put}
-use Rattle.acpi_matrices.specs.Locality.{Locality, IsLocality, Cell, initiator_at, target_at, entry_at, has_cell, place_of, width_of, value_at, with_value, first_value, lists_size, locality, CellsAreSet, NewCellsAreUnreachable}
+use Rattle.acpi_matrices.specs.Locality.{Locality, IsLocality, Cell, initiator_at, target_at, entry_at, has_cell, place_of, width_of, with_value, lists_size, CellsAreSet, NewCellsAreUnreachable}
 use Rattle.acpi_matrices.proofs.Fields.{field_put, field_before, field_after, field_append, field_behind, field_filled, same_place}
 
 below : (i t initiators targets : ℕ) → (nat_lt i initiators && nat_lt t targets) ≡ true → (i < initiators) × (t < targets)

@@ -1,5 +1,5 @@
 -- Distances of localities.
-use Rattle.std.proofs.Common.{◌≡◌, ℕ, ◌+◌, ◌-◌, ◌*◌, ◌%◌, ◌<◌, ◌≤◌, ◌^◌, List, [], ◌∷◌, ◌++◌, length, take, drop, replicate, true, refl, sym, ap, subst, ◌∙◌, arith, append_assoc, length-append, ⊎_elim}
+use Rattle.std.proofs.Common.{◌≡◌, ℕ, ◌+◌, ◌-◌, ◌*◌, ◌%◌, ◌<◌, ◌≤◌, ◌^◌, List, [], ◌∷◌, ◌++◌, length, replicate, true, refl, sym, ap, subst, ◌∙◌, arith, append_assoc, length-append, ⊎_elim}
 use Rattle.std.specs.Prelude.{sum, codes}
 use Rattle.std.proofs.lemmas.Bool.{ltb-true, and_parts, cases_order}
 use Rattle.std.proofs.lemmas.List.{append-nil, length-replicate}
@@ -7,13 +7,13 @@ use Rattle.std.proofs.lemmas.List.Sums.{sum_by-append}
 use Rattle.std.proofs.lemmas.Nat.{mul-add-lt, mul-le}
 use Rattle.std.proofs.Math.Nat.{mul_comm}
 use Rattle.acpi_base.specs.declared.oem.Oem.{Oem}
-use Rattle.acpi_base.specs.Bytes.{le, put, carried, complement, field_at}
+use Rattle.acpi_base.specs.Bytes.{le, put, complement, field_at}
 use Rattle.acpi_base.specs.Layout.{qword}
 use Rattle.acpi_base.specs.Header.{header}
-use Rattle.acpi_base.specs.Table.{with_checksum, IsTrueTable}
+use Rattle.acpi_base.specs.Table.{with_checksum}
 use Rattle.acpi_base.proofs.Bytes.{carried_le, length_le}
 use Rattle.acpi_base.proofs.Puts.{put-put, length-put, put-append}
-use Rattle.acpi_base.proofs.Tables.{length-header, length-with_checksum, table_is_true}
+use Rattle.acpi_base.proofs.Tables.{length-header, table_is_true}
 use Rattle.acpi_matrices.specs.Slit.{Distances, slit_bytes, slit, place_of, distance, with_distance, IsMatrix, has_cell, DistancesAreTrue, DistancesAreSet, IsSymmetric, oem_of, parts_of, front_of, IsParts}
 use Rattle.acpi_matrices.proofs.Fields.{field_put, field_before, field_after, field_behind, field_filled, same_place}
 

@@ -1,5 +1,5 @@
 -- Structures that tell their length.
-use Rattle.std.proofs.Common.{◌≡◌, ℕ, ◌+◌, ◌*◌, ◌<◌, ◌^◌, refl, sym, ◌∙◌, arith, length}
+use Rattle.std.proofs.Common.{◌≡◌, ◌+◌, ◌^◌, refl, sym, ◌∙◌, arith, length}
 use Rattle.acpi_base.specs.Walk.{told_at, IsPiece}
 use Rattle.acpi_base.proofs.Bytes.{carried_le}
 use Rattle.acpi_matrices.specs.Locality.{Locality, IsLocality, locality_bytes}

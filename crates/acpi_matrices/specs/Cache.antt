@@ -1,4 +1,4 @@
--- Memory Side Cache Information Structure (ACPI 6.5, 5.2.27.5).
+-- Memory Side Cache Information Structure (ACPI 6.5, 5.2.28.5).
 use Rattle.std.specs.Prelude.{◌≡◌, ℕ, ◌+◌, ◌*◌, ◌<◌, List, [], ◌∷◌, ◌++◌, length}
 use Rattle.acpi_base.specs.Layout.{word, dword, qword, zeros, record_of}
 use Rattle.acpi_matrices.specs.declared.hmat.cache.CacheLevel.{CacheLevel}

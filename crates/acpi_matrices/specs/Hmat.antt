@@ -1,4 +1,4 @@
--- The Heterogeneous Memory Attribute Table (ACPI 6.5, 5.2.27).
+-- The Heterogeneous Memory Attribute Table (ACPI 6.5, 5.2.28).
 use Rattle.std.specs.Prelude.{ℕ, ◌^◌, List, [], ◌∷◌, codes}
 use Rattle.acpi_base.specs.Layout.{word, dword, zeros, record_of}
 use Rattle.acpi_base.specs.declared.oem.Oem.{Oem}
@@ -18,7 +18,7 @@ hmat oem = record {
   structures = [];
 }
 
--- Memory Proximity Domain Attributes Structure (5.2.27.3)
+-- Memory Proximity Domain Attributes Structure (5.2.28.3)
 abbrev pub proximity_bytes : MemoryProximityDomain → List ℕ
 proximity_bytes m = record_of
     (word 0  -- 0: Type

@@ -1,4 +1,4 @@
--- System Locality Latency and Bandwidth Information Structure (ACPI 6.5, 5.2.27.4).
+-- System Locality Latency and Bandwidth Information Structure (ACPI 6.5, 5.2.28.4).
 use Rattle.std.specs.Prelude.{◌≡◌, ℕ, ◌+◌, ◌*◌, ◌^◌, ◌<◌, nat_lt, ◌&&◌, Bool, true, false, List, [], ◌∷◌, ◌++◌, length, replicate, Result, OnOk, OnErr, IfErr}
 use Rattle.acpi_base.specs.declared.error.Error.{Error}
 use Rattle.acpi_base.specs.declared.error.Error.TheVariants.{Index}

@@ -10,4 +10,6 @@ mod hest;
 #[cfg(test)]
 mod lists;
 #[cfg(test)]
+mod matrices;
+#[cfg(test)]
 mod vectors;

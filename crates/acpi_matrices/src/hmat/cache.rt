@@ -78,7 +78,7 @@ impl WritePolicy {
     }
 }
 
-/// A cache in front of a memory (Memory Side Cache Information Structure, ACPI 6.5, 5.2.27.5): 32 bytes, and 2 for each SMBIOS
+/// A cache in front of a memory (Memory Side Cache Information Structure, ACPI 6.5, 5.2.28.5): 32 bytes, and 2 for each SMBIOS
 /// handle.
 #[derive(Drop)]
 pub struct MemorySideCache {

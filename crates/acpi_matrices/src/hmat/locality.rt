@@ -70,7 +70,7 @@ const MINIMUM_TRANSFER_SIZE: u8 = 16;
 const NON_SEQUENTIAL: u8 = 32;
 
 /// A matrix of latencies or bandwidths between initiators and targets (System Locality Latency and Bandwidth Information
-/// Structure, ACPI 6.5, 5.2.27.4): 32 bytes, 4 for each initiator and for each target, and 2 for each entry.
+/// Structure, ACPI 6.5, 5.2.28.4): 32 bytes, 4 for each initiator and for each target, and 2 for each entry.
 #[derive(Drop)]
 pub struct SystemLocality {
     flags: u8,
