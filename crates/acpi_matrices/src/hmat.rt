@@ -86,6 +86,7 @@ impl HMAT {
     pub fn add_system_locality(&mut self, locality: SystemLocality) -> R<()>
         ensures { Adds result self.old (whole (locality_bytes locality)) self.new }
     {
+        // what `size` ensures: its lists are as long as its numbers say
         let _ = locality.size();
         self.table.add_object(&locality)
     }
@@ -94,6 +95,7 @@ impl HMAT {
     pub fn add_memory_side_cache(&mut self, cache: MemorySideCache) -> R<()>
         ensures { Adds result self.old (whole (cache_bytes cache)) self.new }
     {
+        // what `size` ensures: its handles are as many as its count says
         let _ = cache.size();
         self.table.add_object(&cache)
     }
