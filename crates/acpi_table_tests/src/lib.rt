@@ -10,6 +10,8 @@ mod hest;
 #[cfg(test)]
 mod lists;
 #[cfg(test)]
+mod matrices;
+#[cfg(test)]
 mod nodes;
 #[cfg(test)]
 mod rqsc;

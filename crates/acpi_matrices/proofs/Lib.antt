@@ -1,0 +1,5 @@
+pub mod Parts
+pub mod Fields
+pub mod Pieces
+pub mod Cells
+pub mod Distances

@@ -1,0 +1,70 @@
+-- Memory Side Cache Information Structure (ACPI 6.5, 5.2.28.5).
+use Rattle.std.specs.Prelude.{◌≡◌, ℕ, ◌+◌, ◌*◌, ◌<◌, List, [], ◌∷◌, ◌++◌, length}
+use Rattle.acpi_base.specs.Layout.{word, dword, qword, zeros, record_of}
+use Rattle.acpi_matrices.specs.declared.hmat.cache.CacheLevel.{CacheLevel}
+use Rattle.acpi_matrices.specs.declared.hmat.cache.CacheLevel.TheVariants as level
+use Rattle.acpi_matrices.specs.declared.hmat.cache.Associativity.{Associativity}
+use Rattle.acpi_matrices.specs.declared.hmat.cache.Associativity.TheVariants as spread
+use Rattle.acpi_matrices.specs.declared.hmat.cache.WritePolicy.{WritePolicy}
+use Rattle.acpi_matrices.specs.declared.hmat.cache.WritePolicy.TheVariants as policy
+
+abbrev pub level_number : CacheLevel → ℕ
+level_number level.None = 0
+level_number level.One = 1
+level_number level.Two = 2
+level_number level.Three = 3
+
+abbrev pub associativity_number : Associativity → ℕ
+associativity_number spread.None = 0
+associativity_number spread.DirectMapped = 1
+associativity_number spread.Complex = 2
+
+abbrev pub policy_number : WritePolicy → ℕ
+policy_number policy.None = 0
+policy_number policy.Writeback = 1
+policy_number policy.Writethrough = 2
+
+-- a cache, and a number of SMBIOS handles of two bytes each
+pub record SideCache : Type 0 where
+  pub domain : ℕ
+  pub cache_size : ℕ
+  pub attributes : ℕ
+  pub count : ℕ
+  pub handles : List ℕ
+
+-- Cache Attributes: bits 0 to 3 the levels, 4 to 7 which of them this is, 8 to 11 the associativity, 12 to 15 the write
+-- policy, 16 to 31 the bytes of a line
+abbrev pub attributes_of : CacheLevel → CacheLevel → Associativity → WritePolicy → ℕ → ℕ
+attributes_of total this associativity policy line =
+    level_number total + 16 * level_number this + 256 * associativity_number associativity + 4096 * policy_number policy + 65536 * line
+
+-- a cache without handles
+abbrev pub cache : ℕ → ℕ → CacheLevel → CacheLevel → Associativity → WritePolicy → ℕ → SideCache
+cache domain cache_size total this associativity policy line = record {
+  domain = domain;
+  cache_size = cache_size;
+  attributes = attributes_of total this associativity policy line;
+  count = 0;
+  handles = [];
+}
+
+-- two bytes a handle, and their number fits its field
+pub record IsCache (c : SideCache) : Type 0 where
+  pub handles : length c.handles ≡ 2 * c.count
+  pub fits : c.count < 65536
+
+abbrev pub cache_head : SideCache → List ℕ
+cache_head c = record_of
+    (word 2  -- 0: Type
+    ∷ zeros 2  -- 2: reserved
+    ∷ dword (32 + length c.handles)  -- 4: Length
+    ∷ dword c.domain  -- 8: Proximity Domain for the Memory
+    ∷ zeros 4  -- 12: reserved
+    ∷ qword c.cache_size  -- 16: Memory Side Cache Size
+    ∷ dword c.attributes  -- 24: Cache Attributes
+    ∷ zeros 2  -- 28: reserved
+    ∷ word c.count  -- 30: Number of SMBIOS Handles
+    ∷ [])
+
+abbrev pub cache_bytes : SideCache → List ℕ
+cache_bytes c = cache_head c ++ c.handles  -- 32: SMBIOS Handles

@@ -1,0 +1,4 @@
+pub mod Hmat
+pub mod Locality
+pub mod Cache
+pub mod Slit

@@ -1,0 +1,160 @@
+-- System Locality Latency and Bandwidth Information Structure (ACPI 6.5, 5.2.28.4).
+use Rattle.std.specs.Prelude.{◌≡◌, ℕ, ◌+◌, ◌*◌, ◌^◌, ◌<◌, nat_lt, ◌&&◌, Bool, true, false, List, [], ◌∷◌, ◌++◌, length, replicate, Result, OnOk, OnErr, IfErr}
+use Rattle.acpi_base.specs.declared.error.Error.{Error}
+use Rattle.acpi_base.specs.declared.error.Error.TheVariants.{Index}
+use Rattle.acpi_base.specs.Bytes.{le, put, field_at}
+use Rattle.acpi_base.specs.Layout.{byte, word, dword, qword, zeros, record_of}
+use Rattle.acpi_matrices.specs.declared.hmat.locality.DataType.{DataType}
+use Rattle.acpi_matrices.specs.declared.hmat.locality.DataType.TheVariants.{AccessLatency, ReadLatency, WriteLatency, AccessBandwidth, ReadBandwidth, WriteBandwidth}
+use Rattle.acpi_matrices.specs.declared.hmat.locality.MinTransferSize.{MinTransferSize}
+use Rattle.acpi_matrices.specs.declared.hmat.locality.MinTransferSize.TheVariants.{SizeByteAligned, Size64b, Size128b, Size256b, Size512b, Size1k, Size2k, Size4k, Size8k, Size16k, Size32k, Size64k}
+use Rattle.acpi_matrices.specs.declared.hmat.locality.LocalityType.{LocalityType}
+use Rattle.acpi_matrices.specs.declared.hmat.locality.LocalityType.TheVariants.{Memory, FirstLevelCache, SecondLevelCache, ThirdLevelCache}
+
+-- Memory Hierarchy: bits 0 to 3 of the flags
+abbrev pub hierarchy_number : LocalityType → ℕ
+hierarchy_number Memory = 0
+hierarchy_number FirstLevelCache = 1
+hierarchy_number SecondLevelCache = 2
+hierarchy_number ThirdLevelCache = 3
+
+abbrev pub data_type_number : DataType → ℕ
+data_type_number AccessLatency = 0
+data_type_number ReadLatency = 1
+data_type_number WriteLatency = 2
+data_type_number AccessBandwidth = 3
+data_type_number ReadBandwidth = 4
+data_type_number WriteBandwidth = 5
+
+abbrev pub transfer_number : MinTransferSize → ℕ
+transfer_number SizeByteAligned = 0
+transfer_number Size64b = 1
+transfer_number Size128b = 2
+transfer_number Size256b = 3
+transfer_number Size512b = 4
+transfer_number Size1k = 5
+transfer_number Size2k = 6
+transfer_number Size4k = 7
+transfer_number Size8k = 8
+transfer_number Size16k = 9
+transfer_number Size32k = 10
+transfer_number Size64k = 11
+
+-- A matrix over so many initiators and targets. Its lists are bytes, one list after another: the initiators' domains of four
+-- bytes each, the targets' domains of four, the entries of two, row by initiator.
+pub record Locality : Type 0 where
+  pub flags : ℕ
+  pub data_type : DataType
+  pub transfer : MinTransferSize
+  pub unit : ℕ
+  pub initiators : ℕ
+  pub targets : ℕ
+  pub lists : List ℕ
+
+-- how many bytes the lists have
+abbrev pub lists_size : ℕ → ℕ → ℕ
+lists_size initiators targets = 4 * initiators + 4 * targets + 2 * (initiators * targets)
+
+-- how many bytes the structure has
+abbrev pub locality_size : ℕ → ℕ → ℕ
+locality_size initiators targets = 32 + lists_size initiators targets
+
+-- each domain 0, each entry 0xffff
+abbrev pub locality : LocalityType → DataType → MinTransferSize → ℕ → ℕ → ℕ → Locality
+locality hierarchy data_type transfer unit initiators targets = record {
+  flags = hierarchy_number hierarchy;
+  data_type = data_type;
+  transfer = transfer;
+  unit = unit;
+  initiators = initiators;
+  targets = targets;
+  lists = zeros (4 * initiators + 4 * targets) ++ replicate (2 * (initiators * targets)) 255;
+}
+
+-- the lists have their bytes, and the size fits its field
+pub record IsLocality (l : Locality) : Type 0 where
+  pub lists : length l.lists ≡ lists_size l.initiators l.targets
+  pub fits : locality_size l.initiators l.targets < 2 ^ 32
+
+abbrev pub locality_head : Locality → List ℕ
+locality_head l = record_of
+    (word 1  -- 0: Type
+    ∷ zeros 2  -- 2: reserved
+    ∷ dword (32 + length l.lists)  -- 4: Length
+    ∷ byte l.flags  -- 8: Flags
+    ∷ byte (data_type_number l.data_type)  -- 9: Data Type
+    ∷ byte (transfer_number l.transfer)  -- 10: MinTransferSize
+    ∷ byte 0  -- 11: reserved
+    ∷ dword l.initiators  -- 12: Number of Initiator Proximity Domains
+    ∷ dword l.targets  -- 16: Number of Target Proximity Domains
+    ∷ zeros 4  -- 20: reserved
+    ∷ qword l.unit  -- 24: Entry Base Unit
+    ∷ [])
+
+abbrev pub locality_bytes : Locality → List ℕ
+locality_bytes l = locality_head l ++ l.lists  -- 32: Initiator List, Target List, Entries
+
+-- ---- cells
+
+-- one cell: an initiator's domain, a target's, or the entry of an initiator and a target
+pub data Cell : Type 0 where
+  initiator_at : ℕ → Cell
+  target_at : ℕ → Cell
+  entry_at : ℕ → ℕ → Cell
+
+abbrev pub has_cell : Locality → Cell → Bool
+has_cell l (initiator_at i) = nat_lt i l.initiators
+has_cell l (target_at t) = nat_lt t l.targets
+has_cell l (entry_at i t) = nat_lt i l.initiators && nat_lt t l.targets
+
+-- where it stands in the lists of so many initiators and targets
+abbrev pub place_of : ℕ → ℕ → Cell → ℕ
+place_of initiators targets (initiator_at i) = 4 * i
+place_of initiators targets (target_at t) = 4 * initiators + 4 * t
+place_of initiators targets (entry_at i t) = 4 * initiators + 4 * targets + 2 * (i * targets + t)
+
+-- how many bytes it has
+abbrev pub width_of : Cell → ℕ
+width_of (initiator_at i) = 4
+width_of (target_at t) = 4
+width_of (entry_at i t) = 2
+
+-- its value
+abbrev pub value_at : Locality → Cell → ℕ
+value_at l cell = field_at (place_of l.initiators l.targets cell) (width_of cell) l.lists
+
+abbrev pub with_value : Locality → Cell → ℕ → Locality
+with_value l cell value = record {
+  flags = l.flags;
+  data_type = l.data_type;
+  transfer = l.transfer;
+  unit = l.unit;
+  initiators = l.initiators;
+  targets = l.targets;
+  lists = put (place_of l.initiators l.targets cell) (le (width_of cell) value) l.lists;
+}
+
+-- A cell was set, or there is no such cell and nothing changed.
+pub record Sets (result : Result Unit Error) (old : Locality) (cell : Cell) (value : ℕ) (new : Locality) : Type 0 where
+  pub ok : OnOk result (new ≡ with_value old cell value)
+  pub inside : OnOk result (has_cell old cell ≡ true)
+  pub err : OnErr result (new ≡ old)
+  pub cause : IfErr result (λ e. (e ≡ Index) × (has_cell old cell ≡ false))
+
+-- The cell that is set has the value, and every other cell the one that it had.
+abbrev pub CellsAreSet : Type 0
+CellsAreSet =
+    (l : Locality) (cell other : Cell) (value : ℕ) → IsLocality l → has_cell l cell ≡ true → has_cell l other ≡ true → value < 256 ^ width_of cell
+    → IsLocality (with_value l cell value) × (value_at (with_value l cell value) cell ≡ value) × ((other ≡ cell → ⊥) → value_at (with_value l cell value) other ≡ value_at l other)
+
+-- what a cell of a new matrix holds
+abbrev pub first_value : Cell → ℕ
+first_value (initiator_at i) = 0
+first_value (target_at t) = 0
+first_value (entry_at i t) = 0xffff
+
+abbrev pub NewCellsAreUnreachable : Type 0
+NewCellsAreUnreachable =
+    (hierarchy : LocalityType) (data_type : DataType) (transfer : MinTransferSize) (unit initiators targets : ℕ) (cell : Cell)
+    → has_cell (locality hierarchy data_type transfer unit initiators targets) cell ≡ true
+    → value_at (locality hierarchy data_type transfer unit initiators targets) cell ≡ first_value cell

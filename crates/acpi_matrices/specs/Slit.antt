@@ -1,0 +1,111 @@
+-- The System Locality Information Table (ACPI 6.5, 5.2.17).
+use Rattle.std.specs.Prelude.{◌≡◌, ℕ, ◌+◌, ◌-◌, ◌*◌, ◌%◌, ◌<◌, nat_lt, ◌&&◌, ◌==◌, Bool, true, false, List, [], ◌∷◌, ◌++◌, codes, length, take, drop, sum, replicate, if◌then◌else◌, Result, OnOk, OnErr, IfErr}
+use Rattle.acpi_base.specs.declared.error.Error.{Error}
+use Rattle.acpi_base.specs.declared.error.Error.TheVariants.{Index}
+use Rattle.acpi_base.specs.declared.oem.Oem.{Oem}
+use Rattle.acpi_base.specs.Bytes.{put, field_at}
+use Rattle.acpi_base.specs.Header.{header}
+use Rattle.acpi_base.specs.Layout.{qword}
+use Rattle.acpi_base.specs.Table.{table_of, IsTrueTable}
+
+-- The distances between so many localities, one byte each: that of a and b at a + localities * b.
+pub record Distances : Type 0 where
+  pub oem : Oem
+  pub localities : ℕ
+  pub cells : List ℕ
+
+-- the same, and how many bytes were summed for it
+pub record Counted : Type 0 where
+  pub table : Distances
+  pub summed : ℕ
+
+-- The table's bytes: it tells their number at 4, and the byte at 9 makes their sum zero.
+abbrev pub slit_bytes : Distances → List ℕ
+slit_bytes t = table_of (codes "SLIT") 1 t.oem
+    (qword t.localities  -- 36: Number of System Localities
+    ++ t.cells)  -- 44: Entries
+
+-- all distances 10, which is that of a locality to itself
+abbrev pub slit : Oem → ℕ → Distances
+slit oem localities = record { oem = oem; localities = localities; cells = replicate (localities * localities) 10 }
+
+-- where the distance of two localities stands among the cells
+abbrev pub place_of : ℕ → ℕ → ℕ → ℕ
+place_of localities a b = a + localities * b
+
+-- the distance of two localities
+abbrev pub distance : Distances → ℕ → ℕ → ℕ
+distance t a b = field_at (place_of t.localities a b) 1 t.cells
+
+-- both distances of two localities set
+abbrev pub with_distance : Distances → ℕ → ℕ → ℕ → Distances
+with_distance t a b value = record {
+  oem = t.oem;
+  localities = t.localities;
+  cells = put (place_of t.localities b a) (value ∷ []) (put (place_of t.localities a b) (value ∷ []) t.cells);
+}
+
+-- The header's values have their fields' widths, there is a cell for any two localities, two have one distance either way,
+-- and the length fits its field.
+pub record IsMatrix (t : Distances) : Type 0 where
+  pub id : length t.oem.id ≡ 6
+  pub table_id : length t.oem.table_id ≡ 8
+  pub square : length t.cells ≡ t.localities * t.localities
+  pub fits : t.localities < 65536
+  pub symmetric : (a b : ℕ) → a < t.localities → b < t.localities → distance t a b ≡ distance t b a
+
+abbrev pub has_cell : Distances → ℕ → ℕ → Bool
+has_cell t a b = nat_lt a t.localities && nat_lt b t.localities
+
+-- how many bytes are summed for a distance that is set: the old and the new one, either way, or once for a locality's own
+abbrev pub cost_of : ℕ → ℕ → ℕ
+cost_of a b = if a == b then 2 else 4
+
+-- A distance was set, or there are no such localities and nothing changed.
+pub record SetsDistance (result : Result Unit Error) (old : Counted) (a b value : ℕ) (new : Counted) : Type 0 where
+  pub ok : OnOk result (new.table ≡ with_distance old.table a b value)
+  pub inside : OnOk result (has_cell old.table a b ≡ true)
+  pub err : OnErr result (new ≡ old)
+  pub cause : IfErr result (λ e. (e ≡ Index) × (has_cell old.table a b ≡ false))
+  pub cost : OnOk result (new.summed ≡ old.summed + cost_of a b)
+
+-- ---- laws
+
+-- A matrix's bytes are a table's, and 44 and its cells.
+abbrev pub DistancesAreTrue : Type 0
+DistancesAreTrue = (t : Distances) → IsMatrix t → IsTrueTable (slit_bytes t) × (length (slit_bytes t) ≡ 44 + t.localities * t.localities)
+
+-- The distance that is set holds either way, all others are as they were, and what is symmetric stays so.
+abbrev pub DistancesAreSet : Type 0
+DistancesAreSet =
+    (t : Distances) (a b value : ℕ) → IsMatrix t → has_cell t a b ≡ true
+    → IsMatrix (with_distance t a b value)
+    × (distance (with_distance t a b value) a b ≡ value)
+    × (distance (with_distance t a b value) b a ≡ value)
+    × ((c d : ℕ) → has_cell t c d ≡ true → ((c ≡ a) × (d ≡ b) → ⊥) → ((c ≡ b) × (d ≡ a) → ⊥) → distance (with_distance t a b value) c d ≡ distance t c d)
+
+-- In a table's bytes the distances stand from 44 on, and two localities have one either way.
+pub record IsSymmetric (t : Distances) : Type 0 where
+  pub cells : (a b : ℕ) → has_cell t a b ≡ true → field_at (44 + place_of t.localities a b) 1 (slit_bytes t) ≡ distance t a b
+  pub mirrored : (a b : ℕ) → has_cell t a b ≡ true → field_at (44 + place_of t.localities a b) 1 (slit_bytes t) ≡ field_at (44 + place_of t.localities b a) 1 (slit_bytes t)
+
+-- ---- in parts
+
+-- whose table it is, as its header tells
+abbrev pub oem_of : List ℕ → Oem
+oem_of fixed = record { id = take 6 (drop 10 fixed); table_id = take 8 (drop 16 fixed); revision = field_at 24 4 fixed }
+
+-- a table whose parts are these: the header with the number of localities, and the cells
+abbrev pub parts_of : List ℕ → ℕ → List ℕ → Distances
+parts_of fixed localities cells = record { oem = oem_of fixed; localities = localities; cells = cells }
+
+-- the header with a checksum of 0, and the number of localities
+abbrev pub front_of : Distances → List ℕ
+front_of t = header (codes "SLIT") (36 + length (qword t.localities ++ t.cells)) 1 t.oem ++ qword t.localities
+
+-- The parts are a matrix and what stands before its cells, with the checksum of a sum, which is that of all bytes but the
+-- checksum.
+pub record IsParts (fixed : List ℕ) (localities : ℕ) (cells : List ℕ) (running : ℕ) : Type 0 where
+  pub is : IsMatrix (parts_of fixed localities cells)
+  pub front : fixed ≡ put 9 ((256 - running) % 256 ∷ []) (front_of (parts_of fixed localities cells))
+  pub sums : running ≡ sum (front_of (parts_of fixed localities cells) ++ cells) % 256

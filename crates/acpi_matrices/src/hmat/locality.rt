@@ -1,0 +1,240 @@
+//! Matrices of latencies and bandwidths.
+
+ghost use Rattle.std.specs.Prelude.{◌≡◌, ◌≢◌, ◌+◌, ◌-◌, ◌*◌, ◌^◌, ◌<◌, ◌≤◌, ◌++◌, bit_or, length, replicate, IfOk, OnOk, IfErr};
+ghost use Rattle.acpi_base.specs.Object.{whole, whole_ends_well};
+ghost use Rattle.acpi_base.specs.Layout.{zeros};
+ghost use Rattle.acpi_matrices.specs.Locality.{hierarchy_number, lists_size, locality_size, locality, locality_head, locality_bytes, IsLocality, Sets, initiator_at, target_at, entry_at};
+
+use acpi_base::error::{Error, R};
+use acpi_base::object::Aml;
+use acpi_base::parts::write_parts;
+use acpi_base::patch::write_at;
+use acpi_base::record::{Field, record};
+use acpi_base::sink::AmlSink;
+use std::alloc::Global;
+use std::marker::Model;
+
+/// Which memory or cache a matrix is about (flag bits 0 to 3).
+#[derive(Drop)]
+pub enum LocalityType {
+    Memory = 0,
+    FirstLevelCache = 1,
+    SecondLevelCache = 2,
+    ThirdLevelCache = 3,
+}
+
+impl LocalityType {
+    fn number(self) -> u8
+        ensures { result ≡ hierarchy_number self }
+    {
+        match self {
+            LocalityType::Memory => 0,
+            LocalityType::FirstLevelCache => 1,
+            LocalityType::SecondLevelCache => 2,
+            LocalityType::ThirdLevelCache => 3,
+        }
+    }
+}
+
+/// What the entries of a matrix are (offset 9). Those of access hold for reading and for writing.
+#[derive(Clone, Copy, Debug)]
+pub enum DataType {
+    AccessLatency = 0,
+    ReadLatency = 1,
+    WriteLatency = 2,
+    AccessBandwidth = 3,
+    ReadBandwidth = 4,
+    WriteBandwidth = 5,
+}
+
+/// From which size of transfers on the entries hold (offset 10).
+#[derive(Clone, Copy, Debug)]
+pub enum MinTransferSize {
+    SizeByteAligned = 0,
+    Size64b = 1,
+    Size128b = 2,
+    Size256b = 3,
+    Size512b = 4,
+    Size1k = 5,
+    Size2k = 6,
+    Size4k = 7,
+    Size8k = 8,
+    Size16k = 9,
+    Size32k = 10,
+    Size64k = 11,
+}
+
+/// Flags beside the locality type (offset 8).
+const MINIMUM_TRANSFER_SIZE: u8 = 16;
+
+const NON_SEQUENTIAL: u8 = 32;
+
+/// A matrix of latencies or bandwidths between initiators and targets (System Locality Latency and Bandwidth Information
+/// Structure, ACPI 6.5, 5.2.28.4): 32 bytes, 4 for each initiator and for each target, and 2 for each entry.
+#[derive(Drop)]
+pub struct SystemLocality {
+    flags: u8,
+    data_type: DataType,
+    transfer: MinTransferSize,
+    unit: u64,
+    initiators: u32,
+    targets: u32,
+    lists: Vec<u8>,
+}
+
+impl Model for SystemLocality {
+    ghost use Rattle.acpi_matrices.specs.Locality.{Locality, IsLocality};
+
+    ghost Value = { Locality };
+
+    ghost view = { λ l. record { flags = l.flags; data_type = l.data_type; transfer = l.transfer; unit = l.unit; initiators = l.initiators; targets = l.targets; lists = l.lists.items } };
+
+    ghost invariant = { λ l. IsLocality (record { flags = l.flags; data_type = l.data_type; transfer = l.transfer; unit = l.unit; initiators = l.initiators; targets = l.targets; lists = l.lists.items }) };
+}
+
+// How many bytes the lists of so many initiators and targets have. Matrix where the structure's size would reach 2^32.
+fn size_of_lists(initiators: usize, targets: usize) -> R<usize>
+    ensures size { IfOk result (λ size. size ≡ lists_size initiators targets) }
+    ensures ok { OnOk result (locality_size initiators targets < 2 ^ 32) }
+    ensures err { IfErr result (λ e. (e ≡ Error.Matrix) × (2 ^ 32 ≤ locality_size initiators targets)) }
+{
+    if initiators >= 0x4000_0000 || targets >= 0x4000_0000 {
+        return Err(Error::Matrix);
+    }
+    let size = 4 * initiators + 4 * targets + 2 * (initiators * targets);
+    if size >= 0x1_0000_0000 - 32 {
+        return Err(Error::Matrix);
+    }
+    Ok(size)
+}
+
+// The lists of a new matrix: so many bytes of domains, and behind them those of the entries.
+fn new_lists(alloc: Global, domains: usize, size: usize) -> R<Vec<u8>>
+    requires { domains ≤ size }
+    ensures bytes { IfOk result (λ v. v.items ≡ zeros domains ++ replicate (size - domains) 255) }
+    ensures len { IfOk result (λ v. length v.items ≡ size) }
+    ensures err { IfErr result (λ e. e ≡ Error.Memory) }
+{
+    let mut lists = Vec::with_capacity(alloc, size)?;
+    lists.resize(domains, 0)?;
+    lists.resize(size, 0xff)?;
+    Ok(lists)
+}
+
+impl SystemLocality {
+    /// A matrix over so many initiators and targets, whose entries count in units of `entry_base_unit` picoseconds or
+    /// megabytes a second. Each domain is 0, and each entry 0xffff: unreachable. Matrix where its size would reach 2^32.
+    pub fn new(
+        alloc: Global,
+        loc_type: LocalityType,
+        data_type: DataType,
+        min_transfer_size: MinTransferSize,
+        entry_base_unit: u64,
+        num_initiators: usize,
+        num_targets: usize,
+    ) -> R<SystemLocality>
+        ensures ok { IfOk result (λ l. l ≡ locality loc_type data_type min_transfer_size entry_base_unit num_initiators num_targets) }
+        ensures fits { OnOk result (locality_size num_initiators num_targets < 2 ^ 32) }
+        ensures err { IfErr result (λ e. e ≢ Error.Memory → (e ≡ Error.Matrix) × (2 ^ 32 ≤ locality_size num_initiators num_targets)) }
+    {
+        let size = size_of_lists(num_initiators, num_targets)?;
+        let lists = new_lists(alloc, 4 * num_initiators + 4 * num_targets, size)?;
+        Ok(SystemLocality {
+            flags: loc_type.number(),
+            data_type,
+            transfer: min_transfer_size,
+            unit: entry_base_unit,
+            initiators: num_initiators as u32,
+            targets: num_targets as u32,
+            lists,
+        })
+    }
+
+    /// The entries hold for transfers that aren't sequential (flag 32).
+    pub fn non_sequential_transfers(&mut self)
+        ensures { self.new ≡ record self.old { flags = bit_or self.old.flags 32 } }
+    {
+        self.flags |= NON_SEQUENTIAL;
+    }
+
+    /// The entries hold from the minimum transfer size on alone (flag 16).
+    pub fn minimum_transfer_size_required(&mut self)
+        ensures { self.new ≡ record self.old { flags = bit_or self.old.flags 16 } }
+    {
+        self.flags |= MINIMUM_TRANSFER_SIZE;
+    }
+
+    /// Sets the proximity domain of an initiator. Index where there is no such initiator, and nothing changes then.
+    pub fn set_initiator_value(&mut self, idx: usize, value: u32) -> R<()>
+        ensures { Sets result self.old (initiator_at idx) value self.new }
+    {
+        if idx >= self.initiators as usize {
+            return Err(Error::Index);
+        }
+        write_at(&mut self.lists, 4 * idx, &value.to_le_bytes());
+        Ok(())
+    }
+
+    /// Sets the proximity domain of a target. Index where there is no such target, and nothing changes then.
+    pub fn set_target_value(&mut self, idx: usize, value: u32) -> R<()>
+        ensures { Sets result self.old (target_at idx) value self.new }
+    {
+        if idx >= self.targets as usize {
+            return Err(Error::Index);
+        }
+        let place = 4 * self.initiators as usize + 4 * idx;
+        write_at(&mut self.lists, place, &value.to_le_bytes());
+        Ok(())
+    }
+
+    /// Sets the entry of an initiator and a target. Index where there is no such initiator or target, and nothing changes then.
+    pub fn set_entry_value(&mut self, initiator_idx: usize, target_idx: usize, value: u16) -> R<()>
+        ensures { Sets result self.old (entry_at initiator_idx target_idx) value self.new }
+    {
+        let initiators = self.initiators as usize;
+        let targets = self.targets as usize;
+        if initiator_idx >= initiators || target_idx >= targets {
+            return Err(Error::Index);
+        }
+        let place = 4 * initiators + 4 * targets + 2 * (initiator_idx * targets + target_idx);
+        write_at(&mut self.lists, place, &value.to_le_bytes());
+        Ok(())
+    }
+
+    // How many bytes it has.
+    pub(crate) fn size(&self) -> u32
+        ensures size { result ≡ 32 + length self.now.lists }
+        ensures is { IsLocality self.now }
+    {
+        32 + self.lists.len() as u32
+    }
+
+    // The structure's bytes before its lists.
+    fn head(&self) -> [u8; 32]
+        ensures { result ≡ locality_head self.now }
+    {
+        record(&[
+            Field::Word(1),
+            Field::Word(0),
+            Field::DWord(self.size()),
+            Field::Byte(self.flags),
+            Field::Byte(self.data_type as u8),
+            Field::Byte(self.transfer as u8),
+            Field::Byte(0),
+            Field::DWord(self.initiators),
+            Field::DWord(self.targets),
+            Field::DWord(0),
+            Field::QWord(self.unit),
+        ])
+    }
+}
+
+impl Aml for SystemLocality {
+    ghost object = { λ l. whole (locality_bytes l) };
+
+    ghost ends_well = { λ l. whole_ends_well (locality_bytes l) };
+
+    fn to_aml_bytes(&self, sink: &mut dyn AmlSink) -> R<()> {
+        write_parts(sink, &[&self.head(), &self.lists])
+    }
+}

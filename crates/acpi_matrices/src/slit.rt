@@ -1,0 +1,170 @@
+//! SLIT: how far localities are from each other.
+
+ghost use Rattle.std.specs.Prelude.{◌≡◌, ◌≢◌, ◌+◌, ◌*◌, ◌%◌, ◌≤◌, ◌<◌, [], ◌∷◌, length, replicate, sum, IfOk, OnOk, IfErr};
+ghost use Rattle.acpi_base.specs.Bytes.{put};
+ghost use Rattle.acpi_base.specs.Object.{whole, whole_ends_well};
+ghost use Rattle.acpi_base.specs.Table.{IsTrueTable};
+ghost use Rattle.acpi_matrices.specs.Slit.{slit, slit_bytes, place_of, cost_of, SetsDistance, DistancesAreTrue, DistancesAreSet, IsSymmetric};
+
+use acpi_base::error::{Error, R};
+use acpi_base::header::{header, seal};
+use acpi_base::object::Aml;
+use acpi_base::oem::Oem;
+use acpi_base::parts::write_parts;
+use acpi_base::patch::{patch, write_at};
+use acpi_base::record::{Field, record};
+use acpi_base::sink::AmlSink;
+use acpi_base::sum::Sum;
+use std::alloc::Global;
+use std::marker::Model;
+
+/// The distance of a locality that can't be reached (ACPI 6.5, 5.2.17).
+pub const UNREACHABLE_LOCALITY: u8 = 255;
+
+/// The System Locality Information Table (ACPI 6.5, 5.2.17): the number of localities at offset 36, and from offset 44 on the
+/// distances, one byte each: that of `a` and `b` at 44 + a + localities * b. It is the same either way. The checksum is true
+/// after every call.
+#[derive(Drop)]
+pub struct SLIT {
+    fixed: [u8; 44],
+    cells: Vec<u8>,
+    sum: Sum,
+    localities: u32,
+}
+
+impl Model for SLIT {
+    ghost use Rattle.acpi_matrices.specs.Slit.{Counted, parts_of, IsParts};
+
+    ghost Value = { Counted };
+
+    ghost view = { λ t. record { table = parts_of t.fixed t.localities t.cells.items; summed = t.sum.summed } };
+
+    ghost invariant = { λ t. IsParts t.fixed t.localities t.cells.items t.sum.value };
+}
+
+impl Aml for SLIT {
+    ghost object = { λ t. whole (slit_bytes t.table) };
+
+    ghost ends_well = { λ t. whole_ends_well (slit_bytes t.table) };
+
+    fn to_aml_bytes(&self, sink: &mut dyn AmlSink) -> R<()> {
+        write_parts(sink, &[&self.fixed, &self.cells])
+    }
+}
+
+// Where the distance of two localities stands among the cells.
+fn place(localities: usize, a: usize, b: usize) -> usize
+    requires { (a < localities) × ((b < localities) × (localities < 65536)) }
+    ensures place { result ≡ place_of localities a b }
+    ensures within { result < localities * localities }
+{
+    a + localities * b
+}
+
+// Sets both distances of two localities, and keeps a sum of all bytes true.
+fn set_cells(cells: &mut [u8], running: &mut Sum, localities: usize, a: usize, b: usize, value: u8)
+    requires inside { (a < localities) × ((b < localities) × (localities < 65536)) }
+    requires square { length cells.old ≡ localities * localities }
+    ensures cells { cells.new ≡ put (place_of localities b a) (value ∷ []) (put (place_of localities a b) (value ∷ []) cells.old) }
+    ensures sum { (running.new.value + sum cells.old) % 256 ≡ (running.old.value + sum cells.new) % 256 }
+    ensures range { running.new.value < 256 }
+    ensures counted { running.new.summed ≡ running.old.summed + cost_of a b }
+{
+    patch(cells, running, place(localities, a, b), &[value]);
+    if a != b {
+        patch(cells, running, place(localities, b, a), &[value]);
+    }
+}
+
+// So many cells of distance 10.
+fn new_cells(alloc: Global, size: usize) -> R<Vec<u8>>
+    ensures cells { IfOk result (λ v. v.items ≡ replicate size 10) }
+    ensures err { IfErr result (λ e. e ≡ Error.Memory) }
+{
+    let mut cells = Vec::new(alloc);
+    cells.resize(size, 10)?;
+    Ok(cells)
+}
+
+impl SLIT {
+    /// A table of so many localities, whose distances are all 10. Matrix past 65,535 localities. It takes the memory of its
+    /// cells, and none for no localities.
+    pub fn new(
+        alloc: Global,
+        oem_id: [u8; 6],
+        oem_table_id: [u8; 8],
+        oem_revision: u32,
+        localities: u32,
+    ) -> R<SLIT>
+        ensures ok { IfOk result (λ t. t.table ≡ slit (record { id = oem_id; table_id = oem_table_id; revision = oem_revision }) localities) }
+        ensures fits { OnOk result (localities < 65536) }
+        ensures err { IfErr result (λ e. e ≢ Error.Memory → (e ≡ Error.Matrix) × (65536 ≤ localities)) }
+    {
+        if localities > 65_535 {
+            return Err(Error::Matrix);
+        }
+        let size = localities as usize * localities as usize;
+        let cells = new_cells(alloc, size)?;
+        let oem = Oem {
+            id: oem_id,
+            table_id: oem_table_id,
+            revision: oem_revision,
+        };
+        let head = header(*b"SLIT", 44 + size as u32, 1, oem);
+        let mut fixed = record(&[Field::Bytes(&head), Field::QWord(u64::from(localities))]);
+        let mut sum = seal(&mut fixed);
+        sum.add(&cells);
+        write_at(&mut fixed, 9, &[sum.checksum()]);
+        Ok(SLIT {
+            fixed,
+            cells,
+            sum,
+            localities,
+        })
+    }
+
+    /// Sets the distance of two localities, either way. Index where there is no such locality, and nothing changes then. It
+    /// takes no memory.
+    pub fn set_distance(&mut self, domain_a: usize, domain_b: usize, locality_value: u8) -> R<()>
+        ensures { SetsDistance result self.old domain_a domain_b locality_value self.new }
+    {
+        let localities = self.localities as usize;
+        if domain_a >= localities || domain_b >= localities {
+            return Err(Error::Index);
+        }
+        set_cells(
+            &mut self.cells,
+            &mut self.sum,
+            localities,
+            domain_a,
+            domain_b,
+            locality_value,
+        );
+        write_at(&mut self.fixed, 9, &[self.sum.checksum()]);
+        Ok(())
+    }
+}
+
+/// A law: after any calls the table's bytes are a true table's.
+pub fn slit_is_true(table: &SLIT)
+    ensures { IsTrueTable (slit_bytes table.now.table) }
+{
+    let _ = &table.cells;
+}
+
+/// A law: after any calls the distances stand in the table's bytes from 44 on, and two localities have one either way.
+pub fn slit_is_symmetric(table: &SLIT)
+    ensures { IsSymmetric table.now.table }
+{
+    let _ = &table.cells;
+}
+
+/// A law: the bytes of a symmetric matrix of at most 65,535 localities are a true table's: 44, and one for each distance.
+pub fn distances_are_true()
+    ensures { DistancesAreTrue }
+{}
+
+/// A law: the distance that a call sets holds either way, all others are as they were, and a symmetric matrix stays one.
+pub fn distances_are_set()
+    ensures { DistancesAreSet }
+{}

@@ -1,0 +1,4 @@
+//! Tables of matrices.
+
+mod hmat;
+mod slit;

@@ -1,0 +1,427 @@
+//! HMAT and its structures.
+
+use crate::vectors::{OEM, OEM_REVISION, OEM_TABLE, many, writes};
+use acpi_tables::hmat::{
+    Associativity, CacheLevel, DataType, HMAT, LocalityType, MemoryProximityDomain,
+    MemorySideCache, MinTransferSize, SystemLocality, WritePolicy,
+};
+use acpi_tables::{Aml, Error, R};
+use std::alloc::Global;
+use std::process::Abort;
+use std::test::Fail;
+
+fn table(alloc: Global) -> HMAT {
+    HMAT::new(alloc, OEM, OEM_TABLE, OEM_REVISION)
+}
+
+fn locality(alloc: Global, initiators: usize, targets: usize) -> R<SystemLocality> {
+    SystemLocality::new(
+        alloc,
+        LocalityType::ThirdLevelCache,
+        DataType::WriteBandwidth,
+        MinTransferSize::Size64k,
+        0x0807_0605_0403_0201,
+        initiators,
+        targets,
+    )
+}
+
+#[test]
+fn no_structures(rt: HostRuntime) -> Result<(), Fail> {
+    let alloc = rt.alloc();
+    writes(
+        &rt,
+        alloc,
+        &table(alloc),
+        b"HMAT\x28\0\0\0\x01\x61FOOBARCAFEDEAD\xef\xbe\xad\xdeRVAT\0\0\0\x01\0\0\0\0",
+    )
+}
+
+#[test]
+fn proximities(rt: HostRuntime) -> Result<(), Fail> {
+    let alloc = rt.alloc();
+    let domain = MemoryProximityDomain::new(0x0403_0201, 0x1413_1211);
+    let bytes =
+        b"\0\0\0\0\x28\0\0\0\x01\0\0\0\x01\x02\x03\x04\x11\x12\x13\x14\0\0\0\0\0\0\0\0\0\0\0\0\0\0\0\0\0\0\0\0";
+    writes(&rt, alloc, &domain, bytes)?;
+    let mut hmat = table(alloc);
+    for _ in 0..300u16 {
+        hmat.add_memory_proximity(domain)?;
+    }
+    many(&rt, alloc, &hmat, b"HMAT", 1, &[0; 4], bytes, 300)
+}
+
+#[test]
+fn three_by_two(rt: HostRuntime) -> Result<(), Fail> {
+    let alloc = rt.alloc();
+    let mut made = locality(alloc, 3, 2)?;
+    writes(
+        &rt,
+        alloc,
+        &made,
+        b"\x01\0\0\0\x40\0\0\0\x03\x05\x0b\0\x03\0\0\0\x02\0\0\0\0\0\0\0\x01\x02\x03\x04\x05\x06\x07\x08\0\0\0\0\0\0\0\0\0\0\0\0\0\0\0\0\0\0\0\0\xff\xff\xff\xff\xff\xff\xff\xff\xff\xff\xff\xff",
+    )?;
+    made.set_entry_value(2, 1, 10)?;
+    let last =
+        b"\x01\0\0\0\x40\0\0\0\x03\x05\x0b\0\x03\0\0\0\x02\0\0\0\0\0\0\0\x01\x02\x03\x04\x05\x06\x07\x08\0\0\0\0\0\0\0\0\0\0\0\0\0\0\0\0\0\0\0\0\xff\xff\xff\xff\xff\xff\xff\xff\xff\xff\x0a\0";
+    writes(&rt, alloc, &made, last)?;
+    assert_eq!(&rt; made.set_entry_value(0, 2, 1), Err(Error::Index));
+    assert_eq!(&rt; made.set_entry_value(3, 0, 1), Err(Error::Index));
+    assert_eq!(&rt;
+        made.set_entry_value(usize::MAX, usize::MAX, 1),
+        Err(Error::Index)
+    );
+    assert_eq!(&rt; made.set_initiator_value(3, 1), Err(Error::Index));
+    assert_eq!(&rt; made.set_initiator_value(usize::MAX, 1), Err(Error::Index));
+    assert_eq!(&rt; made.set_target_value(2, 1), Err(Error::Index));
+    assert_eq!(&rt; made.set_target_value(usize::MAX, 1), Err(Error::Index));
+    writes(&rt, alloc, &made, last)?;
+    made.set_initiator_value(0, 0x2423_2221)?;
+    made.set_initiator_value(1, 0x3433_3231)?;
+    made.set_initiator_value(2, 0x4443_4241)?;
+    made.set_target_value(0, 0x5453_5251)?;
+    made.set_target_value(1, 0x6463_6261)?;
+    made.set_entry_value(0, 0, 0x7271)?;
+    made.set_entry_value(0, 1, 0x8281)?;
+    made.set_entry_value(1, 0, 0x9291)?;
+    made.set_entry_value(1, 1, 0xa2a1)?;
+    made.set_entry_value(2, 0, 0xb2b1)?;
+    made.set_entry_value(2, 1, 0xc2c1)?;
+    let full =
+        b"\x01\0\0\0\x40\0\0\0\x03\x05\x0b\0\x03\0\0\0\x02\0\0\0\0\0\0\0\x01\x02\x03\x04\x05\x06\x07\x08!\x22#$1234ABCDQRSTabcd\x71\x72\x81\x82\x91\x92\xa1\xa2\xb1\xb2\xc1\xc2";
+    writes(&rt, alloc, &made, full)?;
+    let mut hmat = table(alloc);
+    hmat.add_system_locality(made)?;
+    many(&rt, alloc, &hmat, b"HMAT", 1, &[0; 4], full, 1)
+}
+
+#[test]
+fn rows_and_columns(rt: HostRuntime) -> Result<(), Fail> {
+    let alloc = rt.alloc();
+    // one row of three targets
+    let mut row = locality(alloc, 1, 3)?;
+    row.set_entry_value(0, 1, 0x0201)?;
+    row.set_target_value(2, 7)?;
+    assert_eq!(&rt; row.set_entry_value(1, 0, 1), Err(Error::Index));
+    assert_eq!(&rt; row.set_initiator_value(1, 1), Err(Error::Index));
+    writes(
+        &rt,
+        alloc,
+        &row,
+        b"\x01\0\0\0\x36\0\0\0\x03\x05\x0b\0\x01\0\0\0\x03\0\0\0\0\0\0\0\x01\x02\x03\x04\x05\x06\x07\x08\0\0\0\0\0\0\0\0\0\0\0\0\x07\0\0\0\xff\xff\x01\x02\xff\xff",
+    )?;
+    // one column of three initiators
+    let mut column = locality(alloc, 3, 1)?;
+    column.set_entry_value(1, 0, 0x0201)?;
+    column.set_initiator_value(2, 7)?;
+    assert_eq!(&rt; column.set_entry_value(0, 1, 1), Err(Error::Index));
+    assert_eq!(&rt; column.set_target_value(1, 1), Err(Error::Index));
+    writes(
+        &rt,
+        alloc,
+        &column,
+        b"\x01\0\0\0\x36\0\0\0\x03\x05\x0b\0\x03\0\0\0\x01\0\0\0\0\0\0\0\x01\x02\x03\x04\x05\x06\x07\x08\0\0\0\0\0\0\0\0\x07\0\0\0\0\0\0\0\xff\xff\x01\x02\xff\xff",
+    )
+}
+
+#[test]
+fn without_initiators_or_targets(rt: HostRuntime) -> Result<(), Fail> {
+    let alloc = rt.alloc();
+    let mut none = locality(alloc, 0, 0)?;
+    assert_eq!(&rt; none.set_entry_value(0, 0, 1), Err(Error::Index));
+    assert_eq!(&rt; none.set_initiator_value(0, 1), Err(Error::Index));
+    assert_eq!(&rt; none.set_target_value(0, 1), Err(Error::Index));
+    writes(
+        &rt,
+        alloc,
+        &none,
+        b"\x01\0\0\0\x20\0\0\0\x03\x05\x0b\0\0\0\0\0\0\0\0\0\0\0\0\0\x01\x02\x03\x04\x05\x06\x07\x08",
+    )?;
+    let mut targets = locality(alloc, 0, 2)?;
+    targets.set_target_value(1, 9)?;
+    assert_eq!(&rt; targets.set_entry_value(0, 0, 1), Err(Error::Index));
+    writes(
+        &rt,
+        alloc,
+        &targets,
+        b"\x01\0\0\0\x28\0\0\0\x03\x05\x0b\0\0\0\0\0\x02\0\0\0\0\0\0\0\x01\x02\x03\x04\x05\x06\x07\x08\0\0\0\0\x09\0\0\0",
+    )?;
+    let mut initiators = locality(alloc, 2, 0)?;
+    initiators.set_initiator_value(1, 9)?;
+    assert_eq!(&rt; initiators.set_entry_value(0, 0, 1), Err(Error::Index));
+    writes(
+        &rt,
+        alloc,
+        &initiators,
+        b"\x01\0\0\0\x28\0\0\0\x03\x05\x0b\0\x02\0\0\0\0\0\0\0\0\0\0\0\x01\x02\x03\x04\x05\x06\x07\x08\0\0\0\0\x09\0\0\0",
+    )
+}
+
+// The first sizes past 2^32 - 1 bytes, and some that no machine word holds.
+#[test]
+fn too_large(rt: HostRuntime) -> Result<(), Fail> {
+    let alloc = rt.alloc();
+    let all = [
+        // 32 + 4 * 1,073,741,816 is 2^32
+        (1_073_741_816, 0),
+        (0, 1_073_741_816),
+        (1_073_741_824, 0),
+        (0, 1_073_741_824),
+        // 32 + 8 * 46,340 + 2 * 46,340 * 46,340 is 4,295,161,952
+        (46_340, 46_340),
+        (65_536, 65_536),
+        (0x1_0000_0000, 0x1_0000_0000),
+        (0x8000_0000_0000_0000, 2),
+        (usize::MAX, 0),
+        (0, usize::MAX),
+        (usize::MAX, usize::MAX),
+    ];
+    for (initiators, targets) in all {
+        assert_eq!(&rt;
+            locality(alloc, initiators, targets).err(),
+            Some(Error::Matrix)
+        );
+    }
+    Ok(())
+}
+
+fn flagged(alloc: Global, kind: LocalityType) -> R<SystemLocality> {
+    SystemLocality::new(
+        alloc,
+        kind,
+        DataType::AccessLatency,
+        MinTransferSize::SizeByteAligned,
+        0,
+        0,
+        0,
+    )
+}
+
+fn flags<RT: Abort>(rt: &RT, alloc: Global, made: &SystemLocality, number: u8) -> Result<(), Fail> {
+    let mut wanted = *b"\x01\0\0\0\x20\0\0\0\0\0\0\0\0\0\0\0\0\0\0\0\0\0\0\0\0\0\0\0\0\0\0\0";
+    wanted[8] = number;
+    writes(rt, alloc, made, &wanted)
+}
+
+#[test]
+fn locality_types_and_flags(rt: HostRuntime) -> Result<(), Fail> {
+    let alloc = rt.alloc();
+    let all = [
+        (flagged(alloc, LocalityType::Memory)?, 0u8),
+        (flagged(alloc, LocalityType::FirstLevelCache)?, 1),
+        (flagged(alloc, LocalityType::SecondLevelCache)?, 2),
+        (flagged(alloc, LocalityType::ThirdLevelCache)?, 3),
+    ];
+    for (mut made, number) in all {
+        flags(&rt, alloc, &made, number)?;
+        made.non_sequential_transfers();
+        flags(&rt, alloc, &made, number | 0x20)?;
+        made.minimum_transfer_size_required();
+        flags(&rt, alloc, &made, number | 0x30)?;
+        made.non_sequential_transfers();
+        flags(&rt, alloc, &made, number | 0x30)?;
+    }
+    let all = [
+        (flagged(alloc, LocalityType::Memory)?, 0x10u8),
+        (flagged(alloc, LocalityType::FirstLevelCache)?, 0x11),
+        (flagged(alloc, LocalityType::SecondLevelCache)?, 0x12),
+        (flagged(alloc, LocalityType::ThirdLevelCache)?, 0x13),
+    ];
+    for (mut made, number) in all {
+        made.minimum_transfer_size_required();
+        flags(&rt, alloc, &made, number)?;
+    }
+    Ok(())
+}
+
+#[test]
+fn data_types(rt: HostRuntime) -> Result<(), Fail> {
+    let alloc = rt.alloc();
+    let all = [
+        (DataType::AccessLatency, 0),
+        (DataType::ReadLatency, 1),
+        (DataType::WriteLatency, 2),
+        (DataType::AccessBandwidth, 3),
+        (DataType::ReadBandwidth, 4),
+        (DataType::WriteBandwidth, 5),
+    ];
+    for (data_type, number) in all {
+        let made = SystemLocality::new(
+            alloc,
+            LocalityType::Memory,
+            data_type,
+            MinTransferSize::Size64b,
+            1,
+            0,
+            0,
+        )?;
+        let mut wanted =
+            *b"\x01\0\0\0\x20\0\0\0\0\0\x01\0\0\0\0\0\0\0\0\0\0\0\0\0\x01\0\0\0\0\0\0\0";
+        wanted[9] = number;
+        writes(&rt, alloc, &made, &wanted)?;
+    }
+    Ok(())
+}
+
+#[test]
+fn transfer_sizes(rt: HostRuntime) -> Result<(), Fail> {
+    let alloc = rt.alloc();
+    let all = [
+        (MinTransferSize::SizeByteAligned, 0),
+        (MinTransferSize::Size64b, 1),
+        (MinTransferSize::Size128b, 2),
+        (MinTransferSize::Size256b, 3),
+        (MinTransferSize::Size512b, 4),
+        (MinTransferSize::Size1k, 5),
+        (MinTransferSize::Size2k, 6),
+        (MinTransferSize::Size4k, 7),
+        (MinTransferSize::Size8k, 8),
+        (MinTransferSize::Size16k, 9),
+        (MinTransferSize::Size32k, 10),
+        (MinTransferSize::Size64k, 11),
+    ];
+    for (size, number) in all {
+        let made = SystemLocality::new(
+            alloc,
+            LocalityType::FirstLevelCache,
+            DataType::ReadLatency,
+            size,
+            0,
+            0,
+            0,
+        )?;
+        let mut wanted =
+            *b"\x01\0\0\0\x20\0\0\0\x01\x01\0\0\0\0\0\0\0\0\0\0\0\0\0\0\0\0\0\0\0\0\0\0";
+        wanted[10] = number;
+        writes(&rt, alloc, &made, &wanted)?;
+    }
+    Ok(())
+}
+
+#[test]
+fn side_caches(rt: HostRuntime) -> Result<(), Fail> {
+    let alloc = rt.alloc();
+    let mut cache = MemorySideCache::new(
+        alloc,
+        0x1234_5678,
+        0x90ab_cdef_1234_5678,
+        CacheLevel::Three,
+        CacheLevel::Two,
+        Associativity::DirectMapped,
+        WritePolicy::Writeback,
+        64,
+    );
+    writes(
+        &rt,
+        alloc,
+        &cache,
+        b"\x02\0\0\0\x20\0\0\0\x78\x56\x34\x12\0\0\0\0\x78\x56\x34\x12\xef\xcd\xab\x90\x23\x11\x40\0\0\0\0\0",
+    )?;
+    cache.add_smbios_handle(0x0201)?;
+    cache.add_smbios_handle(0x0403)?;
+    let two =
+        b"\x02\0\0\0\x24\0\0\0\x78\x56\x34\x12\0\0\0\0\x78\x56\x34\x12\xef\xcd\xab\x90\x23\x11\x40\0\0\0\x02\0\x01\x02\x03\x04";
+    writes(&rt, alloc, &cache, two)?;
+    let mut hmat = table(alloc);
+    hmat.add_memory_side_cache(cache)?;
+    many(&rt, alloc, &hmat, b"HMAT", 1, &[0; 4], two, 1)
+}
+
+fn attributes<RT: Abort>(
+    rt: &RT,
+    alloc: Global,
+    cache: MemorySideCache,
+    wanted: [u8; 4],
+) -> Result<(), Fail> {
+    let mut bytes = *b"\x02\0\0\0\x20\0\0\0\0\0\0\0\0\0\0\0\0\0\0\0\0\0\0\0\0\0\0\0\0\0\0\0";
+    bytes[24..28].copy_from_slice(&wanted);
+    writes(rt, alloc, &cache, &bytes)
+}
+
+#[test]
+fn cache_attributes(rt: HostRuntime) -> Result<(), Fail> {
+    let alloc = rt.alloc();
+    let all = [
+        (
+            CacheLevel::None,
+            CacheLevel::Three,
+            Associativity::Complex,
+            WritePolicy::None,
+            0,
+            [0x30, 0x02, 0, 0],
+        ),
+        (
+            CacheLevel::One,
+            CacheLevel::None,
+            Associativity::None,
+            WritePolicy::Writethrough,
+            0xffff,
+            [0x01, 0x20, 0xff, 0xff],
+        ),
+        (
+            CacheLevel::Two,
+            CacheLevel::One,
+            Associativity::DirectMapped,
+            WritePolicy::Writeback,
+            0x0201,
+            [0x12, 0x11, 0x01, 0x02],
+        ),
+        (
+            CacheLevel::Three,
+            CacheLevel::Two,
+            Associativity::Complex,
+            WritePolicy::Writethrough,
+            1,
+            [0x23, 0x22, 0x01, 0],
+        ),
+    ];
+    for (total, this, spread, policy, line, wanted) in all {
+        let cache = MemorySideCache::new(alloc, 0, 0, total, this, spread, policy, line);
+        attributes(&rt, alloc, cache, wanted)?;
+    }
+    Ok(())
+}
+
+#[test]
+fn most_handles(rt: HostRuntime) -> Result<(), Fail> {
+    let alloc = rt.alloc();
+    let mut cache = MemorySideCache::new(
+        alloc,
+        0,
+        0,
+        CacheLevel::None,
+        CacheLevel::None,
+        Associativity::None,
+        WritePolicy::None,
+        0,
+    );
+    let mut wanted = Vec::new(alloc);
+    // 32 + 2 * 65,535 is 0x2001e
+    wanted.extend_from_slice(
+        b"\x02\0\0\0\x1e\0\x02\0\0\0\0\0\0\0\0\0\0\0\0\0\0\0\0\0\0\0\0\0\0\0\xff\xff",
+    )?;
+    for handle in 0..65_535u16 {
+        cache.add_smbios_handle(handle)?;
+        wanted.extend_from_slice(&handle.to_le_bytes())?;
+    }
+    writes(&rt, alloc, &cache, &wanted)?;
+    assert_eq!(&rt; cache.add_smbios_handle(7), Err(Error::FieldWidth));
+    writes(&rt, alloc, &cache, &wanted)?;
+    let mut hmat = table(alloc);
+    hmat.add_memory_side_cache(cache)?;
+    many(&rt, alloc, &hmat, b"HMAT", 1, &[0; 4], &wanted, 1)
+}
+
+#[test]
+fn many_structures(rt: HostRuntime) -> Result<(), Fail> {
+    let alloc = rt.alloc();
+    let mut hmat = table(alloc);
+    for _ in 0..256u16 {
+        let mut made = locality(alloc, 1, 1)?;
+        made.set_entry_value(0, 0, 0x0201)?;
+        hmat.add_system_locality(made)?;
+    }
+    let one =
+        b"\x01\0\0\0\x2a\0\0\0\x03\x05\x0b\0\x01\0\0\0\x01\0\0\0\0\0\0\0\x01\x02\x03\x04\x05\x06\x07\x08\0\0\0\0\0\0\0\0\x01\x02";
+    many(&rt, alloc, &hmat, b"HMAT", 1, &[0; 4], one, 256)
+}
