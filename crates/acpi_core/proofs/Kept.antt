@@ -7,14 +7,11 @@ use Rattle.acpi_base.specs.Object.{Object, whole, Wrote, WriteRefused}
 use Rattle.acpi_base.specs.Walk.{Sizes, Walk, IsPiece, ArePieces, HasSizes, walk_of}
 use Rattle.acpi_base.specs.Bytes.{field_at}
 use Rattle.std.specs.List.{concat}
+use Rattle.acpi_base.proofs.Walks.{pieces_push}
 use Rattle.acpi_core.specs.Listing.{Listing, IsListing, bytes_of, with_structure}
 use Rattle.acpi_core.specs.Addition.{Counted, Adds, refusal_of}
 use Rattle.acpi_core.specs.Walk.{IsWalkOf, Keeps, IsWalked}
 use Rattle.acpi_core.proofs.Offsets.{are_true, the_walk, grow, signature_told, places}
-
-pieces_push : (s : Sizes) (ps : List (List ℕ)) (p : List ℕ) → ArePieces s ps → IsPiece s p → ArePieces s (ps ++ p ∷ [])
-pieces_push s [] p all one = (one, tt)
-pieces_push s (q ∷ qs) p all one = (all.0, pieces_push s qs p all.1 one)
 
 accepted_whole : (t : Listing) (end : Option Error) (n : ℕ) → refusal_of t end n ≡ None → refusal_of t None n ≡ None
 accepted_whole t None n h = h

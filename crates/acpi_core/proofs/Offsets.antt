@@ -20,7 +20,7 @@ use Rattle.acpi_core.specs.Flat.{has_space}
 use Rattle.acpi_core.specs.Offset.{structure_at, offset_of}
 use Rattle.acpi_core.specs.Walk.{IsWalkOf}
 use Rattle.acpi_core.specs.Laws.{ListingsAreTrue, ListingsGrow, StructuresStandAtOffsets, StructuresAreAddedAtTheEnd, StructuresStay, StructuresAreTheWalk, OffsetsDiffer}
-use Rattle.acpi_core.proofs.Patches.{concat_append}
+use Rattle.std.proofs.lemmas.List.Folds.{concat-append}
 use Rattle.acpi_core.proofs.Flats.{length-fields, length-body, length-bytes, size_more}
 
 pub are_true : ListingsAreTrue
@@ -92,7 +92,7 @@ stand t i is h =
     let before = concat (take i t.structures) in
     let rest = concat (drop (i + 1) t.structures) in
     let cut : concat t.structures ≡ before ++ (structure_at t i ++ rest) =
-    ap concat (sym (take-append-drop i t.structures)) ∙ concat_append (take i t.structures) (drop i t.structures) ∙ ap (λ l. before ++ concat l) (drop_more t.structures i [] h) in
+    ap concat (sym (take-append-drop i t.structures)) ∙ concat-append (take i t.structures) (drop i t.structures) ∙ ap (λ l. before ++ concat l) (drop_more t.structures i [] h) in
     let all : bytes_of t ≡ (front ++ before) ++ (structure_at t i ++ rest) = f.0 ∙ ap (λ b. front ++ b) cut ∙ sym (append_assoc front before (structure_at t i ++ rest)) in
     (rest, ap (drop (offset_of t i)) all ∙ drop_at (front ++ before) (structure_at t i ++ rest) (offset_of t i) (omega (arith, length-append front before, f.1)))
 

@@ -6,3 +6,4 @@ pub mod Report
 pub mod Lines
 pub mod Size
 pub mod Laws
+pub mod Pieces
