@@ -1,12 +1,12 @@
 -- Bytes that are cut into pieces.
-use Rattle.std.proofs.Common.{◌≡◌, ℕ, ◌+◌, ◌<◌, ◌≤◌, ◌==◌, List, [], ◌∷◌, ◌++◌, Bool, true, false, if◌then◌else◌, length, take, drop, map, refl, sym, ap, ◌∙◌, arith, append_assoc, length-append, length-drop}
+use Rattle.std.proofs.Common.{◌≡◌, ℕ, zero, suc, ◌+◌, ◌<◌, ◌≤◌, ◌==◌, List, [], ◌∷◌, ◌++◌, Bool, true, false, if◌then◌else◌, length, take, drop, get_or, map, refl, sym, ap, ◌∙◌, arith, append_assoc, length-append, length-drop}
 use Rattle.std.specs.Prelude.{Option, Some, None}
-use Rattle.std.specs.List.{concat}
+use Rattle.std.specs.List.{All, concat}
 use Rattle.std.proofs.lemmas.List.{append-nil, take-append-drop, length-take-le, drop-drop, map_push}
 use Rattle.acpi_base.specs.Bytes.{field_at}
-use Rattle.acpi_base.specs.Walk.{Sizes, each_of, told_at, by_source, source_size, IsPiece, ArePieces, HasSizes, offsets_from, Walk, Walks, Tells}
+use Rattle.acpi_base.specs.Walk.{Sizes, each_of, told_at, by_source, source_size, IsPiece, ArePieces, HasSizes, offsets_from, Walk, Walks, WalksBy, Tells}
 use Rattle.acpi_base.proofs.Walks.{field_front, piece_has_bytes, same_front, one_list, concat_push, pieces_push}
-use Rattle.acpi_read.specs.Pieces.{Refusal, no_memory, bad_structure, bad_count, unknown_source, another, IsFront, NoFront, IsFrontFault, AreCut, NoCut, IsCutFault}
+use Rattle.acpi_read.specs.Pieces.{Refusal, no_memory, bad_structure, bad_count, unknown_source, another, IsFront, NoFront, IsFrontFault, AreCut, NoCut, IsCutFault, IsKnown, least, end_of}
 
 -- ---- the first piece
 
@@ -153,3 +153,23 @@ pub miscounted : (w : Walk) (bytes : List ℕ) (pieces : List (List ℕ)) (offse
 miscounted w bytes pieces offsets n has cut is fails others walks =
     let same = one_list w.sizes others pieces has walks.each cut.each (sym walks.joined ∙ cut.joined) in
     fails (λ some. walks.counted some ∙ ap length same ∙ sym is)
+
+-- ---- what each piece reaches
+
+least_reached : (s : Sizes) (p : List ℕ) → IsPiece s p → least s ≤ length p
+least_reached (each_of n) p is = omega (arith, is)
+least_reached (told_at offset width) p is = is.0
+least_reached by_source p is = is.0
+
+each_reaches : (s : Sizes) (n : ℕ) → n ≤ least s → (ps : List (List ℕ)) → ArePieces s ps → All (λ p. n ≤ length p) ps
+each_reaches s n low [] all k d h = absurd (omega arith)
+each_reaches s n low (p ∷ ps) all zero d h = omega (arith, low, least_reached s p all.0)
+each_reaches s n low (p ∷ ps) all (suc k) d h = each_reaches s n low ps all.1 k d (omega arith)
+
+pub reached_by : (o : Option Walk) (w : Walk) (bytes : List ℕ) → o ≡ Some w → IsKnown w → (pieces : List (List ℕ)) → WalksBy o bytes pieces → All (λ piece. end_of w.kind ≤ length piece) pieces
+reached_by o w bytes is known pieces walks = let by : Walks w bytes pieces = rw is at walks in each_reaches w.sizes (end_of w.kind) known.kind pieces by.each
+
+pub all_mapped : {P : Type 0} (f : P → List ℕ) (n : ℕ) (xs : List P) (i : ℕ) (d : P) → All (λ p. n ≤ length p) (map f xs) → i < length xs → n ≤ length (f (get_or xs i d))
+all_mapped f n [] i d all h = absurd (omega arith)
+all_mapped f n (x ∷ xs) zero d all h = all 0 (f d) (omega arith)
+all_mapped f n (x ∷ xs) (suc i) d all h = all_mapped f n xs i d (λ k e inside. all (suc k) e (omega (arith, inside))) (omega arith)
