@@ -2,7 +2,8 @@
 use Rattle.std.proofs.Common.{◌≡◌, ℕ, ◌+◌, ◌≤◌, List, [], ◌∷◌, ◌++◌, length, take, drop, refl, sym, ap, ◌∙◌, arith, length-append, length-drop}
 use Rattle.std.specs.Prelude.{Option, Some}
 use Rattle.std.specs.List.{concat}
-use Rattle.std.proofs.lemmas.List.{take-append-le, drop-append-le, take_at, drop_at}
+use Rattle.std.proofs.lemmas.List.{append-nil, take-append-le, drop-append-le, take_at, drop_at}
+use Rattle.std.proofs.lemmas.List.Folds.{concat-append}
 use Rattle.acpi_base.specs.Bytes.{carried, field_at}
 use Rattle.acpi_base.specs.Walk.{Sizes, each_of, told_at, by_source, source_size, IsPiece, ArePieces, HasSizes, OneWalk}
 
@@ -31,15 +32,28 @@ piece_has_bytes by_source p has is = omega (arith, is.0)
 same_some : (a b : ℕ) (o p : Option ℕ) → o ≡ p → o ≡ Some a → p ≡ Some b → a ≡ b
 same_some a b o p same x y = let e : Some a ≡ Some b = sym x ∙ same ∙ y in cc
 
+-- two pieces with which the same bytes begin are one
+pub same_front : (s : Sizes) (p q x y : List ℕ) → IsPiece s p → IsPiece s q → p ++ x ≡ q ++ y → (p ≡ q) × (x ≡ y)
+same_front s p q x y a b same =
+    let size : length p ≡ length q = same_some (length p) (length q) (front_size s (p ++ x)) (front_size s (q ++ y)) (ap (front_size s) same) (front_is s p x a) (front_is s q y b) in
+    (sym (take_at p x (length p) refl) ∙ ap (take (length p)) same ∙ take_at q y (length p) (sym size), sym (drop_at p x (length p) refl) ∙ ap (drop (length p)) same ∙ drop_at q y (length p) (sym size))
+
+pub concat_push : (xss : List (List ℕ)) (x : List ℕ) → concat (xss ++ x ∷ []) ≡ concat xss ++ x
+concat_push xss x = concat-append xss (x ∷ []) ∙ ap (λ z. concat xss ++ z) (append-nil x)
+
+-- one piece more
+pub pieces_push : (s : Sizes) (ps : List (List ℕ)) (p : List ℕ) → ArePieces s ps → IsPiece s p → ArePieces s (ps ++ p ∷ [])
+pieces_push s [] p all one = (one, tt)
+pieces_push s (q ∷ qs) p all one = (all.0, pieces_push s qs p all.1 one)
+
 pub one_list : (s : Sizes) (ps qs : List (List ℕ)) → HasSizes s → ArePieces s ps → ArePieces s qs → concat ps ≡ concat qs → ps ≡ qs
 one_list s [] [] has a b same = refl
 one_list s [] (q ∷ qs) has a b same = absurd (omega (arith, piece_has_bytes s q has b.0, ap length same, length-append q (concat qs)))
 one_list s (p ∷ ps) [] has a b same = absurd (omega (arith, piece_has_bytes s p has a.0, ap length same, length-append p (concat ps)))
 one_list s (p ∷ ps) (q ∷ qs) has a b same =
-    let size : length p ≡ length q = same_some (length p) (length q) (front_size s (p ++ concat ps)) (front_size s (q ++ concat qs)) (ap (front_size s) same) (front_is s p (concat ps) a.0) (front_is s q (concat qs) b.0) in
-    let first : p ≡ q = sym (take_at p (concat ps) (length p) refl) ∙ ap (take (length p)) same ∙ take_at q (concat qs) (length p) (sym size) in
-    let rest : concat ps ≡ concat qs = sym (drop_at p (concat ps) (length p) refl) ∙ ap (drop (length p)) same ∙ drop_at q (concat qs) (length p) (sym size) in
-    let others = one_list s ps qs has a.1 b.1 rest in
+    let both = same_front s p q (concat ps) (concat qs) a.0 b.0 same in
+    let first = both.0 in
+    let others = one_list s ps qs has a.1 b.1 both.1 in
     cc
 
 pub one_walk : OneWalk

@@ -1,7 +1,7 @@
 -- How the structures of a table are found in its bytes.
-use Rattle.std.specs.Prelude.{◌≡◌, ℕ, ◌+◌, ◌≤◌, ◌==◌, List, [], ◌∷◌, length, drop, if◌then◌else◌, Option, Some, None}
+use Rattle.std.specs.Prelude.{◌≡◌, ℕ, ◌+◌, ◌≤◌, ◌==◌, List, [], ◌∷◌, length, drop, codes, if◌then◌else◌, Option, Some, None}
 use Rattle.std.specs.List.{concat}
-use Rattle.acpi_base.specs.Bytes.{field_at}
+use Rattle.acpi_base.specs.Bytes.{carried, field_at}
 
 -- How long a structure is: each as long, as its field at an offset tells in so many bytes, or by its source type, as in
 -- HEST.
@@ -15,10 +15,12 @@ pub record Place : Type 0 where
   pub offset : ℕ
   pub width : ℕ
 
--- Where a table's structures begin, how long they are, and which fields tell their number and where they begin.
+-- Where a table's structures begin, how long they are, which field of each tells its type, and which fields of the table
+-- tell their number and where they begin.
 pub record Walk : Type 0 where
   pub start : ℕ
   pub sizes : Sizes
+  pub kind : Place
   pub count : Place
   pub told_start : Place
 
@@ -75,37 +77,61 @@ OneWalk = (w : Walk) (bytes : List ℕ) (ps qs : List (List ℕ)) → HasSizes w
 -- ---- the tables that have structures
 
 abbrev pub xsdt_walk : Walk
-xsdt_walk = record { start = 36; sizes = each_of 8; count = nowhere; told_start = nowhere }
+xsdt_walk = record { start = 36; sizes = each_of 8; kind = nowhere; count = nowhere; told_start = nowhere }
 
 abbrev pub mcfg_walk : Walk
-mcfg_walk = record { start = 44; sizes = each_of 16; count = nowhere; told_start = nowhere }
+mcfg_walk = record { start = 44; sizes = each_of 16; kind = nowhere; count = nowhere; told_start = nowhere }
 
 abbrev pub madt_walk : Walk
-madt_walk = record { start = 44; sizes = told_at 1 1; count = nowhere; told_start = nowhere }
+madt_walk = record { start = 44; sizes = told_at 1 1; kind = at 0 1; count = nowhere; told_start = nowhere }
 
 abbrev pub hest_walk : Walk
-hest_walk = record { start = 40; sizes = by_source; count = at 36 4; told_start = nowhere }
+hest_walk = record { start = 40; sizes = by_source; kind = at 0 2; count = at 36 4; told_start = nowhere }
 
 abbrev pub srat_walk : Walk
-srat_walk = record { start = 48; sizes = told_at 1 1; count = nowhere; told_start = nowhere }
+srat_walk = record { start = 48; sizes = told_at 1 1; kind = at 0 1; count = nowhere; told_start = nowhere }
 
 abbrev pub cedt_walk : Walk
-cedt_walk = record { start = 36; sizes = told_at 2 2; count = nowhere; told_start = nowhere }
+cedt_walk = record { start = 36; sizes = told_at 2 2; kind = at 0 1; count = nowhere; told_start = nowhere }
 
 abbrev pub pptt_walk : Walk
-pptt_walk = record { start = 36; sizes = told_at 1 1; count = nowhere; told_start = nowhere }
+pptt_walk = record { start = 36; sizes = told_at 1 1; kind = at 0 1; count = nowhere; told_start = nowhere }
 
 abbrev pub rhct_walk : Walk
-rhct_walk = record { start = 56; sizes = told_at 2 2; count = at 48 4; told_start = at 52 4 }
+rhct_walk = record { start = 56; sizes = told_at 2 2; kind = at 0 2; count = at 48 4; told_start = at 52 4 }
 
 abbrev pub viot_walk : Walk
-viot_walk = record { start = 48; sizes = told_at 2 2; count = at 36 2; told_start = at 38 2 }
+viot_walk = record { start = 48; sizes = told_at 2 2; kind = at 0 1; count = at 36 2; told_start = at 38 2 }
 
 abbrev pub rimt_walk : Walk
-rimt_walk = record { start = 48; sizes = told_at 2 2; count = at 36 4; told_start = at 40 4 }
+rimt_walk = record { start = 48; sizes = told_at 2 2; kind = at 0 1; count = at 36 4; told_start = at 40 4 }
 
 abbrev pub rqsc_walk : Walk
-rqsc_walk = record { start = 40; sizes = told_at 2 2; count = at 36 4; told_start = nowhere }
+rqsc_walk = record { start = 40; sizes = told_at 2 2; kind = at 0 1; count = at 36 4; told_start = nowhere }
 
 abbrev pub hmat_walk : Walk
-hmat_walk = record { start = 40; sizes = told_at 4 4; count = nowhere; told_start = nowhere }
+hmat_walk = record { start = 40; sizes = told_at 4 4; kind = at 0 2; count = nowhere; told_start = nowhere }
+
+-- a signature as a number, lowest byte first
+abbrev pub named : List ℕ → ℕ
+named signature = carried signature
+
+-- the walk of the tables of a signature, where they have structures
+abbrev pub walk_of : ℕ → Option Walk
+walk_of s =
+    if s == named (codes "XSDT") then Some xsdt_walk else (if s == named (codes "MCFG") then Some mcfg_walk
+    else (if s == named (codes "APIC") then Some madt_walk else (if s == named (codes "HEST") then Some hest_walk
+    else (if s == named (codes "SRAT") then Some srat_walk else (if s == named (codes "CEDT") then Some cedt_walk
+    else (if s == named (codes "PPTT") then Some pptt_walk else (if s == named (codes "RHCT") then Some rhct_walk
+    else (if s == named (codes "VIOT") then Some viot_walk else (if s == named (codes "RIMT") then Some rimt_walk
+    else (if s == named (codes "RQSC") then Some rqsc_walk else (if s == named (codes "HMAT") then Some hmat_walk
+    else None)))))))))))
+
+-- the pieces walk the bytes; where there is no walk, no pieces do
+abbrev pub WalksBy : Option Walk → List ℕ → List (List ℕ) → Type 0
+WalksBy (Some w) bytes pieces = Walks w bytes pieces
+WalksBy None bytes pieces = pieces ≡ []
+
+-- the pieces are the structures of a table, found by its signature
+abbrev pub ArePiecesOf : List ℕ → List (List ℕ) → Type 0
+ArePiecesOf bytes pieces = WalksBy (walk_of (field_at 0 4 bytes)) bytes pieces

@@ -16,7 +16,8 @@ use Rattle.acpi_core.specs.Flat.{IsFlat, has_space, patched, Settles}
 use Rattle.acpi_base.specs.declared.error.Error.{Error}
 use Rattle.acpi_base.specs.declared.error.Error.TheVariants.{FieldWidth}
 use Rattle.acpi_core.specs.Addition.{has_room, refusal_of}
-use Rattle.acpi_core.proofs.Patches.{concat_push, header_patched}
+use Rattle.acpi_base.proofs.Walks.{concat_push}
+use Rattle.acpi_core.proofs.Patches.{header_patched}
 
 -- a table's bytes with a checksum of 0
 abbrev plain : Listing → List ℕ

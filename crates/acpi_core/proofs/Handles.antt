@@ -10,7 +10,7 @@ use Rattle.acpi_core.specs.Addition.{Counted, Adds, AddsAt}
 use Rattle.acpi_core.specs.Offset.{structure_at, offset_of, IsLater, StandsAt}
 use Rattle.acpi_core.specs.Laws.{AdditionsAreLater, HandlesStand, HandlesDiffer}
 use Rattle.acpi_core.proofs.Offsets.{keeps, at_the_end}
-use Rattle.acpi_core.proofs.Patches.{concat_append}
+use Rattle.std.proofs.lemmas.List.Folds.{concat-append}
 
 same_is_later : (t : Listing) → IsLater t t
 same_is_later t = record { added = []; before = refl; width = refl; after = refl; structures = sym (append-nil t.structures) }
@@ -61,7 +61,7 @@ ends_within t i h =
     let before = concat (take i t.structures) in
     let rest = concat (drop (i + 1) t.structures) in
     let cut : concat t.structures ≡ before ++ (structure_at t i ++ rest) =
-    ap concat (sym (take-append-drop i t.structures)) ∙ concat_append (take i t.structures) (drop i t.structures) ∙ ap (λ l. before ++ concat l) (drop_more t.structures i [] h) in
+    ap concat (sym (take-append-drop i t.structures)) ∙ concat-append (take i t.structures) (drop i t.structures) ∙ ap (λ l. before ++ concat l) (drop_more t.structures i [] h) in
     omega (arith, ap length cut, length-append before (structure_at t i ++ rest), length-append (structure_at t i) rest)
 
 pub handles_differ : HandlesDiffer

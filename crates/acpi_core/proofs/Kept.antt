@@ -1,18 +1,17 @@
 -- What tables keep over additions.
-use Rattle.std.proofs.Common.{◌≡◌, ℕ, List, [], ◌∷◌, ◌++◌, length, refl}
+use Rattle.std.proofs.Common.{◌≡◌, ℕ, ◌+◌, List, [], ◌∷◌, ◌++◌, length, take, refl, ap, ◌∙◌}
 use Rattle.std.specs.Prelude.{Result, Ok, Err, OnOk, IfErr, Option, Some, None}
 use Rattle.acpi_base.specs.declared.error.Error.{Error}
 use Rattle.acpi_base.specs.Sink.{Meaning}
 use Rattle.acpi_base.specs.Object.{Object, whole, Wrote, WriteRefused}
-use Rattle.acpi_base.specs.Walk.{Sizes, Walk, IsPiece, ArePieces, HasSizes}
+use Rattle.acpi_base.specs.Walk.{Sizes, Walk, IsPiece, ArePieces, HasSizes, walk_of}
+use Rattle.acpi_base.specs.Bytes.{field_at}
+use Rattle.std.specs.List.{concat}
+use Rattle.acpi_base.proofs.Walks.{pieces_push}
 use Rattle.acpi_core.specs.Listing.{Listing, IsListing, bytes_of, with_structure}
 use Rattle.acpi_core.specs.Addition.{Counted, Adds, refusal_of}
 use Rattle.acpi_core.specs.Walk.{IsWalkOf, Keeps, IsWalked}
-use Rattle.acpi_core.proofs.Offsets.{are_true, the_walk, grow}
-
-pieces_push : (s : Sizes) (ps : List (List ℕ)) (p : List ℕ) → ArePieces s ps → IsPiece s p → ArePieces s (ps ++ p ∷ [])
-pieces_push s [] p all one = (one, tt)
-pieces_push s (q ∷ qs) p all one = (all.0, pieces_push s qs p all.1 one)
+use Rattle.acpi_core.proofs.Offsets.{are_true, the_walk, grow, signature_told, places}
 
 accepted_whole : (t : Listing) (end : Option Error) (n : ℕ) → refusal_of t end n ≡ None → refusal_of t None n ≡ None
 accepted_whole t None n h = h
@@ -23,7 +22,7 @@ listing_on (Ok u) old new o is adds = rw adds.ok (grow old.table o.front is (acc
 listing_on (Err e) old new o is adds = rw adds.err is
 
 walk_more : (w : Walk) (t : Listing) (x : List ℕ) → IsWalkOf w t → IsWalkOf w (with_structure t x)
-walk_more w t x walk = record { start = walk.start; count_at = walk.count_at; count_width = walk.count_width; told = walk.told }
+walk_more w t x walk = record { signature = walk.signature; start = walk.start; count_at = walk.count_at; count_width = walk.count_width; told = walk.told }
 
 pub walk_on : (w : Walk) {T : Type 0} (r : Result T Error) (old new : Counted) (o : Object) → IsWalkOf w old.table → Adds r old o new → IsWalkOf w new.table
 walk_on w (Ok u) old new o walk adds = rw adds.ok (walk_more w old.table o.front walk)
@@ -48,7 +47,13 @@ keeps_on w r old new o kept one adds = record {
 pub is_walked : (w : Walk) (t : Listing) → HasSizes w.sizes → Keeps w t → IsWalked w t
 is_walked w t has kept =
     let walk = the_walk t w kept.is kept.walk has kept.pieces in
-    record { is_true = (are_true t kept.is).0; walks = walk.0; only = walk.1 }
+    let by : walk_of (field_at 0 4 (bytes_of t)) ≡ Some w = ap walk_of (signature_told t kept.is) ∙ kept.walk.signature in
+    record {
+      is_true = (are_true t kept.is).0;
+      walks = rw by walk.0;
+      only = rw by walk.1;
+      offsets = λ i h. places w.start t.structures i h ∙ ap (λ n. n + length (concat (take i t.structures))) kept.walk.start;
+    }
 
 -- what a table writes that is the only field of another
 pub wrote_same : {T : Type 0} (r : Result T Error) (a b : Counted) (m k : Meaning) → a ≡ b → OnOk r (Wrote (whole (bytes_of a.table)) m k) → OnOk r (Wrote (whole (bytes_of b.table)) m k)

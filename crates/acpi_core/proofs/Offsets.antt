@@ -1,6 +1,6 @@
 -- Structures in their places.
 use Rattle.std.proofs.Common.{◌≡◌, ℕ, zero, suc, ◌+◌, ◌*◌, ◌^◌, ◌<◌, ◌≤◌, List, [], ◌∷◌, ◌++◌, length, get_or, take, drop, refl, sym, ap, subst, ◌∙◌, arith, append_assoc, length-append, Bool, true, false, ⊎_elim, inl, inr}
-use Rattle.std.specs.Prelude.{sum, None, Some, ◌⊎◌, if◌then◌else◌}
+use Rattle.std.specs.Prelude.{sum, slice_index, None, Some, ◌⊎◌, if◌then◌else◌}
 use Rattle.std.specs.List.{concat}
 use Rattle.std.proofs.lemmas.List.{take-append-le, get_or_append_left, get_or_at, take_at, drop_at, drop_more, take-append-drop, length-take-le}
 use Rattle.std.proofs.lemmas.Bool.{cases_lt}
@@ -8,7 +8,8 @@ use Rattle.std.proofs.lemmas.Bool.Decides.{nat_tests}
 use Rattle.acpi_base.specs.Bytes.{le, carried, complement, put, field_at}
 use Rattle.acpi_base.specs.declared.error.Error.TheVariants.{FieldWidth}
 use Rattle.acpi_base.specs.Header.{header}
-use Rattle.acpi_base.specs.Walk.{Walk, Walks, ArePieces, HasSizes}
+use Rattle.acpi_base.specs.declared.oem.Oem.{Oem}
+use Rattle.acpi_base.specs.Walk.{Walk, Walks, ArePieces, HasSizes, named, offsets_from}
 use Rattle.acpi_base.proofs.Bytes.{length_le, carried_le}
 use Rattle.acpi_base.proofs.Puts.{put-append, length-put}
 use Rattle.acpi_base.proofs.Tables.{table_is_true, length-header}
@@ -19,7 +20,7 @@ use Rattle.acpi_core.specs.Flat.{has_space}
 use Rattle.acpi_core.specs.Offset.{structure_at, offset_of}
 use Rattle.acpi_core.specs.Walk.{IsWalkOf}
 use Rattle.acpi_core.specs.Laws.{ListingsAreTrue, ListingsGrow, StructuresStandAtOffsets, StructuresAreAddedAtTheEnd, StructuresStay, StructuresAreTheWalk, OffsetsDiffer}
-use Rattle.acpi_core.proofs.Patches.{concat_append}
+use Rattle.std.proofs.lemmas.List.Folds.{concat-append}
 use Rattle.acpi_core.proofs.Flats.{length-fields, length-body, length-bytes, size_more}
 
 pub are_true : ListingsAreTrue
@@ -91,7 +92,7 @@ stand t i is h =
     let before = concat (take i t.structures) in
     let rest = concat (drop (i + 1) t.structures) in
     let cut : concat t.structures ≡ before ++ (structure_at t i ++ rest) =
-    ap concat (sym (take-append-drop i t.structures)) ∙ concat_append (take i t.structures) (drop i t.structures) ∙ ap (λ l. before ++ concat l) (drop_more t.structures i [] h) in
+    ap concat (sym (take-append-drop i t.structures)) ∙ concat-append (take i t.structures) (drop i t.structures) ∙ ap (λ l. before ++ concat l) (drop_more t.structures i [] h) in
     let all : bytes_of t ≡ (front ++ before) ++ (structure_at t i ++ rest) = f.0 ∙ ap (λ b. front ++ b) cut ∙ sym (append_assoc front before (structure_at t i ++ rest)) in
     (rest, ap (drop (offset_of t i)) all ∙ drop_at (front ++ before) (structure_at t i ++ rest) (offset_of t i) (omega (arith, length-append front before, f.1)))
 
@@ -140,6 +141,23 @@ walked t w is walk each =
           field_between (bytes_of t) ((p.front ++ t.before) ++ n) field (drop tw t.after ++ s) w.told_start.offset tw split (told.0 ∙ sym l2) (sym (length-take-le tw t.after told.1))
           ∙ told.2 ∙ sym walk.start;
     }
+
+-- a header begins with the signature, whatever the checksum is
+begins : (s : List ℕ) (size revision : ℕ) (oem : Oem) (k body : List ℕ) → length s ≡ 4 → take 4 (put 9 k (header s size revision oem ++ body)) ≡ s
+unfolding put
+begins (a ∷ b ∷ c ∷ d ∷ []) size revision oem k body h = refl
+begins (a ∷ b ∷ c ∷ d ∷ e ∷ s) size revision oem k body h = absurd (omega arith)
+begins s size revision oem k body h = absurd (omega arith)
+
+-- what a table's signature is read as
+pub signature_told : (t : Listing) → IsListing t → field_at 0 4 (bytes_of t) ≡ named t.signature
+signature_told t is = ap carried (begins t.signature (36 + length (body_of t)) t.revision t.oem _ (body_of t) is.signature)
+
+-- where the pieces of a walk stand
+pub places : (start : ℕ) (ss : List (List ℕ)) (i : ℕ) → i < length ss → slice_index (offsets_from start ss) i ≡ start + length (concat (take i ss))
+places start [] i h = absurd (omega arith)
+places start (s ∷ ss) zero h = omega arith
+places start (s ∷ ss) (suc i) h = omega (arith, places (start + length s) ss i (omega arith), length-append s (concat (take i ss)))
 
 pub the_walk : StructuresAreTheWalk
 the_walk t w is walk has each =

@@ -11,14 +11,6 @@ pub put_nothing : (i : ℕ) (x : List ℕ) → put i [] x ≡ x
 unfolding put
 put_nothing i x = let same : i + 0 ≡ i = omega arith in rw same (take-append-drop i x)
 
-pub concat_push : (xss : List (List ℕ)) (x : List ℕ) → concat (xss ++ x ∷ []) ≡ concat xss ++ x
-concat_push [] x = append-nil x
-concat_push (y ∷ ys) x = ap (λ z. y ++ z) (concat_push ys x) ∙ sym (append_assoc y (concat ys) x)
-
-pub concat_append : (xs ys : List (List ℕ)) → concat (xs ++ ys) ≡ concat xs ++ concat ys
-concat_append [] ys = refl
-concat_append (x ∷ xs) ys = ap (λ b. x ++ b) (concat_append xs ys) ∙ sym (append_assoc x (concat xs) (concat ys))
-
 -- a header that tells another length
 pub header_patched : (s : List ℕ) (size size' revision : ℕ) (oem : Oem) (rest : List ℕ) → length s ≡ 4 → put 4 (le 4 size') (header s size revision oem ++ rest) ≡ header s size' revision oem ++ rest
 unfolding put

@@ -1,13 +1,15 @@
 -- Which walk a table of structures has.
-use Rattle.std.specs.Prelude.{◌≡◌, ℕ, ◌+◌, ◌≤◌, List, length, take}
+use Rattle.std.specs.Prelude.{◌≡◌, ℕ, ◌+◌, ◌<◌, ◌≤◌, List, length, take, slice_index, Some}
 use Rattle.acpi_base.specs.Bytes.{carried}
 use Rattle.acpi_base.specs.Table.{IsTrueTable}
-use Rattle.acpi_base.specs.Walk.{Walk, Walks, ArePieces}
+use Rattle.acpi_base.specs.Walk.{Walk, ArePieces, named, walk_of, offsets_from, ArePiecesOf}
 use Rattle.acpi_core.specs.Listing.{Listing, IsListing, bytes_of, start_of}
+use Rattle.acpi_core.specs.Offset.{offset_of}
 
--- The walk begins where the structures do, knows the place of their number where the table has one, and where it knows a
+-- The walk is that of the table's signature. It begins where the structures do, knows the place of their number where the table has one, and where it knows a
 -- field that tells the start, this follows the number and tells it.
 pub record IsWalkOf (w : Walk) (t : Listing) : Type 0 where
+  pub signature : walk_of (named t.signature) ≡ Some w
   pub start : w.start ≡ start_of t
   pub count_at : 1 ≤ w.count.width → w.count.offset ≡ 36 + length t.before
   pub count_width : w.count.width ≡ t.count_width
@@ -20,8 +22,10 @@ pub record Keeps (w : Walk) (t : Listing) : Type 0 where
   pub walk : IsWalkOf w t
   pub pieces : ArePieces w.sizes t.structures
 
--- The table's bytes are a true table's, and its structures, in order, are the one list that walks it.
+-- The table's bytes are a true table's. Its structures, in order, are the one list of pieces of a table of its signature, and
+-- stand where these do.
 pub record IsWalked (w : Walk) (t : Listing) : Type 0 where
   pub is_true : IsTrueTable (bytes_of t)
-  pub walks : Walks w (bytes_of t) t.structures
-  pub only : (pieces : List (List ℕ)) → Walks w (bytes_of t) pieces → pieces ≡ t.structures
+  pub walks : ArePiecesOf (bytes_of t) t.structures
+  pub only : (pieces : List (List ℕ)) → ArePiecesOf (bytes_of t) pieces → pieces ≡ t.structures
+  pub offsets : (i : ℕ) → i < length t.structures → slice_index (offsets_from w.start t.structures) i ≡ offset_of t i

@@ -12,3 +12,4 @@ pub mod Dotted
 pub mod Lines
 pub mod Sizes
 pub mod Widths
+pub mod Cuts

@@ -2,6 +2,7 @@ pub mod Table
 pub mod Cause
 pub mod TermStart
 pub mod Terms
+pub mod Pieces
 pub mod Report
 pub mod Lines
 pub mod Size

@@ -1,6 +1,9 @@
 -- The text that is told of a table.
-use Rattle.std.specs.Prelude.{ℕ, List, [], ◌∷◌, ◌++◌, length, map, take, codes, slice_index, nat_le, ◌&&◌, if◌then◌else◌}
+use Rattle.std.specs.Prelude.{◌≡◌, ℕ, List, [], ◌∷◌, ◌++◌, length, map, take, codes, slice_index, nat_le, ◌==◌, ◌&&◌, if◌then◌else◌, Option, Some, None}
 use Rattle.std.specs.Fmt.{decimal}
+use Rattle.acpi_base.specs.Bytes.{field_at}
+use Rattle.acpi_base.specs.Walk.{Place, Walk, nowhere, walk_of, ArePiecesOf}
+use Rattle.acpi_read.specs.Pieces.{offsets_of}
 
 -- a byte that prints, or a question mark
 abbrev pub printable : ℕ → ℕ
@@ -11,3 +14,29 @@ abbrev pub header_line : List ℕ → List ℕ
 header_line table =
     map printable (take 4 table) ++ codes " length " ++ decimal (length table)
     ++ codes " revision " ++ decimal (slice_index table 8) ++ codes " sum 0" ++ 10 ∷ []
+
+-- the type of a piece in decimal, by the field that tells it; an entry has none
+abbrev pub kind_text : Place → List ℕ → List ℕ
+kind_text kind piece = if kind.width == 0 then codes " entry" else codes " type " ++ decimal (field_at kind.offset kind.width piece)
+
+-- a piece's offset, its type and its size
+abbrev pub piece_line : Place → ℕ → List ℕ → List ℕ
+piece_line kind offset piece = decimal offset ++ kind_text kind piece ++ codes " size " ++ decimal (length piece) ++ 10 ∷ []
+
+abbrev pub piece_lines : Place → List ℕ → List (List ℕ) → List ℕ
+piece_lines kind (offset ∷ offsets) (piece ∷ pieces) = piece_line kind offset piece ++ piece_lines kind offsets pieces
+piece_lines kind _ _ = []
+
+-- where the structures of a walk tell their type
+abbrev pub kind_by : Option Walk → Place
+kind_by (Some w) = w.kind
+kind_by None = nowhere
+
+abbrev pub kind_of : List ℕ → Place
+kind_of table = kind_by (walk_of (field_at 0 4 table))
+
+-- The text tells of a table: its header's line, and a line for each of its pieces.
+pub record IsTableReport (table text : List ℕ) : Type 0 where
+  pub pieces : List (List ℕ)
+  pub walk : ArePiecesOf table pieces
+  pub is : text ≡ header_line table ++ piece_lines (kind_of table) (offsets_of table pieces) pieces

@@ -2,6 +2,8 @@
 #![tactic(auto)]
 
 pub mod laws;
+pub mod pieces;
 pub mod report;
 pub mod table;
 pub mod terms;
+mod walk;

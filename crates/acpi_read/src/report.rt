@@ -1,6 +1,7 @@
 //! What is told of tables and terms as text.
 
 mod line;
+mod piece;
 mod size;
 mod width;
 mod words;
@@ -8,11 +9,13 @@ mod words;
 ghost use Rattle.std.specs.Prelude.{◌≡◌, ◌++◌, IfErr, IfOk, OnOk, codes, map, string_bytes};
 ghost use Rattle.std.specs.Fmt.{decimal};
 ghost use Rattle.acpi_term.specs.View.{entry_view, head_of, view, views, single};
-ghost use Rattle.acpi_read.specs.Report.{header_line, printable};
+ghost use Rattle.acpi_read.specs.Report.{header_line, printable, IsTableReport};
+ghost use Rattle.acpi_read.specs.Pieces.{IsPieceFault};
 ghost use Rattle.acpi_read.specs.Lines.{head_text, line, entry_text, entry_line, entry_lines, own_lines, lines, AreReported};
 ghost use Rattle.acpi_read.specs.Size.{width_words, HasSizes};
 
 use crate::report::line::push_head;
+use crate::report::piece::{kind_of, push_pieces};
 use crate::report::size::content_sizes;
 use crate::report::width::{push_width, shown_entry_width, shown_width};
 use crate::report::words::{push_indent, push_number};
@@ -33,8 +36,8 @@ fn shown(byte: u8) -> char
     }
 }
 
-/// The report of a table: its signature, its length in bytes, its revision and its sum, on one line.
-pub fn report_table(alloc: Global, table: &Table) -> Result<String, ReadError>
+/// The first line of a table's report: its signature, its length in bytes, its revision and its sum.
+pub fn report_header(alloc: Global, table: &Table) -> Result<String, ReadError>
     ensures ok { IfOk result (λ text. string_bytes text ≡ header_line table.now) }
     ensures err { IfErr result (λ e. e ≡ ReadError.Memory) }
 {
@@ -43,6 +46,18 @@ pub fn report_table(alloc: Global, table: &Table) -> Result<String, ReadError>
     let length = table.bytes().len();
     let revision = table.revision();
     Ok(format!(in alloc; "{a}{b}{c}{d} length {length} revision {revision} sum 0\n")?)
+}
+
+/// The report of a table: its header's line, and a line for each of its structures, with the offset at which it begins, its
+/// type, if its table's structures have types, and its size in bytes. The refusals are those of `Table::pieces`.
+pub fn report_table(alloc: Global, table: &Table) -> Result<String, ReadError>
+    ensures ok { IfOk result (λ text. IsTableReport table.now (string_bytes text)) }
+    ensures err { IfErr result (λ e. IsPieceFault e table.now) }
+{
+    let pieces = table.pieces(alloc)?;
+    let mut text = report_header(alloc, table)?;
+    push_pieces(kind_of(table), &pieces, &mut text)?;
+    Ok(text)
 }
 
 /// The report of terms: a line for each, and its children after it, two spaces deeper. A line ends in `width` and the width

@@ -1,0 +1,175 @@
+-- Bytes that are cut into pieces.
+use Rattle.std.proofs.Common.{◌≡◌, ℕ, zero, suc, ◌+◌, ◌<◌, ◌≤◌, ◌==◌, List, [], ◌∷◌, ◌++◌, Bool, true, false, if◌then◌else◌, length, take, drop, get_or, map, refl, sym, ap, ◌∙◌, arith, append_assoc, length-append, length-drop}
+use Rattle.std.specs.Prelude.{Option, Some, None}
+use Rattle.std.specs.List.{All, concat}
+use Rattle.std.proofs.lemmas.List.{append-nil, take-append-drop, length-take-le, drop-drop, map_push}
+use Rattle.acpi_base.specs.Bytes.{field_at}
+use Rattle.acpi_base.specs.Walk.{Sizes, each_of, told_at, by_source, source_size, IsPiece, ArePieces, HasSizes, offsets_from, Walk, Walks, WalksBy, Tells}
+use Rattle.acpi_base.proofs.Walks.{field_front, piece_has_bytes, same_front, one_list, concat_push, pieces_push}
+use Rattle.acpi_read.specs.Pieces.{Refusal, no_memory, bad_structure, bad_count, unknown_source, another, IsFront, NoFront, IsFrontFault, AreCut, NoCut, IsCutFault, IsKnown, least, end_of}
+
+-- ---- the first piece
+
+-- what a field of a list's beginning tells
+field_taken : (o w n : ℕ) (rest : List ℕ) → o + w ≤ n → n ≤ length rest → field_at o w (take n rest) ≡ field_at o w rest
+field_taken o w n rest reaches fits =
+    sym (field_front o w (take n rest) (drop n rest) (omega (arith, reaches, length-take-le n rest fits))) ∙ ap (field_at o w) (take-append-drop n rest)
+
+pub same_front_size : (s t : Sizes) (m n : ℕ) (rest : List ℕ) → s ≡ t → m ≡ n → IsFront t n rest → IsFront s m rest
+same_front_size s t m n rest same is front = rw (same, is) front
+
+pub front_each : (n : ℕ) (rest : List ℕ) → n ≤ length rest → IsFront (each_of n) n rest
+front_each n rest fits = record { fits = fits; piece = length-take-le n rest fits }
+
+pub front_told : (o w n : ℕ) (rest : List ℕ) → o + w ≤ n → n ≤ length rest → n ≡ field_at o w rest → IsFront (told_at o w) n rest
+front_told o w n rest reaches fits is =
+    let size = length-take-le n rest fits in
+    record { fits = fits; piece = (omega (arith, size, reaches), field_taken o w n rest reaches fits ∙ sym is ∙ sym size) }
+
+same_value : (m n : ℕ) → Some m ≡ Some n → m ≡ n
+same_value m n is = cc
+
+one_size : (b : Bool) (m n : ℕ) (o : Option ℕ) → 2 ≤ m → (o ≡ Some n → 2 ≤ n) → (if b then Some m else o) ≡ Some n → 2 ≤ n
+one_size true m n o low rest is = omega (arith, low, same_value m n is)
+one_size false m n o low rest is = rest is
+
+-- every source has more bytes than its type
+source_has : (kind n : ℕ) → source_size kind ≡ Some n → 2 ≤ n
+source_has kind n is =
+    one_size (kind == 6) 48 n _ (omega arith) (one_size (kind == 7) 44 n _ (omega arith) (one_size (kind == 8) 56 n _ (omega arith)
+    (one_size (kind == 9) 64 n _ (omega arith) (one_size (kind == 10) 92 n _ (omega arith) (λ none. absurd cc))))) is
+
+pub front_source : (n : ℕ) (rest : List ℕ) → n ≤ length rest → source_size (field_at 0 2 rest) ≡ Some n → IsFront by_source n rest
+front_source n rest fits is =
+    let size = length-take-le n rest fits in
+    let low = source_has (field_at 0 2 rest) n is in
+    record { fits = fits; piece = (omega (arith, size, low), ap source_size (field_taken 0 2 n rest low fits) ∙ is ∙ ap Some (sym size)) }
+
+-- ---- no piece at the front
+
+-- a piece at the front doesn't pass the bytes
+within : (p q rest : List ℕ) → p ++ q ≡ rest → length p ≤ length rest
+within p q rest is = omega (arith, ap length is, length-append p q)
+
+pub none_each : (n : ℕ) (rest : List ℕ) → length rest < n → NoFront (each_of n) rest
+none_each n rest short p q is piece = omega (arith, within p q rest is, piece, short)
+
+-- what a piece at the front tells is its length
+told_length : (o w : ℕ) (p q rest : List ℕ) → p ++ q ≡ rest → IsPiece (told_at o w) p → field_at o w rest ≡ length p
+told_length o w p q rest is piece = ap (field_at o w) (sym is) ∙ field_front o w p q piece.0 ∙ piece.1
+
+pub none_reached : (o w : ℕ) (rest : List ℕ) → length rest < o + w → NoFront (told_at o w) rest
+none_reached o w rest short p q is piece = omega (arith, within p q rest is, piece.0, short)
+
+pub none_short : (o w n : ℕ) (rest : List ℕ) → n ≡ field_at o w rest → n < o + w → NoFront (told_at o w) rest
+none_short o w n rest told short p q is piece = omega (arith, piece.0, told_length o w p q rest is piece, told, short)
+
+pub none_long : (o w n : ℕ) (rest : List ℕ) → n ≡ field_at o w rest → length rest < n → NoFront (told_at o w) rest
+none_long o w n rest told long p q is piece = omega (arith, within p q rest is, told_length o w p q rest is piece, told, long)
+
+pub none_typed : (rest : List ℕ) → length rest < 2 → NoFront by_source rest
+none_typed rest short p q is piece = omega (arith, within p q rest is, piece.0, short)
+
+-- the size of a source's type is its length
+source_length : (p q rest : List ℕ) → p ++ q ≡ rest → IsPiece by_source p → source_size (field_at 0 2 rest) ≡ Some (length p)
+source_length p q rest is piece = ap source_size (ap (field_at 0 2) (sym is) ∙ field_front 0 2 p q (omega (arith, piece.0))) ∙ piece.1
+
+pub none_known : (rest : List ℕ) → source_size (field_at 0 2 rest) ≡ None → NoFront by_source rest
+none_known rest none p q is piece = let no : None ≡ Some (length p) = sym none ∙ source_length p q rest is piece in absurd cc
+
+pub none_sized : (n : ℕ) (rest : List ℕ) → source_size (field_at 0 2 rest) ≡ Some n → length rest < n → NoFront by_source rest
+none_sized n rest sized long p q is piece =
+    let same = same_value n (length p) (sym sized ∙ source_length p q rest is piece) in omega (arith, within p q rest is, same, long)
+
+-- ---- all pieces
+
+pub no_cut : (s : Sizes) (done : List (List ℕ)) (rest : List ℕ) → HasSizes s → ArePieces s done → 1 ≤ length rest → NoFront s rest → NoCut s (concat done ++ rest)
+no_cut s [] rest has all some none [] each is = omega (arith, ap length is, some)
+no_cut s [] rest has all some none (p ∷ ps) each is = none p (concat ps) is each.0
+no_cut s (d ∷ ds) rest has all some none [] each is =
+    omega (arith, ap length is, length-append (d ++ concat ds) rest, length-append d (concat ds), some)
+no_cut s (d ∷ ds) rest has all some none (p ∷ ps) each is =
+    let both = same_front s p d (concat ps) (concat ds ++ rest) each.0 all.0 (is ∙ append_assoc d (concat ds) rest) in
+    no_cut s ds rest has all.1 some none ps each.1 both.1
+
+pub cut_fault : (e : Refusal) (s : Sizes) (start at : ℕ) (bytes : List ℕ) (done : List (List ℕ)) → HasSizes s → ArePieces s done → at < length bytes → concat done ++ drop at bytes ≡ drop start bytes
+    → IsFrontFault e s at (drop at bytes) → IsCutFault e s start bytes
+cut_fault no_memory s start at bytes done has all inside joined fault = absurd fault
+cut_fault (bad_structure offset) s start at bytes done has all inside joined fault =
+    (omega (arith, fault.0, inside), rw (← joined) (no_cut s done (drop at bytes) has all (omega (arith, length-drop at bytes, inside)) fault.1))
+cut_fault (bad_count offset) s start at bytes done has all inside joined fault = absurd fault
+cut_fault (unknown_source offset) s start at bytes done has all inside joined fault =
+    (omega (arith, fault.0, inside), rw (← joined) (no_cut s done (drop at bytes) has all (omega (arith, length-drop at bytes, inside)) fault.1), rw fault.0 fault.2)
+cut_fault another s start at bytes done has all inside joined fault = absurd fault
+
+offsets_push : (start : ℕ) (ps : List (List ℕ)) (p : List ℕ) → offsets_from start (ps ++ p ∷ []) ≡ offsets_from start ps ++ (start + length (concat ps)) ∷ []
+offsets_push start [] p = ap (λ n. n ∷ []) (omega arith)
+offsets_push start (q ∷ ps) p =
+    ap (λ l. start ∷ l) (offsets_push (start + length q) ps p ∙ ap (λ n. offsets_from (start + length q) ps ++ n ∷ []) (omega (arith, length-append q (concat ps))))
+
+-- What was cut so far, up to an offset.
+pub record IsCutSoFar (s : Sizes) (start at : ℕ) (bytes : List ℕ) (pieces : List (List ℕ)) (offsets : List ℕ) : Type 0 where
+  pub within : at ≤ length bytes
+  pub size : start + length (concat pieces) ≡ at
+  pub joined : concat pieces ++ drop at bytes ≡ drop start bytes
+  pub each : ArePieces s pieces
+  pub places : offsets ≡ offsets_from start pieces
+
+cut_more : (s : Sizes) (start at n : ℕ) (bytes p : List ℕ) (pieces : List (List ℕ)) (offsets : List ℕ) → IsCutSoFar s start at bytes pieces offsets → IsFront s n (drop at bytes) → p ≡ take n (drop at bytes)
+    → IsCutSoFar s start (at + n) bytes (pieces ++ p ∷ []) (offsets ++ at ∷ [])
+cut_more s start at n bytes p pieces offsets so front is =
+    let long : length p ≡ n = ap length is ∙ length-take-le n (drop at bytes) front.fits in
+    let rest : p ++ drop (at + n) bytes ≡ drop at bytes =
+    ap (λ q. q ++ drop (at + n) bytes) is ∙ ap (λ q. take n (drop at bytes) ++ q) (sym (drop-drop n at bytes)) ∙ take-append-drop n (drop at bytes) in
+    record {
+      within = omega (arith, front.fits, length-drop at bytes, so.within);
+      size = omega (arith, so.size, ap length (concat_push pieces p), length-append (concat pieces) p, long);
+      joined = ap (λ b. b ++ drop (at + n) bytes) (concat_push pieces p) ∙ append_assoc (concat pieces) p (drop (at + n) bytes) ∙ ap (λ b. concat pieces ++ b) rest ∙ so.joined;
+      each = pieces_push s pieces p so.each (rw is front.piece);
+      places = ap (λ l. l ++ at ∷ []) so.places ∙ ap (λ k. offsets_from start pieces ++ k ∷ []) (sym so.size) ∙ sym (offsets_push start pieces p);
+    }
+
+-- the same, where the pieces are parts of others
+pub cut_pushed : {P : Type 0} (f : P → List ℕ) (g : P → ℕ) (s : Sizes) (start at n : ℕ) (bytes : List ℕ) (xs ys : List P) (x : P) → ys ≡ xs ++ x ∷ [] → IsCutSoFar s start at bytes (map f xs) (map g xs)
+    → IsFront s n (drop at bytes) → f x ≡ take n (drop at bytes) → g x ≡ at → IsCutSoFar s start (at + n) bytes (map f ys) (map g ys)
+cut_pushed f g s start at n bytes xs ys x more so front is place =
+    rw (ap (map f) more ∙ map_push f xs x, ap (map g) more ∙ map_push g xs x ∙ ap (λ k. map g xs ++ k ∷ []) place) (cut_more s start at n bytes (f x) (map f xs) (map g xs) so front is)
+
+pub cut_whole : (s : Sizes) (start at : ℕ) (bytes : List ℕ) (pieces : List (List ℕ)) (offsets : List ℕ) → IsCutSoFar s start at bytes pieces offsets → length bytes ≤ at → AreCut s start bytes pieces offsets
+cut_whole s start at bytes pieces offsets so all =
+    let none : drop at bytes ≡ [] = nothing (drop at bytes) (omega (arith, length-drop at bytes, all)) in
+    record { joined = sym so.joined ∙ ap (λ r. concat pieces ++ r) none ∙ append-nil (concat pieces); each = so.each; places = so.places }
+  where
+    nothing : (l : List ℕ) → length l ≡ 0 → l ≡ []
+    nothing [] h = refl
+    nothing (x ∷ l) h = absurd (omega arith)
+
+pub front_goes_on : (s : Sizes) (n : ℕ) (rest : List ℕ) → HasSizes s → IsFront s n rest → 1 ≤ n
+front_goes_on s n rest has front = omega (arith, piece_has_bytes s (take n rest) has front.piece, length-take-le n rest front.fits)
+
+-- ---- the number of pieces
+
+pub miscounted : (w : Walk) (bytes : List ℕ) (pieces : List (List ℕ)) (offsets : List ℕ) (n : ℕ) → HasSizes w.sizes → AreCut w.sizes w.start bytes pieces offsets → n ≡ length pieces → (Tells w.count bytes n → ⊥) → (others : List (List ℕ)) → Walks w bytes others → ⊥
+miscounted w bytes pieces offsets n has cut is fails others walks =
+    let same = one_list w.sizes others pieces has walks.each cut.each (sym walks.joined ∙ cut.joined) in
+    fails (λ some. walks.counted some ∙ ap length same ∙ sym is)
+
+-- ---- what each piece reaches
+
+least_reached : (s : Sizes) (p : List ℕ) → IsPiece s p → least s ≤ length p
+least_reached (each_of n) p is = omega (arith, is)
+least_reached (told_at offset width) p is = is.0
+least_reached by_source p is = is.0
+
+each_reaches : (s : Sizes) (n : ℕ) → n ≤ least s → (ps : List (List ℕ)) → ArePieces s ps → All (λ p. n ≤ length p) ps
+each_reaches s n low [] all k d h = absurd (omega arith)
+each_reaches s n low (p ∷ ps) all zero d h = omega (arith, low, least_reached s p all.0)
+each_reaches s n low (p ∷ ps) all (suc k) d h = each_reaches s n low ps all.1 k d (omega arith)
+
+pub reached_by : (o : Option Walk) (w : Walk) (bytes : List ℕ) → o ≡ Some w → IsKnown w → (pieces : List (List ℕ)) → WalksBy o bytes pieces → All (λ piece. end_of w.kind ≤ length piece) pieces
+reached_by o w bytes is known pieces walks = let by : Walks w bytes pieces = rw is at walks in each_reaches w.sizes (end_of w.kind) known.kind pieces by.each
+
+pub all_mapped : {P : Type 0} (f : P → List ℕ) (n : ℕ) (xs : List P) (i : ℕ) (d : P) → All (λ p. n ≤ length p) (map f xs) → i < length xs → n ≤ length (f (get_or xs i d))
+all_mapped f n [] i d all h = absurd (omega arith)
+all_mapped f n (x ∷ xs) zero d all h = all 0 (f d) (omega arith)
+all_mapped f n (x ∷ xs) (suc i) d all h = all_mapped f n xs i d (λ k e inside. all (suc k) e (omega (arith, inside))) (omega arith)

@@ -1,0 +1,137 @@
+//! The structures of a table, found by their sizes.
+
+ghost use Rattle.std.specs.Prelude.{◌≡◌, ◌+◌, ◌≤◌, length, take, drop, map, Some, IfOk, IfErr};
+ghost use Rattle.acpi_base.specs.Bytes.{field_at};
+ghost use Rattle.acpi_base.specs.Walk.{source_size, HasSizes, Walks, ArePiecesOf};
+ghost use Rattle.acpi_read.specs.Pieces.{sizes_of, meant, refusal_of, IsKnown, IsFront, IsFrontFault, AreCut, IsCutFault, offsets_by, offsets_of, IsFaultBy, IsPieceFault};
+
+use crate::table::Table;
+use crate::walk::{Place, Size, Walk, walk_of};
+use acpi_term::read_error::ReadError;
+use std::alloc::Global;
+
+/// A structure of a table: where it begins in the table, and its bytes, which are lent and not copied.
+#[derive(Clone, Copy)]
+pub struct Piece<'a> {
+    pub offset: usize,
+    pub bytes: &'a [u8],
+}
+
+// The size of an error source of a type (ACPI 6.5, 18.3.2).
+fn source_size(kind: usize) -> Option<usize>
+    ensures { result ≡ source_size kind }
+{
+    match kind {
+        6 => Some(48),
+        7 => Some(44),
+        8 => Some(56),
+        9 => Some(64),
+        10 => Some(92),
+        _ => None,
+    }
+}
+
+// How long the piece is with which bytes at an offset begin.
+fn front_size(rest: &[u8], sizes: Size, at: usize) -> Result<usize, ReadError>
+    ensures ok { IfOk result (λ n. IsFront (sizes_of sizes) n rest.now) }
+    ensures err { IfErr result (λ e. IsFrontFault (refusal_of e) (sizes_of sizes) at rest.now) }
+{
+    let size = match sizes {
+        Size::EachOf(size) => usize::from(size),
+        Size::ToldAt(place) => {
+            if rest.len() < place.end() {
+                return Err(ReadError::Structure(at));
+            }
+            let size = place.number(rest);
+            if size < place.end() {
+                return Err(ReadError::Structure(at));
+            }
+            size
+        }
+        Size::BySource => {
+            if rest.len() < 2 {
+                return Err(ReadError::Structure(at));
+            }
+            let Some(size) = source_size(Place::Word(0).number(rest)) else {
+                return Err(ReadError::UnknownSource(at));
+            };
+            size
+        }
+    };
+    if size > rest.len() {
+        return Err(ReadError::Structure(at));
+    }
+    Ok(size)
+}
+
+fn piece_at(bytes: &[u8], at: usize, size: usize) -> Piece<'_>
+    requires { at + size ≤ length bytes.now }
+    ensures offset { result.offset ≡ at }
+    ensures bytes { result.bytes.now ≡ take size (drop at bytes.now) }
+{
+    Piece {
+        offset: at,
+        bytes: &bytes[at..at + size],
+    }
+}
+
+// Cuts the bytes from a start on into pieces.
+fn cut(alloc: Global, bytes: &[u8], start: usize, sizes: Size) -> Result<Vec<Piece<'_>>, ReadError>
+    requires start { start ≤ length bytes.now }
+    requires sizes { HasSizes (sizes_of sizes) }
+    ensures ok { IfOk result (λ v. AreCut (sizes_of sizes) start bytes.now (map (λ p. p.bytes.now) v.items) (map (λ p. p.offset) v.items)) }
+    ensures err { IfErr result (λ e. IsCutFault (refusal_of e) (sizes_of sizes) start bytes.now) }
+{
+    let mut pieces = Vec::new(alloc);
+    let mut at = start;
+    while at < bytes.len() {
+        let size = front_size(&bytes[at..], sizes, at)?;
+        pieces.push(piece_at(bytes, at, size))?;
+        at += size;
+    }
+    Ok(pieces)
+}
+
+// The pieces of a table that has a walk.
+fn walked(alloc: Global, bytes: &[u8], walk: Walk) -> Result<Vec<Piece<'_>>, ReadError>
+    requires known { IsKnown (meant walk) }
+    ensures walk { IfOk result (λ v. Walks (meant walk) bytes.now (map (λ p. p.bytes.now) v.items)) }
+    ensures offsets { IfOk result (λ v. map (λ p. p.offset) v.items ≡ offsets_by (Some (meant walk)) (map (λ p. p.bytes.now) v.items)) }
+    ensures err { IfErr result (λ e. IsFaultBy (refusal_of e) (Some (meant walk)) bytes.now) }
+{
+    let start = usize::from(walk.start);
+    if bytes.len() < start {
+        return Err(ReadError::Structure(bytes.len()));
+    }
+    if !walk.told_start.tells(bytes, start) {
+        return Err(ReadError::Structure(start));
+    }
+    let pieces = cut(alloc, bytes, start, walk.sizes)?;
+    if !walk.count.tells(bytes, pieces.len()) {
+        return Err(ReadError::Count(start));
+    }
+    Ok(pieces)
+}
+
+impl<'a> Table<'a> {
+    /// The table's structures, in order, each with the offset at which it begins; none where a signature's tables have no
+    /// structures. UnknownSource where an error source has a type other than 6 to 10, Count where the table tells another
+    /// number of structures, Structure where they don't lie as their lengths say.
+    pub fn pieces(&self, alloc: Global) -> Result<Vec<Piece<'a>>, ReadError>
+        ensures walk { IfOk result (λ v. ArePiecesOf self.now (map (λ p. p.bytes.now) v.items)) }
+        ensures offsets { IfOk result (λ v. map (λ p. p.offset) v.items ≡ offsets_of self.now (map (λ p. p.bytes.now) v.items)) }
+        ensures err { IfErr result (λ e. IsPieceFault e self.now) }
+    {
+        match walk_of(signature_number(self)) {
+            None => Ok(Vec::new(alloc)),
+            Some(walk) => walked(alloc, self.bytes(), walk),
+        }
+    }
+}
+
+// A table's signature as a number.
+pub(crate) fn signature_number(table: &Table) -> u32
+    ensures { result ≡ field_at 0 4 table.now }
+{
+    u32::from_le_bytes(table.signature())
+}
