@@ -14,7 +14,8 @@ use std::test::Fail;
 const ONE_DEVICE: [u8; 12] = *b"\x01\0\0\0\x30\0\0\0\0\0\0\0";
 
 // An IOMMU of zeros without wires.
-const PLAIN_IOMMU: [u8; 32] = *b"\0\x01\x20\0\0\0\0\0\0\0\0\0\0\0\0\0\0\0\0\0\0\0\0\0\0\0\0\0\0\0\x20\0";
+const PLAIN_IOMMU: [u8; 32] =
+    *b"\0\x01\x20\0\0\0\0\0\0\0\0\0\0\0\0\0\0\0\0\0\0\0\0\0\0\0\0\0\0\0\x20\0";
 
 fn table(alloc: Global) -> RIMT {
     RIMT::new(alloc, OEM, OEM_TABLE, OEM_REVISION)
@@ -411,7 +412,12 @@ fn the_longest_platform_devices(rt: HostRuntime) -> Result<(), Fail> {
     refused(&rt, alloc, &more);
     assert_eq!(rt; table.add_platform(more), Err(Error::FieldWidth));
     many(&rt, alloc, &table, b"RIMT", 1, &ONE_DEVICE, &wanted, 1)?;
-    let mut named = behind(alloc, b"\x02\x01\xff\xff\x01\x02\0\0\xff\xff\0\0", b"n", 65_522)?;
+    let mut named = behind(
+        alloc,
+        b"\x02\x01\xff\xff\x01\x02\0\0\xff\xff\0\0",
+        b"n",
+        65_522,
+    )?;
     named.push(0)?;
     writes(
         &rt,

@@ -35,11 +35,7 @@ fn a_node_of_each_kind(rt: HostRuntime) -> Result<(), Fail> {
     let first = table.add_virtio_pci_iommu(VirtIoPciIommu::new(device))?;
     table.add_pci_range(range(&first))?;
     let second = table.add_virtio_mmio_iommu(VirtIoMmioIommu::new(0x1817_1615_1413_1211))?;
-    table.add_mmio_endpoint(MmioEndpoint::new(
-        0x0403_0201,
-        0x2827_2625_2423_2221,
-        &second,
-    ))?;
+    table.add_mmio_endpoint(MmioEndpoint::new(0x0403_0201, 0x2827_2625_2423_2221, &second))?;
     table.add_pci_range(range(&second))?;
     writes(
         &rt,
