@@ -36,7 +36,7 @@ abbrev pub kind_of : List ℕ → Place
 kind_of table = kind_by (walk_of (field_at 0 4 table))
 
 -- The text tells of a table: its header's line, and a line for each of its pieces.
-pub record IsTableReport (table text : List ℕ) : Type 0 where
+pub record ReportsTable (table text : List ℕ) : Type 0 where
   pub pieces : List (List ℕ)
   pub walk : ArePiecesOf table pieces
   pub is : text ≡ header_line table ++ piece_lines (kind_of table) (offsets_of table pieces) pieces

@@ -9,7 +9,7 @@ mod words;
 ghost use Rattle.std.specs.Prelude.{◌≡◌, ◌++◌, IfErr, IfOk, OnOk, codes, map, string_bytes};
 ghost use Rattle.std.specs.Fmt.{decimal};
 ghost use Rattle.acpi_term.specs.View.{entry_view, head_of, view, views, single};
-ghost use Rattle.acpi_read.specs.Report.{header_line, printable, IsTableReport};
+ghost use Rattle.acpi_read.specs.Report.{header_line, printable, ReportsTable};
 ghost use Rattle.acpi_read.specs.Pieces.{IsPieceFault};
 ghost use Rattle.acpi_read.specs.Lines.{head_text, line, entry_text, entry_line, entry_lines, own_lines, lines, AreReported};
 ghost use Rattle.acpi_read.specs.Size.{width_words, HasSizes};
@@ -51,7 +51,7 @@ pub fn report_header(alloc: Global, table: &Table) -> Result<String, ReadError>
 /// The report of a table: its header's line, and a line for each of its structures, with the offset at which it begins, its
 /// type, if its table's structures have types, and its size in bytes. The refusals are those of `Table::pieces`.
 pub fn report_table(alloc: Global, table: &Table) -> Result<String, ReadError>
-    ensures ok { IfOk result (λ text. IsTableReport table.now (string_bytes text)) }
+    ensures ok { IfOk result (λ text. ReportsTable table.now (string_bytes text)) }
     ensures err { IfErr result (λ e. IsPieceFault e table.now) }
 {
     let pieces = table.pieces(alloc)?;

@@ -3,7 +3,7 @@ use Rattle.acpi_term.specs.declared.read_error.ReadError.TheVariants.{Memory}
 use Rattle.acpiread_run.specs.declared.fault.Fault.{Fault}
 use Rattle.acpiread_run.specs.declared.fault.Fault.TheVariants.{Usage, RefusedAt, Refused}
 use Rattle.acpiread_run.specs.Fault.{IsRefusal, IsRefusalAfter}
-use Rattle.acpiread_run.specs.Report.{IsTableFault, IsTermsFault}
+use Rattle.acpiread_run.specs.Report.{IsHeaderFault, IsTermsFault}
 
 -- want of memory is told the same of all bytes
 memory_after : (start : ℕ) (fault : Fault) → IsRefusal Memory fault → IsRefusalAfter start Memory fault
@@ -14,5 +14,5 @@ memory_after start (Refused kind) h = h
 pub memory : (arity : List ℕ → ℕ) (start : ℕ) (bytes : List ℕ) (fault : Fault) → IsRefusal Memory fault → IsTermsFault arity start bytes fault
 memory arity start bytes fault h = record { error = Memory; refusal = memory_after start fault h; cause = tt }
 
-pub table_memory : (bytes : List ℕ) (fault : Fault) → IsRefusal Memory fault → IsTableFault bytes fault
-table_memory bytes fault h = record { error = Memory; refusal = h; cause = λ other. absurd (other refl) }
+pub header_memory : (bytes : List ℕ) (fault : Fault) → IsRefusal Memory fault → IsHeaderFault bytes fault
+header_memory bytes fault h = record { error = Memory; refusal = h; cause = λ other. absurd (other refl) }

@@ -6,15 +6,21 @@ use Rattle.acpi_term.specs.Tree.{Terms}
 use Rattle.acpi_base.specs.Table.{IsTrueTable}
 use Rattle.acpi_read.specs.Table.{IsFault}
 use Rattle.acpi_read.specs.Terms.{AreRead, IsUnread}
-use Rattle.acpi_read.specs.Report.{header_line}
+use Rattle.acpi_read.specs.Pieces.{IsPieceFault}
+use Rattle.acpi_read.specs.Report.{header_line, ReportsTable}
 use Rattle.acpi_read.specs.Lines.{lines}
 use Rattle.acpiread_run.specs.declared.fault.Fault.{Fault}
 use Rattle.acpiread_run.specs.Fault.{IsRefusal, IsRefusalAfter}
 
--- the bytes are a table, and a text is its report
-pub record IsTableReport (bytes text : List ℕ) : Type 0 where
+-- the bytes are a table, and a text is the first line of its report
+pub record IsHeaderReport (bytes text : List ℕ) : Type 0 where
   pub is_table : IsTrueTable bytes
   pub is : text ≡ header_line bytes
+
+-- the bytes are a table whose structures are found, and a text is its report
+pub record IsTableReport (bytes text : List ℕ) : Type 0 where
+  pub is_table : IsTrueTable bytes
+  pub report : ReportsTable bytes text
 
 -- the bytes are no more than a table can have and spell terms, and a text is their report
 pub record IsAmlReport (arity : List ℕ → ℕ) (bytes text : List ℕ) : Type 0 where
@@ -23,18 +29,29 @@ pub record IsAmlReport (arity : List ℕ → ℕ) (bytes text : List ℕ) : Type
   pub read : AreRead arity bytes terms
   pub is : text ≡ lines 0 terms
 
--- the bytes are a table that has terms after its header, and a text is the table's report and the terms' after it
+-- the bytes are a table that has terms after its header, and a text is the first line of the table's report and the
+-- terms' report after it
 pub record IsDsdtReport (arity : List ℕ → ℕ) (bytes text : List ℕ) : Type 0 where
   pub is_table : IsTrueTable bytes
   pub terms : Terms
   pub read : AreRead arity (drop 36 bytes) terms
   pub is : text ≡ header_line bytes ++ lines 0 terms
 
--- a fault tells what is at fault in the bytes of a table, or that memory ran out
-pub record IsTableFault (bytes : List ℕ) (fault : Fault) : Type 0 where
+-- a fault tells what is at fault in the header of a table, its length or its sum, or that memory ran out
+pub record IsHeaderFault (bytes : List ℕ) (fault : Fault) : Type 0 where
   pub error : ReadError
   pub refusal : IsRefusal error fault
   pub cause : error ≢ Memory → IsFault error bytes
+
+-- the bytes are a table, and a fault tells why its structures aren't found, or that memory ran out
+pub record IsStructuresFault (bytes : List ℕ) (fault : Fault) : Type 0 where
+  pub is_table : IsTrueTable bytes
+  pub error : ReadError
+  pub refusal : IsRefusal error fault
+  pub cause : IsPieceFault error bytes
+
+abbrev pub IsTableFault : List ℕ → Fault → Type 0
+IsTableFault bytes fault = IsHeaderFault bytes fault ⊎ IsStructuresFault bytes fault
 
 -- a fault tells why the bytes from an offset on aren't read as terms, or that memory ran out
 pub record IsTermsFault (arity : List ℕ → ℕ) (start : ℕ) (bytes : List ℕ) (fault : Fault) : Type 0 where
@@ -56,4 +73,4 @@ pub record IsBodyFault (arity : List ℕ → ℕ) (bytes : List ℕ) (fault : Fa
   pub terms : IsTermsFault arity 36 bytes fault
 
 abbrev pub IsDsdtFault : (List ℕ → ℕ) → List ℕ → Fault → Type 0
-IsDsdtFault arity bytes fault = IsTableFault bytes fault ⊎ IsBodyFault arity bytes fault
+IsDsdtFault arity bytes fault = IsHeaderFault bytes fault ⊎ IsBodyFault arity bytes fault

@@ -2,10 +2,10 @@
 
 ghost use Rattle.std.specs.Prelude.{string_bytes, IfOk, IfErr};
 ghost use Rattle.acpi_term.specs.Arity.{arity};
-ghost use Rattle.acpiread_run.specs.Report.{IsTableReport, IsAmlReport, IsDsdtReport, IsTableFault, IsAmlFault, IsDsdtFault};
+ghost use Rattle.acpiread_run.specs.Report.{IsHeaderReport, IsTableReport, IsAmlReport, IsDsdtReport, IsHeaderFault, IsTableFault, IsAmlFault, IsDsdtFault};
 
 use crate::fault::Fault;
-use acpi_read::report::{report_table, report_terms};
+use acpi_read::report::{report_header, report_table, report_terms};
 use acpi_read::table::Table;
 use acpi_read::terms::terms;
 use acpi_term::name_string::Arities;
@@ -17,6 +17,15 @@ const BODY: usize = 36;
 
 /// The most bytes that a table can have: what its length can tell.
 pub(crate) const MOST_BYTES: usize = 0xffff_ffff;
+
+// The first line of the report of a table.
+fn header_report(alloc: Global, bytes: &[u8]) -> Result<String, Fault>
+    ensures ok { IfOk result (λ text. IsHeaderReport bytes.now (string_bytes text)) }
+    ensures err { IfErr result (IsHeaderFault bytes.now) }
+{
+    let table = Table::check(bytes)?;
+    Ok(report_header(alloc, &table)?)
+}
 
 /// The report of a table.
 pub fn table_report(alloc: Global, bytes: &[u8]) -> Result<String, Fault>
@@ -40,12 +49,12 @@ pub fn aml_report(alloc: Global, bytes: &[u8], arities: &Arities) -> Result<Stri
     Ok(report_terms(alloc, &terms)?)
 }
 
-/// The report of a table, and of the terms after its header.
+/// The first line of the report of a table, and the report of the terms after its header.
 pub fn dsdt_report(alloc: Global, bytes: &[u8], arities: &Arities) -> Result<String, Fault>
     ensures ok { IfOk result (λ text. IsDsdtReport (arity arities.now) bytes.now (string_bytes text)) }
     ensures err { IfErr result (IsDsdtFault (arity arities.now) bytes.now) }
 {
-    let mut text = table_report(alloc, bytes)?;
+    let mut text = header_report(alloc, bytes)?;
     let body = match terms(&bytes[BODY..], arities) {
         Ok(body) => body,
         Err(error) => return Err(Fault::after(BODY, error)),

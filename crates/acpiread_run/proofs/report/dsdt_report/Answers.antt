@@ -1,6 +1,6 @@
 use Rattle.std.proofs.Common.{rules, inr}
 use Rattle.std.proofs.lemmas.List.{take_rest}
-use Rattle.acpiread_run.proofs.Faults.{table_memory}
+use Rattle.acpiread_run.proofs.Faults.{header_memory}
 use Rattle.acpiread_run.proofs.report.dsdt_report.Goals as goal
 
 pub returns-in-Err-clause-err : goal.returns-in-Err-clause-err
@@ -18,4 +18,4 @@ returns-clause-ok c = record {
 }
 
 pub returns-in_err-push_str-clause-err : goal.returns-in_err-push_str-clause-err
-returns-in_err-push_str-clause-err c = search (rules, table_memory)
+returns-in_err-push_str-clause-err c = search (rules, header_memory)
