@@ -1,16 +1,17 @@
 -- Tables: their checksums, their lengths, and what they are as sinks.
 use Rattle.std.proofs.Common.{◌≡◌, ℕ, ◌+◌, ◌-◌, ◌%◌, ◌<◌, ◌≤◌, ◌^◌, List, [], ◌∷◌, ◌++◌, length, take, drop, get_or, nat_lt, true, false, refl, sym, ◌∙◌, ap, arith, inl, inr, append_assoc, length-append}
-use Rattle.std.specs.Prelude.{Result, Ok, Err, OnOk, IfErr, sum, slice_set}
+use Rattle.std.specs.Prelude.{Result, Ok, Err, OnOk, IfErr, None, sum, slice_set}
 use Rattle.std.proofs.lemmas.List.{append-nil, take_at}
 use Rattle.std.proofs.lemmas.Bool.{cases_lt}
 use Rattle.std.proofs.lemmas.Bool.Decides.{nat_tests}
 use Rattle.acpi_base.specs.declared.error.Error.{Error}
-use Rattle.acpi_base.specs.Bytes.{le, carried, put, complement}
+use Rattle.acpi_base.specs.Bytes.{le, carried, put, complement, field_at}
 use Rattle.acpi_base.specs.declared.oem.Oem.{Oem}
 use Rattle.acpi_base.proofs.Bytes.{carried_le}
 use Rattle.acpi_base.specs.Sink.{Took, Refused}
 use Rattle.acpi_base.specs.Object.{Object, Wrote}
 use Rattle.acpi_base.specs.Header.{header}
+use Rattle.acpi_base.specs.Walk.{named, walk_of, ArePiecesOf}
 use Rattle.acpi_base.specs.Table.{with_checksum, table_of, IsTrueTable}
 use Rattle.acpi_base.specs.Sdt.{sealed, added, overwritten, Contents, Addition, AddedObject, fits, sdt_of, is_field_width}
 use Rattle.std.proofs.lemmas.List.Sums.{sum_by-append}
@@ -39,6 +40,30 @@ checksum_again : (b : List ℕ) → 10 ≤ length b → with_checksum (with_chec
 unfolding put
 checksum_again (x0 ∷ x1 ∷ x2 ∷ x3 ∷ x4 ∷ x5 ∷ x6 ∷ x7 ∷ x8 ∷ x9 ∷ r) h = refl
 checksum_again b h = absurd (omega arith)
+
+-- ---- signatures
+
+-- a checksum leaves the signature
+begins : (s x k : List ℕ) → length s ≡ 4 → take 4 (put 9 k (s ++ x)) ≡ s
+unfolding put
+begins (a ∷ b ∷ c ∷ d ∷ []) x k four = refl
+begins (a ∷ b ∷ c ∷ d ∷ e ∷ s) x k four = absurd (omega arith)
+begins s x k four = absurd (omega arith)
+
+-- what a signature is read as
+checked_named : (s x bytes : List ℕ) → bytes ≡ s ++ x → length s ≡ 4 → field_at 0 4 (with_checksum bytes) ≡ named s
+checked_named s x bytes is four =
+    let k = complement (sum (put 9 (0 ∷ []) bytes)) ∷ [] in ap carried (ap (λ b. take 4 (put 9 k b)) is ∙ begins s x k four)
+
+pub table_named : (s : List ℕ) (revision : ℕ) (oem : Oem) (body : List ℕ) → length s ≡ 4 → field_at 0 4 (table_of s revision oem body) ≡ named s
+table_named s revision oem body four = checked_named s _ (header s (36 + length body) revision oem ++ body) (append_assoc s _ body) four
+
+-- what begins with a signature that has no walk has no pieces
+pub without_pieces : (s x bytes : List ℕ) → bytes ≡ s ++ x → length s ≡ 4 → walk_of (named s) ≡ None → ArePiecesOf (with_checksum bytes) []
+without_pieces s x bytes is four none = let by : walk_of (field_at 0 4 (with_checksum bytes)) ≡ None = ap walk_of (checked_named s x bytes is four) ∙ none in rw by refl
+
+pub table_without_pieces : (s : List ℕ) (revision : ℕ) (oem : Oem) (body : List ℕ) → length s ≡ 4 → walk_of (named s) ≡ None → ArePiecesOf (table_of s revision oem body) []
+table_without_pieces s revision oem body = without_pieces s _ (header s (36 + length body) revision oem ++ body) (append_assoc s _ body)
 
 -- ---- lengths
 

@@ -8,11 +8,10 @@ use Rattle.std.proofs.lemmas.Bool.Decides.{nat_tests}
 use Rattle.acpi_base.specs.Bytes.{le, carried, complement, put, field_at}
 use Rattle.acpi_base.specs.declared.error.Error.TheVariants.{FieldWidth}
 use Rattle.acpi_base.specs.Header.{header}
-use Rattle.acpi_base.specs.declared.oem.Oem.{Oem}
 use Rattle.acpi_base.specs.Walk.{Walk, Walks, ArePieces, HasSizes, named, offsets_from}
 use Rattle.acpi_base.proofs.Bytes.{length_le, carried_le}
 use Rattle.acpi_base.proofs.Puts.{put-append, length-put}
-use Rattle.acpi_base.proofs.Tables.{table_is_true, length-header}
+use Rattle.acpi_base.proofs.Tables.{table_is_true, table_named, length-header}
 use Rattle.acpi_base.proofs.Walks.{one_walk, piece_has_bytes}
 use Rattle.acpi_core.specs.Listing.{Listing, IsListing, fixed_fields, body_of, bytes_of, start_of, size_of}
 use Rattle.acpi_core.specs.Addition.{has_room}
@@ -142,16 +141,9 @@ walked t w is walk each =
           ∙ told.2 ∙ sym walk.start;
     }
 
--- a header begins with the signature, whatever the checksum is
-begins : (s : List ℕ) (size revision : ℕ) (oem : Oem) (k body : List ℕ) → length s ≡ 4 → take 4 (put 9 k (header s size revision oem ++ body)) ≡ s
-unfolding put
-begins (a ∷ b ∷ c ∷ d ∷ []) size revision oem k body h = refl
-begins (a ∷ b ∷ c ∷ d ∷ e ∷ s) size revision oem k body h = absurd (omega arith)
-begins s size revision oem k body h = absurd (omega arith)
-
 -- what a table's signature is read as
 pub signature_told : (t : Listing) → IsListing t → field_at 0 4 (bytes_of t) ≡ named t.signature
-signature_told t is = ap carried (begins t.signature (36 + length (body_of t)) t.revision t.oem _ (body_of t) is.signature)
+signature_told t is = table_named t.signature t.revision t.oem (body_of t) is.signature
 
 -- where the pieces of a walk stand
 pub places : (start : ℕ) (ss : List (List ℕ)) (i : ℕ) → i < length ss → slice_index (offsets_from start ss) i ≡ start + length (concat (take i ss))

@@ -5,8 +5,9 @@ use Rattle.std.proofs.lemmas.List.Sums.{sum_by-append}
 use Rattle.acpi_base.specs.Bytes.{le, complement}
 use Rattle.acpi_base.specs.Layout.{record_of}
 use Rattle.acpi_base.specs.Table.{table_of, IsTrueTable}
+use Rattle.acpi_base.specs.Walk.{named, walk_of, ArePiecesOf}
 use Rattle.acpi_base.specs.declared.oem.Oem.{Oem}
-use Rattle.acpi_base.proofs.Tables.{table_is_true, checked_is_true, sum-with_checksum, length-with_checksum}
+use Rattle.acpi_base.proofs.Tables.{table_is_true, checked_is_true, without_pieces, table_without_pieces, sum-with_checksum, length-with_checksum}
 use Rattle.acpi_fixed.specs.declared.fadt.FADTBuilder.{FADTBuilder}
 use Rattle.acpi_fixed.specs.declared.tpm2.LogArea.{LogArea}
 use Rattle.acpi_fixed.specs.declared.tpm2.Tpm2.{Tpm2}
@@ -18,18 +19,18 @@ use Rattle.acpi_fixed.specs.Tpm2.{tpm2_fields, tpm2_with, tpm2_size}
 -- ---- behind the standard header
 
 pub true_from : (here oem : Oem) (s : List ℕ) (revision size : ℕ) (fields : List (List ℕ))
-    → length here.id ≡ 6 → length here.table_id ≡ 8 → length s ≡ 4 → 36 + length (record_of fields) ≡ size → size < 2 ^ 32 → oem ≡ here
-    → IsTrueTable (table_of s revision oem (record_of fields)) × (length (table_of s revision oem (record_of fields)) ≡ size)
-true_from here oem s revision size fields six eight four is small from =
+    → length here.id ≡ 6 → length here.table_id ≡ 8 → length s ≡ 4 → walk_of (named s) ≡ None → 36 + length (record_of fields) ≡ size → size < 2 ^ 32 → oem ≡ here
+    → IsTrueTable (table_of s revision oem (record_of fields)) × (length (table_of s revision oem (record_of fields)) ≡ size) × ArePiecesOf (table_of s revision oem (record_of fields)) []
+true_from here oem s revision size fields six eight four none is small from =
     let id = ap (λ o. length o.id) from ∙ six in
     let table_id = ap (λ o. length o.table_id) from ∙ eight in
     let whole = table_is_true s (record_of fields) revision oem four id table_id (omega (arith, is, small)) in
-    (whole.0, whole.1 ∙ is)
+    (whole.0, whole.1 ∙ is, table_without_pieces s revision oem (record_of fields) four none)
 
 pub true_tpm2 : (here : Oem) (t : Tpm2) (area : Option LogArea) → length here.id ≡ 6 → length here.table_id ≡ 8 → t.oem ≡ here
-    → IsTrueTable (tpm2_with t area) × (length (tpm2_with t area) ≡ tpm2_size area)
-true_tpm2 here t None six eight from = true_from here t.oem (codes "TPM2") 1 52 (tpm2_fields t None) six eight refl refl (omega arith) from
-true_tpm2 here t (Some area) six eight from = true_from here t.oem (codes "TPM2") 1 76 (tpm2_fields t (Some area)) six eight refl refl (omega arith) from
+    → IsTrueTable (tpm2_with t area) × (length (tpm2_with t area) ≡ tpm2_size area) × ArePiecesOf (tpm2_with t area) []
+true_tpm2 here t None six eight from = true_from here t.oem (codes "TPM2") 1 52 (tpm2_fields t None) six eight refl refl refl (omega arith) from
+true_tpm2 here t (Some area) six eight from = true_from here t.oem (codes "TPM2") 1 76 (tpm2_fields t (Some area)) six eight refl refl refl (omega arith) from
 
 -- ---- RSDP
 
@@ -68,6 +69,9 @@ length-fadt f size = length-with_checksum (builder_bytes f) (omega (arith, size)
 
 pub fadt_is_zero : (f : FADTBuilder) → length (builder_bytes f) ≡ 276 → sum (fadt_bytes f) % 256 ≡ 0
 fadt_is_zero f size = sum-with_checksum (builder_bytes f) (omega (arith, size))
+
+pub fadt_without_pieces : (f : FADTBuilder) → length f.signature ≡ 4 → walk_of (named f.signature) ≡ None → ArePiecesOf (fadt_bytes f) []
+fadt_without_pieces f four none = without_pieces f.signature _ (builder_bytes f) refl four none
 
 pub true_fadt : (f : FADTBuilder) → length f.signature ≡ 4 → length (builder_bytes f) ≡ 276 → f.length ≡ 276 → IsTrueTable (fadt_bytes f)
 true_fadt f four size is =

@@ -1,7 +1,8 @@
 //! Laws over the definitions that the contracts cite. Each function is a law: it does nothing, and ensures it.
 
-ghost use Rattle.std.specs.Prelude.{◌≡◌, ◌%◌, length, sum};
+ghost use Rattle.std.specs.Prelude.{◌≡◌, ◌%◌, [], codes, length, sum};
 ghost use Rattle.acpi_base.specs.Table.{IsTrueTable};
+ghost use Rattle.acpi_base.specs.Walk.{ArePiecesOf};
 ghost use Rattle.acpi_fixed.specs.Fadt.{fadt_bytes};
 ghost use Rattle.acpi_fixed.specs.Laws.{PointersSumToZero, BertsAreTrue, SpcrsAreTrue, ClientsAreTrue, ServersAreTrue, Tpm2sAreTrue};
 
@@ -13,7 +14,8 @@ pub fn pointers_sum_to_zero()
     ensures { PointersSumToZero }
 {}
 
-/// Every BERT, SPCR, TCPA and TPM2 of a maker tells its size and sums to zero, after any setters.
+/// Every BERT, SPCR, TCPA and TPM2 of a maker tells its size and sums to zero, and has no structures, after
+/// any setters.
 pub fn tables_are_true(oem: Oem)
     ensures bert { BertsAreTrue oem }
     ensures spcr { SpcrsAreTrue oem }
@@ -23,9 +25,10 @@ pub fn tables_are_true(oem: Oem)
 {}
 
 /// Every FADT has 276 bytes and sums to zero. It tells its size if nobody changed the length that `FADTBuilder::new`
-/// gave it.
+/// gave it, and has no structures if nobody changed the signature.
 pub fn fadt_is_true(fields: FADTBuilder)
     ensures size { length (fadt_bytes fields) ≡ 276 }
     ensures zero { sum (fadt_bytes fields) % 256 ≡ 0 }
     ensures table { fields.length ≡ 276 → IsTrueTable (fadt_bytes fields) }
+    ensures pieces { fields.signature ≡ codes "FACP" → ArePiecesOf (fadt_bytes fields) [] }
 {}

@@ -5,17 +5,13 @@ use Rattle.std.proofs.lemmas.Bool.Decides.{nat_tests}
 use Rattle.acpi_base.specs.declared.error.Error.{Error}
 use Rattle.acpi_base.specs.Sink.{Meaning, Took, Refused}
 use Rattle.acpi_base.specs.Walk.{told_at, IsPiece}
-use Rattle.acpi_core.proofs.Parts.{two_parts}
+use Rattle.acpi_core.proofs.Parts.{two_parts, word_told}
 use Rattle.acpi_hest.specs.Rqsc.{Controller, controller_bytes}
-
--- a length of two bytes
-told : (n : ℕ) → n < 2 ^ 16 → n % 256 + 256 * (n / 256 % 256 + 256 * 0) ≡ n
-told n small = omega arith
 
 pub controller_piece : (q : Controller) → 28 + length q.resources ≤ 0xffff → IsPiece (told_at 2 2) (controller_bytes q)
 controller_piece q fits =
     let size : length (controller_bytes q) ≡ 28 + length q.resources = omega arith in
-    (omega (arith, size), told (28 + length q.resources) (omega (arith, fits)) ∙ sym size)
+    (omega (arith, size), word_told (28 + length q.resources) (omega (arith, fits)) ∙ sym size)
 
 -- a length that its field doesn't hold
 pub too_long : (n : ℕ) → 0xffff < n → nat_lt n (2 ^ 16) ≡ false

@@ -9,6 +9,7 @@ use Rattle.std.proofs.lemmas.Bool.{eqb-true}
 use Rattle.std.proofs.lemmas.Bool.Decides.{nat_tests}
 use Rattle.acpi_base.proofs.Objects.{is_provided, provided_front}
 use Rattle.acpi_base.proofs.Bytes.{carried_le}
+use Rattle.acpi_core.proofs.Parts.{word_told}
 use Rattle.acpi_lists.specs.declared.cedt.InterleaveWays.{InterleaveWays}
 use Rattle.acpi_lists.specs.declared.cedt.InterleaveWays.TheVariants.{Ways1, Ways2, Ways4, Ways8, Ways16, Ways3, Ways6, Ways12}
 use Rattle.acpi_lists.specs.Cedt.{Window, window_head, window_bytes, window_object, has_targets, ways_count, XorMaps, maps_head, maps_bytes}
@@ -23,10 +24,6 @@ most_ways Ways3 = omega arith
 most_ways Ways6 = omega arith
 most_ways Ways12 = omega arith
 
--- a length of two bytes
-told : (n : ℕ) → n < 2 ^ 16 → n % 256 + 256 * (n / 256 % 256 + 256 * 0) ≡ n
-told n small = omega arith
-
 few_targets : (w : Window) → has_targets w ≡ true → length w.targets ≤ 64
 few_targets w holds = let is : length w.targets ≡ 4 * ways_count w.ways = eqb-true _ _ holds in omega (arith, is, most_ways w.ways)
 
@@ -34,7 +31,7 @@ window_piece : (w : Window) → has_targets w ≡ true → IsPiece (told_at 2 2)
 window_piece w holds =
     let few = few_targets w holds in
     let size : length (window_bytes w) ≡ 36 + length w.targets = omega arith in
-    (omega (arith, size), told (36 + length w.targets) (omega (arith, few)) ∙ sym size)
+    (omega (arith, size), word_told (36 + length w.targets) (omega (arith, few)) ∙ sym size)
 
 pub object_piece : (w : Window) → (window_object w).end ≡ None → IsPiece (told_at 2 2) (window_object w).front
 object_piece w is_whole =
@@ -44,7 +41,7 @@ object_piece w is_whole =
 pub maps_piece : (x : XorMaps) → length x.maps ≡ 8 * x.count → x.count < 256 → IsPiece (told_at 2 2) (maps_bytes x)
 maps_piece x whole few =
     let size : length (maps_bytes x) ≡ 8 + length x.maps = omega arith in
-    (omega (arith, size), told (8 + length x.maps) (omega (arith, whole, few)) ∙ sym size)
+    (omega (arith, size), word_told (8 + length x.maps) (omega (arith, whole, few)) ∙ sym size)
 
 pub isnt : (a b : ℕ) → (a ≡ b → ⊥) → (a == b) ≡ false
 isnt a b other = grind (arith, nat_tests)

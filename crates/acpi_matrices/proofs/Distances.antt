@@ -6,6 +6,7 @@ use Rattle.std.proofs.lemmas.List.{append-nil, length-replicate}
 use Rattle.std.proofs.lemmas.List.Sums.{sum_by-append}
 use Rattle.std.proofs.lemmas.Nat.{mul-add-lt, mul-le}
 use Rattle.std.proofs.Math.Nat.{mul_comm}
+use Rattle.acpi_base.specs.Walk.{ArePiecesOf}
 use Rattle.acpi_base.specs.declared.oem.Oem.{Oem}
 use Rattle.acpi_base.specs.Bytes.{le, put, complement, field_at}
 use Rattle.acpi_base.specs.Layout.{qword}
@@ -13,7 +14,7 @@ use Rattle.acpi_base.specs.Header.{header}
 use Rattle.acpi_base.specs.Table.{with_checksum}
 use Rattle.acpi_base.proofs.Bytes.{carried_le, length_le}
 use Rattle.acpi_base.proofs.Puts.{put-put, length-put, put-append}
-use Rattle.acpi_base.proofs.Tables.{length-header, table_is_true}
+use Rattle.acpi_base.proofs.Tables.{length-header, table_is_true, table_without_pieces}
 use Rattle.acpi_matrices.specs.Slit.{Distances, slit_bytes, slit, place_of, distance, with_distance, IsMatrix, has_cell, DistancesAreTrue, DistancesAreSet, IsSymmetric, oem_of, parts_of, front_of, IsParts}
 use Rattle.acpi_matrices.proofs.Fields.{field_put, field_before, field_after, field_behind, field_filled, same_place}
 
@@ -271,3 +272,6 @@ pub own_mirror : (n a b v : ℕ) (x : List ℕ) → a ≡ b → place_of n a b <
 own_mirror n a b v x same within =
     let mirror : place_of n b a ≡ place_of n a b = λ i. place_of n (sym same i) (same i) in
     sym (ap (λ k. put k (v ∷ []) (put (place_of n a b) (v ∷ []) x)) mirror ∙ put-put (place_of n a b) (v ∷ []) (v ∷ []) x refl (omega (arith, within)))
+
+pub slit_without_pieces : (t : Distances) → ArePiecesOf (slit_bytes t) []
+slit_without_pieces t = table_without_pieces (codes "SLIT") 1 t.oem (qword t.localities ++ t.cells) refl refl

@@ -1,4 +1,3 @@
-pub mod Parts
 pub mod Fields
 pub mod Pieces
 pub mod Cells

@@ -4,6 +4,7 @@ ghost use Rattle.std.specs.Prelude.{◌≡◌, ◌≢◌, ◌+◌, ◌*◌, ◌%
 ghost use Rattle.acpi_base.specs.Bytes.{put};
 ghost use Rattle.acpi_base.specs.Object.{whole, whole_ends_well};
 ghost use Rattle.acpi_base.specs.Table.{IsTrueTable};
+ghost use Rattle.acpi_base.specs.Walk.{ArePiecesOf};
 ghost use Rattle.acpi_matrices.specs.Slit.{slit, slit_bytes, place_of, cost_of, SetsDistance, DistancesAreTrue, DistancesAreSet, IsSymmetric};
 
 use acpi_base::error::{Error, R};
@@ -145,9 +146,10 @@ impl SLIT {
     }
 }
 
-/// A law: after any calls the table's bytes are a true table's.
+/// A law: after any calls the table's bytes are a true table's, which has no structures.
 pub fn slit_is_true(table: &SLIT)
-    ensures { IsTrueTable (slit_bytes table.now.table) }
+    ensures is_true { IsTrueTable (slit_bytes table.now.table) }
+    ensures pieces { ArePiecesOf (slit_bytes table.now.table) [] }
 {
     let _ = &table.cells;
 }

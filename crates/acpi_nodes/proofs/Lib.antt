@@ -1,5 +1,4 @@
 pub mod IsaStrings
-pub mod Parts
 pub mod Pieces
 pub mod Placed
 pub mod Rimts

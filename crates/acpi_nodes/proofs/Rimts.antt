@@ -3,6 +3,7 @@ use Rattle.std.proofs.Common.{◌≡◌, ℕ, ◌+◌, ◌*◌, ◌≤◌, ◌<�
 use Rattle.std.specs.Prelude.{string_bytes, None}
 use Rattle.std.specs.List.{flat_map}
 use Rattle.acpi_base.specs.Walk.{told_at, IsPiece}
+use Rattle.acpi_core.proofs.Parts.{word_told}
 use Rattle.acpi_nodes.specs.declared.rimt.InterruptWire.{InterruptWire}
 use Rattle.acpi_nodes.specs.declared.rimt.Iommu.{Iommu}
 use Rattle.acpi_nodes.specs.declared.rimt.IdMapping.{IdMapping}
@@ -10,7 +11,7 @@ use Rattle.acpi_nodes.specs.declared.rimt.PcieRootComplex.{PcieRootComplex}
 use Rattle.acpi_nodes.specs.declared.rimt.Platform.{Platform}
 use Rattle.acpi_nodes.specs.Entries.{entries_of, structure_of, fits_word}
 use Rattle.acpi_nodes.specs.Rimt.{wire_bytes, iommu_bytes, mapping_bytes, root_complex_bytes, platform_bytes, mappings_at}
-use Rattle.acpi_nodes.proofs.Structures.{below, not_below, is_below, told, structure_piece}
+use Rattle.acpi_nodes.proofs.Structures.{below, not_below, is_below, structure_piece}
 
 wires_size : (ws : List InterruptWire) → length (flat_map wire_bytes ws) ≡ 8 * length ws
 wires_size [] = refl
@@ -35,19 +36,19 @@ pub iommu_piece : (i : Iommu) → (structure_of (iommu_bytes i)).end ≡ None �
 iommu_piece i = structure_piece (told_at 2 2) (iommu_bytes i) (λ fits.
     let size = iommu_size i in
     let few = is_below (length (iommu_bytes i)) fits in
-    (omega (arith, size), told (32 + 8 * length (entries_of i.wires)) (omega (arith, size, few)) ∙ sym size))
+    (omega (arith, size), word_told (32 + 8 * length (entries_of i.wires)) (omega (arith, size, few)) ∙ sym size))
 
 pub root_complex_piece : (c : PcieRootComplex) → (structure_of (root_complex_bytes c)).end ≡ None → IsPiece (told_at 2 2) (structure_of (root_complex_bytes c)).front
 root_complex_piece c = structure_piece (told_at 2 2) (root_complex_bytes c) (λ fits.
     let size = root_complex_size c in
     let few = is_below (length (root_complex_bytes c)) fits in
-    (omega (arith, size), told (16 + 20 * length (entries_of c.mappings)) (omega (arith, size, few)) ∙ sym size))
+    (omega (arith, size), word_told (16 + 20 * length (entries_of c.mappings)) (omega (arith, size, few)) ∙ sym size))
 
 pub platform_piece : (p : Platform) → (structure_of (platform_bytes p)).end ≡ None → IsPiece (told_at 2 2) (structure_of (platform_bytes p)).front
 platform_piece p = structure_piece (told_at 2 2) (platform_bytes p) (λ fits.
     let size = platform_size p in
     let few = is_below (length (platform_bytes p)) fits in
-    (omega (arith, size), told (mappings_at p + 20 * length (entries_of p.mappings)) (omega (arith, size, few)) ∙ sym size))
+    (omega (arith, size), word_told (mappings_at p + 20 * length (entries_of p.mappings)) (omega (arith, size, few)) ∙ sym size))
 
 -- which numbers of entries fit
 pub few_wires : (i : Iommu) (n : ℕ) → n ≡ length (entries_of i.wires) → n ≤ 8187 → fits_word (iommu_bytes i) ≡ true

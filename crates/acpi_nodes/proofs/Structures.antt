@@ -32,10 +32,6 @@ not_below n large = grind (arith, nat_tests)
 pub is_below : (n : ℕ) → nat_lt n (2 ^ 16) ≡ true → n < 2 ^ 16
 is_below n holds = grind (arith, nat_tests)
 
--- a length of two bytes
-pub told : (n : ℕ) → n < 2 ^ 16 → n % 256 + 256 * (n / 256 % 256 + 256 * 0) ≡ n
-told n small = omega arith
-
 -- a structure that isn't refused is a piece where one that fits is
 pub structure_piece : (s : Sizes) (bytes : List ℕ) → (fits_word bytes ≡ true → IsPiece s bytes) → (structure_of bytes).end ≡ None → IsPiece s (structure_of bytes).front
 structure_piece s bytes one is_whole =

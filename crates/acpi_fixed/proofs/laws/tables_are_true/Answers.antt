@@ -7,16 +7,16 @@ use Rattle.acpi_fixed.proofs.Tables.{true_from, true_tpm2}
 use Rattle.acpi_fixed.proofs.laws.tables_are_true.Goals as goal
 
 pub returns-clause-bert : goal.returns-clause-bert
-returns-clause-bert c = λ t from. true_from c.args.oem t.oem (codes "BERT") 1 48 (bert_fields t) (search rules) (search rules) refl refl (omega arith) from
+returns-clause-bert c = λ t from. true_from c.args.oem t.oem (codes "BERT") 1 48 (bert_fields t) (search rules) (search rules) refl refl refl (omega arith) from
 
 pub returns-clause-spcr : goal.returns-clause-spcr
-returns-clause-spcr c = λ t from. true_from c.args.oem t.oem (codes "SPCR") 4 90 (spcr_fields t) (search rules) (search rules) refl refl (omega arith) from
+returns-clause-spcr c = λ t from. true_from c.args.oem t.oem (codes "SPCR") 4 90 (spcr_fields t) (search rules) (search rules) refl refl refl (omega arith) from
 
 pub returns-clause-client : goal.returns-clause-client
-returns-clause-client c = λ t from. true_from c.args.oem t.oem (codes "TCPA") 2 50 (client_fields t) (search rules) (search rules) refl refl (omega arith) from
+returns-clause-client c = λ t from. true_from c.args.oem t.oem (codes "TCPA") 2 50 (client_fields t) (search rules) (search rules) refl refl refl (omega arith) from
 
 pub returns-clause-server : goal.returns-clause-server
-returns-clause-server c = λ t from. true_from c.args.oem t.oem (codes "TCPA") 2 100 (server_fields t) (search rules) (search rules) refl refl (omega arith) from
+returns-clause-server c = λ t from. true_from c.args.oem t.oem (codes "TCPA") 2 100 (server_fields t) (search rules) (search rules) refl refl refl (omega arith) from
 
 pub returns-clause-tpm2 : goal.returns-clause-tpm2
 returns-clause-tpm2 c = λ t from. true_tpm2 c.args.oem t t.log_area (search rules) (search rules) from

@@ -1,7 +1,7 @@
 use Rattle.std.proofs.Common.{◌≡◌, ◌++◌, [], ap, ◌∙◌}
 use Rattle.acpi_base.proofs.Objects.{wrote_whole, refused_whole}
 use Rattle.acpi_nodes.specs.Hart.{hart_info_head, hart_info_bytes}
-use Rattle.acpi_nodes.proofs.Parts.{two_parts}
+use Rattle.acpi_core.proofs.Parts.{two_parts}
 use Rattle.acpi_nodes.proofs.rhct.HartInfoNodeAml.to_aml_bytes.Goals as goal
 
 written : (g : _) (c : goal.After-write_parts g) → c.head.result ++ (c.deref.result.now ++ []) ≡ hart_info_bytes c.args.self.now

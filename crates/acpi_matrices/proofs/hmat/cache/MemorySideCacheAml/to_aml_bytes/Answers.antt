@@ -1,7 +1,7 @@
 use Rattle.std.proofs.Common.{◌≡◌, ◌++◌, [], ap, ◌∙◌}
 use Rattle.acpi_base.proofs.Objects.{wrote_whole, refused_whole}
 use Rattle.acpi_matrices.specs.Cache.{cache_head, cache_bytes}
-use Rattle.acpi_matrices.proofs.Parts.{two_parts}
+use Rattle.acpi_core.proofs.Parts.{two_parts}
 use Rattle.acpi_matrices.proofs.hmat.cache.MemorySideCacheAml.to_aml_bytes.Goals as goal
 
 written : (g : _) (c : goal.After-write_parts g) → c.head.result ++ (c.deref.result.now ++ []) ≡ cache_bytes c.args.self.now
