@@ -1,11 +1,11 @@
 -- Walks of tables.
 use Rattle.std.proofs.Common.{◌≡◌, ℕ, ◌+◌, ◌≤◌, List, [], ◌∷◌, ◌++◌, length, take, drop, refl, sym, ap, ◌∙◌, arith, length-append, length-drop}
-use Rattle.std.specs.Prelude.{Option, Some}
+use Rattle.std.specs.Prelude.{codes, Option, Some, None, Bool, true, false, ◌==◌, if◌then◌else◌}
 use Rattle.std.specs.List.{concat}
 use Rattle.std.proofs.lemmas.List.{append-nil, take-append-le, drop-append-le, take_at, drop_at}
 use Rattle.std.proofs.lemmas.List.Folds.{concat-append}
 use Rattle.acpi_base.specs.Bytes.{carried, field_at}
-use Rattle.acpi_base.specs.Walk.{Sizes, each_of, told_at, by_source, source_size, IsPiece, ArePieces, HasSizes, OneWalk}
+use Rattle.acpi_base.specs.Walk.{Sizes, each_of, told_at, by_source, source_size, IsPiece, ArePieces, HasSizes, OneWalk, Walk, named, walk_of, WalksBy, OneListOfPieces, xsdt_walk, mcfg_walk, madt_walk, hest_walk, srat_walk, cedt_walk, pptt_walk, rhct_walk, viot_walk, rimt_walk, rqsc_walk, hmat_walk}
 
 -- a field in the front of a list
 pub field_front : (offset w : ℕ) (a b : List ℕ) → offset + w ≤ length a → field_at offset w (a ++ b) ≡ field_at offset w a
@@ -58,3 +58,22 @@ one_list s (p ∷ ps) (q ∷ qs) has a b same =
 
 pub one_walk : OneWalk
 one_walk w bytes ps qs has a b = one_list w.sizes ps qs has a.each b.each (sym a.joined ∙ b.joined)
+
+-- ---- the walks of all signatures
+
+if_has : (b : Bool) (x : Walk) (o : Option Walk) (w : Walk) → HasSizes x.sizes → (o ≡ Some w → HasSizes w.sizes) → (if b then Some x else o) ≡ Some w → HasSizes w.sizes
+if_has true x o w has rest is = let same : x ≡ w = cc in rw (← same) has
+if_has false x o w has rest is = rest is
+
+none_has : (w : Walk) → None ≡ Some w → HasSizes w.sizes
+none_has w is = absurd cc
+
+has_sizes : (n : ℕ) (w : Walk) → walk_of n ≡ Some w → HasSizes w.sizes
+has_sizes n w is = (if_has (n == named (codes "XSDT")) xsdt_walk _ w (omega arith) (if_has (n == named (codes "MCFG")) mcfg_walk _ w (omega arith) (if_has (n == named (codes "APIC")) madt_walk _ w (omega arith) (if_has (n == named (codes "HEST")) hest_walk _ w tt (if_has (n == named (codes "SRAT")) srat_walk _ w (omega arith) (if_has (n == named (codes "CEDT")) cedt_walk _ w (omega arith) (if_has (n == named (codes "PPTT")) pptt_walk _ w (omega arith) (if_has (n == named (codes "RHCT")) rhct_walk _ w (omega arith) (if_has (n == named (codes "VIOT")) viot_walk _ w (omega arith) (if_has (n == named (codes "RIMT")) rimt_walk _ w (omega arith) (if_has (n == named (codes "RQSC")) rqsc_walk _ w (omega arith) (if_has (n == named (codes "HMAT")) hmat_walk _ w (omega arith) (none_has w))))))))))))) is
+
+pieces_by : (o : Option Walk) → ((w : Walk) → o ≡ Some w → HasSizes w.sizes) → (bytes : List ℕ) (ps qs : List (List ℕ)) → WalksBy o bytes ps → WalksBy o bytes qs → ps ≡ qs
+pieces_by (Some w) has bytes ps qs a b = one_walk w bytes ps qs (has w refl) a b
+pieces_by None has bytes ps qs a b = a ∙ sym b
+
+pub one_list_of_pieces : OneListOfPieces
+one_list_of_pieces bytes ps qs a b = pieces_by (walk_of (field_at 0 4 bytes)) (has_sizes (field_at 0 4 bytes)) bytes ps qs a b

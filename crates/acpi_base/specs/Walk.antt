@@ -135,3 +135,7 @@ WalksBy None bytes pieces = pieces ≡ []
 -- the pieces are the structures of a table, found by its signature
 abbrev pub ArePiecesOf : List ℕ → List (List ℕ) → Type 0
 ArePiecesOf bytes pieces = WalksBy (walk_of (field_at 0 4 bytes)) bytes pieces
+
+-- Bytes have one list of pieces at most.
+abbrev pub OneListOfPieces : Type 0
+OneListOfPieces = (bytes : List ℕ) (ps qs : List (List ℕ)) → ArePiecesOf bytes ps → ArePiecesOf bytes qs → ps ≡ qs

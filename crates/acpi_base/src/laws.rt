@@ -2,7 +2,7 @@
 
 ghost use Rattle.std.specs.Prelude.{◌≡◌, ℕ};
 ghost use Rattle.acpi_base.specs.Laws.{WritesJoin, NothingChangesNothing, FrontsAreSummed, WholeObjectsAreSummed, DeleteRestores, ValueMakesZero, WordsAreBytes, TablesAreTrue, AddedIsTrue, OverwrittenSumsToZero, AddedAtOnce};
-ghost use Rattle.acpi_base.specs.Walk.{OneWalk};
+ghost use Rattle.acpi_base.specs.Walk.{OneWalk, OneListOfPieces};
 
 use crate::object::Aml;
 
@@ -72,4 +72,9 @@ pub fn added_at_once()
 /// At most one list of structures walks a table.
 pub fn at_most_one_walk()
     ensures { OneWalk }
+{}
+
+/// Bytes have one list of pieces at most, that of their signature's walk.
+pub fn at_most_one_list_of_pieces()
+    ensures { OneListOfPieces }
 {}

@@ -1,6 +1,7 @@
 //! Reading what anyone has written: tables that are checked, their reports, and the terms of AML.
 
-pub use acpi_read::report::{report_table, report_terms};
+pub use acpi_read::pieces::Piece;
+pub use acpi_read::report::{report_header, report_table, report_terms};
 pub use acpi_read::table::Table;
 pub use acpi_read::terms::{terms, terms_of};
 pub use acpi_term::name_string::{Arities, NameString};
