@@ -4,9 +4,9 @@ use crate::broken::Broken;
 use crate::vectors::{OEM, OEM_REVISION, OEM_TABLE, many, writes};
 use acpi_tables::gas::{AccessSize, AddressSpace, GAS};
 use acpi_tables::hest::{
-    EnabledStatus, ErrorSeverity, FirmwareFirst, GenericErrorData, GenericErrorStatus, GenericHardwareSource,
-    GenericHardwareSourceV2, HEST, NotificationStructure, NotificationType, PciDevice,
-    PcieAerBridge, PcieAerDevice, PcieAerRootPort,
+    EnabledStatus, ErrorSeverity, FirmwareFirst, GenericErrorData, GenericErrorStatus,
+    GenericHardwareSource, GenericHardwareSourceV2, HEST, NotificationStructure, NotificationType,
+    PciDevice, PcieAerBridge, PcieAerDevice, PcieAerRootPort,
 };
 use acpi_tables::{Aml, Error, R};
 use std::alloc::Global;
@@ -314,8 +314,7 @@ fn error_data_fields(rt: HostRuntime) -> Result<(), Fail> {
     entry.timestamp = *b"\x40\x41\x42\x43\x44\x45\x46\x47";
     let (bytes, end) = entry_written(alloc, &entry);
     end?;
-    assert_eq!(
-        &rt;
+    assert_eq!(&rt;
         bytes.as_slice(),
         &b"\x02\x01\x02\0\0\0\x04\x03\x05\x06\x0a\x09\x08\x07\x10\x11\x12\x13\x14\x15\x16\x17\x18\x19\x1a\x1b\x1c\x1d\x1e\x1fthe unit to replace.\x40\x41\x42\x43\x44\x45\x46\x47"[..],
     );

@@ -75,8 +75,14 @@ fn controllers(rt: HostRuntime) -> Result<(), Fail> {
 #[test]
 fn capacity(rt: HostRuntime) -> Result<(), Fail> {
     let alloc = rt.alloc();
-    let capacity =
-        QoSController::new(alloc, ControllerType::Capacity, GAS::default(), 0, u32::MAX, 1);
+    let capacity = QoSController::new(
+        alloc,
+        ControllerType::Capacity,
+        GAS::default(),
+        0,
+        u32::MAX,
+        1,
+    );
     let mut wanted = [0; 28];
     wanted[2] = 0x1c;
     wanted[20] = 0xff;
@@ -92,7 +98,12 @@ fn payloads(rt: HostRuntime) -> Result<(), Fail> {
     let alloc = rt.alloc();
     let cache = CacheResource::new(0x0c0d_0e0f);
     writes(&rt, alloc, &cache, b"\x0f\x0e\x0d\x0c\0\0\0\0\0\0\0\0")?;
-    writes(&rt, alloc, &cache.clone()?, b"\x0f\x0e\x0d\x0c\0\0\0\0\0\0\0\0")?;
+    writes(
+        &rt,
+        alloc,
+        &cache.clone()?,
+        b"\x0f\x0e\x0d\x0c\0\0\0\0\0\0\0\0",
+    )?;
     let memory = MemoryAffinityStructureResource::new(0x1213_1415, 0x1617_1819_1a1b_1c1d);
     writes(
         &rt,
@@ -101,7 +112,12 @@ fn payloads(rt: HostRuntime) -> Result<(), Fail> {
         b"\x15\x14\x13\x12\0\0\0\0\0\0\0\0\x1d\x1c\x1b\x1a\x19\x18\x17\x16",
     )?;
     let acpi = ACPIDeviceResource::new(0x2021_2223_2425_2627, 0x2829_2a2b);
-    writes(&rt, alloc, &acpi, b"\x27\x26\x25\x24\x23\x22\x21\x20\x2b\x2a\x29\x28")?;
+    writes(
+        &rt,
+        alloc,
+        &acpi,
+        b"\x27\x26\x25\x24\x23\x22\x21\x20\x2b\x2a\x29\x28",
+    )?;
     let pci = PCIDeviceResource::new(0x2c2d_2e2f);
     writes(&rt, alloc, &pci, b"\x2f\x2e\x2d\x2c\0\0\0\0\0\0\0\0")
 }
@@ -136,8 +152,7 @@ fn ids(rt: HostRuntime) -> Result<(), Fail> {
         1,
         b"\x01\x15\x14\x13\x12\0\0\0\0\0\0\0\0\x1d\x1c\x1b\x1a\x19\x18\x17\x16",
     )?;
-    let acpi =
-        ResourceID::ACPIDevice(ACPIDeviceResource::new(0x2021_2223_2425_2627, 0x2829_2a2b));
+    let acpi = ResourceID::ACPIDevice(ACPIDeviceResource::new(0x2021_2223_2425_2627, 0x2829_2a2b));
     is_written(
         &rt,
         alloc,
@@ -194,12 +209,18 @@ fn resources(rt: HostRuntime) -> Result<(), Fail> {
 fn longest_controller(rt: HostRuntime) -> Result<(), Fail> {
     let alloc = rt.alloc();
     let mut full = controller(alloc);
-    assert_eq!(&rt; full.add_resource(vendors(alloc, &[0x5a; 65_500])?), Err(Error::FieldWidth));
+    assert_eq!(&rt;
+        full.add_resource(vendors(alloc, &[0x5a; 65_500])?),
+        Err(Error::FieldWidth)
+    );
     assert_eq!(&rt; full.len(), 28);
     writes(&rt, alloc, &full, &CONTROLLER)?;
     full.add_resource(vendors(alloc, &[0x5a; 65_499])?)?;
     assert_eq!(&rt; full.len(), 65_535);
-    assert_eq!(&rt; full.add_resource(vendors(alloc, &[])?), Err(Error::FieldWidth));
+    assert_eq!(&rt;
+        full.add_resource(vendors(alloc, &[])?),
+        Err(Error::FieldWidth)
+    );
     assert_eq!(&rt; full.len(), 65_535);
     Ok(())
 }
