@@ -8,6 +8,8 @@ mod fixed;
 #[cfg(test)]
 mod hest;
 #[cfg(test)]
+mod layout;
+#[cfg(test)]
 mod lists;
 #[cfg(test)]
 mod matrices;

@@ -36,6 +36,7 @@ pub mod fadt;
 pub mod gas;
 pub mod hest;
 pub mod hmat;
+pub mod layout;
 pub mod madt;
 pub mod mcfg;
 pub mod pptt;

@@ -1,0 +1,118 @@
+//! The tables at their addresses.
+
+ghost use Rattle.std.specs.Prelude.{◌≡◌, ◌≢◌, ◌%◌, ◌+◌, ◌*◌, ◌<◌, ◌≤◌, ◌^◌, [], ◌∷◌, length, map, OnOk, IfOk, IfErr, None, Some};
+ghost use Rattle.acpi_base.specs.Object.{Object};
+ghost use Rattle.acpi_fixed.specs.Facs.{facs_bytes};
+ghost use Rattle.acpi_layout.specs.Image.{tables_laid, listing, with_pointer};
+ghost use Rattle.acpi_layout.specs.Lays.{Lays};
+
+use crate::place::{address, begin, pad, place_all};
+use acpi_base::buffer::append_value;
+use acpi_base::error::{Error, R};
+use acpi_base::object::Aml;
+use acpi_base::oem::Oem;
+use acpi_base::sdt::Sdt;
+use acpi_fixed::facs::FACS;
+use acpi_fixed::fadt::FADTBuilder;
+use acpi_fixed::rsdp::Rsdp;
+use acpi_lists::xsdt::XSDT;
+use std::alloc::Global;
+
+/// The tables of a guest as they stand in its memory.
+#[derive(Drop)]
+pub struct Image {
+    /// All bytes, from the base on.
+    pub bytes: Vec<u8>,
+    /// The physical address of the RSDP (ACPI 6.5, 5.2.5), from which the other tables are found.
+    pub rsdp: u64,
+}
+
+// The FACS at base, the DSDT behind it, and the FADT that points to both.
+fn begin_image(
+    base: u64,
+    facs: &FACS,
+    sdt: &Sdt,
+    fadt: FADTBuilder,
+    bytes: &mut Vec<u8>,
+    places: &mut Vec<u64>,
+) -> R<()>
+    requires new { (bytes.old.items ≡ []) × (places.old.items ≡ []) }
+    ensures ok { OnOk result (record { bytes = bytes.new.items; places = places.new.items }
+        ≡ tables_laid base (facs_bytes facs.now) sdt.now.bytes fadt []) }
+    ensures err { IfErr result (λ e. e ≡ Error.Memory) }
+{
+    append_value(facs, bytes)?;
+    let dsdt = address(base, bytes.len() as u64);
+    append_value(sdt, bytes)?;
+    begin(bytes, places)?;
+    append_value(&fadt.firmware_ctrl_64(base).dsdt_64(dsdt).finalize(), bytes)?;
+    Ok(())
+}
+
+// An XSDT of the tables at these places.
+fn list(alloc: Global, base: u64, oem: Oem, places: &[u64]) -> R<XSDT>
+    ensures ok { IfOk result (λ table. table.table ≡ listing base oem places.now) }
+    ensures fits { OnOk result (36 + 8 * length places.now < 2 ^ 32) }
+    ensures err { IfErr result (λ e. e ≢ Error.Memory → (e ≡ Error.FieldWidth) × (2 ^ 32 ≤ 36 + 8 * length places.now)) }
+{
+    let mut table = XSDT::new(alloc, oem.id, oem.table_id, oem.revision);
+    for place in places {
+        table.add_entry(address(base, *place))?;
+    }
+    Ok(table)
+}
+
+// The XSDT and the RSDP behind the tables. Where the RSDP is.
+fn finish(alloc: Global, base: u64, oem: Oem, bytes: &mut Vec<u8>, places: &[u64]) -> R<u64>
+    ensures ok { OnOk result (bytes.new.items ≡ (with_pointer base oem (record { bytes = bytes.old.items; places = places.now })).bytes) }
+    ensures rsdp { IfOk result (λ rsdp. base + length bytes.new.items ≤ 2 ^ 64
+        → rsdp ≡ (with_pointer base oem (record { bytes = bytes.old.items; places = places.now })).rsdp) }
+    ensures some { OnOk result (1 ≤ length bytes.new.items) }
+    ensures fits { OnOk result (36 + 8 * length places.now < 2 ^ 32) }
+    ensures err { IfErr result (λ e. e ≢ Error.Memory → (e ≡ Error.FieldWidth) × (2 ^ 32 ≤ 36 + 8 * length places.now)) }
+{
+    let xsdt = list(alloc, base, oem, places)?;
+    pad(bytes, 8)?;
+    let xsdt_addr = address(base, bytes.len() as u64);
+    append_value(&xsdt, bytes)?;
+    pad(bytes, 16)?;
+    let rsdp = address(base, bytes.len() as u64);
+    append_value(&Rsdp::new(oem.id, xsdt_addr), bytes)?;
+    Ok(rsdp)
+}
+
+/// Lays the tables of a guest into one image, which is to stand at the physical address `base`, a multiple of 64: the
+/// FACS there, the DSDT `sdt` behind it, then the FADT and the tables at multiples of 8, an XSDT (ACPI 6.5, 5.2.8) of
+/// the FADT and the tables in order at the next multiple of 8, and the RSDP (5.2.5) at the next multiple of 16. Gaps
+/// are zero. The FADT points by its fields of 64 bits. The refusal of the first table that has one, else FieldWidth
+/// where a byte's address would pass 2^64 - 1 or the XSDT's length would reach 2^32.
+pub fn lay(
+    base: u64,
+    oem_id: [u8; 6],
+    oem_table_id: [u8; 8],
+    oem_revision: u32,
+    sdt: &Sdt,
+    facs: &FACS,
+    fadt: FADTBuilder,
+    tables: Vec<&dyn Aml>,
+) -> R<Image>
+    requires base { base % 64 ≡ 0 }
+    ensures { Lays result base (record { id = oem_id; table_id = oem_table_id; revision = oem_revision })
+        (facs_bytes facs.now) sdt.now.bytes fadt (map (λ table. object table.now) tables.entry.items) }
+{
+    let alloc = *tables.allocator();
+    let oem = Oem {
+        id: oem_id,
+        table_id: oem_table_id,
+        revision: oem_revision,
+    };
+    let mut bytes = Vec::new(alloc);
+    let mut places = Vec::new(alloc);
+    begin_image(base, facs, sdt, fadt, &mut bytes, &mut places)?;
+    place_all(&tables, &mut bytes, &mut places)?;
+    let rsdp = finish(alloc, base, oem, &mut bytes, &places)?;
+    if bytes.len() as u64 - 1 > u64::MAX - base {
+        return Err(Error::FieldWidth);
+    }
+    Ok(Image { bytes, rsdp })
+}

@@ -1,0 +1,5 @@
+//! The tables of a guest at their addresses, in one image.
+#![tactic(auto)]
+
+pub mod layout;
+mod place;
