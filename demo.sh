@@ -20,18 +20,47 @@ quietly acpi_example run -- "$work/acpi"
 quietly acpiread run -- table "$work/acpi/package"
 read=crates/acpiread/out/acpiread
 
-# A table that was written, and the line that the reader tells of it.
+# A table that was written, and the lines that the reader tells of it.
 tells() {
-    line=$("$read" table "$work/acpi/$1") || true
-    echo "$line"
-    expect "$line" "$2"
+    lines=$("$read" table "$work/acpi/$1") || true
+    echo "$lines"
+    expect "$lines" "$2"
 }
 
 tells package 'DSDT length 41 revision 2 sum 0'
-tells madt 'APIC length 72 revision 1 sum 0'
-tells mcfg 'MCFG length 60 revision 1 sum 0'
-tells srat 'SRAT length 128 revision 1 sum 0'
-tells xsdt 'XSDT length 60 revision 1 sum 0'
+tells madt 'APIC length 72 revision 1 sum 0
+44 type 0 size 8
+52 type 0 size 8
+60 type 1 size 12'
+tells mcfg 'MCFG length 60 revision 1 sum 0
+44 entry size 16'
+tells srat 'SRAT length 128 revision 1 sum 0
+48 type 1 size 40
+88 type 1 size 40'
+tells pptt 'PPTT length 312 revision 3 sum 0
+36 type 1 size 28
+64 type 0 size 24
+88 type 1 size 28
+116 type 1 size 28
+144 type 1 size 28
+172 type 0 size 28
+200 type 1 size 28
+228 type 1 size 28
+256 type 1 size 28
+284 type 0 size 28'
+tells slit 'SLIT length 48 revision 1 sum 0'
+tells hmat 'HMAT length 232 revision 1 sum 0
+40 type 0 size 40
+80 type 0 size 40
+120 type 1 size 56
+176 type 1 size 56'
+tells xsdt 'XSDT length 84 revision 1 sum 0
+36 entry size 8
+44 entry size 8
+52 entry size 8
+60 entry size 8
+68 entry size 8
+76 entry size 8'
 
 # What a run ends with that prints no report: its status, its line, and the words.
 ends() {

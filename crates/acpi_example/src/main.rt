@@ -2,13 +2,18 @@
 //! definition block of one package, one of a small namespace, and the tables of a machine of two processors.
 #![tactic(auto)]
 
+mod domains;
 mod namespace;
+mod oem;
 mod platform;
 mod table;
+mod topology;
 
+use crate::domains::{attributes, distances};
 use crate::namespace::namespace_block;
 use crate::platform::{configuration_space, interrupt_controllers, memory, pointers};
 use crate::table::package_block;
+use crate::topology::topology;
 use acpi_tables::{Aml, R};
 use std::alloc::Global;
 use std::io::Eprint;
@@ -24,12 +29,22 @@ fn main(rt: HostRuntime) -> io::Result<ExitCode> {
     let alloc = rt.alloc();
     let folder = folder.as_str();
     // Where the monitor puts the tables: each in a page of its own.
-    let places = [0x1c00_1000, 0x1c00_2000, 0x1c00_3000];
+    let places = [
+        0x1c00_1000,
+        0x1c00_2000,
+        0x1c00_3000,
+        0x1c00_4000,
+        0x1c00_5000,
+        0x1c00_6000,
+    ];
     let saved = save(&rt, alloc, folder, "package", package_block(alloc))?
         && save(&rt, alloc, folder, "namespace", namespace_block(alloc))?
         && save(&rt, alloc, folder, "madt", interrupt_controllers(alloc))?
         && save(&rt, alloc, folder, "mcfg", configuration_space(alloc))?
         && save(&rt, alloc, folder, "srat", memory(alloc))?
+        && save(&rt, alloc, folder, "pptt", topology(alloc, 2))?
+        && save(&rt, alloc, folder, "slit", distances(alloc))?
+        && save(&rt, alloc, folder, "hmat", attributes(alloc))?
         && save(&rt, alloc, folder, "xsdt", pointers(alloc, &places))?;
     Ok(if saved {
         ExitCode::SUCCESS

@@ -1,5 +1,6 @@
 //! What a machine of two processors tells of itself, beside its namespace.
 
+use crate::oem::{OEM_ID, OEM_REVISION, OEM_TABLE_ID};
 use acpi_tables::R;
 use acpi_tables::madt::{
     EnabledStatus, IoApic, LocalInterruptController, MADT, ProcessorLocalApic,
@@ -8,12 +9,6 @@ use acpi_tables::mcfg::MCFG;
 use acpi_tables::srat::{MemoryAffinity, SRAT};
 use acpi_tables::xsdt::XSDT;
 use std::alloc::Global;
-
-const OEM_ID: [u8; 6] = *b"FOOBAR";
-
-const OEM_TABLE_ID: [u8; 8] = *b"CAFEDEAD";
-
-const OEM_REVISION: u32 = 0xdead_beef;
 
 /// The interrupt controllers: one of each processor, and one for devices.
 pub fn interrupt_controllers(alloc: Global) -> R<MADT> {

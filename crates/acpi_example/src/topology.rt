@@ -1,0 +1,62 @@
+//! How the processors and their caches are arranged.
+
+ghost use Rattle.std.specs.Prelude.{◌≡◌, ◌+◌, ◌*◌, length, IfOk, OnOk};
+
+use crate::oem::{OEM_ID, OEM_REVISION, OEM_TABLE_ID};
+use acpi_tables::R;
+use acpi_tables::pptt::{
+    AllocationType, CacheNode, CacheNodeBuilder, CacheType, PPTT, ProcessorHandle, ProcessorNode,
+    WritePolicy,
+};
+use std::alloc::Global;
+
+// A cache with lines of 64 bytes, of so many sets and ways.
+fn cache(id: u32, kind: CacheType, sets: u16, ways: u8) -> CacheNodeBuilder {
+    CacheNodeBuilder::default()
+        .size(64 * u32::from(sets) * u32::from(ways))
+        .sets(u32::from(sets))
+        .associativity(ways)
+        .allocation_type(AllocationType::Both)
+        .cache_type(kind)
+        .write_policy(WritePolicy::Writeback)
+        .line_size(64)
+        .id(id)
+}
+
+// A core with two caches of its own, for data and for instructions, and one behind both. The cache of the package isn't the
+// next level of a core's last one: it is found at the node above.
+fn add_core(alloc: Global, table: &mut PPTT, package: &ProcessorHandle, number: u8) -> R<()>
+    ensures { OnOk result (length table.new.table.structures ≡ length table.old.table.structures + 4) }
+{
+    let number = u32::from(number);
+    let first_id = 2 + 3 * number;
+    let l2 = table.add_cache(cache(first_id, CacheType::Unified, 2048, 8).to_node())?;
+    let data = cache(first_id + 1, CacheType::Data, 64, 8).next_level(&l2);
+    let data = table.add_cache(data.to_node())?;
+    let instructions = cache(first_id + 2, CacheType::Instruction, 64, 8).next_level(&l2);
+    let instructions = table.add_cache(instructions.to_node())?;
+    let core = ProcessorNode::new(alloc, Some(package), number)
+        .valid()
+        .leaf()
+        .add_cache(&data)?
+        .add_cache(&instructions)?;
+    table.add_processor(core)?;
+    Ok(())
+}
+
+/// A package of so many cores, which share its cache.
+pub fn topology(alloc: Global, cores: u8) -> R<PPTT>
+    ensures { IfOk result (λ pptt. length pptt.table.structures ≡ 2 + 4 * cores) }
+{
+    let mut table = PPTT::new(alloc, OEM_ID, OEM_TABLE_ID, OEM_REVISION);
+    let shared = table.add_cache(cache(1, CacheType::Unified, 8192, 16).to_node())?;
+    let package = ProcessorNode::new(alloc, None, 0)
+        .physical()
+        .identical()
+        .add_cache(&shared)?;
+    let package = table.add_processor(package)?;
+    'cores: for number in 0..cores {
+        add_core(alloc, &mut table, &package, number)?;
+    }
+    Ok(table)
+}
