@@ -4,6 +4,7 @@ mod aml;
 mod dsdt;
 mod faults;
 mod files;
+mod structures;
 mod words;
 
 use acpiread_run::program::run;

@@ -1,0 +1,195 @@
+//! Tables that are refused.
+
+use super::samples::{COUNT, hest, nth};
+use super::{mend, reads, refusal, table};
+use acpi_term::read_error::ReadError;
+use std::process::Abort;
+use std::test::Fail;
+
+// The bytes of a RIMT that tells of one structure and has none.
+const MISCOUNTED: &[u8] =
+    b"RIMT\x30\0\0\0\x01\x16FOOBARCAFEDEAD\xef\xbe\xad\xdeRVAT\0\0\0\x01\x01\0\0\0\x30\0\0\0\0\0\0\0";
+
+// Each byte of the fields that tell how many structures there are and where they begin.
+#[test]
+fn told_fields(rt: HostRuntime) -> Result<(), Fail> {
+    assert_eq!(&rt; refusal(&rt, MISCOUNTED)?.name(), "Count");
+    for index in 0..COUNT {
+        let sample = nth(index);
+        let bytes = sample.bytes(&rt)?;
+        for (field, kind) in [(sample.count, "Count"), (sample.start, "Structure")] {
+            for at in field.0..field.1 {
+                for change in [1, 0x80, 0xff] {
+                    let mut wrong = Vec::from_slice(rt.alloc(), &bytes)?;
+                    assert!(&rt; at < wrong.len());
+                    wrong[at] = wrong[at].wrapping_add(change);
+                    mend(&rt, &mut wrong);
+                    assert_eq!(&rt; refusal(&rt, &wrong)?.name(), kind, "{wrong:?}");
+                }
+            }
+        }
+    }
+    Ok(())
+}
+
+// The field of a length isn't reached, or the length doesn't reach its field's end, or it passes the table's end.
+#[test]
+fn lengths(rt: HostRuntime) -> Result<(), Fail> {
+    let rhct: &[u8] = b"\0\0\0\0\0\0\0\0\0\0\0\0\x01\0\0\0\x38\0\0\0";
+    let viot: &[u8] = b"\x01\0\x30\0\0\0\0\0\0\0\0\0";
+    let rimt: &[u8] = b"\x01\0\0\0\x30\0\0\0\0\0\0\0";
+    let one: &[u8] = b"\x01\0\0\0";
+    let cases: [(&str, &[u8], &[u8], usize); 42] = [
+        ("XSDT", b"", b"\0\0\0\0\0\0\0", 36),
+        ("MCFG", &[0; 8], &[0; 15], 44),
+        ("APIC", &[0; 8], b"\x01", 44),
+        ("APIC", &[0; 8], b"\x01\0\0\0\0\0\0\0\0\0\0\0", 44),
+        ("APIC", &[0; 8], b"\x01\0", 44),
+        ("APIC", &[0; 8], b"\x01\x01", 44),
+        ("APIC", &[0; 8], b"\x01\x03", 44),
+        ("APIC", &[0; 8], b"\x01\xff\0\0\0\0\0\0\0\0\0\0", 44),
+        ("APIC", &[0; 8], b"\x01\x0d\x05\0\0\0\xc0\xfe\x18\0\0\0", 44),
+        ("APIC", &[0; 8], b"\0\x08\0\0\0\0\0\0\x01\x05\0\0", 52),
+        ("APIC", &[0; 8], b"\0\x08\0\0\0\0\0\0\x01\x01\0\0", 52),
+        ("APIC", &[0; 8], b"\0\x08\0\0\0\0\0\0\x01", 52),
+        ("SRAT", &[0; 12], b"\x07\x01", 48),
+        ("SRAT", &[0; 12], b"\x07\x03", 48),
+        ("PPTT", b"", b"\0\x01", 36),
+        ("PPTT", b"", b"\0\x03", 36),
+        ("CEDT", b"", b"\x03\0\x03", 36),
+        ("CEDT", b"", b"\x03\0\0\0", 36),
+        ("CEDT", b"", b"\x03\0\x03\0", 36),
+        ("CEDT", b"", b"\x03\0\x05\0", 36),
+        ("CEDT", b"", b"\x03\0\x04\x01", 36),
+        ("CEDT", b"", b"\x03\0\x04\0\x03\0\x07\0\0\0", 40),
+        ("RHCT", rhct, b"\x01\0\x03\0", 56),
+        ("RHCT", rhct, b"\x01\0\x05\0", 56),
+        ("RHCT", rhct, b"\x01\0\x04\x01", 56),
+        ("VIOT", viot, b"\x01\0\x03\0", 48),
+        ("VIOT", viot, b"\x01\0\x05\0", 48),
+        ("VIOT", viot, b"\x01\0\x04\x01", 48),
+        ("RIMT", rimt, b"\x01\0\x03\0", 48),
+        ("RIMT", rimt, b"\x01\0\x05\0", 48),
+        ("RIMT", rimt, b"\x01\0\x04\x01", 48),
+        ("RQSC", one, b"\x01\0\x03\0", 40),
+        ("RQSC", one, b"\x01\0\x05\0", 40),
+        ("RQSC", one, b"\x01\0\x04\x01", 40),
+        ("HMAT", &[0; 4], b"\x01\0\0\0\x08\0\0", 40),
+        ("HMAT", &[0; 4], b"\x01\0\0\0\0\0\0\0", 40),
+        ("HMAT", &[0; 4], b"\x01\0\0\0\x07\0\0\0", 40),
+        ("HMAT", &[0; 4], b"\x01\0\0\0\x09\0\0\0", 40),
+        ("HMAT", &[0; 4], b"\x01\0\0\0\x08\x01\0\0", 40),
+        ("HMAT", &[0; 4], b"\x01\0\0\0\x08\0\x01\0", 40),
+        ("HMAT", &[0; 4], b"\x01\0\0\0\x08\0\0\x01", 40),
+        ("HEST", one, b"\x06", 40),
+    ];
+    for (signature, fields, body, at) in cases {
+        let bytes = table(&rt, signature, 1, &[fields, body])?;
+        assert_eq!(&rt;
+            refusal(&rt, &bytes)?,
+            ReadError::Structure(at),
+            "{bytes:?}"
+        );
+    }
+    Ok(())
+}
+
+// Structures that are as long as up to the end of the field of their length, and long ones.
+#[test]
+fn least_and_long(rt: HostRuntime) -> Result<(), Fail> {
+    let cases: [(&str, &[u8], &[u8], usize, usize, &str); 7] = [
+        (
+            "APIC",
+            &[0; 8],
+            b"\x01\x02",
+            44,
+            2,
+            "APIC length 46 revision 1 sum 0\n44 type 1 size 2\n",
+        ),
+        (
+            "APIC",
+            &[0; 8],
+            b"\x01\xff",
+            44,
+            255,
+            "APIC length 299 revision 1 sum 0\n44 type 1 size 255\n",
+        ),
+        (
+            "CEDT",
+            b"",
+            b"\xff\0\x04\0",
+            36,
+            4,
+            "CEDT length 40 revision 1 sum 0\n36 type 255 size 4\n",
+        ),
+        (
+            "CEDT",
+            b"",
+            b"\x02\x01\x03\x02",
+            36,
+            515,
+            "CEDT length 551 revision 1 sum 0\n36 type 2 size 515\n",
+        ),
+        (
+            "RHCT",
+            b"\0\0\0\0\0\0\0\0\0\0\0\0\x01\0\0\0\x38\0\0\0",
+            b"\x01\x02\x04\0",
+            56,
+            4,
+            "RHCT length 60 revision 1 sum 0\n56 type 513 size 4\n",
+        ),
+        (
+            "HMAT",
+            &[0; 4],
+            b"\x02\x01\0\0\x08\0\0\0",
+            40,
+            8,
+            "HMAT length 48 revision 1 sum 0\n40 type 258 size 8\n",
+        ),
+        (
+            "HMAT",
+            &[0; 4],
+            b"\x01\0\0\0\x03\x02\x01\0",
+            40,
+            0x1_0203,
+            "HMAT length 66091 revision 1 sum 0\n40 type 1 size 66051\n",
+        ),
+    ];
+    for (signature, fields, front, at, size, report) in cases {
+        let mut structure = Vec::from_slice(rt.alloc(), front)?;
+        structure.resize(size, 0)?;
+        let bytes = table(&rt, signature, 1, &[fields, &structure])?;
+        reads(&rt, &bytes, &[(at, &structure)], report)?;
+    }
+    Ok(())
+}
+
+// Error sources of types without a size, and of other types cut short.
+#[test]
+fn sources(rt: HostRuntime) -> Result<(), Fail> {
+    let two: &[u8] = b"\x02\0\0\0";
+    let (_, known) = hest().structures[1];
+    for kind in [0, 1, 3, 5, 11, 255, 0x0106, 0xff0a] {
+        let mut body = [0; 92];
+        body[..2].copy_from_slice(&u16::to_le_bytes(kind));
+        let first = table(&rt, "HEST", 1, &[two, &body, known])?;
+        assert_eq!(&rt;
+            refusal(&rt, &first)?,
+            ReadError::UnknownSource(40),
+            "{kind}"
+        );
+        let second = table(&rt, "HEST", 1, &[two, known, &body])?;
+        assert_eq!(&rt;
+            refusal(&rt, &second)?,
+            ReadError::UnknownSource(84),
+            "{kind}"
+        );
+    }
+    for (kind, size) in [(6, 47), (7, 43), (8, 55), (9, 63), (10, 91)] {
+        let mut body = [0; 92];
+        body[0] = kind;
+        let bytes = table(&rt, "HEST", 1, &[two, known, &body[..size]])?;
+        assert_eq!(&rt; refusal(&rt, &bytes)?, ReadError::Structure(84), "{kind}");
+    }
+    Ok(())
+}
