@@ -1,2 +1,3 @@
 pub mod Image
 pub mod Lays
+pub mod Laws

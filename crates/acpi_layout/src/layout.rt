@@ -97,8 +97,7 @@ pub fn lay(
     tables: Vec<&dyn Aml>,
 ) -> R<Image>
     requires base { base % 64 ≡ 0 }
-    ensures { Lays result base (record { id = oem_id; table_id = oem_table_id; revision = oem_revision })
-        (facs_bytes facs.now) sdt.now.bytes fadt (map (λ table. object table.now) tables.entry.items) }
+    ensures { Lays result base (record { id = oem_id; table_id = oem_table_id; revision = oem_revision }) (facs_bytes facs.now) sdt.now.bytes fadt (map (λ table. object table.now) tables.entry.items) }
 {
     let alloc = *tables.allocator();
     let oem = Oem {
