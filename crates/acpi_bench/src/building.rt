@@ -1,11 +1,13 @@
 //! Tables of many structures.
 
-ghost use Rattle.std.specs.Prelude.{◌≡◌, length, IfOk};
+ghost use Rattle.std.specs.Prelude.{◌≡◌, ◌*◌, length, IfOk};
 
+use crate::oem::{OEM_ID, OEM_REVISION, OEM_TABLE_ID};
 use acpi_tables::R;
 use acpi_tables::madt::{
     EnabledStatus, IoApic, LocalInterruptController, MADT, ProcessorLocalApic,
 };
+use acpi_tables::pptt::{CacheNodeBuilder, PPTT, ProcessorNode};
 use acpi_tables::srat::{MemoryAffinity, SRAT};
 use acpi_tables::xsdt::XSDT;
 use std::alloc::Global;
@@ -16,13 +18,8 @@ pub enum Kind {
     Madt,
     Srat,
     Xsdt,
+    Pptt,
 }
-
-const OEM_ID: [u8; 6] = *b"FOOBAR";
-
-const OEM_TABLE_ID: [u8; 8] = *b"CAFEDEAD";
-
-const OEM_REVISION: u32 = 0xdead_beef;
 
 // Controllers of processors and of devices, by turns: so many of both.
 fn madt(alloc: Global, count: u32) -> R<MADT>
@@ -66,12 +63,30 @@ fn xsdt(alloc: Global, count: u32) -> R<XSDT>
     Ok(table)
 }
 
-/// Builds a table of so many structures and drops it.
+// So many processors, each behind a cache of its own.
+fn pptt(alloc: Global, count: u32) -> R<PPTT>
+    ensures { IfOk result (λ pptt. length pptt.table.structures ≡ 2 * count) }
+{
+    let mut table = PPTT::new(alloc, OEM_ID, OEM_TABLE_ID, OEM_REVISION);
+    'fill: for number in 0..count {
+        let cache = CacheNodeBuilder::default()
+            .size(0x8000)
+            .line_size(64)
+            .id(number);
+        let cache = table.add_cache(cache.to_node())?;
+        let processor = ProcessorNode::new(alloc, None, number).valid().leaf();
+        table.add_processor(processor.add_cache(&cache)?)?;
+    }
+    Ok(table)
+}
+
+/// Builds a table of so many structures, or of processors with their caches, and drops it.
 pub fn build(alloc: Global, kind: Kind, count: u32) -> R<()> {
     match kind {
         Kind::Madt => drop(madt(alloc, count)?),
         Kind::Srat => drop(srat(alloc, count)?),
         Kind::Xsdt => drop(xsdt(alloc, count)?),
+        Kind::Pptt => drop(pptt(alloc, count)?),
     }
     Ok(())
 }

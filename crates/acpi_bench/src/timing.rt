@@ -6,6 +6,7 @@ ghost use Rattle.acpi_bench.specs.Counted.{AreCounted};
 
 use crate::building::{Kind, build};
 use crate::fault::Fault;
+use crate::matrices::{Matrix, build_matrix};
 use acpi_tables::read::{Arities, Term, report_terms, terms};
 use std::alloc::Global;
 use std::fmt;
@@ -86,6 +87,38 @@ pub fn least_built(
     let mut least = built_once(rt, alloc, kind, count)?;
     for _ in 1..turns {
         least = least.min(built_once(rt, alloc, kind, count)?);
+    }
+    Ok(least)
+}
+
+/// A matrix that was filled and written: the nanoseconds that it took, and the table's checksum.
+#[derive(Clone, Copy, Debug)]
+pub struct Filled {
+    pub time: u64,
+    pub checksum: u8,
+}
+
+// Fills a matrix of so many rows and writes it.
+fn filled_once(rt: &impl Clock, alloc: Global, matrix: Matrix, side: u16) -> Result<Filled, Fault> {
+    let start = Instant::now(rt)?;
+    let checksum = build_matrix(alloc, matrix, side)?;
+    let time = nanos(start.elapsed(rt)?);
+    Ok(Filled { time, checksum })
+}
+
+/// The least time of so many turns, and of one at least, in which a matrix of so many rows is filled and written.
+pub fn least_filled(
+    rt: &impl Clock,
+    alloc: Global,
+    matrix: Matrix,
+    side: u16,
+    turns: u8,
+) -> Result<Filled, Fault> {
+    let mut least = filled_once(rt, alloc, matrix, side)?;
+    for _ in 1..turns {
+        let next = filled_once(rt, alloc, matrix, side)?;
+        least.time = least.time.min(next.time);
+        least.checksum = next.checksum;
     }
     Ok(least)
 }

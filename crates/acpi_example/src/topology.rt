@@ -5,8 +5,7 @@ ghost use Rattle.std.specs.Prelude.{◌≡◌, ◌+◌, ◌*◌, length, IfOk, O
 use crate::oem::{OEM_ID, OEM_REVISION, OEM_TABLE_ID};
 use acpi_tables::R;
 use acpi_tables::pptt::{
-    AllocationType, CacheNode, CacheNodeBuilder, CacheType, PPTT, ProcessorHandle, ProcessorNode,
-    WritePolicy,
+    AllocationType, CacheNodeBuilder, CacheType, PPTT, ProcessorHandle, ProcessorNode, WritePolicy,
 };
 use std::alloc::Global;
 
