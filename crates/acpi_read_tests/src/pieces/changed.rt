@@ -1,6 +1,6 @@
 //! Tables that were cut, or whose bytes were replaced.
 
-use super::samples::{COUNT, Sample, hest, madt, nth, rhct};
+use super::samples::{AER_DEVICE, COUNT, Sample, madt, nth, rhct};
 use super::{mend, mend_sum, refusal, table};
 use acpi_read::table::Table;
 use acpi_term::read_error::ReadError;
@@ -111,11 +111,10 @@ fn replaces(
 // Each byte of small tables by each other value: a length of one byte, one of two, and sizes by type.
 #[test]
 fn replacements(rt: HostRuntime) -> Result<(), Fail> {
-    let (_, source) = hest().structures[1];
     let tables = [
         madt().bytes(&rt)?,
         rhct().bytes(&rt)?,
-        table(&rt, "HEST", 1, &[b"\x01\0\0\0", source])?,
+        table(&rt, "HEST", 1, &[b"\x01\0\0\0", AER_DEVICE])?,
     ];
     for bytes in &tables {
         for index in 0..bytes.len() {

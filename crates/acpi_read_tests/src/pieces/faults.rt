@@ -1,6 +1,6 @@
 //! Tables that are refused.
 
-use super::samples::{COUNT, hest, nth};
+use super::samples::{AER_DEVICE, COUNT, nth};
 use super::{mend, reads, refusal, table};
 use acpi_term::read_error::ReadError;
 use std::process::Abort;
@@ -94,6 +94,18 @@ fn lengths(rt: HostRuntime) -> Result<(), Fail> {
     Ok(())
 }
 
+// A table whose one structure begins with these bytes and has so many, the others zero.
+fn is_padded(
+    rt: &(impl AllocGlobal + Abort),
+    case: (&str, &[u8], &[u8], usize, usize, &str),
+) -> Result<(), Fail> {
+    let (signature, fields, front, at, size, report) = case;
+    let mut structure = Vec::from_slice(rt.alloc(), front)?;
+    structure.resize(size, 0)?;
+    let bytes = table(rt, signature, 1, &[fields, &structure])?;
+    reads(rt, &bytes, &[(at, &structure)], report)
+}
+
 // Structures that are as long as up to the end of the field of their length, and long ones.
 #[test]
 fn least_and_long(rt: HostRuntime) -> Result<(), Fail> {
@@ -155,30 +167,37 @@ fn least_and_long(rt: HostRuntime) -> Result<(), Fail> {
             "HMAT length 66091 revision 1 sum 0\n40 type 1 size 66051\n",
         ),
     ];
-    for (signature, fields, front, at, size, report) in cases {
-        let mut structure = Vec::from_slice(rt.alloc(), front)?;
-        structure.resize(size, 0)?;
-        let bytes = table(&rt, signature, 1, &[fields, &structure])?;
-        reads(&rt, &bytes, &[(at, &structure)], report)?;
+    for case in cases {
+        is_padded(&rt, case)?;
     }
     Ok(())
+}
+
+// A table of two error sources.
+fn two_sources(
+    rt: &(impl AllocGlobal + Abort),
+    first: &[u8],
+    second: &[u8],
+) -> Result<Vec<u8>, Fail> {
+    let mut body = Vec::from_slice(rt.alloc(), b"\x02\0\0\0")?;
+    body.extend_from_slice(first)?;
+    body.extend_from_slice(second)?;
+    table(rt, "HEST", 1, &[&body])
 }
 
 // Error sources of types without a size, and of other types cut short.
 #[test]
 fn sources(rt: HostRuntime) -> Result<(), Fail> {
-    let two: &[u8] = b"\x02\0\0\0";
-    let (_, known) = hest().structures[1];
     for kind in [0, 1, 3, 5, 11, 255, 0x0106, 0xff0a] {
-        let mut body = [0; 92];
-        body[..2].copy_from_slice(&u16::to_le_bytes(kind));
-        let first = table(&rt, "HEST", 1, &[two, &body, known])?;
+        let mut source = [0; 92];
+        source[..2].copy_from_slice(&u16::to_le_bytes(kind));
+        let first = two_sources(&rt, &source, AER_DEVICE)?;
         assert_eq!(&rt;
             refusal(&rt, &first)?,
             ReadError::UnknownSource(40),
             "{kind}"
         );
-        let second = table(&rt, "HEST", 1, &[two, known, &body])?;
+        let second = two_sources(&rt, AER_DEVICE, &source)?;
         assert_eq!(&rt;
             refusal(&rt, &second)?,
             ReadError::UnknownSource(84),
@@ -186,9 +205,9 @@ fn sources(rt: HostRuntime) -> Result<(), Fail> {
         );
     }
     for (kind, size) in [(6, 47), (7, 43), (8, 55), (9, 63), (10, 91)] {
-        let mut body = [0; 92];
-        body[0] = kind;
-        let bytes = table(&rt, "HEST", 1, &[two, known, &body[..size]])?;
+        let mut source = [0; 92];
+        source[0] = kind;
+        let bytes = two_sources(&rt, AER_DEVICE, &source[..size])?;
         assert_eq!(&rt; refusal(&rt, &bytes)?, ReadError::Structure(84), "{kind}");
     }
     Ok(())

@@ -30,6 +30,11 @@ impl Sample {
 /// A field that a table doesn't have.
 const NONE: (usize, usize) = (0, 0);
 
+/// An AER device.
+pub const AER_DEVICE: &[u8] =
+    b"\x07\0\0\0\0\0\x02\0\x01\0\0\0\x02\0\0\0\0\0\0\0\0\0\0\0\x11\x12\0\0\
+\x21\x22\x23\x24\x25\x26\x27\x28\x29\x2a\x2b\x2c\x2d\x2e\x2f\x30";
+
 /// How many signatures have structures.
 pub const COUNT: usize = 12;
 
@@ -118,11 +123,7 @@ pub fn hest() -> Sample {
                 b"\x08\0\0\0\0\0\x02\0\x01\0\0\0\x02\0\0\0\0\0\0\0\0\0\0\0\x11\x12\0\0\
 \x21\x22\x23\x24\x25\x26\x27\x28\x29\x2a\x2b\x2c\x2d\x2e\x2f\x30\x31\x32\x33\x34\x35\x36\x37\x38\x39\x3a\x3b\x3c",
             ),
-            (
-                96,
-                b"\x07\0\0\0\0\0\x02\0\x01\0\0\0\x02\0\0\0\0\0\0\0\0\0\0\0\x11\x12\0\0\
-\x21\x22\x23\x24\x25\x26\x27\x28\x29\x2a\x2b\x2c\x2d\x2e\x2f\x30",
-            ),
+            (96, AER_DEVICE),
             (
                 140,
                 b"\x09\0\x03\0\xff\xff\0\x01\x01\0\0\0\x02\0\0\0\0\x10\0\0\

@@ -19,7 +19,7 @@ fn each(rt: HostRuntime) -> Result<(), Fail> {
         alone[first..end].fill(0);
         mend(&rt, &mut alone);
         let (signature, revision) = (sample.signature, sample.revision);
-        let (start, _) = sample.structures[0];
+        let (start, _) = sample.structures.first().ok_or("a structure")?;
         let line = format!(in rt.alloc();
             "{signature} length {start} revision {revision} sum 0\n"
         )?;
