@@ -24,7 +24,7 @@ else
     prove_libraries acpi_example
     tables=$work/acpi
     mkdir "$tables"
-    quietly acpi_example run -- "$tables"
+    quietly acpi_example run -- "$tables" 0x1c000000
 fi
 
 # Where iasl said something against a table: what it says of it, and what it writes into the text.
@@ -33,6 +33,8 @@ written='Error:|Warning:|Invalid|Unknown|Incorrect|\*\*\*\*'
 
 for table in "$tables"/*; do
     name=${table##*/}
+    # All tables at their addresses.
+    [ "$name" != image ] || continue
     text=$work/$name.dsl
     if ! iasl -p "$work/$name" -d "$table" >"$work/log" 2>&1 || [ ! -s "$text" ] ||
         grep -Eiq "$said" "$work/log" || grep -Eq "$written" "$text"; then

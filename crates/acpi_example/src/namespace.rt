@@ -1,13 +1,52 @@
-//! A small namespace: a device with a status and registers at ports, and a serial port.
+//! The namespace: the root bridge of PCI, a serial port, the processors, and how to switch off.
 
+use crate::machine::{
+    DEVICE_MEMORY, DEVICE_MEMORY_END, LAST_BUS, PROCESSORS, SERIAL_INTERRUPT, SERIAL_PORTS,
+};
 use crate::table::empty_block;
 use acpi_tables::aml::{
-    Device, EISAName, Field, FieldAccessType, FieldEntry, FieldLockRule, FieldUpdateRule, IO,
-    Interrupt, Method, Name, OpRegion, OpRegionSpace, Path, ResourceTemplate, Return, Scope,
+    AddressSpace, AddressSpaceCacheable, Device, EISAName, IO, Interrupt, Method, Name, Package,
+    Path, ResourceTemplate, Return, ZERO,
 };
 use acpi_tables::sdt::{Sdt, append_object};
 use acpi_tables::{Aml, R};
 use std::alloc::Global;
+
+// What the bridge hands on: bus numbers, the ports but those of its own, and memory for devices.
+fn bridge_resources(alloc: Global) -> R<ResourceTemplate> {
+    let buses = AddressSpace::new_bus_number(0u16, u16::from(LAST_BUS));
+    let own = IO::new(0xcf8, 0xcf8, 1, 8);
+    let low = AddressSpace::new_io(0u16, 0xcf7, None);
+    let high = AddressSpace::new_io(0xd00u16, 0xffff, None);
+    let memory = AddressSpace::new_memory(
+        AddressSpaceCacheable::NotCacheable,
+        true,
+        DEVICE_MEMORY,
+        DEVICE_MEMORY_END,
+        None,
+    );
+    ResourceTemplate::new(vec![in alloc; &buses as &dyn Aml, &own, &low, &high, &memory]?)
+}
+
+// The root bridge of PCI Express, which software for PCI knows too (ACPI 6.5, 6.5.5 and 6.5.6).
+fn root_bridge(alloc: Global) -> R<Device> {
+    let id = Name::new(Path::new(alloc, "_HID")?, &EISAName::new("PNP0A08")?)?;
+    let compatible = Name::new(Path::new(alloc, "_CID")?, &EISAName::new("PNP0A03")?)?;
+    let segment = Name::new(Path::new(alloc, "_SEG")?, &ZERO)?;
+    let unique = Name::new(Path::new(alloc, "_UID")?, &ZERO)?;
+    let current = Name::new(Path::new(alloc, "_CRS")?, &bridge_resources(alloc)?)?;
+    Device::new(
+        Path::new(alloc, "_SB_.PCI0")?,
+        vec![in alloc; &id as &dyn Aml, &compatible, &segment, &unique, &current]?,
+    )
+}
+
+// The serial port's interrupt and its ports.
+fn serial_resources(alloc: Global) -> R<ResourceTemplate> {
+    let interrupt = Interrupt::new(true, true, false, false, SERIAL_INTERRUPT);
+    let ports = IO::new(SERIAL_PORTS, SERIAL_PORTS, 0, 8);
+    ResourceTemplate::new(vec![in alloc; &interrupt as &dyn Aml, &ports]?)
+}
 
 // Answers that the device is there and works.
 fn status(alloc: Global) -> R<Method> {
@@ -16,59 +55,42 @@ fn status(alloc: Global) -> R<Method> {
     Method::new(Path::new(alloc, "_STA")?, 0, false, body)
 }
 
-// Twelve ports.
-fn ports(alloc: Global) -> R<OpRegion> {
-    OpRegion::new(
-        Path::new(alloc, "PRST")?,
-        OpRegionSpace::SystemIO,
-        &0xcd8u16,
-        &12u8,
-    )
-}
-
-// One bit of them, behind 32 others.
-fn enable(alloc: Global) -> R<Field> {
-    Field::new(
-        Path::new(alloc, "PRST")?,
-        FieldAccessType::Byte,
-        FieldLockRule::NoLock,
-        FieldUpdateRule::WriteAsZeroes,
-        vec![in alloc; FieldEntry::Reserved(32), FieldEntry::Named(*b"CPEN", 1)]?,
-    )
-}
-
-fn device(alloc: Global) -> R<Device> {
-    let (status, ports, enable) = (status(alloc)?, ports(alloc)?, enable(alloc)?);
-    let inside: Vec<&dyn Aml> = vec![in alloc; &status as &dyn Aml, &ports, &enable]?;
-    Device::new(Path::new(alloc, "REGS")?, inside)
-}
-
-fn scope(alloc: Global) -> R<Scope> {
-    let device = device(alloc)?;
-    let inside: Vec<&dyn Aml> = vec![in alloc; &device as &dyn Aml]?;
-    Scope::new(Path::new(alloc, "\\_SB_")?, inside)
-}
-
-// Its interrupt and its ports.
-fn resources(alloc: Global) -> R<ResourceTemplate> {
-    let interrupt = Interrupt::new(true, true, false, false, 4);
-    let ports = IO::new(0x3f8, 0x3f8, 0, 8);
-    ResourceTemplate::new(vec![in alloc; &interrupt as &dyn Aml, &ports]?)
-}
-
 fn serial_port(alloc: Global) -> R<Device> {
     let id = Name::new(Path::new(alloc, "_HID")?, &EISAName::new("PNP0501")?)?;
-    let current = Name::new(Path::new(alloc, "_CRS")?, &resources(alloc)?)?;
+    let status = status(alloc)?;
+    let current = Name::new(Path::new(alloc, "_CRS")?, &serial_resources(alloc)?)?;
     Device::new(
         Path::new(alloc, "_SB_.COM1")?,
-        vec![in alloc; &id as &dyn Aml, &current]?,
+        vec![in alloc; &id as &dyn Aml, &status, &current]?,
     )
+}
+
+// A processor, by the id that the table of interrupt controllers has too.
+fn processor(alloc: Global, number: u8) -> R<Device> {
+    let text = format!(in alloc; "_SB_.C{number:03}")?;
+    let kind = "ACPI0007";
+    let id = Name::new(Path::new(alloc, "_HID")?, &kind)?;
+    let unique = Name::new(Path::new(alloc, "_UID")?, &number)?;
+    Device::new(
+        Path::new(alloc, text.as_str())?,
+        vec![in alloc; &id as &dyn Aml, &unique]?,
+    )
+}
+
+// The values that switch the machine off (ACPI 6.5, 7.4.2.6).
+fn soft_off(alloc: Global) -> R<Name> {
+    let values = Package::new(vec![in alloc; &ZERO as &dyn Aml, &ZERO, &ZERO, &ZERO]?)?;
+    Name::new(Path::new(alloc, "\\_S5_")?, &values)
 }
 
 /// A definition block (ACPI 6.5, 5.2.11.1) that holds the namespace.
 pub fn namespace_block(alloc: Global) -> R<Sdt> {
     let mut table = empty_block(alloc)?;
-    append_object(&scope(alloc)?, &mut table)?;
+    append_object(&root_bridge(alloc)?, &mut table)?;
     append_object(&serial_port(alloc)?, &mut table)?;
+    for number in 0..PROCESSORS {
+        append_object(&processor(alloc, number)?, &mut table)?;
+    }
+    append_object(&soft_off(alloc)?, &mut table)?;
     Ok(table)
 }

@@ -1,50 +1,44 @@
-//! What a machine of two processors tells of itself, beside its namespace.
+//! Interrupt controllers, configuration space and memory.
 
+use crate::machine::{
+    CONFIGURATION_SPACE, IO_APIC, LAST_BUS, LOCAL_APIC, MEMORY_OF_A_DOMAIN, PROCESSORS, SCI,
+};
 use crate::oem::{OEM_ID, OEM_REVISION, OEM_TABLE_ID};
+use crate::redirection::Redirection;
 use acpi_tables::R;
 use acpi_tables::madt::{
     EnabledStatus, IoApic, LocalInterruptController, MADT, ProcessorLocalApic,
 };
 use acpi_tables::mcfg::MCFG;
 use acpi_tables::srat::{MemoryAffinity, SRAT};
-use acpi_tables::xsdt::XSDT;
 use std::alloc::Global;
 
-/// The interrupt controllers: one of each processor, and one for devices.
+/// The interrupt controllers: one of each processor, and one for devices, at which the timer has another line than at the two
+/// of old, and ACPI's own interrupt stays high.
 pub fn interrupt_controllers(alloc: Global) -> R<MADT> {
-    let local = LocalInterruptController::Address(0xfee0_0000);
+    let local = LocalInterruptController::Address(LOCAL_APIC);
     let mut table = MADT::new(alloc, OEM_ID, OEM_TABLE_ID, OEM_REVISION, local);
-    for processor in 0..2u8 {
+    for processor in 0..PROCESSORS {
         table.add_structure(ProcessorLocalApic::new(processor, processor, EnabledStatus::Enabled))?;
     }
-    table.add_structure(IoApic::new(0, 0xfec0_0000, 0))?;
+    table.add_structure(IoApic::new(0, IO_APIC, 0))?;
+    table.add_structure(Redirection::of_timer(0, 2))?;
+    table.add_structure(Redirection::active_high(SCI))?;
     Ok(table)
 }
 
 /// The configuration space of all buses of PCI.
 pub fn configuration_space(alloc: Global) -> R<MCFG> {
     let mut table = MCFG::new(alloc, OEM_ID, OEM_TABLE_ID, OEM_REVISION);
-    table.add_ecam(0xb000_0000, 0, 0, 255)?;
+    table.add_ecam(CONFIGURATION_SPACE, 0, 0, LAST_BUS)?;
     Ok(table)
 }
 
-/// Memory below and above 4 GiB, near to one processor each.
+/// The memory of two domains, one behind the other.
 pub fn memory(alloc: Global) -> R<SRAT> {
     let mut table = SRAT::new(alloc, OEM_ID, OEM_TABLE_ID, OEM_REVISION);
-    table.add_memory_affinity(MemoryAffinity::new(0, 0, 0x8000_0000).enabled())?;
-    table.add_memory_affinity(
-        MemoryAffinity::new(1, 0x1_0000_0000, 0x8000_0000)
-            .enabled()
-            .hotpluggable(),
-    )?;
-    Ok(table)
-}
-
-/// Where these tables are in memory.
-pub fn pointers(alloc: Global, addresses: &[u64]) -> R<XSDT> {
-    let mut table = XSDT::new(alloc, OEM_ID, OEM_TABLE_ID, OEM_REVISION);
-    for address in addresses {
-        table.add_entry(*address)?;
-    }
+    let (first, second) = (0, MEMORY_OF_A_DOMAIN);
+    table.add_memory_affinity(MemoryAffinity::new(0, first, MEMORY_OF_A_DOMAIN).enabled())?;
+    table.add_memory_affinity(MemoryAffinity::new(1, second, MEMORY_OF_A_DOMAIN).enabled())?;
     Ok(table)
 }

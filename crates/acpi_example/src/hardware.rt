@@ -1,0 +1,83 @@
+//! The fixed hardware of ACPI, and where errors are told.
+
+use crate::machine::{
+    BOOT_ERRORS, CONTROL_PORTS, ERROR_STATUS, EVENT_PORTS, GENERAL_EVENT_BYTES,
+    GENERAL_EVENT_PORTS, SCI, TIMER_PORTS,
+};
+use crate::oem::{OEM_ID, OEM_REVISION, OEM_TABLE_ID};
+use acpi_tables::R;
+use acpi_tables::bert::BERT;
+use acpi_tables::fadt::{FADTBuilder, Flags};
+use acpi_tables::gas::{AccessSize, AddressSpace, GAS};
+use acpi_tables::hest::{
+    EnabledStatus, GenericHardwareSource, HEST, NotificationStructure, NotificationType,
+    PcieAerRootPort,
+};
+use std::alloc::Global;
+
+// Ports of so many bits.
+fn ports(first: u32, bits: u8, access: AccessSize) -> GAS {
+    GAS::new(AddressSpace::SystemIo, bits, 0, access, u64::from(first))
+}
+
+/// The fields of the FADT (ACPI 6.5, 5.2.9), whose pointers are set when the tables are laid.
+pub fn fixed_hardware() -> FADTBuilder {
+    let mut fields = FADTBuilder::new(OEM_ID, OEM_TABLE_ID, OEM_REVISION);
+    fields.sci_int = u16::from(SCI);
+    fields.pm1a_evt_blk = EVENT_PORTS;
+    fields.pm1_evt_len = 4;
+    fields.x_pm1a_evt_blk = ports(EVENT_PORTS, 32, AccessSize::WordAccess);
+    fields.pm1a_cnt_blk = CONTROL_PORTS;
+    fields.pm1_cnt_len = 2;
+    fields.x_pm1a_cnt_blk = ports(CONTROL_PORTS, 16, AccessSize::WordAccess);
+    fields.pm_tmr_blk = TIMER_PORTS;
+    fields.pm_tmr_len = 4;
+    fields.x_pm_tmr_blk = ports(TIMER_PORTS, 32, AccessSize::DwordAccess);
+    fields.x_gpe0_blk = ports(
+        GENERAL_EVENT_PORTS,
+        8 * GENERAL_EVENT_BYTES,
+        AccessSize::ByteAccess,
+    );
+    fields
+        .gpe_info(GENERAL_EVENT_PORTS, 0, GENERAL_EVENT_BYTES, 0, 0)
+        .flag(Flags::Wbinvd)
+        .flag(Flags::ProcC1)
+        .flag(Flags::PwrButton)
+        .flag(Flags::SlpButton)
+        .flag(Flags::TmrValExt)
+}
+
+/// Where errors are told: by the root ports of PCI Express, and by firmware in a page of memory, which is polled.
+pub fn error_sources(alloc: Global, base: u64) -> R<HEST> {
+    let mut table = HEST::new(alloc, OEM_ID, OEM_TABLE_ID, OEM_REVISION);
+    table.add_structure(PcieAerRootPort::new_global())?;
+    let polled = NotificationStructure::new(NotificationType::Polled).poll_interval_ms(1000);
+    let status = GAS::new(
+        AddressSpace::SystemMemory,
+        64,
+        0,
+        AccessSize::QwordAccess,
+        base.wrapping_add(ERROR_STATUS),
+    );
+    table.add_structure(
+        GenericHardwareSource::new(1, EnabledStatus::Enabled)
+            .num_records(1)
+            .max_sections(1)
+            .max_raw_length(0x1000)
+            .error_status_address(status)
+            .notification(polled)
+            .error_status_block_len(0x1000),
+    )?;
+    Ok(table)
+}
+
+/// Where firmware tells of errors of the boot before: a page that holds none.
+pub fn boot_errors(base: u64) -> BERT {
+    BERT::new(
+        OEM_ID,
+        OEM_TABLE_ID,
+        OEM_REVISION,
+        0x1000,
+        base.wrapping_add(BOOT_ERRORS),
+    )
+}

@@ -1,0 +1,50 @@
+//! All tables, laid at their addresses.
+
+ghost use Rattle.std.specs.Prelude.{◌≡◌, ◌%◌};
+
+use crate::domains::{attributes, distances};
+use crate::hardware::{boot_errors, error_sources, fixed_hardware};
+use crate::machine::PROCESSORS;
+use crate::namespace::namespace_block;
+use crate::oem::{OEM_ID, OEM_REVISION, OEM_TABLE_ID};
+use crate::platform::{configuration_space, interrupt_controllers, memory};
+use crate::topology::topology;
+use acpi_tables::facs::FACS;
+use acpi_tables::layout::{Image, lay};
+use acpi_tables::{Aml, R};
+use std::alloc::Global;
+
+/// The machine's tables from a physical address on, a multiple of 64.
+pub fn image(alloc: Global, base: u64) -> R<Image>
+    requires { base % 64 ≡ 0 }
+{
+    let namespace = namespace_block(alloc)?;
+    let controllers = interrupt_controllers(alloc)?;
+    let spaces = configuration_space(alloc)?;
+    let memory = memory(alloc)?;
+    let distances = distances(alloc)?;
+    let attributes = attributes(alloc)?;
+    let topology = topology(alloc, PROCESSORS)?;
+    let sources = error_sources(alloc, base)?;
+    let boot_errors = boot_errors(base);
+    let tables: Vec<&dyn Aml> = vec![in alloc;
+        &controllers as &dyn Aml,
+        &spaces,
+        &memory,
+        &distances,
+        &attributes,
+        &topology,
+        &sources,
+        &boot_errors,
+    ]?;
+    lay(
+        base,
+        OEM_ID,
+        OEM_TABLE_ID,
+        OEM_REVISION,
+        &namespace,
+        &FACS::new(),
+        fixed_hardware(),
+        tables,
+    )
+}
