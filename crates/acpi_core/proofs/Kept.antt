@@ -9,7 +9,7 @@ use Rattle.acpi_base.specs.Bytes.{field_at}
 use Rattle.std.specs.List.{concat}
 use Rattle.acpi_base.proofs.Walks.{pieces_push}
 use Rattle.acpi_core.specs.Listing.{Listing, IsListing, bytes_of, with_structure}
-use Rattle.acpi_core.specs.Addition.{Counted, Adds, refusal_of}
+use Rattle.acpi_core.specs.Addition.{Counted, Adds, AddsAt, refusal_of}
 use Rattle.acpi_core.specs.Walk.{IsWalkOf, Keeps, IsWalked}
 use Rattle.acpi_core.proofs.Offsets.{are_true, the_walk, grow, signature_told, places}
 
@@ -70,6 +70,10 @@ keeps_bytes w r old new b bytes kept one is adds = keeps_on w r old new (whole b
 
 pub adds_bytes : {T : Type 0} (r : Result T Error) (inside old new : Counted) (b bytes : List ℕ) → inside ≡ old → b ≡ bytes → Adds r inside (whole b) new → Adds r old (whole bytes) new
 adds_bytes r inside old new b bytes same is adds = rw (← same, ← is) adds
+
+-- the same, where the answer is that of an addition that answers an offset
+pub adds_at_bytes : (r answer : Result ℕ Error) (inside old new : Counted) (b bytes : List ℕ) → answer ≡ r → inside ≡ old → b ≡ bytes → AddsAt r inside (whole b) new → AddsAt answer old (whole bytes) new
+adds_at_bytes r answer inside old new b bytes answers same is adds = rw (answers, ← same, ← is) adds
 
 -- an addition of an object
 pub adds_object : {T : Type 0} (r : Result T Error) (inside old new : Counted) (o : Object) → inside ≡ old → Adds r inside o new → Adds r old o new

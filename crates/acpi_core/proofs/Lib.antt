@@ -4,3 +4,4 @@ pub mod Offsets
 pub mod Kept
 pub mod Handles
 pub mod Parts
+pub mod Structures

@@ -12,7 +12,7 @@ mod machine;
 mod namespace;
 mod oem;
 mod platform;
-mod redirection;
+mod source_override;
 mod table;
 mod topology;
 

@@ -4,7 +4,7 @@ use crate::machine::{
     CONFIGURATION_SPACE, IO_APIC, LAST_BUS, LOCAL_APIC, MEMORY_OF_A_DOMAIN, PROCESSORS, SCI,
 };
 use crate::oem::{OEM_ID, OEM_REVISION, OEM_TABLE_ID};
-use crate::redirection::Redirection;
+use crate::source_override::InterruptSourceOverride;
 use acpi_tables::R;
 use acpi_tables::madt::{
     EnabledStatus, IoApic, LocalInterruptController, MADT, ProcessorLocalApic,
@@ -22,8 +22,8 @@ pub fn interrupt_controllers(alloc: Global) -> R<MADT> {
         table.add_structure(ProcessorLocalApic::new(processor, processor, EnabledStatus::Enabled))?;
     }
     table.add_structure(IoApic::new(0, IO_APIC, 0))?;
-    table.add_structure(Redirection::of_timer(0, 2))?;
-    table.add_structure(Redirection::active_high(SCI))?;
+    table.add_structure(InterruptSourceOverride::of_timer(0, 2))?;
+    table.add_structure(InterruptSourceOverride::active_high(SCI))?;
     Ok(table)
 }
 

@@ -1,7 +1,6 @@
 -- Controllers and their resources.
-use Rattle.std.proofs.Common.{◌≡◌, ℕ, ◌+◌, ◌*◌, ◌≤◌, ◌<◌, ◌^◌, ◌%◌, ◌/◌, List, [], ◌++◌, false, refl, sym, ◌∙◌, arith, length}
-use Rattle.std.specs.Prelude.{nat_lt, Result, Ok, Err, OnOk, IfErr}
-use Rattle.std.proofs.lemmas.Bool.Decides.{nat_tests}
+use Rattle.std.proofs.Common.{◌≡◌, ℕ, ◌+◌, ◌≤◌, List, [], ◌++◌, refl, sym, ◌∙◌, arith, length}
+use Rattle.std.specs.Prelude.{Result, Ok, Err, OnOk, IfErr}
 use Rattle.acpi_base.specs.declared.error.Error.{Error}
 use Rattle.acpi_base.specs.Sink.{Meaning, Took, Refused}
 use Rattle.acpi_base.specs.Walk.{told_at, IsPiece}
@@ -12,10 +11,6 @@ pub controller_piece : (q : Controller) → 28 + length q.resources ≤ 0xffff �
 controller_piece q fits =
     let size : length (controller_bytes q) ≡ 28 + length q.resources = omega arith in
     (omega (arith, size), word_told (28 + length q.resources) (omega (arith, fits)) ∙ sym size)
-
--- a length that its field doesn't hold
-pub too_long : (n : ℕ) → 0xffff < n → nat_lt n (2 ^ 16) ≡ false
-too_long n h = grind (arith, nat_tests, h)
 
 -- bytes and a payload behind them
 pub took_both : {T : Type 0} (r : Result T Error) (head made payload : List ℕ) (m k : Meaning) → made ≡ payload → OnOk r (Took m (head ++ (made ++ [])) k) → OnOk r (Took m (head ++ payload) k)

@@ -1,8 +1,6 @@
 -- Resources of RQSC (this project's profile).
-use Rattle.std.specs.Prelude.{◌≡◌, ◌≢◌, ℕ, ◌+◌, ◌^◌, nat_lt, Bool, List, [], ◌∷◌, ◌++◌, length, Some}
-use Rattle.acpi_base.specs.declared.error.Error.TheVariants.{Memory, FieldWidth}
+use Rattle.std.specs.Prelude.{◌≡◌, ℕ, ◌+◌, List, [], ◌∷◌, ◌++◌, length}
 use Rattle.acpi_base.specs.Layout.{byte, word, dword, qword, zeros, record_of}
-use Rattle.acpi_base.specs.Object.{Object, whole, provided, provided_ends_well}
 use Rattle.acpi_hest.specs.declared.rqsc.resource.ResourceType.{ResourceType}
 use Rattle.acpi_hest.specs.declared.rqsc.resource.ResourceType.TheVariants as types
 use Rattle.acpi_hest.specs.declared.rqsc.resource.CacheResource.{CacheResource}
@@ -99,16 +97,6 @@ resource_head r = record_of
 
 abbrev pub resource_bytes : ResourceStructure → List ℕ
 resource_bytes r = resource_head r ++ payload r.id  -- 8: Resource ID 1
-
--- its length fits its field
-abbrev pub resource_fits : ResourceStructure → Bool
-resource_fits r = nat_lt (length (resource_bytes r)) (2 ^ 16)
-
-abbrev pub resource_object : ResourceStructure → Object
-resource_object r = provided (resource_fits r) FieldWidth (whole (resource_bytes r))
-
-pub resource_ends_well : (r : ResourceStructure) → (resource_object r).end ≢ Some Memory
-resource_ends_well r = provided_ends_well (resource_fits r) FieldWidth (resource_bytes r) (λ is. cc)
 
 -- the same kind, flags and id
 pub record SameResource (a b : ResourceStructure) : Type 0 where

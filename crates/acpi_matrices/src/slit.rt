@@ -88,8 +88,7 @@ fn new_cells(alloc: Global, size: usize) -> R<Vec<u8>>
 }
 
 impl SLIT {
-    /// A table of so many localities, whose distances are all 10. Matrix past 65,535 localities. It takes the memory of its
-    /// cells, and none for no localities.
+    /// A table of so many localities, whose distances are all 10. Matrix past 65,535 localities.
     pub fn new(
         alloc: Global,
         oem_id: [u8; 6],

@@ -3,15 +3,16 @@ use Rattle.std.proofs.Common.{◌≡◌, ℕ, ◌+◌, ◌*◌, ◌≤◌, ◌<�
 use Rattle.std.specs.Prelude.{string_bytes, None}
 use Rattle.std.specs.List.{flat_map}
 use Rattle.acpi_base.specs.Walk.{told_at, IsPiece}
+use Rattle.acpi_core.specs.Structure.{structure_of, fits_word}
 use Rattle.acpi_core.proofs.Parts.{word_told}
+use Rattle.acpi_core.proofs.Structures.{below, not_below, is_below, structure_piece}
 use Rattle.acpi_nodes.specs.declared.rimt.InterruptWire.{InterruptWire}
 use Rattle.acpi_nodes.specs.declared.rimt.Iommu.{Iommu}
 use Rattle.acpi_nodes.specs.declared.rimt.IdMapping.{IdMapping}
 use Rattle.acpi_nodes.specs.declared.rimt.PcieRootComplex.{PcieRootComplex}
 use Rattle.acpi_nodes.specs.declared.rimt.Platform.{Platform}
-use Rattle.acpi_nodes.specs.Entries.{entries_of, structure_of, fits_word}
+use Rattle.acpi_nodes.specs.Entries.{entries_of}
 use Rattle.acpi_nodes.specs.Rimt.{wire_bytes, iommu_bytes, mapping_bytes, root_complex_bytes, platform_bytes, mappings_at}
-use Rattle.acpi_nodes.proofs.Structures.{below, not_below, is_below, structure_piece}
 
 wires_size : (ws : List InterruptWire) → length (flat_map wire_bytes ws) ≡ 8 * length ws
 wires_size [] = refl

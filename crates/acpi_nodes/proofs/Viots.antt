@@ -1,10 +1,10 @@
--- What a VIOT keeps over additions, and what it answers.
+-- What a VIOT keeps over additions.
 use Rattle.std.proofs.Common.{◌≡◌, ℕ, ◌^◌, List}
 use Rattle.std.specs.Prelude.{Result, Ok, Err}
 use Rattle.acpi_base.specs.declared.error.Error.{Error}
 use Rattle.acpi_base.specs.Object.{whole}
 use Rattle.acpi_base.specs.Walk.{IsPiece, viot_walk}
-use Rattle.acpi_core.specs.Addition.{Counted, Adds, AddsAt}
+use Rattle.acpi_core.specs.Addition.{Counted, Adds}
 use Rattle.acpi_core.proofs.Kept.{keeps_bytes}
 use Rattle.acpi_nodes.specs.Viot.{KeepsNodes}
 
@@ -17,7 +17,3 @@ keeps_node r old new b bytes kept one is adds = record {
   keeps = keeps_bytes viot_walk r old new b bytes kept.keeps one is adds;
   limit = limit_on r old new b kept.limit adds;
 }
-
--- an addition that answers an offset, to a table that is the only field of another
-pub adds_at_bytes : (r answer : Result ℕ Error) (inside old new : Counted) (b bytes : List ℕ) → answer ≡ r → inside ≡ old → b ≡ bytes → AddsAt r inside (whole b) new → AddsAt answer old (whole bytes) new
-adds_at_bytes r answer inside old new b bytes answers same is adds = rw (answers, ← same, ← is) adds

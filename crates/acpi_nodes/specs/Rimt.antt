@@ -1,7 +1,8 @@
 -- The RISC-V I/O Mapping Table (this project's profile).
-use Rattle.std.specs.Prelude.{ℕ, ◌+◌, ◌*◌, ◌^◌, Bool, if◌then◌else◌, List, [], ◌∷◌, ◌++◌, length, codes, string_bytes, String, Vec, unwrap_or, is_some, Option, Some, None}
+use Rattle.std.specs.Prelude.{◌≡◌, ℕ, ◌+◌, ◌*◌, ◌^◌, Bool, if◌then◌else◌, List, [], ◌∷◌, ◌++◌, length, codes, string_bytes, String, Vec, unwrap_or, is_some, Option, Some, None}
 use Rattle.std.specs.declared.alloc.Global.{Global}
 use Rattle.std.specs.List.{flat_map}
+use Rattle.acpi_base.specs.Bytes.{field_at}
 use Rattle.acpi_base.specs.Layout.{byte, word, dword, qword, zeros, record_of}
 use Rattle.acpi_base.specs.declared.oem.Oem.{Oem}
 use Rattle.acpi_core.specs.Listing.{Listing}
@@ -132,3 +133,9 @@ platform_head p = record_of
 -- 12: the name in the namespace, a zero, and then the mappings
 abbrev pub platform_bytes : Platform → List ℕ
 platform_bytes p = platform_head p ++ (string_bytes p.name ++ (0 ∷ flat_map mapping_bytes (entries_of p.mappings)))
+
+-- Each device tells its kind at its offset, whatever its fields hold.
+pub record DevicesTellKinds : Type 0 where
+  pub iommus : (i : Iommu) → field_at 0 1 (iommu_bytes i) ≡ 0
+  pub root_complexes : (c : PcieRootComplex) → field_at 0 1 (root_complex_bytes c) ≡ 1
+  pub platforms : (p : Platform) → field_at 0 1 (platform_bytes p) ≡ 2

@@ -1,5 +1,6 @@
 -- The Virtual I/O Translation Table (ACPI 6.5, 5.2.32).
 use Rattle.std.specs.Prelude.{◌≡◌, ℕ, ◌^◌, List, [], ◌∷◌, codes}
+use Rattle.acpi_base.specs.Bytes.{field_at}
 use Rattle.acpi_base.specs.Layout.{byte, word, dword, qword, zeros, record_of}
 use Rattle.acpi_base.specs.Walk.{viot_walk}
 use Rattle.acpi_base.specs.declared.oem.Oem.{Oem}
@@ -93,3 +94,10 @@ virtio_mmio_iommu_bytes i = record_of
     ∷ zeros 4  -- 4: reserved
     ∷ qword i.base  -- 8: Base Address
     ∷ [])
+
+-- Each node tells its kind at its offset, whatever its fields hold.
+pub record NodesTellKinds : Type 0 where
+  pub pci_ranges : (r : PciRange) → field_at 0 1 (pci_range_bytes r) ≡ 1
+  pub mmio_endpoints : (e : MmioEndpoint) → field_at 0 1 (mmio_endpoint_bytes e) ≡ 2
+  pub virtio_pci_iommus : (i : VirtIoPciIommu) → field_at 0 1 (virtio_pci_iommu_bytes i) ≡ 3
+  pub virtio_mmio_iommus : (i : VirtIoMmioIommu) → field_at 0 1 (virtio_mmio_iommu_bytes i) ≡ 4

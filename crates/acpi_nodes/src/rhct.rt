@@ -106,6 +106,7 @@ impl RHCT {
     pub fn add_hart_info(&mut self, hart_info: HartInfoNode) -> R<()>
         ensures { Adds result self.old (whole (hart_info_bytes hart_info)) self.new }
     {
+        // its invariant: each offset has four bytes, and the node's length its field
         let _ = &hart_info.offsets;
         self.table.add_object(&hart_info)
     }

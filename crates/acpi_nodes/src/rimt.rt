@@ -4,10 +4,11 @@ ghost use Rattle.std.specs.Prelude.{◌≡◌, ◌+◌, ◌*◌, ◌≤◌, leng
 ghost use Rattle.acpi_base.specs.Object.{whole, whole_ends_well};
 ghost use Rattle.acpi_base.specs.Walk.{rimt_walk};
 ghost use Rattle.acpi_core.specs.Listing.{bytes_of};
+ghost use Rattle.acpi_core.specs.Structure.{structure_of, structure_ends_well};
 ghost use Rattle.acpi_core.specs.Addition.{Adds, AddsAt};
 ghost use Rattle.acpi_core.specs.Walk.{IsWalked};
-ghost use Rattle.acpi_nodes.specs.Entries.{entries_of, structure_of, structure_ends_well};
-ghost use Rattle.acpi_nodes.specs.Rimt.{rimt, bit, interrupt_wire, wire_bytes, iommu, iommu_head, iommu_bytes, id_mapping, mapping_bytes, root_complex, root_complex_head, root_complex_bytes, platform, platform_head, platform_bytes};
+ghost use Rattle.acpi_nodes.specs.Entries.{entries_of};
+ghost use Rattle.acpi_nodes.specs.Rimt.{rimt, bit, interrupt_wire, wire_bytes, iommu, iommu_head, iommu_bytes, id_mapping, mapping_bytes, root_complex, root_complex_head, root_complex_bytes, platform, platform_head, platform_bytes, DevicesTellKinds};
 
 use crate::entries::{Entry, entries_of, write_with_entries};
 pub use crate::pci::PciDevice;
@@ -105,6 +106,11 @@ pub fn rimt_is_walked(table: &RIMT)
 {
     let _ = &table.table;
 }
+
+/// A law: each device tells its kind at its offset, whatever its fields hold.
+pub fn rimt_devices_tell_kinds()
+    ensures { DevicesTellKinds }
+{}
 
 /// An IOMMU of a table. In contracts it is the IOMMU's offset.
 #[derive(Copy, Clone)]

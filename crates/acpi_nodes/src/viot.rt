@@ -6,7 +6,7 @@ ghost use Rattle.acpi_base.specs.Walk.{viot_walk};
 ghost use Rattle.acpi_core.specs.Listing.{bytes_of};
 ghost use Rattle.acpi_core.specs.Addition.{Adds, AddsAt};
 ghost use Rattle.acpi_core.specs.Walk.{IsWalked};
-ghost use Rattle.acpi_nodes.specs.Viot.{viot, pci_range, pci_range_bytes, mmio_endpoint, mmio_endpoint_bytes, virtio_pci_iommu, virtio_pci_iommu_bytes, virtio_mmio_iommu, virtio_mmio_iommu_bytes};
+ghost use Rattle.acpi_nodes.specs.Viot.{viot, pci_range, pci_range_bytes, mmio_endpoint, mmio_endpoint_bytes, virtio_pci_iommu, virtio_pci_iommu_bytes, virtio_mmio_iommu, virtio_mmio_iommu_bytes, NodesTellKinds};
 
 pub use crate::pci::PciDevice;
 use acpi_base::error::R;
@@ -113,6 +113,11 @@ pub fn viot_is_walked(table: &VIOT)
 {
     let _ = &table.table;
 }
+
+/// A law: each node tells its kind at its offset, whatever its fields hold.
+pub fn viot_nodes_tell_kinds()
+    ensures { NodesTellKinds }
+{}
 
 /// A virtual IOMMU of a table. In contracts it is the node's offset.
 #[derive(Drop)]

@@ -3,7 +3,8 @@
 ghost use Rattle.std.specs.Prelude.{◌≡◌, ◌++◌, length, IfOk, OnOk, IfErr};
 ghost use Rattle.acpi_base.specs.Object.{whole, whole_ends_well};
 ghost use Rattle.acpi_base.specs.Sink.{Took, Refused};
-ghost use Rattle.acpi_hest.specs.Resource.{cache_resource, cache_bytes, memory_resource, memory_bytes, acpi_resource, acpi_bytes, pci_resource, pci_bytes, id_number, payload, id_bytes, same_id, resource, resource_head, resource_bytes, resource_object, resource_ends_well, SameResource};
+ghost use Rattle.acpi_core.specs.Structure.{structure_of, structure_ends_well};
+ghost use Rattle.acpi_hest.specs.Resource.{cache_resource, cache_bytes, memory_resource, memory_bytes, acpi_resource, acpi_bytes, pci_resource, pci_bytes, id_number, payload, id_bytes, same_id, resource, resource_head, resource_bytes, SameResource};
 
 use acpi_base::error::{Error, R};
 use acpi_base::object::Aml;
@@ -304,9 +305,9 @@ impl ResourceStructure {
 }
 
 impl Aml for ResourceStructure {
-    ghost object = { resource_object };
+    ghost object = { λ r. structure_of (resource_bytes r) };
 
-    ghost ends_well = { λ r. resource_ends_well r };
+    ghost ends_well = { λ r. structure_ends_well (resource_bytes r) };
 
     fn to_aml_bytes(&self, sink: &mut dyn AmlSink) -> R<()> {
         let size = self.len();

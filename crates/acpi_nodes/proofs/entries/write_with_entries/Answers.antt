@@ -1,5 +1,5 @@
 use Rattle.acpi_base.proofs.Sinks.{took_more}
-use Rattle.acpi_nodes.proofs.Structures.{refused_after, took_next_entry, refused_at_entry, took_entries}
+use Rattle.acpi_nodes.proofs.EntryLists.{refused_after, took_next_entry, refused_at_entry, took_entries}
 use Rattle.acpi_nodes.proofs.entries.write_with_entries.Goals as goal
 
 pub returns-in_err-write-clause-err : goal.returns-in_err-write-clause-err

@@ -3,9 +3,9 @@ use Rattle.std.specs.List.{flat_map}
 use Rattle.acpi_base.specs.declared.error.Error.TheVariants.{FieldWidth}
 use Rattle.acpi_base.specs.Object.{whole}
 use Rattle.acpi_base.proofs.Objects.{wrote_provided, refused_provided, refused_unprovided}
-use Rattle.acpi_nodes.specs.Entries.{fits_word}
+use Rattle.acpi_core.specs.Structure.{fits_word}
 use Rattle.acpi_nodes.specs.Rimt.{wire_bytes, iommu_head, iommu_bytes}
-use Rattle.acpi_nodes.proofs.Structures.{head_and_entries}
+use Rattle.acpi_nodes.proofs.EntryLists.{head_and_entries}
 use Rattle.acpi_nodes.proofs.Rimts.{few_wires, many_wires}
 use Rattle.acpi_nodes.proofs.rimt.IommuAml.to_aml_bytes.Goals as goal
 

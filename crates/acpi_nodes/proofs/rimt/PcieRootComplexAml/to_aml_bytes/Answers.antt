@@ -3,9 +3,9 @@ use Rattle.std.specs.List.{flat_map}
 use Rattle.acpi_base.specs.declared.error.Error.TheVariants.{FieldWidth}
 use Rattle.acpi_base.specs.Object.{whole}
 use Rattle.acpi_base.proofs.Objects.{wrote_provided, refused_provided, refused_unprovided}
-use Rattle.acpi_nodes.specs.Entries.{fits_word}
+use Rattle.acpi_core.specs.Structure.{fits_word}
 use Rattle.acpi_nodes.specs.Rimt.{mapping_bytes, root_complex_head, root_complex_bytes}
-use Rattle.acpi_nodes.proofs.Structures.{head_and_entries}
+use Rattle.acpi_nodes.proofs.EntryLists.{head_and_entries}
 use Rattle.acpi_nodes.proofs.Rimts.{few_mappings, many_mappings}
 use Rattle.acpi_nodes.proofs.rimt.PcieRootComplexAml.to_aml_bytes.Goals as goal
 

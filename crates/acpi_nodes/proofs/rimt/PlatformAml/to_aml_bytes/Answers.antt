@@ -3,9 +3,9 @@ use Rattle.std.specs.List.{flat_map}
 use Rattle.acpi_base.specs.declared.error.Error.TheVariants.{FieldWidth}
 use Rattle.acpi_base.specs.Object.{whole}
 use Rattle.acpi_base.proofs.Objects.{wrote_provided, refused_provided, refused_unprovided}
-use Rattle.acpi_nodes.specs.Entries.{fits_word}
+use Rattle.acpi_core.specs.Structure.{fits_word}
 use Rattle.acpi_nodes.specs.Rimt.{mapping_bytes, platform_head, platform_bytes}
-use Rattle.acpi_nodes.proofs.Structures.{text_and_entries}
+use Rattle.acpi_nodes.proofs.EntryLists.{text_and_entries}
 use Rattle.acpi_nodes.proofs.Rimts.{short_platform, long_platform}
 use Rattle.acpi_nodes.proofs.rimt.PlatformAml.to_aml_bytes.Goals.{then-name-gt65522-via-then-name-gt65522, then-name-gt65522-via-else-name-gt65522+then-mappings-name}
 use Rattle.acpi_nodes.proofs.rimt.PlatformAml.to_aml_bytes.Goals as goal

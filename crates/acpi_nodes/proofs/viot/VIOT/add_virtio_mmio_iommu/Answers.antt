@@ -1,6 +1,7 @@
 use Rattle.std.proofs.Common.{◌≡◌, refl, sym, ◌∙◌, lit≤}
 use Rattle.acpi_nodes.specs.Viot.{virtio_mmio_iommu_bytes}
-use Rattle.acpi_nodes.proofs.Viots.{keeps_node, adds_at_bytes}
+use Rattle.acpi_core.proofs.Kept.{adds_at_bytes}
+use Rattle.acpi_nodes.proofs.Viots.{keeps_node}
 use Rattle.acpi_nodes.proofs.viot.VIOT.add_virtio_mmio_iommu.Goals.{in-Ok, in-Err}
 use Rattle.acpi_nodes.proofs.viot.VIOT.add_virtio_mmio_iommu.Goals as goal
 

@@ -2,25 +2,25 @@
 
 ghost use Rattle.std.specs.Prelude.{◌≡◌};
 ghost use Rattle.acpi_base.specs.Object.{whole, whole_ends_well};
-ghost use Rattle.acpi_example.specs.Redirection.{redirection_bytes};
+ghost use Rattle.acpi_example.specs.SourceOverride.{source_override_bytes};
 
 use acpi_tables::{Aml, AmlSink, R};
 
 /// An Interrupt Source Override (ACPI 6.5, 5.2.12.5): 10 bytes. `acpi_tables` has no such structure; a table takes any that
 /// writes itself and tells its length at offset 1.
 #[derive(Drop)]
-pub struct Redirection {
+pub struct InterruptSourceOverride {
     source: u8,
     line: u8,
     flags: u8,
 }
 
-impl Redirection {
+impl InterruptSourceOverride {
     /// The timer of a bus of old comes at another line of the controller.
-    pub fn of_timer(source: u8, line: u8) -> Redirection
+    pub fn of_timer(source: u8, line: u8) -> InterruptSourceOverride
         ensures { result ≡ record { source = source; line = line; flags = 0 } }
     {
-        Redirection {
+        InterruptSourceOverride {
             source,
             line,
             flags: 0,
@@ -28,10 +28,10 @@ impl Redirection {
     }
 
     /// An interrupt that is there while its line is high (flags 1 and 12).
-    pub fn active_high(line: u8) -> Redirection
+    pub fn active_high(line: u8) -> InterruptSourceOverride
         ensures { result ≡ record { source = line; line = line; flags = 13 } }
     {
-        Redirection {
+        InterruptSourceOverride {
             source: line,
             line,
             flags: 13,
@@ -39,10 +39,10 @@ impl Redirection {
     }
 }
 
-impl Aml for Redirection {
-    ghost object = { λ r. whole (redirection_bytes r) };
+impl Aml for InterruptSourceOverride {
+    ghost object = { λ o. whole (source_override_bytes o) };
 
-    ghost ends_well = { λ r. whole_ends_well (redirection_bytes r) };
+    ghost ends_well = { λ o. whole_ends_well (source_override_bytes o) };
 
     fn to_aml_bytes(&self, sink: &mut dyn AmlSink) -> R<()> {
         sink.vec(&[2, 10, 0, self.source, self.line, 0, 0, 0, self.flags, 0])

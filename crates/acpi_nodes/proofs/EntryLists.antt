@@ -1,18 +1,13 @@
 -- Structures that end in entries.
-use Rattle.std.proofs.Common.{◌≡◌, ℕ, ◌+◌, ◌*◌, ◌≤◌, ◌<◌, ◌^◌, ◌%◌, ◌/◌, List, [], ◌++◌, true, false, nat_lt, length, take, get_or, arith, ap, ◌∙◌, ◌∷◌, append_assoc}
+use Rattle.std.proofs.Common.{◌≡◌, ℕ, ◌+◌, ◌≤◌, ◌<◌, List, [], ◌++◌, length, take, get_or, ap, ◌∙◌, ◌∷◌, append_assoc}
 use Rattle.std.specs.List.{flat_map}
 use Rattle.std.proofs.lemmas.List.{take_all, append-nil}
 use Rattle.acpi_base.proofs.Rows.{took_next_part, refused_at_part}
-use Rattle.std.proofs.lemmas.Bool.Decides.{nat_tests}
-use Rattle.std.specs.Prelude.{Result, Ok, Err, IsErrAnd, IfErr, None}
+use Rattle.std.specs.Prelude.{Result, Ok, Err, IsErrAnd, IfErr}
 use Rattle.acpi_base.specs.declared.error.Error.{Error}
-use Rattle.acpi_base.specs.declared.error.Error.TheVariants.{FieldWidth}
 use Rattle.acpi_base.specs.Sink.{Meaning, Took, Refused}
-use Rattle.acpi_base.specs.Object.{whole}
-use Rattle.acpi_base.specs.Walk.{Sizes, IsPiece}
 use Rattle.acpi_base.proofs.Sinks.{refused_later, refused_longer}
-use Rattle.acpi_base.proofs.Objects.{at_exit, is_provided, provided_front}
-use Rattle.acpi_nodes.specs.Entries.{structure_of, fits_word}
+use Rattle.acpi_base.proofs.Objects.{at_exit}
 
 -- the entries were refused, after what stands before them
 pub refused_after : {T : Type 0} (r : Result T Error) (m n k : Meaning) (a b : List ℕ) → Took m a n → IfErr r (λ e. Refused e n b k) → IfErr r (λ e. Refused e m (a ++ b) k)
@@ -22,21 +17,6 @@ refused_after (Err e) m n k a b first refused = refused_later e m n k a b first 
 -- what stands before the entries was refused
 pub refused_before : {T : Type 0} (r : Result T Error) (e : Error) (m k : Meaning) (a b : List ℕ) → IsErrAnd r (λ y. y ≡ e) → Refused e m a k → IfErr r (λ y. Refused y m (a ++ b) k)
 refused_before r e m k a b exit refused = at_exit r (λ y. Refused y m (a ++ b) k) e exit (refused_longer e m k a b refused)
-
-pub below : (n : ℕ) → n < 2 ^ 16 → nat_lt n (2 ^ 16) ≡ true
-below n small = grind (arith, nat_tests)
-
-pub not_below : (n : ℕ) → 2 ^ 16 ≤ n → nat_lt n (2 ^ 16) ≡ false
-not_below n large = grind (arith, nat_tests)
-
-pub is_below : (n : ℕ) → nat_lt n (2 ^ 16) ≡ true → n < 2 ^ 16
-is_below n holds = grind (arith, nat_tests)
-
--- a structure that isn't refused is a piece where one that fits is
-pub structure_piece : (s : Sizes) (bytes : List ℕ) → (fits_word bytes ≡ true → IsPiece s bytes) → (structure_of bytes).end ≡ None → IsPiece s (structure_of bytes).front
-structure_piece s bytes one is_whole =
-    let holds = is_provided FieldWidth (fits_word bytes) bytes is_whole in
-    rw (provided_front FieldWidth (fits_word bytes) (whole bytes) holds) (one holds)
 
 -- the next entry, taken and refused
 module _ {X : Type 0} (f : X → List ℕ) (xs : List X) (i : ℕ) (x : X) (inside : i < length xs) (is : x ≡ get_or xs i x) where
