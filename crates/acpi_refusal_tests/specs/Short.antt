@@ -1,11 +1,10 @@
--- Sinks and objects of the tests, which refuse.
-use Rattle.std.specs.Prelude.{◌≡◌, ◌≢◌, ℕ, ◌≤◌, List, [], ◌∷◌, ◌++◌, length, nat_le, ◌==◌, Bool, true, false, IsTrue, refl, Some, None}
+-- The sink of the tests, which has little room.
+use Rattle.std.specs.Prelude.{ℕ, List, [], ◌++◌, length, nat_le, ◌==◌, Bool, true, false, IsTrue}
 use Rattle.std.proofs.Common.{arith, length-append}
 use Rattle.std.proofs.lemmas.Bool.Decides.{nat_tests}
 use Rattle.acpi_base.specs.declared.error.Error.{Error}
-use Rattle.acpi_base.specs.declared.error.Error.TheVariants.{Memory, Sink}
+use Rattle.acpi_base.specs.declared.error.Error.TheVariants.{Sink}
 use Rattle.acpi_base.specs.Sink.{Meaning}
-use Rattle.acpi_base.specs.Object.{Object}
 
 abbrev pub is_seventh : Error → Bool
 is_seventh (Sink n) = n == 7
@@ -22,10 +21,3 @@ short_takes_nothing held room = grind (arith, nat_tests)
 pub short_takes_beginning : (held : List ℕ) (room : ℕ) (a b : List ℕ) → IsTrue ((short_of held room).takes (a ++ b)) → IsTrue ((short_of held room).takes a)
 unfolding short_of
 short_takes_beginning held room a b taken = grind (arith, nat_tests, length-append a b, taken)
-
--- an object that gives four bytes and then refuses
-abbrev pub broken : Object
-broken = record { front = 1 ∷ 2 ∷ 3 ∷ 4 ∷ []; end = Some (Sink 9); wants_memory = false }
-
-pub broken_ends_well : broken.end ≢ Some Memory
-broken_ends_well is = cc

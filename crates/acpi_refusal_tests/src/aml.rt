@@ -1,0 +1,28 @@
+//! Objects of AML, and tables whose contents are the caller's.
+
+use crate::short::{OEM, OEM_REVISION, OEM_TABLE, starve_all};
+use acpi_tables::aml::{Device, EISAName, IO, Interrupt, Name, Path, ResourceTemplate};
+use acpi_tables::sdt::{Sdt, append_object};
+use acpi_tables::{Aml, R};
+use std::alloc::Global;
+
+// A serial port.
+fn device(alloc: Global) -> R<Device> {
+    let interrupt = Interrupt::new(true, true, false, false, 4);
+    let ports = IO::new(0x3f8, 0x3f8, 0, 8);
+    let resources = ResourceTemplate::new(vec![in alloc; &interrupt as &dyn Aml, &ports]?)?;
+    let id = Name::new(Path::new(alloc, "_HID")?, &EISAName::new("PNP0501")?)?;
+    let settings = Name::new(Path::new(alloc, "_CRS")?, &resources)?;
+    Device::new(
+        Path::new(alloc, "_SB_.COM1")?,
+        vec![in alloc; &id as &dyn Aml, &settings]?,
+    )
+}
+
+#[test]
+fn definition_block(rt: HostRuntime) -> R<()> {
+    let device = device(rt.alloc())?;
+    let mut table = Sdt::new(rt.alloc(), *b"DSDT", 36, 2, OEM, OEM_TABLE, OEM_REVISION)?;
+    append_object(&device, &mut table)?;
+    starve_all(&rt, &[(5, &0x0403_0201u32), (50, &device), (86, &table)])
+}

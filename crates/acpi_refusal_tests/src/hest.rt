@@ -1,0 +1,83 @@
+//! HEST and RQSC, and their structures.
+
+use crate::short::{OEM, OEM_REVISION, OEM_TABLE, Short, starve_all};
+use acpi_tables::R;
+use acpi_tables::gas::GAS;
+use acpi_tables::hest::{
+    EnabledStatus, ErrorSeverity, GenericErrorData, GenericErrorStatus, GenericHardwareSource,
+    GenericHardwareSourceV2, HEST, NotificationStructure, NotificationType, PcieAerBridge,
+    PcieAerDevice, PcieAerRootPort,
+};
+use acpi_tables::rqsc::{
+    ACPIDeviceResource, CacheResource, ControllerType, MemoryAffinityStructureResource,
+    PCIDeviceResource, QoSController, RQSC, ResourceID, ResourceStructure, ResourceType,
+};
+use std::alloc::Global;
+
+#[test]
+fn error_sources(rt: HostRuntime) -> R<()> {
+    let mut hest = HEST::new(rt.alloc(), OEM, OEM_TABLE, OEM_REVISION);
+    hest.add_structure(PcieAerRootPort::new_global())?;
+    starve_all(
+        &rt,
+        &[
+            (88, &hest),
+            (48, &PcieAerRootPort::new_global()),
+            (44, &PcieAerDevice::new_global()),
+            (56, &PcieAerBridge::new_global()),
+            (64, &GenericHardwareSource::new(1, EnabledStatus::Enabled)),
+            (92, &GenericHardwareSourceV2::new(1, EnabledStatus::Enabled)),
+            (28, &NotificationStructure::new(NotificationType::Polled)),
+            (20, &GenericErrorStatus::new(1, 2, ErrorSeverity::Fatal)),
+        ],
+    )
+}
+
+// An entry of error data isn't an object, but is written like one.
+#[test]
+fn error_data(rt: HostRuntime) -> R<()> {
+    let alloc = rt.alloc();
+    let mut entry = GenericErrorData::new(alloc, ErrorSeverity::Fatal);
+    entry.add_data(Box::new(alloc, 0x0201u16)?)?;
+    let mut whole = Vec::new(alloc);
+    entry.to_aml_bytes(&mut whole)?;
+    assert_eq!(&rt; whole.len(), 61);
+    for room in 0..whole.len() {
+        let mut short = Short::new(alloc, room);
+        let end = entry.to_aml_bytes(&mut short);
+        short.is_full(&rt, room, &whole, end);
+    }
+    Ok(())
+}
+
+fn resource() -> ResourceStructure {
+    let cache = CacheResource::new(0x0403_0201);
+    ResourceStructure::new(ResourceType::Cache, 1, ResourceID::Cache(cache))
+}
+
+fn controller(alloc: Global) -> R<QoSController> {
+    let mut made = QoSController::new(alloc, ControllerType::Bandwidth, GAS::default(), 1, 2, 3);
+    made.add_resource(resource())?;
+    Ok(made)
+}
+
+#[test]
+fn controllers(rt: HostRuntime) -> R<()> {
+    let alloc = rt.alloc();
+    let mut rqsc = RQSC::new(alloc, OEM, OEM_TABLE, OEM_REVISION);
+    rqsc.add_controller(controller(alloc)?)?;
+    let vendors = ResourceID::VendorSpecific(0x80, b"abc".to_vec(alloc)?);
+    starve_all(
+        &rt,
+        &[
+            (88, &rqsc),
+            (48, &controller(alloc)?),
+            (20, &resource()),
+            (4, &vendors),
+            (12, &CacheResource::new(1)),
+            (20, &MemoryAffinityStructureResource::new(1, 2)),
+            (12, &ACPIDeviceResource::new(1, 2)),
+            (12, &PCIDeviceResource::new(1)),
+        ],
+    )
+}

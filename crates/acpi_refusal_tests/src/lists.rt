@@ -1,0 +1,108 @@
+//! Tables that are lists, and their structures.
+
+use crate::short::{OEM, OEM_REVISION, OEM_TABLE, starve_all};
+use acpi_tables::R;
+use acpi_tables::cedt::{
+    CEDT, CxlFixedMemory, CxlHostBridge, CxlVersion, InterleaveArithmetic, InterleaveGranularity,
+    InterleaveWays, PortAssociation, ProtocolType, XorInterleaveMath,
+};
+use acpi_tables::madt::{
+    APLIC, EnabledStatus, GicIts, GicMsi, GicVersion, Gicc, Gicd, Gicr, HartStatus, IMSIC, IoApic,
+    LocalInterruptController, MADT, PLIC, ProcessorLocalApic, RINTC,
+};
+use acpi_tables::mcfg::MCFG;
+use acpi_tables::srat::{GenericInitiator, Handle, MemoryAffinity, RintcAffinity, SRAT};
+use acpi_tables::xsdt::XSDT;
+
+#[test]
+fn tables(rt: HostRuntime) -> R<()> {
+    let alloc = rt.alloc();
+    let mut xsdt = XSDT::new(alloc, OEM, OEM_TABLE, OEM_REVISION);
+    xsdt.add_entry(0x0807_0605_0403_0201)?;
+    let mut mcfg = MCFG::new(alloc, OEM, OEM_TABLE, OEM_REVISION);
+    mcfg.add_ecam(0x0807_0605_0403_0201, 0x0a09, 0x0b, 0x0c)?;
+    let local = LocalInterruptController::Address(0x0403_0201);
+    let mut madt = MADT::new(alloc, OEM, OEM_TABLE, OEM_REVISION, local);
+    madt.add_structure(ProcessorLocalApic::new(1, 2, EnabledStatus::Enabled))?;
+    let mut srat = SRAT::new(alloc, OEM, OEM_TABLE, OEM_REVISION);
+    srat.add_rintc_affinity(RintcAffinity::new(*b"uid.", 1))?;
+    let mut cedt = CEDT::new(alloc, OEM, OEM_TABLE, OEM_REVISION);
+    cedt.add_host_bridge(CxlHostBridge::new(1, CxlVersion::Cxl2, 2))?;
+    starve_all(
+        &rt,
+        &[
+            (44, &xsdt),
+            (60, &mcfg),
+            (52, &madt),
+            (68, &srat),
+            (68, &cedt),
+        ],
+    )
+}
+
+#[test]
+fn interrupt_controllers(rt: HostRuntime) -> R<()> {
+    starve_all(
+        &rt,
+        &[
+            (8, &ProcessorLocalApic::new(1, 2, EnabledStatus::Enabled)),
+            (12, &IoApic::new(1, 0x0605_0403, 0x0a09_0807)),
+            (82, &Gicc::new(EnabledStatus::Enabled)),
+            (24, &Gicd::new(1, 2, GicVersion::GICv3)),
+            (24, &GicMsi::new()),
+            (16, &Gicr::new(1, 2)),
+            (20, &GicIts::new(1, 2)),
+            (36, &RINTC::new(HartStatus::Enabled, 1, 2, 3, 4, 5)),
+            (16, &IMSIC::new(1, 2, 3, 4, 5, 6)),
+            (36, &APLIC::new(1, *b"hardware", 2, 3, 4, 5, 6)),
+            (36, &PLIC::new(1, *b"hardware", 2, 3, 4, 5, 6)),
+        ],
+    )
+}
+
+#[test]
+fn affinities(rt: HostRuntime) -> R<()> {
+    let acpi = Handle::new_acpi(*b"ABCDEFGH", *b"ijkl");
+    let pci = Handle::new_pci(0x0201, 3, 4, 5);
+    starve_all(
+        &rt,
+        &[
+            (40, &MemoryAffinity::new(1, 2, 3)),
+            (16, &acpi),
+            (16, &pci),
+            (32, &GenericInitiator::new(1, acpi)),
+            (32, &GenericInitiator::new(1, pci)),
+            (20, &RintcAffinity::new(*b"uid.", 1)),
+        ],
+    )
+}
+
+#[test]
+fn cxl(rt: HostRuntime) -> R<()> {
+    let alloc = rt.alloc();
+    let mut window = CxlFixedMemory::new(
+        alloc,
+        1,
+        2,
+        InterleaveArithmetic::ModuloXor,
+        InterleaveGranularity::Granularity16kb,
+        InterleaveWays::Ways2,
+        3,
+    );
+    window.add_target(*b"abcd")?;
+    window.add_target(*b"efgh")?;
+    let mut maps = XorInterleaveMath::new(alloc, InterleaveGranularity::Granularity512b);
+    maps.add_xormap(0x0807_0605_0403_0201)?;
+    starve_all(
+        &rt,
+        &[
+            (32, &CxlHostBridge::new(1, CxlVersion::Cxl2, 2)),
+            (44, &window),
+            (16, &maps),
+            (
+                17,
+                &PortAssociation::new(1, 2, 3, 4, ProtocolType::CxlMem, 5),
+            ),
+        ],
+    )
+}
