@@ -5,6 +5,8 @@
 #[cfg(test)]
 mod limits;
 #[cfg(test)]
+mod mutation;
+#[cfg(test)]
 mod pieces;
 #[cfg(test)]
 mod program;

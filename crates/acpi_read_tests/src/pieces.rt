@@ -2,6 +2,7 @@
 
 mod changed;
 mod faults;
+mod mutated;
 mod samples;
 mod walked;
 

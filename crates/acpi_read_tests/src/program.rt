@@ -4,11 +4,12 @@ mod aml;
 mod dsdt;
 mod faults;
 mod files;
+mod reads;
 mod structures;
 mod words;
+mod writes;
 
 use acpiread_run::program::run;
-use std::io::{Error, ErrorKind, Write};
 use std::process::{Abort, Process};
 use std::rt::{Env, Files};
 use std::test::Fail;
@@ -132,40 +133,5 @@ fn refuses_bytes(rt: HostRuntime) -> Result<(), Fail> {
         ends(&rt, &["table", file], 1, "", line)?;
     }
     fs::remove_file(&rt, file)?;
-    Ok(())
-}
-
-// A writer that takes so many bytes, and then fails.
-#[derive(Drop)]
-struct Full(usize);
-
-impl Write for Full {
-    fn write(&mut self, buf: &[u8]) -> io::Result<usize> {
-        if self.0 == 0 {
-            return Err(Error::from(ErrorKind::StorageFull));
-        }
-        let taken = self.0.min(buf.len());
-        self.0 -= taken;
-        Ok(taken)
-    }
-
-    fn flush(&mut self) -> io::Result<()> {
-        Ok(())
-    }
-}
-
-#[test]
-fn tells_failed_writes(rt: HostRuntime) -> Result<(), Fail> {
-    let path = path(&rt, rt.process(), "full")?;
-    let file = path.as_str();
-    fs::write(&rt, file, DSDT.as_slice())?;
-    let words = owned(&rt, &["table", file])?;
-    let mut told = Vec::new(rt.alloc());
-    assert!(rt; run(&rt, rt.alloc(), &words, &mut Full(5), &mut told).is_err());
-    assert!(rt; told.is_empty());
-    fs::remove_file(&rt, file)?;
-    let mut printed = Vec::new(rt.alloc());
-    assert!(rt; run(&rt, rt.alloc(), &words, &mut printed, &mut Full(5)).is_err());
-    assert!(rt; printed.is_empty());
     Ok(())
 }

@@ -1,5 +1,7 @@
 //! Terms of given bytes.
 
+mod mutated;
+
 use acpi_read::terms::terms;
 use acpi_term::name_string::{Arities, NameString};
 use acpi_term::op::Op;
@@ -18,8 +20,8 @@ fn stated(alloc: Global, name: &str, count: u8) -> Result<Arities, Fail> {
     Ok(Arities::new(vec![in alloc; (name, count)]?)?)
 }
 
-// A serial port: a device with an id and a template of an interrupt and a port.
-const PORT: [u8; 50] =
+/// A serial port: a device with an id and a template of an interrupt and a port.
+pub const PORT: [u8; 50] =
     *b"\x5b\x82\x30\x2e_SB_COM1\x08_HID\x0c\x41\xd0\x05\x01\x08_CRS\x11\x16\x0a\x13\
 \x89\x06\x00\x03\x01\x04\x00\x00\x00\x47\x01\xf8\x03\xf8\x03\x00\x08\x79\x00";
 

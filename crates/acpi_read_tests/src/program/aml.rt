@@ -1,6 +1,7 @@
 //! Reports of terms.
 
 use super::{ends, path, prints, refuses};
+use crate::terms::PORT;
 use std::fs;
 use std::test::Fail;
 
@@ -49,12 +50,32 @@ fn reports_terms(rt: HostRuntime) -> Result<(), Fail> {
     Ok(())
 }
 
+// A port whose buffer ends a byte before its device does.
+#[test]
+fn reports_shorter_buffers(rt: HostRuntime) -> Result<(), Fail> {
+    let path = path(&rt, rt.process(), "shorter")?;
+    let mut port = PORT;
+    port[28] = 0x15;
+    prints(
+        &rt,
+        path.as_str(),
+        &port,
+        &["aml", path.as_str()],
+        "device _SB_.COM1\n  define _HID\n    number 17158209\n  define _CRS\n    buffer data 8906000301040000004701f803f803000879\n      number 19\n  number 0\n",
+    )?;
+    Ok(())
+}
+
 #[test]
 fn refuses_terms(rt: HostRuntime) -> Result<(), Fail> {
     let path = path(&rt, rt.process(), "bad")?;
     let file = path.as_str();
     refuses(&rt, file, b"\x12\x05\x02\x00\x01", &["aml", file], "Length")?;
     refuses(&rt, file, b"\x12\x04\x03\x00\x01", &["aml", file], "Count")?;
+    // A port's buffer that passes its device.
+    let mut port = PORT;
+    port[28] = 0x17;
+    refuses(&rt, file, &port, &["aml", file], "Length")?;
     // No term begins with 02.
     fs::write(&rt, file, b"\x02".as_slice())?;
     ends(&rt, &["aml", file], 1, "", "refused at 0: Opcode\n")?;

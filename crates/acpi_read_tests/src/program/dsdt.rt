@@ -1,6 +1,10 @@
 //! Reports of tables with terms.
 
 use super::{DSDT, ODD, ends, path, prints, refuses};
+use acpi_read::table::Table;
+use acpi_term::name_string::Arities;
+use acpi_term::read_error::ReadError;
+use acpiread_run::report::{dsdt_report, table_report};
 use std::fs;
 use std::test::Fail;
 
@@ -111,5 +115,34 @@ fn refuses_tables(rt: HostRuntime) -> Result<(), Fail> {
     // The buffer ends a byte after the device does.
     wrong[9] = 0x46;
     refuses(&rt, file, &wrong, &["dsdt", file], "Length")?;
+    Ok(())
+}
+
+// Each beginning of a definition block.
+#[test]
+fn refuses_beginnings(rt: HostRuntime) -> Result<(), Fail> {
+    let alloc = rt.alloc();
+    let arities = Arities::new(Vec::new(alloc))?;
+    for size in 0..86usize {
+        let bytes = &PORT[..size];
+        let (error, line) = match size {
+            ..36 => (
+                ReadError::ShortHeader(size),
+                format!(in alloc; "refused at {size}: ShortHeader")?,
+            ),
+            _ => (
+                ReadError::TableLength(4),
+                String::from_str(alloc, "refused at 4: TableLength")?,
+            ),
+        };
+        assert_eq!(&rt; Table::check(bytes).err(), Some(error), "{size}");
+        for fault in [
+            table_report(alloc, bytes).err(),
+            dsdt_report(alloc, bytes, &arities).err(),
+        ] {
+            let fault = fault.ok_or("a fault")?;
+            assert_eq!(&rt; format!(in alloc; "{fault}")?.as_str(), line.as_str());
+        }
+    }
     Ok(())
 }
