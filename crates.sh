@@ -1,4 +1,4 @@
-# What demo.sh, bench.sh and iasl.sh share: how the crates of crates.txt are proved and built. Sourced from the root.
+# What demo.sh, bench.sh, iasl.sh and memory.sh share: how the crates of crates.txt are proved and built. Sourced from the root.
 
 work=$(mktemp -d)
 trap 'rm -rf "$work"' EXIT

@@ -1,0 +1,92 @@
+//! Objects of AML, each as its bytes.
+
+use crate::trial::Grows;
+use crate::written::written;
+use acpi_tables::aml::{
+    BufferData, BufferTerm, Device, Else, Field, FieldAccessType, FieldEntry, FieldLockRule,
+    FieldUpdateRule, If, Interrupt, Method, MethodCall, Name, ONE, OpRegion, OpRegionSpace,
+    Package, PackageBuilder, Path, PowerResource, ResourceTemplate, Scope, VarPackageTerm, While,
+    ZERO,
+};
+use acpi_tables::{Aml, R};
+use std::alloc::Global;
+
+fn path(alloc: Global) -> R<Path> {
+    Path::new(alloc, "\\_SB_.PCI0.COM1")
+}
+
+fn field(path: Path, alloc: Global) -> R<Field> {
+    Field::new(
+        path,
+        FieldAccessType::Byte,
+        FieldLockRule::NoLock,
+        FieldUpdateRule::Preserve,
+        vec![in alloc; FieldEntry::Reserved(32), FieldEntry::Named(*b"READ", 64)]?,
+    )
+}
+
+pub const NAMED: u8 = 6;
+
+/// What a name has, but children.
+pub fn named(alloc: Global, child: &u32, which: u8) -> R<Vec<u8>> {
+    let path = path(alloc)?;
+    match which {
+        0 => written(alloc, &path),
+        1 => written(alloc, &Name::new_field_name(alloc, "FLD0")?),
+        2 => written(alloc, &Name::new(path, child)?),
+        3 => Scope::raw(path, b"0123456789".to_vec(alloc)?),
+        4 => written(
+            alloc,
+            &OpRegion::new(path, OpRegionSpace::SystemIO, child, &ZERO)?,
+        ),
+        _ => written(alloc, &field(path, alloc)?),
+    }
+}
+
+pub const FRAMED: u8 = 9;
+
+/// What has children.
+pub fn framed(alloc: Global, child: &u32, which: u8) -> R<Vec<u8>> {
+    let path = path(alloc)?;
+    let children = vec![in alloc; child as &dyn Aml, &ONE]?;
+    match which {
+        0 => written(alloc, &PowerResource::new(path, 1, 2, children)?),
+        1 => written(alloc, &Method::new(path, 7, true, children)?),
+        2 => written(alloc, &MethodCall::new(path, children)?),
+        3 => written(alloc, &If::new(child, children)?),
+        4 => written(alloc, &Else::new(children)?),
+        5 => written(alloc, &Package::new(children)?),
+        6 => written(alloc, &Scope::new(path, children)?),
+        7 => written(alloc, &Device::new(path, children)?),
+        _ => written(alloc, &While::new(child, children)?),
+    }
+}
+
+fn resources(alloc: Global) -> R<ResourceTemplate> {
+    let interrupt = Interrupt::new(true, true, false, false, 4);
+    ResourceTemplate::new(vec![in alloc; &interrupt as &dyn Aml]?)
+}
+
+pub const DATA: u8 = 4;
+
+/// Data.
+pub fn data(alloc: Global, child: &u32, which: u8) -> R<Vec<u8>> {
+    match which {
+        0 => written(alloc, &BufferTerm::new(alloc, child)?),
+        1 => written(alloc, &BufferData::new(b"0123456789".to_vec(alloc)?)?),
+        2 => written(alloc, &resources(alloc)?),
+        _ => written(alloc, &VarPackageTerm::new(alloc, child)?),
+    }
+}
+
+impl Grows for PackageBuilder {
+    const WAYS: u8 = 1;
+
+    fn empty(alloc: Global) -> R<PackageBuilder> {
+        Ok(PackageBuilder::new(alloc))
+    }
+
+    fn grow(&mut self, _alloc: Global, _way: u8) -> R<()> {
+        self.add_element(&0x0102_0304u32)
+    }
+}

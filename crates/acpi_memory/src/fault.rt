@@ -1,0 +1,56 @@
+//! Why a run ended otherwise.
+
+use acpi_tables::Error;
+use acpi_tables::read::ReadError;
+use std::alloc::{AllocError, AllocFailed};
+use std::io;
+
+/// Why a run ended otherwise.
+#[derive(Debug, Drop)]
+pub enum Fault {
+    /// Memory was refused once more.
+    Memory,
+    /// What a refused call was lent, or was to change, writes other bytes than before.
+    Changed,
+    /// A call was refused for another cause.
+    Built(Error),
+    Read(ReadError),
+    /// The output can't be written.
+    Output(io::Error),
+}
+
+impl From<Error> for Fault {
+    fn from(error: Error) -> Fault {
+        match error {
+            Error::Memory => Fault::Memory,
+            other => Fault::Built(other),
+        }
+    }
+}
+
+impl From<ReadError> for Fault {
+    fn from(error: ReadError) -> Fault {
+        match error {
+            ReadError::Memory => Fault::Memory,
+            other => Fault::Read(other),
+        }
+    }
+}
+
+impl From<AllocError> for Fault {
+    fn from(_error: AllocError) -> Fault {
+        Fault::Memory
+    }
+}
+
+impl<T: Drop> From<AllocFailed<T>> for Fault {
+    fn from(_error: AllocFailed<T>) -> Fault {
+        Fault::Memory
+    }
+}
+
+impl From<io::Error> for Fault {
+    fn from(error: io::Error) -> Fault {
+        Fault::Output(error)
+    }
+}

@@ -1,0 +1,42 @@
+//! The image of a guest's tables.
+
+use crate::fault::Fault;
+use crate::oem::{OEM_ID, OEM_REVISION, OEM_TABLE_ID};
+use crate::trial::{Grows, Trial};
+use acpi_tables::facs::FACS;
+use acpi_tables::fadt::FADTBuilder;
+use acpi_tables::layout::{Image, lay};
+use acpi_tables::mcfg::MCFG;
+use acpi_tables::sdt::Sdt;
+use acpi_tables::{Aml, R};
+use std::alloc::Global;
+
+fn mcfg(alloc: Global) -> R<MCFG> {
+    let mut table = MCFG::empty(alloc)?;
+    table.grow(alloc, 0)?;
+    Ok(table)
+}
+
+fn image(alloc: Global, block: &Sdt, table: &MCFG) -> R<Image> {
+    lay(
+        0x1000,
+        OEM_ID,
+        OEM_TABLE_ID,
+        OEM_REVISION,
+        block,
+        &FACS::new(),
+        FADTBuilder::new(OEM_ID, OEM_TABLE_ID, OEM_REVISION),
+        vec![in alloc; table as &dyn Aml]?,
+    )
+}
+
+/// An image, which is lent the definition block and the tables.
+pub fn images(trial: &mut Trial, alloc: Global) -> Result<(), Fault> {
+    let block = trial.make(&0x1000u16, || Ok(Sdt::empty(alloc)?))?;
+    let table = trial.make(&block, || Ok(mcfg(alloc)?))?;
+    for lent in [&block as &dyn Aml, &table] {
+        let image = trial.make(lent, || Ok(image(alloc, &block, &table)?))?;
+        trial.count(&image.bytes);
+    }
+    Ok(())
+}

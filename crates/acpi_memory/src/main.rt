@@ -1,0 +1,109 @@
+//! Makes every call that can grow, once more where it was refused memory, and prints how many bytes all of them made and these
+//! bytes' sum. So what it prints is the same whichever growth is refused, if it is but one.
+#![tactic(auto)]
+
+mod aml;
+mod blocks;
+mod cxl;
+mod errors;
+mod fault;
+mod image;
+mod lists;
+mod matrices;
+mod nodes;
+mod oem;
+mod operators;
+mod reading;
+mod trial;
+mod written;
+
+use crate::fault::Fault;
+use crate::trial::Trial;
+use crate::written::written;
+use acpi_tables::R;
+use acpi_tables::aml::PackageBuilder;
+use acpi_tables::cedt::{CEDT, XorInterleaveMath};
+use acpi_tables::hest::HEST;
+use acpi_tables::hmat::{HMAT, MemorySideCache};
+use acpi_tables::madt::MADT;
+use acpi_tables::mcfg::MCFG;
+use acpi_tables::pptt::PPTT;
+use acpi_tables::rhct::RHCT;
+use acpi_tables::rimt::RIMT;
+use acpi_tables::rqsc::{QoSController, RQSC};
+use acpi_tables::sdt::Sdt;
+use acpi_tables::srat::SRAT;
+use acpi_tables::viot::VIOT;
+use acpi_tables::xsdt::XSDT;
+use std::alloc::Global;
+
+fn main(rt: HostRuntime) -> Result<(), Fault> {
+    let mut trial = Trial::new(rt.alloc())?;
+    fill_lists(&mut trial, rt.alloc())?;
+    fill_others(&mut trial, rt.alloc())?;
+    errors::entry(&mut trial, rt.alloc())?;
+    errors::clones(&mut trial, rt.alloc())?;
+    make_objects(&mut trial, rt.alloc())?;
+    image::images(&mut trial, rt.alloc())?;
+    reading::bytecode(&mut trial, rt.alloc())?;
+    reading::tables(&mut trial, rt.alloc())?;
+    println!(rt; "{} bytes, sum {}", trial.length(), trial.sum())?;
+    Ok(())
+}
+
+fn fill_lists(trial: &mut Trial, alloc: Global) -> Result<(), Fault> {
+    trial.fill::<XSDT>(alloc)?;
+    trial.fill::<MCFG>(alloc)?;
+    trial.fill::<MADT>(alloc)?;
+    trial.fill::<SRAT>(alloc)?;
+    trial.fill::<CEDT>(alloc)?;
+    trial.fill::<XorInterleaveMath>(alloc)?;
+    trial.fill::<HEST>(alloc)?;
+    trial.fill::<RQSC>(alloc)?;
+    trial.fill::<QoSController>(alloc)
+}
+
+fn fill_others(trial: &mut Trial, alloc: Global) -> Result<(), Fault> {
+    trial.fill::<PPTT>(alloc)?;
+    trial.fill::<RHCT>(alloc)?;
+    trial.fill::<VIOT>(alloc)?;
+    trial.fill::<RIMT>(alloc)?;
+    trial.fill::<HMAT>(alloc)?;
+    trial.fill::<MemorySideCache>(alloc)?;
+    trial.fill::<Sdt>(alloc)?;
+    trial.fill::<PackageBuilder>(alloc)
+}
+
+// Structures and tables that are made whole by one call.
+fn part(alloc: Global, which: u8) -> R<Vec<u8>> {
+    match which {
+        0 => written(alloc, &cxl::window(alloc)?),
+        1 => written(alloc, &matrices::latencies(alloc)?),
+        _ => written(alloc, &matrices::distances(alloc)?),
+    }
+}
+
+fn make_objects(trial: &mut Trial, alloc: Global) -> Result<(), Fault> {
+    let child = 0x0102_0304u32;
+    trial.all(&child, 3, |which: u8| part(alloc, which))?;
+    trial.all(
+        &child,
+        aml::NAMED,
+        |which: u8| aml::named(alloc, &child, which),
+    )?;
+    trial.all(
+        &child,
+        aml::FRAMED,
+        |which: u8| aml::framed(alloc, &child, which),
+    )?;
+    trial.all(
+        &child,
+        aml::DATA,
+        |which: u8| aml::data(alloc, &child, which),
+    )?;
+    trial.all(
+        &child,
+        operators::SHAPES,
+        |which: u8| operators::operator(alloc, &child, which),
+    )
+}

@@ -1,0 +1,174 @@
+//! Calls that are made again where memory was refused.
+
+use crate::fault::Fault;
+use acpi_tables::aml::ZERO;
+use acpi_tables::{Aml, Error, R};
+use std::alloc::Global;
+
+// No object here writes more bytes, so that keeping them takes no memory.
+const ROOM: usize = 0x1000;
+
+// How often an object grows in one way. What it holds is moved more than once then.
+const TURNS: u8 = 5;
+
+/// An object that grows, in so many ways.
+pub trait Grows: Sized {
+    const WAYS: u8;
+
+    /// The object before it grows.
+    fn empty(alloc: Global) -> R<Self>;
+
+    /// Makes one call, and what it takes.
+    fn grow(&mut self, alloc: Global, way: u8) -> R<()>;
+}
+
+/// What all calls made, and room for what an object writes before a call and after it.
+#[derive(Drop)]
+pub struct Trial {
+    length: u64,
+    sum: u64,
+    before: Vec<u8>,
+    after: Vec<u8>,
+}
+
+// Room, for which is asked once more where it is refused.
+fn room(alloc: Global) -> R<Vec<u8>> {
+    match Vec::with_capacity(alloc, ROOM) {
+        Ok(room) => Ok(room),
+        Err(_) => Ok(Vec::with_capacity(alloc, ROOM)?),
+    }
+}
+
+// Whether the bytes are the same.
+fn compare(before: &[u8], after: &[u8]) -> Result<(), Fault> {
+    if before == after {
+        Ok(())
+    } else {
+        Err(Fault::Changed)
+    }
+}
+
+impl Trial {
+    pub fn new(alloc: Global) -> R<Trial> {
+        Ok(Trial {
+            length: 0,
+            sum: 0,
+            before: room(alloc)?,
+            after: room(alloc)?,
+        })
+    }
+
+    /// How many bytes were made.
+    pub fn length(&self) -> u64 {
+        self.length
+    }
+
+    /// The sum of these bytes.
+    pub fn sum(&self) -> u64 {
+        self.sum
+    }
+
+    /// Counts bytes that were made.
+    pub fn count(&mut self, bytes: &[u8]) {
+        self.length = self.length.wrapping_add(bytes.len() as u64);
+        for byte in bytes {
+            self.sum = self.sum.wrapping_add(u64::from(*byte));
+        }
+    }
+
+    /// Makes a call that is lent an object. Where it wants memory, the object has to write the same bytes as before, and the
+    /// call has to succeed once more: it makes what it takes itself.
+    pub fn make<T: Drop, F: Fn() -> Result<T, Fault>>(
+        &mut self,
+        lent: &dyn Aml,
+        call: F,
+    ) -> Result<T, Fault>
+        requires { F.IsAlwaysCallable call }
+    {
+        self.before.clear();
+        lent.to_aml_bytes(&mut self.before)?;
+        match call() {
+            Err(Fault::Memory) => {}
+            other => return other,
+        }
+        self.after.clear();
+        lent.to_aml_bytes(&mut self.after)?;
+        compare(&self.before, &self.after)?;
+        call()
+    }
+
+    /// Makes a call that changes an object, which `write` writes. Where it wants memory, the object has to write the same bytes
+    /// as before, and the call has to succeed once more.
+    pub fn change<T, W: Fn(&T, &mut Vec<u8>) -> R<()>, F: Fn(&mut T) -> R<()>>(
+        &mut self,
+        object: &mut T,
+        write: W,
+        call: F,
+    ) -> Result<(), Fault>
+        requires writes { W.IsAlwaysCallable write }
+        requires calls { F.IsAlwaysCallable call }
+    {
+        self.before.clear();
+        write(object, &mut self.before)?;
+        match call(object) {
+            Err(Error::Memory) => {}
+            other => return Ok(other?),
+        }
+        self.after.clear();
+        write(object, &mut self.after)?;
+        compare(&self.before, &self.after)?;
+        Ok(call(object)?)
+    }
+
+    /// Makes bytes by so many calls that are lent an object, and counts them.
+    pub fn all<F: Fn(u8) -> R<Vec<u8>>>(
+        &mut self,
+        lent: &dyn Aml,
+        calls: u8,
+        call: F,
+    ) -> Result<(), Fault>
+        requires { F.IsAlwaysCallable call }
+    {
+        for number in 0..calls {
+            let bytes = self.make(lent, || Ok(call(number)?))?;
+            self.count(&bytes);
+        }
+        Ok(())
+    }
+
+    /// Has an object grow again and again in each of its ways, each from its beginning on, and counts the bytes.
+    pub fn fill<T: Grows + Aml + Drop>(&mut self, alloc: Global) -> Result<(), Fault> {
+        for way in 0..T::WAYS {
+            let mut object = self.make(&ZERO, || Ok(T::empty(alloc)?))?;
+            self.grow(&mut object, alloc, way)?;
+        }
+        Ok(())
+    }
+
+    fn grow<T: Grows + Aml>(
+        &mut self,
+        object: &mut T,
+        alloc: Global,
+        way: u8,
+    ) -> Result<(), Fault> {
+        for _ in 0..TURNS {
+            self.change(
+                object,
+                |object: &T, bytes: &mut Vec<u8>| object.to_aml_bytes(bytes),
+                |object: &mut T| object.grow(alloc, way),
+            )?;
+        }
+        self.count_object(object)
+    }
+
+    /// Counts an object's bytes.
+    pub fn count_object<T: Aml>(&mut self, object: &T) -> Result<(), Fault> {
+        self.before.clear();
+        object.to_aml_bytes(&mut self.before)?;
+        self.length = self.length.wrapping_add(self.before.len() as u64);
+        for byte in &self.before {
+            self.sum = self.sum.wrapping_add(u64::from(*byte));
+        }
+        Ok(())
+    }
+}
