@@ -1,9 +1,10 @@
 //! Objects of AML, and tables whose contents are the caller's.
 
-use crate::short::{OEM, OEM_REVISION, OEM_TABLE, starve_all};
+use crate::short::starve_all;
 use acpi_tables::aml::{Device, EISAName, IO, Interrupt, Name, Path, ResourceTemplate};
 use acpi_tables::sdt::{Sdt, append_object};
 use acpi_tables::{Aml, R};
+use acpi_vectors::{OEM, OEM_REVISION, OEM_TABLE};
 use std::alloc::Global;
 
 // A serial port.

@@ -1,6 +1,6 @@
 //! Tables and records of fixed size.
 
-use crate::short::{OEM, OEM_REVISION, OEM_TABLE, starve, starve_all};
+use crate::short::{starve, starve_all};
 use acpi_tables::R;
 use acpi_tables::bert::BERT;
 use acpi_tables::facs::FACS;
@@ -9,6 +9,7 @@ use acpi_tables::gas::{AccessSize, AddressSpace, GAS};
 use acpi_tables::rsdp::Rsdp;
 use acpi_tables::spcr::SPCR;
 use acpi_tables::tpm2::{PlatformClass, StartMethod, Tpm2, TpmClient1_2, TpmServer1_2};
+use acpi_vectors::{OEM, OEM_REVISION, OEM_TABLE};
 
 #[test]
 fn records(rt: HostRuntime) -> R<()> {

@@ -1,6 +1,6 @@
 //! HEST and RQSC, and their structures.
 
-use crate::short::{OEM, OEM_REVISION, OEM_TABLE, Short, starve_all};
+use crate::short::{Short, starve_all};
 use acpi_tables::R;
 use acpi_tables::gas::GAS;
 use acpi_tables::hest::{
@@ -12,6 +12,7 @@ use acpi_tables::rqsc::{
     ACPIDeviceResource, CacheResource, ControllerType, MemoryAffinityStructureResource,
     PCIDeviceResource, QoSController, RQSC, ResourceID, ResourceStructure, ResourceType,
 };
+use acpi_vectors::{OEM, OEM_REVISION, OEM_TABLE};
 use std::alloc::Global;
 
 #[test]

@@ -1,6 +1,6 @@
 //! Tables that are lists, and their structures.
 
-use crate::short::{OEM, OEM_REVISION, OEM_TABLE, starve_all};
+use crate::short::starve_all;
 use acpi_tables::R;
 use acpi_tables::cedt::{
     CEDT, CxlFixedMemory, CxlHostBridge, CxlVersion, InterleaveArithmetic, InterleaveGranularity,
@@ -13,6 +13,7 @@ use acpi_tables::madt::{
 use acpi_tables::mcfg::MCFG;
 use acpi_tables::srat::{GenericInitiator, Handle, MemoryAffinity, RintcAffinity, SRAT};
 use acpi_tables::xsdt::XSDT;
+use acpi_vectors::{OEM, OEM_REVISION, OEM_TABLE};
 
 #[test]
 fn tables(rt: HostRuntime) -> R<()> {

@@ -1,12 +1,13 @@
 //! SLIT, and HMAT and its structures.
 
-use crate::short::{OEM, OEM_REVISION, OEM_TABLE, starve, starve_all};
+use crate::short::{starve, starve_all};
 use acpi_tables::R;
 use acpi_tables::hmat::{
     Associativity, CacheLevel, DataType, HMAT, LocalityType, MemoryProximityDomain,
     MemorySideCache, MinTransferSize, SystemLocality, WritePolicy,
 };
 use acpi_tables::slit::SLIT;
+use acpi_vectors::{OEM, OEM_REVISION, OEM_TABLE};
 
 #[test]
 fn distances(rt: HostRuntime) -> R<()> {

@@ -1,6 +1,6 @@
 //! Tables of nodes, and their nodes.
 
-use crate::short::{OEM, OEM_REVISION, OEM_TABLE, starve, starve_all};
+use crate::short::{starve, starve_all};
 use acpi_tables::R;
 use acpi_tables::pptt::{CacheNode, CacheNodeBuilder, PPTT, ProcessorNode};
 use acpi_tables::rhct::{
@@ -10,6 +10,7 @@ use acpi_tables::rimt::{
     IdMapping, InterruptWire, Iommu, PciDevice, PcieRootComplex, Platform, RIMT,
 };
 use acpi_tables::viot::{MmioEndpoint, PciRange, VIOT, VirtIoMmioIommu, VirtIoPciIommu};
+use acpi_vectors::{OEM, OEM_REVISION, OEM_TABLE};
 use std::alloc::Global;
 
 fn cache() -> CacheNode {

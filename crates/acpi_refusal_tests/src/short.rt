@@ -6,12 +6,6 @@ use acpi_tables::{Aml, AmlSink, Error, R};
 use std::alloc::Global;
 use std::process::Abort;
 
-pub const OEM: [u8; 6] = *b"FOOBAR";
-
-pub const OEM_TABLE: [u8; 8] = *b"CAFEDEAD";
-
-pub const OEM_REVISION: u32 = 0xdead_beef;
-
 /// Takes as many bytes as it has room for, and refuses the next.
 #[derive(Drop)]
 pub struct Short {

@@ -1,7 +1,5 @@
 //! HEST and its error sources.
 
-use crate::broken::Broken;
-use crate::vectors::{OEM, OEM_REVISION, OEM_TABLE, many, writes};
 use acpi_tables::gas::{AccessSize, AddressSpace, GAS};
 use acpi_tables::hest::{
     EnabledStatus, ErrorSeverity, FirmwareFirst, GenericErrorData, GenericErrorStatus,
@@ -9,6 +7,8 @@ use acpi_tables::hest::{
     PciDevice, PcieAerBridge, PcieAerDevice, PcieAerRootPort,
 };
 use acpi_tables::{Aml, Error, R};
+use acpi_vectors::broken::Broken;
+use acpi_vectors::{OEM, OEM_REVISION, OEM_TABLE, many, writes};
 use std::alloc::Global;
 use std::test::Fail;
 
@@ -25,7 +25,6 @@ fn sources(rt: HostRuntime) -> Result<(), Fail> {
     let alloc = rt.alloc();
     let mut hest = table(alloc);
     writes(
-        &rt,
         alloc,
         &hest,
         b"HEST\x28\0\0\0\x01\x57FOOBARCAFEDEAD\xef\xbe\xad\xdeRVAT\0\0\0\x01\0\0\0\0",
@@ -33,16 +32,7 @@ fn sources(rt: HostRuntime) -> Result<(), Fail> {
     for _ in 0..256u16 {
         hest.add_structure(PcieAerRootPort::new_global())?;
     }
-    many(
-        &rt,
-        alloc,
-        &hest,
-        b"HEST",
-        1,
-        &[0, 1, 0, 0],
-        &ROOT_PORTS,
-        256,
-    )?;
+    many(alloc, &hest, b"HEST", 1, &[0, 1, 0, 0], &ROOT_PORTS, 256)?;
     let mut bytes = Vec::new(alloc);
     hest.to_aml_bytes(&mut bytes)?;
     assert!(&rt; bytes.starts_with(b"HEST\x28\x30\0\0\x01\x26"));
@@ -52,7 +42,7 @@ fn sources(rt: HostRuntime) -> Result<(), Fail> {
 #[test]
 fn root_ports(rt: HostRuntime) -> Result<(), Fail> {
     let alloc = rt.alloc();
-    writes(&rt, alloc, &PcieAerRootPort::new_global(), &ROOT_PORTS)?;
+    writes(alloc, &PcieAerRootPort::new_global(), &ROOT_PORTS)?;
     let port = PcieAerRootPort::new_root_port(FirmwareFirst::Enabled, PciDevice::new(0xfe, 31, 7))
         .num_records(0x0b0a_0908)
         .max_sections(0x0f0e_0d0c)
@@ -63,7 +53,6 @@ fn root_ports(rt: HostRuntime) -> Result<(), Fail> {
         .aer_cap_ctrl(0x2b2a_2928)
         .root_error_command(0x2f2e_2d2c);
     writes(
-        &rt,
         alloc,
         &port,
         b"\x06\0\0\0\0\0\x01\0\x08\x09\x0a\x0b\x0c\x0d\x0e\x0f\xfe\0\0\0\x1f\0\x07\0\x18\x19\0\0\x1c\x1d\x1e\x1f\x20\x21\x22\x23\x24\x25\x26\x27\x28\x29\x2a\x2b\x2c\x2d\x2e\x2f",
@@ -76,7 +65,7 @@ fn endpoints(rt: HostRuntime) -> Result<(), Fail> {
     let mut wanted = [0; 44];
     wanted[0] = 7;
     wanted[6] = 2;
-    writes(&rt, alloc, &PcieAerDevice::new_global(), &wanted)?;
+    writes(alloc, &PcieAerDevice::new_global(), &wanted)?;
     let device = PcieAerDevice::new_root_port(FirmwareFirst::Disabled, PciDevice::new(0xfe, 31, 7))
         .num_records(0x0b0a_0908)
         .max_sections(0x0f0e_0d0c)
@@ -86,7 +75,6 @@ fn endpoints(rt: HostRuntime) -> Result<(), Fail> {
         .correctable_error_mask(0x2726_2524)
         .aer_cap_ctrl(0x2b2a_2928);
     writes(
-        &rt,
         alloc,
         &device,
         b"\x07\0\0\0\0\0\0\0\x08\x09\x0a\x0b\x0c\x0d\x0e\x0f\xfe\0\0\0\x1f\0\x07\0\x18\x19\0\0\x1c\x1d\x1e\x1f\x20\x21\x22\x23\x24\x25\x26\x27\x28\x29\x2a\x2b",
@@ -99,7 +87,7 @@ fn bridges(rt: HostRuntime) -> Result<(), Fail> {
     let mut wanted = [0; 56];
     wanted[0] = 8;
     wanted[6] = 2;
-    writes(&rt, alloc, &PcieAerBridge::new_global(), &wanted)?;
+    writes(alloc, &PcieAerBridge::new_global(), &wanted)?;
     let bridge = PcieAerBridge::new_bridge(FirmwareFirst::Enabled, PciDevice::new(0xfe, 31, 7))
         .num_records(0x0b0a_0908)
         .max_sections(0x0f0e_0d0c)
@@ -112,7 +100,6 @@ fn bridges(rt: HostRuntime) -> Result<(), Fail> {
         .secondary_uncorrectable_error_severity(0x3332_3130)
         .secondary_aer_cap_ctrl(0x3736_3534);
     writes(
-        &rt,
         alloc,
         &bridge,
         b"\x08\0\0\0\0\0\x01\0\x08\x09\x0a\x0b\x0c\x0d\x0e\x0f\xfe\0\0\0\x1f\0\x07\0\x18\x19\0\0\x1c\x1d\x1e\x1f\x20\x21\x22\x23\x24\x25\x26\x27\x28\x29\x2a\x2b\x2c\x2d\x2e\x2f\x30\x31\x32\x33\x34\x35\x36\x37",
@@ -134,7 +121,6 @@ fn notification() -> NotificationStructure {
 fn notifications(rt: HostRuntime) -> Result<(), Fail> {
     let alloc = rt.alloc();
     writes(
-        &rt,
         alloc,
         &notification(),
         b"\x03\x1c\x02\x03\x04\x05\x06\x07\x08\x09\x0a\x0b\x0c\x0d\x0e\x0f\x10\x11\x12\x13\x14\x15\x16\x17\x18\x19\x1a\x1b",
@@ -161,7 +147,7 @@ fn notifications(rt: HostRuntime) -> Result<(), Fail> {
         (NotificationType::RiscvHardwareErrorException, 15),
     ] {
         wanted[0] = number;
-        writes(&rt, alloc, &NotificationStructure::new(kind), &wanted)?;
+        writes(alloc, &NotificationStructure::new(kind), &wanted)?;
     }
     Ok(())
 }
@@ -181,7 +167,7 @@ fn hardware_sources(rt: HostRuntime) -> Result<(), Fail> {
     wanted[0] = 9;
     wanted[4..6].copy_from_slice(&[0xff, 0xff]);
     let first = GenericHardwareSource::new(0, EnabledStatus::Disabled);
-    writes(&rt, alloc, &first, &wanted)?;
+    writes(alloc, &first, &wanted)?;
     let source = GenericHardwareSource::new(0x0302, EnabledStatus::Enabled)
         .num_records(0x0b0a_0908)
         .max_sections(0x0f0e_0d0c)
@@ -190,7 +176,6 @@ fn hardware_sources(rt: HostRuntime) -> Result<(), Fail> {
         .notification(notification())
         .error_status_block_len(0x3f3e_3d3c);
     writes(
-        &rt,
         alloc,
         &source,
         b"\x09\0\x02\x03\xff\xff\0\x01\x08\x09\x0a\x0b\x0c\x0d\x0e\x0f\x10\x11\x12\x13\x01\x08\x03\x02\x01\x02\x03\x04\x05\x06\x07\x08\x03\x1c\x02\x03\x04\x05\x06\x07\x08\x09\x0a\x0b\x0c\x0d\x0e\x0f\x10\x11\x12\x13\x14\x15\x16\x17\x18\x19\x1a\x1b\x3c\x3d\x3e\x3f",
@@ -204,7 +189,7 @@ fn hardware_sources_of_version_2(rt: HostRuntime) -> Result<(), Fail> {
     wanted[0] = 10;
     wanted[4..6].copy_from_slice(&[0xff, 0xff]);
     let first = GenericHardwareSourceV2::new(0, EnabledStatus::Disabled);
-    writes(&rt, alloc, &first, &wanted)?;
+    writes(alloc, &first, &wanted)?;
     let register = GAS {
         address_space_id: AddressSpace::SystemMemory,
         register_bit_width: 64,
@@ -223,7 +208,6 @@ fn hardware_sources_of_version_2(rt: HostRuntime) -> Result<(), Fail> {
         .read_ack_preserve(0x5352_5150_4f4e_4d4c)
         .read_ack_write(0x5b5a_5958_5756_5554);
     writes(
-        &rt,
         alloc,
         &source,
         b"\x0a\0\x02\x03\xff\xff\0\x01\x08\x09\x0a\x0b\x0c\x0d\x0e\x0f\x10\x11\x12\x13\x01\x08\x03\x02\x01\x02\x03\x04\x05\x06\x07\x08\x03\x1c\x02\x03\x04\x05\x06\x07\x08\x09\x0a\x0b\x0c\x0d\x0e\x0f\x10\x11\x12\x13\x14\x15\x16\x17\x18\x19\x1a\x1b\x3c\x3d\x3e\x3f\0\x40\x05\x04\x11\x12\x13\x14\x15\x16\x17\x18LMNOPQRSTUVWXYZ\x5b",
@@ -247,7 +231,7 @@ fn statuses(rt: HostRuntime) -> Result<(), Fail> {
     ] {
         wanted[0] = status;
         let block = GenericErrorStatus::new(correctable, uncorrectable, ErrorSeverity::Recoverable);
-        writes(&rt, alloc, &block, &wanted)?;
+        writes(alloc, &block, &wanted)?;
     }
     wanted[0] = 0;
     for (severity, number) in [
@@ -258,12 +242,7 @@ fn statuses(rt: HostRuntime) -> Result<(), Fail> {
         (ErrorSeverity::default(), 3),
     ] {
         wanted[16] = number;
-        writes(
-            &rt,
-            alloc,
-            &GenericErrorStatus::new(0, 0, severity),
-            &wanted,
-        )?;
+        writes(alloc, &GenericErrorStatus::new(0, 0, severity), &wanted)?;
     }
     Ok(())
 }
@@ -274,7 +253,7 @@ fn a_source_that_refuses(rt: HostRuntime) -> Result<(), Fail> {
     let mut hest = table(alloc);
     hest.add_structure(PcieAerRootPort::new_global())?;
     assert_eq!(&rt; hest.add_structure(Broken {}), Err(Error::Sink(9)));
-    many(&rt, alloc, &hest, b"HEST", 1, &[1, 0, 0, 0], &ROOT_PORTS, 1)
+    many(alloc, &hest, b"HEST", 1, &[1, 0, 0, 0], &ROOT_PORTS, 1)
 }
 
 // An entry's bytes, and how its write ended.

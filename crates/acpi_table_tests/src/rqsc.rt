@@ -1,6 +1,5 @@
 //! RQSC, its controllers and their resources.
 
-use crate::vectors::{OEM, OEM_REVISION, OEM_TABLE, many, writes};
 use acpi_base::buffer::append;
 use acpi_tables::Error;
 use acpi_tables::gas::{AccessSize, AddressSpace, GAS};
@@ -8,6 +7,7 @@ use acpi_tables::rqsc::{
     ACPIDeviceResource, CacheResource, ControllerType, MemoryAffinityStructureResource,
     PCIDeviceResource, QoSController, RQSC, ResourceID, ResourceStructure, ResourceType,
 };
+use acpi_vectors::{OEM, OEM_REVISION, OEM_TABLE, many, writes};
 use std::alloc::Global;
 use std::process::Abort;
 use std::test::Fail;
@@ -52,7 +52,6 @@ fn controllers(rt: HostRuntime) -> Result<(), Fail> {
     let alloc = rt.alloc();
     let mut rqsc = table(alloc);
     writes(
-        &rt,
         alloc,
         &rqsc,
         b"RQSC\x28\0\0\0\x01\x52FOOBARCAFEDEAD\xef\xbe\xad\xdeRVAT\0\0\0\x01\0\0\0\0",
@@ -60,16 +59,7 @@ fn controllers(rt: HostRuntime) -> Result<(), Fail> {
     for _ in 0..256u16 {
         rqsc.add_controller(controller(alloc))?;
     }
-    many(
-        &rt,
-        alloc,
-        &rqsc,
-        b"RQSC",
-        1,
-        &[0, 1, 0, 0],
-        &CONTROLLER,
-        256,
-    )
+    many(alloc, &rqsc, b"RQSC", 1, &[0, 1, 0, 0], &CONTROLLER, 256)
 }
 
 #[test]
@@ -90,36 +80,29 @@ fn capacity(rt: HostRuntime) -> Result<(), Fail> {
     wanted[22] = 0xff;
     wanted[23] = 0xff;
     wanted[24] = 1;
-    writes(&rt, alloc, &capacity, &wanted)
+    writes(alloc, &capacity, &wanted)
 }
 
 #[test]
 fn payloads(rt: HostRuntime) -> Result<(), Fail> {
     let alloc = rt.alloc();
     let cache = CacheResource::new(0x0c0d_0e0f);
-    writes(&rt, alloc, &cache, b"\x0f\x0e\x0d\x0c\0\0\0\0\0\0\0\0")?;
-    writes(
-        &rt,
-        alloc,
-        &cache.clone()?,
-        b"\x0f\x0e\x0d\x0c\0\0\0\0\0\0\0\0",
-    )?;
+    writes(alloc, &cache, b"\x0f\x0e\x0d\x0c\0\0\0\0\0\0\0\0")?;
+    writes(alloc, &cache.clone()?, b"\x0f\x0e\x0d\x0c\0\0\0\0\0\0\0\0")?;
     let memory = MemoryAffinityStructureResource::new(0x1213_1415, 0x1617_1819_1a1b_1c1d);
     writes(
-        &rt,
         alloc,
         &memory,
         b"\x15\x14\x13\x12\0\0\0\0\0\0\0\0\x1d\x1c\x1b\x1a\x19\x18\x17\x16",
     )?;
     let acpi = ACPIDeviceResource::new(0x2021_2223_2425_2627, 0x2829_2a2b);
     writes(
-        &rt,
         alloc,
         &acpi,
         b"\x27\x26\x25\x24\x23\x22\x21\x20\x2b\x2a\x29\x28",
     )?;
     let pci = PCIDeviceResource::new(0x2c2d_2e2f);
-    writes(&rt, alloc, &pci, b"\x2f\x2e\x2d\x2c\0\0\0\0\0\0\0\0")
+    writes(alloc, &pci, b"\x2f\x2e\x2d\x2c\0\0\0\0\0\0\0\0")
 }
 
 // An id by itself, and one that was cloned from it.
@@ -132,8 +115,8 @@ fn is_written<RT: Abort>(
 ) -> Result<(), Fail> {
     assert_eq!(rt; id.resource_id_type(), kind);
     assert_eq!(rt; id.len(), wanted.len());
-    writes(rt, alloc, id, wanted)?;
-    writes(rt, alloc, &id.clone()?, wanted)
+    writes(alloc, id, wanted)?;
+    writes(alloc, &id.clone()?, wanted)
 }
 
 #[test]
@@ -178,13 +161,13 @@ fn resources(rt: HostRuntime) -> Result<(), Fail> {
     );
     let first = b"\0\0\x14\0\x11\x10\0\0\x0f\x0e\x0d\x0c\0\0\0\0\0\0\0\0";
     assert_eq!(&rt; cache.len(), 20);
-    writes(&rt, alloc, &cache, first)?;
-    writes(&rt, alloc, &cache.clone()?, first)?;
+    writes(alloc, &cache, first)?;
+    writes(alloc, &cache.clone()?, first)?;
     let vendor = vendors(alloc, b"\x31\x32\x33")?;
     let second = b"\x01\0\x0b\0\x13\x12\0\x80\x31\x32\x33";
     assert_eq!(&rt; vendor.len(), 11);
-    writes(&rt, alloc, &vendor, second)?;
-    writes(&rt, alloc, &vendor.clone()?, second)?;
+    writes(alloc, &vendor, second)?;
+    writes(alloc, &vendor.clone()?, second)?;
     let mut shared = controller(alloc);
     assert_eq!(&rt; shared.len(), 28);
     shared.add_resource(cache)?;
@@ -196,13 +179,13 @@ fn resources(rt: HostRuntime) -> Result<(), Fail> {
     wanted.extend_from_slice(&[2, 0])?;
     wanted.extend_from_slice(first)?;
     wanted.extend_from_slice(second)?;
-    writes(&rt, alloc, &shared, &wanted)?;
+    writes(alloc, &shared, &wanted)?;
     let copy = shared.clone()?;
     assert_eq!(&rt; copy.len(), 59);
-    writes(&rt, alloc, &copy, &wanted)?;
+    writes(alloc, &copy, &wanted)?;
     let mut rqsc = table(alloc);
     rqsc.add_controller(shared)?;
-    many(&rt, alloc, &rqsc, b"RQSC", 1, &[1, 0, 0, 0], &wanted, 1)
+    many(alloc, &rqsc, b"RQSC", 1, &[1, 0, 0, 0], &wanted, 1)
 }
 
 #[test]
@@ -214,7 +197,7 @@ fn longest_controller(rt: HostRuntime) -> Result<(), Fail> {
         Err(Error::FieldWidth)
     );
     assert_eq!(&rt; full.len(), 28);
-    writes(&rt, alloc, &full, &CONTROLLER)?;
+    writes(alloc, &full, &CONTROLLER)?;
     full.add_resource(vendors(alloc, &[0x5a; 65_499])?)?;
     assert_eq!(&rt; full.len(), 65_535);
     assert_eq!(&rt;
@@ -233,7 +216,7 @@ fn longest_resource(rt: HostRuntime) -> Result<(), Fail> {
     let mut wanted = Vec::new(alloc);
     wanted.extend_from_slice(b"\x01\0\xff\xff\x13\x12\0\x80")?;
     wanted.extend_from_slice(&[0x5a; 65_527])?;
-    writes(&rt, alloc, &longest, &wanted)?;
+    writes(alloc, &longest, &wanted)?;
     let longer = vendors(alloc, &[0x5a; 65_528])?;
     assert_eq!(&rt; longer.len(), 65_536);
     let mut bytes = Vec::new(alloc);

@@ -1,9 +1,9 @@
 //! The FADT: every field of it, and what each call of the builder sets.
 
-use crate::vectors::{OEM, OEM_REVISION, OEM_TABLE, patched, stands, written};
 use acpi_base::gas::{AccessSize, AddressSpace, GAS};
 use acpi_base::object::u8sum;
 use acpi_tables::fadt::{FADT, FADTBuilder, Flags, PmProfile};
+use acpi_vectors::{OEM, OEM_REVISION, OEM_TABLE, patched, stands, written};
 use std::test::Fail;
 
 // The byte at each offset is the offset's lowest, but in reserved bytes, the checksum, spaces and access sizes.
@@ -164,7 +164,7 @@ fn every_field(rt: HostRuntime) -> Result<(), Fail> {
         0x0e, 0x0f, 0x10, 0x11, 0x12, 0x13,
     ];
     assert_eq!(rt;
-        written(&rt, &numbered().finalize())?.as_slice(),
+        written(rt.alloc(), &numbered().finalize())?.as_slice(),
         wanted.as_slice()
     );
     assert_eq!(rt; FADT::len(), 276);
@@ -174,13 +174,16 @@ fn every_field(rt: HostRuntime) -> Result<(), Fail> {
 #[test]
 fn at_first(rt: HostRuntime) -> Result<(), Fail> {
     let nothing = FADTBuilder::default().finalize();
-    assert_eq!(rt; written(&rt, &nothing)?.as_slice(), [0; 276].as_slice());
+    assert_eq!(rt;
+        written(rt.alloc(), &nothing)?.as_slice(),
+        [0; 276].as_slice()
+    );
 
     let table = FADTBuilder::new(OEM, OEM_TABLE, OEM_REVISION).finalize();
     let header = b"FACP\x14\x01\0\0\x06\x7aFOOBARCAFEDEAD\xef\xbe\xad\xdeRVAT\0\0\0\x01";
-    let bytes = written(&rt, &table)?;
+    let bytes = written(rt.alloc(), &table)?;
     assert_eq!(rt; bytes.len(), 276);
-    stands(&rt, &table, 0, header)?;
+    stands(rt.alloc(), &table, 0, header)?;
     for (at, byte) in bytes.iter().enumerate() {
         let wanted = if at == 131 { 5 } else { 0 };
         assert!(rt; at < 36 || *byte == wanted, "at {at}");
@@ -219,13 +222,13 @@ fn flags(rt: HostRuntime) -> Result<(), Fail> {
         (Flags::PersistentCpuCachesNotPersistent, b"\0\0\x40\0"),
         (Flags::PersistentCpuCachesArePersistent, b"\0\0\x80\0"),
     ] {
-        stands(&rt, &builder.flag(flag).finalize(), 112, wanted)?;
+        stands(rt.alloc(), &builder.flag(flag).finalize(), 112, wanted)?;
     }
     let joined = builder
         .flag(Flags::Headless)
         .flag(Flags::HwReducedAcpi)
         .flag(Flags::Headless);
-    stands(&rt, &joined.finalize(), 112, b"\0\x10\x10\0")?;
+    stands(rt.alloc(), &joined.finalize(), 112, b"\0\x10\x10\0")?;
     Ok(())
 }
 
@@ -244,7 +247,7 @@ fn profiles(rt: HostRuntime) -> Result<(), Fail> {
         (PmProfile::Tablet, 8),
     ] {
         let table = builder.preferred_pm_profile(profile).finalize();
-        stands(&rt, &table, 44, &[0, wanted, 0, 0])?;
+        stands(rt.alloc(), &table, 44, &[0, wanted, 0, 0])?;
     }
     Ok(())
 }
@@ -253,36 +256,36 @@ fn profiles(rt: HostRuntime) -> Result<(), Fail> {
 #[test]
 fn setters(rt: HostRuntime) -> Result<(), Fail> {
     let old = numbered();
-    let before = written(&rt, &old.finalize())?;
+    let before = written(rt.alloc(), &old.finalize())?;
     let low = b"\xa0\xa1\xa2\xa3";
     let high = b"\xa0\xa1\xa2\xa3\xa4\xa5\xa6\xa7";
     let facs = old.firmware_ctrl_32(0xa3a2_a1a0).finalize();
-    patched(&rt, &facs, &before, &[(36, low), (132, &[0; 8])])?;
+    patched(rt.alloc(), &facs, &before, &[(36, low), (132, &[0; 8])])?;
     let facs = old.firmware_ctrl_64(0xa7a6_a5a4_a3a2_a1a0).finalize();
-    patched(&rt, &facs, &before, &[(36, &[0; 4]), (132, high)])?;
+    patched(rt.alloc(), &facs, &before, &[(36, &[0; 4]), (132, high)])?;
     let dsdt = old.dsdt_32(0xa3a2_a1a0).finalize();
-    patched(&rt, &dsdt, &before, &[(40, low), (140, &[0; 8])])?;
+    patched(rt.alloc(), &dsdt, &before, &[(40, low), (140, &[0; 8])])?;
     let dsdt = old.dsdt_64(0xa7a6_a5a4_a3a2_a1a0).finalize();
-    patched(&rt, &dsdt, &before, &[(40, &[0; 4]), (140, high)])?;
+    patched(rt.alloc(), &dsdt, &before, &[(40, &[0; 4]), (140, high)])?;
     let dsdt = old.dsdt_32(5).dsdt_64(7).finalize();
     patched(
-        &rt,
+        rt.alloc(),
         &dsdt,
         &before,
         &[(40, &[0; 4]), (140, b"\x07\0\0\0\0\0\0\0")],
     )?;
     let enabled = old.acpi_enable().finalize();
-    patched(&rt, &enabled, &before, &[(52, &[1, 0])])?;
+    patched(rt.alloc(), &enabled, &before, &[(52, &[1, 0])])?;
     let disabled = old.acpi_disable().finalize();
-    patched(&rt, &disabled, &before, &[(52, &[0, 1])])?;
+    patched(rt.alloc(), &disabled, &before, &[(52, &[0, 1])])?;
     let mobile = old.preferred_pm_profile(PmProfile::Mobile).finalize();
-    patched(&rt, &mobile, &before, &[(45, &[2])])?;
+    patched(rt.alloc(), &mobile, &before, &[(45, &[2])])?;
     let events = old
         .gpe_info(0x1413_1211, 0x2423_2221, 0x31, 0x32, 0x33)
         .finalize();
     let blocks = b"\x11\x12\x13\x14\x21\x22\x23\x24";
     patched(
-        &rt,
+        rt.alloc(),
         &events,
         &before,
         &[(80, blocks), (92, &[0x31, 0x32, 0x33])],

@@ -1,10 +1,10 @@
 //! TCPA and TPM2: their bytes, and what each setter sets.
 
-use crate::vectors::{OEM, OEM_REVISION, OEM_TABLE, patched, stands, written};
 use acpi_base::error::Error;
 use acpi_base::gas::{AccessSize, AddressSpace, GAS};
 use acpi_base::object::u8sum;
 use acpi_tables::tpm2::{PlatformClass, StartMethod, Tpm2, TpmClient1_2, TpmServer1_2};
+use acpi_vectors::{OEM, OEM_REVISION, OEM_TABLE, patched, stands, written};
 use std::test::Fail;
 
 // A server's table before any setter.
@@ -22,9 +22,9 @@ fn tcpa(rt: HostRuntime) -> Result<(), Fail> {
     );
     let wanted =
         b"TCPA\x32\0\0\0\x02\x0aFOOBARCAFEDEAD\xef\xbe\xad\xdeRVAT\0\0\0\x01\0\0\x01\x02\x03\x04\x05\x06\x07\x08\x09\x0a\x0b\x0c";
-    assert_eq!(rt; written(&rt, &client)?.as_slice(), wanted.as_slice());
+    assert_eq!(rt; written(rt.alloc(), &client)?.as_slice(), wanted.as_slice());
     let server = TpmServer1_2::new(OEM, OEM_TABLE, OEM_REVISION);
-    assert_eq!(rt; written(&rt, &server)?.as_slice(), SERVER.as_slice());
+    assert_eq!(rt; written(rt.alloc(), &server)?.as_slice(), SERVER.as_slice());
     assert_eq!(rt; TpmServer1_2::len(), 100);
     Ok(())
 }
@@ -35,15 +35,25 @@ fn tcpa_setters(rt: HostRuntime) -> Result<(), Fail> {
     let server = TpmServer1_2::new(OEM, OEM_TABLE, OEM_REVISION);
     let area = server.log_area(0x0807_0605_0403_0201, 0x100f_0e0d_0c0b_0a09);
     let wanted = b"\x01\x02\x03\x04\x05\x06\x07\x08\x09\x0a\x0b\x0c\x0d\x0e\x0f\x10";
-    patched(&rt, &area, &SERVER, &[(40, wanted)])?;
-    patched(&rt, &server.active_low(), &SERVER, &[(59, &[2])])?;
-    patched(&rt, &server.edge_triggered(), &SERVER, &[(59, &[1])])?;
-    patched(&rt, &server.sci_gpe(7), &SERVER, &[(59, &[4, 7])])?;
+    patched(rt.alloc(), &area, &SERVER, &[(40, wanted)])?;
+    patched(rt.alloc(), &server.active_low(), &SERVER, &[(59, &[2])])?;
+    patched(rt.alloc(), &server.edge_triggered(), &SERVER, &[(59, &[1])])?;
+    patched(rt.alloc(), &server.sci_gpe(7), &SERVER, &[(59, &[4, 7])])?;
     let gsi = server.gsi(0x0403_0201);
-    patched(&rt, &gsi, &SERVER, &[(59, &[8]), (64, &[1, 2, 3, 4])])?;
-    patched(&rt, &server.bus_is_pnp(), &SERVER, &[(58, &[2])])?;
+    patched(
+        rt.alloc(),
+        &gsi,
+        &SERVER,
+        &[(59, &[8]), (64, &[1, 2, 3, 4])],
+    )?;
+    patched(rt.alloc(), &server.bus_is_pnp(), &SERVER, &[(58, &[2])])?;
     let pci = server.pci_sbdf(1, 2, 31, 7);
-    patched(&rt, &pci, &SERVER, &[(58, &[1]), (96, &[1, 2, 31, 7])])?;
+    patched(
+        rt.alloc(),
+        &pci,
+        &SERVER,
+        &[(58, &[1]), (96, &[1, 2, 31, 7])],
+    )?;
     let port = GAS::new(
         AddressSpace::SystemIo,
         8,
@@ -52,9 +62,14 @@ fn tcpa_setters(rt: HostRuntime) -> Result<(), Fail> {
         0x0807_0605_0403_0201,
     );
     let wanted = [1, 8, 3, 2, 1, 2, 3, 4, 5, 6, 7, 8];
-    patched(&rt, &server.base_addr(port), &SERVER, &[(68, &wanted)])?;
     patched(
-        &rt,
+        rt.alloc(),
+        &server.base_addr(port),
+        &SERVER,
+        &[(68, &wanted)],
+    )?;
+    patched(
+        rt.alloc(),
         &server.config_addr(port),
         &SERVER,
         &[(58, &[4]), (84, &wanted)],
@@ -67,7 +82,7 @@ fn tcpa_setters(rt: HostRuntime) -> Result<(), Fail> {
         .bus_is_pnp()
         .pci_sbdf(0, 0, 0, 0)
         .config_addr(port);
-    stands(&rt, &all, 58, b"\x07\x0f\x01")?;
+    stands(rt.alloc(), &all, 58, b"\x07\x0f\x01")?;
     Ok(())
 }
 
@@ -83,15 +98,15 @@ fn tpm2(rt: HostRuntime) -> Result<(), Fail> {
     );
     let short =
         b"TPM2\x34\0\0\0\x01\x92FOOBARCAFEDEAD\xef\xbe\xad\xdeRVAT\0\0\0\x01\x01\0\0\0\x45\x23\x01\x89\x67\x45\x23\x01\x07\0\0\0";
-    assert_eq!(rt; written(&rt, &tpm2)?.as_slice(), short.as_slice());
+    assert_eq!(rt; written(rt.alloc(), &tpm2)?.as_slice(), short.as_slice());
     assert_eq!(rt; u8sum(&tpm2)?, 0);
 
     tpm2.set_log_area(0x8070_6050, 0x4030_2010_f0e0_d0c0)?;
     let long =
         b"TPM2\x4c\0\0\0\x01\xdaFOOBARCAFEDEAD\xef\xbe\xad\xdeRVAT\0\0\0\x01\x01\0\0\0\x45\x23\x01\x89\x67\x45\x23\x01\x07\0\0\0\0\0\0\0\0\0\0\0\0\0\0\0\x50\x60\x70\x80\xc0\xd0\xe0\xf0\x10\x20\x30\x40";
-    assert_eq!(rt; written(&rt, &tpm2)?.as_slice(), long.as_slice());
+    assert_eq!(rt; written(rt.alloc(), &tpm2)?.as_slice(), long.as_slice());
     assert_eq!(rt; tpm2.set_log_area(1, 2), Err(Error::LogAreaSet));
-    assert_eq!(rt; written(&rt, &tpm2)?.as_slice(), long.as_slice());
+    assert_eq!(rt; written(rt.alloc(), &tpm2)?.as_slice(), long.as_slice());
     assert_eq!(rt; u8sum(&tpm2)?, 0);
     assert_eq!(rt; PlatformClass::default(), PlatformClass::Client);
     assert_eq!(rt; StartMethod::default(), StartMethod::LegacyUse);
@@ -105,7 +120,7 @@ fn classes(rt: HostRuntime) -> Result<(), Fail> {
         (PlatformClass::Server, b"\x01\0"),
     ] {
         let table = Tpm2::new(OEM, OEM_TABLE, OEM_REVISION, class, 0, StartMethod::Mmio);
-        stands(&rt, &table, 36, wanted)?;
+        stands(rt.alloc(), &table, 36, wanted)?;
     }
     Ok(())
 }
@@ -123,8 +138,8 @@ fn start_methods(rt: HostRuntime) -> Result<(), Fail> {
     ] {
         let class = PlatformClass::Client;
         let table = Tpm2::new(OEM, OEM_TABLE, OEM_REVISION, class, 0, method);
-        stands(&rt, &table, 48, &[wanted, 0, 0, 0])?;
-        assert_eq!(rt; written(&rt, &table)?.len(), 52);
+        stands(rt.alloc(), &table, 48, &[wanted, 0, 0, 0])?;
+        assert_eq!(rt; written(rt.alloc(), &table)?.len(), 52);
     }
     Ok(())
 }

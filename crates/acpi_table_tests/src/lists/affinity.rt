@@ -1,9 +1,9 @@
 //! SRAT and its structures.
 
-use crate::vectors::{OEM, OEM_REVISION, OEM_TABLE, many, writes};
 use acpi_base::error::Error;
 use acpi_base::object::Aml;
 use acpi_tables::srat::{GenericInitiator, Handle, MemoryAffinity, RintcAffinity, SRAT};
+use acpi_vectors::{OEM, OEM_REVISION, OEM_TABLE, many, writes};
 use std::test::Fail;
 
 #[test]
@@ -11,7 +11,6 @@ fn srat(rt: HostRuntime) -> Result<(), Fail> {
     let alloc = rt.alloc();
     let mut table = SRAT::new(alloc, OEM, OEM_TABLE, OEM_REVISION);
     writes(
-        &rt,
         alloc,
         &table,
         b"SRAT\x30\0\0\0\x01\x48FOOBARCAFEDEAD\xef\xbe\xad\xdeRVAT\0\0\0\x01\x01\0\0\0\0\0\0\0\0\0\0\0",
@@ -19,7 +18,6 @@ fn srat(rt: HostRuntime) -> Result<(), Fail> {
     let memory = MemoryAffinity::new(0x0403_0201, 0x1817_1615_1413_1211, 0x2827_2625_2423_2221);
     table.add_memory_affinity(memory.enabled().hotpluggable().nonvolatile())?;
     writes(
-        &rt,
         alloc,
         &table,
         b"SRAT\x58\0\0\0\x01\x1eFOOBARCAFEDEAD\xef\xbe\xad\xdeRVAT\0\0\0\x01\x01\0\0\0\0\0\0\0\0\0\0\0\x01\x28\x01\x02\x03\x04\0\0\x11\x12\x13\x14\x15\x16\x17\x18\x21\x22\x23\x24\x25\x26\x27\x28\0\0\0\0\x07\0\0\0\0\0\0\0\0\0\0\0",
@@ -32,52 +30,34 @@ fn memory_flags(rt: HostRuntime) -> Result<(), Fail> {
     let mut wanted = [0; 40];
     wanted[0] = 1;
     wanted[1] = 40;
-    writes(&rt, alloc, &MemoryAffinity::new(0, 0, 0), &wanted)?;
+    writes(alloc, &MemoryAffinity::new(0, 0, 0), &wanted)?;
     wanted[28] = 1;
-    writes(&rt, alloc, &MemoryAffinity::new(0, 0, 0).enabled(), &wanted)?;
+    writes(alloc, &MemoryAffinity::new(0, 0, 0).enabled(), &wanted)?;
     wanted[28] = 2;
-    writes(
-        &rt,
-        alloc,
-        &MemoryAffinity::new(0, 0, 0).hotpluggable(),
-        &wanted,
-    )?;
+    writes(alloc, &MemoryAffinity::new(0, 0, 0).hotpluggable(), &wanted)?;
     wanted[28] = 4;
-    writes(
-        &rt,
-        alloc,
-        &MemoryAffinity::new(0, 0, 0).nonvolatile(),
-        &wanted,
-    )
+    writes(alloc, &MemoryAffinity::new(0, 0, 0).nonvolatile(), &wanted)
 }
 
 #[test]
 fn initiators(rt: HostRuntime) -> Result<(), Fail> {
     let alloc = rt.alloc();
     let acpi = Handle::new_acpi(*b"ABCDEFGH", *b"ijkl");
-    writes(&rt, alloc, &acpi, b"ABCDEFGHijkl\0\0\0\0")?;
+    writes(alloc, &acpi, b"ABCDEFGHijkl\0\0\0\0")?;
     let initiator = GenericInitiator::new(0x0403_0201, acpi);
     writes(
-        &rt,
         alloc,
         &initiator,
         b"\x05\x20\0\0\x01\x02\x03\x04ABCDEFGHijkl\0\0\0\0\0\0\0\0\0\0\0\0",
     )?;
     let pci = Handle::new_pci(0x2211, 0x33, 31, 7);
+    writes(alloc, &pci, b"\x11\x22\x33\xff\0\0\0\0\0\0\0\0\0\0\0\0")?;
     writes(
-        &rt,
-        alloc,
-        &pci,
-        b"\x11\x22\x33\xff\0\0\0\0\0\0\0\0\0\0\0\0",
-    )?;
-    writes(
-        &rt,
         alloc,
         &GenericInitiator::new(9, pci).enabled(),
         b"\x05\x20\0\x01\x09\0\0\0\x11\x22\x33\xff\0\0\0\0\0\0\0\0\0\0\0\0\x01\0\0\0\0\0\0\0",
     )?;
     writes(
-        &rt,
         alloc,
         &GenericInitiator::new(9, Handle::new_pci(0, 0, 1, 0)).architectural(),
         b"\x05\x20\0\x01\x09\0\0\0\0\0\0\x08\0\0\0\0\0\0\0\0\0\0\0\0\x02\0\0\0\0\0\0\0",
@@ -107,7 +87,6 @@ fn addresses_out_of_range(rt: HostRuntime) -> Result<(), Fail> {
         );
     }
     many(
-        &rt,
         alloc,
         &table,
         b"SRAT",
@@ -121,7 +100,6 @@ fn addresses_out_of_range(rt: HostRuntime) -> Result<(), Fail> {
     initiator[0] = 5;
     initiator[1] = 32;
     many(
-        &rt,
         alloc,
         &table,
         b"SRAT",
@@ -137,19 +115,16 @@ fn processors(rt: HostRuntime) -> Result<(), Fail> {
     let alloc = rt.alloc();
     let rintc = RintcAffinity::new([0x42, 0x37, 0x58, 0xde], 0xde58_3742);
     writes(
-        &rt,
         alloc,
         &rintc,
         b"\x07\x14\0\0\0\0\0\0\x42\x37\x58\xde\0\0\0\0\x42\x37\x58\xde",
     )?;
     writes(
-        &rt,
         alloc,
         &rintc.enabled(),
         b"\x07\x14\0\0\0\0\0\0\x42\x37\x58\xde\x01\0\0\0\x42\x37\x58\xde",
     )?;
     writes(
-        &rt,
         alloc,
         &rintc.proximity_domain(0x0403_0201),
         b"\x07\x14\0\0\x01\x02\x03\x04\x42\x37\x58\xde\0\0\0\0\x42\x37\x58\xde",
@@ -165,7 +140,6 @@ fn many_affinities(rt: HostRuntime) -> Result<(), Fail> {
     }
     let rintc = [7, 20, 0, 0, 0, 0, 0, 0, 1, 2, 3, 4, 1, 0, 0, 0, 5, 0, 0, 0];
     many(
-        &rt,
         alloc,
         &table,
         b"SRAT",

@@ -1,12 +1,12 @@
 //! CEDT and its structures.
 
-use crate::vectors::{OEM, OEM_REVISION, OEM_TABLE, many, writes};
 use acpi_base::error::Error;
 use acpi_base::object::Aml;
 use acpi_tables::cedt::{
     CEDT, CxlFixedMemory, CxlHostBridge, CxlVersion, InterleaveArithmetic, InterleaveGranularity,
     InterleaveWays, PortAssociation, ProtocolType, XorInterleaveMath,
 };
+use acpi_vectors::{OEM, OEM_REVISION, OEM_TABLE, many, writes};
 use std::alloc::Global;
 use std::test::Fail;
 
@@ -15,14 +15,12 @@ fn cedt(rt: HostRuntime) -> Result<(), Fail> {
     let alloc = rt.alloc();
     let mut table = CEDT::new(alloc, OEM, OEM_TABLE, OEM_REVISION);
     writes(
-        &rt,
         alloc,
         &table,
         b"CEDT\x24\0\0\0\x01\x6fFOOBARCAFEDEAD\xef\xbe\xad\xdeRVAT\0\0\0\x01",
     )?;
     table.add_host_bridge(CxlHostBridge::new(0xcdef, CxlVersion::Cxl2, 0x8_1234_5678))?;
     writes(
-        &rt,
         alloc,
         &table,
         b"CEDT\x44\0\0\0\x01\x55FOOBARCAFEDEAD\xef\xbe\xad\xdeRVAT\0\0\0\x01\0\0\x20\0\xef\xcd\0\0\x01\0\0\0\0\0\0\0\x78\x56\x34\x12\x08\0\0\0\0\0\x01\0\0\0\0\0",
@@ -33,13 +31,11 @@ fn cedt(rt: HostRuntime) -> Result<(), Fail> {
 fn bridges_and_ports(rt: HostRuntime) -> Result<(), Fail> {
     let alloc = rt.alloc();
     writes(
-        &rt,
         alloc,
         &CxlHostBridge::new(0x0403_0201, CxlVersion::Cxl1_1, 0x1817_1615_1413_1211),
         b"\0\0\x20\0\x01\x02\x03\x04\0\0\0\0\0\0\0\0\x11\x12\x13\x14\x15\x16\x17\x18\0\x20\0\0\0\0\0\0",
     )?;
     writes(
-        &rt,
         alloc,
         &PortAssociation::new(
             0x100,
@@ -52,7 +48,6 @@ fn bridges_and_ports(rt: HostRuntime) -> Result<(), Fail> {
         b"\x03\0\x11\0\0\x01\xff\xfe\x01\xef\xcd\xab\x90\x78\x56\x34\x12",
     )?;
     writes(
-        &rt,
         alloc,
         &PortAssociation::new(0x0201, 3, 4, 5, ProtocolType::CxlIo, 6),
         b"\x03\0\x11\0\x01\x02\x25\x03\0\x06\0\0\0\0\0\0\0",
@@ -92,7 +87,6 @@ fn windows(rt: HostRuntime) -> Result<(), Fail> {
     assert!(rt; bytes.is_empty());
     two.add_target(*b"efgh")?;
     writes(
-        &rt,
         alloc,
         &two,
         b"\x01\0\x2c\0\0\0\0\0\x01\x02\x03\x04\x05\x06\x07\x08\x11\x12\x13\x14\x15\x16\x17\x18\x01\x01\0\0\x06\0\0\0\x16\0\x21\x22abcdefgh",
@@ -102,7 +96,7 @@ fn windows(rt: HostRuntime) -> Result<(), Fail> {
     assert!(rt; bytes.is_empty());
     let mut table = CEDT::new(alloc, OEM, OEM_TABLE, OEM_REVISION);
     assert_eq!(rt; table.add_fixed_memory(two), Err(Error::Targets));
-    many(&rt, alloc, &table, b"CEDT", 1, &[], &[], 0)
+    many(alloc, &table, b"CEDT", 1, &[], &[], 0)
 }
 
 // A window of two ways and one target isn't added, and what was there stays.
@@ -119,7 +113,7 @@ fn one_target_of_two(rt: HostRuntime) -> Result<(), Fail> {
     one.add_target(*b"abcd")?;
     assert_eq!(rt; table.add_fixed_memory(one), Err(Error::Targets));
     let bridge = b"\0\0\x20\0\x07\0\0\0\x01\0\0\0\0\0\0\0\0\0\0\x10\0\0\0\0\0\0\x01\0\0\0\0\0";
-    many(&rt, alloc, &table, b"CEDT", 1, &[], bridge, 1)
+    many(alloc, &table, b"CEDT", 1, &[], bridge, 1)
 }
 
 #[test]
@@ -247,7 +241,6 @@ fn maps(rt: HostRuntime) -> Result<(), Fail> {
     let mut math = XorInterleaveMath::new(alloc, InterleaveGranularity::Granularity512b);
     math.add_xormap(0x0807_0605_0403_0201)?;
     writes(
-        &rt,
         alloc,
         &math,
         b"\x02\0\x10\0\0\0\x01\x01\x01\x02\x03\x04\x05\x06\x07\x08",
@@ -258,10 +251,10 @@ fn maps(rt: HostRuntime) -> Result<(), Fail> {
     assert_eq!(rt; math.add_xormap(0), Err(Error::FieldWidth));
     let mut wanted = [0xff; 2048];
     wanted[..16].copy_from_slice(b"\x02\0\0\x08\0\0\x01\xff\x01\x02\x03\x04\x05\x06\x07\x08");
-    writes(&rt, alloc, &math, &wanted)?;
+    writes(alloc, &math, &wanted)?;
     let mut table = CEDT::new(alloc, OEM, OEM_TABLE, OEM_REVISION);
     table.add_xor_interleave_math(math)?;
-    many(&rt, alloc, &table, b"CEDT", 1, &[], &wanted, 1)
+    many(alloc, &table, b"CEDT", 1, &[], &wanted, 1)
 }
 
 #[test]
@@ -272,7 +265,7 @@ fn many_structures(rt: HostRuntime) -> Result<(), Fail> {
         table.add_port_association(PortAssociation::new(1, 2, 3, 4, ProtocolType::CxlIo, 5))?;
     }
     let port = [3, 0, 17, 0, 1, 0, 0x1c, 2, 0, 5, 0, 0, 0, 0, 0, 0, 0];
-    many(&rt, alloc, &table, b"CEDT", 1, &[], &port, 300)?;
+    many(alloc, &table, b"CEDT", 1, &[], &port, 300)?;
     let mut table = CEDT::new(alloc, OEM, OEM_TABLE, OEM_REVISION);
     for _ in 0..256u16 {
         let mut window = window(
@@ -285,5 +278,5 @@ fn many_structures(rt: HostRuntime) -> Result<(), Fail> {
     }
     let window =
         b"\x01\0\x28\0\0\0\0\0\x01\x02\x03\x04\x05\x06\x07\x08\x11\x12\x13\x14\x15\x16\x17\x18\0\x01\0\0\0\0\0\0\0\0\x21\x22\x09\x08\x07\x06";
-    many(&rt, alloc, &table, b"CEDT", 1, &[], window, 256)
+    many(alloc, &table, b"CEDT", 1, &[], window, 256)
 }

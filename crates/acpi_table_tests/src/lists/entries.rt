@@ -1,8 +1,8 @@
 //! XSDT and MCFG.
 
-use crate::vectors::{OEM, OEM_REVISION, OEM_TABLE, many, writes};
 use acpi_tables::mcfg::MCFG;
 use acpi_tables::xsdt::XSDT;
+use acpi_vectors::{OEM, OEM_REVISION, OEM_TABLE, many, writes};
 use std::test::Fail;
 
 #[test]
@@ -10,21 +10,18 @@ fn xsdt(rt: HostRuntime) -> Result<(), Fail> {
     let alloc = rt.alloc();
     let mut table = XSDT::new(alloc, OEM, OEM_TABLE, OEM_REVISION);
     writes(
-        &rt,
         alloc,
         &table,
         b"XSDT\x24\0\0\0\x01\x4cFOOBARCAFEDEAD\xef\xbe\xad\xdeRVAT\0\0\0\x01",
     )?;
     table.add_entry(0x1000)?;
     writes(
-        &rt,
         alloc,
         &table,
         b"XSDT\x2c\0\0\0\x01\x34FOOBARCAFEDEAD\xef\xbe\xad\xdeRVAT\0\0\0\x01\0\x10\0\0\0\0\0\0",
     )?;
     table.add_entry(0x8877_6655_4433_2211)?;
     writes(
-        &rt,
         alloc,
         &table,
         b"XSDT\x34\0\0\0\x01\xc8FOOBARCAFEDEAD\xef\xbe\xad\xdeRVAT\0\0\0\x01\0\x10\0\0\0\0\0\0\x11\x22\x33\x44\x55\x66\x77\x88",
@@ -39,11 +36,11 @@ fn many_entries(rt: HostRuntime) -> Result<(), Fail> {
         table.add_entry(0xfedc_ba98_7654_3210)?;
     }
     let entry = [0x10, 0x32, 0x54, 0x76, 0x98, 0xba, 0xdc, 0xfe];
-    many(&rt, alloc, &table, b"XSDT", 1, &[], &entry, 256)?;
+    many(alloc, &table, b"XSDT", 1, &[], &entry, 256)?;
     for _ in 256..300u16 {
         table.add_entry(0xfedc_ba98_7654_3210)?;
     }
-    many(&rt, alloc, &table, b"XSDT", 1, &[], &entry, 300)
+    many(alloc, &table, b"XSDT", 1, &[], &entry, 300)
 }
 
 #[test]
@@ -51,14 +48,12 @@ fn mcfg(rt: HostRuntime) -> Result<(), Fail> {
     let alloc = rt.alloc();
     let mut table = MCFG::new(alloc, OEM, OEM_TABLE, OEM_REVISION);
     writes(
-        &rt,
         alloc,
         &table,
         b"MCFG\x2c\0\0\0\x01\x6aFOOBARCAFEDEAD\xef\xbe\xad\xdeRVAT\0\0\0\x01\0\0\0\0\0\0\0\0",
     )?;
     table.add_ecam(0x0807_0605_0403_0201, 0x0a09, 0x0b, 0x0c)?;
     writes(
-        &rt,
         alloc,
         &table,
         b"MCFG\x3c\0\0\0\x01\x0cFOOBARCAFEDEAD\xef\xbe\xad\xdeRVAT\0\0\0\x01\0\0\0\0\0\0\0\0\x01\x02\x03\x04\x05\x06\x07\x08\x09\x0a\x0b\x0c\0\0\0\0",
@@ -75,5 +70,5 @@ fn many_spaces(rt: HostRuntime) -> Result<(), Fail> {
     let entry = [
         0xff, 0xff, 0xff, 0xff, 0xff, 0xff, 0xff, 0xff, 0xff, 0xff, 0xff, 0xff, 0, 0, 0, 0,
     ];
-    many(&rt, alloc, &table, b"MCFG", 1, &[0; 8], &entry, 300)
+    many(alloc, &table, b"MCFG", 1, &[0; 8], &entry, 300)
 }

@@ -1,7 +1,5 @@
 //! MADT and its structures.
 
-use crate::broken::Broken;
-use crate::vectors::{OEM, OEM_REVISION, OEM_TABLE, writes};
 use acpi_base::error::{Error, R};
 use acpi_base::object::{Aml, u8sum};
 use acpi_base::sink::AmlSink;
@@ -9,6 +7,8 @@ use acpi_tables::madt::{
     APLIC, EnabledStatus, GicIts, GicMsi, GicVersion, Gicc, Gicd, Gicr, HartStatus, IMSIC, IoApic,
     LocalInterruptController, MADT, PLIC, ProcessorLocalApic, RINTC, Trigger,
 };
+use acpi_vectors::broken::Broken;
+use acpi_vectors::{OEM, OEM_REVISION, OEM_TABLE, writes};
 use std::alloc::Global;
 use std::process::Abort;
 use std::test::Fail;
@@ -23,33 +23,31 @@ fn tables(rt: HostRuntime) -> Result<(), Fail> {
     let riscv = table(alloc, LocalInterruptController::Riscv);
     let nothing =
         b"APIC\x2c\0\0\0\x01\x6aFOOBARCAFEDEAD\xef\xbe\xad\xdeRVAT\0\0\0\x01\0\0\0\0\0\0\0\0";
-    writes(&rt, alloc, &riscv, nothing)?;
+    writes(alloc, &riscv, nothing)?;
     let mut x86 = table(alloc, LocalInterruptController::Address(0xfee0_0000));
     x86.add_structure(ProcessorLocalApic::new(0, 0, EnabledStatus::Enabled))?;
     let one =
         b"APIC\x34\0\0\0\x01\x7bFOOBARCAFEDEAD\xef\xbe\xad\xdeRVAT\0\0\0\x01\0\0\xe0\xfe\0\0\0\0\0\x08\0\0\x01\0\0\0";
-    writes(&rt, alloc, &x86, one)
+    writes(alloc, &x86, one)
 }
 
 #[test]
 fn x86(rt: HostRuntime) -> Result<(), Fail> {
     let alloc = rt.alloc();
     let off = ProcessorLocalApic::new(1, 2, EnabledStatus::Disabled);
-    writes(&rt, alloc, &off, b"\0\x08\x01\x02\0\0\0\0")?;
+    writes(alloc, &off, b"\0\x08\x01\x02\0\0\0\0")?;
     let on = ProcessorLocalApic::new(0xff, 0xfe, EnabledStatus::Enabled);
-    writes(&rt, alloc, &on, b"\0\x08\xff\xfe\x01\0\0\0")?;
+    writes(alloc, &on, b"\0\x08\xff\xfe\x01\0\0\0")?;
     let later = ProcessorLocalApic::new(0, 0xff, EnabledStatus::DisabledOnlineCapable);
-    writes(&rt, alloc, &later, b"\0\x08\0\xff\x02\0\0\0")?;
+    writes(alloc, &later, b"\0\x08\0\xff\x02\0\0\0")?;
     let io = IoApic::new(1, 0x0504_0302, 0x0908_0706);
     writes(
-        &rt,
         alloc,
         &io,
         b"\x01\x0c\x01\0\x02\x03\x04\x05\x06\x07\x08\x09",
     )?;
     let last = IoApic::new(u8::MAX, u32::MAX, u32::MAX);
     writes(
-        &rt,
         alloc,
         &last,
         b"\x01\x0c\xff\0\xff\xff\xff\xff\xff\xff\xff\xff",
@@ -82,7 +80,7 @@ fn cpu_interfaces(rt: HostRuntime) -> Result<(), Fail> {
         0x73, 0x74, 0x75, 0x76, 0x77, 0x78, 0x81, 0x82, 0x83, 0x84, 0x85, 0x86, 0x87, 0x88, 0x91,
         0, 0xa1, 0xa2, 0xb1, 0xb2,
     ];
-    writes(&rt, alloc, &filled, &wanted)
+    writes(alloc, &filled, &wanted)
 }
 
 #[test]
@@ -91,25 +89,25 @@ fn cpu_interface_flags(rt: HostRuntime) -> Result<(), Fail> {
     let mut wanted = [0; 82];
     wanted[0] = 0x0b;
     wanted[1] = 0x52;
-    writes(&rt, alloc, &Gicc::new(EnabledStatus::Disabled), &wanted)?;
+    writes(alloc, &Gicc::new(EnabledStatus::Disabled), &wanted)?;
     wanted[12] = 0x01;
-    writes(&rt, alloc, &Gicc::new(EnabledStatus::Enabled), &wanted)?;
+    writes(alloc, &Gicc::new(EnabledStatus::Enabled), &wanted)?;
     let later = Gicc::new(EnabledStatus::DisabledOnlineCapable);
     wanted[12] = 0x08;
-    writes(&rt, alloc, &later, &wanted)?;
+    writes(alloc, &later, &wanted)?;
     let both = later
         .maintenance_interrupt(9, Trigger::Edge)
         .performance_interrupt(7, Trigger::Edge);
     wanted[12] = 0x0e;
     wanted[20] = 7;
     wanted[56] = 9;
-    writes(&rt, alloc, &both, &wanted)?;
+    writes(alloc, &both, &wanted)?;
     let levels = both
         .performance_interrupt(u32::MAX, Trigger::Level)
         .maintenance_interrupt(0, Trigger::Level);
     wanted[20..24].copy_from_slice(&[0xff; 4]);
     wanted[56] = 0;
-    writes(&rt, alloc, &levels, &wanted)
+    writes(alloc, &levels, &wanted)
 }
 
 #[test]
@@ -127,7 +125,7 @@ fn distributors(rt: HostRuntime) -> Result<(), Fail> {
     for (number, version) in [0, 1, 2, 3, 4].iter().zip(&versions) {
         wanted[20] = *number;
         let gicd = Gicd::new(0x0403_0201, 0x1817_1615_1413_1211, *version);
-        writes(&rt, alloc, &gicd, &wanted)?;
+        writes(alloc, &gicd, &wanted)?;
     }
     Ok(())
 }
@@ -137,14 +135,12 @@ fn message_frames(rt: HostRuntime) -> Result<(), Fail> {
     let alloc = rt.alloc();
     let first = GicMsi::new();
     writes(
-        &rt,
         alloc,
         &first,
         b"\x0d\x18\0\0\0\0\0\0\0\0\0\0\0\0\0\0\0\0\0\0\0\0\0\0",
     )?;
     let own = first.spi_count_and_base(2, 64);
     writes(
-        &rt,
         alloc,
         &own,
         b"\x0d\x18\0\0\0\0\0\0\0\0\0\0\0\0\0\0\x01\0\0\0\x02\0\x40\0",
@@ -154,7 +150,6 @@ fn message_frames(rt: HostRuntime) -> Result<(), Fail> {
         .base_addr(0x1817_1615_1413_1211)
         .spi_count_and_base(0x2221, 0x2423);
     writes(
-        &rt,
         alloc,
         &filled,
         b"\x0d\x18\0\0\x01\x02\x03\x04\x11\x12\x13\x14\x15\x16\x17\x18\x01\0\0\0\x21\x22\x23\x24",
@@ -166,21 +161,18 @@ fn redistributors_and_translation(rt: HostRuntime) -> Result<(), Fail> {
     let alloc = rt.alloc();
     let gicr = Gicr::new(0x1817_1615_1413_1211, 0x0403_0201);
     writes(
-        &rt,
         alloc,
         &gicr,
         b"\x0e\x10\0\0\x11\x12\x13\x14\x15\x16\x17\x18\x01\x02\x03\x04",
     )?;
     let its = GicIts::new(0x0403_0201, 0x1817_1615_1413_1211);
     writes(
-        &rt,
         alloc,
         &its,
         b"\x0f\x14\0\0\x01\x02\x03\x04\x11\x12\x13\x14\x15\x16\x17\x18\0\0\0\0",
     )?;
     let last = GicIts::new(u32::MAX, u64::MAX);
     writes(
-        &rt,
         alloc,
         &last,
         b"\x0f\x14\0\0\xff\xff\xff\xff\xff\xff\xff\xff\xff\xff\xff\xff\0\0\0\0",
@@ -208,7 +200,7 @@ fn harts(rt: HostRuntime) -> Result<(), Fail> {
             0x4847_4645_4443_4241,
             0x5453_5251,
         );
-        writes(&rt, alloc, &rintc, &wanted)?;
+        writes(alloc, &rintc, &wanted)?;
     }
     Ok(())
 }
@@ -225,10 +217,9 @@ fn controllers_of_harts(rt: HostRuntime) -> Result<(), Fail> {
     assert_eq!(rt; IMSIC::len(), 16);
     assert_eq!(rt; APLIC::len(), 36);
     assert_eq!(rt; PLIC::len(), 36);
-    writes(&rt, alloc, &imsic(), &IMSIC_BYTES)?;
+    writes(alloc, &imsic(), &IMSIC_BYTES)?;
     let last = IMSIC::new(u16::MAX, u16::MAX, u8::MAX, u8::MAX, u8::MAX, u8::MAX);
     writes(
-        &rt,
         alloc,
         &last,
         b"\x19\x10\x01\0\0\0\0\0\xff\xff\xff\xff\xff\xff\xff\xff",
@@ -243,7 +234,6 @@ fn controllers_of_harts(rt: HostRuntime) -> Result<(), Fail> {
         0x5251,
     );
     writes(
-        &rt,
         alloc,
         &aplic,
         b"\x1a\x24\x01\x01\0\0\0\0RSCV0002\x11\x12\x51\x52\x21\x22\x23\x24\x31\x32\x33\x34\x35\x36\x37\x38\x41\x42\x43\x44",
@@ -258,7 +248,6 @@ fn controllers_of_harts(rt: HostRuntime) -> Result<(), Fail> {
         0x4443_4241,
     );
     writes(
-        &rt,
         alloc,
         &plic,
         b"\x1b\x24\x01\x02RSCV0001\x11\x12\x13\x14\0\0\0\0\x21\x22\x23\x24\x31\x32\x33\x34\x35\x36\x37\x38\x41\x42\x43\x44",
@@ -275,20 +264,13 @@ fn head(size: u8, checksum: u8) -> [u8; 44] {
 }
 
 // A table of such controllers writes its header, with this length and checksum, and so many of them.
-fn holds<RT: Abort>(
-    rt: &RT,
-    alloc: Global,
-    madt: &MADT,
-    size: u8,
-    checksum: u8,
-    imsics: u8,
-) -> Result<(), Fail> {
+fn holds(alloc: Global, madt: &MADT, size: u8, checksum: u8, imsics: u8) -> Result<(), Fail> {
     let mut wanted = Vec::new(alloc);
     wanted.extend_from_slice(&head(size, checksum))?;
     for _ in 0..imsics {
         wanted.extend_from_slice(&IMSIC_BYTES)?;
     }
-    writes(rt, alloc, madt, &wanted)
+    writes(alloc, madt, &wanted)
 }
 
 #[test]
@@ -297,9 +279,9 @@ fn one_imsic(rt: HostRuntime) -> Result<(), Fail> {
     let mut madt = table(alloc, LocalInterruptController::Riscv);
     madt.add_structure(imsic())?;
     madt.add_imsic(imsic())?;
-    holds(&rt, alloc, &madt, 76, 0xae, 2)?;
+    holds(alloc, &madt, 76, 0xae, 2)?;
     assert_eq!(rt; madt.add_imsic(imsic()), Err(Error::ImsicSet));
-    holds(&rt, alloc, &madt, 76, 0xae, 2)
+    holds(alloc, &madt, 76, 0xae, 2)
 }
 
 #[test]
@@ -307,10 +289,10 @@ fn a_structure_that_refuses(rt: HostRuntime) -> Result<(), Fail> {
     let alloc = rt.alloc();
     let mut madt = table(alloc, LocalInterruptController::Riscv);
     assert_eq!(rt; madt.add_structure(Broken {}), Err(Error::Sink(9)));
-    holds(&rt, alloc, &madt, 44, 0x6a, 0)?;
+    holds(alloc, &madt, 44, 0x6a, 0)?;
     madt.add_imsic(imsic())?;
     assert_eq!(rt; madt.add_structure(Broken {}), Err(Error::Sink(9)));
-    holds(&rt, alloc, &madt, 60, 0x0c, 1)
+    holds(alloc, &madt, 60, 0x0c, 1)
 }
 
 // The sum of bytes modulo 256.
@@ -370,7 +352,7 @@ fn of_many<RT: Abort>(rt: &RT, alloc: Global, count: u16, size: u32) -> Result<(
     let wanted = plain(alloc, size, &structures)?;
     assert_eq!(rt; wanted.len(), size as usize);
     assert_eq!(rt; u8sum(&madt)?, 0);
-    writes(rt, alloc, &madt, &wanted)
+    writes(alloc, &madt, &wanted)
 }
 
 #[test]

@@ -1,12 +1,11 @@
 //! RHCT and its nodes.
 
-use crate::vectors::{OEM, OEM_REVISION, OEM_TABLE, many, writes};
 use acpi_base::error::Error;
 use acpi_tables::rhct::{
     CmoNode, HartInfoNode, IsaStringNode, MmuNode, RHCT, VirtualAddressScheme,
 };
+use acpi_vectors::{OEM, OEM_REVISION, OEM_TABLE, many, writes};
 use std::alloc::Global;
-use std::process::Abort;
 use std::test::Fail;
 
 fn table(alloc: Global) -> RHCT {
@@ -14,8 +13,7 @@ fn table(alloc: Global) -> RHCT {
 }
 
 // The table is the fixed fields with this number of nodes, and these nodes so many times.
-fn holds<RT: Abort>(
-    rt: &RT,
+fn holds(
     alloc: Global,
     table: &RHCT,
     number: [u8; 2],
@@ -25,7 +23,7 @@ fn holds<RT: Abort>(
     let mut fixed = *b"\0\0\0\0\x01\x02\x03\x04\x05\x06\x07\x08\0\0\0\0\x38\0\0\0";
     fixed[12] = number[0];
     fixed[13] = number[1];
-    many(rt, alloc, table, b"RHCT", 1, &fixed, nodes, times)
+    many(alloc, table, b"RHCT", 1, &fixed, nodes, times)
 }
 
 #[test]
@@ -33,17 +31,15 @@ fn rhct(rt: HostRuntime) -> Result<(), Fail> {
     let alloc = rt.alloc();
     let mut table = table(alloc);
     writes(
-        &rt,
         alloc,
         &table,
         b"RHCT\x38\0\0\0\x01\xeeFOOBARCAFEDEAD\xef\xbe\xad\xdeRVAT\0\0\0\x01\0\0\0\0\x01\x02\x03\x04\x05\x06\x07\x08\0\0\0\0\x38\0\0\0",
     )?;
     let string = table.add_isa_string("foobar")?;
     let node = b"\0\0\x10\0\x01\0\x07\0foobar\0\0";
-    holds(&rt, alloc, &table, [1, 0], node, 1)?;
+    holds(alloc, &table, [1, 0], node, 1)?;
     table.add_hart_info(HartInfoNode::new(alloc, 3, &string)?)?;
     writes(
-        &rt,
         alloc,
         &table,
         b"RHCT\x58\0\0\0\x01\xf0FOOBARCAFEDEAD\xef\xbe\xad\xdeRVAT\0\0\0\x01\0\0\0\0\x01\x02\x03\x04\x05\x06\x07\x08\x02\0\0\0\x38\0\0\0\0\0\x10\0\x01\0\x07\0foobar\0\0\xff\xff\x10\0\x01\0\x01\0\x03\0\0\0\x38\0\0\0",
@@ -72,32 +68,28 @@ fn handles(rt: HostRuntime) -> Result<(), Fail> {
 \x01\0\x0a\0\x01\0\0\x09\x0a\x0b\
 \xff\xff\x18\0\x01\0\x03\0\x01\x02\x03\x04\x58\0\0\0\x66\0\0\0\x46\0\0\0\
 \xff\xff\x14\0\x01\0\x02\0\xff\xff\xff\xff\x38\0\0\0\x46\0\0\0";
-    holds(&rt, alloc, &table, [7, 0], nodes, 1)
+    holds(alloc, &table, [7, 0], nodes, 1)
 }
 
 #[test]
 fn isa_strings(rt: HostRuntime) -> Result<(), Fail> {
     let alloc = rt.alloc();
     writes(
-        &rt,
         alloc,
         &IsaStringNode::new(""),
         b"\0\0\x0a\0\x01\0\x01\0\0\0",
     )?;
     writes(
-        &rt,
         alloc,
         &IsaStringNode::new("a"),
         b"\0\0\x0a\0\x01\0\x02\0a\0",
     )?;
     writes(
-        &rt,
         alloc,
         &IsaStringNode::new("rv64imafdc_zicbom"),
         b"\0\0\x1a\0\x01\0\x12\0rv64imafdc_zicbom\0",
     )?;
     writes(
-        &rt,
         alloc,
         &IsaStringNode::new("rv64imafdc_zicboz_"),
         b"\0\0\x1c\0\x01\0\x13\0rv64imafdc_zicboz_\0\0",
@@ -108,13 +100,11 @@ fn isa_strings(rt: HostRuntime) -> Result<(), Fail> {
 fn blocks_and_schemes(rt: HostRuntime) -> Result<(), Fail> {
     let alloc = rt.alloc();
     writes(
-        &rt,
         alloc,
         &CmoNode::new(1, 2, 3),
         b"\x01\0\x0a\0\x01\0\0\x01\x02\x03",
     )?;
     writes(
-        &rt,
         alloc,
         &CmoNode::new(255, 0, 254),
         b"\x01\0\x0a\0\x01\0\0\xff\0\xfe",
@@ -125,18 +115,13 @@ fn blocks_and_schemes(rt: HostRuntime) -> Result<(), Fail> {
         (VirtualAddressScheme::Sv57, 2),
     ];
     for (scheme, number) in all {
-        writes(
-            &rt,
-            alloc,
-            &MmuNode::new(scheme),
-            &[2, 0, 8, 0, 1, 0, 0, number],
-        )?;
+        writes(alloc, &MmuNode::new(scheme), &[2, 0, 8, 0, 1, 0, 0, number])?;
     }
     let mut table = table(alloc);
     table.add_mmu_node(VirtualAddressScheme::Sv39)?;
     table.add_mmu_node(VirtualAddressScheme::Sv57)?;
     let nodes = b"\x02\0\x08\0\x01\0\0\0\x02\0\x08\0\x01\0\0\x02";
-    holds(&rt, alloc, &table, [2, 0], nodes, 1)
+    holds(alloc, &table, [2, 0], nodes, 1)
 }
 
 #[test]
@@ -159,7 +144,7 @@ fn most_offsets(rt: HostRuntime) -> Result<(), Fail> {
     assert_eq!(rt; wanted.len(), 22 + 65532);
     assert!(rt; matches!(most.with_cmo(&blocks), Err(Error::FieldWidth)));
     table.add_hart_info(hart)?;
-    holds(&rt, alloc, &table, [3, 0], &wanted, 1)
+    holds(alloc, &table, [3, 0], &wanted, 1)
 }
 
 #[test]
@@ -174,11 +159,11 @@ fn many_nodes(rt: HostRuntime) -> Result<(), Fail> {
         schemes.add_mmu_node(VirtualAddressScheme::Sv57)?;
     }
     let node = b"\0\0\x0c\0\x01\0\x04\0abc\0";
-    holds(&rt, alloc, &strings, [0, 1], node, 256)?;
+    holds(alloc, &strings, [0, 1], node, 256)?;
     let node = b"\x01\0\x0a\0\x01\0\0\x01\x02\x03";
-    holds(&rt, alloc, &blocks, [0, 1], node, 256)?;
+    holds(alloc, &blocks, [0, 1], node, 256)?;
     let node = b"\x02\0\x08\0\x01\0\0\x02";
-    holds(&rt, alloc, &schemes, [0, 1], node, 256)
+    holds(alloc, &schemes, [0, 1], node, 256)
 }
 
 #[test]
@@ -191,5 +176,5 @@ fn many_harts(rt: HostRuntime) -> Result<(), Fail> {
         table.add_hart_info(HartInfoNode::new(alloc, 9, &string)?)?;
     }
     let node = b"\xff\xff\x10\0\x01\0\x01\0\x09\0\0\0\x38\0\0\0";
-    holds(&rt, alloc, &table, [0x2c, 1], node, 300)
+    holds(alloc, &table, [0x2c, 1], node, 300)
 }

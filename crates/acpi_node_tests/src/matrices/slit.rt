@@ -1,9 +1,9 @@
 //! SLIT.
 
-use crate::vectors::{OEM, OEM_REVISION, OEM_TABLE, many, writes};
 use acpi_tables::read::Table;
 use acpi_tables::slit::{SLIT, UNREACHABLE_LOCALITY};
 use acpi_tables::{Aml, Error, R, u8sum};
+use acpi_vectors::{OEM, OEM_REVISION, OEM_TABLE, many, writes};
 use std::alloc::Global;
 use std::test::Fail;
 
@@ -17,7 +17,6 @@ fn no_localities(rt: HostRuntime) -> Result<(), Fail> {
     let mut slit = table(alloc, 0)?;
     assert_eq!(&rt; slit.set_distance(0, 0, 20), Err(Error::Index));
     writes(
-        &rt,
         alloc,
         &slit,
         b"SLIT\x2c\0\0\0\x01\x4bFOOBARCAFEDEAD\xef\xbe\xad\xdeRVAT\0\0\0\x01\0\0\0\0\0\0\0\0",
@@ -31,16 +30,7 @@ fn one_locality(rt: HostRuntime) -> Result<(), Fail> {
     slit.set_distance(0, 0, 11)?;
     assert_eq!(&rt; slit.set_distance(1, 0, 20), Err(Error::Index));
     assert_eq!(&rt; slit.set_distance(0, 1, 20), Err(Error::Index));
-    many(
-        &rt,
-        alloc,
-        &slit,
-        b"SLIT",
-        1,
-        b"\x01\0\0\0\0\0\0\0",
-        b"\x0b",
-        1,
-    )
+    many(alloc, &slit, b"SLIT", 1, b"\x01\0\0\0\0\0\0\0", b"\x0b", 1)
 }
 
 #[test]
@@ -48,7 +38,6 @@ fn two_localities(rt: HostRuntime) -> Result<(), Fail> {
     let alloc = rt.alloc();
     let mut slit = table(alloc, 2)?;
     writes(
-        &rt,
         alloc,
         &slit,
         b"SLIT\x30\0\0\0\x01\x1dFOOBARCAFEDEAD\xef\xbe\xad\xdeRVAT\0\0\0\x01\x02\0\0\0\0\0\0\0\x0a\x0a\x0a\x0a",
@@ -56,13 +45,13 @@ fn two_localities(rt: HostRuntime) -> Result<(), Fail> {
     slit.set_distance(0, 0, 20)?;
     let changed =
         b"SLIT\x30\0\0\0\x01\x13FOOBARCAFEDEAD\xef\xbe\xad\xdeRVAT\0\0\0\x01\x02\0\0\0\0\0\0\0\x14\x0a\x0a\x0a";
-    writes(&rt, alloc, &slit, changed)?;
+    writes(alloc, &slit, changed)?;
     assert_eq!(&rt; slit.set_distance(0, 2, 20), Err(Error::Index));
     assert_eq!(&rt; slit.set_distance(2, 0, 20), Err(Error::Index));
     assert_eq!(&rt; slit.set_distance(2, 2, 20), Err(Error::Index));
     assert_eq!(&rt; slit.set_distance(0, usize::MAX, 20), Err(Error::Index));
     assert_eq!(&rt; slit.set_distance(usize::MAX, 1, 20), Err(Error::Index));
-    writes(&rt, alloc, &slit, changed)
+    writes(alloc, &slit, changed)
 }
 
 // Each distance stands at both places, and the last that was set holds.
@@ -79,7 +68,6 @@ fn three_localities(rt: HostRuntime) -> Result<(), Fail> {
     slit.set_distance(1, 1, 11)?;
     slit.set_distance(2, 2, 12)?;
     writes(
-        &rt,
         alloc,
         &slit,
         b"SLIT\x35\0\0\0\x01\xb8FOOBARCAFEDEAD\xef\xbe\xad\xdeRVAT\0\0\0\x01\x03\0\0\0\0\0\0\0\x0a\x15\x1f\x15\x0b\xff\x1f\xff\x0c",
@@ -101,7 +89,6 @@ fn many_localities(rt: HostRuntime) -> Result<(), Fail> {
     let alloc = rt.alloc();
     let mut slit = table(alloc, 300)?;
     many(
-        &rt,
         alloc,
         &slit,
         b"SLIT",

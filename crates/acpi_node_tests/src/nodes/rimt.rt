@@ -1,11 +1,11 @@
 //! RIMT and its devices.
 
-use crate::vectors::{OEM, OEM_REVISION, OEM_TABLE, many, writes};
 use acpi_base::error::{Error, R};
 use acpi_base::object::Aml;
 use acpi_tables::rimt::{
     IdMapping, InterruptWire, Iommu, IommuOffset, PciDevice, PcieRootComplex, Platform, RIMT,
 };
+use acpi_vectors::{OEM, OEM_REVISION, OEM_TABLE, many, writes};
 use std::alloc::Global;
 use std::process::Abort;
 use std::test::Fail;
@@ -94,7 +94,6 @@ fn first_offset(alloc: Global) -> R<IommuOffset> {
 fn empty(rt: HostRuntime) -> Result<(), Fail> {
     let alloc = rt.alloc();
     writes(
-        &rt,
         alloc,
         &table(alloc),
         b"RIMT\x30\0\0\0\x01\x17FOOBARCAFEDEAD\xef\xbe\xad\xdeRVAT\0\0\0\x01\0\0\0\0\x30\0\0\0\0\0\0\0",
@@ -111,7 +110,6 @@ fn a_root_complex(rt: HostRuntime) -> Result<(), Fail> {
     let mappings = two_mappings(alloc, offset)?;
     table.add_pcie_root_complex(PcieRootComplex::new(1, 1, true, true, Some(mappings)))?;
     writes(
-        &rt,
         alloc,
         &table,
         b"RIMT\xa8\0\0\0\x01\xf2FOOBARCAFEDEAD\xef\xbe\xad\xdeRVAT\0\0\0\x01\x02\0\0\0\x30\0\0\0\0\0\0\0\0\x01\x40\0\x01\0\0\0\0\0\0\0\0\0\0\0\x03\0\0\0\x05\0\x3f\x06\x0f\0\0\0\x04\0\x20\0\x01\0\0\0\x01\0\x01\0\x02\0\0\0\x02\0\x02\0\x03\0\0\0\x03\0\x03\0\x04\0\0\0\0\0\x04\0\x01\x01\x38\0\x01\0\x01\0\x03\0\0\0\x10\0\x02\0\x01\0\0\0\x02\0\0\0\x0a\0\0\0\x30\0\0\0\x03\0\0\0\x02\0\0\0\x03\0\0\0\x05\0\0\0\x30\0\0\0\x04\0\0\0",
@@ -128,7 +126,6 @@ fn a_platform_device(rt: HostRuntime) -> Result<(), Fail> {
     let name = String::from_str(alloc, "FULL.PATH.TO.DEVICE")?;
     table.add_platform(Platform::new(1, name, Some(mappings)))?;
     writes(
-        &rt,
         alloc,
         &table,
         b"RIMT\xb8\0\0\0\x01\xc3FOOBARCAFEDEAD\xef\xbe\xad\xdeRVAT\0\0\0\x01\x02\0\0\0\x30\0\0\0\0\0\0\0\0\x01\x40\0\x01\0\0\0\0\x10\0\0\0\0\0\0\x02\0\0\0\0\0\0\0\x0f\0\0\0\x04\0\x20\0\x01\0\0\0\x01\0\x01\0\x02\0\0\0\x02\0\x02\0\x03\0\0\0\x03\0\x03\0\x04\0\0\0\0\0\x04\0\x02\x01\x48\0\x01\0\0\0\x20\0\x02\0FULL.PATH.TO.DEVICE\0\x01\0\0\0\x02\0\0\0\x0a\0\0\0\x30\0\0\0\x03\0\0\0\x02\0\0\0\x03\0\0\0\x05\0\0\0\x30\0\0\0\x04\0\0\0",
@@ -139,32 +136,27 @@ fn a_platform_device(rt: HostRuntime) -> Result<(), Fail> {
 fn wires_and_mappings(rt: HostRuntime) -> Result<(), Fail> {
     let alloc = rt.alloc();
     writes(
-        &rt,
         alloc,
         &InterruptWire::new(u32::MAX, true, true, u16::MAX),
         b"\xff\xff\xff\xff\x03\0\xff\xff",
     )?;
     writes(
-        &rt,
         alloc,
         &InterruptWire::new(0, false, false, 0),
         b"\0\0\0\0\0\0\0\0",
     )?;
     writes(
-        &rt,
         alloc,
         &InterruptWire::new(0x0403_0201, true, false, 0x0605),
         b"\x01\x02\x03\x04\x01\0\x05\x06",
     )?;
     writes(
-        &rt,
         alloc,
         &InterruptWire::new(0x0403_0201, false, true, 0x0605),
         WIRE,
     )?;
     let offset = first_offset(alloc)?;
     writes(
-        &rt,
         alloc,
         &IdMapping::new(u32::MAX, u32::MAX, u32::MAX, offset, true, true, true),
         b"\xff\xff\xff\xff\xff\xff\xff\xff\xff\xff\xff\xff\x30\0\0\0\x07\0\0\0",
@@ -178,7 +170,6 @@ fn wires_and_mappings(rt: HostRuntime) -> Result<(), Fail> {
         let mut wanted = *b"\0\0\0\0\0\0\0\0\0\0\0\0\x30\0\0\0\0\0\0\0";
         wanted[16] = flags;
         writes(
-            &rt,
             alloc,
             &IdMapping::new(0, 0, 0, offset, ats, pri, rciep),
             &wanted,
@@ -190,14 +181,8 @@ fn wires_and_mappings(rt: HostRuntime) -> Result<(), Fail> {
 #[test]
 fn iommus(rt: HostRuntime) -> Result<(), Fail> {
     let alloc = rt.alloc();
+    writes(alloc, &Iommu::new(0, None, None, None, None), &PLAIN_IOMMU)?;
     writes(
-        &rt,
-        alloc,
-        &Iommu::new(0, None, None, None, None),
-        &PLAIN_IOMMU,
-    )?;
-    writes(
-        &rt,
         alloc,
         &Iommu::new(0, Some(0), None, None, Some(Vec::new(alloc))),
         &PLAIN_IOMMU,
@@ -206,21 +191,14 @@ fn iommus(rt: HostRuntime) -> Result<(), Fail> {
     wanted[16] = 1;
     let device = PciDevice::new(0, 0, 0, 0);
     writes(
-        &rt,
         alloc,
         &Iommu::new(0, None, Some(device), None, None),
         &wanted,
     )?;
     wanted[16] = 2;
-    writes(
-        &rt,
-        alloc,
-        &Iommu::new(0, None, None, Some(0), None),
-        &wanted,
-    )?;
+    writes(alloc, &Iommu::new(0, None, None, Some(0), None), &wanted)?;
     let device = PciDevice::new(u16::MAX, 0xff, 31, 7);
     writes(
-        &rt,
         alloc,
         &Iommu::new(
             u16::MAX,
@@ -233,7 +211,6 @@ fn iommus(rt: HostRuntime) -> Result<(), Fail> {
     )?;
     let device = PciDevice::new(0x1211, 0x13, 0x14, 5);
     writes(
-        &rt,
         alloc,
         &Iommu::new(
             0x0201,
@@ -258,9 +235,9 @@ fn root_complexes(rt: HostRuntime) -> Result<(), Fail> {
         let mut wanted = *b"\x01\x01\x10\0\x01\x02\x03\x04\0\0\0\0\x10\0\0\0";
         wanted[8] = flags;
         let plain = PcieRootComplex::new(0x0201, 0x0403, ats, pri, None);
-        writes(&rt, alloc, &plain, &wanted)?;
+        writes(alloc, &plain, &wanted)?;
         let empty = PcieRootComplex::new(0x0201, 0x0403, ats, pri, Some(Vec::new(alloc)));
-        writes(&rt, alloc, &empty, &wanted)?;
+        writes(alloc, &empty, &wanted)?;
     }
     let offset = first_offset(alloc)?;
     let full = PcieRootComplex::new(
@@ -271,7 +248,6 @@ fn root_complexes(rt: HostRuntime) -> Result<(), Fail> {
         Some(mappings(alloc, offset, 1)?),
     );
     writes(
-        &rt,
         alloc,
         &full,
         b"\x01\x01\x24\0\xff\xff\xff\xff\x03\0\0\0\x10\0\x01\0\x01\x02\x03\x04\x05\x06\x07\x08\x09\x0a\x0b\x0c\x30\0\0\0\x02\0\0\0",
@@ -282,20 +258,17 @@ fn root_complexes(rt: HostRuntime) -> Result<(), Fail> {
 fn platform_devices(rt: HostRuntime) -> Result<(), Fail> {
     let alloc = rt.alloc();
     writes(
-        &rt,
         alloc,
         &Platform::new(0x0201, String::new(alloc), None),
         b"\x02\x01\x0d\0\x01\x02\0\0\x0d\0\0\0\0",
     )?;
     writes(
-        &rt,
         alloc,
         &Platform::new(u16::MAX, text(alloc, 3)?, Some(Vec::new(alloc))),
         b"\x02\x01\x10\0\xff\xff\0\0\x10\0\0\0nnn\0",
     )?;
     let offset = first_offset(alloc)?;
     writes(
-        &rt,
         alloc,
         &Platform::new(0, text(alloc, 1)?, Some(mappings(alloc, offset, 1)?)),
         b"\x02\x01\x22\0\0\0\0\0\x0e\0\x01\0n\0\x01\x02\x03\x04\x05\x06\x07\x08\x09\x0a\x0b\x0c\x30\0\0\0\x02\0\0\0",
@@ -314,7 +287,6 @@ fn later_offsets(rt: HostRuntime) -> Result<(), Fail> {
         let mut wanted = [0; 20];
         wanted[12] = offset;
         writes(
-            &rt,
             alloc,
             &IdMapping::new(0, 0, 0, iommu, false, false, false),
             &wanted,
@@ -337,7 +309,7 @@ fn devices_past_a_byte(rt: HostRuntime) -> Result<(), Fail> {
         256,
     )?;
     assert_eq!(rt; wanted.len(), 8240);
-    writes(&rt, alloc, &table, &wanted)
+    writes(alloc, &table, &wanted)
 }
 
 // An object is refused by FieldWidth before it has given anything.
@@ -356,14 +328,14 @@ fn the_most_wires(rt: HostRuntime) -> Result<(), Fail> {
     let wanted = behind(alloc, &head, WIRE, 8187)?;
     assert_eq!(rt; wanted.len(), 65_528);
     let full = Iommu::new(0, None, None, None, Some(wires(alloc, 8187)?));
-    writes(&rt, alloc, &full, &wanted)?;
+    writes(alloc, &full, &wanted)?;
     let mut table = table(alloc);
     let _ = table.add_iommu(full)?;
-    many(&rt, alloc, &table, b"RIMT", 1, &ONE_DEVICE, &wanted, 1)?;
+    many(alloc, &table, b"RIMT", 1, &ONE_DEVICE, &wanted, 1)?;
     let more = Iommu::new(0, None, None, None, Some(wires(alloc, 8188)?));
     refused(&rt, alloc, &more);
     assert_eq!(rt; table.add_iommu(more).err(), Some(Error::FieldWidth));
-    many(&rt, alloc, &table, b"RIMT", 1, &ONE_DEVICE, &wanted, 1)
+    many(alloc, &table, b"RIMT", 1, &ONE_DEVICE, &wanted, 1)
 }
 
 #[test]
@@ -379,15 +351,15 @@ fn the_most_mappings(rt: HostRuntime) -> Result<(), Fail> {
     assert_eq!(rt; wanted.len(), 65_516);
     let given = mappings(alloc, offset, 3275)?;
     let full = PcieRootComplex::new(0x0201, 0x0403, false, false, Some(given));
-    writes(&rt, alloc, &full, &wanted)?;
+    writes(alloc, &full, &wanted)?;
     let mut table = table(alloc);
     table.add_pcie_root_complex(full)?;
-    many(&rt, alloc, &table, b"RIMT", 1, &ONE_DEVICE, &wanted, 1)?;
+    many(alloc, &table, b"RIMT", 1, &ONE_DEVICE, &wanted, 1)?;
     let given = mappings(alloc, offset, 3276)?;
     let more = PcieRootComplex::new(0x0201, 0x0403, false, false, Some(given));
     refused(&rt, alloc, &more);
     assert_eq!(rt; table.add_pcie_root_complex(more), Err(Error::FieldWidth));
-    many(&rt, alloc, &table, b"RIMT", 1, &ONE_DEVICE, &wanted, 1)
+    many(alloc, &table, b"RIMT", 1, &ONE_DEVICE, &wanted, 1)
 }
 
 #[test]
@@ -403,15 +375,15 @@ fn the_longest_platform_devices(rt: HostRuntime) -> Result<(), Fail> {
     assert_eq!(rt; wanted.len(), 65_535);
     let given = mappings(alloc, offset, 3276)?;
     let full = Platform::new(0x0201, text(alloc, 2)?, Some(given));
-    writes(&rt, alloc, &full, &wanted)?;
+    writes(alloc, &full, &wanted)?;
     let mut table = table(alloc);
     table.add_platform(full)?;
-    many(&rt, alloc, &table, b"RIMT", 1, &ONE_DEVICE, &wanted, 1)?;
+    many(alloc, &table, b"RIMT", 1, &ONE_DEVICE, &wanted, 1)?;
     let given = mappings(alloc, offset, 3276)?;
     let more = Platform::new(0x0201, text(alloc, 3)?, Some(given));
     refused(&rt, alloc, &more);
     assert_eq!(rt; table.add_platform(more), Err(Error::FieldWidth));
-    many(&rt, alloc, &table, b"RIMT", 1, &ONE_DEVICE, &wanted, 1)?;
+    many(alloc, &table, b"RIMT", 1, &ONE_DEVICE, &wanted, 1)?;
     let mut named = behind(
         alloc,
         b"\x02\x01\xff\xff\x01\x02\0\0\xff\xff\0\0",
@@ -420,7 +392,6 @@ fn the_longest_platform_devices(rt: HostRuntime) -> Result<(), Fail> {
     )?;
     named.push(0)?;
     writes(
-        &rt,
         alloc,
         &Platform::new(0x0201, text(alloc, 65_522)?, None),
         &named,

@@ -1,13 +1,12 @@
 //! HMAT and its structures.
 
-use crate::vectors::{OEM, OEM_REVISION, OEM_TABLE, many, writes};
 use acpi_tables::hmat::{
     Associativity, CacheLevel, DataType, HMAT, LocalityType, MemoryProximityDomain,
     MemorySideCache, MinTransferSize, SystemLocality, WritePolicy,
 };
 use acpi_tables::{Aml, Error, R};
+use acpi_vectors::{OEM, OEM_REVISION, OEM_TABLE, many, writes};
 use std::alloc::Global;
-use std::process::Abort;
 use std::test::Fail;
 
 fn table(alloc: Global) -> HMAT {
@@ -30,7 +29,6 @@ fn locality(alloc: Global, initiators: usize, targets: usize) -> R<SystemLocalit
 fn no_structures(rt: HostRuntime) -> Result<(), Fail> {
     let alloc = rt.alloc();
     writes(
-        &rt,
         alloc,
         &table(alloc),
         b"HMAT\x28\0\0\0\x01\x61FOOBARCAFEDEAD\xef\xbe\xad\xdeRVAT\0\0\0\x01\0\0\0\0",
@@ -43,12 +41,12 @@ fn proximities(rt: HostRuntime) -> Result<(), Fail> {
     let domain = MemoryProximityDomain::new(0x0403_0201, 0x1413_1211);
     let bytes =
         b"\0\0\0\0\x28\0\0\0\x01\0\0\0\x01\x02\x03\x04\x11\x12\x13\x14\0\0\0\0\0\0\0\0\0\0\0\0\0\0\0\0\0\0\0\0";
-    writes(&rt, alloc, &domain, bytes)?;
+    writes(alloc, &domain, bytes)?;
     let mut hmat = table(alloc);
     for _ in 0..300u16 {
         hmat.add_memory_proximity(domain)?;
     }
-    many(&rt, alloc, &hmat, b"HMAT", 1, &[0; 4], bytes, 300)
+    many(alloc, &hmat, b"HMAT", 1, &[0; 4], bytes, 300)
 }
 
 #[test]
@@ -56,7 +54,6 @@ fn three_by_two(rt: HostRuntime) -> Result<(), Fail> {
     let alloc = rt.alloc();
     let mut made = locality(alloc, 3, 2)?;
     writes(
-        &rt,
         alloc,
         &made,
         b"\x01\0\0\0\x40\0\0\0\x03\x05\x0b\0\x03\0\0\0\x02\0\0\0\0\0\0\0\x01\x02\x03\x04\x05\x06\x07\x08\0\0\0\0\0\0\0\0\0\0\0\0\0\0\0\0\0\0\0\0\xff\xff\xff\xff\xff\xff\xff\xff\xff\xff\xff\xff",
@@ -64,7 +61,7 @@ fn three_by_two(rt: HostRuntime) -> Result<(), Fail> {
     made.set_entry_value(2, 1, 10)?;
     let last =
         b"\x01\0\0\0\x40\0\0\0\x03\x05\x0b\0\x03\0\0\0\x02\0\0\0\0\0\0\0\x01\x02\x03\x04\x05\x06\x07\x08\0\0\0\0\0\0\0\0\0\0\0\0\0\0\0\0\0\0\0\0\xff\xff\xff\xff\xff\xff\xff\xff\xff\xff\x0a\0";
-    writes(&rt, alloc, &made, last)?;
+    writes(alloc, &made, last)?;
     assert_eq!(&rt; made.set_entry_value(0, 2, 1), Err(Error::Index));
     assert_eq!(&rt; made.set_entry_value(3, 0, 1), Err(Error::Index));
     assert_eq!(&rt;
@@ -75,7 +72,7 @@ fn three_by_two(rt: HostRuntime) -> Result<(), Fail> {
     assert_eq!(&rt; made.set_initiator_value(usize::MAX, 1), Err(Error::Index));
     assert_eq!(&rt; made.set_target_value(2, 1), Err(Error::Index));
     assert_eq!(&rt; made.set_target_value(usize::MAX, 1), Err(Error::Index));
-    writes(&rt, alloc, &made, last)?;
+    writes(alloc, &made, last)?;
     made.set_initiator_value(0, 0x2423_2221)?;
     made.set_initiator_value(1, 0x3433_3231)?;
     made.set_initiator_value(2, 0x4443_4241)?;
@@ -89,10 +86,10 @@ fn three_by_two(rt: HostRuntime) -> Result<(), Fail> {
     made.set_entry_value(2, 1, 0xc2c1)?;
     let full =
         b"\x01\0\0\0\x40\0\0\0\x03\x05\x0b\0\x03\0\0\0\x02\0\0\0\0\0\0\0\x01\x02\x03\x04\x05\x06\x07\x08!\x22#$1234ABCDQRSTabcd\x71\x72\x81\x82\x91\x92\xa1\xa2\xb1\xb2\xc1\xc2";
-    writes(&rt, alloc, &made, full)?;
+    writes(alloc, &made, full)?;
     let mut hmat = table(alloc);
     hmat.add_system_locality(made)?;
-    many(&rt, alloc, &hmat, b"HMAT", 1, &[0; 4], full, 1)
+    many(alloc, &hmat, b"HMAT", 1, &[0; 4], full, 1)
 }
 
 #[test]
@@ -105,7 +102,6 @@ fn rows_and_columns(rt: HostRuntime) -> Result<(), Fail> {
     assert_eq!(&rt; row.set_entry_value(1, 0, 1), Err(Error::Index));
     assert_eq!(&rt; row.set_initiator_value(1, 1), Err(Error::Index));
     writes(
-        &rt,
         alloc,
         &row,
         b"\x01\0\0\0\x36\0\0\0\x03\x05\x0b\0\x01\0\0\0\x03\0\0\0\0\0\0\0\x01\x02\x03\x04\x05\x06\x07\x08\0\0\0\0\0\0\0\0\0\0\0\0\x07\0\0\0\xff\xff\x01\x02\xff\xff",
@@ -117,7 +113,6 @@ fn rows_and_columns(rt: HostRuntime) -> Result<(), Fail> {
     assert_eq!(&rt; column.set_entry_value(0, 1, 1), Err(Error::Index));
     assert_eq!(&rt; column.set_target_value(1, 1), Err(Error::Index));
     writes(
-        &rt,
         alloc,
         &column,
         b"\x01\0\0\0\x36\0\0\0\x03\x05\x0b\0\x03\0\0\0\x01\0\0\0\0\0\0\0\x01\x02\x03\x04\x05\x06\x07\x08\0\0\0\0\0\0\0\0\x07\0\0\0\0\0\0\0\xff\xff\x01\x02\xff\xff",
@@ -132,7 +127,6 @@ fn without_initiators_or_targets(rt: HostRuntime) -> Result<(), Fail> {
     assert_eq!(&rt; none.set_initiator_value(0, 1), Err(Error::Index));
     assert_eq!(&rt; none.set_target_value(0, 1), Err(Error::Index));
     writes(
-        &rt,
         alloc,
         &none,
         b"\x01\0\0\0\x20\0\0\0\x03\x05\x0b\0\0\0\0\0\0\0\0\0\0\0\0\0\x01\x02\x03\x04\x05\x06\x07\x08",
@@ -141,7 +135,6 @@ fn without_initiators_or_targets(rt: HostRuntime) -> Result<(), Fail> {
     targets.set_target_value(1, 9)?;
     assert_eq!(&rt; targets.set_entry_value(0, 0, 1), Err(Error::Index));
     writes(
-        &rt,
         alloc,
         &targets,
         b"\x01\0\0\0\x28\0\0\0\x03\x05\x0b\0\0\0\0\0\x02\0\0\0\0\0\0\0\x01\x02\x03\x04\x05\x06\x07\x08\0\0\0\0\x09\0\0\0",
@@ -150,7 +143,6 @@ fn without_initiators_or_targets(rt: HostRuntime) -> Result<(), Fail> {
     initiators.set_initiator_value(1, 9)?;
     assert_eq!(&rt; initiators.set_entry_value(0, 0, 1), Err(Error::Index));
     writes(
-        &rt,
         alloc,
         &initiators,
         b"\x01\0\0\0\x28\0\0\0\x03\x05\x0b\0\x02\0\0\0\0\0\0\0\0\0\0\0\x01\x02\x03\x04\x05\x06\x07\x08\0\0\0\0\x09\0\0\0",
@@ -197,10 +189,10 @@ fn flagged(alloc: Global, kind: LocalityType) -> R<SystemLocality> {
     )
 }
 
-fn flags<RT: Abort>(rt: &RT, alloc: Global, made: &SystemLocality, number: u8) -> Result<(), Fail> {
+fn flags(alloc: Global, made: &SystemLocality, number: u8) -> Result<(), Fail> {
     let mut wanted = *b"\x01\0\0\0\x20\0\0\0\0\0\0\0\0\0\0\0\0\0\0\0\0\0\0\0\0\0\0\0\0\0\0\0";
     wanted[8] = number;
-    writes(rt, alloc, made, &wanted)
+    writes(alloc, made, &wanted)
 }
 
 #[test]
@@ -213,13 +205,13 @@ fn locality_types_and_flags(rt: HostRuntime) -> Result<(), Fail> {
         (flagged(alloc, LocalityType::ThirdLevelCache)?, 3),
     ];
     for (mut made, number) in all {
-        flags(&rt, alloc, &made, number)?;
+        flags(alloc, &made, number)?;
         made.non_sequential_transfers();
-        flags(&rt, alloc, &made, number | 0x20)?;
+        flags(alloc, &made, number | 0x20)?;
         made.minimum_transfer_size_required();
-        flags(&rt, alloc, &made, number | 0x30)?;
+        flags(alloc, &made, number | 0x30)?;
         made.non_sequential_transfers();
-        flags(&rt, alloc, &made, number | 0x30)?;
+        flags(alloc, &made, number | 0x30)?;
     }
     let all = [
         (flagged(alloc, LocalityType::Memory)?, 0x10u8),
@@ -229,7 +221,7 @@ fn locality_types_and_flags(rt: HostRuntime) -> Result<(), Fail> {
     ];
     for (mut made, number) in all {
         made.minimum_transfer_size_required();
-        flags(&rt, alloc, &made, number)?;
+        flags(alloc, &made, number)?;
     }
     Ok(())
 }
@@ -258,7 +250,7 @@ fn data_types(rt: HostRuntime) -> Result<(), Fail> {
         let mut wanted =
             *b"\x01\0\0\0\x20\0\0\0\0\0\x01\0\0\0\0\0\0\0\0\0\0\0\0\0\x01\0\0\0\0\0\0\0";
         wanted[9] = number;
-        writes(&rt, alloc, &made, &wanted)?;
+        writes(alloc, &made, &wanted)?;
     }
     Ok(())
 }
@@ -293,7 +285,7 @@ fn transfer_sizes(rt: HostRuntime) -> Result<(), Fail> {
         let mut wanted =
             *b"\x01\0\0\0\x20\0\0\0\x01\x01\0\0\0\0\0\0\0\0\0\0\0\0\0\0\0\0\0\0\0\0\0\0";
         wanted[10] = number;
-        writes(&rt, alloc, &made, &wanted)?;
+        writes(alloc, &made, &wanted)?;
     }
     Ok(())
 }
@@ -312,7 +304,6 @@ fn side_caches(rt: HostRuntime) -> Result<(), Fail> {
         64,
     );
     writes(
-        &rt,
         alloc,
         &cache,
         b"\x02\0\0\0\x20\0\0\0\x78\x56\x34\x12\0\0\0\0\x78\x56\x34\x12\xef\xcd\xab\x90\x23\x11\x40\0\0\0\0\0",
@@ -321,21 +312,16 @@ fn side_caches(rt: HostRuntime) -> Result<(), Fail> {
     cache.add_smbios_handle(0x0403)?;
     let two =
         b"\x02\0\0\0\x24\0\0\0\x78\x56\x34\x12\0\0\0\0\x78\x56\x34\x12\xef\xcd\xab\x90\x23\x11\x40\0\0\0\x02\0\x01\x02\x03\x04";
-    writes(&rt, alloc, &cache, two)?;
+    writes(alloc, &cache, two)?;
     let mut hmat = table(alloc);
     hmat.add_memory_side_cache(cache)?;
-    many(&rt, alloc, &hmat, b"HMAT", 1, &[0; 4], two, 1)
+    many(alloc, &hmat, b"HMAT", 1, &[0; 4], two, 1)
 }
 
-fn attributes<RT: Abort>(
-    rt: &RT,
-    alloc: Global,
-    cache: MemorySideCache,
-    wanted: [u8; 4],
-) -> Result<(), Fail> {
+fn attributes(alloc: Global, cache: MemorySideCache, wanted: [u8; 4]) -> Result<(), Fail> {
     let mut bytes = *b"\x02\0\0\0\x20\0\0\0\0\0\0\0\0\0\0\0\0\0\0\0\0\0\0\0\0\0\0\0\0\0\0\0";
     bytes[24..28].copy_from_slice(&wanted);
-    writes(rt, alloc, &cache, &bytes)
+    writes(alloc, &cache, &bytes)
 }
 
 #[test]
@@ -377,7 +363,7 @@ fn cache_attributes(rt: HostRuntime) -> Result<(), Fail> {
     ];
     for (total, this, spread, policy, line, wanted) in all {
         let cache = MemorySideCache::new(alloc, 0, 0, total, this, spread, policy, line);
-        attributes(&rt, alloc, cache, wanted)?;
+        attributes(alloc, cache, wanted)?;
     }
     Ok(())
 }
@@ -404,12 +390,12 @@ fn most_handles(rt: HostRuntime) -> Result<(), Fail> {
         cache.add_smbios_handle(handle)?;
         wanted.extend_from_slice(&handle.to_le_bytes())?;
     }
-    writes(&rt, alloc, &cache, &wanted)?;
+    writes(alloc, &cache, &wanted)?;
     assert_eq!(&rt; cache.add_smbios_handle(7), Err(Error::FieldWidth));
-    writes(&rt, alloc, &cache, &wanted)?;
+    writes(alloc, &cache, &wanted)?;
     let mut hmat = table(alloc);
     hmat.add_memory_side_cache(cache)?;
-    many(&rt, alloc, &hmat, b"HMAT", 1, &[0; 4], &wanted, 1)
+    many(alloc, &hmat, b"HMAT", 1, &[0; 4], &wanted, 1)
 }
 
 #[test]
@@ -423,5 +409,5 @@ fn many_structures(rt: HostRuntime) -> Result<(), Fail> {
     }
     let one =
         b"\x01\0\0\0\x2a\0\0\0\x03\x05\x0b\0\x01\0\0\0\x01\0\0\0\0\0\0\0\x01\x02\x03\x04\x05\x06\x07\x08\0\0\0\0\0\0\0\0\x01\x02";
-    many(&rt, alloc, &hmat, b"HMAT", 1, &[0; 4], one, 256)
+    many(alloc, &hmat, b"HMAT", 1, &[0; 4], one, 256)
 }

@@ -1,10 +1,10 @@
 //! PPTT and its nodes.
 
-use crate::vectors::{OEM, OEM_REVISION, OEM_TABLE, many, writes};
 use acpi_base::error::Error;
 use acpi_tables::pptt::{
     AllocationType, CacheNode, CacheNodeBuilder, CacheType, PPTT, ProcessorNode, WritePolicy,
 };
+use acpi_vectors::{OEM, OEM_REVISION, OEM_TABLE, many, writes};
 use std::alloc::Global;
 use std::test::Fail;
 
@@ -13,7 +13,6 @@ fn pptt(rt: HostRuntime) -> Result<(), Fail> {
     let alloc = rt.alloc();
     let mut table = PPTT::new(alloc, OEM, OEM_TABLE, OEM_REVISION);
     writes(
-        &rt,
         alloc,
         &table,
         b"PPTT\x24\0\0\0\x03\x45FOOBARCAFEDEAD\xef\xbe\xad\xdeRVAT\0\0\0\x01",
@@ -21,13 +20,12 @@ fn pptt(rt: HostRuntime) -> Result<(), Fail> {
     let builder = CacheNodeBuilder::default();
     let cache = table.add_cache(builder.size(0x8000).line_size(64).to_node())?;
     let structure = b"\x01\x1c\0\0\x41\0\0\0\0\0\0\0\0\x80\0\0\0\0\0\0\0\0\x40\0\0\0\0\0";
-    many(&rt, alloc, &table, b"PPTT", 3, &[], structure, 1)?;
+    many(alloc, &table, b"PPTT", 3, &[], structure, 1)?;
     let node = ProcessorNode::new(alloc, None, 5)
         .valid()
         .add_cache(&cache)?;
     table.add_processor(node)?;
     writes(
-        &rt,
         alloc,
         &table,
         b"PPTT\x58\0\0\0\x03\xafFOOBARCAFEDEAD\xef\xbe\xad\xdeRVAT\0\0\0\x01\x01\x1c\0\0\x41\0\0\0\0\0\0\0\0\x80\0\0\0\0\0\0\0\0\x40\0\0\0\0\0\0\x18\0\0\x02\0\0\0\0\0\0\0\x05\0\0\0\x01\0\0\0\x24\0\0\0",
@@ -60,7 +58,7 @@ fn handles(rt: HostRuntime) -> Result<(), Fail> {
 \x01\x1c\0\0\x10\0\0\0\x24\0\0\0\0\0\0\0\0\0\0\0\0\x04\0\0\0\0\0\0\
 \0\x1c\0\0\x0a\0\0\0\x40\0\0\0\x07\0\0\0\x02\0\0\0\x58\0\0\0\x24\0\0\0\
 \0\x14\0\0\x04\0\0\0\x74\0\0\0\x08\0\0\0\0\0\0\0";
-    many(&rt, alloc, &table, b"PPTT", 3, &[], nodes, 1)
+    many(alloc, &table, b"PPTT", 3, &[], nodes, 1)
 }
 
 fn processor(alloc: Global) -> ProcessorNode {
@@ -71,7 +69,7 @@ fn processor(alloc: Global) -> ProcessorNode {
 fn processors(rt: HostRuntime) -> Result<(), Fail> {
     let alloc = rt.alloc();
     let mut wanted = *b"\0\x14\0\0\0\0\0\0\0\0\0\0\x01\x02\x03\x04\0\0\0\0";
-    writes(&rt, alloc, &processor(alloc), &wanted)?;
+    writes(alloc, &processor(alloc), &wanted)?;
     let flagged = [
         (processor(alloc).physical(), 1),
         (processor(alloc).valid(), 2),
@@ -91,7 +89,7 @@ fn processors(rt: HostRuntime) -> Result<(), Fail> {
     ];
     for (node, flags) in flagged {
         wanted[4] = flags;
-        writes(&rt, alloc, &node, &wanted)?;
+        writes(alloc, &node, &wanted)?;
     }
     let mut node = processor(alloc).valid();
     assert_eq!(rt; node.flags, 2);
@@ -101,7 +99,6 @@ fn processors(rt: HostRuntime) -> Result<(), Fail> {
     node.parent = 0x2423_2221;
     node.acpi_processor_id = u32::MAX;
     writes(
-        &rt,
         alloc,
         &node,
         b"\0\x14\0\0\x11\x12\x13\x14\x21\x22\x23\x24\xff\xff\xff\xff\0\0\0\0",
@@ -126,14 +123,14 @@ fn most_caches(rt: HostRuntime) -> Result<(), Fail> {
     for n in 0..58usize {
         wanted[20 + 4 * n] = 0x24;
     }
-    writes(&rt, alloc, &most, &wanted)?;
+    writes(alloc, &most, &wanted)?;
     assert!(rt; matches!(most.add_cache(&cache), Err(Error::FieldWidth)));
     table.add_processor(node.add_cache(&cache)?)?;
     let mut nodes = [0; 280];
     nodes[0] = 1;
     nodes[1] = 28;
     nodes[28..].copy_from_slice(&wanted);
-    many(&rt, alloc, &table, b"PPTT", 3, &[], &nodes, 1)
+    many(alloc, &table, b"PPTT", 3, &[], &nodes, 1)
 }
 
 #[test]
@@ -196,7 +193,7 @@ fn caches(rt: HostRuntime) -> Result<(), Fail> {
         ),
     ];
     for (builder, wanted) in all {
-        writes(&rt, alloc, &builder.to_node(), wanted)?;
+        writes(alloc, &builder.to_node(), wanted)?;
     }
     Ok(())
 }
@@ -263,7 +260,7 @@ fn attributes(rt: HostRuntime) -> Result<(), Fail> {
         wanted[1] = 28;
         wanted[4] = flags;
         wanted[21] = attributes;
-        writes(&rt, alloc, &builder.to_node(), &wanted)?;
+        writes(alloc, &builder.to_node(), &wanted)?;
     }
     assert!(rt; AllocationType::Write != AllocationType::Both);
     assert!(rt; CacheType::Unified == CacheType::Unified);
@@ -279,7 +276,6 @@ fn many_nodes(rt: HostRuntime) -> Result<(), Fail> {
         table.add_processor(processor(alloc).leaf())?;
     }
     many(
-        &rt,
         alloc,
         &table,
         b"PPTT",
@@ -294,7 +290,6 @@ fn many_nodes(rt: HostRuntime) -> Result<(), Fail> {
         table.add_cache(node)?;
     }
     many(
-        &rt,
         alloc,
         &table,
         b"PPTT",

@@ -1,7 +1,5 @@
 //! Images of tables at their addresses.
 
-use crate::broken::Broken;
-use crate::vectors::{OEM, OEM_REVISION, OEM_TABLE, written};
 use acpi_tables::facs::FACS;
 use acpi_tables::fadt::FADTBuilder;
 use acpi_tables::layout::{Image, lay};
@@ -9,6 +7,8 @@ use acpi_tables::mcfg::MCFG;
 use acpi_tables::read::Table;
 use acpi_tables::sdt::Sdt;
 use acpi_tables::{Aml, Error, R};
+use acpi_vectors::broken::Broken;
+use acpi_vectors::{OEM, OEM_REVISION, OEM_TABLE, written};
 use std::alloc::Global;
 use std::process::Abort;
 use std::test::Fail;
@@ -206,7 +206,7 @@ fn follows(
     for i in 0..tables.len() {
         let address = number(entries[i + 1].bytes, 0, 8);
         let table = Table::check(table_at(rt, bytes, base, address))?;
-        assert_eq!(rt; table.bytes(), written(rt, tables[i])?.as_slice());
+        assert_eq!(rt; table.bytes(), written(rt.alloc(), tables[i])?.as_slice());
         table.pieces(alloc)?;
         gap(rt, bytes, base, end, address, 8);
         end = address.wrapping_add(table.bytes().len() as u64);

@@ -1,11 +1,11 @@
 //! VIOT and its nodes.
 
-use crate::vectors::{OEM, OEM_REVISION, OEM_TABLE, many, writes};
 use acpi_base::error::Error;
 use acpi_base::object::Aml;
 use acpi_tables::viot::{
     MmioEndpoint, PciDevice, PciRange, TranslationHandle, VIOT, VirtIoMmioIommu, VirtIoPciIommu,
 };
+use acpi_vectors::{OEM, OEM_REVISION, OEM_TABLE, many, writes};
 use std::alloc::Global;
 use std::test::Fail;
 
@@ -26,7 +26,6 @@ fn a_node_of_each_kind(rt: HostRuntime) -> Result<(), Fail> {
     let alloc = rt.alloc();
     let mut table = table(alloc);
     writes(
-        &rt,
         alloc,
         &table,
         b"VIOT\x30\0\0\0\x01\x11FOOBARCAFEDEAD\xef\xbe\xad\xdeRVAT\0\0\0\x01\0\0\x30\0\0\0\0\0\0\0\0\0",
@@ -38,7 +37,6 @@ fn a_node_of_each_kind(rt: HostRuntime) -> Result<(), Fail> {
     table.add_mmio_endpoint(MmioEndpoint::new(0x0403_0201, 0x2827_2625_2423_2221, &second))?;
     table.add_pci_range(range(&second))?;
     writes(
-        &rt,
         alloc,
         &table,
         b"VIOT\x98\0\0\0\x01\xc8FOOBARCAFEDEAD\xef\xbe\xad\xdeRVAT\0\0\0\x01\x05\0\x30\0\0\0\0\0\0\0\0\0\x03\0\x10\0\x01\x02\xf6\xfe\0\0\0\0\0\0\0\0\x01\0\x18\0\x25\x03\0\0\x01\x02\x07\x08\x25\x03\xff\xff\x30\0\0\0\0\0\0\0\x04\0\x10\0\0\0\0\0\x11\x12\x13\x14\x15\x16\x17\x18\x02\0\x18\0\x01\x02\x03\x04\x21\x22\x23\x24\x25\x26\x27\x28\x58\0\0\0\0\0\0\0\x01\0\x18\0\x25\x03\0\0\x01\x02\x07\x08\x25\x03\xff\xff\x58\0\0\0\0\0\0\0",
@@ -50,14 +48,12 @@ fn extreme_values(rt: HostRuntime) -> Result<(), Fail> {
     let alloc = rt.alloc();
     let low = PciDevice::new(0, 0, 0, 0);
     writes(
-        &rt,
         alloc,
         &VirtIoPciIommu::new(low),
         b"\x03\0\x10\0\0\0\0\0\0\0\0\0\0\0\0\0",
     )?;
     let high = PciDevice::new(0xffff, 0xff, 31, 7);
     writes(
-        &rt,
         alloc,
         &VirtIoPciIommu::new(high),
         b"\x03\0\x10\0\xff\xff\xff\xff\0\0\0\0\0\0\0\0",
@@ -66,24 +62,21 @@ fn extreme_values(rt: HostRuntime) -> Result<(), Fail> {
         let mut wanted = *b"\x03\0\x10\0\0\0\0\0\0\0\0\0\0\0\0\0";
         wanted[6] = low;
         let address = PciDevice::new(0, 0, device, function);
-        writes(&rt, alloc, &VirtIoPciIommu::new(address), &wanted)?;
+        writes(alloc, &VirtIoPciIommu::new(address), &wanted)?;
     }
-    writes(&rt, alloc, &VirtIoMmioIommu::new(0), &MMIO_IOMMU)?;
+    writes(alloc, &VirtIoMmioIommu::new(0), &MMIO_IOMMU)?;
     writes(
-        &rt,
         alloc,
         &VirtIoMmioIommu::new(u64::MAX),
         b"\x04\0\x10\0\0\0\0\0\xff\xff\xff\xff\xff\xff\xff\xff",
     )?;
     let handle = table(alloc).add_virtio_mmio_iommu(VirtIoMmioIommu::new(0))?;
     writes(
-        &rt,
         alloc,
         &MmioEndpoint::new(u32::MAX, u64::MAX, &handle),
         b"\x02\0\x18\0\xff\xff\xff\xff\xff\xff\xff\xff\xff\xff\xff\xff\x30\0\0\0\0\0\0\0",
     )?;
     writes(
-        &rt,
         alloc,
         &MmioEndpoint::new(0, 0, &handle),
         b"\x02\0\x18\0\0\0\0\0\0\0\0\0\0\0\0\0\x30\0\0\0\0\0\0\0",
@@ -91,13 +84,11 @@ fn extreme_values(rt: HostRuntime) -> Result<(), Fail> {
     let first = PciDevice::new(0xffff, 0xff, 31, 7);
     let all = PciRange::new(first, PciDevice::new(0, 0, 0, 0), &handle);
     writes(
-        &rt,
         alloc,
         &all,
         b"\x01\0\x18\0\xff\xff\0\0\xff\xff\0\0\xff\xff\0\0\x30\0\0\0\0\0\0\0",
     )?;
     writes(
-        &rt,
         alloc,
         &range(&handle),
         b"\x01\0\x18\0\x25\x03\0\0\x01\x02\x07\x08\x25\x03\xff\xff\x30\0\0\0\0\0\0\0",
@@ -119,7 +110,7 @@ fn nodes_past_a_byte(rt: HostRuntime) -> Result<(), Fail> {
         wanted.extend_from_slice(&MMIO_IOMMU)?;
     }
     assert_eq!(rt; wanted.len(), 4144);
-    writes(&rt, alloc, &table, &wanted)
+    writes(alloc, &table, &wanted)
 }
 
 #[test]
@@ -130,7 +121,7 @@ fn a_full_table(rt: HostRuntime) -> Result<(), Fail> {
     for i in 0..4092u16 {
         let handle = table.add_virtio_mmio_iommu(VirtIoMmioIommu::new(0))?;
         endpoint[16..18].copy_from_slice(&(48 + 16 * i).to_le_bytes());
-        writes(&rt, alloc, &MmioEndpoint::new(0, 0, &handle), &endpoint)?;
+        writes(alloc, &MmioEndpoint::new(0, 0, &handle), &endpoint)?;
     }
     let mut wanted = Vec::new(alloc);
     wanted.extend_from_slice(
@@ -140,7 +131,7 @@ fn a_full_table(rt: HostRuntime) -> Result<(), Fail> {
         wanted.extend_from_slice(&MMIO_IOMMU)?;
     }
     assert_eq!(rt; wanted.len(), 65_520);
-    writes(&rt, alloc, &table, &wanted)?;
+    writes(alloc, &table, &wanted)?;
     let refused = table.add_virtio_mmio_iommu(VirtIoMmioIommu::new(0));
     assert_eq!(rt; refused.err(), Some(Error::FieldWidth));
     let device = PciDevice::new(0, 0, 0, 0);
@@ -153,7 +144,7 @@ fn a_full_table(rt: HostRuntime) -> Result<(), Fail> {
         table.add_mmio_endpoint(MmioEndpoint::new(0, 0, &handle)),
         Err(Error::FieldWidth)
     );
-    writes(&rt, alloc, &table, &wanted)
+    writes(alloc, &table, &wanted)
 }
 
 // The table has 65,512 bytes: a node of 24 more would make it 65,536, and one of 16 makes it 65,528.
@@ -170,15 +161,14 @@ fn the_last_offset(rt: HostRuntime) -> Result<(), Fail> {
     fixed[2] = 0x30;
     fixed[12..28].copy_from_slice(&MMIO_IOMMU);
     fixed[..2].copy_from_slice(&[0xa8, 0x0a]);
-    many(&rt, alloc, &table, b"VIOT", 1, &fixed, endpoint, 2727)?;
+    many(alloc, &table, b"VIOT", 1, &fixed, endpoint, 2727)?;
     assert_eq!(rt;
         table.add_mmio_endpoint(MmioEndpoint::new(0, 0, &handle)),
         Err(Error::FieldWidth)
     );
-    many(&rt, alloc, &table, b"VIOT", 1, &fixed, endpoint, 2727)?;
+    many(alloc, &table, b"VIOT", 1, &fixed, endpoint, 2727)?;
     let last = table.add_virtio_mmio_iommu(VirtIoMmioIommu::new(0))?;
     writes(
-        &rt,
         alloc,
         &MmioEndpoint::new(0, 0, &last),
         b"\x02\0\x18\0\0\0\0\0\0\0\0\0\0\0\0\0\xe8\xff\0\0\0\0\0\0",
