@@ -7,3 +7,5 @@ mod layout;
 mod matrices;
 #[cfg(test)]
 mod nodes;
+#[cfg(test)]
+mod read_back;

@@ -8,4 +8,6 @@ mod hest;
 #[cfg(test)]
 mod lists;
 #[cfg(test)]
+mod read_back;
+#[cfg(test)]
 mod rqsc;

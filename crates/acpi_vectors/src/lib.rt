@@ -6,6 +6,7 @@ pub mod broken;
 use acpi_base::buffer::append;
 use acpi_base::error::R;
 use acpi_base::object::{Aml, u8sum};
+use acpi_read::table::Table;
 use std::alloc::Global;
 use std::test::Fail;
 
@@ -116,4 +117,24 @@ pub fn many(
     wanted.extend_from_slice(b"FOOBARCAFEDEAD\xef\xbe\xad\xdeRVAT\0\0\0\x01")?;
     wanted.extend_from_slice(&behind)?;
     writes(alloc, aml, &sealed(wanted))
+}
+
+/// A table is read back into these structures, which have this size each and stand side by side from an offset on.
+pub fn reads_back(
+    alloc: Global,
+    table: &dyn Aml,
+    start: usize,
+    size: usize,
+    structures: &[u8],
+) -> Result<(), Fail> {
+    let bytes = written(alloc, table)?;
+    let table = Table::check(&bytes)?;
+    let mut joined = Vec::new(alloc);
+    for piece in &table.pieces(alloc)? {
+        if piece.offset != joined.len().wrapping_add(start) || piece.bytes.len() != size {
+            return Err(Fail::from(Unlike::At(piece.offset)));
+        }
+        joined.extend_from_slice(piece.bytes)?;
+    }
+    compare(&joined, structures)
 }

@@ -1,0 +1,77 @@
+//! Tables of no structure, of one and of 256, read back into what was added.
+
+use acpi_base::buffer::append;
+use acpi_tables::hmat::{HMAT, MemoryProximityDomain};
+use acpi_tables::pptt::{CacheNode, CacheNodeBuilder, PPTT};
+use acpi_tables::rhct::{CmoNode, RHCT};
+use acpi_tables::rimt::{Iommu, RIMT};
+use acpi_tables::viot::{VIOT, VirtIoMmioIommu};
+use acpi_vectors::{OEM, OEM_REVISION, OEM_TABLE, reads_back};
+use std::alloc::Global;
+use std::test::Fail;
+
+fn cache(n: u16) -> CacheNode {
+    CacheNodeBuilder::default().id(u32::from(n)).to_node()
+}
+
+fn pptt_of(alloc: Global, count: u16) -> Result<(), Fail> {
+    let mut table = PPTT::new(alloc, OEM, OEM_TABLE, OEM_REVISION);
+    let mut added = Vec::new(alloc);
+    for n in 0..count {
+        append(&cache(n), &mut added)?;
+        table.add_cache(cache(n))?;
+    }
+    reads_back(alloc, &table, 36, 28, &added)
+}
+
+fn rhct_of(alloc: Global, count: u16) -> Result<(), Fail> {
+    let mut table = RHCT::new(alloc, OEM, OEM_TABLE, OEM_REVISION, 1);
+    let mut added = Vec::new(alloc);
+    for n in 0..count {
+        append(&CmoNode::new((n & 0xff) as u8, 2, 3), &mut added)?;
+        table.add_cmo(CmoNode::new((n & 0xff) as u8, 2, 3))?;
+    }
+    reads_back(alloc, &table, 56, 10, &added)
+}
+
+fn viot_of(alloc: Global, count: u16) -> Result<(), Fail> {
+    let mut table = VIOT::new(alloc, OEM, OEM_TABLE, OEM_REVISION);
+    let mut added = Vec::new(alloc);
+    for n in 0..count {
+        append(&VirtIoMmioIommu::new(u64::from(n)), &mut added)?;
+        table.add_virtio_mmio_iommu(VirtIoMmioIommu::new(u64::from(n)))?;
+    }
+    reads_back(alloc, &table, 48, 16, &added)
+}
+
+fn rimt_of(alloc: Global, count: u16) -> Result<(), Fail> {
+    let mut table = RIMT::new(alloc, OEM, OEM_TABLE, OEM_REVISION);
+    let mut added = Vec::new(alloc);
+    for n in 0..count {
+        append(&Iommu::new(n, None, None, None, None), &mut added)?;
+        table.add_iommu(Iommu::new(n, None, None, None, None))?;
+    }
+    reads_back(alloc, &table, 48, 32, &added)
+}
+
+fn hmat_of(alloc: Global, count: u16) -> Result<(), Fail> {
+    let mut table = HMAT::new(alloc, OEM, OEM_TABLE, OEM_REVISION);
+    let mut added = Vec::new(alloc);
+    for n in 0..count {
+        append(&MemoryProximityDomain::new(u32::from(n), 2), &mut added)?;
+        table.add_memory_proximity(MemoryProximityDomain::new(u32::from(n), 2))?;
+    }
+    reads_back(alloc, &table, 40, 40, &added)
+}
+
+#[test]
+fn each(rt: HostRuntime) -> Result<(), Fail> {
+    for count in [0, 1, 256] {
+        pptt_of(rt.alloc(), count)?;
+        rhct_of(rt.alloc(), count)?;
+        viot_of(rt.alloc(), count)?;
+        rimt_of(rt.alloc(), count)?;
+        hmat_of(rt.alloc(), count)?;
+    }
+    Ok(())
+}
