@@ -1,18 +1,16 @@
 -- Windows of memory and their targets.
-use Rattle.std.proofs.Common.{◌≡◌, ℕ, ◌+◌, ◌*◌, ◌≤◌, ◌<◌, ◌^◌, ◌%◌, ◌/◌, List, [], ◌∷◌, ◌++◌, Bool, true, false, refl, ap, sym, ◌∙◌, arith, length, length-append}
-use Rattle.std.specs.Prelude.{Result, OnOk, IfErr, None, ◌==◌}
-use Rattle.acpi_base.specs.Bytes.{le, field_at}
+use Rattle.std.proofs.Common.{◌≡◌, ℕ, ◌+◌, ◌*◌, ◌≤◌, ◌<◌, true, false, sym, ◌∙◌, arith, length}
+use Rattle.std.specs.Prelude.{None, ◌==◌}
 use Rattle.acpi_base.specs.Object.{whole}
 use Rattle.acpi_base.specs.Walk.{told_at, IsPiece}
 use Rattle.acpi_base.specs.declared.error.Error.TheVariants.{Targets}
 use Rattle.std.proofs.lemmas.Bool.{eqb-true}
 use Rattle.std.proofs.lemmas.Bool.Decides.{nat_tests}
 use Rattle.acpi_base.proofs.Objects.{is_provided, provided_front}
-use Rattle.acpi_base.proofs.Bytes.{carried_le}
 use Rattle.acpi_core.proofs.Parts.{word_told}
 use Rattle.acpi_lists.specs.declared.cedt.InterleaveWays.{InterleaveWays}
 use Rattle.acpi_lists.specs.declared.cedt.InterleaveWays.TheVariants.{Ways1, Ways2, Ways4, Ways8, Ways16, Ways3, Ways6, Ways12}
-use Rattle.acpi_lists.specs.Cedt.{Window, window_head, window_bytes, window_object, has_targets, ways_count, XorMaps, maps_head, maps_bytes}
+use Rattle.acpi_lists.specs.Cedt.{Window, window_bytes, window_object, has_targets, ways_count, XorMaps, maps_bytes}
 
 most_ways : (w : InterleaveWays) → ways_count w ≤ 16
 most_ways Ways1 = omega arith

@@ -1,6 +1,5 @@
 -- The CXL Early Discovery Table (CXL 3.0, 9.17.1, in this project's profile).
-use Rattle.std.specs.Prelude.{◌≡◌, ◌≢◌, ℕ, ◌+◌, ◌*◌, ◌^◌, ◌==◌, Bool, true, false, List, [], ◌∷◌, ◌++◌, length, codes, if◌then◌else◌, Option, Some, None}
-use Rattle.acpi_base.specs.declared.error.Error.{Error}
+use Rattle.std.specs.Prelude.{◌≢◌, ℕ, ◌+◌, ◌*◌, ◌^◌, ◌==◌, Bool, List, [], ◌∷◌, ◌++◌, length, codes, Some}
 use Rattle.acpi_base.specs.declared.error.Error.TheVariants.{Memory, Targets}
 use Rattle.acpi_base.specs.Layout.{byte, word, dword, qword, zeros, record_of}
 use Rattle.acpi_base.specs.Object.{Object, whole, provided, provided_ends_well}

@@ -1,6 +1,5 @@
 -- The System Resource Affinity Table (ACPI 6.5, 5.2.16).
-use Rattle.std.specs.Prelude.{◌≢◌, ℕ, ◌+◌, ◌*◌, ◌^◌, ◌&&◌, nat_lt, Bool, true, false, List, [], ◌∷◌, codes, Some}
-use Rattle.acpi_base.specs.declared.error.Error.{Error}
+use Rattle.std.specs.Prelude.{◌≢◌, ℕ, ◌+◌, ◌*◌, ◌^◌, ◌&&◌, nat_lt, Bool, true, List, [], ◌∷◌, codes, Some}
 use Rattle.acpi_base.specs.declared.error.Error.TheVariants.{Memory, PciAddress}
 use Rattle.acpi_base.specs.Layout.{byte, word, dword, qword, zeros, record_of}
 use Rattle.acpi_base.specs.Object.{Object, whole, provided, provided_ends_well}

@@ -1,7 +1,7 @@
 //! Tables that were cut, or whose bytes were replaced.
 
-use super::samples::{AER_DEVICE, COUNT, Sample, madt, nth, rhct};
-use super::{mend, mend_sum, refusal, table};
+use super::samples::{COUNT, Sample, nth};
+use super::{mend, mend_sum, refusal};
 use acpi_read::table::Table;
 use acpi_term::read_error::ReadError;
 use std::process::Abort;
@@ -108,18 +108,14 @@ fn replaces(
     }
 }
 
-// Each byte of small tables by each other value: a length of one byte, one of two, and sizes by type.
+// Each byte of a small table of each signature by each other value.
 #[test]
 fn replacements(rt: HostRuntime) -> Result<(), Fail> {
-    let tables = [
-        madt().bytes(&rt)?,
-        rhct().bytes(&rt)?,
-        table(&rt, "HEST", 1, &[b"\x01\0\0\0", AER_DEVICE])?,
-    ];
-    for bytes in &tables {
+    for sample in 0..COUNT {
+        let bytes = nth(sample).bytes(&rt)?;
         for index in 0..bytes.len() {
             for value in 0..=255u8 {
-                replaces(&rt, bytes, index, value)?;
+                replaces(&rt, &bytes, index, value)?;
             }
         }
     }

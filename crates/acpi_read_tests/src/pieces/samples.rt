@@ -93,7 +93,7 @@ pub fn mcfg() -> Sample {
 }
 
 /// An I/O APIC, a local APIC, and a structure of an unknown type that has no bytes beside its type and its length.
-pub fn madt() -> Sample {
+fn madt() -> Sample {
     Sample {
         signature: "APIC",
         revision: 1,
@@ -220,7 +220,7 @@ pub fn pptt() -> Sample {
 }
 
 /// An ISA string, a node of cache operations, and a hart that has both.
-pub fn rhct() -> Sample {
+fn rhct() -> Sample {
     Sample {
         signature: "RHCT",
         revision: 1,

@@ -1,4 +1,4 @@
-use Rattle.std.proofs.Common.{◌≡◌, ◌+◌, ◌*◌, ◌++◌, [], true, refl, ap, sym, ◌∙◌, arith, length, eq-eqb}
+use Rattle.std.proofs.Common.{◌≡◌, ◌*◌, ◌++◌, [], true, refl, ap, sym, ◌∙◌, arith, length, eq-eqb}
 use Rattle.acpi_base.specs.declared.error.Error.TheVariants.{Targets}
 use Rattle.acpi_base.specs.Object.{whole}
 use Rattle.acpi_base.proofs.Objects.{wrote_provided, refused_provided, refused_unprovided}

@@ -1,4 +1,4 @@
-use Rattle.std.proofs.Common.{◌≡◌, ◌∙◌, ap, sym, refl, arith, length}
+use Rattle.std.proofs.Common.{◌≡◌, ◌∙◌, ap, sym, arith, length}
 use Rattle.acpi_base.specs.Walk.{srat_walk}
 use Rattle.acpi_core.proofs.Kept.{keeps_bytes}
 use Rattle.acpi_lists.specs.Srat.{is_address, generic_initiator_bytes}
