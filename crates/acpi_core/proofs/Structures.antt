@@ -8,14 +8,14 @@ use Rattle.acpi_base.specs.Walk.{Sizes, IsPiece}
 use Rattle.acpi_base.proofs.Objects.{is_provided, provided_front}
 use Rattle.acpi_core.specs.Structure.{structure_of, fits_word}
 
-pub below : (n : ℕ) → n < 2 ^ 16 → nat_lt n (2 ^ 16) ≡ true
-below n small = grind (arith, nat_tests)
+pub fits_a_word : (n : ℕ) → n < 2 ^ 16 → nat_lt n (2 ^ 16) ≡ true
+fits_a_word n small = grind (arith, nat_tests)
 
-pub not_below : (n : ℕ) → 2 ^ 16 ≤ n → nat_lt n (2 ^ 16) ≡ false
-not_below n large = grind (arith, nat_tests)
+pub passes_a_word : (n : ℕ) → 2 ^ 16 ≤ n → nat_lt n (2 ^ 16) ≡ false
+passes_a_word n large = grind (arith, nat_tests)
 
-pub is_below : (n : ℕ) → nat_lt n (2 ^ 16) ≡ true → n < 2 ^ 16
-is_below n holds = grind (arith, nat_tests)
+pub is_within_a_word : (n : ℕ) → nat_lt n (2 ^ 16) ≡ true → n < 2 ^ 16
+is_within_a_word n holds = grind (arith, nat_tests)
 
 -- a structure that isn't refused is a piece where one that fits is
 pub structure_piece : (s : Sizes) (bytes : List ℕ) → (fits_word bytes ≡ true → IsPiece s bytes) → (structure_of bytes).end ≡ None → IsPiece s (structure_of bytes).front

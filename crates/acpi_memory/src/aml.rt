@@ -1,7 +1,6 @@
 //! Objects of AML, each as its bytes.
 
 use crate::trial::Grows;
-use crate::written::written;
 use acpi_tables::aml::{
     BufferData, BufferTerm, Device, Else, Field, FieldAccessType, FieldEntry, FieldLockRule,
     FieldUpdateRule, If, Interrupt, Method, MethodCall, Name, ONE, OpRegion, OpRegionSpace,
@@ -9,6 +8,7 @@ use acpi_tables::aml::{
     ZERO,
 };
 use acpi_tables::{Aml, R};
+use acpi_vectors::written;
 use std::alloc::Global;
 
 fn path(alloc: Global) -> R<Path> {

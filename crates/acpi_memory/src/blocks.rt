@@ -1,9 +1,9 @@
 //! Definition blocks.
 
-use crate::oem::{OEM_ID, OEM_REVISION, OEM_TABLE_ID};
 use crate::trial::Grows;
 use acpi_tables::sdt::{Sdt, append_object};
 use acpi_tables::{AmlSink, R};
+use acpi_vectors::{OEM, OEM_REVISION, OEM_TABLE};
 use std::alloc::Global;
 
 // As a sink a table keeps the beginning of what is refused, so each of these calls gives it all bytes at once.
@@ -11,7 +11,7 @@ impl Grows for Sdt {
     const WAYS: u8 = 8;
 
     fn empty(alloc: Global) -> R<Sdt> {
-        Sdt::new(alloc, *b"DSDT", 36, 2, OEM_ID, OEM_TABLE_ID, OEM_REVISION)
+        Sdt::new(alloc, *b"DSDT", 36, 2, OEM, OEM_TABLE, OEM_REVISION)
     }
 
     fn grow(&mut self, _alloc: Global, way: u8) -> R<()> {

@@ -1,12 +1,12 @@
 //! CEDT and its structures.
 
-use crate::oem::{OEM_ID, OEM_REVISION, OEM_TABLE_ID};
 use crate::trial::Grows;
 use acpi_tables::R;
 use acpi_tables::cedt::{
     CEDT, CxlFixedMemory, CxlHostBridge, CxlVersion, InterleaveArithmetic, InterleaveGranularity,
     InterleaveWays, PortAssociation, ProtocolType, XorInterleaveMath,
 };
+use acpi_vectors::{OEM, OEM_REVISION, OEM_TABLE};
 use std::alloc::Global;
 
 /// A window of two ways. It can't be written before it has both targets, so it is made whole by one call.
@@ -47,7 +47,7 @@ impl Grows for CEDT {
     const WAYS: u8 = 4;
 
     fn empty(alloc: Global) -> R<CEDT> {
-        Ok(CEDT::new(alloc, OEM_ID, OEM_TABLE_ID, OEM_REVISION))
+        Ok(CEDT::new(alloc, OEM, OEM_TABLE, OEM_REVISION))
     }
 
     fn grow(&mut self, alloc: Global, way: u8) -> R<()> {

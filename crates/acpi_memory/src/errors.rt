@@ -1,7 +1,6 @@
 //! HEST, its error data, and RQSC.
 
 use crate::fault::Fault;
-use crate::oem::{OEM_ID, OEM_REVISION, OEM_TABLE_ID};
 use crate::trial::{Grows, Trial};
 use acpi_tables::R;
 use acpi_tables::gas::{AccessSize, AddressSpace, GAS};
@@ -9,13 +8,14 @@ use acpi_tables::hest::{ErrorSeverity, GenericErrorData, HEST, PcieAerRootPort};
 use acpi_tables::rqsc::{
     ControllerType, QoSController, RQSC, ResourceID, ResourceStructure, ResourceType,
 };
+use acpi_vectors::{OEM, OEM_REVISION, OEM_TABLE};
 use std::alloc::Global;
 
 impl Grows for HEST {
     const WAYS: u8 = 1;
 
     fn empty(alloc: Global) -> R<HEST> {
-        Ok(HEST::new(alloc, OEM_ID, OEM_TABLE_ID, OEM_REVISION))
+        Ok(HEST::new(alloc, OEM, OEM_TABLE, OEM_REVISION))
     }
 
     fn grow(&mut self, _alloc: Global, _way: u8) -> R<()> {
@@ -74,7 +74,7 @@ impl Grows for RQSC {
     const WAYS: u8 = 1;
 
     fn empty(alloc: Global) -> R<RQSC> {
-        Ok(RQSC::new(alloc, OEM_ID, OEM_TABLE_ID, OEM_REVISION))
+        Ok(RQSC::new(alloc, OEM, OEM_TABLE, OEM_REVISION))
     }
 
     fn grow(&mut self, alloc: Global, _way: u8) -> R<()> {

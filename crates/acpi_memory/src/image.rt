@@ -1,7 +1,6 @@
 //! The image of a guest's tables.
 
 use crate::fault::Fault;
-use crate::oem::{OEM_ID, OEM_REVISION, OEM_TABLE_ID};
 use crate::trial::{Grows, Trial};
 use acpi_tables::facs::FACS;
 use acpi_tables::fadt::FADTBuilder;
@@ -9,6 +8,7 @@ use acpi_tables::layout::{Image, lay};
 use acpi_tables::mcfg::MCFG;
 use acpi_tables::sdt::Sdt;
 use acpi_tables::{Aml, R};
+use acpi_vectors::{OEM, OEM_REVISION, OEM_TABLE};
 use std::alloc::Global;
 
 fn mcfg(alloc: Global) -> R<MCFG> {
@@ -20,12 +20,12 @@ fn mcfg(alloc: Global) -> R<MCFG> {
 fn image(alloc: Global, block: &Sdt, table: &MCFG) -> R<Image> {
     lay(
         0x1000,
-        OEM_ID,
-        OEM_TABLE_ID,
+        OEM,
+        OEM_TABLE,
         OEM_REVISION,
         block,
         &FACS::new(),
-        FADTBuilder::new(OEM_ID, OEM_TABLE_ID, OEM_REVISION),
+        FADTBuilder::new(OEM, OEM_TABLE, OEM_REVISION),
         vec![in alloc; table as &dyn Aml]?,
     )
 }

@@ -1,19 +1,19 @@
 //! Tables of one list.
 
-use crate::oem::{OEM_ID, OEM_REVISION, OEM_TABLE_ID};
 use crate::trial::Grows;
 use acpi_tables::madt::{EnabledStatus, IMSIC, LocalInterruptController, MADT, ProcessorLocalApic};
 use acpi_tables::mcfg::MCFG;
 use acpi_tables::srat::{GenericInitiator, Handle, MemoryAffinity, RintcAffinity, SRAT};
 use acpi_tables::xsdt::XSDT;
 use acpi_tables::{Error, R};
+use acpi_vectors::{OEM, OEM_REVISION, OEM_TABLE};
 use std::alloc::Global;
 
 impl Grows for XSDT {
     const WAYS: u8 = 1;
 
     fn empty(alloc: Global) -> R<XSDT> {
-        Ok(XSDT::new(alloc, OEM_ID, OEM_TABLE_ID, OEM_REVISION))
+        Ok(XSDT::new(alloc, OEM, OEM_TABLE, OEM_REVISION))
     }
 
     fn grow(&mut self, _alloc: Global, _way: u8) -> R<()> {
@@ -25,7 +25,7 @@ impl Grows for MCFG {
     const WAYS: u8 = 1;
 
     fn empty(alloc: Global) -> R<MCFG> {
-        Ok(MCFG::new(alloc, OEM_ID, OEM_TABLE_ID, OEM_REVISION))
+        Ok(MCFG::new(alloc, OEM, OEM_TABLE, OEM_REVISION))
     }
 
     fn grow(&mut self, _alloc: Global, _way: u8) -> R<()> {
@@ -39,7 +39,7 @@ impl Grows for MADT {
 
     fn empty(alloc: Global) -> R<MADT> {
         let local = LocalInterruptController::Address(0xfee0_0000);
-        Ok(MADT::new(alloc, OEM_ID, OEM_TABLE_ID, OEM_REVISION, local))
+        Ok(MADT::new(alloc, OEM, OEM_TABLE, OEM_REVISION, local))
     }
 
     fn grow(&mut self, _alloc: Global, way: u8) -> R<()> {
@@ -57,7 +57,7 @@ impl Grows for SRAT {
     const WAYS: u8 = 3;
 
     fn empty(alloc: Global) -> R<SRAT> {
-        Ok(SRAT::new(alloc, OEM_ID, OEM_TABLE_ID, OEM_REVISION))
+        Ok(SRAT::new(alloc, OEM, OEM_TABLE, OEM_REVISION))
     }
 
     fn grow(&mut self, _alloc: Global, way: u8) -> R<()> {

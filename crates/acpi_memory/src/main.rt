@@ -11,15 +11,12 @@ mod image;
 mod lists;
 mod matrices;
 mod nodes;
-mod oem;
 mod operators;
 mod reading;
 mod trial;
-mod written;
 
 use crate::fault::Fault;
 use crate::trial::Trial;
-use crate::written::written;
 use acpi_tables::R;
 use acpi_tables::aml::PackageBuilder;
 use acpi_tables::cedt::{CEDT, XorInterleaveMath};
@@ -35,6 +32,7 @@ use acpi_tables::sdt::Sdt;
 use acpi_tables::srat::SRAT;
 use acpi_tables::viot::VIOT;
 use acpi_tables::xsdt::XSDT;
+use acpi_vectors::written;
 use std::alloc::Global;
 
 fn main(rt: HostRuntime) -> Result<(), Fault> {
@@ -47,7 +45,7 @@ fn main(rt: HostRuntime) -> Result<(), Fault> {
     image::images(&mut trial, rt.alloc())?;
     reading::bytecode(&mut trial, rt.alloc())?;
     reading::tables(&mut trial, rt.alloc())?;
-    println!(rt; "{} bytes, sum {}", trial.length(), trial.sum())?;
+    println!(rt; "{} bytes, sum {}", trial.tally.length, trial.tally.sum)?;
     Ok(())
 }
 

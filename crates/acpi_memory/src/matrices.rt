@@ -1,6 +1,5 @@
 //! HMAT, its structures, and SLIT.
 
-use crate::oem::{OEM_ID, OEM_REVISION, OEM_TABLE_ID};
 use crate::trial::Grows;
 use acpi_tables::R;
 use acpi_tables::hmat::{
@@ -8,6 +7,7 @@ use acpi_tables::hmat::{
     MemorySideCache, MinTransferSize, SystemLocality, WritePolicy,
 };
 use acpi_tables::slit::SLIT;
+use acpi_vectors::{OEM, OEM_REVISION, OEM_TABLE};
 use std::alloc::Global;
 
 pub fn latencies(alloc: Global) -> R<SystemLocality> {
@@ -17,7 +17,7 @@ pub fn latencies(alloc: Global) -> R<SystemLocality> {
 }
 
 pub fn distances(alloc: Global) -> R<SLIT> {
-    SLIT::new(alloc, OEM_ID, OEM_TABLE_ID, OEM_REVISION, 3)
+    SLIT::new(alloc, OEM, OEM_TABLE, OEM_REVISION, 3)
 }
 
 impl Grows for MemorySideCache {
@@ -44,7 +44,7 @@ impl Grows for HMAT {
     const WAYS: u8 = 3;
 
     fn empty(alloc: Global) -> R<HMAT> {
-        Ok(HMAT::new(alloc, OEM_ID, OEM_TABLE_ID, OEM_REVISION))
+        Ok(HMAT::new(alloc, OEM, OEM_TABLE, OEM_REVISION))
     }
 
     fn grow(&mut self, alloc: Global, way: u8) -> R<()> {

@@ -1,7 +1,6 @@
 //! Tables of nodes that name each other. A handle tells where its node begins in a table, so one of another table of the same
 //! kind serves as well.
 
-use crate::oem::{OEM_ID, OEM_REVISION, OEM_TABLE_ID};
 use crate::trial::Grows;
 use acpi_tables::R;
 use acpi_tables::pptt::{CacheHandle, CacheNodeBuilder, PPTT, ProcessorNode};
@@ -12,10 +11,11 @@ use acpi_tables::rimt::{
 use acpi_tables::viot::{
     MmioEndpoint, PciDevice, PciRange, TranslationHandle, VIOT, VirtIoMmioIommu, VirtIoPciIommu,
 };
+use acpi_vectors::{OEM, OEM_REVISION, OEM_TABLE};
 use std::alloc::Global;
 
 fn pptt(alloc: Global) -> PPTT {
-    PPTT::new(alloc, OEM_ID, OEM_TABLE_ID, OEM_REVISION)
+    PPTT::new(alloc, OEM, OEM_TABLE, OEM_REVISION)
 }
 
 fn cache(alloc: Global) -> R<CacheHandle> {
@@ -45,7 +45,7 @@ impl Grows for PPTT {
 }
 
 fn rhct(alloc: Global) -> RHCT {
-    RHCT::new(alloc, OEM_ID, OEM_TABLE_ID, OEM_REVISION, 1000)
+    RHCT::new(alloc, OEM, OEM_TABLE, OEM_REVISION, 1000)
 }
 
 fn hart_info(alloc: Global) -> R<HartInfoNode> {
@@ -73,7 +73,7 @@ impl Grows for RHCT {
 }
 
 fn viot(alloc: Global) -> VIOT {
-    VIOT::new(alloc, OEM_ID, OEM_TABLE_ID, OEM_REVISION)
+    VIOT::new(alloc, OEM, OEM_TABLE, OEM_REVISION)
 }
 
 fn translation(alloc: Global) -> R<TranslationHandle> {
@@ -104,7 +104,7 @@ impl Grows for VIOT {
 }
 
 fn rimt(alloc: Global) -> RIMT {
-    RIMT::new(alloc, OEM_ID, OEM_TABLE_ID, OEM_REVISION)
+    RIMT::new(alloc, OEM, OEM_TABLE, OEM_REVISION)
 }
 
 fn iommu(alloc: Global) -> R<Iommu> {

@@ -1,8 +1,8 @@
 //! Operators, one of each shape, as its bytes.
 
-use crate::written::written;
 use acpi_tables::R;
 use acpi_tables::aml::{Add, CreateField, Equal, Local, Mid, NotEqual, Path, Return, Store};
+use acpi_vectors::written;
 use std::alloc::Global;
 
 pub const SHAPES: u8 = 7;

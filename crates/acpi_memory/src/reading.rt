@@ -2,12 +2,12 @@
 
 use crate::fault::Fault;
 use crate::trial::{Grows, Trial};
-use crate::written::written;
 use acpi_tables::read::{
     Arities, NameString, Table, Term, report_header, report_table, report_terms, terms, terms_of,
 };
 use acpi_tables::xsdt::XSDT;
 use acpi_tables::{Aml, R};
+use acpi_vectors::written;
 use std::alloc::Global;
 
 // A device with an id and its resources (ACPI 6.5, chapter 20).

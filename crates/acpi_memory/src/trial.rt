@@ -1,5 +1,7 @@
 //! Calls that are made again where memory was refused.
 
+ghost use Rattle.std.specs.Prelude.{◌≡◌, OnOk};
+
 use crate::fault::Fault;
 use acpi_tables::aml::ZERO;
 use acpi_tables::{Aml, Error, R};
@@ -22,11 +24,26 @@ pub trait Grows: Sized {
     fn grow(&mut self, alloc: Global, way: u8) -> R<()>;
 }
 
+/// How many bytes all calls made, and their sum.
+#[derive(Drop)]
+pub struct Tally {
+    pub length: u64,
+    pub sum: u64,
+}
+
+impl Tally {
+    fn count(&mut self, bytes: &[u8]) {
+        self.length = self.length.wrapping_add(bytes.len() as u64);
+        for byte in bytes {
+            self.sum = self.sum.wrapping_add(u64::from(*byte));
+        }
+    }
+}
+
 /// What all calls made, and room for what an object writes before a call and after it.
 #[derive(Drop)]
 pub struct Trial {
-    length: u64,
-    sum: u64,
+    pub tally: Tally,
     before: Vec<u8>,
     after: Vec<u8>,
 }
@@ -40,7 +57,9 @@ fn room(alloc: Global) -> R<Vec<u8>> {
 }
 
 // Whether the bytes are the same.
-fn compare(before: &[u8], after: &[u8]) -> Result<(), Fault> {
+fn compare(before: &[u8], after: &[u8]) -> Result<(), Fault>
+    ensures { OnOk result (before.now ≡ after.now) }
+{
     if before == after {
         Ok(())
     } else {
@@ -51,29 +70,15 @@ fn compare(before: &[u8], after: &[u8]) -> Result<(), Fault> {
 impl Trial {
     pub fn new(alloc: Global) -> R<Trial> {
         Ok(Trial {
-            length: 0,
-            sum: 0,
+            tally: Tally { length: 0, sum: 0 },
             before: room(alloc)?,
             after: room(alloc)?,
         })
     }
 
-    /// How many bytes were made.
-    pub fn length(&self) -> u64 {
-        self.length
-    }
-
-    /// The sum of these bytes.
-    pub fn sum(&self) -> u64 {
-        self.sum
-    }
-
     /// Counts bytes that were made.
     pub fn count(&mut self, bytes: &[u8]) {
-        self.length = self.length.wrapping_add(bytes.len() as u64);
-        for byte in bytes {
-            self.sum = self.sum.wrapping_add(u64::from(*byte));
-        }
+        self.tally.count(bytes);
     }
 
     /// Makes a call that is lent an object. Where it wants memory, the object has to write the same bytes as before, and the
@@ -165,10 +170,7 @@ impl Trial {
     pub fn count_object<T: Aml>(&mut self, object: &T) -> Result<(), Fault> {
         self.before.clear();
         object.to_aml_bytes(&mut self.before)?;
-        self.length = self.length.wrapping_add(self.before.len() as u64);
-        for byte in &self.before {
-            self.sum = self.sum.wrapping_add(u64::from(*byte));
-        }
+        self.tally.count(&self.before);
         Ok(())
     }
 }

@@ -1,11 +1,14 @@
-//! Tests of nodes, matrices and images: bytes from outside, worked out by hand from the layouts and not by this code.
+//! Tests of tables of nodes, which name each other by offsets: bytes from outside, worked out by hand from the layouts and not by
+//! this code.
 #![tactic(auto)]
 
 #[cfg(test)]
-mod layout;
-#[cfg(test)]
-mod matrices;
-#[cfg(test)]
-mod nodes;
+mod pptt;
 #[cfg(test)]
 mod read_back;
+#[cfg(test)]
+mod rhct;
+#[cfg(test)]
+mod rimt;
+#[cfg(test)]
+mod viot;

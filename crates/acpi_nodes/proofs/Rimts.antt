@@ -5,7 +5,7 @@ use Rattle.std.specs.List.{flat_map}
 use Rattle.acpi_base.specs.Walk.{told_at, IsPiece}
 use Rattle.acpi_core.specs.Structure.{structure_of, fits_word}
 use Rattle.acpi_core.proofs.Parts.{word_told}
-use Rattle.acpi_core.proofs.Structures.{below, not_below, is_below, structure_piece}
+use Rattle.acpi_core.proofs.Structures.{fits_a_word, passes_a_word, is_within_a_word, structure_piece}
 use Rattle.acpi_nodes.specs.declared.rimt.InterruptWire.{InterruptWire}
 use Rattle.acpi_nodes.specs.declared.rimt.Iommu.{Iommu}
 use Rattle.acpi_nodes.specs.declared.rimt.IdMapping.{IdMapping}
@@ -36,36 +36,36 @@ platform_size p =
 pub iommu_piece : (i : Iommu) → (structure_of (iommu_bytes i)).end ≡ None → IsPiece (told_at 2 2) (structure_of (iommu_bytes i)).front
 iommu_piece i = structure_piece (told_at 2 2) (iommu_bytes i) (λ fits.
     let size = iommu_size i in
-    let few = is_below (length (iommu_bytes i)) fits in
+    let few = is_within_a_word (length (iommu_bytes i)) fits in
     (omega (arith, size), word_told (32 + 8 * length (entries_of i.wires)) (omega (arith, size, few)) ∙ sym size))
 
 pub root_complex_piece : (c : PcieRootComplex) → (structure_of (root_complex_bytes c)).end ≡ None → IsPiece (told_at 2 2) (structure_of (root_complex_bytes c)).front
 root_complex_piece c = structure_piece (told_at 2 2) (root_complex_bytes c) (λ fits.
     let size = root_complex_size c in
-    let few = is_below (length (root_complex_bytes c)) fits in
+    let few = is_within_a_word (length (root_complex_bytes c)) fits in
     (omega (arith, size), word_told (16 + 20 * length (entries_of c.mappings)) (omega (arith, size, few)) ∙ sym size))
 
 pub platform_piece : (p : Platform) → (structure_of (platform_bytes p)).end ≡ None → IsPiece (told_at 2 2) (structure_of (platform_bytes p)).front
 platform_piece p = structure_piece (told_at 2 2) (platform_bytes p) (λ fits.
     let size = platform_size p in
-    let few = is_below (length (platform_bytes p)) fits in
+    let few = is_within_a_word (length (platform_bytes p)) fits in
     (omega (arith, size), word_told (mappings_at p + 20 * length (entries_of p.mappings)) (omega (arith, size, few)) ∙ sym size))
 
 -- which numbers of entries fit
 pub few_wires : (i : Iommu) (n : ℕ) → n ≡ length (entries_of i.wires) → n ≤ 8187 → fits_word (iommu_bytes i) ≡ true
-few_wires i n is few = below (length (iommu_bytes i)) (omega (arith, iommu_size i, is, few))
+few_wires i n is few = fits_a_word (length (iommu_bytes i)) (omega (arith, iommu_size i, is, few))
 
 pub many_wires : (i : Iommu) (n : ℕ) → n ≡ length (entries_of i.wires) → 8187 < n → fits_word (iommu_bytes i) ≡ false
-many_wires i n is many = not_below (length (iommu_bytes i)) (omega (arith, iommu_size i, is, many))
+many_wires i n is many = passes_a_word (length (iommu_bytes i)) (omega (arith, iommu_size i, is, many))
 
 pub few_mappings : (c : PcieRootComplex) (n : ℕ) → n ≡ length (entries_of c.mappings) → n ≤ 3275 → fits_word (root_complex_bytes c) ≡ true
-few_mappings c n is few = below (length (root_complex_bytes c)) (omega (arith, root_complex_size c, is, few))
+few_mappings c n is few = fits_a_word (length (root_complex_bytes c)) (omega (arith, root_complex_size c, is, few))
 
 pub many_mappings : (c : PcieRootComplex) (n : ℕ) → n ≡ length (entries_of c.mappings) → 3275 < n → fits_word (root_complex_bytes c) ≡ false
-many_mappings c n is many = not_below (length (root_complex_bytes c)) (omega (arith, root_complex_size c, is, many))
+many_mappings c n is many = passes_a_word (length (root_complex_bytes c)) (omega (arith, root_complex_size c, is, many))
 
 pub short_platform : (p : Platform) (name n : ℕ) → name ≡ length (string_bytes p.name) → n ≡ length (entries_of p.mappings) → name + 20 * n ≤ 65522 → fits_word (platform_bytes p) ≡ true
-short_platform p name n named is few = below (length (platform_bytes p)) (omega (arith, platform_size p, named, is, few))
+short_platform p name n named is few = fits_a_word (length (platform_bytes p)) (omega (arith, platform_size p, named, is, few))
 
 pub long_platform : (p : Platform) (name n : ℕ) → name ≡ length (string_bytes p.name) → n ≡ length (entries_of p.mappings) → 65522 < name + 20 * n → fits_word (platform_bytes p) ≡ false
-long_platform p name n named is many = not_below (length (platform_bytes p)) (omega (arith, platform_size p, named, is, many))
+long_platform p name n named is many = passes_a_word (length (platform_bytes p)) (omega (arith, platform_size p, named, is, many))

@@ -5,8 +5,8 @@ use acpi_term::name_string::NameString;
 use acpi_term::op::Op;
 use acpi_term::spell::spell;
 use acpi_term::term::{Term, TermEntry};
+use acpi_vectors::equal;
 use std::alloc::Global;
-use std::process::Abort;
 use std::test::Fail;
 
 fn name(alloc: Global, text: &str) -> Result<NameString, Fail> {
@@ -146,17 +146,8 @@ fn thresholds(rt: HostRuntime) -> Result<(), Fail> {
                 let bare = vec![in alloc; framed(alloc, kind, 4, 0)?]?;
                 let own = content(alloc, kind, 4, &bare)?;
                 let terms = vec![in alloc; framed(alloc, kind, width, size.saturating_sub(own))?]?;
-                assert_eq!(&rt;
-                    content(alloc, kind, width, &terms)?,
-                    size,
-                    "of kind {kind}"
-                );
-                let told = tells(alloc, &terms, width)?;
-                assert_eq!(&rt;
-                    told,
-                    width != least,
-                    "{size} bytes, kind {kind}, width {width}"
-                );
+                equal(&content(alloc, kind, width, &terms)?, &size)?;
+                equal(&tells(alloc, &terms, width)?, &(width != least))?;
             }
         }
     }
@@ -169,8 +160,8 @@ fn large_frames(rt: HostRuntime) -> Result<(), Fail> {
     for (size, least) in [(1_048_572, 3), (1_048_573, 4)] {
         for width in least..=4 {
             let terms = vec![in alloc; framed(alloc, 5, width, size - 3)?]?;
-            assert_eq!(&rt; content(alloc, 5, width, &terms)?, size);
-            assert_eq!(&rt; tells(alloc, &terms, width)?, width != least);
+            equal(&content(alloc, 5, width, &terms)?, &size)?;
+            equal(&tells(alloc, &terms, width)?, &(width != least))?;
         }
     }
     Ok(())
@@ -255,23 +246,17 @@ fn parts(rt: HostRuntime) -> Result<(), Fail> {
     for kind in 0..PARTS {
         // 62 and 63 bytes, two of which stand round the padding.
         let size = spell(alloc, &vec![in alloc; part(alloc, kind)?]?)?.len();
-        is_counted(&rt, alloc, kind, 60usize.saturating_sub(size), 1)?;
-        is_counted(&rt, alloc, kind, 61usize.saturating_sub(size), 2)?;
+        is_counted(alloc, kind, 60usize.saturating_sub(size), 1)?;
+        is_counted(alloc, kind, 61usize.saturating_sub(size), 2)?;
     }
     Ok(())
 }
 
-fn is_counted(
-    rt: &impl Abort,
-    alloc: Global,
-    kind: u8,
-    padding: usize,
-    least: u8,
-) -> Result<(), Fail> {
+fn is_counted(alloc: Global, kind: u8, padding: usize, least: u8) -> Result<(), Fail> {
     for width in 1..=2 {
         let body = vec![in alloc; part(alloc, kind)?, text(alloc, padding)?]?;
         let terms = vec![in alloc; Term::Else { width, body }]?;
-        assert_eq!(rt; tells(alloc, &terms, width)?, width != least, "kind {kind}");
+        equal(&tells(alloc, &terms, width)?, &(width != least))?;
     }
     Ok(())
 }

@@ -8,25 +8,21 @@ use acpi_term::read_error::ReadError;
 use acpi_term::row::{field_length, frame, frame_length};
 use acpi_term::spell::spell;
 use acpi_term::term::{Term, TermEntry};
+use acpi_vectors::{equal, refuses, same};
 use std::alloc::Global;
 use std::test::Fail;
 
 fn name(alloc: Global, text: &str) -> Result<NameString, Fail> {
-    Ok(NameString::new(alloc, text).ok().ok_or("a name")?)
+    Ok(NameString::new(alloc, text)?)
 }
 
-/// Whether a term is spelled so.
-fn is_spelled(alloc: Global, term: Term, bytes: &[u8]) -> Result<bool, Fail> {
-    let mut terms = Vec::new(alloc);
-    terms.push(term)?;
-    let spelled = spell(alloc, &terms)?;
-    Ok(spelled.as_slice() == bytes)
+// A term is spelled so.
+fn is_spelled(alloc: Global, term: Term, bytes: &[u8]) -> Result<(), Fail> {
+    same(&spell(alloc, &vec![in alloc; term]?)?, bytes)
 }
 
-fn is_refused(alloc: Global, term: Term, error: Error) -> Result<bool, Fail> {
-    let mut terms = Vec::new(alloc);
-    terms.push(term)?;
-    Ok(spell(alloc, &terms).err() == Some(error))
+fn is_refused(alloc: Global, term: Term, error: Error) -> Result<(), Fail> {
+    refuses(spell(alloc, &vec![in alloc; term]?), error)
 }
 
 fn number(value: u64, width: u8) -> Term {
@@ -37,28 +33,16 @@ fn boxed(alloc: Global, value: u64, width: u8) -> Result<Box<Term>, Fail> {
     Ok(Box::new(alloc, number(value, width))?)
 }
 
-fn none(alloc: Global) -> Vec<Term> {
-    Vec::new(alloc)
-}
-
-fn one(alloc: Global, term: Term) -> Result<Vec<Term>, Fail> {
-    let mut terms = Vec::new(alloc);
-    terms.push(term)?;
-    Ok(terms)
-}
-
-/// The numbers 0 and 1, of the bytes 00 and 01.
+// The numbers 0 and 1, of the bytes 00 and 01.
 fn bits(alloc: Global) -> Result<Vec<Term>, Fail> {
-    let mut terms = one(alloc, number(0, 0))?;
-    terms.push(number(1, 0))?;
-    Ok(terms)
+    Ok(vec![in alloc; number(0, 0), number(1, 0)]?)
 }
 
 fn bare_name(alloc: Global, text: &str) -> Result<Term, Fail> {
     let name = name(alloc, text)?;
     Ok(Term::Call {
         name,
-        args: none(alloc),
+        args: Vec::new(alloc),
     })
 }
 
@@ -76,7 +60,7 @@ fn numbers(rt: HostRuntime) -> Result<(), Fail> {
         (u64::MAX, 8, &[0x0e, 255, 255, 255, 255, 255, 255, 255, 255]),
         (0, 8, &[0x0e, 0, 0, 0, 0, 0, 0, 0, 0]),
     ] {
-        assert!(rt; is_spelled(rt.alloc(), number(value, width), bytes)?);
+        is_spelled(rt.alloc(), number(value, width), bytes)?;
     }
     Ok(())
 }
@@ -91,54 +75,51 @@ fn numbers_past_their_widths(rt: HostRuntime) -> Result<(), Fail> {
         (0, 3),
         (0, 9),
     ] {
-        assert!(rt; is_refused(rt.alloc(), number(value, width), Error::FieldWidth)?);
+        is_refused(rt.alloc(), number(value, width), Error::FieldWidth)?;
     }
     Ok(())
 }
 
 #[test]
 fn locals_and_arguments(rt: HostRuntime) -> Result<(), Fail> {
+    let alloc = rt.alloc();
     for n in 0..8u8 {
-        assert!(rt; is_spelled(rt.alloc(), Term::Local(n), &[0x60 + n])?);
+        is_spelled(alloc, Term::Local(n), &[0x60 + n])?;
     }
     for n in 0..7u8 {
-        assert!(rt; is_spelled(rt.alloc(), Term::Arg(n), &[0x68 + n])?);
+        is_spelled(alloc, Term::Arg(n), &[0x68 + n])?;
     }
-    assert!(rt; is_refused(rt.alloc(), Term::Local(8), Error::LocalNumber)?);
-    assert!(rt; is_refused(rt.alloc(), Term::Arg(7), Error::ArgNumber)?);
-    Ok(())
+    is_refused(alloc, Term::Local(8), Error::LocalNumber)?;
+    is_refused(alloc, Term::Arg(7), Error::ArgNumber)
 }
 
 #[test]
 fn ones_and_texts(rt: HostRuntime) -> Result<(), Fail> {
-    assert!(rt; is_spelled(rt.alloc(), Term::Ones, &[0xff])?);
-    let text = String::from_str(rt.alloc(), "PNP0501")?;
-    assert!(rt; is_spelled(rt.alloc(), Term::Text(text), b"\x0dPNP0501\x00")?);
-    Ok(())
+    let alloc = rt.alloc();
+    is_spelled(alloc, Term::Ones, &[0xff])?;
+    let text = String::from_str(alloc, "PNP0501")?;
+    is_spelled(alloc, Term::Text(text), b"\x0dPNP0501\x00")
 }
 
 #[test]
 fn calls(rt: HostRuntime) -> Result<(), Fail> {
     let alloc = rt.alloc();
-    let mut args = one(alloc, number(1, 0))?;
-    args.push(number(5, 1))?;
+    let args = vec![in alloc; number(1, 0), number(5, 1)]?;
     let name = name(alloc, "MTHD")?;
-    assert!(rt; is_spelled(alloc, Term::Call { name, args }, b"MTHD\x01\x0a\x05")?);
-    Ok(())
+    is_spelled(alloc, Term::Call { name, args }, b"MTHD\x01\x0a\x05")
 }
 
 #[test]
 fn scopes(rt: HostRuntime) -> Result<(), Fail> {
     let alloc = rt.alloc();
     let name = name(alloc, "\\_SB_.COM1")?;
-    let body = none(alloc);
+    let body = Vec::new(alloc);
     let scope = Term::Scope {
         width: 1,
         name,
         body,
     };
-    assert!(rt; is_spelled(alloc, scope, b"\x10\x0b\x5c\x2e_SB_COM1")?);
-    Ok(())
+    is_spelled(alloc, scope, b"\x10\x0b\x5c\x2e_SB_COM1")
 }
 
 #[test]
@@ -151,8 +132,7 @@ fn devices(rt: HostRuntime) -> Result<(), Fail> {
         name,
         body,
     };
-    assert!(rt; is_spelled(alloc, device, b"\x5b\x82\x07COM1\x00\x01")?);
-    Ok(())
+    is_spelled(alloc, device, b"\x5b\x82\x07COM1\x00\x01")
 }
 
 #[test]
@@ -171,7 +151,7 @@ fn methods(rt: HostRuntime) -> Result<(), Fail> {
             serialized,
             body,
         };
-        assert!(rt; is_spelled(alloc, method, bytes)?);
+        is_spelled(alloc, method, bytes)?;
     }
     Ok(())
 }
@@ -192,7 +172,7 @@ fn power_resources(rt: HostRuntime) -> Result<(), Fail> {
             order,
             body,
         };
-        assert!(rt; is_spelled(alloc, power, bytes)?);
+        is_spelled(alloc, power, bytes)?;
     }
     Ok(())
 }
@@ -209,8 +189,7 @@ fn regions(rt: HostRuntime) -> Result<(), Fail> {
         offset,
         length,
     };
-    assert!(rt; is_spelled(alloc, region, b"\x5b\x80PRST\x01\x0b\xd8\x0c\x0a\x0c")?);
-    Ok(())
+    is_spelled(alloc, region, b"\x5b\x80PRST\x01\x0b\xd8\x0c\x0a\x0c")
 }
 
 #[test]
@@ -218,8 +197,7 @@ fn definitions(rt: HostRuntime) -> Result<(), Fail> {
     let alloc = rt.alloc();
     let name = name(alloc, "_UID")?;
     let value = boxed(alloc, 0, 0)?;
-    assert!(rt; is_spelled(alloc, Term::Name { name, value }, b"\x08_UID\x00")?);
-    Ok(())
+    is_spelled(alloc, Term::Name { name, value }, b"\x08_UID\x00")
 }
 
 #[test]
@@ -229,17 +207,16 @@ fn mutexes(rt: HostRuntime) -> Result<(), Fail> {
         name: name(alloc, "MLCK")?,
         level: 0x0b,
     };
-    assert!(rt; is_spelled(alloc, mutex, b"\x5b\x01MLCK\x0b")?);
+    is_spelled(alloc, mutex, b"\x5b\x01MLCK\x0b")?;
     let acquire = Term::Acquire {
         name: name(alloc, "MLCK")?,
         timeout: 0xfffe,
     };
-    assert!(rt; is_spelled(alloc, acquire, b"\x5b\x23MLCK\xfe\xff")?);
+    is_spelled(alloc, acquire, b"\x5b\x23MLCK\xfe\xff")?;
     let release = Term::Release {
         name: name(alloc, "MLCK")?,
     };
-    assert!(rt; is_spelled(alloc, release, b"\x5b\x27MLCK")?);
-    Ok(())
+    is_spelled(alloc, release, b"\x5b\x27MLCK")
 }
 
 fn field(alloc: Global, entries: Vec<TermEntry>) -> Result<Term, Fail> {
@@ -257,12 +234,12 @@ fn field(alloc: Global, entries: Vec<TermEntry>) -> Result<Term, Fail> {
 #[test]
 fn fields(rt: HostRuntime) -> Result<(), Fail> {
     let alloc = rt.alloc();
-    let mut entries = Vec::new(alloc);
-    entries.push(TermEntry::Reserved(32, 1))?;
-    entries.push(TermEntry::Named(*b"CPEN", 1, 1))?;
+    let entries = vec![in alloc;
+        TermEntry::Reserved(32, 1),
+        TermEntry::Named(*b"CPEN", 1, 1),
+    ]?;
     let term = field(alloc, entries)?;
-    assert!(rt; is_spelled(alloc, term, b"\x5b\x81\x0dPRST\x41\x00\x20CPEN\x01")?);
-    Ok(())
+    is_spelled(alloc, term, b"\x5b\x81\x0dPRST\x41\x00\x20CPEN\x01")
 }
 
 #[test]
@@ -272,10 +249,9 @@ fn field_widths(rt: HostRuntime) -> Result<(), Fail> {
         (1, b"\x5b\x81\x08PRST\x41\x00\x3f".as_slice()),
         (2, b"\x5b\x81\x09PRST\x41\x00\x4f\x03"),
     ] {
-        let mut entries = Vec::new(alloc);
-        entries.push(TermEntry::Reserved(63, width))?;
+        let entries = vec![in alloc; TermEntry::Reserved(63, width)]?;
         let term = field(alloc, entries)?;
-        assert!(rt; is_spelled(alloc, term, bytes)?);
+        is_spelled(alloc, term, bytes)?;
     }
     Ok(())
 }
@@ -291,10 +267,9 @@ fn written_field_lengths(rt: HostRuntime) -> Result<(), Fail> {
         (0xf_fffd, ([0xcd, 0xff, 0xff, 0x00], 4)),
         (0xfff_ffff, ([0xcf, 0xff, 0xff, 0xff], 4)),
     ] {
-        assert_eq!(rt; field_length(bits)?, bytes);
+        equal(&field_length(bits)?, &bytes)?;
     }
-    assert!(rt; matches!(field_length(0x1000_0000), Err(Error::PkgLength)));
-    Ok(())
+    refuses(field_length(0x1000_0000), Error::PkgLength)
 }
 
 #[test]
@@ -307,8 +282,7 @@ fn buffers(rt: HostRuntime) -> Result<(), Fail> {
         size,
         bytes,
     };
-    assert!(rt; is_spelled(alloc, buffer, &[0x11, 0x05, 0x0a, 0x02, 0x79, 0x00])?);
-    Ok(())
+    is_spelled(alloc, buffer, &[0x11, 0x05, 0x0a, 0x02, 0x79, 0x00])
 }
 
 #[test]
@@ -319,7 +293,7 @@ fn packages(rt: HostRuntime) -> Result<(), Fail> {
         (2, &[0x12, 0x45, 0x00, 0x02, 0x00, 0x01]),
     ] {
         let elements = bits(alloc)?;
-        assert!(rt; is_spelled(alloc, Term::Package { width, elements }, bytes)?);
+        is_spelled(alloc, Term::Package { width, elements }, bytes)?;
     }
     Ok(())
 }
@@ -327,11 +301,9 @@ fn packages(rt: HostRuntime) -> Result<(), Fail> {
 #[test]
 fn names_in_packages(rt: HostRuntime) -> Result<(), Fail> {
     let alloc = rt.alloc();
-    let mut elements = one(alloc, bare_name(alloc, "MTH1")?)?;
-    elements.push(bare_name(alloc, "MTH2")?)?;
+    let elements = vec![in alloc; bare_name(alloc, "MTH1")?, bare_name(alloc, "MTH2")?]?;
     let package = Term::Package { width: 1, elements };
-    assert!(rt; is_spelled(alloc, package, b"\x12\x0a\x02MTH1MTH2")?);
-    Ok(())
+    is_spelled(alloc, package, b"\x12\x0a\x02MTH1MTH2")
 }
 
 #[test]
@@ -344,74 +316,63 @@ fn variable_packages(rt: HostRuntime) -> Result<(), Fail> {
         count,
         elements,
     };
-    assert!(rt; is_spelled(alloc, package, &[0x13, 0x04, 0x68, 0x00, 0x01])?);
-    Ok(())
+    is_spelled(alloc, package, &[0x13, 0x04, 0x68, 0x00, 0x01])
 }
 
 fn operator(alloc: Global, op: Op, first: Term) -> Result<Term, Fail> {
-    let operands = one(alloc, first)?;
-    Ok(Term::Op { op, operands })
+    Ok(Term::Op {
+        op,
+        operands: vec![in alloc; first]?,
+    })
 }
 
 #[test]
 fn branches(rt: HostRuntime) -> Result<(), Fail> {
     let alloc = rt.alloc();
-    let mut operands = one(alloc, Term::Arg(0))?;
-    operands.push(number(0, 0))?;
     let equal = Term::Op {
         op: Op::LEqual,
-        operands,
+        operands: vec![in alloc; Term::Arg(0), number(0, 0)]?,
     };
     let predicate = Box::new(alloc, operator(alloc, Op::LNot, equal)?)?;
-    let body = one(alloc, operator(alloc, Op::Return, number(1, 0))?)?;
+    let body = vec![in alloc; operator(alloc, Op::Return, number(1, 0))?]?;
     let branch = Term::If {
         width: 1,
         predicate,
         body,
     };
-    assert!(rt;
-        is_spelled(
-            alloc,
-            branch,
-            &[0xa0, 0x07, 0x92, 0x93, 0x68, 0x00, 0xa4, 0x01]
-        )?
-    );
-    Ok(())
+    is_spelled(
+        alloc,
+        branch,
+        &[0xa0, 0x07, 0x92, 0x93, 0x68, 0x00, 0xa4, 0x01],
+    )
 }
 
 #[test]
 fn loops(rt: HostRuntime) -> Result<(), Fail> {
     let alloc = rt.alloc();
     let predicate = boxed(alloc, 1, 0)?;
-    let operands = none(alloc);
-    let body = one(
-        alloc,
-        Term::Op {
-            op: Op::Break,
-            operands,
-        },
-    )?;
+    let end = Term::Op {
+        op: Op::Break,
+        operands: Vec::new(alloc),
+    };
+    let body = vec![in alloc; end]?;
     let repeat = Term::While {
         width: 1,
         predicate,
         body,
     };
-    assert!(rt; is_spelled(alloc, repeat, &[0xa2, 0x03, 0x01, 0xa5])?);
-    Ok(())
+    is_spelled(alloc, repeat, &[0xa2, 0x03, 0x01, 0xa5])
 }
 
 #[test]
 fn alternatives(rt: HostRuntime) -> Result<(), Fail> {
     let alloc = rt.alloc();
     let body = bits(alloc)?;
-    assert!(rt;
-        is_spelled(
-            alloc,
-            Term::Else { width: 1, body },
-            &[0xa1, 0x03, 0x00, 0x01]
-        )?
-    );
-    Ok(())
+    is_spelled(
+        alloc,
+        Term::Else { width: 1, body },
+        &[0xa1, 0x03, 0x00, 0x01],
+    )
 }
 
 #[test]
@@ -453,35 +414,24 @@ fn operators(rt: HostRuntime) -> Result<(), Fail> {
         (Op::Notify, 0x86, 2),
         (Op::Mid, 0x9e, 4),
     ] {
-        assert_eq!(rt; op.code(), [code].as_slice());
-        assert_eq!(rt; op.operands(), count);
+        same(op.code(), &[code])?;
+        equal(&op.operands(), &count)?;
     }
-    assert_eq!(rt; Op::CreateField.code(), [0x5b, 0x13].as_slice());
-    assert_eq!(rt; Op::CreateField.operands(), 4);
-    Ok(())
+    same(Op::CreateField.code(), &[0x5b, 0x13])?;
+    equal(&Op::CreateField.operands(), &4)
 }
 
 #[test]
 fn operands(rt: HostRuntime) -> Result<(), Fail> {
     let alloc = rt.alloc();
-    let mut operands = one(alloc, Term::Local(0))?;
-    operands.push(number(0, 0))?;
-    operands.push(number(1, 0))?;
-    operands.push(bare_name(alloc, "BITS")?)?;
+    let bits = bare_name(alloc, "BITS")?;
+    let operands = vec![in alloc; Term::Local(0), number(0, 0), number(1, 0), bits]?;
     let op = Op::CreateField;
-    assert!(rt;
-        is_spelled(
-            alloc,
-            Term::Op { op, operands },
-            b"\x5b\x13\x60\x00\x01BITS"
-        )?
-    );
-    Ok(())
-}
-
-fn begins(alloc: Global, size: usize, start: &[u8]) -> Result<bool, Fail> {
-    let content = vec![in alloc; 0u8; size]?;
-    Ok(frame(&[], content)?.as_slice().starts_with(start))
+    is_spelled(
+        alloc,
+        Term::Op { op, operands },
+        b"\x5b\x13\x60\x00\x01BITS",
+    )
 }
 
 #[test]
@@ -494,11 +444,11 @@ fn frames(rt: HostRuntime) -> Result<(), Fail> {
         (0xf_fffc, &[0x8f, 0xff, 0xff]),
         (0xf_fffd, &[0xc1, 0x00, 0x00, 0x01]),
     ] {
-        assert!(rt; begins(rt.alloc(), size, start)?);
+        let content = vec![in rt.alloc(); 0u8; size]?;
+        assert!(rt; frame(&[], content)?.starts_with(start));
     }
-    assert_eq!(rt; frame_length(0xfff_fffb)?, ([0xcf, 0xff, 0xff, 0xff], 4));
-    assert!(rt; matches!(frame_length(0xfff_fffc), Err(Error::PkgLength)));
-    Ok(())
+    equal(&frame_length(0xfff_fffb)?, &([0xcf, 0xff, 0xff, 0xff], 4))?;
+    refuses(frame_length(0xfff_fffc), Error::PkgLength)
 }
 
 fn segments(alloc: Global, count: usize) -> Result<String, Fail> {
@@ -521,12 +471,11 @@ fn names_of_segments(rt: HostRuntime) -> Result<(), Fail> {
         let text = segments(alloc, count)?;
         let spelling = name(alloc, &text)?;
         assert!(rt; spelling.as_bytes().starts_with(start));
-        assert_eq!(rt; spelling.as_bytes().len(), size);
+        equal(&spelling.as_bytes().len(), &size)?;
     }
     let many = segments(alloc, 256)?;
     assert!(rt; matches!(NameString::new(alloc, &many), Err(ReadError::NameText)));
-    assert!(rt; matches!(path_bytes(alloc, &many), Err(Error::PathParts)));
-    Ok(())
+    refuses(path_bytes(alloc, &many), Error::PathParts)
 }
 
 #[test]
@@ -542,38 +491,29 @@ fn texts_of_no_name(rt: HostRuntime) -> Result<(), Fail> {
 #[test]
 fn paths(rt: HostRuntime) -> Result<(), Fail> {
     let alloc = rt.alloc();
-    assert!(rt; matches!(path_bytes(alloc, ""), Err(Error::NamePart)));
-    assert!(rt; matches!(path_bytes(alloc, "ABC"), Err(Error::NamePart)));
-    assert_eq!(rt; path_bytes(alloc, "abcd")?.as_slice(), b"abcd".as_slice());
-    assert_eq!(rt;
-        path_bytes(alloc, "\\_SB_.COM1")?.as_slice(),
-        b"\x5c\x2e_SB_COM1".as_slice()
-    );
-    Ok(())
+    refuses(path_bytes(alloc, ""), Error::NamePart)?;
+    refuses(path_bytes(alloc, "ABC"), Error::NamePart)?;
+    same(&path_bytes(alloc, "abcd")?, b"abcd")?;
+    same(&path_bytes(alloc, "\\_SB_.COM1")?, b"\x5c\x2e_SB_COM1")
 }
 
 #[test]
 fn arities(rt: HostRuntime) -> Result<(), Fail> {
     let alloc = rt.alloc();
-    let mut counts = Vec::new(alloc);
-    counts.push((name(alloc, "MTHD")?, 2u8))?;
-    counts.push((name(alloc, "\\MTHD")?, 7u8))?;
-    let stated = Arities::new(counts).ok().ok_or("arities")?;
-    assert_eq!(rt; stated.count_of(b"MTHD"), 2);
-    assert_eq!(rt; stated.count_of(b"\\MTHD"), 7);
-    assert_eq!(rt; stated.count_of(b"MTH1"), 0);
+    let counts = vec![in alloc; (name(alloc, "MTHD")?, 2u8), (name(alloc, "\\MTHD")?, 7)]?;
+    let stated = Arities::new(counts)?;
+    for (name, count) in [(b"MTHD".as_slice(), 2), (b"\\MTHD", 7), (b"MTH1", 0)] {
+        equal(&stated.count_of(name), &count)?;
+    }
     Ok(())
 }
 
 #[test]
 fn refused_arities(rt: HostRuntime) -> Result<(), Fail> {
     let alloc = rt.alloc();
-    let mut twice = Vec::new(alloc);
-    twice.push((name(alloc, "MTHD")?, 2u8))?;
-    twice.push((name(alloc, "MTHD")?, 2u8))?;
+    let twice = vec![in alloc; (name(alloc, "MTHD")?, 2u8), (name(alloc, "MTHD")?, 2)]?;
     assert!(rt; matches!(Arities::new(twice), Err(ReadError::Arity)));
-    let mut many = Vec::new(alloc);
-    many.push((name(alloc, "MTHD")?, 8u8))?;
+    let many = vec![in alloc; (name(alloc, "MTHD")?, 8u8)]?;
     assert!(rt; matches!(Arities::new(many), Err(ReadError::Arity)));
     Ok(())
 }
@@ -587,7 +527,7 @@ fn equal_terms(rt: HostRuntime) -> Result<(), Fail> {
             elements: bits(alloc)?,
         };
         let elements = bits(alloc)?;
-        assert_eq!(rt; first == Term::Package { width, elements }, same);
+        equal(&(first == Term::Package { width, elements }), &same)?;
     }
     assert!(rt; TermEntry::Reserved(1, 1) != TermEntry::Named(*b"CPEN", 1, 1));
     assert!(rt; name(alloc, "ABCD")? != name(alloc, "\\ABCD")?);

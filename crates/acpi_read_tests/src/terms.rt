@@ -7,8 +7,8 @@ use acpi_term::name_string::{Arities, NameString};
 use acpi_term::op::Op;
 use acpi_term::read_error::ReadError;
 use acpi_term::term::{MAX_DEPTH, Term, TermEntry};
+use acpi_vectors::{agree, equal};
 use std::alloc::Global;
-use std::process::Abort;
 use std::test::Fail;
 
 fn nothing_stated(alloc: Global) -> Result<Arities, Fail> {
@@ -20,37 +20,35 @@ fn stated(alloc: Global, name: &str, count: u8) -> Result<Arities, Fail> {
     Ok(Arities::new(vec![in alloc; (name, count)]?)?)
 }
 
-/// A serial port: a device with an id and a template of an interrupt and a port.
-pub const PORT: [u8; 50] =
+// A serial port: a device with an id and a template of an interrupt and a port.
+const PORT: [u8; 50] =
     *b"\x5b\x82\x30\x2e_SB_COM1\x08_HID\x0c\x41\xd0\x05\x01\x08_CRS\x11\x16\x0a\x13\
 \x89\x06\x00\x03\x01\x04\x00\x00\x00\x47\x01\xf8\x03\xf8\x03\x00\x08\x79\x00";
 
-// Bytes are refused by this kind of error, at any offset.
-fn refused<RT: Abort>(rt: &RT, bytes: &[u8], arities: &Arities, kind: &str) {
-    match terms(bytes, arities) {
-        Ok(_) => panic!(rt; "{bytes:?} is read"),
-        Err(error) => assert_eq!(rt; error.name(), kind, "{bytes:?}"),
+// Each of these is refused by this kind of error, at any offset.
+fn refused(arities: &Arities, rows: &[(&[u8], &str)]) -> Result<(), Fail> {
+    for (bytes, kind) in rows {
+        let error = terms(*bytes, arities).err().ok_or("a refusal")?;
+        agree(error.name(), *kind)?;
     }
+    Ok(())
 }
 
-fn reads<RT: Abort>(rt: &RT, bytes: &[u8], arities: &Arities, wanted: &[Term]) -> Result<(), Fail> {
+fn reads(bytes: &[u8], arities: &Arities, wanted: &[Term]) -> Result<(), Fail> {
     let list = terms(bytes, arities)?;
-    assert_eq!(rt; list.as_slice(), wanted, "{bytes:?}");
-    Ok(())
+    equal(&list.as_slice(), &wanted)
 }
 
 #[test]
 fn numbers(rt: HostRuntime) -> Result<(), Fail> {
     let none = nothing_stated(rt.alloc())?;
-    reads(&rt, &[], &none, &[])?;
+    reads(&[], &none, &[])?;
     let one = Term::Number { value: 1, width: 1 };
-    reads(&rt, &[0x0a, 0x01], &none, &[one])?;
+    reads(&[0x0a, 0x01], &none, &[one])?;
     let zero = Term::Number { value: 0, width: 8 };
-    reads(&rt, &[0x0e, 0, 0, 0, 0, 0, 0, 0, 0], &none, &[zero])?;
-    reads(&rt, &[0xff], &none, &[Term::Ones])?;
-    refused(&rt, &[0x0b, 0x01], &none, "Truncated");
-    refused(&rt, &[0x02], &none, "Opcode");
-    Ok(())
+    reads(&[0x0e, 0, 0, 0, 0, 0, 0, 0, 0], &none, &[zero])?;
+    reads(&[0xff], &none, &[Term::Ones])?;
+    refused(&none, &[(&[0x0b, 0x01], "Truncated"), (&[0x02], "Opcode")])
 }
 
 #[test]
@@ -58,64 +56,67 @@ fn names_and_arguments(rt: HostRuntime) -> Result<(), Fail> {
     let alloc = rt.alloc();
     let bytes = b"MTHD\x01\x0a\x05";
     let two = terms(bytes, &stated(alloc, "MTHD", 2)?)?;
-    assert_eq!(&rt; two.len(), 1);
-    let none = terms(bytes, &nothing_stated(alloc)?)?;
-    assert_eq!(&rt; none.len(), 3);
-    refused(&rt, bytes, &stated(alloc, "MTHD", 3)?, "Truncated");
-    refused(&rt, b"MTH", &nothing_stated(alloc)?, "Truncated");
-    refused(&rt, b"MTHd", &nothing_stated(alloc)?, "Opcode");
-    refused(&rt, b"\x2f\x02ABCDEFGH", &nothing_stated(alloc)?, "Opcode");
-    Ok(())
+    equal(&two.len(), &1)?;
+    let none = nothing_stated(alloc)?;
+    equal(&terms(bytes, &none)?.len(), &3)?;
+    refused(&stated(alloc, "MTHD", 3)?, &[(bytes, "Truncated")])?;
+    refused(
+        &none,
+        &[
+            (b"MTH", "Truncated"),
+            (b"MTHd", "Opcode"),
+            (b"\x2f\x02ABCDEFGH", "Opcode"),
+        ],
+    )
 }
 
 #[test]
 fn counts_and_lengths(rt: HostRuntime) -> Result<(), Fail> {
     let none = nothing_stated(rt.alloc())?;
     let package = terms(&[0x12, 0x04, 0x02, 0x00, 0x01], &none)?;
-    assert_eq!(&rt; package.len(), 1);
-    refused(&rt, &[0x12, 0x04, 0x03, 0x00, 0x01], &none, "Count");
-    refused(&rt, &[0x12, 0x04, 0x01, 0x00, 0x01], &none, "Count");
-    refused(&rt, &[0x12, 0x05, 0x02, 0x00, 0x01], &none, "Length");
-    refused(&rt, &[0x12, 0x00], &none, "Length");
-    refused(&rt, &[0x12, 0x55, 0x00, 0x02, 0x00, 0x01], &none, "Length");
-    Ok(())
+    equal(&package.len(), &1)?;
+    refused(
+        &none,
+        &[
+            (&[0x12, 0x04, 0x03, 0x00, 0x01], "Count"),
+            (&[0x12, 0x04, 0x01, 0x00, 0x01], "Count"),
+            (&[0x12, 0x05, 0x02, 0x00, 0x01], "Length"),
+            (&[0x12, 0x00], "Length"),
+            (&[0x12, 0x55, 0x00, 0x02, 0x00, 0x01], "Length"),
+        ],
+    )
 }
 
 #[test]
 fn flags_and_texts(rt: HostRuntime) -> Result<(), Fail> {
     let none = nothing_stated(rt.alloc())?;
-    refused(&rt, b"\x14\x06_STA\x10", &none, "Flags");
-    refused(&rt, b"\x5b\x81\x06PRST\x06", &none, "Flags");
-    refused(&rt, b"\x5b\x81\x06PRST\x60", &none, "Flags");
-    refused(&rt, b"\x0da\x80\0", &none, "Text");
-    refused(&rt, b"\x0da", &none, "Truncated");
-    Ok(())
-}
-
-fn refused_at<RT: Abort>(rt: &RT, bytes: &[u8], arities: &Arities, wanted: ReadError) {
-    assert_eq!(rt; terms(bytes, arities).err(), Some(wanted), "{bytes:?}");
+    refused(
+        &none,
+        &[
+            (b"\x14\x06_STA\x10", "Flags"),
+            (b"\x5b\x81\x06PRST\x06", "Flags"),
+            (b"\x5b\x81\x06PRST\x60", "Flags"),
+            (b"\x0da\x80\0", "Text"),
+            (b"\x0da", "Truncated"),
+        ],
+    )
 }
 
 // The term's first byte is told, or where a term is missing.
 #[test]
 fn offsets(rt: HostRuntime) -> Result<(), Fail> {
     let none = nothing_stated(rt.alloc())?;
-    refused_at(&rt, &[0x00, 0x0a], &none, ReadError::Truncated(1));
-    refused_at(&rt, &[0x70, 0x01], &none, ReadError::Truncated(2));
-    refused_at(
-        &rt,
-        &[0x12, 0x04, 0x03, 0x00, 0x01],
-        &none,
-        ReadError::Count(5),
-    );
-    refused_at(
-        &rt,
-        &[0x12, 0x04, 0x01, 0x00, 0x01],
-        &none,
-        ReadError::Count(0),
-    );
-    refused_at(&rt, b"\x10\x06_SB_\x02", &none, ReadError::Opcode(6));
-    refused_at(&rt, b"\x00\x11\x04\x0a", &none, ReadError::Length(1));
+    let cases: [(&[u8], ReadError); 6] = [
+        (&[0x00, 0x0a], ReadError::Truncated(1)),
+        (&[0x70, 0x01], ReadError::Truncated(2)),
+        (&[0x12, 0x04, 0x03, 0x00, 0x01], ReadError::Count(5)),
+        (&[0x12, 0x04, 0x01, 0x00, 0x01], ReadError::Count(0)),
+        (b"\x10\x06_SB_\x02", ReadError::Opcode(6)),
+        (b"\x00\x11\x04\x0a", ReadError::Length(1)),
+    ];
+    for (bytes, wanted) in cases {
+        equal(&terms(bytes, &none).err(), &Some(wanted))?;
+    }
     Ok(())
 }
 
@@ -130,7 +131,7 @@ fn widths(rt: HostRuntime) -> Result<(), Fail> {
             Term::Number { value: 1, width: 0 },
         ]?,
     };
-    reads(&rt, &[0x12, 0x45, 0x00, 0x02, 0x00, 0x01], &none, &[two])?;
+    reads(&[0x12, 0x45, 0x00, 0x02, 0x00, 0x01], &none, &[two])?;
     let field = |width| -> Result<Term, Fail> {
         Ok(Term::Field {
             width: 1,
@@ -141,36 +142,29 @@ fn widths(rt: HostRuntime) -> Result<(), Fail> {
             entries: vec![in alloc; TermEntry::Reserved(63, width)]?,
         })
     };
-    reads(&rt, b"\x5b\x81\x08PRST\0\0\x3f", &none, &[field(1)?])?;
-    reads(&rt, b"\x5b\x81\x09PRST\0\0\x4f\x03", &none, &[field(2)?])
+    reads(b"\x5b\x81\x08PRST\0\0\x3f", &none, &[field(1)?])?;
+    reads(b"\x5b\x81\x09PRST\0\0\x4f\x03", &none, &[field(2)?])
 }
 
 #[test]
 fn depth(rt: HostRuntime) -> Result<(), Fail> {
     let alloc = rt.alloc();
     let none = nothing_stated(alloc)?;
-    let mut bytes = Vec::new(alloc);
-    for _ in 1..MAX_DEPTH {
-        bytes.push(0x92)?;
-    }
-    bytes.push(0)?;
-    assert_eq!(&rt; terms(&bytes, &none)?.len(), 1);
-    bytes.insert(0, 0x92)?;
-    refused(&rt, &bytes, &none, "TooDeep");
-    Ok(())
+    let mut most = vec![in alloc; 0x92u8; MAX_DEPTH - 1]?;
+    most.push(0)?;
+    equal(&terms(&most, &none)?.len(), &1)?;
+    let mut more = vec![in alloc; 0x92u8; MAX_DEPTH]?;
+    more.push(0)?;
+    refused(&none, &[(&more, "TooDeep")])
 }
 
 #[test]
 fn far_too_deep(rt: HostRuntime) -> Result<(), Fail> {
     let alloc = rt.alloc();
     let none = nothing_stated(alloc)?;
-    let mut bytes = Vec::new(alloc);
-    for _ in 0..100_000 {
-        bytes.push(0x92)?;
-    }
+    let mut bytes = vec![in alloc; 0x92u8; 100_000]?;
     bytes.push(0)?;
-    refused(&rt, &bytes, &none, "TooDeep");
-    Ok(())
+    refused(&none, &[(&bytes, "TooDeep")])
 }
 
 #[test]
@@ -182,19 +176,18 @@ fn many_terms(rt: HostRuntime) -> Result<(), Fail> {
         bytes.extend_from_slice(&[0x70, 0x01, 0x60])?;
     }
     let list = terms(&bytes, &none)?;
-    assert_eq!(&rt; list.len(), 20_000);
+    equal(&list.len(), &20_000)?;
     let store = Term::Op {
         op: Op::Store,
         operands: vec![in alloc; Term::Number { value: 1, width: 0 }, Term::Local(0)]?,
     };
-    assert_eq!(&rt; list.last(), Some(&store));
-    Ok(())
+    equal(&list.last(), &Some(&store))
 }
 
 #[test]
 fn beginnings(rt: HostRuntime) -> Result<(), Fail> {
     let none = nothing_stated(rt.alloc())?;
-    assert_eq!(&rt; terms(&PORT, &none)?.len(), 1);
+    equal(&terms(&PORT, &none)?.len(), &1)?;
     for size in 1..50 {
         assert!(&rt; terms(&PORT[..size], &none).is_err(), "of {size} bytes");
     }
@@ -210,19 +203,16 @@ fn replacements(rt: HostRuntime) -> Result<(), Fail> {
         for value in 0..=255u8 {
             bytes[index] = value;
             if let Err(error) = terms(&bytes, &none) {
-                let Some(offset) = error.offset() else {
-                    panic!(&rt; "{error:?}");
-                };
-                assert!(&rt; offset <= 50, "{error:?}");
+                assert!(&rt; matches!(error.offset(), Some(..=50)), "{error:?}");
             }
         }
     }
-    let mut bytes = PORT;
-    bytes[28] = 0x17;
-    refused(&rt, &bytes, &none, "Length");
-    bytes[28] = 0x15;
-    assert_eq!(&rt; terms(&bytes, &none)?.len(), 1);
-    Ok(())
+    let mut shorter = PORT;
+    shorter[28] = 0x15;
+    equal(&terms(&shorter, &none)?.len(), &1)?;
+    let mut longer = PORT;
+    longer[28] = 0x17;
+    refused(&none, &[(&longer, "Length")])
 }
 
 // The bytes beside each other that are a term, and that are none.
@@ -230,15 +220,15 @@ fn replacements(rt: HostRuntime) -> Result<(), Fail> {
 fn bounds_of_bytes(rt: HostRuntime) -> Result<(), Fail> {
     let alloc = rt.alloc();
     let none = nothing_stated(alloc)?;
-    reads(&rt, &[0x60], &none, &[Term::Local(0)])?;
-    reads(&rt, &[0x67], &none, &[Term::Local(7)])?;
-    reads(&rt, &[0x68], &none, &[Term::Arg(0)])?;
-    reads(&rt, &[0x6e], &none, &[Term::Arg(6)])?;
-    refused(&rt, &[0x6f], &none, "Opcode");
+    for (byte, number) in [(0x60, 0), (0x67, 7)] {
+        reads(&[byte], &none, &[Term::Local(number)])?;
+    }
+    for (byte, number) in [(0x68, 0), (0x6e, 6)] {
+        reads(&[byte], &none, &[Term::Arg(number)])?;
+    }
     let text = Term::Text(String::from_str(alloc, "\x01\x7f")?);
-    reads(&rt, b"\x0d\x01\x7f\0", &none, &[text])?;
-    refused(&rt, b"\x0d\x01\x80\0", &none, "Text");
-    Ok(())
+    reads(b"\x0d\x01\x7f\0", &none, &[text])?;
+    refused(&none, &[(&[0x6f], "Opcode"), (b"\x0d\x01\x80\0", "Text")])
 }
 
 fn field(alloc: Global, access: u8, lock: u8, update: u8) -> Result<Term, Fail> {
@@ -262,14 +252,14 @@ fn field_flags(rt: HostRuntime) -> Result<(), Fail> {
             for update in 0..=2u8 {
                 let mut bytes = *b"\x5b\x81\x06PRST\0";
                 bytes[7] = access | lock << 4 | update << 5;
-                reads(&rt, &bytes, &none, &[field(alloc, access, lock, update)?])?;
+                reads(&bytes, &none, &[field(alloc, access, lock, update)?])?;
             }
         }
     }
     for flags in [0x06u8, 0x07, 0x08, 0x0f, 0x16, 0x60, 0x65, 0x70, 0x80, 0xff] {
         let mut bytes = *b"\x5b\x81\x06PRST\0";
         bytes[7] = flags;
-        refused(&rt, &bytes, &none, "Flags");
+        refused(&none, &[(&bytes, "Flags")])?;
     }
     Ok(())
 }
@@ -288,12 +278,12 @@ fn method_flags(rt: HostRuntime) -> Result<(), Fail> {
             serialized,
             body: Vec::new(alloc),
         };
-        reads(&rt, &bytes, &none, &[method])?;
+        reads(&bytes, &none, &[method])?;
     }
     for bit in 4..8u8 {
         let mut bytes = *b"\x14\x06_STA\0";
         bytes[6] = 1 << bit;
-        refused(&rt, &bytes, &none, "Flags");
+        refused(&none, &[(&bytes, "Flags")])?;
     }
     Ok(())
 }
@@ -303,30 +293,23 @@ fn method_flags(rt: HostRuntime) -> Result<(), Fail> {
 fn reserved_bits(rt: HostRuntime) -> Result<(), Fail> {
     let alloc = rt.alloc();
     let none = nothing_stated(alloc)?;
-    let frames: [&[u8]; 3] = [
-        b"\x12\x45\x00\x02\x00\x01",
-        b"\x12\x86\x00\x00\x02\x00\x01",
-        b"\x12\xc7\x00\x00\x00\x02\x00\x01",
+    // The bytes, and where the length stands in them.
+    let cases: [(&[u8], usize); 6] = [
+        (b"\x12\x45\x00\x02\x00\x01", 1),
+        (b"\x12\x86\x00\x00\x02\x00\x01", 1),
+        (b"\x12\xc7\x00\x00\x00\x02\x00\x01", 1),
+        (b"\x5b\x81\x09PRST\0\0\x4f\x03", 9),
+        (b"\x5b\x81\x0aPRST\0\0\x8f\x03\x00", 9),
+        (b"\x5b\x81\x0bPRST\0\0\xcf\x03\x00\x00", 9),
     ];
-    for bytes in frames {
-        assert_eq!(&rt; terms(bytes, &none)?.len(), 1);
+    for (bytes, at) in cases {
+        equal(&terms(bytes, &none)?.len(), &1)?;
         for bits in [0x10, 0x20, 0x30] {
             let mut bytes = Vec::from_slice(alloc, bytes)?;
-            bytes[1] |= bits;
-            refused(&rt, &bytes, &none, "Length");
-        }
-    }
-    let entries: [&[u8]; 3] = [
-        b"\x5b\x81\x09PRST\0\0\x4f\x03",
-        b"\x5b\x81\x0aPRST\0\0\x8f\x03\x00",
-        b"\x5b\x81\x0bPRST\0\0\xcf\x03\x00\x00",
-    ];
-    for bytes in entries {
-        assert_eq!(&rt; terms(bytes, &none)?.len(), 1);
-        for bits in [0x10, 0x20, 0x30] {
-            let mut bytes = Vec::from_slice(alloc, bytes)?;
-            bytes[9] |= bits;
-            refused(&rt, &bytes, &none, "Length");
+            if let Some(byte) = bytes.get_mut(at) {
+                *byte |= bits;
+            }
+            refused(&none, &[(&bytes, "Length")])?;
         }
     }
     Ok(())
@@ -355,19 +338,26 @@ fn names(rt: HostRuntime) -> Result<(), Fail> {
         (b"\x2f\x04_SB_PCI0COM1_HID", "_SB_.PCI0.COM1._HID"),
     ];
     for (bytes, text) in cases {
-        reads(&rt, bytes, &none, &[bare(alloc, text)?])?;
+        reads(bytes, &none, &[bare(alloc, text)?])?;
         let mut more = Vec::from_slice(alloc, bytes)?;
         more.push(0x60)?;
-        reads(&rt, &more, &none, &[bare(alloc, text)?, Term::Local(0)])?;
-        refused(&rt, &bytes[..bytes.len() - 1], &none, "Truncated");
+        reads(&more, &none, &[bare(alloc, text)?, Term::Local(0)])?;
+        refused(&none, &[(&bytes[..bytes.len() - 1], "Truncated")])?;
     }
     for bytes in [
         b"/SB_", b":SB_", b"@SB_", b"[SB_", b"`SB_", b"aSB_", b"0SB_",
     ] {
         assert!(&rt; terms(bytes.as_slice(), &none).is_err(), "{bytes:?}");
     }
-    for bytes in [b"A/B_", b"A:B_", b"A@B_", b"A[B_", b"A`B_", b"AaB_"] {
-        refused(&rt, bytes.as_slice(), &none, "Opcode");
-    }
-    Ok(())
+    refused(
+        &none,
+        &[
+            (b"A/B_", "Opcode"),
+            (b"A:B_", "Opcode"),
+            (b"A@B_", "Opcode"),
+            (b"A[B_", "Opcode"),
+            (b"A`B_", "Opcode"),
+            (b"AaB_", "Opcode"),
+        ],
+    )
 }

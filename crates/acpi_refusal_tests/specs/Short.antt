@@ -1,10 +1,15 @@
--- The sink of the tests, which has little room.
-use Rattle.std.specs.Prelude.{ℕ, List, [], ◌++◌, length, nat_le, ◌==◌, Bool, true, false, IsTrue}
+-- The sink of the tests, which has little room, and the objects that are given to it.
+use Rattle.std.specs.Prelude.{ℕ, List, [], ◌++◌, ◌≡◌, length, nat_le, ◌==◌, Bool, true, false, IsTrue, None}
 use Rattle.std.proofs.Common.{arith, length-append}
 use Rattle.std.proofs.lemmas.Bool.Decides.{nat_tests}
 use Rattle.acpi_base.specs.declared.error.Error.{Error}
 use Rattle.acpi_base.specs.declared.error.Error.TheVariants.{Sink}
+use Rattle.acpi_base.specs.Object.{Object}
 use Rattle.acpi_base.specs.Sink.{Meaning}
+
+-- an object that is whole, and has so many bytes
+abbrev pub IsOfSize : ℕ → Object → Type 0
+IsOfSize size object = (object.end ≡ None) × (length object.front ≡ size)
 
 abbrev pub is_seventh : Error → Bool
 is_seventh (Sink n) = n == 7

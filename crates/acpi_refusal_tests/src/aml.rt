@@ -6,6 +6,7 @@ use acpi_tables::sdt::{Sdt, append_object};
 use acpi_tables::{Aml, R};
 use acpi_vectors::{OEM, OEM_REVISION, OEM_TABLE};
 use std::alloc::Global;
+use std::test::Fail;
 
 // A serial port.
 fn device(alloc: Global) -> R<Device> {
@@ -21,9 +22,10 @@ fn device(alloc: Global) -> R<Device> {
 }
 
 #[test]
-fn definition_block(rt: HostRuntime) -> R<()> {
-    let device = device(rt.alloc())?;
-    let mut table = Sdt::new(rt.alloc(), *b"DSDT", 36, 2, OEM, OEM_TABLE, OEM_REVISION)?;
+fn definition_block(rt: HostRuntime) -> Result<(), Fail> {
+    let alloc = rt.alloc();
+    let device = device(alloc)?;
+    let mut table = Sdt::new(alloc, *b"DSDT", 36, 2, OEM, OEM_TABLE, OEM_REVISION)?;
     append_object(&device, &mut table)?;
-    starve_all(&rt, &[(5, &0x0403_0201u32), (50, &device), (86, &table)])
+    starve_all(alloc, &[(5, &0x0403_0201u32), (50, &device), (86, &table)])
 }

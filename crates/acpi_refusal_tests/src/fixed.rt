@@ -1,7 +1,6 @@
 //! Tables and records of fixed size.
 
 use crate::short::{starve, starve_all};
-use acpi_tables::R;
 use acpi_tables::bert::BERT;
 use acpi_tables::facs::FACS;
 use acpi_tables::fadt::FADTBuilder;
@@ -10,9 +9,11 @@ use acpi_tables::rsdp::Rsdp;
 use acpi_tables::spcr::SPCR;
 use acpi_tables::tpm2::{PlatformClass, StartMethod, Tpm2, TpmClient1_2, TpmServer1_2};
 use acpi_vectors::{OEM, OEM_REVISION, OEM_TABLE};
+use std::test::Fail;
 
 #[test]
-fn records(rt: HostRuntime) -> R<()> {
+fn records(rt: HostRuntime) -> Result<(), Fail> {
+    let alloc = rt.alloc();
     let register = GAS::new(
         AddressSpace::SystemIo,
         8,
@@ -21,7 +22,7 @@ fn records(rt: HostRuntime) -> R<()> {
         0x0807_0605_0403_0201,
     );
     starve_all(
-        &rt,
+        alloc,
         &[
             (12, &register),
             (36, &Rsdp::new(OEM, 0x0807_0605_0403_0201)),
@@ -39,7 +40,8 @@ fn records(rt: HostRuntime) -> R<()> {
 }
 
 #[test]
-fn tpm2(rt: HostRuntime) -> R<()> {
+fn tpm2(rt: HostRuntime) -> Result<(), Fail> {
+    let alloc = rt.alloc();
     let mut table = Tpm2::new(
         OEM,
         OEM_TABLE,
@@ -48,7 +50,7 @@ fn tpm2(rt: HostRuntime) -> R<()> {
         1,
         StartMethod::Crb,
     );
-    starve(&rt, 52, &table)?;
+    starve(alloc, 52, &table)?;
     table.set_log_area(2, 3)?;
-    starve(&rt, 76, &table)
+    starve(alloc, 76, &table)
 }

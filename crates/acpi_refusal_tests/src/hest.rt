@@ -12,15 +12,17 @@ use acpi_tables::rqsc::{
     ACPIDeviceResource, CacheResource, ControllerType, MemoryAffinityStructureResource,
     PCIDeviceResource, QoSController, RQSC, ResourceID, ResourceStructure, ResourceType,
 };
-use acpi_vectors::{OEM, OEM_REVISION, OEM_TABLE};
+use acpi_vectors::{OEM, OEM_REVISION, OEM_TABLE, equal};
 use std::alloc::Global;
+use std::test::Fail;
 
 #[test]
-fn error_sources(rt: HostRuntime) -> R<()> {
-    let mut hest = HEST::new(rt.alloc(), OEM, OEM_TABLE, OEM_REVISION);
+fn error_sources(rt: HostRuntime) -> Result<(), Fail> {
+    let alloc = rt.alloc();
+    let mut hest = HEST::new(alloc, OEM, OEM_TABLE, OEM_REVISION);
     hest.add_structure(PcieAerRootPort::new_global())?;
     starve_all(
-        &rt,
+        alloc,
         &[
             (88, &hest),
             (48, &PcieAerRootPort::new_global()),
@@ -36,17 +38,17 @@ fn error_sources(rt: HostRuntime) -> R<()> {
 
 // An entry of error data isn't an object, but is written like one.
 #[test]
-fn error_data(rt: HostRuntime) -> R<()> {
+fn error_data(rt: HostRuntime) -> Result<(), Fail> {
     let alloc = rt.alloc();
     let mut entry = GenericErrorData::new(alloc, ErrorSeverity::Fatal);
     entry.add_data(Box::new(alloc, 0x0201u16)?)?;
     let mut whole = Vec::new(alloc);
     entry.to_aml_bytes(&mut whole)?;
-    assert_eq!(&rt; whole.len(), 61);
+    equal(&whole.len(), &61)?;
     for room in 0..whole.len() {
         let mut short = Short::new(alloc, room);
         let end = entry.to_aml_bytes(&mut short);
-        short.is_full(&rt, room, &whole, end);
+        short.is_full(&whole[..room], end)?;
     }
     Ok(())
 }
@@ -63,13 +65,13 @@ fn controller(alloc: Global) -> R<QoSController> {
 }
 
 #[test]
-fn controllers(rt: HostRuntime) -> R<()> {
+fn controllers(rt: HostRuntime) -> Result<(), Fail> {
     let alloc = rt.alloc();
     let mut rqsc = RQSC::new(alloc, OEM, OEM_TABLE, OEM_REVISION);
     rqsc.add_controller(controller(alloc)?)?;
     let vendors = ResourceID::VendorSpecific(0x80, b"abc".to_vec(alloc)?);
     starve_all(
-        &rt,
+        alloc,
         &[
             (88, &rqsc),
             (48, &controller(alloc)?),

@@ -1,7 +1,6 @@
 //! Tables that are lists, and their structures.
 
 use crate::short::starve_all;
-use acpi_tables::R;
 use acpi_tables::cedt::{
     CEDT, CxlFixedMemory, CxlHostBridge, CxlVersion, InterleaveArithmetic, InterleaveGranularity,
     InterleaveWays, PortAssociation, ProtocolType, XorInterleaveMath,
@@ -14,9 +13,10 @@ use acpi_tables::mcfg::MCFG;
 use acpi_tables::srat::{GenericInitiator, Handle, MemoryAffinity, RintcAffinity, SRAT};
 use acpi_tables::xsdt::XSDT;
 use acpi_vectors::{OEM, OEM_REVISION, OEM_TABLE};
+use std::test::Fail;
 
 #[test]
-fn tables(rt: HostRuntime) -> R<()> {
+fn tables(rt: HostRuntime) -> Result<(), Fail> {
     let alloc = rt.alloc();
     let mut xsdt = XSDT::new(alloc, OEM, OEM_TABLE, OEM_REVISION);
     xsdt.add_entry(0x0807_0605_0403_0201)?;
@@ -30,7 +30,7 @@ fn tables(rt: HostRuntime) -> R<()> {
     let mut cedt = CEDT::new(alloc, OEM, OEM_TABLE, OEM_REVISION);
     cedt.add_host_bridge(CxlHostBridge::new(1, CxlVersion::Cxl2, 2))?;
     starve_all(
-        &rt,
+        alloc,
         &[
             (44, &xsdt),
             (60, &mcfg),
@@ -42,9 +42,10 @@ fn tables(rt: HostRuntime) -> R<()> {
 }
 
 #[test]
-fn interrupt_controllers(rt: HostRuntime) -> R<()> {
+fn interrupt_controllers(rt: HostRuntime) -> Result<(), Fail> {
+    let alloc = rt.alloc();
     starve_all(
-        &rt,
+        alloc,
         &[
             (8, &ProcessorLocalApic::new(1, 2, EnabledStatus::Enabled)),
             (12, &IoApic::new(1, 0x0605_0403, 0x0a09_0807)),
@@ -62,11 +63,12 @@ fn interrupt_controllers(rt: HostRuntime) -> R<()> {
 }
 
 #[test]
-fn affinities(rt: HostRuntime) -> R<()> {
+fn affinities(rt: HostRuntime) -> Result<(), Fail> {
+    let alloc = rt.alloc();
     let acpi = Handle::new_acpi(*b"ABCDEFGH", *b"ijkl");
     let pci = Handle::new_pci(0x0201, 3, 4, 5);
     starve_all(
-        &rt,
+        alloc,
         &[
             (40, &MemoryAffinity::new(1, 2, 3)),
             (16, &acpi),
@@ -79,7 +81,7 @@ fn affinities(rt: HostRuntime) -> R<()> {
 }
 
 #[test]
-fn cxl(rt: HostRuntime) -> R<()> {
+fn cxl(rt: HostRuntime) -> Result<(), Fail> {
     let alloc = rt.alloc();
     let mut window = CxlFixedMemory::new(
         alloc,
@@ -95,7 +97,7 @@ fn cxl(rt: HostRuntime) -> R<()> {
     let mut maps = XorInterleaveMath::new(alloc, InterleaveGranularity::Granularity512b);
     maps.add_xormap(0x0807_0605_0403_0201)?;
     starve_all(
-        &rt,
+        alloc,
         &[
             (32, &CxlHostBridge::new(1, CxlVersion::Cxl2, 2)),
             (44, &window),

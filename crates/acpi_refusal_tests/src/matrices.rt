@@ -1,23 +1,24 @@
 //! SLIT, and HMAT and its structures.
 
 use crate::short::{starve, starve_all};
-use acpi_tables::R;
 use acpi_tables::hmat::{
     Associativity, CacheLevel, DataType, HMAT, LocalityType, MemoryProximityDomain,
     MemorySideCache, MinTransferSize, SystemLocality, WritePolicy,
 };
 use acpi_tables::slit::SLIT;
 use acpi_vectors::{OEM, OEM_REVISION, OEM_TABLE};
+use std::test::Fail;
 
 #[test]
-fn distances(rt: HostRuntime) -> R<()> {
-    let mut slit = SLIT::new(rt.alloc(), OEM, OEM_TABLE, OEM_REVISION, 3)?;
+fn distances(rt: HostRuntime) -> Result<(), Fail> {
+    let alloc = rt.alloc();
+    let mut slit = SLIT::new(alloc, OEM, OEM_TABLE, OEM_REVISION, 3)?;
     slit.set_distance(0, 2, 31)?;
-    starve(&rt, 53, &slit)
+    starve(alloc, 53, &slit)
 }
 
 #[test]
-fn attributes(rt: HostRuntime) -> R<()> {
+fn attributes(rt: HostRuntime) -> Result<(), Fail> {
     let alloc = rt.alloc();
     let mut hmat = HMAT::new(alloc, OEM, OEM_TABLE, OEM_REVISION);
     hmat.add_memory_proximity(MemoryProximityDomain::new(1, 2))?;
@@ -43,7 +44,7 @@ fn attributes(rt: HostRuntime) -> R<()> {
     );
     cache.add_smbios_handle(0x0201)?;
     starve_all(
-        &rt,
+        alloc,
         &[
             (80, &hmat),
             (40, &MemoryProximityDomain::new(1, 2)),

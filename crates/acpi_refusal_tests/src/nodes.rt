@@ -12,6 +12,7 @@ use acpi_tables::rimt::{
 use acpi_tables::viot::{MmioEndpoint, PciRange, VIOT, VirtIoMmioIommu, VirtIoPciIommu};
 use acpi_vectors::{OEM, OEM_REVISION, OEM_TABLE};
 use std::alloc::Global;
+use std::test::Fail;
 
 fn cache() -> CacheNode {
     CacheNodeBuilder::default()
@@ -21,29 +22,29 @@ fn cache() -> CacheNode {
 }
 
 #[test]
-fn pptt(rt: HostRuntime) -> R<()> {
+fn pptt(rt: HostRuntime) -> Result<(), Fail> {
     let alloc = rt.alloc();
     let mut pptt = PPTT::new(alloc, OEM, OEM_TABLE, OEM_REVISION);
     let cache = pptt.add_cache(cache())?;
     let processor = ProcessorNode::new(alloc, None, 5)
         .valid()
         .add_cache(&cache)?;
-    starve_all(&rt, &[(28, &self::cache()), (24, &processor)])?;
+    starve_all(alloc, &[(28, &self::cache()), (24, &processor)])?;
     pptt.add_processor(processor)?;
-    starve(&rt, 88, &pptt)
+    starve(alloc, 88, &pptt)
 }
 
 #[test]
-fn rhct(rt: HostRuntime) -> R<()> {
+fn rhct(rt: HostRuntime) -> Result<(), Fail> {
     let alloc = rt.alloc();
     let mut rhct = RHCT::new(alloc, OEM, OEM_TABLE, OEM_REVISION, 1);
     let string = rhct.add_isa_string("rv64i")?;
     let blocks = rhct.add_cmo(CmoNode::new(4, 5, 6))?;
     rhct.add_mmu_node(VirtualAddressScheme::Sv57)?;
-    starve(&rt, 14, &IsaStringNode::new("rv64i"))?;
+    starve(alloc, 14, &IsaStringNode::new("rv64i"))?;
     let hart = HartInfoNode::new(alloc, 7, &string)?.with_cmo(&blocks)?;
     starve_all(
-        &rt,
+        alloc,
         &[
             (10, &CmoNode::new(4, 5, 6)),
             (8, &MmuNode::new(VirtualAddressScheme::Sv57)),
@@ -51,17 +52,18 @@ fn rhct(rt: HostRuntime) -> R<()> {
         ],
     )?;
     rhct.add_hart_info(hart)?;
-    starve(&rt, 108, &rhct)
+    starve(alloc, 108, &rhct)
 }
 
 #[test]
-fn viot(rt: HostRuntime) -> R<()> {
-    let mut viot = VIOT::new(rt.alloc(), OEM, OEM_TABLE, OEM_REVISION);
+fn viot(rt: HostRuntime) -> Result<(), Fail> {
+    let alloc = rt.alloc();
+    let mut viot = VIOT::new(alloc, OEM, OEM_TABLE, OEM_REVISION);
     let handle = viot.add_virtio_mmio_iommu(VirtIoMmioIommu::new(1))?;
     viot.add_mmio_endpoint(MmioEndpoint::new(2, 3, &handle))?;
     let device = |function| PciDevice::new(1, 2, 3, function);
     starve_all(
-        &rt,
+        alloc,
         &[
             (88, &viot),
             (16, &VirtIoMmioIommu::new(1)),
@@ -83,7 +85,7 @@ fn iommu(alloc: Global) -> R<Iommu> {
 
 // The table has 168 bytes: 48, an IOMMU of 64 and a root complex of 56.
 #[test]
-fn rimt(rt: HostRuntime) -> R<()> {
+fn rimt(rt: HostRuntime) -> Result<(), Fail> {
     let alloc = rt.alloc();
     let mut rimt = RIMT::new(alloc, OEM, OEM_TABLE, OEM_REVISION);
     let offset = rimt.add_iommu(iommu(alloc)?)?;
@@ -93,7 +95,7 @@ fn rimt(rt: HostRuntime) -> R<()> {
     let name = String::from_str(alloc, "\\_SB_.UART")?;
     let platform = Platform::new(1, name, Some(vec![in alloc; mapping()]?));
     starve_all(
-        &rt,
+        alloc,
         &[
             (8, &InterruptWire::new(1, true, false, 1)),
             (64, &iommu(alloc)?),
@@ -103,5 +105,5 @@ fn rimt(rt: HostRuntime) -> R<()> {
         ],
     )?;
     rimt.add_pcie_root_complex(complex)?;
-    starve(&rt, 168, &rimt)
+    starve(alloc, 168, &rimt)
 }

@@ -1,10 +1,13 @@
 //! A sink with little room, and objects that are given to it.
 
-ghost use Rattle.acpi_refusal_tests.specs.Short.{short_of, short_takes_nothing, short_takes_beginning};
+ghost use Rattle.std.specs.Prelude.{◌≡◌, All, Err, OnOk};
+ghost use Rattle.acpi_base.specs.declared.error.Error.TheVariants.{Sink};
+ghost use Rattle.acpi_refusal_tests.specs.Short.{IsOfSize, short_of, short_takes_nothing, short_takes_beginning};
 
 use acpi_tables::{Aml, AmlSink, Error, R};
+use acpi_vectors::{equal, refuses, same, written};
 use std::alloc::Global;
-use std::process::Abort;
+use std::test::Fail;
 
 /// Takes as many bytes as it has room for, and refuses the next.
 #[derive(Drop)]
@@ -39,31 +42,36 @@ impl Short {
         }
     }
 
-    /// What ended so was refused by this sink, which holds as much of it as there was room for.
-    pub fn is_full<RT: Abort>(&self, rt: &RT, room: usize, whole: &[u8], end: R<()>) {
-        assert_eq!(rt; end, Err(Error::Sink(7)));
-        assert_eq!(rt; self.held.len(), room);
-        assert!(rt; whole.starts_with(&self.held));
+    /// What ended so was refused by this sink, which holds the beginning that there was room for.
+    pub fn is_full(&self, beginning: &[u8], end: R<()>) -> Result<(), Fail>
+        ensures refused { OnOk result (end ≡ Err (Sink 7)) }
+        ensures held { OnOk result (self.now.held.items ≡ beginning.now) }
+    {
+        refuses(end, Error::Sink(7))?;
+        same(&self.held, beginning)
     }
 }
 
 /// Gives an object of this size to sinks with room for less than all of it.
-pub fn starve(rt: &(impl AllocGlobal + Abort), size: usize, object: &dyn Aml) -> R<()> {
-    let mut whole = Vec::new(rt.alloc());
-    object.to_aml_bytes(&mut whole)?;
-    assert_eq!(rt; whole.len(), size);
-    for room in 0..size {
-        let mut short = Short::new(rt.alloc(), room);
-        let end = object.to_aml_bytes(&mut short);
-        short.is_full(rt, room, &whole, end);
+pub fn starve(alloc: Global, size: usize, aml: &dyn Aml) -> Result<(), Fail>
+    ensures { OnOk result (IsOfSize size (object aml.now)) }
+{
+    let whole = written(alloc, aml)?;
+    equal(&whole.len(), &size)?;
+    for room in 0..whole.len() {
+        let mut short = Short::new(alloc, room);
+        let end = aml.to_aml_bytes(&mut short);
+        short.is_full(&whole[..room], end)?;
     }
     Ok(())
 }
 
 /// Gives each of these objects, behind its size.
-pub fn starve_all(rt: &(impl AllocGlobal + Abort), objects: &[(usize, &dyn Aml)]) -> R<()> {
-    for (size, object) in objects {
-        starve(rt, *size, *object)?;
+pub fn starve_all(alloc: Global, rows: &[(usize, &dyn Aml)]) -> Result<(), Fail>
+    ensures { OnOk result (All (λ row. IsOfSize row.0 (object row.1.now)) rows.now) }
+{
+    for (size, aml) in rows {
+        starve(alloc, *size, *aml)?;
     }
     Ok(())
 }
@@ -78,14 +86,15 @@ fn give(sink: &mut Short) -> R<()> {
 }
 
 #[test]
-fn calls(rt: HostRuntime) -> R<()> {
+fn calls(rt: HostRuntime) -> Result<(), Fail> {
+    let alloc = rt.alloc();
     let whole = [
         1, 2, 3, 4, 5, 6, 7, 8, 9, 10, 11, 12, 13, 14, 15, 16, 17, 18,
     ];
     for room in 0..18 {
-        let mut short = Short::new(rt.alloc(), room);
+        let mut short = Short::new(alloc, room);
         let end = give(&mut short);
-        short.is_full(&rt, room, &whole, end);
+        short.is_full(&whole[..room], end)?;
     }
-    give(&mut Short::new(rt.alloc(), 18))
+    Ok(give(&mut Short::new(alloc, 18))?)
 }

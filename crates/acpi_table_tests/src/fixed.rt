@@ -8,16 +8,17 @@ use acpi_tables::facs::FACS;
 use acpi_tables::rsdp::Rsdp;
 use acpi_tables::spcr::SPCR;
 use acpi_tables::u8sum;
-use acpi_vectors::{OEM, OEM_REVISION, OEM_TABLE, stands, written};
+use acpi_vectors::{OEM, OEM_REVISION, OEM_TABLE, equal, writes};
 use std::test::Fail;
 
 #[test]
 fn rsdp(rt: HostRuntime) -> Result<(), Fail> {
+    let alloc = rt.alloc();
     let rsdp = Rsdp::new(*b"CHYPER", 0xdead_beef);
     let wanted = b"RSD PTR \x14CHYPER\x02\0\0\0\0\x24\0\0\0\xef\xbe\xad\xde\0\0\0\0\xa4\0\0\0";
-    assert_eq!(rt; written(rt.alloc(), &rsdp)?.as_slice(), wanted.as_slice());
-    assert_eq!(rt; u8sum(&rsdp)?, 0);
-    assert_eq!(rt; Rsdp::len(), 36);
+    writes(alloc, &rsdp, wanted)?;
+    equal(&u8sum(&rsdp)?, &0)?;
+    equal(&Rsdp::len(), &36)?;
     let numbered = Rsdp {
         signature: [1, 2, 3, 4, 5, 6, 7, 8],
         checksum: 9,
@@ -29,22 +30,16 @@ fn rsdp(rt: HostRuntime) -> Result<(), Fail> {
     };
     let wanted =
         b"\x01\x02\x03\x04\x05\x06\x07\x08\x09\x0a\x0b\x0c\x0d\x0e\x0f\x10\0\0\0\0\x11\x12\x13\x14\x15\x16\x17\x18\x19\x1a\x1b\x1c\x1d\0\0\0";
-    assert_eq!(rt;
-        written(rt.alloc(), &numbered)?.as_slice(),
-        wanted.as_slice()
-    );
-    Ok(())
+    writes(alloc, &numbered, wanted)
 }
 
 #[test]
 fn facs(rt: HostRuntime) -> Result<(), Fail> {
+    let alloc = rt.alloc();
     let first =
         b"FACS\x40\0\0\0\0\0\0\0\0\0\0\0\0\0\0\0\0\0\0\0\0\0\0\0\0\0\0\0\x01\0\0\0\0\0\0\0\0\0\0\0\0\0\0\0\0\0\0\0\0\0\0\0\0\0\0\0\0\0\0\0";
-    assert_eq!(rt;
-        written(rt.alloc(), &FACS::new())?.as_slice(),
-        first.as_slice()
-    );
-    assert_eq!(rt; FACS::len(), 64);
+    writes(alloc, &FACS::new(), first)?;
+    equal(&FACS::len(), &64)?;
     let numbered = FACS {
         signature: [1, 2, 3, 4],
         length: 0x0807_0605,
@@ -58,11 +53,7 @@ fn facs(rt: HostRuntime) -> Result<(), Fail> {
     };
     let wanted =
         b"\x01\x02\x03\x04\x05\x06\x07\x08\x09\x0a\x0b\x0c\x0d\x0e\x0f\x10\x11\x12\x13\x14\x15\x16\x17\x18\x19\x1a\x1b\x1c\x1d\x1e\x1f\x20\x21\0\0\0\x22\x23\x24\x25\0\0\0\0\0\0\0\0\0\0\0\0\0\0\0\0\0\0\0\0\0\0\0\0";
-    assert_eq!(rt;
-        written(rt.alloc(), &numbered)?.as_slice(),
-        wanted.as_slice()
-    );
-    Ok(())
+    writes(alloc, &numbered, wanted)
 }
 
 #[test]
@@ -76,9 +67,8 @@ fn bert(rt: HostRuntime) -> Result<(), Fail> {
     );
     let wanted =
         b"BERT\x30\0\0\0\x01\x76FOOBARCAFEDEAD\xef\xbe\xad\xdeRVAT\0\0\0\x01\x40\x30\x20\x10\xc0\xb0\xa0\x90\x80\x70\x60\x50";
-    assert_eq!(rt; written(rt.alloc(), &bert)?.as_slice(), wanted.as_slice());
-    assert_eq!(rt; u8sum(&bert)?, 0);
-    Ok(())
+    writes(rt.alloc(), &bert, wanted)?;
+    equal(&u8sum(&bert)?, &0)
 }
 
 #[test]
@@ -86,7 +76,6 @@ fn spcr(rt: HostRuntime) -> Result<(), Fail> {
     let spcr = SPCR::sbi(OEM, OEM_TABLE, OEM_REVISION);
     let wanted =
         b"SPCR\x5a\0\0\0\x04\x85FOOBARCAFEDEAD\xef\xbe\xad\xdeRVAT\0\0\0\x01\x15\0\0\0\0\0\0\0\0\0\0\0\0\0\0\0\0\0\0\0\0\0\0\0\0\0\0\0\xff\xff\xff\xff\0\0\0\0\0\0\0\0\0\0\0\0\0\0\0\0\x02\0\x58\0.\0";
-    assert_eq!(rt; written(rt.alloc(), &spcr)?.as_slice(), wanted.as_slice());
-    assert_eq!(rt; u8sum(&spcr)?, 0);
-    Ok(())
+    writes(rt.alloc(), &spcr, wanted)?;
+    equal(&u8sum(&spcr)?, &0)
 }

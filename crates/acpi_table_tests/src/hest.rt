@@ -1,14 +1,15 @@
 //! HEST and its error sources.
 
+use acpi_tables::Error;
 use acpi_tables::gas::{AccessSize, AddressSpace, GAS};
 use acpi_tables::hest::{
     EnabledStatus, ErrorSeverity, FirmwareFirst, GenericErrorData, GenericErrorStatus,
     GenericHardwareSource, GenericHardwareSourceV2, HEST, NotificationStructure, NotificationType,
     PciDevice, PcieAerBridge, PcieAerDevice, PcieAerRootPort,
 };
-use acpi_tables::{Aml, Error, R};
 use acpi_vectors::broken::Broken;
-use acpi_vectors::{OEM, OEM_REVISION, OEM_TABLE, many, writes};
+use acpi_vectors::table::{many, stands};
+use acpi_vectors::{OEM, OEM_REVISION, OEM_TABLE, refuses, same, writes};
 use std::alloc::Global;
 use std::test::Fail;
 
@@ -33,10 +34,7 @@ fn sources(rt: HostRuntime) -> Result<(), Fail> {
         hest.add_structure(PcieAerRootPort::new_global())?;
     }
     many(alloc, &hest, b"HEST", 1, &[0, 1, 0, 0], &ROOT_PORTS, 256)?;
-    let mut bytes = Vec::new(alloc);
-    hest.to_aml_bytes(&mut bytes)?;
-    assert!(&rt; bytes.starts_with(b"HEST\x28\x30\0\0\x01\x26"));
-    Ok(())
+    stands(alloc, &hest, 0, b"HEST\x28\x30\0\0\x01\x26")
 }
 
 #[test]
@@ -252,15 +250,8 @@ fn a_source_that_refuses(rt: HostRuntime) -> Result<(), Fail> {
     let alloc = rt.alloc();
     let mut hest = table(alloc);
     hest.add_structure(PcieAerRootPort::new_global())?;
-    assert_eq!(&rt; hest.add_structure(Broken {}), Err(Error::Sink(9)));
+    refuses(hest.add_structure(Broken {}), Error::Sink(9))?;
     many(alloc, &hest, b"HEST", 1, &[1, 0, 0, 0], &ROOT_PORTS, 1)
-}
-
-// An entry's bytes, and how its write ended.
-fn entry_written(alloc: Global, entry: &GenericErrorData) -> (Vec<u8>, R<()>) {
-    let mut bytes = Vec::new(alloc);
-    let end = entry.to_aml_bytes(&mut bytes);
-    (bytes, end)
 }
 
 #[test]
@@ -272,10 +263,9 @@ fn error_data(rt: HostRuntime) -> Result<(), Fail> {
     wanted[2] = 1;
     wanted[58] = 0x0b;
     wanted[60] = 1;
-    let (bytes, end) = entry_written(alloc, &entry);
-    end?;
-    assert_eq!(&rt; bytes.as_slice(), &wanted[..]);
-    Ok(())
+    let mut bytes = Vec::new(alloc);
+    entry.to_aml_bytes(&mut bytes)?;
+    same(&bytes, &wanted)
 }
 
 #[test]
@@ -291,13 +281,12 @@ fn error_data_fields(rt: HostRuntime) -> Result<(), Fail> {
     entry.fru_id = *b"\x10\x11\x12\x13\x14\x15\x16\x17\x18\x19\x1a\x1b\x1c\x1d\x1e\x1f";
     entry.fru_text = *b"the unit to replace.";
     entry.timestamp = *b"\x40\x41\x42\x43\x44\x45\x46\x47";
-    let (bytes, end) = entry_written(alloc, &entry);
-    end?;
-    assert_eq!(&rt;
-        bytes.as_slice(),
-        &b"\x02\x01\x02\0\0\0\x04\x03\x05\x06\x0a\x09\x08\x07\x10\x11\x12\x13\x14\x15\x16\x17\x18\x19\x1a\x1b\x1c\x1d\x1e\x1fthe unit to replace.\x40\x41\x42\x43\x44\x45\x46\x47"[..],
-    );
-    Ok(())
+    let mut bytes = Vec::new(alloc);
+    entry.to_aml_bytes(&mut bytes)?;
+    same(
+        &bytes,
+        b"\x02\x01\x02\0\0\0\x04\x03\x05\x06\x0a\x09\x08\x07\x10\x11\x12\x13\x14\x15\x16\x17\x18\x19\x1a\x1b\x1c\x1d\x1e\x1fthe unit to replace.\x40\x41\x42\x43\x44\x45\x46\x47",
+    )
 }
 
 #[test]
@@ -308,14 +297,8 @@ fn error_data_refused(rt: HostRuntime) -> Result<(), Fail> {
     entry.add_data(Box::new(alloc, Broken {})?)?;
     entry.add_data(Box::new(alloc, 8u8)?)?;
     let mut wanted = [0; 64];
-    wanted[58] = 0x0a;
-    wanted[59] = 7;
-    wanted[60] = 1;
-    wanted[61] = 2;
-    wanted[62] = 3;
-    wanted[63] = 4;
-    let (bytes, end) = entry_written(alloc, &entry);
-    assert_eq!(&rt; end, Err(Error::Sink(9)));
-    assert_eq!(&rt; bytes.as_slice(), &wanted[..]);
-    Ok(())
+    wanted[58..].copy_from_slice(&[0x0a, 7, 1, 2, 3, 4]);
+    let mut bytes = Vec::new(alloc);
+    refuses(entry.to_aml_bytes(&mut bytes), Error::Sink(9))?;
+    same(&bytes, &wanted)
 }

@@ -9,7 +9,8 @@ use acpi_tables::mcfg::MCFG;
 use acpi_tables::rqsc::{ControllerType, QoSController, RQSC};
 use acpi_tables::srat::{MemoryAffinity, SRAT};
 use acpi_tables::xsdt::XSDT;
-use acpi_vectors::{OEM, OEM_REVISION, OEM_TABLE, reads_back};
+use acpi_vectors::table::reads_back;
+use acpi_vectors::{OEM, OEM_REVISION, OEM_TABLE};
 use std::alloc::Global;
 use std::test::Fail;
 
@@ -17,29 +18,31 @@ const COUNTS: [u16; 3] = [0, 1, 256];
 
 #[test]
 fn xsdt(rt: HostRuntime) -> Result<(), Fail> {
+    let alloc = rt.alloc();
     for count in COUNTS {
-        let mut table = XSDT::new(rt.alloc(), OEM, OEM_TABLE, OEM_REVISION);
-        let mut added = Vec::new(rt.alloc());
+        let mut table = XSDT::new(alloc, OEM, OEM_TABLE, OEM_REVISION);
+        let mut added = Vec::new(alloc);
         for n in 0..count {
             added.extend_from_slice(&u64::from(n).to_le_bytes())?;
             table.add_entry(u64::from(n))?;
         }
-        reads_back(rt.alloc(), &table, 36, 8, &added)?;
+        reads_back(alloc, &table, 36, 8, &added)?;
     }
     Ok(())
 }
 
 #[test]
 fn mcfg(rt: HostRuntime) -> Result<(), Fail> {
+    let alloc = rt.alloc();
     for count in COUNTS {
-        let mut table = MCFG::new(rt.alloc(), OEM, OEM_TABLE, OEM_REVISION);
-        let mut added = Vec::new(rt.alloc());
+        let mut table = MCFG::new(alloc, OEM, OEM_TABLE, OEM_REVISION);
+        let mut added = Vec::new(alloc);
         for n in 0..count {
             added.extend_from_slice(&u64::from(n).to_le_bytes())?;
             added.extend_from_slice(b"\x01\x02\x03\x04\0\0\0\0")?;
             table.add_ecam(u64::from(n), 0x0201, 3, 4)?;
         }
-        reads_back(rt.alloc(), &table, 44, 16, &added)?;
+        reads_back(alloc, &table, 44, 16, &added)?;
     }
     Ok(())
 }
@@ -118,12 +121,13 @@ fn rqsc_of(alloc: Global, count: u16) -> Result<(), Fail> {
 
 #[test]
 fn others(rt: HostRuntime) -> Result<(), Fail> {
+    let alloc = rt.alloc();
     for count in COUNTS {
-        madt_of(rt.alloc(), count)?;
-        srat_of(rt.alloc(), count)?;
-        cedt_of(rt.alloc(), count)?;
-        hest_of(rt.alloc(), count)?;
-        rqsc_of(rt.alloc(), count)?;
+        madt_of(alloc, count)?;
+        srat_of(alloc, count)?;
+        cedt_of(alloc, count)?;
+        hest_of(alloc, count)?;
+        rqsc_of(alloc, count)?;
     }
     Ok(())
 }

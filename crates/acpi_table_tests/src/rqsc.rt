@@ -7,9 +7,9 @@ use acpi_tables::rqsc::{
     ACPIDeviceResource, CacheResource, ControllerType, MemoryAffinityStructureResource,
     PCIDeviceResource, QoSController, RQSC, ResourceID, ResourceStructure, ResourceType,
 };
-use acpi_vectors::{OEM, OEM_REVISION, OEM_TABLE, many, writes};
+use acpi_vectors::table::many;
+use acpi_vectors::{OEM, OEM_REVISION, OEM_TABLE, all, equal, refuses, writes};
 use std::alloc::Global;
-use std::process::Abort;
 use std::test::Fail;
 
 fn table(alloc: Global) -> RQSC {
@@ -87,68 +87,68 @@ fn capacity(rt: HostRuntime) -> Result<(), Fail> {
 fn payloads(rt: HostRuntime) -> Result<(), Fail> {
     let alloc = rt.alloc();
     let cache = CacheResource::new(0x0c0d_0e0f);
-    writes(alloc, &cache, b"\x0f\x0e\x0d\x0c\0\0\0\0\0\0\0\0")?;
-    writes(alloc, &cache.clone()?, b"\x0f\x0e\x0d\x0c\0\0\0\0\0\0\0\0")?;
     let memory = MemoryAffinityStructureResource::new(0x1213_1415, 0x1617_1819_1a1b_1c1d);
-    writes(
-        alloc,
-        &memory,
-        b"\x15\x14\x13\x12\0\0\0\0\0\0\0\0\x1d\x1c\x1b\x1a\x19\x18\x17\x16",
-    )?;
     let acpi = ACPIDeviceResource::new(0x2021_2223_2425_2627, 0x2829_2a2b);
-    writes(
-        alloc,
-        &acpi,
-        b"\x27\x26\x25\x24\x23\x22\x21\x20\x2b\x2a\x29\x28",
-    )?;
     let pci = PCIDeviceResource::new(0x2c2d_2e2f);
-    writes(alloc, &pci, b"\x2f\x2e\x2d\x2c\0\0\0\0\0\0\0\0")
-}
-
-// An id by itself, and one that was cloned from it.
-fn is_written<RT: Abort>(
-    rt: &RT,
-    alloc: Global,
-    id: &ResourceID,
-    kind: u8,
-    wanted: &[u8],
-) -> Result<(), Fail> {
-    assert_eq!(rt; id.resource_id_type(), kind);
-    assert_eq!(rt; id.len(), wanted.len());
-    writes(alloc, id, wanted)?;
-    writes(alloc, &id.clone()?, wanted)
+    all(
+        alloc,
+        &[
+            (&cache, b"\x0f\x0e\x0d\x0c\0\0\0\0\0\0\0\0"),
+            (&cache.clone()?, b"\x0f\x0e\x0d\x0c\0\0\0\0\0\0\0\0"),
+            (
+                &memory,
+                b"\x15\x14\x13\x12\0\0\0\0\0\0\0\0\x1d\x1c\x1b\x1a\x19\x18\x17\x16",
+            ),
+            (&acpi, b"\x27\x26\x25\x24\x23\x22\x21\x20\x2b\x2a\x29\x28"),
+            (&pci, b"\x2f\x2e\x2d\x2c\0\0\0\0\0\0\0\0"),
+        ],
+    )
 }
 
 #[test]
 fn ids(rt: HostRuntime) -> Result<(), Fail> {
     let alloc = rt.alloc();
-    let cache = ResourceID::Cache(CacheResource::new(0x0c0d_0e0f));
-    is_written(&rt, alloc, &cache, 0, b"\0\x0f\x0e\x0d\x0c\0\0\0\0\0\0\0\0")?;
-    let memory = ResourceID::MemoryAffinityStructure(MemoryAffinityStructureResource::new(
-        0x1213_1415,
-        0x1617_1819_1a1b_1c1d,
-    ));
-    is_written(
-        &rt,
-        alloc,
-        &memory,
-        1,
-        b"\x01\x15\x14\x13\x12\0\0\0\0\0\0\0\0\x1d\x1c\x1b\x1a\x19\x18\x17\x16",
-    )?;
-    let acpi = ResourceID::ACPIDevice(ACPIDeviceResource::new(0x2021_2223_2425_2627, 0x2829_2a2b));
-    is_written(
-        &rt,
-        alloc,
-        &acpi,
-        2,
-        b"\x02\x27\x26\x25\x24\x23\x22\x21\x20\x2b\x2a\x29\x28",
-    )?;
-    let pci = ResourceID::PCIDevice(PCIDeviceResource::new(0x2c2d_2e2f));
-    is_written(&rt, alloc, &pci, 3, b"\x03\x2f\x2e\x2d\x2c\0\0\0\0\0\0\0\0")?;
-    let vendor = ResourceID::VendorSpecific(0xff, b"\x31\x32\x33".to_vec(alloc)?);
-    is_written(&rt, alloc, &vendor, 0xff, b"\xff\x31\x32\x33")?;
-    let nothing = ResourceID::VendorSpecific(0x80, Vec::new(alloc));
-    is_written(&rt, alloc, &nothing, 0x80, b"\x80")
+    let memory = MemoryAffinityStructureResource::new(0x1213_1415, 0x1617_1819_1a1b_1c1d);
+    let acpi = ACPIDeviceResource::new(0x2021_2223_2425_2627, 0x2829_2a2b);
+    let rows: [(ResourceID, u8, &[u8]); 6] = [
+        (
+            ResourceID::Cache(CacheResource::new(0x0c0d_0e0f)),
+            0,
+            b"\0\x0f\x0e\x0d\x0c\0\0\0\0\0\0\0\0",
+        ),
+        (
+            ResourceID::MemoryAffinityStructure(memory),
+            1,
+            b"\x01\x15\x14\x13\x12\0\0\0\0\0\0\0\0\x1d\x1c\x1b\x1a\x19\x18\x17\x16",
+        ),
+        (
+            ResourceID::ACPIDevice(acpi),
+            2,
+            b"\x02\x27\x26\x25\x24\x23\x22\x21\x20\x2b\x2a\x29\x28",
+        ),
+        (
+            ResourceID::PCIDevice(PCIDeviceResource::new(0x2c2d_2e2f)),
+            3,
+            b"\x03\x2f\x2e\x2d\x2c\0\0\0\0\0\0\0\0",
+        ),
+        (
+            ResourceID::VendorSpecific(0xff, b"\x31\x32\x33".to_vec(alloc)?),
+            0xff,
+            b"\xff\x31\x32\x33",
+        ),
+        (
+            ResourceID::VendorSpecific(0x80, Vec::new(alloc)),
+            0x80,
+            b"\x80",
+        ),
+    ];
+    for (id, kind, wanted) in rows {
+        equal(&id.resource_id_type(), &kind)?;
+        equal(&id.len(), &wanted.len())?;
+        writes(alloc, &id, wanted)?;
+        writes(alloc, &id.clone()?, wanted)?;
+    }
+    Ok(())
 }
 
 #[test]
@@ -160,29 +160,31 @@ fn resources(rt: HostRuntime) -> Result<(), Fail> {
         ResourceID::Cache(CacheResource::new(0x0c0d_0e0f)),
     );
     let first = b"\0\0\x14\0\x11\x10\0\0\x0f\x0e\x0d\x0c\0\0\0\0\0\0\0\0";
-    assert_eq!(&rt; cache.len(), 20);
-    writes(alloc, &cache, first)?;
-    writes(alloc, &cache.clone()?, first)?;
     let vendor = vendors(alloc, b"\x31\x32\x33")?;
     let second = b"\x01\0\x0b\0\x13\x12\0\x80\x31\x32\x33";
-    assert_eq!(&rt; vendor.len(), 11);
-    writes(alloc, &vendor, second)?;
-    writes(alloc, &vendor.clone()?, second)?;
+    equal(&cache.len(), &20)?;
+    equal(&vendor.len(), &11)?;
+    all(
+        alloc,
+        &[
+            (&cache, first),
+            (&cache.clone()?, first),
+            (&vendor, second),
+            (&vendor.clone()?, second),
+        ],
+    )?;
     let mut shared = controller(alloc);
-    assert_eq!(&rt; shared.len(), 28);
+    equal(&shared.len(), &28)?;
     shared.add_resource(cache)?;
     shared.add_resource(vendor)?;
-    assert_eq!(&rt; shared.len(), 59);
     let mut wanted = Vec::new(alloc);
-    wanted.extend_from_slice(b"\x01\0\x3b\0")?;
-    wanted.extend_from_slice(&CONTROLLER[4..26])?;
-    wanted.extend_from_slice(&[2, 0])?;
-    wanted.extend_from_slice(first)?;
-    wanted.extend_from_slice(second)?;
-    writes(alloc, &shared, &wanted)?;
-    let copy = shared.clone()?;
-    assert_eq!(&rt; copy.len(), 59);
-    writes(alloc, &copy, &wanted)?;
+    for part in [b"\x01\0\x3b\0", &CONTROLLER[4..26], &[2, 0], first, second] {
+        wanted.extend_from_slice(part)?;
+    }
+    for made in [&shared, &shared.clone()?] {
+        equal(&made.len(), &59)?;
+        writes(alloc, made, &wanted)?;
+    }
     let mut rqsc = table(alloc);
     rqsc.add_controller(shared)?;
     many(alloc, &rqsc, b"RQSC", 1, &[1, 0, 0, 0], &wanted, 1)
@@ -192,35 +194,29 @@ fn resources(rt: HostRuntime) -> Result<(), Fail> {
 fn longest_controller(rt: HostRuntime) -> Result<(), Fail> {
     let alloc = rt.alloc();
     let mut full = controller(alloc);
-    assert_eq!(&rt;
+    refuses(
         full.add_resource(vendors(alloc, &[0x5a; 65_500])?),
-        Err(Error::FieldWidth)
-    );
-    assert_eq!(&rt; full.len(), 28);
+        Error::FieldWidth,
+    )?;
+    equal(&full.len(), &28)?;
     writes(alloc, &full, &CONTROLLER)?;
     full.add_resource(vendors(alloc, &[0x5a; 65_499])?)?;
-    assert_eq!(&rt; full.len(), 65_535);
-    assert_eq!(&rt;
-        full.add_resource(vendors(alloc, &[])?),
-        Err(Error::FieldWidth)
-    );
-    assert_eq!(&rt; full.len(), 65_535);
-    Ok(())
+    equal(&full.len(), &65_535)?;
+    refuses(full.add_resource(vendors(alloc, &[])?), Error::FieldWidth)?;
+    equal(&full.len(), &65_535)
 }
 
 #[test]
 fn longest_resource(rt: HostRuntime) -> Result<(), Fail> {
     let alloc = rt.alloc();
     let longest = vendors(alloc, &[0x5a; 65_527])?;
-    assert_eq!(&rt; longest.len(), 65_535);
-    let mut wanted = Vec::new(alloc);
-    wanted.extend_from_slice(b"\x01\0\xff\xff\x13\x12\0\x80")?;
+    equal(&longest.len(), &65_535)?;
+    let mut wanted = Vec::from_slice(alloc, b"\x01\0\xff\xff\x13\x12\0\x80")?;
     wanted.extend_from_slice(&[0x5a; 65_527])?;
     writes(alloc, &longest, &wanted)?;
     let longer = vendors(alloc, &[0x5a; 65_528])?;
-    assert_eq!(&rt; longer.len(), 65_536);
+    equal(&longer.len(), &65_536)?;
     let mut bytes = Vec::new(alloc);
-    assert_eq!(&rt; append(&longer, &mut bytes), Err(Error::FieldWidth));
-    assert_eq!(&rt; bytes.len(), 0);
-    Ok(())
+    refuses(append(&longer, &mut bytes), Error::FieldWidth)?;
+    equal(&bytes.len(), &0)
 }

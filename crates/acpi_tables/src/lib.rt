@@ -58,6 +58,3 @@ pub use acpi_base::error::{Error, R};
 pub use acpi_base::header::{CREATOR_ID, CREATOR_REVISION};
 pub use acpi_base::object::{Aml, u8sum};
 pub use acpi_base::sink::AmlSink;
-
-#[cfg(test)]
-mod tests;

@@ -1,13 +1,13 @@
 //! Terms whose bytes were changed at random.
 
 use super::{PORT, stated};
-use crate::mutation::{Numbers, change};
 use acpi_read::report::report_terms;
 use acpi_read::terms::terms;
 use acpi_term::name_string::Arities;
 use acpi_term::spell::spell;
+use acpi_vectors::mutation::{Numbers, change};
+use acpi_vectors::same;
 use std::alloc::Global;
-use std::process::Abort;
 use std::test::Fail;
 
 // Valid terms, cut where others may stand in their place: the serial port; a method with a loop and a branch, and a call of it;
@@ -43,20 +43,21 @@ fn nth(index: usize) -> [&'static [u8]; 6] {
 }
 
 // Whether the bytes are read. Where they are, their terms are spelled by them, and have a report.
-fn is_read(rt: &(impl AllocGlobal + Abort), bytes: &[u8], arities: &Arities) -> Result<bool, Fail> {
+fn is_read(alloc: Global, bytes: &[u8], arities: &Arities) -> Result<bool, Fail> {
     match terms(bytes, arities) {
         Ok(list) => {
-            let spelled = spell(rt.alloc(), &list)?;
-            assert_eq!(rt; spelled.as_slice(), bytes);
-            let report = report_terms(rt.alloc(), &list)?;
-            assert!(rt; report.as_str().lines().count() >= list.len(), "{bytes:?}");
-            Ok(true)
+            same(&spell(alloc, &list)?, bytes)?;
+            let lines = report_terms(alloc, &list)?.lines().count();
+            if lines >= list.len() {
+                Ok(true)
+            } else {
+                Err(Fail::new(format_args!("{lines} lines of {bytes:?}")))
+            }
         }
-        Err(error) => {
-            let offset = error.offset().ok_or("an offset")?;
-            assert!(rt; offset <= bytes.len(), "{bytes:?}");
-            Ok(false)
-        }
+        Err(error) => match error.offset() {
+            Some(offset) if offset <= bytes.len() => Ok(false),
+            _ => Err(Fail::new(format_args!("{error:?} in {bytes:?}"))),
+        },
     }
 }
 
@@ -73,17 +74,18 @@ fn joined(alloc: Global, parts: [&[u8]; 6]) -> Result<(Vec<u8>, Vec<usize>), Fai
 
 #[test]
 fn mutated(rt: HostRuntime) -> Result<(), Fail> {
-    let arities = stated(rt.alloc(), "MTHD", 2)?;
+    let alloc = rt.alloc();
+    let arities = stated(alloc, "MTHD", 2)?;
     let mut numbers = Numbers(0x2545_f491_4f6c_dd1d);
     let mut read = 0u32;
     for count in 0..20_000usize {
-        let (mut bytes, seams) = joined(rt.alloc(), nth(count % 4))?;
+        let (mut bytes, seams) = joined(alloc, nth(count % 4))?;
         // The first four are read unchanged.
         if count < 4 {
-            assert!(&rt; is_read(&rt, &bytes, &arities)?, "{bytes:?}");
+            assert!(&rt; is_read(alloc, &bytes, &arities)?, "{bytes:?}");
         }
         change(&mut numbers, &mut bytes, &seams)?;
-        if is_read(&rt, &bytes, &arities)? {
+        if is_read(alloc, &bytes, &arities)? {
             read = read.wrapping_add(1);
         }
     }

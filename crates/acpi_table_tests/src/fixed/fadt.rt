@@ -3,7 +3,8 @@
 use acpi_base::gas::{AccessSize, AddressSpace, GAS};
 use acpi_base::object::u8sum;
 use acpi_tables::fadt::{FADT, FADTBuilder, Flags, PmProfile};
-use acpi_vectors::{OEM, OEM_REVISION, OEM_TABLE, patched, stands, written};
+use acpi_vectors::table::{patched, stands};
+use acpi_vectors::{OEM, OEM_REVISION, OEM_TABLE, equal, writes, written};
 use std::test::Fail;
 
 // The byte at each offset is the offset's lowest, but in reserved bytes, the checksum, spaces and access sizes.
@@ -163,37 +164,27 @@ fn every_field(rt: HostRuntime) -> Result<(), Fail> {
         0xff, 0x7f, 0x01, 0x02, 0x01, 0x04, 0x05, 0x06, 0x07, 0x08, 0x09, 0x0a, 0x0b, 0x0c, 0x0d,
         0x0e, 0x0f, 0x10, 0x11, 0x12, 0x13,
     ];
-    assert_eq!(rt;
-        written(rt.alloc(), &numbered().finalize())?.as_slice(),
-        wanted.as_slice()
-    );
-    assert_eq!(rt; FADT::len(), 276);
-    Ok(())
+    writes(rt.alloc(), &numbered().finalize(), &wanted)?;
+    equal(&FADT::len(), &276)
 }
 
 #[test]
 fn at_first(rt: HostRuntime) -> Result<(), Fail> {
-    let nothing = FADTBuilder::default().finalize();
-    assert_eq!(rt;
-        written(rt.alloc(), &nothing)?.as_slice(),
-        [0; 276].as_slice()
-    );
+    let alloc = rt.alloc();
+    writes(alloc, &FADTBuilder::default().finalize(), &[0; 276])?;
 
     let table = FADTBuilder::new(OEM, OEM_TABLE, OEM_REVISION).finalize();
     let header = b"FACP\x14\x01\0\0\x06\x7aFOOBARCAFEDEAD\xef\xbe\xad\xdeRVAT\0\0\0\x01";
-    let bytes = written(rt.alloc(), &table)?;
-    assert_eq!(rt; bytes.len(), 276);
-    stands(rt.alloc(), &table, 0, header)?;
-    for (at, byte) in bytes.iter().enumerate() {
-        let wanted = if at == 131 { 5 } else { 0 };
-        assert!(rt; at < 36 || *byte == wanted, "at {at}");
-    }
-    assert_eq!(rt; u8sum(&table)?, 0);
-    Ok(())
+    let mut wanted = [0; 276];
+    wanted[..36].copy_from_slice(header);
+    wanted[131] = 5;
+    writes(alloc, &table, &wanted)?;
+    equal(&u8sum(&table)?, &0)
 }
 
 #[test]
 fn flags(rt: HostRuntime) -> Result<(), Fail> {
+    let alloc = rt.alloc();
     let builder = FADTBuilder::new(OEM, OEM_TABLE, OEM_REVISION);
     for (flag, wanted) in [
         (Flags::Wbinvd, b"\x01\0\0\0"),
@@ -222,14 +213,13 @@ fn flags(rt: HostRuntime) -> Result<(), Fail> {
         (Flags::PersistentCpuCachesNotPersistent, b"\0\0\x40\0"),
         (Flags::PersistentCpuCachesArePersistent, b"\0\0\x80\0"),
     ] {
-        stands(rt.alloc(), &builder.flag(flag).finalize(), 112, wanted)?;
+        stands(alloc, &builder.flag(flag).finalize(), 112, wanted)?;
     }
     let joined = builder
         .flag(Flags::Headless)
         .flag(Flags::HwReducedAcpi)
         .flag(Flags::Headless);
-    stands(rt.alloc(), &joined.finalize(), 112, b"\0\x10\x10\0")?;
-    Ok(())
+    stands(alloc, &joined.finalize(), 112, b"\0\x10\x10\0")
 }
 
 #[test]
@@ -255,40 +245,40 @@ fn profiles(rt: HostRuntime) -> Result<(), Fail> {
 // Each call sets its own fields, and zero in the twin of an address.
 #[test]
 fn setters(rt: HostRuntime) -> Result<(), Fail> {
+    let alloc = rt.alloc();
     let old = numbered();
-    let before = written(rt.alloc(), &old.finalize())?;
+    let before = written(alloc, &old.finalize())?;
     let low = b"\xa0\xa1\xa2\xa3";
     let high = b"\xa0\xa1\xa2\xa3\xa4\xa5\xa6\xa7";
-    let facs = old.firmware_ctrl_32(0xa3a2_a1a0).finalize();
-    patched(rt.alloc(), &facs, &before, &[(36, low), (132, &[0; 8])])?;
-    let facs = old.firmware_ctrl_64(0xa7a6_a5a4_a3a2_a1a0).finalize();
-    patched(rt.alloc(), &facs, &before, &[(36, &[0; 4]), (132, high)])?;
-    let dsdt = old.dsdt_32(0xa3a2_a1a0).finalize();
-    patched(rt.alloc(), &dsdt, &before, &[(40, low), (140, &[0; 8])])?;
-    let dsdt = old.dsdt_64(0xa7a6_a5a4_a3a2_a1a0).finalize();
-    patched(rt.alloc(), &dsdt, &before, &[(40, &[0; 4]), (140, high)])?;
-    let dsdt = old.dsdt_32(5).dsdt_64(7).finalize();
-    patched(
-        rt.alloc(),
-        &dsdt,
-        &before,
-        &[(40, &[0; 4]), (140, b"\x07\0\0\0\0\0\0\0")],
-    )?;
-    let enabled = old.acpi_enable().finalize();
-    patched(rt.alloc(), &enabled, &before, &[(52, &[1, 0])])?;
-    let disabled = old.acpi_disable().finalize();
-    patched(rt.alloc(), &disabled, &before, &[(52, &[0, 1])])?;
-    let mobile = old.preferred_pm_profile(PmProfile::Mobile).finalize();
-    patched(rt.alloc(), &mobile, &before, &[(45, &[2])])?;
-    let events = old
-        .gpe_info(0x1413_1211, 0x2423_2221, 0x31, 0x32, 0x33)
-        .finalize();
     let blocks = b"\x11\x12\x13\x14\x21\x22\x23\x24";
-    patched(
-        rt.alloc(),
-        &events,
-        &before,
-        &[(80, blocks), (92, &[0x31, 0x32, 0x33])],
-    )?;
+    let rows: [(FADTBuilder, &[(usize, &[u8])]); 9] = [
+        (
+            old.firmware_ctrl_32(0xa3a2_a1a0),
+            &[(36, low), (132, &[0; 8])],
+        ),
+        (
+            old.firmware_ctrl_64(0xa7a6_a5a4_a3a2_a1a0),
+            &[(36, &[0; 4]), (132, high)],
+        ),
+        (old.dsdt_32(0xa3a2_a1a0), &[(40, low), (140, &[0; 8])]),
+        (
+            old.dsdt_64(0xa7a6_a5a4_a3a2_a1a0),
+            &[(40, &[0; 4]), (140, high)],
+        ),
+        (
+            old.dsdt_32(5).dsdt_64(7),
+            &[(40, &[0; 4]), (140, b"\x07\0\0\0\0\0\0\0")],
+        ),
+        (old.acpi_enable(), &[(52, &[1, 0])]),
+        (old.acpi_disable(), &[(52, &[0, 1])]),
+        (old.preferred_pm_profile(PmProfile::Mobile), &[(45, &[2])]),
+        (
+            old.gpe_info(0x1413_1211, 0x2423_2221, 0x31, 0x32, 0x33),
+            &[(80, blocks), (92, &[0x31, 0x32, 0x33])],
+        ),
+    ];
+    for (builder, parts) in rows {
+        patched(alloc, &builder.finalize(), &before, parts)?;
+    }
     Ok(())
 }

@@ -4,7 +4,8 @@ use acpi_base::error::Error;
 use acpi_base::gas::{AccessSize, AddressSpace, GAS};
 use acpi_base::object::u8sum;
 use acpi_tables::tpm2::{PlatformClass, StartMethod, Tpm2, TpmClient1_2, TpmServer1_2};
-use acpi_vectors::{OEM, OEM_REVISION, OEM_TABLE, patched, stands, written};
+use acpi_vectors::table::{patched, stands};
+use acpi_vectors::{OEM, OEM_REVISION, OEM_TABLE, equal, refuses, writes, written};
 use std::test::Fail;
 
 // A server's table before any setter.
@@ -13,6 +14,7 @@ const SERVER: [u8; 100] =
 
 #[test]
 fn tcpa(rt: HostRuntime) -> Result<(), Fail> {
+    let alloc = rt.alloc();
     let client = TpmClient1_2::new(
         OEM,
         OEM_TABLE,
@@ -22,38 +24,18 @@ fn tcpa(rt: HostRuntime) -> Result<(), Fail> {
     );
     let wanted =
         b"TCPA\x32\0\0\0\x02\x0aFOOBARCAFEDEAD\xef\xbe\xad\xdeRVAT\0\0\0\x01\0\0\x01\x02\x03\x04\x05\x06\x07\x08\x09\x0a\x0b\x0c";
-    assert_eq!(rt; written(rt.alloc(), &client)?.as_slice(), wanted.as_slice());
+    writes(alloc, &client, wanted)?;
     let server = TpmServer1_2::new(OEM, OEM_TABLE, OEM_REVISION);
-    assert_eq!(rt; written(rt.alloc(), &server)?.as_slice(), SERVER.as_slice());
-    assert_eq!(rt; TpmServer1_2::len(), 100);
-    Ok(())
+    writes(alloc, &server, &SERVER)?;
+    equal(&TpmServer1_2::len(), &100)
 }
 
 // Each setter's bytes and flags, and nothing else changes but the checksum.
 #[test]
 fn tcpa_setters(rt: HostRuntime) -> Result<(), Fail> {
+    let alloc = rt.alloc();
     let server = TpmServer1_2::new(OEM, OEM_TABLE, OEM_REVISION);
-    let area = server.log_area(0x0807_0605_0403_0201, 0x100f_0e0d_0c0b_0a09);
-    let wanted = b"\x01\x02\x03\x04\x05\x06\x07\x08\x09\x0a\x0b\x0c\x0d\x0e\x0f\x10";
-    patched(rt.alloc(), &area, &SERVER, &[(40, wanted)])?;
-    patched(rt.alloc(), &server.active_low(), &SERVER, &[(59, &[2])])?;
-    patched(rt.alloc(), &server.edge_triggered(), &SERVER, &[(59, &[1])])?;
-    patched(rt.alloc(), &server.sci_gpe(7), &SERVER, &[(59, &[4, 7])])?;
-    let gsi = server.gsi(0x0403_0201);
-    patched(
-        rt.alloc(),
-        &gsi,
-        &SERVER,
-        &[(59, &[8]), (64, &[1, 2, 3, 4])],
-    )?;
-    patched(rt.alloc(), &server.bus_is_pnp(), &SERVER, &[(58, &[2])])?;
-    let pci = server.pci_sbdf(1, 2, 31, 7);
-    patched(
-        rt.alloc(),
-        &pci,
-        &SERVER,
-        &[(58, &[1]), (96, &[1, 2, 31, 7])],
-    )?;
+    let area = b"\x01\x02\x03\x04\x05\x06\x07\x08\x09\x0a\x0b\x0c\x0d\x0e\x0f\x10";
     let port = GAS::new(
         AddressSpace::SystemIo,
         8,
@@ -61,19 +43,27 @@ fn tcpa_setters(rt: HostRuntime) -> Result<(), Fail> {
         AccessSize::WordAccess,
         0x0807_0605_0403_0201,
     );
-    let wanted = [1, 8, 3, 2, 1, 2, 3, 4, 5, 6, 7, 8];
-    patched(
-        rt.alloc(),
-        &server.base_addr(port),
-        &SERVER,
-        &[(68, &wanted)],
-    )?;
-    patched(
-        rt.alloc(),
-        &server.config_addr(port),
-        &SERVER,
-        &[(58, &[4]), (84, &wanted)],
-    )?;
+    let register = [1, 8, 3, 2, 1, 2, 3, 4, 5, 6, 7, 8];
+    let rows: [(TpmServer1_2, &[(usize, &[u8])]); 9] = [
+        (
+            server.log_area(0x0807_0605_0403_0201, 0x100f_0e0d_0c0b_0a09),
+            &[(40, area)],
+        ),
+        (server.active_low(), &[(59, &[2])]),
+        (server.edge_triggered(), &[(59, &[1])]),
+        (server.sci_gpe(7), &[(59, &[4, 7])]),
+        (server.gsi(0x0403_0201), &[(59, &[8]), (64, &[1, 2, 3, 4])]),
+        (server.bus_is_pnp(), &[(58, &[2])]),
+        (
+            server.pci_sbdf(1, 2, 31, 7),
+            &[(58, &[1]), (96, &[1, 2, 31, 7])],
+        ),
+        (server.base_addr(port), &[(68, &register)]),
+        (server.config_addr(port), &[(58, &[4]), (84, &register)]),
+    ];
+    for (table, parts) in rows {
+        patched(alloc, &table, &SERVER, parts)?;
+    }
     let all = server
         .active_low()
         .edge_triggered()
@@ -82,12 +72,12 @@ fn tcpa_setters(rt: HostRuntime) -> Result<(), Fail> {
         .bus_is_pnp()
         .pci_sbdf(0, 0, 0, 0)
         .config_addr(port);
-    stands(rt.alloc(), &all, 58, b"\x07\x0f\x01")?;
-    Ok(())
+    stands(alloc, &all, 58, b"\x07\x0f\x01")
 }
 
 #[test]
 fn tpm2(rt: HostRuntime) -> Result<(), Fail> {
+    let alloc = rt.alloc();
     let mut tpm2 = Tpm2::new(
         OEM,
         OEM_TABLE,
@@ -98,19 +88,18 @@ fn tpm2(rt: HostRuntime) -> Result<(), Fail> {
     );
     let short =
         b"TPM2\x34\0\0\0\x01\x92FOOBARCAFEDEAD\xef\xbe\xad\xdeRVAT\0\0\0\x01\x01\0\0\0\x45\x23\x01\x89\x67\x45\x23\x01\x07\0\0\0";
-    assert_eq!(rt; written(rt.alloc(), &tpm2)?.as_slice(), short.as_slice());
-    assert_eq!(rt; u8sum(&tpm2)?, 0);
+    writes(alloc, &tpm2, short)?;
+    equal(&u8sum(&tpm2)?, &0)?;
 
     tpm2.set_log_area(0x8070_6050, 0x4030_2010_f0e0_d0c0)?;
     let long =
         b"TPM2\x4c\0\0\0\x01\xdaFOOBARCAFEDEAD\xef\xbe\xad\xdeRVAT\0\0\0\x01\x01\0\0\0\x45\x23\x01\x89\x67\x45\x23\x01\x07\0\0\0\0\0\0\0\0\0\0\0\0\0\0\0\x50\x60\x70\x80\xc0\xd0\xe0\xf0\x10\x20\x30\x40";
-    assert_eq!(rt; written(rt.alloc(), &tpm2)?.as_slice(), long.as_slice());
-    assert_eq!(rt; tpm2.set_log_area(1, 2), Err(Error::LogAreaSet));
-    assert_eq!(rt; written(rt.alloc(), &tpm2)?.as_slice(), long.as_slice());
-    assert_eq!(rt; u8sum(&tpm2)?, 0);
-    assert_eq!(rt; PlatformClass::default(), PlatformClass::Client);
-    assert_eq!(rt; StartMethod::default(), StartMethod::LegacyUse);
-    Ok(())
+    writes(alloc, &tpm2, long)?;
+    refuses(tpm2.set_log_area(1, 2), Error::LogAreaSet)?;
+    writes(alloc, &tpm2, long)?;
+    equal(&u8sum(&tpm2)?, &0)?;
+    equal(&PlatformClass::default(), &PlatformClass::Client)?;
+    equal(&StartMethod::default(), &StartMethod::LegacyUse)
 }
 
 #[test]
@@ -127,6 +116,7 @@ fn classes(rt: HostRuntime) -> Result<(), Fail> {
 
 #[test]
 fn start_methods(rt: HostRuntime) -> Result<(), Fail> {
+    let alloc = rt.alloc();
     for (method, wanted) in [
         (StartMethod::LegacyUse, 1),
         (StartMethod::AcpiStart, 2),
@@ -138,8 +128,8 @@ fn start_methods(rt: HostRuntime) -> Result<(), Fail> {
     ] {
         let class = PlatformClass::Client;
         let table = Tpm2::new(OEM, OEM_TABLE, OEM_REVISION, class, 0, method);
-        stands(rt.alloc(), &table, 48, &[wanted, 0, 0, 0])?;
-        assert_eq!(rt; written(rt.alloc(), &table)?.len(), 52);
+        stands(alloc, &table, 48, &[wanted, 0, 0, 0])?;
+        equal(&written(alloc, &table)?.len(), &52)?;
     }
     Ok(())
 }

@@ -3,8 +3,12 @@
 use acpi_base::error::Error;
 use acpi_base::object::Aml;
 use acpi_tables::srat::{GenericInitiator, Handle, MemoryAffinity, RintcAffinity, SRAT};
-use acpi_vectors::{OEM, OEM_REVISION, OEM_TABLE, many, writes};
+use acpi_vectors::table::many;
+use acpi_vectors::{OEM, OEM_REVISION, OEM_TABLE, all, refuses, same, writes};
 use std::test::Fail;
+
+// The fields behind the header.
+const FIXED: [u8; 12] = [1, 0, 0, 0, 0, 0, 0, 0, 0, 0, 0, 0];
 
 #[test]
 fn srat(rt: HostRuntime) -> Result<(), Fail> {
@@ -27,40 +31,45 @@ fn srat(rt: HostRuntime) -> Result<(), Fail> {
 #[test]
 fn memory_flags(rt: HostRuntime) -> Result<(), Fail> {
     let alloc = rt.alloc();
-    let mut wanted = [0; 40];
-    wanted[0] = 1;
-    wanted[1] = 40;
-    writes(alloc, &MemoryAffinity::new(0, 0, 0), &wanted)?;
-    wanted[28] = 1;
-    writes(alloc, &MemoryAffinity::new(0, 0, 0).enabled(), &wanted)?;
-    wanted[28] = 2;
-    writes(alloc, &MemoryAffinity::new(0, 0, 0).hotpluggable(), &wanted)?;
-    wanted[28] = 4;
-    writes(alloc, &MemoryAffinity::new(0, 0, 0).nonvolatile(), &wanted)
+    for (memory, flags) in [
+        (MemoryAffinity::new(0, 0, 0), 0),
+        (MemoryAffinity::new(0, 0, 0).enabled(), 1),
+        (MemoryAffinity::new(0, 0, 0).hotpluggable(), 2),
+        (MemoryAffinity::new(0, 0, 0).nonvolatile(), 4),
+    ] {
+        let mut wanted = [0; 40];
+        wanted[0] = 1;
+        wanted[1] = 40;
+        wanted[28] = flags;
+        writes(alloc, &memory, &wanted)?;
+    }
+    Ok(())
 }
 
 #[test]
 fn initiators(rt: HostRuntime) -> Result<(), Fail> {
     let alloc = rt.alloc();
     let acpi = Handle::new_acpi(*b"ABCDEFGH", *b"ijkl");
-    writes(alloc, &acpi, b"ABCDEFGHijkl\0\0\0\0")?;
-    let initiator = GenericInitiator::new(0x0403_0201, acpi);
-    writes(
-        alloc,
-        &initiator,
-        b"\x05\x20\0\0\x01\x02\x03\x04ABCDEFGHijkl\0\0\0\0\0\0\0\0\0\0\0\0",
-    )?;
     let pci = Handle::new_pci(0x2211, 0x33, 31, 7);
-    writes(alloc, &pci, b"\x11\x22\x33\xff\0\0\0\0\0\0\0\0\0\0\0\0")?;
-    writes(
+    let architectural = GenericInitiator::new(9, Handle::new_pci(0, 0, 1, 0)).architectural();
+    all(
         alloc,
-        &GenericInitiator::new(9, pci).enabled(),
-        b"\x05\x20\0\x01\x09\0\0\0\x11\x22\x33\xff\0\0\0\0\0\0\0\0\0\0\0\0\x01\0\0\0\0\0\0\0",
-    )?;
-    writes(
-        alloc,
-        &GenericInitiator::new(9, Handle::new_pci(0, 0, 1, 0)).architectural(),
-        b"\x05\x20\0\x01\x09\0\0\0\0\0\0\x08\0\0\0\0\0\0\0\0\0\0\0\0\x02\0\0\0\0\0\0\0",
+        &[
+            (&acpi, b"ABCDEFGHijkl\0\0\0\0"),
+            (
+                &GenericInitiator::new(0x0403_0201, acpi),
+                b"\x05\x20\0\0\x01\x02\x03\x04ABCDEFGHijkl\0\0\0\0\0\0\0\0\0\0\0\0",
+            ),
+            (&pci, b"\x11\x22\x33\xff\0\0\0\0\0\0\0\0\0\0\0\0"),
+            (
+                &GenericInitiator::new(9, pci).enabled(),
+                b"\x05\x20\0\x01\x09\0\0\0\x11\x22\x33\xff\0\0\0\0\0\0\0\0\0\0\0\0\x01\0\0\0\0\0\0\0",
+            ),
+            (
+                &architectural,
+                b"\x05\x20\0\x01\x09\0\0\0\0\0\0\x08\0\0\0\0\0\0\0\0\0\0\0\0\x02\0\0\0\0\0\0\0",
+            ),
+        ],
     )
 }
 
@@ -75,59 +84,41 @@ fn addresses_out_of_range(rt: HostRuntime) -> Result<(), Fail> {
             device,
             function,
         };
-        let mut bytes = Vec::new(alloc);
-        assert_eq!(rt; handle.to_aml_bytes(&mut bytes), Err(Error::PciAddress));
-        assert!(rt; bytes.is_empty());
         let initiator = GenericInitiator::new(0, handle);
-        assert_eq!(rt; initiator.to_aml_bytes(&mut bytes), Err(Error::PciAddress));
-        assert!(rt; bytes.is_empty());
-        assert_eq!(rt;
-            table.add_generic_initiator(initiator),
-            Err(Error::PciAddress)
-        );
+        let mut bytes = Vec::new(alloc);
+        refuses(handle.to_aml_bytes(&mut bytes), Error::PciAddress)?;
+        refuses(initiator.to_aml_bytes(&mut bytes), Error::PciAddress)?;
+        same(&bytes, &[])?;
+        refuses(table.add_generic_initiator(initiator), Error::PciAddress)?;
     }
-    many(
-        alloc,
-        &table,
-        b"SRAT",
-        1,
-        &[1, 0, 0, 0, 0, 0, 0, 0, 0, 0, 0, 0],
-        &[],
-        0,
-    )?;
+    many(alloc, &table, b"SRAT", 1, &FIXED, &[], 0)?;
     table.add_generic_initiator(GenericInitiator::new(0, Handle::new_acpi([0; 8], [0; 4])))?;
     let mut initiator = [0; 32];
     initiator[0] = 5;
     initiator[1] = 32;
-    many(
-        alloc,
-        &table,
-        b"SRAT",
-        1,
-        &[1, 0, 0, 0, 0, 0, 0, 0, 0, 0, 0, 0],
-        &initiator,
-        1,
-    )
+    many(alloc, &table, b"SRAT", 1, &FIXED, &initiator, 1)
 }
 
 #[test]
 fn processors(rt: HostRuntime) -> Result<(), Fail> {
     let alloc = rt.alloc();
     let rintc = RintcAffinity::new([0x42, 0x37, 0x58, 0xde], 0xde58_3742);
-    writes(
+    all(
         alloc,
-        &rintc,
-        b"\x07\x14\0\0\0\0\0\0\x42\x37\x58\xde\0\0\0\0\x42\x37\x58\xde",
-    )?;
-    writes(
-        alloc,
-        &rintc.enabled(),
-        b"\x07\x14\0\0\0\0\0\0\x42\x37\x58\xde\x01\0\0\0\x42\x37\x58\xde",
-    )?;
-    writes(
-        alloc,
-        &rintc.proximity_domain(0x0403_0201),
-        b"\x07\x14\0\0\x01\x02\x03\x04\x42\x37\x58\xde\0\0\0\0\x42\x37\x58\xde",
+        &[
+            (
+                &rintc,
+                b"\x07\x14\0\0\0\0\0\0\x42\x37\x58\xde\0\0\0\0\x42\x37\x58\xde",
+            ),
+            (
+                &rintc.enabled(),
+                b"\x07\x14\0\0\0\0\0\0\x42\x37\x58\xde\x01\0\0\0\x42\x37\x58\xde",
+            ),
+            (
+                &rintc.proximity_domain(0x0403_0201),
+                b"\x07\x14\0\0\x01\x02\x03\x04\x42\x37\x58\xde\0\0\0\0\x42\x37\x58\xde",
+            ),
+        ],
     )
 }
 
@@ -139,13 +130,5 @@ fn many_affinities(rt: HostRuntime) -> Result<(), Fail> {
         table.add_rintc_affinity(RintcAffinity::new([1, 2, 3, 4], 5).enabled())?;
     }
     let rintc = [7, 20, 0, 0, 0, 0, 0, 0, 1, 2, 3, 4, 1, 0, 0, 0, 5, 0, 0, 0];
-    many(
-        alloc,
-        &table,
-        b"SRAT",
-        1,
-        &[1, 0, 0, 0, 0, 0, 0, 0, 0, 0, 0, 0],
-        &rintc,
-        300,
-    )
+    many(alloc, &table, b"SRAT", 1, &FIXED, &rintc, 300)
 }

@@ -6,7 +6,8 @@ use acpi_tables::cedt::{
     CEDT, CxlFixedMemory, CxlHostBridge, CxlVersion, InterleaveArithmetic, InterleaveGranularity,
     InterleaveWays, PortAssociation, ProtocolType, XorInterleaveMath,
 };
-use acpi_vectors::{OEM, OEM_REVISION, OEM_TABLE, many, writes};
+use acpi_vectors::table::many;
+use acpi_vectors::{OEM, OEM_REVISION, OEM_TABLE, all, refuses, same, writes};
 use std::alloc::Global;
 use std::test::Fail;
 
@@ -29,28 +30,30 @@ fn cedt(rt: HostRuntime) -> Result<(), Fail> {
 
 #[test]
 fn bridges_and_ports(rt: HostRuntime) -> Result<(), Fail> {
-    let alloc = rt.alloc();
-    writes(
-        alloc,
-        &CxlHostBridge::new(0x0403_0201, CxlVersion::Cxl1_1, 0x1817_1615_1413_1211),
-        b"\0\0\x20\0\x01\x02\x03\x04\0\0\0\0\0\0\0\0\x11\x12\x13\x14\x15\x16\x17\x18\0\x20\0\0\0\0\0\0",
-    )?;
-    writes(
-        alloc,
-        &PortAssociation::new(
-            0x100,
-            0xfe,
-            0x1f,
-            7,
-            ProtocolType::CxlMem,
-            0x1234_5678_90ab_cdef,
-        ),
-        b"\x03\0\x11\0\0\x01\xff\xfe\x01\xef\xcd\xab\x90\x78\x56\x34\x12",
-    )?;
-    writes(
-        alloc,
-        &PortAssociation::new(0x0201, 3, 4, 5, ProtocolType::CxlIo, 6),
-        b"\x03\0\x11\0\x01\x02\x25\x03\0\x06\0\0\0\0\0\0\0",
+    let memory = PortAssociation::new(
+        0x100,
+        0xfe,
+        0x1f,
+        7,
+        ProtocolType::CxlMem,
+        0x1234_5678_90ab_cdef,
+    );
+    all(
+        rt.alloc(),
+        &[
+            (
+                &CxlHostBridge::new(0x0403_0201, CxlVersion::Cxl1_1, 0x1817_1615_1413_1211),
+                b"\0\0\x20\0\x01\x02\x03\x04\0\0\0\0\0\0\0\0\x11\x12\x13\x14\x15\x16\x17\x18\0\x20\0\0\0\0\0\0",
+            ),
+            (
+                &memory,
+                b"\x03\0\x11\0\0\x01\xff\xfe\x01\xef\xcd\xab\x90\x78\x56\x34\x12",
+            ),
+            (
+                &PortAssociation::new(0x0201, 3, 4, 5, ProtocolType::CxlIo, 6),
+                b"\x03\0\x11\0\x01\x02\x25\x03\0\x06\0\0\0\0\0\0\0",
+            ),
+        ],
     )
 }
 
@@ -70,6 +73,14 @@ fn window(
     )
 }
 
+fn one_way(alloc: Global, granularity: InterleaveGranularity) -> CxlFixedMemory {
+    window(alloc, granularity, InterleaveWays::Ways1)
+}
+
+// Such a window with a target: its granularity is 256 bytes, and it has no restriction.
+const ONE_WAY: [u8; 40] =
+    *b"\x01\0\x28\0\0\0\0\0\x01\x02\x03\x04\x05\x06\x07\x08\x11\x12\x13\x14\x15\x16\x17\x18\0\x01\0\0\0\0\0\0\0\0\x21\x22\x09\x08\x07\x06";
+
 #[test]
 fn windows(rt: HostRuntime) -> Result<(), Fail> {
     let alloc = rt.alloc();
@@ -83,7 +94,7 @@ fn windows(rt: HostRuntime) -> Result<(), Fail> {
     .fixed_configuration();
     two.add_target(*b"abcd")?;
     let mut bytes = Vec::new(alloc);
-    assert_eq!(rt; two.to_aml_bytes(&mut bytes), Err(Error::Targets));
+    refuses(two.to_aml_bytes(&mut bytes), Error::Targets)?;
     assert!(rt; bytes.is_empty());
     two.add_target(*b"efgh")?;
     writes(
@@ -92,10 +103,10 @@ fn windows(rt: HostRuntime) -> Result<(), Fail> {
         b"\x01\0\x2c\0\0\0\0\0\x01\x02\x03\x04\x05\x06\x07\x08\x11\x12\x13\x14\x15\x16\x17\x18\x01\x01\0\0\x06\0\0\0\x16\0\x21\x22abcdefgh",
     )?;
     two.add_target(*b"ijkl")?;
-    assert_eq!(rt; two.to_aml_bytes(&mut bytes), Err(Error::Targets));
+    refuses(two.to_aml_bytes(&mut bytes), Error::Targets)?;
     assert!(rt; bytes.is_empty());
     let mut table = CEDT::new(alloc, OEM, OEM_TABLE, OEM_REVISION);
-    assert_eq!(rt; table.add_fixed_memory(two), Err(Error::Targets));
+    refuses(table.add_fixed_memory(two), Error::Targets)?;
     many(alloc, &table, b"CEDT", 1, &[], &[], 0)
 }
 
@@ -111,7 +122,7 @@ fn one_target_of_two(rt: HostRuntime) -> Result<(), Fail> {
         InterleaveWays::Ways2,
     );
     one.add_target(*b"abcd")?;
-    assert_eq!(rt; table.add_fixed_memory(one), Err(Error::Targets));
+    refuses(table.add_fixed_memory(one), Error::Targets)?;
     let bridge = b"\0\0\x20\0\x07\0\0\0\x01\0\0\0\0\0\0\0\0\0\0\x10\0\0\0\0\0\0\x01\0\0\0\0\0";
     many(alloc, &table, b"CEDT", 1, &[], bridge, 1)
 }
@@ -139,18 +150,21 @@ fn ways(rt: HostRuntime) -> Result<(), Fail> {
             ways,
             0,
         );
+        let mut head = [0; 36];
+        head[0] = 1;
+        head[2] = 36 + 4 * count;
+        head[24] = number;
+        let mut wanted = Vec::from_slice(alloc, &head)?;
         let mut bytes = Vec::new(alloc);
         for _ in 0..count {
-            assert_eq!(rt; made.to_aml_bytes(&mut bytes), Err(Error::Targets));
+            refuses(made.to_aml_bytes(&mut bytes), Error::Targets)?;
             made.add_target([1, 2, 3, 4])?;
+            wanted.extend_from_slice(&[1, 2, 3, 4])?;
         }
         made.to_aml_bytes(&mut bytes)?;
-        assert_eq!(rt; bytes.len(), 36 + 4 * usize::from(count));
-        assert_eq!(rt; bytes[24], number);
-        assert_eq!(rt; bytes[2], 36 + 4 * count);
-        assert_eq!(rt; bytes[25], 0);
+        same(&bytes, &wanted)?;
         made.add_target([0; 4])?;
-        assert_eq!(rt; made.to_aml_bytes(&mut bytes), Err(Error::Targets));
+        refuses(made.to_aml_bytes(&mut bytes), Error::Targets)?;
     }
     Ok(())
 }
@@ -168,69 +182,26 @@ fn granularities_and_restrictions(rt: HostRuntime) -> Result<(), Fail> {
         (InterleaveGranularity::Granularity16kb, 6),
     ];
     for (granularity, number) in all {
-        let mut made = window(alloc, granularity, InterleaveWays::Ways1);
-        made.add_target([0; 4])?;
-        let mut bytes = Vec::new(alloc);
-        made.to_aml_bytes(&mut bytes)?;
-        assert_eq!(rt; bytes.len(), 40);
-        assert_eq!(rt; &bytes[28..34], [number, 0, 0, 0, 0, 0].as_slice());
-        let mut bytes = Vec::new(alloc);
-        XorInterleaveMath::new(alloc, granularity).to_aml_bytes(&mut bytes)?;
-        assert_eq!(rt; bytes.as_slice(), [2, 0, 8, 0, 0, 0, number, 0].as_slice());
+        let mut made = one_way(alloc, granularity);
+        made.add_target([9, 8, 7, 6])?;
+        let mut wanted = ONE_WAY;
+        wanted[28] = number;
+        writes(alloc, &made, &wanted)?;
+        let math = XorInterleaveMath::new(alloc, granularity);
+        writes(alloc, &math, &[2, 0, 8, 0, 0, 0, number, 0])?;
     }
-    let restricted = [
-        (
-            window(
-                alloc,
-                InterleaveGranularity::Granularity256b,
-                InterleaveWays::Ways1,
-            )
-            .cxl_type_2_memory(),
-            1,
-        ),
-        (
-            window(
-                alloc,
-                InterleaveGranularity::Granularity256b,
-                InterleaveWays::Ways1,
-            )
-            .cxl_type_3_memory(),
-            2,
-        ),
-        (
-            window(
-                alloc,
-                InterleaveGranularity::Granularity256b,
-                InterleaveWays::Ways1,
-            )
-            .volatile(),
-            4,
-        ),
-        (
-            window(
-                alloc,
-                InterleaveGranularity::Granularity256b,
-                InterleaveWays::Ways1,
-            )
-            .persistent(),
-            8,
-        ),
-        (
-            window(
-                alloc,
-                InterleaveGranularity::Granularity256b,
-                InterleaveWays::Ways1,
-            )
-            .fixed_configuration(),
-            16,
-        ),
-    ];
-    for (mut made, number) in restricted {
-        made.add_target([0; 4])?;
-        let mut bytes = Vec::new(alloc);
-        made.to_aml_bytes(&mut bytes)?;
-        assert_eq!(rt; bytes.len(), 40);
-        assert_eq!(rt; bytes[32], number);
+    let smallest = InterleaveGranularity::Granularity256b;
+    for (mut made, number) in [
+        (one_way(alloc, smallest).cxl_type_2_memory(), 1),
+        (one_way(alloc, smallest).cxl_type_3_memory(), 2),
+        (one_way(alloc, smallest).volatile(), 4),
+        (one_way(alloc, smallest).persistent(), 8),
+        (one_way(alloc, smallest).fixed_configuration(), 16),
+    ] {
+        made.add_target([9, 8, 7, 6])?;
+        let mut wanted = ONE_WAY;
+        wanted[32] = number;
+        writes(alloc, &made, &wanted)?;
     }
     Ok(())
 }
@@ -248,7 +219,7 @@ fn maps(rt: HostRuntime) -> Result<(), Fail> {
     for _ in 1..255u16 {
         math.add_xormap(u64::MAX)?;
     }
-    assert_eq!(rt; math.add_xormap(0), Err(Error::FieldWidth));
+    refuses(math.add_xormap(0), Error::FieldWidth)?;
     let mut wanted = [0xff; 2048];
     wanted[..16].copy_from_slice(b"\x02\0\0\x08\0\0\x01\xff\x01\x02\x03\x04\x05\x06\x07\x08");
     writes(alloc, &math, &wanted)?;
@@ -268,15 +239,9 @@ fn many_structures(rt: HostRuntime) -> Result<(), Fail> {
     many(alloc, &table, b"CEDT", 1, &[], &port, 300)?;
     let mut table = CEDT::new(alloc, OEM, OEM_TABLE, OEM_REVISION);
     for _ in 0..256u16 {
-        let mut window = window(
-            alloc,
-            InterleaveGranularity::Granularity256b,
-            InterleaveWays::Ways1,
-        );
+        let mut window = one_way(alloc, InterleaveGranularity::Granularity256b);
         window.add_target([9, 8, 7, 6])?;
         table.add_fixed_memory(window)?;
     }
-    let window =
-        b"\x01\0\x28\0\0\0\0\0\x01\x02\x03\x04\x05\x06\x07\x08\x11\x12\x13\x14\x15\x16\x17\x18\0\x01\0\0\0\0\0\0\0\0\x21\x22\x09\x08\x07\x06";
-    many(alloc, &table, b"CEDT", 1, &[], window, 256)
+    many(alloc, &table, b"CEDT", 1, &[], &ONE_WAY, 256)
 }

@@ -2,7 +2,8 @@
 
 use acpi_tables::mcfg::MCFG;
 use acpi_tables::xsdt::XSDT;
-use acpi_vectors::{OEM, OEM_REVISION, OEM_TABLE, many, writes};
+use acpi_vectors::table::many;
+use acpi_vectors::{OEM, OEM_REVISION, OEM_TABLE, writes};
 use std::test::Fail;
 
 #[test]

@@ -1,16 +1,14 @@
 //! MADT and its structures.
 
 use acpi_base::error::{Error, R};
-use acpi_base::object::{Aml, u8sum};
-use acpi_base::sink::AmlSink;
 use acpi_tables::madt::{
     APLIC, EnabledStatus, GicIts, GicMsi, GicVersion, Gicc, Gicd, Gicr, HartStatus, IMSIC, IoApic,
     LocalInterruptController, MADT, PLIC, ProcessorLocalApic, RINTC, Trigger,
 };
 use acpi_vectors::broken::Broken;
-use acpi_vectors::{OEM, OEM_REVISION, OEM_TABLE, writes};
+use acpi_vectors::table::{many, stands};
+use acpi_vectors::{OEM, OEM_REVISION, OEM_TABLE, all, equal, refuses, writes};
 use std::alloc::Global;
-use std::process::Abort;
 use std::test::Fail;
 
 fn table(alloc: Global, int: LocalInterruptController) -> MADT {
@@ -35,22 +33,23 @@ fn tables(rt: HostRuntime) -> Result<(), Fail> {
 fn x86(rt: HostRuntime) -> Result<(), Fail> {
     let alloc = rt.alloc();
     let off = ProcessorLocalApic::new(1, 2, EnabledStatus::Disabled);
-    writes(alloc, &off, b"\0\x08\x01\x02\0\0\0\0")?;
     let on = ProcessorLocalApic::new(0xff, 0xfe, EnabledStatus::Enabled);
-    writes(alloc, &on, b"\0\x08\xff\xfe\x01\0\0\0")?;
     let later = ProcessorLocalApic::new(0, 0xff, EnabledStatus::DisabledOnlineCapable);
-    writes(alloc, &later, b"\0\x08\0\xff\x02\0\0\0")?;
-    let io = IoApic::new(1, 0x0504_0302, 0x0908_0706);
-    writes(
+    all(
         alloc,
-        &io,
-        b"\x01\x0c\x01\0\x02\x03\x04\x05\x06\x07\x08\x09",
-    )?;
-    let last = IoApic::new(u8::MAX, u32::MAX, u32::MAX);
-    writes(
-        alloc,
-        &last,
-        b"\x01\x0c\xff\0\xff\xff\xff\xff\xff\xff\xff\xff",
+        &[
+            (&off, b"\0\x08\x01\x02\0\0\0\0"),
+            (&on, b"\0\x08\xff\xfe\x01\0\0\0"),
+            (&later, b"\0\x08\0\xff\x02\0\0\0"),
+            (
+                &IoApic::new(1, 0x0504_0302, 0x0908_0706),
+                b"\x01\x0c\x01\0\x02\x03\x04\x05\x06\x07\x08\x09",
+            ),
+            (
+                &IoApic::new(u8::MAX, u32::MAX, u32::MAX),
+                b"\x01\x0c\xff\0\xff\xff\xff\xff\xff\xff\xff\xff",
+            ),
+        ],
     )
 }
 
@@ -134,55 +133,55 @@ fn distributors(rt: HostRuntime) -> Result<(), Fail> {
 fn message_frames(rt: HostRuntime) -> Result<(), Fail> {
     let alloc = rt.alloc();
     let first = GicMsi::new();
-    writes(
-        alloc,
-        &first,
-        b"\x0d\x18\0\0\0\0\0\0\0\0\0\0\0\0\0\0\0\0\0\0\0\0\0\0",
-    )?;
     let own = first.spi_count_and_base(2, 64);
-    writes(
-        alloc,
-        &own,
-        b"\x0d\x18\0\0\0\0\0\0\0\0\0\0\0\0\0\0\x01\0\0\0\x02\0\x40\0",
-    )?;
     let filled = own
         .gic_msi_frame_id(0x0403_0201)
         .base_addr(0x1817_1615_1413_1211)
         .spi_count_and_base(0x2221, 0x2423);
-    writes(
+    all(
         alloc,
-        &filled,
-        b"\x0d\x18\0\0\x01\x02\x03\x04\x11\x12\x13\x14\x15\x16\x17\x18\x01\0\0\0\x21\x22\x23\x24",
+        &[
+            (
+                &first,
+                b"\x0d\x18\0\0\0\0\0\0\0\0\0\0\0\0\0\0\0\0\0\0\0\0\0\0",
+            ),
+            (
+                &own,
+                b"\x0d\x18\0\0\0\0\0\0\0\0\0\0\0\0\0\0\x01\0\0\0\x02\0\x40\0",
+            ),
+            (
+                &filled,
+                b"\x0d\x18\0\0\x01\x02\x03\x04\x11\x12\x13\x14\x15\x16\x17\x18\x01\0\0\0\x21\x22\x23\x24",
+            ),
+        ],
     )
 }
 
 #[test]
 fn redistributors_and_translation(rt: HostRuntime) -> Result<(), Fail> {
-    let alloc = rt.alloc();
-    let gicr = Gicr::new(0x1817_1615_1413_1211, 0x0403_0201);
-    writes(
-        alloc,
-        &gicr,
-        b"\x0e\x10\0\0\x11\x12\x13\x14\x15\x16\x17\x18\x01\x02\x03\x04",
-    )?;
-    let its = GicIts::new(0x0403_0201, 0x1817_1615_1413_1211);
-    writes(
-        alloc,
-        &its,
-        b"\x0f\x14\0\0\x01\x02\x03\x04\x11\x12\x13\x14\x15\x16\x17\x18\0\0\0\0",
-    )?;
-    let last = GicIts::new(u32::MAX, u64::MAX);
-    writes(
-        alloc,
-        &last,
-        b"\x0f\x14\0\0\xff\xff\xff\xff\xff\xff\xff\xff\xff\xff\xff\xff\0\0\0\0",
+    all(
+        rt.alloc(),
+        &[
+            (
+                &Gicr::new(0x1817_1615_1413_1211, 0x0403_0201),
+                b"\x0e\x10\0\0\x11\x12\x13\x14\x15\x16\x17\x18\x01\x02\x03\x04",
+            ),
+            (
+                &GicIts::new(0x0403_0201, 0x1817_1615_1413_1211),
+                b"\x0f\x14\0\0\x01\x02\x03\x04\x11\x12\x13\x14\x15\x16\x17\x18\0\0\0\0",
+            ),
+            (
+                &GicIts::new(u32::MAX, u64::MAX),
+                b"\x0f\x14\0\0\xff\xff\xff\xff\xff\xff\xff\xff\xff\xff\xff\xff\0\0\0\0",
+            ),
+        ],
     )
 }
 
 #[test]
 fn harts(rt: HostRuntime) -> Result<(), Fail> {
     let alloc = rt.alloc();
-    assert_eq!(rt; RINTC::len(), 36);
+    equal(&RINTC::len(), &36)?;
     let statuses = [
         HartStatus::Disabled,
         HartStatus::Enabled,
@@ -214,16 +213,10 @@ const IMSIC_BYTES: [u8; 16] = *b"\x19\x10\x01\0\0\0\0\0\x01\x02\x03\x04\x05\x06\
 #[test]
 fn controllers_of_harts(rt: HostRuntime) -> Result<(), Fail> {
     let alloc = rt.alloc();
-    assert_eq!(rt; IMSIC::len(), 16);
-    assert_eq!(rt; APLIC::len(), 36);
-    assert_eq!(rt; PLIC::len(), 36);
-    writes(alloc, &imsic(), &IMSIC_BYTES)?;
+    equal(&IMSIC::len(), &16)?;
+    equal(&APLIC::len(), &36)?;
+    equal(&PLIC::len(), &36)?;
     let last = IMSIC::new(u16::MAX, u16::MAX, u8::MAX, u8::MAX, u8::MAX, u8::MAX);
-    writes(
-        alloc,
-        &last,
-        b"\x19\x10\x01\0\0\0\0\0\xff\xff\xff\xff\xff\xff\xff\xff",
-    )?;
     let aplic = APLIC::new(
         1,
         *b"RSCV0002",
@@ -233,11 +226,6 @@ fn controllers_of_harts(rt: HostRuntime) -> Result<(), Fail> {
         0x4443_4241,
         0x5251,
     );
-    writes(
-        alloc,
-        &aplic,
-        b"\x1a\x24\x01\x01\0\0\0\0RSCV0002\x11\x12\x51\x52\x21\x22\x23\x24\x31\x32\x33\x34\x35\x36\x37\x38\x41\x42\x43\x44",
-    )?;
     let plic = PLIC::new(
         2,
         *b"RSCV0001",
@@ -247,30 +235,30 @@ fn controllers_of_harts(rt: HostRuntime) -> Result<(), Fail> {
         0x3837_3635_3433_3231,
         0x4443_4241,
     );
-    writes(
+    all(
         alloc,
-        &plic,
-        b"\x1b\x24\x01\x02RSCV0001\x11\x12\x13\x14\0\0\0\0\x21\x22\x23\x24\x31\x32\x33\x34\x35\x36\x37\x38\x41\x42\x43\x44",
+        &[
+            (&imsic(), &IMSIC_BYTES),
+            (
+                &last,
+                b"\x19\x10\x01\0\0\0\0\0\xff\xff\xff\xff\xff\xff\xff\xff",
+            ),
+            (
+                &aplic,
+                b"\x1a\x24\x01\x01\0\0\0\0RSCV0002\x11\x12\x51\x52\x21\x22\x23\x24\x31\x32\x33\x34\x35\x36\x37\x38\x41\x42\x43\x44",
+            ),
+            (
+                &plic,
+                b"\x1b\x24\x01\x02RSCV0001\x11\x12\x13\x14\0\0\0\0\x21\x22\x23\x24\x31\x32\x33\x34\x35\x36\x37\x38\x41\x42\x43\x44",
+            ),
+        ],
     )
 }
 
-// The table's header, which has no structure in it, tells this length and ends in this checksum.
-fn head(size: u8, checksum: u8) -> [u8; 44] {
-    let mut head =
-        *b"APIC\0\0\0\0\x01\0FOOBARCAFEDEAD\xef\xbe\xad\xdeRVAT\0\0\0\x01\0\0\0\0\0\0\0\0";
-    head[4] = size;
-    head[9] = checksum;
-    head
-}
-
-// A table of such controllers writes its header, with this length and checksum, and so many of them.
-fn holds(alloc: Global, madt: &MADT, size: u8, checksum: u8, imsics: u8) -> Result<(), Fail> {
-    let mut wanted = Vec::new(alloc);
-    wanted.extend_from_slice(&head(size, checksum))?;
-    for _ in 0..imsics {
-        wanted.extend_from_slice(&IMSIC_BYTES)?;
-    }
-    writes(alloc, madt, &wanted)
+// A table has this length and checksum, and so many of such controllers.
+fn holds(alloc: Global, madt: &MADT, size: u8, checksum: u8, imsics: u32) -> Result<(), Fail> {
+    stands(alloc, madt, 4, &[size, 0, 0, 0, 1, checksum])?;
+    many(alloc, madt, b"APIC", 1, &[0; 8], &IMSIC_BYTES, imsics)
 }
 
 #[test]
@@ -280,7 +268,7 @@ fn one_imsic(rt: HostRuntime) -> Result<(), Fail> {
     madt.add_structure(imsic())?;
     madt.add_imsic(imsic())?;
     holds(alloc, &madt, 76, 0xae, 2)?;
-    assert_eq!(rt; madt.add_imsic(imsic()), Err(Error::ImsicSet));
+    refuses(madt.add_imsic(imsic()), Error::ImsicSet)?;
     holds(alloc, &madt, 76, 0xae, 2)
 }
 
@@ -288,20 +276,11 @@ fn one_imsic(rt: HostRuntime) -> Result<(), Fail> {
 fn a_structure_that_refuses(rt: HostRuntime) -> Result<(), Fail> {
     let alloc = rt.alloc();
     let mut madt = table(alloc, LocalInterruptController::Riscv);
-    assert_eq!(rt; madt.add_structure(Broken {}), Err(Error::Sink(9)));
+    refuses(madt.add_structure(Broken {}), Error::Sink(9))?;
     holds(alloc, &madt, 44, 0x6a, 0)?;
     madt.add_imsic(imsic())?;
-    assert_eq!(rt; madt.add_structure(Broken {}), Err(Error::Sink(9)));
+    refuses(madt.add_structure(Broken {}), Error::Sink(9))?;
     holds(alloc, &madt, 60, 0x0c, 1)
-}
-
-// The sum of bytes modulo 256.
-fn sum_of(bytes: &[u8]) -> u8 {
-    let mut total: u8 = 0;
-    for byte in bytes {
-        total = total.wrapping_add(*byte);
-    }
-    total
 }
 
 // Adds a structure of one of two kinds in turn.
@@ -325,39 +304,21 @@ fn append_nth(bytes: &mut Vec<u8>, i: u16) -> R<()> {
     Ok(())
 }
 
-// A table's header and its structures joined, summed anew.
-fn plain(alloc: Global, size: u32, structures: &[u8]) -> R<Vec<u8>> {
-    let [a, b, c, d] = size.to_le_bytes();
-    let front = [0x41, 0x50, 0x49, 0x43, a, b, c, d, 1];
-    let rest = b"FOOBARCAFEDEAD\xef\xbe\xad\xdeRVAT\0\0\0\x01\0\0\0\0\0\0\0\0";
-    let total = sum_of(&front)
-        .wrapping_add(sum_of(rest))
-        .wrapping_add(sum_of(structures));
-    let mut bytes = Vec::new(alloc);
-    bytes.extend_from_slice(&front)?;
-    bytes.push(total.wrapping_neg())?;
-    bytes.extend_from_slice(rest)?;
-    bytes.extend_from_slice(structures)?;
-    Ok(bytes)
-}
-
-// A table of so many structures has this length, sums to zero, and is the plain one.
-fn of_many<RT: Abort>(rt: &RT, alloc: Global, count: u16, size: u32) -> Result<(), Fail> {
+// A table of so many structures has this length, sums to zero, and is its header and these joined.
+fn of_many(alloc: Global, count: u16, size: u32) -> Result<(), Fail> {
     let mut madt = table(alloc, LocalInterruptController::Riscv);
     let mut structures = Vec::new(alloc);
     for i in 0..count {
         add_nth(&mut madt, i)?;
         append_nth(&mut structures, i)?;
     }
-    let wanted = plain(alloc, size, &structures)?;
-    assert_eq!(rt; wanted.len(), size as usize);
-    assert_eq!(rt; u8sum(&madt)?, 0);
-    writes(alloc, &madt, &wanted)
+    stands(alloc, &madt, 4, &size.to_le_bytes())?;
+    many(alloc, &madt, b"APIC", 1, &[0; 8], &structures, 1)
 }
 
 #[test]
 fn many_structures(rt: HostRuntime) -> Result<(), Fail> {
     let alloc = rt.alloc();
-    of_many(&rt, alloc, 256, 2604)?;
-    of_many(&rt, alloc, 300, 3044)
+    of_many(alloc, 256, 2604)?;
+    of_many(alloc, 300, 3044)
 }

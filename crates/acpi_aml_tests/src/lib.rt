@@ -1,0 +1,18 @@
+//! Tests of AML and of tables behind the standard header: bytes from outside, what they read back to, and that each call succeeds
+//! where memory is ample.
+#![tactic(auto)]
+
+#[cfg(test)]
+mod buffers;
+#[cfg(test)]
+mod objects;
+#[cfg(test)]
+mod operators;
+#[cfg(test)]
+mod packages;
+#[cfg(test)]
+mod reading;
+#[cfg(test)]
+mod refusing;
+#[cfg(test)]
+mod tables;

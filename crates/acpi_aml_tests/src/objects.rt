@@ -1,0 +1,331 @@
+//! Named and framed objects, byte for byte.
+
+use acpi_tables::aml::{
+    Acquire, Add, AmlStr, AmlString, Arg, CreateField, Device, Else, Field, FieldAccessType,
+    FieldEntry, FieldLockRule, FieldUpdateRule, If, LessThan, Local, Method, MethodCall, Mutex,
+    Name, NotEqual, ONE, OpRegion, OpRegionSpace, Path, PowerResource, Release, Return, Scope,
+    While, ZERO,
+};
+use acpi_tables::{Aml, Error, R};
+use acpi_vectors::{all, equal, makes, refuses, same, writes, written};
+use std::alloc::Global;
+use std::test::Fail;
+
+fn path(alloc: Global, text: &str) -> R<Path> {
+    Path::new(alloc, text)
+}
+
+fn none(alloc: Global) -> Vec<&'static dyn Aml> {
+    Vec::new(alloc)
+}
+
+#[test]
+fn paths(rt: HostRuntime) -> Result<(), Fail> {
+    let alloc = rt.alloc();
+    for text in [
+        "",
+        "\\",
+        "ABC",
+        "ABCDE",
+        "ABCD.",
+        ".ABCD",
+        "AB.D",
+        "A.CD",
+        "ABC.DEFG",
+        "ABCD..EFGH",
+        "ABCDEFGHI",
+        "ABCD.EF.H",
+        "ABCD\\EFGH",
+    ] {
+        refuses(path(alloc, text), Error::NamePart)?;
+    }
+    let rows: [(&str, &[u8]); 3] = [
+        ("\\_SB_.COM1", b"\x5c\x2e_SB_COM1"),
+        ("_SB_.PCI0.COM1", b"\x2f\x03_SB_PCI0COM1"),
+        ("FLD0", b"FLD0"),
+    ];
+    for (text, wanted) in rows {
+        makes(alloc, path(alloc, text), wanted)?;
+    }
+    makes(alloc, Name::new_field_name(alloc, "FLD0"), b"FLD0")
+}
+
+// A text of so many parts more than one.
+fn parts(alloc: Global, more: usize) -> Result<String, Fail> {
+    let mut text = String::new(alloc);
+    text.push_str("_SB_")?;
+    for _ in 0..more {
+        text.push_str(".ABCD")?;
+    }
+    Ok(text)
+}
+
+#[test]
+fn long_paths(rt: HostRuntime) -> Result<(), Fail> {
+    let alloc = rt.alloc();
+    let long = written(alloc, &path(alloc, &parts(alloc, 254)?)?)?;
+    equal(&long.len(), &1022)?;
+    assert!(rt; long.starts_with(b"\x2f\xff_SB_ABCD"));
+    refuses(path(alloc, &parts(alloc, 255)?), Error::PathParts)
+}
+
+#[test]
+fn strings(rt: HostRuntime) -> Result<(), Fail> {
+    let alloc = rt.alloc();
+    let mut text: AmlString = String::new(alloc);
+    writes(alloc, &text, &[0x0d, 0x00])?;
+    text.push_str("ACPI")?;
+    writes(alloc, &text, b"\x0dACPI\0")?;
+    let text: AmlStr = "ab";
+    let mut bytes = Vec::new(alloc);
+    text.to_aml_bytes(&mut bytes)?;
+    same(&bytes, b"\x0dab\0")
+}
+
+#[test]
+fn methods(rt: HostRuntime) -> Result<(), Fail> {
+    let alloc = rt.alloc();
+    let answer = Return::new(alloc, &15u8)?;
+    let body: Vec<&dyn Aml> = vec![in alloc; &answer as &dyn Aml]?;
+    let method = Method::new(path(alloc, "_STA")?, 0, false, body);
+    makes(alloc, method, b"\x14\x09_STA\x00\xa4\x0a\x0f")?;
+    let serialized = Method::new(path(alloc, "_STA")?, 7, true, none(alloc));
+    makes(alloc, serialized, b"\x14\x06_STA\x0f")?;
+    let eight = Method::new(path(alloc, "_STA")?, 8, false, none(alloc));
+    refuses(eight, Error::MethodArgs)
+}
+
+#[test]
+fn calls(rt: HostRuntime) -> Result<(), Fail> {
+    let alloc = rt.alloc();
+    let five = 5u8;
+    let args: Vec<&dyn Aml> = vec![in alloc; &ONE as &dyn Aml, &five]?;
+    makes(
+        alloc,
+        MethodCall::new(path(alloc, "MTHD")?, args),
+        b"MTHD\x01\x0a\x05",
+    )
+}
+
+#[test]
+fn variables(rt: HostRuntime) -> Result<(), Fail> {
+    let alloc = rt.alloc();
+    for (number, code) in [
+        (0, 0x60),
+        (1, 0x61),
+        (2, 0x62),
+        (3, 0x63),
+        (4, 0x64),
+        (5, 0x65),
+        (6, 0x66),
+        (7, 0x67),
+    ] {
+        writes(alloc, &Local(number), &[code])?;
+    }
+    for (number, code) in [
+        (0, 0x68),
+        (1, 0x69),
+        (2, 0x6a),
+        (3, 0x6b),
+        (4, 0x6c),
+        (5, 0x6d),
+        (6, 0x6e),
+    ] {
+        writes(alloc, &Arg(number), &[code])?;
+    }
+    refuses(written(alloc, &Local(8)), Error::LocalNumber)?;
+    refuses(written(alloc, &Arg(7)), Error::ArgNumber)
+}
+
+#[test]
+fn regions(rt: HostRuntime) -> Result<(), Fail> {
+    let alloc = rt.alloc();
+    for (space, number) in [
+        (OpRegionSpace::SystemMemory, 0),
+        (OpRegionSpace::SystemIO, 1),
+        (OpRegionSpace::PCIConfig, 2),
+        (OpRegionSpace::EmbeddedControl, 3),
+        (OpRegionSpace::SMBus, 4),
+        (OpRegionSpace::SystemCMOS, 5),
+        (OpRegionSpace::PciBarTarget, 6),
+        (OpRegionSpace::IPMI, 7),
+        (OpRegionSpace::GeneralPurposeIO, 8),
+        (OpRegionSpace::GenericSerialBus, 9),
+    ] {
+        let mut wanted = *b"\x5b\x80PRST\xff\x0b\xd8\x0c\x0a\x0c";
+        wanted[6] = number;
+        let region = OpRegion::new(path(alloc, "PRST")?, space, &0xcd8u16, &12u8);
+        makes(alloc, region, &wanted)?;
+    }
+    Ok(())
+}
+
+fn field(alloc: Global, entries: Vec<FieldEntry>) -> R<Field> {
+    Field::new(
+        path(alloc, "PRST")?,
+        FieldAccessType::Byte,
+        FieldLockRule::NoLock,
+        FieldUpdateRule::WriteAsZeroes,
+        entries,
+    )
+}
+
+#[test]
+fn fields(rt: HostRuntime) -> Result<(), Fail> {
+    let alloc = rt.alloc();
+    let entries = vec![in alloc; FieldEntry::Reserved(32), FieldEntry::Named(*b"CPEN", 1)]?;
+    makes(
+        alloc,
+        field(alloc, entries),
+        b"\x5b\x81\x0dPRST\x41\x00\x20CPEN\x01",
+    )
+}
+
+#[test]
+fn field_flags(rt: HostRuntime) -> Result<(), Fail> {
+    let alloc = rt.alloc();
+    for (access, lock, update, flags) in [
+        (
+            FieldAccessType::Any,
+            FieldLockRule::NoLock,
+            FieldUpdateRule::Preserve,
+            0x00,
+        ),
+        (
+            FieldAccessType::Byte,
+            FieldLockRule::Lock,
+            FieldUpdateRule::Preserve,
+            0x11,
+        ),
+        (
+            FieldAccessType::Word,
+            FieldLockRule::NoLock,
+            FieldUpdateRule::WriteAsOnes,
+            0x22,
+        ),
+        (
+            FieldAccessType::DWord,
+            FieldLockRule::Lock,
+            FieldUpdateRule::WriteAsZeroes,
+            0x53,
+        ),
+        (
+            FieldAccessType::QWord,
+            FieldLockRule::NoLock,
+            FieldUpdateRule::WriteAsZeroes,
+            0x44,
+        ),
+        (
+            FieldAccessType::Buffer,
+            FieldLockRule::Lock,
+            FieldUpdateRule::WriteAsOnes,
+            0x35,
+        ),
+    ] {
+        let mut wanted = *b"\x5b\x81\x06PRST\xff";
+        wanted[7] = flags;
+        let field = Field::new(path(alloc, "PRST")?, access, lock, update, Vec::new(alloc));
+        makes(alloc, field, &wanted)?;
+    }
+    Ok(())
+}
+
+fn reserved(alloc: Global, bits: usize) -> R<Field> {
+    field(alloc, vec![in alloc; FieldEntry::Reserved(bits)]?)
+}
+
+#[test]
+fn field_lengths(rt: HostRuntime) -> Result<(), Fail> {
+    let alloc = rt.alloc();
+    let ends: [(usize, &[u8]); 5] = [
+        (62, &[0x00, 0x3e]),
+        (63, &[0x00, 0x4f, 0x03]),
+        (4093, &[0x00, 0x4d, 0xff]),
+        (4094, &[0x00, 0x8e, 0xff, 0x00]),
+        (0xfff_ffff, &[0x00, 0xcf, 0xff, 0xff, 0xff]),
+    ];
+    for (bits, end) in ends {
+        let bytes = written(alloc, &reserved(alloc, bits)?)?;
+        same(bytes.get(8..).unwrap_or(&[]), end)?;
+    }
+    refuses(reserved(alloc, 0x1000_0000), Error::PkgLength)
+}
+
+fn hid(alloc: Global) -> R<Name> {
+    Name::new(path(alloc, "_HID")?, &1u8)
+}
+
+#[test]
+fn devices(rt: HostRuntime) -> Result<(), Fail> {
+    let alloc = rt.alloc();
+    let name = hid(alloc)?;
+    writes(alloc, &name, b"\x08_HID\x01")?;
+    let inside: Vec<&dyn Aml> = vec![in alloc; &name as &dyn Aml]?;
+    makes(
+        alloc,
+        Device::new(path(alloc, "COM1")?, inside),
+        b"\x5b\x82\x0bCOM1\x08_HID\x01",
+    )
+}
+
+#[test]
+fn scopes(rt: HostRuntime) -> Result<(), Fail> {
+    let alloc = rt.alloc();
+    let name = hid(alloc)?;
+    let inside: Vec<&dyn Aml> = vec![in alloc; &name as &dyn Aml]?;
+    let wanted = b"\x10\x0b_SB_\x08_HID\x01";
+    makes(alloc, Scope::new(path(alloc, "_SB_")?, inside), wanted)?;
+    let raw = Scope::raw(path(alloc, "_SB_")?, written(alloc, &name)?)?;
+    same(&raw, wanted)?;
+    let power = PowerResource::new(path(alloc, "PRSC")?, 0, 0, none(alloc));
+    makes(alloc, power, b"\x5b\x84\x08PRSC\0\0\0")?;
+    let power = PowerResource::new(path(alloc, "PRSC")?, 5, 0x1234, none(alloc));
+    makes(alloc, power, b"\x5b\x84\x08PRSC\x05\x34\x12")
+}
+
+#[test]
+fn branches(rt: HostRuntime) -> Result<(), Fail> {
+    let alloc = rt.alloc();
+    let differs = NotEqual::new(alloc, &Arg(0), &ZERO)?;
+    let answer = Return::new(alloc, &ONE)?;
+    let body: Vec<&dyn Aml> = vec![in alloc; &answer as &dyn Aml]?;
+    makes(
+        alloc,
+        If::new(&differs, body),
+        &[0xa0, 0x07, 0x92, 0x93, 0x68, 0x00, 0xa4, 0x01],
+    )?;
+    makes(alloc, Else::new(none(alloc)), &[0xa1, 0x01])
+}
+
+#[test]
+fn loops(rt: HostRuntime) -> Result<(), Fail> {
+    let alloc = rt.alloc();
+    let below = LessThan::new(alloc, &Local(0), &5u8)?;
+    let next = Add::new(alloc, &Local(0), &Local(0), &ONE)?;
+    let body: Vec<&dyn Aml> = vec![in alloc; &next as &dyn Aml]?;
+    let wanted = [0xa2, 0x09, 0x95, 0x60, 0x0a, 0x05, 0x72, 0x60, 0x01, 0x60];
+    makes(alloc, While::new(&below, body), &wanted)
+}
+
+#[test]
+fn mutexes(rt: HostRuntime) -> Result<(), Fail> {
+    let alloc = rt.alloc();
+    let name = || path(alloc, "MUTX");
+    all(
+        alloc,
+        &[
+            (&Mutex::new(name()?, 3), b"\x5b\x01MUTX\x03"),
+            (&Acquire::new(name()?, 0xffff), b"\x5b\x23MUTX\xff\xff"),
+            (&Acquire::new(name()?, 0x1234), b"\x5b\x23MUTX\x34\x12"),
+            (&Release::new(name()?), b"\x5b\x27MUTX"),
+        ],
+    )
+}
+
+#[test]
+fn buffer_fields(rt: HostRuntime) -> Result<(), Fail> {
+    let alloc = rt.alloc();
+    let name = Name::new_field_name(alloc, "FLD0")?;
+    let field = CreateField::new(alloc, &name, &Arg(0), &0u8, &8u8);
+    makes(alloc, field, b"\x5b\x13\x68\x00\x0a\x08FLD0")
+}

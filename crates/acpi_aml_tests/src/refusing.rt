@@ -1,0 +1,86 @@
+//! Objects that refuse.
+
+use acpi_tables::aml::{
+    Add, Arg, Device, Else, If, Method, MethodCall, Name, NotEqual, ONE, OpRegion, OpRegionSpace,
+    Package, PackageBuilder, Path, PowerResource, Scope, Store, VarPackageTerm, While, ZERO,
+};
+use acpi_tables::{Aml, Error, u8sum};
+use acpi_vectors::broken::Broken;
+use acpi_vectors::{refuses, same, writes};
+use std::alloc::Global;
+use std::test::Fail;
+
+const BROKEN: Broken = Broken {};
+
+#[test]
+fn an_object_that_refuses(rt: HostRuntime) -> Result<(), Fail> {
+    let alloc = rt.alloc();
+    let mut bytes = Vec::new(alloc);
+    refuses(BROKEN.to_aml_bytes(&mut bytes), Error::Sink(9))?;
+    same(&bytes, &[1, 2, 3, 4])?;
+    refuses(u8sum(&BROKEN), Error::Sink(9))?;
+    let mut builder = PackageBuilder::new(alloc);
+    builder.add_element(&ONE)?;
+    refuses(builder.add_element(&BROKEN), Error::Sink(9))?;
+    writes(alloc, &builder, &[0x12, 0x03, 0x01, 0x01])
+}
+
+fn broken_first(alloc: Global) -> Result<Vec<&'static dyn Aml>, Fail> {
+    Ok(vec![in alloc; &BROKEN as &dyn Aml, &ZERO]?)
+}
+
+#[test]
+fn a_child_that_refuses(rt: HostRuntime) -> Result<(), Fail> {
+    let alloc = rt.alloc();
+    let sb = || Path::new(alloc, "_SB_");
+    refuses(Package::new(broken_first(alloc)?), Error::Sink(9))?;
+    refuses(Scope::new(sb()?, broken_first(alloc)?), Error::Sink(9))?;
+    refuses(Device::new(sb()?, broken_first(alloc)?), Error::Sink(9))?;
+    refuses(MethodCall::new(sb()?, broken_first(alloc)?), Error::Sink(9))
+}
+
+#[test]
+fn a_part_that_refuses(rt: HostRuntime) -> Result<(), Fail> {
+    let alloc = rt.alloc();
+    let sb = || Path::new(alloc, "_SB_");
+    refuses(
+        Method::new(sb()?, 0, false, broken_first(alloc)?),
+        Error::Sink(9),
+    )?;
+    refuses(
+        PowerResource::new(sb()?, 0, 0, broken_first(alloc)?),
+        Error::Sink(9),
+    )?;
+    refuses(Else::new(broken_first(alloc)?), Error::Sink(9))?;
+    refuses(If::new(&ONE, broken_first(alloc)?), Error::Sink(9))?;
+    refuses(While::new(&ONE, broken_first(alloc)?), Error::Sink(9))
+}
+
+#[test]
+fn an_operand_that_refuses(rt: HostRuntime) -> Result<(), Fail> {
+    let alloc = rt.alloc();
+    refuses(If::new(&BROKEN, Vec::new(alloc)), Error::Sink(9))?;
+    refuses(While::new(&BROKEN, Vec::new(alloc)), Error::Sink(9))?;
+    refuses(VarPackageTerm::new(alloc, &BROKEN), Error::Sink(9))?;
+    refuses(
+        Name::new(Path::new(alloc, "_HID")?, &BROKEN),
+        Error::Sink(9),
+    )?;
+    let region = OpRegion::new(
+        Path::new(alloc, "PRST")?,
+        OpRegionSpace::SystemIO,
+        &BROKEN,
+        &Arg(7),
+    );
+    refuses(region, Error::Sink(9))
+}
+
+#[test]
+fn the_first_refusal_in_written_order(rt: HostRuntime) -> Result<(), Fail> {
+    let alloc = rt.alloc();
+    refuses(Store::new(alloc, &Arg(7), &ONE), Error::ArgNumber)?;
+    refuses(Store::new(alloc, &BROKEN, &Arg(7)), Error::ArgNumber)?;
+    refuses(Store::new(alloc, &Arg(7), &BROKEN), Error::Sink(9))?;
+    refuses(Add::new(alloc, &BROKEN, &Arg(7), &ONE), Error::ArgNumber)?;
+    refuses(NotEqual::new(alloc, &ONE, &BROKEN), Error::Sink(9))
+}

@@ -1,0 +1,154 @@
+//! Checksums, numbers, constants and tables, byte for byte.
+
+mod registers;
+mod values;
+
+use acpi_tables::aml::{ONE, ONES, Usize, ZERO};
+use acpi_tables::sdt::Sdt;
+use acpi_tables::{AmlSink, Checksum, Error, R, u8sum};
+use acpi_vectors::{OEM, OEM_REVISION, OEM_TABLE, all, equal, refuses, same, writes};
+use std::alloc::Global;
+use std::test::Fail;
+
+#[test]
+fn checksums(_: HostRuntime) -> Result<(), Fail> {
+    let mut checksum = Checksum::default();
+    equal(&checksum.value(), &0)?;
+    checksum.add(1);
+    equal(&checksum.value(), &255)?;
+    checksum.add(1);
+    equal(&checksum.value(), &254)?;
+    checksum.add(255);
+    checksum.add(1);
+    equal(&checksum.value(), &254)?;
+    checksum.append(&[255]);
+    equal(&checksum.value(), &255)?;
+    checksum.append(&[128, 128]);
+    equal(&checksum.value(), &255)?;
+    checksum.add(1);
+    equal(&checksum.value(), &254)?;
+    equal(&checksum.raw_value(), &2)?;
+    checksum.delete(&[1, 255]);
+    checksum.sub(2);
+    equal(&checksum.raw_value(), &0)
+}
+
+#[test]
+fn numbers(rt: HostRuntime) -> Result<(), Fail> {
+    let big: Usize = 0x1_0000_0000;
+    all(
+        rt.alloc(),
+        &[
+            (&0u8, &[0x00]),
+            (&1u64, &[0x01]),
+            (&2u32, &[0x0a, 0x02]),
+            (&0xffu16, &[0x0a, 0xff]),
+            (&0x100u16, &[0x0b, 0x00, 0x01]),
+            (&0x1_0000u32, &[0x0c, 0x00, 0x00, 0x01, 0x00]),
+            (&big, &[0x0e, 0, 0, 0, 0, 1, 0, 0, 0]),
+            (&u64::MAX, &[0x0e, 255, 255, 255, 255, 255, 255, 255, 255]),
+        ],
+    )
+}
+
+#[test]
+fn constants(rt: HostRuntime) -> Result<(), Fail> {
+    equal(&u8sum(&ONES)?, &0xff)?;
+    all(
+        rt.alloc(),
+        &[(&ZERO, &[0x00]), (&ONE, &[0x01]), (&ONES, &[0xff])],
+    )
+}
+
+// What the widths from one byte to eight give a sink, and two bytes together.
+const WIDE: [u8; 17] = [
+    0x12, 0x56, 0x34, 0xde, 0xbc, 0x9a, 0x78, 8, 7, 6, 5, 4, 3, 2, 1, 0xaa, 0xbb,
+];
+
+fn give(sink: &mut dyn AmlSink) -> R<()> {
+    sink.byte(0x12)?;
+    sink.word(0x3456)?;
+    sink.dword(0x789a_bcde)?;
+    sink.qword(0x0102_0304_0506_0708)?;
+    sink.vec(&[0xaa, 0xbb])
+}
+
+#[test]
+fn wide_writes(rt: HostRuntime) -> Result<(), Fail> {
+    let mut bytes = Vec::new(rt.alloc());
+    give(&mut bytes)?;
+    same(&bytes, &WIDE)
+}
+
+pub(super) fn dsdt(alloc: Global) -> R<Sdt> {
+    Sdt::new(alloc, *b"DSDT", 36, 2, OEM, OEM_TABLE, OEM_REVISION)
+}
+
+// The table has this length, checksum and contents, and the rest of its header is that of `dsdt`.
+fn whole_is(table: &Sdt, len: u8, checksum: u8, contents: &[u8]) -> Result<(), Fail> {
+    let mut header = *b"DSDT\0\0\0\0\x02\0FOOBARCAFEDEAD\xef\xbe\xad\xdeRVAT\0\0\0\x01";
+    header[4] = len;
+    header[9] = checksum;
+    equal(&table.len(), &contents.len().wrapping_add(36))?;
+    same(table.as_slice().get(..36).unwrap_or(&[]), &header)?;
+    same(table.as_slice().get(36..).unwrap_or(&[]), contents)
+}
+
+#[test]
+fn tables(rt: HostRuntime) -> Result<(), Fail> {
+    let mut table = dsdt(rt.alloc())?;
+    assert!(rt; !table.is_empty());
+    whole_is(&table, 36, 0x5f, &[])?;
+    table.append_slice(&[])?;
+    whole_is(&table, 36, 0x5f, &[])?;
+    table.update_checksum();
+    whole_is(&table, 36, 0x5f, &[])?;
+    writes(rt.alloc(), &table, table.as_slice())?;
+    table.append_slice(&[0x12, 0x04, 0x02, 0x00, 0x01])?;
+    whole_is(&table, 41, 0x41, &[0x12, 0x04, 0x02, 0x00, 0x01])?;
+    table.update_checksum();
+    whole_is(&table, 41, 0x41, &[0x12, 0x04, 0x02, 0x00, 0x01])
+}
+
+#[test]
+fn short_tables(rt: HostRuntime) -> Result<(), Fail> {
+    let short = Sdt::new(rt.alloc(), *b"DSDT", 35, 2, *b"FOOBAR", *b"CAFEDEAD", 1);
+    refuses(short, Error::ShortTable)?;
+    let long = Sdt::new(rt.alloc(), *b"DSDT", 40, 2, *b"FOOBAR", *b"CAFEDEAD", 1)?;
+    equal(&long.len(), &40)?;
+    assert!(rt; long.as_slice().ends_with(&[0, 0, 0, 1, 0, 0, 0, 0]));
+    Ok(())
+}
+
+#[test]
+fn values_at_the_end_and_at_offsets(rt: HostRuntime) -> Result<(), Fail> {
+    let mut table = dsdt(rt.alloc())?;
+    table.append(0x1234u16)?;
+    whole_is(&table, 38, 0x17, &[0x34, 0x12])?;
+    assert!(rt; 36 < table.len());
+    table.write_u8(36, 0);
+    whole_is(&table, 38, 0x4b, &[0x00, 0x12])?;
+    table.append([0u8; 0])?;
+    whole_is(&table, 38, 0x4b, &[0x00, 0x12])
+}
+
+#[test]
+fn a_length_that_the_caller_wrote(rt: HostRuntime) -> Result<(), Fail> {
+    let mut table = dsdt(rt.alloc())?;
+    assert!(rt; table.len() == 36);
+    table.write_u8(9, 0xff);
+    whole_is(&table, 36, 0x5f, &[])?;
+    assert!(rt; table.len() == 36);
+    table.write_u32(4, 1000);
+    assert!(rt; table.len() == 36);
+    assert!(rt; table.as_slice().starts_with(b"DSDT\xe8\x03\0\0\x02\x98"));
+    table.byte(0xaa)?;
+    whole_is(&table, 37, 0xb4, &[0xaa])
+}
+
+#[test]
+fn a_table_as_a_sink(rt: HostRuntime) -> Result<(), Fail> {
+    let mut table = dsdt(rt.alloc())?;
+    give(&mut table)?;
+    whole_is(&table, 53, 0x7d, &WIDE)
+}

@@ -1,0 +1,5 @@
+//! Tests of images: bytes and addresses from outside, worked out by hand from the layouts and not by this code.
+#![tactic(auto)]
+
+#[cfg(test)]
+mod layout;

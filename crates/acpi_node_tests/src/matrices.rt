@@ -1,4 +1,0 @@
-//! Tables of matrices.
-
-mod hmat;
-mod slit;

@@ -1,0 +1,58 @@
+//! Objects that have to write the wanted bytes, or to refuse.
+
+ghost use Rattle.std.specs.Prelude.{◌≡◌, All, Err, IfOk, OnOk};
+ghost use Rattle.acpi_base.specs.Object.{Built};
+
+use crate::compare::same;
+use acpi_base::buffer::{append, append_value};
+use acpi_base::error::{Error, R};
+use acpi_base::object::Aml;
+use std::alloc::Global;
+use std::test::Fail;
+
+/// The bytes that an object writes.
+pub fn written(alloc: Global, aml: &dyn Aml) -> R<Vec<u8>>
+    ensures { IfOk result (λ bytes. Built (object aml.now) bytes.items) }
+{
+    let mut bytes = Vec::new(alloc);
+    append(aml, &mut bytes)?;
+    Ok(bytes)
+}
+
+/// An object writes these bytes.
+pub fn writes(alloc: Global, aml: &dyn Aml, wanted: &[u8]) -> Result<(), Fail>
+    ensures { OnOk result (Built (object aml.now) wanted.now) }
+{
+    let bytes = written(alloc, aml)?;
+    same(&bytes, wanted)
+}
+
+/// What was made writes these bytes.
+pub fn makes<T: Aml + Drop>(alloc: Global, made: R<T>, wanted: &[u8]) -> Result<(), Fail>
+    ensures { OnOk result (IfOk made (λ value. Built (T.object value) wanted.now)) }
+{
+    let mut bytes = Vec::new(alloc);
+    append_value(&made?, &mut bytes)?;
+    same(&bytes, wanted)
+}
+
+/// Each object writes the bytes beside it.
+pub fn all(alloc: Global, rows: &[(&dyn Aml, &[u8])]) -> Result<(), Fail>
+    ensures { OnOk result (All (λ row. Built (object row.0.now) row.1.now) rows.now) }
+{
+    for (aml, wanted) in rows {
+        writes(alloc, *aml, *wanted)?;
+    }
+    Ok(())
+}
+
+/// A call refused, for this reason.
+pub fn refuses<T: Drop>(made: R<T>, wanted: Error) -> Result<(), Fail>
+    ensures { OnOk result (made ≡ Err wanted) }
+{
+    match made {
+        Err(error) if error == wanted => Ok(()),
+        Err(error) => Err(Fail::new(format_args!("{error:?}, not {wanted:?}"))),
+        Ok(_) => Err(Fail::new("no refusal")),
+    }
+}

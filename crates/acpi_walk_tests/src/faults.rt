@@ -1,0 +1,207 @@
+//! Tables that are refused.
+
+use crate::pieces::{reads, refusal};
+use crate::samples::{AER_DEVICE, COUNT, nth};
+use acpi_term::read_error::ReadError;
+use acpi_vectors::table::{mend, table};
+use acpi_vectors::{agree, equal};
+use std::alloc::Global;
+use std::test::Fail;
+
+// The bytes of a RIMT that tells of one structure and has none.
+const MISCOUNTED: &[u8] =
+    b"RIMT\x30\0\0\0\x01\x16FOOBARCAFEDEAD\xef\xbe\xad\xdeRVAT\0\0\0\x01\x01\0\0\0\x30\0\0\0\0\0\0\0";
+
+// Each byte of the fields that tell how many structures there are and where they begin.
+#[test]
+fn told_fields(rt: HostRuntime) -> Result<(), Fail> {
+    let alloc = rt.alloc();
+    agree(refusal(alloc, MISCOUNTED)?.name(), "Count")?;
+    for index in 0..COUNT {
+        let sample = nth(index);
+        let bytes = sample.bytes(alloc)?;
+        for (field, kind) in [(sample.count, "Count"), (sample.start, "Structure")] {
+            for at in field.0..field.1 {
+                for change in [1, 0x80, 0xff] {
+                    let mut wrong = Vec::from_slice(alloc, &bytes)?;
+                    if let Some(byte) = wrong.get_mut(at) {
+                        *byte = byte.wrapping_add(change);
+                    }
+                    mend(&mut wrong);
+                    agree(refusal(alloc, &wrong)?.name(), kind)?;
+                }
+            }
+        }
+    }
+    Ok(())
+}
+
+// The field of a length isn't reached, or the length doesn't reach its field's end, or it passes the table's end.
+#[test]
+fn lengths(rt: HostRuntime) -> Result<(), Fail> {
+    let alloc = rt.alloc();
+    let rhct: &[u8] = b"\0\0\0\0\0\0\0\0\0\0\0\0\x01\0\0\0\x38\0\0\0";
+    let viot: &[u8] = b"\x01\0\x30\0\0\0\0\0\0\0\0\0";
+    let rimt: &[u8] = b"\x01\0\0\0\x30\0\0\0\0\0\0\0";
+    let one: &[u8] = b"\x01\0\0\0";
+    let cases: [(&[u8; 4], &[u8], &[u8], usize); 42] = [
+        (b"XSDT", b"", b"\0\0\0\0\0\0\0", 36),
+        (b"MCFG", &[0; 8], &[0; 15], 44),
+        (b"APIC", &[0; 8], b"\x01", 44),
+        (b"APIC", &[0; 8], b"\x01\0\0\0\0\0\0\0\0\0\0\0", 44),
+        (b"APIC", &[0; 8], b"\x01\0", 44),
+        (b"APIC", &[0; 8], b"\x01\x01", 44),
+        (b"APIC", &[0; 8], b"\x01\x03", 44),
+        (b"APIC", &[0; 8], b"\x01\xff\0\0\0\0\0\0\0\0\0\0", 44),
+        (
+            b"APIC",
+            &[0; 8],
+            b"\x01\x0d\x05\0\0\0\xc0\xfe\x18\0\0\0",
+            44,
+        ),
+        (b"APIC", &[0; 8], b"\0\x08\0\0\0\0\0\0\x01\x05\0\0", 52),
+        (b"APIC", &[0; 8], b"\0\x08\0\0\0\0\0\0\x01\x01\0\0", 52),
+        (b"APIC", &[0; 8], b"\0\x08\0\0\0\0\0\0\x01", 52),
+        (b"SRAT", &[0; 12], b"\x07\x01", 48),
+        (b"SRAT", &[0; 12], b"\x07\x03", 48),
+        (b"PPTT", b"", b"\0\x01", 36),
+        (b"PPTT", b"", b"\0\x03", 36),
+        (b"CEDT", b"", b"\x03\0\x03", 36),
+        (b"CEDT", b"", b"\x03\0\0\0", 36),
+        (b"CEDT", b"", b"\x03\0\x03\0", 36),
+        (b"CEDT", b"", b"\x03\0\x05\0", 36),
+        (b"CEDT", b"", b"\x03\0\x04\x01", 36),
+        (b"CEDT", b"", b"\x03\0\x04\0\x03\0\x07\0\0\0", 40),
+        (b"RHCT", rhct, b"\x01\0\x03\0", 56),
+        (b"RHCT", rhct, b"\x01\0\x05\0", 56),
+        (b"RHCT", rhct, b"\x01\0\x04\x01", 56),
+        (b"VIOT", viot, b"\x01\0\x03\0", 48),
+        (b"VIOT", viot, b"\x01\0\x05\0", 48),
+        (b"VIOT", viot, b"\x01\0\x04\x01", 48),
+        (b"RIMT", rimt, b"\x01\0\x03\0", 48),
+        (b"RIMT", rimt, b"\x01\0\x05\0", 48),
+        (b"RIMT", rimt, b"\x01\0\x04\x01", 48),
+        (b"RQSC", one, b"\x01\0\x03\0", 40),
+        (b"RQSC", one, b"\x01\0\x05\0", 40),
+        (b"RQSC", one, b"\x01\0\x04\x01", 40),
+        (b"HMAT", &[0; 4], b"\x01\0\0\0\x08\0\0", 40),
+        (b"HMAT", &[0; 4], b"\x01\0\0\0\0\0\0\0", 40),
+        (b"HMAT", &[0; 4], b"\x01\0\0\0\x07\0\0\0", 40),
+        (b"HMAT", &[0; 4], b"\x01\0\0\0\x09\0\0\0", 40),
+        (b"HMAT", &[0; 4], b"\x01\0\0\0\x08\x01\0\0", 40),
+        (b"HMAT", &[0; 4], b"\x01\0\0\0\x08\0\x01\0", 40),
+        (b"HMAT", &[0; 4], b"\x01\0\0\0\x08\0\0\x01", 40),
+        (b"HEST", one, b"\x06", 40),
+    ];
+    for (signature, fields, body, at) in cases {
+        let bytes = table(alloc, signature, 1, &[fields, body])?;
+        equal(&refusal(alloc, &bytes)?, &ReadError::Structure(at))?;
+    }
+    Ok(())
+}
+
+// A table whose one structure begins with these bytes and has so many, the others zero.
+fn is_padded(
+    alloc: Global,
+    case: (&[u8; 4], &[u8], &[u8], usize, usize, &str),
+) -> Result<(), Fail> {
+    let (signature, fields, front, at, size, report) = case;
+    let mut structure = Vec::from_slice(alloc, front)?;
+    structure.resize(size, 0)?;
+    let bytes = table(alloc, signature, 1, &[fields, &structure])?;
+    reads(alloc, &bytes, &[(at, &structure)], report)
+}
+
+// Structures that are as long as up to the end of the field of their length, and long ones.
+#[test]
+fn least_and_long(rt: HostRuntime) -> Result<(), Fail> {
+    let cases: [(&[u8; 4], &[u8], &[u8], usize, usize, &str); 7] = [
+        (
+            b"APIC",
+            &[0; 8],
+            b"\x01\x02",
+            44,
+            2,
+            "APIC length 46 revision 1 sum 0\n44 type 1 size 2\n",
+        ),
+        (
+            b"APIC",
+            &[0; 8],
+            b"\x01\xff",
+            44,
+            255,
+            "APIC length 299 revision 1 sum 0\n44 type 1 size 255\n",
+        ),
+        (
+            b"CEDT",
+            b"",
+            b"\xff\0\x04\0",
+            36,
+            4,
+            "CEDT length 40 revision 1 sum 0\n36 type 255 size 4\n",
+        ),
+        (
+            b"CEDT",
+            b"",
+            b"\x02\x01\x03\x02",
+            36,
+            515,
+            "CEDT length 551 revision 1 sum 0\n36 type 2 size 515\n",
+        ),
+        (
+            b"RHCT",
+            b"\0\0\0\0\0\0\0\0\0\0\0\0\x01\0\0\0\x38\0\0\0",
+            b"\x01\x02\x04\0",
+            56,
+            4,
+            "RHCT length 60 revision 1 sum 0\n56 type 513 size 4\n",
+        ),
+        (
+            b"HMAT",
+            &[0; 4],
+            b"\x02\x01\0\0\x08\0\0\0",
+            40,
+            8,
+            "HMAT length 48 revision 1 sum 0\n40 type 258 size 8\n",
+        ),
+        (
+            b"HMAT",
+            &[0; 4],
+            b"\x01\0\0\0\x03\x02\x01\0",
+            40,
+            0x1_0203,
+            "HMAT length 66091 revision 1 sum 0\n40 type 1 size 66051\n",
+        ),
+    ];
+    for case in cases {
+        is_padded(rt.alloc(), case)?;
+    }
+    Ok(())
+}
+
+// The refusal of a table of two error sources.
+fn of_two(alloc: Global, first: &[u8], second: &[u8]) -> Result<ReadError, Fail> {
+    let bytes = table(alloc, b"HEST", 1, &[b"\x02\0\0\0", first, second])?;
+    refusal(alloc, &bytes)
+}
+
+// Error sources of types without a size, and of other types cut short.
+#[test]
+fn sources(rt: HostRuntime) -> Result<(), Fail> {
+    let alloc = rt.alloc();
+    for kind in [0, 1, 3, 5, 11, 255, 0x0106, 0xff0a] {
+        let mut source = [0; 92];
+        source[..2].copy_from_slice(&u16::to_le_bytes(kind));
+        let first = of_two(alloc, &source, AER_DEVICE)?;
+        equal(&first, &ReadError::UnknownSource(40))?;
+        let second = of_two(alloc, AER_DEVICE, &source)?;
+        equal(&second, &ReadError::UnknownSource(84))?;
+    }
+    for (kind, size) in [(6, 47), (7, 43), (8, 55), (9, 63), (10, 91)] {
+        let mut source = [0; 92];
+        source[0] = kind;
+        let cut = of_two(alloc, AER_DEVICE, &source[..size])?;
+        equal(&cut, &ReadError::Structure(84))?;
+    }
+    Ok(())
+}

@@ -1,0 +1,43 @@
+//! The structures of tables of given bytes, and their reports.
+
+use acpi_read::report::report_table;
+use acpi_read::table::Table;
+use acpi_term::read_error::ReadError;
+use acpi_vectors::{agree, equal, same};
+use std::alloc::Global;
+use std::test::Fail;
+
+/// The structures of a table's bytes are these at these offsets, and its report is this.
+pub fn reads(
+    alloc: Global,
+    bytes: &[u8],
+    structures: &[(usize, &[u8])],
+    report: &str,
+) -> Result<(), Fail> {
+    let table = Table::check(bytes)?;
+    let pieces = table.pieces(alloc)?;
+    equal(&pieces.len(), &structures.len())?;
+    for (piece, (offset, structure)) in pieces.iter().zip(structures) {
+        equal(&piece.offset, offset)?;
+        same(piece.bytes, *structure)?;
+    }
+    agree(&report_table(alloc, &table)?, report)
+}
+
+/// An error's offset is none past the end of the bytes.
+pub fn is_within(error: ReadError, bytes: &[u8]) -> Result<(), Fail> {
+    match error.offset() {
+        Some(offset) if offset <= bytes.len() => Ok(()),
+        _ => Err(Fail::new(format_args!("{error:?} in {bytes:?}"))),
+    }
+}
+
+/// The refusal of a table's bytes, which pass the check. The report's is of the same kind.
+pub fn refusal(alloc: Global, bytes: &[u8]) -> Result<ReadError, Fail> {
+    let table = Table::check(bytes)?;
+    let error = table.pieces(alloc).err().ok_or("a refusal")?;
+    let told = report_table(alloc, &table).err().ok_or("a refusal")?;
+    agree(told.name(), error.name())?;
+    is_within(error, bytes)?;
+    Ok(error)
+}

@@ -1,0 +1,117 @@
+//! Output that can't be written.
+
+use crate::program::{DSDT, USAGE, owned, path};
+use acpi_vectors::{equal, same};
+use acpiread_run::program::{run, start};
+use std::alloc::Global;
+use std::io::{Error, ErrorKind, Write};
+use std::rt::Files;
+use std::test::Fail;
+use std::{fs, io};
+
+// Room for more than any line.
+const AMPLE: usize = 1_000;
+
+// A writer with room for so many bytes, which fails once that is used up.
+#[derive(Drop)]
+struct Full {
+    room: usize,
+    taken: Vec<u8>,
+}
+
+impl Full {
+    fn new(alloc: Global, room: usize) -> Full {
+        Full {
+            room,
+            taken: Vec::new(alloc),
+        }
+    }
+}
+
+impl Write for Full {
+    fn write(&mut self, buf: &[u8]) -> io::Result<usize> {
+        let count = self.room.min(buf.len());
+        if count == 0 {
+            return Err(Error::from(ErrorKind::StorageFull));
+        }
+        self.taken.extend_from_slice(&buf[..count])?;
+        self.room -= count;
+        Ok(count)
+    }
+
+    fn flush(&mut self) -> io::Result<()> {
+        match self.room {
+            0 => Err(Error::from(ErrorKind::StorageFull)),
+            _ => Ok(()),
+        }
+    }
+}
+
+// A run whose writers have so much room: its status, and what each has taken.
+fn run_full(
+    rt: &(impl Files + AllocGlobal),
+    words: &[String],
+    rooms: [usize; 2],
+) -> io::Result<(Option<u8>, [Vec<u8>; 2])> {
+    let mut out = Full::new(rt.alloc(), rooms[0]);
+    let mut err = Full::new(rt.alloc(), rooms[1]);
+    let status = run(rt, rt.alloc(), words, &mut out, &mut err).ok();
+    Ok((status, [out.taken, err.taken]))
+}
+
+// Whichever byte of the lines is refused, or the flush behind them, a run has no status, what goes before is written, and the
+// other writer is given nothing.
+fn fails(
+    rt: &(impl Files + AllocGlobal),
+    words: &[&str],
+    status: u8,
+    lines: &str,
+) -> Result<(), Fail> {
+    let words = owned(rt, words)?;
+    let size = lines.len();
+    for room in 0..=size + 1 {
+        let rooms = if status == 0 {
+            [room, AMPLE]
+        } else {
+            [AMPLE, room]
+        };
+        let (told, [out, err]) = run_full(rt, &words, rooms)?;
+        let (written, other) = if status == 0 { (out, err) } else { (err, out) };
+        let wanted = if room > size { Some(status) } else { None };
+        equal(&told, &wanted)?;
+        same(&written, &lines.as_bytes()[..room.min(size)])?;
+        same(&other, b"")?;
+    }
+    Ok(())
+}
+
+#[test]
+fn full_writers(rt: HostRuntime) -> Result<(), Fail> {
+    let path = path(&rt, rt.process(), "full")?;
+    let file = path.as_str();
+    fs::write(&rt, file, DSDT.as_slice())?;
+    fails(
+        &rt,
+        &["table", file],
+        0,
+        "DSDT length 41 revision 2 sum 0\n",
+    )?;
+    fails(
+        &rt,
+        &["dsdt", file],
+        0,
+        "DSDT length 41 revision 2 sum 0\npackage 2\n  number 0\n  number 1\n",
+    )?;
+    fs::write(&rt, file, &DSDT[..40])?;
+    fails(&rt, &["table", file], 1, "refused at 4: TableLength\n")?;
+    fs::remove_file(&rt, file)?;
+    fails(&rt, &["table", file], 2, USAGE)
+}
+
+// Whatever the words are, neither a report nor a fault can be told.
+#[test]
+fn no_room(rt: HostRuntime) -> Result<(), Fail> {
+    let mut out = Full::new(rt.alloc(), 0);
+    let mut err = Full::new(rt.alloc(), 0);
+    equal(&start(&rt, &mut out, &mut err), &1)
+}
