@@ -12,7 +12,7 @@ cd "$(dirname "$0")"
 . ./crates.sh
 
 prove_libraries acpi_bench
-quietly acpi_bench run -- 0 0 0 0 0 0 0
+quietly acpi_bench run
 bench=crates/acpi_bench/out/acpi_bench
 
 # Freed memory stays with the program: else the system takes it back after the turns of the larger tables alone, and hands it
@@ -24,33 +24,33 @@ instructions() {
     valgrind --tool=callgrind --callgrind-out-file=/dev/null "$bench" "$@" 2>&1 | sed -n 's/.*Collected : //p'
 }
 
-# The instructions of a turn.
+# The instructions of a turn: in a run of two turns, those that a run of one doesn't have.
 turn() {
-    one=$(instructions 1 "$@")
-    two=$(instructions 2 "$@")
+    one=$(instructions turns=1 "$@")
+    two=$(instructions turns=2 "$@")
     echo $((two - one))
 }
 
 if command -v valgrind >/dev/null; then
-    echo "1 MiB: $(($(turn 1 0 0 0 0 0) / 10486)) instructions for 100 bytes that are read and dropped"
+    echo "1 MiB: $(($(turn mib=1) / 10486)) instructions for 100 bytes that are read and dropped"
 
     # In each turn three MADTs, SRATs and XSDTs are built, of the same numbers of structures.
     structures=$((1024 + 2048 + 4096))
     bytes=$((3 * (44 + 48 + 36) + structures * (10 + 40 + 8)))
-    echo "lists: $((100 * $(turn 0 4 0 0 0 0) / bytes)) instructions for 100 bytes that are built and dropped"
+    echo "lists: $((100 * $(turn lists=4) / bytes)) instructions for 100 bytes that are built and dropped"
 
-    # In a turn with 2 a PPTT of 2,048 processors is built, and the one of 1,024 that is built in a turn with 1.
-    larger=$(turn 0 0 0 2 0 0)
-    smaller=$(turn 0 0 0 1 0 0)
+    # In a turn with nodes=2 a PPTT of 2,048 processors is built, and the one of 1,024 that is built in a turn with nodes=1.
+    larger=$(turn nodes=2)
+    smaller=$(turn nodes=1)
     echo "PPTT: $((100 * (larger - smaller) / 106532)) instructions for 100 bytes that are built and dropped"
 
     # Each two of 512 localities have a distance, and each of them to itself; each of 256 initiators has 256 targets.
-    echo "SLIT: $(($(turn 0 0 0 0 4 0) / (512 * 513 / 2))) instructions for a distance that is set either way"
-    echo "HMAT: $(($(turn 0 0 0 0 0 4) / (256 * 256))) instructions for an entry that is set"
+    echo "SLIT: $(($(turn slit=4) / (512 * 513 / 2))) instructions for a distance that is set either way"
+    echo "HMAT: $(($(turn hmat=4) / (256 * 256))) instructions for an entry that is set"
 
-    # Both reports are made in each turn with 250 levels, the one at depth 1 in each with 1.
-    flat=$(turn 0 0 1 0 0 0)
-    deep=$(($(turn 0 0 250 0 0 0) - flat))
+    # In a turn with levels=250 both reports are made, and in a turn with levels=1 the one at depth 1.
+    flat=$(turn levels=1)
+    deep=$(($(turn levels=250) - flat))
     echo "report: $((flat / 20000)) instructions for a term at depth 1, $((deep / 20000)) at depth 250"
     if [ "$deep" -ge $((2 * flat)) ]; then
         echo 'too slow: the report of a term depends on its depth' >&2
@@ -59,7 +59,7 @@ if command -v valgrind >/dev/null; then
 fi
 
 for try in 1 2 3; do
-    "$bench" 15 8 4 250 4 4 4 && exit 0
+    "$bench" turns=15 mib=8 lists=4 levels=250 nodes=4 slit=4 hmat=4 && exit 0
 done
 echo 'too slow: twice the size takes 2.3 times as long or more' >&2
 exit 1

@@ -17,5 +17,8 @@ swapped a b c _ _ = None
 
 -- the id of a text, where it is three upper-case letters and four hexadecimal digits
 abbrev pub eisa_value : List ℕ → Option ℕ
-eisa_value (a ∷ b ∷ c ∷ d ∷ e ∷ f ∷ g ∷ []) = if is_upper a && is_upper b && is_upper c then swapped a b c (byte_of_digits d e) (byte_of_digits f g) else None
+eisa_value (a ∷ b ∷ c ∷ d ∷ e ∷ f ∷ g ∷ []) =
+    if is_upper a && is_upper b && is_upper c
+    then swapped a b c (byte_of_digits d e) (byte_of_digits f g)
+    else None
 eisa_value _ = None

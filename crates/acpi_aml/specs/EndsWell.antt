@@ -15,7 +15,9 @@ pub local_ends_well : (k : ℕ) → (row (local k) []).end ≢ Some Memory
 local_ends_well k = provided_ends_well (nat_le k 7) LocalNumber (((0x60 + k) ∷ []) ++ []) (λ is. cc)
 
 pub frame_ends_well : (code content : List ℕ) → (frame code content).end ≢ Some Memory
-frame_ends_well code content = provided_ends_well (nat_lt (4 + length content) (2 ^ 28)) PkgLength (code ++ with_length (least_width (length content)) content) (λ is. cc)
+frame_ends_well code content =
+    let bytes = code ++ with_length (least_width (length content)) content in
+    provided_ends_well (nat_lt (4 + length content) (2 ^ 28)) PkgLength bytes (λ is. cc)
 
 pub bytes_end_well : (bytes : List ℕ) → (buffer_of_bytes bytes).end ≢ Some Memory
 bytes_end_well bytes = frame_ends_well (0x11 ∷ []) ((number (length bytes) ++ []) ++ bytes)

@@ -8,7 +8,9 @@ use Rattle.acpi_term.specs.declared.mode.Mode.{Mode}
 use Rattle.acpi_term.specs.declared.mode.Mode.TheVariants.{Term, Element, Count}
 use Rattle.acpi_term.specs.Name.{IsName, IsText}
 use Rattle.acpi_term.specs.PathText.{is_name_text, path_spelling, path_of}
-use Rattle.acpi_term.specs.Tree.{number, ones, string, arg, local, call, def_scope, def_device, def_method, def_power_res, def_op_region, def_name, def_mutex, def_acquire, def_release, def_buffer, def_package, def_var_package, def_if, def_while, def_else, Terms, end, count, one}
+use Rattle.acpi_term.specs.Tree.{number, ones, string, arg, local, call, def_scope, def_device, def_method}
+use Rattle.acpi_term.specs.Tree.{def_power_res, def_op_region, def_name, def_mutex, def_acquire, def_release, def_buffer}
+use Rattle.acpi_term.specs.Tree.{def_package, def_var_package, def_if, def_while, def_else, Terms, end, count, one}
 use Rattle.acpi_term.specs.Row.{row, around, layout, writer_width}
 use Rattle.acpi_term.specs.Spelling.{AreNamed, SpellEach, Spells, arguments}
 use Rattle.acpi_term.specs.Template.{buffer_of_bytes, template_bytes, template}
@@ -26,11 +28,13 @@ use Rattle.acpi_aml.specs.Meaning.{Means, written, RowMeans}
 
 -- What a new builder writes, to which at most 255 whole elements were added, is the package of these.
 abbrev pub BuildersMakePackages : Type 0
-BuildersMakePackages = (objects : List Object) → (all_of objects).end ≡ None → length objects ≤ 255 → package_of (with_elements new_builder objects) ≡ row def_package objects
+BuildersMakePackages = (objects : List Object) → (all_of objects).end ≡ None → length objects ≤ 255
+    → package_of (with_elements new_builder objects) ≡ row def_package objects
 
 -- A scope round the bytes that whole children join to is the scope of these children.
 abbrev pub RawIsScope : Type 0
-RawIsScope = (path bytes : List ℕ) (objects : List Object) → (all_of objects).end ≡ None → (all_of objects).front ≡ bytes → around (layout (def_scope path) 0 0) (whole bytes) ≡ row (def_scope path) objects
+RawIsScope = (path bytes : List ℕ) (objects : List Object) → (all_of objects).end ≡ None → (all_of objects).front ≡ bytes
+    → around (layout (def_scope path) 0 0) (whole bytes) ≡ row (def_scope path) objects
 
 -- ---- what constructors write
 -- Each of these is the object of a constructor's clause. The premises beside what its children spell are standard names,
@@ -41,7 +45,8 @@ pub record NamedObjectsMean (arity : List ℕ → ℕ) (path : List ℕ) : Type 
   pub scope : (objects : List Object) → RowMeans arity (def_scope path) objects
   pub device : (objects : List Object) → RowMeans arity (def_device path) objects
   pub method : (args : ℕ) (serialized : Bool) (objects : List Object) → RowMeans arity (def_method path args serialized) objects
-  pub power_resource : (level order : ℕ) (objects : List Object) → level < 2 ^ 8 → order < 2 ^ 16 → RowMeans arity (def_power_res path level order) objects
+  pub power_resource : (level order : ℕ) (objects : List Object) → level < 2 ^ 8 → order < 2 ^ 16
+      → RowMeans arity (def_power_res path level order) objects
   pub name : (value : Object) → RowMeans arity (def_name path) (value ∷ [])
   pub mutex : (level : ℕ) → level < 2 ^ 8 → RowMeans arity (def_mutex path level) []
   pub acquire : (timeout : ℕ) → timeout < 2 ^ 16 → RowMeans arity (def_acquire path timeout) []
@@ -52,12 +57,14 @@ NamesOfObjectsMean = (arity : List ℕ → ℕ) (path : List ℕ) → IsName pat
 
 -- regions of every space
 abbrev pub RegionsMean : Type 0
-RegionsMean = (arity : List ℕ → ℕ) (path : List ℕ) (space : OpRegionSpace) (offset size : Object) → IsName path → RowMeans arity (def_op_region path (region_space space)) (offset ∷ size ∷ [])
+RegionsMean = (arity : List ℕ → ℕ) (path : List ℕ) (space : OpRegionSpace) (offset size : Object) → IsName path
+    → RowMeans arity (def_op_region path (region_space space)) (offset ∷ size ∷ [])
 
 -- fields of every access, lock and update rule
 abbrev pub FieldsMean : Type 0
 FieldsMean =
-    (arity : List ℕ → ℕ) (path : List ℕ) (access : FieldAccessType) (lock : FieldLockRule) (update : FieldUpdateRule) (entries : List FieldEntry)
+    (arity : List ℕ → ℕ) (path : List ℕ) (access : FieldAccessType) (lock : FieldLockRule) (update : FieldUpdateRule)
+    (entries : List FieldEntry)
     → IsName path → AreNamed (entries_of entries) → RowMeans arity (field_head path access lock update entries) []
 
 -- statements and lists
@@ -75,13 +82,16 @@ AllStatementsMean = (arity : List ℕ → ℕ) → StatementsMean arity
 -- A call, where the name takes as many arguments there.
 abbrev pub CallsMean : Type 0
 CallsMean =
-    (arity : List ℕ → ℕ) (m : Mode) (path : List ℕ) (objects : List Object) (ts : Terms) → IsName path → length objects ≡ arguments arity m path
-    → SpellEach arity Term objects ts → (row (call path) objects).end ≡ None → Spells arity m (row (call path) objects).front (written (call path) objects ts)
+    (arity : List ℕ → ℕ) (m : Mode) (path : List ℕ) (objects : List Object) (ts : Terms) → IsName path
+    → length objects ≡ arguments arity m path
+    → SpellEach arity Term objects ts → (row (call path) objects).end ≡ None
+    → Spells arity m (row (call path) objects).front (written (call path) objects ts)
 
 -- the term of a buffer of bytes: their number, and they
 abbrev pub buffer_term : List ℕ → Terms
 buffer_term bytes =
-    one (def_buffer bytes) (writer_width (def_buffer bytes) 1 (numbers.number (length bytes))) (one (number (length bytes)) (numbers.number_width (length bytes)) end)
+    one (def_buffer bytes) (writer_width (def_buffer bytes) 1 (numbers.number (length bytes)))
+    (one (number (length bytes)) (numbers.number_width (length bytes)) end)
 
 -- A template of whole descriptors that are bytes is the buffer of these and the end tag.
 abbrev pub TemplatesMean : Type 0
@@ -92,12 +102,14 @@ TemplatesMean =
 -- ---- meanings beside those of rows
 
 abbrev pub NumbersMean : Type 0
-NumbersMean = (arity : List ℕ → ℕ) (v : ℕ) → v < 2 ^ 64 → Means arity (whole (numbers.number v)) (one (number v) (numbers.number_width v) end)
+NumbersMean = (arity : List ℕ → ℕ) (v : ℕ) → v < 2 ^ 64
+    → Means arity (whole (numbers.number v)) (one (number v) (numbers.number_width v) end)
 
 -- ZERO, ONE and ONES
 abbrev pub ConstantsMean : Type 0
 ConstantsMean =
-    (arity : List ℕ → ℕ) → Means arity (whole (0x00 ∷ [])) (one (number 0) 0 end) × Means arity (whole (0x01 ∷ [])) (one (number 1) 0 end)
+    (arity : List ℕ → ℕ) → Means arity (whole (0x00 ∷ [])) (one (number 0) 0 end)
+    × Means arity (whole (0x01 ∷ [])) (one (number 1) 0 end)
     × Means arity (whole (0xff ∷ [])) (one ones 0 end)
 
 abbrev pub TextsMean : Type 0
@@ -105,7 +117,8 @@ TextsMean = (arity : List ℕ → ℕ) (s : List ℕ) → IsText s → Means ari
 
 -- A name alone is a call without arguments, wherever none are stated for it.
 abbrev pub NamesMean : Type 0
-NamesMean = (arity : List ℕ → ℕ) (m : Mode) (name : List ℕ) → IsName name → arguments arity m name ≡ 0 → Spells arity m name (one (call name) 0 end)
+NamesMean = (arity : List ℕ → ℕ) (m : Mode) (name : List ℕ) → IsName name → arguments arity m name ≡ 0
+    → Spells arity m name (one (call name) 0 end)
 
 -- The path of a text of standard segments is a name alone.
 abbrev pub PathsMean : Type 0
@@ -116,14 +129,16 @@ PathsMean =
 -- A builder whose bytes spell as many elements as were counted is the package of these.
 abbrev pub BuildersMean : Type 0
 BuildersMean =
-    (arity : List ℕ → ℕ) (b : Builder) (elements : Terms) → count elements ≡ b.elements → b.elements ≤ 255 → Spells arity Element b.bytes elements
+    (arity : List ℕ → ℕ) (b : Builder) (elements : Terms) → count elements ≡ b.elements → b.elements ≤ 255
+    → Spells arity Element b.bytes elements
     → Means arity (package_of b) (one def_package (writer_width def_package b.elements b.bytes) elements)
 
 -- A variable package of an object that spells a number of elements and then these.
 abbrev pub VarPackagesMean : Type 0
 VarPackagesMean =
     (arity : List ℕ → ℕ) (object : Object) (terms : Terms) → 1 ≤ count terms → Spells arity Count object.front terms
-    → Means arity (row def_var_package (object ∷ [])) (one def_var_package (writer_width def_var_package (count terms) object.front) terms)
+    → Means arity (row def_var_package (object ∷ []))
+    (one def_var_package (writer_width def_var_package (count terms) object.front) terms)
 
 -- A buffer of bytes, as `BufferData` and `Uuid` are, is the buffer of their number and the bytes.
 abbrev pub BuffersMean : Type 0
@@ -132,7 +147,8 @@ BuffersMean = (arity : List ℕ → ℕ) (bytes : List ℕ) → AreBytes bytes �
 -- A buffer of an object that spells one term and has bytes after it is the buffer of this term and these bytes.
 abbrev pub BufferTermsMean : Type 0
 BufferTermsMean =
-    (arity : List ℕ → ℕ) (object : Object) (size rest : List ℕ) (t : Terms) → object.front ≡ size ++ rest → count t ≡ 1 → Spells arity Term size t → AreBytes rest
+    (arity : List ℕ → ℕ) (object : Object) (size rest : List ℕ) (t : Terms) → object.front ≡ size ++ rest → count t ≡ 1
+    → Spells arity Term size t → AreBytes rest
     → Means arity (row (def_buffer []) (object ∷ [])) (one (def_buffer rest) (writer_width (def_buffer rest) 1 size) t)
 
 -- a UUID of these bytes

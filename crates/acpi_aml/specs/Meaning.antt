@@ -16,4 +16,5 @@ written h objects ts = one h (writer_width h (length objects) (all_of objects).f
 
 -- Over objects that spell a term each the row of the head means the term of this head over these terms.
 abbrev pub RowMeans : (List ℕ → ℕ) → Head → List Object → Type 0
-RowMeans arity h objects = (ts : Terms) → SpellEach arity (inner h) objects ts → Means arity (row h objects) (written h objects ts)
+RowMeans arity h objects = (ts : Terms) → SpellEach arity (inner h) objects ts
+    → Means arity (row h objects) (written h objects ts)

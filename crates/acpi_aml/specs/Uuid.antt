@@ -1,5 +1,6 @@
 -- UUIDs (ACPI 6.5, 19.6.142).
-use Rattle.std.specs.Prelude.{◌≡◌, ℕ, ◌==◌, ◌&&◌, Bool, if◌then◌else◌, List, ◌++◌, length, reverse, slice_index, slice_range, Option, Some, None}
+use Rattle.std.specs.Prelude.{◌≡◌, ℕ, ◌==◌, ◌&&◌, Bool, if◌then◌else◌, List, ◌++◌, length}
+use Rattle.std.specs.Prelude.{reverse, slice_index, slice_range, Option, Some, None}
 use Rattle.acpi_base.specs.Bytes.{AreBytes}
 use Rattle.acpi_aml.specs.Hex.{bytes_of_digits}
 
@@ -10,7 +11,8 @@ pub record IsUuid (bytes : List ℕ) : Type 0 where
 
 -- 36 characters, with `-` between groups of 8, 4, 4, 4 and 12
 abbrev pub is_grouped : List ℕ → Bool
-is_grouped text = length text == 36 && slice_index text 8 == 0x2d && slice_index text 13 == 0x2d && slice_index text 18 == 0x2d && slice_index text 23 == 0x2d
+is_grouped text = length text == 36 && slice_index text 8 == 0x2d && slice_index text 13 == 0x2d && slice_index text 18 == 0x2d
+    && slice_index text 23 == 0x2d
 
 -- the bytes of the groups, of which the first three are numbers, lowest byte first
 abbrev pub grouped : Option (List ℕ) → Option (List ℕ) → Option (List ℕ) → Option (List ℕ) → Option (List ℕ) → Option (List ℕ)
@@ -21,5 +23,9 @@ grouped _ _ _ _ _ = None
 abbrev pub uuid_bytes : List ℕ → Option (List ℕ)
 uuid_bytes text =
     if is_grouped text
-    then grouped (bytes_of_digits (slice_range text 0 8)) (bytes_of_digits (slice_range text 9 13)) (bytes_of_digits (slice_range text 14 18)) (bytes_of_digits (slice_range text 19 23)) (bytes_of_digits (slice_range text 24 36))
+    then grouped (bytes_of_digits (slice_range text 0 8))
+    (bytes_of_digits (slice_range text 9 13))
+    (bytes_of_digits (slice_range text 14 18))
+    (bytes_of_digits (slice_range text 19 23))
+    (bytes_of_digits (slice_range text 24 36))
     else None

@@ -94,8 +94,10 @@ impl PackageBuilder {
 
 // Writes a package of so many elements, whose bytes are given.
 fn write_package(sink: &mut dyn AmlSink, count: u8, elements: &[u8]) -> R<()>
-    ensures ok { OnOk result (Wrote (around (layout def_package 0 count) (whole elements.now)) (meaning sink.old) (meaning sink.new)) }
-    ensures err { IfErr result (λ e. WriteRefused e (around (layout def_package 0 count) (whole elements.now)) (meaning sink.old) (meaning sink.new)) }
+    ensures ok { OnOk result
+        (Wrote (around (layout def_package 0 count) (whole elements.now)) (meaning sink.old) (meaning sink.new)) }
+    ensures err { IfErr result
+        (λ e. WriteRefused e (around (layout def_package 0 count) (whole elements.now)) (meaning sink.old) (meaning sink.new)) }
 {
     let (length, used) = frame_length(elements.len() + 1)?;
     write_parts(sink, &[&[0x12], &length[..used], &[count], elements])

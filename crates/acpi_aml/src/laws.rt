@@ -1,6 +1,9 @@
 //! Laws over the definitions that the contracts cite. Each function is a law: it does nothing, and ensures it.
 
-ghost use Rattle.acpi_aml.specs.Laws.{BuildersMakePackages, RawIsScope, NamesOfObjectsMean, RegionsMean, FieldsMean, AllStatementsMean, CallsMean, TemplatesMean, NumbersMean, ConstantsMean, TextsMean, NamesMean, PathsMean, BuildersMean, VarPackagesMean, BuffersMean, BufferTermsMean, UuidMeans, EisaNameMeans};
+ghost use Rattle.acpi_aml.specs.Laws.{BuildersMakePackages, RawIsScope, NamesOfObjectsMean, RegionsMean};
+ghost use Rattle.acpi_aml.specs.Laws.{FieldsMean, AllStatementsMean, CallsMean, TemplatesMean, NumbersMean};
+ghost use Rattle.acpi_aml.specs.Laws.{ConstantsMean, TextsMean, NamesMean, PathsMean, BuildersMean};
+ghost use Rattle.acpi_aml.specs.Laws.{VarPackagesMean, BuffersMean, BufferTermsMean, UuidMeans, EisaNameMeans};
 
 use crate::eisa::EISAName;
 use crate::uuid::Uuid;

@@ -4,6 +4,7 @@ ghost use Rattle.std.specs.Prelude.{[], map};
 ghost use Rattle.acpi_base.specs.Object.{Builds};
 ghost use Rattle.acpi_term.specs.Tree.{def_method, call, arg, local};
 ghost use Rattle.acpi_term.specs.Row.{row};
+ghost use Rattle.acpi_aml.specs.EndsWell.{arg_ends_well, local_ends_well};
 
 use crate::path::Path;
 use crate::written::Written;
@@ -53,8 +54,6 @@ impl MethodCall {
 pub struct Arg(pub u8);
 
 impl Aml for Arg {
-    ghost use Rattle.acpi_aml.specs.EndsWell.{arg_ends_well};
-
     ghost object = { λ a. row (arg a.0) [] };
 
     ghost ends_well = { λ a. arg_ends_well a.0 };
@@ -73,8 +72,6 @@ impl Aml for Arg {
 pub struct Local(pub u8);
 
 impl Aml for Local {
-    ghost use Rattle.acpi_aml.specs.EndsWell.{local_ends_well};
-
     ghost object = { λ a. row (local a.0) [] };
 
     ghost ends_well = { λ a. local_ends_well a.0 };

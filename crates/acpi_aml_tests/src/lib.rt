@@ -5,6 +5,8 @@
 #[cfg(test)]
 mod buffers;
 #[cfg(test)]
+mod errors;
+#[cfg(test)]
 mod objects;
 #[cfg(test)]
 mod operators;

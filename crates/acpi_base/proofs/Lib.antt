@@ -7,5 +7,6 @@ pub mod Checksums
 pub mod Buffers
 pub mod Puts
 pub mod Records
+pub mod Values
 pub mod Tables
 pub mod Walks

@@ -1,11 +1,16 @@
 -- Walks of tables.
-use Rattle.std.proofs.Common.{◌≡◌, ℕ, ◌+◌, ◌≤◌, List, [], ◌∷◌, ◌++◌, length, take, drop, refl, sym, ap, ◌∙◌, arith, length-append, length-drop}
-use Rattle.std.specs.Prelude.{codes, Option, Some, None, Bool, true, false, ◌==◌, if◌then◌else◌}
+use Rattle.std.proofs.Common.{rules, ◌≡◌, ℕ, ◌+◌, ◌≤◌, List, [], ◌∷◌, ◌++◌, length, take, drop, refl, sym, ap, ◌∙◌, arith, length-append, length-drop}
+use Rattle.std.specs.Prelude.{Option, Some, None, Bool, true, false, ◌==◌, if◌then◌else◌}
 use Rattle.std.specs.List.{concat}
 use Rattle.std.proofs.lemmas.List.{append-nil, take-append-le, drop-append-le, take_at, drop_at}
 use Rattle.std.proofs.lemmas.List.Folds.{concat-append}
 use Rattle.acpi_base.specs.Bytes.{carried, field_at}
-use Rattle.acpi_base.specs.Walk.{Sizes, each_of, told_at, by_source, source_size, IsPiece, ArePieces, HasSizes, OneWalk, Walk, named, walk_of, WalksBy, OneListOfPieces, xsdt_walk, mcfg_walk, madt_walk, hest_walk, srat_walk, cedt_walk, pptt_walk, rhct_walk, viot_walk, rimt_walk, rqsc_walk, hmat_walk}
+use Rattle.acpi_base.specs.declared.walk.Place.{Place}
+use Rattle.acpi_base.specs.declared.walk.Sizes.{Sizes}
+use Rattle.acpi_base.specs.declared.walk.Sizes.TheVariants.{EachOf, ToldAt, BySource}
+use Rattle.acpi_base.specs.declared.walk.Walk.{Walk}
+use Rattle.acpi_base.specs.Walk.{place_offset, place_width, number_in, source_size, IsPiece, ArePieces, HasSizes, IsSound, OneWalk}
+use Rattle.acpi_base.specs.Walk.{walks, find_walk, walk_of, named, WalksBy, OneListOfPieces}
 
 -- a field in the front of a list
 pub field_front : (offset w : ℕ) (a b : List ℕ) → offset + w ≤ length a → field_at offset w (a ++ b) ≡ field_at offset w a
@@ -15,19 +20,19 @@ field_front offset w a b h =
 
 -- how long the structure is that bytes begin with
 abbrev front_size : Sizes → List ℕ → Option ℕ
-front_size (each_of size) bytes = Some size
-front_size (told_at offset width) bytes = Some (field_at offset width bytes)
-front_size by_source bytes = source_size (field_at 0 2 bytes)
+front_size (EachOf size) bytes = Some size
+front_size (ToldAt place) bytes = Some (number_in place bytes)
+front_size BySource bytes = source_size (field_at 0 2 bytes)
 
 front_is : (s : Sizes) (p rest : List ℕ) → IsPiece s p → front_size s (p ++ rest) ≡ Some (length p)
-front_is (each_of size) p rest is = ap Some (sym is)
-front_is (told_at offset width) p rest is = ap Some (field_front offset width p rest is.0 ∙ is.1)
-front_is by_source p rest is = ap source_size (field_front 0 2 p rest (omega (arith, is.0))) ∙ is.1
+front_is (EachOf size) p rest is = ap Some (sym is)
+front_is (ToldAt place) p rest is = ap Some (field_front (place_offset place) (place_width place) p rest is.0 ∙ is.1)
+front_is BySource p rest is = ap source_size (field_front 0 2 p rest (omega (arith, is.0))) ∙ is.1
 
 pub piece_has_bytes : (s : Sizes) (p : List ℕ) → HasSizes s → IsPiece s p → 1 ≤ length p
-piece_has_bytes (each_of size) p has is = omega (arith, has, is)
-piece_has_bytes (told_at offset width) p has is = omega (arith, has, is.0)
-piece_has_bytes by_source p has is = omega (arith, is.0)
+piece_has_bytes (EachOf size) p has is = omega (arith, has, is)
+piece_has_bytes (ToldAt place) p has is = omega (arith, has, is.0)
+piece_has_bytes BySource p has is = omega (arith, is.0)
 
 same_some : (a b : ℕ) (o p : Option ℕ) → o ≡ p → o ≡ Some a → p ≡ Some b → a ≡ b
 same_some a b o p same x y = let e : Some a ≡ Some b = sym x ∙ same ∙ y in cc
@@ -61,19 +66,27 @@ one_walk w bytes ps qs has a b = one_list w.sizes ps qs has a.each b.each (sym a
 
 -- ---- the walks of all signatures
 
-if_has : (b : Bool) (x : Walk) (o : Option Walk) (w : Walk) → HasSizes x.sizes → (o ≡ Some w → HasSizes w.sizes) → (if b then Some x else o) ≡ Some w → HasSizes w.sizes
-if_has true x o w has rest is = let same : x ≡ w = cc in rw (← same) has
-if_has false x o w has rest is = rest is
+if_sound : (b : Bool) (x : Walk) (o : Option Walk) (w : Walk) → IsSound x → (o ≡ Some w → IsSound w) → (if b then Some x else o) ≡ Some w → IsSound w
+if_sound true x o w sound rest is = let same : x ≡ w = cc in rw (← same) sound
+if_sound false x o w sound rest is = rest is
 
-none_has : (w : Walk) → None ≡ Some w → HasSizes w.sizes
-none_has w is = absurd cc
+abbrev AllAreSound : List (List ℕ × Walk) → Type 0
+AllAreSound [] = Unit {0}
+AllAreSound (row ∷ rows) = IsSound row.1 × AllAreSound rows
 
-has_sizes : (n : ℕ) (w : Walk) → walk_of n ≡ Some w → HasSizes w.sizes
-has_sizes n w is = (if_has (n == named (codes "XSDT")) xsdt_walk _ w (omega arith) (if_has (n == named (codes "MCFG")) mcfg_walk _ w (omega arith) (if_has (n == named (codes "APIC")) madt_walk _ w (omega arith) (if_has (n == named (codes "HEST")) hest_walk _ w tt (if_has (n == named (codes "SRAT")) srat_walk _ w (omega arith) (if_has (n == named (codes "CEDT")) cedt_walk _ w (omega arith) (if_has (n == named (codes "PPTT")) pptt_walk _ w (omega arith) (if_has (n == named (codes "RHCT")) rhct_walk _ w (omega arith) (if_has (n == named (codes "VIOT")) viot_walk _ w (omega arith) (if_has (n == named (codes "RIMT")) rimt_walk _ w (omega arith) (if_has (n == named (codes "RQSC")) rqsc_walk _ w (omega arith) (if_has (n == named (codes "HMAT")) hmat_walk _ w (omega arith) (none_has w))))))))))))) is
+found_is_sound : (s : ℕ) (rows : List (List ℕ × Walk)) (w : Walk) → AllAreSound rows → find_walk s rows ≡ Some w → IsSound w
+found_is_sound s [] w all is = absurd cc
+found_is_sound s (row ∷ rows) w all is = if_sound (s == named row.0) row.1 (find_walk s rows) w all.0 (found_is_sound s rows w all.1) is
+
+all_are_sound : AllAreSound walks
+all_are_sound = search rules
+
+pub is_sound : (s : ℕ) (w : Walk) → walk_of s ≡ Some w → IsSound w
+is_sound s w is = found_is_sound s walks w all_are_sound is
 
 pieces_by : (o : Option Walk) → ((w : Walk) → o ≡ Some w → HasSizes w.sizes) → (bytes : List ℕ) (ps qs : List (List ℕ)) → WalksBy o bytes ps → WalksBy o bytes qs → ps ≡ qs
 pieces_by (Some w) has bytes ps qs a b = one_walk w bytes ps qs (has w refl) a b
 pieces_by None has bytes ps qs a b = a ∙ sym b
 
 pub one_list_of_pieces : OneListOfPieces
-one_list_of_pieces bytes ps qs a b = pieces_by (walk_of (field_at 0 4 bytes)) (has_sizes (field_at 0 4 bytes)) bytes ps qs a b
+one_list_of_pieces bytes ps qs a b = pieces_by (walk_of (field_at 0 4 bytes)) (λ w is. (is_sound (field_at 0 4 bytes) w is).has) bytes ps qs a b

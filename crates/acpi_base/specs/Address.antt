@@ -1,16 +1,19 @@
 -- Addresses of registers as plain fields (ACPI 6.5, 5.2.3.2, Generic Address Structure).
 use Rattle.std.specs.Prelude.{ℕ, List, [], ◌∷◌}
-use Rattle.acpi_base.specs.Layout.{byte, qword, record_of}
+use Rattle.acpi_base.specs.Fields.{NamedField, byte, qword, fields_joined}
 use Rattle.acpi_base.specs.declared.address.GenericAddress.{GenericAddress}
 
+abbrev pub address_fields : GenericAddress → List NamedField
+address_fields a =
+    byte "Address Space ID" a.address_space_id  -- 0
+    ∷ byte "Register Bit Width" a.register_bit_width  -- 1
+    ∷ byte "Register Bit Offset" a.register_bit_offset  -- 2
+    ∷ byte "Access Size" a.access_size  -- 3
+    ∷ qword "Address" a.address  -- 4
+    ∷ []
+
 abbrev pub address_bytes : GenericAddress → List ℕ
-address_bytes a = record_of
-    (byte a.address_space_id  -- 0: Address Space ID
-    ∷ byte a.register_bit_width  -- 1: Register Bit Width
-    ∷ byte a.register_bit_offset  -- 2: Register Bit Offset
-    ∷ byte a.access_size  -- 3: Access Size
-    ∷ qword a.address  -- 4: Address
-    ∷ [])
+address_bytes a = fields_joined (address_fields a)
 
 -- a register as wide as its access, at a port or in memory
 abbrev pub address_at : ℕ → ℕ → ℕ → ℕ → GenericAddress

@@ -1,6 +1,6 @@
 -- Addresses of registers (ACPI 6.5, 5.2.3.2, Generic Address Structure).
 use Rattle.std.specs.Prelude.{ℕ, ◌+◌, ◌*◌, ◌^◌, List, [], ◌∷◌}
-use Rattle.acpi_base.specs.Layout.{byte, qword, record_of}
+use Rattle.acpi_base.specs.Fields.{NamedField, byte, qword, fields_joined}
 use Rattle.acpi_base.specs.declared.gas.GAS.{GAS}
 use Rattle.acpi_base.specs.declared.gas.AddressSpace.{AddressSpace}
 use Rattle.acpi_base.specs.declared.gas.AddressSpace.TheVariants as spaces
@@ -31,14 +31,17 @@ size_number sizes.WordAccess = 2
 size_number sizes.DwordAccess = 3
 size_number sizes.QwordAccess = 4
 
+abbrev pub gas_fields : GAS → List NamedField
+gas_fields g =
+    byte "Address Space ID" (space_number g.address_space_id)  -- 0
+    ∷ byte "Register Bit Width" g.register_bit_width  -- 1
+    ∷ byte "Register Bit Offset" g.register_bit_offset  -- 2
+    ∷ byte "Access Size" (size_number g.access_size)  -- 3
+    ∷ qword "Address" g.address  -- 4
+    ∷ []
+
 abbrev pub gas_bytes : GAS → List ℕ
-gas_bytes g = record_of
-    (byte (space_number g.address_space_id)  -- 0: Address Space ID
-    ∷ byte g.register_bit_width  -- 1: Register Bit Width
-    ∷ byte g.register_bit_offset  -- 2: Register Bit Offset
-    ∷ byte (size_number g.access_size)  -- 3: Access Size
-    ∷ qword g.address  -- 4: Address
-    ∷ [])
+gas_bytes g = fields_joined (gas_fields g)
 
 -- a register of so many bits at an address
 abbrev pub gas : AddressSpace → ℕ → ℕ → AccessSize → ℕ → GAS

@@ -1,18 +1,22 @@
 -- The standard header of a table (ACPI 6.5, 5.2.6).
 use Rattle.std.specs.Prelude.{ℕ, List, [], ◌∷◌, codes}
-use Rattle.acpi_base.specs.Layout.{byte, dword, record_of}
+use Rattle.acpi_base.specs.Fields.{NamedField, byte, dword, bytes, fields_joined}
 use Rattle.acpi_base.specs.declared.oem.Oem.{Oem}
 
--- 36 bytes, with a checksum of 0
+-- the header of a table of so many bytes, with a checksum of 0
+abbrev pub header_fields : List ℕ → ℕ → ℕ → Oem → List NamedField
+header_fields signature size revision oem =
+    bytes "Signature" 4 signature  -- 0
+    ∷ dword "Length" size  -- 4
+    ∷ byte "Revision" revision  -- 8
+    ∷ byte "Checksum" 0  -- 9
+    ∷ bytes "OEM ID" 6 oem.id  -- 10
+    ∷ bytes "OEM Table ID" 8 oem.table_id  -- 16
+    ∷ dword "OEM Revision" oem.revision  -- 24
+    ∷ bytes "Creator ID" 4 (codes "RVAT")  -- 28
+    ∷ bytes "Creator Revision" 4 (0 ∷ 0 ∷ 0 ∷ 1 ∷ [])  -- 32
+    ∷ []
+
+-- its 36 bytes
 abbrev pub header : List ℕ → ℕ → ℕ → Oem → List ℕ
-header signature size revision oem = record_of
-    (signature  -- 0
-    ∷ dword size  -- 4: Length
-    ∷ byte revision  -- 8
-    ∷ byte 0  -- 9: Checksum
-    ∷ oem.id  -- 10: OEMID
-    ∷ oem.table_id  -- 16: OEM Table ID
-    ∷ dword oem.revision  -- 24: OEM Revision
-    ∷ codes "RVAT"  -- 28: Creator ID
-    ∷ (0 ∷ 0 ∷ 0 ∷ 1 ∷ [])  -- 32: Creator Revision
-    ∷ [])
+header signature size revision oem = fields_joined (header_fields signature size revision oem)

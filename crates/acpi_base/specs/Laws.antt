@@ -30,7 +30,8 @@ WordsAreBytes =
     × ((after sink (to_le_bytes w64 v) ≡ after sink (le 8 v)) × (after sink (le 8 v) ≡ after_each sink (le 8 v)))
 
 abbrev pub FrontsAreSummed : Type 0
-FrontsAreSummed = (object : Object) (value : ℕ) → value < 256 → Wrote object (checksum_of 0) (checksum_of value) → value ≡ sum object.front % 256
+FrontsAreSummed = (object : Object) (value : ℕ) → value < 256 → Wrote object (checksum_of 0) (checksum_of value)
+    → value ≡ sum object.front % 256
 
 abbrev pub WholeObjectsAreSummed : Type 0
 WholeObjectsAreSummed =
@@ -48,7 +49,8 @@ ValueMakesZero = (raw value : ℕ) → raw < 256 → value ≡ (256 - raw) % 256
 -- What has a header, and a length below 2^32, is a table.
 abbrev pub TablesAreTrue : Type 0
 TablesAreTrue =
-    (signature body : List ℕ) (revision : ℕ) (oem : Oem) → length signature ≡ 4 → length oem.id ≡ 6 → length oem.table_id ≡ 8 → 36 + length body < 2 ^ 32
+    (signature body : List ℕ) (revision : ℕ) (oem : Oem) → length signature ≡ 4 → length oem.id ≡ 6 → length oem.table_id ≡ 8
+    → 36 + length body < 2 ^ 32
     → IsTrueTable (table_of signature revision oem body) × (length (table_of signature revision oem body) ≡ 36 + length body)
 
 -- So is what bytes were added to, whatever its length field held before.

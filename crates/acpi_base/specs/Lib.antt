@@ -1,3 +1,4 @@
+pub mod Error
 pub mod Bytes
 pub mod Sink
 pub mod Object
@@ -7,6 +8,7 @@ pub mod Number
 pub mod Text
 pub mod Layout
 pub mod Record
+pub mod Fields
 pub mod Gas
 pub mod Address
 pub mod Sum

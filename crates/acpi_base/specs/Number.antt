@@ -4,7 +4,13 @@ use Rattle.acpi_base.specs.Bytes.{le}
 
 -- A number below this can be spelled in the width: 0 for the bytes 00 and 01, else 1, 2, 4 or 8 bytes after a prefix.
 abbrev pub number_limit : ℕ → ℕ
-number_limit w = if w == 0 then 2 else (if w == 1 then 2 ^ 8 else (if w == 2 then 2 ^ 16 else (if w == 4 then 2 ^ 32 else (if w == 8 then 2 ^ 64 else 0))))
+number_limit w =
+    if w == 0 then 2
+    else (if w == 1 then 2 ^ 8
+    else (if w == 2 then 2 ^ 16
+    else (if w == 4 then 2 ^ 32
+    else (if w == 8 then 2 ^ 64
+    else 0))))
 
 -- BytePrefix, WordPrefix, DWordPrefix, QWordPrefix
 abbrev pub prefix : ℕ → ℕ
@@ -16,7 +22,12 @@ number_bytes v w = if w == 0 then v ∷ [] else prefix w ∷ le w v
 
 -- the least width
 abbrev pub number_width : ℕ → ℕ
-number_width v = if nat_lt v 2 then 0 else (if nat_lt v (2 ^ 8) then 1 else (if nat_lt v (2 ^ 16) then 2 else (if nat_lt v (2 ^ 32) then 4 else 8)))
+number_width v =
+    if nat_lt v 2 then 0
+    else (if nat_lt v (2 ^ 8) then 1
+    else (if nat_lt v (2 ^ 16) then 2
+    else (if nat_lt v (2 ^ 32) then 4
+    else 8)))
 
 -- a number in its shortest form
 abbrev pub number : ℕ → List ℕ

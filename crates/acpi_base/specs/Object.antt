@@ -1,5 +1,6 @@
 -- Objects.
-use Rattle.std.specs.Prelude.{◌≡◌, ◌≢◌, ℕ, List, [], ◌∷◌, ◌++◌, Bool, true, false, if◌then◌else◌, ◌||◌, ◌⊎◌, IsTrue, Option, Some, None, Result, Ok, Err}
+use Rattle.std.specs.Prelude.{◌≡◌, ◌≢◌, ℕ, List, [], ◌∷◌, ◌++◌, Bool, true, false, if◌then◌else◌, ◌||◌, ◌⊎◌, IsTrue, Option, Some}
+use Rattle.std.specs.Prelude.{None, Result, Ok, Err}
 use Rattle.acpi_base.specs.declared.error.Error.{Error}
 use Rattle.acpi_base.specs.declared.error.Error.TheVariants.{Memory}
 use Rattle.acpi_base.specs.Sink.{Meaning, Took, TookBeginning, IsTold}
@@ -27,14 +28,23 @@ ended (Some e) object = record { front = []; end = Some e; wants_memory = false 
 abbrev pub provided : Bool → Error → Object → Object
 provided test e object = ended (if test then None else Some e) object
 
-pub provided_ends_well : (test : Bool) (e : Error) (bytes : List ℕ) → e ≢ Memory → (provided test e (whole bytes)).end ≢ Some Memory
+pub provided_ends_well : (test : Bool) (e : Error) (bytes : List ℕ) → e ≢ Memory
+    → (provided test e (whole bytes)).end ≢ Some Memory
 provided_ends_well true e bytes other is = whole_ends_well bytes is
 provided_ends_well false e bytes other is = other cc
 
 -- an object and then another, unless the first ends in a refusal
 abbrev pub joined_by : List ℕ → Bool → Object → Option Error → Object
-joined_by front wants_memory next None = record { front = front ++ next.front; end = next.end; wants_memory = wants_memory || next.wants_memory }
-joined_by front wants_memory next (Some e) = record { front = front; end = Some e; wants_memory = wants_memory || next.wants_memory }
+joined_by front wants_memory next None = record {
+  front = front ++ next.front;
+  end = next.end;
+  wants_memory = wants_memory || next.wants_memory;
+}
+joined_by front wants_memory next (Some e) = record {
+  front = front;
+  end = Some e;
+  wants_memory = wants_memory || next.wants_memory;
+}
 
 abbrev pub chain : Object → Object → Object
 chain first next = joined_by first.front first.wants_memory next first.end

@@ -2,6 +2,6 @@
 use Rattle.std.specs.Prelude.{ℕ}
 
 -- a sum modulo 256, and how many bytes were added to it or taken out of it
-pub record Running : Type 0 where
+pub record Sum : Type 0 where
   pub value : ℕ
   pub summed : ℕ

@@ -1,47 +1,51 @@
 -- How the structures of a table are found in its bytes.
-use Rattle.std.specs.Prelude.{◌≡◌, ℕ, ◌+◌, ◌≤◌, ◌==◌, List, [], ◌∷◌, length, drop, codes, if◌then◌else◌, Option, Some, None}
+use Rattle.std.specs.Prelude.{◌≡◌, ℕ, ◌+◌, ◌*◌, ◌≤◌, ◌==◌, List, [], ◌∷◌, length, drop, codes, if◌then◌else◌, Option, Some, None}
 use Rattle.std.specs.List.{concat}
 use Rattle.acpi_base.specs.Bytes.{carried, field_at}
+use Rattle.acpi_base.specs.declared.walk.Place.{Place}
+use Rattle.acpi_base.specs.declared.walk.Place.TheVariants.{Nowhere, Byte, Word, DWord}
+use Rattle.acpi_base.specs.declared.walk.Sizes.{Sizes}
+use Rattle.acpi_base.specs.declared.walk.Sizes.TheVariants.{EachOf, ToldAt, BySource}
+use Rattle.acpi_base.specs.declared.walk.Walk.{Walk}
 
--- How long a structure is: each as long, as its field at an offset tells in so many bytes, or by its source type, as in
--- HEST.
-pub data Sizes : Type 0 where
-  each_of : ℕ → Sizes
-  told_at : ℕ → ℕ → Sizes
-  by_source : Sizes
+-- where a field begins
+abbrev pub place_offset : Place → ℕ
+place_offset Nowhere = 0
+place_offset (Byte offset) = offset
+place_offset (Word offset) = offset
+place_offset (DWord offset) = offset
 
--- a field of so many bytes at an offset; with none there is no such field
-pub record Place : Type 0 where
-  pub offset : ℕ
-  pub width : ℕ
+-- how many bytes it has: none where there is no field
+abbrev pub place_width : Place → ℕ
+place_width Nowhere = 0
+place_width (Byte offset) = 1
+place_width (Word offset) = 2
+place_width (DWord offset) = 4
 
--- Where a table's structures begin, how long they are, which field of each tells its type, and which fields of the table
--- tell their number and where they begin.
-pub record Walk : Type 0 where
-  pub start : ℕ
-  pub sizes : Sizes
-  pub kind : Place
-  pub count : Place
-  pub told_start : Place
+-- where it ends
+abbrev pub end_of : Place → ℕ
+end_of place = place_offset place + place_width place
 
--- no such field
-abbrev pub nowhere : Place
-nowhere = record { offset = 0; width = 0 }
-
-abbrev pub at : ℕ → ℕ → Place
-at offset width = record { offset = offset; width = width }
+-- the number in the field at a place
+abbrev pub number_in : Place → List ℕ → ℕ
+number_in place bytes = field_at (place_offset place) (place_width place) bytes
 
 -- the size of an error source of a type (ACPI 6.5, 18.3.2): AER root port, AER device, AER bridge, generic hardware error
 -- source, and its version 2
 abbrev pub source_size : ℕ → Option ℕ
 source_size kind =
-    if kind == 6 then Some 48 else (if kind == 7 then Some 44 else (if kind == 8 then Some 56 else (if kind == 9 then Some 64 else (if kind == 10 then Some 92 else None))))
+    if kind == 6 then Some 48
+    else (if kind == 7 then Some 44
+    else (if kind == 8 then Some 56
+    else (if kind == 9 then Some 64
+    else (if kind == 10 then Some 92
+    else None))))
 
 -- the bytes are a structure as long as it has to be
 abbrev pub IsPiece : Sizes → List ℕ → Type 0
-IsPiece (each_of size) piece = length piece ≡ size
-IsPiece (told_at offset width) piece = (offset + width ≤ length piece) × (field_at offset width piece ≡ length piece)
-IsPiece by_source piece = (2 ≤ length piece) × (source_size (field_at 0 2 piece) ≡ Some (length piece))
+IsPiece (EachOf size) piece = length piece ≡ size
+IsPiece (ToldAt place) piece = (end_of place ≤ length piece) × (number_in place piece ≡ length piece)
+IsPiece BySource piece = (2 ≤ length piece) × (source_size (field_at 0 2 piece) ≡ Some (length piece))
 
 abbrev pub ArePieces : Sizes → List (List ℕ) → Type 0
 ArePieces sizes [] = Unit {0}
@@ -49,7 +53,7 @@ ArePieces sizes (piece ∷ pieces) = IsPiece sizes piece × ArePieces sizes piec
 
 -- the field at a place, where there is one, holds the number
 abbrev pub Tells : Place → List ℕ → ℕ → Type 0
-Tells place bytes n = 1 ≤ place.width → field_at place.offset place.width bytes ≡ n
+Tells place bytes n = 1 ≤ place_width place → number_in place bytes ≡ n
 
 -- The pieces, one after another, are all that stands from the start on, and the fields that tell of them are right.
 pub record Walks (w : Walk) (bytes : List ℕ) (pieces : List (List ℕ)) : Type 0 where
@@ -66,9 +70,22 @@ offsets_from start (piece ∷ pieces) = start ∷ offsets_from (start + length p
 
 -- no structure is without bytes
 abbrev pub HasSizes : Sizes → Type 0
-HasSizes (each_of size) = 1 ≤ size
-HasSizes (told_at offset width) = 1 ≤ offset + width
-HasSizes by_source = Unit {0}
+HasSizes (EachOf size) = 1 ≤ size
+HasSizes (ToldAt place) = 1 ≤ end_of place
+HasSizes BySource = Unit {0}
+
+-- the bytes that every structure has at least
+abbrev pub least : Sizes → ℕ
+least (EachOf size) = size
+least (ToldAt place) = end_of place
+least BySource = 2
+
+-- A walk's structures have bytes, each reaches the field of its type, and the table's fields stand before all of them.
+pub record IsSound (w : Walk) : Type 0 where
+  pub has : HasSizes w.sizes
+  pub kind : end_of w.kind ≤ least w.sizes
+  pub count : end_of w.count ≤ w.start
+  pub told : end_of w.told_start ≤ w.start
 
 -- At most one list of pieces walks a table.
 abbrev pub OneWalk : Type 0
@@ -77,55 +94,70 @@ OneWalk = (w : Walk) (bytes : List ℕ) (ps qs : List (List ℕ)) → HasSizes w
 -- ---- the tables that have structures
 
 abbrev pub xsdt_walk : Walk
-xsdt_walk = record { start = 36; sizes = each_of 8; kind = nowhere; count = nowhere; told_start = nowhere }
+xsdt_walk = record { start = 36; sizes = EachOf 8; kind = Nowhere; count = Nowhere; told_start = Nowhere }
 
 abbrev pub mcfg_walk : Walk
-mcfg_walk = record { start = 44; sizes = each_of 16; kind = nowhere; count = nowhere; told_start = nowhere }
+mcfg_walk = record { start = 44; sizes = EachOf 16; kind = Nowhere; count = Nowhere; told_start = Nowhere }
 
 abbrev pub madt_walk : Walk
-madt_walk = record { start = 44; sizes = told_at 1 1; kind = at 0 1; count = nowhere; told_start = nowhere }
+madt_walk = record { start = 44; sizes = ToldAt (Byte 1); kind = Byte 0; count = Nowhere; told_start = Nowhere }
 
 abbrev pub hest_walk : Walk
-hest_walk = record { start = 40; sizes = by_source; kind = at 0 2; count = at 36 4; told_start = nowhere }
+hest_walk = record { start = 40; sizes = BySource; kind = Word 0; count = DWord 36; told_start = Nowhere }
 
 abbrev pub srat_walk : Walk
-srat_walk = record { start = 48; sizes = told_at 1 1; kind = at 0 1; count = nowhere; told_start = nowhere }
+srat_walk = record { start = 48; sizes = ToldAt (Byte 1); kind = Byte 0; count = Nowhere; told_start = Nowhere }
 
 abbrev pub cedt_walk : Walk
-cedt_walk = record { start = 36; sizes = told_at 2 2; kind = at 0 1; count = nowhere; told_start = nowhere }
+cedt_walk = record { start = 36; sizes = ToldAt (Word 2); kind = Byte 0; count = Nowhere; told_start = Nowhere }
 
 abbrev pub pptt_walk : Walk
-pptt_walk = record { start = 36; sizes = told_at 1 1; kind = at 0 1; count = nowhere; told_start = nowhere }
+pptt_walk = record { start = 36; sizes = ToldAt (Byte 1); kind = Byte 0; count = Nowhere; told_start = Nowhere }
 
 abbrev pub rhct_walk : Walk
-rhct_walk = record { start = 56; sizes = told_at 2 2; kind = at 0 2; count = at 48 4; told_start = at 52 4 }
+rhct_walk = record { start = 56; sizes = ToldAt (Word 2); kind = Word 0; count = DWord 48; told_start = DWord 52 }
 
 abbrev pub viot_walk : Walk
-viot_walk = record { start = 48; sizes = told_at 2 2; kind = at 0 1; count = at 36 2; told_start = at 38 2 }
+viot_walk = record { start = 48; sizes = ToldAt (Word 2); kind = Byte 0; count = Word 36; told_start = Word 38 }
 
 abbrev pub rimt_walk : Walk
-rimt_walk = record { start = 48; sizes = told_at 2 2; kind = at 0 1; count = at 36 4; told_start = at 40 4 }
+rimt_walk = record { start = 48; sizes = ToldAt (Word 2); kind = Byte 0; count = DWord 36; told_start = DWord 40 }
 
 abbrev pub rqsc_walk : Walk
-rqsc_walk = record { start = 40; sizes = told_at 2 2; kind = at 0 1; count = at 36 4; told_start = nowhere }
+rqsc_walk = record { start = 40; sizes = ToldAt (Word 2); kind = Byte 0; count = DWord 36; told_start = Nowhere }
 
 abbrev pub hmat_walk : Walk
-hmat_walk = record { start = 40; sizes = told_at 4 4; kind = at 0 2; count = nowhere; told_start = nowhere }
+hmat_walk = record { start = 40; sizes = ToldAt (DWord 4); kind = Word 0; count = Nowhere; told_start = Nowhere }
 
 -- a signature as a number, lowest byte first
 abbrev pub named : List ℕ → ℕ
 named signature = carried signature
 
+-- the walks of the tables that have structures, by their signatures
+abbrev pub walks : List (List ℕ × Walk)
+walks =
+    (codes "XSDT", xsdt_walk)
+    ∷ (codes "MCFG", mcfg_walk)
+    ∷ (codes "APIC", madt_walk)
+    ∷ (codes "HEST", hest_walk)
+    ∷ (codes "SRAT", srat_walk)
+    ∷ (codes "CEDT", cedt_walk)
+    ∷ (codes "PPTT", pptt_walk)
+    ∷ (codes "RHCT", rhct_walk)
+    ∷ (codes "VIOT", viot_walk)
+    ∷ (codes "RIMT", rimt_walk)
+    ∷ (codes "RQSC", rqsc_walk)
+    ∷ (codes "HMAT", hmat_walk)
+    ∷ []
+
+-- the walk beside a signature
+abbrev pub find_walk : ℕ → List (List ℕ × Walk) → Option Walk
+find_walk s [] = None
+find_walk s (row ∷ rows) = if s == named row.0 then Some row.1 else find_walk s rows
+
 -- the walk of the tables of a signature, where they have structures
 abbrev pub walk_of : ℕ → Option Walk
-walk_of s =
-    if s == named (codes "XSDT") then Some xsdt_walk else (if s == named (codes "MCFG") then Some mcfg_walk
-    else (if s == named (codes "APIC") then Some madt_walk else (if s == named (codes "HEST") then Some hest_walk
-    else (if s == named (codes "SRAT") then Some srat_walk else (if s == named (codes "CEDT") then Some cedt_walk
-    else (if s == named (codes "PPTT") then Some pptt_walk else (if s == named (codes "RHCT") then Some rhct_walk
-    else (if s == named (codes "VIOT") then Some viot_walk else (if s == named (codes "RIMT") then Some rimt_walk
-    else (if s == named (codes "RQSC") then Some rqsc_walk else (if s == named (codes "HMAT") then Some hmat_walk
-    else None)))))))))))
+walk_of s = find_walk s walks
 
 -- the pieces walk the bytes; where there is no walk, no pieces do
 abbrev pub WalksBy : Option Walk → List ℕ → List (List ℕ) → Type 0

@@ -2,9 +2,11 @@
 
 ghost use Rattle.std.specs.Prelude.{◌≡◌, ℕ};
 ghost use Rattle.acpi_base.specs.Address.{address_bytes, address_at};
+ghost use Rattle.acpi_base.specs.Address.{address_fields};
 
 use crate::error::R;
-use crate::record::{Field, record};
+use crate::gas::GENERIC_ADDRESS;
+use crate::row::{Record, Row, record_of_numbers};
 use crate::sdt::Sdt;
 use crate::value::SdtValue;
 
@@ -97,17 +99,26 @@ impl GenericAddress {
             address,
         }
     }
+}
 
-    fn bytes(&self) -> [u8; 12]
-        ensures { result ≡ address_bytes self.now }
-    {
-        record(&[
-            Field::Byte(self.address_space_id),
-            Field::Byte(self.register_bit_width),
-            Field::Byte(self.register_bit_offset),
-            Field::Byte(self.access_size),
-            Field::QWord(self.address),
-        ])
+impl Record<12> for GenericAddress {
+    ghost fields = { address_fields };
+
+    fn rows() -> &'static [Row] {
+        &GENERIC_ADDRESS
+    }
+
+    fn bytes(&self) -> [u8; 12] {
+        record_of_numbers(
+            &GENERIC_ADDRESS,
+            &[
+                u64::from(self.address_space_id),
+                u64::from(self.register_bit_width),
+                u64::from(self.register_bit_offset),
+                u64::from(self.access_size),
+                self.address,
+            ],
+        )
     }
 }
 

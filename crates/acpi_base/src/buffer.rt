@@ -74,7 +74,8 @@ pub fn append_all(children: &[&dyn Aml], bytes: &mut Vec<u8>) -> R<()>
 
 /// Writes an object and then others at the end of a vector.
 pub fn append_before(first: &dyn Aml, rest: &[&dyn Aml], bytes: &mut Vec<u8>) -> R<()>
-    ensures ok { OnOk result (Appended (all_of (object first.now ∷ map (λ child. object child.now) rest.now)) bytes.old.items bytes.new.items) }
+    ensures ok { OnOk result (Appended (all_of (object first.now
+        ∷ map (λ child. object child.now) rest.now)) bytes.old.items bytes.new.items) }
     ensures err { IfErr result (λ e. IsOwnEnd e (all_of (object first.now ∷ map (λ child. object child.now) rest.now))) }
 {
     append(first, bytes)?;

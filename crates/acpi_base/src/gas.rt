@@ -2,10 +2,11 @@
 
 ghost use Rattle.std.specs.Prelude.{◌≡◌};
 ghost use Rattle.acpi_base.specs.Object.{whole, whole_ends_well};
+ghost use Rattle.acpi_base.specs.Gas.{gas, pci_config_gas, gas_bytes, gas_fields};
 
 use crate::error::R;
 use crate::object::Aml;
-use crate::record::{Field, record};
+use crate::row::{Record, Row, record_of_numbers, write_record};
 use crate::sink::AmlSink;
 
 /// Where a register lies (ACPI 6.5, 5.2.3.2, offset 0).
@@ -49,8 +50,6 @@ pub struct GAS {
 }
 
 impl GAS {
-    ghost use Rattle.acpi_base.specs.Gas.{gas, pci_config_gas, gas_bytes};
-
     /// A register of so many bits, at a bit of the bytes at an address.
     pub fn new(
         address_space_id: AddressSpace,
@@ -104,24 +103,46 @@ impl GAS {
     pub fn bytes(&self) -> [u8; 12]
         ensures { result ≡ gas_bytes self.now }
     {
-        record(&[
-            Field::Byte(self.address_space_id as u8),
-            Field::Byte(self.register_bit_width),
-            Field::Byte(self.register_bit_offset),
-            Field::Byte(self.access_size as u8),
-            Field::QWord(self.address),
-        ])
+        record_of_numbers(
+            &GENERIC_ADDRESS,
+            &[
+                self.address_space_id as u64,
+                u64::from(self.register_bit_width),
+                u64::from(self.register_bit_offset),
+                self.access_size as u64,
+                self.address,
+            ],
+        )
+    }
+}
+
+/// The rows of an address.
+pub(crate) const GENERIC_ADDRESS: [Row; 5] = [
+    Row::Number("Address Space ID", 1),
+    Row::Number("Register Bit Width", 1),
+    Row::Number("Register Bit Offset", 1),
+    Row::Number("Access Size", 1),
+    Row::Number("Address", 8),
+];
+
+impl Record<12> for GAS {
+    ghost fields = { gas_fields };
+
+    fn rows() -> &'static [Row] {
+        &GENERIC_ADDRESS
+    }
+
+    fn bytes(&self) -> [u8; 12] {
+        GAS::bytes(self)
     }
 }
 
 impl Aml for GAS {
-    ghost use Rattle.acpi_base.specs.Gas.{gas_bytes};
-
     ghost object = { λ g. whole (gas_bytes g) };
 
     ghost ends_well = { λ g. whole_ends_well (gas_bytes g) };
 
     fn to_aml_bytes(&self, sink: &mut dyn AmlSink) -> R<()> {
-        sink.vec(&self.bytes())
+        write_record(self, sink)
     }
 }

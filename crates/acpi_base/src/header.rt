@@ -1,13 +1,15 @@
 //! The standard header of a table, and its checksum.
 
-ghost use Rattle.std.specs.Prelude.{◌≡◌, ◌≤◌, ◌%◌, [], ◌∷◌, length, sum};
+ghost use Rattle.std.specs.Prelude.{◌≡◌, ◌≤◌, ◌%◌, ℕ, List, [], ◌∷◌, length, sum};
 ghost use Rattle.acpi_base.specs.Bytes.{put};
-ghost use Rattle.acpi_base.specs.Header.{header};
+ghost use Rattle.acpi_base.specs.Fields.{AreRowsOf};
+ghost use Rattle.acpi_base.specs.Header.{header, header_fields};
+ghost use Rattle.acpi_base.specs.declared.oem.Oem.{Oem};
 ghost use Rattle.acpi_base.specs.Table.{with_checksum};
 
 use crate::oem::Oem;
 use crate::patch::write_at;
-use crate::record::{Field, record};
+use crate::row::{Row, Value, record_of};
 use crate::sum::Sum;
 
 /// Who made a table: the creator's id in the standard header (ACPI 6.5, 5.2.6, offset 28).
@@ -20,17 +22,41 @@ pub const CREATOR_REVISION: [u8; 4] = [0, 0, 0, 1];
 pub fn header(signature: [u8; 4], size: u32, revision: u8, oem: Oem) -> [u8; 36]
     ensures { result ≡ header signature size revision oem }
 {
-    record(&[
-        Field::Bytes(&signature),
-        Field::DWord(size),
-        Field::Byte(revision),
-        Field::Byte(0),
-        Field::Bytes(&oem.id),
-        Field::Bytes(&oem.table_id),
-        Field::DWord(oem.revision),
-        Field::Bytes(&CREATOR_ID),
-        Field::Bytes(&CREATOR_REVISION),
-    ])
+    record_of(
+        &HEADER,
+        &[
+            Value::Bytes(&signature),
+            Value::Number(u64::from(size)),
+            Value::Number(u64::from(revision)),
+            Value::Number(0),
+            Value::Bytes(&oem.id),
+            Value::Bytes(&oem.table_id),
+            Value::Number(u64::from(oem.revision)),
+            Value::Bytes(&CREATOR_ID),
+            Value::Bytes(&CREATOR_REVISION),
+        ],
+    )
+}
+
+/// The rows of the header.
+pub const HEADER: [Row; 9] = [
+    Row::Bytes("Signature", 4),
+    Row::Number("Length", 4),
+    Row::Number("Revision", 1),
+    Row::Number("Checksum", 1),
+    Row::Bytes("OEM ID", 6),
+    Row::Bytes("OEM Table ID", 8),
+    Row::Number("OEM Revision", 4),
+    Row::Bytes("Creator ID", 4),
+    Row::Bytes("Creator Revision", 4),
+];
+
+/// The names and widths of the header's fields, in order.
+pub fn header_rows() -> &'static [Row]
+    ensures { (signature : List ℕ) (size revision : ℕ) (oem : Oem)
+        → AreRowsOf result.now (header_fields signature size revision oem) }
+{
+    &HEADER
 }
 
 /// Makes the checksum at offset 9 true, so that all bytes sum to zero modulo 256, and answers the sum of all others.

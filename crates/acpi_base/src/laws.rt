@@ -1,7 +1,9 @@
 //! Laws over the definitions that the contracts cite. Each function is a law: it does nothing, and ensures it.
 
 ghost use Rattle.std.specs.Prelude.{◌≡◌, ℕ};
-ghost use Rattle.acpi_base.specs.Laws.{WritesJoin, NothingChangesNothing, FrontsAreSummed, WholeObjectsAreSummed, DeleteRestores, ValueMakesZero, WordsAreBytes, TablesAreTrue, AddedIsTrue, OverwrittenSumsToZero, AddedAtOnce};
+ghost use Rattle.acpi_base.specs.Laws.{WritesJoin, NothingChangesNothing, FrontsAreSummed, WholeObjectsAreSummed, DeleteRestores};
+ghost use Rattle.acpi_base.specs.Laws.{ValueMakesZero, WordsAreBytes, TablesAreTrue, AddedIsTrue, OverwrittenSumsToZero};
+ghost use Rattle.acpi_base.specs.Laws.{AddedAtOnce};
 ghost use Rattle.acpi_base.specs.Walk.{OneWalk, OneListOfPieces};
 
 use crate::object::Aml;

@@ -1,9 +1,24 @@
 //! Who a table is from.
 
+ghost use Rattle.std.specs.Prelude.{◌≡◌};
+
 /// Who a table is from: what the caller chooses of the standard header (ACPI 6.5, 5.2.6, offsets 10, 16 and 24).
 #[derive(Clone, Copy, Debug)]
 pub struct Oem {
     pub id: [u8; 6],
     pub table_id: [u8; 8],
     pub revision: u32,
+}
+
+impl Oem {
+    /// The manufacturer's id, its id of the table, and its revision of it.
+    pub fn new(id: [u8; 6], table_id: [u8; 8], revision: u32) -> Oem
+        ensures { result ≡ record { id = id; table_id = table_id; revision = revision } }
+    {
+        Oem {
+            id,
+            table_id,
+            revision,
+        }
+    }
 }

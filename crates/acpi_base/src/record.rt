@@ -1,9 +1,8 @@
 //! Records: fields of known widths, one after another.
 
 ghost use Rattle.std.specs.Prelude.{◌≡◌, ◌≤◌, ◌+◌, length};
-ghost use Rattle.std.specs.List.{flat_map};
-ghost use Rattle.acpi_base.specs.Record.{field_bytes, fields_bytes};
 ghost use Rattle.acpi_base.specs.Bytes.{put};
+ghost use Rattle.acpi_base.specs.Record.{field_bytes, fields_bytes};
 
 use crate::patch::write_at;
 

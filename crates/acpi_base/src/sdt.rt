@@ -1,6 +1,7 @@
 //! System description tables whose contents are the caller's.
 
-ghost use Rattle.std.specs.Prelude.{◌≡◌, ◌≢◌, ◌≤◌, ◌<◌, ◌+◌, ◌-◌, ◌%◌, ◌^◌, ◌++◌, [], ◌∷◌, ◌↔◌, length, replicate, sum, OnOk, OnErr, IfErr, IfOk, IsTrue};
+ghost use Rattle.std.specs.Prelude.{◌≡◌, ◌≢◌, ◌≤◌, ◌<◌, ◌+◌, ◌-◌, ◌%◌, ◌^◌, ◌++◌, [], ◌∷◌, ◌↔◌, length, replicate, sum, OnOk};
+ghost use Rattle.std.specs.Prelude.{OnErr, IfErr, IfOk, IsTrue};
 ghost use Rattle.std.specs.Int.{to_le_bytes, w16, w32, w64};
 ghost use Rattle.acpi_base.specs.Bytes.{le};
 ghost use Rattle.acpi_base.specs.Layout.{zeros};
@@ -132,11 +133,7 @@ impl Sdt {
         if length < 36 {
             return Err(Error::ShortTable);
         }
-        let oem = Oem {
-            id: oem_id,
-            table_id: oem_table,
-            revision: oem_revision,
-        };
+        let oem = Oem::new(oem_id, oem_table, oem_revision);
         let mut bytes = with_zeros(
             alloc,
             &header(signature, length, revision, oem),

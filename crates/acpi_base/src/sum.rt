@@ -13,9 +13,9 @@ pub struct Sum {
 }
 
 impl Model for Sum {
-    ghost use Rattle.acpi_base.specs.Sum.{Running};
+    ghost use Rattle.acpi_base.specs.Sum.{Sum};
 
-    ghost Value = { Running };
+    ghost Value = { Sum };
 
     ghost view = { λ s. record { value = s.value; summed = s.summed.count } };
 }

@@ -2,7 +2,6 @@
 
 ghost use Rattle.std.specs.Prelude.{◌≡◌, ◌*◌, length, IfOk};
 
-use crate::oem::{OEM_ID, OEM_REVISION, OEM_TABLE_ID};
 use acpi_tables::R;
 use acpi_tables::madt::{
     EnabledStatus, IoApic, LocalInterruptController, MADT, ProcessorLocalApic,
@@ -10,6 +9,7 @@ use acpi_tables::madt::{
 use acpi_tables::pptt::{CacheNodeBuilder, PPTT, ProcessorNode};
 use acpi_tables::srat::{MemoryAffinity, SRAT};
 use acpi_tables::xsdt::XSDT;
+use acpi_vectors::{OEM, OEM_REVISION, OEM_TABLE};
 use std::alloc::Global;
 
 /// A table that is built.
@@ -21,12 +21,12 @@ pub enum Kind {
     Pptt,
 }
 
-// Controllers of processors and of devices, by turns: so many of both.
+// A MADT of this many structures: a local APIC and an I/O APIC in turn.
 fn madt(alloc: Global, count: u32) -> R<MADT>
     ensures { IfOk result (λ madt. length madt.counted.table.structures ≡ count) }
 {
     let local = LocalInterruptController::Address(0xfee0_0000);
-    let mut table = MADT::new(alloc, OEM_ID, OEM_TABLE_ID, OEM_REVISION, local);
+    let mut table = MADT::new(alloc, OEM, OEM_TABLE, OEM_REVISION, local);
     'fill: for number in 0..count {
         if number % 2 == 0 {
             table.add_structure(ProcessorLocalApic::new(1, 1, EnabledStatus::Enabled))?;
@@ -37,11 +37,11 @@ fn madt(alloc: Global, count: u32) -> R<MADT>
     Ok(table)
 }
 
-// So many ranges of memory.
+// An SRAT of this many ranges of memory.
 fn srat(alloc: Global, count: u32) -> R<SRAT>
     ensures { IfOk result (λ srat. length srat.table.structures ≡ count) }
 {
-    let mut table = SRAT::new(alloc, OEM_ID, OEM_TABLE_ID, OEM_REVISION);
+    let mut table = SRAT::new(alloc, OEM, OEM_TABLE, OEM_REVISION);
     'fill: for number in 0..count {
         table.add_memory_affinity(MemoryAffinity::new(
             number,
@@ -52,22 +52,22 @@ fn srat(alloc: Global, count: u32) -> R<SRAT>
     Ok(table)
 }
 
-// So many addresses.
+// An XSDT of this many addresses.
 fn xsdt(alloc: Global, count: u32) -> R<XSDT>
     ensures { IfOk result (λ xsdt. length xsdt.table.structures ≡ count) }
 {
-    let mut table = XSDT::new(alloc, OEM_ID, OEM_TABLE_ID, OEM_REVISION);
+    let mut table = XSDT::new(alloc, OEM, OEM_TABLE, OEM_REVISION);
     'fill: for number in 0..count {
         table.add_entry(0x1_0000_0000 + number as u64)?;
     }
     Ok(table)
 }
 
-// So many processors, each behind a cache of its own.
+// A PPTT of this many processors, each with a cache of its own.
 fn pptt(alloc: Global, count: u32) -> R<PPTT>
     ensures { IfOk result (λ pptt. length pptt.table.structures ≡ 2 * count) }
 {
-    let mut table = PPTT::new(alloc, OEM_ID, OEM_TABLE_ID, OEM_REVISION);
+    let mut table = PPTT::new(alloc, OEM, OEM_TABLE, OEM_REVISION);
     'fill: for number in 0..count {
         let cache = CacheNodeBuilder::default()
             .size(0x8000)
@@ -80,7 +80,7 @@ fn pptt(alloc: Global, count: u32) -> R<PPTT>
     Ok(table)
 }
 
-/// Builds a table of so many structures, or of processors with their caches, and drops it.
+/// Builds a table of this many structures, or of this many processors with a cache each, and drops it.
 pub fn build(alloc: Global, kind: Kind, count: u32) -> R<()> {
     match kind {
         Kind::Madt => drop(madt(alloc, count)?),

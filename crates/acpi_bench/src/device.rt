@@ -11,14 +11,14 @@ use acpi_tables::read::{Arities, NameString, ReadError};
 use acpi_tables::{Aml, R};
 use std::alloc::Global;
 
-// Its interrupt and its ports.
+// Its interrupt and its I/O ports.
 fn resources(alloc: Global) -> R<ResourceTemplate> {
     let interrupt = Interrupt::new(true, true, false, false, 4);
     let ports = IO::new(0x3f8, 0x3f8, 0, 8);
     ResourceTemplate::new(vec![in alloc; &interrupt as &dyn Aml, &ports]?)
 }
 
-// Its registers.
+// Its registers, as a region of I/O ports.
 fn registers(alloc: Global) -> R<OpRegion> {
     OpRegion::new(
         Path::new(alloc, "REGS")?,
@@ -28,7 +28,7 @@ fn registers(alloc: Global) -> R<OpRegion> {
     )
 }
 
-// One bit of them, behind 32 others.
+// A field of one bit of the registers, at bit 32.
 fn bits(alloc: Global) -> R<Field> {
     Field::new(
         Path::new(alloc, "REGS")?,
@@ -39,12 +39,12 @@ fn bits(alloc: Global) -> R<Field> {
     )
 }
 
-// What wakes it.
+// The event that wakes it, and the deepest sleeping state in which it does.
 fn wakes(alloc: Global) -> R<Package> {
     Package::new(vec![in alloc; &0x1du8 as &dyn Aml, &3u8]?)
 }
 
-// Stores 15 where the argument is one and answers what another method makes of both.
+// A method that stores 15 if its argument is 1, and returns what another method returns for both.
 fn set(alloc: Global) -> R<Method> {
     let (argument, status) = (Arg(0), Local(0));
     let store = Store::new(alloc, &status, &15u8)?;
@@ -63,7 +63,7 @@ fn set(alloc: Global) -> R<Method> {
     )
 }
 
-/// The device. A method of its own is called in it, and one that stands elsewhere.
+/// The device. Its method calls one that is declared elsewhere.
 pub fn device(alloc: Global) -> R<Device>
     ensures { IfOk result (λ bytes. 1 ≤ length bytes) }
 {
@@ -84,7 +84,7 @@ pub fn device(alloc: Global) -> R<Device>
     Device::new(Path::new(alloc, "_SB_.COM1")?, inside)
 }
 
-/// How many arguments the names take that stand in the device.
+/// The numbers of arguments of the methods that the device names.
 pub fn arities(alloc: Global) -> Result<Arities, ReadError> {
     let set = NameString::new(alloc, "SETP")?;
     let tell = NameString::new(alloc, "\\_SB_.TELL")?;

@@ -1,57 +1,48 @@
-//! Why nothing was measured.
+//! Why a run failed.
 
-use acpi_tables::Error;
+ghost use Rattle.std.specs.Prelude.{◌≡◌};
+
+use crate::words::Wrong;
+use acpi_tables::Error as TableError;
 use acpi_tables::read::ReadError;
 use std::alloc::AllocFailed;
 use std::io;
+use thiserror::Error;
 
-/// Why nothing was measured.
-#[derive(Debug, Drop)]
+/// Why a run failed. What it displays is the line for standard error.
+#[derive(Debug, Drop, Error)]
 pub enum Fault {
+    /// A word of the command line is wrong.
+    #[error("{wrong} {word:?}; usage: acpi_bench [turns=N] [mib=N] [lists=N] [levels=N] [nodes=N] [slit=N] [hmat=N]")]
+    Word { wrong: Wrong, word: String },
     /// The arguments, the clock or the output.
-    System(io::Error),
+    #[error("{0}")]
+    System(#[from] io::Error),
     /// A table wasn't built.
-    Built(Error),
+    #[error("{0}")]
+    Built(#[from] TableError),
     /// A table wasn't read.
-    Read(ReadError),
+    #[error("{0}")]
+    Read(#[from] ReadError),
 }
 
-impl From<io::Error> for Fault {
-    ghost use Rattle.std.specs.Prelude.{◌≡◌};
-    ghost use Rattle.acpi_bench.specs.declared.fault.Fault.{Fault};
+impl Fault {
+    ghost use Rattle.acpi_bench.specs.Fault.{status_of};
 
-    ghost from_gives = { λ error fault. fault ≡ Fault.System error };
-
-    fn from(error: io::Error) -> Fault {
-        Fault::System(error)
-    }
-}
-
-impl From<Error> for Fault {
-    ghost use Rattle.std.specs.Prelude.{◌≡◌};
-    ghost use Rattle.acpi_bench.specs.declared.fault.Fault.{Fault};
-
-    ghost from_gives = { λ error fault. fault ≡ Fault.Built error };
-
-    fn from(error: Error) -> Fault {
-        Fault::Built(error)
-    }
-}
-
-impl From<ReadError> for Fault {
-    ghost use Rattle.std.specs.Prelude.{◌≡◌};
-    ghost use Rattle.acpi_bench.specs.declared.fault.Fault.{Fault};
-
-    ghost from_gives = { λ error fault. fault ≡ Fault.Read error };
-
-    fn from(error: ReadError) -> Fault {
-        Fault::Read(error)
+    /// The program's exit status.
+    pub fn status(&self) -> u8
+        ensures { result ≡ status_of self.now }
+    {
+        match self {
+            Fault::Word { .. } => 2,
+            _ => 1,
+        }
     }
 }
 
 /// Memory for what is no table.
 impl<T: Drop> From<AllocFailed<T>> for Fault {
     fn from(_error: AllocFailed<T>) -> Fault {
-        Fault::Built(Error::Memory)
+        Fault::Built(TableError::Memory)
     }
 }

@@ -1,9 +1,16 @@
-//! How long the terms of large tables take to read and to report, and tables of many structures and large matrices to build.
-//! `acpi_bench TURNS MIB KI LEVELS NODES SLIT HMAT` reads definition blocks of 1, 2, 4 and 8 MiB, builds tables of 1,024, 2,048
-//! and 4,096 structures, and those of so many processors, and reports 20,000 terms at depth 1 and 250, but none that is larger
-//! than so many MiB, 1,024 structures or 1,024 processors, or deeper than so many levels. It fills a SLIT of so many times 128
-//! localities and an HMAT of so many times 64 initiators and targets. Each is done so many times, and the least time of each is
-//! printed. It ends with status 1 where twice the size takes 2.3 times as long. With 0 turns it does nothing.
+//! Measures how long large tables take to read and to build, and nested terms to report. `acpi_bench WORD ..` takes words NAME=N,
+//! where N is from 0 to 255. A word that is left out states 0.
+//!
+//! - `turns=N`: everything is measured N times, and the least times are printed. 0: nothing is measured.
+//! - `mib=N`: definition blocks of 1, 2, 4 and 8 MiB are read, up to N MiB.
+//! - `lists=N`: a MADT, an SRAT and an XSDT are built, each of 1,024, 2,048 and 4,096 structures, up to 1,024 N.
+//! - `levels=N`: 20,000 terms are reported at depth 1 and at depth 250, up to depth N.
+//! - `nodes=N`: PPTTs of 1,024, 2,048 and 4,096 processors with a cache each are built, up to 1,024 N processors.
+//! - `slit=N`: a SLIT of 128 N localities is filled.
+//! - `hmat=N`: an HMAT of 64 N initiators and 64 N targets is filled.
+//!
+//! Status 1: twice the size took 2.3 times as long or longer, or a call was refused. 2: a word is wrong, and a line on standard
+//! error tells which.
 #![tactic(auto)]
 
 ghost use Rattle.std.specs.Prelude.{◌≡◌, IfOk};
@@ -14,97 +21,65 @@ mod device;
 mod fault;
 mod matrices;
 mod nesting;
-mod oem;
 mod ratio;
 mod table;
 mod timing;
+mod words;
 
-use crate::building::Kind;
+use crate::building::{Kind, build};
 use crate::device::{arities, device};
 use crate::fault::Fault;
-use crate::matrices::Matrix;
+use crate::matrices::{Matrix, build_matrix};
 use crate::nesting::nested;
 use crate::ratio::{hundredths, is_too_slow};
 use crate::table::table_of;
-use crate::timing::{Millis, least, least_built, least_filled, least_reported};
+use crate::timing::{Millis, least_of, least_read};
+use crate::words::{Words, stated};
+use acpi_tables::read::report_terms;
+use std::io;
 use std::process::ExitCode;
 use std::rt::{Clock, Env};
-use std::{env, io};
 
-fn main(rt: HostRuntime) -> Result<ExitCode, Fault> {
-    let Some(wanted) = arguments(&rt)? else {
-        eprintln!(rt; "usage: acpi_bench TURNS MIB KI LEVELS NODES SLIT HMAT")?;
-        return Ok(ExitCode::from(2));
-    };
-    let turns = wanted.turns;
-    if turns == 0 {
-        return Ok(ExitCode::SUCCESS);
+fn main(rt: HostRuntime) -> io::Result<ExitCode> {
+    match run(&rt) {
+        Ok(true) => Ok(ExitCode::SUCCESS),
+        Ok(false) => Ok(ExitCode::FAILURE),
+        Err(fault) => {
+            let status = fault.status();
+            eprintln!(rt; "{fault}")?;
+            Ok(ExitCode::from(status))
+        }
     }
-    let is_read = is_read_linearly(&rt, turns, wanted.mib)?;
-    let are_lists = are_lists_linear(&rt, turns, wanted.ki)?;
-    let nodes = wanted.nodes;
-    let are_nodes = is_kind_linear(&rt, turns, nodes, Kind::Pptt, "PPTT", "Ki processors")?;
-    report_nested(&rt, turns, wanted.levels)?;
-    let (localities, domains) = (u16::from(wanted.slit) * 128, u16::from(wanted.hmat) * 64);
-    fill(&rt, turns, Matrix::Slit, "SLIT", localities)?;
-    fill(&rt, turns, Matrix::Hmat, "HMAT", domains)?;
-    Ok(if is_read && are_lists && are_nodes {
-        ExitCode::SUCCESS
-    } else {
-        ExitCode::FAILURE
-    })
 }
 
-// How often each is measured, how many MiB and how many times 1,024 structures or processors the largest tables have, how deep
-// terms nest, and how many times 128 and 64 rows matrices have.
-#[derive(Clone, Copy, Debug)]
-struct Wanted {
+// Measures what the words state, and returns whether no ratio is too large.
+fn run(rt: &(impl Env + Clock + Print + AllocGlobal)) -> Result<bool, Fault> {
+    let words = stated(rt)?;
+    match words.turns.unwrap_or(0) {
+        0 => Ok(true),
+        turns => measure(rt, turns, words),
+    }
+}
+
+// Measures everything in this many turns, and returns whether no ratio is too large.
+fn measure(
+    rt: &(impl Clock + Print + AllocGlobal),
     turns: u8,
-    mib: u8,
-    ki: u8,
-    levels: u8,
-    nodes: u8,
-    slit: u8,
-    hmat: u8,
+    words: Words,
+) -> Result<bool, Fault> {
+    let is_read = is_read_linearly(rt, turns, words.mib.unwrap_or(0))?;
+    let are_lists = are_lists_linear(rt, turns, words.lists.unwrap_or(0))?;
+    let nodes = words.nodes.unwrap_or(0);
+    let are_nodes = is_kind_linear(rt, turns, nodes, Kind::Pptt, "PPTT", "Ki processors")?;
+    report_nested(rt, turns, words.levels.unwrap_or(0))?;
+    let localities = u16::from(words.slit.unwrap_or(0)) * 128;
+    let domains = u16::from(words.hmat.unwrap_or(0)) * 64;
+    fill(rt, turns, Matrix::Slit, "SLIT", localities)?;
+    fill(rt, turns, Matrix::Hmat, "HMAT", domains)?;
+    Ok(is_read && are_lists && are_nodes)
 }
 
-// What is wanted, if the arguments are seven numbers from 0 to 255.
-fn arguments(rt: &(impl Env + AllocGlobal)) -> io::Result<Option<Wanted>> {
-    let mut words = env::args(rt)?.skip(1);
-    let (Some(turns), Some(mib)) = (words.next(), words.next()) else {
-        return Ok(None);
-    };
-    let (Some(ki), Some(levels)) = (words.next(), words.next()) else {
-        return Ok(None);
-    };
-    let (Some(nodes), Some(slit), Some(hmat)) = (words.next(), words.next(), words.next()) else {
-        return Ok(None);
-    };
-    let (Ok(turns), Ok(mib)) = (turns.as_str().parse(), mib.as_str().parse()) else {
-        return Ok(None);
-    };
-    let (Ok(ki), Ok(levels)) = (ki.as_str().parse(), levels.as_str().parse()) else {
-        return Ok(None);
-    };
-    let (Ok(nodes), Ok(slit), Ok(hmat)) = (
-        nodes.as_str().parse(),
-        slit.as_str().parse(),
-        hmat.as_str().parse(),
-    ) else {
-        return Ok(None);
-    };
-    Ok(Some(Wanted {
-        turns,
-        mib,
-        ki,
-        levels,
-        nodes,
-        slit,
-        hmat,
-    }))
-}
-
-// Fills a matrix of so many rows, where there are any, and prints the time and the table's checksum.
+// Fills a matrix of this many rows, if there are any, and prints the time and the checksum of the table.
 fn fill(
     rt: &(impl Clock + Print + AllocGlobal),
     turns: u8,
@@ -113,14 +88,19 @@ fn fill(
     side: u16,
 ) -> Result<(), Fault> {
     if side > 0 {
-        let filled = least_filled(rt, rt.alloc(), matrix, side, turns)?;
-        let (time, checksum) = (filled.time, filled.checksum);
+        let times = least_of(
+            rt,
+            turns,
+            || Ok(build_matrix(rt.alloc(), matrix, side)?),
+            |checksum: &u8| *checksum,
+        )?;
+        let (time, checksum) = (times.made, times.shown);
         println!(rt; "{name} of {side} by {side} filled in {time} ns, checksum {checksum}")?;
     }
     Ok(())
 }
 
-// Reports 20,000 terms at each depth, and prints the times. At depth 250 there is much more text, so no ratio is too large.
+// Reports 20,000 terms at each depth, and prints the times. Their ratio has no limit: at depth 250 there is much more text.
 fn report_nested(
     rt: &(impl Clock + Print + AllocGlobal),
     turns: u8,
@@ -130,16 +110,20 @@ fn report_nested(
         if levels > most {
             break;
         }
-        let time = least_reported(rt, &nested(rt.alloc(), levels - 1, 20_000)?, turns)?;
-        println!(rt;
-            "20,000 terms at depth {levels} reported in {} ms",
-            Millis(time)
+        let terms = nested(rt.alloc(), levels - 1, 20_000)?;
+        let times = least_of(
+            rt,
+            turns,
+            || Ok(report_terms(rt.alloc(), &terms)?),
+            |_report: &String| (),
         )?;
+        let time = Millis(times.made);
+        println!(rt; "20,000 terms at depth {levels} reported in {time} ms")?;
     }
     Ok(())
 }
 
-// Builds the lists, prints the times and ratios, and answers whether no ratio is too large.
+// Builds the lists, prints the times and ratios, and returns whether no ratio is too large.
 fn are_lists_linear(
     rt: &(impl Clock + Print + AllocGlobal),
     turns: u8,
@@ -157,7 +141,7 @@ fn are_lists_linear(
     Ok(linear)
 }
 
-// Builds the tables of a kind, prints the times and ratios, and answers whether no ratio is too large.
+// Builds the tables of a kind, prints the times and ratios, and returns whether no ratio is too large.
 fn is_kind_linear(
     rt: &(impl Clock + Print + AllocGlobal),
     turns: u8,
@@ -172,14 +156,21 @@ fn is_kind_linear(
         if ki > most {
             break;
         }
-        let time = least_built(rt, alloc, kind, ki as u32 * 1024, turns)?;
+        let count = u32::from(ki) * 1024;
+        let times = least_of(
+            rt,
+            turns,
+            || Ok(build(alloc, kind, count)?),
+            |_built: &()| (),
+        )?;
+        let time = times.made;
         println!(rt; "{name} of {ki} {unit}: {time} ns")?;
         measured.push((ki, time))?;
     }
     Ok(print_ratios(rt, &measured, unit)?)
 }
 
-// Reads the tables, prints the times and ratios, and answers whether no ratio is too large.
+// Reads the tables, prints the times and ratios, and returns whether no ratio is too large.
 fn is_read_linearly(
     rt: &(impl Clock + Print + AllocGlobal),
     turns: u8,
@@ -193,15 +184,15 @@ fn is_read_linearly(
             break;
         }
         let table = table_of(alloc, &device, mib as usize * 0x10_0000)?;
-        let times = least(rt, &table.as_slice()[36..], &arities, turns)?;
-        let (count, read, dropped) = (times.terms, Millis(times.read), Millis(times.dropped));
+        let times = least_read(rt, turns, &table.as_slice()[36..], &arities)?;
+        let (count, read, dropped) = (times.shown, Millis(times.made), Millis(times.dropped));
         println!(rt; "{mib} MiB: {count} terms, {read} ms, dropped in {dropped} ms")?;
-        measured.push((mib, times.read))?;
+        measured.push((mib, times.made))?;
     }
     Ok(print_ratios(rt, &measured, "MiB")?)
 }
 
-// Prints the ratio of each time and the one before, and answers whether none is too large.
+// Prints the ratio of each time to the one before it, and returns whether no ratio is too large.
 fn print_ratios(rt: &impl Print, measured: &[(u8, u64)], unit: &str) -> io::Result<bool>
     ensures { IfOk result (λ linear. linear ≡ are_linear measured.now) }
 {

@@ -2,23 +2,17 @@
 
 ghost use Rattle.std.specs.Prelude.{◌≡◌, length, IfOk};
 
-use crate::oem::{OEM_ID, OEM_REVISION, OEM_TABLE_ID};
 use acpi_tables::hmat::{DataType, HMAT, LocalityType, MinTransferSize, SystemLocality};
 use acpi_tables::slit::SLIT;
 use acpi_tables::{Aml, R};
+use acpi_vectors::{OEM, OEM_REVISION, OEM_TABLE};
 use std::alloc::Global;
 
-// A table of so many localities. The distance of each two is set once, either way, to another value than its neighbours have.
+// A table of this many localities. Each two have a distance, which is set once and differs from that of their neighbours.
 fn slit(alloc: Global, localities: u16) -> R<SLIT>
     ensures { IfOk result (λ slit. slit.table.localities ≡ localities) }
 {
-    let mut table = SLIT::new(
-        alloc,
-        OEM_ID,
-        OEM_TABLE_ID,
-        OEM_REVISION,
-        u32::from(localities),
-    )?;
+    let mut table = SLIT::new(alloc, OEM, OEM_TABLE, OEM_REVISION, u32::from(localities))?;
     let mut distance = 0u8;
     'rows: for a in 0..localities {
         'cells: for b in 0..=a {
@@ -29,7 +23,7 @@ fn slit(alloc: Global, localities: u16) -> R<SLIT>
     Ok(table)
 }
 
-// A matrix of so many initiators and targets, of which each two have a latency of their own.
+// A matrix of this many initiators and targets. Each initiator has a latency to each target, which differs from its neighbours.
 fn latencies(alloc: Global, side: u16) -> R<SystemLocality> {
     let mut matrix = SystemLocality::new(
         alloc,
@@ -50,23 +44,23 @@ fn latencies(alloc: Global, side: u16) -> R<SystemLocality> {
     Ok(matrix)
 }
 
-// A table of one such matrix.
+// An HMAT of one such matrix.
 fn hmat(alloc: Global, side: u16) -> R<HMAT>
     ensures { IfOk result (λ hmat. length hmat.table.structures ≡ 1) }
 {
-    let mut table = HMAT::new(alloc, OEM_ID, OEM_TABLE_ID, OEM_REVISION);
+    let mut table = HMAT::new(alloc, OEM, OEM_TABLE, OEM_REVISION);
     table.add_system_locality(latencies(alloc, side)?)?;
     Ok(table)
 }
 
-/// Which matrix is built.
+/// A table of a matrix.
 #[derive(Clone, Copy, Debug)]
 pub enum Matrix {
     Slit,
     Hmat,
 }
 
-/// Builds a table of a matrix with so many rows, writes it, and answers its checksum, so that no cell is set for nothing.
+/// Builds a table of a matrix with this many rows, writes it, and returns its checksum, so that every cell is used.
 pub fn build_matrix(alloc: Global, matrix: Matrix, side: u16) -> R<u8> {
     let mut bytes = Vec::new(alloc);
     match matrix {

@@ -15,7 +15,7 @@ fn zero() -> Term
     Term::Number { value: 0, width: 0 }
 }
 
-/// So many numbers, inside so many frames.
+/// This many numbers, inside this many frames.
 pub fn nested(alloc: Global, frames: u8, count: u16) -> R<Vec<Term>>
     ensures { IfOk result (λ terms. views terms.items ≡ inside frames (numbers count)) }
 {

@@ -1,4 +1,4 @@
-//! Two times beside each other, in nanoseconds.
+//! Ratios of two times in nanoseconds.
 
 ghost use Rattle.std.specs.Prelude.{◌≡◌, ◌*◌, ◌/◌, max};
 ghost use Rattle.acpi_bench.specs.Ratio.{is_too_slow};
@@ -10,7 +10,7 @@ pub fn is_too_slow(earlier: u64, later: u64) -> bool
     earlier as u128 * 23 <= later as u128 * 10
 }
 
-/// How many hundredths of the earlier time the later one takes. An earlier time of 0 counts as 1.
+/// The later time in hundredths of the earlier one. An earlier time of 0 counts as 1.
 pub fn hundredths(earlier: u64, later: u64) -> u128
     ensures { result ≡ (100 * later) / (max 1 earlier) }
 {

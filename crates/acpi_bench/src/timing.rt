@@ -1,28 +1,28 @@
 //! Times of reading, of building and of reporting.
 
-ghost use Rattle.std.specs.Prelude.{IfOk};
+ghost use Rattle.std.specs.Prelude.{◌≡◌, length, IfOk, Ok};
+ghost use Rattle.std.specs.Fn.{FnReturnsAt};
 ghost use Rattle.acpi_term.specs.Arity.{arity};
+ghost use Rattle.acpi_term.specs.View.{views};
+ghost use Rattle.acpi_read.specs.Terms.{AreRead};
 ghost use Rattle.acpi_bench.specs.Counted.{AreCounted};
 
-use crate::building::{Kind, build};
 use crate::fault::Fault;
-use crate::matrices::{Matrix, build_matrix};
-use acpi_tables::read::{Arities, Term, report_terms, terms};
-use std::alloc::Global;
+use acpi_tables::read::{Arities, Term, terms};
 use std::fmt;
 use std::fmt::{Display, Formatter, Write};
 use std::rt::Clock;
 use std::time::{Duration, Instant};
 
-/// How many terms there are at the top, and how many nanoseconds it took to read them and to drop them.
+/// What is shown of a value, and the nanoseconds in which it was made and dropped.
 #[derive(Clone, Copy, Debug)]
-pub struct Times {
-    pub terms: usize,
-    pub read: u64,
+pub struct Times<N> {
+    pub shown: N,
+    pub made: u64,
     pub dropped: u64,
 }
 
-/// Nanoseconds that are shown as milliseconds, with tenths.
+/// Nanoseconds, displayed as milliseconds and tenths.
 #[derive(Clone, Copy, Debug)]
 pub struct Millis(pub u64);
 
@@ -33,112 +33,72 @@ impl Display for Millis {
     }
 }
 
-// A time past 2^64 nanoseconds is shown as the last one.
+// The nanoseconds of a time, at most 2^64 - 1.
 fn nanos(time: Duration) -> u64 {
     u64::try_from(time.as_nanos()).unwrap_or(u64::MAX)
 }
 
-// Reads terms and drops them.
-fn once(rt: &impl Clock, bytes: &[u8], arities: &Arities) -> Result<Times, Fault>
-    ensures { IfOk result (λ times. AreCounted (arity arities.now) bytes.now times.terms) }
+// Makes a value and drops it.
+fn once<T: Drop, N: Drop, M: Fn() -> Result<T, Fault>, S: Fn(&T) -> N>(
+    rt: &impl Clock,
+    make: &M,
+    show: &S,
+) -> Result<Times<N>, Fault>
+    requires makes { M.IsAlwaysCallable make.now }
+    requires shows { S.IsAlwaysCallable show.now }
+    ensures { IfOk result (λ times. (value : _) × M.post make.now (Ok value)
+        × FnReturnsAt S.Fn show.now value times.shown) }
 {
     let start = Instant::now(rt)?;
-    let list = terms(bytes, arities)?;
-    let read = nanos(start.elapsed(rt)?);
-    let count = list.len();
+    let value = make()?;
+    let made = nanos(start.elapsed(rt)?);
+    let shown = show(&value);
     let start = Instant::now(rt)?;
-    drop(list);
+    drop(value);
     let dropped = nanos(start.elapsed(rt)?);
     Ok(Times {
-        terms: count,
-        read,
+        shown,
+        made,
         dropped,
     })
 }
 
-/// The least times of so many turns, and of one at least.
-pub fn least(rt: &impl Clock, bytes: &[u8], arities: &Arities, turns: u8) -> Result<Times, Fault>
-    ensures { IfOk result (λ times. AreCounted (arity arities.now) bytes.now times.terms) }
+/// Makes a value and drops it, once in each turn and in one turn at least. The times are the least of all turns, and what is
+/// shown is that of the first value.
+pub fn least_of<T: Drop, N: Drop, M: Fn() -> Result<T, Fault>, S: Fn(&T) -> N>(
+    rt: &impl Clock,
+    turns: u8,
+    make: M,
+    show: S,
+) -> Result<Times<N>, Fault>
+    requires makes { M.IsAlwaysCallable make }
+    requires shows { S.IsAlwaysCallable show }
+    ensures { IfOk result (λ times. (value : _) × M.post make (Ok value)
+        × FnReturnsAt S.Fn show value times.shown) }
 {
-    let mut least = once(rt, bytes, arities)?;
+    let mut least = once(rt, &make, &show)?;
     for _ in 1..turns {
-        let next = once(rt, bytes, arities)?;
-        least.read = least.read.min(next.read);
+        let next = once(rt, &make, &show)?;
+        least.made = least.made.min(next.made);
         least.dropped = least.dropped.min(next.dropped);
     }
     Ok(least)
 }
 
-// The nanoseconds in which a table of so many structures is built and dropped.
-fn built_once(rt: &impl Clock, alloc: Global, kind: Kind, count: u32) -> Result<u64, Fault> {
-    let start = Instant::now(rt)?;
-    build(alloc, kind, count)?;
-    Ok(nanos(start.elapsed(rt)?))
-}
-
-/// The least nanoseconds of so many turns, and of one at least, in which a table of so many structures is built.
-pub fn least_built(
+/// The least times in which the terms of bytes are read and dropped, and the number of terms.
+pub fn least_read(
     rt: &impl Clock,
-    alloc: Global,
-    kind: Kind,
-    count: u32,
     turns: u8,
-) -> Result<u64, Fault> {
-    let mut least = built_once(rt, alloc, kind, count)?;
-    for _ in 1..turns {
-        least = least.min(built_once(rt, alloc, kind, count)?);
-    }
-    Ok(least)
-}
-
-/// A matrix that was filled and written: the nanoseconds that it took, and the table's checksum.
-#[derive(Clone, Copy, Debug)]
-pub struct Filled {
-    pub time: u64,
-    pub checksum: u8,
-}
-
-// Fills a matrix of so many rows and writes it.
-fn filled_once(rt: &impl Clock, alloc: Global, matrix: Matrix, side: u16) -> Result<Filled, Fault> {
-    let start = Instant::now(rt)?;
-    let checksum = build_matrix(alloc, matrix, side)?;
-    let time = nanos(start.elapsed(rt)?);
-    Ok(Filled { time, checksum })
-}
-
-/// The least time of so many turns, and of one at least, in which a matrix of so many rows is filled and written.
-pub fn least_filled(
-    rt: &impl Clock,
-    alloc: Global,
-    matrix: Matrix,
-    side: u16,
-    turns: u8,
-) -> Result<Filled, Fault> {
-    let mut least = filled_once(rt, alloc, matrix, side)?;
-    for _ in 1..turns {
-        let next = filled_once(rt, alloc, matrix, side)?;
-        least.time = least.time.min(next.time);
-        least.checksum = next.checksum;
-    }
-    Ok(least)
-}
-
-// The nanoseconds in which terms are reported, and the report dropped.
-fn reported_once(rt: &(impl Clock + AllocGlobal), terms: &[Term]) -> Result<u64, Fault> {
-    let start = Instant::now(rt)?;
-    drop(report_terms(rt.alloc(), terms)?);
-    Ok(nanos(start.elapsed(rt)?))
-}
-
-/// The least nanoseconds of so many turns, and of one at least, in which terms are reported.
-pub fn least_reported(
-    rt: &(impl Clock + AllocGlobal),
-    terms: &[Term],
-    turns: u8,
-) -> Result<u64, Fault> {
-    let mut least = reported_once(rt, terms)?;
-    for _ in 1..turns {
-        least = least.min(reported_once(rt, terms)?);
-    }
-    Ok(least)
+    bytes: &[u8],
+    arities: &Arities,
+) -> Result<Times<usize>, Fault>
+    ensures { IfOk result (λ times. AreCounted (arity arities.now) bytes.now times.shown) }
+{
+    let read = || -> Result<Vec<Term>, Fault>
+        ensures { IfOk result (λ list. AreRead (arity arities.entry.now) bytes.entry.now (views list.items)) }
+    { Ok(terms(bytes, arities)?) };
+    let count = |list: &Vec<Term>| -> usize
+        ensures { result ≡ length list.now.items }
+    { list.len() };
+    least_of(rt, turns, read, count)
 }

@@ -1,13 +1,16 @@
 -- What tables keep over additions.
-use Rattle.std.proofs.Common.{◌≡◌, ℕ, ◌+◌, List, length, take, refl, ap, ◌∙◌}
+use Rattle.std.proofs.Common.{◌≡◌, ℕ, ◌+◌, List, [], Bool, IsTrue, length, take, refl, ap, ◌∙◌}
 use Rattle.std.specs.Prelude.{Result, Ok, Err, OnOk, IfErr, Option, Some, None}
 use Rattle.acpi_base.specs.declared.error.Error.{Error}
 use Rattle.acpi_base.specs.Sink.{Meaning}
+use Rattle.acpi_base.specs.Table.{IsTrueTable}
 use Rattle.acpi_base.specs.Object.{Object, whole, Wrote, WriteRefused}
-use Rattle.acpi_base.specs.Walk.{Sizes, Walk, IsPiece, ArePieces, HasSizes, walk_of}
+use Rattle.acpi_base.specs.Walk.{IsPiece, ArePieces, walk_of, named}
+use Rattle.acpi_base.specs.declared.walk.Sizes.{Sizes}
+use Rattle.acpi_base.specs.declared.walk.Walk.{Walk}
 use Rattle.acpi_base.specs.Bytes.{field_at}
 use Rattle.std.specs.List.{concat}
-use Rattle.acpi_base.proofs.Walks.{pieces_push}
+use Rattle.acpi_base.proofs.Walks.{pieces_push, is_sound}
 use Rattle.acpi_core.specs.Listing.{Listing, IsListing, bytes_of, with_structure}
 use Rattle.acpi_core.specs.Addition.{Counted, Adds, AddsAt, refusal_of}
 use Rattle.acpi_core.specs.Walk.{IsWalkOf, Keeps, IsWalked}
@@ -36,17 +39,38 @@ pieces_on : (s : Sizes) {T : Type 0} (r : Result T Error) (old new : Counted) (o
 pieces_on s (Ok u) old new o all one adds = rw adds.ok (pieces_push s old.table.structures o.front all (one (accepted_end old.table o.end (length o.front) adds.accepted)))
 pieces_on s (Err e) old new o all one adds = rw adds.err all
 
+limit_on : {T : Type 0} (r : Result T Error) (old new : Counted) (o : Object) (limit : ℕ) → old.table.limit ≡ limit → Adds r old o new → new.table.limit ≡ limit
+limit_on (Ok u) old new o limit is adds = rw adds.ok is
+limit_on (Err e) old new o limit is adds = rw adds.err is
+
 -- an addition, accepted or refused, keeps what a table keeps
-pub keeps_on : (w : Walk) {T : Type 0} (r : Result T Error) (old new : Counted) (o : Object) → Keeps w old.table → (o.end ≡ None → IsPiece w.sizes o.front) → Adds r old o new → Keeps w new.table
-keeps_on w r old new o kept one adds = record {
+pub keeps_on : (w : Walk) (limit : ℕ) (closed : Bool) {T : Type 0} (r : Result T Error) (old new : Counted) (o : Object) → Keeps w limit closed old.table
+    → (IsTrue closed → o.end ≡ None → IsPiece w.sizes o.front) → Adds r old o new → Keeps w limit closed new.table
+keeps_on w limit closed r old new o kept one adds = record {
   is = listing_on r old new o kept.is adds;
   walk = walk_on w r old new o kept.walk adds;
-  pieces = pieces_on w.sizes r old new o kept.pieces one adds;
+  limited = limit_on r old new o limit kept.limited adds;
+  pieces = λ all. pieces_on w.sizes r old new o (kept.pieces all) (one all) adds;
 }
 
-pub is_walked : (w : Walk) (t : Listing) → HasSizes w.sizes → Keeps w t → IsWalked w t
-is_walked w t has kept =
-    let walk = the_walk t w kept.is kept.walk has kept.pieces in
+-- a table without structures keeps what its kind says
+pub begins : (w : Walk) (limit : ℕ) (closed : Bool) (t empty : Listing) → t ≡ empty → IsListing t → IsWalkOf w empty → empty.limit ≡ limit → empty.structures ≡ [] → Keeps w limit closed t
+begins w limit closed t empty same is walk low none =
+    record { is = is; walk = rw same walk; limited = rw same low; pieces = λ all. rw (same, none) tt }
+
+-- an addition of a record, whose bytes are as many as its type says
+pub keeps_record : (w : Walk) (limit : ℕ) (closed : Bool) {T : Type 0} (r : Result T Error) (old new : Counted) (n : ℕ) (made bytes : List ℕ) → Keeps w limit closed old.table
+    → (IsTrue closed → length bytes ≡ n → IsPiece w.sizes bytes) → made ≡ bytes → length made ≡ n → Adds r old (whole made) new → Keeps w limit closed new.table
+keeps_record w limit closed r old new n made bytes kept one same size adds =
+    keeps_on w limit closed r old new (whole made) kept (λ all _. rw same (one all (rw (← same) size))) adds
+
+-- what a table is of which the walk is known
+pub is_true : (w : Walk) (limit : ℕ) (closed : Bool) (t : Listing) → Keeps w limit closed t → IsTrueTable (bytes_of t)
+is_true w limit closed t kept = (are_true t kept.is).0
+
+pub is_walked : (w : Walk) (limit : ℕ) (closed : Bool) (t : Listing) → Keeps w limit closed t → ArePieces w.sizes t.structures → IsWalked w t
+is_walked w limit closed t kept pieces =
+    let walk = the_walk t w kept.is kept.walk (is_sound (named t.signature) w kept.walk.signature).has pieces in
     let by : walk_of (field_at 0 4 (bytes_of t)) ≡ Some w = ap walk_of (signature_told t kept.is) ∙ kept.walk.signature in
     record {
       is_true = (are_true t kept.is).0;
@@ -63,17 +87,6 @@ wrote_same (Err e) a b m k same wrote = tt
 pub refused_same : {T : Type 0} (r : Result T Error) (a b : Counted) (m k : Meaning) → a ≡ b → IfErr r (λ e. WriteRefused e (whole (bytes_of a.table)) m k) → IfErr r (λ e. WriteRefused e (whole (bytes_of b.table)) m k)
 refused_same (Ok u) a b m k same refused = tt
 refused_same (Err e) a b m k same refused = rw (← same) refused
-
--- an addition of bytes that are those of a definition, to a table that is the only field of another
-pub keeps_bytes : (w : Walk) {T : Type 0} (r : Result T Error) (old new : Counted) (b bytes : List ℕ) → Keeps w old.table → IsPiece w.sizes bytes → b ≡ bytes → Adds r old (whole b) new → Keeps w new.table
-keeps_bytes w r old new b bytes kept one is adds = keeps_on w r old new (whole b) kept (λ _. rw is one) adds
-
-pub adds_bytes : {T : Type 0} (r : Result T Error) (inside old new : Counted) (b bytes : List ℕ) → inside ≡ old → b ≡ bytes → Adds r inside (whole b) new → Adds r old (whole bytes) new
-adds_bytes r inside old new b bytes same is adds = rw (← same, ← is) adds
-
--- the same, where the answer is that of an addition that answers an offset
-pub adds_at_bytes : (r answer : Result ℕ Error) (inside old new : Counted) (b bytes : List ℕ) → answer ≡ r → inside ≡ old → b ≡ bytes → AddsAt r inside (whole b) new → AddsAt answer old (whole bytes) new
-adds_at_bytes r answer inside old new b bytes answers same is adds = rw (answers, ← same, ← is) adds
 
 -- an addition of an object
 pub adds_object : {T : Type 0} (r : Result T Error) (inside old new : Counted) (o : Object) → inside ≡ old → Adds r inside o new → Adds r old o new

@@ -8,7 +8,8 @@ use Rattle.std.proofs.lemmas.Bool.Decides.{nat_tests}
 use Rattle.acpi_base.specs.Bytes.{le, carried, complement, put, field_at}
 use Rattle.acpi_base.specs.declared.error.Error.TheVariants.{FieldWidth}
 use Rattle.acpi_base.specs.Header.{header}
-use Rattle.acpi_base.specs.Walk.{Walk, Walks, ArePieces, HasSizes, named, offsets_from}
+use Rattle.acpi_base.specs.Walk.{place_offset, place_width, Walks, ArePieces, HasSizes, named, offsets_from}
+use Rattle.acpi_base.specs.declared.walk.Walk.{Walk}
 use Rattle.acpi_base.proofs.Bytes.{length_le, carried_le}
 use Rattle.acpi_base.proofs.Puts.{put-append, length-put}
 use Rattle.acpi_base.proofs.Tables.{table_is_true, table_named, length-header}
@@ -129,15 +130,15 @@ walked t w is walk each =
       joined = ap (drop w.start) f.0 ∙ drop_at ((p.front) ++ fixed_fields t) s w.start (f.1 ∙ sym walk.start);
       each = each;
       counted = λ some.
-          field_between (bytes_of t) (p.front ++ t.before) n (t.after ++ s) w.count.offset w.count.width behind_count (walk.count_at some ∙ sym l1) (walk.count_width ∙ sym (length_le t.count_width (length t.structures)))
+          field_between (bytes_of t) (p.front ++ t.before) n (t.after ++ s) (place_offset w.count) (place_width w.count) behind_count (walk.count_at some ∙ sym l1) (walk.count_width ∙ sym (length_le t.count_width (length t.structures)))
           ∙ number_told t.count_width (length t.structures) (omega (arith, some, walk.count_width)) is.width is.counted;
       started = λ some.
           let told = walk.told some in
-          let tw = w.told_start.width in
+          let tw = (place_width w.told_start) in
           let field = take tw t.after in
           let split : bytes_of t ≡ ((p.front ++ t.before) ++ n) ++ (field ++ (drop tw t.after ++ s)) =
           behind_after ∙ ap (λ z. ((p.front ++ t.before) ++ n) ++ z) (ap (λ a. a ++ s) (sym (take-append-drop tw t.after)) ∙ append_assoc field (drop tw t.after) s) in
-          field_between (bytes_of t) ((p.front ++ t.before) ++ n) field (drop tw t.after ++ s) w.told_start.offset tw split (told.0 ∙ sym l2) (sym (length-take-le tw t.after told.1))
+          field_between (bytes_of t) ((p.front ++ t.before) ++ n) field (drop tw t.after ++ s) (place_offset w.told_start) tw split (told.0 ∙ sym l2) (sym (length-take-le tw t.after told.1))
           ∙ told.2 ∙ sym walk.start;
     }
 

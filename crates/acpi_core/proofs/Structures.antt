@@ -4,7 +4,8 @@ use Rattle.std.proofs.lemmas.Bool.Decides.{nat_tests}
 use Rattle.std.specs.Prelude.{None}
 use Rattle.acpi_base.specs.declared.error.Error.TheVariants.{FieldWidth}
 use Rattle.acpi_base.specs.Object.{whole}
-use Rattle.acpi_base.specs.Walk.{Sizes, IsPiece}
+use Rattle.acpi_base.specs.Walk.{IsPiece}
+use Rattle.acpi_base.specs.declared.walk.Sizes.{Sizes}
 use Rattle.acpi_base.proofs.Objects.{is_provided, provided_front}
 use Rattle.acpi_core.specs.Structure.{structure_of, fits_word}
 

@@ -1,5 +1,6 @@
 -- What adding a structure makes of a table.
-use Rattle.std.specs.Prelude.{◌≡◌, ◌≢◌, ℕ, ◌+◌, ◌≤◌, Bool, length, if◌then◌else◌, Option, Some, None, Result, OnOk, OnErr, IfOk, IfErr}
+use Rattle.std.specs.Prelude.{◌≡◌, ◌≢◌, ℕ, ◌+◌, ◌≤◌, Bool, length, if◌then◌else◌, Option, Some, None, Result, OnOk, OnErr, IfOk}
+use Rattle.std.specs.Prelude.{IfErr}
 use Rattle.acpi_base.specs.declared.error.Error.{Error}
 use Rattle.acpi_base.specs.declared.error.Error.TheVariants.{Memory, FieldWidth}
 use Rattle.acpi_base.specs.Object.{Object}

@@ -1,5 +1,6 @@
 -- Tables in one flat list: the fixed part, and behind it all structures.
-use Rattle.std.specs.Prelude.{◌≡◌, ℕ, ◌+◌, ◌-◌, ◌*◌, ◌%◌, ◌^◌, ◌<◌, ◌⊎◌, ◌==◌, ◌||◌, ◌&&◌, nat_lt, Bool, List, [], ◌∷◌, ◌++◌, length, sum}
+use Rattle.std.specs.Prelude.{◌≡◌, ℕ, ◌+◌, ◌-◌, ◌*◌, ◌%◌, ◌^◌, ◌<◌, ◌⊎◌, ◌==◌, ◌||◌, ◌&&◌, nat_lt, Bool, List, [], ◌∷◌, ◌++◌}
+use Rattle.std.specs.Prelude.{length, sum}
 use Rattle.std.specs.List.{concat}
 use Rattle.acpi_base.specs.Bytes.{le, put}
 use Rattle.acpi_core.specs.Listing.{Listing, IsListing, bytes_of, start_of}

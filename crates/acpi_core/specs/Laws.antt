@@ -3,7 +3,8 @@ use Rattle.std.specs.Prelude.{◌≡◌, ℕ, ◌<◌, ◌≤◌, List, ◌++◌
 use Rattle.acpi_base.specs.declared.error.Error.{Error}
 use Rattle.acpi_base.specs.Object.{Object}
 use Rattle.acpi_base.specs.Table.{IsTrueTable}
-use Rattle.acpi_base.specs.Walk.{Walk, Walks, ArePieces, HasSizes}
+use Rattle.acpi_base.specs.Walk.{Walks, ArePieces, HasSizes}
+use Rattle.acpi_base.specs.declared.walk.Walk.{Walk}
 use Rattle.acpi_core.specs.Listing.{Listing, IsListing, bytes_of, size_of, with_structure}
 use Rattle.acpi_core.specs.Addition.{Counted, Adds, AddsAt, refusal_of}
 use Rattle.acpi_core.specs.Offset.{structure_at, offset_of, IsLater, KeepsStructures, StandsAt}
@@ -15,18 +16,21 @@ ListingsAreTrue = (t : Listing) → IsListing t → IsTrueTable (bytes_of t) × 
 
 -- It stays one where an addition is accepted.
 abbrev pub ListingsGrow : Type 0
-ListingsGrow = (t : Listing) (structure : List ℕ) → IsListing t → refusal_of t None (length structure) ≡ None → IsListing (with_structure t structure)
+ListingsGrow = (t : Listing) (structure : List ℕ) → IsListing t → refusal_of t None (length structure) ≡ None
+    → IsListing (with_structure t structure)
 
 -- At a structure's offset its bytes stand.
 abbrev pub StructuresStandAtOffsets : Type 0
 StructuresStandAtOffsets =
-    (t : Listing) (i : ℕ) → IsListing t → i < length t.structures → (rest : List ℕ) × (drop (offset_of t i) (bytes_of t) ≡ structure_at t i ++ rest)
+    (t : Listing) (i : ℕ) → IsListing t → i < length t.structures
+    → (rest : List ℕ) × (drop (offset_of t i) (bytes_of t) ≡ structure_at t i ++ rest)
 
 -- A structure that is added stands where the table ended.
 abbrev pub StructuresAreAddedAtTheEnd : Type 0
 StructuresAreAddedAtTheEnd =
     (t : Listing) (structure : List ℕ)
-    → (offset_of (with_structure t structure) (length t.structures) ≡ size_of t) × (structure_at (with_structure t structure) (length t.structures) ≡ structure) × IsLater t (with_structure t structure)
+    → (offset_of (with_structure t structure) (length t.structures) ≡ size_of t)
+    × (structure_at (with_structure t structure) (length t.structures) ≡ structure) × IsLater t (with_structure t structure)
 
 -- Structures keep their offsets and bytes after any additions.
 abbrev pub StructuresStay : Type 0
@@ -41,20 +45,24 @@ StructuresAreTheWalk =
 -- Structures that have bytes have offsets of their own.
 abbrev pub OffsetsDiffer : Type 0
 OffsetsDiffer =
-    (t : Listing) (w : Walk) (i j : ℕ) → HasSizes w.sizes → ArePieces w.sizes t.structures → i < j → j < length t.structures → offset_of t i < offset_of t j
+    (t : Listing) (w : Walk) (i j : ℕ) → HasSizes w.sizes → ArePieces w.sizes t.structures → i < j → j < length t.structures
+    → offset_of t i < offset_of t j
 
 -- ---- handles
 
 -- An addition, accepted or refused, makes a later table, and what is later than a later table is later.
 pub record AdditionsAreLater : Type 0 where
   pub one : (result : Result Unit Error) (old new : Counted) (o : Object) → Adds result old o new → IsLater old.table new.table
-  pub answered : (result : Result ℕ Error) (old new : Counted) (o : Object) → AddsAt result old o new → IsLater old.table new.table
+  pub answered : (result : Result ℕ Error) (old new : Counted) (o : Object) → AddsAt result old o new
+      → IsLater old.table new.table
   pub more : (a b c : Listing) → IsLater a b → IsLater b c → IsLater a c
 
 -- A handle that an addition answers is where its structure stands, in this table and in every later one.
 pub record HandlesStand : Type 0 where
-  pub now : (result : Result ℕ Error) (old new : Counted) (o : Object) → AddsAt result old o new → IfOk result (λ at. StandsAt new.table at o.front)
-  pub later : (old new : Listing) (at : ℕ) (structure : List ℕ) → IsLater old new → StandsAt old at structure → StandsAt new at structure
+  pub now : (result : Result ℕ Error) (old new : Counted) (o : Object) → AddsAt result old o new
+      → IfOk result (λ at. StandsAt new.table at o.front)
+  pub later : (old new : Listing) (at : ℕ) (structure : List ℕ) → IsLater old new → StandsAt old at structure
+      → StandsAt new at structure
 
 -- A new handle differs from all before: it is past every structure that has bytes.
 abbrev pub HandlesDiffer : Type 0

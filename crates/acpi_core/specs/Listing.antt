@@ -17,6 +17,14 @@ pub record Listing : Type 0 where
   pub limit : ℕ
   pub structures : List (List ℕ)
 
+-- what a number in a field of so many bytes stays below
+abbrev pub field_limit : ℕ → ℕ
+field_limit width = 2 ^ (8 * width)
+
+-- what a table's length stays below: its field at 4 has four bytes
+abbrev pub length_limit : ℕ
+length_limit = field_limit 4
+
 -- the fixed fields behind the header, with the number of structures in its place
 abbrev pub fixed_fields : Listing → List ℕ
 fixed_fields t = t.before ++ (le t.count_width (length t.structures) ++ t.after)
@@ -57,6 +65,6 @@ pub record IsListing (t : Listing) : Type 0 where
   pub id : length t.oem.id ≡ 6
   pub table_id : length t.oem.table_id ≡ 8
   pub width : (t.count_width ≡ 0) ⊎ ((t.count_width ≡ 2) ⊎ (t.count_width ≡ 4))
-  pub limit : t.limit ≤ 2 ^ 32
-  pub counted : (t.count_width ≡ 0) ⊎ (length t.structures < 2 ^ (8 * t.count_width))
+  pub limit : t.limit ≤ length_limit
+  pub counted : (t.count_width ≡ 0) ⊎ (length t.structures < field_limit t.count_width)
   pub fits : size_of t < t.limit

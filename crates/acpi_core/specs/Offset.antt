@@ -21,7 +21,8 @@ pub record IsLater (old new : Listing) : Type 0 where
 
 -- each structure of the one stands in the other, at the same offset
 abbrev pub KeepsStructures : Listing → Listing → Type 0
-KeepsStructures old new = (i : ℕ) → i < length old.structures → (offset_of new i ≡ offset_of old i) × (structure_at new i ≡ structure_at old i)
+KeepsStructures old new = (i : ℕ) → i < length old.structures
+    → (offset_of new i ≡ offset_of old i) × (structure_at new i ≡ structure_at old i)
 
 -- a structure of these bytes stands at an offset
 pub record StandsAt (t : Listing) (at : ℕ) (structure : List ℕ) : Type 0 where

@@ -1,6 +1,8 @@
 //! Laws over the definitions that the contracts cite. Each function is a law: it does nothing, and ensures it.
 
-ghost use Rattle.acpi_core.specs.Laws.{ListingsAreTrue, ListingsGrow, StructuresStandAtOffsets, StructuresAreAddedAtTheEnd, StructuresStay, StructuresAreTheWalk, OffsetsDiffer, AdditionsAreLater, HandlesStand, HandlesDiffer};
+ghost use Rattle.acpi_core.specs.Laws.{ListingsAreTrue, ListingsGrow, StructuresStandAtOffsets, StructuresAreAddedAtTheEnd};
+ghost use Rattle.acpi_core.specs.Laws.{StructuresStay, StructuresAreTheWalk, OffsetsDiffer, AdditionsAreLater, HandlesStand};
+ghost use Rattle.acpi_core.specs.Laws.{HandlesDiffer};
 
 /// A table of any structures tells its length and sums to zero.
 pub fn listings_are_true()

@@ -1,8 +1,11 @@
 //! The table behind every list, node and matrix table: a header, fixed fields, and structures one after another.
 #![tactic(auto)]
 
+pub mod entries;
 pub mod form;
+pub mod kind;
 pub mod laws;
 pub mod listed;
 pub mod settle;
 pub mod table;
+pub mod walked;

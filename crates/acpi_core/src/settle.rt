@@ -78,7 +78,8 @@ pub(crate) fn settle(
     requires place { (36 ≤ count_at) × (count_at + count_width ≤ length fixed.old) }
     requires width { (count_width ≡ 0) ⊎ ((count_width ≡ 2) ⊎ (count_width ≡ 4)) }
     requires count { (count_width ≡ 0) ⊎ (count < 2 ^ (8 * count_width)) }
-    ensures settles { Settles fixed.old running.old.value count_at count_width size count structure.now fixed.new running.new.value }
+    ensures settles { Settles fixed.old running.old.value count_at count_width size count structure.now fixed.new
+        running.new.value }
     ensures cost { running.new.summed ≤ running.old.summed + length structure.now + 16 }
     ensures grows { running.old.summed ≤ running.new.summed }
 {

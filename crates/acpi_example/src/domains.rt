@@ -11,7 +11,7 @@ use acpi_tables::hmat::{
 use acpi_tables::slit::SLIT;
 use std::alloc::Global;
 
-/// The distances: to its own memory a domain has 10, and to the other's twice as much.
+/// The distances of two domains: 10 to a domain's own memory, and 20 to the other's.
 pub fn distances(alloc: Global) -> R<SLIT>
     ensures { IfOk result (λ slit. (distance slit.table 0 1 ≡ 20) × (distance slit.table 1 0 ≡ 20)) }
 {
@@ -20,7 +20,7 @@ pub fn distances(alloc: Global) -> R<SLIT>
     Ok(table)
 }
 
-// A matrix of the two domains: one entry for the memory of a processor's own domain, and one for the other's.
+// A matrix of the two domains: `near` is the entry for a processor's own domain, and `far` the one for the other domain.
 fn matrix(alloc: Global, data: DataType, unit: u64, near: u16, far: u16) -> R<SystemLocality> {
     let mut matrix = SystemLocality::new(
         alloc,
@@ -41,7 +41,7 @@ fn matrix(alloc: Global, data: DataType, unit: u64, near: u16, far: u16) -> R<Sy
     Ok(matrix)
 }
 
-/// How long an access takes, in nanoseconds, and how much is moved, in thousands of megabytes a second.
+/// The latencies of an access, 80 and 160 nanoseconds, and the bandwidths, 40,000 and 20,000 megabytes a second.
 pub fn attributes(alloc: Global) -> R<HMAT>
     ensures { IfOk result (λ hmat. length hmat.table.structures ≡ 4) }
 {

@@ -1,4 +1,4 @@
-//! The fixed hardware of ACPI, and where errors are told.
+//! The fixed hardware of ACPI, and the sources of errors.
 
 use crate::machine::{
     BOOT_ERRORS, CONTROL_PORTS, ERROR_STATUS, EVENT_PORTS, GENERAL_EVENT_BYTES,
@@ -15,12 +15,12 @@ use acpi_tables::hest::{
 };
 use std::alloc::Global;
 
-// Ports of so many bits.
+// The address of a register of `bits` bits, whose first I/O port is `first`.
 fn ports(first: u32, bits: u8, access: AccessSize) -> GAS {
     GAS::new(AddressSpace::SystemIo, bits, 0, access, u64::from(first))
 }
 
-/// The fields of the FADT (ACPI 6.5, 5.2.9), whose pointers are set when the tables are laid.
+/// The fields of the FADT (ACPI 6.5, 5.2.9). Its pointers are set when the tables are laid.
 pub fn fixed_hardware() -> FADTBuilder {
     let mut fields = FADTBuilder::new(OEM_ID, OEM_TABLE_ID, OEM_REVISION);
     fields.sci_int = u16::from(SCI);
@@ -47,7 +47,7 @@ pub fn fixed_hardware() -> FADTBuilder {
         .flag(Flags::TmrValExt)
 }
 
-/// Where errors are told: by the root ports of PCI Express, and by firmware in a page of memory, which is polled.
+/// The sources of errors: the root ports of PCI Express, and firmware, which writes to a page of memory that is polled.
 pub fn error_sources(alloc: Global, base: u64) -> R<HEST> {
     let mut table = HEST::new(alloc, OEM_ID, OEM_TABLE_ID, OEM_REVISION);
     table.add_structure(PcieAerRootPort::new_global())?;
@@ -71,7 +71,7 @@ pub fn error_sources(alloc: Global, base: u64) -> R<HEST> {
     Ok(table)
 }
 
-/// Where firmware tells of errors of the boot before: a page that holds none.
+/// The page to which firmware writes the errors of the boot before. It has none.
 pub fn boot_errors(base: u64) -> BERT {
     BERT::new(
         OEM_ID,

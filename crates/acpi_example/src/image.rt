@@ -14,7 +14,7 @@ use acpi_tables::layout::{Image, lay};
 use acpi_tables::{Aml, R};
 use std::alloc::Global;
 
-/// The machine's tables from a physical address on, a multiple of 64.
+/// The image of the machine's tables. It begins at a physical address that is a multiple of 64.
 pub fn image(alloc: Global, base: u64) -> R<Image>
     requires { base % 64 ≡ 0 }
 {
@@ -29,12 +29,12 @@ pub fn image(alloc: Global, base: u64) -> R<Image>
     let boot_errors = boot_errors(base);
     let tables: Vec<&dyn Aml> = vec![in alloc;
         &controllers as &dyn Aml,
-        &spaces,
-        &memory,
+        spaces.table(),
+        memory.table(),
         &distances,
-        &attributes,
-        &topology,
-        &sources,
+        attributes.table(),
+        topology.table(),
+        sources.table(),
         &boot_errors,
     ]?;
     lay(

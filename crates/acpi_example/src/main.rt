@@ -1,11 +1,13 @@
-//! What a virtual machine monitor does: builds the tables of a machine, lays them at their addresses and writes their bytes to
-//! files. `acpi_example FOLDER BASE` writes there the image of all tables for the physical address BASE, a multiple of 64 that
-//! is given in hexadecimal, prints it and the RSDP's, and writes some tables by themselves.
+//! What a virtual machine monitor does: it builds the tables of a machine, lays them at their addresses and writes them to
+//! files. `acpi_example FOLDER BASE` writes each table to a file of the folder, and the image of all tables to `image`. The
+//! image is for the physical address BASE, a multiple of 64 in hexadecimal. The program prints BASE and the RSDP's address.
+//! Status 0: every file was written. 1: a call was refused, and a line on standard error tells which. 2: the words are wrong.
 #![tactic(auto)]
 
-ghost use Rattle.std.specs.Prelude.{◌≡◌, ◌%◌, IfOk, IfSome};
+ghost use Rattle.std.specs.Prelude.{◌≡◌, ◌%◌, IfOk};
 
 mod domains;
+mod failure;
 mod hardware;
 mod image;
 mod machine;
@@ -17,6 +19,7 @@ mod table;
 mod topology;
 
 use crate::domains::{attributes, distances};
+use crate::failure::Failure;
 use crate::hardware::{boot_errors, error_sources, fixed_hardware};
 use crate::image::image;
 use crate::machine::PROCESSORS;
@@ -26,118 +29,139 @@ use crate::table::package_block;
 use crate::topology::topology;
 use acpi_tables::{Aml, R};
 use std::alloc::Global;
-use std::io::{Eprint, Print};
+use std::io::Print;
 use std::process::ExitCode;
 use std::rt::{Env, Files};
 use std::{env, fs, io};
 
-// The folder and the base, if the arguments are these.
-fn arguments(rt: &(impl Env + AllocGlobal)) -> io::Result<Option<(String, u64)>>
-    ensures { IfOk result (λ wanted. IfSome wanted (λ w. w.1 % 64 ≡ 0)) }
-{
-    let mut words = env::args(rt)?.skip(1);
-    let (Some(folder), Some(base), None) = (words.next(), words.next(), words.next()) else {
-        return Ok(None);
-    };
-    match u64::from_str_radix(base.trim_start_matches("0x"), 16) {
-        Ok(base) if base % 64 == 0 => Ok(Some((folder, base))),
-        _ => Ok(None),
+fn main(rt: HostRuntime) -> io::Result<ExitCode> {
+    match run(&rt) {
+        Ok(()) => Ok(ExitCode::SUCCESS),
+        Err(failure) => {
+            let status = failure.status();
+            eprintln!(rt; "{failure}")?;
+            Ok(ExitCode::from(status))
+        }
     }
 }
 
-fn main(rt: HostRuntime) -> io::Result<ExitCode> {
-    let Some((folder, base)) = arguments(&rt)? else {
-        eprintln!(rt; "usage: acpi_example FOLDER BASE")?;
-        return Ok(ExitCode::from(2));
-    };
+// Writes every file, and prints the addresses.
+fn run(rt: &(impl Env + Files + Print + AllocGlobal)) -> Result<(), Failure> {
     let alloc = rt.alloc();
+    let (folder, base) = arguments(rt)?;
+    let folder = existing(rt, folder)?;
     let folder = folder.as_str();
-    let saved = save_machine(&rt, alloc, folder)?
-        && save_memory(&rt, alloc, folder)?
-        && save_errors(&rt, alloc, folder, base)?
-        && save_image(&rt, alloc, folder, base)?;
-    Ok(if saved {
-        ExitCode::SUCCESS
-    } else {
-        ExitCode::FAILURE
-    })
+    save_machine(rt, alloc, folder)?;
+    save_memory(rt, alloc, folder)?;
+    save_errors(rt, alloc, folder, base)?;
+    save_image(rt, alloc, folder, base)
+}
+
+// The folder and the base.
+fn arguments(rt: &(impl Env + AllocGlobal)) -> Result<(String, u64), Failure>
+    ensures { IfOk result (λ wanted. wanted.1 % 64 ≡ 0) }
+{
+    let words = env::args(rt).map_err(|error| Failure::System {
+        what: "arguments",
+        error,
+    })?;
+    let mut words = words.skip(1);
+    let (Some(folder), Some(base), None) = (words.next(), words.next(), words.next()) else {
+        return Err(Failure::Usage);
+    };
+    match u64::from_str_radix(base.trim_start_matches("0x"), 16) {
+        Ok(base) if base % 64 == 0 => Ok((folder, base)),
+        _ => Err(Failure::Usage),
+    }
+}
+
+// The folder, if the system knows it.
+fn existing(rt: &impl Files, folder: String) -> Result<String, Failure> {
+    match fs::metadata(rt, folder.as_str()) {
+        Ok(_) => Ok(folder),
+        Err(error) => Err(Failure::Folder {
+            path: folder,
+            error,
+        }),
+    }
 }
 
 // Definition blocks, and the tables of processors and fixed hardware.
-fn save_machine(rt: &(impl Files + Eprint), alloc: Global, folder: &str) -> io::Result<bool> {
-    Ok(
-        save(rt, alloc, folder, "package", package_block(alloc))?
-            && save(rt, alloc, folder, "namespace", namespace_block(alloc))?
-            && save(rt, alloc, folder, "fadt", Ok(fixed_hardware().finalize()))?
-            && save(rt, alloc, folder, "madt", interrupt_controllers(alloc))?
-            && save(rt, alloc, folder, "pptt", topology(alloc, PROCESSORS))?,
-    )
+fn save_machine(rt: &impl Files, alloc: Global, folder: &str) -> Result<(), Failure> {
+    save(rt, alloc, folder, "package", package_block(alloc))?;
+    save(rt, alloc, folder, "namespace", namespace_block(alloc))?;
+    save(rt, alloc, folder, "fadt", Ok(fixed_hardware().finalize()))?;
+    save(rt, alloc, folder, "madt", interrupt_controllers(alloc))?;
+    save(rt, alloc, folder, "pptt", topology(alloc, PROCESSORS))
 }
 
 // The tables of memory and of PCI.
-fn save_memory(rt: &(impl Files + Eprint), alloc: Global, folder: &str) -> io::Result<bool> {
-    Ok(
-        save(rt, alloc, folder, "mcfg", configuration_space(alloc))?
-            && save(rt, alloc, folder, "srat", memory(alloc))?
-            && save(rt, alloc, folder, "slit", distances(alloc))?
-            && save(rt, alloc, folder, "hmat", attributes(alloc))?,
-    )
+fn save_memory(rt: &impl Files, alloc: Global, folder: &str) -> Result<(), Failure> {
+    save(rt, alloc, folder, "mcfg", configuration_space(alloc))?;
+    save(rt, alloc, folder, "srat", memory(alloc))?;
+    save(rt, alloc, folder, "slit", distances(alloc))?;
+    save(rt, alloc, folder, "hmat", attributes(alloc))
 }
 
 // The tables of errors.
-fn save_errors(
-    rt: &(impl Files + Eprint),
-    alloc: Global,
-    folder: &str,
-    base: u64,
-) -> io::Result<bool> {
-    Ok(
-        save(rt, alloc, folder, "hest", error_sources(alloc, base))?
-            && save(rt, alloc, folder, "bert", Ok(boot_errors(base)))?,
-    )
+fn save_errors(rt: &impl Files, alloc: Global, folder: &str, base: u64) -> Result<(), Failure> {
+    save(rt, alloc, folder, "hest", error_sources(alloc, base))?;
+    save(rt, alloc, folder, "bert", Ok(boot_errors(base)))
 }
 
-// Writes the image to a file of the folder, and prints where it is to stand and where its RSDP is, or says why there is none.
+// Writes a table's bytes to a file of the folder, which has the table's name.
+fn save<T: Aml + Drop>(
+    rt: &impl Files,
+    alloc: Global,
+    folder: &str,
+    name: &'static str,
+    made: R<T>,
+) -> Result<(), Failure> {
+    let bytes = bytes_of(alloc, made).map_err(|error| Failure::Table { name, error })?;
+    write_file(rt, alloc, folder, name, &bytes)
+}
+
+// Writes the image to a file of the folder, and prints the addresses of its first byte and of its RSDP.
 fn save_image(
-    rt: &(impl Files + Print + Eprint),
+    rt: &(impl Files + Print),
     alloc: Global,
     folder: &str,
     base: u64,
-) -> io::Result<bool>
+) -> Result<(), Failure>
     requires { base % 64 ≡ 0 }
 {
-    let path = format!(in alloc; "{folder}/image")?;
-    match image(alloc, base) {
-        Ok(image) => {
-            fs::write(rt, path.as_str(), &image.bytes)?;
-            println!(rt; "base {base:#x} RSDP {:#x}", image.rsdp)?;
-            Ok(true)
-        }
-        Err(error) => {
-            eprintln!(rt; "refused: {error:?}")?;
-            Ok(false)
-        }
+    let name = "image";
+    let image = image(alloc, base).map_err(|error| Failure::Table { name, error })?;
+    write_file(rt, alloc, folder, name, &image.bytes)?;
+    println!(rt; "base {base:#x} RSDP {:#x}", image.rsdp).map_err(|error| Failure::System {
+        what: "standard output",
+        error,
+    })
+}
+
+// The bytes that a table writes, if it was made.
+fn bytes_of<T: Aml + Drop>(alloc: Global, made: R<T>) -> R<Vec<u8>> {
+    let mut bytes = Vec::new(alloc);
+    made?.to_aml_bytes(&mut bytes)?;
+    Ok(bytes)
+}
+
+// Writes bytes to a file of the folder.
+fn write_file(
+    rt: &impl Files,
+    alloc: Global,
+    folder: &str,
+    name: &'static str,
+    bytes: &[u8],
+) -> Result<(), Failure> {
+    let path = path_of(alloc, folder, name).map_err(|error| Failure::Table { name, error })?;
+    match fs::write(rt, path.as_str(), bytes) {
+        Ok(()) => Ok(()),
+        Err(error) => Err(Failure::File { path, error }),
     }
 }
 
-// Writes a table's bytes to a file of the folder, or says why there is no table.
-fn save<H: Files + Eprint, T: Aml + Drop>(
-    rt: &H,
-    alloc: Global,
-    folder: &str,
-    name: &str,
-    made: R<T>,
-) -> io::Result<bool> {
-    let path = format!(in alloc; "{folder}/{name}")?;
-    let mut bytes = Vec::new(alloc);
-    match made.and_then(|table| table.to_aml_bytes(&mut bytes)) {
-        Ok(()) => {
-            fs::write(rt, path.as_str(), &bytes)?;
-            Ok(true)
-        }
-        Err(error) => {
-            eprintln!(rt; "refused: {error:?}")?;
-            Ok(false)
-        }
-    }
+// The path of a file of the folder.
+fn path_of(alloc: Global, folder: &str, name: &str) -> R<String> {
+    Ok(format!(in alloc; "{folder}/{name}")?)
 }

@@ -1,4 +1,4 @@
-//! The namespace: the root bridge of PCI, a serial port, the processors, and how to switch off.
+//! The namespace: the root bridge of PCI, a serial port, the processors, and the state that switches the machine off.
 
 use crate::machine::{
     DEVICE_MEMORY, DEVICE_MEMORY_END, LAST_BUS, PROCESSORS, SERIAL_INTERRUPT, SERIAL_PORTS,
@@ -12,7 +12,7 @@ use acpi_tables::sdt::{Sdt, append_object};
 use acpi_tables::{Aml, R};
 use std::alloc::Global;
 
-// What the bridge hands on: bus numbers, the ports but those of its own, and memory for devices.
+// The bridge passes on bus numbers, all ports but its own eight, and the memory for devices.
 fn bridge_resources(alloc: Global) -> R<ResourceTemplate> {
     let buses = AddressSpace::new_bus_number(0u16, u16::from(LAST_BUS));
     let own = IO::new(0xcf8, 0xcf8, 1, 8);
@@ -28,7 +28,7 @@ fn bridge_resources(alloc: Global) -> R<ResourceTemplate> {
     ResourceTemplate::new(vec![in alloc; &buses as &dyn Aml, &own, &low, &high, &memory]?)
 }
 
-// The root bridge of PCI Express, which software for PCI knows too (ACPI 6.5, 6.5.5 and 6.5.6).
+// The root bridge of PCI Express. Its compatible id is that of a bridge of PCI (ACPI 6.5, 6.5.5 and 6.5.6).
 fn root_bridge(alloc: Global) -> R<Device> {
     let id = Name::new(Path::new(alloc, "_HID")?, &EISAName::new("PNP0A08")?)?;
     let compatible = Name::new(Path::new(alloc, "_CID")?, &EISAName::new("PNP0A03")?)?;
@@ -48,7 +48,7 @@ fn serial_resources(alloc: Global) -> R<ResourceTemplate> {
     ResourceTemplate::new(vec![in alloc; &interrupt as &dyn Aml, &ports]?)
 }
 
-// Answers that the device is there and works.
+// A method that returns 15: the device is present, enabled, shown and works.
 fn status(alloc: Global) -> R<Method> {
     let present = Return::new(alloc, &15u8)?;
     let body: Vec<&dyn Aml> = vec![in alloc; &present as &dyn Aml]?;
@@ -65,7 +65,7 @@ fn serial_port(alloc: Global) -> R<Device> {
     )
 }
 
-// A processor, by the id that the table of interrupt controllers has too.
+// A processor. Its id is that of its local APIC in the MADT.
 fn processor(alloc: Global, number: u8) -> R<Device> {
     let text = format!(in alloc; "_SB_.C{number:03}")?;
     let kind = "ACPI0007";

@@ -1,4 +1,4 @@
-//! Who made the tables.
+//! The maker of the tables, as every header has it (ACPI 6.5, 5.2.6).
 
 pub const OEM_ID: [u8; 6] = *b"FOOBAR";
 

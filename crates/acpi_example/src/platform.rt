@@ -13,8 +13,8 @@ use acpi_tables::mcfg::MCFG;
 use acpi_tables::srat::{MemoryAffinity, SRAT};
 use std::alloc::Global;
 
-/// The interrupt controllers: one of each processor, and one for devices, at which the timer has another line than at the two
-/// of old, and ACPI's own interrupt stays high.
+/// The interrupt controllers: a local APIC for each processor, and an I/O APIC for devices. The timer's interrupt is 0, and it
+/// comes to line 2 of the I/O APIC. ACPI's own interrupt is active high.
 pub fn interrupt_controllers(alloc: Global) -> R<MADT> {
     let local = LocalInterruptController::Address(LOCAL_APIC);
     let mut table = MADT::new(alloc, OEM_ID, OEM_TABLE_ID, OEM_REVISION, local);
@@ -34,7 +34,7 @@ pub fn configuration_space(alloc: Global) -> R<MCFG> {
     Ok(table)
 }
 
-/// The memory of two domains, one behind the other.
+/// The memory of two domains. The second domain begins where the first ends.
 pub fn memory(alloc: Global) -> R<SRAT> {
     let mut table = SRAT::new(alloc, OEM_ID, OEM_TABLE_ID, OEM_REVISION);
     let (first, second) = (0, MEMORY_OF_A_DOMAIN);

@@ -6,8 +6,8 @@ ghost use Rattle.acpi_example.specs.SourceOverride.{source_override_bytes};
 
 use acpi_tables::{Aml, AmlSink, R};
 
-/// An Interrupt Source Override (ACPI 6.5, 5.2.12.5): 10 bytes. `acpi_tables` has no such structure; a table takes any that
-/// writes itself and tells its length at offset 1.
+/// An Interrupt Source Override (ACPI 6.5, 5.2.12.5): 10 bytes. `acpi_tables` has no such structure. A MADT takes every object
+/// whose second byte is its length.
 #[derive(Drop)]
 pub struct InterruptSourceOverride {
     source: u8,
@@ -16,7 +16,7 @@ pub struct InterruptSourceOverride {
 }
 
 impl InterruptSourceOverride {
-    /// The timer of a bus of old comes at another line of the controller.
+    /// The timer's interrupt on the ISA bus comes to this line of the I/O APIC.
     pub fn of_timer(source: u8, line: u8) -> InterruptSourceOverride
         ensures { result ≡ record { source = source; line = line; flags = 0 } }
     {
@@ -27,7 +27,7 @@ impl InterruptSourceOverride {
         }
     }
 
-    /// An interrupt that is there while its line is high (flags 1 and 12).
+    /// An interrupt that is active high (1) and triggered by level (12).
     pub fn active_high(line: u8) -> InterruptSourceOverride
         ensures { result ≡ record { source = line; line = line; flags = 13 } }
     {

@@ -1,9 +1,10 @@
-//! Tables of the caller's contents.
+//! Definition blocks.
 
 ghost use Rattle.std.specs.Prelude.{◌≡◌, [], ◌∷◌, IfOk};
 ghost use Rattle.acpi_base.specs.Sdt.{added};
 ghost use Rattle.acpi_example.specs.Block.{empty_bytes};
 
+use crate::oem::{OEM_ID, OEM_REVISION, OEM_TABLE_ID};
 use acpi_tables::aml::{ONE, Package, ZERO};
 use acpi_tables::sdt::{Sdt, append_object};
 use acpi_tables::{Aml, R};
@@ -13,15 +14,7 @@ use std::alloc::Global;
 pub fn empty_block(alloc: Global) -> R<Sdt>
     ensures { IfOk result (λ table. table.bytes ≡ empty_bytes) }
 {
-    Sdt::new(
-        alloc,
-        *b"DSDT",
-        36,
-        2,
-        *b"FOOBAR",
-        *b"CAFEDEAD",
-        0xdead_beef,
-    )
+    Sdt::new(alloc, *b"DSDT", 36, 2, OEM_ID, OEM_TABLE_ID, OEM_REVISION)
 }
 
 // A package of 0 and 1.

@@ -1,4 +1,4 @@
-//! How the processors and their caches are arranged.
+//! The processors and their caches.
 
 ghost use Rattle.std.specs.Prelude.{◌≡◌, ◌+◌, ◌*◌, length, IfOk, OnOk};
 
@@ -9,7 +9,7 @@ use acpi_tables::pptt::{
 };
 use std::alloc::Global;
 
-// A cache with lines of 64 bytes, of so many sets and ways.
+// A cache of these sets and ways, with lines of 64 bytes.
 fn cache(id: u32, kind: CacheType, sets: u16, ways: u8) -> CacheNodeBuilder {
     CacheNodeBuilder::default()
         .size(64 * u32::from(sets) * u32::from(ways))
@@ -22,8 +22,8 @@ fn cache(id: u32, kind: CacheType, sets: u16, ways: u8) -> CacheNodeBuilder {
         .id(id)
 }
 
-// A core with two caches of its own, for data and for instructions, and one behind both. The cache of the package isn't the
-// next level of a core's last one: it is found at the node above.
+// Adds a core. It has a cache for data, one for instructions, and one of the second level behind both. The package's cache is
+// found at the package's node, so it isn't the next level of the second one.
 fn add_core(alloc: Global, table: &mut PPTT, package: &ProcessorHandle, number: u8) -> R<()>
     ensures { OnOk result (length table.new.table.structures ≡ length table.old.table.structures + 4) }
 {
@@ -43,7 +43,7 @@ fn add_core(alloc: Global, table: &mut PPTT, package: &ProcessorHandle, number: 
     Ok(())
 }
 
-/// A package of so many cores, which share its cache.
+/// A package of cores, which share its cache.
 pub fn topology(alloc: Global, cores: u8) -> R<PPTT>
     ensures { IfOk result (λ pptt. length pptt.table.structures ≡ 2 + 4 * cores) }
 {

@@ -1,2 +1,3 @@
+pub mod Headed
 pub mod Registers
 pub mod Tables

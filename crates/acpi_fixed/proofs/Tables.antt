@@ -1,9 +1,9 @@
 -- Tables that are true, and pointers that sum to zero.
-use Rattle.std.proofs.Common.{◌≡◌, ℕ, ◌+◌, ◌%◌, ◌<◌, ◌^◌, List, [], ◌∷◌, ◌++◌, length, take, drop, refl, ◌∙◌, ap, arith, length-append}
+use Rattle.std.proofs.Common.{◌≡◌, ℕ, ◌+◌, ◌%◌, ◌<◌, ◌^◌, List, [], ◌∷◌, ◌++◌, length, take, drop, refl, ◌∙◌, ap, arith, append_assoc, length-append}
 use Rattle.std.specs.Prelude.{codes, sum, Option, Some, None}
 use Rattle.std.proofs.lemmas.List.Sums.{sum_by-append}
 use Rattle.acpi_base.specs.Bytes.{le, complement}
-use Rattle.acpi_base.specs.Layout.{record_of}
+use Rattle.acpi_base.specs.Fields.{NamedField, fields_joined}
 use Rattle.acpi_base.specs.Table.{table_of, IsTrueTable}
 use Rattle.acpi_base.specs.Walk.{named, walk_of, ArePiecesOf}
 use Rattle.acpi_base.specs.declared.oem.Oem.{Oem}
@@ -18,14 +18,14 @@ use Rattle.acpi_fixed.specs.Tpm2.{tpm2_fields, tpm2_with, tpm2_size}
 
 -- ---- behind the standard header
 
-pub true_from : (here oem : Oem) (s : List ℕ) (revision size : ℕ) (fields : List (List ℕ))
-    → length here.id ≡ 6 → length here.table_id ≡ 8 → length s ≡ 4 → walk_of (named s) ≡ None → 36 + length (record_of fields) ≡ size → size < 2 ^ 32 → oem ≡ here
-    → IsTrueTable (table_of s revision oem (record_of fields)) × (length (table_of s revision oem (record_of fields)) ≡ size) × ArePiecesOf (table_of s revision oem (record_of fields)) []
+pub true_from : (here oem : Oem) (s : List ℕ) (revision size : ℕ) (fields : List NamedField)
+    → length here.id ≡ 6 → length here.table_id ≡ 8 → length s ≡ 4 → walk_of (named s) ≡ None → 36 + length (fields_joined fields) ≡ size → size < 2 ^ 32 → oem ≡ here
+    → IsTrueTable (table_of s revision oem (fields_joined fields)) × (length (table_of s revision oem (fields_joined fields)) ≡ size) × ArePiecesOf (table_of s revision oem (fields_joined fields)) []
 true_from here oem s revision size fields six eight four none is small from =
     let id = ap (λ o. length o.id) from ∙ six in
     let table_id = ap (λ o. length o.table_id) from ∙ eight in
-    let whole = table_is_true s (record_of fields) revision oem four id table_id (omega (arith, is, small)) in
-    (whole.0, whole.1 ∙ is, table_without_pieces s revision oem (record_of fields) four none)
+    let whole = table_is_true s (fields_joined fields) revision oem four id table_id (omega (arith, is, small)) in
+    (whole.0, whole.1 ∙ is, table_without_pieces s revision oem (fields_joined fields) four none)
 
 pub true_tpm2 : (here : Oem) (t : Tpm2) (area : Option LogArea) → length here.id ≡ 6 → length here.table_id ≡ 8 → t.oem ≡ here
     → IsTrueTable (tpm2_with t area) × (length (tpm2_with t area) ≡ tpm2_size area) × ArePiecesOf (tpm2_with t area) []
@@ -35,9 +35,9 @@ true_tpm2 here t (Some area) six eight from = true_from here t.oem (codes "TPM2"
 -- ---- RSDP
 
 -- a byte that makes the sum of all bytes zero
-sum_zero : (x y : List ℕ) → sum (x ++ complement (sum (x ++ 0 ∷ y)) ∷ y) % 256 ≡ 0
+sum_zero : (x y : List ℕ) → sum (x ++ complement (sum (x ++ 0 ∷ y)) % 256 ∷ y) % 256 ≡ 0
 sum_zero x y =
-    let k = complement (sum (x ++ 0 ∷ y)) in
+    let k = complement (sum (x ++ 0 ∷ y)) % 256 in
     let before : sum (x ++ 0 ∷ y) ≡ sum x + sum (0 ∷ y) = sum_by-append (λ v. v) x (0 ∷ y) in
     let after : sum (x ++ k ∷ y) ≡ sum x + sum (k ∷ y) = sum_by-append (λ v. v) x (k ∷ y) in
     let first : sum (k ∷ y) ≡ 0 + k + sum y = sum_by-append (λ v. v) (k ∷ []) y in
@@ -71,8 +71,8 @@ pub fadt_is_zero : (f : FADTBuilder) → length (builder_bytes f) ≡ 276 → su
 fadt_is_zero f size = sum-with_checksum (builder_bytes f) (omega (arith, size))
 
 pub fadt_without_pieces : (f : FADTBuilder) → length f.signature ≡ 4 → walk_of (named f.signature) ≡ None → ArePiecesOf (fadt_bytes f) []
-fadt_without_pieces f four none = without_pieces f.signature _ (builder_bytes f) refl four none
+fadt_without_pieces f four none = without_pieces f.signature _ (builder_bytes f) (append_assoc f.signature _ _) four none
 
 pub true_fadt : (f : FADTBuilder) → length f.signature ≡ 4 → length (builder_bytes f) ≡ 276 → f.length ≡ 276 → IsTrueTable (fadt_bytes f)
 true_fadt f four size is =
-    (checked_is_true (builder_bytes f) 276 (omega (arith, size)) size (omega arith) (told_after f.signature _ four ∙ ap (le 4) is)).0
+    (checked_is_true (builder_bytes f) 276 (omega (arith, size)) size (omega arith) (ap (λ b. take 4 (drop 4 b)) (append_assoc f.signature _ _) ∙ told_after f.signature _ four ∙ ap (le 4) is)).0

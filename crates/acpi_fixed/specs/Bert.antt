@@ -1,18 +1,19 @@
 -- The Boot Error Record Table (ACPI 6.5, 18.3.1).
 use Rattle.std.specs.Prelude.{ℕ, List, [], ◌∷◌, codes}
-use Rattle.acpi_base.specs.Layout.{dword, qword, record_of}
+use Rattle.acpi_base.specs.Fields.{NamedField, dword, qword, fields_joined}
 use Rattle.acpi_base.specs.Table.{table_of}
 use Rattle.acpi_base.specs.declared.oem.Oem.{Oem}
 use Rattle.acpi_fixed.specs.declared.bert.BERT.{BERT}
 
-abbrev pub bert_fields : BERT → List (List ℕ)
+-- behind the header
+abbrev pub bert_fields : BERT → List NamedField
 bert_fields t =
-    (dword t.error_region_length  -- 36: Boot Error Region Length
-    ∷ qword t.error_region_base  -- 40: Boot Error Region
-    ∷ [])
+    dword "Boot Error Region Length" t.error_region_length  -- 36
+    ∷ qword "Boot Error Region" t.error_region_base  -- 40
+    ∷ []
 
 abbrev pub bert_bytes : BERT → List ℕ
-bert_bytes t = table_of (codes "BERT") 1 t.oem (record_of (bert_fields t))
+bert_bytes t = table_of (codes "BERT") 1 t.oem (fields_joined (bert_fields t))
 
 -- a region of so many bytes at an address
 abbrev pub bert_for : Oem → ℕ → ℕ → BERT

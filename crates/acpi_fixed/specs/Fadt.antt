@@ -1,7 +1,8 @@
 -- The Fixed ACPI Description Table (ACPI 6.5, 5.2.9).
 use Rattle.std.specs.Prelude.{ℕ, List, [], ◌∷◌, ◌++◌, codes, bit_or}
+use Rattle.acpi_base.specs.Fields.{NamedField, byte, word, dword, qword, bytes, reserved, fields_joined}
 use Rattle.acpi_base.specs.Gas.{gas_bytes, no_register}
-use Rattle.acpi_base.specs.Layout.{byte, word, dword, qword, record_of, zeros}
+use Rattle.acpi_base.specs.Layout.{zeros}
 use Rattle.acpi_base.specs.Table.{with_checksum}
 use Rattle.acpi_fixed.specs.declared.fadt.Flags.{Flags}
 use Rattle.acpi_fixed.specs.declared.fadt.Flags.TheVariants as flags
@@ -52,86 +53,90 @@ profile_number profiles.Tablet = 8
 -- ---- the layout
 
 -- the standard header (5.2.6), whose fields are the caller's here
-abbrev pub header_fields : FADTBuilder → List (List ℕ)
+abbrev pub header_fields : FADTBuilder → List NamedField
 header_fields f =
-    (f.signature  -- 0
-    ∷ dword f.length  -- 4: Length
-    ∷ byte f.major_version  -- 8: FADT Major Version
-    ∷ byte f.checksum  -- 9: Checksum
-    ∷ f.oem_id  -- 10: OEMID
-    ∷ f.oem_table_id  -- 16: OEM Table ID
-    ∷ dword f.oem_revision  -- 24: OEM Revision
-    ∷ f.creator_id  -- 28: Creator ID
-    ∷ f.creator_revision  -- 32: Creator Revision
-    ∷ [])
+    bytes "Signature" 4 f.signature  -- 0
+    ∷ dword "Length" f.length  -- 4
+    ∷ byte "Revision" f.major_version  -- 8
+    ∷ byte "Checksum" f.checksum  -- 9
+    ∷ bytes "OEM ID" 6 f.oem_id  -- 10
+    ∷ bytes "OEM Table ID" 8 f.oem_table_id  -- 16
+    ∷ dword "OEM Revision" f.oem_revision  -- 24
+    ∷ bytes "Creator ID" 4 f.creator_id  -- 28
+    ∷ bytes "Creator Revision" 4 f.creator_revision  -- 32
+    ∷ []
 
 -- what was there before addresses of 64 bits
-abbrev pub legacy_fields : FADTBuilder → List (List ℕ)
+abbrev pub legacy_fields : FADTBuilder → List NamedField
 legacy_fields f =
-    (dword f.firmware_ctrl  -- 36: FIRMWARE_CTRL
-    ∷ dword f.dsdt  -- 40: DSDT
-    ∷ zeros 1  -- 44
-    ∷ byte f.preferred_pm_profile  -- 45: Preferred_PM_Profile
-    ∷ word f.sci_int  -- 46: SCI_INT
-    ∷ dword f.smi_cmd  -- 48: SMI_CMD
-    ∷ byte f.acpi_enable  -- 52: ACPI_ENABLE
-    ∷ byte f.acpi_disable  -- 53: ACPI_DISABLE
-    ∷ byte f.s4bios_req  -- 54: S4BIOS_REQ
-    ∷ byte f.pstate_cnt  -- 55: PSTATE_CNT
-    ∷ dword f.pm1a_evt_blk  -- 56: PM1a_EVT_BLK
-    ∷ dword f.pm1b_evt_blk  -- 60: PM1b_EVT_BLK
-    ∷ dword f.pm1a_cnt_blk  -- 64: PM1a_CNT_BLK
-    ∷ dword f.pm1b_cnt_blk  -- 68: PM1b_CNT_BLK
-    ∷ dword f.pm2_cnt_blk  -- 72: PM2_CNT_BLK
-    ∷ dword f.pm_tmr_blk  -- 76: PM_TMR_BLK
-    ∷ dword f.gpe0_blk  -- 80: GPE0_BLK
-    ∷ dword f.gpe1_blk  -- 84: GPE1_BLK
-    ∷ byte f.pm1_evt_len  -- 88: PM1_EVT_LEN
-    ∷ byte f.pm1_cnt_len  -- 89: PM1_CNT_LEN
-    ∷ byte f.pm2_cnt_len  -- 90: PM2_CNT_LEN
-    ∷ byte f.pm_tmr_len  -- 91: PM_TMR_LEN
-    ∷ byte f.gpe0_blk_len  -- 92: GPE0_BLK_LEN
-    ∷ byte f.gpe1_blk_len  -- 93: GPE1_BLK_LEN
-    ∷ byte f.gpe1_base  -- 94: GPE1_BASE
-    ∷ byte f.cst_cnt  -- 95: CST_CNT
-    ∷ word f.p_lvl2_lat  -- 96: P_LVL2_LAT
-    ∷ word f.p_lvl3_lat  -- 98: P_LVL3_LAT
-    ∷ word f.flush_size  -- 100: FLUSH_SIZE
-    ∷ word f.flush_stride  -- 102: FLUSH_STRIDE
-    ∷ byte f.duty_offset  -- 104: DUTY_OFFSET
-    ∷ byte f.duty_width  -- 105: DUTY_WIDTH
-    ∷ byte f.day_alrm  -- 106: DAY_ALRM
-    ∷ byte f.mon_alrm  -- 107: MON_ALRM
-    ∷ byte f.century  -- 108: CENTURY
-    ∷ word f.iapc_boot_arch  -- 109: IAPC_BOOT_ARCH
-    ∷ zeros 1  -- 111
-    ∷ dword f.flags  -- 112: Flags
-    ∷ [])
+    dword "FIRMWARE_CTRL" f.firmware_ctrl  -- 36
+    ∷ dword "DSDT" f.dsdt  -- 40
+    ∷ reserved 1  -- 44
+    ∷ byte "Preferred_PM_Profile" f.preferred_pm_profile  -- 45
+    ∷ word "SCI_INT" f.sci_int  -- 46
+    ∷ dword "SMI_CMD" f.smi_cmd  -- 48
+    ∷ byte "ACPI_ENABLE" f.acpi_enable  -- 52
+    ∷ byte "ACPI_DISABLE" f.acpi_disable  -- 53
+    ∷ byte "S4BIOS_REQ" f.s4bios_req  -- 54
+    ∷ byte "PSTATE_CNT" f.pstate_cnt  -- 55
+    ∷ dword "PM1a_EVT_BLK" f.pm1a_evt_blk  -- 56
+    ∷ dword "PM1b_EVT_BLK" f.pm1b_evt_blk  -- 60
+    ∷ dword "PM1a_CNT_BLK" f.pm1a_cnt_blk  -- 64
+    ∷ dword "PM1b_CNT_BLK" f.pm1b_cnt_blk  -- 68
+    ∷ dword "PM2_CNT_BLK" f.pm2_cnt_blk  -- 72
+    ∷ dword "PM_TMR_BLK" f.pm_tmr_blk  -- 76
+    ∷ dword "GPE0_BLK" f.gpe0_blk  -- 80
+    ∷ dword "GPE1_BLK" f.gpe1_blk  -- 84
+    ∷ byte "PM1_EVT_LEN" f.pm1_evt_len  -- 88
+    ∷ byte "PM1_CNT_LEN" f.pm1_cnt_len  -- 89
+    ∷ byte "PM2_CNT_LEN" f.pm2_cnt_len  -- 90
+    ∷ byte "PM_TMR_LEN" f.pm_tmr_len  -- 91
+    ∷ byte "GPE0_BLK_LEN" f.gpe0_blk_len  -- 92
+    ∷ byte "GPE1_BLK_LEN" f.gpe1_blk_len  -- 93
+    ∷ byte "GPE1_BASE" f.gpe1_base  -- 94
+    ∷ byte "CST_CNT" f.cst_cnt  -- 95
+    ∷ word "P_LVL2_LAT" f.p_lvl2_lat  -- 96
+    ∷ word "P_LVL3_LAT" f.p_lvl3_lat  -- 98
+    ∷ word "FLUSH_SIZE" f.flush_size  -- 100
+    ∷ word "FLUSH_STRIDE" f.flush_stride  -- 102
+    ∷ byte "DUTY_OFFSET" f.duty_offset  -- 104
+    ∷ byte "DUTY_WIDTH" f.duty_width  -- 105
+    ∷ byte "DAY_ALRM" f.day_alrm  -- 106
+    ∷ byte "MON_ALRM" f.mon_alrm  -- 107
+    ∷ byte "CENTURY" f.century  -- 108
+    ∷ word "IAPC_BOOT_ARCH" f.iapc_boot_arch  -- 109
+    ∷ reserved 1  -- 111
+    ∷ dword "Flags" f.flags  -- 112
+    ∷ []
 
-abbrev pub extended_fields : FADTBuilder → List (List ℕ)
+abbrev pub extended_fields : FADTBuilder → List NamedField
 extended_fields f =
-    (gas_bytes f.reset_reg  -- 116: RESET_REG
-    ∷ byte f.reset_value  -- 128: RESET_VALUE
-    ∷ word f.arm_boot_arch  -- 129: ARM_BOOT_ARCH
-    ∷ byte f.fadt_minor_version  -- 131: FADT Minor Version
-    ∷ qword f.x_firmware_ctrl  -- 132: X_FIRMWARE_CTRL
-    ∷ qword f.x_dsdt  -- 140: X_DSDT
-    ∷ gas_bytes f.x_pm1a_evt_blk  -- 148: X_PM1a_EVT_BLK
-    ∷ gas_bytes f.x_pm1b_evt_blk  -- 160: X_PM1b_EVT_BLK
-    ∷ gas_bytes f.x_pm1a_cnt_blk  -- 172: X_PM1a_CNT_BLK
-    ∷ gas_bytes f.x_pm1b_cnt_blk  -- 184: X_PM1b_CNT_BLK
-    ∷ gas_bytes f.x_pm2_cnt_blk  -- 196: X_PM2_CNT_BLK
-    ∷ gas_bytes f.x_pm_tmr_blk  -- 208: X_PM_TMR_BLK
-    ∷ gas_bytes f.x_gpe0_blk  -- 220: X_GPE0_BLK
-    ∷ gas_bytes f.x_gpe1_blk  -- 232: X_GPE1_BLK
-    ∷ gas_bytes f.sleep_control_reg  -- 244: SLEEP_CONTROL_REG
-    ∷ gas_bytes f.sleep_status_reg  -- 256: SLEEP_STATUS_REG
-    ∷ qword f.hypervisor_vendor_identity  -- 268: Hypervisor Vendor Identity
-    ∷ [])
+    bytes "RESET_REG" 12 (gas_bytes f.reset_reg)  -- 116
+    ∷ byte "RESET_VALUE" f.reset_value  -- 128
+    ∷ word "ARM_BOOT_ARCH" f.arm_boot_arch  -- 129
+    ∷ byte "FADT Minor Version" f.fadt_minor_version  -- 131
+    ∷ qword "X_FIRMWARE_CTRL" f.x_firmware_ctrl  -- 132
+    ∷ qword "X_DSDT" f.x_dsdt  -- 140
+    ∷ bytes "X_PM1a_EVT_BLK" 12 (gas_bytes f.x_pm1a_evt_blk)  -- 148
+    ∷ bytes "X_PM1b_EVT_BLK" 12 (gas_bytes f.x_pm1b_evt_blk)  -- 160
+    ∷ bytes "X_PM1a_CNT_BLK" 12 (gas_bytes f.x_pm1a_cnt_blk)  -- 172
+    ∷ bytes "X_PM1b_CNT_BLK" 12 (gas_bytes f.x_pm1b_cnt_blk)  -- 184
+    ∷ bytes "X_PM2_CNT_BLK" 12 (gas_bytes f.x_pm2_cnt_blk)  -- 196
+    ∷ bytes "X_PM_TMR_BLK" 12 (gas_bytes f.x_pm_tmr_blk)  -- 208
+    ∷ bytes "X_GPE0_BLK" 12 (gas_bytes f.x_gpe0_blk)  -- 220
+    ∷ bytes "X_GPE1_BLK" 12 (gas_bytes f.x_gpe1_blk)  -- 232
+    ∷ bytes "SLEEP_CONTROL_REG" 12 (gas_bytes f.sleep_control_reg)  -- 244
+    ∷ bytes "SLEEP_STATUS_REG" 12 (gas_bytes f.sleep_status_reg)  -- 256
+    ∷ qword "Hypervisor Vendor Identity" f.hypervisor_vendor_identity  -- 268
+    ∷ []
+
+-- behind the header
+abbrev pub fadt_fields : FADTBuilder → List NamedField
+fadt_fields f = legacy_fields f ++ extended_fields f
 
 -- the fields as they stand
 abbrev pub builder_bytes : FADTBuilder → List ℕ
-builder_bytes f = record_of (header_fields f ++ (legacy_fields f ++ extended_fields f))
+builder_bytes f = fields_joined (header_fields f) ++ fields_joined (fadt_fields f)
 
 -- the checksum is made anew
 abbrev pub fadt_bytes : FADTBuilder → List ℕ

@@ -25,16 +25,26 @@ PointersSumToZero =
 -- ---- what is from this maker is a true table of its size, without structures, whatever else it holds
 
 abbrev pub BertsAreTrue : Oem → Type 0
-BertsAreTrue oem = (t : BERT) → t.oem ≡ oem → IsTrueTable (bert_bytes t) × (length (bert_bytes t) ≡ 48) × ArePiecesOf (bert_bytes t) []
+BertsAreTrue oem =
+    (t : BERT) → t.oem ≡ oem
+    → IsTrueTable (bert_bytes t) × (length (bert_bytes t) ≡ 48) × ArePiecesOf (bert_bytes t) []
 
 abbrev pub SpcrsAreTrue : Oem → Type 0
-SpcrsAreTrue oem = (t : SPCR) → t.oem ≡ oem → IsTrueTable (spcr_bytes t) × (length (spcr_bytes t) ≡ 90) × ArePiecesOf (spcr_bytes t) []
+SpcrsAreTrue oem =
+    (t : SPCR) → t.oem ≡ oem
+    → IsTrueTable (spcr_bytes t) × (length (spcr_bytes t) ≡ 90) × ArePiecesOf (spcr_bytes t) []
 
 abbrev pub ClientsAreTrue : Oem → Type 0
-ClientsAreTrue oem = (t : TpmClient1_2) → t.oem ≡ oem → IsTrueTable (client_bytes t) × (length (client_bytes t) ≡ 50) × ArePiecesOf (client_bytes t) []
+ClientsAreTrue oem =
+    (t : TpmClient1_2) → t.oem ≡ oem
+    → IsTrueTable (client_bytes t) × (length (client_bytes t) ≡ 50) × ArePiecesOf (client_bytes t) []
 
 abbrev pub ServersAreTrue : Oem → Type 0
-ServersAreTrue oem = (t : TpmServer1_2) → t.oem ≡ oem → IsTrueTable (server_bytes t) × (length (server_bytes t) ≡ 100) × ArePiecesOf (server_bytes t) []
+ServersAreTrue oem =
+    (t : TpmServer1_2) → t.oem ≡ oem
+    → IsTrueTable (server_bytes t) × (length (server_bytes t) ≡ 100) × ArePiecesOf (server_bytes t) []
 
 abbrev pub Tpm2sAreTrue : Oem → Type 0
-Tpm2sAreTrue oem = (t : Tpm2) → t.oem ≡ oem → IsTrueTable (tpm2_bytes t) × (length (tpm2_bytes t) ≡ tpm2_size t.log_area) × ArePiecesOf (tpm2_bytes t) []
+Tpm2sAreTrue oem =
+    (t : Tpm2) → t.oem ≡ oem
+    → IsTrueTable (tpm2_bytes t) × (length (tpm2_bytes t) ≡ tpm2_size t.log_area) × ArePiecesOf (tpm2_bytes t) []

@@ -1,21 +1,24 @@
 -- The Root System Description Pointer (ACPI 6.5, 5.2.5.3).
 use Rattle.std.specs.Prelude.{ℕ, List, [], ◌∷◌, codes, take, sum}
 use Rattle.acpi_base.specs.Bytes.{complement}
-use Rattle.acpi_base.specs.Layout.{byte, dword, qword, zeros, record_of}
+use Rattle.acpi_base.specs.Fields.{NamedField, byte, dword, qword, bytes, reserved, fields_joined}
 use Rattle.acpi_fixed.specs.declared.rsdp.Rsdp.{Rsdp}
 
+abbrev pub rsdp_fields : Rsdp → List NamedField
+rsdp_fields r =
+    bytes "Signature" 8 r.signature  -- 0
+    ∷ byte "Checksum" r.checksum  -- 8
+    ∷ bytes "OEMID" 6 r.oem_id  -- 9
+    ∷ byte "Revision" r.revision  -- 15
+    ∷ dword "RsdtAddress" 0  -- 16
+    ∷ dword "Length" r.length  -- 20
+    ∷ qword "XsdtAddress" r.xsdt_addr  -- 24
+    ∷ byte "Extended Checksum" r.extended_checksum  -- 32
+    ∷ reserved 3  -- 33
+    ∷ []
+
 abbrev pub rsdp_bytes : Rsdp → List ℕ
-rsdp_bytes r = record_of
-    (r.signature  -- 0
-    ∷ byte r.checksum  -- 8: Checksum
-    ∷ r.oem_id  -- 9: OEMID
-    ∷ byte r.revision  -- 15: Revision
-    ∷ dword 0  -- 16: RsdtAddress
-    ∷ dword r.length  -- 20: Length
-    ∷ qword r.xsdt_addr  -- 24: XsdtAddress
-    ∷ byte r.extended_checksum  -- 32: Extended Checksum
-    ∷ zeros 3  -- 33
-    ∷ [])
+rsdp_bytes r = fields_joined (rsdp_fields r)
 
 -- the pointer before its checksums are made
 abbrev pub unsummed : List ℕ → ℕ → Rsdp

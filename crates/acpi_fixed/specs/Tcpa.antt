@@ -1,7 +1,7 @@
 -- TCPA of clients and servers (TCG ACPI Specification, TPM 1.2).
 use Rattle.std.specs.Prelude.{ℕ, List, [], ◌∷◌, codes, bit_or}
+use Rattle.acpi_base.specs.Fields.{NamedField, byte, word, dword, qword, bytes, reserved, fields_joined}
 use Rattle.acpi_base.specs.Gas.{gas_bytes, no_register}
-use Rattle.acpi_base.specs.Layout.{byte, word, dword, qword, zeros, record_of}
 use Rattle.acpi_base.specs.Table.{table_of}
 use Rattle.acpi_base.specs.declared.gas.GAS.{GAS}
 use Rattle.acpi_base.specs.declared.oem.Oem.{Oem}
@@ -12,15 +12,16 @@ use Rattle.acpi_fixed.specs.declared.tpm2.TpmServer1_2.{TpmServer1_2}
 
 -- ---- of a client
 
-abbrev pub client_fields : TpmClient1_2 → List (List ℕ)
+-- behind the header
+abbrev pub client_fields : TpmClient1_2 → List NamedField
 client_fields t =
-    (word (class_number Client)  -- 36: Platform Class
-    ∷ dword t.log_area_min_len  -- 38: Log Area Minimum Length
-    ∷ qword t.log_area_start_addr  -- 42: Log Area Start Address
-    ∷ [])
+    word "Platform Class" (class_number Client)  -- 36
+    ∷ dword "Log Area Minimum Length" t.log_area_min_len  -- 38
+    ∷ qword "Log Area Start Address" t.log_area_start_addr  -- 42
+    ∷ []
 
 abbrev pub client_bytes : TpmClient1_2 → List ℕ
-client_bytes t = table_of (codes "TCPA") 2 t.oem (record_of (client_fields t))
+client_bytes t = table_of (codes "TCPA") 2 t.oem (fields_joined (client_fields t))
 
 -- a log area of at least so many bytes at an address
 abbrev pub client_for : Oem → ℕ → ℕ → TpmClient1_2
@@ -32,29 +33,30 @@ client_for oem min_len start_addr = record {
 
 -- ---- of a server
 
-abbrev pub server_fields : TpmServer1_2 → List (List ℕ)
+-- behind the header
+abbrev pub server_fields : TpmServer1_2 → List NamedField
 server_fields t =
-    (word (class_number Server)  -- 36: Platform Class
-    ∷ zeros 2  -- 38
-    ∷ qword t.log_area_min_len  -- 40: Log Area Minimum Length
-    ∷ qword t.log_area_start_addr  -- 48: Log Area Start Address
-    ∷ (1 ∷ 2 ∷ [])  -- 56: Specification Revision: 1.2
-    ∷ byte t.device_flags  -- 58: Device Flags
-    ∷ byte t.interrupt_flags  -- 59: Interrupt Flags
-    ∷ byte t.gpe  -- 60: GPE
-    ∷ zeros 3  -- 61
-    ∷ dword t.gsi  -- 64: Global System Interrupt
-    ∷ gas_bytes t.base_addr  -- 68: Base Address
-    ∷ zeros 4  -- 80
-    ∷ gas_bytes t.config_addr  -- 84: Configuration Address
-    ∷ byte t.pci_segment  -- 96: PCI Segment Group Number
-    ∷ byte t.pci_bus  -- 97: PCI Bus Number
-    ∷ byte t.pci_device  -- 98: PCI Device Number
-    ∷ byte t.pci_function  -- 99: PCI Function Number
-    ∷ [])
+    word "Platform Class" (class_number Server)  -- 36
+    ∷ reserved 2  -- 38
+    ∷ qword "Log Area Minimum Length" t.log_area_min_len  -- 40
+    ∷ qword "Log Area Start Address" t.log_area_start_addr  -- 48
+    ∷ bytes "Specification Revision" 2 (1 ∷ 2 ∷ [])  -- 56: 1.2
+    ∷ byte "Device Flags" t.device_flags  -- 58
+    ∷ byte "Interrupt Flags" t.interrupt_flags  -- 59
+    ∷ byte "GPE" t.gpe  -- 60
+    ∷ reserved 3  -- 61
+    ∷ dword "Global System Interrupt" t.gsi  -- 64
+    ∷ bytes "Base Address" 12 (gas_bytes t.base_addr)  -- 68
+    ∷ reserved 4  -- 80
+    ∷ bytes "Configuration Address" 12 (gas_bytes t.config_addr)  -- 84
+    ∷ byte "PCI Segment Group Number" t.pci_segment  -- 96
+    ∷ byte "PCI Bus Number" t.pci_bus  -- 97
+    ∷ byte "PCI Device Number" t.pci_device  -- 98
+    ∷ byte "PCI Function Number" t.pci_function  -- 99
+    ∷ []
 
 abbrev pub server_bytes : TpmServer1_2 → List ℕ
-server_bytes t = table_of (codes "TCPA") 2 t.oem (record_of (server_fields t))
+server_bytes t = table_of (codes "TCPA") 2 t.oem (fields_joined (server_fields t))
 
 abbrev pub server_at_first : Oem → TpmServer1_2
 server_at_first oem = record {

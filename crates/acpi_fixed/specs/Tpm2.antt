@@ -1,6 +1,7 @@
 -- TPM2 (TCG ACPI Specification, TPM 2.0).
 use Rattle.std.specs.Prelude.{◌≡◌, ℕ, List, [], ◌∷◌, codes, Option, Some, None, IsSome, Result, Ok, Err}
-use Rattle.acpi_base.specs.Layout.{word, dword, qword, zeros, record_of}
+use Rattle.acpi_base.specs.Fields.{NamedField, word, dword, qword, bytes, reserved, fields_joined}
+use Rattle.acpi_base.specs.Layout.{zeros}
 use Rattle.acpi_base.specs.Table.{table_of}
 use Rattle.acpi_base.specs.declared.error.Error.{Error}
 use Rattle.acpi_base.specs.declared.error.Error.TheVariants.{LogAreaSet}
@@ -23,24 +24,25 @@ method_number methods.CrbAndSmcHvc = 0x0b
 method_number methods.I2cFifo = 0x0c
 
 -- a log area lies behind the parameters of the start method
-abbrev pub area_fields : Option LogArea → List (List ℕ)
+abbrev pub area_fields : Option LogArea → List NamedField
 area_fields None = []
 area_fields (Some area) =
-    zeros 12  -- 52: Start Method Specific Parameters
-    ∷ dword area.min_len  -- 64: Log Area Minimum Length
-    ∷ qword area.base_addr  -- 68: Log Area Start Address
+    bytes "Start Method Specific Parameters" 12 (zeros 12)  -- 52
+    ∷ dword "Log Area Minimum Length" area.min_len  -- 64
+    ∷ qword "Log Area Start Address" area.base_addr  -- 68
     ∷ []
 
-abbrev pub tpm2_fields : Tpm2 → Option LogArea → List (List ℕ)
+-- behind the header
+abbrev pub tpm2_fields : Tpm2 → Option LogArea → List NamedField
 tpm2_fields t area =
-    (word (class_number t.platform_class)  -- 36: Platform Class
-    ∷ zeros 2  -- 38
-    ∷ qword t.crb_or_fifo_base  -- 40: Address of the CRB Control Area or of the FIFO
-    ∷ dword (method_number t.start_method)  -- 48: Start Method
-    ∷ area_fields area)
+    word "Platform Class" (class_number t.platform_class)  -- 36
+    ∷ reserved 2  -- 38
+    ∷ qword "Address of CRB Control Area" t.crb_or_fifo_base  -- 40: or of the FIFO
+    ∷ dword "Start Method" (method_number t.start_method)  -- 48
+    ∷ area_fields area
 
 abbrev pub tpm2_with : Tpm2 → Option LogArea → List ℕ
-tpm2_with t area = table_of (codes "TPM2") 1 t.oem (record_of (tpm2_fields t area))
+tpm2_with t area = table_of (codes "TPM2") 1 t.oem (fields_joined (tpm2_fields t area))
 
 abbrev pub tpm2_bytes : Tpm2 → List ℕ
 tpm2_bytes t = tpm2_with t t.log_area

@@ -2,13 +2,14 @@
 
 ghost use Rattle.std.specs.Prelude.{◌≡◌};
 ghost use Rattle.acpi_base.specs.Object.{whole, whole_ends_well};
+ghost use Rattle.acpi_fixed.specs.Bert.{bert_for, bert_fields, bert_bytes};
+ghost use Rattle.acpi_fixed.specs.Oem.{oem_of};
 
-use crate::sealed::sealed_record;
+use crate::sealed::write_table;
 use acpi_base::error::R;
-use acpi_base::header::header;
 use acpi_base::object::Aml;
 use acpi_base::oem::Oem;
-use acpi_base::record::Field;
+use acpi_base::row::{Record, Row, record_of_numbers};
 use acpi_base::sink::AmlSink;
 
 /// The Boot Error Record Table (ACPI 6.5, 18.3.1): 48 bytes. It points at the memory in which firmware keeps the errors
@@ -21,9 +22,6 @@ pub struct BERT {
 }
 
 impl BERT {
-    ghost use Rattle.acpi_fixed.specs.Bert.{bert_bytes, bert_for};
-    ghost use Rattle.acpi_fixed.specs.Oem.{oem_of};
-
     /// A region of so many bytes at a physical address.
     pub fn new(
         oem_id: [u8; 6],
@@ -35,36 +33,40 @@ impl BERT {
         ensures { result ≡ bert_for (oem_of oem_id oem_table_id oem_revision) error_region_length error_region_base }
     {
         BERT {
-            oem: Oem {
-                id: oem_id,
-                table_id: oem_table_id,
-                revision: oem_revision,
-            },
+            oem: Oem::new(oem_id, oem_table_id, oem_revision),
             error_region_length,
             error_region_base,
         }
     }
+}
 
-    // The table's bytes.
-    fn bytes(&self) -> [u8; 48]
-        ensures { result ≡ bert_bytes self.now }
-    {
-        sealed_record(&[
-            Field::Bytes(&header(*b"BERT", 48, 1, self.oem)),
-            Field::DWord(self.error_region_length),
-            Field::QWord(self.error_region_base),
-        ])
+const BERT_ROWS: [Row; 2] = [
+    Row::Number("Boot Error Region Length", 4),
+    Row::Number("Boot Error Region", 8),
+];
+
+/// The fields behind the header.
+impl Record<12> for BERT {
+    ghost fields = { bert_fields };
+
+    fn rows() -> &'static [Row] {
+        &BERT_ROWS
+    }
+
+    fn bytes(&self) -> [u8; 12] {
+        record_of_numbers(
+            &BERT_ROWS,
+            &[u64::from(self.error_region_length), self.error_region_base],
+        )
     }
 }
 
 impl Aml for BERT {
-    ghost use Rattle.acpi_fixed.specs.Bert.{bert_bytes};
-
     ghost object = { λ t. whole (bert_bytes t) };
 
     ghost ends_well = { λ t. whole_ends_well (bert_bytes t) };
 
     fn to_aml_bytes(&self, sink: &mut dyn AmlSink) -> R<()> {
-        sink.vec(&self.bytes())
+        write_table::<12, 48, BERT>(*b"BERT", 1, self.oem, self, sink)
     }
 }

@@ -2,10 +2,11 @@
 
 ghost use Rattle.std.specs.Prelude.{◌≡◌};
 ghost use Rattle.acpi_base.specs.Object.{whole, whole_ends_well};
+ghost use Rattle.acpi_fixed.specs.Facs.{facs_at_first, facs_fields, facs_bytes};
 
 use acpi_base::error::R;
 use acpi_base::object::Aml;
-use acpi_base::record::{Field, record};
+use acpi_base::row::{Record, Row, Value, record_of, write_record};
 use acpi_base::sink::AmlSink;
 
 /// The Firmware ACPI Control Structure (ACPI 6.5, 5.2.10): 64 bytes, without a checksum. It is written as its fields
@@ -29,8 +30,6 @@ pub struct FACS {
 }
 
 impl FACS {
-    ghost use Rattle.acpi_fixed.specs.Facs.{facs_bytes, facs_at_first};
-
     /// A structure with its signature, its length of 64 bytes and version 1. Everything else is zero.
     pub fn new() -> FACS
         ensures { result ≡ facs_at_first }
@@ -54,35 +53,55 @@ impl FACS {
     {
         64
     }
+}
 
-    // The structure's bytes.
-    fn bytes(&self) -> [u8; 64]
-        ensures { result ≡ facs_bytes self.now }
-    {
-        record(&[
-            Field::Bytes(&self.signature),
-            Field::DWord(self.length),
-            Field::DWord(self.hardware_signature),
-            Field::DWord(self.waking),
-            Field::DWord(self.lock),
-            Field::DWord(self.flags),
-            Field::QWord(self.x_waking),
-            Field::Byte(self.version),
-            Field::Bytes(&[0; 3]),
-            Field::DWord(self.ospm_flags),
-            Field::Bytes(&[0; 24]),
-        ])
+const FACS_ROWS: [Row; 11] = [
+    Row::Bytes("Signature", 4),
+    Row::Number("Length", 4),
+    Row::Number("Hardware Signature", 4),
+    Row::Number("Firmware Waking Vector", 4),
+    Row::Number("Global Lock", 4),
+    Row::Number("Flags", 4),
+    Row::Number("X Firmware Waking Vector", 8),
+    Row::Number("Version", 1),
+    Row::Reserved(3),
+    Row::Number("OSPM Flags", 4),
+    Row::Reserved(24),
+];
+
+impl Record<64> for FACS {
+    ghost fields = { facs_fields };
+
+    fn rows() -> &'static [Row] {
+        &FACS_ROWS
+    }
+
+    fn bytes(&self) -> [u8; 64] {
+        record_of(
+            &FACS_ROWS,
+            &[
+                Value::Bytes(&self.signature),
+                Value::Number(u64::from(self.length)),
+                Value::Number(u64::from(self.hardware_signature)),
+                Value::Number(u64::from(self.waking)),
+                Value::Number(u64::from(self.lock)),
+                Value::Number(u64::from(self.flags)),
+                Value::Number(self.x_waking),
+                Value::Number(u64::from(self.version)),
+                Value::Number(0),
+                Value::Number(u64::from(self.ospm_flags)),
+                Value::Bytes(&[0; 24]),
+            ],
+        )
     }
 }
 
 impl Aml for FACS {
-    ghost use Rattle.acpi_fixed.specs.Facs.{facs_bytes};
-
     ghost object = { λ f. whole (facs_bytes f) };
 
     ghost ends_well = { λ f. whole_ends_well (facs_bytes f) };
 
     fn to_aml_bytes(&self, sink: &mut dyn AmlSink) -> R<()> {
-        sink.vec(&self.bytes())
+        write_record(self, sink)
     }
 }

@@ -1,14 +1,19 @@
 //! FADT: what the hardware of ACPI is like, and where the FACS and the DSDT are.
 
 ghost use Rattle.std.specs.Prelude.{◌≡◌};
+ghost use Rattle.acpi_base.specs.Fields.{fields_joined, AreRowsOf};
 ghost use Rattle.acpi_base.specs.Object.{whole, whole_ends_well};
+ghost use Rattle.acpi_fixed.specs.Fadt.{header_fields};
+ghost use Rattle.acpi_fixed.specs.declared.fadt.FADTBuilder.{FADTBuilder};
+ghost use Rattle.acpi_fixed.specs.Fadt.{fadt_bytes, fadt_at_first, with_dsdt, with_facs, with_commands, with_flag};
+ghost use Rattle.acpi_fixed.specs.Fadt.{with_profile, with_gpe_info, fadt_fields};
 
-use crate::sealed::sealed_record;
+use crate::sealed::sealed_table;
 use acpi_base::error::R;
 use acpi_base::gas::GAS;
-use acpi_base::header::{CREATOR_ID, CREATOR_REVISION};
+use acpi_base::header::{CREATOR_ID, CREATOR_REVISION, HEADER};
 use acpi_base::object::Aml;
-use acpi_base::record::Field;
+use acpi_base::row::{Record, Row, Value, record_of};
 use acpi_base::sink::AmlSink;
 use std::marker::Model;
 
@@ -43,16 +48,6 @@ pub enum Flags {
     PersistentCpuCachesArePersistent = 0x0080_0000,
 }
 
-impl Flags {
-    ghost use Rattle.acpi_fixed.specs.Fadt.{flag_number};
-
-    fn number(self) -> u32
-        ensures { result ≡ flag_number self }
-    {
-        self as u32
-    }
-}
-
 /// The preferred power management profile (ACPI 6.5, 5.2.9, offset 45).
 #[derive(Clone, Copy, Debug, PartialEq)]
 pub enum PmProfile {
@@ -65,16 +60,6 @@ pub enum PmProfile {
     AppliancePc = 6,
     PerformanceServer = 7,
     Tablet = 8,
-}
-
-impl PmProfile {
-    ghost use Rattle.acpi_fixed.specs.Fadt.{profile_number};
-
-    fn number(self) -> u8
-        ensures { result ≡ profile_number self }
-    {
-        self as u8
-    }
 }
 
 /// The fields of the Fixed ACPI Description Table (ACPI 6.5, 5.2.9), from which `finalize` makes it. What is reserved is
@@ -182,20 +167,16 @@ impl FADT {
 }
 
 impl Aml for FADT {
-    ghost use Rattle.acpi_fixed.specs.Fadt.{fadt_bytes};
-
     ghost object = { λ f. whole (fadt_bytes f) };
 
     ghost ends_well = { λ f. whole_ends_well (fadt_bytes f) };
 
     fn to_aml_bytes(&self, sink: &mut dyn AmlSink) -> R<()> {
-        sink.vec(&self.table.bytes())
+        sink.vec(&self.table.sealed())
     }
 }
 
 impl FADTBuilder {
-    ghost use Rattle.acpi_fixed.specs.Fadt.{fadt_at_first, fadt_bytes, with_dsdt, with_facs, with_commands, with_flag, with_profile, with_gpe_info};
-
     /// A table of revision 6.5 and 276 bytes. Everything behind the header is zero but the minor version, 5 (offset 131).
     pub fn new(oem_id: [u8; 6], oem_table_id: [u8; 8], oem_revision: u32) -> FADTBuilder
         ensures { result ≡ fadt_at_first oem_id oem_table_id oem_revision }
@@ -279,7 +260,7 @@ impl FADTBuilder {
     pub fn flag(mut self, flags: Flags) -> FADTBuilder
         ensures { result ≡ with_flag flags self }
     {
-        self.flags |= flags.number();
+        self.flags |= flags as u32;
         self
     }
 
@@ -307,87 +288,171 @@ impl FADTBuilder {
     pub fn preferred_pm_profile(mut self, profile: PmProfile) -> FADTBuilder
         ensures { result ≡ with_profile profile self }
     {
-        self.preferred_pm_profile = profile.number();
+        self.preferred_pm_profile = profile as u8;
         self
     }
 
     // The table's bytes.
-    fn bytes(&self) -> [u8; 276]
+    fn sealed(&self) -> [u8; 276]
         ensures { result ≡ fadt_bytes self.now }
     {
-        let FADTBuilder {
-            signature,
-            oem_id,
-            oem_table_id,
-            creator_id,
-            creator_revision,
-            ..
-        } = *self;
-        sealed_record(&[
-            Field::Bytes(&signature),
-            Field::DWord(self.length),
-            Field::Byte(self.major_version),
-            Field::Byte(self.checksum),
-            Field::Bytes(&oem_id),
-            Field::Bytes(&oem_table_id),
-            Field::DWord(self.oem_revision),
-            Field::Bytes(&creator_id),
-            Field::Bytes(&creator_revision),
-            Field::DWord(self.firmware_ctrl),
-            Field::DWord(self.dsdt),
-            Field::Byte(0),
-            Field::Byte(self.preferred_pm_profile),
-            Field::Word(self.sci_int),
-            Field::DWord(self.smi_cmd),
-            Field::Byte(self.acpi_enable),
-            Field::Byte(self.acpi_disable),
-            Field::Byte(self.s4bios_req),
-            Field::Byte(self.pstate_cnt),
-            Field::DWord(self.pm1a_evt_blk),
-            Field::DWord(self.pm1b_evt_blk),
-            Field::DWord(self.pm1a_cnt_blk),
-            Field::DWord(self.pm1b_cnt_blk),
-            Field::DWord(self.pm2_cnt_blk),
-            Field::DWord(self.pm_tmr_blk),
-            Field::DWord(self.gpe0_blk),
-            Field::DWord(self.gpe1_blk),
-            Field::Byte(self.pm1_evt_len),
-            Field::Byte(self.pm1_cnt_len),
-            Field::Byte(self.pm2_cnt_len),
-            Field::Byte(self.pm_tmr_len),
-            Field::Byte(self.gpe0_blk_len),
-            Field::Byte(self.gpe1_blk_len),
-            Field::Byte(self.gpe1_base),
-            Field::Byte(self.cst_cnt),
-            Field::Word(self.p_lvl2_lat),
-            Field::Word(self.p_lvl3_lat),
-            Field::Word(self.flush_size),
-            Field::Word(self.flush_stride),
-            Field::Byte(self.duty_offset),
-            Field::Byte(self.duty_width),
-            Field::Byte(self.day_alrm),
-            Field::Byte(self.mon_alrm),
-            Field::Byte(self.century),
-            Field::Word(self.iapc_boot_arch),
-            Field::Byte(0),
-            Field::DWord(self.flags),
-            Field::Bytes(&self.reset_reg.bytes()),
-            Field::Byte(self.reset_value),
-            Field::Word(self.arm_boot_arch),
-            Field::Byte(self.fadt_minor_version),
-            Field::QWord(self.x_firmware_ctrl),
-            Field::QWord(self.x_dsdt),
-            Field::Bytes(&self.x_pm1a_evt_blk.bytes()),
-            Field::Bytes(&self.x_pm1b_evt_blk.bytes()),
-            Field::Bytes(&self.x_pm1a_cnt_blk.bytes()),
-            Field::Bytes(&self.x_pm1b_cnt_blk.bytes()),
-            Field::Bytes(&self.x_pm2_cnt_blk.bytes()),
-            Field::Bytes(&self.x_pm_tmr_blk.bytes()),
-            Field::Bytes(&self.x_gpe0_blk.bytes()),
-            Field::Bytes(&self.x_gpe1_blk.bytes()),
-            Field::Bytes(&self.sleep_control_reg.bytes()),
-            Field::Bytes(&self.sleep_status_reg.bytes()),
-            Field::QWord(self.hypervisor_vendor_identity),
-        ])
+        sealed_table(self.header(), &self.bytes())
+    }
+
+    // The header's bytes.
+    fn header(&self) -> [u8; 36]
+        ensures { result ≡ fields_joined (header_fields self.now) }
+    {
+        record_of(
+            &HEADER,
+            &[
+                Value::Bytes(&self.signature),
+                Value::Number(self.length as u64),
+                Value::Number(self.major_version as u64),
+                Value::Number(self.checksum as u64),
+                Value::Bytes(&self.oem_id),
+                Value::Bytes(&self.oem_table_id),
+                Value::Number(self.oem_revision as u64),
+                Value::Bytes(&self.creator_id),
+                Value::Bytes(&self.creator_revision),
+            ],
+        )
+    }
+}
+
+/// The names and widths of the header's fields, in order.
+pub fn fadt_header_rows() -> &'static [Row]
+    ensures { (fields : FADTBuilder) → AreRowsOf result.now (header_fields fields) }
+{
+    &HEADER
+}
+
+const FADT_ROWS: [Row; 55] = [
+    Row::Number("FIRMWARE_CTRL", 4),
+    Row::Number("DSDT", 4),
+    Row::Reserved(1),
+    Row::Number("Preferred_PM_Profile", 1),
+    Row::Number("SCI_INT", 2),
+    Row::Number("SMI_CMD", 4),
+    Row::Number("ACPI_ENABLE", 1),
+    Row::Number("ACPI_DISABLE", 1),
+    Row::Number("S4BIOS_REQ", 1),
+    Row::Number("PSTATE_CNT", 1),
+    Row::Number("PM1a_EVT_BLK", 4),
+    Row::Number("PM1b_EVT_BLK", 4),
+    Row::Number("PM1a_CNT_BLK", 4),
+    Row::Number("PM1b_CNT_BLK", 4),
+    Row::Number("PM2_CNT_BLK", 4),
+    Row::Number("PM_TMR_BLK", 4),
+    Row::Number("GPE0_BLK", 4),
+    Row::Number("GPE1_BLK", 4),
+    Row::Number("PM1_EVT_LEN", 1),
+    Row::Number("PM1_CNT_LEN", 1),
+    Row::Number("PM2_CNT_LEN", 1),
+    Row::Number("PM_TMR_LEN", 1),
+    Row::Number("GPE0_BLK_LEN", 1),
+    Row::Number("GPE1_BLK_LEN", 1),
+    Row::Number("GPE1_BASE", 1),
+    Row::Number("CST_CNT", 1),
+    Row::Number("P_LVL2_LAT", 2),
+    Row::Number("P_LVL3_LAT", 2),
+    Row::Number("FLUSH_SIZE", 2),
+    Row::Number("FLUSH_STRIDE", 2),
+    Row::Number("DUTY_OFFSET", 1),
+    Row::Number("DUTY_WIDTH", 1),
+    Row::Number("DAY_ALRM", 1),
+    Row::Number("MON_ALRM", 1),
+    Row::Number("CENTURY", 1),
+    Row::Number("IAPC_BOOT_ARCH", 2),
+    Row::Reserved(1),
+    Row::Number("Flags", 4),
+    Row::Bytes("RESET_REG", 12),
+    Row::Number("RESET_VALUE", 1),
+    Row::Number("ARM_BOOT_ARCH", 2),
+    Row::Number("FADT Minor Version", 1),
+    Row::Number("X_FIRMWARE_CTRL", 8),
+    Row::Number("X_DSDT", 8),
+    Row::Bytes("X_PM1a_EVT_BLK", 12),
+    Row::Bytes("X_PM1b_EVT_BLK", 12),
+    Row::Bytes("X_PM1a_CNT_BLK", 12),
+    Row::Bytes("X_PM1b_CNT_BLK", 12),
+    Row::Bytes("X_PM2_CNT_BLK", 12),
+    Row::Bytes("X_PM_TMR_BLK", 12),
+    Row::Bytes("X_GPE0_BLK", 12),
+    Row::Bytes("X_GPE1_BLK", 12),
+    Row::Bytes("SLEEP_CONTROL_REG", 12),
+    Row::Bytes("SLEEP_STATUS_REG", 12),
+    Row::Number("Hypervisor Vendor Identity", 8),
+];
+
+/// The fields behind the header.
+impl Record<240> for FADTBuilder {
+    ghost fields = { fadt_fields };
+
+    fn rows() -> &'static [Row] {
+        &FADT_ROWS
+    }
+
+    fn bytes(&self) -> [u8; 240] {
+        record_of(
+            &FADT_ROWS,
+            &[
+                Value::Number(self.firmware_ctrl as u64),
+                Value::Number(self.dsdt as u64),
+                Value::Number(0),
+                Value::Number(self.preferred_pm_profile as u64),
+                Value::Number(self.sci_int as u64),
+                Value::Number(self.smi_cmd as u64),
+                Value::Number(self.acpi_enable as u64),
+                Value::Number(self.acpi_disable as u64),
+                Value::Number(self.s4bios_req as u64),
+                Value::Number(self.pstate_cnt as u64),
+                Value::Number(self.pm1a_evt_blk as u64),
+                Value::Number(self.pm1b_evt_blk as u64),
+                Value::Number(self.pm1a_cnt_blk as u64),
+                Value::Number(self.pm1b_cnt_blk as u64),
+                Value::Number(self.pm2_cnt_blk as u64),
+                Value::Number(self.pm_tmr_blk as u64),
+                Value::Number(self.gpe0_blk as u64),
+                Value::Number(self.gpe1_blk as u64),
+                Value::Number(self.pm1_evt_len as u64),
+                Value::Number(self.pm1_cnt_len as u64),
+                Value::Number(self.pm2_cnt_len as u64),
+                Value::Number(self.pm_tmr_len as u64),
+                Value::Number(self.gpe0_blk_len as u64),
+                Value::Number(self.gpe1_blk_len as u64),
+                Value::Number(self.gpe1_base as u64),
+                Value::Number(self.cst_cnt as u64),
+                Value::Number(self.p_lvl2_lat as u64),
+                Value::Number(self.p_lvl3_lat as u64),
+                Value::Number(self.flush_size as u64),
+                Value::Number(self.flush_stride as u64),
+                Value::Number(self.duty_offset as u64),
+                Value::Number(self.duty_width as u64),
+                Value::Number(self.day_alrm as u64),
+                Value::Number(self.mon_alrm as u64),
+                Value::Number(self.century as u64),
+                Value::Number(self.iapc_boot_arch as u64),
+                Value::Number(0),
+                Value::Number(self.flags as u64),
+                Value::Bytes(&self.reset_reg.bytes()),
+                Value::Number(self.reset_value as u64),
+                Value::Number(self.arm_boot_arch as u64),
+                Value::Number(self.fadt_minor_version as u64),
+                Value::Number(self.x_firmware_ctrl),
+                Value::Number(self.x_dsdt),
+                Value::Bytes(&self.x_pm1a_evt_blk.bytes()),
+                Value::Bytes(&self.x_pm1b_evt_blk.bytes()),
+                Value::Bytes(&self.x_pm1a_cnt_blk.bytes()),
+                Value::Bytes(&self.x_pm1b_cnt_blk.bytes()),
+                Value::Bytes(&self.x_pm2_cnt_blk.bytes()),
+                Value::Bytes(&self.x_pm_tmr_blk.bytes()),
+                Value::Bytes(&self.x_gpe0_blk.bytes()),
+                Value::Bytes(&self.x_gpe1_blk.bytes()),
+                Value::Bytes(&self.sleep_control_reg.bytes()),
+                Value::Bytes(&self.sleep_status_reg.bytes()),
+                Value::Number(self.hypervisor_vendor_identity),
+            ],
+        )
     }
 }

@@ -4,7 +4,8 @@ ghost use Rattle.std.specs.Prelude.{◌≡◌, ◌%◌, [], codes, length, sum};
 ghost use Rattle.acpi_base.specs.Table.{IsTrueTable};
 ghost use Rattle.acpi_base.specs.Walk.{ArePiecesOf};
 ghost use Rattle.acpi_fixed.specs.Fadt.{fadt_bytes};
-ghost use Rattle.acpi_fixed.specs.Laws.{PointersSumToZero, BertsAreTrue, SpcrsAreTrue, ClientsAreTrue, ServersAreTrue, Tpm2sAreTrue};
+ghost use Rattle.acpi_fixed.specs.Laws.{PointersSumToZero};
+ghost use Rattle.acpi_fixed.specs.Laws.{BertsAreTrue, SpcrsAreTrue, ClientsAreTrue, ServersAreTrue, Tpm2sAreTrue};
 
 use crate::fadt::FADTBuilder;
 use acpi_base::oem::Oem;

@@ -1,12 +1,13 @@
 //! RSDP: where the search for the tables begins.
 
-ghost use Rattle.std.specs.Prelude.{◌≡◌, ◌%◌, sum, length};
+ghost use Rattle.std.specs.Prelude.{◌≡◌, sum};
 ghost use Rattle.acpi_base.specs.Bytes.{complement};
 ghost use Rattle.acpi_base.specs.Object.{whole, whole_ends_well};
+ghost use Rattle.acpi_fixed.specs.Rsdp.{rsdp_for, rsdp_fields, rsdp_bytes};
 
 use acpi_base::error::R;
 use acpi_base::object::Aml;
-use acpi_base::record::{Field, record};
+use acpi_base::row::{Record, Row, Value, record_of, write_record};
 use acpi_base::sink::AmlSink;
 use acpi_base::sum::Sum;
 
@@ -38,9 +39,6 @@ fn complement_of(bytes: &[u8]) -> u8
 }
 
 impl Rsdp {
-    ghost use Rattle.std.specs.Prelude.{take};
-    ghost use Rattle.acpi_fixed.specs.Rsdp.{rsdp_bytes, rsdp_for};
-
     /// The pointer to the XSDT at a physical address, of revision 2, with both checksums made.
     pub fn new(oem_id: [u8; 6], xsdt_addr: u64) -> Rsdp
         ensures { result ≡ rsdp_for oem_id xsdt_addr }
@@ -66,34 +64,51 @@ impl Rsdp {
     {
         36
     }
+}
 
-    // The pointer's bytes.
-    fn bytes(&self) -> [u8; 36]
-        ensures bytes { result ≡ rsdp_bytes self.now }
-        ensures len { length result ≡ 36 }
-    {
-        record(&[
-            Field::Bytes(&self.signature),
-            Field::Byte(self.checksum),
-            Field::Bytes(&self.oem_id),
-            Field::Byte(self.revision),
-            Field::DWord(0),
-            Field::DWord(self.length),
-            Field::QWord(self.xsdt_addr),
-            Field::Byte(self.extended_checksum),
-            Field::Bytes(&[0; 3]),
-        ])
+const RSDP: [Row; 9] = [
+    Row::Bytes("Signature", 8),
+    Row::Number("Checksum", 1),
+    Row::Bytes("OEMID", 6),
+    Row::Number("Revision", 1),
+    Row::Number("RsdtAddress", 4),
+    Row::Number("Length", 4),
+    Row::Number("XsdtAddress", 8),
+    Row::Number("Extended Checksum", 1),
+    Row::Reserved(3),
+];
+
+impl Record<36> for Rsdp {
+    ghost fields = { rsdp_fields };
+
+    fn rows() -> &'static [Row] {
+        &RSDP
+    }
+
+    fn bytes(&self) -> [u8; 36] {
+        record_of(
+            &RSDP,
+            &[
+                Value::Bytes(&self.signature),
+                Value::Number(u64::from(self.checksum)),
+                Value::Bytes(&self.oem_id),
+                Value::Number(u64::from(self.revision)),
+                Value::Number(0),
+                Value::Number(u64::from(self.length)),
+                Value::Number(self.xsdt_addr),
+                Value::Number(u64::from(self.extended_checksum)),
+                Value::Number(0),
+            ],
+        )
     }
 }
 
 impl Aml for Rsdp {
-    ghost use Rattle.acpi_fixed.specs.Rsdp.{rsdp_bytes};
-
     ghost object = { λ r. whole (rsdp_bytes r) };
 
     ghost ends_well = { λ r. whole_ends_well (rsdp_bytes r) };
 
     fn to_aml_bytes(&self, sink: &mut dyn AmlSink) -> R<()> {
-        sink.vec(&self.bytes())
+        write_record(self, sink)
     }
 }

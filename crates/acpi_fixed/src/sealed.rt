@@ -1,19 +1,44 @@
-//! Tables as records.
+//! Tables as records behind a header.
 
-ghost use Rattle.std.specs.Prelude.{◌≡◌, ◌≤◌, length};
-ghost use Rattle.acpi_base.specs.Record.{fields_bytes};
-ghost use Rattle.acpi_base.specs.Table.{with_checksum};
+ghost use Rattle.std.specs.Prelude.{◌≡◌, ◌+◌, ◌<◌, ◌^◌, ◌++◌, length, OnOk, IfErr};
+ghost use Rattle.acpi_base.specs.Fields.{fields_joined};
+ghost use Rattle.acpi_base.specs.Object.{whole, Wrote, WriteRefused};
+ghost use Rattle.acpi_base.specs.Table.{with_checksum, table_of};
 
-use acpi_base::header::seal;
-use acpi_base::record::{Field, record};
+use acpi_base::error::R;
+use acpi_base::header::{header, seal};
+use acpi_base::oem::Oem;
+use acpi_base::patch::write_at;
+use acpi_base::row::Record;
+use acpi_base::sink::AmlSink;
 
-/// The bytes of a record that begins with a table's header, with its checksum made true.
-pub fn sealed_record<const N: usize>(fields: &[Field]) -> [u8; N]
-    requires size { length (fields_bytes fields.now) ≡ N }
-    requires header { 36 ≤ N }
-    ensures { result ≡ with_checksum (fields_bytes fields.now) }
+/// Gives a sink a table of `N` bytes: the standard header, the fields of a record, and a true checksum.
+pub fn write_table<const BODY: usize, const N: usize, T: Record<BODY>>(
+    signature: [u8; 4],
+    revision: u8,
+    oem: Oem,
+    body: &T,
+    sink: &mut dyn AmlSink,
+) -> R<()>
+    requires size { N ≡ 36 + BODY }
+    requires fits { N < 2 ^ 32 }
+    ensures ok { let table = whole (table_of signature revision oem (fields_joined (T.fields body.now))) in
+        OnOk result (Wrote table (meaning sink.old) (meaning sink.new)) }
+    ensures err { let table = whole (table_of signature revision oem (fields_joined (T.fields body.now))) in
+        IfErr result (λ e. WriteRefused e table (meaning sink.old) (meaning sink.new)) }
 {
-    let mut bytes = record(fields);
+    let table = sealed_table::<N>(header(signature, N as u32, revision, oem), &body.bytes());
+    sink.vec(&table)
+}
+
+/// The bytes of a table: its header, what stands behind it, and a true checksum.
+pub fn sealed_table<const N: usize>(header: [u8; 36], body: &[u8]) -> [u8; N]
+    requires { N ≡ 36 + length body.now }
+    ensures { result ≡ with_checksum (header ++ body.now) }
+{
+    let mut bytes = [0; N];
+    write_at(&mut bytes, 0, &header);
+    write_at(&mut bytes, 36, body);
     seal(&mut bytes);
     bytes
 }

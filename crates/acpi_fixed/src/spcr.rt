@@ -1,14 +1,17 @@
 //! SPCR: where the console is.
 
 ghost use Rattle.std.specs.Prelude.{◌≡◌};
+ghost use Rattle.acpi_base.specs.Fields.{AreRowsOf};
 ghost use Rattle.acpi_base.specs.Object.{whole, whole_ends_well};
+ghost use Rattle.acpi_fixed.specs.Oem.{oem_of};
+ghost use Rattle.acpi_fixed.specs.Spcr.{spcr_for, spcr_fields, spcr_bytes};
+ghost use Rattle.acpi_fixed.specs.declared.spcr.SPCR.{SPCR};
 
-use crate::sealed::sealed_record;
+use crate::sealed::write_table;
 use acpi_base::error::R;
-use acpi_base::header::header;
 use acpi_base::object::Aml;
 use acpi_base::oem::Oem;
-use acpi_base::record::Field;
+use acpi_base::row::{Record, Row, Value, record_of};
 use acpi_base::sink::AmlSink;
 use std::marker::PhantomData;
 
@@ -21,66 +24,94 @@ pub struct SPCR<'a> {
 }
 
 impl SPCR<'_> {
-    ghost use Rattle.acpi_fixed.specs.Oem.{oem_of};
-    ghost use Rattle.acpi_fixed.specs.Spcr.{spcr_bytes, spcr_for};
-
     /// A console through calls of the RISC-V supervisor binary interface: interface type 21, no registers, no interrupt,
     /// no PCI device and no device of the namespace.
     pub fn sbi(oem_id: [u8; 6], oem_table_id: [u8; 8], oem_revision: u32) -> Self
         ensures { result ≡ spcr_for (oem_of oem_id oem_table_id oem_revision) }
     {
         SPCR {
-            oem: Oem {
-                id: oem_id,
-                table_id: oem_table_id,
-                revision: oem_revision,
-            },
+            oem: Oem::new(oem_id, oem_table_id, oem_revision),
             lent: PhantomData,
         }
     }
+}
 
-    // The table's bytes.
-    fn bytes(&self) -> [u8; 90]
-        ensures { result ≡ spcr_bytes self.now }
+const SPCR_ROWS: [Row; 24] = [
+    Row::Number("Interface Type", 1),
+    Row::Reserved(3),
+    Row::Bytes("Base Address", 12),
+    Row::Number("Interrupt Type", 1),
+    Row::Number("IRQ", 1),
+    Row::Number("Global System Interrupt", 4),
+    Row::Number("Configured Baud Rate", 1),
+    Row::Number("Parity", 1),
+    Row::Number("Stop Bits", 1),
+    Row::Number("Flow Control", 1),
+    Row::Number("Terminal Type", 1),
+    Row::Number("Language", 1),
+    Row::Number("PCI Device ID", 2),
+    Row::Number("PCI Vendor ID", 2),
+    Row::Number("PCI Bus Number", 1),
+    Row::Number("PCI Device Number", 1),
+    Row::Number("PCI Function Number", 1),
+    Row::Number("PCI Flags", 4),
+    Row::Number("PCI Segment", 1),
+    Row::Number("UART Clock Frequency", 4),
+    Row::Number("Precise Baud Rate", 4),
+    Row::Number("NamespaceStringLength", 2),
+    Row::Number("NamespaceStringOffset", 2),
+    Row::Bytes("NamespaceString", 2),
+];
+
+/// The fields behind the header.
+impl Record<54> for SPCR<'_> {
+    ghost fields = { spcr_fields };
+
+    fn rows() -> &'static [Row]
+        ensures { (table : SPCR) → AreRowsOf result.now (spcr_fields table) }
     {
-        sealed_record(&[
-            Field::Bytes(&header(*b"SPCR", 90, 4, self.oem)),
-            Field::Byte(0x15),
-            Field::Bytes(&[0; 3]),
-            Field::Bytes(&[0; 12]),
-            Field::Byte(0),
-            Field::Byte(0),
-            Field::DWord(0),
-            Field::Byte(0),
-            Field::Byte(0),
-            Field::Byte(0),
-            Field::Byte(0),
-            Field::Byte(0),
-            Field::Byte(0),
-            Field::Word(0xffff),
-            Field::Word(0xffff),
-            Field::Byte(0),
-            Field::Byte(0),
-            Field::Byte(0),
-            Field::DWord(0),
-            Field::Byte(0),
-            Field::DWord(0),
-            Field::DWord(0),
-            Field::Word(2),
-            Field::Word(88),
-            Field::Bytes(b".\0"),
-        ])
+        &SPCR_ROWS
+    }
+
+    fn bytes(&self) -> [u8; 54] {
+        record_of(
+            &SPCR_ROWS,
+            &[
+                Value::Number(0x15),
+                Value::Number(0),
+                Value::Bytes(&[0; 12]),
+                Value::Number(0),
+                Value::Number(0),
+                Value::Number(0),
+                Value::Number(0),
+                Value::Number(0),
+                Value::Number(0),
+                Value::Number(0),
+                Value::Number(0),
+                Value::Number(0),
+                Value::Number(0xffff),
+                Value::Number(0xffff),
+                Value::Number(0),
+                Value::Number(0),
+                Value::Number(0),
+                Value::Number(0),
+                Value::Number(0),
+                Value::Number(0),
+                Value::Number(0),
+                Value::Number(2),
+                Value::Number(88),
+                Value::Bytes(b".\0"),
+            ],
+        )
     }
 }
 
 impl Aml for SPCR<'_> {
-    ghost use Rattle.acpi_fixed.specs.Spcr.{spcr_bytes};
-
     ghost object = { λ t. whole (spcr_bytes t) };
 
     ghost ends_well = { λ t. whole_ends_well (spcr_bytes t) };
 
     fn to_aml_bytes(&self, sink: &mut dyn AmlSink) -> R<()> {
-        sink.vec(&self.bytes())
+        write_table::<54, 90, SPCR>(*b"SPCR", 4, self.oem, self, sink)
     }
 }

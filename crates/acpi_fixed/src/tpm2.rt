@@ -1,15 +1,24 @@
 //! TCPA and TPM2: where a trusted platform module is, and its log.
 
 ghost use Rattle.std.specs.Prelude.{◌≡◌, ◌<◌, Some, None};
+ghost use Rattle.acpi_base.specs.Fields.{AreRowsOf};
 ghost use Rattle.acpi_base.specs.Object.{whole, whole_ends_well};
+ghost use Rattle.acpi_fixed.specs.Tpm2.{tpm2_fields};
+ghost use Rattle.acpi_fixed.specs.declared.tpm2.LogArea.{LogArea};
+ghost use Rattle.acpi_fixed.specs.declared.tpm2.Tpm2.{Tpm2};
+ghost use Rattle.acpi_fixed.specs.Oem.{oem_of};
+ghost use Rattle.acpi_fixed.specs.Tcpa.{client_for, client_fields, client_bytes, server_at_first, with_log_area};
+ghost use Rattle.acpi_fixed.specs.Tcpa.{with_device_flag, with_interrupt_flag, with_gpe, with_gsi, with_base, with_config};
+ghost use Rattle.acpi_fixed.specs.Tcpa.{with_pci, server_fields, server_bytes};
+ghost use Rattle.acpi_fixed.specs.Tpm2.{tpm2_for, LogAreaOnce, tpm2_bytes};
+ghost use Rattle.acpi_fixed.specs.declared.tpm2.Logged.{Logged};
 
-use crate::sealed::sealed_record;
+use crate::sealed::write_table;
 use acpi_base::error::{Error, R};
 use acpi_base::gas::GAS;
-use acpi_base::header::header;
 use acpi_base::object::Aml;
 use acpi_base::oem::Oem;
-use acpi_base::record::Field;
+use acpi_base::row::{Record, Row, Value, record_of, record_of_numbers};
 use acpi_base::sink::AmlSink;
 
 /// What kind of machine a module is in (TCG ACPI Specification, offset 36 of TCPA and TPM2).
@@ -18,16 +27,6 @@ pub enum PlatformClass {
     #[default]
     Client = 0,
     Server = 1,
-}
-
-impl PlatformClass {
-    ghost use Rattle.acpi_fixed.specs.Class.{class_number};
-
-    fn number(self) -> u16
-        ensures { result ≡ class_number self }
-    {
-        self as u16
-    }
 }
 
 /// TCPA of a client (TCG ACPI Specification, TPM 1.2, client platform): 50 bytes.
@@ -39,9 +38,6 @@ pub struct TpmClient1_2 {
 }
 
 impl TpmClient1_2 {
-    ghost use Rattle.acpi_fixed.specs.Oem.{oem_of};
-    ghost use Rattle.acpi_fixed.specs.Tcpa.{client_bytes, client_for};
-
     /// A log area of at least so many bytes at a physical address.
     pub fn new(
         oem_id: [u8; 6],
@@ -53,38 +49,46 @@ impl TpmClient1_2 {
         ensures { result ≡ client_for (oem_of oem_id oem_table_id oem_revision) log_area_min_len log_area_start_addr }
     {
         TpmClient1_2 {
-            oem: Oem {
-                id: oem_id,
-                table_id: oem_table_id,
-                revision: oem_revision,
-            },
+            oem: Oem::new(oem_id, oem_table_id, oem_revision),
             log_area_min_len,
             log_area_start_addr,
         }
     }
+}
 
-    // The table's bytes.
-    fn bytes(&self) -> [u8; 50]
-        ensures { result ≡ client_bytes self.now }
-    {
-        sealed_record(&[
-            Field::Bytes(&header(*b"TCPA", 50, 2, self.oem)),
-            Field::Word(PlatformClass::Client.number()),
-            Field::DWord(self.log_area_min_len),
-            Field::QWord(self.log_area_start_addr),
-        ])
+const CLIENT: [Row; 3] = [
+    Row::Number("Platform Class", 2),
+    Row::Number("Log Area Minimum Length", 4),
+    Row::Number("Log Area Start Address", 8),
+];
+
+/// The fields behind the header.
+impl Record<14> for TpmClient1_2 {
+    ghost fields = { client_fields };
+
+    fn rows() -> &'static [Row] {
+        &CLIENT
+    }
+
+    fn bytes(&self) -> [u8; 14] {
+        record_of_numbers(
+            &CLIENT,
+            &[
+                PlatformClass::Client as u64,
+                u64::from(self.log_area_min_len),
+                self.log_area_start_addr,
+            ],
+        )
     }
 }
 
 impl Aml for TpmClient1_2 {
-    ghost use Rattle.acpi_fixed.specs.Tcpa.{client_bytes};
-
     ghost object = { λ t. whole (client_bytes t) };
 
     ghost ends_well = { λ t. whole_ends_well (client_bytes t) };
 
     fn to_aml_bytes(&self, sink: &mut dyn AmlSink) -> R<()> {
-        sink.vec(&self.bytes())
+        write_table::<14, 50, TpmClient1_2>(*b"TCPA", 2, self.oem, self, sink)
     }
 }
 
@@ -124,19 +128,12 @@ pub struct TpmServer1_2 {
 }
 
 impl TpmServer1_2 {
-    ghost use Rattle.acpi_fixed.specs.Oem.{oem_of};
-    ghost use Rattle.acpi_fixed.specs.Tcpa.{server_bytes, server_at_first, with_log_area, with_device_flag, with_interrupt_flag, with_gpe, with_gsi, with_base, with_config, with_pci};
-
     /// A table in which everything behind the TCG revision is zero.
     pub fn new(oem_id: [u8; 6], oem_table_id: [u8; 8], oem_revision: u32) -> TpmServer1_2
         ensures { result ≡ server_at_first (oem_of oem_id oem_table_id oem_revision) }
     {
         TpmServer1_2 {
-            oem: Oem {
-                id: oem_id,
-                table_id: oem_table_id,
-                revision: oem_revision,
-            },
+            oem: Oem::new(oem_id, oem_table_id, oem_revision),
             log_area_min_len: 0,
             log_area_start_addr: 0,
             device_flags: 0,
@@ -240,43 +237,69 @@ impl TpmServer1_2 {
     {
         100
     }
+}
 
-    // The table's bytes.
-    fn bytes(&self) -> [u8; 100]
-        ensures { result ≡ server_bytes self.now }
-    {
-        sealed_record(&[
-            Field::Bytes(&header(*b"TCPA", 100, 2, self.oem)),
-            Field::Word(PlatformClass::Server.number()),
-            Field::Word(0),
-            Field::QWord(self.log_area_min_len),
-            Field::QWord(self.log_area_start_addr),
-            Field::Bytes(&[1, 2]),
-            Field::Byte(self.device_flags),
-            Field::Byte(self.interrupt_flags),
-            Field::Byte(self.gpe),
-            Field::Bytes(&[0; 3]),
-            Field::DWord(self.gsi),
-            Field::Bytes(&self.base_addr.bytes()),
-            Field::DWord(0),
-            Field::Bytes(&self.config_addr.bytes()),
-            Field::Byte(self.pci_segment),
-            Field::Byte(self.pci_bus),
-            Field::Byte(self.pci_device),
-            Field::Byte(self.pci_function),
-        ])
+const SERVER: [Row; 17] = [
+    Row::Number("Platform Class", 2),
+    Row::Reserved(2),
+    Row::Number("Log Area Minimum Length", 8),
+    Row::Number("Log Area Start Address", 8),
+    Row::Bytes("Specification Revision", 2),
+    Row::Number("Device Flags", 1),
+    Row::Number("Interrupt Flags", 1),
+    Row::Number("GPE", 1),
+    Row::Reserved(3),
+    Row::Number("Global System Interrupt", 4),
+    Row::Bytes("Base Address", 12),
+    Row::Reserved(4),
+    Row::Bytes("Configuration Address", 12),
+    Row::Number("PCI Segment Group Number", 1),
+    Row::Number("PCI Bus Number", 1),
+    Row::Number("PCI Device Number", 1),
+    Row::Number("PCI Function Number", 1),
+];
+
+/// The fields behind the header.
+impl Record<64> for TpmServer1_2 {
+    ghost fields = { server_fields };
+
+    fn rows() -> &'static [Row] {
+        &SERVER
+    }
+
+    fn bytes(&self) -> [u8; 64] {
+        record_of(
+            &SERVER,
+            &[
+                Value::Number(PlatformClass::Server as u64),
+                Value::Number(0),
+                Value::Number(self.log_area_min_len),
+                Value::Number(self.log_area_start_addr),
+                Value::Bytes(&[1, 2]),
+                Value::Number(u64::from(self.device_flags)),
+                Value::Number(u64::from(self.interrupt_flags)),
+                Value::Number(u64::from(self.gpe)),
+                Value::Number(0),
+                Value::Number(u64::from(self.gsi)),
+                Value::Bytes(&self.base_addr.bytes()),
+                Value::Number(0),
+                Value::Bytes(&self.config_addr.bytes()),
+                Value::Number(u64::from(self.pci_segment)),
+                Value::Number(u64::from(self.pci_bus)),
+                Value::Number(u64::from(self.pci_device)),
+                Value::Number(u64::from(self.pci_function)),
+            ],
+        )
     }
 }
 
 impl Aml for TpmServer1_2 {
-    ghost use Rattle.acpi_fixed.specs.Tcpa.{server_bytes};
-
     ghost object = { λ t. whole (server_bytes t) };
 
     ghost ends_well = { λ t. whole_ends_well (server_bytes t) };
 
     fn to_aml_bytes(&self, sink: &mut dyn AmlSink) -> R<()> {
-        sink.vec(&self.bytes())
+        write_table::<64, 100, TpmServer1_2>(*b"TCPA", 2, self.oem, self, sink)
     }
 }
 
@@ -291,16 +314,6 @@ pub enum StartMethod {
     CrbAndAcpiStart = 0x08,
     CrbAndSmcHvc = 0x0b,
     I2cFifo = 0x0c,
-}
-
-impl StartMethod {
-    ghost use Rattle.acpi_fixed.specs.Tpm2.{method_number};
-
-    fn number(self) -> u32
-        ensures { result ≡ method_number self }
-    {
-        self as u32
-    }
 }
 
 // A log area: at least so many bytes, at a physical address.
@@ -321,9 +334,6 @@ pub struct Tpm2 {
 }
 
 impl Tpm2 {
-    ghost use Rattle.acpi_fixed.specs.Oem.{oem_of};
-    ghost use Rattle.acpi_fixed.specs.Tpm2.{tpm2_with, tpm2_for, LogAreaOnce};
-
     /// A module whose control area or FIFO is at a physical address, without a log area.
     pub fn new(
         oem_id: [u8; 6],
@@ -336,11 +346,7 @@ impl Tpm2 {
         ensures { result ≡ tpm2_for (oem_of oem_id oem_table_id oem_revision) platform_class crb_or_fifo_base start_method }
     {
         Tpm2 {
-            oem: Oem {
-                id: oem_id,
-                table_id: oem_table_id,
-                revision: oem_revision,
-            },
+            oem: Oem::new(oem_id, oem_table_id, oem_revision),
             platform_class,
             crb_or_fifo_base,
             start_method,
@@ -359,48 +365,90 @@ impl Tpm2 {
         self.log_area = Some(LogArea { min_len, base_addr });
         Ok(())
     }
+}
 
-    // The table's bytes, if it has no log area.
-    fn bytes(&self) -> [u8; 52]
-        ensures { result ≡ tpm2_with self.now None }
-    {
-        sealed_record(&[
-            Field::Bytes(&header(*b"TPM2", 52, 1, self.oem)),
-            Field::Word(self.platform_class.number()),
-            Field::Word(0),
-            Field::QWord(self.crb_or_fifo_base),
-            Field::DWord(self.start_method.number()),
-        ])
+const TPM2: [Row; 7] = [
+    Row::Number("Platform Class", 2),
+    Row::Reserved(2),
+    Row::Number("Address of CRB Control Area", 8),
+    Row::Number("Start Method", 4),
+    Row::Bytes("Start Method Specific Parameters", 12),
+    Row::Number("Log Area Minimum Length", 4),
+    Row::Number("Log Area Start Address", 8),
+];
+
+/// The names and widths of the fields behind the header, in order, where there is a log area.
+pub fn tpm2_rows() -> &'static [Row]
+    ensures { (table : Tpm2) (area : LogArea) → AreRowsOf result.now (tpm2_fields table (Some area)) }
+{
+    &TPM2
+}
+
+/// The fields behind the header where there is no log area.
+impl Record<16> for Tpm2 {
+    ghost fields = { λ t. tpm2_fields t None };
+
+    fn rows() -> &'static [Row] {
+        &TPM2[..4]
     }
 
-    // The table's bytes with a log area.
-    fn bytes_with(&self, area: LogArea) -> [u8; 76]
-        ensures { result ≡ tpm2_with self.now (Some area) }
+    fn bytes(&self) -> [u8; 16] {
+        record_of_numbers(
+            &TPM2[..4],
+            &[
+                self.platform_class as u64,
+                0,
+                self.crb_or_fifo_base,
+                self.start_method as u64,
+            ],
+        )
+    }
+}
+
+// A table with its log area.
+#[derive(Clone, Copy)]
+struct Logged<'a> {
+    table: &'a Tpm2,
+    area: LogArea,
+}
+
+impl Record<40> for Logged<'_> {
+    ghost fields = { λ l. tpm2_fields l.table.now (Some l.area) };
+
+    fn rows() -> &'static [Row]
+        ensures { (logged : Logged) → AreRowsOf result.now (tpm2_fields logged.table.now (Some logged.area)) }
     {
-        sealed_record(&[
-            Field::Bytes(&header(*b"TPM2", 76, 1, self.oem)),
-            Field::Word(self.platform_class.number()),
-            Field::Word(0),
-            Field::QWord(self.crb_or_fifo_base),
-            Field::DWord(self.start_method.number()),
-            Field::Bytes(&[0; 12]),
-            Field::DWord(area.min_len),
-            Field::QWord(area.base_addr),
-        ])
+        &TPM2
+    }
+
+    fn bytes(&self) -> [u8; 40] {
+        record_of(
+            &TPM2,
+            &[
+                Value::Number(self.table.platform_class as u64),
+                Value::Number(0),
+                Value::Number(self.table.crb_or_fifo_base),
+                Value::Number(self.table.start_method as u64),
+                Value::Bytes(&[0; 12]),
+                Value::Number(u64::from(self.area.min_len)),
+                Value::Number(self.area.base_addr),
+            ],
+        )
     }
 }
 
 impl Aml for Tpm2 {
-    ghost use Rattle.acpi_fixed.specs.Tpm2.{tpm2_bytes};
-
     ghost object = { λ t. whole (tpm2_bytes t) };
 
     ghost ends_well = { λ t. whole_ends_well (tpm2_bytes t) };
 
     fn to_aml_bytes(&self, sink: &mut dyn AmlSink) -> R<()> {
         match self.log_area {
-            None => sink.vec(&self.bytes()),
-            Some(area) => sink.vec(&self.bytes_with(area)),
+            None => write_table::<16, 52, Tpm2>(*b"TPM2", 1, self.oem, self, sink),
+            Some(area) => {
+                let logged = Logged { table: self, area };
+                write_table::<40, 76, Logged>(*b"TPM2", 1, self.oem, &logged, sink)
+            }
         }
     }
 }

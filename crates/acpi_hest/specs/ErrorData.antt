@@ -1,6 +1,6 @@
 -- Generic Error Data Entries (ACPI 6.5, 18.3.2.7.1, in this project's profile: a section type of two bytes).
 use Rattle.std.specs.Prelude.{◌≡◌, ℕ, List, [], ◌∷◌, replicate}
-use Rattle.acpi_base.specs.Layout.{byte, word, dword, record_of}
+use Rattle.acpi_base.specs.Fields.{NamedField, byte, word, dword, bytes, fields_joined}
 use Rattle.acpi_base.specs.Object.{Object, whole, chain, all_of}
 use Rattle.acpi_hest.specs.declared.hest.error_data.GenericErrorData.{GenericErrorData}
 use Rattle.acpi_hest.specs.declared.hest.status.ErrorSeverity.{ErrorSeverity}
@@ -19,18 +19,46 @@ pub record IsNewErrorData {X : Type 0} {P : X → Type 0} (severity : ErrorSever
   pub timestamp : d.timestamp ≡ replicate 8 0
   pub objects : d.objects.items ≡ []
 
+-- what stands in an entry before its data
+pub record ErrorHead : Type 0 where
+  pub section_type : ℕ
+  pub severity : ErrorSeverity
+  pub revision : ℕ
+  pub validation : ℕ
+  pub flags : ℕ
+  pub error_data_length : ℕ
+  pub fru_id : List ℕ
+  pub fru_text : List ℕ
+  pub timestamp : List ℕ
+
+abbrev pub head_of : {X : Type 0} {P : X → Type 0} → GenericErrorData X P → ErrorHead
+head_of d = record {
+  section_type = d.section_type;
+  severity = d.severity;
+  revision = d.revision;
+  validation = d.validation;
+  flags = d.flags;
+  error_data_length = d.error_data_length;
+  fru_id = d.fru_id;
+  fru_text = d.fru_text;
+  timestamp = d.timestamp;
+}
+
+abbrev pub error_head_fields : ErrorHead → List NamedField
+error_head_fields h =
+    word "Section Type" h.section_type  -- 0
+    ∷ dword "Error Severity" (severity_number h.severity)  -- 2
+    ∷ word "Revision" h.revision  -- 6
+    ∷ byte "Validation Bits" h.validation  -- 8
+    ∷ byte "Flags" h.flags  -- 9
+    ∷ dword "Error Data Length" h.error_data_length  -- 10
+    ∷ bytes "FRU Id" 16 h.fru_id  -- 14
+    ∷ bytes "FRU Text" 20 h.fru_text  -- 30
+    ∷ bytes "Timestamp" 8 h.timestamp  -- 50
+    ∷ []
+
 abbrev pub error_data_head : {X : Type 0} {P : X → Type 0} → GenericErrorData X P → List ℕ
-error_data_head d = record_of
-    (word d.section_type  -- 0: Section Type
-    ∷ dword (severity_number d.severity)  -- 2: Error Severity
-    ∷ word d.revision  -- 6: Revision
-    ∷ byte d.validation  -- 8: Validation Bits
-    ∷ byte d.flags  -- 9: Flags
-    ∷ dword d.error_data_length  -- 10: Error Data Length
-    ∷ d.fru_id  -- 14: FRU Id
-    ∷ d.fru_text  -- 30: FRU Text
-    ∷ d.timestamp  -- 50: Timestamp
-    ∷ [])
+error_data_head d = fields_joined (error_head_fields (head_of d))
 
 -- the entry and then its objects, up to the first that is refused
 abbrev pub error_data_object : {X : Type 0} {P : X → Type 0} → GenericErrorData X P → List Object → Object

@@ -1,55 +1,69 @@
 -- Generic hardware error sources (ACPI 6.5, 18.3.2.7 and 18.3.2.8).
-use Rattle.std.specs.Prelude.{ℕ, List, [], ◌∷◌}
+use Rattle.std.specs.Prelude.{ℕ, List, [], ◌∷◌, ◌++◌}
+use Rattle.acpi_base.specs.Fields.{NamedField, byte, word, dword, qword, bytes, fields_joined}
 use Rattle.acpi_base.specs.Gas.{gas_bytes, no_register}
-use Rattle.acpi_base.specs.Layout.{byte, word, dword, qword, record_of}
+use Rattle.acpi_hest.specs.declared.hest.generic.Acknowledged.{Acknowledged}
 use Rattle.acpi_hest.specs.declared.hest.generic.EnabledStatus.{EnabledStatus}
 use Rattle.acpi_hest.specs.declared.hest.generic.EnabledStatus.TheVariants.{Disabled, Enabled}
-use Rattle.acpi_hest.specs.declared.hest.generic.GenericHardwareSource.{GenericHardwareSource}
-use Rattle.acpi_hest.specs.declared.hest.generic.GenericHardwareSourceV2.{GenericHardwareSourceV2}
+use Rattle.acpi_hest.specs.declared.hest.generic.Generic.{Generic}
+use Rattle.acpi_hest.specs.declared.hest.generic.Unacknowledged.{Unacknowledged}
 use Rattle.acpi_hest.specs.Notification.{no_notification, notification_bytes}
 
 abbrev pub enabled_number : EnabledStatus → ℕ
 enabled_number Disabled = 0
 enabled_number Enabled = 1
 
-abbrev pub hardware_source : ℕ → EnabledStatus → GenericHardwareSource
-hardware_source source_id enabled = record {
-  source_id = source_id;
-  enabled = enabled;
-  num_records = 0;
-  max_sections = 0;
-  max_raw_length = 0;
-  error_status_address = no_register;
-  notification = no_notification;
-  error_status_block_len = 0;
-}
+module _ {T : Type 0} {N : ℕ} where
+  -- a source of this id, with zero in every field but the tail's
+  abbrev pub generic : T → ℕ → EnabledStatus → Generic T N
+  generic tail source_id enabled = record {
+    source_id = source_id;
+    enabled = enabled;
+    num_records = 0;
+    max_sections = 0;
+    max_raw_length = 0;
+    error_status_address = no_register;
+    notification = no_notification;
+    error_status_block_len = 0;
+    tail = tail;
+  }
 
-abbrev pub hardware_source_2 : ℕ → EnabledStatus → GenericHardwareSourceV2
-hardware_source_2 source_id enabled = record { source = hardware_source source_id enabled; read_ack_register = no_register; read_ack_preserve = 0; read_ack_write = 0 }
+  -- the fields that sources of both versions have
+  abbrev pub generic_head_fields : ℕ → Generic T N → List NamedField
+  generic_head_fields kind s =
+      word "Type" kind  -- 0
+      ∷ word "Source Id" s.source_id  -- 2
+      ∷ word "Related Source Id" 0xffff  -- 4
+      ∷ byte "Flags" 0  -- 6
+      ∷ byte "Enabled" (enabled_number s.enabled)  -- 7
+      ∷ dword "Number of Records to Pre-allocate" s.num_records  -- 8
+      ∷ dword "Max Sections Per Record" s.max_sections  -- 12
+      ∷ dword "Max Raw Data Length" s.max_raw_length  -- 16
+      ∷ bytes "Error Status Address" 12 (gas_bytes s.error_status_address)  -- 20
+      ∷ bytes "Notification Structure" 28 (notification_bytes s.notification)  -- 32
+      ∷ dword "Error Status Block Length" s.error_status_block_len  -- 60
+      ∷ []
 
--- the 64 bytes that sources of both versions have
-abbrev pub source_bytes : ℕ → GenericHardwareSource → List ℕ
-source_bytes kind s = record_of
-    (word kind  -- 0: Type
-    ∷ word s.source_id  -- 2: Source Id
-    ∷ word 0xffff  -- 4: Related Source Id
-    ∷ byte 0  -- 6: Flags
-    ∷ byte (enabled_number s.enabled)  -- 7: Enabled
-    ∷ dword s.num_records  -- 8: Number of Records to Pre-allocate
-    ∷ dword s.max_sections  -- 12: Max Sections Per Record
-    ∷ dword s.max_raw_length  -- 16: Max Raw Data Length
-    ∷ gas_bytes s.error_status_address  -- 20: Error Status Address
-    ∷ notification_bytes s.notification  -- 32: Notification Structure
-    ∷ dword s.error_status_block_len  -- 60: Error Status Block Length
-    ∷ [])
+  abbrev pub generic_head : ℕ → Generic T N → List ℕ
+  generic_head kind s = fields_joined (generic_head_fields kind s)
 
-abbrev pub hardware_source_bytes : GenericHardwareSource → List ℕ
-hardware_source_bytes s = source_bytes 9 s
+  abbrev pub generic_bytes : ℕ → (T → List NamedField) → Generic T N → List ℕ
+  generic_bytes kind tail_fields s = generic_head kind s ++ fields_joined (tail_fields s.tail)
 
-abbrev pub hardware_source_2_bytes : GenericHardwareSourceV2 → List ℕ
-hardware_source_2_bytes s = record_of
-    (source_bytes 10 s.source  -- 0
-    ∷ gas_bytes s.read_ack_register  -- 64: Read Ack Register
-    ∷ qword s.read_ack_preserve  -- 76: Read Ack Preserve
-    ∷ qword s.read_ack_write  -- 84: Read Ack Write
-    ∷ [])
+-- ---- tails
+
+abbrev pub zero_unacknowledged : Unacknowledged
+zero_unacknowledged = record {}
+
+abbrev pub unacknowledged_fields : Unacknowledged → List NamedField
+unacknowledged_fields t = []
+
+abbrev pub zero_acknowledged : Acknowledged
+zero_acknowledged = record { read_ack_register = no_register; read_ack_preserve = 0; read_ack_write = 0 }
+
+abbrev pub acknowledged_fields : Acknowledged → List NamedField
+acknowledged_fields t =
+    bytes "Read Ack Register" 12 (gas_bytes t.read_ack_register)  -- 64
+    ∷ qword "Read Ack Preserve" t.read_ack_preserve  -- 76
+    ∷ qword "Read Ack Write" t.read_ack_write  -- 84
+    ∷ []

@@ -1,6 +1,6 @@
 -- Resources of RQSC (this project's profile).
 use Rattle.std.specs.Prelude.{◌≡◌, ℕ, ◌+◌, List, [], ◌∷◌, ◌++◌, length}
-use Rattle.acpi_base.specs.Layout.{byte, word, dword, qword, zeros, record_of}
+use Rattle.acpi_base.specs.Fields.{NamedField, byte, word, dword, qword, reserved, fields_joined}
 use Rattle.acpi_hest.specs.declared.rqsc.resource.ResourceType.{ResourceType}
 use Rattle.acpi_hest.specs.declared.rqsc.resource.ResourceType.TheVariants as types
 use Rattle.acpi_hest.specs.declared.rqsc.resource.CacheResource.{CacheResource}
@@ -8,7 +8,7 @@ use Rattle.acpi_hest.specs.declared.rqsc.resource.MemoryAffinityStructureResourc
 use Rattle.acpi_hest.specs.declared.rqsc.resource.ACPIDeviceResource.{ACPIDeviceResource}
 use Rattle.acpi_hest.specs.declared.rqsc.resource.PCIDeviceResource.{PCIDeviceResource}
 use Rattle.acpi_hest.specs.declared.rqsc.resource.ResourceID.{ResourceID}
-use Rattle.acpi_hest.specs.declared.rqsc.resource.ResourceID.TheVariants.{Cache, MemoryAffinityStructure, ACPIDevice, PCIDevice, VendorSpecific}
+use Rattle.acpi_hest.specs.declared.rqsc.resource.ResourceID.TheVariants as ids
 use Rattle.acpi_hest.specs.declared.rqsc.resource.ResourceStructure.{ResourceStructure}
 
 -- ---- payloads: Resource ID 1 and 2, and what is specific to the resource
@@ -16,56 +16,68 @@ use Rattle.acpi_hest.specs.declared.rqsc.resource.ResourceStructure.{ResourceStr
 abbrev pub cache_resource : ℕ → CacheResource
 cache_resource cache_id = record { cache_id = cache_id }
 
+abbrev pub cache_fields : CacheResource → List NamedField
+cache_fields r =
+    dword "Cache ID" r.cache_id  -- 0: that of PPTT
+    ∷ reserved 8  -- 4
+    ∷ []
+
 abbrev pub cache_bytes : CacheResource → List ℕ
-cache_bytes r = record_of
-    (dword r.cache_id  -- 0: Cache ID of PPTT
-    ∷ zeros 8  -- 4: reserved
-    ∷ [])
+cache_bytes r = fields_joined (cache_fields r)
 
 abbrev pub memory_resource : ℕ → ℕ → MemoryAffinityStructureResource
 memory_resource domain bandwidth = record { proximity_domain = domain; raw_bandwidth_per_block = bandwidth }
 
+abbrev pub memory_fields : MemoryAffinityStructureResource → List NamedField
+memory_fields r =
+    dword "Proximity Domain" r.proximity_domain  -- 0: that of SRAT
+    ∷ reserved 8  -- 4
+    ∷ qword "Raw Bandwidth per Block" r.raw_bandwidth_per_block  -- 12: bytes a second
+    ∷ []
+
 abbrev pub memory_bytes : MemoryAffinityStructureResource → List ℕ
-memory_bytes r = record_of
-    (dword r.proximity_domain  -- 0: Proximity Domain of SRAT
-    ∷ zeros 8  -- 4: reserved
-    ∷ qword r.raw_bandwidth_per_block  -- 12: bytes a second of a bandwidth block
-    ∷ [])
+memory_bytes r = fields_joined (memory_fields r)
 
 abbrev pub acpi_resource : ℕ → ℕ → ACPIDeviceResource
 acpi_resource hid uid = record { acpi_hardware_id = hid; acpi_unique_id = uid }
 
+abbrev pub acpi_fields : ACPIDeviceResource → List NamedField
+acpi_fields r =
+    qword "ACPI Hardware ID" r.acpi_hardware_id  -- 0: _HID
+    ∷ dword "ACPI Unique ID" r.acpi_unique_id  -- 8: _UID
+    ∷ []
+
 abbrev pub acpi_bytes : ACPIDeviceResource → List ℕ
-acpi_bytes r = record_of
-    (qword r.acpi_hardware_id  -- 0: _HID
-    ∷ dword r.acpi_unique_id  -- 8: _UID
-    ∷ [])
+acpi_bytes r = fields_joined (acpi_fields r)
 
 abbrev pub pci_resource : ℕ → PCIDeviceResource
 pci_resource bdf = record { bdf = bdf }
 
+abbrev pub pci_fields : PCIDeviceResource → List NamedField
+pci_fields r =
+    dword "Segment and BDF" r.bdf  -- 0: segment, bus, device and function
+    ∷ reserved 8  -- 4
+    ∷ []
+
 abbrev pub pci_bytes : PCIDeviceResource → List ℕ
-pci_bytes r = record_of
-    (dword r.bdf  -- 0: segment, bus, device and function
-    ∷ zeros 8  -- 4: reserved
-    ∷ [])
+pci_bytes r = fields_joined (pci_fields r)
 
 -- ---- ids
 
 -- Resource ID Type
 abbrev pub id_number : ResourceID → ℕ
-id_number (Cache r) = 0
-id_number (MemoryAffinityStructure r) = 1
-id_number (ACPIDevice r) = 2
-id_number (PCIDevice r) = 3
-id_number (VendorSpecific kind bytes) = kind
+id_number (ids.Cache r) = 0
+id_number (ids.MemoryAffinityStructure r) = 1
+id_number (ids.ACPIDevice r) = 2
+id_number (ids.PCIDevice r) = 3
+id_number (ids.VendorSpecific kind bytes) = kind
 
 abbrev pub payload : ResourceID → List ℕ
-payload (Cache r) = cache_bytes r
-payload (MemoryAffinityStructure r) = memory_bytes r
-payload (ACPIDevice r) = acpi_bytes r
-payload (PCIDevice r) = pci_bytes r
-payload (VendorSpecific kind bytes) = bytes.items
+payload (ids.Cache r) = cache_bytes r
+payload (ids.MemoryAffinityStructure r) = memory_bytes r
+payload (ids.ACPIDevice r) = acpi_bytes r
+payload (ids.PCIDevice r) = pci_bytes r
+payload (ids.VendorSpecific kind bytes) = bytes.items
 
 -- an id by itself
 abbrev pub id_bytes : ResourceID → List ℕ
@@ -73,7 +85,7 @@ id_bytes id = id_number id ∷ payload id
 
 -- the same id; of a vendor's the bytes are the same, wherever they lie
 abbrev pub same_id : ResourceID → ResourceID → Type 0
-same_id (VendorSpecific kind bytes) (VendorSpecific other others) = (kind ≡ other) × (bytes.items ≡ others.items)
+same_id (ids.VendorSpecific kind bytes) (ids.VendorSpecific other others) = (kind ≡ other) × (bytes.items ≡ others.items)
 same_id a b = a ≡ b
 
 -- ---- resources
@@ -85,15 +97,18 @@ type_number types.Memory = 1
 abbrev pub resource : ResourceType → ℕ → ResourceID → ResourceStructure
 resource kind flags id = record { kind = kind; flags = flags; id = id }
 
+abbrev pub resource_head_fields : ResourceStructure → List NamedField
+resource_head_fields r =
+    byte "Resource Type" (type_number r.kind)  -- 0
+    ∷ reserved 1  -- 1
+    ∷ word "Length" (8 + length (payload r.id))  -- 2
+    ∷ word "Resource Flags" r.flags  -- 4
+    ∷ reserved 1  -- 6
+    ∷ byte "Resource ID Type" (id_number r.id)  -- 7
+    ∷ []
+
 abbrev pub resource_head : ResourceStructure → List ℕ
-resource_head r = record_of
-    (byte (type_number r.kind)  -- 0: Resource Type
-    ∷ byte 0  -- 1: reserved
-    ∷ word (8 + length (payload r.id))  -- 2: Length
-    ∷ word r.flags  -- 4: Resource Flags
-    ∷ byte 0  -- 6: reserved
-    ∷ byte (id_number r.id)  -- 7: Resource ID Type
-    ∷ [])
+resource_head r = fields_joined (resource_head_fields r)
 
 abbrev pub resource_bytes : ResourceStructure → List ℕ
 resource_bytes r = resource_head r ++ payload r.id  -- 8: Resource ID 1

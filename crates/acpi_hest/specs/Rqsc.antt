@@ -1,10 +1,10 @@
 -- The RISC-V Quality of Service Controller table (this project's profile).
 use Rattle.std.specs.Prelude.{ℕ, ◌+◌, ◌*◌, ◌^◌, ◌≤◌, nat_lt, Bool, List, [], ◌∷◌, ◌++◌, length, codes}
 use Rattle.acpi_base.specs.Gas.{gas_bytes}
-use Rattle.acpi_base.specs.Layout.{byte, word, dword, record_of}
+use Rattle.acpi_base.specs.Fields.{NamedField, byte, word, dword, bytes, reserved, fields_joined}
 use Rattle.acpi_base.specs.declared.gas.GAS.{GAS}
 use Rattle.acpi_base.specs.declared.oem.Oem.{Oem}
-use Rattle.acpi_core.specs.Listing.{Listing}
+use Rattle.acpi_core.specs.Listing.{Listing, length_limit}
 use Rattle.acpi_hest.specs.declared.rqsc.ControllerType.{ControllerType}
 use Rattle.acpi_hest.specs.declared.rqsc.ControllerType.TheVariants.{Capacity, Bandwidth}
 use Rattle.acpi_hest.specs.declared.rqsc.resource.ResourceStructure.{ResourceStructure}
@@ -19,7 +19,7 @@ rqsc oem = record {
   before = [];
   count_width = 4;
   after = [];
-  limit = 2 ^ 32;
+  limit = length_limit;
   structures = [];
 }
 
@@ -53,17 +53,20 @@ controller kind register rcid_count mcid_count flags = record {
   resources = [];
 }
 
+abbrev pub controller_head_fields : Controller → List NamedField
+controller_head_fields q =
+    byte "Controller Type" q.kind  -- 0
+    ∷ reserved 1  -- 1
+    ∷ word "Length" (28 + length q.resources)  -- 2
+    ∷ bytes "Register Interface Address" 12 (gas_bytes q.register)  -- 4
+    ∷ dword "RCID Count" q.rcid_count  -- 16
+    ∷ dword "MCID Count" q.mcid_count  -- 20
+    ∷ word "Controller Flags" q.flags  -- 24
+    ∷ word "Number of Resources" q.count  -- 26
+    ∷ []
+
 abbrev pub controller_head : Controller → List ℕ
-controller_head q = record_of
-    (byte q.kind  -- 0: Controller Type
-    ∷ byte 0  -- 1: reserved
-    ∷ word (28 + length q.resources)  -- 2: Length
-    ∷ gas_bytes q.register  -- 4: Register Interface Address
-    ∷ dword q.rcid_count  -- 16: RCID Count
-    ∷ dword q.mcid_count  -- 20: MCID Count
-    ∷ word q.flags  -- 24: Controller Flags
-    ∷ word q.count  -- 26: Number of Resources
-    ∷ [])
+controller_head q = fields_joined (controller_head_fields q)
 
 abbrev pub controller_bytes : Controller → List ℕ
 controller_bytes q = controller_head q ++ q.resources  -- 28: Resource Structures

@@ -1,6 +1,6 @@
 -- Generic Error Status Blocks (ACPI 6.5, 18.3.2.7.1).
 use Rattle.std.specs.Prelude.{ℕ, ◌+◌, ◌==◌, if◌then◌else◌, List, [], ◌∷◌}
-use Rattle.acpi_base.specs.Layout.{dword, zeros, record_of}
+use Rattle.acpi_base.specs.Fields.{NamedField, dword, fields_joined}
 use Rattle.acpi_hest.specs.declared.hest.status.ErrorSeverity.{ErrorSeverity}
 use Rattle.acpi_hest.specs.declared.hest.status.ErrorSeverity.TheVariants.{Recoverable, Fatal, Correctable, None}
 use Rattle.acpi_hest.specs.declared.hest.status.GenericErrorStatus.{GenericErrorStatus}
@@ -17,11 +17,19 @@ status_of count one several = if count == 0 then 0 else (if count == 1 then one 
 
 -- one uncorrectable error is told by 1, one correctable by 2, several uncorrectable by 4 and several correctable by 8
 abbrev pub error_status : ℕ → ℕ → ErrorSeverity → GenericErrorStatus
-error_status correctable uncorrectable severity = record { status = status_of correctable 2 8 + status_of uncorrectable 1 4; severity = severity }
+error_status correctable uncorrectable severity = record {
+  status = status_of correctable 2 8 + status_of uncorrectable 1 4;
+  severity = severity;
+}
+
+abbrev pub error_status_fields : GenericErrorStatus → List NamedField
+error_status_fields s =
+    dword "Block Status" s.status  -- 0
+    ∷ dword "Raw Data Offset" 0  -- 4
+    ∷ dword "Raw Data Length" 0  -- 8
+    ∷ dword "Data Length" 0  -- 12
+    ∷ dword "Error Severity" (severity_number s.severity)  -- 16
+    ∷ []
 
 abbrev pub error_status_bytes : GenericErrorStatus → List ℕ
-error_status_bytes s = record_of
-    (dword s.status  -- 0: Block Status
-    ∷ zeros 12  -- 4: Raw Data Offset; 8: Raw Data Length; 12: Data Length
-    ∷ dword (severity_number s.severity)  -- 16: Error Severity
-    ∷ [])
+error_status_bytes s = fields_joined (error_status_fields s)

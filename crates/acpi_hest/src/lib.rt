@@ -2,5 +2,12 @@
 #![tactic(auto)]
 
 pub mod hest;
-pub mod laws;
+pub mod list_table;
+mod parts;
 pub mod rqsc;
+
+/// Laws of the tables. Each function is a law: it does nothing, and ensures it.
+pub mod laws {
+    pub use crate::hest::{hest_is_walked, hest_sources_are_pieces};
+    pub use crate::rqsc::rqsc_is_walked;
+}

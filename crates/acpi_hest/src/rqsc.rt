@@ -1,88 +1,68 @@
 //! RQSC: controllers that share caches and memory bandwidth out.
 
-ghost use Rattle.std.specs.Prelude.{◌≡◌, ◌≢◌, ◌+◌, ◌++◌, length, true, false, IfOk, OnOk, OnErr, IfErr};
+ghost use Rattle.std.proofs.Common.{rules};
+ghost use Rattle.std.specs.Prelude.{◌≡◌, ◌≢◌, length, true, false, IfOk, OnOk, OnErr, IfErr};
+ghost use Rattle.acpi_base.specs.Fields.{AreRowsOf};
 ghost use Rattle.acpi_base.specs.Object.{whole, whole_ends_well};
 ghost use Rattle.acpi_base.specs.Walk.{rqsc_walk};
 ghost use Rattle.acpi_core.specs.Addition.{Adds};
-ghost use Rattle.acpi_core.specs.Listing.{bytes_of};
+ghost use Rattle.acpi_core.specs.Listing.{length_limit};
 ghost use Rattle.acpi_core.specs.Walk.{IsWalked};
-ghost use Rattle.acpi_hest.specs.Resource.{resource_bytes};
-ghost use Rattle.acpi_hest.specs.Rqsc.{rqsc, controller, controller_head, controller_bytes, with_resource, has_room_for};
+ghost use Rattle.acpi_hest.specs.Rqsc.{rqsc, Controller, controller, controller_head_fields, controller_head};
+ghost use Rattle.acpi_hest.specs.Rqsc.{controller_bytes, with_resource, has_room_for};
 
 mod resource;
 
+use crate::list_table::{ListTable, tables_are_walked};
+use crate::parts::write_behind;
 use acpi_base::buffer::append_value;
 use acpi_base::error::{Error, R};
 use acpi_base::gas::GAS;
 use acpi_base::object::Aml;
 use acpi_base::oem::Oem;
-use acpi_base::parts::write_parts;
-use acpi_base::record::{Field, record};
+use acpi_base::row::{Row, Value, record_of};
 use acpi_base::sink::AmlSink;
 use acpi_core::form::Form;
+use acpi_core::kind::{Kind, Plain};
 use acpi_core::table::Table;
 pub use resource::{
     ACPIDeviceResource, CacheResource, MemoryAffinityStructureResource, PCIDeviceResource,
-    ResourceID, ResourceStructure, ResourceType,
+    ResourceID, ResourceStructure, ResourceType, resource_rows,
 };
 use std::alloc::Global;
 use std::marker::Model;
 
 /// The RISC-V Quality of Service Controller table (this project's profile): controllers from offset 40 on, and their number
 /// at offset 36.
-#[derive(Drop)]
-pub struct RQSC {
-    table: Table<40>,
+pub type RQSC = ListTable<RqscKind, 40>;
+
+/// The kind of RQSC.
+pub struct RqscKind;
+
+impl Kind<40> for RqscKind {
+    ghost walk = { rqsc_walk };
+
+    ghost limit = { length_limit };
+
+    ghost closed = { true };
 }
 
-impl Model for RQSC {
-    ghost use Rattle.acpi_base.specs.Walk.{rqsc_walk};
-    ghost use Rattle.acpi_core.specs.Addition.{Counted};
-    ghost use Rattle.acpi_core.specs.Walk.{Keeps};
+impl Plain<40> for RqscKind {
+    ghost empty = { rqsc };
 
-    ghost Value = { Counted };
-
-    ghost view = { λ t. t.table };
-
-    ghost invariant = { λ t. Keeps rqsc_walk t.table.table };
-}
-
-impl Aml for RQSC {
-    ghost object = { λ t. whole (bytes_of t.table) };
-
-    ghost ends_well = { λ t. whole_ends_well (bytes_of t.table) };
-
-    fn to_aml_bytes(&self, sink: &mut dyn AmlSink) -> R<()> {
-        self.table.to_aml_bytes(sink)
+    fn table(alloc: Global, oem: Oem) -> Table<40> {
+        Table::new(alloc, Form::new(*b"RQSC", 1, oem, 4), &[], &[])
     }
+
+    ghost are_empty = { Prim.search rules };
 }
 
 impl RQSC {
-    /// A table without controllers.
-    pub fn new(alloc: Global, oem_id: [u8; 6], oem_table_id: [u8; 8], oem_revision: u32) -> RQSC
-        ensures { result.table ≡ rqsc (record { id = oem_id; table_id = oem_table_id; revision = oem_revision }) }
-    {
-        let form = Form {
-            signature: *b"RQSC",
-            revision: 1,
-            oem: Oem {
-                id: oem_id,
-                table_id: oem_table_id,
-                revision: oem_revision,
-            },
-            count_width: 4,
-            limit: 0x1_0000_0000,
-        };
-        RQSC {
-            table: Table::new(alloc, form, &[], &[]),
-        }
-    }
-
     /// Adds a controller. FieldWidth where the length would reach 2^32.
     pub fn add_controller(&mut self, controller: QoSController) -> R<()>
         ensures { Adds result self.old (whole (controller_bytes controller)) self.new }
     {
-        self.table.add_object(&controller)
+        self.add_object(&controller)
     }
 }
 
@@ -90,7 +70,7 @@ impl RQSC {
 pub fn rqsc_is_walked(table: &RQSC)
     ensures { IsWalked rqsc_walk table.now.table }
 {
-    let _ = &table.table;
+    tables_are_walked(table)
 }
 
 /// What a controller shares out (offset 0).
@@ -117,7 +97,15 @@ impl Model for QoSController {
 
     ghost Value = { Controller };
 
-    ghost view = { λ q. record { kind = q.kind; register = q.register; rcid_count = q.rcid_count; mcid_count = q.mcid_count; flags = q.flags; count = q.count; resources = q.resources.items } };
+    ghost view = { λ q. record {
+      kind = q.kind;
+      register = q.register;
+      rcid_count = q.rcid_count;
+      mcid_count = q.mcid_count;
+      flags = q.flags;
+      count = q.count;
+      resources = q.resources.items;
+    } };
 
     ghost invariant = { λ q. IsController q.count q.resources.items };
 }
@@ -188,21 +176,49 @@ impl QoSController {
         })
     }
 
+    // The resources' bytes.
+    fn resources(&self) -> &[u8]
+        ensures { result.now ≡ self.now.resources }
+    {
+        &self.resources
+    }
+
     // The controller's bytes before its resources.
     fn head(&self) -> [u8; 28]
         ensures { result ≡ controller_head self.now }
     {
-        record(&[
-            Field::Byte(self.kind),
-            Field::Byte(0),
-            Field::Word(28 + self.resources.len() as u16),
-            Field::Bytes(&self.register.bytes()),
-            Field::DWord(self.rcid_count),
-            Field::DWord(self.mcid_count),
-            Field::Word(self.flags),
-            Field::Word(self.count),
-        ])
+        record_of(
+            &CONTROLLER,
+            &[
+                Value::Number(u64::from(self.kind)),
+                Value::Number(0),
+                Value::Number(28 + self.resources.len() as u64),
+                Value::Bytes(&self.register.bytes()),
+                Value::Number(u64::from(self.rcid_count)),
+                Value::Number(u64::from(self.mcid_count)),
+                Value::Number(u64::from(self.flags)),
+                Value::Number(u64::from(self.count)),
+            ],
+        )
     }
+}
+
+const CONTROLLER: [Row; 8] = [
+    Row::Number("Controller Type", 1),
+    Row::Reserved(1),
+    Row::Number("Length", 2),
+    Row::Bytes("Register Interface Address", 12),
+    Row::Number("RCID Count", 4),
+    Row::Number("MCID Count", 4),
+    Row::Number("Controller Flags", 2),
+    Row::Number("Number of Resources", 2),
+];
+
+/// The names and widths of a controller's fields before its resources, in order.
+pub fn controller_rows() -> &'static [Row]
+    ensures { (q : Controller) → AreRowsOf result.now (controller_head_fields q) }
+{
+    &CONTROLLER
 }
 
 impl Aml for QoSController {
@@ -211,6 +227,6 @@ impl Aml for QoSController {
     ghost ends_well = { λ q. whole_ends_well (controller_bytes q) };
 
     fn to_aml_bytes(&self, sink: &mut dyn AmlSink) -> R<()> {
-        write_parts(sink, &[&self.head(), &self.resources])
+        write_behind(&self.head(), self.resources(), sink)
     }
 }

@@ -7,7 +7,7 @@ use Rattle.acpi_base.specs.declared.error.Error.{Error}
 use Rattle.acpi_base.specs.declared.error.Error.TheVariants.{Memory, FieldWidth}
 use Rattle.acpi_base.specs.declared.oem.Oem.{Oem}
 use Rattle.acpi_base.specs.Bytes.{le, complement}
-use Rattle.acpi_base.specs.Layout.{byte, dword, zeros, record_of}
+use Rattle.acpi_base.specs.Fields.{NamedField, byte, dword, bytes, reserved, fields_joined}
 use Rattle.acpi_base.specs.Object.{Object, whole, all_of, Appended, IsOwnEnd}
 use Rattle.acpi_base.specs.Table.{with_checksum}
 use Rattle.acpi_base.proofs.Lists.{all_of_push, end_at, taken, parted}
@@ -55,12 +55,22 @@ memory_end e o is = record { cause = λ other. absurd (other is) }
 pub fadt_same : (facs d k : ℕ) (fadt : FADTBuilder) → le 8 d ≡ le 8 k → fadt_bytes (pointing facs d fadt) ≡ fadt_bytes (pointing facs k fadt)
 fadt_same facs d k fadt same =
     let f = pointing facs d fadt in
-    ap (λ (q : List ℕ). with_checksum (record_of (header_fields f ++ (legacy_fields f ++ (take 5 (extended_fields f) ++ (q ∷ drop 6 (extended_fields f))))))) same
+    let rest : List ℕ → List NamedField = λ q. legacy_fields f ++ (take 5 (extended_fields f) ++ (bytes "X_DSDT" 8 q ∷ drop 6 (extended_fields f))) in
+    ap (λ (q : List ℕ). with_checksum (fields_joined (header_fields f) ++ fields_joined (rest q))) same
 
 -- the bytes of an RSDP, by those of the address
 pointer_with : List ℕ → List ℕ → ℕ → ℕ → List ℕ
-pointer_with id q first both =
-    record_of (codes "RSD PTR " ∷ byte first ∷ id ∷ byte 2 ∷ dword 0 ∷ dword 36 ∷ q ∷ byte both ∷ zeros 3 ∷ [])
+pointer_with id q first both = fields_joined
+    (bytes "Signature" 8 (codes "RSD PTR ")
+    ∷ byte "Checksum" first
+    ∷ bytes "OEMID" 6 id
+    ∷ byte "Revision" 2
+    ∷ dword "RsdtAddress" 0
+    ∷ dword "Length" 36
+    ∷ bytes "XsdtAddress" 8 q
+    ∷ byte "Extended Checksum" both
+    ∷ reserved 3
+    ∷ [])
 
 first_of : List ℕ → List ℕ → ℕ
 first_of id q = complement (sum (take 20 (pointer_with id q 0 0)))

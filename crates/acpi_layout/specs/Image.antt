@@ -1,6 +1,7 @@
 -- The image of a guest's tables: all bytes from one address on. Counted from there, a place is a multiple of 8 or 16
 -- exactly where its address is, since the address is a multiple of 64.
-use Rattle.std.specs.Prelude.{◌≡◌, ◌+◌, ◌-◌, ◌*◌, ◌%◌, ◌^◌, ℕ, List, [], ◌∷◌, ◌++◌, length, map, nat_lt, ◌&&◌, Bool, if◌then◌else◌, Option, Some, None}
+use Rattle.std.specs.Prelude.{◌≡◌, ◌+◌, ◌-◌, ◌*◌, ◌%◌, ◌^◌, ℕ, List, [], ◌∷◌, ◌++◌, length, map, nat_lt, ◌&&◌, Bool}
+use Rattle.std.specs.Prelude.{if◌then◌else◌, Option, Some, None}
 use Rattle.acpi_base.specs.declared.error.Error.{Error}
 use Rattle.acpi_base.specs.declared.error.Error.TheVariants.{FieldWidth}
 use Rattle.acpi_base.specs.declared.oem.Oem.{Oem}

@@ -18,13 +18,15 @@ pub record Standing : Type 0 where
 abbrev pub Stand : ℕ → List Standing → List ℕ → Type 0
 Stand from [] bytes = bytes ≡ []
 Stand from (s ∷ more) bytes =
-    (gap : ℕ) × (rest : List ℕ) × (from + gap ≡ s.address) × (bytes ≡ zeros gap ++ (s.bytes ++ rest)) × Stand (s.address + length s.bytes) more rest
+    (gap : ℕ) × (rest : List ℕ) × (from + gap ≡ s.address) × (bytes ≡ zeros gap ++ (s.bytes ++ rest))
+    × Stand (s.address + length s.bytes) more rest
 
 -- tables at places that are counted from base
 abbrev pub standing_at : ℕ → List ℕ → List (List ℕ) → List Standing
 standing_at base [] tables = []
 standing_at base (place ∷ places) [] = []
-standing_at base (place ∷ places) (table ∷ tables) = record { address = base + place; bytes = table } ∷ standing_at base places tables
+standing_at base (place ∷ places) (table ∷ tables) = record { address = base + place; bytes = table }
+    ∷ standing_at base places tables
 
 -- where the XSDT is
 abbrev pub xsdt_address : ℕ → Laid → ℕ
@@ -32,12 +34,16 @@ xsdt_address base laid = base + length (padded 8 laid.bytes)
 
 -- The RSDP at its address points to the XSDT, whose entries are the addresses of the FADT and then of the tables in order. The
 -- FADT points to the FACS and the DSDT. All of them stand there, and no two overlap.
-pub record Stands (base : ℕ) (oem : Oem) (facs dsdt : List ℕ) (fadt : FADTBuilder) (tables : List (List ℕ)) (laid : Laid) : Type 0 where
+pub record Stands (base : ℕ) (oem : Oem) (facs dsdt : List ℕ) (fadt : FADTBuilder) (tables : List (List ℕ))
+    (laid : Laid) : Type 0 where
   pub all : Stand base
       (record { address = base; bytes = facs } ∷ record { address = base + length facs; bytes = dsdt }
       ∷ (standing_at base laid.places (fadt_bytes (pointing base (base + length facs) fadt) ∷ tables)
       ++ (record { address = xsdt_address base laid; bytes = bytes_of (listing base oem laid.places) }
-      ∷ record { address = (image base oem facs dsdt fadt tables).rsdp; bytes = rsdp_bytes (rsdp_for oem.id (xsdt_address base laid)) } ∷ [])))
+      ∷ record {
+        address = (image base oem facs dsdt fadt tables).rsdp;
+        bytes = rsdp_bytes (rsdp_for oem.id (xsdt_address base laid));
+      } ∷ [])))
       (image base oem facs dsdt fadt tables).bytes
   pub listed : length laid.places ≡ 1 + length tables
 

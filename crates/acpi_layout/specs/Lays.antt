@@ -14,7 +14,8 @@ shown made = record { bytes = made.bytes.items; rsdp = made.rsdp }
 
 -- The image, where all tables are whole and there is place for it. Else there is none, and the refusal is that of the first
 -- table that isn't whole, else FieldWidth. Or memory ran out.
-pub record Lays (result : Result Image Error) (base : ℕ) (oem : Oem) (facs dsdt : List ℕ) (fadt : FADTBuilder) (tables : List Object) : Type 0 where
+pub record Lays (result : Result Image Error) (base : ℕ) (oem : Oem) (facs dsdt : List ℕ) (fadt : FADTBuilder)
+    (tables : List Object) : Type 0 where
   pub ok : IfOk result (λ made. shown made ≡ image base oem facs dsdt fadt (fronts tables))
   pub accepted : OnOk result (image_end base oem facs dsdt fadt tables ≡ None)
   pub cause : IfErr result (λ e. e ≢ Memory → image_end base oem facs dsdt fadt tables ≡ Some e)

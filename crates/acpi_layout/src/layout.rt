@@ -64,7 +64,8 @@ fn list(alloc: Global, base: u64, oem: Oem, places: &[u64]) -> R<XSDT>
 
 // The XSDT and the RSDP behind the tables. Where the RSDP is.
 fn finish(alloc: Global, base: u64, oem: Oem, bytes: &mut Vec<u8>, places: &[u64]) -> R<u64>
-    ensures ok { OnOk result (bytes.new.items ≡ (with_pointer base oem (record { bytes = bytes.old.items; places = places.now })).bytes) }
+    ensures ok { OnOk result (bytes.new.items
+        ≡ (with_pointer base oem (record { bytes = bytes.old.items; places = places.now })).bytes) }
     ensures rsdp { IfOk result (λ rsdp. base + length bytes.new.items ≤ 2 ^ 64
         → rsdp ≡ (with_pointer base oem (record { bytes = bytes.old.items; places = places.now })).rsdp) }
     ensures some { OnOk result (1 ≤ length bytes.new.items) }
@@ -97,7 +98,8 @@ pub fn lay(
     tables: Vec<&dyn Aml>,
 ) -> R<Image>
     requires base { base % 64 ≡ 0 }
-    ensures { Lays result base (record { id = oem_id; table_id = oem_table_id; revision = oem_revision }) (facs_bytes facs.now) sdt.now.bytes fadt (map (λ table. object table.now) tables.entry.items) }
+    ensures { Lays result base (record { id = oem_id; table_id = oem_table_id; revision = oem_revision })
+        (facs_bytes facs.now) sdt.now.bytes fadt (map (λ table. object table.now) tables.entry.items) }
 {
     let alloc = *tables.allocator();
     let oem = Oem {

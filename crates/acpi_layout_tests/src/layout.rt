@@ -108,7 +108,9 @@ fn one_table(rt: HostRuntime) -> Result<(), Fail> {
             (235, &POINTERS),
             (
                 0x180,
-                b"MCFG\x3c\0\0\0\x01\xabFOOBARCAFEDEAD\xef\xbe\xad\xdeRVAT\0\0\0\x01\0\0\0\0\0\0\0\0\0\0\0\xb0\0\0\0\0\0\0\0\xff\0\0\0\0",
+                b"MCFG\x3c\0\0\0\x01\xabFOOBARCAFEDEAD\xef\xbe\xad\xdeRVAT\0\0\0\x01\
+                    \0\0\0\0\0\0\0\0\
+                    \0\0\0\xb0\0\0\0\0\0\0\0\xff\0\0\0\0",
             ),
             (
                 0x1c0,

@@ -1,16 +1,18 @@
 -- The CXL Early Discovery Table (CXL 3.0, 9.17.1, in this project's profile).
-use Rattle.std.specs.Prelude.{◌≢◌, ℕ, ◌+◌, ◌*◌, ◌^◌, ◌==◌, Bool, List, [], ◌∷◌, ◌++◌, length, codes, Some}
+use Rattle.std.specs.Prelude.{◌≢◌, ℕ, ◌+◌, ◌*◌, ◌==◌, Bool, List, [], ◌∷◌, ◌++◌, length, codes, Some}
 use Rattle.acpi_base.specs.declared.error.Error.TheVariants.{Memory, Targets}
-use Rattle.acpi_base.specs.Layout.{byte, word, dword, qword, zeros, record_of}
+use Rattle.acpi_base.specs.Fields.{NamedField, byte, word, dword, qword, reserved, fields_joined}
 use Rattle.acpi_base.specs.Object.{Object, whole, provided, provided_ends_well}
 use Rattle.acpi_base.specs.declared.oem.Oem.{Oem}
-use Rattle.acpi_core.specs.Listing.{Listing}
+use Rattle.acpi_core.specs.Listing.{Listing, length_limit}
 use Rattle.acpi_lists.specs.declared.cedt.CxlVersion.{CxlVersion}
 use Rattle.acpi_lists.specs.declared.cedt.CxlVersion.TheVariants.{Cxl1_1, Cxl2}
 use Rattle.acpi_lists.specs.declared.cedt.InterleaveArithmetic.{InterleaveArithmetic}
 use Rattle.acpi_lists.specs.declared.cedt.InterleaveArithmetic.TheVariants.{Modulo, ModuloXor}
 use Rattle.acpi_lists.specs.declared.cedt.InterleaveGranularity.{InterleaveGranularity}
-use Rattle.acpi_lists.specs.declared.cedt.InterleaveGranularity.TheVariants.{Granularity256b, Granularity512b, Granularity1kb, Granularity2kb, Granularity4kb, Granularity8kb, Granularity16kb}
+use Rattle.acpi_lists.specs.declared.cedt.InterleaveGranularity.TheVariants.{Granularity256b, Granularity512b, Granularity1kb}
+use Rattle.acpi_lists.specs.declared.cedt.InterleaveGranularity.TheVariants.{Granularity2kb, Granularity4kb, Granularity8kb}
+use Rattle.acpi_lists.specs.declared.cedt.InterleaveGranularity.TheVariants.{Granularity16kb}
 use Rattle.acpi_lists.specs.declared.cedt.InterleaveWays.{InterleaveWays}
 use Rattle.acpi_lists.specs.declared.cedt.InterleaveWays.TheVariants.{Ways1, Ways2, Ways4, Ways8, Ways16, Ways3, Ways6, Ways12}
 use Rattle.acpi_lists.specs.declared.cedt.ProtocolType.{ProtocolType}
@@ -27,7 +29,7 @@ cedt oem = record {
   before = [];
   count_width = 0;
   after = [];
-  limit = 2 ^ 32;
+  limit = length_limit;
   structures = [];
 }
 
@@ -45,17 +47,20 @@ registers_of Cxl2 = 0x10000
 abbrev pub host_bridge : ℕ → CxlVersion → ℕ → CxlHostBridge
 host_bridge uid version base = record { uid = uid; version = version; base = base }
 
+abbrev pub host_bridge_fields : CxlHostBridge → List NamedField
+host_bridge_fields b =
+    byte "Type" 0  -- 0
+    ∷ reserved 1  -- 1
+    ∷ word "Record Length" 32  -- 2
+    ∷ dword "UID" b.uid  -- 4
+    ∷ dword "CXL Version" (version_number b.version)  -- 8
+    ∷ reserved 4  -- 12
+    ∷ qword "Base" b.base  -- 16
+    ∷ qword "Length" (registers_of b.version)  -- 24
+    ∷ []
+
 abbrev pub host_bridge_bytes : CxlHostBridge → List ℕ
-host_bridge_bytes b = record_of
-    (byte 0  -- 0: Type
-    ∷ byte 0  -- 1: reserved
-    ∷ word 32  -- 2: Record Length
-    ∷ dword b.uid  -- 4: UID
-    ∷ dword (version_number b.version)  -- 8: CXL Version
-    ∷ zeros 4  -- 12: reserved
-    ∷ qword b.base  -- 16: Base
-    ∷ qword (registers_of b.version)  -- 24: Length
-    ∷ [])
+host_bridge_bytes b = fields_joined (host_bridge_fields b)
 
 -- ---- CXL Fixed Memory Window Structure
 
@@ -117,21 +122,24 @@ window base size arithmetic granularity ways qtg_id = record {
   targets = [];
 }
 
+abbrev pub window_head_fields : Window → List NamedField
+window_head_fields w =
+    byte "Type" 1  -- 0
+    ∷ reserved 1  -- 1
+    ∷ word "Record Length" (36 + length w.targets)  -- 2
+    ∷ reserved 4  -- 4
+    ∷ qword "Base HPA" w.base  -- 8
+    ∷ qword "Window Size" w.size  -- 16
+    ∷ byte "Encoded Number of Interleave Ways" (ways_number w.ways)  -- 24
+    ∷ byte "Interleave Arithmetic" (arithmetic_number w.arithmetic)  -- 25
+    ∷ reserved 2  -- 26
+    ∷ dword "Host Bridge Interleave Granularity" (granularity_number w.granularity)  -- 28
+    ∷ word "Window Restrictions" w.restrictions  -- 32
+    ∷ word "QTG ID" w.qtg_id  -- 34
+    ∷ []
+
 abbrev pub window_head : Window → List ℕ
-window_head w = record_of
-    (byte 1  -- 0: Type
-    ∷ byte 0  -- 1: reserved
-    ∷ word (36 + length w.targets)  -- 2: Record Length
-    ∷ zeros 4  -- 4: reserved
-    ∷ qword w.base  -- 8: Base HPA
-    ∷ qword w.size  -- 16: Window Size
-    ∷ byte (ways_number w.ways)  -- 24: Encoded Number of Interleave Ways
-    ∷ byte (arithmetic_number w.arithmetic)  -- 25: Interleave Arithmetic
-    ∷ zeros 2  -- 26: reserved
-    ∷ dword (granularity_number w.granularity)  -- 28: Host Bridge Interleave Granularity
-    ∷ word w.restrictions  -- 32: Window Restrictions
-    ∷ word w.qtg_id  -- 34: QTG ID
-    ∷ [])
+window_head w = fields_joined (window_head_fields w)
 
 abbrev pub window_bytes : Window → List ℕ
 window_bytes w = window_head w ++ w.targets  -- 36: Interleave Target List
@@ -157,15 +165,18 @@ pub record XorMaps : Type 0 where
 abbrev pub no_maps : InterleaveGranularity → XorMaps
 no_maps granularity = record { granularity = granularity; count = 0; maps = [] }
 
+abbrev pub maps_head_fields : XorMaps → List NamedField
+maps_head_fields x =
+    byte "Type" 2  -- 0
+    ∷ reserved 1  -- 1
+    ∷ word "Record Length" (8 + length x.maps)  -- 2
+    ∷ reserved 2  -- 4
+    ∷ byte "Host Bridge Interleave Granularity" (granularity_number x.granularity)  -- 6
+    ∷ byte "Number of Bitmap Entries" x.count  -- 7
+    ∷ []
+
 abbrev pub maps_head : XorMaps → List ℕ
-maps_head x = record_of
-    (byte 2  -- 0: Type
-    ∷ byte 0  -- 1: reserved
-    ∷ word (8 + length x.maps)  -- 2: Record Length
-    ∷ zeros 2  -- 4: reserved
-    ∷ byte (granularity_number x.granularity)  -- 6: Host Bridge Interleave Granularity
-    ∷ byte x.count  -- 7: Number of Bitmap Entries
-    ∷ [])
+maps_head x = fields_joined (maps_head_fields x)
 
 abbrev pub maps_bytes : XorMaps → List ℕ
 maps_bytes x = maps_head x ++ x.maps  -- 8: XORMAP List
@@ -177,15 +188,23 @@ protocol_number CxlIo = 0
 protocol_number CxlMem = 1
 
 abbrev pub port_association : ℕ → ℕ → ℕ → ℕ → ProtocolType → ℕ → PortAssociation
-port_association segment bus device function protocol base = record { segment = segment; bdf = bus * 256 + device * 8 + function; protocol = protocol; base = base }
+port_association segment bus device function protocol base = record {
+  segment = segment;
+  bdf = bus * 256 + device * 8 + function;
+  protocol = protocol;
+  base = base;
+}
+
+abbrev pub port_association_fields : PortAssociation → List NamedField
+port_association_fields p =
+    byte "Type" 3  -- 0
+    ∷ reserved 1  -- 1
+    ∷ word "Record Length" 17  -- 2
+    ∷ word "RCEC Segment Number" p.segment  -- 4
+    ∷ word "RCEC BDF" p.bdf  -- 6
+    ∷ byte "Protocol Type" (protocol_number p.protocol)  -- 8
+    ∷ qword "Base Address" p.base  -- 9
+    ∷ []
 
 abbrev pub port_association_bytes : PortAssociation → List ℕ
-port_association_bytes p = record_of
-    (byte 3  -- 0: Type
-    ∷ byte 0  -- 1: reserved
-    ∷ word 17  -- 2: Record Length
-    ∷ word p.segment  -- 4: RCEC Segment Number
-    ∷ word p.bdf  -- 6: RCEC BDF: bus, device and function
-    ∷ byte (protocol_number p.protocol)  -- 8: Protocol Type
-    ∷ qword p.base  -- 9: Base Address
-    ∷ [])
+port_association_bytes p = fields_joined (port_association_fields p)

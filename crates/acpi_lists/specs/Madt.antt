@@ -1,14 +1,13 @@
 -- The Multiple APIC Description Table (ACPI 6.5, 5.2.12).
-use Rattle.std.specs.Prelude.{◌≡◌, ℕ, ◌^◌, Bool, true, false, List, [], ◌∷◌, length, codes, Result, Err, OnOk, OnErr}
-use Rattle.acpi_base.specs.Layout.{dword, zeros, record_of}
+use Rattle.std.specs.Prelude.{◌≡◌, ℕ, Bool, true, false, List, [], ◌∷◌, length, codes, Result, Err, OnOk, OnErr}
+use Rattle.acpi_base.specs.Fields.{NamedField, dword, fields_joined}
 use Rattle.acpi_base.specs.Object.{whole}
 use Rattle.acpi_base.specs.Walk.{IsPiece, madt_walk}
 use Rattle.acpi_base.specs.declared.error.Error.{Error}
 use Rattle.acpi_base.specs.declared.error.Error.TheVariants.{ImsicSet}
 use Rattle.acpi_base.specs.declared.oem.Oem.{Oem}
 use Rattle.acpi_core.specs.Addition.{Counted, Adds}
-use Rattle.acpi_core.specs.Listing.{Listing, IsListing}
-use Rattle.acpi_core.specs.Walk.{IsWalkOf}
+use Rattle.acpi_core.specs.Listing.{Listing, length_limit}
 use Rattle.acpi_lists.specs.MadtArm.{gicc_bytes, gicd_bytes, gic_msi_bytes, gicr_bytes, gic_its_bytes}
 use Rattle.acpi_lists.specs.MadtRiscv.{rintc_bytes, imsic_bytes, aplic_bytes, plic_bytes}
 use Rattle.acpi_lists.specs.MadtX86.{processor_local_apic_bytes, io_apic_bytes}
@@ -31,19 +30,22 @@ abbrev pub controller_address : LocalInterruptController → ℕ
 controller_address Riscv = 0
 controller_address (Address address) = address
 
+abbrev pub madt_fields : LocalInterruptController → List NamedField
+madt_fields controller =
+    dword "Local Interrupt Controller Address" (controller_address controller)  -- 36
+    ∷ dword "Flags" 0  -- 40
+    ∷ []
+
 -- a table without structures
 abbrev pub madt : Oem → LocalInterruptController → Listing
 madt oem controller = record {
   signature = codes "APIC";
   revision = 1;
   oem = oem;
-  before = record_of
-      (dword (controller_address controller)  -- 36: Local Interrupt Controller Address
-      ∷ zeros 4  -- 40: Flags
-      ∷ []);
+  before = fields_joined (madt_fields controller);
   count_width = 0;
   after = [];
-  limit = 2 ^ 32;
+  limit = length_limit;
   structures = [];
 }
 
@@ -51,12 +53,6 @@ madt oem controller = record {
 pub record Controllers : Type 0 where
   pub counted : Counted
   pub has_imsic : Bool
-
--- What a table keeps, whatever its structures tell of their lengths: it is one, and its structures begin where the walk
--- does.
-pub record KeepsStart (t : Listing) : Type 0 where
-  pub is : IsListing t
-  pub walk : IsWalkOf madt_walk t
 
 -- The first IMSIC is added as any structure. Afterwards each is refused, and the table stays as it was.
 pub record AddsImsic (result : Result Unit Error) (old : Controllers) (imsic : List ℕ) (new : Controllers) : Type 0 where

@@ -1,6 +1,6 @@
 -- Interrupt controllers of Arm in MADT (ACPI 6.5, 5.2.12).
 use Rattle.std.specs.Prelude.{ℕ, List, [], ◌∷◌, bit_or}
-use Rattle.acpi_base.specs.Layout.{byte, word, dword, qword, zeros, record_of}
+use Rattle.acpi_base.specs.Fields.{NamedField, byte, word, dword, qword, reserved, fields_joined}
 use Rattle.acpi_lists.specs.declared.madt.EnabledStatus.{EnabledStatus}
 use Rattle.acpi_lists.specs.declared.madt.EnabledStatus.TheVariants.{Disabled, Enabled, DisabledOnlineCapable}
 use Rattle.acpi_lists.specs.declared.madt.arm.Trigger.{Trigger}
@@ -15,28 +15,31 @@ use Rattle.acpi_lists.specs.declared.madt.arm.GicIts.{GicIts}
 
 -- ---- GIC CPU Interface (5.2.12.14)
 
+abbrev pub gicc_fields : Gicc → List NamedField
+gicc_fields s =
+    byte "Type" 0x0b  -- 0
+    ∷ byte "Length" 82  -- 1
+    ∷ reserved 2  -- 2
+    ∷ dword "CPU Interface Number" s.cpu_interface_number  -- 4
+    ∷ dword "ACPI Processor UID" s.acpi_processor_uid  -- 8
+    ∷ dword "Flags" s.flags  -- 12
+    ∷ dword "Parking Protocol Version" s.parking_protocol_version  -- 16
+    ∷ dword "Performance Interrupt GSIV" s.performance_interrupt  -- 20
+    ∷ qword "Parked Address" s.parked_address  -- 24
+    ∷ qword "Physical Base Address" s.base_address  -- 32
+    ∷ qword "GICV" s.virtual_registers  -- 40
+    ∷ qword "GICH" s.control_block_registers  -- 48
+    ∷ dword "VGIC Maintenance Interrupt" s.maintenance_interrupt  -- 56
+    ∷ qword "GICR Base Address" s.redistributor_base  -- 60
+    ∷ qword "MPIDR" s.mpidr  -- 68
+    ∷ byte "Processor Power Efficiency Class" s.power_efficiency_class  -- 76
+    ∷ reserved 1  -- 77
+    ∷ word "SPE Overflow Interrupt" s.overflow_interrupt  -- 78
+    ∷ word "TRBE Interrupt" s.trbe_interrupt  -- 80
+    ∷ []
+
 abbrev pub gicc_bytes : Gicc → List ℕ
-gicc_bytes s = record_of
-    (byte 0x0b  -- 0: Type
-    ∷ byte 82  -- 1: Length
-    ∷ zeros 2  -- 2: reserved
-    ∷ dword s.cpu_interface_number  -- 4: CPU Interface Number
-    ∷ dword s.acpi_processor_uid  -- 8: ACPI Processor UID
-    ∷ dword s.flags  -- 12: Flags
-    ∷ dword s.parking_protocol_version  -- 16: Parking Protocol Version
-    ∷ dword s.performance_interrupt  -- 20: Performance Interrupt GSIV
-    ∷ qword s.parked_address  -- 24: Parked Address
-    ∷ qword s.base_address  -- 32: Physical Base Address
-    ∷ qword s.virtual_registers  -- 40: GICV
-    ∷ qword s.control_block_registers  -- 48: GICH
-    ∷ dword s.maintenance_interrupt  -- 56: VGIC Maintenance Interrupt
-    ∷ qword s.redistributor_base  -- 60: GICR Base Address
-    ∷ qword s.mpidr  -- 68: MPIDR
-    ∷ byte s.power_efficiency_class  -- 76: Processor Power Efficiency Class
-    ∷ zeros 1  -- 77: reserved
-    ∷ word s.overflow_interrupt  -- 78: SPE Overflow Interrupt
-    ∷ word s.trbe_interrupt  -- 80: TRBE Interrupt
-    ∷ [])
+gicc_bytes s = fields_joined (gicc_fields s)
 
 -- GICC CPU Interface Flags: Enabled at bit 0, Online Capable at bit 3
 abbrev pub gicc_flags : EnabledStatus → ℕ
@@ -87,17 +90,20 @@ version_number GICv2 = 0x02
 version_number GICv3 = 0x03
 version_number GICv4 = 0x04
 
+abbrev pub gicd_fields : Gicd → List NamedField
+gicd_fields s =
+    byte "Type" 0x0c  -- 0
+    ∷ byte "Length" 24  -- 1
+    ∷ reserved 2  -- 2
+    ∷ dword "GIC ID" s.gic_id  -- 4
+    ∷ qword "Physical Base Address" s.base_addr  -- 8
+    ∷ dword "System Vector Base" 0  -- 16
+    ∷ byte "GIC Version" (version_number s.version)  -- 20
+    ∷ reserved 3  -- 21
+    ∷ []
+
 abbrev pub gicd_bytes : Gicd → List ℕ
-gicd_bytes s = record_of
-    (byte 0x0c  -- 0: Type
-    ∷ byte 24  -- 1: Length
-    ∷ zeros 2  -- 2: reserved
-    ∷ dword s.gic_id  -- 4: GIC ID
-    ∷ qword s.base_addr  -- 8: Physical Base Address
-    ∷ zeros 4  -- 16: System Vector Base
-    ∷ byte (version_number s.version)  -- 20: GIC Version
-    ∷ zeros 3  -- 21: reserved
-    ∷ [])
+gicd_bytes s = fields_joined (gicd_fields s)
 
 abbrev pub gicd : ℕ → ℕ → GicVersion → Gicd
 gicd id address version = record {
@@ -108,17 +114,20 @@ gicd id address version = record {
 
 -- ---- GIC MSI Frame (5.2.12.16)
 
+abbrev pub gic_msi_fields : GicMsi → List NamedField
+gic_msi_fields s =
+    byte "Type" 0x0d  -- 0
+    ∷ byte "Length" 24  -- 1
+    ∷ reserved 2  -- 2
+    ∷ dword "GIC MSI Frame ID" s.gic_msi_frame_id  -- 4
+    ∷ qword "Physical Base Address" s.base_addr  -- 8
+    ∷ dword "Flags" s.flags  -- 16
+    ∷ word "SPI Count" s.spi_count  -- 20
+    ∷ word "SPI Base" s.spi_base  -- 22
+    ∷ []
+
 abbrev pub gic_msi_bytes : GicMsi → List ℕ
-gic_msi_bytes s = record_of
-    (byte 0x0d  -- 0: Type
-    ∷ byte 24  -- 1: Length
-    ∷ zeros 2  -- 2: reserved
-    ∷ dword s.gic_msi_frame_id  -- 4: GIC MSI Frame ID
-    ∷ qword s.base_addr  -- 8: Physical Base Address
-    ∷ dword s.flags  -- 16: Flags
-    ∷ word s.spi_count  -- 20: SPI Count
-    ∷ word s.spi_base  -- 22: SPI Base
-    ∷ [])
+gic_msi_bytes s = fields_joined (gic_msi_fields s)
 
 abbrev pub gic_msi : GicMsi
 gic_msi = record {
@@ -135,14 +144,17 @@ with_spis count base s = record s { spi_count = count; spi_base = base; flags = 
 
 -- ---- GIC Redistributor (5.2.12.17)
 
+abbrev pub gicr_fields : Gicr → List NamedField
+gicr_fields s =
+    byte "Type" 0x0e  -- 0
+    ∷ byte "Length" 16  -- 1
+    ∷ reserved 2  -- 2
+    ∷ qword "Discovery Range Base Address" s.discovery_range_base  -- 4
+    ∷ dword "Discovery Range Length" s.discovery_range_length  -- 12
+    ∷ []
+
 abbrev pub gicr_bytes : Gicr → List ℕ
-gicr_bytes s = record_of
-    (byte 0x0e  -- 0: Type
-    ∷ byte 16  -- 1: Length
-    ∷ zeros 2  -- 2: reserved
-    ∷ qword s.discovery_range_base  -- 4: Discovery Range Base Address
-    ∷ dword s.discovery_range_length  -- 12: Discovery Range Length
-    ∷ [])
+gicr_bytes s = fields_joined (gicr_fields s)
 
 abbrev pub gicr : ℕ → ℕ → Gicr
 gicr address size = record {
@@ -152,15 +164,18 @@ gicr address size = record {
 
 -- ---- GIC Interrupt Translation Service (5.2.12.18)
 
+abbrev pub gic_its_fields : GicIts → List NamedField
+gic_its_fields s =
+    byte "Type" 0x0f  -- 0
+    ∷ byte "Length" 20  -- 1
+    ∷ reserved 2  -- 2
+    ∷ dword "GIC ITS ID" s.gic_its_id  -- 4
+    ∷ qword "Physical Base Address" s.base_addr  -- 8
+    ∷ reserved 4  -- 16
+    ∷ []
+
 abbrev pub gic_its_bytes : GicIts → List ℕ
-gic_its_bytes s = record_of
-    (byte 0x0f  -- 0: Type
-    ∷ byte 20  -- 1: Length
-    ∷ zeros 2  -- 2: reserved
-    ∷ dword s.gic_its_id  -- 4: GIC ITS ID
-    ∷ qword s.base_addr  -- 8: Physical Base Address
-    ∷ zeros 4  -- 16: reserved
-    ∷ [])
+gic_its_bytes s = fields_joined (gic_its_fields s)
 
 abbrev pub gic_its : ℕ → ℕ → GicIts
 gic_its id address = record {

@@ -1,6 +1,6 @@
 -- Interrupt controllers of RISC-V in MADT.
 use Rattle.std.specs.Prelude.{ℕ, List, [], ◌∷◌}
-use Rattle.acpi_base.specs.Layout.{byte, word, dword, qword, zeros, record_of}
+use Rattle.acpi_base.specs.Fields.{NamedField, byte, word, dword, qword, bytes, reserved, fields_joined}
 use Rattle.acpi_lists.specs.declared.madt.riscv.HartStatus.{HartStatus}
 use Rattle.acpi_lists.specs.declared.madt.riscv.HartStatus.TheVariants.{Disabled, Enabled, OnlineCapable}
 use Rattle.acpi_lists.specs.declared.madt.riscv.RINTC.{RINTC}
@@ -16,19 +16,22 @@ hart_flags Disabled = 0x0
 hart_flags Enabled = 0x1
 hart_flags OnlineCapable = 0x2
 
+abbrev pub rintc_fields : RINTC → List NamedField
+rintc_fields s =
+    byte "Type" 0x18  -- 0
+    ∷ byte "Length" 36  -- 1
+    ∷ byte "Version" 1  -- 2
+    ∷ reserved 1  -- 3
+    ∷ dword "Flags" (hart_flags s.hart_status)  -- 4
+    ∷ qword "Hart ID" s.hart_id  -- 8
+    ∷ dword "ACPI Processor UID" s.acpi_processor_uid  -- 16
+    ∷ dword "External Interrupt Controller ID" s.ext_int_ctrl_id  -- 20
+    ∷ qword "IMSIC Base Address" s.imsic_base_addr  -- 24
+    ∷ dword "IMSIC Size" s.imsic_size  -- 32
+    ∷ []
+
 abbrev pub rintc_bytes : RINTC → List ℕ
-rintc_bytes s = record_of
-    (byte 0x18  -- 0: Type
-    ∷ byte 36  -- 1: Length
-    ∷ byte 1  -- 2: Version
-    ∷ zeros 1  -- 3: reserved
-    ∷ dword (hart_flags s.hart_status)  -- 4: Flags
-    ∷ qword s.hart_id  -- 8: Hart ID
-    ∷ dword s.acpi_processor_uid  -- 16: ACPI Processor UID
-    ∷ dword s.ext_int_ctrl_id  -- 20: External Interrupt Controller ID
-    ∷ qword s.imsic_base_addr  -- 24: IMSIC Base Address
-    ∷ dword s.imsic_size  -- 32: IMSIC Size
-    ∷ [])
+rintc_bytes s = fields_joined (rintc_fields s)
 
 abbrev pub rintc : HartStatus → ℕ → ℕ → ℕ → ℕ → ℕ → RINTC
 rintc status hart uid controller imsic_address imsic_size = record {
@@ -42,19 +45,22 @@ rintc status hart uid controller imsic_address imsic_size = record {
 
 -- ---- Incoming MSI Controller
 
+abbrev pub imsic_fields : IMSIC → List NamedField
+imsic_fields s =
+    byte "Type" 0x19  -- 0
+    ∷ byte "Length" 16  -- 1
+    ∷ byte "Version" 1  -- 2
+    ∷ reserved 5  -- 3
+    ∷ word "Number of Supervisor Mode Interrupt Identities" s.num_supervisor_interrupt_identities  -- 8
+    ∷ word "Number of Guest Mode Interrupt Identities" s.num_guest_interrupt_identities  -- 10
+    ∷ byte "Guest Index Bits" s.guest_index_bits  -- 12
+    ∷ byte "Hart Index Bits" s.hart_index_bits  -- 13
+    ∷ byte "Group Index Bits" s.group_index_bits  -- 14
+    ∷ byte "Group Index Shift" s.group_index_shift  -- 15
+    ∷ []
+
 abbrev pub imsic_bytes : IMSIC → List ℕ
-imsic_bytes s = record_of
-    (byte 0x19  -- 0: Type
-    ∷ byte 16  -- 1: Length
-    ∷ byte 1  -- 2: Version
-    ∷ zeros 5  -- 3: reserved, and Flags
-    ∷ word s.num_supervisor_interrupt_identities  -- 8: Number of Supervisor Mode Interrupt Identities
-    ∷ word s.num_guest_interrupt_identities  -- 10: Number of Guest Mode Interrupt Identities
-    ∷ byte s.guest_index_bits  -- 12: Guest Index Bits
-    ∷ byte s.hart_index_bits  -- 13: Hart Index Bits
-    ∷ byte s.group_index_bits  -- 14: Group Index Bits
-    ∷ byte s.group_index_shift  -- 15: Group Index Shift
-    ∷ [])
+imsic_bytes s = fields_joined (imsic_fields s)
 
 abbrev pub imsic : ℕ → ℕ → ℕ → ℕ → ℕ → ℕ → IMSIC
 imsic supervisor guest guest_bits hart_bits group_bits group_shift = record {
@@ -68,20 +74,23 @@ imsic supervisor guest guest_bits hart_bits group_bits group_shift = record {
 
 -- ---- Advanced Platform Level Interrupt Controller
 
+abbrev pub aplic_fields : APLIC → List NamedField
+aplic_fields s =
+    byte "Type" 0x1a  -- 0
+    ∷ byte "Length" 36  -- 1
+    ∷ byte "Version" 1  -- 2
+    ∷ byte "APLIC ID" s.aplic_id  -- 3
+    ∷ dword "Flags" 0  -- 4
+    ∷ bytes "Hardware ID" 8 s.hardware_id  -- 8
+    ∷ word "Number of IDCs" s.number_of_idcs  -- 16
+    ∷ word "Total External Interrupt Sources Supported" s.total_external_interrupt_sources  -- 18
+    ∷ dword "Global System Interrupt Base" s.global_system_interrupt_base  -- 20
+    ∷ qword "APLIC Address" s.aplic_address  -- 24
+    ∷ dword "APLIC Size" s.aplic_size  -- 32
+    ∷ []
+
 abbrev pub aplic_bytes : APLIC → List ℕ
-aplic_bytes s = record_of
-    (byte 0x1a  -- 0: Type
-    ∷ byte 36  -- 1: Length
-    ∷ byte 1  -- 2: Version
-    ∷ byte s.aplic_id  -- 3: APLIC ID
-    ∷ zeros 4  -- 4: Flags
-    ∷ s.hardware_id  -- 8: Hardware ID
-    ∷ word s.number_of_idcs  -- 16: Number of IDCs
-    ∷ word s.total_external_interrupt_sources  -- 18: Total External Interrupt Sources Supported
-    ∷ dword s.global_system_interrupt_base  -- 20: Global System Interrupt Base
-    ∷ qword s.aplic_address  -- 24: APLIC Address
-    ∷ dword s.aplic_size  -- 32: APLIC Size
-    ∷ [])
+aplic_bytes s = fields_joined (aplic_fields s)
 
 abbrev pub aplic : ℕ → List ℕ → ℕ → ℕ → ℕ → ℕ → ℕ → APLIC
 aplic id hardware_id idcs gsi_base address size sources = record {
@@ -96,20 +105,23 @@ aplic id hardware_id idcs gsi_base address size sources = record {
 
 -- ---- Platform Level Interrupt Controller
 
+abbrev pub plic_fields : PLIC → List NamedField
+plic_fields s =
+    byte "Type" 0x1b  -- 0
+    ∷ byte "Length" 36  -- 1
+    ∷ byte "Version" 1  -- 2
+    ∷ byte "PLIC ID" s.plic_id  -- 3
+    ∷ bytes "Hardware ID" 8 s.hardware_id  -- 4
+    ∷ word "Total External Interrupt Sources Supported" s.total_external_interrupt_sources  -- 12
+    ∷ word "Max Priority" s.max_priority  -- 14
+    ∷ dword "Flags" 0  -- 16
+    ∷ dword "PLIC Size" s.plic_size  -- 20
+    ∷ qword "PLIC Address" s.plic_address  -- 24
+    ∷ dword "Global System Interrupt Base" s.global_system_interrupt_base  -- 32
+    ∷ []
+
 abbrev pub plic_bytes : PLIC → List ℕ
-plic_bytes s = record_of
-    (byte 0x1b  -- 0: Type
-    ∷ byte 36  -- 1: Length
-    ∷ byte 1  -- 2: Version
-    ∷ byte s.plic_id  -- 3: PLIC ID
-    ∷ s.hardware_id  -- 4: Hardware ID
-    ∷ word s.total_external_interrupt_sources  -- 12: Total External Interrupt Sources Supported
-    ∷ word s.max_priority  -- 14: Max Priority
-    ∷ zeros 4  -- 16: Flags
-    ∷ dword s.plic_size  -- 20: PLIC Size
-    ∷ qword s.plic_address  -- 24: PLIC Address
-    ∷ dword s.global_system_interrupt_base  -- 32: Global System Interrupt Base
-    ∷ [])
+plic_bytes s = fields_joined (plic_fields s)
 
 abbrev pub plic : ℕ → List ℕ → ℕ → ℕ → ℕ → ℕ → ℕ → PLIC
 plic id hardware_id sources max_priority size address gsi_base = record {

@@ -1,6 +1,6 @@
 -- Interrupt controllers of x86 in MADT (ACPI 6.5, 5.2.12).
 use Rattle.std.specs.Prelude.{ℕ, List, [], ◌∷◌}
-use Rattle.acpi_base.specs.Layout.{byte, dword, zeros, record_of}
+use Rattle.acpi_base.specs.Fields.{NamedField, byte, dword, reserved, fields_joined}
 use Rattle.acpi_lists.specs.declared.madt.EnabledStatus.{EnabledStatus}
 use Rattle.acpi_lists.specs.declared.madt.EnabledStatus.TheVariants.{Disabled, Enabled, DisabledOnlineCapable}
 use Rattle.acpi_lists.specs.declared.madt.x86.ProcessorLocalApic.{ProcessorLocalApic}
@@ -14,14 +14,17 @@ local_apic_flags Disabled = 0x0
 local_apic_flags Enabled = 0x1
 local_apic_flags DisabledOnlineCapable = 0x2
 
+abbrev pub processor_local_apic_fields : ProcessorLocalApic → List NamedField
+processor_local_apic_fields s =
+    byte "Type" 0x00  -- 0
+    ∷ byte "Length" 8  -- 1
+    ∷ byte "ACPI Processor UID" s.processor_uid  -- 2
+    ∷ byte "APIC ID" s.apic_id  -- 3
+    ∷ dword "Flags" (local_apic_flags s.status)  -- 4
+    ∷ []
+
 abbrev pub processor_local_apic_bytes : ProcessorLocalApic → List ℕ
-processor_local_apic_bytes s = record_of
-    (byte 0x00  -- 0: Type
-    ∷ byte 8  -- 1: Length
-    ∷ byte s.processor_uid  -- 2: ACPI Processor UID
-    ∷ byte s.apic_id  -- 3: APIC ID
-    ∷ dword (local_apic_flags s.status)  -- 4: Flags
-    ∷ [])
+processor_local_apic_bytes s = fields_joined (processor_local_apic_fields s)
 
 abbrev pub processor_local_apic : ℕ → ℕ → EnabledStatus → ProcessorLocalApic
 processor_local_apic uid apic_id status = record {
@@ -32,15 +35,18 @@ processor_local_apic uid apic_id status = record {
 
 -- ---- I/O APIC (5.2.12.3)
 
+abbrev pub io_apic_fields : IoApic → List NamedField
+io_apic_fields s =
+    byte "Type" 0x01  -- 0
+    ∷ byte "Length" 12  -- 1
+    ∷ byte "I/O APIC ID" s.io_apic_id  -- 2
+    ∷ reserved 1  -- 3
+    ∷ dword "I/O APIC Address" s.io_apic_addr  -- 4
+    ∷ dword "Global System Interrupt Base" s.gsi_base  -- 8
+    ∷ []
+
 abbrev pub io_apic_bytes : IoApic → List ℕ
-io_apic_bytes s = record_of
-    (byte 0x01  -- 0: Type
-    ∷ byte 12  -- 1: Length
-    ∷ byte s.io_apic_id  -- 2: I/O APIC ID
-    ∷ zeros 1  -- 3: reserved
-    ∷ dword s.io_apic_addr  -- 4: I/O APIC Address
-    ∷ dword s.gsi_base  -- 8: Global System Interrupt Base
-    ∷ [])
+io_apic_bytes s = fields_joined (io_apic_fields s)
 
 abbrev pub io_apic : ℕ → ℕ → ℕ → IoApic
 io_apic id address gsi_base = record {

@@ -1,10 +1,12 @@
 -- The System Resource Affinity Table (ACPI 6.5, 5.2.16).
-use Rattle.std.specs.Prelude.{◌≢◌, ℕ, ◌+◌, ◌*◌, ◌^◌, ◌&&◌, nat_lt, Bool, true, List, [], ◌∷◌, codes, Some}
+use Rattle.std.specs.Prelude.{◌≢◌, ℕ, ◌+◌, ◌*◌, ◌&&◌, nat_lt, Bool, true, List, [], ◌∷◌, ◌++◌, codes, Some}
 use Rattle.acpi_base.specs.declared.error.Error.TheVariants.{Memory, PciAddress}
-use Rattle.acpi_base.specs.Layout.{byte, word, dword, qword, zeros, record_of}
+use Rattle.acpi_base.specs.Bytes.{le}
+use Rattle.acpi_base.specs.Fields.{NamedField, byte, word, dword, qword, bytes, reserved, fields_joined}
+use Rattle.acpi_base.specs.Layout.{zeros}
 use Rattle.acpi_base.specs.Object.{Object, whole, provided, provided_ends_well}
 use Rattle.acpi_base.specs.declared.oem.Oem.{Oem}
-use Rattle.acpi_core.specs.Listing.{Listing}
+use Rattle.acpi_core.specs.Listing.{Listing, length_limit}
 use Rattle.acpi_lists.specs.declared.srat.Handle.{Handle}
 use Rattle.acpi_lists.specs.declared.srat.Handle.TheVariants.{Acpi, Pci}
 use Rattle.acpi_lists.specs.declared.srat.MemoryAffinity.{MemoryAffinity}
@@ -17,10 +19,10 @@ srat oem = record {
   signature = codes "SRAT";
   revision = 1;
   oem = oem;
-  before = record_of (dword 1 ∷ zeros 8 ∷ []);  -- 36: always 1; 40: reserved
+  before = le 4 1 ++ zeros 8;  -- 36: always 1; 40: reserved
   count_width = 0;
   after = [];
-  limit = 2 ^ 32;
+  limit = length_limit;
   structures = [];
 }
 
@@ -29,34 +31,43 @@ srat oem = record {
 abbrev pub memory_affinity : ℕ → ℕ → ℕ → MemoryAffinity
 memory_affinity domain base size = record { domain = domain; base = base; size = size; flags = 0 }
 
+abbrev pub memory_affinity_fields : MemoryAffinity → List NamedField
+memory_affinity_fields m =
+    byte "Type" 1  -- 0
+    ∷ byte "Length" 40  -- 1
+    ∷ dword "Proximity Domain" m.domain  -- 2
+    ∷ reserved 2  -- 6
+    ∷ qword "Base Address" m.base  -- 8
+    ∷ qword "Length" m.size  -- 16
+    ∷ reserved 4  -- 24
+    ∷ dword "Flags" m.flags  -- 28
+    ∷ reserved 8  -- 32
+    ∷ []
+
 abbrev pub memory_affinity_bytes : MemoryAffinity → List ℕ
-memory_affinity_bytes m = record_of
-    (byte 1  -- 0: Type
-    ∷ byte 40  -- 1: Length
-    ∷ dword m.domain  -- 2: Proximity Domain
-    ∷ zeros 2  -- 6: reserved
-    ∷ qword m.base  -- 8: Base Address
-    ∷ qword m.size  -- 16: Length
-    ∷ zeros 4  -- 24: reserved
-    ∷ dword m.flags  -- 28: Flags
-    ∷ zeros 8  -- 32: reserved
-    ∷ [])
+memory_affinity_bytes m = fields_joined (memory_affinity_fields m)
 
 -- ---- Generic Initiator Affinity Structure (5.2.16.6)
 
 -- ACPI and PCI device handles: 16 bytes
+abbrev pub acpi_handle_fields : List ℕ → List ℕ → List NamedField
+acpi_handle_fields hid uid =
+    bytes "ACPI _HID" 8 hid  -- 0
+    ∷ bytes "ACPI _UID" 4 uid  -- 8
+    ∷ reserved 4  -- 12
+    ∷ []
+
+abbrev pub pci_handle_fields : ℕ → ℕ → ℕ → ℕ → List NamedField
+pci_handle_fields segment bus device function =
+    word "PCI Segment" segment  -- 0
+    ∷ byte "PCI Bus Number" bus  -- 2
+    ∷ byte "PCI Device and Function Number" (device * 8 + function)  -- 3
+    ∷ reserved 12  -- 4
+    ∷ []
+
 abbrev pub handle_bytes : Handle → List ℕ
-handle_bytes (Acpi hid uid) = record_of
-    (hid  -- 0: ACPI _HID
-    ∷ uid  -- 8: ACPI _UID
-    ∷ zeros 4  -- 12: reserved
-    ∷ [])
-handle_bytes (Pci segment bus device function) = record_of
-    (word segment  -- 0: PCI Segment
-    ∷ byte bus  -- 2: Bus Number
-    ∷ byte (device * 8 + function)  -- 3: Device Number, Function Number
-    ∷ zeros 12  -- 4: reserved
-    ∷ [])
+handle_bytes (Acpi hid uid) = fields_joined (acpi_handle_fields hid uid)
+handle_bytes (Pci segment bus device function) = fields_joined (pci_handle_fields segment bus device function)
 
 -- Device Handle Type
 abbrev pub handle_type : Handle → ℕ
@@ -77,17 +88,20 @@ handle_ends_well h = provided_ends_well (is_address h) PciAddress (handle_bytes 
 abbrev pub generic_initiator : ℕ → Handle → GenericInitiator
 generic_initiator domain handle = record { domain = domain; handle = handle; flags = 0 }
 
+abbrev pub generic_initiator_fields : GenericInitiator → List NamedField
+generic_initiator_fields g =
+    byte "Type" 5  -- 0
+    ∷ byte "Length" 32  -- 1
+    ∷ reserved 1  -- 2
+    ∷ byte "Device Handle Type" (handle_type g.handle)  -- 3
+    ∷ dword "Proximity Domain" g.domain  -- 4
+    ∷ bytes "Device Handle" 16 (handle_bytes g.handle)  -- 8
+    ∷ dword "Flags" g.flags  -- 24
+    ∷ reserved 4  -- 28
+    ∷ []
+
 abbrev pub generic_initiator_bytes : GenericInitiator → List ℕ
-generic_initiator_bytes g = record_of
-    (byte 5  -- 0: Type
-    ∷ byte 32  -- 1: Length
-    ∷ zeros 1  -- 2: reserved
-    ∷ byte (handle_type g.handle)  -- 3: Device Handle Type
-    ∷ dword g.domain  -- 4: Proximity Domain
-    ∷ handle_bytes g.handle  -- 8: Device Handle
-    ∷ dword g.flags  -- 24: Flags
-    ∷ zeros 4  -- 28: reserved
-    ∷ [])
+generic_initiator_bytes g = fields_joined (generic_initiator_fields g)
 
 abbrev pub generic_initiator_object : GenericInitiator → Object
 generic_initiator_object g = provided (is_address g.handle) PciAddress (whole (generic_initiator_bytes g))
@@ -100,13 +114,16 @@ generic_initiator_ends_well g = provided_ends_well (is_address g.handle) PciAddr
 abbrev pub rintc_affinity : List ℕ → ℕ → RintcAffinity
 rintc_affinity uid clock_domain = record { domain = 0; uid = uid; flags = 0; clock_domain = clock_domain }
 
+abbrev pub rintc_affinity_fields : RintcAffinity → List NamedField
+rintc_affinity_fields r =
+    byte "Type" 7  -- 0
+    ∷ byte "Length" 20  -- 1
+    ∷ reserved 2  -- 2
+    ∷ dword "Proximity Domain" r.domain  -- 4
+    ∷ bytes "ACPI Processor UID" 4 r.uid  -- 8
+    ∷ dword "Flags" r.flags  -- 12
+    ∷ dword "Clock Domain" r.clock_domain  -- 16
+    ∷ []
+
 abbrev pub rintc_affinity_bytes : RintcAffinity → List ℕ
-rintc_affinity_bytes r = record_of
-    (byte 7  -- 0: Type
-    ∷ byte 20  -- 1: Length
-    ∷ zeros 2  -- 2: reserved
-    ∷ dword r.domain  -- 4: Proximity Domain
-    ∷ r.uid  -- 8: ACPI Processor UID
-    ∷ dword r.flags  -- 12: Flags
-    ∷ dword r.clock_domain  -- 16: Clock Domain
-    ∷ [])
+rintc_affinity_bytes r = fields_joined (rintc_affinity_fields r)

@@ -1,7 +1,9 @@
 -- The Extended System Description Table (ACPI 6.5, 5.2.8).
-use Rattle.std.specs.Prelude.{◌^◌, [], codes}
+use Rattle.std.specs.Prelude.{List, [], ◌∷◌, codes}
+use Rattle.acpi_base.specs.Fields.{NamedField, qword}
 use Rattle.acpi_base.specs.declared.oem.Oem.{Oem}
-use Rattle.acpi_core.specs.Listing.{Listing}
+use Rattle.acpi_core.specs.Listing.{Listing, length_limit}
+use Rattle.acpi_lists.specs.declared.xsdt.Entry.{Entry}
 
 -- a table without entries; each is the address of a table, of eight bytes
 abbrev pub xsdt : Oem → Listing
@@ -12,6 +14,10 @@ xsdt oem = record {
   before = [];
   count_width = 0;
   after = [];
-  limit = 2 ^ 32;
+  limit = length_limit;
   structures = [];
 }
+
+-- the physical address of a table
+abbrev pub entry_fields : Entry → List NamedField
+entry_fields e = qword "Entry" e.address ∷ []

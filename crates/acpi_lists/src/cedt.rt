@@ -1,79 +1,63 @@
 //! CEDT: CXL host bridges and windows of memory.
 
-ghost use Rattle.std.specs.Prelude.{◌≡◌, ◌≢◌, ◌+◌, ◌*◌, ◌<◌, ◌++◌, bit_or, length, OnOk, OnErr, IfErr};
+ghost use Rattle.std.proofs.Common.{rules};
+ghost use Rattle.std.specs.Prelude.{◌≡◌, ◌≢◌, ◌+◌, ◌<◌, ◌++◌, true, bit_or, length, OnOk, OnErr, IfErr};
 ghost use Rattle.acpi_base.specs.Bytes.{le};
+ghost use Rattle.acpi_base.specs.Fields.{AreRowsOf};
 ghost use Rattle.acpi_base.specs.Object.{whole, whole_ends_well};
 ghost use Rattle.acpi_base.specs.Walk.{cedt_walk};
-ghost use Rattle.acpi_core.specs.Listing.{bytes_of};
 ghost use Rattle.acpi_core.specs.Addition.{Adds};
+ghost use Rattle.acpi_core.specs.Listing.{length_limit};
 ghost use Rattle.acpi_core.specs.Walk.{IsWalked};
-ghost use Rattle.acpi_lists.specs.Cedt.{cedt, version_number, registers_of, host_bridge, host_bridge_bytes, arithmetic_number, granularity_number, ways_number, ways_count, window, window_head, window_bytes, window_object, window_ends_well, has_targets, no_maps, maps_head, maps_bytes, protocol_number, port_association, port_association_bytes};
+ghost use Rattle.acpi_lists.specs.Cedt.{cedt, registers_of, host_bridge, host_bridge_bytes, ways_count, host_bridge_fields};
+ghost use Rattle.acpi_lists.specs.Cedt.{Window, window, window_head_fields, window_head, window_object, window_ends_well};
+ghost use Rattle.acpi_lists.specs.Cedt.{XorMaps, no_maps, maps_head_fields, maps_head, maps_bytes};
+ghost use Rattle.acpi_lists.specs.Cedt.{port_association, port_association_bytes, port_association_fields};
 
+use crate::list_table::{ListTable, tables_are_walked};
 use acpi_base::error::{Error, R};
 use acpi_base::object::Aml;
 use acpi_base::oem::Oem;
 use acpi_base::parts::write_parts;
-use acpi_base::record::{Field, record};
+use acpi_base::row::{Record, Row, record_of_numbers, write_record};
 use acpi_base::sink::AmlSink;
+use acpi_core::entries::Entries;
 use acpi_core::form::Form;
+use acpi_core::kind::{Kind, Plain};
 use acpi_core::table::Table;
 use std::alloc::Global;
 use std::marker::Model;
 
 /// The CXL Early Discovery Table (CXL profile): structures from offset 36 on.
-#[derive(Drop)]
-pub struct CEDT {
-    table: Table<36>,
+pub type CEDT = ListTable<CedtKind, 36>;
+
+/// The kind of CEDT.
+pub struct CedtKind;
+
+impl Kind<36> for CedtKind {
+    ghost walk = { cedt_walk };
+
+    ghost limit = { length_limit };
+
+    ghost closed = { true };
 }
 
-impl Model for CEDT {
-    ghost use Rattle.acpi_base.specs.Walk.{cedt_walk};
-    ghost use Rattle.acpi_core.specs.Addition.{Counted};
-    ghost use Rattle.acpi_core.specs.Walk.{Keeps};
+impl Plain<36> for CedtKind {
+    ghost empty = { cedt };
 
-    ghost Value = { Counted };
-
-    ghost view = { λ t. t.table };
-
-    ghost invariant = { λ t. Keeps cedt_walk t.table.table };
-}
-
-impl Aml for CEDT {
-    ghost object = { λ t. whole (bytes_of t.table) };
-
-    ghost ends_well = { λ t. whole_ends_well (bytes_of t.table) };
-
-    fn to_aml_bytes(&self, sink: &mut dyn AmlSink) -> R<()> {
-        self.table.to_aml_bytes(sink)
+    fn table(alloc: Global, oem: Oem) -> Table<36> {
+        Table::new(alloc, Form::new(*b"CEDT", 1, oem, 0), &[], &[])
     }
+
+    ghost are_empty = { Prim.search rules };
 }
 
 impl CEDT {
-    /// A table without structures.
-    pub fn new(alloc: Global, oem_id: [u8; 6], oem_table_id: [u8; 8], oem_revision: u32) -> CEDT
-        ensures { result.table ≡ cedt (record { id = oem_id; table_id = oem_table_id; revision = oem_revision }) }
-    {
-        let form = Form {
-            signature: *b"CEDT",
-            revision: 1,
-            oem: Oem {
-                id: oem_id,
-                table_id: oem_table_id,
-                revision: oem_revision,
-            },
-            count_width: 0,
-            limit: 0x1_0000_0000,
-        };
-        CEDT {
-            table: Table::new(alloc, form, &[], &[]),
-        }
-    }
-
     /// Adds a host bridge. FieldWidth where the length would reach 2^32.
     pub fn add_host_bridge(&mut self, bridge: CxlHostBridge) -> R<()>
         ensures { Adds result self.old (whole (host_bridge_bytes bridge)) self.new }
     {
-        self.table.add(&bridge.bytes())
+        self.add_record(&bridge)
     }
 
     /// Adds a window of memory. Targets where they aren't as many as its ways, else FieldWidth where the length would
@@ -81,22 +65,21 @@ impl CEDT {
     pub fn add_fixed_memory(&mut self, memory: CxlFixedMemory) -> R<()>
         ensures { Adds result self.old (window_object memory) self.new }
     {
-        self.table.add_object(&memory)
+        self.add_object(&memory)
     }
 
     /// Adds maps for interleaving. FieldWidth where the length would reach 2^32.
     pub fn add_xor_interleave_math(&mut self, math: XorInterleaveMath) -> R<()>
         ensures { Adds result self.old (whole (maps_bytes math)) self.new }
     {
-        let _ = &math.maps;
-        self.table.add_object(&math)
+        self.add_object(&math)
     }
 
     /// Adds a port below a root complex event collector. FieldWidth where the length would reach 2^32.
     pub fn add_port_association(&mut self, port: PortAssociation) -> R<()>
         ensures { Adds result self.old (whole (port_association_bytes port)) self.new }
     {
-        self.table.add(&port.bytes())
+        self.add_record(&port)
     }
 }
 
@@ -104,7 +87,7 @@ impl CEDT {
 pub fn cedt_is_walked(table: &CEDT)
     ensures { IsWalked cedt_walk table.now.table }
 {
-    let _ = &table.table;
+    tables_are_walked(table)
 }
 
 /// Which version of CXL a host bridge has (offset 8).
@@ -144,21 +127,40 @@ impl CxlHostBridge {
             base: port_base,
         }
     }
+}
 
-    // The structure's bytes.
-    fn bytes(&self) -> [u8; 32]
-        ensures { result ≡ host_bridge_bytes self.now }
-    {
-        record(&[
-            Field::Byte(0),
-            Field::Byte(0),
-            Field::Word(32),
-            Field::DWord(self.uid),
-            Field::DWord(self.version as u32),
-            Field::DWord(0),
-            Field::QWord(self.base),
-            Field::QWord(self.version.registers()),
-        ])
+const CXL_HOST_BRIDGE: [Row; 8] = [
+    Row::Number("Type", 1),
+    Row::Reserved(1),
+    Row::Number("Record Length", 2),
+    Row::Number("UID", 4),
+    Row::Number("CXL Version", 4),
+    Row::Reserved(4),
+    Row::Number("Base", 8),
+    Row::Number("Length", 8),
+];
+
+impl Record<32> for CxlHostBridge {
+    ghost fields = { host_bridge_fields };
+
+    fn rows() -> &'static [Row] {
+        &CXL_HOST_BRIDGE
+    }
+
+    fn bytes(&self) -> [u8; 32] {
+        record_of_numbers(
+            &CXL_HOST_BRIDGE,
+            &[
+                0,
+                0,
+                32,
+                u64::from(self.uid),
+                self.version as u64,
+                0,
+                self.base,
+                self.version.registers(),
+            ],
+        )
     }
 }
 
@@ -168,7 +170,7 @@ impl Aml for CxlHostBridge {
     ghost ends_well = { λ b. whole_ends_well (host_bridge_bytes b) };
 
     fn to_aml_bytes(&self, sink: &mut dyn AmlSink) -> R<()> {
-        sink.vec(&self.bytes())
+        write_record(self, sink)
     }
 }
 
@@ -250,7 +252,16 @@ impl Model for CxlFixedMemory {
 
     ghost Value = { Window };
 
-    ghost view = { λ w. record { base = w.base; size = w.size; arithmetic = w.arithmetic; granularity = w.granularity; ways = w.ways; restrictions = w.restrictions; qtg_id = w.qtg_id; targets = w.targets.items } };
+    ghost view = { λ w. record {
+      base = w.base;
+      size = w.size;
+      arithmetic = w.arithmetic;
+      granularity = w.granularity;
+      ways = w.ways;
+      restrictions = w.restrictions;
+      qtg_id = w.qtg_id;
+      targets = w.targets.items;
+    } };
 }
 
 impl CxlFixedMemory {
@@ -334,21 +345,46 @@ impl CxlFixedMemory {
         requires { size ≡ 36 + length self.now.targets }
         ensures { result ≡ window_head self.now }
     {
-        record(&[
-            Field::Byte(1),
-            Field::Byte(0),
-            Field::Word(size),
-            Field::DWord(0),
-            Field::QWord(self.base),
-            Field::QWord(self.size),
-            Field::Byte(self.ways as u8),
-            Field::Byte(self.arithmetic as u8),
-            Field::Word(0),
-            Field::DWord(self.granularity as u32),
-            Field::Word(self.restrictions),
-            Field::Word(self.qtg_id),
-        ])
+        record_of_numbers(
+            &FIXED_MEMORY,
+            &[
+                1,
+                0,
+                u64::from(size),
+                0,
+                self.base,
+                self.size,
+                self.ways as u64,
+                self.arithmetic as u64,
+                0,
+                self.granularity as u64,
+                u64::from(self.restrictions),
+                u64::from(self.qtg_id),
+            ],
+        )
     }
+}
+
+const FIXED_MEMORY: [Row; 12] = [
+    Row::Number("Type", 1),
+    Row::Reserved(1),
+    Row::Number("Record Length", 2),
+    Row::Reserved(4),
+    Row::Number("Base HPA", 8),
+    Row::Number("Window Size", 8),
+    Row::Number("Encoded Number of Interleave Ways", 1),
+    Row::Number("Interleave Arithmetic", 1),
+    Row::Reserved(2),
+    Row::Number("Host Bridge Interleave Granularity", 4),
+    Row::Number("Window Restrictions", 2),
+    Row::Number("QTG ID", 2),
+];
+
+/// The names and widths of a window's fields before its targets, in order.
+pub fn fixed_memory_rows() -> &'static [Row]
+    ensures { (w : Window) → AreRowsOf result.now (window_head_fields w) }
+{
+    &FIXED_MEMORY
 }
 
 impl Aml for CxlFixedMemory {
@@ -369,19 +405,15 @@ impl Aml for CxlFixedMemory {
 #[derive(Drop)]
 pub struct XorInterleaveMath {
     granularity: InterleaveGranularity,
-    count: u8,
-    maps: Vec<u8>,
+    maps: Entries<8, 255>,
 }
 
 impl Model for XorInterleaveMath {
-    ghost use Rattle.std.specs.Prelude.{◌≡◌, ◌*◌, ◌<◌, length};
     ghost use Rattle.acpi_lists.specs.Cedt.{XorMaps};
 
     ghost Value = { XorMaps };
 
-    ghost view = { λ x. record { granularity = x.granularity; count = x.count; maps = x.maps.items } };
-
-    ghost invariant = { λ x. (length x.maps.items ≡ 8 * x.count) × (x.count < 256) };
+    ghost view = { λ x. record { granularity = x.granularity; count = x.maps.count; maps = x.maps.bytes } };
 }
 
 impl XorInterleaveMath {
@@ -391,39 +423,53 @@ impl XorInterleaveMath {
     {
         XorInterleaveMath {
             granularity,
-            count: 0,
-            maps: Vec::new(alloc),
+            maps: Entries::new(alloc),
         }
     }
 
     /// Adds a map. FieldWidth at the 256th, and unchanged where it is refused.
     pub fn add_xormap(&mut self, xormap: u64) -> R<()>
-        ensures ok { OnOk result (self.new ≡ record self.old { count = self.old.count + 1; maps = self.old.maps ++ le 8 xormap }) }
+        ensures ok { OnOk result (self.new
+            ≡ record self.old { count = self.old.count + 1; maps = self.old.maps ++ le 8 xormap }) }
         ensures room { OnOk result (self.old.count < 255) }
         ensures err { OnErr result (self.new ≡ self.old) }
         ensures cause { IfErr result (λ e. e ≢ Error.Memory → (e ≡ Error.FieldWidth) × (self.old.count ≡ 255)) }
     {
-        if self.count == 255 {
-            return Err(Error::FieldWidth);
-        }
-        self.maps.extend_from_slice(&xormap.to_le_bytes())?;
-        self.count += 1;
-        Ok(())
+        self.maps.push(xormap.to_le_bytes())
     }
 
     // The structure's bytes before its maps.
     fn head(&self) -> [u8; 8]
         ensures { result ≡ maps_head self.now }
     {
-        record(&[
-            Field::Byte(2),
-            Field::Byte(0),
-            Field::Word(8 + 8 * u16::from(self.count)),
-            Field::Word(0),
-            Field::Byte(self.granularity as u8),
-            Field::Byte(self.count),
-        ])
+        record_of_numbers(
+            &XOR_MAPS,
+            &[
+                2,
+                0,
+                8 + self.maps.as_slice().len() as u64,
+                0,
+                self.granularity as u64,
+                self.maps.len() as u64,
+            ],
+        )
     }
+}
+
+const XOR_MAPS: [Row; 6] = [
+    Row::Number("Type", 1),
+    Row::Reserved(1),
+    Row::Number("Record Length", 2),
+    Row::Reserved(2),
+    Row::Number("Host Bridge Interleave Granularity", 1),
+    Row::Number("Number of Bitmap Entries", 1),
+];
+
+/// The names and widths of the fields before the maps, in order.
+pub fn xor_maps_rows() -> &'static [Row]
+    ensures { (x : XorMaps) → AreRowsOf result.now (maps_head_fields x) }
+{
+    &XOR_MAPS
 }
 
 impl Aml for XorInterleaveMath {
@@ -432,7 +478,7 @@ impl Aml for XorInterleaveMath {
     ghost ends_well = { λ x. whole_ends_well (maps_bytes x) };
 
     fn to_aml_bytes(&self, sink: &mut dyn AmlSink) -> R<()> {
-        write_parts(sink, &[&self.head(), &self.maps])
+        write_parts(sink, &[&self.head(), self.maps.as_slice()])
     }
 }
 
@@ -473,20 +519,38 @@ impl PortAssociation {
             base: base_addr,
         }
     }
+}
 
-    // The structure's bytes.
-    fn bytes(&self) -> [u8; 17]
-        ensures { result ≡ port_association_bytes self.now }
-    {
-        record(&[
-            Field::Byte(3),
-            Field::Byte(0),
-            Field::Word(17),
-            Field::Word(self.segment),
-            Field::Word(self.bdf),
-            Field::Byte(self.protocol as u8),
-            Field::QWord(self.base),
-        ])
+const PORT_ASSOCIATION: [Row; 7] = [
+    Row::Number("Type", 1),
+    Row::Reserved(1),
+    Row::Number("Record Length", 2),
+    Row::Number("RCEC Segment Number", 2),
+    Row::Number("RCEC BDF", 2),
+    Row::Number("Protocol Type", 1),
+    Row::Number("Base Address", 8),
+];
+
+impl Record<17> for PortAssociation {
+    ghost fields = { port_association_fields };
+
+    fn rows() -> &'static [Row] {
+        &PORT_ASSOCIATION
+    }
+
+    fn bytes(&self) -> [u8; 17] {
+        record_of_numbers(
+            &PORT_ASSOCIATION,
+            &[
+                3,
+                0,
+                17,
+                u64::from(self.segment),
+                u64::from(self.bdf),
+                self.protocol as u64,
+                self.base,
+            ],
+        )
     }
 }
 
@@ -496,6 +560,6 @@ impl Aml for PortAssociation {
     ghost ends_well = { λ p. whole_ends_well (port_association_bytes p) };
 
     fn to_aml_bytes(&self, sink: &mut dyn AmlSink) -> R<()> {
-        sink.vec(&self.bytes())
+        write_record(self, sink)
     }
 }

@@ -2,8 +2,17 @@
 #![tactic(auto)]
 
 pub mod cedt;
-pub mod laws;
+pub mod list_table;
 pub mod madt;
 pub mod mcfg;
 pub mod srat;
 pub mod xsdt;
+
+/// Laws of the tables. Each function is a law: it does nothing, and ensures it.
+pub mod laws {
+    pub use crate::cedt::cedt_is_walked;
+    pub use crate::madt::{madt_is_walked, madt_structures_are_pieces};
+    pub use crate::mcfg::mcfg_is_walked;
+    pub use crate::srat::srat_is_walked;
+    pub use crate::xsdt::xsdt_is_walked;
+}

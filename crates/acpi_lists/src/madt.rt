@@ -1,14 +1,16 @@
 //! MADT: the interrupt controllers of a machine.
 
 ghost use Rattle.std.specs.Prelude.{◌≡◌, false};
+ghost use Rattle.acpi_base.specs.Fields.{AreRowsOf};
 ghost use Rattle.acpi_base.specs.Object.{whole, whole_ends_well};
 ghost use Rattle.acpi_base.specs.Table.{IsTrueTable};
 ghost use Rattle.acpi_base.specs.Walk.{madt_walk, ArePieces};
-ghost use Rattle.acpi_core.specs.Listing.{bytes_of};
-ghost use Rattle.acpi_core.specs.Walk.{IsWalked};
 ghost use Rattle.acpi_core.specs.Addition.{Adds};
-ghost use Rattle.acpi_lists.specs.Madt.{controller_address, madt, AddsImsic, StructuresTellTheirLength};
+ghost use Rattle.acpi_core.specs.Listing.{bytes_of, length_limit};
+ghost use Rattle.acpi_core.specs.Walk.{IsWalked};
+ghost use Rattle.acpi_lists.specs.Madt.{controller_address, madt_fields, madt, AddsImsic, StructuresTellTheirLength};
 ghost use Rattle.acpi_lists.specs.MadtRiscv.{imsic_bytes};
+ghost use Rattle.acpi_lists.specs.declared.madt.LocalInterruptController.{LocalInterruptController};
 
 mod arm;
 mod riscv;
@@ -17,10 +19,12 @@ mod x86;
 use acpi_base::error::{Error, R};
 use acpi_base::object::Aml;
 use acpi_base::oem::Oem;
-use acpi_base::record::{Field, record};
+use acpi_base::row::{Row, record_of_numbers};
 use acpi_base::sink::AmlSink;
 use acpi_core::form::Form;
+use acpi_core::kind::Kind;
 use acpi_core::table::Table;
+use acpi_core::walked::{Walked, is_walked};
 pub use arm::{GicIts, GicMsi, GicVersion, Gicc, Gicd, Gicr, Trigger};
 pub use riscv::{APLIC, HartStatus, IMSIC, PLIC, RINTC};
 use std::alloc::Global;
@@ -58,18 +62,27 @@ pub enum EnabledStatus {
 /// bytes at offset 1, from offset 44 on.
 #[derive(Drop)]
 pub struct MADT {
-    table: Table<44>,
+    table: Walked<MadtKind, 44>,
     has_imsic: bool,
 }
 
+/// The kind of MADT, to which a caller may add structures of its own.
+pub struct MadtKind;
+
+impl Kind<44> for MadtKind {
+    ghost walk = { madt_walk };
+
+    ghost limit = { length_limit };
+
+    ghost closed = { false };
+}
+
 impl Model for MADT {
-    ghost use Rattle.acpi_lists.specs.Madt.{Controllers, KeepsStart};
+    ghost use Rattle.acpi_lists.specs.Madt.{Controllers};
 
     ghost Value = { Controllers };
 
     ghost view = { λ t. record { counted = t.table; has_imsic = t.has_imsic } };
-
-    ghost invariant = { λ t. KeepsStart t.table.table };
 }
 
 impl Aml for MADT {
@@ -91,23 +104,15 @@ impl MADT {
         oem_revision: u32,
         int: LocalInterruptController,
     ) -> MADT
-        ensures table { result.counted.table ≡ madt (record { id = oem_id; table_id = oem_table_id; revision = oem_revision }) int }
+        ensures table { result.counted.table
+            ≡ madt (record { id = oem_id; table_id = oem_table_id; revision = oem_revision }) int }
         ensures imsic { result.has_imsic ≡ false }
     {
-        let form = Form {
-            signature: *b"APIC",
-            revision: 1,
-            oem: Oem {
-                id: oem_id,
-                table_id: oem_table_id,
-                revision: oem_revision,
-            },
-            count_width: 0,
-            limit: 0x1_0000_0000,
-        };
-        let before: [u8; 8] = record(&[Field::DWord(int.address()), Field::DWord(0)]);
+        let oem = Oem::new(oem_id, oem_table_id, oem_revision);
+        let before: [u8; 8] = record_of_numbers(&FIXED, &[u64::from(int.address()), 0]);
+        let table = Table::new(alloc, Form::new(*b"APIC", 1, oem, 0), &before, &[]);
         MADT {
-            table: Table::new(alloc, form, &before, &[]),
+            table: Walked::of(table),
             has_imsic: false,
         }
     }
@@ -135,13 +140,25 @@ impl MADT {
     }
 }
 
+const FIXED: [Row; 2] = [
+    Row::Number("Local Interrupt Controller Address", 4),
+    Row::Number("Flags", 4),
+];
+
+/// The names and widths of the table's fixed fields, in order.
+pub fn madt_rows() -> &'static [Row]
+    ensures { (controller : LocalInterruptController) → AreRowsOf result.now (madt_fields controller) }
+{
+    &FIXED
+}
+
 /// A law: after any calls the table is a true one. Where each structure tells its length at offset 1, they are, in order,
 /// the one list that walks it.
 pub fn madt_is_walked(table: &MADT)
     ensures is_true { IsTrueTable (bytes_of table.now.counted.table) }
     ensures walked { ArePieces madt_walk.sizes table.now.counted.table.structures → IsWalked madt_walk table.now.counted.table }
 {
-    let _ = &table.table;
+    is_walked(&table.table)
 }
 
 /// A law: each structure of this module tells its length at offset 1, whatever its fields hold.

@@ -1,77 +1,67 @@
 //! SRAT: which processors, memory and devices are near to each other.
 
-ghost use Rattle.std.specs.Prelude.{◌≡◌, ◌<◌, false, bit_or, IfOk, IfErr};
+ghost use Rattle.std.proofs.Common.{rules};
+ghost use Rattle.std.specs.Prelude.{◌≡◌, ◌<◌, ℕ, List, true, false, bit_or, IfOk, IfErr};
+ghost use Rattle.acpi_base.specs.Fields.{AreRowsOf};
 ghost use Rattle.acpi_base.specs.Object.{Built, whole, whole_ends_well};
 ghost use Rattle.acpi_base.specs.Walk.{srat_walk};
-ghost use Rattle.acpi_core.specs.Listing.{bytes_of};
 ghost use Rattle.acpi_core.specs.Addition.{Adds};
+ghost use Rattle.acpi_core.specs.Listing.{length_limit};
 ghost use Rattle.acpi_core.specs.Walk.{IsWalked};
-ghost use Rattle.acpi_lists.specs.Srat.{srat, memory_affinity, memory_affinity_bytes, handle_object, handle_bytes, handle_ends_well, handle_type, is_address, generic_initiator, generic_initiator_bytes, generic_initiator_object, generic_initiator_ends_well, rintc_affinity, rintc_affinity_bytes};
+ghost use Rattle.acpi_lists.specs.Srat.{srat, memory_affinity, memory_affinity_bytes, memory_affinity_fields};
+ghost use Rattle.acpi_lists.specs.Srat.{acpi_handle_fields, pci_handle_fields, handle_bytes, handle_object, handle_ends_well};
+ghost use Rattle.acpi_lists.specs.Srat.{handle_type, is_address};
+ghost use Rattle.acpi_lists.specs.Srat.{generic_initiator, generic_initiator_fields, generic_initiator_object};
+ghost use Rattle.acpi_lists.specs.Srat.{generic_initiator_ends_well};
+ghost use Rattle.acpi_lists.specs.Srat.{rintc_affinity, rintc_affinity_bytes, rintc_affinity_fields};
+ghost use Rattle.acpi_lists.specs.declared.srat.GenericInitiator.{GenericInitiator};
 
+use crate::list_table::{ListTable, tables_are_walked};
 use acpi_base::error::{Error, R};
 use acpi_base::object::Aml;
 use acpi_base::oem::Oem;
-use acpi_base::record::{Field, record};
+use acpi_base::row::{Record, Row, Value, record_of, record_of_numbers, write_record};
 use acpi_base::sink::AmlSink;
 use acpi_core::form::Form;
+use acpi_core::kind::{Kind, Plain};
 use acpi_core::table::Table;
 use std::alloc::Global;
-use std::marker::Model;
 
 /// The System Resource Affinity Table (ACPI 6.5, 5.2.16): structures from offset 48 on.
-#[derive(Drop)]
-pub struct SRAT {
-    table: Table<48>,
+pub type SRAT = ListTable<SratKind, 48>;
+
+/// The kind of SRAT.
+pub struct SratKind;
+
+impl Kind<48> for SratKind {
+    ghost walk = { srat_walk };
+
+    ghost limit = { length_limit };
+
+    ghost closed = { true };
 }
 
-impl Model for SRAT {
-    ghost use Rattle.acpi_base.specs.Walk.{srat_walk};
-    ghost use Rattle.acpi_core.specs.Addition.{Counted};
-    ghost use Rattle.acpi_core.specs.Walk.{Keeps};
+impl Plain<48> for SratKind {
+    ghost empty = { srat };
 
-    ghost Value = { Counted };
-
-    ghost view = { λ t. t.table };
-
-    ghost invariant = { λ t. Keeps srat_walk t.table.table };
-}
-
-impl Aml for SRAT {
-    ghost object = { λ t. whole (bytes_of t.table) };
-
-    ghost ends_well = { λ t. whole_ends_well (bytes_of t.table) };
-
-    fn to_aml_bytes(&self, sink: &mut dyn AmlSink) -> R<()> {
-        self.table.to_aml_bytes(sink)
+    fn table(alloc: Global, oem: Oem) -> Table<48> {
+        Table::new(
+            alloc,
+            Form::new(*b"SRAT", 1, oem, 0),
+            &[1, 0, 0, 0, 0, 0, 0, 0, 0, 0, 0, 0],
+            &[],
+        )
     }
+
+    ghost are_empty = { Prim.search rules };
 }
 
 impl SRAT {
-    /// A table without structures.
-    pub fn new(alloc: Global, oem_id: [u8; 6], oem_table_id: [u8; 8], oem_revision: u32) -> SRAT
-        ensures { result.table ≡ srat (record { id = oem_id; table_id = oem_table_id; revision = oem_revision }) }
-    {
-        let form = Form {
-            signature: *b"SRAT",
-            revision: 1,
-            oem: Oem {
-                id: oem_id,
-                table_id: oem_table_id,
-                revision: oem_revision,
-            },
-            count_width: 0,
-            limit: 0x1_0000_0000,
-        };
-        SRAT {
-            table: Table::new(alloc, form, &[1, 0, 0, 0, 0, 0, 0, 0, 0, 0, 0, 0], &[]),
-        }
-    }
-
     /// Adds a range of memory. FieldWidth where the length would reach 2^32.
     pub fn add_memory_affinity(&mut self, memory: MemoryAffinity) -> R<()>
         ensures { Adds result self.old (whole (memory_affinity_bytes memory)) self.new }
     {
-        self.table.add(&memory.bytes())
+        self.add_record(&memory)
     }
 
     /// Adds a device that reaches memory by itself. PciAddress where its handle is no address, else FieldWidth where the
@@ -79,15 +69,14 @@ impl SRAT {
     pub fn add_generic_initiator(&mut self, initiator: GenericInitiator) -> R<()>
         ensures { Adds result self.old (generic_initiator_object initiator) self.new }
     {
-        let bytes = initiator.bytes()?;
-        self.table.add(&bytes)
+        self.add_object(&initiator)
     }
 
     /// Adds a processor's interrupt controller. FieldWidth where the length would reach 2^32.
     pub fn add_rintc_affinity(&mut self, rintc: RintcAffinity) -> R<()>
         ensures { Adds result self.old (whole (rintc_affinity_bytes rintc)) self.new }
     {
-        self.table.add(&rintc.bytes())
+        self.add_record(&rintc)
     }
 }
 
@@ -95,7 +84,7 @@ impl SRAT {
 pub fn srat_is_walked(table: &SRAT)
     ensures { IsWalked srat_walk table.now.table }
 {
-    let _ = &table.table;
+    tables_are_walked(table)
 }
 
 /// Flags of a range of memory (offset 28).
@@ -150,22 +139,42 @@ impl MemoryAffinity {
         self.flags |= NON_VOLATILE;
         self
     }
+}
 
-    // The structure's bytes.
-    fn bytes(&self) -> [u8; 40]
-        ensures { result ≡ memory_affinity_bytes self.now }
-    {
-        record(&[
-            Field::Byte(1),
-            Field::Byte(40),
-            Field::DWord(self.domain),
-            Field::Word(0),
-            Field::QWord(self.base),
-            Field::QWord(self.size),
-            Field::DWord(0),
-            Field::DWord(self.flags),
-            Field::QWord(0),
-        ])
+const MEMORY_AFFINITY: [Row; 9] = [
+    Row::Number("Type", 1),
+    Row::Number("Length", 1),
+    Row::Number("Proximity Domain", 4),
+    Row::Reserved(2),
+    Row::Number("Base Address", 8),
+    Row::Number("Length", 8),
+    Row::Reserved(4),
+    Row::Number("Flags", 4),
+    Row::Reserved(8),
+];
+
+impl Record<40> for MemoryAffinity {
+    ghost fields = { memory_affinity_fields };
+
+    fn rows() -> &'static [Row] {
+        &MEMORY_AFFINITY
+    }
+
+    fn bytes(&self) -> [u8; 40] {
+        record_of_numbers(
+            &MEMORY_AFFINITY,
+            &[
+                1,
+                40,
+                u64::from(self.domain),
+                0,
+                self.base,
+                self.size,
+                0,
+                u64::from(self.flags),
+                0,
+            ],
+        )
     }
 }
 
@@ -175,7 +184,7 @@ impl Aml for MemoryAffinity {
     ghost ends_well = { λ m. whole_ends_well (memory_affinity_bytes m) };
 
     fn to_aml_bytes(&self, sink: &mut dyn AmlSink) -> R<()> {
-        sink.vec(&self.bytes())
+        write_record(self, sink)
     }
 }
 
@@ -243,13 +252,15 @@ impl Handle {
                 if device >= 32 || function >= 8 {
                     return Err(Error::PciAddress);
                 }
-                Ok(record(&[
-                    Field::Word(segment),
-                    Field::Byte(bus),
-                    Field::Byte(device * 8 + function),
-                    Field::DWord(0),
-                    Field::QWord(0),
-                ]))
+                Ok(record_of(
+                    &PCI_HANDLE,
+                    &[
+                        Value::Number(u64::from(segment)),
+                        Value::Number(u64::from(bus)),
+                        Value::Number(u64::from(device * 8 + function)),
+                        Value::Bytes(&[0; 12]),
+                    ],
+                ))
             }
         }
     }
@@ -258,7 +269,37 @@ impl Handle {
 fn acpi_handle(hid: [u8; 8], uid: [u8; 4]) -> [u8; 16]
     ensures { result ≡ handle_bytes (Handle.Acpi hid uid) }
 {
-    record(&[Field::Bytes(&hid), Field::Bytes(&uid), Field::DWord(0)])
+    record_of(
+        &ACPI_HANDLE,
+        &[Value::Bytes(&hid), Value::Bytes(&uid), Value::Number(0)],
+    )
+}
+
+const ACPI_HANDLE: [Row; 3] = [
+    Row::Bytes("ACPI _HID", 8),
+    Row::Bytes("ACPI _UID", 4),
+    Row::Reserved(4),
+];
+
+const PCI_HANDLE: [Row; 4] = [
+    Row::Number("PCI Segment", 2),
+    Row::Number("PCI Bus Number", 1),
+    Row::Number("PCI Device and Function Number", 1),
+    Row::Reserved(12),
+];
+
+/// The names and widths of an ACPI device handle's fields, in order.
+pub fn acpi_handle_rows() -> &'static [Row]
+    ensures { (hid uid : List ℕ) → AreRowsOf result.now (acpi_handle_fields hid uid) }
+{
+    &ACPI_HANDLE
+}
+
+/// The names and widths of a PCI device handle's fields, in order.
+pub fn pci_handle_rows() -> &'static [Row]
+    ensures { (segment bus device function : ℕ) → AreRowsOf result.now (pci_handle_fields segment bus device function) }
+{
+    &PCI_HANDLE
 }
 
 impl Aml for Handle {
@@ -320,17 +361,38 @@ impl GenericInitiator {
         ensures err { IfErr result (λ e. (e ≡ Error.PciAddress) × (is_address self.now.handle ≡ false)) }
     {
         let handle = self.handle.bytes()?;
-        Ok(record(&[
-            Field::Byte(5),
-            Field::Byte(32),
-            Field::Byte(0),
-            Field::Byte(self.handle.kind()),
-            Field::DWord(self.domain),
-            Field::Bytes(&handle),
-            Field::DWord(self.flags),
-            Field::DWord(0),
-        ]))
+        Ok(record_of(
+            &GENERIC_INITIATOR,
+            &[
+                Value::Number(5),
+                Value::Number(32),
+                Value::Number(0),
+                Value::Number(u64::from(self.handle.kind())),
+                Value::Number(u64::from(self.domain)),
+                Value::Bytes(&handle),
+                Value::Number(u64::from(self.flags)),
+                Value::Number(0),
+            ],
+        ))
     }
+}
+
+const GENERIC_INITIATOR: [Row; 8] = [
+    Row::Number("Type", 1),
+    Row::Number("Length", 1),
+    Row::Reserved(1),
+    Row::Number("Device Handle Type", 1),
+    Row::Number("Proximity Domain", 4),
+    Row::Bytes("Device Handle", 16),
+    Row::Number("Flags", 4),
+    Row::Reserved(4),
+];
+
+/// The names and widths of an initiator's fields, in order.
+pub fn generic_initiator_rows() -> &'static [Row]
+    ensures { (initiator : GenericInitiator) → AreRowsOf result.now (generic_initiator_fields initiator) }
+{
+    &GENERIC_INITIATOR
 }
 
 impl Aml for GenericInitiator {
@@ -384,20 +446,38 @@ impl RintcAffinity {
         self.domain = proximity_domain;
         self
     }
+}
 
-    // The structure's bytes.
-    fn bytes(&self) -> [u8; 20]
-        ensures { result ≡ rintc_affinity_bytes self.now }
-    {
-        record(&[
-            Field::Byte(7),
-            Field::Byte(20),
-            Field::Word(0),
-            Field::DWord(self.domain),
-            Field::Bytes(&self.uid),
-            Field::DWord(self.flags),
-            Field::DWord(self.clock_domain),
-        ])
+const RINTC_AFFINITY: [Row; 7] = [
+    Row::Number("Type", 1),
+    Row::Number("Length", 1),
+    Row::Reserved(2),
+    Row::Number("Proximity Domain", 4),
+    Row::Bytes("ACPI Processor UID", 4),
+    Row::Number("Flags", 4),
+    Row::Number("Clock Domain", 4),
+];
+
+impl Record<20> for RintcAffinity {
+    ghost fields = { rintc_affinity_fields };
+
+    fn rows() -> &'static [Row] {
+        &RINTC_AFFINITY
+    }
+
+    fn bytes(&self) -> [u8; 20] {
+        record_of(
+            &RINTC_AFFINITY,
+            &[
+                Value::Number(7),
+                Value::Number(20),
+                Value::Number(0),
+                Value::Number(u64::from(self.domain)),
+                Value::Bytes(&self.uid),
+                Value::Number(u64::from(self.flags)),
+                Value::Number(u64::from(self.clock_domain)),
+            ],
+        )
     }
 }
 
@@ -407,6 +487,6 @@ impl Aml for RintcAffinity {
     ghost ends_well = { λ r. whole_ends_well (rintc_affinity_bytes r) };
 
     fn to_aml_bytes(&self, sink: &mut dyn AmlSink) -> R<()> {
-        sink.vec(&self.bytes())
+        write_record(self, sink)
     }
 }

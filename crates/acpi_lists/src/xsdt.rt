@@ -1,77 +1,54 @@
 //! XSDT: where the other tables are.
 
-ghost use Rattle.std.specs.Prelude.{◌≡◌};
+ghost use Rattle.std.proofs.Common.{rules};
+ghost use Rattle.std.specs.Prelude.{◌≡◌, true};
 ghost use Rattle.acpi_base.specs.Bytes.{le};
-ghost use Rattle.acpi_base.specs.Object.{whole, whole_ends_well};
+ghost use Rattle.acpi_base.specs.Object.{whole};
 ghost use Rattle.acpi_base.specs.Walk.{xsdt_walk};
-ghost use Rattle.acpi_core.specs.Listing.{bytes_of};
+ghost use Rattle.acpi_core.specs.Listing.{length_limit};
 ghost use Rattle.acpi_core.specs.Walk.{IsWalked};
 ghost use Rattle.acpi_core.specs.Addition.{Adds};
-ghost use Rattle.acpi_lists.specs.Xsdt.{xsdt};
+ghost use Rattle.acpi_lists.specs.Xsdt.{xsdt, entry_fields};
 
+use crate::list_table::{ListTable, tables_are_walked};
 use acpi_base::error::R;
-use acpi_base::object::Aml;
 use acpi_base::oem::Oem;
-use acpi_base::sink::AmlSink;
+use acpi_base::row::{Record, Row};
 use acpi_core::form::Form;
+use acpi_core::kind::{Kind, Plain};
 use acpi_core::table::Table;
 use std::alloc::Global;
-use std::marker::Model;
 
 /// The Extended System Description Table (ACPI 6.5, 5.2.8): the addresses of the other tables, from offset 36 on.
-#[derive(Drop)]
-pub struct XSDT {
-    table: Table<36>,
+pub type XSDT = ListTable<XsdtKind, 36>;
+
+/// The kind of XSDT.
+pub struct XsdtKind;
+
+impl Kind<36> for XsdtKind {
+    ghost walk = { xsdt_walk };
+
+    ghost limit = { length_limit };
+
+    ghost closed = { true };
 }
 
-impl Model for XSDT {
-    ghost use Rattle.acpi_base.specs.Walk.{xsdt_walk};
-    ghost use Rattle.acpi_core.specs.Addition.{Counted};
-    ghost use Rattle.acpi_core.specs.Walk.{Keeps};
+impl Plain<36> for XsdtKind {
+    ghost empty = { xsdt };
 
-    ghost Value = { Counted };
-
-    ghost view = { λ t. t.table };
-
-    ghost invariant = { λ t. Keeps xsdt_walk t.table.table };
-}
-
-impl Aml for XSDT {
-    ghost object = { λ t. whole (bytes_of t.table) };
-
-    ghost ends_well = { λ t. whole_ends_well (bytes_of t.table) };
-
-    fn to_aml_bytes(&self, sink: &mut dyn AmlSink) -> R<()> {
-        self.table.to_aml_bytes(sink)
+    fn table(alloc: Global, oem: Oem) -> Table<36> {
+        Table::new(alloc, Form::new(*b"XSDT", 1, oem, 0), &[], &[])
     }
+
+    ghost are_empty = { Prim.search rules };
 }
 
 impl XSDT {
-    /// A table without entries.
-    pub fn new(alloc: Global, oem_id: [u8; 6], oem_table_id: [u8; 8], oem_revision: u32) -> XSDT
-        ensures { result.table ≡ xsdt (record { id = oem_id; table_id = oem_table_id; revision = oem_revision }) }
-    {
-        let form = Form {
-            signature: *b"XSDT",
-            revision: 1,
-            oem: Oem {
-                id: oem_id,
-                table_id: oem_table_id,
-                revision: oem_revision,
-            },
-            count_width: 0,
-            limit: 0x1_0000_0000,
-        };
-        XSDT {
-            table: Table::new(alloc, form, &[], &[]),
-        }
-    }
-
     /// Adds the physical address of a table. FieldWidth where the length would reach 2^32.
     pub fn add_entry(&mut self, entry: u64) -> R<()>
         ensures { Adds result self.old (whole (le 8 entry)) self.new }
     {
-        self.table.add(&entry.to_le_bytes())
+        self.add_record(&Entry { address: entry })
     }
 }
 
@@ -79,5 +56,25 @@ impl XSDT {
 pub fn xsdt_is_walked(table: &XSDT)
     ensures { IsWalked xsdt_walk table.now.table }
 {
-    let _ = &table.table;
+    tables_are_walked(table)
+}
+
+/// An entry: the physical address of a table.
+#[derive(Drop)]
+pub struct Entry {
+    address: u64,
+}
+
+const ENTRY: [Row; 1] = [Row::Number("Entry", 8)];
+
+impl Record<8> for Entry {
+    ghost fields = { entry_fields };
+
+    fn rows() -> &'static [Row] {
+        &ENTRY
+    }
+
+    fn bytes(&self) -> [u8; 8] {
+        self.address.to_le_bytes()
+    }
 }

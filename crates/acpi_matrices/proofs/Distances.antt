@@ -8,14 +8,13 @@ use Rattle.std.proofs.lemmas.Nat.{mul-add-lt, mul-le}
 use Rattle.std.proofs.Math.Nat.{mul_comm}
 use Rattle.acpi_base.specs.Walk.{ArePiecesOf}
 use Rattle.acpi_base.specs.declared.oem.Oem.{Oem}
-use Rattle.acpi_base.specs.Bytes.{le, put, complement, field_at}
-use Rattle.acpi_base.specs.Layout.{qword}
+use Rattle.acpi_base.specs.Bytes.{put, complement, field_at}
 use Rattle.acpi_base.specs.Header.{header}
 use Rattle.acpi_base.specs.Table.{with_checksum}
-use Rattle.acpi_base.proofs.Bytes.{carried_le, length_le}
+use Rattle.acpi_base.proofs.Bytes.{carried_le}
 use Rattle.acpi_base.proofs.Puts.{put-put, length-put, put-append}
 use Rattle.acpi_base.proofs.Tables.{length-header, table_is_true, table_without_pieces}
-use Rattle.acpi_matrices.specs.Slit.{Distances, slit_bytes, slit, place_of, distance, with_distance, IsMatrix, has_cell, DistancesAreTrue, DistancesAreSet, IsSymmetric, oem_of, parts_of, front_of, IsParts}
+use Rattle.acpi_matrices.specs.Slit.{Distances, slit_bytes, localities_bytes, slit, place_of, distance, with_distance, IsMatrix, has_cell, DistancesAreTrue, DistancesAreSet, IsSymmetric, oem_of, parts_of, front_of, IsParts}
 use Rattle.acpi_matrices.proofs.Fields.{field_put, field_before, field_after, field_behind, field_filled, same_place}
 
 -- ---- places
@@ -124,30 +123,33 @@ are_set t a b value is has = let both = and_parts _ _ has in set_is t a b value 
 most : (n : ℕ) → n < 65536 → n * n ≤ 65535 * 65535
 most n small = mul-le n n 65535 65535 (omega arith) (omega arith)
 
-length-inside : (t : Distances) → IsMatrix t → length (qword t.localities ++ t.cells) ≡ 8 + t.localities * t.localities
-length-inside t is = omega (arith, length-append (qword t.localities) t.cells, length_le 8 t.localities, is.square)
+length-told : (n : ℕ) → length (localities_bytes n) ≡ 8
+length-told n = refl
+
+length-inside : (t : Distances) → IsMatrix t → length (localities_bytes t.localities ++ t.cells) ≡ 8 + t.localities * t.localities
+length-inside t is = omega (arith, length-append (localities_bytes t.localities) t.cells, length-told t.localities, is.square)
 
 pub are_true : DistancesAreTrue
 are_true t is =
     let size = length-inside t is in
-    let all = table_is_true (codes "SLIT") (qword t.localities ++ t.cells) 1 t.oem refl is.id is.table_id (omega (arith, size, most t.localities is.fits)) in
+    let all = table_is_true (codes "SLIT") (localities_bytes t.localities ++ t.cells) 1 t.oem refl is.id is.table_id (omega (arith, size, most t.localities is.fits)) in
     (all.0, all.1 ∙ omega (arith, size))
 
 -- what stands before the cells
 pub length-front : (t : Distances) → IsMatrix t → length (front_of t) ≡ 44
 length-front t is =
-    let h = header (codes "SLIT") (36 + length (qword t.localities ++ t.cells)) 1 t.oem in
-    omega (arith, length-append h (qword t.localities), length-header (codes "SLIT") (36 + length (qword t.localities ++ t.cells)) 1 t.oem refl is.id is.table_id, length_le 8 t.localities)
+    let h = header (codes "SLIT") (36 + length (localities_bytes t.localities ++ t.cells)) 1 t.oem in
+    omega (arith, length-append h (localities_bytes t.localities), length-header (codes "SLIT") (36 + length (localities_bytes t.localities ++ t.cells)) 1 t.oem refl is.id is.table_id, length-told t.localities)
 
 pub are_symmetric : (t : Distances) → IsMatrix t → IsSymmetric t
 are_symmetric t is =
-    let h = header (codes "SLIT") (36 + length (qword t.localities ++ t.cells)) 1 t.oem in
-    let y = h ++ (qword t.localities ++ t.cells) in
+    let h = header (codes "SLIT") (36 + length (localities_bytes t.localities ++ t.cells)) 1 t.oem in
+    let y = h ++ (localities_bytes t.localities ++ t.cells) in
     let size : length y ≡ 44 + t.localities * t.localities =
-    omega (arith, length-append h (qword t.localities ++ t.cells), length-header (codes "SLIT") (36 + length (qword t.localities ++ t.cells)) 1 t.oem refl is.id is.table_id, length-inside t is) in
+    omega (arith, length-append h (localities_bytes t.localities ++ t.cells), length-header (codes "SLIT") (36 + length (localities_bytes t.localities ++ t.cells)) 1 t.oem refl is.id is.table_id, length-inside t is) in
     let cell : (k : ℕ) → field_at (44 + k) 1 (slit_bytes t) ≡ field_at k 1 t.cells =
     λ k. field_after (44 + k) 1 9 (complement (sum (put 9 (0 ∷ []) y)) ∷ []) y (omega arith) (omega (arith, size))
-    ∙ ap (field_at (44 + k) 1) (sym (append_assoc h (qword t.localities) t.cells)) ∙ field_behind 44 k 1 (front_of t) t.cells (length-front t is) in
+    ∙ ap (field_at (44 + k) 1) (sym (append_assoc h (localities_bytes t.localities) t.cells)) ∙ field_behind 44 k 1 (front_of t) t.cells (length-front t is) in
     record {
       cells = λ a b has. cell (place_of t.localities a b);
       mirrored = λ a b has.
@@ -168,9 +170,9 @@ parts_bytes fixed cells n running parts =
     let f = front_of t in
     let size = length-front t parts.is in
     let s = (256 - running) % 256 in
-    let h = header (codes "SLIT") (36 + length (qword n ++ cells)) 1 t.oem in
-    let y = h ++ (qword n ++ cells) in
-    let whole : f ++ cells ≡ y = append_assoc h (qword n) cells in
+    let h = header (codes "SLIT") (36 + length (localities_bytes n ++ cells)) 1 t.oem in
+    let y = h ++ (localities_bytes n ++ cells) in
+    let whole : f ++ cells ≡ y = append_assoc h (localities_bytes n) cells in
     let plain : put 9 (0 ∷ []) y ≡ f ++ cells = ap (put 9 (0 ∷ [])) (sym whole) ∙ plain_front t cells in
     let same : s ≡ complement (sum (put 9 (0 ∷ []) y)) = omega (arith, parts.sums, ap sum plain) in
     ap (λ x. x ++ cells) parts.front ∙ sym (put-append 9 (s ∷ []) f cells (omega (arith, size))) ∙ ap (put 9 (s ∷ [])) whole ∙ ap (λ k. put 9 (k ∷ []) y) same
@@ -197,14 +199,14 @@ oem_told id table_id rest size revision six eight small = absurd (omega arith)
 -- a new table
 pub parts_new : (oem : Oem) (n r0 r : ℕ) (size : ℕ) (cells head made sealed fixed : List ℕ)
     → length oem.id ≡ 6 → length oem.table_id ≡ 8 → oem.revision < 2 ^ 32 → n < 65536 → cells ≡ replicate (n * n) 10
-    → head ≡ header (codes "SLIT") size 1 oem → size ≡ 44 + n * n → made ≡ head ++ le 8 n
+    → head ≡ header (codes "SLIT") size 1 oem → size ≡ 44 + n * n → made ≡ head ++ localities_bytes n
     → sealed ≡ with_checksum made → r0 ≡ sum (put 9 (0 ∷ []) sealed) % 256 → r ≡ (r0 + sum cells) % 256 → fixed ≡ put 9 ((256 - r) % 256 ∷ []) sealed
     → IsParts fixed n cells r × (parts_of fixed n cells ≡ slit oem n)
 parts_new oem n r0 r size cells head made sealed fixed six eight small few filled is_head is_size is_made is_sealed is_r0 is_r is_fixed =
     let t = slit oem n in
     let wide : length t.cells ≡ n * n = length-replicate (n * n) 10 in
-    let inside : 36 + length (qword n ++ t.cells) ≡ size = omega (arith, length-append (qword n) t.cells, length_le 8 n, wide, is_size) in
-    let front : made ≡ front_of t = is_made ∙ ap (λ h. h ++ le 8 n) is_head ∙ ap (λ k. header (codes "SLIT") k 1 oem ++ le 8 n) (sym inside) in
+    let inside : 36 + length (localities_bytes n ++ t.cells) ≡ size = omega (arith, length-append (localities_bytes n) t.cells, length-told n, wide, is_size) in
+    let front : made ≡ front_of t = is_made ∙ ap (λ h. h ++ localities_bytes n) is_head ∙ ap (λ k. header (codes "SLIT") k 1 oem ++ localities_bytes n) (sym inside) in
     let is_matrix : IsMatrix t = record {
       id = six;
       table_id = eight;
@@ -220,7 +222,7 @@ parts_new oem n r0 r size cells head made sealed fixed six eight small few fille
     let over : fixed ≡ put 9 (s ∷ []) (front_of t) =
     is_fixed ∙ ap (put 9 (s ∷ [])) is_sealed ∙ put-put 9 (s ∷ []) (k ∷ []) made refl (omega (arith, long)) ∙ ap (put 9 (s ∷ [])) front in
     let oems : oem_of fixed ≡ oem =
-    ap oem_of over ∙ oem_kept s (front_of t) (omega (arith, length-front t is_matrix)) ∙ oem_told oem.id oem.table_id (qword n) (36 + length (qword n ++ t.cells)) oem.revision six eight small in
+    ap oem_of over ∙ oem_kept s (front_of t) (omega (arith, length-front t is_matrix)) ∙ oem_told oem.id oem.table_id (localities_bytes n) (36 + length (localities_bytes n ++ t.cells)) oem.revision six eight small in
     let same : parts_of fixed n cells ≡ t = λ i. record { oem = oems i; localities = n; cells = filled i } in
     let cleared : put 9 (0 ∷ []) sealed ≡ front_of t ++ [] =
     ap (put 9 (0 ∷ [])) is_sealed ∙ put-put 9 (0 ∷ []) (k ∷ []) made refl (omega (arith, long)) ∙ ap (put 9 (0 ∷ [])) front ∙ plain_nil t in
@@ -256,8 +258,8 @@ parts_set fixed fixed' cells cells' n r r' a b v parts column row is_cells step 
     let over : fixed' ≡ put 9 (s' ∷ []) f = is_fixed ∙ ap (put 9 (s' ∷ [])) parts.front ∙ put-put 9 (s' ∷ []) (s ∷ []) f refl (omega (arith, long)) in
     let oems : oem_of fixed' ≡ oem_of fixed = ap oem_of is_fixed ∙ oem_kept s' fixed (omega (arith, ap length parts.front, length-put 9 (s ∷ []) f (omega (arith, long)), long)) in
     let same : parts_of fixed' n cells' ≡ t' = λ i. record { oem = oems i; localities = n; cells = is_cells i } in
-    let told : length (qword n ++ cells') ≡ length (qword n ++ cells) = omega (arith, length-append (qword n) cells', length-append (qword n) cells, same_size) in
-    let front : f ≡ front_of t' = ap (λ k. header (codes "SLIT") (36 + k) 1 t.oem ++ qword n) (sym told ∙ ap (λ c. length (qword n ++ c)) is_cells) in
+    let told : length (localities_bytes n ++ cells') ≡ length (localities_bytes n ++ cells) = omega (arith, length-append (localities_bytes n) cells', length-append (localities_bytes n) cells, same_size) in
+    let front : f ≡ front_of t' = ap (λ k. header (codes "SLIT") (36 + k) 1 t.oem ++ localities_bytes n) (sym told ∙ ap (λ c. length (localities_bytes n ++ c)) is_cells) in
     let sums : r' ≡ sum (front_of t' ++ t'.cells) % 256 =
     omega (arith, step, small, parts.sums, sum_by-append (λ v. v) f cells, sum_by-append (λ v. v) (front_of t') t'.cells, ap sum front, ap sum is_cells) in
     let parts' : IsParts fixed' n cells' r' = record {
@@ -274,4 +276,4 @@ own_mirror n a b v x same within =
     sym (ap (λ k. put k (v ∷ []) (put (place_of n a b) (v ∷ []) x)) mirror ∙ put-put (place_of n a b) (v ∷ []) (v ∷ []) x refl (omega (arith, within)))
 
 pub slit_without_pieces : (t : Distances) → ArePiecesOf (slit_bytes t) []
-slit_without_pieces t = table_without_pieces (codes "SLIT") 1 t.oem (qword t.localities ++ t.cells) refl refl
+slit_without_pieces t = table_without_pieces (codes "SLIT") 1 t.oem (localities_bytes t.localities ++ t.cells) refl refl

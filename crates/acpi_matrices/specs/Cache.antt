@@ -1,6 +1,6 @@
 -- Memory Side Cache Information Structure (ACPI 6.5, 5.2.28.5).
-use Rattle.std.specs.Prelude.{◌≡◌, ℕ, ◌+◌, ◌*◌, ◌<◌, List, [], ◌∷◌, ◌++◌, length}
-use Rattle.acpi_base.specs.Layout.{word, dword, qword, zeros, record_of}
+use Rattle.std.specs.Prelude.{ℕ, ◌+◌, ◌*◌, List, [], ◌∷◌, ◌++◌, length}
+use Rattle.acpi_base.specs.Fields.{NamedField, word, dword, qword, reserved, fields_joined}
 use Rattle.acpi_matrices.specs.declared.hmat.cache.CacheLevel.{CacheLevel}
 use Rattle.acpi_matrices.specs.declared.hmat.cache.CacheLevel.TheVariants as level
 use Rattle.acpi_matrices.specs.declared.hmat.cache.Associativity.{Associativity}
@@ -36,7 +36,8 @@ pub record SideCache : Type 0 where
 -- policy, 16 to 31 the bytes of a line
 abbrev pub attributes_of : CacheLevel → CacheLevel → Associativity → WritePolicy → ℕ → ℕ
 attributes_of total this associativity policy line =
-    level_number total + 16 * level_number this + 256 * associativity_number associativity + 4096 * policy_number policy + 65536 * line
+    level_number total + 16 * level_number this + 256 * associativity_number associativity
+    + 4096 * policy_number policy + 65536 * line
 
 -- a cache without handles
 abbrev pub cache : ℕ → ℕ → CacheLevel → CacheLevel → Associativity → WritePolicy → ℕ → SideCache
@@ -48,23 +49,21 @@ cache domain cache_size total this associativity policy line = record {
   handles = [];
 }
 
--- two bytes a handle, and their number fits its field
-pub record IsCache (c : SideCache) : Type 0 where
-  pub handles : length c.handles ≡ 2 * c.count
-  pub fits : c.count < 65536
+abbrev pub cache_head_fields : SideCache → List NamedField
+cache_head_fields c =
+    word "Type" 2  -- 0
+    ∷ reserved 2  -- 2
+    ∷ dword "Length" (32 + length c.handles)  -- 4
+    ∷ dword "Proximity Domain for the Memory" c.domain  -- 8
+    ∷ reserved 4  -- 12
+    ∷ qword "Memory Side Cache Size" c.cache_size  -- 16
+    ∷ dword "Cache Attributes" c.attributes  -- 24
+    ∷ reserved 2  -- 28
+    ∷ word "Number of SMBIOS Handles" c.count  -- 30
+    ∷ []
 
 abbrev pub cache_head : SideCache → List ℕ
-cache_head c = record_of
-    (word 2  -- 0: Type
-    ∷ zeros 2  -- 2: reserved
-    ∷ dword (32 + length c.handles)  -- 4: Length
-    ∷ dword c.domain  -- 8: Proximity Domain for the Memory
-    ∷ zeros 4  -- 12: reserved
-    ∷ qword c.cache_size  -- 16: Memory Side Cache Size
-    ∷ dword c.attributes  -- 24: Cache Attributes
-    ∷ zeros 2  -- 28: reserved
-    ∷ word c.count  -- 30: Number of SMBIOS Handles
-    ∷ [])
+cache_head c = fields_joined (cache_head_fields c)
 
 abbrev pub cache_bytes : SideCache → List ℕ
 cache_bytes c = cache_head c ++ c.handles  -- 32: SMBIOS Handles

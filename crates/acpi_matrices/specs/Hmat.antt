@@ -1,8 +1,9 @@
 -- The Heterogeneous Memory Attribute Table (ACPI 6.5, 5.2.28).
-use Rattle.std.specs.Prelude.{ℕ, ◌^◌, List, [], ◌∷◌, codes}
-use Rattle.acpi_base.specs.Layout.{word, dword, zeros, record_of}
+use Rattle.std.specs.Prelude.{ℕ, List, [], ◌∷◌, codes}
+use Rattle.acpi_base.specs.Fields.{NamedField, word, dword, reserved, fields_joined}
+use Rattle.acpi_base.specs.Layout.{zeros}
 use Rattle.acpi_base.specs.declared.oem.Oem.{Oem}
-use Rattle.acpi_core.specs.Listing.{Listing}
+use Rattle.acpi_core.specs.Listing.{Listing, length_limit}
 use Rattle.acpi_matrices.specs.declared.hmat.MemoryProximityDomain.{MemoryProximityDomain}
 
 -- a table without structures
@@ -14,19 +15,22 @@ hmat oem = record {
   before = zeros 4;  -- 36: reserved
   count_width = 0;
   after = [];
-  limit = 2 ^ 32;
+  limit = length_limit;
   structures = [];
 }
 
 -- Memory Proximity Domain Attributes Structure (5.2.28.3)
+abbrev pub proximity_fields : MemoryProximityDomain → List NamedField
+proximity_fields m =
+    word "Type" 0  -- 0
+    ∷ reserved 2  -- 2
+    ∷ dword "Length" 40  -- 4
+    ∷ word "Flags" 1  -- 8: the initiator's domain is valid
+    ∷ reserved 2  -- 10
+    ∷ dword "Proximity Domain for the Attached Initiator" m.initiator  -- 12
+    ∷ dword "Proximity Domain for the Memory" m.memory  -- 16
+    ∷ reserved 20  -- 20
+    ∷ []
+
 abbrev pub proximity_bytes : MemoryProximityDomain → List ℕ
-proximity_bytes m = record_of
-    (word 0  -- 0: Type
-    ∷ zeros 2  -- 2: reserved
-    ∷ dword 40  -- 4: Length
-    ∷ word 1  -- 8: Flags: the initiator's domain is valid
-    ∷ zeros 2  -- 10: reserved
-    ∷ dword m.initiator  -- 12: Proximity Domain for the Attached Initiator
-    ∷ dword m.memory  -- 16: Proximity Domain for the Memory
-    ∷ zeros 20  -- 20: reserved
-    ∷ [])
+proximity_bytes m = fields_joined (proximity_fields m)

@@ -1,44 +1,46 @@
 -- System Locality Latency and Bandwidth Information Structure (ACPI 6.5, 5.2.28.4).
-use Rattle.std.specs.Prelude.{◌≡◌, ℕ, ◌+◌, ◌*◌, ◌^◌, ◌<◌, nat_lt, ◌&&◌, Bool, true, false, List, [], ◌∷◌, ◌++◌, length, replicate, Result, OnOk, OnErr, IfErr}
+use Rattle.std.specs.Prelude.{◌≡◌, ℕ, ◌+◌, ◌*◌, ◌^◌, ◌<◌, nat_lt, ◌&&◌, ◌∷◌, ◌++◌}
+use Rattle.std.specs.Prelude.{Bool, true, false, List, [], length, replicate, Result, OnOk, OnErr, IfErr}
 use Rattle.acpi_base.specs.declared.error.Error.{Error}
 use Rattle.acpi_base.specs.declared.error.Error.TheVariants.{Index}
 use Rattle.acpi_base.specs.Bytes.{le, put, field_at}
-use Rattle.acpi_base.specs.Layout.{byte, word, dword, qword, zeros, record_of}
+use Rattle.acpi_base.specs.Fields.{NamedField, byte, word, dword, qword, reserved, fields_joined}
+use Rattle.acpi_base.specs.Layout.{zeros}
 use Rattle.acpi_matrices.specs.declared.hmat.locality.DataType.{DataType}
-use Rattle.acpi_matrices.specs.declared.hmat.locality.DataType.TheVariants.{AccessLatency, ReadLatency, WriteLatency, AccessBandwidth, ReadBandwidth, WriteBandwidth}
+use Rattle.acpi_matrices.specs.declared.hmat.locality.DataType.TheVariants as types
 use Rattle.acpi_matrices.specs.declared.hmat.locality.MinTransferSize.{MinTransferSize}
-use Rattle.acpi_matrices.specs.declared.hmat.locality.MinTransferSize.TheVariants.{SizeByteAligned, Size64b, Size128b, Size256b, Size512b, Size1k, Size2k, Size4k, Size8k, Size16k, Size32k, Size64k}
+use Rattle.acpi_matrices.specs.declared.hmat.locality.MinTransferSize.TheVariants as sizes
 use Rattle.acpi_matrices.specs.declared.hmat.locality.LocalityType.{LocalityType}
-use Rattle.acpi_matrices.specs.declared.hmat.locality.LocalityType.TheVariants.{Memory, FirstLevelCache, SecondLevelCache, ThirdLevelCache}
+use Rattle.acpi_matrices.specs.declared.hmat.locality.LocalityType.TheVariants as memories
 
 -- Memory Hierarchy: bits 0 to 3 of the flags
 abbrev pub hierarchy_number : LocalityType → ℕ
-hierarchy_number Memory = 0
-hierarchy_number FirstLevelCache = 1
-hierarchy_number SecondLevelCache = 2
-hierarchy_number ThirdLevelCache = 3
+hierarchy_number memories.Memory = 0
+hierarchy_number memories.FirstLevelCache = 1
+hierarchy_number memories.SecondLevelCache = 2
+hierarchy_number memories.ThirdLevelCache = 3
 
 abbrev pub data_type_number : DataType → ℕ
-data_type_number AccessLatency = 0
-data_type_number ReadLatency = 1
-data_type_number WriteLatency = 2
-data_type_number AccessBandwidth = 3
-data_type_number ReadBandwidth = 4
-data_type_number WriteBandwidth = 5
+data_type_number types.AccessLatency = 0
+data_type_number types.ReadLatency = 1
+data_type_number types.WriteLatency = 2
+data_type_number types.AccessBandwidth = 3
+data_type_number types.ReadBandwidth = 4
+data_type_number types.WriteBandwidth = 5
 
 abbrev pub transfer_number : MinTransferSize → ℕ
-transfer_number SizeByteAligned = 0
-transfer_number Size64b = 1
-transfer_number Size128b = 2
-transfer_number Size256b = 3
-transfer_number Size512b = 4
-transfer_number Size1k = 5
-transfer_number Size2k = 6
-transfer_number Size4k = 7
-transfer_number Size8k = 8
-transfer_number Size16k = 9
-transfer_number Size32k = 10
-transfer_number Size64k = 11
+transfer_number sizes.SizeByteAligned = 0
+transfer_number sizes.Size64b = 1
+transfer_number sizes.Size128b = 2
+transfer_number sizes.Size256b = 3
+transfer_number sizes.Size512b = 4
+transfer_number sizes.Size1k = 5
+transfer_number sizes.Size2k = 6
+transfer_number sizes.Size4k = 7
+transfer_number sizes.Size8k = 8
+transfer_number sizes.Size16k = 9
+transfer_number sizes.Size32k = 10
+transfer_number sizes.Size64k = 11
 
 -- A matrix over so many initiators and targets. Its lists are bytes, one list after another: the initiators' domains of four
 -- bytes each, the targets' domains of four, the entries of two, row by initiator.
@@ -76,20 +78,23 @@ pub record IsLocality (l : Locality) : Type 0 where
   pub lists : length l.lists ≡ lists_size l.initiators l.targets
   pub fits : locality_size l.initiators l.targets < 2 ^ 32
 
+abbrev pub locality_head_fields : Locality → List NamedField
+locality_head_fields l =
+    word "Type" 1  -- 0
+    ∷ reserved 2  -- 2
+    ∷ dword "Length" (32 + length l.lists)  -- 4
+    ∷ byte "Flags" l.flags  -- 8
+    ∷ byte "Data Type" (data_type_number l.data_type)  -- 9
+    ∷ byte "MinTransferSize" (transfer_number l.transfer)  -- 10
+    ∷ reserved 1  -- 11
+    ∷ dword "Number of Initiator Proximity Domains" l.initiators  -- 12
+    ∷ dword "Number of Target Proximity Domains" l.targets  -- 16
+    ∷ reserved 4  -- 20
+    ∷ qword "Entry Base Unit" l.unit  -- 24
+    ∷ []
+
 abbrev pub locality_head : Locality → List ℕ
-locality_head l = record_of
-    (word 1  -- 0: Type
-    ∷ zeros 2  -- 2: reserved
-    ∷ dword (32 + length l.lists)  -- 4: Length
-    ∷ byte l.flags  -- 8: Flags
-    ∷ byte (data_type_number l.data_type)  -- 9: Data Type
-    ∷ byte (transfer_number l.transfer)  -- 10: MinTransferSize
-    ∷ byte 0  -- 11: reserved
-    ∷ dword l.initiators  -- 12: Number of Initiator Proximity Domains
-    ∷ dword l.targets  -- 16: Number of Target Proximity Domains
-    ∷ zeros 4  -- 20: reserved
-    ∷ qword l.unit  -- 24: Entry Base Unit
-    ∷ [])
+locality_head l = fields_joined (locality_head_fields l)
 
 abbrev pub locality_bytes : Locality → List ℕ
 locality_bytes l = locality_head l ++ l.lists  -- 32: Initiator List, Target List, Entries
@@ -144,8 +149,11 @@ pub record Sets (result : Result Unit Error) (old : Locality) (cell : Cell) (val
 -- The cell that is set has the value, and every other cell the one that it had.
 abbrev pub CellsAreSet : Type 0
 CellsAreSet =
-    (l : Locality) (cell other : Cell) (value : ℕ) → IsLocality l → has_cell l cell ≡ true → has_cell l other ≡ true → value < 256 ^ width_of cell
-    → IsLocality (with_value l cell value) × (value_at (with_value l cell value) cell ≡ value) × ((other ≡ cell → ⊥) → value_at (with_value l cell value) other ≡ value_at l other)
+    (l : Locality) (cell other : Cell) (value : ℕ) → IsLocality l → has_cell l cell ≡ true → has_cell l other ≡ true
+    → value < 256 ^ width_of cell
+    → IsLocality (with_value l cell value)
+    × (value_at (with_value l cell value) cell ≡ value)
+    × ((other ≡ cell → ⊥) → value_at (with_value l cell value) other ≡ value_at l other)
 
 -- what a cell of a new matrix holds
 abbrev pub first_value : Cell → ℕ

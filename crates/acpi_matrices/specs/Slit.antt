@@ -1,11 +1,12 @@
 -- The System Locality Information Table (ACPI 6.5, 5.2.17).
-use Rattle.std.specs.Prelude.{◌≡◌, ℕ, ◌+◌, ◌-◌, ◌*◌, ◌%◌, ◌<◌, nat_lt, ◌&&◌, ◌==◌, Bool, true, false, List, [], ◌∷◌, ◌++◌, codes, length, take, drop, sum, replicate, if◌then◌else◌, Result, OnOk, OnErr, IfErr}
+use Rattle.std.specs.Prelude.{◌≡◌, ℕ, ◌+◌, ◌-◌, ◌*◌, ◌%◌, ◌<◌, nat_lt, ◌&&◌, ◌==◌, if◌then◌else◌, ◌∷◌, ◌++◌}
+use Rattle.std.specs.Prelude.{Bool, true, false, List, [], codes, length, take, drop, sum, replicate, Result, OnOk, OnErr, IfErr}
 use Rattle.acpi_base.specs.declared.error.Error.{Error}
 use Rattle.acpi_base.specs.declared.error.Error.TheVariants.{Index}
 use Rattle.acpi_base.specs.declared.oem.Oem.{Oem}
 use Rattle.acpi_base.specs.Bytes.{put, field_at}
+use Rattle.acpi_base.specs.Fields.{NamedField, qword, fields_joined}
 use Rattle.acpi_base.specs.Header.{header}
-use Rattle.acpi_base.specs.Layout.{qword}
 use Rattle.acpi_base.specs.Table.{table_of, IsTrueTable}
 
 -- The distances between so many localities, one byte each: that of a and b at a + localities * b.
@@ -19,11 +20,18 @@ pub record Counted : Type 0 where
   pub table : Distances
   pub summed : ℕ
 
+-- what stands between the header and the distances
+abbrev pub slit_fields : ℕ → List NamedField
+slit_fields localities =
+    qword "Number of System Localities" localities  -- 36
+    ∷ []
+
+abbrev pub localities_bytes : ℕ → List ℕ
+localities_bytes localities = fields_joined (slit_fields localities)
+
 -- The table's bytes: it tells their number at 4, and the byte at 9 makes their sum zero.
 abbrev pub slit_bytes : Distances → List ℕ
-slit_bytes t = table_of (codes "SLIT") 1 t.oem
-    (qword t.localities  -- 36: Number of System Localities
-    ++ t.cells)  -- 44: Entries
+slit_bytes t = table_of (codes "SLIT") 1 t.oem (localities_bytes t.localities ++ t.cells)  -- 44: Entries
 
 -- all distances 10, which is that of a locality to itself
 abbrev pub slit : Oem → ℕ → Distances
@@ -73,7 +81,8 @@ pub record SetsDistance (result : Result Unit Error) (old : Counted) (a b value 
 
 -- A matrix's bytes are a table's, and 44 and its cells.
 abbrev pub DistancesAreTrue : Type 0
-DistancesAreTrue = (t : Distances) → IsMatrix t → IsTrueTable (slit_bytes t) × (length (slit_bytes t) ≡ 44 + t.localities * t.localities)
+DistancesAreTrue =
+    (t : Distances) → IsMatrix t → IsTrueTable (slit_bytes t) × (length (slit_bytes t) ≡ 44 + t.localities * t.localities)
 
 -- The distance that is set holds either way, all others are as they were, and what is symmetric stays so.
 abbrev pub DistancesAreSet : Type 0
@@ -82,12 +91,14 @@ DistancesAreSet =
     → IsMatrix (with_distance t a b value)
     × (distance (with_distance t a b value) a b ≡ value)
     × (distance (with_distance t a b value) b a ≡ value)
-    × ((c d : ℕ) → has_cell t c d ≡ true → ((c ≡ a) × (d ≡ b) → ⊥) → ((c ≡ b) × (d ≡ a) → ⊥) → distance (with_distance t a b value) c d ≡ distance t c d)
+    × ((c d : ℕ) → has_cell t c d ≡ true → ((c ≡ a) × (d ≡ b) → ⊥) → ((c ≡ b) × (d ≡ a) → ⊥)
+    → distance (with_distance t a b value) c d ≡ distance t c d)
 
 -- In a table's bytes the distances stand from 44 on, and two localities have one either way.
 pub record IsSymmetric (t : Distances) : Type 0 where
   pub cells : (a b : ℕ) → has_cell t a b ≡ true → field_at (44 + place_of t.localities a b) 1 (slit_bytes t) ≡ distance t a b
-  pub mirrored : (a b : ℕ) → has_cell t a b ≡ true → field_at (44 + place_of t.localities a b) 1 (slit_bytes t) ≡ field_at (44 + place_of t.localities b a) 1 (slit_bytes t)
+  pub mirrored : (a b : ℕ) → has_cell t a b ≡ true
+      → field_at (44 + place_of t.localities a b) 1 (slit_bytes t) ≡ field_at (44 + place_of t.localities b a) 1 (slit_bytes t)
 
 -- ---- in parts
 
@@ -101,7 +112,8 @@ parts_of fixed localities cells = record { oem = oem_of fixed; localities = loca
 
 -- the header with a checksum of 0, and the number of localities
 abbrev pub front_of : Distances → List ℕ
-front_of t = header (codes "SLIT") (36 + length (qword t.localities ++ t.cells)) 1 t.oem ++ qword t.localities
+front_of t =
+    header (codes "SLIT") (36 + length (localities_bytes t.localities ++ t.cells)) 1 t.oem ++ localities_bytes t.localities
 
 -- The parts are a matrix and what stands before its cells, with the checksum of a sum, which is that of all bytes but the
 -- checksum.

@@ -2,5 +2,11 @@
 #![tactic(auto)]
 
 pub mod hmat;
-pub mod laws;
+pub mod list_table;
 pub mod slit;
+
+/// Laws of the tables. Each function is a law: it does nothing, and ensures it.
+pub mod laws {
+    pub use crate::hmat::{cells_are_set, hmat_is_walked, new_cells_are_unreachable};
+    pub use crate::slit::{distances_are_set, distances_are_true, slit_is_symmetric, slit_is_true};
+}

@@ -1,11 +1,14 @@
 //! SLIT: how far localities are from each other.
 
-ghost use Rattle.std.specs.Prelude.{◌≡◌, ◌≢◌, ◌+◌, ◌*◌, ◌%◌, ◌≤◌, ◌<◌, [], ◌∷◌, length, replicate, sum, IfOk, OnOk, IfErr};
+ghost use Rattle.std.specs.Prelude.{◌≡◌, ◌≢◌, ℕ, ◌+◌, ◌*◌, ◌%◌, ◌≤◌, ◌<◌, [], ◌∷◌, length, replicate, sum};
+ghost use Rattle.std.specs.Prelude.{IfOk, OnOk, IfErr};
 ghost use Rattle.acpi_base.specs.Bytes.{put};
+ghost use Rattle.acpi_base.specs.Fields.{AreRowsOf};
 ghost use Rattle.acpi_base.specs.Object.{whole, whole_ends_well};
 ghost use Rattle.acpi_base.specs.Table.{IsTrueTable};
 ghost use Rattle.acpi_base.specs.Walk.{ArePiecesOf};
-ghost use Rattle.acpi_matrices.specs.Slit.{slit, slit_bytes, place_of, cost_of, SetsDistance, DistancesAreTrue, DistancesAreSet, IsSymmetric};
+ghost use Rattle.acpi_matrices.specs.Slit.{slit, slit_fields, slit_bytes, place_of, cost_of};
+ghost use Rattle.acpi_matrices.specs.Slit.{SetsDistance, DistancesAreTrue, DistancesAreSet, IsSymmetric};
 
 use acpi_base::error::{Error, R};
 use acpi_base::header::{header, seal};
@@ -13,7 +16,7 @@ use acpi_base::object::Aml;
 use acpi_base::oem::Oem;
 use acpi_base::parts::write_parts;
 use acpi_base::patch::{patch, write_at};
-use acpi_base::record::{Field, record};
+use acpi_base::row::{Row, Value, record_of};
 use acpi_base::sink::AmlSink;
 use acpi_base::sum::Sum;
 use std::alloc::Global;
@@ -66,7 +69,8 @@ fn place(localities: usize, a: usize, b: usize) -> usize
 fn set_cells(cells: &mut [u8], running: &mut Sum, localities: usize, a: usize, b: usize, value: u8)
     requires inside { (a < localities) × ((b < localities) × (localities < 65536)) }
     requires square { length cells.old ≡ localities * localities }
-    ensures cells { cells.new ≡ put (place_of localities b a) (value ∷ []) (put (place_of localities a b) (value ∷ []) cells.old) }
+    ensures cells { cells.new ≡ put (place_of localities b a) (value ∷ [])
+        (put (place_of localities a b) (value ∷ []) cells.old) }
     ensures sum { (running.new.value + sum cells.old) % 256 ≡ (running.old.value + sum cells.new) % 256 }
     ensures range { running.new.value < 256 }
     ensures counted { running.new.summed ≡ running.old.summed + cost_of a b }
@@ -96,7 +100,8 @@ impl SLIT {
         oem_revision: u32,
         localities: u32,
     ) -> R<SLIT>
-        ensures ok { IfOk result (λ t. t.table ≡ slit (record { id = oem_id; table_id = oem_table_id; revision = oem_revision }) localities) }
+        ensures ok { IfOk result (λ t.
+            t.table ≡ slit (record { id = oem_id; table_id = oem_table_id; revision = oem_revision }) localities) }
         ensures fits { OnOk result (localities < 65536) }
         ensures err { IfErr result (λ e. e ≢ Error.Memory → (e ≡ Error.Matrix) × (65536 ≤ localities)) }
     {
@@ -105,13 +110,12 @@ impl SLIT {
         }
         let size = localities as usize * localities as usize;
         let cells = new_cells(alloc, size)?;
-        let oem = Oem {
-            id: oem_id,
-            table_id: oem_table_id,
-            revision: oem_revision,
-        };
+        let oem = Oem::new(oem_id, oem_table_id, oem_revision);
         let head = header(*b"SLIT", 44 + size as u32, 1, oem);
-        let mut fixed = record(&[Field::Bytes(&head), Field::QWord(u64::from(localities))]);
+        let mut fixed = record_of(
+            &FIXED,
+            &[Value::Bytes(&head), Value::Number(u64::from(localities))],
+        );
         let mut sum = seal(&mut fixed);
         sum.add(&cells);
         write_at(&mut fixed, 9, &[sum.checksum()]);
@@ -143,6 +147,18 @@ impl SLIT {
         write_at(&mut self.fixed, 9, &[self.sum.checksum()]);
         Ok(())
     }
+}
+
+const FIXED: [Row; 2] = [
+    Row::Bytes("Header", 36),
+    Row::Number("Number of System Localities", 8),
+];
+
+/// The names and widths of the fields between the header and the distances, in order.
+pub fn slit_rows() -> &'static [Row]
+    ensures { (localities : ℕ) → AreRowsOf result.now (slit_fields localities) }
+{
+    &FIXED[1..]
 }
 
 /// A law: after any calls the table's bytes are a true table's, which has no structures.

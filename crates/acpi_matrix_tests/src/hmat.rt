@@ -58,11 +58,16 @@ fn three_by_two(rt: HostRuntime) -> Result<(), Fail> {
     writes(
         alloc,
         &made,
-        b"\x01\0\0\0\x40\0\0\0\x03\x05\x0b\0\x03\0\0\0\x02\0\0\0\0\0\0\0\x01\x02\x03\x04\x05\x06\x07\x08\0\0\0\0\0\0\0\0\0\0\0\0\0\0\0\0\0\0\0\0\xff\xff\xff\xff\xff\xff\xff\xff\xff\xff\xff\xff",
+        b"\x01\0\0\0\x40\0\0\0\x03\x05\x0b\0\x03\0\0\0\
+            \x02\0\0\0\0\0\0\0\x01\x02\x03\x04\x05\x06\x07\x08\
+            \0\0\0\0\0\0\0\0\0\0\0\0\0\0\0\0\
+            \0\0\0\0\xff\xff\xff\xff\xff\xff\xff\xff\xff\xff\xff\xff",
     )?;
     made.set_entry_value(2, 1, 10)?;
-    let last =
-        b"\x01\0\0\0\x40\0\0\0\x03\x05\x0b\0\x03\0\0\0\x02\0\0\0\0\0\0\0\x01\x02\x03\x04\x05\x06\x07\x08\0\0\0\0\0\0\0\0\0\0\0\0\0\0\0\0\0\0\0\0\xff\xff\xff\xff\xff\xff\xff\xff\xff\xff\x0a\0";
+    let last = b"\x01\0\0\0\x40\0\0\0\x03\x05\x0b\0\x03\0\0\0\
+            \x02\0\0\0\0\0\0\0\x01\x02\x03\x04\x05\x06\x07\x08\
+            \0\0\0\0\0\0\0\0\0\0\0\0\0\0\0\0\
+            \0\0\0\0\xff\xff\xff\xff\xff\xff\xff\xff\xff\xff\x0a\0";
     writes(alloc, &made, last)?;
     for (initiator, target) in [(0, 2), (3, 0), (usize::MAX, usize::MAX)] {
         refuses(made.set_entry_value(initiator, target, 1), Error::Index)?;
@@ -90,8 +95,10 @@ fn three_by_two(rt: HostRuntime) -> Result<(), Fail> {
     ] {
         made.set_entry_value(initiator, target, value)?;
     }
-    let full =
-        b"\x01\0\0\0\x40\0\0\0\x03\x05\x0b\0\x03\0\0\0\x02\0\0\0\0\0\0\0\x01\x02\x03\x04\x05\x06\x07\x08!\x22#$1234ABCDQRSTabcd\x71\x72\x81\x82\x91\x92\xa1\xa2\xb1\xb2\xc1\xc2";
+    let full = b"\x01\0\0\0\x40\0\0\0\x03\x05\x0b\0\x03\0\0\0\
+            \x02\0\0\0\0\0\0\0\x01\x02\x03\x04\x05\x06\x07\x08\
+            !\x22#$1234ABCDQRST\
+            abcd\x71\x72\x81\x82\x91\x92\xa1\xa2\xb1\xb2\xc1\xc2";
     writes(alloc, &made, full)?;
     let mut hmat = table(alloc);
     hmat.add_system_locality(made)?;
@@ -110,7 +117,9 @@ fn rows_and_columns(rt: HostRuntime) -> Result<(), Fail> {
     writes(
         alloc,
         &row,
-        b"\x01\0\0\0\x36\0\0\0\x03\x05\x0b\0\x01\0\0\0\x03\0\0\0\0\0\0\0\x01\x02\x03\x04\x05\x06\x07\x08\0\0\0\0\0\0\0\0\0\0\0\0\x07\0\0\0\xff\xff\x01\x02\xff\xff",
+        b"\x01\0\0\0\x36\0\0\0\x03\x05\x0b\0\x01\0\0\0\
+            \x03\0\0\0\0\0\0\0\x01\x02\x03\x04\x05\x06\x07\x08\
+            \0\0\0\0\0\0\0\0\0\0\0\0\x07\0\0\0\xff\xff\x01\x02\xff\xff",
     )?;
     // one column of three initiators
     let mut column = locality(alloc, 3, 1)?;
@@ -121,7 +130,9 @@ fn rows_and_columns(rt: HostRuntime) -> Result<(), Fail> {
     writes(
         alloc,
         &column,
-        b"\x01\0\0\0\x36\0\0\0\x03\x05\x0b\0\x03\0\0\0\x01\0\0\0\0\0\0\0\x01\x02\x03\x04\x05\x06\x07\x08\0\0\0\0\0\0\0\0\x07\0\0\0\0\0\0\0\xff\xff\x01\x02\xff\xff",
+        b"\x01\0\0\0\x36\0\0\0\x03\x05\x0b\0\x03\0\0\0\
+            \x01\0\0\0\0\0\0\0\x01\x02\x03\x04\x05\x06\x07\x08\
+            \0\0\0\0\0\0\0\0\x07\0\0\0\0\0\0\0\xff\xff\x01\x02\xff\xff",
     )
 }
 

@@ -4,4 +4,6 @@
 #[cfg(test)]
 mod hmat;
 #[cfg(test)]
+mod numbers;
+#[cfg(test)]
 mod slit;

@@ -73,7 +73,9 @@ fn three_localities(rt: HostRuntime) -> Result<(), Fail> {
     writes(
         alloc,
         &slit,
-        b"SLIT\x35\0\0\0\x01\xb8FOOBARCAFEDEAD\xef\xbe\xad\xdeRVAT\0\0\0\x01\x03\0\0\0\0\0\0\0\x0a\x15\x1f\x15\x0b\xff\x1f\xff\x0c",
+        b"SLIT\x35\0\0\0\x01\xb8FOOBARCAFEDEAD\xef\xbe\xad\xdeRVAT\0\0\0\x01\
+            \x03\0\0\0\0\0\0\0\
+            \x0a\x15\x1f\x15\x0b\xff\x1f\xff\x0c",
     )
 }
 

@@ -1,5 +1,19 @@
-//! Makes every call that can grow, once more where it was refused memory, and prints how many bytes all of them made and these
-//! bytes' sum. So what it prints is the same whichever growth is refused, if it is but one.
+//! Makes every call that can grow, and makes it once more where it was refused memory. Then it prints how many bytes the calls
+//! made, and the sum of these bytes. The line is the same whichever growth is refused, if only one is.
+//!
+//! These bytes are counted, in this order:
+//!
+//! - each type of `fill_lists` and `fill_others`, once for each of its `WAYS`: `empty`, after five calls of `grow` in this way.
+//!   `grow` of MADT in way 1 adds one structure in all, since a MADT has one IMSIC at most;
+//! - the error data entry with five objects of three bytes, and the three clones (`errors`);
+//! - each object of `part`, `aml` and `operators`, once;
+//! - the image, twice (`image`);
+//! - the reports of three lists of terms, an XSDT's report of its header, its whole report, and its two entries (`reading`).
+//!
+//! Both numbers follow from the layouts in `docs/FORMATS.md` and `docs/AML.md`, and from the values in these modules. For
+//! example, an XSDT of five entries 0x1234 has 36 + 5 * 8 = 76 bytes. Without the checksum their sum is 2524 for the header and
+//! 5 * (0x34 + 0x12) = 350 for the entries, and the checksum raises 2874 to the next multiple of 256, so it counts 3072. Where
+//! a call is added here, the bytes that it makes are worked out in this way and added to both numbers of `stdout`.
 #![tactic(auto)]
 
 mod aml;

@@ -7,24 +7,24 @@ use acpi_tables::aml::ZERO;
 use acpi_tables::{Aml, Error, R};
 use std::alloc::Global;
 
-// No object here writes more bytes, so that keeping them takes no memory.
+// The bytes for which room is kept. No object here writes more, so keeping what it writes takes no memory.
 const ROOM: usize = 0x1000;
 
-// How often an object grows in one way. What it holds is moved more than once then.
+// The number of calls by which an object grows in one way. They move its bytes more than once.
 const TURNS: u8 = 5;
 
-/// An object that grows, in so many ways.
+/// An object that grows in some ways.
 pub trait Grows: Sized {
     const WAYS: u8;
 
     /// The object before it grows.
     fn empty(alloc: Global) -> R<Self>;
 
-    /// Makes one call, and what it takes.
+    /// Makes the arguments of one call, and makes the call.
     fn grow(&mut self, alloc: Global, way: u8) -> R<()>;
 }
 
-/// How many bytes all calls made, and their sum.
+/// The number of bytes that all calls made, and their sum.
 #[derive(Drop)]
 pub struct Tally {
     pub length: u64,
@@ -40,7 +40,7 @@ impl Tally {
     }
 }
 
-/// What all calls made, and room for what an object writes before a call and after it.
+/// The tally of all calls, and room for the bytes that an object writes before a call and after it.
 #[derive(Drop)]
 pub struct Trial {
     pub tally: Tally,
@@ -48,7 +48,7 @@ pub struct Trial {
     after: Vec<u8>,
 }
 
-// Room, for which is asked once more where it is refused.
+// Asks for room, and once more where it is refused.
 fn room(alloc: Global) -> R<Vec<u8>> {
     match Vec::with_capacity(alloc, ROOM) {
         Ok(room) => Ok(room),
@@ -56,7 +56,7 @@ fn room(alloc: Global) -> R<Vec<u8>> {
     }
 }
 
-// Whether the bytes are the same.
+// Refuses bytes that changed.
 fn compare(before: &[u8], after: &[u8]) -> Result<(), Fault>
     ensures { OnOk result (before.now ≡ after.now) }
 {
@@ -81,8 +81,8 @@ impl Trial {
         self.tally.count(bytes);
     }
 
-    /// Makes a call that is lent an object. Where it wants memory, the object has to write the same bytes as before, and the
-    /// call has to succeed once more: it makes what it takes itself.
+    /// Makes a call that is lent an object. Where it is refused memory, the object has to write the same bytes as before, and
+    /// the call is made once more. The call makes its other arguments itself.
     pub fn make<T: Drop, F: Fn() -> Result<T, Fault>>(
         &mut self,
         lent: &dyn Aml,
@@ -102,8 +102,8 @@ impl Trial {
         call()
     }
 
-    /// Makes a call that changes an object, which `write` writes. Where it wants memory, the object has to write the same bytes
-    /// as before, and the call has to succeed once more.
+    /// Makes a call that changes an object, which `write` writes. Where it is refused memory, the object has to write the same
+    /// bytes as before, and the call is made once more.
     pub fn change<T, W: Fn(&T, &mut Vec<u8>) -> R<()>, F: Fn(&mut T) -> R<()>>(
         &mut self,
         object: &mut T,
@@ -125,7 +125,7 @@ impl Trial {
         Ok(call(object)?)
     }
 
-    /// Makes bytes by so many calls that are lent an object, and counts them.
+    /// Makes bytes by this many calls that are lent an object, and counts them.
     pub fn all<F: Fn(u8) -> R<Vec<u8>>>(
         &mut self,
         lent: &dyn Aml,
@@ -141,7 +141,7 @@ impl Trial {
         Ok(())
     }
 
-    /// Has an object grow again and again in each of its ways, each from its beginning on, and counts the bytes.
+    /// Counts the bytes of an object that grew five times from empty, once for each of its ways.
     pub fn fill<T: Grows + Aml + Drop>(&mut self, alloc: Global) -> Result<(), Fault> {
         for way in 0..T::WAYS {
             let mut object = self.make(&ZERO, || Ok(T::empty(alloc)?))?;

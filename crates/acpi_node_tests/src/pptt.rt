@@ -29,7 +29,10 @@ fn pptt(rt: HostRuntime) -> Result<(), Fail> {
     writes(
         alloc,
         &table,
-        b"PPTT\x58\0\0\0\x03\xafFOOBARCAFEDEAD\xef\xbe\xad\xdeRVAT\0\0\0\x01\x01\x1c\0\0\x41\0\0\0\0\0\0\0\0\x80\0\0\0\0\0\0\0\0\x40\0\0\0\0\0\0\x18\0\0\x02\0\0\0\0\0\0\0\x05\0\0\0\x01\0\0\0\x24\0\0\0",
+        b"PPTT\x58\0\0\0\x03\xafFOOBARCAFEDEAD\xef\xbe\xad\xdeRVAT\0\0\0\x01\
+            \x01\x1c\0\0\x41\0\0\0\0\0\0\0\0\x80\0\0\
+            \0\0\0\0\0\0\x40\0\0\0\0\0\
+            \0\x18\0\0\x02\0\0\0\0\0\0\0\x05\0\0\0\x01\0\0\0\x24\0\0\0",
     )
 }
 

@@ -34,7 +34,8 @@ fn rhct(rt: HostRuntime) -> Result<(), Fail> {
     writes(
         alloc,
         &table,
-        b"RHCT\x38\0\0\0\x01\xeeFOOBARCAFEDEAD\xef\xbe\xad\xdeRVAT\0\0\0\x01\0\0\0\0\x01\x02\x03\x04\x05\x06\x07\x08\0\0\0\0\x38\0\0\0",
+        b"RHCT\x38\0\0\0\x01\xeeFOOBARCAFEDEAD\xef\xbe\xad\xdeRVAT\0\0\0\x01\
+            \0\0\0\0\x01\x02\x03\x04\x05\x06\x07\x08\0\0\0\0\x38\0\0\0",
     )?;
     let string = table.add_isa_string("foobar")?;
     let node = b"\0\0\x10\0\x01\0\x07\0foobar\0\0";
@@ -43,7 +44,10 @@ fn rhct(rt: HostRuntime) -> Result<(), Fail> {
     writes(
         alloc,
         &table,
-        b"RHCT\x58\0\0\0\x01\xf0FOOBARCAFEDEAD\xef\xbe\xad\xdeRVAT\0\0\0\x01\0\0\0\0\x01\x02\x03\x04\x05\x06\x07\x08\x02\0\0\0\x38\0\0\0\0\0\x10\0\x01\0\x07\0foobar\0\0\xff\xff\x10\0\x01\0\x01\0\x03\0\0\0\x38\0\0\0",
+        b"RHCT\x58\0\0\0\x01\xf0FOOBARCAFEDEAD\xef\xbe\xad\xdeRVAT\0\0\0\x01\
+            \0\0\0\0\x01\x02\x03\x04\x05\x06\x07\x08\x02\0\0\0\x38\0\0\0\
+            \0\0\x10\0\x01\0\x07\0foobar\0\0\
+            \xff\xff\x10\0\x01\0\x01\0\x03\0\0\0\x38\0\0\0",
     )
 }
 

@@ -112,7 +112,15 @@ fn a_root_complex(rt: HostRuntime) -> Result<(), Fail> {
     writes(
         alloc,
         &table,
-        b"RIMT\xa8\0\0\0\x01\xf2FOOBARCAFEDEAD\xef\xbe\xad\xdeRVAT\0\0\0\x01\x02\0\0\0\x30\0\0\0\0\0\0\0\0\x01\x40\0\x01\0\0\0\0\0\0\0\0\0\0\0\x03\0\0\0\x05\0\x3f\x06\x0f\0\0\0\x04\0\x20\0\x01\0\0\0\x01\0\x01\0\x02\0\0\0\x02\0\x02\0\x03\0\0\0\x03\0\x03\0\x04\0\0\0\0\0\x04\0\x01\x01\x38\0\x01\0\x01\0\x03\0\0\0\x10\0\x02\0\x01\0\0\0\x02\0\0\0\x0a\0\0\0\x30\0\0\0\x03\0\0\0\x02\0\0\0\x03\0\0\0\x05\0\0\0\x30\0\0\0\x04\0\0\0",
+        b"RIMT\xa8\0\0\0\x01\xf2FOOBARCAFEDEAD\xef\xbe\xad\xdeRVAT\0\0\0\x01\
+            \x02\0\0\0\x30\0\0\0\0\0\0\0\
+            \0\x01\x40\0\x01\0\0\0\0\0\0\0\0\0\0\0\
+            \x03\0\0\0\x05\0\x3f\x06\x0f\0\0\0\x04\0\x20\0\
+            \x01\0\0\0\x01\0\x01\0\x02\0\0\0\x02\0\x02\0\
+            \x03\0\0\0\x03\0\x03\0\x04\0\0\0\0\0\x04\0\
+            \x01\x01\x38\0\x01\0\x01\0\x03\0\0\0\x10\0\x02\0\
+            \x01\0\0\0\x02\0\0\0\x0a\0\0\0\x30\0\0\0\
+            \x03\0\0\0\x02\0\0\0\x03\0\0\0\x05\0\0\0\x30\0\0\0\x04\0\0\0",
     )
 }
 
@@ -128,7 +136,16 @@ fn a_platform_device(rt: HostRuntime) -> Result<(), Fail> {
     writes(
         alloc,
         &table,
-        b"RIMT\xb8\0\0\0\x01\xc3FOOBARCAFEDEAD\xef\xbe\xad\xdeRVAT\0\0\0\x01\x02\0\0\0\x30\0\0\0\0\0\0\0\0\x01\x40\0\x01\0\0\0\0\x10\0\0\0\0\0\0\x02\0\0\0\0\0\0\0\x0f\0\0\0\x04\0\x20\0\x01\0\0\0\x01\0\x01\0\x02\0\0\0\x02\0\x02\0\x03\0\0\0\x03\0\x03\0\x04\0\0\0\0\0\x04\0\x02\x01\x48\0\x01\0\0\0\x20\0\x02\0FULL.PATH.TO.DEVICE\0\x01\0\0\0\x02\0\0\0\x0a\0\0\0\x30\0\0\0\x03\0\0\0\x02\0\0\0\x03\0\0\0\x05\0\0\0\x30\0\0\0\x04\0\0\0",
+        b"RIMT\xb8\0\0\0\x01\xc3FOOBARCAFEDEAD\xef\xbe\xad\xdeRVAT\0\0\0\x01\
+            \x02\0\0\0\x30\0\0\0\0\0\0\0\
+            \0\x01\x40\0\x01\0\0\0\0\x10\0\0\0\0\0\0\
+            \x02\0\0\0\0\0\0\0\x0f\0\0\0\x04\0\x20\0\
+            \x01\0\0\0\x01\0\x01\0\x02\0\0\0\x02\0\x02\0\
+            \x03\0\0\0\x03\0\x03\0\x04\0\0\0\0\0\x04\0\
+            \x02\x01\x48\0\x01\0\0\0\x20\0\x02\0FULL\
+            .PATH.TO.DEVICE\0\
+            \x01\0\0\0\x02\0\0\0\x0a\0\0\0\x30\0\0\0\
+            \x03\0\0\0\x02\0\0\0\x03\0\0\0\x05\0\0\0\x30\0\0\0\x04\0\0\0",
     )
 }
 
@@ -208,7 +225,8 @@ fn iommus(rt: HostRuntime) -> Result<(), Fail> {
             (&Iommu::new(0, None, None, Some(0), None), &with_domain),
             (
                 &most,
-                b"\0\x01\x28\0\xff\xff\0\0\xff\xff\xff\xff\xff\xff\xff\xff\x03\0\0\0\xff\xff\xff\xff\xff\xff\xff\xff\x01\0\x20\0\x01\x02\x03\x04\x02\0\x05\x06",
+                b"\0\x01\x28\0\xff\xff\0\0\xff\xff\xff\xff\xff\xff\xff\xff\
+                    \x03\0\0\0\xff\xff\xff\xff\xff\xff\xff\xff\x01\0\x20\0\x01\x02\x03\x04\x02\0\x05\x06",
             ),
             (
                 &filled,
@@ -245,7 +263,8 @@ fn root_complexes(rt: HostRuntime) -> Result<(), Fail> {
     writes(
         alloc,
         &full,
-        b"\x01\x01\x24\0\xff\xff\xff\xff\x03\0\0\0\x10\0\x01\0\x01\x02\x03\x04\x05\x06\x07\x08\x09\x0a\x0b\x0c\x30\0\0\0\x02\0\0\0",
+        b"\x01\x01\x24\0\xff\xff\xff\xff\x03\0\0\0\x10\0\x01\0\
+            \x01\x02\x03\x04\x05\x06\x07\x08\x09\x0a\x0b\x0c\x30\0\0\0\x02\0\0\0",
     )
 }
 

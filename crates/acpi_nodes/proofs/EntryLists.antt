@@ -6,17 +6,12 @@ use Rattle.acpi_base.proofs.Rows.{took_next_part, refused_at_part}
 use Rattle.std.specs.Prelude.{Result, Ok, Err, IsErrAnd, IfErr}
 use Rattle.acpi_base.specs.declared.error.Error.{Error}
 use Rattle.acpi_base.specs.Sink.{Meaning, Took, Refused}
-use Rattle.acpi_base.proofs.Sinks.{refused_later, refused_longer}
-use Rattle.acpi_base.proofs.Objects.{at_exit}
+use Rattle.acpi_base.proofs.Sinks.{refused_later}
 
 -- the entries were refused, after what stands before them
 pub refused_after : {T : Type 0} (r : Result T Error) (m n k : Meaning) (a b : List ℕ) → Took m a n → IfErr r (λ e. Refused e n b k) → IfErr r (λ e. Refused e m (a ++ b) k)
 refused_after (Ok x) m n k a b first refused = tt
 refused_after (Err e) m n k a b first refused = refused_later e m n k a b first refused
-
--- what stands before the entries was refused
-pub refused_before : {T : Type 0} (r : Result T Error) (e : Error) (m k : Meaning) (a b : List ℕ) → IsErrAnd r (λ y. y ≡ e) → Refused e m a k → IfErr r (λ y. Refused y m (a ++ b) k)
-refused_before r e m k a b exit refused = at_exit r (λ y. Refused y m (a ++ b) k) e exit (refused_longer e m k a b refused)
 
 -- the next entry, taken and refused
 module _ {X : Type 0} (f : X → List ℕ) (xs : List X) (i : ℕ) (x : X) (inside : i < length xs) (is : x ≡ get_or xs i x) where

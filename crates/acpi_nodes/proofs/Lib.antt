@@ -1,5 +1,4 @@
 pub mod EntryLists
 pub mod IsaStrings
-pub mod Pieces
 pub mod Rimts
-pub mod Viots
+pub mod Told

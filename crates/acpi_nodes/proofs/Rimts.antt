@@ -1,24 +1,25 @@
 -- Devices of a RIMT, their sizes and their parts.
-use Rattle.std.proofs.Common.{◌≡◌, ℕ, ◌+◌, ◌*◌, ◌≤◌, ◌<◌, List, [], ◌∷◌, true, false, length, length-append, arith, refl, sym, ◌∙◌}
+use Rattle.std.proofs.Common.{◌≡◌, ◌+◌, ◌*◌, List, [], ◌∷◌, length, length-append, arith, refl, sym, ◌∙◌}
 use Rattle.std.specs.Prelude.{string_bytes, None}
-use Rattle.std.specs.List.{flat_map}
-use Rattle.acpi_base.specs.Walk.{told_at, IsPiece}
-use Rattle.acpi_core.specs.Structure.{structure_of, fits_word}
+use Rattle.acpi_base.specs.Walk.{IsPiece}
+use Rattle.acpi_base.specs.declared.walk.Place.TheVariants.{Word}
+use Rattle.acpi_base.specs.declared.walk.Sizes.TheVariants.{ToldAt}
+use Rattle.acpi_core.specs.Structure.{structure_of}
 use Rattle.acpi_core.proofs.Parts.{word_told}
-use Rattle.acpi_core.proofs.Structures.{fits_a_word, passes_a_word, is_within_a_word, structure_piece}
+use Rattle.acpi_core.proofs.Structures.{is_within_a_word, structure_piece}
 use Rattle.acpi_nodes.specs.declared.rimt.InterruptWire.{InterruptWire}
 use Rattle.acpi_nodes.specs.declared.rimt.Iommu.{Iommu}
 use Rattle.acpi_nodes.specs.declared.rimt.IdMapping.{IdMapping}
 use Rattle.acpi_nodes.specs.declared.rimt.PcieRootComplex.{PcieRootComplex}
 use Rattle.acpi_nodes.specs.declared.rimt.Platform.{Platform}
-use Rattle.acpi_nodes.specs.Entries.{entries_of}
-use Rattle.acpi_nodes.specs.Rimt.{wire_bytes, iommu_bytes, mapping_bytes, root_complex_bytes, platform_bytes, mappings_at}
+use Rattle.acpi_nodes.specs.Entries.{entries_of, records_joined}
+use Rattle.acpi_nodes.specs.Rimt.{wire_fields, iommu_bytes, mapping_fields, root_complex_bytes, platform_bytes, mappings_at}
 
-wires_size : (ws : List InterruptWire) → length (flat_map wire_bytes ws) ≡ 8 * length ws
+wires_size : (ws : List InterruptWire) → length (records_joined wire_fields ws) ≡ 8 * length ws
 wires_size [] = refl
 wires_size (w ∷ ws) = let rest = wires_size ws in omega (arith, rest)
 
-mappings_size : (ms : List IdMapping) → length (flat_map mapping_bytes ms) ≡ 20 * length ms
+mappings_size : (ms : List IdMapping) → length (records_joined mapping_fields ms) ≡ 20 * length ms
 mappings_size [] = refl
 mappings_size (m ∷ ms) = let rest = mappings_size ms in omega (arith, rest)
 
@@ -30,42 +31,23 @@ root_complex_size c = omega (arith, mappings_size (entries_of c.mappings))
 
 pub platform_size : (p : Platform) → length (platform_bytes p) ≡ mappings_at p + 20 * length (entries_of p.mappings)
 platform_size p =
-    let behind = length-append (string_bytes p.name) (0 ∷ flat_map mapping_bytes (entries_of p.mappings)) in
+    let behind = length-append (string_bytes p.name) (0 ∷ records_joined mapping_fields (entries_of p.mappings)) in
     omega (arith, behind, mappings_size (entries_of p.mappings))
 
-pub iommu_piece : (i : Iommu) → (structure_of (iommu_bytes i)).end ≡ None → IsPiece (told_at 2 2) (structure_of (iommu_bytes i)).front
-iommu_piece i = structure_piece (told_at 2 2) (iommu_bytes i) (λ fits.
+pub iommu_piece : (i : Iommu) → (structure_of (iommu_bytes i)).end ≡ None → IsPiece (ToldAt (Word 2)) (structure_of (iommu_bytes i)).front
+iommu_piece i = structure_piece (ToldAt (Word 2)) (iommu_bytes i) (λ fits.
     let size = iommu_size i in
     let few = is_within_a_word (length (iommu_bytes i)) fits in
     (omega (arith, size), word_told (32 + 8 * length (entries_of i.wires)) (omega (arith, size, few)) ∙ sym size))
 
-pub root_complex_piece : (c : PcieRootComplex) → (structure_of (root_complex_bytes c)).end ≡ None → IsPiece (told_at 2 2) (structure_of (root_complex_bytes c)).front
-root_complex_piece c = structure_piece (told_at 2 2) (root_complex_bytes c) (λ fits.
+pub root_complex_piece : (c : PcieRootComplex) → (structure_of (root_complex_bytes c)).end ≡ None → IsPiece (ToldAt (Word 2)) (structure_of (root_complex_bytes c)).front
+root_complex_piece c = structure_piece (ToldAt (Word 2)) (root_complex_bytes c) (λ fits.
     let size = root_complex_size c in
     let few = is_within_a_word (length (root_complex_bytes c)) fits in
     (omega (arith, size), word_told (16 + 20 * length (entries_of c.mappings)) (omega (arith, size, few)) ∙ sym size))
 
-pub platform_piece : (p : Platform) → (structure_of (platform_bytes p)).end ≡ None → IsPiece (told_at 2 2) (structure_of (platform_bytes p)).front
-platform_piece p = structure_piece (told_at 2 2) (platform_bytes p) (λ fits.
+pub platform_piece : (p : Platform) → (structure_of (platform_bytes p)).end ≡ None → IsPiece (ToldAt (Word 2)) (structure_of (platform_bytes p)).front
+platform_piece p = structure_piece (ToldAt (Word 2)) (platform_bytes p) (λ fits.
     let size = platform_size p in
     let few = is_within_a_word (length (platform_bytes p)) fits in
     (omega (arith, size), word_told (mappings_at p + 20 * length (entries_of p.mappings)) (omega (arith, size, few)) ∙ sym size))
-
--- which numbers of entries fit
-pub few_wires : (i : Iommu) (n : ℕ) → n ≡ length (entries_of i.wires) → n ≤ 8187 → fits_word (iommu_bytes i) ≡ true
-few_wires i n is few = fits_a_word (length (iommu_bytes i)) (omega (arith, iommu_size i, is, few))
-
-pub many_wires : (i : Iommu) (n : ℕ) → n ≡ length (entries_of i.wires) → 8187 < n → fits_word (iommu_bytes i) ≡ false
-many_wires i n is many = passes_a_word (length (iommu_bytes i)) (omega (arith, iommu_size i, is, many))
-
-pub few_mappings : (c : PcieRootComplex) (n : ℕ) → n ≡ length (entries_of c.mappings) → n ≤ 3275 → fits_word (root_complex_bytes c) ≡ true
-few_mappings c n is few = fits_a_word (length (root_complex_bytes c)) (omega (arith, root_complex_size c, is, few))
-
-pub many_mappings : (c : PcieRootComplex) (n : ℕ) → n ≡ length (entries_of c.mappings) → 3275 < n → fits_word (root_complex_bytes c) ≡ false
-many_mappings c n is many = passes_a_word (length (root_complex_bytes c)) (omega (arith, root_complex_size c, is, many))
-
-pub short_platform : (p : Platform) (name n : ℕ) → name ≡ length (string_bytes p.name) → n ≡ length (entries_of p.mappings) → name + 20 * n ≤ 65522 → fits_word (platform_bytes p) ≡ true
-short_platform p name n named is few = fits_a_word (length (platform_bytes p)) (omega (arith, platform_size p, named, is, few))
-
-pub long_platform : (p : Platform) (name n : ℕ) → name ≡ length (string_bytes p.name) → n ≡ length (entries_of p.mappings) → 65522 < name + 20 * n → fits_word (platform_bytes p) ≡ false
-long_platform p name n named is many = passes_a_word (length (platform_bytes p)) (omega (arith, platform_size p, named, is, many))

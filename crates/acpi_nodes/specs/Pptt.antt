@@ -1,9 +1,9 @@
 -- The Processor Properties Topology Table (ACPI 6.5, 5.2.30).
-use Rattle.std.specs.Prelude.{◌≡◌, ℕ, ◌+◌, ◌^◌, List, [], ◌∷◌, ◌++◌, length, codes}
+use Rattle.std.specs.Prelude.{◌≡◌, ℕ, ◌+◌, List, [], ◌∷◌, ◌++◌, length, codes}
 use Rattle.acpi_base.specs.Bytes.{field_at}
-use Rattle.acpi_base.specs.Layout.{byte, word, dword, zeros, record_of}
+use Rattle.acpi_base.specs.Fields.{NamedField, byte, word, dword, reserved, fields_joined}
 use Rattle.acpi_base.specs.declared.oem.Oem.{Oem}
-use Rattle.acpi_core.specs.Listing.{Listing}
+use Rattle.acpi_core.specs.Listing.{Listing, length_limit}
 use Rattle.acpi_nodes.specs.declared.pptt.AllocationType.{AllocationType}
 use Rattle.acpi_nodes.specs.declared.pptt.AllocationType.TheVariants.{Read, Write, Both}
 use Rattle.acpi_nodes.specs.declared.pptt.CacheType.{CacheType}
@@ -24,7 +24,7 @@ pptt oem = record {
   before = [];
   count_width = 0;
   after = [];
-  limit = 2 ^ 32;
+  limit = length_limit;
   structures = [];
 }
 
@@ -34,19 +34,22 @@ pptt oem = record {
 abbrev pub processor : ℕ → ℕ → ProcessorNode
 processor parent id = record { flags = 0; parent = parent; acpi_processor_id = id; resources = no_resources }
 
+abbrev pub processor_head_fields : ProcessorNode → List NamedField
+processor_head_fields p =
+    byte "Type" 0  -- 0
+    ∷ byte "Length" (20 + length p.resources.bytes)  -- 1
+    ∷ reserved 2  -- 2
+    ∷ dword "Flags" p.flags  -- 4
+    ∷ dword "Parent" p.parent  -- 8
+    ∷ dword "ACPI Processor ID" p.acpi_processor_id  -- 12
+    ∷ dword "Number of private resources" p.resources.count  -- 16
+    ∷ []
+
 abbrev pub processor_head : ProcessorNode → List ℕ
-processor_head p = record_of
-    (byte 0  -- 0: Type
-    ∷ byte (20 + length p.resources.offsets)  -- 1: Length
-    ∷ zeros 2  -- 2: reserved
-    ∷ dword p.flags  -- 4: Flags
-    ∷ dword p.parent  -- 8: Parent
-    ∷ dword p.acpi_processor_id  -- 12: ACPI Processor ID
-    ∷ dword p.resources.count  -- 16: Number of private resources
-    ∷ [])
+processor_head p = fields_joined (processor_head_fields p)
 
 abbrev pub processor_bytes : ProcessorNode → List ℕ
-processor_bytes p = processor_head p ++ p.resources.offsets  -- 20: Private resources
+processor_bytes p = processor_head p ++ p.resources.bytes  -- 20: Private resources
 
 -- ---- Cache Type Structure (5.2.30.2)
 
@@ -80,20 +83,23 @@ cache_of b = record {
   id = b.id;
 }
 
+abbrev pub cache_fields : CacheNode → List NamedField
+cache_fields c =
+    byte "Type" 1  -- 0
+    ∷ byte "Length" 28  -- 1
+    ∷ reserved 2  -- 2
+    ∷ dword "Flags" c.flags  -- 4
+    ∷ dword "Next Level of Cache" c.next_level  -- 8
+    ∷ dword "Size" c.size  -- 12
+    ∷ dword "Number of sets" c.sets  -- 16
+    ∷ byte "Associativity" c.associativity  -- 20
+    ∷ byte "Attributes" c.attributes  -- 21
+    ∷ word "Line size" c.line_size  -- 22
+    ∷ dword "Cache ID" c.id  -- 24
+    ∷ []
+
 abbrev pub cache_bytes : CacheNode → List ℕ
-cache_bytes c = record_of
-    (byte 1  -- 0: Type
-    ∷ byte 28  -- 1: Length
-    ∷ zeros 2  -- 2: reserved
-    ∷ dword c.flags  -- 4: Flags
-    ∷ dword c.next_level  -- 8: Next Level of Cache
-    ∷ dword c.size  -- 12: Size
-    ∷ dword c.sets  -- 16: Number of sets
-    ∷ byte c.associativity  -- 20: Associativity
-    ∷ byte c.attributes  -- 21: Attributes
-    ∷ word c.line_size  -- 22: Line size
-    ∷ dword c.id  -- 24: Cache ID
-    ∷ [])
+cache_bytes c = fields_joined (cache_fields c)
 
 -- Each node tells its kind at its offset, whatever its fields hold.
 pub record NodesTellKinds : Type 0 where

@@ -1,15 +1,12 @@
 -- The private resources of processors.
-use Rattle.std.specs.Prelude.{ℕ, ◌+◌, List, [], ◌++◌}
+use Rattle.std.specs.Prelude.{ℕ}
 use Rattle.acpi_base.specs.Bytes.{le}
+use Rattle.acpi_core.specs.Entries.{Entries, no_entries, with_entry}
 
--- a number of offsets of caches, of four bytes each
-pub record Resources : Type 0 where
-  pub count : ℕ
-  pub offsets : List ℕ
+-- no offsets of caches
+abbrev pub no_resources : Entries
+no_resources = no_entries
 
-abbrev pub no_resources : Resources
-no_resources = record { count = 0; offsets = [] }
-
--- with one offset more, at the end
-abbrev pub with_resource : Resources → ℕ → Resources
-with_resource r offset = record { count = r.count + 1; offsets = r.offsets ++ le 4 offset }
+-- with one offset more, of four bytes, at the end
+abbrev pub with_resource : Entries → ℕ → Entries
+with_resource r offset = with_entry r (le 4 offset)

@@ -1,16 +1,25 @@
 -- The RISC-V Hart Capabilities Table (RISC-V profile).
-use Rattle.std.specs.Prelude.{◌≡◌, ◌≢◌, ℕ, ◌+◌, ◌%◌, ◌^◌, nat_lt, Bool, List, [], ◌∷◌, ◌++◌, length, codes, Some}
+use Rattle.std.specs.Prelude.{◌≡◌, ◌≢◌, ℕ, ◌+◌, ◌%◌, nat_lt, Bool, List, [], ◌∷◌, ◌++◌, length, codes, Some}
 use Rattle.acpi_base.specs.declared.error.Error.TheVariants.{Memory, FieldWidth}
-use Rattle.acpi_base.specs.Bytes.{field_at}
-use Rattle.acpi_base.specs.Layout.{byte, word, dword, qword, zeros, record_of}
+use Rattle.acpi_base.specs.Bytes.{le, field_at}
+use Rattle.acpi_base.specs.Fields.{NamedField, byte, word, dword, qword, reserved, fields_joined}
+use Rattle.acpi_base.specs.Layout.{zeros}
 use Rattle.acpi_base.specs.Object.{Object, whole, provided, provided_ends_well}
 use Rattle.acpi_base.specs.declared.oem.Oem.{Oem}
-use Rattle.acpi_core.specs.Listing.{Listing}
-use Rattle.acpi_nodes.specs.Hart.{HartInfo, hart_info_bytes}
+use Rattle.acpi_core.specs.Listing.{Listing, length_limit}
+use Rattle.acpi_nodes.specs.Hart.{hart_info_bytes}
 use Rattle.acpi_nodes.specs.declared.rhct.CmoNode.{CmoNode}
+use Rattle.acpi_nodes.specs.declared.rhct.HartInfoNode.{HartInfoNode}
 use Rattle.acpi_nodes.specs.declared.rhct.MmuNode.{MmuNode}
 use Rattle.acpi_nodes.specs.declared.rhct.VirtualAddressScheme.{VirtualAddressScheme}
 use Rattle.acpi_nodes.specs.declared.rhct.VirtualAddressScheme.TheVariants.{Sv39, Sv48, Sv57}
+
+-- the fields between the header and the number of nodes
+abbrev pub rhct_fields : ℕ → List NamedField
+rhct_fields timebase_frequency =
+    dword "Flags" 0  -- 36
+    ∷ qword "Time Base Frequency" timebase_frequency  -- 40
+    ∷ []
 
 -- a table without nodes
 abbrev pub rhct : Oem → ℕ → Listing
@@ -18,10 +27,10 @@ rhct oem timebase_frequency = record {
   signature = codes "RHCT";
   revision = 1;
   oem = oem;
-  before = record_of (zeros 4 ∷ qword timebase_frequency ∷ []);  -- 36: Flags; 40: Time Base Frequency
+  before = fields_joined (rhct_fields timebase_frequency);
   count_width = 4;  -- 48: Number of RHCT Nodes
-  after = dword 56;  -- 52: Offset of the RHCT Node Structure Array
-  limit = 2 ^ 32;
+  after = le 4 56;  -- 52: Offset of the RHCT Node Structure Array
+  limit = length_limit;
   structures = [];
 }
 
@@ -35,13 +44,17 @@ isa_string_end n = 1 + (n + 1) % 2
 abbrev pub is_isa_string : List ℕ → Bool
 is_isa_string text = nat_lt (length text) 65526
 
+-- of a text of so many bytes
+abbrev pub isa_string_head_fields : ℕ → List NamedField
+isa_string_head_fields n =
+    word "Type" 0  -- 0
+    ∷ word "Length" (8 + n + isa_string_end n)  -- 2
+    ∷ word "Revision" 1  -- 4
+    ∷ word "ISA string length" (n + 1)  -- 6
+    ∷ []
+
 abbrev pub isa_string_head : ℕ → List ℕ
-isa_string_head n = record_of
-    (word 0  -- 0: Type
-    ∷ word (8 + n + isa_string_end n)  -- 2: Length
-    ∷ word 1  -- 4: Revision
-    ∷ word (n + 1)  -- 6: ISA string length
-    ∷ [])
+isa_string_head n = fields_joined (isa_string_head_fields n)
 
 abbrev pub isa_string_bytes : List ℕ → List ℕ
 isa_string_bytes text = isa_string_head (length text) ++ (text ++ zeros (isa_string_end (length text)))  -- 8: ISA string
@@ -58,16 +71,19 @@ isa_string_ends_well text = provided_ends_well (is_isa_string text) FieldWidth (
 abbrev pub cmo : ℕ → ℕ → ℕ → CmoNode
 cmo cbom cbop cboz = record { cbom = cbom; cbop = cbop; cboz = cboz }
 
+abbrev pub cmo_fields : CmoNode → List NamedField
+cmo_fields c =
+    word "Type" 1  -- 0
+    ∷ word "Length" 10  -- 2
+    ∷ word "Revision" 1  -- 4
+    ∷ reserved 1  -- 6
+    ∷ byte "CBOM Block Size" c.cbom  -- 7
+    ∷ byte "CBOP Block Size" c.cbop  -- 8
+    ∷ byte "CBOZ Block Size" c.cboz  -- 9
+    ∷ []
+
 abbrev pub cmo_bytes : CmoNode → List ℕ
-cmo_bytes c = record_of
-    (word 1  -- 0: Type
-    ∷ word 10  -- 2: Length
-    ∷ word 1  -- 4: Revision
-    ∷ byte 0  -- 6: reserved
-    ∷ byte c.cbom  -- 7: CBOM Block Size
-    ∷ byte c.cbop  -- 8: CBOP Block Size
-    ∷ byte c.cboz  -- 9: CBOZ Block Size
-    ∷ [])
+cmo_bytes c = fields_joined (cmo_fields c)
 
 -- ---- MMU Node
 
@@ -79,18 +95,21 @@ scheme_number Sv57 = 2
 abbrev pub mmu : VirtualAddressScheme → MmuNode
 mmu scheme = record { scheme = scheme_number scheme }
 
+abbrev pub mmu_fields : MmuNode → List NamedField
+mmu_fields m =
+    word "Type" 2  -- 0
+    ∷ word "Length" 8  -- 2
+    ∷ word "Revision" 1  -- 4
+    ∷ reserved 1  -- 6
+    ∷ byte "MMU Type" m.scheme  -- 7
+    ∷ []
+
 abbrev pub mmu_bytes : MmuNode → List ℕ
-mmu_bytes m = record_of
-    (word 2  -- 0: Type
-    ∷ word 8  -- 2: Length
-    ∷ word 1  -- 4: Revision
-    ∷ byte 0  -- 6: reserved
-    ∷ byte m.scheme  -- 7: MMU Type
-    ∷ [])
+mmu_bytes m = fields_joined (mmu_fields m)
 
 -- Each node tells its kind at its offset, whatever its fields hold.
 pub record NodesTellKinds : Type 0 where
   pub isa_strings : (text : List ℕ) → field_at 0 2 (isa_string_bytes text) ≡ 0
   pub cmos : (c : CmoNode) → field_at 0 2 (cmo_bytes c) ≡ 1
   pub mmus : (m : MmuNode) → field_at 0 2 (mmu_bytes m) ≡ 2
-  pub harts : (h : HartInfo) → field_at 0 2 (hart_info_bytes h) ≡ 65535
+  pub harts : (h : HartInfoNode) → field_at 0 2 (hart_info_bytes h) ≡ 65535

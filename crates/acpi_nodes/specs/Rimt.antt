@@ -1,18 +1,19 @@
 -- The RISC-V I/O Mapping Table (this project's profile).
-use Rattle.std.specs.Prelude.{◌≡◌, ℕ, ◌+◌, ◌*◌, ◌^◌, Bool, if◌then◌else◌, List, [], ◌∷◌, ◌++◌, length, codes, string_bytes, String, Vec, unwrap_or, is_some, Option, Some, None}
+use Rattle.std.specs.Prelude.{◌≡◌, ℕ, ◌+◌, ◌*◌, Bool, if◌then◌else◌, List, [], ◌∷◌, ◌++◌, length, codes}
+use Rattle.std.specs.Prelude.{String, string_bytes, Vec, unwrap_or, is_some, Option, Some, None}
 use Rattle.std.specs.declared.alloc.Global.{Global}
-use Rattle.std.specs.List.{flat_map}
-use Rattle.acpi_base.specs.Bytes.{field_at}
-use Rattle.acpi_base.specs.Layout.{byte, word, dword, qword, zeros, record_of}
+use Rattle.acpi_base.specs.Bytes.{le, field_at}
+use Rattle.acpi_base.specs.Fields.{NamedField, byte, word, dword, qword, reserved, fields_joined}
+use Rattle.acpi_base.specs.Layout.{zeros}
 use Rattle.acpi_base.specs.declared.oem.Oem.{Oem}
-use Rattle.acpi_core.specs.Listing.{Listing}
+use Rattle.acpi_core.specs.Listing.{Listing, length_limit}
 use Rattle.acpi_nodes.specs.declared.pci.PciDevice.{PciDevice}
 use Rattle.acpi_nodes.specs.declared.rimt.InterruptWire.{InterruptWire}
 use Rattle.acpi_nodes.specs.declared.rimt.Iommu.{Iommu}
 use Rattle.acpi_nodes.specs.declared.rimt.IdMapping.{IdMapping}
 use Rattle.acpi_nodes.specs.declared.rimt.PcieRootComplex.{PcieRootComplex}
 use Rattle.acpi_nodes.specs.declared.rimt.Platform.{Platform}
-use Rattle.acpi_nodes.specs.Entries.{entries_of}
+use Rattle.acpi_nodes.specs.Entries.{entries_of, records_joined}
 
 -- a table without devices: 36: number of devices, of four bytes
 abbrev pub rimt : Oem → Listing
@@ -22,8 +23,8 @@ rimt oem = record {
   oem = oem;
   before = [];
   count_width = 4;
-  after = record_of (dword 48 ∷ zeros 4 ∷ []);  -- 40: offset of the first device; 44: reserved
-  limit = 2 ^ 32;
+  after = le 4 48 ++ zeros 4;  -- 40: offset of the first device; 44: reserved
+  limit = length_limit;
   structures = [];
 }
 
@@ -34,14 +35,22 @@ bit set value = if set then value else 0
 -- ---- interrupt wires
 
 abbrev pub interrupt_wire : ℕ → Bool → Bool → ℕ → InterruptWire
-interrupt_wire number level_trig polarity_high aplic_id = record { number = number; level_trig = level_trig; polarity_high = polarity_high; aplic_id = aplic_id }
+interrupt_wire number level_trig polarity_high aplic_id = record {
+  number = number;
+  level_trig = level_trig;
+  polarity_high = polarity_high;
+  aplic_id = aplic_id;
+}
+
+abbrev pub wire_fields : InterruptWire → List NamedField
+wire_fields w =
+    dword "Interrupt Number" w.number  -- 0
+    ∷ word "Flags" (bit w.level_trig 1 + bit w.polarity_high 2)  -- 4
+    ∷ word "APLIC ID" w.aplic_id  -- 6
+    ∷ []
 
 abbrev pub wire_bytes : InterruptWire → List ℕ
-wire_bytes w = record_of
-    (dword w.number  -- 0: interrupt number
-    ∷ word (bit w.level_trig 1 + bit w.polarity_high 2)  -- 4: flags
-    ∷ word w.aplic_id  -- 6: APLIC's id
-    ∷ [])
+wire_bytes w = fields_joined (wire_fields w)
 
 -- ---- IOMMUs
 
@@ -57,58 +66,75 @@ abbrev pub bdf_of : Option PciDevice → ℕ
 bdf_of None = 0
 bdf_of (Some device) = device.bdf
 
+abbrev pub iommu_head_fields : Iommu → List NamedField
+iommu_head_fields i =
+    byte "Type" 0  -- 0
+    ∷ byte "Revision" 1  -- 1
+    ∷ word "Length" (32 + 8 * length (entries_of i.wires))  -- 2
+    ∷ word "ID" i.id  -- 4
+    ∷ word "Model" 0  -- 6
+    ∷ qword "Base Address" (unwrap_or i.base 0)  -- 8
+    ∷ dword "Flags" (bit (is_some i.device) 1 + bit (is_some i.domain) 2)  -- 16
+    ∷ word "PCI Segment" (segment_of i.device)  -- 20
+    ∷ word "PCI BDF" (bdf_of i.device)  -- 22
+    ∷ dword "Proximity Domain" (unwrap_or i.domain 0)  -- 24
+    ∷ word "Number of Interrupt Wires" (length (entries_of i.wires))  -- 28
+    ∷ word "Offset of Interrupt Wires" 32  -- 30
+    ∷ []
+
 abbrev pub iommu_head : Iommu → List ℕ
-iommu_head i = record_of
-    (byte 0  -- 0: type
-    ∷ byte 1  -- 1: revision
-    ∷ word (32 + 8 * length (entries_of i.wires))  -- 2: length
-    ∷ word i.id  -- 4: id
-    ∷ zeros 2  -- 6: model
-    ∷ qword (unwrap_or i.base 0)  -- 8: base address
-    ∷ dword (bit (is_some i.device) 1 + bit (is_some i.domain) 2)  -- 16: flags
-    ∷ word (segment_of i.device)  -- 20: PCI segment
-    ∷ word (bdf_of i.device)  -- 22: PCI bus, device and function
-    ∷ dword (unwrap_or i.domain 0)  -- 24: proximity domain
-    ∷ word (length (entries_of i.wires))  -- 28: number of interrupt wires
-    ∷ word 32  -- 30: offset of the interrupt wires
-    ∷ [])
+iommu_head i = fields_joined (iommu_head_fields i)
 
 abbrev pub iommu_bytes : Iommu → List ℕ
-iommu_bytes i = iommu_head i ++ flat_map wire_bytes (entries_of i.wires)  -- 32: interrupt wires
+iommu_bytes i = iommu_head i ++ records_joined wire_fields (entries_of i.wires)  -- 32: interrupt wires
 
 -- ---- mappings of ids
 
 abbrev pub id_mapping : ℕ → ℕ → ℕ → ℕ → Bool → Bool → Bool → IdMapping
-id_mapping src_id dst_id num_ids iommu ats pri rciep = record { src_id = src_id; dst_id = dst_id; num_ids = num_ids; iommu = iommu; ats = ats; pri = pri; rciep = rciep }
+id_mapping src_id dst_id num_ids iommu ats pri rciep = record {
+  src_id = src_id;
+  dst_id = dst_id;
+  num_ids = num_ids;
+  iommu = iommu;
+  ats = ats;
+  pri = pri;
+  rciep = rciep;
+}
+
+abbrev pub mapping_fields : IdMapping → List NamedField
+mapping_fields m =
+    dword "Source ID Base" m.src_id  -- 0
+    ∷ dword "Destination ID Base" m.dst_id  -- 4
+    ∷ dword "Number of IDs" m.num_ids  -- 8
+    ∷ dword "Destination IOMMU Offset" m.iommu  -- 12
+    ∷ dword "Flags" (bit m.ats 1 + bit m.pri 2 + bit m.rciep 4)  -- 16
+    ∷ []
 
 abbrev pub mapping_bytes : IdMapping → List ℕ
-mapping_bytes m = record_of
-    (dword m.src_id  -- 0: source id base
-    ∷ dword m.dst_id  -- 4: destination id base
-    ∷ dword m.num_ids  -- 8: number of ids
-    ∷ dword m.iommu  -- 12: destination IOMMU offset
-    ∷ dword (bit m.ats 1 + bit m.pri 2 + bit m.rciep 4)  -- 16: flags
-    ∷ [])
+mapping_bytes m = fields_joined (mapping_fields m)
 
 -- ---- PCI Express root complexes
 
 abbrev pub root_complex : ℕ → ℕ → Bool → Bool → Option (Vec IdMapping Global) → PcieRootComplex
 root_complex id segment ats pri mappings = record { id = id; segment = segment; ats = ats; pri = pri; mappings = mappings }
 
+abbrev pub root_complex_head_fields : PcieRootComplex → List NamedField
+root_complex_head_fields c =
+    byte "Type" 1  -- 0
+    ∷ byte "Revision" 1  -- 1
+    ∷ word "Length" (16 + 20 * length (entries_of c.mappings))  -- 2
+    ∷ word "ID" c.id  -- 4
+    ∷ word "PCI Segment" c.segment  -- 6
+    ∷ dword "Flags" (bit c.ats 1 + bit c.pri 2)  -- 8
+    ∷ word "Offset of Mappings" 16  -- 12
+    ∷ word "Number of Mappings" (length (entries_of c.mappings))  -- 14
+    ∷ []
+
 abbrev pub root_complex_head : PcieRootComplex → List ℕ
-root_complex_head c = record_of
-    (byte 1  -- 0: type
-    ∷ byte 1  -- 1: revision
-    ∷ word (16 + 20 * length (entries_of c.mappings))  -- 2: length
-    ∷ word c.id  -- 4: id
-    ∷ word c.segment  -- 6: PCI segment
-    ∷ dword (bit c.ats 1 + bit c.pri 2)  -- 8: flags
-    ∷ word 16  -- 12: offset of the mappings
-    ∷ word (length (entries_of c.mappings))  -- 14: number of mappings
-    ∷ [])
+root_complex_head c = fields_joined (root_complex_head_fields c)
 
 abbrev pub root_complex_bytes : PcieRootComplex → List ℕ
-root_complex_bytes c = root_complex_head c ++ flat_map mapping_bytes (entries_of c.mappings)  -- 16: mappings
+root_complex_bytes c = root_complex_head c ++ records_joined mapping_fields (entries_of c.mappings)  -- 16: mappings
 
 -- ---- devices of the platform
 
@@ -119,20 +145,23 @@ platform id name mappings = record { id = id; name = name; mappings = mappings }
 abbrev pub mappings_at : Platform → ℕ
 mappings_at p = 13 + length (string_bytes p.name)
 
+abbrev pub platform_head_fields : Platform → List NamedField
+platform_head_fields p =
+    byte "Type" 2  -- 0
+    ∷ byte "Revision" 1  -- 1
+    ∷ word "Length" (mappings_at p + 20 * length (entries_of p.mappings))  -- 2
+    ∷ word "ID" p.id  -- 4
+    ∷ reserved 2  -- 6
+    ∷ word "Offset of Mappings" (mappings_at p)  -- 8
+    ∷ word "Number of Mappings" (length (entries_of p.mappings))  -- 10
+    ∷ []
+
 abbrev pub platform_head : Platform → List ℕ
-platform_head p = record_of
-    (byte 2  -- 0: type
-    ∷ byte 1  -- 1: revision
-    ∷ word (mappings_at p + 20 * length (entries_of p.mappings))  -- 2: length
-    ∷ word p.id  -- 4: id
-    ∷ zeros 2  -- 6: reserved
-    ∷ word (mappings_at p)  -- 8: offset of the mappings
-    ∷ word (length (entries_of p.mappings))  -- 10: number of mappings
-    ∷ [])
+platform_head p = fields_joined (platform_head_fields p)
 
 -- 12: the name in the namespace, a zero, and then the mappings
 abbrev pub platform_bytes : Platform → List ℕ
-platform_bytes p = platform_head p ++ (string_bytes p.name ++ (0 ∷ flat_map mapping_bytes (entries_of p.mappings)))
+platform_bytes p = platform_head p ++ (string_bytes p.name ++ (0 ∷ records_joined mapping_fields (entries_of p.mappings)))
 
 -- Each device tells its kind at its offset, whatever its fields hold.
 pub record DevicesTellKinds : Type 0 where

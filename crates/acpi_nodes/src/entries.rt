@@ -1,23 +1,14 @@
 //! Structures that end in entries of one kind.
 
-ghost use Rattle.std.specs.Prelude.{◌≡◌, ◌++◌, ℕ, List, OnOk, IfErr};
+ghost use Rattle.std.specs.Prelude.{◌≡◌, ◌<◌, ◌^◌, ◌≤◌, ◌++◌, OnOk, IfOk, IfErr};
 ghost use Rattle.std.specs.List.{flat_map};
 ghost use Rattle.acpi_base.specs.Sink.{Took, Refused};
-ghost use Rattle.acpi_nodes.specs.Entries.{entries_of};
+ghost use Rattle.acpi_nodes.specs.Entries.{entries_of, records_joined};
 
-use acpi_base::error::R;
+use acpi_base::error::{Error, R};
 use acpi_base::parts::write_parts;
+use acpi_base::row::Record;
 use acpi_base::sink::AmlSink;
-
-/// An entry of a structure.
-pub trait Entry {
-    ghost bytes: { Self → List ℕ };
-
-    /// Gives the entry's bytes to a sink.
-    fn write(&self, sink: &mut dyn AmlSink) -> R<()>
-        ensures ok { OnOk result (Took (meaning sink.old) (bytes self.now) (meaning sink.new)) }
-        ensures err { IfErr result (λ e. Refused e (meaning sink.old) (bytes self.now) (meaning sink.new)) };
-}
 
 /// The entries that are given, or none.
 pub(crate) fn entries_of<T>(given: &Option<Vec<T>>) -> &[T]
@@ -29,18 +20,32 @@ pub(crate) fn entries_of<T>(given: &Option<Vec<T>>) -> &[T]
     }
 }
 
+/// The length of a structure, which it tells in two bytes. FieldWidth where these don't hold it.
+pub(crate) fn told_size(size: usize) -> R<u16>
+    ensures ok { IfOk result (λ told. told ≡ size) }
+    ensures err { IfErr result (λ e. (e ≡ Error.FieldWidth) × (2 ^ 16 ≤ size)) }
+{
+    if size > 0xffff {
+        return Err(Error::FieldWidth);
+    }
+    Ok(size as u16)
+}
+
 /// Gives a sink what stands before a structure's entries, and then these, one after another.
-pub(crate) fn write_with_entries<T: Entry>(
+pub(crate) fn write_with_entries<const SIZE: usize, T: Record<SIZE>>(
     sink: &mut dyn AmlSink,
     before: &[&[u8]],
     entries: &[T],
 ) -> R<()>
-    ensures ok { OnOk result (Took (meaning sink.old) (flat_map (λ part. part.now) before.now ++ flat_map T.bytes entries.now) (meaning sink.new)) }
-    ensures err { IfErr result (λ e. Refused e (meaning sink.old) (flat_map (λ part. part.now) before.now ++ flat_map T.bytes entries.now) (meaning sink.new)) }
+    requires size { SIZE < 2 ^ 63 }
+    ensures ok { OnOk result (Took (meaning sink.old)
+        (flat_map (λ part. part.now) before.now ++ records_joined T.fields entries.now) (meaning sink.new)) }
+    ensures err { IfErr result (λ e. Refused e (meaning sink.old)
+        (flat_map (λ part. part.now) before.now ++ records_joined T.fields entries.now) (meaning sink.new)) }
 {
     write_parts(sink, before)?;
     for entry in entries {
-        entry.write(sink)?;
+        sink.vec(&entry.bytes())?;
     }
     Ok(())
 }

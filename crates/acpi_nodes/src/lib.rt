@@ -2,9 +2,18 @@
 #![tactic(auto)]
 
 pub mod entries;
-pub mod laws;
+pub mod handle;
+pub mod list_table;
 pub mod pci;
 pub mod pptt;
 pub mod rhct;
 pub mod rimt;
 pub mod viot;
+
+/// Laws of the tables. Each function is a law: it does nothing, and ensures it.
+pub mod laws {
+    pub use crate::pptt::{pptt_is_walked, pptt_nodes_tell_kinds};
+    pub use crate::rhct::{rhct_is_walked, rhct_nodes_tell_kinds};
+    pub use crate::rimt::{rimt_devices_tell_kinds, rimt_is_walked};
+    pub use crate::viot::{viot_is_walked, viot_nodes_tell_kinds};
+}

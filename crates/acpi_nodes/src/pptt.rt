@@ -1,88 +1,70 @@
 //! PPTT: how processors and their caches are arranged.
 
-ghost use Rattle.std.specs.Prelude.{◌≡◌, ◌≢◌, ◌<◌, bit_or, length, IsNone, IfSome, OnOk, OnErr, IfOk, IfErr};
+ghost use Rattle.std.proofs.Common.{rules};
+ghost use Rattle.std.specs.Prelude.{◌≡◌, ◌≢◌, ◌<◌, true, bit_or, IsNone, IfSome, OnOk, IfOk, IfErr};
+ghost use Rattle.acpi_base.specs.Fields.{AreRowsOf};
 ghost use Rattle.acpi_base.specs.Object.{whole, whole_ends_well};
 ghost use Rattle.acpi_base.specs.Walk.{pptt_walk};
-ghost use Rattle.acpi_core.specs.Listing.{bytes_of};
 ghost use Rattle.acpi_core.specs.Addition.{AddsAt};
+ghost use Rattle.acpi_core.specs.Listing.{length_limit};
 ghost use Rattle.acpi_core.specs.Walk.{IsWalked};
-ghost use Rattle.acpi_nodes.specs.Resources.{no_resources, with_resource};
-ghost use Rattle.acpi_nodes.specs.Pptt.{pptt, processor, processor_head, processor_bytes, allocation_number, type_number, policy_number, cache_of, cache_bytes, NodesTellKinds};
+ghost use Rattle.acpi_nodes.specs.Resources.{with_resource};
+ghost use Rattle.acpi_nodes.specs.Pptt.{pptt, processor, processor_head_fields, processor_head, processor_bytes};
+ghost use Rattle.acpi_nodes.specs.Pptt.{allocation_number, type_number, policy_number, cache_of, cache_bytes, NodesTellKinds};
+ghost use Rattle.acpi_nodes.specs.declared.pptt.ProcessorNode.{ProcessorNode};
+ghost use Rattle.acpi_nodes.specs.Pptt.{cache_fields};
 
+use crate::handle::Handle;
+use crate::list_table::{ListTable, tables_are_walked};
 use acpi_base::error::{Error, R};
 use acpi_base::object::Aml;
 use acpi_base::oem::Oem;
 use acpi_base::parts::write_parts;
-use acpi_base::record::{Field, record};
+use acpi_base::row::{Record, Row, record_of_numbers, write_record};
 use acpi_base::sink::AmlSink;
+use acpi_core::entries::Entries;
 use acpi_core::form::Form;
+use acpi_core::kind::{Kind, Plain};
 use acpi_core::table::Table;
 use std::alloc::Global;
-use std::marker::Model;
 
 /// The Processor Properties Topology Table (ACPI 6.5, 5.2.30): nodes from offset 36 on.
-#[derive(Drop)]
-pub struct PPTT {
-    table: Table<36>,
+pub type PPTT = ListTable<PpttKind, 36>;
+
+/// The kind of PPTT.
+pub struct PpttKind;
+
+impl Kind<36> for PpttKind {
+    ghost walk = { pptt_walk };
+
+    ghost limit = { length_limit };
+
+    ghost closed = { true };
 }
 
-impl Model for PPTT {
-    ghost use Rattle.acpi_base.specs.Walk.{pptt_walk};
-    ghost use Rattle.acpi_core.specs.Addition.{Counted};
-    ghost use Rattle.acpi_core.specs.Walk.{Keeps};
+impl Plain<36> for PpttKind {
+    ghost empty = { pptt };
 
-    ghost Value = { Counted };
-
-    ghost view = { λ t. t.table };
-
-    ghost invariant = { λ t. Keeps pptt_walk t.table.table };
-}
-
-impl Aml for PPTT {
-    ghost object = { λ t. whole (bytes_of t.table) };
-
-    ghost ends_well = { λ t. whole_ends_well (bytes_of t.table) };
-
-    fn to_aml_bytes(&self, sink: &mut dyn AmlSink) -> R<()> {
-        self.table.to_aml_bytes(sink)
+    fn table(alloc: Global, oem: Oem) -> Table<36> {
+        Table::new(alloc, Form::new(*b"PPTT", 3, oem, 0), &[], &[])
     }
+
+    ghost are_empty = { Prim.search rules };
 }
 
 impl PPTT {
-    /// A table without nodes.
-    pub fn new(alloc: Global, oem_id: [u8; 6], oem_table_id: [u8; 8], oem_revision: u32) -> PPTT
-        ensures { result.table ≡ pptt (record { id = oem_id; table_id = oem_table_id; revision = oem_revision }) }
-    {
-        let form = Form {
-            signature: *b"PPTT",
-            revision: 3,
-            oem: Oem {
-                id: oem_id,
-                table_id: oem_table_id,
-                revision: oem_revision,
-            },
-            count_width: 0,
-            limit: 0x1_0000_0000,
-        };
-        PPTT {
-            table: Table::new(alloc, form, &[], &[]),
-        }
-    }
-
     /// Adds a processor, or a group of them, and answers its offset. FieldWidth where the length would reach 2^32.
     pub fn add_processor(&mut self, node: ProcessorNode) -> R<ProcessorHandle>
         ensures { AddsAt result self.old (whole (processor_bytes node)) self.new }
     {
-        let offset = self.table.add_object_at(&node)?;
-        Ok(ProcessorHandle { offset })
+        self.add_object_at(&node)
     }
 
     /// Adds a cache and answers its offset. FieldWidth where the length would reach 2^32.
     pub fn add_cache(&mut self, node: CacheNode) -> R<CacheHandle>
         ensures { AddsAt result self.old (whole (cache_bytes node)) self.new }
     {
-        let offset = self.table.add_at(&node.bytes())?;
-        Ok(CacheHandle { offset })
+        self.add_record_at(&node)
     }
 }
 
@@ -90,7 +72,7 @@ impl PPTT {
 pub fn pptt_is_walked(table: &PPTT)
     ensures { IsWalked pptt_walk table.now.table }
 {
-    let _ = &table.table;
+    tables_are_walked(table)
 }
 
 /// A law: each node tells its kind at its offset, whatever its fields hold.
@@ -99,81 +81,13 @@ pub fn pptt_nodes_tell_kinds()
 {}
 
 /// Where a processor's node begins in its table.
-#[derive(Copy, Clone, Debug)]
-pub struct ProcessorHandle {
-    offset: u32,
-}
-
-impl Model for ProcessorHandle {
-    ghost use Rattle.std.specs.Prelude.{ℕ};
-
-    ghost Value = { ℕ };
-
-    ghost view = { λ h. h.offset };
-
-    ghost inverse = { λ n. record { offset = n } };
-}
+pub type ProcessorHandle = Handle<ProcessorNode>;
 
 /// Where a cache's node begins in its table.
-#[derive(Copy, Clone, Debug)]
-pub struct CacheHandle {
-    offset: u32,
-}
-
-impl Model for CacheHandle {
-    ghost use Rattle.std.specs.Prelude.{ℕ};
-
-    ghost Value = { ℕ };
-
-    ghost view = { λ h. h.offset };
-
-    ghost inverse = { λ n. record { offset = n } };
-}
+pub type CacheHandle = Handle<CacheNode>;
 
 /// The offsets of a processor's own caches (offset 20): at most 58, so that the node's length has one byte.
-#[derive(Debug, Drop)]
-pub struct Resources {
-    count: u8,
-    offsets: Vec<u8>,
-}
-
-impl Model for Resources {
-    ghost use Rattle.std.specs.Prelude.{◌≡◌, ◌*◌, ◌≤◌, length};
-    ghost use Rattle.acpi_nodes.specs.Resources.{Resources};
-
-    ghost Value = { Resources };
-
-    ghost view = { λ r. record { count = r.count; offsets = r.offsets.items } };
-
-    ghost invariant = { λ r. (length r.offsets.items ≡ 4 * r.count) × (r.count ≤ 58) };
-}
-
-impl Resources {
-    // No caches.
-    fn new(alloc: Global) -> Resources
-        ensures { result ≡ no_resources }
-    {
-        Resources {
-            count: 0,
-            offsets: Vec::new(alloc),
-        }
-    }
-
-    // Adds an offset. FieldWidth at the 59th, and unchanged where it is refused.
-    fn push(&mut self, offset: u32) -> R<()>
-        ensures ok { OnOk result (self.new ≡ with_resource self.old offset) }
-        ensures room { OnOk result (self.old.count < 58) }
-        ensures err { OnErr result (self.new ≡ self.old) }
-        ensures cause { IfErr result (λ e. e ≢ Error.Memory → (e ≡ Error.FieldWidth) × (self.old.count ≡ 58)) }
-    {
-        if self.count == 58 {
-            return Err(Error::FieldWidth);
-        }
-        self.offsets.extend_from_slice(&offset.to_le_bytes())?;
-        self.count += 1;
-        Ok(())
-    }
-}
+pub type Resources = Entries<4, 58>;
 
 /// Flags of a processor (offset 4).
 const PHYSICAL: u32 = 1;
@@ -209,7 +123,7 @@ impl ProcessorNode {
         ensures below { IfSome parent.entry (λ h. result ≡ processor h.now acpi_processor_id) }
     {
         let parent = match parent {
-            Some(handle) => handle.offset,
+            Some(handle) => handle.offset(),
             None => 0,
         };
         ProcessorNode {
@@ -226,7 +140,7 @@ impl ProcessorNode {
         ensures room { OnOk result (self.resources.count < 58) }
         ensures err { IfErr result (λ e. e ≢ Error.Memory → (e ≡ Error.FieldWidth) × (self.resources.count ≡ 58)) }
     {
-        self.resources.push(cache.offset)?;
+        self.resources.push(cache.offset().to_le_bytes())?;
         Ok(self)
     }
 
@@ -274,16 +188,36 @@ impl ProcessorNode {
     fn head(&self) -> [u8; 20]
         ensures { result ≡ processor_head self.now }
     {
-        record(&[
-            Field::Byte(0),
-            Field::Byte(20 + 4 * self.resources.count),
-            Field::Word(0),
-            Field::DWord(self.flags),
-            Field::DWord(self.parent),
-            Field::DWord(self.acpi_processor_id),
-            Field::DWord(u32::from(self.resources.count)),
-        ])
+        record_of_numbers(
+            &PROCESSOR,
+            &[
+                0,
+                20 + self.resources.as_slice().len() as u64,
+                0,
+                u64::from(self.flags),
+                u64::from(self.parent),
+                u64::from(self.acpi_processor_id),
+                self.resources.len() as u64,
+            ],
+        )
     }
+}
+
+const PROCESSOR: [Row; 7] = [
+    Row::Number("Type", 1),
+    Row::Number("Length", 1),
+    Row::Reserved(2),
+    Row::Number("Flags", 4),
+    Row::Number("Parent", 4),
+    Row::Number("ACPI Processor ID", 4),
+    Row::Number("Number of private resources", 4),
+];
+
+/// The names and widths of the fields before a processor's caches, in order.
+pub fn processor_rows() -> &'static [Row]
+    ensures { (p : ProcessorNode) → AreRowsOf result.now (processor_head_fields p) }
+{
+    &PROCESSOR
 }
 
 impl Aml for ProcessorNode {
@@ -292,7 +226,7 @@ impl Aml for ProcessorNode {
     ghost ends_well = { λ p. whole_ends_well (processor_bytes p) };
 
     fn to_aml_bytes(&self, sink: &mut dyn AmlSink) -> R<()> {
-        write_parts(sink, &[&self.head(), &self.resources.offsets])
+        write_parts(sink, &[&self.head(), self.resources.as_slice()])
     }
 }
 
@@ -355,7 +289,7 @@ impl CacheNodeBuilder {
     pub fn next_level(mut self, cache: &CacheHandle) -> CacheNodeBuilder
         ensures { result ≡ record self { next_level = cache.now } }
     {
-        self.next_level = cache.offset;
+        self.next_level = cache.offset();
         self
     }
 
@@ -388,7 +322,10 @@ impl CacheNodeBuilder {
 
     /// Which accesses fill it (offset 21, flag 8). Joined to the attributes that there are.
     pub fn allocation_type(mut self, allocation: AllocationType) -> CacheNodeBuilder
-        ensures { result ≡ record self { flags = bit_or self.flags 8; attributes = bit_or self.attributes (allocation_number allocation) } }
+        ensures { result ≡ record self {
+          flags = bit_or self.flags 8;
+          attributes = bit_or self.attributes (allocation_number allocation);
+        } }
     {
         self.flags |= ALLOCATION;
         self.attributes |= allocation as u8;
@@ -397,7 +334,10 @@ impl CacheNodeBuilder {
 
     /// What it holds (offset 21, flag 16). Joined to the attributes that there are.
     pub fn cache_type(mut self, kind: CacheType) -> CacheNodeBuilder
-        ensures { result ≡ record self { flags = bit_or self.flags 16; attributes = bit_or self.attributes (type_number kind) } }
+        ensures { result ≡ record self {
+          flags = bit_or self.flags 16;
+          attributes = bit_or self.attributes (type_number kind);
+        } }
     {
         self.flags |= TYPE;
         self.attributes |= kind as u8;
@@ -406,7 +346,10 @@ impl CacheNodeBuilder {
 
     /// When it writes to the next level (offset 21, flag 32). Joined to the attributes that there are.
     pub fn write_policy(mut self, policy: WritePolicy) -> CacheNodeBuilder
-        ensures { result ≡ record self { flags = bit_or self.flags 32; attributes = bit_or self.attributes (policy_number policy) } }
+        ensures { result ≡ record self {
+          flags = bit_or self.flags 32;
+          attributes = bit_or self.attributes (policy_number policy);
+        } }
     {
         self.flags |= POLICY;
         self.attributes |= policy as u8;
@@ -468,24 +411,46 @@ impl CacheNode {
     {
         28
     }
+}
 
-    // The node's bytes.
-    fn bytes(&self) -> [u8; 28]
-        ensures { result ≡ cache_bytes self.now }
-    {
-        record(&[
-            Field::Byte(1),
-            Field::Byte(28),
-            Field::Word(0),
-            Field::DWord(self.flags),
-            Field::DWord(self.next_level),
-            Field::DWord(self.size),
-            Field::DWord(self.sets),
-            Field::Byte(self.associativity),
-            Field::Byte(self.attributes),
-            Field::Word(self.line_size),
-            Field::DWord(self.id),
-        ])
+const CACHE: [Row; 11] = [
+    Row::Number("Type", 1),
+    Row::Number("Length", 1),
+    Row::Reserved(2),
+    Row::Number("Flags", 4),
+    Row::Number("Next Level of Cache", 4),
+    Row::Number("Size", 4),
+    Row::Number("Number of sets", 4),
+    Row::Number("Associativity", 1),
+    Row::Number("Attributes", 1),
+    Row::Number("Line size", 2),
+    Row::Number("Cache ID", 4),
+];
+
+impl Record<28> for CacheNode {
+    ghost fields = { cache_fields };
+
+    fn rows() -> &'static [Row] {
+        &CACHE
+    }
+
+    fn bytes(&self) -> [u8; 28] {
+        record_of_numbers(
+            &CACHE,
+            &[
+                1,
+                28,
+                0,
+                u64::from(self.flags),
+                u64::from(self.next_level),
+                u64::from(self.size),
+                u64::from(self.sets),
+                u64::from(self.associativity),
+                u64::from(self.attributes),
+                u64::from(self.line_size),
+                u64::from(self.id),
+            ],
+        )
     }
 }
 
@@ -495,6 +460,6 @@ impl Aml for CacheNode {
     ghost ends_well = { λ c. whole_ends_well (cache_bytes c) };
 
     fn to_aml_bytes(&self, sink: &mut dyn AmlSink) -> R<()> {
-        sink.vec(&self.bytes())
+        write_record(self, sink)
     }
 }

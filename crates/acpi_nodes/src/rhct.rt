@@ -1,52 +1,58 @@
 //! RHCT: what RISC-V harts can do.
 
-ghost use Rattle.std.specs.Prelude.{◌≡◌, ◌≢◌, ◌+◌, ◌<◌, length, OnOk, IfOk, IfErr};
+ghost use Rattle.std.specs.Prelude.{◌≡◌, ◌≢◌, ◌<◌, ℕ, true, OnOk, IfOk, IfErr};
+ghost use Rattle.acpi_base.specs.Fields.{AreRowsOf};
 ghost use Rattle.acpi_base.specs.Object.{whole, whole_ends_well};
 ghost use Rattle.acpi_base.specs.Walk.{rhct_walk};
-ghost use Rattle.acpi_core.specs.Listing.{bytes_of};
 ghost use Rattle.acpi_core.specs.Addition.{Adds, AddsAt};
+ghost use Rattle.acpi_core.specs.Listing.{length_limit};
 ghost use Rattle.acpi_core.specs.Walk.{IsWalked};
-ghost use Rattle.acpi_nodes.specs.Hart.{hart_info, with_offset, hart_info_head, hart_info_bytes};
-ghost use Rattle.acpi_nodes.specs.Rhct.{rhct, isa_string_end, isa_string_head, isa_string_object, isa_string_ends_well, cmo, cmo_bytes, scheme_number, mmu, mmu_bytes, NodesTellKinds};
+ghost use Rattle.acpi_nodes.specs.Hart.{hart_info, with_offset, hart_info_head_fields, hart_info_head, hart_info_bytes};
+ghost use Rattle.acpi_nodes.specs.Rhct.{rhct, rhct_fields, isa_string_end, isa_string_head_fields, isa_string_head};
+ghost use Rattle.acpi_nodes.specs.Rhct.{isa_string_object, isa_string_ends_well, cmo, cmo_bytes, mmu, mmu_bytes, NodesTellKinds};
+ghost use Rattle.acpi_nodes.specs.declared.rhct.HartInfoNode.{HartInfoNode};
+ghost use Rattle.acpi_nodes.specs.Rhct.{cmo_fields, mmu_fields};
 
+use crate::handle::Handle;
+use crate::list_table::{ListTable, tables_are_walked};
 use acpi_base::error::{Error, R};
 use acpi_base::object::Aml;
 use acpi_base::oem::Oem;
 use acpi_base::parts::write_parts;
-use acpi_base::record::{Field, record};
+use acpi_base::row::{Record, Row, record_of_numbers, write_record};
 use acpi_base::sink::AmlSink;
+use acpi_core::entries::Entries;
 use acpi_core::form::Form;
+use acpi_core::kind::Kind;
 use acpi_core::table::Table;
+use acpi_core::walked::Walked;
 use std::alloc::Global;
-use std::marker::Model;
 
 /// The RISC-V Hart Capabilities Table (this project's profile): nodes from offset 56 on, as the field at 52 tells, and their
 /// number at offset 48.
-#[derive(Drop)]
-pub struct RHCT {
-    table: Table<56>,
+pub type RHCT = ListTable<RhctKind, 56>;
+
+/// The kind of RHCT.
+pub struct RhctKind;
+
+impl Kind<56> for RhctKind {
+    ghost walk = { rhct_walk };
+
+    ghost limit = { length_limit };
+
+    ghost closed = { true };
 }
 
-impl Model for RHCT {
-    ghost use Rattle.acpi_base.specs.Walk.{rhct_walk};
-    ghost use Rattle.acpi_core.specs.Addition.{Counted};
-    ghost use Rattle.acpi_core.specs.Walk.{Keeps};
+const FIXED: [Row; 2] = [
+    Row::Number("Flags", 4),
+    Row::Number("Time Base Frequency", 8),
+];
 
-    ghost Value = { Counted };
-
-    ghost view = { λ t. t.table };
-
-    ghost invariant = { λ t. Keeps rhct_walk t.table.table };
-}
-
-impl Aml for RHCT {
-    ghost object = { λ t. whole (bytes_of t.table) };
-
-    ghost ends_well = { λ t. whole_ends_well (bytes_of t.table) };
-
-    fn to_aml_bytes(&self, sink: &mut dyn AmlSink) -> R<()> {
-        self.table.to_aml_bytes(sink)
-    }
+/// The names and widths of the fields between the header and the number of nodes, in order.
+pub fn rhct_rows() -> &'static [Row]
+    ensures { (timebase_frequency : ℕ) → AreRowsOf result.now (rhct_fields timebase_frequency) }
+{
+    &FIXED
 }
 
 impl RHCT {
@@ -58,22 +64,14 @@ impl RHCT {
         oem_revision: u32,
         timebase_frequency: u64,
     ) -> RHCT
-        ensures { result.table ≡ rhct (record { id = oem_id; table_id = oem_table_id; revision = oem_revision }) timebase_frequency }
+        ensures { result.table ≡
+            rhct (record { id = oem_id; table_id = oem_table_id; revision = oem_revision }) timebase_frequency }
     {
-        let form = Form {
-            signature: *b"RHCT",
-            revision: 1,
-            oem: Oem {
-                id: oem_id,
-                table_id: oem_table_id,
-                revision: oem_revision,
-            },
-            count_width: 4,
-            limit: 0x1_0000_0000,
-        };
-        let before: [u8; 12] = record(&[Field::DWord(0), Field::QWord(timebase_frequency)]);
-        RHCT {
-            table: Table::new(alloc, form, &before, &[56, 0, 0, 0]),
+        let oem = Oem::new(oem_id, oem_table_id, oem_revision);
+        let form = Form::new(*b"RHCT", 1, oem, 4);
+        let before: [u8; 12] = record_of_numbers(&FIXED, &[0, timebase_frequency]);
+        ListTable {
+            table: Walked::of(Table::new(alloc, form, &before, &[56, 0, 0, 0])),
         }
     }
 
@@ -82,8 +80,7 @@ impl RHCT {
     pub fn add_isa_string(&mut self, string: &'static str) -> R<IsaStringHandle>
         ensures { AddsAt result self.old (isa_string_object string.now) self.new }
     {
-        let offset = self.table.add_object_at(&IsaStringNode::new(string))?;
-        Ok(IsaStringHandle { offset })
+        self.add_object_at(&IsaStringNode::new(string))
     }
 
     /// Adds the sizes of blocks that harts manage in their caches, and answers the node's offset. FieldWidth where the length
@@ -91,24 +88,21 @@ impl RHCT {
     pub fn add_cmo(&mut self, cmo: CmoNode) -> R<CmoHandle>
         ensures { AddsAt result self.old (whole (cmo_bytes cmo)) self.new }
     {
-        let offset = self.table.add_at(&cmo.bytes())?;
-        Ok(CmoHandle { offset })
+        self.add_record_at(&cmo)
     }
 
     /// Adds how harts translate addresses. FieldWidth where the length would reach 2^32.
     pub fn add_mmu_node(&mut self, scheme: VirtualAddressScheme) -> R<()>
         ensures { Adds result self.old (whole (mmu_bytes (mmu scheme))) self.new }
     {
-        self.table.add(&MmuNode::new(scheme).bytes())
+        self.add_record(&MmuNode::new(scheme))
     }
 
     /// Adds which nodes tell of a hart. FieldWidth where the length would reach 2^32.
     pub fn add_hart_info(&mut self, hart_info: HartInfoNode) -> R<()>
         ensures { Adds result self.old (whole (hart_info_bytes hart_info)) self.new }
     {
-        // its invariant: each offset has four bytes, and the node's length its field
-        let _ = &hart_info.offsets;
-        self.table.add_object(&hart_info)
+        self.add_object(&hart_info)
     }
 }
 
@@ -116,7 +110,7 @@ impl RHCT {
 pub fn rhct_is_walked(table: &RHCT)
     ensures { IsWalked rhct_walk table.now.table }
 {
-    let _ = &table.table;
+    tables_are_walked(table)
 }
 
 /// A law: each node tells its kind at its offset, whatever its fields hold.
@@ -125,36 +119,10 @@ pub fn rhct_nodes_tell_kinds()
 {}
 
 /// Where an ISA string's node begins in its table.
-#[derive(Debug, Drop)]
-pub struct IsaStringHandle {
-    offset: u32,
-}
-
-impl Model for IsaStringHandle {
-    ghost use Rattle.std.specs.Prelude.{ℕ};
-
-    ghost Value = { ℕ };
-
-    ghost view = { λ h. h.offset };
-
-    ghost inverse = { λ n. record { offset = n } };
-}
+pub type IsaStringHandle = Handle<IsaStringNode>;
 
 /// Where a CMO node begins in its table.
-#[derive(Debug, Drop)]
-pub struct CmoHandle {
-    offset: u32,
-}
-
-impl Model for CmoHandle {
-    ghost use Rattle.std.specs.Prelude.{ℕ};
-
-    ghost Value = { ℕ };
-
-    ghost view = { λ h. h.offset };
-
-    ghost inverse = { λ n. record { offset = n } };
-}
+pub type CmoHandle = Handle<CmoNode>;
 
 /// The extensions of a hart, as text (this project's profile, ISA string node): 8 bytes, the text, its NUL, and one byte more
 /// where the node's length would be odd. Refused when written, by FieldWidth, where the text has more than 65,525 bytes.
@@ -200,12 +168,29 @@ fn isa_string_head(text: usize) -> [u8; 8]
     requires { text < 65526 }
     ensures { result ≡ isa_string_head text }
 {
-    record(&[
-        Field::Word(0),
-        Field::Word((8 + text + isa_string_end(text)) as u16),
-        Field::Word(1),
-        Field::Word((text + 1) as u16),
-    ])
+    record_of_numbers(
+        &ISA_STRING,
+        &[
+            0,
+            (8 + text + isa_string_end(text)) as u64,
+            1,
+            (text + 1) as u64,
+        ],
+    )
+}
+
+const ISA_STRING: [Row; 4] = [
+    Row::Number("Type", 2),
+    Row::Number("Length", 2),
+    Row::Number("Revision", 2),
+    Row::Number("ISA string length", 2),
+];
+
+/// The names and widths of the fields before a text, in order.
+pub fn isa_string_rows() -> &'static [Row]
+    ensures { (text : ℕ) → AreRowsOf result.now (isa_string_head_fields text) }
+{
+    &ISA_STRING
 }
 
 /// The sizes of blocks that a hart manages in its caches (this project's profile, CMO node): 10 bytes.
@@ -231,20 +216,38 @@ impl CmoNode {
             cboz: cboz_block_size_pow2,
         }
     }
+}
 
-    // The node's bytes.
-    fn bytes(&self) -> [u8; 10]
-        ensures { result ≡ cmo_bytes self.now }
-    {
-        record(&[
-            Field::Word(1),
-            Field::Word(10),
-            Field::Word(1),
-            Field::Byte(0),
-            Field::Byte(self.cbom),
-            Field::Byte(self.cbop),
-            Field::Byte(self.cboz),
-        ])
+const CMO: [Row; 7] = [
+    Row::Number("Type", 2),
+    Row::Number("Length", 2),
+    Row::Number("Revision", 2),
+    Row::Reserved(1),
+    Row::Number("CBOM Block Size", 1),
+    Row::Number("CBOP Block Size", 1),
+    Row::Number("CBOZ Block Size", 1),
+];
+
+impl Record<10> for CmoNode {
+    ghost fields = { cmo_fields };
+
+    fn rows() -> &'static [Row] {
+        &CMO
+    }
+
+    fn bytes(&self) -> [u8; 10] {
+        record_of_numbers(
+            &CMO,
+            &[
+                1,
+                10,
+                1,
+                0,
+                u64::from(self.cbom),
+                u64::from(self.cbop),
+                u64::from(self.cboz),
+            ],
+        )
     }
 }
 
@@ -254,7 +257,7 @@ impl Aml for CmoNode {
     ghost ends_well = { λ c. whole_ends_well (cmo_bytes c) };
 
     fn to_aml_bytes(&self, sink: &mut dyn AmlSink) -> R<()> {
-        sink.vec(&self.bytes())
+        write_record(self, sink)
     }
 }
 
@@ -281,18 +284,25 @@ impl MmuNode {
             scheme: scheme as u8,
         }
     }
+}
 
-    // The node's bytes.
-    fn bytes(&self) -> [u8; 8]
-        ensures { result ≡ mmu_bytes self.now }
-    {
-        record(&[
-            Field::Word(2),
-            Field::Word(8),
-            Field::Word(1),
-            Field::Byte(0),
-            Field::Byte(self.scheme),
-        ])
+const MMU: [Row; 5] = [
+    Row::Number("Type", 2),
+    Row::Number("Length", 2),
+    Row::Number("Revision", 2),
+    Row::Reserved(1),
+    Row::Number("MMU Type", 1),
+];
+
+impl Record<8> for MmuNode {
+    ghost fields = { mmu_fields };
+
+    fn rows() -> &'static [Row] {
+        &MMU
+    }
+
+    fn bytes(&self) -> [u8; 8] {
+        record_of_numbers(&MMU, &[2, 8, 1, 0, u64::from(self.scheme)])
     }
 }
 
@@ -302,7 +312,7 @@ impl Aml for MmuNode {
     ghost ends_well = { λ m. whole_ends_well (mmu_bytes m) };
 
     fn to_aml_bytes(&self, sink: &mut dyn AmlSink) -> R<()> {
-        sink.vec(&self.bytes())
+        write_record(self, sink)
     }
 }
 
@@ -311,19 +321,7 @@ impl Aml for MmuNode {
 #[derive(Drop)]
 pub struct HartInfoNode {
     uid: u32,
-    count: u16,
-    offsets: Vec<u8>,
-}
-
-impl Model for HartInfoNode {
-    ghost use Rattle.std.specs.Prelude.{◌≡◌, ◌*◌, ◌≤◌, length};
-    ghost use Rattle.acpi_nodes.specs.Hart.{HartInfo};
-
-    ghost Value = { HartInfo };
-
-    ghost view = { λ h. record { uid = h.uid; count = h.count; offsets = h.offsets.items } };
-
-    ghost invariant = { λ h. (length h.offsets.items ≡ 4 * h.count) × (h.count ≤ 16380) };
+    offsets: Entries<4, 16380>,
 }
 
 impl HartInfoNode {
@@ -332,11 +330,10 @@ impl HartInfoNode {
         ensures ok { IfOk result (λ h. h ≡ hart_info processor_uid handle.now) }
         ensures err { IfErr result (λ e. e ≡ Error.Memory) }
     {
-        let mut offsets = Vec::new(alloc);
-        offsets.extend_from_slice(&handle.offset.to_le_bytes())?;
+        let mut offsets = Entries::new(alloc);
+        offsets.push(handle.offset().to_le_bytes())?;
         Ok(HartInfoNode {
             uid: processor_uid,
-            count: 1,
             offsets,
         })
     }
@@ -344,14 +341,10 @@ impl HartInfoNode {
     /// Adds a CMO node behind those that there are. FieldWidth where there would be more than 16,380 offsets.
     pub fn with_cmo(mut self, cmo: &CmoHandle) -> R<HartInfoNode>
         ensures ok { IfOk result (λ h. h ≡ with_offset self cmo.now) }
-        ensures room { OnOk result (self.count < 16380) }
-        ensures err { IfErr result (λ e. e ≢ Error.Memory → (e ≡ Error.FieldWidth) × (self.count ≡ 16380)) }
+        ensures room { OnOk result (self.offsets.count < 16380) }
+        ensures err { IfErr result (λ e. e ≢ Error.Memory → (e ≡ Error.FieldWidth) × (self.offsets.count ≡ 16380)) }
     {
-        if self.count == 16380 {
-            return Err(Error::FieldWidth);
-        }
-        self.offsets.extend_from_slice(&cmo.offset.to_le_bytes())?;
-        self.count += 1;
+        self.offsets.push(cmo.offset().to_le_bytes())?;
         Ok(self)
     }
 
@@ -359,14 +352,32 @@ impl HartInfoNode {
     fn head(&self) -> [u8; 12]
         ensures { result ≡ hart_info_head self.now }
     {
-        record(&[
-            Field::Word(65535),
-            Field::Word(12 + 4 * self.count),
-            Field::Word(1),
-            Field::Word(self.count),
-            Field::DWord(self.uid),
-        ])
+        record_of_numbers(
+            &HART_INFO,
+            &[
+                65535,
+                12 + self.offsets.as_slice().len() as u64,
+                1,
+                self.offsets.len() as u64,
+                u64::from(self.uid),
+            ],
+        )
     }
+}
+
+const HART_INFO: [Row; 5] = [
+    Row::Number("Type", 2),
+    Row::Number("Length", 2),
+    Row::Number("Revision", 2),
+    Row::Number("Number of offsets", 2),
+    Row::Number("ACPI Processor UID", 4),
+];
+
+/// The names and widths of the fields before a hart's offsets, in order.
+pub fn hart_info_rows() -> &'static [Row]
+    ensures { (h : HartInfoNode) → AreRowsOf result.now (hart_info_head_fields h) }
+{
+    &HART_INFO
 }
 
 impl Aml for HartInfoNode {
@@ -375,6 +386,6 @@ impl Aml for HartInfoNode {
     ghost ends_well = { λ h. whole_ends_well (hart_info_bytes h) };
 
     fn to_aml_bytes(&self, sink: &mut dyn AmlSink) -> R<()> {
-        write_parts(sink, &[&self.head(), &self.offsets])
+        write_parts(sink, &[&self.head(), self.offsets.as_slice()])
     }
 }

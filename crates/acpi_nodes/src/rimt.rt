@@ -1,102 +1,90 @@
 //! RIMT: the IOMMUs of a RISC-V machine, and which devices reach memory through them.
 
-ghost use Rattle.std.specs.Prelude.{◌≡◌, ◌+◌, ◌*◌, ◌≤◌, length, string_bytes};
+ghost use Rattle.std.proofs.Common.{rules};
+ghost use Rattle.std.specs.Prelude.{◌≡◌, ◌+◌, ◌*◌, ◌≤◌, true, length};
+ghost use Rattle.acpi_base.specs.Fields.{AreRowsOf};
 ghost use Rattle.acpi_base.specs.Object.{whole, whole_ends_well};
 ghost use Rattle.acpi_base.specs.Walk.{rimt_walk};
-ghost use Rattle.acpi_core.specs.Listing.{bytes_of};
-ghost use Rattle.acpi_core.specs.Structure.{structure_of, structure_ends_well};
 ghost use Rattle.acpi_core.specs.Addition.{Adds, AddsAt};
+ghost use Rattle.acpi_core.specs.Listing.{length_limit};
+ghost use Rattle.acpi_core.specs.Structure.{structure_of, structure_ends_well};
 ghost use Rattle.acpi_core.specs.Walk.{IsWalked};
 ghost use Rattle.acpi_nodes.specs.Entries.{entries_of};
-ghost use Rattle.acpi_nodes.specs.Rimt.{rimt, bit, interrupt_wire, wire_bytes, iommu, iommu_head, iommu_bytes, id_mapping, mapping_bytes, root_complex, root_complex_head, root_complex_bytes, platform, platform_head, platform_bytes, DevicesTellKinds};
+ghost use Rattle.acpi_nodes.specs.Rimt.{rimt, DevicesTellKinds, bit, interrupt_wire, wire_bytes, id_mapping, mapping_bytes};
+ghost use Rattle.acpi_nodes.specs.Rimt.{iommu, iommu_head_fields, iommu_head, iommu_bytes};
+ghost use Rattle.acpi_nodes.specs.Rimt.{root_complex, root_complex_head_fields, root_complex_head, root_complex_bytes};
+ghost use Rattle.acpi_nodes.specs.Rimt.{platform, mappings_at, platform_head_fields, platform_head, platform_bytes};
+ghost use Rattle.acpi_nodes.specs.declared.rimt.Iommu.{Iommu};
+ghost use Rattle.acpi_nodes.specs.declared.rimt.PcieRootComplex.{PcieRootComplex};
+ghost use Rattle.acpi_nodes.specs.declared.rimt.Platform.{Platform};
+ghost use Rattle.acpi_nodes.specs.Rimt.{wire_fields, mapping_fields};
 
-use crate::entries::{Entry, entries_of, write_with_entries};
+use crate::entries::{entries_of, told_size, write_with_entries};
+use crate::handle::Handle;
+use crate::list_table::{ListTable, tables_are_walked};
 pub use crate::pci::PciDevice;
-use acpi_base::error::{Error, R};
+use acpi_base::error::R;
 use acpi_base::object::Aml;
 use acpi_base::oem::Oem;
-use acpi_base::record::{Field, record};
+use acpi_base::row::{Record, Row, record_of_numbers, write_record};
 use acpi_base::sink::AmlSink;
 use acpi_core::form::Form;
+use acpi_core::kind::{Kind, Plain};
 use acpi_core::table::Table;
 use std::alloc::Global;
-use std::marker::Model;
 
 /// The RISC-V I/O Mapping Table (this project's profile): devices from offset 48 on, and their number at offset 36, in four
 /// bytes.
-#[derive(Drop)]
-pub struct RIMT {
-    table: Table<48>,
+pub type RIMT = ListTable<RimtKind, 48>;
+
+/// The kind of RIMT.
+pub struct RimtKind;
+
+impl Kind<48> for RimtKind {
+    ghost walk = { rimt_walk };
+
+    ghost limit = { length_limit };
+
+    ghost closed = { true };
 }
 
-impl Model for RIMT {
-    ghost use Rattle.acpi_base.specs.Walk.{rimt_walk};
-    ghost use Rattle.acpi_core.specs.Addition.{Counted};
-    ghost use Rattle.acpi_core.specs.Walk.{Keeps};
+impl Plain<48> for RimtKind {
+    ghost empty = { rimt };
 
-    ghost Value = { Counted };
-
-    ghost view = { λ t. t.table };
-
-    ghost invariant = { λ t. Keeps rimt_walk t.table.table };
-}
-
-impl Aml for RIMT {
-    ghost object = { λ t. whole (bytes_of t.table) };
-
-    ghost ends_well = { λ t. whole_ends_well (bytes_of t.table) };
-
-    fn to_aml_bytes(&self, sink: &mut dyn AmlSink) -> R<()> {
-        self.table.to_aml_bytes(sink)
+    fn table(alloc: Global, oem: Oem) -> Table<48> {
+        let form = Form::new(*b"RIMT", 1, oem, 4);
+        Table::new(alloc, form, &[], &[48, 0, 0, 0, 0, 0, 0, 0])
     }
+
+    ghost are_empty = { Prim.search rules };
 }
 
 impl RIMT {
-    /// A table without devices.
-    pub fn new(alloc: Global, oem_id: [u8; 6], oem_table_id: [u8; 8], oem_revision: u32) -> RIMT
-        ensures { result.table ≡ rimt (record { id = oem_id; table_id = oem_table_id; revision = oem_revision }) }
-    {
-        let form = Form {
-            signature: *b"RIMT",
-            revision: 1,
-            oem: Oem {
-                id: oem_id,
-                table_id: oem_table_id,
-                revision: oem_revision,
-            },
-            count_width: 4,
-            limit: 0x1_0000_0000,
-        };
-        RIMT {
-            table: Table::new(alloc, form, &[], &[48, 0, 0, 0, 0, 0, 0, 0]),
-        }
-    }
-
     /// Adds an IOMMU, and answers its offset. FieldWidth where the IOMMU would pass 65,535 bytes, and where the table's length
     /// would reach 2^32.
+    #[tactic(auto, using(crate::proofs::Rimts::iommu_piece))]
     pub fn add_iommu(&mut self, iommu: Iommu) -> R<IommuOffset>
         ensures { AddsAt result self.old (structure_of (iommu_bytes iommu)) self.new }
     {
-        match self.table.add_object_at(&iommu) {
-            Ok(offset) => Ok(IommuOffset { offset }),
-            Err(refusal) => Err(refusal),
-        }
+        self.add_object_at(&iommu)
     }
 
     /// Adds a root complex. FieldWidth where the root complex would pass 65,535 bytes, and where the table's length would reach
     /// 2^32.
+    #[tactic(auto, using(crate::proofs::Rimts::root_complex_piece))]
     pub fn add_pcie_root_complex(&mut self, root_complex: PcieRootComplex) -> R<()>
         ensures { Adds result self.old (structure_of (root_complex_bytes root_complex)) self.new }
     {
-        self.table.add_object(&root_complex)
+        self.add_object(&root_complex)
     }
 
     /// Adds a device of the platform. FieldWidth where the device would pass 65,535 bytes, and where the table's length would
     /// reach 2^32.
+    #[tactic(auto, using(crate::proofs::Rimts::platform_piece))]
     pub fn add_platform(&mut self, platform: Platform) -> R<()>
         ensures { Adds result self.old (structure_of (platform_bytes platform)) self.new }
     {
-        self.table.add_object(&platform)
+        self.add_object(&platform)
     }
 }
 
@@ -104,7 +92,7 @@ impl RIMT {
 pub fn rimt_is_walked(table: &RIMT)
     ensures { IsWalked rimt_walk table.now.table }
 {
-    let _ = &table.table;
+    tables_are_walked(table)
 }
 
 /// A law: each device tells its kind at its offset, whatever its fields hold.
@@ -113,20 +101,7 @@ pub fn rimt_devices_tell_kinds()
 {}
 
 /// An IOMMU of a table. In contracts it is the IOMMU's offset.
-#[derive(Copy, Clone)]
-pub struct IommuOffset {
-    offset: u32,
-}
-
-impl Model for IommuOffset {
-    ghost use Rattle.std.specs.Prelude.{ℕ};
-
-    ghost Value = { ℕ };
-
-    ghost view = { λ h. h.offset };
-
-    ghost inverse = { λ n. record { offset = n } };
-}
+pub type IommuOffset = Handle<Iommu>;
 
 // A bit of a field of flags.
 fn bit(set: bool, value: u16) -> u16
@@ -158,24 +133,30 @@ impl InterruptWire {
             aplic_id,
         }
     }
-
-    // The wire's bytes.
-    fn bytes(&self) -> [u8; 8]
-        ensures { result ≡ wire_bytes self.now }
-    {
-        record(&[
-            Field::DWord(self.number),
-            Field::Word(bit(self.level_trig, 1) + bit(self.polarity_high, 2)),
-            Field::Word(self.aplic_id),
-        ])
-    }
 }
 
-impl Entry for InterruptWire {
-    ghost bytes = { wire_bytes };
+const INTERRUPT_WIRE: [Row; 3] = [
+    Row::Number("Interrupt Number", 4),
+    Row::Number("Flags", 2),
+    Row::Number("APLIC ID", 2),
+];
 
-    fn write(&self, sink: &mut dyn AmlSink) -> R<()> {
-        sink.vec(&self.bytes())
+impl Record<8> for InterruptWire {
+    ghost fields = { wire_fields };
+
+    fn rows() -> &'static [Row] {
+        &INTERRUPT_WIRE
+    }
+
+    fn bytes(&self) -> [u8; 8] {
+        record_of_numbers(
+            &INTERRUPT_WIRE,
+            &[
+                u64::from(self.number),
+                u64::from(bit(self.level_trig, 1) + bit(self.polarity_high, 2)),
+                u64::from(self.aplic_id),
+            ],
+        )
     }
 }
 
@@ -185,7 +166,7 @@ impl Aml for InterruptWire {
     ghost ends_well = { λ w. whole_ends_well (wire_bytes w) };
 
     fn to_aml_bytes(&self, sink: &mut dyn AmlSink) -> R<()> {
-        self.write(sink)
+        write_record(self, sink)
     }
 }
 
@@ -223,9 +204,9 @@ impl Iommu {
     }
 
     // The IOMMU's bytes before its interrupt wires.
-    fn head(&self, wires: u16) -> [u8; 32]
+    fn head(&self, size: u16, wires: u16) -> [u8; 32]
+        requires size { size ≡ 32 + 8 * length (entries_of self.now.wires) }
         requires count { wires ≡ length (entries_of self.now.wires) }
-        requires room { wires ≤ 8187 }
         ensures { result ≡ iommu_head self.now }
     {
         let (segment, bdf) = match &self.device {
@@ -233,21 +214,46 @@ impl Iommu {
             None => (0, 0),
         };
         let flags = bit(self.device.is_some(), 1) + bit(self.domain.is_some(), 2);
-        record(&[
-            Field::Byte(0),
-            Field::Byte(1),
-            Field::Word(32 + 8 * wires),
-            Field::Word(self.id),
-            Field::Word(0),
-            Field::QWord(self.base.unwrap_or(0)),
-            Field::DWord(u32::from(flags)),
-            Field::Word(segment),
-            Field::Word(bdf),
-            Field::DWord(self.domain.unwrap_or(0)),
-            Field::Word(wires),
-            Field::Word(32),
-        ])
+        record_of_numbers(
+            &IOMMU,
+            &[
+                0,
+                1,
+                u64::from(size),
+                u64::from(self.id),
+                0,
+                self.base.unwrap_or(0),
+                u64::from(flags),
+                u64::from(segment),
+                u64::from(bdf),
+                u64::from(self.domain.unwrap_or(0)),
+                u64::from(wires),
+                32,
+            ],
+        )
     }
+}
+
+const IOMMU: [Row; 12] = [
+    Row::Number("Type", 1),
+    Row::Number("Revision", 1),
+    Row::Number("Length", 2),
+    Row::Number("ID", 2),
+    Row::Number("Model", 2),
+    Row::Number("Base Address", 8),
+    Row::Number("Flags", 4),
+    Row::Number("PCI Segment", 2),
+    Row::Number("PCI BDF", 2),
+    Row::Number("Proximity Domain", 4),
+    Row::Number("Number of Interrupt Wires", 2),
+    Row::Number("Offset of Interrupt Wires", 2),
+];
+
+/// The names and widths of the fields before an IOMMU's interrupt wires, in order.
+pub fn iommu_rows() -> &'static [Row]
+    ensures { (i : Iommu) → AreRowsOf result.now (iommu_head_fields i) }
+{
+    &IOMMU
 }
 
 impl Aml for Iommu {
@@ -257,11 +263,8 @@ impl Aml for Iommu {
 
     fn to_aml_bytes(&self, sink: &mut dyn AmlSink) -> R<()> {
         let wires = entries_of(&self.wires);
-        // The most that 65,535 bytes hold behind the head's 32.
-        if wires.len() > 8187 {
-            return Err(Error::FieldWidth);
-        }
-        write_with_entries(sink, &[&self.head(wires.len() as u16)], wires)
+        let size = told_size(32 + 8 * wires.len())?;
+        write_with_entries(sink, &[&self.head(size, wires.len() as u16)], wires)
     }
 }
 
@@ -302,27 +305,35 @@ impl IdMapping {
             rciep,
         }
     }
-
-    // The mapping's bytes.
-    fn bytes(&self) -> [u8; 20]
-        ensures { result ≡ mapping_bytes self.now }
-    {
-        let flags = bit(self.ats, 1) + bit(self.pri, 2) + bit(self.rciep, 4);
-        record(&[
-            Field::DWord(self.src_id),
-            Field::DWord(self.dst_id),
-            Field::DWord(self.num_ids),
-            Field::DWord(self.iommu.offset),
-            Field::DWord(u32::from(flags)),
-        ])
-    }
 }
 
-impl Entry for IdMapping {
-    ghost bytes = { mapping_bytes };
+const ID_MAPPING: [Row; 5] = [
+    Row::Number("Source ID Base", 4),
+    Row::Number("Destination ID Base", 4),
+    Row::Number("Number of IDs", 4),
+    Row::Number("Destination IOMMU Offset", 4),
+    Row::Number("Flags", 4),
+];
 
-    fn write(&self, sink: &mut dyn AmlSink) -> R<()> {
-        sink.vec(&self.bytes())
+impl Record<20> for IdMapping {
+    ghost fields = { mapping_fields };
+
+    fn rows() -> &'static [Row] {
+        &ID_MAPPING
+    }
+
+    fn bytes(&self) -> [u8; 20] {
+        let flags = bit(self.ats, 1) + bit(self.pri, 2) + bit(self.rciep, 4);
+        record_of_numbers(
+            &ID_MAPPING,
+            &[
+                u64::from(self.src_id),
+                u64::from(self.dst_id),
+                u64::from(self.num_ids),
+                u64::from(self.iommu.offset()),
+                u64::from(flags),
+            ],
+        )
     }
 }
 
@@ -332,7 +343,7 @@ impl Aml for IdMapping {
     ghost ends_well = { λ m. whole_ends_well (mapping_bytes m) };
 
     fn to_aml_bytes(&self, sink: &mut dyn AmlSink) -> R<()> {
-        self.write(sink)
+        write_record(self, sink)
     }
 }
 
@@ -369,23 +380,44 @@ impl PcieRootComplex {
     }
 
     // The root complex's bytes before its mappings.
-    fn head(&self, mappings: u16) -> [u8; 16]
+    fn head(&self, size: u16, mappings: u16) -> [u8; 16]
+        requires size { size ≡ 16 + 20 * length (entries_of self.now.mappings) }
         requires count { mappings ≡ length (entries_of self.now.mappings) }
-        requires room { mappings ≤ 3275 }
         ensures { result ≡ root_complex_head self.now }
     {
         let flags = bit(self.ats, 1) + bit(self.pri, 2);
-        record(&[
-            Field::Byte(1),
-            Field::Byte(1),
-            Field::Word(16 + 20 * mappings),
-            Field::Word(self.id),
-            Field::Word(self.segment),
-            Field::DWord(u32::from(flags)),
-            Field::Word(16),
-            Field::Word(mappings),
-        ])
+        record_of_numbers(
+            &ROOT_COMPLEX,
+            &[
+                1,
+                1,
+                u64::from(size),
+                u64::from(self.id),
+                u64::from(self.segment),
+                u64::from(flags),
+                16,
+                u64::from(mappings),
+            ],
+        )
     }
+}
+
+const ROOT_COMPLEX: [Row; 8] = [
+    Row::Number("Type", 1),
+    Row::Number("Revision", 1),
+    Row::Number("Length", 2),
+    Row::Number("ID", 2),
+    Row::Number("PCI Segment", 2),
+    Row::Number("Flags", 4),
+    Row::Number("Offset of Mappings", 2),
+    Row::Number("Number of Mappings", 2),
+];
+
+/// The names and widths of the fields before a root complex's mappings, in order.
+pub fn root_complex_rows() -> &'static [Row]
+    ensures { (c : PcieRootComplex) → AreRowsOf result.now (root_complex_head_fields c) }
+{
+    &ROOT_COMPLEX
 }
 
 impl Aml for PcieRootComplex {
@@ -395,11 +427,8 @@ impl Aml for PcieRootComplex {
 
     fn to_aml_bytes(&self, sink: &mut dyn AmlSink) -> R<()> {
         let mappings = entries_of(&self.mappings);
-        // The most that 65,535 bytes hold behind the head's 16.
-        if mappings.len() > 3275 {
-            return Err(Error::FieldWidth);
-        }
-        write_with_entries(sink, &[&self.head(mappings.len() as u16)], mappings)
+        let size = told_size(16 + 20 * mappings.len())?;
+        write_with_entries(sink, &[&self.head(size, mappings.len() as u16)], mappings)
     }
 }
 
@@ -426,22 +455,42 @@ impl Platform {
     }
 
     // The device's bytes before its name.
-    fn head(&self, name: u16, mappings: u16) -> [u8; 12]
-        requires name { name ≡ length (string_bytes self.now.name) }
+    fn head(&self, size: u16, start: u16, mappings: u16) -> [u8; 12]
+        requires size { size ≡ mappings_at self.now + 20 * length (entries_of self.now.mappings) }
+        requires start { start ≡ mappings_at self.now }
         requires count { mappings ≡ length (entries_of self.now.mappings) }
-        requires room { 13 + name + 20 * mappings ≤ 65535 }
         ensures { result ≡ platform_head self.now }
     {
-        record(&[
-            Field::Byte(2),
-            Field::Byte(1),
-            Field::Word(13 + name + 20 * mappings),
-            Field::Word(self.id),
-            Field::Word(0),
-            Field::Word(13 + name),
-            Field::Word(mappings),
-        ])
+        record_of_numbers(
+            &PLATFORM,
+            &[
+                2,
+                1,
+                u64::from(size),
+                u64::from(self.id),
+                0,
+                u64::from(start),
+                u64::from(mappings),
+            ],
+        )
     }
+}
+
+const PLATFORM: [Row; 7] = [
+    Row::Number("Type", 1),
+    Row::Number("Revision", 1),
+    Row::Number("Length", 2),
+    Row::Number("ID", 2),
+    Row::Reserved(2),
+    Row::Number("Offset of Mappings", 2),
+    Row::Number("Number of Mappings", 2),
+];
+
+/// The names and widths of the fields before a device's name, in order.
+pub fn platform_rows() -> &'static [Row]
+    ensures { (p : Platform) → AreRowsOf result.now (platform_head_fields p) }
+{
+    &PLATFORM
 }
 
 impl Aml for Platform {
@@ -452,11 +501,9 @@ impl Aml for Platform {
     fn to_aml_bytes(&self, sink: &mut dyn AmlSink) -> R<()> {
         let name = self.name.as_bytes();
         let mappings = entries_of(&self.mappings);
-        // The head and the name's zero have 13 bytes of the 65,535.
-        if name.len() > 65_522 || mappings.len() > (65_522 - name.len()) / 20 {
-            return Err(Error::FieldWidth);
-        }
-        let head = self.head(name.len() as u16, mappings.len() as u16);
+        let start = told_size(13 + name.len())?;
+        let size = told_size(usize::from(start) + 20 * mappings.len())?;
+        let head = self.head(size, start, mappings.len() as u16);
         write_with_entries(sink, &[&head, name, &[0]], mappings)
     }
 }

@@ -1,109 +1,95 @@
 //! VIOT: virtual IOMMUs, and the devices that reach memory through them.
 
-ghost use Rattle.std.specs.Prelude.{◌≡◌};
+ghost use Rattle.std.proofs.Common.{rules};
+ghost use Rattle.std.specs.Prelude.{◌≡◌, true};
 ghost use Rattle.acpi_base.specs.Object.{whole, whole_ends_well};
 ghost use Rattle.acpi_base.specs.Walk.{viot_walk};
-ghost use Rattle.acpi_core.specs.Listing.{bytes_of};
 ghost use Rattle.acpi_core.specs.Addition.{Adds, AddsAt};
+ghost use Rattle.acpi_core.specs.Listing.{field_limit};
 ghost use Rattle.acpi_core.specs.Walk.{IsWalked};
-ghost use Rattle.acpi_nodes.specs.Viot.{viot, pci_range, pci_range_bytes, mmio_endpoint, mmio_endpoint_bytes, virtio_pci_iommu, virtio_pci_iommu_bytes, virtio_mmio_iommu, virtio_mmio_iommu_bytes, NodesTellKinds};
+ghost use Rattle.acpi_nodes.specs.Viot.{viot, NodesTellKinds, pci_range, pci_range_bytes, mmio_endpoint, mmio_endpoint_bytes};
+ghost use Rattle.acpi_nodes.specs.Viot.{virtio_pci_iommu, virtio_pci_iommu_bytes, virtio_mmio_iommu, virtio_mmio_iommu_bytes};
+ghost use Rattle.acpi_nodes.specs.Viot.{pci_range_fields, mmio_endpoint_fields, virtio_pci_iommu_fields};
+ghost use Rattle.acpi_nodes.specs.Viot.{virtio_mmio_iommu_fields};
 
+use crate::list_table::{ListTable, tables_are_walked};
 pub use crate::pci::PciDevice;
 use acpi_base::error::R;
 use acpi_base::object::Aml;
 use acpi_base::oem::Oem;
-use acpi_base::record::{Field, record};
+use acpi_base::row::{Record, Row, record_of_numbers, write_record};
 use acpi_base::sink::AmlSink;
 use acpi_core::form::Form;
+use acpi_core::kind::{Kind, Plain};
 use acpi_core::table::Table;
 use std::alloc::Global;
 use std::marker::Model;
 
 /// The Virtual I/O Translation Table (ACPI 6.5, 5.2.32): nodes from offset 48 on, and their number at offset 36, in two
 /// bytes. A node's offset has two bytes too, so the table has at most 65,535.
-#[derive(Drop)]
-pub struct VIOT {
-    table: Table<48>,
+pub type VIOT = ListTable<ViotKind, 48>;
+
+/// The kind of VIOT.
+pub struct ViotKind;
+
+// What the length of the table stays below, so that an offset fits two bytes.
+const OFFSET_LIMIT: usize = 1 << (8 * 2);
+
+impl Kind<48> for ViotKind {
+    ghost walk = { viot_walk };
+
+    ghost limit = { field_limit 2 };
+
+    ghost closed = { true };
 }
 
-impl Model for VIOT {
-    ghost use Rattle.acpi_core.specs.Addition.{Counted};
-    ghost use Rattle.acpi_nodes.specs.Viot.{KeepsNodes};
+impl Plain<48> for ViotKind {
+    ghost empty = { viot };
 
-    ghost Value = { Counted };
-
-    ghost view = { λ t. t.table };
-
-    ghost invariant = { λ t. KeepsNodes t.table.table };
-}
-
-impl Aml for VIOT {
-    ghost object = { λ t. whole (bytes_of t.table) };
-
-    ghost ends_well = { λ t. whole_ends_well (bytes_of t.table) };
-
-    fn to_aml_bytes(&self, sink: &mut dyn AmlSink) -> R<()> {
-        self.table.to_aml_bytes(sink)
+    fn table(alloc: Global, oem: Oem) -> Table<48> {
+        let form = Form {
+            limit: OFFSET_LIMIT,
+            ..Form::new(*b"VIOT", 1, oem, 2)
+        };
+        Table::new(alloc, form, &[], &[48, 0, 0, 0, 0, 0, 0, 0, 0, 0])
     }
+
+    ghost are_empty = { Prim.search rules };
 }
 
 impl VIOT {
-    /// A table without nodes.
-    pub fn new(alloc: Global, oem_id: [u8; 6], oem_table_id: [u8; 8], oem_revision: u32) -> VIOT
-        ensures { result.table ≡ viot (record { id = oem_id; table_id = oem_table_id; revision = oem_revision }) }
-    {
-        let form = Form {
-            signature: *b"VIOT",
-            revision: 1,
-            oem: Oem {
-                id: oem_id,
-                table_id: oem_table_id,
-                revision: oem_revision,
-            },
-            count_width: 2,
-            limit: 0x1_0000,
-        };
-        VIOT {
-            table: Table::new(alloc, form, &[], &[48, 0, 0, 0, 0, 0, 0, 0, 0, 0]),
-        }
-    }
-
     /// Adds a range of PCI functions. FieldWidth where the table would pass 65,535 bytes.
     pub fn add_pci_range(&mut self, range: PciRange) -> R<()>
         ensures { Adds result self.old (whole (pci_range_bytes range)) self.new }
     {
-        self.table.add(&range.bytes())
+        self.add_record(&range)
     }
 
     /// Adds an endpoint at an address. FieldWidth where the table would pass 65,535 bytes.
     pub fn add_mmio_endpoint(&mut self, endpoint: MmioEndpoint) -> R<()>
         ensures { Adds result self.old (whole (mmio_endpoint_bytes endpoint)) self.new }
     {
-        self.table.add(&endpoint.bytes())
+        self.add_record(&endpoint)
     }
 
     /// Adds a virtual IOMMU that is a PCI device, and answers its handle. FieldWidth where the table would pass 65,535 bytes.
     pub fn add_virtio_pci_iommu(&mut self, iommu: VirtIoPciIommu) -> R<TranslationHandle>
         ensures { AddsAt result self.old (whole (virtio_pci_iommu_bytes iommu)) self.new }
     {
-        match self.table.add_at(&iommu.bytes()) {
-            Ok(offset) => Ok(TranslationHandle {
-                offset: offset as u16,
-            }),
-            Err(refusal) => Err(refusal),
-        }
+        let handle = self.add_record_at(&iommu)?;
+        Ok(TranslationHandle {
+            offset: handle.offset() as u16,
+        })
     }
 
     /// Adds a virtual IOMMU at an address, and answers its handle. FieldWidth where the table would pass 65,535 bytes.
     pub fn add_virtio_mmio_iommu(&mut self, iommu: VirtIoMmioIommu) -> R<TranslationHandle>
         ensures { AddsAt result self.old (whole (virtio_mmio_iommu_bytes iommu)) self.new }
     {
-        match self.table.add_at(&iommu.bytes()) {
-            Ok(offset) => Ok(TranslationHandle {
-                offset: offset as u16,
-            }),
-            Err(refusal) => Err(refusal),
-        }
+        let handle = self.add_record_at(&iommu)?;
+        Ok(TranslationHandle {
+            offset: handle.offset() as u16,
+        })
     }
 }
 
@@ -111,7 +97,7 @@ impl VIOT {
 pub fn viot_is_walked(table: &VIOT)
     ensures { IsWalked viot_walk table.now.table }
 {
-    let _ = &table.table;
+    tables_are_walked(table)
 }
 
 /// A law: each node tells its kind at its offset, whatever its fields hold.
@@ -158,24 +144,44 @@ impl PciRange {
             output: translation_handle.offset,
         }
     }
+}
 
-    // The node's bytes.
-    fn bytes(&self) -> [u8; 24]
-        ensures { result ≡ pci_range_bytes self.now }
-    {
-        record(&[
-            Field::Byte(1),
-            Field::Byte(0),
-            Field::Word(24),
-            Field::DWord(u32::from(self.first.bdf)),
-            Field::Word(self.first.segment),
-            Field::Word(self.last.segment),
-            Field::Word(self.first.bdf),
-            Field::Word(self.last.bdf),
-            Field::Word(self.output),
-            Field::Word(0),
-            Field::DWord(0),
-        ])
+const PCI_RANGE: [Row; 10] = [
+    Row::Number("Type", 1),
+    Row::Reserved(1),
+    Row::Number("Length", 2),
+    Row::Number("Endpoint Start", 4),
+    Row::Number("PCI Segment Start", 2),
+    Row::Number("PCI Segment End", 2),
+    Row::Number("PCI BDF Start", 2),
+    Row::Number("PCI BDF End", 2),
+    Row::Number("Output Node", 2),
+    Row::Reserved(6),
+];
+
+impl Record<24> for PciRange {
+    ghost fields = { pci_range_fields };
+
+    fn rows() -> &'static [Row] {
+        &PCI_RANGE
+    }
+
+    fn bytes(&self) -> [u8; 24] {
+        record_of_numbers(
+            &PCI_RANGE,
+            &[
+                1,
+                0,
+                24,
+                u64::from(self.first.bdf),
+                u64::from(self.first.segment),
+                u64::from(self.last.segment),
+                u64::from(self.first.bdf),
+                u64::from(self.last.bdf),
+                u64::from(self.output),
+                0,
+            ],
+        )
     }
 }
 
@@ -185,7 +191,7 @@ impl Aml for PciRange {
     ghost ends_well = { λ r. whole_ends_well (pci_range_bytes r) };
 
     fn to_aml_bytes(&self, sink: &mut dyn AmlSink) -> R<()> {
-        sink.vec(&self.bytes())
+        write_record(self, sink)
     }
 }
 
@@ -212,21 +218,38 @@ impl MmioEndpoint {
             output: translation_handle.offset,
         }
     }
+}
 
-    // The node's bytes.
-    fn bytes(&self) -> [u8; 24]
-        ensures { result ≡ mmio_endpoint_bytes self.now }
-    {
-        record(&[
-            Field::Byte(2),
-            Field::Byte(0),
-            Field::Word(24),
-            Field::DWord(self.endpoint),
-            Field::QWord(self.base),
-            Field::Word(self.output),
-            Field::Word(0),
-            Field::DWord(0),
-        ])
+const MMIO_ENDPOINT: [Row; 7] = [
+    Row::Number("Type", 1),
+    Row::Reserved(1),
+    Row::Number("Length", 2),
+    Row::Number("Endpoint ID", 4),
+    Row::Number("Base Address", 8),
+    Row::Number("Output Node", 2),
+    Row::Reserved(6),
+];
+
+impl Record<24> for MmioEndpoint {
+    ghost fields = { mmio_endpoint_fields };
+
+    fn rows() -> &'static [Row] {
+        &MMIO_ENDPOINT
+    }
+
+    fn bytes(&self) -> [u8; 24] {
+        record_of_numbers(
+            &MMIO_ENDPOINT,
+            &[
+                2,
+                0,
+                24,
+                u64::from(self.endpoint),
+                self.base,
+                u64::from(self.output),
+                0,
+            ],
+        )
     }
 }
 
@@ -236,7 +259,7 @@ impl Aml for MmioEndpoint {
     ghost ends_well = { λ e. whole_ends_well (mmio_endpoint_bytes e) };
 
     fn to_aml_bytes(&self, sink: &mut dyn AmlSink) -> R<()> {
-        sink.vec(&self.bytes())
+        write_record(self, sink)
     }
 }
 
@@ -253,19 +276,36 @@ impl VirtIoPciIommu {
     {
         VirtIoPciIommu { device }
     }
+}
 
-    // The node's bytes.
-    fn bytes(&self) -> [u8; 16]
-        ensures { result ≡ virtio_pci_iommu_bytes self.now }
-    {
-        record(&[
-            Field::Byte(3),
-            Field::Byte(0),
-            Field::Word(16),
-            Field::Word(self.device.segment),
-            Field::Word(self.device.bdf),
-            Field::QWord(0),
-        ])
+const VIRTIO_PCI_IOMMU: [Row; 6] = [
+    Row::Number("Type", 1),
+    Row::Reserved(1),
+    Row::Number("Length", 2),
+    Row::Number("PCI Segment", 2),
+    Row::Number("PCI BDF Number", 2),
+    Row::Reserved(8),
+];
+
+impl Record<16> for VirtIoPciIommu {
+    ghost fields = { virtio_pci_iommu_fields };
+
+    fn rows() -> &'static [Row] {
+        &VIRTIO_PCI_IOMMU
+    }
+
+    fn bytes(&self) -> [u8; 16] {
+        record_of_numbers(
+            &VIRTIO_PCI_IOMMU,
+            &[
+                3,
+                0,
+                16,
+                u64::from(self.device.segment),
+                u64::from(self.device.bdf),
+                0,
+            ],
+        )
     }
 }
 
@@ -275,7 +315,7 @@ impl Aml for VirtIoPciIommu {
     ghost ends_well = { λ i. whole_ends_well (virtio_pci_iommu_bytes i) };
 
     fn to_aml_bytes(&self, sink: &mut dyn AmlSink) -> R<()> {
-        sink.vec(&self.bytes())
+        write_record(self, sink)
     }
 }
 
@@ -292,18 +332,25 @@ impl VirtIoMmioIommu {
     {
         VirtIoMmioIommu { base: base_addr }
     }
+}
 
-    // The node's bytes.
-    fn bytes(&self) -> [u8; 16]
-        ensures { result ≡ virtio_mmio_iommu_bytes self.now }
-    {
-        record(&[
-            Field::Byte(4),
-            Field::Byte(0),
-            Field::Word(16),
-            Field::DWord(0),
-            Field::QWord(self.base),
-        ])
+const VIRTIO_MMIO_IOMMU: [Row; 5] = [
+    Row::Number("Type", 1),
+    Row::Reserved(1),
+    Row::Number("Length", 2),
+    Row::Reserved(4),
+    Row::Number("Base Address", 8),
+];
+
+impl Record<16> for VirtIoMmioIommu {
+    ghost fields = { virtio_mmio_iommu_fields };
+
+    fn rows() -> &'static [Row] {
+        &VIRTIO_MMIO_IOMMU
+    }
+
+    fn bytes(&self) -> [u8; 16] {
+        record_of_numbers(&VIRTIO_MMIO_IOMMU, &[4, 0, 16, 0, self.base])
     }
 }
 
@@ -313,6 +360,6 @@ impl Aml for VirtIoMmioIommu {
     ghost ends_well = { λ i. whole_ends_well (virtio_mmio_iommu_bytes i) };
 
     fn to_aml_bytes(&self, sink: &mut dyn AmlSink) -> R<()> {
-        sink.vec(&self.bytes())
+        write_record(self, sink)
     }
 }

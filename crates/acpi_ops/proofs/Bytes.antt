@@ -1,45 +1,16 @@
 -- Descriptors are bytes.
-use Rattle.std.proofs.Common.{ℕ, ◌+◌, ◌*◌, ◌-◌, ◌<◌, List, [], ◌∷◌, Bool, true, false, cond, Some, None, lit<}
+use Rattle.std.proofs.Common.{ℕ, ◌+◌, ◌*◌, ◌-◌, ◌<◌, List, [], ◌∷◌, Bool, true, false, lit<}
 use Rattle.acpi_base.specs.declared.error.Error.TheVariants.{AddressRange}
-use Rattle.acpi_base.specs.declared.gas.AddressSpace as registers
-use Rattle.acpi_base.specs.declared.gas.AddressSpace.TheVariants as spaces
-use Rattle.acpi_base.specs.declared.gas.AccessSize.{AccessSize}
-use Rattle.acpi_base.specs.declared.gas.AccessSize.TheVariants as sizes
 use Rattle.acpi_base.specs.Bytes.{AreBytes, le}
-use Rattle.acpi_base.specs.Gas.{space_number, size_number, gas_bytes}
-use Rattle.acpi_base.specs.Layout.{byte, word, dword, record_of}
+use Rattle.acpi_base.specs.Fields.{NamedField, fields_joined}
+use Rattle.acpi_base.specs.Gas.{space_number, size_number}
+use Rattle.acpi_base.specs.Layout.{byte, word, record_of}
 use Rattle.acpi_base.specs.Object.{whole, provided}
 use Rattle.acpi_base.proofs.Bytes.{bytes_both, bytes_le}
 use Rattle.acpi_ops.specs.declared.address_space.AddressSpace.{AddressSpace}
 use Rattle.acpi_ops.specs.AddressSpace.{or_zero, is_range, space_bytes}
-use Rattle.acpi_ops.specs.Descriptor.{bit}
+use Rattle.acpi_ops.specs.Descriptor.{bit, fixed_fields, port_fields, interrupt_fields, register_fields}
 use Rattle.acpi_ops.specs.Laws.{DescriptorsAreBytes}
-
-bit_small : (set : Bool) → bit set 1 < 256
-bit_small true = lit< tt
-bit_small false = lit< tt
-
-space_small : (s : registers.AddressSpace) → space_number s < 256
-space_small spaces.SystemMemory = lit< tt
-space_small spaces.SystemIo = lit< tt
-space_small spaces.PciConfigSpace = lit< tt
-space_small spaces.EmbeddedController = lit< tt
-space_small spaces.Smbus = lit< tt
-space_small spaces.SystemCmos = lit< tt
-space_small spaces.PciBarTarget = lit< tt
-space_small spaces.Ipmi = lit< tt
-space_small spaces.GeneralPursposeIo = lit< tt
-space_small spaces.GenericSerialBus = lit< tt
-space_small spaces.PlatformCommunicationsChannel = lit< tt
-space_small spaces.PlatformRuntimeMechanism = lit< tt
-space_small spaces.FunctionalFixedHardware = lit< tt
-
-size_small : (s : AccessSize) → size_number s < 256
-size_small sizes.Undefined = lit< tt
-size_small sizes.ByteAccess = lit< tt
-size_small sizes.WordAccess = lit< tt
-size_small sizes.DwordAccess = lit< tt
-size_small sizes.QwordAccess = lit< tt
 
 -- fields of bytes
 abbrev AreFields : List (List ℕ) → Type 0
@@ -59,13 +30,34 @@ space_is_bytes tag w a p q r =
     joined (byte tag ∷ word (3 + 5 * w) ∷ byte a.kind ∷ byte 0x0c ∷ byte a.flags ∷ le w 0 ∷ le w a.min ∷ le w a.max ∷ le w (or_zero (λ n. n) a.translation) ∷ le w (a.max - a.min + 1) ∷ [])
     ((p, tt), (bytes_le 2 (3 + 5 * w), ((q, tt), ((lit< tt, tt), ((r, tt), (bytes_le w 0, (bytes_le w a.min, (bytes_le w a.max, (bytes_le w (or_zero (λ n. n) a.translation), (bytes_le w (a.max - a.min + 1), tt))))))))))
 
+abbrev AreNamed : List NamedField → Type 0
+AreNamed [] = Unit {0}
+AreNamed (field ∷ fields) = AreBytes field.bytes × AreNamed fields
+
+named : (fields : List NamedField) → AreNamed fields → AreBytes (fields_joined fields)
+named [] are = tt
+named (field ∷ fields) are = bytes_both field.bytes (fields_joined fields) are.0 (named fields are.1)
+
 pub descriptors_are_bytes : DescriptorsAreBytes
 descriptors_are_bytes = record {
-  fixed = λ read_write base size. joined (byte 0x86 ∷ word 9 ∷ byte (bit read_write 1) ∷ dword base ∷ dword size ∷ []) ((lit< tt, tt), (bytes_le 2 9, ((bit_small read_write, tt), (bytes_le 4 base, (bytes_le 4 size, tt)))));
-  port = λ min max alignment size small few. joined (byte 0x47 ∷ byte 1 ∷ word min ∷ word max ∷ byte alignment ∷ byte size ∷ []) ((lit< tt, tt), ((lit< tt, tt), (bytes_le 2 min, (bytes_le 2 max, ((small, tt), ((few, tt), tt))))));
-  interrupt = λ flags number small. joined (byte 0x89 ∷ word 6 ∷ byte flags ∷ byte 1 ∷ dword number ∷ []) ((lit< tt, tt), (bytes_le 2 6, ((small, tt), ((lit< tt, tt), (bytes_le 4 number, tt)))));
-  register = λ gas width offset.
-      let address : AreBytes (gas_bytes gas) = (space_small gas.address_space_id, (width, (offset, (size_small gas.access_size, bytes_le 8 gas.address)))) in
-      joined (byte 0x82 ∷ word 12 ∷ gas_bytes gas ∷ []) ((lit< tt, tt), (bytes_le 2 12, (address, tt)));
+  fixed = λ read_write base size. named (fixed_fields read_write base size)
+      (bytes_le 1 0x86, (bytes_le 2 9, (bytes_le 1 (bit read_write 1), (bytes_le 4 base, (bytes_le 4 size, tt)))));
+  port = λ min max alignment size _ _. named (port_fields min max alignment size)
+      (bytes_le 1 0x47, (bytes_le 1 1, (bytes_le 2 min, (bytes_le 2 max, (bytes_le 1 alignment, (bytes_le 1 size, tt))))));
+  interrupt = λ flags number _. named (interrupt_fields flags number)
+      (bytes_le 1 0x89, (bytes_le 2 6, (bytes_le 1 flags, (bytes_le 1 1, (bytes_le 4 number, tt)))));
+  register = λ gas _ _. named (register_fields gas) (
+    bytes_le 1 0x82,
+    (
+      bytes_le 2 12,
+      (
+        bytes_le 1 (space_number gas.address_space_id),
+        (
+          bytes_le 1 gas.register_bit_width,
+          (bytes_le 1 gas.register_bit_offset, (bytes_le 1 (size_number gas.access_size), (bytes_le 8 gas.address, tt))),
+        ),
+      ),
+    ),
+  );
   space = λ tag w a p q r. tested (is_range (λ n. n) w a) (space_bytes (λ n. n) tag w a) (space_is_bytes tag w a p q r);
 }

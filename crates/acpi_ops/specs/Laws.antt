@@ -25,7 +25,8 @@ pub record OperatorMeans (o : Op) (objects : List Object) : Type 0 where
 
 -- The same of a negation round the operator.
 pub record NegationMeans (o : Op) (objects : List Object) : Type 0 where
-  pub spells : (arity : List ℕ → ℕ) (m : Mode) (ts : Terms) → SpellEach arity Term objects ts → (row (op LNot) (row (op o) objects ∷ [])).end ≡ None
+  pub spells : (arity : List ℕ → ℕ) (m : Mode) (ts : Terms) → SpellEach arity Term objects ts
+      → (row (op LNot) (row (op o) objects ∷ [])).end ≡ None
       → Spells arity m (row (op LNot) (row (op o) objects ∷ [])).front (one (op LNot) 0 (one (op o) 0 ts))
 
 -- ---- resource items
@@ -51,7 +52,8 @@ pub record TemplateSplits (descriptors : List Object) : Type 0 where
 
 -- So is each that is whole, and whose descriptors are items.
 abbrev pub TemplatesSplit : Type 0
-TemplatesSplit = (descriptors : List Object) → (template descriptors).end ≡ None → AreItems (map (λ o. o.front) descriptors) → TemplateSplits descriptors
+TemplatesSplit = (descriptors : List Object) → (template descriptors).end ≡ None → AreItems (map (λ o. o.front) descriptors)
+    → TemplateSplits descriptors
 
 -- Each descriptor is bytes, where its fields of one byte are.
 pub record DescriptorsAreBytes : Type 0 where
@@ -59,4 +61,5 @@ pub record DescriptorsAreBytes : Type 0 where
   pub port : (min max alignment size : ℕ) → alignment < 256 → size < 256 → AreBytes (port_bytes min max alignment size)
   pub interrupt : (flags number : ℕ) → flags < 256 → AreBytes (interrupt_bytes flags number)
   pub register : (gas : GAS) → gas.register_bit_width < 256 → gas.register_bit_offset < 256 → AreBytes (register_bytes gas)
-  pub space : (tag w : ℕ) (a : AddressSpace ℕ) → tag < 256 → a.kind < 256 → a.flags < 256 → AreBytes (space (λ n. n) tag w a).front
+  pub space : (tag w : ℕ) (a : AddressSpace ℕ) → tag < 256 → a.kind < 256 → a.flags < 256
+      → AreBytes (space (λ n. n) tag w a).front

@@ -162,10 +162,10 @@ impl Address for u64 {
 /// How a range of memory may be cached (ACPI 6.5, 6.4.3.5.5, Memory Type).
 #[derive(Copy, Clone, Debug, PartialEq)]
 pub enum AddressSpaceCacheable {
-    NotCacheable,
-    Cacheable,
-    WriteCombining,
-    PreFetchable,
+    NotCacheable = 0,
+    Cacheable = 1,
+    WriteCombining = 2,
+    PreFetchable = 3,
 }
 
 #[deprecated = "misspelled: use AddressSpaceCacheable"]
@@ -193,7 +193,13 @@ impl<T: Address> AddressSpace<T> {
         max: T,
         translation: Option<T>,
     ) -> AddressSpace<T>
-        ensures { result ≡ record { kind = 0; flags = 2 * cacheable_number cacheable + bit read_write 1; min = min; max = max; translation = translation } }
+        ensures { result ≡ record {
+          kind = 0;
+          flags = 2 * cacheable_number cacheable + bit read_write 1;
+          min = min;
+          max = max;
+          translation = translation;
+        } }
     {
         AddressSpace {
             kind: 0,
@@ -235,7 +241,8 @@ impl<T: Address> AddressSpace<T> {
 impl<T: Address> AddressSpace<T> {
     // The number of addresses in the range.
     fn size(&self) -> R<u64>
-        ensures ok { IfOk result (λ size. (is_range T.number T.WIDTH self.now ≡ true) × (size ≡ T.number self.now.max - T.number self.now.min + 1)) }
+        ensures ok { IfOk result
+            (λ size. (is_range T.number T.WIDTH self.now ≡ true) × (size ≡ T.number self.now.max - T.number self.now.min + 1)) }
         ensures err { IfErr result (λ e. (e ≡ Error.AddressRange) × ((space T.number T.TAG T.WIDTH self.now).end ≡ Some e)) }
     {
         let (min, max) = (self.min.number(), self.max.number());

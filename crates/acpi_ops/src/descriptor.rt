@@ -1,14 +1,16 @@
 //! Resource descriptors of fixed size.
 
-ghost use Rattle.std.specs.Prelude.{◌≡◌, ◌≤◌, ℕ, List, length};
+ghost use Rattle.std.specs.Prelude.{◌≡◌, ◌≤◌, ℕ, Bool, List, length, IsTrue};
+ghost use Rattle.acpi_base.specs.Fields.{AreRowsOf, are_numbers, numbers_joined};
 ghost use Rattle.acpi_base.specs.Object.{whole, whole_ends_well};
-ghost use Rattle.acpi_base.specs.Record.{fields_bytes};
-ghost use Rattle.acpi_ops.specs.Descriptor.{bit, fixed_bytes, port_bytes, interrupt_flags, interrupt_bytes, register_bytes};
+ghost use Rattle.acpi_base.specs.declared.gas.GAS.{GAS};
+ghost use Rattle.acpi_ops.specs.Descriptor.{bit, fixed_fields, fixed_bytes, port_fields, port_bytes};
+ghost use Rattle.acpi_ops.specs.Descriptor.{interrupt_flags, interrupt_fields, interrupt_bytes, register_fields, register_bytes};
 
 use acpi_base::error::R;
 use acpi_base::gas::GAS;
 use acpi_base::object::Aml;
-use acpi_base::record::{Field, record};
+use acpi_base::row::{Row, record_of_numbers};
 use acpi_base::sink::AmlSink;
 use std::marker::{Model, PhantomData};
 
@@ -37,12 +39,15 @@ impl<Kind, const N: usize> Aml for Descriptor<Kind, N> {
 }
 
 impl<Kind, const N: usize> Descriptor<Kind, N> {
-    fn of(fields: &[Field]) -> Descriptor<Kind, N>
-        requires { length (fields_bytes fields.now) ≡ N }
-        ensures { result ≡ fields_bytes fields.now }
+    // A descriptor of numbers, each as wide as its row.
+    fn of(rows: &[Row], numbers: &[u64]) -> Descriptor<Kind, N>
+        requires count { length rows.now ≡ length numbers.now }
+        requires numbers { IsTrue (are_numbers rows.now) }
+        requires size { length (numbers_joined rows.now numbers.now) ≡ N }
+        ensures { result ≡ numbers_joined rows.now numbers.now }
     {
         Descriptor {
-            bytes: record(fields),
+            bytes: record_of_numbers(rows, numbers),
             kind: PhantomData,
         }
     }
@@ -60,14 +65,32 @@ impl Descriptor<Memory32Kind, 12> {
     pub fn new(read_write: bool, base: u32, length: u32) -> Descriptor<Memory32Kind, 12>
         ensures { result ≡ fixed_bytes read_write base length }
     {
-        Descriptor::of(&[
-            Field::Byte(0x86),
-            Field::Word(9),
-            Field::Byte(bit(read_write, 1)),
-            Field::DWord(base),
-            Field::DWord(length),
-        ])
+        Descriptor::of(
+            &MEMORY_32_FIXED,
+            &[
+                0x86,
+                9,
+                u64::from(bit(read_write, 1)),
+                u64::from(base),
+                u64::from(length),
+            ],
+        )
     }
+}
+
+const MEMORY_32_FIXED: [Row; 5] = [
+    Row::Number("32-Bit Fixed Memory Range Descriptor", 1),
+    Row::Number("Length", 2),
+    Row::Number("Information", 1),
+    Row::Number("Range Base Address", 4),
+    Row::Number("Range Length", 4),
+];
+
+/// The names and widths of the fields of a descriptor of a range of memory, in order.
+pub fn memory_32_fixed_rows() -> &'static [Row]
+    ensures { (read_write : Bool) (base size : ℕ) → AreRowsOf result.now (fixed_fields read_write base size) }
+{
+    &MEMORY_32_FIXED
 }
 
 /// A range of ports (ACPI 6.5, 6.4.2.5, I/O Port Descriptor).
@@ -82,15 +105,34 @@ impl Descriptor<PortsKind, 8> {
     pub fn new(min: u16, max: u16, alignment: u8, length: u8) -> Descriptor<PortsKind, 8>
         ensures { result ≡ port_bytes min max alignment length }
     {
-        Descriptor::of(&[
-            Field::Byte(0x47),
-            Field::Byte(1),
-            Field::Word(min),
-            Field::Word(max),
-            Field::Byte(alignment),
-            Field::Byte(length),
-        ])
+        Descriptor::of(
+            &IO_PORTS,
+            &[
+                0x47,
+                1,
+                u64::from(min),
+                u64::from(max),
+                u64::from(alignment),
+                u64::from(length),
+            ],
+        )
     }
+}
+
+const IO_PORTS: [Row; 6] = [
+    Row::Number("I/O Port Descriptor", 1),
+    Row::Number("Information", 1),
+    Row::Number("Range Minimum Base Address", 2),
+    Row::Number("Range Maximum Base Address", 2),
+    Row::Number("Base Alignment", 1),
+    Row::Number("Range Length", 1),
+];
+
+/// The names and widths of the fields of a descriptor of a range of ports, in order.
+pub fn io_rows() -> &'static [Row]
+    ensures { (min max alignment size : ℕ) → AreRowsOf result.now (port_fields min max alignment size) }
+{
+    &IO_PORTS
 }
 
 /// One interrupt (ACPI 6.5, 6.4.3.6, Extended Interrupt Descriptor).
@@ -112,14 +154,26 @@ impl Descriptor<InterruptKind, 9> {
         ensures { result ≡ interrupt_bytes (interrupt_flags consumer edge_triggered active_low shared) number }
     {
         let flags = bit(consumer, 1) + bit(edge_triggered, 2) + bit(active_low, 4) + bit(shared, 8);
-        Descriptor::of(&[
-            Field::Byte(0x89),
-            Field::Word(6),
-            Field::Byte(flags),
-            Field::Byte(1),
-            Field::DWord(number),
-        ])
+        Descriptor::of(
+            &INTERRUPT,
+            &[0x89, 6, u64::from(flags), 1, u64::from(number)],
+        )
     }
+}
+
+const INTERRUPT: [Row; 5] = [
+    Row::Number("Extended Interrupt Descriptor", 1),
+    Row::Number("Length", 2),
+    Row::Number("Interrupt Vector Flags", 1),
+    Row::Number("Interrupt Table Length", 1),
+    Row::Number("Interrupt Number", 4),
+];
+
+/// The names and widths of the fields of a descriptor of an interrupt, in order.
+pub fn interrupt_rows() -> &'static [Row]
+    ensures { (flags number : ℕ) → AreRowsOf result.now (interrupt_fields flags number) }
+{
+    &INTERRUPT
 }
 
 /// A register by its address (ACPI 6.5, 6.4.3.7, Generic Register Descriptor).
@@ -133,12 +187,36 @@ impl Descriptor<RegisterKind, 15> {
     pub fn new(reg: GAS) -> Descriptor<RegisterKind, 15>
         ensures { result ≡ register_bytes reg }
     {
-        Descriptor::of(&[
-            Field::Byte(0x82),
-            Field::Word(12),
-            Field::Bytes(&reg.bytes()),
-        ])
+        Descriptor::of(
+            &REGISTER,
+            &[
+                0x82,
+                12,
+                reg.address_space_id as u64,
+                u64::from(reg.register_bit_width),
+                u64::from(reg.register_bit_offset),
+                reg.access_size as u64,
+                reg.address,
+            ],
+        )
     }
+}
+
+const REGISTER: [Row; 7] = [
+    Row::Number("Generic Register Descriptor", 1),
+    Row::Number("Length", 2),
+    Row::Number("Address Space ID", 1),
+    Row::Number("Register Bit Width", 1),
+    Row::Number("Register Bit Offset", 1),
+    Row::Number("Access Size", 1),
+    Row::Number("Register Address", 8),
+];
+
+/// The names and widths of the fields of a descriptor of a register, in order.
+pub fn register_rows() -> &'static [Row]
+    ensures { (gas : GAS) → AreRowsOf result.now (register_fields gas) }
+{
+    &REGISTER
 }
 
 /// A bit of a field of flags.

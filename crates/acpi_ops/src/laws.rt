@@ -2,7 +2,8 @@
 
 ghost use Rattle.std.specs.Prelude.{List, [], ◌∷◌};
 ghost use Rattle.acpi_base.specs.Object.{Object};
-ghost use Rattle.acpi_ops.specs.Laws.{OperatorMeans, NegationMeans, SplitsInOneWay, DescriptorsAreItems, TemplatesSplit, DescriptorsAreBytes};
+ghost use Rattle.acpi_ops.specs.Laws.{OperatorMeans, NegationMeans, SplitsInOneWay};
+ghost use Rattle.acpi_ops.specs.Laws.{DescriptorsAreItems, TemplatesSplit, DescriptorsAreBytes};
 ghost use Rattle.acpi_term.specs.declared.op.Op.TheVariants as ops;
 
 use crate::operator::Operator;

@@ -130,7 +130,8 @@ impl<O: Operator<4>> Operation<Part, O> {
         length: &dyn Aml,
         result_to: &dyn Aml,
     ) -> R<Operation<Part, O>>
-        ensures { Builds result (row (op O.OPERATOR) (object source.now ∷ object index.now ∷ object length.now ∷ object result_to.now ∷ [])) }
+        ensures { Builds result (row (op O.OPERATOR) (object source.now ∷ object index.now ∷ object length.now
+            ∷ object result_to.now ∷ [])) }
     {
         Operation::over(alloc, O::OPERATOR, &[source, index, length, result_to])
     }
@@ -148,7 +149,8 @@ impl<O: Operator<4>> Operation<Bits, O> {
         bit_index: &dyn Aml,
         bit_num: &dyn Aml,
     ) -> R<Operation<Bits, O>>
-        ensures { Builds result (row (op O.OPERATOR) (object source.now ∷ object bit_index.now ∷ object bit_num.now ∷ object name.now ∷ [])) }
+        ensures { Builds result (row (op O.OPERATOR) (object source.now ∷ object bit_index.now ∷ object bit_num.now
+            ∷ object name.now ∷ [])) }
     {
         Operation::over(alloc, O::OPERATOR, &[source, bit_index, bit_num, name])
     }

@@ -1,9 +1,10 @@
 //! Statements and fields of buffers.
 
-ghost use Rattle.std.specs.Prelude.{[], ◌∷◌, refl};
+ghost use Rattle.std.specs.Prelude.{[], refl};
 ghost use Rattle.acpi_base.specs.Object.{whole_ends_well};
 ghost use Rattle.acpi_term.specs.declared.op.Op.TheVariants as ops;
 ghost use Rattle.acpi_term.specs.Tree.{op};
+ghost use Rattle.acpi_term.specs.Operator.{opcode};
 ghost use Rattle.acpi_term.specs.Row.{row};
 
 use crate::operator::{Bits, Operation, Operator, Pair, Put, Single, Targeted};
@@ -110,9 +111,9 @@ impl Break {
 impl Aml for Break {
     ghost object = { λ _. row (op ops.Break) [] };
 
-    ghost ends_well = { λ _. whole_ends_well (0xa5 ∷ []) };
+    ghost ends_well = { λ _. whole_ends_well (opcode ops.Break) };
 
     fn to_aml_bytes(&self, sink: &mut dyn AmlSink) -> R<()> {
-        sink.byte(0xa5)
+        sink.vec(Op::Break.code())
     }
 }

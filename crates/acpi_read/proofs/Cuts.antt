@@ -4,9 +4,13 @@ use Rattle.std.specs.Prelude.{Option, Some, None}
 use Rattle.std.specs.List.{All, concat}
 use Rattle.std.proofs.lemmas.List.{append-nil, take-append-drop, length-take-le, drop-drop, map_push}
 use Rattle.acpi_base.specs.Bytes.{field_at}
-use Rattle.acpi_base.specs.Walk.{Sizes, each_of, told_at, by_source, source_size, IsPiece, ArePieces, HasSizes, offsets_from, Walk, Walks, WalksBy, Tells}
+use Rattle.acpi_base.specs.Walk.{place_offset, place_width, end_of, number_in, source_size, least, IsPiece, ArePieces, HasSizes, IsSound, offsets_from, Walks, WalksBy, Tells}
+use Rattle.acpi_base.specs.declared.walk.Place.{Place}
+use Rattle.acpi_base.specs.declared.walk.Sizes.{Sizes}
+use Rattle.acpi_base.specs.declared.walk.Sizes.TheVariants.{EachOf, ToldAt, BySource}
+use Rattle.acpi_base.specs.declared.walk.Walk.{Walk}
 use Rattle.acpi_base.proofs.Walks.{field_front, piece_has_bytes, same_front, one_list, concat_push, pieces_push}
-use Rattle.acpi_read.specs.Pieces.{Refusal, no_memory, bad_structure, bad_count, unknown_source, another, IsFront, NoFront, IsFrontFault, AreCut, NoCut, IsCutFault, IsKnown, least, end_of}
+use Rattle.acpi_read.specs.Pieces.{Refusal, no_memory, bad_structure, bad_count, unknown_source, another, IsFront, NoFront, IsFrontFault, AreCut, NoCut, IsCutFault}
 
 -- ---- the first piece
 
@@ -18,13 +22,13 @@ field_taken o w n rest reaches fits =
 pub same_front_size : (s t : Sizes) (m n : ℕ) (rest : List ℕ) → s ≡ t → m ≡ n → IsFront t n rest → IsFront s m rest
 same_front_size s t m n rest same is front = rw (same, is) front
 
-pub front_each : (n : ℕ) (rest : List ℕ) → n ≤ length rest → IsFront (each_of n) n rest
+pub front_each : (n : ℕ) (rest : List ℕ) → n ≤ length rest → IsFront (EachOf n) n rest
 front_each n rest fits = record { fits = fits; piece = length-take-le n rest fits }
 
-pub front_told : (o w n : ℕ) (rest : List ℕ) → o + w ≤ n → n ≤ length rest → n ≡ field_at o w rest → IsFront (told_at o w) n rest
-front_told o w n rest reaches fits is =
+pub front_told : (place : Place) (n : ℕ) (rest : List ℕ) → end_of place ≤ n → n ≤ length rest → n ≡ number_in place rest → IsFront (ToldAt place) n rest
+front_told place n rest reaches fits is =
     let size = length-take-le n rest fits in
-    record { fits = fits; piece = (omega (arith, size, reaches), field_taken o w n rest reaches fits ∙ sym is ∙ sym size) }
+    record { fits = fits; piece = (omega (arith, size, reaches), field_taken (place_offset place) (place_width place) n rest reaches fits ∙ sym is ∙ sym size) }
 
 same_value : (m n : ℕ) → Some m ≡ Some n → m ≡ n
 same_value m n is = cc
@@ -39,7 +43,7 @@ source_has kind n is =
     one_size (kind == 6) 48 n _ (omega arith) (one_size (kind == 7) 44 n _ (omega arith) (one_size (kind == 8) 56 n _ (omega arith)
     (one_size (kind == 9) 64 n _ (omega arith) (one_size (kind == 10) 92 n _ (omega arith) (λ none. absurd cc))))) is
 
-pub front_source : (n : ℕ) (rest : List ℕ) → n ≤ length rest → source_size (field_at 0 2 rest) ≡ Some n → IsFront by_source n rest
+pub front_source : (n : ℕ) (rest : List ℕ) → n ≤ length rest → source_size (field_at 0 2 rest) ≡ Some n → IsFront BySource n rest
 front_source n rest fits is =
     let size = length-take-le n rest fits in
     let low = source_has (field_at 0 2 rest) n is in
@@ -51,33 +55,33 @@ front_source n rest fits is =
 within : (p q rest : List ℕ) → p ++ q ≡ rest → length p ≤ length rest
 within p q rest is = omega (arith, ap length is, length-append p q)
 
-pub none_each : (n : ℕ) (rest : List ℕ) → length rest < n → NoFront (each_of n) rest
+pub none_each : (n : ℕ) (rest : List ℕ) → length rest < n → NoFront (EachOf n) rest
 none_each n rest short p q is piece = omega (arith, within p q rest is, piece, short)
 
 -- what a piece at the front tells is its length
-told_length : (o w : ℕ) (p q rest : List ℕ) → p ++ q ≡ rest → IsPiece (told_at o w) p → field_at o w rest ≡ length p
-told_length o w p q rest is piece = ap (field_at o w) (sym is) ∙ field_front o w p q piece.0 ∙ piece.1
+told_length : (place : Place) (p q rest : List ℕ) → p ++ q ≡ rest → IsPiece (ToldAt place) p → number_in place rest ≡ length p
+told_length place p q rest is piece = ap (number_in place) (sym is) ∙ field_front (place_offset place) (place_width place) p q piece.0 ∙ piece.1
 
-pub none_reached : (o w : ℕ) (rest : List ℕ) → length rest < o + w → NoFront (told_at o w) rest
-none_reached o w rest short p q is piece = omega (arith, within p q rest is, piece.0, short)
+pub none_reached : (place : Place) (rest : List ℕ) → length rest < end_of place → NoFront (ToldAt place) rest
+none_reached place rest short p q is piece = omega (arith, within p q rest is, piece.0, short)
 
-pub none_short : (o w n : ℕ) (rest : List ℕ) → n ≡ field_at o w rest → n < o + w → NoFront (told_at o w) rest
-none_short o w n rest told short p q is piece = omega (arith, piece.0, told_length o w p q rest is piece, told, short)
+pub none_short : (place : Place) (n : ℕ) (rest : List ℕ) → n ≡ number_in place rest → n < end_of place → NoFront (ToldAt place) rest
+none_short place n rest told short p q is piece = omega (arith, piece.0, told_length place p q rest is piece, told, short)
 
-pub none_long : (o w n : ℕ) (rest : List ℕ) → n ≡ field_at o w rest → length rest < n → NoFront (told_at o w) rest
-none_long o w n rest told long p q is piece = omega (arith, within p q rest is, told_length o w p q rest is piece, told, long)
+pub none_long : (place : Place) (n : ℕ) (rest : List ℕ) → n ≡ number_in place rest → length rest < n → NoFront (ToldAt place) rest
+none_long place n rest told long p q is piece = omega (arith, within p q rest is, told_length place p q rest is piece, told, long)
 
-pub none_typed : (rest : List ℕ) → length rest < 2 → NoFront by_source rest
+pub none_typed : (rest : List ℕ) → length rest < 2 → NoFront BySource rest
 none_typed rest short p q is piece = omega (arith, within p q rest is, piece.0, short)
 
 -- the size of a source's type is its length
-source_length : (p q rest : List ℕ) → p ++ q ≡ rest → IsPiece by_source p → source_size (field_at 0 2 rest) ≡ Some (length p)
+source_length : (p q rest : List ℕ) → p ++ q ≡ rest → IsPiece BySource p → source_size (field_at 0 2 rest) ≡ Some (length p)
 source_length p q rest is piece = ap source_size (ap (field_at 0 2) (sym is) ∙ field_front 0 2 p q (omega (arith, piece.0))) ∙ piece.1
 
-pub none_known : (rest : List ℕ) → source_size (field_at 0 2 rest) ≡ None → NoFront by_source rest
+pub none_known : (rest : List ℕ) → source_size (field_at 0 2 rest) ≡ None → NoFront BySource rest
 none_known rest none p q is piece = let no : None ≡ Some (length p) = sym none ∙ source_length p q rest is piece in absurd cc
 
-pub none_sized : (n : ℕ) (rest : List ℕ) → source_size (field_at 0 2 rest) ≡ Some n → length rest < n → NoFront by_source rest
+pub none_sized : (n : ℕ) (rest : List ℕ) → source_size (field_at 0 2 rest) ≡ Some n → length rest < n → NoFront BySource rest
 none_sized n rest sized long p q is piece =
     let same = same_value n (length p) (sym sized ∙ source_length p q rest is piece) in omega (arith, within p q rest is, same, long)
 
@@ -157,17 +161,17 @@ miscounted w bytes pieces offsets n has cut is fails others walks =
 -- ---- what each piece reaches
 
 least_reached : (s : Sizes) (p : List ℕ) → IsPiece s p → least s ≤ length p
-least_reached (each_of n) p is = omega (arith, is)
-least_reached (told_at offset width) p is = is.0
-least_reached by_source p is = is.0
+least_reached (EachOf n) p is = omega (arith, is)
+least_reached (ToldAt place) p is = is.0
+least_reached BySource p is = is.0
 
 each_reaches : (s : Sizes) (n : ℕ) → n ≤ least s → (ps : List (List ℕ)) → ArePieces s ps → All (λ p. n ≤ length p) ps
 each_reaches s n low [] all k d h = absurd (omega arith)
 each_reaches s n low (p ∷ ps) all zero d h = omega (arith, low, least_reached s p all.0)
 each_reaches s n low (p ∷ ps) all (suc k) d h = each_reaches s n low ps all.1 k d (omega arith)
 
-pub reached_by : (o : Option Walk) (w : Walk) (bytes : List ℕ) → o ≡ Some w → IsKnown w → (pieces : List (List ℕ)) → WalksBy o bytes pieces → All (λ piece. end_of w.kind ≤ length piece) pieces
-reached_by o w bytes is known pieces walks = let by : Walks w bytes pieces = rw is at walks in each_reaches w.sizes (end_of w.kind) known.kind pieces by.each
+pub reached_by : (o : Option Walk) (w : Walk) (bytes : List ℕ) → o ≡ Some w → IsSound w → (pieces : List (List ℕ)) → WalksBy o bytes pieces → All (λ piece. end_of w.kind ≤ length piece) pieces
+reached_by o w bytes is sound pieces walks = let by : Walks w bytes pieces = rw is at walks in each_reaches w.sizes (end_of w.kind) sound.kind pieces by.each
 
 pub all_mapped : {P : Type 0} (f : P → List ℕ) (n : ℕ) (xs : List P) (i : ℕ) (d : P) → All (λ p. n ≤ length p) (map f xs) → i < length xs → n ≤ length (f (get_or xs i d))
 all_mapped f n [] i d all h = absurd (omega arith)

@@ -1,10 +1,13 @@
 -- The text that is told of terms: a line for each, its children after it, two spaces deeper.
-use Rattle.std.specs.Prelude.{◌≡◌, ℕ, zero, suc, ◌+◌, ◌/◌, ◌%◌, ◌^◌, nat_lt, nat_le, ◌==◌, ◌&&◌, not, Bool, true, if◌then◌else◌, List, [], ◌∷◌, ◌++◌, length, map, codes}
+use Rattle.std.specs.Prelude.{◌≡◌, ℕ, zero, suc, ◌+◌, ◌/◌, ◌%◌, ◌^◌, nat_lt, nat_le, ◌==◌, ◌&&◌, not}
+use Rattle.std.specs.Prelude.{Bool, true, if◌then◌else◌, List, [], ◌∷◌, ◌++◌, length, map, codes}
 use Rattle.std.specs.Fmt.{decimal}
-use Rattle.acpi_term.specs.declared.op.Op.{Op}
-use Rattle.acpi_term.specs.declared.op.Op.TheVariants.{LNot, LEqual, LLess, LGreater, LAnd, LOr, Increment, Decrement, Break, ObjectType, SizeOf, Return, DeRefOf, Add, Concat, Subtract, Multiply, ShiftLeft, ShiftRight, And, Nand, Or, Nor, Xor, ConcatRes, Mod, Index, ToString, CreateDWordField, CreateQWordField, ToBuffer, ToInteger, Store, Notify, Mid, CreateField}
-use Rattle.acpi_term.specs.Tree.{Entry, named, reserved, Head, number, ones, string, local, arg, call, def_scope, def_device, def_method, def_power_res, def_field, def_op_region, def_name, def_mutex, def_acquire, def_release, def_buffer, def_package, def_var_package, def_if, def_while, def_else, op, Terms, end, term, count}
+use Rattle.acpi_term.specs.Tree.{Entry, named, reserved, Head, number, ones, string, local, arg, call}
+use Rattle.acpi_term.specs.Tree.{def_scope, def_device, def_method, def_power_res, def_field, def_op_region}
+use Rattle.acpi_term.specs.Tree.{def_name, def_mutex, def_acquire, def_release, def_buffer, def_package}
+use Rattle.acpi_term.specs.Tree.{def_var_package, def_if, def_while, def_else, op, Terms, end, term, count}
 use Rattle.acpi_term.specs.Length.{least_width}
+use Rattle.acpi_term.specs.Operator.{word}
 use Rattle.acpi_term.specs.Row.{entry_bits, entry_width, Layout, bare, framed, layout, writer_width}
 use Rattle.acpi_term.specs.Spelling.{spelling}
 use Rattle.acpi_read.specs.Report.{printable}
@@ -70,44 +73,6 @@ is_entry_chosen e = entry_width e == least_width (entry_bits e) && nat_lt (entry
 
 -- ---- lines
 
-abbrev pub op_text : Op → List ℕ
-op_text LNot = codes "lnot"
-op_text LEqual = codes "lequal"
-op_text LLess = codes "lless"
-op_text LGreater = codes "lgreater"
-op_text LAnd = codes "land"
-op_text LOr = codes "lor"
-op_text Increment = codes "increment"
-op_text Decrement = codes "decrement"
-op_text Break = codes "break"
-op_text ObjectType = codes "objecttype"
-op_text SizeOf = codes "sizeof"
-op_text Return = codes "return"
-op_text DeRefOf = codes "derefof"
-op_text Add = codes "add"
-op_text Concat = codes "concat"
-op_text Subtract = codes "subtract"
-op_text Multiply = codes "multiply"
-op_text ShiftLeft = codes "shiftleft"
-op_text ShiftRight = codes "shiftright"
-op_text And = codes "and"
-op_text Nand = codes "nand"
-op_text Or = codes "or"
-op_text Nor = codes "nor"
-op_text Xor = codes "xor"
-op_text ConcatRes = codes "concatres"
-op_text Mod = codes "mod"
-op_text Index = codes "index"
-op_text ToString = codes "tostring"
-op_text CreateDWordField = codes "createdwordfield"
-op_text CreateQWordField = codes "createqwordfield"
-op_text ToBuffer = codes "tobuffer"
-op_text ToInteger = codes "tointeger"
-op_text Store = codes "store"
-op_text Notify = codes "notify"
-op_text Mid = codes "mid"
-op_text CreateField = codes "createfield"
-
 -- a buffer's bytes after its size, and a space before them if there are any
 abbrev pub data_text : List ℕ → List ℕ
 data_text [] = []
@@ -124,10 +89,13 @@ head_text (call name) n = codes "name " ++ name_text name ++ codes " args " ++ d
 head_text (def_scope name) n = codes "scope " ++ name_text name
 head_text (def_device name) n = codes "device " ++ name_text name
 head_text (def_method name args serialized) n =
-    codes "method " ++ name_text name ++ codes " args " ++ decimal args ++ codes " serialized " ++ (if serialized then codes "1" else codes "0")
-head_text (def_power_res name level order) n = codes "power " ++ name_text name ++ codes " level " ++ decimal level ++ codes " order " ++ decimal order
+    codes "method " ++ name_text name ++ codes " args " ++ decimal args ++ codes " serialized "
+    ++ (if serialized then codes "1" else codes "0")
+head_text (def_power_res name level order) n = codes "power " ++ name_text name ++ codes " level " ++ decimal level
+    ++ codes " order " ++ decimal order
 head_text (def_field name access lock update entries) n =
-    codes "field " ++ name_text name ++ codes " access " ++ decimal access ++ codes " lock " ++ decimal lock ++ codes " update " ++ decimal update
+    codes "field " ++ name_text name ++ codes " access " ++ decimal access ++ codes " lock " ++ decimal lock ++ codes " update "
+    ++ decimal update
 head_text (def_op_region name space) n = codes "region " ++ name_text name ++ codes " space " ++ decimal space
 head_text (def_name name) n = codes "define " ++ name_text name
 head_text (def_mutex name level) n = codes "mutex " ++ name_text name ++ codes " level " ++ decimal level
@@ -139,7 +107,7 @@ head_text def_var_package n = codes "varpackage"
 head_text def_if n = codes "if"
 head_text def_while n = codes "while"
 head_text def_else n = codes "else"
-head_text (op o) n = op_text o
+head_text (op o) n = word o
 
 -- a line, at a depth
 abbrev pub indent : ℕ → List ℕ
@@ -173,7 +141,8 @@ term_suffix h w children = width_suffix (is_chosen h w (count children) (spellin
 abbrev pub lines : ℕ → Terms → List ℕ
 lines d end = []
 lines d (term h w children others) =
-    line d (head_text h (count children)) (term_suffix h w children) ++ own_lines (suc d) h ++ lines (suc d) children ++ lines d others
+    line d (head_text h (count children)) (term_suffix h w children) ++ own_lines (suc d) h ++ lines (suc d) children
+    ++ lines d others
 
 -- The lines of terms were added to a text, and their sizes taken from the front of a list.
 pub record AreReported (depth : ℕ) (ts : Terms) (sizes left old new : List ℕ) : Type 0 where

@@ -2,54 +2,12 @@
 use Rattle.std.specs.Prelude.{◌≡◌, ℕ, ◌+◌, ◌≤◌, List, [], ◌++◌, length, drop, take, Option, Some, None}
 use Rattle.std.specs.List.{concat}
 use Rattle.acpi_base.specs.Bytes.{field_at}
-use Rattle.acpi_base.specs.Walk.{Sizes, each_of, told_at, by_source, nowhere, at, source_size, IsPiece, ArePieces, HasSizes, offsets_from, walk_of, ArePiecesOf}
-use Rattle.acpi_base.specs.Walk as base
+use Rattle.acpi_base.specs.Walk.{source_size, IsPiece, ArePieces, offsets_from, walk_of, WalksBy}
+use Rattle.acpi_base.specs.declared.walk.Sizes.{Sizes}
+use Rattle.acpi_base.specs.declared.walk.Sizes.TheVariants.{BySource}
+use Rattle.acpi_base.specs.declared.walk.Walk.{Walk}
 use Rattle.acpi_term.specs.declared.read_error.ReadError.{ReadError}
 use Rattle.acpi_term.specs.declared.read_error.ReadError.TheVariants as errors
-use Rattle.acpi_read.specs.declared.walk.Place.{Place}
-use Rattle.acpi_read.specs.declared.walk.Place.TheVariants as places
-use Rattle.acpi_read.specs.declared.walk.Size.{Size}
-use Rattle.acpi_read.specs.declared.walk.Size.TheVariants as sizes
-use Rattle.acpi_read.specs.declared.walk.Walk.{Walk}
-
--- ---- a walk of the code, as the definition has it
-
-abbrev pub place_of : Place → base.Place
-place_of places.Nowhere = nowhere
-place_of (places.Byte offset) = at offset 1
-place_of (places.Word offset) = at offset 2
-place_of (places.DWord offset) = at offset 4
-
--- where a field ends
-abbrev pub end_of : base.Place → ℕ
-end_of place = place.offset + place.width
-
-abbrev pub sizes_of : Size → Sizes
-sizes_of (sizes.EachOf n) = each_of n
-sizes_of (sizes.ToldAt place) = told_at (place_of place).offset (place_of place).width
-sizes_of sizes.BySource = by_source
-
-abbrev pub meant : Walk → base.Walk
-meant w = record {
-  start = w.start;
-  sizes = sizes_of w.sizes;
-  kind = place_of w.kind;
-  count = place_of w.count;
-  told_start = place_of w.told_start;
-}
-
--- the bytes that every structure has at least
-abbrev pub least : Sizes → ℕ
-least (each_of n) = n
-least (told_at offset width) = offset + width
-least by_source = 2
-
--- A walk's structures have bytes, each reaches the field of its type, and the table's fields stand before all of them.
-pub record IsKnown (w : base.Walk) : Type 0 where
-  pub has : HasSizes w.sizes
-  pub kind : end_of w.kind ≤ least w.sizes
-  pub count : end_of w.count ≤ w.start
-  pub told : end_of w.told_start ≤ w.start
 
 -- ---- what is told
 
@@ -81,7 +39,7 @@ NoFront s rest = (p q : List ℕ) → p ++ q ≡ rest → IsPiece s p → ⊥
 
 -- an error source of a type that has no size here
 pub record IsUnknownSource (s : Sizes) (rest : List ℕ) : Type 0 where
-  pub by : s ≡ by_source
+  pub by : s ≡ BySource
   pub told : 2 ≤ length rest
   pub unknown : source_size (field_at 0 2 rest) ≡ None
 
@@ -106,13 +64,14 @@ NoCut s body = (pieces : List (List ℕ)) → ArePieces s pieces → concat piec
 abbrev pub IsCutFault : Refusal → Sizes → ℕ → List ℕ → Type 0
 IsCutFault no_memory s start bytes = Unit {0}
 IsCutFault (bad_structure offset) s start bytes = (offset ≤ length bytes) × NoCut s (drop start bytes)
-IsCutFault (unknown_source offset) s start bytes = (offset ≤ length bytes) × NoCut s (drop start bytes) × IsUnknownSource s (drop offset bytes)
+IsCutFault (unknown_source offset) s start bytes = (offset ≤ length bytes) × NoCut s (drop start bytes)
+    × IsUnknownSource s (drop offset bytes)
 IsCutFault _ s start bytes = ⊥
 
 -- ---- a table's
 
 -- where the pieces of a walk begin
-abbrev pub offsets_by : Option base.Walk → List (List ℕ) → List ℕ
+abbrev pub offsets_by : Option Walk → List (List ℕ) → List ℕ
 offsets_by (Some w) pieces = offsets_from w.start pieces
 offsets_by None pieces = []
 
@@ -120,16 +79,17 @@ abbrev pub offsets_of : List ℕ → List (List ℕ) → List ℕ
 offsets_of bytes pieces = offsets_by (walk_of (field_at 0 4 bytes)) pieces
 
 -- no pieces walk the bytes
-abbrev pub NoPiecesBy : Option base.Walk → List ℕ → Type 0
-NoPiecesBy w bytes = (pieces : List (List ℕ)) → base.WalksBy w bytes pieces → ⊥
+abbrev pub NoPiecesBy : Option Walk → List ℕ → Type 0
+NoPiecesBy w bytes = (pieces : List (List ℕ)) → WalksBy w bytes pieces → ⊥
 
 -- Why a table has no pieces, unless memory ran out. An unknown source is told only where one stands, in a table whose
 -- structures' sizes go by their types.
-abbrev pub IsFaultBy : Refusal → Option base.Walk → List ℕ → Type 0
+abbrev pub IsFaultBy : Refusal → Option Walk → List ℕ → Type 0
 IsFaultBy no_memory w bytes = Unit {0}
 IsFaultBy (bad_structure offset) w bytes = (offset ≤ length bytes) × NoPiecesBy w bytes
 IsFaultBy (bad_count offset) w bytes = (offset ≤ length bytes) × NoPiecesBy w bytes
-IsFaultBy (unknown_source offset) (Some w) bytes = (offset ≤ length bytes) × NoPiecesBy (Some w) bytes × IsUnknownSource w.sizes (drop offset bytes)
+IsFaultBy (unknown_source offset) (Some w) bytes = (offset ≤ length bytes) × NoPiecesBy (Some w) bytes
+    × IsUnknownSource w.sizes (drop offset bytes)
 IsFaultBy _ w bytes = ⊥
 
 abbrev pub IsPieceFault : ReadError → List ℕ → Type 0

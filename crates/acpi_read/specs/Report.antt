@@ -1,8 +1,12 @@
 -- The text that is told of a table.
-use Rattle.std.specs.Prelude.{◌≡◌, ℕ, List, [], ◌∷◌, ◌++◌, length, map, take, codes, slice_index, nat_le, ◌==◌, ◌&&◌, if◌then◌else◌, Option, Some, None}
+use Rattle.std.specs.Prelude.{◌≡◌, ℕ, List, [], ◌∷◌, ◌++◌, length, map, take, codes, slice_index}
+use Rattle.std.specs.Prelude.{nat_le, ◌==◌, ◌&&◌, if◌then◌else◌, Option, Some, None}
 use Rattle.std.specs.Fmt.{decimal}
 use Rattle.acpi_base.specs.Bytes.{field_at}
-use Rattle.acpi_base.specs.Walk.{Place, Walk, nowhere, walk_of, ArePiecesOf}
+use Rattle.acpi_base.specs.Walk.{place_width, number_in, walk_of, ArePiecesOf}
+use Rattle.acpi_base.specs.declared.walk.Place.{Place}
+use Rattle.acpi_base.specs.declared.walk.Place.TheVariants.{Nowhere}
+use Rattle.acpi_base.specs.declared.walk.Walk.{Walk}
 use Rattle.acpi_read.specs.Pieces.{offsets_of}
 
 -- a byte that prints, or a question mark
@@ -17,7 +21,7 @@ header_line table =
 
 -- the type of a piece in decimal, by the field that tells it; an entry has none
 abbrev pub kind_text : Place → List ℕ → List ℕ
-kind_text kind piece = if kind.width == 0 then codes " entry" else codes " type " ++ decimal (field_at kind.offset kind.width piece)
+kind_text kind piece = if place_width kind == 0 then codes " entry" else codes " type " ++ decimal (number_in kind piece)
 
 -- a piece's offset, its type and its size
 abbrev pub piece_line : Place → ℕ → List ℕ → List ℕ
@@ -30,7 +34,7 @@ piece_lines kind _ _ = []
 -- where the structures of a walk tell their type
 abbrev pub kind_by : Option Walk → Place
 kind_by (Some w) = w.kind
-kind_by None = nowhere
+kind_by None = Nowhere
 
 abbrev pub kind_of : List ℕ → Place
 kind_of table = kind_by (walk_of (field_at 0 4 table))

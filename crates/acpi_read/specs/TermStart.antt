@@ -1,11 +1,13 @@
 -- The starts of terms, without where they lie in memory.
 use Rattle.std.specs.Prelude.{◌≡◌, ℕ, ◌+◌, ◌≤◌, length}
-use Rattle.acpi_term.specs.Tree.{Head, call, def_scope, def_device, def_method, def_power_res, def_op_region, def_name, def_var_package, def_if, def_while, def_else, op, end}
+use Rattle.acpi_term.specs.Tree.{Head, call, def_scope, def_device, def_method, def_power_res, def_op_region}
+use Rattle.acpi_term.specs.Tree.{def_name, def_var_package, def_if, def_while, def_else, op, end}
 use Rattle.acpi_term.specs.Operator.{operands}
 use Rattle.acpi_term.specs.View.{view}
 use Rattle.acpi_term.specs.Reading.{Opened, follows, fills, packs, begins}
 use Rattle.acpi_read.specs.declared.terms.open.TermStart as code
-use Rattle.acpi_read.specs.declared.terms.open.TermStart.TheVariants.{Leaf, Call, Operator, Region, Define, Block, FirstAndBlock, Package, Buffer}
+use Rattle.acpi_read.specs.declared.terms.open.TermStart.TheVariants.{Leaf, Call, Operator, Region, Define}
+use Rattle.acpi_read.specs.declared.terms.open.TermStart.TheVariants.{Block, FirstAndBlock, Package, Buffer}
 use Rattle.acpi_read.specs.declared.terms.open.Block as block
 use Rattle.acpi_read.specs.declared.terms.open.Block.TheVariants as blocks
 use Rattle.acpi_read.specs.declared.terms.open.FirstAndBlock as first_and_block

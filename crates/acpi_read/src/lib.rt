@@ -6,4 +6,3 @@ pub mod pieces;
 pub mod report;
 pub mod table;
 pub mod terms;
-mod walk;

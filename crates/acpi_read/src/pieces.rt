@@ -2,11 +2,12 @@
 
 ghost use Rattle.std.specs.Prelude.{◌≡◌, ◌+◌, ◌≤◌, length, take, drop, map, Some, IfOk, IfErr};
 ghost use Rattle.acpi_base.specs.Bytes.{field_at};
-ghost use Rattle.acpi_base.specs.Walk.{source_size, HasSizes, Walks, ArePiecesOf};
-ghost use Rattle.acpi_read.specs.Pieces.{sizes_of, meant, refusal_of, IsKnown, IsFront, IsFrontFault, AreCut, IsCutFault, offsets_by, offsets_of, IsFaultBy, IsPieceFault};
+ghost use Rattle.acpi_base.specs.Walk.{HasSizes, IsSound, Walks, ArePiecesOf};
+ghost use Rattle.acpi_read.specs.Pieces.{refusal_of, IsFront, IsFrontFault, AreCut, IsCutFault};
+ghost use Rattle.acpi_read.specs.Pieces.{offsets_by, offsets_of, IsFaultBy, IsPieceFault};
 
 use crate::table::Table;
-use crate::walk::{Place, Size, Walk, walk_of};
+use acpi_base::walk::{Place, Sizes, Walk, source_size, walk_of};
 use acpi_term::read_error::ReadError;
 use std::alloc::Global;
 
@@ -17,28 +18,14 @@ pub struct Piece<'a> {
     pub bytes: &'a [u8],
 }
 
-// The size of an error source of a type (ACPI 6.5, 18.3.2).
-fn source_size(kind: usize) -> Option<usize>
-    ensures { result ≡ source_size kind }
-{
-    match kind {
-        6 => Some(48),
-        7 => Some(44),
-        8 => Some(56),
-        9 => Some(64),
-        10 => Some(92),
-        _ => None,
-    }
-}
-
 // How long the piece is with which bytes at an offset begin.
-fn front_size(rest: &[u8], sizes: Size, at: usize) -> Result<usize, ReadError>
-    ensures ok { IfOk result (λ n. IsFront (sizes_of sizes) n rest.now) }
-    ensures err { IfErr result (λ e. IsFrontFault (refusal_of e) (sizes_of sizes) at rest.now) }
+fn front_size(rest: &[u8], sizes: Sizes, at: usize) -> Result<usize, ReadError>
+    ensures ok { IfOk result (λ n. IsFront sizes n rest.now) }
+    ensures err { IfErr result (λ e. IsFrontFault (refusal_of e) sizes at rest.now) }
 {
     let size = match sizes {
-        Size::EachOf(size) => usize::from(size),
-        Size::ToldAt(place) => {
+        Sizes::EachOf(size) => usize::from(size),
+        Sizes::ToldAt(place) => {
             if rest.len() < place.end() {
                 return Err(ReadError::Structure(at));
             }
@@ -48,7 +35,7 @@ fn front_size(rest: &[u8], sizes: Size, at: usize) -> Result<usize, ReadError>
             }
             size
         }
-        Size::BySource => {
+        Sizes::BySource => {
             if rest.len() < 2 {
                 return Err(ReadError::Structure(at));
             }
@@ -76,11 +63,11 @@ fn piece_at(bytes: &[u8], at: usize, size: usize) -> Piece<'_>
 }
 
 // Cuts the bytes from a start on into pieces.
-fn cut(alloc: Global, bytes: &[u8], start: usize, sizes: Size) -> Result<Vec<Piece<'_>>, ReadError>
+fn cut(alloc: Global, bytes: &[u8], start: usize, sizes: Sizes) -> Result<Vec<Piece<'_>>, ReadError>
     requires start { start ≤ length bytes.now }
-    requires sizes { HasSizes (sizes_of sizes) }
-    ensures ok { IfOk result (λ v. AreCut (sizes_of sizes) start bytes.now (map (λ p. p.bytes.now) v.items) (map (λ p. p.offset) v.items)) }
-    ensures err { IfErr result (λ e. IsCutFault (refusal_of e) (sizes_of sizes) start bytes.now) }
+    requires sizes { HasSizes sizes }
+    ensures ok { IfOk result (λ v. AreCut sizes start bytes.now (map (λ p. p.bytes.now) v.items) (map (λ p. p.offset) v.items)) }
+    ensures err { IfErr result (λ e. IsCutFault (refusal_of e) sizes start bytes.now) }
 {
     let mut pieces = Vec::new(alloc);
     let mut at = start;
@@ -94,10 +81,10 @@ fn cut(alloc: Global, bytes: &[u8], start: usize, sizes: Size) -> Result<Vec<Pie
 
 // The pieces of a table that has a walk.
 fn walked(alloc: Global, bytes: &[u8], walk: Walk) -> Result<Vec<Piece<'_>>, ReadError>
-    requires known { IsKnown (meant walk) }
-    ensures walk { IfOk result (λ v. Walks (meant walk) bytes.now (map (λ p. p.bytes.now) v.items)) }
-    ensures offsets { IfOk result (λ v. map (λ p. p.offset) v.items ≡ offsets_by (Some (meant walk)) (map (λ p. p.bytes.now) v.items)) }
-    ensures err { IfErr result (λ e. IsFaultBy (refusal_of e) (Some (meant walk)) bytes.now) }
+    requires sound { IsSound walk }
+    ensures walk { IfOk result (λ v. Walks walk bytes.now (map (λ p. p.bytes.now) v.items)) }
+    ensures offsets { IfOk result (λ v. map (λ p. p.offset) v.items ≡ offsets_by (Some walk) (map (λ p. p.bytes.now) v.items)) }
+    ensures err { IfErr result (λ e. IsFaultBy (refusal_of e) (Some walk) bytes.now) }
 {
     let start = usize::from(walk.start);
     if bytes.len() < start {

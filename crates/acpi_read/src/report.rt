@@ -81,7 +81,8 @@ fn push_terms<'a>(
     text: &mut String,
 ) -> Result<&'a [u32], AllocError>
     requires { HasSizes (views terms.now) sizes.now }
-    ensures { IfOk result (λ left. AreReported depth (views terms.now) sizes.now left.now (string_bytes text.old) (string_bytes text.new)) }
+    ensures { IfOk result
+        (λ left. AreReported depth (views terms.now) sizes.now left.now (string_bytes text.old) (string_bytes text.new)) }
 {
     let mut left = sizes;
     for term in terms {
@@ -98,7 +99,8 @@ fn push_term<'a>(
     text: &mut String,
 ) -> Result<&'a [u32], AllocError>
     requires { HasSizes (single (view term.now)) sizes.now }
-    ensures { IfOk result (λ left. AreReported depth (single (view term.now)) sizes.now left.now (string_bytes text.old) (string_bytes text.new)) }
+    ensures { IfOk result
+        (λ left. AreReported depth (single (view term.now)) sizes.now left.now (string_bytes text.old) (string_bytes text.new)) }
 {
     let parts = parts_of(term);
     let shown = shown_width(parts.kind, parts.width, sizes[0]);
@@ -121,7 +123,8 @@ fn push_line(
     shown: Option<u8>,
     text: &mut String,
 ) -> Result<(), AllocError>
-    ensures { OnOk result (string_bytes text.new ≡ string_bytes text.old ++ line depth (head_text (head_of kind.entry) count) (width_words shown)) }
+    ensures { OnOk result (string_bytes text.new ≡ string_bytes text.old
+        ++ line depth (head_text (head_of kind.entry) count) (width_words shown)) }
 {
     push_indent(depth, text)?;
     push_head(kind, count, text)?;
@@ -170,7 +173,8 @@ fn push_bits(entry: &TermEntry, text: &mut String) -> Result<(), AllocError>
 
 #[tactic(auto, using(crate::proofs::Texts::after_three))]
 fn push_named_bits(name: &[u8], bits: u32, text: &mut String) -> Result<(), AllocError>
-    ensures { OnOk result (string_bytes text.new ≡ string_bytes text.old ++ (codes "entry " ++ map printable name.now ++ codes " bits " ++ decimal bits)) }
+    ensures { OnOk result (string_bytes text.new ≡ string_bytes text.old
+        ++ (codes "entry " ++ map printable name.now ++ codes " bits " ++ decimal bits)) }
 {
     text.push_str("entry ")?;
     push_shown(name, text)?;

@@ -28,16 +28,18 @@ fn rsdp(rt: HostRuntime) -> Result<(), Fail> {
         xsdt_addr: 0x1c1b_1a19_1817_1615,
         extended_checksum: 0x1d,
     };
-    let wanted =
-        b"\x01\x02\x03\x04\x05\x06\x07\x08\x09\x0a\x0b\x0c\x0d\x0e\x0f\x10\0\0\0\0\x11\x12\x13\x14\x15\x16\x17\x18\x19\x1a\x1b\x1c\x1d\0\0\0";
+    let wanted = b"\x01\x02\x03\x04\x05\x06\x07\x08\x09\x0a\x0b\x0c\x0d\x0e\x0f\x10\
+            \0\0\0\0\x11\x12\x13\x14\x15\x16\x17\x18\x19\x1a\x1b\x1c\x1d\0\0\0";
     writes(alloc, &numbered, wanted)
 }
 
 #[test]
 fn facs(rt: HostRuntime) -> Result<(), Fail> {
     let alloc = rt.alloc();
-    let first =
-        b"FACS\x40\0\0\0\0\0\0\0\0\0\0\0\0\0\0\0\0\0\0\0\0\0\0\0\0\0\0\0\x01\0\0\0\0\0\0\0\0\0\0\0\0\0\0\0\0\0\0\0\0\0\0\0\0\0\0\0\0\0\0\0";
+    let first = b"FACS\x40\0\0\0\0\0\0\0\0\0\0\0\
+            \0\0\0\0\0\0\0\0\0\0\0\0\0\0\0\0\
+            \x01\0\0\0\0\0\0\0\0\0\0\0\0\0\0\0\
+            \0\0\0\0\0\0\0\0\0\0\0\0\0\0\0\0";
     writes(alloc, &FACS::new(), first)?;
     equal(&FACS::len(), &64)?;
     let numbered = FACS {
@@ -51,8 +53,10 @@ fn facs(rt: HostRuntime) -> Result<(), Fail> {
         version: 0x21,
         ospm_flags: 0x2524_2322,
     };
-    let wanted =
-        b"\x01\x02\x03\x04\x05\x06\x07\x08\x09\x0a\x0b\x0c\x0d\x0e\x0f\x10\x11\x12\x13\x14\x15\x16\x17\x18\x19\x1a\x1b\x1c\x1d\x1e\x1f\x20\x21\0\0\0\x22\x23\x24\x25\0\0\0\0\0\0\0\0\0\0\0\0\0\0\0\0\0\0\0\0\0\0\0\0";
+    let wanted = b"\x01\x02\x03\x04\x05\x06\x07\x08\x09\x0a\x0b\x0c\x0d\x0e\x0f\x10\
+            \x11\x12\x13\x14\x15\x16\x17\x18\x19\x1a\x1b\x1c\x1d\x1e\x1f\x20\
+            \x21\0\0\0\x22\x23\x24\x25\0\0\0\0\0\0\0\0\
+            \0\0\0\0\0\0\0\0\0\0\0\0\0\0\0\0";
     writes(alloc, &numbered, wanted)
 }
 
@@ -74,8 +78,10 @@ fn bert(rt: HostRuntime) -> Result<(), Fail> {
 #[test]
 fn spcr(rt: HostRuntime) -> Result<(), Fail> {
     let spcr = SPCR::sbi(OEM, OEM_TABLE, OEM_REVISION);
-    let wanted =
-        b"SPCR\x5a\0\0\0\x04\x85FOOBARCAFEDEAD\xef\xbe\xad\xdeRVAT\0\0\0\x01\x15\0\0\0\0\0\0\0\0\0\0\0\0\0\0\0\0\0\0\0\0\0\0\0\0\0\0\0\xff\xff\xff\xff\0\0\0\0\0\0\0\0\0\0\0\0\0\0\0\0\x02\0\x58\0.\0";
+    let wanted = b"SPCR\x5a\0\0\0\x04\x85FOOBARCAFEDEAD\xef\xbe\xad\xdeRVAT\0\0\0\x01\
+            \x15\0\0\0\0\0\0\0\0\0\0\0\0\0\0\0\
+            \0\0\0\0\0\0\0\0\0\0\0\0\xff\xff\xff\xff\
+            \0\0\0\0\0\0\0\0\0\0\0\0\0\0\0\0\x02\0\x58\0.\0";
     writes(rt.alloc(), &spcr, wanted)?;
     equal(&u8sum(&spcr)?, &0)
 }

@@ -8,6 +8,8 @@ mod hest;
 #[cfg(test)]
 mod lists;
 #[cfg(test)]
+mod numbers;
+#[cfg(test)]
 mod read_back;
 #[cfg(test)]
 mod rqsc;

@@ -29,32 +29,149 @@
 #![tactic(auto)]
 
 pub mod aml;
-pub mod bert;
-pub mod cedt;
-pub mod facs;
-pub mod fadt;
-pub mod gas;
-pub mod hest;
-pub mod hmat;
-pub mod layout;
-pub mod madt;
-pub mod mcfg;
-pub mod pptt;
 pub mod read;
-pub mod rhct;
-pub mod rimt;
-pub mod rqsc;
-pub mod rsdp;
-pub mod sdt;
-pub mod slit;
-pub mod spcr;
-pub mod srat;
-pub mod tpm2;
-pub mod viot;
-pub mod xsdt;
 
 pub use acpi_base::checksum::Checksum;
 pub use acpi_base::error::{Error, R};
 pub use acpi_base::header::{CREATOR_ID, CREATOR_REVISION};
 pub use acpi_base::object::{Aml, u8sum};
 pub use acpi_base::sink::AmlSink;
+
+/// The Boot Error Record Table (ACPI 6.5, 18.3.1).
+pub mod bert {
+    pub use acpi_fixed::bert::BERT;
+}
+
+/// The CXL Early Discovery Table and its structures (CXL profile).
+pub mod cedt {
+    pub use acpi_lists::cedt::{
+        CEDT, CxlFixedMemory, CxlHostBridge, CxlVersion, InterleaveArithmetic,
+        InterleaveGranularity, InterleaveWays, PortAssociation, ProtocolType, WindowRestrictions,
+        XorInterleaveMath,
+    };
+}
+
+/// The Firmware ACPI Control Structure (ACPI 6.5, 5.2.10).
+pub mod facs {
+    pub use acpi_fixed::facs::FACS;
+}
+
+/// The Fixed ACPI Description Table (ACPI 6.5, 5.2.9).
+pub mod fadt {
+    pub use acpi_fixed::fadt::{FADT, FADTBuilder, Flags, PmProfile};
+}
+
+/// Addresses of registers (ACPI 6.5, 5.2.3.2).
+pub mod gas {
+    pub use acpi_base::gas::{AccessSize, AddressSpace, GAS};
+}
+
+/// The Hardware Error Source Table and its structures (ACPI 6.5, 18.3.2).
+pub mod hest {
+    pub use acpi_hest::hest::{
+        EnabledStatus, ErrorSeverity, FirmwareFirst, GenericErrorData, GenericErrorStatus,
+        GenericHardwareSource, GenericHardwareSourceV2, HEST, NotificationStructure,
+        NotificationType, PciDevice, PcieAerBridge, PcieAerDevice, PcieAerRootPort,
+    };
+}
+
+/// The Heterogeneous Memory Attribute Table and its structures (ACPI 6.5, 5.2.28).
+pub mod hmat {
+    pub use acpi_matrices::hmat::{
+        Associativity, CacheLevel, DataType, HMAT, LocalityType, MemoryProximityDomain,
+        MemorySideCache, MinTransferSize, SystemLocality, WritePolicy,
+    };
+}
+
+/// The tables of a guest at their addresses, in one image.
+pub mod layout {
+    pub use acpi_layout::layout::{Image, lay};
+}
+
+/// The Multiple APIC Description Table and its structures (ACPI 6.5, 5.2.12).
+pub mod madt {
+    pub use acpi_lists::madt::{
+        APLIC, EnabledStatus, GicIts, GicMsi, GicVersion, Gicc, Gicd, Gicr, HartStatus, IMSIC,
+        IoApic, LocalInterruptController, MADT, PLIC, ProcessorLocalApic, RINTC, Trigger,
+    };
+}
+
+/// Memory mapped configuration spaces of PCI (PCI Firmware Specification 3.3, 4.1.2).
+pub mod mcfg {
+    pub use acpi_lists::mcfg::MCFG;
+}
+
+/// The Processor Properties Topology Table and its nodes (ACPI 6.5, 5.2.30).
+pub mod pptt {
+    pub use acpi_nodes::pptt::{
+        AllocationType, CacheHandle, CacheNode, CacheNodeBuilder, CacheType, PPTT, ProcessorHandle,
+        ProcessorNode, WritePolicy,
+    };
+}
+
+/// The RISC-V Hart Capabilities Table and its nodes (this project's profile).
+pub mod rhct {
+    pub use acpi_nodes::rhct::{
+        CmoHandle, CmoNode, HartInfoNode, IsaStringHandle, IsaStringNode, MmuNode, RHCT,
+        VirtualAddressScheme,
+    };
+}
+
+/// The RISC-V I/O Mapping Table and its devices (this project's profile).
+pub mod rimt {
+    pub use acpi_nodes::rimt::{
+        IdMapping, InterruptWire, Iommu, IommuOffset, PciDevice, PcieRootComplex, Platform, RIMT,
+    };
+}
+
+/// The RISC-V Quality of Service Controller table and its structures (this project's profile).
+pub mod rqsc {
+    pub use acpi_hest::rqsc::{
+        ACPIDeviceResource, CacheResource, ControllerType, MemoryAffinityStructureResource,
+        PCIDeviceResource, QoSController, RQSC, ResourceID, ResourceStructure, ResourceType,
+    };
+}
+
+/// The Root System Description Pointer (ACPI 6.5, 5.2.5.3).
+pub mod rsdp {
+    pub use acpi_fixed::rsdp::Rsdp;
+}
+
+/// Tables whose contents are the caller's (ACPI 6.5, 5.2.6).
+pub mod sdt {
+    pub use acpi_base::address::{AccessWidth, GenericAddress};
+    pub use acpi_base::sdt::{Sdt, append_object};
+    pub use acpi_base::value::SdtValue;
+}
+
+/// The System Locality Information Table (ACPI 6.5, 5.2.17).
+pub mod slit {
+    pub use acpi_matrices::slit::{SLIT, UNREACHABLE_LOCALITY};
+}
+
+/// The Serial Port Console Redirection table (Microsoft).
+pub mod spcr {
+    pub use acpi_fixed::spcr::SPCR;
+}
+
+/// The System Resource Affinity Table and its structures (ACPI 6.5, 5.2.16).
+pub mod srat {
+    pub use acpi_lists::srat::{GenericInitiator, Handle, MemoryAffinity, RintcAffinity, SRAT};
+}
+
+/// Trusted platform modules: TCPA and TPM2 (TCG ACPI Specification).
+pub mod tpm2 {
+    pub use acpi_fixed::tpm2::{PlatformClass, StartMethod, Tpm2, TpmClient1_2, TpmServer1_2};
+}
+
+/// The Virtual I/O Translation Table and its nodes (ACPI 6.5, 5.2.32).
+pub mod viot {
+    pub use acpi_nodes::viot::{
+        MmioEndpoint, PciDevice, PciRange, TranslationHandle, VIOT, VirtIoMmioIommu, VirtIoPciIommu,
+    };
+}
+
+/// The Extended System Description Table (ACPI 6.5, 5.2.8).
+pub mod xsdt {
+    pub use acpi_lists::xsdt::XSDT;
+}

@@ -8,6 +8,7 @@ pub mod Texts
 pub mod Names
 pub mod Frames
 pub mod Entries
+pub mod Operators
 pub mod Opens
 pub mod Openings
 pub mod Again

@@ -7,21 +7,21 @@ use Rattle.std.proofs.lemmas.List.{append-nil}
 use Rattle.acpi_base.specs.Bytes.{AreBytes, le}
 use Rattle.acpi_base.specs.Number.{prefix, number_limit}
 use Rattle.acpi_term.specs.declared.op.Op.{Op}
-use Rattle.acpi_term.specs.declared.op.Op.TheVariants.{CreateField}
 use Rattle.acpi_term.specs.declared.mode.Mode.{Mode}
 use Rattle.acpi_term.specs.Tree.{Entry, Head, number, ones, string, local, arg, call, def_scope, def_device, def_method, def_power_res, def_field, def_op_region, def_name, def_mutex, def_acquire, def_release, def_buffer, def_package, def_var_package, def_if, def_while, def_else, op}
 use Rattle.acpi_term.specs.Name.{IsName, IsText}
 use Rattle.acpi_term.specs.Length.{with_length, FrameFits}
-use Rattle.acpi_term.specs.Operator.{opcode, operands}
+use Rattle.acpi_term.specs.Operator.{opcode, operands, op_of}
 use Rattle.acpi_term.specs.Row.{entries_bytes, field_flags, method_flags}
 use Rattle.acpi_term.specs.Spelling.{spelled, arguments, IsLegal}
 use Rattle.acpi_base.proofs.Bytes.{bytes_after}
-use Rattle.acpi_term.specs.Reading.{Fault, Bad, ◌>>=◌, name_at, frame_at, text_at, high_at, entries_at, op_of, begins_name, number_at, string_at, After, named_at, define_after, release_after, mutex_after, region_after, acquire_after, Inside, framed_at, scope_inside, device_inside, method_inside, power_inside, field_inside, plain_at, counted_frame, package_at, buffer_at, operator_at, extended_at, local_at, opcode_at, Opened, follows, fills, packs, begins, open_at, least_of}
+use Rattle.acpi_term.specs.Reading.{Fault, Bad, ◌>>=◌, name_at, frame_at, text_at, high_at, entries_at, begins_name, number_at, string_at, After, named_at, define_after, release_after, mutex_after, region_after, acquire_after, Inside, framed_at, scope_inside, device_inside, method_inside, power_inside, field_inside, plain_at, counted_frame, package_at, buffer_at, operator_at, extended_at, local_at, opcode_at, Opened, follows, fills, packs, begins, open_at, least_of}
 use Rattle.acpi_term.proofs.Steps.{bind_ok, ok_is, admitted}
 use Rattle.acpi_term.proofs.Names.{name_takes}
 use Rattle.acpi_term.proofs.Texts.{text_takes}
 use Rattle.acpi_term.proofs.Frames.{IsHigh, high_takes, Framed, frame_takes}
 use Rattle.acpi_term.proofs.Entries.{AreEntries, entries_takes, entries_owned}
+use Rattle.acpi_term.proofs.Operators.{op_is}
 
 -- ---- parts
 
@@ -130,15 +130,12 @@ module _ (arity : List ℕ → ℕ) (m : Mode) where
   arg_reads b k rest is few fits =
       bare_reads (arg k) 0 ((104 + k) ∷ []) rest (b ∷ rest) (record { row = λ inside. refl; fits = λ inside. record { takes = refl; is_standard = tt; owns = rw (le-leb k 6 few) refl; fits = refl } }) (one_byte b (104 + k) rest is) fits
 
-  op_is : (b : ℕ) (o : Op) → op_of b ≡ Some o → b ∷ [] ≡ opcode o
-  op_is b o e = grind (arith, nat_tests)
-
   op_reads : (o : Op) (rest bytes : List ℕ) → bytes ≡ opcode o ++ rest → AreBytes rest → Reads (Ok (follows (op o) 0 (operands o) rest)) bytes
   op_reads o rest bytes is fits = bare_reads (op o) (operands o) (opcode o) rest bytes (record { row = λ inside. refl; fits = λ inside. record { takes = refl; is_standard = tt; owns = refl; fits = refl } }) is fits
 
-  operator_reads : (b : ℕ) (found : Option Op) (rest : List ℕ) → op_of b ≡ found → AreBytes rest → Reads (operator_at found rest) (b ∷ rest)
-  operator_reads b None rest is fits = refused (b ∷ rest)
-  operator_reads b (Some o) rest is fits = op_reads o rest (b ∷ rest) (ap (λ (l : List ℕ). l ++ rest) (op_is b o is)) fits
+  operator_reads : (code : List ℕ) (found : Option Op) (rest bytes : List ℕ) → op_of code ≡ found → bytes ≡ code ++ rest → AreBytes rest → Reads (operator_at found rest) bytes
+  operator_reads code None rest bytes found is fits = refused bytes
+  operator_reads code (Some o) rest bytes found is fits = op_reads o rest bytes (rw (op_is code o found) is) fits
 
   string_is : (bytes s rest all : List ℕ) → all ≡ 13 ∷ bytes → AreBytes bytes → IsText s × (bytes ≡ s ++ 0 ∷ rest) → Reads (Ok (follows (string s) 0 0 rest)) all
   string_is bytes s rest all is fits t =
@@ -356,13 +353,13 @@ module _ (arity : List ℕ → ℕ) (m : Mode) where
       let all = b ∷ x ∷ rest in
       let two = λ (k : ℕ) (h : eqb x k ≡ true). two_bytes b 91 x k rest is (eqb-true x k h) in
       either_way (eqb x 1) _ _ all (λ h. named_reads mutex_after rest all fits.1 (mutex_reads rest all (two 1 h)))
-      (λ _. either_way (eqb x 19) _ _ all (λ h. op_reads CreateField rest all (two 19 h) fits.1)
       (λ _. either_way (eqb x 35) _ _ all (λ h. named_reads acquire_after rest all fits.1 (acquire_reads rest all (two 35 h)))
       (λ _. either_way (eqb x 39) _ _ all (λ h. named_reads release_after rest all fits.1 (release_reads rest all (two 39 h)))
       (λ _. either_way (eqb x 128) _ _ all (λ h. named_reads region_after rest all fits.1 (region_reads rest all (two 128 h)))
       (λ _. either_way (eqb x 129) _ _ all (λ h. framed_reads field_inside rest all fits.1 (field_reads rest all (two 129 h)))
       (λ _. either_way (eqb x 130) _ _ all (λ h. framed_reads device_inside rest all fits.1 (device_reads rest all (two 130 h)))
-      (λ _. where_it_holds (eqb x 132) _ all (λ h. framed_reads power_inside rest all fits.1 (power_reads rest all (two 132 h))))))))))
+      (λ _. either_way (eqb x 132) _ _ all (λ h. framed_reads power_inside rest all fits.1 (power_reads rest all (two 132 h)))
+      (λ _. operator_reads (91 ∷ x ∷ []) (op_of (91 ∷ x ∷ [])) rest all refl (two_bytes b 91 x x rest is refl) fits.1)))))))
 
   local_or_op_reads : (b : ℕ) (rest : List ℕ) → AreBytes rest → Reads (local_at b rest) (b ∷ rest)
   local_or_op_reads b rest fits =
@@ -370,7 +367,7 @@ module _ (arity : List ℕ → ℕ) (m : Mode) where
       (λ h. let p = and_parts (nat_le 96 b) (nat_le b 103) h in let low = leb-true 96 b p.0 in let high = leb-true b 103 p.1 in local_reads b (b - 96) rest (omega arith) (omega arith) fits)
       (λ h. either_way (nat_le 104 b && nat_le b 110) _ _ (b ∷ rest)
       (λ h. let p = and_parts (nat_le 104 b) (nat_le b 110) h in let low = leb-true 104 b p.0 in let high = leb-true b 110 p.1 in arg_reads b (b - 104) rest (omega arith) (omega arith) fits)
-      (λ h. operator_reads b (op_of b) rest refl fits))
+      (λ h. operator_reads (b ∷ []) (op_of (b ∷ [])) rest (b ∷ rest) refl refl fits))
 
   varpack_plain : IsPlain def_var_package 19
   varpack_plain = record { row = λ w n inside. refl; fits = λ w n inside enough f. record { takes = enough; is_standard = tt; owns = refl; fits = f } }

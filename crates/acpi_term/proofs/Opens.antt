@@ -8,7 +8,7 @@ use Rattle.acpi_base.specs.declared.error.Error.{Error}
 use Rattle.acpi_base.specs.Bytes.{le}
 use Rattle.acpi_base.specs.Number.{number_limit, number_bytes}
 use Rattle.acpi_term.specs.declared.op.Op.{Op}
-use Rattle.acpi_term.specs.declared.op.Op.TheVariants.{LNot, LEqual, LLess, LGreater, LAnd, LOr, Increment, Decrement, Break, ObjectType, SizeOf, Return, DeRefOf, Add, Concat, Subtract, Multiply, ShiftLeft, ShiftRight, And, Nand, Or, Nor, Xor, ConcatRes, Mod, Index, ToString, CreateDWordField, CreateQWordField, ToBuffer, ToInteger, Store, Notify, Mid, CreateField}
+use Rattle.acpi_term.specs.declared.op.Op.TheVariants.{CreateField}
 use Rattle.acpi_term.specs.declared.mode.Mode.{Mode}
 use Rattle.acpi_term.specs.Tree.{Entry, Head, number, ones, string, local, arg, call, def_scope, def_device, def_method, def_power_res, def_field, def_op_region, def_name, def_mutex, def_acquire, def_release, def_buffer, def_package, def_var_package, def_if, def_while, def_else, op}
 use Rattle.acpi_term.specs.Name.{is_segment, no_more, one_more, IsPath, single, double, multiple, IsName, relative, rooted}
@@ -140,42 +140,8 @@ module _ (arity : List ℕ → ℕ) (m : Mode) where
 
   op_opens : (o : Op) (rest : List ℕ) → open_at arity m (opcode o ++ rest) ≡ Ok (follows (op o) 0 (operands o) rest)
   unfolding open_at
-  op_opens LNot rest = refl
-  op_opens LEqual rest = refl
-  op_opens LLess rest = refl
-  op_opens LGreater rest = refl
-  op_opens LAnd rest = refl
-  op_opens LOr rest = refl
-  op_opens Increment rest = refl
-  op_opens Decrement rest = refl
-  op_opens Break rest = refl
-  op_opens ObjectType rest = refl
-  op_opens SizeOf rest = refl
-  op_opens Return rest = refl
-  op_opens DeRefOf rest = refl
-  op_opens Add rest = refl
-  op_opens Concat rest = refl
-  op_opens Subtract rest = refl
-  op_opens Multiply rest = refl
-  op_opens ShiftLeft rest = refl
-  op_opens ShiftRight rest = refl
-  op_opens And rest = refl
-  op_opens Nand rest = refl
-  op_opens Or rest = refl
-  op_opens Nor rest = refl
-  op_opens Xor rest = refl
-  op_opens ConcatRes rest = refl
-  op_opens Mod rest = refl
-  op_opens Index rest = refl
-  op_opens ToString rest = refl
-  op_opens CreateDWordField rest = refl
-  op_opens CreateQWordField rest = refl
-  op_opens ToBuffer rest = refl
-  op_opens ToInteger rest = refl
-  op_opens Store rest = refl
-  op_opens Notify rest = refl
-  op_opens Mid rest = refl
   op_opens CreateField rest = refl
+  op_opens o rest = refl
 
   -- a head that fits is opened where it is spelled; where it has no children, nothing is inside
   pub open_again : (h : Head) (w n : ℕ) (inside after : List ℕ) → IsLegal arity m h w n inside → (n ≡ 0 → inside ≡ []) → open_at arity m (spelled h w n inside ++ after) ≡ Ok (opened h w n inside after)

@@ -28,7 +28,8 @@ pub record IsCarried (h : Head) (w n : ℕ) (inside : List ℕ) : Type 0 where
 
 abbrev pub AreCarried : Terms → Type 0
 AreCarried end = Unit {0}
-AreCarried (term h w children others) = IsCarried h w (count children) (spelling children) × AreCarried children × AreCarried others
+AreCarried (term h w children others) = IsCarried h w (count children) (spelling children) × AreCarried children
+    × AreCarried others
 
 -- A refusal that isn't for want of memory: the entry's width doesn't carry its bits.
 pub record IsUnfit (e : Error) (entry : TermEntry) : Type 0 where

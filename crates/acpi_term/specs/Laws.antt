@@ -20,7 +20,8 @@ abbrev pub RowsMean : Type 0
 RowsMean =
     (arity : List ℕ → ℕ) (m : Mode) (h : Head) (objects : List Object) (ts : Terms)
     → Takes arity m h (length objects) → IsStandard h → IsWritten h → SpellEach arity (inner h) objects ts
-    → (row h objects).end ≡ None → Spells arity m (row h objects).front (one h (writer_width h (length objects) (all_of objects).front) ts)
+    → (row h objects).end ≡ None
+    → Spells arity m (row h objects).front (one h (writer_width h (length objects) (all_of objects).front) ts)
 
 -- The same round bytes that spell all children.
 abbrev pub RowsOverMean : Type 0
@@ -35,7 +36,8 @@ RowsOverMean =
 -- At most one list of terms is spelled, wherever the first stands, and no other bytes spell it.
 abbrev pub AtMostOneList : Type 0
 AtMostOneList =
-    ((arity : List ℕ → ℕ) (m : Mode) (bytes : List ℕ) (ts us : Terms) → Spells arity m bytes ts → Spells arity m bytes us → ts ≡ us)
+    ((arity : List ℕ → ℕ) (m : Mode) (bytes : List ℕ) (ts us : Terms) → Spells arity m bytes ts → Spells arity m bytes us
+    → ts ≡ us)
     × ((arity : List ℕ → ℕ) (m : Mode) (a b : List ℕ) (ts : Terms) → Spells arity m a ts → Spells arity m b ts → a ≡ b)
 
 -- Where two beginnings of the same bytes spell a term each, they are one beginning and one term.
@@ -52,7 +54,8 @@ SplitsAgree = (arity : List ℕ → ℕ) (m : Mode) (bytes : List ℕ) (ts : Ter
 
 -- A text of 1 to 255 standard segments names a name, and the path of that text, which is whole.
 abbrev pub NameTextsAreNames : Type 0
-NameTextsAreNames = (text : List ℕ) → is_name_text text ≡ true → IsName (path_spelling text) × ((path_of text).end ≡ None) × ((path_of text).front ≡ path_spelling text)
+NameTextsAreNames = (text : List ℕ) → is_name_text text ≡ true
+    → IsName (path_spelling text) × ((path_of text).end ≡ None) × ((path_of text).front ≡ path_spelling text)
 
 -- A text is its parts with dots between them, and no part has a dot.
 abbrev pub TextsAreTheirParts : Type 0
@@ -63,13 +66,15 @@ TextsAreTheirParts = (text : List ℕ) → (with_dots (parts text) ≡ text) × 
 -- The bytes of a value in a width have that value, and bytes that have a value are its bytes in their width.
 abbrev pub LengthsAreSpelled : Type 0
 LengthsAreSpelled =
-    ((w v : ℕ) → v < limit w → AreBytes (length_bytes w v) × (value (length_bytes w v) ≡ Some v) × (length (length_bytes w v) ≡ w))
+    ((w v : ℕ) → v < limit w → AreBytes (length_bytes w v) × (value (length_bytes w v) ≡ Some v)
+    × (length (length_bytes w v) ≡ w))
     × ((p : List ℕ) (v : ℕ) → AreBytes p → value p ≡ Some v → (v < limit (length p)) × (length_bytes (length p) v ≡ p))
 
 -- What frames a content are its lengths in the widths that fit it.
 abbrev pub FramesAreSpelled : Type 0
 FramesAreSpelled =
-    ((w : ℕ) (content : List ℕ) → FrameFits w content → (p : List ℕ) × Frames p content × (length p ≡ w) × (with_length w content ≡ p ++ content))
+    ((w : ℕ) (content : List ℕ) → FrameFits w content
+    → (p : List ℕ) × Frames p content × (length p ≡ w) × (with_length w content ≡ p ++ content))
     × ((p content : List ℕ) → Frames p content → FrameFits (length p) content × (with_length (length p) content ≡ p ++ content))
 
 -- The written frame fits, and nothing that frames the content is shorter. A content of 2^28 - 4 bytes or more has none.
@@ -80,17 +85,20 @@ FramesAreLeast =
 
 -- The first bytes of a frame have a value, which tells where it ends.
 abbrev pub FramesEndWithTheirContent : Type 0
-FramesEndWithTheirContent = (w : ℕ) (content : List ℕ) → FrameFits w content → value (length_bytes w (w + length content)) ≡ Some (length (with_length w content))
+FramesEndWithTheirContent = (w : ℕ) (content : List ℕ) → FrameFits w content
+    → value (length_bytes w (w + length content)) ≡ Some (length (with_length w content))
 
 -- A field entry's length is written in the least width that carries it and that width together, or in 4 bytes where none
 -- does. From 2^28 bits on it has no width.
 abbrev pub FieldLengthsAreLeast : Type 0
 FieldLengthsAreLeast =
-    ((bits : ℕ) → bits < 2 ^ 28 → bits < limit (least_width bits)) × ((bits w : ℕ) → w + bits < limit w → (least_width bits ≤ w) × (least_width bits + bits < limit (least_width bits)))
+    ((bits : ℕ) → bits < 2 ^ 28 → bits < limit (least_width bits))
+    × ((bits w : ℕ) → w + bits < limit w → (least_width bits ≤ w) × (least_width bits + bits < limit (least_width bits)))
     × ((bits : ℕ) → 2 ^ 28 ≤ 4 + bits → least_width bits ≡ 4) × ((bits w : ℕ) → bits < limit w → bits < 2 ^ 28)
 
 -- The written width carries the number, and no other that does is shorter. From 2^64 on there is none.
 abbrev pub NumbersAreLeast : Type 0
 NumbersAreLeast =
     ((v : ℕ) → v < 2 ^ 64 → v < number_limit (number_width v))
-    × ((v w : ℕ) → v < number_limit w → (v < 2 ^ 64) × (number_width v ≤ w) × (length (number_bytes v (number_width v)) ≤ length (number_bytes v w)))
+    × ((v w : ℕ) → v < number_limit w → (v < 2 ^ 64) × (number_width v ≤ w)
+    × (length (number_bytes v (number_width v)) ≤ length (number_bytes v w)))

@@ -1,5 +1,6 @@
 -- PkgLengths, and the lengths of field entries, which have the same form (ACPI 6.5, 20.2.4).
-use Rattle.std.specs.Prelude.{◌≡◌, ℕ, ◌+◌, ◌-◌, ◌*◌, ◌/◌, ◌%◌, ◌^◌, ◌<◌, ◌≤◌, ◌==◌, ◌&&◌, nat_lt, if◌then◌else◌, Option, Some, None, List, [], ◌∷◌, ◌++◌, length, take}
+use Rattle.std.specs.Prelude.{◌≡◌, ℕ, ◌+◌, ◌-◌, ◌*◌, ◌/◌, ◌%◌, ◌^◌, ◌<◌, ◌≤◌, ◌==◌, ◌&&◌, nat_lt}
+use Rattle.std.specs.Prelude.{if◌then◌else◌, Option, Some, None, List, [], ◌∷◌, ◌++◌, length, take}
 use Rattle.acpi_base.specs.Bytes.{AreBytes, le, carried}
 
 -- The value of a length. The top two bits of its lead byte count the bytes that follow. With none the lead byte is the
@@ -34,7 +35,11 @@ FrameFits w content = w + length content < limit w
 -- The width that is written: the least of 1 to 4 that can count itself and n, or 4. A field entry's length doesn't count
 -- itself, and yet takes this width.
 abbrev pub least_width : ℕ → ℕ
-least_width n = if nat_lt (1 + n) (limit 1) then 1 else (if nat_lt (2 + n) (limit 2) then 2 else (if nat_lt (3 + n) (limit 3) then 3 else 4))
+least_width n =
+    if nat_lt (1 + n) (limit 1) then 1
+    else (if nat_lt (2 + n) (limit 2) then 2
+    else (if nat_lt (3 + n) (limit 3) then 3
+    else 4))
 
 -- The first bytes are those of a value in this width.
 pub record StartsWithLength (width v : ℕ) (bytes : List ℕ) : Type 0 where

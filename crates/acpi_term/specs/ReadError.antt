@@ -1,5 +1,6 @@
 -- Why bytes couldn't be read.
-use Rattle.std.specs.Prelude.{ℕ, List, codes, Option, Some, None}
+use Rattle.std.specs.Prelude.{ℕ, List, ◌++◌, codes, Option, Some, None}
+use Rattle.std.specs.Fmt.{decimal}
 use Rattle.acpi_term.specs.declared.read_error.ReadError.{ReadError}
 use Rattle.acpi_term.specs.declared.read_error.ReadError.TheVariants as kinds
 
@@ -40,3 +41,30 @@ offset_of (kinds.TableLength offset) = Some offset
 offset_of (kinds.Sum offset) = Some offset
 offset_of (kinds.Structure offset) = Some offset
 offset_of (kinds.UnknownSource offset) = Some offset
+
+-- what is wrong
+abbrev pub message_of : ReadError → List ℕ
+message_of kinds.Memory = codes "out of memory"
+message_of (kinds.Truncated offset) = codes "the bytes end within a term"
+message_of (kinds.Opcode offset) = codes "no term begins so"
+message_of kinds.NameText = codes "a name is 1 to 255 standard segments, after a backslash or none"
+message_of (kinds.Length offset) = codes "a PkgLength doesn't fit what surrounds it"
+message_of (kinds.Number offset) = codes "a number isn't in its shortest form"
+message_of (kinds.Count offset) = codes "a count isn't the number of what it counts"
+message_of (kinds.Flags offset) = codes "flags have no meaning"
+message_of (kinds.Text offset) = codes "a string has a byte past 7F"
+message_of (kinds.TooDeep offset) = codes "terms nest too deep"
+message_of kinds.Arity = codes "a name is given arguments twice, or more than 7"
+message_of (kinds.ShortHeader offset) = codes "a table has at least the 36 bytes of the standard header"
+message_of (kinds.TableLength offset) = codes "the length of a table isn't the number of its bytes"
+message_of (kinds.Sum offset) = codes "the bytes of a table don't sum to zero"
+message_of (kinds.Structure offset) = codes "a structure isn't as long as it says"
+message_of (kinds.UnknownSource offset) = codes "the size of an error source isn't known"
+
+-- its text: at which offset, where it tells one, and what is wrong
+abbrev pub placed : Option ℕ → List ℕ → List ℕ
+placed (Some offset) message = codes "at offset " ++ decimal offset ++ codes ": " ++ message
+placed None message = message
+
+abbrev pub text_of : ReadError → List ℕ
+text_of error = placed (offset_of error) (message_of error)

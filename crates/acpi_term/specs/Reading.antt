@@ -1,14 +1,17 @@
 -- Reading terms from left to right, at most as deep as is said. It defines nothing: what is spelled is read, and what is
 -- read is spelled (`Again`, `Taken` in proofs/), which proves that bytes spell one list at most. It stands here since the
 -- program that reads is compared with it, part by part; what that program promises names the spelling alone.
-use Rattle.std.specs.Prelude.{ℕ, zero, suc, ◌+◌, ◌-◌, ◌*◌, ◌/◌, ◌%◌, ◌==◌, ◌&&◌, ◌||◌, nat_lt, nat_le, Bool, if◌then◌else◌, List, [], ◌∷◌, ◌++◌, length, take, drop, Option, Some, None, Result, Ok, Err}
+use Rattle.std.specs.Prelude.{ℕ, zero, suc, ◌+◌, ◌-◌, ◌*◌, ◌/◌, ◌%◌, ◌==◌, ◌&&◌, ◌||◌, nat_lt, nat_le, Bool}
+use Rattle.std.specs.Prelude.{if◌then◌else◌, List, [], ◌∷◌, ◌++◌, length, take, drop, Option, Some, None, Result, Ok, Err}
 use Rattle.acpi_term.specs.declared.op.Op.{Op}
-use Rattle.acpi_term.specs.declared.op.Op.TheVariants.{LNot, LEqual, LLess, LGreater, LAnd, LOr, Increment, Decrement, Break, ObjectType, SizeOf, Return, DeRefOf, Add, Concat, Subtract, Multiply, ShiftLeft, ShiftRight, And, Nand, Or, Nor, Xor, ConcatRes, Mod, Index, ToString, CreateDWordField, CreateQWordField, ToBuffer, ToInteger, Store, Notify, Mid, CreateField}
 use Rattle.acpi_term.specs.declared.mode.Mode.{Mode}
 use Rattle.acpi_term.specs.declared.mode.Mode.TheVariants.{Term, Element}
-use Rattle.acpi_term.specs.Tree.{Entry, named, reserved, Head, number, ones, string, local, arg, call, def_scope, def_device, def_method, def_power_res, def_field, def_op_region, def_name, def_mutex, def_acquire, def_release, def_buffer, def_package, def_var_package, def_if, def_while, def_else, op, Terms, end, term, count}
+use Rattle.acpi_term.specs.Tree.{Entry, named, reserved, Head, number, ones, string, local, arg, call}
+use Rattle.acpi_term.specs.Tree.{def_scope, def_device, def_method, def_power_res, def_field, def_op_region}
+use Rattle.acpi_term.specs.Tree.{def_name, def_mutex, def_acquire, def_release, def_buffer, def_package}
+use Rattle.acpi_term.specs.Tree.{def_var_package, def_if, def_while, def_else, op, Terms, end, term, count}
 use Rattle.acpi_term.specs.Name.{is_lead, is_segment}
-use Rattle.acpi_term.specs.Operator.{operands}
+use Rattle.acpi_term.specs.Operator.{operands, op_of}
 use Rattle.acpi_term.specs.Spelling.{arguments, inner, next}
 
 -- deeper than was asked for, or anything else
@@ -37,7 +40,9 @@ several_at (n ∷ rest) = if nat_lt n 3 then Err Bad else (segments_at n rest >>
 
 unfoldable pub path_at : List ℕ → Result (List ℕ × List ℕ) Fault
 path_at [] = Err Bad
-path_at (b ∷ rest) = if b == 0x2e then (segment_at rest >>= λ s. segment_at s.1 >>= λ t. Ok (0x2e ∷ s.0 ++ t.0, t.1)) else (if b == 0x2f then several_at rest else segment_at (b ∷ rest))
+path_at (b ∷ rest) =
+    if b == 0x2e then (segment_at rest >>= λ s. segment_at s.1 >>= λ t. Ok (0x2e ∷ s.0 ++ t.0, t.1))
+    else (if b == 0x2f then several_at rest else segment_at (b ∷ rest))
 
 unfoldable pub name_at : List ℕ → Result (List ℕ × List ℕ) Fault
 name_at [] = Err Bad
@@ -73,7 +78,9 @@ frame_at bytes = length_at bytes >>= λ l. sized_at l.0 l.1 l.2
 
 unfoldable pub entry_at : List ℕ → Result (Entry × List ℕ) Fault
 entry_at [] = Err Bad
-entry_at (b ∷ rest) = if b == 0x00 then (length_at rest >>= λ l. Ok (reserved l.1 l.0, l.2)) else (segment_at (b ∷ rest) >>= λ s. length_at s.1 >>= λ l. Ok (named s.0 l.1 l.0, l.2))
+entry_at (b ∷ rest) =
+    if b == 0x00 then (length_at rest >>= λ l. Ok (reserved l.1 l.0, l.2))
+    else (segment_at (b ∷ rest) >>= λ s. length_at s.1 >>= λ l. Ok (named s.0 l.1 l.0, l.2))
 
 -- all of the bytes, which are at most n
 unfoldable pub entries_at : ℕ → List ℕ → Result (List Entry) Fault
@@ -86,7 +93,9 @@ entries_at (suc n) (b ∷ bytes) = entry_at (b ∷ bytes) >>= λ e. entries_at n
 -- the bytes up to a zero, which is left out, and the bytes after it
 unfoldable pub text_at : List ℕ → Result (List ℕ × List ℕ) Fault
 text_at [] = Err Bad
-text_at (b ∷ rest) = if b == 0x00 then Ok ([], rest) else (if nat_lt b 0x80 then (text_at rest >>= λ t. Ok (b ∷ t.0, t.1)) else Err Bad)
+text_at (b ∷ rest) =
+    if b == 0x00 then Ok ([], rest)
+    else (if nat_lt b 0x80 then (text_at rest >>= λ t. Ok (b ∷ t.0, t.1)) else Err Bad)
 
 -- ---- heads
 
@@ -100,45 +109,6 @@ pub data Opened : Type 0 where
   packs : ℕ → ℕ → List ℕ → List ℕ → Opened
   -- a buffer's width, and a size and the other bytes inside
   begins : ℕ → List ℕ → List ℕ → Opened
-
-abbrev pub op_of : ℕ → Option Op
-op_of b =
-    if b == 0x92 then Some LNot
-    else (if b == 0x93 then Some LEqual
-    else (if b == 0x95 then Some LLess
-    else (if b == 0x94 then Some LGreater
-    else (if b == 0x90 then Some LAnd
-    else (if b == 0x91 then Some LOr
-    else (if b == 0x75 then Some Increment
-    else (if b == 0x76 then Some Decrement
-    else (if b == 0xa5 then Some Break
-    else (if b == 0x8e then Some ObjectType
-    else (if b == 0x87 then Some SizeOf
-    else (if b == 0xa4 then Some Return
-    else (if b == 0x83 then Some DeRefOf
-    else (if b == 0x72 then Some Add
-    else (if b == 0x73 then Some Concat
-    else (if b == 0x74 then Some Subtract
-    else (if b == 0x77 then Some Multiply
-    else (if b == 0x79 then Some ShiftLeft
-    else (if b == 0x7a then Some ShiftRight
-    else (if b == 0x7b then Some And
-    else (if b == 0x7c then Some Nand
-    else (if b == 0x7d then Some Or
-    else (if b == 0x7e then Some Nor
-    else (if b == 0x7f then Some Xor
-    else (if b == 0x84 then Some ConcatRes
-    else (if b == 0x85 then Some Mod
-    else (if b == 0x88 then Some Index
-    else (if b == 0x9c then Some ToString
-    else (if b == 0x8a then Some CreateDWordField
-    else (if b == 0x8f then Some CreateQWordField
-    else (if b == 0x96 then Some ToBuffer
-    else (if b == 0x99 then Some ToInteger
-    else (if b == 0x70 then Some Store
-    else (if b == 0x86 then Some Notify
-    else (if b == 0x9e then Some Mid
-    else None))))))))))))))))))))))))))))))))))
 
 abbrev pub begins_name : ℕ → Bool
 begins_name b = is_lead b || b == 0x2e || b == 0x2f || b == 0x5c
@@ -188,7 +158,8 @@ device_inside w name inside after = Ok (fills (def_device name) w inside after)
 
 abbrev pub method_inside : Inside
 method_inside w name [] after = Err Bad
-method_inside w name (flags ∷ inside) after = if nat_lt flags 16 then Ok (fills (def_method name (flags % 8) (nat_le 8 flags)) w inside after) else Err Bad
+method_inside w name (flags ∷ inside) after =
+    if nat_lt flags 16 then Ok (fills (def_method name (flags % 8) (nat_le 8 flags)) w inside after) else Err Bad
 
 abbrev pub power_inside : Inside
 power_inside w name [] after = Err Bad
@@ -196,7 +167,10 @@ power_inside w name (level ∷ rest) after = high_at 2 rest >>= λ h. Ok (fills 
 
 abbrev pub field_inside : Inside
 field_inside w name [] after = Err Bad
-field_inside w name (b ∷ rest) after = if nat_lt (b % 16) 6 then (if nat_lt b 96 then (entries_at (length rest) rest >>= λ e. Ok (follows (def_field name (b % 16) (b / 16 % 2) (b / 32) e) w 0 after)) else Err Bad) else Err Bad
+field_inside w name (b ∷ rest) after =
+    if nat_lt (b % 16) 6 then (if nat_lt b 96 then (
+    entries_at (length rest) rest >>= λ e. Ok (follows (def_field name (b % 16) (b / 16 % 2) (b / 32) e) w 0 after))
+    else Err Bad) else Err Bad
 
 -- a frame with nothing of its own
 abbrev pub plain_at : Head → List ℕ → Result Opened Fault
@@ -221,18 +195,19 @@ abbrev pub extended_at : List ℕ → Result Opened Fault
 extended_at [] = Err Bad
 extended_at (b ∷ rest) =
     if b == 0x01 then named_at mutex_after rest
-    else (if b == 0x13 then operator_at (Some CreateField) rest
     else (if b == 0x23 then named_at acquire_after rest
     else (if b == 0x27 then named_at release_after rest
     else (if b == 0x80 then named_at region_after rest
     else (if b == 0x81 then framed_at field_inside rest
     else (if b == 0x82 then framed_at device_inside rest
     else (if b == 0x84 then framed_at power_inside rest
-    else Err Bad)))))))
+    else operator_at (op_of (0x5b ∷ b ∷ [])) rest))))))
 
 abbrev pub local_at : ℕ → List ℕ → Result Opened Fault
 local_at b rest =
-    if nat_le 0x60 b && nat_le b 0x67 then Ok (follows (local (b - 0x60)) 0 0 rest) else (if nat_le 0x68 b && nat_le b 0x6e then Ok (follows (arg (b - 0x68)) 0 0 rest) else operator_at (op_of b) rest)
+    if nat_le 0x60 b && nat_le b 0x67 then Ok (follows (local (b - 0x60)) 0 0 rest)
+    else (if nat_le 0x68 b && nat_le b 0x6e then Ok (follows (arg (b - 0x68)) 0 0 rest)
+    else operator_at (op_of (b ∷ [])) rest)
 
 abbrev pub opcode_at : ℕ → List ℕ → Result Opened Fault
 opcode_at b rest =
@@ -258,7 +233,9 @@ opcode_at b rest =
 module _ (arity : List ℕ → ℕ) where
   unfoldable pub open_at : Mode → List ℕ → Result Opened Fault
   open_at m [] = Err Bad
-  open_at m (b ∷ rest) = if begins_name b then (name_at (b ∷ rest) >>= λ n. Ok (follows (call n.0) 0 (arguments arity m n.0) n.1)) else opcode_at b rest
+  open_at m (b ∷ rest) =
+      if begins_name b then (name_at (b ∷ rest) >>= λ n. Ok (follows (call n.0) 0 (arguments arity m n.0) n.1))
+      else opcode_at b rest
 
 -- ---- terms
 
@@ -298,7 +275,8 @@ module _ (read : Reader) where
 
   unfoldable pub close : Opened → Result (Head × ℕ × Terms × List ℕ) Fault
   close (follows h w n rest) = counted n (inner h) rest >>= λ c. Ok (h, w, c.0, c.1)
-  close (fills h w inside after) = all_of (length inside) (inner h) inside >>= λ c. assembled h w c >>= λ t. Ok (t.0, t.1, t.2, after)
+  close (fills h w inside after) =
+      all_of (length inside) (inner h) inside >>= λ c. assembled h w c >>= λ t. Ok (t.0, t.1, t.2, after)
   close (packs w n inside after) = counted n Element inside >>= λ c. wants_no_more def_package w c.0 c.1 after
   close (begins w inside after) = counted 1 Term inside >>= λ c. Ok (def_buffer c.1, w, c.0, after)
 

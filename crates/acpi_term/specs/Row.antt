@@ -1,11 +1,14 @@
 -- The rows of AML's format: what stands round the bytes of a term's children, and when a term is refused.
-use Rattle.std.specs.Prelude.{ℕ, ◌+◌, ◌*◌, ◌^◌, nat_lt, nat_le, Bool, if◌then◌else◌, List, [], ◌∷◌, ◌++◌, length, Option, Some, None}
+use Rattle.std.specs.Prelude.{ℕ, ◌+◌, ◌*◌, ◌^◌, nat_lt, nat_le, Bool, if◌then◌else◌}
+use Rattle.std.specs.Prelude.{List, [], ◌∷◌, ◌++◌, length, Option, Some, None}
 use Rattle.acpi_base.specs.declared.error.Error.{Error}
 use Rattle.acpi_base.specs.declared.error.Error.TheVariants.{ArgNumber, LocalNumber, MethodArgs, PackageElements, PkgLength}
 use Rattle.acpi_base.specs.Bytes.{le}
 use Rattle.acpi_base.specs.Number.{number_bytes, number_width}
 use Rattle.acpi_base.specs.Object.{Object, whole, all_of, ended}
-use Rattle.acpi_term.specs.Tree.{Entry, named, reserved, Head, number, ones, string, local, arg, call, def_scope, def_device, def_method, def_power_res, def_field, def_op_region, def_name, def_mutex, def_acquire, def_release, def_buffer, def_package, def_var_package, def_if, def_while, def_else, op}
+use Rattle.acpi_term.specs.Tree.{Entry, named, reserved, Head, number, ones, string, local, arg, call, def_scope, def_device}
+use Rattle.acpi_term.specs.Tree.{def_method, def_power_res, def_field, def_op_region, def_name, def_mutex, def_acquire}
+use Rattle.acpi_term.specs.Tree.{def_release, def_buffer, def_package, def_var_package, def_if, def_while, def_else, op}
 use Rattle.acpi_term.specs.Length.{least_width, length_bytes, with_length}
 use Rattle.acpi_term.specs.Operator.{opcode}
 
@@ -83,7 +86,8 @@ layout (def_scope name) w n = framed (0x10 ∷ []) name []
 layout (def_device name) w n = framed (0x5b ∷ 0x82 ∷ []) name []
 layout (def_method name args serialized) w n = framed (0x14 ∷ []) (name ++ method_flags args serialized ∷ []) []
 layout (def_power_res name level order) w n = framed (0x5b ∷ 0x84 ∷ []) (name ++ level ∷ le 2 order) []
-layout (def_field name access lock update entries) w n = framed (0x5b ∷ 0x81 ∷ []) (name ++ field_flags access lock update ∷ entries_bytes entries) []
+layout (def_field name access lock update entries) w n = framed (0x5b ∷ 0x81 ∷ []) (name
+    ++ field_flags access lock update ∷ entries_bytes entries) []
 layout (def_op_region name space) w n = bare (0x5b ∷ 0x80 ∷ name ++ space ∷ [])
 layout (def_name name) w n = bare (0x08 ∷ name)
 layout (def_mutex name level) w n = bare (0x5b ∷ 0x01 ∷ name ++ level ∷ [])

@@ -5,7 +5,10 @@ use Rattle.acpi_base.specs.Number.{number_limit}
 use Rattle.acpi_base.specs.Object.{Object}
 use Rattle.acpi_term.specs.declared.mode.Mode.{Mode}
 use Rattle.acpi_term.specs.declared.mode.Mode.TheVariants.{Term, Element, Count}
-use Rattle.acpi_term.specs.Tree.{Entry, named, reserved, Head, number, string, call, def_scope, def_device, def_method, def_power_res, def_field, def_op_region, def_name, def_mutex, def_acquire, def_release, def_buffer, def_package, def_var_package, def_if, def_while, def_else, op, Terms, end, term, count, one}
+use Rattle.acpi_term.specs.Tree.{Entry, named, reserved, Head, number, string, call, def_scope, def_device}
+use Rattle.acpi_term.specs.Tree.{def_method, def_power_res, def_field, def_op_region, def_name, def_mutex}
+use Rattle.acpi_term.specs.Tree.{def_acquire, def_release, def_buffer, def_package, def_var_package}
+use Rattle.acpi_term.specs.Tree.{def_if, def_while, def_else, op, Terms, end, term, count, one}
 use Rattle.acpi_term.specs.Name.{AreSegments, IsName, IsText}
 use Rattle.acpi_term.specs.Length.{limit, least_width, with_length, FrameFits}
 use Rattle.acpi_term.specs.Operator.{operands}
@@ -86,7 +89,8 @@ LayoutFits (framed code before after) w inside = FrameFits w (before ++ (inside 
 -- A number's width carries it, and a frame's length counts itself and the content. Any other head has the width 0.
 abbrev pub HeadFits : Head → ℕ → ℕ → List ℕ → Type 0
 HeadFits (number v) w n inside = v < number_limit w
-HeadFits (def_field name access lock update entries) w n inside = EntriesFit entries × LayoutFits (layout (def_field name access lock update entries) w n) w inside
+HeadFits (def_field name access lock update entries) w n inside = EntriesFit entries
+    × LayoutFits (layout (def_field name access lock update entries) w n) w inside
 HeadFits h w n inside = LayoutFits (layout h w n) w inside
 
 -- the widths that a head itself holds are those that are written
@@ -129,7 +133,8 @@ module _ (arity : List ℕ → ℕ) where
   -- the terms have a spelling, where the first stands in that mode
   abbrev pub AreLegal : Mode → Terms → Type 0
   AreLegal m end = Unit {0}
-  AreLegal m (term h w children others) = IsLegal m h w (count children) (spelling children) × AreLegal (inner h) children × AreLegal (next m) others
+  AreLegal m (term h w children others) = IsLegal m h w (count children) (spelling children) × AreLegal (inner h) children
+      × AreLegal (next m) others
 
 -- the bytes spell these terms, where the first stands in that mode
 abbrev pub Spells : (List ℕ → ℕ) → Mode → List ℕ → Terms → Type 0
@@ -138,6 +143,7 @@ Spells arity m bytes ts = AreLegal arity m ts × (bytes ≡ spelling ts)
 -- the objects spell a term each, where the first stands in that mode
 abbrev pub SpellEach : (List ℕ → ℕ) → Mode → List Object → Terms → Type 0
 SpellEach arity m [] end = Unit {0}
-SpellEach arity m (o ∷ objects) (term h w children others) = Spells arity m o.front (one h w children) × SpellEach arity (next m) objects others
+SpellEach arity m (o ∷ objects) (term h w children others) = Spells arity m o.front (one h w children)
+    × SpellEach arity (next m) objects others
 SpellEach arity m [] (term h w children others) = ⊥
 SpellEach arity m (o ∷ objects) end = ⊥

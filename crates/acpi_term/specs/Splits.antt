@@ -9,5 +9,6 @@ use Rattle.acpi_term.specs.Spelling.{spelled, inner, next, IsLegal}
 abbrev pub Splits : (List ℕ → ℕ) → Mode → List ℕ → Terms → Type 0
 Splits arity m bytes end = bytes ≡ []
 Splits arity m bytes (term h w children others) =
-    (first rest inside : List ℕ) × (bytes ≡ first ++ rest) × (first ≡ spelled h w (count children) inside) × IsLegal arity m h w (count children) inside
+    (first rest inside : List ℕ) × (bytes ≡ first ++ rest) × (first ≡ spelled h w (count children) inside)
+    × IsLegal arity m h w (count children) inside
     × Splits arity (inner h) inside children × Splits arity (next m) rest others

@@ -1,6 +1,9 @@
 -- The terms that values of the code stand for.
 use Rattle.std.specs.Prelude.{◌≡◌, ℕ, List, [], ◌∷◌, ◌++◌, map, string_bytes}
-use Rattle.acpi_term.specs.Tree.{Entry, named, reserved, Head, number, ones, string, local, arg, call, def_scope, def_device, def_method, def_power_res, def_field, def_op_region, def_name, def_mutex, def_acquire, def_release, def_buffer, def_package, def_var_package, def_if, def_while, def_else, op, Terms, end, term, one}
+use Rattle.acpi_term.specs.Tree.{Entry, named, reserved, Head, number, ones, string, local, arg, call}
+use Rattle.acpi_term.specs.Tree.{def_scope, def_device, def_method, def_power_res, def_field, def_op_region}
+use Rattle.acpi_term.specs.Tree.{def_name, def_mutex, def_acquire, def_release, def_buffer, def_package}
+use Rattle.acpi_term.specs.Tree.{def_var_package, def_if, def_while, def_else, op, Terms, end, term, one}
 use Rattle.acpi_term.specs.declared.term.TermEntry.{TermEntry}
 use Rattle.acpi_term.specs.declared.term.TermEntry.TheVariants.{Named, Reserved}
 use Rattle.acpi_term.specs.declared.term.Term.{Term}
@@ -32,7 +35,8 @@ view_step (Term-F.Scope width name body) = (def_scope name, width, listed body.i
 view_step (Term-F.Device width name body) = (def_device name, width, listed body.items)
 view_step (Term-F.Method width name args serialized body) = (def_method name args serialized, width, listed body.items)
 view_step (Term-F.PowerResource width name level order body) = (def_power_res name level order, width, listed body.items)
-view_step (Term-F.Field width name access lock update entries) = (def_field name access lock update (map entry_view entries.items), width, end)
+view_step (Term-F.Field width name access lock update entries) =
+    (def_field name access lock update (map entry_view entries.items), width, end)
 view_step (Term-F.OpRegion name space offset size) = (def_op_region name space, 0, listed (offset.value ∷ size.value ∷ []))
 view_step (Term-F.Name name value) = (def_name name, 0, listed (value.value ∷ []))
 view_step (Term-F.Mutex name level) = (def_mutex name level, 0, end)

@@ -4,7 +4,9 @@ ghost use Rattle.std.specs.Prelude.{◌≡◌, List, true};
 ghost use Rattle.std.specs.Cmp.Lexicographic.{pointwise};
 ghost use Rattle.acpi_term.specs.declared.term.Term.{Term};
 ghost use Rattle.acpi_term.specs.View.{views};
-ghost use Rattle.acpi_term.specs.Laws.{RowsMean, RowsOverMean, AtMostOneList, AtMostOneFront, SplitsAgree, NameTextsAreNames, TextsAreTheirParts, LengthsAreSpelled, FramesAreSpelled, FramesAreLeast, FramesEndWithTheirContent, FieldLengthsAreLeast, NumbersAreLeast};
+ghost use Rattle.acpi_term.specs.Laws.{RowsMean, RowsOverMean, AtMostOneList, AtMostOneFront, SplitsAgree};
+ghost use Rattle.acpi_term.specs.Laws.{NameTextsAreNames, TextsAreTheirParts, LengthsAreSpelled, FramesAreSpelled};
+ghost use Rattle.acpi_term.specs.Laws.{FramesAreLeast, FramesEndWithTheirContent, FieldLengthsAreLeast, NumbersAreLeast};
 
 /// A whole row spells its term over the terms of its children.
 pub fn rows_mean()

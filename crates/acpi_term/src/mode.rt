@@ -1,6 +1,7 @@
 //! Where a term stands.
 
 ghost use Rattle.std.specs.Prelude.{◌≡◌};
+ghost use Rattle.acpi_term.specs.Spelling.{next};
 
 /// Where a term stands, which says how many arguments follow a name.
 #[derive(Clone, Copy, Debug, PartialEq, Eq)]
@@ -14,8 +15,6 @@ pub enum Mode {
 }
 
 impl Mode {
-    ghost use Rattle.acpi_term.specs.Spelling.{next};
-
     /// Where the terms after it stand.
     pub fn next(self) -> Mode
         ensures { result ≡ next self }

@@ -8,6 +8,8 @@ ghost use Rattle.acpi_term.specs.Name.{IsName};
 ghost use Rattle.acpi_term.specs.PathText.{parts, are_standard, path_spelling, is_name_text};
 ghost use Rattle.acpi_term.specs.Arity.{is_stated, are_arities, arity};
 ghost use Rattle.acpi_term.specs.Spelling.{arguments};
+ghost use Rattle.std.specs.Cmp.{partial_equiv_from_equiv};
+ghost use Rattle.std.specs.Cmp.Lexicographic.{nat_list_eq_equiv};
 
 use crate::mode::Mode;
 use crate::path_text::{path_bytes, split_root};
@@ -41,7 +43,7 @@ impl Model for NameString {
 impl NameString {
     /// The name of a text: a `\` or none, and then 1 to 255 standard segments between dots. Refused by NameText where it
     /// isn't one.
-    #[tactic(auto, using(crate::proofs::NameTexts::no_name, crate::proofs::NameTexts::nonstandard, crate::proofs::NameTexts::is_name, crate::proofs::NameTexts::is_text))]
+    #[tactic(auto, using(crate::proofs::NameTexts::no_name, crate::proofs::NameTexts::nonstandard, crate::proofs::NameTexts::is_name, crate::proofs::NameTexts::is_text,))]
     pub fn new(alloc: Global, text: &str) -> Result<NameString, ReadError>
         ensures ok { IfOk result (λ name. name ≡ path_spelling text.now) }
         ensures standard { OnOk result (is_name_text text.now ≡ true) }
@@ -93,9 +95,6 @@ fn hold(alloc: Global, bytes: &[u8]) -> Result<NameBytes, AllocError>
 
 /// Names are equal where their bytes are.
 impl PartialEq for NameString {
-    ghost use Rattle.std.specs.Cmp.{partial_equiv_from_equiv};
-    ghost use Rattle.std.specs.Cmp.Lexicographic.{nat_list_eq_equiv};
-
     ghost eq = { pointwise nat_eq };
 
     ghost laws = { partial_equiv_from_equiv nat_list_eq_equiv };

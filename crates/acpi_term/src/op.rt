@@ -1,6 +1,7 @@
 //! Operators.
 
 ghost use Rattle.std.specs.Prelude.{◌≡◌};
+ghost use Rattle.acpi_term.specs.Operator.{opcode, operands, word, op_of};
 
 /// An operator (ACPI 6.5, 20.2.5). The comparisons `NotEqual`, `LessEqual` and `GreaterEqual` are an `LNot` of another.
 #[derive(Clone, Copy, Debug, PartialEq, Eq)]
@@ -43,93 +44,101 @@ pub enum Op {
     CreateField,
 }
 
-impl Op {
-    ghost use Rattle.acpi_term.specs.Operator.{opcode, operands};
+/// Every operator: its opcode (ACPI 6.5, 20.3), how many operands follow, a target counted (20.2.5), and its word in a report.
+macro_rules! operators {
+    ($wanted:ident of $subject:expr) => {
+        look_up! { $wanted $subject;
+            LNot [0x92] 1 "lnot"
+            LEqual [0x93] 2 "lequal"
+            LLess [0x95] 2 "lless"
+            LGreater [0x94] 2 "lgreater"
+            LAnd [0x90] 2 "land"
+            LOr [0x91] 2 "lor"
+            Increment [0x75] 1 "increment"
+            Decrement [0x76] 1 "decrement"
+            Break [0xa5] 0 "break"
+            ObjectType [0x8e] 1 "objecttype"
+            SizeOf [0x87] 1 "sizeof"
+            Return [0xa4] 1 "return"
+            DeRefOf [0x83] 1 "derefof"
+            Add [0x72] 3 "add"
+            Concat [0x73] 3 "concat"
+            Subtract [0x74] 3 "subtract"
+            Multiply [0x77] 3 "multiply"
+            ShiftLeft [0x79] 3 "shiftleft"
+            ShiftRight [0x7a] 3 "shiftright"
+            And [0x7b] 3 "and"
+            Nand [0x7c] 3 "nand"
+            Or [0x7d] 3 "or"
+            Nor [0x7e] 3 "nor"
+            Xor [0x7f] 3 "xor"
+            ConcatRes [0x84] 3 "concatres"
+            Mod [0x85] 3 "mod"
+            Index [0x88] 3 "index"
+            ToString [0x9c] 3 "tostring"
+            CreateDWordField [0x8a] 3 "createdwordfield"
+            CreateQWordField [0x8f] 3 "createqwordfield"
+            ToBuffer [0x96] 2 "tobuffer"
+            ToInteger [0x99] 2 "tointeger"
+            Store [0x70] 2 "store"
+            Notify [0x86] 2 "notify"
+            Mid [0x9e] 4 "mid"
+            CreateField [0x5b, 0x13] 4 "createfield"
+        }
+    };
+}
 
+/// What is wanted of one of these rows.
+macro_rules! look_up {
+    (code $op:expr; $($name:ident $code:tt $operands:literal $word:literal)*) => {
+        match $op {
+            $(Op::$name => &$code,)*
+        }
+    };
+    (operands $op:expr; $($name:ident $code:tt $operands:literal $word:literal)*) => {
+        match $op {
+            $(Op::$name => $operands,)*
+        }
+    };
+    (word $op:expr; $($name:ident $code:tt $operands:literal $word:literal)*) => {
+        match $op {
+            $(Op::$name => $word,)*
+        }
+    };
+    (operator $bytes:expr; $($name:ident $code:tt $operands:literal $word:literal)*) => {
+        match $bytes {
+            $($code => Some(Op::$name),)*
+            _ => None,
+        }
+    };
+}
+
+impl Op {
     /// The opcode's bytes (ACPI 6.5, 20.3).
     pub fn code(self) -> &'static [u8]
         ensures { result.now ≡ opcode self }
     {
-        match self {
-            Op::LNot => &[0x92],
-            Op::LEqual => &[0x93],
-            Op::LLess => &[0x95],
-            Op::LGreater => &[0x94],
-            Op::LAnd => &[0x90],
-            Op::LOr => &[0x91],
-            Op::Increment => &[0x75],
-            Op::Decrement => &[0x76],
-            Op::Break => &[0xa5],
-            Op::ObjectType => &[0x8e],
-            Op::SizeOf => &[0x87],
-            Op::Return => &[0xa4],
-            Op::DeRefOf => &[0x83],
-            Op::Add => &[0x72],
-            Op::Concat => &[0x73],
-            Op::Subtract => &[0x74],
-            Op::Multiply => &[0x77],
-            Op::ShiftLeft => &[0x79],
-            Op::ShiftRight => &[0x7a],
-            Op::And => &[0x7b],
-            Op::Nand => &[0x7c],
-            Op::Or => &[0x7d],
-            Op::Nor => &[0x7e],
-            Op::Xor => &[0x7f],
-            Op::ConcatRes => &[0x84],
-            Op::Mod => &[0x85],
-            Op::Index => &[0x88],
-            Op::ToString => &[0x9c],
-            Op::CreateDWordField => &[0x8a],
-            Op::CreateQWordField => &[0x8f],
-            Op::ToBuffer => &[0x96],
-            Op::ToInteger => &[0x99],
-            Op::Store => &[0x70],
-            Op::Notify => &[0x86],
-            Op::Mid => &[0x9e],
-            Op::CreateField => &[0x5b, 0x13],
-        }
+        operators!(code of self)
     }
 
     /// How many operands follow (ACPI 6.5, 20.2.5), a target counted.
     pub fn operands(self) -> u8
         ensures { result ≡ operands self }
     {
-        match self {
-            Op::Break => 0,
-            Op::LNot
-            | Op::Increment
-            | Op::Decrement
-            | Op::ObjectType
-            | Op::SizeOf
-            | Op::Return
-            | Op::DeRefOf => 1,
-            Op::LEqual
-            | Op::LLess
-            | Op::LGreater
-            | Op::LAnd
-            | Op::LOr
-            | Op::ToBuffer
-            | Op::ToInteger
-            | Op::Store
-            | Op::Notify => 2,
-            Op::Add
-            | Op::Concat
-            | Op::Subtract
-            | Op::Multiply
-            | Op::ShiftLeft
-            | Op::ShiftRight
-            | Op::And
-            | Op::Nand
-            | Op::Or
-            | Op::Nor
-            | Op::Xor
-            | Op::ConcatRes
-            | Op::Mod
-            | Op::Index
-            | Op::ToString
-            | Op::CreateDWordField
-            | Op::CreateQWordField => 3,
-            Op::Mid | Op::CreateField => 4,
-        }
+        operators!(operands of self)
+    }
+
+    /// What a report's line says of it.
+    pub fn word(self) -> &'static str
+        ensures { result.now ≡ word self }
+    {
+        operators!(word of self)
+    }
+
+    /// The operator whose opcode these bytes are, if there is one.
+    pub fn from_code(bytes: &[u8]) -> Option<Op>
+        ensures { result ≡ op_of bytes.now }
+    {
+        operators!(operator of bytes)
     }
 }

@@ -49,7 +49,7 @@ fn dotted(a: u8, b: u8, c: u8, d: u8) -> bool
 }
 
 /// Adds the parts of four bytes between dots, and tells how many there are.
-#[tactic(auto, using(crate::proofs::PathTexts::short, crate::proofs::PathTexts::dots, crate::proofs::PathTexts::last, crate::proofs::PathTexts::long, crate::proofs::PathTexts::step))]
+#[tactic(auto, using(crate::proofs::PathTexts::short, crate::proofs::PathTexts::dots, crate::proofs::PathTexts::last, crate::proofs::PathTexts::long, crate::proofs::PathTexts::step,))]
 fn read_segments(text: &[u8], segments: &mut Vec<u8>) -> R<usize>
     ensures added { OnOk result (segments.new.items ≡ segments.old.items ++ concat (parts text.now)) }
     ensures count { IfOk result (λ n. n ≡ length (parts text.now)) }

@@ -1,9 +1,12 @@
 //! Why bytes couldn't be read.
 
-ghost use Rattle.std.specs.Prelude.{◌≡◌};
+ghost use Rattle.std.specs.Prelude.{◌≡◌, Some};
+ghost use Rattle.acpi_term.specs.ReadError.{text_of};
 ghost use Rattle.acpi_term.specs.declared.read_error.ReadError.TheVariants.{Memory};
+ghost use Rattle.acpi_term.specs.ReadError.{name_of, offset_of, message_of};
 
 use std::alloc::{AllocError, AllocFailed};
+use std::fmt;
 
 /// Why bytes couldn't be read, and at which offset. Of several faults any may be told.
 #[derive(Clone, Copy, Debug, PartialEq)]
@@ -43,8 +46,6 @@ pub enum ReadError {
 }
 
 impl ReadError {
-    ghost use Rattle.acpi_term.specs.ReadError.{name_of, offset_of};
-
     /// The kind's name.
     pub fn name(self) -> &'static str
         ensures { result.now ≡ name_of self }
@@ -90,7 +91,47 @@ impl ReadError {
             | ReadError::UnknownSource(offset) => Some(offset),
         }
     }
+
+    // What is wrong.
+    fn message(self) -> &'static str
+        ensures { result.now ≡ message_of self }
+    {
+        match self {
+            ReadError::Memory => "out of memory",
+            ReadError::Truncated(_) => "the bytes end within a term",
+            ReadError::Opcode(_) => "no term begins so",
+            ReadError::NameText =>
+                "a name is 1 to 255 standard segments, after a backslash or none",
+            ReadError::Length(_) => "a PkgLength doesn't fit what surrounds it",
+            ReadError::Number(_) => "a number isn't in its shortest form",
+            ReadError::Count(_) => "a count isn't the number of what it counts",
+            ReadError::Flags(_) => "flags have no meaning",
+            ReadError::Text(_) => "a string has a byte past 7F",
+            ReadError::TooDeep(_) => "terms nest too deep",
+            ReadError::Arity => "a name is given arguments twice, or more than 7",
+            ReadError::ShortHeader(_) => "a table has at least the 36 bytes of the standard header",
+            ReadError::TableLength(_) => "the length of a table isn't the number of its bytes",
+            ReadError::Sum(_) => "the bytes of a table don't sum to zero",
+            ReadError::Structure(_) => "a structure isn't as long as it says",
+            ReadError::UnknownSource(_) => "the size of an error source isn't known",
+        }
+    }
 }
+
+/// What the error says, and at which offset, for the user of a program.
+impl fmt::Display for ReadError {
+    ghost output = { λ error. Some (text_of error) };
+
+    fn fmt<W: fmt::Write>(&self, f: &mut fmt::Formatter<W>) -> fmt::Result {
+        let message = self.message();
+        match self.offset() {
+            Some(offset) => write!(f, "at offset {offset}: {message}"),
+            None => write!(f, "{message}"),
+        }
+    }
+}
+
+impl std::error::Error for ReadError {}
 
 impl From<AllocError> for ReadError {
     ghost from_gives = { λ _ e. e ≡ Memory };

@@ -1,6 +1,7 @@
 //! The making of rows.
 
-ghost use Rattle.std.specs.Prelude.{◌≡◌, ◌≤◌, ◌<◌, ◌+◌, ◌-◌, ◌^◌, [], ◌∷◌, ◌++◌, length, take, drop, map, OnOk, IfOk, IfErr, None, Some};
+ghost use Rattle.std.specs.Prelude.{◌≡◌, ◌≤◌, ◌<◌, ◌+◌, ◌-◌, ◌^◌, [], ◌∷◌, ◌++◌, length};
+ghost use Rattle.std.specs.Prelude.{take, drop, map, OnOk, IfOk, IfErr, None, Some};
 ghost use Rattle.acpi_base.specs.Object.{all_of};
 ghost use Rattle.acpi_term.specs.Made.{Makes};
 ghost use Rattle.acpi_term.specs.Length.{limit, least_width, StartsWithLength};
@@ -28,7 +29,7 @@ pub fn least_width(n: usize) -> u8
 }
 
 /// A value as a length of so many bytes, the first of these four (ACPI 6.5, 20.2.4).
-#[tactic(auto, using(crate::proofs::Lengths::starts_one, crate::proofs::Lengths::starts_two, crate::proofs::Lengths::starts_three, crate::proofs::Lengths::starts_four, crate::proofs::Lengths::width_last))]
+#[tactic(auto, using(crate::proofs::Lengths::starts_one, crate::proofs::Lengths::starts_two, crate::proofs::Lengths::starts_three, crate::proofs::Lengths::starts_four, crate::proofs::Lengths::width_last,))]
 pub fn length_bytes(width: u8, value: u32) -> [u8; 4]
     requires { value < limit width }
     ensures { StartsWithLength width value result }
@@ -99,7 +100,8 @@ pub fn with_room(alloc: Global, bytes: &[u8]) -> R<Vec<u8>>
 #[tactic(auto, using(crate::proofs::Inserts::inserted))]
 pub fn insert(bytes: &mut Vec<u8>, at: usize, first: &[u8], second: &[u8]) -> R<()>
     requires { at ≤ length bytes.old.items }
-    ensures ok { OnOk result (bytes.new.items ≡ take at bytes.old.items ++ ((first.now ++ second.now) ++ drop at bytes.old.items)) }
+    ensures ok { OnOk result (bytes.new.items ≡ take at bytes.old.items
+        ++ ((first.now ++ second.now) ++ drop at bytes.old.items)) }
     ensures err { IfErr result (λ e. e ≡ Error.Memory) }
 {
     let end = bytes.len();
@@ -150,7 +152,8 @@ pub fn frame(code: &[u8], content: Vec<u8>) -> R<Vec<u8>>
 
 /// An opcode, and a frame of the bytes that are there, the children, and bytes after them.
 pub fn framed(code: &[u8], before: Vec<u8>, children: &[&dyn Aml], after: &[u8]) -> R<Vec<u8>>
-    ensures { Makes result (around (framed code.now before.items after.now) (all_of (map (λ child. object child.now) children.now))) }
+    ensures { Makes result
+        (around (framed code.now before.items after.now) (all_of (map (λ child. object child.now) children.now))) }
 {
     let mut content = before;
     append_all(children, &mut content)?;
@@ -160,7 +163,8 @@ pub fn framed(code: &[u8], before: Vec<u8>, children: &[&dyn Aml], after: &[u8])
 
 /// An opcode, and a frame of a child and the others.
 pub fn framed_before(alloc: Global, code: &[u8], first: &dyn Aml, rest: &[&dyn Aml]) -> R<Vec<u8>>
-    ensures { Makes result (around (framed code.now [] []) (all_of (object first.now ∷ map (λ child. object child.now) rest.now))) }
+    ensures { Makes result (around (framed code.now [] []) (all_of (object first.now
+        ∷ map (λ child. object child.now) rest.now))) }
 {
     let mut content = with_room(alloc, &[])?;
     append_before(first, rest, &mut content)?;

@@ -52,7 +52,7 @@ fn spell_term(alloc: Global, term: &Term, bytes: &mut Vec<u8>) -> R<()>
 }
 
 /// A term's own bytes round those of its children.
-#[tactic(auto, using(crate::proofs::Spells::bare_laid, crate::proofs::Spells::bare_unlaid, crate::proofs::Spells::frame_laid, crate::proofs::Spells::frame_unlaid, crate::proofs::Spells::own_unlaid))]
+#[tactic(auto, using(crate::proofs::Spells::bare_laid, crate::proofs::Spells::bare_unlaid, crate::proofs::Spells::frame_laid, crate::proofs::Spells::frame_unlaid, crate::proofs::Spells::own_unlaid,))]
 fn lay(alloc: Global, kind: Kind<'_>, width: u8, count: usize, inside: &[u8]) -> R<Vec<u8>>
     ensures ok { IfOk result (λ v. Laid (head_of kind.entry) width count inside.now v.items) }
     ensures err { IfErr result (λ e. Unlaid e (head_of kind.entry) width count inside.now) }

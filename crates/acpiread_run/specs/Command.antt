@@ -14,7 +14,10 @@ digit_value _ = None
 
 -- what a word `NAME=N` states, cut at its first `=`: the bytes that spell the name, and the number
 abbrev pub stated_by : List ℕ → Option (List ℕ × ℕ)
-stated_by word = if is_name_text (before_first (λ b. b == 61) word) then option_map (λ n. (path_spelling (before_first (λ b. b == 61) word), n)) (digit_value (after_first (λ b. b == 61) word)) else None
+stated_by word =
+    if is_name_text (before_first (λ b. b == 61) word)
+    then option_map (λ n. (path_spelling (before_first (λ b. b == 61) word), n)) (digit_value (after_first (λ b. b == 61) word))
+    else None
 
 abbrev pub joined : Option (List ℕ × ℕ) → Option (List (List ℕ × ℕ)) → Option (List (List ℕ × ℕ))
 joined (Some a) (Some all) = Some (a ∷ all)
@@ -37,7 +40,8 @@ stated words = fitting (all_stated words)
 abbrev pub Asks : List (List ℕ) → Command → Type 0
 Asks words (Table file) = words ≡ codes "table" ∷ file.now ∷ []
 Asks words (Aml file arities) = (named : List (List ℕ)) × (words ≡ codes "aml" ∷ file.now ∷ named) × (stated named ≡ Some arities)
-Asks words (Dsdt file arities) = (named : List (List ℕ)) × (words ≡ codes "dsdt" ∷ file.now ∷ named) × (stated named ≡ Some arities)
+Asks words (Dsdt file arities) = (named : List (List ℕ)) × (words ≡ codes "dsdt" ∷ file.now ∷ named)
+    × (stated named ≡ Some arities)
 
 -- no command is asked for by these words
 pub record IsNoCommand (words : List (List ℕ)) : Type 0 where

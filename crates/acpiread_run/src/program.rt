@@ -38,7 +38,8 @@ fn unread(error: io::Error) -> Fault
 
 // What a command reports of the bytes of its file.
 fn report_of(alloc: Global, command: &Command<'_>, bytes: &[u8]) -> Result<String, Fault>
-    ensures { MatchResult result (λ text. IsReportOf command.now bytes.now (string_bytes text)) (IsFaultOf command.now bytes.now) }
+    ensures { MatchResult result
+        (λ text. IsReportOf command.now bytes.now (string_bytes text)) (IsFaultOf command.now bytes.now) }
 {
     match command {
         Command::Table(_) => table_report(alloc, bytes),
@@ -64,7 +65,8 @@ fn tell<O: Write, E: Write>(
     err: &mut E,
 ) -> io::Result<u8>
     ensures { IfOk result (λ status. MatchResult report
-        (λ text. Printed (string_bytes text) (O.contents out.old) (O.contents out.new) (E.contents err.old) (E.contents err.new) status)
+        (λ text. Printed (string_bytes text)
+            (O.contents out.old) (O.contents out.new) (E.contents err.old) (E.contents err.new) status)
         (λ fault. Told fault (O.contents out.old) (O.contents out.new) (E.contents err.old) (E.contents err.new) status)) }
 {
     match report {

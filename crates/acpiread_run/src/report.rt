@@ -2,7 +2,8 @@
 
 ghost use Rattle.std.specs.Prelude.{string_bytes, IfOk, IfErr};
 ghost use Rattle.acpi_term.specs.Arity.{arity};
-ghost use Rattle.acpiread_run.specs.Report.{IsHeaderReport, IsTableReport, IsAmlReport, IsDsdtReport, IsHeaderFault, IsTableFault, IsAmlFault, IsDsdtFault};
+ghost use Rattle.acpiread_run.specs.Report.{IsHeaderReport, IsTableReport, IsAmlReport, IsDsdtReport, IsHeaderFault};
+ghost use Rattle.acpiread_run.specs.Report.{IsTableFault, IsAmlFault, IsDsdtFault};
 
 use crate::fault::Fault;
 use acpi_read::report::{report_header, report_table, report_terms};

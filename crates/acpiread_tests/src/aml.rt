@@ -47,7 +47,13 @@ fn reports_shorter_buffers(rt: HostRuntime) -> Result<(), Fail> {
     let mut port = PORT;
     port[LENGTH] = 0x15;
     let report =
-        "device _SB_.COM1\n  define _HID\n    number 17158209\n  define _CRS\n    buffer data 8906000301040000004701f803f803000879\n      number 19\n  number 0\n";
+        "device _SB_.COM1\n\
+            \x20 define _HID\n\
+            \x20   number 17158209\n\
+            \x20 define _CRS\n\
+            \x20   buffer data 8906000301040000004701f803f803000879\n\
+            \x20     number 19\n\
+            \x20 number 0\n";
     prints(&rt, file, &["aml", file], &[(&port[36..], report)])
 }
 

@@ -40,11 +40,24 @@ fn reports_ports(rt: HostRuntime) -> Result<(), Fail> {
         &[
             (
                 &PORT,
-                "DSDT length 86 revision 2 sum 0\ndevice _SB_.COM1\n  define _HID\n    number 17158209\n  define _CRS\n    buffer data 8906000301040000004701f803f80300087900\n      number 19\n",
+                "DSDT length 86 revision 2 sum 0\n\
+                    device _SB_.COM1\n\
+                    \x20 define _HID\n\
+                    \x20   number 17158209\n\
+                    \x20 define _CRS\n\
+                    \x20   buffer data 8906000301040000004701f803f80300087900\n\
+                    \x20     number 19\n",
             ),
             (
                 &shorter,
-                "DSDT length 86 revision 2 sum 0\ndevice _SB_.COM1\n  define _HID\n    number 17158209\n  define _CRS\n    buffer data 8906000301040000004701f803f803000879\n      number 19\n  number 0\n",
+                "DSDT length 86 revision 2 sum 0\n\
+                    device _SB_.COM1\n\
+                    \x20 define _HID\n\
+                    \x20   number 17158209\n\
+                    \x20 define _CRS\n\
+                    \x20   buffer data 8906000301040000004701f803f803000879\n\
+                    \x20     number 19\n\
+                    \x20 number 0\n",
             ),
         ],
     )

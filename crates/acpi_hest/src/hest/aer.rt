@@ -1,13 +1,19 @@
 //! Sources of PCI Express Advanced Error Reporting (AER).
 
-ghost use Rattle.std.specs.Prelude.{◌≡◌, ℕ, ◌<◌, List, OnOk, IfErr};
+ghost use Rattle.std.proofs.Common.{rules};
+ghost use Rattle.std.specs.Prelude.{◌≡◌, ◌<◌};
+ghost use Rattle.acpi_base.specs.Fields.{AreRowsOf};
 ghost use Rattle.acpi_base.specs.Object.{whole, whole_ends_well};
-ghost use Rattle.acpi_base.specs.Sink.{Took, Refused};
-ghost use Rattle.acpi_hest.specs.Aer.{pci_device, aer_global, aer_of, aer_head, aer_bytes, root_port_bytes, device_bytes, bridge_bytes};
+ghost use Rattle.acpi_hest.specs.Aer.{pci_device, aer_global, aer_of, aer_head_fields, aer_head, aer_bytes};
+ghost use Rattle.acpi_hest.specs.Aer.{zero_root_port, zero_device, zero_bridge};
+ghost use Rattle.acpi_hest.specs.declared.hest.aer.Aer.{Aer};
+ghost use Rattle.acpi_hest.specs.Aer.{root_port_fields, device_fields, bridge_fields};
 
+use crate::hest::tail::Tail;
+use crate::parts::write_record_behind;
 use acpi_base::error::R;
 use acpi_base::object::Aml;
-use acpi_base::record::{Field, record};
+use acpi_base::row::{Record, Row, record_of_numbers};
 use acpi_base::sink::AmlSink;
 
 /// Whether firmware handles a source's errors before the operating system (ACPI 6.5, 18.3.2.4, Flags).
@@ -39,30 +45,9 @@ impl PciDevice {
     }
 }
 
-/// What a kind of AER source has behind the fields that all of them have, and its type.
-pub trait Tail: Copy {
-    ghost KIND: { ℕ };
-
-    ghost zero: { Self };
-
-    ghost bytes: { Self → List ℕ };
-
-    /// The source's type.
-    const KIND: u16;
-
-    /// The fields, each zero.
-    fn zero() -> Self
-        ensures { result ≡ zero };
-
-    /// Writes the fields.
-    fn write(&self, sink: &mut dyn AmlSink) -> R<()>
-        ensures ok { OnOk result (Took (meaning sink.old) (bytes self.now) (meaning sink.new)) }
-        ensures err { IfErr result (λ e. Refused e (meaning sink.old) (bytes self.now) (meaning sink.new)) };
-}
-
 /// An AER source (ACPI 6.5, 18.3.2.4 to 18.3.2.6): 44 bytes, and the tail of its kind.
 #[derive(Clone, Copy, Debug)]
-pub struct Aer<T> {
+pub struct Aer<T, const N: usize> {
     flags: u8,
     num_records: u32,
     max_sections: u32,
@@ -80,9 +65,9 @@ pub struct Aer<T> {
 /// The flag of a source that stands for all devices of its kind (offset 6).
 const GLOBAL: u8 = 2;
 
-impl<T: Tail> Aer<T> {
+impl<T: Tail<N>, const N: usize> Aer<T, N> {
     /// The source of all devices of this kind, with zero in every other field.
-    pub fn new_global() -> Aer<T>
+    pub fn new_global() -> Aer<T, N>
         ensures { result ≡ aer_global T.zero }
     {
         Aer {
@@ -102,7 +87,7 @@ impl<T: Tail> Aer<T> {
     }
 
     // The source of one device.
-    fn of(ff: FirmwareFirst, device: PciDevice) -> Aer<T>
+    fn of(ff: FirmwareFirst, device: PciDevice) -> Aer<T, N>
         ensures { result ≡ aer_of T.zero ff device }
     {
         Aer {
@@ -115,7 +100,7 @@ impl<T: Tail> Aer<T> {
     }
 
     /// How many error records to keep room for (offset 8).
-    pub fn num_records(mut self, num_records: u32) -> Aer<T>
+    pub fn num_records(mut self, num_records: u32) -> Aer<T, N>
         ensures { result ≡ record self { num_records = num_records } }
     {
         self.num_records = num_records;
@@ -123,7 +108,7 @@ impl<T: Tail> Aer<T> {
     }
 
     /// The most sections of a record (offset 12).
-    pub fn max_sections(mut self, max_sections: u32) -> Aer<T>
+    pub fn max_sections(mut self, max_sections: u32) -> Aer<T, N>
         ensures { result ≡ record self { max_sections = max_sections } }
     {
         self.max_sections = max_sections;
@@ -131,7 +116,7 @@ impl<T: Tail> Aer<T> {
     }
 
     /// What goes into the Device Control register (offset 24).
-    pub fn device_control(mut self, device_control: u16) -> Aer<T>
+    pub fn device_control(mut self, device_control: u16) -> Aer<T, N>
         ensures { result ≡ record self { device_control = device_control } }
     {
         self.device_control = device_control;
@@ -139,7 +124,7 @@ impl<T: Tail> Aer<T> {
     }
 
     /// What goes into the Uncorrectable Error Mask register (offset 28).
-    pub fn uncorrectable_error_mask(mut self, uncorrectable_error_mask: u32) -> Aer<T>
+    pub fn uncorrectable_error_mask(mut self, uncorrectable_error_mask: u32) -> Aer<T, N>
         ensures { result ≡ record self { uncorrectable_error_mask = uncorrectable_error_mask } }
     {
         self.uncorrectable_error_mask = uncorrectable_error_mask;
@@ -147,7 +132,7 @@ impl<T: Tail> Aer<T> {
     }
 
     /// What goes into the Uncorrectable Error Severity register (offset 32).
-    pub fn uncorrectable_error_severity(mut self, uncorrectable_error_severity: u32) -> Aer<T>
+    pub fn uncorrectable_error_severity(mut self, uncorrectable_error_severity: u32) -> Aer<T, N>
         ensures { result ≡ record self { uncorrectable_error_severity = uncorrectable_error_severity } }
     {
         self.uncorrectable_error_severity = uncorrectable_error_severity;
@@ -155,7 +140,7 @@ impl<T: Tail> Aer<T> {
     }
 
     /// What goes into the Correctable Error Mask register (offset 36).
-    pub fn correctable_error_mask(mut self, correctable_error_mask: u32) -> Aer<T>
+    pub fn correctable_error_mask(mut self, correctable_error_mask: u32) -> Aer<T, N>
         ensures { result ≡ record self { correctable_error_mask = correctable_error_mask } }
     {
         self.correctable_error_mask = correctable_error_mask;
@@ -163,7 +148,7 @@ impl<T: Tail> Aer<T> {
     }
 
     /// What goes into the Advanced Error Capabilities and Control register (offset 40).
-    pub fn aer_cap_ctrl(mut self, aer_cap_ctrl: u32) -> Aer<T>
+    pub fn aer_cap_ctrl(mut self, aer_cap_ctrl: u32) -> Aer<T, N>
         ensures { result ≡ record self { aer_cap_ctrl = aer_cap_ctrl } }
     {
         self.aer_cap_ctrl = aer_cap_ctrl;
@@ -174,140 +159,192 @@ impl<T: Tail> Aer<T> {
     fn head(&self) -> [u8; 44]
         ensures { result ≡ aer_head T.KIND self.now }
     {
-        record(&[
-            Field::Word(T::KIND),
-            Field::DWord(0),
-            Field::Byte(self.flags),
-            Field::Byte(0),
-            Field::DWord(self.num_records),
-            Field::DWord(self.max_sections),
-            Field::DWord(self.bus),
-            Field::Word(self.device),
-            Field::Word(self.function),
-            Field::Word(self.device_control),
-            Field::Word(0),
-            Field::DWord(self.uncorrectable_error_mask),
-            Field::DWord(self.uncorrectable_error_severity),
-            Field::DWord(self.correctable_error_mask),
-            Field::DWord(self.aer_cap_ctrl),
-        ])
+        record_of_numbers(
+            &AER,
+            &[
+                u64::from(T::KIND),
+                0,
+                0,
+                u64::from(self.flags),
+                0,
+                u64::from(self.num_records),
+                u64::from(self.max_sections),
+                u64::from(self.bus),
+                u64::from(self.device),
+                u64::from(self.function),
+                u64::from(self.device_control),
+                0,
+                u64::from(self.uncorrectable_error_mask),
+                u64::from(self.uncorrectable_error_severity),
+                u64::from(self.correctable_error_mask),
+                u64::from(self.aer_cap_ctrl),
+            ],
+        )
     }
 }
 
-impl<T: Tail> Aml for Aer<T> {
-    ghost object = { λ s. whole (aer_bytes T.KIND T.bytes s) };
+const AER: [Row; 16] = [
+    Row::Number("Type", 2),
+    Row::Number("Source Id", 2),
+    Row::Reserved(2),
+    Row::Number("Flags", 1),
+    Row::Number("Enabled", 1),
+    Row::Number("Number of Records to Pre-allocate", 4),
+    Row::Number("Max Sections Per Record", 4),
+    Row::Number("Bus", 4),
+    Row::Number("Device", 2),
+    Row::Number("Function", 2),
+    Row::Number("Device Control", 2),
+    Row::Reserved(2),
+    Row::Number("Uncorrectable Error Mask", 4),
+    Row::Number("Uncorrectable Error Severity", 4),
+    Row::Number("Correctable Error Mask", 4),
+    Row::Number("Advanced Error Capabilities and Control", 4),
+];
 
-    ghost ends_well = { λ s. whole_ends_well (aer_bytes T.KIND T.bytes s) };
+/// The names and widths of the fields of all kinds, in order.
+pub fn aer_rows<T: Tail<N>, const N: usize>() -> &'static [Row]
+    ensures { (s : Aer T N) → AreRowsOf result.now (aer_head_fields T.KIND s) }
+{
+    &AER
+}
+
+impl<T: Tail<N>, const N: usize> Aml for Aer<T, N> {
+    ghost object = { λ s. whole (aer_bytes T.KIND T.fields s) };
+
+    ghost ends_well = { λ s. whole_ends_well (aer_bytes T.KIND T.fields s) };
 
     fn to_aml_bytes(&self, sink: &mut dyn AmlSink) -> R<()> {
-        sink.vec(&self.head())?;
-        self.tail.write(sink)
+        write_record_behind(&self.head(), &self.tail, sink)
     }
 }
 
 /// A root port: 48 bytes (ACPI 6.5, 18.3.2.4).
-pub type PcieAerRootPort = Aer<AerRootPort>;
+pub type PcieAerRootPort = Aer<AerRootPort, 4>;
 
 /// An endpoint: 44 bytes (ACPI 6.5, 18.3.2.5).
-pub type PcieAerDevice = Aer<AerDevice>;
+pub type PcieAerDevice = Aer<AerDevice, 0>;
 
 /// A bridge: 56 bytes (ACPI 6.5, 18.3.2.6).
-pub type PcieAerBridge = Aer<AerBridge>;
+pub type PcieAerBridge = Aer<AerBridge, 12>;
 
 /// The tail of a root port.
-#[derive(Clone, Copy, Debug)]
+#[derive(Clone, Copy, Debug, Default)]
 pub struct AerRootPort {
     root_error_command: u32,
 }
 
 /// The tail of an endpoint, which is empty.
-#[derive(Clone, Copy, Debug)]
+#[derive(Clone, Copy, Debug, Default)]
 pub struct AerDevice {}
 
 /// The tail of a bridge.
-#[derive(Clone, Copy, Debug)]
+#[derive(Clone, Copy, Debug, Default)]
 pub struct AerBridge {
     secondary_uncorrectable_error_mask: u32,
     secondary_uncorrectable_error_severity: u32,
     secondary_aer_cap_ctrl: u32,
 }
 
-impl AerBridge {
-    fn bytes(&self) -> [u8; 12]
-        ensures { result ≡ bridge_bytes self.now }
-    {
-        record(&[
-            Field::DWord(self.secondary_uncorrectable_error_mask),
-            Field::DWord(self.secondary_uncorrectable_error_severity),
-            Field::DWord(self.secondary_aer_cap_ctrl),
-        ])
+const AER_ROOT_PORT: [Row; 1] = [Row::Number("Root Error Command", 4)];
+
+const AER_DEVICE: [Row; 0] = [];
+
+const AER_BRIDGE: [Row; 3] = [
+    Row::Number("Secondary Uncorrectable Error Mask", 4),
+    Row::Number("Secondary Uncorrectable Error Severity", 4),
+    Row::Number("Secondary Advanced Error Capabilities and Control", 4),
+];
+
+impl Record<4> for AerRootPort {
+    ghost fields = { root_port_fields };
+
+    fn rows() -> &'static [Row] {
+        &AER_ROOT_PORT
+    }
+
+    fn bytes(&self) -> [u8; 4] {
+        record_of_numbers(&AER_ROOT_PORT, &[u64::from(self.root_error_command)])
     }
 }
 
-impl Tail for AerRootPort {
+impl Record<0> for AerDevice {
+    ghost fields = { device_fields };
+
+    fn rows() -> &'static [Row] {
+        &AER_DEVICE
+    }
+
+    fn bytes(&self) -> [u8; 0] {
+        record_of_numbers(&AER_DEVICE, &[])
+    }
+}
+
+impl Record<12> for AerBridge {
+    ghost fields = { bridge_fields };
+
+    fn rows() -> &'static [Row] {
+        &AER_BRIDGE
+    }
+
+    fn bytes(&self) -> [u8; 12] {
+        record_of_numbers(
+            &AER_BRIDGE,
+            &[
+                u64::from(self.secondary_uncorrectable_error_mask),
+                u64::from(self.secondary_uncorrectable_error_severity),
+                u64::from(self.secondary_aer_cap_ctrl),
+            ],
+        )
+    }
+}
+
+impl Tail<4> for AerRootPort {
     ghost KIND = { 6 };
 
-    ghost zero = { record { root_error_command = 0 } };
-
-    ghost bytes = { root_port_bytes };
+    ghost zero = { zero_root_port };
 
     const KIND: u16 = 6;
 
     fn zero() -> AerRootPort {
-        AerRootPort {
-            root_error_command: 0,
-        }
+        AerRootPort::default()
     }
 
-    fn write(&self, sink: &mut dyn AmlSink) -> R<()> {
-        sink.dword(self.root_error_command)
-    }
+    ghost is_small = { Prim.search rules };
 }
 
-impl Tail for AerDevice {
+impl Tail<0> for AerDevice {
     ghost KIND = { 7 };
 
-    ghost zero = { record {} };
-
-    ghost bytes = { device_bytes };
+    ghost zero = { zero_device };
 
     const KIND: u16 = 7;
 
     fn zero() -> AerDevice {
-        AerDevice {}
+        AerDevice::default()
     }
 
-    fn write(&self, _sink: &mut dyn AmlSink) -> R<()> {
-        Ok(())
-    }
+    ghost is_small = { Prim.search rules };
 }
 
-impl Tail for AerBridge {
+impl Tail<12> for AerBridge {
     ghost KIND = { 8 };
 
-    ghost zero = { record { secondary_uncorrectable_error_mask = 0; secondary_uncorrectable_error_severity = 0; secondary_aer_cap_ctrl = 0 } };
-
-    ghost bytes = { bridge_bytes };
+    ghost zero = { zero_bridge };
 
     const KIND: u16 = 8;
 
     fn zero() -> AerBridge {
-        AerBridge {
-            secondary_uncorrectable_error_mask: 0,
-            secondary_uncorrectable_error_severity: 0,
-            secondary_aer_cap_ctrl: 0,
-        }
+        AerBridge::default()
     }
 
-    fn write(&self, sink: &mut dyn AmlSink) -> R<()> {
-        sink.vec(&self.bytes())
-    }
+    ghost is_small = { Prim.search rules };
 }
 
 impl PcieAerRootPort {
     /// The source of one root port, with zero in every other field.
     pub fn new_root_port(ff: FirmwareFirst, device: PciDevice) -> PcieAerRootPort
-        ensures { result ≡ aer_of (record { root_error_command = 0 }) ff device }
+        ensures { result ≡ aer_of zero_root_port ff device }
     {
         Aer::of(ff, device)
     }
@@ -324,7 +361,7 @@ impl PcieAerRootPort {
 impl PcieAerDevice {
     /// The source of one endpoint, with zero in every other field.
     pub fn new_root_port(ff: FirmwareFirst, device: PciDevice) -> PcieAerDevice
-        ensures { result ≡ aer_of (record {}) ff device }
+        ensures { result ≡ aer_of zero_device ff device }
     {
         Aer::of(ff, device)
     }
@@ -333,7 +370,7 @@ impl PcieAerDevice {
 impl PcieAerBridge {
     /// The source of one bridge, with zero in every other field.
     pub fn new_bridge(ff: FirmwareFirst, device: PciDevice) -> PcieAerBridge
-        ensures { result ≡ aer_of (record { secondary_uncorrectable_error_mask = 0; secondary_uncorrectable_error_severity = 0; secondary_aer_cap_ctrl = 0 }) ff device }
+        ensures { result ≡ aer_of zero_bridge ff device }
     {
         Aer::of(ff, device)
     }
@@ -343,7 +380,11 @@ impl PcieAerBridge {
         mut self,
         secondary_uncorrectable_error_mask: u32,
     ) -> PcieAerBridge
-        ensures { result ≡ record self { tail = record self.tail { secondary_uncorrectable_error_mask = secondary_uncorrectable_error_mask } } }
+        ensures { result ≡ record self {
+          tail = record self.tail {
+            secondary_uncorrectable_error_mask = secondary_uncorrectable_error_mask;
+          };
+        } }
     {
         self.tail.secondary_uncorrectable_error_mask = secondary_uncorrectable_error_mask;
         self
@@ -354,7 +395,11 @@ impl PcieAerBridge {
         mut self,
         secondary_uncorrectable_error_severity: u32,
     ) -> PcieAerBridge
-        ensures { result ≡ record self { tail = record self.tail { secondary_uncorrectable_error_severity = secondary_uncorrectable_error_severity } } }
+        ensures { result ≡ record self {
+          tail = record self.tail {
+            secondary_uncorrectable_error_severity = secondary_uncorrectable_error_severity;
+          };
+        } }
     {
         self.tail.secondary_uncorrectable_error_severity = secondary_uncorrectable_error_severity;
         self

@@ -1,13 +1,14 @@
 //! Entries of error status blocks: one error each.
 
 ghost use Rattle.std.specs.Prelude.{◌≡◌, ◌++◌, ◌∷◌, [], map, OnOk, OnErr, IfErr};
+ghost use Rattle.acpi_base.specs.Fields.{AreRowsOf};
 ghost use Rattle.acpi_base.specs.Object.{all_of, Wrote, WriteRefused};
-ghost use Rattle.acpi_hest.specs.ErrorData.{IsNewErrorData, error_data_head, error_data_object};
+ghost use Rattle.acpi_hest.specs.ErrorData.{IsNewErrorData, ErrorHead, error_head_fields, error_data_head, error_data_object};
 
 use crate::hest::status::ErrorSeverity;
 use acpi_base::error::{Error, R};
 use acpi_base::object::Aml;
-use acpi_base::record::{Field, record};
+use acpi_base::row::{Row, Value, record_of};
 use acpi_base::sink::AmlSink;
 use std::alloc::Global;
 
@@ -69,8 +70,10 @@ impl GenericErrorData {
     /// Writes the entry and then its objects, up to the first that is refused, which is the answer. What stands before the
     /// refusal has been given.
     pub fn to_aml_bytes(&self, sink: &mut dyn AmlSink) -> R<()>
-        ensures ok { OnOk result (Wrote (error_data_object self.now (map (λ part. object part) self.now.objects.items)) (meaning sink.old) (meaning sink.new)) }
-        ensures err { IfErr result (λ e. WriteRefused e (error_data_object self.now (map (λ part. object part) self.now.objects.items)) (meaning sink.old) (meaning sink.new)) }
+        ensures ok { OnOk result (Wrote (error_data_object self.now (map (λ part. object part) self.now.objects.items))
+            (meaning sink.old) (meaning sink.new)) }
+        ensures err { IfErr result (λ e. WriteRefused e (error_data_object self.now (map (λ part. object part)
+            self.now.objects.items)) (meaning sink.old) (meaning sink.new)) }
     {
         sink.vec(&self.head())?;
         write_all(&self.objects, sink)
@@ -80,24 +83,47 @@ impl GenericErrorData {
     fn head(&self) -> [u8; 58]
         ensures { result ≡ error_data_head self.now }
     {
-        record(&[
-            Field::Word(self.section_type),
-            Field::DWord(self.severity as u32),
-            Field::Word(self.revision),
-            Field::Byte(self.validation),
-            Field::Byte(self.flags),
-            Field::DWord(self.error_data_length),
-            Field::Bytes(&self.fru_id),
-            Field::Bytes(&self.fru_text),
-            Field::Bytes(&self.timestamp),
-        ])
+        record_of(
+            &ERROR_DATA,
+            &[
+                Value::Number(u64::from(self.section_type)),
+                Value::Number(self.severity as u64),
+                Value::Number(u64::from(self.revision)),
+                Value::Number(u64::from(self.validation)),
+                Value::Number(u64::from(self.flags)),
+                Value::Number(u64::from(self.error_data_length)),
+                Value::Bytes(&self.fru_id),
+                Value::Bytes(&self.fru_text),
+                Value::Bytes(&self.timestamp),
+            ],
+        )
     }
+}
+
+const ERROR_DATA: [Row; 9] = [
+    Row::Number("Section Type", 2),
+    Row::Number("Error Severity", 4),
+    Row::Number("Revision", 2),
+    Row::Number("Validation Bits", 1),
+    Row::Number("Flags", 1),
+    Row::Number("Error Data Length", 4),
+    Row::Bytes("FRU Id", 16),
+    Row::Bytes("FRU Text", 20),
+    Row::Bytes("Timestamp", 8),
+];
+
+/// The names and widths of an entry's fields before its data, in order.
+pub fn error_data_rows() -> &'static [Row]
+    ensures { (head : ErrorHead) → AreRowsOf result.now (error_head_fields head) }
+{
+    &ERROR_DATA
 }
 
 // Writes boxed objects, one after another.
 fn write_all(parts: &Vec<Box<dyn Aml + Drop>>, sink: &mut dyn AmlSink) -> R<()>
     ensures ok { OnOk result (Wrote (all_of (map (λ part. object part) parts.now.items)) (meaning sink.old) (meaning sink.new)) }
-    ensures err { IfErr result (λ e. WriteRefused e (all_of (map (λ part. object part) parts.now.items)) (meaning sink.old) (meaning sink.new)) }
+    ensures err { IfErr result (λ e. WriteRefused e (all_of (map (λ part. object part) parts.now.items))
+        (meaning sink.old) (meaning sink.new)) }
 {
     for part in parts {
         write_one(part, sink)?;

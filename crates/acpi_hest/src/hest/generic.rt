@@ -1,14 +1,21 @@
 //! Generic hardware error sources.
 
+ghost use Rattle.std.proofs.Common.{rules};
 ghost use Rattle.std.specs.Prelude.{◌≡◌};
+ghost use Rattle.acpi_base.specs.Fields.{AreRowsOf};
 ghost use Rattle.acpi_base.specs.Object.{whole, whole_ends_well};
-ghost use Rattle.acpi_hest.specs.Generic.{enabled_number, hardware_source, hardware_source_2, source_bytes, hardware_source_bytes, hardware_source_2_bytes};
+ghost use Rattle.acpi_hest.specs.Generic.{generic, generic_head_fields, generic_head, generic_bytes};
+ghost use Rattle.acpi_hest.specs.Generic.{zero_unacknowledged, zero_acknowledged};
+ghost use Rattle.acpi_hest.specs.declared.hest.generic.Generic.{Generic};
+ghost use Rattle.acpi_hest.specs.Generic.{unacknowledged_fields, acknowledged_fields};
 
 use crate::hest::notification::NotificationStructure;
+use crate::hest::tail::Tail;
+use crate::parts::write_record_behind;
 use acpi_base::error::R;
 use acpi_base::gas::GAS;
 use acpi_base::object::Aml;
-use acpi_base::record::{Field, record};
+use acpi_base::row::{Record, Row, Value, record_of, record_of_numbers};
 use acpi_base::sink::AmlSink;
 
 /// Whether a source is in use (ACPI 6.5, 18.3.2.7, Enabled).
@@ -18,9 +25,9 @@ pub enum EnabledStatus {
     Enabled = 1,
 }
 
-/// A generic hardware error source (ACPI 6.5, 18.3.2.7): 64 bytes.
+/// A generic hardware error source (ACPI 6.5, 18.3.2.7 and 18.3.2.8): 64 bytes, and the tail of its version.
 #[derive(Clone, Copy, Debug)]
-pub struct GenericHardwareSource {
+pub struct Generic<T, const N: usize> {
     source_id: u16,
     enabled: EnabledStatus,
     num_records: u32,
@@ -29,15 +36,16 @@ pub struct GenericHardwareSource {
     error_status_address: GAS,
     notification: NotificationStructure,
     error_status_block_len: u32,
+    tail: T,
 }
 
-impl GenericHardwareSource {
+impl<T: Tail<N>, const N: usize> Generic<T, N> {
     /// A source of an id (offset 2) that is related to no other, with zero in every other field; so are all 28 bytes of its
     /// notification.
-    pub fn new(source_id: u16, enabled: EnabledStatus) -> GenericHardwareSource
-        ensures { result ≡ hardware_source source_id enabled }
+    pub fn new(source_id: u16, enabled: EnabledStatus) -> Generic<T, N>
+        ensures { result ≡ generic T.zero source_id enabled }
     {
-        GenericHardwareSource {
+        Generic {
             source_id,
             enabled,
             num_records: 0,
@@ -46,11 +54,12 @@ impl GenericHardwareSource {
             error_status_address: GAS::default(),
             notification: NotificationStructure::none(),
             error_status_block_len: 0,
+            tail: T::zero(),
         }
     }
 
     /// How many error records to keep room for (offset 8).
-    pub fn num_records(mut self, num_records: u32) -> GenericHardwareSource
+    pub fn num_records(mut self, num_records: u32) -> Generic<T, N>
         ensures { result ≡ record self { num_records = num_records } }
     {
         self.num_records = num_records;
@@ -58,7 +67,7 @@ impl GenericHardwareSource {
     }
 
     /// The most sections of a record (offset 12).
-    pub fn max_sections(mut self, max_sections: u32) -> GenericHardwareSource
+    pub fn max_sections(mut self, max_sections: u32) -> Generic<T, N>
         ensures { result ≡ record self { max_sections = max_sections } }
     {
         self.max_sections = max_sections;
@@ -66,7 +75,7 @@ impl GenericHardwareSource {
     }
 
     /// The most bytes of raw data of an error (offset 16).
-    pub fn max_raw_length(mut self, max_raw_length: u32) -> GenericHardwareSource
+    pub fn max_raw_length(mut self, max_raw_length: u32) -> Generic<T, N>
         ensures { result ≡ record self { max_raw_length = max_raw_length } }
     {
         self.max_raw_length = max_raw_length;
@@ -74,7 +83,7 @@ impl GenericHardwareSource {
     }
 
     /// The register that holds the address of the error status block (offset 20).
-    pub fn error_status_address(mut self, error_status_address: GAS) -> GenericHardwareSource
+    pub fn error_status_address(mut self, error_status_address: GAS) -> Generic<T, N>
         ensures { result ≡ record self { error_status_address = error_status_address } }
     {
         self.error_status_address = error_status_address;
@@ -82,7 +91,7 @@ impl GenericHardwareSource {
     }
 
     /// How the source tells of an error (offset 32).
-    pub fn notification(mut self, notification: NotificationStructure) -> GenericHardwareSource
+    pub fn notification(mut self, notification: NotificationStructure) -> Generic<T, N>
         ensures { result ≡ record self { notification = notification } }
     {
         self.notification = notification;
@@ -90,161 +99,174 @@ impl GenericHardwareSource {
     }
 
     /// The bytes of the error status block (offset 60).
-    pub fn error_status_block_len(mut self, error_status_block_len: u32) -> GenericHardwareSource
+    pub fn error_status_block_len(mut self, error_status_block_len: u32) -> Generic<T, N>
         ensures { result ≡ record self { error_status_block_len = error_status_block_len } }
     {
         self.error_status_block_len = error_status_block_len;
         self
     }
 
-    // The bytes of a source of a type, of either version.
-    fn bytes(&self, kind: u16) -> [u8; 64]
-        ensures { result ≡ source_bytes kind self.now }
+    // The fields that both versions have.
+    fn head(&self) -> [u8; 64]
+        ensures { result ≡ generic_head T.KIND self.now }
     {
-        let (address, notification) = (
-            self.error_status_address.bytes(),
-            self.notification.bytes(),
-        );
-        record(&[
-            Field::Word(kind),
-            Field::Word(self.source_id),
-            Field::Word(0xffff),
-            Field::Byte(0),
-            Field::Byte(self.enabled as u8),
-            Field::DWord(self.num_records),
-            Field::DWord(self.max_sections),
-            Field::DWord(self.max_raw_length),
-            Field::Bytes(&address),
-            Field::Bytes(&notification),
-            Field::DWord(self.error_status_block_len),
-        ])
+        record_of(
+            &GENERIC,
+            &[
+                Value::Number(u64::from(T::KIND)),
+                Value::Number(u64::from(self.source_id)),
+                Value::Number(0xffff),
+                Value::Number(0),
+                Value::Number(self.enabled as u64),
+                Value::Number(u64::from(self.num_records)),
+                Value::Number(u64::from(self.max_sections)),
+                Value::Number(u64::from(self.max_raw_length)),
+                Value::Bytes(&self.error_status_address.bytes()),
+                Value::Bytes(&self.notification.bytes()),
+                Value::Number(u64::from(self.error_status_block_len)),
+            ],
+        )
     }
 }
 
-impl Aml for GenericHardwareSource {
-    ghost object = { λ s. whole (hardware_source_bytes s) };
+const GENERIC: [Row; 11] = [
+    Row::Number("Type", 2),
+    Row::Number("Source Id", 2),
+    Row::Number("Related Source Id", 2),
+    Row::Number("Flags", 1),
+    Row::Number("Enabled", 1),
+    Row::Number("Number of Records to Pre-allocate", 4),
+    Row::Number("Max Sections Per Record", 4),
+    Row::Number("Max Raw Data Length", 4),
+    Row::Bytes("Error Status Address", 12),
+    Row::Bytes("Notification Structure", 28),
+    Row::Number("Error Status Block Length", 4),
+];
 
-    ghost ends_well = { λ s. whole_ends_well (hardware_source_bytes s) };
+/// The names and widths of the fields of both versions, in order.
+pub fn generic_rows<T: Tail<N>, const N: usize>() -> &'static [Row]
+    ensures { (s : Generic T N) → AreRowsOf result.now (generic_head_fields T.KIND s) }
+{
+    &GENERIC
+}
+
+impl<T: Tail<N>, const N: usize> Aml for Generic<T, N> {
+    ghost object = { λ s. whole (generic_bytes T.KIND T.fields s) };
+
+    ghost ends_well = { λ s. whole_ends_well (generic_bytes T.KIND T.fields s) };
 
     fn to_aml_bytes(&self, sink: &mut dyn AmlSink) -> R<()> {
-        sink.vec(&self.bytes(9))
+        write_record_behind(&self.head(), &self.tail, sink)
     }
 }
 
-/// A generic hardware error source of version 2, whose errors are acknowledged (ACPI 6.5, 18.3.2.8): 92 bytes.
-#[derive(Clone, Copy, Debug)]
-pub struct GenericHardwareSourceV2 {
-    source: GenericHardwareSource,
+/// A generic hardware error source: 64 bytes (ACPI 6.5, 18.3.2.7).
+pub type GenericHardwareSource = Generic<Unacknowledged, 0>;
+
+/// A generic hardware error source of version 2, whose errors are acknowledged: 92 bytes (ACPI 6.5, 18.3.2.8).
+pub type GenericHardwareSourceV2 = Generic<Acknowledged, 28>;
+
+/// The tail of a source of version 1, which is empty.
+#[derive(Clone, Copy, Debug, Default)]
+pub struct Unacknowledged {}
+
+/// The tail of a source of version 2.
+#[derive(Clone, Copy, Debug, Default)]
+pub struct Acknowledged {
     read_ack_register: GAS,
     read_ack_preserve: u64,
     read_ack_write: u64,
 }
 
+const UNACKNOWLEDGED: [Row; 0] = [];
+
+const ACKNOWLEDGED: [Row; 3] = [
+    Row::Bytes("Read Ack Register", 12),
+    Row::Number("Read Ack Preserve", 8),
+    Row::Number("Read Ack Write", 8),
+];
+
+impl Record<0> for Unacknowledged {
+    ghost fields = { unacknowledged_fields };
+
+    fn rows() -> &'static [Row] {
+        &UNACKNOWLEDGED
+    }
+
+    fn bytes(&self) -> [u8; 0] {
+        record_of_numbers(&UNACKNOWLEDGED, &[])
+    }
+}
+
+impl Record<28> for Acknowledged {
+    ghost fields = { acknowledged_fields };
+
+    fn rows() -> &'static [Row] {
+        &ACKNOWLEDGED
+    }
+
+    fn bytes(&self) -> [u8; 28] {
+        record_of(
+            &ACKNOWLEDGED,
+            &[
+                Value::Bytes(&self.read_ack_register.bytes()),
+                Value::Number(self.read_ack_preserve),
+                Value::Number(self.read_ack_write),
+            ],
+        )
+    }
+}
+
+impl Tail<0> for Unacknowledged {
+    ghost KIND = { 9 };
+
+    ghost zero = { zero_unacknowledged };
+
+    const KIND: u16 = 9;
+
+    fn zero() -> Unacknowledged {
+        Unacknowledged::default()
+    }
+
+    ghost is_small = { Prim.search rules };
+}
+
+impl Tail<28> for Acknowledged {
+    ghost KIND = { 10 };
+
+    ghost zero = { zero_acknowledged };
+
+    const KIND: u16 = 10;
+
+    fn zero() -> Acknowledged {
+        Acknowledged::default()
+    }
+
+    ghost is_small = { Prim.search rules };
+}
+
 impl GenericHardwareSourceV2 {
-    /// A source as `GenericHardwareSource::new` makes it, with zero in the fields that version 2 adds.
-    pub fn new(source_id: u16, enabled: EnabledStatus) -> GenericHardwareSourceV2
-        ensures { result ≡ hardware_source_2 source_id enabled }
-    {
-        GenericHardwareSourceV2 {
-            source: GenericHardwareSource::new(source_id, enabled),
-            read_ack_register: GAS::default(),
-            read_ack_preserve: 0,
-            read_ack_write: 0,
-        }
-    }
-
-    /// How many error records to keep room for (offset 8).
-    pub fn num_records(mut self, num_records: u32) -> GenericHardwareSourceV2
-        ensures { result ≡ record self { source = record self.source { num_records = num_records } } }
-    {
-        self.source.num_records = num_records;
-        self
-    }
-
-    /// The most sections of a record (offset 12).
-    pub fn max_sections(mut self, max_sections: u32) -> GenericHardwareSourceV2
-        ensures { result ≡ record self { source = record self.source { max_sections = max_sections } } }
-    {
-        self.source.max_sections = max_sections;
-        self
-    }
-
-    /// The most bytes of raw data of an error (offset 16).
-    pub fn max_raw_length(mut self, max_raw_length: u32) -> GenericHardwareSourceV2
-        ensures { result ≡ record self { source = record self.source { max_raw_length = max_raw_length } } }
-    {
-        self.source.max_raw_length = max_raw_length;
-        self
-    }
-
-    /// The register that holds the address of the error status block (offset 20).
-    pub fn error_status_address(mut self, error_status_address: GAS) -> GenericHardwareSourceV2
-        ensures { result ≡ record self { source = record self.source { error_status_address = error_status_address } } }
-    {
-        self.source.error_status_address = error_status_address;
-        self
-    }
-
-    /// How the source tells of an error (offset 32).
-    pub fn notification(mut self, notification: NotificationStructure) -> GenericHardwareSourceV2
-        ensures { result ≡ record self { source = record self.source { notification = notification } } }
-    {
-        self.source.notification = notification;
-        self
-    }
-
-    /// The bytes of the error status block (offset 60).
-    pub fn error_status_block_len(mut self, error_status_block_len: u32) -> GenericHardwareSourceV2
-        ensures { result ≡ record self { source = record self.source { error_status_block_len = error_status_block_len } } }
-    {
-        self.source.error_status_block_len = error_status_block_len;
-        self
-    }
-
     /// The register by which the error is acknowledged (offset 64).
     pub fn read_ack_register(mut self, read_ack_register: GAS) -> GenericHardwareSourceV2
-        ensures { result ≡ record self { read_ack_register = read_ack_register } }
+        ensures { result ≡ record self { tail = record self.tail { read_ack_register = read_ack_register } } }
     {
-        self.read_ack_register = read_ack_register;
+        self.tail.read_ack_register = read_ack_register;
         self
     }
 
     /// The bits of that register that stay (offset 76).
     pub fn read_ack_preserve(mut self, read_ack_preserve: u64) -> GenericHardwareSourceV2
-        ensures { result ≡ record self { read_ack_preserve = read_ack_preserve } }
+        ensures { result ≡ record self { tail = record self.tail { read_ack_preserve = read_ack_preserve } } }
     {
-        self.read_ack_preserve = read_ack_preserve;
+        self.tail.read_ack_preserve = read_ack_preserve;
         self
     }
 
     /// The bits of that register that are written (offset 84).
     pub fn read_ack_write(mut self, read_ack_write: u64) -> GenericHardwareSourceV2
-        ensures { result ≡ record self { read_ack_write = read_ack_write } }
+        ensures { result ≡ record self { tail = record self.tail { read_ack_write = read_ack_write } } }
     {
-        self.read_ack_write = read_ack_write;
+        self.tail.read_ack_write = read_ack_write;
         self
-    }
-
-    // The source's bytes.
-    fn bytes(&self) -> [u8; 92]
-        ensures { result ≡ hardware_source_2_bytes self.now }
-    {
-        let (source, register) = (self.source.bytes(10), self.read_ack_register.bytes());
-        record(&[
-            Field::Bytes(&source),
-            Field::Bytes(&register),
-            Field::QWord(self.read_ack_preserve),
-            Field::QWord(self.read_ack_write),
-        ])
-    }
-}
-
-impl Aml for GenericHardwareSourceV2 {
-    ghost object = { λ s. whole (hardware_source_2_bytes s) };
-
-    ghost ends_well = { λ s. whole_ends_well (hardware_source_2_bytes s) };
-
-    fn to_aml_bytes(&self, sink: &mut dyn AmlSink) -> R<()> {
-        sink.vec(&self.bytes())
     }
 }

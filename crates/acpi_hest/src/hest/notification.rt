@@ -3,10 +3,11 @@
 ghost use Rattle.std.specs.Prelude.{◌≡◌};
 ghost use Rattle.acpi_base.specs.Object.{whole, whole_ends_well};
 ghost use Rattle.acpi_hest.specs.Notification.{type_number, notification, notification_bytes, no_notification};
+ghost use Rattle.acpi_hest.specs.Notification.{notification_fields};
 
 use acpi_base::error::R;
 use acpi_base::object::Aml;
-use acpi_base::record::{Field, record};
+use acpi_base::row::{Record, Row, record_of_numbers, write_record};
 use acpi_base::sink::AmlSink;
 
 /// How a source tells of an error (ACPI 6.5, 18.3.2.9, Type). The last four are those of RISC-V.
@@ -135,22 +136,42 @@ impl NotificationStructure {
         self.error_threshold_window_ms = error_threshold_window_ms;
         self
     }
+}
 
-    /// The structure's bytes.
-    pub(crate) fn bytes(&self) -> [u8; 28]
-        ensures { result ≡ notification_bytes self.now }
-    {
-        record(&[
-            Field::Byte(self.kind),
-            Field::Byte(self.length),
-            Field::Word(self.conf_write_en),
-            Field::DWord(self.poll_interval_ms),
-            Field::DWord(self.vector),
-            Field::DWord(self.polling_threshold_value),
-            Field::DWord(self.polling_threshold_window_ms),
-            Field::DWord(self.error_threshold_value),
-            Field::DWord(self.error_threshold_window_ms),
-        ])
+const NOTIFICATION: [Row; 9] = [
+    Row::Number("Type", 1),
+    Row::Number("Length", 1),
+    Row::Number("Configuration Write Enable", 2),
+    Row::Number("Poll Interval", 4),
+    Row::Number("Vector", 4),
+    Row::Number("Switch To Polling Threshold Value", 4),
+    Row::Number("Switch To Polling Threshold Window", 4),
+    Row::Number("Error Threshold Value", 4),
+    Row::Number("Error Threshold Window", 4),
+];
+
+impl Record<28> for NotificationStructure {
+    ghost fields = { notification_fields };
+
+    fn rows() -> &'static [Row] {
+        &NOTIFICATION
+    }
+
+    fn bytes(&self) -> [u8; 28] {
+        record_of_numbers(
+            &NOTIFICATION,
+            &[
+                u64::from(self.kind),
+                u64::from(self.length),
+                u64::from(self.conf_write_en),
+                u64::from(self.poll_interval_ms),
+                u64::from(self.vector),
+                u64::from(self.polling_threshold_value),
+                u64::from(self.polling_threshold_window_ms),
+                u64::from(self.error_threshold_value),
+                u64::from(self.error_threshold_window_ms),
+            ],
+        )
     }
 }
 
@@ -160,6 +181,6 @@ impl Aml for NotificationStructure {
     ghost ends_well = { λ n. whole_ends_well (notification_bytes n) };
 
     fn to_aml_bytes(&self, sink: &mut dyn AmlSink) -> R<()> {
-        sink.vec(&self.bytes())
+        write_record(self, sink)
     }
 }

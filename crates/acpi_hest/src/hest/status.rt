@@ -2,11 +2,12 @@
 
 ghost use Rattle.std.specs.Prelude.{◌≡◌};
 ghost use Rattle.acpi_base.specs.Object.{whole, whole_ends_well};
-ghost use Rattle.acpi_hest.specs.Status.{severity_number, status_of, error_status, error_status_bytes};
+ghost use Rattle.acpi_hest.specs.Status.{status_of, error_status, error_status_bytes};
+ghost use Rattle.acpi_hest.specs.Status.{error_status_fields};
 
 use acpi_base::error::R;
 use acpi_base::object::Aml;
-use acpi_base::record::{Field, record};
+use acpi_base::row::{Record, Row, record_of_numbers, write_record};
 use acpi_base::sink::AmlSink;
 
 /// How severe an error is (ACPI 6.5, 18.3.2.7.1, Error Severity).
@@ -41,17 +42,28 @@ impl GenericErrorStatus {
             severity,
         }
     }
+}
 
-    // The block's bytes.
-    fn bytes(&self) -> [u8; 20]
-        ensures { result ≡ error_status_bytes self.now }
-    {
-        record(&[
-            Field::DWord(self.status),
-            Field::DWord(0),
-            Field::QWord(0),
-            Field::DWord(self.severity as u32),
-        ])
+const ERROR_STATUS: [Row; 5] = [
+    Row::Number("Block Status", 4),
+    Row::Number("Raw Data Offset", 4),
+    Row::Number("Raw Data Length", 4),
+    Row::Number("Data Length", 4),
+    Row::Number("Error Severity", 4),
+];
+
+impl Record<20> for GenericErrorStatus {
+    ghost fields = { error_status_fields };
+
+    fn rows() -> &'static [Row] {
+        &ERROR_STATUS
+    }
+
+    fn bytes(&self) -> [u8; 20] {
+        record_of_numbers(
+            &ERROR_STATUS,
+            &[u64::from(self.status), 0, 0, 0, self.severity as u64],
+        )
     }
 }
 
@@ -72,6 +84,6 @@ impl Aml for GenericErrorStatus {
     ghost ends_well = { λ s. whole_ends_well (error_status_bytes s) };
 
     fn to_aml_bytes(&self, sink: &mut dyn AmlSink) -> R<()> {
-        sink.vec(&self.bytes())
+        write_record(self, sink)
     }
 }

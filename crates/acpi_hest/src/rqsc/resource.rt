@@ -1,15 +1,21 @@
 //! Resources that a controller shares out.
 
 ghost use Rattle.std.specs.Prelude.{◌≡◌, ◌++◌, length, IfOk, OnOk, IfErr};
+ghost use Rattle.acpi_base.specs.Fields.{AreRowsOf};
 ghost use Rattle.acpi_base.specs.Object.{whole, whole_ends_well};
 ghost use Rattle.acpi_base.specs.Sink.{Took, Refused};
 ghost use Rattle.acpi_core.specs.Structure.{structure_of, structure_ends_well};
-ghost use Rattle.acpi_hest.specs.Resource.{cache_resource, cache_bytes, memory_resource, memory_bytes, acpi_resource, acpi_bytes, pci_resource, pci_bytes, id_number, payload, id_bytes, same_id, resource, resource_head, resource_bytes, SameResource};
+ghost use Rattle.acpi_hest.specs.Resource.{cache_resource, cache_bytes, memory_resource, memory_bytes};
+ghost use Rattle.acpi_hest.specs.Resource.{acpi_resource, acpi_bytes, pci_resource, pci_bytes};
+ghost use Rattle.acpi_hest.specs.Resource.{id_number, payload, id_bytes, same_id};
+ghost use Rattle.acpi_hest.specs.Resource.{resource, resource_head_fields, resource_head, resource_bytes, SameResource};
+ghost use Rattle.acpi_hest.specs.declared.rqsc.resource.ResourceStructure.{ResourceStructure};
+ghost use Rattle.acpi_hest.specs.Resource.{cache_fields, memory_fields, acpi_fields, pci_fields};
 
+use crate::parts::{write_behind, write_record_behind};
 use acpi_base::error::{Error, R};
 use acpi_base::object::Aml;
-use acpi_base::parts::write_parts;
-use acpi_base::record::{Field, record};
+use acpi_base::row::{Record, Row, record_of_numbers, write_record};
 use acpi_base::sink::AmlSink;
 
 /// What a resource is (offset 0).
@@ -32,11 +38,19 @@ impl CacheResource {
     {
         CacheResource { cache_id }
     }
+}
 
-    fn bytes(&self) -> [u8; 12]
-        ensures { result ≡ cache_bytes self.now }
-    {
-        record(&[Field::DWord(self.cache_id), Field::QWord(0)])
+const CACHE: [Row; 2] = [Row::Number("Cache ID", 4), Row::Reserved(8)];
+
+impl Record<12> for CacheResource {
+    ghost fields = { cache_fields };
+
+    fn rows() -> &'static [Row] {
+        &CACHE
+    }
+
+    fn bytes(&self) -> [u8; 12] {
+        record_of_numbers(&CACHE, &[u64::from(self.cache_id), 0])
     }
 }
 
@@ -46,7 +60,7 @@ impl Aml for CacheResource {
     ghost ends_well = { λ r. whole_ends_well (cache_bytes r) };
 
     fn to_aml_bytes(&self, sink: &mut dyn AmlSink) -> R<()> {
-        sink.vec(&self.bytes())
+        write_record(self, sink)
     }
 }
 
@@ -70,15 +84,30 @@ impl MemoryAffinityStructureResource {
             raw_bandwidth_per_block,
         }
     }
+}
 
-    fn bytes(&self) -> [u8; 20]
-        ensures { result ≡ memory_bytes self.now }
-    {
-        record(&[
-            Field::DWord(self.proximity_domain),
-            Field::QWord(0),
-            Field::QWord(self.raw_bandwidth_per_block),
-        ])
+const MEMORY: [Row; 3] = [
+    Row::Number("Proximity Domain", 4),
+    Row::Reserved(8),
+    Row::Number("Raw Bandwidth per Block", 8),
+];
+
+impl Record<20> for MemoryAffinityStructureResource {
+    ghost fields = { memory_fields };
+
+    fn rows() -> &'static [Row] {
+        &MEMORY
+    }
+
+    fn bytes(&self) -> [u8; 20] {
+        record_of_numbers(
+            &MEMORY,
+            &[
+                u64::from(self.proximity_domain),
+                0,
+                self.raw_bandwidth_per_block,
+            ],
+        )
     }
 }
 
@@ -88,7 +117,7 @@ impl Aml for MemoryAffinityStructureResource {
     ghost ends_well = { λ r. whole_ends_well (memory_bytes r) };
 
     fn to_aml_bytes(&self, sink: &mut dyn AmlSink) -> R<()> {
-        sink.vec(&self.bytes())
+        write_record(self, sink)
     }
 }
 
@@ -109,14 +138,25 @@ impl ACPIDeviceResource {
             acpi_unique_id,
         }
     }
+}
 
-    fn bytes(&self) -> [u8; 12]
-        ensures { result ≡ acpi_bytes self.now }
-    {
-        record(&[
-            Field::QWord(self.acpi_hardware_id),
-            Field::DWord(self.acpi_unique_id),
-        ])
+const ACPI_DEVICE: [Row; 2] = [
+    Row::Number("ACPI Hardware ID", 8),
+    Row::Number("ACPI Unique ID", 4),
+];
+
+impl Record<12> for ACPIDeviceResource {
+    ghost fields = { acpi_fields };
+
+    fn rows() -> &'static [Row] {
+        &ACPI_DEVICE
+    }
+
+    fn bytes(&self) -> [u8; 12] {
+        record_of_numbers(
+            &ACPI_DEVICE,
+            &[self.acpi_hardware_id, u64::from(self.acpi_unique_id)],
+        )
     }
 }
 
@@ -126,7 +166,7 @@ impl Aml for ACPIDeviceResource {
     ghost ends_well = { λ r. whole_ends_well (acpi_bytes r) };
 
     fn to_aml_bytes(&self, sink: &mut dyn AmlSink) -> R<()> {
-        sink.vec(&self.bytes())
+        write_record(self, sink)
     }
 }
 
@@ -143,11 +183,19 @@ impl PCIDeviceResource {
     {
         PCIDeviceResource { bdf }
     }
+}
 
-    fn bytes(&self) -> [u8; 12]
-        ensures { result ≡ pci_bytes self.now }
-    {
-        record(&[Field::DWord(self.bdf), Field::QWord(0)])
+const PCI_DEVICE: [Row; 2] = [Row::Number("Segment and BDF", 4), Row::Reserved(8)];
+
+impl Record<12> for PCIDeviceResource {
+    ghost fields = { pci_fields };
+
+    fn rows() -> &'static [Row] {
+        &PCI_DEVICE
+    }
+
+    fn bytes(&self) -> [u8; 12] {
+        record_of_numbers(&PCI_DEVICE, &[u64::from(self.bdf), 0])
     }
 }
 
@@ -157,7 +205,7 @@ impl Aml for PCIDeviceResource {
     ghost ends_well = { λ r. whole_ends_well (pci_bytes r) };
 
     fn to_aml_bytes(&self, sink: &mut dyn AmlSink) -> R<()> {
-        sink.vec(&self.bytes())
+        write_record(self, sink)
     }
 }
 
@@ -223,13 +271,11 @@ impl ResourceID {
         ensures err { IfErr result (λ e. Refused e (meaning sink.old) (head.now ++ payload self.now) (meaning sink.new)) }
     {
         match self {
-            ResourceID::Cache(cache) => write_parts(sink, &[head, &cache.bytes()]),
-            ResourceID::MemoryAffinityStructure(memory) => {
-                write_parts(sink, &[head, &memory.bytes()])
-            }
-            ResourceID::ACPIDevice(device) => write_parts(sink, &[head, &device.bytes()]),
-            ResourceID::PCIDevice(device) => write_parts(sink, &[head, &device.bytes()]),
-            ResourceID::VendorSpecific(_, bytes) => write_parts(sink, &[head, bytes]),
+            ResourceID::Cache(cache) => write_record_behind(head, cache, sink),
+            ResourceID::MemoryAffinityStructure(memory) => write_record_behind(head, memory, sink),
+            ResourceID::ACPIDevice(device) => write_record_behind(head, device, sink),
+            ResourceID::PCIDevice(device) => write_record_behind(head, device, sink),
+            ResourceID::VendorSpecific(_, bytes) => write_behind(head, bytes, sink),
         }
     }
 }
@@ -293,15 +339,34 @@ impl ResourceStructure {
         requires { size ≡ length (resource_bytes self.now) }
         ensures { result ≡ resource_head self.now }
     {
-        record(&[
-            Field::Byte(self.kind as u8),
-            Field::Byte(0),
-            Field::Word(size),
-            Field::Word(self.flags),
-            Field::Byte(0),
-            Field::Byte(self.id.resource_id_type()),
-        ])
+        record_of_numbers(
+            &RESOURCE,
+            &[
+                self.kind as u64,
+                0,
+                u64::from(size),
+                u64::from(self.flags),
+                0,
+                u64::from(self.id.resource_id_type()),
+            ],
+        )
     }
+}
+
+const RESOURCE: [Row; 6] = [
+    Row::Number("Resource Type", 1),
+    Row::Reserved(1),
+    Row::Number("Length", 2),
+    Row::Number("Resource Flags", 2),
+    Row::Reserved(1),
+    Row::Number("Resource ID Type", 1),
+];
+
+/// The names and widths of a resource's fields before its payload, in order.
+pub fn resource_rows() -> &'static [Row]
+    ensures { (r : ResourceStructure) → AreRowsOf result.now (resource_head_fields r) }
+{
+    &RESOURCE
 }
 
 impl Aml for ResourceStructure {

@@ -2,11 +2,15 @@
 
 ghost use Rattle.std.specs.Prelude.{◌≡◌};
 ghost use Rattle.acpi_base.specs.Object.{whole, whole_ends_well};
+ghost use Rattle.acpi_lists.specs.MadtArm.{with_edge, gicc, gicc_bytes, with_performance_interrupt};
+ghost use Rattle.acpi_lists.specs.MadtArm.{with_maintenance_interrupt, gicc_fields, gicd, gicd_bytes, gicd_fields};
+ghost use Rattle.acpi_lists.specs.MadtArm.{gic_msi, gic_msi_bytes, with_spis, gic_msi_fields, gicr, gicr_bytes};
+ghost use Rattle.acpi_lists.specs.MadtArm.{gicr_fields, gic_its, gic_its_bytes, gic_its_fields};
 
 use crate::madt::EnabledStatus;
 use acpi_base::error::R;
 use acpi_base::object::Aml;
-use acpi_base::record::{Field, record};
+use acpi_base::row::{Record, Row, record_of_numbers, write_record};
 use acpi_base::sink::AmlSink;
 
 // Flags of a CPU interface (ACPI 6.5, 5.2.12.14, offset 12).
@@ -29,8 +33,6 @@ pub enum Trigger {
 }
 
 impl Trigger {
-    ghost use Rattle.acpi_lists.specs.MadtArm.{with_edge};
-
     // Flags, with this one among them where the interrupt is edge triggered.
     fn with_edge(self, flag: u32, flags: u32) -> u32
         ensures { result ≡ with_edge self flag flags }
@@ -63,8 +65,6 @@ pub struct Gicc {
 }
 
 impl Gicc {
-    ghost use Rattle.acpi_lists.specs.MadtArm.{gicc, gicc_bytes, with_performance_interrupt, with_maintenance_interrupt};
-
     /// An interface of which the flags alone are set (offset 12): 1 for an enabled processor, 8 for one that can be brought
     /// online.
     pub fn new(status: EnabledStatus) -> Gicc
@@ -209,44 +209,72 @@ impl Gicc {
         self.trbe_interrupt = trbe_interrupt;
         self
     }
+}
 
-    // The structure's bytes.
-    fn bytes(&self) -> [u8; 82]
-        ensures { result ≡ gicc_bytes self.now }
-    {
-        record(&[
-            Field::Byte(0x0b),
-            Field::Byte(82),
-            Field::Word(0),
-            Field::DWord(self.cpu_interface_number),
-            Field::DWord(self.acpi_processor_uid),
-            Field::DWord(self.flags),
-            Field::DWord(self.parking_protocol_version),
-            Field::DWord(self.performance_interrupt),
-            Field::QWord(self.parked_address),
-            Field::QWord(self.base_address),
-            Field::QWord(self.virtual_registers),
-            Field::QWord(self.control_block_registers),
-            Field::DWord(self.maintenance_interrupt),
-            Field::QWord(self.redistributor_base),
-            Field::QWord(self.mpidr),
-            Field::Byte(self.power_efficiency_class),
-            Field::Byte(0),
-            Field::Word(self.overflow_interrupt),
-            Field::Word(self.trbe_interrupt),
-        ])
+const GICC: [Row; 19] = [
+    Row::Number("Type", 1),
+    Row::Number("Length", 1),
+    Row::Reserved(2),
+    Row::Number("CPU Interface Number", 4),
+    Row::Number("ACPI Processor UID", 4),
+    Row::Number("Flags", 4),
+    Row::Number("Parking Protocol Version", 4),
+    Row::Number("Performance Interrupt GSIV", 4),
+    Row::Number("Parked Address", 8),
+    Row::Number("Physical Base Address", 8),
+    Row::Number("GICV", 8),
+    Row::Number("GICH", 8),
+    Row::Number("VGIC Maintenance Interrupt", 4),
+    Row::Number("GICR Base Address", 8),
+    Row::Number("MPIDR", 8),
+    Row::Number("Processor Power Efficiency Class", 1),
+    Row::Reserved(1),
+    Row::Number("SPE Overflow Interrupt", 2),
+    Row::Number("TRBE Interrupt", 2),
+];
+
+impl Record<82> for Gicc {
+    ghost fields = { gicc_fields };
+
+    fn rows() -> &'static [Row] {
+        &GICC
+    }
+
+    fn bytes(&self) -> [u8; 82] {
+        record_of_numbers(
+            &GICC,
+            &[
+                0x0b,
+                82,
+                0,
+                u64::from(self.cpu_interface_number),
+                u64::from(self.acpi_processor_uid),
+                u64::from(self.flags),
+                u64::from(self.parking_protocol_version),
+                u64::from(self.performance_interrupt),
+                self.parked_address,
+                self.base_address,
+                self.virtual_registers,
+                self.control_block_registers,
+                u64::from(self.maintenance_interrupt),
+                self.redistributor_base,
+                self.mpidr,
+                u64::from(self.power_efficiency_class),
+                0,
+                u64::from(self.overflow_interrupt),
+                u64::from(self.trbe_interrupt),
+            ],
+        )
     }
 }
 
 impl Aml for Gicc {
-    ghost use Rattle.acpi_lists.specs.MadtArm.{gicc_bytes};
-
     ghost object = { λ s. whole (gicc_bytes s) };
 
     ghost ends_well = { λ s. whole_ends_well (gicc_bytes s) };
 
     fn to_aml_bytes(&self, sink: &mut dyn AmlSink) -> R<()> {
-        sink.vec(&self.bytes())
+        write_record(self, sink)
     }
 }
 
@@ -269,8 +297,6 @@ pub struct Gicd {
 }
 
 impl Gicd {
-    ghost use Rattle.acpi_lists.specs.MadtArm.{gicd, gicd_bytes};
-
     /// A distributor of an id (offset 4) at a physical address (offset 8).
     pub fn new(gic_id: u32, base_addr: u64, version: GicVersion) -> Gicd
         ensures { result ≡ gicd gic_id base_addr version }
@@ -281,33 +307,50 @@ impl Gicd {
             version,
         }
     }
+}
 
-    // The structure's bytes.
-    fn bytes(&self) -> [u8; 24]
-        ensures { result ≡ gicd_bytes self.now }
-    {
-        record(&[
-            Field::Byte(0x0c),
-            Field::Byte(24),
-            Field::Word(0),
-            Field::DWord(self.gic_id),
-            Field::QWord(self.base_addr),
-            Field::DWord(0),
-            Field::Byte(self.version as u8),
-            Field::Bytes(&[0; 3]),
-        ])
+const GICD: [Row; 8] = [
+    Row::Number("Type", 1),
+    Row::Number("Length", 1),
+    Row::Reserved(2),
+    Row::Number("GIC ID", 4),
+    Row::Number("Physical Base Address", 8),
+    Row::Number("System Vector Base", 4),
+    Row::Number("GIC Version", 1),
+    Row::Reserved(3),
+];
+
+impl Record<24> for Gicd {
+    ghost fields = { gicd_fields };
+
+    fn rows() -> &'static [Row] {
+        &GICD
+    }
+
+    fn bytes(&self) -> [u8; 24] {
+        record_of_numbers(
+            &GICD,
+            &[
+                0x0c,
+                24,
+                0,
+                u64::from(self.gic_id),
+                self.base_addr,
+                0,
+                self.version as u64,
+                0,
+            ],
+        )
     }
 }
 
 impl Aml for Gicd {
-    ghost use Rattle.acpi_lists.specs.MadtArm.{gicd_bytes};
-
     ghost object = { λ s. whole (gicd_bytes s) };
 
     ghost ends_well = { λ s. whole_ends_well (gicd_bytes s) };
 
     fn to_aml_bytes(&self, sink: &mut dyn AmlSink) -> R<()> {
-        sink.vec(&self.bytes())
+        write_record(self, sink)
     }
 }
 
@@ -323,8 +366,6 @@ pub struct GicMsi {
 }
 
 impl GicMsi {
-    ghost use Rattle.acpi_lists.specs.MadtArm.{gic_msi, gic_msi_bytes, with_spis};
-
     /// A frame of which everything is zero: its own register tells its interrupts.
     pub fn new() -> GicMsi
         ensures { result ≡ gic_msi }
@@ -364,33 +405,50 @@ impl GicMsi {
         self.flags |= SPI_COUNT_AND_BASE;
         self
     }
+}
 
-    // The structure's bytes.
-    fn bytes(&self) -> [u8; 24]
-        ensures { result ≡ gic_msi_bytes self.now }
-    {
-        record(&[
-            Field::Byte(0x0d),
-            Field::Byte(24),
-            Field::Word(0),
-            Field::DWord(self.gic_msi_frame_id),
-            Field::QWord(self.base_addr),
-            Field::DWord(self.flags),
-            Field::Word(self.spi_count),
-            Field::Word(self.spi_base),
-        ])
+const GIC_MSI: [Row; 8] = [
+    Row::Number("Type", 1),
+    Row::Number("Length", 1),
+    Row::Reserved(2),
+    Row::Number("GIC MSI Frame ID", 4),
+    Row::Number("Physical Base Address", 8),
+    Row::Number("Flags", 4),
+    Row::Number("SPI Count", 2),
+    Row::Number("SPI Base", 2),
+];
+
+impl Record<24> for GicMsi {
+    ghost fields = { gic_msi_fields };
+
+    fn rows() -> &'static [Row] {
+        &GIC_MSI
+    }
+
+    fn bytes(&self) -> [u8; 24] {
+        record_of_numbers(
+            &GIC_MSI,
+            &[
+                0x0d,
+                24,
+                0,
+                u64::from(self.gic_msi_frame_id),
+                self.base_addr,
+                u64::from(self.flags),
+                u64::from(self.spi_count),
+                u64::from(self.spi_base),
+            ],
+        )
     }
 }
 
 impl Aml for GicMsi {
-    ghost use Rattle.acpi_lists.specs.MadtArm.{gic_msi_bytes};
-
     ghost object = { λ s. whole (gic_msi_bytes s) };
 
     ghost ends_well = { λ s. whole_ends_well (gic_msi_bytes s) };
 
     fn to_aml_bytes(&self, sink: &mut dyn AmlSink) -> R<()> {
-        sink.vec(&self.bytes())
+        write_record(self, sink)
     }
 }
 
@@ -402,8 +460,6 @@ pub struct Gicr {
 }
 
 impl Gicr {
-    ghost use Rattle.acpi_lists.specs.MadtArm.{gicr, gicr_bytes};
-
     /// Redistributors from a physical address on (offset 4), in so many bytes (offset 12).
     pub fn new(discovery_range_base: u64, discovery_range_length: u32) -> Gicr
         ensures { result ≡ gicr discovery_range_base discovery_range_length }
@@ -413,30 +469,44 @@ impl Gicr {
             discovery_range_length,
         }
     }
+}
 
-    // The structure's bytes.
-    fn bytes(&self) -> [u8; 16]
-        ensures { result ≡ gicr_bytes self.now }
-    {
-        record(&[
-            Field::Byte(0x0e),
-            Field::Byte(16),
-            Field::Word(0),
-            Field::QWord(self.discovery_range_base),
-            Field::DWord(self.discovery_range_length),
-        ])
+const GICR: [Row; 5] = [
+    Row::Number("Type", 1),
+    Row::Number("Length", 1),
+    Row::Reserved(2),
+    Row::Number("Discovery Range Base Address", 8),
+    Row::Number("Discovery Range Length", 4),
+];
+
+impl Record<16> for Gicr {
+    ghost fields = { gicr_fields };
+
+    fn rows() -> &'static [Row] {
+        &GICR
+    }
+
+    fn bytes(&self) -> [u8; 16] {
+        record_of_numbers(
+            &GICR,
+            &[
+                0x0e,
+                16,
+                0,
+                self.discovery_range_base,
+                u64::from(self.discovery_range_length),
+            ],
+        )
     }
 }
 
 impl Aml for Gicr {
-    ghost use Rattle.acpi_lists.specs.MadtArm.{gicr_bytes};
-
     ghost object = { λ s. whole (gicr_bytes s) };
 
     ghost ends_well = { λ s. whole_ends_well (gicr_bytes s) };
 
     fn to_aml_bytes(&self, sink: &mut dyn AmlSink) -> R<()> {
-        sink.vec(&self.bytes())
+        write_record(self, sink)
     }
 }
 
@@ -448,8 +518,6 @@ pub struct GicIts {
 }
 
 impl GicIts {
-    ghost use Rattle.acpi_lists.specs.MadtArm.{gic_its, gic_its_bytes};
-
     /// A service of an id (offset 4) at a physical address (offset 8).
     pub fn new(gic_its_id: u32, base_addr: u64) -> GicIts
         ensures { result ≡ gic_its gic_its_id base_addr }
@@ -459,30 +527,38 @@ impl GicIts {
             base_addr,
         }
     }
+}
 
-    // The structure's bytes.
-    fn bytes(&self) -> [u8; 20]
-        ensures { result ≡ gic_its_bytes self.now }
-    {
-        record(&[
-            Field::Byte(0x0f),
-            Field::Byte(20),
-            Field::Word(0),
-            Field::DWord(self.gic_its_id),
-            Field::QWord(self.base_addr),
-            Field::DWord(0),
-        ])
+const GIC_ITS: [Row; 6] = [
+    Row::Number("Type", 1),
+    Row::Number("Length", 1),
+    Row::Reserved(2),
+    Row::Number("GIC ITS ID", 4),
+    Row::Number("Physical Base Address", 8),
+    Row::Reserved(4),
+];
+
+impl Record<20> for GicIts {
+    ghost fields = { gic_its_fields };
+
+    fn rows() -> &'static [Row] {
+        &GIC_ITS
+    }
+
+    fn bytes(&self) -> [u8; 20] {
+        record_of_numbers(
+            &GIC_ITS,
+            &[0x0f, 20, 0, u64::from(self.gic_its_id), self.base_addr, 0],
+        )
     }
 }
 
 impl Aml for GicIts {
-    ghost use Rattle.acpi_lists.specs.MadtArm.{gic_its_bytes};
-
     ghost object = { λ s. whole (gic_its_bytes s) };
 
     ghost ends_well = { λ s. whole_ends_well (gic_its_bytes s) };
 
     fn to_aml_bytes(&self, sink: &mut dyn AmlSink) -> R<()> {
-        sink.vec(&self.bytes())
+        write_record(self, sink)
     }
 }

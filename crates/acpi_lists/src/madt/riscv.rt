@@ -2,10 +2,12 @@
 
 ghost use Rattle.std.specs.Prelude.{◌≡◌};
 ghost use Rattle.acpi_base.specs.Object.{whole, whole_ends_well};
+ghost use Rattle.acpi_lists.specs.MadtRiscv.{rintc, rintc_bytes, rintc_fields, imsic, imsic_bytes, imsic_fields, aplic};
+ghost use Rattle.acpi_lists.specs.MadtRiscv.{aplic_bytes, aplic_fields, plic, plic_bytes, plic_fields};
 
 use acpi_base::error::R;
 use acpi_base::object::Aml;
-use acpi_base::record::{Field, record};
+use acpi_base::row::{Record, Row, Value, record_of, record_of_numbers, write_record};
 use acpi_base::sink::AmlSink;
 
 /// Whether a hart can be used, or could be brought online later (offset 4 of RINTC).
@@ -28,8 +30,6 @@ pub struct RINTC {
 }
 
 impl RINTC {
-    ghost use Rattle.acpi_lists.specs.MadtRiscv.{rintc, rintc_bytes};
-
     /// The hart that `mhartid` tells (offset 8), of a unique id in the namespace (offset 16), with an external interrupt
     /// controller (offset 20), and the physical address (offset 24) and bytes (offset 32) of its incoming MSI controller.
     pub fn new(
@@ -58,35 +58,54 @@ impl RINTC {
     {
         36
     }
+}
 
-    // The structure's bytes.
-    fn bytes(&self) -> [u8; 36]
-        ensures { result ≡ rintc_bytes self.now }
-    {
-        record(&[
-            Field::Byte(0x18),
-            Field::Byte(36),
-            Field::Byte(1),
-            Field::Byte(0),
-            Field::DWord(self.hart_status as u32),
-            Field::QWord(self.hart_id),
-            Field::DWord(self.acpi_processor_uid),
-            Field::DWord(self.ext_int_ctrl_id),
-            Field::QWord(self.imsic_base_addr),
-            Field::DWord(self.imsic_size),
-        ])
+const RINTC_ROWS: [Row; 10] = [
+    Row::Number("Type", 1),
+    Row::Number("Length", 1),
+    Row::Number("Version", 1),
+    Row::Reserved(1),
+    Row::Number("Flags", 4),
+    Row::Number("Hart ID", 8),
+    Row::Number("ACPI Processor UID", 4),
+    Row::Number("External Interrupt Controller ID", 4),
+    Row::Number("IMSIC Base Address", 8),
+    Row::Number("IMSIC Size", 4),
+];
+
+impl Record<36> for RINTC {
+    ghost fields = { rintc_fields };
+
+    fn rows() -> &'static [Row] {
+        &RINTC_ROWS
+    }
+
+    fn bytes(&self) -> [u8; 36] {
+        record_of_numbers(
+            &RINTC_ROWS,
+            &[
+                0x18,
+                36,
+                1,
+                0,
+                self.hart_status as u64,
+                self.hart_id,
+                u64::from(self.acpi_processor_uid),
+                u64::from(self.ext_int_ctrl_id),
+                self.imsic_base_addr,
+                u64::from(self.imsic_size),
+            ],
+        )
     }
 }
 
 impl Aml for RINTC {
-    ghost use Rattle.acpi_lists.specs.MadtRiscv.{rintc_bytes};
-
     ghost object = { λ s. whole (rintc_bytes s) };
 
     ghost ends_well = { λ s. whole_ends_well (rintc_bytes s) };
 
     fn to_aml_bytes(&self, sink: &mut dyn AmlSink) -> R<()> {
-        sink.vec(&self.bytes())
+        write_record(self, sink)
     }
 }
 
@@ -103,8 +122,6 @@ pub struct IMSIC {
 }
 
 impl IMSIC {
-    ghost use Rattle.acpi_lists.specs.MadtRiscv.{imsic, imsic_bytes};
-
     /// How many interrupts there are in supervisor mode (offset 8) and in a guest (offset 10), and how many bits of a
     /// message's address tell the guest (offset 12), the hart (offset 13) and the group of harts (offset 14), which begins
     /// at this bit of the address (offset 15).
@@ -116,7 +133,8 @@ impl IMSIC {
         group_index_bits: u8,
         group_index_shift: u8,
     ) -> IMSIC
-        ensures { result ≡ imsic num_supervisor_interrupt_identities num_guest_interrupt_identities guest_index_bits hart_index_bits group_index_bits group_index_shift }
+        ensures { result ≡ imsic num_supervisor_interrupt_identities num_guest_interrupt_identities
+            guest_index_bits hart_index_bits group_index_bits group_index_shift }
     {
         IMSIC {
             num_supervisor_interrupt_identities,
@@ -134,35 +152,54 @@ impl IMSIC {
     {
         16
     }
+}
 
-    // The structure's bytes.
-    fn bytes(&self) -> [u8; 16]
-        ensures { result ≡ imsic_bytes self.now }
-    {
-        record(&[
-            Field::Byte(0x19),
-            Field::Byte(16),
-            Field::Byte(1),
-            Field::Bytes(&[0; 5]),
-            Field::Word(self.num_supervisor_interrupt_identities),
-            Field::Word(self.num_guest_interrupt_identities),
-            Field::Byte(self.guest_index_bits),
-            Field::Byte(self.hart_index_bits),
-            Field::Byte(self.group_index_bits),
-            Field::Byte(self.group_index_shift),
-        ])
+const IMSIC_ROWS: [Row; 10] = [
+    Row::Number("Type", 1),
+    Row::Number("Length", 1),
+    Row::Number("Version", 1),
+    Row::Reserved(5),
+    Row::Number("Number of Supervisor Mode Interrupt Identities", 2),
+    Row::Number("Number of Guest Mode Interrupt Identities", 2),
+    Row::Number("Guest Index Bits", 1),
+    Row::Number("Hart Index Bits", 1),
+    Row::Number("Group Index Bits", 1),
+    Row::Number("Group Index Shift", 1),
+];
+
+impl Record<16> for IMSIC {
+    ghost fields = { imsic_fields };
+
+    fn rows() -> &'static [Row] {
+        &IMSIC_ROWS
+    }
+
+    fn bytes(&self) -> [u8; 16] {
+        record_of_numbers(
+            &IMSIC_ROWS,
+            &[
+                0x19,
+                16,
+                1,
+                0,
+                u64::from(self.num_supervisor_interrupt_identities),
+                u64::from(self.num_guest_interrupt_identities),
+                u64::from(self.guest_index_bits),
+                u64::from(self.hart_index_bits),
+                u64::from(self.group_index_bits),
+                u64::from(self.group_index_shift),
+            ],
+        )
     }
 }
 
 impl Aml for IMSIC {
-    ghost use Rattle.acpi_lists.specs.MadtRiscv.{imsic_bytes};
-
     ghost object = { λ s. whole (imsic_bytes s) };
 
     ghost ends_well = { λ s. whole_ends_well (imsic_bytes s) };
 
     fn to_aml_bytes(&self, sink: &mut dyn AmlSink) -> R<()> {
-        sink.vec(&self.bytes())
+        write_record(self, sink)
     }
 }
 
@@ -179,8 +216,6 @@ pub struct APLIC {
 }
 
 impl APLIC {
-    ghost use Rattle.acpi_lists.specs.MadtRiscv.{aplic, aplic_bytes};
-
     /// A controller of an id (offset 3) and hardware id (offset 8), with so many structures that deliver interrupts to
     /// harts, one for each hart (offset 16), the first of its global system interrupts (offset 20), its physical address
     /// (offset 24), its bytes (offset 32), and how many sources it has (offset 18).
@@ -193,7 +228,8 @@ impl APLIC {
         aplic_size: u32,
         total_external_interrupt_sources: u16,
     ) -> APLIC
-        ensures { result ≡ aplic aplic_id hardware_id number_of_idcs global_system_interrupt_base aplic_address aplic_size total_external_interrupt_sources }
+        ensures { result ≡ aplic aplic_id hardware_id number_of_idcs global_system_interrupt_base
+            aplic_address aplic_size total_external_interrupt_sources }
     {
         APLIC {
             aplic_id,
@@ -212,36 +248,56 @@ impl APLIC {
     {
         36
     }
+}
 
-    // The structure's bytes.
-    fn bytes(&self) -> [u8; 36]
-        ensures { result ≡ aplic_bytes self.now }
-    {
-        record(&[
-            Field::Byte(0x1a),
-            Field::Byte(36),
-            Field::Byte(1),
-            Field::Byte(self.aplic_id),
-            Field::DWord(0),
-            Field::Bytes(&self.hardware_id),
-            Field::Word(self.number_of_idcs),
-            Field::Word(self.total_external_interrupt_sources),
-            Field::DWord(self.global_system_interrupt_base),
-            Field::QWord(self.aplic_address),
-            Field::DWord(self.aplic_size),
-        ])
+const APLIC_ROWS: [Row; 11] = [
+    Row::Number("Type", 1),
+    Row::Number("Length", 1),
+    Row::Number("Version", 1),
+    Row::Number("APLIC ID", 1),
+    Row::Number("Flags", 4),
+    Row::Bytes("Hardware ID", 8),
+    Row::Number("Number of IDCs", 2),
+    Row::Number("Total External Interrupt Sources Supported", 2),
+    Row::Number("Global System Interrupt Base", 4),
+    Row::Number("APLIC Address", 8),
+    Row::Number("APLIC Size", 4),
+];
+
+impl Record<36> for APLIC {
+    ghost fields = { aplic_fields };
+
+    fn rows() -> &'static [Row] {
+        &APLIC_ROWS
+    }
+
+    fn bytes(&self) -> [u8; 36] {
+        record_of(
+            &APLIC_ROWS,
+            &[
+                Value::Number(0x1a),
+                Value::Number(36),
+                Value::Number(1),
+                Value::Number(u64::from(self.aplic_id)),
+                Value::Number(0),
+                Value::Bytes(&self.hardware_id),
+                Value::Number(u64::from(self.number_of_idcs)),
+                Value::Number(u64::from(self.total_external_interrupt_sources)),
+                Value::Number(u64::from(self.global_system_interrupt_base)),
+                Value::Number(self.aplic_address),
+                Value::Number(u64::from(self.aplic_size)),
+            ],
+        )
     }
 }
 
 impl Aml for APLIC {
-    ghost use Rattle.acpi_lists.specs.MadtRiscv.{aplic_bytes};
-
     ghost object = { λ s. whole (aplic_bytes s) };
 
     ghost ends_well = { λ s. whole_ends_well (aplic_bytes s) };
 
     fn to_aml_bytes(&self, sink: &mut dyn AmlSink) -> R<()> {
-        sink.vec(&self.bytes())
+        write_record(self, sink)
     }
 }
 
@@ -258,8 +314,6 @@ pub struct PLIC {
 }
 
 impl PLIC {
-    ghost use Rattle.acpi_lists.specs.MadtRiscv.{plic, plic_bytes};
-
     /// A controller of an id (offset 3) and hardware id (offset 4), with so many sources (offset 12), a highest priority
     /// (offset 14), its bytes (offset 20), its physical address (offset 24), and the first of its global system interrupts
     /// (offset 32).
@@ -272,7 +326,8 @@ impl PLIC {
         plic_address: u64,
         global_system_interrupt_base: u32,
     ) -> PLIC
-        ensures { result ≡ plic plic_id hardware_id total_external_interrupt_sources max_priority plic_size plic_address global_system_interrupt_base }
+        ensures { result ≡ plic plic_id hardware_id total_external_interrupt_sources max_priority
+            plic_size plic_address global_system_interrupt_base }
     {
         PLIC {
             plic_id,
@@ -291,35 +346,55 @@ impl PLIC {
     {
         36
     }
+}
 
-    // The structure's bytes.
-    fn bytes(&self) -> [u8; 36]
-        ensures { result ≡ plic_bytes self.now }
-    {
-        record(&[
-            Field::Byte(0x1b),
-            Field::Byte(36),
-            Field::Byte(1),
-            Field::Byte(self.plic_id),
-            Field::Bytes(&self.hardware_id),
-            Field::Word(self.total_external_interrupt_sources),
-            Field::Word(self.max_priority),
-            Field::DWord(0),
-            Field::DWord(self.plic_size),
-            Field::QWord(self.plic_address),
-            Field::DWord(self.global_system_interrupt_base),
-        ])
+const PLIC_ROWS: [Row; 11] = [
+    Row::Number("Type", 1),
+    Row::Number("Length", 1),
+    Row::Number("Version", 1),
+    Row::Number("PLIC ID", 1),
+    Row::Bytes("Hardware ID", 8),
+    Row::Number("Total External Interrupt Sources Supported", 2),
+    Row::Number("Max Priority", 2),
+    Row::Number("Flags", 4),
+    Row::Number("PLIC Size", 4),
+    Row::Number("PLIC Address", 8),
+    Row::Number("Global System Interrupt Base", 4),
+];
+
+impl Record<36> for PLIC {
+    ghost fields = { plic_fields };
+
+    fn rows() -> &'static [Row] {
+        &PLIC_ROWS
+    }
+
+    fn bytes(&self) -> [u8; 36] {
+        record_of(
+            &PLIC_ROWS,
+            &[
+                Value::Number(0x1b),
+                Value::Number(36),
+                Value::Number(1),
+                Value::Number(u64::from(self.plic_id)),
+                Value::Bytes(&self.hardware_id),
+                Value::Number(u64::from(self.total_external_interrupt_sources)),
+                Value::Number(u64::from(self.max_priority)),
+                Value::Number(0),
+                Value::Number(u64::from(self.plic_size)),
+                Value::Number(self.plic_address),
+                Value::Number(u64::from(self.global_system_interrupt_base)),
+            ],
+        )
     }
 }
 
 impl Aml for PLIC {
-    ghost use Rattle.acpi_lists.specs.MadtRiscv.{plic_bytes};
-
     ghost object = { λ s. whole (plic_bytes s) };
 
     ghost ends_well = { λ s. whole_ends_well (plic_bytes s) };
 
     fn to_aml_bytes(&self, sink: &mut dyn AmlSink) -> R<()> {
-        sink.vec(&self.bytes())
+        write_record(self, sink)
     }
 }

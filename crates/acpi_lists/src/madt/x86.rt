@@ -2,11 +2,13 @@
 
 ghost use Rattle.std.specs.Prelude.{◌≡◌};
 ghost use Rattle.acpi_base.specs.Object.{whole, whole_ends_well};
+ghost use Rattle.acpi_lists.specs.MadtX86.{processor_local_apic, processor_local_apic_bytes};
+ghost use Rattle.acpi_lists.specs.MadtX86.{processor_local_apic_fields, io_apic, io_apic_bytes, io_apic_fields};
 
 use crate::madt::EnabledStatus;
 use acpi_base::error::R;
 use acpi_base::object::Aml;
-use acpi_base::record::{Field, record};
+use acpi_base::row::{Record, Row, record_of_numbers, write_record};
 use acpi_base::sink::AmlSink;
 
 /// A processor and its local APIC: 8 bytes (ACPI 6.5, 5.2.12.2).
@@ -18,8 +20,6 @@ pub struct ProcessorLocalApic {
 }
 
 impl ProcessorLocalApic {
-    ghost use Rattle.acpi_lists.specs.MadtX86.{processor_local_apic, processor_local_apic_bytes};
-
     /// The processor of a unique id in the namespace (offset 2), with a local APIC (offset 3).
     pub fn new(uid: u8, apic_id: u8, enabled: EnabledStatus) -> ProcessorLocalApic
         ensures { result ≡ processor_local_apic uid apic_id enabled }
@@ -30,30 +30,44 @@ impl ProcessorLocalApic {
             status: enabled,
         }
     }
+}
 
-    // The structure's bytes.
-    fn bytes(&self) -> [u8; 8]
-        ensures { result ≡ processor_local_apic_bytes self.now }
-    {
-        record(&[
-            Field::Byte(0x00),
-            Field::Byte(8),
-            Field::Byte(self.processor_uid),
-            Field::Byte(self.apic_id),
-            Field::DWord(self.status as u32),
-        ])
+const PROCESSOR_LOCAL_APIC: [Row; 5] = [
+    Row::Number("Type", 1),
+    Row::Number("Length", 1),
+    Row::Number("ACPI Processor UID", 1),
+    Row::Number("APIC ID", 1),
+    Row::Number("Flags", 4),
+];
+
+impl Record<8> for ProcessorLocalApic {
+    ghost fields = { processor_local_apic_fields };
+
+    fn rows() -> &'static [Row] {
+        &PROCESSOR_LOCAL_APIC
+    }
+
+    fn bytes(&self) -> [u8; 8] {
+        record_of_numbers(
+            &PROCESSOR_LOCAL_APIC,
+            &[
+                0x00,
+                8,
+                u64::from(self.processor_uid),
+                u64::from(self.apic_id),
+                self.status as u64,
+            ],
+        )
     }
 }
 
 impl Aml for ProcessorLocalApic {
-    ghost use Rattle.acpi_lists.specs.MadtX86.{processor_local_apic_bytes};
-
     ghost object = { λ s. whole (processor_local_apic_bytes s) };
 
     ghost ends_well = { λ s. whole_ends_well (processor_local_apic_bytes s) };
 
     fn to_aml_bytes(&self, sink: &mut dyn AmlSink) -> R<()> {
-        sink.vec(&self.bytes())
+        write_record(self, sink)
     }
 }
 
@@ -66,8 +80,6 @@ pub struct IoApic {
 }
 
 impl IoApic {
-    ghost use Rattle.acpi_lists.specs.MadtX86.{io_apic, io_apic_bytes};
-
     /// An I/O APIC (offset 2) at a physical address (offset 4), whose inputs begin at a global system interrupt (offset 8).
     pub fn new(io_apic_id: u8, io_apic_addr: u32, gsi_base: u32) -> IoApic
         ensures { result ≡ io_apic io_apic_id io_apic_addr gsi_base }
@@ -78,30 +90,45 @@ impl IoApic {
             gsi_base,
         }
     }
+}
 
-    // The structure's bytes.
-    fn bytes(&self) -> [u8; 12]
-        ensures { result ≡ io_apic_bytes self.now }
-    {
-        record(&[
-            Field::Byte(0x01),
-            Field::Byte(12),
-            Field::Byte(self.io_apic_id),
-            Field::Byte(0),
-            Field::DWord(self.io_apic_addr),
-            Field::DWord(self.gsi_base),
-        ])
+const IO_APIC: [Row; 6] = [
+    Row::Number("Type", 1),
+    Row::Number("Length", 1),
+    Row::Number("I/O APIC ID", 1),
+    Row::Reserved(1),
+    Row::Number("I/O APIC Address", 4),
+    Row::Number("Global System Interrupt Base", 4),
+];
+
+impl Record<12> for IoApic {
+    ghost fields = { io_apic_fields };
+
+    fn rows() -> &'static [Row] {
+        &IO_APIC
+    }
+
+    fn bytes(&self) -> [u8; 12] {
+        record_of_numbers(
+            &IO_APIC,
+            &[
+                0x01,
+                12,
+                u64::from(self.io_apic_id),
+                0,
+                u64::from(self.io_apic_addr),
+                u64::from(self.gsi_base),
+            ],
+        )
     }
 }
 
 impl Aml for IoApic {
-    ghost use Rattle.acpi_lists.specs.MadtX86.{io_apic_bytes};
-
     ghost object = { λ s. whole (io_apic_bytes s) };
 
     ghost ends_well = { λ s. whole_ends_well (io_apic_bytes s) };
 
     fn to_aml_bytes(&self, sink: &mut dyn AmlSink) -> R<()> {
-        sink.vec(&self.bytes())
+        write_record(self, sink)
     }
 }

@@ -1,15 +1,17 @@
 //! Caches in front of memory.
 
-ghost use Rattle.std.specs.Prelude.{◌≡◌, ◌≢◌, ◌+◌, ◌*◌, ◌≤◌, ◌<◌, ◌++◌, length, OnOk, OnErr, IfErr};
+ghost use Rattle.std.specs.Prelude.{◌≡◌, ◌≢◌, ◌+◌, ◌<◌, ◌++◌, OnOk, OnErr, IfErr};
 ghost use Rattle.acpi_base.specs.Bytes.{le};
+ghost use Rattle.acpi_base.specs.Fields.{AreRowsOf};
 ghost use Rattle.acpi_base.specs.Object.{whole, whole_ends_well};
-ghost use Rattle.acpi_matrices.specs.Cache.{level_number, associativity_number, policy_number, cache, cache_head, cache_bytes, IsCache};
+ghost use Rattle.acpi_matrices.specs.Cache.{SideCache, cache, cache_head_fields, cache_head, cache_bytes};
 
 use acpi_base::error::{Error, R};
 use acpi_base::object::Aml;
 use acpi_base::parts::write_parts;
-use acpi_base::record::{Field, record};
+use acpi_base::row::{Row, record_of_numbers};
 use acpi_base::sink::AmlSink;
+use acpi_core::entries::Entries;
 use std::alloc::Global;
 use std::marker::Model;
 
@@ -22,39 +24,12 @@ pub enum CacheLevel {
     Three = 3,
 }
 
-impl CacheLevel {
-    fn number(self) -> u32
-        ensures number { result ≡ level_number self }
-        ensures most { result ≤ 3 }
-    {
-        match self {
-            CacheLevel::None => 0,
-            CacheLevel::One => 1,
-            CacheLevel::Two => 2,
-            CacheLevel::Three => 3,
-        }
-    }
-}
-
 /// How addresses are spread over a cache (attribute bits 8 to 11).
 #[derive(Drop)]
 pub enum Associativity {
     None = 0,
     DirectMapped = 1,
     Complex = 2,
-}
-
-impl Associativity {
-    fn number(self) -> u32
-        ensures number { result ≡ associativity_number self }
-        ensures most { result ≤ 2 }
-    {
-        match self {
-            Associativity::None => 0,
-            Associativity::DirectMapped => 1,
-            Associativity::Complex => 2,
-        }
-    }
 }
 
 /// When a cache writes to memory (attribute bits 12 to 15).
@@ -65,19 +40,6 @@ pub enum WritePolicy {
     Writethrough = 2,
 }
 
-impl WritePolicy {
-    fn number(self) -> u32
-        ensures number { result ≡ policy_number self }
-        ensures most { result ≤ 2 }
-    {
-        match self {
-            WritePolicy::None => 0,
-            WritePolicy::Writeback => 1,
-            WritePolicy::Writethrough => 2,
-        }
-    }
-}
-
 /// A cache in front of a memory (Memory Side Cache Information Structure, ACPI 6.5, 5.2.28.5): 32 bytes, and 2 for each SMBIOS
 /// handle.
 #[derive(Drop)]
@@ -85,18 +47,21 @@ pub struct MemorySideCache {
     domain: u32,
     cache_size: u64,
     attributes: u32,
-    count: u16,
-    handles: Vec<u8>,
+    handles: Entries<2, 65_535>,
 }
 
 impl Model for MemorySideCache {
-    ghost use Rattle.acpi_matrices.specs.Cache.{SideCache, IsCache};
+    ghost use Rattle.acpi_matrices.specs.Cache.{SideCache};
 
     ghost Value = { SideCache };
 
-    ghost view = { λ c. record { domain = c.domain; cache_size = c.cache_size; attributes = c.attributes; count = c.count; handles = c.handles.items } };
-
-    ghost invariant = { λ c. IsCache (record { domain = c.domain; cache_size = c.cache_size; attributes = c.attributes; count = c.count; handles = c.handles.items }) };
+    ghost view = { λ c. record {
+      domain = c.domain;
+      cache_size = c.cache_size;
+      attributes = c.attributes;
+      count = c.handles.count;
+      handles = c.handles.bytes;
+    } };
 }
 
 impl MemorySideCache {
@@ -112,61 +77,73 @@ impl MemorySideCache {
         write_policy: WritePolicy,
         cacheline_size: u16,
     ) -> MemorySideCache
-        ensures { result ≡ cache proximity_domain cache_size total_cache_levels this_cache_level associativity write_policy cacheline_size }
+        ensures { result ≡ cache proximity_domain cache_size
+            total_cache_levels this_cache_level associativity write_policy cacheline_size }
     {
-        let attributes = total_cache_levels.number()
-            + 16 * this_cache_level.number()
-            + 256 * associativity.number()
-            + 4096 * write_policy.number()
+        let attributes = total_cache_levels as u32
+            + 16 * (this_cache_level as u32)
+            + 256 * (associativity as u32)
+            + 4096 * (write_policy as u32)
             + 65_536 * u32::from(cacheline_size);
         MemorySideCache {
             domain: proximity_domain,
             cache_size,
             attributes,
-            count: 0,
-            handles: Vec::new(alloc),
+            handles: Entries::new(alloc),
         }
     }
 
     /// Adds the handle of an SMBIOS structure. FieldWidth at the 65,536th, and unchanged where it is refused.
     pub fn add_smbios_handle(&mut self, handle: u16) -> R<()>
-        ensures ok { OnOk result (self.new ≡ record self.old { count = self.old.count + 1; handles = self.old.handles ++ le 2 handle }) }
+        ensures ok { OnOk result (self.new ≡ record self.old {
+          count = self.old.count + 1;
+          handles = self.old.handles ++ le 2 handle;
+        }) }
         ensures room { OnOk result (self.old.count < 65535) }
         ensures err { OnErr result (self.new ≡ self.old) }
         ensures cause { IfErr result (λ e. e ≢ Error.Memory → (e ≡ Error.FieldWidth) × (self.old.count ≡ 65535)) }
     {
-        if self.count == 65_535 {
-            return Err(Error::FieldWidth);
-        }
-        self.handles.extend_from_slice(&handle.to_le_bytes())?;
-        self.count += 1;
-        Ok(())
-    }
-
-    // How many bytes it has.
-    pub(crate) fn size(&self) -> u32
-        ensures size { result ≡ 32 + length self.now.handles }
-        ensures is { IsCache self.now }
-    {
-        32 + 2 * u32::from(self.count)
+        self.handles.push(handle.to_le_bytes())
     }
 
     // The structure's bytes before its handles.
     fn head(&self) -> [u8; 32]
         ensures { result ≡ cache_head self.now }
     {
-        record(&[
-            Field::Word(2),
-            Field::Word(0),
-            Field::DWord(self.size()),
-            Field::DWord(self.domain),
-            Field::DWord(0),
-            Field::QWord(self.cache_size),
-            Field::DWord(self.attributes),
-            Field::Word(0),
-            Field::Word(self.count),
-        ])
+        record_of_numbers(
+            &SIDE_CACHE,
+            &[
+                2,
+                0,
+                32 + self.handles.as_slice().len() as u64,
+                u64::from(self.domain),
+                0,
+                self.cache_size,
+                u64::from(self.attributes),
+                0,
+                self.handles.len() as u64,
+            ],
+        )
     }
+}
+
+const SIDE_CACHE: [Row; 9] = [
+    Row::Number("Type", 2),
+    Row::Reserved(2),
+    Row::Number("Length", 4),
+    Row::Number("Proximity Domain for the Memory", 4),
+    Row::Reserved(4),
+    Row::Number("Memory Side Cache Size", 8),
+    Row::Number("Cache Attributes", 4),
+    Row::Reserved(2),
+    Row::Number("Number of SMBIOS Handles", 2),
+];
+
+/// The names and widths of a cache's fields before its handles, in order.
+pub fn side_cache_rows() -> &'static [Row]
+    ensures { (c : SideCache) → AreRowsOf result.now (cache_head_fields c) }
+{
+    &SIDE_CACHE
 }
 
 impl Aml for MemorySideCache {
@@ -175,6 +152,6 @@ impl Aml for MemorySideCache {
     ghost ends_well = { λ c. whole_ends_well (cache_bytes c) };
 
     fn to_aml_bytes(&self, sink: &mut dyn AmlSink) -> R<()> {
-        write_parts(sink, &[&self.head(), &self.handles])
+        write_parts(sink, &[&self.head(), self.handles.as_slice()])
     }
 }

@@ -1,15 +1,18 @@
 //! Matrices of latencies and bandwidths.
 
-ghost use Rattle.std.specs.Prelude.{◌≡◌, ◌≢◌, ◌+◌, ◌-◌, ◌*◌, ◌^◌, ◌<◌, ◌≤◌, ◌++◌, bit_or, length, replicate, IfOk, OnOk, IfErr};
+ghost use Rattle.std.specs.Prelude.{◌≡◌, ◌≢◌, ◌-◌, ◌^◌, ◌<◌, ◌≤◌, ◌++◌, bit_or, length, replicate, IfOk, OnOk, IfErr};
+ghost use Rattle.acpi_base.specs.Fields.{AreRowsOf};
 ghost use Rattle.acpi_base.specs.Object.{whole, whole_ends_well};
 ghost use Rattle.acpi_base.specs.Layout.{zeros};
-ghost use Rattle.acpi_matrices.specs.Locality.{hierarchy_number, lists_size, locality_size, locality, locality_head, locality_bytes, IsLocality, Sets, initiator_at, target_at, entry_at};
+ghost use Rattle.acpi_matrices.specs.Locality.{Locality, lists_size, locality_size, locality};
+ghost use Rattle.acpi_matrices.specs.Locality.{locality_head_fields, locality_head, locality_bytes};
+ghost use Rattle.acpi_matrices.specs.Locality.{Sets, initiator_at, target_at, entry_at};
 
 use acpi_base::error::{Error, R};
 use acpi_base::object::Aml;
 use acpi_base::parts::write_parts;
 use acpi_base::patch::write_at;
-use acpi_base::record::{Field, record};
+use acpi_base::row::{Row, record_of_numbers};
 use acpi_base::sink::AmlSink;
 use std::alloc::Global;
 use std::marker::Model;
@@ -21,19 +24,6 @@ pub enum LocalityType {
     FirstLevelCache = 1,
     SecondLevelCache = 2,
     ThirdLevelCache = 3,
-}
-
-impl LocalityType {
-    fn number(self) -> u8
-        ensures { result ≡ hierarchy_number self }
-    {
-        match self {
-            LocalityType::Memory => 0,
-            LocalityType::FirstLevelCache => 1,
-            LocalityType::SecondLevelCache => 2,
-            LocalityType::ThirdLevelCache => 3,
-        }
-    }
 }
 
 /// What the entries of a matrix are (offset 9). Those of access hold for reading and for writing.
@@ -87,9 +77,25 @@ impl Model for SystemLocality {
 
     ghost Value = { Locality };
 
-    ghost view = { λ l. record { flags = l.flags; data_type = l.data_type; transfer = l.transfer; unit = l.unit; initiators = l.initiators; targets = l.targets; lists = l.lists.items } };
+    ghost view = { λ l. record {
+      flags = l.flags;
+      data_type = l.data_type;
+      transfer = l.transfer;
+      unit = l.unit;
+      initiators = l.initiators;
+      targets = l.targets;
+      lists = l.lists.items;
+    } };
 
-    ghost invariant = { λ l. IsLocality (record { flags = l.flags; data_type = l.data_type; transfer = l.transfer; unit = l.unit; initiators = l.initiators; targets = l.targets; lists = l.lists.items }) };
+    ghost invariant = { λ l. IsLocality (record {
+      flags = l.flags;
+      data_type = l.data_type;
+      transfer = l.transfer;
+      unit = l.unit;
+      initiators = l.initiators;
+      targets = l.targets;
+      lists = l.lists.items;
+    }) };
 }
 
 // How many bytes the lists of so many initiators and targets have. Matrix where the structure's size would reach 2^32.
@@ -133,14 +139,16 @@ impl SystemLocality {
         num_initiators: usize,
         num_targets: usize,
     ) -> R<SystemLocality>
-        ensures ok { IfOk result (λ l. l ≡ locality loc_type data_type min_transfer_size entry_base_unit num_initiators num_targets) }
+        ensures ok { IfOk result (λ l.
+            l ≡ locality loc_type data_type min_transfer_size entry_base_unit num_initiators num_targets) }
         ensures fits { OnOk result (locality_size num_initiators num_targets < 2 ^ 32) }
-        ensures err { IfErr result (λ e. e ≢ Error.Memory → (e ≡ Error.Matrix) × (2 ^ 32 ≤ locality_size num_initiators num_targets)) }
+        ensures err { IfErr result (λ e. e ≢ Error.Memory →
+            (e ≡ Error.Matrix) × (2 ^ 32 ≤ locality_size num_initiators num_targets)) }
     {
         let size = size_of_lists(num_initiators, num_targets)?;
         let lists = new_lists(alloc, 4 * num_initiators + 4 * num_targets, size)?;
         Ok(SystemLocality {
-            flags: loc_type.number(),
+            flags: loc_type as u8,
             data_type,
             transfer: min_transfer_size,
             unit: entry_base_unit,
@@ -201,32 +209,48 @@ impl SystemLocality {
         Ok(())
     }
 
-    // How many bytes it has.
-    pub(crate) fn size(&self) -> u32
-        ensures size { result ≡ 32 + length self.now.lists }
-        ensures is { IsLocality self.now }
-    {
-        32 + self.lists.len() as u32
-    }
-
     // The structure's bytes before its lists.
     fn head(&self) -> [u8; 32]
         ensures { result ≡ locality_head self.now }
     {
-        record(&[
-            Field::Word(1),
-            Field::Word(0),
-            Field::DWord(self.size()),
-            Field::Byte(self.flags),
-            Field::Byte(self.data_type as u8),
-            Field::Byte(self.transfer as u8),
-            Field::Byte(0),
-            Field::DWord(self.initiators),
-            Field::DWord(self.targets),
-            Field::DWord(0),
-            Field::QWord(self.unit),
-        ])
+        record_of_numbers(
+            &SYSTEM_LOCALITY,
+            &[
+                1,
+                0,
+                32 + self.lists.len() as u64,
+                u64::from(self.flags),
+                self.data_type as u64,
+                self.transfer as u64,
+                0,
+                u64::from(self.initiators),
+                u64::from(self.targets),
+                0,
+                self.unit,
+            ],
+        )
     }
+}
+
+const SYSTEM_LOCALITY: [Row; 11] = [
+    Row::Number("Type", 2),
+    Row::Reserved(2),
+    Row::Number("Length", 4),
+    Row::Number("Flags", 1),
+    Row::Number("Data Type", 1),
+    Row::Number("MinTransferSize", 1),
+    Row::Reserved(1),
+    Row::Number("Number of Initiator Proximity Domains", 4),
+    Row::Number("Number of Target Proximity Domains", 4),
+    Row::Reserved(4),
+    Row::Number("Entry Base Unit", 8),
+];
+
+/// The names and widths of a matrix's fields before its lists, in order.
+pub fn system_locality_rows() -> &'static [Row]
+    ensures { (l : Locality) → AreRowsOf result.now (locality_head_fields l) }
+{
+    &SYSTEM_LOCALITY
 }
 
 impl Aml for SystemLocality {

@@ -3,62 +3,19 @@
 ghost use Rattle.std.specs.Prelude.{◌≡◌, ◌++◌, [], OnOk, string_bytes, codes};
 ghost use Rattle.acpi_term.specs.Tree.{def_method, def_power_res, def_field};
 ghost use Rattle.acpi_term.specs.View.{head_of};
-ghost use Rattle.acpi_read.specs.Lines.{quoted_bytes, op_text, data_text, head_text};
+ghost use Rattle.acpi_read.specs.Lines.{quoted_bytes, data_text, head_text};
 
 use crate::report::words::{
     push_flag, push_hex, push_named, push_number, push_numbered, push_quoted,
 };
 use acpi_term::apart::Kind;
 use acpi_term::name_string::NameString;
-use acpi_term::op::Op;
 use std::alloc::AllocError;
-
-fn op_text(op: Op) -> &'static str
-    ensures { result.now ≡ op_text op }
-{
-    match op {
-        Op::LNot => "lnot",
-        Op::LEqual => "lequal",
-        Op::LLess => "lless",
-        Op::LGreater => "lgreater",
-        Op::LAnd => "land",
-        Op::LOr => "lor",
-        Op::Increment => "increment",
-        Op::Decrement => "decrement",
-        Op::Break => "break",
-        Op::ObjectType => "objecttype",
-        Op::SizeOf => "sizeof",
-        Op::Return => "return",
-        Op::DeRefOf => "derefof",
-        Op::Add => "add",
-        Op::Concat => "concat",
-        Op::Subtract => "subtract",
-        Op::Multiply => "multiply",
-        Op::ShiftLeft => "shiftleft",
-        Op::ShiftRight => "shiftright",
-        Op::And => "and",
-        Op::Nand => "nand",
-        Op::Or => "or",
-        Op::Nor => "nor",
-        Op::Xor => "xor",
-        Op::ConcatRes => "concatres",
-        Op::Mod => "mod",
-        Op::Index => "index",
-        Op::ToString => "tostring",
-        Op::CreateDWordField => "createdwordfield",
-        Op::CreateQWordField => "createqwordfield",
-        Op::ToBuffer => "tobuffer",
-        Op::ToInteger => "tointeger",
-        Op::Store => "store",
-        Op::Notify => "notify",
-        Op::Mid => "mid",
-        Op::CreateField => "createfield",
-    }
-}
 
 #[tactic(auto, using(crate::proofs::Texts::after_three))]
 fn push_text(bytes: &[u8], text: &mut String) -> Result<(), AllocError>
-    ensures { OnOk result (string_bytes text.new ≡ string_bytes text.old ++ (codes "text \"" ++ quoted_bytes bytes.now ++ codes "\"")) }
+    ensures { OnOk result (string_bytes text.new ≡ string_bytes text.old
+        ++ (codes "text \"" ++ quoted_bytes bytes.now ++ codes "\"")) }
 {
     text.push_str("text \"")?;
     push_quoted(bytes, text)?;
@@ -94,7 +51,8 @@ fn push_field(
     update: u8,
     text: &mut String,
 ) -> Result<(), AllocError>
-    ensures { OnOk result (string_bytes text.new ≡ string_bytes text.old ++ head_text (def_field name.now access lock update []) 0) }
+    ensures { OnOk result (string_bytes text.new ≡ string_bytes text.old
+        ++ head_text (def_field name.now access lock update []) 0) }
 {
     push_numbered("field ", name, " access ", u64::from(access), text)?;
     push_number(" lock ", u64::from(lock), text)?;
@@ -149,6 +107,6 @@ pub fn push_head(kind: Kind<'_>, count: usize, text: &mut String) -> Result<(), 
         Kind::If => text.push_str("if"),
         Kind::While => text.push_str("while"),
         Kind::Else => text.push_str("else"),
-        Kind::Op(op) => text.push_str(op_text(op)),
+        Kind::Op(op) => text.push_str(op.word()),
     }
 }

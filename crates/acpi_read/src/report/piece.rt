@@ -3,20 +3,20 @@
 ghost use Rattle.std.specs.Prelude.{◌≡◌, ℕ, List, ◌++◌, ◌≤◌, length, map, string_bytes, codes, OnOk};
 ghost use Rattle.std.specs.Fmt.{decimal};
 ghost use Rattle.std.specs.List.{All};
-ghost use Rattle.acpi_base.specs.Walk.{ArePiecesOf};
-ghost use Rattle.acpi_read.specs.Pieces.{place_of, end_of};
+ghost use Rattle.acpi_base.specs.Walk.{end_of, ArePiecesOf};
 ghost use Rattle.acpi_read.specs.Report.{kind_text, piece_line, piece_lines, kind_of};
 
 use crate::pieces::{Piece, signature_number};
 use crate::report::words::push_number;
 use crate::table::Table;
-use crate::walk::{Place, walk_of};
+use acpi_base::walk::{Place, walk_of};
 use std::alloc::AllocError;
 
 /// Where the structures of a table tell their type.
 pub fn kind_of(table: &Table) -> Place
-    ensures kind { place_of result ≡ kind_of table.now }
-    ensures reached { (pieces : List (List ℕ)) → ArePiecesOf table.now pieces → All (λ piece. end_of (place_of result) ≤ length piece) pieces }
+    ensures kind { result ≡ kind_of table.now }
+    ensures reached { (pieces : List (List ℕ)) → ArePiecesOf table.now pieces
+        → All (λ piece. end_of result ≤ length piece) pieces }
 {
     match walk_of(signature_number(table)) {
         Some(walk) => walk.kind,
@@ -25,8 +25,8 @@ pub fn kind_of(table: &Table) -> Place
 }
 
 fn push_kind(kind: Place, bytes: &[u8], text: &mut String) -> Result<(), AllocError>
-    requires { end_of (place_of kind) ≤ length bytes.now }
-    ensures { OnOk result (string_bytes text.new ≡ string_bytes text.old ++ kind_text (place_of kind) bytes.now) }
+    requires { end_of kind ≤ length bytes.now }
+    ensures { OnOk result (string_bytes text.new ≡ string_bytes text.old ++ kind_text kind bytes.now) }
 {
     match kind {
         Place::Nowhere => text.push_str(" entry"),
@@ -36,8 +36,9 @@ fn push_kind(kind: Place, bytes: &[u8], text: &mut String) -> Result<(), AllocEr
 
 #[tactic(auto, using(crate::proofs::Texts::after_four))]
 fn push_piece(kind: Place, piece: &Piece<'_>, text: &mut String) -> Result<(), AllocError>
-    requires { end_of (place_of kind) ≤ length piece.now.bytes.now }
-    ensures { OnOk result (string_bytes text.new ≡ string_bytes text.old ++ piece_line (place_of kind) piece.entry.now.offset piece.entry.now.bytes.now) }
+    requires { end_of kind ≤ length piece.now.bytes.now }
+    ensures { OnOk result (string_bytes text.new ≡ string_bytes text.old
+        ++ piece_line kind piece.entry.now.offset piece.entry.now.bytes.now) }
 {
     push_number("", piece.offset as u64, text)?;
     push_kind(kind, piece.bytes, text)?;
@@ -47,8 +48,9 @@ fn push_piece(kind: Place, piece: &Piece<'_>, text: &mut String) -> Result<(), A
 
 /// A line for each piece.
 pub fn push_pieces(kind: Place, pieces: &[Piece<'_>], text: &mut String) -> Result<(), AllocError>
-    requires { All (λ piece. end_of (place_of kind) ≤ length piece) (map (λ p. p.bytes.now) pieces.now) }
-    ensures { OnOk result (string_bytes text.new ≡ string_bytes text.old ++ piece_lines (place_of kind) (map (λ p. p.offset) pieces.now) (map (λ p. p.bytes.now) pieces.now)) }
+    requires { All (λ piece. end_of kind ≤ length piece) (map (λ p. p.bytes.now) pieces.now) }
+    ensures { OnOk result (string_bytes text.new ≡ string_bytes text.old
+        ++ piece_lines kind (map (λ p. p.offset) pieces.now) (map (λ p. p.bytes.now) pieces.now)) }
 {
     for piece in pieces {
         push_piece(kind, piece, text)?;

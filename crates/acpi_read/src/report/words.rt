@@ -3,7 +3,8 @@
 ghost use Rattle.std.specs.Prelude.{◌≡◌, ◌<◌, ◌++◌, OnOk, string_bytes, codes, if◌then◌else◌};
 ghost use Rattle.std.specs.Fmt.{decimal};
 ghost use Rattle.std.specs.Str.{IsAscii};
-ghost use Rattle.acpi_read.specs.Lines.{hex_digit, hex_byte, hex_bytes, quoted_byte, quoted_bytes, dotted_segments, segments_of, name_text, indent};
+ghost use Rattle.acpi_read.specs.Lines.{hex_digit, hex_byte, hex_bytes, quoted_byte, quoted_bytes};
+ghost use Rattle.acpi_read.specs.Lines.{dotted_segments, segments_of, name_text, indent};
 
 use acpi_term::name_string::NameString;
 use std::alloc::AllocError;
@@ -92,7 +93,7 @@ fn segments_of(path: &[u8]) -> &[u8]
     }
 }
 
-#[tactic(auto, using(crate::proofs::Dotted::rooted_ascii, crate::proofs::Dotted::relative_ascii, crate::proofs::Dotted::name_text_rooted, crate::proofs::Dotted::name_text_relative))]
+#[tactic(auto, using(crate::proofs::Dotted::rooted_ascii, crate::proofs::Dotted::relative_ascii, crate::proofs::Dotted::name_text_rooted, crate::proofs::Dotted::name_text_relative,))]
 fn push_name(name: &NameString, text: &mut String) -> Result<(), AllocError>
     ensures { OnOk result (string_bytes text.new ≡ string_bytes text.old ++ name_text name.now) }
 {
@@ -124,7 +125,8 @@ pub fn push_number(word: &str, n: u64, text: &mut String) -> Result<(), AllocErr
 
 /// A word, and `1` or `0`.
 pub fn push_flag(word: &str, flag: bool, text: &mut String) -> Result<(), AllocError>
-    ensures { OnOk result (string_bytes text.new ≡ string_bytes text.old ++ (word.now ++ (if flag then codes "1" else codes "0"))) }
+    ensures { OnOk result (string_bytes text.new ≡ string_bytes text.old
+        ++ (word.now ++ (if flag then codes "1" else codes "0"))) }
 {
     text.push_str(word)?;
     text.push(if flag { '1' } else { '0' })
@@ -139,7 +141,8 @@ pub fn push_numbered(
     n: u64,
     text: &mut String,
 ) -> Result<(), AllocError>
-    ensures { OnOk result (string_bytes text.new ≡ string_bytes text.old ++ (word.now ++ name_text name.now ++ label.now ++ decimal n)) }
+    ensures { OnOk result (string_bytes text.new ≡ string_bytes text.old
+        ++ (word.now ++ name_text name.now ++ label.now ++ decimal n)) }
 {
     push_named(word, name, text)?;
     push_number(label, n, text)

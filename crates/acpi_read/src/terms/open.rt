@@ -2,10 +2,14 @@
 
 ghost use Rattle.std.specs.Prelude.{◌≡◌, ◌≤◌, length, IfOk};
 ghost use Rattle.acpi_term.specs.Arity.{arity};
+ghost use Rattle.acpi_term.specs.Operator.{op_of};
 ghost use Rattle.acpi_term.specs.Spelling.{inner, arguments};
 ghost use Rattle.acpi_term.specs.Tree.{term, number, def_var_package, def_if, def_while, def_else};
 ghost use Rattle.acpi_term.specs.View.{views, view};
-ghost use Rattle.acpi_term.specs.Reading.{follows, op_of, number_at, string_at, named_at, define_after, mutex_after, region_after, acquire_after, release_after, framed_at, scope_inside, device_inside, method_inside, power_inside, field_inside, plain_at, package_at, buffer_at, extended_at, local_at, opcode_at, open_at};
+ghost use Rattle.acpi_term.specs.Reading.{follows, number_at, string_at, named_at, define_after, mutex_after};
+ghost use Rattle.acpi_term.specs.Reading.{region_after, acquire_after, release_after, framed_at, scope_inside};
+ghost use Rattle.acpi_term.specs.Reading.{device_inside, method_inside, power_inside, field_inside, plain_at};
+ghost use Rattle.acpi_term.specs.Reading.{package_at, buffer_at, operator_at, extended_at, local_at, opcode_at, open_at};
 ghost use Rattle.acpi_read.specs.Cause.{Gives};
 ghost use Rattle.acpi_read.specs.TermStart.{seen, block_head, block_width, first_head, first_width, LiesWithin, IsAlone};
 
@@ -89,7 +93,8 @@ impl FirstAndBlock {
 
     /// The term with these children.
     pub fn with(self, first: Box<Term>, others: Vec<Term>) -> Term
-        ensures { view result ≡ (first_head self, first_width self, term (view first.value).0 (view first.value).1 (view first.value).2 (views others.items)) }
+        ensures { view result
+            ≡ (first_head self, first_width self, term (view first.value).0 (view first.value).1 (view first.value).2 (views others.items)) }
     {
         match self {
             FirstAndBlock::VarPackage(width) => Term::VarPackage {
@@ -131,49 +136,6 @@ pub enum TermStart<'a> {
     Package(u8, u8, &'a [u8], &'a [u8]),
     /// The width, the content, and what follows.
     Buffer(u8, &'a [u8], &'a [u8]),
-}
-
-fn operator_of(byte: u8) -> Option<Op>
-    ensures { result ≡ op_of byte }
-{
-    match byte {
-        0x92 => Some(Op::LNot),
-        0x93 => Some(Op::LEqual),
-        0x95 => Some(Op::LLess),
-        0x94 => Some(Op::LGreater),
-        0x90 => Some(Op::LAnd),
-        0x91 => Some(Op::LOr),
-        0x75 => Some(Op::Increment),
-        0x76 => Some(Op::Decrement),
-        0xa5 => Some(Op::Break),
-        0x8e => Some(Op::ObjectType),
-        0x87 => Some(Op::SizeOf),
-        0xa4 => Some(Op::Return),
-        0x83 => Some(Op::DeRefOf),
-        0x72 => Some(Op::Add),
-        0x73 => Some(Op::Concat),
-        0x74 => Some(Op::Subtract),
-        0x77 => Some(Op::Multiply),
-        0x79 => Some(Op::ShiftLeft),
-        0x7a => Some(Op::ShiftRight),
-        0x7b => Some(Op::And),
-        0x7c => Some(Op::Nand),
-        0x7d => Some(Op::Or),
-        0x7e => Some(Op::Nor),
-        0x7f => Some(Op::Xor),
-        0x84 => Some(Op::ConcatRes),
-        0x85 => Some(Op::Mod),
-        0x88 => Some(Op::Index),
-        0x9c => Some(Op::ToString),
-        0x8a => Some(Op::CreateDWordField),
-        0x8f => Some(Op::CreateQWordField),
-        0x96 => Some(Op::ToBuffer),
-        0x99 => Some(Op::ToInteger),
-        0x70 => Some(Op::Store),
-        0x86 => Some(Op::Notify),
-        0x9e => Some(Op::Mid),
-        _ => None,
-    }
 }
 
 /// The byte that is the number itself.
@@ -405,6 +367,16 @@ fn buffer(bytes: &[u8]) -> Result<TermStart<'_>, Cause>
     Ok(TermStart::Buffer(width, content, after))
 }
 
+fn operator<'a>(code: &[u8], rest: &'a [u8]) -> Result<TermStart<'a>, Cause>
+    ensures gives { Gives seen result (operator_at (op_of code.now) rest.now) }
+    ensures alone { IfOk result IsAlone }
+{
+    match Op::from_code(code) {
+        None => Err(Cause::Opcode),
+        Some(op) => Ok(TermStart::Operator(op, rest)),
+    }
+}
+
 /// After the byte 5B.
 fn extended(alloc: Global, bytes: &[u8]) -> Result<TermStart<'_>, Cause>
     ensures gives { Gives seen result (extended_at bytes.now) }
@@ -413,14 +385,13 @@ fn extended(alloc: Global, bytes: &[u8]) -> Result<TermStart<'_>, Cause>
     match bytes {
         [] => Err(Cause::Truncated),
         [0x01, rest @ ..] => mutex(alloc, rest),
-        [0x13, rest @ ..] => Ok(TermStart::Operator(Op::CreateField, rest)),
         [0x23, rest @ ..] => acquire(alloc, rest),
         [0x27, rest @ ..] => release(alloc, rest),
         [0x80, rest @ ..] => region(alloc, rest),
         [0x81, rest @ ..] => field(alloc, rest),
         [0x82, rest @ ..] => device(alloc, rest),
         [0x84, rest @ ..] => power_resource(alloc, rest),
-        [_, ..] => Err(Cause::Opcode),
+        [byte, rest @ ..] => operator(&[0x5b, *byte], rest),
     }
 }
 
@@ -434,10 +405,7 @@ fn local_or_operator(byte: u8, rest: &[u8]) -> Result<TermStart<'_>, Cause>
     if byte >= 0x68 && byte <= 0x6e {
         return Ok(TermStart::Leaf(Term::Arg(byte - 0x68), rest));
     }
-    match operator_of(byte) {
-        None => Err(Cause::Opcode),
-        Some(op) => Ok(TermStart::Operator(op, rest)),
-    }
+    operator(&[byte], rest)
 }
 
 fn opcode(alloc: Global, byte: u8, rest: &[u8]) -> Result<TermStart<'_>, Cause>

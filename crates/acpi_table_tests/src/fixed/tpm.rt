@@ -9,8 +9,11 @@ use acpi_vectors::{OEM, OEM_REVISION, OEM_TABLE, equal, refuses, writes, written
 use std::test::Fail;
 
 // A server's table before any setter.
-const SERVER: [u8; 100] =
-    *b"TCPA\x64\0\0\0\x02\x22FOOBARCAFEDEAD\xef\xbe\xad\xdeRVAT\0\0\0\x01\x01\0\0\0\0\0\0\0\0\0\0\0\0\0\0\0\0\0\0\0\x01\x02\0\0\0\0\0\0\0\0\0\0\0\0\0\0\0\0\0\0\0\0\0\0\0\0\0\0\0\0\0\0\0\0\0\0\0\0\0\0\0\0\0\0";
+const SERVER: [u8; 100] = *b"TCPA\x64\0\0\0\x02\x22FOOBARCAFEDEAD\xef\xbe\xad\xdeRVAT\0\0\0\x01\
+        \x01\0\0\0\0\0\0\0\0\0\0\0\0\0\0\0\
+        \0\0\0\0\x01\x02\0\0\0\0\0\0\0\0\0\0\
+        \0\0\0\0\0\0\0\0\0\0\0\0\0\0\0\0\
+        \0\0\0\0\0\0\0\0\0\0\0\0\0\0\0\0";
 
 #[test]
 fn tcpa(rt: HostRuntime) -> Result<(), Fail> {
@@ -92,8 +95,9 @@ fn tpm2(rt: HostRuntime) -> Result<(), Fail> {
     equal(&u8sum(&tpm2)?, &0)?;
 
     tpm2.set_log_area(0x8070_6050, 0x4030_2010_f0e0_d0c0)?;
-    let long =
-        b"TPM2\x4c\0\0\0\x01\xdaFOOBARCAFEDEAD\xef\xbe\xad\xdeRVAT\0\0\0\x01\x01\0\0\0\x45\x23\x01\x89\x67\x45\x23\x01\x07\0\0\0\0\0\0\0\0\0\0\0\0\0\0\0\x50\x60\x70\x80\xc0\xd0\xe0\xf0\x10\x20\x30\x40";
+    let long = b"TPM2\x4c\0\0\0\x01\xdaFOOBARCAFEDEAD\xef\xbe\xad\xdeRVAT\0\0\0\x01\
+            \x01\0\0\0\x45\x23\x01\x89\x67\x45\x23\x01\x07\0\0\0\
+            \0\0\0\0\0\0\0\0\0\0\0\0\x50\x60\x70\x80\xc0\xd0\xe0\xf0\x10\x20\x30\x40";
     writes(alloc, &tpm2, long)?;
     refuses(tpm2.set_log_area(1, 2), Error::LogAreaSet)?;
     writes(alloc, &tpm2, long)?;

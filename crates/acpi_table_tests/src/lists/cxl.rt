@@ -24,7 +24,9 @@ fn cedt(rt: HostRuntime) -> Result<(), Fail> {
     writes(
         alloc,
         &table,
-        b"CEDT\x44\0\0\0\x01\x55FOOBARCAFEDEAD\xef\xbe\xad\xdeRVAT\0\0\0\x01\0\0\x20\0\xef\xcd\0\0\x01\0\0\0\0\0\0\0\x78\x56\x34\x12\x08\0\0\0\0\0\x01\0\0\0\0\0",
+        b"CEDT\x44\0\0\0\x01\x55FOOBARCAFEDEAD\xef\xbe\xad\xdeRVAT\0\0\0\x01\
+            \0\0\x20\0\xef\xcd\0\0\x01\0\0\0\0\0\0\0\
+            \x78\x56\x34\x12\x08\0\0\0\0\0\x01\0\0\0\0\0",
     )
 }
 
@@ -78,8 +80,8 @@ fn one_way(alloc: Global, granularity: InterleaveGranularity) -> CxlFixedMemory 
 }
 
 // Such a window with a target: its granularity is 256 bytes, and it has no restriction.
-const ONE_WAY: [u8; 40] =
-    *b"\x01\0\x28\0\0\0\0\0\x01\x02\x03\x04\x05\x06\x07\x08\x11\x12\x13\x14\x15\x16\x17\x18\0\x01\0\0\0\0\0\0\0\0\x21\x22\x09\x08\x07\x06";
+const ONE_WAY: [u8; 40] = *b"\x01\0\x28\0\0\0\0\0\x01\x02\x03\x04\x05\x06\x07\x08\
+        \x11\x12\x13\x14\x15\x16\x17\x18\0\x01\0\0\0\0\0\0\0\0\x21\x22\x09\x08\x07\x06";
 
 #[test]
 fn windows(rt: HostRuntime) -> Result<(), Fail> {
@@ -100,7 +102,9 @@ fn windows(rt: HostRuntime) -> Result<(), Fail> {
     writes(
         alloc,
         &two,
-        b"\x01\0\x2c\0\0\0\0\0\x01\x02\x03\x04\x05\x06\x07\x08\x11\x12\x13\x14\x15\x16\x17\x18\x01\x01\0\0\x06\0\0\0\x16\0\x21\x22abcdefgh",
+        b"\x01\0\x2c\0\0\0\0\0\x01\x02\x03\x04\x05\x06\x07\x08\
+            \x11\x12\x13\x14\x15\x16\x17\x18\x01\x01\0\0\x06\0\0\0\
+            \x16\0\x21\x22abcdefgh",
     )?;
     two.add_target(*b"ijkl")?;
     refuses(two.to_aml_bytes(&mut bytes), Error::Targets)?;

@@ -57,7 +57,9 @@ fn mcfg(rt: HostRuntime) -> Result<(), Fail> {
     writes(
         alloc,
         &table,
-        b"MCFG\x3c\0\0\0\x01\x0cFOOBARCAFEDEAD\xef\xbe\xad\xdeRVAT\0\0\0\x01\0\0\0\0\0\0\0\0\x01\x02\x03\x04\x05\x06\x07\x08\x09\x0a\x0b\x0c\0\0\0\0",
+        b"MCFG\x3c\0\0\0\x01\x0cFOOBARCAFEDEAD\xef\xbe\xad\xdeRVAT\0\0\0\x01\
+            \0\0\0\0\0\0\0\0\
+            \x01\x02\x03\x04\x05\x06\x07\x08\x09\x0a\x0b\x0c\0\0\0\0",
     )
 }
 

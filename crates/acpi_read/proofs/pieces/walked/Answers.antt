@@ -1,6 +1,5 @@
 use Rattle.std.proofs.Common.{◌≡◌, true, false, arith, map, sym, ◌∙◌, length}
 use Rattle.std.proofs.lemmas.List.{length-map}
-use Rattle.acpi_read.specs.Pieces.{meant}
 use Rattle.acpi_read.proofs.Cuts.{miscounted}
 use Rattle.acpi_read.proofs.pieces.walked.Goals as goal
 
@@ -9,6 +8,6 @@ returns-then-not-tells-2-clause-err c =
     let pieces = c.in_ok-pieces.pieces.items in
     let number : c.len.result ≡ length pieces = omega (arith, c.len.ensures, c.in_ok-pieces.pieces.ok.0) in (
       omega (arith, c.if-bytes-start.false),
-      miscounted (meant c.args.walk) c.args.bytes.now (map (λ p. p.bytes.now) pieces) (map (λ p. p.offset) pieces) c.len.result c.requires.known.has (rw c.from-start.ensures at c.in_ok-pieces.ensures.ok)
+      miscounted c.args.walk c.args.bytes.now (map (λ p. p.bytes.now) pieces) (map (λ p. p.offset) pieces) c.len.result c.requires.sound.has (rw c.from-start.ensures at c.in_ok-pieces.ensures.ok)
           (number ∙ sym (length-map pieces (λ p. p.bytes.now))) (λ tells. let no : false ≡ true = sym c.if-not-tells-2.true ∙ c.tells-2.ensures.1 tells in absurd cc),
     )

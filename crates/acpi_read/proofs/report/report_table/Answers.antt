@@ -1,6 +1,6 @@
 use Rattle.std.proofs.Common.{◌++◌, List, ℕ, map, ap, ◌∙◌, string_bytes}
 use Rattle.acpi_read.specs.declared.pieces.Piece.{Piece}
-use Rattle.acpi_read.specs.Pieces.{place_of, offsets_of}
+use Rattle.acpi_read.specs.Pieces.{offsets_of}
 use Rattle.acpi_read.specs.Report.{piece_lines, kind_of}
 use Rattle.acpi_read.proofs.report.report_table.Goals as goal
 
@@ -9,7 +9,7 @@ returns-clause-ok c =
     let table = c.args.table.now in
     let pieces = map (λ p. p.bytes.now) c.in_ok-pieces.pieces.items in
     let header = string_bytes c.in_ok-text.text in
-    let kind = place_of c.kind_of.result in
+    let kind = c.kind_of.result in
     record {
       pieces = pieces;
       walk = c.in_ok-pieces.ensures.walk;

@@ -1,14 +1,10 @@
-use Rattle.std.proofs.Common.{◌≡◌, ◌++◌, [], ap, ◌∙◌}
+use Rattle.std.proofs.Common.{◌++◌, ap, ◌∙◌}
 use Rattle.acpi_base.proofs.Objects.{wrote_whole, refused_whole}
-use Rattle.acpi_core.proofs.Parts.{two_parts}
-use Rattle.acpi_hest.specs.Rqsc.{controller_head, controller_bytes}
+use Rattle.acpi_hest.specs.Rqsc.{controller_head}
 use Rattle.acpi_hest.proofs.rqsc.QoSControllerAml.to_aml_bytes.Goals as goal
 
-written : (g : _) (c : goal.After-write_parts g) → c.head.result ++ (c.deref.result.now ++ []) ≡ controller_bytes c.args.self.now
-written g c = two_parts _ _ (controller_head c.args.self.now) _ c.head.ensures c.deref.ensures.value ∙ ap (λ q. controller_head c.args.self.now ++ q.resources) c.self.view_is
-
 pub returns-clause-ok : goal.returns-clause-ok
-returns-clause-ok g c = wrote_whole _ _ _ _ _ (written g c) c.write_parts.ensures.ok
+returns-clause-ok g c = wrote_whole _ _ _ _ _ (ap (λ h. h ++ c.resources.result.now) c.head.ensures ∙ ap (λ r. controller_head c.args.self.now ++ r) c.resources.ensures) c.write_behind.ensures.ok
 
 pub returns-clause-err : goal.returns-clause-err
-returns-clause-err g c = refused_whole _ _ _ _ _ (written g c) c.write_parts.ensures.err
+returns-clause-err g c = refused_whole _ _ _ _ _ (ap (λ h. h ++ c.resources.result.now) c.head.ensures ∙ ap (λ r. controller_head c.args.self.now ++ r) c.resources.ensures) c.write_behind.ensures.err

@@ -1,11 +1,11 @@
-use Rattle.std.proofs.Common.{◌≡◌, ◌++◌, [], ap, ◌∙◌}
+use Rattle.std.proofs.Common.{◌≡◌, ◌++◌, []}
 use Rattle.acpi_base.proofs.Objects.{wrote_whole, refused_whole}
-use Rattle.acpi_nodes.specs.Pptt.{processor_head, processor_bytes}
 use Rattle.acpi_core.proofs.Parts.{two_parts}
+use Rattle.acpi_nodes.specs.Pptt.{processor_head, processor_bytes}
 use Rattle.acpi_nodes.proofs.pptt.ProcessorNodeAml.to_aml_bytes.Goals as goal
 
-written : (g : _) (c : goal.After-write_parts g) → c.head.result ++ (c.deref.result.now ++ []) ≡ processor_bytes c.args.self.now
-written g c = two_parts _ _ (processor_head c.args.self.now) _ c.head.ensures c.deref.ensures.value ∙ ap (λ x. processor_head c.args.self.now ++ x.resources.offsets) c.self.view_is
+written : (g : _) (c : goal.After-write_parts g) → c.head.result ++ (c.as_slice.result.now ++ []) ≡ processor_bytes c.args.self.now
+written g c = two_parts _ _ (processor_head c.args.self.now) _ c.head.ensures c.as_slice.ensures.is
 
 pub returns-clause-ok : goal.returns-clause-ok
 returns-clause-ok g c = wrote_whole _ _ _ _ _ (written g c) c.write_parts.ensures.ok

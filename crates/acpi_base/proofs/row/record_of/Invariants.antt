@@ -1,0 +1,10 @@
+use Rattle.std.proofs.Common.{◌≡◌, take, length}
+use Rattle.acpi_base.specs.Fields.{values_joined}
+use Rattle.acpi_base.proofs.row.record_of.Given as goal
+
+abbrev pub invariant-loop-i : goal.invariant-loop-i
+invariant-loop-i g l = record {
+  size : length l.bytes ≡ g.row.N;
+  at : l.at ≡ length (values_joined (take l.i l.rows) (take l.i l.values));
+  written : take l.at l.bytes ≡ values_joined (take l.i l.rows) (take l.i l.values);
+}

@@ -1,0 +1,117 @@
+//! Records whose fields are data.
+
+ghost use Rattle.std.specs.Prelude.{◌≡◌, ◌≤◌, ◌<◌, ◌+◌, ◌^◌, List, length, IsTrue, OnOk, IfErr};
+ghost use Rattle.acpi_base.specs.Bytes.{le, put};
+ghost use Rattle.acpi_base.specs.Fields.{NamedField, fields_joined, row_width, AreRowsOf};
+ghost use Rattle.acpi_base.specs.Fields.{numbers_joined, are_numbers, value_in, values_joined, Fits, AllFit};
+ghost use Rattle.acpi_base.specs.Object.{whole, Wrote, WriteRefused};
+
+use crate::error::R;
+use crate::patch::write_at;
+use crate::sink::AmlSink;
+
+/// A field of a record: its name in the standard, and its width in bytes.
+#[derive(Clone, Copy, Debug)]
+pub enum Row {
+    /// A number, lowest byte first (ACPI 6.5, 5.2).
+    Number(&'static str, usize),
+    /// Bytes in their order.
+    Bytes(&'static str, usize),
+    /// Reserved bytes, which are zero.
+    Reserved(usize),
+}
+
+impl Row {
+    /// The field's width in bytes.
+    pub fn width(&self) -> usize
+        ensures { result ≡ row_width self.now }
+    {
+        match *self {
+            Row::Number(_, width) | Row::Bytes(_, width) | Row::Reserved(width) => width,
+        }
+    }
+}
+
+/// A record of `N` bytes, whose fields are rows.
+pub trait Record<const N: usize> {
+    ghost fields: { Self → List NamedField };
+
+    /// The names and widths of the record's fields, in order.
+    fn rows() -> &'static [Row]
+        ensures { (record_value : Self) → AreRowsOf result.now (fields record_value) };
+
+    /// The record's bytes.
+    fn bytes(&self) -> [u8; N]
+        ensures { result ≡ fields_joined (fields self.now) };
+}
+
+/// Gives a sink a record's bytes.
+pub fn write_record<const N: usize, T: Record<N>>(value: &T, sink: &mut dyn AmlSink) -> R<()>
+    requires size { N < 2 ^ 63 }
+    ensures ok { OnOk result (Wrote (whole (fields_joined (T.fields value.now))) (meaning sink.old) (meaning sink.new)) }
+    ensures err { IfErr result
+        (λ e. WriteRefused e (whole (fields_joined (T.fields value.now))) (meaning sink.old) (meaning sink.new)) }
+{
+    sink.vec(&value.bytes())
+}
+
+/// The bytes of a record whose fields are numbers, each as wide as its row, lowest byte first.
+pub fn record_of_numbers<const N: usize>(rows: &[Row], numbers: &[u64]) -> [u8; N]
+    requires count { length rows.now ≡ length numbers.now }
+    requires numbers { IsTrue (are_numbers rows.now) }
+    requires size { length (numbers_joined rows.now numbers.now) ≡ N }
+    ensures { result ≡ numbers_joined rows.now numbers.now }
+{
+    let mut bytes = [0; N];
+    let mut at = 0;
+    for i in 0..rows.len() {
+        let width = rows[i].width();
+        write_number(&mut bytes, at, width, numbers[i]);
+        at += width;
+    }
+    bytes
+}
+
+/// What a field of a record has: a number, or bytes.
+#[derive(Clone, Copy)]
+pub enum Value<'a> {
+    Number(u64),
+    Bytes(&'a [u8]),
+}
+
+/// The bytes of a record of numbers and bytes, each as wide as its row.
+pub fn record_of<const N: usize>(rows: &[Row], values: &[Value]) -> [u8; N]
+    requires count { length rows.now ≡ length values.now }
+    requires fit { AllFit rows.now values.now }
+    requires size { length (values_joined rows.now values.now) ≡ N }
+    ensures { result ≡ values_joined rows.now values.now }
+{
+    let mut bytes = [0; N];
+    let mut at = 0;
+    for i in 0..rows.len() {
+        let width = rows[i].width();
+        write_value(&mut bytes, at, width, values[i]);
+        at += width;
+    }
+    bytes
+}
+
+// Writes the lowest `width` bytes of a number at an offset, lowest first.
+fn write_number(bytes: &mut [u8], at: usize, width: usize, number: u64)
+    requires narrow { width ≤ 8 }
+    requires within { at + width ≤ length bytes.old }
+    ensures { bytes.new ≡ put at (le width number) bytes.old }
+{
+    write_at(bytes, at, &number.to_le_bytes()[..width]);
+}
+
+fn write_value(bytes: &mut [u8], at: usize, width: usize, value: Value)
+    requires fits { Fits width value }
+    requires within { at + width ≤ length bytes.old }
+    ensures { bytes.new ≡ put at (value_in width value.entry) bytes.old }
+{
+    match value {
+        Value::Number(number) => write_number(bytes, at, width, number),
+        Value::Bytes(field) => write_at(bytes, at, field),
+    }
+}

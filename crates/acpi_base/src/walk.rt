@@ -1,0 +1,145 @@
+//! How the structures of tables are found.
+
+ghost use Rattle.std.specs.Prelude.{◌≡◌, ◌↔◌, ◌≤◌, length, IsTrue, IfSome};
+ghost use Rattle.acpi_base.specs.Walk.{source_size, named, find_walk, walk_of, number_in, end_of, Tells, IsSound};
+
+/// A field of one byte, two or four at an offset; or there is none.
+#[derive(Clone, Copy, Debug)]
+pub enum Place {
+    Nowhere,
+    Byte(u8),
+    Word(u8),
+    DWord(u8),
+}
+
+/// How long a structure is, in bytes.
+#[derive(Clone, Copy, Debug)]
+pub enum Sizes {
+    /// Each has this length.
+    EachOf(u8),
+    /// The structure's own field has its length.
+    ToldAt(Place),
+    /// The structure's type decides, as for the error sources of HEST.
+    BySource,
+}
+
+/// Where a table's structures begin, how long they are, which field of each has its type, and which fields of the table have
+/// the number of structures and the offset of the first.
+#[derive(Clone, Copy, Debug)]
+pub struct Walk {
+    pub start: u8,
+    pub sizes: Sizes,
+    pub kind: Place,
+    pub count: Place,
+    pub told_start: Place,
+}
+
+use Place::{Byte, DWord, Nowhere, Word};
+use Sizes::{BySource, EachOf, ToldAt};
+
+// The walks of the tables that have structures, by their signatures.
+#[rattlefmt::skip]
+const WALKS: [([u8; 4], Walk); 12] = [
+    (*b"XSDT", Walk { start: 36, sizes: EachOf(8), kind: Nowhere, count: Nowhere, told_start: Nowhere }),
+    (*b"MCFG", Walk { start: 44, sizes: EachOf(16), kind: Nowhere, count: Nowhere, told_start: Nowhere }),
+    (*b"APIC", Walk { start: 44, sizes: ToldAt(Byte(1)), kind: Byte(0), count: Nowhere, told_start: Nowhere }),
+    (*b"HEST", Walk { start: 40, sizes: BySource, kind: Word(0), count: DWord(36), told_start: Nowhere }),
+    (*b"SRAT", Walk { start: 48, sizes: ToldAt(Byte(1)), kind: Byte(0), count: Nowhere, told_start: Nowhere }),
+    (*b"CEDT", Walk { start: 36, sizes: ToldAt(Word(2)), kind: Byte(0), count: Nowhere, told_start: Nowhere }),
+    (*b"PPTT", Walk { start: 36, sizes: ToldAt(Byte(1)), kind: Byte(0), count: Nowhere, told_start: Nowhere }),
+    (*b"RHCT", Walk { start: 56, sizes: ToldAt(Word(2)), kind: Word(0), count: DWord(48), told_start: DWord(52) }),
+    (*b"VIOT", Walk { start: 48, sizes: ToldAt(Word(2)), kind: Byte(0), count: Word(36), told_start: Word(38) }),
+    (*b"RIMT", Walk { start: 48, sizes: ToldAt(Word(2)), kind: Byte(0), count: DWord(36), told_start: DWord(40) }),
+    (*b"RQSC", Walk { start: 40, sizes: ToldAt(Word(2)), kind: Byte(0), count: DWord(36), told_start: Nowhere }),
+    (*b"HMAT", Walk { start: 40, sizes: ToldAt(DWord(4)), kind: Word(0), count: Nowhere, told_start: Nowhere }),
+];
+
+/// The walk of the tables of a signature, where they have structures. The signature is given as a number, lowest byte first.
+pub fn walk_of(signature: u32) -> Option<Walk>
+    ensures walk { result ≡ walk_of signature }
+    ensures sound { IfSome result IsSound }
+{
+    find_walk(signature, &WALKS)
+}
+
+// A signature as a number, lowest byte first.
+fn number(signature: &[u8; 4]) -> u32
+    ensures { result ≡ named signature.now }
+{
+    u32::from_le_bytes(*signature)
+}
+
+// The walk beside a signature.
+fn find_walk(signature: u32, rows: &[([u8; 4], Walk)]) -> Option<Walk>
+    ensures { result ≡ find_walk signature rows.now }
+{
+    for row in rows {
+        if signature == number(&row.0) {
+            return Some(row.1);
+        }
+    }
+    None
+}
+
+/// The size of an error source of a type, in bytes (ACPI 6.5, 18.3.2).
+pub fn source_size(kind: usize) -> Option<usize>
+    ensures { result ≡ source_size kind }
+{
+    match kind {
+        6 => Some(48),
+        7 => Some(44),
+        8 => Some(56),
+        9 => Some(64),
+        10 => Some(92),
+        _ => None,
+    }
+}
+
+impl Place {
+    /// Where the field ends.
+    pub fn end(self) -> usize
+        ensures { result ≡ end_of self }
+    {
+        match self {
+            Place::Nowhere => 0,
+            Place::Byte(at) => usize::from(at) + 1,
+            Place::Word(at) => usize::from(at) + 2,
+            Place::DWord(at) => usize::from(at) + 4,
+        }
+    }
+
+    /// The number in the field, lowest byte first. A field that is nowhere has the number 0.
+    pub fn number(self, bytes: &[u8]) -> usize
+        requires { end_of self ≤ length bytes.now }
+        ensures { result ≡ number_in self bytes.now }
+    {
+        match self {
+            Place::Nowhere => 0,
+            Place::Byte(at) => usize::from(bytes[usize::from(at)]),
+            Place::Word(at) => {
+                let at = usize::from(at);
+                usize::from(u16::from_le_bytes([bytes[at], bytes[at + 1]]))
+            }
+            Place::DWord(at) => {
+                let at = usize::from(at);
+                u32::from_le_bytes([
+                    bytes[at],
+                    bytes[at + 1],
+                    bytes[at + 2],
+                    bytes[at + 3],
+                ]) as usize
+            }
+        }
+    }
+
+    /// Whether the field, where there is one, holds a number.
+    pub fn tells(self, bytes: &[u8], number: usize) -> bool
+        requires { end_of self ≤ length bytes.now }
+        ensures { IsTrue result ↔ Tells self bytes.now number }
+    {
+        match self {
+            Place::Nowhere => true,
+            place => place.number(bytes) == number,
+        }
+    }
+}

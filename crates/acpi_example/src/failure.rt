@@ -1,0 +1,53 @@
+//! Why a run failed.
+
+ghost use Rattle.std.specs.Prelude.{◌≡◌};
+
+use acpi_tables::Error as TableError;
+use std::io;
+use thiserror::Error;
+
+/// Why a run failed. What it displays is the line for standard error.
+#[derive(Debug, Drop, Error)]
+pub enum Failure {
+    /// The words aren't a folder and a base.
+    #[error("usage: acpi_example FOLDER BASE")]
+    Usage,
+    /// The system refused the words, or took no output.
+    #[error("{what}: {error}")]
+    System {
+        what: &'static str,
+        error: io::Error,
+    },
+    /// The system knows no such folder.
+    #[error("folder {path:?}: {error}")]
+    Folder {
+        path: String,
+        error: io::Error,
+    },
+    /// A file wasn't written.
+    #[error("{path}: {error}")]
+    File {
+        path: String,
+        error: io::Error,
+    },
+    /// A table of this name wasn't made.
+    #[error("{name}: {error}")]
+    Table {
+        name: &'static str,
+        error: TableError,
+    },
+}
+
+impl Failure {
+    ghost use Rattle.acpi_example.specs.Failure.{status_of};
+
+    /// The program's exit status.
+    pub fn status(&self) -> u8
+        ensures { result ≡ status_of self.now }
+    {
+        match self {
+            Failure::Usage => 2,
+            _ => 1,
+        }
+    }
+}

@@ -1,4 +1,0 @@
-//! Laws of the tables. Each function is a law: it does nothing, and ensures it.
-
-pub use crate::hest::{hest_is_walked, hest_sources_are_pieces};
-pub use crate::rqsc::rqsc_is_walked;

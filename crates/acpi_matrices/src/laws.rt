@@ -1,4 +1,0 @@
-//! Laws of the tables. Each function is a law: it does nothing, and ensures it.
-
-pub use crate::hmat::{cells_are_set, hmat_is_walked, new_cells_are_unreachable};
-pub use crate::slit::{distances_are_set, distances_are_true, slit_is_symmetric, slit_is_true};

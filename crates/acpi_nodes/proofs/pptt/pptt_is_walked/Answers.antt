@@ -1,7 +1,0 @@
-use Rattle.std.proofs.Common.{arith}
-use Rattle.acpi_base.specs.Walk.{pptt_walk}
-use Rattle.acpi_core.proofs.Kept.{is_walked}
-use Rattle.acpi_nodes.proofs.pptt.pptt_is_walked.Goals as goal
-
-pub returns : goal.returns
-returns c = rw (← c.table.view_is) (is_walked pptt_walk _ (omega arith) c.table.invariant)

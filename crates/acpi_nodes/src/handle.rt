@@ -1,0 +1,41 @@
+//! Where structures begin in their tables.
+
+ghost use Rattle.std.specs.Prelude.{◌≡◌};
+
+use std::marker::{Model, PhantomData};
+
+/// Where a structure of type `K` begins in its table. In contracts it is that offset.
+#[derive_where(Clone, Copy, Debug)]
+pub struct Handle<K> {
+    offset: u32,
+    structure: PhantomData<K>,
+}
+
+impl<K> Model for Handle<K> {
+    ghost use Rattle.std.specs.Prelude.{ℕ};
+
+    ghost Value = { ℕ };
+
+    ghost view = { λ h. h.offset };
+
+    ghost inverse = { λ n. record { offset = n; structure = record {} } };
+}
+
+impl<K> Handle<K> {
+    // The handle of what begins at an offset.
+    pub(crate) fn at(offset: u32) -> Handle<K>
+        ensures { result ≡ offset }
+    {
+        Handle {
+            offset,
+            structure: PhantomData,
+        }
+    }
+
+    // The offset in bytes.
+    pub(crate) fn offset(&self) -> u32
+        ensures { result ≡ self.now }
+    {
+        self.offset
+    }
+}

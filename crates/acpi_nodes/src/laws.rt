@@ -1,6 +1,0 @@
-//! Laws of the tables. Each function is a law: it does nothing, and ensures it.
-
-pub use crate::pptt::{pptt_is_walked, pptt_nodes_tell_kinds};
-pub use crate::rhct::{rhct_is_walked, rhct_nodes_tell_kinds};
-pub use crate::rimt::{rimt_devices_tell_kinds, rimt_is_walked};
-pub use crate::viot::{viot_is_walked, viot_nodes_tell_kinds};

@@ -1,0 +1,97 @@
+//! The numbers of enums, as their declarations have them.
+
+use acpi_tables::fadt::{Flags, PmProfile};
+use acpi_tables::hest::{EnabledStatus, ErrorSeverity, FirmwareFirst, NotificationType};
+use acpi_tables::rqsc::{ControllerType, ResourceType};
+use acpi_tables::tpm2::{PlatformClass, StartMethod};
+use acpi_vectors::equal;
+use std::test::Fail;
+
+#[test]
+fn fixed() -> Result<(), Fail> {
+    for (number, wanted) in [
+        (Flags::Wbinvd as u32, 1),
+        (Flags::WbinvdFlush as u32, 2),
+        (Flags::ProcC1 as u32, 4),
+        (Flags::PLvl2Up as u32, 8),
+        (Flags::PwrButton as u32, 16),
+        (Flags::SlpButton as u32, 32),
+        (Flags::FixRtc as u32, 64),
+        (Flags::RtcS4 as u32, 128),
+        (Flags::TmrValExt as u32, 256),
+        (Flags::DckCap as u32, 512),
+        (Flags::ResetRegSup as u32, 1024),
+        (Flags::SealedCase as u32, 2048),
+        (Flags::Headless as u32, 4096),
+        (Flags::CpuSwSlp as u32, 8192),
+        (Flags::PciExpWak as u32, 16_384),
+        (Flags::UsePlatformClock as u32, 32_768),
+        (Flags::S4RtcStsValid as u32, 65_536),
+        (Flags::RemotePowerOnCapable as u32, 131_072),
+        (Flags::ForceApicClusterModel as u32, 262_144),
+        (Flags::ForceApicPhysicalDestinationMode as u32, 524_288),
+        (Flags::HwReducedAcpi as u32, 1_048_576),
+        (Flags::LowPowerS0IdleCapable as u32, 2_097_152),
+        (Flags::PersistentCpuCachesNotReported as u32, 0),
+        (Flags::PersistentCpuCachesNotPersistent as u32, 4_194_304),
+        (Flags::PersistentCpuCachesArePersistent as u32, 8_388_608),
+        (PmProfile::Unspecified as u32, 0),
+        (PmProfile::Desktop as u32, 1),
+        (PmProfile::Mobile as u32, 2),
+        (PmProfile::Workstation as u32, 3),
+        (PmProfile::EnterpriseServer as u32, 4),
+        (PmProfile::SohoServer as u32, 5),
+        (PmProfile::AppliancePc as u32, 6),
+        (PmProfile::PerformanceServer as u32, 7),
+        (PmProfile::Tablet as u32, 8),
+        (PlatformClass::Client as u32, 0),
+        (PlatformClass::Server as u32, 1),
+        (StartMethod::LegacyUse as u32, 1),
+        (StartMethod::AcpiStart as u32, 2),
+        (StartMethod::Mmio as u32, 6),
+        (StartMethod::Crb as u32, 7),
+        (StartMethod::CrbAndAcpiStart as u32, 8),
+        (StartMethod::CrbAndSmcHvc as u32, 11),
+        (StartMethod::I2cFifo as u32, 12),
+    ] {
+        equal(&number, &wanted)?;
+    }
+    Ok(())
+}
+
+#[test]
+fn sources() -> Result<(), Fail> {
+    for (number, wanted) in [
+        (FirmwareFirst::Disabled as u32, 0),
+        (FirmwareFirst::Enabled as u32, 1),
+        (EnabledStatus::Disabled as u32, 0),
+        (EnabledStatus::Enabled as u32, 1),
+        (NotificationType::Polled as u32, 0),
+        (NotificationType::ExternalIrq as u32, 1),
+        (NotificationType::LocalIrq as u32, 2),
+        (NotificationType::Sci as u32, 3),
+        (NotificationType::Nmi as u32, 4),
+        (NotificationType::Cmci as u32, 5),
+        (NotificationType::Mce as u32, 6),
+        (NotificationType::GpioSignal as u32, 7),
+        (NotificationType::Armv8Sea as u32, 8),
+        (NotificationType::Armv8Sei as u32, 9),
+        (NotificationType::ExternalGsiv as u32, 10),
+        (NotificationType::SoftwareException as u32, 11),
+        (NotificationType::RiscvSupervisorSoftwareEvent as u32, 12),
+        (NotificationType::RiscvLowPriorityRasInterrupt as u32, 13),
+        (NotificationType::RiscvHighPriorityRasInterrupt as u32, 14),
+        (NotificationType::RiscvHardwareErrorException as u32, 15),
+        (ErrorSeverity::Recoverable as u32, 0),
+        (ErrorSeverity::Fatal as u32, 1),
+        (ErrorSeverity::Correctable as u32, 2),
+        (ErrorSeverity::None as u32, 3),
+        (ControllerType::Capacity as u32, 0),
+        (ControllerType::Bandwidth as u32, 1),
+        (ResourceType::Cache as u32, 0),
+        (ResourceType::Memory as u32, 1),
+    ] {
+        equal(&number, &wanted)?;
+    }
+    Ok(())
+}
