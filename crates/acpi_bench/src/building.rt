@@ -23,7 +23,7 @@ pub enum Kind {
 
 // A MADT of this many structures: a local APIC and an I/O APIC in turn.
 fn madt(alloc: Global, count: u32) -> R<MADT>
-    ensures { IfOk result (λ madt. length madt.counted.table.structures ≡ count) }
+    ensures { IfOk result (λ madt. length madt.table.table.structures ≡ count) }
 {
     let local = LocalInterruptController::Address(0xfee0_0000);
     let mut table = MADT::new(alloc, OEM, OEM_TABLE, OEM_REVISION, local);
@@ -39,7 +39,7 @@ fn madt(alloc: Global, count: u32) -> R<MADT>
 
 // An SRAT of this many ranges of memory.
 fn srat(alloc: Global, count: u32) -> R<SRAT>
-    ensures { IfOk result (λ srat. length srat.table.structures ≡ count) }
+    ensures { IfOk result (λ srat. length srat.table.table.structures ≡ count) }
 {
     let mut table = SRAT::new(alloc, OEM, OEM_TABLE, OEM_REVISION);
     'fill: for number in 0..count {
@@ -54,7 +54,7 @@ fn srat(alloc: Global, count: u32) -> R<SRAT>
 
 // An XSDT of this many addresses.
 fn xsdt(alloc: Global, count: u32) -> R<XSDT>
-    ensures { IfOk result (λ xsdt. length xsdt.table.structures ≡ count) }
+    ensures { IfOk result (λ xsdt. length xsdt.table.table.structures ≡ count) }
 {
     let mut table = XSDT::new(alloc, OEM, OEM_TABLE, OEM_REVISION);
     'fill: for number in 0..count {
@@ -65,7 +65,7 @@ fn xsdt(alloc: Global, count: u32) -> R<XSDT>
 
 // A PPTT of this many processors, each with a cache of its own.
 fn pptt(alloc: Global, count: u32) -> R<PPTT>
-    ensures { IfOk result (λ pptt. length pptt.table.structures ≡ 2 * count) }
+    ensures { IfOk result (λ pptt. length pptt.table.table.structures ≡ 2 * count) }
 {
     let mut table = PPTT::new(alloc, OEM, OEM_TABLE, OEM_REVISION);
     'fill: for number in 0..count {

@@ -46,7 +46,7 @@ fn latencies(alloc: Global, side: u16) -> R<SystemLocality> {
 
 // An HMAT of one such matrix.
 fn hmat(alloc: Global, side: u16) -> R<HMAT>
-    ensures { IfOk result (λ hmat. length hmat.table.structures ≡ 1) }
+    ensures { IfOk result (λ hmat. length hmat.table.table.structures ≡ 1) }
 {
     let mut table = HMAT::new(alloc, OEM, OEM_TABLE, OEM_REVISION);
     table.add_system_locality(latencies(alloc, side)?)?;

@@ -1,5 +1,5 @@
 -- What tables keep over additions.
-use Rattle.std.proofs.Common.{◌≡◌, ℕ, ◌+◌, List, [], Bool, IsTrue, length, take, refl, ap, ◌∙◌}
+use Rattle.std.proofs.Common.{◌≡◌, ℕ, ◌+◌, List, Bool, IsTrue, length, take, refl, ap, ◌∙◌}
 use Rattle.std.specs.Prelude.{Result, Ok, Err, OnOk, IfErr, Option, Some, None}
 use Rattle.acpi_base.specs.declared.error.Error.{Error}
 use Rattle.acpi_base.specs.Sink.{Meaning}
@@ -12,7 +12,7 @@ use Rattle.acpi_base.specs.Bytes.{field_at}
 use Rattle.std.specs.List.{concat}
 use Rattle.acpi_base.proofs.Walks.{pieces_push, is_sound}
 use Rattle.acpi_core.specs.Listing.{Listing, IsListing, bytes_of, with_structure}
-use Rattle.acpi_core.specs.Addition.{Counted, Adds, AddsAt, refusal_of}
+use Rattle.acpi_core.specs.Addition.{Counted, Adds, refusal_of}
 use Rattle.acpi_core.specs.Walk.{IsWalkOf, Keeps, IsWalked}
 use Rattle.acpi_core.proofs.Offsets.{are_true, the_walk, grow, signature_told, places}
 
@@ -53,11 +53,6 @@ keeps_on w limit closed r old new o kept one adds = record {
   pieces = λ all. pieces_on w.sizes r old new o (kept.pieces all) (one all) adds;
 }
 
--- a table without structures keeps what its kind says
-pub begins : (w : Walk) (limit : ℕ) (closed : Bool) (t empty : Listing) → t ≡ empty → IsListing t → IsWalkOf w empty → empty.limit ≡ limit → empty.structures ≡ [] → Keeps w limit closed t
-begins w limit closed t empty same is walk low none =
-    record { is = is; walk = rw same walk; limited = rw same low; pieces = λ all. rw (same, none) tt }
-
 -- an addition of a record, whose bytes are as many as its type says
 pub keeps_record : (w : Walk) (limit : ℕ) (closed : Bool) {T : Type 0} (r : Result T Error) (old new : Counted) (n : ℕ) (made bytes : List ℕ) → Keeps w limit closed old.table
     → (IsTrue closed → length bytes ≡ n → IsPiece w.sizes bytes) → made ≡ bytes → length made ≡ n → Adds r old (whole made) new → Keeps w limit closed new.table
@@ -87,7 +82,3 @@ wrote_same (Err e) a b m k same wrote = tt
 pub refused_same : {T : Type 0} (r : Result T Error) (a b : Counted) (m k : Meaning) → a ≡ b → IfErr r (λ e. WriteRefused e (whole (bytes_of a.table)) m k) → IfErr r (λ e. WriteRefused e (whole (bytes_of b.table)) m k)
 refused_same (Ok u) a b m k same refused = tt
 refused_same (Err e) a b m k same refused = rw (← same) refused
-
--- an addition of an object
-pub adds_object : {T : Type 0} (r : Result T Error) (inside old new : Counted) (o : Object) → inside ≡ old → Adds r inside o new → Adds r old o new
-adds_object r inside old new o same adds = rw (← same) adds

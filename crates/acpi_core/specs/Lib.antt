@@ -5,5 +5,4 @@ pub mod Structure
 pub mod Offset
 pub mod Walk
 pub mod Laws
-pub mod Kind
 pub mod Entries

@@ -1,6 +1,6 @@
 //! Tables whose structures are found by the walk of their kind.
 
-ghost use Rattle.std.specs.Prelude.{◌≡◌, ◌<◌, ◌^◌, [], length, None, IsTrue};
+ghost use Rattle.std.specs.Prelude.{◌≡◌, ◌<◌, ◌^◌, [], length, None, IsTrue, IfOk};
 ghost use Rattle.acpi_base.specs.Fields.{fields_joined};
 ghost use Rattle.acpi_base.specs.Object.{whole, whole_ends_well};
 ghost use Rattle.acpi_base.specs.Table.{IsTrueTable};
@@ -9,24 +9,22 @@ ghost use Rattle.acpi_core.specs.Addition.{Adds, AddsAt};
 ghost use Rattle.acpi_core.specs.Listing.{bytes_of};
 ghost use Rattle.acpi_core.specs.Walk.{IsWalkOf, IsWalked};
 
-use crate::kind::{Kind, Plain};
+use crate::kind::Kind;
 use crate::table::Table;
 use acpi_base::error::R;
 use acpi_base::object::Aml;
-use acpi_base::oem::Oem;
 use acpi_base::row::Record;
 use acpi_base::sink::AmlSink;
-use std::alloc::Global;
 use std::marker::{Model, PhantomData};
 
 /// A table of a kind.
 #[derive(Drop)]
-pub struct Walked<K: Kind<N>, const N: usize> {
+pub struct Walked<K: Kind, const N: usize> {
     table: Table<N>,
     kind: PhantomData<K>,
 }
 
-impl<K: Kind<N>, const N: usize> Model for Walked<K, N> {
+impl<K: Kind, const N: usize> Model for Walked<K, N> {
     ghost use Rattle.acpi_core.specs.Addition.{Counted};
     ghost use Rattle.acpi_core.specs.Walk.{Keeps};
 
@@ -37,7 +35,7 @@ impl<K: Kind<N>, const N: usize> Model for Walked<K, N> {
     ghost invariant = { λ t. Keeps K.walk K.limit K.closed t.table.table };
 }
 
-impl<K: Kind<N>, const N: usize> Aml for Walked<K, N> {
+impl<K: Kind, const N: usize> Aml for Walked<K, N> {
     ghost object = { λ t. whole (bytes_of t.table) };
 
     ghost ends_well = { λ t. whole_ends_well (bytes_of t.table) };
@@ -47,19 +45,7 @@ impl<K: Kind<N>, const N: usize> Aml for Walked<K, N> {
     }
 }
 
-impl<K: Plain<N>, const N: usize> Walked<K, N> {
-    /// A table without structures.
-    pub fn new(alloc: Global, oem: Oem) -> Walked<K, N>
-        ensures { result.table ≡ K.empty oem }
-    {
-        Walked {
-            table: K::table(alloc, oem),
-            kind: PhantomData,
-        }
-    }
-}
-
-impl<K: Kind<N>, const N: usize> Walked<K, N> {
+impl<K: Kind, const N: usize> Walked<K, N> {
     /// A table without structures, whose fixed fields were chosen for it.
     pub fn of(table: Table<N>) -> Walked<K, N>
         requires walk { IsWalkOf K.walk table.table }
@@ -71,13 +57,6 @@ impl<K: Kind<N>, const N: usize> Walked<K, N> {
             table,
             kind: PhantomData,
         }
-    }
-
-    /// The table without its kind.
-    pub fn table(&self) -> &Table<N>
-        ensures { result.now ≡ self.now }
-    {
-        &self.table
     }
 
     /// Adds a record. FieldWidth where the length or the number of structures would pass its field.
@@ -95,7 +74,8 @@ impl<K: Kind<N>, const N: usize> Walked<K, N> {
         requires size { M < 2 ^ 63 }
         requires piece { IsTrue K.closed → length (fields_joined (T.fields structure.now)) ≡ M
             → IsPiece K.walk.sizes (fields_joined (T.fields structure.now)) }
-        ensures { AddsAt result self.old (whole (fields_joined (T.fields structure.now))) self.new }
+        ensures adds { AddsAt result self.old (whole (fields_joined (T.fields structure.now))) self.new }
+        ensures below { IfOk result (λ at. at < K.limit) }
     {
         self.table.add_at(&structure.bytes())
     }
@@ -111,7 +91,8 @@ impl<K: Kind<N>, const N: usize> Walked<K, N> {
     /// As `add_object`, and answers where the structure begins.
     pub fn add_object_at<T: Aml>(&mut self, structure: &T) -> R<u32>
         requires { IsTrue K.closed → (T.object structure.now).end ≡ None → IsPiece K.walk.sizes (T.object structure.now).front }
-        ensures { AddsAt result self.old (T.object structure.now) self.new }
+        ensures adds { AddsAt result self.old (T.object structure.now) self.new }
+        ensures below { IfOk result (λ at. at < K.limit) }
     {
         self.table.add_object_at(structure)
     }
@@ -119,7 +100,7 @@ impl<K: Kind<N>, const N: usize> Walked<K, N> {
 
 /// A law: after any calls the table is a true one. Where each structure is as long as the walk takes it to be, which a closed
 /// kind keeps, they are, in order, the one list that walks it.
-pub fn is_walked<K: Kind<N>, const N: usize>(table: &Walked<K, N>)
+pub fn is_walked<K: Kind, const N: usize>(table: &Walked<K, N>)
     ensures is_true { IsTrueTable (bytes_of table.now.table) }
     ensures closed { IsTrue K.closed → ArePieces K.walk.sizes table.now.table.structures }
     ensures walked { ArePieces K.walk.sizes table.now.table.structures → IsWalked K.walk table.now.table }

@@ -43,7 +43,7 @@ fn matrix(alloc: Global, data: DataType, unit: u64, near: u16, far: u16) -> R<Sy
 
 /// The latencies of an access, 80 and 160 nanoseconds, and the bandwidths, 40,000 and 20,000 megabytes a second.
 pub fn attributes(alloc: Global) -> R<HMAT>
-    ensures { IfOk result (λ hmat. length hmat.table.structures ≡ 4) }
+    ensures { IfOk result (λ hmat. length hmat.table.table.structures ≡ 4) }
 {
     let mut table = HMAT::new(alloc, OEM_ID, OEM_TABLE_ID, OEM_REVISION);
     'domains: for domain in 0..2u32 {

@@ -29,12 +29,12 @@ pub fn image(alloc: Global, base: u64) -> R<Image>
     let boot_errors = boot_errors(base);
     let tables: Vec<&dyn Aml> = vec![in alloc;
         &controllers as &dyn Aml,
-        spaces.table(),
-        memory.table(),
+        &spaces,
+        &memory,
         &distances,
-        attributes.table(),
-        topology.table(),
-        sources.table(),
+        &attributes,
+        &topology,
+        &sources,
         &boot_errors,
     ]?;
     lay(

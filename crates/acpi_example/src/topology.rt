@@ -25,7 +25,7 @@ fn cache(id: u32, kind: CacheType, sets: u16, ways: u8) -> CacheNodeBuilder {
 // Adds a core. It has a cache for data, one for instructions, and one of the second level behind both. The package's cache is
 // found at the package's node, so it isn't the next level of the second one.
 fn add_core(alloc: Global, table: &mut PPTT, package: &ProcessorHandle, number: u8) -> R<()>
-    ensures { OnOk result (length table.new.table.structures ≡ length table.old.table.structures + 4) }
+    ensures { OnOk result (length table.new.table.table.structures ≡ length table.old.table.table.structures + 4) }
 {
     let number = u32::from(number);
     let first_id = 2 + 3 * number;
@@ -45,7 +45,7 @@ fn add_core(alloc: Global, table: &mut PPTT, package: &ProcessorHandle, number: 
 
 /// A package of cores, which share its cache.
 pub fn topology(alloc: Global, cores: u8) -> R<PPTT>
-    ensures { IfOk result (λ pptt. length pptt.table.structures ≡ 2 + 4 * cores) }
+    ensures { IfOk result (λ pptt. length pptt.table.table.structures ≡ 2 + 4 * cores) }
 {
     let mut table = PPTT::new(alloc, OEM_ID, OEM_TABLE_ID, OEM_REVISION);
     let shared = table.add_cache(cache(1, CacheType::Unified, 8192, 16).to_node())?;

@@ -1,7 +1,7 @@
 //! HEST: where a machine reports its hardware errors.
 
-ghost use Rattle.std.proofs.Common.{rules};
 ghost use Rattle.std.specs.Prelude.{◌≡◌, false};
+ghost use Rattle.acpi_base.specs.Object.{whole, whole_ends_well};
 ghost use Rattle.acpi_base.specs.Table.{IsTrueTable};
 ghost use Rattle.acpi_base.specs.Walk.{hest_walk, ArePieces};
 ghost use Rattle.acpi_core.specs.Addition.{Adds};
@@ -17,13 +17,14 @@ mod notification;
 mod status;
 mod tail;
 
-use crate::list_table::{ListTable, tables_are_walked};
 use acpi_base::error::R;
 use acpi_base::object::Aml;
 use acpi_base::oem::Oem;
+use acpi_base::sink::AmlSink;
 use acpi_core::form::Form;
-use acpi_core::kind::{Kind, Plain};
+use acpi_core::kind::Kind;
 use acpi_core::table::Table;
+use acpi_core::walked::{Walked, is_walked};
 pub use aer::{
     Aer, AerBridge, AerDevice, AerRootPort, FirmwareFirst, PciDevice, PcieAerBridge, PcieAerDevice,
     PcieAerRootPort, aer_rows,
@@ -40,12 +41,15 @@ pub use tail::Tail;
 
 /// The Hardware Error Source Table (ACPI 6.5, 18.3.2): error sources that tell their type at offset 0, from offset 40 on, and
 /// their number at offset 36.
-pub type HEST = ListTable<HestKind, 40>;
+#[derive(Drop)]
+pub struct HEST {
+    table: Walked<HestKind, 40>,
+}
 
 /// The kind of HEST, to which a caller may add sources of its own.
 pub struct HestKind;
 
-impl Kind<40> for HestKind {
+impl Kind for HestKind {
     ghost walk = { hest_walk };
 
     ghost limit = { length_limit };
@@ -53,33 +57,44 @@ impl Kind<40> for HestKind {
     ghost closed = { false };
 }
 
-impl Plain<40> for HestKind {
-    ghost empty = { hest };
+impl Aml for HEST {
+    ghost object = { λ t. whole (bytes_of t.table.table) };
 
-    fn table(alloc: Global, oem: Oem) -> Table<40> {
-        Table::new(alloc, Form::new(*b"HEST", 1, oem, 4), &[], &[])
+    ghost ends_well = { λ t. whole_ends_well (bytes_of t.table.table) };
+
+    fn to_aml_bytes(&self, sink: &mut dyn AmlSink) -> R<()> {
+        self.table.to_aml_bytes(sink)
     }
-
-    ghost are_empty = { Prim.search rules };
 }
 
 impl HEST {
+    /// A table without error sources.
+    pub fn new(alloc: Global, oem_id: [u8; 6], oem_table_id: [u8; 8], oem_revision: u32) -> HEST
+        ensures { result.table.table ≡ hest (record { id = oem_id; table_id = oem_table_id; revision = oem_revision }) }
+    {
+        let oem = Oem::new(oem_id, oem_table_id, oem_revision);
+        let form = Form::new(*b"HEST", 1, oem, 4);
+        HEST {
+            table: Walked::of(Table::new(alloc, form, &[], &[])),
+        }
+    }
+
     /// Adds an error source, whose bytes are kept as it writes them. The source's own refusal, else FieldWidth where the
     /// length would reach 2^32.
     pub fn add_structure<T: Aml + Drop>(&mut self, structure: T) -> R<()>
-        ensures { Adds result self.old (T.object structure) self.new }
+        ensures { Adds result self.old.table (T.object structure) self.new.table }
     {
-        self.add_object(&structure)
+        self.table.add_object(&structure)
     }
 }
 
 /// A law: after any calls the table is a true one. Where each structure has the size of its type, they are, in order, the one
 /// list that walks it.
 pub fn hest_is_walked(table: &HEST)
-    ensures is_true { IsTrueTable (bytes_of table.now.table) }
-    ensures walked { ArePieces hest_walk.sizes table.now.table.structures → IsWalked hest_walk table.now.table }
+    ensures is_true { IsTrueTable (bytes_of table.now.table.table) }
+    ensures walked { ArePieces hest_walk.sizes table.now.table.table.structures → IsWalked hest_walk table.now.table.table }
 {
-    tables_are_walked(table)
+    is_walked(&table.table)
 }
 
 /// A law: each source of this module tells its type and has its size, whatever its fields hold.

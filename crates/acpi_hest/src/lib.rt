@@ -2,7 +2,6 @@
 #![tactic(auto)]
 
 pub mod hest;
-pub mod list_table;
 mod parts;
 pub mod rqsc;
 

@@ -1,19 +1,17 @@
 //! RQSC: controllers that share caches and memory bandwidth out.
 
-ghost use Rattle.std.proofs.Common.{rules};
 ghost use Rattle.std.specs.Prelude.{◌≡◌, ◌≢◌, length, true, false, IfOk, OnOk, OnErr, IfErr};
 ghost use Rattle.acpi_base.specs.Fields.{AreRowsOf};
 ghost use Rattle.acpi_base.specs.Object.{whole, whole_ends_well};
 ghost use Rattle.acpi_base.specs.Walk.{rqsc_walk};
 ghost use Rattle.acpi_core.specs.Addition.{Adds};
-ghost use Rattle.acpi_core.specs.Listing.{length_limit};
+ghost use Rattle.acpi_core.specs.Listing.{bytes_of, length_limit};
 ghost use Rattle.acpi_core.specs.Walk.{IsWalked};
 ghost use Rattle.acpi_hest.specs.Rqsc.{rqsc, Controller, controller, controller_head_fields, controller_head};
 ghost use Rattle.acpi_hest.specs.Rqsc.{controller_bytes, with_resource, has_room_for};
 
 mod resource;
 
-use crate::list_table::{ListTable, tables_are_walked};
 use crate::parts::write_behind;
 use acpi_base::buffer::append_value;
 use acpi_base::error::{Error, R};
@@ -23,8 +21,9 @@ use acpi_base::oem::Oem;
 use acpi_base::row::{Row, Value, record_of};
 use acpi_base::sink::AmlSink;
 use acpi_core::form::Form;
-use acpi_core::kind::{Kind, Plain};
+use acpi_core::kind::Kind;
 use acpi_core::table::Table;
+use acpi_core::walked::{Walked, is_walked};
 pub use resource::{
     ACPIDeviceResource, CacheResource, MemoryAffinityStructureResource, PCIDeviceResource,
     ResourceID, ResourceStructure, ResourceType, resource_rows,
@@ -34,12 +33,15 @@ use std::marker::Model;
 
 /// The RISC-V Quality of Service Controller table (this project's profile): controllers from offset 40 on, and their number
 /// at offset 36.
-pub type RQSC = ListTable<RqscKind, 40>;
+#[derive(Drop)]
+pub struct RQSC {
+    table: Walked<RqscKind, 40>,
+}
 
 /// The kind of RQSC.
 pub struct RqscKind;
 
-impl Kind<40> for RqscKind {
+impl Kind for RqscKind {
     ghost walk = { rqsc_walk };
 
     ghost limit = { length_limit };
@@ -47,30 +49,41 @@ impl Kind<40> for RqscKind {
     ghost closed = { true };
 }
 
-impl Plain<40> for RqscKind {
-    ghost empty = { rqsc };
+impl Aml for RQSC {
+    ghost object = { λ t. whole (bytes_of t.table.table) };
 
-    fn table(alloc: Global, oem: Oem) -> Table<40> {
-        Table::new(alloc, Form::new(*b"RQSC", 1, oem, 4), &[], &[])
+    ghost ends_well = { λ t. whole_ends_well (bytes_of t.table.table) };
+
+    fn to_aml_bytes(&self, sink: &mut dyn AmlSink) -> R<()> {
+        self.table.to_aml_bytes(sink)
     }
-
-    ghost are_empty = { Prim.search rules };
 }
 
 impl RQSC {
+    /// A table without controllers.
+    pub fn new(alloc: Global, oem_id: [u8; 6], oem_table_id: [u8; 8], oem_revision: u32) -> RQSC
+        ensures { result.table.table ≡ rqsc (record { id = oem_id; table_id = oem_table_id; revision = oem_revision }) }
+    {
+        let oem = Oem::new(oem_id, oem_table_id, oem_revision);
+        let form = Form::new(*b"RQSC", 1, oem, 4);
+        RQSC {
+            table: Walked::of(Table::new(alloc, form, &[], &[])),
+        }
+    }
+
     /// Adds a controller. FieldWidth where the length would reach 2^32.
     pub fn add_controller(&mut self, controller: QoSController) -> R<()>
-        ensures { Adds result self.old (whole (controller_bytes controller)) self.new }
+        ensures { Adds result self.old.table (whole (controller_bytes controller)) self.new.table }
     {
-        self.add_object(&controller)
+        self.table.add_object(&controller)
     }
 }
 
 /// A law: after any calls the table is a true one, and its controllers, in order, are the one list that walks it.
 pub fn rqsc_is_walked(table: &RQSC)
-    ensures { IsWalked rqsc_walk table.now.table }
+    ensures { IsWalked rqsc_walk table.now.table.table }
 {
-    tables_are_walked(table)
+    is_walked(&table.table)
 }
 
 /// What a controller shares out (offset 0).

@@ -6,11 +6,12 @@ use Rattle.acpi_base.specs.Walk.{IsPiece, madt_walk}
 use Rattle.acpi_base.specs.declared.error.Error.{Error}
 use Rattle.acpi_base.specs.declared.error.Error.TheVariants.{ImsicSet}
 use Rattle.acpi_base.specs.declared.oem.Oem.{Oem}
-use Rattle.acpi_core.specs.Addition.{Counted, Adds}
+use Rattle.acpi_core.specs.Addition.{Adds}
 use Rattle.acpi_core.specs.Listing.{Listing, length_limit}
 use Rattle.acpi_lists.specs.MadtArm.{gicc_bytes, gicd_bytes, gic_msi_bytes, gicr_bytes, gic_its_bytes}
 use Rattle.acpi_lists.specs.MadtRiscv.{rintc_bytes, imsic_bytes, aplic_bytes, plic_bytes}
 use Rattle.acpi_lists.specs.MadtX86.{processor_local_apic_bytes, io_apic_bytes}
+use Rattle.acpi_lists.specs.declared.madt.MADT.{MADT}
 use Rattle.acpi_lists.specs.declared.madt.LocalInterruptController.{LocalInterruptController}
 use Rattle.acpi_lists.specs.declared.madt.LocalInterruptController.TheVariants.{Riscv, Address}
 use Rattle.acpi_lists.specs.declared.madt.x86.ProcessorLocalApic.{ProcessorLocalApic}
@@ -49,14 +50,9 @@ madt oem controller = record {
   structures = [];
 }
 
--- a table, how many bytes were summed for it, and whether it was given its IMSIC
-pub record Controllers : Type 0 where
-  pub counted : Counted
-  pub has_imsic : Bool
-
 -- The first IMSIC is added as any structure. Afterwards each is refused, and the table stays as it was.
-pub record AddsImsic (result : Result Unit Error) (old : Controllers) (imsic : List ℕ) (new : Controllers) : Type 0 where
-  pub first : old.has_imsic ≡ false → Adds result old.counted (whole imsic) new.counted
+pub record AddsImsic (result : Result Unit Error) (old : MADT) (imsic : List ℕ) (new : MADT) : Type 0 where
+  pub first : old.has_imsic ≡ false → Adds result old.table (whole imsic) new.table
   pub again : old.has_imsic ≡ true → (result ≡ Err ImsicSet) × (new ≡ old)
   pub ok : OnOk result (new.has_imsic ≡ true)
   pub err : OnErr result (new.has_imsic ≡ old.has_imsic)

@@ -1,20 +1,18 @@
 //! CEDT: CXL host bridges and windows of memory.
 
-ghost use Rattle.std.proofs.Common.{rules};
 ghost use Rattle.std.specs.Prelude.{◌≡◌, ◌≢◌, ◌+◌, ◌<◌, ◌++◌, true, bit_or, length, OnOk, OnErr, IfErr};
 ghost use Rattle.acpi_base.specs.Bytes.{le};
 ghost use Rattle.acpi_base.specs.Fields.{AreRowsOf};
 ghost use Rattle.acpi_base.specs.Object.{whole, whole_ends_well};
 ghost use Rattle.acpi_base.specs.Walk.{cedt_walk};
 ghost use Rattle.acpi_core.specs.Addition.{Adds};
-ghost use Rattle.acpi_core.specs.Listing.{length_limit};
+ghost use Rattle.acpi_core.specs.Listing.{bytes_of, length_limit};
 ghost use Rattle.acpi_core.specs.Walk.{IsWalked};
 ghost use Rattle.acpi_lists.specs.Cedt.{cedt, registers_of, host_bridge, host_bridge_bytes, ways_count, host_bridge_fields};
 ghost use Rattle.acpi_lists.specs.Cedt.{Window, window, window_head_fields, window_head, window_object, window_ends_well};
 ghost use Rattle.acpi_lists.specs.Cedt.{XorMaps, no_maps, maps_head_fields, maps_head, maps_bytes};
 ghost use Rattle.acpi_lists.specs.Cedt.{port_association, port_association_bytes, port_association_fields};
 
-use crate::list_table::{ListTable, tables_are_walked};
 use acpi_base::error::{Error, R};
 use acpi_base::object::Aml;
 use acpi_base::oem::Oem;
@@ -23,18 +21,22 @@ use acpi_base::row::{Record, Row, record_of_numbers, write_record};
 use acpi_base::sink::AmlSink;
 use acpi_core::entries::Entries;
 use acpi_core::form::Form;
-use acpi_core::kind::{Kind, Plain};
+use acpi_core::kind::Kind;
 use acpi_core::table::Table;
+use acpi_core::walked::{Walked, is_walked};
 use std::alloc::Global;
 use std::marker::Model;
 
 /// The CXL Early Discovery Table (CXL profile): structures from offset 36 on.
-pub type CEDT = ListTable<CedtKind, 36>;
+#[derive(Drop)]
+pub struct CEDT {
+    table: Walked<CedtKind, 36>,
+}
 
 /// The kind of CEDT.
 pub struct CedtKind;
 
-impl Kind<36> for CedtKind {
+impl Kind for CedtKind {
     ghost walk = { cedt_walk };
 
     ghost limit = { length_limit };
@@ -42,52 +44,63 @@ impl Kind<36> for CedtKind {
     ghost closed = { true };
 }
 
-impl Plain<36> for CedtKind {
-    ghost empty = { cedt };
+impl Aml for CEDT {
+    ghost object = { λ t. whole (bytes_of t.table.table) };
 
-    fn table(alloc: Global, oem: Oem) -> Table<36> {
-        Table::new(alloc, Form::new(*b"CEDT", 1, oem, 0), &[], &[])
+    ghost ends_well = { λ t. whole_ends_well (bytes_of t.table.table) };
+
+    fn to_aml_bytes(&self, sink: &mut dyn AmlSink) -> R<()> {
+        self.table.to_aml_bytes(sink)
     }
-
-    ghost are_empty = { Prim.search rules };
 }
 
 impl CEDT {
+    /// A table without structures.
+    pub fn new(alloc: Global, oem_id: [u8; 6], oem_table_id: [u8; 8], oem_revision: u32) -> CEDT
+        ensures { result.table.table ≡ cedt (record { id = oem_id; table_id = oem_table_id; revision = oem_revision }) }
+    {
+        let oem = Oem::new(oem_id, oem_table_id, oem_revision);
+        let form = Form::new(*b"CEDT", 1, oem, 0);
+        CEDT {
+            table: Walked::of(Table::new(alloc, form, &[], &[])),
+        }
+    }
+
     /// Adds a host bridge. FieldWidth where the length would reach 2^32.
     pub fn add_host_bridge(&mut self, bridge: CxlHostBridge) -> R<()>
-        ensures { Adds result self.old (whole (host_bridge_bytes bridge)) self.new }
+        ensures { Adds result self.old.table (whole (host_bridge_bytes bridge)) self.new.table }
     {
-        self.add_record(&bridge)
+        self.table.add_record(&bridge)
     }
 
     /// Adds a window of memory. Targets where they aren't as many as its ways, else FieldWidth where the length would
     /// reach 2^32.
     pub fn add_fixed_memory(&mut self, memory: CxlFixedMemory) -> R<()>
-        ensures { Adds result self.old (window_object memory) self.new }
+        ensures { Adds result self.old.table (window_object memory) self.new.table }
     {
-        self.add_object(&memory)
+        self.table.add_object(&memory)
     }
 
     /// Adds maps for interleaving. FieldWidth where the length would reach 2^32.
     pub fn add_xor_interleave_math(&mut self, math: XorInterleaveMath) -> R<()>
-        ensures { Adds result self.old (whole (maps_bytes math)) self.new }
+        ensures { Adds result self.old.table (whole (maps_bytes math)) self.new.table }
     {
-        self.add_object(&math)
+        self.table.add_object(&math)
     }
 
     /// Adds a port below a root complex event collector. FieldWidth where the length would reach 2^32.
     pub fn add_port_association(&mut self, port: PortAssociation) -> R<()>
-        ensures { Adds result self.old (whole (port_association_bytes port)) self.new }
+        ensures { Adds result self.old.table (whole (port_association_bytes port)) self.new.table }
     {
-        self.add_record(&port)
+        self.table.add_record(&port)
     }
 }
 
 /// A law: after any calls the table is a true one, and its structures, in order, are the one list that walks it.
 pub fn cedt_is_walked(table: &CEDT)
-    ensures { IsWalked cedt_walk table.now.table }
+    ensures { IsWalked cedt_walk table.now.table.table }
 {
-    tables_are_walked(table)
+    is_walked(&table.table)
 }
 
 /// Which version of CXL a host bridge has (offset 8).

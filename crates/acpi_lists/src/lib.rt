@@ -2,7 +2,6 @@
 #![tactic(auto)]
 
 pub mod cedt;
-pub mod list_table;
 pub mod madt;
 pub mod mcfg;
 pub mod srat;

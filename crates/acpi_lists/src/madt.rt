@@ -28,7 +28,6 @@ use acpi_core::walked::{Walked, is_walked};
 pub use arm::{GicIts, GicMsi, GicVersion, Gicc, Gicd, Gicr, Trigger};
 pub use riscv::{APLIC, HartStatus, IMSIC, PLIC, RINTC};
 use std::alloc::Global;
-use std::marker::Model;
 pub use x86::{IoApic, ProcessorLocalApic};
 
 /// Where every processor finds its own interrupt controller (ACPI 6.5, 5.2.12, offset 36): on RISC-V nowhere in memory,
@@ -69,7 +68,7 @@ pub struct MADT {
 /// The kind of MADT, to which a caller may add structures of its own.
 pub struct MadtKind;
 
-impl Kind<44> for MadtKind {
+impl Kind for MadtKind {
     ghost walk = { madt_walk };
 
     ghost limit = { length_limit };
@@ -77,18 +76,10 @@ impl Kind<44> for MadtKind {
     ghost closed = { false };
 }
 
-impl Model for MADT {
-    ghost use Rattle.acpi_lists.specs.Madt.{Controllers};
-
-    ghost Value = { Controllers };
-
-    ghost view = { λ t. record { counted = t.table; has_imsic = t.has_imsic } };
-}
-
 impl Aml for MADT {
-    ghost object = { λ t. whole (bytes_of t.counted.table) };
+    ghost object = { λ t. whole (bytes_of t.table.table) };
 
-    ghost ends_well = { λ t. whole_ends_well (bytes_of t.counted.table) };
+    ghost ends_well = { λ t. whole_ends_well (bytes_of t.table.table) };
 
     fn to_aml_bytes(&self, sink: &mut dyn AmlSink) -> R<()> {
         self.table.to_aml_bytes(sink)
@@ -104,15 +95,15 @@ impl MADT {
         oem_revision: u32,
         int: LocalInterruptController,
     ) -> MADT
-        ensures table { result.counted.table
+        ensures table { result.table.table
             ≡ madt (record { id = oem_id; table_id = oem_table_id; revision = oem_revision }) int }
         ensures imsic { result.has_imsic ≡ false }
     {
         let oem = Oem::new(oem_id, oem_table_id, oem_revision);
+        let form = Form::new(*b"APIC", 1, oem, 0);
         let before: [u8; 8] = record_of_numbers(&FIXED, &[u64::from(int.address()), 0]);
-        let table = Table::new(alloc, Form::new(*b"APIC", 1, oem, 0), &before, &[]);
         MADT {
-            table: Walked::of(table),
+            table: Walked::of(Table::new(alloc, form, &before, &[])),
             has_imsic: false,
         }
     }
@@ -120,7 +111,7 @@ impl MADT {
     /// Adds a structure, whose bytes are kept as it writes them. The structure's own refusal, else FieldWidth where the
     /// length would reach 2^32.
     pub fn add_structure<T: Aml + Drop>(&mut self, structure: T) -> R<()>
-        ensures adds { Adds result self.old.counted (T.object structure) self.new.counted }
+        ensures adds { Adds result self.old.table (T.object structure) self.new.table }
         ensures imsic { self.new.has_imsic ≡ self.old.has_imsic }
     {
         self.table.add_object(&structure)
@@ -155,8 +146,8 @@ pub fn madt_rows() -> &'static [Row]
 /// A law: after any calls the table is a true one. Where each structure tells its length at offset 1, they are, in order,
 /// the one list that walks it.
 pub fn madt_is_walked(table: &MADT)
-    ensures is_true { IsTrueTable (bytes_of table.now.counted.table) }
-    ensures walked { ArePieces madt_walk.sizes table.now.counted.table.structures → IsWalked madt_walk table.now.counted.table }
+    ensures is_true { IsTrueTable (bytes_of table.now.table.table) }
+    ensures walked { ArePieces madt_walk.sizes table.now.table.table.structures → IsWalked madt_walk table.now.table.table }
 {
     is_walked(&table.table)
 }

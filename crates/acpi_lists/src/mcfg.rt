@@ -1,31 +1,35 @@
 //! MCFG: where the configuration space of PCI is mapped.
 
-ghost use Rattle.std.proofs.Common.{rules};
 ghost use Rattle.std.specs.Prelude.{◌≡◌, true};
-ghost use Rattle.acpi_base.specs.Object.{whole};
+ghost use Rattle.acpi_base.specs.Object.{whole, whole_ends_well};
 ghost use Rattle.acpi_base.specs.Walk.{mcfg_walk};
 ghost use Rattle.acpi_core.specs.Addition.{Adds};
-ghost use Rattle.acpi_core.specs.Listing.{length_limit};
+ghost use Rattle.acpi_core.specs.Listing.{bytes_of, length_limit};
 ghost use Rattle.acpi_core.specs.Walk.{IsWalked};
 ghost use Rattle.acpi_lists.specs.Mcfg.{mcfg, ecam_bytes, ecam_fields};
 
-use crate::list_table::{ListTable, tables_are_walked};
 use acpi_base::error::R;
+use acpi_base::object::Aml;
 use acpi_base::oem::Oem;
 use acpi_base::row::{Record, Row, record_of_numbers};
+use acpi_base::sink::AmlSink;
 use acpi_core::form::Form;
-use acpi_core::kind::{Kind, Plain};
+use acpi_core::kind::Kind;
 use acpi_core::table::Table;
+use acpi_core::walked::{Walked, is_walked};
 use std::alloc::Global;
 
 /// The table of memory mapped configuration spaces of PCI (PCI Firmware Specification 3.3, 4.1.2): entries of 16 bytes, from
 /// offset 44 on.
-pub type MCFG = ListTable<McfgKind, 44>;
+#[derive(Drop)]
+pub struct MCFG {
+    table: Walked<McfgKind, 44>,
+}
 
 /// The kind of MCFG.
 pub struct McfgKind;
 
-impl Kind<44> for McfgKind {
+impl Kind for McfgKind {
     ghost walk = { mcfg_walk };
 
     ghost limit = { length_limit };
@@ -33,23 +37,34 @@ impl Kind<44> for McfgKind {
     ghost closed = { true };
 }
 
-impl Plain<44> for McfgKind {
-    ghost empty = { mcfg };
+impl Aml for MCFG {
+    ghost object = { λ t. whole (bytes_of t.table.table) };
 
-    fn table(alloc: Global, oem: Oem) -> Table<44> {
-        Table::new(alloc, Form::new(*b"MCFG", 1, oem, 0), &[0; 8], &[])
+    ghost ends_well = { λ t. whole_ends_well (bytes_of t.table.table) };
+
+    fn to_aml_bytes(&self, sink: &mut dyn AmlSink) -> R<()> {
+        self.table.to_aml_bytes(sink)
     }
-
-    ghost are_empty = { Prim.search rules };
 }
 
 impl MCFG {
+    /// A table without entries.
+    pub fn new(alloc: Global, oem_id: [u8; 6], oem_table_id: [u8; 8], oem_revision: u32) -> MCFG
+        ensures { result.table.table ≡ mcfg (record { id = oem_id; table_id = oem_table_id; revision = oem_revision }) }
+    {
+        let oem = Oem::new(oem_id, oem_table_id, oem_revision);
+        let form = Form::new(*b"MCFG", 1, oem, 0);
+        MCFG {
+            table: Walked::of(Table::new(alloc, form, &[0; 8], &[])),
+        }
+    }
+
     /// Adds the configuration space of the buses `start_bus` to `end_bus` of a segment group, at a physical address.
     /// FieldWidth where the length would reach 2^32.
     pub fn add_ecam(&mut self, base_addr: u64, segment: u16, start_bus: u8, end_bus: u8) -> R<()>
-        ensures { Adds result self.old (whole (ecam_bytes base_addr segment start_bus end_bus)) self.new }
+        ensures { Adds result self.old.table (whole (ecam_bytes base_addr segment start_bus end_bus)) self.new.table }
     {
-        self.add_record(&Ecam {
+        self.table.add_record(&Ecam {
             base_addr,
             segment,
             start_bus,
@@ -60,9 +75,9 @@ impl MCFG {
 
 /// A law: after any calls the table is a true one, and its entries, in order, are the one list that walks it.
 pub fn mcfg_is_walked(table: &MCFG)
-    ensures { IsWalked mcfg_walk table.now.table }
+    ensures { IsWalked mcfg_walk table.now.table.table }
 {
-    tables_are_walked(table)
+    is_walked(&table.table)
 }
 
 /// An entry: the configuration space of some buses of a segment group.

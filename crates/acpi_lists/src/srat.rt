@@ -1,12 +1,11 @@
 //! SRAT: which processors, memory and devices are near to each other.
 
-ghost use Rattle.std.proofs.Common.{rules};
 ghost use Rattle.std.specs.Prelude.{◌≡◌, ◌<◌, ℕ, List, true, false, bit_or, IfOk, IfErr};
 ghost use Rattle.acpi_base.specs.Fields.{AreRowsOf};
 ghost use Rattle.acpi_base.specs.Object.{Built, whole, whole_ends_well};
 ghost use Rattle.acpi_base.specs.Walk.{srat_walk};
 ghost use Rattle.acpi_core.specs.Addition.{Adds};
-ghost use Rattle.acpi_core.specs.Listing.{length_limit};
+ghost use Rattle.acpi_core.specs.Listing.{bytes_of, length_limit};
 ghost use Rattle.acpi_core.specs.Walk.{IsWalked};
 ghost use Rattle.acpi_lists.specs.Srat.{srat, memory_affinity, memory_affinity_bytes, memory_affinity_fields};
 ghost use Rattle.acpi_lists.specs.Srat.{acpi_handle_fields, pci_handle_fields, handle_bytes, handle_object, handle_ends_well};
@@ -16,24 +15,27 @@ ghost use Rattle.acpi_lists.specs.Srat.{generic_initiator_ends_well};
 ghost use Rattle.acpi_lists.specs.Srat.{rintc_affinity, rintc_affinity_bytes, rintc_affinity_fields};
 ghost use Rattle.acpi_lists.specs.declared.srat.GenericInitiator.{GenericInitiator};
 
-use crate::list_table::{ListTable, tables_are_walked};
 use acpi_base::error::{Error, R};
 use acpi_base::object::Aml;
 use acpi_base::oem::Oem;
 use acpi_base::row::{Record, Row, Value, record_of, record_of_numbers, write_record};
 use acpi_base::sink::AmlSink;
 use acpi_core::form::Form;
-use acpi_core::kind::{Kind, Plain};
+use acpi_core::kind::Kind;
 use acpi_core::table::Table;
+use acpi_core::walked::{Walked, is_walked};
 use std::alloc::Global;
 
 /// The System Resource Affinity Table (ACPI 6.5, 5.2.16): structures from offset 48 on.
-pub type SRAT = ListTable<SratKind, 48>;
+#[derive(Drop)]
+pub struct SRAT {
+    table: Walked<SratKind, 48>,
+}
 
 /// The kind of SRAT.
 pub struct SratKind;
 
-impl Kind<48> for SratKind {
+impl Kind for SratKind {
     ghost walk = { srat_walk };
 
     ghost limit = { length_limit };
@@ -41,50 +43,56 @@ impl Kind<48> for SratKind {
     ghost closed = { true };
 }
 
-impl Plain<48> for SratKind {
-    ghost empty = { srat };
+impl Aml for SRAT {
+    ghost object = { λ t. whole (bytes_of t.table.table) };
 
-    fn table(alloc: Global, oem: Oem) -> Table<48> {
-        Table::new(
-            alloc,
-            Form::new(*b"SRAT", 1, oem, 0),
-            &[1, 0, 0, 0, 0, 0, 0, 0, 0, 0, 0, 0],
-            &[],
-        )
+    ghost ends_well = { λ t. whole_ends_well (bytes_of t.table.table) };
+
+    fn to_aml_bytes(&self, sink: &mut dyn AmlSink) -> R<()> {
+        self.table.to_aml_bytes(sink)
     }
-
-    ghost are_empty = { Prim.search rules };
 }
 
 impl SRAT {
+    /// A table without structures.
+    pub fn new(alloc: Global, oem_id: [u8; 6], oem_table_id: [u8; 8], oem_revision: u32) -> SRAT
+        ensures { result.table.table ≡ srat (record { id = oem_id; table_id = oem_table_id; revision = oem_revision }) }
+    {
+        let oem = Oem::new(oem_id, oem_table_id, oem_revision);
+        let form = Form::new(*b"SRAT", 1, oem, 0);
+        SRAT {
+            table: Walked::of(Table::new(alloc, form, &[1, 0, 0, 0, 0, 0, 0, 0, 0, 0, 0, 0], &[])),
+        }
+    }
+
     /// Adds a range of memory. FieldWidth where the length would reach 2^32.
     pub fn add_memory_affinity(&mut self, memory: MemoryAffinity) -> R<()>
-        ensures { Adds result self.old (whole (memory_affinity_bytes memory)) self.new }
+        ensures { Adds result self.old.table (whole (memory_affinity_bytes memory)) self.new.table }
     {
-        self.add_record(&memory)
+        self.table.add_record(&memory)
     }
 
     /// Adds a device that reaches memory by itself. PciAddress where its handle is no address, else FieldWidth where the
     /// length would reach 2^32.
     pub fn add_generic_initiator(&mut self, initiator: GenericInitiator) -> R<()>
-        ensures { Adds result self.old (generic_initiator_object initiator) self.new }
+        ensures { Adds result self.old.table (generic_initiator_object initiator) self.new.table }
     {
-        self.add_object(&initiator)
+        self.table.add_object(&initiator)
     }
 
     /// Adds a processor's interrupt controller. FieldWidth where the length would reach 2^32.
     pub fn add_rintc_affinity(&mut self, rintc: RintcAffinity) -> R<()>
-        ensures { Adds result self.old (whole (rintc_affinity_bytes rintc)) self.new }
+        ensures { Adds result self.old.table (whole (rintc_affinity_bytes rintc)) self.new.table }
     {
-        self.add_record(&rintc)
+        self.table.add_record(&rintc)
     }
 }
 
 /// A law: after any calls the table is a true one, and its structures, in order, are the one list that walks it.
 pub fn srat_is_walked(table: &SRAT)
-    ensures { IsWalked srat_walk table.now.table }
+    ensures { IsWalked srat_walk table.now.table.table }
 {
-    tables_are_walked(table)
+    is_walked(&table.table)
 }
 
 /// Flags of a range of memory (offset 28).

@@ -1,31 +1,35 @@
 //! XSDT: where the other tables are.
 
-ghost use Rattle.std.proofs.Common.{rules};
 ghost use Rattle.std.specs.Prelude.{◌≡◌, true};
 ghost use Rattle.acpi_base.specs.Bytes.{le};
-ghost use Rattle.acpi_base.specs.Object.{whole};
+ghost use Rattle.acpi_base.specs.Object.{whole, whole_ends_well};
 ghost use Rattle.acpi_base.specs.Walk.{xsdt_walk};
-ghost use Rattle.acpi_core.specs.Listing.{length_limit};
+ghost use Rattle.acpi_core.specs.Listing.{bytes_of, length_limit};
 ghost use Rattle.acpi_core.specs.Walk.{IsWalked};
 ghost use Rattle.acpi_core.specs.Addition.{Adds};
 ghost use Rattle.acpi_lists.specs.Xsdt.{xsdt, entry_fields};
 
-use crate::list_table::{ListTable, tables_are_walked};
 use acpi_base::error::R;
+use acpi_base::object::Aml;
 use acpi_base::oem::Oem;
 use acpi_base::row::{Record, Row};
+use acpi_base::sink::AmlSink;
 use acpi_core::form::Form;
-use acpi_core::kind::{Kind, Plain};
+use acpi_core::kind::Kind;
 use acpi_core::table::Table;
+use acpi_core::walked::{Walked, is_walked};
 use std::alloc::Global;
 
 /// The Extended System Description Table (ACPI 6.5, 5.2.8): the addresses of the other tables, from offset 36 on.
-pub type XSDT = ListTable<XsdtKind, 36>;
+#[derive(Drop)]
+pub struct XSDT {
+    table: Walked<XsdtKind, 36>,
+}
 
 /// The kind of XSDT.
 pub struct XsdtKind;
 
-impl Kind<36> for XsdtKind {
+impl Kind for XsdtKind {
     ghost walk = { xsdt_walk };
 
     ghost limit = { length_limit };
@@ -33,30 +37,41 @@ impl Kind<36> for XsdtKind {
     ghost closed = { true };
 }
 
-impl Plain<36> for XsdtKind {
-    ghost empty = { xsdt };
+impl Aml for XSDT {
+    ghost object = { λ t. whole (bytes_of t.table.table) };
 
-    fn table(alloc: Global, oem: Oem) -> Table<36> {
-        Table::new(alloc, Form::new(*b"XSDT", 1, oem, 0), &[], &[])
+    ghost ends_well = { λ t. whole_ends_well (bytes_of t.table.table) };
+
+    fn to_aml_bytes(&self, sink: &mut dyn AmlSink) -> R<()> {
+        self.table.to_aml_bytes(sink)
     }
-
-    ghost are_empty = { Prim.search rules };
 }
 
 impl XSDT {
+    /// A table without entries.
+    pub fn new(alloc: Global, oem_id: [u8; 6], oem_table_id: [u8; 8], oem_revision: u32) -> XSDT
+        ensures { result.table.table ≡ xsdt (record { id = oem_id; table_id = oem_table_id; revision = oem_revision }) }
+    {
+        let oem = Oem::new(oem_id, oem_table_id, oem_revision);
+        let form = Form::new(*b"XSDT", 1, oem, 0);
+        XSDT {
+            table: Walked::of(Table::new(alloc, form, &[], &[])),
+        }
+    }
+
     /// Adds the physical address of a table. FieldWidth where the length would reach 2^32.
     pub fn add_entry(&mut self, entry: u64) -> R<()>
-        ensures { Adds result self.old (whole (le 8 entry)) self.new }
+        ensures { Adds result self.old.table (whole (le 8 entry)) self.new.table }
     {
-        self.add_record(&Entry { address: entry })
+        self.table.add_record(&Entry { address: entry })
     }
 }
 
 /// A law: after any calls the table is a true one, and its entries, in order, are the one list that walks it.
 pub fn xsdt_is_walked(table: &XSDT)
-    ensures { IsWalked xsdt_walk table.now.table }
+    ensures { IsWalked xsdt_walk table.now.table.table }
 {
-    tables_are_walked(table)
+    is_walked(&table.table)
 }
 
 /// An entry: the physical address of a table.

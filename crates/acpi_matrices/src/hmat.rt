@@ -1,11 +1,10 @@
 //! HMAT: how fast memory is, from where.
 
-ghost use Rattle.std.proofs.Common.{rules};
 ghost use Rattle.std.specs.Prelude.{◌≡◌, true};
 ghost use Rattle.acpi_base.specs.Object.{whole, whole_ends_well};
 ghost use Rattle.acpi_base.specs.Walk.{hmat_walk};
 ghost use Rattle.acpi_core.specs.Addition.{Adds};
-ghost use Rattle.acpi_core.specs.Listing.{length_limit};
+ghost use Rattle.acpi_core.specs.Listing.{bytes_of, length_limit};
 ghost use Rattle.acpi_core.specs.Walk.{IsWalked};
 ghost use Rattle.acpi_matrices.specs.Hmat.{hmat, proximity_bytes};
 ghost use Rattle.acpi_matrices.specs.Locality.{locality_bytes, CellsAreSet, NewCellsAreUnreachable};
@@ -15,27 +14,30 @@ ghost use Rattle.acpi_matrices.specs.Hmat.{proximity_fields};
 mod cache;
 mod locality;
 
-use crate::list_table::{ListTable, tables_are_walked};
 use acpi_base::error::R;
 use acpi_base::object::Aml;
 use acpi_base::oem::Oem;
 use acpi_base::row::{Record, Row, Value, record_of, write_record};
 use acpi_base::sink::AmlSink;
 use acpi_core::form::Form;
-use acpi_core::kind::{Kind, Plain};
+use acpi_core::kind::Kind;
 use acpi_core::table::Table;
+use acpi_core::walked::{Walked, is_walked};
 pub use cache::{Associativity, CacheLevel, MemorySideCache, WritePolicy};
 pub use locality::{DataType, LocalityType, MinTransferSize, SystemLocality};
 use std::alloc::Global;
 
 /// The Heterogeneous Memory Attribute Table (ACPI 6.5, 5.2.28): structures that tell their length at offset 4, from offset 40
 /// on.
-pub type HMAT = ListTable<HmatKind, 40>;
+#[derive(Drop)]
+pub struct HMAT {
+    table: Walked<HmatKind, 40>,
+}
 
 /// The kind of HMAT.
 pub struct HmatKind;
 
-impl Kind<40> for HmatKind {
+impl Kind for HmatKind {
     ghost walk = { hmat_walk };
 
     ghost limit = { length_limit };
@@ -43,44 +45,55 @@ impl Kind<40> for HmatKind {
     ghost closed = { true };
 }
 
-impl Plain<40> for HmatKind {
-    ghost empty = { hmat };
+impl Aml for HMAT {
+    ghost object = { λ t. whole (bytes_of t.table.table) };
 
-    fn table(alloc: Global, oem: Oem) -> Table<40> {
-        Table::new(alloc, Form::new(*b"HMAT", 1, oem, 0), &[0; 4], &[])
+    ghost ends_well = { λ t. whole_ends_well (bytes_of t.table.table) };
+
+    fn to_aml_bytes(&self, sink: &mut dyn AmlSink) -> R<()> {
+        self.table.to_aml_bytes(sink)
     }
-
-    ghost are_empty = { Prim.search rules };
 }
 
 impl HMAT {
+    /// A table without structures.
+    pub fn new(alloc: Global, oem_id: [u8; 6], oem_table_id: [u8; 8], oem_revision: u32) -> HMAT
+        ensures { result.table.table ≡ hmat (record { id = oem_id; table_id = oem_table_id; revision = oem_revision }) }
+    {
+        let oem = Oem::new(oem_id, oem_table_id, oem_revision);
+        let form = Form::new(*b"HMAT", 1, oem, 0);
+        HMAT {
+            table: Walked::of(Table::new(alloc, form, &[0; 4], &[])),
+        }
+    }
+
     /// Adds which initiator a memory is attached to. FieldWidth where the length would reach 2^32.
     pub fn add_memory_proximity(&mut self, domain: MemoryProximityDomain) -> R<()>
-        ensures { Adds result self.old (whole (proximity_bytes domain)) self.new }
+        ensures { Adds result self.old.table (whole (proximity_bytes domain)) self.new.table }
     {
-        self.add_record(&domain)
+        self.table.add_record(&domain)
     }
 
     /// Adds a matrix of latencies or bandwidths. FieldWidth where the length would reach 2^32.
     pub fn add_system_locality(&mut self, locality: SystemLocality) -> R<()>
-        ensures { Adds result self.old (whole (locality_bytes locality)) self.new }
+        ensures { Adds result self.old.table (whole (locality_bytes locality)) self.new.table }
     {
-        self.add_object(&locality)
+        self.table.add_object(&locality)
     }
 
     /// Adds a cache in front of a memory. FieldWidth where the length would reach 2^32.
     pub fn add_memory_side_cache(&mut self, cache: MemorySideCache) -> R<()>
-        ensures { Adds result self.old (whole (cache_bytes cache)) self.new }
+        ensures { Adds result self.old.table (whole (cache_bytes cache)) self.new.table }
     {
-        self.add_object(&cache)
+        self.table.add_object(&cache)
     }
 }
 
 /// A law: after any calls the table is a true one, and its structures, in order, are the one list that walks it.
 pub fn hmat_is_walked(table: &HMAT)
-    ensures { IsWalked hmat_walk table.now.table }
+    ensures { IsWalked hmat_walk table.now.table.table }
 {
-    tables_are_walked(table)
+    is_walked(&table.table)
 }
 
 /// A law: the cell of a system locality that a call sets has the value that it was set to, and every other cell the one that

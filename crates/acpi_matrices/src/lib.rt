@@ -2,7 +2,6 @@
 #![tactic(auto)]
 
 pub mod hmat;
-pub mod list_table;
 pub mod slit;
 
 /// Laws of the tables. Each function is a law: it does nothing, and ensures it.

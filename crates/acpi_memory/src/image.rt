@@ -26,7 +26,7 @@ fn image(alloc: Global, block: &Sdt, table: &MCFG) -> R<Image> {
         block,
         &FACS::new(),
         FADTBuilder::new(OEM, OEM_TABLE, OEM_REVISION),
-        vec![in alloc; table.table() as &dyn Aml]?,
+        vec![in alloc; table as &dyn Aml]?,
     )
 }
 
@@ -34,7 +34,7 @@ fn image(alloc: Global, block: &Sdt, table: &MCFG) -> R<Image> {
 pub fn images(trial: &mut Trial, alloc: Global) -> Result<(), Fault> {
     let block = trial.make(&0x1000u16, || Ok(Sdt::empty(alloc)?))?;
     let table = trial.make(&block, || Ok(mcfg(alloc)?))?;
-    for lent in [&block as &dyn Aml, table.table()] {
+    for lent in [&block as &dyn Aml, &table] {
         let image = trial.make(lent, || Ok(image(alloc, &block, &table)?))?;
         trial.count(&image.bytes);
     }

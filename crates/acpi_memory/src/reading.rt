@@ -11,8 +11,7 @@ use acpi_vectors::written;
 use std::alloc::Global;
 
 // A device with an id and its resources (ACPI 6.5, chapter 20).
-const DEVICE: [u8; 50] =
-    *b"\x5b\x82\x30\x2e_SB_COM1\x08_HID\x0c\x41\xd0\x05\x01\
+const DEVICE: [u8; 50] = *b"\x5b\x82\x30\x2e_SB_COM1\x08_HID\x0c\x41\xd0\x05\x01\
 \x08_CRS\x11\x16\x0a\x13\x89\x06\0\x03\x01\x04\0\0\0\x47\x01\xf8\x03\xf8\x03\0\x08\x79\0";
 
 // A method that calls another one on a package with a text and on a number; fields; a name in a scope.
@@ -50,7 +49,7 @@ fn xsdt(alloc: Global) -> R<Vec<u8>> {
     let mut table = XSDT::empty(alloc)?;
     table.grow(alloc, 0)?;
     table.grow(alloc, 0)?;
-    written(alloc, table.table())
+    written(alloc, &table)
 }
 
 /// The structures of a table, and its reports.

@@ -3,7 +3,6 @@
 
 pub mod entries;
 pub mod handle;
-pub mod list_table;
 pub mod pci;
 pub mod pptt;
 pub mod rhct;

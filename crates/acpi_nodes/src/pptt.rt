@@ -1,12 +1,11 @@
 //! PPTT: how processors and their caches are arranged.
 
-ghost use Rattle.std.proofs.Common.{rules};
 ghost use Rattle.std.specs.Prelude.{◌≡◌, ◌≢◌, ◌<◌, true, bit_or, IsNone, IfSome, OnOk, IfOk, IfErr};
 ghost use Rattle.acpi_base.specs.Fields.{AreRowsOf};
 ghost use Rattle.acpi_base.specs.Object.{whole, whole_ends_well};
 ghost use Rattle.acpi_base.specs.Walk.{pptt_walk};
 ghost use Rattle.acpi_core.specs.Addition.{AddsAt};
-ghost use Rattle.acpi_core.specs.Listing.{length_limit};
+ghost use Rattle.acpi_core.specs.Listing.{bytes_of, length_limit};
 ghost use Rattle.acpi_core.specs.Walk.{IsWalked};
 ghost use Rattle.acpi_nodes.specs.Resources.{with_resource};
 ghost use Rattle.acpi_nodes.specs.Pptt.{pptt, processor, processor_head_fields, processor_head, processor_bytes};
@@ -15,7 +14,6 @@ ghost use Rattle.acpi_nodes.specs.declared.pptt.ProcessorNode.{ProcessorNode};
 ghost use Rattle.acpi_nodes.specs.Pptt.{cache_fields};
 
 use crate::handle::Handle;
-use crate::list_table::{ListTable, tables_are_walked};
 use acpi_base::error::{Error, R};
 use acpi_base::object::Aml;
 use acpi_base::oem::Oem;
@@ -24,17 +22,21 @@ use acpi_base::row::{Record, Row, record_of_numbers, write_record};
 use acpi_base::sink::AmlSink;
 use acpi_core::entries::Entries;
 use acpi_core::form::Form;
-use acpi_core::kind::{Kind, Plain};
+use acpi_core::kind::Kind;
 use acpi_core::table::Table;
+use acpi_core::walked::{Walked, is_walked};
 use std::alloc::Global;
 
 /// The Processor Properties Topology Table (ACPI 6.5, 5.2.30): nodes from offset 36 on.
-pub type PPTT = ListTable<PpttKind, 36>;
+#[derive(Drop)]
+pub struct PPTT {
+    table: Walked<PpttKind, 36>,
+}
 
 /// The kind of PPTT.
 pub struct PpttKind;
 
-impl Kind<36> for PpttKind {
+impl Kind for PpttKind {
     ghost walk = { pptt_walk };
 
     ghost limit = { length_limit };
@@ -42,37 +44,48 @@ impl Kind<36> for PpttKind {
     ghost closed = { true };
 }
 
-impl Plain<36> for PpttKind {
-    ghost empty = { pptt };
+impl Aml for PPTT {
+    ghost object = { λ t. whole (bytes_of t.table.table) };
 
-    fn table(alloc: Global, oem: Oem) -> Table<36> {
-        Table::new(alloc, Form::new(*b"PPTT", 3, oem, 0), &[], &[])
+    ghost ends_well = { λ t. whole_ends_well (bytes_of t.table.table) };
+
+    fn to_aml_bytes(&self, sink: &mut dyn AmlSink) -> R<()> {
+        self.table.to_aml_bytes(sink)
     }
-
-    ghost are_empty = { Prim.search rules };
 }
 
 impl PPTT {
+    /// A table without nodes.
+    pub fn new(alloc: Global, oem_id: [u8; 6], oem_table_id: [u8; 8], oem_revision: u32) -> PPTT
+        ensures { result.table.table ≡ pptt (record { id = oem_id; table_id = oem_table_id; revision = oem_revision }) }
+    {
+        let oem = Oem::new(oem_id, oem_table_id, oem_revision);
+        let form = Form::new(*b"PPTT", 3, oem, 0);
+        PPTT {
+            table: Walked::of(Table::new(alloc, form, &[], &[])),
+        }
+    }
+
     /// Adds a processor, or a group of them, and answers its offset. FieldWidth where the length would reach 2^32.
     pub fn add_processor(&mut self, node: ProcessorNode) -> R<ProcessorHandle>
-        ensures { AddsAt result self.old (whole (processor_bytes node)) self.new }
+        ensures { AddsAt result self.old.table (whole (processor_bytes node)) self.new.table }
     {
-        self.add_object_at(&node)
+        Ok(Handle::at(self.table.add_object_at(&node)?))
     }
 
     /// Adds a cache and answers its offset. FieldWidth where the length would reach 2^32.
     pub fn add_cache(&mut self, node: CacheNode) -> R<CacheHandle>
-        ensures { AddsAt result self.old (whole (cache_bytes node)) self.new }
+        ensures { AddsAt result self.old.table (whole (cache_bytes node)) self.new.table }
     {
-        self.add_record_at(&node)
+        Ok(Handle::at(self.table.add_record_at(&node)?))
     }
 }
 
 /// A law: after any calls the table is a true one, and its nodes, in order, are the one list that walks it.
 pub fn pptt_is_walked(table: &PPTT)
-    ensures { IsWalked pptt_walk table.now.table }
+    ensures { IsWalked pptt_walk table.now.table.table }
 {
-    tables_are_walked(table)
+    is_walked(&table.table)
 }
 
 /// A law: each node tells its kind at its offset, whatever its fields hold.

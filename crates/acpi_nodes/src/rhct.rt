@@ -5,7 +5,7 @@ ghost use Rattle.acpi_base.specs.Fields.{AreRowsOf};
 ghost use Rattle.acpi_base.specs.Object.{whole, whole_ends_well};
 ghost use Rattle.acpi_base.specs.Walk.{rhct_walk};
 ghost use Rattle.acpi_core.specs.Addition.{Adds, AddsAt};
-ghost use Rattle.acpi_core.specs.Listing.{length_limit};
+ghost use Rattle.acpi_core.specs.Listing.{bytes_of, length_limit};
 ghost use Rattle.acpi_core.specs.Walk.{IsWalked};
 ghost use Rattle.acpi_nodes.specs.Hart.{hart_info, with_offset, hart_info_head_fields, hart_info_head, hart_info_bytes};
 ghost use Rattle.acpi_nodes.specs.Rhct.{rhct, rhct_fields, isa_string_end, isa_string_head_fields, isa_string_head};
@@ -14,7 +14,6 @@ ghost use Rattle.acpi_nodes.specs.declared.rhct.HartInfoNode.{HartInfoNode};
 ghost use Rattle.acpi_nodes.specs.Rhct.{cmo_fields, mmu_fields};
 
 use crate::handle::Handle;
-use crate::list_table::{ListTable, tables_are_walked};
 use acpi_base::error::{Error, R};
 use acpi_base::object::Aml;
 use acpi_base::oem::Oem;
@@ -25,22 +24,35 @@ use acpi_core::entries::Entries;
 use acpi_core::form::Form;
 use acpi_core::kind::Kind;
 use acpi_core::table::Table;
-use acpi_core::walked::Walked;
+use acpi_core::walked::{Walked, is_walked};
 use std::alloc::Global;
 
 /// The RISC-V Hart Capabilities Table (this project's profile): nodes from offset 56 on, as the field at 52 tells, and their
 /// number at offset 48.
-pub type RHCT = ListTable<RhctKind, 56>;
+#[derive(Drop)]
+pub struct RHCT {
+    table: Walked<RhctKind, 56>,
+}
 
 /// The kind of RHCT.
 pub struct RhctKind;
 
-impl Kind<56> for RhctKind {
+impl Kind for RhctKind {
     ghost walk = { rhct_walk };
 
     ghost limit = { length_limit };
 
     ghost closed = { true };
+}
+
+impl Aml for RHCT {
+    ghost object = { λ t. whole (bytes_of t.table.table) };
+
+    ghost ends_well = { λ t. whole_ends_well (bytes_of t.table.table) };
+
+    fn to_aml_bytes(&self, sink: &mut dyn AmlSink) -> R<()> {
+        self.table.to_aml_bytes(sink)
+    }
 }
 
 const FIXED: [Row; 2] = [
@@ -64,13 +76,13 @@ impl RHCT {
         oem_revision: u32,
         timebase_frequency: u64,
     ) -> RHCT
-        ensures { result.table ≡
+        ensures { result.table.table ≡
             rhct (record { id = oem_id; table_id = oem_table_id; revision = oem_revision }) timebase_frequency }
     {
         let oem = Oem::new(oem_id, oem_table_id, oem_revision);
         let form = Form::new(*b"RHCT", 1, oem, 4);
         let before: [u8; 12] = record_of_numbers(&FIXED, &[0, timebase_frequency]);
-        ListTable {
+        RHCT {
             table: Walked::of(Table::new(alloc, form, &before, &[56, 0, 0, 0])),
         }
     }
@@ -78,39 +90,39 @@ impl RHCT {
     /// Adds an ISA string and answers its node's offset. FieldWidth where the text has more than 65,525 bytes, and where the
     /// length would reach 2^32.
     pub fn add_isa_string(&mut self, string: &'static str) -> R<IsaStringHandle>
-        ensures { AddsAt result self.old (isa_string_object string.now) self.new }
+        ensures { AddsAt result self.old.table (isa_string_object string.now) self.new.table }
     {
-        self.add_object_at(&IsaStringNode::new(string))
+        Ok(Handle::at(self.table.add_object_at(&IsaStringNode::new(string))?))
     }
 
     /// Adds the sizes of blocks that harts manage in their caches, and answers the node's offset. FieldWidth where the length
     /// would reach 2^32.
     pub fn add_cmo(&mut self, cmo: CmoNode) -> R<CmoHandle>
-        ensures { AddsAt result self.old (whole (cmo_bytes cmo)) self.new }
+        ensures { AddsAt result self.old.table (whole (cmo_bytes cmo)) self.new.table }
     {
-        self.add_record_at(&cmo)
+        Ok(Handle::at(self.table.add_record_at(&cmo)?))
     }
 
     /// Adds how harts translate addresses. FieldWidth where the length would reach 2^32.
     pub fn add_mmu_node(&mut self, scheme: VirtualAddressScheme) -> R<()>
-        ensures { Adds result self.old (whole (mmu_bytes (mmu scheme))) self.new }
+        ensures { Adds result self.old.table (whole (mmu_bytes (mmu scheme))) self.new.table }
     {
-        self.add_record(&MmuNode::new(scheme))
+        self.table.add_record(&MmuNode::new(scheme))
     }
 
     /// Adds which nodes tell of a hart. FieldWidth where the length would reach 2^32.
     pub fn add_hart_info(&mut self, hart_info: HartInfoNode) -> R<()>
-        ensures { Adds result self.old (whole (hart_info_bytes hart_info)) self.new }
+        ensures { Adds result self.old.table (whole (hart_info_bytes hart_info)) self.new.table }
     {
-        self.add_object(&hart_info)
+        self.table.add_object(&hart_info)
     }
 }
 
 /// A law: after any calls the table is a true one, and its nodes, in order, are the one list that walks it.
 pub fn rhct_is_walked(table: &RHCT)
-    ensures { IsWalked rhct_walk table.now.table }
+    ensures { IsWalked rhct_walk table.now.table.table }
 {
-    tables_are_walked(table)
+    is_walked(&table.table)
 }
 
 /// A law: each node tells its kind at its offset, whatever its fields hold.

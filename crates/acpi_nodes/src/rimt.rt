@@ -1,12 +1,11 @@
 //! RIMT: the IOMMUs of a RISC-V machine, and which devices reach memory through them.
 
-ghost use Rattle.std.proofs.Common.{rules};
 ghost use Rattle.std.specs.Prelude.{◌≡◌, ◌+◌, ◌*◌, ◌≤◌, true, length};
 ghost use Rattle.acpi_base.specs.Fields.{AreRowsOf};
 ghost use Rattle.acpi_base.specs.Object.{whole, whole_ends_well};
 ghost use Rattle.acpi_base.specs.Walk.{rimt_walk};
 ghost use Rattle.acpi_core.specs.Addition.{Adds, AddsAt};
-ghost use Rattle.acpi_core.specs.Listing.{length_limit};
+ghost use Rattle.acpi_core.specs.Listing.{bytes_of, length_limit};
 ghost use Rattle.acpi_core.specs.Structure.{structure_of, structure_ends_well};
 ghost use Rattle.acpi_core.specs.Walk.{IsWalked};
 ghost use Rattle.acpi_nodes.specs.Entries.{entries_of};
@@ -21,7 +20,6 @@ ghost use Rattle.acpi_nodes.specs.Rimt.{wire_fields, mapping_fields};
 
 use crate::entries::{entries_of, told_size, write_with_entries};
 use crate::handle::Handle;
-use crate::list_table::{ListTable, tables_are_walked};
 pub use crate::pci::PciDevice;
 use acpi_base::error::R;
 use acpi_base::object::Aml;
@@ -29,18 +27,22 @@ use acpi_base::oem::Oem;
 use acpi_base::row::{Record, Row, record_of_numbers, write_record};
 use acpi_base::sink::AmlSink;
 use acpi_core::form::Form;
-use acpi_core::kind::{Kind, Plain};
+use acpi_core::kind::Kind;
 use acpi_core::table::Table;
+use acpi_core::walked::{Walked, is_walked};
 use std::alloc::Global;
 
 /// The RISC-V I/O Mapping Table (this project's profile): devices from offset 48 on, and their number at offset 36, in four
 /// bytes.
-pub type RIMT = ListTable<RimtKind, 48>;
+#[derive(Drop)]
+pub struct RIMT {
+    table: Walked<RimtKind, 48>,
+}
 
 /// The kind of RIMT.
 pub struct RimtKind;
 
-impl Kind<48> for RimtKind {
+impl Kind for RimtKind {
     ghost walk = { rimt_walk };
 
     ghost limit = { length_limit };
@@ -48,51 +50,61 @@ impl Kind<48> for RimtKind {
     ghost closed = { true };
 }
 
-impl Plain<48> for RimtKind {
-    ghost empty = { rimt };
+impl Aml for RIMT {
+    ghost object = { λ t. whole (bytes_of t.table.table) };
 
-    fn table(alloc: Global, oem: Oem) -> Table<48> {
-        let form = Form::new(*b"RIMT", 1, oem, 4);
-        Table::new(alloc, form, &[], &[48, 0, 0, 0, 0, 0, 0, 0])
+    ghost ends_well = { λ t. whole_ends_well (bytes_of t.table.table) };
+
+    fn to_aml_bytes(&self, sink: &mut dyn AmlSink) -> R<()> {
+        self.table.to_aml_bytes(sink)
     }
-
-    ghost are_empty = { Prim.search rules };
 }
 
 impl RIMT {
+    /// A table without devices.
+    pub fn new(alloc: Global, oem_id: [u8; 6], oem_table_id: [u8; 8], oem_revision: u32) -> RIMT
+        ensures { result.table.table ≡ rimt (record { id = oem_id; table_id = oem_table_id; revision = oem_revision }) }
+    {
+        let oem = Oem::new(oem_id, oem_table_id, oem_revision);
+        let form = Form::new(*b"RIMT", 1, oem, 4);
+        RIMT {
+            table: Walked::of(Table::new(alloc, form, &[], &[48, 0, 0, 0, 0, 0, 0, 0])),
+        }
+    }
+
     /// Adds an IOMMU, and answers its offset. FieldWidth where the IOMMU would pass 65,535 bytes, and where the table's length
     /// would reach 2^32.
     #[tactic(auto, using(crate::proofs::Rimts::iommu_piece))]
     pub fn add_iommu(&mut self, iommu: Iommu) -> R<IommuOffset>
-        ensures { AddsAt result self.old (structure_of (iommu_bytes iommu)) self.new }
+        ensures { AddsAt result self.old.table (structure_of (iommu_bytes iommu)) self.new.table }
     {
-        self.add_object_at(&iommu)
+        Ok(Handle::at(self.table.add_object_at(&iommu)?))
     }
 
     /// Adds a root complex. FieldWidth where the root complex would pass 65,535 bytes, and where the table's length would reach
     /// 2^32.
     #[tactic(auto, using(crate::proofs::Rimts::root_complex_piece))]
     pub fn add_pcie_root_complex(&mut self, root_complex: PcieRootComplex) -> R<()>
-        ensures { Adds result self.old (structure_of (root_complex_bytes root_complex)) self.new }
+        ensures { Adds result self.old.table (structure_of (root_complex_bytes root_complex)) self.new.table }
     {
-        self.add_object(&root_complex)
+        self.table.add_object(&root_complex)
     }
 
     /// Adds a device of the platform. FieldWidth where the device would pass 65,535 bytes, and where the table's length would
     /// reach 2^32.
     #[tactic(auto, using(crate::proofs::Rimts::platform_piece))]
     pub fn add_platform(&mut self, platform: Platform) -> R<()>
-        ensures { Adds result self.old (structure_of (platform_bytes platform)) self.new }
+        ensures { Adds result self.old.table (structure_of (platform_bytes platform)) self.new.table }
     {
-        self.add_object(&platform)
+        self.table.add_object(&platform)
     }
 }
 
 /// A law: after any calls the table is a true one, and its devices, in order, are the one list that walks it.
 pub fn rimt_is_walked(table: &RIMT)
-    ensures { IsWalked rimt_walk table.now.table }
+    ensures { IsWalked rimt_walk table.now.table.table }
 {
-    tables_are_walked(table)
+    is_walked(&table.table)
 }
 
 /// A law: each device tells its kind at its offset, whatever its fields hold.

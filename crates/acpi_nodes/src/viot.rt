@@ -1,18 +1,16 @@
 //! VIOT: virtual IOMMUs, and the devices that reach memory through them.
 
-ghost use Rattle.std.proofs.Common.{rules};
 ghost use Rattle.std.specs.Prelude.{◌≡◌, true};
 ghost use Rattle.acpi_base.specs.Object.{whole, whole_ends_well};
 ghost use Rattle.acpi_base.specs.Walk.{viot_walk};
 ghost use Rattle.acpi_core.specs.Addition.{Adds, AddsAt};
-ghost use Rattle.acpi_core.specs.Listing.{field_limit};
+ghost use Rattle.acpi_core.specs.Listing.{field_limit, bytes_of};
 ghost use Rattle.acpi_core.specs.Walk.{IsWalked};
 ghost use Rattle.acpi_nodes.specs.Viot.{viot, NodesTellKinds, pci_range, pci_range_bytes, mmio_endpoint, mmio_endpoint_bytes};
 ghost use Rattle.acpi_nodes.specs.Viot.{virtio_pci_iommu, virtio_pci_iommu_bytes, virtio_mmio_iommu, virtio_mmio_iommu_bytes};
 ghost use Rattle.acpi_nodes.specs.Viot.{pci_range_fields, mmio_endpoint_fields, virtio_pci_iommu_fields};
 ghost use Rattle.acpi_nodes.specs.Viot.{virtio_mmio_iommu_fields};
 
-use crate::list_table::{ListTable, tables_are_walked};
 pub use crate::pci::PciDevice;
 use acpi_base::error::R;
 use acpi_base::object::Aml;
@@ -20,14 +18,18 @@ use acpi_base::oem::Oem;
 use acpi_base::row::{Record, Row, record_of_numbers, write_record};
 use acpi_base::sink::AmlSink;
 use acpi_core::form::Form;
-use acpi_core::kind::{Kind, Plain};
+use acpi_core::kind::Kind;
 use acpi_core::table::Table;
+use acpi_core::walked::{Walked, is_walked};
 use std::alloc::Global;
 use std::marker::Model;
 
 /// The Virtual I/O Translation Table (ACPI 6.5, 5.2.32): nodes from offset 48 on, and their number at offset 36, in two
 /// bytes. A node's offset has two bytes too, so the table has at most 65,535.
-pub type VIOT = ListTable<ViotKind, 48>;
+#[derive(Drop)]
+pub struct VIOT {
+    table: Walked<ViotKind, 48>,
+}
 
 /// The kind of VIOT.
 pub struct ViotKind;
@@ -35,7 +37,7 @@ pub struct ViotKind;
 // What the length of the table stays below, so that an offset fits two bytes.
 const OFFSET_LIMIT: usize = 1 << (8 * 2);
 
-impl Kind<48> for ViotKind {
+impl Kind for ViotKind {
     ghost walk = { viot_walk };
 
     ghost limit = { field_limit 2 };
@@ -43,61 +45,71 @@ impl Kind<48> for ViotKind {
     ghost closed = { true };
 }
 
-impl Plain<48> for ViotKind {
-    ghost empty = { viot };
+impl Aml for VIOT {
+    ghost object = { λ t. whole (bytes_of t.table.table) };
 
-    fn table(alloc: Global, oem: Oem) -> Table<48> {
+    ghost ends_well = { λ t. whole_ends_well (bytes_of t.table.table) };
+
+    fn to_aml_bytes(&self, sink: &mut dyn AmlSink) -> R<()> {
+        self.table.to_aml_bytes(sink)
+    }
+}
+
+impl VIOT {
+    /// A table without nodes.
+    pub fn new(alloc: Global, oem_id: [u8; 6], oem_table_id: [u8; 8], oem_revision: u32) -> VIOT
+        ensures { result.table.table ≡ viot (record { id = oem_id; table_id = oem_table_id; revision = oem_revision }) }
+    {
+        let oem = Oem::new(oem_id, oem_table_id, oem_revision);
         let form = Form {
             limit: OFFSET_LIMIT,
             ..Form::new(*b"VIOT", 1, oem, 2)
         };
-        Table::new(alloc, form, &[], &[48, 0, 0, 0, 0, 0, 0, 0, 0, 0])
+        VIOT {
+            table: Walked::of(Table::new(alloc, form, &[], &[48, 0, 0, 0, 0, 0, 0, 0, 0, 0])),
+        }
     }
 
-    ghost are_empty = { Prim.search rules };
-}
-
-impl VIOT {
     /// Adds a range of PCI functions. FieldWidth where the table would pass 65,535 bytes.
     pub fn add_pci_range(&mut self, range: PciRange) -> R<()>
-        ensures { Adds result self.old (whole (pci_range_bytes range)) self.new }
+        ensures { Adds result self.old.table (whole (pci_range_bytes range)) self.new.table }
     {
-        self.add_record(&range)
+        self.table.add_record(&range)
     }
 
     /// Adds an endpoint at an address. FieldWidth where the table would pass 65,535 bytes.
     pub fn add_mmio_endpoint(&mut self, endpoint: MmioEndpoint) -> R<()>
-        ensures { Adds result self.old (whole (mmio_endpoint_bytes endpoint)) self.new }
+        ensures { Adds result self.old.table (whole (mmio_endpoint_bytes endpoint)) self.new.table }
     {
-        self.add_record(&endpoint)
+        self.table.add_record(&endpoint)
     }
 
     /// Adds a virtual IOMMU that is a PCI device, and answers its handle. FieldWidth where the table would pass 65,535 bytes.
     pub fn add_virtio_pci_iommu(&mut self, iommu: VirtIoPciIommu) -> R<TranslationHandle>
-        ensures { AddsAt result self.old (whole (virtio_pci_iommu_bytes iommu)) self.new }
+        ensures { AddsAt result self.old.table (whole (virtio_pci_iommu_bytes iommu)) self.new.table }
     {
-        let handle = self.add_record_at(&iommu)?;
+        let offset = self.table.add_record_at(&iommu)?;
         Ok(TranslationHandle {
-            offset: handle.offset() as u16,
+            offset: offset as u16,
         })
     }
 
     /// Adds a virtual IOMMU at an address, and answers its handle. FieldWidth where the table would pass 65,535 bytes.
     pub fn add_virtio_mmio_iommu(&mut self, iommu: VirtIoMmioIommu) -> R<TranslationHandle>
-        ensures { AddsAt result self.old (whole (virtio_mmio_iommu_bytes iommu)) self.new }
+        ensures { AddsAt result self.old.table (whole (virtio_mmio_iommu_bytes iommu)) self.new.table }
     {
-        let handle = self.add_record_at(&iommu)?;
+        let offset = self.table.add_record_at(&iommu)?;
         Ok(TranslationHandle {
-            offset: handle.offset() as u16,
+            offset: offset as u16,
         })
     }
 }
 
 /// A law: after any calls the table is a true one, and its nodes, in order, are the one list that walks it.
 pub fn viot_is_walked(table: &VIOT)
-    ensures { IsWalked viot_walk table.now.table }
+    ensures { IsWalked viot_walk table.now.table.table }
 {
-    tables_are_walked(table)
+    is_walked(&table.table)
 }
 
 /// A law: each node tells its kind at its offset, whatever its fields hold.

@@ -66,7 +66,7 @@ fn tell<O: Write, E: Write>(
 ) -> io::Result<u8>
     ensures { IfOk result (λ status. MatchResult report
         (λ text. Printed (string_bytes text)
-            (O.contents out.old) (O.contents out.new) (E.contents err.old) (E.contents err.new) status)
+        (O.contents out.old) (O.contents out.new) (E.contents err.old) (E.contents err.new) status)
         (λ fault. Told fault (O.contents out.old) (O.contents out.new) (E.contents err.old) (E.contents err.new) status)) }
 {
     match report {

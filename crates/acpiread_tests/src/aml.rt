@@ -46,8 +46,7 @@ fn reports_shorter_buffers(rt: HostRuntime) -> Result<(), Fail> {
     let file = path.as_str();
     let mut port = PORT;
     port[LENGTH] = 0x15;
-    let report =
-        "device _SB_.COM1\n\
+    let report = "device _SB_.COM1\n\
             \x20 define _HID\n\
             \x20   number 17158209\n\
             \x20 define _CRS\n\
