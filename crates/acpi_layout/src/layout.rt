@@ -51,7 +51,7 @@ fn begin_image(
 
 // An XSDT of the tables at these places.
 fn list(alloc: Global, base: u64, oem: Oem, places: &[u64]) -> R<XSDT>
-    ensures ok { IfOk result (λ table. table.table ≡ listing base oem places.now) }
+    ensures ok { IfOk result (λ xsdt. xsdt.table.table ≡ listing base oem places.now) }
     ensures fits { OnOk result (36 + 8 * length places.now < 2 ^ 32) }
     ensures err { IfErr result (λ e. e ≢ Error.Memory → (e ≡ Error.FieldWidth) × (2 ^ 32 ≤ 36 + 8 * length places.now)) }
 {

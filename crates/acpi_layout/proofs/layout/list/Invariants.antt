@@ -4,6 +4,6 @@ use Rattle.acpi_layout.proofs.layout.list.Given as goal
 
 abbrev pub invariant-loop-place : goal.invariant-loop-place
 invariant-loop-place l = record {
-  is : l.table.table ≡ listing l.base l.fn.oem (take l.place-index l.places);
+  is : l.table.table.table ≡ listing l.base l.fn.oem (take l.place-index l.places);
   fits : 36 + 8 * l.place-index < 2 ^ 32;
 }
