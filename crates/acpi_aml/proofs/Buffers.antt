@@ -11,7 +11,7 @@ use Rattle.acpi_term.specs.Length.{least_width, length_bytes}
 use Rattle.acpi_term.specs.Row.{frame_end, row}
 use Rattle.acpi_term.specs.Template.{buffer_of_bytes}
 
--- the buffer of a size and bytes, where these are so many
+-- the buffer of a size and bytes, where these are this many
 sized : List ℕ → ℕ → Object
 unfolding length_bytes
 sized bytes n = ended (frame_end n) (whole (17 ∷ length_bytes (least_width n) (least_width n + n) ++ 10 ∷ 16 ∷ bytes))

@@ -83,7 +83,7 @@ pub type ResourceTemplate = Written<ResourceDescriptors>;
 pub struct ResourceDescriptors;
 
 impl ResourceTemplate {
-    /// The descriptors are lent for the call. The first one's refusal, else PkgLength from 2^28 bytes on. The end tag's
+    /// The descriptors are borrowed for the call. The first one's refusal, else PkgLength from 2^28 bytes on. The end tag's
     /// checksum is 0, which every reader takes as right.
     pub fn new(children: Vec<&dyn Aml>) -> R<ResourceTemplate>
         ensures { Builds result (template (map (λ child. object child.now) children.entry.items)) }

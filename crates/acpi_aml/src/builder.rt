@@ -92,7 +92,7 @@ impl PackageBuilder {
     }
 }
 
-// Writes a package of so many elements, whose bytes are given.
+// Writes a package of this many elements, whose bytes are given.
 fn write_package(sink: &mut dyn AmlSink, count: u8, elements: &[u8]) -> R<()>
     ensures ok { OnOk result
         (Wrote (around (layout def_package 0 count) (whole elements.now)) (meaning sink.old) (meaning sink.new)) }

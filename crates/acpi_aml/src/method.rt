@@ -40,7 +40,7 @@ pub type MethodCall = Written<MethodInvocation>;
 pub struct MethodInvocation;
 
 impl MethodCall {
-    /// The arguments are lent for the call. The first argument's refusal.
+    /// The arguments are borrowed for the call. The first argument's refusal.
     pub fn new(path: Path, args: Vec<&dyn Aml>) -> R<MethodCall>
         ensures { Builds result (row (call path) (map (λ child. object child.now) args.entry.items)) }
     {

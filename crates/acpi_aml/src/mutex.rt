@@ -40,7 +40,7 @@ impl Mutex {
     }
 }
 
-/// Waits for a mutex, for so many milliseconds; 0xffff is for ever (ACPI 6.5, 20.2.5.4, DefAcquire).
+/// Waits for a mutex, for this many milliseconds; 0xffff is for ever (ACPI 6.5, 20.2.5.4, DefAcquire).
 #[derive(Drop)]
 pub struct Acquire {
     path: Path,

@@ -18,7 +18,7 @@ pub type Name = Written<DefName>;
 pub struct DefName;
 
 impl Name {
-    /// The object is lent for the call. Its refusal.
+    /// The object is borrowed for the call. Its refusal.
     pub fn new(path: Path, inner: &dyn Aml) -> R<Name>
         ensures { Builds result (row (def_name path) (object inner.now ∷ [])) }
     {

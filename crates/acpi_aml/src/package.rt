@@ -17,7 +17,7 @@ pub type Package = Written<DefPackage>;
 pub struct DefPackage;
 
 impl Package {
-    /// The elements are lent for the call. PackageElements past 255 of them, else the first element's refusal, else
+    /// The elements are borrowed for the call. PackageElements past 255 of them, else the first element's refusal, else
     /// PkgLength from 2^28 bytes on.
     pub fn new(children: Vec<&dyn Aml>) -> R<Package>
         ensures { Builds result (row def_package (map (λ child. object child.now) children.entry.items)) }

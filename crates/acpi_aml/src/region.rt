@@ -33,7 +33,7 @@ pub type OpRegion = Written<DefOpRegion>;
 pub struct DefOpRegion;
 
 impl OpRegion {
-    /// Offset and length are in bytes, and are lent for the call. The offset's refusal, else the length's.
+    /// Offset and length are in bytes, and are borrowed for the call. The offset's refusal, else the length's.
     pub fn new(path: Path, space: OpRegionSpace, offset: &dyn Aml, length: &dyn Aml) -> R<OpRegion>
         ensures { Builds result (row (def_op_region path (region_space space)) (object offset.now ∷ object length.now ∷ [])) }
     {

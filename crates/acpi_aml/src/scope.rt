@@ -18,7 +18,7 @@ pub type Scope = Written<DefScope>;
 pub struct DefScope;
 
 impl Scope {
-    /// The children are lent for the call. The first child's refusal, else PkgLength from 2^28 bytes on.
+    /// The children are borrowed for the call. The first child's refusal, else PkgLength from 2^28 bytes on.
     pub fn new(path: Path, children: Vec<&dyn Aml>) -> R<Scope>
         ensures { Builds result (row (def_scope path) (map (λ child. object child.now) children.entry.items)) }
     {
@@ -42,7 +42,7 @@ pub type Device = Written<DefDevice>;
 pub struct DefDevice;
 
 impl Device {
-    /// The children are lent for the call. The first child's refusal, else PkgLength from 2^28 bytes on.
+    /// The children are borrowed for the call. The first child's refusal, else PkgLength from 2^28 bytes on.
     pub fn new(path: Path, children: Vec<&dyn Aml>) -> R<Device>
         ensures { Builds result (row (def_device path) (map (λ child. object child.now) children.entry.items)) }
     {

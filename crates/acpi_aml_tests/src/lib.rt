@@ -1,4 +1,4 @@
-//! Tests of AML and of tables behind the standard header: bytes from outside, what they read back to, and that each call succeeds
+//! Tests of AML and of tables after the standard header: bytes from outside, what they read back to, and that each call succeeds
 //! where memory is ample.
 #![tactic(auto)]
 

@@ -128,7 +128,7 @@ fn variable_package(rt: HostRuntime) -> Result<(), Fail> {
     )
 }
 
-// Whether a scope of so many bytes begins with these, behind its opcode. The name takes four of its content.
+// Whether a scope of this many bytes begins with these, behind its opcode. The name takes four of its content.
 fn framed(alloc: Global, content: usize, start: &[u8]) -> Result<bool, Fail> {
     let raw = Scope::raw(
         Path::new(alloc, "_SB_")?,

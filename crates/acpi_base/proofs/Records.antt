@@ -21,7 +21,7 @@ module _ (fields : List Field) (i : ℕ) (d : Field) (inside : i < length fields
       let all : fields_bytes fields ≡ fields_bytes (take (i + 1) fields) ++ fields_bytes (drop (i + 1) fields) = ap fields_bytes (sym (take-append-drop (i + 1) fields)) ∙ fields_bytes-append (take (i + 1) fields) (drop (i + 1) fields) in
       omega (arith, length-fields_more, ap length all, length-append (fields_bytes (take (i + 1) fields)) (fields_bytes (drop (i + 1) fields)))
 
-  -- the next field behind those that are written
+  -- the next field after those that are written
   pub field_written : (at at' : ℕ) (b b' : List ℕ) → at ≡ length (fields_bytes (take i fields)) → take at b ≡ fields_bytes (take i fields) → at + length (field_bytes (get_or fields i d)) ≤ length b
       → at' ≡ at + length (field_bytes (get_or fields i d)) → b' ≡ put at (field_bytes (get_or fields i d)) b → take at' b' ≡ fields_bytes (take (i + 1) fields)
   unfolding put

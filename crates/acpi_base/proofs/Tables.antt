@@ -158,7 +158,7 @@ unfolding put
 field_put (x0 ∷ x1 ∷ x2 ∷ x3 ∷ x4 ∷ x5 ∷ x6 ∷ x7 ∷ x8 ∷ x9 ∷ r) v h = refl
 field_put c v h = absurd (omega arith)
 
--- a true checksum over bytes that tell their length
+-- a true checksum over bytes that contain their length
 pub checked_is_true : (c : List ℕ) (n : ℕ) → 36 ≤ length c → length c ≡ n → n < 2 ^ 32 → take 4 (drop 4 c) ≡ le 4 n → IsTrueTable (with_checksum c) × (length (with_checksum c) ≡ n)
 checked_is_true c n long is small told =
     let size : length (with_checksum c) ≡ n = length-with_checksum c (omega arith) ∙ is in

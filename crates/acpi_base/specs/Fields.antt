@@ -26,11 +26,11 @@ dword name value = record { name = codes name; width = 4; bytes = le 4 value }
 abbrev pub qword : String → ℕ → NamedField
 qword name value = record { name = codes name; width = 8; bytes = le 8 value }
 
--- so many bytes in their order
+-- this many bytes in their order
 abbrev pub bytes : String → ℕ → List ℕ → NamedField
 bytes name width value = record { name = codes name; width = width; bytes = value }
 
--- so many bytes that are zero
+-- this many bytes that are zero
 abbrev pub reserved : ℕ → NamedField
 reserved width = record { name = codes "Reserved"; width = width; bytes = zeros width }
 
@@ -72,7 +72,7 @@ abbrev pub are_numbers : List Row → Bool
 are_numbers [] = true
 are_numbers (row ∷ rows) = nat_le (row_width row) 8 && are_numbers rows
 
--- a number of so many bytes, or bytes as they are
+-- a number of this many bytes, or bytes as they are
 abbrev pub value_in : ℕ → Value → List ℕ
 value_in width (values.Number value) = le width value
 value_in width (values.Bytes value) = value.now

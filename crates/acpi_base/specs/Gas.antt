@@ -43,7 +43,7 @@ gas_fields g =
 abbrev pub gas_bytes : GAS → List ℕ
 gas_bytes g = fields_joined (gas_fields g)
 
--- a register of so many bits at an address
+-- a register of this many bits at an address
 abbrev pub gas : AddressSpace → ℕ → ℕ → AccessSize → ℕ → GAS
 gas space bit_width bit_offset size address = record {
   address_space_id = space;

@@ -3,7 +3,7 @@ use Rattle.std.specs.Prelude.{ℕ, List, [], ◌∷◌, codes}
 use Rattle.acpi_base.specs.Fields.{NamedField, byte, dword, bytes, fields_joined}
 use Rattle.acpi_base.specs.declared.oem.Oem.{Oem}
 
--- the header of a table of so many bytes, with a checksum of 0
+-- the header of a table of this many bytes, with a checksum of 0
 abbrev pub header_fields : List ℕ → ℕ → ℕ → Oem → List NamedField
 header_fields signature size revision oem =
     bytes "Signature" 4 signature  -- 0

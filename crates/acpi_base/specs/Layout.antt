@@ -15,7 +15,7 @@ dword value = le 4 value
 abbrev pub qword : ℕ → List ℕ
 qword value = le 8 value
 
--- so many bytes that are zero
+-- this many bytes that are zero
 abbrev pub zeros : ℕ → List ℕ
 zeros n = replicate n 0
 

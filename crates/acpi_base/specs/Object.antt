@@ -64,7 +64,7 @@ pub record EndsIn (error : Error) (object : Object) (old new : Meaning) : Type 0
   pub end : object.end ≡ Some error
   pub took : Took old object.front new
 
--- The write was refused. A beginning of the bytes went. Want of memory is told only where the object or the sink may
+-- The write was refused. A beginning of the bytes went. Memory is returned only where the object or the sink may
 -- want memory. Any other refusal is the object's end, after all its bytes, or one of the sink's, where it doesn't take
 -- these.
 pub record WriteRefused (error : Error) (object : Object) (old new : Meaning) : Type 0 where
@@ -72,12 +72,12 @@ pub record WriteRefused (error : Error) (object : Object) (old new : Meaning) : 
   pub memory : error ≡ Memory → IsTrue (object.wants_memory || old.wants_memory)
   pub cause : error ≢ Memory → EndsIn error object old new ⊎ IsTold error old object.front
 
--- A refusal that is none of a sink's: want of memory, where the object may want it, or the object's end.
+-- A refusal that is none of a sink's: Memory, where the object may want it, or the object's end.
 pub record IsOwnRefusal (error : Error) (object : Object) : Type 0 where
   pub memory : error ≡ Memory → IsTrue object.wants_memory
   pub cause : error ≢ Memory → object.end ≡ Some error
 
--- A refusal that is the object's end, or want of memory.
+-- A refusal that is the object's end, or Memory.
 pub record IsOwnEnd (error : Error) (object : Object) : Type 0 where
   pub cause : error ≢ Memory → object.end ≡ Some error
 

@@ -36,7 +36,7 @@ pub record IsTold (error : Error) (sink : Meaning) (bytes : List ℕ) : Type 0 w
   pub told : IsTrue (sink.tells error)
   pub untaken : (more : List ℕ) → sink.takes (bytes ++ more) ≡ false
 
--- It refused the bytes, of which it took a beginning: for want of memory only where it may want memory, and otherwise by
+-- It refused the bytes, of which it took a beginning: for Memory only where it may want memory, and otherwise by
 -- a refusal of its own.
 pub record Refused (error : Error) (old : Meaning) (bytes : List ℕ) (new : Meaning) : Type 0 where
   pub beginning : TookBeginning old bytes new

@@ -1,4 +1,4 @@
--- Tables behind the standard header (ACPI 6.5, 5.2.6).
+-- Tables after the standard header (ACPI 6.5, 5.2.6).
 use Rattle.std.specs.Prelude.{◌≡◌, ℕ, ◌+◌, ◌%◌, ◌≤◌, List, [], ◌∷◌, ◌++◌, length, sum}
 use Rattle.acpi_base.specs.Bytes.{put, complement, field_at}
 use Rattle.acpi_base.specs.Header.{header}
@@ -8,7 +8,7 @@ use Rattle.acpi_base.specs.declared.oem.Oem.{Oem}
 abbrev pub with_checksum : List ℕ → List ℕ
 with_checksum bytes = put 9 (complement (sum (put 9 (0 ∷ []) bytes)) ∷ []) bytes
 
--- the table of a signature and a revision that has these bytes behind its header
+-- the table of a signature and a revision that has these bytes after its header
 abbrev pub table_of : List ℕ → ℕ → Oem → List ℕ → List ℕ
 table_of signature revision oem body = with_checksum (header signature (36 + length body) revision oem ++ body)
 

@@ -8,7 +8,7 @@ use crate::error::R;
 use crate::object::Aml;
 use crate::sink::AmlSink;
 
-/// A vector takes any bytes, at its end. It refuses nothing but for want of memory.
+/// A vector takes any bytes, at its end. Its one error is Memory.
 impl AmlSink for Vec<u8> {
     ghost meaning = { buffer_of };
 

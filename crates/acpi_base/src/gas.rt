@@ -50,7 +50,7 @@ pub struct GAS {
 }
 
 impl GAS {
-    /// A register of so many bits, at a bit of the bytes at an address.
+    /// A register of this many bits, at a bit of the bytes at an address.
     pub fn new(
         address_space_id: AddressSpace,
         register_bit_width: u8,

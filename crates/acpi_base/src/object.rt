@@ -13,7 +13,7 @@ use crate::sink::AmlSink;
 pub trait Aml {
     ghost object: { Self → Object };
 
-    /// Gives the object's bytes to the sink, and then answers how the object ends. A refused call has given a
+    /// Gives the object's bytes to the sink, and then returns how the object ends. A refused call has given a
     /// beginning of them.
     fn to_aml_bytes(&self, sink: &mut dyn AmlSink) -> R<()>
         ensures ok { OnOk result (Wrote (object self.now) (meaning sink.old) (meaning sink.new)) }

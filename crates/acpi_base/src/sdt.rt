@@ -21,7 +21,7 @@ use crate::value::SdtValue;
 use std::alloc::Global;
 use std::marker::Model;
 
-/// A table: the standard header (ACPI 6.5, 5.2.6), and bytes of the caller's behind it. Its checksum is true after
+/// A table: the standard header (ACPI 6.5, 5.2.6), and the caller's bytes after it. Its checksum is true after
 /// every call, and its length after every call that adds bytes.
 #[derive(Drop)]
 pub struct Sdt {

@@ -5,7 +5,7 @@ use Rattle.acpi_term.specs.declared.term.Term.{Term}
 use Rattle.acpi_term.specs.View.{view, views, listed}
 use Rattle.acpi_bench.specs.Nesting.{numbers}
 
--- one number more, behind the others
+-- one number more, after the others
 pub one_more : (xs : List Term) (n : ℕ) (x : Term) → view x ≡ (number 0, 0, end) → views xs ≡ numbers n → views (xs ++ x ∷ []) ≡ numbers (suc n)
 one_more [] zero x is same = ap (λ p. listed (p ∷ [])) is
 one_more [] (suc n) x is same = absurd cc

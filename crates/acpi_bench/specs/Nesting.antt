@@ -2,12 +2,12 @@
 use Rattle.std.specs.Prelude.{ℕ, zero, suc}
 use Rattle.acpi_term.specs.Tree.{Terms, end, term, number, def_else}
 
--- so many numbers beside each other
+-- this many numbers beside each other
 abbrev pub numbers : ℕ → Terms
 numbers zero = end
 numbers (suc count) = term (number 0) 0 end (numbers count)
 
--- terms inside so many frames, whose lengths have three bytes
+-- terms inside this many frames, whose lengths have three bytes
 abbrev pub inside : ℕ → Terms → Terms
 inside zero ts = ts
 inside (suc frames) ts = term def_else 3 (inside frames ts) end

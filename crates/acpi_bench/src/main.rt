@@ -10,7 +10,7 @@
 //! - `hmat=N`: an HMAT of 64 N initiators and 64 N targets is filled.
 //!
 //! Status 1: twice the size took 2.3 times as long or longer, or a call was refused. 2: a word is wrong, and a line on standard
-//! error tells which.
+//! error says which.
 #![tactic(auto)]
 
 ghost use Rattle.std.specs.Prelude.{◌≡◌, IfOk};

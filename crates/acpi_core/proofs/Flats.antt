@@ -50,11 +50,11 @@ module _ (t : Listing) (is : IsListing t) (x : List ℕ) where
   pub size_more : size_of (with_structure t x) ≡ size_of t + length x
   size_more = omega (arith, ap length (concat_push t.structures x), length-append (concat t.structures) x)
 
-  -- the bytes behind the number of structures
+  -- the bytes after the number of structures
   tail : t.after ++ concat (t.structures ++ x ∷ []) ≡ (t.after ++ concat t.structures) ++ x
   tail = ap (λ c. t.after ++ c) (concat_push t.structures x) ∙ sym (append_assoc t.after (concat t.structures) x)
 
-  -- the length and the number patched into the bytes with the structure behind them
+  -- the length and the number patched into the bytes with the structure after them
   patched_plain : (size' count' : ℕ) → size' ≡ size_of t + length x → le t.count_width count' ≡ le t.count_width (length t.structures + 1)
       → put (36 + length t.before) (le t.count_width count') (put 4 (le 4 size') (plain t ++ x)) ≡ plain (with_structure t x)
   patched_plain size' count' told counts =
@@ -123,7 +123,7 @@ module _ (t : Listing) (fixed body : List ℕ) (running count at w limit : ℕ) 
       let l0 : length f0 ≡ length fixed = length-put 9 (0 ∷ []) fixed (omega arith) in
       let l1 : length f1 ≡ length fixed = length-put 4 (le 4 size') f0 (omega (arith, l0, length_le 4 size')) ∙ l0 in
       let l2 : length f2 ≡ length fixed = length-put at (le w count') f1 (omega (arith, l1, nw, flat.place)) ∙ l1 in
-      -- all bytes with the structure behind them
+      -- all bytes with the structure after them
       let whole = plain t ++ x in
       let lw : length whole ≡ size_of t + length x = omega (arith, length-append (plain t) x, length-plain t flat.is) in
       let lf : length f0 + length (body ++ x) ≡ length whole = omega (arith, l0, lw, size_flat, length-append body x) in

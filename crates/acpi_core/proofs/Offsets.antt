@@ -62,7 +62,7 @@ grows w xs i (suc j) has all h k =
 pub differ : OffsetsDiffer
 differ t w i j has all h k = omega (arith, grows w t.structures i j has all h (omega arith))
 
--- a table's bytes are a header's 36 bytes and what stands behind them
+-- a table's bytes are a header's 36 bytes and what follows them
 pub record Parts (t : Listing) : Type 0 where
   pub front : List ℕ
   pub long : length front ≡ 36

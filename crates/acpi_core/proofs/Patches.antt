@@ -17,7 +17,7 @@ header_patched (a ∷ b ∷ c ∷ d ∷ []) size size' revision oem rest h = ref
 header_patched (a ∷ b ∷ c ∷ d ∷ e ∷ s) size size' revision oem rest h = absurd (omega arith)
 header_patched s size size' revision oem rest h = absurd (omega arith)
 
--- what stands behind a list
+-- what follows a list
 pub behind : (v a b : List ℕ) (start : ℕ) → v ≡ a ++ b → length a ≡ start → take (length v - start) (drop start v) ≡ b
 behind v a b start is begins =
     let rest : drop start v ≡ b = ap (drop start) is ∙ drop_at a b start begins in

@@ -1,4 +1,4 @@
--- Structures that tell their length in two bytes.
+-- Structures that contain their length in two bytes.
 use Rattle.std.proofs.Common.{◌≡◌, ℕ, ◌≤◌, ◌<◌, ◌^◌, List, true, false, nat_lt, arith}
 use Rattle.std.proofs.lemmas.Bool.Decides.{nat_tests}
 use Rattle.std.specs.Prelude.{None}

@@ -12,7 +12,7 @@ pub record Counted : Type 0 where
   pub table : Listing
   pub summed : ℕ
 
--- whether the length and the number of structures fit their fields with so many bytes more
+-- whether the length and the number of structures fit their fields with this many bytes more
 abbrev pub has_room : Listing → ℕ → Bool
 has_room t n = has_space (size_of t) n t.limit (length t.structures) t.count_width
 

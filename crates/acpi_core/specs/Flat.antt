@@ -1,4 +1,4 @@
--- Tables in one flat list: the fixed part, and behind it all structures.
+-- Tables in one flat list: the fixed part, and after it all structures.
 use Rattle.std.specs.Prelude.{◌≡◌, ℕ, ◌+◌, ◌-◌, ◌*◌, ◌%◌, ◌^◌, ◌<◌, ◌⊎◌, ◌==◌, ◌||◌, ◌&&◌, nat_lt, Bool, List, [], ◌∷◌, ◌++◌}
 use Rattle.std.specs.Prelude.{length, sum}
 use Rattle.std.specs.List.{concat}
@@ -31,7 +31,7 @@ pub record IsFlat (t : Listing) (fixed body : List ℕ) (running count count_at 
   pub counted : (count_width ≡ 0) ⊎ (count ≡ length t.structures)
   pub sums : running ≡ sum (put 9 (0 ∷ []) (fixed ++ body)) % 256
 
--- whether a length and a number of structures fit their fields, with so many bytes and one structure more
+-- whether a length and a number of structures fit their fields, with this many bytes and one structure more
 abbrev pub has_space : ℕ → ℕ → ℕ → ℕ → ℕ → Bool
 has_space size more limit count width = nat_lt (size + more) limit && (width == 0 || nat_lt (count + 1) (2 ^ (8 * width)))
 

@@ -17,7 +17,7 @@ pub record Listing : Type 0 where
   pub limit : ℕ
   pub structures : List (List ℕ)
 
--- what a number in a field of so many bytes stays below
+-- what a number in a field of this many bytes stays below
 abbrev pub field_limit : ℕ → ℕ
 field_limit width = 2 ^ (8 * width)
 
@@ -25,11 +25,11 @@ field_limit width = 2 ^ (8 * width)
 abbrev pub length_limit : ℕ
 length_limit = field_limit 4
 
--- the fixed fields behind the header, with the number of structures in its place
+-- the fixed fields after the header, with the number of structures in its place
 abbrev pub fixed_fields : Listing → List ℕ
 fixed_fields t = t.before ++ (le t.count_width (length t.structures) ++ t.after)
 
--- what stands behind the header
+-- what stands after the header
 abbrev pub body_of : Listing → List ℕ
 body_of t = fixed_fields t ++ concat t.structures
 

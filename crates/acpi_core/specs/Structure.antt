@@ -1,4 +1,4 @@
--- Structures that tell their length in two bytes.
+-- Structures that contain their length in two bytes.
 use Rattle.std.specs.Prelude.{◌≢◌, ℕ, ◌^◌, nat_lt, Bool, List, length, Some}
 use Rattle.acpi_base.specs.declared.error.Error.TheVariants.{Memory, FieldWidth}
 use Rattle.acpi_base.specs.Object.{Object, whole, provided, provided_ends_well}

@@ -1,4 +1,4 @@
-//! The table behind every list, node and matrix table: a header, fixed fields, and structures one after another.
+//! The table that every list, node and matrix table is made of: a header, fixed fields, and structures one after another.
 #![tactic(auto)]
 
 pub mod entries;

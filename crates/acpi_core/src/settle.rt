@@ -8,7 +8,7 @@ use acpi_base::error::{Error, R};
 use acpi_base::patch::{patch, write_at};
 use acpi_base::sum::Sum;
 
-/// The length of a table of so many bytes and structures with one structure more, and their number. FieldWidth where the
+/// The length of a table of this many bytes and structures with one structure more, and their number. FieldWidth where the
 /// length would reach the limit, or the number doesn't fit its field.
 pub(crate) fn grown(
     size: usize,
@@ -65,7 +65,7 @@ fn patch_count(fixed: &mut [u8], running: &mut Sum, at: usize, width: usize, cou
 }
 
 /// Makes the length, the number of structures and the checksum of a fixed part true, where one structure more stands
-/// behind it.
+/// after it.
 pub(crate) fn settle(
     fixed: &mut [u8],
     running: &mut Sum,

@@ -57,7 +57,7 @@ impl<const N: usize> Aml for Table<N> {
 }
 
 impl<const N: usize> Table<N> {
-    /// A table without structures. Its fixed fields are given up to the number of structures and behind it.
+    /// A table without structures. Its fixed fields are given up to the number of structures and after it.
     pub fn new(alloc: Global, form: Form, before: &[u8], after: &[u8]) -> Table<N>
         requires size { 36 + length before.now + form.count_width + length after.now ≡ N }
         requires width { (form.count_width ≡ 0) ⊎ ((form.count_width ≡ 2) ⊎ (form.count_width ≡ 4)) }
@@ -142,7 +142,7 @@ impl<const N: usize> Table<N> {
         }
     }
 
-    /// As `add`, and answers where the structure begins.
+    /// As `add`, and returns where the structure begins.
     pub fn add_at(&mut self, structure: &[u8]) -> R<u32>
         ensures { AddsAt result self.old (whole structure.now) self.new }
     {
@@ -151,7 +151,7 @@ impl<const N: usize> Table<N> {
         Ok(at)
     }
 
-    /// As `add_object`, and answers where the structure begins.
+    /// As `add_object`, and returns where the structure begins.
     pub fn add_object_at<T: Aml>(&mut self, structure: &T) -> R<u32>
         ensures { AddsAt result self.old (T.object structure.now) self.new }
     {

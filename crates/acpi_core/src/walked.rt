@@ -69,7 +69,7 @@ impl<K: Kind, const N: usize> Walked<K, N> {
         self.table.add(&structure.bytes())
     }
 
-    /// As `add_record`, and answers where the structure begins.
+    /// As `add_record`, and returns where the structure begins.
     pub fn add_record_at<const M: usize, T: Record<M>>(&mut self, structure: &T) -> R<u32>
         requires size { M < 2 ^ 63 }
         requires piece { IsTrue K.closed → length (fields_joined (T.fields structure.now)) ≡ M
@@ -88,7 +88,7 @@ impl<K: Kind, const N: usize> Walked<K, N> {
         self.table.add_object(structure)
     }
 
-    /// As `add_object`, and answers where the structure begins.
+    /// As `add_object`, and returns where the structure begins.
     pub fn add_object_at<T: Aml>(&mut self, structure: &T) -> R<u32>
         requires { IsTrue K.closed → (T.object structure.now).end ≡ None → IsPiece K.walk.sizes (T.object structure.now).front }
         ensures adds { AddsAt result self.old (T.object structure.now) self.new }

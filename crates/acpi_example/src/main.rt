@@ -1,7 +1,7 @@
 //! What a virtual machine monitor does: it builds the tables of a machine, lays them at their addresses and writes them to
 //! files. `acpi_example FOLDER BASE` writes each table to a file of the folder, and the image of all tables to `image`. The
 //! image is for the physical address BASE, a multiple of 64 in hexadecimal. The program prints BASE and the RSDP's address.
-//! Status 0: every file was written. 1: a call was refused, and a line on standard error tells which. 2: the words are wrong.
+//! Status 0: every file was written. 1: a call was refused, and a line on standard error says which. 2: the words are wrong.
 #![tactic(auto)]
 
 ghost use Rattle.std.specs.Prelude.{◌≡◌, ◌%◌, IfOk};

@@ -22,7 +22,7 @@ fn cache(id: u32, kind: CacheType, sets: u16, ways: u8) -> CacheNodeBuilder {
         .id(id)
 }
 
-// Adds a core. It has a cache for data, one for instructions, and one of the second level behind both. The package's cache is
+// Adds a core. It has a cache for data, one for instructions, and one of the second level after both. The package's cache is
 // found at the package's node, so it isn't the next level of the second one.
 fn add_core(alloc: Global, table: &mut PPTT, package: &ProcessorHandle, number: u8) -> R<()>
     ensures { OnOk result (length table.new.table.table.structures ≡ length table.old.table.table.structures + 4) }

@@ -1,4 +1,4 @@
--- Tables as records behind a header.
+-- Tables as records after a header.
 use Rattle.std.proofs.Common.{◌≡◌, ℕ, ◌+◌, List, [], ◌++◌, length, take, drop, refl, sym, ◌∙◌, ap, arith, length-drop}
 use Rattle.std.proofs.lemmas.List.{append-nil, length-take-le, take-append-drop}
 use Rattle.acpi_base.specs.Bytes.{put}

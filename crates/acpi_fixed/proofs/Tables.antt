@@ -16,7 +16,7 @@ use Rattle.acpi_fixed.specs.Laws.{PointersSumToZero}
 use Rattle.acpi_fixed.specs.Rsdp.{rsdp_bytes, unsummed, with_first}
 use Rattle.acpi_fixed.specs.Tpm2.{tpm2_fields, tpm2_with, tpm2_size}
 
--- ---- behind the standard header
+-- ---- after the standard header
 
 pub true_from : (here oem : Oem) (s : List ℕ) (revision size : ℕ) (fields : List NamedField)
     → length here.id ≡ 6 → length here.table_id ≡ 8 → length s ≡ 4 → walk_of (named s) ≡ None → 36 + length (fields_joined fields) ≡ size → size < 2 ^ 32 → oem ≡ here

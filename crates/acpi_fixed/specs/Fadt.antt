@@ -130,7 +130,7 @@ extended_fields f =
     ∷ qword "Hypervisor Vendor Identity" f.hypervisor_vendor_identity  -- 268
     ∷ []
 
--- behind the header
+-- after the header
 abbrev pub fadt_fields : FADTBuilder → List NamedField
 fadt_fields f = legacy_fields f ++ extended_fields f
 

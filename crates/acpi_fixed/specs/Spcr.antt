@@ -6,7 +6,7 @@ use Rattle.acpi_base.specs.Table.{table_of}
 use Rattle.acpi_base.specs.declared.oem.Oem.{Oem}
 use Rattle.acpi_fixed.specs.declared.spcr.SPCR.{SPCR}
 
--- behind the header
+-- after the header
 abbrev pub spcr_fields : SPCR → List NamedField
 spcr_fields t =
     byte "Interface Type" 0x15  -- 36: the RISC-V supervisor binary interface

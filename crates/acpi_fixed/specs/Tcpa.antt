@@ -12,7 +12,7 @@ use Rattle.acpi_fixed.specs.declared.tpm2.TpmServer1_2.{TpmServer1_2}
 
 -- ---- of a client
 
--- behind the header
+-- after the header
 abbrev pub client_fields : TpmClient1_2 → List NamedField
 client_fields t =
     word "Platform Class" (class_number Client)  -- 36
@@ -23,7 +23,7 @@ client_fields t =
 abbrev pub client_bytes : TpmClient1_2 → List ℕ
 client_bytes t = table_of (codes "TCPA") 2 t.oem (fields_joined (client_fields t))
 
--- a log area of at least so many bytes at an address
+-- a log area of at least this many bytes at an address
 abbrev pub client_for : Oem → ℕ → ℕ → TpmClient1_2
 client_for oem min_len start_addr = record {
   oem = oem;
@@ -33,7 +33,7 @@ client_for oem min_len start_addr = record {
 
 -- ---- of a server
 
--- behind the header
+-- after the header
 abbrev pub server_fields : TpmServer1_2 → List NamedField
 server_fields t =
     word "Platform Class" (class_number Server)  -- 36

@@ -23,7 +23,7 @@ method_number methods.CrbAndAcpiStart = 0x08
 method_number methods.CrbAndSmcHvc = 0x0b
 method_number methods.I2cFifo = 0x0c
 
--- a log area lies behind the parameters of the start method
+-- a log area lies after the parameters of the start method
 abbrev pub area_fields : Option LogArea → List NamedField
 area_fields None = []
 area_fields (Some area) =
@@ -32,7 +32,7 @@ area_fields (Some area) =
     ∷ qword "Log Area Start Address" area.base_addr  -- 68
     ∷ []
 
--- behind the header
+-- after the header
 abbrev pub tpm2_fields : Tpm2 → Option LogArea → List NamedField
 tpm2_fields t area =
     word "Platform Class" (class_number t.platform_class)  -- 36

@@ -22,7 +22,7 @@ pub struct BERT {
 }
 
 impl BERT {
-    /// A region of so many bytes at a physical address.
+    /// A region of this many bytes at a physical address.
     pub fn new(
         oem_id: [u8; 6],
         oem_table_id: [u8; 8],
@@ -45,7 +45,7 @@ const BERT_ROWS: [Row; 2] = [
     Row::Number("Boot Error Region", 8),
 ];
 
-/// The fields behind the header.
+/// The fields after the header.
 impl Record<12> for BERT {
     ghost fields = { bert_fields };
 

@@ -177,7 +177,7 @@ impl Aml for FADT {
 }
 
 impl FADTBuilder {
-    /// A table of revision 6.5 and 276 bytes. Everything behind the header is zero but the minor version, 5 (offset 131).
+    /// A table of revision 6.5 and 276 bytes. Everything after the header is zero but the minor version, 5 (offset 131).
     pub fn new(oem_id: [u8; 6], oem_table_id: [u8; 8], oem_revision: u32) -> FADTBuilder
         ensures { result ≡ fadt_at_first oem_id oem_table_id oem_revision }
     {
@@ -385,7 +385,7 @@ const FADT_ROWS: [Row; 55] = [
     Row::Number("Hypervisor Vendor Identity", 8),
 ];
 
-/// The fields behind the header.
+/// The fields after the header.
 impl Record<240> for FADTBuilder {
     ghost fields = { fadt_fields };
 

@@ -1,4 +1,4 @@
-//! Tables as records behind a header.
+//! Tables as records after a header.
 
 ghost use Rattle.std.specs.Prelude.{◌≡◌, ◌+◌, ◌<◌, ◌^◌, ◌++◌, length, OnOk, IfErr};
 ghost use Rattle.acpi_base.specs.Fields.{fields_joined};
@@ -31,7 +31,7 @@ pub fn write_table<const BODY: usize, const N: usize, T: Record<BODY>>(
     sink.vec(&table)
 }
 
-/// The bytes of a table: its header, what stands behind it, and a true checksum.
+/// The bytes of a table: its header, what follows it, and a true checksum.
 pub fn sealed_table<const N: usize>(header: [u8; 36], body: &[u8]) -> [u8; N]
     requires { N ≡ 36 + length body.now }
     ensures { result ≡ with_checksum (header ++ body.now) }

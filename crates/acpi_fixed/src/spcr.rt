@@ -63,7 +63,7 @@ const SPCR_ROWS: [Row; 24] = [
     Row::Bytes("NamespaceString", 2),
 ];
 
-/// The fields behind the header.
+/// The fields after the header.
 impl Record<54> for SPCR<'_> {
     ghost fields = { spcr_fields };
 

@@ -38,7 +38,7 @@ pub struct TpmClient1_2 {
 }
 
 impl TpmClient1_2 {
-    /// A log area of at least so many bytes at a physical address.
+    /// A log area of at least this many bytes at a physical address.
     pub fn new(
         oem_id: [u8; 6],
         oem_table_id: [u8; 8],
@@ -62,7 +62,7 @@ const CLIENT: [Row; 3] = [
     Row::Number("Log Area Start Address", 8),
 ];
 
-/// The fields behind the header.
+/// The fields after the header.
 impl Record<14> for TpmClient1_2 {
     ghost fields = { client_fields };
 
@@ -128,7 +128,7 @@ pub struct TpmServer1_2 {
 }
 
 impl TpmServer1_2 {
-    /// A table in which everything behind the TCG revision is zero.
+    /// A table in which everything after the TCG revision is zero.
     pub fn new(oem_id: [u8; 6], oem_table_id: [u8; 8], oem_revision: u32) -> TpmServer1_2
         ensures { result ≡ server_at_first (oem_of oem_id oem_table_id oem_revision) }
     {
@@ -149,7 +149,7 @@ impl TpmServer1_2 {
         }
     }
 
-    /// A log area of at least so many bytes (offset 40) at a physical address (offset 48).
+    /// A log area of at least this many bytes (offset 40) at a physical address (offset 48).
     pub fn log_area(mut self, log_area_min_len: u64, log_area_start_addr: u64) -> TpmServer1_2
         ensures { result ≡ with_log_area log_area_min_len log_area_start_addr self }
     {
@@ -259,7 +259,7 @@ const SERVER: [Row; 17] = [
     Row::Number("PCI Function Number", 1),
 ];
 
-/// The fields behind the header.
+/// The fields after the header.
 impl Record<64> for TpmServer1_2 {
     ghost fields = { server_fields };
 
@@ -316,7 +316,7 @@ pub enum StartMethod {
     I2cFifo = 0x0c,
 }
 
-// A log area: at least so many bytes, at a physical address.
+// A log area: at least this many bytes, at a physical address.
 #[derive(Clone, Copy)]
 struct LogArea {
     min_len: u32,
@@ -354,7 +354,7 @@ impl Tpm2 {
         }
     }
 
-    /// Adds a log area of at least so many bytes at a physical address. LogAreaSet where the table has one; it then
+    /// Adds a log area of at least this many bytes at a physical address. LogAreaSet where the table has one; it then
     /// stays as it is.
     pub fn set_log_area(&mut self, min_len: u32, base_addr: u64) -> R<()>
         ensures { LogAreaOnce self.old min_len base_addr self.new result }
@@ -377,14 +377,14 @@ const TPM2: [Row; 7] = [
     Row::Number("Log Area Start Address", 8),
 ];
 
-/// The names and widths of the fields behind the header, in order, where there is a log area.
+/// The names and widths of the fields after the header, in order, where there is a log area.
 pub fn tpm2_rows() -> &'static [Row]
     ensures { (table : Tpm2) (area : LogArea) → AreRowsOf result.now (tpm2_fields table (Some area)) }
 {
     &TPM2
 }
 
-/// The fields behind the header where there is no log area.
+/// The fields after the header where there is no log area.
 impl Record<16> for Tpm2 {
     ghost fields = { λ t. tpm2_fields t None };
 

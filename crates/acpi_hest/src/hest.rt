@@ -39,14 +39,14 @@ pub use status::{ErrorSeverity, GenericErrorStatus};
 use std::alloc::Global;
 pub use tail::Tail;
 
-/// The Hardware Error Source Table (ACPI 6.5, 18.3.2): error sources that tell their type at offset 0, from offset 40 on, and
+/// The Hardware Error Source Table (ACPI 6.5, 18.3.2): error sources that contain their type at offset 0, from offset 40 on, and
 /// their number at offset 36.
 #[derive(Drop)]
 pub struct HEST {
     table: Walked<HestKind, 40>,
 }
 
-/// The kind of HEST, to which a caller may add sources of its own.
+/// The kind of HEST, to which a caller may add sources of other types.
 pub struct HestKind;
 
 impl Kind for HestKind {
@@ -97,7 +97,7 @@ pub fn hest_is_walked(table: &HEST)
     is_walked(&table.table)
 }
 
-/// A law: each source of this module tells its type and has its size, whatever its fields hold.
+/// A law: each source of this module contains its type and has the size of that type, for all values of its fields.
 pub fn hest_sources_are_pieces()
     ensures root_port { AreSources 6 ⟦<PcieAerRootPort as Aml>⟧.object }
     ensures device { AreSources 7 ⟦<PcieAerDevice as Aml>⟧.object }

@@ -1,4 +1,4 @@
-//! Bytes behind others.
+//! Bytes after others.
 
 ghost use Rattle.std.specs.Prelude.{◌<◌, ◌^◌, ◌++◌, OnOk, IfErr};
 ghost use Rattle.acpi_base.specs.Fields.{fields_joined};

@@ -173,7 +173,7 @@ impl QoSController {
         Ok(())
     }
 
-    /// A controller of the same value, in memory from where this one has its own. Refused only for want of memory.
+    /// A controller of the same value, in memory from where this one has its own. Memory is the one error.
     pub fn clone(&self) -> R<QoSController>
         ensures ok { IfOk result (λ q. q ≡ self.now) }
         ensures err { IfErr result (λ e. e ≡ Error.Memory) }

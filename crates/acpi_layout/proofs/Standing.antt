@@ -9,7 +9,7 @@ use Rattle.acpi_layout.specs.Image.{Laid, gap, padded, placed, all_placed, point
 use Rattle.acpi_layout.specs.Laws.{Standing, Stand, standing_at, xsdt_address, ImagesStand, AreAligned, ImagesAreAligned}
 use Rattle.acpi_layout.proofs.Answered.{places_counted}
 
--- one more behind zeros
+-- one more after zeros
 stand_push : (from address : ℕ) (all : List Standing) (bytes b : List ℕ) (n : ℕ) → address ≡ from + length bytes + n → Stand from all bytes
     → Stand from (all ++ record { address = address; bytes = b } ∷ []) ((bytes ++ zeros n) ++ b)
 stand_push from address [] bytes b n at is =
@@ -33,7 +33,7 @@ standing_push base place (p ∷ places) (t ∷ tables) table same =
 length-padded : (unit : ℕ) (bytes : List ℕ) → length (padded unit bytes) ≡ length bytes + gap unit (length bytes)
 length-padded unit bytes = omega (arith, length-append bytes (zeros (gap unit (length bytes))), length-replicate {A = ℕ} (gap unit (length bytes)) 0)
 
--- what is padded to a unit, and one more behind it
+-- what is padded to a unit, and one more after it
 stand_padded : (unit base : ℕ) (all : List Standing) (bytes b : List ℕ) → Stand base all bytes
     → Stand base (all ++ record { address = base + length (padded unit bytes); bytes = b } ∷ []) (padded unit bytes ++ b)
 stand_padded unit base all bytes b h = stand_push base (base + length (padded unit bytes)) all bytes b (gap unit (length bytes)) (omega (arith, length-padded unit bytes)) h

@@ -20,7 +20,7 @@ use Rattle.acpi_lists.specs.Xsdt.{xsdt}
 abbrev pub gap : ℕ → ℕ → ℕ
 gap unit place = (unit - place % unit) % unit
 
--- bytes, and zeros behind them up to the next multiple
+-- bytes, and zeros after them up to the next multiple
 abbrev pub padded : ℕ → List ℕ → List ℕ
 padded unit bytes = bytes ++ zeros (gap unit (length bytes))
 
@@ -54,7 +54,7 @@ pub record Picture : Type 0 where
   pub bytes : List ℕ
   pub rsdp : ℕ
 
--- the FACS, the DSDT behind it, and then the FADT and the tables in order
+-- the FACS, the DSDT after it, and then the FADT and the tables in order
 abbrev pub tables_laid : ℕ → List ℕ → List ℕ → FADTBuilder → List (List ℕ) → Laid
 tables_laid base facs dsdt fadt tables =
     all_placed (fadt_bytes (pointing base (base + length facs) fadt) ∷ tables) (record { bytes = facs ++ dsdt; places = [] })
@@ -78,7 +78,7 @@ image base oem facs dsdt fadt tables = with_pointer base oem (tables_laid base f
 abbrev pub fronts : List Object → List (List ℕ)
 fronts tables = map (λ table. table.front) tables
 
--- Whether each byte's address is below 2^64, and the XSDT's length, with the FADT and so many tables, below 2^32.
+-- Whether each byte's address is below 2^64, and the XSDT's length, with the FADT and this many tables, below 2^32.
 abbrev pub has_place : ℕ → Picture → ℕ → Bool
 has_place base picture tables = nat_lt (base + length picture.bytes) (2 ^ 64 + 1) && nat_lt (36 + 8 * (1 + tables)) (2 ^ 32)
 

@@ -14,7 +14,7 @@ pub record Standing : Type 0 where
   pub bytes : List ℕ
 
 -- From an address on the bytes are these, in order: at each address exactly its own, before it zeros that begin where the
--- one before ends, and nothing behind the last.
+-- one before ends, and nothing after the last.
 abbrev pub Stand : ℕ → List Standing → List ℕ → Type 0
 Stand from [] bytes = bytes ≡ []
 Stand from (s ∷ more) bytes =

@@ -27,7 +27,7 @@ pub struct Image {
     pub rsdp: u64,
 }
 
-// The FACS at base, the DSDT behind it, and the FADT that points to both.
+// The FACS at base, the DSDT after it, and the FADT that points to both.
 fn begin_image(
     base: u64,
     facs: &FACS,
@@ -83,7 +83,7 @@ fn finish(alloc: Global, base: u64, oem: Oem, bytes: &mut Vec<u8>, places: &[u64
 }
 
 /// Lays the tables of a guest into one image, which is to stand at the physical address `base`, a multiple of 64: the
-/// FACS there, the DSDT `sdt` behind it, then the FADT and the tables at multiples of 8, an XSDT (ACPI 6.5, 5.2.8) of
+/// FACS there, the DSDT `sdt` after it, then the FADT and the tables at multiples of 8, an XSDT (ACPI 6.5, 5.2.8) of
 /// the FADT and the tables in order at the next multiple of 8, and the RSDP (5.2.5) at the next multiple of 16. Gaps
 /// are zero. The FADT points by its fields of 64 bits. The refusal of the first table that has one, else FieldWidth
 /// where a byte's address would pass 2^64 - 1 or the XSDT's length would reach 2^32.

@@ -124,7 +124,7 @@ fn one_table(rt: HostRuntime) -> Result<(), Fail> {
     )
 }
 
-// The number in so many bytes at an offset, lowest first.
+// The number in this many bytes at an offset, lowest first.
 fn number(bytes: &[u8], offset: u64, width: u64) -> u64 {
     let mut value = 0u64;
     for i in 0..width {

@@ -343,7 +343,7 @@ impl CxlFixedMemory {
         self
     }
 
-    /// Adds the id of a target, a host bridge's `_UID`. Refused only for want of memory, and unchanged then.
+    /// Adds the id of a target, a host bridge's `_UID`. Memory is the one error, and the value is unchanged then.
     pub fn add_target(&mut self, uid: [u8; 4]) -> R<()>
         ensures ok { OnOk result (self.new ≡ record self.old { targets = self.old.targets ++ uid }) }
         ensures err { OnErr result (self.new ≡ self.old) }

@@ -31,7 +31,7 @@ use std::alloc::Global;
 pub use x86::{IoApic, ProcessorLocalApic};
 
 /// Where every processor finds its own interrupt controller (ACPI 6.5, 5.2.12, offset 36): on RISC-V nowhere in memory,
-/// which is told as 0, and else at a physical address.
+/// which is written as 0, or at a physical address.
 #[derive(Clone, Copy, Debug, PartialEq)]
 pub enum LocalInterruptController {
     Riscv,
@@ -57,7 +57,7 @@ pub enum EnabledStatus {
     DisabledOnlineCapable = 2,
 }
 
-/// The Multiple APIC Description Table (ACPI 6.5, 5.2.12): structures that tell their type at offset 0 and their length in
+/// The Multiple APIC Description Table (ACPI 6.5, 5.2.12): structures that contain their type at offset 0 and their length in
 /// bytes at offset 1, from offset 44 on.
 #[derive(Drop)]
 pub struct MADT {
@@ -65,7 +65,7 @@ pub struct MADT {
     has_imsic: bool,
 }
 
-/// The kind of MADT, to which a caller may add structures of its own.
+/// The kind of MADT, to which a caller may add structures of other types.
 pub struct MadtKind;
 
 impl Kind for MadtKind {
@@ -143,7 +143,7 @@ pub fn madt_rows() -> &'static [Row]
     &FIXED
 }
 
-/// A law: after any calls the table is a true one. Where each structure tells its length at offset 1, they are, in order,
+/// A law: after any calls the table is a true one. Where each structure contains its length at offset 1, they are, in order,
 /// the one list that walks it.
 pub fn madt_is_walked(table: &MADT)
     ensures is_true { IsTrueTable (bytes_of table.now.table.table) }
@@ -152,7 +152,7 @@ pub fn madt_is_walked(table: &MADT)
     is_walked(&table.table)
 }
 
-/// A law: each structure of this module tells its length at offset 1, whatever its fields hold.
+/// A law: each structure of this module contains its length at offset 1, for all values of its fields.
 pub fn madt_structures_are_pieces()
     ensures { StructuresTellTheirLength }
 {}

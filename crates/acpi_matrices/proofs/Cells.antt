@@ -27,7 +27,7 @@ within l (entry_at i t) has =
     let is = below i t l.initiators l.targets has in
     omega (arith, entry_within i t l.initiators l.targets is.0 is.1)
 
--- two numbers apart, in so many bytes each
+-- two numbers apart, in this many bytes each
 stepped : (w a b : ℕ) → (a ≡ b → ⊥) → (a + 1 ≤ b → w * a + w ≤ w * b) → (b + 1 ≤ a → w * b + w ≤ w * a) → (w * a + w ≤ w * b) ⊎ (w * b + w ≤ w * a)
 stepped w a b differ up down = ⊎_elim (λ e. absurd (differ e)) (λ k. ⊎_elim (λ lt. inl (up (omega arith))) (λ lt. inr (down (omega arith))) k) (cases_order a b)
 

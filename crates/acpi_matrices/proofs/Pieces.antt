@@ -1,4 +1,4 @@
--- Structures that tell their length.
+-- Structures that contain their length.
 use Rattle.std.proofs.Common.{◌≡◌, ◌+◌, ◌*◌, ◌^◌, ◌<◌, refl, sym, ◌∙◌, arith, length}
 use Rattle.acpi_base.specs.Walk.{IsPiece}
 use Rattle.acpi_base.specs.declared.walk.Place.TheVariants.{DWord}

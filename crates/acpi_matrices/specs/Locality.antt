@@ -42,7 +42,7 @@ transfer_number sizes.Size16k = 9
 transfer_number sizes.Size32k = 10
 transfer_number sizes.Size64k = 11
 
--- A matrix over so many initiators and targets. Its lists are bytes, one list after another: the initiators' domains of four
+-- A matrix over this many initiators and targets. Its lists are bytes, one list after another: the initiators' domains of four
 -- bytes each, the targets' domains of four, the entries of two, row by initiator.
 pub record Locality : Type 0 where
   pub flags : ℕ
@@ -112,7 +112,7 @@ has_cell l (initiator_at i) = nat_lt i l.initiators
 has_cell l (target_at t) = nat_lt t l.targets
 has_cell l (entry_at i t) = nat_lt i l.initiators && nat_lt t l.targets
 
--- where it stands in the lists of so many initiators and targets
+-- where it stands in the lists of this many initiators and targets
 abbrev pub place_of : ℕ → ℕ → Cell → ℕ
 place_of initiators targets (initiator_at i) = 4 * i
 place_of initiators targets (target_at t) = 4 * initiators + 4 * t

@@ -9,7 +9,7 @@ use Rattle.acpi_base.specs.Fields.{NamedField, qword, fields_joined}
 use Rattle.acpi_base.specs.Header.{header}
 use Rattle.acpi_base.specs.Table.{table_of, IsTrueTable}
 
--- The distances between so many localities, one byte each: that of a and b at a + localities * b.
+-- The distances between this many localities, one byte each: that of a and b at a + localities * b.
 pub record Distances : Type 0 where
   pub oem : Oem
   pub localities : ℕ

@@ -27,7 +27,7 @@ pub use cache::{Associativity, CacheLevel, MemorySideCache, WritePolicy};
 pub use locality::{DataType, LocalityType, MinTransferSize, SystemLocality};
 use std::alloc::Global;
 
-/// The Heterogeneous Memory Attribute Table (ACPI 6.5, 5.2.28): structures that tell their length at offset 4, from offset 40
+/// The Heterogeneous Memory Attribute Table (ACPI 6.5, 5.2.28): structures that contain their length at offset 4, from offset 40
 /// on.
 #[derive(Drop)]
 pub struct HMAT {
@@ -108,7 +108,7 @@ pub fn new_cells_are_unreachable()
 {}
 
 /// To which initiator's domain a memory's is attached (Memory Proximity Domain Attributes Structure, ACPI 6.5, 5.2.28.3): 40
-/// bytes. The initiator's domain is told to be valid (flag 1).
+/// bytes. The initiator's domain is marked valid (flag 1).
 #[derive(Clone, Copy, Debug)]
 pub struct MemoryProximityDomain {
     initiator: u32,

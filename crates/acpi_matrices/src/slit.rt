@@ -92,7 +92,7 @@ fn new_cells(alloc: Global, size: usize) -> R<Vec<u8>>
 }
 
 impl SLIT {
-    /// A table of so many localities, whose distances are all 10. Matrix past 65,535 localities.
+    /// A table of this many localities, whose distances are all 10. Matrix past 65,535 localities.
     pub fn new(
         alloc: Global,
         oem_id: [u8; 6],

@@ -82,7 +82,7 @@ impl Grows for RQSC {
     }
 }
 
-/// Clones, of which each is lent its source.
+/// Clones, each of which borrows its source.
 pub fn clones(trial: &mut Trial, alloc: Global) -> Result<(), Fault> {
     let source = trial.make(&0x80u8, || Ok(controller(alloc)?))?;
     let clone = trial.make(&source, || Ok(source.clone()?))?;

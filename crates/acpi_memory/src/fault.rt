@@ -10,7 +10,7 @@ use std::io;
 pub enum Fault {
     /// Memory was refused once more.
     Memory,
-    /// What a refused call was lent, or was to change, writes other bytes than before.
+    /// What a refused call borrowed, or was to change, writes other bytes than before.
     Changed,
     /// A call was refused for another cause.
     Built(Error),

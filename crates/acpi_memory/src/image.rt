@@ -30,7 +30,7 @@ fn image(alloc: Global, block: &Sdt, table: &MCFG) -> R<Image> {
     )
 }
 
-/// An image, which is lent the definition block and the tables.
+/// An image, which borrows the definition block and the tables.
 pub fn images(trial: &mut Trial, alloc: Global) -> Result<(), Fault> {
     let block = trial.make(&0x1000u16, || Ok(Sdt::empty(alloc)?))?;
     let table = trial.make(&block, || Ok(mcfg(alloc)?))?;

@@ -81,7 +81,7 @@ impl Trial {
         self.tally.count(bytes);
     }
 
-    /// Makes a call that is lent an object. Where it is refused memory, the object has to write the same bytes as before, and
+    /// Makes a call that borrows an object. Where it is refused memory, the object has to write the same bytes as before, and
     /// the call is made once more. The call makes its other arguments itself.
     pub fn make<T: Drop, F: Fn() -> Result<T, Fault>>(
         &mut self,
@@ -125,7 +125,7 @@ impl Trial {
         Ok(call(object)?)
     }
 
-    /// Makes bytes by this many calls that are lent an object, and counts them.
+    /// Makes bytes by this many calls that borrow an object, and counts them.
     pub fn all<F: Fn(u8) -> R<Vec<u8>>>(
         &mut self,
         lent: &dyn Aml,

@@ -13,7 +13,7 @@ fn table(alloc: Global) -> RHCT {
     RHCT::new(alloc, OEM, OEM_TABLE, OEM_REVISION, 0x0807_0605_0403_0201)
 }
 
-// The table is the fixed fields with this number of nodes, and these nodes so many times.
+// The table is the fixed fields with this number of nodes, and these nodes this many times.
 fn holds(
     alloc: Global,
     table: &RHCT,

@@ -10,7 +10,7 @@ use acpi_vectors::{OEM, OEM_REVISION, OEM_TABLE, all, equal, refuses, same, writ
 use std::alloc::Global;
 use std::test::Fail;
 
-// The fields behind the header of a table of one device.
+// The fields after the header of a table of one device.
 const ONE_DEVICE: [u8; 12] = *b"\x01\0\0\0\x30\0\0\0\0\0\0\0";
 
 // An IOMMU of zeros without wires.
@@ -37,7 +37,7 @@ fn two_mappings(alloc: Global, iommu: IommuOffset) -> R<Vec<IdMapping>> {
     Ok(mappings)
 }
 
-// So many equal wires, and so many equal mappings.
+// This many equal wires, and this many equal mappings.
 fn wires(alloc: Global, count: u16) -> R<Vec<InterruptWire>> {
     let mut wires = Vec::new(alloc);
     for _ in 0..count {

@@ -1,4 +1,4 @@
--- Structures that tell their length in two bytes, written and refused.
+-- Structures that contain their length in two bytes, written and refused.
 use Rattle.std.proofs.Common.{◌≡◌, ℕ, ◌≤◌, ◌<◌, ◌^◌, List, length, arith}
 use Rattle.std.specs.Prelude.{Result, OnOk, IfErr, IsErrAnd}
 use Rattle.acpi_base.specs.declared.error.Error.{Error}

@@ -44,7 +44,7 @@ isa_string_end n = 1 + (n + 1) % 2
 abbrev pub is_isa_string : List ℕ → Bool
 is_isa_string text = nat_lt (length text) 65526
 
--- of a text of so many bytes
+-- of a text of this many bytes
 abbrev pub isa_string_head_fields : ℕ → List NamedField
 isa_string_head_fields n =
     word "Type" 0  -- 0

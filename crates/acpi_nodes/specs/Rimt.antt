@@ -141,7 +141,7 @@ root_complex_bytes c = root_complex_head c ++ records_joined mapping_fields (ent
 abbrev pub platform : ℕ → String Global → Option (Vec IdMapping Global) → Platform
 platform id name mappings = record { id = id; name = name; mappings = mappings }
 
--- where the mappings begin: behind the name and its zero
+-- where the mappings begin: after the name and its zero
 abbrev pub mappings_at : Platform → ℕ
 mappings_at p = 13 + length (string_bytes p.name)
 

@@ -20,7 +20,7 @@ pub(crate) fn entries_of<T>(given: &Option<Vec<T>>) -> &[T]
     }
 }
 
-/// The length of a structure, which it tells in two bytes. FieldWidth where these don't hold it.
+/// The length of a structure, whose length field has two bytes. FieldWidth where these don't hold it.
 pub(crate) fn told_size(size: usize) -> R<u16>
     ensures ok { IfOk result (λ told. told ≡ size) }
     ensures err { IfErr result (λ e. (e ≡ Error.FieldWidth) × (2 ^ 16 ≤ size)) }

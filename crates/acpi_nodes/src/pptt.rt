@@ -66,14 +66,14 @@ impl PPTT {
         }
     }
 
-    /// Adds a processor, or a group of them, and answers its offset. FieldWidth where the length would reach 2^32.
+    /// Adds a processor, or a group of them, and returns its offset. FieldWidth where the length would reach 2^32.
     pub fn add_processor(&mut self, node: ProcessorNode) -> R<ProcessorHandle>
         ensures { AddsAt result self.old.table (whole (processor_bytes node)) self.new.table }
     {
         Ok(Handle::at(self.table.add_object_at(&node)?))
     }
 
-    /// Adds a cache and answers its offset. FieldWidth where the length would reach 2^32.
+    /// Adds a cache and returns its offset. FieldWidth where the length would reach 2^32.
     pub fn add_cache(&mut self, node: CacheNode) -> R<CacheHandle>
         ensures { AddsAt result self.old.table (whole (cache_bytes node)) self.new.table }
     {
@@ -88,7 +88,7 @@ pub fn pptt_is_walked(table: &PPTT)
     is_walked(&table.table)
 }
 
-/// A law: each node tells its kind at its offset, whatever its fields hold.
+/// A law: each node contains its kind at its offset, for all values of its fields.
 pub fn pptt_nodes_tell_kinds()
     ensures { NodesTellKinds }
 {}
@@ -298,7 +298,7 @@ pub struct CacheNodeBuilder {
 }
 
 impl CacheNodeBuilder {
-    /// The cache behind this one, of the same table (offset 8). A last level has none, and 0 there.
+    /// The next cache after this one, of the same table (offset 8). A last level has none, and 0 there.
     pub fn next_level(mut self, cache: &CacheHandle) -> CacheNodeBuilder
         ensures { result ≡ record self { next_level = cache.now } }
     {

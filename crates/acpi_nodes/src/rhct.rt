@@ -87,7 +87,7 @@ impl RHCT {
         }
     }
 
-    /// Adds an ISA string and answers its node's offset. FieldWidth where the text has more than 65,525 bytes, and where the
+    /// Adds an ISA string and returns its node's offset. FieldWidth where the text has more than 65,525 bytes, and where the
     /// length would reach 2^32.
     pub fn add_isa_string(&mut self, string: &'static str) -> R<IsaStringHandle>
         ensures { AddsAt result self.old.table (isa_string_object string.now) self.new.table }
@@ -95,7 +95,7 @@ impl RHCT {
         Ok(Handle::at(self.table.add_object_at(&IsaStringNode::new(string))?))
     }
 
-    /// Adds the sizes of blocks that harts manage in their caches, and answers the node's offset. FieldWidth where the length
+    /// Adds the sizes of blocks that harts manage in their caches, and returns the node's offset. FieldWidth where the length
     /// would reach 2^32.
     pub fn add_cmo(&mut self, cmo: CmoNode) -> R<CmoHandle>
         ensures { AddsAt result self.old.table (whole (cmo_bytes cmo)) self.new.table }
@@ -125,7 +125,7 @@ pub fn rhct_is_walked(table: &RHCT)
     is_walked(&table.table)
 }
 
-/// A law: each node tells its kind at its offset, whatever its fields hold.
+/// A law: each node contains its kind at its offset, for all values of its fields.
 pub fn rhct_nodes_tell_kinds()
     ensures { NodesTellKinds }
 {}
@@ -350,7 +350,7 @@ impl HartInfoNode {
         })
     }
 
-    /// Adds a CMO node behind those that there are. FieldWidth where there would be more than 16,380 offsets.
+    /// Adds a CMO node after those that there are. FieldWidth where there would be more than 16,380 offsets.
     pub fn with_cmo(mut self, cmo: &CmoHandle) -> R<HartInfoNode>
         ensures ok { IfOk result (λ h. h ≡ with_offset self cmo.now) }
         ensures room { OnOk result (self.offsets.count < 16380) }

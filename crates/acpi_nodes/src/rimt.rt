@@ -72,7 +72,7 @@ impl RIMT {
         }
     }
 
-    /// Adds an IOMMU, and answers its offset. FieldWidth where the IOMMU would pass 65,535 bytes, and where the table's length
+    /// Adds an IOMMU, and returns its offset. FieldWidth where the IOMMU would pass 65,535 bytes, and where the table's length
     /// would reach 2^32.
     #[tactic(auto, using(crate::proofs::Rimts::iommu_piece))]
     pub fn add_iommu(&mut self, iommu: Iommu) -> R<IommuOffset>
@@ -107,7 +107,7 @@ pub fn rimt_is_walked(table: &RIMT)
     is_walked(&table.table)
 }
 
-/// A law: each device tells its kind at its offset, whatever its fields hold.
+/// A law: each device contains its kind at its offset, for all values of its fields.
 pub fn rimt_devices_tell_kinds()
     ensures { DevicesTellKinds }
 {}
@@ -454,7 +454,7 @@ pub struct Platform {
 }
 
 impl Platform {
-    /// The device of an id (offset 4), by its full name in the namespace (offset 12, with a zero behind it), and the mappings of
+    /// The device of an id (offset 4), by its full name in the namespace (offset 12, with a zero after it), and the mappings of
     /// its ids (where they begin at offset 8, their number at 10).
     pub fn new(id: u16, name: String, id_mappings: Option<Vec<IdMapping>>) -> Platform
         ensures { result ≡ platform id name id_mappings }

@@ -84,7 +84,7 @@ impl VIOT {
         self.table.add_record(&endpoint)
     }
 
-    /// Adds a virtual IOMMU that is a PCI device, and answers its handle. FieldWidth where the table would pass 65,535 bytes.
+    /// Adds a virtual IOMMU that is a PCI device, and returns its handle. FieldWidth where the table would pass 65,535 bytes.
     pub fn add_virtio_pci_iommu(&mut self, iommu: VirtIoPciIommu) -> R<TranslationHandle>
         ensures { AddsAt result self.old.table (whole (virtio_pci_iommu_bytes iommu)) self.new.table }
     {
@@ -94,7 +94,7 @@ impl VIOT {
         })
     }
 
-    /// Adds a virtual IOMMU at an address, and answers its handle. FieldWidth where the table would pass 65,535 bytes.
+    /// Adds a virtual IOMMU at an address, and returns its handle. FieldWidth where the table would pass 65,535 bytes.
     pub fn add_virtio_mmio_iommu(&mut self, iommu: VirtIoMmioIommu) -> R<TranslationHandle>
         ensures { AddsAt result self.old.table (whole (virtio_mmio_iommu_bytes iommu)) self.new.table }
     {
@@ -112,7 +112,7 @@ pub fn viot_is_walked(table: &VIOT)
     is_walked(&table.table)
 }
 
-/// A law: each node tells its kind at its offset, whatever its fields hold.
+/// A law: each node contains its kind at its offset, for all values of its fields.
 pub fn viot_nodes_tell_kinds()
     ensures { NodesTellKinds }
 {}

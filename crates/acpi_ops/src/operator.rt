@@ -69,7 +69,7 @@ impl<Shape, O> Operation<Shape, O> {
 pub struct Single;
 
 impl<O: Operator<1>> Operation<Single, O> {
-    /// The operand is lent for the call. Its refusal.
+    /// The operand is borrowed for the call. Its refusal.
     pub fn new(alloc: Global, a: &dyn Aml) -> R<Operation<Single, O>>
         ensures { Builds result (row (op O.OPERATOR) (object a.now ∷ [])) }
     {
@@ -160,7 +160,7 @@ impl<O: Operator<4>> Operation<Bits, O> {
 pub struct Negated;
 
 impl<O: Operator<2>> Operation<Negated, O> {
-    /// Written in the order `left` and `right`, behind both opcodes. The first refusal in that order.
+    /// Written in the order `left` and `right`, after both opcodes. The first refusal in that order.
     pub fn new(alloc: Global, left: &dyn Aml, right: &dyn Aml) -> R<Operation<Negated, O>>
         ensures { Builds result (row (op LNot) (row (op O.OPERATOR) (object left.now ∷ object right.now ∷ []) ∷ [])) }
     {

@@ -1,4 +1,4 @@
--- Numbers of so many bytes stay below their limits.
+-- Numbers of this many bytes stay below their limits.
 use Rattle.std.proofs.Common.{◌≡◌, ℕ, zero, suc, ◌+◌, ◌-◌, ◌*◌, ◌^◌, ◌<◌, ◌≤◌, refl, arith}
 use Rattle.std.proofs.Math.Nat.{pow-le-pow_right}
 

@@ -84,7 +84,7 @@ module _ (arity : List ℕ → ℕ) (d : ℕ) (m : Mode) where
   abbrev reader : Reader
   reader = term_at arity d
 
-  -- so many terms
+  -- this many terms
 
   module _ (count i : ℕ) (bytes : List ℕ) (front : Terms) (at : Mode) (rest : List ℕ) (so_far : SeveralRead (term_at arity d) m count i bytes front at rest) where
     pub several_go_on : i < count → (h : Head) (w : ℕ) (c : Terms) (after : List ℕ) → term_at arity d at rest ≡ Ok (h, w, c, after) → SeveralRead (term_at arity d) m count (i + 1) bytes (and_one front h w c) (next at) after

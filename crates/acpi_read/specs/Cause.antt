@@ -6,7 +6,7 @@ use Rattle.acpi_term.specs.Reading.{Fault, Deep, Bad}
 use Rattle.acpi_read.specs.declared.terms.cause.Cause.{Cause}
 use Rattle.acpi_read.specs.declared.terms.cause.Cause.TheVariants as causes
 
--- want of memory says nothing of the bytes
+-- Memory says nothing of the bytes
 abbrev pub cause_kind : Cause → Option Fault
 cause_kind causes.Memory = None
 cause_kind _ = Some Bad

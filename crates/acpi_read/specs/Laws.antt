@@ -7,7 +7,7 @@ use Rattle.acpi_term.specs.Tree.{Terms, depth}
 use Rattle.acpi_term.specs.Spelling.{Spells}
 use Rattle.acpi_read.specs.Terms.{AreRead, IsUnread}
 
--- Where bytes spell terms that don't nest too deep, these alone are read, and nothing but want of memory keeps them from it.
+-- Where bytes spell terms that don't nest too deep, these alone are read, and nothing but Memory keeps them from it.
 abbrev pub SpelledTermsAreRead : Type 0
 SpelledTermsAreRead =
     (arity : List ℕ → ℕ) (bytes : List ℕ) (ts : Terms) → Spells arity Term bytes ts → depth ts ≤ 255

@@ -133,7 +133,7 @@ abbrev pub own_lines : ℕ → Head → List ℕ
 own_lines d (def_field name access lock update entries) = entry_lines d entries
 own_lines d _ = []
 
--- the width of a head over its children, if it is told
+-- the width of a head over its children, if it is printed
 abbrev pub term_suffix : Head → ℕ → Terms → List ℕ
 term_suffix h w children = width_suffix (is_chosen h w (count children) (spelling children)) w
 

@@ -28,7 +28,7 @@ refusal_of _ = another
 
 -- ---- the first piece
 
--- a piece of so many bytes stands at the front
+-- a piece of this many bytes stands at the front
 pub record IsFront (s : Sizes) (n : ℕ) (rest : List ℕ) : Type 0 where
   pub fits : n ≤ length rest
   pub piece : IsPiece s (take n rest)
@@ -82,7 +82,7 @@ offsets_of bytes pieces = offsets_by (walk_of (field_at 0 4 bytes)) pieces
 abbrev pub NoPiecesBy : Option Walk → List ℕ → Type 0
 NoPiecesBy w bytes = (pieces : List (List ℕ)) → WalksBy w bytes pieces → ⊥
 
--- Why a table has no pieces, unless memory ran out. An unknown source is told only where one stands, in a table whose
+-- Why a table has no pieces, unless memory ran out. An unknown source is returned only where one stands, in a table whose
 -- structures' sizes go by their types.
 abbrev pub IsFaultBy : Refusal → Option Walk → List ℕ → Type 0
 IsFaultBy no_memory w bytes = Unit {0}

@@ -48,7 +48,7 @@ seen (FirstAndBlock f inside after) = fills (first_head f) (first_width f) insid
 seen (Package w n inside after) = packs w n inside.now after.now
 seen (Buffer w content after) = begins w content.now after.now
 
--- what is inside and after a head is part of so many bytes
+-- what is inside and after a head is part of this many bytes
 abbrev pub LiesWithin : ℕ → Opened → Type 0
 LiesWithin n (follows h w count rest) = length rest ≤ n
 LiesWithin n (fills h w inside after) = length inside + length after ≤ n

@@ -21,7 +21,7 @@ pub record AreRefused (arity : List ℕ → ℕ) (bytes : List ℕ) (offset : �
   pub within : offset ≤ length bytes
   pub no_terms : (ts : Terms) → Spells arity Term bytes ts → ⊥
 
--- why bytes aren't read; want of memory says nothing of them
+-- why bytes aren't read; Memory says nothing of them
 abbrev pub IsUnread : (List ℕ → ℕ) → List ℕ → ReadError → Type 0
 IsUnread arity bytes errors.Memory = Unit {0}
 IsUnread arity bytes (errors.TooDeep offset) = AreTooDeep arity bytes offset

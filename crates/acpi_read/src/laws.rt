@@ -2,7 +2,7 @@
 
 ghost use Rattle.acpi_read.specs.Laws.{SpelledTermsAreRead};
 
-/// Terms that are spelled, and nest no deeper than may be read, are what `terms` answers.
+/// Terms that are spelled, and nest no deeper than may be read, are what `terms` returns.
 pub fn spelled_terms_are_read()
     ensures { SpelledTermsAreRead }
 {}

@@ -1,4 +1,4 @@
-//! Reading: checked tables, terms of AML, and what is told of both as text.
+//! Reading: checked tables, terms of AML, and what is printed of both as text.
 #![tactic(auto)]
 
 pub mod laws;

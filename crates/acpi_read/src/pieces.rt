@@ -11,7 +11,7 @@ use acpi_base::walk::{Place, Sizes, Walk, source_size, walk_of};
 use acpi_term::read_error::ReadError;
 use std::alloc::Global;
 
-/// A structure of a table: where it begins in the table, and its bytes, which are lent and not copied.
+/// A structure of a table: where it begins in the table, and its bytes, which are borrowed and not copied.
 #[derive(Clone, Copy)]
 pub struct Piece<'a> {
     pub offset: usize,

@@ -1,4 +1,4 @@
-//! What is told of tables and terms as text.
+//! What is printed of tables and terms as text.
 
 mod line;
 mod piece;

@@ -28,7 +28,7 @@ use acpi_term::op::Op;
 use acpi_term::read_error::ReadError;
 use acpi_term::term::{MAX_DEPTH, Term};
 
-/// One term, at most so deep, and the bytes after it. The bytes end so many after the first byte of all.
+/// One term, at most so deep, and the bytes after it. The bytes end this many after the first byte of all.
 #[cycle(read)]
 #[tactic(auto, unfolding(acpi_term::specs::Reading::term_at))]
 fn term<'a>(
@@ -228,7 +228,7 @@ fn first_and_block<'a>(
     Ok((start.with(first, others), after))
 }
 
-/// A package of so many elements.
+/// A package of this many elements.
 #[cycle(read)]
 #[tactic(auto, unfolding(acpi_term::specs::Reading::close, acpi_term::specs::Reading::counted))]
 fn package<'a>(
@@ -289,7 +289,7 @@ fn missing(mode: Mode, end: usize) -> ReadError
     }
 }
 
-/// So many terms, and the bytes after them.
+/// This many terms, and the bytes after them.
 #[cycle(read)]
 fn several<'a>(
     arities: &Arities,

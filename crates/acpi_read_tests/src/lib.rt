@@ -1,4 +1,4 @@
-//! Tests of terms: what no contract says. Bytes from outside, which kind of error is told, printed text, and that each call
+//! Tests of terms: what no contract says. Bytes from outside, which kind of error is returned, printed text, and that each call
 //! succeeds where memory is ample.
 #![tactic(auto)]
 

@@ -17,7 +17,7 @@ fn number(alloc: Global, value: u64, width: u8) -> Result<Box<Term>, Fail> {
     Ok(Box::new(alloc, Term::Number { value, width })?)
 }
 
-// A string of so many bytes, which is spelled by two more.
+// A string of this many bytes, which is spelled by two more.
 fn text(alloc: Global, size: usize) -> Result<Term, Fail> {
     let mut text = String::new(alloc);
     for _ in 0..size {
@@ -29,7 +29,7 @@ fn text(alloc: Global, size: usize) -> Result<Term, Fail> {
 /// How many kinds of framed terms there are.
 const FRAMED: u8 = 11;
 
-// A term of each kind that has a frame, of a width, with padding of so many bytes in it.
+// A term of each kind that has a frame, of a width, with padding of this many bytes in it.
 fn framed(alloc: Global, kind: u8, width: u8, padding: usize) -> Result<Term, Fail> {
     let body = vec![in alloc; text(alloc, padding)?]?;
     Ok(match kind {
@@ -93,7 +93,7 @@ fn framed(alloc: Global, kind: u8, width: u8, padding: usize) -> Result<Term, Fa
     })
 }
 
-// Entries of so many bytes: a named one at first where that many are left over.
+// Entries of this many bytes: a named one at first where that many are left over.
 fn entries(alloc: Global, size: usize) -> Result<Vec<TermEntry>, Fail> {
     let mut entries = Vec::new(alloc);
     let mut left = size;

@@ -7,7 +7,7 @@ use Rattle.acpi_base.specs.declared.error.Error.TheVariants.{Sink}
 use Rattle.acpi_base.specs.Object.{Object}
 use Rattle.acpi_base.specs.Sink.{Meaning}
 
--- an object that is whole, and has so many bytes
+-- an object that is whole, and has this many bytes
 abbrev pub IsOfSize : ℕ → Object → Type 0
 IsOfSize size object = (object.end ≡ None) × (length object.front ≡ size)
 
@@ -15,7 +15,7 @@ abbrev pub is_seventh : Error → Bool
 is_seventh (Sink n) = n == 7
 is_seventh _ = false
 
--- a sink that holds some bytes, has room for so many more, and refuses others by Sink(7)
+-- a sink that holds some bytes, has room for this many more, and refuses others by Sink(7)
 unfoldable pub short_of : List ℕ → ℕ → Meaning
 short_of held room = record { shows = λ more. held ++ more; takes = λ more. nat_le (length more) room; tells = is_seventh; wants_memory = true }
 

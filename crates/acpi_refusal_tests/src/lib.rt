@@ -1,4 +1,4 @@
-//! Tests of sinks that refuse: an object that meets one has given a beginning of its bytes, and answers the sink's refusal.
+//! Tests of sinks that refuse: an object that meets one has given a beginning of its bytes, and returns the sink's refusal.
 #![tactic(auto)]
 
 #[cfg(test)]

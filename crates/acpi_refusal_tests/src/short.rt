@@ -66,7 +66,7 @@ pub fn starve(alloc: Global, size: usize, aml: &dyn Aml) -> Result<(), Fail>
     Ok(())
 }
 
-/// Gives each of these objects, behind its size.
+/// Gives each of these objects, after its size.
 pub fn starve_all(alloc: Global, rows: &[(usize, &dyn Aml)]) -> Result<(), Fail>
     ensures { OnOk result (All (λ row. IsOfSize row.0 (object row.1.now)) rows.now) }
 {

@@ -38,7 +38,7 @@ fn controller(alloc: Global) -> QoSController {
 const CONTROLLER: [u8; 28] =
     *b"\x01\0\x1c\0\x01\x40\x03\x04\x88\x77\x66\x55\x44\x33\x22\x11\x04\x03\x02\x01\x08\x07\x06\x05\x0a\x09\0\0";
 
-// A vendor's resource of so many bytes.
+// A vendor's resource of this many bytes.
 fn vendors(alloc: Global, bytes: &[u8]) -> Result<ResourceStructure, Error> {
     Ok(ResourceStructure::new(
         ResourceType::Memory,

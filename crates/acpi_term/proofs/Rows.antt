@@ -123,6 +123,6 @@ by_test : (b : Bool) (e : Error) → cond b None (Some PkgLength) ≡ Some e →
 by_test true e h is = cc
 by_test false e h is = cc
 
--- a frame isn't refused for want of memory
+-- a frame isn't refused for Memory
 pub frame_refused : (n : ℕ) (e : Error) → frame_end n ≡ Some e → e ≡ Memory → ⊥
 frame_refused n e h is = by_test (nat_lt (4 + n) (2 ^ 28)) e h is

@@ -28,7 +28,7 @@ module _ (arity : List ℕ → ℕ) (m : Mode) where
   first_reads : (d : ℕ) (t : Terms) (rest : List ℕ) → AreLegal arity m t → depth t ≤ d → counted (term_at arity d) (count t) m (spelling t ++ rest) ≡ Ok (t, rest)
   first_reads d t rest f shallow = (again arity t).several d m rest f ∙ ap (λ b. guarded b (t, rest)) (within_is t d ∙ le-leb (depth t) d shallow)
 
-  -- so many terms at the front are these, and the bytes after them are those
+  -- this many terms at the front are these, and the bytes after them are those
   pub one_front : (ts us : Terms) (x y : List ℕ) → count ts ≡ count us → AreLegal arity m ts → AreLegal arity m us → spelling ts ++ x ≡ spelling us ++ y → (ts ≡ us) × (x ≡ y)
   one_front ts us x y n f g e =
       let d = max (depth ts) (depth us) in

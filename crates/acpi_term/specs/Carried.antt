@@ -31,7 +31,7 @@ AreCarried end = Unit {0}
 AreCarried (term h w children others) = IsCarried h w (count children) (spelling children) × AreCarried children
     × AreCarried others
 
--- A refusal that isn't for want of memory: the entry's width doesn't carry its bits.
+-- A refusal that isn't for Memory: the entry's width doesn't carry its bits.
 pub record IsUnfit (e : Error) (entry : TermEntry) : Type 0 where
   pub cause : e ≢ Memory → entry_bits (entry_view entry) < limit (entry_width (entry_view entry)) → ⊥
 
@@ -40,7 +40,7 @@ pub record Added (ts : Terms) (old new : List ℕ) : Type 0 where
   pub carried : AreCarried ts
   pub joined : new ≡ old ++ spelling ts
 
--- a refusal that isn't for want of memory: some term isn't carried
+-- a refusal that isn't for Memory: some term isn't carried
 pub record IsUncarried (e : Error) (ts : Terms) : Type 0 where
   pub cause : e ≢ Memory → AreCarried ts → ⊥
 

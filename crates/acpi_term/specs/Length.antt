@@ -16,19 +16,19 @@ pub record Frames (p content : List ℕ) : Type 0 where
   pub bytes : AreBytes p
   pub counts : value p ≡ Some (length p + length content)
 
--- a value below this can be spelled in so many bytes, from 1 to 4
+-- a value below this can be spelled in this many bytes, from 1 to 4
 abbrev pub limit : ℕ → ℕ
 limit w = if w == 1 then 2 ^ 6 else (if w == 2 then 2 ^ 12 else (if w == 3 then 2 ^ 20 else (if w == 4 then 2 ^ 28 else 0)))
 
--- a value in so many bytes
+-- a value in this many bytes
 unfoldable pub length_bytes : ℕ → ℕ → List ℕ
 length_bytes w v = if w == 1 then v ∷ [] else (64 * (w - 1) + v % 16) ∷ le (w - 1) (v / 16)
 
--- a content after its PkgLength, of so many bytes, which counts itself and the content
+-- a content after its PkgLength, of this many bytes, which counts itself and the content
 abbrev pub with_length : ℕ → List ℕ → List ℕ
 with_length w content = length_bytes w (w + length content) ++ content
 
--- so many bytes can count themselves and the content
+-- this many bytes can count themselves and the content
 abbrev pub FrameFits : ℕ → List ℕ → Type 0
 FrameFits w content = w + length content < limit w
 

@@ -13,12 +13,12 @@ is_part b = is_lead b || (nat_le 0x30 b && nat_le b 0x39)
 unfoldable pub is_segment : ℕ → ℕ → ℕ → ℕ → Bool
 is_segment a b c d = is_lead a && is_part b && is_part c && is_part d
 
--- so many standard segments
+-- this many standard segments
 pub data AreSegments : ℕ → List ℕ → Type 0 where
   no_more : AreSegments zero []
   one_more : {n a b c d : ℕ} {s : List ℕ} → is_segment a b c d ≡ true → AreSegments n s → AreSegments (suc n) (a ∷ b ∷ c ∷ d ∷ s)
 
--- One segment; DualNamePrefix and two; or MultiNamePrefix, a count and so many, here never fewer than three.
+-- One segment; DualNamePrefix and two; or MultiNamePrefix, a count and this many, here never fewer than three.
 pub data IsPath : List ℕ → Type 0 where
   single : {s : List ℕ} → AreSegments 1 s → IsPath s
   double : {s : List ℕ} → AreSegments 2 s → IsPath (0x2e ∷ s)

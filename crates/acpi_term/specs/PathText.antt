@@ -60,7 +60,7 @@ abbrev pub unrooted : List ℕ → List ℕ
 unrooted [] = []
 unrooted (b ∷ text) = if b == 0x5c then text else b ∷ text
 
--- what stands before so many segments (ACPI 6.5, 20.2.2): nothing, DualNamePrefix, or MultiNamePrefix and their number
+-- what stands before this many segments (ACPI 6.5, 20.2.2): nothing, DualNamePrefix, or MultiNamePrefix and their number
 abbrev pub lead : ℕ → List ℕ
 lead n = if n == 1 then [] else (if n == 2 then 0x2e ∷ [] else 0x2f ∷ n ∷ [])
 

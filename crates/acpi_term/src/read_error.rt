@@ -8,7 +8,7 @@ ghost use Rattle.acpi_term.specs.ReadError.{name_of, offset_of, message_of};
 use std::alloc::{AllocError, AllocFailed};
 use std::fmt;
 
-/// Why bytes couldn't be read, and at which offset. Of several faults any may be told.
+/// Why bytes couldn't be read, and at which offset. Of several faults any may be returned.
 #[derive(Clone, Copy, Debug, PartialEq)]
 pub enum ReadError {
     /// A growth was refused by the allocator.
@@ -70,7 +70,7 @@ impl ReadError {
         }
     }
 
-    /// The offset that is told, if any.
+    /// The offset in the error, if any.
     pub fn offset(self) -> Option<usize>
         ensures { result ≡ offset_of self }
     {

@@ -28,7 +28,7 @@ pub fn least_width(n: usize) -> u8
     }
 }
 
-/// A value as a length of so many bytes, the first of these four (ACPI 6.5, 20.2.4).
+/// A value as a length of this many bytes, the first of these four (ACPI 6.5, 20.2.4).
 #[tactic(auto, using(crate::proofs::Lengths::starts_one, crate::proofs::Lengths::starts_two, crate::proofs::Lengths::starts_three, crate::proofs::Lengths::starts_four, crate::proofs::Lengths::width_last,))]
 pub fn length_bytes(width: u8, value: u32) -> [u8; 4]
     requires { value < limit width }
@@ -48,7 +48,7 @@ pub fn length_bytes(width: u8, value: u32) -> [u8; 4]
     }
 }
 
-/// The PkgLength of a content of so many bytes (ACPI 6.5, 20.2.4): the first of four bytes, and how many they are. It
+/// The PkgLength of a content of this many bytes (ACPI 6.5, 20.2.4): the first of four bytes, and how many they are. It
 /// counts itself. Refused where it would reach 2^28.
 #[tactic(auto, using(crate::proofs::Lengths::width_carries))]
 pub fn frame_length(size: usize) -> R<([u8; 4], usize)>
@@ -67,7 +67,7 @@ pub fn frame_length(size: usize) -> R<([u8; 4], usize)>
     ))
 }
 
-/// The length of a field entry of so many bits (ACPI 6.5, 20.2.5.2): the first of four bytes, and how many they are. It
+/// The length of a field entry of this many bits (ACPI 6.5, 20.2.5.2): the first of four bytes, and how many they are. It
 /// doesn't count itself. Refused from 2^28 on.
 #[tactic(auto, using(crate::proofs::Lengths::width_holds))]
 pub fn field_length(bits: usize) -> R<([u8; 4], usize)>

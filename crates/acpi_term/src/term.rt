@@ -6,7 +6,7 @@ use crate::op::Op;
 /// Terms that nest deeper than this aren't read.
 pub const MAX_DEPTH: usize = 255;
 
-/// An entry of a field (ACPI 6.5, 20.2.5.2): how many bits it has, and in how many bytes these are told, 1 to 4.
+/// An entry of a field (ACPI 6.5, 20.2.5.2): how many bits it has, and in how many bytes these are written, 1 to 4.
 #[derive(Debug, Drop, PartialEq)]
 pub enum TermEntry {
     /// A segment, the bits and the width.
@@ -18,7 +18,7 @@ pub enum TermEntry {
 /// A term (ACPI 6.5, 20.2.3 and 20.2.5). The width of a framed one is that of its PkgLength, from 1 to 4 bytes.
 #[derive(Debug, Drop, PartialEq)]
 pub enum Term {
-    /// A width of 0 stands for the bytes 00 and 01, another for so many bytes after a prefix.
+    /// A width of 0 stands for the bytes 00 and 01, another for this many bytes after a prefix.
     Number {
         value: u64,
         width: u8,

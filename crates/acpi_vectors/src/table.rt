@@ -52,7 +52,7 @@ pub fn mend(table: &mut [u8]) {
     seal(table);
 }
 
-/// A table of these parts behind the standard header, with a true length and sum.
+/// A table of these parts after the standard header, with a true length and sum.
 pub fn table(alloc: Global, signature: &[u8; 4], revision: u8, parts: &[&[u8]]) -> R<Vec<u8>> {
     let mut bytes = Vec::from_slice(alloc, signature)?;
     bytes.extend_from_slice(&[0, 0, 0, 0, revision, 0])?;
@@ -85,7 +85,7 @@ pub fn patched(
     writes(alloc, table, &wanted)
 }
 
-/// A table of so many equal structures is its header, its fixed fields and these, summed anew.
+/// A table of this many equal structures is its header, its fixed fields and these, summed anew.
 pub fn many(
     alloc: Global,
     aml: &dyn Aml,

@@ -9,7 +9,7 @@ use acpi_vectors::{agree, equal};
 use std::alloc::Global;
 use std::test::Fail;
 
-// The offset of the last structure of which none or more bytes stand in so many bytes of the table.
+// The offset of the last structure of which none or more bytes stand in this many bytes of the table.
 fn begun(sample: &Sample, size: usize) -> Option<usize> {
     let mut last = None;
     for (offset, _) in sample.structures {

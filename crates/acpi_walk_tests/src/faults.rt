@@ -100,7 +100,7 @@ fn lengths(rt: HostRuntime) -> Result<(), Fail> {
     Ok(())
 }
 
-// A table whose one structure begins with these bytes and has so many, the others zero.
+// A table whose one structure begins with these bytes and has this many, the others zero.
 fn is_padded(
     alloc: Global,
     case: (&[u8; 4], &[u8], &[u8], usize, usize, &str),

@@ -1,5 +1,5 @@
 //! Tests of the checked view of a table and of its structures, and of the reports of these: bytes from outside, cut, replaced or
-//! changed at random, and which kind of error is told.
+//! changed at random, and which kind of error is returned.
 #![tactic(auto)]
 
 #[cfg(test)]

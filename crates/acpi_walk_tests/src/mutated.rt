@@ -81,7 +81,7 @@ fn is_walked(alloc: Global, sample: &Sample, bytes: &[u8]) -> Result<bool, Fail>
     Ok(true)
 }
 
-// Where the fields behind the header begin, each structure, and where the last ends.
+// Where the fields after the header begin, each structure, and where the last ends.
 fn seams(alloc: Global, sample: &Sample, end: usize) -> Result<Vec<usize>, Fail> {
     let mut seams = Vec::new(alloc);
     if !sample.fields.is_empty() {

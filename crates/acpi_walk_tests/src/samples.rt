@@ -4,7 +4,7 @@ use acpi_base::error::R;
 use acpi_vectors::table::table;
 use std::alloc::Global;
 
-/// A table's fields behind its header, where it tells the number of its structures and where they begin (from an offset up to
+/// A table's fields after its header, where it tells the number of its structures and where they begin (from an offset up to
 /// another), its structures with their offsets, and its report.
 #[derive(Drop)]
 pub struct Sample {

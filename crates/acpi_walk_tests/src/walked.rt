@@ -28,7 +28,7 @@ fn each(rt: HostRuntime) -> Result<(), Fail> {
     Ok(())
 }
 
-// Whatever stands behind the header of other tables, they have no structures.
+// Whatever stands after the header of other tables, they have no structures.
 #[test]
 fn others(rt: HostRuntime) -> Result<(), Fail> {
     let alloc = rt.alloc();

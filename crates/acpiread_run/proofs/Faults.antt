@@ -5,7 +5,7 @@ use Rattle.acpiread_run.specs.declared.fault.Fault.TheVariants.{Usage, RefusedAt
 use Rattle.acpiread_run.specs.Fault.{IsRefusal, IsRefusalAfter}
 use Rattle.acpiread_run.specs.Report.{IsHeaderFault, IsTermsFault}
 
--- want of memory is told the same of all bytes
+-- Memory is told the same of all bytes
 memory_after : (start : ℕ) (fault : Fault) → IsRefusal Memory fault → IsRefusalAfter start Memory fault
 memory_after start Usage h = h
 memory_after start (RefusedAt offset kind) h = cc (h.0)

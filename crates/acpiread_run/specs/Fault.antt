@@ -38,7 +38,7 @@ IsRefusal error = IsNamed (offset_of error) (name_of error)
 abbrev pub IsRefusalAfter : ℕ → ReadError → Fault → Type 0
 IsRefusalAfter start error = IsNamed (option_map (λ n. start + n) (offset_of error)) (name_of error)
 
--- usage is told only where a fact holds, and nothing else but want of memory
+-- usage is returned only where a fact holds, and nothing else but Memory
 abbrev pub IsUsageWhere : Type 0 → Fault → Type 0
 IsUsageWhere fact Usage = fact
 IsUsageWhere fact (RefusedAt offset kind) = ⊥

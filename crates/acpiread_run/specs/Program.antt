@@ -35,7 +35,7 @@ pub record IsFailure (words : List (List ℕ)) (fault : Fault) : Type 0 where
   pub bytes : List ℕ
   pub fails : IsFaultOf command bytes fault
 
--- What is told where there is no report: usage, want of memory, or a fault of bytes. Words that ask for nothing end with
+-- What is told where there is no report: usage, Memory, or a fault of bytes. Words that ask for nothing end with
 -- usage, unless memory ran out.
 pub record IsToldFor (words : List (List ℕ)) (fault : Fault) : Type 0 where
   pub cause : IsUsageWhere (Unit {0}) fault ⊎ IsFailure words fault
@@ -59,7 +59,7 @@ Ended words out out' err err' status =
     ((text : List ℕ) × IsReport words text × Printed text out out' err err' status)
     ⊎ ((fault : Fault) × IsToldFor words fault × Told fault out out' err err' status)
 
--- Some words ended so, or usage or want of memory is told because there are none, or output can't be written, which ends
+-- Some words ended so, or usage or Memory is told because there are none, or output can't be written, which ends
 -- with 1.
 abbrev pub Started : Option (List ℕ) → Option (List ℕ) → Option (List ℕ) → Option (List ℕ) → ℕ → Type 0
 Started out out' err err' status =

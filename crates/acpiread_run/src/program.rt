@@ -58,7 +58,7 @@ fn report<R: Files>(rt: &R, alloc: Global, words: &[String]) -> Result<String, F
     report_of(alloc, &command, &bytes)
 }
 
-// Tells a report, or why there is none, and answers the exit status.
+// Tells a report, or why there is none, and returns the exit status.
 fn tell<O: Write, E: Write>(
     report: Result<String, Fault>,
     out: &mut O,
@@ -84,7 +84,7 @@ fn tell<O: Write, E: Write>(
     }
 }
 
-/// Runs the program on the words after its name, and answers its exit status. 0: the report went to `out`. 1: the
+/// Runs the program on the words after its name, and returns its exit status. 0: the report went to `out`. 1: the
 /// file was refused or memory ran out, `err` has a line that says why, and `out` has nothing. 2: the words are wrong or
 /// the file can't be read, `err` has the line on usage, and `out` has nothing. An error is one of `out` or `err`.
 pub fn run<R: Files, O: Write, E: Write>(
@@ -131,7 +131,7 @@ fn run_own<R: Env + Files + AllocGlobal, O: Write, E: Write>(
     run(rt, rt.alloc(), &words, out, err)
 }
 
-/// Runs the program on its own words, and answers its exit status: that of `run`, that of a fault where the words can't
+/// Runs the program on its own words, and returns its exit status: that of `run`, that of a fault where the words can't
 /// be read, or 1 where output can't be written, which a line on `err` says unless that is what can't be written.
 pub fn start<R: Env + Files + AllocGlobal, O: Write, E: Write>(
     rt: &R,

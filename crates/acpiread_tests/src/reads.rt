@@ -8,7 +8,7 @@ use std::io;
 use std::io::{Error, ErrorKind, Read};
 use std::test::Fail;
 
-// Bytes of which no more than so many come at a time, and behind them their end or a failure.
+// Bytes of which no more than this many come at a time, and behind them their end or a failure.
 #[derive(Drop)]
 struct Parts<'a> {
     bytes: &'a [u8],

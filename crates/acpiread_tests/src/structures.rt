@@ -105,7 +105,7 @@ fn refuses_structures(rt: HostRuntime) -> Result<(), Fail> {
     refuses(&rt, file, &["table", file], MISCOUNTED, "Count")
 }
 
-// What stands behind a header can be terms and no structures.
+// What stands after a header can be terms and no structures.
 #[test]
 fn reports_terms_alone(rt: HostRuntime) -> Result<(), Fail> {
     let path = path(&rt, rt.process(), "terms-alone")?;

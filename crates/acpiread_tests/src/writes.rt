@@ -12,7 +12,7 @@ use std::{fs, io};
 // Room for more than any line.
 const AMPLE: usize = 1_000;
 
-// A writer with room for so many bytes, which fails once that is used up.
+// A writer with room for this many bytes, which fails once that is used up.
 #[derive(Drop)]
 struct Full {
     room: usize,

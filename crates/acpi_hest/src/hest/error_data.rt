@@ -56,7 +56,7 @@ impl GenericErrorData {
         }
     }
 
-    /// Adds an object, which is written behind those before it. Refused only for want of memory, and unchanged then.
+    /// Adds an object, which is written after those before it. Memory is the one error, and the value is unchanged then.
     pub fn add_data(&mut self, part: Box<dyn Aml + Drop>) -> R<()>
         ensures ok { OnOk result (self.new.objects.items ≡ self.old.objects.items ++ part ∷ []) }
         ensures err { OnErr result (self.new.objects.items ≡ self.old.objects.items) }

@@ -28,7 +28,7 @@ pub struct GenericErrorStatus {
 }
 
 impl GenericErrorStatus {
-    /// The block of so many errors of each kind. Its status tells one uncorrectable error by 1, one correctable by 2, several
+    /// The block of this many errors of each kind. Its status tells one uncorrectable error by 1, one correctable by 2, several
     /// uncorrectable by 4 and several correctable by 8.
     pub fn new(
         correctable_count: u32,
@@ -67,7 +67,7 @@ impl Record<20> for GenericErrorStatus {
     }
 }
 
-// The status of so many errors, where one is told so and several so.
+// The status of this many errors, where one is told so and several so.
 fn status_of(count: u32, one: u32, several: u32) -> u32
     ensures { result ≡ status_of count one several }
 {

@@ -4,7 +4,7 @@ ghost use Rattle.std.specs.Prelude.{◌≡◌, ◌<◌, ◌^◌, ℕ};
 
 use acpi_base::row::Record;
 
-/// What a kind of source has behind the fields that all sources of its form have, a record of `N` bytes, and its type.
+/// What a kind of source has after the fields that all sources of its form have, a record of `N` bytes, and its type.
 pub trait Tail<const N: usize>: Record<N> + Copy {
     ghost KIND: { ℕ };
 

@@ -246,7 +246,7 @@ impl ResourceID {
         }
     }
 
-    /// An id of the same value; a vendor's bytes in memory from where this one has its own. Refused only for want of memory.
+    /// An id of the same value; a vendor's bytes in memory from where this one has its own. Memory is the one error.
     pub fn clone(&self) -> R<ResourceID>
         ensures ok { IfOk result (λ id. same_id id self.now) }
         ensures err { IfErr result (λ e. e ≡ Error.Memory) }

@@ -460,7 +460,7 @@ pub struct Gicr {
 }
 
 impl Gicr {
-    /// Redistributors from a physical address on (offset 4), in so many bytes (offset 12).
+    /// Redistributors from a physical address on (offset 4), in this many bytes (offset 12).
     pub fn new(discovery_range_base: u64, discovery_range_length: u32) -> Gicr
         ensures { result ≡ gicr discovery_range_base discovery_range_length }
     {

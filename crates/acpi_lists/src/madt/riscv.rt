@@ -216,7 +216,7 @@ pub struct APLIC {
 }
 
 impl APLIC {
-    /// A controller of an id (offset 3) and hardware id (offset 8), with so many structures that deliver interrupts to
+    /// A controller of an id (offset 3) and hardware id (offset 8), with this many structures that deliver interrupts to
     /// harts, one for each hart (offset 16), the first of its global system interrupts (offset 20), its physical address
     /// (offset 24), its bytes (offset 32), and how many sources it has (offset 18).
     pub fn new(
@@ -314,7 +314,7 @@ pub struct PLIC {
 }
 
 impl PLIC {
-    /// A controller of an id (offset 3) and hardware id (offset 4), with so many sources (offset 12), a highest priority
+    /// A controller of an id (offset 3) and hardware id (offset 4), with this many sources (offset 12), a highest priority
     /// (offset 14), its bytes (offset 20), its physical address (offset 24), and the first of its global system interrupts
     /// (offset 32).
     pub fn new(

@@ -98,7 +98,7 @@ impl Model for SystemLocality {
     }) };
 }
 
-// How many bytes the lists of so many initiators and targets have. Matrix where the structure's size would reach 2^32.
+// How many bytes the lists of this many initiators and targets have. Matrix where the structure's size would reach 2^32.
 fn size_of_lists(initiators: usize, targets: usize) -> R<usize>
     ensures size { IfOk result (λ size. size ≡ lists_size initiators targets) }
     ensures ok { OnOk result (locality_size initiators targets < 2 ^ 32) }
@@ -114,7 +114,7 @@ fn size_of_lists(initiators: usize, targets: usize) -> R<usize>
     Ok(size)
 }
 
-// The lists of a new matrix: so many bytes of domains, and behind them those of the entries.
+// The lists of a new matrix: this many bytes of domains, and behind them those of the entries.
 fn new_lists(alloc: Global, domains: usize, size: usize) -> R<Vec<u8>>
     requires { domains ≤ size }
     ensures bytes { IfOk result (λ v. v.items ≡ zeros domains ++ replicate (size - domains) 255) }
@@ -128,7 +128,7 @@ fn new_lists(alloc: Global, domains: usize, size: usize) -> R<Vec<u8>>
 }
 
 impl SystemLocality {
-    /// A matrix over so many initiators and targets, whose entries count in units of `entry_base_unit` picoseconds or
+    /// A matrix over this many initiators and targets, whose entries count in units of `entry_base_unit` picoseconds or
     /// megabytes a second. Each domain is 0, and each entry 0xffff: unreachable. Matrix where its size would reach 2^32.
     pub fn new(
         alloc: Global,

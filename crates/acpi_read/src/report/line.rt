@@ -70,7 +70,7 @@ fn push_data(bytes: &[u8], text: &mut String) -> Result<(), AllocError>
     Ok(())
 }
 
-/// What a line says of a term with so many children, without its width.
+/// What a line says of a term with this many children, without its width.
 pub fn push_head(kind: Kind<'_>, count: usize, text: &mut String) -> Result<(), AllocError>
     ensures { OnOk result (string_bytes text.new ≡ string_bytes text.old ++ head_text (head_of kind.entry) count) }
 {

@@ -11,7 +11,7 @@ use acpi_term::name_string::NameString;
 use acpi_term::term::{Term, TermEntry};
 use std::alloc::{AllocError, Global};
 
-/// No length can count so many.
+/// No length can count this many.
 pub const LIMIT: u32 = 0x1000_0000;
 
 fn capped(n: usize) -> u32
@@ -33,7 +33,7 @@ fn number_size(value: u64, width: u8) -> u32
     1 + u32::from(width)
 }
 
-// A name and so many more bytes.
+// A name and this many more bytes.
 fn name_size(name: &NameString, more: u32) -> u32
     ensures { result ≡ capped (length name.now + more) }
 {

@@ -63,7 +63,7 @@ fn unless(chosen: bool, width: u8) -> Option<u8>
     if chosen { None } else { Some(width) }
 }
 
-/// The width of a term whose content has this size, if it is told.
+/// The width of a term whose content has this size, if it is printed.
 pub fn shown_width(kind: Kind<'_>, width: u8, size: u32) -> Option<u8>
     ensures { (children : Terms) → size ≡ capped (content_size (head_of kind.entry) width children)
         → width_words result ≡ term_suffix (head_of kind.entry) width children }
@@ -71,14 +71,14 @@ pub fn shown_width(kind: Kind<'_>, width: u8, size: u32) -> Option<u8>
     unless(is_chosen(kind, width, size), width)
 }
 
-/// The width of a field entry of so many bits, if it is told.
+/// The width of a field entry of this many bits, if it is printed.
 pub fn shown_entry_width(bits: u32, width: u8) -> Option<u8>
     ensures { width_words result ≡ width_suffix (width == least_width bits && nat_lt bits (2 ^ 28)) width }
 {
     unless(width == least_width(bits as usize) && bits < LIMIT, width)
 }
 
-/// A width, if it is told.
+/// A width, if it is printed.
 pub fn push_width(shown: Option<u8>, text: &mut String) -> Result<(), AllocError>
     ensures { OnOk result (string_bytes text.new ≡ string_bytes text.old ++ width_words shown) }
 {

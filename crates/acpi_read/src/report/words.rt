@@ -148,7 +148,7 @@ pub fn push_numbered(
     push_number(label, n, text)
 }
 
-/// Two spaces a level, of sixteen levels at once as far as there are so many.
+/// Two spaces a level, of sixteen levels at once as far as there are this many.
 pub fn push_indent(depth: usize, text: &mut String) -> Result<(), AllocError>
     ensures { OnOk result (string_bytes text.new ≡ string_bytes text.old ++ indent depth) }
 {

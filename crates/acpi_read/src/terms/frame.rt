@@ -15,7 +15,7 @@ fn cut(size: usize, bytes: &[u8]) -> Result<(&[u8], &[u8]), Cause>
     Ok(bytes.split_at(size))
 }
 
-/// A number of so many bytes, lowest first, and the bytes after it.
+/// A number of this many bytes, lowest first, and the bytes after it.
 #[tactic(auto, unfolding(acpi_term::specs::Reading::high_at))]
 pub fn number(size: u8, bytes: &[u8]) -> Result<(u64, &[u8]), Cause>
     requires { size ≤ 8 }

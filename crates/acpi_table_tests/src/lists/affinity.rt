@@ -7,7 +7,7 @@ use acpi_vectors::table::many;
 use acpi_vectors::{OEM, OEM_REVISION, OEM_TABLE, all, refuses, same, writes};
 use std::test::Fail;
 
-// The fields behind the header.
+// The fields after the header.
 const FIXED: [u8; 12] = [1, 0, 0, 0, 0, 0, 0, 0, 0, 0, 0, 0];
 
 #[test]

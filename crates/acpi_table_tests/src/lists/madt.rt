@@ -257,7 +257,7 @@ fn controllers_of_harts(rt: HostRuntime) -> Result<(), Fail> {
     )
 }
 
-// A table has this length and checksum, and so many of such controllers.
+// A table has this length and checksum, and this many of such controllers.
 fn holds(alloc: Global, madt: &MADT, size: u8, checksum: u8, imsics: u32) -> Result<(), Fail> {
     stands(alloc, madt, 4, &[size, 0, 0, 0, 1, checksum])?;
     many(alloc, madt, b"APIC", 1, &[0; 8], &IMSIC_BYTES, imsics)
@@ -306,7 +306,7 @@ fn append_nth(bytes: &mut Vec<u8>, i: u16) -> R<()> {
     Ok(())
 }
 
-// A table of so many structures has this length, sums to zero, and is its header and these joined.
+// A table of this many structures has this length, sums to zero, and is its header and these joined.
 fn of_many(alloc: Global, count: u16, size: u32) -> Result<(), Fail> {
     let mut madt = table(alloc, LocalInterruptController::Riscv);
     let mut structures = Vec::new(alloc);
