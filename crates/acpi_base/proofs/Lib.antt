@@ -10,3 +10,4 @@ pub mod Records
 pub mod Values
 pub mod Tables
 pub mod Walks
+pub mod Ends

@@ -116,7 +116,7 @@ pub sdt_err : (r : Result Unit Error) (old new : Contents) (a : List ℕ) → Ad
 unfolding sdt_of
 sdt_err (Ok x) old new a adds header = tt
 sdt_err (Err e) old new a adds header = record {
-  beginning = record { part = []; rest = a; joined = refl; took = record { moved = ap sdt_of adds.err } };
+  beginning = record { part = []; rest = a; joined = refl; took = record { moved = ap (λ (c : Contents). sdt_of c.bytes) adds.err } };
   memory = λ is. refl;
   cause = λ is_other.
       let is = adds.cause is_other in

@@ -1,5 +1,5 @@
 -- What holds of the definitions, whatever calls there are.
-use Rattle.std.specs.Prelude.{◌≡◌, ℕ, ◌+◌, ◌-◌, ◌^◌, ◌%◌, ◌<◌, ◌≤◌, length, List, [], ◌∷◌, ◌++◌, sum, false, None}
+use Rattle.std.specs.Prelude.{◌≡◌, ℕ, ◌+◌, ◌-◌, ◌^◌, ◌%◌, ◌<◌, ◌≤◌, length, drop, List, [], ◌∷◌, ◌++◌, sum, false, None}
 use Rattle.std.specs.Int.{to_le_bytes, w16, w32, w64}
 use Rattle.acpi_base.specs.declared.error.Error.{Error}
 use Rattle.acpi_base.specs.Bytes.{le}
@@ -7,7 +7,8 @@ use Rattle.acpi_base.specs.Sink.{Meaning, after}
 use Rattle.acpi_base.specs.Object.{Object, Wrote, WriteRefused}
 use Rattle.acpi_base.specs.Checksum.{checksum_of}
 use Rattle.acpi_base.specs.Table.{table_of, IsTrueTable}
-use Rattle.acpi_base.specs.Sdt.{added, overwritten}
+use Rattle.acpi_base.specs.Sdt.{Contents, added, overwritten}
+use Rattle.acpi_base.specs.SdtCalls.{SdtCall, AreSdtCalls, sdt_after, IsSdtAfter}
 use Rattle.acpi_base.specs.declared.oem.Oem.{Oem}
 
 abbrev pub WritesJoin : Type 0
@@ -67,3 +68,13 @@ OverwrittenSumsToZero =
 
 abbrev pub AddedAtOnce : Type 0
 AddedAtOnce = (table a b : List ℕ) → 36 ≤ length table → added (added table a) b ≡ added table (a ++ b)
+
+-- What is added ends what stands after the header.
+abbrev pub AddedEnds : Type 0
+AddedEnds = (table bytes : List ℕ) → 36 ≤ length table → drop 36 (added table bytes) ≡ drop 36 table ++ bytes
+
+-- After any list of calls, accepted or refused, a table is what these make of it.
+abbrev pub SdtsAreTheirCalls : Type 0
+SdtsAreTheirCalls =
+    (start : Contents) (calls : List SdtCall) → 36 ≤ length start.bytes → AreSdtCalls start calls
+    → IsSdtAfter start calls (sdt_after start calls)

@@ -16,5 +16,6 @@ pub mod Header
 pub mod Table
 pub mod Kept
 pub mod Sdt
+pub mod SdtCalls
 pub mod Walk
 pub mod Laws

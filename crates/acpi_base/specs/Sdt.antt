@@ -1,5 +1,5 @@
 -- Tables to which bytes are added.
-use Rattle.std.specs.Prelude.{◌≡◌, ◌≢◌, ℕ, ◌+◌, ◌^◌, ◌<◌, ◌≤◌, List, [], ◌∷◌, ◌++◌, length, nat_lt, Bool, true, false, IsTrue}
+use Rattle.std.specs.Prelude.{◌≡◌, ◌≢◌, ℕ, ◌+◌, ◌*◌, ◌^◌, ◌<◌, ◌≤◌, List, [], ◌∷◌, ◌++◌, length, nat_lt, Bool, true, false, IsTrue}
 use Rattle.std.specs.Prelude.{refl, None, Result, OnOk, OnErr, IfErr}
 use Rattle.std.proofs.Common.{arith, length-append}
 use Rattle.std.proofs.lemmas.Bool.Decides.{nat_tests}
@@ -30,25 +30,29 @@ added table (b ∷ bytes) = sealed (table ++ b ∷ bytes)
 abbrev pub overwritten : List ℕ → ℕ → List ℕ → List ℕ
 overwritten table offset bytes = with_checksum (put offset bytes table)
 
+-- how many bytes are summed where these are added: themselves, and the four of the old length and of the new one
+abbrev pub addition_cost : List ℕ → ℕ
+addition_cost [] = 0
+addition_cost (b ∷ bytes) = length (b ∷ bytes) + 8
+
 -- Bytes were added at the end, or the call was refused and nothing changed: by FieldWidth where the length would reach
--- 2^32, and there alone. A few bytes beside those that were added are summed.
+-- 2^32, and there alone.
 pub record Addition (result : Result Unit Error) (old : Contents) (bytes : List ℕ) (new : Contents) : Type 0 where
   pub ok : OnOk result (new.bytes ≡ added old.bytes bytes)
   pub fits : OnOk result (length old.bytes + length bytes < 2 ^ 32)
-  pub err : OnErr result (new.bytes ≡ old.bytes)
+  pub err : OnErr result (new ≡ old)
   pub cause : IfErr result (λ e. e ≢ Memory → (e ≡ FieldWidth) × (2 ^ 32 ≤ length old.bytes + length bytes))
-  pub cost : new.summed ≤ old.summed + length bytes + 8
-  pub grows : old.summed ≤ new.summed
+  pub cost : OnOk result (new.summed ≡ old.summed + addition_cost bytes)
 
 -- a whole object was written at the end
 pub record AddedObject (object : Object) (old new : List ℕ) : Type 0 where
   pub is_whole : object.end ≡ None
   pub is : new ≡ added old object.front
 
--- bytes were written over those at an offset
+-- bytes were written over those at an offset, and both were summed, and the byte that stood at the checksum's place
 pub record Overwriting (old : Contents) (offset : ℕ) (bytes : List ℕ) (new : Contents) : Type 0 where
   pub is : new.bytes ≡ overwritten old.bytes offset bytes
-  pub grows : old.summed ≤ new.summed
+  pub cost : new.summed ≡ old.summed + (2 * length bytes + 1)
 
 -- ---- as a sink
 

@@ -3,7 +3,7 @@
 ghost use Rattle.std.specs.Prelude.{◌≡◌, ℕ};
 ghost use Rattle.acpi_base.specs.Laws.{WritesJoin, NothingChangesNothing, FrontsAreSummed, WholeObjectsAreSummed, DeleteRestores};
 ghost use Rattle.acpi_base.specs.Laws.{ValueMakesZero, WordsAreBytes, TablesAreTrue, AddedIsTrue, OverwrittenSumsToZero};
-ghost use Rattle.acpi_base.specs.Laws.{AddedAtOnce};
+ghost use Rattle.acpi_base.specs.Laws.{AddedAtOnce, AddedEnds, SdtsAreTheirCalls};
 ghost use Rattle.acpi_base.specs.Walk.{OneWalk, OneListOfPieces};
 
 use crate::object::Aml;
@@ -69,6 +69,17 @@ pub fn overwritten_sums_to_zero()
 /// A table to which bytes are added in two parts is one to which they are added at once.
 pub fn added_at_once()
     ensures { AddedAtOnce }
+{}
+
+/// What is added ends what stands after the header.
+pub fn added_ends()
+    ensures { AddedEnds }
+{}
+
+/// After any list of calls, accepted or refused, an `Sdt` is what these make of it. Where all are additions, it is the first
+/// one with all that was added, at once.
+pub fn sdts_are_their_calls()
+    ensures { SdtsAreTheirCalls }
 {}
 
 /// At most one list of structures walks a table.

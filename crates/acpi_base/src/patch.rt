@@ -47,7 +47,7 @@ pub fn overwrite(bytes: &mut [u8], running: &mut Sum, offset: usize, with: &[u8]
     requires summed { running.old.value ≡ sum (put 9 (0 ∷ []) bytes.old) % 256 }
     ensures bytes { bytes.new ≡ with_checksum (put offset with.now bytes.old) }
     ensures sum { running.new.value ≡ sum (put 9 (0 ∷ []) bytes.new) % 256 }
-    ensures grows { running.old.summed ≤ running.new.summed }
+    ensures counted { running.new.summed ≡ running.old.summed + (2 * length with.now + 1) }
 {
     write_at(bytes, 9, &[0]);
     patch(bytes, running, offset, with);

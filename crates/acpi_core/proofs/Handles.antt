@@ -12,7 +12,7 @@ use Rattle.acpi_core.specs.Laws.{AdditionsAreLater, HandlesStand, HandlesDiffer}
 use Rattle.acpi_core.proofs.Offsets.{keeps, at_the_end}
 use Rattle.std.proofs.lemmas.List.Folds.{concat-append}
 
-same_is_later : (t : Listing) → IsLater t t
+pub same_is_later : (t : Listing) → IsLater t t
 same_is_later t = record { added = []; before = refl; width = refl; after = refl; structures = sym (append-nil t.structures) }
 
 one_is_later : {T : Type 0} (r : Result T Error) (old new : Counted) (o : Object) → Adds r old o new → IsLater old.table new.table

@@ -31,7 +31,7 @@ pub walk_on : (w : Walk) {T : Type 0} (r : Result T Error) (old new : Counted) (
 walk_on w (Ok u) old new o walk adds = rw adds.ok (walk_more w old.table o.front walk)
 walk_on w (Err e) old new o walk adds = rw adds.err walk
 
-accepted_end : (t : Listing) (end : Option Error) (n : ℕ) → refusal_of t end n ≡ None → end ≡ None
+pub accepted_end : (t : Listing) (end : Option Error) (n : ℕ) → refusal_of t end n ≡ None → end ≡ None
 accepted_end t None n h = refl
 accepted_end t (Some e) n h = absurd cc
 

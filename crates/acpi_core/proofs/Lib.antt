@@ -5,3 +5,4 @@ pub mod Kept
 pub mod Handles
 pub mod Parts
 pub mod Structures
+pub mod Calls

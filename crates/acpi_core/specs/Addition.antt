@@ -1,5 +1,5 @@
 -- What adding a structure makes of a table.
-use Rattle.std.specs.Prelude.{◌≡◌, ◌≢◌, ℕ, ◌+◌, ◌≤◌, Bool, length, if◌then◌else◌, Option, Some, None, Result, OnOk, OnErr, IfOk}
+use Rattle.std.specs.Prelude.{◌≡◌, ◌≢◌, ℕ, ◌+◌, ◌*◌, Bool, length, if◌then◌else◌, Option, Some, None, Result, OnOk, OnErr, IfOk}
 use Rattle.std.specs.Prelude.{IfErr}
 use Rattle.acpi_base.specs.declared.error.Error.{Error}
 use Rattle.acpi_base.specs.declared.error.Error.TheVariants.{Memory, FieldWidth}
@@ -21,15 +21,18 @@ abbrev pub refusal_of : Listing → Option Error → ℕ → Option Error
 refusal_of t (Some e) n = Some e
 refusal_of t None n = if has_room t n then None else Some FieldWidth
 
--- One structure more, or the table as it was. Beside the structure's bytes at most 16 are summed: the length that was
--- told and the new one, and so for the number of structures.
+-- How many bytes are summed where a structure is added: its own, the four of the old length and of the new one, and the
+-- bytes of the old number of structures and of the new one.
+abbrev pub addition_cost : Listing → ℕ → ℕ
+addition_cost t n = n + (8 + 2 * t.count_width)
+
+-- One structure more, or the table as it was.
 pub record Adds {T : Type 0} (result : Result T Error) (old : Counted) (structure : Object) (new : Counted) : Type 0 where
   pub ok : OnOk result (new.table ≡ with_structure old.table structure.front)
   pub accepted : OnOk result (refusal_of old.table structure.end (length structure.front) ≡ None)
   pub err : OnErr result (new ≡ old)
   pub cause : IfErr result (λ e. e ≢ Memory → refusal_of old.table structure.end (length structure.front) ≡ Some e)
-  pub cost : new.summed ≤ old.summed + length structure.front + 16
-  pub grows : old.summed ≤ new.summed
+  pub cost : OnOk result (new.summed ≡ old.summed + addition_cost old.table (length structure.front))
 
 -- The same, and the answer is where the structure begins.
 pub record AddsAt (result : Result ℕ Error) (old : Counted) (structure : Object) (new : Counted) : Type 0 where

@@ -5,4 +5,5 @@ pub mod Structure
 pub mod Offset
 pub mod Walk
 pub mod Laws
+pub mod Calls
 pub mod Entries

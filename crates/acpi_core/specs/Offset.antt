@@ -1,5 +1,5 @@
 -- Where structures stand in a table.
-use Rattle.std.specs.Prelude.{◌≡◌, ℕ, ◌+◌, ◌<◌, List, [], ◌++◌, length, take, slice_index_or}
+use Rattle.std.specs.Prelude.{◌≡◌, ℕ, ◌+◌, ◌<◌, List, [], ◌++◌, length, take, drop, slice_index_or}
 use Rattle.std.specs.List.{concat}
 use Rattle.acpi_core.specs.Listing.{Listing, start_of}
 
@@ -30,3 +30,7 @@ pub record StandsAt (t : Listing) (at : ℕ) (structure : List ℕ) : Type 0 whe
   pub in_table : index < length t.structures
   pub offset : offset_of t index ≡ at
   pub is : structure_at t index ≡ structure
+
+-- bytes stand at an offset of others
+abbrev pub StandIn : List ℕ → ℕ → List ℕ → Type 0
+StandIn bytes at part = take (length part) (drop at bytes) ≡ part

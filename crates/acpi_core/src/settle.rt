@@ -54,8 +54,7 @@ fn patch_count(fixed: &mut [u8], running: &mut Sum, at: usize, width: usize, cou
     ensures bytes { fixed.new ≡ put at (le width count) fixed.old }
     ensures sum { (running.new.value + sum fixed.old) % 256 ≡ (running.old.value + sum fixed.new) % 256 }
     ensures range { running.new.value < 256 }
-    ensures cost { running.new.summed ≤ running.old.summed + 8 }
-    ensures grows { running.old.summed ≤ running.new.summed }
+    ensures counted { running.new.summed ≡ running.old.summed + 2 * width }
 {
     match width {
         0 => {}
@@ -80,8 +79,7 @@ pub(crate) fn settle(
     requires count { (count_width ≡ 0) ⊎ (count < 2 ^ (8 * count_width)) }
     ensures settles { Settles fixed.old running.old.value count_at count_width size count structure.now fixed.new
         running.new.value }
-    ensures cost { running.new.summed ≤ running.old.summed + length structure.now + 16 }
-    ensures grows { running.old.summed ≤ running.new.summed }
+    ensures counted { running.new.summed ≡ running.old.summed + (length structure.now + (8 + 2 * count_width)) }
 {
     write_at(fixed, 9, &[0]);
     patch(fixed, running, 4, &size.to_le_bytes());

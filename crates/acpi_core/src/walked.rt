@@ -6,8 +6,9 @@ ghost use Rattle.acpi_base.specs.Object.{whole, whole_ends_well};
 ghost use Rattle.acpi_base.specs.Table.{IsTrueTable};
 ghost use Rattle.acpi_base.specs.Walk.{IsPiece, ArePieces};
 ghost use Rattle.acpi_core.specs.Addition.{Adds, AddsAt};
-ghost use Rattle.acpi_core.specs.Listing.{bytes_of};
-ghost use Rattle.acpi_core.specs.Walk.{IsWalkOf, IsWalked};
+ghost use Rattle.acpi_core.specs.Calls.{HoldsNodes, IsAfterItsCalls};
+ghost use Rattle.acpi_core.specs.Listing.{Listing, bytes_of};
+ghost use Rattle.acpi_core.specs.Walk.{IsWalkOf, IsWalked, Keeps};
 
 use crate::kind::Kind;
 use crate::table::Table;
@@ -101,9 +102,13 @@ impl<K: Kind, const N: usize> Walked<K, N> {
 /// A law: after any calls the table is a true one. Where each structure is as long as the walk takes it to be, which a closed
 /// kind keeps, they are, in order, the one list that walks it.
 pub fn is_walked<K: Kind, const N: usize>(table: &Walked<K, N>)
+    ensures keeps { Keeps K.walk K.limit K.closed table.now.table }
     ensures is_true { IsTrueTable (bytes_of table.now.table) }
     ensures closed { IsTrue K.closed → ArePieces K.walk.sizes table.now.table.structures }
     ensures walked { ArePieces K.walk.sizes table.now.table.structures → IsWalked K.walk table.now.table }
+    ensures calls { ArePieces K.walk.sizes table.now.table.structures → (first : Listing) → first.structures ≡ []
+        → IsAfterItsCalls K.walk first table.now }
+    ensures nodes { HoldsNodes table.now.table }
 {
     let _ = &table.table;
 }

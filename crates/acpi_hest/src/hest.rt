@@ -4,9 +4,11 @@ ghost use Rattle.std.specs.Prelude.{◌≡◌, false};
 ghost use Rattle.acpi_base.specs.Object.{whole, whole_ends_well};
 ghost use Rattle.acpi_base.specs.Table.{IsTrueTable};
 ghost use Rattle.acpi_base.specs.Walk.{hest_walk, ArePieces};
+ghost use Rattle.acpi_base.specs.declared.oem.Oem.{Oem};
 ghost use Rattle.acpi_core.specs.Addition.{Adds};
+ghost use Rattle.acpi_core.specs.Calls.{IsAfterItsCalls};
 ghost use Rattle.acpi_core.specs.Listing.{bytes_of, length_limit};
-ghost use Rattle.acpi_core.specs.Walk.{IsWalked};
+ghost use Rattle.acpi_core.specs.Walk.{IsWalked, Keeps};
 ghost use Rattle.acpi_hest.specs.Hest.{hest};
 ghost use Rattle.acpi_hest.specs.Laws.{AreSources};
 
@@ -92,7 +94,10 @@ impl HEST {
 /// list that walks it.
 pub fn hest_is_walked(table: &HEST)
     ensures is_true { IsTrueTable (bytes_of table.now.table.table) }
+    ensures keeps { Keeps hest_walk length_limit false table.now.table.table }
     ensures walked { ArePieces hest_walk.sizes table.now.table.table.structures → IsWalked hest_walk table.now.table.table }
+    ensures calls { ArePieces hest_walk.sizes table.now.table.table.structures → (oem : Oem)
+        → IsAfterItsCalls hest_walk (hest oem) table.now.table }
 {
     is_walked(&table.table)
 }

@@ -4,9 +4,11 @@ ghost use Rattle.std.specs.Prelude.{◌≡◌, ◌≢◌, length, true, false, I
 ghost use Rattle.acpi_base.specs.Fields.{AreRowsOf};
 ghost use Rattle.acpi_base.specs.Object.{whole, whole_ends_well};
 ghost use Rattle.acpi_base.specs.Walk.{rqsc_walk};
+ghost use Rattle.acpi_base.specs.declared.oem.Oem.{Oem};
 ghost use Rattle.acpi_core.specs.Addition.{Adds};
+ghost use Rattle.acpi_core.specs.Calls.{IsAfterItsCalls};
 ghost use Rattle.acpi_core.specs.Listing.{bytes_of, length_limit};
-ghost use Rattle.acpi_core.specs.Walk.{IsWalked};
+ghost use Rattle.acpi_core.specs.Walk.{IsWalked, Keeps};
 ghost use Rattle.acpi_hest.specs.Rqsc.{rqsc, Controller, controller, controller_head_fields, controller_head};
 ghost use Rattle.acpi_hest.specs.Rqsc.{controller_bytes, with_resource, has_room_for};
 
@@ -81,7 +83,9 @@ impl RQSC {
 
 /// A law: after any calls the table is a true one, and its controllers, in order, are the one list that walks it.
 pub fn rqsc_is_walked(table: &RQSC)
-    ensures { IsWalked rqsc_walk table.now.table.table }
+    ensures keeps { Keeps rqsc_walk length_limit true table.now.table.table }
+    ensures walked { IsWalked rqsc_walk table.now.table.table }
+    ensures calls { (oem : Oem) → IsAfterItsCalls rqsc_walk (rqsc oem) table.now.table }
 {
     is_walked(&table.table)
 }

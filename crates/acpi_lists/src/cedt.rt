@@ -5,9 +5,11 @@ ghost use Rattle.acpi_base.specs.Bytes.{le};
 ghost use Rattle.acpi_base.specs.Fields.{AreRowsOf};
 ghost use Rattle.acpi_base.specs.Object.{whole, whole_ends_well};
 ghost use Rattle.acpi_base.specs.Walk.{cedt_walk};
+ghost use Rattle.acpi_base.specs.declared.oem.Oem.{Oem};
 ghost use Rattle.acpi_core.specs.Addition.{Adds};
+ghost use Rattle.acpi_core.specs.Calls.{IsAfterItsCalls};
 ghost use Rattle.acpi_core.specs.Listing.{bytes_of, length_limit};
-ghost use Rattle.acpi_core.specs.Walk.{IsWalked};
+ghost use Rattle.acpi_core.specs.Walk.{IsWalked, Keeps};
 ghost use Rattle.acpi_lists.specs.Cedt.{cedt, registers_of, host_bridge, host_bridge_bytes, ways_count, host_bridge_fields};
 ghost use Rattle.acpi_lists.specs.Cedt.{Window, window, window_head_fields, window_head, window_object, window_ends_well};
 ghost use Rattle.acpi_lists.specs.Cedt.{XorMaps, no_maps, maps_head_fields, maps_head, maps_bytes};
@@ -98,7 +100,9 @@ impl CEDT {
 
 /// A law: after any calls the table is a true one, and its structures, in order, are the one list that walks it.
 pub fn cedt_is_walked(table: &CEDT)
-    ensures { IsWalked cedt_walk table.now.table.table }
+    ensures keeps { Keeps cedt_walk length_limit true table.now.table.table }
+    ensures walked { IsWalked cedt_walk table.now.table.table }
+    ensures calls { (oem : Oem) → IsAfterItsCalls cedt_walk (cedt oem) table.now.table }
 {
     is_walked(&table.table)
 }

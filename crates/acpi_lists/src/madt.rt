@@ -5,9 +5,11 @@ ghost use Rattle.acpi_base.specs.Fields.{AreRowsOf};
 ghost use Rattle.acpi_base.specs.Object.{whole, whole_ends_well};
 ghost use Rattle.acpi_base.specs.Table.{IsTrueTable};
 ghost use Rattle.acpi_base.specs.Walk.{madt_walk, ArePieces};
+ghost use Rattle.acpi_base.specs.declared.oem.Oem.{Oem};
 ghost use Rattle.acpi_core.specs.Addition.{Adds};
+ghost use Rattle.acpi_core.specs.Calls.{IsAfterItsCalls};
 ghost use Rattle.acpi_core.specs.Listing.{bytes_of, length_limit};
-ghost use Rattle.acpi_core.specs.Walk.{IsWalked};
+ghost use Rattle.acpi_core.specs.Walk.{IsWalked, Keeps};
 ghost use Rattle.acpi_lists.specs.Madt.{controller_address, madt_fields, madt, AddsImsic, StructuresTellTheirLength};
 ghost use Rattle.acpi_lists.specs.MadtRiscv.{imsic_bytes};
 ghost use Rattle.acpi_lists.specs.declared.madt.LocalInterruptController.{LocalInterruptController};
@@ -147,7 +149,10 @@ pub fn madt_rows() -> &'static [Row]
 /// the one list that walks it.
 pub fn madt_is_walked(table: &MADT)
     ensures is_true { IsTrueTable (bytes_of table.now.table.table) }
+    ensures keeps { Keeps madt_walk length_limit false table.now.table.table }
     ensures walked { ArePieces madt_walk.sizes table.now.table.table.structures → IsWalked madt_walk table.now.table.table }
+    ensures calls { ArePieces madt_walk.sizes table.now.table.table.structures → (oem : Oem) (controller : LocalInterruptController)
+        → IsAfterItsCalls madt_walk (madt oem controller) table.now.table }
 {
     is_walked(&table.table)
 }

@@ -3,9 +3,11 @@
 ghost use Rattle.std.specs.Prelude.{◌≡◌, true};
 ghost use Rattle.acpi_base.specs.Object.{whole, whole_ends_well};
 ghost use Rattle.acpi_base.specs.Walk.{mcfg_walk};
+ghost use Rattle.acpi_base.specs.declared.oem.Oem.{Oem};
 ghost use Rattle.acpi_core.specs.Addition.{Adds};
+ghost use Rattle.acpi_core.specs.Calls.{IsAfterItsCalls};
 ghost use Rattle.acpi_core.specs.Listing.{bytes_of, length_limit};
-ghost use Rattle.acpi_core.specs.Walk.{IsWalked};
+ghost use Rattle.acpi_core.specs.Walk.{IsWalked, Keeps};
 ghost use Rattle.acpi_lists.specs.Mcfg.{mcfg, ecam_bytes, ecam_fields};
 
 use acpi_base::error::R;
@@ -75,7 +77,9 @@ impl MCFG {
 
 /// A law: after any calls the table is a true one, and its entries, in order, are the one list that walks it.
 pub fn mcfg_is_walked(table: &MCFG)
-    ensures { IsWalked mcfg_walk table.now.table.table }
+    ensures keeps { Keeps mcfg_walk length_limit true table.now.table.table }
+    ensures walked { IsWalked mcfg_walk table.now.table.table }
+    ensures calls { (oem : Oem) → IsAfterItsCalls mcfg_walk (mcfg oem) table.now.table }
 {
     is_walked(&table.table)
 }

@@ -4,9 +4,11 @@ ghost use Rattle.std.specs.Prelude.{◌≡◌, ◌<◌, ℕ, List, true, false, 
 ghost use Rattle.acpi_base.specs.Fields.{AreRowsOf};
 ghost use Rattle.acpi_base.specs.Object.{Built, whole, whole_ends_well};
 ghost use Rattle.acpi_base.specs.Walk.{srat_walk};
+ghost use Rattle.acpi_base.specs.declared.oem.Oem.{Oem};
 ghost use Rattle.acpi_core.specs.Addition.{Adds};
+ghost use Rattle.acpi_core.specs.Calls.{IsAfterItsCalls};
 ghost use Rattle.acpi_core.specs.Listing.{bytes_of, length_limit};
-ghost use Rattle.acpi_core.specs.Walk.{IsWalked};
+ghost use Rattle.acpi_core.specs.Walk.{IsWalked, Keeps};
 ghost use Rattle.acpi_lists.specs.Srat.{srat, memory_affinity, memory_affinity_bytes, memory_affinity_fields};
 ghost use Rattle.acpi_lists.specs.Srat.{acpi_handle_fields, pci_handle_fields, handle_bytes, handle_object, handle_ends_well};
 ghost use Rattle.acpi_lists.specs.Srat.{handle_type, is_address};
@@ -90,7 +92,9 @@ impl SRAT {
 
 /// A law: after any calls the table is a true one, and its structures, in order, are the one list that walks it.
 pub fn srat_is_walked(table: &SRAT)
-    ensures { IsWalked srat_walk table.now.table.table }
+    ensures keeps { Keeps srat_walk length_limit true table.now.table.table }
+    ensures walked { IsWalked srat_walk table.now.table.table }
+    ensures calls { (oem : Oem) → IsAfterItsCalls srat_walk (srat oem) table.now.table }
 {
     is_walked(&table.table)
 }

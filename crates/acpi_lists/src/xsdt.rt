@@ -4,8 +4,10 @@ ghost use Rattle.std.specs.Prelude.{◌≡◌, true};
 ghost use Rattle.acpi_base.specs.Bytes.{le};
 ghost use Rattle.acpi_base.specs.Object.{whole, whole_ends_well};
 ghost use Rattle.acpi_base.specs.Walk.{xsdt_walk};
+ghost use Rattle.acpi_base.specs.declared.oem.Oem.{Oem};
+ghost use Rattle.acpi_core.specs.Calls.{IsAfterItsCalls};
 ghost use Rattle.acpi_core.specs.Listing.{bytes_of, length_limit};
-ghost use Rattle.acpi_core.specs.Walk.{IsWalked};
+ghost use Rattle.acpi_core.specs.Walk.{IsWalked, Keeps};
 ghost use Rattle.acpi_core.specs.Addition.{Adds};
 ghost use Rattle.acpi_lists.specs.Xsdt.{xsdt, entry_fields};
 
@@ -69,7 +71,9 @@ impl XSDT {
 
 /// A law: after any calls the table is a true one, and its entries, in order, are the one list that walks it.
 pub fn xsdt_is_walked(table: &XSDT)
-    ensures { IsWalked xsdt_walk table.now.table.table }
+    ensures keeps { Keeps xsdt_walk length_limit true table.now.table.table }
+    ensures walked { IsWalked xsdt_walk table.now.table.table }
+    ensures calls { (oem : Oem) → IsAfterItsCalls xsdt_walk (xsdt oem) table.now.table }
 {
     is_walked(&table.table)
 }

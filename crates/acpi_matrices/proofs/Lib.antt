@@ -2,3 +2,5 @@ pub mod Fields
 pub mod Pieces
 pub mod Cells
 pub mod Distances
+pub mod DistanceCalls
+pub mod CellBytes

@@ -155,6 +155,14 @@ CellsAreSet =
     × (value_at (with_value l cell value) cell ≡ value)
     × ((other ≡ cell → ⊥) → value_at (with_value l cell value) other ≡ value_at l other)
 
+-- In the structure's bytes the initiators' domains stand from 32 on, the targets' after them, and then the entries, row by
+-- initiator.
+pub record CellsStand (l : Locality) : Type 0 where
+  pub initiators : (i : ℕ) → field_at (32 + 4 * i) 4 (locality_bytes l) ≡ value_at l (initiator_at i)
+  pub targets : (t : ℕ) → field_at (32 + 4 * l.initiators + 4 * t) 4 (locality_bytes l) ≡ value_at l (target_at t)
+  pub entries : (i t : ℕ) → field_at (32 + 4 * l.initiators + 4 * l.targets + 2 * (i * l.targets + t)) 2 (locality_bytes l)
+      ≡ value_at l (entry_at i t)
+
 -- what a cell of a new matrix holds
 abbrev pub first_value : Cell → ℕ
 first_value (initiator_at i) = 0

@@ -1,6 +1,6 @@
 -- The System Locality Information Table (ACPI 6.5, 5.2.17).
 use Rattle.std.specs.Prelude.{◌≡◌, ℕ, ◌+◌, ◌-◌, ◌*◌, ◌%◌, ◌<◌, nat_lt, ◌&&◌, ◌==◌, if◌then◌else◌, ◌∷◌, ◌++◌}
-use Rattle.std.specs.Prelude.{Bool, true, false, List, [], codes, length, take, drop, sum, replicate, Result, OnOk, OnErr, IfErr}
+use Rattle.std.specs.Prelude.{Bool, true, false, List, [], codes, length, take, drop, sum, replicate, Result, Ok, Err, OnOk, OnErr, IfErr}
 use Rattle.acpi_base.specs.declared.error.Error.{Error}
 use Rattle.acpi_base.specs.declared.error.Error.TheVariants.{Index}
 use Rattle.acpi_base.specs.declared.oem.Oem.{Oem}
@@ -93,6 +93,39 @@ DistancesAreSet =
     × (distance (with_distance t a b value) b a ≡ value)
     × ((c d : ℕ) → has_cell t c d ≡ true → ((c ≡ a) × (d ≡ b) → ⊥) → ((c ≡ b) × (d ≡ a) → ⊥)
     → distance (with_distance t a b value) c d ≡ distance t c d)
+
+-- ---- any list of calls
+
+-- a call of `set_distance`: two localities, their distance, the result, and the table after it
+pub data DistanceCall : Type 0 where
+  sets : ℕ → ℕ → ℕ → Result Unit Error → Counted → DistanceCall
+
+-- the calls were made one after another, each of the table that the one before left
+abbrev pub AreDistanceCalls : Counted → List DistanceCall → Type 0
+AreDistanceCalls t [] = Unit {0}
+AreDistanceCalls t (sets a b value r next ∷ calls) = SetsDistance r t a b value next × AreDistanceCalls next calls
+
+-- the table after the last call
+abbrev pub slit_after : Counted → List DistanceCall → Counted
+slit_after t [] = t
+slit_after t (sets a b value r next ∷ calls) = slit_after next calls
+
+-- with the distances that were accepted, one after another
+abbrev pub all_set : Distances → List DistanceCall → Distances
+all_set t [] = t
+all_set t (sets a b value (Ok done) next ∷ calls) = all_set (with_distance t a b value) calls
+all_set t (sets a b value (Err e) next ∷ calls) = all_set t calls
+
+-- After the calls the table is the first one with the accepted distances, in order, and as many localities.
+pub record IsSlitAfter (start : Counted) (calls : List DistanceCall) : Type 0 where
+  pub table : (slit_after start calls).table ≡ all_set start.table calls
+  pub localities : (slit_after start calls).table.localities ≡ start.table.localities
+  pub matrix : IsMatrix start.table → IsMatrix (slit_after start calls).table
+
+abbrev pub SlitsAreTheirCalls : Type 0
+SlitsAreTheirCalls = (start : Counted) (calls : List DistanceCall) → AreDistanceCalls start calls → IsSlitAfter start calls
+
+-- ---- in a table's bytes
 
 -- In a table's bytes the distances stand from 44 on, and two localities have one either way.
 pub record IsSymmetric (t : Distances) : Type 0 where

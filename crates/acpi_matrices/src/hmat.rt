@@ -3,9 +3,11 @@
 ghost use Rattle.std.specs.Prelude.{◌≡◌, true};
 ghost use Rattle.acpi_base.specs.Object.{whole, whole_ends_well};
 ghost use Rattle.acpi_base.specs.Walk.{hmat_walk};
+ghost use Rattle.acpi_base.specs.declared.oem.Oem.{Oem};
 ghost use Rattle.acpi_core.specs.Addition.{Adds};
+ghost use Rattle.acpi_core.specs.Calls.{IsAfterItsCalls};
 ghost use Rattle.acpi_core.specs.Listing.{bytes_of, length_limit};
-ghost use Rattle.acpi_core.specs.Walk.{IsWalked};
+ghost use Rattle.acpi_core.specs.Walk.{IsWalked, Keeps};
 ghost use Rattle.acpi_matrices.specs.Hmat.{hmat, proximity_bytes};
 ghost use Rattle.acpi_matrices.specs.Locality.{locality_bytes, CellsAreSet, NewCellsAreUnreachable};
 ghost use Rattle.acpi_matrices.specs.Cache.{cache_bytes};
@@ -24,7 +26,7 @@ use acpi_core::kind::Kind;
 use acpi_core::table::Table;
 use acpi_core::walked::{Walked, is_walked};
 pub use cache::{Associativity, CacheLevel, MemorySideCache, WritePolicy};
-pub use locality::{DataType, LocalityType, MinTransferSize, SystemLocality};
+pub use locality::{DataType, LocalityType, MinTransferSize, SystemLocality, cells_stand};
 use std::alloc::Global;
 
 /// The Heterogeneous Memory Attribute Table (ACPI 6.5, 5.2.28): structures that contain their length at offset 4, from offset 40
@@ -91,7 +93,9 @@ impl HMAT {
 
 /// A law: after any calls the table is a true one, and its structures, in order, are the one list that walks it.
 pub fn hmat_is_walked(table: &HMAT)
-    ensures { IsWalked hmat_walk table.now.table.table }
+    ensures keeps { Keeps hmat_walk length_limit true table.now.table.table }
+    ensures walked { IsWalked hmat_walk table.now.table.table }
+    ensures calls { (oem : Oem) → IsAfterItsCalls hmat_walk (hmat oem) table.now.table }
 {
     is_walked(&table.table)
 }

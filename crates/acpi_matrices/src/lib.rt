@@ -6,6 +6,9 @@ pub mod slit;
 
 /// Laws of the tables. Each function is a law: it does nothing, and ensures it.
 pub mod laws {
-    pub use crate::hmat::{cells_are_set, hmat_is_walked, new_cells_are_unreachable};
-    pub use crate::slit::{distances_are_set, distances_are_true, slit_is_symmetric, slit_is_true};
+    pub use crate::hmat::{cells_are_set, cells_stand, hmat_is_walked, new_cells_are_unreachable};
+    pub use crate::slit::{
+        distances_are_set, distances_are_true, slit_is_symmetric, slit_is_true,
+        slits_are_their_calls,
+    };
 }

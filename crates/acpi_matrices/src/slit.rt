@@ -9,6 +9,7 @@ ghost use Rattle.acpi_base.specs.Table.{IsTrueTable};
 ghost use Rattle.acpi_base.specs.Walk.{ArePiecesOf};
 ghost use Rattle.acpi_matrices.specs.Slit.{slit, slit_fields, slit_bytes, place_of, cost_of};
 ghost use Rattle.acpi_matrices.specs.Slit.{SetsDistance, DistancesAreTrue, DistancesAreSet, IsSymmetric};
+ghost use Rattle.acpi_matrices.specs.Slit.{IsMatrix, SlitsAreTheirCalls};
 
 use acpi_base::error::{Error, R};
 use acpi_base::header::{header, seal};
@@ -171,10 +172,16 @@ pub fn slit_is_true(table: &SLIT)
 
 /// A law: after any calls the distances stand in the table's bytes from 44 on, and two localities have one either way.
 pub fn slit_is_symmetric(table: &SLIT)
-    ensures { IsSymmetric table.now.table }
+    ensures symmetric { IsSymmetric table.now.table }
+    ensures matrix { IsMatrix table.now.table }
 {
     let _ = &table.cells;
 }
+
+/// A law: after any list of calls, accepted or refused, a SLIT is the first one with the accepted distances.
+pub fn slits_are_their_calls()
+    ensures { SlitsAreTheirCalls }
+{}
 
 /// A law: the bytes of a symmetric matrix of at most 65,535 localities are a true table's: 44, and one for each distance.
 pub fn distances_are_true()

@@ -1,9 +1,12 @@
 -- The Processor Properties Topology Table (ACPI 6.5, 5.2.30).
-use Rattle.std.specs.Prelude.{◌≡◌, ℕ, ◌+◌, List, [], ◌∷◌, ◌++◌, length, codes}
+use Rattle.std.specs.Prelude.{◌≡◌, ℕ, ◌+◌, ◌^◌, ◌<◌, List, [], ◌∷◌, ◌++◌, length, codes}
 use Rattle.acpi_base.specs.Bytes.{field_at}
 use Rattle.acpi_base.specs.Fields.{NamedField, byte, word, dword, reserved, fields_joined}
 use Rattle.acpi_base.specs.declared.oem.Oem.{Oem}
+use Rattle.acpi_base.specs.Object.{whole}
+use Rattle.acpi_core.specs.Calls.{NodeStands}
 use Rattle.acpi_core.specs.Listing.{Listing, length_limit}
+use Rattle.acpi_core.specs.Offset.{StandIn}
 use Rattle.acpi_nodes.specs.declared.pptt.AllocationType.{AllocationType}
 use Rattle.acpi_nodes.specs.declared.pptt.AllocationType.TheVariants.{Read, Write, Both}
 use Rattle.acpi_nodes.specs.declared.pptt.CacheType.{CacheType}
@@ -13,7 +16,7 @@ use Rattle.acpi_nodes.specs.declared.pptt.WritePolicy.TheVariants.{Writeback, Wr
 use Rattle.acpi_nodes.specs.declared.pptt.ProcessorNode.{ProcessorNode}
 use Rattle.acpi_nodes.specs.declared.pptt.CacheNode.{CacheNode}
 use Rattle.acpi_nodes.specs.declared.pptt.CacheNodeBuilder.{CacheNodeBuilder}
-use Rattle.acpi_nodes.specs.Resources.{no_resources}
+use Rattle.acpi_nodes.specs.Resources.{no_resources, with_resource}
 
 -- a table without nodes
 abbrev pub pptt : Oem → Listing
@@ -101,7 +104,20 @@ cache_fields c =
 abbrev pub cache_bytes : CacheNode → List ℕ
 cache_bytes c = fields_joined (cache_fields c)
 
--- Each node tells its kind at its offset, whatever its fields hold.
+-- Each node begins with its type, whatever its fields hold.
 pub record NodesTellKinds : Type 0 where
-  pub processors : (p : ProcessorNode) → field_at 0 1 (processor_bytes p) ≡ 0
-  pub caches : (c : CacheNode) → field_at 0 1 (cache_bytes c) ≡ 1
+  pub processors : (p : ProcessorNode) → StandIn (processor_bytes p) 0 (0 ∷ [])
+  pub caches : (c : CacheNode) → StandIn (cache_bytes c) 0 (1 ∷ [])
+
+-- At the offset that an adder returned, the node stands in the bytes of a table after any later calls, and its type with it.
+pub record NodesStand (t : Listing) : Type 0 where
+  pub processors : (p : ProcessorNode) → NodeStands t (whole (processor_bytes p)) (0 ∷ [])
+  pub caches : (c : CacheNode) → NodeStands t (whole (cache_bytes c)) (1 ∷ [])
+
+-- Each reference to another node is read back from the node's bytes.
+pub record ReferencesAreRead : Type 0 where
+  pub parents : (p : ProcessorNode) → p.parent < 2 ^ 32 → field_at 8 4 (processor_bytes p) ≡ p.parent
+  pub next_levels : (c : CacheNode) → c.next_level < 2 ^ 32 → field_at 8 4 (cache_bytes c) ≡ c.next_level
+  pub resources : (p : ProcessorNode) (offset : ℕ) → offset < 2 ^ 32
+      → field_at (20 + length p.resources.bytes) 4 (processor_bytes (record p { resources = with_resource p.resources offset }))
+      ≡ offset

@@ -1,13 +1,15 @@
 -- The RISC-V Hart Capabilities Table (RISC-V profile).
-use Rattle.std.specs.Prelude.{◌≡◌, ◌≢◌, ℕ, ◌+◌, ◌%◌, nat_lt, Bool, List, [], ◌∷◌, ◌++◌, length, codes, Some}
+use Rattle.std.specs.Prelude.{◌≡◌, ◌≢◌, ℕ, ◌+◌, ◌%◌, ◌^◌, ◌<◌, nat_lt, Bool, List, [], ◌∷◌, ◌++◌, length, codes, Some}
 use Rattle.acpi_base.specs.declared.error.Error.TheVariants.{Memory, FieldWidth}
 use Rattle.acpi_base.specs.Bytes.{le, field_at}
 use Rattle.acpi_base.specs.Fields.{NamedField, byte, word, dword, qword, reserved, fields_joined}
 use Rattle.acpi_base.specs.Layout.{zeros}
 use Rattle.acpi_base.specs.Object.{Object, whole, provided, provided_ends_well}
 use Rattle.acpi_base.specs.declared.oem.Oem.{Oem}
+use Rattle.acpi_core.specs.Calls.{NodeStands}
 use Rattle.acpi_core.specs.Listing.{Listing, length_limit}
-use Rattle.acpi_nodes.specs.Hart.{hart_info_bytes}
+use Rattle.acpi_core.specs.Offset.{StandIn}
+use Rattle.acpi_nodes.specs.Hart.{hart_info, with_offset, hart_info_bytes}
 use Rattle.acpi_nodes.specs.declared.rhct.CmoNode.{CmoNode}
 use Rattle.acpi_nodes.specs.declared.rhct.HartInfoNode.{HartInfoNode}
 use Rattle.acpi_nodes.specs.declared.rhct.MmuNode.{MmuNode}
@@ -107,9 +109,20 @@ mmu_fields m =
 abbrev pub mmu_bytes : MmuNode → List ℕ
 mmu_bytes m = fields_joined (mmu_fields m)
 
--- Each node tells its kind at its offset, whatever its fields hold.
+-- Each node begins with its type, of two bytes, whatever its fields hold.
 pub record NodesTellKinds : Type 0 where
-  pub isa_strings : (text : List ℕ) → field_at 0 2 (isa_string_bytes text) ≡ 0
-  pub cmos : (c : CmoNode) → field_at 0 2 (cmo_bytes c) ≡ 1
-  pub mmus : (m : MmuNode) → field_at 0 2 (mmu_bytes m) ≡ 2
-  pub harts : (h : HartInfoNode) → field_at 0 2 (hart_info_bytes h) ≡ 65535
+  pub isa_strings : (text : List ℕ) → StandIn (isa_string_bytes text) 0 (0 ∷ 0 ∷ [])
+  pub cmos : (c : CmoNode) → StandIn (cmo_bytes c) 0 (1 ∷ 0 ∷ [])
+  pub mmus : (m : MmuNode) → StandIn (mmu_bytes m) 0 (2 ∷ 0 ∷ [])
+  pub harts : (h : HartInfoNode) → StandIn (hart_info_bytes h) 0 (255 ∷ 255 ∷ [])
+
+-- At the offset that an adder returned, the node stands in the bytes of a table after any later calls, and its type with it.
+pub record NodesStand (t : Listing) : Type 0 where
+  pub isa_strings : (text : List ℕ) → NodeStands t (isa_string_object text) (0 ∷ 0 ∷ [])
+  pub cmos : (c : CmoNode) → NodeStands t (whole (cmo_bytes c)) (1 ∷ 0 ∷ [])
+
+-- Each reference to another node is read back from the node's bytes.
+pub record ReferencesAreRead : Type 0 where
+  pub isa_strings : (uid offset : ℕ) → offset < 2 ^ 32 → field_at 12 4 (hart_info_bytes (hart_info uid offset)) ≡ offset
+  pub others : (h : HartInfoNode) (offset : ℕ) → offset < 2 ^ 32
+      → field_at (12 + length h.offsets.bytes) 4 (hart_info_bytes (with_offset h offset)) ≡ offset

@@ -1,12 +1,15 @@
 -- The RISC-V I/O Mapping Table (this project's profile).
-use Rattle.std.specs.Prelude.{◌≡◌, ℕ, ◌+◌, ◌*◌, Bool, if◌then◌else◌, List, [], ◌∷◌, ◌++◌, length, codes}
+use Rattle.std.specs.Prelude.{◌≡◌, ℕ, ◌+◌, ◌*◌, ◌^◌, ◌<◌, Bool, if◌then◌else◌, List, [], ◌∷◌, ◌++◌, length, codes}
 use Rattle.std.specs.Prelude.{String, string_bytes, Vec, unwrap_or, is_some, Option, Some, None}
 use Rattle.std.specs.declared.alloc.Global.{Global}
 use Rattle.acpi_base.specs.Bytes.{le, field_at}
 use Rattle.acpi_base.specs.Fields.{NamedField, byte, word, dword, qword, reserved, fields_joined}
 use Rattle.acpi_base.specs.Layout.{zeros}
 use Rattle.acpi_base.specs.declared.oem.Oem.{Oem}
+use Rattle.acpi_core.specs.Calls.{NodeStands}
 use Rattle.acpi_core.specs.Listing.{Listing, length_limit}
+use Rattle.acpi_core.specs.Offset.{StandIn}
+use Rattle.acpi_core.specs.Structure.{structure_of}
 use Rattle.acpi_nodes.specs.declared.pci.PciDevice.{PciDevice}
 use Rattle.acpi_nodes.specs.declared.rimt.InterruptWire.{InterruptWire}
 use Rattle.acpi_nodes.specs.declared.rimt.Iommu.{Iommu}
@@ -163,8 +166,16 @@ platform_head p = fields_joined (platform_head_fields p)
 abbrev pub platform_bytes : Platform → List ℕ
 platform_bytes p = platform_head p ++ (string_bytes p.name ++ (0 ∷ records_joined mapping_fields (entries_of p.mappings)))
 
--- Each device tells its kind at its offset, whatever its fields hold.
+-- Each device begins with its type, whatever its fields hold.
 pub record DevicesTellKinds : Type 0 where
-  pub iommus : (i : Iommu) → field_at 0 1 (iommu_bytes i) ≡ 0
-  pub root_complexes : (c : PcieRootComplex) → field_at 0 1 (root_complex_bytes c) ≡ 1
-  pub platforms : (p : Platform) → field_at 0 1 (platform_bytes p) ≡ 2
+  pub iommus : (i : Iommu) → StandIn (iommu_bytes i) 0 (0 ∷ [])
+  pub root_complexes : (c : PcieRootComplex) → StandIn (root_complex_bytes c) 0 (1 ∷ [])
+  pub platforms : (p : Platform) → StandIn (platform_bytes p) 0 (2 ∷ [])
+
+-- At the offset that `add_iommu` returned, the device stands in the bytes of a table after any later calls, and its type with it.
+pub record DevicesStand (t : Listing) : Type 0 where
+  pub iommus : (i : Iommu) → NodeStands t (structure_of (iommu_bytes i)) (0 ∷ [])
+
+-- Each reference to another node is read back from the node's bytes.
+pub record ReferencesAreRead : Type 0 where
+  pub mappings : (m : IdMapping) → m.iommu < 2 ^ 32 → field_at 12 4 (mapping_bytes m) ≡ m.iommu

@@ -1,10 +1,13 @@
 -- The Virtual I/O Translation Table (ACPI 6.5, 5.2.32).
-use Rattle.std.specs.Prelude.{◌≡◌, ℕ, List, [], ◌∷◌, ◌++◌, codes}
+use Rattle.std.specs.Prelude.{◌≡◌, ℕ, ◌^◌, ◌<◌, List, [], ◌∷◌, ◌++◌, codes}
 use Rattle.acpi_base.specs.Bytes.{le, field_at}
 use Rattle.acpi_base.specs.Fields.{NamedField, byte, word, dword, qword, reserved, fields_joined}
 use Rattle.acpi_base.specs.Layout.{zeros}
 use Rattle.acpi_base.specs.declared.oem.Oem.{Oem}
+use Rattle.acpi_base.specs.Object.{whole}
+use Rattle.acpi_core.specs.Calls.{NodeStands}
 use Rattle.acpi_core.specs.Listing.{Listing, field_limit}
+use Rattle.acpi_core.specs.Offset.{StandIn}
 use Rattle.acpi_nodes.specs.declared.pci.PciDevice.{PciDevice}
 use Rattle.acpi_nodes.specs.declared.viot.PciRange.{PciRange}
 use Rattle.acpi_nodes.specs.declared.viot.MmioEndpoint.{MmioEndpoint}
@@ -101,9 +104,19 @@ virtio_mmio_iommu_fields i =
 abbrev pub virtio_mmio_iommu_bytes : VirtIoMmioIommu → List ℕ
 virtio_mmio_iommu_bytes i = fields_joined (virtio_mmio_iommu_fields i)
 
--- Each node tells its kind at its offset, whatever its fields hold.
+-- Each node begins with its type, whatever its fields hold.
 pub record NodesTellKinds : Type 0 where
-  pub pci_ranges : (r : PciRange) → field_at 0 1 (pci_range_bytes r) ≡ 1
-  pub mmio_endpoints : (e : MmioEndpoint) → field_at 0 1 (mmio_endpoint_bytes e) ≡ 2
-  pub virtio_pci_iommus : (i : VirtIoPciIommu) → field_at 0 1 (virtio_pci_iommu_bytes i) ≡ 3
-  pub virtio_mmio_iommus : (i : VirtIoMmioIommu) → field_at 0 1 (virtio_mmio_iommu_bytes i) ≡ 4
+  pub pci_ranges : (r : PciRange) → StandIn (pci_range_bytes r) 0 (1 ∷ [])
+  pub mmio_endpoints : (e : MmioEndpoint) → StandIn (mmio_endpoint_bytes e) 0 (2 ∷ [])
+  pub virtio_pci_iommus : (i : VirtIoPciIommu) → StandIn (virtio_pci_iommu_bytes i) 0 (3 ∷ [])
+  pub virtio_mmio_iommus : (i : VirtIoMmioIommu) → StandIn (virtio_mmio_iommu_bytes i) 0 (4 ∷ [])
+
+-- At the offset that an adder returned, the node stands in the bytes of a table after any later calls, and its type with it.
+pub record NodesStand (t : Listing) : Type 0 where
+  pub virtio_pci_iommus : (i : VirtIoPciIommu) → NodeStands t (whole (virtio_pci_iommu_bytes i)) (3 ∷ [])
+  pub virtio_mmio_iommus : (i : VirtIoMmioIommu) → NodeStands t (whole (virtio_mmio_iommu_bytes i)) (4 ∷ [])
+
+-- Each reference to another node is read back from the node's bytes.
+pub record ReferencesAreRead : Type 0 where
+  pub pci_ranges : (r : PciRange) → r.output < 2 ^ 16 → field_at 16 2 (pci_range_bytes r) ≡ r.output
+  pub mmio_endpoints : (e : MmioEndpoint) → e.output < 2 ^ 16 → field_at 16 2 (mmio_endpoint_bytes e) ≡ e.output

@@ -11,8 +11,8 @@ pub mod viot;
 
 /// Laws of the tables. Each function is a law: it does nothing, and ensures it.
 pub mod laws {
-    pub use crate::pptt::{pptt_is_walked, pptt_nodes_tell_kinds};
-    pub use crate::rhct::{rhct_is_walked, rhct_nodes_tell_kinds};
-    pub use crate::rimt::{rimt_devices_tell_kinds, rimt_is_walked};
-    pub use crate::viot::{viot_is_walked, viot_nodes_tell_kinds};
+    pub use crate::pptt::{pptt_is_walked, pptt_nodes_tell_kinds, pptt_references_are_read};
+    pub use crate::rhct::{rhct_is_walked, rhct_nodes_tell_kinds, rhct_references_are_read};
+    pub use crate::rimt::{rimt_devices_tell_kinds, rimt_is_walked, rimt_references_are_read};
+    pub use crate::viot::{viot_is_walked, viot_nodes_tell_kinds, viot_references_are_read};
 }

@@ -4,12 +4,15 @@ ghost use Rattle.std.specs.Prelude.{◌≡◌, ◌≢◌, ◌<◌, true, bit_or,
 ghost use Rattle.acpi_base.specs.Fields.{AreRowsOf};
 ghost use Rattle.acpi_base.specs.Object.{whole, whole_ends_well};
 ghost use Rattle.acpi_base.specs.Walk.{pptt_walk};
+ghost use Rattle.acpi_base.specs.declared.oem.Oem.{Oem};
 ghost use Rattle.acpi_core.specs.Addition.{AddsAt};
+ghost use Rattle.acpi_core.specs.Calls.{IsAfterItsCalls};
 ghost use Rattle.acpi_core.specs.Listing.{bytes_of, length_limit};
-ghost use Rattle.acpi_core.specs.Walk.{IsWalked};
+ghost use Rattle.acpi_core.specs.Walk.{IsWalked, Keeps};
 ghost use Rattle.acpi_nodes.specs.Resources.{with_resource};
 ghost use Rattle.acpi_nodes.specs.Pptt.{pptt, processor, processor_head_fields, processor_head, processor_bytes};
-ghost use Rattle.acpi_nodes.specs.Pptt.{allocation_number, type_number, policy_number, cache_of, cache_bytes, NodesTellKinds};
+ghost use Rattle.acpi_nodes.specs.Pptt.{allocation_number, type_number, policy_number, cache_of, cache_bytes};
+ghost use Rattle.acpi_nodes.specs.Pptt.{NodesTellKinds, NodesStand, ReferencesAreRead};
 ghost use Rattle.acpi_nodes.specs.declared.pptt.ProcessorNode.{ProcessorNode};
 ghost use Rattle.acpi_nodes.specs.Pptt.{cache_fields};
 
@@ -83,14 +86,22 @@ impl PPTT {
 
 /// A law: after any calls the table is a true one, and its nodes, in order, are the one list that walks it.
 pub fn pptt_is_walked(table: &PPTT)
-    ensures { IsWalked pptt_walk table.now.table.table }
+    ensures keeps { Keeps pptt_walk length_limit true table.now.table.table }
+    ensures walked { IsWalked pptt_walk table.now.table.table }
+    ensures calls { (oem : Oem) → IsAfterItsCalls pptt_walk (pptt oem) table.now.table }
+    ensures nodes { NodesStand table.now.table.table }
 {
     is_walked(&table.table)
 }
 
-/// A law: each node contains its kind at its offset, for all values of its fields.
+/// A law: each node begins with its type, for all values of its fields.
 pub fn pptt_nodes_tell_kinds()
     ensures { NodesTellKinds }
+{}
+
+/// A law: each reference to another node is read back from the node's bytes.
+pub fn pptt_references_are_read()
+    ensures { ReferencesAreRead }
 {}
 
 /// Where a processor's node begins in its table.

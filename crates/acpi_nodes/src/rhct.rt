@@ -4,12 +4,15 @@ ghost use Rattle.std.specs.Prelude.{◌≡◌, ◌≢◌, ◌<◌, ℕ, true, On
 ghost use Rattle.acpi_base.specs.Fields.{AreRowsOf};
 ghost use Rattle.acpi_base.specs.Object.{whole, whole_ends_well};
 ghost use Rattle.acpi_base.specs.Walk.{rhct_walk};
+ghost use Rattle.acpi_base.specs.declared.oem.Oem.{Oem};
 ghost use Rattle.acpi_core.specs.Addition.{Adds, AddsAt};
+ghost use Rattle.acpi_core.specs.Calls.{IsAfterItsCalls};
 ghost use Rattle.acpi_core.specs.Listing.{bytes_of, length_limit};
-ghost use Rattle.acpi_core.specs.Walk.{IsWalked};
+ghost use Rattle.acpi_core.specs.Walk.{IsWalked, Keeps};
 ghost use Rattle.acpi_nodes.specs.Hart.{hart_info, with_offset, hart_info_head_fields, hart_info_head, hart_info_bytes};
 ghost use Rattle.acpi_nodes.specs.Rhct.{rhct, rhct_fields, isa_string_end, isa_string_head_fields, isa_string_head};
-ghost use Rattle.acpi_nodes.specs.Rhct.{isa_string_object, isa_string_ends_well, cmo, cmo_bytes, mmu, mmu_bytes, NodesTellKinds};
+ghost use Rattle.acpi_nodes.specs.Rhct.{isa_string_object, isa_string_ends_well, cmo, cmo_bytes, mmu, mmu_bytes};
+ghost use Rattle.acpi_nodes.specs.Rhct.{NodesTellKinds, NodesStand, ReferencesAreRead};
 ghost use Rattle.acpi_nodes.specs.declared.rhct.HartInfoNode.{HartInfoNode};
 ghost use Rattle.acpi_nodes.specs.Rhct.{cmo_fields, mmu_fields};
 
@@ -120,14 +123,22 @@ impl RHCT {
 
 /// A law: after any calls the table is a true one, and its nodes, in order, are the one list that walks it.
 pub fn rhct_is_walked(table: &RHCT)
-    ensures { IsWalked rhct_walk table.now.table.table }
+    ensures keeps { Keeps rhct_walk length_limit true table.now.table.table }
+    ensures walked { IsWalked rhct_walk table.now.table.table }
+    ensures calls { (oem : Oem) (timebase_frequency : ℕ) → IsAfterItsCalls rhct_walk (rhct oem timebase_frequency) table.now.table }
+    ensures nodes { NodesStand table.now.table.table }
 {
     is_walked(&table.table)
 }
 
-/// A law: each node contains its kind at its offset, for all values of its fields.
+/// A law: each node begins with its type, for all values of its fields.
 pub fn rhct_nodes_tell_kinds()
     ensures { NodesTellKinds }
+{}
+
+/// A law: each reference to another node is read back from the node's bytes.
+pub fn rhct_references_are_read()
+    ensures { ReferencesAreRead }
 {}
 
 /// Where an ISA string's node begins in its table.

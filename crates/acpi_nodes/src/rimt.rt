@@ -4,12 +4,15 @@ ghost use Rattle.std.specs.Prelude.{◌≡◌, ◌+◌, ◌*◌, ◌≤◌, true
 ghost use Rattle.acpi_base.specs.Fields.{AreRowsOf};
 ghost use Rattle.acpi_base.specs.Object.{whole, whole_ends_well};
 ghost use Rattle.acpi_base.specs.Walk.{rimt_walk};
+ghost use Rattle.acpi_base.specs.declared.oem.Oem.{Oem};
 ghost use Rattle.acpi_core.specs.Addition.{Adds, AddsAt};
+ghost use Rattle.acpi_core.specs.Calls.{IsAfterItsCalls};
 ghost use Rattle.acpi_core.specs.Listing.{bytes_of, length_limit};
 ghost use Rattle.acpi_core.specs.Structure.{structure_of, structure_ends_well};
-ghost use Rattle.acpi_core.specs.Walk.{IsWalked};
+ghost use Rattle.acpi_core.specs.Walk.{IsWalked, Keeps};
 ghost use Rattle.acpi_nodes.specs.Entries.{entries_of};
-ghost use Rattle.acpi_nodes.specs.Rimt.{rimt, DevicesTellKinds, bit, interrupt_wire, wire_bytes, id_mapping, mapping_bytes};
+ghost use Rattle.acpi_nodes.specs.Rimt.{rimt, bit, interrupt_wire, wire_bytes, id_mapping, mapping_bytes};
+ghost use Rattle.acpi_nodes.specs.Rimt.{DevicesTellKinds, DevicesStand, ReferencesAreRead};
 ghost use Rattle.acpi_nodes.specs.Rimt.{iommu, iommu_head_fields, iommu_head, iommu_bytes};
 ghost use Rattle.acpi_nodes.specs.Rimt.{root_complex, root_complex_head_fields, root_complex_head, root_complex_bytes};
 ghost use Rattle.acpi_nodes.specs.Rimt.{platform, mappings_at, platform_head_fields, platform_head, platform_bytes};
@@ -102,14 +105,22 @@ impl RIMT {
 
 /// A law: after any calls the table is a true one, and its devices, in order, are the one list that walks it.
 pub fn rimt_is_walked(table: &RIMT)
-    ensures { IsWalked rimt_walk table.now.table.table }
+    ensures keeps { Keeps rimt_walk length_limit true table.now.table.table }
+    ensures walked { IsWalked rimt_walk table.now.table.table }
+    ensures calls { (oem : Oem) → IsAfterItsCalls rimt_walk (rimt oem) table.now.table }
+    ensures nodes { DevicesStand table.now.table.table }
 {
     is_walked(&table.table)
 }
 
-/// A law: each device contains its kind at its offset, for all values of its fields.
+/// A law: each device begins with its type, for all values of its fields.
 pub fn rimt_devices_tell_kinds()
     ensures { DevicesTellKinds }
+{}
+
+/// A law: each reference to another node is read back from the node's bytes.
+pub fn rimt_references_are_read()
+    ensures { ReferencesAreRead }
 {}
 
 /// An IOMMU of a table. In contracts it is the IOMMU's offset.

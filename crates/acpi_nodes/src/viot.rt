@@ -3,10 +3,13 @@
 ghost use Rattle.std.specs.Prelude.{◌≡◌, true};
 ghost use Rattle.acpi_base.specs.Object.{whole, whole_ends_well};
 ghost use Rattle.acpi_base.specs.Walk.{viot_walk};
+ghost use Rattle.acpi_base.specs.declared.oem.Oem.{Oem};
 ghost use Rattle.acpi_core.specs.Addition.{Adds, AddsAt};
+ghost use Rattle.acpi_core.specs.Calls.{IsAfterItsCalls};
 ghost use Rattle.acpi_core.specs.Listing.{field_limit, bytes_of};
-ghost use Rattle.acpi_core.specs.Walk.{IsWalked};
-ghost use Rattle.acpi_nodes.specs.Viot.{viot, NodesTellKinds, pci_range, pci_range_bytes, mmio_endpoint, mmio_endpoint_bytes};
+ghost use Rattle.acpi_core.specs.Walk.{IsWalked, Keeps};
+ghost use Rattle.acpi_nodes.specs.Viot.{viot, pci_range, pci_range_bytes, mmio_endpoint, mmio_endpoint_bytes};
+ghost use Rattle.acpi_nodes.specs.Viot.{NodesTellKinds, NodesStand, ReferencesAreRead};
 ghost use Rattle.acpi_nodes.specs.Viot.{virtio_pci_iommu, virtio_pci_iommu_bytes, virtio_mmio_iommu, virtio_mmio_iommu_bytes};
 ghost use Rattle.acpi_nodes.specs.Viot.{pci_range_fields, mmio_endpoint_fields, virtio_pci_iommu_fields};
 ghost use Rattle.acpi_nodes.specs.Viot.{virtio_mmio_iommu_fields};
@@ -107,14 +110,22 @@ impl VIOT {
 
 /// A law: after any calls the table is a true one, and its nodes, in order, are the one list that walks it.
 pub fn viot_is_walked(table: &VIOT)
-    ensures { IsWalked viot_walk table.now.table.table }
+    ensures keeps { Keeps viot_walk (field_limit 2) true table.now.table.table }
+    ensures walked { IsWalked viot_walk table.now.table.table }
+    ensures calls { (oem : Oem) → IsAfterItsCalls viot_walk (viot oem) table.now.table }
+    ensures nodes { NodesStand table.now.table.table }
 {
     is_walked(&table.table)
 }
 
-/// A law: each node contains its kind at its offset, for all values of its fields.
+/// A law: each node begins with its type, for all values of its fields.
 pub fn viot_nodes_tell_kinds()
     ensures { NodesTellKinds }
+{}
+
+/// A law: each reference to another node is read back from the node's bytes.
+pub fn viot_references_are_read()
+    ensures { ReferencesAreRead }
 {}
 
 /// A virtual IOMMU of a table. In contracts it is the node's offset.

@@ -66,7 +66,7 @@ same_layout head n inside = refl
 -- ---- rows
 
 module _ (arity : List ℕ → ℕ) where
-  each : (m : Mode) (objects : List Object) (ts : Terms) → SpellEach arity m objects ts → (all_of objects).end ≡ None → Spells arity m (all_of objects).front ts × (count ts ≡ length objects)
+  pub each : (m : Mode) (objects : List Object) (ts : Terms) → SpellEach arity m objects ts → (all_of objects).end ≡ None → Spells arity m (all_of objects).front ts × (count ts ≡ length objects)
   each m [] end s h = ((tt, refl), refl)
   each m [] (term k w c others) s h = absurd s
   each m (o ∷ os) end s h = absurd s

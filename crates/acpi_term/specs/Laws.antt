@@ -31,6 +31,12 @@ RowsOverMean =
     → (around (layout h (own_width h) (count ts)) (whole bytes)).end ≡ None
     → Spells arity m (around (layout h (own_width h) (count ts)) (whole bytes)).front (one h (writer_width h (count ts) bytes) ts)
 
+-- Objects that spell a term each, one after another, spell the list of these terms.
+abbrev pub ObjectsMean : Type 0
+ObjectsMean =
+    (arity : List ℕ → ℕ) (m : Mode) (objects : List Object) (ts : Terms)
+    → SpellEach arity m objects ts → (all_of objects).end ≡ None → Spells arity m (all_of objects).front ts
+
 -- ---- unique reading
 
 -- At most one list of terms is spelled, wherever the first stands, and no other bytes spell it.

@@ -4,7 +4,7 @@ ghost use Rattle.std.specs.Prelude.{◌≡◌, List, true};
 ghost use Rattle.std.specs.Cmp.Lexicographic.{pointwise};
 ghost use Rattle.acpi_term.specs.declared.term.Term.{Term};
 ghost use Rattle.acpi_term.specs.View.{views};
-ghost use Rattle.acpi_term.specs.Laws.{RowsMean, RowsOverMean, AtMostOneList, AtMostOneFront, SplitsAgree};
+ghost use Rattle.acpi_term.specs.Laws.{RowsMean, RowsOverMean, ObjectsMean, AtMostOneList, AtMostOneFront, SplitsAgree};
 ghost use Rattle.acpi_term.specs.Laws.{NameTextsAreNames, TextsAreTheirParts, LengthsAreSpelled, FramesAreSpelled};
 ghost use Rattle.acpi_term.specs.Laws.{FramesAreLeast, FramesEndWithTheirContent, FieldLengthsAreLeast, NumbersAreLeast};
 
@@ -16,6 +16,11 @@ pub fn rows_mean()
 /// A whole row round bytes that spell all children spells its term.
 pub fn rows_over_mean()
     ensures { RowsOverMean }
+{}
+
+/// Objects that spell a term each, one after another, spell the list of these terms.
+pub fn objects_mean()
+    ensures { ObjectsMean }
 {}
 
 /// At most one list of terms is spelled by given bytes, and only these bytes spell it.

@@ -6,7 +6,7 @@ ghost use Rattle.acpi_base.specs.Object.{whole, whole_ends_well};
 ghost use Rattle.acpi_base.specs.Layout.{zeros};
 ghost use Rattle.acpi_matrices.specs.Locality.{Locality, lists_size, locality_size, locality};
 ghost use Rattle.acpi_matrices.specs.Locality.{locality_head_fields, locality_head, locality_bytes};
-ghost use Rattle.acpi_matrices.specs.Locality.{Sets, initiator_at, target_at, entry_at};
+ghost use Rattle.acpi_matrices.specs.Locality.{CellsStand, IsLocality, Sets, initiator_at, target_at, entry_at};
 
 use acpi_base::error::{Error, R};
 use acpi_base::object::Aml;
@@ -96,6 +96,14 @@ impl Model for SystemLocality {
       targets = l.targets;
       lists = l.lists.items;
     }) };
+}
+
+/// A law: the cells of a system locality stand at their places in its bytes, and its lists have the bytes of its cells.
+pub fn cells_stand(locality: &SystemLocality)
+    ensures cells { CellsStand locality.now }
+    ensures keeps { IsLocality locality.now }
+{
+    let _ = &locality.lists;
 }
 
 // How many bytes the lists of this many initiators and targets have. Matrix where the structure's size would reach 2^32.

@@ -2,7 +2,7 @@ use Rattle.std.proofs.Common.{◌≡◌, ℕ, ◌+◌, ◌-◌, ◌≤◌, List,
 use Rattle.acpi_base.specs.Object.{Appended}
 use Rattle.acpi_core.specs.Listing.{with_structure}
 use Rattle.acpi_core.specs.Flat.{has_space, Settles}
-use Rattle.acpi_core.specs.Addition.{refusal_of}
+use Rattle.acpi_core.specs.Addition.{refusal_of, addition_cost}
 use Rattle.acpi_core.proofs.Patches.{behind}
 use Rattle.acpi_core.proofs.Flats.{flat_added, room_is, is_accepted}
 use Rattle.acpi_core.proofs.table.Table.add_object.Goals as goal
@@ -14,7 +14,7 @@ record Steps (g : _) (c : goal.After-self-in-Ok-2-1 g) : Type 0 where
   size : c.in-Ok.size ≡ length c.self.inside.fixed + length c.self.inside.body.items + length (g.T.Aml.object c.args.structure.now).front
   space : has_space (length c.self.inside.fixed + length c.self.inside.body.items) (length (g.T.Aml.object c.args.structure.now).front) c.self.inside.limit c.self.inside.count c.self.inside.count_width ≡ true
   settles : Settles c.self.inside.fixed c.self.inside.sum.value c.self.inside.count_at c.self.inside.count_width c.in-Ok.size c.in-Ok.count (g.T.Aml.object c.args.structure.now).front c.settle.new.fixed c.settle.new.running.value
-  cost : c.settle.new.running.summed ≤ c.self.inside.sum.summed + length (g.T.Aml.object c.args.structure.now).front + 16
+  counted : c.settle.new.running.summed ≡ c.self.inside.sum.summed + addition_cost c.self.inside.listed.table (length (g.T.Aml.object c.args.structure.now).front)
   listed : c.with-self-inside.result.table ≡ with_structure c.self.inside.listed.table (g.T.Aml.object c.args.structure.now).front
 
 steps : (g : _) (c : goal.After-self-in-Ok-2-1 g) → Steps g c
@@ -35,7 +35,7 @@ steps g c =
       size = omega (arith, c.in-Ok.ensures.size, more, from);
       space = sym (ap (λ n. has_space n (c.len.result - start) i.limit i.count i.count_width) from ∙ ap (λ n. has_space (length i.fixed + length i.body.items) n i.limit i.count i.count_width) more) ∙ c.in-Ok.ensures.ok;
       settles = subst (λ (s : List ℕ). Settles i.fixed i.sum.value i.count_at i.count_width c.in-Ok.size c.in-Ok.count s c.settle.new.fixed c.settle.new.running.value) first c.settle.ensures.settles;
-      cost = omega (arith, c.settle.ensures.cost, ap length first);
+      counted = omega (arith, c.settle.ensures.counted, ap length first, c.self.invariant.same_width);
       listed = c.with-self-inside.ensures ∙ ap (with_structure i.listed.table) second;
     }
 
@@ -57,6 +57,5 @@ returns-in-Ok g c =
       accepted = ap (λ t. refusal_of t.table o.end (length o.front)) (sym c.self.view_is) ∙ accepted;
       err = tt;
       cause = tt;
-      cost = rw (← c.self.view_is) s.cost;
-      grows = rw (← c.self.view_is) c.settle.ensures.grows;
+      cost = rw (← c.self.view_is) s.counted;
     }
