@@ -10,7 +10,7 @@ use Rattle.acpi_base.proofs.Bytes.{length_le}
 use Rattle.acpi_base.proofs.Puts.{put-append, length-put}
 use Rattle.acpi_base.proofs.Tables.{added_added, length-added}
 
-drop_put : (n i : ℕ) (a x : List ℕ) → i + length a ≤ n → n ≤ length x → drop n (put i a x) ≡ drop n x
+pub drop_put : (n i : ℕ) (a x : List ℕ) → i + length a ≤ n → n ≤ length x → drop n (put i a x) ≡ drop n x
 drop_put n i a x within long =
     let t = take n x in
     let len : length t ≡ n = length-take-le n x long in

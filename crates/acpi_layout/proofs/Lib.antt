@@ -1,3 +1,4 @@
 pub mod Images
 pub mod Answered
 pub mod Standing
+pub mod Pointing

@@ -1,10 +1,13 @@
 -- What holds of images, whatever is laid.
-use Rattle.std.specs.Prelude.{◌≡◌, ℕ, ◌+◌, ◌%◌, List, [], ◌∷◌, ◌++◌, length}
+use Rattle.std.specs.Prelude.{◌≡◌, ℕ, ◌+◌, ◌*◌, ◌%◌, ◌^◌, ◌<◌, List, [], ◌∷◌, ◌++◌, length, slice_index_or}
 use Rattle.acpi_base.specs.declared.oem.Oem.{Oem}
+use Rattle.acpi_base.specs.Bytes.{field_at}
+use Rattle.acpi_base.specs.Fields.{fields_joined}
 use Rattle.acpi_base.specs.Layout.{zeros}
+use Rattle.acpi_base.specs.Table.{IsTrueTable}
 use Rattle.acpi_core.specs.Listing.{bytes_of}
 use Rattle.acpi_fixed.specs.declared.fadt.FADTBuilder.{FADTBuilder}
-use Rattle.acpi_fixed.specs.Fadt.{fadt_bytes}
+use Rattle.acpi_fixed.specs.Fadt.{fadt_bytes, header_fields}
 use Rattle.acpi_fixed.specs.Rsdp.{rsdp_bytes, rsdp_for}
 use Rattle.acpi_layout.specs.Image.{Laid, padded, pointing, listing, tables_laid, image}
 
@@ -51,6 +54,27 @@ abbrev pub ImagesStand : Type 0
 ImagesStand =
     (base : ℕ) (oem : Oem) (facs dsdt : List ℕ) (fadt : FADTBuilder) (tables : List (List ℕ))
     → Stands base oem facs dsdt fadt tables (tables_laid base facs dsdt fadt tables)
+
+-- The addresses that tables contain, read out of their bytes: the FADT's of the FACS and the DSDT, in its fields of 64 bits, with
+-- zeros in those of 32 bits; the XSDT's of the FADT and the tables, in order; the RSDP's of the XSDT.
+pub record Points (base : ℕ) (oem : Oem) (facs : List ℕ) (fadt : FADTBuilder) (laid : Laid) : Type 0 where
+  pub firmware_ctrl : field_at 36 4 (fadt_bytes (pointing base (base + length facs) fadt)) ≡ 0
+  pub dsdt : field_at 40 4 (fadt_bytes (pointing base (base + length facs) fadt)) ≡ 0
+  pub x_firmware_ctrl : field_at 132 8 (fadt_bytes (pointing base (base + length facs) fadt)) ≡ base
+  pub x_dsdt : field_at 140 8 (fadt_bytes (pointing base (base + length facs) fadt)) ≡ base + length facs
+  pub entries : (i : ℕ) → i < length laid.places → base + slice_index_or laid.places i 0 < 2 ^ 64
+      → field_at (36 + 8 * i) 8 (bytes_of (listing base oem laid.places)) ≡ base + slice_index_or laid.places i 0
+  pub xsdt : field_at 24 8 (rsdp_bytes (rsdp_for oem.id (xsdt_address base laid))) ≡ xsdt_address base laid
+  pub xsdt_is_true : IsTrueTable (bytes_of (listing base oem laid.places))
+
+-- The ids have their fields' widths, the FADT has its header, the XSDT's length fits its field, and the XSDT's address is below
+-- 2^64.
+abbrev pub ImagesPoint : Type 0
+ImagesPoint =
+    (base : ℕ) (oem : Oem) (facs : List ℕ) (fadt : FADTBuilder) (laid : Laid)
+    → length oem.id ≡ 6 → length oem.table_id ≡ 8 → length (fields_joined (header_fields fadt)) ≡ 36
+    → 36 + 8 * length laid.places < 2 ^ 32 → xsdt_address base laid < 2 ^ 64 → base + length facs < 2 ^ 64
+    → Points base oem facs fadt laid
 
 -- each is a multiple of 8
 abbrev pub AreAligned : ℕ → List ℕ → Type 0

@@ -1,11 +1,17 @@
 //! Laws over the definition of an image. Each function is a law: it does nothing, and ensures it.
 
-ghost use Rattle.acpi_layout.specs.Laws.{ImagesStand, ImagesAreAligned};
+ghost use Rattle.acpi_layout.specs.Laws.{ImagesStand, ImagesPoint, ImagesAreAligned};
 
-/// In an image each table stands at the address that the one before it in the chain tells: from the RSDP to the XSDT, from
-/// its entries to the FADT and the tables, from the FADT to the FACS and the DSDT. No two overlap, and gaps are zero.
+/// In an image each table's bytes stand at its address: the FACS, the DSDT, the FADT and the tables, the XSDT and the RSDP. No two
+/// overlap, and gaps are zero.
 pub fn images_stand()
     ensures { ImagesStand }
+{}
+
+/// The addresses are read out of the tables' bytes: of the FACS and the DSDT at 132 and 140 of the FADT, where 36 and 40 are
+/// zero, of each table in the XSDT's entries, and of the XSDT at 24 of the RSDP. The XSDT is a true table.
+pub fn images_point()
+    ensures { ImagesPoint }
 {}
 
 /// The tables and the XSDT stand at multiples of 8, and the RSDP at one of 16.
