@@ -2,13 +2,13 @@
 
 use super::tables::dsdt;
 use acpi_tables::aml::{
-    AddressSpace, AddressSpaceCacheable, BufferData, BufferTerm, Device, EISAName, IO, Interrupt,
-    Memory32Fixed, Name, Path, Register, ResourceTemplate, Uuid,
+    BufferData, BufferTerm, Device, EISAName, IO, Interrupt, Memory32Fixed, Name, Path, Register,
+    ResourceTemplate, Uuid,
 };
 use acpi_tables::gas::{self, AccessSize, GAS};
 use acpi_tables::sdt::append_object;
 use acpi_tables::{Aml, Error, R};
-use acpi_vectors::{all, equal, makes, refuses, writes};
+use acpi_vectors::{all, equal, makes, refuses, writes, written};
 use std::alloc::Global;
 use std::test::Fail;
 
@@ -31,6 +31,33 @@ fn buffers(rt: HostRuntime) -> Result<(), Fail> {
         ResourceTemplate::new(Vec::new(alloc)),
         &[0x11, 0x05, 0x0a, 0x02, 0x79, 0x00],
     )
+}
+
+// The size is in the least width, and the length before it counts both.
+#[test]
+fn sizes_of_buffers(rt: HostRuntime) -> Result<(), Fail> {
+    let alloc = rt.alloc();
+    let starts: [(usize, &[u8]); 5] = [
+        (0xff, &[0x11, 0x43, 0x10, 0x0a, 0xff]),
+        (0x100, &[0x11, 0x45, 0x10, 0x0b, 0x00, 0x01]),
+        (0xffff, &[0x11, 0x85, 0x00, 0x10, 0x0b, 0xff, 0xff]),
+        (
+            0x1_0000,
+            &[0x11, 0x88, 0x00, 0x10, 0x0c, 0x00, 0x00, 0x01, 0x00],
+        ),
+        (
+            0x1_0203,
+            &[0x11, 0x8b, 0x20, 0x10, 0x0c, 0x03, 0x02, 0x01, 0x00],
+        ),
+    ];
+    for (size, start) in starts {
+        let data = BufferData::new(vec![in alloc; 0xabu8; size]?)?;
+        let bytes = written(alloc, &data)?;
+        assert!(rt; bytes.starts_with(start));
+        equal(&bytes.len(), &start.len().saturating_add(size))?;
+        assert!(rt; bytes.ends_with(&[0xab]));
+    }
+    Ok(())
 }
 
 // The letters of an id stand in the two high bytes, five bits each, and its digits in the two low ones.
@@ -143,6 +170,22 @@ fn descriptors(rt: HostRuntime) -> Result<(), Fail> {
                 &[0x89, 0x06, 0x00, 0x0f, 0x01, 0xff, 0xff, 0xff, 0xff],
             ),
             (
+                &Interrupt::new(true, false, false, false, 0x0403_0201),
+                &[0x89, 0x06, 0x00, 0x01, 0x01, 0x01, 0x02, 0x03, 0x04],
+            ),
+            (
+                &Interrupt::new(false, true, false, false, 5),
+                &[0x89, 0x06, 0x00, 0x02, 0x01, 0x05, 0x00, 0x00, 0x00],
+            ),
+            (
+                &Interrupt::new(false, false, true, false, 6),
+                &[0x89, 0x06, 0x00, 0x04, 0x01, 0x06, 0x00, 0x00, 0x00],
+            ),
+            (
+                &Interrupt::new(false, false, false, true, 7),
+                &[0x89, 0x06, 0x00, 0x08, 0x01, 0x07, 0x00, 0x00, 0x00],
+            ),
+            (
                 &IO::new(0x3f0, 0x4f8, 4, 8),
                 &[0x47, 0x01, 0xf0, 0x03, 0xf8, 0x04, 0x04, 0x08],
             ),
@@ -152,132 +195,14 @@ fn descriptors(rt: HostRuntime) -> Result<(), Fail> {
                     0x86, 0x09, 0x00, 0x01, 0x00, 0x00, 0xd0, 0xfe, 0x00, 0x04, 0x00, 0x00,
                 ],
             ),
-        ],
-    )
-}
-
-#[test]
-fn word_spaces(rt: HostRuntime) -> Result<(), Fail> {
-    all(
-        rt.alloc(),
-        &[
             (
-                &AddressSpace::new_bus_number(0u16, 0xff),
+                &Memory32Fixed::new(false, 0x0403_0201, 0x0807_0605),
                 &[
-                    0x88, 0x0d, 0x00, 0x02, 0x0c, 0x00, 0x00, 0x00, 0x00, 0x00, 0xff, 0x00, 0x00,
-                    0x00, 0x00, 0x01,
-                ],
-            ),
-            // One port alone, and all but one.
-            (
-                &AddressSpace::new_io(5u16, 5, None),
-                &[
-                    0x88, 0x0d, 0x00, 0x01, 0x0c, 0x03, 0x00, 0x00, 0x05, 0x00, 0x05, 0x00, 0x00,
-                    0x00, 0x01, 0x00,
-                ],
-            ),
-            (
-                &AddressSpace::new_io(1u16, 0xffff, Some(0x1234)),
-                &[
-                    0x88, 0x0d, 0x00, 0x01, 0x0c, 0x03, 0x00, 0x00, 0x01, 0x00, 0xff, 0xff, 0x34,
-                    0x12, 0xff, 0xff,
+                    0x86, 0x09, 0x00, 0x00, 0x01, 0x02, 0x03, 0x04, 0x05, 0x06, 0x07, 0x08,
                 ],
             ),
         ],
     )
-}
-
-#[test]
-fn double_word_spaces(rt: HostRuntime) -> Result<(), Fail> {
-    let alloc = rt.alloc();
-    writes(
-        alloc,
-        &AddressSpace::new_memory(
-            AddressSpaceCacheable::Cacheable,
-            true,
-            0xc000_0000u32,
-            0xc000_ffff,
-            Some(1),
-        ),
-        &[
-            0x87, 0x17, 0x00, 0x00, 0x0c, 0x03, 0, 0, 0, 0, 0x00, 0x00, 0x00, 0xc0, 0xff, 0xff,
-            0x00, 0xc0, 1, 0, 0, 0, 0x00, 0x00, 0x01, 0x00,
-        ],
-    )?;
-    writes(
-        alloc,
-        &AddressSpace::new_bus_number(1u32, u32::MAX),
-        &[
-            0x87, 0x17, 0x00, 0x02, 0x0c, 0x00, 0, 0, 0, 0, 0x01, 0x00, 0x00, 0x00, 0xff, 0xff,
-            0xff, 0xff, 0, 0, 0, 0, 0xff, 0xff, 0xff, 0xff,
-        ],
-    )
-}
-
-#[test]
-fn quad_word_spaces(rt: HostRuntime) -> Result<(), Fail> {
-    let alloc = rt.alloc();
-    writes(
-        alloc,
-        &AddressSpace::new_memory(
-            AddressSpaceCacheable::PreFetchable,
-            false,
-            0x8_0000_0000u64,
-            0xf_ffff_ffff,
-            None,
-        ),
-        &[
-            0x8a, 0x2b, 0x00, 0x00, 0x0c, 0x06, 0, 0, 0, 0, 0, 0, 0, 0, 0, 0, 0, 0, 0x08, 0, 0, 0,
-            0xff, 0xff, 0xff, 0xff, 0x0f, 0, 0, 0, 0, 0, 0, 0, 0, 0, 0, 0, 0, 0, 0, 0, 0x08, 0, 0,
-            0,
-        ],
-    )?;
-    writes(
-        alloc,
-        &AddressSpace::new_io(0x1_0000u64, 0x1_ffff, Some(0x1234_5678_9abc_def0)),
-        &[
-            0x8a, 0x2b, 0x00, 0x01, 0x0c, 0x03, 0, 0, 0, 0, 0, 0, 0, 0, 0, 0, 0x01, 0, 0, 0, 0, 0,
-            0xff, 0xff, 0x01, 0, 0, 0, 0, 0, 0xf0, 0xde, 0xbc, 0x9a, 0x78, 0x56, 0x34, 0x12, 0, 0,
-            0x01, 0, 0, 0, 0, 0,
-        ],
-    )
-}
-
-#[test]
-fn memory_types(rt: HostRuntime) -> Result<(), Fail> {
-    let alloc = rt.alloc();
-    for (cacheable, read_write, flags) in [
-        (AddressSpaceCacheable::NotCacheable, false, 0),
-        (AddressSpaceCacheable::Cacheable, false, 2),
-        (AddressSpaceCacheable::WriteCombining, true, 5),
-        (AddressSpaceCacheable::PreFetchable, true, 7),
-    ] {
-        let memory = AddressSpace::new_memory(cacheable, read_write, 0u16, 0, None);
-        writes(
-            alloc,
-            &memory,
-            &[
-                0x88, 0x0d, 0x00, 0x00, 0x0c, flags, 0, 0, 0, 0, 0, 0, 0, 0, 0x01, 0x00,
-            ],
-        )?;
-    }
-    Ok(())
-}
-
-#[test]
-fn ranges_without_a_length(rt: HostRuntime) -> Result<(), Fail> {
-    let mut bytes = Vec::new(rt.alloc());
-    let ranges: [&dyn Aml; 4] = [
-        &AddressSpace::new_io(5u16, 4, None),
-        &AddressSpace::new_io(0u16, u16::MAX, None),
-        &AddressSpace::new_io(0u32, u32::MAX, None),
-        &AddressSpace::new_io(0u64, u64::MAX, None),
-    ];
-    for range in ranges {
-        refuses(range.to_aml_bytes(&mut bytes), Error::AddressRange)?;
-        equal(&bytes.len(), &0)?;
-    }
-    Ok(())
 }
 
 const COM1: [u8; 50] = [

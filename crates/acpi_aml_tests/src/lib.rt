@@ -3,9 +3,15 @@
 #![tactic(auto)]
 
 #[cfg(test)]
+mod blocks;
+#[cfg(test)]
 mod buffers;
 #[cfg(test)]
 mod errors;
+#[cfg(test)]
+mod fields;
+#[cfg(test)]
+mod numbers;
 #[cfg(test)]
 mod objects;
 #[cfg(test)]
@@ -16,5 +22,7 @@ mod packages;
 mod reading;
 #[cfg(test)]
 mod refusing;
+#[cfg(test)]
+mod spaces;
 #[cfg(test)]
 mod tables;

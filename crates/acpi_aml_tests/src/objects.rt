@@ -1,10 +1,9 @@
 //! Named and framed objects, byte for byte.
 
 use acpi_tables::aml::{
-    Acquire, Add, AmlStr, AmlString, Arg, CreateField, Device, Else, Field, FieldAccessType,
-    FieldEntry, FieldLockRule, FieldUpdateRule, If, LessThan, Local, Method, MethodCall, Mutex,
-    Name, NotEqual, ONE, OpRegion, OpRegionSpace, Path, PowerResource, Release, Return, Scope,
-    While, ZERO,
+    Acquire, Add, AmlStr, AmlString, Arg, CreateField, Device, Else, If, LessThan, Local, Method,
+    MethodCall, Mutex, Name, NotEqual, ONE, Path, PowerResource, Release, Return, Scope, While,
+    ZERO,
 };
 use acpi_tables::{Aml, Error, R};
 use acpi_vectors::{all, equal, makes, refuses, same, writes, written};
@@ -29,6 +28,10 @@ fn paths(rt: HostRuntime) -> Result<(), Fail> {
         "ABCDE",
         "ABCD.",
         ".ABCD",
+        ".ABC",
+        "ABC.",
+        "ABCD..EFG",
+        "ABCD.EFG.",
         "AB.D",
         "A.CD",
         "ABC.DEFG",
@@ -39,8 +42,9 @@ fn paths(rt: HostRuntime) -> Result<(), Fail> {
     ] {
         refuses(path(alloc, text), Error::NamePart)?;
     }
-    let rows: [(&str, &[u8]); 3] = [
+    let rows: [(&str, &[u8]); 4] = [
         ("\\_SB_.COM1", b"\x5c\x2e_SB_COM1"),
+        ("\\_SB_", b"\x5c_SB_"),
         ("_SB_.PCI0.COM1", b"\x2f\x03_SB_PCI0COM1"),
         ("FLD0", b"FLD0"),
     ];
@@ -137,120 +141,6 @@ fn variables(rt: HostRuntime) -> Result<(), Fail> {
     refuses(written(alloc, &Arg(7)), Error::ArgNumber)
 }
 
-#[test]
-fn regions(rt: HostRuntime) -> Result<(), Fail> {
-    let alloc = rt.alloc();
-    for (space, number) in [
-        (OpRegionSpace::SystemMemory, 0),
-        (OpRegionSpace::SystemIO, 1),
-        (OpRegionSpace::PCIConfig, 2),
-        (OpRegionSpace::EmbeddedControl, 3),
-        (OpRegionSpace::SMBus, 4),
-        (OpRegionSpace::SystemCMOS, 5),
-        (OpRegionSpace::PciBarTarget, 6),
-        (OpRegionSpace::IPMI, 7),
-        (OpRegionSpace::GeneralPurposeIO, 8),
-        (OpRegionSpace::GenericSerialBus, 9),
-    ] {
-        let mut wanted = *b"\x5b\x80PRST\xff\x0b\xd8\x0c\x0a\x0c";
-        wanted[6] = number;
-        let region = OpRegion::new(path(alloc, "PRST")?, space, &0xcd8u16, &12u8);
-        makes(alloc, region, &wanted)?;
-    }
-    Ok(())
-}
-
-fn field(alloc: Global, entries: Vec<FieldEntry>) -> R<Field> {
-    Field::new(
-        path(alloc, "PRST")?,
-        FieldAccessType::Byte,
-        FieldLockRule::NoLock,
-        FieldUpdateRule::WriteAsZeroes,
-        entries,
-    )
-}
-
-#[test]
-fn fields(rt: HostRuntime) -> Result<(), Fail> {
-    let alloc = rt.alloc();
-    let entries = vec![in alloc; FieldEntry::Reserved(32), FieldEntry::Named(*b"CPEN", 1)]?;
-    makes(
-        alloc,
-        field(alloc, entries),
-        b"\x5b\x81\x0dPRST\x41\x00\x20CPEN\x01",
-    )
-}
-
-#[test]
-fn field_flags(rt: HostRuntime) -> Result<(), Fail> {
-    let alloc = rt.alloc();
-    for (access, lock, update, flags) in [
-        (
-            FieldAccessType::Any,
-            FieldLockRule::NoLock,
-            FieldUpdateRule::Preserve,
-            0x00,
-        ),
-        (
-            FieldAccessType::Byte,
-            FieldLockRule::Lock,
-            FieldUpdateRule::Preserve,
-            0x11,
-        ),
-        (
-            FieldAccessType::Word,
-            FieldLockRule::NoLock,
-            FieldUpdateRule::WriteAsOnes,
-            0x22,
-        ),
-        (
-            FieldAccessType::DWord,
-            FieldLockRule::Lock,
-            FieldUpdateRule::WriteAsZeroes,
-            0x53,
-        ),
-        (
-            FieldAccessType::QWord,
-            FieldLockRule::NoLock,
-            FieldUpdateRule::WriteAsZeroes,
-            0x44,
-        ),
-        (
-            FieldAccessType::Buffer,
-            FieldLockRule::Lock,
-            FieldUpdateRule::WriteAsOnes,
-            0x35,
-        ),
-    ] {
-        let mut wanted = *b"\x5b\x81\x06PRST\xff";
-        wanted[7] = flags;
-        let field = Field::new(path(alloc, "PRST")?, access, lock, update, Vec::new(alloc));
-        makes(alloc, field, &wanted)?;
-    }
-    Ok(())
-}
-
-fn reserved(alloc: Global, bits: usize) -> R<Field> {
-    field(alloc, vec![in alloc; FieldEntry::Reserved(bits)]?)
-}
-
-#[test]
-fn field_lengths(rt: HostRuntime) -> Result<(), Fail> {
-    let alloc = rt.alloc();
-    let ends: [(usize, &[u8]); 5] = [
-        (62, &[0x00, 0x3e]),
-        (63, &[0x00, 0x4f, 0x03]),
-        (4093, &[0x00, 0x4d, 0xff]),
-        (4094, &[0x00, 0x8e, 0xff, 0x00]),
-        (0xfff_ffff, &[0x00, 0xcf, 0xff, 0xff, 0xff]),
-    ];
-    for (bits, end) in ends {
-        let bytes = written(alloc, &reserved(alloc, bits)?)?;
-        same(bytes.get(8..).unwrap_or(&[]), end)?;
-    }
-    refuses(reserved(alloc, 0x1000_0000), Error::PkgLength)
-}
-
 fn hid(alloc: Global) -> R<Name> {
     Name::new(path(alloc, "_HID")?, &1u8)
 }
@@ -260,6 +150,11 @@ fn devices(rt: HostRuntime) -> Result<(), Fail> {
     let alloc = rt.alloc();
     let name = hid(alloc)?;
     writes(alloc, &name, b"\x08_HID\x01")?;
+    makes(
+        alloc,
+        Name::new(path(alloc, "_SB_.PCI3._ADR")?, &0x1234u16),
+        b"\x08\x2f\x03_SB_PCI3_ADR\x0b\x34\x12",
+    )?;
     let inside: Vec<&dyn Aml> = vec![in alloc; &name as &dyn Aml]?;
     makes(
         alloc,

@@ -119,7 +119,14 @@ fn comparisons(rt: HostRuntime) -> Result<(), Fail> {
     pair(alloc, GreaterThan::new(alloc, &A, &B), 0x94, "lgreater")?;
     pair(alloc, LAnd::new(alloc, &A, &B), 0x90, "land")?;
     pair(alloc, LOr::new(alloc, &A, &B), 0x91, "lor")?;
-    pair(alloc, Notify::new(alloc, &A, &B), 0x86, "notify")
+    pair(alloc, Notify::new(alloc, &A, &B), 0x86, "notify")?;
+    shows(
+        alloc,
+        LAnd::new(alloc, &B, &ONE),
+        &[0x90, 0x68, 0x01],
+        "land",
+        "\n  arg 0\n  number 1\n",
+    )
 }
 
 #[test]

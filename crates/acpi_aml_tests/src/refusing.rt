@@ -1,8 +1,9 @@
 //! Objects that refuse.
 
 use acpi_tables::aml::{
-    Add, Arg, Device, Else, If, Method, MethodCall, Name, NotEqual, ONE, OpRegion, OpRegionSpace,
-    Package, PackageBuilder, Path, PowerResource, Scope, Store, VarPackageTerm, While, ZERO,
+    Add, AddressSpace, Arg, Device, Else, If, Local, Method, MethodCall, Name, NotEqual, ONE,
+    OpRegion, OpRegionSpace, Package, PackageBuilder, Path, PowerResource, ResourceTemplate, Scope,
+    Store, VarPackageTerm, While, ZERO,
 };
 use acpi_tables::{Aml, Error, u8sum};
 use acpi_vectors::broken::Broken;
@@ -83,4 +84,73 @@ fn the_first_refusal_in_written_order(rt: HostRuntime) -> Result<(), Fail> {
     refuses(Store::new(alloc, &Arg(7), &BROKEN), Error::Sink(9))?;
     refuses(Add::new(alloc, &BROKEN, &Arg(7), &ONE), Error::ArgNumber)?;
     refuses(NotEqual::new(alloc, &ONE, &BROKEN), Error::Sink(9))
+}
+
+// A number past its own limit, and a child or a part that refuses: the limit comes first.
+#[test]
+fn limits_before_children(rt: HostRuntime) -> Result<(), Fail> {
+    let alloc = rt.alloc();
+    for (args, refusal) in [(7, Error::Sink(9)), (8, Error::MethodArgs)] {
+        let method = Method::new(Path::new(alloc, "MTHD")?, args, false, broken_first(alloc)?);
+        refuses(method, refusal)?;
+    }
+    for (more, refusal) in [(253, Error::Sink(9)), (254, Error::PackageElements)] {
+        let mut elements = broken_first(alloc)?;
+        for _ in 0..more {
+            elements.push(&ONE)?;
+        }
+        refuses(Package::new(elements), refusal)?;
+    }
+    Ok(())
+}
+
+// A text of this first part, 254 others and this last part.
+fn parts(alloc: Global, first: &str, last: &str) -> Result<String, Fail> {
+    let mut text = String::from_str(alloc, first)?;
+    for _ in 0..254 {
+        text.push_str(".ABCD")?;
+    }
+    text.push_str(last)?;
+    Ok(text)
+}
+
+#[test]
+fn parts_before_their_number(rt: HostRuntime) -> Result<(), Fail> {
+    let alloc = rt.alloc();
+    for (first, last, refusal) in [
+        ("_SB_", ".ABCD", Error::PathParts),
+        ("_SB", ".ABCD", Error::NamePart),
+        ("_SB_", ".ABC", Error::NamePart),
+        ("_SB_", ".ABCD.", Error::NamePart),
+    ] {
+        refuses(Path::new(alloc, &parts(alloc, first, last)?), refusal)?;
+    }
+    Ok(())
+}
+
+// Of two parts that refuse the one that is written first tells why.
+#[test]
+fn the_first_part_that_refuses(rt: HostRuntime) -> Result<(), Fail> {
+    let alloc = rt.alloc();
+    let range = AddressSpace::new_io(5u16, 4, None);
+    let (arg, local) = (Arg(7), Local(8));
+    let all: [(&dyn Aml, Error); 4] = [
+        (&BROKEN, Error::Sink(9)),
+        (&range, Error::AddressRange),
+        (&arg, Error::ArgNumber),
+        (&local, Error::LocalNumber),
+    ];
+    for (first, refusal) in all {
+        for (second, _) in all {
+            let both = || vec![in alloc; first, second];
+            refuses(If::new(first, vec![in alloc; second]?), refusal)?;
+            refuses(While::new(first, vec![in alloc; second]?), refusal)?;
+            refuses(ResourceTemplate::new(both()?), refusal)?;
+            refuses(Package::new(both()?), refusal)?;
+            refuses(MethodCall::new(Path::new(alloc, "MTHD")?, both()?), refusal)?;
+            let (path, space) = (Path::new(alloc, "PRST")?, OpRegionSpace::SystemIO);
+            refuses(OpRegion::new(path, space, first, second), refusal)?;
+        }
+    }
+    Ok(())
 }

@@ -1,9 +1,10 @@
 //! Checksums, numbers, constants and tables, byte for byte.
 
+mod large;
 mod registers;
 mod values;
 
-use acpi_tables::aml::{ONE, ONES, Usize, ZERO};
+use acpi_tables::aml::{ONE, ONES, ZERO};
 use acpi_tables::sdt::Sdt;
 use acpi_tables::{AmlSink, Checksum, Error, R, u8sum};
 use acpi_vectors::{OEM, OEM_REVISION, OEM_TABLE, all, equal, refuses, same, writes};
@@ -30,25 +31,12 @@ fn checksums(_: HostRuntime) -> Result<(), Fail> {
     equal(&checksum.raw_value(), &2)?;
     checksum.delete(&[1, 255]);
     checksum.sub(2);
-    equal(&checksum.raw_value(), &0)
-}
-
-#[test]
-fn numbers(rt: HostRuntime) -> Result<(), Fail> {
-    let big: Usize = 0x1_0000_0000;
-    all(
-        rt.alloc(),
-        &[
-            (&0u8, &[0x00]),
-            (&1u64, &[0x01]),
-            (&2u32, &[0x0a, 0x02]),
-            (&0xffu16, &[0x0a, 0xff]),
-            (&0x100u16, &[0x0b, 0x00, 0x01]),
-            (&0x1_0000u32, &[0x0c, 0x00, 0x00, 0x01, 0x00]),
-            (&big, &[0x0e, 0, 0, 0, 0, 1, 0, 0, 0]),
-            (&u64::MAX, &[0x0e, 255, 255, 255, 255, 255, 255, 255, 255]),
-        ],
-    )
+    equal(&checksum.raw_value(), &0)?;
+    checksum.append(b"abc");
+    checksum.delete(b"c");
+    equal(&checksum.raw_value(), &0xc3)?;
+    checksum.delete(&[0xc0, 0x10]);
+    equal(&checksum.raw_value(), &0xf3)
 }
 
 #[test]

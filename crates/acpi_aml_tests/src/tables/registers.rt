@@ -32,6 +32,7 @@ fn spaces(rt: HostRuntime) -> Result<(), Fail> {
             AccessSize::ByteAccess,
             0x0807_0605_0403_0201,
         );
+        equal(&(space as u8), &number)?;
         let wanted = [number, 0x20, 0x03, 1, 1, 2, 3, 4, 5, 6, 7, 8];
         writes(rt.alloc(), &register, &wanted)?;
     }
@@ -48,6 +49,7 @@ fn access_sizes(rt: HostRuntime) -> Result<(), Fail> {
         (AccessSize::QwordAccess, 4),
     ] {
         let register = GAS::new(AddressSpace::SystemIo, 0x10, 0, size, 0x3f8);
+        equal(&(size as u8), &number)?;
         let wanted = [1, 0x10, 0, number, 0xf8, 3, 0, 0, 0, 0, 0, 0];
         writes(rt.alloc(), &register, &wanted)?;
     }
@@ -92,4 +94,19 @@ fn widths(rt: HostRuntime) -> Result<(), Fail> {
         )?;
     }
     Ok(())
+}
+
+#[test]
+fn bit_offsets(rt: HostRuntime) -> Result<(), Fail> {
+    let register = GenericAddress {
+        address_space_id: 1,
+        register_bit_width: 8,
+        register_bit_offset: 3,
+        access_size: 2,
+        address: 0x1817_1615_1413_1211,
+    };
+    same(
+        &in_table(rt.alloc(), register)?,
+        &[1, 8, 3, 2, 0x11, 0x12, 0x13, 0x14, 0x15, 0x16, 0x17, 0x18],
+    )
 }

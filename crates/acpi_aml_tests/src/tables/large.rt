@@ -1,0 +1,23 @@
+//! A table of more than 65,535 bytes.
+
+use super::dsdt;
+use acpi_vectors::{equal, same};
+use std::test::Fail;
+
+#[test]
+fn past_two_bytes_of_length(rt: HostRuntime) -> Result<(), Fail> {
+    let alloc = rt.alloc();
+    let mut table = dsdt(alloc)?;
+    table.append_slice(&vec![in alloc; 0xabu8; 70_000]?)?;
+    assert!(rt; table.len() == 70_036);
+    let start = b"DSDT\x94\x11\x01\0\x02\x0dFOOBAR";
+    same(table.as_slice().get(..16).unwrap_or(&[]), start)?;
+    table.write_u32(65_700, 0x0403_0201);
+    equal(&table.as_slice().get(9), &Some(&0xaf))?;
+    let written = table.as_slice().get(65_699..65_705).unwrap_or(&[]);
+    same(written, &[0xab, 1, 2, 3, 4, 0xab])?;
+    table.append(0x0809u16)?;
+    let start = b"DSDT\x96\x11\x01\0\x02\x9cFOOBAR";
+    same(table.as_slice().get(..16).unwrap_or(&[]), start)?;
+    same(table.as_slice().get(70_035..).unwrap_or(&[]), &[0xab, 9, 8])
+}
