@@ -1,0 +1,47 @@
+//! Why a run failed.
+
+use acpi_tables::Error as TableError;
+use acpi_tables::read::ReadError;
+use std::alloc::AllocError;
+use std::io;
+use thiserror::Error;
+
+/// Why a run failed. What it displays is the line for standard error.
+#[derive(Debug, Drop, Error)]
+pub enum Fault {
+    /// A word of the command line names nothing that can be filled.
+    #[error("unknown name {0:?}; usage: acpi_limits NAME ..")]
+    Name(String),
+    /// The arguments or the output.
+    #[error("{0}")]
+    System(#[from] io::Error),
+    /// A call was refused, and not for the size.
+    #[error("{0}")]
+    Built(#[from] TableError),
+    /// The bytes aren't a true table.
+    #[error("{0}")]
+    Read(#[from] ReadError),
+    /// A structure tells another length than it has.
+    #[error("the length at offset 4 is wrong")]
+    Length,
+    /// A call that passes the limit was accepted.
+    #[error("no call was refused")]
+    Unlimited,
+}
+
+impl Fault {
+    /// The program's exit status.
+    pub fn status(&self) -> u8 {
+        match self {
+            Fault::Name(_) => 2,
+            _ => 1,
+        }
+    }
+}
+
+/// Memory for a name.
+impl From<AllocError> for Fault {
+    fn from(_error: AllocError) -> Fault {
+        Fault::Built(TableError::Memory)
+    }
+}
