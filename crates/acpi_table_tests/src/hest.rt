@@ -1,15 +1,17 @@
 //! HEST and its error sources.
 
-use acpi_tables::Error;
+mod error_data;
+
 use acpi_tables::gas::{AccessSize, AddressSpace, GAS};
 use acpi_tables::hest::{
-    EnabledStatus, ErrorSeverity, FirmwareFirst, GenericErrorData, GenericErrorStatus,
-    GenericHardwareSource, GenericHardwareSourceV2, HEST, NotificationStructure, NotificationType,
-    PciDevice, PcieAerBridge, PcieAerDevice, PcieAerRootPort,
+    EnabledStatus, ErrorSeverity, FirmwareFirst, GenericErrorStatus, GenericHardwareSource,
+    GenericHardwareSourceV2, HEST, NotificationStructure, NotificationType, PciDevice,
+    PcieAerBridge, PcieAerDevice, PcieAerRootPort,
 };
+use acpi_tables::{Aml, Error};
 use acpi_vectors::broken::Broken;
 use acpi_vectors::table::{many, stands};
-use acpi_vectors::{OEM, OEM_REVISION, OEM_TABLE, refuses, same, writes};
+use acpi_vectors::{OEM, OEM_REVISION, OEM_TABLE, refuses, writes};
 use std::alloc::Global;
 use std::test::Fail;
 
@@ -34,7 +36,73 @@ fn sources(rt: HostRuntime) -> Result<(), Fail> {
         hest.add_structure(PcieAerRootPort::new_global())?;
     }
     many(alloc, &hest, b"HEST", 1, &[0, 1, 0, 0], &ROOT_PORTS, 256)?;
-    stands(alloc, &hest, 0, b"HEST\x28\x30\0\0\x01\x26")
+    stands(alloc, &hest, 0, b"HEST\x28\x30\0\0\x01\x26")?;
+    for _ in 256..1_366u16 {
+        hest.add_structure(PcieAerRootPort::new_global())?;
+    }
+    many(
+        alloc,
+        &hest,
+        b"HEST",
+        1,
+        &[0x56, 5, 0, 0],
+        &ROOT_PORTS,
+        1_366,
+    )
+}
+
+// Adds a source, and the table is its header, its count and the bytes of all sources so far.
+fn adds<T: Aml + Drop>(
+    alloc: Global,
+    hest: &mut HEST,
+    source: T,
+    bytes: &[u8],
+    all: &mut Vec<u8>,
+    count: u8,
+) -> Result<(), Fail> {
+    hest.add_structure(source)?;
+    all.extend_from_slice(bytes)?;
+    many(alloc, hest, b"HEST", 1, &[count, 0, 0, 0], all, 1)
+}
+
+#[test]
+fn each_kind(rt: HostRuntime) -> Result<(), Fail> {
+    let alloc = rt.alloc();
+    let mut hest = table(alloc);
+    let mut all = Vec::new(alloc);
+    let ports = PcieAerRootPort::new_global();
+    adds(alloc, &mut hest, ports, &ROOT_PORTS, &mut all, 1)?;
+    let mut device = [0; 44];
+    device[0] = 7;
+    device[6] = 2;
+    adds(
+        alloc,
+        &mut hest,
+        PcieAerDevice::new_global(),
+        &device,
+        &mut all,
+        2,
+    )?;
+    let mut bridge = [0; 56];
+    bridge[0] = 8;
+    bridge[6] = 2;
+    adds(
+        alloc,
+        &mut hest,
+        PcieAerBridge::new_global(),
+        &bridge,
+        &mut all,
+        3,
+    )?;
+    let mut source = [0; 64];
+    source[..8].copy_from_slice(b"\x09\0\x02\x03\xff\xff\0\x01");
+    let first = GenericHardwareSource::new(0x0302, EnabledStatus::Enabled);
+    adds(alloc, &mut hest, first, &source, &mut all, 4)?;
+    let mut source = [0; 92];
+    source[..8].copy_from_slice(b"\x0a\0\x04\x05\xff\xff\0\0");
+    let second = GenericHardwareSourceV2::new(0x0504, EnabledStatus::Disabled);
+    adds(alloc, &mut hest, second, &source, &mut all, 5)?;
+    stands(alloc, &hest, 4, b"\x58\x01\0\0")
 }
 
 #[test]
@@ -266,56 +334,4 @@ fn a_source_that_refuses(rt: HostRuntime) -> Result<(), Fail> {
     hest.add_structure(PcieAerRootPort::new_global())?;
     refuses(hest.add_structure(Broken {}), Error::Sink(9))?;
     many(alloc, &hest, b"HEST", 1, &[1, 0, 0, 0], &ROOT_PORTS, 1)
-}
-
-#[test]
-fn error_data(rt: HostRuntime) -> Result<(), Fail> {
-    let alloc = rt.alloc();
-    let mut entry = GenericErrorData::new(alloc, ErrorSeverity::Fatal);
-    entry.add_data(Box::new(alloc, 0x100u16)?)?;
-    let mut wanted = [0; 61];
-    wanted[2] = 1;
-    wanted[58] = 0x0b;
-    wanted[60] = 1;
-    let mut bytes = Vec::new(alloc);
-    entry.to_aml_bytes(&mut bytes)?;
-    same(&bytes, &wanted)
-}
-
-#[test]
-fn error_data_fields(rt: HostRuntime) -> Result<(), Fail> {
-    let alloc = rt.alloc();
-    let mut entry = GenericErrorData::new(alloc, ErrorSeverity::None);
-    entry.section_type = 0x0102;
-    entry.severity = ErrorSeverity::Correctable;
-    entry.revision = 0x0304;
-    entry.validation = 5;
-    entry.flags = 6;
-    entry.error_data_length = 0x0708_090a;
-    entry.fru_id = *b"\x10\x11\x12\x13\x14\x15\x16\x17\x18\x19\x1a\x1b\x1c\x1d\x1e\x1f";
-    entry.fru_text = *b"the unit to replace.";
-    entry.timestamp = *b"\x40\x41\x42\x43\x44\x45\x46\x47";
-    let mut bytes = Vec::new(alloc);
-    entry.to_aml_bytes(&mut bytes)?;
-    same(
-        &bytes,
-        b"\x02\x01\x02\0\0\0\x04\x03\x05\x06\x0a\x09\x08\x07\x10\x11\
-            \x12\x13\x14\x15\x16\x17\x18\x19\x1a\x1b\x1c\x1d\x1e\x1fth\
-            e unit to replac\
-            e.\x40\x41\x42\x43\x44\x45\x46\x47",
-    )
-}
-
-#[test]
-fn error_data_refused(rt: HostRuntime) -> Result<(), Fail> {
-    let alloc = rt.alloc();
-    let mut entry = GenericErrorData::new(alloc, ErrorSeverity::Recoverable);
-    entry.add_data(Box::new(alloc, 7u8)?)?;
-    entry.add_data(Box::new(alloc, Broken {})?)?;
-    entry.add_data(Box::new(alloc, 8u8)?)?;
-    let mut wanted = [0; 64];
-    wanted[58..].copy_from_slice(&[0x0a, 7, 1, 2, 3, 4]);
-    let mut bytes = Vec::new(alloc);
-    refuses(entry.to_aml_bytes(&mut bytes), Error::Sink(9))?;
-    same(&bytes, &wanted)
 }

@@ -2,6 +2,8 @@
 #![tactic(auto)]
 
 #[cfg(test)]
+mod core;
+#[cfg(test)]
 mod fixed;
 #[cfg(test)]
 mod hest;

@@ -1,5 +1,6 @@
 //! Tables of structures.
 
+mod additions;
 mod affinity;
 mod cxl;
 mod entries;

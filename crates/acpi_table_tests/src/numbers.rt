@@ -1,7 +1,13 @@
 //! The numbers of enums, as their declarations have them.
 
+use acpi_tables::cedt::{
+    CxlVersion, InterleaveArithmetic, InterleaveGranularity, InterleaveWays, ProtocolType,
+    WindowRestrictions,
+};
 use acpi_tables::fadt::{Flags, PmProfile};
+use acpi_tables::gas::{AccessSize, AddressSpace};
 use acpi_tables::hest::{EnabledStatus, ErrorSeverity, FirmwareFirst, NotificationType};
+use acpi_tables::madt::{self, GicVersion, HartStatus};
 use acpi_tables::rqsc::{ControllerType, ResourceType};
 use acpi_tables::tpm2::{PlatformClass, StartMethod};
 use acpi_vectors::equal;
@@ -90,6 +96,70 @@ fn sources() -> Result<(), Fail> {
         (ControllerType::Bandwidth as u32, 1),
         (ResourceType::Cache as u32, 0),
         (ResourceType::Memory as u32, 1),
+    ] {
+        equal(&number, &wanted)?;
+    }
+    Ok(())
+}
+
+#[test]
+fn lists() -> Result<(), Fail> {
+    for (number, wanted) in [
+        (madt::EnabledStatus::Disabled as u32, 0),
+        (madt::EnabledStatus::Enabled as u32, 1),
+        (madt::EnabledStatus::DisabledOnlineCapable as u32, 2),
+        (HartStatus::Disabled as u32, 0),
+        (HartStatus::Enabled as u32, 1),
+        (HartStatus::OnlineCapable as u32, 2),
+        (GicVersion::Unspecified as u32, 0),
+        (GicVersion::GICv1 as u32, 1),
+        (GicVersion::GICv2 as u32, 2),
+        (GicVersion::GICv3 as u32, 3),
+        (GicVersion::GICv4 as u32, 4),
+        (CxlVersion::Cxl1_1 as u32, 0),
+        (CxlVersion::Cxl2 as u32, 1),
+        (InterleaveArithmetic::Modulo as u32, 0),
+        (InterleaveArithmetic::ModuloXor as u32, 1),
+        (InterleaveGranularity::Granularity256b as u32, 0),
+        (InterleaveGranularity::Granularity512b as u32, 1),
+        (InterleaveGranularity::Granularity1kb as u32, 2),
+        (InterleaveGranularity::Granularity2kb as u32, 3),
+        (InterleaveGranularity::Granularity4kb as u32, 4),
+        (InterleaveGranularity::Granularity8kb as u32, 5),
+        (InterleaveGranularity::Granularity16kb as u32, 6),
+        (InterleaveWays::Ways1 as u32, 0),
+        (InterleaveWays::Ways2 as u32, 1),
+        (InterleaveWays::Ways4 as u32, 2),
+        (InterleaveWays::Ways8 as u32, 3),
+        (InterleaveWays::Ways16 as u32, 4),
+        (InterleaveWays::Ways3 as u32, 8),
+        (InterleaveWays::Ways6 as u32, 9),
+        (InterleaveWays::Ways12 as u32, 10),
+        (WindowRestrictions::CxlType2Memory as u32, 1),
+        (WindowRestrictions::CxlType3Memory as u32, 2),
+        (WindowRestrictions::Volatile as u32, 4),
+        (WindowRestrictions::Persistent as u32, 8),
+        (WindowRestrictions::FixedConfiguration as u32, 16),
+        (ProtocolType::CxlIo as u32, 0),
+        (ProtocolType::CxlMem as u32, 1),
+        (AddressSpace::SystemMemory as u32, 0),
+        (AddressSpace::SystemIo as u32, 1),
+        (AddressSpace::PciConfigSpace as u32, 2),
+        (AddressSpace::EmbeddedController as u32, 3),
+        (AddressSpace::Smbus as u32, 4),
+        (AddressSpace::SystemCmos as u32, 5),
+        (AddressSpace::PciBarTarget as u32, 6),
+        (AddressSpace::Ipmi as u32, 7),
+        (AddressSpace::GeneralPursposeIo as u32, 8),
+        (AddressSpace::GenericSerialBus as u32, 9),
+        (AddressSpace::PlatformCommunicationsChannel as u32, 10),
+        (AddressSpace::PlatformRuntimeMechanism as u32, 11),
+        (AddressSpace::FunctionalFixedHardware as u32, 127),
+        (AccessSize::Undefined as u32, 0),
+        (AccessSize::ByteAccess as u32, 1),
+        (AccessSize::WordAccess as u32, 2),
+        (AccessSize::DwordAccess as u32, 3),
+        (AccessSize::QwordAccess as u32, 4),
     ] {
         equal(&number, &wanted)?;
     }

@@ -59,7 +59,19 @@ fn controllers(rt: HostRuntime) -> Result<(), Fail> {
     for _ in 0..256u16 {
         rqsc.add_controller(controller(alloc))?;
     }
-    many(alloc, &rqsc, b"RQSC", 1, &[0, 1, 0, 0], &CONTROLLER, 256)
+    many(alloc, &rqsc, b"RQSC", 1, &[0, 1, 0, 0], &CONTROLLER, 256)?;
+    for _ in 256..2_341u16 {
+        rqsc.add_controller(controller(alloc))?;
+    }
+    many(
+        alloc,
+        &rqsc,
+        b"RQSC",
+        1,
+        &[0x25, 9, 0, 0],
+        &CONTROLLER,
+        2_341,
+    )
 }
 
 #[test]
@@ -191,6 +203,73 @@ fn resources(rt: HostRuntime) -> Result<(), Fail> {
 }
 
 #[test]
+fn many_resources(rt: HostRuntime) -> Result<(), Fail> {
+    let alloc = rt.alloc();
+    let mut shared = controller(alloc);
+    let mut wanted = Vec::new(alloc);
+    for part in [b"\x01\0\x2c\x08", &CONTROLLER[4..26], b"\x02\x01"] {
+        wanted.extend_from_slice(part)?;
+    }
+    for _ in 0..258u16 {
+        shared.add_resource(vendors(alloc, &[])?)?;
+        wanted.extend_from_slice(b"\x01\0\x08\0\x13\x12\0\x80")?;
+    }
+    writes(alloc, &shared, &wanted)
+}
+
+// A controller of a resource of each kind, behind an empty one.
+#[test]
+fn each_kind(rt: HostRuntime) -> Result<(), Fail> {
+    let alloc = rt.alloc();
+    let mut rqsc = table(alloc);
+    rqsc.add_controller(controller(alloc))?;
+    let mut wanted = Vec::from_slice(alloc, &CONTROLLER)?;
+    many(alloc, &rqsc, b"RQSC", 1, &[1, 0, 0, 0], &wanted, 1)?;
+    let memory = MemoryAffinityStructureResource::new(0x1213_1415, 0x1617_1819_1a1b_1c1d);
+    let acpi = ACPIDeviceResource::new(0x2021_2223_2425_2627, 0x2829_2a2b);
+    let mut shared = controller(alloc);
+    for (kind, flags, id) in [
+        (
+            ResourceType::Memory,
+            0x0201,
+            ResourceID::MemoryAffinityStructure(memory),
+        ),
+        (
+            ResourceType::Cache,
+            0x0403,
+            ResourceID::Cache(CacheResource::new(0x0c0d_0e0f)),
+        ),
+        (ResourceType::Memory, 0x0605, ResourceID::ACPIDevice(acpi)),
+        (
+            ResourceType::Memory,
+            0x0807,
+            ResourceID::PCIDevice(PCIDeviceResource::new(0x2c2d_2e2f)),
+        ),
+        (
+            ResourceType::Cache,
+            0x0a09,
+            ResourceID::VendorSpecific(0x80, b"\x31\x32\x33".to_vec(alloc)?),
+        ),
+    ] {
+        shared.add_resource(ResourceStructure::new(kind, flags, id))?;
+    }
+    for part in [
+        b"\x01\0\x7f\0",
+        &CONTROLLER[4..26],
+        b"\x05\0",
+        b"\x01\0\x1c\0\x01\x02\0\x01\x15\x14\x13\x12\0\0\0\0\0\0\0\0\x1d\x1c\x1b\x1a\x19\x18\x17\x16",
+        b"\0\0\x14\0\x03\x04\0\0\x0f\x0e\x0d\x0c\0\0\0\0\0\0\0\0",
+        b"\x01\0\x14\0\x05\x06\0\x02\x27\x26\x25\x24\x23\x22\x21\x20\x2b\x2a\x29\x28",
+        b"\x01\0\x14\0\x07\x08\0\x03\x2f\x2e\x2d\x2c\0\0\0\0\0\0\0\0",
+        b"\0\0\x0b\0\x09\x0a\0\x80\x31\x32\x33",
+    ] {
+        wanted.extend_from_slice(part)?;
+    }
+    rqsc.add_controller(shared)?;
+    many(alloc, &rqsc, b"RQSC", 1, &[2, 0, 0, 0], &wanted, 1)
+}
+
+#[test]
 fn longest_controller(rt: HostRuntime) -> Result<(), Fail> {
     let alloc = rt.alloc();
     let mut full = controller(alloc);
@@ -201,6 +280,16 @@ fn longest_controller(rt: HostRuntime) -> Result<(), Fail> {
     equal(&full.len(), &28)?;
     writes(alloc, &full, &CONTROLLER)?;
     full.add_resource(vendors(alloc, &[0x5a; 65_499])?)?;
+    let mut wanted = Vec::new(alloc);
+    for part in [
+        b"\x01\0\xff\xff",
+        &CONTROLLER[4..26],
+        b"\x01\0\x01\0\xe3\xff\x13\x12\0\x80",
+    ] {
+        wanted.extend_from_slice(part)?;
+    }
+    wanted.extend_from_slice(&[0x5a; 65_499])?;
+    writes(alloc, &full, &wanted)?;
     equal(&full.len(), &65_535)?;
     refuses(full.add_resource(vendors(alloc, &[])?), Error::FieldWidth)?;
     equal(&full.len(), &65_535)

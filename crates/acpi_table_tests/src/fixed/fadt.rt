@@ -251,7 +251,7 @@ fn setters(rt: HostRuntime) -> Result<(), Fail> {
     let low = b"\xa0\xa1\xa2\xa3";
     let high = b"\xa0\xa1\xa2\xa3\xa4\xa5\xa6\xa7";
     let blocks = b"\x11\x12\x13\x14\x21\x22\x23\x24";
-    let rows: [(FADTBuilder, &[(usize, &[u8])]); 9] = [
+    let rows: [(FADTBuilder, &[(usize, &[u8])]); 10] = [
         (
             old.firmware_ctrl_32(0xa3a2_a1a0),
             &[(36, low), (132, &[0; 8])],
@@ -275,6 +275,27 @@ fn setters(rt: HostRuntime) -> Result<(), Fail> {
         (
             old.gpe_info(0x1413_1211, 0x2423_2221, 0x31, 0x32, 0x33),
             &[(80, blocks), (92, &[0x31, 0x32, 0x33])],
+        ),
+        (
+            old.flag(Flags::ResetRegSup)
+                .dsdt_64(0xa7a6_a5a4_a3a2_a1a0)
+                .acpi_enable()
+                .gpe_info(0x1413_1211, 0x2423_2221, 0x31, 0x32, 0x33)
+                .flag(Flags::Wbinvd)
+                .preferred_pm_profile(PmProfile::Tablet)
+                .flag(Flags::LowPowerS0IdleCapable)
+                .firmware_ctrl_32(0xa3a2_a1a0),
+            &[
+                (36, low),
+                (40, &[0; 4]),
+                (45, &[8]),
+                (52, &[1, 0]),
+                (80, blocks),
+                (92, &[0x31, 0x32, 0x33]),
+                (112, b"\x71\x75\x72\x73"),
+                (132, &[0; 8]),
+                (140, high),
+            ],
         ),
     ];
     for (builder, parts) in rows {

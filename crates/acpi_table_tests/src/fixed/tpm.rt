@@ -78,6 +78,37 @@ fn tcpa_setters(rt: HostRuntime) -> Result<(), Fail> {
     stands(alloc, &all, 58, b"\x07\x0f\x01")
 }
 
+// Flags of the device and of its interrupt where setters follow each other, or one is called twice.
+#[test]
+fn joined_setters(rt: HostRuntime) -> Result<(), Fail> {
+    let server = TpmServer1_2::new(OEM, OEM_TABLE, OEM_REVISION);
+    let port = GAS::default();
+    for (table, flags) in [
+        (server.edge_triggered().active_low(), b"\0\x03"),
+        (server.active_low().edge_triggered(), b"\0\x03"),
+        (server.active_low().active_low(), b"\0\x02"),
+        (server.edge_triggered().edge_triggered(), b"\0\x01"),
+        (server.sci_gpe(7).sci_gpe(7), b"\0\x04"),
+        (server.gsi(5).gsi(5), b"\0\x08"),
+        (server.sci_gpe(7).gsi(5), b"\0\x0c"),
+        (server.gsi(5).sci_gpe(7), b"\0\x0c"),
+        (server.active_low().sci_gpe(7), b"\0\x06"),
+        (server.sci_gpe(7).active_low(), b"\0\x06"),
+        (server.gsi(5).edge_triggered(), b"\0\x09"),
+        (server.bus_is_pnp().bus_is_pnp(), b"\x02\0"),
+        (server.pci_sbdf(1, 2, 3, 4).bus_is_pnp(), b"\x03\0"),
+        (server.bus_is_pnp().pci_sbdf(1, 2, 3, 4), b"\x03\0"),
+        (server.pci_sbdf(1, 2, 3, 4).pci_sbdf(1, 2, 3, 4), b"\x01\0"),
+        (server.config_addr(port).config_addr(port), b"\x04\0"),
+        (server.config_addr(port).pci_sbdf(1, 2, 3, 4), b"\x05\0"),
+        (server.config_addr(port).bus_is_pnp(), b"\x06\0"),
+        (server.bus_is_pnp().config_addr(port), b"\x06\0"),
+    ] {
+        stands(rt.alloc(), &table, 58, flags)?;
+    }
+    Ok(())
+}
+
 #[test]
 fn tpm2(rt: HostRuntime) -> Result<(), Fail> {
     let alloc = rt.alloc();
@@ -112,7 +143,9 @@ fn classes(rt: HostRuntime) -> Result<(), Fail> {
         (PlatformClass::Client, b"\0\0"),
         (PlatformClass::Server, b"\x01\0"),
     ] {
-        let table = Tpm2::new(OEM, OEM_TABLE, OEM_REVISION, class, 0, StartMethod::Mmio);
+        let mut table = Tpm2::new(OEM, OEM_TABLE, OEM_REVISION, class, 0, StartMethod::Mmio);
+        stands(rt.alloc(), &table, 36, wanted)?;
+        table.set_log_area(0x0403_0201, 5)?;
         stands(rt.alloc(), &table, 36, wanted)?;
     }
     Ok(())

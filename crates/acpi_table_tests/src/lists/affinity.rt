@@ -39,6 +39,16 @@ fn memory_flags(rt: HostRuntime) -> Result<(), Fail> {
         (MemoryAffinity::new(0, 0, 0).enabled(), 1),
         (MemoryAffinity::new(0, 0, 0).hotpluggable(), 2),
         (MemoryAffinity::new(0, 0, 0).nonvolatile(), 4),
+        (MemoryAffinity::new(0, 0, 0).enabled().enabled(), 1),
+        (MemoryAffinity::new(0, 0, 0).enabled().hotpluggable(), 3),
+        (MemoryAffinity::new(0, 0, 0).hotpluggable().enabled(), 3),
+        (
+            MemoryAffinity::new(0, 0, 0).hotpluggable().hotpluggable(),
+            2,
+        ),
+        (MemoryAffinity::new(0, 0, 0).nonvolatile().enabled(), 5),
+        (MemoryAffinity::new(0, 0, 0).nonvolatile().hotpluggable(), 6),
+        (MemoryAffinity::new(0, 0, 0).nonvolatile().nonvolatile(), 4),
     ] {
         let mut wanted = [0; 40];
         wanted[0] = 1;
@@ -74,6 +84,47 @@ fn initiators(rt: HostRuntime) -> Result<(), Fail> {
             ),
         ],
     )
+}
+
+#[test]
+fn initiator_flags(rt: HostRuntime) -> Result<(), Fail> {
+    let first = || GenericInitiator::new(0x0403_0201, Handle::new_acpi(*b"ABCDEFGH", *b"ijkl"));
+    for (initiator, flags) in [
+        (first().enabled().enabled(), 1),
+        (first().architectural().architectural(), 2),
+        (first().enabled().architectural(), 3),
+        (first().architectural().enabled(), 3),
+    ] {
+        let mut wanted = *b"\x05\x20\0\0\x01\x02\x03\x04ABCDEFGHijkl\0\0\0\0\0\0\0\0\0\0\0\0";
+        wanted[24] = flags;
+        writes(rt.alloc(), &initiator, &wanted)?;
+    }
+    Ok(())
+}
+
+// A table of one structure of each kind, after each addition.
+#[test]
+fn each_kind(rt: HostRuntime) -> Result<(), Fail> {
+    let alloc = rt.alloc();
+    let mut table = SRAT::new(alloc, OEM, OEM_TABLE, OEM_REVISION);
+    table.add_memory_affinity(MemoryAffinity::new(0x0403_0201, 0x1211, 0x2221).enabled())?;
+    let memory = b"\x01\x28\x01\x02\x03\x04\0\0\x11\x12\0\0\0\0\0\0\
+            \x21\x22\0\0\0\0\0\0\0\0\0\0\x01\0\0\0\0\0\0\0\0\0\0\0";
+    let mut added = Vec::from_slice(alloc, memory)?;
+    many(alloc, &table, b"SRAT", 1, &FIXED, &added, 1)?;
+    let acpi = GenericInitiator::new(0x1413_1211, Handle::new_acpi(*b"ABCDEFGH", *b"ijkl"));
+    table.add_generic_initiator(acpi.enabled().architectural())?;
+    added.extend_from_slice(b"\x05\x20\0\0\x11\x12\x13\x14ABCDEFGHijkl\0\0\0\0\x03\0\0\0\0\0\0\0")?;
+    many(alloc, &table, b"SRAT", 1, &FIXED, &added, 1)?;
+    let pci = GenericInitiator::new(0x2423_2221, Handle::new_pci(0x3231, 0x33, 3, 4));
+    table.add_generic_initiator(pci)?;
+    added.extend_from_slice(
+        b"\x05\x20\0\x01\x21\x22\x23\x24\x31\x32\x33\x1c\0\0\0\0\0\0\0\0\0\0\0\0\0\0\0\0\0\0\0\0",
+    )?;
+    many(alloc, &table, b"SRAT", 1, &FIXED, &added, 1)?;
+    table.add_rintc_affinity(RintcAffinity::new([1, 2, 3, 4], 0x1413_1211).enabled())?;
+    added.extend_from_slice(b"\x07\x14\0\0\0\0\0\0\x01\x02\x03\x04\x01\0\0\0\x11\x12\x13\x14")?;
+    many(alloc, &table, b"SRAT", 1, &FIXED, &added, 1)
 }
 
 #[test]
@@ -118,6 +169,10 @@ fn processors(rt: HostRuntime) -> Result<(), Fail> {
                 b"\x07\x14\0\0\0\0\0\0\x42\x37\x58\xde\x01\0\0\0\x42\x37\x58\xde",
             ),
             (
+                &rintc.enabled().enabled(),
+                b"\x07\x14\0\0\0\0\0\0\x42\x37\x58\xde\x01\0\0\0\x42\x37\x58\xde",
+            ),
+            (
                 &rintc.proximity_domain(0x0403_0201),
                 b"\x07\x14\0\0\x01\x02\x03\x04\x42\x37\x58\xde\0\0\0\0\x42\x37\x58\xde",
             ),
@@ -129,9 +184,9 @@ fn processors(rt: HostRuntime) -> Result<(), Fail> {
 fn many_affinities(rt: HostRuntime) -> Result<(), Fail> {
     let alloc = rt.alloc();
     let mut table = SRAT::new(alloc, OEM, OEM_TABLE, OEM_REVISION);
-    for _ in 0..300u16 {
+    for _ in 0..3_300u16 {
         table.add_rintc_affinity(RintcAffinity::new([1, 2, 3, 4], 5).enabled())?;
     }
     let rintc = [7, 20, 0, 0, 0, 0, 0, 0, 1, 2, 3, 4, 1, 0, 0, 0, 5, 0, 0, 0];
-    many(alloc, &table, b"SRAT", 1, &FIXED, &rintc, 300)
+    many(alloc, &table, b"SRAT", 1, &FIXED, &rintc, 3_300)
 }

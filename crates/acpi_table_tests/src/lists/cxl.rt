@@ -201,6 +201,64 @@ fn granularities_and_restrictions(rt: HostRuntime) -> Result<(), Fail> {
         (one_way(alloc, smallest).volatile(), 4),
         (one_way(alloc, smallest).persistent(), 8),
         (one_way(alloc, smallest).fixed_configuration(), 16),
+        (
+            one_way(alloc, smallest)
+                .cxl_type_2_memory()
+                .cxl_type_2_memory(),
+            1,
+        ),
+        (
+            one_way(alloc, smallest)
+                .cxl_type_2_memory()
+                .cxl_type_3_memory(),
+            3,
+        ),
+        (one_way(alloc, smallest).cxl_type_2_memory().volatile(), 5),
+        (
+            one_way(alloc, smallest)
+                .cxl_type_3_memory()
+                .cxl_type_2_memory(),
+            3,
+        ),
+        (
+            one_way(alloc, smallest)
+                .cxl_type_3_memory()
+                .cxl_type_3_memory(),
+            2,
+        ),
+        (one_way(alloc, smallest).cxl_type_3_memory().volatile(), 6),
+        (
+            one_way(alloc, smallest)
+                .cxl_type_3_memory()
+                .fixed_configuration(),
+            18,
+        ),
+        (one_way(alloc, smallest).volatile().cxl_type_2_memory(), 5),
+        (one_way(alloc, smallest).volatile().cxl_type_3_memory(), 6),
+        (one_way(alloc, smallest).volatile().volatile(), 4),
+        (one_way(alloc, smallest).volatile().persistent(), 12),
+        (one_way(alloc, smallest).persistent().volatile(), 12),
+        (one_way(alloc, smallest).persistent().persistent(), 8),
+        (
+            one_way(alloc, smallest).persistent().fixed_configuration(),
+            24,
+        ),
+        (
+            one_way(alloc, smallest)
+                .fixed_configuration()
+                .cxl_type_2_memory(),
+            17,
+        ),
+        (
+            one_way(alloc, smallest).fixed_configuration().persistent(),
+            24,
+        ),
+        (
+            one_way(alloc, smallest)
+                .fixed_configuration()
+                .fixed_configuration(),
+            16,
+        ),
     ] {
         made.add_target([9, 8, 7, 6])?;
         let mut wanted = ONE_WAY;
@@ -236,11 +294,11 @@ fn maps(rt: HostRuntime) -> Result<(), Fail> {
 fn many_structures(rt: HostRuntime) -> Result<(), Fail> {
     let alloc = rt.alloc();
     let mut table = CEDT::new(alloc, OEM, OEM_TABLE, OEM_REVISION);
-    for _ in 0..300u16 {
+    for _ in 0..3_900u16 {
         table.add_port_association(PortAssociation::new(1, 2, 3, 4, ProtocolType::CxlIo, 5))?;
     }
     let port = [3, 0, 17, 0, 1, 0, 0x1c, 2, 0, 5, 0, 0, 0, 0, 0, 0, 0];
-    many(alloc, &table, b"CEDT", 1, &[], &port, 300)?;
+    many(alloc, &table, b"CEDT", 1, &[], &port, 3_900)?;
     let mut table = CEDT::new(alloc, OEM, OEM_TABLE, OEM_REVISION);
     for _ in 0..256u16 {
         let mut window = one_way(alloc, InterleaveGranularity::Granularity256b);

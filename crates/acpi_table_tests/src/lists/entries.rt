@@ -38,10 +38,24 @@ fn many_entries(rt: HostRuntime) -> Result<(), Fail> {
     }
     let entry = [0x10, 0x32, 0x54, 0x76, 0x98, 0xba, 0xdc, 0xfe];
     many(alloc, &table, b"XSDT", 1, &[], &entry, 256)?;
-    for _ in 256..300u16 {
+    for _ in 256..8_192u16 {
         table.add_entry(0xfedc_ba98_7654_3210)?;
     }
-    many(alloc, &table, b"XSDT", 1, &[], &entry, 300)
+    many(alloc, &table, b"XSDT", 1, &[], &entry, 8_192)
+}
+
+// Different entries, with a true length and sum after each.
+#[test]
+fn each_entry(rt: HostRuntime) -> Result<(), Fail> {
+    let alloc = rt.alloc();
+    let mut table = XSDT::new(alloc, OEM, OEM_TABLE, OEM_REVISION);
+    let mut entries = Vec::new(alloc);
+    for i in 0..128u64 {
+        table.add_entry(42 * i)?;
+        entries.extend_from_slice(&(42 * i).to_le_bytes())?;
+        many(alloc, &table, b"XSDT", 1, &[], &entries, 1)?;
+    }
+    Ok(())
 }
 
 #[test]
@@ -67,11 +81,11 @@ fn mcfg(rt: HostRuntime) -> Result<(), Fail> {
 fn many_spaces(rt: HostRuntime) -> Result<(), Fail> {
     let alloc = rt.alloc();
     let mut table = MCFG::new(alloc, OEM, OEM_TABLE, OEM_REVISION);
-    for _ in 0..300u16 {
+    for _ in 0..4_096u16 {
         table.add_ecam(u64::MAX, u16::MAX, u8::MAX, u8::MAX)?;
     }
     let entry = [
         0xff, 0xff, 0xff, 0xff, 0xff, 0xff, 0xff, 0xff, 0xff, 0xff, 0xff, 0xff, 0, 0, 0, 0,
     ];
-    many(alloc, &table, b"MCFG", 1, &[0; 8], &entry, 300)
+    many(alloc, &table, b"MCFG", 1, &[0; 8], &entry, 4_096)
 }

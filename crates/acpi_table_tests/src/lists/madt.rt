@@ -26,7 +26,9 @@ fn tables(rt: HostRuntime) -> Result<(), Fail> {
     x86.add_structure(ProcessorLocalApic::new(0, 0, EnabledStatus::Enabled))?;
     let one =
         b"APIC\x34\0\0\0\x01\x7bFOOBARCAFEDEAD\xef\xbe\xad\xdeRVAT\0\0\0\x01\0\0\xe0\xfe\0\0\0\0\0\x08\0\0\x01\0\0\0";
-    writes(alloc, &x86, one)
+    writes(alloc, &x86, one)?;
+    let elsewhere = table(alloc, LocalInterruptController::Address(0x0403_0201));
+    stands(alloc, &elsewhere, 36, b"\x01\x02\x03\x04\0\0\0\0")
 }
 
 #[test]
@@ -101,6 +103,15 @@ fn cpu_interface_flags(rt: HostRuntime) -> Result<(), Fail> {
     wanted[20] = 7;
     wanted[56] = 9;
     writes(alloc, &both, &wanted)?;
+    for made in [
+        later
+            .performance_interrupt(7, Trigger::Edge)
+            .maintenance_interrupt(9, Trigger::Edge),
+        both.performance_interrupt(7, Trigger::Edge),
+        both.maintenance_interrupt(9, Trigger::Edge),
+    ] {
+        writes(alloc, &made, &wanted)?;
+    }
     let levels = both
         .performance_interrupt(u32::MAX, Trigger::Level)
         .maintenance_interrupt(0, Trigger::Level);
@@ -144,6 +155,10 @@ fn message_frames(rt: HostRuntime) -> Result<(), Fail> {
             (
                 &first,
                 b"\x0d\x18\0\0\0\0\0\0\0\0\0\0\0\0\0\0\0\0\0\0\0\0\0\0",
+            ),
+            (
+                &own.spi_count_and_base(2, 64),
+                b"\x0d\x18\0\0\0\0\0\0\0\0\0\0\0\0\0\0\x01\0\0\0\x02\0\x40\0",
             ),
             (
                 &own,
@@ -218,7 +233,7 @@ fn controllers_of_harts(rt: HostRuntime) -> Result<(), Fail> {
     equal(&PLIC::len(), &36)?;
     let last = IMSIC::new(u16::MAX, u16::MAX, u8::MAX, u8::MAX, u8::MAX, u8::MAX);
     let aplic = APLIC::new(
-        1,
+        7,
         *b"RSCV0002",
         0x1211,
         0x2423_2221,
@@ -245,7 +260,7 @@ fn controllers_of_harts(rt: HostRuntime) -> Result<(), Fail> {
             ),
             (
                 &aplic,
-                b"\x1a\x24\x01\x01\0\0\0\0RSCV0002\
+                b"\x1a\x24\x01\x07\0\0\0\0RSCV0002\
                     \x11\x12\x51\x52\x21\x22\x23\x24\x31\x32\x33\x34\x35\x36\x37\x38\x41\x42\x43\x44",
             ),
             (
@@ -322,5 +337,6 @@ fn of_many(alloc: Global, count: u16, size: u32) -> Result<(), Fail> {
 fn many_structures(rt: HostRuntime) -> Result<(), Fail> {
     let alloc = rt.alloc();
     of_many(alloc, 256, 2604)?;
-    of_many(alloc, 300, 3044)
+    of_many(alloc, 300, 3044)?;
+    of_many(alloc, 6_600, 66_044)
 }
