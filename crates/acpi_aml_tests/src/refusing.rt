@@ -142,14 +142,20 @@ fn the_first_part_that_refuses(rt: HostRuntime) -> Result<(), Fail> {
     ];
     for (first, refusal) in all {
         for (second, _) in all {
-            let both = || vec![in alloc; first, second];
             refuses(If::new(first, vec![in alloc; second]?), refusal)?;
             refuses(While::new(first, vec![in alloc; second]?), refusal)?;
-            refuses(ResourceTemplate::new(both()?), refusal)?;
-            refuses(Package::new(both()?), refusal)?;
-            refuses(MethodCall::new(Path::new(alloc, "MTHD")?, both()?), refusal)?;
-            let (path, space) = (Path::new(alloc, "PRST")?, OpRegionSpace::SystemIO);
-            refuses(OpRegion::new(path, space, first, second), refusal)?;
+            refuses(
+                ResourceTemplate::new(vec![in alloc; first, second]?),
+                refusal,
+            )?;
+            refuses(Package::new(vec![in alloc; first, second]?), refusal)?;
+            let path = || Path::new(alloc, "NAME");
+            refuses(
+                MethodCall::new(path()?, vec![in alloc; first, second]?),
+                refusal,
+            )?;
+            let region = OpRegion::new(path()?, OpRegionSpace::SystemIO, first, second);
+            refuses(region, refusal)?;
         }
     }
     Ok(())

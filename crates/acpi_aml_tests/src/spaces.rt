@@ -173,9 +173,9 @@ fn ranges_without_a_length(rt: HostRuntime) -> Result<(), Fail> {
     Ok(())
 }
 
-// The name that a device's settings have, over a template of these.
-fn settings(alloc: Global, spaces: Vec<&dyn Aml>) -> R<Name> {
-    Name::new(Path::new(alloc, "_CRS")?, &ResourceTemplate::new(spaces)?)
+// The name that a device's settings have, over a template.
+fn settings(alloc: Global, template: R<ResourceTemplate>) -> R<Name> {
+    Name::new(Path::new(alloc, "_CRS")?, &template?)
 }
 
 #[test]
@@ -185,7 +185,10 @@ fn a_template_of_ports(rt: HostRuntime) -> Result<(), Fail> {
     let high = AddressSpace::new_io(0x0d03u16, 0xfffe, Some(0x0405));
     makes(
         alloc,
-        settings(alloc, vec![in alloc; &low as &dyn Aml, &high]?),
+        settings(
+            alloc,
+            ResourceTemplate::new(vec![in alloc; &low as &dyn Aml, &high]?),
+        ),
         &[
             0x08, 0x5f, 0x43, 0x52, 0x53, 0x11, 0x25, 0x0a, 0x22, 0x88, 0x0d, 0x00, 0x01, 0x0c,
             0x03, 0x00, 0x00, 0x02, 0x01, 0xf7, 0x0c, 0x00, 0x00, 0xf6, 0x0b, 0x88, 0x0d, 0x00,
@@ -204,7 +207,10 @@ fn templates_of_memory(rt: HostRuntime) -> Result<(), Fail> {
     let devices = AddressSpace::new_memory(uncached, true, 0xc010_2030u32, 0xfebf_dcba, None);
     makes(
         alloc,
-        settings(alloc, vec![in alloc; &video as &dyn Aml, &devices]?),
+        settings(
+            alloc,
+            ResourceTemplate::new(vec![in alloc; &video as &dyn Aml, &devices]?),
+        ),
         &[
             0x08, 0x5f, 0x43, 0x52, 0x53, 0x11, 0x39, 0x0a, 0x36, 0x87, 0x17, 0x00, 0x00, 0x0c,
             0x03, 0, 0, 0, 0, 0x00, 0x10, 0x0a, 0x00, 0xdc, 0xfe, 0x0b, 0x00, 0, 0, 0, 0, 0xdd,
@@ -216,7 +222,10 @@ fn templates_of_memory(rt: HostRuntime) -> Result<(), Fail> {
     let large = AddressSpace::new_memory(cached, true, first, last, None);
     makes(
         alloc,
-        settings(alloc, vec![in alloc; &large as &dyn Aml]?),
+        settings(
+            alloc,
+            ResourceTemplate::new(vec![in alloc; &large as &dyn Aml]?),
+        ),
         &[
             0x08, 0x5f, 0x43, 0x52, 0x53, 0x11, 0x33, 0x0a, 0x30, 0x8a, 0x2b, 0x00, 0x00, 0x0c,
             0x03, 0, 0, 0, 0, 0, 0, 0, 0, 0x08, 0x07, 0x06, 0x05, 0x04, 0x03, 0x02, 0x01, 0x81,
