@@ -86,14 +86,17 @@ fn initiators(rt: HostRuntime) -> Result<(), Fail> {
     )
 }
 
+fn initiator() -> GenericInitiator {
+    GenericInitiator::new(0x0403_0201, Handle::new_acpi(*b"ABCDEFGH", *b"ijkl"))
+}
+
 #[test]
 fn initiator_flags(rt: HostRuntime) -> Result<(), Fail> {
-    let first = || GenericInitiator::new(0x0403_0201, Handle::new_acpi(*b"ABCDEFGH", *b"ijkl"));
     for (initiator, flags) in [
-        (first().enabled().enabled(), 1),
-        (first().architectural().architectural(), 2),
-        (first().enabled().architectural(), 3),
-        (first().architectural().enabled(), 3),
+        (initiator().enabled().enabled(), 1),
+        (initiator().architectural().architectural(), 2),
+        (initiator().enabled().architectural(), 3),
+        (initiator().architectural().enabled(), 3),
     ] {
         let mut wanted = *b"\x05\x20\0\0\x01\x02\x03\x04ABCDEFGHijkl\0\0\0\0\0\0\0\0\0\0\0\0";
         wanted[24] = flags;
