@@ -13,7 +13,8 @@ cd "$(dirname "$0")"
 
 prove_libraries acpi_limits acpiread
 quietly acpi_limits run -- VIOT
-quietly acpiread run
+printf '\0' >"$work/file"
+quietly acpiread run -- aml "$work/file"
 limits=crates/acpi_limits/out/acpi_limits
 read=crates/acpiread/out/acpiread
 

@@ -87,8 +87,10 @@ pub fn system_locality(alloc: Global) -> Result<Full, Fault> {
     refused(latencies(alloc, TARGETS as usize + 1))?;
     let structure = latencies(alloc, TARGETS as usize)?;
     let bytes = written(alloc, &structure)?;
-    let length = bytes.get(4..8).unwrap_or(&[]);
-    if length != (bytes.len() as u32).to_le_bytes().as_slice() {
+    let Ok(size) = u32::try_from(bytes.len()) else {
+        return Err(Fault::Length);
+    };
+    if bytes.get(4..8).unwrap_or(&[]) != size.to_le_bytes().as_slice() {
         return Err(Fault::Length);
     }
     Ok(Full {

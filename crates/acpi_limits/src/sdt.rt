@@ -13,9 +13,7 @@ pub fn sized(alloc: Global, size: u32) -> R<Sdt> {
 
 /// The size of the object of a number. Behind a table of `head` bytes the first four end one byte below 2^32, and every later
 /// one is 36 bytes.
-pub fn size_of(number: u32, head: u32) -> u32
-    requires { 0 < head }
-{
+pub fn size_of(number: u32, head: u32) -> u32 {
     match number {
         0..=2 => GIB as u32,
         3 => (GIB as u32).saturating_sub(1).saturating_sub(head),
