@@ -2,7 +2,7 @@
 #![tactic(auto)]
 
 #[cfg(test)]
-mod core;
+mod counts;
 #[cfg(test)]
 mod fixed;
 #[cfg(test)]
