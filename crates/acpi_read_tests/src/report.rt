@@ -136,6 +136,20 @@ fn fields(rt: HostRuntime) -> Result<(), Fail> {
         alloc,
         field,
         "field \\_SB_.PCI0 access 1 lock 0 update 2\n  entry AAAA bits 8\n  reserved bits 8 width 2\n",
+    )?;
+    // No width fits the bits, so that which stands there is told.
+    let wide = Term::Field {
+        width: 1,
+        name: name(alloc, "PRST")?,
+        access: 0,
+        lock: 0,
+        update: 0,
+        entries: vec![in alloc; TermEntry::Reserved(0x1000_0000, 4)]?,
+    };
+    is_told(
+        alloc,
+        wide,
+        "field PRST access 0 lock 0 update 0\n  reserved bits 268435456 width 4\n",
     )
 }
 

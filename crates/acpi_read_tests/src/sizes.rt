@@ -170,7 +170,7 @@ fn large_frames(rt: HostRuntime) -> Result<(), Fail> {
 /// How many kinds of parts there are.
 const PARTS: u8 = 31;
 
-// Parts of each kind that has no frame, and of each width.
+// Parts of each kind that has no frame and of each width, those of each kind that has one, and three of width 0.
 fn part(alloc: Global, kind: u8) -> Result<Term, Fail> {
     let width = kind % 5;
     Ok(match kind {
@@ -235,7 +235,25 @@ fn part(alloc: Global, kind: u8) -> Result<Term, Fail> {
                 TermEntry::Reserved(1, 1),
             ]?,
         },
+        31 => Term::Else {
+            width: 0,
+            body: Vec::new(alloc),
+        },
+        32 => entry(alloc, TermEntry::Named(*b"AAAA", 1, 0))?,
+        33 => entry(alloc, TermEntry::Reserved(1, 0))?,
         _ => framed(alloc, kind - 20, 2, 3)?,
+    })
+}
+
+// A field of one entry.
+fn entry(alloc: Global, entry: TermEntry) -> Result<Term, Fail> {
+    Ok(Term::Field {
+        width: 1,
+        name: name(alloc, "REGS")?,
+        access: 1,
+        lock: 0,
+        update: 0,
+        entries: vec![in alloc; entry]?,
     })
 }
 
@@ -246,6 +264,17 @@ fn parts(rt: HostRuntime) -> Result<(), Fail> {
     for kind in 0..PARTS {
         // 62 and 63 bytes, two of which stand round the padding.
         let size = spell(alloc, &vec![in alloc; part(alloc, kind)?]?)?.len();
+        is_counted(alloc, kind, 60usize.saturating_sub(size), 1)?;
+        is_counted(alloc, kind, 61usize.saturating_sub(size), 2)?;
+    }
+    Ok(())
+}
+
+// A width of 0 can't be spelled. It is counted as one of 1.
+#[test]
+fn widths_of_nothing(rt: HostRuntime) -> Result<(), Fail> {
+    let alloc = rt.alloc();
+    for (kind, size) in [(31, 2usize), (32, 13), (33, 10)] {
         is_counted(alloc, kind, 60usize.saturating_sub(size), 1)?;
         is_counted(alloc, kind, 61usize.saturating_sub(size), 2)?;
     }

@@ -55,6 +55,9 @@ fn numbers(rt: HostRuntime) -> Result<(), Fail> {
         (1, 1, &[0x0a, 0x01]),
         (0xff, 1, &[0x0a, 0xff]),
         (0x100, 2, &[0x0b, 0x00, 0x01]),
+        (0x0201, 2, &[0x0b, 0x01, 0x02]),
+        (0x0403_0201, 4, &[0x0c, 0x01, 0x02, 0x03, 0x04]),
+        (0x0807_0605_0403_0201, 8, &[0x0e, 1, 2, 3, 4, 5, 6, 7, 8]),
         (0x1_0000, 4, &[0x0c, 0x00, 0x00, 0x01, 0x00]),
         (0x1_0000_0000, 8, &[0x0e, 0, 0, 0, 0, 1, 0, 0, 0]),
         (u64::MAX, 8, &[0x0e, 255, 255, 255, 255, 255, 255, 255, 255]),
@@ -240,6 +243,30 @@ fn fields(rt: HostRuntime) -> Result<(), Fail> {
     ]?;
     let term = field(alloc, entries)?;
     is_spelled(alloc, term, b"\x5b\x81\x0dPRST\x41\x00\x20CPEN\x01")
+}
+
+// Access in the low four bits, lock in the next, update in the two after it.
+#[test]
+fn field_flags(rt: HostRuntime) -> Result<(), Fail> {
+    let alloc = rt.alloc();
+    for (access, lock, update, flags) in [(0, 1, 0, 0x10), (5, 0, 1, 0x25), (3, 1, 2, 0x53)] {
+        let term = flagged(alloc, access, lock, update)?;
+        is_spelled(alloc, term, &[0x5b, 0x81, 6, b'P', b'R', b'S', b'T', flags])?;
+    }
+    is_refused(alloc, flagged(alloc, 0, 0, 8)?, Error::FieldWidth)
+}
+
+// A field without entries.
+fn flagged(alloc: Global, access: u8, lock: u8, update: u8) -> Result<Term, Fail> {
+    let name = name(alloc, "PRST")?;
+    Ok(Term::Field {
+        width: 1,
+        name,
+        access,
+        lock,
+        update,
+        entries: Vec::new(alloc),
+    })
 }
 
 #[test]
@@ -447,6 +474,8 @@ fn frames(rt: HostRuntime) -> Result<(), Fail> {
         let content = vec![in rt.alloc(); 0u8; size]?;
         assert!(rt; frame(&[], content)?.starts_with(start));
     }
+    equal(&frame_length(0x1ffd)?, &([0x80, 0x00, 0x02, 0], 3))?;
+    equal(&frame_length(0x123_4563)?, &([0xc7, 0x56, 0x34, 0x12], 4))?;
     equal(&frame_length(0xfff_fffb)?, &([0xcf, 0xff, 0xff, 0xff], 4))?;
     refuses(frame_length(0xfff_fffc), Error::PkgLength)
 }
@@ -493,6 +522,8 @@ fn paths(rt: HostRuntime) -> Result<(), Fail> {
     let alloc = rt.alloc();
     refuses(path_bytes(alloc, ""), Error::NamePart)?;
     refuses(path_bytes(alloc, "ABC"), Error::NamePart)?;
+    refuses(path_bytes(alloc, ".ABC"), Error::NamePart)?;
+    refuses(path_bytes(alloc, "ABC."), Error::NamePart)?;
     same(&path_bytes(alloc, "abcd")?, b"abcd")?;
     same(&path_bytes(alloc, "\\_SB_.COM1")?, b"\x5c\x2e_SB_COM1")
 }

@@ -1,0 +1,77 @@
+//! Bytes that are no terms: the kind and the offset of the fault that is told.
+
+use acpi_read::terms::terms;
+use acpi_term::name_string::{Arities, NameString};
+use acpi_term::read_error::ReadError;
+use acpi_vectors::equal;
+use std::alloc::Global;
+use std::test::Fail;
+
+// Where MTHD takes one argument, these bytes are refused so.
+fn refused(alloc: Global, rows: &[(&[u8], ReadError)]) -> Result<(), Fail> {
+    let arities = Arities::new(vec![in alloc; (NameString::new(alloc, "MTHD")?, 1u8)]?)?;
+    for (bytes, wanted) in rows {
+        equal(&terms(*bytes, &arities).err(), &Some(*wanted))?;
+    }
+    Ok(())
+}
+
+// An opcode that AML doesn't have, 02, is told where it stands in the terms round it.
+#[test]
+fn opcodes(rt: HostRuntime) -> Result<(), Fail> {
+    refused(
+        rt.alloc(),
+        &[
+            (b"\x5b\x02", ReadError::Opcode(0)),
+            (b"MTHD\x02", ReadError::Opcode(4)),
+            (b"\x5b\x80PRST\x00\x02\x00", ReadError::Opcode(7)),
+            (b"\x5b\x80PRST\x00\x00\x02", ReadError::Opcode(8)),
+            (b"\xa0\x02\x02\x00", ReadError::Opcode(2)),
+            (b"\xa2\x02\x02\x00", ReadError::Opcode(2)),
+            (b"\x13\x02\x02\x00", ReadError::Opcode(2)),
+            (b"\x12\x03\x01\x02\x00", ReadError::Opcode(3)),
+            (b"\x08ABCD\x02", ReadError::Opcode(5)),
+        ],
+    )
+}
+
+// Bytes end before a term does: the term that lacks some of its own is told, or the place of a term that is missing.
+#[test]
+fn ends(rt: HostRuntime) -> Result<(), Fail> {
+    refused(
+        rt.alloc(),
+        &[
+            (b"\x5b\x01ABCD", ReadError::Truncated(0)),
+            (b"\x5b\x80ABCD", ReadError::Truncated(0)),
+            (b"\x14\x05ABCD", ReadError::Truncated(0)),
+            (b"\x5b\x84\x05ABCD", ReadError::Truncated(0)),
+            (b"\x5b\x81\x05ABCD", ReadError::Truncated(0)),
+            (b"\x12\x01", ReadError::Truncated(0)),
+            (b"\x5b", ReadError::Truncated(0)),
+            (b"\x2f", ReadError::Truncated(0)),
+            (b"\x5c", ReadError::Truncated(0)),
+            (b"\x10", ReadError::Truncated(0)),
+            (b"\x10\x01", ReadError::Truncated(0)),
+            (b"\x08", ReadError::Truncated(0)),
+            (b"\x08ABCD", ReadError::Truncated(5)),
+            (b"\x00\xa0\x01\x00", ReadError::Truncated(1)),
+        ],
+    )
+}
+
+// A length of two bytes whose lead byte has one of its two bits set that have to be zero, and terms too deep with none inside.
+#[test]
+fn lengths_and_depth(rt: HostRuntime) -> Result<(), Fail> {
+    let alloc = rt.alloc();
+    let deep = vec![in alloc; 0x92u8; 255]?;
+    refused(
+        alloc,
+        &[
+            (
+                b"\x10\x50\x00ABCD\0\0\0\0\0\0\0\0\0\0",
+                ReadError::Length(0),
+            ),
+            (&deep, ReadError::TooDeep(255)),
+        ],
+    )
+}
