@@ -3,6 +3,10 @@
 #![tactic(auto)]
 
 #[cfg(test)]
+mod flags;
+#[cfg(test)]
+mod later_offsets;
+#[cfg(test)]
 mod numbers;
 #[cfg(test)]
 mod pptt;

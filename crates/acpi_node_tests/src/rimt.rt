@@ -177,6 +177,8 @@ fn wires_and_mappings(rt: HostRuntime) -> Result<(), Fail> {
         (true, false, false, 1),
         (false, true, false, 2),
         (false, false, true, 4),
+        (true, false, true, 5),
+        (false, true, true, 6),
     ] {
         let mut wanted = *b"\0\0\0\0\0\0\0\0\0\0\0\0\x30\0\0\0\0\0\0\0";
         wanted[16] = flags;

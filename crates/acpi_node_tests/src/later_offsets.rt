@@ -1,0 +1,98 @@
+//! Offsets past 65,535, and numbers of nodes past 65,535.
+
+use acpi_base::error::R;
+use acpi_tables::pptt::{CacheNodeBuilder, PPTT, ProcessorNode};
+use acpi_tables::rhct::{CmoNode, HartInfoNode, RHCT, VirtualAddressScheme};
+use acpi_tables::rimt::{IdMapping, Iommu, PcieRootComplex, RIMT};
+use acpi_vectors::table::{many, stands};
+use acpi_vectors::{OEM, OEM_REVISION, OEM_TABLE};
+use std::alloc::Global;
+use std::test::Fail;
+
+// This many equal nodes, and these behind them.
+fn nodes(alloc: Global, node: &[u8], count: u32, last: &[u8]) -> R<Vec<u8>> {
+    let mut bytes = Vec::new(alloc);
+    for _ in 0..count {
+        bytes.extend_from_slice(node)?;
+    }
+    bytes.extend_from_slice(last)?;
+    Ok(bytes)
+}
+
+// The last of 7,001 caches stands at 36 + 28 * 7,000, which is 0x2fdc4. The nodes behind it stand at 0x2fde0, 0x2fdfc, 0x2fe14.
+#[test]
+fn pptt(rt: HostRuntime) -> Result<(), Fail> {
+    let alloc = rt.alloc();
+    let mut table = PPTT::new(alloc, OEM, OEM_TABLE, OEM_REVISION);
+    let node = CacheNodeBuilder::default().id(0x0403_0201).to_node();
+    let mut shared = table.add_cache(node)?;
+    for _ in 0..7000u16 {
+        shared = table.add_cache(node)?;
+    }
+    let own = CacheNodeBuilder::default().next_level(&shared).to_node();
+    let own = table.add_cache(own)?;
+    let package = ProcessorNode::new(alloc, None, 5).add_cache(&shared)?;
+    let package = table.add_processor(package)?;
+    let core = ProcessorNode::new(alloc, Some(&package), 6)
+        .add_cache(&own)?
+        .add_cache(&shared)?;
+    table.add_processor(core)?;
+    stands(alloc, &table, 0, b"PPTT\x30\xfe\x02\0\x03")?;
+    let cache = b"\x01\x1c\0\0\x80\0\0\0\0\0\0\0\0\0\0\0\0\0\0\0\0\0\0\0\x01\x02\x03\x04";
+    let last = b"\x01\x1c\0\0\0\0\0\0\xc4\xfd\x02\0\0\0\0\0\0\0\0\0\0\0\0\0\0\0\0\0\
+\0\x18\0\0\0\0\0\0\0\0\0\0\x05\0\0\0\x01\0\0\0\xc4\xfd\x02\0\
+\0\x1c\0\0\0\0\0\0\xfc\xfd\x02\0\x06\0\0\0\x02\0\0\0\xe0\xfd\x02\0\xc4\xfd\x02\0";
+    let wanted = nodes(alloc, cache, 7001, last)?;
+    many(alloc, &table, b"PPTT", 3, &[], &wanted, 1)
+}
+
+// 66,047 nodes end at 56 + 8 * 66,047, which is 0x81030. The nodes behind the string there stand at 0x8103c, 0x81046 and 0x81050.
+#[test]
+fn rhct(rt: HostRuntime) -> Result<(), Fail> {
+    let alloc = rt.alloc();
+    let mut table = RHCT::new(alloc, OEM, OEM_TABLE, OEM_REVISION, 1);
+    for _ in 0..66_047u32 {
+        table.add_mmu_node(VirtualAddressScheme::Sv57)?;
+    }
+    let string = table.add_isa_string("abc")?;
+    let first = table.add_cmo(CmoNode::new(1, 2, 3))?;
+    let second = table.add_cmo(CmoNode::new(4, 5, 6))?;
+    let hart = HartInfoNode::new(alloc, 0x0403_0201, &string)?
+        .with_cmo(&second)?
+        .with_cmo(&first)?;
+    table.add_hart_info(hart)?;
+    stands(alloc, &table, 0, b"RHCT\x68\x10\x08\0\x01")?;
+    let last = b"\0\0\x0c\0\x01\0\x04\0abc\0\
+\x01\0\x0a\0\x01\0\0\x01\x02\x03\
+\x01\0\x0a\0\x01\0\0\x04\x05\x06\
+\xff\xff\x18\0\x01\0\x03\0\x01\x02\x03\x04\x30\x10\x08\0\x46\x10\x08\0\x3c\x10\x08\0";
+    let wanted = nodes(alloc, b"\x02\0\x08\0\x01\0\0\x02", 66_047, last)?;
+    let fixed = b"\0\0\0\0\x01\0\0\0\0\0\0\0\x03\x02\x01\0\x38\0\0\0";
+    many(alloc, &table, b"RHCT", 1, fixed, &wanted, 1)
+}
+
+// 66,048 root complexes end at 48 + 16 * 66,048, which is 0x102030. The devices behind the IOMMU there: at 0x102050, 0x102070.
+#[test]
+fn rimt(rt: HostRuntime) -> Result<(), Fail> {
+    let alloc = rt.alloc();
+    let mut table = RIMT::new(alloc, OEM, OEM_TABLE, OEM_REVISION);
+    for _ in 0..66_048u32 {
+        table.add_pcie_root_complex(PcieRootComplex::new(0x0201, 0x0403, false, true, None))?;
+    }
+    let first = table.add_iommu(Iommu::new(7, None, None, None, None))?;
+    let second = table.add_iommu(Iommu::new(8, None, None, None, None))?;
+    let mut mappings = Vec::new(alloc);
+    mappings.push(IdMapping::new(1, 2, 3, second, true, false, true))?;
+    mappings.push(IdMapping::new(4, 5, 6, first, false, true, true))?;
+    table.add_pcie_root_complex(PcieRootComplex::new(9, 10, false, false, Some(mappings)))?;
+    stands(alloc, &table, 0, b"RIMT\xa8\x20\x10\0\x01")?;
+    let last = b"\0\x01\x20\0\x07\0\0\0\0\0\0\0\0\0\0\0\0\0\0\0\0\0\0\0\0\0\0\0\0\0\x20\0\
+\0\x01\x20\0\x08\0\0\0\0\0\0\0\0\0\0\0\0\0\0\0\0\0\0\0\0\0\0\0\0\0\x20\0\
+\x01\x01\x38\0\x09\0\x0a\0\0\0\0\0\x10\0\x02\0\
+\x01\0\0\0\x02\0\0\0\x03\0\0\0\x50\x20\x10\0\x05\0\0\0\
+\x04\0\0\0\x05\0\0\0\x06\0\0\0\x30\x20\x10\0\x06\0\0\0";
+    let complex = b"\x01\x01\x10\0\x01\x02\x03\x04\x02\0\0\0\x10\0\0\0";
+    let wanted = nodes(alloc, complex, 66_048, last)?;
+    let fixed = b"\x03\x02\x01\0\x30\0\0\0\0\0\0\0";
+    many(alloc, &table, b"RIMT", 1, fixed, &wanted, 1)
+}
