@@ -238,6 +238,8 @@ fn locality_types_and_flags(rt: HostRuntime) -> Result<(), Fail> {
         let mut made = flagged(alloc, kind)?;
         made.minimum_transfer_size_required();
         flags(alloc, &made, number)?;
+        made.minimum_transfer_size_required();
+        flags(alloc, &made, number)?;
     }
     Ok(())
 }

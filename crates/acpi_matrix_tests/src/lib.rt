@@ -4,6 +4,8 @@
 #[cfg(test)]
 mod hmat;
 #[cfg(test)]
+mod large;
+#[cfg(test)]
 mod numbers;
 #[cfg(test)]
 mod slit;
