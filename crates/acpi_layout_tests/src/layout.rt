@@ -5,6 +5,7 @@ use acpi_tables::fadt::FADTBuilder;
 use acpi_tables::layout::{Image, lay};
 use acpi_tables::mcfg::MCFG;
 use acpi_tables::read::Table;
+use acpi_tables::rhct::IsaStringNode;
 use acpi_tables::sdt::Sdt;
 use acpi_tables::{Aml, Error, R};
 use acpi_vectors::broken::Broken;
@@ -16,18 +17,18 @@ fn fadt() -> FADTBuilder {
     FADTBuilder::new(OEM, OEM_TABLE, OEM_REVISION)
 }
 
-fn dsdt(alloc: Global, length: u32) -> R<Sdt> {
+pub(crate) fn dsdt(alloc: Global, length: u32) -> R<Sdt> {
     Sdt::new(alloc, *b"DSDT", length, 2, OEM, OEM_TABLE, OEM_REVISION)
 }
 
-fn mcfg(alloc: Global) -> R<MCFG> {
+pub(crate) fn mcfg(alloc: Global) -> R<MCFG> {
     let mut table = MCFG::new(alloc, OEM, OEM_TABLE, OEM_REVISION);
     table.add_ecam(0xb000_0000, 0, 0, 0xff)?;
     Ok(table)
 }
 
 // An image at a multiple of 64.
-fn image(alloc: Global, units: u64, sdt: &Sdt, tables: Vec<&dyn Aml>) -> R<Image> {
+pub(crate) fn image(alloc: Global, units: u64, sdt: &Sdt, tables: Vec<&dyn Aml>) -> R<Image> {
     let base = units % 0x0400_0000_0000_0000 * 64;
     lay(
         base,
@@ -42,7 +43,12 @@ fn image(alloc: Global, units: u64, sdt: &Sdt, tables: Vec<&dyn Aml>) -> R<Image
 }
 
 // All bytes are zero but these at their offsets.
-fn holds(alloc: Global, bytes: &[u8], size: usize, parts: &[(usize, &[u8])]) -> Result<(), Fail> {
+pub(crate) fn holds(
+    alloc: Global,
+    bytes: &[u8],
+    size: usize,
+    parts: &[(usize, &[u8])],
+) -> Result<(), Fail> {
     let mut wanted = Vec::new(alloc);
     wanted.resize(size, 0)?;
     for (at, part) in parts {
@@ -55,7 +61,8 @@ fn holds(alloc: Global, bytes: &[u8], size: usize, parts: &[(usize, &[u8])]) -> 
 }
 
 // The FACS without its zeros at the end, a DSDT of 36 bytes, an FADT up to its DSDT's address.
-const SHARED: [u8; 33] = *b"FACS\x40\0\0\0\0\0\0\0\0\0\0\0\0\0\0\0\0\0\0\0\0\0\0\0\0\0\0\0\x01";
+pub(crate) const SHARED: [u8; 33] =
+    *b"FACS\x40\0\0\0\0\0\0\0\0\0\0\0\0\0\0\0\0\0\0\0\0\0\0\0\0\0\0\0\x01";
 
 const EMPTY_DSDT: [u8; 36] = *b"DSDT\x24\0\0\0\x02_FOOBARCAFEDEAD\xef\xbe\xad\xdeRVAT\0\0\0\x01";
 
@@ -316,6 +323,8 @@ fn ends_of_memory(rt: HostRuntime) -> Result<(), Fail> {
     )
 }
 
+const LETTERS: [u8; 65_526] = [b'a'; 65_526];
+
 #[test]
 fn refused_tables(rt: HostRuntime) -> Result<(), Fail> {
     let alloc = rt.alloc();
@@ -328,5 +337,10 @@ fn refused_tables(rt: HostRuntime) -> Result<(), Fail> {
         let between = vec![in alloc; &mcfg as &dyn Aml, &broken, &mcfg]?;
         refuses(image(alloc, units, &sdt, between), Error::Sink(9))?;
     }
-    Ok(())
+    // the first of two refusals
+    let long = IsaStringNode::new(str::from_utf8(&LETTERS)?);
+    let tables = vec![in alloc; &mcfg as &dyn Aml, &long, &broken]?;
+    refuses(image(alloc, 0x40, &sdt, tables), Error::FieldWidth)?;
+    let tables = vec![in alloc; &mcfg as &dyn Aml, &broken, &long]?;
+    refuses(image(alloc, 0x40, &sdt, tables), Error::Sink(9))
 }
