@@ -1,6 +1,6 @@
 //! Tables that are refused.
 
-use crate::pieces::{reads, refusal};
+use crate::pieces::refusal;
 use crate::samples::{AER_DEVICE, COUNT, nth};
 use acpi_term::read_error::ReadError;
 use acpi_vectors::table::{mend, table};
@@ -100,85 +100,6 @@ fn lengths(rt: HostRuntime) -> Result<(), Fail> {
     Ok(())
 }
 
-// A table whose one structure begins with these bytes and has this many, the others zero.
-fn is_padded(
-    alloc: Global,
-    case: (&[u8; 4], &[u8], &[u8], usize, usize, &str),
-) -> Result<(), Fail> {
-    let (signature, fields, front, at, size, report) = case;
-    let mut structure = Vec::from_slice(alloc, front)?;
-    structure.resize(size, 0)?;
-    let bytes = table(alloc, signature, 1, &[fields, &structure])?;
-    reads(alloc, &bytes, &[(at, &structure)], report)
-}
-
-// Structures that are as long as up to the end of the field of their length, and long ones.
-#[test]
-fn least_and_long(rt: HostRuntime) -> Result<(), Fail> {
-    let cases: [(&[u8; 4], &[u8], &[u8], usize, usize, &str); 7] = [
-        (
-            b"APIC",
-            &[0; 8],
-            b"\x01\x02",
-            44,
-            2,
-            "APIC length 46 revision 1 sum 0\n44 type 1 size 2\n",
-        ),
-        (
-            b"APIC",
-            &[0; 8],
-            b"\x01\xff",
-            44,
-            255,
-            "APIC length 299 revision 1 sum 0\n44 type 1 size 255\n",
-        ),
-        (
-            b"CEDT",
-            b"",
-            b"\xff\0\x04\0",
-            36,
-            4,
-            "CEDT length 40 revision 1 sum 0\n36 type 255 size 4\n",
-        ),
-        (
-            b"CEDT",
-            b"",
-            b"\x02\x01\x03\x02",
-            36,
-            515,
-            "CEDT length 551 revision 1 sum 0\n36 type 2 size 515\n",
-        ),
-        (
-            b"RHCT",
-            b"\0\0\0\0\0\0\0\0\0\0\0\0\x01\0\0\0\x38\0\0\0",
-            b"\x01\x02\x04\0",
-            56,
-            4,
-            "RHCT length 60 revision 1 sum 0\n56 type 513 size 4\n",
-        ),
-        (
-            b"HMAT",
-            &[0; 4],
-            b"\x02\x01\0\0\x08\0\0\0",
-            40,
-            8,
-            "HMAT length 48 revision 1 sum 0\n40 type 258 size 8\n",
-        ),
-        (
-            b"HMAT",
-            &[0; 4],
-            b"\x01\0\0\0\x03\x02\x01\0",
-            40,
-            0x1_0203,
-            "HMAT length 66091 revision 1 sum 0\n40 type 1 size 66051\n",
-        ),
-    ];
-    for case in cases {
-        is_padded(rt.alloc(), case)?;
-    }
-    Ok(())
-}
-
 // The refusal of a table of two error sources.
 fn of_two(alloc: Global, first: &[u8], second: &[u8]) -> Result<ReadError, Fail> {
     let bytes = table(alloc, b"HEST", 1, &[b"\x02\0\0\0", first, second])?;
@@ -197,6 +118,11 @@ fn sources(rt: HostRuntime) -> Result<(), Fail> {
         let second = of_two(alloc, AER_DEVICE, &source)?;
         equal(&second, &ReadError::UnknownSource(84))?;
     }
+    // Types with no byte behind them.
+    let first = of_two(alloc, b"\xff\xff", b"")?;
+    equal(&first, &ReadError::UnknownSource(40))?;
+    let second = of_two(alloc, AER_DEVICE, b"\xff\xff")?;
+    equal(&second, &ReadError::UnknownSource(84))?;
     for (kind, size) in [(6, 47), (7, 43), (8, 55), (9, 63), (10, 91)] {
         let mut source = [0; 92];
         source[0] = kind;

@@ -7,6 +7,8 @@ mod changed;
 #[cfg(test)]
 mod faults;
 #[cfg(test)]
+mod large;
+#[cfg(test)]
 mod mutated;
 #[cfg(test)]
 mod pieces;

@@ -3,6 +3,7 @@
 use crate::pieces::reads;
 use crate::samples::{COUNT, nth};
 use acpi_vectors::table::{mend, table};
+use std::alloc::Global;
 use std::test::Fail;
 
 // A table of each signature, and the same without structures, whose fields tell of none.
@@ -44,6 +45,128 @@ fn others(rt: HostRuntime) -> Result<(), Fail> {
     ] {
         let body = b"\0\x01\0\x02\xff\xff\0\0\x03\0\0\0";
         reads(alloc, &table(alloc, signature, 2, &[body])?, &[], line)?;
+    }
+    Ok(())
+}
+
+// A table whose one structure begins with these bytes and has this many, the others zero.
+fn is_padded(
+    alloc: Global,
+    case: (&[u8; 4], &[u8], &[u8], usize, usize, &str),
+) -> Result<(), Fail> {
+    let (signature, fields, front, at, size, report) = case;
+    let mut structure = Vec::from_slice(alloc, front)?;
+    structure.resize(size, 0)?;
+    let bytes = table(alloc, signature, 1, &[fields, &structure])?;
+    reads(alloc, &bytes, &[(at, &structure)], report)
+}
+
+// Structures that are as long as up to the end of the field of their length, and long ones.
+#[test]
+fn least_and_long(rt: HostRuntime) -> Result<(), Fail> {
+    let cases: [(&[u8; 4], &[u8], &[u8], usize, usize, &str); 7] = [
+        (
+            b"APIC",
+            &[0; 8],
+            b"\x01\x02",
+            44,
+            2,
+            "APIC length 46 revision 1 sum 0\n44 type 1 size 2\n",
+        ),
+        (
+            b"APIC",
+            &[0; 8],
+            b"\x01\xff",
+            44,
+            255,
+            "APIC length 299 revision 1 sum 0\n44 type 1 size 255\n",
+        ),
+        (
+            b"CEDT",
+            b"",
+            b"\xff\0\x04\0",
+            36,
+            4,
+            "CEDT length 40 revision 1 sum 0\n36 type 255 size 4\n",
+        ),
+        (
+            b"CEDT",
+            b"",
+            b"\x02\x01\x03\x02",
+            36,
+            515,
+            "CEDT length 551 revision 1 sum 0\n36 type 2 size 515\n",
+        ),
+        (
+            b"RHCT",
+            b"\0\0\0\0\0\0\0\0\0\0\0\0\x01\0\0\0\x38\0\0\0",
+            b"\x01\x02\x04\0",
+            56,
+            4,
+            "RHCT length 60 revision 1 sum 0\n56 type 513 size 4\n",
+        ),
+        (
+            b"HMAT",
+            &[0; 4],
+            b"\x02\x01\0\0\x08\0\0\0",
+            40,
+            8,
+            "HMAT length 48 revision 1 sum 0\n40 type 258 size 8\n",
+        ),
+        (
+            b"HMAT",
+            &[0; 4],
+            b"\x01\0\0\0\x03\x02\x01\0",
+            40,
+            0x1_0203,
+            "HMAT length 66091 revision 1 sum 0\n40 type 1 size 66051\n",
+        ),
+    ];
+    for case in cases {
+        is_padded(rt.alloc(), case)?;
+    }
+    Ok(())
+}
+
+// Reserved bytes of a structure, and of the fields before it, have any value.
+#[test]
+fn reserved(rt: HostRuntime) -> Result<(), Fail> {
+    let cases: [(&[u8; 4], &[u8], &[u8], usize, usize, &str); 4] = [
+        (
+            b"PPTT",
+            b"",
+            b"\0\x14\x01\x02",
+            36,
+            20,
+            "PPTT length 56 revision 1 sum 0\n36 type 0 size 20\n",
+        ),
+        (
+            b"VIOT",
+            b"\x01\0\x30\0\x01\x02\x03\x04\x05\x06\x07\x08",
+            b"\x03\x01\x10\0",
+            48,
+            16,
+            "VIOT length 64 revision 1 sum 0\n48 type 3 size 16\n",
+        ),
+        (
+            b"RQSC",
+            b"\x01\0\0\0",
+            b"\0\x01\x1c\0",
+            40,
+            28,
+            "RQSC length 68 revision 1 sum 0\n40 type 0 size 28\n",
+        ),
+        (
+            b"HMAT",
+            b"\x01\x02\x03\x04",
+            b"\0\0\x01\x02\x28\0\0\0",
+            40,
+            40,
+            "HMAT length 80 revision 1 sum 0\n40 type 0 size 40\n",
+        ),
+    ];
+    for case in cases {
+        is_padded(rt.alloc(), case)?;
     }
     Ok(())
 }
