@@ -63,13 +63,18 @@ fn refuses_terms(rt: HostRuntime) -> Result<(), Fail> {
     let words = ["aml", file];
     refuses(&rt, file, &words, b"\x12\x05\x02\x00\x01", "Length")?;
     refuses(&rt, file, &words, b"\x12\x04\x03\x00\x01", "Count")?;
-    // A port's buffer that passes its device.
+    // A port's buffer that passes its device. No term begins with 02.
     let mut port = PORT;
     port[LENGTH] = 0x17;
-    refuses(&rt, file, &words, &port[36..], "Length")?;
-    // No term begins with 02.
-    let line = "refused at 0: Opcode\n";
-    tells(&rt, file, &words, &[(b"\x02", line)])
+    tells(
+        &rt,
+        file,
+        &words,
+        &[
+            (&port[36..], "refused at 27: Length\n"),
+            (b"\x02", "refused at 0: Opcode\n"),
+        ],
+    )
 }
 
 #[test]

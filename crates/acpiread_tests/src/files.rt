@@ -34,13 +34,19 @@ fn ends_at_the_length(rt: HostRuntime) -> Result<(), Fail> {
     // The higher bytes of a length count.
     let mut long = DSDT;
     long[5] = 1;
-    let cases: [(&[u8], usize); 6] = [
+    let mut longer = DSDT;
+    longer[6] = 1;
+    let mut longest = DSDT;
+    longest[7] = 1;
+    let cases: [(&[u8], usize); 8] = [
         (&DSDT, 42),
         (&[], 37),
         (&none, 37),
         (&low, 37),
         (&header, 37),
         (&long, 298),
+        (&longer, 65_578),
+        (&longest, 16_777_258),
     ];
     for (bytes, count) in cases {
         let read = read_table(rt.alloc(), Endless(bytes))?;

@@ -115,3 +115,30 @@ fn no_room(rt: HostRuntime) -> Result<(), Fail> {
     let mut err = Full::new(rt.alloc(), 0);
     equal(&start(&rt, &mut out, &mut err), &1)
 }
+
+// A writer that takes these bytes in turn and no others.
+#[derive(Drop)]
+struct Only<'a>(&'a [u8]);
+
+impl Write for Only<'_> {
+    fn write(&mut self, buf: &[u8]) -> io::Result<usize> {
+        if !self.0.starts_with(buf) {
+            return Err(Error::from(ErrorKind::StorageFull));
+        }
+        self.0 = &self.0[buf.len()..];
+        Ok(buf.len())
+    }
+
+    fn flush(&mut self) -> io::Result<()> {
+        Ok(())
+    }
+}
+
+// Whatever the words are, one line tells that neither a report nor a fault could be told.
+#[test]
+fn room_for_a_line(rt: HostRuntime) -> Result<(), Fail> {
+    let mut out = Full::new(rt.alloc(), 0);
+    let mut err = Only(b"the output can't be written\n");
+    equal(&start(&rt, &mut out, &mut err), &1)?;
+    same(err.0, b"")
+}
