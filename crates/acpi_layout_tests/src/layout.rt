@@ -337,7 +337,7 @@ fn refused_tables(rt: HostRuntime) -> Result<(), Fail> {
         let between = vec![in alloc; &mcfg as &dyn Aml, &broken, &mcfg]?;
         refuses(image(alloc, units, &sdt, between), Error::Sink(9))?;
     }
-    // the first of two refusals
+    // Of two refusals the first is told.
     let long = IsaStringNode::new(str::from_utf8(&LETTERS)?);
     let tables = vec![in alloc; &mcfg as &dyn Aml, &long, &broken]?;
     refuses(image(alloc, 0x40, &sdt, tables), Error::FieldWidth)?;

@@ -71,7 +71,7 @@ fn rhct(rt: HostRuntime) -> Result<(), Fail> {
     many(alloc, &table, b"RHCT", 1, fixed, &wanted, 1)
 }
 
-// 66,048 root complexes end at 48 + 16 * 66,048, which is 0x102030. The devices behind the IOMMU there: at 0x102050, 0x102070.
+// 66,048 root complexes end at 48 + 16 * 66,048, which is 0x102030. Devices behind the IOMMU there stand at 0x102050, 0x102070.
 #[test]
 fn rimt(rt: HostRuntime) -> Result<(), Fail> {
     let alloc = rt.alloc();
