@@ -188,6 +188,11 @@ fn the_last_offset(rt: HostRuntime) -> Result<(), Fail> {
         &MmioEndpoint::new(0, 0, &last),
         b"\x02\0\x18\0\0\0\0\0\0\0\0\0\0\0\0\0\xe8\xff\0\0\0\0\0\0",
     )?;
+    writes(
+        alloc,
+        &range(&last),
+        b"\x01\0\x18\0\x25\x03\0\0\x01\x02\x07\x08\x25\x03\xff\xff\xe8\xff\0\0\0\0\0\0",
+    )?;
     refuses(
         table.add_virtio_mmio_iommu(VirtIoMmioIommu::new(0)),
         Error::FieldWidth,
