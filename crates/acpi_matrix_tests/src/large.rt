@@ -1,12 +1,27 @@
 //! A matrix of more than 255 rows and columns, in a table that passes 65,535 bytes.
 
-use acpi_tables::Error;
 use acpi_tables::hmat::{
     DataType, HMAT, LocalityType, MemoryProximityDomain, MinTransferSize, SystemLocality,
 };
+use acpi_tables::{Error, R};
 use acpi_vectors::table::{patched, stands, table};
 use acpi_vectors::{OEM, OEM_REVISION, OEM_TABLE, refuses};
+use std::alloc::Global;
 use std::test::Fail;
+
+// What stands behind the header, with no cell set.
+fn structures(alloc: Global) -> R<Vec<u8>> {
+    let mut bytes = Vec::new(alloc);
+    bytes.extend_from_slice(
+        b"\0\0\0\0\x01\0\0\0\x40\x12\x02\0\x03\x05\x0b\0\x02\x01\0\0\x03\x01\0\0\0\0\0\0\x01\x02\x03\x04\x05\x06\x07\x08",
+    )?;
+    bytes.resize(2104, 0)?;
+    bytes.resize(135_748, 0xff)?;
+    bytes.extend_from_slice(
+        b"\0\0\0\0\x28\0\0\0\x01\0\0\0\x01\x02\x03\x04\x11\x12\x13\x14\0\0\0\0\0\0\0\0\0\0\0\0\0\0\0\0\0\0\0\0",
+    )?;
+    Ok(bytes)
+}
 
 // 258 initiators and 259 targets: 32 + 4 * 258 + 4 * 259 + 2 * 258 * 259 bytes, which are 0x21240. Cells begin at 40 + 2,100.
 #[test]
@@ -34,14 +49,8 @@ fn matrix(rt: HostRuntime) -> Result<(), Fail> {
     hmat.add_system_locality(made)?;
     hmat.add_memory_proximity(MemoryProximityDomain::new(0x0403_0201, 0x1413_1211))?;
     stands(alloc, &hmat, 0, b"HMAT\x90\x12\x02\0\x01")?;
-    let head =
-        b"\x01\0\0\0\x40\x12\x02\0\x03\x05\x0b\0\x02\x01\0\0\x03\x01\0\0\0\0\0\0\x01\x02\x03\x04\x05\x06\x07\x08";
-    let mut cells = Vec::new(alloc);
-    cells.resize(2068, 0)?;
-    cells.resize(135_712, 0xff)?;
-    let last =
-        b"\0\0\0\0\x28\0\0\0\x01\0\0\0\x01\x02\x03\x04\x11\x12\x13\x14\0\0\0\0\0\0\0\0\0\0\0\0\0\0\0\0\0\0\0\0";
-    let before = table(alloc, b"HMAT", 1, &[&[0; 4], head, &cells, last])?;
+    let structures = structures(alloc)?;
+    let before = table(alloc, b"HMAT", 1, &[&structures])?;
     // 40 + 32 + 4 * 257; 40 + 32 + 4 * 516; 2,140 + 2 * 517; 2,140 + 2 * 66,563; 2,140 + 2 * 66,821
     patched(
         alloc,
