@@ -4,8 +4,8 @@
 # the sizes: a table of n structures has the bytes of its head and n times those of a structure, and fewer than 2^32 (2^16 for
 # VIOT, whose offsets have two bytes).
 #
-# It takes 12 GiB of memory, 5 GiB of disk for a sparse file, and some minutes. The programs and what they stand on are proved
-# first.
+# It takes 9 GiB of memory and six minutes, beside the proofs of the programs and of what they stand on, which come first. A file
+# is as long as the most bytes, but takes no room: it is a hole.
 set -eu
 cd "$(dirname "$0")"
 
