@@ -21,7 +21,7 @@ pub enum Fault {
     /// The bytes aren't a true table.
     #[error("{0}")]
     Read(#[from] ReadError),
-    /// A structure tells another length than it has.
+    /// The length field of a structure isn't its number of bytes.
     #[error("the length at offset 4 is wrong")]
     Length,
     /// A call that passes the limit was accepted.

@@ -1,4 +1,4 @@
-//! Bytes that are no terms: the kind and the offset of the fault that is told.
+//! Bytes that are no terms: the kind and the offset of the fault.
 
 use acpi_read::terms::terms;
 use acpi_term::name_string::{Arities, NameString};
@@ -16,7 +16,7 @@ fn refused(alloc: Global, rows: &[(&[u8], ReadError)]) -> Result<(), Fail> {
     Ok(())
 }
 
-// An opcode that AML doesn't have, 02, is told where it stands in the terms round it.
+// 02 is no opcode of AML. The fault is at this byte, whatever terms it stands in.
 #[test]
 fn opcodes(rt: HostRuntime) -> Result<(), Fail> {
     refused(
@@ -31,11 +31,12 @@ fn opcodes(rt: HostRuntime) -> Result<(), Fail> {
             (b"\x13\x02\x02\x00", ReadError::Opcode(2)),
             (b"\x12\x03\x01\x02\x00", ReadError::Opcode(3)),
             (b"\x08ABCD\x02", ReadError::Opcode(5)),
+            (b"\x10\x06_SB_\x02", ReadError::Opcode(6)),
         ],
     )
 }
 
-// Bytes end before a term does: the term that lacks some of its own is told, or the place of a term that is missing.
+// Bytes end before a term does: the fault is at the term that lacks some of its own, or where a term is missing.
 #[test]
 fn ends(rt: HostRuntime) -> Result<(), Fail> {
     refused(
@@ -54,19 +55,25 @@ fn ends(rt: HostRuntime) -> Result<(), Fail> {
             (b"\x10\x01", ReadError::Truncated(0)),
             (b"\x08", ReadError::Truncated(0)),
             (b"\x08ABCD", ReadError::Truncated(5)),
+            (b"\x00\x0a", ReadError::Truncated(1)),
+            (b"\x70\x01", ReadError::Truncated(2)),
             (b"\x00\xa0\x01\x00", ReadError::Truncated(1)),
         ],
     )
 }
 
-// A length of two bytes whose lead byte has one of its two bits set that have to be zero, and terms too deep with none inside.
+// A package of more or fewer elements than its number, a length that is no term's or whose lead byte has one of its two bits
+// set that have to be zero, and terms too deep with none inside.
 #[test]
-fn lengths_and_depth(rt: HostRuntime) -> Result<(), Fail> {
+fn counts_lengths_and_depth(rt: HostRuntime) -> Result<(), Fail> {
     let alloc = rt.alloc();
     let deep = vec![in alloc; 0x92u8; 255]?;
     refused(
         alloc,
         &[
+            (b"\x12\x04\x03\x00\x01", ReadError::Count(5)),
+            (b"\x12\x04\x01\x00\x01", ReadError::Count(0)),
+            (b"\x00\x11\x04\x0a", ReadError::Length(1)),
             (
                 b"\x10\x50\x00ABCD\0\0\0\0\0\0\0\0\0\0",
                 ReadError::Length(0),

@@ -70,7 +70,7 @@ fn arguments(rt: HostRuntime) -> Result<(), Fail> {
     )
 }
 
-// A width is told where the least one would be another. The scope ABCD contains a scope of one string.
+// The report has a width where another one is the least. The scope ABCD contains an empty scope and a string.
 #[test]
 fn widths(rt: HostRuntime) -> Result<(), Fail> {
     let zeros =

@@ -5,7 +5,6 @@ mod mutated;
 use acpi_read::terms::terms;
 use acpi_term::name_string::{Arities, NameString};
 use acpi_term::op::Op;
-use acpi_term::read_error::ReadError;
 use acpi_term::term::{MAX_DEPTH, Term, TermEntry};
 use acpi_vectors::{agree, equal};
 use std::alloc::Global;
@@ -100,24 +99,6 @@ fn flags_and_texts(rt: HostRuntime) -> Result<(), Fail> {
             (b"\x0da", "Truncated"),
         ],
     )
-}
-
-// The term's first byte is told, or where a term is missing.
-#[test]
-fn offsets(rt: HostRuntime) -> Result<(), Fail> {
-    let none = nothing_stated(rt.alloc())?;
-    let cases: [(&[u8], ReadError); 6] = [
-        (&[0x00, 0x0a], ReadError::Truncated(1)),
-        (&[0x70, 0x01], ReadError::Truncated(2)),
-        (&[0x12, 0x04, 0x03, 0x00, 0x01], ReadError::Count(5)),
-        (&[0x12, 0x04, 0x01, 0x00, 0x01], ReadError::Count(0)),
-        (b"\x10\x06_SB_\x02", ReadError::Opcode(6)),
-        (b"\x00\x11\x04\x0a", ReadError::Length(1)),
-    ];
-    for (bytes, wanted) in cases {
-        equal(&terms(bytes, &none).err(), &Some(wanted))?;
-    }
-    Ok(())
 }
 
 #[test]
