@@ -1,12 +1,12 @@
 -- Any list of calls.
 use Rattle.std.proofs.Common.{◌≡◌, ℕ, List, [], ◌∷◌, ◌++◌, ◌≤◌, length, take, drop, refl, sym, ap, subst, ◌∙◌, append_assoc, Bool, arith}
-use Rattle.std.specs.Prelude.{Result, Ok, Err, None}
+use Rattle.std.specs.Prelude.{Ok, Err, None}
 use Rattle.std.proofs.lemmas.List.{append-nil, take_at, take-append-le, take-append-drop, length-take}
 use Rattle.acpi_base.specs.declared.walk.Walk.{Walk}
 use Rattle.acpi_base.specs.Object.{Object}
 use Rattle.acpi_base.specs.Walk.{ArePieces}
 use Rattle.acpi_core.specs.Listing.{Listing, IsListing, bytes_of, with_structure}
-use Rattle.acpi_core.specs.Addition.{Counted, Adds, AddsAt}
+use Rattle.acpi_core.specs.Addition.{Counted}
 use Rattle.acpi_core.specs.Offset.{IsLater, StandsAt, StandIn}
 use Rattle.acpi_core.specs.Walk.{Keeps}
 use Rattle.acpi_core.specs.Calls.{Call, adds, adds_at, refused, AreCalls, table_after, accepted, with_all, StandAtHandles, IsAfter, IsAfterItsCalls, NodeStands, HoldsNodes}

@@ -5,6 +5,7 @@ use Rattle.std.specs.List.{concat}
 use Rattle.std.proofs.lemmas.List.{append-nil, length-replicate, replicate-append-replicate}
 use Rattle.std.proofs.lemmas.List.Sums.{sum_by-append}
 use Rattle.std.proofs.lemmas.Bool.Decides.{nat_tests}
+use Rattle.std.proofs.Math.Nat.{min-eq_left}
 use Rattle.acpi_base.specs.Bytes.{le, put, complement}
 use Rattle.acpi_base.specs.Header.{header}
 use Rattle.acpi_base.specs.Table.{with_checksum}
@@ -12,7 +13,7 @@ use Rattle.acpi_base.proofs.Bytes.{length_le}
 use Rattle.acpi_base.proofs.Puts.{put_in, put-put, put_comm, length-put, put-append}
 use Rattle.acpi_base.proofs.Tables.{length-header, length-with_checksum}
 use Rattle.acpi_core.specs.Listing.{Listing, IsListing, fixed_fields, body_of, bytes_of, size_of, with_structure}
-use Rattle.acpi_core.specs.Flat.{IsFlat, has_space, patched, Settles}
+use Rattle.acpi_core.specs.Flat.{IsFlat, has_space, number_up_to, patched, Settles}
 use Rattle.acpi_base.specs.declared.error.Error.{Error}
 use Rattle.acpi_base.specs.declared.error.Error.TheVariants.{FieldWidth}
 use Rattle.acpi_core.specs.Addition.{has_room, refusal_of}
@@ -86,6 +87,22 @@ module _ (t : Listing) (is : IsListing t) (x : List ℕ) where
 cleared : (t : Listing) → IsListing t → put 9 (0 ∷ []) (bytes_of t) ≡ put 9 (0 ∷ []) (plain t)
 cleared t is = put-put 9 (0 ∷ []) (complement (sum (put 9 (0 ∷ []) (plain t))) ∷ []) (plain t) refl (omega (arith, length-plain t is))
 
+pub small_number : (n : ℕ) → n ≤ 4294967295 → number_up_to n ≡ n
+small_number n small = min-eq_left small
+
+-- the number of structures that a field of two bytes or four has is counted as it is
+narrow : (w n : ℕ) → (w ≡ 2) ⊎ (w ≡ 4) → n < 2 ^ (8 * w) → n ≤ 4294967295
+narrow w n (inl e) fits = omega (arith, subst (λ (v : ℕ). n < 2 ^ (8 * v)) e fits)
+narrow w n (inr e) fits = omega (arith, subst (λ (v : ℕ). n < 2 ^ (8 * v)) e fits)
+
+pub told_number : (w n count : ℕ) → (w ≡ 0) ⊎ ((w ≡ 2) ⊎ (w ≡ 4)) → (w ≡ 0) ⊎ (n < 2 ^ (8 * w)) → count ≡ number_up_to n → (w ≡ 0) ⊎ (count ≡ n)
+told_number w n count width fits told =
+    ⊎_elim (λ e. inl e) (λ k. ⊎_elim (λ e. inl e) (λ f. inr (told ∙ small_number n (narrow w n k f))) fits) width
+
+-- one more than a number up to a limit is counted up to this limit
+next_number : (n count count' : ℕ) → count ≡ number_up_to n → count' ≡ number_up_to (count + 1) → count' ≡ number_up_to (n + 1)
+next_number n count count' is next = grind (arith, nat_tests, is, next)
+
 counts_on : (w count n k : ℕ) → (w ≡ 0) ⊎ (count ≡ k) → (w ≡ 0) ⊎ ((n ≡ count + 1) × (n < 2 ^ (8 * w))) → (w ≡ 0) ⊎ (n ≡ k + 1)
 counts_on w count n k h next = ⊎_elim (λ e. inl e) (λ p. ⊎_elim (λ e. inl e) (λ e. inr (omega (arith, p.0, e))) h) next
 
@@ -102,17 +119,22 @@ module _ (t : Listing) (fixed body : List ℕ) (running count at w limit : ℕ) 
   size_flat : length fixed + length body ≡ size_of t
   size_flat = omega (arith, flat.fixed_size, ap length flat.joined)
 
+  pub number_flat : (w ≡ 0) ⊎ (count ≡ length t.structures)
+  number_flat =
+      told_number w (length t.structures) count (subst (λ (v : ℕ). (v ≡ 0) ⊎ ((v ≡ 2) ⊎ (v ≡ 4))) (sym flat.same_width) flat.is.width)
+      (subst (λ (v : ℕ). (v ≡ 0) ⊎ (length t.structures < 2 ^ (8 * v))) (sym flat.same_width) flat.is.counted) flat.counted
+
   -- what settling leaves of all bytes
   pub flat_added : (size' count' running' : ℕ) (settled body' : List ℕ) (lists' : Listing) → lists' ≡ with_structure t x → body' ≡ body ++ x
       → size' ≡ length fixed + length body + length x → has_space (length fixed + length body) (length x) limit count w ≡ true
-      → (w ≡ 0) ⊎ ((count' ≡ count + 1) × (count' < 2 ^ (8 * w))) → Settles fixed running at w size' count' x settled running'
+      → (w ≡ 0) ⊎ ((count' ≡ count + 1) × (count' < 2 ^ (8 * w))) → count' ≡ number_up_to (count + 1) → Settles fixed running at w size' count' x settled running'
       → IsFlat lists' settled body' running' count' at w limit
-  flat_added size' count' running' settled body' lists' lists grown told space counts settles =
+  flat_added size' count' running' settled body' lists' lists grown told space counts next settles =
       let t' = with_structure t x in
-      let number : (w ≡ 0) ⊎ (count' ≡ length t.structures + 1) = counts_on w count count' (length t.structures) flat.counted counts in
+      let number : (w ≡ 0) ⊎ (count' ≡ length t.structures + 1) = counts_on w count count' (length t.structures) number_flat counts in
       let numbers : le t.count_width count' ≡ le t.count_width (length t.structures + 1) = rw (← flat.same_width) (le_counts w count' (length t.structures + 1) number) in
       let size_is : size' ≡ size_of t + length x = omega (arith, told, size_flat) in
-      let fits : (w ≡ 0) ⊎ (length t'.structures < 2 ^ (8 * w)) = count_fits w count count' (length t.structures) (length t'.structures) (length-append t.structures (x ∷ [])) flat.counted counts in
+      let fits : (w ≡ 0) ⊎ (length t'.structures < 2 ^ (8 * w)) = count_fits w count count' (length t.structures) (length t'.structures) (length-append t.structures (x ∷ [])) number_flat counts in
       let small : size_of t' < t'.limit = omega (arith, size_more t flat.is x, size_is, below_limit (length fixed + length body) (length x) limit count w space, flat.same_limit, told) in
       let is' : IsListing t' = record { signature = flat.is.signature; id = flat.is.id; table_id = flat.is.table_id; width = flat.is.width; limit = flat.is.limit; counted = subst (λ (v : ℕ). (v ≡ 0) ⊎ (length t'.structures < 2 ^ (8 * v))) flat.same_width fits; fits = small } in
       let long : 36 + length t.before + w + length t.after ≡ length fixed = omega (arith, flat.fixed_size, flat.same_width) in
@@ -160,7 +182,7 @@ module _ (t : Listing) (fixed body : List ℕ) (running count at w limit : ℕ) 
         place = flat.place;
         same_width = flat.same_width;
         same_limit = flat.same_limit;
-        counted = ⊎_elim (λ e. inl e) (λ e. inr (e ∙ sym (length-append t.structures (x ∷ [])))) number;
+        counted = next_number (length t.structures) count count' flat.counted next ∙ ap number_up_to (sym (length-append t.structures (x ∷ [])));
         sums = running_is ∙ ap (λ z. sum z % 256) (sym (ap (put 9 (0 ∷ [])) bytes_are ∙ cleared t' is'));
       } in
       rw lists flat'
@@ -225,7 +247,7 @@ flat_new t fixed body made running limit n four six eight width none size small 
       place = refl;
       same_width = refl;
       same_limit = refl;
-      counted = inr (sym (ap length none));
+      counted = sym (ap (λ (s : List (List ℕ)). number_up_to (length s)) none);
       sums = sums ∙ ap (λ b. sum (put 9 (0 ∷ []) b) % 256) (sym (ap (λ b. fixed ++ b) empty ∙ append-nil fixed));
     }
 
@@ -238,7 +260,7 @@ pub room_is : (t : Listing) (fixed body : List ℕ) (running count at w limit : 
     → has_space (length fixed + length body) n limit count w ≡ has_room t n
 room_is t fixed body running count at w limit flat n =
     let size = size_flat t fixed body running count at w limit flat [] in
-    same_space (length fixed + length body) n limit count (length t.structures) w flat.counted
+    same_space (length fixed + length body) n limit count (length t.structures) w (number_flat t fixed body running count at w limit flat [])
     ∙ ap (λ k. has_space k n limit (length t.structures) w) size ∙ ap (λ k. has_space (size_of t) n k (length t.structures) w) flat.same_limit
     ∙ ap (λ k. has_space (size_of t) n t.limit (length t.structures) k) flat.same_width
 

@@ -6,3 +6,4 @@ pub mod Handles
 pub mod Parts
 pub mod Structures
 pub mod Calls
+pub mod Numbers

@@ -1,5 +1,5 @@
 -- Tables in one flat list: the fixed part, and after it all structures.
-use Rattle.std.specs.Prelude.{◌≡◌, ℕ, ◌+◌, ◌-◌, ◌*◌, ◌%◌, ◌^◌, ◌<◌, ◌⊎◌, ◌==◌, ◌||◌, ◌&&◌, nat_lt, Bool, List, [], ◌∷◌, ◌++◌}
+use Rattle.std.specs.Prelude.{◌≡◌, ℕ, ◌+◌, ◌-◌, ◌*◌, ◌%◌, ◌^◌, ◌<◌, ◌==◌, ◌||◌, ◌&&◌, nat_lt, min, Bool, List, [], ◌∷◌, ◌++◌}
 use Rattle.std.specs.Prelude.{length, sum}
 use Rattle.std.specs.List.{concat}
 use Rattle.acpi_base.specs.Bytes.{le, put}
@@ -19,6 +19,10 @@ new_listing form before after = record {
   structures = [];
 }
 
+-- what 32 bits have of a number: no structure takes them further
+abbrev pub number_up_to : ℕ → ℕ
+number_up_to n = min n 4294967295
+
 -- The parts of a flat table are those of this one: all bytes are its bytes, and the sum is that of all but the checksum.
 pub record IsFlat (t : Listing) (fixed body : List ℕ) (running count count_at count_width limit : ℕ) : Type 0 where
   pub is : IsListing t
@@ -28,7 +32,7 @@ pub record IsFlat (t : Listing) (fixed body : List ℕ) (running count count_at 
   pub place : count_at ≡ 36 + length t.before
   pub same_width : count_width ≡ t.count_width
   pub same_limit : limit ≡ t.limit
-  pub counted : (count_width ≡ 0) ⊎ (count ≡ length t.structures)
+  pub counted : count ≡ number_up_to (length t.structures)
   pub sums : running ≡ sum (put 9 (0 ∷ []) (fixed ++ body)) % 256
 
 -- whether a length and a number of structures fit their fields, with this many bytes and one structure more

@@ -7,5 +7,6 @@ pub mod kind;
 pub mod laws;
 pub mod listed;
 pub mod settle;
+pub mod structure;
 pub mod table;
 pub mod walked;

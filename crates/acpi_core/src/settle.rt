@@ -2,7 +2,7 @@
 
 ghost use Rattle.std.specs.Prelude.{◌≡◌, ◌+◌, ◌*◌, ◌^◌, ◌%◌, ◌<◌, ◌≤◌, ◌⊎◌, true, false, length, sum, OnOk, IfOk, IfErr};
 ghost use Rattle.acpi_base.specs.Bytes.{le, put};
-ghost use Rattle.acpi_core.specs.Flat.{has_space, Settles};
+ghost use Rattle.acpi_core.specs.Flat.{has_space, number_up_to, Settles};
 
 use acpi_base::error::{Error, R};
 use acpi_base::patch::{patch, write_at};
@@ -21,6 +21,7 @@ pub(crate) fn grown(
     requires width { (count_width ≡ 0) ⊎ ((count_width ≡ 2) ⊎ (count_width ≡ 4)) }
     ensures size { IfOk result (λ r. r.0 ≡ size + structure) }
     ensures count { IfOk result (λ r. (count_width ≡ 0) ⊎ ((r.1 ≡ count + 1) × (r.1 < 2 ^ (8 * count_width)))) }
+    ensures number { IfOk result (λ r. r.1 ≡ number_up_to (count + 1)) }
     ensures ok { OnOk result (has_space size structure limit count count_width ≡ true) }
     ensures err { IfErr result (λ e. (e ≡ Error.FieldWidth) × (has_space size structure limit count count_width ≡ false)) }
 {
@@ -29,7 +30,7 @@ pub(crate) fn grown(
     }
     let size = (size + structure) as u32;
     match count_width {
-        0 => Ok((size, 0)),
+        0 => Ok((size, count.saturating_add(1))),
         2 => {
             if count >= 0xffff {
                 return Err(Error::FieldWidth);

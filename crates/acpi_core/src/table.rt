@@ -3,13 +3,13 @@
 ghost use Rattle.std.specs.Prelude.{◌≡◌, ◌+◌, ◌^◌, ◌<◌, ◌≤◌, ◌⊎◌, length};
 ghost use Rattle.acpi_base.specs.Object.{whole, whole_ends_well};
 ghost use Rattle.acpi_core.specs.Listing.{IsListing, bytes_of, size_of};
-ghost use Rattle.acpi_core.specs.Flat.{new_listing};
+ghost use Rattle.acpi_core.specs.Flat.{new_listing, number_up_to};
 ghost use Rattle.acpi_core.specs.Addition.{Adds, AddsAt};
 
 use crate::form::Form;
 use crate::listed::Listed;
 use crate::settle::{grown, settle};
-use acpi_base::buffer::append_value;
+use crate::structure::Structure;
 use acpi_base::error::R;
 use acpi_base::header::{header, seal};
 use acpi_base::object::Aml;
@@ -111,11 +111,11 @@ impl<const N: usize> Table<N> {
     }
 
     /// Adds the bytes that an object writes as a structure at the end. The object's own refusal, else FieldWidth as `add`.
-    pub fn add_object<T: Aml>(&mut self, structure: &T) -> R<()>
-        ensures { Adds result self.old (T.object structure.now) self.new }
+    pub fn add_object<S: Structure>(&mut self, structure: &S) -> R<()>
+        ensures { Adds result self.old (S.writes structure.now) self.new }
     {
         let start = self.body.len();
-        if let Err(refusal) = append_value(structure, &mut self.body) {
+        if let Err(refusal) = structure.append_to(&mut self.body) {
             self.body.truncate(start);
             return Err(refusal);
         }
@@ -152,8 +152,8 @@ impl<const N: usize> Table<N> {
     }
 
     /// As `add_object`, and returns where the structure begins.
-    pub fn add_object_at<T: Aml>(&mut self, structure: &T) -> R<u32>
-        ensures { AddsAt result self.old (T.object structure.now) self.new }
+    pub fn add_object_at<S: Structure>(&mut self, structure: &S) -> R<u32>
+        ensures { AddsAt result self.old (S.writes structure.now) self.new }
     {
         let at = self.len();
         self.add_object(structure)?;
@@ -165,5 +165,12 @@ impl<const N: usize> Table<N> {
         ensures { result ≡ size_of self.now.table }
     {
         (N + self.body.len()) as u32
+    }
+
+    /// The number of structures, and 2^32 - 1 for more of them. Only structures of no bytes can be as many.
+    pub fn count(&self) -> u32
+        ensures { result ≡ number_up_to (length self.now.table.structures) }
+    {
+        self.count
     }
 }

@@ -1,16 +1,18 @@
 //! Tables whose structures are found by the walk of their kind.
 
-ghost use Rattle.std.specs.Prelude.{◌≡◌, ◌<◌, ◌^◌, [], length, None, IsTrue, IfOk};
+ghost use Rattle.std.specs.Prelude.{◌≡◌, ◌<◌, ◌≤◌, ◌^◌, [], length, None, IsTrue, IfOk};
 ghost use Rattle.acpi_base.specs.Fields.{fields_joined};
 ghost use Rattle.acpi_base.specs.Object.{whole, whole_ends_well};
 ghost use Rattle.acpi_base.specs.Table.{IsTrueTable};
-ghost use Rattle.acpi_base.specs.Walk.{IsPiece, ArePieces};
+ghost use Rattle.acpi_base.specs.Walk.{IsPiece, ArePieces, place_width};
 ghost use Rattle.acpi_core.specs.Addition.{Adds, AddsAt};
 ghost use Rattle.acpi_core.specs.Calls.{HoldsNodes, IsAfterItsCalls};
+ghost use Rattle.acpi_core.specs.Flat.{number_up_to};
 ghost use Rattle.acpi_core.specs.Listing.{Listing, bytes_of};
 ghost use Rattle.acpi_core.specs.Walk.{IsWalkOf, IsWalked, Keeps};
 
 use crate::kind::Kind;
+use crate::structure::Known;
 use crate::table::Table;
 use acpi_base::error::R;
 use acpi_base::object::Aml;
@@ -86,7 +88,15 @@ impl<K: Kind, const N: usize> Walked<K, N> {
         requires { IsTrue K.closed → (T.object structure.now).end ≡ None → IsPiece K.walk.sizes (T.object structure.now).front }
         ensures { Adds result self.old (T.object structure.now) self.new }
     {
-        self.table.add_object(structure)
+        self.table.add_object(&Known(structure))
+    }
+
+    /// As `add_object`, for a borrowed object of any type.
+    pub fn add_borrowed(&mut self, structure: &dyn Aml) -> R<()>
+        requires { IsTrue K.closed → (object structure.now).end ≡ None → IsPiece K.walk.sizes (object structure.now).front }
+        ensures { Adds result self.old (object structure.now) self.new }
+    {
+        self.table.add_object(&structure)
     }
 
     /// As `add_object`, and returns where the structure begins.
@@ -95,7 +105,24 @@ impl<K: Kind, const N: usize> Walked<K, N> {
         ensures adds { AddsAt result self.old (T.object structure.now) self.new }
         ensures below { IfOk result (λ at. at < K.limit) }
     {
-        self.table.add_object_at(structure)
+        self.table.add_object_at(&Known(structure))
+    }
+
+    /// The number of bytes of the table.
+    pub fn len(&self) -> usize
+        ensures { result ≡ length (bytes_of self.now.table) }
+    {
+        self.table.len() as usize
+    }
+
+    /// The number of structures. Where structures of a caller have no bytes and the table has no field for their number,
+    /// there can be 2^32 or more: this is then 2^32 - 1.
+    pub fn count(&self) -> u32
+        ensures number { result ≡ number_up_to (length self.now.table.structures) }
+        ensures closed { IsTrue K.closed → result ≡ length self.now.table.structures }
+        ensures counted { 1 ≤ place_width K.walk.count → result ≡ length self.now.table.structures }
+    {
+        self.table.count()
     }
 }
 

@@ -12,4 +12,4 @@ invariant_of-self-2 g c =
     let items = pushed x refl c.in_ok-extend_from_slice.was c.extend_from_slice.ensures.items in
     let space = ap (λ n. has_space n (length x) i.limit i.count i.count_width) size in
     flat_added i.listed.table i.fixed i.body.items _ _ _ _ _ c.self.invariant x _ _ _ _ _ _ c.with-self-inside.ensures items
-    (omega (arith, c.in_ok-size.ensures.size, size)) (sym space ∙ c.in_ok-size.ensures.ok) c.in_ok-size.ensures.count c.settle.ensures.settles
+    (omega (arith, c.in_ok-size.ensures.size, size)) (sym space ∙ c.in_ok-size.ensures.ok) c.in_ok-size.ensures.count c.in_ok-size.ensures.number c.settle.ensures.settles
