@@ -16,6 +16,7 @@ pub struct NameString;
 impl Path {
     /// The path of a text: a `\` or none, and then parts between dots. NamePart if any part isn't four bytes long, else
     /// PathParts past 255 of them.
+    #[inline(always)]
     pub fn new(alloc: Global, text: &str) -> R<Path>
         ensures { Builds result (path_of text.now) }
     {

@@ -1,7 +1,7 @@
 //! How the structures of tables are found.
 
 ghost use Rattle.std.specs.Prelude.{◌≡◌, ◌↔◌, ◌≤◌, length, IsTrue, IfSome};
-ghost use Rattle.acpi_base.specs.Walk.{source_size, named, find_walk, walk_of, number_in, end_of, Tells, IsSound};
+ghost use Rattle.acpi_base.specs.Walk.{source_size, named, find_walk, walk_of, number_in, place_offset, end_of, Tells, IsSound};
 
 /// A field of one byte, two or four at an offset; or there is none.
 #[derive(Clone, Copy, Debug)]
@@ -96,6 +96,16 @@ pub fn source_size(kind: usize) -> Option<usize>
 }
 
 impl Place {
+    /// Where the field begins. A field that is nowhere begins at 0.
+    pub fn offset(self) -> usize
+        ensures { result ≡ place_offset self }
+    {
+        match self {
+            Place::Nowhere => 0,
+            Place::Byte(at) | Place::Word(at) | Place::DWord(at) => usize::from(at),
+        }
+    }
+
     /// Where the field ends.
     pub fn end(self) -> usize
         ensures { result ≡ end_of self }

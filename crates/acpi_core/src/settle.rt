@@ -10,6 +10,7 @@ use acpi_base::sum::Sum;
 
 /// The length of a table of this many bytes and structures with one structure more, and their number. FieldWidth where the
 /// length would reach the limit, or the number doesn't fit its field.
+#[inline(always)]
 pub(crate) fn grown(
     size: usize,
     structure: usize,
@@ -66,6 +67,7 @@ fn patch_count(fixed: &mut [u8], running: &mut Sum, at: usize, width: usize, cou
 
 /// Makes the length, the number of structures and the checksum of a fixed part true, where one structure more stands
 /// after it.
+#[inline(always)]
 pub(crate) fn settle(
     fixed: &mut [u8],
     running: &mut Sum,

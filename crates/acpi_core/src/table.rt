@@ -85,6 +85,7 @@ impl<const N: usize> Table<N> {
 
     /// Adds a structure of these bytes at the end. FieldWidth where the length or the number of structures would pass its
     /// field.
+    #[inline(always)]
     pub fn add(&mut self, structure: &[u8]) -> R<()>
         ensures { Adds result self.old (whole structure.now) self.new }
     {

@@ -10,8 +10,7 @@ use acpi_tables::bert::BERT;
 use acpi_tables::fadt::{FADTBuilder, Flags};
 use acpi_tables::gas::{AccessSize, AddressSpace, GAS};
 use acpi_tables::hest::{
-    EnabledStatus, GenericHardwareSource, HEST, NotificationStructure, NotificationType,
-    PcieAerRootPort,
+    self, GenericHardwareSource, HEST, NotificationStructure, NotificationType, PcieAerRootPort,
 };
 use std::alloc::Global;
 
@@ -60,7 +59,7 @@ pub fn error_sources(alloc: Global, base: u64) -> R<HEST> {
         base.wrapping_add(ERROR_STATUS),
     );
     table.add_structure(
-        GenericHardwareSource::new(1, EnabledStatus::Enabled)
+        GenericHardwareSource::new(1, hest::EnabledStatus::Enabled)
             .num_records(1)
             .max_sections(1)
             .max_raw_length(0x1000)

@@ -5,12 +5,10 @@ use crate::machine::{
 };
 use crate::oem::{OEM_ID, OEM_REVISION, OEM_TABLE_ID};
 use crate::source_override::InterruptSourceOverride;
-use acpi_tables::R;
-use acpi_tables::madt::{
-    EnabledStatus, IoApic, LocalInterruptController, MADT, ProcessorLocalApic,
-};
+use acpi_tables::madt::{self, IoApic, LocalInterruptController, MADT, ProcessorLocalApic};
 use acpi_tables::mcfg::MCFG;
 use acpi_tables::srat::{MemoryAffinity, SRAT};
+use acpi_tables::{Aml, R};
 use std::alloc::Global;
 
 /// The interrupt controllers: a local APIC for each processor, and an I/O APIC for devices. The timer's interrupt is 0, and it
@@ -19,11 +17,17 @@ pub fn interrupt_controllers(alloc: Global) -> R<MADT> {
     let local = LocalInterruptController::Address(LOCAL_APIC);
     let mut table = MADT::new(alloc, OEM_ID, OEM_TABLE_ID, OEM_REVISION, local);
     for processor in 0..PROCESSORS {
-        table.add_structure(ProcessorLocalApic::new(processor, processor, EnabledStatus::Enabled))?;
+        let status = madt::EnabledStatus::Enabled;
+        table.add_structure(ProcessorLocalApic::new(processor, processor, status))?;
     }
-    table.add_structure(IoApic::new(0, IO_APIC, 0))?;
-    table.add_structure(InterruptSourceOverride::of_timer(0, 2))?;
-    table.add_structure(InterruptSourceOverride::active_high(SCI))?;
+    // Devices of several types, as a monitor has them in a list.
+    let mut devices: Vec<Box<dyn Aml + Drop>> = Vec::new(alloc);
+    devices.push(Box::new(alloc, IoApic::new(0, IO_APIC, 0))?)?;
+    devices.push(Box::new(alloc, InterruptSourceOverride::of_timer(0, 2))?)?;
+    devices.push(Box::new(alloc, InterruptSourceOverride::active_high(SCI))?)?;
+    for device in &devices {
+        table.add_borrowed_structure(&**device)?;
+    }
     Ok(table)
 }
 

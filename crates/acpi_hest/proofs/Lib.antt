@@ -1,2 +1,3 @@
 pub mod Controllers
 pub mod Boxes
+pub mod Counters

@@ -4,6 +4,7 @@ pub mod Notification
 pub mod Generic
 pub mod Status
 pub mod ErrorData
+pub mod Counter
 pub mod Laws
 pub mod Resource
 pub mod Rqsc

@@ -1,6 +1,6 @@
 //! HEST: where a machine reports its hardware errors.
 
-ghost use Rattle.std.specs.Prelude.{◌≡◌, false};
+ghost use Rattle.std.specs.Prelude.{◌≡◌, false, length};
 ghost use Rattle.acpi_base.specs.Object.{whole, whole_ends_well};
 ghost use Rattle.acpi_base.specs.Table.{IsTrueTable};
 ghost use Rattle.acpi_base.specs.Walk.{hest_walk, ArePieces};
@@ -87,6 +87,27 @@ impl HEST {
         ensures { Adds result self.old.table (T.object structure) self.new.table }
     {
         self.table.add_object(&structure)
+    }
+
+    /// Adds a borrowed error source of any type, as `add_structure` does: for sources in a list of boxes.
+    pub fn add_borrowed_structure(&mut self, structure: &dyn Aml) -> R<()>
+        ensures { Adds result self.old.table (object structure.now) self.new.table }
+    {
+        self.table.add_borrowed(structure)
+    }
+
+    /// The number of bytes of the table.
+    pub fn len(&self) -> usize
+        ensures { result ≡ length (bytes_of self.now.table.table) }
+    {
+        self.table.len()
+    }
+
+    /// The number of error sources.
+    pub fn count(&self) -> u32
+        ensures { result ≡ length self.now.table.table.structures }
+    {
+        self.table.count()
     }
 }
 

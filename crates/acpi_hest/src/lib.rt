@@ -1,6 +1,7 @@
 //! Tables of error sources.
 #![tactic(auto)]
 
+mod counter;
 pub mod hest;
 mod parts;
 pub mod rqsc;

@@ -79,6 +79,20 @@ impl RQSC {
     {
         self.table.add_object(&controller)
     }
+
+    /// The number of bytes of the table.
+    pub fn len(&self) -> usize
+        ensures { result ≡ length (bytes_of self.now.table.table) }
+    {
+        self.table.len()
+    }
+
+    /// The number of controllers.
+    pub fn count(&self) -> u32
+        ensures { result ≡ length self.now.table.table.structures }
+    {
+        self.table.count()
+    }
 }
 
 /// A law: after any calls the table is a true one, and its controllers, in order, are the one list that walks it.
@@ -91,7 +105,7 @@ pub fn rqsc_is_walked(table: &RQSC)
 }
 
 /// What a controller shares out (offset 0).
-#[derive(Drop)]
+#[derive(Clone, Copy, Debug, PartialEq)]
 pub enum ControllerType {
     Capacity = 0,
     Bandwidth = 1,
@@ -158,6 +172,13 @@ impl QoSController {
         28 + self.resources.len()
     }
 
+    /// The number of resources.
+    pub fn resource_count(&self) -> u16
+        ensures { result ≡ self.now.count }
+    {
+        self.count
+    }
+
     /// Adds a resource. FieldWidth where the length would pass 65,535, and unchanged where it is refused.
     pub fn add_resource(&mut self, resource: ResourceStructure) -> R<()>
         ensures ok { OnOk result (self.new ≡ with_resource self.old resource) }
@@ -169,6 +190,7 @@ impl QoSController {
         if resource.len() > 0xffff - 28 - start {
             return Err(Error::FieldWidth);
         }
+        self.resources.reserve(resource.len())?;
         if let Err(refusal) = append_value(&resource, &mut self.resources) {
             self.resources.truncate(start);
             return Err(refusal);

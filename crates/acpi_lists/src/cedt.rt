@@ -1,6 +1,6 @@
 //! CEDT: CXL host bridges and windows of memory.
 
-ghost use Rattle.std.specs.Prelude.{◌≡◌, ◌≢◌, ◌+◌, ◌<◌, ◌++◌, true, bit_or, length, OnOk, OnErr, IfErr};
+ghost use Rattle.std.specs.Prelude.{◌≡◌, ◌≢◌, ◌+◌, ◌/◌, ◌<◌, ◌++◌, true, bit_or, length, OnOk, OnErr, IfErr};
 ghost use Rattle.acpi_base.specs.Bytes.{le};
 ghost use Rattle.acpi_base.specs.Fields.{AreRowsOf};
 ghost use Rattle.acpi_base.specs.Object.{whole, whole_ends_well};
@@ -95,6 +95,20 @@ impl CEDT {
         ensures { Adds result self.old.table (whole (port_association_bytes port)) self.new.table }
     {
         self.table.add_record(&port)
+    }
+
+    /// The number of bytes of the table.
+    pub fn len(&self) -> usize
+        ensures { result ≡ length (bytes_of self.now.table.table) }
+    {
+        self.table.len()
+    }
+
+    /// The number of structures.
+    pub fn count(&self) -> u32
+        ensures { result ≡ length self.now.table.table.structures }
+    {
+        self.table.count()
     }
 }
 
@@ -307,6 +321,13 @@ impl CxlFixedMemory {
         }
     }
 
+    /// The number of targets.
+    pub fn target_count(&self) -> usize
+        ensures { result ≡ length self.now.targets / 4 }
+    {
+        self.targets.len() / 4
+    }
+
     /// The window may hold memory of devices of type 2 (restriction 1).
     pub fn cxl_type_2_memory(mut self) -> CxlFixedMemory
         ensures { result ≡ record self { restrictions = bit_or self.restrictions 1 } }
@@ -442,6 +463,13 @@ impl XorInterleaveMath {
             granularity,
             maps: Entries::new(alloc),
         }
+    }
+
+    /// The number of maps: at most 255.
+    pub fn map_count(&self) -> usize
+        ensures { result ≡ self.now.count }
+    {
+        self.maps.len()
     }
 
     /// Adds a map. FieldWidth at the 256th, and unchanged where it is refused.

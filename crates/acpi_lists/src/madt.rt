@@ -1,6 +1,7 @@
 //! MADT: the interrupt controllers of a machine.
 
-ghost use Rattle.std.specs.Prelude.{◌≡◌, false};
+ghost use Rattle.acpi_core.specs.Flat.{number_up_to};
+ghost use Rattle.std.specs.Prelude.{◌≡◌, false, length};
 ghost use Rattle.acpi_base.specs.Fields.{AreRowsOf};
 ghost use Rattle.acpi_base.specs.Object.{whole, whole_ends_well};
 ghost use Rattle.acpi_base.specs.Table.{IsTrueTable};
@@ -130,6 +131,28 @@ impl MADT {
         self.add_structure(imsic)?;
         self.has_imsic = true;
         Ok(())
+    }
+
+    /// Adds a borrowed structure of any type, as `add_structure` does: for structures in a list of boxes.
+    pub fn add_borrowed_structure(&mut self, structure: &dyn Aml) -> R<()>
+        ensures adds { Adds result self.old.table (object structure.now) self.new.table }
+        ensures imsic { self.new.has_imsic ≡ self.old.has_imsic }
+    {
+        self.table.add_borrowed(structure)
+    }
+
+    /// The number of bytes of the table.
+    pub fn len(&self) -> usize
+        ensures { result ≡ length (bytes_of self.now.table.table) }
+    {
+        self.table.len()
+    }
+
+    /// The number of structures. It is 2^32 - 1 where there are more, which only structures of no bytes can be.
+    pub fn count(&self) -> u32
+        ensures { result ≡ number_up_to (length self.now.table.table.structures) }
+    {
+        self.table.count()
     }
 }
 

@@ -1,6 +1,6 @@
 //! MCFG: where the configuration space of PCI is mapped.
 
-ghost use Rattle.std.specs.Prelude.{◌≡◌, true};
+ghost use Rattle.std.specs.Prelude.{◌≡◌, true, length};
 ghost use Rattle.acpi_base.specs.Object.{whole, whole_ends_well};
 ghost use Rattle.acpi_base.specs.Walk.{mcfg_walk};
 ghost use Rattle.acpi_base.specs.declared.oem.Oem.{Oem};
@@ -72,6 +72,20 @@ impl MCFG {
             start_bus,
             end_bus,
         })
+    }
+
+    /// The number of bytes of the table.
+    pub fn len(&self) -> usize
+        ensures { result ≡ length (bytes_of self.now.table.table) }
+    {
+        self.table.len()
+    }
+
+    /// The number of entries.
+    pub fn count(&self) -> u32
+        ensures { result ≡ length self.now.table.table.structures }
+    {
+        self.table.count()
     }
 }
 

@@ -1,6 +1,6 @@
 //! SRAT: which processors, memory and devices are near to each other.
 
-ghost use Rattle.std.specs.Prelude.{◌≡◌, ◌<◌, ℕ, List, true, false, bit_or, IfOk, IfErr};
+ghost use Rattle.std.specs.Prelude.{◌≡◌, ◌<◌, ℕ, List, true, false, bit_or, IfOk, IfErr, length};
 ghost use Rattle.acpi_base.specs.Fields.{AreRowsOf};
 ghost use Rattle.acpi_base.specs.Object.{Built, whole, whole_ends_well};
 ghost use Rattle.acpi_base.specs.Walk.{srat_walk};
@@ -87,6 +87,20 @@ impl SRAT {
         ensures { Adds result self.old.table (whole (rintc_affinity_bytes rintc)) self.new.table }
     {
         self.table.add_record(&rintc)
+    }
+
+    /// The number of bytes of the table.
+    pub fn len(&self) -> usize
+        ensures { result ≡ length (bytes_of self.now.table.table) }
+    {
+        self.table.len()
+    }
+
+    /// The number of structures.
+    pub fn count(&self) -> u32
+        ensures { result ≡ length self.now.table.table.structures }
+    {
+        self.table.count()
     }
 }
 

@@ -1,6 +1,6 @@
 //! XSDT: where the other tables are.
 
-ghost use Rattle.std.specs.Prelude.{◌≡◌, true};
+ghost use Rattle.std.specs.Prelude.{◌≡◌, true, length};
 ghost use Rattle.acpi_base.specs.Bytes.{le};
 ghost use Rattle.acpi_base.specs.Object.{whole, whole_ends_well};
 ghost use Rattle.acpi_base.specs.Walk.{xsdt_walk};
@@ -66,6 +66,20 @@ impl XSDT {
         ensures { Adds result self.old.table (whole (le 8 entry)) self.new.table }
     {
         self.table.add_record(&Entry { address: entry })
+    }
+
+    /// The number of bytes of the table.
+    pub fn len(&self) -> usize
+        ensures { result ≡ length (bytes_of self.now.table.table) }
+    {
+        self.table.len()
+    }
+
+    /// The number of entries.
+    pub fn count(&self) -> u32
+        ensures { result ≡ length self.now.table.table.structures }
+    {
+        self.table.count()
     }
 }
 

@@ -1,6 +1,6 @@
 //! HMAT: how fast memory is, from where.
 
-ghost use Rattle.std.specs.Prelude.{◌≡◌, true};
+ghost use Rattle.std.specs.Prelude.{◌≡◌, true, length};
 ghost use Rattle.acpi_base.specs.Object.{whole, whole_ends_well};
 ghost use Rattle.acpi_base.specs.Walk.{hmat_walk};
 ghost use Rattle.acpi_base.specs.declared.oem.Oem.{Oem};
@@ -88,6 +88,20 @@ impl HMAT {
         ensures { Adds result self.old.table (whole (cache_bytes cache)) self.new.table }
     {
         self.table.add_object(&cache)
+    }
+
+    /// The number of bytes of the table.
+    pub fn len(&self) -> usize
+        ensures { result ≡ length (bytes_of self.now.table.table) }
+    {
+        self.table.len()
+    }
+
+    /// The number of structures.
+    pub fn count(&self) -> u32
+        ensures { result ≡ length self.now.table.table.structures }
+    {
+        self.table.count()
     }
 }
 

@@ -148,6 +148,20 @@ impl SLIT {
         write_at(&mut self.fixed, 9, &[self.sum.checksum()]);
         Ok(())
     }
+
+    /// The number of bytes of the table.
+    pub fn len(&self) -> usize
+        ensures { result ≡ length (slit_bytes self.now.table) }
+    {
+        44 + self.cells.len()
+    }
+
+    /// The number of localities.
+    pub fn localities(&self) -> u32
+        ensures { result ≡ self.now.table.localities }
+    {
+        self.localities
+    }
 }
 
 const FIXED: [Row; 2] = [

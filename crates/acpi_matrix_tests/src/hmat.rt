@@ -6,8 +6,8 @@ use acpi_tables::hmat::{
     MemorySideCache, MinTransferSize, SystemLocality, WritePolicy,
 };
 use acpi_tables::{Error, R};
-use acpi_vectors::table::{many, reads_back};
-use acpi_vectors::{OEM, OEM_REVISION, OEM_TABLE, all, refuses, writes};
+use acpi_vectors::table::{is_sized, many, reads_back};
+use acpi_vectors::{OEM, OEM_REVISION, OEM_TABLE, all, equal, refuses, writes};
 use std::alloc::Global;
 use std::test::Fail;
 
@@ -48,6 +48,7 @@ fn proximities(rt: HostRuntime) -> Result<(), Fail> {
     for _ in 0..300u16 {
         hmat.add_memory_proximity(domain)?;
     }
+    is_sized((hmat.len(), hmat.count()), 40, 40, 300)?;
     many(alloc, &hmat, b"HMAT", 1, &[0; 4], bytes, 300)
 }
 
@@ -326,8 +327,10 @@ fn side_caches(rt: HostRuntime) -> Result<(), Fail> {
         &cache,
         b"\x02\0\0\0\x20\0\0\0\x78\x56\x34\x12\0\0\0\0\x78\x56\x34\x12\xef\xcd\xab\x90\x23\x11\x40\0\0\0\0\0",
     )?;
+    equal(&cache.handle_count(), &0)?;
     cache.add_smbios_handle(0x0201)?;
     cache.add_smbios_handle(0x0403)?;
+    equal(&cache.handle_count(), &2)?;
     let two =
         b"\x02\0\0\0\x24\0\0\0\x78\x56\x34\x12\0\0\0\0\x78\x56\x34\x12\xef\xcd\xab\x90\x23\x11\x40\0\0\0\x02\0\x01\x02\x03\x04";
     writes(alloc, &cache, two)?;
@@ -410,6 +413,7 @@ fn most_handles(rt: HostRuntime) -> Result<(), Fail> {
     }
     writes(alloc, &cache, &wanted)?;
     refuses(cache.add_smbios_handle(7), Error::FieldWidth)?;
+    equal(&cache.handle_count(), &65_535)?;
     writes(alloc, &cache, &wanted)?;
     let mut hmat = table(alloc);
     hmat.add_memory_side_cache(cache)?;

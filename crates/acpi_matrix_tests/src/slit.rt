@@ -53,6 +53,18 @@ fn two_localities(rt: HostRuntime) -> Result<(), Fail> {
     writes(alloc, &slit, changed)
 }
 
+// The numbers of bytes and of localities, and past 255 of them.
+#[test]
+fn sizes(rt: HostRuntime) -> Result<(), Fail> {
+    let alloc = rt.alloc();
+    for (localities, size) in [(0, 44), (1, 45), (3, 53), (257, 66_093)] {
+        let slit = table(alloc, localities)?;
+        equal(&slit.localities(), &localities)?;
+        equal(&slit.len(), &size)?;
+    }
+    Ok(())
+}
+
 // Each distance stands at both places, and the last that was set holds.
 #[test]
 fn three_localities(rt: HostRuntime) -> Result<(), Fail> {

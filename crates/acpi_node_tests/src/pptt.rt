@@ -36,6 +36,22 @@ fn pptt(rt: HostRuntime) -> Result<(), Fail> {
     )
 }
 
+// The offsets of handles, which are copied, and the number of a processor's caches.
+#[test]
+fn offsets(rt: HostRuntime) -> Result<(), Fail> {
+    let alloc = rt.alloc();
+    let mut table = PPTT::new(alloc, OEM, OEM_TABLE, OEM_REVISION);
+    let cache = table.add_cache(CacheNodeBuilder::default().to_node())?;
+    let copy = cache;
+    let node = ProcessorNode::new(alloc, None, 5);
+    equal(&node.resource_count(), &0)?;
+    let node = node.add_cache(&cache)?.add_cache(&copy)?;
+    equal(&node.resource_count(), &2)?;
+    let processor = table.add_processor(node)?;
+    equal(&cache.offset(), &36)?;
+    equal(&processor.offset(), &64)
+}
+
 // A package with a shared cache, and a core below it with one of its own.
 #[test]
 fn handles(rt: HostRuntime) -> Result<(), Fail> {

@@ -5,7 +5,7 @@ use acpi_tables::pptt::{CacheNode, CacheNodeBuilder, PPTT};
 use acpi_tables::rhct::{CmoNode, RHCT};
 use acpi_tables::rimt::{Iommu, RIMT};
 use acpi_tables::viot::{VIOT, VirtIoMmioIommu};
-use acpi_vectors::table::reads_back;
+use acpi_vectors::table::{is_sized, reads_back};
 use acpi_vectors::{OEM, OEM_REVISION, OEM_TABLE};
 use std::alloc::Global;
 use std::test::Fail;
@@ -21,6 +21,7 @@ fn pptt_of(alloc: Global, count: u16) -> Result<(), Fail> {
         append(&cache(n), &mut added)?;
         table.add_cache(cache(n))?;
     }
+    is_sized((table.len(), table.count()), 36, 28, count)?;
     reads_back(alloc, &table, 36, 28, &added)
 }
 
@@ -31,6 +32,7 @@ fn rhct_of(alloc: Global, count: u16) -> Result<(), Fail> {
         append(&CmoNode::new((n & 0xff) as u8, 2, 3), &mut added)?;
         table.add_cmo(CmoNode::new((n & 0xff) as u8, 2, 3))?;
     }
+    is_sized((table.len(), table.count()), 56, 10, count)?;
     reads_back(alloc, &table, 56, 10, &added)
 }
 
@@ -41,6 +43,7 @@ fn viot_of(alloc: Global, count: u16) -> Result<(), Fail> {
         append(&VirtIoMmioIommu::new(u64::from(n)), &mut added)?;
         table.add_virtio_mmio_iommu(VirtIoMmioIommu::new(u64::from(n)))?;
     }
+    is_sized((table.len(), table.count()), 48, 16, count)?;
     reads_back(alloc, &table, 48, 16, &added)
 }
 
@@ -51,6 +54,7 @@ fn rimt_of(alloc: Global, count: u16) -> Result<(), Fail> {
         append(&Iommu::new(n, None, None, None, None), &mut added)?;
         table.add_iommu(Iommu::new(n, None, None, None, None))?;
     }
+    is_sized((table.len(), table.count()), 48, 32, count)?;
     reads_back(alloc, &table, 48, 32, &added)
 }
 

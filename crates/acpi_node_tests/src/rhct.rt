@@ -51,6 +51,26 @@ fn rhct(rt: HostRuntime) -> Result<(), Fail> {
     )
 }
 
+// A text made at run time, and the offsets of handles, which are copied.
+#[test]
+fn made_text(rt: HostRuntime) -> Result<(), Fail> {
+    let alloc = rt.alloc();
+    let mut table = table(alloc);
+    let width = 64;
+    let text = format!(in alloc; "rv{width}i")?;
+    let string = table.add_isa_string(&text)?;
+    let node = b"\0\0\x0e\0\x01\0\x06\0rv64i\0";
+    holds(alloc, &table, [1, 0], node, 1)?;
+    let blocks = table.add_cmo(CmoNode::new(6, 7, 8))?;
+    let copy = blocks;
+    equal(&string.offset(), &56)?;
+    equal(&copy.offset(), &70)?;
+    let hart = HartInfoNode::new(alloc, 3, &string)?;
+    equal(&hart.offset_count(), &1)?;
+    let hart = hart.with_cmo(&copy)?.with_cmo(&blocks)?;
+    equal(&hart.offset_count(), &3)
+}
+
 // Two harts, each with a string and blocks of its own.
 #[test]
 fn handles(rt: HostRuntime) -> Result<(), Fail> {

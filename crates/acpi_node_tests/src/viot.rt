@@ -5,7 +5,7 @@ use acpi_tables::viot::{
     MmioEndpoint, PciDevice, PciRange, TranslationHandle, VIOT, VirtIoMmioIommu, VirtIoPciIommu,
 };
 use acpi_vectors::table::{many, stands};
-use acpi_vectors::{OEM, OEM_REVISION, OEM_TABLE, all, refuses, writes};
+use acpi_vectors::{OEM, OEM_REVISION, OEM_TABLE, all, equal, refuses, writes};
 use std::alloc::Global;
 use std::test::Fail;
 
@@ -19,6 +19,18 @@ fn table(alloc: Global) -> VIOT {
 fn range(handle: &TranslationHandle) -> PciRange {
     let first = PciDevice::new(0x0201, 3, 4, 5);
     PciRange::new(first, PciDevice::new(0x0807, 0xff, 31, 7), handle)
+}
+
+// The offsets of handles, which are copied.
+#[test]
+fn offsets(rt: HostRuntime) -> Result<(), Fail> {
+    let mut table = table(rt.alloc());
+    let first = table.add_virtio_mmio_iommu(VirtIoMmioIommu::new(0))?;
+    let second = table.add_virtio_mmio_iommu(VirtIoMmioIommu::new(0))?;
+    let copy = second;
+    equal(&first.offset(), &48)?;
+    equal(&second.offset(), &64)?;
+    equal(&copy.offset(), &64)
 }
 
 #[test]

@@ -32,8 +32,8 @@ impl<K> Handle<K> {
         }
     }
 
-    // The offset in bytes.
-    pub(crate) fn offset(&self) -> u32
+    /// The offset in bytes from the table's first byte.
+    pub fn offset(&self) -> u32
         ensures { result ≡ self.now }
     {
         self.offset

@@ -1,6 +1,6 @@
 //! PPTT: how processors and their caches are arranged.
 
-ghost use Rattle.std.specs.Prelude.{◌≡◌, ◌≢◌, ◌<◌, true, bit_or, IsNone, IfSome, OnOk, IfOk, IfErr};
+ghost use Rattle.std.specs.Prelude.{◌≡◌, ◌≢◌, ◌<◌, true, bit_or, IsNone, IfSome, OnOk, IfOk, IfErr, length};
 ghost use Rattle.acpi_base.specs.Fields.{AreRowsOf};
 ghost use Rattle.acpi_base.specs.Object.{whole, whole_ends_well};
 ghost use Rattle.acpi_base.specs.Walk.{pptt_walk};
@@ -82,6 +82,20 @@ impl PPTT {
     {
         Ok(Handle::at(self.table.add_record_at(&node)?))
     }
+
+    /// The number of bytes of the table.
+    pub fn len(&self) -> usize
+        ensures { result ≡ length (bytes_of self.now.table.table) }
+    {
+        self.table.len()
+    }
+
+    /// The number of nodes.
+    pub fn count(&self) -> u32
+        ensures { result ≡ length self.now.table.table.structures }
+    {
+        self.table.count()
+    }
 }
 
 /// A law: after any calls the table is a true one, and its nodes, in order, are the one list that walks it.
@@ -158,7 +172,15 @@ impl ProcessorNode {
         }
     }
 
-    /// Adds a cache of its own, which is the nearest of its kind. FieldWidth at the 59th.
+    /// The number of its own caches: at most 58.
+    pub fn resource_count(&self) -> usize
+        ensures { result ≡ self.now.resources.count }
+    {
+        self.resources.len()
+    }
+
+    /// Adds a cache of its own, which is the nearest of its kind. FieldWidth at the 59th. An error drops the node:
+    /// `resource_count` returns how many caches it has.
     pub fn add_cache(mut self, cache: &CacheHandle) -> R<ProcessorNode>
         ensures ok { IfOk result (λ p. p ≡ record self { resources = with_resource self.resources cache.now }) }
         ensures room { OnOk result (self.resources.count < 58) }

@@ -1,6 +1,6 @@
 //! RHCT: what RISC-V harts can do.
 
-ghost use Rattle.std.specs.Prelude.{◌≡◌, ◌≢◌, ◌<◌, ℕ, true, OnOk, IfOk, IfErr};
+ghost use Rattle.std.specs.Prelude.{◌≡◌, ◌≢◌, ◌<◌, ℕ, true, OnOk, IfOk, IfErr, length};
 ghost use Rattle.acpi_base.specs.Fields.{AreRowsOf};
 ghost use Rattle.acpi_base.specs.Object.{whole, whole_ends_well};
 ghost use Rattle.acpi_base.specs.Walk.{rhct_walk};
@@ -92,10 +92,10 @@ impl RHCT {
 
     /// Adds an ISA string and returns its node's offset. FieldWidth where the text has more than 65,525 bytes, and where the
     /// length would reach 2^32.
-    pub fn add_isa_string(&mut self, string: &'static str) -> R<IsaStringHandle>
+    pub fn add_isa_string(&mut self, string: &str) -> R<IsaStringHandle>
         ensures { AddsAt result self.old.table (isa_string_object string.now) self.new.table }
     {
-        Ok(Handle::at(self.table.add_object_at(&IsaStringNode::new(string))?))
+        Ok(Handle::at(self.table.add_object_at(&IsaString { text: string })?))
     }
 
     /// Adds the sizes of blocks that harts manage in their caches, and returns the node's offset. FieldWidth where the length
@@ -118,6 +118,20 @@ impl RHCT {
         ensures { Adds result self.old.table (whole (hart_info_bytes hart_info)) self.new.table }
     {
         self.table.add_object(&hart_info)
+    }
+
+    /// The number of bytes of the table.
+    pub fn len(&self) -> usize
+        ensures { result ≡ length (bytes_of self.now.table.table) }
+    {
+        self.table.len()
+    }
+
+    /// The number of nodes.
+    pub fn count(&self) -> u32
+        ensures { result ≡ length self.now.table.table.structures }
+    {
+        self.table.count()
     }
 }
 
@@ -169,7 +183,23 @@ impl Aml for IsaStringNode {
     ghost ends_well = { λ i. isa_string_ends_well i.string.now };
 
     fn to_aml_bytes(&self, sink: &mut dyn AmlSink) -> R<()> {
-        let text = self.string.as_bytes();
+        IsaString { text: self.string }.to_aml_bytes(sink)
+    }
+}
+
+// The same of a text that is borrowed while it is written.
+#[derive(Drop)]
+struct IsaString<'a> {
+    text: &'a str,
+}
+
+impl<'a> Aml for IsaString<'a> {
+    ghost object = { λ i. isa_string_object i.text.now };
+
+    ghost ends_well = { λ i. isa_string_ends_well i.text.now };
+
+    fn to_aml_bytes(&self, sink: &mut dyn AmlSink) -> R<()> {
+        let text = self.text.as_bytes();
         if text.len() > 65525 {
             return Err(Error::FieldWidth);
         }
@@ -285,7 +315,7 @@ impl Aml for CmoNode {
 }
 
 /// How a hart translates addresses (offset 7).
-#[derive(Drop)]
+#[derive(Clone, Copy, Debug, PartialEq)]
 pub enum VirtualAddressScheme {
     Sv39 = 0,
     Sv48 = 1,
@@ -361,7 +391,15 @@ impl HartInfoNode {
         })
     }
 
-    /// Adds a CMO node after those that there are. FieldWidth where there would be more than 16,380 offsets.
+    /// The number of offsets, with that of the ISA string: at most 16,380.
+    pub fn offset_count(&self) -> usize
+        ensures { result ≡ self.now.offsets.count }
+    {
+        self.offsets.len()
+    }
+
+    /// Adds a CMO node after those that there are. FieldWidth where there would be more than 16,380 offsets. An error drops
+    /// the node: `offset_count` returns how many it has.
     pub fn with_cmo(mut self, cmo: &CmoHandle) -> R<HartInfoNode>
         ensures ok { IfOk result (λ h. h ≡ with_offset self cmo.now) }
         ensures room { OnOk result (self.offsets.count < 16380) }

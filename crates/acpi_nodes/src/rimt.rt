@@ -101,6 +101,20 @@ impl RIMT {
     {
         self.table.add_object(&platform)
     }
+
+    /// The number of bytes of the table.
+    pub fn len(&self) -> usize
+        ensures { result ≡ length (bytes_of self.now.table.table) }
+    {
+        self.table.len()
+    }
+
+    /// The number of nodes.
+    pub fn count(&self) -> u32
+        ensures { result ≡ length self.now.table.table.structures }
+    {
+        self.table.count()
+    }
 }
 
 /// A law: after any calls the table is a true one, and its devices, in order, are the one list that walks it.

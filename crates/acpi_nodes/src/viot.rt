@@ -1,6 +1,6 @@
 //! VIOT: virtual IOMMUs, and the devices that reach memory through them.
 
-ghost use Rattle.std.specs.Prelude.{◌≡◌, true};
+ghost use Rattle.std.specs.Prelude.{◌≡◌, true, length};
 ghost use Rattle.acpi_base.specs.Object.{whole, whole_ends_well};
 ghost use Rattle.acpi_base.specs.Walk.{viot_walk};
 ghost use Rattle.acpi_base.specs.declared.oem.Oem.{Oem};
@@ -106,6 +106,20 @@ impl VIOT {
             offset: offset as u16,
         })
     }
+
+    /// The number of bytes of the table.
+    pub fn len(&self) -> usize
+        ensures { result ≡ length (bytes_of self.now.table.table) }
+    {
+        self.table.len()
+    }
+
+    /// The number of nodes.
+    pub fn count(&self) -> u32
+        ensures { result ≡ length self.now.table.table.structures }
+    {
+        self.table.count()
+    }
 }
 
 /// A law: after any calls the table is a true one, and its nodes, in order, are the one list that walks it.
@@ -129,7 +143,7 @@ pub fn viot_references_are_read()
 {}
 
 /// A virtual IOMMU of a table. In contracts it is the node's offset.
-#[derive(Drop)]
+#[derive(Clone, Copy, Debug)]
 pub struct TranslationHandle {
     offset: u16,
 }
@@ -142,6 +156,15 @@ impl Model for TranslationHandle {
     ghost view = { λ h. h.offset };
 
     ghost inverse = { λ n. record { offset = n } };
+}
+
+impl TranslationHandle {
+    /// The offset in bytes from the table's first byte.
+    pub fn offset(&self) -> u32
+        ensures { result ≡ self.now }
+    {
+        u32::from(self.offset)
+    }
 }
 
 /// A range of PCI functions behind an IOMMU (ACPI 6.5, 5.2.32, PCI Range Node Structure): 24 bytes.

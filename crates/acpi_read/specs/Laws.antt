@@ -1,5 +1,5 @@
 -- What holds of what is read, whatever calls there are.
-use Rattle.std.specs.Prelude.{◌≡◌, ℕ, ◌≤◌, List, [], length, drop, None}
+use Rattle.std.specs.Prelude.{◌≡◌, ℕ, ◌≤◌, List, length, drop, None}
 use Rattle.acpi_base.specs.Object.{Object, all_of}
 use Rattle.acpi_base.specs.Sdt.{added}
 use Rattle.acpi_term.specs.declared.mode.Mode.TheVariants.{Term}

@@ -1,8 +1,9 @@
 -- The pieces of a table, and why there are none.
-use Rattle.std.specs.Prelude.{◌≡◌, ℕ, ◌+◌, ◌≤◌, List, [], ◌++◌, length, drop, take, Option, Some, None}
+use Rattle.std.specs.Prelude.{◌≡◌, ℕ, ◌≤◌, ◌==◌, nat_le, if◌then◌else◌, List, [], ◌++◌, length, drop, take, Option, Some, None}
 use Rattle.std.specs.List.{concat}
 use Rattle.acpi_base.specs.Bytes.{field_at}
-use Rattle.acpi_base.specs.Walk.{source_size, IsPiece, ArePieces, offsets_from, walk_of, WalksBy}
+use Rattle.acpi_base.specs.Walk.{source_size, place_offset, place_width, end_of, number_in, IsPiece, ArePieces, offsets_from, walk_of, WalksBy}
+use Rattle.acpi_base.specs.declared.walk.Place.{Place}
 use Rattle.acpi_base.specs.declared.walk.Sizes.{Sizes}
 use Rattle.acpi_base.specs.declared.walk.Sizes.TheVariants.{BySource}
 use Rattle.acpi_base.specs.declared.walk.Walk.{Walk}
@@ -68,6 +69,15 @@ IsCutFault (unknown_source offset) s start bytes = (offset ≤ length bytes) × 
     × IsUnknownSource s (drop offset bytes)
 IsCutFault _ s start bytes = ⊥
 
+-- ---- its type
+
+-- the number in the field that has a piece's type, where there is such a field and the piece reaches it
+abbrev pub kind_in : Place → List ℕ → Option ℕ
+kind_in place piece =
+    if place_width place == 0 then None
+    else (if nat_le (end_of place) (length piece) then Some (number_in place piece)
+    else None)
+
 -- ---- a table's
 
 -- where the pieces of a walk begin
@@ -82,12 +92,12 @@ offsets_of bytes pieces = offsets_by (walk_of (field_at 0 4 bytes)) pieces
 abbrev pub NoPiecesBy : Option Walk → List ℕ → Type 0
 NoPiecesBy w bytes = (pieces : List (List ℕ)) → WalksBy w bytes pieces → ⊥
 
--- Why a table has no pieces, unless memory ran out. An unknown source is returned only where one stands, in a table whose
+-- Why a table has no pieces, unless memory ran out. A wrong number is returned at its field. An unknown source is returned only where one stands, in a table whose
 -- structures' sizes go by their types.
 abbrev pub IsFaultBy : Refusal → Option Walk → List ℕ → Type 0
 IsFaultBy no_memory w bytes = Unit {0}
 IsFaultBy (bad_structure offset) w bytes = (offset ≤ length bytes) × NoPiecesBy w bytes
-IsFaultBy (bad_count offset) w bytes = (offset ≤ length bytes) × NoPiecesBy w bytes
+IsFaultBy (bad_count offset) (Some w) bytes = (offset ≡ place_offset w.count) × (offset ≤ length bytes) × NoPiecesBy (Some w) bytes
 IsFaultBy (unknown_source offset) (Some w) bytes = (offset ≤ length bytes) × NoPiecesBy (Some w) bytes
     × IsUnknownSource w.sizes (drop offset bytes)
 IsFaultBy _ w bytes = ⊥

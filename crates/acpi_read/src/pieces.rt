@@ -1,10 +1,12 @@
 //! The structures of a table, found by their sizes.
 
-ghost use Rattle.std.specs.Prelude.{◌≡◌, ◌+◌, ◌≤◌, length, take, drop, map, Some, IfOk, IfErr};
+ghost use Rattle.std.specs.Prelude.{◌≡◌, ℕ, ◌+◌, ◌≤◌, List, length, take, drop, map, Some, IfOk, IfErr};
+ghost use Rattle.std.specs.List.{All};
 ghost use Rattle.acpi_base.specs.Bytes.{field_at};
-ghost use Rattle.acpi_base.specs.Walk.{HasSizes, IsSound, Walks, ArePiecesOf};
-ghost use Rattle.acpi_read.specs.Pieces.{refusal_of, IsFront, IsFrontFault, AreCut, IsCutFault};
+ghost use Rattle.acpi_base.specs.Walk.{end_of, HasSizes, IsSound, Walks, ArePiecesOf};
+ghost use Rattle.acpi_read.specs.Pieces.{kind_in, refusal_of, IsFront, IsFrontFault, AreCut, IsCutFault};
 ghost use Rattle.acpi_read.specs.Pieces.{offsets_by, offsets_of, IsFaultBy, IsPieceFault};
+ghost use Rattle.acpi_read.specs.Report.{kind_of};
 
 use crate::table::Table;
 use acpi_base::walk::{Place, Sizes, Walk, source_size, walk_of};
@@ -16,6 +18,20 @@ use std::alloc::Global;
 pub struct Piece<'a> {
     pub offset: usize,
     pub bytes: &'a [u8],
+}
+
+impl<'a> Piece<'a> {
+    /// The structure's type. None where the structures of its table have no types, as the entries of an XSDT, and where the
+    /// bytes end before the type does, which those of a structure that `Table::pieces` returned don't.
+    pub fn kind(&self, table: &Table) -> Option<usize>
+        ensures { result ≡ kind_in (kind_of table.now) self.entry.now.bytes.now }
+    {
+        match kind_of(table) {
+            Place::Nowhere => None,
+            place if place.end() <= self.bytes.len() => Some(place.number(self.bytes)),
+            _ => None,
+        }
+    }
 }
 
 // How long the piece is with which bytes at an offset begin.
@@ -91,19 +107,24 @@ fn walked(alloc: Global, bytes: &[u8], walk: Walk) -> Result<Vec<Piece<'_>>, Rea
         return Err(ReadError::Structure(bytes.len()));
     }
     if !walk.told_start.tells(bytes, start) {
-        return Err(ReadError::Structure(start));
+        return Err(ReadError::Structure(walk.told_start.offset()));
     }
     let pieces = cut(alloc, bytes, start, walk.sizes)?;
     if !walk.count.tells(bytes, pieces.len()) {
-        return Err(ReadError::Count(start));
+        return Err(ReadError::Count(walk.count.offset()));
     }
     Ok(pieces)
 }
 
 impl<'a> Table<'a> {
     /// The table's structures, in order, each with the offset at which it begins; none where a signature's tables have no
-    /// structures. UnknownSource where an error source has a type other than 6 to 10, Count where the table tells another
-    /// number of structures, Structure where they don't lie as their lengths say.
+    /// structures. The errors, with the offset of each:
+    ///
+    /// - UnknownSource: an error source has a type other than 6 to 10; the source.
+    /// - Structure: a structure is shorter than its type and length, or passes the end; the structure. The table contains
+    ///   another offset of its first structure than 56 (RHCT) or 48 (VIOT, RIMT); this field. The table ends before its
+    ///   structures begin; its length.
+    /// - Count: the table contains another number of structures; this field.
     pub fn pieces(&self, alloc: Global) -> Result<Vec<Piece<'a>>, ReadError>
         ensures walk { IfOk result (λ v. ArePiecesOf self.now (map (λ p. p.bytes.now) v.items)) }
         ensures offsets { IfOk result (λ v. map (λ p. p.offset) v.items ≡ offsets_of self.now (map (λ p. p.bytes.now) v.items)) }
@@ -113,6 +134,18 @@ impl<'a> Table<'a> {
             None => Ok(Vec::new(alloc)),
             Some(walk) => walked(alloc, self.bytes(), walk),
         }
+    }
+}
+
+/// Where the structures of a table have their type.
+pub fn kind_of(table: &Table) -> Place
+    ensures kind { result ≡ kind_of table.now }
+    ensures reached { (pieces : List (List ℕ)) → ArePiecesOf table.now pieces
+        → All (λ piece. end_of result ≤ length piece) pieces }
+{
+    match walk_of(signature_number(table)) {
+        Some(walk) => walk.kind,
+        None => Place::Nowhere,
     }
 }
 

@@ -14,8 +14,9 @@ ghost use Rattle.acpi_read.specs.Pieces.{IsPieceFault};
 ghost use Rattle.acpi_read.specs.Lines.{head_text, line, entry_text, entry_line, entry_lines, own_lines, lines, AreReported};
 ghost use Rattle.acpi_read.specs.Size.{width_words, HasSizes};
 
+use crate::pieces::kind_of;
 use crate::report::line::push_head;
-use crate::report::piece::{kind_of, push_pieces};
+use crate::report::piece::push_pieces;
 use crate::report::size::content_sizes;
 use crate::report::width::{push_width, shown_entry_width, shown_width};
 use crate::report::words::{push_indent, push_number};

@@ -9,7 +9,7 @@ use acpi_tables::mcfg::MCFG;
 use acpi_tables::rqsc::{ControllerType, QoSController, RQSC};
 use acpi_tables::srat::{MemoryAffinity, SRAT};
 use acpi_tables::xsdt::XSDT;
-use acpi_vectors::table::reads_back;
+use acpi_vectors::table::{is_sized, reads_back};
 use acpi_vectors::{OEM, OEM_REVISION, OEM_TABLE};
 use std::alloc::Global;
 use std::test::Fail;
@@ -26,6 +26,7 @@ fn xsdt(rt: HostRuntime) -> Result<(), Fail> {
             added.extend_from_slice(&u64::from(n).to_le_bytes())?;
             table.add_entry(u64::from(n))?;
         }
+        is_sized((table.len(), table.count()), 36, 8, count)?;
         reads_back(alloc, &table, 36, 8, &added)?;
     }
     Ok(())
@@ -42,6 +43,7 @@ fn mcfg(rt: HostRuntime) -> Result<(), Fail> {
             added.extend_from_slice(b"\x01\x02\x03\x04\0\0\0\0")?;
             table.add_ecam(u64::from(n), 0x0201, 3, 4)?;
         }
+        is_sized((table.len(), table.count()), 44, 16, count)?;
         reads_back(alloc, &table, 44, 16, &added)?;
     }
     Ok(())
@@ -56,6 +58,7 @@ fn madt_of(alloc: Global, count: u16) -> Result<(), Fail> {
         append(&processor, &mut added)?;
         table.add_structure(processor)?;
     }
+    is_sized((table.len(), table.count()), 44, 8, count)?;
     reads_back(alloc, &table, 44, 8, &added)
 }
 
@@ -66,6 +69,7 @@ fn srat_of(alloc: Global, count: u16) -> Result<(), Fail> {
         append(&MemoryAffinity::new(u32::from(n), 1, 2), &mut added)?;
         table.add_memory_affinity(MemoryAffinity::new(u32::from(n), 1, 2))?;
     }
+    is_sized((table.len(), table.count()), 48, 40, count)?;
     reads_back(alloc, &table, 48, 40, &added)
 }
 
@@ -79,6 +83,7 @@ fn cedt_of(alloc: Global, count: u16) -> Result<(), Fail> {
         )?;
         table.add_host_bridge(CxlHostBridge::new(u32::from(n), CxlVersion::Cxl2, 1))?;
     }
+    is_sized((table.len(), table.count()), 36, 32, count)?;
     reads_back(alloc, &table, 36, 32, &added)
 }
 
@@ -91,6 +96,7 @@ fn hest_of(alloc: Global, count: u16) -> Result<(), Fail> {
         append(&source, &mut added)?;
         table.add_structure(source)?;
     }
+    is_sized((table.len(), table.count()), 40, 44, count)?;
     reads_back(alloc, &table, 40, 44, &added)
 }
 
@@ -116,6 +122,7 @@ fn rqsc_of(alloc: Global, count: u16) -> Result<(), Fail> {
         append(&controller, &mut added)?;
         table.add_controller(controller)?;
     }
+    is_sized((table.len(), table.count()), 40, 28, count)?;
     reads_back(alloc, &table, 40, 28, &added)
 }
 

@@ -187,6 +187,7 @@ fn resources(rt: HostRuntime) -> Result<(), Fail> {
     )?;
     let mut shared = controller(alloc);
     equal(&shared.len(), &28)?;
+    equal(&shared.resource_count(), &0)?;
     shared.add_resource(cache)?;
     shared.add_resource(vendor)?;
     let mut wanted = Vec::new(alloc);
@@ -195,6 +196,7 @@ fn resources(rt: HostRuntime) -> Result<(), Fail> {
     }
     for made in [&shared, &shared.clone()?] {
         equal(&made.len(), &59)?;
+        equal(&made.resource_count(), &2)?;
         writes(alloc, made, &wanted)?;
     }
     let mut rqsc = table(alloc);

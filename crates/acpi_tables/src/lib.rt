@@ -26,6 +26,10 @@
 //!     Ok(bytes)
 //! }
 //! ```
+//!
+//! A call that takes a value and returns an error drops the value: `add_cache` its node, `add_processor` the node that it was to
+//! add. What the call borrows is unchanged. Where a limit may be reached, ask first: `ProcessorNode::resource_count`,
+//! `HartInfoNode::offset_count`, and `len` and `count` of each table.
 #![tactic(auto)]
 
 pub mod aml;
@@ -66,7 +70,8 @@ pub mod gas {
     pub use acpi_base::gas::{AccessSize, AddressSpace, GAS};
 }
 
-/// The Hardware Error Source Table and its structures (ACPI 6.5, 18.3.2).
+/// The Hardware Error Source Table and its structures (ACPI 6.5, 18.3.2). [`EnabledStatus`](hest::EnabledStatus) is also the
+/// name of a type of `madt`, and [`PciDevice`](hest::PciDevice) of one of `viot` and `rimt`: write `hest::EnabledStatus`.
 pub mod hest {
     pub use acpi_hest::hest::{
         EnabledStatus, ErrorSeverity, FirmwareFirst, GenericErrorData, GenericErrorStatus,
@@ -75,7 +80,8 @@ pub mod hest {
     };
 }
 
-/// The Heterogeneous Memory Attribute Table and its structures (ACPI 6.5, 5.2.28).
+/// The Heterogeneous Memory Attribute Table and its structures (ACPI 6.5, 5.2.28). [`WritePolicy`](hmat::WritePolicy) is also
+/// the name of a type of `pptt`: write `hmat::WritePolicy`.
 pub mod hmat {
     pub use acpi_matrices::hmat::{
         Associativity, CacheLevel, DataType, HMAT, LocalityType, MemoryProximityDomain,
@@ -88,7 +94,8 @@ pub mod layout {
     pub use acpi_layout::layout::{Image, lay};
 }
 
-/// The Multiple APIC Description Table and its structures (ACPI 6.5, 5.2.12).
+/// The Multiple APIC Description Table and its structures (ACPI 6.5, 5.2.12). [`EnabledStatus`](madt::EnabledStatus) is also the
+/// name of a type of `hest`: write `madt::EnabledStatus`.
 pub mod madt {
     pub use acpi_lists::madt::{
         APLIC, EnabledStatus, GicIts, GicMsi, GicVersion, Gicc, Gicd, Gicr, HartStatus, IMSIC,
@@ -101,7 +108,8 @@ pub mod mcfg {
     pub use acpi_lists::mcfg::MCFG;
 }
 
-/// The Processor Properties Topology Table and its nodes (ACPI 6.5, 5.2.30).
+/// The Processor Properties Topology Table and its nodes (ACPI 6.5, 5.2.30). [`WritePolicy`](pptt::WritePolicy) is also the name
+/// of a type of `hmat`: write `pptt::WritePolicy`.
 pub mod pptt {
     pub use acpi_nodes::pptt::{
         AllocationType, CacheHandle, CacheNode, CacheNodeBuilder, CacheType, PPTT, ProcessorHandle,
@@ -117,7 +125,8 @@ pub mod rhct {
     };
 }
 
-/// The RISC-V I/O Mapping Table and its devices (this project's profile).
+/// The RISC-V I/O Mapping Table and its devices (this project's profile). [`PciDevice`](rimt::PciDevice) is that of `viot`, and
+/// also the name of a type of `hest`.
 pub mod rimt {
     pub use acpi_nodes::rimt::{
         IdMapping, InterruptWire, Iommu, IommuOffset, PciDevice, PcieRootComplex, Platform, RIMT,
@@ -164,7 +173,8 @@ pub mod tpm2 {
     pub use acpi_fixed::tpm2::{PlatformClass, StartMethod, Tpm2, TpmClient1_2, TpmServer1_2};
 }
 
-/// The Virtual I/O Translation Table and its nodes (ACPI 6.5, 5.2.32).
+/// The Virtual I/O Translation Table and its nodes (ACPI 6.5, 5.2.32). [`PciDevice`](viot::PciDevice) is that of `rimt`, and also
+/// the name of a type of `hest`: write `viot::PciDevice`.
 pub mod viot {
     pub use acpi_nodes::viot::{
         MmioEndpoint, PciDevice, PciRange, TranslationHandle, VIOT, VirtIoMmioIommu, VirtIoPciIommu,

@@ -37,12 +37,9 @@ module _ (x a b : List ℕ) (at end : ℕ) (in_order : at ≤ end) (room : end +
       ap (λ (l : List ℕ). put (at + length a) b (put at a l)) (moved ∙ cut) ∙ ap (put (at + length a) b) first ∙ second
       ∙ append_assoc p a (b ++ t) ∙ ap (λ (l : List ℕ). p ++ l) (sym (append_assoc a b t)) ∙ ap (λ (l : List ℕ). l ++ ((a ++ b) ++ t)) same
 
--- the same of a list to whose end both were added
-pub inserted : (old a b new : List ℕ) (at : ℕ) → at ≤ length old → new ≡ take at ((old ++ a) ++ b) ++ ((a ++ b) ++ take (length old - at) (drop at ((old ++ a) ++ b))) → new ≡ take at old ++ ((a ++ b) ++ drop at old)
-inserted old a b new at within is =
-    let whole : (old ++ a) ++ b ≡ old ++ (a ++ b) = append_assoc old a b in
-    let front : take at ((old ++ a) ++ b) ≡ take at old = ap (take at) whole ∙ take-append-le at old (a ++ b) within in
-    let back : take (length old - at) (drop at ((old ++ a) ++ b)) ≡ drop at old =
-    ap (λ (l : List ℕ). take (length old - at) (drop at l)) whole ∙ ap (take (length old - at)) (drop-append-le at old (a ++ b) within)
-    ∙ take_at (drop at old) (a ++ b) (length old - at) (length-drop at old) in
+-- the same of a list to whose end as many were added
+pub inserted : (old a b new tail : List ℕ) (at : ℕ) → at ≤ length old → new ≡ take at (old ++ tail) ++ ((a ++ b) ++ take (length old - at) (drop at (old ++ tail))) → new ≡ take at old ++ ((a ++ b) ++ drop at old)
+inserted old a b new tail at within is =
+    let front : take at (old ++ tail) ≡ take at old = take-append-le at old tail within in
+    let back : take (length old - at) (drop at (old ++ tail)) ≡ drop at old = ap (take (length old - at)) (drop-append-le at old tail within) ∙ take_at (drop at old) tail (length old - at) (length-drop at old) in
     is ∙ rw (front, back) refl

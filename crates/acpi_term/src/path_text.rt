@@ -11,6 +11,7 @@ use std::alloc::Global;
 
 /// The bytes of the path that a text names (ACPI 6.5, 20.2.2): a `\` or none, and then parts of four bytes between dots.
 /// Refused by NamePart if any part isn't four bytes long, and else by PathParts past 255 parts.
+#[inline(always)]
 pub fn path_bytes(alloc: Global, text: &str) -> R<Vec<u8>>
     ensures { Makes result (path_of text.now) }
 {
@@ -29,6 +30,7 @@ pub fn path_bytes(alloc: Global, text: &str) -> R<Vec<u8>>
 }
 
 /// The root of a text, and what follows it.
+#[inline(always)]
 pub(crate) fn split_root(text: &[u8]) -> (&[u8], &[u8])
     ensures root { result.0.now ≡ root text.now }
     ensures rest { result.1.now ≡ unrooted text.now }
@@ -50,6 +52,7 @@ fn dotted(a: u8, b: u8, c: u8, d: u8) -> bool
 
 /// Adds the parts of four bytes between dots, and tells how many there are.
 #[tactic(auto, using(crate::proofs::PathTexts::short, crate::proofs::PathTexts::dots, crate::proofs::PathTexts::last, crate::proofs::PathTexts::long, crate::proofs::PathTexts::step,))]
+#[inline(always)]
 fn read_segments(text: &[u8], segments: &mut Vec<u8>) -> R<usize>
     ensures added { OnOk result (segments.new.items ≡ segments.old.items ++ concat (parts text.now)) }
     ensures count { IfOk result (λ n. n ≡ length (parts text.now)) }

@@ -87,6 +87,7 @@ pub fn field_length(bits: usize) -> R<([u8; 4], usize)>
 const ROOM: usize = 64;
 
 /// A vector of these bytes with room for more.
+#[inline(always)]
 pub fn with_room(alloc: Global, bytes: &[u8]) -> R<Vec<u8>>
     ensures ok { IfOk result (λ v. v.items ≡ bytes.now) }
     ensures err { IfErr result (λ e. e ≡ Error.Memory) }
@@ -105,8 +106,10 @@ pub fn insert(bytes: &mut Vec<u8>, at: usize, first: &[u8], second: &[u8]) -> R<
     ensures err { IfErr result (λ e. e ≡ Error.Memory) }
 {
     let end = bytes.len();
-    bytes.extend_from_slice(first)?;
-    bytes.extend_from_slice(second)?;
+    let Some(size) = end.checked_add(first.len() + second.len()) else {
+        return Err(Error::Memory);
+    };
+    bytes.resize(size, 0)?;
     fill(bytes, at, end, first, second);
     Ok(())
 }
@@ -124,6 +127,7 @@ fn fill(bytes: &mut [u8], at: usize, end: usize, first: &[u8], second: &[u8])
 }
 
 /// The bytes that are there, and then the children.
+#[inline(always)]
 pub fn bare_on(before: Vec<u8>, children: &[&dyn Aml]) -> R<Vec<u8>>
     ensures { Makes result (around (bare before.items) (all_of (map (λ child. object child.now) children.now))) }
 {
@@ -141,6 +145,7 @@ pub fn bare(alloc: Global, before: &[u8], children: &[&dyn Aml]) -> R<Vec<u8>>
 }
 
 /// An opcode, and a frame of the content that is there, which is moved up.
+#[inline(always)]
 pub fn frame(code: &[u8], content: Vec<u8>) -> R<Vec<u8>>
     ensures { Makes result (frame code.now content.items) }
 {
@@ -151,6 +156,7 @@ pub fn frame(code: &[u8], content: Vec<u8>) -> R<Vec<u8>>
 }
 
 /// An opcode, and a frame of the bytes that are there, the children, and bytes after them.
+#[inline(always)]
 pub fn framed(code: &[u8], before: Vec<u8>, children: &[&dyn Aml], after: &[u8]) -> R<Vec<u8>>
     ensures { Makes result
         (around (framed code.now before.items after.now) (all_of (map (λ child. object child.now) children.now))) }

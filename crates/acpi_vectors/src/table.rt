@@ -104,6 +104,18 @@ pub fn many(
     writes(alloc, aml, &table(alloc, signature, revision, &[&behind])?)
 }
 
+/// A table's size and number of structures are those of structures of this size from an offset on, this many of them.
+pub fn is_sized(
+    (bytes, count): (usize, u32),
+    start: usize,
+    size: usize,
+    wanted: u16,
+) -> Result<(), Fail> {
+    let size = size.wrapping_mul(usize::from(wanted));
+    equal(&bytes, &start.wrapping_add(size))?;
+    equal(&count, &u32::from(wanted))
+}
+
 /// A table is read back into these structures, which have this size each and stand side by side from an offset on.
 pub fn reads_back(
     alloc: Global,

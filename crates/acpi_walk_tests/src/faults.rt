@@ -3,8 +3,8 @@
 use crate::pieces::refusal;
 use crate::samples::{AER_DEVICE, COUNT, nth};
 use acpi_term::read_error::ReadError;
+use acpi_vectors::equal;
 use acpi_vectors::table::{mend, table};
-use acpi_vectors::{agree, equal};
 use std::alloc::Global;
 use std::test::Fail;
 
@@ -12,15 +12,19 @@ use std::test::Fail;
 const MISCOUNTED: &[u8] =
     b"RIMT\x30\0\0\0\x01\x16FOOBARCAFEDEAD\xef\xbe\xad\xdeRVAT\0\0\0\x01\x01\0\0\0\x30\0\0\0\0\0\0\0";
 
-// Each byte of the fields that tell how many structures there are and where they begin.
+// Each byte of the fields that have the number of structures and the offset of the first: the fault is at the field.
 #[test]
 fn told_fields(rt: HostRuntime) -> Result<(), Fail> {
     let alloc = rt.alloc();
-    agree(refusal(alloc, MISCOUNTED)?.name(), "Count")?;
+    equal(&refusal(alloc, MISCOUNTED)?, &ReadError::Count(36))?;
     for index in 0..COUNT {
         let sample = nth(index);
         let bytes = sample.bytes(alloc)?;
-        for (field, kind) in [(sample.count, "Count"), (sample.start, "Structure")] {
+        let (count, start) = (sample.count.0, sample.start.0);
+        for (field, wanted) in [
+            (sample.count, ReadError::Count(count)),
+            (sample.start, ReadError::Structure(start)),
+        ] {
             for at in field.0..field.1 {
                 for change in [1, 0x80, 0xff] {
                     let mut wrong = Vec::from_slice(alloc, &bytes)?;
@@ -28,9 +32,33 @@ fn told_fields(rt: HostRuntime) -> Result<(), Fail> {
                         *byte = byte.wrapping_add(change);
                     }
                     mend(&mut wrong);
-                    agree(refusal(alloc, &wrong)?.name(), kind)?;
+                    equal(&refusal(alloc, &wrong)?, &wanted)?;
                 }
             }
+        }
+    }
+    Ok(())
+}
+
+// A table that ends within its fixed fields: the fault is at its end.
+#[test]
+fn ends(rt: HostRuntime) -> Result<(), Fail> {
+    let alloc = rt.alloc();
+    for (signature, start) in [
+        (b"MCFG", 44),
+        (b"APIC", 44),
+        (b"HEST", 40),
+        (b"SRAT", 48),
+        (b"RHCT", 56),
+        (b"VIOT", 48),
+        (b"RIMT", 48),
+        (b"RQSC", 40),
+        (b"HMAT", 40),
+    ] {
+        let fields = [0; 20];
+        for size in 36..start {
+            let bytes = table(alloc, signature, 1, &[&fields[..size - 36]])?;
+            equal(&refusal(alloc, &bytes)?, &ReadError::Structure(size))?;
         }
     }
     Ok(())

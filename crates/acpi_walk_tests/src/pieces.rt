@@ -24,6 +24,17 @@ pub fn reads(
     agree(&report_table(alloc, &table)?, report)
 }
 
+/// The structures of a table's bytes have these types.
+pub fn has_kinds(alloc: Global, bytes: &[u8], kinds: &[Option<usize>]) -> Result<(), Fail> {
+    let table = Table::check(bytes)?;
+    let pieces = table.pieces(alloc)?;
+    equal(&pieces.len(), &kinds.len())?;
+    for (piece, kind) in pieces.iter().zip(kinds) {
+        equal(&piece.kind(&table), kind)?;
+    }
+    Ok(())
+}
+
 /// An error's offset is none past the end of the bytes.
 pub fn is_within(error: ReadError, bytes: &[u8]) -> Result<(), Fail> {
     match error.offset() {

@@ -1,7 +1,10 @@
 //! Tables that are read.
 
-use crate::pieces::reads;
+use crate::pieces::{has_kinds, reads};
 use crate::samples::{COUNT, nth};
+use acpi_read::pieces::Piece;
+use acpi_read::table::Table;
+use acpi_vectors::equal;
 use acpi_vectors::table::{mend, table};
 use std::alloc::Global;
 use std::test::Fail;
@@ -124,6 +127,50 @@ fn least_and_long(rt: HostRuntime) -> Result<(), Fail> {
     ];
     for case in cases {
         is_padded(rt.alloc(), case)?;
+    }
+    Ok(())
+}
+
+// Types of one byte and of two, where nothing else has this number, and structures without types.
+#[test]
+fn kinds(rt: HostRuntime) -> Result<(), Fail> {
+    let alloc = rt.alloc();
+    let cases: [(&[u8; 4], &[u8], &[u8], &[Option<usize>]); 6] = [
+        (b"XSDT", b"", &[7; 16], &[None, None]),
+        (
+            b"APIC",
+            &[0; 8],
+            b"\xfe\x04\x01\x02\x0b\x03\x05",
+            &[Some(254), Some(11)],
+        ),
+        (b"CEDT", b"", b"\xfd\x01\x05\0\x07", &[Some(253)]),
+        (
+            b"RHCT",
+            b"\0\0\0\0\0\0\0\0\0\0\0\0\x01\0\0\0\x38\0\0\0",
+            b"\x02\x01\x04\0",
+            &[Some(0x0102)],
+        ),
+        (
+            b"HMAT",
+            &[0; 4],
+            b"\x04\x03\x05\x06\x09\0\0\0\x01",
+            &[Some(0x0304)],
+        ),
+        (b"DSDT", b"", &[1; 8], &[]),
+    ];
+    for (signature, fields, structures, kinds) in cases {
+        let bytes = table(alloc, signature, 1, &[fields, structures])?;
+        has_kinds(alloc, &bytes, kinds)?;
+    }
+    // Bytes that end before the type does.
+    let bytes = table(alloc, b"HMAT", 1, &[&[0; 4]])?;
+    let hmat = Table::check(&bytes)?;
+    for short in [&b""[..], b"\x01"] {
+        let piece = Piece {
+            offset: 40,
+            bytes: short,
+        };
+        equal(&piece.kind(&hmat), &None)?;
     }
     Ok(())
 }

@@ -1,10 +1,12 @@
 //! Entries of error status blocks: one error each.
 
-ghost use Rattle.std.specs.Prelude.{◌≡◌, ◌++◌, ◌∷◌, [], map, OnOk, OnErr, IfErr};
+ghost use Rattle.std.specs.Prelude.{◌≡◌, ◌≤◌, ◌^◌, ◌⊎◌, ◌++◌, ◌∷◌, [], length, map, min, None, OnOk, OnErr, IfOk, IfErr};
 ghost use Rattle.acpi_base.specs.Fields.{AreRowsOf};
-ghost use Rattle.acpi_base.specs.Object.{all_of, Wrote, WriteRefused};
+ghost use Rattle.acpi_base.specs.Object.{all_of, Wrote, WriteRefused, IsOwnRefusal};
+ghost use Rattle.acpi_hest.specs.Counter.{counter_of, most_of_64_bits};
 ghost use Rattle.acpi_hest.specs.ErrorData.{IsNewErrorData, ErrorHead, error_head_fields, error_data_head, error_data_object};
 
+use crate::counter::Counter;
 use crate::hest::status::ErrorSeverity;
 use acpi_base::error::{Error, R};
 use acpi_base::object::Aml;
@@ -79,6 +81,21 @@ impl GenericErrorData {
         write_all(&self.objects, sink)
     }
 
+    /// The number of bytes of the data, which is what `error_data_length` has to be. The first error of an object, else
+    /// FieldWidth where four bytes don't hold the number. Nothing is kept: each object writes into a counter.
+    pub fn data_size(&self) -> R<u32>
+        ensures size { IfOk result (λ n. n ≡ length (all_of (map (λ part. object part) self.now.objects.items)).front) }
+        ensures whole { OnOk result ((all_of (map (λ part. object part) self.now.objects.items)).end ≡ None) }
+        ensures err { IfErr result (λ e. IsOwnRefusal e (all_of (map (λ part. object part) self.now.objects.items))
+            ⊎ ((e ≡ Error.FieldWidth) × (2 ^ 32 ≤ length (all_of (map (λ part. object part) self.now.objects.items)).front))) }
+    {
+        let size = count_all(&self.objects)?;
+        if size > 0xffff_ffff {
+            return Err(Error::FieldWidth);
+        }
+        Ok(size as u32)
+    }
+
     // The entry's bytes before its data.
     fn head(&self) -> [u8; 58]
         ensures { result ≡ error_data_head self.now }
@@ -117,6 +134,28 @@ pub fn error_data_rows() -> &'static [Row]
     ensures { (head : ErrorHead) → AreRowsOf result.now (error_head_fields head) }
 {
     &ERROR_DATA
+}
+
+// Writes boxed objects into a counter.
+fn write_into_counter(parts: &Vec<Box<dyn Aml + Drop>>, counter: &mut Counter) -> R<()>
+    ensures ok { OnOk result (Wrote (all_of (map (λ part. object part) parts.now.items)) (counter_of counter.old)
+        (counter_of counter.new)) }
+    ensures err { IfErr result (λ e. WriteRefused e (all_of (map (λ part. object part) parts.now.items))
+        (counter_of counter.old) (counter_of counter.new)) }
+{
+    write_all(parts, counter)
+}
+
+// How many bytes boxed objects write, up to 2^64 - 1.
+fn count_all(parts: &Vec<Box<dyn Aml + Drop>>) -> R<u64>
+    ensures count { IfOk result (λ n.
+        n ≡ min (length (all_of (map (λ part. object part) parts.now.items)).front) most_of_64_bits) }
+    ensures whole { OnOk result ((all_of (map (λ part. object part) parts.now.items)).end ≡ None) }
+    ensures err { IfErr result (λ e. IsOwnRefusal e (all_of (map (λ part. object part) parts.now.items))) }
+{
+    let mut counter = Counter::default();
+    write_into_counter(parts, &mut counter)?;
+    Ok(counter.count())
 }
 
 // Writes boxed objects, one after another.

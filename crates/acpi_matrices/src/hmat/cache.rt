@@ -16,7 +16,7 @@ use std::alloc::Global;
 use std::marker::Model;
 
 /// How many levels of caches there are, or which of them one is (attribute bits 0 to 3 and 4 to 7).
-#[derive(Drop)]
+#[derive(Clone, Copy, Debug, PartialEq)]
 pub enum CacheLevel {
     None = 0,
     One = 1,
@@ -25,7 +25,7 @@ pub enum CacheLevel {
 }
 
 /// How addresses are spread over a cache (attribute bits 8 to 11).
-#[derive(Drop)]
+#[derive(Clone, Copy, Debug, PartialEq)]
 pub enum Associativity {
     None = 0,
     DirectMapped = 1,
@@ -33,7 +33,7 @@ pub enum Associativity {
 }
 
 /// When a cache writes to memory (attribute bits 12 to 15).
-#[derive(Drop)]
+#[derive(Clone, Copy, Debug, PartialEq)]
 pub enum WritePolicy {
     None = 0,
     Writeback = 1,
@@ -91,6 +91,13 @@ impl MemorySideCache {
             attributes,
             handles: Entries::new(alloc),
         }
+    }
+
+    /// The number of SMBIOS handles: at most 65,535.
+    pub fn handle_count(&self) -> usize
+        ensures { result ≡ self.now.count }
+    {
+        self.handles.len()
     }
 
     /// Adds the handle of an SMBIOS structure. FieldWidth at the 65,536th, and unchanged where it is refused.

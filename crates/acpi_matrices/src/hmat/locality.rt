@@ -18,7 +18,7 @@ use std::alloc::Global;
 use std::marker::Model;
 
 /// Which memory or cache a matrix is about (flag bits 0 to 3).
-#[derive(Drop)]
+#[derive(Clone, Copy, Debug, PartialEq)]
 pub enum LocalityType {
     Memory = 0,
     FirstLevelCache = 1,

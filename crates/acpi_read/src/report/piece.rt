@@ -1,28 +1,15 @@
 //! Lines of pieces. What begins with `push` adds to a text.
 
-ghost use Rattle.std.specs.Prelude.{◌≡◌, ℕ, List, ◌++◌, ◌≤◌, length, map, string_bytes, codes, OnOk};
+ghost use Rattle.std.specs.Prelude.{◌≡◌, ◌++◌, ◌≤◌, length, map, string_bytes, codes, OnOk};
 ghost use Rattle.std.specs.Fmt.{decimal};
 ghost use Rattle.std.specs.List.{All};
-ghost use Rattle.acpi_base.specs.Walk.{end_of, ArePiecesOf};
-ghost use Rattle.acpi_read.specs.Report.{kind_text, piece_line, piece_lines, kind_of};
+ghost use Rattle.acpi_base.specs.Walk.{end_of};
+ghost use Rattle.acpi_read.specs.Report.{kind_text, piece_line, piece_lines};
 
-use crate::pieces::{Piece, signature_number};
+use crate::pieces::Piece;
 use crate::report::words::push_number;
-use crate::table::Table;
-use acpi_base::walk::{Place, walk_of};
+use acpi_base::walk::Place;
 use std::alloc::AllocError;
-
-/// Where the structures of a table tell their type.
-pub fn kind_of(table: &Table) -> Place
-    ensures kind { result ≡ kind_of table.now }
-    ensures reached { (pieces : List (List ℕ)) → ArePiecesOf table.now pieces
-        → All (λ piece. end_of result ≤ length piece) pieces }
-{
-    match walk_of(signature_number(table)) {
-        Some(walk) => walk.kind,
-        None => Place::Nowhere,
-    }
-}
 
 fn push_kind(kind: Place, bytes: &[u8], text: &mut String) -> Result<(), AllocError>
     requires { end_of kind ≤ length bytes.now }

@@ -3,7 +3,7 @@
 use acpi_tables::Error;
 use acpi_tables::hest::{ErrorSeverity, GenericErrorData};
 use acpi_vectors::broken::Broken;
-use acpi_vectors::{refuses, same};
+use acpi_vectors::{equal, refuses, same};
 use std::test::Fail;
 
 #[test]
@@ -18,6 +18,25 @@ fn error_data(rt: HostRuntime) -> Result<(), Fail> {
     let mut bytes = Vec::new(alloc);
     entry.to_aml_bytes(&mut bytes)?;
     same(&bytes, &wanted)
+}
+
+// The data of no object, of one and of two, and what is refused while it is counted.
+#[test]
+fn data_sizes(rt: HostRuntime) -> Result<(), Fail> {
+    let alloc = rt.alloc();
+    let mut entry = GenericErrorData::new(alloc, ErrorSeverity::Fatal);
+    equal(&entry.data_size()?, &0)?;
+    entry.add_data(Box::new(alloc, 0x0102_0304u32)?)?;
+    equal(&entry.data_size()?, &5)?;
+    entry.add_data(Box::new(alloc, 0x0102_0304_0506_0708u64)?)?;
+    equal(&entry.data_size()?, &14)?;
+    entry.error_data_length = entry.data_size()?;
+    let mut bytes = Vec::new(alloc);
+    entry.to_aml_bytes(&mut bytes)?;
+    same(bytes.get(10..14).unwrap_or(&[]), b"\x0e\0\0\0")?;
+    equal(&bytes.len(), &72)?;
+    entry.add_data(Box::new(alloc, Broken {})?)?;
+    refuses(entry.data_size(), Error::Sink(9))
 }
 
 #[test]

@@ -7,7 +7,7 @@ use acpi_tables::cedt::{
     InterleaveWays, PortAssociation, ProtocolType, XorInterleaveMath,
 };
 use acpi_vectors::table::many;
-use acpi_vectors::{OEM, OEM_REVISION, OEM_TABLE, all, refuses, same, writes};
+use acpi_vectors::{OEM, OEM_REVISION, OEM_TABLE, all, equal, refuses, same, writes};
 use std::alloc::Global;
 use std::test::Fail;
 
@@ -94,7 +94,9 @@ fn windows(rt: HostRuntime) -> Result<(), Fail> {
     .cxl_type_3_memory()
     .volatile()
     .fixed_configuration();
+    equal(&two.target_count(), &0)?;
     two.add_target(*b"abcd")?;
+    equal(&two.target_count(), &1)?;
     let mut bytes = Vec::new(alloc);
     refuses(two.to_aml_bytes(&mut bytes), Error::Targets)?;
     assert!(rt; bytes.is_empty());
@@ -272,7 +274,9 @@ fn granularities_and_restrictions(rt: HostRuntime) -> Result<(), Fail> {
 fn maps(rt: HostRuntime) -> Result<(), Fail> {
     let alloc = rt.alloc();
     let mut math = XorInterleaveMath::new(alloc, InterleaveGranularity::Granularity512b);
+    equal(&math.map_count(), &0)?;
     math.add_xormap(0x0807_0605_0403_0201)?;
+    equal(&math.map_count(), &1)?;
     writes(
         alloc,
         &math,
@@ -282,6 +286,7 @@ fn maps(rt: HostRuntime) -> Result<(), Fail> {
         math.add_xormap(u64::MAX)?;
     }
     refuses(math.add_xormap(0), Error::FieldWidth)?;
+    equal(&math.map_count(), &255)?;
     let mut wanted = [0xff; 2048];
     wanted[..16].copy_from_slice(b"\x02\0\0\x08\0\0\x01\xff\x01\x02\x03\x04\x05\x06\x07\x08");
     writes(alloc, &math, &wanted)?;

@@ -1,6 +1,7 @@
 //! MADT and its structures.
 
 use acpi_base::error::{Error, R};
+use acpi_base::object::Aml;
 use acpi_tables::madt::{
     APLIC, EnabledStatus, GicIts, GicMsi, GicVersion, Gicc, Gicd, Gicr, HartStatus, IMSIC, IoApic,
     LocalInterruptController, MADT, PLIC, ProcessorLocalApic, RINTC, Trigger,
@@ -13,6 +14,28 @@ use std::test::Fail;
 
 fn table(alloc: Global, int: LocalInterruptController) -> MADT {
     MADT::new(alloc, OEM, OEM_TABLE, OEM_REVISION, int)
+}
+
+// Structures of several types in one list, which stays as it is.
+#[test]
+fn borrowed(rt: HostRuntime) -> Result<(), Fail> {
+    let alloc = rt.alloc();
+    let mut list: Vec<Box<dyn Aml + Drop>> = Vec::new(alloc);
+    list.push(Box::new(alloc, ProcessorLocalApic::new(1, 2, EnabledStatus::Enabled))?)?;
+    list.push(Box::new(alloc, IoApic::new(3, 0x0706_0504, 8))?)?;
+    let bytes = b"\0\x08\x01\x02\x01\0\0\0\x01\x0c\x03\0\x04\x05\x06\x07\x08\0\0\0";
+    let fixed = &[1, 2, 3, 4, 0, 0, 0, 0];
+    let local = LocalInterruptController::Address(0x0403_0201);
+    let mut madt = MADT::new(alloc, OEM, OEM_TABLE, OEM_REVISION, local);
+    for times in 1..4u32 {
+        for structure in &list {
+            madt.add_borrowed_structure(&**structure)?;
+        }
+        many(alloc, &madt, b"APIC", 1, fixed, bytes, times)?;
+        equal(&madt.count(), &(2 * times))?;
+    }
+    refuses(madt.add_borrowed_structure(&Broken {}), Error::Sink(9))?;
+    many(alloc, &madt, b"APIC", 1, fixed, bytes, 3)
 }
 
 #[test]

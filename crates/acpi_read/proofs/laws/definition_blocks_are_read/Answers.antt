@@ -1,4 +1,4 @@
-use Rattle.std.proofs.Common.{◌≡◌, List, ℕ, [], ◌++◌, drop, sym, ap, ◌∙◌, subst, refl, arith}
+use Rattle.std.proofs.Common.{◌≡◌, List, ℕ, [], ◌++◌, drop, sym, ap, ◌∙◌, subst, arith}
 use Rattle.std.proofs.lemmas.List.{drop_at, append-nil}
 use Rattle.acpi_base.specs.Object.{all_of}
 use Rattle.acpi_base.specs.Sdt.{added}

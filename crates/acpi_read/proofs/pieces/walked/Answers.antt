@@ -7,7 +7,8 @@ pub returns-then-not-tells-2-clause-err : goal.returns-then-not-tells-2-clause-e
 returns-then-not-tells-2-clause-err c =
     let pieces = c.in_ok-pieces.pieces.items in
     let number : c.len.result ≡ length pieces = omega (arith, c.len.ensures, c.in_ok-pieces.pieces.ok.0) in (
-      omega (arith, c.if-bytes-start.false),
+      c.offset-then-not-tells-2.ensures,
+      omega (arith, c.if-bytes-start.false, c.from-start.ensures, c.offset-then-not-tells-2.ensures, c.requires.sound.count),
       miscounted c.args.walk c.args.bytes.now (map (λ p. p.bytes.now) pieces) (map (λ p. p.offset) pieces) c.len.result c.requires.sound.has (rw c.from-start.ensures at c.in_ok-pieces.ensures.ok)
           (number ∙ sym (length-map pieces (λ p. p.bytes.now))) (λ tells. let no : false ≡ true = sym c.if-not-tells-2.true ∙ c.tells-2.ensures.1 tells in absurd cc),
     )

@@ -1,7 +1,7 @@
 use Rattle.std.proofs.Common.{ap, sym, ◌∙◌}
 use Rattle.acpi_base.specs.Walk.{walk_of}
 use Rattle.acpi_read.proofs.Cuts.{reached_by}
-use Rattle.acpi_read.proofs.report.piece.kind_of.Goals as goal
+use Rattle.acpi_read.proofs.pieces.kind_of.Goals as goal
 
 pub returns-in-Some-clause-reached : goal.returns-in-Some-clause-reached
 returns-in-Some-clause-reached c =
