@@ -1,65 +1,98 @@
 #!/bin/sh
-# Reads definition blocks of 1, 2, 4 and 8 MiB, builds tables of 1,024, 2,048 and 4,096 structures and PPTTs of as many
-# processors, reports 20,000 terms at depth 1 and 250, fills a SLIT of 512 localities and an HMAT of 256 initiators and targets,
-# and prints how long each takes, by the least of several turns. The program and what it stands on are proved first. The first
-# run takes minutes, and a later one seconds. Ends with status 1 where twice the size takes 2.3 times as long; on a loaded
-# machine one measure may, so it is said only of three in turn. Where valgrind is there, it prints instructions too, which don't
-# depend on load: those for 100 bytes, for a term that is reported, and for a call that sets a cell. It ends with status 1 where
-# a deep term takes twice as many as one at the top.
+# Counts the instructions that each workload of acpi_bench takes, and compares them with those that bench.txt has. It ends with
+# status 1 where one takes more than a tenth more, or where the text of a term at depth 250 takes twice as many as at depth 1.
+# Figures that have fallen are written into bench.txt.
+#
+# A workload is run at a size and at twice this size, and the first count is taken from the second: so what a run takes beside
+# its structures isn't counted. Instructions don't depend on what else a machine does. The program and what it stands on are
+# proved first: the first run takes minutes, and a later one a minute. It needs valgrind.
 set -eu
 cd "$(dirname "$0")"
 
 . ./crates.sh
 
 prove_libraries acpi_bench
-quietly acpi_bench run
+quietly acpi_bench run -- xsdt=2
 bench=crates/acpi_bench/out/acpi_bench
-
-# Freed memory stays with the program: else the system takes it back after the turns of the larger tables alone, and hands it
-# out anew in each.
-export MALLOC_TRIM_THRESHOLD_=1073741824 MALLOC_MMAP_THRESHOLD_=33554432
+figures=$(mktemp)
+trap 'rm -f "$figures"' EXIT
+status=0
 
 # The instructions of a run.
 instructions() {
-    valgrind --tool=callgrind --callgrind-out-file=/dev/null "$bench" "$@" 2>&1 | sed -n 's/.*Collected : //p'
+    valgrind --tool=callgrind --callgrind-out-file=/dev/null "$bench" "$1" 2>&1 | sed -n 's/.*Collected : //p'
 }
 
-# The instructions of a turn: in a run of two turns, those that a run of one doesn't have.
-turn() {
-    one=$(instructions turns=1 "$@")
-    two=$(instructions turns=2 "$@")
-    echo $((two - one))
+# The instructions that a workload takes more at twice a size.
+more() {
+    once=$(instructions "$1=$2")
+    twice=$(instructions "$1=$((2 * $2))")
+    echo $((twice - once))
 }
 
-if command -v valgrind >/dev/null; then
-    echo "1 MiB: $(($(turn mib=1) / 10486)) instructions for 100 bytes that are read and dropped"
+# How much more a workload makes at twice a size.
+made() {
+    once=$("$bench" "$1=$2" | cut -d ' ' -f 2)
+    twice=$("$bench" "$1=$((2 * $2))" | cut -d ' ' -f 2)
+    echo $((twice - once))
+}
 
-    # In each turn three MADTs, SRATs and XSDTs are built, of the same numbers of structures.
-    structures=$((1024 + 2048 + 4096))
-    bytes=$((3 * (44 + 48 + 36) + structures * (10 + 40 + 8)))
-    echo "lists: $((100 * $(turn lists=4) / bytes)) instructions for 100 bytes that are built and dropped"
-
-    # In a turn with nodes=2 a PPTT of 2,048 processors is built, and the one of 1,024 that is built in a turn with nodes=1.
-    larger=$(turn nodes=2)
-    smaller=$(turn nodes=1)
-    echo "PPTT: $((100 * (larger - smaller) / 106532)) instructions for 100 bytes that are built and dropped"
-
-    # Each two of 512 localities have a distance, and each of them to itself; each of 256 initiators has 256 targets.
-    echo "SLIT: $(($(turn slit=4) / (512 * 513 / 2))) instructions for a distance that is set either way"
-    echo "HMAT: $(($(turn hmat=4) / (256 * 256))) instructions for an entry that is set"
-
-    # In a turn with levels=250 both reports are made, and in a turn with levels=1 the one at depth 1.
-    flat=$(turn levels=1)
-    deep=$(($(turn levels=250) - flat))
-    echo "report: $((flat / 20000)) instructions for a term at depth 1, $((deep / 20000)) at depth 250"
-    if [ "$deep" -ge $((2 * flat)) ]; then
-        echo 'too slow: the report of a term depends on its depth' >&2
-        exit 1
+# Prints the figure of a workload, and compares it: its name, its instructions, how many things they were for, and what one is.
+figure() {
+    each=$(($2 / $3))
+    echo "$1: $each instructions for $4"
+    echo "$1 $each $4" >>"$figures"
+    before=$(sed -n "s/^$1 \([0-9]*\) .*/\1/p" bench.txt)
+    if [ -n "$before" ] && [ $((10 * each)) -gt $((11 * before)) ]; then
+        echo "too slow: $1 took $before instructions for $4" >&2
+        status=1
     fi
+}
+
+# A workload of tables, its size, and what each structure is.
+built() {
+    figure "$1" "$(more "$1" "$2")" "$2" "$3"
+}
+
+# A workload that fills a matrix, and its size. What it sets is as many as the bytes of the matrix, or as half of them.
+filled() {
+    figure "$1" "$(more "$1" "$2")" "$(made "$1" "$2")" "a byte of its matrix"
+}
+
+# A workload over the bytes of another, its size, what each figure is for, and how many things are at twice the size more.
+beyond() {
+    figure "$1" $(($(more "$1" "$3") - $(more "$2" "$3"))) "$4" "$5"
+}
+
+built xsdt 2048 'an entry of 8 bytes'
+built mcfg 2048 'an entry of 16 bytes'
+built madt 2048 'a structure of 36 bytes'
+built srat 2048 'a structure of 40 bytes'
+built cedt 1024 'a window of 44 bytes'
+built hest 1024 'a source of 64 bytes'
+built rqsc 512 'a controller of 48 bytes'
+built pptt 1024 'a processor and a cache of 52 bytes'
+built rimt 1024 'an IOMMU of 48 bytes'
+built rhct 512 'a hart of 20 bytes'
+built viot 512 'a range of 24 bytes'
+filled slit 256
+filled hmat 128
+built aml 2048 'a device of 63 bytes'
+built dsdt 2048 'a device of 63 bytes'
+
+bytes=$(made aml 8192)
+beyond terms aml 8192 "$bytes" 'a byte that is read, and whose terms are dropped'
+beyond report terms 8192 "$bytes" 'a byte whose terms are reported'
+beyond table madt 50000 50000 'a structure that is reported'
+built flat 20000 'a term at depth 1'
+built deep 20000 'a term at depth 250'
+
+flat=$(sed -n 's/^flat \([0-9]*\) .*/\1/p' "$figures")
+deep=$(sed -n 's/^deep \([0-9]*\) .*/\1/p' "$figures")
+if [ "$deep" -ge $((2 * flat)) ]; then
+    echo 'too slow: the text of a term depends on its depth' >&2
+    status=1
 fi
 
-for try in 1 2 3; do
-    "$bench" turns=15 mib=8 lists=4 levels=250 nodes=4 slit=4 hmat=4 && exit 0
-done
-echo 'too slow: twice the size takes 2.3 times as long or more' >&2
-exit 1
+[ "$status" != 0 ] || cp "$figures" bench.txt
+exit "$status"

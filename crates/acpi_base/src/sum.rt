@@ -5,19 +5,21 @@ ghost use Rattle.std.specs.Prelude.{◌≡◌, ◌+◌, ◌-◌, ◌%◌, ◌<�
 use crate::summed::Summed;
 use std::marker::Model;
 
-/// The sum of a table's bytes modulo 256, and how many bytes were summed for it.
+/// The sum of a table's bytes modulo 256, and how many bytes were summed for it. The byte that makes the sum zero is kept in
+/// place of the sum: a table contains this byte, and the compiler would sum a second time to find it.
 #[derive(Drop)]
 pub struct Sum {
-    value: u8,
+    checksum: u8,
     summed: Summed,
 }
 
 impl Model for Sum {
+    ghost use Rattle.std.specs.Prelude.{◌-◌, ◌%◌};
     ghost use Rattle.acpi_base.specs.Sum.{Sum};
 
     ghost Value = { Sum };
 
-    ghost view = { λ s. record { value = s.value; summed = s.summed.count } };
+    ghost view = { λ s. record { value = (256 - s.checksum) % 256; summed = s.summed.count } };
 }
 
 impl Sum {
@@ -27,7 +29,7 @@ impl Sum {
         ensures counted { result.summed ≡ 0 }
     {
         Sum {
-            value: 0,
+            checksum: 0,
             summed: Summed::new(),
         }
     }
@@ -36,7 +38,7 @@ impl Sum {
     pub fn checksum(&self) -> u8
         ensures { result ≡ (256 - self.now.value) % 256 }
     {
-        0u8.wrapping_sub(self.value)
+        self.checksum
     }
 
     // The one function that sums.
@@ -46,16 +48,16 @@ impl Sum {
         ensures range { self.new.value < 256 }
         ensures counted { self.new.summed ≡ self.old.summed + length bytes.now }
     {
-        let mut value = self.value;
+        let mut checksum = self.checksum;
         for byte in bytes {
-            value = if takes {
-                value.wrapping_sub(*byte)
+            checksum = if takes {
+                checksum.wrapping_add(*byte)
             } else {
-                value.wrapping_add(*byte)
+                checksum.wrapping_sub(*byte)
             };
             self.summed = Summed::after(&self.summed);
         }
-        self.value = value;
+        self.checksum = checksum;
     }
 
     /// Adds bytes to the sum.

@@ -1,4 +1,1 @@
-mod Tables
-mod Devices
-mod Counts
 mod Nestings

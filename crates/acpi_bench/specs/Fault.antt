@@ -4,5 +4,5 @@ use Rattle.acpi_bench.specs.declared.fault.Fault.{Fault}
 use Rattle.acpi_bench.specs.declared.fault.Fault.TheVariants.{Word}
 
 abbrev pub status_of : Fault → ℕ
-status_of (Word wrong word) = 2
+status_of (Word word) = 2
 status_of _ = 1

@@ -2,10 +2,9 @@
 
 ghost use Rattle.std.specs.Prelude.{◌≡◌};
 
-use crate::words::Wrong;
 use acpi_tables::Error as TableError;
 use acpi_tables::read::ReadError;
-use std::alloc::AllocFailed;
+use std::alloc::{AllocError, AllocFailed};
 use std::io;
 use thiserror::Error;
 
@@ -13,9 +12,9 @@ use thiserror::Error;
 #[derive(Debug, Drop, Error)]
 pub enum Fault {
     /// A word of the command line is wrong.
-    #[error("{wrong} {word:?}; usage: acpi_bench [turns=N] [mib=N] [lists=N] [levels=N] [nodes=N] [slit=N] [hmat=N]")]
-    Word { wrong: Wrong, word: String },
-    /// The arguments, the clock or the output.
+    #[error("unknown word {0:?}; usage: acpi_bench WORKLOAD=N ..")]
+    Word(String),
+    /// The arguments or the output.
     #[error("{0}")]
     System(#[from] io::Error),
     /// A table wasn't built.
@@ -34,15 +33,15 @@ impl Fault {
         ensures { result ≡ status_of self.now }
     {
         match self {
-            Fault::Word { .. } => 2,
+            Fault::Word(_) => 2,
             _ => 1,
         }
     }
 }
 
-/// Memory for what is no table.
-impl<T: Drop> From<AllocFailed<T>> for Fault {
-    fn from(_error: AllocFailed<T>) -> Fault {
+/// Memory for a word.
+impl From<AllocError> for Fault {
+    fn from(_error: AllocError) -> Fault {
         Fault::Built(TableError::Memory)
     }
 }

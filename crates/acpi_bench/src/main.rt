@@ -1,49 +1,51 @@
-//! Measures how long large tables take to read and to build, and nested terms to report. `acpi_bench WORD ..` takes words NAME=N,
-//! where N is from 0 to 255. A word that is left out states 0.
+//! Builds and reads large tables, so that a profiler counts what this takes. `acpi_bench WORKLOAD=N ..` does each workload once,
+//! at a size N, and prints how much was made.
 //!
-//! - `turns=N`: everything is measured N times, and the least times are printed. 0: nothing is measured.
-//! - `mib=N`: definition blocks of 1, 2, 4 and 8 MiB are read, up to N MiB.
-//! - `lists=N`: a MADT, an SRAT and an XSDT are built, each of 1,024, 2,048 and 4,096 structures, up to 1,024 N.
-//! - `levels=N`: 20,000 terms are reported at depth 1 and at depth 250, up to depth N.
-//! - `nodes=N`: PPTTs of 1,024, 2,048 and 4,096 processors with a cache each are built, up to 1,024 N processors.
-//! - `slit=N`: a SLIT of 128 N localities is filled.
-//! - `hmat=N`: an HMAT of 64 N initiators and 64 N targets is filled.
+//! | workload | what is made |
+//! |---|---|
+//! | `xsdt`, `mcfg`, `madt`, `srat`, `cedt`, `hest`, `rqsc`, `rimt`, `pptt`, `rhct`, `viot` | a table of N structures (`pptt`: of N processors with a cache each), and its bytes |
+//! | `slit`, `hmat` | a table whose matrix has N rows of N cells, and its bytes |
+//! | `aml`, `dsdt` | N devices as bytes of AML; as a definition block |
+//! | `terms`, `report` | the terms of the devices of `dsdt`; and their text |
+//! | `table` | the text of the table of `madt` |
+//! | `flat`, `deep` | the text of N terms at depth 1; at depth 250 |
 //!
-//! Status 1: twice the size took 2.3 times as long or longer, or a call was refused. 2: a word is wrong, and a line on standard
-//! error says which.
+//! Status 1: a call was refused. 2: a word is wrong, and a line on standard error says which.
 #![tactic(auto)]
 
-ghost use Rattle.std.specs.Prelude.{◌≡◌, IfOk};
-ghost use Rattle.acpi_bench.specs.Ratio.{are_linear};
-
-mod building;
-mod device;
+mod blocks;
 mod fault;
+mod growing;
+mod lists;
 mod matrices;
-mod nesting;
-mod ratio;
-mod table;
-mod timing;
-mod words;
+mod nodes;
+mod reading;
 
-use crate::building::{Kind, build};
-use crate::device::{arities, device};
+use crate::blocks::{block, devices};
 use crate::fault::Fault;
-use crate::matrices::{Matrix, build_matrix};
-use crate::nesting::nested;
-use crate::ratio::{hundredths, is_too_slow};
-use crate::table::table_of;
-use crate::timing::{Millis, least_of, least_read};
-use crate::words::{Words, stated};
-use acpi_tables::read::report_terms;
-use std::io;
+use crate::growing::grown;
+use crate::matrices::{hmat, slit};
+use crate::nodes::{harts, ranges};
+use crate::reading::{nested, read, reported, shown};
+use acpi_tables::cedt::CEDT;
+use acpi_tables::hest::HEST;
+use acpi_tables::madt::{LocalInterruptController, MADT};
+use acpi_tables::mcfg::MCFG;
+use acpi_tables::pptt::PPTT;
+use acpi_tables::rimt::RIMT;
+use acpi_tables::rqsc::RQSC;
+use acpi_tables::srat::SRAT;
+use acpi_tables::xsdt::XSDT;
+use acpi_tables::{Aml, R};
+use acpi_vectors::{OEM, OEM_REVISION, OEM_TABLE};
+use std::alloc::Global;
 use std::process::ExitCode;
-use std::rt::{Clock, Env};
+use std::rt::Env;
+use std::{env, io};
 
 fn main(rt: HostRuntime) -> io::Result<ExitCode> {
     match run(&rt) {
-        Ok(true) => Ok(ExitCode::SUCCESS),
-        Ok(false) => Ok(ExitCode::FAILURE),
+        Ok(()) => Ok(ExitCode::SUCCESS),
         Err(fault) => {
             let status = fault.status();
             eprintln!(rt; "{fault}")?;
@@ -52,160 +54,115 @@ fn main(rt: HostRuntime) -> io::Result<ExitCode> {
     }
 }
 
-// Measures what the words state, and returns whether no ratio is too large.
-fn run(rt: &(impl Env + Clock + Print + AllocGlobal)) -> Result<bool, Fault> {
-    let words = stated(rt)?;
-    match words.turns.unwrap_or(0) {
-        0 => Ok(true),
-        turns => measure(rt, turns, words),
-    }
-}
-
-// Measures everything in this many turns, and returns whether no ratio is too large.
-fn measure(
-    rt: &(impl Clock + Print + AllocGlobal),
-    turns: u8,
-    words: Words,
-) -> Result<bool, Fault> {
-    let is_read = is_read_linearly(rt, turns, words.mib.unwrap_or(0))?;
-    let are_lists = are_lists_linear(rt, turns, words.lists.unwrap_or(0))?;
-    let nodes = words.nodes.unwrap_or(0);
-    let are_nodes = is_kind_linear(rt, turns, nodes, Kind::Pptt, "PPTT", "Ki processors")?;
-    report_nested(rt, turns, words.levels.unwrap_or(0))?;
-    let localities = u16::from(words.slit.unwrap_or(0)) * 128;
-    let domains = u16::from(words.hmat.unwrap_or(0)) * 64;
-    fill(rt, turns, Matrix::Slit, "SLIT", localities)?;
-    fill(rt, turns, Matrix::Hmat, "HMAT", domains)?;
-    Ok(is_read && are_lists && are_nodes)
-}
-
-// Fills a matrix of this many rows, if there are any, and prints the time and the checksum of the table.
-fn fill(
-    rt: &(impl Clock + Print + AllocGlobal),
-    turns: u8,
-    matrix: Matrix,
-    name: &str,
-    side: u16,
-) -> Result<(), Fault> {
-    if side > 0 {
-        let times = least_of(
-            rt,
-            turns,
-            || Ok(build_matrix(rt.alloc(), matrix, side)?),
-            |checksum: &u8| *checksum,
-        )?;
-        let (time, checksum) = (times.made, times.shown);
-        println!(rt; "{name} of {side} by {side} filled in {time} ns, checksum {checksum}")?;
+// Does what each word states, and prints a line for it.
+fn run(rt: &(impl Env + Print + AllocGlobal)) -> Result<(), Fault> {
+    for word in env::args(rt)?.skip(1) {
+        let Some((name, Ok(size))) = word
+            .split_once('=')
+            .map(|(name, size)| (name, size.parse()))
+        else {
+            return Err(Fault::Word(word));
+        };
+        let Some((made, unit)) = done(rt.alloc(), name, size)? else {
+            return Err(Fault::Word(word));
+        };
+        println!(rt; "{word}: {made} {unit}")?;
     }
     Ok(())
 }
 
-// Reports 20,000 terms at each depth, and prints the times. Their ratio has no limit: at depth 250 there is much more text.
-fn report_nested(
-    rt: &(impl Clock + Print + AllocGlobal),
-    turns: u8,
-    most: u8,
-) -> Result<(), Fault> {
-    for levels in [1u8, 250] {
-        if levels > most {
-            break;
-        }
-        let terms = nested(rt.alloc(), levels - 1, 20_000)?;
-        let times = least_of(
-            rt,
-            turns,
-            || Ok(report_terms(rt.alloc(), &terms)?),
-            |_report: &String| (),
-        )?;
-        let time = Millis(times.made);
-        println!(rt; "20,000 terms at depth {levels} reported in {time} ms")?;
-    }
-    Ok(())
+// The bytes that an object writes.
+fn written<T: Aml>(alloc: Global, object: &T) -> R<Vec<u8>> {
+    let mut bytes = Vec::new(alloc);
+    object.to_aml_bytes(&mut bytes)?;
+    Ok(bytes)
 }
 
-// Builds the lists, prints the times and ratios, and returns whether no ratio is too large.
-fn are_lists_linear(
-    rt: &(impl Clock + Print + AllocGlobal),
-    turns: u8,
-    most: u8,
-) -> Result<bool, Fault> {
-    let mut linear = true;
-    for (kind, name) in [
-        (Kind::Madt, "MADT"),
-        (Kind::Srat, "SRAT"),
-        (Kind::Xsdt, "XSDT"),
-    ] {
-        let is_linear = is_kind_linear(rt, turns, most, kind, name, "Ki structures")?;
-        linear = linear && is_linear;
-    }
-    Ok(linear)
+fn madt(alloc: Global, size: u32) -> R<MADT> {
+    let table = MADT::new(
+        alloc,
+        OEM,
+        OEM_TABLE,
+        OEM_REVISION,
+        LocalInterruptController::Riscv,
+    );
+    grown(alloc, table, size)
 }
 
-// Builds the tables of a kind, prints the times and ratios, and returns whether no ratio is too large.
-fn is_kind_linear(
-    rt: &(impl Clock + Print + AllocGlobal),
-    turns: u8,
-    most: u8,
-    kind: Kind,
-    name: &str,
-    unit: &str,
-) -> Result<bool, Fault> {
-    let alloc = rt.alloc();
-    let mut measured = Vec::new(alloc);
-    for ki in [1u8, 2, 4] {
-        if ki > most {
-            break;
-        }
-        let count = u32::from(ki) * 1024;
-        let times = least_of(
-            rt,
-            turns,
-            || Ok(build(alloc, kind, count)?),
-            |_built: &()| (),
-        )?;
-        let time = times.made;
-        println!(rt; "{name} of {ki} {unit}: {time} ns")?;
-        measured.push((ki, time))?;
-    }
-    Ok(print_ratios(rt, &measured, unit)?)
-}
-
-// Reads the tables, prints the times and ratios, and returns whether no ratio is too large.
-fn is_read_linearly(
-    rt: &(impl Clock + Print + AllocGlobal),
-    turns: u8,
-    most: u8,
-) -> Result<bool, Fault> {
-    let alloc = rt.alloc();
-    let (device, arities) = (device(alloc)?, arities(alloc)?);
-    let mut measured = Vec::new(alloc);
-    for mib in [1u8, 2, 4, 8] {
-        if mib > most {
-            break;
-        }
-        let table = table_of(alloc, &device, mib as usize * 0x10_0000)?;
-        let times = least_read(rt, turns, &table.as_slice()[36..], &arities)?;
-        let (count, read, dropped) = (times.shown, Millis(times.made), Millis(times.dropped));
-        println!(rt; "{mib} MiB: {count} terms, {read} ms, dropped in {dropped} ms")?;
-        measured.push((mib, times.made))?;
-    }
-    Ok(print_ratios(rt, &measured, "MiB")?)
-}
-
-// Prints the ratio of each time to the one before it, and returns whether no ratio is too large.
-fn print_ratios(rt: &impl Print, measured: &[(u8, u64)], unit: &str) -> io::Result<bool>
-    ensures { IfOk result (λ linear. linear ≡ are_linear measured.now) }
-{
-    let Some(((less, earlier), others)) = measured.split_first() else {
-        return Ok(true);
+// The bytes of the table of a name.
+fn table(alloc: Global, name: &str, size: u32) -> R<Option<Vec<u8>>> {
+    let (id, oem, revision) = (OEM, OEM_TABLE, OEM_REVISION);
+    let bytes = match name {
+        "xsdt" => written(
+            alloc,
+            &grown(alloc, XSDT::new(alloc, id, oem, revision), size)?,
+        )?,
+        "mcfg" => written(
+            alloc,
+            &grown(alloc, MCFG::new(alloc, id, oem, revision), size)?,
+        )?,
+        "madt" => written(alloc, &madt(alloc, size)?)?,
+        "srat" => written(
+            alloc,
+            &grown(alloc, SRAT::new(alloc, id, oem, revision), size)?,
+        )?,
+        "cedt" => written(
+            alloc,
+            &grown(alloc, CEDT::new(alloc, id, oem, revision), size)?,
+        )?,
+        "hest" => written(
+            alloc,
+            &grown(alloc, HEST::new(alloc, id, oem, revision), size)?,
+        )?,
+        "rqsc" => written(
+            alloc,
+            &grown(alloc, RQSC::new(alloc, id, oem, revision), size)?,
+        )?,
+        "pptt" => written(
+            alloc,
+            &grown(alloc, PPTT::new(alloc, id, oem, revision), size)?,
+        )?,
+        "rimt" => written(
+            alloc,
+            &grown(alloc, RIMT::new(alloc, id, oem, revision), size)?,
+        )?,
+        "rhct" => written(alloc, &harts(alloc, size)?)?,
+        "viot" => written(alloc, &ranges(alloc, size)?)?,
+        "slit" => written(alloc, &slit(alloc, size)?)?,
+        "hmat" => written(alloc, &hmat(alloc, size)?)?,
+        "aml" => devices(alloc, size)?,
+        "dsdt" => written(alloc, &block(alloc, size)?)?,
+        _ => return Ok(None),
     };
-    let Some((more, later)) = others.first() else {
-        return Ok(true);
-    };
-    let ratio = hundredths(*earlier, *later);
-    let (whole, part) = (ratio / 100, ratio % 100);
-    println!(rt; "{less} to {more} {unit}: {whole}.{part:02} times as long")?;
-    let linear = !is_too_slow(*earlier, *later);
-    let others = print_ratios(rt, others, unit)?;
-    Ok(linear && others)
+    Ok(Some(bytes))
+}
+
+// Does the workload of a name, and returns how much was made, and of what.
+fn done(alloc: Global, name: &str, size: u32) -> Result<Option<(usize, &'static str)>, Fault> {
+    if let Some(bytes) = table(alloc, name, size)? {
+        return Ok(Some((bytes.len(), "bytes")));
+    }
+    match name {
+        "terms" => {
+            let terms = read(alloc, &devices(alloc, size)?)?;
+            Ok(Some((terms.len(), "terms beside each other")))
+        }
+        "report" => {
+            let terms = read(alloc, &devices(alloc, size)?)?;
+            Ok(Some((reported(alloc, &terms)?, "bytes of text")))
+        }
+        "table" => {
+            let bytes = written(alloc, &madt(alloc, size)?)?;
+            Ok(Some((shown(alloc, &bytes)?, "bytes of text")))
+        }
+        "flat" => {
+            let terms = nested(alloc, 0, size)?;
+            Ok(Some((reported(alloc, &terms)?, "bytes of text")))
+        }
+        "deep" => {
+            let terms = nested(alloc, 249, size)?;
+            Ok(Some((reported(alloc, &terms)?, "bytes of text")))
+        }
+        _ => Ok(None),
+    }
 }

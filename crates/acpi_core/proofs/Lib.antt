@@ -7,3 +7,4 @@ pub mod Parts
 pub mod Structures
 pub mod Calls
 pub mod Numbers
+pub mod Rooms

@@ -7,3 +7,4 @@ pub mod Walk
 pub mod Laws
 pub mod Calls
 pub mod Entries
+pub mod Room

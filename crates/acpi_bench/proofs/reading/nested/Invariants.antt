@@ -1,7 +1,7 @@
 use Rattle.std.proofs.Common.{◌≡◌}
 use Rattle.acpi_term.specs.View.{views}
 use Rattle.acpi_bench.specs.Nesting.{numbers, inside}
-use Rattle.acpi_bench.proofs.nesting.nested.Given as goal
+use Rattle.acpi_bench.proofs.reading.nested.Given as goal
 
 abbrev pub invariant-fill : goal.invariant-fill
 invariant-fill l = views l.terms.items ≡ numbers l._filled

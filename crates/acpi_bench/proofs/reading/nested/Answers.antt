@@ -2,7 +2,7 @@ use Rattle.std.proofs.Common.{◌≡◌, suc, ◌+◌, ap, ◌∙◌, arith}
 use Rattle.acpi_term.specs.View.{views}
 use Rattle.acpi_bench.specs.Nesting.{numbers}
 use Rattle.acpi_bench.proofs.Nestings.{one_more}
-use Rattle.acpi_bench.proofs.nesting.nested.Goals as goal
+use Rattle.acpi_bench.proofs.reading.nested.Goals as goal
 
 pub fill-preserved : goal.fill-preserved
 fill-preserved c =

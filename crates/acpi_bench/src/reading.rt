@@ -1,0 +1,53 @@
+//! What is read.
+
+ghost use Rattle.std.specs.Prelude.{◌≡◌, IfOk};
+ghost use Rattle.acpi_term.specs.Tree.{number, end};
+ghost use Rattle.acpi_term.specs.View.{view, views};
+ghost use Rattle.acpi_bench.specs.Nesting.{numbers, inside};
+
+use crate::fault::Fault;
+use acpi_tables::R;
+use acpi_tables::read::{Arities, Table, Term, report_table, report_terms, terms};
+use std::alloc::Global;
+
+/// The terms of the devices of `blocks`, which call no method.
+pub fn read(alloc: Global, bytes: &[u8]) -> Result<Vec<Term>, Fault> {
+    let arities = Arities::new(Vec::new(alloc))?;
+    Ok(terms(bytes, &arities)?)
+}
+
+/// How many bytes the text of terms has.
+pub fn reported(alloc: Global, terms: &[Term]) -> Result<usize, Fault> {
+    Ok(report_terms(alloc, terms)?.len())
+}
+
+/// How many bytes the text of a table has.
+pub fn shown(alloc: Global, bytes: &[u8]) -> Result<usize, Fault> {
+    let table = Table::check(bytes)?;
+    Ok(report_table(alloc, &table)?.len())
+}
+
+fn zero() -> Term
+    ensures { view result ≡ (number 0, 0, end) }
+{
+    Term::Number { value: 0, width: 0 }
+}
+
+/// This many numbers, inside this many frames.
+pub fn nested(alloc: Global, frames: u8, count: u32) -> R<Vec<Term>>
+    ensures { IfOk result (λ terms. views terms.items ≡ inside frames (numbers count)) }
+{
+    let mut terms = Vec::with_capacity(alloc, count as usize)?;
+    'fill: for _filled in 0..count {
+        terms.push(zero())?;
+    }
+    'wrap: for _wrapped in 0..frames {
+        let mut around = Vec::with_capacity(alloc, 1)?;
+        around.push(Term::Else {
+            width: 4,
+            body: terms,
+        })?;
+        terms = around;
+    }
+    Ok(terms)
+}
