@@ -1,14 +1,13 @@
 //! Builds and reads large tables, so that a profiler counts what this takes. `acpi_bench WORKLOAD=N ..` does each workload once,
 //! at a size N, and prints how much was made.
 //!
-//! | workload | what is made |
-//! |---|---|
-//! | `xsdt`, `mcfg`, `madt`, `srat`, `cedt`, `hest`, `rqsc`, `rimt`, `pptt`, `rhct`, `viot` | a table of N structures (`pptt`: of N processors with a cache each), and its bytes |
-//! | `slit`, `hmat` | a table whose matrix has N rows of N cells, and its bytes |
-//! | `aml`, `dsdt` | N devices as bytes of AML; as a definition block |
-//! | `terms`, `report` | the terms of the devices of `dsdt`; and their text |
-//! | `table` | the text of the table of `madt` |
-//! | `flat`, `deep` | the text of N terms at depth 1; at depth 250 |
+//! - `xsdt`, `mcfg`, `madt`, `srat`, `cedt`, `hest`, `rqsc`, `rimt`, `rhct`, `viot`: a table of N structures, written to a vector.
+//! - `pptt`: such a table of N processors with a cache each.
+//! - `slit`, `hmat`: a table whose matrix has N rows of N cells, written to a vector.
+//! - `aml`, `dsdt`: N devices as bytes of AML; as a definition block.
+//! - `terms`, `report`: the terms of N devices; and their text.
+//! - `table`: the text of the table of `madt`.
+//! - `flat`, `deep`: the text of N terms at depth 1; at depth 250.
 //!
 //! Status 1: a call was refused. 2: a word is wrong, and a line on standard error says which.
 #![tactic(auto)]

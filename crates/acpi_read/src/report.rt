@@ -112,8 +112,27 @@ fn push_term<'a>(
         return Err(AllocError);
     };
     push_own(deeper, parts.kind, text)?;
-    let left = push_terms(deeper, parts.first, &sizes[1..], text)?;
-    push_terms(deeper, parts.others, left, text)
+    let left = push_any(deeper, parts.first, &sizes[1..], text)?;
+    push_any(deeper, parts.others, left, text)
+}
+
+// As `push_terms`. Most terms have no children of one kind or of either, and then no call is made.
+#[cycle(report)]
+#[inline(always)]
+fn push_any<'a>(
+    depth: usize,
+    terms: &[Term],
+    sizes: &'a [u32],
+    text: &mut String,
+) -> Result<&'a [u32], AllocError>
+    requires { HasSizes (views terms.now) sizes.now }
+    ensures { IfOk result
+        (λ left. AreReported depth (views terms.now) sizes.now left.now (string_bytes text.old) (string_bytes text.new)) }
+{
+    if terms.is_empty() {
+        return Ok(sizes);
+    }
+    push_terms(depth, terms, sizes, text)
 }
 
 #[tactic(auto, using(crate::proofs::Texts::after_four))]

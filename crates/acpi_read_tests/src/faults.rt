@@ -16,7 +16,7 @@ fn refused(alloc: Global, rows: &[(&[u8], ReadError)]) -> Result<(), Fail> {
     Ok(())
 }
 
-// 02 is no opcode of AML. The fault is at this byte, whatever terms it stands in.
+// 02 is no opcode of AML. The fault is at this byte, also inside other terms.
 #[test]
 fn opcodes(rt: HostRuntime) -> Result<(), Fail> {
     refused(

@@ -15,9 +15,30 @@ fn cut(size: usize, bytes: &[u8]) -> Result<(&[u8], &[u8]), Cause>
     Ok(bytes.split_at(size))
 }
 
-/// A number of this many bytes, lowest first, and the bytes after it.
+/// A number of this many bytes, lowest first, and the bytes after it. One byte, two and four are read at once.
 #[tactic(auto, unfolding(acpi_term::specs::Reading::high_at))]
 pub fn number(size: u8, bytes: &[u8]) -> Result<(u64, &[u8]), Cause>
+    requires { size ≤ 8 }
+    ensures gives { Gives (λ x. (x.0, x.1.now)) result (high_at size bytes.now) }
+    ensures below { IfOk result (λ x. x.0 < 256 ^ size) }
+{
+    match (size, bytes) {
+        (1, [a, rest @ ..]) => Ok((u64::from(*a), rest)),
+        (2, [a, b, rest @ ..]) => Ok((u64::from(*a) + 256 * u64::from(*b), rest)),
+        (4, [a, b, c, d, rest @ ..]) => {
+            let (low, high) = (
+                u64::from(*a) + 256 * u64::from(*b),
+                u64::from(*c) + 256 * u64::from(*d),
+            );
+            Ok((low + 65_536 * high, rest))
+        }
+        _ => number_by_bytes(size, bytes),
+    }
+}
+
+// The same, byte by byte.
+#[tactic(auto, unfolding(acpi_term::specs::Reading::high_at))]
+fn number_by_bytes(size: u8, bytes: &[u8]) -> Result<(u64, &[u8]), Cause>
     requires { size ≤ 8 }
     ensures gives { Gives (λ x. (x.0, x.1.now)) result (high_at size bytes.now) }
     ensures below { IfOk result (λ x. x.0 < 256 ^ size) }
@@ -28,7 +49,7 @@ pub fn number(size: u8, bytes: &[u8]) -> Result<(u64, &[u8]), Cause>
     let Some((low, rest)) = bytes.split_first() else {
         return Err(Cause::Truncated);
     };
-    let (high, rest) = number(size - 1, rest)?;
+    let (high, rest) = number_by_bytes(size - 1, rest)?;
     Ok((u64::from(*low) + 256 * high, rest))
 }
 

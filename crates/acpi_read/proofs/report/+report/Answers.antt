@@ -20,14 +20,14 @@ push_terms-loop-term-preserved t c =
 pub push_terms-returns : goal.push_terms-returns
 push_terms-returns t c = going_done _ _ _ _ _ _ _ c.loop-term.invariant c.loop-term-test.false
 
-pub push_term-push_terms-requires : goal.push_term-push_terms-requires
-push_term-push_terms-requires t c =
+pub push_term-push_any-requires : goal.push_term-push_any-requires
+push_term-push_any-requires t c =
     let p = c.parts_of-parts.result in
     let shallow = first_shallow p.first.now p.others.now in
     (omega (arith, shallow, ap depth c.parts_of-parts.ensures.children, c.decreases), has_first c.args.term.now _ _ p.first.now p.others.now c.parts_of-parts.ensures c.args.sizes.now c.requires)
 
-pub push_term-push_terms-requires-2 : goal.push_term-push_terms-requires-2
-push_term-push_terms-requires-2 t c =
+pub push_term-push_any-requires-2 : goal.push_term-push_any-requires-2
+push_term-push_any-requires-2 t c =
     let p = c.parts_of-parts.result in
     let shallow = others_shallow p.first.now p.others.now in
     (omega (arith, shallow, ap depth c.parts_of-parts.ensures.children, c.decreases), has_others c.args.term.now _ _ p.first.now p.others.now c.parts_of-parts.ensures c.args.sizes.now c.requires c.args.depth _ [] [] _ _ [] c.in_ok-left.left.now (search rules) c.in_ok-left.ensures)
@@ -36,4 +36,4 @@ pub push_term-returns : goal.push_term-returns
 push_term-returns t c =
     let p = c.parts_of-parts.result in
     let chosen = c.shown_width-shown.ensures (view c.args.term.now).2 (own_size_is c.args.term.now _ _ p.first.now p.others.now c.parts_of-parts.ensures c.args.sizes.now c.requires) in
-    told_all c.args.term.now _ _ p.first.now p.others.now c.parts_of-parts.ensures c.args.sizes.now c.requires c.args.depth _ _ _ _ _ _ c.in_ok-left.left.now (search rules) c.in_ok-left.ensures _ _ (search rules) chosen c.in_ok-push_line.ensures c.in_ok-push_own.ensures (λ left. left.now) c.push_terms-2.result c.push_terms-2.ensures
+    told_all c.args.term.now _ _ p.first.now p.others.now c.parts_of-parts.ensures c.args.sizes.now c.requires c.args.depth _ _ _ _ _ _ c.in_ok-left.left.now (search rules) c.in_ok-left.ensures _ _ (search rules) chosen c.in_ok-push_line.ensures c.in_ok-push_own.ensures (λ left. left.now) c.push_any-2.result c.push_any-2.ensures

@@ -5,10 +5,13 @@ use Rattle.acpi_read.proofs.Lines.{Going}
 use Rattle.acpi_read.proofs.report.+report.Given as goal
 
 abbrev pub decreases-push_terms : goal.decreases-push_terms
-decreases-push_terms l = 2 * depth (views l.terms.now) + 1
+decreases-push_terms l = 3 * depth (views l.terms.now) + 1
 
 abbrev pub decreases-push_term : goal.decreases-push_term
-decreases-push_term l = 2 * depth (single (view l.term.now))
+decreases-push_term l = 3 * depth (single (view l.term.now))
+
+abbrev pub decreases-push_any : goal.decreases-push_any
+decreases-push_any l = 3 * depth (views l.terms.now) + 2
 
 abbrev pub invariant-push_terms-loop-term : goal.invariant-push_terms-loop-term
 invariant-push_terms-loop-term l = Going l.depth l.terms l.term-index l.sizes l.left (string_bytes l.initial.text) (string_bytes l.text)

@@ -10,13 +10,13 @@ add_all-add_one-requires t c =
     let shallow = element_shallow c.args.terms.now c.loop-term.term-index c.term-item.result c.loop-term-test.true c.term-item.is in
     (omega (arith, shallow, c.decreases), tt)
 
-pub add_one-add_all-requires : goal.add_one-add_all-requires
-add_one-add_all-requires t c =
+pub add_one-add_any-requires : goal.add_one-add_any-requires
+add_one-add_any-requires t c =
     let shallow = first_shallow c.parts_of-parts.result.first.now c.parts_of-parts.result.others.now in
     (omega (arith, shallow, ap depth c.parts_of-parts.ensures.children, c.decreases), tt)
 
-pub add_one-add_all-requires-2 : goal.add_one-add_all-requires-2
-add_one-add_all-requires-2 t c =
+pub add_one-add_any-requires-2 : goal.add_one-add_any-requires-2
+add_one-add_any-requires-2 t c =
     let shallow = others_shallow c.parts_of-parts.result.first.now c.parts_of-parts.result.others.now in
     (omega (arith, shallow, ap depth c.parts_of-parts.ensures.children, c.decreases), tt)
 

@@ -9,10 +9,13 @@ use Rattle.acpi_read.proofs.Texts.{Goes}
 use Rattle.acpi_read.proofs.report.size.+size.Given as goal
 
 abbrev pub decreases-add_all : goal.decreases-add_all
-decreases-add_all l = 2 * depth (views l.terms.now) + 1
+decreases-add_all l = 3 * depth (views l.terms.now) + 1
 
 abbrev pub decreases-add_one : goal.decreases-add_one
-decreases-add_one l = 2 * depth (single (view l.term.now))
+decreases-add_one l = 3 * depth (single (view l.term.now))
+
+abbrev pub decreases-add_any : goal.decreases-add_any
+decreases-add_any l = 3 * depth (views l.terms.now) + 2
 
 abbrev pub invariant-add_all-loop-term : goal.invariant-add_all-loop-term
 invariant-add_all-loop-term l =

@@ -1,6 +1,6 @@
 use Rattle.std.proofs.Common.{◌≡◌, ◌<◌, ◌∷◌, arith, rules}
 use Rattle.acpi_read.proofs.Numbers.{high_bound}
-use Rattle.acpi_read.proofs.terms.frame.+number.Goals as goal
+use Rattle.acpi_read.proofs.terms.frame.+number_by_bytes.Goals as goal
 
 pub overflow_mul-result : goal.overflow_mul-result
 overflow_mul-result t c = let some = c.if-size-eq0.false in omega (arith, high_bound c.args.size 0 c.in_ok-high.high (omega arith) c.requires (omega arith) c.in_ok-high.ensures.below)
