@@ -8,6 +8,9 @@ use acpi_tables::{Aml, R};
 use acpi_vectors::{OEM, OEM_REVISION, OEM_TABLE};
 use std::alloc::Global;
 
+// The names of devices, in turn.
+const NAMES: [&str; 4] = ["COM1", "COM2", "COM3", "COM4"];
+
 // An interrupt and eight I/O ports.
 fn resources(alloc: Global) -> R<ResourceTemplate> {
     let interrupt = Interrupt::new(true, true, false, false, 4);
@@ -28,14 +31,14 @@ fn status(alloc: Global) -> R<Method> {
 
 // The serial port of a number. It has 63 bytes from number 256 on.
 fn device(alloc: Global, number: u32) -> R<Device> {
-    let number = number as u16 & 0xfff;
-    let name = format!(in alloc; "D{number:03X}")?;
+    let name = NAMES[number as usize % NAMES.len()];
+    let number = (number % 4096) as u16;
     let id = Name::new(Path::new(alloc, "_HID")?, &EISAName::new("PNP0501")?)?;
     let unique = Name::new(Path::new(alloc, "_UID")?, &number)?;
     let current = Name::new(Path::new(alloc, "_CRS")?, &resources(alloc)?)?;
     let status = status(alloc)?;
     Device::new(
-        Path::new(alloc, &name)?,
+        Path::new(alloc, name)?,
         vec![in alloc; &id as &dyn Aml, &unique, &current, &status]?,
     )
 }

@@ -106,8 +106,10 @@ impl Growing for HEST {
         let notification = NotificationStructure::new(NotificationType::Polled).poll_interval_ms(
             1000,
         );
-        let source = GenericHardwareSource::new(number as u16, hest::EnabledStatus::Enabled)
-            .num_records(1)
+        let source = GenericHardwareSource::new(
+            (number % 65_536) as u16,
+            hest::EnabledStatus::Enabled,
+        ).num_records(1)
             .max_sections(1)
             .max_raw_length(0x1000)
             .error_status_address(register)

@@ -40,7 +40,13 @@ impl Growing for RIMT {
         let second = InterruptWire::new(2, true, true, 0);
         let wires = vec![in alloc; first, second]?;
         let base = u64::from(number) << 12;
-        drop(self.add_iommu(Iommu::new(number as u16, Some(base), None, Some(0), Some(wires)))?);
+        drop(self.add_iommu(Iommu::new(
+            (number % 65_536) as u16,
+            Some(base),
+            None,
+            Some(0),
+            Some(wires),
+        ))?);
         Ok(())
     }
 }

@@ -98,6 +98,7 @@ pub fn with_room(alloc: Global, bytes: &[u8]) -> R<Vec<u8>>
 }
 
 /// Puts bytes, and then others, into a vector at a place.
+#[inline(always)]
 #[tactic(auto, using(crate::proofs::Inserts::inserted))]
 pub fn insert(bytes: &mut Vec<u8>, at: usize, first: &[u8], second: &[u8]) -> R<()>
     requires { at ≤ length bytes.old.items }
@@ -115,6 +116,7 @@ pub fn insert(bytes: &mut Vec<u8>, at: usize, first: &[u8], second: &[u8]) -> R<
 }
 
 // Moves the bytes between two places up to the end, and puts others where they were.
+#[inline(always)]
 #[tactic(auto, using(crate::proofs::Inserts::filled))]
 fn fill(bytes: &mut [u8], at: usize, end: usize, first: &[u8], second: &[u8])
     requires order { at ≤ end }
