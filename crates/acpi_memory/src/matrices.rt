@@ -23,10 +23,15 @@ pub fn distances(alloc: Global) -> R<SLIT> {
 impl Grows for MemorySideCache {
     const WAYS: u8 = 1;
 
+    // Eight handles have room inside the value. With these six, the third call of `grow` asks for memory.
     fn empty(alloc: Global) -> R<MemorySideCache> {
         let (total, level) = (CacheLevel::One, CacheLevel::One);
         let (ways, policy) = (Associativity::DirectMapped, WritePolicy::Writeback);
-        Ok(MemorySideCache::new(alloc, 1, 0x1000, total, level, ways, policy, 64))
+        let mut cache = MemorySideCache::new(alloc, 1, 0x1000, total, level, ways, policy, 64);
+        for _ in 0..6u8 {
+            cache.add_smbios_handle(0x1112)?;
+        }
+        Ok(cache)
     }
 
     fn grow(&mut self, _alloc: Global, _way: u8) -> R<()> {

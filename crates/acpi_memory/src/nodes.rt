@@ -22,10 +22,14 @@ fn cache(alloc: Global) -> R<CacheHandle> {
     pptt(alloc).add_cache(CacheNodeBuilder::default().to_node())
 }
 
+// Four offsets have room inside the value. The fifth asks for memory.
 fn processor(alloc: Global) -> R<ProcessorNode> {
     let cache = cache(alloc)?;
-    let processor = ProcessorNode::new(alloc, None, 1).add_cache(&cache)?;
-    processor.add_cache(&cache)?.add_cache(&cache)
+    let mut processor = ProcessorNode::new(alloc, None, 1);
+    for _ in 0..5u8 {
+        processor = processor.add_cache(&cache)?;
+    }
+    Ok(processor)
 }
 
 impl Grows for PPTT {
@@ -51,7 +55,11 @@ fn rhct(alloc: Global) -> RHCT {
 fn hart_info(alloc: Global) -> R<HartInfoNode> {
     let string = rhct(alloc).add_isa_string("rv64")?;
     let cmo = rhct(alloc).add_cmo(CmoNode::new(1, 2, 3))?;
-    HartInfoNode::new(alloc, 1, &string)?.with_cmo(&cmo)
+    let mut hart = HartInfoNode::new(alloc, 1, &string)?;
+    for _ in 0..4u8 {
+        hart = hart.with_cmo(&cmo)?;
+    }
+    Ok(hart)
 }
 
 impl Grows for RHCT {

@@ -54,6 +54,7 @@ pub struct Parts<'a> {
 }
 
 /// Takes a term apart.
+#[inline(always)]
 pub fn parts_of(term: &Term) -> Parts<'_>
     ensures { IsApart term.now (head_of result.kind) result.width result.first.now result.others.now }
 {
@@ -135,6 +136,7 @@ pub fn parts_of(term: &Term) -> Parts<'_>
     }
 }
 
+#[inline(always)]
 fn apart<'a>(kind: Kind<'a>, width: u8, first: &'a [Term], others: &'a [Term]) -> Parts<'a>
     ensures kind { result.kind ≡ kind.entry }
     ensures width { result.width ≡ width }
@@ -150,6 +152,7 @@ fn apart<'a>(kind: Kind<'a>, width: u8, first: &'a [Term], others: &'a [Term]) -
 }
 
 /// The opcode of a framed term.
+#[inline(always)]
 pub fn frame_code(kind: Kind<'_>) -> Option<&'static [u8]>
     ensures { (w n : ℕ) → option_map (λ code. code.now) result ≡ code_of (layout (head_of kind.entry) w n) }
 {
