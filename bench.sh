@@ -11,11 +11,12 @@ cd "$(dirname "$0")"
 
 . ./crates.sh
 
+command -v valgrind >/dev/null || { echo 'bench.sh: valgrind is missing' >&2; exit 1; }
+
 prove_libraries acpi_bench
 quietly acpi_bench run -- xsdt=2
 bench=crates/acpi_bench/out/acpi_bench
-figures=$(mktemp)
-trap 'rm -f "$figures"' EXIT
+figures=$work/figures
 status=0
 
 # The instructions of a run.
@@ -40,10 +41,11 @@ made() {
 # Prints the figure of a workload, and compares it: its name, its instructions, how many things they were for, and what one is.
 figure() {
     each=$(($2 / $3))
-    echo "$1: $each instructions for $4"
-    echo "$1 $each $4" >>"$figures"
     before=$(sed -n "s/^$1 \([0-9]*\) .*/\1/p" bench.txt)
-    if [ -n "$before" ] && [ $((10 * each)) -gt $((11 * before)) ]; then
+    before=${before:-$each}
+    echo "$1: $each instructions for $4, before $before"
+    echo "$1 $((each < before ? each : before)) $4" >>"$figures"
+    if [ $((10 * each)) -gt $((11 * before)) ]; then
         echo "too slow: $1 took $before instructions for $4" >&2
         status=1
     fi
@@ -87,9 +89,10 @@ beyond table madt 50000 50000 'a structure that is reported'
 built flat 20000 'a term at depth 1'
 built deep 20000 'a term at depth 250'
 
-flat=$(sed -n 's/^flat \([0-9]*\) .*/\1/p' "$figures")
-deep=$(sed -n 's/^deep \([0-9]*\) .*/\1/p' "$figures")
-if [ "$deep" -ge $((2 * flat)) ]; then
+term() {
+    sed -n "s/^$1 \([0-9]*\) .*/\1/p" "$figures"
+}
+if [ "$(term deep)" -ge $((2 * $(term flat))) ]; then
     echo 'too slow: the text of a term depends on its depth' >&2
     status=1
 fi

@@ -1,36 +1,27 @@
 //! Lines of pieces. What begins with `push` adds to a text.
 
-ghost use Rattle.std.specs.Prelude.{◌≡◌, ◌++◌, ◌≤◌, length, map, string_bytes, codes, OnOk};
-ghost use Rattle.std.specs.Fmt.{decimal};
+ghost use Rattle.std.specs.Prelude.{◌≡◌, ◌++◌, ◌≤◌, length, map, string_bytes, OnOk};
 ghost use Rattle.std.specs.List.{All};
 ghost use Rattle.acpi_base.specs.Walk.{end_of};
-ghost use Rattle.acpi_read.specs.Report.{kind_text, piece_line, piece_lines};
+ghost use Rattle.acpi_read.specs.Report.{piece_line, piece_lines};
 
 use crate::pieces::Piece;
-use crate::report::words::push_number;
 use acpi_base::walk::Place;
 use std::alloc::AllocError;
 
-fn push_kind(kind: Place, bytes: &[u8], text: &mut String) -> Result<(), AllocError>
-    requires { end_of kind ≤ length bytes.now }
-    ensures { OnOk result (string_bytes text.new ≡ string_bytes text.old ++ kind_text kind bytes.now) }
-{
-    match kind {
-        Place::Nowhere => text.push_str(" entry"),
-        place => push_number(" type ", place.number(bytes) as u64, text),
-    }
-}
-
-#[tactic(auto, using(crate::proofs::Texts::after_four))]
 fn push_piece(kind: Place, piece: &Piece<'_>, text: &mut String) -> Result<(), AllocError>
     requires { end_of kind ≤ length piece.now.bytes.now }
     ensures { OnOk result (string_bytes text.new ≡ string_bytes text.old
         ++ piece_line kind piece.entry.now.offset piece.entry.now.bytes.now) }
 {
-    push_number("", piece.offset as u64, text)?;
-    push_kind(kind, piece.bytes, text)?;
-    push_number(" size ", piece.bytes.len() as u64, text)?;
-    text.push_str("\n")
+    let (offset, size) = (piece.offset, piece.bytes.len());
+    match kind {
+        Place::Nowhere => write!(text, "{offset} entry size {size}\n"),
+        place => {
+            let kind = place.number(piece.bytes);
+            write!(text, "{offset} type {kind} size {size}\n")
+        }
+    }
 }
 
 /// A line for each piece.
