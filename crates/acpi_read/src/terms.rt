@@ -7,7 +7,7 @@ mod name;
 mod open;
 mod text;
 
-ghost use Rattle.std.specs.Prelude.{◌≡◌, ◌+◌, ◌<◌, ◌≤◌, length, IfOk, OnOk, IfErr, Some, None};
+ghost use Rattle.std.specs.Prelude.{◌≡◌, ◌+◌, ◌<◌, ◌≤◌, ◌++◌, ◌∷◌, [], length, IfOk, OnOk, IfErr, Some, None};
 ghost use Rattle.acpi_base.specs.Object.{IsOwnEnd};
 ghost use Rattle.acpi_term.specs.Arity.{arity};
 ghost use Rattle.acpi_term.specs.Operator.{operands};
@@ -320,6 +320,18 @@ fn several<'a>(
     Ok((terms, rest))
 }
 
+// Adds a term. If it is the last one, room is asked for this one alone: most bodies have few terms.
+fn keep(terms: &mut Vec<Term>, term: Term, is_last: bool) -> Result<(), ReadError>
+    ensures items { OnOk result (terms.new.items ≡ terms.old.items ++ term ∷ []) }
+    ensures err { IfErr result (λ e. e ≡ ReadError.Memory) }
+{
+    if is_last {
+        terms.reserve_exact(1)?;
+    }
+    terms.push(term)?;
+    Ok(())
+}
+
 /// The terms that the bytes are.
 #[cycle(read)]
 fn all(
@@ -339,7 +351,7 @@ fn all(
     let mut at = mode;
     'all: while !rest.is_empty() {
         let (term, after) = term(arities, at, rest, end, depth)?;
-        terms.push(term)?;
+        keep(&mut terms, term, after.is_empty())?;
         rest = after;
         at = at.next();
     }

@@ -46,7 +46,7 @@ pub all-all-preserved : goal.all-all-preserved
 all-all-preserved t c =
     let x = c.in_ok-term.term in
     let some : 0 < length c.all.rest.now = search rules in
-    let e : views c.push.new.self.items ≡ and_one (views c.all.terms.items) (view x).0 (view x).1 (view x).2 = rw c.in_ok-push.ensures.items (views_push c.all.terms.items x) in
+    let e : views c.keep.new.terms.items ≡ and_one (views c.all.terms.items) (view x).0 (view x).1 (view x).2 = rw c.in_ok-keep.ensures.items (views_push c.all.terms.items x) in
     rw (e, c.next-at.ensures) (all_go_on (arity c.args.arities.now) c.args.depth c.args.mode c.args.bytes.now (views c.all.terms.items) c.all.at c.all.rest.now c.all.invariant some (view x).0 (view x).1 (view x).2 c.in_ok-term.after.now c.in_ok-term.ensures.gives)
 
 pub all-returns-clause-gives : goal.all-returns-clause-gives
