@@ -3,9 +3,9 @@
 # status 1 where one takes more than a tenth more, or where the text of a term at depth 250 takes twice as many as at depth 1.
 # Figures that have fallen are written into bench.txt.
 #
-# A workload is run at a size and at twice this size, and the first count is taken from the second: so what a run takes beside
-# its structures isn't counted. Instructions don't depend on what else a machine does. The program and what it stands on are
-# proved first: the first run takes minutes, and a later one a minute. It needs valgrind.
+# A workload is run at a size and at size 0, and the second count is taken from the first: so the start of the program isn't
+# counted. Instructions don't depend on what else a machine does. The program and what it stands on are proved first: the first
+# run takes minutes, and a later one a minute. It needs valgrind.
 set -eu
 cd "$(dirname "$0")"
 
@@ -24,18 +24,18 @@ instructions() {
     valgrind --tool=callgrind --callgrind-out-file=/dev/null "$bench" "$1" 2>&1 | sed -n 's/.*Collected : //p'
 }
 
-# The instructions that a workload takes more at twice a size.
+# The instructions that a workload of a size takes more than an empty one.
 more() {
-    once=$(instructions "$1=$2")
-    twice=$(instructions "$1=$((2 * $2))")
-    echo $((twice - once))
+    none=$(instructions "$1=0")
+    all=$(instructions "$1=$2")
+    echo $((all - none))
 }
 
-# How much more a workload makes at twice a size.
+# How much more a workload of a size makes than an empty one.
 made() {
-    once=$("$bench" "$1=$2" | cut -d ' ' -f 2)
-    twice=$("$bench" "$1=$((2 * $2))" | cut -d ' ' -f 2)
-    echo $((twice - once))
+    none=$("$bench" "$1=0" | cut -d ' ' -f 2)
+    all=$("$bench" "$1=$2" | cut -d ' ' -f 2)
+    echo $((all - none))
 }
 
 # Prints the figure of a workload, and compares it: its name, its instructions, how many things they were for, and what one is.
@@ -61,31 +61,31 @@ filled() {
     figure "$1" "$(more "$1" "$2")" "$(made "$1" "$2")" "a byte of its matrix"
 }
 
-# A workload over the bytes of another, its size, what each figure is for, and how many things are at twice the size more.
+# A workload over what another makes, which isn't counted: both names, the size, how many things there are, and what one is.
 beyond() {
     figure "$1" $(($(more "$1" "$3") - $(more "$2" "$3"))) "$4" "$5"
 }
 
-built xsdt 2048 'an entry of 8 bytes'
-built mcfg 2048 'an entry of 16 bytes'
-built madt 2048 'a structure of 36 bytes'
-built srat 2048 'a structure of 40 bytes'
-built cedt 1024 'a window of 44 bytes'
-built hest 1024 'a source of 64 bytes'
-built rqsc 512 'a controller of 48 bytes'
-built pptt 1024 'a processor and a cache of 52 bytes'
-built rimt 1024 'an IOMMU of 48 bytes'
-built rhct 512 'a hart of 20 bytes'
-built viot 512 'a range of 24 bytes'
-filled slit 256
-filled hmat 128
-built aml 2048 'a device of 63 bytes'
-built dsdt 2048 'a device of 63 bytes'
+built xsdt 4096 'an entry of 8 bytes'
+built mcfg 4096 'an entry of 16 bytes'
+built madt 4096 'a structure of 36 bytes'
+built srat 4096 'a structure of 40 bytes'
+built cedt 2048 'a window of 44 bytes'
+built hest 2048 'a source of 64 bytes'
+built rqsc 1024 'a controller of 48 bytes'
+built pptt 2048 'a processor and a cache of 52 bytes'
+built rimt 2048 'an IOMMU of 48 bytes'
+built rhct 1024 'a hart of 20 bytes'
+built viot 1024 'a range of 24 bytes'
+filled slit 512
+filled hmat 256
+built aml 4096 'a device of 63 bytes'
+built dsdt 4096 'a device of 63 bytes'
 
-bytes=$(made aml 8192)
-beyond terms aml 8192 "$bytes" 'a byte that is read, and whose terms are dropped'
-beyond report terms 8192 "$bytes" 'a byte whose terms are reported'
-beyond table madt 50000 50000 'a structure that is reported'
+bytes=$(made aml 16384)
+beyond terms aml 16384 "$bytes" 'a byte that is read, and whose terms are dropped'
+beyond report terms 16384 "$bytes" 'a byte whose terms are reported'
+beyond table madt 100000 100000 'a structure that is reported'
 built flat 20000 'a term at depth 1'
 built deep 20000 'a term at depth 250'
 
