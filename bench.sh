@@ -1,7 +1,8 @@
 #!/bin/sh
 # Counts the instructions that each workload of acpi_bench takes, and compares them with those that bench.txt has. It ends with
 # status 1 where one takes more than a tenth more, or where the text of a term at depth 250 takes twice as many as at depth 1.
-# Figures that have fallen are written into bench.txt.
+# bench.txt has a line for each workload: its name, its instructions, and what they are for. Figures that have fallen are written
+# into it.
 #
 # A workload is run at a size and at size 0, and the second count is taken from the first: so the start of the program isn't
 # counted. Instructions don't depend on what else a machine does. The program and what it stands on are proved first: the first
@@ -56,7 +57,7 @@ built() {
     figure "$1" "$(more "$1" "$2")" "$2" "$3"
 }
 
-# A workload that fills a matrix, and its size. What it sets is as many as the bytes of the matrix, or as half of them.
+# A workload that fills a matrix, and its size. The figure is for a byte of the matrix.
 filled() {
     figure "$1" "$(more "$1" "$2")" "$(made "$1" "$2")" "a byte of its matrix"
 }

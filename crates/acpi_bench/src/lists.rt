@@ -11,13 +11,14 @@ use acpi_tables::gas::{AccessSize, AddressSpace, GAS};
 use acpi_tables::hest::{
     self, GenericHardwareSource, HEST, NotificationStructure, NotificationType,
 };
-use acpi_tables::madt::{HartStatus, MADT, RINTC};
+use acpi_tables::madt::{HartStatus, LocalInterruptController, MADT, RINTC};
 use acpi_tables::mcfg::MCFG;
 use acpi_tables::rqsc::{
     CacheResource, ControllerType, QoSController, RQSC, ResourceID, ResourceStructure, ResourceType,
 };
 use acpi_tables::srat::{MemoryAffinity, SRAT};
 use acpi_tables::xsdt::XSDT;
+use acpi_vectors::{OEM, OEM_REVISION, OEM_TABLE};
 use std::alloc::Global;
 
 /// Entries of 8 bytes.
@@ -25,6 +26,10 @@ impl Growing for XSDT {
     ghost structures = { λ t. length t.table.table.structures };
 
     ghost each = { 1 };
+
+    fn empty(alloc: Global) -> XSDT {
+        XSDT::new(alloc, OEM, OEM_TABLE, OEM_REVISION)
+    }
 
     fn grow(&mut self, _alloc: Global, number: u32) -> R<()> {
         self.add_entry(0x1_0000_0000 + u64::from(number))
@@ -37,6 +42,10 @@ impl Growing for MCFG {
 
     ghost each = { 1 };
 
+    fn empty(alloc: Global) -> MCFG {
+        MCFG::new(alloc, OEM, OEM_TABLE, OEM_REVISION)
+    }
+
     fn grow(&mut self, _alloc: Global, number: u32) -> R<()> {
         self.add_ecam(u64::from(number) << 20, 1, 0, 255)
     }
@@ -47,6 +56,11 @@ impl Growing for MADT {
     ghost structures = { λ t. length t.table.table.structures };
 
     ghost each = { 1 };
+
+    fn empty(alloc: Global) -> MADT {
+        let local = LocalInterruptController::Riscv;
+        MADT::new(alloc, OEM, OEM_TABLE, OEM_REVISION, local)
+    }
 
     fn grow(&mut self, _alloc: Global, number: u32) -> R<()> {
         let hart = u64::from(number);
@@ -60,6 +74,10 @@ impl Growing for SRAT {
 
     ghost each = { 1 };
 
+    fn empty(alloc: Global) -> SRAT {
+        SRAT::new(alloc, OEM, OEM_TABLE, OEM_REVISION)
+    }
+
     fn grow(&mut self, _alloc: Global, number: u32) -> R<()> {
         let range = MemoryAffinity::new(number, u64::from(number) << 30, 0x4000_0000);
         self.add_memory_affinity(range.enabled())
@@ -71,6 +89,10 @@ impl Growing for CEDT {
     ghost structures = { λ t. length t.table.table.structures };
 
     ghost each = { 1 };
+
+    fn empty(alloc: Global) -> CEDT {
+        CEDT::new(alloc, OEM, OEM_TABLE, OEM_REVISION)
+    }
 
     fn grow(&mut self, alloc: Global, number: u32) -> R<()> {
         let mut window = CxlFixedMemory::new(
@@ -93,6 +115,10 @@ impl Growing for HEST {
     ghost structures = { λ t. length t.table.table.structures };
 
     ghost each = { 1 };
+
+    fn empty(alloc: Global) -> HEST {
+        HEST::new(alloc, OEM, OEM_TABLE, OEM_REVISION)
+    }
 
     fn grow(&mut self, _alloc: Global, number: u32) -> R<()> {
         let address = 0x7fe0_0000 + u64::from(number);
@@ -124,6 +150,10 @@ impl Growing for RQSC {
     ghost structures = { λ t. length t.table.table.structures };
 
     ghost each = { 1 };
+
+    fn empty(alloc: Global) -> RQSC {
+        RQSC::new(alloc, OEM, OEM_TABLE, OEM_REVISION)
+    }
 
     fn grow(&mut self, alloc: Global, number: u32) -> R<()> {
         let address = u64::from(number) << 12;

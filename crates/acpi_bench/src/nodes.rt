@@ -17,6 +17,10 @@ impl Growing for PPTT {
 
     ghost each = { 2 };
 
+    fn empty(alloc: Global) -> PPTT {
+        PPTT::new(alloc, OEM, OEM_TABLE, OEM_REVISION)
+    }
+
     fn grow(&mut self, alloc: Global, number: u32) -> R<()> {
         let cache = CacheNodeBuilder::default()
             .size(0x8000)
@@ -34,6 +38,10 @@ impl Growing for RIMT {
     ghost structures = { λ t. length t.table.table.structures };
 
     ghost each = { 1 };
+
+    fn empty(alloc: Global) -> RIMT {
+        RIMT::new(alloc, OEM, OEM_TABLE, OEM_REVISION)
+    }
 
     fn grow(&mut self, alloc: Global, number: u32) -> R<()> {
         let first = InterruptWire::new(1, true, true, 0);
