@@ -1,0 +1,9 @@
+pub mod Numbers
+pub mod Reading
+pub mod Lines
+pub mod Spaces
+pub mod Slots
+pub mod Shown
+pub mod Parts
+pub mod Pieces
+pub mod Tables

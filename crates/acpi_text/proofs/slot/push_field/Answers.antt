@@ -1,0 +1,11 @@
+use Rattle.std.proofs.Common.{rules}
+use Rattle.acpi_text.proofs.Shown.{showed_none, showed_short}
+use Rattle.acpi_text.proofs.slot.push_field.Goals as goal
+
+pub returns-then-is_empty : goal.returns-then-is_empty
+returns-then-is_empty c = showed_none _ c.args.offset c.args.bytes.now _ (search rules)
+
+pub returns-in_ok-push_nameless-in-None : goal.returns-in_ok-push_nameless-in-None
+returns-in_ok-push_nameless-in-None c =
+    showed_short c.args.depth c.args.offset c.args.name.now c.args.width c.args.count c.args.bytes.now _ _
+    (search rules) c.in-None.ensures c.in_ok-push_nameless-in-None.ensures

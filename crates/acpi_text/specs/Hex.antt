@@ -1,0 +1,19 @@
+-- Bytes and numbers in hexadecimal.
+use Rattle.std.specs.Prelude.{ℕ, zero, suc, ◌+◌, ◌/◌, ◌%◌, nat_lt, if◌then◌else◌, List, [], ◌∷◌, ◌++◌, take, drop}
+
+-- a digit, in lower case
+abbrev pub hex_digit : ℕ → ℕ
+hex_digit n = if nat_lt n 10 then 48 + n else 87 + n
+
+abbrev pub hex_byte : ℕ → List ℕ
+hex_byte b = hex_digit (b / 16) ∷ hex_digit (b % 16) ∷ []
+
+-- a number whose bytes are given lowest first: two digits for each byte, the highest first
+abbrev pub number_text : List ℕ → List ℕ
+number_text [] = []
+number_text (b ∷ bytes) = number_text bytes ++ hex_byte b
+
+-- this many numbers of w bytes, one after another, with a space before each
+abbrev pub numbers_text : ℕ → ℕ → List ℕ → List ℕ
+numbers_text w zero bytes = []
+numbers_text w (suc n) bytes = 32 ∷ (number_text (take w bytes) ++ numbers_text w n (drop w bytes))

@@ -1,0 +1,62 @@
+-- The lines of bytes that have names, and of those that have none.
+use Rattle.std.specs.Prelude.{◌≡◌, ℕ, zero, suc, ◌+◌, ◌*◌, ◌/◌, ◌-◌, ◌≤◌, nat_lt, nat_le, ◌==◌, if◌then◌else◌}
+use Rattle.std.specs.Prelude.{List, [], ◌∷◌, ◌++◌, length, take, drop, codes}
+use Rattle.acpi_base.specs.declared.row.Row.{Row}
+use Rattle.acpi_base.specs.declared.row.Row.TheVariants.{Number, Bytes, Reserved}
+use Rattle.acpi_text.specs.Line.{line, title}
+
+-- What a line shows:
+-- - heading: a name over other lines, at a level;
+-- - field: a field at a level, by its name, of n numbers of w bytes;
+-- - upto: a field of bytes that end at an offset, if any stand before it;
+-- - unknown: nothing is known of what follows.
+pub data Slot : Type 0 where
+  heading : ℕ → List ℕ → Slot
+  field : ℕ → List ℕ → ℕ → ℕ → Slot
+  upto : List ℕ → ℕ → Slot
+  unknown : Slot
+
+-- ---- bytes without names
+
+-- k lines of sixteen bytes, the last of what is left
+abbrev pub nameless_lines : ℕ → ℕ → List ℕ → List ℕ
+nameless_lines zero at bytes = []
+nameless_lines (suc k) at bytes =
+    line 0 at (codes "Bytes") 1 (length (take 16 bytes)) (take 16 bytes) ++ nameless_lines k (at + 16) (drop 16 bytes)
+
+abbrev pub nameless : ℕ → List ℕ → List ℕ
+nameless at bytes = nameless_lines ((length bytes + 15) / 16) at bytes
+
+-- ---- bytes with names
+
+-- A field's line, and the lines of what stands after it. Where there are fewer bytes than the field has, they have no name.
+abbrev pub field_text : (ℕ → List ℕ → List ℕ) → ℕ → ℕ → List ℕ → ℕ → ℕ → List ℕ → List ℕ
+field_text after at depth name w n bytes =
+    if length bytes == 0 then []
+    else (if nat_lt (length bytes) (w * n) then nameless at bytes
+    else line depth at name w n (take (w * n) bytes) ++ after (at + w * n) (drop (w * n) bytes))
+
+-- The lines of bytes from an offset on, as far as there are bytes. What is left after all slots has no name.
+abbrev pub slots_text : ℕ → List Slot → List ℕ → List ℕ
+slots_text at [] bytes = nameless at bytes
+slots_text at (unknown ∷ slots) bytes = nameless at bytes
+slots_text at (heading depth name ∷ slots) bytes =
+    if length bytes == 0 then [] else title depth at name ++ slots_text at slots bytes
+slots_text at (field depth name w n ∷ slots) bytes = field_text (λ k rest. slots_text k slots rest) at depth name w n bytes
+slots_text at (upto name end ∷ slots) bytes =
+    if nat_le end at then slots_text at slots bytes
+    else field_text (λ k rest. slots_text k slots rest) at 0 name 1 (end - at) bytes
+
+-- the field of a row: one number, or bytes
+abbrev pub row_slot : ℕ → Row → Slot
+row_slot depth (Number name w) = field depth name.now w 1
+row_slot depth (Bytes name n) = field depth name.now 1 n
+row_slot depth (Reserved n) = field depth (codes "Reserved") 1 n
+
+-- ---- what a call shows
+
+-- The lines of these slots were added to a text, and they show the first n of the bytes. Where the bytes end before the slots do,
+-- they show all bytes.
+pub record Showed (slots : List Slot) (at : ℕ) (bytes old new : List ℕ) (n : ℕ) : Type 0 where
+  pub within : n ≤ length bytes
+  pub lines : (more : List Slot) → old ++ slots_text at (slots ++ more) bytes ≡ new ++ slots_text (at + n) more (drop n bytes)

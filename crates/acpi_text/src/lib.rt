@@ -1,0 +1,13 @@
+//! Tables as text: a line for each field, with its name and its bytes.
+
+#![tactic(auto)]
+
+pub mod form;
+mod hex;
+pub mod laws;
+mod line;
+mod part;
+mod piece;
+mod slot;
+mod space;
+pub mod table;

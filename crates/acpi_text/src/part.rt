@@ -1,0 +1,203 @@
+//! The lines of the parts of a structure. A function whose name begins with `push` adds to a text, and returns how many bytes
+//! its lines show.
+
+ghost use Rattle.std.specs.Prelude.{◌≡◌, ℕ, ◌+◌, ◌<◌, ◌≤◌, ◌^◌, [], ◌∷◌, ◌++◌, length, drop, OnOk, IfOk, string_bytes};
+ghost use Rattle.acpi_text.specs.Form.{told, count_of, repeated, group_slots, find_choice, choice_slots, part_slots, parts_slots};
+ghost use Rattle.acpi_text.specs.Slot.{field, upto, slots_text, Showed};
+
+use crate::form::{Choice, Count, Part};
+use crate::slot::{push_field, push_heading, push_nameless, push_rows};
+use acpi_base::row::Row;
+use acpi_base::walk::Place;
+use std::alloc::AllocError;
+
+/// Returns the number in a field of a structure, or 0 if the structure ends before the field does.
+pub fn told(place: Place, whole: &[u8]) -> usize
+    ensures { result ≡ told place whole.now }
+{
+    if place.end() <= whole.len() {
+        place.number(whole)
+    } else {
+        0
+    }
+}
+
+// Returns how many entries a list has at most.
+fn count_of(count: Count, whole: &[u8]) -> usize
+    ensures { result ≡ count_of count whole.now }
+{
+    match count {
+        Count::Told(place) => told(place, whole),
+        Count::Rest => whole.len(),
+    }
+}
+
+// Adds a name and the fields below it.
+fn push_group(
+    name: &str,
+    rows: &[Row],
+    offset: usize,
+    bytes: &[u8],
+    text: &mut String,
+) -> Result<usize, AllocError>
+    requires { offset + length bytes.now < 2 ^ 64 }
+    ensures { IfOk result
+        (λ n. Showed (group_slots name.now rows.now) offset bytes.now (string_bytes text.old) (string_bytes text.new) n) }
+{
+    let none = push_heading(0, name, offset, bytes, text)?;
+    Ok(none + push_rows(1, rows, offset + none, &bytes[none..], text)?)
+}
+
+// Adds `count` such groups, or fewer if the bytes end before.
+fn push_entries(
+    name: &str,
+    count: usize,
+    rows: &[Row],
+    offset: usize,
+    bytes: &[u8],
+    text: &mut String,
+) -> Result<usize, AllocError>
+    requires { offset + length bytes.now < 2 ^ 64 }
+    ensures { IfOk result (λ n. Showed (repeated count (group_slots name.now rows.now))
+        offset bytes.now (string_bytes text.old) (string_bytes text.new) n) }
+{
+    let mut at = 0;
+    let mut done = 0;
+    'entries: while done < count && at < bytes.len() {
+        at += push_group(name, rows, offset + at, &bytes[at..], text)?;
+        done += 1;
+    }
+    Ok(at)
+}
+
+// Adds `count` fields of `columns` numbers, or fewer if the bytes end before.
+fn push_fields(
+    name: &str,
+    width: usize,
+    columns: usize,
+    count: usize,
+    offset: usize,
+    bytes: &[u8],
+    text: &mut String,
+) -> Result<usize, AllocError>
+    requires { offset + length bytes.now < 2 ^ 64 }
+    ensures { IfOk result (λ n. Showed (repeated count (field 0 name.now width columns ∷ []))
+        offset bytes.now (string_bytes text.old) (string_bytes text.new) n) }
+{
+    let mut at = 0;
+    let mut done = 0;
+    'fields: while done < count && at < bytes.len() {
+        at += push_field(0, name, width, columns, offset + at, &bytes[at..], text)?;
+        done += 1;
+    }
+    Ok(at)
+}
+
+// Adds a field of the bytes up to the offset `end` of a structure, of which `at` bytes were shown.
+fn push_until(
+    name: &str,
+    end: usize,
+    at: usize,
+    offset: usize,
+    bytes: &[u8],
+    text: &mut String,
+) -> Result<usize, AllocError>
+    requires { offset + length bytes.now < 2 ^ 64 }
+    ensures { (start : ℕ) → offset ≡ start + at
+        → IfOk result
+        (λ n. Showed (upto name.now (start + end) ∷ []) offset bytes.now (string_bytes text.old) (string_bytes text.new) n) }
+{
+    if end <= at {
+        return Ok(0);
+    }
+    push_field(0, name, 1, end - at, offset, bytes, text)
+}
+
+// Returns the choice with a number.
+fn find_choice(number: usize, choices: &[Choice]) -> Option<Choice>
+    ensures { result ≡ find_choice number choices.now }
+{
+    for choice in choices {
+        if number == choice.number {
+            return Some(*choice);
+        }
+    }
+    None
+}
+
+// Adds the fields of a choice. Without a choice, it adds all bytes without names.
+fn push_choice(
+    choice: Option<Choice>,
+    offset: usize,
+    bytes: &[u8],
+    text: &mut String,
+) -> Result<usize, AllocError>
+    requires { offset + length bytes.now < 2 ^ 64 }
+    ensures { IfOk result
+        (λ n. Showed (choice_slots choice) offset bytes.now (string_bytes text.old) (string_bytes text.new) n) }
+{
+    match choice {
+        Some(choice) => push_group(choice.name, choice.rows, offset, bytes, text),
+        None => {
+            push_nameless(offset, bytes, text)?;
+            Ok(bytes.len())
+        }
+    }
+}
+
+// Adds a part of the structure that begins at the offset `start`, and of which `at` bytes were shown.
+fn push_part(
+    part: &Part,
+    start: usize,
+    whole: &[u8],
+    at: usize,
+    text: &mut String,
+) -> Result<usize, AllocError>
+    requires within { at ≤ length whole.now }
+    requires fits { start + length whole.now < 2 ^ 64 }
+    ensures { IfOk result
+        (λ n. Showed (part_slots start whole.now part.now) (start + at) (drop at whole.now)
+        (string_bytes text.old) (string_bytes text.new) n) }
+{
+    let (_, bytes) = whole.split_at(at);
+    let offset = start + at;
+    match *part {
+        Part::Fields(rows) => push_rows(0, rows, offset, bytes, text),
+        Part::Group(name, rows) => push_group(name, rows, offset, bytes, text),
+        Part::Entries(name, count, rows) => {
+            push_entries(name, count_of(count, whole), rows, offset, bytes, text)
+        }
+        Part::Numbers(name, width, count) => {
+            push_fields(name, width, 1, count_of(count, whole), offset, bytes, text)
+        }
+        Part::Matrix(name, width, rows, columns) => {
+            let columns = told(columns, whole);
+            let rows = if columns == 0 { 0 } else { told(rows, whole) };
+            push_fields(name, width, columns, rows, offset, bytes, text)
+        }
+        Part::Bytes(name, count) => push_field(0, name, 1, told(count, whole), offset, bytes, text),
+        Part::Until(name, end) => push_until(name, told(end, whole), at, offset, bytes, text),
+        Part::Chosen(by, choices) => {
+            push_choice(find_choice(told(by, whole), choices), offset, bytes, text)
+        }
+    }
+}
+
+/// Adds the parts of the structure that begins at the offset `start`, and then the bytes that are left, without names.
+pub fn push_parts(
+    parts: &[Part],
+    start: usize,
+    whole: &[u8],
+    text: &mut String,
+) -> Result<(), AllocError>
+    requires { start + length whole.now < 2 ^ 64 }
+    ensures { OnOk result (string_bytes text.new ≡ string_bytes text.old
+        ++ slots_text start (parts_slots start whole.now parts.now) whole.now) }
+{
+    let mut at = 0;
+    'parts: for part in parts {
+        at += push_part(part, start, whole, at, text)?;
+    }
+    let (_, rest) = whole.split_at(at);
+    push_nameless(start + at, rest, text)
+}
