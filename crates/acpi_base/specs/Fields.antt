@@ -4,7 +4,7 @@ use Prim.Native.String.{String}
 use Rattle.acpi_base.specs.Bytes.{le}
 use Rattle.acpi_base.specs.Layout.{zeros}
 use Rattle.acpi_base.specs.declared.row.Row.{Row}
-use Rattle.acpi_base.specs.declared.row.Row.TheVariants.{Number, Bytes, Reserved}
+use Rattle.acpi_base.specs.declared.row.Row.TheVariants.{Number, Flags, OneOf, Bytes, Register, Reserved}
 use Rattle.acpi_base.specs.declared.row.Value.{Value}
 use Rattle.acpi_base.specs.declared.row.Value.TheVariants as values
 
@@ -43,12 +43,18 @@ fields_joined (field ∷ fields) = field.bytes ++ fields_joined fields
 
 abbrev pub row_name : Row → List ℕ
 row_name (Number name width) = name.now
+row_name (Flags name width bits) = name.now
+row_name (OneOf name width words) = name.now
 row_name (Bytes name width) = name.now
+row_name (Register name) = name.now
 row_name (Reserved width) = codes "Reserved"
 
 abbrev pub row_width : Row → ℕ
 row_width (Number name width) = width
+row_width (Flags name width bits) = width
+row_width (OneOf name width words) = width
 row_width (Bytes name width) = width
+row_width (Register name) = 12
 row_width (Reserved width) = width
 
 -- the rows have the names and the widths of the fields

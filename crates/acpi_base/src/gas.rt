@@ -6,7 +6,7 @@ ghost use Rattle.acpi_base.specs.Gas.{gas, pci_config_gas, gas_bytes, gas_fields
 
 use crate::error::R;
 use crate::object::Aml;
-use crate::row::{Record, Row, record_of_numbers, write_record};
+use crate::row::{Record, Row, Word, record_of_numbers, write_record};
 use crate::sink::AmlSink;
 
 /// Where a register lies (ACPI 6.5, 5.2.3.2, offset 0).
@@ -116,12 +116,38 @@ impl GAS {
     }
 }
 
+// The names of address spaces.
+const ADDRESS_SPACES: [Word; 13] = [
+    Word(0, "SystemMemory"),
+    Word(1, "SystemIO"),
+    Word(2, "PCI_Config"),
+    Word(3, "EmbeddedControl"),
+    Word(4, "SMBus"),
+    Word(5, "SystemCMOS"),
+    Word(6, "PciBarTarget"),
+    Word(7, "IPMI"),
+    Word(8, "GeneralPurposeIO"),
+    Word(9, "GenericSerialBus"),
+    Word(10, "PCC"),
+    Word(11, "PlatformRtMechanism"),
+    Word(127, "FFixedHW"),
+];
+
+// The names of access sizes.
+const ACCESS_SIZES: [Word; 5] = [
+    Word(0, "Undefined"),
+    Word(1, "Byte Access"),
+    Word(2, "Word Access"),
+    Word(3, "DWord Access"),
+    Word(4, "QWord Access"),
+];
+
 /// The rows of an address.
-pub(crate) const GENERIC_ADDRESS: [Row; 5] = [
-    Row::Number("Address Space ID", 1),
+pub const GENERIC_ADDRESS: [Row; 5] = [
+    Row::OneOf("Address Space ID", 1, &ADDRESS_SPACES),
     Row::Number("Register Bit Width", 1),
     Row::Number("Register Bit Offset", 1),
-    Row::Number("Access Size", 1),
+    Row::OneOf("Access Size", 1, &ACCESS_SIZES),
     Row::Number("Address", 8),
 ];
 

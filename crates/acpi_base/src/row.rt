@@ -10,13 +10,23 @@ use crate::error::R;
 use crate::patch::write_at;
 use crate::sink::AmlSink;
 
+/// A number that a field may have, or the mask of a flag in it, and its name in the standard.
+#[derive(Clone, Copy, Debug)]
+pub struct Word(pub u64, pub &'static str);
+
 /// A field of a record: its name in the standard, and its width in bytes.
 #[derive(Clone, Copy, Debug)]
 pub enum Row {
     /// A number, lowest byte first (ACPI 6.5, 5.2).
     Number(&'static str, usize),
+    /// A number whose bits are flags. A word has a flag's mask.
+    Flags(&'static str, usize, &'static [Word]),
+    /// A number that names one of several things. A word has a thing's number.
+    OneOf(&'static str, usize, &'static [Word]),
     /// Bytes in their order.
     Bytes(&'static str, usize),
+    /// The address of a register: 12 bytes (ACPI 6.5, 5.2.3.2).
+    Register(&'static str),
     /// Reserved bytes, which are zero.
     Reserved(usize),
 }
@@ -27,7 +37,12 @@ impl Row {
         ensures { result ≡ row_width self.now }
     {
         match *self {
-            Row::Number(_, width) | Row::Bytes(_, width) | Row::Reserved(width) => width,
+            Row::Number(_, width)
+            | Row::Flags(_, width, _)
+            | Row::OneOf(_, width, _)
+            | Row::Bytes(_, width)
+            | Row::Reserved(width) => width,
+            Row::Register(_) => 12,
         }
     }
 }

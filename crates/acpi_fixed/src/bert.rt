@@ -40,7 +40,8 @@ impl BERT {
     }
 }
 
-const BERT_ROWS: [Row; 2] = [
+/// The rows of a BERT after its header.
+pub const BERT_ROWS: [Row; 2] = [
     Row::Number("Boot Error Region Length", 4),
     Row::Number("Boot Error Region", 8),
 ];

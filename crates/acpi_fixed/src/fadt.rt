@@ -13,7 +13,7 @@ use acpi_base::error::R;
 use acpi_base::gas::GAS;
 use acpi_base::header::{CREATOR_ID, CREATOR_REVISION, HEADER};
 use acpi_base::object::Aml;
-use acpi_base::row::{Record, Row, Value, record_of};
+use acpi_base::row::{Record, Row, Value, Word, record_of};
 use acpi_base::sink::AmlSink;
 use std::marker::Model;
 
@@ -327,11 +327,64 @@ pub fn fadt_header_rows() -> &'static [Row]
     &HEADER
 }
 
-const FADT_ROWS: [Row; 55] = [
+// The names of power management profiles (ACPI 6.5, 5.2.9).
+const PROFILES: [Word; 9] = [
+    Word(0, "Unspecified"),
+    Word(1, "Desktop"),
+    Word(2, "Mobile"),
+    Word(3, "Workstation"),
+    Word(4, "Enterprise Server"),
+    Word(5, "SOHO Server"),
+    Word(6, "Appliance PC"),
+    Word(7, "Performance Server"),
+    Word(8, "Tablet"),
+];
+
+// The names of the boot architecture flags of IA-PC (ACPI 6.5, 5.2.9.3).
+const IAPC_BOOT_ARCH: [Word; 6] = [
+    Word(0x1, "LEGACY_DEVICES"),
+    Word(0x2, "8042"),
+    Word(0x4, "VGA Not Present"),
+    Word(0x8, "MSI Not Supported"),
+    Word(0x10, "PCIe ASPM Controls"),
+    Word(0x20, "CMOS RTC Not Present"),
+];
+
+// The names of the fixed feature flags (ACPI 6.5, 5.2.9).
+const FLAGS: [Word; 22] = [
+    Word(0x1, "WBINVD"),
+    Word(0x2, "WBINVD_FLUSH"),
+    Word(0x4, "PROC_C1"),
+    Word(0x8, "P_LVL2_UP"),
+    Word(0x10, "PWR_BUTTON"),
+    Word(0x20, "SLP_BUTTON"),
+    Word(0x40, "FIX_RTC"),
+    Word(0x80, "RTC_S4"),
+    Word(0x100, "TMR_VAL_EXT"),
+    Word(0x200, "DCK_CAP"),
+    Word(0x400, "RESET_REG_SUP"),
+    Word(0x800, "SEALED_CASE"),
+    Word(0x1000, "HEADLESS"),
+    Word(0x2000, "CPU_SW_SLP"),
+    Word(0x4000, "PCI_EXP_WAK"),
+    Word(0x8000, "USE_PLATFORM_CLOCK"),
+    Word(0x10000, "S4_RTC_STS_VALID"),
+    Word(0x20000, "REMOTE_POWER_ON_CAPABLE"),
+    Word(0x40000, "FORCE_APIC_CLUSTER_MODEL"),
+    Word(0x80000, "FORCE_APIC_PHYSICAL_DESTINATION_MODE"),
+    Word(0x100000, "HW_REDUCED_ACPI"),
+    Word(0x200000, "LOW_POWER_S0_IDLE_CAPABLE"),
+];
+
+// The names of the boot architecture flags of Arm (ACPI 6.5, 5.2.9.4).
+const ARM_BOOT_ARCH: [Word; 2] = [Word(0x1, "PSCI_COMPLIANT"), Word(0x2, "PSCI_USE_HVC")];
+
+/// The rows of a FADT after its header.
+pub const FADT_ROWS: [Row; 55] = [
     Row::Number("FIRMWARE_CTRL", 4),
     Row::Number("DSDT", 4),
     Row::Reserved(1),
-    Row::Number("Preferred_PM_Profile", 1),
+    Row::OneOf("Preferred_PM_Profile", 1, &PROFILES),
     Row::Number("SCI_INT", 2),
     Row::Number("SMI_CMD", 4),
     Row::Number("ACPI_ENABLE", 1),
@@ -363,25 +416,25 @@ const FADT_ROWS: [Row; 55] = [
     Row::Number("DAY_ALRM", 1),
     Row::Number("MON_ALRM", 1),
     Row::Number("CENTURY", 1),
-    Row::Number("IAPC_BOOT_ARCH", 2),
+    Row::Flags("IAPC_BOOT_ARCH", 2, &IAPC_BOOT_ARCH),
     Row::Reserved(1),
-    Row::Number("Flags", 4),
-    Row::Bytes("RESET_REG", 12),
+    Row::Flags("Flags", 4, &FLAGS),
+    Row::Register("RESET_REG"),
     Row::Number("RESET_VALUE", 1),
-    Row::Number("ARM_BOOT_ARCH", 2),
+    Row::Flags("ARM_BOOT_ARCH", 2, &ARM_BOOT_ARCH),
     Row::Number("FADT Minor Version", 1),
     Row::Number("X_FIRMWARE_CTRL", 8),
     Row::Number("X_DSDT", 8),
-    Row::Bytes("X_PM1a_EVT_BLK", 12),
-    Row::Bytes("X_PM1b_EVT_BLK", 12),
-    Row::Bytes("X_PM1a_CNT_BLK", 12),
-    Row::Bytes("X_PM1b_CNT_BLK", 12),
-    Row::Bytes("X_PM2_CNT_BLK", 12),
-    Row::Bytes("X_PM_TMR_BLK", 12),
-    Row::Bytes("X_GPE0_BLK", 12),
-    Row::Bytes("X_GPE1_BLK", 12),
-    Row::Bytes("SLEEP_CONTROL_REG", 12),
-    Row::Bytes("SLEEP_STATUS_REG", 12),
+    Row::Register("X_PM1a_EVT_BLK"),
+    Row::Register("X_PM1b_EVT_BLK"),
+    Row::Register("X_PM1a_CNT_BLK"),
+    Row::Register("X_PM1b_CNT_BLK"),
+    Row::Register("X_PM2_CNT_BLK"),
+    Row::Register("X_PM_TMR_BLK"),
+    Row::Register("X_GPE0_BLK"),
+    Row::Register("X_GPE1_BLK"),
+    Row::Register("SLEEP_CONTROL_REG"),
+    Row::Register("SLEEP_STATUS_REG"),
     Row::Number("Hypervisor Vendor Identity", 8),
 ];
 

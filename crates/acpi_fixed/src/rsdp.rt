@@ -66,7 +66,8 @@ impl Rsdp {
     }
 }
 
-const RSDP: [Row; 9] = [
+/// The rows of an RSDP.
+pub const RSDP_ROWS: [Row; 9] = [
     Row::Bytes("Signature", 8),
     Row::Number("Checksum", 1),
     Row::Bytes("OEMID", 6),
@@ -82,12 +83,12 @@ impl Record<36> for Rsdp {
     ghost fields = { rsdp_fields };
 
     fn rows() -> &'static [Row] {
-        &RSDP
+        &RSDP_ROWS
     }
 
     fn bytes(&self) -> [u8; 36] {
         record_of(
-            &RSDP,
+            &RSDP_ROWS,
             &[
                 Value::Bytes(&self.signature),
                 Value::Number(u64::from(self.checksum)),

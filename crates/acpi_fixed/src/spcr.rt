@@ -36,10 +36,11 @@ impl SPCR<'_> {
     }
 }
 
-const SPCR_ROWS: [Row; 24] = [
+/// The rows of an SPCR after its header.
+pub const SPCR_ROWS: [Row; 24] = [
     Row::Number("Interface Type", 1),
     Row::Reserved(3),
-    Row::Bytes("Base Address", 12),
+    Row::Register("Base Address"),
     Row::Number("Interrupt Type", 1),
     Row::Number("IRQ", 1),
     Row::Number("Global System Interrupt", 4),

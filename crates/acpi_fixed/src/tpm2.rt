@@ -18,7 +18,7 @@ use acpi_base::error::{Error, R};
 use acpi_base::gas::GAS;
 use acpi_base::object::Aml;
 use acpi_base::oem::Oem;
-use acpi_base::row::{Record, Row, Value, record_of, record_of_numbers};
+use acpi_base::row::{Record, Row, Value, Word, record_of, record_of_numbers};
 use acpi_base::sink::AmlSink;
 
 /// What kind of machine a module is in (TCG ACPI Specification, offset 36 of TCPA and TPM2).
@@ -56,8 +56,9 @@ impl TpmClient1_2 {
     }
 }
 
-const CLIENT: [Row; 3] = [
-    Row::Number("Platform Class", 2),
+/// The rows of a TCPA of a client after its header.
+pub const TCPA_CLIENT: [Row; 3] = [
+    Row::OneOf("Platform Class", 2, &[Word(0, "Client"), Word(1, "Server")]),
     Row::Number("Log Area Minimum Length", 4),
     Row::Number("Log Area Start Address", 8),
 ];
@@ -67,12 +68,12 @@ impl Record<14> for TpmClient1_2 {
     ghost fields = { client_fields };
 
     fn rows() -> &'static [Row] {
-        &CLIENT
+        &TCPA_CLIENT
     }
 
     fn bytes(&self) -> [u8; 14] {
         record_of_numbers(
-            &CLIENT,
+            &TCPA_CLIENT,
             &[
                 PlatformClass::Client as u64,
                 u64::from(self.log_area_min_len),
@@ -239,20 +240,38 @@ impl TpmServer1_2 {
     }
 }
 
-const SERVER: [Row; 17] = [
-    Row::Number("Platform Class", 2),
+/// The rows of a TCPA of a server after its header.
+pub const TCPA_SERVER: [Row; 17] = [
+    Row::OneOf("Platform Class", 2, &[Word(0, "Client"), Word(1, "Server")]),
     Row::Reserved(2),
     Row::Number("Log Area Minimum Length", 8),
     Row::Number("Log Area Start Address", 8),
     Row::Bytes("Specification Revision", 2),
-    Row::Number("Device Flags", 1),
-    Row::Number("Interrupt Flags", 1),
+    Row::Flags(
+        "Device Flags",
+        1,
+        &[
+            Word(1, "PCI Device"),
+            Word(2, "Bus is PNP"),
+            Word(4, "Configuration Address Valid"),
+        ],
+    ),
+    Row::Flags(
+        "Interrupt Flags",
+        1,
+        &[
+            Word(1, "Edge Triggered"),
+            Word(2, "Active Low"),
+            Word(4, "SCI by GPE"),
+            Word(8, "Global System Interrupt"),
+        ],
+    ),
     Row::Number("GPE", 1),
     Row::Reserved(3),
     Row::Number("Global System Interrupt", 4),
-    Row::Bytes("Base Address", 12),
+    Row::Register("Base Address"),
     Row::Reserved(4),
-    Row::Bytes("Configuration Address", 12),
+    Row::Register("Configuration Address"),
     Row::Number("PCI Segment Group Number", 1),
     Row::Number("PCI Bus Number", 1),
     Row::Number("PCI Device Number", 1),
@@ -264,12 +283,12 @@ impl Record<64> for TpmServer1_2 {
     ghost fields = { server_fields };
 
     fn rows() -> &'static [Row] {
-        &SERVER
+        &TCPA_SERVER
     }
 
     fn bytes(&self) -> [u8; 64] {
         record_of(
-            &SERVER,
+            &TCPA_SERVER,
             &[
                 Value::Number(PlatformClass::Server as u64),
                 Value::Number(0),
@@ -367,8 +386,9 @@ impl Tpm2 {
     }
 }
 
-const TPM2: [Row; 7] = [
-    Row::Number("Platform Class", 2),
+/// The rows of a TPM2 after its header.
+pub const TPM2_FIXED: [Row; 7] = [
+    Row::OneOf("Platform Class", 2, &[Word(0, "Client"), Word(1, "Server")]),
     Row::Reserved(2),
     Row::Number("Address of CRB Control Area", 8),
     Row::Number("Start Method", 4),
@@ -381,7 +401,7 @@ const TPM2: [Row; 7] = [
 pub fn tpm2_rows() -> &'static [Row]
     ensures { (table : Tpm2) (area : LogArea) → AreRowsOf result.now (tpm2_fields table (Some area)) }
 {
-    &TPM2
+    &TPM2_FIXED
 }
 
 /// The fields after the header where there is no log area.
@@ -389,12 +409,12 @@ impl Record<16> for Tpm2 {
     ghost fields = { λ t. tpm2_fields t None };
 
     fn rows() -> &'static [Row] {
-        &TPM2[..4]
+        &TPM2_FIXED[..4]
     }
 
     fn bytes(&self) -> [u8; 16] {
         record_of_numbers(
-            &TPM2[..4],
+            &TPM2_FIXED[..4],
             &[
                 self.platform_class as u64,
                 0,
@@ -418,12 +438,12 @@ impl Record<40> for Logged<'_> {
     fn rows() -> &'static [Row]
         ensures { (logged : Logged) → AreRowsOf result.now (tpm2_fields logged.table.now (Some logged.area)) }
     {
-        &TPM2
+        &TPM2_FIXED
     }
 
     fn bytes(&self) -> [u8; 40] {
         record_of(
-            &TPM2,
+            &TPM2_FIXED,
             &[
                 Value::Number(self.table.platform_class as u64),
                 Value::Number(0),

@@ -28,16 +28,16 @@ use acpi_core::kind::Kind;
 use acpi_core::table::Table;
 use acpi_core::walked::{Walked, is_walked};
 pub use aer::{
-    Aer, AerBridge, AerDevice, AerRootPort, FirmwareFirst, PciDevice, PcieAerBridge, PcieAerDevice,
-    PcieAerRootPort, aer_rows,
+    AER, AER_BRIDGE, AER_DEVICE, AER_ROOT_PORT, Aer, AerBridge, AerDevice, AerRootPort,
+    FirmwareFirst, PciDevice, PcieAerBridge, PcieAerDevice, PcieAerRootPort, aer_rows,
 };
-pub use error_data::{GenericErrorData, error_data_rows};
+pub use error_data::{ERROR_DATA, GenericErrorData, error_data_rows};
 pub use generic::{
-    Acknowledged, EnabledStatus, Generic, GenericHardwareSource, GenericHardwareSourceV2,
-    Unacknowledged, generic_rows,
+    ACKNOWLEDGED, Acknowledged, EnabledStatus, GENERIC, Generic, GenericHardwareSource,
+    GenericHardwareSourceV2, UNACKNOWLEDGED, Unacknowledged, generic_rows,
 };
-pub use notification::{NotificationStructure, NotificationType};
-pub use status::{ErrorSeverity, GenericErrorStatus};
+pub use notification::{NOTIFICATION, NotificationStructure, NotificationType};
+pub use status::{ERROR_STATUS, ErrorSeverity, GenericErrorStatus};
 use std::alloc::Global;
 pub use tail::Tail;
 

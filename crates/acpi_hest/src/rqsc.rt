@@ -27,8 +27,9 @@ use acpi_core::kind::Kind;
 use acpi_core::table::Table;
 use acpi_core::walked::{Walked, is_walked};
 pub use resource::{
-    ACPIDeviceResource, CacheResource, MemoryAffinityStructureResource, PCIDeviceResource,
-    ResourceID, ResourceStructure, ResourceType, resource_rows,
+    ACPI_DEVICE_RESOURCE, ACPIDeviceResource, CACHE_RESOURCE, CacheResource, MEMORY_RESOURCE,
+    MemoryAffinityStructureResource, PCI_DEVICE_RESOURCE, PCIDeviceResource, RESOURCE, ResourceID,
+    ResourceStructure, ResourceType, resource_rows,
 };
 use std::alloc::Global;
 use std::marker::Model;
@@ -242,11 +243,12 @@ impl QoSController {
     }
 }
 
-const CONTROLLER: [Row; 8] = [
+/// The rows of a QoS controller before its resources.
+pub const CONTROLLER: [Row; 8] = [
     Row::Number("Controller Type", 1),
     Row::Reserved(1),
     Row::Number("Length", 2),
-    Row::Bytes("Register Interface Address", 12),
+    Row::Register("Register Interface Address"),
     Row::Number("RCID Count", 4),
     Row::Number("MCID Count", 4),
     Row::Number("Controller Flags", 2),

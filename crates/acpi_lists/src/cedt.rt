@@ -19,7 +19,7 @@ use acpi_base::error::{Error, R};
 use acpi_base::object::Aml;
 use acpi_base::oem::Oem;
 use acpi_base::parts::write_parts;
-use acpi_base::row::{Record, Row, record_of_numbers, write_record};
+use acpi_base::row::{Record, Row, Word, record_of_numbers, write_record};
 use acpi_base::sink::AmlSink;
 use acpi_core::entries::Entries;
 use acpi_core::form::Form;
@@ -160,12 +160,13 @@ impl CxlHostBridge {
     }
 }
 
-const CXL_HOST_BRIDGE: [Row; 8] = [
+/// The rows of a CXL Host Bridge Structure.
+pub const CXL_HOST_BRIDGE: [Row; 8] = [
     Row::Number("Type", 1),
     Row::Reserved(1),
     Row::Number("Record Length", 2),
     Row::Number("UID", 4),
-    Row::Number("CXL Version", 4),
+    Row::OneOf("CXL Version", 4, &[Word(0, "CXL 1.1"), Word(1, "CXL 2.0")]),
     Row::Reserved(4),
     Row::Number("Base", 8),
     Row::Number("Length", 8),
@@ -403,7 +404,8 @@ impl CxlFixedMemory {
     }
 }
 
-const FIXED_MEMORY: [Row; 12] = [
+/// The rows of a CXL Fixed Memory Window Structure before its targets.
+pub const FIXED_MEMORY: [Row; 12] = [
     Row::Number("Type", 1),
     Row::Reserved(1),
     Row::Number("Record Length", 2),
@@ -414,7 +416,17 @@ const FIXED_MEMORY: [Row; 12] = [
     Row::Number("Interleave Arithmetic", 1),
     Row::Reserved(2),
     Row::Number("Host Bridge Interleave Granularity", 4),
-    Row::Number("Window Restrictions", 2),
+    Row::Flags(
+        "Window Restrictions",
+        2,
+        &[
+            Word(1, "CXL Type 2 Memory"),
+            Word(2, "CXL Type 3 Memory"),
+            Word(4, "Volatile"),
+            Word(8, "Persistent"),
+            Word(16, "Fixed Device Configuration"),
+        ],
+    ),
     Row::Number("QTG ID", 2),
 ];
 
@@ -501,7 +513,8 @@ impl XorInterleaveMath {
     }
 }
 
-const XOR_MAPS: [Row; 6] = [
+/// The rows of a CXL XOR Interleave Math Structure before its maps.
+pub const XOR_MAPS: [Row; 6] = [
     Row::Number("Type", 1),
     Row::Reserved(1),
     Row::Number("Record Length", 2),
@@ -566,7 +579,8 @@ impl PortAssociation {
     }
 }
 
-const PORT_ASSOCIATION: [Row; 7] = [
+/// The rows of an RCEC Downstream Port Association Structure.
+pub const PORT_ASSOCIATION: [Row; 7] = [
     Row::Number("Type", 1),
     Row::Reserved(1),
     Row::Number("Record Length", 2),

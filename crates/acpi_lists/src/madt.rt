@@ -22,16 +22,20 @@ mod x86;
 use acpi_base::error::{Error, R};
 use acpi_base::object::Aml;
 use acpi_base::oem::Oem;
-use acpi_base::row::{Row, record_of_numbers};
+use acpi_base::row::{Row, Word, record_of_numbers};
 use acpi_base::sink::AmlSink;
 use acpi_core::form::Form;
 use acpi_core::kind::Kind;
 use acpi_core::table::Table;
 use acpi_core::walked::{Walked, is_walked};
-pub use arm::{GicIts, GicMsi, GicVersion, Gicc, Gicd, Gicr, Trigger};
-pub use riscv::{APLIC, HartStatus, IMSIC, PLIC, RINTC};
+pub use arm::{
+    GIC_ITS, GIC_MSI, GICC, GICD, GICR, GicIts, GicMsi, GicVersion, Gicc, Gicd, Gicr, Trigger,
+};
+pub use riscv::{
+    APLIC, APLIC_ROWS, HartStatus, IMSIC, IMSIC_ROWS, PLIC, PLIC_ROWS, RINTC, RINTC_ROWS,
+};
 use std::alloc::Global;
-pub use x86::{IoApic, ProcessorLocalApic};
+pub use x86::{IO_APIC, IoApic, PROCESSOR_LOCAL_APIC, ProcessorLocalApic};
 
 /// Where every processor finds its own interrupt controller (ACPI 6.5, 5.2.12, offset 36): on RISC-V nowhere in memory,
 /// which is written as 0, or at a physical address.
@@ -104,7 +108,7 @@ impl MADT {
     {
         let oem = Oem::new(oem_id, oem_table_id, oem_revision);
         let form = Form::new(*b"APIC", 1, oem, 0);
-        let before: [u8; 8] = record_of_numbers(&FIXED, &[u64::from(int.address()), 0]);
+        let before: [u8; 8] = record_of_numbers(&MADT_FIXED, &[u64::from(int.address()), 0]);
         MADT {
             table: Walked::of(Table::new(alloc, form, &before, &[])),
             has_imsic: false,
@@ -156,16 +160,17 @@ impl MADT {
     }
 }
 
-const FIXED: [Row; 2] = [
+/// The rows of a MADT between its header and its structures.
+pub const MADT_FIXED: [Row; 2] = [
     Row::Number("Local Interrupt Controller Address", 4),
-    Row::Number("Flags", 4),
+    Row::Flags("Flags", 4, &[Word(1, "PCAT_COMPAT")]),
 ];
 
 /// The names and widths of the table's fixed fields, in order.
 pub fn madt_rows() -> &'static [Row]
     ensures { (controller : LocalInterruptController) → AreRowsOf result.now (madt_fields controller) }
 {
-    &FIXED
+    &MADT_FIXED
 }
 
 /// A law: after any calls the table is a true one. Where each structure contains its length at offset 1, they are, in order,

@@ -107,7 +107,8 @@ pub struct Ecam {
     end_bus: u8,
 }
 
-const ECAM: [Row; 5] = [
+/// The rows of an entry of MCFG.
+pub const ECAM: [Row; 5] = [
     Row::Number("Base Address", 8),
     Row::Number("Segment Group Number", 2),
     Row::Number("Start Bus Number", 1),

@@ -20,7 +20,7 @@ ghost use Rattle.acpi_lists.specs.declared.srat.GenericInitiator.{GenericInitiat
 use acpi_base::error::{Error, R};
 use acpi_base::object::Aml;
 use acpi_base::oem::Oem;
-use acpi_base::row::{Record, Row, Value, record_of, record_of_numbers, write_record};
+use acpi_base::row::{Record, Row, Value, Word, record_of, record_of_numbers, write_record};
 use acpi_base::sink::AmlSink;
 use acpi_core::form::Form;
 use acpi_core::kind::Kind;
@@ -167,7 +167,8 @@ impl MemoryAffinity {
     }
 }
 
-const MEMORY_AFFINITY: [Row; 9] = [
+/// The rows of a Memory Affinity Structure.
+pub const MEMORY_AFFINITY: [Row; 9] = [
     Row::Number("Type", 1),
     Row::Number("Length", 1),
     Row::Number("Proximity Domain", 4),
@@ -175,7 +176,15 @@ const MEMORY_AFFINITY: [Row; 9] = [
     Row::Number("Base Address", 8),
     Row::Number("Length", 8),
     Row::Reserved(4),
-    Row::Number("Flags", 4),
+    Row::Flags(
+        "Flags",
+        4,
+        &[
+            Word(1, "Enabled"),
+            Word(2, "Hot Pluggable"),
+            Word(4, "NonVolatile"),
+        ],
+    ),
     Row::Reserved(8),
 ];
 
@@ -301,13 +310,15 @@ fn acpi_handle(hid: [u8; 8], uid: [u8; 4]) -> [u8; 16]
     )
 }
 
-const ACPI_HANDLE: [Row; 3] = [
+/// The rows of the handle of an ACPI device.
+pub const ACPI_HANDLE: [Row; 3] = [
     Row::Bytes("ACPI _HID", 8),
     Row::Bytes("ACPI _UID", 4),
     Row::Reserved(4),
 ];
 
-const PCI_HANDLE: [Row; 4] = [
+/// The rows of the handle of a PCI device.
+pub const PCI_HANDLE: [Row; 4] = [
     Row::Number("PCI Segment", 2),
     Row::Number("PCI Bus Number", 1),
     Row::Number("PCI Device and Function Number", 1),
@@ -403,14 +414,19 @@ impl GenericInitiator {
     }
 }
 
-const GENERIC_INITIATOR: [Row; 8] = [
+/// The rows of a Generic Initiator Affinity Structure.
+pub const GENERIC_INITIATOR: [Row; 8] = [
     Row::Number("Type", 1),
     Row::Number("Length", 1),
     Row::Reserved(1),
-    Row::Number("Device Handle Type", 1),
+    Row::OneOf("Device Handle Type", 1, &[Word(0, "ACPI"), Word(1, "PCI")]),
     Row::Number("Proximity Domain", 4),
     Row::Bytes("Device Handle", 16),
-    Row::Number("Flags", 4),
+    Row::Flags(
+        "Flags",
+        4,
+        &[Word(1, "Enabled"), Word(2, "Architectural Transactions")],
+    ),
     Row::Reserved(4),
 ];
 
@@ -474,13 +490,14 @@ impl RintcAffinity {
     }
 }
 
-const RINTC_AFFINITY: [Row; 7] = [
+/// The rows of an RINTC Affinity Structure.
+pub const RINTC_AFFINITY: [Row; 7] = [
     Row::Number("Type", 1),
     Row::Number("Length", 1),
     Row::Reserved(2),
     Row::Number("Proximity Domain", 4),
     Row::Bytes("ACPI Processor UID", 4),
-    Row::Number("Flags", 4),
+    Row::Flags("Flags", 4, &[Word(1, "Enabled")]),
     Row::Number("Clock Domain", 4),
 ];
 

@@ -98,13 +98,14 @@ pub struct Entry {
     address: u64,
 }
 
-const ENTRY: [Row; 1] = [Row::Number("Entry", 8)];
+/// The rows of an entry of an XSDT.
+pub const XSDT_ENTRY: [Row; 1] = [Row::Number("Entry", 8)];
 
 impl Record<8> for Entry {
     ghost fields = { entry_fields };
 
     fn rows() -> &'static [Row] {
-        &ENTRY
+        &XSDT_ENTRY
     }
 
     fn bytes(&self) -> [u8; 8] {

@@ -25,8 +25,10 @@ use acpi_core::form::Form;
 use acpi_core::kind::Kind;
 use acpi_core::table::Table;
 use acpi_core::walked::{Walked, is_walked};
-pub use cache::{Associativity, CacheLevel, MemorySideCache, WritePolicy};
-pub use locality::{DataType, LocalityType, MinTransferSize, SystemLocality, cells_stand};
+pub use cache::{Associativity, CacheLevel, MemorySideCache, SIDE_CACHE, WritePolicy};
+pub use locality::{
+    DataType, LocalityType, MinTransferSize, SYSTEM_LOCALITY, SystemLocality, cells_stand,
+};
 use std::alloc::Global;
 
 /// The Heterogeneous Memory Attribute Table (ACPI 6.5, 5.2.28): structures that contain their length at offset 4, from offset 40
@@ -148,7 +150,8 @@ impl MemoryProximityDomain {
     }
 }
 
-const MEMORY_PROXIMITY_DOMAIN: [Row; 8] = [
+/// The rows of a Memory Proximity Domain Attributes Structure.
+pub const MEMORY_PROXIMITY_DOMAIN: [Row; 8] = [
     Row::Number("Type", 2),
     Row::Reserved(2),
     Row::Number("Length", 4),

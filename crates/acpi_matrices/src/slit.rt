@@ -114,7 +114,7 @@ impl SLIT {
         let oem = Oem::new(oem_id, oem_table_id, oem_revision);
         let head = header(*b"SLIT", 44 + size as u32, 1, oem);
         let mut fixed = record_of(
-            &FIXED,
+            &SLIT_FIXED,
             &[Value::Bytes(&head), Value::Number(u64::from(localities))],
         );
         let mut sum = seal(&mut fixed);
@@ -164,7 +164,8 @@ impl SLIT {
     }
 }
 
-const FIXED: [Row; 2] = [
+/// The rows of a SLIT before its matrix.
+pub const SLIT_FIXED: [Row; 2] = [
     Row::Bytes("Header", 36),
     Row::Number("Number of System Localities", 8),
 ];
@@ -173,7 +174,7 @@ const FIXED: [Row; 2] = [
 pub fn slit_rows() -> &'static [Row]
     ensures { (localities : ℕ) → AreRowsOf result.now (slit_fields localities) }
 {
-    &FIXED[1..]
+    &SLIT_FIXED[1..]
 }
 
 /// A law: after any calls the table's bytes are a true table's, which has no structures.

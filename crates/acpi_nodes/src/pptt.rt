@@ -21,7 +21,7 @@ use acpi_base::error::{Error, R};
 use acpi_base::object::Aml;
 use acpi_base::oem::Oem;
 use acpi_base::parts::write_parts;
-use acpi_base::row::{Record, Row, record_of_numbers, write_record};
+use acpi_base::row::{Record, Row, Word, record_of_numbers, write_record};
 use acpi_base::sink::AmlSink;
 use acpi_core::entries::Entries;
 use acpi_core::form::Form;
@@ -235,7 +235,7 @@ impl ProcessorNode {
         ensures { result ≡ processor_head self.now }
     {
         record_of_numbers(
-            &PROCESSOR,
+            &PROCESSOR_NODE,
             &[
                 0,
                 20 + self.resources.as_slice().len() as u64,
@@ -249,11 +249,22 @@ impl ProcessorNode {
     }
 }
 
-const PROCESSOR: [Row; 7] = [
+/// The rows of a Processor Hierarchy Node Structure before its private resources.
+pub const PROCESSOR_NODE: [Row; 7] = [
     Row::Number("Type", 1),
     Row::Number("Length", 1),
     Row::Reserved(2),
-    Row::Number("Flags", 4),
+    Row::Flags(
+        "Flags",
+        4,
+        &[
+            Word(1, "Physical package"),
+            Word(2, "ACPI Processor ID valid"),
+            Word(4, "Processor is a Thread"),
+            Word(8, "Node is a Leaf"),
+            Word(16, "Identical Implementation"),
+        ],
+    ),
     Row::Number("Parent", 4),
     Row::Number("ACPI Processor ID", 4),
     Row::Number("Number of private resources", 4),
@@ -263,7 +274,7 @@ const PROCESSOR: [Row; 7] = [
 pub fn processor_rows() -> &'static [Row]
     ensures { (p : ProcessorNode) → AreRowsOf result.now (processor_head_fields p) }
 {
-    &PROCESSOR
+    &PROCESSOR_NODE
 }
 
 impl Aml for ProcessorNode {
@@ -459,11 +470,25 @@ impl CacheNode {
     }
 }
 
-const CACHE: [Row; 11] = [
+/// The rows of a Cache Type Structure.
+pub const CACHE_NODE: [Row; 11] = [
     Row::Number("Type", 1),
     Row::Number("Length", 1),
     Row::Reserved(2),
-    Row::Number("Flags", 4),
+    Row::Flags(
+        "Flags",
+        4,
+        &[
+            Word(1, "Size valid"),
+            Word(2, "Number of sets valid"),
+            Word(4, "Associativity valid"),
+            Word(8, "Allocation type valid"),
+            Word(16, "Cache type valid"),
+            Word(32, "Write policy valid"),
+            Word(64, "Line size valid"),
+            Word(128, "Cache ID valid"),
+        ],
+    ),
     Row::Number("Next Level of Cache", 4),
     Row::Number("Size", 4),
     Row::Number("Number of sets", 4),
@@ -477,12 +502,12 @@ impl Record<28> for CacheNode {
     ghost fields = { cache_fields };
 
     fn rows() -> &'static [Row] {
-        &CACHE
+        &CACHE_NODE
     }
 
     fn bytes(&self) -> [u8; 28] {
         record_of_numbers(
-            &CACHE,
+            &CACHE_NODE,
             &[
                 1,
                 28,

@@ -21,7 +21,7 @@ use acpi_base::error::{Error, R};
 use acpi_base::object::Aml;
 use acpi_base::oem::Oem;
 use acpi_base::parts::write_parts;
-use acpi_base::row::{Record, Row, record_of_numbers, write_record};
+use acpi_base::row::{Record, Row, Word, record_of_numbers, write_record};
 use acpi_base::sink::AmlSink;
 use acpi_core::entries::Entries;
 use acpi_core::form::Form;
@@ -58,8 +58,9 @@ impl Aml for RHCT {
     }
 }
 
-const FIXED: [Row; 2] = [
-    Row::Number("Flags", 4),
+/// The rows of an RHCT between its header and the number of its nodes.
+pub const RHCT_FIXED: [Row; 2] = [
+    Row::Flags("Flags", 4, &[Word(1, "Timer cannot wake the processor")]),
     Row::Number("Time Base Frequency", 8),
 ];
 
@@ -67,7 +68,7 @@ const FIXED: [Row; 2] = [
 pub fn rhct_rows() -> &'static [Row]
     ensures { (timebase_frequency : ℕ) → AreRowsOf result.now (rhct_fields timebase_frequency) }
 {
-    &FIXED
+    &RHCT_FIXED
 }
 
 impl RHCT {
@@ -84,7 +85,7 @@ impl RHCT {
     {
         let oem = Oem::new(oem_id, oem_table_id, oem_revision);
         let form = Form::new(*b"RHCT", 1, oem, 4);
-        let before: [u8; 12] = record_of_numbers(&FIXED, &[0, timebase_frequency]);
+        let before: [u8; 12] = record_of_numbers(&RHCT_FIXED, &[0, timebase_frequency]);
         RHCT {
             table: Walked::of(Table::new(alloc, form, &before, &[56, 0, 0, 0])),
         }
@@ -232,7 +233,8 @@ fn isa_string_head(text: usize) -> [u8; 8]
     )
 }
 
-const ISA_STRING: [Row; 4] = [
+/// The rows of an ISA string node before its string.
+pub const ISA_STRING: [Row; 4] = [
     Row::Number("Type", 2),
     Row::Number("Length", 2),
     Row::Number("Revision", 2),
@@ -271,7 +273,8 @@ impl CmoNode {
     }
 }
 
-const CMO: [Row; 7] = [
+/// The rows of a CMO node.
+pub const CMO: [Row; 7] = [
     Row::Number("Type", 2),
     Row::Number("Length", 2),
     Row::Number("Revision", 2),
@@ -339,12 +342,17 @@ impl MmuNode {
     }
 }
 
-const MMU: [Row; 5] = [
+/// The rows of an MMU node.
+pub const MMU: [Row; 5] = [
     Row::Number("Type", 2),
     Row::Number("Length", 2),
     Row::Number("Revision", 2),
     Row::Reserved(1),
-    Row::Number("MMU Type", 1),
+    Row::OneOf(
+        "MMU Type",
+        1,
+        &[Word(0, "Sv39"), Word(1, "Sv48"), Word(2, "Sv57")],
+    ),
 ];
 
 impl Record<8> for MmuNode {
@@ -426,7 +434,8 @@ impl HartInfoNode {
     }
 }
 
-const HART_INFO: [Row; 5] = [
+/// The rows of a hart info node before its offsets.
+pub const HART_INFO: [Row; 5] = [
     Row::Number("Type", 2),
     Row::Number("Length", 2),
     Row::Number("Revision", 2),

@@ -172,7 +172,8 @@ impl InterruptWire {
     }
 }
 
-const INTERRUPT_WIRE: [Row; 3] = [
+/// The rows of an interrupt wire.
+pub const INTERRUPT_WIRE: [Row; 3] = [
     Row::Number("Interrupt Number", 4),
     Row::Number("Flags", 2),
     Row::Number("APLIC ID", 2),
@@ -271,7 +272,8 @@ impl Iommu {
     }
 }
 
-const IOMMU: [Row; 12] = [
+/// The rows of a RISC-V IOMMU node before its wires.
+pub const IOMMU: [Row; 12] = [
     Row::Number("Type", 1),
     Row::Number("Revision", 1),
     Row::Number("Length", 2),
@@ -344,7 +346,8 @@ impl IdMapping {
     }
 }
 
-const ID_MAPPING: [Row; 5] = [
+/// The rows of an ID mapping.
+pub const ID_MAPPING: [Row; 5] = [
     Row::Number("Source ID Base", 4),
     Row::Number("Destination ID Base", 4),
     Row::Number("Number of IDs", 4),
@@ -439,7 +442,8 @@ impl PcieRootComplex {
     }
 }
 
-const ROOT_COMPLEX: [Row; 8] = [
+/// The rows of a PCIe root complex node before its mappings.
+pub const ROOT_COMPLEX: [Row; 8] = [
     Row::Number("Type", 1),
     Row::Number("Revision", 1),
     Row::Number("Length", 2),
@@ -513,7 +517,8 @@ impl Platform {
     }
 }
 
-const PLATFORM: [Row; 7] = [
+/// The rows of a platform device node before its name.
+pub const PLATFORM: [Row; 7] = [
     Row::Number("Type", 1),
     Row::Number("Revision", 1),
     Row::Number("Length", 2),

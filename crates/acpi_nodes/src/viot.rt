@@ -192,7 +192,8 @@ impl PciRange {
     }
 }
 
-const PCI_RANGE: [Row; 10] = [
+/// The rows of a PCI range node.
+pub const PCI_RANGE: [Row; 10] = [
     Row::Number("Type", 1),
     Row::Reserved(1),
     Row::Number("Length", 2),
@@ -266,7 +267,8 @@ impl MmioEndpoint {
     }
 }
 
-const MMIO_ENDPOINT: [Row; 7] = [
+/// The rows of a single MMIO endpoint node.
+pub const MMIO_ENDPOINT: [Row; 7] = [
     Row::Number("Type", 1),
     Row::Reserved(1),
     Row::Number("Length", 2),
@@ -324,7 +326,8 @@ impl VirtIoPciIommu {
     }
 }
 
-const VIRTIO_PCI_IOMMU: [Row; 6] = [
+/// The rows of a virtio-iommu based on virtio-pci node.
+pub const VIRTIO_PCI_IOMMU: [Row; 6] = [
     Row::Number("Type", 1),
     Row::Reserved(1),
     Row::Number("Length", 2),
@@ -380,7 +383,8 @@ impl VirtIoMmioIommu {
     }
 }
 
-const VIRTIO_MMIO_IOMMU: [Row; 5] = [
+/// The rows of a virtio-iommu based on virtio-mmio node.
+pub const VIRTIO_MMIO_IOMMU: [Row; 5] = [
     Row::Number("Type", 1),
     Row::Reserved(1),
     Row::Number("Length", 2),

@@ -1,6 +1,6 @@
 -- The bytes that whole lines have.
 use Rattle.std.proofs.Common.{◌≡◌, ℕ, zero, suc, ◌+◌, ◌-◌, ◌*◌, ◌%◌, ◌^◌, ◌<◌, ◌≤◌, ◌==◌, ◌&&◌, not, nat_le, nat_lt, true, false, Bool, cond}
-use Rattle.std.proofs.Common.{List, [], ◌∷◌, ◌++◌, length, codes, refl, sym, ap, ◌∙◌, append_assoc, arith}
+use Rattle.std.proofs.Common.{List, [], ◌∷◌, ◌++◌, length, codes, refl, sym, ap, ◌∙◌, append_assoc, arith, Option, Some, None}
 use Rattle.std.specs.Fmt.{decimal}
 use Rattle.std.proofs.lemmas.Fmt.{decimal_by_steps}
 use Rattle.std.proofs.lemmas.Bool.Decides.{nat_tests}
@@ -9,7 +9,10 @@ use Rattle.acpi_base.specs.Bytes.{AreBytes, carried}
 use Rattle.acpi_text.proofs.Numbers.{narrow_carried}
 use Rattle.acpi_text.specs.Hex.{numbers_text}
 use Rattle.acpi_text.specs.Laws.{LinesHaveFields, TitlesAreEmpty}
-use Rattle.acpi_text.specs.Line.{prints, all_print, is_label, label, spaces, margin, meaning}
+use Rattle.acpi_text.specs.Label.{prints, all_print, is_label, label}
+use Rattle.acpi_text.specs.Line.{spaces, margin}
+use Rattle.acpi_text.specs.Note.{Note, plain, flags, one_of, decimal_text, flags_text, find_word, word_text, number_meaning, meaning}
+use Rattle.std.specs.Prelude.{bit_and}
 use Rattle.acpi_text.specs.Reading.{at_start, in_name, read}
 use Rattle.acpi_text.proofs.Reading.{Ends, Quiet, OneLine, quiet_append, one_line_append, name_read, comment_read, numbers_read}
 
@@ -86,24 +89,66 @@ small_number w n field are size one narrow =
 comment_ends : (said more : List ℕ) → OneLine said → Ends ((codes "  // " ++ said) ++ (10 ∷ more)) (read at_start more)
 comment_ends said more one number = ap (λ (l : List ℕ). number ++ l) (comment_read said (10 ∷ more) one)
 
--- nothing, a number, or a text, as the three tests say
-comments_end : (a b c : Bool) (number text more : List ℕ) → (a ≡ true → OneLine number) → (c ≡ true → OneLine text)
-    → Ends (cond a (cond b [] (codes "  // " ++ number)) (cond c (codes "  // \"" ++ (text ++ codes "\"")) []) ++ (10 ∷ more))
-    (read at_start more)
-comments_end true true c number text more one two = λ _. refl
-comments_end true false c number text more one two = comment_ends number more (one refl)
-comments_end false b true number text more one two =
-    comment_ends (34 ∷ (text ++ 34 ∷ [])) more (refl, one_line_append text (34 ∷ []) (two refl) (refl, tt))
-comments_end false b false number text more one two = λ _. refl
+-- a comment, or nothing
+abbrev pub IsComment : List ℕ → Type 0
+IsComment text = (more : List ℕ) → Ends (text ++ (10 ∷ more)) (read at_start more)
 
-meaning_ends : (w n : ℕ) (field more : List ℕ) → AreBytes field → length field ≡ w * n
-    → Ends (meaning w n field ++ (10 ∷ more)) (read at_start more)
-meaning_ends w n field more are size =
-    comments_end (n == 1 && nat_le w 8) (nat_lt (carried field) 10) (w == 1 && all_print field) (decimal (carried field)) field more
+said_comment : (said : List ℕ) → OneLine said → IsComment (codes "  // " ++ said)
+said_comment said one more = comment_ends said more one
+
+decimal_comment : (n : ℕ) → n < 2 ^ 64 → IsComment (decimal_text n)
+decimal_comment n small = chosen (nat_lt n 10)
+  where
+    chosen : (b : Bool) → IsComment (cond b [] (codes "  // " ++ decimal n))
+    chosen true = λ more _. refl
+    chosen false = said_comment (decimal n) (quiet_is_one_line (decimal n) (quiet_decimal n small))
+
+flag_chosen : (b : Bool) (others name : List ℕ) → OneLine others → OneLine name
+    → OneLine (cond b others (codes " | " ++ (name ++ others)))
+flag_chosen true others name one two = one
+flag_chosen false others name one two = (refl, (refl, (refl, one_line_append name others two one)))
+
+first_chosen : (b : Bool) (none said : List ℕ) → IsComment none → OneLine said → IsComment (cond b none (codes "  // " ++ said))
+first_chosen true none said one two = one
+first_chosen false none said one two = said_comment said two
+
+label_one_line : (name : List ℕ) → OneLine (label name)
+label_one_line name = quiet_is_one_line (label name) (quiet_label name)
+
+later_flags : (words : List (ℕ × List ℕ)) (n : ℕ) → OneLine (flags_text false words n)
+later_flags [] n = tt
+later_flags (word ∷ words) n = flag_chosen (bit_and n word.0 == 0) (flags_text false words n) (label word.1) (later_flags words n) (label_one_line word.1)
+
+first_flags : (words : List (ℕ × List ℕ)) (n : ℕ) → IsComment (flags_text true words n)
+first_flags [] n = λ more _. refl
+first_flags (word ∷ words) n =
+    first_chosen (bit_and n word.0 == 0) (flags_text true words n) (label word.1 ++ flags_text false words n) (first_flags words n)
+    (one_line_append (label word.1) (flags_text false words n) (label_one_line word.1) (later_flags words n))
+
+word_comment : (name : Option (List ℕ)) (n : ℕ) → n < 2 ^ 64 → IsComment (word_text name n)
+word_comment (Some name) n small = said_comment (label name) (label_one_line name)
+word_comment None n small = decimal_comment n small
+
+number_comment : (note : Note) (n : ℕ) → n < 2 ^ 64 → IsComment (number_meaning note n)
+number_comment plain n small = decimal_comment n small
+number_comment (flags words) n small = first_flags words n
+number_comment (one_of words) n small = word_comment (find_word words n) n small
+
+-- nothing, a number, or a text, as the two tests say
+comments_end : (a c : Bool) (number text : List ℕ) → (a ≡ true → IsComment number) → (c ≡ true → OneLine text)
+    → IsComment (cond a number (cond c (codes "  // \"" ++ (text ++ codes "\"")) []))
+comments_end true c number text one two = one refl
+comments_end false true number text one two = said_comment (34 ∷ (text ++ 34 ∷ [])) (refl, one_line_append text (34 ∷ []) (two refl) (refl, tt))
+comments_end false false number text one two = λ more _. refl
+
+meaning_ends : (note : Note) (w n : ℕ) (field more : List ℕ) → AreBytes field → length field ≡ w * n
+    → Ends (meaning note w n field ++ (10 ∷ more)) (read at_start more)
+meaning_ends note w n field more are size =
+    comments_end (n == 1 && nat_le w 8) (w == 1 && all_print field) (number_meaning note (carried field)) field
     (λ is. let parts = and_parts (n == 1) (nat_le w 8) is in
-    quiet_is_one_line (decimal (carried field)) (quiet_decimal (carried field)
-    (small_number w n field are size (eqb-true n 1 parts.0) (leb-true w 8 parts.1))))
+    number_comment note (carried field) (small_number w n field are size (eqb-true n 1 parts.0) (leb-true w 8 parts.1)))
     (λ is. printed_is_one_line field (and_parts (w == 1) (all_print field) is).1)
+    more
 
 -- ---- whole lines
 
@@ -115,21 +160,21 @@ title_has depth offset name small = record {
 }
 
 pub line_has : LinesHaveFields
-line_has depth offset name w n field small are size =
+line_has depth offset name note w n field small are size =
     let front = margin depth offset name in
     let blank = spaces (40 - length front) in
-    let after = meaning w n field ++ 10 ∷ [] in
+    let after = meaning note w n field ++ 10 ∷ [] in
     let numbers = numbers_text w n field in
     record {
       reads = λ more.
-          let rest = numbers ++ (meaning w n field ++ (10 ∷ more)) in
+          let rest = numbers ++ (meaning note w n field ++ (10 ∷ more)) in
           ap (read at_start) (
           append_assoc (front ++ blank) (58 ∷ (numbers ++ after)) more
           ∙ append_assoc front blank (58 ∷ ((numbers ++ after) ++ more))
           ∙ ap (λ (l : List ℕ). front ++ (blank ++ (58 ∷ l))) (
           append_assoc numbers after more
-          ∙ ap (λ (l : List ℕ). numbers ++ l) (append_assoc (meaning w n field) (10 ∷ []) more)))
+          ∙ ap (λ (l : List ℕ). numbers ++ l) (append_assoc (meaning note w n field) (10 ∷ []) more)))
           ∙ margin_read depth offset name (blank ++ (58 ∷ rest)) small
           ∙ name_read blank (58 ∷ rest) (quiet_spaces (40 - length front))
-          ∙ numbers_read w n field (meaning w n field ++ (10 ∷ more)) (read at_start more) are size (meaning_ends w n field more are size) [];
+          ∙ numbers_read w n field (meaning note w n field ++ (10 ∷ more)) (read at_start more) are size (meaning_ends note w n field more are size) [];
     }

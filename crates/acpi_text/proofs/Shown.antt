@@ -1,10 +1,13 @@
 -- What calls show, one after another.
 use Rattle.std.proofs.Common.{◌≡◌, ℕ, zero, suc, ◌+◌, ◌-◌, ◌*◌, ◌<◌, ◌≤◌, ◌==◌, nat_lt, nat_le, Bool, true, false, cond}
 use Rattle.std.proofs.Common.{List, [], ◌∷◌, ◌++◌, length, take, drop, map, get_or, refl, sym, ap, subst, ◌∙◌, append_assoc, arith, inl, inr}
-use Rattle.std.proofs.lemmas.List.{append-nil, length-drop, drop-drop, nil_from_length, take_more, take_all, map-append}
+use Rattle.std.proofs.lemmas.List.{append-nil, length-drop, drop-drop, nil_from_length, take_more, take_all}
+use Rattle.std.specs.List.{flat_map}
+use Rattle.std.proofs.lemmas.Grind.{flat_map-append}
 use Rattle.std.proofs.lemmas.Bool.{ne_eqb, lt-ltb, le-ltb, le-leb, lt-leb, cases_lt}
 use Rattle.acpi_text.specs.Form.{repeated}
 use Rattle.acpi_text.specs.Line.{line, title}
+use Rattle.acpi_text.specs.Note.{Note, plain}
 use Rattle.acpi_text.specs.Slot.{Slot, heading, field, upto, unknown, nameless, slots_text, Showed}
 
 -- what a slice from an index on has
@@ -21,7 +24,7 @@ pub none_shown : (at : ℕ) (slots : List Slot) → slots_text at slots [] ≡ [
 none_shown at [] = refl
 none_shown at (unknown ∷ slots) = refl
 none_shown at (heading depth name ∷ slots) = refl
-none_shown at (field depth name w n ∷ slots) = refl
+none_shown at (field depth name note w n ∷ slots) = refl
 none_shown at (upto name end ∷ slots) = none_chosen (nat_le end at) (slots_text at slots []) (none_shown at slots)
 
 nothing_left : (at k : ℕ) (slots others : List Slot) (bytes rest : List ℕ) → length bytes ≡ 0 → length rest ≡ 0
@@ -38,18 +41,18 @@ heading_shown : (at depth : ℕ) (name bytes : List ℕ) (slots : List Slot) →
 heading_shown at depth name bytes slots some =
     ap (λ b. cond b [] (title depth at name ++ slots_text at slots bytes)) (some_bytes bytes some)
 
-field_shown : (at depth : ℕ) (name : List ℕ) (w n : ℕ) (bytes : List ℕ) (slots : List Slot) → 0 < length bytes → w * n ≤ length bytes
-    → slots_text at (field depth name w n ∷ slots) bytes
-    ≡ line depth at name w n (take (w * n) bytes) ++ slots_text (at + w * n) slots (drop (w * n) bytes)
-field_shown at depth name w n bytes slots some fits =
-    let whole = line depth at name w n (take (w * n) bytes) ++ slots_text (at + w * n) slots (drop (w * n) bytes) in
+field_shown : (at depth : ℕ) (name : List ℕ) (note : Note) (w n : ℕ) (bytes : List ℕ) (slots : List Slot) → 0 < length bytes → w * n ≤ length bytes
+    → slots_text at (field depth name note w n ∷ slots) bytes
+    ≡ line depth at name note w n (take (w * n) bytes) ++ slots_text (at + w * n) slots (drop (w * n) bytes)
+field_shown at depth name note w n bytes slots some fits =
+    let whole = line depth at name note w n (take (w * n) bytes) ++ slots_text (at + w * n) slots (drop (w * n) bytes) in
     ap (λ b. cond b [] (cond (nat_lt (length bytes) (w * n)) (nameless at bytes) whole)) (some_bytes bytes some)
     ∙ ap (λ b. cond b (nameless at bytes) whole) (le-ltb (length bytes) (w * n) fits)
 
-short_shown : (at depth : ℕ) (name : List ℕ) (w n : ℕ) (bytes : List ℕ) (slots : List Slot) → 0 < length bytes → length bytes < w * n
-    → slots_text at (field depth name w n ∷ slots) bytes ≡ nameless at bytes
-short_shown at depth name w n bytes slots some short =
-    let whole = line depth at name w n (take (w * n) bytes) ++ slots_text (at + w * n) slots (drop (w * n) bytes) in
+short_shown : (at depth : ℕ) (name : List ℕ) (note : Note) (w n : ℕ) (bytes : List ℕ) (slots : List Slot) → 0 < length bytes → length bytes < w * n
+    → slots_text at (field depth name note w n ∷ slots) bytes ≡ nameless at bytes
+short_shown at depth name note w n bytes slots some short =
+    let whole = line depth at name note w n (take (w * n) bytes) ++ slots_text (at + w * n) slots (drop (w * n) bytes) in
     ap (λ b. cond b [] (cond (nat_lt (length bytes) (w * n)) (nameless at bytes) whole)) (some_bytes bytes some)
     ∙ ap (λ b. cond b (nameless at bytes) whole) (lt-ltb (length bytes) (w * n) short)
 
@@ -72,27 +75,27 @@ showed_heading depth at name bytes old new some added = record {
       ∙ ap (λ k. new ++ slots_text k more bytes) (let e : at ≡ at + 0 = omega arith in e);
 }
 
-pub showed_field : (depth at : ℕ) (name : List ℕ) (w n size : ℕ) (bytes old new : List ℕ) → 0 < length bytes → size ≡ w * n
-    → size ≤ length bytes → new ≡ old ++ line depth at name w n (take size bytes)
-    → Showed (field depth name w n ∷ []) at bytes old new size
-showed_field depth at name w n size bytes old new some is fits added = record {
+pub showed_field : (depth at : ℕ) (name : List ℕ) (note : Note) (w n size : ℕ) (bytes old new : List ℕ) → 0 < length bytes → size ≡ w * n
+    → size ≤ length bytes → new ≡ old ++ line depth at name note w n (take size bytes)
+    → Showed (field depth name note w n ∷ []) at bytes old new size
+showed_field depth at name note w n size bytes old new some is fits added = record {
   within = fits;
   lines = λ more.
-      let one = λ (k : ℕ). line depth at name w n (take k bytes) in
-      ap (λ (l : List ℕ). old ++ l) (field_shown at depth name w n bytes more some (omega (arith, is, fits)))
+      let one = λ (k : ℕ). line depth at name note w n (take k bytes) in
+      ap (λ (l : List ℕ). old ++ l) (field_shown at depth name note w n bytes more some (omega (arith, is, fits)))
       ∙ ap (λ k. old ++ (one k ++ slots_text (at + k) more (drop k bytes))) (sym is)
       ∙ sym (append_assoc old (one size) (slots_text (at + size) more (drop size bytes)))
       ∙ ap (λ (l : List ℕ). l ++ slots_text (at + size) more (drop size bytes)) (sym added);
 }
 
-pub showed_short : (depth at : ℕ) (name : List ℕ) (w n : ℕ) (bytes old new : List ℕ) → 0 < length bytes → length bytes < w * n
-    → new ≡ old ++ nameless at bytes → Showed (field depth name w n ∷ []) at bytes old new (length bytes)
-showed_short depth at name w n bytes old new some short added = record {
+pub showed_short : (depth at : ℕ) (name : List ℕ) (note : Note) (w n : ℕ) (bytes old new : List ℕ) → 0 < length bytes → length bytes < w * n
+    → new ≡ old ++ nameless at bytes → Showed (field depth name note w n ∷ []) at bytes old new (length bytes)
+showed_short depth at name note w n bytes old new some short added = record {
   within = omega arith;
   lines = λ more.
       let end = at + length bytes in
       let rest = drop (length bytes) bytes in
-      ap (λ (l : List ℕ). old ++ l) (short_shown at depth name w n bytes more some short)
+      ap (λ (l : List ℕ). old ++ l) (short_shown at depth name note w n bytes more some short)
       ∙ sym added
       ∙ sym (append-nil new)
       ∙ ap (λ (l : List ℕ). new ++ l) (sym (ap (slots_text end more) (nil_from_length rest (omega (arith, length-drop (length bytes) bytes))) ∙ none_shown end more));
@@ -115,18 +118,18 @@ pub showed_nothing : (name : List ℕ) (end at : ℕ) (bytes text : List ℕ) �
 showed_nothing name end at bytes text before = record {
   within = omega arith;
   lines = λ more.
-      let field_lines = slots_text at (field 0 name 1 (end - at) ∷ more) bytes in
+      let field_lines = slots_text at (field 0 name plain 1 (end - at) ∷ more) bytes in
       ap (λ b. text ++ cond b (slots_text at more bytes) field_lines) (le-leb end at before)
       ∙ ap (λ k. text ++ slots_text k more bytes) (let e : at ≡ at + 0 = omega arith in e);
 }
 
 -- the bytes before the end were shown
 pub showed_upto : (name : List ℕ) (end at : ℕ) (bytes old new : List ℕ) (n : ℕ) → at < end
-    → Showed (field 0 name 1 (end - at) ∷ []) at bytes old new n → Showed (upto name end ∷ []) at bytes old new n
+    → Showed (field 0 name plain 1 (end - at) ∷ []) at bytes old new n → Showed (upto name end ∷ []) at bytes old new n
 showed_upto name end at bytes old new n after one = record {
   within = one.within;
   lines = λ more.
-      let field_lines = slots_text at (field 0 name 1 (end - at) ∷ more) bytes in
+      let field_lines = slots_text at (field 0 name plain 1 (end - at) ∷ more) bytes in
       ap (λ b. old ++ cond b (slots_text at more bytes) field_lines) (lt-leb end at after)
       ∙ one.lines more;
 }
@@ -160,25 +163,30 @@ showed_end a b at bytes old new n one all = record {
       ∙ ap (λ (l : List ℕ). new ++ l) (nothing_left (at + n) (at + n) (b ++ more) more rest rest none none);
 }
 
--- ---- a slot for each of a list
+-- ---- slots for each of a list
 
-module _ {X : Type 0} (slot : X → Slot) (xs : List X) (at : ℕ) (bytes old : List ℕ) where
-  pub each_start : Showed (map slot (take 0 xs)) at bytes old old 0
+module _ {X : Type 0} (slots : X → List Slot) (xs : List X) (at : ℕ) (bytes old : List ℕ) where
+  pub each_start : Showed (flat_map slots (take 0 xs)) at bytes old old 0
   each_start = record {
     within = omega arith;
     lines = λ more. ap (λ k. old ++ slots_text k more bytes) (let e : at ≡ at + 0 = omega arith in e);
   }
 
-  -- the slot of the next was shown
-  pub each_more : (i k n m : ℕ) (x : X) (rest now new : List ℕ) → i < length xs → x ≡ get_or xs i x → Showed (map slot (take i xs)) at bytes old now n
-      → k ≡ at + n → rest ≡ drop n bytes → Showed (slot x ∷ []) k rest now new m → Showed (map slot (take (i + 1) xs)) at bytes old new (n + m)
-  each_more i k n m x rest now new inside is one place front two =
-      subst (λ slots. Showed slots at bytes old new (n + m))
-      (sym (ap (map slot) (take_more xs i x inside ∙ ap (λ y. take i xs ++ y ∷ []) (sym is)) ∙ map-append slot (take i xs) (x ∷ [])))
-      (showed_more (map slot (take i xs)) (slot x ∷ []) at k bytes rest old now new n m one place front two)
+  -- the slots of the next were shown
+  pub each_more : (i k n m : ℕ) (x d : X) (rest now new : List ℕ) → i < length xs → x ≡ get_or xs i d
+      → Showed (flat_map slots (take i xs)) at bytes old now n → k ≡ at + n → rest ≡ drop n bytes → Showed (slots x) k rest now new m
+      → Showed (flat_map slots (take (i + 1) xs)) at bytes old new (n + m)
+  each_more i k n m x d rest now new inside is one place front two =
+      subst (λ l. Showed l at bytes old new (n + m))
+      (sym (
+      ap (flat_map slots) (take_more xs i d inside ∙ ap (λ y. take i xs ++ y ∷ []) (sym is))
+      ∙ flat_map-append slots (take i xs) (x ∷ [])
+      ∙ ap (λ l. flat_map slots (take i xs) ++ l) (append-nil (slots x))))
+      (showed_more (flat_map slots (take i xs)) (slots x) at k bytes rest old now new n m one place front two)
 
-  pub each_done : (i n : ℕ) (new : List ℕ) → length xs ≤ i → Showed (map slot (take i xs)) at bytes old new n → Showed (map slot xs) at bytes old new n
-  each_done i n new all one = subst (λ l. Showed (map slot l) at bytes old new n) (take_all i xs all) one
+  pub each_done : (i n : ℕ) (new : List ℕ) → length xs ≤ i → Showed (flat_map slots (take i xs)) at bytes old new n
+      → Showed (flat_map slots xs) at bytes old new n
+  each_done i n new all one = subst (λ l. Showed (flat_map slots l) at bytes old new n) (take_all i xs all) one
 
 -- ---- the same slots again and again
 
@@ -194,7 +202,7 @@ repeated_once slots = append-nil slots
 
 module _ (slots : List Slot) (at : ℕ) (bytes old : List ℕ) where
   pub again_start : Showed (repeated 0 slots) at bytes old old 0
-  again_start = each_start (λ (slot : Slot). slot) slots at bytes old
+  again_start = each_start (λ (slot : Slot). slot ∷ []) slots at bytes old
 
   -- they were shown once more
   pub again : (done k n m : ℕ) (rest now new : List ℕ) → Showed (repeated done slots) at bytes old now n → k ≡ at + n → rest ≡ drop n bytes

@@ -7,6 +7,7 @@ use Rattle.acpi_base.specs.Bytes.{AreBytes}
 use Rattle.acpi_base.proofs.Bytes.{bytes_take, bytes_drop}
 use Rattle.acpi_text.specs.Laws.{TextsHaveBytes}
 use Rattle.acpi_text.specs.Line.{line, title}
+use Rattle.acpi_text.specs.Note.{Note, plain}
 use Rattle.acpi_text.specs.Reading.{Has, at_start, read}
 use Rattle.acpi_text.specs.Slot.{heading, field, upto, unknown, nameless, nameless_lines, field_text, slots_text}
 use Rattle.acpi_text.proofs.Lines.{line_has, title_has}
@@ -17,7 +18,7 @@ lines_left : (bytes : List ℕ) → 0 < length bytes → (length bytes + 15) / 1
 lines_left bytes some = omega (arith, length-drop 16 bytes)
 
 pub nameless_some : (at : ℕ) (bytes : List ℕ) → 0 < length bytes
-    → nameless at bytes ≡ line 0 at (codes "Bytes") 1 (length (take 16 bytes)) (take 16 bytes) ++ nameless (at + 16) (drop 16 bytes)
+    → nameless at bytes ≡ line 0 at (codes "Bytes") plain 1 (length (take 16 bytes)) (take 16 bytes) ++ nameless (at + 16) (drop 16 bytes)
 nameless_some at bytes some = ap (λ k. nameless_lines k at bytes) (lines_left bytes some)
 
 -- ---- the bytes of texts
@@ -46,7 +47,7 @@ nameless_has (suc k) at bytes are small count =
     let some : 0 < length bytes = omega (arith, count) in
     let front = take 16 bytes in
     has_parts _ 16 bytes (has_append _ _ front (drop 16 bytes)
-    (line_has 0 at (codes "Bytes") 1 (length front) front (let s = small some in omega (arith, s)) (bytes_take 16 bytes are) (omega arith))
+    (line_has 0 at (codes "Bytes") plain 1 (length front) front (let s = small some in omega (arith, s)) (bytes_take 16 bytes are) (omega arith))
     (nameless_has k (at + 16) (drop 16 bytes) (bytes_drop 16 bytes are)
     (λ more. let s = small some in omega (arith, s, more, length-drop 16 bytes))
     (let e = lines_left bytes some in omega (arith, e, count))))
@@ -54,11 +55,11 @@ nameless_has (suc k) at bytes are small count =
 pub all_nameless : (at : ℕ) (bytes : List ℕ) → AreBytes bytes → at + length bytes < 2 ^ 64 → Has (nameless at bytes) bytes
 all_nameless at bytes are small = nameless_has ((length bytes + 15) / 16) at bytes are (λ some. small) refl
 
-field_has : (after : ℕ → List ℕ → List ℕ) (at depth : ℕ) (name : List ℕ) (w n : ℕ) (bytes : List ℕ) → AreBytes bytes
+field_has : (after : ℕ → List ℕ → List ℕ) (at depth : ℕ) (name : List ℕ) (note : Note) (w n : ℕ) (bytes : List ℕ) → AreBytes bytes
     → at + length bytes < 2 ^ 64
     → ((k : ℕ) (rest : List ℕ) → AreBytes rest → k + length rest < 2 ^ 64 → Has (after k rest) rest)
-    → Has (field_text after at depth name w n bytes) bytes
-field_has after at depth name w n bytes are small others =
+    → Has (field_text after at depth name note w n bytes) bytes
+field_has after at depth name note w n bytes are small others =
     has_chosen (length bytes == 0) [] _ bytes
     (λ none. has_none bytes (eqb-true (length bytes) 0 none))
     (λ some. has_chosen (nat_lt (length bytes) (w * n)) _ _ bytes
@@ -67,7 +68,7 @@ field_has after at depth name w n bytes are small others =
     let size = w * n in
     let fits : size ≤ length bytes = ltb-false (length bytes) size long in
     has_parts _ size bytes (has_append _ _ (take size bytes) (drop size bytes)
-    (line_has depth at name w n (take size bytes) (omega (arith, small)) (bytes_take size bytes are) (length-take-le size bytes fits))
+    (line_has depth at name note w n (take size bytes) (omega (arith, small)) (bytes_take size bytes are) (length-take-le size bytes fits))
     (others (at + size) (drop size bytes) (bytes_drop size bytes are) (omega (arith, small, fits, length-drop size bytes))))))
 
 pub slots_have : TextsHaveBytes
@@ -78,12 +79,12 @@ slots_have at (heading depth name ∷ slots) bytes are small =
     (λ none. has_none bytes (eqb-true (length bytes) 0 none))
     (λ some. has_append (title depth at name) (slots_text at slots bytes) [] bytes
     (title_has depth at name (omega (arith, small))) (slots_have at slots bytes are small))
-slots_have at (field depth name w n ∷ slots) bytes are small =
-    field_has (λ k rest. slots_text k slots rest) at depth name w n bytes are small (λ k rest each fits. slots_have k slots rest each fits)
+slots_have at (field depth name note w n ∷ slots) bytes are small =
+    field_has (λ k rest. slots_text k slots rest) at depth name note w n bytes are small (λ k rest each fits. slots_have k slots rest each fits)
 slots_have at (upto name end ∷ slots) bytes are small =
     has_chosen (nat_le end at) _ _ bytes
     (λ before. slots_have at slots bytes are small)
-    (λ after. field_has (λ k rest. slots_text k slots rest) at 0 name 1 (end - at) bytes are small
+    (λ after. field_has (λ k rest. slots_text k slots rest) at 0 name plain 1 (end - at) bytes are small
     (λ k rest each fits. slots_have k slots rest each fits))
 
 -- ---- lines that are written
@@ -99,10 +100,10 @@ no_more at n k m rest one two =
 -- a line of sixteen bytes, or of those that are left, was written
 pub nameless_goes_on : (at size : ℕ) (rest front more old now new : List ℕ) → 0 < length rest
     → size ≡ cond (nat_lt (length rest) 16) (length rest) 16 → front ≡ take size rest → more ≡ drop size rest
-    → now ++ nameless at rest ≡ old → new ≡ now ++ line 0 at (codes "Bytes") 1 (length front) front
+    → now ++ nameless at rest ≡ old → new ≡ now ++ line 0 at (codes "Bytes") plain 1 (length front) front
     → new ++ nameless (at + length front) more ≡ old
 nameless_goes_on at size rest front more old now new some is one two before added =
-    let said = λ (f : List ℕ). line 0 at (codes "Bytes") 1 (length f) f in
+    let said = λ (f : List ℕ). line 0 at (codes "Bytes") plain 1 (length f) f in
     let by : (front ≡ take 16 rest) → (nameless (at + length front) more ≡ nameless (at + 16) (drop 16 rest)) → new ++ nameless (at + length front) more ≡ old =
     λ same others.
     ap (λ (l : List ℕ). new ++ l) others

@@ -16,7 +16,7 @@ use Rattle.acpi_text.specs.declared.form.Form.{Form}
 use Rattle.acpi_text.specs.declared.form.TableForm.{TableForm}
 use Rattle.acpi_text.specs.Form.{told, parts_slots}
 use Rattle.acpi_text.specs.Laws.{TablesHaveBytes, TextsTellTables}
-use Rattle.acpi_text.specs.Line.{label}
+use Rattle.acpi_text.specs.Label.{label}
 use Rattle.acpi_text.specs.Piece.{find_form, form_name, form_parts, front_size, kind_text, piece_line, piece_text, piece_and, pieces_up_to, pieces_text}
 use Rattle.acpi_text.specs.Reading.{Has, at_start, in_name, in_comment, read}
 use Rattle.acpi_text.specs.Slot.{slots_text}

@@ -1,5 +1,9 @@
 pub mod Hex
+pub mod Label
+pub mod Note
+pub mod Words
 pub mod Line
+pub mod Register
 pub mod Slot
 pub mod Form
 pub mod Piece

@@ -8,7 +8,7 @@ use Rattle.acpi_base.specs.declared.walk.Place.{Place}
 use Rattle.acpi_base.specs.declared.walk.Sizes.{Sizes}
 use Rattle.acpi_base.specs.declared.walk.Sizes.TheVariants.{EachOf, ToldAt, BySource}
 use Rattle.acpi_text.specs.Form.{told, parts_slots}
-use Rattle.acpi_text.specs.Line.{label}
+use Rattle.acpi_text.specs.Label.{label}
 use Rattle.acpi_text.specs.Slot.{nameless, slots_text}
 use Rattle.acpi_text.specs.declared.form.Form.{Form}
 use Rattle.acpi_text.specs.declared.form.Part.{Part}

@@ -2,7 +2,7 @@
 use Rattle.std.specs.Prelude.{ℕ, nat_lt, if◌then◌else◌, List, ◌∷◌, ◌++◌, length, take, drop, Option, Some, None}
 use Rattle.acpi_base.specs.declared.walk.Walk.{Walk}
 use Rattle.acpi_text.specs.Form.{told, parts_slots}
-use Rattle.acpi_text.specs.Line.{label}
+use Rattle.acpi_text.specs.Label.{label}
 use Rattle.acpi_text.specs.Piece.{pieces_text}
 use Rattle.acpi_text.specs.Slot.{slots_text}
 use Rattle.acpi_text.specs.declared.form.TableForm.{TableForm}

@@ -25,7 +25,9 @@ pub struct Choice {
 pub enum Part {
     /// Fields, one after another.
     Fields(&'static [Row]),
-    /// Fields under a name, as those of a register's address.
+    /// Those fields of a list from one index on, and before another.
+    Between(&'static [Row], usize, usize),
+    /// Fields under a name, as those of a structure within another.
     Group(&'static str, &'static [Row]),
     /// Entries that have the same fields, each under this name.
     Entries(&'static str, Count, &'static [Row]),

@@ -6,6 +6,7 @@ pub mod form;
 mod hex;
 pub mod laws;
 mod line;
+mod note;
 mod part;
 mod piece;
 mod slot;

@@ -2,10 +2,13 @@
 //! its lines show.
 
 ghost use Rattle.std.specs.Prelude.{◌≡◌, ℕ, ◌+◌, ◌<◌, ◌≤◌, ◌^◌, [], ◌∷◌, ◌++◌, length, drop, OnOk, IfOk, string_bytes};
+ghost use Rattle.std.specs.List.{slice_range};
 ghost use Rattle.acpi_text.specs.Form.{told, count_of, repeated, group_slots, find_choice, choice_slots, part_slots, parts_slots};
+ghost use Rattle.acpi_text.specs.Note.{plain};
 ghost use Rattle.acpi_text.specs.Slot.{field, upto, slots_text, Showed};
 
 use crate::form::{Choice, Count, Part};
+use crate::note::Words;
 use crate::slot::{push_field, push_heading, push_nameless, push_rows};
 use acpi_base::row::Row;
 use acpi_base::walk::Place;
@@ -30,6 +33,14 @@ fn count_of(count: Count, whole: &[u8]) -> usize
         Count::Told(place) => told(place, whole),
         Count::Rest => whole.len(),
     }
+}
+
+// Returns the rows from one index on and before another, as far as there are rows.
+fn between(rows: &[Row], from: usize, to: usize) -> &[Row]
+    ensures { result.now ≡ slice_range rows.now from to }
+{
+    let end = if to < rows.len() { to } else { rows.len() };
+    if from < end { &rows[from..end] } else { &[] }
 }
 
 // Adds a name and the fields below it.
@@ -81,13 +92,22 @@ fn push_fields(
     text: &mut String,
 ) -> Result<usize, AllocError>
     requires { offset + length bytes.now < 2 ^ 64 }
-    ensures { IfOk result (λ n. Showed (repeated count (field 0 name.now width columns ∷ []))
+    ensures { IfOk result (λ n. Showed (repeated count (field 0 name.now plain width columns ∷ []))
         offset bytes.now (string_bytes text.old) (string_bytes text.new) n) }
 {
     let mut at = 0;
     let mut done = 0;
     'fields: while done < count && at < bytes.len() {
-        at += push_field(0, name, width, columns, offset + at, &bytes[at..], text)?;
+        at += push_field(
+            0,
+            name,
+            Words::None,
+            width,
+            columns,
+            offset + at,
+            &bytes[at..],
+            text,
+        )?;
         done += 1;
     }
     Ok(at)
@@ -110,7 +130,7 @@ fn push_until(
     if end <= at {
         return Ok(0);
     }
-    push_field(0, name, 1, end - at, offset, bytes, text)
+    push_field(0, name, Words::None, 1, end - at, offset, bytes, text)
 }
 
 // Returns the choice with a number.
@@ -163,6 +183,9 @@ fn push_part(
     let offset = start + at;
     match *part {
         Part::Fields(rows) => push_rows(0, rows, offset, bytes, text),
+        Part::Between(rows, from, to) => {
+            push_rows(0, between(rows, from, to), offset, bytes, text)
+        }
         Part::Group(name, rows) => push_group(name, rows, offset, bytes, text),
         Part::Entries(name, count, rows) => {
             push_entries(name, count_of(count, whole), rows, offset, bytes, text)
@@ -175,7 +198,16 @@ fn push_part(
             let rows = if columns == 0 { 0 } else { told(rows, whole) };
             push_fields(name, width, columns, rows, offset, bytes, text)
         }
-        Part::Bytes(name, count) => push_field(0, name, 1, told(count, whole), offset, bytes, text),
+        Part::Bytes(name, count) => push_field(
+            0,
+            name,
+            Words::None,
+            1,
+            told(count, whole),
+            offset,
+            bytes,
+            text,
+        ),
         Part::Until(name, end) => push_until(name, told(end, whole), at, offset, bytes, text),
         Part::Chosen(by, choices) => {
             push_choice(find_choice(told(by, whole), choices), offset, bytes, text)

@@ -11,6 +11,7 @@ use crate::part::{push_parts, told};
 use crate::slot::push_nameless;
 use crate::space::push_label;
 use acpi_base::walk::{Place, Sizes, source_size};
+use itoa::Buffer;
 use std::alloc::AllocError;
 
 // Returns a size if it is at least `least`, isn't zero, and there are as many bytes.
@@ -69,20 +70,20 @@ fn parts_of(form: Option<Form>) -> &'static [Part]
     }
 }
 
-fn push_kind(kind: Place, piece: &[u8], at: usize, text: &mut String) -> Result<(), AllocError>
-    ensures { OnOk result (string_bytes text.new ≡ string_bytes text.old
-        ++ (decimal at ++ kind_text kind piece.now ++ codes " size " ++ decimal (length piece.now))) }
+// Adds the type of a structure, if it has one.
+fn push_kind(kind: Place, piece: &[u8], text: &mut String) -> Result<(), AllocError>
+    ensures { OnOk result (string_bytes text.new ≡ string_bytes text.old ++ kind_text kind piece.now) }
 {
-    let size = piece.len();
     match kind {
-        Place::Nowhere => write!(text, "{at} entry size {size}"),
+        Place::Nowhere => text.push_str(" entry"),
         place => {
-            let kind = told(place, piece);
-            write!(text, "{at} type {kind} size {size}")
+            text.push_str(" type ")?;
+            text.push_str(Buffer::new().format(told(place, piece)))
         }
     }
 }
 
+// Adds the name of a form, if there is one.
 fn push_name(form: Option<Form>, text: &mut String) -> Result<(), AllocError>
     ensures { OnOk result (string_bytes text.new ≡ string_bytes text.old ++ form_name form) }
 {
@@ -105,7 +106,10 @@ fn push_piece_line(
 ) -> Result<(), AllocError>
     ensures { OnOk result (string_bytes text.new ≡ string_bytes text.old ++ piece_line kind form at piece.now) }
 {
-    push_kind(kind, piece, at, text)?;
+    text.push_str(Buffer::new().format(at))?;
+    push_kind(kind, piece, text)?;
+    text.push_str(" size ")?;
+    text.push_str(Buffer::new().format(piece.len()))?;
     push_name(form, text)?;
     text.push_str("\n")
 }

@@ -1,11 +1,15 @@
 //! The lines of bytes, as far as their names are known. A function whose name begins with `push` adds to a text, and returns how
 //! many bytes its lines show.
 
-ghost use Rattle.std.specs.Prelude.{◌≡◌, ◌+◌, ◌*◌, ◌<◌, ◌≤◌, ◌^◌, ◌++◌, [], ◌∷◌, length, map, nat_lt, if◌then◌else◌};
+ghost use Rattle.std.specs.Prelude.{◌≡◌, ℕ, ◌+◌, ◌*◌, ◌<◌, ◌≤◌, ◌^◌, ◌++◌, [], ◌∷◌, length, nat_lt, if◌then◌else◌};
+ghost use Rattle.std.specs.List.{flat_map};
 ghost use Rattle.std.specs.Prelude.{MatchOption, IfOk, OnOk, string_bytes};
-ghost use Rattle.acpi_text.specs.Slot.{field, heading, nameless, row_slot, Showed};
+ghost use Rattle.acpi_text.specs.Slot.{field, heading, nameless, register_slots, row_slot, row_slots, Showed};
+ghost use Rattle.acpi_text.specs.Words.{note_of};
 
 use crate::line::{push_line, push_title};
+use crate::note::Words;
+use acpi_base::gas::GENERIC_ADDRESS;
 use acpi_base::row::Row;
 use std::alloc::AllocError;
 
@@ -25,7 +29,7 @@ pub fn push_nameless(offset: usize, bytes: &[u8], text: &mut String) -> Result<(
     let mut rest = bytes;
     'lines: while !rest.is_empty() {
         let (front, more) = rest.split_at(line_size(rest.len()));
-        push_line(0, at, "Bytes", 1, front.len(), front, text)?;
+        push_line(0, at, "Bytes", Words::None, 1, front.len(), front, text)?;
         at += front.len();
         rest = more;
     }
@@ -63,6 +67,7 @@ fn size_within(width: usize, count: usize, left: usize) -> Option<usize>
 pub fn push_field(
     depth: u8,
     name: &str,
+    words: Words,
     width: usize,
     count: usize,
     offset: usize,
@@ -71,14 +76,23 @@ pub fn push_field(
 ) -> Result<usize, AllocError>
     requires { offset + length bytes.now < 2 ^ 64 }
     ensures { IfOk result
-        (λ n. Showed (field depth name.now width count ∷ []) offset bytes.now (string_bytes text.old) (string_bytes text.new) n) }
+        (λ n. Showed (field depth name.now (note_of words) width count ∷ []) offset bytes.now (string_bytes text.old) (string_bytes text.new) n) }
 {
     if bytes.is_empty() {
         return Ok(0);
     }
     match size_within(width, count, bytes.len()) {
         Some(size) => {
-            push_line(depth, offset, name, width, count, &bytes[..size], text)?;
+            push_line(
+                depth,
+                offset,
+                name,
+                words,
+                width,
+                count,
+                &bytes[..size],
+                text,
+            )?;
             Ok(size)
         }
         None => {
@@ -88,8 +102,8 @@ pub fn push_field(
     }
 }
 
-/// Adds the field of a row.
-pub fn push_row(
+// Adds the field of a row.
+fn push_row_field(
     depth: u8,
     row: &Row,
     offset: usize,
@@ -100,10 +114,89 @@ pub fn push_row(
     ensures { IfOk result
         (λ n. Showed (row_slot depth row.now ∷ []) offset bytes.now (string_bytes text.old) (string_bytes text.new) n) }
 {
+    let (name, words, width, count) = match *row {
+        Row::Number(name, width) => (name, Words::None, width, 1),
+        Row::Flags(name, width, words) => (name, Words::Flags(words), width, 1),
+        Row::OneOf(name, width, words) => (name, Words::OneOf(words), width, 1),
+        Row::Bytes(name, count) => (name, Words::None, 1, count),
+        Row::Register(name) => (name, Words::None, 1, 12),
+        Row::Reserved(count) => ("Reserved", Words::None, 1, count),
+    };
+    push_field(depth, name, words, width, count, offset, bytes, text)
+}
+
+// Adds the fields of rows, one after another, each in one line.
+fn push_row_fields(
+    depth: u8,
+    rows: &[Row],
+    offset: usize,
+    bytes: &[u8],
+    text: &mut String,
+) -> Result<usize, AllocError>
+    requires { offset + length bytes.now < 2 ^ 64 }
+    ensures { IfOk result (λ n. Showed (flat_map (λ row. row_slot depth row ∷ []) rows.now)
+        offset bytes.now (string_bytes text.old) (string_bytes text.new) n) }
+{
+    let mut at = 0;
+    'rows: for row in rows {
+        at += push_row_field(depth, row, offset + at, &bytes[at..], text)?;
+    }
+    Ok(at)
+}
+
+// Adds the name of a register, and the fields of its address below.
+fn push_register(
+    depth: u8,
+    name: &str,
+    offset: usize,
+    bytes: &[u8],
+    text: &mut String,
+) -> Result<usize, AllocError>
+    requires level { depth < 255 }
+    requires fits { offset + length bytes.now < 2 ^ 64 }
+    ensures { IfOk result (λ n. Showed (heading depth name.now ∷ register_slots (depth + 1))
+        offset bytes.now (string_bytes text.old) (string_bytes text.new) n) }
+{
+    let none = push_heading(depth, name, offset, bytes, text)?;
+    Ok(
+        none + push_row_fields(
+            depth + 1,
+            &GENERIC_ADDRESS,
+            offset + none,
+            &bytes[none..],
+            text,
+        )?,
+    )
+}
+
+// Returns the name of a row that is a register.
+fn register_name(row: &Row) -> Option<&'static str>
+    ensures { (depth : ℕ) → MatchOption result (row_slots depth row.now ≡ row_slot depth row.now ∷ [])
+        (λ name. row_slots depth row.now ≡ heading depth name.now ∷ register_slots (depth + 1)) }
+{
     match *row {
-        Row::Number(name, width) => push_field(depth, name, width, 1, offset, bytes, text),
-        Row::Bytes(name, count) => push_field(depth, name, 1, count, offset, bytes, text),
-        Row::Reserved(count) => push_field(depth, "Reserved", 1, count, offset, bytes, text),
+        Row::Register(name) => Some(name),
+        Row::Number(_, _) | Row::Flags(_, _, _) | Row::OneOf(_, _, _) => None,
+        Row::Bytes(_, _) | Row::Reserved(_) => None,
+    }
+}
+
+// Adds the lines of a row.
+fn push_row(
+    depth: u8,
+    row: &Row,
+    offset: usize,
+    bytes: &[u8],
+    text: &mut String,
+) -> Result<usize, AllocError>
+    requires level { depth < 255 }
+    requires fits { offset + length bytes.now < 2 ^ 64 }
+    ensures { IfOk result
+        (λ n. Showed (row_slots depth row.now) offset bytes.now (string_bytes text.old) (string_bytes text.new) n) }
+{
+    match register_name(row) {
+        Some(name) => push_register(depth, name, offset, bytes, text),
+        None => push_row_field(depth, row, offset, bytes, text),
     }
 }
 
@@ -115,9 +208,10 @@ pub fn push_rows(
     bytes: &[u8],
     text: &mut String,
 ) -> Result<usize, AllocError>
-    requires { offset + length bytes.now < 2 ^ 64 }
-    ensures { IfOk result
-        (λ n. Showed (map (row_slot depth) rows.now) offset bytes.now (string_bytes text.old) (string_bytes text.new) n) }
+    requires level { depth < 255 }
+    requires fits { offset + length bytes.now < 2 ^ 64 }
+    ensures { IfOk result (λ n. Showed (flat_map (row_slots depth) rows.now)
+        offset bytes.now (string_bytes text.old) (string_bytes text.new) n) }
 {
     let mut at = 0;
     'rows: for row in rows {

@@ -1,23 +1,28 @@
 //! The beginning of a line. A function whose name begins with `push` adds to a text.
 
 ghost use Rattle.std.specs.Prelude.{◌≡◌, ◌==◌, ◌&&◌, ◌++◌, not, OnOk, string_bytes};
-ghost use Rattle.acpi_text.specs.Line.{prints, spaces, is_label, label, margin, padded};
+ghost use Rattle.acpi_text.specs.Label.{prints, is_label, label};
+ghost use Rattle.acpi_text.specs.Line.{spaces, margin, padded};
 
+use itoa::Buffer;
 use std::alloc::AllocError;
 
 /// The column of the colon before a line's numbers.
 const COLUMN: usize = 40;
 
-// Adds spaces, eight at once as long as eight are left.
+// As many spaces as there are before the column.
+const SPACES: &str = "                                        ";
+
+// Adds spaces.
 fn push_spaces(count: usize, text: &mut String) -> Result<(), AllocError>
     ensures { OnOk result (string_bytes text.new ≡ string_bytes text.old ++ spaces count) }
 {
-    'many: for _eight in 0..count / 8 {
-        text.push_str("        ")?;
+    let mut left = count;
+    'many: while left > COLUMN {
+        text.push_str(SPACES)?;
+        left -= COLUMN;
     }
-    'one: for _done in 0..count % 8 {
-        text.push_str(" ")?;
-    }
+    text.push_str(&SPACES[..left])?;
     Ok(())
 }
 
@@ -32,12 +37,11 @@ fn is_label_byte(byte: u8) -> bool
 fn is_label(name: &[u8]) -> bool
     ensures { result ≡ is_label name.now }
 {
+    let mut fits = true;
     'bytes: for byte in name {
-        if !is_label_byte(*byte) {
-            return false;
-        }
+        fits &= is_label_byte(*byte);
     }
-    true
+    fits
 }
 
 /// Adds a name, or a question mark if the name can't stand in a line.
@@ -57,7 +61,8 @@ pub fn push_margin(
     ensures { OnOk result (string_bytes text.new ≡ string_bytes text.old ++ margin depth offset name.now) }
 {
     push_spaces(2 * usize::from(depth) + 2, text)?;
-    write!(text, "{offset} ")?;
+    text.push_str(Buffer::new().format(offset))?;
+    text.push_str(" ")?;
     push_label(name, text)
 }
 

@@ -183,7 +183,8 @@ impl<T: Tail<N>, const N: usize> Aer<T, N> {
     }
 }
 
-const AER: [Row; 16] = [
+/// The rows of a PCI Express AER source, as of each kind.
+pub const AER: [Row; 16] = [
     Row::Number("Type", 2),
     Row::Number("Source Id", 2),
     Row::Reserved(2),
@@ -246,11 +247,14 @@ pub struct AerBridge {
     secondary_aer_cap_ctrl: u32,
 }
 
-const AER_ROOT_PORT: [Row; 1] = [Row::Number("Root Error Command", 4)];
+/// The rows of what the source of a root port has after these.
+pub const AER_ROOT_PORT: [Row; 1] = [Row::Number("Root Error Command", 4)];
 
-const AER_DEVICE: [Row; 0] = [];
+/// The rows of what the source of a device has after these.
+pub const AER_DEVICE: [Row; 0] = [];
 
-const AER_BRIDGE: [Row; 3] = [
+/// The rows of what the source of a bridge has after these.
+pub const AER_BRIDGE: [Row; 3] = [
     Row::Number("Secondary Uncorrectable Error Mask", 4),
     Row::Number("Secondary Uncorrectable Error Severity", 4),
     Row::Number("Secondary Advanced Error Capabilities and Control", 4),

@@ -117,7 +117,8 @@ impl GenericErrorData {
     }
 }
 
-const ERROR_DATA: [Row; 9] = [
+/// The rows of a Generic Error Data Entry before its data.
+pub const ERROR_DATA: [Row; 9] = [
     Row::Number("Section Type", 2),
     Row::Number("Error Severity", 4),
     Row::Number("Revision", 2),

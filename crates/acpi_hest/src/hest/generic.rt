@@ -129,7 +129,8 @@ impl<T: Tail<N>, const N: usize> Generic<T, N> {
     }
 }
 
-const GENERIC: [Row; 11] = [
+/// The rows of a Generic Hardware Error Source, as in both versions.
+pub const GENERIC: [Row; 11] = [
     Row::Number("Type", 2),
     Row::Number("Source Id", 2),
     Row::Number("Related Source Id", 2),
@@ -138,7 +139,7 @@ const GENERIC: [Row; 11] = [
     Row::Number("Number of Records to Pre-allocate", 4),
     Row::Number("Max Sections Per Record", 4),
     Row::Number("Max Raw Data Length", 4),
-    Row::Bytes("Error Status Address", 12),
+    Row::Register("Error Status Address"),
     Row::Bytes("Notification Structure", 28),
     Row::Number("Error Status Block Length", 4),
 ];
@@ -178,10 +179,12 @@ pub struct Acknowledged {
     read_ack_write: u64,
 }
 
-const UNACKNOWLEDGED: [Row; 0] = [];
+/// The rows of what version 1 of such a source has after these.
+pub const UNACKNOWLEDGED: [Row; 0] = [];
 
-const ACKNOWLEDGED: [Row; 3] = [
-    Row::Bytes("Read Ack Register", 12),
+/// The rows of what version 2 of such a source has after these.
+pub const ACKNOWLEDGED: [Row; 3] = [
+    Row::Register("Read Ack Register"),
     Row::Number("Read Ack Preserve", 8),
     Row::Number("Read Ack Write", 8),
 ];

@@ -7,7 +7,7 @@ ghost use Rattle.acpi_hest.specs.Notification.{notification_fields};
 
 use acpi_base::error::R;
 use acpi_base::object::Aml;
-use acpi_base::row::{Record, Row, record_of_numbers, write_record};
+use acpi_base::row::{Record, Row, Word, record_of_numbers, write_record};
 use acpi_base::sink::AmlSink;
 
 /// How a source tells of an error (ACPI 6.5, 18.3.2.9, Type). The last four are those of RISC-V.
@@ -138,8 +138,26 @@ impl NotificationStructure {
     }
 }
 
-const NOTIFICATION: [Row; 9] = [
-    Row::Number("Type", 1),
+/// The rows of a Hardware Error Notification Structure.
+pub const NOTIFICATION: [Row; 9] = [
+    Row::OneOf(
+        "Type",
+        1,
+        &[
+            Word(0, "Polled"),
+            Word(1, "External Interrupt"),
+            Word(2, "Local Interrupt"),
+            Word(3, "SCI"),
+            Word(4, "NMI"),
+            Word(5, "CMCI"),
+            Word(6, "MCE"),
+            Word(7, "GPIO-Signal"),
+            Word(8, "ARMv8 SEA"),
+            Word(9, "ARMv8 SEI"),
+            Word(10, "External Interrupt - GSIV"),
+            Word(11, "Software Delegated Exception"),
+        ],
+    ),
     Row::Number("Length", 1),
     Row::Number("Configuration Write Enable", 2),
     Row::Number("Poll Interval", 4),

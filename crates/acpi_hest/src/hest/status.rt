@@ -44,7 +44,8 @@ impl GenericErrorStatus {
     }
 }
 
-const ERROR_STATUS: [Row; 5] = [
+/// The rows of a Generic Error Status Block before its data.
+pub const ERROR_STATUS: [Row; 5] = [
     Row::Number("Block Status", 4),
     Row::Number("Raw Data Offset", 4),
     Row::Number("Raw Data Length", 4),

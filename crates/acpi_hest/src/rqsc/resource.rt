@@ -40,17 +40,18 @@ impl CacheResource {
     }
 }
 
-const CACHE: [Row; 2] = [Row::Number("Cache ID", 4), Row::Reserved(8)];
+/// The rows of the ID of a cache.
+pub const CACHE_RESOURCE: [Row; 2] = [Row::Number("Cache ID", 4), Row::Reserved(8)];
 
 impl Record<12> for CacheResource {
     ghost fields = { cache_fields };
 
     fn rows() -> &'static [Row] {
-        &CACHE
+        &CACHE_RESOURCE
     }
 
     fn bytes(&self) -> [u8; 12] {
-        record_of_numbers(&CACHE, &[u64::from(self.cache_id), 0])
+        record_of_numbers(&CACHE_RESOURCE, &[u64::from(self.cache_id), 0])
     }
 }
 
@@ -86,7 +87,8 @@ impl MemoryAffinityStructureResource {
     }
 }
 
-const MEMORY: [Row; 3] = [
+/// The rows of the ID of a range of memory.
+pub const MEMORY_RESOURCE: [Row; 3] = [
     Row::Number("Proximity Domain", 4),
     Row::Reserved(8),
     Row::Number("Raw Bandwidth per Block", 8),
@@ -96,12 +98,12 @@ impl Record<20> for MemoryAffinityStructureResource {
     ghost fields = { memory_fields };
 
     fn rows() -> &'static [Row] {
-        &MEMORY
+        &MEMORY_RESOURCE
     }
 
     fn bytes(&self) -> [u8; 20] {
         record_of_numbers(
-            &MEMORY,
+            &MEMORY_RESOURCE,
             &[
                 u64::from(self.proximity_domain),
                 0,
@@ -140,7 +142,8 @@ impl ACPIDeviceResource {
     }
 }
 
-const ACPI_DEVICE: [Row; 2] = [
+/// The rows of the ID of an ACPI device.
+pub const ACPI_DEVICE_RESOURCE: [Row; 2] = [
     Row::Number("ACPI Hardware ID", 8),
     Row::Number("ACPI Unique ID", 4),
 ];
@@ -149,12 +152,12 @@ impl Record<12> for ACPIDeviceResource {
     ghost fields = { acpi_fields };
 
     fn rows() -> &'static [Row] {
-        &ACPI_DEVICE
+        &ACPI_DEVICE_RESOURCE
     }
 
     fn bytes(&self) -> [u8; 12] {
         record_of_numbers(
-            &ACPI_DEVICE,
+            &ACPI_DEVICE_RESOURCE,
             &[self.acpi_hardware_id, u64::from(self.acpi_unique_id)],
         )
     }
@@ -185,17 +188,18 @@ impl PCIDeviceResource {
     }
 }
 
-const PCI_DEVICE: [Row; 2] = [Row::Number("Segment and BDF", 4), Row::Reserved(8)];
+/// The rows of the ID of a PCI device.
+pub const PCI_DEVICE_RESOURCE: [Row; 2] = [Row::Number("Segment and BDF", 4), Row::Reserved(8)];
 
 impl Record<12> for PCIDeviceResource {
     ghost fields = { pci_fields };
 
     fn rows() -> &'static [Row] {
-        &PCI_DEVICE
+        &PCI_DEVICE_RESOURCE
     }
 
     fn bytes(&self) -> [u8; 12] {
-        record_of_numbers(&PCI_DEVICE, &[u64::from(self.bdf), 0])
+        record_of_numbers(&PCI_DEVICE_RESOURCE, &[u64::from(self.bdf), 0])
     }
 }
 
@@ -353,7 +357,8 @@ impl ResourceStructure {
     }
 }
 
-const RESOURCE: [Row; 6] = [
+/// The rows of a resource before its ID.
+pub const RESOURCE: [Row; 6] = [
     Row::Number("Resource Type", 1),
     Row::Reserved(1),
     Row::Number("Length", 2),

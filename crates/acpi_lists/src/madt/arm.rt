@@ -10,7 +10,7 @@ ghost use Rattle.acpi_lists.specs.MadtArm.{gicr_fields, gic_its, gic_its_bytes, 
 use crate::madt::EnabledStatus;
 use acpi_base::error::R;
 use acpi_base::object::Aml;
-use acpi_base::row::{Record, Row, record_of_numbers, write_record};
+use acpi_base::row::{Record, Row, Word, record_of_numbers, write_record};
 use acpi_base::sink::AmlSink;
 
 // Flags of a CPU interface (ACPI 6.5, 5.2.12.14, offset 12).
@@ -211,13 +211,23 @@ impl Gicc {
     }
 }
 
-const GICC: [Row; 19] = [
+/// The rows of a GIC CPU Interface (GICC) Structure.
+pub const GICC: [Row; 19] = [
     Row::Number("Type", 1),
     Row::Number("Length", 1),
     Row::Reserved(2),
     Row::Number("CPU Interface Number", 4),
     Row::Number("ACPI Processor UID", 4),
-    Row::Number("Flags", 4),
+    Row::Flags(
+        "Flags",
+        4,
+        &[
+            Word(1, "Enabled"),
+            Word(2, "Performance Interrupt Edge Triggered"),
+            Word(4, "VGIC Maintenance Interrupt Edge Triggered"),
+            Word(8, "Online Capable"),
+        ],
+    ),
     Row::Number("Parking Protocol Version", 4),
     Row::Number("Performance Interrupt GSIV", 4),
     Row::Number("Parked Address", 8),
@@ -309,7 +319,8 @@ impl Gicd {
     }
 }
 
-const GICD: [Row; 8] = [
+/// The rows of a GIC Distributor (GICD) Structure.
+pub const GICD: [Row; 8] = [
     Row::Number("Type", 1),
     Row::Number("Length", 1),
     Row::Reserved(2),
@@ -407,13 +418,14 @@ impl GicMsi {
     }
 }
 
-const GIC_MSI: [Row; 8] = [
+/// The rows of a GIC MSI Frame Structure.
+pub const GIC_MSI: [Row; 8] = [
     Row::Number("Type", 1),
     Row::Number("Length", 1),
     Row::Reserved(2),
     Row::Number("GIC MSI Frame ID", 4),
     Row::Number("Physical Base Address", 8),
-    Row::Number("Flags", 4),
+    Row::Flags("Flags", 4, &[Word(1, "SPI Count/Base Select")]),
     Row::Number("SPI Count", 2),
     Row::Number("SPI Base", 2),
 ];
@@ -471,7 +483,8 @@ impl Gicr {
     }
 }
 
-const GICR: [Row; 5] = [
+/// The rows of a GIC Redistributor (GICR) Structure.
+pub const GICR: [Row; 5] = [
     Row::Number("Type", 1),
     Row::Number("Length", 1),
     Row::Reserved(2),
@@ -529,7 +542,8 @@ impl GicIts {
     }
 }
 
-const GIC_ITS: [Row; 6] = [
+/// The rows of a GIC Interrupt Translation Service (ITS) Structure.
+pub const GIC_ITS: [Row; 6] = [
     Row::Number("Type", 1),
     Row::Number("Length", 1),
     Row::Reserved(2),

@@ -7,7 +7,7 @@ ghost use Rattle.acpi_lists.specs.MadtRiscv.{aplic_bytes, aplic_fields, plic, pl
 
 use acpi_base::error::R;
 use acpi_base::object::Aml;
-use acpi_base::row::{Record, Row, Value, record_of, record_of_numbers, write_record};
+use acpi_base::row::{Record, Row, Value, Word, record_of, record_of_numbers, write_record};
 use acpi_base::sink::AmlSink;
 
 /// Whether a hart can be used, or could be brought online later (offset 4 of RINTC).
@@ -60,12 +60,13 @@ impl RINTC {
     }
 }
 
-const RINTC_ROWS: [Row; 10] = [
+/// The rows of a RISC-V INTC Structure.
+pub const RINTC_ROWS: [Row; 10] = [
     Row::Number("Type", 1),
     Row::Number("Length", 1),
     Row::Number("Version", 1),
     Row::Reserved(1),
-    Row::Number("Flags", 4),
+    Row::Flags("Flags", 4, &[Word(1, "Enabled"), Word(2, "Online Capable")]),
     Row::Number("Hart ID", 8),
     Row::Number("ACPI Processor UID", 4),
     Row::Number("External Interrupt Controller ID", 4),
@@ -154,7 +155,8 @@ impl IMSIC {
     }
 }
 
-const IMSIC_ROWS: [Row; 10] = [
+/// The rows of an IMSIC Structure.
+pub const IMSIC_ROWS: [Row; 10] = [
     Row::Number("Type", 1),
     Row::Number("Length", 1),
     Row::Number("Version", 1),
@@ -250,7 +252,8 @@ impl APLIC {
     }
 }
 
-const APLIC_ROWS: [Row; 11] = [
+/// The rows of an APLIC Structure.
+pub const APLIC_ROWS: [Row; 11] = [
     Row::Number("Type", 1),
     Row::Number("Length", 1),
     Row::Number("Version", 1),
@@ -348,7 +351,8 @@ impl PLIC {
     }
 }
 
-const PLIC_ROWS: [Row; 11] = [
+/// The rows of a PLIC Structure.
+pub const PLIC_ROWS: [Row; 11] = [
     Row::Number("Type", 1),
     Row::Number("Length", 1),
     Row::Number("Version", 1),

@@ -8,7 +8,7 @@ ghost use Rattle.acpi_lists.specs.MadtX86.{processor_local_apic_fields, io_apic,
 use crate::madt::EnabledStatus;
 use acpi_base::error::R;
 use acpi_base::object::Aml;
-use acpi_base::row::{Record, Row, record_of_numbers, write_record};
+use acpi_base::row::{Record, Row, Word, record_of_numbers, write_record};
 use acpi_base::sink::AmlSink;
 
 /// A processor and its local APIC: 8 bytes (ACPI 6.5, 5.2.12.2).
@@ -32,12 +32,13 @@ impl ProcessorLocalApic {
     }
 }
 
-const PROCESSOR_LOCAL_APIC: [Row; 5] = [
+/// The rows of a Processor Local APIC Structure.
+pub const PROCESSOR_LOCAL_APIC: [Row; 5] = [
     Row::Number("Type", 1),
     Row::Number("Length", 1),
     Row::Number("ACPI Processor UID", 1),
     Row::Number("APIC ID", 1),
-    Row::Number("Flags", 4),
+    Row::Flags("Flags", 4, &[Word(1, "Enabled"), Word(2, "Online Capable")]),
 ];
 
 impl Record<8> for ProcessorLocalApic {
@@ -92,7 +93,8 @@ impl IoApic {
     }
 }
 
-const IO_APIC: [Row; 6] = [
+/// The rows of an I/O APIC Structure.
+pub const IO_APIC: [Row; 6] = [
     Row::Number("Type", 1),
     Row::Number("Length", 1),
     Row::Number("I/O APIC ID", 1),

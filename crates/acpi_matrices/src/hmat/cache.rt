@@ -134,7 +134,8 @@ impl MemorySideCache {
     }
 }
 
-const SIDE_CACHE: [Row; 9] = [
+/// The rows of a Memory Side Cache Information Structure before its handles.
+pub const SIDE_CACHE: [Row; 9] = [
     Row::Number("Type", 2),
     Row::Reserved(2),
     Row::Number("Length", 4),

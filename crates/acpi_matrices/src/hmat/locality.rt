@@ -240,7 +240,8 @@ impl SystemLocality {
     }
 }
 
-const SYSTEM_LOCALITY: [Row; 11] = [
+/// The rows of a System Locality Latency and Bandwidth Information Structure before its lists.
+pub const SYSTEM_LOCALITY: [Row; 11] = [
     Row::Number("Type", 2),
     Row::Reserved(2),
     Row::Number("Length", 4),

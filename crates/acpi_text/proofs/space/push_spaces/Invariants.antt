@@ -1,9 +1,9 @@
-use Rattle.std.proofs.Common.{◌≡◌, ◌+◌, ◌*◌, ◌/◌, ◌++◌, string_bytes}
+use Rattle.std.proofs.Common.{◌≡◌, ◌++◌, string_bytes}
 use Rattle.acpi_text.specs.Line.{spaces}
 use Rattle.acpi_text.proofs.space.push_spaces.Given as goal
 
 abbrev pub invariant-many : goal.invariant-many
-invariant-many l = string_bytes l.text ≡ string_bytes l.initial.text ++ spaces (8 * l._eight)
+invariant-many l = string_bytes l.text ++ spaces l.left ≡ string_bytes l.initial.text ++ spaces l.count
 
-abbrev pub invariant-one : goal.invariant-one
-invariant-one l = string_bytes l.text ≡ string_bytes l.fn.text ++ spaces (8 * (l.count / 8) + l._done)
+abbrev pub decreases-many : goal.decreases-many
+decreases-many l = l.left

@@ -1,6 +1,6 @@
 use Rattle.std.proofs.Common.{rules}
 use Rattle.acpi_text.proofs.Spaces.{byte_goes_on, printed_at}
-use Rattle.acpi_text.proofs.line.push_quoted.Goals as goal
+use Rattle.acpi_text.proofs.note.push_quoted.Goals as goal
 
 pub bytes-preserved : goal.bytes-preserved
 bytes-preserved c =

@@ -1,0 +1,77 @@
+//! The forms of tables and records of fixed size.
+
+use acpi_base::header::HEADER;
+use acpi_base::walk::Place;
+use acpi_fixed::bert::BERT_ROWS;
+use acpi_fixed::facs::FACS_ROWS;
+use acpi_fixed::fadt::FADT_ROWS;
+use acpi_fixed::rsdp::RSDP_ROWS;
+use acpi_fixed::spcr::SPCR_ROWS;
+use acpi_fixed::tpm2::{TCPA_CLIENT, TCPA_SERVER, TPM2_FIXED};
+use acpi_text::form::{Choice, Part, TableForm};
+
+/// The Root System Description Pointer, which has no standard header (ACPI 6.5, 5.2.5.3).
+pub const RSDP: TableForm = TableForm {
+    name: "Root System Description Pointer",
+    parts: &[Part::Fields(&RSDP_ROWS)],
+    structures: &[],
+};
+
+/// The Firmware ACPI Control Structure, which has no standard header (ACPI 6.5, 5.2.10).
+pub const FACS: TableForm = TableForm {
+    name: "Firmware ACPI Control Structure (FACS)",
+    parts: &[Part::Fields(&FACS_ROWS)],
+    structures: &[],
+};
+
+/// The Boot Error Record Table (ACPI 6.5, 18.3.1).
+pub const BERT: TableForm = TableForm {
+    name: "Boot Error Record Table (BERT)",
+    parts: &[Part::Fields(&HEADER), Part::Fields(&BERT_ROWS)],
+    structures: &[],
+};
+
+/// The Fixed ACPI Description Table (ACPI 6.5, 5.2.9).
+pub const FADT: TableForm = TableForm {
+    name: "Fixed ACPI Description Table (FACP)",
+    parts: &[Part::Fields(&HEADER), Part::Fields(&FADT_ROWS)],
+    structures: &[],
+};
+
+/// The Serial Port Console Redirection Table (Microsoft).
+pub const SPCR: TableForm = TableForm {
+    name: "Serial Port Console Redirection Table (SPCR)",
+    parts: &[Part::Fields(&HEADER), Part::Fields(&SPCR_ROWS)],
+    structures: &[],
+};
+
+// A TCPA by its platform class (offset 36).
+const PLATFORM_CLASSES: [Choice; 2] = [
+    Choice {
+        number: 0,
+        name: "Client",
+        rows: &TCPA_CLIENT,
+    },
+    Choice {
+        number: 1,
+        name: "Server",
+        rows: &TCPA_SERVER,
+    },
+];
+
+/// The Trusted Computing Platform Alliance Capabilities Table, of a client or a server (TCG ACPI Specification 1.4, 7).
+pub const TCPA: TableForm = TableForm {
+    name: "Trusted Computing Platform Alliance Capabilities Table (TCPA)",
+    parts: &[
+        Part::Fields(&HEADER),
+        Part::Chosen(Place::Word(36), &PLATFORM_CLASSES),
+    ],
+    structures: &[],
+};
+
+/// The Trusted Platform Module 2 Table (TCG ACPI Specification 1.4, 8).
+pub const TPM2: TableForm = TableForm {
+    name: "Trusted Platform Module 2 Table (TPM2)",
+    parts: &[Part::Fields(&HEADER), Part::Fields(&TPM2_FIXED)],
+    structures: &[],
+};

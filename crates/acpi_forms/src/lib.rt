@@ -1,0 +1,9 @@
+//! The forms of tables: which fields, lists and structures each has, by the rows that its writer has.
+#![tactic(auto)]
+
+pub mod fixed;
+pub mod form;
+pub mod hest;
+pub mod lists;
+pub mod matrices;
+pub mod nodes;

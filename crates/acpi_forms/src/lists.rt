@@ -1,0 +1,185 @@
+//! The forms of tables that are lists of structures.
+
+use acpi_base::header::HEADER;
+use acpi_base::row::Row;
+use acpi_base::walk::Place;
+use acpi_lists::cedt::{CXL_HOST_BRIDGE, FIXED_MEMORY, PORT_ASSOCIATION, XOR_MAPS};
+use acpi_lists::madt::{
+    APLIC_ROWS, GIC_ITS, GIC_MSI, GICC, GICD, GICR, IMSIC_ROWS, IO_APIC, MADT_FIXED, PLIC_ROWS,
+    PROCESSOR_LOCAL_APIC, RINTC_ROWS,
+};
+use acpi_lists::mcfg::ECAM;
+use acpi_lists::srat::{
+    ACPI_HANDLE, GENERIC_INITIATOR, MEMORY_AFFINITY, PCI_HANDLE, RINTC_AFFINITY,
+};
+use acpi_lists::xsdt::XSDT_ENTRY;
+use acpi_text::form::{Choice, Count, Form, Part, TableForm};
+
+/// The Extended System Description Table (ACPI 6.5, 5.2.8).
+pub const XSDT: TableForm = TableForm {
+    name: "Extended System Description Table (XSDT)",
+    parts: &[Part::Fields(&HEADER)],
+    structures: &[Form {
+        number: 0,
+        name: "Entry",
+        parts: &[Part::Fields(&XSDT_ENTRY)],
+    }],
+};
+
+/// The PCI Express memory mapped configuration space base address description table (PCI Firmware 3.3, 4.1.2).
+pub const MCFG: TableForm = TableForm {
+    name: "PCI Express Memory Mapped Configuration Table (MCFG)",
+    parts: &[Part::Fields(&HEADER), Part::Fields(&[Row::Reserved(8)])],
+    structures: &[Form {
+        number: 0,
+        name: "Configuration Space Base Address Allocation Structure",
+        parts: &[Part::Fields(&ECAM)],
+    }],
+};
+
+const MADT_STRUCTURES: [Form; 11] = [
+    Form {
+        number: 0,
+        name: "Processor Local APIC Structure",
+        parts: &[Part::Fields(&PROCESSOR_LOCAL_APIC)],
+    },
+    Form {
+        number: 1,
+        name: "I/O APIC Structure",
+        parts: &[Part::Fields(&IO_APIC)],
+    },
+    Form {
+        number: 11,
+        name: "GIC CPU Interface (GICC) Structure",
+        parts: &[Part::Fields(&GICC)],
+    },
+    Form {
+        number: 12,
+        name: "GIC Distributor (GICD) Structure",
+        parts: &[Part::Fields(&GICD)],
+    },
+    Form {
+        number: 13,
+        name: "GIC MSI Frame Structure",
+        parts: &[Part::Fields(&GIC_MSI)],
+    },
+    Form {
+        number: 14,
+        name: "GIC Redistributor (GICR) Structure",
+        parts: &[Part::Fields(&GICR)],
+    },
+    Form {
+        number: 15,
+        name: "GIC Interrupt Translation Service (ITS) Structure",
+        parts: &[Part::Fields(&GIC_ITS)],
+    },
+    Form {
+        number: 24,
+        name: "RISC-V INTC Structure",
+        parts: &[Part::Fields(&RINTC_ROWS)],
+    },
+    Form {
+        number: 25,
+        name: "RISC-V IMSIC Structure",
+        parts: &[Part::Fields(&IMSIC_ROWS)],
+    },
+    Form {
+        number: 26,
+        name: "RISC-V APLIC Structure",
+        parts: &[Part::Fields(&APLIC_ROWS)],
+    },
+    Form {
+        number: 27,
+        name: "RISC-V PLIC Structure",
+        parts: &[Part::Fields(&PLIC_ROWS)],
+    },
+];
+
+/// The Multiple APIC Description Table (ACPI 6.5, 5.2.12).
+pub const MADT: TableForm = TableForm {
+    name: "Multiple APIC Description Table (APIC)",
+    parts: &[Part::Fields(&HEADER), Part::Fields(&MADT_FIXED)],
+    structures: &MADT_STRUCTURES,
+};
+
+// The handles of a device, by their type.
+const HANDLES: [Choice; 2] = [
+    Choice {
+        number: 0,
+        name: "ACPI Device Handle",
+        rows: &ACPI_HANDLE,
+    },
+    Choice {
+        number: 1,
+        name: "PCI Device Handle",
+        rows: &PCI_HANDLE,
+    },
+];
+
+const SRAT_STRUCTURES: [Form; 3] = [
+    Form {
+        number: 1,
+        name: "Memory Affinity Structure",
+        parts: &[Part::Fields(&MEMORY_AFFINITY)],
+    },
+    Form {
+        number: 5,
+        name: "Generic Initiator Affinity Structure",
+        parts: &[
+            Part::Between(&GENERIC_INITIATOR, 0, 5),
+            Part::Chosen(Place::Byte(3), &HANDLES),
+            Part::Between(&GENERIC_INITIATOR, 6, 8),
+        ],
+    },
+    Form {
+        number: 7,
+        name: "RINTC Affinity Structure",
+        parts: &[Part::Fields(&RINTC_AFFINITY)],
+    },
+];
+
+/// The System Resource Affinity Table (ACPI 6.5, 5.2.16).
+pub const SRAT: TableForm = TableForm {
+    name: "System Resource Affinity Table (SRAT)",
+    parts: &[
+        Part::Fields(&HEADER),
+        Part::Fields(&[Row::Number("Table Revision", 4), Row::Reserved(8)]),
+    ],
+    structures: &SRAT_STRUCTURES,
+};
+
+const CEDT_STRUCTURES: [Form; 4] = [
+    Form {
+        number: 0,
+        name: "CXL Host Bridge Structure (CHBS)",
+        parts: &[Part::Fields(&CXL_HOST_BRIDGE)],
+    },
+    Form {
+        number: 1,
+        name: "CXL Fixed Memory Window Structure (CFMWS)",
+        parts: &[
+            Part::Fields(&FIXED_MEMORY),
+            Part::Numbers("Interleave Target", 4, Count::Rest),
+        ],
+    },
+    Form {
+        number: 2,
+        name: "CXL XOR Interleave Math Structure (CXIMS)",
+        parts: &[
+            Part::Fields(&XOR_MAPS),
+            Part::Numbers("XOR Map", 8, Count::Told(Place::Byte(7))),
+        ],
+    },
+    Form {
+        number: 3,
+        name: "RCEC Downstream Port Association Structure (RDPAS)",
+        parts: &[Part::Fields(&PORT_ASSOCIATION)],
+    },
+];
+
+/// The CXL Early Discovery Table (CXL 3.0, 9.17.1).
+pub const CEDT: TableForm = TableForm {
+    name: "CXL Early Discovery Table (CEDT)",
+    parts: &[Part::Fields(&HEADER)],
+    structures: &CEDT_STRUCTURES,
+};

@@ -1,0 +1,66 @@
+//! The forms of HMAT and SLIT.
+
+use acpi_base::header::HEADER;
+use acpi_base::row::Row;
+use acpi_base::walk::Place;
+use acpi_matrices::hmat::{MEMORY_PROXIMITY_DOMAIN, SIDE_CACHE, SYSTEM_LOCALITY};
+use acpi_matrices::slit::SLIT_FIXED;
+use acpi_text::form::{Count, Form, Part, TableForm};
+
+const HMAT_STRUCTURES: [Form; 3] = [
+    Form {
+        number: 0,
+        name: "Memory Proximity Domain Attributes Structure",
+        parts: &[Part::Fields(&MEMORY_PROXIMITY_DOMAIN)],
+    },
+    Form {
+        number: 1,
+        name: "System Locality Latency and Bandwidth Information Structure",
+        parts: &[
+            Part::Fields(&SYSTEM_LOCALITY),
+            Part::Numbers(
+                "Initiator Proximity Domain",
+                4,
+                Count::Told(Place::DWord(12)),
+            ),
+            Part::Numbers("Target Proximity Domain", 4, Count::Told(Place::DWord(16))),
+            Part::Matrix(
+                "Entries of an Initiator",
+                2,
+                Place::DWord(12),
+                Place::DWord(16),
+            ),
+        ],
+    },
+    Form {
+        number: 2,
+        name: "Memory Side Cache Information Structure",
+        parts: &[
+            Part::Fields(&SIDE_CACHE),
+            Part::Numbers("SMBIOS Handle", 2, Count::Told(Place::Word(30))),
+        ],
+    },
+];
+
+/// The Heterogeneous Memory Attribute Table (ACPI 6.5, 5.2.28).
+pub const HMAT: TableForm = TableForm {
+    name: "Heterogeneous Memory Attribute Table (HMAT)",
+    parts: &[Part::Fields(&HEADER), Part::Fields(&[Row::Reserved(4)])],
+    structures: &HMAT_STRUCTURES,
+};
+
+/// The System Locality Information Table (ACPI 6.5, 5.2.17).
+pub const SLIT: TableForm = TableForm {
+    name: "System Locality Information Table (SLIT)",
+    parts: &[
+        Part::Fields(&HEADER),
+        Part::Between(&SLIT_FIXED, 1, 2),
+        Part::Matrix(
+            "Distances from a Locality",
+            1,
+            Place::DWord(36),
+            Place::DWord(36),
+        ),
+    ],
+    structures: &[],
+};

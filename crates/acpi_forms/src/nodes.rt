@@ -1,0 +1,161 @@
+//! The forms of tables whose nodes name each other.
+
+use acpi_base::header::HEADER;
+use acpi_base::row::Row;
+use acpi_base::walk::Place;
+use acpi_nodes::pptt::{CACHE_NODE, PROCESSOR_NODE};
+use acpi_nodes::rhct::{CMO, HART_INFO, ISA_STRING, MMU, RHCT_FIXED};
+use acpi_nodes::rimt::{ID_MAPPING, INTERRUPT_WIRE, IOMMU, PLATFORM, ROOT_COMPLEX};
+use acpi_nodes::viot::{MMIO_ENDPOINT, PCI_RANGE, VIRTIO_MMIO_IOMMU, VIRTIO_PCI_IOMMU};
+use acpi_text::form::{Count, Form, Part, TableForm};
+
+const PPTT_NODES: [Form; 2] = [
+    Form {
+        number: 0,
+        name: "Processor Hierarchy Node Structure",
+        parts: &[
+            Part::Fields(&PROCESSOR_NODE),
+            Part::Numbers("Private Resource", 4, Count::Told(Place::DWord(16))),
+        ],
+    },
+    Form {
+        number: 1,
+        name: "Cache Type Structure",
+        parts: &[Part::Fields(&CACHE_NODE)],
+    },
+];
+
+/// The Processor Properties Topology Table (ACPI 6.5, 5.2.30).
+pub const PPTT: TableForm = TableForm {
+    name: "Processor Properties Topology Table (PPTT)",
+    parts: &[Part::Fields(&HEADER)],
+    structures: &PPTT_NODES,
+};
+
+const RHCT_NODES: [Form; 4] = [
+    Form {
+        number: 0,
+        name: "ISA String Node",
+        parts: &[
+            Part::Fields(&ISA_STRING),
+            Part::Bytes("ISA String", Place::Word(6)),
+        ],
+    },
+    Form {
+        number: 1,
+        name: "CMO Extension Node",
+        parts: &[Part::Fields(&CMO)],
+    },
+    Form {
+        number: 2,
+        name: "MMU Node",
+        parts: &[Part::Fields(&MMU)],
+    },
+    Form {
+        number: 65535,
+        name: "Hart Info Node",
+        parts: &[
+            Part::Fields(&HART_INFO),
+            Part::Numbers("Offset", 4, Count::Told(Place::Word(6))),
+        ],
+    },
+];
+
+/// The RISC-V Hart Capabilities Table (this project's profile).
+pub const RHCT: TableForm = TableForm {
+    name: "RISC-V Hart Capabilities Table (RHCT)",
+    parts: &[
+        Part::Fields(&HEADER),
+        Part::Fields(&RHCT_FIXED),
+        Part::Fields(&[
+            Row::Number("Number of RHCT Nodes", 4),
+            Row::Number("Offset of RHCT Nodes", 4),
+        ]),
+    ],
+    structures: &RHCT_NODES,
+};
+
+const VIOT_NODES: [Form; 4] = [
+    Form {
+        number: 1,
+        name: "PCI Range Node",
+        parts: &[Part::Fields(&PCI_RANGE)],
+    },
+    Form {
+        number: 2,
+        name: "Single MMIO Endpoint Node",
+        parts: &[Part::Fields(&MMIO_ENDPOINT)],
+    },
+    Form {
+        number: 3,
+        name: "virtio-iommu based on virtio-pci Node",
+        parts: &[Part::Fields(&VIRTIO_PCI_IOMMU)],
+    },
+    Form {
+        number: 4,
+        name: "virtio-iommu based on virtio-mmio Node",
+        parts: &[Part::Fields(&VIRTIO_MMIO_IOMMU)],
+    },
+];
+
+/// The Virtual I/O Translation Table (ACPI 6.5, 5.2.33).
+pub const VIOT: TableForm = TableForm {
+    name: "Virtual I/O Translation Table (VIOT)",
+    parts: &[
+        Part::Fields(&HEADER),
+        Part::Fields(&[
+            Row::Number("Node Count", 2),
+            Row::Number("Node Offset", 2),
+            Row::Reserved(8),
+        ]),
+    ],
+    structures: &VIOT_NODES,
+};
+
+const RIMT_DEVICES: [Form; 3] = [
+    Form {
+        number: 0,
+        name: "RISC-V IOMMU",
+        parts: &[
+            Part::Fields(&IOMMU),
+            Part::Until("Before the Interrupt Wires", Place::Word(30)),
+            Part::Entries(
+                "Interrupt Wire",
+                Count::Told(Place::Word(28)),
+                &INTERRUPT_WIRE,
+            ),
+        ],
+    },
+    Form {
+        number: 1,
+        name: "PCIe Root Complex",
+        parts: &[
+            Part::Fields(&ROOT_COMPLEX),
+            Part::Until("Before the Mappings", Place::Word(12)),
+            Part::Entries("ID Mapping", Count::Told(Place::Word(14)), &ID_MAPPING),
+        ],
+    },
+    Form {
+        number: 2,
+        name: "Platform Device",
+        parts: &[
+            Part::Fields(&PLATFORM),
+            Part::Until("Device Object Name", Place::Word(8)),
+            Part::Entries("ID Mapping", Count::Told(Place::Word(10)), &ID_MAPPING),
+        ],
+    },
+];
+
+/// The RISC-V IO Mapping Table (this project's profile).
+pub const RIMT: TableForm = TableForm {
+    name: "RISC-V IO Mapping Table (RIMT)",
+    parts: &[
+        Part::Fields(&HEADER),
+        Part::Fields(&[
+            Row::Number("Number of RIMT Nodes", 4),
+            Row::Number("Offset of RIMT Nodes", 4),
+            Row::Reserved(4),
+        ]),
+    ],
+    structures: &RIMT_DEVICES,
+};
