@@ -75,3 +75,24 @@ pub const TPM2: TableForm = TableForm {
     parts: &[Part::Fields(&HEADER), Part::Fields(&TPM2_FIXED)],
     structures: &[],
 };
+
+/// The Differentiated System Description Table, whose AML follows its header (ACPI 6.5, 5.2.11.1).
+pub const DSDT: TableForm = TableForm {
+    name: "Differentiated System Description Table (DSDT)",
+    parts: &[Part::Fields(&HEADER)],
+    structures: &[],
+};
+
+/// A Secondary System Description Table, whose AML follows its header (ACPI 6.5, 5.2.11.2).
+pub const SSDT: TableForm = TableForm {
+    name: "Secondary System Description Table (SSDT)",
+    parts: &[Part::Fields(&HEADER)],
+    structures: &[],
+};
+
+/// A table of another signature: its header.
+pub const UNKNOWN: TableForm = TableForm {
+    name: "Unknown table",
+    parts: &[Part::Fields(&HEADER)],
+    structures: &[],
+};

@@ -1,42 +1,80 @@
 //! The form of a table, by its signature.
 
-use crate::fixed::{BERT, FACS, FADT, SPCR, TCPA, TPM2};
+ghost use Rattle.std.specs.Prelude.{◌≡◌};
+ghost use Rattle.acpi_base.specs.Walk.{named};
+ghost use Rattle.acpi_forms.specs.Named.{find_form, names_of, rsdp_names, facs_names, IsNamed};
+
+use crate::fixed::{BERT, DSDT, FACS, FADT, RSDP, SPCR, SSDT, TCPA, TPM2, UNKNOWN};
 use crate::hest::{HEST, RQSC};
 use crate::lists::{CEDT, MADT, MCFG, SRAT, XSDT};
 use crate::matrices::{HMAT, SLIT};
 use crate::nodes::{PPTT, RHCT, RIMT, VIOT};
-use acpi_base::header::HEADER;
-use acpi_text::form::{Part, TableForm};
+use acpi_text::form::TableForm;
 
-/// The form of a table with another signature: its header.
-pub const UNKNOWN: TableForm = TableForm {
-    name: "Unknown table",
-    parts: &[Part::Fields(&HEADER)],
-    structures: &[],
-};
+// The forms of tables, by their signatures.
+#[rattlefmt::skip]
+const FORMS: [([u8; 4], TableForm); 21] = [
+    (*b"XSDT", XSDT),
+    (*b"FACP", FADT),
+    (*b"FACS", FACS),
+    (*b"DSDT", DSDT),
+    (*b"SSDT", SSDT),
+    (*b"BERT", BERT),
+    (*b"SPCR", SPCR),
+    (*b"TCPA", TCPA),
+    (*b"TPM2", TPM2),
+    (*b"MCFG", MCFG),
+    (*b"APIC", MADT),
+    (*b"SRAT", SRAT),
+    (*b"CEDT", CEDT),
+    (*b"HEST", HEST),
+    (*b"RQSC", RQSC),
+    (*b"PPTT", PPTT),
+    (*b"RHCT", RHCT),
+    (*b"VIOT", VIOT),
+    (*b"RIMT", RIMT),
+    (*b"HMAT", HMAT),
+    (*b"SLIT", SLIT),
+];
 
-/// Returns the form of tables with a signature.
-pub fn form_of(signature: [u8; 4]) -> &'static TableForm {
-    match &signature {
-        b"XSDT" => &XSDT,
-        b"FACP" => &FADT,
-        b"FACS" => &FACS,
-        b"BERT" => &BERT,
-        b"SPCR" => &SPCR,
-        b"TCPA" => &TCPA,
-        b"TPM2" => &TPM2,
-        b"MCFG" => &MCFG,
-        b"APIC" => &MADT,
-        b"SRAT" => &SRAT,
-        b"CEDT" => &CEDT,
-        b"HEST" => &HEST,
-        b"RQSC" => &RQSC,
-        b"PPTT" => &PPTT,
-        b"RHCT" => &RHCT,
-        b"VIOT" => &VIOT,
-        b"RIMT" => &RIMT,
-        b"HMAT" => &HMAT,
-        b"SLIT" => &SLIT,
-        _ => &UNKNOWN,
+// A signature as a number, lowest byte first.
+fn number(signature: &[u8; 4]) -> u32
+    ensures { result ≡ named signature.now }
+{
+    u32::from_le_bytes(*signature)
+}
+
+// Returns the form beside a signature, or another form.
+#[tactic(auto, unfolding(crate::specs::Named::find_form))]
+fn find_form(signature: u32, rows: &[([u8; 4], TableForm)], other: TableForm) -> TableForm
+    ensures { result ≡ find_form signature rows.now other }
+{
+    for row in rows {
+        if signature == number(&row.0) {
+            return row.1;
+        }
     }
+    other
+}
+
+/// Returns the form of the tables of a signature, which is given as a number, lowest byte first. A table of another signature
+/// has the form of a table that isn't known: its header.
+pub fn form_of(signature: u32) -> TableForm
+    ensures { IsNamed result (names_of signature) }
+{
+    find_form(signature, &FORMS, UNKNOWN)
+}
+
+/// Returns the form of a Root System Description Pointer (ACPI 6.5, 5.2.5.3), which has no standard header.
+pub fn rsdp_form() -> TableForm
+    ensures { IsNamed result rsdp_names }
+{
+    RSDP
+}
+
+/// Returns the form of a Firmware ACPI Control Structure (ACPI 6.5, 5.2.10), which has no standard header.
+pub fn facs_form() -> TableForm
+    ensures { IsNamed result facs_names }
+{
+    FACS
 }

@@ -7,3 +7,4 @@ pub mod hest;
 pub mod lists;
 pub mod matrices;
 pub mod nodes;
+pub mod show;

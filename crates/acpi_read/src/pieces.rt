@@ -149,8 +149,8 @@ pub fn kind_of(table: &Table) -> Place
     }
 }
 
-// A table's signature as a number.
-pub(crate) fn signature_number(table: &Table) -> u32
+/// Returns a table's signature as a number, lowest byte first.
+pub fn signature_number(table: &Table) -> u32
     ensures { result ≡ field_at 0 4 table.now }
 {
     u32::from_le_bytes(table.signature())

@@ -7,3 +7,4 @@ pub mod Shown
 pub mod Parts
 pub mod Pieces
 pub mod Tables
+mod Comments

@@ -1,6 +1,7 @@
 -- What laws say.
 use Rattle.std.specs.Prelude.{◌≡◌, ℕ, ◌+◌, ◌*◌, ◌^◌, ◌<◌, List, [], length, Option}
 use Rattle.acpi_base.specs.Bytes.{AreBytes}
+use Rattle.acpi_text.specs.Comment.{comment}
 use Rattle.acpi_text.specs.Line.{line, title}
 use Rattle.acpi_text.specs.Note.{Note}
 use Rattle.acpi_text.specs.Slot.{Slot, slots_text}
@@ -17,6 +18,10 @@ LinesHaveFields = (depth offset : ℕ) (name : List ℕ) (note : Note) (w n : �
 -- a title has none
 abbrev pub TitlesAreEmpty : Type 0
 TitlesAreEmpty = (depth offset : ℕ) (name : List ℕ) → offset < 2 ^ 64 → Has (title depth offset name) []
+
+-- a comment has none
+abbrev pub CommentsAreEmpty : Type 0
+CommentsAreEmpty = (text : List ℕ) → Has (comment text) []
 
 -- Whatever the slots are, the lines of bytes have these bytes.
 abbrev pub TextsHaveBytes : Type 0

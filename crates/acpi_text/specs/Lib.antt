@@ -1,3 +1,4 @@
+pub mod Comment
 pub mod Hex
 pub mod Label
 pub mod Note

@@ -1,6 +1,6 @@
 //! Laws of texts, which cost nothing when they run.
 
-ghost use Rattle.acpi_text.specs.Laws.{LinesHaveFields, TitlesAreEmpty, TextsHaveBytes, TablesHaveBytes, TextsTellTables};
+ghost use Rattle.acpi_text.specs.Laws.{LinesHaveFields, TitlesAreEmpty, CommentsAreEmpty, TextsHaveBytes, TablesHaveBytes, TextsTellTables};
 
 /// A law: a field's line has the field's bytes, whatever lines follow it.
 pub fn lines_have_fields()
@@ -10,6 +10,11 @@ pub fn lines_have_fields()
 /// A law: a title's line has no bytes.
 pub fn titles_are_empty()
     ensures { TitlesAreEmpty }
+{}
+
+/// A law: a comment has no bytes.
+pub fn comments_are_empty()
+    ensures { CommentsAreEmpty }
 {}
 
 /// A law: the text of bytes has these bytes, whichever names it gives them.

@@ -2,6 +2,7 @@
 
 #![tactic(auto)]
 
+pub mod comment;
 pub mod form;
 mod hex;
 pub mod laws;

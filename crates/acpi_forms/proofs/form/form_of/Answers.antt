@@ -1,0 +1,6 @@
+use Rattle.std.proofs.Common.{refl}
+use Rattle.acpi_forms.proofs.Named.{form_is_named}
+use Rattle.acpi_forms.proofs.form.form_of.Goals as goal
+
+pub returns : goal.returns
+returns c = form_is_named c.args.signature _ _ c.find_form.result c.find_form.ensures (refl, refl) refl

@@ -1,0 +1,64 @@
+//! The texts of tables and records, by the forms of their signatures.
+
+ghost use Rattle.std.specs.Prelude.{◌≡◌, None, IfOk, IfErr, string_bytes};
+ghost use Rattle.acpi_base.specs.Bytes.{field_at};
+ghost use Rattle.acpi_base.specs.Walk.{walk_of};
+ghost use Rattle.acpi_base.specs.declared.error.Error.TheVariants.{Memory};
+ghost use Rattle.acpi_forms.specs.Named.{names_of, rsdp_names, facs_names};
+ghost use Rattle.acpi_forms.specs.Shows.{IsTextOf};
+ghost use Rattle.acpi_text.specs.Reading.{bytes_of};
+ghost use Rattle.acpi_text.specs.Table.{table_text};
+
+use crate::form::{facs_form, form_of, rsdp_form};
+use acpi_base::error::R;
+use acpi_base::walk::{Walk, walk_of};
+use acpi_read::pieces::signature_number;
+use acpi_read::table::Table;
+use acpi_text::form::TableForm;
+use acpi_text::table::show_by;
+use std::alloc::Global;
+
+// Returns the text of bytes by a form.
+fn text_by(alloc: Global, form: &TableForm, walk: Option<Walk>, bytes: &[u8]) -> R<String>
+    ensures text { IfOk result (λ text. string_bytes text ≡ table_text form.now walk bytes.now) }
+    ensures bytes { IfOk result (λ text. bytes_of (string_bytes text) ≡ bytes.now) }
+    ensures err { IfErr result (λ e. e ≡ Memory) }
+{
+    Ok(show_by(alloc, form, walk, bytes)?)
+}
+
+/// Returns the text of a table: its name, a line for each field and each structure, and all other bytes in lines of sixteen.
+/// The text determines the table. The only error is Memory.
+pub fn show(alloc: Global, table: &Table) -> R<String>
+    ensures text { IfOk result (λ text. IsTextOf (names_of (field_at 0 4 table.now)) (walk_of (field_at 0 4 table.now))
+        table.now (string_bytes text)) }
+    ensures bytes { IfOk result (λ text. bytes_of (string_bytes text) ≡ table.now) }
+    ensures err { IfErr result (λ e. e ≡ Memory) }
+{
+    let signature = signature_number(table);
+    text_by(
+        alloc,
+        &form_of(signature),
+        walk_of(signature),
+        table.bytes(),
+    )
+}
+
+/// Returns the text of a Root System Description Pointer (ACPI 6.5, 5.2.5.3): its 36 bytes, or the first 20 of an older revision.
+/// The only error is Memory.
+pub fn show_rsdp(alloc: Global, bytes: &[u8]) -> R<String>
+    ensures text { IfOk result (λ text. IsTextOf rsdp_names None bytes.now (string_bytes text)) }
+    ensures bytes { IfOk result (λ text. bytes_of (string_bytes text) ≡ bytes.now) }
+    ensures err { IfErr result (λ e. e ≡ Memory) }
+{
+    text_by(alloc, &rsdp_form(), None, bytes)
+}
+
+/// Returns the text of a Firmware ACPI Control Structure (ACPI 6.5, 5.2.10). The only error is Memory.
+pub fn show_facs(alloc: Global, bytes: &[u8]) -> R<String>
+    ensures text { IfOk result (λ text. IsTextOf facs_names None bytes.now (string_bytes text)) }
+    ensures bytes { IfOk result (λ text. bytes_of (string_bytes text) ≡ bytes.now) }
+    ensures err { IfErr result (λ e. e ≡ Memory) }
+{
+    text_by(alloc, &facs_form(), None, bytes)
+}
