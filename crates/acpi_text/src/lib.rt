@@ -4,11 +4,13 @@
 
 pub mod form;
 mod hex;
+mod inner;
 pub mod laws;
 mod line;
 mod note;
 mod part;
 mod piece;
+mod size;
 mod slot;
 mod space;
 pub mod table;
