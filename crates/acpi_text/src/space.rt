@@ -53,6 +53,7 @@ pub fn push_label(name: &str, text: &mut String) -> Result<(), AllocError>
 }
 
 /// Adds the offset and the name of a line.
+#[inline(always)]
 pub fn push_margin(
     depth: u8,
     offset: usize,
@@ -68,6 +69,7 @@ pub fn push_margin(
 }
 
 /// Adds the offset and the name of a line, spaces up to the column of the colon, and the colon.
+#[inline(always)]
 pub fn push_padded(
     depth: u8,
     offset: usize,
