@@ -1,7 +1,7 @@
 -- The names of tables and of their structures.
 use Rattle.std.specs.Prelude.{◌≡◌, ℕ, ◌==◌, List, [], ◌∷◌, map, codes, if◌then◌else◌}
 use Rattle.acpi_base.specs.Walk.{named}
-use Rattle.acpi_text.specs.declared.form.Form.{Form}
+use Rattle.acpi_text.specs.declared.form.StructureForm.{StructureForm}
 use Rattle.acpi_text.specs.declared.form.TableForm.{TableForm}
 
 -- a table's signature, its name, and the types of its structures with their names
@@ -11,7 +11,7 @@ pub record Named : Type 0 where
   pub kinds : List (ℕ × List ℕ)
 
 -- the types and the names of forms of structures
-abbrev pub kinds : List Form → List (ℕ × List ℕ)
+abbrev pub kinds : List StructureForm → List (ℕ × List ℕ)
 kinds forms = map (λ form. (form.number, form.name.now)) forms
 
 -- a form has this name, and its structures have theirs

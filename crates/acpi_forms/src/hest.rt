@@ -2,30 +2,37 @@
 
 use acpi_base::header::HEADER;
 use acpi_base::row::Row;
+use acpi_base::walk::{Place, Sizes};
 use acpi_hest::hest::{
     ACKNOWLEDGED, AER, AER_BRIDGE, AER_DEVICE, AER_ROOT_PORT, GENERIC, NOTIFICATION,
 };
 use acpi_hest::rqsc::CONTROLLER;
-use acpi_text::form::{Form, Part, TableForm};
+use acpi_hest::rqsc::resource::{
+    ACPI_DEVICE_RESOURCE, CACHE_RESOURCE, MEMORY_RESOURCE, PCI_DEVICE_RESOURCE, RESOURCE,
+};
+use acpi_text::form::{Choice, Inner, Part, StructureForm, TableForm};
 
 // The notification structure is a field of a generic source, after nine others.
-const SOURCES: [Form; 5] = [
-    Form {
+const SOURCES: [StructureForm; 5] = [
+    StructureForm {
         number: 6,
         name: "PCI Express Root Port AER Structure",
         parts: &[Part::Fields(&AER), Part::Fields(&AER_ROOT_PORT)],
+        inner: &Inner::Nothing,
     },
-    Form {
+    StructureForm {
         number: 7,
         name: "PCI Express Device AER Structure",
         parts: &[Part::Fields(&AER), Part::Fields(&AER_DEVICE)],
+        inner: &Inner::Nothing,
     },
-    Form {
+    StructureForm {
         number: 8,
         name: "PCI Express/PCI-X Bridge AER Structure",
         parts: &[Part::Fields(&AER), Part::Fields(&AER_BRIDGE)],
+        inner: &Inner::Nothing,
     },
-    Form {
+    StructureForm {
         number: 9,
         name: "Generic Hardware Error Source Structure",
         parts: &[
@@ -33,8 +40,9 @@ const SOURCES: [Form; 5] = [
             Part::Group("Notification Structure", &NOTIFICATION),
             Part::Between(&GENERIC, 10, 11),
         ],
+        inner: &Inner::Nothing,
     },
-    Form {
+    StructureForm {
         number: 10,
         name: "Generic Hardware Error Source version 2 Structure",
         parts: &[
@@ -43,6 +51,7 @@ const SOURCES: [Form; 5] = [
             Part::Between(&GENERIC, 10, 11),
             Part::Fields(&ACKNOWLEDGED),
         ],
+        inner: &Inner::Nothing,
     },
 ];
 
@@ -56,16 +65,55 @@ pub const HEST: TableForm = TableForm {
     structures: &SOURCES,
 };
 
-const CONTROLLERS: [Form; 2] = [
-    Form {
+// A resource by its identifier type (offset 7).
+const RESOURCE_IDS: [Choice; 4] = [
+    Choice {
+        number: 0,
+        name: "Cache Resource",
+        rows: &CACHE_RESOURCE,
+    },
+    Choice {
+        number: 1,
+        name: "Memory Affinity Structure Resource",
+        rows: &MEMORY_RESOURCE,
+    },
+    Choice {
+        number: 2,
+        name: "ACPI Device Resource",
+        rows: &ACPI_DEVICE_RESOURCE,
+    },
+    Choice {
+        number: 3,
+        name: "PCI Device Resource",
+        rows: &PCI_DEVICE_RESOURCE,
+    },
+];
+
+const RESOURCE_PARTS: [Part; 2] = [
+    Part::Fields(&RESOURCE),
+    Part::Chosen(Place::Byte(7), &RESOURCE_IDS),
+];
+
+// The resources of a controller. Each contains its length.
+const RESOURCES: Inner = Inner::Structures(
+    28,
+    "Resource Structure",
+    Sizes::ToldAt(Place::Word(2)),
+    &RESOURCE_PARTS,
+);
+
+const CONTROLLERS: [StructureForm; 2] = [
+    StructureForm {
         number: 0,
         name: "Capacity QoS Controller",
         parts: &[Part::Fields(&CONTROLLER)],
+        inner: &RESOURCES,
     },
-    Form {
+    StructureForm {
         number: 1,
         name: "Bandwidth QoS Controller",
         parts: &[Part::Fields(&CONTROLLER)],
+        inner: &RESOURCES,
     },
 ];
 

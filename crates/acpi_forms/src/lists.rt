@@ -13,16 +13,17 @@ use acpi_lists::srat::{
     ACPI_HANDLE, GENERIC_INITIATOR, MEMORY_AFFINITY, PCI_HANDLE, RINTC_AFFINITY,
 };
 use acpi_lists::xsdt::XSDT_ENTRY;
-use acpi_text::form::{Choice, Count, Form, Part, TableForm};
+use acpi_text::form::{Choice, Count, Inner, Part, StructureForm, TableForm};
 
 /// The Extended System Description Table (ACPI 6.5, 5.2.8).
 pub const XSDT: TableForm = TableForm {
     name: "Extended System Description Table (XSDT)",
     parts: &[Part::Fields(&HEADER)],
-    structures: &[Form {
+    structures: &[StructureForm {
         number: 0,
         name: "Entry",
         parts: &[Part::Fields(&XSDT_ENTRY)],
+        inner: &Inner::Nothing,
     }],
 };
 
@@ -30,68 +31,80 @@ pub const XSDT: TableForm = TableForm {
 pub const MCFG: TableForm = TableForm {
     name: "PCI Express Memory Mapped Configuration Table (MCFG)",
     parts: &[Part::Fields(&HEADER), Part::Fields(&[Row::Reserved(8)])],
-    structures: &[Form {
+    structures: &[StructureForm {
         number: 0,
         name: "Configuration Space Base Address Allocation Structure",
         parts: &[Part::Fields(&ECAM)],
+        inner: &Inner::Nothing,
     }],
 };
 
-const MADT_STRUCTURES: [Form; 11] = [
-    Form {
+const MADT_STRUCTURES: [StructureForm; 11] = [
+    StructureForm {
         number: 0,
         name: "Processor Local APIC Structure",
         parts: &[Part::Fields(&PROCESSOR_LOCAL_APIC)],
+        inner: &Inner::Nothing,
     },
-    Form {
+    StructureForm {
         number: 1,
         name: "I/O APIC Structure",
         parts: &[Part::Fields(&IO_APIC)],
+        inner: &Inner::Nothing,
     },
-    Form {
+    StructureForm {
         number: 11,
         name: "GIC CPU Interface (GICC) Structure",
         parts: &[Part::Fields(&GICC)],
+        inner: &Inner::Nothing,
     },
-    Form {
+    StructureForm {
         number: 12,
         name: "GIC Distributor (GICD) Structure",
         parts: &[Part::Fields(&GICD)],
+        inner: &Inner::Nothing,
     },
-    Form {
+    StructureForm {
         number: 13,
         name: "GIC MSI Frame Structure",
         parts: &[Part::Fields(&GIC_MSI)],
+        inner: &Inner::Nothing,
     },
-    Form {
+    StructureForm {
         number: 14,
         name: "GIC Redistributor (GICR) Structure",
         parts: &[Part::Fields(&GICR)],
+        inner: &Inner::Nothing,
     },
-    Form {
+    StructureForm {
         number: 15,
         name: "GIC Interrupt Translation Service (ITS) Structure",
         parts: &[Part::Fields(&GIC_ITS)],
+        inner: &Inner::Nothing,
     },
-    Form {
+    StructureForm {
         number: 24,
         name: "RISC-V INTC Structure",
         parts: &[Part::Fields(&RINTC_ROWS)],
+        inner: &Inner::Nothing,
     },
-    Form {
+    StructureForm {
         number: 25,
         name: "RISC-V IMSIC Structure",
         parts: &[Part::Fields(&IMSIC_ROWS)],
+        inner: &Inner::Nothing,
     },
-    Form {
+    StructureForm {
         number: 26,
         name: "RISC-V APLIC Structure",
         parts: &[Part::Fields(&APLIC_ROWS)],
+        inner: &Inner::Nothing,
     },
-    Form {
+    StructureForm {
         number: 27,
         name: "RISC-V PLIC Structure",
         parts: &[Part::Fields(&PLIC_ROWS)],
+        inner: &Inner::Nothing,
     },
 ];
 
@@ -116,13 +129,14 @@ const HANDLES: [Choice; 2] = [
     },
 ];
 
-const SRAT_STRUCTURES: [Form; 3] = [
-    Form {
+const SRAT_STRUCTURES: [StructureForm; 3] = [
+    StructureForm {
         number: 1,
         name: "Memory Affinity Structure",
         parts: &[Part::Fields(&MEMORY_AFFINITY)],
+        inner: &Inner::Nothing,
     },
-    Form {
+    StructureForm {
         number: 5,
         name: "Generic Initiator Affinity Structure",
         parts: &[
@@ -130,11 +144,13 @@ const SRAT_STRUCTURES: [Form; 3] = [
             Part::Chosen(Place::Byte(3), &HANDLES),
             Part::Between(&GENERIC_INITIATOR, 6, 8),
         ],
+        inner: &Inner::Nothing,
     },
-    Form {
+    StructureForm {
         number: 7,
         name: "RINTC Affinity Structure",
         parts: &[Part::Fields(&RINTC_AFFINITY)],
+        inner: &Inner::Nothing,
     },
 ];
 
@@ -148,32 +164,36 @@ pub const SRAT: TableForm = TableForm {
     structures: &SRAT_STRUCTURES,
 };
 
-const CEDT_STRUCTURES: [Form; 4] = [
-    Form {
+const CEDT_STRUCTURES: [StructureForm; 4] = [
+    StructureForm {
         number: 0,
         name: "CXL Host Bridge Structure (CHBS)",
         parts: &[Part::Fields(&CXL_HOST_BRIDGE)],
+        inner: &Inner::Nothing,
     },
-    Form {
+    StructureForm {
         number: 1,
         name: "CXL Fixed Memory Window Structure (CFMWS)",
         parts: &[
             Part::Fields(&FIXED_MEMORY),
             Part::Numbers("Interleave Target", 4, Count::Rest),
         ],
+        inner: &Inner::Nothing,
     },
-    Form {
+    StructureForm {
         number: 2,
         name: "CXL XOR Interleave Math Structure (CXIMS)",
         parts: &[
             Part::Fields(&XOR_MAPS),
-            Part::Numbers("XOR Map", 8, Count::Told(Place::Byte(7))),
+            Part::Numbers("XOR Map", 8, Count::Field(Place::Byte(7))),
         ],
+        inner: &Inner::Nothing,
     },
-    Form {
+    StructureForm {
         number: 3,
         name: "RCEC Downstream Port Association Structure (RDPAS)",
         parts: &[Part::Fields(&PORT_ASSOCIATION)],
+        inner: &Inner::Nothing,
     },
 ];
 

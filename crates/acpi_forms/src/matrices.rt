@@ -5,15 +5,16 @@ use acpi_base::row::Row;
 use acpi_base::walk::Place;
 use acpi_matrices::hmat::{MEMORY_PROXIMITY_DOMAIN, SIDE_CACHE, SYSTEM_LOCALITY};
 use acpi_matrices::slit::SLIT_FIXED;
-use acpi_text::form::{Count, Form, Part, TableForm};
+use acpi_text::form::{Count, Inner, Part, StructureForm, TableForm};
 
-const HMAT_STRUCTURES: [Form; 3] = [
-    Form {
+const HMAT_STRUCTURES: [StructureForm; 3] = [
+    StructureForm {
         number: 0,
         name: "Memory Proximity Domain Attributes Structure",
         parts: &[Part::Fields(&MEMORY_PROXIMITY_DOMAIN)],
+        inner: &Inner::Nothing,
     },
-    Form {
+    StructureForm {
         number: 1,
         name: "System Locality Latency and Bandwidth Information Structure",
         parts: &[
@@ -21,9 +22,9 @@ const HMAT_STRUCTURES: [Form; 3] = [
             Part::Numbers(
                 "Initiator Proximity Domain",
                 4,
-                Count::Told(Place::DWord(12)),
+                Count::Field(Place::DWord(12)),
             ),
-            Part::Numbers("Target Proximity Domain", 4, Count::Told(Place::DWord(16))),
+            Part::Numbers("Target Proximity Domain", 4, Count::Field(Place::DWord(16))),
             Part::Matrix(
                 "Entries of an Initiator",
                 2,
@@ -31,14 +32,16 @@ const HMAT_STRUCTURES: [Form; 3] = [
                 Place::DWord(16),
             ),
         ],
+        inner: &Inner::Nothing,
     },
-    Form {
+    StructureForm {
         number: 2,
         name: "Memory Side Cache Information Structure",
         parts: &[
             Part::Fields(&SIDE_CACHE),
-            Part::Numbers("SMBIOS Handle", 2, Count::Told(Place::Word(30))),
+            Part::Numbers("SMBIOS Handle", 2, Count::Field(Place::Word(30))),
         ],
+        inner: &Inner::Nothing,
     },
 ];
 

@@ -7,21 +7,23 @@ use acpi_nodes::pptt::{CACHE_NODE, PROCESSOR_NODE};
 use acpi_nodes::rhct::{CMO, HART_INFO, ISA_STRING, MMU, RHCT_FIXED};
 use acpi_nodes::rimt::{ID_MAPPING, INTERRUPT_WIRE, IOMMU, PLATFORM, ROOT_COMPLEX};
 use acpi_nodes::viot::{MMIO_ENDPOINT, PCI_RANGE, VIRTIO_MMIO_IOMMU, VIRTIO_PCI_IOMMU};
-use acpi_text::form::{Count, Form, Part, TableForm};
+use acpi_text::form::{Count, Inner, Part, StructureForm, TableForm};
 
-const PPTT_NODES: [Form; 2] = [
-    Form {
+const PPTT_NODES: [StructureForm; 2] = [
+    StructureForm {
         number: 0,
         name: "Processor Hierarchy Node Structure",
         parts: &[
             Part::Fields(&PROCESSOR_NODE),
-            Part::Numbers("Private Resource", 4, Count::Told(Place::DWord(16))),
+            Part::Numbers("Private Resource", 4, Count::Field(Place::DWord(16))),
         ],
+        inner: &Inner::Nothing,
     },
-    Form {
+    StructureForm {
         number: 1,
         name: "Cache Type Structure",
         parts: &[Part::Fields(&CACHE_NODE)],
+        inner: &Inner::Nothing,
     },
 ];
 
@@ -32,32 +34,36 @@ pub const PPTT: TableForm = TableForm {
     structures: &PPTT_NODES,
 };
 
-const RHCT_NODES: [Form; 4] = [
-    Form {
+const RHCT_NODES: [StructureForm; 4] = [
+    StructureForm {
         number: 0,
         name: "ISA String Node",
         parts: &[
             Part::Fields(&ISA_STRING),
             Part::Bytes("ISA String", Place::Word(6)),
         ],
+        inner: &Inner::Nothing,
     },
-    Form {
+    StructureForm {
         number: 1,
         name: "CMO Extension Node",
         parts: &[Part::Fields(&CMO)],
+        inner: &Inner::Nothing,
     },
-    Form {
+    StructureForm {
         number: 2,
         name: "MMU Node",
         parts: &[Part::Fields(&MMU)],
+        inner: &Inner::Nothing,
     },
-    Form {
+    StructureForm {
         number: 65535,
         name: "Hart Info Node",
         parts: &[
             Part::Fields(&HART_INFO),
-            Part::Numbers("Offset", 4, Count::Told(Place::Word(6))),
+            Part::Numbers("Offset", 4, Count::Field(Place::Word(6))),
         ],
+        inner: &Inner::Nothing,
     },
 ];
 
@@ -75,26 +81,30 @@ pub const RHCT: TableForm = TableForm {
     structures: &RHCT_NODES,
 };
 
-const VIOT_NODES: [Form; 4] = [
-    Form {
+const VIOT_NODES: [StructureForm; 4] = [
+    StructureForm {
         number: 1,
         name: "PCI Range Node",
         parts: &[Part::Fields(&PCI_RANGE)],
+        inner: &Inner::Nothing,
     },
-    Form {
+    StructureForm {
         number: 2,
         name: "Single MMIO Endpoint Node",
         parts: &[Part::Fields(&MMIO_ENDPOINT)],
+        inner: &Inner::Nothing,
     },
-    Form {
+    StructureForm {
         number: 3,
         name: "virtio-iommu based on virtio-pci Node",
         parts: &[Part::Fields(&VIRTIO_PCI_IOMMU)],
+        inner: &Inner::Nothing,
     },
-    Form {
+    StructureForm {
         number: 4,
         name: "virtio-iommu based on virtio-mmio Node",
         parts: &[Part::Fields(&VIRTIO_MMIO_IOMMU)],
+        inner: &Inner::Nothing,
     },
 ];
 
@@ -112,8 +122,8 @@ pub const VIOT: TableForm = TableForm {
     structures: &VIOT_NODES,
 };
 
-const RIMT_DEVICES: [Form; 3] = [
-    Form {
+const RIMT_DEVICES: [StructureForm; 3] = [
+    StructureForm {
         number: 0,
         name: "RISC-V IOMMU",
         parts: &[
@@ -121,28 +131,31 @@ const RIMT_DEVICES: [Form; 3] = [
             Part::Until("Before the Interrupt Wires", Place::Word(30)),
             Part::Entries(
                 "Interrupt Wire",
-                Count::Told(Place::Word(28)),
+                Count::Field(Place::Word(28)),
                 &INTERRUPT_WIRE,
             ),
         ],
+        inner: &Inner::Nothing,
     },
-    Form {
+    StructureForm {
         number: 1,
         name: "PCIe Root Complex",
         parts: &[
             Part::Fields(&ROOT_COMPLEX),
             Part::Until("Before the Mappings", Place::Word(12)),
-            Part::Entries("ID Mapping", Count::Told(Place::Word(14)), &ID_MAPPING),
+            Part::Entries("ID Mapping", Count::Field(Place::Word(14)), &ID_MAPPING),
         ],
+        inner: &Inner::Nothing,
     },
-    Form {
+    StructureForm {
         number: 2,
         name: "Platform Device",
         parts: &[
             Part::Fields(&PLATFORM),
             Part::Until("Device Object Name", Place::Word(8)),
-            Part::Entries("ID Mapping", Count::Told(Place::Word(10)), &ID_MAPPING),
+            Part::Entries("ID Mapping", Count::Field(Place::Word(10)), &ID_MAPPING),
         ],
+        inner: &Inner::Nothing,
     },
 ];
 

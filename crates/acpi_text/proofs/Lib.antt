@@ -1,4 +1,5 @@
 pub mod Numbers
+pub mod Digits
 pub mod Reading
 pub mod Lines
 pub mod Spaces

@@ -60,10 +60,10 @@ margin_read : (depth offset : ℕ) (name text : List ℕ) → offset < 2 ^ 64
     → read at_start (margin depth offset name ++ text) ≡ read in_name text
 margin_read depth offset name text small =
     let blank = spaces (2 * depth + 2) in
-    let told = decimal offset ++ 32 ∷ label name in
-    ap (read at_start) (append_assoc blank told text)
-    ∙ spaces_start (2 * depth + 2) (told ++ text) (omega arith)
-    ∙ ap (read in_name) (sym (append_assoc blank told text))
+    let named = decimal offset ++ 32 ∷ label name in
+    ap (read at_start) (append_assoc blank named text)
+    ∙ spaces_start (2 * depth + 2) (named ++ text) (omega arith)
+    ∙ ap (read in_name) (sym (append_assoc blank named text))
     ∙ name_read (margin depth offset name) text (quiet_margin depth offset name small)
 
 -- ---- what stands after the numbers

@@ -1,6 +1,6 @@
 -- What calls show, one after another.
 use Rattle.std.proofs.Common.{◌≡◌, ℕ, zero, suc, ◌+◌, ◌-◌, ◌*◌, ◌<◌, ◌≤◌, ◌==◌, nat_lt, nat_le, Bool, true, false, cond}
-use Rattle.std.proofs.Common.{List, [], ◌∷◌, ◌++◌, length, take, drop, map, get_or, refl, sym, ap, subst, ◌∙◌, append_assoc, arith, inl, inr}
+use Rattle.std.proofs.Common.{List, [], ◌∷◌, ◌++◌, length, take, drop, get_or, refl, sym, ap, subst, ◌∙◌, append_assoc, arith, inl, inr}
 use Rattle.std.proofs.lemmas.List.{append-nil, length-drop, drop-drop, nil_from_length, take_more, take_all}
 use Rattle.std.specs.List.{flat_map}
 use Rattle.std.proofs.lemmas.Grind.{flat_map-append}
@@ -25,7 +25,7 @@ none_shown at [] = refl
 none_shown at (unknown ∷ slots) = refl
 none_shown at (heading depth name ∷ slots) = refl
 none_shown at (field depth name note w n ∷ slots) = refl
-none_shown at (upto name end ∷ slots) = none_chosen (nat_le end at) (slots_text at slots []) (none_shown at slots)
+none_shown at (upto depth name end ∷ slots) = none_chosen (nat_le end at) (slots_text at slots []) (none_shown at slots)
 
 nothing_left : (at k : ℕ) (slots others : List Slot) (bytes rest : List ℕ) → length bytes ≡ 0 → length rest ≡ 0
     → slots_text at slots bytes ≡ slots_text k others rest
@@ -114,22 +114,22 @@ showed_unknown at bytes old new added = record {
 }
 
 -- where the end was reached before, nothing is shown
-pub showed_nothing : (name : List ℕ) (end at : ℕ) (bytes text : List ℕ) → end ≤ at → Showed (upto name end ∷ []) at bytes text text 0
-showed_nothing name end at bytes text before = record {
+pub showed_nothing : (depth : ℕ) (name : List ℕ) (end at : ℕ) (bytes text : List ℕ) → end ≤ at → Showed (upto depth name end ∷ []) at bytes text text 0
+showed_nothing depth name end at bytes text before = record {
   within = omega arith;
   lines = λ more.
-      let field_lines = slots_text at (field 0 name plain 1 (end - at) ∷ more) bytes in
+      let field_lines = slots_text at (field depth name plain 1 (end - at) ∷ more) bytes in
       ap (λ b. text ++ cond b (slots_text at more bytes) field_lines) (le-leb end at before)
       ∙ ap (λ k. text ++ slots_text k more bytes) (let e : at ≡ at + 0 = omega arith in e);
 }
 
 -- the bytes before the end were shown
-pub showed_upto : (name : List ℕ) (end at : ℕ) (bytes old new : List ℕ) (n : ℕ) → at < end
-    → Showed (field 0 name plain 1 (end - at) ∷ []) at bytes old new n → Showed (upto name end ∷ []) at bytes old new n
-showed_upto name end at bytes old new n after one = record {
+pub showed_upto : (depth : ℕ) (name : List ℕ) (end at : ℕ) (bytes old new : List ℕ) (n : ℕ) → at < end
+    → Showed (field depth name plain 1 (end - at) ∷ []) at bytes old new n → Showed (upto depth name end ∷ []) at bytes old new n
+showed_upto depth name end at bytes old new n after one = record {
   within = one.within;
   lines = λ more.
-      let field_lines = slots_text at (field 0 name plain 1 (end - at) ∷ more) bytes in
+      let field_lines = slots_text at (field depth name plain 1 (end - at) ∷ more) bytes in
       ap (λ b. old ++ cond b (slots_text at more bytes) field_lines) (lt-leb end at after)
       ∙ one.lines more;
 }

@@ -81,10 +81,10 @@ slots_have at (heading depth name ∷ slots) bytes are small =
     (title_has depth at name (omega (arith, small))) (slots_have at slots bytes are small))
 slots_have at (field depth name note w n ∷ slots) bytes are small =
     field_has (λ k rest. slots_text k slots rest) at depth name note w n bytes are small (λ k rest each fits. slots_have k slots rest each fits)
-slots_have at (upto name end ∷ slots) bytes are small =
+slots_have at (upto depth name end ∷ slots) bytes are small =
     has_chosen (nat_le end at) _ _ bytes
     (λ before. slots_have at slots bytes are small)
-    (λ after. field_has (λ k rest. slots_text k slots rest) at 0 name plain 1 (end - at) bytes are small
+    (λ after. field_has (λ k rest. slots_text k slots rest) at depth name plain 1 (end - at) bytes are small
     (λ k rest each fits. slots_have k slots rest each fits))
 
 -- ---- lines that are written

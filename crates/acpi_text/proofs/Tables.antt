@@ -12,16 +12,22 @@ use Rattle.acpi_base.specs.declared.walk.Place.TheVariants.{Nowhere, Byte, Word,
 use Rattle.acpi_base.specs.declared.walk.Sizes.{Sizes}
 use Rattle.acpi_base.specs.declared.walk.Walk.{Walk}
 use Rattle.acpi_base.proofs.Bytes.{bytes_take, bytes_drop}
-use Rattle.acpi_text.specs.declared.form.Form.{Form}
+use Rattle.acpi_text.specs.declared.form.Inner.{Inner}
+use Rattle.acpi_text.specs.declared.form.Inner.TheVariants.{Nothing, Structures}
+use Rattle.acpi_text.specs.declared.form.Part.{Part}
+use Rattle.acpi_text.specs.declared.form.StructureForm.{StructureForm}
 use Rattle.acpi_text.specs.declared.form.TableForm.{TableForm}
-use Rattle.acpi_text.specs.Form.{told, parts_slots}
-use Rattle.acpi_text.specs.Laws.{TablesHaveBytes, TextsTellTables}
+use Rattle.acpi_text.specs.Form.{number_at, parts_slots}
+use Rattle.acpi_text.specs.Laws.{TablesHaveBytes, TextsDetermineTables}
 use Rattle.acpi_text.specs.Label.{label}
-use Rattle.acpi_text.specs.Piece.{find_form, form_name, form_parts, front_size, kind_text, piece_line, piece_text, piece_and, pieces_up_to, pieces_text}
+use Rattle.acpi_text.specs.Line.{title}
+use Rattle.acpi_text.specs.Piece.{piece_and, pieces_up_to, pieces_text, parts_and_pieces}
+use Rattle.acpi_text.specs.Size.{front_size}
+use Rattle.acpi_text.specs.Structure.{find_form, form_name, form_parts, form_inner, inner_text, content_text, kind_text, piece_line, piece_text}
 use Rattle.acpi_text.specs.Reading.{Has, at_start, in_name, in_comment, read}
 use Rattle.acpi_text.specs.Slot.{slots_text}
 use Rattle.acpi_text.specs.Table.{start_of, body_text}
-use Rattle.acpi_text.proofs.Lines.{quiet_decimal, quiet_label, quiet_is_one_line}
+use Rattle.acpi_text.proofs.Lines.{title_has, quiet_decimal, quiet_label, quiet_is_one_line}
 use Rattle.acpi_text.proofs.Numbers.{narrow_carried}
 use Rattle.acpi_text.proofs.Pieces.{front_within}
 use Rattle.acpi_text.proofs.Reading.{Quiet, quiet_append, name_read, comment_read}
@@ -29,7 +35,7 @@ use Rattle.acpi_text.proofs.Slots.{has_append, has_parts, slots_have, all_namele
 
 -- ---- lines without bytes
 
--- a line that has no colon has no bytes, whatever it begins with
+-- a line that has no colon has no bytes, for any first character
 quiet_line_read : (text more : List ℕ) → Quiet text → read at_start (text ++ (10 ∷ more)) ≡ read at_start more
 quiet_line_read [] more quiet = refl
 quiet_line_read (c ∷ text) more quiet = chosen (c == 32)
@@ -69,8 +75,8 @@ narrow_place (Byte offset) = omega arith
 narrow_place (Word offset) = omega arith
 narrow_place (DWord offset) = omega arith
 
-told_small : (place : Place) (whole : List ℕ) → AreBytes whole → told place whole < 2 ^ 64
-told_small place whole are = chosen (nat_le (end_of place) (length whole))
+number_small : (place : Place) (whole : List ℕ) → AreBytes whole → number_at place whole < 2 ^ 64
+number_small place whole are = chosen (nat_le (end_of place) (length whole))
   where
     field : List ℕ
     field = take (place_width place) (drop (place_offset place) whole)
@@ -83,23 +89,23 @@ told_small place whole are = chosen (nat_le (end_of place) (length whole))
 quiet_kind : (kind : Place) (piece : List ℕ) → AreBytes piece → Quiet (kind_text kind piece)
 quiet_kind kind piece are = chosen (place_width kind == 0)
   where
-    chosen : (b : Bool) → Quiet (cond b (codes " entry") (codes " type " ++ decimal (told kind piece)))
+    chosen : (b : Bool) → Quiet (cond b (codes " entry") (codes " type " ++ decimal (number_at kind piece)))
     chosen true = quiet_text (codes " entry") refl
-    chosen false = quiet_append (codes " type ") (decimal (told kind piece)) (quiet_text (codes " type ") refl)
-        (quiet_decimal (told kind piece) (told_small kind piece are))
+    chosen false = quiet_append (codes " type ") (decimal (number_at kind piece)) (quiet_text (codes " type ") refl)
+        (quiet_decimal (number_at kind piece) (number_small kind piece are))
 
-quiet_name : (form : Option Form) → Quiet (form_name form)
+quiet_name : (form : Option StructureForm) → Quiet (form_name form)
 quiet_name (Some form) = (refl, refl, quiet_label form.name.now)
 quiet_name None = tt
 
-piece_line_has : (kind : Place) (form : Option Form) (at : ℕ) (piece : List ℕ) → AreBytes piece → at < 2 ^ 64 → length piece < 2 ^ 64
+piece_line_has : (kind : Place) (form : Option StructureForm) (at : ℕ) (piece : List ℕ) → AreBytes piece → at < 2 ^ 64 → length piece < 2 ^ 64
     → Has (piece_line kind form at piece) []
 piece_line_has kind form at piece are small fits =
     let front = decimal at ++ kind_text kind piece in
     let size = front ++ codes " size " in
-    let told_size = size ++ decimal (length piece) in
-    line_empty (told_size ++ form_name form)
-    (quiet_append told_size (form_name form)
+    let sized = size ++ decimal (length piece) in
+    line_empty (sized ++ form_name form)
+    (quiet_append sized (form_name form)
     (quiet_append size (decimal (length piece))
     (quiet_append front (codes " size ")
     (quiet_append (decimal at) (kind_text kind piece) (quiet_decimal at small) (quiet_kind kind piece are))
@@ -107,43 +113,63 @@ piece_line_has kind form at piece are small fits =
     (quiet_decimal (length piece) fits))
     (quiet_name form))
 
-piece_has : (kind : Place) (forms : List Form) (at : ℕ) (piece : List ℕ) → AreBytes piece → at + length piece < 2 ^ 64
-    → Has (piece_text kind forms at piece) piece
-piece_has kind forms at piece are small =
-    let form = find_form (told kind piece) forms in
-    let slots = parts_slots at piece (form_parts form) in
-    has_append (piece_line kind form at piece) (slots_text at slots piece) [] piece
-    (piece_line_has kind form at piece are (omega (arith, small)) (omega (arith, small)))
-    (slots_have at slots piece are small)
+-- a text of each structure has the structure's bytes
+abbrev pub EachHas : (ℕ → List ℕ → List ℕ) → Type 0
+EachHas shown = (at : ℕ) (piece : List ℕ) → AreBytes piece → 0 < length piece → at + length piece < 2 ^ 64 → Has (shown at piece) piece
 
-module _ (sizes : Sizes) (kind : Place) (forms : List Form) where
+module _ (sizes : Sizes) (shown : ℕ → List ℕ → List ℕ) (each : EachHas shown) where
   front_has : (front : Option ℕ) (n at : ℕ) (bytes : List ℕ) → front_size sizes bytes ≡ front → AreBytes bytes → at + length bytes < 2 ^ 64
-      → ((k : ℕ) (rest : List ℕ) → AreBytes rest → k + length rest < 2 ^ 64 → Has (pieces_up_to n sizes kind forms k rest) rest)
-      → Has (piece_and front (λ k rest. pieces_up_to n sizes kind forms k rest) kind forms at bytes) bytes
+      → ((k : ℕ) (rest : List ℕ) → AreBytes rest → k + length rest < 2 ^ 64 → Has (pieces_up_to n sizes shown k rest) rest)
+      → Has (piece_and front shown (λ k rest. pieces_up_to n sizes shown k rest) at bytes) bytes
   front_has None n at bytes is are small others = all_nameless at bytes are small
   front_has (Some size) n at bytes is are small others =
       let within = front_within sizes size bytes is in
-      has_parts _ size bytes (has_append (piece_text kind forms at (take size bytes)) (pieces_up_to n sizes kind forms (at + size) (drop size bytes)) (take size bytes) (drop size bytes)
-      (piece_has kind forms at (take size bytes) (bytes_take size bytes are) (omega (arith, small, within.fits, length-take-le size bytes within.fits)))
+      let long = length-take-le size bytes within.fits in
+      has_parts _ size bytes (has_append (shown at (take size bytes)) (pieces_up_to n sizes shown (at + size) (drop size bytes)) (take size bytes) (drop size bytes)
+      (each at (take size bytes) (bytes_take size bytes are) (omega (arith, within.some, long)) (omega (arith, small, within.fits, long)))
       (others (at + size) (drop size bytes) (bytes_drop size bytes are) (omega (arith, small, within.fits, length-drop size bytes))))
 
-  pieces_have : (n at : ℕ) (bytes : List ℕ) → AreBytes bytes → at + length bytes < 2 ^ 64 → Has (pieces_up_to n sizes kind forms at bytes) bytes
+  pieces_have : (n at : ℕ) (bytes : List ℕ) → AreBytes bytes → at + length bytes < 2 ^ 64 → Has (pieces_up_to n sizes shown at bytes) bytes
   pieces_have zero at bytes are small = all_nameless at bytes are small
   pieces_have (suc n) at bytes are small =
-      front_has (front_size sizes bytes) n at bytes refl are small (λ k rest each fits. pieces_have n k rest each fits)
+      front_has (front_size sizes bytes) n at bytes refl are small (λ k rest bytes fits. pieces_have n k rest bytes fits)
+
+  parts_and_pieces_have : (parts : List Part) (start at : ℕ) (bytes : List ℕ) → AreBytes bytes → at + length bytes < 2 ^ 64
+      → Has (parts_and_pieces parts start sizes shown at bytes) bytes
+  parts_and_pieces_have parts start at bytes are small =
+      let front = take start bytes in
+      let rest = drop start bytes in
+      let joined : length front + length rest ≡ length bytes = sym (length-append front rest) ∙ ap length (take-append-drop start bytes) in
+      has_parts _ start bytes (has_append (slots_text at (parts_slots 0 at front parts) front) (pieces_text sizes shown (at + length front) rest) front rest
+      (slots_have at (parts_slots 0 at front parts) front (bytes_take start bytes are) (omega (arith, small, joined)))
+      (pieces_have (length rest) (at + length front) rest (bytes_drop start bytes are) (omega (arith, small, joined))))
+
+inner_has : (name : List ℕ) (parts : List Part) → EachHas (inner_text name parts)
+inner_has name parts at piece are some small =
+    has_append (title 0 at name) (slots_text at (parts_slots 1 at piece parts) piece) [] piece
+    (title_has 0 at name (omega (arith, small)))
+    (slots_have at (parts_slots 1 at piece parts) piece are small)
+
+content_has : (parts : List Part) (inner : Inner) (at : ℕ) (piece : List ℕ) → AreBytes piece → at + length piece < 2 ^ 64
+    → Has (content_text parts inner at piece) piece
+content_has parts Nothing at piece are small = slots_have at (parts_slots 0 at piece parts) piece are small
+content_has parts (Structures start name sizes inner) at piece are small =
+    parts_and_pieces_have sizes (inner_text name.now inner.now) (inner_has name.now inner.now) parts start at piece are small
+
+piece_has : (kind : Place) (forms : List StructureForm) → EachHas (piece_text kind forms)
+piece_has kind forms at piece are some small =
+    let form = find_form (number_at kind piece) forms in
+    has_append (piece_line kind form at piece) (content_text (form_parts form) (form_inner form) at piece) [] piece
+    (piece_line_has kind form at piece are (omega (arith, small)) (omega (arith, small)))
+    (content_has (form_parts form) (form_inner form) at piece are small)
 
 -- ---- tables
 
 body_has : (form : TableForm) (walk : Option Walk) (bytes : List ℕ) → AreBytes bytes → length bytes < 2 ^ 64 → Has (body_text form walk bytes) bytes
-body_has form None bytes are small = slots_have 0 (parts_slots 0 bytes form.parts.now) bytes are (omega (arith, small))
+body_has form None bytes are small = slots_have 0 (parts_slots 0 0 bytes form.parts.now) bytes are (omega (arith, small))
 body_has form (Some walk) bytes are small =
-    let start = start_of walk bytes in
-    let front = take start bytes in
-    let rest = drop start bytes in
-    let joined : length front + length rest ≡ length bytes = sym (length-append front rest) ∙ ap length (take-append-drop start bytes) in
-    has_parts _ start bytes (has_append (slots_text 0 (parts_slots 0 front form.parts.now) front) (pieces_text walk.sizes walk.kind form.structures.now (length front) rest) front rest
-    (slots_have 0 (parts_slots 0 front form.parts.now) front (bytes_take start bytes are) (omega (arith, small, joined)))
-    (pieces_have walk.sizes walk.kind form.structures.now (length rest) (length front) rest (bytes_drop start bytes are) (omega (arith, small, joined))))
+    parts_and_pieces_have walk.sizes (piece_text walk.kind form.structures.now) (piece_has walk.kind form.structures.now)
+    form.parts.now (start_of walk bytes) 0 bytes are (omega (arith, small))
 
 pub tables_have : TablesHaveBytes
 tables_have form walk bytes are small =
@@ -152,6 +178,6 @@ tables_have form walk bytes are small =
     ∙ (body_has form walk bytes are small).reads []
     ∙ append-nil bytes
 
-pub texts_tell : TextsTellTables
-texts_tell form other walk way a b one two small fits same =
+pub texts_determine : TextsDetermineTables
+texts_determine form other walk way a b one two small fits same =
     sym (tables_have form walk a one small) ∙ ap (read at_start) same ∙ tables_have other way b two fits

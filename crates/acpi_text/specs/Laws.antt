@@ -23,17 +23,17 @@ TitlesAreEmpty = (depth offset : ℕ) (name : List ℕ) → offset < 2 ^ 64 → 
 abbrev pub CommentsAreEmpty : Type 0
 CommentsAreEmpty = (text : List ℕ) → Has (comment text) []
 
--- Whatever the slots are, the lines of bytes have these bytes.
+-- For any slots, the lines of bytes have these bytes.
 abbrev pub TextsHaveBytes : Type 0
 TextsHaveBytes = (at : ℕ) (slots : List Slot) (bytes : List ℕ) → AreBytes bytes → at + length bytes < 2 ^ 64
     → Has (slots_text at slots bytes) bytes
 
--- The text of a table has the table's bytes, whatever forms give it names.
+-- For any form, the text of a table has the table's bytes.
 abbrev pub TablesHaveBytes : Type 0
 TablesHaveBytes = (form : TableForm) (walk : Option Walk) (bytes : List ℕ) → AreBytes bytes → length bytes < 2 ^ 64
     → bytes_of (table_text form walk bytes) ≡ bytes
 
--- Tables of one text are the same bytes.
-abbrev pub TextsTellTables : Type 0
-TextsTellTables = (form other : TableForm) (walk way : Option Walk) (a b : List ℕ) → AreBytes a → AreBytes b
+-- Tables with the same text are the same bytes.
+abbrev pub TextsDetermineTables : Type 0
+TextsDetermineTables = (form other : TableForm) (walk way : Option Walk) (a b : List ℕ) → AreBytes a → AreBytes b
     → length a < 2 ^ 64 → length b < 2 ^ 64 → table_text form walk a ≡ table_text other way b → a ≡ b

@@ -7,7 +7,9 @@ pub mod Line
 pub mod Register
 pub mod Slot
 pub mod Form
+pub mod Size
 pub mod Piece
+pub mod Structure
 pub mod Table
 pub mod Reading
 pub mod Laws

@@ -1,7 +1,7 @@
 -- The bytes that a text has.
 use Rattle.std.specs.Prelude.{◌≡◌, ℕ, ◌+◌, ◌-◌, ◌*◌, ◌==◌, nat_lt, if◌then◌else◌, List, [], ◌∷◌, ◌++◌}
 
--- what a digit says
+-- the number of a digit
 abbrev pub digit_value : ℕ → ℕ
 digit_value c = if nat_lt c 58 then c - 48 else c - 87
 
@@ -37,6 +37,6 @@ read (in_byte high bytes) (c ∷ text) = read (in_number ((16 * high + digit_val
 abbrev pub bytes_of : List ℕ → List ℕ
 bytes_of text = read at_start text
 
--- whole lines that have these bytes, whatever follows them
+-- whole lines that have these bytes, also if other text follows
 pub record Has (lines bytes : List ℕ) : Type 0 where
   pub reads : (more : List ℕ) → bytes_of (lines ++ more) ≡ bytes ++ bytes_of more

@@ -10,12 +10,12 @@ use Rattle.acpi_text.specs.Register.{address_spaces, access_sizes}
 -- What a line shows:
 -- - heading: a name over other lines, at a level;
 -- - field: a field at a level, by its name, with what its value means, of n numbers of w bytes;
--- - upto: a field of bytes that end at an offset, if any stand before it;
+-- - upto: a field of bytes, at a level, that end at an offset, if any stand before it;
 -- - unknown: nothing is known of what follows.
 pub data Slot : Type 0 where
   heading : ℕ → List ℕ → Slot
   field : ℕ → List ℕ → Note → ℕ → ℕ → Slot
-  upto : List ℕ → ℕ → Slot
+  upto : ℕ → List ℕ → ℕ → Slot
   unknown : Slot
 
 -- ---- bytes without names
@@ -46,9 +46,9 @@ slots_text at (heading depth name ∷ slots) bytes =
     if length bytes == 0 then [] else title depth at name ++ slots_text at slots bytes
 slots_text at (field depth name note w n ∷ slots) bytes =
     field_text (λ k rest. slots_text k slots rest) at depth name note w n bytes
-slots_text at (upto name end ∷ slots) bytes =
+slots_text at (upto depth name end ∷ slots) bytes =
     if nat_le end at then slots_text at slots bytes
-    else field_text (λ k rest. slots_text k slots rest) at 0 name plain 1 (end - at) bytes
+    else field_text (λ k rest. slots_text k slots rest) at depth name plain 1 (end - at) bytes
 
 -- the field of a row: one number with its words, or bytes
 abbrev pub row_slot : ℕ → Row → Slot

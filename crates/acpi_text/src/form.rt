@@ -1,13 +1,13 @@
 //! What tables and structures consist of, as data.
 
 use acpi_base::row::Row;
-use acpi_base::walk::Place;
+use acpi_base::walk::{Place, Sizes};
 
 /// How many entries a list has.
 #[derive(Clone, Copy, Debug)]
 pub enum Count {
-    /// As many as a field of the structure says.
-    Told(Place),
+    /// As many as the number in a field of the structure.
+    Field(Place),
     /// As many as there are bytes for.
     Rest,
 }
@@ -44,13 +44,23 @@ pub enum Part {
     Chosen(Place, &'static [Choice]),
 }
 
-/// A kind of structure: the number in its type field, its name in the standard, and its parts. Structures without a type have
-/// the number 0.
+/// What a structure contains after its parts.
 #[derive(Clone, Copy, Debug)]
-pub struct Form {
+pub enum Inner {
+    Nothing,
+    /// Structures, one after another: the offset of the first from the beginning of the outer structure, the name over each,
+    /// how long each is, and its parts.
+    Structures(usize, &'static str, Sizes, &'static [Part]),
+}
+
+/// A kind of structure: the number in its type field, its name in the standard, its parts, and what stands after them.
+/// Structures without a type have the number 0.
+#[derive(Clone, Copy, Debug)]
+pub struct StructureForm {
     pub number: usize,
     pub name: &'static str,
     pub parts: &'static [Part],
+    pub inner: &'static Inner,
 }
 
 /// A kind of table: its name in the standard, its parts before any structures, and the kinds of these.
@@ -58,5 +68,5 @@ pub struct Form {
 pub struct TableForm {
     pub name: &'static str,
     pub parts: &'static [Part],
-    pub structures: &'static [Form],
+    pub structures: &'static [StructureForm],
 }

@@ -1,8 +1,8 @@
 //! Laws of texts, which cost nothing when they run.
 
-ghost use Rattle.acpi_text.specs.Laws.{LinesHaveFields, TitlesAreEmpty, CommentsAreEmpty, TextsHaveBytes, TablesHaveBytes, TextsTellTables};
+ghost use Rattle.acpi_text.specs.Laws.{LinesHaveFields, TitlesAreEmpty, CommentsAreEmpty, TextsHaveBytes, TablesHaveBytes, TextsDetermineTables};
 
-/// A law: a field's line has the field's bytes, whatever lines follow it.
+/// A law: a field's line has the field's bytes, also if further lines follow.
 pub fn lines_have_fields()
     ensures { LinesHaveFields }
 {}
@@ -17,17 +17,17 @@ pub fn comments_are_empty()
     ensures { CommentsAreEmpty }
 {}
 
-/// A law: the text of bytes has these bytes, whichever names it gives them.
+/// A law: the text of bytes has these bytes, for any list of names.
 pub fn texts_have_bytes()
     ensures { TextsHaveBytes }
 {}
 
-/// A law: the text of a table has the table's bytes, whatever form names them.
+/// A law: the text of a table has the table's bytes, for every form.
 pub fn tables_have_bytes()
     ensures { TablesHaveBytes }
 {}
 
-/// A law: tables of one text are the same bytes, whatever forms name them.
-pub fn texts_tell_tables()
-    ensures { TextsTellTables }
+/// A law: tables with the same text have the same bytes, also if they are shown by different forms.
+pub fn texts_determine_tables()
+    ensures { TextsDetermineTables }
 {}

@@ -5,11 +5,13 @@
 pub mod comment;
 pub mod form;
 mod hex;
+mod inner;
 pub mod laws;
 mod line;
 mod note;
 mod part;
 mod piece;
+mod size;
 mod slot;
 mod space;
 pub mod table;

@@ -25,7 +25,6 @@ pub fn push_line(
         ++ line depth offset name.now (note_of words) width count field.now) }
 {
     push_padded(depth, offset, name, text)?;
-    text.push_str(":")?;
     push_numbers(width, count, field, text)?;
     push_meaning(words, width, count, field, text)?;
     text.push_str("\n")

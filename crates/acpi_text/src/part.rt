@@ -3,7 +3,7 @@
 
 ghost use Rattle.std.specs.Prelude.{◌≡◌, ℕ, ◌+◌, ◌<◌, ◌≤◌, ◌^◌, [], ◌∷◌, ◌++◌, length, drop, OnOk, IfOk, string_bytes};
 ghost use Rattle.std.specs.List.{slice_range};
-ghost use Rattle.acpi_text.specs.Form.{told, count_of, repeated, group_slots, find_choice, choice_slots, part_slots, parts_slots};
+ghost use Rattle.acpi_text.specs.Form.{number_at, count_of, repeated, group_slots, find_choice, choice_slots, part_slots, parts_slots};
 ghost use Rattle.acpi_text.specs.Note.{plain};
 ghost use Rattle.acpi_text.specs.Slot.{field, upto, slots_text, Showed};
 
@@ -15,8 +15,8 @@ use acpi_base::walk::Place;
 use std::alloc::AllocError;
 
 /// Returns the number in a field of a structure, or 0 if the structure ends before the field does.
-pub fn told(place: Place, whole: &[u8]) -> usize
-    ensures { result ≡ told place whole.now }
+pub fn number_at(place: Place, whole: &[u8]) -> usize
+    ensures { result ≡ number_at place whole.now }
 {
     if place.end() <= whole.len() {
         place.number(whole)
@@ -30,7 +30,7 @@ fn count_of(count: Count, whole: &[u8]) -> usize
     ensures { result ≡ count_of count whole.now }
 {
     match count {
-        Count::Told(place) => told(place, whole),
+        Count::Field(place) => number_at(place, whole),
         Count::Rest => whole.len(),
     }
 }
@@ -45,22 +45,25 @@ fn between(rows: &[Row], from: usize, to: usize) -> &[Row]
 
 // Adds a name and the fields below it.
 fn push_group(
+    depth: u8,
     name: &str,
     rows: &[Row],
     offset: usize,
     bytes: &[u8],
     text: &mut String,
 ) -> Result<usize, AllocError>
-    requires { offset + length bytes.now < 2 ^ 64 }
+    requires level { depth < 254 }
+    requires fits { offset + length bytes.now < 2 ^ 64 }
     ensures { IfOk result
-        (λ n. Showed (group_slots name.now rows.now) offset bytes.now (string_bytes text.old) (string_bytes text.new) n) }
+        (λ n. Showed (group_slots depth name.now rows.now) offset bytes.now (string_bytes text.old) (string_bytes text.new) n) }
 {
-    let none = push_heading(0, name, offset, bytes, text)?;
-    Ok(none + push_rows(1, rows, offset + none, &bytes[none..], text)?)
+    let none = push_heading(depth, name, offset, bytes, text)?;
+    Ok(none + push_rows(depth + 1, rows, offset + none, &bytes[none..], text)?)
 }
 
 // Adds `count` such groups, or fewer if the bytes end before.
 fn push_entries(
+    depth: u8,
     name: &str,
     count: usize,
     rows: &[Row],
@@ -68,14 +71,15 @@ fn push_entries(
     bytes: &[u8],
     text: &mut String,
 ) -> Result<usize, AllocError>
-    requires { offset + length bytes.now < 2 ^ 64 }
-    ensures { IfOk result (λ n. Showed (repeated count (group_slots name.now rows.now))
+    requires level { depth < 254 }
+    requires fits { offset + length bytes.now < 2 ^ 64 }
+    ensures { IfOk result (λ n. Showed (repeated count (group_slots depth name.now rows.now))
         offset bytes.now (string_bytes text.old) (string_bytes text.new) n) }
 {
     let mut at = 0;
     let mut done = 0;
     'entries: while done < count && at < bytes.len() {
-        at += push_group(name, rows, offset + at, &bytes[at..], text)?;
+        at += push_group(depth, name, rows, offset + at, &bytes[at..], text)?;
         done += 1;
     }
     Ok(at)
@@ -83,6 +87,7 @@ fn push_entries(
 
 // Adds `count` fields of `columns` numbers, or fewer if the bytes end before.
 fn push_fields(
+    depth: u8,
     name: &str,
     width: usize,
     columns: usize,
@@ -92,14 +97,14 @@ fn push_fields(
     text: &mut String,
 ) -> Result<usize, AllocError>
     requires { offset + length bytes.now < 2 ^ 64 }
-    ensures { IfOk result (λ n. Showed (repeated count (field 0 name.now plain width columns ∷ []))
+    ensures { IfOk result (λ n. Showed (repeated count (field depth name.now plain width columns ∷ []))
         offset bytes.now (string_bytes text.old) (string_bytes text.new) n) }
 {
     let mut at = 0;
     let mut done = 0;
     'fields: while done < count && at < bytes.len() {
         at += push_field(
-            0,
+            depth,
             name,
             Words::None,
             width,
@@ -115,6 +120,7 @@ fn push_fields(
 
 // Adds a field of the bytes up to the offset `end` of a structure, of which `at` bytes were shown.
 fn push_until(
+    depth: u8,
     name: &str,
     end: usize,
     at: usize,
@@ -125,12 +131,12 @@ fn push_until(
     requires { offset + length bytes.now < 2 ^ 64 }
     ensures { (start : ℕ) → offset ≡ start + at
         → IfOk result
-        (λ n. Showed (upto name.now (start + end) ∷ []) offset bytes.now (string_bytes text.old) (string_bytes text.new) n) }
+        (λ n. Showed (upto depth name.now (start + end) ∷ []) offset bytes.now (string_bytes text.old) (string_bytes text.new) n) }
 {
     if end <= at {
         return Ok(0);
     }
-    push_field(0, name, Words::None, 1, end - at, offset, bytes, text)
+    push_field(depth, name, Words::None, 1, end - at, offset, bytes, text)
 }
 
 // Returns the choice with a number.
@@ -147,17 +153,19 @@ fn find_choice(number: usize, choices: &[Choice]) -> Option<Choice>
 
 // Adds the fields of a choice. Without a choice, it adds all bytes without names.
 fn push_choice(
+    depth: u8,
     choice: Option<Choice>,
     offset: usize,
     bytes: &[u8],
     text: &mut String,
 ) -> Result<usize, AllocError>
-    requires { offset + length bytes.now < 2 ^ 64 }
+    requires level { depth < 254 }
+    requires fits { offset + length bytes.now < 2 ^ 64 }
     ensures { IfOk result
-        (λ n. Showed (choice_slots choice) offset bytes.now (string_bytes text.old) (string_bytes text.new) n) }
+        (λ n. Showed (choice_slots depth choice) offset bytes.now (string_bytes text.old) (string_bytes text.new) n) }
 {
     match choice {
-        Some(choice) => push_group(choice.name, choice.rows, offset, bytes, text),
+        Some(choice) => push_group(depth, choice.name, choice.rows, offset, bytes, text),
         None => {
             push_nameless(offset, bytes, text)?;
             Ok(bytes.len())
@@ -167,68 +175,107 @@ fn push_choice(
 
 // Adds a part of the structure that begins at the offset `start`, and of which `at` bytes were shown.
 fn push_part(
+    depth: u8,
     part: &Part,
     start: usize,
     whole: &[u8],
     at: usize,
     text: &mut String,
 ) -> Result<usize, AllocError>
+    requires level { depth < 254 }
     requires within { at ≤ length whole.now }
     requires fits { start + length whole.now < 2 ^ 64 }
     ensures { IfOk result
-        (λ n. Showed (part_slots start whole.now part.now) (start + at) (drop at whole.now)
+        (λ n. Showed (part_slots depth start whole.now part.now) (start + at) (drop at whole.now)
         (string_bytes text.old) (string_bytes text.new) n) }
 {
     let (_, bytes) = whole.split_at(at);
     let offset = start + at;
     match *part {
-        Part::Fields(rows) => push_rows(0, rows, offset, bytes, text),
+        Part::Fields(rows) => push_rows(depth, rows, offset, bytes, text),
         Part::Between(rows, from, to) => {
-            push_rows(0, between(rows, from, to), offset, bytes, text)
+            push_rows(depth, between(rows, from, to), offset, bytes, text)
         }
-        Part::Group(name, rows) => push_group(name, rows, offset, bytes, text),
+        Part::Group(name, rows) => push_group(depth, name, rows, offset, bytes, text),
         Part::Entries(name, count, rows) => {
-            push_entries(name, count_of(count, whole), rows, offset, bytes, text)
+            push_entries(
+                depth,
+                name,
+                count_of(count, whole),
+                rows,
+                offset,
+                bytes,
+                text,
+            )
         }
         Part::Numbers(name, width, count) => {
-            push_fields(name, width, 1, count_of(count, whole), offset, bytes, text)
+            push_fields(
+                depth,
+                name,
+                width,
+                1,
+                count_of(count, whole),
+                offset,
+                bytes,
+                text,
+            )
         }
         Part::Matrix(name, width, rows, columns) => {
-            let columns = told(columns, whole);
-            let rows = if columns == 0 { 0 } else { told(rows, whole) };
-            push_fields(name, width, columns, rows, offset, bytes, text)
+            let columns = number_at(columns, whole);
+            let rows = if columns == 0 {
+                0
+            } else {
+                number_at(rows, whole)
+            };
+            push_fields(depth, name, width, columns, rows, offset, bytes, text)
         }
         Part::Bytes(name, count) => push_field(
-            0,
+            depth,
             name,
             Words::None,
             1,
-            told(count, whole),
+            number_at(count, whole),
             offset,
             bytes,
             text,
         ),
-        Part::Until(name, end) => push_until(name, told(end, whole), at, offset, bytes, text),
+        Part::Until(name, end) => push_until(
+            depth,
+            name,
+            number_at(end, whole),
+            at,
+            offset,
+            bytes,
+            text,
+        ),
         Part::Chosen(by, choices) => {
-            push_choice(find_choice(told(by, whole), choices), offset, bytes, text)
+            push_choice(
+                depth,
+                find_choice(number_at(by, whole), choices),
+                offset,
+                bytes,
+                text,
+            )
         }
     }
 }
 
-/// Adds the parts of the structure that begins at the offset `start`, and then the bytes that are left, without names.
+/// Adds the parts, at a level, of the structure that begins at the offset `start`, and then the bytes that are left, without names.
 pub fn push_parts(
+    depth: u8,
     parts: &[Part],
     start: usize,
     whole: &[u8],
     text: &mut String,
 ) -> Result<(), AllocError>
-    requires { start + length whole.now < 2 ^ 64 }
+    requires level { depth < 254 }
+    requires fits { start + length whole.now < 2 ^ 64 }
     ensures { OnOk result (string_bytes text.new ≡ string_bytes text.old
-        ++ slots_text start (parts_slots start whole.now parts.now) whole.now) }
+        ++ slots_text start (parts_slots depth start whole.now parts.now) whole.now) }
 {
     let mut at = 0;
     'parts: for part in parts {
-        at += push_part(part, start, whole, at, text)?;
+        at += push_part(depth, part, start, whole, at, text)?;
     }
     let (_, rest) = whole.split_at(at);
     push_nameless(start + at, rest, text)

@@ -103,6 +103,7 @@ pub fn push_field(
 }
 
 // Adds the field of a row.
+#[inline(always)]
 fn push_row_field(
     depth: u8,
     row: &Row,
@@ -182,6 +183,7 @@ fn register_name(row: &Row) -> Option<&'static str>
 }
 
 // Adds the lines of a row.
+#[inline(always)]
 fn push_row(
     depth: u8,
     row: &Row,

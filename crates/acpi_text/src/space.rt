@@ -1,6 +1,6 @@
 //! The beginning of a line. A function whose name begins with `push` adds to a text.
 
-ghost use Rattle.std.specs.Prelude.{◌≡◌, ◌==◌, ◌&&◌, ◌++◌, not, OnOk, string_bytes};
+ghost use Rattle.std.specs.Prelude.{◌≡◌, ◌+◌, ◌*◌, ◌==◌, ◌&&◌, [], ◌∷◌, ◌++◌, not, OnOk, string_bytes};
 ghost use Rattle.acpi_text.specs.Label.{prints, is_label, label};
 ghost use Rattle.acpi_text.specs.Line.{spaces, margin, padded};
 
@@ -10,19 +10,20 @@ use std::alloc::AllocError;
 /// The column of the colon before a line's numbers.
 const COLUMN: usize = 40;
 
-// As many spaces as there are before the column.
-const SPACES: &str = "                                        ";
+// As many spaces as there are before the column, and the colon.
+const SPACES: &str = "                                        :";
 
-// Adds spaces.
-fn push_spaces(count: usize, text: &mut String) -> Result<(), AllocError>
-    ensures { OnOk result (string_bytes text.new ≡ string_bytes text.old ++ spaces count) }
+// Adds two spaces for a line, and two more for each level.
+#[inline(always)]
+fn push_level(depth: u8, text: &mut String) -> Result<(), AllocError>
+    ensures { OnOk result (string_bytes text.new ≡ string_bytes text.old ++ spaces (2 * depth + 2)) }
 {
-    let mut left = count;
-    'many: while left > COLUMN {
-        text.push_str(SPACES)?;
-        left -= COLUMN;
+    text.push_str("  ")?;
+    let mut left = depth;
+    'levels: while left > 0 {
+        text.push_str("  ")?;
+        left -= 1;
     }
-    text.push_str(&SPACES[..left])?;
     Ok(())
 }
 
@@ -52,6 +53,7 @@ pub fn push_label(name: &str, text: &mut String) -> Result<(), AllocError>
 }
 
 /// Adds the offset and the name of a line.
+#[inline(always)]
 pub fn push_margin(
     depth: u8,
     offset: usize,
@@ -60,22 +62,25 @@ pub fn push_margin(
 ) -> Result<(), AllocError>
     ensures { OnOk result (string_bytes text.new ≡ string_bytes text.old ++ margin depth offset name.now) }
 {
-    push_spaces(2 * usize::from(depth) + 2, text)?;
+    push_level(depth, text)?;
     text.push_str(Buffer::new().format(offset))?;
     text.push_str(" ")?;
     push_label(name, text)
 }
 
-/// Adds the offset and the name of a line, and spaces up to the column of the colon.
+/// Adds the offset and the name of a line, spaces up to the column of the colon, and the colon.
+#[inline(always)]
 pub fn push_padded(
     depth: u8,
     offset: usize,
     name: &str,
     text: &mut String,
 ) -> Result<(), AllocError>
-    ensures { OnOk result (string_bytes text.new ≡ string_bytes text.old ++ padded 40 (margin depth offset name.now)) }
+    ensures { OnOk result (string_bytes text.new ≡ string_bytes text.old ++ (padded 40 (margin depth offset name.now) ++ 58 ∷ [])) }
 {
     let start = text.len();
     push_margin(depth, offset, name, text)?;
-    push_spaces(COLUMN.saturating_sub(text.len() - start), text)
+    let left = COLUMN.saturating_sub(text.len() - start);
+    text.push_str(&SPACES[COLUMN - left..])?;
+    Ok(())
 }

@@ -4,7 +4,8 @@ ghost use Rattle.std.specs.Prelude.{◌≡◌, ◌++◌, Some, OnOk, IfOk, strin
 ghost use Rattle.acpi_text.specs.Table.{start_of, body_text, table_text};
 
 use crate::form::TableForm;
-use crate::part::{push_parts, told};
+use crate::inner::split_within;
+use crate::part::{number_at, push_parts};
 use crate::piece::push_pieces;
 use crate::space::push_label;
 use acpi_base::walk::Walk;
@@ -15,7 +16,7 @@ fn start_of(walk: &Walk, bytes: &[u8]) -> usize
     ensures { result ≡ start_of walk.now bytes.now }
 {
     let least = usize::from(walk.start);
-    let start = told(walk.told_start, bytes);
+    let start = number_at(walk.told_start, bytes);
     if start < least { least } else { start }
 }
 
@@ -29,12 +30,8 @@ fn push_walked(
     ensures { OnOk result (string_bytes text.new ≡ string_bytes text.old ++ body_text form.now (Some walk) bytes.now) }
 {
     let start = start_of(&walk, bytes);
-    let (front, rest) = if start < bytes.len() {
-        bytes.split_at(start)
-    } else {
-        (bytes, &bytes[bytes.len()..])
-    };
-    push_parts(form.parts, 0, front, text)?;
+    let (front, rest) = split_within(start, bytes);
+    push_parts(0, form.parts, 0, front, text)?;
     push_pieces(
         walk.sizes,
         walk.kind,
@@ -61,7 +58,7 @@ pub fn show_by(
     text.push_str("\n")?;
     match walk {
         Some(walk) => push_walked(form, walk, bytes, &mut text)?,
-        None => push_parts(form.parts, 0, bytes, &mut text)?,
+        None => push_parts(0, form.parts, 0, bytes, &mut text)?,
     }
     Ok(text)
 }

@@ -2,8 +2,12 @@
 #![tactic(auto)]
 
 #[cfg(test)]
+mod inner;
+#[cfg(test)]
 mod parts;
 #[cfg(test)]
 mod shown;
 #[cfg(test)]
 mod structures;
+#[cfg(test)]
+mod words;

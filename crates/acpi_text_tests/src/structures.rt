@@ -4,7 +4,7 @@ use crate::shown::shows;
 use acpi_base::header::HEADER;
 use acpi_base::row::Row;
 use acpi_base::walk::{Place, Sizes, Walk, walk_of};
-use acpi_text::form::{Form, Part, TableForm};
+use acpi_text::form::{Inner, Part, StructureForm, TableForm};
 use std::test::Fail;
 
 const FIXED: [Row; 2] = [
@@ -20,10 +20,11 @@ const LOCAL_APIC: [Row; 5] = [
     Row::Number("Flags", 4),
 ];
 
-const FORMS: [Form; 1] = [Form {
+const FORMS: [StructureForm; 1] = [StructureForm {
     number: 0,
     name: "Processor Local APIC Structure",
     parts: &[Part::Fields(&LOCAL_APIC)],
+    inner: &Inner::Nothing,
 }];
 
 const MADT: TableForm = TableForm {
@@ -89,6 +90,17 @@ fn cut_table(rt: HostRuntime) -> Result<(), Fail> {
     )
 }
 
+const LATER: TableForm = TableForm {
+    name: "Later",
+    parts: &[],
+    structures: &[StructureForm {
+        number: 0,
+        name: "Entry",
+        parts: &[Part::Fields(&[Row::Number("Word", 2)])],
+        inner: &Inner::Nothing,
+    }],
+};
+
 // Structures begin where the table says, and what stands before them has no names.
 #[test]
 fn later_start(rt: HostRuntime) -> Result<(), Fail> {
@@ -99,15 +111,6 @@ fn later_start(rt: HostRuntime) -> Result<(), Fail> {
         count: Place::Nowhere,
         told_start: Place::Byte(1),
     };
-    let form = TableForm {
-        name: "Later",
-        parts: &[],
-        structures: &[Form {
-            number: 0,
-            name: "Entry",
-            parts: &[Part::Fields(&[Row::Number("Word", 2)])],
-        }],
-    };
     let lines: &[&str] = &[
         "Later",
         "  0 Bytes                               : aa 03 bb",
@@ -117,7 +120,7 @@ fn later_start(rt: HostRuntime) -> Result<(), Fail> {
     ];
     shows(
         rt.alloc(),
-        &form,
+        &LATER,
         Some(walk),
         b"\xaa\x03\xbb\0\x01\x02",
         lines,
@@ -128,7 +131,7 @@ fn later_start(rt: HostRuntime) -> Result<(), Fail> {
         "2 entry size 2 Entry",
         "  2 Word                                : 00bb  // 187",
     ];
-    shows(rt.alloc(), &form, Some(walk), b"\xaa\x01\xbb\0", early)
+    shows(rt.alloc(), &LATER, Some(walk), b"\xaa\x01\xbb\0", early)
 }
 
 // An error source has the size that goes with its type; of another type nothing is known.

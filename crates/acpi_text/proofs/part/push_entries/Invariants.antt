@@ -6,7 +6,7 @@ use Rattle.acpi_text.proofs.part.push_entries.Given as goal
 abbrev pub invariant-entries : goal.invariant-entries
 invariant-entries l = record {
   few : l.done ≤ l.count;
-  shown : Showed (repeated l.done (group_slots l.name l.rows)) l.offset l.bytes (string_bytes l.initial.text) (string_bytes l.text) l.at;
+  shown : Showed (repeated l.done (group_slots l.depth l.name l.rows)) l.offset l.bytes (string_bytes l.initial.text) (string_bytes l.text) l.at;
 }
 
 abbrev pub decreases-entries : goal.decreases-entries

@@ -7,7 +7,7 @@ use Rattle.acpi_text.proofs.part.push_fields.Given as goal
 abbrev pub invariant-fields : goal.invariant-fields
 invariant-fields l = record {
   few : l.done ≤ l.count;
-  shown : Showed (repeated l.done (field 0 l.name plain l.width l.columns ∷ [])) l.offset l.bytes (string_bytes l.initial.text) (string_bytes l.text) l.at;
+  shown : Showed (repeated l.done (field l.depth l.name plain l.width l.columns ∷ [])) l.offset l.bytes (string_bytes l.initial.text) (string_bytes l.text) l.at;
 }
 
 abbrev pub decreases-fields : goal.decreases-fields

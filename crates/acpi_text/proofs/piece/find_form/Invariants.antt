@@ -1,5 +1,5 @@
 use Rattle.std.proofs.Common.{◌≡◌, drop}
-use Rattle.acpi_text.specs.Piece.{find_form}
+use Rattle.acpi_text.specs.Structure.{find_form}
 use Rattle.acpi_text.proofs.piece.find_form.Given as goal
 
 abbrev pub invariant-loop-form : goal.invariant-loop-form

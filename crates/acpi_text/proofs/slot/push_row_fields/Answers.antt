@@ -1,5 +1,5 @@
 use Rattle.std.proofs.Common.{◌+◌, [], ◌∷◌, refl}
-use Rattle.acpi_text.specs.Slot.{row_slot, row_slots}
+use Rattle.acpi_text.specs.Slot.{row_slot}
 use Rattle.acpi_text.proofs.Shown.{slice_rest, each_start, each_more, each_done}
 use Rattle.acpi_text.proofs.slot.push_row_fields.Goals as goal
 
