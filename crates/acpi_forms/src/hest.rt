@@ -6,9 +6,9 @@ use acpi_base::walk::{Place, Sizes};
 use acpi_hest::hest::{
     ACKNOWLEDGED, AER, AER_BRIDGE, AER_DEVICE, AER_ROOT_PORT, GENERIC, NOTIFICATION,
 };
-use acpi_hest::rqsc::CONTROLLER;
-use acpi_hest::rqsc::resource::{
-    ACPI_DEVICE_RESOURCE, CACHE_RESOURCE, MEMORY_RESOURCE, PCI_DEVICE_RESOURCE, RESOURCE,
+use acpi_hest::rqsc::{
+    ACPI_DEVICE_RESOURCE, CACHE_RESOURCE, CONTROLLER, MEMORY_RESOURCE, PCI_DEVICE_RESOURCE,
+    RESOURCE,
 };
 use acpi_text::form::{Choice, Inner, Part, StructureForm, TableForm};
 
