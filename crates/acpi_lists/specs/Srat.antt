@@ -74,7 +74,7 @@ abbrev pub handle_type : Handle → ℕ
 handle_type (Acpi hid uid) = 0
 handle_type (Pci segment bus device function) = 1
 
--- a device below 32 and a function below 8
+-- the device is below 32 and the function below 8
 abbrev pub is_address : Handle → Bool
 is_address (Acpi hid uid) = true
 is_address (Pci segment bus device function) = nat_lt device 32 && nat_lt function 8
