@@ -73,7 +73,7 @@ AddedAtOnce = (table a b : List ℕ) → 36 ≤ length table → added (added ta
 abbrev pub AddedEnds : Type 0
 AddedEnds = (table bytes : List ℕ) → 36 ≤ length table → drop 36 (added table bytes) ≡ drop 36 table ++ bytes
 
--- After any list of calls, successful or not, a table has the bytes that the successful calls make.
+-- After any list of calls, successful or not, a table has the bytes that these calls make.
 abbrev pub SdtsAreTheirCalls : Type 0
 SdtsAreTheirCalls =
     (start : Contents) (calls : List SdtCall) → 36 ≤ length start.bytes → AreSdtCalls start calls

@@ -76,8 +76,9 @@ pub fn added_ends()
     ensures { AddedEnds }
 {}
 
-/// After any list of calls, successful or not, an `Sdt` has the bytes that the successful calls make. If all of these are
-/// additions, it is the first table with all added bytes, as if they were added at once.
+/// After any list of calls, successful or not, an `Sdt` has the bytes that these calls make. A call that fails adds nothing,
+/// except that `append_object` has added what the object wrote before its error. If no call overwrites bytes, it is the first
+/// table with all added bytes, as if they were added at once.
 pub fn sdts_are_their_calls()
     ensures { SdtsAreTheirCalls }
 {}
