@@ -25,7 +25,7 @@ sdt_after t (adds bytes r next ∷ calls) = sdt_after next calls
 sdt_after t (appends bytes next ∷ calls) = sdt_after next calls
 sdt_after t (writes offset bytes next ∷ calls) = sdt_after next calls
 
--- the bytes after the calls that succeeded
+-- the bytes after the calls; an `append_object` that failed has added the bytes that the object wrote
 abbrev pub changed : List ℕ → List SdtCall → List ℕ
 changed table [] = table
 changed table (adds bytes (Ok done) next ∷ calls) = changed (added table bytes) calls
@@ -48,8 +48,8 @@ contents (adds bytes (Err e) next ∷ calls) = contents calls
 contents (appends bytes next ∷ calls) = bytes ++ contents calls
 contents (writes offset bytes next ∷ calls) = contents calls
 
--- After the calls the table has the bytes that the successful ones make. If all of these are additions, it is the first table
--- with all added bytes, in order, as if they were added at once.
+-- After the calls the table has the bytes that these calls make. If no call overwrites bytes, it is the first table with all
+-- added bytes, in order, as if they were added at once.
 pub record IsSdtAfter (start : Contents) (calls : List SdtCall) (last : Contents) : Type 0 where
   pub is : last.bytes ≡ changed start.bytes calls
   pub additions : AreAdditions calls → last.bytes ≡ added start.bytes (contents calls)
