@@ -29,7 +29,7 @@ use acpi_core::walked::{Walked, is_walked};
 use std::alloc::Global;
 use std::marker::Model;
 
-/// The CXL Early Discovery Table (CXL profile): structures from offset 36 on.
+/// The CXL Early Discovery Table (this project's profile). Its structures begin at offset 36.
 #[derive(Drop)]
 pub struct CEDT {
     table: Walked<CedtKind, 36>,
