@@ -148,9 +148,9 @@
 //! ```
 //!
 //! A call that takes a value and returns an error drops the value: `ProcessorNode::add_cache` drops its node, and
-//! `PPTT::add_processor` the node that it should add. The arguments that a call borrows are unchanged. Before a call that may reach
-//! a limit, ask for the number that there is: `ProcessorNode::resource_count`, `HartInfoNode::offset_count`, and `len` and `count`
-//! of each table.
+//! `PPTT::add_processor` the node that it should add. The arguments that a call borrows are unchanged. Before a call that may
+//! reach a limit, ask for the number that there is: `ProcessorNode::resource_count`, `HartInfoNode::offset_count`, and `len` and
+//! `count` of each table.
 #![tactic(auto)]
 
 pub mod aml;
@@ -191,8 +191,8 @@ pub mod gas {
     pub use acpi_base::gas::{AccessSize, AddressSpace, GAS};
 }
 
-/// The Hardware Error Source Table and its structures (ACPI 6.5, 18.3.2). Other modules have types of the same names: `madt` has an
-/// `EnabledStatus`, and `viot` and `rimt` a `PciDevice`. Write `hest::EnabledStatus` and `hest::PciDevice`.
+/// The Hardware Error Source Table and its structures (ACPI 6.5, 18.3.2). Other modules have types of the same names: `madt` has
+/// an `EnabledStatus`, and `viot` and `rimt` a `PciDevice`. Write `hest::EnabledStatus` and `hest::PciDevice`.
 pub mod hest {
     pub use acpi_hest::hest::{
         EnabledStatus, ErrorSeverity, FirmwareFirst, GenericErrorData, GenericErrorStatus,
@@ -246,8 +246,8 @@ pub mod rhct {
     };
 }
 
-/// The RISC-V I/O Mapping Table and its devices (this project's profile). `PciDevice` is the type of `viot`. `hest` has another type
-/// of this name.
+/// The RISC-V I/O Mapping Table and its devices (this project's profile). `PciDevice` is the type of `viot`. `hest` has another
+/// type of this name.
 pub mod rimt {
     pub use acpi_nodes::rimt::{
         IdMapping, InterruptWire, Iommu, IommuOffset, PciDevice, PcieRootComplex, Platform, RIMT,
