@@ -78,7 +78,7 @@ abbrev pub are_numbers : List Row → Bool
 are_numbers [] = true
 are_numbers (row ∷ rows) = nat_le (row_width row) 8 && are_numbers rows
 
--- a number of this many bytes, or bytes as they are
+-- a number of this many bytes, or bytes in their order
 abbrev pub value_in : ℕ → Value → List ℕ
 value_in width (values.Number value) = le width value
 value_in width (values.Bytes value) = value.now

@@ -43,7 +43,7 @@ abbrev pub with_all : Listing → List (List ℕ) → Listing
 with_all t [] = t
 with_all t (structure ∷ structures) = with_all (with_structure t structure) structures
 
--- at each offset that was returned stand the bytes of its structure
+-- the bytes of each structure are at the offset that was returned for it
 abbrev pub StandAtHandles : List ℕ → List Call → Type 0
 StandAtHandles bytes [] = Unit {0}
 StandAtHandles bytes (adds o r next ∷ calls) = StandAtHandles bytes calls
