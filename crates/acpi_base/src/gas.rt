@@ -99,7 +99,7 @@ impl GAS {
         12
     }
 
-    /// The bytes of the address, for records that hold one.
+    /// The bytes of the address, for records that contain one.
     pub fn bytes(&self) -> [u8; 12]
         ensures { result ≡ gas_bytes self.now }
     {

@@ -30,7 +30,7 @@ pub struct FACS {
 }
 
 impl FACS {
-    /// A structure with its signature, its length of 64 bytes and version 1. Everything else is zero.
+    /// A structure with its signature, its length of 64 bytes and version 1. Every other field is zero.
     pub fn new() -> FACS
         ensures { result ≡ facs_at_first }
     {

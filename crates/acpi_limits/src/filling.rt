@@ -1,4 +1,4 @@
-//! Filling a table until it takes no more.
+//! Filling a table until it takes no further structure.
 
 use crate::fault::Fault;
 use acpi_tables::read::Table;
@@ -20,7 +20,7 @@ pub trait Fills: Aml + Drop + Sized {
     fn grow(&mut self, alloc: Global, number: u32) -> R<()>;
 }
 
-/// A table that takes no more.
+/// A table that takes no further structure.
 #[derive(Clone, Copy, Debug)]
 pub struct Full {
     /// What is counted: structures, additions, localities or targets.

@@ -50,7 +50,7 @@ fn is_whole(alloc: Global, bytes: &[u8]) -> Result<(), Fail> {
     equal(&end.unwrap_or(bytes.len()), &bytes.len())
 }
 
-// Each first part of a table of each signature, as it is, and with the right length and sum.
+// Each first part of a table of each signature: unchanged, and with the right length and sum.
 #[test]
 fn beginnings(rt: HostRuntime) -> Result<(), Fail> {
     let alloc = rt.alloc();

@@ -174,7 +174,7 @@ fn packages(rt: HostRuntime) -> Result<(), Fail> {
     reads(alloc, Ok(builder), "package 2\n  number 1\n  arg 1\n")
 }
 
-// A name in a package, or after the count of a VarPackage, stands alone, even if arguments are stated for it.
+// A name in a package, or after the count of a VarPackage, has no arguments, even if arguments are stated for it.
 #[test]
 fn names_in_packages(rt: HostRuntime) -> Result<(), Fail> {
     let alloc = rt.alloc();
