@@ -62,7 +62,7 @@ fn buffer_of_bytes(content: Vec<u8>) -> R<Vec<u8>>
     Ok(bytes)
 }
 
-// A number in its shortest form, and how many bytes it has: it is the first bytes of the nine.
+// A number in its shortest form, and how many bytes n it has: it is the first n of the nine bytes.
 fn number_bytes(value: u64) -> ([u8; 9], usize)
     ensures within { result.1 ≤ 9 }
     ensures is { take result.1 result.0 ≡ number value }

@@ -93,7 +93,7 @@ fn hold(alloc: Global, bytes: &[u8]) -> Result<NameBytes, AllocError>
     Ok(NameBytes::Few(bytes.len() as u8, few))
 }
 
-/// Names are equal where their bytes are.
+/// Names are equal if their bytes are.
 impl PartialEq for NameString {
     ghost eq = { pointwise nat_eq };
 

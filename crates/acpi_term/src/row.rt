@@ -28,7 +28,7 @@ pub fn least_width(n: usize) -> u8
     }
 }
 
-/// A value as a length of `width` bytes (ACPI 6.5, 20.2.4). They are the first of the four that are returned.
+/// A value as a length of `width` bytes (ACPI 6.5, 20.2.4): the first `width` of the four bytes that are returned.
 #[tactic(auto, using(crate::proofs::Lengths::starts_one, crate::proofs::Lengths::starts_two, crate::proofs::Lengths::starts_three, crate::proofs::Lengths::starts_four, crate::proofs::Lengths::width_last,))]
 pub fn length_bytes(width: u8, value: u32) -> [u8; 4]
     requires { value < limit width }
@@ -48,8 +48,8 @@ pub fn length_bytes(width: u8, value: u32) -> [u8; 4]
     }
 }
 
-/// The PkgLength of a content of `size` bytes (ACPI 6.5, 20.2.4), and its width: it is the first bytes of the four. It counts
-/// itself. The error is `PkgLength` where its value would reach 2^28.
+/// The PkgLength of a content of `size` bytes (ACPI 6.5, 20.2.4), and its width w: it is the first w of the four bytes. It counts
+/// itself. The error is `PkgLength` if its value would reach 2^28.
 #[tactic(auto, using(crate::proofs::Lengths::width_carries))]
 pub fn frame_length(size: usize) -> R<([u8; 4], usize)>
     ensures width { IfOk result (λ p. p.1 ≡ least_width size) }
@@ -67,8 +67,8 @@ pub fn frame_length(size: usize) -> R<([u8; 4], usize)>
     ))
 }
 
-/// The length of a field entry of `bits` bits (ACPI 6.5, 20.2.5.2), and its width: it is the first bytes of the four. It doesn't
-/// count itself. The error is `PkgLength` from 2^28 bits on.
+/// The length of a field entry of `bits` bits (ACPI 6.5, 20.2.5.2), and its width w: it is the first w of the four bytes. It
+/// doesn't count itself. The error is `PkgLength` from 2^28 bits on.
 #[tactic(auto, using(crate::proofs::Lengths::width_holds))]
 pub fn field_length(bits: usize) -> R<([u8; 4], usize)>
     ensures width { IfOk result (λ p. p.1 ≡ least_width bits) }
