@@ -12,8 +12,8 @@ with_checksum bytes = put 9 (complement (sum (put 9 (0 ∷ []) bytes)) ∷ []) b
 abbrev pub table_of : List ℕ → ℕ → Oem → List ℕ → List ℕ
 table_of signature revision oem body = with_checksum (header signature (36 + length body) revision oem ++ body)
 
--- The bytes are a table: they begin with the standard header of 36 bytes, the length at offset 4 is their number, and all of them
--- sum to zero.
+-- The bytes are a correct table: they begin with the standard header of 36 bytes, the length at offset 4 is their number, and all
+-- of them sum to zero.
 pub record IsTrueTable (bytes : List ℕ) : Type 0 where
   pub header : 36 ≤ length bytes
   pub tells : field_at 4 4 bytes ≡ length bytes

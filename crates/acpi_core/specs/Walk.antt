@@ -27,8 +27,8 @@ pub record Keeps (w : Walk) (limit : ℕ) (closed : Bool) (t : Listing) : Type 0
   pub limited : t.limit ≡ limit
   pub pieces : IsTrue closed → ArePieces w.sizes t.structures
 
--- The table's bytes are a true table. Its structures, in order and at their offsets, are the one list of pieces that the walk of
--- its signature finds.
+-- The table's bytes are a correct table. Its structures, in order and at their offsets, are the one list of pieces that the walk
+-- of its signature finds.
 pub record IsWalked (w : Walk) (t : Listing) : Type 0 where
   pub is_true : IsTrueTable (bytes_of t)
   pub walks : ArePiecesOf (bytes_of t) t.structures

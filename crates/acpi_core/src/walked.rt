@@ -126,7 +126,7 @@ impl<K: Kind, const N: usize> Walked<K, N> {
     }
 }
 
-/// A law: after any calls the table is a true one. If each structure has the length that the walk expects, as in a table of a
+/// A law: after any calls the table is correct. If each structure has the length that the walk expects, as in a table of a
 /// closed kind, the structures, in order, are the one list that the walk finds.
 pub fn is_walked<K: Kind, const N: usize>(table: &Walked<K, N>)
     ensures keeps { Keeps K.walk K.limit K.closed table.now.table }

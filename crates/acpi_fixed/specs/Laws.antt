@@ -22,7 +22,7 @@ PointersSumToZero =
     × (sum (take 20 (rsdp_bytes (rsdp_for oem_id xsdt_addr))) % 256 ≡ 0)
     × (sum (rsdp_bytes (rsdp_for oem_id xsdt_addr)) % 256 ≡ 0)
 
--- ---- each table of this maker is a true table of its size, without structures, for all values of its other fields
+-- ---- each table of this maker is a correct table of its size, without structures, for all values of its other fields
 
 abbrev pub BertsAreTrue : Oem → Type 0
 BertsAreTrue oem =

@@ -111,7 +111,7 @@ impl HEST {
     }
 }
 
-/// A law: after any calls the table is a true one. If each source has the size of its type, the sources, in order, are the one
+/// A law: after any calls the table is correct. If each source has the size of its type, the sources, in order, are the one
 /// list that the walk finds.
 pub fn hest_is_walked(table: &HEST)
     ensures is_true { IsTrueTable (bytes_of table.now.table.table) }

@@ -96,7 +96,7 @@ impl RQSC {
     }
 }
 
-/// A law: after any calls the table is a true one. Its controllers, in order, are the one list that the walk finds.
+/// A law: after any calls the table is correct. Its controllers, in order, are the one list that the walk finds.
 pub fn rqsc_is_walked(table: &RQSC)
     ensures keeps { Keeps rqsc_walk length_limit true table.now.table.table }
     ensures walked { IsWalked rqsc_walk table.now.table.table }

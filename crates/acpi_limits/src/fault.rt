@@ -18,7 +18,7 @@ pub enum Fault {
     /// A call returned an error other than that of the size.
     #[error("{0}")]
     Built(#[from] TableError),
-    /// The bytes aren't a true table.
+    /// The bytes aren't a correct table.
     #[error("{0}")]
     Read(#[from] ReadError),
     /// The length field of a structure isn't its number of bytes.

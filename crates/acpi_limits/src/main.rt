@@ -4,8 +4,8 @@
 //!
 //! All tables except VIOT end just below 2^32 bytes. A run takes up to 9 GiB of memory, and minutes.
 //!
-//! The exit status is 1 if a call returned an error other than that of the size, or the bytes aren't a true table. It is 2 if a
-//! name is unknown.
+//! The exit status is 1 if a call returned an error other than that of the size, or the bytes aren't a correct table. It is 2 if
+//! a name is unknown.
 #![tactic(auto)]
 
 mod fault;

@@ -112,7 +112,7 @@ impl CEDT {
     }
 }
 
-/// A law: after any calls the table is a true one. Its structures, in order, are the one list that the walk finds.
+/// A law: after any calls the table is correct. Its structures, in order, are the one list that the walk finds.
 pub fn cedt_is_walked(table: &CEDT)
     ensures keeps { Keeps cedt_walk length_limit true table.now.table.table }
     ensures walked { IsWalked cedt_walk table.now.table.table }

@@ -173,7 +173,7 @@ pub fn madt_rows() -> &'static [Row]
     &MADT_FIXED
 }
 
-/// A law: after any calls the table is a true one. If each structure contains its length at offset 1, the structures, in order,
+/// A law: after any calls the table is correct. If each structure contains its length at offset 1, the structures, in order,
 /// are the one list that the walk finds.
 pub fn madt_is_walked(table: &MADT)
     ensures is_true { IsTrueTable (bytes_of table.now.table.table) }

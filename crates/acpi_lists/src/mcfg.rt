@@ -89,7 +89,7 @@ impl MCFG {
     }
 }
 
-/// A law: after any calls the table is a true one. Its entries, in order, are the one list that the walk finds.
+/// A law: after any calls the table is correct. Its entries, in order, are the one list that the walk finds.
 pub fn mcfg_is_walked(table: &MCFG)
     ensures keeps { Keeps mcfg_walk length_limit true table.now.table.table }
     ensures walked { IsWalked mcfg_walk table.now.table.table }

@@ -105,7 +105,7 @@ impl SRAT {
     }
 }
 
-/// A law: after any calls the table is a true one. Its structures, in order, are the one list that the walk finds.
+/// A law: after any calls the table is correct. Its structures, in order, are the one list that the walk finds.
 pub fn srat_is_walked(table: &SRAT)
     ensures keeps { Keeps srat_walk length_limit true table.now.table.table }
     ensures walked { IsWalked srat_walk table.now.table.table }

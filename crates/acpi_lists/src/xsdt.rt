@@ -84,7 +84,7 @@ impl XSDT {
     }
 }
 
-/// A law: after any calls the table is a true one. Its entries, in order, are the one list that the walk finds.
+/// A law: after any calls the table is correct. Its entries, in order, are the one list that the walk finds.
 pub fn xsdt_is_walked(table: &XSDT)
     ensures keeps { Keeps xsdt_walk length_limit true table.now.table.table }
     ensures walked { IsWalked xsdt_walk table.now.table.table }

@@ -80,7 +80,7 @@ pub record SetsDistance (result : Result Unit Error) (old : Counted) (a b value 
 
 -- ---- laws
 
--- The bytes of a matrix are a true table: 44 bytes, and its cells.
+-- The bytes of a matrix are a correct table: 44 bytes, and its cells.
 abbrev pub DistancesAreTrue : Type 0
 DistancesAreTrue =
     (t : Distances) → IsMatrix t → IsTrueTable (slit_bytes t) × (length (slit_bytes t) ≡ 44 + t.localities * t.localities)

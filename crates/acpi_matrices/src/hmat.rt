@@ -107,7 +107,7 @@ impl HMAT {
     }
 }
 
-/// A law: after any calls the table is a true one. Its structures, in order, are the one list that the walk finds.
+/// A law: after any calls the table is correct. Its structures, in order, are the one list that the walk finds.
 pub fn hmat_is_walked(table: &HMAT)
     ensures keeps { Keeps hmat_walk length_limit true table.now.table.table }
     ensures walked { IsWalked hmat_walk table.now.table.table }

@@ -177,7 +177,7 @@ pub fn slit_rows() -> &'static [Row]
     &SLIT_FIXED[1..]
 }
 
-/// A law: after any calls the table's bytes are a true table. It has no structures.
+/// A law: after any calls the table's bytes are a correct table. It has no structures.
 pub fn slit_is_true(table: &SLIT)
     ensures is_true { IsTrueTable (slit_bytes table.now.table) }
     ensures pieces { ArePiecesOf (slit_bytes table.now.table) [] }
@@ -198,7 +198,7 @@ pub fn slits_are_their_calls()
     ensures { SlitsAreTheirCalls }
 {}
 
-/// A law: the bytes of a symmetric matrix of at most 65,535 localities are a true table: 44 bytes, and one for each distance.
+/// A law: the bytes of a symmetric matrix of at most 65,535 localities are a correct table: 44 bytes, and one for each distance.
 pub fn distances_are_true()
     ensures { DistancesAreTrue }
 {}

@@ -99,7 +99,7 @@ impl PPTT {
     }
 }
 
-/// A law: after any calls the table is a true one. Its nodes, in order, are the one list that the walk finds.
+/// A law: after any calls the table is correct. Its nodes, in order, are the one list that the walk finds.
 pub fn pptt_is_walked(table: &PPTT)
     ensures keeps { Keeps pptt_walk length_limit true table.now.table.table }
     ensures walked { IsWalked pptt_walk table.now.table.table }

@@ -136,7 +136,7 @@ impl RHCT {
     }
 }
 
-/// A law: after any calls the table is a true one. Its nodes, in order, are the one list that the walk finds.
+/// A law: after any calls the table is correct. Its nodes, in order, are the one list that the walk finds.
 pub fn rhct_is_walked(table: &RHCT)
     ensures keeps { Keeps rhct_walk length_limit true table.now.table.table }
     ensures walked { IsWalked rhct_walk table.now.table.table }

@@ -117,7 +117,7 @@ impl RIMT {
     }
 }
 
-/// A law: after any calls the table is a true one. Its devices, in order, are the one list that the walk finds.
+/// A law: after any calls the table is correct. Its devices, in order, are the one list that the walk finds.
 pub fn rimt_is_walked(table: &RIMT)
     ensures keeps { Keeps rimt_walk length_limit true table.now.table.table }
     ensures walked { IsWalked rimt_walk table.now.table.table }

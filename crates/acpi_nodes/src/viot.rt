@@ -124,7 +124,7 @@ impl VIOT {
     }
 }
 
-/// A law: after any calls the table is a true one. Its nodes, in order, are the one list that the walk finds.
+/// A law: after any calls the table is correct. Its nodes, in order, are the one list that the walk finds.
 pub fn viot_is_walked(table: &VIOT)
     ensures keeps { Keeps viot_walk (field_limit 2) true table.now.table.table }
     ensures walked { IsWalked viot_walk table.now.table.table }
