@@ -5,8 +5,8 @@ ghost use Rattle.std.specs.Prelude.{◌≡◌, ◌+◌, ◌-◌, ◌%◌, ◌<�
 use crate::summed::Summed;
 use std::marker::Model;
 
-/// The sum of a table's bytes modulo 256, and the number of bytes that were summed for it. The value that is stored is the byte
-/// that makes the sum zero, which is what a table contains: computed from a stored sum, the compiler would sum twice.
+/// The sum of a table's bytes modulo 256, and the number of bytes that were summed for it. It stores the byte that makes the sum
+/// zero, which is what a table contains. If it stored the sum, the compiler would sum twice to compute that byte.
 #[derive(Drop)]
 pub struct Sum {
     checksum: u8,
