@@ -1,4 +1,4 @@
--- Packages that grow.
+-- Packages to which elements are added.
 use Rattle.std.specs.Prelude.{ℕ, ◌+◌, nat_lt, List, [], ◌∷◌, ◌++◌, true, false, IsTrue, refl}
 use Rattle.acpi_base.specs.declared.error.Error.TheVariants.{PackageElements}
 use Rattle.acpi_base.specs.Sink.{Meaning}
@@ -6,7 +6,7 @@ use Rattle.acpi_base.specs.Object.{Object, whole, provided}
 use Rattle.acpi_term.specs.Tree.{def_package}
 use Rattle.acpi_term.specs.Row.{layout, around}
 
--- the bytes of the elements, and how many were counted
+-- the bytes of the elements, and the number of elements
 pub record Builder : Type 0 where
   pub bytes : List ℕ
   pub elements : ℕ
@@ -14,7 +14,7 @@ pub record Builder : Type 0 where
 abbrev pub new_builder : Builder
 new_builder = record { bytes = []; elements = 0 }
 
--- an element, where there is room for one more
+-- an element, or `PackageElements` if there are 255 already
 abbrev pub element_of : Builder → Object → Object
 element_of b object = provided (nat_lt b.elements 255) PackageElements object
 
@@ -25,11 +25,11 @@ abbrev pub with_elements : Builder → List Object → Builder
 with_elements b [] = b
 with_elements b (object ∷ objects) = with_elements (with_element b object) objects
 
--- what it writes
+-- the package that a builder writes
 abbrev pub package_of : Builder → Object
 package_of b = around (layout def_package 0 b.elements) (whole b.bytes)
 
--- As a sink it shows its count and then all its bytes, and counts nothing.
+-- As a sink it shows its count and then all its bytes, and counts no element.
 unfoldable pub builder_of : Builder → Meaning
 builder_of b = record {
   shows = λ more. b.elements ∷ b.bytes ++ more;

@@ -1,4 +1,4 @@
--- Objects that are refused for a value of their own, or by their length, never want memory.
+-- Objects whose error comes from their own value or their length never return `Memory`.
 use Rattle.std.specs.Prelude.{◌≢◌, ℕ, List, nat_lt, nat_le, ◌+◌, ◌^◌, length, [], ◌∷◌, ◌++◌, Some}
 use Rattle.acpi_base.specs.declared.error.Error.TheVariants.{Memory, ArgNumber, LocalNumber, PkgLength}
 use Rattle.acpi_base.specs.Object.{provided_ends_well}

@@ -31,7 +31,7 @@ update_number update.Preserve = 0
 update_number update.WriteAsOnes = 1
 update_number update.WriteAsZeroes = 2
 
--- an entry, its length in the width that is written
+-- an entry, whose length has the width that is written
 abbrev pub entry_of : FieldEntry → Entry
 entry_of (Named name bits) = named_entry name bits
 entry_of (Reserved bits) = reserved_entry bits

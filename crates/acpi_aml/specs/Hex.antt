@@ -1,7 +1,7 @@
 -- Hexadecimal digits.
 use Rattle.std.specs.Prelude.{ℕ, ◌+◌, ◌-◌, ◌*◌, nat_le, ◌&&◌, if◌then◌else◌, List, [], ◌∷◌, Option, Some, None}
 
--- the value of a digit of either case
+-- the value of a digit in upper or lower case
 abbrev pub digit_value : ℕ → Option ℕ
 digit_value b =
     if nat_le 0x30 b && nat_le b 0x39 then Some (b - 0x30)
@@ -13,7 +13,7 @@ abbrev pub paired : Option ℕ → Option ℕ → Option ℕ
 paired (Some high) (Some low) = Some (16 * high + low)
 paired _ _ = None
 
--- the byte of two digits
+-- the byte that two digits stand for
 abbrev pub byte_of_digits : ℕ → ℕ → Option ℕ
 byte_of_digits high low = paired (digit_value high) (digit_value low)
 
@@ -21,7 +21,7 @@ abbrev pub led : Option ℕ → Option (List ℕ) → Option (List ℕ)
 led (Some byte) (Some bytes) = Some (byte ∷ bytes)
 led _ _ = None
 
--- the bytes of digits, where these are pairs
+-- the bytes that pairs of digits stand for
 abbrev pub bytes_of_digits : List ℕ → Option (List ℕ)
 bytes_of_digits [] = Some []
 bytes_of_digits (high ∷ low ∷ more) = led (byte_of_digits high low) (bytes_of_digits more)

@@ -1,4 +1,4 @@
--- What holds of the definitions, whatever calls there are.
+-- Laws about the definitions, which hold for all calls.
 use Rattle.std.specs.Prelude.{◌≡◌, ℕ, ◌≤◌, ◌<◌, ◌^◌, List, [], ◌∷◌, ◌++◌, length, None, Bool, true}
 use Rattle.acpi_base.specs.Bytes.{AreBytes}
 use Rattle.acpi_base.specs.Number as numbers
@@ -26,18 +26,18 @@ use Rattle.acpi_aml.specs.Meaning.{Means, written, RowMeans}
 
 -- ---- one object, two ways to make it
 
--- What a new builder writes, to which at most 255 whole elements were added, is the package of these.
+-- A new builder to which at most 255 whole elements were added writes the package of these elements.
 abbrev pub BuildersMakePackages : Type 0
 BuildersMakePackages = (objects : List Object) → (all_of objects).end ≡ None → length objects ≤ 255
     → package_of (with_elements new_builder objects) ≡ row def_package objects
 
--- A scope round the bytes that whole children join to is the scope of these children.
+-- A scope around the joined bytes of whole children is the scope of these children.
 abbrev pub RawIsScope : Type 0
 RawIsScope = (path bytes : List ℕ) (objects : List Object) → (all_of objects).end ≡ None → (all_of objects).front ≡ bytes
     → around (layout (def_scope path) 0 0) (whole bytes) ≡ row (def_scope path) objects
 
 -- ---- what constructors write
--- Each of these is the object of a constructor's clause. The premises beside what its children spell are standard names,
+-- Each of these is the object in a constructor's contract. The premises are what its children spell, that its names are standard,
 -- and the ranges of its own numbers.
 
 -- objects with a name
@@ -55,12 +55,12 @@ pub record NamedObjectsMean (arity : List ℕ → ℕ) (path : List ℕ) : Type 
 abbrev pub NamesOfObjectsMean : Type 0
 NamesOfObjectsMean = (arity : List ℕ → ℕ) (path : List ℕ) → IsName path → NamedObjectsMean arity path
 
--- regions of every space
+-- regions in every address space
 abbrev pub RegionsMean : Type 0
 RegionsMean = (arity : List ℕ → ℕ) (path : List ℕ) (space : OpRegionSpace) (offset size : Object) → IsName path
     → RowMeans arity (def_op_region path (region_space space)) (offset ∷ size ∷ [])
 
--- fields of every access, lock and update rule
+-- fields with every access type, lock rule and update rule
 abbrev pub FieldsMean : Type 0
 FieldsMean =
     (arity : List ℕ → ℕ) (path : List ℕ) (access : FieldAccessType) (lock : FieldLockRule) (update : FieldUpdateRule)
@@ -79,7 +79,7 @@ pub record StatementsMean (arity : List ℕ → ℕ) : Type 0 where
 abbrev pub AllStatementsMean : Type 0
 AllStatementsMean = (arity : List ℕ → ℕ) → StatementsMean arity
 
--- A call, where the name takes as many arguments there.
+-- A call, if its name takes that number of arguments in this place.
 abbrev pub CallsMean : Type 0
 CallsMean =
     (arity : List ℕ → ℕ) (m : Mode) (path : List ℕ) (objects : List Object) (ts : Terms) → IsName path
@@ -87,19 +87,19 @@ CallsMean =
     → SpellEach arity Term objects ts → (row (call path) objects).end ≡ None
     → Spells arity m (row (call path) objects).front (written (call path) objects ts)
 
--- the term of a buffer of bytes: their number, and they
+-- the term of a buffer of bytes: their number, and the bytes
 abbrev pub buffer_term : List ℕ → Terms
 buffer_term bytes =
     one (def_buffer bytes) (writer_width (def_buffer bytes) 1 (numbers.number (length bytes)))
     (one (number (length bytes)) (numbers.number_width (length bytes)) end)
 
--- A template of whole descriptors that are bytes is the buffer of these and the end tag.
+-- A template of whole descriptors is the buffer of their bytes and the end tag.
 abbrev pub TemplatesMean : Type 0
 TemplatesMean =
     (arity : List ℕ → ℕ) (descriptors : List Object) → AreBytes (all_of descriptors).front
     → Means arity (template descriptors) (buffer_term (template_bytes (all_of descriptors).front))
 
--- ---- meanings beside those of rows
+-- ---- meanings of objects without a row
 
 abbrev pub NumbersMean : Type 0
 NumbersMean = (arity : List ℕ → ℕ) (v : ℕ) → v < 2 ^ 64
@@ -115,36 +115,36 @@ ConstantsMean =
 abbrev pub TextsMean : Type 0
 TextsMean = (arity : List ℕ → ℕ) (s : List ℕ) → IsText s → Means arity (whole (texts.text s)) (one (string s) 0 end)
 
--- A name alone is a call without arguments, wherever none are stated for it.
+-- A name alone is a call without arguments, in every place where none are listed for it.
 abbrev pub NamesMean : Type 0
 NamesMean = (arity : List ℕ → ℕ) (m : Mode) (name : List ℕ) → IsName name → arguments arity m name ≡ 0
     → Spells arity m name (one (call name) 0 end)
 
--- The path of a text of standard segments is a name alone.
+-- The path of a text of standard segments is such a name.
 abbrev pub PathsMean : Type 0
 PathsMean =
     (arity : List ℕ → ℕ) (m : Mode) (text : List ℕ) → is_name_text text ≡ true → arguments arity m (path_spelling text) ≡ 0
     → Spells arity m (path_of text).front (one (call (path_spelling text)) 0 end)
 
--- A builder whose bytes spell as many elements as were counted is the package of these.
+-- A builder is the package of the elements that its bytes spell, if their number is the count.
 abbrev pub BuildersMean : Type 0
 BuildersMean =
     (arity : List ℕ → ℕ) (b : Builder) (elements : Terms) → count elements ≡ b.elements → b.elements ≤ 255
     → Spells arity Element b.bytes elements
     → Means arity (package_of b) (one def_package (writer_width def_package b.elements b.bytes) elements)
 
--- A variable package of an object that spells a number of elements and then these.
+-- A variable package of an object that spells a number of elements and then the elements.
 abbrev pub VarPackagesMean : Type 0
 VarPackagesMean =
     (arity : List ℕ → ℕ) (object : Object) (terms : Terms) → 1 ≤ count terms → Spells arity Count object.front terms
     → Means arity (row def_var_package (object ∷ []))
     (one def_var_package (writer_width def_var_package (count terms) object.front) terms)
 
--- A buffer of bytes, as `BufferData` and `Uuid` are, is the buffer of their number and the bytes.
+-- A buffer of bytes, as of `BufferData` and `Uuid`, is the buffer of their number and the bytes.
 abbrev pub BuffersMean : Type 0
 BuffersMean = (arity : List ℕ → ℕ) (bytes : List ℕ) → AreBytes bytes → Means arity (buffer_of_bytes bytes) (buffer_term bytes)
 
--- A buffer of an object that spells one term and has bytes after it is the buffer of this term and these bytes.
+-- A buffer of an object that spells one term, followed by bytes, is the buffer of this term and these bytes.
 abbrev pub BufferTermsMean : Type 0
 BufferTermsMean =
     (arity : List ℕ → ℕ) (object : Object) (size rest : List ℕ) (t : Terms) → object.front ≡ size ++ rest → count t ≡ 1

@@ -1,4 +1,4 @@
--- What objects mean.
+-- The terms that objects spell.
 use Rattle.std.specs.Prelude.{◌≡◌, ℕ, List, length, None}
 use Rattle.acpi_base.specs.Object.{Object, all_of}
 use Rattle.acpi_term.specs.declared.mode.Mode.{Mode}
@@ -6,7 +6,7 @@ use Rattle.acpi_term.specs.Tree.{Head, Terms, one}
 use Rattle.acpi_term.specs.Row.{row, writer_width}
 use Rattle.acpi_term.specs.Spelling.{inner, Spells, SpellEach}
 
--- Where the object is whole its bytes spell the term, wherever it stands.
+-- If the object has no error, its bytes spell the term in every place.
 abbrev pub Means : (List ℕ → ℕ) → Object → Terms → Type 0
 Means arity object t = (m : Mode) → object.end ≡ None → Spells arity m object.front t
 
@@ -14,7 +14,7 @@ Means arity object t = (m : Mode) → object.end ≡ None → Spells arity m obj
 abbrev pub written : Head → List Object → Terms → Terms
 written h objects ts = one h (writer_width h (length objects) (all_of objects).front) ts
 
--- Over objects that spell a term each the row of the head means the term of this head over these terms.
+-- If each object spells a term, the row of the head over the objects spells the term of this head over these terms.
 abbrev pub RowMeans : (List ℕ → ℕ) → Head → List Object → Type 0
 RowMeans arity h objects = (ts : Terms) → SpellEach arity (inner h) objects ts
     → Means arity (row h objects) (written h objects ts)

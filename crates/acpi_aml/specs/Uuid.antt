@@ -4,7 +4,7 @@ use Rattle.std.specs.Prelude.{reverse, slice_index, slice_range, Option, Some, N
 use Rattle.acpi_base.specs.Bytes.{AreBytes}
 use Rattle.acpi_aml.specs.Hex.{bytes_of_digits}
 
--- what a UUID is
+-- the invariant of a UUID
 pub record IsUuid (bytes : List ℕ) : Type 0 where
   pub size : length bytes ≡ 16
   pub are : AreBytes bytes
@@ -14,12 +14,12 @@ abbrev pub is_grouped : List ℕ → Bool
 is_grouped text = length text == 36 && slice_index text 8 == 0x2d && slice_index text 13 == 0x2d && slice_index text 18 == 0x2d
     && slice_index text 23 == 0x2d
 
--- the bytes of the groups, of which the first three are numbers, lowest byte first
+-- the bytes of the groups; the first three groups are numbers, lowest byte first
 abbrev pub grouped : Option (List ℕ) → Option (List ℕ) → Option (List ℕ) → Option (List ℕ) → Option (List ℕ) → Option (List ℕ)
 grouped (Some a) (Some b) (Some c) (Some d) (Some e) = Some (reverse a ++ (reverse b ++ (reverse c ++ (d ++ e))))
 grouped _ _ _ _ _ = None
 
--- the 16 bytes of a text, where it is hexadecimal digits in these groups
+-- the 16 bytes of a text, if it has hexadecimal digits in these groups
 abbrev pub uuid_bytes : List ℕ → Option (List ℕ)
 uuid_bytes text =
     if is_grouped text

@@ -21,7 +21,7 @@ pub type BufferTerm = Written<DefBuffer>;
 pub struct DefBuffer;
 
 impl BufferTerm {
-    /// `content` writes the size and then the bytes. Its refusal, else PkgLength from 2^28 bytes on.
+    /// `content` writes the size and then the bytes. The error is that of `content`, or `PkgLength` from 2^28 bytes on.
     pub fn new(alloc: Global, content: &dyn Aml) -> R<BufferTerm>
         ensures { Builds result (row (def_buffer []) (object content.now ∷ [])) }
     {
@@ -37,7 +37,7 @@ pub type BufferData = Written<ByteList>;
 pub struct ByteList;
 
 impl BufferData {
-    /// PkgLength from 2^28 bytes on.
+    /// The error is `PkgLength` from 2^28 bytes on.
     pub fn new(content: Vec<u8>) -> R<BufferData>
         ensures { Builds result (buffer_of_bytes content.items) }
     {
@@ -46,7 +46,7 @@ impl BufferData {
     }
 }
 
-// The buffer of the bytes that are there, which are moved up once.
+// Makes a buffer of the bytes in a vector, which are moved up once.
 fn buffer_of_bytes(content: Vec<u8>) -> R<Vec<u8>>
     ensures { Makes result (buffer_of_bytes content.items) }
 {
@@ -62,7 +62,7 @@ fn buffer_of_bytes(content: Vec<u8>) -> R<Vec<u8>>
     Ok(bytes)
 }
 
-// A number in its shortest form: the first of nine bytes, and how many they are.
+// A number in its shortest form, and how many bytes n it has: it is the first n of the nine bytes.
 fn number_bytes(value: u64) -> ([u8; 9], usize)
     ensures within { result.1 ≤ 9 }
     ensures is { take result.1 result.0 ≡ number value }
@@ -77,14 +77,14 @@ fn number_bytes(value: u64) -> ([u8; 9], usize)
     }
 }
 
-/// A buffer of resource descriptors and their end tag (ACPI 6.5, 19.6.120 and 6.4.2.9).
+/// A buffer of resource descriptors and an end tag (ACPI 6.5, 19.6.120 and 6.4.2.9).
 pub type ResourceTemplate = Written<ResourceDescriptors>;
 
 pub struct ResourceDescriptors;
 
 impl ResourceTemplate {
-    /// The descriptors are borrowed for the call. The first one's refusal, else PkgLength from 2^28 bytes on. The end tag's
-    /// checksum is 0, which every reader takes as right.
+    /// The descriptors are borrowed for the call. The error is that of the first descriptor that fails, or `PkgLength` from 2^28
+    /// bytes on. The end tag's checksum is 0, which means that it isn't checked.
     pub fn new(children: Vec<&dyn Aml>) -> R<ResourceTemplate>
         ensures { Builds result (template (map (λ child. object child.now) children.entry.items)) }
     {

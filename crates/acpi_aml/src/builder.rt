@@ -1,4 +1,4 @@
-//! Packages that grow by an element at a time.
+//! Packages to which elements are added one by one.
 
 ghost use Rattle.std.specs.Prelude.{◌≡◌, ◌++◌, [], ◌∷◌, None, OnOk, OnErr, IfErr};
 ghost use Rattle.acpi_base.specs.Object.{whole, IsOwnEnd, Wrote, WriteRefused};
@@ -16,8 +16,8 @@ use acpi_term::row::frame_length;
 use std::alloc::Global;
 use std::marker::Model;
 
-/// A package (ACPI 6.5, 20.2.5.4, DefPackage) to which elements are added one by one. Where its content is too large for
-/// a PkgLength it is refused when written, and gives nothing then.
+/// A package (ACPI 6.5, 20.2.5.4, DefPackage) to which elements are added one by one. If its content is too large for a
+/// PkgLength, writing it returns `PkgLength` and writes nothing.
 #[derive(Drop)]
 pub struct PackageBuilder {
     bytes: Vec<u8>,
@@ -30,7 +30,7 @@ impl Model for PackageBuilder {
     ghost view = { λ b. record { bytes = b.bytes.items; elements = b.elements } };
 }
 
-/// As a sink it takes any bytes into its content, and doesn't count them.
+/// A builder is a sink, too: it adds all bytes to its content, and counts no element for them.
 impl AmlSink for PackageBuilder {
     ghost meaning = { builder_of };
 
@@ -72,7 +72,8 @@ impl PackageBuilder {
         }
     }
 
-    /// Adds an element. PackageElements at the 256th, else the element's refusal; the package is unchanged then.
+    /// Adds an element. The error is `PackageElements` at the 256th element, or the element's own. After an error the package is
+    /// unchanged.
     pub fn add_element(&mut self, element: &dyn Aml) -> R<()>
         ensures ok { OnOk result (self.new ≡ with_element self.old (object element.now)) }
         ensures whole { OnOk result ((element_of self.old (object element.now)).end ≡ None) }
@@ -92,7 +93,7 @@ impl PackageBuilder {
     }
 }
 
-// Writes a package of this many elements, whose bytes are given.
+// Writes a package with this number of elements, from their bytes.
 fn write_package(sink: &mut dyn AmlSink, count: u8, elements: &[u8]) -> R<()>
     ensures ok { OnOk result
         (Wrote (around (layout def_package 0 count) (whole elements.now)) (meaning sink.old) (meaning sink.new)) }

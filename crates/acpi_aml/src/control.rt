@@ -10,13 +10,13 @@ use acpi_base::error::R;
 use acpi_base::object::Aml;
 use acpi_term::row::{framed, framed_before, with_room};
 
-/// What is done where a predicate holds (ACPI 6.5, 20.2.5.3, DefIfElse).
+/// Statements that are run if a predicate is true (ACPI 6.5, 20.2.5.3, DefIfElse).
 pub type If = Written<DefIfElse>;
 
 pub struct DefIfElse;
 
 impl If {
-    /// The predicate's refusal, else the first child's, else PkgLength from 2^28 bytes on.
+    /// The error is that of the predicate, that of the first child that fails, or `PkgLength` from 2^28 bytes on.
     pub fn new(predicate: &dyn Aml, children: Vec<&dyn Aml>) -> R<If>
         ensures { Builds result (row def_if (object predicate.now ∷ map (λ child. object child.now) children.entry.items)) }
     {
@@ -26,13 +26,13 @@ impl If {
     }
 }
 
-/// What is done where the predicate of the `If` before doesn't hold (ACPI 6.5, 20.2.5.3, DefElse).
+/// Statements that are run if the predicate of the `If` before is false (ACPI 6.5, 20.2.5.3, DefElse).
 pub type Else = Written<DefElse>;
 
 pub struct DefElse;
 
 impl Else {
-    /// The first child's refusal, else PkgLength from 2^28 bytes on.
+    /// The error is that of the first child that fails, or `PkgLength` from 2^28 bytes on.
     pub fn new(children: Vec<&dyn Aml>) -> R<Else>
         ensures { Builds result (row def_else (map (λ child. object child.now) children.entry.items)) }
     {
@@ -42,13 +42,13 @@ impl Else {
     }
 }
 
-/// What is done as long as a predicate holds (ACPI 6.5, 20.2.5.3, DefWhile).
+/// Statements that are run as long as a predicate is true (ACPI 6.5, 20.2.5.3, DefWhile).
 pub type While = Written<DefWhile>;
 
 pub struct DefWhile;
 
 impl While {
-    /// The predicate's refusal, else the first child's, else PkgLength from 2^28 bytes on.
+    /// The error is that of the predicate, that of the first child that fails, or `PkgLength` from 2^28 bytes on.
     pub fn new(predicate: &dyn Aml, children: Vec<&dyn Aml>) -> R<While>
         ensures { Builds result (row def_while (object predicate.now ∷ map (λ child. object child.now) children.entry.items)) }
     {

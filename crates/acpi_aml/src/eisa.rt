@@ -11,7 +11,7 @@ use acpi_base::object::Aml;
 use acpi_base::sink::AmlSink;
 use std::marker::Model;
 
-/// The id of a device by its maker's three letters and four digits, as a number of 32 bits (ACPI 6.5, 19.3.4).
+/// A device's EISA id, which has three letters for its maker and four digits, as a number of 32 bits (ACPI 6.5, 19.3.4).
 #[derive(Drop)]
 pub struct EISAName {
     pub(crate) value: u32,
@@ -36,8 +36,8 @@ impl Aml for EISAName {
 }
 
 impl EISAName {
-    /// The id of a text of three letters from `A` to `Z` and four hexadecimal digits, whose letters may be of either case.
-    /// EisaText unless it is that.
+    /// The id of a text: three letters from `A` to `Z` and four hexadecimal digits. The digits may be upper or lower case. The
+    /// error is `EisaText` for any other text.
     pub fn new(name: &str) -> R<EISAName>
         ensures ok { IfOk result (λ e. eisa_value name.now ≡ Some e) }
         ensures range { IfOk result (λ e. e < 2 ^ 32) }

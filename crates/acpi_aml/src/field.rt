@@ -10,7 +10,7 @@ use crate::written::Written;
 use acpi_base::error::{Error, R};
 use acpi_term::row::{field_length, frame};
 
-/// How wide the accesses to a field are (ACPI 6.5, 20.2.5.2, AccessType).
+/// The width of the accesses to a field (ACPI 6.5, 20.2.5.2, AccessType).
 #[derive(Clone, Copy, Debug, PartialEq)]
 pub enum FieldAccessType {
     Any,
@@ -28,7 +28,7 @@ pub enum FieldLockRule {
     Lock,
 }
 
-/// What becomes of the bits of an access that a field doesn't have (UpdateRule).
+/// What an access writes to the bits that don't belong to the field (UpdateRule).
 #[derive(Clone, Copy, Debug, PartialEq)]
 pub enum FieldUpdateRule {
     Preserve,
@@ -36,20 +36,20 @@ pub enum FieldUpdateRule {
     WriteAsZeroes,
 }
 
-/// Bits of a field, under a name or under none.
+/// Bits of a field, with a name or reserved.
 #[derive(Clone, Copy, Debug, PartialEq)]
 pub enum FieldEntry {
     Named([u8; 4], usize),
     Reserved(usize),
 }
 
-/// Names for the bits of an operation region (ACPI 6.5, 20.2.5.2, DefField).
+/// Names for bits of an operation region (ACPI 6.5, 20.2.5.2, DefField).
 pub type Field = Written<DefField>;
 
 pub struct DefField;
 
 impl Field {
-    /// PkgLength where an entry has 2^28 bits or more, and where the frame would have 2^28 bytes or more.
+    /// The error is `PkgLength` if an entry has 2^28 bits or more, or the content of the field is too long for a PkgLength.
     pub fn new(
         path: Path,
         access_type: FieldAccessType,
@@ -67,7 +67,7 @@ impl Field {
     }
 }
 
-// Writes entries at the end of a vector, one after another.
+// Writes entries at the end of a vector, in order.
 fn append_entries(entries: &[FieldEntry], bytes: &mut Vec<u8>) -> R<()>
     ensures ok { OnOk result (bytes.new.items ≡ bytes.old.items ++ entries_bytes (entries_of entries.now)) }
     ensures end { OnOk result (entries_end (entries_of entries.now) ≡ None) }

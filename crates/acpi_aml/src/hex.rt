@@ -3,7 +3,7 @@
 ghost use Rattle.std.specs.Prelude.{◌≡◌, ◌<◌, ◌*◌, length, IfSome};
 ghost use Rattle.acpi_aml.specs.Hex.{digit_value, byte_of_digits, bytes_of_digits};
 
-// The value of a digit of either case.
+// The value of a hexadecimal digit in upper or lower case.
 fn digit_value(digit: u8) -> Option<u8>
     ensures value { result ≡ digit_value digit }
     ensures small { IfSome result (λ d. d < 16) }
@@ -16,7 +16,7 @@ fn digit_value(digit: u8) -> Option<u8>
     }
 }
 
-/// The byte of two digits.
+/// The byte that two digits stand for.
 pub(crate) fn byte_of_digits(high: u8, low: u8) -> Option<u8>
     ensures { result ≡ byte_of_digits high low }
 {
@@ -25,7 +25,7 @@ pub(crate) fn byte_of_digits(high: u8, low: u8) -> Option<u8>
     Some(16 * high + low)
 }
 
-/// The bytes of twice as many digits.
+/// The `N` bytes that a text of 2 `N` digits stands for.
 pub(crate) fn bytes_of_digits<const N: usize>(text: &[u8]) -> Option<[u8; N]>
     requires { length text.now ≡ 2 * N }
     ensures { result ≡ bytes_of_digits text.now }

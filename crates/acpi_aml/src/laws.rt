@@ -1,4 +1,4 @@
-//! Laws over the definitions that the contracts cite. Each function is a law: it does nothing, and ensures it.
+//! Laws about the definitions that the contracts use. Each function is a law: it does nothing, and its `ensures` states the law.
 
 ghost use Rattle.acpi_aml.specs.Laws.{BuildersMakePackages, RawIsScope, NamesOfObjectsMean, RegionsMean};
 ghost use Rattle.acpi_aml.specs.Laws.{FieldsMean, AllStatementsMean, CallsMean, TemplatesMean, NumbersMean};
@@ -8,27 +8,27 @@ ghost use Rattle.acpi_aml.specs.Laws.{VarPackagesMean, BuffersMean, BufferTermsM
 use crate::eisa::EISAName;
 use crate::uuid::Uuid;
 
-/// A builder to which elements were added writes their package.
+/// A builder to which elements were added writes the package of these elements.
 pub fn builders_make_packages()
     ensures { BuildersMakePackages }
 {}
 
-/// A scope of bytes is the scope of the children that wrote them.
+/// The scope of children's bytes is the scope of these children.
 pub fn raw_is_scope()
     ensures { RawIsScope }
 {}
 
-/// Scopes, devices, methods, power resources, names, mutexes, and what takes and gives these, spell their terms.
+/// Scopes, devices, methods, power resources, names, mutexes, `Acquire` and `Release` spell their terms.
 pub fn named_objects_mean()
     ensures { NamesOfObjectsMean }
 {}
 
-/// Operation regions of every space spell their terms.
+/// Operation regions in every address space spell their terms.
 pub fn regions_mean()
     ensures { RegionsMean }
 {}
 
-/// Fields of every access, lock and update rule spell their terms.
+/// Fields with every access type, lock rule and update rule spell their terms.
 pub fn fields_mean()
     ensures { FieldsMean }
 {}
@@ -48,21 +48,21 @@ pub fn templates_mean()
     ensures { TemplatesMean }
 {}
 
-/// Any UUID spells the buffer of its 16 bytes.
+/// Every UUID spells the buffer of its 16 bytes.
 pub fn uuid_means(uuid: &Uuid)
     ensures { UuidMeans uuid.now }
 {
     let _ = &uuid.bytes;
 }
 
-/// Any EISA id spells its number.
+/// Every EISA id spells its number.
 pub fn eisa_name_means(id: &EISAName)
     ensures { EisaNameMeans id.now }
 {
     let _ = &id.value;
 }
 
-/// Each number spells the number, in the width that is written.
+/// A number spells the term of this number, in the width that is written.
 pub fn numbers_mean()
     ensures { NumbersMean }
 {}
@@ -72,12 +72,12 @@ pub fn constants_mean()
     ensures { ConstantsMean }
 {}
 
-/// A standard string spells its text.
+/// A string of the standard spells its text.
 pub fn texts_mean()
     ensures { TextsMean }
 {}
 
-/// A path, or a field's name, spells a call without arguments.
+/// A path or a field's name spells a call without arguments.
 pub fn names_mean()
     ensures { NamesMean }
 {}
@@ -87,12 +87,12 @@ pub fn paths_mean()
     ensures { PathsMean }
 {}
 
-/// A builder spells the package of what its bytes spell.
+/// A builder spells the package of the terms that its bytes spell.
 pub fn builders_mean()
     ensures { BuildersMean }
 {}
 
-/// A variable package spells the terms of its data.
+/// A variable package spells the terms that its contents spell.
 pub fn var_packages_mean()
     ensures { VarPackagesMean }
 {}
@@ -102,7 +102,7 @@ pub fn buffers_mean()
     ensures { BuffersMean }
 {}
 
-/// A buffer of an object spells the first term of its bytes and the bytes after that.
+/// A buffer whose content an object writes spells the first term of that content, and the bytes after this term.
 pub fn buffer_terms_mean()
     ensures { BufferTermsMean }
 {}

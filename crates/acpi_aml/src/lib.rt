@@ -1,4 +1,4 @@
-//! Objects of AML: names, frames of named objects, packages, methods and what they are made of.
+//! AML objects: names, scopes, devices, methods, packages, buffers, fields and statements.
 #![tactic(auto)]
 
 pub mod buffer;

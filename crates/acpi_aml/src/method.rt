@@ -1,4 +1,4 @@
-//! Methods, their calls, arguments and local variables.
+//! Methods, method calls, arguments and local variables.
 
 ghost use Rattle.std.specs.Prelude.{[], map};
 ghost use Rattle.acpi_base.specs.Object.{Builds};
@@ -19,8 +19,8 @@ pub type Method = Written<DefMethod>;
 pub struct DefMethod;
 
 impl Method {
-    /// `args` is the number of arguments: MethodArgs past 7, else the first child's refusal, else PkgLength from 2^28
-    /// bytes on.
+    /// `args` is the number of arguments. The error is `MethodArgs` past 7, that of the first child that fails, or `PkgLength`
+    /// from 2^28 bytes on.
     pub fn new(path: Path, args: u8, serialized: bool, children: Vec<&dyn Aml>) -> R<Method>
         ensures { Builds result (row (def_method path args serialized) (map (λ child. object child.now) children.entry.items)) }
     {
@@ -40,7 +40,7 @@ pub type MethodCall = Written<MethodInvocation>;
 pub struct MethodInvocation;
 
 impl MethodCall {
-    /// The arguments are borrowed for the call. The first argument's refusal.
+    /// The arguments are borrowed for the call. The error is that of the first argument that fails.
     pub fn new(path: Path, args: Vec<&dyn Aml>) -> R<MethodCall>
         ensures { Builds result (row (call path) (map (λ child. object child.now) args.entry.items)) }
     {
@@ -49,7 +49,7 @@ impl MethodCall {
     }
 }
 
-/// An argument of the method, by its number (ACPI 6.5, 20.2.6.1). Past 6 it is refused when written, by ArgNumber.
+/// An argument of the method, by its number (ACPI 6.5, 20.2.6.1). Writing it returns `ArgNumber` if the number is more than 6.
 #[derive(Drop)]
 pub struct Arg(pub u8);
 
@@ -66,8 +66,8 @@ impl Aml for Arg {
     }
 }
 
-/// A local variable of the method, by its number (ACPI 6.5, 20.2.6.2). Past 7 it is refused when written, by
-/// LocalNumber.
+/// A local variable of the method, by its number (ACPI 6.5, 20.2.6.2). Writing it returns `LocalNumber` if the number is more
+/// than 7.
 #[derive(Drop)]
 pub struct Local(pub u8);
 

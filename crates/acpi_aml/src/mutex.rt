@@ -11,7 +11,7 @@ use acpi_base::object::Aml;
 use acpi_base::parts::write_parts;
 use acpi_base::sink::AmlSink;
 
-/// A mutex and its level (ACPI 6.5, 20.2.5.2, DefMutex).
+/// A mutex and its sync level (ACPI 6.5, 20.2.5.2, DefMutex).
 #[derive(Drop)]
 pub struct Mutex {
     path: Path,
@@ -40,7 +40,7 @@ impl Mutex {
     }
 }
 
-/// Waits for a mutex, for this many milliseconds; 0xffff is for ever (ACPI 6.5, 20.2.5.4, DefAcquire).
+/// Acquires a mutex, with a timeout in milliseconds; 0xffff waits without a limit (ACPI 6.5, 20.2.5.4, DefAcquire).
 #[derive(Drop)]
 pub struct Acquire {
     path: Path,
@@ -72,7 +72,7 @@ impl Acquire {
     }
 }
 
-/// Lets a mutex go (ACPI 6.5, 20.2.5.3, DefRelease).
+/// Releases a mutex (ACPI 6.5, 20.2.5.3, DefRelease).
 #[derive(Drop)]
 pub struct Release {
     path: Path,

@@ -1,4 +1,4 @@
-//! Names that are given to objects.
+//! Named objects.
 
 ghost use Rattle.std.specs.Prelude.{[], ◌∷◌};
 ghost use Rattle.acpi_base.specs.Object.{whole, Builds};
@@ -12,13 +12,13 @@ use acpi_base::object::Aml;
 use acpi_term::row::bare_on;
 use std::alloc::Global;
 
-/// A name that is given to an object, or a field's name by itself (ACPI 6.5, 20.2.5.1, DefName).
+/// An object with a name, or the name of a field alone (ACPI 6.5, 20.2.5.1, DefName).
 pub type Name = Written<DefName>;
 
 pub struct DefName;
 
 impl Name {
-    /// The object is borrowed for the call. Its refusal.
+    /// The object is borrowed for the call. The error is the object's.
     pub fn new(path: Path, inner: &dyn Aml) -> R<Name>
         ensures { Builds result (row (def_name path) (object inner.now ∷ [])) }
     {
@@ -28,7 +28,7 @@ impl Name {
         Ok(Written::of(bytes))
     }
 
-    /// The bytes of a text, as they are: the name of a field that an operator refers to.
+    /// The bytes of a text, without a check: the name of a field, as an operand of an operator.
     pub fn new_field_name(alloc: Global, text: &str) -> R<Name>
         ensures { Builds result (whole text.now) }
     {

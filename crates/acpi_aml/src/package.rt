@@ -17,8 +17,8 @@ pub type Package = Written<DefPackage>;
 pub struct DefPackage;
 
 impl Package {
-    /// The elements are borrowed for the call. PackageElements past 255 of them, else the first element's refusal, else
-    /// PkgLength from 2^28 bytes on.
+    /// The elements are borrowed for the call. The error is `PackageElements` past 255 elements, that of the first element that
+    /// fails, or `PkgLength` from 2^28 bytes on.
     pub fn new(children: Vec<&dyn Aml>) -> R<Package>
         ensures { Builds result (row def_package (map (λ child. object child.now) children.entry.items)) }
     {
@@ -31,13 +31,14 @@ impl Package {
     }
 }
 
-/// A list whose number of elements is a term that is evaluated (ACPI 6.5, 20.2.5.4, DefVarPackage).
+/// A list whose number of elements is a term that is evaluated at run time (ACPI 6.5, 20.2.5.4, DefVarPackage).
 pub type VarPackageTerm = Written<DefVarPackage>;
 
 pub struct DefVarPackage;
 
 impl VarPackageTerm {
-    /// `contents` writes the number of elements and then these. Its refusal, else PkgLength from 2^28 bytes on.
+    /// `contents` writes the number of elements and then the elements. The error is that of `contents`, or `PkgLength` from 2^28
+    /// bytes on.
     pub fn new(alloc: Global, contents: &dyn Aml) -> R<VarPackageTerm>
         ensures { Builds result (row def_var_package (object contents.now ∷ [])) }
     {

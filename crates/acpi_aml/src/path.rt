@@ -14,8 +14,8 @@ pub type Path = Written<NameString>;
 pub struct NameString;
 
 impl Path {
-    /// The path of a text: a `\` or none, and then parts between dots. NamePart if any part isn't four bytes long, else
-    /// PathParts past 255 of them.
+    /// The path of a text: an optional `\`, and then parts with dots between them. The error is `NamePart` if a part isn't four
+    /// bytes long; otherwise it is `PathParts` if there are more than 255 parts.
     #[inline(always)]
     pub fn new(alloc: Global, text: &str) -> R<Path>
         ensures { Builds result (path_of text.now) }

@@ -27,13 +27,13 @@ pub enum OpRegionSpace {
     GenericSerialBus,
 }
 
-/// A part of an address space, which fields take apart (ACPI 6.5, 20.2.5.2, DefOpRegion).
+/// A region of an address space, which fields divide (ACPI 6.5, 20.2.5.2, DefOpRegion).
 pub type OpRegion = Written<DefOpRegion>;
 
 pub struct DefOpRegion;
 
 impl OpRegion {
-    /// Offset and length are in bytes, and are borrowed for the call. The offset's refusal, else the length's.
+    /// Offset and length are in bytes, and are borrowed for the call. The error is that of the offset, or that of the length.
     pub fn new(path: Path, space: OpRegionSpace, offset: &dyn Aml, length: &dyn Aml) -> R<OpRegion>
         ensures { Builds result (row (def_op_region path (region_space space)) (object offset.now ∷ object length.now ∷ [])) }
     {

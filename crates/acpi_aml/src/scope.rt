@@ -12,13 +12,14 @@ use acpi_base::error::R;
 use acpi_base::object::Aml;
 use acpi_term::row::{frame, framed};
 
-/// Objects that stand below a name (ACPI 6.5, 20.2.5.1, DefScope).
+/// A scope: objects below a name (ACPI 6.5, 20.2.5.1, DefScope).
 pub type Scope = Written<DefScope>;
 
 pub struct DefScope;
 
 impl Scope {
-    /// The children are borrowed for the call. The first child's refusal, else PkgLength from 2^28 bytes on.
+    /// The children are borrowed for the call. The error is that of the first child that fails, or `PkgLength` from 2^28 bytes
+    /// on.
     pub fn new(path: Path, children: Vec<&dyn Aml>) -> R<Scope>
         ensures { Builds result (row (def_scope path) (map (λ child. object child.now) children.entry.items)) }
     {
@@ -26,7 +27,7 @@ impl Scope {
         Ok(Written::of(bytes))
     }
 
-    /// The bytes of a scope whose children are written already.
+    /// The bytes of a scope, from the bytes of its children. The error is `PkgLength` from 2^28 bytes on.
     pub fn raw(path: Path, children: Vec<u8>) -> R<Vec<u8>>
         ensures { Makes result (around (layout (def_scope path) 0 0) (whole children.items)) }
     {
@@ -36,13 +37,14 @@ impl Scope {
     }
 }
 
-/// A device and what belongs to it (ACPI 6.5, 20.2.5.2, DefDevice).
+/// A device and its objects (ACPI 6.5, 20.2.5.2, DefDevice).
 pub type Device = Written<DefDevice>;
 
 pub struct DefDevice;
 
 impl Device {
-    /// The children are borrowed for the call. The first child's refusal, else PkgLength from 2^28 bytes on.
+    /// The children are borrowed for the call. The error is that of the first child that fails, or `PkgLength` from 2^28 bytes
+    /// on.
     pub fn new(path: Path, children: Vec<&dyn Aml>) -> R<Device>
         ensures { Builds result (row (def_device path) (map (λ child. object child.now) children.entry.items)) }
     {
@@ -57,8 +59,8 @@ pub type PowerResource = Written<DefPowerRes>;
 pub struct DefPowerRes;
 
 impl PowerResource {
-    /// `level` is the deepest sleep level in which the resource has to stay on, `order` its place among the others. The
-    /// first child's refusal, else PkgLength from 2^28 bytes on.
+    /// `level` is the deepest sleep level in which the resource has to stay on, and `order` its place in the order of power
+    /// resources. The error is that of the first child that fails, or `PkgLength` from 2^28 bytes on.
     pub fn new(path: Path, level: u8, order: u16, children: Vec<&dyn Aml>) -> R<PowerResource>
         ensures { Builds result (row (def_power_res path level order) (map (λ child. object child.now) children.entry.items)) }
     {

@@ -12,7 +12,7 @@ use acpi_base::record::{Field, record};
 use acpi_base::sink::AmlSink;
 use std::marker::Model;
 
-/// A UUID as a buffer of 16 bytes (ACPI 6.5, 19.6.142).
+/// A UUID, which is written as a buffer of 16 bytes (ACPI 6.5, 19.6.142).
 #[derive(Drop)]
 pub struct Uuid {
     pub(crate) bytes: [u8; 16],
@@ -41,8 +41,8 @@ impl Aml for Uuid {
 }
 
 impl Uuid {
-    /// The UUID of a text: groups of 8, 4, 4, 4 and 12 hexadecimal digits of either case with `-` between them. UuidText
-    /// unless it is that. The first three groups are numbers, which stand lowest byte first.
+    /// The UUID of a text: groups of 8, 4, 4, 4 and 12 hexadecimal digits in upper or lower case, with `-` between them. The
+    /// error is `UuidText` for any other text. The first three groups are numbers, which are written lowest byte first.
     pub fn new(name: &str) -> R<Uuid>
         ensures ok { IfOk result (λ u. uuid_bytes name.now ≡ Some u) }
         ensures uuid { IfOk result (λ u. IsUuid u) }

@@ -1,4 +1,4 @@
-//! Objects that are their bytes, which were made beforehand.
+//! Objects that store their bytes, made by their constructor.
 
 ghost use Rattle.std.specs.Prelude.{◌≡◌, ℕ, List};
 ghost use Rattle.acpi_base.specs.Object.{whole, whole_ends_well};
@@ -8,7 +8,7 @@ use acpi_base::object::Aml;
 use acpi_base::sink::AmlSink;
 use std::marker::{Model, PhantomData};
 
-/// The bytes of an object, of one kind or another.
+/// The bytes of an object of kind `K`.
 #[derive(Drop)]
 pub struct Written<K> {
     pub(crate) bytes: Vec<u8>,

@@ -135,7 +135,7 @@ fn a_scope_of_memory(rt: HostRuntime) -> Result<(), Fail> {
     )
 }
 
-// A range that is all but the last address, and the fields of its ends and of its length.
+// A range of all addresses but the last, and fields for its ends and its length.
 #[test]
 fn a_method_of_fields(rt: HostRuntime) -> Result<(), Fail> {
     let alloc = rt.alloc();

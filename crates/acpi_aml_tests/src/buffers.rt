@@ -33,7 +33,7 @@ fn buffers(rt: HostRuntime) -> Result<(), Fail> {
     )
 }
 
-// The size is in the least width, and the length before it counts both.
+// The size is written in the least width. The length before it counts the size and the bytes.
 #[test]
 fn sizes_of_buffers(rt: HostRuntime) -> Result<(), Fail> {
     let alloc = rt.alloc();
@@ -60,7 +60,7 @@ fn sizes_of_buffers(rt: HostRuntime) -> Result<(), Fail> {
     Ok(())
 }
 
-// The letters of an id stand in the two high bytes, five bits each, and its digits in the two low ones.
+// The letters of an id have five bits each in the two high bytes, and its digits are the two low ones.
 #[test]
 fn eisa_ids(rt: HostRuntime) -> Result<(), Fail> {
     let alloc = rt.alloc();

@@ -1,4 +1,4 @@
-//! What errors are called, and what they say.
+//! The names and texts of errors.
 
 use acpi_tables::Error;
 use acpi_tables::read::ReadError;

@@ -1,5 +1,5 @@
-//! Tests of AML and of tables after the standard header: bytes from outside, what they read back to, and that each call succeeds
-//! where memory is ample.
+//! Tests of AML and of tables with a header and the caller's content: bytes worked out by hand, the terms that they read back to,
+//! and that each call succeeds if there is memory.
 #![tactic(auto)]
 
 #[cfg(test)]

@@ -54,7 +54,7 @@ fn paths(rt: HostRuntime) -> Result<(), Fail> {
     makes(alloc, Name::new_field_name(alloc, "FLD0"), b"FLD0")
 }
 
-// A text of this many parts more than one.
+// A text with `more` parts after its first.
 fn parts(alloc: Global, more: usize) -> Result<String, Fail> {
     let mut text = String::new(alloc);
     text.push_str("_SB_")?;

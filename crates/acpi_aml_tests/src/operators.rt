@@ -12,7 +12,7 @@ use acpi_vectors::makes;
 use std::alloc::Global;
 use std::test::Fail;
 
-// What was made writes these bytes, and they read back to this operator over the terms of these lines.
+// Fails unless the object writes these bytes, and they read back to this operator over the terms of these lines.
 fn shows<T: Aml + Drop>(
     alloc: Global,
     made: R<T>,

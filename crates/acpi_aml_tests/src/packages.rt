@@ -40,7 +40,7 @@ fn a_named_package(rt: HostRuntime) -> Result<(), Fail> {
     )
 }
 
-// Where the interrupts of a bus go: an address, a pin, a path and a number, and the package of these.
+// The routes of a bus's interrupts: an address, a pin, a path, a number, and the package of these.
 const ROUTES: [(u32, u8, &str, u32, &[u8]); 8] = [
     (
         0x1_ffff,
@@ -141,7 +141,7 @@ fn a_table_of_a_package(rt: HostRuntime) -> Result<(), Fail> {
     )
 }
 
-// A boxed object is given to each sink as the object itself is.
+// A boxed object writes the same to each sink as the object itself.
 #[test]
 fn a_boxed_package(rt: HostRuntime) -> Result<(), Fail> {
     let alloc = rt.alloc();
@@ -229,7 +229,7 @@ fn variable_package(rt: HostRuntime) -> Result<(), Fail> {
     )
 }
 
-// Whether a scope of this many bytes begins with these, behind its opcode. The name takes four of its content.
+// Whether a scope of this many bytes begins with these bytes after its opcode. Its name is four bytes of the content.
 fn framed(alloc: Global, content: usize, start: &[u8]) -> Result<bool, Fail> {
     let raw = Scope::raw(
         Path::new(alloc, "_SB_")?,

@@ -1,4 +1,4 @@
-//! What each constructor writes reads back to the term that it means: shown by the term's report.
+//! The bytes of each constructor read back to the term that it means. The term is shown by its report.
 
 mod buffers;
 mod objects;
@@ -20,7 +20,7 @@ fn stated(alloc: Global, name: &str, count: u8) -> Result<Arities, Fail> {
     Ok(Arities::new(vec![in alloc; (name, count)]?)?)
 }
 
-// Bytes are read as the terms of the lines beside them.
+// Fails unless bytes are read as the terms of the lines in their row.
 pub(super) fn prints(alloc: Global, arities: &Arities, rows: &[(&[u8], &str)]) -> Result<(), Fail> {
     for (bytes, lines) in rows {
         agree(&report_terms(alloc, &terms(*bytes, arities)?)?, *lines)?;
@@ -28,7 +28,7 @@ pub(super) fn prints(alloc: Global, arities: &Arities, rows: &[(&[u8], &str)]) -
     Ok(())
 }
 
-// Objects mean the terms of the lines beside them.
+// Fails unless objects mean the terms of the lines in their row.
 fn means(alloc: Global, arities: &Arities, rows: &[(&dyn Aml, &str)]) -> Result<(), Fail> {
     for (aml, lines) in rows {
         agree(&report_terms(alloc, &terms_of(*aml, arities)??)?, *lines)?;
@@ -36,7 +36,7 @@ fn means(alloc: Global, arities: &Arities, rows: &[(&dyn Aml, &str)]) -> Result<
     Ok(())
 }
 
-// What was made is read as the terms of these lines, where nothing is stated of names.
+// Fails unless the object is read as the terms of these lines, if no name takes arguments.
 fn reads<T: Aml + Drop>(alloc: Global, made: R<T>, lines: &str) -> Result<(), Fail> {
     let mut bytes = Vec::new(alloc);
     made?.to_aml_bytes(&mut bytes)?;

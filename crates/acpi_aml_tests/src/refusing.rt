@@ -1,4 +1,4 @@
-//! Objects that refuse.
+//! Objects that return errors.
 
 use acpi_tables::aml::{
     Add, AddressSpace, Arg, Device, Else, If, Local, Method, MethodCall, Name, NotEqual, ONE,
@@ -86,7 +86,7 @@ fn the_first_refusal_in_written_order(rt: HostRuntime) -> Result<(), Fail> {
     refuses(NotEqual::new(alloc, &ONE, &BROKEN), Error::Sink(9))
 }
 
-// A number past its own limit, and a child or a part that refuses: the limit comes first.
+// If a number passes its limit and a child fails, the error is that of the limit.
 #[test]
 fn limits_before_children(rt: HostRuntime) -> Result<(), Fail> {
     let alloc = rt.alloc();
@@ -104,7 +104,7 @@ fn limits_before_children(rt: HostRuntime) -> Result<(), Fail> {
     Ok(())
 }
 
-// A text of this first part, 254 others and this last part.
+// A text of this first part, 254 other parts, and this last part.
 fn parts(alloc: Global, first: &str, last: &str) -> Result<String, Fail> {
     let mut text = String::from_str(alloc, first)?;
     for _ in 0..254 {
@@ -128,7 +128,7 @@ fn parts_before_their_number(rt: HostRuntime) -> Result<(), Fail> {
     Ok(())
 }
 
-// Of two parts that refuse the one that is written first tells why.
+// If two parts fail, the error is that of the part that is written first.
 #[test]
 fn the_first_part_that_refuses(rt: HostRuntime) -> Result<(), Fail> {
     let alloc = rt.alloc();

@@ -18,7 +18,7 @@ fn word_spaces(rt: HostRuntime) -> Result<(), Fail> {
                     0x00, 0x00, 0x01,
                 ],
             ),
-            // One port alone, and all but one.
+            // One port alone, and all ports but one.
             (
                 &AddressSpace::new_io(5u16, 5, None),
                 &[
@@ -33,7 +33,7 @@ fn word_spaces(rt: HostRuntime) -> Result<(), Fail> {
                     0x12, 0xff, 0xff,
                 ],
             ),
-            // First and last add up to the last of all, but the range ends one before that.
+            // The first and the last add up to the greatest address, but the range ends one before that.
             (
                 &AddressSpace::new_bus_number(1u16, 0xfffe),
                 &[
@@ -173,7 +173,7 @@ fn ranges_without_a_length(rt: HostRuntime) -> Result<(), Fail> {
     Ok(())
 }
 
-// The name that a device's settings have, over a template.
+// A name for a template, as a device's settings have it.
 fn settings(alloc: Global, template: R<ResourceTemplate>) -> R<Name> {
     Name::new(Path::new(alloc, "_CRS")?, &template?)
 }

@@ -48,7 +48,7 @@ fn constants(rt: HostRuntime) -> Result<(), Fail> {
     )
 }
 
-// What the widths from one byte to eight give a sink, and two bytes together.
+// The bytes that a sink gets from `byte`, `word`, `dword` and `qword`, and two more.
 const WIDE: [u8; 17] = [
     0x12, 0x56, 0x34, 0xde, 0xbc, 0x9a, 0x78, 8, 7, 6, 5, 4, 3, 2, 1, 0xaa, 0xbb,
 ];
@@ -72,7 +72,7 @@ pub(super) fn dsdt(alloc: Global) -> R<Sdt> {
     Sdt::new(alloc, *b"DSDT", 36, 2, OEM, OEM_TABLE, OEM_REVISION)
 }
 
-// The table has this length, checksum and contents, and the rest of its header is that of `dsdt`.
+// Fails unless the table has this length, checksum and content, and otherwise the header of `dsdt`.
 fn whole_is(table: &Sdt, len: u8, checksum: u8, contents: &[u8]) -> Result<(), Fail> {
     let mut header = *b"DSDT\0\0\0\0\x02\0FOOBARCAFEDEAD\xef\xbe\xad\xdeRVAT\0\0\0\x01";
     header[4] = len;

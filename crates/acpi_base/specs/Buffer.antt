@@ -3,7 +3,7 @@ use Rattle.std.specs.Prelude.{ℕ, List, ◌++◌, true, false, IsTrue, refl, Ve
 use Rattle.std.specs.declared.alloc.Global.{Global}
 use Rattle.acpi_base.specs.Sink.{Meaning}
 
--- it shows all that it holds, and refuses nothing but Memory
+-- a vector as a sink: it shows all its bytes, and `Memory` is its only error
 unfoldable pub buffer_of : Vec ℕ Global → Meaning
 buffer_of held = record {
   shows = λ more. held.items ++ more;

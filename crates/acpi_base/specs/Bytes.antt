@@ -11,7 +11,7 @@ AreBytes (b ∷ bytes) = (b < 256) × AreBytes bytes
 abbrev pub le : ℕ → ℕ → List ℕ
 le w v = bytes_low_first 0 w v
 
--- the number that bytes carry, lowest first
+-- the number that these bytes stand for, lowest byte first
 abbrev pub carried : List ℕ → ℕ
 carried [] = 0
 carried (b ∷ bytes) = b + 256 * carried bytes
@@ -24,6 +24,6 @@ field_at offset w bytes = carried (take w (drop offset bytes))
 unfoldable pub put : ℕ → List ℕ → List ℕ → List ℕ
 put offset with bytes = take offset bytes ++ (with ++ drop (offset + length with) bytes)
 
--- what makes a sum zero modulo 256
+-- the number that makes a sum zero modulo 256
 abbrev pub complement : ℕ → ℕ
 complement n = (256 - n % 256) % 256

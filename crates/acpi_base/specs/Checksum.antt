@@ -2,7 +2,7 @@
 use Rattle.std.specs.Prelude.{◌≡◌, ℕ, ◌+◌, ◌%◌, List, [], ◌∷◌, sum, true, false, IsTrue, refl}
 use Rattle.acpi_base.specs.Sink.{Meaning}
 
--- it shows the one byte that its sum comes to
+-- a checksum as a sink: it shows one byte, its sum
 unfoldable pub checksum_of : ℕ → Meaning
 checksum_of value = record {
   shows = λ more. (value + sum more) % 256 ∷ [];

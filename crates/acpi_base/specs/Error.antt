@@ -1,4 +1,4 @@
--- What an error is called, and what it says.
+-- The names and texts of errors.
 use Rattle.std.specs.Prelude.{ℕ, List, ◌++◌, codes}
 use Rattle.std.specs.Fmt.{decimal}
 use Rattle.acpi_base.specs.declared.error.Error.{Error}

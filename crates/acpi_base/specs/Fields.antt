@@ -1,4 +1,4 @@
--- Records as fields in order. Each has its name in the standard, its width in bytes, and its bytes.
+-- Records as lists of fields. A field has its name in the standard, its width in bytes, and its bytes.
 use Rattle.std.specs.Prelude.{◌≡◌, ℕ, ◌≤◌, List, [], ◌∷◌, ◌++◌, Bool, true, nat_le, ◌&&◌, map, length, codes}
 use Prim.Native.String.{String}
 use Rattle.acpi_base.specs.Bytes.{le}
@@ -61,7 +61,7 @@ row_width (Reserved width) = width
 abbrev pub AreRowsOf : List Row → List NamedField → Type 0
 AreRowsOf rows fields = (map row_name rows ≡ map (λ f. f.name) fields) × (map row_width rows ≡ map (λ f. f.width) fields)
 
--- values one after another, each as its row has it
+-- values in order, each written by the row at its place
 abbrev pub rows_joined : {V : Type 0} → (Row → V → List ℕ) → List Row → List V → List ℕ
 rows_joined f (row ∷ rows) (value ∷ values) = f row value ++ rows_joined f rows values
 rows_joined f _ _ = []
@@ -73,12 +73,12 @@ number_bytes row value = le (row_width row) value
 abbrev pub numbers_joined : List Row → List ℕ → List ℕ
 numbers_joined rows numbers = rows_joined number_bytes rows numbers
 
--- no field is wider than a number
+-- no number is wider than eight bytes
 abbrev pub are_numbers : List Row → Bool
 are_numbers [] = true
 are_numbers (row ∷ rows) = nat_le (row_width row) 8 && are_numbers rows
 
--- a number of this many bytes, or bytes as they are
+-- a number of this many bytes, or bytes in their order
 abbrev pub value_in : ℕ → Value → List ℕ
 value_in width (values.Number value) = le width value
 value_in width (values.Bytes value) = value.now
@@ -89,7 +89,7 @@ value_bytes row value = value_in (row_width row) value
 abbrev pub values_joined : List Row → List Value → List ℕ
 values_joined rows values = rows_joined value_bytes rows values
 
--- a number is at most eight bytes wide, and bytes are as many as their row says
+-- a number is at most eight bytes wide, and the number of bytes is that of the row
 abbrev pub Fits : ℕ → Value → Type 0
 Fits width (values.Number value) = width ≤ 8
 Fits width (values.Bytes value) = length value.now ≡ width

@@ -53,12 +53,12 @@ gas space bit_width bit_offset size address = record {
   address = address;
 }
 
--- In the configuration space of a PCI function of segment 0, bus 0, the address has the device at bit 32, the function at
--- bit 16, and the register's offset below.
+-- A register in the configuration space of a PCI function of segment 0 and bus 0. The address has the device's number at bit 32,
+-- the function's at bit 16, and the register's offset in its low bits.
 abbrev pub pci_config_gas : ℕ → AccessSize → ℕ → ℕ → ℕ → GAS
 pci_config_gas bit_width size device function register =
     gas spaces.PciConfigSpace bit_width 0 size (device * 2 ^ 32 + function * 2 ^ 16 + register)
 
--- a register address of which everything is zero
+-- a register address in which every field is zero
 abbrev pub no_register : GAS
 no_register = gas spaces.SystemMemory 0 0 sizes.Undefined 0

@@ -17,6 +17,6 @@ header_fields signature size revision oem =
     ∷ bytes "Creator Revision" 4 (0 ∷ 0 ∷ 0 ∷ 1 ∷ [])  -- 32
     ∷ []
 
--- its 36 bytes
+-- the 36 bytes of the header
 abbrev pub header : List ℕ → ℕ → ℕ → Oem → List ℕ
 header signature size revision oem = fields_joined (header_fields signature size revision oem)

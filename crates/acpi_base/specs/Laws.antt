@@ -1,4 +1,4 @@
--- What holds of the definitions, whatever calls there are.
+-- Laws about the definitions, which hold for all calls.
 use Rattle.std.specs.Prelude.{◌≡◌, ℕ, ◌+◌, ◌-◌, ◌^◌, ◌%◌, ◌<◌, ◌≤◌, length, drop, List, [], ◌∷◌, ◌++◌, sum, false, None}
 use Rattle.std.specs.Int.{to_le_bytes, w16, w32, w64}
 use Rattle.acpi_base.specs.declared.error.Error.{Error}
@@ -17,12 +17,12 @@ WritesJoin = (sink : Meaning) (a b : List ℕ) → after (after sink a) b ≡ af
 abbrev pub NothingChangesNothing : Type 0
 NothingChangesNothing = (sink : Meaning) → after sink [] ≡ sink
 
--- A sink that is given bytes one by one.
+-- a sink after it took bytes one by one
 abbrev pub after_each : Meaning → List ℕ → Meaning
 after_each sink [] = sink
 after_each sink (b ∷ bytes) = after_each (after sink (b ∷ [])) bytes
 
--- A number is its bytes, lowest first, at once or one by one.
+-- A number is its bytes, lowest first, whether it is written at once or byte by byte.
 abbrev pub WordsAreBytes : Type 0
 WordsAreBytes =
     (sink : Meaning) (v : ℕ)
@@ -47,20 +47,20 @@ DeleteRestores =
 abbrev pub ValueMakesZero : Type 0
 ValueMakesZero = (raw value : ℕ) → raw < 256 → value ≡ (256 - raw) % 256 → (raw + value) % 256 ≡ 0
 
--- What has a header, and a length below 2^32, is a table.
+-- Bytes with a header and a length below 2^32 are a table.
 abbrev pub TablesAreTrue : Type 0
 TablesAreTrue =
     (signature body : List ℕ) (revision : ℕ) (oem : Oem) → length signature ≡ 4 → length oem.id ≡ 6 → length oem.table_id ≡ 8
     → 36 + length body < 2 ^ 32
     → IsTrueTable (table_of signature revision oem body) × (length (table_of signature revision oem body) ≡ 36 + length body)
 
--- So is what bytes were added to, whatever its length field held before.
+-- So are bytes to which others were added, for each value of the old length field.
 abbrev pub AddedIsTrue : Type 0
 AddedIsTrue =
     (table bytes : List ℕ) → 36 ≤ length table → 1 ≤ length bytes → length table + length bytes < 2 ^ 32
     → IsTrueTable (added table bytes) × (length (added table bytes) ≡ length table + length bytes)
 
--- Whatever is written over, the bytes sum to zero, and are as many.
+-- Overwriting keeps the number of bytes, and they sum to zero after it.
 abbrev pub OverwrittenSumsToZero : Type 0
 OverwrittenSumsToZero =
     (table bytes : List ℕ) (offset : ℕ) → 36 ≤ length table → offset + length bytes ≤ length table
@@ -69,11 +69,11 @@ OverwrittenSumsToZero =
 abbrev pub AddedAtOnce : Type 0
 AddedAtOnce = (table a b : List ℕ) → 36 ≤ length table → added (added table a) b ≡ added table (a ++ b)
 
--- What is added ends what stands after the header.
+-- Added bytes are the last bytes of a table.
 abbrev pub AddedEnds : Type 0
 AddedEnds = (table bytes : List ℕ) → 36 ≤ length table → drop 36 (added table bytes) ≡ drop 36 table ++ bytes
 
--- After any list of calls, accepted or refused, a table is what these make of it.
+-- After any list of calls, successful or not, a table has the bytes that these calls make.
 abbrev pub SdtsAreTheirCalls : Type 0
 SdtsAreTheirCalls =
     (start : Contents) (calls : List SdtCall) → 36 ≤ length start.bytes → AreSdtCalls start calls

@@ -19,7 +19,7 @@ qword value = le 8 value
 abbrev pub zeros : ℕ → List ℕ
 zeros n = replicate n 0
 
--- fields, one after another
+-- the bytes of fields, in order
 abbrev pub record_of : List (List ℕ) → List ℕ
 record_of [] = []
 record_of (field ∷ fields) = field ++ record_of fields

@@ -2,7 +2,7 @@
 use Rattle.std.specs.Prelude.{ℕ, ◌^◌, ◌==◌, List, [], ◌∷◌, nat_lt, if◌then◌else◌}
 use Rattle.acpi_base.specs.Bytes.{le}
 
--- A number below this can be spelled in the width: 0 for the bytes 00 and 01, else 1, 2, 4 or 8 bytes after a prefix.
+-- A number below this fits the width: 0 for the bytes 00 and 01 alone, or 1, 2, 4 or 8 bytes after a prefix.
 abbrev pub number_limit : ℕ → ℕ
 number_limit w =
     if w == 0 then 2
@@ -16,11 +16,11 @@ number_limit w =
 abbrev pub prefix : ℕ → ℕ
 prefix w = if w == 1 then 0x0a else (if w == 2 then 0x0b else (if w == 4 then 0x0c else 0x0e))
 
--- a number in its width
+-- a number in a given width
 abbrev pub number_bytes : ℕ → ℕ → List ℕ
 number_bytes v w = if w == 0 then v ∷ [] else prefix w ∷ le w v
 
--- the least width
+-- the least width of a number
 abbrev pub number_width : ℕ → ℕ
 number_width v =
     if nat_lt v 2 then 0

@@ -4,7 +4,7 @@ use Rattle.acpi_base.specs.declared.record.Field.{Field}
 use Rattle.acpi_base.specs.declared.record.Field.TheVariants.{Byte, Word, DWord, QWord, Bytes}
 use Rattle.acpi_base.specs.Bytes.{le}
 
--- a number in its width, lowest byte first, or bytes as they are
+-- a number in its width, lowest byte first, or bytes in their order
 abbrev pub field_bytes : Field → List ℕ
 field_bytes (Byte value) = value ∷ []
 field_bytes (Word value) = le 2 value

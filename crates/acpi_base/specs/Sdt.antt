@@ -10,33 +10,33 @@ use Rattle.acpi_base.specs.Sink.{Meaning}
 use Rattle.acpi_base.specs.Object.{Object}
 use Rattle.acpi_base.specs.Table.{with_checksum}
 
--- its bytes, and how many bytes were summed for it
+-- the bytes of a table, and how many bytes were summed for it
 pub record Contents : Type 0 where
   pub bytes : List ℕ
   pub summed : ℕ
 
--- ---- what calls make of the bytes
+-- ---- the bytes after a call
 
--- the bytes with their length at 4 and the checksum made true
+-- the bytes with their length at offset 4 and the right checksum
 abbrev pub sealed : List ℕ → List ℕ
 sealed bytes = with_checksum (put 4 (le 4 (length bytes)) bytes)
 
--- a table to which bytes were added
+-- a table after bytes were added
 abbrev pub added : List ℕ → List ℕ → List ℕ
 added table [] = table
 added table (b ∷ bytes) = sealed (table ++ b ∷ bytes)
 
--- a table over whose bytes at an offset others were written
+-- a table after bytes were written over those at an offset
 abbrev pub overwritten : List ℕ → ℕ → List ℕ → List ℕ
 overwritten table offset bytes = with_checksum (put offset bytes table)
 
--- how many bytes are summed where these are added: themselves, and the four of the old length and of the new one
+-- how many bytes are summed for an addition: the added bytes, the four of the old length and the four of the new length
 abbrev pub addition_cost : List ℕ → ℕ
 addition_cost [] = 0
 addition_cost (b ∷ bytes) = length (b ∷ bytes) + 8
 
--- Bytes were added at the end, or the call was refused and nothing changed: by FieldWidth where the length would reach
--- 2^32, and there alone.
+-- The bytes were added at the end, or the call failed and nothing changed. It fails with `FieldWidth`, and only where the length
+-- would reach 2^32.
 pub record Addition (result : Result Unit Error) (old : Contents) (bytes : List ℕ) (new : Contents) : Type 0 where
   pub ok : OnOk result (new.bytes ≡ added old.bytes bytes)
   pub fits : OnOk result (length old.bytes + length bytes < 2 ^ 32)
@@ -44,19 +44,19 @@ pub record Addition (result : Result Unit Error) (old : Contents) (bytes : List 
   pub cause : IfErr result (λ e. e ≢ Memory → (e ≡ FieldWidth) × (2 ^ 32 ≤ length old.bytes + length bytes))
   pub cost : OnOk result (new.summed ≡ old.summed + addition_cost bytes)
 
--- a whole object was written at the end
+-- all bytes of an object without an error were written at the end
 pub record AddedObject (object : Object) (old new : List ℕ) : Type 0 where
   pub is_whole : object.end ≡ None
   pub is : new ≡ added old object.front
 
--- bytes were written over those at an offset, and both were summed, and the byte that stood at the checksum's place
+-- Bytes were written over those at an offset. The old and the new bytes were summed, and the old byte at the checksum's offset.
 pub record Overwriting (old : Contents) (offset : ℕ) (bytes : List ℕ) (new : Contents) : Type 0 where
   pub is : new.bytes ≡ overwritten old.bytes offset bytes
   pub cost : new.summed ≡ old.summed + (2 * length bytes + 1)
 
--- ---- as a sink
+-- ---- tables as sinks
 
--- whether the table's length still fits 32 bits with these bytes added
+-- whether the table's length fits 32 bits after these bytes are added
 abbrev pub fits : List ℕ → List ℕ → Bool
 fits table [] = true
 fits table (b ∷ bytes) = nat_lt (length table + length (b ∷ bytes)) (2 ^ 32)

@@ -1,17 +1,17 @@
--- Sinks.
+-- Sinks: what their contracts say.
 use Rattle.std.specs.Prelude.{◌≡◌, ◌≢◌, ℕ, List, ◌++◌, Bool, false, IsTrue}
 use Rattle.acpi_base.specs.declared.error.Error.{Error}
 use Rattle.acpi_base.specs.declared.error.Error.TheVariants.{Memory}
 
--- What a sink is to its writers: what it shows once it has taken a list of bytes more, whether it takes that list, which
--- refusals beside Memory it tells of bytes that it doesn't take, and whether it may want memory.
+-- The meaning of a sink: what it shows after it took a list of further bytes, whether it takes that list, which errors other than
+-- `Memory` it returns for bytes that it doesn't take, and whether it may run out of memory.
 pub record Meaning : Type 0 where
   pub shows : List ℕ → List ℕ
   pub takes : List ℕ → Bool
   pub tells : Error → Bool
   pub wants_memory : Bool
 
--- The sink once it has taken the bytes: each further list is to it what both joined were before.
+-- A sink after it took bytes. What a further list does to it is what both lists joined did before.
 abbrev pub after : Meaning → List ℕ → Meaning
 after sink bytes = record {
   shows = λ more. sink.shows (bytes ++ more);
@@ -20,24 +20,24 @@ after sink bytes = record {
   wants_memory = sink.wants_memory;
 }
 
--- It took all of the bytes.
+-- The sink took all bytes.
 pub record Took (old : Meaning) (bytes : List ℕ) (new : Meaning) : Type 0 where
   pub moved : new ≡ after old bytes
 
--- It took a beginning of the bytes, none or all of them too.
+-- The sink took a first part of the bytes. This part may be empty, and may be all of them.
 pub record TookBeginning (old : Meaning) (bytes : List ℕ) (new : Meaning) : Type 0 where
   pub part : List ℕ
   pub rest : List ℕ
   pub joined : part ++ rest ≡ bytes
   pub took : Took old part new
 
--- A refusal of the sink's own, of bytes that it doesn't take, whatever follows them.
+-- An error of the sink for bytes that it doesn't take. It doesn't depend on the bytes that follow.
 pub record IsTold (error : Error) (sink : Meaning) (bytes : List ℕ) : Type 0 where
   pub told : IsTrue (sink.tells error)
   pub untaken : (more : List ℕ) → sink.takes (bytes ++ more) ≡ false
 
--- It refused the bytes, of which it took a beginning: for Memory only where it may want memory, and otherwise by
--- a refusal of its own.
+-- The sink returned an error and took a first part of the bytes. The error is `Memory` only if the sink may run out of memory.
+-- Any other error is one that the sink returns for bytes that it doesn't take.
 pub record Refused (error : Error) (old : Meaning) (bytes : List ℕ) (new : Meaning) : Type 0 where
   pub beginning : TookBeginning old bytes new
   pub memory : error ≡ Memory → IsTrue old.wants_memory

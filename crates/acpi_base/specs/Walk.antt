@@ -8,21 +8,21 @@ use Rattle.acpi_base.specs.declared.walk.Sizes.{Sizes}
 use Rattle.acpi_base.specs.declared.walk.Sizes.TheVariants.{EachOf, ToldAt, BySource}
 use Rattle.acpi_base.specs.declared.walk.Walk.{Walk}
 
--- where a field begins
+-- the offset of a field's first byte
 abbrev pub place_offset : Place → ℕ
 place_offset Nowhere = 0
 place_offset (Byte offset) = offset
 place_offset (Word offset) = offset
 place_offset (DWord offset) = offset
 
--- how many bytes it has: none where there is no field
+-- the width of a field in bytes, or 0 if there is no field
 abbrev pub place_width : Place → ℕ
 place_width Nowhere = 0
 place_width (Byte offset) = 1
 place_width (Word offset) = 2
 place_width (DWord offset) = 4
 
--- where it ends
+-- the offset after a field
 abbrev pub end_of : Place → ℕ
 end_of place = place_offset place + place_width place
 
@@ -41,7 +41,7 @@ source_size kind =
     else (if kind == 10 then Some 92
     else None))))
 
--- the bytes are a structure as long as it has to be
+-- the bytes are one structure: their number is the length that its type or its length field gives
 abbrev pub IsPiece : Sizes → List ℕ → Type 0
 IsPiece (EachOf size) piece = length piece ≡ size
 IsPiece (ToldAt place) piece = (end_of place ≤ length piece) × (number_in place piece ≡ length piece)
@@ -51,11 +51,12 @@ abbrev pub ArePieces : Sizes → List (List ℕ) → Type 0
 ArePieces sizes [] = Unit {0}
 ArePieces sizes (piece ∷ pieces) = IsPiece sizes piece × ArePieces sizes pieces
 
--- the field at a place, where there is one, holds the number
+-- the field contains the number, or there is no field
 abbrev pub Tells : Place → List ℕ → ℕ → Type 0
 Tells place bytes n = 1 ≤ place_width place → number_in place bytes ≡ n
 
--- The pieces, one after another, are all that stands from the start on, and the fields that tell of them are right.
+-- The pieces, in order, are all bytes from the start on. The number of structures and the offset of the first are right, if the
+-- table has fields for them.
 pub record Walks (w : Walk) (bytes : List ℕ) (pieces : List (List ℕ)) : Type 0 where
   pub reaches : w.start ≤ length bytes
   pub joined : drop w.start bytes ≡ concat pieces
@@ -63,31 +64,31 @@ pub record Walks (w : Walk) (bytes : List ℕ) (pieces : List (List ℕ)) : Type
   pub counted : Tells w.count bytes (length pieces)
   pub started : Tells w.told_start bytes w.start
 
--- where the pieces begin, the first at this offset
+-- the offsets of the pieces, if the first is at this offset
 abbrev pub offsets_from : ℕ → List (List ℕ) → List ℕ
 offsets_from start [] = []
 offsets_from start (piece ∷ pieces) = start ∷ offsets_from (start + length piece) pieces
 
--- no structure is without bytes
+-- every structure has at least one byte
 abbrev pub HasSizes : Sizes → Type 0
 HasSizes (EachOf size) = 1 ≤ size
 HasSizes (ToldAt place) = 1 ≤ end_of place
 HasSizes BySource = Unit {0}
 
--- the bytes that every structure has at least
+-- the least number of bytes of a structure
 abbrev pub least : Sizes → ℕ
 least (EachOf size) = size
 least (ToldAt place) = end_of place
 least BySource = 2
 
--- A walk's structures have bytes, each reaches the field of its type, and the table's fields stand before all of them.
+-- Each structure of a walk has bytes and contains the field of its type. The table's own fields end before the structures.
 pub record IsSound (w : Walk) : Type 0 where
   pub has : HasSizes w.sizes
   pub kind : end_of w.kind ≤ least w.sizes
   pub count : end_of w.count ≤ w.start
   pub told : end_of w.told_start ≤ w.start
 
--- At most one list of pieces walks a table.
+-- A table has at most one list of pieces.
 abbrev pub OneWalk : Type 0
 OneWalk = (w : Walk) (bytes : List ℕ) (ps qs : List (List ℕ)) → HasSizes w.sizes → Walks w bytes ps → Walks w bytes qs → ps ≡ qs
 
@@ -150,24 +151,24 @@ walks =
     ∷ (codes "HMAT", hmat_walk)
     ∷ []
 
--- the walk beside a signature
+-- the walk in the row of a signature
 abbrev pub find_walk : ℕ → List (List ℕ × Walk) → Option Walk
 find_walk s [] = None
 find_walk s (row ∷ rows) = if s == named row.0 then Some row.1 else find_walk s rows
 
--- the walk of the tables of a signature, where they have structures
+-- the walk of the tables of a signature, if they have structures
 abbrev pub walk_of : ℕ → Option Walk
 walk_of s = find_walk s walks
 
--- the pieces walk the bytes; where there is no walk, no pieces do
+-- the pieces are found by the walk; without a walk there are no pieces
 abbrev pub WalksBy : Option Walk → List ℕ → List (List ℕ) → Type 0
 WalksBy (Some w) bytes pieces = Walks w bytes pieces
 WalksBy None bytes pieces = pieces ≡ []
 
--- the pieces are the structures of a table, found by its signature
+-- the pieces are the structures of a table, found by the walk of its signature
 abbrev pub ArePiecesOf : List ℕ → List (List ℕ) → Type 0
 ArePiecesOf bytes pieces = WalksBy (walk_of (field_at 0 4 bytes)) bytes pieces
 
--- Bytes have one list of pieces at most.
+-- Bytes have at most one list of pieces.
 abbrev pub OneListOfPieces : Type 0
 OneListOfPieces = (bytes : List ℕ) (ps qs : List (List ℕ)) → ArePiecesOf bytes ps → ArePiecesOf bytes qs → ps ≡ qs

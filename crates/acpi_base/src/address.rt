@@ -1,4 +1,4 @@
-//! Addresses of registers as plain fields, for tables of the caller's own contents.
+//! Addresses of registers as plain fields, for the content of an `Sdt`.
 
 ghost use Rattle.std.specs.Prelude.{◌≡◌, ℕ};
 ghost use Rattle.acpi_base.specs.Address.{address_bytes, address_at};

@@ -8,7 +8,7 @@ use crate::error::R;
 use crate::object::Aml;
 use crate::sink::AmlSink;
 
-/// A vector takes any bytes, at its end. Its one error is Memory.
+/// A vector takes all bytes, at its end. Its only error is `Memory`.
 impl AmlSink for Vec<u8> {
     ghost meaning = { buffer_of };
 
@@ -36,7 +36,7 @@ fn write_into(aml: &dyn Aml, bytes: &mut Vec<u8>) -> R<()>
     aml.to_aml_bytes(bytes)
 }
 
-/// Writes an object at the end of a vector. Refused, it may have left a beginning of its bytes there.
+/// Writes an object at the end of a vector. After an error the vector may end with a first part of the object's bytes.
 pub fn append(aml: &dyn Aml, bytes: &mut Vec<u8>) -> R<()>
     ensures ok { OnOk result (Appended (object aml.now) bytes.old.items bytes.new.items) }
     ensures err { IfErr result (λ e. IsOwnEnd e (object aml.now)) }
@@ -61,7 +61,7 @@ pub fn append_value<T: Aml>(value: &T, bytes: &mut Vec<u8>) -> R<()>
     write_value(value, bytes)
 }
 
-/// Writes objects at the end of a vector, one after another.
+/// Writes objects at the end of a vector, in order.
 pub fn append_all(children: &[&dyn Aml], bytes: &mut Vec<u8>) -> R<()>
     ensures ok { OnOk result (Appended (all_of (map (λ child. object child.now) children.now)) bytes.old.items bytes.new.items) }
     ensures err { IfErr result (λ e. IsOwnEnd e (all_of (map (λ child. object child.now) children.now))) }
@@ -72,7 +72,7 @@ pub fn append_all(children: &[&dyn Aml], bytes: &mut Vec<u8>) -> R<()>
     Ok(())
 }
 
-/// Writes an object and then others at the end of a vector.
+/// Writes an object, and then the other objects, at the end of a vector.
 pub fn append_before(first: &dyn Aml, rest: &[&dyn Aml], bytes: &mut Vec<u8>) -> R<()>
     ensures ok { OnOk result (Appended (all_of (object first.now
         ∷ map (λ child. object child.now) rest.now)) bytes.old.items bytes.new.items) }

@@ -7,7 +7,7 @@ use crate::error::R;
 use crate::sink::AmlSink;
 use std::marker::Model;
 
-/// A running sum of bytes modulo 256. It takes no memory and refuses nothing.
+/// A running sum of bytes modulo 256. It takes no memory and returns no error.
 #[derive(Debug, Default, Drop)]
 pub struct Checksum {
     value: u8,
@@ -53,7 +53,7 @@ impl Checksum {
         self.value = value;
     }
 
-    /// Takes bytes out of the sum.
+    /// Subtracts bytes from the sum.
     pub fn delete(&mut self, bytes: &[u8])
         ensures { (self.new + sum bytes.now) % 256 ≡ self.old }
     {
@@ -71,7 +71,7 @@ impl Checksum {
         self.value = self.value.wrapping_add(byte);
     }
 
-    /// Takes one byte out of the sum.
+    /// Subtracts one byte from the sum.
     pub fn sub(&mut self, byte: u8)
         ensures { (self.new + byte) % 256 ≡ self.old }
     {

@@ -39,7 +39,7 @@ impl Aml for One {
     }
 }
 
-/// All bits set, in whatever width is asked for (ACPI 6.5, 20.2.3, OnesOp).
+/// All bits set, in the width of its context (ACPI 6.5, 20.2.3, OnesOp).
 pub const ONES: Ones = Ones {};
 
 #[derive(Drop)]

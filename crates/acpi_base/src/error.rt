@@ -1,4 +1,4 @@
-//! Refusals.
+//! Errors of the library.
 
 ghost use Rattle.std.specs.Prelude.{◌≡◌, Some};
 ghost use Rattle.acpi_base.specs.Error.{text_of};
@@ -8,48 +8,48 @@ ghost use Rattle.acpi_base.specs.Error.{name_of};
 use std::alloc::{AllocError, AllocFailed};
 use std::fmt;
 
-/// Why a call was refused.
+/// Why a call failed.
 #[derive(Clone, Copy, Debug, PartialEq)]
 pub enum Error {
-    /// A growth was refused by the allocator.
+    /// The allocator refused memory.
     Memory,
-    /// For sinks and objects of the caller's own. No call of these crates makes one up.
+    /// An error for sinks and objects that a caller writes. No call of these crates creates it.
     Sink(u32),
-    /// A part of a path that isn't four bytes long (ACPI 6.5, 20.2.2).
+    /// A part of a path isn't four bytes long (ACPI 6.5, 20.2.2).
     NamePart,
-    /// A path of more than 255 parts.
+    /// A path has more than 255 parts.
     PathParts,
-    /// No EISA id: three letters from `A` to `Z` and four hexadecimal digits (ACPI 6.5, 6.1.5).
+    /// The text isn't an EISA id: three letters from `A` to `Z` and four hexadecimal digits (ACPI 6.5, 6.1.5).
     EisaText,
-    /// No UUID: 8, 4, 4, 4 and 12 hexadecimal digits between dashes (ACPI 6.5, 19.6.142).
+    /// The text isn't a UUID: 8, 4, 4, 4 and 12 hexadecimal digits with dashes between these groups (ACPI 6.5, 19.6.142).
     UuidText,
-    /// An argument's number past 6.
+    /// The number of an argument (`Arg`) is more than 6.
     ArgNumber,
-    /// A local variable's number past 7.
+    /// The number of a local variable (`Local`) is more than 7.
     LocalNumber,
-    /// A method of more than 7 arguments.
+    /// A method has more than 7 arguments.
     MethodArgs,
-    /// A package of more than 255 elements.
+    /// A package has more than 255 elements.
     PackageElements,
-    /// A PkgLength whose value would reach 2^28 (ACPI 6.5, 20.2.4).
+    /// The value of a PkgLength would be 2^28 or more (ACPI 6.5, 20.2.4).
     PkgLength,
-    /// An address range whose end lies before its start, or which is all of its type.
+    /// An address range ends before its start, or covers all values of its type.
     AddressRange,
-    /// A length, a count or an offset that would pass its field.
+    /// A length, a count or an offset is too large for its field.
     FieldWidth,
-    /// A PCI device past 31 or a PCI function past 7.
+    /// The number of a PCI device is more than 31, or that of a PCI function more than 7.
     PciAddress,
-    /// Interleave targets that aren't as many as the interleave ways.
+    /// The number of interleave targets isn't the number of interleave ways.
     Targets,
-    /// An index past a matrix.
+    /// An index is outside of a matrix.
     Index,
-    /// A matrix whose size would pass 32 bits.
+    /// The size of a matrix doesn't fit 32 bits.
     Matrix,
-    /// A table shorter than the standard header of 36 bytes.
+    /// A table would be shorter than the standard header of 36 bytes.
     ShortTable,
-    /// A log area that is set already.
+    /// The table has a log area already.
     LogAreaSet,
-    /// An incoming MSI controller that is there already.
+    /// The table has an incoming MSI controller already.
     ImsicSet,
 }
 
@@ -85,7 +85,7 @@ impl Error {
     }
 }
 
-/// What the error says, for the user of a program.
+/// The error as text, for the user of a program.
 impl fmt::Display for Error {
     ghost output = { λ error. Some (text_of error) };
 

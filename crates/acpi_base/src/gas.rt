@@ -9,7 +9,7 @@ use crate::object::Aml;
 use crate::row::{Record, Row, Word, record_of_numbers, write_record};
 use crate::sink::AmlSink;
 
-/// Where a register lies (ACPI 6.5, 5.2.3.2, offset 0).
+/// The address space of a register (ACPI 6.5, 5.2.3.2, offset 0).
 #[derive(Clone, Copy, Debug, Default)]
 pub enum AddressSpace {
     #[default]
@@ -28,7 +28,7 @@ pub enum AddressSpace {
     FunctionalFixedHardware = 0x7f,
 }
 
-/// How wide a register's accesses are (ACPI 6.5, 5.2.3.2, offset 3).
+/// The width of an access to a register (ACPI 6.5, 5.2.3.2, offset 3).
 #[derive(Clone, Copy, Debug, Default)]
 pub enum AccessSize {
     #[default]
@@ -50,7 +50,7 @@ pub struct GAS {
 }
 
 impl GAS {
-    /// A register of this many bits, at a bit of the bytes at an address.
+    /// A register of `bit_width` bits, which begins at bit `bit_offset` of the bytes at an address.
     pub fn new(
         address_space_id: AddressSpace,
         register_bit_width: u8,
@@ -69,8 +69,8 @@ impl GAS {
         }
     }
 
-    /// A register in the configuration space of a PCI function of segment 0, bus 0: the device at bit 32 of the address,
-    /// the function at bit 16, and the register's offset in bytes.
+    /// A register in the configuration space of a PCI function of segment 0 and bus 0. The address has the device's number at bit
+    /// 32, the function's at bit 16, and the register's offset in bytes in its low bits.
     pub fn new_pci_config(
         register_bit_width: u8,
         access_size: AccessSize,
@@ -99,7 +99,7 @@ impl GAS {
         12
     }
 
-    /// The bytes of the address, for records that hold one.
+    /// The bytes of the address, for records that contain one.
     pub fn bytes(&self) -> [u8; 12]
         ensures { result ≡ gas_bytes self.now }
     {

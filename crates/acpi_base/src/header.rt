@@ -12,13 +12,13 @@ use crate::patch::write_at;
 use crate::row::{Row, Value, record_of};
 use crate::sum::Sum;
 
-/// Who made a table: the creator's id in the standard header (ACPI 6.5, 5.2.6, offset 28).
+/// The creator's id in the standard header (ACPI 6.5, 5.2.6, offset 28).
 pub const CREATOR_ID: [u8; 4] = *b"RVAT";
 
-/// The creator's revision in the standard header (offset 32).
+/// The creator's revision in the standard header (ACPI 6.5, 5.2.6, offset 32).
 pub const CREATOR_REVISION: [u8; 4] = [0, 0, 0, 1];
 
-/// The header of a table of this many bytes (ACPI 6.5, 5.2.6): 36 bytes, with a checksum of zero.
+/// The standard header (ACPI 6.5, 5.2.6) of a table of `size` bytes. It has 36 bytes, and its checksum is zero.
 pub fn header(signature: [u8; 4], size: u32, revision: u8, oem: Oem) -> [u8; 36]
     ensures { result ≡ header signature size revision oem }
 {
@@ -59,7 +59,7 @@ pub fn header_rows() -> &'static [Row]
     &HEADER
 }
 
-/// Makes the checksum at offset 9 true, so that all bytes sum to zero modulo 256, and returns the sum of all others.
+/// Sets the checksum at offset 9, so that all bytes sum to zero modulo 256. Returns the sum of all other bytes.
 pub fn seal(bytes: &mut [u8]) -> Sum
     requires { 36 ≤ length bytes.old }
     ensures bytes { bytes.new ≡ with_checksum bytes.old }

@@ -1,4 +1,4 @@
-//! What every other crate stands on: sinks and objects, checksums, numbers and system description tables.
+//! The base of all other crates: sinks and objects, checksums, numbers, and system description tables.
 #![tactic(auto)]
 
 pub mod address;

@@ -17,7 +17,7 @@ pub type QWord = u64;
 
 pub type Usize = usize;
 
-/// The shortest form: the type doesn't show in it.
+/// The shortest form. It depends on the value alone, and not on the type.
 impl Aml for u8 {
     ghost object = { λ value. whole (number value) };
 
@@ -31,7 +31,7 @@ impl Aml for u8 {
     }
 }
 
-/// The shortest form: the type doesn't show in it.
+/// The shortest form. It depends on the value alone, and not on the type.
 impl Aml for u16 {
     ghost object = { λ value. whole (number value) };
 
@@ -46,7 +46,7 @@ impl Aml for u16 {
     }
 }
 
-/// The shortest form: the type doesn't show in it.
+/// The shortest form. It depends on the value alone, and not on the type.
 impl Aml for u32 {
     ghost object = { λ value. whole (number value) };
 
@@ -61,7 +61,7 @@ impl Aml for u32 {
     }
 }
 
-/// The shortest form: the type doesn't show in it.
+/// The shortest form. It depends on the value alone, and not on the type.
 impl Aml for u64 {
     ghost object = { λ value. whole (number value) };
 
@@ -76,7 +76,7 @@ impl Aml for u64 {
     }
 }
 
-/// The shortest form: the type doesn't show in it.
+/// The shortest form. It depends on the value alone, and not on the type.
 impl Aml for usize {
     ghost object = { λ value. whole (number value) };
 

@@ -1,4 +1,4 @@
-//! What writes itself as bytes.
+//! Objects, which write themselves as bytes.
 
 ghost use Rattle.std.specs.Prelude.{◌≡◌, ◌≢◌, OnOk, IfErr, IfOk, sum, ◌%◌, None, Some};
 ghost use Rattle.acpi_base.specs.declared.error.Error.TheVariants.{Memory};
@@ -13,8 +13,8 @@ use crate::sink::AmlSink;
 pub trait Aml {
     ghost object: { Self → Object };
 
-    /// Gives the object's bytes to the sink, and then returns how the object ends. A refused call has given a
-    /// beginning of them.
+    /// Writes the object's bytes to the sink, and then returns the object's own error if it has one. After an error the sink has
+    /// taken a first part of the bytes.
     fn to_aml_bytes(&self, sink: &mut dyn AmlSink) -> R<()>
         ensures ok { OnOk result (Wrote (object self.now) (meaning sink.old) (meaning sink.new)) }
         ensures err { IfErr result (λ e. WriteRefused e (object self.now) (meaning sink.old) (meaning sink.new)) };
@@ -22,7 +22,7 @@ pub trait Aml {
     ghost ends_well: { (x : Self) → (object x).end ≢ Some Memory };
 }
 
-/// Writes an object into a checksum, which takes any bytes and no memory.
+/// Writes an object into a checksum, which takes all bytes and no memory.
 fn write_into_checksum(aml: &dyn Aml, checksum: &mut Checksum) -> R<()>
     ensures ok { OnOk result (Wrote (object aml.now) (checksum_of checksum.old) (checksum_of checksum.new)) }
     ensures err { IfErr result (λ e. WriteRefused e (object aml.now) (checksum_of checksum.old) (checksum_of checksum.new)) }
@@ -30,8 +30,7 @@ fn write_into_checksum(aml: &dyn Aml, checksum: &mut Checksum) -> R<()>
     aml.to_aml_bytes(checksum)
 }
 
-/// The sum of an object's bytes modulo 256. It takes no memory but what the object does, and it refuses nothing
-/// but what the object ends in.
+/// The sum of an object's bytes modulo 256. Its errors are those of the object. It takes memory only if the object does.
 pub fn u8sum(aml: &dyn Aml) -> R<u8>
     ensures sum { IfOk result (λ s. s ≡ sum (object aml.now).front % 256) }
     ensures whole { OnOk result ((object aml.now).end ≡ None) }

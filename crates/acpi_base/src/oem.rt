@@ -1,8 +1,8 @@
-//! Who a table is from.
+//! The maker of a table.
 
 ghost use Rattle.std.specs.Prelude.{◌≡◌};
 
-/// Who a table is from: what the caller chooses of the standard header (ACPI 6.5, 5.2.6, offsets 10, 16 and 24).
+/// The fields of the standard header that name a table's maker (ACPI 6.5, 5.2.6, offsets 10, 16 and 24).
 #[derive(Clone, Copy, Debug)]
 pub struct Oem {
     pub id: [u8; 6],
@@ -11,7 +11,7 @@ pub struct Oem {
 }
 
 impl Oem {
-    /// The manufacturer's id, its id of the table, and its revision of it.
+    /// The manufacturer's id, its id of the table, and its revision of the table.
     pub fn new(id: [u8; 6], table_id: [u8; 8], revision: u32) -> Oem
         ensures { result ≡ record { id = id; table_id = table_id; revision = revision } }
     {

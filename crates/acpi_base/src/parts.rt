@@ -1,4 +1,4 @@
-//! Bytes that lie in several places, written in order.
+//! Writing bytes that lie in several places.
 
 ghost use Rattle.std.specs.Prelude.{OnOk, IfErr};
 ghost use Rattle.std.specs.List.{flat_map};
@@ -7,7 +7,7 @@ ghost use Rattle.acpi_base.specs.Sink.{Took, Refused};
 use crate::error::R;
 use crate::sink::AmlSink;
 
-/// Gives a sink lists of bytes, one after another.
+/// Writes lists of bytes to a sink, in order.
 pub fn write_parts(sink: &mut dyn AmlSink, parts: &[&[u8]]) -> R<()>
     ensures ok { OnOk result (Took (meaning sink.old) (flat_map (λ part. part.now) parts.now) (meaning sink.new)) }
     ensures err { IfErr result (λ e. Refused e (meaning sink.old) (flat_map (λ part. part.now) parts.now) (meaning sink.new)) }

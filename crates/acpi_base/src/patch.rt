@@ -1,4 +1,4 @@
-//! Bytes written over others, and what they change in a table.
+//! Overwriting bytes, and the checksum of a table after it.
 
 ghost use Rattle.std.specs.Prelude.{◌≡◌, ◌+◌, ◌*◌, ◌%◌, ◌<◌, ◌≤◌, [], ◌∷◌, length, sum};
 ghost use Rattle.acpi_base.specs.Bytes.{le, put};
@@ -14,7 +14,7 @@ pub fn write_at(bytes: &mut [u8], offset: usize, with: &[u8])
     bytes[offset..offset + with.len()].copy_from_slice(with);
 }
 
-/// The same, and keeps a sum of all bytes true.
+/// Writes bytes over those that begin at an offset, and updates the sum of all bytes.
 pub fn patch(bytes: &mut [u8], running: &mut Sum, offset: usize, with: &[u8])
     requires { offset + length with.now ≤ length bytes.old }
     ensures bytes { bytes.new ≡ put offset with.now bytes.old }
@@ -27,7 +27,7 @@ pub fn patch(bytes: &mut [u8], running: &mut Sum, offset: usize, with: &[u8])
     write_at(bytes, offset, with);
 }
 
-/// Puts a table's length in its place at 4 and makes the checksum true, where the sum is that of all bytes but the checksum.
+/// Writes a table's length at offset 4 and sets its checksum. `running` is the sum of all bytes except the checksum.
 pub fn set_length(bytes: &mut [u8], running: &mut Sum, size: u32)
     requires header { 36 ≤ length bytes.old }
     requires summed { running.old.value ≡ sum (put 9 (0 ∷ []) bytes.old) % 256 }
@@ -40,7 +40,7 @@ pub fn set_length(bytes: &mut [u8], running: &mut Sum, size: u32)
     write_at(bytes, 9, &[running.checksum()]);
 }
 
-/// Writes bytes over a table's at an offset and makes the checksum true, where the sum is that of all bytes but the checksum.
+/// Writes bytes over those at an offset of a table, and sets its checksum. `running` is the sum of all bytes except the checksum.
 pub fn overwrite(bytes: &mut [u8], running: &mut Sum, offset: usize, with: &[u8])
     requires header { 36 ≤ length bytes.old }
     requires within { offset + length with.now ≤ length bytes.old }

@@ -6,7 +6,7 @@ ghost use Rattle.acpi_base.specs.Record.{field_bytes, fields_bytes};
 
 use crate::patch::write_at;
 
-/// One field of a record: a number of this many bytes, lowest first (ACPI 6.5, 5.2), or bytes as they are.
+/// One field of a record: a number of a given width in bytes, lowest byte first (ACPI 6.5, 5.2), or bytes in their order.
 #[derive(Clone, Copy)]
 pub enum Field<'a> {
     Byte(u8),
@@ -29,7 +29,7 @@ pub fn record<const N: usize>(fields: &[Field]) -> [u8; N]
     bytes
 }
 
-// Writes a field at an offset, and returns the offset behind it.
+// Writes a field at an offset, and returns the offset after it.
 fn write_field(bytes: &mut [u8], at: usize, field: Field) -> usize
     requires { at + length (field_bytes field) ≤ length bytes.old }
     ensures bytes { bytes.new ≡ put at (field_bytes field.entry) bytes.old }

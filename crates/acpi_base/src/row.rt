@@ -1,4 +1,4 @@
-//! Records whose fields are data.
+//! Records whose fields are described by data.
 
 ghost use Rattle.std.specs.Prelude.{◌≡◌, ◌≤◌, ◌<◌, ◌+◌, ◌^◌, List, length, IsTrue, OnOk, IfErr};
 ghost use Rattle.acpi_base.specs.Bytes.{le, put};
@@ -10,7 +10,7 @@ use crate::error::R;
 use crate::patch::write_at;
 use crate::sink::AmlSink;
 
-/// A number that a field may have, or the mask of a flag in it, and its name in the standard.
+/// A value of a field, or the mask of a flag in it, with its name in the standard.
 #[derive(Clone, Copy, Debug)]
 pub struct Word(pub u64, pub &'static str);
 
@@ -19,9 +19,9 @@ pub struct Word(pub u64, pub &'static str);
 pub enum Row {
     /// A number, lowest byte first (ACPI 6.5, 5.2).
     Number(&'static str, usize),
-    /// A number whose bits are flags. A word has a flag's mask.
+    /// A number whose bits are flags. The words give the mask and the name of each flag.
     Flags(&'static str, usize, &'static [Word]),
-    /// A number that names one of several things. A word has a thing's number.
+    /// A number that stands for one of several things. The words give the number and the name of each.
     OneOf(&'static str, usize, &'static [Word]),
     /// Bytes in their order.
     Bytes(&'static str, usize),
@@ -47,7 +47,7 @@ impl Row {
     }
 }
 
-/// A record of `N` bytes, whose fields are rows.
+/// A record of `N` bytes, with one row for each field.
 pub trait Record<const N: usize> {
     ghost fields: { Self → List NamedField };
 
@@ -60,7 +60,7 @@ pub trait Record<const N: usize> {
         ensures { result ≡ fields_joined (fields self.now) };
 }
 
-/// Gives a sink a record's bytes.
+/// Writes a record's bytes to a sink.
 pub fn write_record<const N: usize, T: Record<N>>(value: &T, sink: &mut dyn AmlSink) -> R<()>
     requires size { N < 2 ^ 63 }
     ensures ok { OnOk result (Wrote (whole (fields_joined (T.fields value.now))) (meaning sink.old) (meaning sink.new)) }
@@ -70,7 +70,7 @@ pub fn write_record<const N: usize, T: Record<N>>(value: &T, sink: &mut dyn AmlS
     sink.vec(&value.bytes())
 }
 
-/// The bytes of a record whose fields are numbers, each as wide as its row, lowest byte first.
+/// The bytes of a record of numbers. Each number has the width of its row, lowest byte first.
 pub fn record_of_numbers<const N: usize>(rows: &[Row], numbers: &[u64]) -> [u8; N]
     requires count { length rows.now ≡ length numbers.now }
     requires numbers { IsTrue (are_numbers rows.now) }
@@ -87,14 +87,14 @@ pub fn record_of_numbers<const N: usize>(rows: &[Row], numbers: &[u64]) -> [u8; 
     bytes
 }
 
-/// What a field of a record has: a number, or bytes.
+/// The value of a record's field: a number, or bytes.
 #[derive(Clone, Copy)]
 pub enum Value<'a> {
     Number(u64),
     Bytes(&'a [u8]),
 }
 
-/// The bytes of a record of numbers and bytes, each as wide as its row.
+/// The bytes of a record of numbers and bytes. Each value has the width of its row.
 pub fn record_of<const N: usize>(rows: &[Row], values: &[Value]) -> [u8; N]
     requires count { length rows.now ≡ length values.now }
     requires fit { AllFit rows.now values.now }

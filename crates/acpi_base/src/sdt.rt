@@ -21,8 +21,8 @@ use crate::value::SdtValue;
 use std::alloc::Global;
 use std::marker::Model;
 
-/// A table: the standard header (ACPI 6.5, 5.2.6), and the caller's bytes after it. Its checksum is true after
-/// every call, and its length after every call that adds bytes.
+/// A table: the standard header (ACPI 6.5, 5.2.6), and the caller's bytes after it. Its checksum is right after every call. Its
+/// length field is right after every call that adds bytes.
 #[derive(Drop)]
 pub struct Sdt {
     bytes: Vec<u8>,
@@ -40,7 +40,7 @@ impl Model for Sdt {
     ghost invariant = { λ s. IsKept s.bytes.items s.sum.value };
 }
 
-/// A table takes bytes at its end while its length fits 32 bits, and is whole after each call.
+/// A table takes bytes at its end as long as its length fits 32 bits. Its length and checksum are right after each call.
 #[tactic(auto, using(crate::proofs::Tables::sdt_ok, crate::proofs::Tables::sdt_err))]
 impl AmlSink for Sdt {
     ghost meaning = { λ s. sdt_of s.bytes };
@@ -101,7 +101,7 @@ impl Aml for Sdt {
     }
 }
 
-// A header, and zeros up to the size.
+// A header, followed by zeros up to the size.
 fn with_zeros(alloc: Global, header: &[u8], size: usize) -> R<Vec<u8>>
     requires { length header.now ≤ size }
     ensures bytes { IfOk result (λ v. v.items ≡ header.now ++ replicate (size - length header.now) 0) }
@@ -115,7 +115,7 @@ fn with_zeros(alloc: Global, header: &[u8], size: usize) -> R<Vec<u8>>
 }
 
 impl Sdt {
-    /// A table of `length` bytes: the standard header, and zeros up to that length. ShortTable below 36.
+    /// A table of `length` bytes: the standard header, and zeros after it. The error is `ShortTable` where `length` is below 36.
     pub fn new(
         alloc: Global,
         signature: [u8; 4],
@@ -143,7 +143,7 @@ impl Sdt {
         Ok(Sdt { bytes, sum })
     }
 
-    /// Makes the checksum at offset 9 true. It is so after every call, and this one changes nothing.
+    /// Sets the checksum at offset 9. Every other call has done so already, so this call changes nothing.
     pub fn update_checksum(&mut self)
         ensures bytes { self.new.bytes ≡ with_checksum self.old.bytes }
         ensures same { self.new.bytes ≡ self.old.bytes }
@@ -152,8 +152,8 @@ impl Sdt {
         self.bytes[9] = self.sum.checksum();
     }
 
-    /// Adds bytes at the end, and makes the length at offset 4 and the checksum true. No bytes change nothing. FieldWidth
-    /// where the length would reach 2^32.
+    /// Adds bytes at the end, and sets the length at offset 4 and the checksum. An empty slice changes nothing. The error is
+    /// `FieldWidth` where the length would reach 2^32.
     pub fn append_slice(&mut self, slice: &[u8]) -> R<()>
         ensures adds { Addition result self.old slice.now self.new }
         ensures header { (36 ≤ length self.old.bytes) × (length self.old.bytes < 2 ^ 32) }
@@ -177,8 +177,8 @@ impl Sdt {
         value.append_to(self)
     }
 
-    /// Writes bytes over those that begin at an offset, and makes the checksum true. The length stays as it was written.
-    /// The bytes' end isn't past the table's.
+    /// Writes bytes over those that begin at an offset, and sets the checksum. It doesn't set the length field. The last of the
+    /// bytes has to lie inside the table.
     pub fn write_bytes(&mut self, offset: usize, slice: &[u8])
         requires { offset + length slice.now ≤ length self.old.bytes }
         ensures { Overwriting self.old offset slice.now self.new }
@@ -194,7 +194,7 @@ impl Sdt {
         value.write_to(self, offset);
     }
 
-    /// Writes a byte at an offset.
+    /// Writes a byte at an offset, as `write_bytes` does.
     pub fn write_u8(&mut self, offset: usize, value: u8)
         requires { offset + 1 ≤ length self.old.bytes }
         ensures { Overwriting self.old offset (value ∷ []) self.new }
@@ -202,7 +202,7 @@ impl Sdt {
         self.write_bytes(offset, &[value]);
     }
 
-    /// Writes two bytes at an offset, the lowest first.
+    /// Writes two bytes at an offset, the lowest first, as `write_bytes` does.
     pub fn write_u16(&mut self, offset: usize, value: u16)
         requires { offset + 2 ≤ length self.old.bytes }
         ensures { Overwriting self.old offset (le 2 value) self.new }
@@ -210,7 +210,7 @@ impl Sdt {
         self.write_bytes(offset, &value.to_le_bytes());
     }
 
-    /// Writes four bytes at an offset, the lowest first.
+    /// Writes four bytes at an offset, the lowest first, as `write_bytes` does.
     pub fn write_u32(&mut self, offset: usize, value: u32)
         requires { offset + 4 ≤ length self.old.bytes }
         ensures { Overwriting self.old offset (le 4 value) self.new }
@@ -218,7 +218,7 @@ impl Sdt {
         self.write_bytes(offset, &value.to_le_bytes());
     }
 
-    /// Writes eight bytes at an offset, the lowest first.
+    /// Writes eight bytes at an offset, the lowest first, as `write_bytes` does.
     pub fn write_u64(&mut self, offset: usize, value: u64)
         requires { offset + 8 ≤ length self.old.bytes }
         ensures { Overwriting self.old offset (le 8 value) self.new }
@@ -234,7 +234,7 @@ impl Sdt {
         &self.bytes
     }
 
-    /// How many bytes the table has: 36 at least, and below 2^32.
+    /// The number of bytes of the table: at least 36, and below 2^32.
     pub fn len(&self) -> usize
         ensures len { result ≡ length self.now.bytes }
         ensures header { (36 ≤ length self.now.bytes) × (length self.now.bytes < 2 ^ 32) }
@@ -242,7 +242,7 @@ impl Sdt {
         self.bytes.len()
     }
 
-    /// Whether the table has no bytes, which is never so.
+    /// Whether the table has no bytes. It always has some, so this is false.
     pub fn is_empty(&self) -> bool
         ensures { IsTrue result ↔ (length self.now.bytes ≡ 0) }
     {
@@ -250,8 +250,8 @@ impl Sdt {
     }
 }
 
-/// Writes an object at the end of a table. Length and checksum are true after each part that the object writes. The
-/// object's refusal, or FieldWidth where the length would reach 2^32.
+/// Writes an object at the end of a table. Length and checksum are right after each part that the object writes. The error is the
+/// object's own, or `FieldWidth` where the length would reach 2^32.
 #[tactic(auto, using(crate::proofs::Tables::sdt_wrote))]
 pub fn append_object(aml: &dyn Aml, table: &mut Sdt) -> R<()>
     ensures ok { OnOk result (AddedObject (object aml.now) table.old.bytes table.new.bytes) }
@@ -260,7 +260,7 @@ pub fn append_object(aml: &dyn Aml, table: &mut Sdt) -> R<()>
     write_into(aml, table)
 }
 
-// The same, by what sinks are.
+// Writes an object at the end of a table; its contract is in terms of sinks.
 fn write_into(aml: &dyn Aml, table: &mut Sdt) -> R<()>
     ensures ok { OnOk result (Wrote (object aml.now) (sdt_of table.old.bytes) (sdt_of table.new.bytes)) }
     ensures err { IfErr result (λ e. WriteRefused e (object aml.now) (sdt_of table.old.bytes) (sdt_of table.new.bytes)) }

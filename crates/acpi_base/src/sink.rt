@@ -1,4 +1,4 @@
-//! What receives the bytes of objects and tables.
+//! Sinks, which receive the bytes of objects and tables.
 
 ghost use Rattle.std.specs.Prelude.{ℕ, List, [], ◌∷◌, ◌++◌, IsTrue, OnOk, IfErr};
 ghost use Rattle.std.specs.Int.{to_le_bytes, w16, w32, w64};
@@ -6,7 +6,7 @@ ghost use Rattle.acpi_base.specs.Sink.{Meaning, Took, Refused};
 
 use crate::error::R;
 
-/// A receiver of bytes. A refused call has taken a beginning of its bytes.
+/// A receiver of bytes. After an error a sink has taken a first part of the bytes of that call.
 pub trait AmlSink {
     ghost meaning: { Self → Meaning };
 

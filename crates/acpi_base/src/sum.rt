@@ -5,8 +5,8 @@ ghost use Rattle.std.specs.Prelude.{◌≡◌, ◌+◌, ◌-◌, ◌%◌, ◌<�
 use crate::summed::Summed;
 use std::marker::Model;
 
-/// The sum of a table's bytes modulo 256, and how many bytes were summed for it. The byte that makes the sum zero is kept in
-/// place of the sum: a table contains this byte, and the compiler would sum a second time to find it.
+/// The sum of a table's bytes modulo 256, and the number of bytes that were summed for it. It stores the byte that makes the sum
+/// zero, which is what a table contains. If it stored the sum, the compiler would sum twice to compute that byte.
 #[derive(Drop)]
 pub struct Sum {
     checksum: u8,
@@ -41,7 +41,7 @@ impl Sum {
         self.checksum
     }
 
-    // The one function that sums.
+    // The only function that sums bytes.
     fn change(&mut self, bytes: &[u8], takes: bool)
         ensures added { takes ≡ false → self.new.value ≡ (self.old.value + sum bytes.now) % 256 }
         ensures taken { takes ≡ true → (self.new.value + sum bytes.now) % 256 ≡ self.old.value }
@@ -68,7 +68,7 @@ impl Sum {
         self.change(bytes, false);
     }
 
-    /// Takes bytes out of the sum.
+    /// Subtracts bytes from the sum.
     pub fn take(&mut self, bytes: &[u8])
         ensures value { (self.new.value + sum bytes.now) % 256 ≡ self.old.value }
         ensures range { self.new.value < 256 }

@@ -1,11 +1,11 @@
-//! A count that contracts alone see.
+//! A count for contracts alone.
 
 ghost use Rattle.std.specs.Prelude.{◌≡◌, ℕ, ◌+◌};
 ghost use Rattle.std.specs.Borrow.{ftrue};
 
 use std::marker::Model;
 
-/// How many bytes were added to a sum or taken out of it. It has no bytes of its own.
+/// The number of bytes that were added to a sum or subtracted from it. It takes no memory at run time.
 #[derive(Drop)]
 pub struct Summed {
     pub ghost count: { ℕ },
@@ -16,14 +16,14 @@ impl Model for Summed {
 }
 
 impl Summed {
-    /// No byte so far.
+    /// A count of zero.
     pub fn new() -> Summed
         ensures { result.count ≡ 0 }
     {
         Summed {}
     }
 
-    /// One byte more.
+    /// A count of one byte more.
     pub fn after(_before: &Summed) -> Summed
         ensures { result.count ≡ _before.now.count + 1 }
     {

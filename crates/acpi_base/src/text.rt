@@ -13,7 +13,7 @@ pub type AmlStr = &'static str;
 
 pub type AmlString = String;
 
-/// A string: its prefix, its bytes and a zero. A standard one has bytes 01 to 7F alone.
+/// A string: StringPrefix, its bytes and a zero. A string of the standard has bytes from 01 to 7F only.
 impl Aml for &str {
     ghost object = { λ s. whole (text s.now) };
 
@@ -24,7 +24,7 @@ impl Aml for &str {
     }
 }
 
-/// A string: its prefix, its bytes and a zero.
+/// A string: StringPrefix, its bytes and a zero.
 impl Aml for String {
     ghost object = { λ s. whole (text (string_bytes s)) };
 
@@ -35,7 +35,7 @@ impl Aml for String {
     }
 }
 
-// A string's prefix, the bytes of a text, and a zero.
+// Writes StringPrefix, the bytes of a text, and a zero.
 fn write_text(s: &str, sink: &mut dyn AmlSink) -> R<()>
     ensures ok { OnOk result (Wrote (whole (text s.now)) (meaning sink.old) (meaning sink.new)) }
     ensures err { IfErr result (λ e. WriteRefused e (whole (text s.now)) (meaning sink.old) (meaning sink.new)) }

@@ -1,4 +1,4 @@
-//! Values that a table takes at its end or at an offset.
+//! Values that can be written into a table, at its end or at an offset.
 
 ghost use Rattle.std.specs.Prelude.{ℕ, ◌+◌, ◌≤◌, [], ◌∷◌, List, length};
 ghost use Rattle.acpi_base.specs.Bytes.{le};
@@ -7,11 +7,11 @@ ghost use Rattle.acpi_base.specs.Sdt.{Addition, Overwriting};
 use crate::error::R;
 use crate::sdt::Sdt;
 
-/// What can be put into a table by its bytes.
+/// A value that a table takes as bytes.
 pub trait SdtValue: Drop {
     ghost value_bytes: { Self → List ℕ };
 
-    /// Adds the value's bytes at the table's end, as `Sdt::append_slice` does.
+    /// Adds the value's bytes at the end of the table, as `Sdt::append_slice` does.
     fn append_to(&self, table: &mut Sdt) -> R<()>
         ensures { Addition result table.old (value_bytes self.now) table.new };
 

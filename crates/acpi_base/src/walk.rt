@@ -1,9 +1,9 @@
-//! How the structures of tables are found.
+//! Walks: how the structures of a table are found.
 
 ghost use Rattle.std.specs.Prelude.{◌≡◌, ◌↔◌, ◌≤◌, length, IsTrue, IfSome};
 ghost use Rattle.acpi_base.specs.Walk.{source_size, named, find_walk, walk_of, number_in, place_offset, end_of, Tells, IsSound};
 
-/// A field of one byte, two or four at an offset; or there is none.
+/// A field of one, two or four bytes at an offset, or no field.
 #[derive(Clone, Copy, Debug)]
 pub enum Place {
     Nowhere,
@@ -12,19 +12,19 @@ pub enum Place {
     DWord(u8),
 }
 
-/// How long a structure is, in bytes.
+/// The length of a structure, in bytes.
 #[derive(Clone, Copy, Debug)]
 pub enum Sizes {
-    /// Each has this length.
+    /// Each structure has this length.
     EachOf(u8),
-    /// The structure's own field has its length.
+    /// A field of the structure contains its length.
     ToldAt(Place),
-    /// The structure's type decides, as for the error sources of HEST.
+    /// The structure's type decides its length, as for the error sources of HEST.
     BySource,
 }
 
-/// Where a table's structures begin, how long they are, which field of each has its type, and which fields of the table have
-/// the number of structures and the offset of the first.
+/// How the structures of a table are found: where the first begins, the length of each, and the field that contains its type. Two
+/// fields of the table may contain the number of structures and the offset of the first.
 #[derive(Clone, Copy, Debug)]
 pub struct Walk {
     pub start: u8,
@@ -37,7 +37,7 @@ pub struct Walk {
 use Place::{Byte, DWord, Nowhere, Word};
 use Sizes::{BySource, EachOf, ToldAt};
 
-// The walks of the tables that have structures, by their signatures.
+// The walks of all tables that have structures, by signature.
 #[rattlefmt::skip]
 const WALKS: [([u8; 4], Walk); 12] = [
     (*b"XSDT", Walk { start: 36, sizes: EachOf(8), kind: Nowhere, count: Nowhere, told_start: Nowhere }),
@@ -54,7 +54,7 @@ const WALKS: [([u8; 4], Walk); 12] = [
     (*b"HMAT", Walk { start: 40, sizes: ToldAt(DWord(4)), kind: Word(0), count: Nowhere, told_start: Nowhere }),
 ];
 
-/// The walk of the tables of a signature, where they have structures. The signature is given as a number, lowest byte first.
+/// The walk of the tables of a signature, if they have structures. The signature is a number, lowest byte first.
 pub fn walk_of(signature: u32) -> Option<Walk>
     ensures walk { result ≡ walk_of signature }
     ensures sound { IfSome result IsSound }
@@ -69,7 +69,7 @@ fn number(signature: &[u8; 4]) -> u32
     u32::from_le_bytes(*signature)
 }
 
-// The walk beside a signature.
+// The walk in the row of a signature.
 fn find_walk(signature: u32, rows: &[([u8; 4], Walk)]) -> Option<Walk>
     ensures { result ≡ find_walk signature rows.now }
 {
@@ -96,7 +96,7 @@ pub fn source_size(kind: usize) -> Option<usize>
 }
 
 impl Place {
-    /// Where the field begins. A field that is nowhere begins at 0.
+    /// The offset of the field's first byte, or 0 if there is no field.
     pub fn offset(self) -> usize
         ensures { result ≡ place_offset self }
     {
@@ -106,7 +106,7 @@ impl Place {
         }
     }
 
-    /// Where the field ends.
+    /// The offset after the field, or 0 if there is no field.
     pub fn end(self) -> usize
         ensures { result ≡ end_of self }
     {
@@ -118,7 +118,7 @@ impl Place {
         }
     }
 
-    /// The number in the field, lowest byte first. A field that is nowhere has the number 0.
+    /// The number in the field, lowest byte first, or 0 if there is no field.
     pub fn number(self, bytes: &[u8]) -> usize
         requires { end_of self ≤ length bytes.now }
         ensures { result ≡ number_in self bytes.now }
@@ -142,7 +142,7 @@ impl Place {
         }
     }
 
-    /// Whether the field, where there is one, holds a number.
+    /// Whether the field contains a number. It is true if there is no field.
     pub fn tells(self, bytes: &[u8], number: usize) -> bool
         requires { end_of self ≤ length bytes.now }
         ensures { IsTrue result ↔ Tells self bytes.now number }

@@ -1,8 +1,8 @@
--- Terms that nest.
+-- Nested terms.
 use Rattle.std.specs.Prelude.{ℕ, zero, suc}
 use Rattle.acpi_term.specs.Tree.{Terms, end, term, number, def_else}
 
--- this many numbers beside each other
+-- this many numbers in a row
 abbrev pub numbers : ℕ → Terms
 numbers zero = end
 numbers (suc count) = term (number 0) 0 end (numbers count)

@@ -8,7 +8,7 @@ use acpi_tables::{Aml, R};
 use acpi_vectors::{OEM, OEM_REVISION, OEM_TABLE};
 use std::alloc::Global;
 
-// The names of devices, in turn.
+// The names of devices, which are used in turn.
 const NAMES: [&str; 4] = ["COM1", "COM2", "COM3", "COM4"];
 
 // An interrupt and eight I/O ports.
@@ -18,7 +18,7 @@ fn resources(alloc: Global) -> R<ResourceTemplate> {
     ResourceTemplate::new(vec![in alloc; &ports as &dyn Aml, &interrupt]?)
 }
 
-// A method that returns that the device is there.
+// A method that returns that the device is present.
 fn status(alloc: Global) -> R<Method> {
     let answer = Return::new(alloc, &15u8)?;
     Method::new(
@@ -29,7 +29,7 @@ fn status(alloc: Global) -> R<Method> {
     )
 }
 
-// The serial port of a number. It has 63 bytes from number 256 on.
+// The serial port with this number. It has 63 bytes from number 256 on.
 fn device(alloc: Global, number: u32) -> R<Device> {
     let name = NAMES[number as usize % NAMES.len()];
     let number = (number % 4096) as u16;
@@ -43,7 +43,7 @@ fn device(alloc: Global, number: u32) -> R<Device> {
     )
 }
 
-/// This many devices, one after another.
+/// This many devices, in order.
 pub fn devices(alloc: Global, count: u32) -> R<Vec<u8>> {
     let mut bytes = Vec::new(alloc);
     for number in 0..count {

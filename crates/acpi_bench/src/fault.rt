@@ -8,7 +8,7 @@ use std::alloc::{AllocError, AllocFailed};
 use std::io;
 use thiserror::Error;
 
-/// Why a run failed. What it displays is the line for standard error.
+/// Why a run failed. Its text is the line for standard error.
 #[derive(Debug, Drop, Error)]
 pub enum Fault {
     /// A word of the command line is wrong.
@@ -39,7 +39,7 @@ impl Fault {
     }
 }
 
-/// Memory for a word.
+/// An error of memory for a word.
 impl From<AllocError> for Fault {
     fn from(_error: AllocError) -> Fault {
         Fault::Built(TableError::Memory)

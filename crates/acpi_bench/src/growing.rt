@@ -15,7 +15,7 @@ pub trait Growing: Aml + Drop + Sized {
     /// How many structures a call adds.
     ghost each: { ℕ };
 
-    /// The table before any call.
+    /// The table before the first call.
     fn empty(alloc: Global) -> Self
         ensures { structures result ≡ 0 };
 

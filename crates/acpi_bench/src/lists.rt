@@ -84,7 +84,7 @@ impl Growing for SRAT {
     }
 }
 
-/// Windows of 44 bytes, over two targets.
+/// Windows of 44 bytes, with two targets.
 impl Growing for CEDT {
     ghost structures = { λ t. length t.table.table.structures };
 

@@ -1,5 +1,5 @@
-//! Builds and reads large tables, so that a profiler counts what this takes. `acpi_bench WORKLOAD=N ..` does each workload once,
-//! at a size N, and prints how much was made.
+//! Builds and reads large tables, for a profiler that counts instructions. `acpi_bench WORKLOAD=N ..` runs each workload once, at
+//! size N, and prints how much was made.
 //!
 //! - `xsdt`, `mcfg`, `madt`, `srat`, `cedt`, `hest`, `rqsc`, `rimt`, `rhct`, `viot`: a table of N structures, written to a
 //!   vector.
@@ -10,7 +10,7 @@
 //! - `table`: the text of the table of `madt`.
 //! - `flat`, `deep`: the text of N terms at depth 1; at depth 250.
 //!
-//! Status 1: a call was refused. 2: a word is wrong, and a line on standard error says which.
+//! The exit status is 1 if a call failed. It is 2 if a word is wrong, and a line on standard error says which.
 #![tactic(auto)]
 
 mod blocks;
@@ -39,7 +39,7 @@ fn main(rt: HostRuntime) -> io::Result<ExitCode> {
     }
 }
 
-// Does what each word states, and prints a line for it.
+// Runs the workload of each word, and prints a line for it.
 fn run(rt: &(impl Env + Print + AllocGlobal)) -> Result<(), Fault> {
     for word in env::args(rt)?.skip(1) {
         let Some((name, Ok(size))) = word

@@ -8,7 +8,7 @@ use acpi_tables::slit::SLIT;
 use acpi_vectors::{OEM, OEM_REVISION, OEM_TABLE};
 use std::alloc::Global;
 
-/// A table of this many localities. Each two have a distance, which is set once and differs from that of their neighbours.
+/// A table of this many localities. The distance of each pair is set once, and differs from that of neighbouring pairs.
 pub fn slit(alloc: Global, localities: u32) -> R<SLIT>
     ensures { IfOk result (λ slit. slit.table.localities ≡ localities) }
 {
@@ -23,7 +23,7 @@ pub fn slit(alloc: Global, localities: u32) -> R<SLIT>
     Ok(table)
 }
 
-// A matrix of this many initiators and targets. Each initiator has a latency to each target, which differs from its neighbours.
+// A matrix of this many initiators and targets. The latency of each pair differs from that of neighbouring pairs.
 fn latencies(alloc: Global, side: u32) -> R<SystemLocality> {
     let side = side as usize;
     let mut matrix = SystemLocality::new(
@@ -45,7 +45,7 @@ fn latencies(alloc: Global, side: u32) -> R<SystemLocality> {
     Ok(matrix)
 }
 
-/// An HMAT of one such matrix.
+/// A HMAT of one such matrix.
 pub fn hmat(alloc: Global, side: u32) -> R<HMAT>
     ensures { IfOk result (λ hmat. length hmat.table.table.structures ≡ 1) }
 {

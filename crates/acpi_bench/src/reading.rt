@@ -1,4 +1,4 @@
-//! What is read.
+//! Workloads that read.
 
 ghost use Rattle.std.specs.Prelude.{◌≡◌, IfOk};
 ghost use Rattle.acpi_term.specs.Tree.{number, end};
@@ -16,12 +16,12 @@ pub fn read(alloc: Global, bytes: &[u8]) -> Result<Vec<Term>, Fault> {
     Ok(terms(bytes, &arities)?)
 }
 
-/// How many bytes the text of terms has.
+/// The number of bytes of the report of terms.
 pub fn reported(alloc: Global, terms: &[Term]) -> Result<usize, Fault> {
     Ok(report_terms(alloc, terms)?.len())
 }
 
-/// How many bytes the text of a table has.
+/// The number of bytes of the report of a table.
 pub fn shown(alloc: Global, bytes: &[u8]) -> Result<usize, Fault> {
     let table = Table::check(bytes)?;
     Ok(report_table(alloc, &table)?.len())

@@ -1,4 +1,4 @@
-//! The workloads, by their names.
+//! The workloads by name.
 
 use crate::blocks::{block, devices};
 use crate::fault::Fault;
@@ -27,7 +27,7 @@ fn built<T: Growing>(alloc: Global, calls: u32) -> R<Vec<u8>> {
     Ok(bytes)
 }
 
-// The bytes of what a name names.
+// The bytes of the workload with this name.
 fn bytes_of(alloc: Global, name: &str, size: u32) -> R<Option<Vec<u8>>> {
     let bytes = match name {
         "xsdt" => built::<XSDT>(alloc, size)?,
@@ -50,7 +50,7 @@ fn bytes_of(alloc: Global, name: &str, size: u32) -> R<Option<Vec<u8>>> {
     Ok(Some(bytes))
 }
 
-/// Does the workload of a name, and returns how much was made, and of what. None: there is no such workload.
+/// Runs the workload with this name, and returns how much was made, and of what. It returns `None` if there is no such workload.
 pub fn made(alloc: Global, name: &str, size: u32) -> Result<Option<(usize, &'static str)>, Fault> {
     if let Some(bytes) = bytes_of(alloc, name, size)? {
         return Ok(Some((bytes.len(), "bytes")));

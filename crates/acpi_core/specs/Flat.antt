@@ -1,4 +1,4 @@
--- Tables in one flat list: the fixed part, and after it all structures.
+-- Tables as two lists of bytes: the fixed part, and all structures.
 use Rattle.std.specs.Prelude.{◌≡◌, ℕ, ◌+◌, ◌-◌, ◌*◌, ◌%◌, ◌^◌, ◌<◌, ◌==◌, ◌||◌, ◌&&◌, nat_lt, min, Bool, List, [], ◌∷◌, ◌++◌}
 use Rattle.std.specs.Prelude.{length, sum}
 use Rattle.std.specs.List.{concat}
@@ -19,11 +19,11 @@ new_listing form before after = record {
   structures = [];
 }
 
--- what 32 bits have of a number: no structure takes them further
+-- a number, or 2^32 - 1 if it is more
 abbrev pub number_up_to : ℕ → ℕ
 number_up_to n = min n 4294967295
 
--- The parts of a flat table are those of this one: all bytes are its bytes, and the sum is that of all but the checksum.
+-- The two parts are those of a table: together they are its bytes, and the running sum is that of all bytes except the checksum.
 pub record IsFlat (t : Listing) (fixed body : List ℕ) (running count count_at count_width limit : ℕ) : Type 0 where
   pub is : IsListing t
   pub fixed_size : length fixed ≡ start_of t
@@ -35,16 +35,16 @@ pub record IsFlat (t : Listing) (fixed body : List ℕ) (running count count_at 
   pub counted : count ≡ number_up_to (length t.structures)
   pub sums : running ≡ sum (put 9 (0 ∷ []) (fixed ++ body)) % 256
 
--- whether a length and a number of structures fit their fields, with this many bytes and one structure more
+-- whether the length and the number of structures fit their fields after one more structure of this many bytes
 abbrev pub has_space : ℕ → ℕ → ℕ → ℕ → ℕ → Bool
 has_space size more limit count width = nat_lt (size + more) limit && (width == 0 || nat_lt (count + 1) (2 ^ (8 * width)))
 
--- a fixed part that tells another length and another number of structures, with a checksum of 0
+-- a fixed part with a new length and a new number of structures, and a checksum of 0
 abbrev pub patched : ℕ → ℕ → ℕ → ℕ → List ℕ → List ℕ
 patched at width size count fixed = put at (le width count) (put 4 (le 4 size) (put 9 (0 ∷ []) fixed))
 
--- A fixed part that tells another length and another number of structures, and whose checksum is that of a sum into which
--- all that changed went, and the structure.
+-- A fixed part with a new length and a new number of structures. Its checksum is that of the running sum, into which went
+-- everything that changed and the structure.
 pub record Settles (fixed : List ℕ) (old at width size count : ℕ) (structure settled : List ℕ) (new : ℕ) : Type 0 where
   pub is : settled ≡ put 9 ((256 - new) % 256 ∷ []) (patched at width size count fixed)
   pub sums : (new + sum (put 9 (0 ∷ []) fixed)) % 256 ≡ (old + (sum (patched at width size count fixed) + sum structure)) % 256

@@ -5,8 +5,8 @@ use Rattle.acpi_base.specs.Bytes.{le}
 use Rattle.acpi_base.specs.Table.{table_of}
 use Rattle.acpi_base.specs.declared.oem.Oem.{Oem}
 
--- A table: its header's values, the fields before and after the number of structures, which has 0, 2 or 4 bytes, what
--- its length stays below, and its structures in order.
+-- A table: the values of its header, the fields before and after the number of structures, the width of that number (0, 2 or 4
+-- bytes), the limit of its length, and its structures in order.
 pub record Listing : Type 0 where
   pub signature : List ℕ
   pub revision : ℕ
@@ -17,11 +17,11 @@ pub record Listing : Type 0 where
   pub limit : ℕ
   pub structures : List (List ℕ)
 
--- what a number in a field of this many bytes stays below
+-- a number in a field of this many bytes is below this
 abbrev pub field_limit : ℕ → ℕ
 field_limit width = 2 ^ (8 * width)
 
--- what a table's length stays below: its field at 4 has four bytes
+-- a table's length is below this: its field at offset 4 has four bytes
 abbrev pub length_limit : ℕ
 length_limit = field_limit 4
 
@@ -29,23 +29,23 @@ length_limit = field_limit 4
 abbrev pub fixed_fields : Listing → List ℕ
 fixed_fields t = t.before ++ (le t.count_width (length t.structures) ++ t.after)
 
--- what stands after the header
+-- the bytes after the header
 abbrev pub body_of : Listing → List ℕ
 body_of t = fixed_fields t ++ concat t.structures
 
--- The table's bytes: it tells their number at 4, and the byte at 9 makes their sum zero.
+-- The table's bytes: their number is at offset 4, and the checksum at offset 9 makes their sum zero.
 abbrev pub bytes_of : Listing → List ℕ
 bytes_of t = table_of t.signature t.revision t.oem (body_of t)
 
--- where the structures begin
+-- the offset of the first structure
 abbrev pub start_of : Listing → ℕ
 start_of t = 36 + length t.before + t.count_width + length t.after
 
--- how many bytes the table has
+-- the number of bytes of the table
 abbrev pub size_of : Listing → ℕ
 size_of t = start_of t + length (concat t.structures)
 
--- the table with one structure more, at its end
+-- the table with one more structure at its end
 abbrev pub with_structure : Listing → List ℕ → Listing
 with_structure t structure = record {
   signature = t.signature;
@@ -58,8 +58,8 @@ with_structure t structure = record {
   structures = t.structures ++ structure ∷ [];
 }
 
--- The header's values have their fields' widths, the number of structures has two bytes, four or no place, and it and the
--- length fit their fields.
+-- The header's values have the widths of their fields. The number of structures has a field of two or four bytes, or none. It and
+-- the length fit their fields.
 pub record IsListing (t : Listing) : Type 0 where
   pub signature : length t.signature ≡ 4
   pub id : length t.oem.id ≡ 6

@@ -3,11 +3,11 @@ use Rattle.std.specs.Prelude.{◌≢◌, ℕ, ◌^◌, nat_lt, Bool, List, lengt
 use Rattle.acpi_base.specs.declared.error.Error.TheVariants.{Memory, FieldWidth}
 use Rattle.acpi_base.specs.Object.{Object, whole, provided, provided_ends_well}
 
--- the length of these bytes can be told
+-- whether the number of these bytes fits the two bytes
 abbrev pub fits_word : List ℕ → Bool
 fits_word bytes = nat_lt (length bytes) (2 ^ 16)
 
--- a structure, refused where its length would pass its field
+-- a structure, or `FieldWidth` if its length doesn't fit its field
 abbrev pub structure_of : List ℕ → Object
 structure_of bytes = provided (fits_word bytes) FieldWidth (whole bytes)
 

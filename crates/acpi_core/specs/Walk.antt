@@ -1,4 +1,4 @@
--- Which walk a table of structures has.
+-- The walk of a table of structures.
 use Rattle.std.specs.Prelude.{◌≡◌, ℕ, ◌+◌, ◌<◌, ◌≤◌, Bool, IsTrue, List, length, take, slice_index, Some}
 use Rattle.acpi_base.specs.Bytes.{carried}
 use Rattle.acpi_base.specs.Table.{IsTrueTable}
@@ -7,8 +7,8 @@ use Rattle.acpi_base.specs.declared.walk.Walk.{Walk}
 use Rattle.acpi_core.specs.Listing.{Listing, IsListing, bytes_of, start_of}
 use Rattle.acpi_core.specs.Offset.{offset_of}
 
--- The walk is that of the table's signature. It begins where the structures do, knows the place of their number where the
--- table has one, and where it knows a field that tells the start, this follows the number and tells it.
+-- The walk is that of the table's signature, and begins at the first structure. If the table has a number of structures, the walk
+-- has the place of that field. If the walk has a field for the start, this field follows the number and contains the start.
 pub record IsWalkOf (w : Walk) (t : Listing) : Type 0 where
   pub signature : walk_of (named t.signature) ≡ Some w
   pub start : w.start ≡ start_of t
@@ -19,16 +19,16 @@ pub record IsWalkOf (w : Walk) (t : Listing) : Type 0 where
       × (place_width w.told_start ≤ length t.after)
       × (carried (take (place_width w.told_start) t.after) ≡ start_of t)
 
--- What a table of structures keeps: it is one with this walk, and its length stays below the limit of its kind. Where it is
--- closed, each structure is as long as the walk takes it to be.
+-- The invariant of a table: it has this walk, and its length is below the limit of its kind. In a closed kind each structure has
+-- the length that the walk expects.
 pub record Keeps (w : Walk) (limit : ℕ) (closed : Bool) (t : Listing) : Type 0 where
   pub is : IsListing t
   pub walk : IsWalkOf w t
   pub limited : t.limit ≡ limit
   pub pieces : IsTrue closed → ArePieces w.sizes t.structures
 
--- The table's bytes are a true table's. Its structures, in order, are the one list of pieces of a table of its signature, and
--- stand where these do.
+-- The table's bytes are a correct table. Its structures, in order and at their offsets, are the one list of pieces that the walk
+-- of its signature finds.
 pub record IsWalked (w : Walk) (t : Listing) : Type 0 where
   pub is_true : IsTrueTable (bytes_of t)
   pub walks : ArePiecesOf (bytes_of t) t.structures

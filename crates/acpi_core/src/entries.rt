@@ -1,4 +1,4 @@
-//! Entries of one size, one after another, of which there is a most.
+//! Lists of entries of one size, with a greatest length.
 
 ghost use Rattle.std.specs.Prelude.{◌≡◌, ◌≢◌, ◌+◌, ◌*◌, ◌<◌, ◌≤◌, ◌++◌, length, OnOk, OnErr, IfOk, IfErr};
 ghost use Rattle.acpi_core.specs.Entries.{no_entries, with_entry};
@@ -9,7 +9,7 @@ use acpi_base::patch::write_at;
 use std::alloc::Global;
 use std::marker::Model;
 
-/// Bytes, inside the value where there are at most 16: most lists of entries are short, and take no memory.
+/// The bytes of entries. Up to 16 bytes are stored in the value itself: most lists are short, and take no memory.
 #[derive(Debug, Drop)]
 pub(crate) enum Room {
     Few([u8; 16]),
@@ -17,7 +17,7 @@ pub(crate) enum Room {
 }
 
 impl Room {
-    // The bytes, of which there are this many.
+    // The first `size` of the bytes.
     fn as_slice(&self, size: usize) -> &[u8]
         requires { Holds size self.now }
         ensures bytes { result.now ≡ held size self.now }
@@ -29,7 +29,7 @@ impl Room {
         }
     }
 
-    // Adds bytes after those that there are. Memory is the one error.
+    // Adds bytes at the end. The only error is `Memory`.
     #[tactic(auto, using(crate::proofs::Rooms::take_put))]
     fn add(&mut self, alloc: Global, size: usize, more: &[u8]) -> R<()>
         requires { Holds size self.old }
@@ -47,7 +47,7 @@ impl Room {
     }
 }
 
-// A vector of some bytes and of others after them.
+// A vector of two lists of bytes, in order.
 fn joined(alloc: Global, few: &[u8], more: &[u8]) -> R<Vec<u8>>
     ensures ok { IfOk result (λ v. v.items ≡ few.now ++ more.now) }
     ensures err { IfErr result (λ e. e ≡ Error.Memory) }
@@ -78,7 +78,7 @@ impl<const SIZE: usize, const MOST: usize> Model for Entries<SIZE, MOST> {
 }
 
 impl<const SIZE: usize, const MOST: usize> Entries<SIZE, MOST> {
-    /// No entries.
+    /// An empty list.
     pub fn new(alloc: Global) -> Entries<SIZE, MOST>
         ensures { result ≡ no_entries }
     {
@@ -89,7 +89,7 @@ impl<const SIZE: usize, const MOST: usize> Entries<SIZE, MOST> {
         }
     }
 
-    /// How many there are.
+    /// The number of entries.
     pub fn len(&self) -> usize
         ensures is { result ≡ self.now.count }
         ensures most { result ≤ MOST }
@@ -97,7 +97,7 @@ impl<const SIZE: usize, const MOST: usize> Entries<SIZE, MOST> {
         self.count
     }
 
-    /// Their bytes.
+    /// The bytes of all entries.
     pub fn as_slice(&self) -> &[u8]
         ensures is { result.now ≡ self.now.bytes }
         ensures size { length self.now.bytes ≡ SIZE * self.now.count }
@@ -106,7 +106,8 @@ impl<const SIZE: usize, const MOST: usize> Entries<SIZE, MOST> {
         self.room.as_slice(SIZE * self.count)
     }
 
-    /// Adds an entry at the end. FieldWidth where there are as many as there may be, and unchanged where it is refused.
+    /// Adds an entry at the end. The error is `FieldWidth` if there are `MOST` entries already. After an error the list is
+    /// unchanged.
     pub fn push(&mut self, entry: [u8; SIZE]) -> R<()>
         ensures ok { OnOk result (self.new ≡ with_entry self.old entry.entry) }
         ensures room { OnOk result (self.old.count < MOST) }

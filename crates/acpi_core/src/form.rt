@@ -1,15 +1,15 @@
-//! What kind of table a table is.
+//! The form of a table of structures.
 
 ghost use Rattle.std.specs.Prelude.{◌≡◌};
 ghost use Rattle.acpi_core.specs.Listing.{length_limit};
 
 use acpi_base::oem::Oem;
 
-/// What the length of a table stays below, which has a field of four bytes (ACPI 6.5, 5.2.6, offset 4).
+/// The length of every table is below this: its field has four bytes (ACPI 6.5, 5.2.6, offset 4).
 const LENGTH_LIMIT: usize = 1 << (8 * 4);
 
-/// The values of a table's header (ACPI 6.5, 5.2.6), in how many bytes it counts its structures (0 where it doesn't, 2 or
-/// 4), and what its length in bytes stays below.
+/// The values of a table's header (ACPI 6.5, 5.2.6), the width in bytes of its number of structures (0 if it has no such field, 2
+/// or 4), and the limit of its length: the length in bytes is below it.
 #[derive(Clone, Copy)]
 pub struct Form {
     pub signature: [u8; 4],
@@ -20,7 +20,7 @@ pub struct Form {
 }
 
 impl Form {
-    /// A table that counts its structures in `count_width` bytes, and whose length is limited by its field of four bytes alone.
+    /// A table whose number of structures has `count_width` bytes, and whose length is limited only by its field of four bytes.
     pub fn new(signature: [u8; 4], revision: u8, oem: Oem, count_width: usize) -> Form
         ensures { result ≡ record {
           signature = signature;

@@ -7,12 +7,12 @@ ghost use Rattle.acpi_base.specs.declared.walk.Walk.{Walk};
 pub trait Kind {
     ghost use Rattle.acpi_base.specs.declared.walk.Walk.{Walk};
 
-    /// How its structures are found.
+    /// The walk by which its structures are found.
     ghost walk: { Walk };
 
-    /// What its length stays below.
+    /// Its length is below this.
     ghost limit: { ℕ };
 
-    /// Whether all of its structures are of this library, and so as long as the walk takes them to be.
+    /// Whether all of its structures are types of this library, which have the lengths that the walk expects.
     ghost closed: { Bool };
 }

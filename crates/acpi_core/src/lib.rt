@@ -1,4 +1,5 @@
-//! The table that every list, node and matrix table is made of: a header, fixed fields, and structures one after another.
+//! The table of structures: a header, fixed fields, and structures in order. Every table of lists, nodes or matrices is made of
+//! it.
 #![tactic(auto)]
 
 pub mod entries;

@@ -1,4 +1,4 @@
-//! A table as contracts see it.
+//! The value of a table in contracts.
 
 ghost use Rattle.std.specs.Prelude.{◌≡◌};
 ghost use Rattle.std.specs.Borrow.{ftrue};
@@ -8,7 +8,7 @@ ghost use Rattle.acpi_core.specs.Flat.{new_listing};
 use crate::form::Form;
 use std::marker::Model;
 
-/// Which table the bytes of a table are. It has no bytes of its own.
+/// The table that the bytes stand for. It takes no memory at run time.
 #[derive(Drop)]
 pub struct Listed {
     pub ghost table: { Listing },
@@ -26,7 +26,7 @@ impl Listed {
         Listed {}
     }
 
-    /// The table with one structure more.
+    /// The table with one more structure.
     pub fn with(_before: &Listed, _structure: &[u8]) -> Listed
         ensures { result.table ≡ with_structure _before.now.table _structure.now }
     {

@@ -1,4 +1,4 @@
-//! What a structure more changes in a table's fixed part.
+//! Updating a table's fixed part when a structure is added.
 
 ghost use Rattle.std.specs.Prelude.{◌≡◌, ◌+◌, ◌*◌, ◌^◌, ◌%◌, ◌<◌, ◌≤◌, ◌⊎◌, true, false, length, sum, OnOk, IfOk, IfErr};
 ghost use Rattle.acpi_base.specs.Bytes.{le, put};
@@ -8,8 +8,8 @@ use acpi_base::error::{Error, R};
 use acpi_base::patch::{patch, write_at};
 use acpi_base::sum::Sum;
 
-/// The length of a table of this many bytes and structures with one structure more, and their number. FieldWidth where the
-/// length would reach the limit, or the number doesn't fit its field.
+/// The length and the number of structures of a table after one more structure. The error is `FieldWidth` if the length would
+/// reach the limit, or the number doesn't fit its field.
 #[inline(always)]
 pub(crate) fn grown(
     size: usize,
@@ -47,7 +47,7 @@ pub(crate) fn grown(
     }
 }
 
-/// Tells another number of structures, and keeps the sum.
+/// Writes a new number of structures, and updates the sum.
 fn patch_count(fixed: &mut [u8], running: &mut Sum, at: usize, width: usize, count: u32)
     requires place { at + width ≤ length fixed.old }
     requires width { (width ≡ 0) ⊎ ((width ≡ 2) ⊎ (width ≡ 4)) }
@@ -65,8 +65,7 @@ fn patch_count(fixed: &mut [u8], running: &mut Sum, at: usize, width: usize, cou
     }
 }
 
-/// Makes the length, the number of structures and the checksum of a fixed part true, where one structure more stands
-/// after it.
+/// Sets the length, the number of structures and the checksum of a fixed part, for one more structure after it.
 #[inline(always)]
 pub(crate) fn settle(
     fixed: &mut [u8],

@@ -1,4 +1,4 @@
-//! What writes the bytes of a structure.
+//! Objects that write the bytes of a structure.
 
 ghost use Rattle.std.specs.Prelude.{◌≡◌, length, take, OnOk, OnErr, IfErr};
 ghost use Rattle.acpi_base.specs.Object.{Object, Appended, IsOwnEnd};
@@ -7,18 +7,18 @@ use acpi_base::buffer::{append, append_value};
 use acpi_base::error::R;
 use acpi_base::object::Aml;
 
-/// What a table takes as a structure: an object of a known type, or a borrowed object of any type.
+/// An object that a table takes as a structure: a value of a known type, or a borrowed object of any type.
 pub trait Structure {
     ghost writes: { Self → Object };
 
-    /// Writes the structure at the end of a vector. After an error a beginning of its bytes may stand there.
+    /// Writes the structure at the end of a vector. After an error the vector may end with a first part of its bytes.
     fn append_to(&self, bytes: &mut Vec<u8>) -> R<()>
         ensures ok { OnOk result (Appended (writes self.now) bytes.old.items bytes.new.items) }
         ensures err { IfErr result (λ e. IsOwnEnd e (writes self.now)) }
         ensures kept { OnErr result (take (length bytes.old.items) bytes.new.items ≡ bytes.old.items) };
 }
 
-/// An object of a known type.
+/// A value of a known type.
 #[derive(Drop)]
 pub struct Known<'a, T: Aml>(pub &'a T);
 

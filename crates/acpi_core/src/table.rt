@@ -20,8 +20,8 @@ use acpi_base::sum::Sum;
 use std::alloc::Global;
 use std::marker::Model;
 
-/// A table (ACPI 6.5, 5.2.6) whose header and fixed fields have `N` bytes, and its structures one after another. Its
-/// length, its number of structures and its checksum are true after every call.
+/// A table (ACPI 6.5, 5.2.6): a header and fixed fields of `N` bytes, and then structures in order. Its length, its number of
+/// structures and its checksum are right after every call.
 #[derive(Drop)]
 pub struct Table<const N: usize> {
     fixed: [u8; N],
@@ -45,7 +45,7 @@ impl<const N: usize> Model for Table<N> {
     ghost invariant = { λ t. IsFlat t.listed.table t.fixed t.body.items t.sum.value t.count t.count_at t.count_width t.limit };
 }
 
-/// A table writes its fixed part and its structures.
+/// A table writes its fixed part and then its structures.
 impl<const N: usize> Aml for Table<N> {
     ghost object = { λ t. whole (bytes_of t.table) };
 
@@ -57,7 +57,7 @@ impl<const N: usize> Aml for Table<N> {
 }
 
 impl<const N: usize> Table<N> {
-    /// A table without structures. Its fixed fields are given up to the number of structures and after it.
+    /// A table without structures. `before` are the fixed fields before the number of structures, and `after` those after it.
     pub fn new(alloc: Global, form: Form, before: &[u8], after: &[u8]) -> Table<N>
         requires size { 36 + length before.now + form.count_width + length after.now ≡ N }
         requires width { (form.count_width ≡ 0) ⊎ ((form.count_width ≡ 2) ⊎ (form.count_width ≡ 4)) }
@@ -83,8 +83,8 @@ impl<const N: usize> Table<N> {
         }
     }
 
-    /// Adds a structure of these bytes at the end. FieldWidth where the length or the number of structures would pass its
-    /// field.
+    /// Adds a structure of these bytes at the end. The error is `FieldWidth` if the length or the number of structures doesn't
+    /// fit its field.
     #[inline(always)]
     pub fn add(&mut self, structure: &[u8]) -> R<()>
         ensures { Adds result self.old (whole structure.now) self.new }
@@ -111,7 +111,7 @@ impl<const N: usize> Table<N> {
         Ok(())
     }
 
-    /// Adds the bytes that an object writes as a structure at the end. The object's own refusal, else FieldWidth as `add`.
+    /// Adds the bytes of an object as a structure at the end. The error is the object's own, or `FieldWidth` as for `add`.
     pub fn add_object<S: Structure>(&mut self, structure: &S) -> R<()>
         ensures { Adds result self.old (S.writes structure.now) self.new }
     {
@@ -143,7 +143,7 @@ impl<const N: usize> Table<N> {
         }
     }
 
-    /// As `add`, and returns where the structure begins.
+    /// Adds a structure as `add` does, and returns the offset at which it begins.
     pub fn add_at(&mut self, structure: &[u8]) -> R<u32>
         ensures { AddsAt result self.old (whole structure.now) self.new }
     {
@@ -152,7 +152,7 @@ impl<const N: usize> Table<N> {
         Ok(at)
     }
 
-    /// As `add_object`, and returns where the structure begins.
+    /// Adds a structure as `add_object` does, and returns the offset at which it begins.
     pub fn add_object_at<S: Structure>(&mut self, structure: &S) -> R<u32>
         ensures { AddsAt result self.old (S.writes structure.now) self.new }
     {
@@ -161,14 +161,14 @@ impl<const N: usize> Table<N> {
         Ok(at)
     }
 
-    /// How many bytes the table has.
+    /// The number of bytes of the table.
     pub fn len(&self) -> u32
         ensures { result ≡ size_of self.now.table }
     {
         (N + self.body.len()) as u32
     }
 
-    /// The number of structures, and 2^32 - 1 for more of them. Only structures of no bytes can be as many.
+    /// The number of structures, or 2^32 - 1 if there are more. Only structures without bytes can be so numerous.
     pub fn count(&self) -> u32
         ensures { result ≡ number_up_to (length self.now.table.structures) }
     {

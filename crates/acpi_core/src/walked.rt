@@ -49,7 +49,7 @@ impl<K: Kind, const N: usize> Aml for Walked<K, N> {
 }
 
 impl<K: Kind, const N: usize> Walked<K, N> {
-    /// A table without structures, whose fixed fields were chosen for it.
+    /// A table without structures, from its fixed fields.
     pub fn of(table: Table<N>) -> Walked<K, N>
         requires walk { IsWalkOf K.walk table.table }
         requires limit { table.table.limit ≡ K.limit }
@@ -62,7 +62,7 @@ impl<K: Kind, const N: usize> Walked<K, N> {
         }
     }
 
-    /// Adds a record. FieldWidth where the length or the number of structures would pass its field.
+    /// Adds a record. The error is `FieldWidth` if the length or the number of structures doesn't fit its field.
     pub fn add_record<const M: usize, T: Record<M>>(&mut self, structure: &T) -> R<()>
         requires size { M < 2 ^ 63 }
         requires piece { IsTrue K.closed → length (fields_joined (T.fields structure.now)) ≡ M
@@ -72,7 +72,7 @@ impl<K: Kind, const N: usize> Walked<K, N> {
         self.table.add(&structure.bytes())
     }
 
-    /// As `add_record`, and returns where the structure begins.
+    /// Adds a record as `add_record` does, and returns the offset at which it begins.
     pub fn add_record_at<const M: usize, T: Record<M>>(&mut self, structure: &T) -> R<u32>
         requires size { M < 2 ^ 63 }
         requires piece { IsTrue K.closed → length (fields_joined (T.fields structure.now)) ≡ M
@@ -83,7 +83,7 @@ impl<K: Kind, const N: usize> Walked<K, N> {
         self.table.add_at(&structure.bytes())
     }
 
-    /// Adds the bytes that an object writes as a structure. The object's own error, else FieldWidth as `add_record`.
+    /// Adds the bytes of an object as a structure. The error is the object's own, or `FieldWidth` as for `add_record`.
     pub fn add_object<T: Aml>(&mut self, structure: &T) -> R<()>
         requires { IsTrue K.closed → (T.object structure.now).end ≡ None → IsPiece K.walk.sizes (T.object structure.now).front }
         ensures { Adds result self.old (T.object structure.now) self.new }
@@ -91,7 +91,7 @@ impl<K: Kind, const N: usize> Walked<K, N> {
         self.table.add_object(&Known(structure))
     }
 
-    /// As `add_object`, for a borrowed object of any type.
+    /// Adds a structure as `add_object` does, from a borrowed object of any type.
     pub fn add_borrowed(&mut self, structure: &dyn Aml) -> R<()>
         requires { IsTrue K.closed → (object structure.now).end ≡ None → IsPiece K.walk.sizes (object structure.now).front }
         ensures { Adds result self.old (object structure.now) self.new }
@@ -99,7 +99,7 @@ impl<K: Kind, const N: usize> Walked<K, N> {
         self.table.add_object(&structure)
     }
 
-    /// As `add_object`, and returns where the structure begins.
+    /// Adds a structure as `add_object` does, and returns the offset at which it begins.
     pub fn add_object_at<T: Aml>(&mut self, structure: &T) -> R<u32>
         requires { IsTrue K.closed → (T.object structure.now).end ≡ None → IsPiece K.walk.sizes (T.object structure.now).front }
         ensures adds { AddsAt result self.old (T.object structure.now) self.new }
@@ -115,8 +115,8 @@ impl<K: Kind, const N: usize> Walked<K, N> {
         self.table.len() as usize
     }
 
-    /// The number of structures. Where structures of a caller have no bytes and the table has no field for their number,
-    /// there can be 2^32 or more: this is then 2^32 - 1.
+    /// The number of structures. It is 2^32 - 1 if there are more, which takes structures without bytes in a table that doesn't
+    /// contain their number.
     pub fn count(&self) -> u32
         ensures number { result ≡ number_up_to (length self.now.table.structures) }
         ensures closed { IsTrue K.closed → result ≡ length self.now.table.structures }
@@ -126,8 +126,8 @@ impl<K: Kind, const N: usize> Walked<K, N> {
     }
 }
 
-/// A law: after any calls the table is a true one. Where each structure is as long as the walk takes it to be, which a closed
-/// kind keeps, they are, in order, the one list that walks it.
+/// A law: after any calls the table is correct. If each structure has the length that the walk expects, as in a table of a
+/// closed kind, the structures, in order, are the one list that the walk finds.
 pub fn is_walked<K: Kind, const N: usize>(table: &Walked<K, N>)
     ensures keeps { Keeps K.walk K.limit K.closed table.now.table }
     ensures is_true { IsTrueTable (bytes_of table.now.table) }

@@ -5,7 +5,7 @@ use Rattle.acpi_base.specs.Table.{table_of}
 use Rattle.acpi_base.specs.declared.oem.Oem.{Oem}
 use Rattle.acpi_fixed.specs.declared.bert.BERT.{BERT}
 
--- after the header
+-- the fields after the header
 abbrev pub bert_fields : BERT → List NamedField
 bert_fields t =
     dword "Boot Error Region Length" t.error_region_length  -- 36
@@ -15,7 +15,7 @@ bert_fields t =
 abbrev pub bert_bytes : BERT → List ℕ
 bert_bytes t = table_of (codes "BERT") 1 t.oem (fields_joined (bert_fields t))
 
--- a region of this many bytes at an address
+-- a table for a region of this many bytes at an address
 abbrev pub bert_for : Oem → ℕ → ℕ → BERT
 bert_for oem size address = record {
   oem = oem;

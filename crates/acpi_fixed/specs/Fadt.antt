@@ -52,7 +52,7 @@ profile_number profiles.Tablet = 8
 
 -- ---- the layout
 
--- the standard header (5.2.6), whose fields are the caller's here
+-- the standard header (5.2.6), whose fields are the caller's in this table
 abbrev pub header_fields : FADTBuilder → List NamedField
 header_fields f =
     bytes "Signature" 4 f.signature  -- 0
@@ -66,7 +66,7 @@ header_fields f =
     ∷ bytes "Creator Revision" 4 f.creator_revision  -- 32
     ∷ []
 
--- what was there before addresses of 64 bits
+-- the fields before those with 64-bit addresses
 abbrev pub legacy_fields : FADTBuilder → List NamedField
 legacy_fields f =
     dword "FIRMWARE_CTRL" f.firmware_ctrl  -- 36
@@ -130,19 +130,19 @@ extended_fields f =
     ∷ qword "Hypervisor Vendor Identity" f.hypervisor_vendor_identity  -- 268
     ∷ []
 
--- after the header
+-- the fields after the header
 abbrev pub fadt_fields : FADTBuilder → List NamedField
 fadt_fields f = legacy_fields f ++ extended_fields f
 
--- the fields as they stand
+-- the bytes with the caller's checksum
 abbrev pub builder_bytes : FADTBuilder → List ℕ
 builder_bytes f = fields_joined (header_fields f) ++ fields_joined (fadt_fields f)
 
--- the checksum is made anew
+-- the bytes with a new checksum
 abbrev pub fadt_bytes : FADTBuilder → List ℕ
 fadt_bytes f = with_checksum (builder_bytes f)
 
--- ---- where a builder begins
+-- ---- new builders
 
 abbrev pub no_fields : FADTBuilder
 no_fields = record {
@@ -225,18 +225,18 @@ fadt_at_first oem_id oem_table_id oem_revision = record no_fields {
 
 -- ---- what setters change
 
--- one address of a table, and none in its twin
+-- the addresses of a table: that of 32 bits, and that of 64 bits
 abbrev pub with_dsdt : ℕ → ℕ → FADTBuilder → FADTBuilder
 with_dsdt low high f = record f { dsdt = low; x_dsdt = high }
 
 abbrev pub with_facs : ℕ → ℕ → FADTBuilder → FADTBuilder
 with_facs low high f = record f { firmware_ctrl = low; x_firmware_ctrl = high }
 
--- what the command port takes to turn ACPI on, and off
+-- the values for the command port that turn ACPI on and off
 abbrev pub with_commands : ℕ → ℕ → FADTBuilder → FADTBuilder
 with_commands enable disable f = record f { acpi_enable = enable; acpi_disable = disable }
 
--- flags join those that are set
+-- the flag is joined by or to those that are set
 abbrev pub with_flag : Flags → FADTBuilder → FADTBuilder
 with_flag flag f = record f { flags = bit_or f.flags (flag_number flag) }
 

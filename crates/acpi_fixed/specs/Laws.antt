@@ -1,4 +1,4 @@
--- What holds of the definitions, whatever calls there are.
+-- Laws about the definitions, which hold for all calls.
 use Rattle.std.specs.Prelude.{◌≡◌, ℕ, ◌%◌, List, [], length, sum, take}
 use Rattle.acpi_base.specs.Table.{IsTrueTable}
 use Rattle.acpi_base.specs.Walk.{ArePiecesOf}
@@ -14,7 +14,7 @@ use Rattle.acpi_fixed.specs.Spcr.{spcr_bytes}
 use Rattle.acpi_fixed.specs.Tcpa.{client_bytes, server_bytes}
 use Rattle.acpi_fixed.specs.Tpm2.{tpm2_bytes, tpm2_size}
 
--- the first 20 bytes of a pointer that was made sum to zero, and all 36
+-- the first 20 bytes of a new pointer sum to zero, and so do all 36
 abbrev pub PointersSumToZero : Type 0
 PointersSumToZero =
     (oem_id : List ℕ) (xsdt_addr : ℕ) → length oem_id ≡ 6
@@ -22,7 +22,7 @@ PointersSumToZero =
     × (sum (take 20 (rsdp_bytes (rsdp_for oem_id xsdt_addr))) % 256 ≡ 0)
     × (sum (rsdp_bytes (rsdp_for oem_id xsdt_addr)) % 256 ≡ 0)
 
--- ---- what is from this maker is a true table of its size, without structures, whatever else it holds
+-- ---- each table of this maker is a correct table of its size, without structures, for all values of its other fields
 
 abbrev pub BertsAreTrue : Oem → Type 0
 BertsAreTrue oem =

@@ -1,4 +1,4 @@
--- Who a table is from.
+-- The maker of a table.
 use Rattle.std.specs.Prelude.{ℕ, List}
 use Rattle.acpi_base.specs.declared.oem.Oem.{Oem}
 

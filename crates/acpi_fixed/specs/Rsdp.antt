@@ -20,7 +20,7 @@ rsdp_fields r =
 abbrev pub rsdp_bytes : Rsdp → List ℕ
 rsdp_bytes r = fields_joined (rsdp_fields r)
 
--- the pointer before its checksums are made
+-- the pointer with checksums of zero
 abbrev pub unsummed : List ℕ → ℕ → Rsdp
 unsummed oem_id xsdt_addr = record {
   signature = codes "RSD PTR ";
@@ -32,7 +32,7 @@ unsummed oem_id xsdt_addr = record {
   extended_checksum = 0;
 }
 
--- the first checksum is over 20 bytes, and the extended one over all of them
+-- the first checksum is that of 20 bytes, and the extended one that of all bytes
 abbrev pub with_first : Rsdp → Rsdp
 with_first r = record r { checksum = complement (sum (take 20 (rsdp_bytes r))) }
 

@@ -6,7 +6,7 @@ use Rattle.acpi_base.specs.Table.{table_of}
 use Rattle.acpi_base.specs.declared.oem.Oem.{Oem}
 use Rattle.acpi_fixed.specs.declared.spcr.SPCR.{SPCR}
 
--- after the header
+-- the fields after the header
 abbrev pub spcr_fields : SPCR → List NamedField
 spcr_fields t =
     byte "Interface Type" 0x15  -- 36: the RISC-V supervisor binary interface
@@ -38,6 +38,6 @@ spcr_fields t =
 abbrev pub spcr_bytes : SPCR → List ℕ
 spcr_bytes t = table_of (codes "SPCR") 4 t.oem (fields_joined (spcr_fields t))
 
--- a console behind the supervisor binary interface
+-- a console that the supervisor binary interface provides
 abbrev pub spcr_for : Oem → SPCR
 spcr_for oem = record { oem = oem; lent = record {} }

@@ -12,7 +12,7 @@ use Rattle.acpi_fixed.specs.declared.tpm2.TpmServer1_2.{TpmServer1_2}
 
 -- ---- of a client
 
--- after the header
+-- the fields after the header
 abbrev pub client_fields : TpmClient1_2 → List NamedField
 client_fields t =
     word "Platform Class" (class_number Client)  -- 36
@@ -33,7 +33,7 @@ client_for oem min_len start_addr = record {
 
 -- ---- of a server
 
--- after the header
+-- the fields after the header
 abbrev pub server_fields : TpmServer1_2 → List NamedField
 server_fields t =
     word "Platform Class" (class_number Server)  -- 36
@@ -77,7 +77,7 @@ server_at_first oem = record {
 
 -- ---- what the setters of a server change
 
--- flags join those that are set
+-- flags are joined by or to those that are set
 abbrev pub with_device_flag : ℕ → TpmServer1_2 → TpmServer1_2
 with_device_flag flag t = record t { device_flags = bit_or t.device_flags flag }
 

@@ -23,7 +23,7 @@ method_number methods.CrbAndAcpiStart = 0x08
 method_number methods.CrbAndSmcHvc = 0x0b
 method_number methods.I2cFifo = 0x0c
 
--- a log area lies after the parameters of the start method
+-- the log area follows the parameters of the start method
 abbrev pub area_fields : Option LogArea → List NamedField
 area_fields None = []
 area_fields (Some area) =
@@ -32,7 +32,7 @@ area_fields (Some area) =
     ∷ qword "Log Area Start Address" area.base_addr  -- 68
     ∷ []
 
--- after the header
+-- the fields after the header
 abbrev pub tpm2_fields : Tpm2 → Option LogArea → List NamedField
 tpm2_fields t area =
     word "Platform Class" (class_number t.platform_class)  -- 36
@@ -51,7 +51,7 @@ abbrev pub tpm2_size : Option LogArea → ℕ
 tpm2_size None = 52
 tpm2_size (Some area) = 76
 
--- without a log area
+-- a table without a log area
 abbrev pub tpm2_for : Oem → PlatformClass → ℕ → StartMethod → Tpm2
 tpm2_for oem class address method = record {
   oem = oem;
@@ -64,7 +64,7 @@ tpm2_for oem class address method = record {
 abbrev pub with_area : ℕ → ℕ → Tpm2 → Tpm2
 with_area min_len base_addr t = record t { log_area = Some (record { min_len = min_len; base_addr = base_addr }) }
 
--- a log area is set where there was none, and else refused and nothing changed
+-- the log area is set if there was none; otherwise the call fails and nothing changes
 abbrev pub LogAreaOnce : Tpm2 → ℕ → ℕ → Tpm2 → Result Unit Error → Type 0
 LogAreaOnce old min_len base_addr new (Ok _) = (old.log_area ≡ None) × (new ≡ with_area min_len base_addr old)
 LogAreaOnce old min_len base_addr new (Err e) = (e ≡ LogAreaSet) × (IsSome old.log_area) × (new ≡ old)

@@ -1,4 +1,4 @@
-//! BERT: where the errors of the last boot are kept.
+//! BERT: the memory with the errors of the last boot.
 
 ghost use Rattle.std.specs.Prelude.{◌≡◌};
 ghost use Rattle.acpi_base.specs.Object.{whole, whole_ends_well};
@@ -12,8 +12,8 @@ use acpi_base::oem::Oem;
 use acpi_base::row::{Record, Row, record_of_numbers};
 use acpi_base::sink::AmlSink;
 
-/// The Boot Error Record Table (ACPI 6.5, 18.3.1): 48 bytes. It points at the memory in which firmware keeps the errors
-/// that nobody handled before this boot.
+/// The Boot Error Record Table (ACPI 6.5, 18.3.1): 48 bytes. It gives the memory in which firmware stores errors that weren't
+/// handled before this boot.
 #[derive(Clone, Copy, Debug)]
 pub struct BERT {
     oem: Oem,
@@ -22,7 +22,7 @@ pub struct BERT {
 }
 
 impl BERT {
-    /// A region of this many bytes at a physical address.
+    /// A table for a region of `error_region_length` bytes at a physical address.
     pub fn new(
         oem_id: [u8; 6],
         oem_table_id: [u8; 8],

@@ -1,4 +1,4 @@
-//! FACS: what firmware and operating system share.
+//! FACS: the memory that firmware and the operating system share.
 
 ghost use Rattle.std.specs.Prelude.{◌≡◌};
 ghost use Rattle.acpi_base.specs.Object.{whole, whole_ends_well};
@@ -9,8 +9,8 @@ use acpi_base::object::Aml;
 use acpi_base::row::{Record, Row, Value, Word, record_of, write_record};
 use acpi_base::sink::AmlSink;
 
-/// The Firmware ACPI Control Structure (ACPI 6.5, 5.2.10): 64 bytes, without a checksum. It is written as its fields
-/// stand.
+/// The Firmware ACPI Control Structure (ACPI 6.5, 5.2.10): 64 bytes, without a checksum. Its fields are public, and are written
+/// with the values that they have.
 #[derive(Clone, Copy)]
 pub struct FACS {
     /// `FACS`.
@@ -30,7 +30,7 @@ pub struct FACS {
 }
 
 impl FACS {
-    /// A structure with its signature, its length of 64 bytes and version 1. Everything else is zero.
+    /// A structure with its signature, its length of 64 bytes and version 1. Every other field is zero.
     pub fn new() -> FACS
         ensures { result ≡ facs_at_first }
     {

@@ -1,4 +1,4 @@
-//! FADT: what the hardware of ACPI is like, and where the FACS and the DSDT are.
+//! FADT: the ACPI hardware of the machine, and the addresses of the FACS and the DSDT.
 
 ghost use Rattle.std.specs.Prelude.{◌≡◌};
 ghost use Rattle.acpi_base.specs.Fields.{fields_joined, AreRowsOf};
@@ -17,8 +17,8 @@ use acpi_base::row::{Record, Row, Value, Word, record_of};
 use acpi_base::sink::AmlSink;
 use std::marker::Model;
 
-/// Fixed feature flags (ACPI 6.5, 5.2.9, table 5.10). Bits 1 to 3, 7, 8, 13, 14, 16 and 17 are ignored where the
-/// hardware is reduced. The last three are the values of one field of two bits, at bit 22.
+/// Fixed feature flags (ACPI 6.5, 5.2.9, table 5.10). Bits 1 to 3, 7, 8, 13, 14, 16 and 17 are ignored on hardware-reduced
+/// machines. The last three are the values of one field of two bits, at bit 22.
 #[derive(Clone, Copy, Debug, PartialEq)]
 pub enum Flags {
     Wbinvd = 0x0000_0001,
@@ -62,8 +62,8 @@ pub enum PmProfile {
     Tablet = 8,
 }
 
-/// The fields of the Fixed ACPI Description Table (ACPI 6.5, 5.2.9), from which `finalize` makes it. What is reserved is
-/// zero. In `default` everything is, the length too, and `finalize` keeps it so.
+/// The fields of the Fixed ACPI Description Table (ACPI 6.5, 5.2.9), from which `finalize` makes the table. Reserved fields are
+/// zero. In `default` every field is zero, even the length, and `finalize` doesn't change that.
 #[derive(Clone, Copy, Default)]
 pub struct FADTBuilder {
     /// `FACP`.
@@ -71,7 +71,7 @@ pub struct FADTBuilder {
     /// The size in bytes.
     pub length: u32,
     pub major_version: u8,
-    /// Made anew by `finalize`.
+    /// The checksum. `finalize` sets it.
     pub checksum: u8,
     pub oem_id: [u8; 6],
     pub oem_table_id: [u8; 8],
@@ -82,9 +82,9 @@ pub struct FADTBuilder {
     pub firmware_ctrl: u32,
     /// The physical address of the DSDT, of 32 bits.
     pub dsdt: u32,
-    /// As `PmProfile` numbers them.
+    /// The number of a `PmProfile`.
     pub preferred_pm_profile: u8,
-    /// Ignored, as all fields to `century`, where the hardware is reduced (`HwReducedAcpi`).
+    /// On a hardware-reduced machine (`HwReducedAcpi`) this and all fields up to `century` are ignored.
     pub sci_int: u16,
     pub smi_cmd: u32,
     pub acpi_enable: u8,
@@ -117,7 +117,7 @@ pub struct FADTBuilder {
     pub mon_alrm: u8,
     pub century: u8,
     pub iapc_boot_arch: u16,
-    /// As `Flags` has them, joined.
+    /// The numbers of `Flags`, joined by or.
     pub flags: u32,
     pub reset_reg: GAS,
     pub reset_value: u8,
@@ -127,7 +127,7 @@ pub struct FADTBuilder {
     pub x_firmware_ctrl: u64,
     /// The physical address of the DSDT, of 64 bits.
     pub x_dsdt: u64,
-    /// Ignored, as all fields to `x_gpe1_blk`, where the hardware is reduced.
+    /// On a hardware-reduced machine this and all fields up to `x_gpe1_blk` are ignored.
     pub x_pm1a_evt_blk: GAS,
     pub x_pm1b_evt_blk: GAS,
     pub x_pm1a_cnt_blk: GAS,
@@ -177,7 +177,7 @@ impl Aml for FADT {
 }
 
 impl FADTBuilder {
-    /// A table of revision 6.5 and 276 bytes. Everything after the header is zero but the minor version, 5 (offset 131).
+    /// A table of revision 6.5 and 276 bytes. All bytes after the header are zero except the minor version, 5 (offset 131).
     pub fn new(oem_id: [u8; 6], oem_table_id: [u8; 8], oem_revision: u32) -> FADTBuilder
         ensures { result ≡ fadt_at_first oem_id oem_table_id oem_revision }
     {
@@ -195,14 +195,14 @@ impl FADTBuilder {
         }
     }
 
-    /// The table of these fields, with its checksum made anew. The length stays as it stands.
+    /// The table of these fields, with a new checksum. The length field keeps its value.
     pub fn finalize(self) -> FADT
         ensures { result ≡ self }
     {
         FADT { table: self }
     }
 
-    /// The DSDT's physical address of 32 bits (offset 40). The one of 64 bits becomes zero.
+    /// Sets the DSDT's 32-bit physical address (offset 40). The 64-bit address becomes zero.
     pub fn dsdt_32(mut self, dsdt_physical_addr: u32) -> FADTBuilder
         ensures { result ≡ with_dsdt dsdt_physical_addr 0 self }
     {
@@ -211,7 +211,7 @@ impl FADTBuilder {
         self
     }
 
-    /// The DSDT's physical address of 64 bits (offset 140). The one of 32 bits becomes zero.
+    /// Sets the DSDT's 64-bit physical address (offset 140). The 32-bit address becomes zero.
     pub fn dsdt_64(mut self, dsdt_physical_addr: u64) -> FADTBuilder
         ensures { result ≡ with_dsdt 0 dsdt_physical_addr self }
     {
@@ -220,7 +220,7 @@ impl FADTBuilder {
         self
     }
 
-    /// The FACS's physical address of 32 bits (offset 36). The one of 64 bits becomes zero.
+    /// Sets the FACS's 32-bit physical address (offset 36). The 64-bit address becomes zero.
     pub fn firmware_ctrl_32(mut self, facs_physical_addr: u32) -> FADTBuilder
         ensures { result ≡ with_facs facs_physical_addr 0 self }
     {
@@ -229,7 +229,7 @@ impl FADTBuilder {
         self
     }
 
-    /// The FACS's physical address of 64 bits (offset 132). The one of 32 bits becomes zero.
+    /// Sets the FACS's 64-bit physical address (offset 132). The 32-bit address becomes zero.
     pub fn firmware_ctrl_64(mut self, facs_physical_addr: u64) -> FADTBuilder
         ensures { result ≡ with_facs 0 facs_physical_addr self }
     {
@@ -238,7 +238,7 @@ impl FADTBuilder {
         self
     }
 
-    /// The values that the command port takes to turn ACPI on and off (offsets 52 and 53): 1 and 0.
+    /// Sets the values that are written to the command port to turn ACPI on and off (offsets 52 and 53) to 1 and 0.
     pub fn acpi_enable(mut self) -> FADTBuilder
         ensures { result ≡ with_commands 1 0 self }
     {
@@ -247,7 +247,7 @@ impl FADTBuilder {
         self
     }
 
-    /// The values that the command port takes to turn ACPI on and off (offsets 52 and 53): 0 and 1.
+    /// Sets the values that are written to the command port to turn ACPI on and off (offsets 52 and 53) to 0 and 1.
     pub fn acpi_disable(mut self) -> FADTBuilder
         ensures { result ≡ with_commands 0 1 self }
     {
@@ -256,7 +256,7 @@ impl FADTBuilder {
         self
     }
 
-    /// One more fixed feature flag (offset 112). Flags that are set stay set.
+    /// Sets a fixed feature flag (offset 112). Flags that are set already stay set.
     pub fn flag(mut self, flags: Flags) -> FADTBuilder
         ensures { result ≡ with_flag flags self }
     {
@@ -264,8 +264,8 @@ impl FADTBuilder {
         self
     }
 
-    /// The blocks of general purpose events: their system I/O addresses (offsets 80 and 84), their lengths in bytes
-    /// (offsets 92 and 93), and the number of the second block's first event (offset 94).
+    /// Sets the blocks of general purpose events: their system I/O addresses (offsets 80 and 84), their lengths in bytes (offsets
+    /// 92 and 93), and the number of the second block's first event (offset 94).
     pub fn gpe_info(
         mut self,
         gpe0_blk: u32,
@@ -284,7 +284,7 @@ impl FADTBuilder {
         self
     }
 
-    /// The preferred power management profile (offset 45).
+    /// Sets the preferred power management profile (offset 45).
     pub fn preferred_pm_profile(mut self, profile: PmProfile) -> FADTBuilder
         ensures { result ≡ with_profile profile self }
     {
@@ -292,14 +292,14 @@ impl FADTBuilder {
         self
     }
 
-    // The table's bytes.
+    // The bytes of the table.
     fn sealed(&self) -> [u8; 276]
         ensures { result ≡ fadt_bytes self.now }
     {
         sealed_table(self.header(), &self.bytes())
     }
 
-    // The header's bytes.
+    // The bytes of the header.
     fn header(&self) -> [u8; 36]
         ensures { result ≡ fields_joined (header_fields self.now) }
     {

@@ -1,4 +1,4 @@
-//! Laws over the definitions that the contracts cite. Each function is a law: it does nothing, and ensures it.
+//! Laws about the definitions that the contracts use. Each function is a law: it does nothing, and its `ensures` states the law.
 
 ghost use Rattle.std.specs.Prelude.{◌≡◌, ◌%◌, [], codes, length, sum};
 ghost use Rattle.acpi_base.specs.Table.{IsTrueTable};
@@ -10,13 +10,13 @@ ghost use Rattle.acpi_fixed.specs.Laws.{BertsAreTrue, SpcrsAreTrue, ClientsAreTr
 use crate::fadt::FADTBuilder;
 use acpi_base::oem::Oem;
 
-/// The first 20 bytes of what `Rsdp::new` makes sum to zero, and all 36.
+/// The first 20 bytes of an RSDP that `Rsdp::new` made sum to zero, and so do all 36.
 pub fn pointers_sum_to_zero()
     ensures { PointersSumToZero }
 {}
 
-/// Every BERT, SPCR, TCPA and TPM2 of a maker tells its size and sums to zero, and has no structures, after
-/// any setters.
+/// Every BERT, SPCR, TCPA and TPM2 of a maker contains its length and sums to zero, after any setters. These tables have no
+/// structures.
 pub fn tables_are_true(oem: Oem)
     ensures bert { BertsAreTrue oem }
     ensures spcr { SpcrsAreTrue oem }
@@ -25,8 +25,8 @@ pub fn tables_are_true(oem: Oem)
     ensures tpm2 { Tpm2sAreTrue oem }
 {}
 
-/// Every FADT has 276 bytes and sums to zero. It tells its size if nobody changed the length that `FADTBuilder::new`
-/// gave it, and has no structures if nobody changed the signature.
+/// Every FADT has 276 bytes and sums to zero. It contains its length, unless the caller changed the length that
+/// `FADTBuilder::new` set. It has no structures, unless the caller changed the signature.
 pub fn fadt_is_true(fields: FADTBuilder)
     ensures size { length (fadt_bytes fields) ≡ 276 }
     ensures zero { sum (fadt_bytes fields) % 256 ≡ 0 }

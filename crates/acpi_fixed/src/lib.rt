@@ -1,4 +1,4 @@
-//! Records and tables of a fixed layout. No call here takes memory.
+//! Records and tables with a fixed layout. No call of this crate takes memory.
 #![tactic(auto)]
 
 pub mod bert;

@@ -1,4 +1,4 @@
-//! RSDP: where the search for the tables begins.
+//! RSDP: the pointer to the tables.
 
 ghost use Rattle.std.specs.Prelude.{◌≡◌, sum};
 ghost use Rattle.acpi_base.specs.Bytes.{complement};
@@ -11,13 +11,13 @@ use acpi_base::row::{Record, Row, Value, record_of, write_record};
 use acpi_base::sink::AmlSink;
 use acpi_base::sum::Sum;
 
-/// The Root System Description Pointer (ACPI 6.5, 5.2.5.3): 36 bytes. Its address of an RSDT and its last three bytes
-/// are zero. It is written as its fields stand.
+/// The Root System Description Pointer (ACPI 6.5, 5.2.5.3): 36 bytes. Its address of an RSDT and its last three bytes are zero.
+/// Its fields are public, and are written with the values that they have.
 #[derive(Clone, Copy)]
 pub struct Rsdp {
-    /// `RSD PTR `, with a blank at its end.
+    /// `RSD PTR `, with a space at its end.
     pub signature: [u8; 8],
-    /// Makes the sum of the first 20 bytes zero.
+    /// The byte that makes the sum of the first 20 bytes zero.
     pub checksum: u8,
     pub oem_id: [u8; 6],
     pub revision: u8,
@@ -25,11 +25,11 @@ pub struct Rsdp {
     pub length: u32,
     /// The physical address of the XSDT.
     pub xsdt_addr: u64,
-    /// Makes the sum of all bytes zero.
+    /// The byte that makes the sum of all bytes zero.
     pub extended_checksum: u8,
 }
 
-// What makes the sum of bytes zero.
+// The byte that makes the sum of bytes zero.
 fn complement_of(bytes: &[u8]) -> u8
     ensures { result ≡ complement (sum bytes.now) }
 {
@@ -39,7 +39,7 @@ fn complement_of(bytes: &[u8]) -> u8
 }
 
 impl Rsdp {
-    /// The pointer to the XSDT at a physical address, of revision 2, with both checksums made.
+    /// The pointer to an XSDT at a physical address. It has revision 2 and both checksums.
     pub fn new(oem_id: [u8; 6], xsdt_addr: u64) -> Rsdp
         ensures { result ≡ rsdp_for oem_id xsdt_addr }
     {

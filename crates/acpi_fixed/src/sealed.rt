@@ -1,4 +1,4 @@
-//! Tables as records after a header.
+//! Tables made of a header and a record.
 
 ghost use Rattle.std.specs.Prelude.{◌≡◌, ◌+◌, ◌<◌, ◌^◌, ◌++◌, length, OnOk, IfErr};
 ghost use Rattle.acpi_base.specs.Fields.{fields_joined};
@@ -12,7 +12,7 @@ use acpi_base::patch::write_at;
 use acpi_base::row::Record;
 use acpi_base::sink::AmlSink;
 
-/// Gives a sink a table of `N` bytes: the standard header, the fields of a record, and a true checksum.
+/// Writes a table of `N` bytes to a sink: the standard header with its checksum, and the fields of a record.
 pub fn write_table<const BODY: usize, const N: usize, T: Record<BODY>>(
     signature: [u8; 4],
     revision: u8,
@@ -31,7 +31,7 @@ pub fn write_table<const BODY: usize, const N: usize, T: Record<BODY>>(
     sink.vec(&table)
 }
 
-/// The bytes of a table: its header, what follows it, and a true checksum.
+/// The bytes of a table: its header with its checksum, and the bytes after it.
 pub fn sealed_table<const N: usize>(header: [u8; 36], body: &[u8]) -> [u8; N]
     requires { N ≡ 36 + length body.now }
     ensures { result ≡ with_checksum (header ++ body.now) }

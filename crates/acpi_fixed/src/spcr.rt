@@ -1,4 +1,4 @@
-//! SPCR: where the console is.
+//! SPCR: the serial console.
 
 ghost use Rattle.std.specs.Prelude.{◌≡◌};
 ghost use Rattle.acpi_base.specs.Fields.{AreRowsOf};
@@ -15,8 +15,8 @@ use acpi_base::row::{Record, Row, Value, record_of};
 use acpi_base::sink::AmlSink;
 use std::marker::PhantomData;
 
-/// The Serial Port Console Redirection table (Microsoft, SPCR revision 4): 90 bytes, with the namespace string at 88.
-/// Nothing is borrowed under the lifetime.
+/// The Serial Port Console Redirection table (Microsoft, SPCR revision 4): 90 bytes, with the namespace string at offset 88. The
+/// value borrows nothing; the lifetime is that of the Rust crate's type.
 #[derive(Drop)]
 pub struct SPCR<'a> {
     oem: Oem,
@@ -24,8 +24,8 @@ pub struct SPCR<'a> {
 }
 
 impl SPCR<'_> {
-    /// A console through calls of the RISC-V supervisor binary interface: interface type 21, no registers, no interrupt,
-    /// no PCI device and no device of the namespace.
+    /// A console that the RISC-V supervisor binary interface provides: interface type 21, without registers, interrupt, PCI
+    /// device and device of the namespace.
     pub fn sbi(oem_id: [u8; 6], oem_table_id: [u8; 8], oem_revision: u32) -> Self
         ensures { result ≡ spcr_for (oem_of oem_id oem_table_id oem_revision) }
     {

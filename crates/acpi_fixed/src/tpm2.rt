@@ -1,4 +1,4 @@
-//! TCPA and TPM2: where a trusted platform module is, and its log.
+//! TCPA and TPM2: the trusted platform module, and its log.
 
 ghost use Rattle.std.specs.Prelude.{◌≡◌, ◌<◌, Some, None};
 ghost use Rattle.acpi_base.specs.Fields.{AreRowsOf};
@@ -21,7 +21,7 @@ use acpi_base::oem::Oem;
 use acpi_base::row::{Record, Row, Value, Word, record_of, record_of_numbers};
 use acpi_base::sink::AmlSink;
 
-/// What kind of machine a module is in (TCG ACPI Specification, offset 36 of TCPA and TPM2).
+/// The kind of platform of a module (TCG ACPI Specification, offset 36 of TCPA and TPM2).
 #[derive(Clone, Copy, Debug, Default, PartialEq)]
 pub enum PlatformClass {
     #[default]
@@ -38,7 +38,7 @@ pub struct TpmClient1_2 {
 }
 
 impl TpmClient1_2 {
-    /// A log area of at least this many bytes at a physical address.
+    /// A table for a log area of at least `log_area_min_len` bytes at a physical address.
     pub fn new(
         oem_id: [u8; 6],
         oem_table_id: [u8; 8],
@@ -109,8 +109,8 @@ const SCI_BY_GPE: u8 = 4;
 
 const GLOBAL_INTERRUPT: u8 = 8;
 
-/// TCPA of a server (TCG ACPI Specification, TPM 1.2, server platform): 100 bytes, for revision 1.2 of the TCG
-/// specification. Its checksum is that of the fields as they stand when it is written.
+/// TCPA of a server (TCG ACPI Specification, TPM 1.2, server platform): 100 bytes, for revision 1.2 of the TCG specification. Its
+/// checksum is computed when the table is written.
 #[derive(Clone, Copy)]
 pub struct TpmServer1_2 {
     oem: Oem,
@@ -129,7 +129,7 @@ pub struct TpmServer1_2 {
 }
 
 impl TpmServer1_2 {
-    /// A table in which everything after the TCG revision is zero.
+    /// A table in which every field after the TCG revision is zero.
     pub fn new(oem_id: [u8; 6], oem_table_id: [u8; 8], oem_revision: u32) -> TpmServer1_2
         ensures { result ≡ server_at_first (oem_of oem_id oem_table_id oem_revision) }
     {
@@ -150,7 +150,7 @@ impl TpmServer1_2 {
         }
     }
 
-    /// A log area of at least this many bytes (offset 40) at a physical address (offset 48).
+    /// Sets a log area of at least this many bytes (offset 40) at a physical address (offset 48).
     pub fn log_area(mut self, log_area_min_len: u64, log_area_start_addr: u64) -> TpmServer1_2
         ensures { result ≡ with_log_area log_area_min_len log_area_start_addr self }
     {
@@ -159,7 +159,7 @@ impl TpmServer1_2 {
         self
     }
 
-    /// The interrupt is active low (interrupt flag 2).
+    /// Sets interrupt flag 2: the interrupt is active low.
     pub fn active_low(mut self) -> TpmServer1_2
         ensures { result ≡ with_interrupt_flag 2 self }
     {
@@ -167,7 +167,7 @@ impl TpmServer1_2 {
         self
     }
 
-    /// The interrupt is edge triggered (interrupt flag 1).
+    /// Sets interrupt flag 1: the interrupt is edge triggered.
     pub fn edge_triggered(mut self) -> TpmServer1_2
         ensures { result ≡ with_interrupt_flag 1 self }
     {
@@ -175,7 +175,7 @@ impl TpmServer1_2 {
         self
     }
 
-    /// The bit of the general purpose event that the module raises (offset 60), with interrupt flag 4.
+    /// Sets the bit of the general purpose event that the module raises (offset 60), and interrupt flag 4.
     pub fn sci_gpe(mut self, sci_gpe_bit: u8) -> TpmServer1_2
         ensures { result ≡ with_interrupt_flag 4 (with_gpe sci_gpe_bit self) }
     {
@@ -184,7 +184,7 @@ impl TpmServer1_2 {
         self
     }
 
-    /// The global system interrupt (offset 64), with interrupt flag 8.
+    /// Sets the global system interrupt (offset 64), and interrupt flag 8.
     pub fn gsi(mut self, gsi: u32) -> TpmServer1_2
         ensures { result ≡ with_interrupt_flag 8 (with_gsi gsi self) }
     {
@@ -193,7 +193,7 @@ impl TpmServer1_2 {
         self
     }
 
-    /// The module is on a plug and play bus (device flag 2).
+    /// Sets device flag 2: the module is on a Plug and Play bus.
     pub fn bus_is_pnp(mut self) -> TpmServer1_2
         ensures { result ≡ with_device_flag 2 self }
     {
@@ -201,7 +201,7 @@ impl TpmServer1_2 {
         self
     }
 
-    /// The module's PCI function: segment, bus, device and function (offsets 96 to 99), with device flag 1.
+    /// Sets the module's PCI function, by segment, bus, device and function (offsets 96 to 99), and device flag 1.
     pub fn pci_sbdf(mut self, segment: u8, bus: u8, device: u8, function: u8) -> TpmServer1_2
         requires device { device < 32 }
         requires function { function < 8 }
@@ -215,7 +215,7 @@ impl TpmServer1_2 {
         self
     }
 
-    /// Where the module's registers are (offset 68).
+    /// Sets the address of the module's registers (offset 68).
     pub fn base_addr(mut self, addr: GAS) -> TpmServer1_2
         ensures { result ≡ with_base addr self }
     {
@@ -223,7 +223,7 @@ impl TpmServer1_2 {
         self
     }
 
-    /// Where the module's configuration is (offset 84), with device flag 4.
+    /// Sets the address of the module's configuration (offset 84), and device flag 4.
     pub fn config_addr(mut self, addr: GAS) -> TpmServer1_2
         ensures { result ≡ with_device_flag 4 (with_config addr self) }
     {
@@ -322,7 +322,7 @@ impl Aml for TpmServer1_2 {
     }
 }
 
-/// How a module is started (TCG ACPI Specification, TPM2, offset 48).
+/// The start method of a module (TCG ACPI Specification, TPM2, offset 48).
 #[derive(Clone, Copy, Debug, Default, PartialEq)]
 pub enum StartMethod {
     #[default]
@@ -342,7 +342,7 @@ struct LogArea {
     base_addr: u64,
 }
 
-/// TPM2 (TCG ACPI Specification, TPM 2.0): 52 bytes, and 76 with a log area.
+/// TPM2 (TCG ACPI Specification, TPM 2.0): 52 bytes, or 76 with a log area.
 #[derive(Drop)]
 pub struct Tpm2 {
     oem: Oem,
@@ -353,7 +353,7 @@ pub struct Tpm2 {
 }
 
 impl Tpm2 {
-    /// A module whose control area or FIFO is at a physical address, without a log area.
+    /// A table without a log area, for a module whose control area or FIFO is at a physical address.
     pub fn new(
         oem_id: [u8; 6],
         oem_table_id: [u8; 8],
@@ -373,8 +373,8 @@ impl Tpm2 {
         }
     }
 
-    /// Adds a log area of at least this many bytes at a physical address. LogAreaSet where the table has one; it then
-    /// stays as it is.
+    /// Adds a log area of at least this many bytes at a physical address. The error is `LogAreaSet` if the table has a log area
+    /// already; the table is unchanged then.
     pub fn set_log_area(&mut self, min_len: u32, base_addr: u64) -> R<()>
         ensures { LogAreaOnce self.old min_len base_addr self.new result }
     {
@@ -397,14 +397,14 @@ pub const TPM2_FIXED: [Row; 7] = [
     Row::Number("Log Area Start Address", 8),
 ];
 
-/// The names and widths of the fields after the header, in order, where there is a log area.
+/// The names and widths of the fields after the header, in order, of a table with a log area.
 pub fn tpm2_rows() -> &'static [Row]
     ensures { (table : Tpm2) (area : LogArea) → AreRowsOf result.now (tpm2_fields table (Some area)) }
 {
     &TPM2_FIXED
 }
 
-/// The fields after the header where there is no log area.
+/// The fields after the header, without a log area.
 impl Record<16> for Tpm2 {
     ghost fields = { λ t. tpm2_fields t None };
 

@@ -87,7 +87,7 @@ rhct_kinds =
     ∷ (65535, codes "Hart Info Node")
     ∷ []
 
--- the nodes of VIOT (ACPI 6.5, 5.2.33)
+-- the nodes of VIOT (ACPI 6.5, 5.2.32)
 abbrev pub viot_kinds : List (ℕ × List ℕ)
 viot_kinds =
     (1, codes "PCI Range Node")

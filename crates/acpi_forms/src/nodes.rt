@@ -108,7 +108,7 @@ const VIOT_NODES: [StructureForm; 4] = [
     },
 ];
 
-/// The Virtual I/O Translation Table (ACPI 6.5, 5.2.33).
+/// The Virtual I/O Translation Table (ACPI 6.5, 5.2.32).
 pub const VIOT: TableForm = TableForm {
     name: "Virtual I/O Translation Table (VIOT)",
     parts: &[

@@ -17,7 +17,7 @@ firmware_first_number Disabled = 0
 firmware_first_number Enabled = 1
 
 module _ {T : Type 0} {N : ℕ} where
-  -- a source of these flags and this place, with zero in every field but the tail's
+  -- a source with these flags and this address, in which all fields except those of its kind are zero
   abbrev pub aer : T → ℕ → ℕ → ℕ → ℕ → Aer T N
   aer tail flags bus device function = record {
     flags = flags;
@@ -34,11 +34,11 @@ module _ {T : Type 0} {N : ℕ} where
     tail = tail;
   }
 
-  -- that of all devices of a kind
+  -- the source of all devices of a kind
   abbrev pub aer_global : T → Aer T N
   aer_global tail = aer tail 2 0 0 0
 
-  -- that of one device
+  -- the source of one device
   abbrev pub aer_of : T → FirmwareFirst → PciDevice → Aer T N
   aer_of tail ff d = aer tail (firmware_first_number ff) d.bus d.device d.function
 
@@ -69,7 +69,7 @@ module _ {T : Type 0} {N : ℕ} where
   abbrev pub aer_bytes : ℕ → (T → List NamedField) → Aer T N → List ℕ
   aer_bytes kind tail_fields s = aer_head kind s ++ fields_joined (tail_fields s.tail)
 
--- ---- tails
+-- ---- the fields of each kind
 
 abbrev pub zero_root_port : AerRootPort
 zero_root_port = record { root_error_command = 0 }

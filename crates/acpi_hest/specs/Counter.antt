@@ -2,11 +2,11 @@
 use Rattle.std.specs.Prelude.{◌≡◌, ℕ, ◌+◌, List, [], ◌∷◌, length, min, true, false, IsTrue, refl}
 use Rattle.acpi_base.specs.Sink.{Meaning}
 
--- what 64 bits have of a number
+-- the greatest number of 64 bits
 abbrev pub most_of_64_bits : ℕ
 most_of_64_bits = 18446744073709551615
 
--- it shows the number of bytes that it was given
+-- a counter as a sink: it shows the number of bytes that it took
 unfoldable pub counter_of : ℕ → Meaning
 counter_of count = record {
   shows = λ more. min (count + length more) most_of_64_bits ∷ [];

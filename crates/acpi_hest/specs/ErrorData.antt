@@ -6,7 +6,7 @@ use Rattle.acpi_hest.specs.declared.hest.error_data.GenericErrorData.{GenericErr
 use Rattle.acpi_hest.specs.declared.hest.status.ErrorSeverity.{ErrorSeverity}
 use Rattle.acpi_hest.specs.Status.{severity_number}
 
--- An entry of a severity, with zero in every other field and without data.
+-- An entry of a severity. It has no data, and every other field is zero.
 pub record IsNewErrorData {X : Type 0} {P : X → Type 0} (severity : ErrorSeverity) (d : GenericErrorData X P) : Type 0 where
   pub section_type : d.section_type ≡ 0
   pub severity_is : d.severity ≡ severity
@@ -19,7 +19,7 @@ pub record IsNewErrorData {X : Type 0} {P : X → Type 0} (severity : ErrorSever
   pub timestamp : d.timestamp ≡ replicate 8 0
   pub objects : d.objects.items ≡ []
 
--- what stands in an entry before its data
+-- the fields of an entry before its data
 pub record ErrorHead : Type 0 where
   pub section_type : ℕ
   pub severity : ErrorSeverity
@@ -60,6 +60,6 @@ error_head_fields h =
 abbrev pub error_data_head : {X : Type 0} {P : X → Type 0} → GenericErrorData X P → List ℕ
 error_data_head d = fields_joined (error_head_fields (head_of d))
 
--- the entry and then its objects, up to the first that is refused
+-- the entry and then its objects, up to the first error
 abbrev pub error_data_object : {X : Type 0} {P : X → Type 0} → GenericErrorData X P → List Object → Object
 error_data_object d objects = chain (whole (error_data_head d)) (all_of objects)

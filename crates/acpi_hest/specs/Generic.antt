@@ -14,7 +14,7 @@ enabled_number Disabled = 0
 enabled_number Enabled = 1
 
 module _ {T : Type 0} {N : ℕ} where
-  -- a source of this id, with zero in every field but the tail's
+  -- a source with this id, in which all fields except those of its version are zero
   abbrev pub generic : T → ℕ → EnabledStatus → Generic T N
   generic tail source_id enabled = record {
     source_id = source_id;
@@ -50,7 +50,7 @@ module _ {T : Type 0} {N : ℕ} where
   abbrev pub generic_bytes : ℕ → (T → List NamedField) → Generic T N → List ℕ
   generic_bytes kind tail_fields s = generic_head kind s ++ fields_joined (tail_fields s.tail)
 
--- ---- tails
+-- ---- the fields of each version
 
 abbrev pub zero_unacknowledged : Unacknowledged
 zero_unacknowledged = record {}

@@ -3,7 +3,7 @@ use Rattle.std.specs.Prelude.{[], codes}
 use Rattle.acpi_base.specs.declared.oem.Oem.{Oem}
 use Rattle.acpi_core.specs.Listing.{Listing, length_limit}
 
--- a table without sources: 36: Error Source Count, of four bytes
+-- A table without sources. At offset 36: Error Source Count, of four bytes.
 abbrev pub hest : Oem → Listing
 hest oem = record {
   signature = codes "HEST";

@@ -23,7 +23,7 @@ type_number types.RiscvLowPriorityRasInterrupt = 13
 type_number types.RiscvHighPriorityRasInterrupt = 14
 type_number types.RiscvHardwareErrorException = 15
 
--- a notification of a type that tells a length, with zero in every other field
+-- a notification of this type and this length, in which every other field is zero
 abbrev pub notification : ℕ → ℕ → NotificationStructure
 notification kind length = record {
   kind = kind;
@@ -37,7 +37,7 @@ notification kind length = record {
   error_threshold_window_ms = 0;
 }
 
--- zeros in the place of a notification
+-- the zeros of a source without a notification
 abbrev pub no_notification : NotificationStructure
 no_notification = notification 0 0
 

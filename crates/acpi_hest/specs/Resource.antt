@@ -79,11 +79,11 @@ payload (ids.ACPIDevice r) = acpi_bytes r
 payload (ids.PCIDevice r) = pci_bytes r
 payload (ids.VendorSpecific kind bytes) = bytes.items
 
--- an id by itself
+-- the bytes of an id
 abbrev pub id_bytes : ResourceID → List ℕ
 id_bytes id = id_number id ∷ payload id
 
--- the same id; of a vendor's the bytes are the same, wherever they lie
+-- the same id; of a vendor's id the bytes are the same, in any memory
 abbrev pub same_id : ResourceID → ResourceID → Type 0
 same_id (ids.VendorSpecific kind bytes) (ids.VendorSpecific other others) = (kind ≡ other) × (bytes.items ≡ others.items)
 same_id a b = a ≡ b

@@ -10,7 +10,7 @@ use Rattle.acpi_hest.specs.declared.rqsc.ControllerType.TheVariants.{Capacity, B
 use Rattle.acpi_hest.specs.declared.rqsc.resource.ResourceStructure.{ResourceStructure}
 use Rattle.acpi_hest.specs.Resource.{resource_bytes}
 
--- a table without controllers: 36: the number of controllers, of four bytes
+-- A table without controllers. At offset 36: the number of controllers, of four bytes.
 abbrev pub rqsc : Oem → Listing
 rqsc oem = record {
   signature = codes "RQSC";
@@ -27,7 +27,7 @@ abbrev pub controller_number : ControllerType → ℕ
 controller_number Capacity = 0
 controller_number Bandwidth = 1
 
--- a controller, how many resources it has, and their bytes
+-- a controller, its number of resources, and their bytes
 pub record Controller : Type 0 where
   pub kind : ℕ
   pub register : GAS
@@ -37,7 +37,7 @@ pub record Controller : Type 0 where
   pub count : ℕ
   pub resources : List ℕ
 
--- the length fits its field, and each resource has eight bytes at least
+-- the length fits its field, and each resource has at least eight bytes
 pub record IsController (count : ℕ) (resources : List ℕ) : Type 0 where
   pub fits : 28 + length resources ≤ 0xffff
   pub counted : 8 * count ≤ length resources
@@ -71,10 +71,10 @@ controller_head q = fields_joined (controller_head_fields q)
 abbrev pub controller_bytes : Controller → List ℕ
 controller_bytes q = controller_head q ++ q.resources  -- 28: Resource Structures
 
--- the controller with one resource more, at its end
+-- the controller with one more resource at its end
 abbrev pub with_resource : Controller → ResourceStructure → Controller
 with_resource q r = record q { count = q.count + 1; resources = q.resources ++ resource_bytes r }
 
--- the length still fits its field then
+-- the length then still fits its field
 abbrev pub has_room_for : Controller → ResourceStructure → Bool
 has_room_for q r = nat_lt (28 + length q.resources + length (resource_bytes r)) (2 ^ 16)

@@ -11,11 +11,11 @@ severity_number Fatal = 1
 severity_number Correctable = 2
 severity_number None = 3
 
--- none, one or several
+-- nothing for 0, or the value for one error, or the value for several
 abbrev pub status_of : ℕ → ℕ → ℕ → ℕ
 status_of count one several = if count == 0 then 0 else (if count == 1 then one else several)
 
--- one uncorrectable error is told by 1, one correctable by 2, several uncorrectable by 4 and several correctable by 8
+-- 1 for one uncorrectable error, 2 for one correctable error, 4 for several uncorrectable and 8 for several correctable ones
 abbrev pub error_status : ℕ → ℕ → ErrorSeverity → GenericErrorStatus
 error_status correctable uncorrectable severity = record {
   status = status_of correctable 2 8 + status_of uncorrectable 1 4;

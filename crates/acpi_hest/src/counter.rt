@@ -1,4 +1,4 @@
-//! The number of bytes of what is written.
+//! Counting the bytes of an object.
 
 ghost use Rattle.std.specs.Prelude.{◌≡◌, ◌+◌, ◌∷◌, [], length, min};
 ghost use Rattle.acpi_hest.specs.Counter.{counter_of, counter_takes, most_of_64_bits};
@@ -7,7 +7,7 @@ use acpi_base::error::R;
 use acpi_base::sink::AmlSink;
 use std::marker::Model;
 
-/// Counts the bytes that it is given, up to 2^64 - 1. It takes no memory and refuses nothing.
+/// A sink that counts bytes, up to 2^64 - 1. It takes no memory and returns no error.
 #[derive(Default, Drop)]
 pub(crate) struct Counter {
     count: u64,
@@ -44,7 +44,7 @@ impl AmlSink for Counter {
 }
 
 impl Counter {
-    // Counts this many bytes more.
+    // Adds a number of bytes to the count.
     fn add(&mut self, bytes: usize)
         ensures { self.new ≡ min (self.old + bytes) most_of_64_bits }
     {

@@ -1,4 +1,4 @@
-//! HEST: where a machine reports its hardware errors.
+//! HEST: the sources of hardware errors.
 
 ghost use Rattle.std.specs.Prelude.{◌≡◌, false, length};
 ghost use Rattle.acpi_base.specs.Object.{whole, whole_ends_well};
@@ -41,14 +41,14 @@ pub use status::{ERROR_STATUS, ErrorSeverity, GenericErrorStatus};
 use std::alloc::Global;
 pub use tail::Tail;
 
-/// The Hardware Error Source Table (ACPI 6.5, 18.3.2): error sources that contain their type at offset 0, from offset 40 on, and
-/// their number at offset 36.
+/// The Hardware Error Source Table (ACPI 6.5, 18.3.2). The number of error sources is at offset 36, and they begin at offset 40.
+/// Each contains its type at offset 0.
 #[derive(Drop)]
 pub struct HEST {
     table: Walked<HestKind, 40>,
 }
 
-/// The kind of HEST, to which a caller may add sources of other types.
+/// The kind of HEST. A caller may add sources of other types.
 pub struct HestKind;
 
 impl Kind for HestKind {
@@ -81,15 +81,15 @@ impl HEST {
         }
     }
 
-    /// Adds an error source, whose bytes are kept as it writes them. The source's own refusal, else FieldWidth where the
-    /// length would reach 2^32.
+    /// Adds an error source with the bytes that it writes. The error is the source's own, or `FieldWidth` if the length would
+    /// reach 2^32.
     pub fn add_structure<T: Aml + Drop>(&mut self, structure: T) -> R<()>
         ensures { Adds result self.old.table (T.object structure) self.new.table }
     {
         self.table.add_object(&structure)
     }
 
-    /// Adds a borrowed error source of any type, as `add_structure` does: for sources in a list of boxes.
+    /// Adds a borrowed error source as `add_structure` does. It is for sources in a list of boxes.
     pub fn add_borrowed_structure(&mut self, structure: &dyn Aml) -> R<()>
         ensures { Adds result self.old.table (object structure.now) self.new.table }
     {
@@ -111,8 +111,8 @@ impl HEST {
     }
 }
 
-/// A law: after any calls the table is a true one. Where each structure has the size of its type, they are, in order, the one
-/// list that walks it.
+/// A law: after any calls the table is correct. If each source has the size of its type, the sources, in order, are the one
+/// list that the walk finds.
 pub fn hest_is_walked(table: &HEST)
     ensures is_true { IsTrueTable (bytes_of table.now.table.table) }
     ensures keeps { Keeps hest_walk length_limit false table.now.table.table }
@@ -123,7 +123,7 @@ pub fn hest_is_walked(table: &HEST)
     is_walked(&table.table)
 }
 
-/// A law: each source of this module contains its type and has the size of that type, for all values of its fields.
+/// A law: each source of this module contains its type and has the size of this type, for all values of its fields.
 pub fn hest_sources_are_pieces()
     ensures root_port { AreSources 6 ⟦<PcieAerRootPort as Aml>⟧.object }
     ensures device { AreSources 7 ⟦<PcieAerDevice as Aml>⟧.object }

@@ -6,7 +6,7 @@ pub mod hest;
 mod parts;
 pub mod rqsc;
 
-/// Laws of the tables. Each function is a law: it does nothing, and ensures it.
+/// Laws about the tables. Each function is a law: it does nothing, and its `ensures` states the law.
 pub mod laws {
     pub use crate::hest::{hest_is_walked, hest_sources_are_pieces};
     pub use crate::rqsc::rqsc_is_walked;

@@ -1,4 +1,4 @@
-//! Bytes after others.
+//! Writing a fixed part and then the bytes after it.
 
 ghost use Rattle.std.specs.Prelude.{◌<◌, ◌^◌, ◌++◌, OnOk, IfErr};
 ghost use Rattle.acpi_base.specs.Fields.{fields_joined};
@@ -9,7 +9,7 @@ use acpi_base::parts::write_parts;
 use acpi_base::row::Record;
 use acpi_base::sink::AmlSink;
 
-/// Gives a sink some bytes and then others.
+/// Writes one list of bytes to a sink, and then another.
 pub fn write_behind(head: &[u8], rest: &[u8], sink: &mut dyn AmlSink) -> R<()>
     ensures ok { OnOk result (Took (meaning sink.old) (head.now ++ rest.now) (meaning sink.new)) }
     ensures err { IfErr result (λ e. Refused e (meaning sink.old) (head.now ++ rest.now) (meaning sink.new)) }
@@ -17,7 +17,7 @@ pub fn write_behind(head: &[u8], rest: &[u8], sink: &mut dyn AmlSink) -> R<()>
     write_parts(sink, &[head, rest])
 }
 
-/// Gives a sink some bytes and then a record's.
+/// Writes a list of bytes to a sink, and then a record.
 pub fn write_record_behind<const N: usize, T: Record<N>>(
     head: &[u8],
     value: &T,

@@ -1,4 +1,4 @@
-//! RQSC: controllers that share caches and memory bandwidth out.
+//! RQSC: controllers that allocate caches and memory bandwidth.
 
 ghost use Rattle.std.specs.Prelude.{◌≡◌, ◌≢◌, length, true, false, IfOk, OnOk, OnErr, IfErr};
 ghost use Rattle.acpi_base.specs.Fields.{AreRowsOf};
@@ -34,8 +34,8 @@ pub use resource::{
 use std::alloc::Global;
 use std::marker::Model;
 
-/// The RISC-V Quality of Service Controller table (this project's profile): controllers from offset 40 on, and their number
-/// at offset 36.
+/// The RISC-V Quality of Service Controller table (this project's profile). The number of controllers is at offset 36, and they
+/// begin at offset 40.
 #[derive(Drop)]
 pub struct RQSC {
     table: Walked<RqscKind, 40>,
@@ -74,7 +74,7 @@ impl RQSC {
         }
     }
 
-    /// Adds a controller. FieldWidth where the length would reach 2^32.
+    /// Adds a controller. The error is `FieldWidth` if the length would reach 2^32.
     pub fn add_controller(&mut self, controller: QoSController) -> R<()>
         ensures { Adds result self.old.table (whole (controller_bytes controller)) self.new.table }
     {
@@ -96,7 +96,7 @@ impl RQSC {
     }
 }
 
-/// A law: after any calls the table is a true one, and its controllers, in order, are the one list that walks it.
+/// A law: after any calls the table is correct. Its controllers, in order, are the one list that the walk finds.
 pub fn rqsc_is_walked(table: &RQSC)
     ensures keeps { Keeps rqsc_walk length_limit true table.now.table.table }
     ensures walked { IsWalked rqsc_walk table.now.table.table }
@@ -105,14 +105,14 @@ pub fn rqsc_is_walked(table: &RQSC)
     is_walked(&table.table)
 }
 
-/// What a controller shares out (offset 0).
+/// The type of a controller (offset 0).
 #[derive(Clone, Copy, Debug, PartialEq)]
 pub enum ControllerType {
     Capacity = 0,
     Bandwidth = 1,
 }
 
-/// A controller and its resources: 28 bytes, and those of the resources.
+/// A controller and its resources: 28 bytes, and the bytes of the resources.
 #[derive(Drop, Debug)]
 pub struct QoSController {
     kind: u8,
@@ -143,8 +143,8 @@ impl Model for QoSController {
 }
 
 impl QoSController {
-    /// A controller whose registers begin at an address, without resources. The counts are how many ids of each kind it has
-    /// (0: it has none): for shares, and for counters of use. Flag 1: a share of nothing may be given.
+    /// A controller without resources, whose registers begin at an address. The two counts are its numbers of resource control
+    /// ids and of monitoring counter ids; 0 means that it has none. Flag 1 allows a reservation of zero.
     pub fn new(
         alloc: Global,
         controller_type: ControllerType,
@@ -166,7 +166,7 @@ impl QoSController {
         }
     }
 
-    /// How many bytes the controller has, with its resources: at most 65,535.
+    /// The number of bytes of the controller with its resources: at most 65,535.
     pub fn len(&self) -> usize
         ensures { result ≡ length (controller_bytes self.now) }
     {
@@ -180,7 +180,7 @@ impl QoSController {
         self.count
     }
 
-    /// Adds a resource. FieldWidth where the length would pass 65,535, and unchanged where it is refused.
+    /// Adds a resource. The error is `FieldWidth` if the length would exceed 65,535. After an error the controller is unchanged.
     pub fn add_resource(&mut self, resource: ResourceStructure) -> R<()>
         ensures ok { OnOk result (self.new ≡ with_resource self.old resource) }
         ensures room { OnOk result (has_room_for self.old resource ≡ true) }
@@ -200,7 +200,7 @@ impl QoSController {
         Ok(())
     }
 
-    /// A controller of the same value, in memory from where this one has its own. Memory is the one error.
+    /// A controller with the same value. Its memory is from the same allocator. The only error is `Memory`.
     pub fn clone(&self) -> R<QoSController>
         ensures ok { IfOk result (λ q. q ≡ self.now) }
         ensures err { IfErr result (λ e. e ≡ Error.Memory) }
@@ -216,14 +216,14 @@ impl QoSController {
         })
     }
 
-    // The resources' bytes.
+    // The bytes of the resources.
     fn resources(&self) -> &[u8]
         ensures { result.now ≡ self.now.resources }
     {
         &self.resources
     }
 
-    // The controller's bytes before its resources.
+    // The bytes of the controller before its resources.
     fn head(&self) -> [u8; 28]
         ensures { result ≡ controller_head self.now }
     {

@@ -6,25 +6,25 @@ use std::alloc::AllocError;
 use std::io;
 use thiserror::Error;
 
-/// Why a run failed. What it displays is the line for standard error.
+/// Why a run failed. Its text is the line for standard error.
 #[derive(Debug, Drop, Error)]
 pub enum Fault {
-    /// A word of the command line names nothing that can be filled.
+    /// A word of the command line isn't the name of a table.
     #[error("unknown name {0:?}; usage: acpi_limits NAME ..")]
     Name(String),
     /// The arguments or the output.
     #[error("{0}")]
     System(#[from] io::Error),
-    /// A call was refused, and not for the size.
+    /// A call returned an error other than that of the size.
     #[error("{0}")]
     Built(#[from] TableError),
-    /// The bytes aren't a true table.
+    /// The bytes aren't a correct table.
     #[error("{0}")]
     Read(#[from] ReadError),
     /// The length field of a structure isn't its number of bytes.
     #[error("the length at offset 4 is wrong")]
     Length,
-    /// A call that passes the limit was accepted.
+    /// A call that passes the limit succeeded.
     #[error("no call was refused")]
     Unlimited,
 }
@@ -39,7 +39,7 @@ impl Fault {
     }
 }
 
-/// Memory for a name.
+/// An error of memory for a name.
 impl From<AllocError> for Fault {
     fn from(_error: AllocError) -> Fault {
         Fault::Built(TableError::Memory)

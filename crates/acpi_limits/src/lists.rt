@@ -1,4 +1,4 @@
-//! Tables of structures that don't name each other.
+//! Tables of structures that don't refer to each other.
 
 use crate::filling::Fills;
 use crate::sdt::{size_of, sized};

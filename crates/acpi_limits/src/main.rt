@@ -1,10 +1,11 @@
-//! Fills tables until one more structure is refused. `acpi_limits NAME ..` takes the names of tables, `Sdt` and `SystemLocality`,
-//! and prints a line for each: how many structures it took, and how many bytes it has. It reads the length and the sum of each
-//! table out of the table's bytes.
+//! Fills tables until they take no further structure. `acpi_limits NAME ..` takes the names of tables, `Sdt` and
+//! `SystemLocality`, and prints a line for each: how many structures it took, and how many bytes it has. The length and the sum
+//! are those in the table's bytes.
 //!
-//! All but VIOT end just below 2^32 bytes, and take up to 9 GiB of memory and minutes.
+//! All tables except VIOT end just below 2^32 bytes. A run takes up to 9 GiB of memory, and minutes.
 //!
-//! Status 1: a call was refused for another cause than the size, or the bytes aren't a true table. 2: a name is unknown.
+//! The exit status is 1 if a call returned an error other than that of the size, or the bytes aren't a correct table. It is 2 if
+//! a name is unknown.
 #![tactic(auto)]
 
 mod fault;
@@ -45,7 +46,7 @@ fn main(rt: HostRuntime) -> io::Result<ExitCode> {
     }
 }
 
-// Fills what each word names, and prints a line for it.
+// Fills the table of each word, and prints a line for it.
 fn run(rt: &(impl Env + Print + AllocGlobal)) -> Result<(), Fault> {
     for name in env::args(rt)?.skip(1) {
         let full = fill_named(rt.alloc(), name.as_str())?;
@@ -57,7 +58,7 @@ fn run(rt: &(impl Env + Print + AllocGlobal)) -> Result<(), Fault> {
     Ok(())
 }
 
-// Fills what a name names.
+// Fills the table of a name.
 fn fill_named(alloc: Global, name: &str) -> Result<Full, Fault> {
     match name {
         "XSDT" => fill::<XSDT>(alloc),

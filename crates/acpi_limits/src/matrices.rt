@@ -1,4 +1,4 @@
-//! HMAT, and the matrices of SLIT and SystemLocality, which have their size from the start.
+//! HMAT, and the matrices of SLIT and SystemLocality, whose size is given to `new`.
 
 use crate::fault::Fault;
 use crate::filling::{Fills, Full, GIB, written};
@@ -12,13 +12,13 @@ use acpi_tables::{Error, R};
 use acpi_vectors::{OEM, OEM_REVISION, OEM_TABLE};
 use std::alloc::Global;
 
-// The most localities of a SLIT, whose distances are one byte for each two of them.
+// The most localities of a SLIT. There is one byte for each pair of them.
 const LOCALITIES: u32 = 65_535;
 
-// The most targets of a structure of 32 bytes and four for each target, where there is no initiator.
+// The most targets of a structure without initiators, which has 32 bytes and four for each target.
 const TARGETS: u32 = 1_073_741_815;
 
-// A structure of no initiators and so many targets has 32 bytes and four for each target.
+// A structure without initiators and with this many targets. It has 32 bytes and four for each target.
 fn latencies(alloc: Global, targets: usize) -> R<SystemLocality> {
     let size = MinTransferSize::SizeByteAligned;
     let data = DataType::AccessLatency;
@@ -55,7 +55,7 @@ impl Fills for HMAT {
     }
 }
 
-// A matrix of one more row or column is refused as Matrix.
+// Fails unless a matrix with one more row or column returns `Matrix`.
 fn refused<T: Drop>(made: R<T>) -> Result<(), Fault> {
     match made {
         Err(Error::Matrix) => Ok(()),
@@ -68,7 +68,7 @@ fn distances(alloc: Global, localities: u32) -> R<SLIT> {
     SLIT::new(alloc, OEM, OEM_TABLE, OEM_REVISION, localities)
 }
 
-/// The SLIT of the most localities.
+/// The SLIT with the most localities.
 pub fn slit(alloc: Global) -> Result<Full, Fault> {
     refused(distances(alloc, LOCALITIES + 1))?;
     let mut table = distances(alloc, LOCALITIES)?;
@@ -82,7 +82,7 @@ pub fn slit(alloc: Global) -> Result<Full, Fault> {
     })
 }
 
-/// The SystemLocality of the most targets.
+/// The SystemLocality with the most targets.
 pub fn system_locality(alloc: Global) -> Result<Full, Fault> {
     refused(latencies(alloc, TARGETS as usize + 1))?;
     let structure = latencies(alloc, TARGETS as usize)?;

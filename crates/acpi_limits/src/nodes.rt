@@ -1,4 +1,4 @@
-//! Tables of nodes that name each other.
+//! Tables of nodes that refer to each other.
 
 use crate::filling::Fills;
 use acpi_tables::R;

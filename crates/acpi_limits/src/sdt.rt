@@ -6,13 +6,13 @@ use acpi_tables::sdt::Sdt;
 use acpi_vectors::{OEM, OEM_REVISION, OEM_TABLE};
 use std::alloc::Global;
 
-/// An object of this many bytes, 36 or more: a structure of the caller's own.
+/// An object of this many bytes, 36 or more, as a structure that the library doesn't define.
 pub fn sized(alloc: Global, size: u32) -> R<Sdt> {
     Sdt::new(alloc, *b"OEM1", size, 1, OEM, OEM_TABLE, OEM_REVISION)
 }
 
-/// The size of the object of a number. Behind a table of `head` bytes the first four end one byte below 2^32, and every later
-/// one is 36 bytes.
+/// The size of the object with this number. After a table of `head` bytes the first four objects end one byte below 2^32, and
+/// every later one has 36 bytes.
 pub fn size_of(number: u32, head: u32) -> u32 {
     match number {
         0..=2 => GIB as u32,

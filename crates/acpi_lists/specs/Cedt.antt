@@ -39,7 +39,7 @@ abbrev pub version_number : CxlVersion → ℕ
 version_number Cxl1_1 = 0
 version_number Cxl2 = 1
 
--- how many bytes of registers a bridge has: the RCRB of version 1.1, or the component registers
+-- the number of bytes of a bridge's registers: the RCRB of version 1.1, or the component registers
 abbrev pub registers_of : CxlVersion → ℕ
 registers_of Cxl1_1 = 0x2000
 registers_of Cxl2 = 0x10000
@@ -99,7 +99,7 @@ ways_count Ways3 = 3
 ways_count Ways6 = 6
 ways_count Ways12 = 12
 
--- a window of memory, and its targets' ids, of four bytes each
+-- a memory window, and the ids of its targets, which have four bytes each
 pub record Window : Type 0 where
   pub base : ℕ
   pub size : ℕ
@@ -144,7 +144,7 @@ window_head w = fields_joined (window_head_fields w)
 abbrev pub window_bytes : Window → List ℕ
 window_bytes w = window_head w ++ w.targets  -- 36: Interleave Target List
 
--- there are as many targets as ways
+-- the number of targets is the number of ways
 abbrev pub has_targets : Window → Bool
 has_targets w = length w.targets == 4 * ways_count w.ways
 
@@ -156,7 +156,7 @@ window_ends_well w = provided_ends_well (has_targets w) Targets (window_bytes w)
 
 -- ---- CXL XOR Interleave Math Structure
 
--- a number of maps, of eight bytes each
+-- the number of maps, and their bytes: each map has eight
 pub record XorMaps : Type 0 where
   pub granularity : InterleaveGranularity
   pub count : ℕ

@@ -50,14 +50,14 @@ madt oem controller = record {
   structures = [];
 }
 
--- The first IMSIC is added as any structure. Afterwards each is refused, and the table stays as it was.
+-- The first IMSIC is added like any structure. A second one returns `ImsicSet`, and the table is unchanged.
 pub record AddsImsic (result : Result Unit Error) (old : MADT) (imsic : List ℕ) (new : MADT) : Type 0 where
   pub first : old.has_imsic ≡ false → Adds result old.table (whole imsic) new.table
   pub again : old.has_imsic ≡ true → (result ≡ Err ImsicSet) × (new ≡ old)
   pub ok : OnOk result (new.has_imsic ≡ true)
   pub err : OnErr result (new.has_imsic ≡ old.has_imsic)
 
--- The byte at 1 is a structure's length, whatever its fields hold. A hardware id has eight bytes.
+-- The byte at offset 1 is a structure's length, for all values of its fields. A hardware id has eight bytes.
 pub record StructuresTellTheirLength : Type 0 where
   pub processor_local_apic : (s : ProcessorLocalApic) → IsPiece madt_walk.sizes (processor_local_apic_bytes s)
   pub io_apic : (s : IoApic) → IsPiece madt_walk.sizes (io_apic_bytes s)

@@ -47,7 +47,7 @@ gicc_flags Disabled = 0x0
 gicc_flags Enabled = 0x1
 gicc_flags DisabledOnlineCapable = 0x8
 
--- everything but the flags is zero
+-- only the flags may be other than zero
 abbrev pub gicc : EnabledStatus → Gicc
 gicc status = record {
   cpu_interface_number = 0;
@@ -67,7 +67,7 @@ gicc status = record {
   trbe_interrupt = 0;
 }
 
--- an edge's flag joins those that are set, a level changes none
+-- an edge adds its flag to those that are set, and a level changes none
 abbrev pub with_edge : Trigger → ℕ → ℕ → ℕ
 with_edge Edge flag flags = bit_or flags flag
 with_edge Level flag flags = flags

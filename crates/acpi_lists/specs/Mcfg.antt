@@ -28,7 +28,7 @@ ecam_fields e =
     ∷ reserved 4  -- 12
     ∷ []
 
--- the configuration space of the buses from one to another of a segment group
+-- the configuration space of a range of buses of a segment group
 abbrev pub ecam_bytes : ℕ → ℕ → ℕ → ℕ → List ℕ
 ecam_bytes base_addr segment start_bus end_bus =
     fields_joined (ecam_fields (record { base_addr = base_addr; segment = segment; start_bus = start_bus; end_bus = end_bus }))

@@ -74,7 +74,7 @@ abbrev pub handle_type : Handle → ℕ
 handle_type (Acpi hid uid) = 0
 handle_type (Pci segment bus device function) = 1
 
--- a device below 32 and a function below 8
+-- the device is below 32 and the function below 8
 abbrev pub is_address : Handle → Bool
 is_address (Acpi hid uid) = true
 is_address (Pci segment bus device function) = nat_lt device 32 && nat_lt function 8
@@ -109,7 +109,7 @@ generic_initiator_object g = provided (is_address g.handle) PciAddress (whole (g
 pub generic_initiator_ends_well : (g : GenericInitiator) → (generic_initiator_object g).end ≢ Some Memory
 generic_initiator_ends_well g = provided_ends_well (is_address g.handle) PciAddress (generic_initiator_bytes g) (λ is. cc)
 
--- ---- RINTC Affinity Structure (RISC-V profile)
+-- ---- RINTC Affinity Structure (this project's profile)
 
 abbrev pub rintc_affinity : List ℕ → ℕ → RintcAffinity
 rintc_affinity uid clock_domain = record { domain = 0; uid = uid; flags = 0; clock_domain = clock_domain }

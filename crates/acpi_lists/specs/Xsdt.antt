@@ -5,7 +5,7 @@ use Rattle.acpi_base.specs.declared.oem.Oem.{Oem}
 use Rattle.acpi_core.specs.Listing.{Listing, length_limit}
 use Rattle.acpi_lists.specs.declared.xsdt.Entry.{Entry}
 
--- a table without entries; each is the address of a table, of eight bytes
+-- a table without entries; each entry is the address of a table, in eight bytes
 abbrev pub xsdt : Oem → Listing
 xsdt oem = record {
   signature = codes "XSDT";

@@ -1,4 +1,4 @@
-//! CEDT: CXL host bridges and windows of memory.
+//! CEDT: CXL host bridges and memory windows.
 
 ghost use Rattle.std.specs.Prelude.{◌≡◌, ◌≢◌, ◌+◌, ◌/◌, ◌<◌, ◌++◌, true, bit_or, length, OnOk, OnErr, IfErr};
 ghost use Rattle.acpi_base.specs.Bytes.{le};
@@ -29,7 +29,7 @@ use acpi_core::walked::{Walked, is_walked};
 use std::alloc::Global;
 use std::marker::Model;
 
-/// The CXL Early Discovery Table (CXL profile): structures from offset 36 on.
+/// The CXL Early Discovery Table (this project's profile). Its structures begin at offset 36.
 #[derive(Drop)]
 pub struct CEDT {
     table: Walked<CedtKind, 36>,
@@ -68,29 +68,29 @@ impl CEDT {
         }
     }
 
-    /// Adds a host bridge. FieldWidth where the length would reach 2^32.
+    /// Adds a host bridge. The error is `FieldWidth` if the length would reach 2^32.
     pub fn add_host_bridge(&mut self, bridge: CxlHostBridge) -> R<()>
         ensures { Adds result self.old.table (whole (host_bridge_bytes bridge)) self.new.table }
     {
         self.table.add_record(&bridge)
     }
 
-    /// Adds a window of memory. Targets where they aren't as many as its ways, else FieldWidth where the length would
-    /// reach 2^32.
+    /// Adds a memory window. The error is `Targets` if the number of its targets isn't its number of ways, or `FieldWidth` if the
+    /// length would reach 2^32.
     pub fn add_fixed_memory(&mut self, memory: CxlFixedMemory) -> R<()>
         ensures { Adds result self.old.table (window_object memory) self.new.table }
     {
         self.table.add_object(&memory)
     }
 
-    /// Adds maps for interleaving. FieldWidth where the length would reach 2^32.
+    /// Adds the XOR maps of interleaving. The error is `FieldWidth` if the length would reach 2^32.
     pub fn add_xor_interleave_math(&mut self, math: XorInterleaveMath) -> R<()>
         ensures { Adds result self.old.table (whole (maps_bytes math)) self.new.table }
     {
         self.table.add_object(&math)
     }
 
-    /// Adds a port below a root complex event collector. FieldWidth where the length would reach 2^32.
+    /// Adds a port below a root complex event collector. The error is `FieldWidth` if the length would reach 2^32.
     pub fn add_port_association(&mut self, port: PortAssociation) -> R<()>
         ensures { Adds result self.old.table (whole (port_association_bytes port)) self.new.table }
     {
@@ -112,7 +112,7 @@ impl CEDT {
     }
 }
 
-/// A law: after any calls the table is a true one, and its structures, in order, are the one list that walks it.
+/// A law: after any calls the table is correct. Its structures, in order, are the one list that the walk finds.
 pub fn cedt_is_walked(table: &CEDT)
     ensures keeps { Keeps cedt_walk length_limit true table.now.table.table }
     ensures walked { IsWalked cedt_walk table.now.table.table }
@@ -121,7 +121,7 @@ pub fn cedt_is_walked(table: &CEDT)
     is_walked(&table.table)
 }
 
-/// Which version of CXL a host bridge has (offset 8).
+/// The CXL version of a host bridge (offset 8).
 #[derive(Copy, Clone, Debug, PartialEq)]
 pub enum CxlVersion {
     Cxl1_1 = 0,
@@ -148,7 +148,7 @@ pub struct CxlHostBridge {
 }
 
 impl CxlHostBridge {
-    /// The bridge of this `_UID`, with registers at a physical address.
+    /// The bridge with this `_UID`, whose registers are at a physical address.
     pub fn new(host_bridge_uid: u32, cxl_version: CxlVersion, port_base: u64) -> CxlHostBridge
         ensures { result ≡ host_bridge host_bridge_uid cxl_version port_base }
     {
@@ -206,14 +206,14 @@ impl Aml for CxlHostBridge {
     }
 }
 
-/// How a window's addresses are spread over its targets (offset 25).
+/// How the addresses of a window are distributed over its targets (offset 25).
 #[derive(Copy, Clone, Debug, PartialEq)]
 pub enum InterleaveArithmetic {
     Modulo = 0,
     ModuloXor = 1,
 }
 
-/// How many bytes in a row go to one target.
+/// The number of consecutive bytes that go to one target.
 #[derive(Copy, Clone, Debug, PartialEq)]
 pub enum InterleaveGranularity {
     Granularity256b = 0,
@@ -225,7 +225,7 @@ pub enum InterleaveGranularity {
     Granularity16kb = 6,
 }
 
-/// Over how many targets a window is spread (offset 24).
+/// The number of targets of a window (offset 24).
 #[derive(Copy, Clone, Debug, PartialEq)]
 pub enum InterleaveWays {
     Ways1 = 0,
@@ -255,7 +255,7 @@ impl InterleaveWays {
     }
 }
 
-/// What a window may be used for (offset 32).
+/// The permitted uses of a window (offset 32).
 #[derive(Copy, Clone, Debug, PartialEq)]
 pub enum WindowRestrictions {
     CxlType2Memory = 1,
@@ -265,8 +265,8 @@ pub enum WindowRestrictions {
     FixedConfiguration = 16,
 }
 
-/// A window of memory behind CXL host bridges (CXL Fixed Memory Window Structure): 36 bytes, and 4 for each target. It is
-/// refused when written, by Targets, unless it has as many targets as ways.
+/// A memory window of CXL host bridges (CXL Fixed Memory Window Structure): 36 bytes, and 4 for each target. Writing it returns
+/// `Targets` unless it has as many targets as ways.
 #[derive(Drop)]
 pub struct CxlFixedMemory {
     base: u64,
@@ -297,7 +297,7 @@ impl Model for CxlFixedMemory {
 }
 
 impl CxlFixedMemory {
-    /// A window of `size` bytes from a physical address on, without restrictions and targets. `qtg_id` is its throttling
+    /// A window of `size` bytes from a physical address on, without restrictions and targets. `qtg_id` is its QoS throttling
     /// group.
     pub fn new(
         alloc: Global,
@@ -329,7 +329,7 @@ impl CxlFixedMemory {
         self.targets.len() / 4
     }
 
-    /// The window may hold memory of devices of type 2 (restriction 1).
+    /// Sets restriction 1: memory of type 2 devices is allowed.
     pub fn cxl_type_2_memory(mut self) -> CxlFixedMemory
         ensures { result ≡ record self { restrictions = bit_or self.restrictions 1 } }
     {
@@ -337,7 +337,7 @@ impl CxlFixedMemory {
         self
     }
 
-    /// The window may hold memory of devices of type 3 (restriction 2).
+    /// Sets restriction 2: memory of type 3 devices is allowed.
     pub fn cxl_type_3_memory(mut self) -> CxlFixedMemory
         ensures { result ≡ record self { restrictions = bit_or self.restrictions 2 } }
     {
@@ -345,7 +345,7 @@ impl CxlFixedMemory {
         self
     }
 
-    /// The window may hold volatile memory (restriction 4).
+    /// Sets restriction 4: volatile memory is allowed.
     pub fn volatile(mut self) -> CxlFixedMemory
         ensures { result ≡ record self { restrictions = bit_or self.restrictions 4 } }
     {
@@ -353,7 +353,7 @@ impl CxlFixedMemory {
         self
     }
 
-    /// The window may hold persistent memory (restriction 8).
+    /// Sets restriction 8: persistent memory is allowed.
     pub fn persistent(mut self) -> CxlFixedMemory
         ensures { result ≡ record self { restrictions = bit_or self.restrictions 8 } }
     {
@@ -361,7 +361,7 @@ impl CxlFixedMemory {
         self
     }
 
-    /// The window may not be configured anew (restriction 16).
+    /// Sets restriction 16: the configuration of the window is fixed.
     pub fn fixed_configuration(mut self) -> CxlFixedMemory
         ensures { result ≡ record self { restrictions = bit_or self.restrictions 16 } }
     {
@@ -369,7 +369,7 @@ impl CxlFixedMemory {
         self
     }
 
-    /// Adds the id of a target, a host bridge's `_UID`. Memory is the one error, and the value is unchanged then.
+    /// Adds the id of a target, which is a host bridge's `_UID`. The only error is `Memory`; the window is unchanged then.
     pub fn add_target(&mut self, uid: [u8; 4]) -> R<()>
         ensures ok { OnOk result (self.new ≡ record self.old { targets = self.old.targets ++ uid }) }
         ensures err { OnErr result (self.new ≡ self.old) }
@@ -379,7 +379,7 @@ impl CxlFixedMemory {
         Ok(())
     }
 
-    // The structure's bytes before its targets.
+    // The bytes of the structure before its targets.
     fn head(&self, size: u16) -> [u8; 36]
         requires { size ≡ 36 + length self.now.targets }
         ensures { result ≡ window_head self.now }
@@ -451,7 +451,7 @@ impl Aml for CxlFixedMemory {
     }
 }
 
-/// Maps by which addresses are spread over targets (CXL XOR Interleave Math Structure): 8 bytes, and 8 for each map.
+/// The XOR maps of interleaving (CXL XOR Interleave Math Structure): 8 bytes, and 8 for each map.
 #[derive(Drop)]
 pub struct XorInterleaveMath {
     granularity: InterleaveGranularity,
@@ -467,7 +467,7 @@ impl Model for XorInterleaveMath {
 }
 
 impl XorInterleaveMath {
-    /// No maps.
+    /// A structure without maps.
     pub fn new(alloc: Global, granularity: InterleaveGranularity) -> XorInterleaveMath
         ensures { result ≡ no_maps granularity }
     {
@@ -484,7 +484,7 @@ impl XorInterleaveMath {
         self.maps.len()
     }
 
-    /// Adds a map. FieldWidth at the 256th, and unchanged where it is refused.
+    /// Adds a map. The error is `FieldWidth` at the 256th map. After an error the structure is unchanged.
     pub fn add_xormap(&mut self, xormap: u64) -> R<()>
         ensures ok { OnOk result (self.new
             ≡ record self.old { count = self.old.count + 1; maps = self.old.maps ++ le 8 xormap }) }
@@ -495,7 +495,7 @@ impl XorInterleaveMath {
         self.maps.push(xormap.to_le_bytes())
     }
 
-    // The structure's bytes before its maps.
+    // The bytes of the structure before its maps.
     fn head(&self) -> [u8; 8]
         ensures { result ≡ maps_head self.now }
     {
@@ -540,7 +540,7 @@ impl Aml for XorInterleaveMath {
     }
 }
 
-/// Over which protocol a port is reached (offset 8).
+/// The protocol of a port (offset 8).
 #[derive(Copy, Clone, Debug, PartialEq)]
 pub enum ProtocolType {
     CxlIo = 0,
@@ -557,7 +557,8 @@ pub struct PortAssociation {
 }
 
 impl PortAssociation {
-    /// The collector at a PCI function, whose device is below 32 and whose function is below 8, and the port's base address.
+    /// The port of a collector, given by the collector's PCI function and the port's base address. The caller proves that
+    /// `device` is below 32 and `function` below 8.
     pub fn new(
         segment: u16,
         bus: u8,

@@ -7,7 +7,7 @@ pub mod mcfg;
 pub mod srat;
 pub mod xsdt;
 
-/// Laws of the tables. Each function is a law: it does nothing, and ensures it.
+/// Laws about the tables. Each function is a law: it does nothing, and its `ensures` states the law.
 pub mod laws {
     pub use crate::cedt::cedt_is_walked;
     pub use crate::madt::{madt_is_walked, madt_structures_are_pieces};

@@ -37,8 +37,8 @@ pub use riscv::{
 use std::alloc::Global;
 pub use x86::{IO_APIC, IoApic, PROCESSOR_LOCAL_APIC, ProcessorLocalApic};
 
-/// Where every processor finds its own interrupt controller (ACPI 6.5, 5.2.12, offset 36): on RISC-V nowhere in memory,
-/// which is written as 0, or at a physical address.
+/// The address of the local interrupt controllers (ACPI 6.5, 5.2.12, offset 36): a physical address, or 0 on RISC-V, whose local
+/// controllers aren't in memory.
 #[derive(Clone, Copy, Debug, PartialEq)]
 pub enum LocalInterruptController {
     Riscv,
@@ -56,7 +56,7 @@ impl LocalInterruptController {
     }
 }
 
-/// Whether a processor can be used, or could be brought online later (ACPI 6.5, 5.2.12.2 and 5.2.12.14).
+/// Whether a processor is enabled, or can be brought online later (ACPI 6.5, 5.2.12.2 and 5.2.12.14).
 #[derive(Clone, Copy, Debug, PartialEq)]
 pub enum EnabledStatus {
     Disabled = 0,
@@ -64,15 +64,15 @@ pub enum EnabledStatus {
     DisabledOnlineCapable = 2,
 }
 
-/// The Multiple APIC Description Table (ACPI 6.5, 5.2.12): structures that contain their type at offset 0 and their length in
-/// bytes at offset 1, from offset 44 on.
+/// The Multiple APIC Description Table (ACPI 6.5, 5.2.12). Its structures begin at offset 44. Each contains its type at offset 0
+/// and its length in bytes at offset 1.
 #[derive(Drop)]
 pub struct MADT {
     table: Walked<MadtKind, 44>,
     has_imsic: bool,
 }
 
-/// The kind of MADT, to which a caller may add structures of other types.
+/// The kind of MADT. A caller may add structures of other types.
 pub struct MadtKind;
 
 impl Kind for MadtKind {
@@ -115,8 +115,8 @@ impl MADT {
         }
     }
 
-    /// Adds a structure, whose bytes are kept as it writes them. The structure's own refusal, else FieldWidth where the
-    /// length would reach 2^32.
+    /// Adds a structure with the bytes that it writes. The error is the structure's own, or `FieldWidth` if the length would
+    /// reach 2^32.
     pub fn add_structure<T: Aml + Drop>(&mut self, structure: T) -> R<()>
         ensures adds { Adds result self.old.table (T.object structure) self.new.table }
         ensures imsic { self.new.has_imsic ≡ self.old.has_imsic }
@@ -124,8 +124,8 @@ impl MADT {
         self.table.add_object(&structure)
     }
 
-    /// Adds the one structure that tells of all incoming MSI controllers: ImsicSet the second time, whatever else would
-    /// refuse it, else FieldWidth where the length would reach 2^32. One that `add_structure` added isn't counted.
+    /// Adds the structure of the incoming MSI controllers, of which a table has one. The error is `ImsicSet` at the second call,
+    /// or `FieldWidth` if the length would reach 2^32. An `IMSIC` that `add_structure` added doesn't count.
     pub fn add_imsic(&mut self, imsic: IMSIC) -> R<()>
         ensures { AddsImsic result self.old (imsic_bytes imsic) self.new }
     {
@@ -137,7 +137,7 @@ impl MADT {
         Ok(())
     }
 
-    /// Adds a borrowed structure of any type, as `add_structure` does: for structures in a list of boxes.
+    /// Adds a borrowed structure as `add_structure` does. It is for structures in a list of boxes.
     pub fn add_borrowed_structure(&mut self, structure: &dyn Aml) -> R<()>
         ensures adds { Adds result self.old.table (object structure.now) self.new.table }
         ensures imsic { self.new.has_imsic ≡ self.old.has_imsic }
@@ -152,7 +152,7 @@ impl MADT {
         self.table.len()
     }
 
-    /// The number of structures. It is 2^32 - 1 where there are more, which only structures of no bytes can be.
+    /// The number of structures, or 2^32 - 1 if there are more. Only structures without bytes can be so numerous.
     pub fn count(&self) -> u32
         ensures { result ≡ number_up_to (length self.now.table.table.structures) }
     {
@@ -173,8 +173,8 @@ pub fn madt_rows() -> &'static [Row]
     &MADT_FIXED
 }
 
-/// A law: after any calls the table is a true one. Where each structure contains its length at offset 1, they are, in order,
-/// the one list that walks it.
+/// A law: after any calls the table is correct. If each structure contains its length at offset 1, the structures, in order,
+/// are the one list that the walk finds.
 pub fn madt_is_walked(table: &MADT)
     ensures is_true { IsTrueTable (bytes_of table.now.table.table) }
     ensures keeps { Keeps madt_walk length_limit false table.now.table.table }

@@ -1,4 +1,4 @@
-//! MCFG: where the configuration space of PCI is mapped.
+//! MCFG: the memory mapped configuration space of PCI.
 
 ghost use Rattle.std.specs.Prelude.{◌≡◌, true, length};
 ghost use Rattle.acpi_base.specs.Object.{whole, whole_ends_well};
@@ -21,8 +21,8 @@ use acpi_core::table::Table;
 use acpi_core::walked::{Walked, is_walked};
 use std::alloc::Global;
 
-/// The table of memory mapped configuration spaces of PCI (PCI Firmware Specification 3.3, 4.1.2): entries of 16 bytes, from
-/// offset 44 on.
+/// The table of memory mapped configuration spaces of PCI (PCI Firmware Specification 3.3, 4.1.2). Its entries have 16 bytes each
+/// and begin at offset 44.
 #[derive(Drop)]
 pub struct MCFG {
     table: Walked<McfgKind, 44>,
@@ -61,8 +61,8 @@ impl MCFG {
         }
     }
 
-    /// Adds the configuration space of the buses `start_bus` to `end_bus` of a segment group, at a physical address.
-    /// FieldWidth where the length would reach 2^32.
+    /// Adds the configuration space of the buses `start_bus` to `end_bus` of a segment group, at a physical address. The error is
+    /// `FieldWidth` if the length would reach 2^32.
     pub fn add_ecam(&mut self, base_addr: u64, segment: u16, start_bus: u8, end_bus: u8) -> R<()>
         ensures { Adds result self.old.table (whole (ecam_bytes base_addr segment start_bus end_bus)) self.new.table }
     {
@@ -89,7 +89,7 @@ impl MCFG {
     }
 }
 
-/// A law: after any calls the table is a true one, and its entries, in order, are the one list that walks it.
+/// A law: after any calls the table is correct. Its entries, in order, are the one list that the walk finds.
 pub fn mcfg_is_walked(table: &MCFG)
     ensures keeps { Keeps mcfg_walk length_limit true table.now.table.table }
     ensures walked { IsWalked mcfg_walk table.now.table.table }
@@ -98,7 +98,7 @@ pub fn mcfg_is_walked(table: &MCFG)
     is_walked(&table.table)
 }
 
-/// An entry: the configuration space of some buses of a segment group.
+/// An entry: the configuration space of a range of buses of a segment group.
 #[derive(Drop)]
 pub struct Ecam {
     base_addr: u64,

@@ -1,4 +1,4 @@
-//! SRAT: which processors, memory and devices are near to each other.
+//! SRAT: the proximity domains of processors, memory and devices.
 
 ghost use Rattle.std.specs.Prelude.{◌≡◌, ◌<◌, ℕ, List, true, false, bit_or, IfOk, IfErr, length};
 ghost use Rattle.acpi_base.specs.Fields.{AreRowsOf};
@@ -28,7 +28,8 @@ use acpi_core::table::Table;
 use acpi_core::walked::{Walked, is_walked};
 use std::alloc::Global;
 
-/// The System Resource Affinity Table (ACPI 6.5, 5.2.16): structures from offset 48 on.
+/// The System Resource Affinity Table (ACPI 6.5, 5.2.16). Its structures begin at offset 48. Its revision is 1, with which Linux
+/// uses the low 8 bits of a proximity domain only.
 #[derive(Drop)]
 pub struct SRAT {
     table: Walked<SratKind, 48>,
@@ -67,22 +68,22 @@ impl SRAT {
         }
     }
 
-    /// Adds a range of memory. FieldWidth where the length would reach 2^32.
+    /// Adds a range of memory. The error is `FieldWidth` if the length would reach 2^32.
     pub fn add_memory_affinity(&mut self, memory: MemoryAffinity) -> R<()>
         ensures { Adds result self.old.table (whole (memory_affinity_bytes memory)) self.new.table }
     {
         self.table.add_record(&memory)
     }
 
-    /// Adds a device that reaches memory by itself. PciAddress where its handle is no address, else FieldWidth where the
-    /// length would reach 2^32.
+    /// Adds a generic initiator. The error is `PciAddress` if its handle's device or function is out of range, or `FieldWidth` if
+    /// the length would reach 2^32.
     pub fn add_generic_initiator(&mut self, initiator: GenericInitiator) -> R<()>
         ensures { Adds result self.old.table (generic_initiator_object initiator) self.new.table }
     {
         self.table.add_object(&initiator)
     }
 
-    /// Adds a processor's interrupt controller. FieldWidth where the length would reach 2^32.
+    /// Adds a processor's interrupt controller. The error is `FieldWidth` if the length would reach 2^32.
     pub fn add_rintc_affinity(&mut self, rintc: RintcAffinity) -> R<()>
         ensures { Adds result self.old.table (whole (rintc_affinity_bytes rintc)) self.new.table }
     {
@@ -104,7 +105,7 @@ impl SRAT {
     }
 }
 
-/// A law: after any calls the table is a true one, and its structures, in order, are the one list that walks it.
+/// A law: after any calls the table is correct. Its structures, in order, are the one list that the walk finds.
 pub fn srat_is_walked(table: &SRAT)
     ensures keeps { Keeps srat_walk length_limit true table.now.table.table }
     ensures walked { IsWalked srat_walk table.now.table.table }
@@ -142,7 +143,7 @@ impl MemoryAffinity {
         }
     }
 
-    /// The range is in use (flag 1).
+    /// Sets flag 1: the range is enabled.
     pub fn enabled(mut self) -> MemoryAffinity
         ensures { result ≡ record self { flags = bit_or self.flags 1 } }
     {
@@ -150,7 +151,7 @@ impl MemoryAffinity {
         self
     }
 
-    /// The range may be added and removed while the system runs (flag 2).
+    /// Sets flag 2: the range may be added and removed while the system runs.
     pub fn hotpluggable(mut self) -> MemoryAffinity
         ensures { result ≡ record self { flags = bit_or self.flags 2 } }
     {
@@ -158,7 +159,7 @@ impl MemoryAffinity {
         self
     }
 
-    /// The range keeps its contents without power (flag 4).
+    /// Sets flag 4: the range keeps its contents without power.
     pub fn nonvolatile(mut self) -> MemoryAffinity
         ensures { result ≡ record self { flags = bit_or self.flags 4 } }
     {
@@ -223,8 +224,8 @@ impl Aml for MemoryAffinity {
     }
 }
 
-/// Which device a structure is about (ACPI 6.5, 5.2.16.6): by its ids in the namespace, or by its PCI address. A PCI
-/// address out of range is refused when written, by PciAddress.
+/// The device of an initiator (ACPI 6.5, 5.2.16.6), by its ids in the namespace or by its PCI address. Writing a PCI address
+/// whose device or function is out of range returns `PciAddress`.
 #[derive(Clone, Copy, Debug, PartialEq)]
 pub enum Handle {
     Acpi {
@@ -240,14 +241,15 @@ pub enum Handle {
 }
 
 impl Handle {
-    /// The device of these `_HID` and `_UID`.
+    /// The device with this `_HID` and `_UID`.
     pub fn new_acpi(hid: [u8; 8], uid: [u8; 4]) -> Handle
         ensures { result ≡ Handle.Acpi hid uid }
     {
         Handle::Acpi { hid, uid }
     }
 
-    /// A PCI function: the device is below 32, the function below 8. The segment is 0 in a system with one.
+    /// A PCI function. The caller proves that `device` is below 32 and `function` below 8. The segment is 0 in a system with one
+    /// segment.
     pub fn new_pci(segment: u16, bus: u8, device: u8, function: u8) -> Handle
         requires device { device < 32 }
         requires function { function < 8 }
@@ -271,7 +273,7 @@ impl Handle {
         }
     }
 
-    // The handle's bytes.
+    // The bytes of the handle.
     fn bytes(&self) -> R<[u8; 16]>
         ensures ok { IfOk result (λ bytes. Built (handle_object self.now) bytes) }
         ensures err { IfErr result (λ e. (e ≡ Error.PciAddress) × (is_address self.now ≡ false)) }
@@ -355,8 +357,8 @@ const INITIATOR_ENABLED: u32 = 1;
 
 const ARCHITECTURAL_TRANSACTIONS: u32 = 2;
 
-/// A device that reaches memory by itself, and its proximity domain (ACPI 6.5, 5.2.16.6): 32 bytes. Refused when written, by
-/// PciAddress, where its handle is no address.
+/// A generic initiator, which is a device that accesses memory itself, and its proximity domain (ACPI 6.5, 5.2.16.6): 32 bytes.
+/// Writing it returns `PciAddress` if its handle's device or function is out of range.
 #[derive(Drop)]
 pub struct GenericInitiator {
     domain: u32,
@@ -376,7 +378,7 @@ impl GenericInitiator {
         }
     }
 
-    /// The initiator is in use (flag 1).
+    /// Sets flag 1: the initiator is enabled.
     pub fn enabled(mut self) -> GenericInitiator
         ensures { result ≡ record self { flags = bit_or self.flags 1 } }
     {
@@ -384,7 +386,7 @@ impl GenericInitiator {
         self
     }
 
-    /// It may use all transactions of the architecture (flag 2).
+    /// Sets flag 2: the initiator supports all transactions of the architecture.
     pub fn architectural(mut self) -> GenericInitiator
         ensures { result ≡ record self { flags = bit_or self.flags 2 } }
     {
@@ -392,7 +394,7 @@ impl GenericInitiator {
         self
     }
 
-    // The structure's bytes.
+    // The bytes of the structure.
     fn bytes(&self) -> R<[u8; 32]>
         ensures ok { IfOk result (λ bytes. Built (generic_initiator_object self.now) bytes) }
         ensures err { IfErr result (λ e. (e ≡ Error.PciAddress) × (is_address self.now.handle ≡ false)) }
@@ -448,10 +450,10 @@ impl Aml for GenericInitiator {
     }
 }
 
-/// Flag of a processor's interrupt controller (offset 12).
+/// Flags of a processor's interrupt controller (offset 12).
 const RINTC_ENABLED: u32 = 1;
 
-/// A RISC-V processor's interrupt controller, its proximity domain and its clock domain (RISC-V profile): 20 bytes.
+/// The interrupt controller of a RISC-V processor, its proximity domain and its clock domain (this project's profile): 20 bytes.
 #[derive(Clone, Copy, Debug)]
 pub struct RintcAffinity {
     domain: u32,
@@ -461,7 +463,7 @@ pub struct RintcAffinity {
 }
 
 impl RintcAffinity {
-    /// The processor of this `_UID`, in proximity domain 0, without flags.
+    /// The processor with this `_UID`, in proximity domain 0, without flags.
     pub fn new(acpi_processor_uid: [u8; 4], clock_domain: u32) -> RintcAffinity
         ensures { result ≡ rintc_affinity acpi_processor_uid clock_domain }
     {
@@ -473,7 +475,7 @@ impl RintcAffinity {
         }
     }
 
-    /// The processor is in use (flag 1).
+    /// Sets flag 1: the processor is enabled.
     pub fn enabled(mut self) -> RintcAffinity
         ensures { result ≡ record self { flags = bit_or self.flags 1 } }
     {
@@ -481,7 +483,7 @@ impl RintcAffinity {
         self
     }
 
-    /// The proximity domain (offset 4).
+    /// Sets the proximity domain (offset 4).
     pub fn proximity_domain(mut self, proximity_domain: u32) -> RintcAffinity
         ensures { result ≡ record self { domain = proximity_domain } }
     {

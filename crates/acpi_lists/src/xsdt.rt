@@ -1,4 +1,4 @@
-//! XSDT: where the other tables are.
+//! XSDT: the addresses of the other tables.
 
 ghost use Rattle.std.specs.Prelude.{◌≡◌, true, length};
 ghost use Rattle.acpi_base.specs.Bytes.{le};
@@ -22,7 +22,8 @@ use acpi_core::table::Table;
 use acpi_core::walked::{Walked, is_walked};
 use std::alloc::Global;
 
-/// The Extended System Description Table (ACPI 6.5, 5.2.8): the addresses of the other tables, from offset 36 on.
+/// The Extended System Description Table (ACPI 6.5, 5.2.8). Its entries are the physical addresses of the other tables, and begin
+/// at offset 36.
 #[derive(Drop)]
 pub struct XSDT {
     table: Walked<XsdtKind, 36>,
@@ -61,7 +62,7 @@ impl XSDT {
         }
     }
 
-    /// Adds the physical address of a table. FieldWidth where the length would reach 2^32.
+    /// Adds the physical address of a table. The error is `FieldWidth` if the length would reach 2^32.
     pub fn add_entry(&mut self, entry: u64) -> R<()>
         ensures { Adds result self.old.table (whole (le 8 entry)) self.new.table }
     {
@@ -83,7 +84,7 @@ impl XSDT {
     }
 }
 
-/// A law: after any calls the table is a true one, and its entries, in order, are the one list that walks it.
+/// A law: after any calls the table is correct. Its entries, in order, are the one list that the walk finds.
 pub fn xsdt_is_walked(table: &XSDT)
     ensures keeps { Keeps xsdt_walk length_limit true table.now.table.table }
     ensures walked { IsWalked xsdt_walk table.now.table.table }

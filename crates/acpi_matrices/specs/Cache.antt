@@ -24,7 +24,7 @@ policy_number policy.None = 0
 policy_number policy.Writeback = 1
 policy_number policy.Writethrough = 2
 
--- a cache, and a number of SMBIOS handles of two bytes each
+-- a cache, its number of SMBIOS handles, and their bytes: each handle has two
 pub record SideCache : Type 0 where
   pub domain : ℕ
   pub cache_size : ℕ
@@ -32,8 +32,8 @@ pub record SideCache : Type 0 where
   pub count : ℕ
   pub handles : List ℕ
 
--- Cache Attributes: bits 0 to 3 the levels, 4 to 7 which of them this is, 8 to 11 the associativity, 12 to 15 the write
--- policy, 16 to 31 the bytes of a line
+-- Cache Attributes: the number of levels in bits 0 to 3, this level in 4 to 7, the associativity in 8 to 11, the write policy in
+-- 12 to 15, and the bytes of a line in 16 to 31
 abbrev pub attributes_of : CacheLevel → CacheLevel → Associativity → WritePolicy → ℕ → ℕ
 attributes_of total this associativity policy line =
     level_number total + 16 * level_number this + 256 * associativity_number associativity

@@ -42,8 +42,8 @@ transfer_number sizes.Size16k = 9
 transfer_number sizes.Size32k = 10
 transfer_number sizes.Size64k = 11
 
--- A matrix over this many initiators and targets. Its lists are bytes, one list after another: the initiators' domains of four
--- bytes each, the targets' domains of four, the entries of two, row by initiator.
+-- A matrix with these numbers of initiators and targets. Its lists are bytes, in this order: the initiators' domains of four
+-- bytes each, the targets' domains of four, and the entries of two, row by initiator.
 pub record Locality : Type 0 where
   pub flags : ℕ
   pub data_type : DataType
@@ -53,15 +53,15 @@ pub record Locality : Type 0 where
   pub targets : ℕ
   pub lists : List ℕ
 
--- how many bytes the lists have
+-- the number of bytes of the lists
 abbrev pub lists_size : ℕ → ℕ → ℕ
 lists_size initiators targets = 4 * initiators + 4 * targets + 2 * (initiators * targets)
 
--- how many bytes the structure has
+-- the number of bytes of the structure
 abbrev pub locality_size : ℕ → ℕ → ℕ
 locality_size initiators targets = 32 + lists_size initiators targets
 
--- each domain 0, each entry 0xffff
+-- each domain is 0, and each entry 0xffff
 abbrev pub locality : LocalityType → DataType → MinTransferSize → ℕ → ℕ → ℕ → Locality
 locality hierarchy data_type transfer unit initiators targets = record {
   flags = hierarchy_number hierarchy;
@@ -73,7 +73,7 @@ locality hierarchy data_type transfer unit initiators targets = record {
   lists = zeros (4 * initiators + 4 * targets) ++ replicate (2 * (initiators * targets)) 255;
 }
 
--- the lists have their bytes, and the size fits its field
+-- the lists have the right number of bytes, and the size fits its field
 pub record IsLocality (l : Locality) : Type 0 where
   pub lists : length l.lists ≡ lists_size l.initiators l.targets
   pub fits : locality_size l.initiators l.targets < 2 ^ 32
@@ -101,7 +101,7 @@ locality_bytes l = locality_head l ++ l.lists  -- 32: Initiator List, Target Lis
 
 -- ---- cells
 
--- one cell: an initiator's domain, a target's, or the entry of an initiator and a target
+-- a cell: an initiator's domain, a target's domain, or the entry of an initiator and a target
 pub data Cell : Type 0 where
   initiator_at : ℕ → Cell
   target_at : ℕ → Cell
@@ -112,19 +112,19 @@ has_cell l (initiator_at i) = nat_lt i l.initiators
 has_cell l (target_at t) = nat_lt t l.targets
 has_cell l (entry_at i t) = nat_lt i l.initiators && nat_lt t l.targets
 
--- where it stands in the lists of this many initiators and targets
+-- the offset of a cell in the lists
 abbrev pub place_of : ℕ → ℕ → Cell → ℕ
 place_of initiators targets (initiator_at i) = 4 * i
 place_of initiators targets (target_at t) = 4 * initiators + 4 * t
 place_of initiators targets (entry_at i t) = 4 * initiators + 4 * targets + 2 * (i * targets + t)
 
--- how many bytes it has
+-- the number of bytes of a cell
 abbrev pub width_of : Cell → ℕ
 width_of (initiator_at i) = 4
 width_of (target_at t) = 4
 width_of (entry_at i t) = 2
 
--- its value
+-- the value of a cell
 abbrev pub value_at : Locality → Cell → ℕ
 value_at l cell = field_at (place_of l.initiators l.targets cell) (width_of cell) l.lists
 
@@ -139,14 +139,14 @@ with_value l cell value = record {
   lists = put (place_of l.initiators l.targets cell) (le (width_of cell) value) l.lists;
 }
 
--- A cell was set, or there is no such cell and nothing changed.
+-- The cell was set; or there is no such cell, and nothing changed.
 pub record Sets (result : Result Unit Error) (old : Locality) (cell : Cell) (value : ℕ) (new : Locality) : Type 0 where
   pub ok : OnOk result (new ≡ with_value old cell value)
   pub inside : OnOk result (has_cell old cell ≡ true)
   pub err : OnErr result (new ≡ old)
   pub cause : IfErr result (λ e. (e ≡ Index) × (has_cell old cell ≡ false))
 
--- The cell that is set has the value, and every other cell the one that it had.
+-- The cell that was set has its new value, and every other cell is unchanged.
 abbrev pub CellsAreSet : Type 0
 CellsAreSet =
     (l : Locality) (cell other : Cell) (value : ℕ) → IsLocality l → has_cell l cell ≡ true → has_cell l other ≡ true
@@ -155,15 +155,15 @@ CellsAreSet =
     × (value_at (with_value l cell value) cell ≡ value)
     × ((other ≡ cell → ⊥) → value_at (with_value l cell value) other ≡ value_at l other)
 
--- In the structure's bytes the initiators' domains stand from 32 on, the targets' after them, and then the entries, row by
--- initiator.
+-- The structure's bytes contain the initiators' domains from offset 32 on, then the targets' domains, and then the entries, row
+-- by initiator.
 pub record CellsStand (l : Locality) : Type 0 where
   pub initiators : (i : ℕ) → field_at (32 + 4 * i) 4 (locality_bytes l) ≡ value_at l (initiator_at i)
   pub targets : (t : ℕ) → field_at (32 + 4 * l.initiators + 4 * t) 4 (locality_bytes l) ≡ value_at l (target_at t)
   pub entries : (i t : ℕ) → field_at (32 + 4 * l.initiators + 4 * l.targets + 2 * (i * l.targets + t)) 2 (locality_bytes l)
       ≡ value_at l (entry_at i t)
 
--- what a cell of a new matrix holds
+-- the value of a cell in a new matrix
 abbrev pub first_value : Cell → ℕ
 first_value (initiator_at i) = 0
 first_value (target_at t) = 0

@@ -9,18 +9,18 @@ use Rattle.acpi_base.specs.Fields.{NamedField, qword, fields_joined}
 use Rattle.acpi_base.specs.Header.{header}
 use Rattle.acpi_base.specs.Table.{table_of, IsTrueTable}
 
--- The distances between this many localities, one byte each: that of a and b at a + localities * b.
+-- The distances between localities, one byte each: that of a and b is at a + localities * b.
 pub record Distances : Type 0 where
   pub oem : Oem
   pub localities : ℕ
   pub cells : List ℕ
 
--- the same, and how many bytes were summed for it
+-- the distances, and how many bytes were summed for the table
 pub record Counted : Type 0 where
   pub table : Distances
   pub summed : ℕ
 
--- what stands between the header and the distances
+-- the fields between the header and the distances
 abbrev pub slit_fields : ℕ → List NamedField
 slit_fields localities =
     qword "Number of System Localities" localities  -- 36
@@ -29,15 +29,15 @@ slit_fields localities =
 abbrev pub localities_bytes : ℕ → List ℕ
 localities_bytes localities = fields_joined (slit_fields localities)
 
--- The table's bytes: it tells their number at 4, and the byte at 9 makes their sum zero.
+-- The table's bytes: their number is at offset 4, and the checksum at offset 9 makes their sum zero.
 abbrev pub slit_bytes : Distances → List ℕ
 slit_bytes t = table_of (codes "SLIT") 1 t.oem (localities_bytes t.localities ++ t.cells)  -- 44: Entries
 
--- all distances 10, which is that of a locality to itself
+-- all distances are 10, which is the distance of a locality to itself
 abbrev pub slit : Oem → ℕ → Distances
 slit oem localities = record { oem = oem; localities = localities; cells = replicate (localities * localities) 10 }
 
--- where the distance of two localities stands among the cells
+-- the index of the distance of two localities among the cells
 abbrev pub place_of : ℕ → ℕ → ℕ → ℕ
 place_of localities a b = a + localities * b
 
@@ -45,7 +45,7 @@ place_of localities a b = a + localities * b
 abbrev pub distance : Distances → ℕ → ℕ → ℕ
 distance t a b = field_at (place_of t.localities a b) 1 t.cells
 
--- both distances of two localities set
+-- both distances of two localities are set
 abbrev pub with_distance : Distances → ℕ → ℕ → ℕ → Distances
 with_distance t a b value = record {
   oem = t.oem;
@@ -53,8 +53,8 @@ with_distance t a b value = record {
   cells = put (place_of t.localities b a) (value ∷ []) (put (place_of t.localities a b) (value ∷ []) t.cells);
 }
 
--- The header's values have their fields' widths, there is a cell for any two localities, two have one distance either way,
--- and the length fits its field.
+-- The header's values have the widths of their fields, there is a cell for any two localities, the distances are symmetric, and
+-- the length fits its field.
 pub record IsMatrix (t : Distances) : Type 0 where
   pub id : length t.oem.id ≡ 6
   pub table_id : length t.oem.table_id ≡ 8
@@ -65,11 +65,12 @@ pub record IsMatrix (t : Distances) : Type 0 where
 abbrev pub has_cell : Distances → ℕ → ℕ → Bool
 has_cell t a b = nat_lt a t.localities && nat_lt b t.localities
 
--- how many bytes are summed for a distance that is set: the old and the new one, either way, or once for a locality's own
+-- how many bytes are summed for a new distance: the old and the new one in each direction, or once for a locality's distance to
+-- itself
 abbrev pub cost_of : ℕ → ℕ → ℕ
 cost_of a b = if a == b then 2 else 4
 
--- A distance was set, or there are no such localities and nothing changed.
+-- The distance was set; or there are no such localities, and nothing changed.
 pub record SetsDistance (result : Result Unit Error) (old : Counted) (a b value : ℕ) (new : Counted) : Type 0 where
   pub ok : OnOk result (new.table ≡ with_distance old.table a b value)
   pub inside : OnOk result (has_cell old.table a b ≡ true)
@@ -79,12 +80,12 @@ pub record SetsDistance (result : Result Unit Error) (old : Counted) (a b value 
 
 -- ---- laws
 
--- A matrix's bytes are a table's, and 44 and its cells.
+-- The bytes of a matrix are a correct table: 44 bytes, and its cells.
 abbrev pub DistancesAreTrue : Type 0
 DistancesAreTrue =
     (t : Distances) → IsMatrix t → IsTrueTable (slit_bytes t) × (length (slit_bytes t) ≡ 44 + t.localities * t.localities)
 
--- The distance that is set holds either way, all others are as they were, and what is symmetric stays so.
+-- The distance is set in both directions, no other changes, and a symmetric matrix stays symmetric.
 abbrev pub DistancesAreSet : Type 0
 DistancesAreSet =
     (t : Distances) (a b value : ℕ) → IsMatrix t → has_cell t a b ≡ true
@@ -100,7 +101,7 @@ DistancesAreSet =
 pub data DistanceCall : Type 0 where
   sets : ℕ → ℕ → ℕ → Result Unit Error → Counted → DistanceCall
 
--- the calls were made one after another, each of the table that the one before left
+-- the calls were made one after another, each on the table that the call before it left
 abbrev pub AreDistanceCalls : Counted → List DistanceCall → Type 0
 AreDistanceCalls t [] = Unit {0}
 AreDistanceCalls t (sets a b value r next ∷ calls) = SetsDistance r t a b value next × AreDistanceCalls next calls
@@ -110,13 +111,14 @@ abbrev pub slit_after : Counted → List DistanceCall → Counted
 slit_after t [] = t
 slit_after t (sets a b value r next ∷ calls) = slit_after next calls
 
--- with the distances that were accepted, one after another
+-- the distances that the successful calls set, in order
 abbrev pub all_set : Distances → List DistanceCall → Distances
 all_set t [] = t
 all_set t (sets a b value (Ok done) next ∷ calls) = all_set (with_distance t a b value) calls
 all_set t (sets a b value (Err e) next ∷ calls) = all_set t calls
 
--- After the calls the table is the first one with the accepted distances, in order, and as many localities.
+-- After the calls the table is the first one with the distances that the successful calls set, in order. The number of localities
+-- is the same.
 pub record IsSlitAfter (start : Counted) (calls : List DistanceCall) : Type 0 where
   pub table : (slit_after start calls).table ≡ all_set start.table calls
   pub localities : (slit_after start calls).table.localities ≡ start.table.localities
@@ -127,7 +129,7 @@ SlitsAreTheirCalls = (start : Counted) (calls : List DistanceCall) → AreDistan
 
 -- ---- in a table's bytes
 
--- In a table's bytes the distances stand from 44 on, and two localities have one either way.
+-- In a table's bytes the distances begin at offset 44, and they are symmetric.
 pub record IsSymmetric (t : Distances) : Type 0 where
   pub cells : (a b : ℕ) → has_cell t a b ≡ true → field_at (44 + place_of t.localities a b) 1 (slit_bytes t) ≡ distance t a b
   pub mirrored : (a b : ℕ) → has_cell t a b ≡ true
@@ -135,11 +137,11 @@ pub record IsSymmetric (t : Distances) : Type 0 where
 
 -- ---- in parts
 
--- whose table it is, as its header tells
+-- the maker of a table, from its header
 abbrev pub oem_of : List ℕ → Oem
 oem_of fixed = record { id = take 6 (drop 10 fixed); table_id = take 8 (drop 16 fixed); revision = field_at 24 4 fixed }
 
--- a table whose parts are these: the header with the number of localities, and the cells
+-- the table with these parts: the header with the number of localities, and the cells
 abbrev pub parts_of : List ℕ → ℕ → List ℕ → Distances
 parts_of fixed localities cells = record { oem = oem_of fixed; localities = localities; cells = cells }
 
@@ -148,8 +150,8 @@ abbrev pub front_of : Distances → List ℕ
 front_of t =
     header (codes "SLIT") (36 + length (localities_bytes t.localities ++ t.cells)) 1 t.oem ++ localities_bytes t.localities
 
--- The parts are a matrix and what stands before its cells, with the checksum of a sum, which is that of all bytes but the
--- checksum.
+-- The parts are those of a matrix: the bytes before its cells, with the checksum, and the cells. The running sum is that of all
+-- bytes except the checksum.
 pub record IsParts (fixed : List ℕ) (localities : ℕ) (cells : List ℕ) (running : ℕ) : Type 0 where
   pub is : IsMatrix (parts_of fixed localities cells)
   pub front : fixed ≡ put 9 ((256 - running) % 256 ∷ []) (front_of (parts_of fixed localities cells))

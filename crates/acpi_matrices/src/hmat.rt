@@ -1,4 +1,4 @@
-//! HMAT: how fast memory is, from where.
+//! HMAT: the latency and bandwidth of memory, by initiator.
 
 ghost use Rattle.std.specs.Prelude.{◌≡◌, true, length};
 ghost use Rattle.acpi_base.specs.Object.{whole, whole_ends_well};
@@ -31,8 +31,8 @@ pub use locality::{
 };
 use std::alloc::Global;
 
-/// The Heterogeneous Memory Attribute Table (ACPI 6.5, 5.2.28): structures that contain their length at offset 4, from offset 40
-/// on.
+/// The Heterogeneous Memory Attribute Table (ACPI 6.5, 5.2.28). Its structures begin at offset 40, and each contains its length
+/// at offset 4. Its revision is 1, in which latencies and bandwidths have other units than in revision 2.
 #[derive(Drop)]
 pub struct HMAT {
     table: Walked<HmatKind, 40>,
@@ -71,21 +71,21 @@ impl HMAT {
         }
     }
 
-    /// Adds which initiator a memory is attached to. FieldWidth where the length would reach 2^32.
+    /// Adds the initiator of a memory's proximity domain. The error is `FieldWidth` if the length would reach 2^32.
     pub fn add_memory_proximity(&mut self, domain: MemoryProximityDomain) -> R<()>
         ensures { Adds result self.old.table (whole (proximity_bytes domain)) self.new.table }
     {
         self.table.add_record(&domain)
     }
 
-    /// Adds a matrix of latencies or bandwidths. FieldWidth where the length would reach 2^32.
+    /// Adds a matrix of latencies or bandwidths. The error is `FieldWidth` if the length would reach 2^32.
     pub fn add_system_locality(&mut self, locality: SystemLocality) -> R<()>
         ensures { Adds result self.old.table (whole (locality_bytes locality)) self.new.table }
     {
         self.table.add_object(&locality)
     }
 
-    /// Adds a cache in front of a memory. FieldWidth where the length would reach 2^32.
+    /// Adds a memory side cache. The error is `FieldWidth` if the length would reach 2^32.
     pub fn add_memory_side_cache(&mut self, cache: MemorySideCache) -> R<()>
         ensures { Adds result self.old.table (whole (cache_bytes cache)) self.new.table }
     {
@@ -107,7 +107,7 @@ impl HMAT {
     }
 }
 
-/// A law: after any calls the table is a true one, and its structures, in order, are the one list that walks it.
+/// A law: after any calls the table is correct. Its structures, in order, are the one list that the walk finds.
 pub fn hmat_is_walked(table: &HMAT)
     ensures keeps { Keeps hmat_walk length_limit true table.now.table.table }
     ensures walked { IsWalked hmat_walk table.now.table.table }
@@ -116,19 +116,19 @@ pub fn hmat_is_walked(table: &HMAT)
     is_walked(&table.table)
 }
 
-/// A law: the cell of a system locality that a call sets has the value that it was set to, and every other cell the one that
-/// it had. The initiators' and targets' domains are cells too.
+/// A law: setting a cell of a system locality gives it the new value and changes no other cell. Cells are the entries and the
+/// domains of initiators and targets.
 pub fn cells_are_set()
     ensures { CellsAreSet }
 {}
 
-/// A law: in a new system locality each domain is 0 and each entry 0xffff.
+/// A law: in a new system locality each domain is 0 and each entry is 0xffff.
 pub fn new_cells_are_unreachable()
     ensures { NewCellsAreUnreachable }
 {}
 
-/// To which initiator's domain a memory's is attached (Memory Proximity Domain Attributes Structure, ACPI 6.5, 5.2.28.3): 40
-/// bytes. The initiator's domain is marked valid (flag 1).
+/// The initiator's domain that is attached to a memory's domain (Memory Proximity Domain Attributes Structure, ACPI 6.5,
+/// 5.2.28.3): 40 bytes. Flag 1 says that the initiator's domain is valid.
 #[derive(Clone, Copy, Debug)]
 pub struct MemoryProximityDomain {
     initiator: u32,
@@ -136,7 +136,7 @@ pub struct MemoryProximityDomain {
 }
 
 impl MemoryProximityDomain {
-    /// The proximity domains of the attached initiator and of the memory.
+    /// The proximity domains of the initiator and of the memory.
     pub fn new(
         proximity_domain_initiator: u32,
         proximity_domain_memory: u32,

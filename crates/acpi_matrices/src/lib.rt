@@ -1,10 +1,10 @@
-//! Tables that hold matrices.
+//! Tables that contain matrices.
 #![tactic(auto)]
 
 pub mod hmat;
 pub mod slit;
 
-/// Laws of the tables. Each function is a law: it does nothing, and ensures it.
+/// Laws about the tables. Each function is a law: it does nothing, and its `ensures` states the law.
 pub mod laws {
     pub use crate::hmat::{cells_are_set, cells_stand, hmat_is_walked, new_cells_are_unreachable};
     pub use crate::slit::{

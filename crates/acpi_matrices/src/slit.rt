@@ -1,4 +1,4 @@
-//! SLIT: how far localities are from each other.
+//! SLIT: the distances between localities.
 
 ghost use Rattle.std.specs.Prelude.{◌≡◌, ◌≢◌, ℕ, ◌+◌, ◌*◌, ◌%◌, ◌≤◌, ◌<◌, [], ◌∷◌, length, replicate, sum};
 ghost use Rattle.std.specs.Prelude.{IfOk, OnOk, IfErr};
@@ -26,9 +26,9 @@ use std::marker::Model;
 /// The distance of a locality that can't be reached (ACPI 6.5, 5.2.17).
 pub const UNREACHABLE_LOCALITY: u8 = 255;
 
-/// The System Locality Information Table (ACPI 6.5, 5.2.17): the number of localities at offset 36, and from offset 44 on the
-/// distances, one byte each: that of `a` and `b` at 44 + a + localities * b. It is the same either way. The checksum is true
-/// after every call.
+/// The System Locality Information Table (ACPI 6.5, 5.2.17). The number of localities is at offset 36. The distances begin at
+/// offset 44 and have one byte each: that of `a` and `b` is at 44 + a + localities * b. The distance of `b` and `a` is the same.
+/// The checksum is right after every call.
 #[derive(Drop)]
 pub struct SLIT {
     fixed: [u8; 44],
@@ -57,7 +57,7 @@ impl Aml for SLIT {
     }
 }
 
-// Where the distance of two localities stands among the cells.
+// The index of the distance of two localities among the cells.
 fn place(localities: usize, a: usize, b: usize) -> usize
     requires { (a < localities) × ((b < localities) × (localities < 65536)) }
     ensures place { result ≡ place_of localities a b }
@@ -66,7 +66,7 @@ fn place(localities: usize, a: usize, b: usize) -> usize
     a + localities * b
 }
 
-// Sets both distances of two localities, and keeps a sum of all bytes true.
+// Sets both distances of two localities, and updates a sum of all bytes.
 fn set_cells(cells: &mut [u8], running: &mut Sum, localities: usize, a: usize, b: usize, value: u8)
     requires inside { (a < localities) × ((b < localities) × (localities < 65536)) }
     requires square { length cells.old ≡ localities * localities }
@@ -82,7 +82,7 @@ fn set_cells(cells: &mut [u8], running: &mut Sum, localities: usize, a: usize, b
     }
 }
 
-// So many cells of distance 10.
+// A list of cells with distance 10.
 fn new_cells(alloc: Global, size: usize) -> R<Vec<u8>>
     ensures cells { IfOk result (λ v. v.items ≡ replicate size 10) }
     ensures err { IfErr result (λ e. e ≡ Error.Memory) }
@@ -93,7 +93,7 @@ fn new_cells(alloc: Global, size: usize) -> R<Vec<u8>>
 }
 
 impl SLIT {
-    /// A table of this many localities, whose distances are all 10. Matrix past 65,535 localities.
+    /// A table with this many localities, whose distances are all 10. The error is `Matrix` past 65,535 localities.
     pub fn new(
         alloc: Global,
         oem_id: [u8; 6],
@@ -128,8 +128,8 @@ impl SLIT {
         })
     }
 
-    /// Sets the distance of two localities, either way. Index where there is no such locality, and nothing changes then. It
-    /// takes no memory.
+    /// Sets the distance of two localities in both directions. The error is `Index` if there is no such locality; nothing changes
+    /// then. The call takes no memory.
     pub fn set_distance(&mut self, domain_a: usize, domain_b: usize, locality_value: u8) -> R<()>
         ensures { SetsDistance result self.old domain_a domain_b locality_value self.new }
     {
@@ -177,7 +177,7 @@ pub fn slit_rows() -> &'static [Row]
     &SLIT_FIXED[1..]
 }
 
-/// A law: after any calls the table's bytes are a true table's, which has no structures.
+/// A law: after any calls the table's bytes are a correct table. It has no structures.
 pub fn slit_is_true(table: &SLIT)
     ensures is_true { IsTrueTable (slit_bytes table.now.table) }
     ensures pieces { ArePiecesOf (slit_bytes table.now.table) [] }
@@ -185,7 +185,7 @@ pub fn slit_is_true(table: &SLIT)
     let _ = &table.cells;
 }
 
-/// A law: after any calls the distances stand in the table's bytes from 44 on, and two localities have one either way.
+/// A law: after any calls the distances are in the table's bytes from offset 44 on, and they are symmetric.
 pub fn slit_is_symmetric(table: &SLIT)
     ensures symmetric { IsSymmetric table.now.table }
     ensures matrix { IsMatrix table.now.table }
@@ -193,17 +193,17 @@ pub fn slit_is_symmetric(table: &SLIT)
     let _ = &table.cells;
 }
 
-/// A law: after any list of calls, accepted or refused, a SLIT is the first one with the accepted distances.
+/// A law: after any list of calls, successful or not, a SLIT is the first one with the distances that the successful calls set.
 pub fn slits_are_their_calls()
     ensures { SlitsAreTheirCalls }
 {}
 
-/// A law: the bytes of a symmetric matrix of at most 65,535 localities are a true table's: 44, and one for each distance.
+/// A law: the bytes of a symmetric matrix of at most 65,535 localities are a correct table: 44 bytes, and one for each distance.
 pub fn distances_are_true()
     ensures { DistancesAreTrue }
 {}
 
-/// A law: the distance that a call sets holds either way, all others are as they were, and a symmetric matrix stays one.
+/// A law: a call sets a distance in both directions and changes no other, and a symmetric matrix stays symmetric.
 pub fn distances_are_set()
     ensures { DistancesAreSet }
 {}

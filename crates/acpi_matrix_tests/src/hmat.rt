@@ -169,7 +169,7 @@ fn without_initiators_or_targets(rt: HostRuntime) -> Result<(), Fail> {
     )
 }
 
-// The first sizes past 2^32 - 1 bytes, and some that no machine word holds.
+// The first sizes past 2^32 - 1 bytes, and some that don't fit a machine word.
 #[test]
 fn too_large(rt: HostRuntime) -> Result<(), Fail> {
     let alloc = rt.alloc();
@@ -434,7 +434,7 @@ fn many_structures(rt: HostRuntime) -> Result<(), Fail> {
     many(alloc, &hmat, b"HMAT", 1, &[0; 4], one, 256)
 }
 
-// Tables of no structure, of one and of 256, read back into what was added.
+// Tables of no structure, of one and of 256, read back into the structures that were added.
 #[test]
 fn read_back(rt: HostRuntime) -> Result<(), Fail> {
     let alloc = rt.alloc();

@@ -1,4 +1,4 @@
-//! A matrix of more than 255 rows and columns, in a table that passes 65,535 bytes.
+//! A matrix with more than 255 rows and columns, in a table of more than 65,535 bytes.
 
 use acpi_tables::hmat::{
     DataType, HMAT, LocalityType, MemoryProximityDomain, MinTransferSize, SystemLocality,
@@ -9,7 +9,7 @@ use acpi_vectors::{OEM, OEM_REVISION, OEM_TABLE, refuses};
 use std::alloc::Global;
 use std::test::Fail;
 
-// What stands behind the header, with no cell set.
+// The bytes after the header, before a cell is set.
 fn structures(alloc: Global) -> R<Vec<u8>> {
     let mut bytes = Vec::new(alloc);
     bytes.extend_from_slice(

@@ -1,4 +1,4 @@
-//! Tests of tables of matrices: bytes from outside, worked out by hand from the layouts and not by this code.
+//! Tests of tables of matrices, against bytes that were worked out by hand from the layouts.
 #![tactic(auto)]
 
 #[cfg(test)]

@@ -53,7 +53,7 @@ fn two_localities(rt: HostRuntime) -> Result<(), Fail> {
     writes(alloc, &slit, changed)
 }
 
-// The numbers of bytes and of localities, and past 255 of them.
+// The numbers of bytes and of localities, also past 255.
 #[test]
 fn sizes(rt: HostRuntime) -> Result<(), Fail> {
     let alloc = rt.alloc();
@@ -65,7 +65,7 @@ fn sizes(rt: HostRuntime) -> Result<(), Fail> {
     Ok(())
 }
 
-// Each distance stands at both places, and the last that was set holds.
+// Each distance is at both places, and the last that was set is there.
 #[test]
 fn three_localities(rt: HostRuntime) -> Result<(), Fail> {
     let alloc = rt.alloc();

@@ -27,7 +27,7 @@ fn field(path: Path, alloc: Global) -> R<Field> {
 
 pub const NAMED: u8 = 6;
 
-/// What a name has, but children.
+/// Objects with a name and without children.
 pub fn named(alloc: Global, child: &u32, which: u8) -> R<Vec<u8>> {
     let path = path(alloc)?;
     match which {
@@ -45,7 +45,7 @@ pub fn named(alloc: Global, child: &u32, which: u8) -> R<Vec<u8>> {
 
 pub const FRAMED: u8 = 9;
 
-/// What has children.
+/// Objects with children.
 pub fn framed(alloc: Global, child: &u32, which: u8) -> R<Vec<u8>> {
     let path = path(alloc)?;
     let children = vec![in alloc; child as &dyn Aml, &ONE]?;

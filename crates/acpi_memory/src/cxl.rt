@@ -9,7 +9,7 @@ use acpi_tables::cedt::{
 use acpi_vectors::{OEM, OEM_REVISION, OEM_TABLE};
 use std::alloc::Global;
 
-/// A window of two ways. It can't be written before it has both targets, so it is made whole by one call.
+/// A window of two ways. It can't be written before it has both targets, so one call makes it complete.
 pub fn window(alloc: Global) -> R<CxlFixedMemory> {
     let mut window = CxlFixedMemory::new(
         alloc,

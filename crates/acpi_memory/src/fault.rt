@@ -1,18 +1,18 @@
-//! Why a run ended otherwise.
+//! Why a run fails.
 
 use acpi_tables::Error;
 use acpi_tables::read::ReadError;
 use std::alloc::{AllocError, AllocFailed};
 use std::io;
 
-/// Why a run ended otherwise.
+/// Why a run fails.
 #[derive(Debug, Drop)]
 pub enum Fault {
-    /// Memory was refused once more.
+    /// Memory was refused a second time.
     Memory,
-    /// What a refused call borrowed, or was to change, writes other bytes than before.
+    /// A failed call changed the bytes of an argument, or of the object that it was to change.
     Changed,
-    /// A call was refused for another cause.
+    /// A call returned another error.
     Built(Error),
     Read(ReadError),
     /// The output can't be written.

@@ -33,7 +33,7 @@ impl Grows for MCFG {
     }
 }
 
-// It takes one IMSIC, and refuses more.
+// It takes one IMSIC, and returns an error for a second.
 impl Grows for MADT {
     const WAYS: u8 = 2;
 

@@ -1,5 +1,5 @@
-//! Makes every call that can grow, and makes it once more where it was refused memory. Then it prints how many bytes the calls
-//! made, and the sum of these bytes. The line is the same whichever growth is refused, if only one is.
+//! Makes every call that can grow a vector, and makes it again if it was refused memory. Then it prints how many bytes the calls
+//! made, and the sum of these bytes. The line is the same for each growth that is refused, if only one is.
 //!
 //! These bytes are counted, in this order:
 //!
@@ -11,9 +11,9 @@
 //! - the reports of three lists of terms, an XSDT's report of its header, its whole report, and its two entries (`reading`).
 //!
 //! Both numbers follow from the layouts in `docs/FORMATS.md` and `docs/AML.md`, and from the values in these modules. For
-//! example, an XSDT of five entries 0x1234 has 36 + 5 * 8 = 76 bytes. Without the checksum their sum is 2524 for the header and
-//! 5 * (0x34 + 0x12) = 350 for the entries, and the checksum raises 2874 to the next multiple of 256, so it counts 3072. Where
-//! a call is added here, the bytes that it makes are worked out in this way and added to both numbers of `stdout`.
+//! example, an XSDT of five entries 0x1234 has 36 + 5 * 8 = 76 bytes. Without the checksum their sum is 2524 for the header and 5
+//! * (0x34 + 0x12) = 350 for the entries. The checksum raises 2874 to the next multiple of 256, which is 3072. When a call is
+//! added here, the bytes that it makes are computed in this way and added to both numbers of `stdout`.
 #![tactic(auto)]
 
 mod aml;

@@ -1,5 +1,4 @@
-//! Tables of nodes that name each other. A handle tells where its node begins in a table, so one of another table of the same
-//! kind serves as well.
+//! Tables of nodes that refer to each other. A handle is an offset, so one of another table of the same kind can be used as well.
 
 use crate::trial::Grows;
 use acpi_tables::R;

@@ -23,7 +23,7 @@ fn arities(alloc: Global) -> Result<Arities, Fault> {
     Ok(Arities::new(vec![in alloc; (name, 2u8)]?)?)
 }
 
-// The terms of an object that is lent, and those of bytes.
+// The terms of a borrowed object, and those of bytes.
 fn terms_in(object: &dyn Aml, arities: &Arities) -> Result<Vec<Term>, Fault> {
     Ok(terms_of(object, arities)??)
 }

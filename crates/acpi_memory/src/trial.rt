@@ -1,4 +1,4 @@
-//! Calls that are made again where memory was refused.
+//! Calls that are made again when they were refused memory.
 
 ghost use Rattle.std.specs.Prelude.{◌≡◌, OnOk};
 
@@ -7,13 +7,13 @@ use acpi_tables::aml::ZERO;
 use acpi_tables::{Aml, Error, R};
 use std::alloc::Global;
 
-// The bytes for which room is kept. No object here writes more, so keeping what it writes takes no memory.
+// The room that is reserved for bytes. No object here writes more, so writing one takes no memory.
 const ROOM: usize = 0x1000;
 
 // The number of calls by which an object grows in one way. They move its bytes more than once.
 const TURNS: u8 = 5;
 
-/// An object that grows in some ways.
+/// An object that grows, in one or more ways.
 pub trait Grows: Sized {
     const WAYS: u8;
 
@@ -48,7 +48,7 @@ pub struct Trial {
     after: Vec<u8>,
 }
 
-// Asks for room, and once more where it is refused.
+// Asks for room, and asks again if it was refused.
 fn room(alloc: Global) -> R<Vec<u8>> {
     match Vec::with_capacity(alloc, ROOM) {
         Ok(room) => Ok(room),
@@ -56,7 +56,7 @@ fn room(alloc: Global) -> R<Vec<u8>> {
     }
 }
 
-// Refuses bytes that changed.
+// Fails if bytes changed.
 fn compare(before: &[u8], after: &[u8]) -> Result<(), Fault>
     ensures { OnOk result (before.now ≡ after.now) }
 {
@@ -81,8 +81,8 @@ impl Trial {
         self.tally.count(bytes);
     }
 
-    /// Makes a call that borrows an object. Where it is refused memory, the object has to write the same bytes as before, and
-    /// the call is made once more. The call makes its other arguments itself.
+    /// Makes a call that borrows an object. If it is refused memory, the object has to write the same bytes as before, and the
+    /// call is made again. The call makes its other arguments itself.
     pub fn make<T: Drop, F: Fn() -> Result<T, Fault>>(
         &mut self,
         lent: &dyn Aml,
@@ -102,8 +102,8 @@ impl Trial {
         call()
     }
 
-    /// Makes a call that changes an object, which `write` writes. Where it is refused memory, the object has to write the same
-    /// bytes as before, and the call is made once more.
+    /// Makes a call that changes an object, which `write` writes. If it is refused memory, the object has to write the same bytes
+    /// as before, and the call is made again.
     pub fn change<T, W: Fn(&T, &mut Vec<u8>) -> R<()>, F: Fn(&mut T) -> R<()>>(
         &mut self,
         object: &mut T,

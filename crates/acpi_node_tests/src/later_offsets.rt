@@ -9,7 +9,7 @@ use acpi_vectors::{OEM, OEM_REVISION, OEM_TABLE};
 use std::alloc::Global;
 use std::test::Fail;
 
-// This many equal nodes, and these behind them.
+// This many equal nodes, and these nodes after them.
 fn nodes(alloc: Global, node: &[u8], count: u32, last: &[u8]) -> R<Vec<u8>> {
     let mut bytes = Vec::new(alloc);
     for _ in 0..count {
@@ -19,7 +19,7 @@ fn nodes(alloc: Global, node: &[u8], count: u32, last: &[u8]) -> R<Vec<u8>> {
     Ok(bytes)
 }
 
-// The last of 7,001 caches stands at 36 + 28 * 7,000, which is 0x2fdc4. The nodes behind it stand at 0x2fde0, 0x2fdfc, 0x2fe14.
+// The last of 7,001 caches is at 36 + 28 * 7,000, which is 0x2fdc4. The nodes after it are at 0x2fde0, 0x2fdfc and 0x2fe14.
 #[test]
 fn pptt(rt: HostRuntime) -> Result<(), Fail> {
     let alloc = rt.alloc();
@@ -46,7 +46,7 @@ fn pptt(rt: HostRuntime) -> Result<(), Fail> {
     many(alloc, &table, b"PPTT", 3, &[], &wanted, 1)
 }
 
-// 66,047 nodes end at 56 + 8 * 66,047, which is 0x81030. The nodes behind the string there stand at 0x8103c, 0x81046 and 0x81050.
+// 66,047 nodes end at 56 + 8 * 66,047, which is 0x81030. The nodes after the string there are at 0x8103c, 0x81046 and 0x81050.
 #[test]
 fn rhct(rt: HostRuntime) -> Result<(), Fail> {
     let alloc = rt.alloc();
@@ -71,7 +71,8 @@ fn rhct(rt: HostRuntime) -> Result<(), Fail> {
     many(alloc, &table, b"RHCT", 1, fixed, &wanted, 1)
 }
 
-// 66,048 root complexes end at 48 + 16 * 66,048, which is 0x102030. Devices behind the IOMMU there stand at 0x102050, 0x102070.
+// 66,048 root complexes end at 48 + 16 * 66,048, which is 0x102030. The devices after the IOMMU there are at 0x102050 and
+// 0x102070.
 #[test]
 fn rimt(rt: HostRuntime) -> Result<(), Fail> {
     let alloc = rt.alloc();

@@ -1,5 +1,4 @@
-//! Tests of tables of nodes, which name each other by offsets: bytes from outside, worked out by hand from the layouts and not by
-//! this code.
+//! Tests of tables of nodes, which refer to each other by offset, against bytes that were worked out by hand from the layouts.
 #![tactic(auto)]
 
 #[cfg(test)]

@@ -36,7 +36,7 @@ fn pptt(rt: HostRuntime) -> Result<(), Fail> {
     )
 }
 
-// The offsets of handles, which are copied, and the number of a processor's caches.
+// The offsets of handles and of their copies, and the number of a processor's caches.
 #[test]
 fn offsets(rt: HostRuntime) -> Result<(), Fail> {
     let alloc = rt.alloc();
@@ -52,7 +52,7 @@ fn offsets(rt: HostRuntime) -> Result<(), Fail> {
     equal(&processor.offset(), &64)
 }
 
-// A package with a shared cache, and a core below it with one of its own.
+// A package with a shared cache, and a core below it with a private one.
 #[test]
 fn handles(rt: HostRuntime) -> Result<(), Fail> {
     let alloc = rt.alloc();
@@ -218,7 +218,7 @@ fn caches(rt: HostRuntime) -> Result<(), Fail> {
     Ok(())
 }
 
-// Attributes stand at 21; each call joins its own to those that there are.
+// The attributes are at offset 21; each call joins its own to those that are set.
 #[test]
 fn attributes(rt: HostRuntime) -> Result<(), Fail> {
     let alloc = rt.alloc();

@@ -13,7 +13,7 @@ fn table(alloc: Global) -> RHCT {
     RHCT::new(alloc, OEM, OEM_TABLE, OEM_REVISION, 0x0807_0605_0403_0201)
 }
 
-// The table is the fixed fields with this number of nodes, and these nodes this many times.
+// Fails unless the table is the fixed fields with this number of nodes, and these nodes this many times.
 fn holds(
     alloc: Global,
     table: &RHCT,
@@ -51,7 +51,7 @@ fn rhct(rt: HostRuntime) -> Result<(), Fail> {
     )
 }
 
-// A text made at run time, and the offsets of handles, which are copied.
+// A text made at run time, and the offsets of handles and of their copies.
 #[test]
 fn made_text(rt: HostRuntime) -> Result<(), Fail> {
     let alloc = rt.alloc();
@@ -71,7 +71,7 @@ fn made_text(rt: HostRuntime) -> Result<(), Fail> {
     equal(&hart.offset_count(), &3)
 }
 
-// Two harts, each with a string and blocks of its own.
+// Two harts, each with its own string and block sizes.
 #[test]
 fn handles(rt: HostRuntime) -> Result<(), Fail> {
     let alloc = rt.alloc();
@@ -119,7 +119,7 @@ fn isa_strings(rt: HostRuntime) -> Result<(), Fail> {
 
 const LETTERS: [u8; 65_526] = [b'a'; 65_526];
 
-// With 65,526 bytes the length would be 65,536.
+// With a text of 65,526 bytes the length would be 65,536.
 #[test]
 fn longest_isa_string(rt: HostRuntime) -> Result<(), Fail> {
     let alloc = rt.alloc();

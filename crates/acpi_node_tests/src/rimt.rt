@@ -62,7 +62,7 @@ fn mappings(alloc: Global, iommu: IommuOffset, count: u16) -> R<Vec<IdMapping>> 
     Ok(mappings)
 }
 
-// The bytes of these, behind a head.
+// A head, and the bytes of this many equal entries after it.
 fn behind(alloc: Global, head: &[u8], entry: &[u8], count: u16) -> R<Vec<u8>> {
     let mut bytes = Vec::new(alloc);
     bytes.extend_from_slice(head)?;
@@ -82,7 +82,7 @@ fn text(alloc: Global, count: u32) -> Result<String, Fail> {
 
 const WIRE: &[u8] = b"\x01\x02\x03\x04\x02\0\x05\x06";
 
-// A mapping onto the first IOMMU of a table.
+// A mapping to the first IOMMU of a table.
 const MAPPING: &[u8] = b"\x01\x02\x03\x04\x05\x06\x07\x08\x09\x0a\x0b\x0c\x30\0\0\0\x02\0\0\0";
 
 // The offset of the first device of a table.
@@ -327,7 +327,7 @@ fn devices_past_a_byte(rt: HostRuntime) -> Result<(), Fail> {
     many(alloc, &table, b"RIMT", 1, fixed, &PLAIN_IOMMU, 256)
 }
 
-// An object is refused by FieldWidth before it has given anything.
+// Fails unless writing an object returns `FieldWidth` before it writes anything.
 fn refused(alloc: Global, aml: &dyn Aml) -> Result<(), Fail> {
     let mut bytes = Vec::new(alloc);
     refuses(aml.to_aml_bytes(&mut bytes), Error::FieldWidth)?;

@@ -21,7 +21,7 @@ fn range(handle: &TranslationHandle) -> PciRange {
     PciRange::new(first, PciDevice::new(0x0807, 0xff, 31, 7), handle)
 }
 
-// The offsets of handles, which are copied.
+// The offsets of handles and of their copies.
 #[test]
 fn offsets(rt: HostRuntime) -> Result<(), Fail> {
     let mut table = table(rt.alloc());
@@ -174,7 +174,7 @@ fn a_full_table(rt: HostRuntime) -> Result<(), Fail> {
     many(alloc, &table, b"VIOT", 1, fixed, &MMIO_IOMMU, 4092)
 }
 
-// The table has 65,512 bytes: a node of 24 more would make it 65,536, and one of 16 makes it 65,528.
+// The table has 65,512 bytes. A node of 24 bytes would make it 65,536, and one of 16 makes it 65,528.
 #[test]
 fn the_last_offset(rt: HostRuntime) -> Result<(), Fail> {
     let alloc = rt.alloc();

@@ -1,15 +1,15 @@
--- Hart Info nodes (RISC-V profile).
+-- Hart Info nodes (this project's profile).
 use Rattle.std.specs.Prelude.{ℕ, ◌+◌, List, [], ◌∷◌, ◌++◌, length}
 use Rattle.acpi_base.specs.Bytes.{le}
 use Rattle.acpi_base.specs.Fields.{NamedField, word, dword, fields_joined}
 use Rattle.acpi_core.specs.Entries.{no_entries, with_entry}
 use Rattle.acpi_nodes.specs.declared.rhct.HartInfoNode.{HartInfoNode}
 
--- a hart with the offset of its ISA string; offsets have four bytes each
+-- a hart with the offset of its ISA string, in four bytes
 abbrev pub hart_info : ℕ → ℕ → HartInfoNode
 hart_info uid isa_string = record { uid = uid; offsets = with_entry no_entries (le 4 isa_string) }
 
--- with one offset more, at the end
+-- the hart with one more offset at the end
 abbrev pub with_offset : HartInfoNode → ℕ → HartInfoNode
 with_offset h offset = record { uid = h.uid; offsets = with_entry h.offsets (le 4 offset) }
 

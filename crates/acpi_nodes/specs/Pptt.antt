@@ -33,7 +33,7 @@ pptt oem = record {
 
 -- ---- Processor hierarchy node structure (5.2.30.1)
 
--- a node below the one at the offset `parent`; a root has 0 there
+-- a node below the one at the offset `parent`, which is 0 for a root
 abbrev pub processor : ℕ → ℕ → ProcessorNode
 processor parent id = record { flags = 0; parent = parent; acpi_processor_id = id; resources = no_resources }
 
@@ -73,7 +73,7 @@ abbrev pub policy_number : WritePolicy → ℕ
 policy_number Writeback = 0
 policy_number Writethrough = 16
 
--- the node of what a builder was given
+-- the node that a builder makes
 abbrev pub cache_of : CacheNodeBuilder → CacheNode
 cache_of b = record {
   flags = b.flags;
@@ -104,17 +104,17 @@ cache_fields c =
 abbrev pub cache_bytes : CacheNode → List ℕ
 cache_bytes c = fields_joined (cache_fields c)
 
--- Each node begins with its type, whatever its fields hold.
+-- Each node begins with its type, for all values of its fields.
 pub record NodesTellKinds : Type 0 where
   pub processors : (p : ProcessorNode) → StandIn (processor_bytes p) 0 (0 ∷ [])
   pub caches : (c : CacheNode) → StandIn (cache_bytes c) 0 (1 ∷ [])
 
--- At the offset that an adder returned, the node stands in the bytes of a table after any later calls, and its type with it.
+-- At the offset that an adder returned, the bytes of a table have the node, and so its type. This holds after any later calls.
 pub record NodesStand (t : Listing) : Type 0 where
   pub processors : (p : ProcessorNode) → NodeStands t (whole (processor_bytes p)) (0 ∷ [])
   pub caches : (c : CacheNode) → NodeStands t (whole (cache_bytes c)) (1 ∷ [])
 
--- Each reference to another node is read back from the node's bytes.
+-- The bytes of a node contain each of its references to other nodes.
 pub record ReferencesAreRead : Type 0 where
   pub parents : (p : ProcessorNode) → p.parent < 2 ^ 32 → field_at 8 4 (processor_bytes p) ≡ p.parent
   pub next_levels : (c : CacheNode) → c.next_level < 2 ^ 32 → field_at 8 4 (cache_bytes c) ≡ c.next_level

@@ -1,4 +1,4 @@
--- The RISC-V Hart Capabilities Table (RISC-V profile).
+-- The RISC-V Hart Capabilities Table (this project's profile).
 use Rattle.std.specs.Prelude.{◌≡◌, ◌≢◌, ℕ, ◌+◌, ◌%◌, ◌^◌, ◌<◌, nat_lt, Bool, List, [], ◌∷◌, ◌++◌, length, codes, Some}
 use Rattle.acpi_base.specs.declared.error.Error.TheVariants.{Memory, FieldWidth}
 use Rattle.acpi_base.specs.Bytes.{le, field_at}
@@ -38,15 +38,15 @@ rhct oem timebase_frequency = record {
 
 -- ---- ISA String Node
 
--- a text's NUL, and one byte more where the text's length and the NUL's are odd
+-- a text's NUL, and one more byte if the length with the NUL is odd
 abbrev pub isa_string_end : ℕ → ℕ
 isa_string_end n = 1 + (n + 1) % 2
 
--- a text of at most 65,525 bytes, so that the node's length has two bytes
+-- a text has at most 65,525 bytes, because the node's length has two bytes
 abbrev pub is_isa_string : List ℕ → Bool
 is_isa_string text = nat_lt (length text) 65526
 
--- of a text of this many bytes
+-- for a text of this many bytes
 abbrev pub isa_string_head_fields : ℕ → List NamedField
 isa_string_head_fields n =
     word "Type" 0  -- 0
@@ -69,7 +69,7 @@ isa_string_ends_well text = provided_ends_well (is_isa_string text) FieldWidth (
 
 -- ---- CMO Node
 
--- blocks of two to the power of each number
+-- blocks of 2^n bytes, for each of these exponents
 abbrev pub cmo : ℕ → ℕ → ℕ → CmoNode
 cmo cbom cbop cboz = record { cbom = cbom; cbop = cbop; cboz = cboz }
 
@@ -109,19 +109,19 @@ mmu_fields m =
 abbrev pub mmu_bytes : MmuNode → List ℕ
 mmu_bytes m = fields_joined (mmu_fields m)
 
--- Each node begins with its type, of two bytes, whatever its fields hold.
+-- Each node begins with its type, in two bytes, for all values of its fields.
 pub record NodesTellKinds : Type 0 where
   pub isa_strings : (text : List ℕ) → StandIn (isa_string_bytes text) 0 (0 ∷ 0 ∷ [])
   pub cmos : (c : CmoNode) → StandIn (cmo_bytes c) 0 (1 ∷ 0 ∷ [])
   pub mmus : (m : MmuNode) → StandIn (mmu_bytes m) 0 (2 ∷ 0 ∷ [])
   pub harts : (h : HartInfoNode) → StandIn (hart_info_bytes h) 0 (255 ∷ 255 ∷ [])
 
--- At the offset that an adder returned, the node stands in the bytes of a table after any later calls, and its type with it.
+-- At the offset that an adder returned, the bytes of a table have the node, and so its type. This holds after any later calls.
 pub record NodesStand (t : Listing) : Type 0 where
   pub isa_strings : (text : List ℕ) → NodeStands t (isa_string_object text) (0 ∷ 0 ∷ [])
   pub cmos : (c : CmoNode) → NodeStands t (whole (cmo_bytes c)) (1 ∷ 0 ∷ [])
 
--- Each reference to another node is read back from the node's bytes.
+-- The bytes of a node contain each of its references to other nodes.
 pub record ReferencesAreRead : Type 0 where
   pub isa_strings : (uid offset : ℕ) → offset < 2 ^ 32 → field_at 12 4 (hart_info_bytes (hart_info uid offset)) ≡ offset
   pub others : (h : HartInfoNode) (offset : ℕ) → offset < 2 ^ 32

@@ -18,7 +18,7 @@ use Rattle.acpi_nodes.specs.declared.rimt.PcieRootComplex.{PcieRootComplex}
 use Rattle.acpi_nodes.specs.declared.rimt.Platform.{Platform}
 use Rattle.acpi_nodes.specs.Entries.{entries_of, records_joined}
 
--- a table without devices: 36: number of devices, of four bytes
+-- A table without devices. At offset 36: the number of devices, of four bytes.
 abbrev pub rimt : Oem → Listing
 rimt oem = record {
   signature = codes "RIMT";
@@ -31,7 +31,7 @@ rimt oem = record {
   structures = [];
 }
 
--- a bit of a field of flags
+-- a bit of a field of flags, or 0
 abbrev pub bit : Bool → ℕ → ℕ
 bit set value = if set then value else 0
 
@@ -60,7 +60,7 @@ wire_bytes w = fields_joined (wire_fields w)
 abbrev pub iommu : ℕ → Option ℕ → Option PciDevice → Option ℕ → Option (Vec InterruptWire Global) → Iommu
 iommu id base device domain wires = record { id = id; base = base; device = device; domain = domain; wires = wires }
 
--- an address of zeros where none is given
+-- an address of zeros if none is given
 abbrev pub segment_of : Option PciDevice → ℕ
 segment_of None = 0
 segment_of (Some device) = device.segment
@@ -139,12 +139,12 @@ root_complex_head c = fields_joined (root_complex_head_fields c)
 abbrev pub root_complex_bytes : PcieRootComplex → List ℕ
 root_complex_bytes c = root_complex_head c ++ records_joined mapping_fields (entries_of c.mappings)  -- 16: mappings
 
--- ---- devices of the platform
+-- ---- platform devices
 
 abbrev pub platform : ℕ → String Global → Option (Vec IdMapping Global) → Platform
 platform id name mappings = record { id = id; name = name; mappings = mappings }
 
--- where the mappings begin: after the name and its zero
+-- the offset of the mappings: after the name and its zero
 abbrev pub mappings_at : Platform → ℕ
 mappings_at p = 13 + length (string_bytes p.name)
 
@@ -166,16 +166,17 @@ platform_head p = fields_joined (platform_head_fields p)
 abbrev pub platform_bytes : Platform → List ℕ
 platform_bytes p = platform_head p ++ (string_bytes p.name ++ (0 ∷ records_joined mapping_fields (entries_of p.mappings)))
 
--- Each device begins with its type, whatever its fields hold.
+-- Each device begins with its type, for all values of its fields.
 pub record DevicesTellKinds : Type 0 where
   pub iommus : (i : Iommu) → StandIn (iommu_bytes i) 0 (0 ∷ [])
   pub root_complexes : (c : PcieRootComplex) → StandIn (root_complex_bytes c) 0 (1 ∷ [])
   pub platforms : (p : Platform) → StandIn (platform_bytes p) 0 (2 ∷ [])
 
--- At the offset that `add_iommu` returned, the device stands in the bytes of a table after any later calls, and its type with it.
+-- At the offset that `add_iommu` returned, the bytes of a table have the device, and so its type. This holds after any later
+-- calls.
 pub record DevicesStand (t : Listing) : Type 0 where
   pub iommus : (i : Iommu) → NodeStands t (structure_of (iommu_bytes i)) (0 ∷ [])
 
--- Each reference to another node is read back from the node's bytes.
+-- The bytes of a device contain each of its references to an IOMMU.
 pub record ReferencesAreRead : Type 0 where
   pub mappings : (m : IdMapping) → m.iommu < 2 ^ 32 → field_at 12 4 (mapping_bytes m) ≡ m.iommu

@@ -14,8 +14,8 @@ use Rattle.acpi_nodes.specs.declared.viot.MmioEndpoint.{MmioEndpoint}
 use Rattle.acpi_nodes.specs.declared.viot.VirtIoPciIommu.{VirtIoPciIommu}
 use Rattle.acpi_nodes.specs.declared.viot.VirtIoMmioIommu.{VirtIoMmioIommu}
 
--- A table without nodes: 36: Node Count, of two bytes. A node is named by an offset of two bytes, so the table stays below
--- 65,536 bytes.
+-- A table without nodes. At offset 36: Node Count, of two bytes. References to nodes have two bytes, so the length is below
+-- 65,536.
 abbrev pub viot : Oem → Listing
 viot oem = record {
   signature = codes "VIOT";
@@ -104,19 +104,19 @@ virtio_mmio_iommu_fields i =
 abbrev pub virtio_mmio_iommu_bytes : VirtIoMmioIommu → List ℕ
 virtio_mmio_iommu_bytes i = fields_joined (virtio_mmio_iommu_fields i)
 
--- Each node begins with its type, whatever its fields hold.
+-- Each node begins with its type, for all values of its fields.
 pub record NodesTellKinds : Type 0 where
   pub pci_ranges : (r : PciRange) → StandIn (pci_range_bytes r) 0 (1 ∷ [])
   pub mmio_endpoints : (e : MmioEndpoint) → StandIn (mmio_endpoint_bytes e) 0 (2 ∷ [])
   pub virtio_pci_iommus : (i : VirtIoPciIommu) → StandIn (virtio_pci_iommu_bytes i) 0 (3 ∷ [])
   pub virtio_mmio_iommus : (i : VirtIoMmioIommu) → StandIn (virtio_mmio_iommu_bytes i) 0 (4 ∷ [])
 
--- At the offset that an adder returned, the node stands in the bytes of a table after any later calls, and its type with it.
+-- At the offset that an adder returned, the bytes of a table have the node, and so its type. This holds after any later calls.
 pub record NodesStand (t : Listing) : Type 0 where
   pub virtio_pci_iommus : (i : VirtIoPciIommu) → NodeStands t (whole (virtio_pci_iommu_bytes i)) (3 ∷ [])
   pub virtio_mmio_iommus : (i : VirtIoMmioIommu) → NodeStands t (whole (virtio_mmio_iommu_bytes i)) (4 ∷ [])
 
--- Each reference to another node is read back from the node's bytes.
+-- The bytes of a node contain each of its references to other nodes.
 pub record ReferencesAreRead : Type 0 where
   pub pci_ranges : (r : PciRange) → r.output < 2 ^ 16 → field_at 16 2 (pci_range_bytes r) ≡ r.output
   pub mmio_endpoints : (e : MmioEndpoint) → e.output < 2 ^ 16 → field_at 16 2 (mmio_endpoint_bytes e) ≡ e.output

@@ -1,4 +1,4 @@
-//! Structures that end in entries of one kind.
+//! Structures that end in a list of entries.
 
 ghost use Rattle.std.specs.Prelude.{◌≡◌, ◌<◌, ◌^◌, ◌≤◌, ◌++◌, OnOk, IfOk, IfErr};
 ghost use Rattle.std.specs.List.{flat_map};
@@ -10,7 +10,7 @@ use acpi_base::parts::write_parts;
 use acpi_base::row::Record;
 use acpi_base::sink::AmlSink;
 
-/// The entries that are given, or none.
+/// The entries that were given, or none.
 pub(crate) fn entries_of<T>(given: &Option<Vec<T>>) -> &[T]
     ensures { result.now ≡ entries_of given.now }
 {
@@ -20,7 +20,7 @@ pub(crate) fn entries_of<T>(given: &Option<Vec<T>>) -> &[T]
     }
 }
 
-/// The length of a structure, whose length field has two bytes. FieldWidth where these don't hold it.
+/// The length of a structure, as its field of two bytes. The error is `FieldWidth` if the length doesn't fit.
 pub(crate) fn told_size(size: usize) -> R<u16>
     ensures ok { IfOk result (λ told. told ≡ size) }
     ensures err { IfErr result (λ e. (e ≡ Error.FieldWidth) × (2 ^ 16 ≤ size)) }
@@ -31,7 +31,7 @@ pub(crate) fn told_size(size: usize) -> R<u16>
     Ok(size as u16)
 }
 
-/// Gives a sink what stands before a structure's entries, and then these, one after another.
+/// Writes the bytes before a structure's entries to a sink, and then the entries in order.
 pub(crate) fn write_with_entries<const SIZE: usize, T: Record<SIZE>>(
     sink: &mut dyn AmlSink,
     before: &[&[u8]],

@@ -1,10 +1,10 @@
-//! Where structures begin in their tables.
+//! Handles: the offsets of structures in their tables.
 
 ghost use Rattle.std.specs.Prelude.{◌≡◌};
 
 use std::marker::{Model, PhantomData};
 
-/// Where a structure of type `K` begins in its table. In contracts it is that offset.
+/// The offset of a structure of type `K` in its table. In contracts a handle is that offset.
 #[derive_where(Clone, Copy, Debug)]
 pub struct Handle<K> {
     offset: u32,
@@ -22,7 +22,7 @@ impl<K> Model for Handle<K> {
 }
 
 impl<K> Handle<K> {
-    // The handle of what begins at an offset.
+    // The handle of the structure at an offset.
     pub(crate) fn at(offset: u32) -> Handle<K>
         ensures { result ≡ offset }
     {
@@ -32,7 +32,7 @@ impl<K> Handle<K> {
         }
     }
 
-    /// The offset in bytes from the table's first byte.
+    /// The offset in bytes from the first byte of the table.
     pub fn offset(&self) -> u32
         ensures { result ≡ self.now }
     {

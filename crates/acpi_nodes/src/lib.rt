@@ -1,4 +1,4 @@
-//! Tables of nodes that name each other by their offsets.
+//! Tables of nodes that refer to each other by offset.
 #![tactic(auto)]
 
 pub mod entries;
@@ -9,7 +9,7 @@ pub mod rhct;
 pub mod rimt;
 pub mod viot;
 
-/// Laws of the tables. Each function is a law: it does nothing, and ensures it.
+/// Laws about the tables. Each function is a law: it does nothing, and its `ensures` states the law.
 pub mod laws {
     pub use crate::pptt::{pptt_is_walked, pptt_nodes_tell_kinds, pptt_references_are_read};
     pub use crate::rhct::{rhct_is_walked, rhct_nodes_tell_kinds, rhct_references_are_read};

@@ -3,7 +3,7 @@
 ghost use Rattle.std.specs.Prelude.{◌≡◌, ◌<◌};
 ghost use Rattle.acpi_nodes.specs.Pci.{pci_device};
 
-/// Where a PCI function stands: its segment, and its bus, device and function in one number.
+/// The address of a PCI function: its segment, and its bus, device and function in one number.
 #[derive(Drop)]
 pub struct PciDevice {
     pub(crate) segment: u16,
@@ -11,7 +11,7 @@ pub struct PciDevice {
 }
 
 impl PciDevice {
-    /// The function of a device below 32 whose number is below 8.
+    /// A function. The caller proves that `device` is below 32 and `function` below 8.
     pub fn new(segment: u16, bus: u8, device: u8, function: u8) -> PciDevice
         requires device { device < 32 }
         requires function { function < 8 }

@@ -1,4 +1,4 @@
-//! PPTT: how processors and their caches are arranged.
+//! PPTT: the hierarchy of processors and their caches.
 
 ghost use Rattle.std.specs.Prelude.{◌≡◌, ◌≢◌, ◌<◌, true, bit_or, IsNone, IfSome, OnOk, IfOk, IfErr, length};
 ghost use Rattle.acpi_base.specs.Fields.{AreRowsOf};
@@ -30,7 +30,7 @@ use acpi_core::table::Table;
 use acpi_core::walked::{Walked, is_walked};
 use std::alloc::Global;
 
-/// The Processor Properties Topology Table (ACPI 6.5, 5.2.30): nodes from offset 36 on.
+/// The Processor Properties Topology Table (ACPI 6.5, 5.2.30). Its nodes begin at offset 36.
 #[derive(Drop)]
 pub struct PPTT {
     table: Walked<PpttKind, 36>,
@@ -69,14 +69,15 @@ impl PPTT {
         }
     }
 
-    /// Adds a processor, or a group of them, and returns its offset. FieldWidth where the length would reach 2^32.
+    /// Adds a processor or a group of processors, and returns its handle. The error is `FieldWidth` if the length would reach
+    /// 2^32.
     pub fn add_processor(&mut self, node: ProcessorNode) -> R<ProcessorHandle>
         ensures { AddsAt result self.old.table (whole (processor_bytes node)) self.new.table }
     {
         Ok(Handle::at(self.table.add_object_at(&node)?))
     }
 
-    /// Adds a cache and returns its offset. FieldWidth where the length would reach 2^32.
+    /// Adds a cache and returns its handle. The error is `FieldWidth` if the length would reach 2^32.
     pub fn add_cache(&mut self, node: CacheNode) -> R<CacheHandle>
         ensures { AddsAt result self.old.table (whole (cache_bytes node)) self.new.table }
     {
@@ -98,7 +99,7 @@ impl PPTT {
     }
 }
 
-/// A law: after any calls the table is a true one, and its nodes, in order, are the one list that walks it.
+/// A law: after any calls the table is correct. Its nodes, in order, are the one list that the walk finds.
 pub fn pptt_is_walked(table: &PPTT)
     ensures keeps { Keeps pptt_walk length_limit true table.now.table.table }
     ensures walked { IsWalked pptt_walk table.now.table.table }
@@ -113,18 +114,18 @@ pub fn pptt_nodes_tell_kinds()
     ensures { NodesTellKinds }
 {}
 
-/// A law: each reference to another node is read back from the node's bytes.
+/// A law: the bytes of a node contain each of its references to other nodes.
 pub fn pptt_references_are_read()
     ensures { ReferencesAreRead }
 {}
 
-/// Where a processor's node begins in its table.
+/// The handle of a processor's node.
 pub type ProcessorHandle = Handle<ProcessorNode>;
 
-/// Where a cache's node begins in its table.
+/// The handle of a cache's node.
 pub type CacheHandle = Handle<CacheNode>;
 
-/// The offsets of a processor's own caches (offset 20): at most 58, so that the node's length has one byte.
+/// The offsets of a processor's private caches (offset 20). There are at most 58, because the node's length has one byte.
 pub type Resources = Entries<4, 58>;
 
 /// Flags of a processor (offset 4).
@@ -138,20 +139,20 @@ const LEAF: u32 = 8;
 
 const IDENTICAL: u32 = 16;
 
-/// A processor or a group of processors (ACPI 6.5, 5.2.30.1): 20 bytes, and 4 for each of its own caches, of which there are
-/// at most 58. It is written as its fields stand.
+/// A processor or a group of processors (ACPI 6.5, 5.2.30.1): 20 bytes, and 4 for each of its private caches, of which there are
+/// at most 58. Its fields are public, and are written with the values that they have.
 #[derive(Debug, Drop)]
 pub struct ProcessorNode {
     pub flags: u32,
-    /// The offset of the node above; 0 for a root.
+    /// The offset of the parent node, or 0 for a root.
     pub parent: u32,
-    /// The `_UID` of the processor, or of the group's container, where the flags tell that it is valid.
+    /// The `_UID` of the processor, or of the group's container. The flags say whether it is valid.
     pub acpi_processor_id: u32,
     resources: Resources,
 }
 
 impl ProcessorNode {
-    /// A node below another one of the same table, or a root, without flags and caches.
+    /// A node without flags and caches. It has a parent in the same table, or is a root.
     pub fn new(
         alloc: Global,
         parent: Option<&ProcessorHandle>,
@@ -172,15 +173,15 @@ impl ProcessorNode {
         }
     }
 
-    /// The number of its own caches: at most 58.
+    /// The number of its private caches: at most 58.
     pub fn resource_count(&self) -> usize
         ensures { result ≡ self.now.resources.count }
     {
         self.resources.len()
     }
 
-    /// Adds a cache of its own, which is the nearest of its kind. FieldWidth at the 59th. An error drops the node:
-    /// `resource_count` returns how many caches it has.
+    /// Adds a private cache, which is the nearest of its kind. The error is `FieldWidth` at the 59th cache, and drops the node:
+    /// check `resource_count` before the call.
     pub fn add_cache(mut self, cache: &CacheHandle) -> R<ProcessorNode>
         ensures ok { IfOk result (λ p. p ≡ record self { resources = with_resource self.resources cache.now }) }
         ensures room { OnOk result (self.resources.count < 58) }
@@ -190,7 +191,7 @@ impl ProcessorNode {
         Ok(self)
     }
 
-    /// The node is the boundary of a physical package (flag 1).
+    /// Sets flag 1: the node is the boundary of a physical package.
     pub fn physical(mut self) -> ProcessorNode
         ensures { result ≡ record self { flags = bit_or self.flags 1 } }
     {
@@ -198,7 +199,7 @@ impl ProcessorNode {
         self
     }
 
-    /// The ACPI processor id is valid (flag 2).
+    /// Sets flag 2: the ACPI processor id is valid.
     pub fn valid(mut self) -> ProcessorNode
         ensures { result ≡ record self { flags = bit_or self.flags 2 } }
     {
@@ -206,7 +207,7 @@ impl ProcessorNode {
         self
     }
 
-    /// The processor is a thread (flag 4).
+    /// Sets flag 4: the processor is a thread.
     pub fn thread(mut self) -> ProcessorNode
         ensures { result ≡ record self { flags = bit_or self.flags 4 } }
     {
@@ -214,7 +215,7 @@ impl ProcessorNode {
         self
     }
 
-    /// No node is below this one (flag 8).
+    /// Sets flag 8: the node is a leaf.
     pub fn leaf(mut self) -> ProcessorNode
         ensures { result ≡ record self { flags = bit_or self.flags 8 } }
     {
@@ -222,7 +223,7 @@ impl ProcessorNode {
         self
     }
 
-    /// All processors below are of one implementation (flag 16).
+    /// Sets flag 16: all processors below have the same implementation.
     pub fn identical(mut self) -> ProcessorNode
         ensures { result ≡ record self { flags = bit_or self.flags 16 } }
     {
@@ -230,7 +231,7 @@ impl ProcessorNode {
         self
     }
 
-    // The node's bytes before its caches.
+    // The bytes of the node before its caches.
     fn head(&self) -> [u8; 20]
         ensures { result ≡ processor_head self.now }
     {
@@ -287,7 +288,7 @@ impl Aml for ProcessorNode {
     }
 }
 
-/// Which accesses fill a cache (offset 21, bits 0 and 1).
+/// The accesses that allocate a line of a cache (offset 21, bits 0 and 1).
 #[derive(Copy, Clone, Debug, PartialEq)]
 pub enum AllocationType {
     Read = 0,
@@ -295,7 +296,7 @@ pub enum AllocationType {
     Both = 2,
 }
 
-/// What a cache holds (offset 21, bits 2 and 3).
+/// The type of a cache's contents (offset 21, bits 2 and 3).
 #[derive(Copy, Clone, Debug, PartialEq)]
 pub enum CacheType {
     Data = 0,
@@ -303,14 +304,14 @@ pub enum CacheType {
     Unified = 8,
 }
 
-/// When a cache writes to the next level (offset 21, bit 4).
+/// The write policy of a cache (offset 21, bit 4).
 #[derive(Copy, Clone, Debug, PartialEq)]
 pub enum WritePolicy {
     Writeback = 0,
     Writethrough = 16,
 }
 
-/// Flags of a cache (offset 4): which of its fields are valid.
+/// Flags of a cache (offset 4), which say which of its fields are valid.
 const SIZE: u32 = 1;
 
 const SETS: u32 = 2;
@@ -327,8 +328,8 @@ const LINE_SIZE: u32 = 64;
 
 const ID: u32 = 128;
 
-/// What becomes the node of a cache. At first every field is zero, and none is valid but the next level; each call but
-/// `next_level` raises the flag of what it sets.
+/// A builder for the node of a cache. Every field is zero at first. Each call sets a field and its valid flag; `next_level` has
+/// no flag.
 #[derive(Default, Drop)]
 pub struct CacheNodeBuilder {
     flags: u32,
@@ -342,7 +343,7 @@ pub struct CacheNodeBuilder {
 }
 
 impl CacheNodeBuilder {
-    /// The next cache after this one, of the same table (offset 8). A last level has none, and 0 there.
+    /// Sets the next level of cache, in the same table (offset 8). The last level has 0 there.
     pub fn next_level(mut self, cache: &CacheHandle) -> CacheNodeBuilder
         ensures { result ≡ record self { next_level = cache.now } }
     {
@@ -350,7 +351,7 @@ impl CacheNodeBuilder {
         self
     }
 
-    /// The size in bytes (offset 12, flag 1).
+    /// Sets the size in bytes (offset 12, flag 1).
     pub fn size(mut self, size: u32) -> CacheNodeBuilder
         ensures { result ≡ record self { flags = bit_or self.flags 1; size = size } }
     {
@@ -359,7 +360,7 @@ impl CacheNodeBuilder {
         self
     }
 
-    /// The number of sets (offset 16, flag 2).
+    /// Sets the number of sets (offset 16, flag 2).
     pub fn sets(mut self, sets: u32) -> CacheNodeBuilder
         ensures { result ≡ record self { flags = bit_or self.flags 2; sets = sets } }
     {
@@ -368,7 +369,7 @@ impl CacheNodeBuilder {
         self
     }
 
-    /// The number of ways (offset 20, flag 4).
+    /// Sets the number of ways (offset 20, flag 4).
     pub fn associativity(mut self, associativity: u8) -> CacheNodeBuilder
         ensures { result ≡ record self { flags = bit_or self.flags 4; associativity = associativity } }
     {
@@ -377,7 +378,7 @@ impl CacheNodeBuilder {
         self
     }
 
-    /// Which accesses fill it (offset 21, flag 8). Joined to the attributes that there are.
+    /// Sets the allocation type (offset 21, flag 8). It is joined by or to the attributes that are set already.
     pub fn allocation_type(mut self, allocation: AllocationType) -> CacheNodeBuilder
         ensures { result ≡ record self {
           flags = bit_or self.flags 8;
@@ -389,7 +390,7 @@ impl CacheNodeBuilder {
         self
     }
 
-    /// What it holds (offset 21, flag 16). Joined to the attributes that there are.
+    /// Sets the type of the contents (offset 21, flag 16). It is joined by or to the attributes that are set already.
     pub fn cache_type(mut self, kind: CacheType) -> CacheNodeBuilder
         ensures { result ≡ record self {
           flags = bit_or self.flags 16;
@@ -401,7 +402,7 @@ impl CacheNodeBuilder {
         self
     }
 
-    /// When it writes to the next level (offset 21, flag 32). Joined to the attributes that there are.
+    /// Sets the write policy (offset 21, flag 32). It is joined by or to the attributes that are set already.
     pub fn write_policy(mut self, policy: WritePolicy) -> CacheNodeBuilder
         ensures { result ≡ record self {
           flags = bit_or self.flags 32;
@@ -413,7 +414,7 @@ impl CacheNodeBuilder {
         self
     }
 
-    /// The size of a line in bytes (offset 22, flag 64).
+    /// Sets the size of a line in bytes (offset 22, flag 64).
     pub fn line_size(mut self, line_size: u16) -> CacheNodeBuilder
         ensures { result ≡ record self { flags = bit_or self.flags 64; line_size = line_size } }
     {
@@ -422,7 +423,7 @@ impl CacheNodeBuilder {
         self
     }
 
-    /// The cache's id, which no other cache of the table has (offset 24, flag 128).
+    /// Sets the cache's id, which is unique in the table (offset 24, flag 128).
     pub fn id(mut self, id: u32) -> CacheNodeBuilder
         ensures { result ≡ record self { flags = bit_or self.flags 128; id = id } }
     {
@@ -431,7 +432,7 @@ impl CacheNodeBuilder {
         self
     }
 
-    /// The node.
+    /// The finished node.
     pub fn to_node(self) -> CacheNode
         ensures { result ≡ cache_of self }
     {

@@ -1,4 +1,4 @@
-//! RHCT: what RISC-V harts can do.
+//! RHCT: the capabilities of RISC-V harts.
 
 ghost use Rattle.std.specs.Prelude.{◌≡◌, ◌≢◌, ◌<◌, ℕ, true, OnOk, IfOk, IfErr, length};
 ghost use Rattle.acpi_base.specs.Fields.{AreRowsOf};
@@ -30,8 +30,8 @@ use acpi_core::table::Table;
 use acpi_core::walked::{Walked, is_walked};
 use std::alloc::Global;
 
-/// The RISC-V Hart Capabilities Table (this project's profile): nodes from offset 56 on, as the field at 52 tells, and their
-/// number at offset 48.
+/// The RISC-V Hart Capabilities Table (this project's profile). The number of nodes is at offset 48. The nodes begin at offset
+/// 56, which the field at offset 52 contains.
 #[derive(Drop)]
 pub struct RHCT {
     table: Walked<RhctKind, 56>,
@@ -72,7 +72,7 @@ pub fn rhct_rows() -> &'static [Row]
 }
 
 impl RHCT {
-    /// A table without nodes. The frequency is that of the harts' time counter, in hertz (offset 40).
+    /// A table without nodes. The argument is the frequency of the harts' time counter in hertz (offset 40).
     pub fn new(
         alloc: Global,
         oem_id: [u8; 6],
@@ -91,30 +91,30 @@ impl RHCT {
         }
     }
 
-    /// Adds an ISA string and returns its node's offset. FieldWidth where the text has more than 65,525 bytes, and where the
-    /// length would reach 2^32.
+    /// Adds an ISA string and returns its handle. The error is `FieldWidth` if the text has more than 65,525 bytes, or the length
+    /// would reach 2^32.
     pub fn add_isa_string(&mut self, string: &str) -> R<IsaStringHandle>
         ensures { AddsAt result self.old.table (isa_string_object string.now) self.new.table }
     {
         Ok(Handle::at(self.table.add_object_at(&IsaString { text: string })?))
     }
 
-    /// Adds the sizes of blocks that harts manage in their caches, and returns the node's offset. FieldWidth where the length
-    /// would reach 2^32.
+    /// Adds the block sizes of cache management operations, and returns the handle. The error is `FieldWidth` if the length would
+    /// reach 2^32.
     pub fn add_cmo(&mut self, cmo: CmoNode) -> R<CmoHandle>
         ensures { AddsAt result self.old.table (whole (cmo_bytes cmo)) self.new.table }
     {
         Ok(Handle::at(self.table.add_record_at(&cmo)?))
     }
 
-    /// Adds how harts translate addresses. FieldWidth where the length would reach 2^32.
+    /// Adds an address translation scheme. The error is `FieldWidth` if the length would reach 2^32.
     pub fn add_mmu_node(&mut self, scheme: VirtualAddressScheme) -> R<()>
         ensures { Adds result self.old.table (whole (mmu_bytes (mmu scheme))) self.new.table }
     {
         self.table.add_record(&MmuNode::new(scheme))
     }
 
-    /// Adds which nodes tell of a hart. FieldWidth where the length would reach 2^32.
+    /// Adds a hart with the nodes that describe it. The error is `FieldWidth` if the length would reach 2^32.
     pub fn add_hart_info(&mut self, hart_info: HartInfoNode) -> R<()>
         ensures { Adds result self.old.table (whole (hart_info_bytes hart_info)) self.new.table }
     {
@@ -136,7 +136,7 @@ impl RHCT {
     }
 }
 
-/// A law: after any calls the table is a true one, and its nodes, in order, are the one list that walks it.
+/// A law: after any calls the table is correct. Its nodes, in order, are the one list that the walk finds.
 pub fn rhct_is_walked(table: &RHCT)
     ensures keeps { Keeps rhct_walk length_limit true table.now.table.table }
     ensures walked { IsWalked rhct_walk table.now.table.table }
@@ -151,26 +151,26 @@ pub fn rhct_nodes_tell_kinds()
     ensures { NodesTellKinds }
 {}
 
-/// A law: each reference to another node is read back from the node's bytes.
+/// A law: the bytes of a node contain each of its references to other nodes.
 pub fn rhct_references_are_read()
     ensures { ReferencesAreRead }
 {}
 
-/// Where an ISA string's node begins in its table.
+/// The handle of an ISA string's node.
 pub type IsaStringHandle = Handle<IsaStringNode>;
 
-/// Where a CMO node begins in its table.
+/// The handle of a CMO node.
 pub type CmoHandle = Handle<CmoNode>;
 
-/// The extensions of a hart, as text (this project's profile, ISA string node): 8 bytes, the text, its NUL, and one byte more
-/// where the node's length would be odd. Refused when written, by FieldWidth, where the text has more than 65,525 bytes.
+/// The ISA string of a hart (this project's profile, ISA string node): 8 bytes, the text and a NUL, and one more byte if the
+/// length would be odd. Writing it returns `FieldWidth` if the text has more than 65,525 bytes.
 #[derive(Drop)]
 pub struct IsaStringNode {
     string: &'static str,
 }
 
 impl IsaStringNode {
-    /// The node of a text, which is written as it is.
+    /// The node of a text, which isn't checked.
     pub fn new(string: &'static str) -> IsaStringNode
         ensures { result.string.now ≡ string.now }
     {
@@ -188,7 +188,7 @@ impl Aml for IsaStringNode {
     }
 }
 
-// The same of a text that is borrowed while it is written.
+// The same for a text that is borrowed while it is written.
 #[derive(Drop)]
 struct IsaString<'a> {
     text: &'a str,
@@ -209,7 +209,7 @@ impl<'a> Aml for IsaString<'a> {
     }
 }
 
-// How many zeros stand behind a text.
+// The number of zeros after a text.
 fn isa_string_end(text: usize) -> usize
     requires { text < 65526 }
     ensures { result ≡ isa_string_end text }
@@ -248,7 +248,7 @@ pub fn isa_string_rows() -> &'static [Row]
     &ISA_STRING
 }
 
-/// The sizes of blocks that a hart manages in its caches (this project's profile, CMO node): 10 bytes.
+/// The block sizes of a hart's cache management operations (this project's profile, CMO node): 10 bytes.
 #[derive(Drop)]
 pub struct CmoNode {
     cbom: u8,
@@ -257,7 +257,7 @@ pub struct CmoNode {
 }
 
 impl CmoNode {
-    /// Blocks of two to the power of each number in bytes: those of management, of prefetches and of zeros.
+    /// The exponents of the block sizes: 2^n bytes for cache management, for prefetch and for zeroing.
     pub fn new(
         cbom_block_size_pow2: u8,
         cbop_block_size_pow2: u8,
@@ -317,7 +317,7 @@ impl Aml for CmoNode {
     }
 }
 
-/// How a hart translates addresses (offset 7).
+/// The address translation scheme of a hart (offset 7).
 #[derive(Clone, Copy, Debug, PartialEq)]
 pub enum VirtualAddressScheme {
     Sv39 = 0,
@@ -325,14 +325,14 @@ pub enum VirtualAddressScheme {
     Sv57 = 2,
 }
 
-/// How a hart translates addresses (this project's profile, MMU node): 8 bytes.
+/// The address translation scheme of a hart (this project's profile, MMU node): 8 bytes.
 #[derive(Drop)]
 pub struct MmuNode {
     scheme: u8,
 }
 
 impl MmuNode {
-    /// The node of a scheme.
+    /// The node of this scheme.
     pub fn new(scheme: VirtualAddressScheme) -> MmuNode
         ensures { result ≡ mmu scheme }
     {
@@ -377,8 +377,8 @@ impl Aml for MmuNode {
     }
 }
 
-/// Which nodes tell of a hart (this project's profile, Hart Info node): 12 bytes, and 4 for each of their offsets, of which
-/// there are at most 16,380.
+/// A hart and the nodes that describe it (this project's profile, Hart Info node): 12 bytes, and 4 for the offset of each node.
+/// There are at most 16,380 offsets.
 #[derive(Drop)]
 pub struct HartInfoNode {
     uid: u32,
@@ -386,7 +386,7 @@ pub struct HartInfoNode {
 }
 
 impl HartInfoNode {
-    /// The hart of this `_UID`, with its ISA string.
+    /// The hart with this `_UID` and this ISA string.
     pub fn new(alloc: Global, processor_uid: u32, handle: &IsaStringHandle) -> R<HartInfoNode>
         ensures ok { IfOk result (λ h. h ≡ hart_info processor_uid handle.now) }
         ensures err { IfErr result (λ e. e ≡ Error.Memory) }
@@ -399,15 +399,15 @@ impl HartInfoNode {
         })
     }
 
-    /// The number of offsets, with that of the ISA string: at most 16,380.
+    /// The number of offsets, with the one of the ISA string: at most 16,380.
     pub fn offset_count(&self) -> usize
         ensures { result ≡ self.now.offsets.count }
     {
         self.offsets.len()
     }
 
-    /// Adds a CMO node after those that there are. FieldWidth where there would be more than 16,380 offsets. An error drops
-    /// the node: `offset_count` returns how many it has.
+    /// Adds a CMO node after the earlier ones. The error is `FieldWidth` at offset number 16,381, and drops the node: check
+    /// `offset_count` before the call.
     pub fn with_cmo(mut self, cmo: &CmoHandle) -> R<HartInfoNode>
         ensures ok { IfOk result (λ h. h ≡ with_offset self cmo.now) }
         ensures room { OnOk result (self.offsets.count < 16380) }
@@ -417,7 +417,7 @@ impl HartInfoNode {
         Ok(self)
     }
 
-    // The node's bytes before its offsets.
+    // The bytes of the node before its offsets.
     fn head(&self) -> [u8; 12]
         ensures { result ≡ hart_info_head self.now }
     {

@@ -1,4 +1,4 @@
-//! RIMT: the IOMMUs of a RISC-V machine, and which devices reach memory through them.
+//! RIMT: the IOMMUs of a RISC-V machine, and the devices that use them.
 
 ghost use Rattle.std.specs.Prelude.{◌≡◌, ◌+◌, ◌*◌, ◌≤◌, true, length};
 ghost use Rattle.acpi_base.specs.Fields.{AreRowsOf};
@@ -35,8 +35,8 @@ use acpi_core::table::Table;
 use acpi_core::walked::{Walked, is_walked};
 use std::alloc::Global;
 
-/// The RISC-V I/O Mapping Table (this project's profile): devices from offset 48 on, and their number at offset 36, in four
-/// bytes.
+/// The RISC-V I/O Mapping Table (this project's profile). The number of devices is at offset 36, in four bytes, and they begin at
+/// offset 48.
 #[derive(Drop)]
 pub struct RIMT {
     table: Walked<RimtKind, 48>,
@@ -75,8 +75,8 @@ impl RIMT {
         }
     }
 
-    /// Adds an IOMMU, and returns its offset. FieldWidth where the IOMMU would pass 65,535 bytes, and where the table's length
-    /// would reach 2^32.
+    /// Adds an IOMMU, and returns its handle. The error is `FieldWidth` if the IOMMU would have more than 65,535 bytes, or the
+    /// table's length would reach 2^32.
     #[tactic(auto, using(crate::proofs::Rimts::iommu_piece))]
     pub fn add_iommu(&mut self, iommu: Iommu) -> R<IommuOffset>
         ensures { AddsAt result self.old.table (structure_of (iommu_bytes iommu)) self.new.table }
@@ -84,8 +84,8 @@ impl RIMT {
         Ok(Handle::at(self.table.add_object_at(&iommu)?))
     }
 
-    /// Adds a root complex. FieldWidth where the root complex would pass 65,535 bytes, and where the table's length would reach
-    /// 2^32.
+    /// Adds a root complex. The error is `FieldWidth` if the root complex would have more than 65,535 bytes, or the table's
+    /// length would reach 2^32.
     #[tactic(auto, using(crate::proofs::Rimts::root_complex_piece))]
     pub fn add_pcie_root_complex(&mut self, root_complex: PcieRootComplex) -> R<()>
         ensures { Adds result self.old.table (structure_of (root_complex_bytes root_complex)) self.new.table }
@@ -93,8 +93,8 @@ impl RIMT {
         self.table.add_object(&root_complex)
     }
 
-    /// Adds a device of the platform. FieldWidth where the device would pass 65,535 bytes, and where the table's length would
-    /// reach 2^32.
+    /// Adds a platform device. The error is `FieldWidth` if the device would have more than 65,535 bytes, or the table's length
+    /// would reach 2^32.
     #[tactic(auto, using(crate::proofs::Rimts::platform_piece))]
     pub fn add_platform(&mut self, platform: Platform) -> R<()>
         ensures { Adds result self.old.table (structure_of (platform_bytes platform)) self.new.table }
@@ -109,7 +109,7 @@ impl RIMT {
         self.table.len()
     }
 
-    /// The number of nodes.
+    /// The number of devices.
     pub fn count(&self) -> u32
         ensures { result ≡ length self.now.table.table.structures }
     {
@@ -117,7 +117,7 @@ impl RIMT {
     }
 }
 
-/// A law: after any calls the table is a true one, and its devices, in order, are the one list that walks it.
+/// A law: after any calls the table is correct. Its devices, in order, are the one list that the walk finds.
 pub fn rimt_is_walked(table: &RIMT)
     ensures keeps { Keeps rimt_walk length_limit true table.now.table.table }
     ensures walked { IsWalked rimt_walk table.now.table.table }
@@ -132,15 +132,15 @@ pub fn rimt_devices_tell_kinds()
     ensures { DevicesTellKinds }
 {}
 
-/// A law: each reference to another node is read back from the node's bytes.
+/// A law: the bytes of a device contain each of its references to an IOMMU.
 pub fn rimt_references_are_read()
     ensures { ReferencesAreRead }
 {}
 
-/// An IOMMU of a table. In contracts it is the IOMMU's offset.
+/// The handle of an IOMMU. In contracts it is the IOMMU's offset.
 pub type IommuOffset = Handle<Iommu>;
 
-// A bit of a field of flags.
+// The value of a flag if it is set, and 0 otherwise.
 fn bit(set: bool, value: u16) -> u16
     ensures value { result ≡ bit set value }
     ensures small { result ≤ value }
@@ -148,7 +148,7 @@ fn bit(set: bool, value: u16) -> u16
     if set { value } else { 0 }
 }
 
-/// An interrupt that an IOMMU raises by a wire: 8 bytes.
+/// A wired interrupt of an IOMMU: 8 bytes.
 #[derive(Drop)]
 pub struct InterruptWire {
     number: u32,
@@ -158,8 +158,8 @@ pub struct InterruptWire {
 }
 
 impl InterruptWire {
-    /// The interrupt of this number (offset 0) at the APLIC of an id (offset 6): whether it is triggered by level (flag 1 at
-    /// offset 4), and whether it is active high (flag 2).
+    /// The interrupt with this number (offset 0) at the APLIC with this id (offset 6). Flag 1 (offset 4) says that it is level
+    /// triggered, and flag 2 that it is active high.
     pub fn new(num: u32, level_trig: bool, polarity_high: bool, aplic_id: u16) -> InterruptWire
         ensures { result ≡ interrupt_wire num level_trig polarity_high aplic_id }
     {
@@ -208,8 +208,7 @@ impl Aml for InterruptWire {
     }
 }
 
-/// An IOMMU: 32 bytes, and 8 for each interrupt wire. It is refused when written, by FieldWidth, where it would pass 65,535
-/// bytes.
+/// An IOMMU: 32 bytes, and 8 for each interrupt wire. Writing it returns `FieldWidth` if it would have more than 65,535 bytes.
 #[derive(Drop)]
 pub struct Iommu {
     id: u16,
@@ -220,9 +219,12 @@ pub struct Iommu {
 }
 
 impl Iommu {
-    /// The IOMMU of an id (offset 4): the physical address of its registers (offset 8), the PCI function that it is (flag 1 at
-    /// offset 16; the segment at 20, the function at 22), its proximity domain (flag 2; offset 24), and its interrupt wires
-    /// (their number at offset 28). What isn't given is written as zeros.
+    /// An IOMMU, by these values, where a value that is `None` is written as zeros:
+    ///
+    /// - its id (offset 4), and the physical address of its registers (offset 8),
+    /// - the PCI function that it is (its segment at offset 20, bus, device and function at 22; flag 1 at offset 16),
+    /// - its proximity domain (offset 24; flag 2 at offset 16),
+    /// - its interrupt wires, whose number is at offset 28.
     pub fn new(
         id: u16,
         base_addr: Option<u64>,
@@ -241,7 +243,7 @@ impl Iommu {
         }
     }
 
-    // The IOMMU's bytes before its interrupt wires.
+    // The bytes of the IOMMU before its interrupt wires.
     fn head(&self, size: u16, wires: u16) -> [u8; 32]
         requires size { size ≡ 32 + 8 * length (entries_of self.now.wires) }
         requires count { wires ≡ length (entries_of self.now.wires) }
@@ -307,7 +309,7 @@ impl Aml for Iommu {
     }
 }
 
-/// Which ids of devices an IOMMU knows under which ids: 20 bytes.
+/// A range of device ids, mapped to ids at an IOMMU: 20 bytes.
 #[derive(Drop)]
 pub struct IdMapping {
     src_id: u32,
@@ -320,9 +322,9 @@ pub struct IdMapping {
 }
 
 impl IdMapping {
-    /// `num_ids` ids (offset 8) from `src_id` (offset 0) on are those from `dst_id` (offset 4) on at an IOMMU (its offset at
-    /// 12): whether address translation services (flag 1 at offset 16) and page requests (flag 2) are allowed, and whether the
-    /// devices are integrated endpoints of the root complex (flag 4).
+    /// Maps `num_ids` ids (offset 8), from `src_id` on (offset 0), to the ids from `dst_id` on (offset 4) at an IOMMU, whose
+    /// offset is at 12. Flags at offset 16: 1 allows address translation services, 2 allows page requests, and 4 says that the
+    /// devices are integrated endpoints of the root complex.
     pub fn new(
         src_id: u32,
         dst_id: u32,
@@ -387,8 +389,8 @@ impl Aml for IdMapping {
     }
 }
 
-/// A root complex of PCI Express: 16 bytes, and 20 for each mapping. It is refused when written, by FieldWidth, where it would
-/// pass 65,535 bytes.
+/// A root complex of PCI Express: 16 bytes, and 20 for each mapping. Writing it returns `FieldWidth` if it would have more than
+/// 65,535 bytes.
 #[derive(Drop)]
 pub struct PcieRootComplex {
     id: u16,
@@ -399,8 +401,8 @@ pub struct PcieRootComplex {
 }
 
 impl PcieRootComplex {
-    /// The root complex of an id (offset 4) and a PCI segment (offset 6): whether it supports address translation services (flag
-    /// 1 at offset 8) and page requests (flag 2), and the mappings of its devices' ids (their number at offset 14).
+    /// The root complex with this id (offset 4) in this PCI segment (offset 6). Flags at offset 8: 1 says that it supports
+    /// address translation services, and 2 page requests. The number of its id mappings is at offset 14.
     pub fn new(
         id: u16,
         pci_segment: u16,
@@ -419,7 +421,7 @@ impl PcieRootComplex {
         }
     }
 
-    // The root complex's bytes before its mappings.
+    // The bytes of the root complex before its mappings.
     fn head(&self, size: u16, mappings: u16) -> [u8; 16]
         requires size { size ≡ 16 + 20 * length (entries_of self.now.mappings) }
         requires count { mappings ≡ length (entries_of self.now.mappings) }
@@ -473,8 +475,8 @@ impl Aml for PcieRootComplex {
     }
 }
 
-/// A device of the platform: 13 bytes and its name, and 20 for each mapping. It is refused when written, by FieldWidth, where it
-/// would pass 65,535 bytes.
+/// A platform device: 13 bytes and its name, and 20 for each mapping. Writing it returns `FieldWidth` if it would have more than
+/// 65,535 bytes.
 #[derive(Drop)]
 pub struct Platform {
     id: u16,
@@ -483,8 +485,8 @@ pub struct Platform {
 }
 
 impl Platform {
-    /// The device of an id (offset 4), by its full name in the namespace (offset 12, with a zero after it), and the mappings of
-    /// its ids (where they begin at offset 8, their number at 10).
+    /// The device with this id (offset 4) and this full name in the namespace (offset 12, with a zero after it). The offset of
+    /// its id mappings is at offset 8, and their number at 10.
     pub fn new(id: u16, name: String, id_mappings: Option<Vec<IdMapping>>) -> Platform
         ensures { result ≡ platform id name id_mappings }
     {
@@ -495,7 +497,7 @@ impl Platform {
         }
     }
 
-    // The device's bytes before its name.
+    // The bytes of the device before its name.
     fn head(&self, size: u16, start: u16, mappings: u16) -> [u8; 12]
         requires size { size ≡ mappings_at self.now + 20 * length (entries_of self.now.mappings) }
         requires start { start ≡ mappings_at self.now }

@@ -1,4 +1,4 @@
-//! VIOT: virtual IOMMUs, and the devices that reach memory through them.
+//! VIOT: virtual IOMMUs, and the devices that use them.
 
 ghost use Rattle.std.specs.Prelude.{◌≡◌, true, length};
 ghost use Rattle.acpi_base.specs.Object.{whole, whole_ends_well};
@@ -27,8 +27,8 @@ use acpi_core::walked::{Walked, is_walked};
 use std::alloc::Global;
 use std::marker::Model;
 
-/// The Virtual I/O Translation Table (ACPI 6.5, 5.2.32): nodes from offset 48 on, and their number at offset 36, in two
-/// bytes. A node's offset has two bytes too, so the table has at most 65,535.
+/// The Virtual I/O Translation Table (ACPI 6.5, 5.2.32). The number of nodes is at offset 36, in two bytes, and they begin at
+/// offset 48. A reference to a node has two bytes, so the table has at most 65,535 bytes.
 #[derive(Drop)]
 pub struct VIOT {
     table: Walked<ViotKind, 48>,
@@ -37,7 +37,7 @@ pub struct VIOT {
 /// The kind of VIOT.
 pub struct ViotKind;
 
-// What the length of the table stays below, so that an offset fits two bytes.
+// The limit of the table's length: each offset in it fits two bytes.
 const OFFSET_LIMIT: usize = 1 << (8 * 2);
 
 impl Kind for ViotKind {
@@ -73,21 +73,22 @@ impl VIOT {
         }
     }
 
-    /// Adds a range of PCI functions. FieldWidth where the table would pass 65,535 bytes.
+    /// Adds a range of PCI functions. The error is `FieldWidth` if the table would have more than 65,535 bytes.
     pub fn add_pci_range(&mut self, range: PciRange) -> R<()>
         ensures { Adds result self.old.table (whole (pci_range_bytes range)) self.new.table }
     {
         self.table.add_record(&range)
     }
 
-    /// Adds an endpoint at an address. FieldWidth where the table would pass 65,535 bytes.
+    /// Adds an endpoint at an address. The error is `FieldWidth` if the table would have more than 65,535 bytes.
     pub fn add_mmio_endpoint(&mut self, endpoint: MmioEndpoint) -> R<()>
         ensures { Adds result self.old.table (whole (mmio_endpoint_bytes endpoint)) self.new.table }
     {
         self.table.add_record(&endpoint)
     }
 
-    /// Adds a virtual IOMMU that is a PCI device, and returns its handle. FieldWidth where the table would pass 65,535 bytes.
+    /// Adds a virtual IOMMU that is a PCI device, and returns its handle. The error is `FieldWidth` if the table would have more
+    /// than 65,535 bytes.
     pub fn add_virtio_pci_iommu(&mut self, iommu: VirtIoPciIommu) -> R<TranslationHandle>
         ensures { AddsAt result self.old.table (whole (virtio_pci_iommu_bytes iommu)) self.new.table }
     {
@@ -97,7 +98,8 @@ impl VIOT {
         })
     }
 
-    /// Adds a virtual IOMMU at an address, and returns its handle. FieldWidth where the table would pass 65,535 bytes.
+    /// Adds a virtual IOMMU at an address, and returns its handle. The error is `FieldWidth` if the table would have more than
+    /// 65,535 bytes.
     pub fn add_virtio_mmio_iommu(&mut self, iommu: VirtIoMmioIommu) -> R<TranslationHandle>
         ensures { AddsAt result self.old.table (whole (virtio_mmio_iommu_bytes iommu)) self.new.table }
     {
@@ -122,7 +124,7 @@ impl VIOT {
     }
 }
 
-/// A law: after any calls the table is a true one, and its nodes, in order, are the one list that walks it.
+/// A law: after any calls the table is correct. Its nodes, in order, are the one list that the walk finds.
 pub fn viot_is_walked(table: &VIOT)
     ensures keeps { Keeps viot_walk (field_limit 2) true table.now.table.table }
     ensures walked { IsWalked viot_walk table.now.table.table }
@@ -137,12 +139,12 @@ pub fn viot_nodes_tell_kinds()
     ensures { NodesTellKinds }
 {}
 
-/// A law: each reference to another node is read back from the node's bytes.
+/// A law: the bytes of a node contain each of its references to other nodes.
 pub fn viot_references_are_read()
     ensures { ReferencesAreRead }
 {}
 
-/// A virtual IOMMU of a table. In contracts it is the node's offset.
+/// The handle of a virtual IOMMU. In contracts it is the node's offset.
 #[derive(Clone, Copy, Debug)]
 pub struct TranslationHandle {
     offset: u16,
@@ -159,7 +161,7 @@ impl Model for TranslationHandle {
 }
 
 impl TranslationHandle {
-    /// The offset in bytes from the table's first byte.
+    /// The offset in bytes from the first byte of the table.
     pub fn offset(&self) -> u32
         ensures { result ≡ self.now }
     {
@@ -167,7 +169,7 @@ impl TranslationHandle {
     }
 }
 
-/// A range of PCI functions behind an IOMMU (ACPI 6.5, 5.2.32, PCI Range Node Structure): 24 bytes.
+/// A range of PCI functions that use an IOMMU (ACPI 6.5, 5.2.32, PCI Range Node Structure): 24 bytes.
 #[derive(Drop)]
 pub struct PciRange {
     first: PciDevice,
@@ -176,7 +178,7 @@ pub struct PciRange {
 }
 
 impl PciRange {
-    /// The functions from the first to the last. Their endpoint numbers begin at the first one's bus, device and function.
+    /// The functions from `first` to `last`. Their endpoint ids begin at the bus, device and function of the first.
     pub fn new(
         first: PciDevice,
         last: PciDevice,
@@ -242,7 +244,7 @@ impl Aml for PciRange {
     }
 }
 
-/// An endpoint at an address, behind an IOMMU (ACPI 6.5, 5.2.32, Single MMIO Endpoint Node Structure): 24 bytes.
+/// An endpoint at an address that uses an IOMMU (ACPI 6.5, 5.2.32, Single MMIO Endpoint Node Structure): 24 bytes.
 #[derive(Drop)]
 pub struct MmioEndpoint {
     endpoint: u32,
@@ -251,7 +253,7 @@ pub struct MmioEndpoint {
 }
 
 impl MmioEndpoint {
-    /// The endpoint of this number, with registers at a physical address.
+    /// The endpoint with this id, whose registers are at a physical address.
     pub fn new(
         endpoint_id: u32,
         base_addr: u64,

@@ -20,11 +20,11 @@ module _ {T : Type 0} (number : T → ℕ) where
   or_zero (Some v) = number v
   or_zero None = 0
 
-  -- the range isn't empty, and its size has w bytes
+  -- the range isn't empty, and its size fits w bytes
   abbrev pub is_range : ℕ → AddressSpace T → Bool
   is_range w a = nat_le (number a.min) (number a.max) && nat_lt (number a.max - number a.min + 1) (2 ^ (8 * w))
 
-  -- A descriptor of this first byte, whose addresses have w bytes. Both ends of the range are fixed, and it has no granularity.
+  -- A descriptor with this first byte, whose addresses have w bytes. Both ends of the range are fixed, and it has no granularity.
   abbrev pub space_bytes : ℕ → ℕ → AddressSpace T → List ℕ
   space_bytes tag w a = record_of
       (byte tag  -- 0

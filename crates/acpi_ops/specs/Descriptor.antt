@@ -1,10 +1,10 @@
--- Resource descriptors (ACPI 6.5, 6.4): a field a line, with its name there.
+-- Resource descriptors (ACPI 6.5, 6.4). Each line has a field with its name in the standard.
 use Rattle.std.specs.Prelude.{ℕ, ◌+◌, Bool, if◌then◌else◌, List, [], ◌∷◌}
 use Rattle.acpi_base.specs.Fields.{NamedField, byte, word, dword, qword, fields_joined}
 use Rattle.acpi_base.specs.Gas.{space_number, size_number}
 use Rattle.acpi_base.specs.declared.gas.GAS.{GAS}
 
--- a bit of a field of flags
+-- a bit of a field of flags, or 0
 abbrev pub bit : Bool → ℕ → ℕ
 bit set value = if set then value else 0
 
@@ -21,7 +21,7 @@ fixed_fields read_write base size =
 abbrev pub fixed_bytes : Bool → ℕ → ℕ → List ℕ
 fixed_bytes read_write base size = fields_joined (fixed_fields read_write base size)
 
--- I/O Port Descriptor (6.4.2.5), whose ports decode 16 bits
+-- I/O Port Descriptor (6.4.2.5), with 16-bit decoding
 abbrev pub port_fields : ℕ → ℕ → ℕ → ℕ → List NamedField
 port_fields min max alignment size =
     byte "I/O Port Descriptor" 0x47  -- 0

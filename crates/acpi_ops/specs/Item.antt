@@ -2,13 +2,13 @@
 use Rattle.std.specs.Prelude.{◌≡◌, ℕ, ◌+◌, ◌*◌, ◌%◌, nat_lt, if◌then◌else◌, List, [], ◌∷◌, length, Option, Some, None}
 use Rattle.std.specs.List.{concat}
 
--- the size that follows a large item's tag, with the tag and itself
+-- the size of a large item: the length after its tag, and the tag and the length themselves
 abbrev pub large_size : List ℕ → Option ℕ
 large_size (low ∷ high ∷ more) = Some (3 + (low + 256 * high))
 large_size _ = None
 
--- The size of the item that begins here. Of a small item, whose tag has bit 7 clear, the tag's bits 0 to 2 count the
--- bytes after it.
+-- The size of the item at the front. The tag of a small item has bit 7 clear, and its bits 0 to 2 are the number of bytes after
+-- it.
 abbrev pub item_size : List ℕ → Option ℕ
 item_size [] = None
 item_size (tag ∷ more) = if nat_lt tag 128 then Some (1 + tag % 8) else large_size more
@@ -21,6 +21,6 @@ abbrev pub AreItems : List (List ℕ) → Type 0
 AreItems [] = Unit {0}
 AreItems (item ∷ items) = IsItem item × AreItems items
 
--- the bytes are these items, one after another
+-- the bytes are these items, in order
 abbrev pub SplitsInto : List ℕ → List (List ℕ) → Type 0
 SplitsInto bytes items = AreItems items × (bytes ≡ concat items)

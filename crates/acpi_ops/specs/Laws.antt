@@ -1,4 +1,4 @@
--- What holds of the definitions, whatever calls there are.
+-- Laws about the definitions, which hold for all calls.
 use Rattle.std.specs.Prelude.{◌≡◌, ℕ, ◌<◌, Bool, List, [], ◌∷◌, ◌++◌, map, None}
 use Rattle.acpi_base.specs.declared.gas.GAS.{GAS}
 use Rattle.acpi_base.specs.Bytes.{AreBytes}
@@ -18,12 +18,12 @@ use Rattle.acpi_ops.specs.Item.{IsItem, AreItems, SplitsInto}
 
 -- ---- operators
 
--- Over operands that spell a term each the operator spells its term, where it is whole, wherever it stands.
+-- If each operand spells a term and has no error, the operator spells its own term over these, in every place.
 pub record OperatorMeans (o : Op) (objects : List Object) : Type 0 where
   pub spells : (arity : List ℕ → ℕ) (m : Mode) (ts : Terms) → SpellEach arity Term objects ts → (row (op o) objects).end ≡ None
       → Spells arity m (row (op o) objects).front (one (op o) 0 ts)
 
--- The same of a negation round the operator.
+-- The same for the negation of the operator.
 pub record NegationMeans (o : Op) (objects : List Object) : Type 0 where
   pub spells : (arity : List ℕ → ℕ) (m : Mode) (ts : Terms) → SpellEach arity Term objects ts
       → (row (op LNot) (row (op o) objects ∷ [])).end ≡ None
@@ -31,11 +31,11 @@ pub record NegationMeans (o : Op) (objects : List Object) : Type 0 where
 
 -- ---- resource items
 
--- Bytes split into items in one way at most.
+-- Bytes split into items in at most one way.
 abbrev pub SplitsInOneWay : Type 0
 SplitsInOneWay = (bytes : List ℕ) (a b : List (List ℕ)) → SplitsInto bytes a → SplitsInto bytes b → a ≡ b
 
--- Each descriptor is one item, an address space where it is whole.
+-- Each descriptor is one item. An address space is one if it has no error.
 pub record DescriptorsAreItems : Type 0 where
   pub fixed : (read_write : Bool) (base size : ℕ) → IsItem (fixed_bytes read_write base size)
   pub port : (min max alignment size : ℕ) → IsItem (port_bytes min max alignment size)
@@ -50,12 +50,12 @@ pub record TemplateSplits (descriptors : List Object) : Type 0 where
   pub is : template descriptors ≡ buffer_of_bytes (template_bytes (all_of descriptors).front)
   pub splits : SplitsInto (template_bytes (all_of descriptors).front) (map (λ o. o.front) descriptors ++ end_tag ∷ [])
 
--- So is each that is whole, and whose descriptors are items.
+-- This holds for each template without an error, whose descriptors are items.
 abbrev pub TemplatesSplit : Type 0
 TemplatesSplit = (descriptors : List Object) → (template descriptors).end ≡ None → AreItems (map (λ o. o.front) descriptors)
     → TemplateSplits descriptors
 
--- Each descriptor is bytes, where its fields of one byte are.
+-- Each descriptor is a list of bytes, if its fields of one byte are bytes.
 pub record DescriptorsAreBytes : Type 0 where
   pub fixed : (read_write : Bool) (base size : ℕ) → AreBytes (fixed_bytes read_write base size)
   pub port : (min max alignment size : ℕ) → alignment < 256 → size < 256 → AreBytes (port_bytes min max alignment size)

@@ -13,7 +13,7 @@ use acpi_base::object::Aml;
 use acpi_base::record::{Field, record};
 use acpi_base::sink::AmlSink;
 
-/// A number type of addresses, with the tag of its descriptor (ACPI 6.5, 6.4.3.5).
+/// A type of addresses, with the tag of its descriptor (ACPI 6.5, 6.4.3.5).
 pub trait Address: Copy {
     ghost TAG: { ℕ };
 
@@ -28,10 +28,10 @@ pub trait Address: Copy {
     /// The descriptor's first byte.
     const TAG: u8;
 
-    /// The bytes that follow the descriptor's length.
+    /// The value of the descriptor's length field: the number of bytes after it.
     const LENGTH: u16;
 
-    /// The last address.
+    /// The greatest address.
     const LAST: u64;
 
     fn number(self) -> u64
@@ -43,7 +43,7 @@ pub trait Address: Copy {
         requires { value < LAST + 1 }
         ensures { field_bytes result ≡ le WIDTH value };
 
-    /// Writes the fields of a descriptor, five of them addresses.
+    /// Writes the fields of a descriptor. Five of them are addresses.
     fn write(fields: &[Field], sink: &mut dyn AmlSink) -> R<()>
         requires { length (fields_bytes fields.now) ≡ 6 + 5 * WIDTH }
         ensures ok { OnOk result (Took (meaning sink.old) (fields_bytes fields.now) (meaning sink.new)) }
@@ -171,9 +171,9 @@ pub enum AddressSpaceCacheable {
 #[deprecated = "misspelled: use AddressSpaceCacheable"]
 pub type AddressSpaceCachable = AddressSpaceCacheable;
 
-/// A range of addresses of 16, 32 or 64 bits (ACPI 6.5, 6.4.3.5, Address Space Resource Descriptors), both of whose ends
-/// are fixed. It is refused when written, by AddressRange, where its end lies before its start, or its size passes its
-/// type, as that of all addresses does.
+/// A range of addresses of 16, 32 or 64 bits (ACPI 6.5, 6.4.3.5, Address Space Resource Descriptors) with both ends fixed.
+/// Writing it returns `AddressRange` if its end is before its start, or if its size doesn't fit its type. Only the range of all
+/// addresses has such a size.
 #[derive(Drop)]
 pub struct AddressSpace<T> {
     kind: u8,
@@ -184,8 +184,8 @@ pub struct AddressSpace<T> {
 }
 
 impl<T: Address> AddressSpace<T> {
-    /// A range of memory, from its first address to its last, and what is added to its addresses on the other side of a
-    /// bridge, or 0.
+    /// A range of memory, from its first address to its last. `translation` is added to an address to get the one on the other
+    /// side of a bridge, or nothing if it is `None`.
     pub fn new_memory(
         cacheable: AddressSpaceCacheable,
         read_write: bool,
@@ -210,8 +210,8 @@ impl<T: Address> AddressSpace<T> {
         }
     }
 
-    /// A range of ports, from its first to its last, all of which decode (ACPI 6.5, 6.4.3.5.5, I/O flags), and what is
-    /// added to its addresses on the other side of a bridge, or 0.
+    /// A range of ports, from its first to its last, all of which are decoded (ACPI 6.5, 6.4.3.5.5, I/O flags). `translation` is
+    /// added to an address to get the one on the other side of a bridge, or nothing if it is `None`.
     pub fn new_io(min: T, max: T, translation: Option<T>) -> AddressSpace<T>
         ensures { result ≡ record { kind = 1; flags = 3; min = min; max = max; translation = translation } }
     {

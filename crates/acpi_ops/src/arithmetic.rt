@@ -1,4 +1,4 @@
-//! Sums, products and shifts, put into a target.
+//! Arithmetic and shifts, whose result is stored in a target.
 
 ghost use Rattle.std.specs.Prelude.{refl};
 ghost use Rattle.acpi_term.specs.declared.op.Op.TheVariants as ops;
@@ -20,7 +20,7 @@ impl Operator<3> for AddOp {
     ghost takes = { refl };
 }
 
-/// The first operand less the second (ACPI 6.5, 20.2.5.4).
+/// The first operand minus the second (ACPI 6.5, 20.2.5.4).
 pub type Subtract = Operation<Targeted, SubtractOp>;
 
 /// The operator of `Subtract`.
@@ -48,7 +48,7 @@ impl Operator<3> for MultiplyOp {
     ghost takes = { refl };
 }
 
-/// What is left of the first operand divided by the second (ACPI 6.5, 20.2.5.4).
+/// The remainder of the first operand divided by the second (ACPI 6.5, 20.2.5.4).
 pub type Mod = Operation<Targeted, ModOp>;
 
 /// The operator of `Mod`.
@@ -62,7 +62,7 @@ impl Operator<3> for ModOp {
     ghost takes = { refl };
 }
 
-/// The first operand with its bits moved up by the second (ACPI 6.5, 20.2.5.4).
+/// The first operand, shifted left by the second (ACPI 6.5, 20.2.5.4).
 pub type ShiftLeft = Operation<Targeted, ShiftLeftOp>;
 
 /// The operator of `ShiftLeft`.
@@ -76,7 +76,7 @@ impl Operator<3> for ShiftLeftOp {
     ghost takes = { refl };
 }
 
-/// The first operand with its bits moved down by the second (ACPI 6.5, 20.2.5.4).
+/// The first operand, shifted right by the second (ACPI 6.5, 20.2.5.4).
 pub type ShiftRight = Operation<Targeted, ShiftRightOp>;
 
 /// The operator of `ShiftRight`.
@@ -90,7 +90,7 @@ impl Operator<3> for ShiftRightOp {
     ghost takes = { refl };
 }
 
-/// Adds one to a target (ACPI 6.5, 20.2.5.4).
+/// Adds one to its operand (ACPI 6.5, 20.2.5.4).
 pub type Increment = Operation<Single, IncrementOp>;
 
 /// The operator of `Increment`.
@@ -104,7 +104,7 @@ impl Operator<1> for IncrementOp {
     ghost takes = { refl };
 }
 
-/// Takes one from a target (ACPI 6.5, 20.2.5.4).
+/// Subtracts one from its operand (ACPI 6.5, 20.2.5.4).
 pub type Decrement = Operation<Single, DecrementOp>;
 
 /// The operator of `Decrement`.

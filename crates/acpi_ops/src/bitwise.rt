@@ -1,4 +1,4 @@
-//! Operators on the bits of two operands, put into a target.
+//! Bitwise operators, whose result is stored in a target.
 
 ghost use Rattle.std.specs.Prelude.{refl};
 ghost use Rattle.acpi_term.specs.declared.op.Op.TheVariants as ops;
@@ -6,7 +6,7 @@ ghost use Rattle.acpi_term.specs.declared.op.Op.TheVariants as ops;
 use crate::operator::{Operation, Operator, Targeted};
 use acpi_term::op::Op;
 
-/// The bits that both operands have (ACPI 6.5, 20.2.5.4).
+/// The bits that are set in both operands (ACPI 6.5, 20.2.5.4).
 pub type And = Operation<Targeted, AndOp>;
 
 /// The operator of `And`.
@@ -20,7 +20,7 @@ impl Operator<3> for AndOp {
     ghost takes = { refl };
 }
 
-/// The bits that not both operands have (ACPI 6.5, 20.2.5.4).
+/// The bits that aren't set in both operands (ACPI 6.5, 20.2.5.4).
 pub type Nand = Operation<Targeted, NandOp>;
 
 /// The operator of `Nand`.
@@ -34,7 +34,7 @@ impl Operator<3> for NandOp {
     ghost takes = { refl };
 }
 
-/// The bits that one operand has (ACPI 6.5, 20.2.5.4).
+/// The bits that are set in at least one operand (ACPI 6.5, 20.2.5.4).
 pub type Or = Operation<Targeted, OrOp>;
 
 /// The operator of `Or`.
@@ -48,7 +48,7 @@ impl Operator<3> for OrOp {
     ghost takes = { refl };
 }
 
-/// The bits that neither operand has (ACPI 6.5, 20.2.5.4).
+/// The bits that are set in no operand (ACPI 6.5, 20.2.5.4).
 pub type Nor = Operation<Targeted, NorOp>;
 
 /// The operator of `Nor`.
@@ -62,7 +62,7 @@ impl Operator<3> for NorOp {
     ghost takes = { refl };
 }
 
-/// The bits that just one operand has (ACPI 6.5, 20.2.5.4).
+/// The bits that are set in exactly one operand (ACPI 6.5, 20.2.5.4).
 pub type Xor = Operation<Targeted, XorOp>;
 
 /// The operator of `Xor`.

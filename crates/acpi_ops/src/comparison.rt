@@ -71,7 +71,7 @@ impl Operator<2> for LAndOp {
     ghost takes = { refl };
 }
 
-/// Whether one operand is true (ACPI 6.5, 20.2.5.4).
+/// Whether at least one operand is true (ACPI 6.5, 20.2.5.4).
 pub type LOr = Operation<Pair, LOrOp>;
 
 /// The operator of `LOr`.

@@ -60,8 +60,8 @@ pub type Memory32Fixed = Descriptor<Memory32Kind, 12>;
 pub struct Memory32Kind;
 
 impl Descriptor<Memory32Kind, 12> {
-    /// The flag of what may be written too, at offset 3 of the descriptor; the first address at 4, and the size in bytes
-    /// at 8.
+    /// A range of memory that is read-only, or may be written too. That flag is at offset 3 of the descriptor, the first address
+    /// at 4, and the size in bytes at 8.
     pub fn new(read_write: bool, base: u32, length: u32) -> Descriptor<Memory32Kind, 12>
         ensures { result ≡ fixed_bytes read_write base length }
     {
@@ -100,8 +100,8 @@ pub type IO = Descriptor<PortsKind, 8>;
 pub struct PortsKind;
 
 impl Descriptor<PortsKind, 8> {
-    /// Ports that decode 16 bits: the least and the greatest first port, at offsets 2 and 4 of the descriptor, the step
-    /// between these at 6, and the number of ports at 7.
+    /// Ports with 16-bit decoding. The least and the greatest base are at offsets 2 and 4 of the descriptor, the alignment of the
+    /// base at 6, and the number of ports at 7.
     pub fn new(min: u16, max: u16, alignment: u8, length: u8) -> Descriptor<PortsKind, 8>
         ensures { result ≡ port_bytes min max alignment length }
     {
@@ -135,15 +135,14 @@ pub fn io_rows() -> &'static [Row]
     &IO_PORTS
 }
 
-/// One interrupt (ACPI 6.5, 6.4.3.6, Extended Interrupt Descriptor).
+/// A single interrupt (ACPI 6.5, 6.4.3.6, Extended Interrupt Descriptor).
 pub type Interrupt = Descriptor<InterruptKind, 9>;
 
 /// The kind of `Interrupt`.
 pub struct InterruptKind;
 
 impl Descriptor<InterruptKind, 9> {
-    /// The flags stand at offset 3 of the descriptor, from bit 0 on in the order of the arguments; the interrupt's number
-    /// at 5.
+    /// The flags are at offset 3 of the descriptor, from bit 0 on in the order of the arguments. The interrupt's number is at 5.
     pub fn new(
         consumer: bool,
         edge_triggered: bool,
@@ -176,14 +175,14 @@ pub fn interrupt_rows() -> &'static [Row]
     &INTERRUPT
 }
 
-/// A register by its address (ACPI 6.5, 6.4.3.7, Generic Register Descriptor).
+/// A register, given by its address (ACPI 6.5, 6.4.3.7, Generic Register Descriptor).
 pub type Register = Descriptor<RegisterKind, 15>;
 
 /// The kind of `Register`.
 pub struct RegisterKind;
 
 impl Descriptor<RegisterKind, 15> {
-    /// The address stands at offset 3 of the descriptor.
+    /// The address is at offset 3 of the descriptor.
     pub fn new(reg: GAS) -> Descriptor<RegisterKind, 15>
         ensures { result ≡ register_bytes reg }
     {
@@ -219,7 +218,7 @@ pub fn register_rows() -> &'static [Row]
     &REGISTER
 }
 
-/// A bit of a field of flags.
+/// The value of a flag if it is set, and 0 otherwise.
 pub(crate) fn bit(set: bool, value: u8) -> u8
     ensures value { result ≡ bit set value }
     ensures small { result ≤ value }

@@ -1,4 +1,4 @@
-//! Laws over the definitions that the contracts cite. Each function is a law: it does nothing, and ensures it.
+//! Laws about the definitions that the contracts use. Each function is a law: it does nothing, and its `ensures` states the law.
 
 ghost use Rattle.std.specs.Prelude.{List, [], ◌∷◌};
 ghost use Rattle.acpi_base.specs.Object.{Object};
@@ -8,9 +8,9 @@ ghost use Rattle.acpi_term.specs.declared.op.Op.TheVariants as ops;
 
 use crate::operator::Operator;
 
-// ---- operators: over operands that spell terms, in the order that each shape writes, the term of the operator
+// ---- operators: if each operand spells a term, the operator spells its own term over these, in the order of its shape
 
-/// One operand: `Increment`, `Return` and their like.
+/// One operand: `Increment`, `Return` and the like.
 #[tactic(auto, using(crate::proofs::Meanings::operator_means))]
 pub fn single_means<O: Operator<1>>()
     ensures { (a : Object) → OperatorMeans O.OPERATOR (a ∷ []) }
@@ -28,7 +28,7 @@ pub fn put_means<O: Operator<2>>()
     ensures { (target a : Object) → OperatorMeans O.OPERATOR (a ∷ target ∷ []) }
 {}
 
-/// Two operands and a target: `Add` and its like.
+/// Two operands and a target: `Add` and the like.
 #[tactic(auto, using(crate::proofs::Meanings::operator_means))]
 pub fn targeted_means<O: Operator<3>>()
     ensures { (target a b : Object) → OperatorMeans O.OPERATOR (a ∷ b ∷ target ∷ []) }
@@ -46,13 +46,13 @@ pub fn bits_mean<O: Operator<4>>()
     ensures { (name source bit_index bit_num : Object) → OperatorMeans O.OPERATOR (source ∷ bit_index ∷ bit_num ∷ name ∷ []) }
 {}
 
-/// `Break`, which has none.
+/// `Break`, which has no operands.
 #[tactic(auto, using(crate::proofs::Meanings::operator_means))]
 pub fn break_means()
     ensures { OperatorMeans ops.Break [] }
 {}
 
-/// The opposites of comparisons: the negation of the comparison's term.
+/// The negated comparisons: the negation of the comparison's term.
 #[tactic(auto, using(crate::proofs::Meanings::negation_means))]
 pub fn negation_means<O: Operator<2>>()
     ensures { (left right : Object) → NegationMeans O.OPERATOR (left ∷ right ∷ []) }
@@ -60,7 +60,7 @@ pub fn negation_means<O: Operator<2>>()
 
 // ---- resource descriptors
 
-/// Bytes split into resource items by their tags in one way at most.
+/// Bytes split into resource items by their tags in at most one way.
 #[tactic(auto, using(crate::proofs::Items::splits_in_one_way))]
 pub fn items_split_in_one_way()
     ensures { SplitsInOneWay }
@@ -72,13 +72,13 @@ pub fn descriptors_are_items()
     ensures { DescriptorsAreItems }
 {}
 
-/// What a resource template holds splits into its descriptors, each an item, and the end tag (ACPI 6.5, 6.4).
+/// The content of a resource template splits into its descriptors, each of them one item, and the end tag (ACPI 6.5, 6.4).
 #[tactic(auto, using(crate::proofs::Templates::templates_split))]
 pub fn templates_split()
     ensures { TemplatesSplit }
 {}
 
-/// Each descriptor is bytes.
+/// Each descriptor is a list of bytes.
 #[tactic(auto, using(crate::proofs::Bytes::descriptors_are_bytes))]
 pub fn descriptors_are_bytes()
     ensures { DescriptorsAreBytes }

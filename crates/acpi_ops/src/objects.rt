@@ -6,7 +6,7 @@ ghost use Rattle.acpi_term.specs.declared.op.Op.TheVariants as ops;
 use crate::operator::{Operation, Operator, Part, Put, Single, Targeted};
 use acpi_term::op::Op;
 
-/// Two operands joined, put into a target (ACPI 6.5, 20.2.5.4).
+/// The concatenation of two operands, stored in a target (ACPI 6.5, 20.2.5.4).
 pub type Concat = Operation<Targeted, ConcatOp>;
 
 /// The operator of `Concat`.
@@ -20,7 +20,7 @@ impl Operator<3> for ConcatOp {
     ghost takes = { refl };
 }
 
-/// Two resource templates joined, put into a target (ACPI 6.5, 20.2.5.4).
+/// The concatenation of two resource templates, stored in a target (ACPI 6.5, 20.2.5.4).
 pub type ConcatRes = Operation<Targeted, ConcatResOp>;
 
 /// The operator of `ConcatRes`.
@@ -34,7 +34,7 @@ impl Operator<3> for ConcatResOp {
     ghost takes = { refl };
 }
 
-/// A reference to an element, put into a target (ACPI 6.5, 20.2.5.4).
+/// A reference to an element, stored in a target (ACPI 6.5, 20.2.5.4).
 pub type Index = Operation<Targeted, IndexOp>;
 
 /// The operator of `Index`.
@@ -48,7 +48,7 @@ impl Operator<3> for IndexOp {
     ghost takes = { refl };
 }
 
-/// A buffer's bytes as a string of a length, put into a target (ACPI 6.5, 20.2.5.4).
+/// The bytes of a buffer as a string of a given length, stored in a target (ACPI 6.5, 20.2.5.4).
 pub type ToString = Operation<Targeted, ToStringOp>;
 
 /// The operator of `ToString`.
@@ -62,7 +62,7 @@ impl Operator<3> for ToStringOp {
     ghost takes = { refl };
 }
 
-/// A part of a string or buffer, put into a result (ACPI 6.5, 20.2.5.4).
+/// A part of a string or buffer, stored in a target (ACPI 6.5, 20.2.5.4).
 pub type Mid = Operation<Part, MidOp>;
 
 /// The operator of `Mid`.
@@ -76,7 +76,7 @@ impl Operator<4> for MidOp {
     ghost takes = { refl };
 }
 
-/// An operand as a buffer, put into a target (ACPI 6.5, 20.2.5.4).
+/// An operand converted to a buffer, stored in a target (ACPI 6.5, 20.2.5.4).
 pub type ToBuffer = Operation<Put, ToBufferOp>;
 
 /// The operator of `ToBuffer`.
@@ -90,7 +90,7 @@ impl Operator<2> for ToBufferOp {
     ghost takes = { refl };
 }
 
-/// An operand as a number, put into a target (ACPI 6.5, 20.2.5.4).
+/// An operand converted to a number, stored in a target (ACPI 6.5, 20.2.5.4).
 pub type ToInteger = Operation<Put, ToIntegerOp>;
 
 /// The operator of `ToInteger`.
@@ -104,7 +104,7 @@ impl Operator<2> for ToIntegerOp {
     ghost takes = { refl };
 }
 
-/// The number of an object's kind (ACPI 6.5, 20.2.5.4).
+/// The number of an object's type (ACPI 6.5, 20.2.5.4).
 pub type ObjectType = Operation<Single, ObjectTypeOp>;
 
 /// The operator of `ObjectType`.
@@ -132,7 +132,7 @@ impl Operator<1> for SizeOfOp {
     ghost takes = { refl };
 }
 
-/// What a reference refers to (ACPI 6.5, 20.2.5.4).
+/// The object that a reference refers to (ACPI 6.5, 20.2.5.4).
 pub type DeRefOf = Operation<Single, DeRefOfOp>;
 
 /// The operator of `DeRefOf`.

@@ -1,4 +1,4 @@
-//! Operators by their shape: how many operands they have, and in which order these are written.
+//! Operators, by their shape: the number of their operands, and the order in which these are written.
 
 ghost use Rattle.std.specs.Prelude.{◌≡◌, ℕ, List, [], ◌∷◌, map};
 ghost use Rattle.acpi_base.specs.Object.{whole, whole_ends_well, Builds};
@@ -17,17 +17,17 @@ use acpi_term::row::{bare, with_room};
 use std::alloc::Global;
 use std::marker::{Model, PhantomData};
 
-/// An operator of `N` operands (ACPI 6.5, 20.2.5), a target counted.
+/// An operator of `N` operands, with its target (ACPI 6.5, 20.2.5).
 pub trait Operator<const N: usize> {
     ghost OPERATOR: { Op };
 
-    /// Which operator it is: its opcode is written, and its number of operands is `N`.
+    /// The operator, whose opcode is written. Its number of operands is `N`.
     const OPERATOR: Op;
 
     ghost takes: { operands OPERATOR ≡ N };
 }
 
-/// An operator's opcode and its operands, in the order of its shape.
+/// An operator's opcode, and its operands in the order of its shape.
 #[derive(Drop)]
 pub struct Operation<Shape, O> {
     bytes: Vec<u8>,
@@ -69,7 +69,7 @@ impl<Shape, O> Operation<Shape, O> {
 pub struct Single;
 
 impl<O: Operator<1>> Operation<Single, O> {
-    /// The operand is borrowed for the call. Its refusal.
+    /// The operand is borrowed for the call. The error is the operand's.
     pub fn new(alloc: Global, a: &dyn Aml) -> R<Operation<Single, O>>
         ensures { Builds result (row (op O.OPERATOR) (object a.now ∷ [])) }
     {
@@ -81,7 +81,7 @@ impl<O: Operator<1>> Operation<Single, O> {
 pub struct Pair;
 
 impl<O: Operator<2>> Operation<Pair, O> {
-    /// Written in the order `left` and `right`. The first refusal in that order.
+    /// Written in the order `left`, `right`. The error is the first one in that order.
     pub fn new(alloc: Global, left: &dyn Aml, right: &dyn Aml) -> R<Operation<Pair, O>>
         ensures { Builds result (row (op O.OPERATOR) (object left.now ∷ object right.now ∷ [])) }
     {
@@ -93,7 +93,7 @@ impl<O: Operator<2>> Operation<Pair, O> {
 pub struct Put;
 
 impl<O: Operator<2>> Operation<Put, O> {
-    /// Written in the order `a` and `target`. The first refusal in that order.
+    /// Written in the order `a`, `target`. The error is the first one in that order.
     pub fn new(alloc: Global, target: &dyn Aml, a: &dyn Aml) -> R<Operation<Put, O>>
         ensures { Builds result (row (op O.OPERATOR) (object a.now ∷ object target.now ∷ [])) }
     {
@@ -105,7 +105,7 @@ impl<O: Operator<2>> Operation<Put, O> {
 pub struct Targeted;
 
 impl<O: Operator<3>> Operation<Targeted, O> {
-    /// Written in the order `a`, `b` and `target`. The first refusal in that order.
+    /// Written in the order `a`, `b`, `target`. The error is the first one in that order.
     pub fn new(
         alloc: Global,
         target: &dyn Aml,
@@ -118,11 +118,11 @@ impl<O: Operator<3>> Operation<Targeted, O> {
     }
 }
 
-/// A part of an object: what it is taken of, where it begins, how long it is, and where it is put.
+/// A part of an object: the object, the index of the part, its length, and the target.
 pub struct Part;
 
 impl<O: Operator<4>> Operation<Part, O> {
-    /// Written in the order `source`, `index`, `length` and `result_to`. The first refusal in that order.
+    /// Written in the order `source`, `index`, `length`, `result_to`. The error is the first one in that order.
     pub fn new(
         alloc: Global,
         source: &dyn Aml,
@@ -137,11 +137,11 @@ impl<O: Operator<4>> Operation<Part, O> {
     }
 }
 
-/// A field of a buffer: what it lies in, its first bit, how many bits it has, and its name.
+/// A field of a buffer: the buffer, the index of the first bit, the number of bits, and the field's name.
 pub struct Bits;
 
 impl<O: Operator<4>> Operation<Bits, O> {
-    /// Written in the order `source`, `bit_index`, `bit_num` and `name`. The first refusal in that order.
+    /// Written in the order `source`, `bit_index`, `bit_num`, `name`. The error is the first one in that order.
     pub fn new(
         alloc: Global,
         name: &dyn Aml,
@@ -160,7 +160,7 @@ impl<O: Operator<4>> Operation<Bits, O> {
 pub struct Negated;
 
 impl<O: Operator<2>> Operation<Negated, O> {
-    /// Written in the order `left` and `right`, after both opcodes. The first refusal in that order.
+    /// Written as both opcodes, and then `left` and `right`. The error is the first one in that order.
     pub fn new(alloc: Global, left: &dyn Aml, right: &dyn Aml) -> R<Operation<Negated, O>>
         ensures { Builds result (row (op LNot) (row (op O.OPERATOR) (object left.now ∷ object right.now ∷ []) ∷ [])) }
     {

@@ -13,7 +13,7 @@ use acpi_base::object::Aml;
 use acpi_base::sink::AmlSink;
 use acpi_term::op::Op;
 
-/// Puts a value under a name, which is the first argument (ACPI 6.5, 20.2.5.4).
+/// Stores a value in the object that the first argument names (ACPI 6.5, 20.2.5.4).
 pub type Store = Operation<Put, StoreOp>;
 
 /// The operator of `Store`.
@@ -27,7 +27,7 @@ impl Operator<2> for StoreOp {
     ghost takes = { refl };
 }
 
-/// Tells a device's driver of an event: the device, and a value (ACPI 6.5, 20.2.5.3).
+/// Notifies a device of an event: the device, and the number of the event (ACPI 6.5, 20.2.5.3).
 pub type Notify = Operation<Pair, NotifyOp>;
 
 /// The operator of `Notify`.
@@ -41,7 +41,7 @@ impl Operator<2> for NotifyOp {
     ghost takes = { refl };
 }
 
-/// Ends a method with a value (ACPI 6.5, 20.2.5.3).
+/// Returns a value from a method (ACPI 6.5, 20.2.5.3).
 pub type Return = Operation<Single, ReturnOp>;
 
 /// The operator of `Return`.
@@ -55,7 +55,7 @@ impl Operator<1> for ReturnOp {
     ghost takes = { refl };
 }
 
-/// A field of 32 bits in a buffer: its name, the buffer, and its first byte (ACPI 6.5, 20.2.5.2).
+/// A field of 32 bits in a buffer: its name, the buffer, and the index of its first byte (ACPI 6.5, 20.2.5.2).
 pub type CreateDWordField = Operation<Targeted, CreateDWordFieldOp>;
 
 /// The operator of `CreateDWordField`.
@@ -69,7 +69,7 @@ impl Operator<3> for CreateDWordFieldOp {
     ghost takes = { refl };
 }
 
-/// A field of 64 bits in a buffer: its name, the buffer, and its first byte (ACPI 6.5, 20.2.5.2).
+/// A field of 64 bits in a buffer: its name, the buffer, and the index of its first byte (ACPI 6.5, 20.2.5.2).
 pub type CreateQWordField = Operation<Targeted, CreateQWordFieldOp>;
 
 /// The operator of `CreateQWordField`.
@@ -83,7 +83,7 @@ impl Operator<3> for CreateQWordFieldOp {
     ghost takes = { refl };
 }
 
-/// A field of any bits in a buffer (ACPI 6.5, 20.2.5.2).
+/// A field of any number of bits in a buffer (ACPI 6.5, 20.2.5.2).
 pub type CreateField = Operation<Bits, CreateFieldOp>;
 
 /// The operator of `CreateField`.
@@ -102,7 +102,7 @@ impl Operator<4> for CreateFieldOp {
 pub struct Break {}
 
 impl Break {
-    /// The statement alone.
+    /// The statement. It has no operands.
     pub fn new() -> Break {
         Break {}
     }

@@ -1,4 +1,4 @@
--- What holds of what is read, whatever calls there are.
+-- Laws about reading, which hold for all calls.
 use Rattle.std.specs.Prelude.{◌≡◌, ℕ, ◌≤◌, List, length, drop, None}
 use Rattle.acpi_base.specs.Object.{Object, all_of}
 use Rattle.acpi_base.specs.Sdt.{added}
@@ -9,14 +9,14 @@ use Rattle.acpi_term.specs.Tree.{Terms, depth}
 use Rattle.acpi_term.specs.Spelling.{Spells, SpellEach}
 use Rattle.acpi_read.specs.Terms.{AreRead, IsUnread}
 
--- Where bytes spell terms that don't nest too deep, these alone are read, and nothing but Memory keeps them from it.
+-- If bytes spell terms that aren't nested too deep, these terms are what is read, and `Memory` is the only error.
 abbrev pub SpelledTermsAreRead : Type 0
 SpelledTermsAreRead =
     (arity : List ℕ → ℕ) (bytes : List ℕ) (ts : Terms) → Spells arity Term bytes ts → depth ts ≤ 255
     → ((us : Terms) → AreRead arity bytes us → us ≡ ts) × ((e : ReadError) → IsUnread arity bytes e → e ≡ Memory)
 
--- Objects that spell a term each were added to a table that is its header alone. What is read of the bytes after the header are
--- these terms, where they don't nest too deep.
+-- Objects that spell a term each were added to a table without content. The terms that are read from the bytes after the header
+-- are those of the objects, if they aren't nested too deep.
 abbrev pub DefinitionBlocksAreRead : Type 0
 DefinitionBlocksAreRead =
     (arity : List ℕ → ℕ) (header : List ℕ) (objects : List Object) (ts : Terms)

@@ -1,4 +1,4 @@
--- The text that is told of terms: a line for each, its children after it, two spaces deeper.
+-- The report of terms: a line for each, followed by its children, indented by two more spaces.
 use Rattle.std.specs.Prelude.{◌≡◌, ℕ, zero, suc, ◌+◌, ◌/◌, ◌%◌, ◌^◌, nat_lt, nat_le, ◌==◌, ◌&&◌, not}
 use Rattle.std.specs.Prelude.{Bool, true, if◌then◌else◌, List, [], ◌∷◌, ◌++◌, length, map, codes}
 use Rattle.std.specs.Fmt.{decimal}
@@ -26,7 +26,7 @@ abbrev pub hex_bytes : List ℕ → List ℕ
 hex_bytes [] = []
 hex_bytes (b ∷ bytes) = hex_byte b ++ hex_bytes bytes
 
--- a byte of a string: `"`, `\` and what doesn't print as `\x` and two digits
+-- a byte of a string: `"`, `\` and a byte that isn't printable become `\x` and two digits
 abbrev pub quoted_byte : ℕ → List ℕ
 quoted_byte b = if nat_le 32 b && nat_le b 126 && not (b == 34) && not (b == 92) then b ∷ [] else 92 ∷ 120 ∷ hex_byte b
 
@@ -43,7 +43,7 @@ abbrev pub tail : List ℕ → List ℕ
 tail [] = []
 tail (b ∷ rest) = rest
 
--- the segments of a path, without what counts them
+-- the segments of a path, without the prefix that counts them
 abbrev pub segments_of : List ℕ → List ℕ
 segments_of [] = []
 segments_of (b ∷ rest) = if b == 46 then rest else (if b == 47 then tail rest else b ∷ rest)
@@ -55,16 +55,16 @@ name_text (b ∷ rest) = if b == 92 then 92 ∷ dotted_segments (segments_of res
 
 -- ---- widths
 
--- a width that no writer of ours would choose
+-- a width that this library doesn't write
 abbrev pub width_suffix : Bool → ℕ → List ℕ
 width_suffix chosen w = if chosen then [] else codes " width " ++ decimal w
 
--- whether a frame of this layout round these bytes can be written
+-- whether a frame of this layout around these bytes can be written
 abbrev pub is_writable : Layout → List ℕ → Bool
 is_writable (bare before) inside = true
 is_writable (framed code before after) inside = nat_lt (4 + length (before ++ (inside ++ after))) (2 ^ 28)
 
--- whether a writer chooses the width for a head with n children, whose spellings joined are the bytes inside
+-- whether this library writes a head with n children, which are spelled by the bytes inside, in this width
 abbrev pub is_chosen : Head → ℕ → ℕ → List ℕ → Bool
 is_chosen h w n inside = w == writer_width h n inside && is_writable (layout h w n) inside
 
@@ -78,7 +78,7 @@ abbrev pub data_text : List ℕ → List ℕ
 data_text [] = []
 data_text (b ∷ bytes) = 32 ∷ hex_bytes (b ∷ bytes)
 
--- what a line says of a head with n children
+-- the line of a head with n children
 abbrev pub head_text : Head → ℕ → List ℕ
 head_text (number v) n = codes "number " ++ decimal v
 head_text ones n = codes "ones"
@@ -109,7 +109,7 @@ head_text def_while n = codes "while"
 head_text def_else n = codes "else"
 head_text (op o) n = word o
 
--- a line, at a depth
+-- the indentation of a line
 abbrev pub indent : ℕ → List ℕ
 indent zero = []
 indent (suc d) = 32 ∷ 32 ∷ indent d
@@ -128,12 +128,12 @@ abbrev pub entry_lines : ℕ → List Entry → List ℕ
 entry_lines d [] = []
 entry_lines d (e ∷ entries) = entry_line d e ++ entry_lines d entries
 
--- a field's entries, which are no terms
+-- the lines of a field's entries, which aren't terms
 abbrev pub own_lines : ℕ → Head → List ℕ
 own_lines d (def_field name access lock update entries) = entry_lines d entries
 own_lines d _ = []
 
--- the width of a head over its children, if it is printed
+-- the width of a term, if the report shows it
 abbrev pub term_suffix : Head → ℕ → Terms → List ℕ
 term_suffix h w children = width_suffix (is_chosen h w (count children) (spelling children)) w
 
@@ -144,7 +144,7 @@ lines d (term h w children others) =
     line d (head_text h (count children)) (term_suffix h w children) ++ own_lines (suc d) h ++ lines (suc d) children
     ++ lines d others
 
--- The lines of terms were added to a text, and their sizes taken from the front of a list.
+-- The lines of terms were added to a text, and their sizes removed from the front of a list.
 pub record AreReported (depth : ℕ) (ts : Terms) (sizes left old new : List ℕ) : Type 0 where
   pub added : new ≡ old ++ lines depth ts
   pub taken : sizes ≡ content_sizes ts ++ left

@@ -1,4 +1,4 @@
--- The pieces of a table, and why there are none.
+-- The pieces of a table, and the errors of finding them.
 use Rattle.std.specs.Prelude.{◌≡◌, ℕ, ◌≤◌, ◌==◌, nat_le, if◌then◌else◌, List, [], ◌++◌, length, drop, take, Option, Some, None}
 use Rattle.std.specs.List.{concat}
 use Rattle.acpi_base.specs.Bytes.{field_at}
@@ -10,9 +10,9 @@ use Rattle.acpi_base.specs.declared.walk.Walk.{Walk}
 use Rattle.acpi_term.specs.declared.read_error.ReadError.{ReadError}
 use Rattle.acpi_term.specs.declared.read_error.ReadError.TheVariants as errors
 
--- ---- what is told
+-- ---- errors
 
--- a refusal of pieces
+-- an error of finding pieces
 pub data Refusal : Type 0 where
   no_memory : Refusal
   bad_structure : ℕ → Refusal
@@ -29,22 +29,22 @@ refusal_of _ = another
 
 -- ---- the first piece
 
--- a piece of this many bytes stands at the front
+-- a piece of this many bytes is at the front
 pub record IsFront (s : Sizes) (n : ℕ) (rest : List ℕ) : Type 0 where
   pub fits : n ≤ length rest
   pub piece : IsPiece s (take n rest)
 
--- no piece stands there
+-- no piece is at the front
 abbrev pub NoFront : Sizes → List ℕ → Type 0
 NoFront s rest = (p q : List ℕ) → p ++ q ≡ rest → IsPiece s p → ⊥
 
--- an error source of a type that has no size here
+-- an error source whose type has no size
 pub record IsUnknownSource (s : Sizes) (rest : List ℕ) : Type 0 where
   pub by : s ≡ BySource
   pub told : 2 ≤ length rest
   pub unknown : source_size (field_at 0 2 rest) ≡ None
 
--- why no piece stands at the front of bytes at an offset
+-- why no piece is at the front of bytes that stand at an offset
 abbrev pub IsFrontFault : Refusal → Sizes → ℕ → List ℕ → Type 0
 IsFrontFault (bad_structure offset) s at rest = (offset ≡ at) × NoFront s rest
 IsFrontFault (unknown_source offset) s at rest = (offset ≡ at) × NoFront s rest × IsUnknownSource s rest
@@ -61,7 +61,7 @@ pub record AreCut (s : Sizes) (start : ℕ) (bytes : List ℕ) (pieces : List (L
 abbrev pub NoCut : Sizes → List ℕ → Type 0
 NoCut s body = (pieces : List (List ℕ)) → ArePieces s pieces → concat pieces ≡ body → ⊥
 
--- why the bytes from a start on are no pieces, unless memory ran out
+-- why the bytes from a start on can't be cut into pieces, unless memory ran out
 abbrev pub IsCutFault : Refusal → Sizes → ℕ → List ℕ → Type 0
 IsCutFault no_memory s start bytes = Unit {0}
 IsCutFault (bad_structure offset) s start bytes = (offset ≤ length bytes) × NoCut s (drop start bytes)
@@ -69,18 +69,18 @@ IsCutFault (unknown_source offset) s start bytes = (offset ≤ length bytes) × 
     × IsUnknownSource s (drop offset bytes)
 IsCutFault _ s start bytes = ⊥
 
--- ---- its type
+-- ---- the type of a piece
 
--- the number in the field that has a piece's type, where there is such a field and the piece reaches it
+-- the number in the field with a piece's type, if there is such a field and the piece contains it
 abbrev pub kind_in : Place → List ℕ → Option ℕ
 kind_in place piece =
     if place_width place == 0 then None
     else (if nat_le (end_of place) (length piece) then Some (number_in place piece)
     else None)
 
--- ---- a table's
+-- ---- the pieces of a table
 
--- where the pieces of a walk begin
+-- the offsets of the pieces of a walk
 abbrev pub offsets_by : Option Walk → List (List ℕ) → List ℕ
 offsets_by (Some w) pieces = offsets_from w.start pieces
 offsets_by None pieces = []
@@ -88,12 +88,12 @@ offsets_by None pieces = []
 abbrev pub offsets_of : List ℕ → List (List ℕ) → List ℕ
 offsets_of bytes pieces = offsets_by (walk_of (field_at 0 4 bytes)) pieces
 
--- no pieces walk the bytes
+-- the bytes have no pieces by this walk
 abbrev pub NoPiecesBy : Option Walk → List ℕ → Type 0
 NoPiecesBy w bytes = (pieces : List (List ℕ)) → WalksBy w bytes pieces → ⊥
 
--- Why a table has no pieces, unless memory ran out. A wrong number is returned at its field. An unknown source is returned only where one stands, in a table whose
--- structures' sizes go by their types.
+-- Why a table has no pieces, unless memory ran out. A wrong number has the offset of its field. An unknown source is an error
+-- only if the table has one, and its structures have the size of their type.
 abbrev pub IsFaultBy : Refusal → Option Walk → List ℕ → Type 0
 IsFaultBy no_memory w bytes = Unit {0}
 IsFaultBy (bad_structure offset) w bytes = (offset ≤ length bytes) × NoPiecesBy w bytes

@@ -1,4 +1,4 @@
--- The text that is told of a table.
+-- The report of a table.
 use Rattle.std.specs.Prelude.{◌≡◌, ℕ, List, [], ◌∷◌, ◌++◌, length, map, take, codes, slice_index}
 use Rattle.std.specs.Prelude.{nat_le, ◌==◌, ◌&&◌, if◌then◌else◌, Option, Some, None}
 use Rattle.std.specs.Fmt.{decimal}
@@ -9,17 +9,17 @@ use Rattle.acpi_base.specs.declared.walk.Place.TheVariants.{Nowhere}
 use Rattle.acpi_base.specs.declared.walk.Walk.{Walk}
 use Rattle.acpi_read.specs.Pieces.{offsets_of}
 
--- a byte that prints, or a question mark
+-- a printable byte, or a question mark
 abbrev pub printable : ℕ → ℕ
 printable b = if nat_le 32 b && nat_le b 126 then b else 63
 
--- the signature, the length and the revision in decimal, and the sum of a checked table, which is 0
+-- the signature, the length and the revision in decimal, and the sum, which is 0 for a checked table
 abbrev pub header_line : List ℕ → List ℕ
 header_line table =
     map printable (take 4 table) ++ codes " length " ++ decimal (length table)
     ++ codes " revision " ++ decimal (slice_index table 8) ++ codes " sum 0" ++ 10 ∷ []
 
--- the type of a piece in decimal, by the field that tells it; an entry has none
+-- the type of a piece in decimal, if the pieces have one
 abbrev pub kind_text : Place → List ℕ → List ℕ
 kind_text kind piece = if place_width kind == 0 then codes " entry" else codes " type " ++ decimal (number_in kind piece)
 
@@ -31,7 +31,7 @@ abbrev pub piece_lines : Place → List ℕ → List (List ℕ) → List ℕ
 piece_lines kind (offset ∷ offsets) (piece ∷ pieces) = piece_line kind offset piece ++ piece_lines kind offsets pieces
 piece_lines kind _ _ = []
 
--- where the structures of a walk tell their type
+-- the field of a walk's structures that contains their type
 abbrev pub kind_by : Option Walk → Place
 kind_by (Some w) = w.kind
 kind_by None = Nowhere
@@ -39,7 +39,7 @@ kind_by None = Nowhere
 abbrev pub kind_of : List ℕ → Place
 kind_of table = kind_by (walk_of (field_at 0 4 table))
 
--- The text tells of a table: its header's line, and a line for each of its pieces.
+-- The text is a line for the table's header, and a line for each of its pieces.
 pub record ReportsTable (table text : List ℕ) : Type 0 where
   pub pieces : List (List ℕ)
   pub walk : ArePiecesOf table pieces

@@ -1,4 +1,4 @@
--- The starts of terms, without where they lie in memory.
+-- The heads of terms, without their place in memory.
 use Rattle.std.specs.Prelude.{◌≡◌, ℕ, ◌+◌, ◌≤◌, length}
 use Rattle.acpi_term.specs.Tree.{Head, call, def_scope, def_device, def_method, def_power_res, def_op_region}
 use Rattle.acpi_term.specs.Tree.{def_name, def_var_package, def_if, def_while, def_else, op, end}
@@ -48,7 +48,7 @@ seen (FirstAndBlock f inside after) = fills (first_head f) (first_width f) insid
 seen (Package w n inside after) = packs w n inside.now after.now
 seen (Buffer w content after) = begins w content.now after.now
 
--- what is inside and after a head is part of this many bytes
+-- the bytes inside and after a head are a part of this many bytes
 abbrev pub LiesWithin : ℕ → Opened → Type 0
 LiesWithin n (follows h w count rest) = length rest ≤ n
 LiesWithin n (fills h w inside after) = length inside + length after ≤ n

@@ -1,13 +1,13 @@
-//! Laws over the definitions that the contracts cite. Each function is a law: it does nothing, and ensures it.
+//! Laws about the definitions that the contracts use. Each function is a law: it does nothing, and its `ensures` states the law.
 
 ghost use Rattle.acpi_read.specs.Laws.{SpelledTermsAreRead, DefinitionBlocksAreRead};
 
-/// Terms that are spelled, and nest no deeper than may be read, are what `terms` returns.
+/// If bytes spell terms that are nested at most `MAX_DEPTH` deep, `terms` returns these terms.
 pub fn spelled_terms_are_read()
     ensures { SpelledTermsAreRead }
 {}
 
-/// What `terms` returns of the contents of a definition block are the terms of the objects that were added to it.
+/// For the content of a definition block, `terms` returns the terms of the objects that were added to it.
 pub fn definition_blocks_are_read()
     ensures { DefinitionBlocksAreRead }
 {}

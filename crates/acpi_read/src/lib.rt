@@ -1,4 +1,4 @@
-//! Reading: checked tables, terms of AML, and what is printed of both as text.
+//! Reading: checking a table, finding its structures, reading AML terms, and reports of them as text.
 #![tactic(auto)]
 
 pub mod laws;

@@ -1,4 +1,4 @@
-//! The structures of a table, found by their sizes.
+//! The structures of a table, found by their lengths.
 
 ghost use Rattle.std.specs.Prelude.{◌≡◌, ℕ, ◌+◌, ◌≤◌, List, length, take, drop, map, Some, IfOk, IfErr};
 ghost use Rattle.std.specs.List.{All};
@@ -13,7 +13,7 @@ use acpi_base::walk::{Place, Sizes, Walk, source_size, walk_of};
 use acpi_term::read_error::ReadError;
 use std::alloc::Global;
 
-/// A structure of a table: where it begins in the table, and its bytes, which are borrowed and not copied.
+/// A structure of a table: its offset in the table, and its bytes, which are borrowed.
 #[derive(Clone, Copy)]
 pub struct Piece<'a> {
     pub offset: usize,
@@ -21,8 +21,8 @@ pub struct Piece<'a> {
 }
 
 impl<'a> Piece<'a> {
-    /// The structure's type. None where the structures of its table have no types, as the entries of an XSDT, and where the
-    /// bytes end before the type does, which those of a structure that `Table::pieces` returned don't.
+    /// The structure's type. It is `None` if the structures of this table have no types, as the entries of an XSDT, or if the
+    /// bytes end before the type. The bytes that `Table::pieces` returns contain the type.
     pub fn kind(&self, table: &Table) -> Option<usize>
         ensures { result ≡ kind_in (kind_of table.now) self.entry.now.bytes.now }
     {
@@ -34,7 +34,7 @@ impl<'a> Piece<'a> {
     }
 }
 
-// How long the piece is with which bytes at an offset begin.
+// The length of the piece at the front of bytes, which stand at an offset of the table.
 fn front_size(rest: &[u8], sizes: Sizes, at: usize) -> Result<usize, ReadError>
     ensures ok { IfOk result (λ n. IsFront sizes n rest.now) }
     ensures err { IfErr result (λ e. IsFrontFault (refusal_of e) sizes at rest.now) }
@@ -78,7 +78,7 @@ fn piece_at(bytes: &[u8], at: usize, size: usize) -> Piece<'_>
     }
 }
 
-// Cuts the bytes from a start on into pieces.
+// Cuts the bytes from `start` on into pieces.
 fn cut(alloc: Global, bytes: &[u8], start: usize, sizes: Sizes) -> Result<Vec<Piece<'_>>, ReadError>
     requires start { start ≤ length bytes.now }
     requires sizes { HasSizes sizes }
@@ -95,7 +95,7 @@ fn cut(alloc: Global, bytes: &[u8], start: usize, sizes: Sizes) -> Result<Vec<Pi
     Ok(pieces)
 }
 
-// The pieces of a table that has a walk.
+// The pieces of a table, found by its walk.
 fn walked(alloc: Global, bytes: &[u8], walk: Walk) -> Result<Vec<Piece<'_>>, ReadError>
     requires sound { IsSound walk }
     ensures walk { IfOk result (λ v. Walks walk bytes.now (map (λ p. p.bytes.now) v.items)) }
@@ -117,14 +117,16 @@ fn walked(alloc: Global, bytes: &[u8], walk: Walk) -> Result<Vec<Piece<'_>>, Rea
 }
 
 impl<'a> Table<'a> {
-    /// The table's structures, in order, each with the offset at which it begins; none where a signature's tables have no
-    /// structures. The errors, with the offset of each:
+    /// The table's structures, in order, each with its offset. The list is empty if the tables of this signature have no
+    /// structures. The errors, with their offsets:
     ///
-    /// - UnknownSource: an error source has a type other than 6 to 10; the source.
-    /// - Structure: a structure is shorter than its type and length, or passes the end; the structure. The table contains
-    ///   another offset of its first structure than 56 (RHCT) or 48 (VIOT, RIMT); this field. The table ends before its
-    ///   structures begin; its length.
-    /// - Count: the table contains another number of structures; this field.
+    /// - UnknownSource: an error source has a type other than 6 to 10. The offset is that of the source.
+    /// - Structure: a structure is shorter than its type and length, or passes the end of the table. The offset is that of the
+    ///   structure.
+    /// - Structure: the field with the offset of the first structure isn't 56 (RHCT) or 48 (VIOT, RIMT). The offset is that of
+    ///   this field.
+    /// - Structure: the table ends before its structures begin. The offset is the table's length.
+    /// - Count: the table's number of structures is wrong. The offset is that of this field.
     pub fn pieces(&self, alloc: Global) -> Result<Vec<Piece<'a>>, ReadError>
         ensures walk { IfOk result (λ v. ArePiecesOf self.now (map (λ p. p.bytes.now) v.items)) }
         ensures offsets { IfOk result (λ v. map (λ p. p.offset) v.items ≡ offsets_of self.now (map (λ p. p.bytes.now) v.items)) }
@@ -137,7 +139,7 @@ impl<'a> Table<'a> {
     }
 }
 
-/// Where the structures of a table have their type.
+/// The field of a structure that contains its type, for the structures of a table.
 pub fn kind_of(table: &Table) -> Place
     ensures kind { result ≡ kind_of table.now }
     ensures reached { (pieces : List (List ℕ)) → ArePiecesOf table.now pieces

@@ -1,4 +1,4 @@
-//! What is printed of tables and terms as text.
+//! Reports of tables and terms as text.
 
 mod line;
 mod piece;
@@ -26,7 +26,7 @@ use acpi_term::read_error::ReadError;
 use acpi_term::term::{Term, TermEntry};
 use std::alloc::{AllocError, Global};
 
-// A byte of a signature or of a segment, or `?` where it doesn't print.
+// A byte of a signature or of a segment, or `?` if it isn't printable.
 fn shown(byte: u8) -> char
     ensures { result ≡ printable byte }
 {
@@ -49,8 +49,8 @@ pub fn report_header(alloc: Global, table: &Table) -> Result<String, ReadError>
     Ok(format!(in alloc; "{a}{b}{c}{d} length {length} revision {revision} sum 0\n")?)
 }
 
-/// The report of a table: its header's line, and a line for each of its structures, with the offset at which it begins, its
-/// type, if its table's structures have types, and its size in bytes. The refusals are those of `Table::pieces`.
+/// The report of a table: a line for its header, and a line for each structure with its offset, its type if the structures of
+/// this table have one, and its size in bytes. The errors are those of `Table::pieces`.
 pub fn report_table(alloc: Global, table: &Table) -> Result<String, ReadError>
     ensures ok { IfOk result (λ text. ReportsTable table.now (string_bytes text)) }
     ensures err { IfErr result (λ e. IsPieceFault e table.now) }
@@ -61,8 +61,8 @@ pub fn report_table(alloc: Global, table: &Table) -> Result<String, ReadError>
     Ok(text)
 }
 
-/// The report of terms: a line for each, and its children after it, two spaces deeper. A line ends in `width` and the width
-/// where that isn't the one that a writer of this workspace chooses for what the term holds.
+/// The report of terms: a line for each, followed by its children, which are indented by two more spaces. A line ends in `width`
+/// and the width of the PkgLength or number, if that isn't the width in which this library would write the term.
 pub fn report_terms(alloc: Global, terms: &[Term]) -> Result<String, ReadError>
     ensures ok { IfOk result (λ text. string_bytes text ≡ lines 0 (views terms.now)) }
     ensures err { IfErr result (λ e. e ≡ ReadError.Memory) }
@@ -73,7 +73,7 @@ pub fn report_terms(alloc: Global, terms: &[Term]) -> Result<String, ReadError>
     Ok(text)
 }
 
-// Of the sizes, those of the terms' contents are used, and what is left is answered.
+// Uses the sizes of the terms' contents from the front of `sizes`, and returns the sizes that are left.
 #[cycle(report)]
 fn push_terms<'a>(
     depth: usize,
@@ -107,7 +107,7 @@ fn push_term<'a>(
     let shown = shown_width(parts.kind, parts.width, sizes[0]);
     let count = parts.first.len() + parts.others.len();
     push_line(depth, parts.kind, count, shown, text)?;
-    // No memory has room for so deep an indentation.
+    // No memory has room for an indentation of this depth.
     let Some(deeper) = depth.checked_add(1) else {
         return Err(AllocError);
     };
@@ -116,7 +116,7 @@ fn push_term<'a>(
     push_any(deeper, parts.others, left, text)
 }
 
-// As `push_terms`. Most terms have no children of one kind or of either, and then no call is made.
+// Does what `push_terms` does. Most terms have no children in one of their lists or in both, and an empty list takes no call.
 #[cycle(report)]
 #[inline(always)]
 fn push_any<'a>(
@@ -152,7 +152,7 @@ fn push_line(
     text.push_str("\n")
 }
 
-// A field's entries.
+// Adds a field's entries.
 fn push_own(depth: usize, kind: Kind<'_>, text: &mut String) -> Result<(), AllocError>
     ensures { OnOk result (string_bytes text.new ≡ string_bytes text.old ++ own_lines depth (head_of kind.entry)) }
 {

@@ -1,4 +1,4 @@
-//! Tables that are what their header says.
+//! Tables whose header is right.
 
 ghost use Rattle.std.specs.Prelude.{◌≡◌, ℕ, List, ◌+◌, ◌%◌, ◌≤◌, ◌↔◌, length, sum, take, slice_index, IsTrue, IsOk, IfOk, IfErr};
 ghost use Rattle.acpi_base.specs.Bytes.{field_at};
@@ -9,8 +9,8 @@ use acpi_base::checksum::Checksum;
 use acpi_term::read_error::ReadError;
 use std::marker::Model;
 
-/// A table (ACPI 6.5, 5.2.6) as it was handed in: 36 bytes at least, as many as it tells at offset 4, which sum to
-/// zero modulo 256. It borrows its bytes, takes no memory and copies nothing.
+/// A checked table (ACPI 6.5, 5.2.6): it has at least 36 bytes, its length at offset 4 is the number of its bytes, and they sum
+/// to zero modulo 256. It borrows its bytes and takes no memory.
 #[derive(Drop)]
 pub struct Table<'a> {
     bytes: &'a [u8],
@@ -24,7 +24,7 @@ impl<'a> Model for Table<'a> {
     ghost invariant = { λ t. IsTrueTable t.bytes.now };
 }
 
-// What stands in the four bytes at an offset, lowest first.
+// The number in the four bytes at an offset, lowest first.
 fn dword_at(bytes: &[u8], offset: usize) -> u32
     requires { offset + 4 ≤ length bytes.now }
     ensures { result ≡ field_at offset 4 bytes.now }
@@ -46,8 +46,11 @@ fn sums_to_zero(bytes: &[u8]) -> bool
 }
 
 impl<'a> Table<'a> {
-    /// The bytes as a table. ShortHeader with the number of bytes where there are fewer than 36, TableLength at 4 where
-    /// the length there isn't the number of bytes, Sum at 9 where all bytes don't sum to zero; the first of these.
+    /// Checks that the bytes are a table. The error is the first of these:
+    ///
+    /// - ShortHeader, with the number of bytes, if there are fewer than 36.
+    /// - TableLength, with the offset 4, if the length there isn't the number of bytes.
+    /// - Sum, with the offset 9, if the bytes don't sum to zero.
     pub fn check(bytes: &'a [u8]) -> Result<Table<'a>, ReadError>
         ensures ok { IsOk result ↔ IsTrueTable bytes.now }
         ensures value { IfOk result (λ table. table ≡ bytes.now) }
@@ -79,7 +82,7 @@ impl<'a> Table<'a> {
         self.bytes[8]
     }
 
-    /// All bytes of the table, as they were handed in.
+    /// All bytes of the table, as given to `check`.
     pub fn bytes(&self) -> &'a [u8]
         ensures bytes { result.now ≡ self.now }
         ensures table { IsTrueTable self.now }

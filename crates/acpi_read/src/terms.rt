@@ -28,7 +28,7 @@ use acpi_term::op::Op;
 use acpi_term::read_error::ReadError;
 use acpi_term::term::{MAX_DEPTH, Term};
 
-/// One term, at most so deep, and the bytes after it. The bytes end this many after the first byte of all.
+/// Reads one term, at most this deep, and returns the bytes after it. The bytes end `end` bytes after the first byte of all.
 #[cycle(read)]
 #[tactic(auto, unfolding(acpi_term::specs::Reading::term_at))]
 fn term<'a>(
@@ -54,8 +54,8 @@ fn term<'a>(
     }
 }
 
-/// The term of a head that was opened at an offset, whose children are at most so deep. Each kind with children has a function
-/// of its own, since every call pays for all of a function's locals.
+/// Reads the children of a head that was opened at an offset, at most this deep, and returns the term. Each kind of term with
+/// children has a function of its own: Rattle clears all locals of a function on entry, so one large function would be slow.
 #[cycle(read)]
 #[tactic(auto, unfolding(acpi_term::specs::Reading::close, acpi_term::specs::Reading::counted))]
 fn close<'a>(
@@ -94,7 +94,7 @@ fn close<'a>(
     }
 }
 
-/// A name and its arguments.
+/// Reads the arguments of a name.
 #[cycle(read)]
 #[tactic(auto, unfolding(acpi_term::specs::Reading::close, acpi_term::specs::Reading::counted))]
 fn call<'a>(
@@ -114,7 +114,7 @@ fn call<'a>(
     Ok((Term::Call { name, args }, rest))
 }
 
-/// An operator and its operands.
+/// Reads the operands of an operator.
 #[cycle(read)]
 #[tactic(auto, unfolding(acpi_term::specs::Reading::close, acpi_term::specs::Reading::counted))]
 fn operator<'a>(
@@ -133,7 +133,7 @@ fn operator<'a>(
     Ok((Term::Op { op: code, operands }, rest))
 }
 
-/// A region, its offset and its length.
+/// Reads the offset and the length of a region.
 #[cycle(read)]
 #[tactic(auto, unfolding(acpi_term::specs::Reading::close, acpi_term::specs::Reading::counted))]
 fn region<'a>(
@@ -163,7 +163,7 @@ fn region<'a>(
     Ok((region, rest))
 }
 
-/// A name and the value that it is given.
+/// Reads the value of a name.
 #[cycle(read)]
 #[tactic(auto, unfolding(acpi_term::specs::Reading::close, acpi_term::specs::Reading::counted))]
 fn define<'a>(
@@ -183,7 +183,7 @@ fn define<'a>(
     Ok((Term::Name { name, value }, rest))
 }
 
-/// A frame that its children fill.
+/// Reads the children of a frame.
 #[cycle(read)]
 #[tactic(auto, unfolding(acpi_term::specs::Reading::close, acpi_term::specs::Reading::counted))]
 fn block<'a>(
@@ -203,7 +203,7 @@ fn block<'a>(
     Ok((head.with(children), after))
 }
 
-/// A frame whose first child stands apart.
+/// Reads the first child of a frame, which is kept apart, and the others.
 #[cycle(read)]
 #[tactic(auto, unfolding(acpi_term::specs::Reading::close, acpi_term::specs::Reading::counted))]
 fn first_and_block<'a>(
@@ -228,7 +228,7 @@ fn first_and_block<'a>(
     Ok((start.with(first, others), after))
 }
 
-/// A package of this many elements.
+/// Reads the elements of a package.
 #[cycle(read)]
 #[tactic(auto, unfolding(acpi_term::specs::Reading::close, acpi_term::specs::Reading::counted))]
 fn package<'a>(
@@ -255,7 +255,7 @@ fn package<'a>(
     Ok((Term::Package { width, elements }, after))
 }
 
-/// A buffer's size and its bytes.
+/// Reads a buffer's size and its bytes.
 #[cycle(read)]
 #[tactic(auto, unfolding(acpi_term::specs::Reading::close, acpi_term::specs::Reading::counted))]
 fn buffer<'a>(
@@ -278,7 +278,7 @@ fn buffer<'a>(
     Ok((Term::Buffer { width, size, bytes }, after))
 }
 
-/// Where terms that are counted should go on: a package has too few elements, and anything else is cut off.
+/// The error for bytes that end before a counted term: `Count` for an element of a package, `Truncated` otherwise.
 fn missing(mode: Mode, end: usize) -> ReadError
     ensures kind { error_kind result ≡ Some Bad }
     ensures placed { IsPlaced end result }
@@ -289,7 +289,7 @@ fn missing(mode: Mode, end: usize) -> ReadError
     }
 }
 
-/// This many terms, and the bytes after them.
+/// Reads this many terms, and returns the bytes after them.
 #[cycle(read)]
 fn several<'a>(
     arities: &Arities,
@@ -320,7 +320,7 @@ fn several<'a>(
     Ok((terms, rest))
 }
 
-// Adds a term. If it is the last one, room is asked for this one alone: most bodies have few terms.
+// Adds a term. The last one asks for room for itself only: most lists of terms are short.
 fn keep(terms: &mut Vec<Term>, term: Term, is_last: bool) -> Result<(), ReadError>
     ensures items { OnOk result (terms.new.items ≡ terms.old.items ++ term ∷ []) }
     ensures err { IfErr result (λ e. e ≡ ReadError.Memory) }
@@ -332,7 +332,7 @@ fn keep(terms: &mut Vec<Term>, term: Term, is_last: bool) -> Result<(), ReadErro
     Ok(())
 }
 
-/// The terms that the bytes are.
+/// Reads all of the bytes as terms.
 #[cycle(read)]
 fn all(
     arities: &Arities,
@@ -359,9 +359,9 @@ fn all(
     Ok(terms)
 }
 
-/// The list of terms that the bytes spell (ACPI 6.5, 20.2), where names have these numbers of arguments: there is one at
-/// most. Refused by TooDeep where it nests deeper than `MAX_DEPTH`, and by another error where there is none. Offsets count
-/// from the first byte; of a fault in a term it is the term's. The memory is that of the list of arities.
+/// The list of terms that the bytes spell (ACPI 6.5, 20.2), if names take these numbers of arguments. There is at most one such
+/// list. The error is `TooDeep` if the terms are nested deeper than `MAX_DEPTH`, and another if the bytes spell no terms. Offsets
+/// count from the first byte; a fault inside a term has the offset of this term. Memory is taken from the allocator of `arities`.
 pub fn terms(bytes: &[u8], arities: &Arities) -> Result<Vec<Term>, ReadError>
     ensures ok { IfOk result (λ v. AreRead (arity arities.now) bytes.now (views v.items)) }
     ensures err { IfErr result (IsUnread (arity arities.now) bytes.now) }
@@ -369,7 +369,7 @@ pub fn terms(bytes: &[u8], arities: &Arities) -> Result<Vec<Term>, ReadError>
     all(arities, Mode::Term, bytes, bytes.len(), MAX_DEPTH)
 }
 
-/// The list of terms that an object writes: first the object's own refusal, then that of `terms`.
+/// The list of terms that an object writes. The error is the object's own, or that of `terms`.
 pub fn terms_of(aml: &dyn Aml, arities: &Arities) -> R<Result<Vec<Term>, ReadError>>
     ensures whole { OnOk result ((object aml.now).end ≡ None) }
     ensures read { IfOk result (λ answer. IfOk answer (λ v. AreRead (arity arities.now) (object aml.now).front (views v.items))) }

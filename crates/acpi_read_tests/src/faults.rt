@@ -1,4 +1,4 @@
-//! Bytes that are no terms: the kind and the offset of the fault.
+//! Bytes that aren't terms: the kind and the offset of the fault.
 
 use acpi_read::terms::terms;
 use acpi_term::name_string::{Arities, NameString};
@@ -7,7 +7,7 @@ use acpi_vectors::equal;
 use std::alloc::Global;
 use std::test::Fail;
 
-// Where MTHD takes one argument, these bytes are refused so.
+// Fails unless these bytes have these errors, if MTHD takes one argument.
 fn refused(alloc: Global, rows: &[(&[u8], ReadError)]) -> Result<(), Fail> {
     let arities = Arities::new(vec![in alloc; (NameString::new(alloc, "MTHD")?, 1u8)]?)?;
     for (bytes, wanted) in rows {
@@ -36,7 +36,7 @@ fn opcodes(rt: HostRuntime) -> Result<(), Fail> {
     )
 }
 
-// Bytes end before a term does: the fault is at the term that lacks some of its own, or where a term is missing.
+// Bytes that end inside a term: the fault is at the term of which bytes are missing, or where a term is missing.
 #[test]
 fn ends(rt: HostRuntime) -> Result<(), Fail> {
     refused(
@@ -62,8 +62,8 @@ fn ends(rt: HostRuntime) -> Result<(), Fail> {
     )
 }
 
-// A package of more or fewer elements than its number, a length that is no term's or whose lead byte has one of its two bits
-// set that have to be zero, and terms too deep with none inside.
+// A package whose number of elements is wrong, a length that is no term's or has one of its two reserved bits set, and terms that
+// are nested too deep.
 #[test]
 fn counts_lengths_and_depth(rt: HostRuntime) -> Result<(), Fail> {
     let alloc = rt.alloc();

@@ -1,5 +1,5 @@
-//! Tests of terms: what no contract says. Bytes from outside, which kind of error is returned, printed text, and that each call
-//! succeeds where memory is ample.
+//! Tests of terms for what no contract says: bytes worked out by hand, the kinds of errors, printed text, and that each call
+//! succeeds if there is memory.
 #![tactic(auto)]
 
 #[cfg(test)]

@@ -1,4 +1,4 @@
-//! The greatest of each value, and one more: spelled and read, or refused.
+//! The greatest of each value, and one more: spelled and read, or an error.
 
 use acpi_base::error::Error;
 use acpi_read::terms::terms;
@@ -9,7 +9,7 @@ use acpi_vectors::{equal, refuses};
 use std::alloc::Global;
 use std::test::Fail;
 
-// A term is spelled, and read back from its bytes.
+// Fails unless a term can be spelled, and is read back from its bytes.
 fn taken(alloc: Global, term: Term) -> Result<(), Fail> {
     let list = vec![in alloc; term]?;
     let bytes = spell(alloc, &list)?;

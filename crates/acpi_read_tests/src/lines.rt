@@ -7,7 +7,7 @@ use acpi_vectors::agree;
 use std::alloc::Global;
 use std::test::Fail;
 
-// Where MTHD takes one argument, the terms of these bytes have these reports.
+// Fails unless the terms of these bytes have these reports, if MTHD takes one argument.
 fn tells(alloc: Global, rows: &[(&[u8], &str)]) -> Result<(), Fail> {
     let arities = Arities::new(vec![in alloc; (NameString::new(alloc, "MTHD")?, 1u8)]?)?;
     for (bytes, text) in rows {
@@ -16,7 +16,7 @@ fn tells(alloc: Global, rows: &[(&[u8], &str)]) -> Result<(), Fail> {
     Ok(())
 }
 
-// A name takes its arguments wherever it isn't an element of a package.
+// A name takes its arguments in every place but as an element of a package.
 #[test]
 fn arguments(rt: HostRuntime) -> Result<(), Fail> {
     tells(

@@ -1,4 +1,4 @@
-//! Reports held against lines that were written by hand.
+//! Reports compared with lines that were written by hand.
 
 use acpi_read::report::report_terms;
 use acpi_term::name_string::NameString;
@@ -24,7 +24,7 @@ fn op(op: Op, operands: Vec<Term>) -> Term {
     Term::Op { op, operands }
 }
 
-// The report of a term alone is this text.
+// Fails unless the report of one term is this text.
 fn is_told(alloc: Global, term: Term, text: &str) -> Result<(), Fail> {
     agree(&report_terms(alloc, &vec![in alloc; term]?)?, text)
 }
@@ -106,7 +106,7 @@ fn buffers(rt: HostRuntime) -> Result<(), Fail> {
     is_told(alloc, buffer, "buffer data\n  number 0\n")
 }
 
-/// A content of 62 bytes is counted by one byte, one of 63 by two.
+/// A content of 62 bytes has a length of one byte, and one of 63 bytes a length of two.
 #[test]
 fn least_widths(rt: HostRuntime) -> Result<(), Fail> {
     let alloc = rt.alloc();
@@ -137,7 +137,7 @@ fn fields(rt: HostRuntime) -> Result<(), Fail> {
         field,
         "field \\_SB_.PCI0 access 1 lock 0 update 2\n  entry AAAA bits 8\n  reserved bits 8 width 2\n",
     )?;
-    // No width fits the bits, so that which stands there is told.
+    // The bits fit no width, so the line has the width of the term.
     let wide = Term::Field {
         width: 1,
         name: name(alloc, "PRST")?,

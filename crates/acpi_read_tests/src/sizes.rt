@@ -1,4 +1,4 @@
-//! The widths that lines tell, at each threshold: the sizes of contents are those of spelled bytes.
+//! The widths in lines, at each threshold: the sizes of contents are those of the spelled bytes.
 
 use acpi_read::report::report_terms;
 use acpi_term::name_string::NameString;
@@ -17,7 +17,7 @@ fn number(alloc: Global, value: u64, width: u8) -> Result<Box<Term>, Fail> {
     Ok(Box::new(alloc, Term::Number { value, width })?)
 }
 
-// A string of this many bytes, which is spelled by two more.
+// A string of this many bytes; two more spell it.
 fn text(alloc: Global, size: usize) -> Result<Term, Fail> {
     let mut text = String::new(alloc);
     for _ in 0..size {
@@ -29,7 +29,7 @@ fn text(alloc: Global, size: usize) -> Result<Term, Fail> {
 /// How many kinds of framed terms there are.
 const FRAMED: u8 = 11;
 
-// A term of each kind that has a frame, of a width, with padding of this many bytes in it.
+// A term of each kind that has a frame, with a width and padding of this many bytes.
 fn framed(alloc: Global, kind: u8, width: u8, padding: usize) -> Result<Term, Fail> {
     let body = vec![in alloc; text(alloc, padding)?]?;
     Ok(match kind {
@@ -93,7 +93,7 @@ fn framed(alloc: Global, kind: u8, width: u8, padding: usize) -> Result<Term, Fa
     })
 }
 
-// Entries of this many bytes: a named one at first where that many are left over.
+// Entries of this many bytes. The first is a named one if bytes are left over.
 fn entries(alloc: Global, size: usize) -> Result<Vec<TermEntry>, Fail> {
     let mut entries = Vec::new(alloc);
     let mut left = size;
@@ -114,14 +114,14 @@ fn opcode_size(kind: u8) -> usize {
     }
 }
 
-// How many bytes are in the frame, by the bytes that spell it.
+// The number of bytes in the frame, from the bytes that spell it.
 fn content(alloc: Global, kind: u8, width: u8, terms: &[Term]) -> Result<usize, Fail> {
     let bytes = spell(alloc, terms)?;
     let framed = bytes.len().saturating_sub(opcode_size(kind));
     Ok(framed.saturating_sub(usize::from(width)))
 }
 
-// Whether the first line tells a width.
+// Whether the first line has a width.
 fn tells(alloc: Global, terms: &[Term], width: u8) -> Result<bool, Fail> {
     let report = report_terms(alloc, terms)?;
     let line = report.as_str().lines().next().unwrap_or("");
@@ -129,7 +129,7 @@ fn tells(alloc: Global, terms: &[Term], width: u8) -> Result<bool, Fail> {
     Ok(line.ends_with(told.as_str()))
 }
 
-// One byte counts 62 bytes beside itself, two 4,093, and three 1,048,572.
+// A length of one byte counts 62 bytes besides itself, one of two bytes 4,093, and one of three 1,048,572.
 #[test]
 fn thresholds(rt: HostRuntime) -> Result<(), Fail> {
     let alloc = rt.alloc();
@@ -170,7 +170,7 @@ fn large_frames(rt: HostRuntime) -> Result<(), Fail> {
 /// How many kinds of parts there are.
 const PARTS: u8 = 31;
 
-// Parts of each kind that has no frame and of each width, those of each kind that has one, and three of width 0.
+// Parts of each kind without a frame in each width, of each kind with one, and three of width 0.
 fn part(alloc: Global, kind: u8) -> Result<Term, Fail> {
     let width = kind % 5;
     Ok(match kind {
@@ -257,12 +257,12 @@ fn entry(alloc: Global, entry: TermEntry) -> Result<Term, Fail> {
     })
 }
 
-// What a frame has in it counts as many bytes as spell it.
+// The size of a content is the number of bytes that spell it.
 #[test]
 fn parts(rt: HostRuntime) -> Result<(), Fail> {
     let alloc = rt.alloc();
     for kind in 0..PARTS {
-        // 62 and 63 bytes, two of which stand round the padding.
+        // 62 and 63 bytes, of which two are around the padding.
         let size = spell(alloc, &vec![in alloc; part(alloc, kind)?]?)?.len();
         is_counted(alloc, kind, 60usize.saturating_sub(size), 1)?;
         is_counted(alloc, kind, 61usize.saturating_sub(size), 2)?;
@@ -270,7 +270,7 @@ fn parts(rt: HostRuntime) -> Result<(), Fail> {
     Ok(())
 }
 
-// A width of 0 can't be spelled. It is counted as one of 1.
+// A width of 0 can't be spelled. It counts as a width of 1.
 #[test]
 fn widths_of_nothing(rt: HostRuntime) -> Result<(), Fail> {
     let alloc = rt.alloc();

@@ -1,4 +1,4 @@
-//! Spellings held against bytes that were worked out by hand from the standard's grammar (ACPI 6.5, 20.2).
+//! Spellings compared with bytes that were worked out by hand from the standard's grammar (ACPI 6.5, 20.2).
 
 use acpi_base::error::Error;
 use acpi_term::name_string::{Arities, NameString};
@@ -16,7 +16,7 @@ fn name(alloc: Global, text: &str) -> Result<NameString, Fail> {
     Ok(NameString::new(alloc, text)?)
 }
 
-// A term is spelled so.
+// Fails unless these bytes spell a term.
 fn is_spelled(alloc: Global, term: Term, bytes: &[u8]) -> Result<(), Fail> {
     same(&spell(alloc, &vec![in alloc; term]?)?, bytes)
 }
@@ -33,7 +33,7 @@ fn boxed(alloc: Global, value: u64, width: u8) -> Result<Box<Term>, Fail> {
     Ok(Box::new(alloc, number(value, width))?)
 }
 
-// The numbers 0 and 1, of the bytes 00 and 01.
+// The numbers 0 and 1, as the bytes 00 and 01.
 fn bits(alloc: Global) -> Result<Vec<Term>, Fail> {
     Ok(vec![in alloc; number(0, 0), number(1, 0)]?)
 }
@@ -245,7 +245,7 @@ fn fields(rt: HostRuntime) -> Result<(), Fail> {
     is_spelled(alloc, term, b"\x5b\x81\x0dPRST\x41\x00\x20CPEN\x01")
 }
 
-// Access in the low four bits, lock in the next, update in the two after it.
+// The access type in the low four bits, the lock rule in the next, and the update rule in the two after it.
 #[test]
 fn field_flags(rt: HostRuntime) -> Result<(), Fail> {
     let alloc = rt.alloc();

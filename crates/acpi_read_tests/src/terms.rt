@@ -24,7 +24,7 @@ const PORT: [u8; 50] =
     *b"\x5b\x82\x30\x2e_SB_COM1\x08_HID\x0c\x41\xd0\x05\x01\x08_CRS\x11\x16\x0a\x13\
 \x89\x06\x00\x03\x01\x04\x00\x00\x00\x47\x01\xf8\x03\xf8\x03\x00\x08\x79\x00";
 
-// Each of these is refused by this kind of error, at any offset.
+// Fails unless each of these has an error of this kind, at any offset.
 fn refused(arities: &Arities, rows: &[(&[u8], &str)]) -> Result<(), Fail> {
     for (bytes, kind) in rows {
         let error = terms(*bytes, arities).err().ok_or("a refusal")?;
@@ -175,7 +175,7 @@ fn beginnings(rt: HostRuntime) -> Result<(), Fail> {
     Ok(())
 }
 
-// Each byte in turn is replaced by each value: there is an answer, and no offset is past the end.
+// Each byte in turn is replaced by each value: reading always ends, and no offset is past the end.
 #[test]
 fn replacements(rt: HostRuntime) -> Result<(), Fail> {
     let none = nothing_stated(rt.alloc())?;
@@ -196,7 +196,7 @@ fn replacements(rt: HostRuntime) -> Result<(), Fail> {
     refused(&none, &[(&longer, "Length")])
 }
 
-// The bytes beside each other that are a term, and that are none.
+// The first and the last opcode of local variables and of arguments, the bounds of text bytes, and bytes just outside.
 #[test]
 fn bounds_of_bytes(rt: HostRuntime) -> Result<(), Fail> {
     let alloc = rt.alloc();
@@ -223,7 +223,7 @@ fn field(alloc: Global, access: u8, lock: u8, update: u8) -> Result<Term, Fail> 
     })
 }
 
-// Access from Any to Buffer, a lock, and an update rule.
+// The access types from Any to Buffer, a lock rule, and an update rule.
 #[test]
 fn field_flags(rt: HostRuntime) -> Result<(), Fail> {
     let alloc = rt.alloc();
@@ -269,12 +269,12 @@ fn method_flags(rt: HostRuntime) -> Result<(), Fail> {
     Ok(())
 }
 
-// Bits 4 and 5 of a length's first byte are reserved where others follow it.
+// Bits 4 and 5 of a length's first byte are reserved if other bytes follow it.
 #[test]
 fn reserved_bits(rt: HostRuntime) -> Result<(), Fail> {
     let alloc = rt.alloc();
     let none = nothing_stated(alloc)?;
-    // The bytes, and where the length stands in them.
+    // The bytes, and the offset of the length in them.
     let cases: [(&[u8], usize); 6] = [
         (b"\x12\x45\x00\x02\x00\x01", 1),
         (b"\x12\x86\x00\x00\x02\x00\x01", 1),
@@ -303,7 +303,7 @@ fn bare(alloc: Global, text: &str) -> Result<Term, Fail> {
     })
 }
 
-// Names of one segment, of two and of more, rooted and not.
+// Names of one segment, of two and of more, with a root and without.
 #[test]
 fn names(rt: HostRuntime) -> Result<(), Fail> {
     let alloc = rt.alloc();

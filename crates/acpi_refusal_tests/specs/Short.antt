@@ -1,4 +1,4 @@
--- The sink of the tests, which has little room, and the objects that are given to it.
+-- The sink of the tests, which has little room, and the objects that are written to it.
 use Rattle.std.specs.Prelude.{ℕ, List, [], ◌++◌, ◌≡◌, length, nat_le, ◌==◌, Bool, true, false, IsTrue, None}
 use Rattle.std.proofs.Common.{arith, length-append}
 use Rattle.std.proofs.lemmas.Bool.Decides.{nat_tests}
@@ -7,7 +7,7 @@ use Rattle.acpi_base.specs.declared.error.Error.TheVariants.{Sink}
 use Rattle.acpi_base.specs.Object.{Object}
 use Rattle.acpi_base.specs.Sink.{Meaning}
 
--- an object that is whole, and has this many bytes
+-- an object without an error, of this many bytes
 abbrev pub IsOfSize : ℕ → Object → Type 0
 IsOfSize size object = (object.end ≡ None) × (length object.front ≡ size)
 
@@ -15,7 +15,7 @@ abbrev pub is_seventh : Error → Bool
 is_seventh (Sink n) = n == 7
 is_seventh _ = false
 
--- a sink that holds some bytes, has room for this many more, and refuses others by Sink(7)
+-- a sink that has some bytes, has room for this many more, and returns Sink(7) for others
 unfoldable pub short_of : List ℕ → ℕ → Meaning
 short_of held room = record { shows = λ more. held ++ more; takes = λ more. nat_le (length more) room; tells = is_seventh; wants_memory = true }
 

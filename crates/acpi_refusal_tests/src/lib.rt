@@ -1,4 +1,4 @@
-//! Tests of sinks that refuse: an object that meets one has given a beginning of its bytes, and returns the sink's refusal.
+//! Tests of sinks that return errors: an object has then written a first part of its bytes, and returns the sink's error.
 #![tactic(auto)]
 
 #[cfg(test)]

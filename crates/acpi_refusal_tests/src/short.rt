@@ -1,4 +1,4 @@
-//! A sink with little room, and objects that are given to it.
+//! A sink with little room, and objects that are written to it.
 
 ghost use Rattle.std.specs.Prelude.{◌≡◌, All, Err, OnOk};
 ghost use Rattle.acpi_base.specs.declared.error.Error.TheVariants.{Sink};
@@ -9,7 +9,7 @@ use acpi_vectors::{equal, refuses, same, written};
 use std::alloc::Global;
 use std::test::Fail;
 
-/// Takes as many bytes as it has room for, and refuses the next.
+/// Takes as many bytes as it has room for, and returns an error at the next.
 #[derive(Drop)]
 pub struct Short {
     held: Vec<u8>,
@@ -42,7 +42,7 @@ impl Short {
         }
     }
 
-    /// What ended so was refused by this sink, which holds the beginning that there was room for.
+    /// Fails unless the call ended with this sink's error, and the sink has the first part that it had room for.
     pub fn is_full(&self, beginning: &[u8], end: R<()>) -> Result<(), Fail>
         ensures refused { OnOk result (end ≡ Err (Sink 7)) }
         ensures held { OnOk result (self.now.held.items ≡ beginning.now) }
@@ -52,7 +52,7 @@ impl Short {
     }
 }
 
-/// Gives an object of this size to sinks with room for less than all of it.
+/// Writes an object of this size to sinks that have room for a part of it.
 pub fn starve(alloc: Global, size: usize, aml: &dyn Aml) -> Result<(), Fail>
     ensures { OnOk result (IsOfSize size (object aml.now)) }
 {
@@ -66,7 +66,7 @@ pub fn starve(alloc: Global, size: usize, aml: &dyn Aml) -> Result<(), Fail>
     Ok(())
 }
 
-/// Gives each of these objects, after its size.
+/// Writes each of these objects, whose sizes are given.
 pub fn starve_all(alloc: Global, rows: &[(usize, &dyn Aml)]) -> Result<(), Fail>
     ensures { OnOk result (All (λ row. IsOfSize row.0 (object row.1.now)) rows.now) }
 {
@@ -76,7 +76,7 @@ pub fn starve_all(alloc: Global, rows: &[(usize, &dyn Aml)]) -> Result<(), Fail>
     Ok(())
 }
 
-// Each call of a sink in turn, with the bytes from 1 to 18.
+// Makes each call of a sink in turn, with the bytes from 1 to 18.
 fn give(sink: &mut Short) -> R<()> {
     sink.byte(1)?;
     sink.word(0x0302)?;

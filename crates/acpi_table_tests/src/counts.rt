@@ -1,4 +1,4 @@
-//! A table of any kind, made directly: how many structures a count of two bytes takes.
+//! A table of any kind, made directly: how many structures a count of two bytes allows.
 
 use acpi_base::error::Error;
 use acpi_base::oem::Oem;

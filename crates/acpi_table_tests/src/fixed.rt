@@ -1,4 +1,4 @@
-//! Layouts byte for byte, with checksums that were worked out by hand and not by this code.
+//! Layouts byte for byte, with checksums that were worked out by hand.
 
 mod fadt;
 mod tpm;

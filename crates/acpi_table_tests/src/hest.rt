@@ -51,7 +51,7 @@ fn sources(rt: HostRuntime) -> Result<(), Fail> {
     )
 }
 
-// Adds a source, and the table is its header, its count and the bytes of all sources so far.
+// Adds a source, and fails unless the table is its header, its count and the bytes of all sources so far.
 fn adds<T: Aml + Drop>(
     alloc: Global,
     hest: &mut HEST,

@@ -1,4 +1,4 @@
-//! Tests of fixed tables and of lists: bytes from outside, worked out by hand from the layouts and not by this code.
+//! Tests of fixed tables and of lists, against bytes that were worked out by hand from the layouts.
 #![tactic(auto)]
 
 #[cfg(test)]

@@ -1,4 +1,4 @@
-//! Tables of no structure, of one and of 256, read back into what was added.
+//! Tables of no structure, of one and of 256, read back into the structures that were added.
 
 use acpi_base::buffer::append;
 use acpi_tables::cedt::{CEDT, CxlHostBridge, CxlVersion};

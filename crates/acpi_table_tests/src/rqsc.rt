@@ -219,7 +219,7 @@ fn many_resources(rt: HostRuntime) -> Result<(), Fail> {
     writes(alloc, &shared, &wanted)
 }
 
-// A controller of a resource of each kind, behind an empty one.
+// A controller with a resource of each kind, after an empty one.
 #[test]
 fn each_kind(rt: HostRuntime) -> Result<(), Fail> {
     let alloc = rt.alloc();

@@ -1,35 +1,156 @@
-//! Tables and bytecode of ACPI: everything under one name, as in the Rust crate `acpi_tables`.
+//! ACPI tables and AML bytecode: all libraries under one name, with the modules of the Rust crate `acpi_tables`.
 //!
-//! A definition block that holds a package, and a table of two processors, each as the bytes that a guest reads:
+//! Each module has an example below. `alloc` is the allocator of the program, `rt.alloc()` in its `main`. A sink is what receives
+//! bytes: a `Vec<u8>`, a [`Checksum`] or an [`Sdt`](sdt::Sdt).
 //!
 //! ```
 //! use acpi_tables::aml::{ONE, Package, ZERO};
+//! use acpi_tables::bert::BERT;
+//! use acpi_tables::cedt::{CEDT, CxlHostBridge, CxlVersion};
+//! use acpi_tables::facs::FACS;
+//! use acpi_tables::fadt::{FADTBuilder, Flags};
+//! use acpi_tables::gas::{AccessSize, AddressSpace, GAS};
+//! use acpi_tables::hest::{HEST, PcieAerRootPort};
+//! use acpi_tables::hmat::{HMAT, MemoryProximityDomain};
+//! use acpi_tables::layout::{Image, lay};
 //! use acpi_tables::madt::{EnabledStatus, LocalInterruptController, MADT, ProcessorLocalApic};
+//! use acpi_tables::mcfg::MCFG;
+//! use acpi_tables::pptt::{PPTT, ProcessorNode};
+//! use acpi_tables::read::{ReadError, Table, report_table};
+//! use acpi_tables::rhct::{HartInfoNode, RHCT};
+//! use acpi_tables::rimt::{Iommu, RIMT};
+//! use acpi_tables::rqsc::{ControllerType, QoSController, RQSC};
+//! use acpi_tables::rsdp::Rsdp;
 //! use acpi_tables::sdt::{Sdt, append_object};
-//! use acpi_tables::{Aml, R};
+//! use acpi_tables::slit::SLIT;
+//! use acpi_tables::spcr::SPCR;
+//! use acpi_tables::srat::{MemoryAffinity, SRAT};
+//! use acpi_tables::tpm2::{PlatformClass, StartMethod, Tpm2};
+//! use acpi_tables::viot::{PciDevice, PciRange, VIOT, VirtIoPciIommu};
+//! use acpi_tables::xsdt::XSDT;
+//! use acpi_tables::{Aml, AmlSink, R};
 //! use std::alloc::Global;
 //!
-//! fn definition_block(alloc: Global) -> R<Sdt> {
-//!     let mut table = Sdt::new(alloc, *b"DSDT", 36, 2, *b"FOOBAR", *b"CAFEDEAD", 0xdead_beef)?;
+//! const OEM: [u8; 6] = *b"FOOBAR";
+//!
+//! const TABLE: [u8; 8] = *b"CAFEDEAD";
+//!
+//! // aml, sdt: a definition block with a package.
+//! fn block(alloc: Global) -> R<Sdt> {
+//!     let mut table = Sdt::new(alloc, *b"DSDT", 36, 2, OEM, TABLE, 1)?;
 //!     let package = Package::new(vec![in alloc; &ZERO as &dyn Aml, &ONE]?)?;
 //!     append_object(&package, &mut table)?;
 //!     Ok(table)
 //! }
 //!
-//! fn processors(alloc: Global) -> R<Vec<u8>> {
+//! fn fixed(sink: &mut dyn AmlSink) -> R<()> {
+//!     // bert: a page with the errors of the last boot.
+//!     BERT::new(OEM, TABLE, 1, 0x1000, 0x1c11_0000).to_aml_bytes(sink)?;
+//!     // facs: the memory that firmware and the operating system share.
+//!     FACS::new().to_aml_bytes(sink)?;
+//!     // fadt, gas: a hardware-reduced machine with a reset register at port 0xcf9.
+//!     let mut fields = FADTBuilder::new(OEM, TABLE, 1).flag(Flags::HwReducedAcpi);
+//!     fields.reset_reg = GAS::new(AddressSpace::SystemIo, 8, 0, AccessSize::ByteAccess, 0xcf9);
+//!     fields.finalize().to_aml_bytes(sink)?;
+//!     // rsdp: the pointer to an XSDT.
+//!     Rsdp::new(OEM, 0x1c00_0200).to_aml_bytes(sink)?;
+//!     // spcr: a console of the RISC-V supervisor binary interface.
+//!     SPCR::sbi(OEM, TABLE, 1).to_aml_bytes(sink)?;
+//!     // tpm2: a module with a command response buffer, and a log.
+//!     let class = PlatformClass::Client;
+//!     let mut module = Tpm2::new(OEM, TABLE, 1, class, 0xfed4_0000, StartMethod::Crb);
+//!     module.set_log_area(0x1_0000, 0x1c12_0000)?;
+//!     module.to_aml_bytes(sink)
+//! }
+//!
+//! fn lists(alloc: Global, sink: &mut dyn AmlSink) -> R<()> {
+//!     // xsdt: the address of a table.
+//!     let mut addresses = XSDT::new(alloc, OEM, TABLE, 1);
+//!     addresses.add_entry(0x1c00_0100)?;
+//!     addresses.to_aml_bytes(sink)?;
+//!     // madt: a processor.
 //!     let local = LocalInterruptController::Address(0xfee0_0000);
-//!     let mut table = MADT::new(alloc, *b"FOOBAR", *b"CAFEDEAD", 0xdead_beef, local);
-//!     table.add_structure(ProcessorLocalApic::new(0, 0, EnabledStatus::Enabled))?;
-//!     table.add_structure(ProcessorLocalApic::new(1, 1, EnabledStatus::Enabled))?;
-//!     let mut bytes = Vec::new(alloc);
-//!     table.to_aml_bytes(&mut bytes)?;
-//!     Ok(bytes)
+//!     let mut controllers = MADT::new(alloc, OEM, TABLE, 1, local);
+//!     controllers.add_structure(ProcessorLocalApic::new(0, 0, EnabledStatus::Enabled))?;
+//!     controllers.to_aml_bytes(sink)?;
+//!     // srat: 256 MiB of memory of domain 0.
+//!     let mut memory = SRAT::new(alloc, OEM, TABLE, 1);
+//!     memory.add_memory_affinity(MemoryAffinity::new(0, 0, 0x1000_0000).enabled())?;
+//!     memory.to_aml_bytes(sink)?;
+//!     // cedt: a CXL host bridge.
+//!     let mut bridges = CEDT::new(alloc, OEM, TABLE, 1);
+//!     bridges.add_host_bridge(CxlHostBridge::new(7, CxlVersion::Cxl2, 0x2000_0000))?;
+//!     bridges.to_aml_bytes(sink)?;
+//!     // hest: the errors of all root ports.
+//!     let mut sources = HEST::new(alloc, OEM, TABLE, 1);
+//!     sources.add_structure(PcieAerRootPort::new_global())?;
+//!     sources.to_aml_bytes(sink)?;
+//!     // rqsc: a controller of a cache's capacity.
+//!     let (space, size) = (AddressSpace::SystemMemory, AccessSize::QwordAccess);
+//!     let register = GAS::new(space, 64, 0, size, 0x2010_0000);
+//!     let capacity = QoSController::new(alloc, ControllerType::Capacity, register, 64, 64, 0);
+//!     let mut controllers = RQSC::new(alloc, OEM, TABLE, 1);
+//!     controllers.add_controller(capacity)?;
+//!     controllers.to_aml_bytes(sink)
+//! }
+//!
+//! fn nodes(alloc: Global, sink: &mut dyn AmlSink) -> R<()> {
+//!     // pptt: a package with one core.
+//!     let mut topology = PPTT::new(alloc, OEM, TABLE, 1);
+//!     let package = topology.add_processor(ProcessorNode::new(alloc, None, 0).physical())?;
+//!     let core = ProcessorNode::new(alloc, Some(&package), 0);
+//!     topology.add_processor(core.valid().leaf())?;
+//!     topology.to_aml_bytes(sink)?;
+//!     // rhct: a hart and its ISA string, with a time base of 10 MHz.
+//!     let mut harts = RHCT::new(alloc, OEM, TABLE, 1, 10_000_000);
+//!     let isa = harts.add_isa_string("rv64imafdc")?;
+//!     harts.add_hart_info(HartInfoNode::new(alloc, 0, &isa)?)?;
+//!     harts.to_aml_bytes(sink)?;
+//!     // viot: a virtual IOMMU, and the PCI functions that use it.
+//!     let mut devices = VIOT::new(alloc, OEM, TABLE, 1);
+//!     let function = PciDevice::new(0, 0, 1, 0);
+//!     let iommu = devices.add_virtio_pci_iommu(VirtIoPciIommu::new(function))?;
+//!     let (first, last) = (PciDevice::new(0, 0, 2, 0), PciDevice::new(0, 0, 31, 7));
+//!     devices.add_pci_range(PciRange::new(first, last, &iommu))?;
+//!     devices.to_aml_bytes(sink)?;
+//!     // rimt: an IOMMU with registers at a physical address.
+//!     let mut iommus = RIMT::new(alloc, OEM, TABLE, 1);
+//!     iommus.add_iommu(Iommu::new(1, Some(0x1001_0000), None, None, None))?;
+//!     iommus.to_aml_bytes(sink)
+//! }
+//!
+//! fn matrices(alloc: Global, sink: &mut dyn AmlSink) -> R<()> {
+//!     // slit: the distance of two localities.
+//!     let mut distances = SLIT::new(alloc, OEM, TABLE, 1, 2)?;
+//!     distances.set_distance(0, 1, 20)?;
+//!     distances.to_aml_bytes(sink)?;
+//!     // hmat: the memory of domain 0 is attached to the processors of domain 0.
+//!     let mut attributes = HMAT::new(alloc, OEM, TABLE, 1);
+//!     attributes.add_memory_proximity(MemoryProximityDomain::new(0, 0))?;
+//!     attributes.to_aml_bytes(sink)
+//! }
+//!
+//! // layout, mcfg: an image with the configuration space of PCI.
+//! fn image(alloc: Global) -> R<Image> {
+//!     let block = block(alloc)?;
+//!     let mut spaces = MCFG::new(alloc, OEM, TABLE, 1);
+//!     spaces.add_ecam(0xb000_0000, 0, 0, 255)?;
+//!     let tables: Vec<&dyn Aml> = vec![in alloc; &spaces as &dyn Aml]?;
+//!     let (facs, fadt) = (FACS::new(), FADTBuilder::new(OEM, TABLE, 1));
+//!     lay(0x1c00_0000, OEM, TABLE, 1, &block, &facs, fadt, tables)
+//! }
+//!
+//! // read: the report of a table's bytes.
+//! fn report(alloc: Global, bytes: &[u8]) -> Result<String, ReadError> {
+//!     let table = Table::check(bytes)?;
+//!     report_table(alloc, &table)
 //! }
 //! ```
 //!
-//! A call that takes a value and returns an error drops the value: `add_cache` its node, `add_processor` the node that it was to
-//! add. What the call borrows is unchanged. Where a limit may be reached, ask first: `ProcessorNode::resource_count`,
-//! `HartInfoNode::offset_count`, and `len` and `count` of each table.
+//! A call that takes a value and returns an error drops the value: `ProcessorNode::add_cache` drops its node, and
+//! `PPTT::add_processor` the node that it should add. The arguments that a call borrows are unchanged. Before a call that may
+//! reach a limit, ask for the number that there is: `ProcessorNode::resource_count`, `HartInfoNode::offset_count`, and `len` and
+//! `count` of each table.
 #![tactic(auto)]
 
 pub mod aml;
@@ -46,7 +167,7 @@ pub mod bert {
     pub use acpi_fixed::bert::BERT;
 }
 
-/// The CXL Early Discovery Table and its structures (CXL profile).
+/// The CXL Early Discovery Table and its structures (this project's profile).
 pub mod cedt {
     pub use acpi_lists::cedt::{
         CEDT, CxlFixedMemory, CxlHostBridge, CxlVersion, InterleaveArithmetic,
@@ -70,8 +191,8 @@ pub mod gas {
     pub use acpi_base::gas::{AccessSize, AddressSpace, GAS};
 }
 
-/// The Hardware Error Source Table and its structures (ACPI 6.5, 18.3.2). [`EnabledStatus`](hest::EnabledStatus) is also the
-/// name of a type of `madt`, and [`PciDevice`](hest::PciDevice) of one of `viot` and `rimt`: write `hest::EnabledStatus`.
+/// The Hardware Error Source Table and its structures (ACPI 6.5, 18.3.2). Other modules have types of the same names: `madt` has
+/// an `EnabledStatus`, and `viot` and `rimt` a `PciDevice`. Write `hest::EnabledStatus` and `hest::PciDevice`.
 pub mod hest {
     pub use acpi_hest::hest::{
         EnabledStatus, ErrorSeverity, FirmwareFirst, GenericErrorData, GenericErrorStatus,
@@ -80,8 +201,8 @@ pub mod hest {
     };
 }
 
-/// The Heterogeneous Memory Attribute Table and its structures (ACPI 6.5, 5.2.28). [`WritePolicy`](hmat::WritePolicy) is also
-/// the name of a type of `pptt`: write `hmat::WritePolicy`.
+/// The Heterogeneous Memory Attribute Table and its structures (ACPI 6.5, 5.2.28). `pptt` has a type `WritePolicy`, too: write
+/// `hmat::WritePolicy`.
 pub mod hmat {
     pub use acpi_matrices::hmat::{
         Associativity, CacheLevel, DataType, HMAT, LocalityType, MemoryProximityDomain,
@@ -94,8 +215,8 @@ pub mod layout {
     pub use acpi_layout::layout::{Image, lay};
 }
 
-/// The Multiple APIC Description Table and its structures (ACPI 6.5, 5.2.12). [`EnabledStatus`](madt::EnabledStatus) is also the
-/// name of a type of `hest`: write `madt::EnabledStatus`.
+/// The Multiple APIC Description Table and its structures (ACPI 6.5, 5.2.12). `hest` has a type `EnabledStatus`, too: write
+/// `madt::EnabledStatus`.
 pub mod madt {
     pub use acpi_lists::madt::{
         APLIC, EnabledStatus, GicIts, GicMsi, GicVersion, Gicc, Gicd, Gicr, HartStatus, IMSIC,
@@ -108,8 +229,8 @@ pub mod mcfg {
     pub use acpi_lists::mcfg::MCFG;
 }
 
-/// The Processor Properties Topology Table and its nodes (ACPI 6.5, 5.2.30). [`WritePolicy`](pptt::WritePolicy) is also the name
-/// of a type of `hmat`: write `pptt::WritePolicy`.
+/// The Processor Properties Topology Table and its nodes (ACPI 6.5, 5.2.30). `hmat` has a type `WritePolicy`, too: write
+/// `pptt::WritePolicy`.
 pub mod pptt {
     pub use acpi_nodes::pptt::{
         AllocationType, CacheHandle, CacheNode, CacheNodeBuilder, CacheType, PPTT, ProcessorHandle,
@@ -125,8 +246,8 @@ pub mod rhct {
     };
 }
 
-/// The RISC-V I/O Mapping Table and its devices (this project's profile). [`PciDevice`](rimt::PciDevice) is that of `viot`, and
-/// also the name of a type of `hest`.
+/// The RISC-V I/O Mapping Table and its devices (this project's profile). `PciDevice` is the type of `viot`. `hest` has another
+/// type of this name.
 pub mod rimt {
     pub use acpi_nodes::rimt::{
         IdMapping, InterruptWire, Iommu, IommuOffset, PciDevice, PcieRootComplex, Platform, RIMT,
@@ -146,7 +267,7 @@ pub mod rsdp {
     pub use acpi_fixed::rsdp::Rsdp;
 }
 
-/// Tables whose contents are the caller's (ACPI 6.5, 5.2.6).
+/// Tables with the standard header and the caller's content (ACPI 6.5, 5.2.6).
 pub mod sdt {
     pub use acpi_base::address::{AccessWidth, GenericAddress};
     pub use acpi_base::sdt::{Sdt, append_object};
@@ -173,8 +294,8 @@ pub mod tpm2 {
     pub use acpi_fixed::tpm2::{PlatformClass, StartMethod, Tpm2, TpmClient1_2, TpmServer1_2};
 }
 
-/// The Virtual I/O Translation Table and its nodes (ACPI 6.5, 5.2.32). [`PciDevice`](viot::PciDevice) is that of `rimt`, and also
-/// the name of a type of `hest`: write `viot::PciDevice`.
+/// The Virtual I/O Translation Table and its nodes (ACPI 6.5, 5.2.32). `PciDevice` is the type of `rimt`, too. `hest` has another
+/// type of this name: write `viot::PciDevice`.
 pub mod viot {
     pub use acpi_nodes::viot::{
         MmioEndpoint, PciDevice, PciRange, TranslationHandle, VIOT, VirtIoMmioIommu, VirtIoPciIommu,

@@ -1,4 +1,4 @@
-//! Reading what anyone has written: tables that are checked, their reports, and the terms of AML.
+//! Reading: checked tables and their structures, terms of AML, and reports of both.
 
 pub use acpi_read::pieces::Piece;
 pub use acpi_read::report::{report_header, report_table, report_terms};

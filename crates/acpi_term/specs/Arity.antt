@@ -12,7 +12,7 @@ abbrev pub are_arities : List (List ℕ × ℕ) → Bool
 are_arities [] = true
 are_arities (a ∷ all) = nat_le a.1 7 && not (is_stated all a.0) && are_arities all
 
--- how many arguments a name takes: none if it isn't stated
+-- how many arguments a name takes: none if it isn't listed
 abbrev pub arity : List (List ℕ × ℕ) → List ℕ → ℕ
 arity [] name = 0
 arity (a ∷ all) name = if bytes_eq a.0 name then a.1 else arity all name

@@ -1,4 +1,4 @@
--- Terms whose values and widths fit the bytes that they are spelled in, whatever their names and arguments are.
+-- Terms whose values and widths fit the bytes in which they are written. Names and argument counts don't matter here.
 use Rattle.std.specs.Prelude.{◌≡◌, ◌≢◌, ℕ, ◌^◌, ◌<◌, List, ◌++◌, None}
 use Rattle.acpi_base.specs.declared.error.Error.{Error}
 use Rattle.acpi_base.specs.declared.error.Error.TheVariants.{Memory}
@@ -14,13 +14,13 @@ abbrev pub FlagsFit : Head → Type 0
 FlagsFit (def_field name access lock update entries) = field_flags access lock update < 2 ^ 8
 FlagsFit _ = Unit {0}
 
--- a number fits its width, and the entries of a field fit theirs
+-- a number fits its width, and so do the entries of a field
 abbrev pub ValuesFit : Head → ℕ → Type 0
 ValuesFit (number v) w = v < number_limit w
 ValuesFit (def_field name access lock update entries) w = EntriesFit entries
 ValuesFit _ w = Unit {0}
 
--- a head of this width with n children, whose spellings joined are the bytes inside
+-- a head of this width with n children, which are spelled by the bytes inside
 pub record IsCarried (h : Head) (w n : ℕ) (inside : List ℕ) : Type 0 where
   pub owns : own h n ≡ None
   pub flags : FlagsFit h
@@ -31,20 +31,20 @@ AreCarried end = Unit {0}
 AreCarried (term h w children others) = IsCarried h w (count children) (spelling children) × AreCarried children
     × AreCarried others
 
--- A refusal that isn't for Memory: the entry's width doesn't carry its bits.
+-- An error other than `Memory`: the entry's bits don't fit its width.
 pub record IsUnfit (e : Error) (entry : TermEntry) : Type 0 where
   pub cause : e ≢ Memory → entry_bits (entry_view entry) < limit (entry_width (entry_view entry)) → ⊥
 
--- the spelling of terms that are carried was added to a list
+-- the spelling of terms whose values fit was added to a list
 pub record Added (ts : Terms) (old new : List ℕ) : Type 0 where
   pub carried : AreCarried ts
   pub joined : new ≡ old ++ spelling ts
 
--- a refusal that isn't for Memory: some term isn't carried
+-- an error other than `Memory`: the values of some term don't fit
 pub record IsUncarried (e : Error) (ts : Terms) : Type 0 where
   pub cause : e ≢ Memory → AreCarried ts → ⊥
 
--- a head of this width over n children, whose spellings joined are the bytes inside
+-- the bytes of a head of this width with n children, which are spelled by the bytes inside
 pub record Laid (h : Head) (w n : ℕ) (inside bytes : List ℕ) : Type 0 where
   pub carried : IsCarried h w n inside
   pub is : bytes ≡ spelled h w n inside
@@ -52,18 +52,18 @@ pub record Laid (h : Head) (w n : ℕ) (inside bytes : List ℕ) : Type 0 where
 pub record Unlaid (e : Error) (h : Head) (w n : ℕ) (inside : List ℕ) : Type 0 where
   pub cause : e ≢ Memory → IsCarried h w n inside → ⊥
 
--- of the heads without a frame only a number has a width
+-- of the heads without a frame, only a number has a width
 abbrev pub BareFits : Head → ℕ → Type 0
 BareFits (number v) w = Unit {0}
 BareFits _ w = w ≡ 0
 
--- what a head itself holds fits its bytes
+-- the values of a head fit its bytes
 pub record IsOwnCarried (h : Head) (w n : ℕ) : Type 0 where
   pub owns : own h n ≡ None
   pub flags : FlagsFit h
   pub values : ValuesFit h w
 
--- the bytes of a head that stand before its children
+-- the bytes of a head before its children
 pub record OwnLaid (h : Head) (w n : ℕ) (bytes : List ℕ) : Type 0 where
   pub carried : IsOwnCarried h w n
   pub is : bytes ≡ before_of (layout h w n)

@@ -1,4 +1,4 @@
--- Where a name's bytes are held.
+-- Where the bytes of a name are stored.
 use Rattle.std.specs.Prelude.{ℕ, ◌≤◌, List, take}
 use Rattle.acpi_term.specs.declared.name_string.NameBytes.{NameBytes}
 use Rattle.acpi_term.specs.declared.name_string.NameBytes.TheVariants.{Few, Many}
@@ -8,7 +8,7 @@ abbrev pub held : NameBytes → List ℕ
 held (Few count bytes) = take count bytes
 held (Many bytes) = bytes.value.items
 
--- there are as many as are counted
+-- the counted bytes fit the value itself
 abbrev pub Holds : NameBytes → Type 0
 Holds (Few count bytes) = count ≤ 14
 Holds (Many bytes) = Unit {0}

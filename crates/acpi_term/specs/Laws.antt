@@ -1,4 +1,4 @@
--- What holds of the definitions, whatever calls there are.
+-- Laws about the definitions, which hold for all calls.
 use Rattle.std.specs.Prelude.{◌≡◌, ◌↔◌, ℕ, ◌+◌, ◌^◌, ◌<◌, ◌≤◌, List, ◌++◌, length, Some, None, true}
 use Rattle.acpi_base.specs.Bytes.{AreBytes}
 use Rattle.acpi_base.specs.Number.{number_limit, number_bytes, number_width}
@@ -14,8 +14,8 @@ use Rattle.acpi_term.specs.Splits.{Splits}
 
 -- ---- rows
 
--- A row that is whole spells the term of its head over the terms that its children spell, wherever it stands, in the
--- width that is written.
+-- If a row has no error, its bytes spell the term of its head over the terms of its children, in every place and in the width
+-- that is written.
 abbrev pub RowsMean : Type 0
 RowsMean =
     (arity : List ℕ → ℕ) (m : Mode) (h : Head) (objects : List Object) (ts : Terms)
@@ -23,7 +23,7 @@ RowsMean =
     → (row h objects).end ≡ None
     → Spells arity m (row h objects).front (one h (writer_width h (length objects) (all_of objects).front) ts)
 
--- The same round bytes that spell all children.
+-- The same, where one list of bytes spells all children.
 abbrev pub RowsOverMean : Type 0
 RowsOverMean =
     (arity : List ℕ → ℕ) (m : Mode) (h : Head) (bytes : List ℕ) (ts : Terms)
@@ -31,7 +31,7 @@ RowsOverMean =
     → (around (layout h (own_width h) (count ts)) (whole bytes)).end ≡ None
     → Spells arity m (around (layout h (own_width h) (count ts)) (whole bytes)).front (one h (writer_width h (count ts) bytes) ts)
 
--- Objects that spell a term each, one after another, spell the list of these terms.
+-- If each object spells a term, the objects in order spell the list of these terms.
 abbrev pub ObjectsMean : Type 0
 ObjectsMean =
     (arity : List ℕ → ℕ) (m : Mode) (objects : List Object) (ts : Terms)
@@ -39,62 +39,62 @@ ObjectsMean =
 
 -- ---- unique reading
 
--- At most one list of terms is spelled, wherever the first stands, and no other bytes spell it.
+-- Bytes spell at most one list of terms, for each place of the first, and no other bytes spell this list.
 abbrev pub AtMostOneList : Type 0
 AtMostOneList =
     ((arity : List ℕ → ℕ) (m : Mode) (bytes : List ℕ) (ts us : Terms) → Spells arity m bytes ts → Spells arity m bytes us
     → ts ≡ us)
     × ((arity : List ℕ → ℕ) (m : Mode) (a b : List ℕ) (ts : Terms) → Spells arity m a ts → Spells arity m b ts → a ≡ b)
 
--- Where two beginnings of the same bytes spell a term each, they are one beginning and one term.
+-- If two first parts of the same bytes spell a term each, they are the same part and the same term.
 abbrev pub AtMostOneFront : Type 0
 AtMostOneFront =
     (arity : List ℕ → ℕ) (m : Mode) (g h : Head) (v w : ℕ) (c d : Terms) (a b x y : List ℕ)
     → Spells arity m a (one g v c) → Spells arity m b (one h w d) → a ++ x ≡ b ++ y → (a ≡ b) × (one g v c ≡ one h w d) × (x ≡ y)
 
--- The spelling as a function and as a relation over cuts are the same.
+-- The spelling as a function and as a relation on cut bytes are the same.
 abbrev pub SplitsAgree : Type 0
 SplitsAgree = (arity : List ℕ → ℕ) (m : Mode) (bytes : List ℕ) (ts : Terms) → Spells arity m bytes ts ↔ Splits arity m bytes ts
 
 -- ---- names
 
--- A text of 1 to 255 standard segments names a name, and the path of that text, which is whole.
+-- A text of 1 to 255 standard segments is the text of a name, and its path has the bytes of that name and no error.
 abbrev pub NameTextsAreNames : Type 0
 NameTextsAreNames = (text : List ℕ) → is_name_text text ≡ true
     → IsName (path_spelling text) × ((path_of text).end ≡ None) × ((path_of text).front ≡ path_spelling text)
 
--- A text is its parts with dots between them, and no part has a dot.
+-- A text is its parts with dots between them, and no part contains a dot.
 abbrev pub TextsAreTheirParts : Type 0
 TextsAreTheirParts = (text : List ℕ) → (with_dots (parts text) ≡ text) × AreDotless (parts text)
 
 -- ---- lengths and numbers
 
--- The bytes of a value in a width have that value, and bytes that have a value are its bytes in their width.
+-- The bytes of a value in a width have that value. Bytes that have a value are the bytes of it in their width.
 abbrev pub LengthsAreSpelled : Type 0
 LengthsAreSpelled =
     ((w v : ℕ) → v < limit w → AreBytes (length_bytes w v) × (value (length_bytes w v) ≡ Some v)
     × (length (length_bytes w v) ≡ w))
     × ((p : List ℕ) (v : ℕ) → AreBytes p → value p ≡ Some v → (v < limit (length p)) × (length_bytes (length p) v ≡ p))
 
--- What frames a content are its lengths in the widths that fit it.
+-- The PkgLengths of a content are the lengths in each width that fits it.
 abbrev pub FramesAreSpelled : Type 0
 FramesAreSpelled =
     ((w : ℕ) (content : List ℕ) → FrameFits w content
     → (p : List ℕ) × Frames p content × (length p ≡ w) × (with_length w content ≡ p ++ content))
     × ((p content : List ℕ) → Frames p content → FrameFits (length p) content × (with_length (length p) content ≡ p ++ content))
 
--- The written frame fits, and nothing that frames the content is shorter. A content of 2^28 - 4 bytes or more has none.
+-- The PkgLength that is written fits, and no shorter one does. A content of 2^28 - 4 bytes or more has none.
 abbrev pub FramesAreLeast : Type 0
 FramesAreLeast =
     ((content : List ℕ) → 4 + length content < 2 ^ 28 → FrameFits (least_width (length content)) content)
     × ((p content : List ℕ) → Frames p content → (least_width (length content) ≤ length p) × (4 + length content < 2 ^ 28))
 
--- The first bytes of a frame have a value, which tells where it ends.
+-- The first bytes of a frame have a value, which gives the end of the frame.
 abbrev pub FramesEndWithTheirContent : Type 0
 FramesEndWithTheirContent = (w : ℕ) (content : List ℕ) → FrameFits w content
     → value (length_bytes w (w + length content)) ≡ Some (length (with_length w content))
 
--- A field entry's length is written in the least width that carries it and that width together, or in 4 bytes where none
+-- The length of a field entry is written in the least width that fits the length and that width together, or in 4 bytes if none
 -- does. From 2^28 bits on it has no width.
 abbrev pub FieldLengthsAreLeast : Type 0
 FieldLengthsAreLeast =
@@ -102,7 +102,7 @@ FieldLengthsAreLeast =
     × ((bits w : ℕ) → w + bits < limit w → (least_width bits ≤ w) × (least_width bits + bits < limit (least_width bits)))
     × ((bits : ℕ) → 2 ^ 28 ≤ 4 + bits → least_width bits ≡ 4) × ((bits w : ℕ) → bits < limit w → bits < 2 ^ 28)
 
--- The written width carries the number, and no other that does is shorter. From 2^64 on there is none.
+-- The number fits the width that is written, and no shorter one. From 2^64 on there is none.
 abbrev pub NumbersAreLeast : Type 0
 NumbersAreLeast =
     ((v : ℕ) → v < 2 ^ 64 → v < number_limit (number_width v))

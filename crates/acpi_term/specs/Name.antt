@@ -5,7 +5,7 @@ use Rattle.std.specs.Prelude.{◌≡◌, ℕ, zero, suc, ◌≤◌, ◌<◌, ◌
 abbrev pub is_lead : ℕ → Bool
 is_lead b = (nat_le 0x41 b && nat_le b 0x5a) || b == 0x5f
 
--- NameChar: also a digit
+-- NameChar: these, or a digit
 abbrev pub is_part : ℕ → Bool
 is_part b = is_lead b || (nat_le 0x30 b && nat_le b 0x39)
 
@@ -18,13 +18,13 @@ pub data AreSegments : ℕ → List ℕ → Type 0 where
   no_more : AreSegments zero []
   one_more : {n a b c d : ℕ} {s : List ℕ} → is_segment a b c d ≡ true → AreSegments n s → AreSegments (suc n) (a ∷ b ∷ c ∷ d ∷ s)
 
--- One segment; DualNamePrefix and two; or MultiNamePrefix, a count and this many, here never fewer than three.
+-- One segment; DualNamePrefix and two; or MultiNamePrefix, a count and that many, which are three or more here.
 pub data IsPath : List ℕ → Type 0 where
   single : {s : List ℕ} → AreSegments 1 s → IsPath s
   double : {s : List ℕ} → AreSegments 2 s → IsPath (0x2e ∷ s)
   multiple : {n : ℕ} {s : List ℕ} → 3 ≤ n → n < 256 → AreSegments n s → IsPath (0x2f ∷ n ∷ s)
 
--- a RootChar or none, and a path
+-- an optional RootChar, and a path
 pub data IsName : List ℕ → Type 0 where
   relative : {s : List ℕ} → IsPath s → IsName s
   rooted : {s : List ℕ} → IsPath s → IsName (0x5c ∷ s)

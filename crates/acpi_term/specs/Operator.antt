@@ -1,15 +1,15 @@
--- Operators: what there is to know of each, and which one an opcode is (ACPI 6.5, 20.2.5 and 20.3).
+-- Operators: the facts about each, and the operator of each opcode (ACPI 6.5, 20.2.5 and 20.3).
 use Rattle.std.specs.Prelude.{ℕ, List, [], ◌∷◌, Option, codes}
 use Rattle.std.specs.List.{find}
 use Rattle.std.specs.Str.{bytes_eq}
 use Rattle.acpi_term.specs.declared.op.Op.{Op}
 use Rattle.acpi_term.specs.declared.op.Op.TheVariants as op
 
--- A target is an operand too, and so is the name that an operator creates.
+-- A target counts as an operand, and so does the name that an operator creates.
 pub record Facts : Type 0 where
   pub opcode : List ℕ
   pub operands : ℕ
-  -- as a report has it
+  -- its word in a report
   pub word : List ℕ
 
 abbrev pub known : List ℕ → ℕ → List ℕ → Facts

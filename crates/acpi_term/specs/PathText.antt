@@ -1,4 +1,4 @@
--- Paths as texts: a `\` or none, and then parts between dots.
+-- Paths as texts: an optional `\`, and then parts with dots between them.
 use Rattle.std.specs.Prelude.{◌≢◌, ℕ, ◌==◌, ◌&&◌, ◌||◌, nat_le, Bool, true, false}
 use Rattle.std.specs.Prelude.{if◌then◌else◌, List, [], ◌∷◌, ◌++◌, length, Option, Some, None}
 use Rattle.std.specs.List.{concat}
@@ -30,7 +30,7 @@ abbrev pub AreDotless : List (List ℕ) → Type 0
 AreDotless [] = Unit {0}
 AreDotless (p ∷ ps) = IsDotless p × AreDotless ps
 
--- each has four bytes
+-- each part has four bytes
 abbrev pub are_fours : List (List ℕ) → Bool
 are_fours [] = true
 are_fours (p ∷ ps) = length p == 4 && are_fours ps
@@ -60,15 +60,15 @@ abbrev pub unrooted : List ℕ → List ℕ
 unrooted [] = []
 unrooted (b ∷ text) = if b == 0x5c then text else b ∷ text
 
--- what stands before this many segments (ACPI 6.5, 20.2.2): nothing, DualNamePrefix, or MultiNamePrefix and their number
+-- the bytes before this many segments (ACPI 6.5, 20.2.2): none, DualNamePrefix, or MultiNamePrefix and their number
 abbrev pub lead : ℕ → List ℕ
 lead n = if n == 1 then [] else (if n == 2 then 0x2e ∷ [] else 0x2f ∷ n ∷ [])
 
--- A part that hasn't four bytes comes before their number.
+-- A part without four bytes is reported before too many parts.
 abbrev pub parts_end : List (List ℕ) → Option Error
 parts_end ps = if are_fours ps then (if nat_le (length ps) 255 then None else Some PathParts) else Some NamePart
 
--- the bytes that a text names
+-- the bytes of the path of a text
 abbrev pub path_spelling : List ℕ → List ℕ
 path_spelling text = root text ++ (lead (length (parts (unrooted text))) ++ concat (parts (unrooted text)))
 
@@ -76,6 +76,6 @@ path_spelling text = root text ++ (lead (length (parts (unrooted text))) ++ conc
 abbrev pub path_of : List ℕ → Object
 path_of text = ended (parts_end (parts (unrooted text))) (whole (path_spelling text))
 
--- a text that names 1 to 255 standard segments
+-- a text of 1 to 255 standard segments
 abbrev pub is_name_text : List ℕ → Bool
 is_name_text text = are_standard (parts (unrooted text)) && nat_le (length (parts (unrooted text))) 255

@@ -1,10 +1,10 @@
--- Why bytes couldn't be read.
+-- The names and texts of errors of reading.
 use Rattle.std.specs.Prelude.{ℕ, List, ◌++◌, codes, Option, Some, None}
 use Rattle.std.specs.Fmt.{decimal}
 use Rattle.acpi_term.specs.declared.read_error.ReadError.{ReadError}
 use Rattle.acpi_term.specs.declared.read_error.ReadError.TheVariants as kinds
 
--- the kind's name, as text
+-- the error's name, as text
 abbrev pub name_of : ReadError → List ℕ
 name_of kinds.Memory = codes "Memory"
 name_of (kinds.Truncated offset) = codes "Truncated"
@@ -23,7 +23,7 @@ name_of (kinds.Sum offset) = codes "Sum"
 name_of (kinds.Structure offset) = codes "Structure"
 name_of (kinds.UnknownSource offset) = codes "UnknownSource"
 
--- the offset that it tells
+-- the offset of the error, if it has one
 abbrev pub offset_of : ReadError → Option ℕ
 offset_of kinds.Memory = None
 offset_of (kinds.Truncated offset) = Some offset
@@ -42,7 +42,7 @@ offset_of (kinds.Sum offset) = Some offset
 offset_of (kinds.Structure offset) = Some offset
 offset_of (kinds.UnknownSource offset) = Some offset
 
--- what is wrong
+-- the error as text, without the offset
 abbrev pub message_of : ReadError → List ℕ
 message_of kinds.Memory = codes "out of memory"
 message_of (kinds.Truncated offset) = codes "the bytes end within a term"
@@ -61,7 +61,7 @@ message_of (kinds.Sum offset) = codes "the bytes of a table don't sum to zero"
 message_of (kinds.Structure offset) = codes "a structure isn't as long as it says"
 message_of (kinds.UnknownSource offset) = codes "the size of an error source isn't known"
 
--- its text: at which offset, where it tells one, and what is wrong
+-- the error as text, with the offset if it has one
 abbrev pub placed : Option ℕ → List ℕ → List ℕ
 placed (Some offset) message = codes "at offset " ++ decimal offset ++ codes ": " ++ message
 placed None message = message

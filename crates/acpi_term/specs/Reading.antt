@@ -1,6 +1,6 @@
--- Reading terms from left to right, at most as deep as is said. It defines nothing: what is spelled is read, and what is
--- read is spelled (`Again`, `Taken` in proofs/), which proves that bytes spell one list at most. It stands here since the
--- program that reads is compared with it, part by part; what that program promises names the spelling alone.
+-- Reading terms from left to right, up to a given depth. These functions don't define the spelling: proofs/Again and proofs/Taken
+-- show that they read exactly what is spelled, which is why bytes spell one list at most. They are in specs/ because the reader's
+-- code is compared with them, part by part. The contracts of the reader name the spelling alone.
 use Rattle.std.specs.Prelude.{ℕ, zero, suc, ◌+◌, ◌-◌, ◌*◌, ◌/◌, ◌%◌, ◌==◌, ◌&&◌, ◌||◌, nat_lt, nat_le, Bool}
 use Rattle.std.specs.Prelude.{if◌then◌else◌, List, [], ◌∷◌, ◌++◌, length, take, drop, Option, Some, None, Result, Ok, Err}
 use Rattle.acpi_term.specs.declared.op.Op.{Op}
@@ -14,7 +14,7 @@ use Rattle.acpi_term.specs.Name.{is_lead, is_segment}
 use Rattle.acpi_term.specs.Operator.{operands, op_of}
 use Rattle.acpi_term.specs.Spelling.{arguments, inner, next}
 
--- deeper than was asked for, or anything else
+-- nested deeper than allowed, or any other fault
 pub data Fault : Type 0 where
   Deep : Fault
   Bad : Fault
@@ -62,7 +62,7 @@ high_at (suc k) (b ∷ rest) = high_at k rest >>= λ h. Ok (b + 256 * h.0, h.1)
 abbrev pub long_at : ℕ → ℕ → List ℕ → Result (ℕ × ℕ × List ℕ) Fault
 long_at k low bytes = if nat_lt low 16 then (high_at k bytes >>= λ h. Ok (k + 1, low + 16 * h.0, h.1)) else Err Bad
 
--- a length in any width: the width, the length and the bytes after it
+-- a length in any width: its width, its value and the bytes after it
 unfoldable pub length_at : List ℕ → Result (ℕ × ℕ × List ℕ) Fault
 length_at [] = Err Bad
 length_at (b ∷ rest) = if nat_lt b 64 then Ok (1, b, rest) else long_at (b / 64) (b % 64) rest
@@ -70,7 +70,7 @@ length_at (b ∷ rest) = if nat_lt b 64 then Ok (1, b, rest) else long_at (b / 6
 abbrev pub sized_at : ℕ → ℕ → List ℕ → Result (ℕ × List ℕ × List ℕ) Fault
 sized_at w v rest = if nat_lt v w then Err Bad else (cut_at (v - w) rest >>= λ c. Ok (w, c.0, c.1))
 
--- the width of the length, the content, and the bytes after it
+-- the width of a frame's length, the frame's content, and the bytes after it
 unfoldable pub frame_at : List ℕ → Result (ℕ × List ℕ × List ℕ) Fault
 frame_at bytes = length_at bytes >>= λ l. sized_at l.0 l.1 l.2
 
@@ -82,7 +82,7 @@ entry_at (b ∷ rest) =
     if b == 0x00 then (length_at rest >>= λ l. Ok (reserved l.1 l.0, l.2))
     else (segment_at (b ∷ rest) >>= λ s. length_at s.1 >>= λ l. Ok (named s.0 l.1 l.0, l.2))
 
--- all of the bytes, which are at most n
+-- the entries of all n bytes or fewer
 unfoldable pub entries_at : ℕ → List ℕ → Result (List Entry) Fault
 entries_at n [] = Ok []
 entries_at zero (b ∷ bytes) = Err Bad
@@ -90,7 +90,7 @@ entries_at (suc n) (b ∷ bytes) = entry_at (b ∷ bytes) >>= λ e. entries_at n
 
 -- ---- texts
 
--- the bytes up to a zero, which is left out, and the bytes after it
+-- the bytes up to a zero, without it, and the bytes after it
 unfoldable pub text_at : List ℕ → Result (List ℕ × List ℕ) Fault
 text_at [] = Err Bad
 text_at (b ∷ rest) =
@@ -99,15 +99,15 @@ text_at (b ∷ rest) =
 
 -- ---- heads
 
--- A head that was read, with its width: where its children are read from.
+-- A head that was read, with its width, and the bytes from which its children are read.
 pub data Opened : Type 0 where
-  -- n children, and then the rest
+  -- n children, followed by the rest
   follows : Head → ℕ → ℕ → List ℕ → Opened
-  -- children that fill the bytes inside, and the bytes after these
+  -- children that are all bytes inside, and the bytes after these
   fills : Head → ℕ → List ℕ → List ℕ → Opened
-  -- a package's width, and n elements that fill the bytes inside
+  -- a package's width, and n elements that are all bytes inside
   packs : ℕ → ℕ → List ℕ → List ℕ → Opened
-  -- a buffer's width, and a size and the other bytes inside
+  -- a buffer's width, and the bytes inside: a size, and the others
   begins : ℕ → List ℕ → List ℕ → Opened
 
 abbrev pub begins_name : ℕ → Bool
@@ -119,7 +119,7 @@ number_at w bytes = high_at w bytes >>= λ h. Ok (follows (number h.0) w 0 h.1)
 abbrev pub string_at : List ℕ → Result Opened Fault
 string_at bytes = text_at bytes >>= λ t. Ok (follows (string t.0) 0 0 t.1)
 
--- what a name is followed by, given the name and the bytes after it
+-- reads on after a name, from the name and the bytes after it
 abbrev pub After : Type 0
 After = List ℕ → List ℕ → Result Opened Fault
 
@@ -143,7 +143,7 @@ region_after name (space ∷ rest) = Ok (follows (def_op_region name space) 0 2 
 abbrev pub acquire_after : After
 acquire_after name bytes = high_at 2 bytes >>= λ h. Ok (follows (def_acquire name h.0) 0 0 h.1)
 
--- what a name in a frame is followed by, given the width, the name, the other bytes inside and the bytes after the frame
+-- reads on after a name in a frame, from the width, the name, the other bytes inside and the bytes after the frame
 abbrev pub Inside : Type 0
 Inside = ℕ → List ℕ → List ℕ → List ℕ → Result Opened Fault
 
@@ -172,7 +172,7 @@ field_inside w name (b ∷ rest) after =
     entries_at (length rest) rest >>= λ e. Ok (follows (def_field name (b % 16) (b / 16 % 2) (b / 32) e) w 0 after))
     else Err Bad) else Err Bad
 
--- a frame with nothing of its own
+-- a frame whose content is children alone
 abbrev pub plain_at : Head → List ℕ → Result Opened Fault
 plain_at h bytes = frame_at bytes >>= λ f. Ok (fills h f.0 f.1 f.2)
 
@@ -190,7 +190,7 @@ abbrev pub operator_at : Option Op → List ℕ → Result Opened Fault
 operator_at None rest = Err Bad
 operator_at (Some o) rest = Ok (follows (op o) 0 (operands o) rest)
 
--- the second byte of a two byte opcode
+-- the second byte of an opcode of two bytes
 abbrev pub extended_at : List ℕ → Result Opened Fault
 extended_at [] = Err Bad
 extended_at (b ∷ rest) =
@@ -239,18 +239,18 @@ module _ (arity : List ℕ → ℕ) where
 
 -- ---- terms
 
--- how many children there must be in a frame
+-- the least number of children in a frame
 abbrev pub least_of : Head → ℕ
 least_of def_if = 1
 least_of def_while = 1
 least_of def_var_package = 1
 least_of _ = 0
 
--- a head, its width and its children
+-- one term: a head, its width and its children
 abbrev pub One : Type 0
 One = Head × ℕ × Terms
 
--- the same, where the children are enough
+-- one term, if it has enough children
 unfoldable pub assembled : Head → ℕ → Terms → Result One Fault
 assembled h w c = if nat_lt (count c) (least_of h) then Err Bad else Ok (h, w, c)
 
@@ -263,7 +263,7 @@ module _ (read : Reader) where
   counted zero m bytes = Ok (end, bytes)
   counted (suc n) m bytes = read m bytes >>= λ t. counted n (next m) t.3 >>= λ others. Ok (term t.0 t.1 t.2 others.0, others.1)
 
-  -- all of the bytes, which are at most n
+  -- the terms of all n bytes or fewer
   unfoldable pub all_of : ℕ → Mode → List ℕ → Result Terms Fault
   all_of n m [] = Ok end
   all_of zero m (b ∷ bytes) = Err Bad

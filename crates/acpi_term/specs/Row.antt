@@ -1,4 +1,4 @@
--- The rows of AML's format: what stands round the bytes of a term's children, and when a term is refused.
+-- The rows of AML's format: the bytes around those of a term's children, and the term's errors.
 use Rattle.std.specs.Prelude.{ℕ, ◌+◌, ◌*◌, ◌^◌, nat_lt, nat_le, Bool, if◌then◌else◌}
 use Rattle.std.specs.Prelude.{List, [], ◌∷◌, ◌++◌, length, Option, Some, None}
 use Rattle.acpi_base.specs.declared.error.Error.{Error}
@@ -31,12 +31,12 @@ abbrev pub entry_width : Entry → ℕ
 entry_width (named name bits w) = w
 entry_width (reserved bits w) = w
 
--- no length has 2^28 bits or more
+-- `PkgLength` if an entry has 2^28 bits or more
 abbrev pub entries_end : List Entry → Option Error
 entries_end [] = None
 entries_end (e ∷ entries) = if nat_lt (entry_bits e) (2 ^ 28) then entries_end entries else Some PkgLength
 
--- entries whose lengths are in the width that is written
+-- an entry whose length has the width that is written
 abbrev pub named_entry : List ℕ → ℕ → Entry
 named_entry name bits = named name bits (least_width bits)
 
@@ -53,11 +53,11 @@ method_flags args serialized = args + (if serialized then 8 else 0)
 
 -- ---- rows
 
--- what stands round the children's bytes
+-- the bytes around those of the children
 pub data Layout : Type 0 where
   -- these bytes, and then the children
   bare : List ℕ → Layout
-  -- an opcode, and a frame of bytes before the children, these, and bytes after them
+  -- an opcode, and a frame: bytes before the children, the children, and bytes after them
   framed : List ℕ → List ℕ → List ℕ → Layout
 
 -- the parts of a layout
@@ -73,7 +73,7 @@ abbrev pub after_of : Layout → List ℕ
 after_of (bare before) = []
 after_of (framed code before after) = after
 
--- The row of a head with n children (ACPI 6.5, 20.2.3 and 20.2.5). Of the width it needs a number's alone: a frame's is
+-- The row of a head with n children (ACPI 6.5, 20.2.3 and 20.2.5). It needs the width of a number only; the width of a frame is
 -- that of its length.
 abbrev pub layout : Head → ℕ → ℕ → Layout
 layout (number v) w n = bare (number_bytes v w)
@@ -101,7 +101,7 @@ layout def_while w n = framed (0xa2 ∷ []) [] []
 layout def_else w n = framed (0xa1 ∷ []) [] []
 layout (op o) w n = bare (opcode o)
 
--- the refusal of a head's own values, with n children
+-- the error of a head's own values, with n children
 abbrev pub own : Head → ℕ → Option Error
 own (local k) n = if nat_le k 7 then None else Some LocalNumber
 own (arg k) n = if nat_le k 6 then None else Some ArgNumber
@@ -110,14 +110,14 @@ own (def_field name access lock update entries) n = entries_end entries
 own def_package n = if nat_le n 255 then None else Some PackageElements
 own _ n = None
 
--- ---- rows as they are written
+-- ---- rows that are written
 
--- the width of a head that has one of its own: a number's least
+-- the width of a head without a frame: the least width of a number
 abbrev pub own_width : Head → ℕ
 own_width (number v) = number_width v
 own_width _ = 0
 
--- the refusal of a frame: no length can count itself and a content of this size
+-- the error of a frame: no length can count itself and a content of this size
 abbrev pub frame_end : ℕ → Option Error
 frame_end size = if nat_lt (4 + size) (2 ^ 28) then None else Some PkgLength
 
@@ -125,21 +125,21 @@ frame_end size = if nat_lt (4 + size) (2 ^ 28) then None else Some PkgLength
 abbrev pub frame : List ℕ → List ℕ → Object
 frame code content = ended (frame_end (length content)) (whole (code ++ with_length (least_width (length content)) content))
 
--- a layout round an object
+-- a layout around an object
 abbrev pub around : Layout → Object → Object
 around (bare before) inside = ended inside.end (whole (before ++ inside.front))
 around (framed code before after) inside = ended inside.end (frame code (before ++ (inside.front ++ after)))
 
--- A term of this head over these children, as an object. Its own values are looked at first, then the children in order,
--- and the length last.
+-- A term of this head over these children, as an object. The error is that of its own values, then that of the first child with
+-- an error, and then that of the length.
 abbrev pub row : Head → List Object → Object
 row h objects = ended (own h (length objects)) (around (layout h (own_width h) (length objects)) (all_of objects))
 
--- the width in which a layout is written round these bytes
+-- the width in which a layout is written around these bytes
 abbrev pub layout_width : Layout → ℕ → List ℕ → ℕ
 layout_width (bare before) w inside = w
 layout_width (framed code before after) w inside = least_width (length (before ++ (inside ++ after)))
 
--- the width in which a head with n children, whose bytes joined are those inside, is written
+-- the width in which a head with n children is written, if the bytes inside are those of the children
 abbrev pub writer_width : Head → ℕ → List ℕ → ℕ
 writer_width h n inside = layout_width (layout h (own_width h) n) (own_width h) inside

@@ -1,4 +1,4 @@
--- The bytes that terms are spelled by, and which terms have a spelling (ACPI 6.5, 20.2).
+-- The bytes that spell terms, and the terms that have a spelling (ACPI 6.5, 20.2).
 use Rattle.std.specs.Prelude.{◌≡◌, ℕ, ◌<◌, ◌≤◌, ◌^◌, List, [], ◌∷◌, ◌++◌, None}
 use Rattle.acpi_base.specs.Bytes.{AreBytes}
 use Rattle.acpi_base.specs.Number.{number_limit}
@@ -16,12 +16,12 @@ use Rattle.acpi_term.specs.Row.{entry_bits, entry_width, Layout, bare, framed, l
 
 -- ---- spellings
 
--- a layout round these bytes, where a frame's length has the width w
+-- a layout around these bytes, in which a frame's length has the width w
 abbrev pub laid : Layout → ℕ → List ℕ → List ℕ
 laid (bare before) w inside = before ++ inside
 laid (framed code before after) w inside = code ++ with_length w (before ++ (inside ++ after))
 
--- a head of this width with n children, whose spellings joined are the bytes inside
+-- a head of this width with n children, which are spelled by the bytes inside
 abbrev pub spelled : Head → ℕ → ℕ → List ℕ → List ℕ
 spelled h w n inside = laid (layout h w n) w inside
 
@@ -30,15 +30,15 @@ abbrev pub spelling : Terms → List ℕ
 spelling end = []
 spelling (term h w children others) = spelled h w (count children) (spelling children) ++ spelling others
 
--- ---- where children stand
+-- ---- the places of children
 
--- the first child of a head
+-- the place of a head's first child
 abbrev pub inner : Head → Mode
 inner def_package = Element
 inner def_var_package = Count
 inner _ = Term
 
--- what stands after it
+-- the place after it
 abbrev pub next : Mode → Mode
 next Term = Term
 next Element = Element
@@ -54,7 +54,7 @@ abbrev pub AreNamed : List Entry → Type 0
 AreNamed [] = Unit {0}
 AreNamed (e ∷ entries) = EntryIsNamed e × AreNamed entries
 
--- Names, texts and data are the standard's, and numbers have their fields' ranges.
+-- Names, texts and data follow the standard, and numbers fit their fields.
 abbrev pub IsStandard : Head → Type 0
 IsStandard (number v) = v < 2 ^ 64
 IsStandard (string s) = IsText s
@@ -72,7 +72,7 @@ IsStandard (def_release name) = IsName name
 IsStandard (def_buffer bytes) = AreBytes bytes
 IsStandard _ = Unit {0}
 
--- each entry's width carries its bits
+-- each entry's bits fit its width
 abbrev pub EntriesFit : List Entry → Type 0
 EntriesFit [] = Unit {0}
 EntriesFit (e ∷ entries) = (entry_bits e < limit (entry_width e)) × EntriesFit entries
@@ -86,20 +86,20 @@ abbrev pub LayoutFits : Layout → ℕ → List ℕ → Type 0
 LayoutFits (bare before) w inside = w ≡ 0
 LayoutFits (framed code before after) w inside = FrameFits w (before ++ (inside ++ after))
 
--- A number's width carries it, and a frame's length counts itself and the content. Any other head has the width 0.
+-- A number fits its width, and a frame's length counts itself and the content. Any other head has the width 0.
 abbrev pub HeadFits : Head → ℕ → ℕ → List ℕ → Type 0
 HeadFits (number v) w n inside = v < number_limit w
 HeadFits (def_field name access lock update entries) w n inside = EntriesFit entries
     × LayoutFits (layout (def_field name access lock update entries) w n) w inside
 HeadFits h w n inside = LayoutFits (layout h w n) w inside
 
--- the widths that a head itself holds are those that are written
+-- the widths inside of a head are those that are written
 abbrev pub IsWritten : Head → Type 0
 IsWritten (def_field name access lock update entries) = HaveLeastWidths entries
 IsWritten _ = Unit {0}
 
 module _ (arity : List ℕ → ℕ) where
-  -- how many arguments follow a name
+  -- how many arguments follow a name in this place
   abbrev pub arguments : Mode → List ℕ → ℕ
   arguments Term name = arity name
   arguments Element name = 0
@@ -123,24 +123,24 @@ module _ (arity : List ℕ → ℕ) where
   Takes m (op o) n = n ≡ operands o
   Takes m _ n = n ≡ 0
 
-  -- a head of this width may have n children whose spellings are the bytes inside
+  -- a head of this width may have n children, which are spelled by the bytes inside
   pub record IsLegal (m : Mode) (h : Head) (w n : ℕ) (inside : List ℕ) : Type 0 where
     pub takes : Takes m h n
     pub is_standard : IsStandard h
     pub owns : own h n ≡ None
     pub fits : HeadFits h w n inside
 
-  -- the terms have a spelling, where the first stands in that mode
+  -- the terms have a spelling, if the first stands in this place
   abbrev pub AreLegal : Mode → Terms → Type 0
   AreLegal m end = Unit {0}
   AreLegal m (term h w children others) = IsLegal m h w (count children) (spelling children) × AreLegal (inner h) children
       × AreLegal (next m) others
 
--- the bytes spell these terms, where the first stands in that mode
+-- the bytes spell these terms, if the first stands in this place
 abbrev pub Spells : (List ℕ → ℕ) → Mode → List ℕ → Terms → Type 0
 Spells arity m bytes ts = AreLegal arity m ts × (bytes ≡ spelling ts)
 
--- the objects spell a term each, where the first stands in that mode
+-- each object spells a term, if the first stands in this place
 abbrev pub SpellEach : (List ℕ → ℕ) → Mode → List Object → Terms → Type 0
 SpellEach arity m [] end = Unit {0}
 SpellEach arity m (o ∷ objects) (term h w children others) = Spells arity m o.front (one h w children)

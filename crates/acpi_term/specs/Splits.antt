@@ -1,10 +1,10 @@
--- The spelling as a relation: for some cut of the bytes.
+-- The spelling as a relation on cut bytes.
 use Rattle.std.specs.Prelude.{◌≡◌, ℕ, List, [], ◌++◌}
 use Rattle.acpi_term.specs.declared.mode.Mode.{Mode}
 use Rattle.acpi_term.specs.Tree.{Terms, end, term, count}
 use Rattle.acpi_term.specs.Spelling.{spelled, inner, next, IsLegal}
 
--- The bytes are those of the first term and those of the others, and the first term's are its row over those of its
+-- The bytes can be cut into those of the first term and those of the others. The first term's bytes are its row over those of its
 -- children.
 abbrev pub Splits : (List ℕ → ℕ) → Mode → List ℕ → Terms → Type 0
 Splits arity m bytes end = bytes ≡ []

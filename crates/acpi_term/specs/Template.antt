@@ -17,6 +17,6 @@ end_tag = 0x79 ∷ 0x00 ∷ []
 abbrev pub template_bytes : List ℕ → List ℕ
 template_bytes descriptors = descriptors ++ end_tag
 
--- the buffer of descriptors, up to the first refusal
+-- the buffer of descriptors and the end tag, up to the first error
 abbrev pub template : List Object → Object
 template descriptors = ended (all_of descriptors).end (buffer_of_bytes (template_bytes (all_of descriptors).front))

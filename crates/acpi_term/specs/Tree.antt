@@ -1,22 +1,22 @@
--- Terms without where they lie in memory (ACPI 6.5, 20.2.5): each is a head, a width and its children.
+-- Terms without their place in memory (ACPI 6.5, 20.2.5): each is a head, a width and its children.
 use Rattle.std.specs.Prelude.{ℕ, suc, max, List, Bool}
 use Rattle.acpi_term.specs.declared.op.Op.{Op}
 
--- An entry of a field: its bits, and in how many bytes they are told.
+-- An entry of a field: its bits, and in how many bytes that number is written.
 pub data Entry : Type 0 where
   -- name, bits, width
   named : List ℕ → ℕ → ℕ → Entry
   -- bits, width
   reserved : ℕ → ℕ → Entry
 
--- What a term is, beside its width and its children. A name is the bytes that spell it.
+-- What a term is, without its width and its children. A name is given by the bytes that spell it.
 pub data Head : Type 0 where
   number : ℕ → Head
   ones : Head
   string : List ℕ → Head
   local : ℕ → Head
   arg : ℕ → Head
-  -- a name, and its arguments if it has any
+  -- a name, with its arguments if it has any
   call : List ℕ → Head
   def_scope : List ℕ → Head
   def_device : List ℕ → Head
@@ -44,8 +44,9 @@ pub data Head : Type 0 where
   def_else : Head
   op : Op → Head
 
--- A list of terms: the first one's head, width and children, and the others. The width of a number is that of its bytes
--- after the prefix, 0 for the bytes 00 and 01; of a framed term that of its PkgLength, 1 to 4; of any other term it is 0.
+-- A list of terms: the first one's head, width and children, and the others. The width of a number is the number of its bytes
+-- after the prefix, or 0 for the bytes 00 and 01. The width of a term with a frame is that of its PkgLength, 1 to 4. Any other
+-- term has the width 0.
 pub data Terms : Type 0 where
   end : Terms
   term : Head → ℕ → Terms → Terms → Terms
@@ -54,11 +55,12 @@ abbrev pub count : Terms → ℕ
 count end = 0
 count (term h w children others) = suc (count others)
 
--- one for a term without children, one more than its deepest child for another; of several the deepest
+-- The depth of terms: 1 for a term without children, and one more than the deepest child for any other. A list has the depth of
+-- its deepest term.
 abbrev pub depth : Terms → ℕ
 depth end = 0
 depth (term h w children others) = max (suc (depth children)) (depth others)
 
--- a term alone
+-- a list of one term
 abbrev pub one : Head → ℕ → Terms → Terms
 one h w children = term h w children end

@@ -1,4 +1,4 @@
--- The terms that values of the code stand for.
+-- The terms that the code's values stand for.
 use Rattle.std.specs.Prelude.{◌≡◌, ℕ, List, [], ◌∷◌, ◌++◌, map, string_bytes}
 use Rattle.acpi_term.specs.Tree.{Entry, named, reserved, Head, number, ones, string, local, arg, call}
 use Rattle.acpi_term.specs.Tree.{def_scope, def_device, def_method, def_power_res, def_field, def_op_region}
@@ -50,15 +50,15 @@ view_step (Term-F.While width predicate body) = (def_while, width, listed (predi
 view_step (Term-F.Else width body) = (def_else, width, listed body.items)
 view_step (Term-F.Op o operands) = (op o, 0, listed operands.items)
 
--- one term's
+-- the head, the width and the children of a term
 abbrev pub view : Term → Parts
 view = fold-Term Parts view_step
 
--- the list of a list of terms
+-- the terms of a list
 abbrev pub views : List Term → Terms
 views ts = listed (map view ts)
 
--- a term alone as a list
+-- a list of one term
 abbrev pub single : Parts → Terms
 single p = one p.0 p.1 p.2
 

@@ -1,4 +1,4 @@
-//! Terms taken apart.
+//! Terms taken apart into their kind, width and children.
 
 ghost use Rattle.std.specs.Prelude.{◌≡◌, ℕ};
 ghost use Rattle.std.specs.Option.{option_map};
@@ -10,7 +10,7 @@ use crate::op::Op;
 use crate::term::{Term, TermEntry};
 use std::slice::from_ref;
 
-/// What a term is beside its width and its children, lent.
+/// What a term is, without its width and its children. The parts are borrowed.
 #[derive(Clone, Copy, Debug)]
 pub enum Kind<'a> {
     Number(u64),
@@ -43,11 +43,11 @@ pub enum Kind<'a> {
     Op(Op),
 }
 
-/// A term taken apart. Its children are those of both lists, in order.
+/// The parts of a term. Its children are those of the first list and then those of the second.
 #[derive(Clone, Copy, Debug)]
 pub struct Parts<'a> {
     pub kind: Kind<'a>,
-    /// 0 where the term has none.
+    /// The width, or 0 if the term has none.
     pub width: u8,
     pub first: &'a [Term],
     pub others: &'a [Term],
@@ -151,7 +151,7 @@ fn apart<'a>(kind: Kind<'a>, width: u8, first: &'a [Term], others: &'a [Term]) -
     }
 }
 
-/// The opcode of a framed term.
+/// The opcode of a term with a frame.
 #[inline(always)]
 pub fn frame_code(kind: Kind<'_>) -> Option<&'static [u8]>
     ensures { (w n : ℕ) → option_map (λ code. code.now) result ≡ code_of (layout (head_of kind.entry) w n) }
@@ -172,7 +172,7 @@ pub fn frame_code(kind: Kind<'_>) -> Option<&'static [u8]>
     }
 }
 
-/// What stands after a framed term's children: a buffer's bytes.
+/// The bytes after the children in a frame: those of a buffer.
 pub fn bytes_after(kind: Kind<'_>) -> &[u8]
     ensures { (w n : ℕ) → result.now ≡ after_of (layout (head_of kind.entry) w n) }
 {

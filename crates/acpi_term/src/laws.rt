@@ -1,4 +1,4 @@
-//! Laws over the definitions that the contracts cite. Each function is a law: it does nothing, and ensures it.
+//! Laws about the definitions that the contracts use. Each function is a law: it does nothing, and its `ensures` states the law.
 
 ghost use Rattle.std.specs.Prelude.{◌≡◌, List, true};
 ghost use Rattle.std.specs.Cmp.Lexicographic.{pointwise};
@@ -8,77 +8,77 @@ ghost use Rattle.acpi_term.specs.Laws.{RowsMean, RowsOverMean, ObjectsMean, AtMo
 ghost use Rattle.acpi_term.specs.Laws.{NameTextsAreNames, TextsAreTheirParts, LengthsAreSpelled, FramesAreSpelled};
 ghost use Rattle.acpi_term.specs.Laws.{FramesAreLeast, FramesEndWithTheirContent, FieldLengthsAreLeast, NumbersAreLeast};
 
-/// A whole row spells its term over the terms of its children.
+/// If a row has no error, its bytes spell the row's term over the terms of its children.
 pub fn rows_mean()
     ensures { RowsMean }
 {}
 
-/// A whole row round bytes that spell all children spells its term.
+/// The same, where one list of bytes spells all children.
 pub fn rows_over_mean()
     ensures { RowsOverMean }
 {}
 
-/// Objects that spell a term each, one after another, spell the list of these terms.
+/// If each object spells a term, the objects in order spell the list of these terms.
 pub fn objects_mean()
     ensures { ObjectsMean }
 {}
 
-/// At most one list of terms is spelled by given bytes, and only these bytes spell it.
+/// Bytes spell at most one list of terms, and a list of terms is spelled by only one list of bytes.
 pub fn at_most_one_list()
     ensures { AtMostOneList }
 {}
 
-/// At most one beginning of given bytes spells a term, and only one.
+/// At most one first part of given bytes spells a term, and it spells only one.
 pub fn at_most_one_front()
     ensures { AtMostOneFront }
 {}
 
-/// The spelling is the relation of bytes and terms by cuts.
+/// The two definitions of the spelling are the same: as a function, and as a relation of bytes that are cut in parts.
 pub fn splits_agree()
     ensures { SplitsAgree }
 {}
 
-/// A text of standard segments names a name (ACPI 6.5, 20.2.2).
+/// A text of standard segments is the text of a name (ACPI 6.5, 20.2.2).
 pub fn name_texts_are_names()
     ensures { NameTextsAreNames }
 {}
 
-/// A text is its parts with dots between them, and no part has a dot.
+/// A text is its parts with dots between them, and no part contains a dot.
 pub fn texts_are_their_parts()
     ensures { TextsAreTheirParts }
 {}
 
-/// A length has its value in each width that carries it, and nothing else has (ACPI 6.5, 20.2.4).
+/// The bytes of a length have its value in each width in which it fits, and no other bytes have it (ACPI 6.5, 20.2.4).
 pub fn lengths_are_spelled()
     ensures { LengthsAreSpelled }
 {}
 
-/// What frames a content is its length in a width that fits (ACPI 6.5, 20.2.4).
+/// A PkgLength that counts itself and a content is the bytes of its value, in a width in which that fits (ACPI 6.5, 20.2.4).
 pub fn frames_are_spelled()
     ensures { FramesAreSpelled }
 {}
 
-/// The width of a written frame is the least.
+/// The PkgLength that is written has the least width.
 pub fn frames_are_least()
     ensures { FramesAreLeast }
 {}
 
-/// A frame's length is told, and counts all of the frame.
+/// The first bytes of a frame are its PkgLength, which counts all bytes of the frame.
 pub fn frames_end_with_their_content()
     ensures { FramesEndWithTheirContent }
 {}
 
-/// The width of a written field length carries it, and is the least that carries length and width together.
+/// The length of a field entry is written in the least width that fits the length and this width together.
 pub fn field_lengths_are_least()
     ensures { FieldLengthsAreLeast }
 {}
 
-/// The width of a written number is the least.
+/// A number is written in the least width.
 pub fn numbers_are_least()
     ensures { NumbersAreLeast }
 {}
 
-/// Two lists of terms with one view are equal.
+/// Two lists of terms of the code that stand for the same terms are equal.
 pub fn terms_are_their_views()
     ensures { (a b : List Term) → views a ≡ views b → pointwise ⟦<crate::term::Term as PartialEq>⟧.eq a b ≡ true }
 {}

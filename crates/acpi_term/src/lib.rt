@@ -1,4 +1,4 @@
-//! What AML and its reading speak of: terms, names, and why bytes couldn't be read.
+//! The parts that AML and its reader share: terms, names, and errors of reading.
 #![tactic(auto)]
 
 pub mod apart;

@@ -1,21 +1,21 @@
-//! Where a term stands.
+//! The places in which a term can stand.
 
 ghost use Rattle.std.specs.Prelude.{◌≡◌};
 ghost use Rattle.acpi_term.specs.Spelling.{next};
 
-/// Where a term stands, which says how many arguments follow a name.
+/// The place of a term. It decides how many arguments follow a name.
 #[derive(Clone, Copy, Debug, PartialEq, Eq)]
 pub enum Mode {
     /// As a term or an operand: a name is followed by its arguments.
     Term,
     /// As an element of a package: a name stands alone.
     Element,
-    /// As the count of a VarPackage, a term that elements follow.
+    /// As the number of elements of a VarPackage: a term that is followed by elements.
     Count,
 }
 
 impl Mode {
-    /// Where the terms after it stand.
+    /// The place of the terms after it.
     pub fn next(self) -> Mode
         ensures { result ≡ next self }
     {

@@ -19,7 +19,7 @@ use acpi_base::error::Error;
 use std::alloc::{AllocError, Global};
 use std::marker::Model;
 
-/// Bytes that stand in the value where they are few, so that most names take no memory.
+/// The bytes of a name. Short names are stored in the value itself, so most names take no memory.
 #[derive(Debug, Drop)]
 pub(crate) enum NameBytes {
     Few(u8, [u8; 14]),
@@ -41,8 +41,8 @@ impl Model for NameString {
 }
 
 impl NameString {
-    /// The name of a text: a `\` or none, and then 1 to 255 standard segments between dots. Refused by NameText where it
-    /// isn't one.
+    /// The name of a text: an optional `\`, and then 1 to 255 standard segments with dots between them. The error is `NameText`
+    /// for any other text.
     #[tactic(auto, using(crate::proofs::NameTexts::no_name, crate::proofs::NameTexts::nonstandard, crate::proofs::NameTexts::is_name, crate::proofs::NameTexts::is_text,))]
     pub fn new(alloc: Global, text: &str) -> Result<NameString, ReadError>
         ensures ok { IfOk result (λ name. name ≡ path_spelling text.now) }
@@ -60,7 +60,7 @@ impl NameString {
         }
     }
 
-    /// The bytes that spell it.
+    /// The bytes that spell the name.
     pub fn as_bytes(&self) -> &[u8]
         ensures bytes { result.now ≡ self.now }
         ensures name { IsName self.now }
@@ -93,7 +93,7 @@ fn hold(alloc: Global, bytes: &[u8]) -> Result<NameBytes, AllocError>
     Ok(NameBytes::Few(bytes.len() as u8, few))
 }
 
-/// Names are equal where their bytes are.
+/// Names are equal if their bytes are.
 impl PartialEq for NameString {
     ghost eq = { pointwise nat_eq };
 
@@ -104,7 +104,7 @@ impl PartialEq for NameString {
     }
 }
 
-/// Whether all parts between dots are standard segments.
+/// Whether all parts between the dots are standard segments.
 #[tactic(auto, using(crate::proofs::NameTexts::short, crate::proofs::NameTexts::other, crate::proofs::NameTexts::long))]
 fn are_standard(text: &[u8]) -> bool
     ensures { result ≡ are_standard (parts text.now) }
@@ -125,7 +125,7 @@ fn are_standard(text: &[u8]) -> bool
     false
 }
 
-/// How many arguments names take, which no reader of bytes can find out.
+/// How many arguments each name takes. The bytes of AML don't contain this.
 #[derive(Debug, Drop)]
 pub struct Arities {
     counts: Vec<(NameString, u8)>,
@@ -138,7 +138,7 @@ impl Model for Arities {
 }
 
 impl Arities {
-    /// The list's numbers. Refused by Arity if a name stands twice or a number is more than 7.
+    /// The argument counts of names. The error is `Arity` if a name is there twice, or a number is more than 7.
     pub fn new(counts: Vec<(NameString, u8)>) -> Result<Arities, ReadError>
         ensures ok { IfOk result (λ arities. arities ≡ counts.items) }
         ensures fit { OnOk result (are_arities counts.items ≡ true) }
@@ -151,7 +151,7 @@ impl Arities {
         }
     }
 
-    /// How many arguments a name takes: none if it isn't stated.
+    /// How many arguments a name takes. A name that isn't listed takes none.
     pub fn count_of(&self, name: &[u8]) -> u8
         ensures { result ≡ arity self.now name.now }
     {
@@ -163,13 +163,13 @@ impl Arities {
         0
     }
 
-    /// Where the list has its memory from.
+    /// The allocator of the list.
     pub fn allocator(&self) -> Global {
         *self.counts.allocator()
     }
 }
 
-/// How many arguments follow a name that stands so.
+/// How many arguments follow a name in this place.
 pub fn arguments(arities: &Arities, mode: Mode, name: &[u8]) -> u8
     ensures { result ≡ arguments (arity arities.now) mode name.now }
 {

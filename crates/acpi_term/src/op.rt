@@ -44,7 +44,7 @@ pub enum Op {
     CreateField,
 }
 
-/// Every operator: its opcode (ACPI 6.5, 20.3), how many operands follow, a target counted (20.2.5), and its word in a report.
+/// Every operator: its opcode (ACPI 6.5, 20.3), the number of its operands with the target (20.2.5), and its word in a report.
 macro_rules! operators {
     ($wanted:ident of $subject:expr) => {
         look_up! { $wanted $subject;
@@ -88,7 +88,7 @@ macro_rules! operators {
     };
 }
 
-/// What is wanted of one of these rows.
+/// Selects a column of these rows.
 macro_rules! look_up {
     (code $op:expr; $($name:ident $code:tt $operands:literal $word:literal)*) => {
         match $op {
@@ -121,21 +121,21 @@ impl Op {
         operators!(code of self)
     }
 
-    /// How many operands follow (ACPI 6.5, 20.2.5), a target counted.
+    /// The number of its operands, with the target (ACPI 6.5, 20.2.5).
     pub fn operands(self) -> u8
         ensures { result ≡ operands self }
     {
         operators!(operands of self)
     }
 
-    /// What a report's line says of it.
+    /// Its word in the lines of a report.
     pub fn word(self) -> &'static str
         ensures { result.now ≡ word self }
     {
         operators!(word of self)
     }
 
-    /// The operator whose opcode these bytes are, if there is one.
+    /// The operator with this opcode, if there is one.
     pub fn from_code(bytes: &[u8]) -> Option<Op>
         ensures { result ≡ op_of bytes.now }
     {

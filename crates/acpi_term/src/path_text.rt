@@ -9,8 +9,8 @@ use crate::row::{insert, with_room};
 use acpi_base::error::{Error, R};
 use std::alloc::Global;
 
-/// The bytes of the path that a text names (ACPI 6.5, 20.2.2): a `\` or none, and then parts of four bytes between dots.
-/// Refused by NamePart if any part isn't four bytes long, and else by PathParts past 255 parts.
+/// The bytes of the path of a text (ACPI 6.5, 20.2.2): an optional `\`, and then parts of four bytes with dots between them. The
+/// error is `NamePart` if a part isn't four bytes long; otherwise it is `PathParts` if there are more than 255 parts.
 #[inline(always)]
 pub fn path_bytes(alloc: Global, text: &str) -> R<Vec<u8>>
     ensures { Makes result (path_of text.now) }
@@ -29,7 +29,7 @@ pub fn path_bytes(alloc: Global, text: &str) -> R<Vec<u8>>
     Ok(bytes)
 }
 
-/// The root of a text, and what follows it.
+/// The root of a text, and the bytes after it.
 #[inline(always)]
 pub(crate) fn split_root(text: &[u8]) -> (&[u8], &[u8])
     ensures root { result.0.now ≡ root text.now }
@@ -50,7 +50,7 @@ fn dotted(a: u8, b: u8, c: u8, d: u8) -> bool
     a == 0x2e || b == 0x2e || c == 0x2e || d == 0x2e
 }
 
-/// Adds the parts of four bytes between dots, and tells how many there are.
+/// Adds the parts of four bytes between dots, and returns how many there are.
 #[tactic(auto, using(crate::proofs::PathTexts::short, crate::proofs::PathTexts::dots, crate::proofs::PathTexts::last, crate::proofs::PathTexts::long, crate::proofs::PathTexts::step,))]
 #[inline(always)]
 fn read_segments(text: &[u8], segments: &mut Vec<u8>) -> R<usize>

@@ -1,4 +1,4 @@
-//! Why bytes couldn't be read.
+//! Errors of reading.
 
 ghost use Rattle.std.specs.Prelude.{◌≡◌, Some};
 ghost use Rattle.acpi_term.specs.ReadError.{text_of};
@@ -8,45 +8,45 @@ ghost use Rattle.acpi_term.specs.ReadError.{name_of, offset_of, message_of};
 use std::alloc::{AllocError, AllocFailed};
 use std::fmt;
 
-/// Why bytes couldn't be read, and at which offset. Of several faults any may be returned.
+/// Why bytes can't be read, with the offset of the fault. If there are several faults, any of them may be returned.
 #[derive(Clone, Copy, Debug, PartialEq)]
 pub enum ReadError {
-    /// A growth was refused by the allocator.
+    /// The allocator refused memory.
     Memory,
     /// The bytes end within a term.
     Truncated(usize),
-    /// No term begins so.
+    /// No term begins with these bytes.
     Opcode(usize),
-    /// A text that is no name: 1 to 255 standard segments, after a `\` or none.
+    /// The text isn't a name: an optional `\`, and then 1 to 255 standard segments.
     NameText,
-    /// A PkgLength that passes its surroundings, that is smaller than itself, or whose reserved bits are set.
+    /// A PkgLength passes the end of the bytes around it, is smaller than its own width, or has reserved bits set.
     Length(usize),
-    /// Kept for readers of the shortest forms alone; it isn't answered.
+    /// Reserved for readers that accept the shortest forms of numbers only. These crates never return it.
     Number(usize),
-    /// A count that isn't the number of what it counts.
+    /// A count isn't the number of the things that it counts.
     Count(usize),
-    /// Flags of a field or a method that have no meaning.
+    /// The flags of a field or a method have a value without a meaning.
     Flags(usize),
-    /// A string with a byte past 7F.
+    /// A string contains a byte above 7F.
     Text(usize),
-    /// Terms that nest deeper than may be read.
+    /// The terms are nested deeper than `MAX_DEPTH`.
     TooDeep(usize),
-    /// A name that is given arguments twice, or more than 7.
+    /// A name is listed twice, or with more than 7 arguments.
     Arity,
-    /// Fewer bytes than the standard header has; the offset is their number.
+    /// There are fewer bytes than the standard header has. The offset is their number.
     ShortHeader(usize),
-    /// A table's length at offset 4 that isn't the number of its bytes.
+    /// The table's length at offset 4 isn't the number of its bytes.
     TableLength(usize),
-    /// A table that doesn't sum to zero by its checksum at offset 9.
+    /// The table's bytes don't sum to zero. The checksum is at offset 9.
     Sum(usize),
-    /// A structure that isn't as long as it says, or a table whose fixed fields don't fit its structures.
+    /// A structure isn't as long as it says, or the table's fixed fields don't fit its structures.
     Structure(usize),
-    /// A hardware error source whose size isn't known.
+    /// The size of a hardware error source of this type isn't known.
     UnknownSource(usize),
 }
 
 impl ReadError {
-    /// The kind's name.
+    /// The error's name, without its offset.
     pub fn name(self) -> &'static str
         ensures { result.now ≡ name_of self }
     {
@@ -92,7 +92,7 @@ impl ReadError {
         }
     }
 
-    // What is wrong.
+    // The text without the offset.
     fn message(self) -> &'static str
         ensures { result.now ≡ message_of self }
     {
@@ -118,7 +118,7 @@ impl ReadError {
     }
 }
 
-/// What the error says, and at which offset, for the user of a program.
+/// The error and its offset as text, for the user of a program.
 impl fmt::Display for ReadError {
     ghost output = { λ error. Some (text_of error) };
 

@@ -1,4 +1,4 @@
-//! The making of rows.
+//! Writing the rows of terms.
 
 ghost use Rattle.std.specs.Prelude.{◌≡◌, ◌≤◌, ◌<◌, ◌+◌, ◌-◌, ◌^◌, [], ◌∷◌, ◌++◌, length};
 ghost use Rattle.std.specs.Prelude.{take, drop, map, OnOk, IfOk, IfErr, None, Some};
@@ -13,7 +13,7 @@ use acpi_base::object::Aml;
 use acpi_base::patch::write_at;
 use std::alloc::Global;
 
-/// How many bytes a length is written in (ACPI 6.5, 20.2.4): the fewest that count themselves and so much.
+/// The number of bytes of a length (ACPI 6.5, 20.2.4): the fewest that can count themselves and `n` more bytes.
 pub fn least_width(n: usize) -> u8
     ensures { result ≡ least_width n }
 {
@@ -28,7 +28,7 @@ pub fn least_width(n: usize) -> u8
     }
 }
 
-/// A value as a length of this many bytes, the first of these four (ACPI 6.5, 20.2.4).
+/// A value as a length of `width` bytes (ACPI 6.5, 20.2.4): the first `width` of the four bytes that are returned.
 #[tactic(auto, using(crate::proofs::Lengths::starts_one, crate::proofs::Lengths::starts_two, crate::proofs::Lengths::starts_three, crate::proofs::Lengths::starts_four, crate::proofs::Lengths::width_last,))]
 pub fn length_bytes(width: u8, value: u32) -> [u8; 4]
     requires { value < limit width }
@@ -48,8 +48,8 @@ pub fn length_bytes(width: u8, value: u32) -> [u8; 4]
     }
 }
 
-/// The PkgLength of a content of this many bytes (ACPI 6.5, 20.2.4): the first of four bytes, and how many they are. It
-/// counts itself. Refused where it would reach 2^28.
+/// The PkgLength of a content of `size` bytes (ACPI 6.5, 20.2.4), and its width w: it is the first w of the four bytes. It counts
+/// itself. The error is `PkgLength` if its value would reach 2^28.
 #[tactic(auto, using(crate::proofs::Lengths::width_carries))]
 pub fn frame_length(size: usize) -> R<([u8; 4], usize)>
     ensures width { IfOk result (λ p. p.1 ≡ least_width size) }
@@ -67,8 +67,8 @@ pub fn frame_length(size: usize) -> R<([u8; 4], usize)>
     ))
 }
 
-/// The length of a field entry of this many bits (ACPI 6.5, 20.2.5.2): the first of four bytes, and how many they are. It
-/// doesn't count itself. Refused from 2^28 on.
+/// The length of a field entry of `bits` bits (ACPI 6.5, 20.2.5.2), and its width w: it is the first w of the four bytes. It
+/// doesn't count itself. The error is `PkgLength` from 2^28 bits on.
 #[tactic(auto, using(crate::proofs::Lengths::width_holds))]
 pub fn field_length(bits: usize) -> R<([u8; 4], usize)>
     ensures width { IfOk result (λ p. p.1 ≡ least_width bits) }
@@ -83,10 +83,10 @@ pub fn field_length(bits: usize) -> R<([u8; 4], usize)>
     Ok((length_bytes(width, bits as u32), usize::from(width)))
 }
 
-// Room for what mostly follows, so that a vector needn't grow.
+// Room for what usually follows, so that the vector rarely grows.
 const ROOM: usize = 64;
 
-/// A vector of these bytes with room for more.
+/// A vector of these bytes, with room for more.
 #[inline(always)]
 pub fn with_room(alloc: Global, bytes: &[u8]) -> R<Vec<u8>>
     ensures ok { IfOk result (λ v. v.items ≡ bytes.now) }
@@ -97,7 +97,7 @@ pub fn with_room(alloc: Global, bytes: &[u8]) -> R<Vec<u8>>
     Ok(vector)
 }
 
-/// Puts bytes, and then others, into a vector at a place.
+/// Inserts two lists of bytes into a vector at an index.
 #[inline(always)]
 #[tactic(auto, using(crate::proofs::Inserts::inserted))]
 pub fn insert(bytes: &mut Vec<u8>, at: usize, first: &[u8], second: &[u8]) -> R<()>
@@ -115,7 +115,7 @@ pub fn insert(bytes: &mut Vec<u8>, at: usize, first: &[u8], second: &[u8]) -> R<
     Ok(())
 }
 
-// Moves the bytes between two places up to the end, and puts others where they were.
+// Moves the bytes between `at` and `end` to the end of the slice, and writes the other bytes in their place.
 #[inline(always)]
 #[tactic(auto, using(crate::proofs::Inserts::filled))]
 fn fill(bytes: &mut [u8], at: usize, end: usize, first: &[u8], second: &[u8])
@@ -128,7 +128,7 @@ fn fill(bytes: &mut [u8], at: usize, end: usize, first: &[u8], second: &[u8])
     write_at(bytes, at + first.len(), second);
 }
 
-/// The bytes that are there, and then the children.
+/// Bytes that are already in a vector, and then the children.
 #[inline(always)]
 pub fn bare_on(before: Vec<u8>, children: &[&dyn Aml]) -> R<Vec<u8>>
     ensures { Makes result (around (bare before.items) (all_of (map (λ child. object child.now) children.now))) }
@@ -138,7 +138,7 @@ pub fn bare_on(before: Vec<u8>, children: &[&dyn Aml]) -> R<Vec<u8>>
     Ok(bytes)
 }
 
-/// The bytes, and then the children.
+/// Bytes, and then the children.
 pub fn bare(alloc: Global, before: &[u8], children: &[&dyn Aml]) -> R<Vec<u8>>
     ensures { Makes result (around (bare before.now) (all_of (map (λ child. object child.now) children.now))) }
 {
@@ -146,7 +146,7 @@ pub fn bare(alloc: Global, before: &[u8], children: &[&dyn Aml]) -> R<Vec<u8>>
     bare_on(bytes, children)
 }
 
-/// An opcode, and a frame of the content that is there, which is moved up.
+/// An opcode, and a frame whose content is already in a vector and is moved up.
 #[inline(always)]
 pub fn frame(code: &[u8], content: Vec<u8>) -> R<Vec<u8>>
     ensures { Makes result (frame code.now content.items) }
@@ -157,7 +157,7 @@ pub fn frame(code: &[u8], content: Vec<u8>) -> R<Vec<u8>>
     Ok(bytes)
 }
 
-/// An opcode, and a frame of the bytes that are there, the children, and bytes after them.
+/// An opcode, and a frame: bytes that are already in a vector, the children, and bytes after them.
 #[inline(always)]
 pub fn framed(code: &[u8], before: Vec<u8>, children: &[&dyn Aml], after: &[u8]) -> R<Vec<u8>>
     ensures { Makes result
@@ -169,7 +169,7 @@ pub fn framed(code: &[u8], before: Vec<u8>, children: &[&dyn Aml], after: &[u8])
     frame(code, content)
 }
 
-/// An opcode, and a frame of a child and the others.
+/// An opcode, and a frame of one child and the others.
 pub fn framed_before(alloc: Global, code: &[u8], first: &dyn Aml, rest: &[&dyn Aml]) -> R<Vec<u8>>
     ensures { Makes result (around (framed code.now [] []) (all_of (object first.now
         ∷ map (λ child. object child.now) rest.now))) }

@@ -1,4 +1,4 @@
-//! A plain program that spells terms, for tests to compare with.
+//! A simple writer of terms, for tests to compare with.
 
 ghost use Rattle.std.specs.Prelude.{◌≡◌, ◌≢◌, ◌<◌, ◌^◌, ◌++◌, OnOk, IfOk, IfErr, map};
 ghost use Rattle.acpi_base.specs.Number.{number_limit, number_bytes};
@@ -14,7 +14,7 @@ use crate::term::{Term, TermEntry};
 use acpi_base::error::{Error, R};
 use std::alloc::Global;
 
-/// The bytes that spell the terms (ACPI 6.5, 20.2), where every value and width fits its bytes. Refused else.
+/// The bytes that spell the terms (ACPI 6.5, 20.2). It is an error if a value or a width doesn't fit its bytes.
 pub fn spell(alloc: Global, terms: &[Term]) -> R<Vec<u8>>
     ensures ok { IfOk result (λ v. v.items ≡ spelling (views terms.now)) }
     ensures carried { OnOk result (AreCarried (views terms.now)) }
@@ -51,7 +51,7 @@ fn spell_term(alloc: Global, term: &Term, bytes: &mut Vec<u8>) -> R<()>
     Ok(())
 }
 
-/// A term's own bytes round those of its children.
+/// The bytes of a term around those of its children.
 #[tactic(auto, using(crate::proofs::Spells::bare_laid, crate::proofs::Spells::bare_unlaid, crate::proofs::Spells::frame_laid, crate::proofs::Spells::frame_unlaid, crate::proofs::Spells::own_unlaid,))]
 fn lay(alloc: Global, kind: Kind<'_>, width: u8, count: usize, inside: &[u8]) -> R<Vec<u8>>
     ensures ok { IfOk result (λ v. Laid (head_of kind.entry) width count inside.now v.items) }
@@ -64,7 +64,7 @@ fn lay(alloc: Global, kind: Kind<'_>, width: u8, count: usize, inside: &[u8]) ->
     }
 }
 
-/// The bytes that stand before a term's children, without a frame's opcode and length.
+/// The bytes before a term's children, without the opcode and the length of a frame.
 fn own_bytes(alloc: Global, kind: Kind<'_>, width: u8, count: usize) -> R<Vec<u8>>
     ensures ok { IfOk result (λ v. OwnLaid (head_of kind.entry) width count v.items) }
     ensures err { IfErr result (λ e. OwnUnlaid e (head_of kind.entry) width count) }
@@ -129,7 +129,7 @@ fn own_bytes(alloc: Global, kind: Kind<'_>, width: u8, count: usize) -> R<Vec<u8
     }
 }
 
-/// Three lists of bytes, one after another.
+/// Three lists of bytes, in order.
 fn joined(alloc: Global, a: &[u8], b: &[u8], c: &[u8]) -> R<Vec<u8>>
     ensures ok { IfOk result (λ v. v.items ≡ a.now ++ (b.now ++ c.now)) }
     ensures err { IfErr result (λ e. e ≡ Error.Memory) }
@@ -154,7 +154,7 @@ fn bare_in(alloc: Global, kind: Kind<'_>, width: u8, before: &[u8], inside: &[u8
     joined(alloc, before, inside, &[])
 }
 
-/// An opcode, and three contents joined in a frame of a width.
+/// An opcode, and a frame of three joined contents whose length has a given width.
 fn frame_in(
     alloc: Global,
     code: &[u8],
@@ -176,7 +176,7 @@ fn frame_in(
     joined(alloc, code, &length[..usize::from(width)], &content)
 }
 
-/// A value as a length of a width, whichever it is.
+/// A value as a length of a given width.
 fn length_in(width: u8, value: u32) -> R<[u8; 4]>
     ensures ok { IfOk result (λ p. StartsWithLength width value p) }
     ensures fits { OnOk result (value < limit width) }

@@ -3,22 +3,22 @@
 use crate::name_string::NameString;
 use crate::op::Op;
 
-/// Terms that nest deeper than this aren't read.
+/// The reader reads terms that are nested at most this deep.
 pub const MAX_DEPTH: usize = 255;
 
-/// An entry of a field (ACPI 6.5, 20.2.5.2): how many bits it has, and in how many bytes these are written, 1 to 4.
+/// An entry of a field (ACPI 6.5, 20.2.5.2): how many bits it has, and in how many bytes that number is written, 1 to 4.
 #[derive(Debug, Drop, PartialEq)]
 pub enum TermEntry {
-    /// A segment, the bits and the width.
+    /// The name's segment, the bits and the width.
     Named([u8; 4], u32, u8),
     /// The bits and the width.
     Reserved(u32, u8),
 }
 
-/// A term (ACPI 6.5, 20.2.3 and 20.2.5). The width of a framed one is that of its PkgLength, from 1 to 4 bytes.
+/// A term (ACPI 6.5, 20.2.3 and 20.2.5). The width of a term with a frame is the width of its PkgLength, from 1 to 4 bytes.
 #[derive(Debug, Drop, PartialEq)]
 pub enum Term {
-    /// A width of 0 stands for the bytes 00 and 01, another for this many bytes after a prefix.
+    /// The width is 0 for the bytes 00 and 01; otherwise it is the number of bytes after the prefix.
     Number {
         value: u64,
         width: u8,
@@ -27,7 +27,7 @@ pub enum Term {
     Text(String),
     Local(u8),
     Arg(u8),
-    /// A name, with its arguments if it takes any.
+    /// A name, with its arguments if it has any.
     Call {
         name: NameString,
         args: Vec<Term>,
@@ -85,7 +85,7 @@ pub enum Term {
     Release {
         name: NameString,
     },
-    /// The bytes after the size needn't be as many as it says.
+    /// The number of bytes after the size may differ from the size.
     Buffer {
         width: u8,
         size: Box<Term>,

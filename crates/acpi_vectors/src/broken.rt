@@ -1,4 +1,4 @@
-//! An object that refuses.
+//! An object that fails.
 
 ghost use Rattle.std.specs.Prelude.{[], ◌∷◌, Some, false};
 ghost use Rattle.acpi_base.specs.declared.error.Error.TheVariants.{Sink};
@@ -7,7 +7,7 @@ use acpi_base::error::{Error, R};
 use acpi_base::object::Aml;
 use acpi_base::sink::AmlSink;
 
-/// Gives four bytes, and then refuses.
+/// Writes four bytes, and then returns an error.
 #[derive(Drop)]
 pub struct Broken {}
 

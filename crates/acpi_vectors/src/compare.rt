@@ -1,11 +1,11 @@
-//! Values, texts and bytes that have to be the wanted ones.
+//! Comparing values, texts and bytes with the expected ones.
 
 ghost use Rattle.std.specs.Prelude.{◌≡◌, OnOk, true};
 
 use std::fmt::Debug;
 use std::test::Fail;
 
-/// A value is the wanted one.
+/// Fails unless a value is the expected one.
 pub fn equal<T: PartialEq + Debug>(found: &T, wanted: &T) -> Result<(), Fail>
     ensures { OnOk result (T.eq found.now wanted.now ≡ true) }
 {
@@ -16,7 +16,7 @@ pub fn equal<T: PartialEq + Debug>(found: &T, wanted: &T) -> Result<(), Fail>
     }
 }
 
-/// A text is the wanted one.
+/// Fails unless a text is the expected one.
 pub fn agree(found: &str, wanted: &str) -> Result<(), Fail>
     ensures { OnOk result (found.now ≡ wanted.now) }
 {
@@ -27,7 +27,7 @@ pub fn agree(found: &str, wanted: &str) -> Result<(), Fail>
     }
 }
 
-/// Bytes are those that are wanted. A failure tells the offset of the first that isn't, or is there in one list alone.
+/// Fails unless bytes are the expected ones. The failure names the offset of the first difference.
 pub fn same(bytes: &[u8], wanted: &[u8]) -> Result<(), Fail>
     ensures { OnOk result (bytes.now ≡ wanted.now) }
 {

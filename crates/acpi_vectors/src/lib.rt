@@ -1,4 +1,4 @@
-//! What tests share: the header's values, comparisons with what is wanted, and bytes with a few random changes.
+//! Support for the test crates: the header's values, comparisons with expected values, and random changes of bytes.
 #![tactic(auto)]
 
 pub mod broken;

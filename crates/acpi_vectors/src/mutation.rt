@@ -1,13 +1,13 @@
-//! Bytes with a few random changes, the same in each run.
+//! Random changes of bytes, the same in each run.
 
 use std::test::Fail;
 
-/// Numbers without a pattern, by Marsaglia's xorshift from a seed.
+/// Pseudorandom numbers: Marsaglia's xorshift, from a seed.
 #[derive(Drop)]
 pub struct Numbers(pub u64);
 
 impl Numbers {
-    /// A number below a bound, or 0 where there is none.
+    /// A number below a bound, or 0 if the bound is 0.
     pub fn below(&mut self, bound: usize) -> usize {
         self.0 ^= self.0 << 13;
         self.0 ^= self.0 >> 7;
@@ -19,14 +19,14 @@ impl Numbers {
     }
 }
 
-// The piece from an offset on and the one behind it, which ends at another, change places.
+// Swaps two adjacent pieces: the one from `first` to `second`, and the one from there to `end`.
 fn swap(bytes: &mut [u8], first: usize, second: usize, end: usize) {
     if first <= second && second <= end && end <= bytes.len() {
         bytes[first..end].rotate_left(second - first);
     }
 }
 
-// Lengths and counts stand near where pieces begin.
+// Changes a byte by one near the beginning of a piece, where lengths and counts are.
 fn be_off_by_one(numbers: &mut Numbers, bytes: &mut [u8], seams: &[usize]) {
     let seam = seams.get(numbers.below(seams.len())).copied().unwrap_or(0);
     let change = if numbers.below(2) == 0 { 1 } else { 0xff };
@@ -58,8 +58,9 @@ fn change_once(numbers: &mut Numbers, bytes: &mut Vec<u8>, seams: &[usize]) -> R
     Ok(())
 }
 
-/// Makes one to four changes: a bit flipped, a byte dropped or doubled, all from a byte on dropped, a byte off by one where a
-/// length or a count may stand, or two pieces swapped. The seams are where pieces begin, and where the last ends.
+/// Makes one to four changes: a bit is flipped, a byte is removed or doubled, all bytes from one on are removed, a byte where a
+/// length or a count may be is changed by one, or two pieces are swapped. The seams are the offsets of the pieces and the end of
+/// the last.
 pub fn change(numbers: &mut Numbers, bytes: &mut Vec<u8>, seams: &[usize]) -> Result<(), Fail> {
     for _ in 0..=numbers.below(4) {
         change_once(numbers, bytes, seams)?;

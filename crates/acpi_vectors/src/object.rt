@@ -1,4 +1,4 @@
-//! Objects that have to write the wanted bytes, or to refuse.
+//! Comparing what objects write with expected bytes and errors.
 
 ghost use Rattle.std.specs.Prelude.{◌≡◌, All, Err, IfOk, OnOk};
 ghost use Rattle.acpi_base.specs.Object.{Built};
@@ -19,7 +19,7 @@ pub fn written(alloc: Global, aml: &dyn Aml) -> R<Vec<u8>>
     Ok(bytes)
 }
 
-/// An object writes these bytes.
+/// Fails unless an object writes these bytes.
 pub fn writes(alloc: Global, aml: &dyn Aml, wanted: &[u8]) -> Result<(), Fail>
     ensures { OnOk result (Built (object aml.now) wanted.now) }
 {
@@ -27,7 +27,7 @@ pub fn writes(alloc: Global, aml: &dyn Aml, wanted: &[u8]) -> Result<(), Fail>
     same(&bytes, wanted)
 }
 
-/// What was made writes these bytes.
+/// Fails unless a constructor succeeded and its object writes these bytes.
 pub fn makes<T: Aml + Drop>(alloc: Global, made: R<T>, wanted: &[u8]) -> Result<(), Fail>
     ensures { OnOk result (IfOk made (λ value. Built (T.object value) wanted.now)) }
 {
@@ -36,7 +36,7 @@ pub fn makes<T: Aml + Drop>(alloc: Global, made: R<T>, wanted: &[u8]) -> Result<
     same(&bytes, wanted)
 }
 
-/// Each object writes the bytes beside it.
+/// Fails unless each object writes the bytes in its row.
 pub fn all(alloc: Global, rows: &[(&dyn Aml, &[u8])]) -> Result<(), Fail>
     ensures { OnOk result (All (λ row. Built (object row.0.now) row.1.now) rows.now) }
 {
@@ -46,7 +46,7 @@ pub fn all(alloc: Global, rows: &[(&dyn Aml, &[u8])]) -> Result<(), Fail>
     Ok(())
 }
 
-/// A call refused, for this reason.
+/// Fails unless a call returned this error.
 pub fn refuses<T: Drop>(made: R<T>, wanted: Error) -> Result<(), Fail>
     ensures { OnOk result (made ≡ Err wanted) }
 {

@@ -1,4 +1,4 @@
-//! Tables that have to write the wanted bytes and to sum to zero.
+//! Comparing tables with expected bytes, and checking that they sum to zero.
 
 ghost use Rattle.std.specs.Prelude.{◌≡◌, drop, length, None, OnOk, take, ◌%◌, sum};
 ghost use Rattle.acpi_base.specs.Table.{IsTrueTable};
@@ -11,7 +11,7 @@ use acpi_read::table::Table;
 use std::alloc::Global;
 use std::test::Fail;
 
-/// A table's bytes stand at an offset, and all of its bytes sum to zero.
+/// Fails unless a table has these bytes at an offset, and all of its bytes sum to zero.
 pub fn stands(alloc: Global, table: &dyn Aml, offset: usize, wanted: &[u8]) -> Result<(), Fail>
     ensures whole { OnOk result ((object table.now).end ≡ None) }
     ensures sums { OnOk result (sum (object table.now).front % 256 ≡ 0) }
@@ -35,7 +35,7 @@ fn checksum_of(bytes: &[u8]) -> u8 {
     sum
 }
 
-/// Makes a table's checksum true. Fewer than ten bytes have none.
+/// Sets a table's checksum. It changes nothing if there are fewer than ten bytes.
 pub fn seal(table: &mut [u8]) {
     if table.len() > 9 {
         table[9] = 0;
@@ -43,7 +43,7 @@ pub fn seal(table: &mut [u8]) {
     }
 }
 
-/// Makes a table's length and its checksum true.
+/// Sets a table's length and its checksum.
 pub fn mend(table: &mut [u8]) {
     let length = u32::try_from(table.len()).unwrap_or(0);
     if table.len() > 9 {
@@ -52,7 +52,7 @@ pub fn mend(table: &mut [u8]) {
     seal(table);
 }
 
-/// A table of these parts after the standard header, with a true length and sum.
+/// A table of these parts after the standard header, with the right length and checksum.
 pub fn table(alloc: Global, signature: &[u8; 4], revision: u8, parts: &[&[u8]]) -> R<Vec<u8>> {
     let mut bytes = Vec::from_slice(alloc, signature)?;
     bytes.extend_from_slice(&[0, 0, 0, 0, revision, 0])?;
@@ -64,7 +64,7 @@ pub fn table(alloc: Global, signature: &[u8; 4], revision: u8, parts: &[&[u8]]) 
     Ok(bytes)
 }
 
-/// A table's bytes are those before with these parts at their offsets, and a checksum that makes their sum zero.
+/// Fails unless a table has the bytes before, with these parts at their offsets and a new checksum.
 pub fn patched(
     alloc: Global,
     table: &dyn Aml,
@@ -85,7 +85,8 @@ pub fn patched(
     writes(alloc, table, &wanted)
 }
 
-/// A table of this many equal structures is its header, its fixed fields and these, summed anew.
+/// Fails unless a table of this many equal structures is its header, its fixed fields and these structures, with the right
+/// checksum.
 pub fn many(
     alloc: Global,
     aml: &dyn Aml,
@@ -104,7 +105,7 @@ pub fn many(
     writes(alloc, aml, &table(alloc, signature, revision, &[&behind])?)
 }
 
-/// A table's size and number of structures are those of structures of this size from an offset on, this many of them.
+/// Fails unless a table has this many structures of this size from an offset on.
 pub fn is_sized(
     (bytes, count): (usize, u32),
     start: usize,
@@ -116,7 +117,7 @@ pub fn is_sized(
     equal(&count, &u32::from(wanted))
 }
 
-/// A table is read back into these structures, which have this size each and stand side by side from an offset on.
+/// Fails unless a table is read back into these structures, which have this size each and follow each other from an offset on.
 pub fn reads_back(
     alloc: Global,
     table: &dyn Aml,

@@ -1,4 +1,4 @@
-//! Tables that were cut, or whose bytes were replaced.
+//! Tables that were cut, or in which bytes were replaced.
 
 use crate::pieces::{is_within, refusal};
 use crate::samples::{COUNT, Sample, nth};
@@ -9,7 +9,7 @@ use acpi_vectors::{agree, equal};
 use std::alloc::Global;
 use std::test::Fail;
 
-// The offset of the last structure of which none or more bytes stand in this many bytes of the table.
+// The offset of the last structure that begins in this many bytes of the table.
 fn begun(sample: &Sample, size: usize) -> Option<usize> {
     let mut last = None;
     for (offset, _) in sample.structures {
@@ -20,7 +20,8 @@ fn begun(sample: &Sample, size: usize) -> Option<usize> {
     last
 }
 
-// A table that is cut has its structures up to the cut, where none is cut and it doesn't tell their number.
+// Checks a table that was cut. It has the structures before the cut if it is cut between two of them and doesn't contain their
+// number. Otherwise it has an error.
 fn is_cut(alloc: Global, sample: &Sample, part: &[u8]) -> Result<(), Fail> {
     let size = part.len();
     let (_, counted) = sample.count;
@@ -38,7 +39,7 @@ fn is_cut(alloc: Global, sample: &Sample, part: &[u8]) -> Result<(), Fail> {
     }
 }
 
-// The structures of a table stand side by side up to its end.
+// Fails unless the structures of a table follow each other up to its end.
 fn is_whole(alloc: Global, bytes: &[u8]) -> Result<(), Fail> {
     let pieces = Table::check(bytes)?.pieces(alloc)?;
     let mut end = None;
@@ -49,7 +50,7 @@ fn is_whole(alloc: Global, bytes: &[u8]) -> Result<(), Fail> {
     equal(&end.unwrap_or(bytes.len()), &bytes.len())
 }
 
-// Each beginning of a table of each signature, as it is, and with a true length and sum.
+// Each first part of a table of each signature: unchanged, and with the right length and sum.
 #[test]
 fn beginnings(rt: HostRuntime) -> Result<(), Fail> {
     let alloc = rt.alloc();
@@ -73,7 +74,7 @@ fn beginnings(rt: HostRuntime) -> Result<(), Fail> {
     Ok(())
 }
 
-// A table of which a byte was replaced, without a true sum and with it.
+// A table in which a byte was replaced, with a wrong sum and with the right one.
 fn is_replaced(alloc: Global, changed: &mut [u8]) -> Result<(), Fail> {
     equal(&Table::check(changed).is_err(), &true)?;
     seal(changed);
@@ -86,7 +87,7 @@ fn is_replaced(alloc: Global, changed: &mut [u8]) -> Result<(), Fail> {
     }
 }
 
-// Each byte of a small table of each signature by each other value.
+// Each byte of a small table of each signature, replaced by each other value.
 #[test]
 fn replacements(rt: HostRuntime) -> Result<(), Fail> {
     let alloc = rt.alloc();

@@ -1,4 +1,4 @@
-//! Tables that are refused.
+//! Tables with errors.
 
 use crate::pieces::refusal;
 use crate::samples::{AER_DEVICE, COUNT, nth};
@@ -8,11 +8,11 @@ use acpi_vectors::table::{mend, table};
 use std::alloc::Global;
 use std::test::Fail;
 
-// The bytes of a RIMT that tells of one structure and has none.
+// The bytes of a RIMT whose number of structures is one, without a structure.
 const MISCOUNTED: &[u8] =
     b"RIMT\x30\0\0\0\x01\x16FOOBARCAFEDEAD\xef\xbe\xad\xdeRVAT\0\0\0\x01\x01\0\0\0\x30\0\0\0\0\0\0\0";
 
-// Each byte of the fields that have the number of structures and the offset of the first: the fault is at the field.
+// Each byte of the fields with the number of structures and the offset of the first: the fault is at the field.
 #[test]
 fn told_fields(rt: HostRuntime) -> Result<(), Fail> {
     let alloc = rt.alloc();
@@ -40,7 +40,7 @@ fn told_fields(rt: HostRuntime) -> Result<(), Fail> {
     Ok(())
 }
 
-// A table that ends within its fixed fields: the fault is at its end.
+// A table that ends inside its fixed fields: the fault is at its end.
 #[test]
 fn ends(rt: HostRuntime) -> Result<(), Fail> {
     let alloc = rt.alloc();
@@ -64,7 +64,8 @@ fn ends(rt: HostRuntime) -> Result<(), Fail> {
     Ok(())
 }
 
-// The field of a length isn't reached, or the length doesn't reach its field's end, or it passes the table's end.
+// A structure that ends before the field of its length, a length that ends before this field does, and one that passes the
+// table's end.
 #[test]
 fn lengths(rt: HostRuntime) -> Result<(), Fail> {
     let alloc = rt.alloc();
@@ -128,13 +129,13 @@ fn lengths(rt: HostRuntime) -> Result<(), Fail> {
     Ok(())
 }
 
-// The refusal of a table of two error sources.
+// The error of a table of two error sources.
 fn of_two(alloc: Global, first: &[u8], second: &[u8]) -> Result<ReadError, Fail> {
     let bytes = table(alloc, b"HEST", 1, &[b"\x02\0\0\0", first, second])?;
     refusal(alloc, &bytes)
 }
 
-// Error sources of types without a size, and of other types cut short.
+// Error sources whose type has no size, and sources of other types that are cut.
 #[test]
 fn sources(rt: HostRuntime) -> Result<(), Fail> {
     let alloc = rt.alloc();
@@ -146,7 +147,7 @@ fn sources(rt: HostRuntime) -> Result<(), Fail> {
         let second = of_two(alloc, AER_DEVICE, &source)?;
         equal(&second, &ReadError::UnknownSource(84))?;
     }
-    // Types with no byte behind them.
+    // Types without a byte after them.
     let first = of_two(alloc, b"\xff\xff", b"")?;
     equal(&first, &ReadError::UnknownSource(40))?;
     let second = of_two(alloc, AER_DEVICE, b"\xff\xff")?;

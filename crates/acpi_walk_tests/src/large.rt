@@ -8,7 +8,7 @@ use std::test::Fail;
 
 const TIMES: u32 = 5_000;
 
-// A sample's table that has its structures so many times: where each begins, its bytes, and its line in the report.
+// Fails unless a sample's table with its structures repeated has these offsets, bytes and lines in the report.
 fn is_repeated(alloc: Global, sample: &Sample) -> Result<(), Fail> {
     let (signature, _) = sample.report.split_once(' ').ok_or("a signature")?;
     let (_, lines) = sample.report.split_once('\n').ok_or("lines")?;

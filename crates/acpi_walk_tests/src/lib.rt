@@ -1,5 +1,5 @@
-//! Tests of the checked view of a table and of its structures, and of the reports of these: bytes from outside, cut, replaced or
-//! changed at random, and which kind of error is returned.
+//! Tests of checked tables, their structures and their reports: bytes worked out by hand, cut, replaced or changed at random, and
+//! the kinds of errors.
 #![tactic(auto)]
 
 #[cfg(test)]

@@ -11,7 +11,7 @@ use acpi_vectors::{equal, same};
 use std::alloc::Global;
 use std::test::Fail;
 
-// The word at an offset, and 0 where none is.
+// The word at an offset, or 0 if there is none.
 fn word(bytes: &[u8], at: usize) -> usize {
     match bytes.get(at..) {
         Some([low, high, ..]) => usize::from(u16::from_le_bytes([*low, *high])),
@@ -19,7 +19,7 @@ fn word(bytes: &[u8], at: usize) -> usize {
     }
 }
 
-// How long a structure is by its own bytes, or by its table's kind.
+// The length of a structure, from its own bytes or its table's kind.
 fn told(signature: &[u8; 4], structure: &[u8]) -> usize {
     match signature {
         b"XSDT" => 8,
@@ -39,7 +39,7 @@ fn told(signature: &[u8; 4], structure: &[u8]) -> usize {
     }
 }
 
-// The structures are as long as told, and stand side by side from where they begin in such tables up to the end.
+// Fails unless each structure has its length, and they follow each other from the start of such tables up to the end.
 fn are_joined(
     alloc: Global,
     sample: &Sample,
@@ -57,7 +57,8 @@ fn are_joined(
     same(&joined, bytes)
 }
 
-// Whether the bytes are a table whose structures are found, which has a report. Tables of another signature have none.
+// Whether the bytes are a table whose structures can be found. If so, it has to have a report. Tables of other signatures have no
+// structures.
 fn is_walked(alloc: Global, sample: &Sample, bytes: &[u8]) -> Result<bool, Fail> {
     let Ok(table) = Table::check(bytes) else {
         return Ok(false);
@@ -81,7 +82,7 @@ fn is_walked(alloc: Global, sample: &Sample, bytes: &[u8]) -> Result<bool, Fail>
     Ok(true)
 }
 
-// Where the fields after the header begin, each structure, and where the last ends.
+// The offsets of the fields after the header and of each structure, and the end of the last.
 fn seams(alloc: Global, sample: &Sample, end: usize) -> Result<Vec<usize>, Fail> {
     let mut seams = Vec::new(alloc);
     if !sample.fields.is_empty() {
@@ -94,7 +95,7 @@ fn seams(alloc: Global, sample: &Sample, end: usize) -> Result<Vec<usize>, Fail>
     Ok(seams)
 }
 
-// Every other table has a true length and sum again.
+// Every second table gets the right length and sum.
 #[test]
 fn mutated(rt: HostRuntime) -> Result<(), Fail> {
     let alloc = rt.alloc();

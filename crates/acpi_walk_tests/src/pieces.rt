@@ -7,7 +7,7 @@ use acpi_vectors::{agree, equal, same};
 use std::alloc::Global;
 use std::test::Fail;
 
-/// The structures of a table's bytes are these at these offsets, and its report is this.
+/// Fails unless a table's bytes have these structures at these offsets, and this report.
 pub fn reads(
     alloc: Global,
     bytes: &[u8],
@@ -24,7 +24,7 @@ pub fn reads(
     agree(&report_table(alloc, &table)?, report)
 }
 
-/// The structures of a table's bytes have these types.
+/// Fails unless the structures of a table's bytes have these types.
 pub fn has_kinds(alloc: Global, bytes: &[u8], kinds: &[Option<usize>]) -> Result<(), Fail> {
     let table = Table::check(bytes)?;
     let pieces = table.pieces(alloc)?;
@@ -35,7 +35,7 @@ pub fn has_kinds(alloc: Global, bytes: &[u8], kinds: &[Option<usize>]) -> Result
     Ok(())
 }
 
-/// An error's offset is none past the end of the bytes.
+/// Fails if an error's offset is past the end of the bytes.
 pub fn is_within(error: ReadError, bytes: &[u8]) -> Result<(), Fail> {
     match error.offset() {
         Some(offset) if offset <= bytes.len() => Ok(()),
@@ -43,7 +43,7 @@ pub fn is_within(error: ReadError, bytes: &[u8]) -> Result<(), Fail> {
     }
 }
 
-/// The refusal of a table's bytes, which pass the check. The report's is of the same kind.
+/// The error of a table's bytes, which pass the check. The report's error has the same kind.
 pub fn refusal(alloc: Global, bytes: &[u8]) -> Result<ReadError, Fail> {
     let table = Table::check(bytes)?;
     let error = table.pieces(alloc).err().ok_or("a refusal")?;

@@ -4,8 +4,8 @@ use acpi_base::error::R;
 use acpi_vectors::table::table;
 use std::alloc::Global;
 
-/// A table's fields after its header, where it tells the number of its structures and where they begin (from an offset up to
-/// another), its structures with their offsets, and its report.
+/// A table: its fields after the header, the places of the number of its structures and of the offset of the first (from an
+/// offset up to another), its structures with their offsets, and its report.
 #[derive(Drop)]
 pub struct Sample {
     pub signature: &'static [u8; 4],
@@ -36,7 +36,7 @@ pub const AER_DEVICE: &[u8] =
     b"\x07\0\0\0\0\0\x02\0\x01\0\0\0\x02\0\0\0\0\0\0\0\0\0\0\0\x11\x12\0\0\
 \x21\x22\x23\x24\x25\x26\x27\x28\x29\x2a\x2b\x2c\x2d\x2e\x2f\x30";
 
-/// How many signatures have structures.
+/// The number of signatures that have structures.
 pub const COUNT: usize = 12;
 
 /// A table of each of these signatures.
@@ -93,7 +93,7 @@ pub fn mcfg() -> Sample {
     }
 }
 
-/// An I/O APIC, a local APIC, and a structure of an unknown type that has no bytes beside its type and its length.
+/// An I/O APIC, a local APIC, and a structure of an unknown type that is only its type and its length.
 fn madt() -> Sample {
     Sample {
         signature: b"APIC",
@@ -198,7 +198,7 @@ pub fn cedt() -> Sample {
     }
 }
 
-/// A cache, and a processor that has it.
+/// A cache, and a processor with this cache.
 pub fn pptt() -> Sample {
     Sample {
         signature: b"PPTT",
@@ -220,7 +220,7 @@ pub fn pptt() -> Sample {
     }
 }
 
-/// An ISA string, a node of cache operations, and a hart that has both.
+/// An ISA string, a node of cache operations, and a hart with both.
 fn rhct() -> Sample {
     Sample {
         signature: b"RHCT",
@@ -240,7 +240,7 @@ fn rhct() -> Sample {
     }
 }
 
-/// An IOMMU, and a range of devices behind it.
+/// An IOMMU, and a range of devices that use it.
 pub fn viot() -> Sample {
     Sample {
         signature: b"VIOT",
@@ -259,7 +259,7 @@ pub fn viot() -> Sample {
     }
 }
 
-/// An IOMMU with four wires, and a root complex with two mappings onto it.
+/// An IOMMU with four wires, and a root complex with two mappings to it.
 pub fn rimt() -> Sample {
     Sample {
         signature: b"RIMT",
@@ -306,7 +306,7 @@ pub fn rqsc() -> Sample {
     }
 }
 
-/// The memory of a domain, and a cache on its side.
+/// The memory of a domain, and its memory side cache.
 pub fn hmat() -> Sample {
     Sample {
         signature: b"HMAT",

@@ -7,7 +7,7 @@ use acpi_vectors::{agree, equal, same};
 use std::alloc::Global;
 use std::test::Fail;
 
-// So many zeros, but for the length and the checksum.
+// This many zeros, with a length and a checksum.
 fn table(alloc: Global, size: usize, length: [u8; 4], checksum: u8) -> Result<Vec<u8>, Fail> {
     let mut bytes = vec![in alloc; 0; size]?;
     if size >= 36 {
@@ -38,7 +38,7 @@ fn lengths(rt: HostRuntime) -> Result<(), Fail> {
         agree(&report, &line)?;
         bytes[9] = checksum.wrapping_sub(1);
         equal(&Table::check(&bytes).err(), &Some(ReadError::Sum(9)))?;
-        // Another length, by each of its bytes, that the checksum makes up for.
+        // Another length in each of its bytes, with a checksum that makes the sum zero.
         for index in 4..8 {
             bytes[index] = bytes[index].wrapping_add(1);
             equal(

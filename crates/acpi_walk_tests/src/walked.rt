@@ -9,7 +9,7 @@ use acpi_vectors::table::{mend, table};
 use std::alloc::Global;
 use std::test::Fail;
 
-// A table of each signature, and the same without structures, whose fields tell of none.
+// A table of each signature, and the same without structures, with a number of zero.
 #[test]
 fn each(rt: HostRuntime) -> Result<(), Fail> {
     let alloc = rt.alloc();
@@ -22,7 +22,7 @@ fn each(rt: HostRuntime) -> Result<(), Fail> {
         assert!(&rt; first <= end && end <= alone.len());
         alone[first..end].fill(0);
         mend(&mut alone);
-        // Its first line tells a length without structures.
+        // The first line has a length without structures.
         let (signature, _) = sample.report.split_once(' ').ok_or("a signature")?;
         let (start, _) = sample.structures.first().ok_or("a structure")?;
         let revision = sample.revision;
@@ -32,7 +32,7 @@ fn each(rt: HostRuntime) -> Result<(), Fail> {
     Ok(())
 }
 
-// Whatever stands after the header of other tables, they have no structures.
+// Tables of other signatures have no structures, for all bytes after the header.
 #[test]
 fn others(rt: HostRuntime) -> Result<(), Fail> {
     let alloc = rt.alloc();
@@ -52,7 +52,7 @@ fn others(rt: HostRuntime) -> Result<(), Fail> {
     Ok(())
 }
 
-// A table whose one structure begins with these bytes and has this many, the others zero.
+// Fails unless a table with one structure is read, which begins with these bytes and has zeros up to this size.
 fn is_padded(
     alloc: Global,
     case: (&[u8; 4], &[u8], &[u8], usize, usize, &str),
@@ -64,7 +64,7 @@ fn is_padded(
     reads(alloc, &bytes, &[(at, &structure)], report)
 }
 
-// Structures that are as long as up to the end of the field of their length, and long ones.
+// Structures that end with the field of their length, and long ones.
 #[test]
 fn least_and_long(rt: HostRuntime) -> Result<(), Fail> {
     let cases: [(&[u8; 4], &[u8], &[u8], usize, usize, &str); 7] = [
@@ -131,7 +131,7 @@ fn least_and_long(rt: HostRuntime) -> Result<(), Fail> {
     Ok(())
 }
 
-// Types of one byte and of two, where nothing else has this number, and structures without types.
+// Types of one byte and of two, with no other field of this value, and structures without types.
 #[test]
 fn kinds(rt: HostRuntime) -> Result<(), Fail> {
     let alloc = rt.alloc();
@@ -162,7 +162,7 @@ fn kinds(rt: HostRuntime) -> Result<(), Fail> {
         let bytes = table(alloc, signature, 1, &[fields, structures])?;
         has_kinds(alloc, &bytes, kinds)?;
     }
-    // Bytes that end before the type does.
+    // Bytes that end before the type.
     let bytes = table(alloc, b"HMAT", 1, &[&[0; 4]])?;
     let hmat = Table::check(&bytes)?;
     for short in [&b""[..], b"\x01"] {
@@ -175,7 +175,7 @@ fn kinds(rt: HostRuntime) -> Result<(), Fail> {
     Ok(())
 }
 
-// Reserved bytes of a structure, and of the fields before it, have any value.
+// Reserved bytes of a structure and of the fields before it may have any value.
 #[test]
 fn reserved(rt: HostRuntime) -> Result<(), Fail> {
     let cases: [(&[u8; 4], &[u8], &[u8], usize, usize, &str); 4] = [

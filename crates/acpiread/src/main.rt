@@ -1,5 +1,4 @@
-//! Reads ACPI tables and AML: `acpiread table FILE`, `acpiread aml FILE [NAME=N ..]` and
-//! `acpiread dsdt FILE [NAME=N ..]`.
+//! Reads ACPI tables and AML: `acpiread table FILE`, `acpiread aml FILE [NAME=N ..]` and `acpiread dsdt FILE [NAME=N ..]`.
 #![tactic(auto)]
 
 use acpiread_run::program::start;

@@ -1,4 +1,4 @@
--- What words ask for.
+-- The commands of words.
 use Rattle.std.specs.Prelude.{◌≡◌, ◌≢◌, ℕ, ◌-◌, ◌==◌, ◌&&◌, nat_le, if◌then◌else◌, List, [], ◌∷◌, Option, Some, None, codes}
 use Rattle.std.specs.List.{before_first, after_first}
 use Rattle.std.specs.Option.{option_map}
@@ -12,7 +12,7 @@ abbrev pub digit_value : List ℕ → Option ℕ
 digit_value (b ∷ []) = if nat_le 48 b && nat_le b 55 then Some (b - 48) else None
 digit_value _ = None
 
--- what a word `NAME=N` states, cut at its first `=`: the bytes that spell the name, and the number
+-- the name and the number of a word `NAME=N`, cut at its first `=`: the bytes that spell the name, and the number
 abbrev pub stated_by : List ℕ → Option (List ℕ × ℕ)
 stated_by word =
     if is_name_text (before_first (λ b. b == 61) word)
@@ -23,7 +23,7 @@ abbrev pub joined : Option (List ℕ × ℕ) → Option (List (List ℕ × ℕ))
 joined (Some a) (Some all) = Some (a ∷ all)
 joined _ _ = None
 
--- what words state one by one: nothing if one of them states nothing
+-- the names and numbers of words, or nothing if one of the words has none
 abbrev pub all_stated : List (List ℕ) → Option (List (List ℕ × ℕ))
 all_stated [] = Some []
 all_stated (word ∷ words) = joined (stated_by word) (all_stated words)
@@ -32,18 +32,18 @@ abbrev pub fitting : Option (List (List ℕ × ℕ)) → Option (List (List ℕ 
 fitting None = None
 fitting (Some all) = if are_arities all then Some all else None
 
--- what words state together: nothing, too, if they give a name twice
+-- the names and numbers of words, or nothing, also if a name is there twice
 abbrev pub stated : List (List ℕ) → Option (List (List ℕ × ℕ))
 stated words = fitting (all_stated words)
 
--- the words ask for a command
+-- the words are this command
 abbrev pub Asks : List (List ℕ) → Command → Type 0
 Asks words (Table file) = words ≡ codes "table" ∷ file.now ∷ []
 Asks words (Aml file arities) = (named : List (List ℕ)) × (words ≡ codes "aml" ∷ file.now ∷ named) × (stated named ≡ Some arities)
 Asks words (Dsdt file arities) = (named : List (List ℕ)) × (words ≡ codes "dsdt" ∷ file.now ∷ named)
     × (stated named ≡ Some arities)
 
--- no command is asked for by these words
+-- the words are no command
 pub record IsNoCommand (words : List (List ℕ)) : Type 0 where
   pub no_table : (file : List ℕ) → words ≢ codes "table" ∷ file ∷ []
   pub no_aml : (file : List ℕ) (named : List (List ℕ)) → words ≡ codes "aml" ∷ file ∷ named → stated named ≡ None

@@ -1,4 +1,4 @@
--- Why there is no report.
+-- Faults: why there is no report.
 use Rattle.std.specs.Prelude.{◌≡◌, ℕ, ◌+◌, Option, Some, None, List, ◌++◌, codes}
 use Rattle.std.specs.Fmt.{decimal}
 use Rattle.std.specs.Option.{option_map}
@@ -24,21 +24,21 @@ line_of (Refused kind) = codes "refused: " ++ kind.now
 abbrev pub unwritten : List ℕ
 unwritten = codes "the output can't be written"
 
--- a refusal of that name, and of that offset where there is one
+-- a fault of this name, with this offset if there is one
 abbrev pub IsNamed : Option ℕ → List ℕ → Fault → Type 0
 IsNamed place name Usage = ⊥
 IsNamed place name (RefusedAt offset kind) = (place ≡ Some offset) × (kind.now ≡ name)
 IsNamed place name (Refused kind) = (place ≡ None) × (kind.now ≡ name)
 
--- the error's name, and its offset where it has one
+-- the fault has the error's name, and its offset if it has one
 abbrev pub IsRefusal : ReadError → Fault → Type 0
 IsRefusal error = IsNamed (offset_of error) (name_of error)
 
--- the same of bytes that begin so far after the file's first
+-- the same for bytes that begin at an offset of the file
 abbrev pub IsRefusalAfter : ℕ → ReadError → Fault → Type 0
 IsRefusalAfter start error = IsNamed (option_map (λ n. start + n) (offset_of error)) (name_of error)
 
--- usage is returned only where a fact holds, and nothing else but Memory
+-- the fault is `Usage`, and then the fact holds; or it is that of memory
 abbrev pub IsUsageWhere : Type 0 → Fault → Type 0
 IsUsageWhere fact Usage = fact
 IsUsageWhere fact (RefusedAt offset kind) = ⊥

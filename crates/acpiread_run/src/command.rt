@@ -1,4 +1,4 @@
-//! The words of the command line.
+//! The command line.
 
 ghost use Rattle.std.specs.Prelude.{◌≡◌, ◌≢◌, Some, None, map, string_bytes, IfOk, IfErr};
 ghost use Rattle.acpiread_run.specs.Command.{stated_by, stated, Asks, IsNoCommand};
@@ -9,19 +9,18 @@ use acpi_term::name_string::{Arities, NameString};
 use acpi_term::read_error::ReadError;
 use std::alloc::Global;
 
-/// What the program is asked for.
+/// The command that the user gives.
 #[derive(Debug, Drop)]
 pub enum Command<'a> {
     /// `table FILE`: the report of the table in a file.
     Table(&'a str),
-    /// `aml FILE [NAME=N ..]`: the report of the terms that a file's bytes spell, where names have these numbers of
-    /// arguments.
+    /// `aml FILE [NAME=N ..]`: the report of the terms that a file's bytes spell, if names take these numbers of arguments.
     Aml(&'a str, Arities),
     /// `dsdt FILE [NAME=N ..]`: the report of the table in a file, and of the terms after its header.
     Dsdt(&'a str, Arities),
 }
 
-// A text that isn't a name, or names that aren't to be stated together, end as wrong words do, unless memory is wanted.
+// A text that isn't a name, and argument counts that can't be used together, are wrong words. Memory is an error of its own.
 fn misread(error: ReadError) -> Fault
     ensures memory { error ≡ ReadError.Memory → IsRefusal ReadError.Memory result }
     ensures other { error ≢ ReadError.Memory → result ≡ Fault.Usage }
@@ -32,7 +31,7 @@ fn misread(error: ReadError) -> Fault
     }
 }
 
-// What a word `NAME=N` states.
+// The name and the number in a word `NAME=N`.
 fn stated(alloc: Global, word: &str) -> Result<(NameString, u8), Fault>
     ensures ok { IfOk result (λ entry. stated_by word.now ≡ Some entry) }
     ensures err { IfErr result (IsUsageWhere (stated_by word.now ≡ None)) }
@@ -47,7 +46,7 @@ fn stated(alloc: Global, word: &str) -> Result<(NameString, u8), Fault>
     Ok((name, digit - b'0'))
 }
 
-// What words state together.
+// The argument counts of all words.
 fn arities(alloc: Global, words: &[String]) -> Result<Arities, Fault>
     ensures ok { IfOk result (λ arities. stated (map (λ word. string_bytes word) words.now) ≡ Some arities) }
     ensures err { IfErr result (IsUsageWhere (stated (map (λ word. string_bytes word) words.now) ≡ None)) }
@@ -59,8 +58,7 @@ fn arities(alloc: Global, words: &[String]) -> Result<Arities, Fault>
     Arities::new(entries).map_err(misread)
 }
 
-/// The command that the words ask for, without the program's name. Usage where they ask for none, and a refusal only
-/// where memory ran out.
+/// The command of the words after the program's name. The error is `Usage` if they aren't a command, or the one for memory.
 pub fn parse(alloc: Global, words: &[String]) -> Result<Command<'_>, Fault>
     ensures ok { IfOk result (λ command. Asks (map (λ word. string_bytes word) words.now) command) }
     ensures err { IfErr result (IsUsageWhere (IsNoCommand (map (λ word. string_bytes word) words.now))) }

@@ -1,4 +1,4 @@
-//! Why there is no report.
+//! Faults: why there is no report.
 
 ghost use Rattle.std.specs.Prelude.{◌≡◌, Some, ◌+◌, ◌<◌, ◌^◌, IfSome};
 ghost use Rattle.acpi_term.specs.ReadError.{offset_of};
@@ -10,14 +10,14 @@ use std::alloc::{AllocError, AllocFailed};
 use std::fmt;
 use thiserror::Error;
 
-/// Why the program prints no report. What it displays is the line for standard error.
+/// Why the program prints no report. Its text is the line for standard error.
 #[derive(Debug, Drop, Error)]
 pub enum Fault {
     /// Wrong words, or a file that can't be read.
     Usage,
-    /// The file's bytes were refused, at an offset from its first byte.
+    /// The file's bytes are refused, at an offset from the file's first byte.
     RefusedAt { offset: usize, kind: &'static str },
-    /// A refusal that has no offset.
+    /// The bytes are refused, without an offset.
     Refused { kind: &'static str },
 }
 
@@ -32,7 +32,7 @@ impl Fault {
         }
     }
 
-    // A refusal of this name, at this offset if there is one.
+    // A fault of this name, with this offset if there is one.
     fn named(place: Option<usize>, kind: &'static str) -> Fault
         ensures { IsNamed place kind.now result }
     {
@@ -42,7 +42,7 @@ impl Fault {
         }
     }
 
-    /// The fault of bytes that begin so far after the file's first.
+    /// The fault of bytes that begin at offset `start` of the file.
     pub fn after(start: usize, error: ReadError) -> Fault
         requires { IfSome (offset_of error) (λ offset. start + offset < 2 ^ 64) }
         ensures { IsRefusalAfter start error result }

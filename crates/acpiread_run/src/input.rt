@@ -1,4 +1,4 @@
-//! The bytes of a file, no more than a table can have.
+//! Reading a file, up to the most bytes that a table can have.
 
 ghost use Rattle.std.specs.Prelude.{◌≡◌, ◌^◌, take, IfSome, IfOk};
 ghost use Rattle.acpiread_run.specs.Input.{after_header};
@@ -8,10 +8,11 @@ use std::alloc::Global;
 use std::io;
 use std::io::Read;
 
-/// The bytes of a standard header (ACPI 6.5, 5.2.6).
+/// The number of bytes of a standard header (ACPI 6.5, 5.2.6).
 const HEADER: u64 = 36;
 
-// How many bytes to read after a header. A length below the header's own needs none: one more shows that it isn't true.
+// How many bytes to read after a header. If the length in the header is below 36, one more byte is enough: the check refuses
+// them.
 fn after_header(header: &[u8]) -> u64
     ensures { result ≡ after_header header.now }
 {
@@ -22,8 +23,8 @@ fn after_header(header: &[u8]) -> u64
     u64::from(length).saturating_sub(HEADER) + 1
 }
 
-/// The bytes of a table: its header, what the header's length tells beyond it, and one more, so that a longer file is
-/// known without reading it to its end. The check of what was read tells what that of all bytes would.
+/// The bytes of a table: its header, the bytes that the length in the header announces, and one more. That byte shows that a file
+/// is longer than the table, without reading all of it. Checking these bytes gives the same result as checking the whole file.
 pub fn read_table<I: Read + Drop>(alloc: Global, input: I) -> io::Result<Vec<u8>> {
     let mut bytes = Vec::new(alloc);
     let mut input = input.take(HEADER);
@@ -33,7 +34,7 @@ pub fn read_table<I: Read + Drop>(alloc: Global, input: I) -> io::Result<Vec<u8>
     Ok(bytes)
 }
 
-/// The bytes of a file of terms, and no more of a longer one than show that it is too long.
+/// The bytes of a file of terms. Of a file that is too long it reads one byte more than allowed.
 pub fn read_terms<I: Read + Drop>(alloc: Global, input: I) -> io::Result<Vec<u8>>
     ensures { IfOk result (λ bytes. IfSome (I.remaining input) (λ file. bytes.items ≡ take (2 ^ 32) file)) }
 {

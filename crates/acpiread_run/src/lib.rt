@@ -1,4 +1,4 @@
-//! The program `acpiread` but its arguments and its exit.
+//! The program `acpiread`, without its `main`.
 #![tactic(auto)]
 
 pub mod command;

@@ -1,4 +1,4 @@
-//! A run of the program.
+//! Running the program.
 
 ghost use Rattle.std.specs.Prelude.{◌≡◌, ◌≢◌, ◌∷◌, [], ◌++◌, map, string_bytes, IfOk, IfErr, OnOk, MatchResult};
 ghost use Rattle.std.specs.IoError.{error_kind};
@@ -16,7 +16,7 @@ use std::io::{ErrorKind, Write};
 use std::rt::{Env, Files};
 use std::{env, fs, io};
 
-// The bytes of a command's file, as far as its report needs them.
+// Reads the bytes of a command's file, as many as the report needs.
 fn read_file<R: Files>(rt: &R, alloc: Global, command: &Command<'_>) -> io::Result<Vec<u8>> {
     match command {
         Command::Table(file) | Command::Dsdt(file, _) => read_table(alloc, fs::open(rt, *file)?),
@@ -24,7 +24,7 @@ fn read_file<R: Files>(rt: &R, alloc: Global, command: &Command<'_>) -> io::Resu
     }
 }
 
-// Words or a file that can't be read end as wrong words do, unless memory is what they want.
+// An error of reading the words or the file is `Usage`, unless memory ran out.
 fn unread(error: io::Error) -> Fault
     ensures memory { error_kind error ≡ ErrorKind.OutOfMemory → IsRefusal ReadError.Memory result }
     ensures other { error_kind error ≢ ErrorKind.OutOfMemory → result ≡ Fault.Usage }
@@ -36,7 +36,7 @@ fn unread(error: io::Error) -> Fault
     }
 }
 
-// What a command reports of the bytes of its file.
+// The report of a command for the bytes of its file.
 fn report_of(alloc: Global, command: &Command<'_>, bytes: &[u8]) -> Result<String, Fault>
     ensures { MatchResult result
         (λ text. IsReportOf command.now bytes.now (string_bytes text)) (IsFaultOf command.now bytes.now) }
@@ -48,7 +48,7 @@ fn report_of(alloc: Global, command: &Command<'_>, bytes: &[u8]) -> Result<Strin
     }
 }
 
-// What the words ask for. No file is opened for words that ask for nothing.
+// The report that the words ask for. The file is opened only if the words are a command.
 fn report<R: Files>(rt: &R, alloc: Global, words: &[String]) -> Result<String, Fault>
     ensures ok { IfOk result (λ text. IsReport (map (λ word. string_bytes word) words.now) (string_bytes text)) }
     ensures err { IfErr result (IsToldFor (map (λ word. string_bytes word) words.now)) }
@@ -58,7 +58,7 @@ fn report<R: Files>(rt: &R, alloc: Global, words: &[String]) -> Result<String, F
     report_of(alloc, &command, &bytes)
 }
 
-// Tells a report, or why there is none, and returns the exit status.
+// Prints a report, or the line of a fault, and returns the exit status.
 fn tell<O: Write, E: Write>(
     report: Result<String, Fault>,
     out: &mut O,
@@ -84,9 +84,13 @@ fn tell<O: Write, E: Write>(
     }
 }
 
-/// Runs the program on the words after its name, and returns its exit status. 0: the report went to `out`. 1: the
-/// file was refused or memory ran out, `err` has a line that says why, and `out` has nothing. 2: the words are wrong or
-/// the file can't be read, `err` has the line on usage, and `out` has nothing. An error is one of `out` or `err`.
+/// Runs the program on the words after its name, and returns its exit status:
+///
+/// - 0: `out` has the report, and `err` nothing.
+/// - 1: the file was refused or memory ran out. `err` has a line with the reason, and `out` nothing.
+/// - 2: the words are wrong or the file can't be read. `err` has the usage line, and `out` nothing.
+///
+/// An error of this call is an error of `out` or `err`.
 pub fn run<R: Files, O: Write, E: Write>(
     rt: &R,
     alloc: Global,
@@ -108,7 +112,7 @@ fn own_words<R: Env + AllocGlobal>(rt: &R) -> Result<Vec<String>, Fault>
     Ok(words.skip(1).collect(rt.alloc())?)
 }
 
-// The line for a run whose output couldn't be written.
+// Prints the line of a run whose output couldn't be written.
 fn tell_unwritten<E: Write>(err: &mut E) -> io::Result<()>
     ensures { OnOk result (Appends (E.contents err.old) (E.contents err.new) (unwritten ++ 10 ∷ [])) }
 {
@@ -116,7 +120,7 @@ fn tell_unwritten<E: Write>(err: &mut E) -> io::Result<()>
     err.flush()
 }
 
-// Runs the program on its own words.
+// Runs the program on the words of the process.
 fn run_own<R: Env + Files + AllocGlobal, O: Write, E: Write>(
     rt: &R,
     out: &mut O,
@@ -131,8 +135,8 @@ fn run_own<R: Env + Files + AllocGlobal, O: Write, E: Write>(
     run(rt, rt.alloc(), &words, out, err)
 }
 
-/// Runs the program on its own words, and returns its exit status: that of `run`, that of a fault where the words can't
-/// be read, or 1 where output can't be written, which a line on `err` says unless that is what can't be written.
+/// Runs the program on the words of the process, and returns its exit status. It is that of `run`, or that of a fault if the
+/// words can't be read. If output can't be written it is 1, and `err` gets a line about that, unless `err` itself fails.
 pub fn start<R: Env + Files + AllocGlobal, O: Write, E: Write>(
     rt: &R,
     out: &mut O,

@@ -1,4 +1,4 @@
-//! Reports of bytes, wherever they come from.
+//! Reports of bytes.
 
 ghost use Rattle.std.specs.Prelude.{string_bytes, IfOk, IfErr};
 ghost use Rattle.acpi_term.specs.Arity.{arity};
@@ -13,10 +13,10 @@ use acpi_term::name_string::Arities;
 use acpi_term::read_error::ReadError;
 use std::alloc::Global;
 
-/// Where the terms of a table begin: after its header.
+/// The offset of the terms of a table: they follow its header.
 const BODY: usize = 36;
 
-/// The most bytes that a table can have: what its length can tell.
+/// The most bytes that a table can have: the greatest number in its length field.
 pub(crate) const MOST_BYTES: usize = 0xffff_ffff;
 
 // The first line of the report of a table.
@@ -37,8 +37,8 @@ pub fn table_report(alloc: Global, bytes: &[u8]) -> Result<String, Fault>
     Ok(report_table(alloc, &table)?)
 }
 
-/// The report of the terms that the bytes spell, where names have these numbers of arguments. More bytes than a table can
-/// have are refused as TableLength at the first of them that no table has.
+/// The report of the terms that the bytes spell, if names take these numbers of arguments. If there are more bytes than a table
+/// can have, the fault is `TableLength` at the offset of the first that is too many.
 pub fn aml_report(alloc: Global, bytes: &[u8], arities: &Arities) -> Result<String, Fault>
     ensures ok { IfOk result (λ text. IsAmlReport (arity arities.now) bytes.now (string_bytes text)) }
     ensures err { IfErr result (IsAmlFault (arity arities.now) bytes.now) }
@@ -50,7 +50,7 @@ pub fn aml_report(alloc: Global, bytes: &[u8], arities: &Arities) -> Result<Stri
     Ok(report_terms(alloc, &terms)?)
 }
 
-/// The first line of the report of a table, and the report of the terms after its header.
+/// The first line of the report of a table, followed by the report of the terms after its header.
 pub fn dsdt_report(alloc: Global, bytes: &[u8], arities: &Arities) -> Result<String, Fault>
     ensures ok { IfOk result (λ text. IsDsdtReport (arity arities.now) bytes.now (string_bytes text)) }
     ensures err { IfErr result (IsDsdtFault (arity arities.now) bytes.now) }

@@ -82,7 +82,7 @@ fn bounds_depth(rt: HostRuntime) -> Result<(), Fail> {
     let alloc = rt.alloc();
     let path = path(&rt, rt.process(), "deep")?;
     let file = path.as_str();
-    // The most terms within one another that are read, and one more.
+    // The deepest terms that are read, and one level more.
     let mut bytes = vec![in alloc; 0x92u8; 254]?;
     bytes.push(0)?;
     let mut lines = String::new(alloc);

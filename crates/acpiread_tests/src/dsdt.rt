@@ -14,10 +14,10 @@ pub const PORT: [u8; 86] =
 \x5b\x82\x30._SB_COM1\x08_HID\x0c\x41\xd0\x05\x01\x08_CRS\x11\x16\x0a\x13\x89\x06\x00\x03\x01\x04\x00\x00\x00\
 \x47\x01\xf8\x03\xf8\x03\x00\x08\x79\x00";
 
-/// Where the buffer of the serial port tells its length.
+/// The offset of the length of the serial port's buffer.
 pub const LENGTH: usize = 36 + 28;
 
-// A header, and a byte that no term begins with.
+// A header, and a byte with which no term begins.
 const BAD: [u8; 37] =
     *b"DSDT\x25\x00\x00\x00\x02\x5cFOOBARCAFEDEAD\xef\xbe\xad\xdeRVAT\x00\x00\x00\x01\x02";
 
@@ -125,7 +125,7 @@ fn refuses_tables(rt: HostRuntime) -> Result<(), Fail> {
     )
 }
 
-// Each beginning of a definition block.
+// Each first part of a definition block.
 #[test]
 fn refuses_beginnings(rt: HostRuntime) -> Result<(), Fail> {
     let alloc = rt.alloc();

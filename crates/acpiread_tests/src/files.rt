@@ -59,7 +59,7 @@ fn ends_at_the_length(rt: HostRuntime) -> Result<(), Fail> {
 
 #[test]
 fn reads_whole_files(rt: HostRuntime) -> Result<(), Fail> {
-    // Files end before they are refused for their length.
+    // Files that end before their length is refused.
     for count in [0, 1, 35, 36, 37, 40, 41] {
         let read = read_table(rt.alloc(), &DSDT[..count])?;
         same(&read, &DSDT[..count])?;

@@ -1,4 +1,4 @@
-//! Tests of the program: its runs on files, with every status and text, input in parts or broken off, and writers that fail.
+//! Tests of the program: runs on files with every status and text, input in parts or with errors, and writers that fail.
 #![tactic(auto)]
 
 #[cfg(test)]

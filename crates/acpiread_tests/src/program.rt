@@ -7,19 +7,19 @@ use std::rt::{Env, Files};
 use std::test::Fail;
 use std::{env, fs, io, process};
 
-/// What a run on wrong words tells.
+/// The line of a run on wrong words.
 pub const USAGE: &str =
     "usage: acpiread table FILE | aml FILE [NAME=N ..] | dsdt FILE [NAME=N ..]\n";
 
-/// A definition block that holds a package of 0 and 1.
+/// A definition block with a package of 0 and 1.
 pub const DSDT: [u8; 41] =
     *b"DSDT\x29\x00\x00\x00\x02\x41FOOBARCAFEDEAD\xef\xbe\xad\xdeRVAT\x00\x00\x00\x01\x12\x04\x02\x00\x01";
 
-/// The same with a signature that prints in part.
+/// The same with a signature that is printable only in part.
 pub const ODD: [u8; 41] =
     *b"\x1f\x20\x7e\x7f\x29\x00\x00\x00\x02\x34FOOBARCAFEDEAD\xef\xbe\xad\xdeRVAT\x00\x00\x00\x01\x12\x04\x02\x00\x01";
 
-/// A path that no other test has.
+/// A path that no other test uses.
 pub fn path(rt: &(impl Env + AllocGlobal), process: Process, name: &str) -> io::Result<String> {
     let folder = env::temp_dir(rt)?;
     let id = process::id(process);
@@ -27,7 +27,7 @@ pub fn path(rt: &(impl Env + AllocGlobal), process: Process, name: &str) -> io::
     Ok(format!(in rt.alloc(); "{folder}/acpiread-{id}-{name}")?)
 }
 
-/// The words as a run takes them.
+/// The words in the type that a run takes.
 pub fn owned(rt: &impl AllocGlobal, words: &[&str]) -> io::Result<Vec<String>> {
     let mut owned = Vec::new(rt.alloc());
     for word in words {
@@ -36,7 +36,7 @@ pub fn owned(rt: &impl AllocGlobal, words: &[&str]) -> io::Result<Vec<String>> {
     Ok(owned)
 }
 
-// The status of a run on the words, what it printed, and what it told as errors.
+// The status of a run on the words, and what it wrote to standard output and to standard error.
 fn outcome(rt: &(impl Files + AllocGlobal), words: &[&str]) -> io::Result<(u8, Vec<u8>, Vec<u8>)> {
     let mut out = Vec::new(rt.alloc());
     let mut err = Vec::new(rt.alloc());
@@ -44,7 +44,7 @@ fn outcome(rt: &(impl Files + AllocGlobal), words: &[&str]) -> io::Result<(u8, V
     Ok((status, out, err))
 }
 
-/// What a run on the words has to end with.
+/// Fails unless a run on the words ends like this.
 pub fn ends(
     rt: &(impl Files + AllocGlobal),
     words: &[&str],
@@ -58,7 +58,7 @@ pub fn ends(
     same(&told, err.as_bytes())
 }
 
-/// What the report on a file of each of these bytes has to be.
+/// Fails unless the report on a file of each of these bytes is this.
 pub fn prints(
     rt: &(impl Files + AllocGlobal),
     file: &str,
@@ -73,7 +73,7 @@ pub fn prints(
     Ok(())
 }
 
-/// The line that a file of each of these bytes has to be refused by.
+/// Fails unless the line for a file of each of these bytes is this.
 pub fn tells(
     rt: &(impl Files + AllocGlobal),
     file: &str,
@@ -88,7 +88,7 @@ pub fn tells(
     Ok(())
 }
 
-/// The kind that a file of these bytes has to be refused by, at whatever offset.
+/// Fails unless a file of these bytes is refused with this kind, at any offset.
 pub fn refuses(
     rt: &(impl Files + AllocGlobal),
     file: &str,

@@ -1,4 +1,4 @@
-//! Input that comes in parts, and input that breaks off.
+//! Input that comes in parts, and input that fails.
 
 use crate::program::DSDT;
 use acpi_vectors::{equal, same};
@@ -8,7 +8,7 @@ use std::io;
 use std::io::{Error, ErrorKind, Read};
 use std::test::Fail;
 
-// Bytes of which no more than this many come at a time, and behind them their end or a failure.
+// Bytes that come in parts of this size at most, and after them the end or a failure.
 #[derive(Drop)]
 struct Parts<'a> {
     bytes: &'a [u8],
@@ -32,7 +32,7 @@ impl Read for Parts<'_> {
     }
 }
 
-// What is read as a table, or as terms.
+// Reads as a table, or as terms.
 fn read(alloc: Global, is_table: bool, parts: Parts<'_>) -> io::Result<Vec<u8>> {
     if is_table {
         read_table(alloc, parts)
@@ -41,7 +41,7 @@ fn read(alloc: Global, is_table: bool, parts: Parts<'_>) -> io::Result<Vec<u8>> 
     }
 }
 
-// However many bytes come at a time, all that are wanted are read, or the failure is told that comes before the last of them.
+// For each size of parts, all bytes that are needed are read, or the failure before the last of them is returned.
 fn comes(
     alloc: Global,
     is_table: bool,
@@ -64,7 +64,7 @@ fn comes(
     Ok(())
 }
 
-// Each beginning of a table and of more, to its end or to a failure. Of a table no more than a byte behind it is read.
+// Each first part of a table and of more, up to its end or a failure. Of a table at most one byte after it is read.
 #[test]
 fn beginnings(rt: HostRuntime) -> Result<(), Fail> {
     let alloc = rt.alloc();

@@ -7,12 +7,12 @@ use std::test::Fail;
 const XSDT: &[u8] =
     b"XSDT\x2c\0\0\0\x01\x34FOOBARCAFEDEAD\xef\xbe\xad\xdeRVAT\0\0\0\x01\0\x10\0\0\0\0\0\0";
 
-// A cache, and a processor that has it.
+// A cache, and a processor with this cache.
 const PPTT: &[u8] = b"PPTT\x58\0\0\0\x03\xafFOOBARCAFEDEAD\xef\xbe\xad\xdeRVAT\0\0\0\x01\
 \x01\x1c\0\0\x41\0\0\0\0\0\0\0\0\x80\0\0\0\0\0\0\0\0\x40\0\0\0\0\0\
 \0\x18\0\0\x02\0\0\0\0\0\0\0\x05\0\0\0\x01\0\0\0\x24\0\0\0";
 
-// An IOMMU with four wires, and a root complex with two mappings onto it.
+// An IOMMU with four wires, and a root complex with two mappings to it.
 const RIMT: &[u8] =
     b"RIMT\xa8\0\0\0\x01\xf2FOOBARCAFEDEAD\xef\xbe\xad\xdeRVAT\0\0\0\x01\x02\0\0\0\x30\0\0\0\0\0\0\0\
 \0\x01\x40\0\x01\0\0\0\0\0\0\0\0\0\0\0\x03\0\0\0\x05\0\x3f\x06\x0f\0\0\0\x04\0\x20\0\
@@ -20,7 +20,7 @@ const RIMT: &[u8] =
 \x01\x01\x38\0\x01\0\x01\0\x03\0\0\0\x10\0\x02\0\
 \x01\0\0\0\x02\0\0\0\x0a\0\0\0\x30\0\0\0\x03\0\0\0\x02\0\0\0\x03\0\0\0\x05\0\0\0\x30\0\0\0\x04\0\0\0";
 
-// The same signature without structures, which tells of one.
+// The same signature without structures, and a number of one.
 const MISCOUNTED: &[u8] =
     b"RIMT\x30\0\0\0\x01\x16FOOBARCAFEDEAD\xef\xbe\xad\xdeRVAT\0\0\0\x01\x01\0\0\0\x30\0\0\0\0\0\0\0";
 
@@ -43,19 +43,19 @@ const SECOND_SOURCE: &[u8] =
 \x07\0\0\0\0\0\x02\0\x01\0\0\0\x02\0\0\0\0\0\0\0\0\0\0\0\x11\x12\0\0\0\0\0\0\0\0\0\0\0\0\0\0\0\0\0\0\
 \x03\0\0\0\0\0\0\0\0\0\0\0\0\0\0\0\0\0\0\0\0\0\0\0\0\0\0\0\0\0\0\0\0\0\0\0\0\0\0\0\0\0\0\0";
 
-// A structure that tells a length of 0.
+// A structure with a length of 0.
 const MADT: &[u8] =
     b"APIC\x34\0\0\0\x01\x62FOOBARCAFEDEAD\xef\xbe\xad\xdeRVAT\0\0\0\x01\0\0\0\0\0\0\0\0\0\0\0\0\0\0\0\0";
 
-// An ISA string, and a node that tells a length of 3.
+// An ISA string, and a node with a length of 3.
 const RHCT: &[u8] = b"RHCT\x52\0\0\0\x01\xa3FOOBARCAFEDEAD\xef\xbe\xad\xdeRVAT\0\0\0\x01\
 \0\0\0\0\x80\x96\x98\0\0\0\0\0\x02\0\0\0\x38\0\0\0\0\0\x10\0\x01\0\x07\0foobar\0\0\x01\0\x03\0\x01\0\0\x06\x05\x04";
 
-// An IOMMU, where nodes are told to begin at 40.
+// An IOMMU, with 40 as the offset of the first node.
 const VIOT: &[u8] = b"VIOT\x40\0\0\0\x01\xfeFOOBARCAFEDEAD\xef\xbe\xad\xdeRVAT\0\0\0\x01\
 \x01\0\x28\0\0\0\0\0\0\0\0\0\x03\0\x10\0\x01\x02\xf6\xfe\0\0\0\0\0\0\0\0";
 
-// A host bridge, and a port association of 17 bytes without its last.
+// A host bridge, and a port association of 17 bytes without its last byte.
 const CEDT: &[u8] = b"CEDT\x54\0\0\0\x01\x39FOOBARCAFEDEAD\xef\xbe\xad\xdeRVAT\0\0\0\x01\
 \0\0\x20\0\xef\xcd\0\0\x01\0\0\0\0\0\0\0\x78\x56\x34\x12\x08\0\0\0\0\0\x01\0\0\0\0\0\
 \x03\0\x11\0\0\x01\xff\xfe\x01\xef\xcd\xab\x90\x78\x56\x34";
@@ -99,13 +99,13 @@ fn refuses_structures(rt: HostRuntime) -> Result<(), Fail> {
             (SECOND_SOURCE, "refused at 84: UnknownSource\n"),
         ],
     )?;
-    // No structure is at fault.
+    // The fault is at none of the structures.
     refuses(&rt, file, &["table", file], VIOT, "Structure")?;
     refuses(&rt, file, &["table", file], HEADER, "Structure")?;
     refuses(&rt, file, &["table", file], MISCOUNTED, "Count")
 }
 
-// What stands after a header can be terms and no structures.
+// The bytes after a header can be terms without being structures.
 #[test]
 fn reports_terms_alone(rt: HostRuntime) -> Result<(), Fail> {
     let path = path(&rt, rt.process(), "terms-alone")?;
@@ -117,7 +117,7 @@ fn reports_terms_alone(rt: HostRuntime) -> Result<(), Fail> {
     tells(&rt, file, &["table", file], &[(number, line)])
 }
 
-// Entries of zeros, so many that the length takes three bytes.
+// Entries of zeros, enough for a length of three bytes.
 #[test]
 fn reports_long_tables(rt: HostRuntime) -> Result<(), Fail> {
     let alloc = rt.alloc();

@@ -1,4 +1,4 @@
-//! Words that ask for a command, and words that don't.
+//! Words that are a command, and words that aren't.
 
 use crate::program::{DSDT, USAGE, ends, path, prints};
 use std::test::Fail;
@@ -45,7 +45,7 @@ fn refuses_words(rt: HostRuntime) -> Result<(), Fail> {
         "MTHD=a", "MTHD=2=", "MTHD==2", "MTHD=2 ", " MTHD=2", "mthd=2", "MTH=2", "MTHDX=2",
         "MTHD.=2", "\\=2", "^MTHD=2", "1THD=2",
     ];
-    // The words are looked at before the file, which isn't there at first.
+    // The words are checked before the file is opened, which doesn't exist at first.
     for _ in 0..2 {
         for word in wrong {
             ends(&rt, &["aml", file, word], 2, "", USAGE)?;

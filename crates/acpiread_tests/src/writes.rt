@@ -12,7 +12,7 @@ use std::{fs, io};
 // Room for more than any line.
 const AMPLE: usize = 1_000;
 
-// A writer with room for this many bytes, which fails once that is used up.
+// A writer with room for this many bytes, which fails after these.
 #[derive(Drop)]
 struct Full {
     room: usize,
@@ -47,7 +47,7 @@ impl Write for Full {
     }
 }
 
-// A run whose writers have so much room: its status, and what each has taken.
+// A run whose writers have this much room: its status, and what each has taken.
 fn run_full(
     rt: &(impl Files + AllocGlobal),
     words: &[String],
@@ -59,8 +59,8 @@ fn run_full(
     Ok((status, [out.taken, err.taken]))
 }
 
-// Whichever byte of the lines is refused, or the flush behind them, a run has no status, what goes before is written, and the
-// other writer is given nothing.
+// For each byte of the lines that fails, and for the flush after them, a run has no status, the bytes before are written, and the
+// other writer gets nothing.
 fn fails(
     rt: &(impl Files + AllocGlobal),
     words: &[&str],
@@ -108,7 +108,7 @@ fn full_writers(rt: HostRuntime) -> Result<(), Fail> {
     fails(&rt, &["table", file], 2, USAGE)
 }
 
-// Whatever the words are, neither a report nor a fault can be told.
+// For all words, neither a report nor a fault can be written.
 #[test]
 fn no_room(rt: HostRuntime) -> Result<(), Fail> {
     let mut out = Full::new(rt.alloc(), 0);
@@ -134,7 +134,7 @@ impl Write for Only<'_> {
     }
 }
 
-// Whatever the words are, one line tells that neither a report nor a fault could be told.
+// For all words, one line says that neither a report nor a fault could be written.
 #[test]
 fn room_for_a_line(rt: HostRuntime) -> Result<(), Fail> {
     let mut out = Full::new(rt.alloc(), 0);

@@ -64,7 +64,7 @@ fn methods(rt: HostRuntime) -> Result<(), Fail> {
     )
 }
 
-// Calls in a method, with arguments where they are stated.
+// Calls in a method, with the stated numbers of arguments.
 #[test]
 fn calls(rt: HostRuntime) -> Result<(), Fail> {
     let alloc = rt.alloc();

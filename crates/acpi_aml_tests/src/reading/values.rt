@@ -98,7 +98,7 @@ fn paths(rt: HostRuntime) -> Result<(), Fail> {
     )
 }
 
-// The characters next to those of a name's parts.
+// The characters just outside of those that a name may have.
 #[test]
 fn name_characters(rt: HostRuntime) -> Result<(), Fail> {
     let alloc = rt.alloc();
@@ -174,7 +174,7 @@ fn packages(rt: HostRuntime) -> Result<(), Fail> {
     reads(alloc, Ok(builder), "package 2\n  number 1\n  arg 1\n")
 }
 
-// A name in a package stands alone, whatever is stated of it; and so it does after a VarPackage's count.
+// A name in a package, or after the count of a VarPackage, has no arguments, even if arguments are stated for it.
 #[test]
 fn names_in_packages(rt: HostRuntime) -> Result<(), Fail> {
     let alloc = rt.alloc();
@@ -199,7 +199,7 @@ fn names_in_packages(rt: HostRuntime) -> Result<(), Fail> {
     )
 }
 
-// Bytes that are added as by a sink don't count.
+// Bytes that are added to a builder as to a sink don't count as elements.
 #[test]
 fn uncounted_elements(rt: HostRuntime) -> Result<(), Fail> {
     let alloc = rt.alloc();

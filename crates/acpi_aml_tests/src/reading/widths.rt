@@ -1,4 +1,4 @@
-//! Widths that no writer of ours chooses: they are read, kept and told.
+//! Widths that this library doesn't write: they are read, kept and reported.
 
 use super::{nothing_stated, prints};
 use acpi_tables::aml::BufferData;
@@ -41,7 +41,7 @@ fn frames(rt: HostRuntime) -> Result<(), Fail> {
     )
 }
 
-// A length of four bytes whose last one counts.
+// A length of four bytes whose last byte isn't zero.
 #[test]
 fn long_frames(rt: HostRuntime) -> Result<(), Fail> {
     let alloc = rt.alloc();

@@ -65,7 +65,7 @@ fn pci_registers(rt: HostRuntime) -> Result<(), Fail> {
     writes(rt.alloc(), &GAS::default(), &[0; 12])
 }
 
-// What a register is in a table.
+// The bytes of a register in a table.
 fn in_table(alloc: Global, register: GenericAddress) -> R<Vec<u8>> {
     let mut table = dsdt(alloc)?;
     table.append(register)?;

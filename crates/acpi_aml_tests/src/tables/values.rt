@@ -1,4 +1,4 @@
-//! Values that a table takes, each at an offset of its own.
+//! Values that are written into a table, each at another offset.
 
 use super::{dsdt, whole_is};
 use acpi_tables::R;
@@ -24,7 +24,7 @@ fn added(rt: HostRuntime) -> Result<(), Fail> {
     whole_is(&table, 66, 0xa1, &VALUES)
 }
 
-// The empty block, and 34 zeros behind it.
+// The empty block, and 34 zeros after it.
 fn zeros(alloc: Global) -> R<Sdt> {
     let mut table = dsdt(alloc)?;
     table.append([0u8; 34])?;

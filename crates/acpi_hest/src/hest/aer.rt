@@ -16,14 +16,14 @@ use acpi_base::object::Aml;
 use acpi_base::row::{Record, Row, record_of_numbers};
 use acpi_base::sink::AmlSink;
 
-/// Whether firmware handles a source's errors before the operating system (ACPI 6.5, 18.3.2.4, Flags).
+/// Whether firmware handles the errors of a source before the operating system does (ACPI 6.5, 18.3.2.4, Flags).
 #[derive(Copy, Clone, Debug, PartialEq)]
 pub enum FirmwareFirst {
     Disabled = 0,
     Enabled = 1,
 }
 
-/// Where a device stands on its bus.
+/// The place of a device on its bus.
 #[derive(Drop)]
 pub struct PciDevice {
     bus: u8,
@@ -32,7 +32,7 @@ pub struct PciDevice {
 }
 
 impl PciDevice {
-    /// A bus, a device below 32 and a function below 8.
+    /// A bus, a device and a function. The caller proves that `device` is below 32 and `function` below 8.
     pub fn new(bus: u8, device: u8, function: u8) -> PciDevice
         requires { (device < 32) × (function < 8) }
         ensures { result ≡ pci_device bus device function }
@@ -45,7 +45,8 @@ impl PciDevice {
     }
 }
 
-/// An AER source (ACPI 6.5, 18.3.2.4 to 18.3.2.6): 44 bytes, and the tail of its kind.
+/// An AER source (ACPI 6.5, 18.3.2.4 to 18.3.2.6): 44 bytes, and the fields of its kind. Enabled (offset 7) and Source Id (offset
+/// 2) are always 0; there is no setter for them.
 #[derive(Clone, Copy, Debug)]
 pub struct Aer<T, const N: usize> {
     flags: u8,
@@ -62,11 +63,11 @@ pub struct Aer<T, const N: usize> {
     tail: T,
 }
 
-/// The flag of a source that stands for all devices of its kind (offset 6).
+/// Flag 2 (offset 6): the source is that of all devices of its kind.
 const GLOBAL: u8 = 2;
 
 impl<T: Tail<N>, const N: usize> Aer<T, N> {
-    /// The source of all devices of this kind, with zero in every other field.
+    /// The source of all devices of this kind. Every field except type and flags is zero.
     pub fn new_global() -> Aer<T, N>
         ensures { result ≡ aer_global T.zero }
     {
@@ -99,7 +100,7 @@ impl<T: Tail<N>, const N: usize> Aer<T, N> {
         }
     }
 
-    /// How many error records to keep room for (offset 8).
+    /// Sets the number of error records to preallocate (offset 8).
     pub fn num_records(mut self, num_records: u32) -> Aer<T, N>
         ensures { result ≡ record self { num_records = num_records } }
     {
@@ -107,7 +108,7 @@ impl<T: Tail<N>, const N: usize> Aer<T, N> {
         self
     }
 
-    /// The most sections of a record (offset 12).
+    /// Sets the greatest number of sections of a record (offset 12).
     pub fn max_sections(mut self, max_sections: u32) -> Aer<T, N>
         ensures { result ≡ record self { max_sections = max_sections } }
     {
@@ -115,7 +116,7 @@ impl<T: Tail<N>, const N: usize> Aer<T, N> {
         self
     }
 
-    /// What goes into the Device Control register (offset 24).
+    /// Sets the value of the Device Control register (offset 24).
     pub fn device_control(mut self, device_control: u16) -> Aer<T, N>
         ensures { result ≡ record self { device_control = device_control } }
     {
@@ -123,7 +124,7 @@ impl<T: Tail<N>, const N: usize> Aer<T, N> {
         self
     }
 
-    /// What goes into the Uncorrectable Error Mask register (offset 28).
+    /// Sets the value of the Uncorrectable Error Mask register (offset 28).
     pub fn uncorrectable_error_mask(mut self, uncorrectable_error_mask: u32) -> Aer<T, N>
         ensures { result ≡ record self { uncorrectable_error_mask = uncorrectable_error_mask } }
     {
@@ -131,7 +132,7 @@ impl<T: Tail<N>, const N: usize> Aer<T, N> {
         self
     }
 
-    /// What goes into the Uncorrectable Error Severity register (offset 32).
+    /// Sets the value of the Uncorrectable Error Severity register (offset 32).
     pub fn uncorrectable_error_severity(mut self, uncorrectable_error_severity: u32) -> Aer<T, N>
         ensures { result ≡ record self { uncorrectable_error_severity = uncorrectable_error_severity } }
     {
@@ -139,7 +140,7 @@ impl<T: Tail<N>, const N: usize> Aer<T, N> {
         self
     }
 
-    /// What goes into the Correctable Error Mask register (offset 36).
+    /// Sets the value of the Correctable Error Mask register (offset 36).
     pub fn correctable_error_mask(mut self, correctable_error_mask: u32) -> Aer<T, N>
         ensures { result ≡ record self { correctable_error_mask = correctable_error_mask } }
     {
@@ -147,7 +148,7 @@ impl<T: Tail<N>, const N: usize> Aer<T, N> {
         self
     }
 
-    /// What goes into the Advanced Error Capabilities and Control register (offset 40).
+    /// Sets the value of the Advanced Error Capabilities and Control register (offset 40).
     pub fn aer_cap_ctrl(mut self, aer_cap_ctrl: u32) -> Aer<T, N>
         ensures { result ≡ record self { aer_cap_ctrl = aer_cap_ctrl } }
     {
@@ -155,7 +156,7 @@ impl<T: Tail<N>, const N: usize> Aer<T, N> {
         self
     }
 
-    // The fields that all kinds have.
+    // The fields that all kinds of source have.
     fn head(&self) -> [u8; 44]
         ensures { result ≡ aer_head T.KIND self.now }
     {
@@ -183,7 +184,7 @@ impl<T: Tail<N>, const N: usize> Aer<T, N> {
     }
 }
 
-/// The rows of a PCI Express AER source, as of each kind.
+/// The rows of a PCI Express AER source that all kinds have.
 pub const AER: [Row; 16] = [
     Row::Number("Type", 2),
     Row::Number("Source Id", 2),
@@ -203,7 +204,7 @@ pub const AER: [Row; 16] = [
     Row::Number("Advanced Error Capabilities and Control", 4),
 ];
 
-/// The names and widths of the fields of all kinds, in order.
+/// The names and widths of the fields that all kinds have, in order.
 pub fn aer_rows<T: Tail<N>, const N: usize>() -> &'static [Row]
     ensures { (s : Aer T N) → AreRowsOf result.now (aer_head_fields T.KIND s) }
 {
@@ -229,17 +230,17 @@ pub type PcieAerDevice = Aer<AerDevice, 0>;
 /// A bridge: 56 bytes (ACPI 6.5, 18.3.2.6).
 pub type PcieAerBridge = Aer<AerBridge, 12>;
 
-/// The tail of a root port.
+/// The further fields of a root port.
 #[derive(Clone, Copy, Debug, Default)]
 pub struct AerRootPort {
     root_error_command: u32,
 }
 
-/// The tail of an endpoint, which is empty.
+/// The further fields of an endpoint: none.
 #[derive(Clone, Copy, Debug, Default)]
 pub struct AerDevice {}
 
-/// The tail of a bridge.
+/// The further fields of a bridge.
 #[derive(Clone, Copy, Debug, Default)]
 pub struct AerBridge {
     secondary_uncorrectable_error_mask: u32,
@@ -247,13 +248,13 @@ pub struct AerBridge {
     secondary_aer_cap_ctrl: u32,
 }
 
-/// The rows of what the source of a root port has after these.
+/// The rows of the further fields of a root port.
 pub const AER_ROOT_PORT: [Row; 1] = [Row::Number("Root Error Command", 4)];
 
-/// The rows of what the source of a device has after these.
+/// The rows of the further fields of an endpoint: none.
 pub const AER_DEVICE: [Row; 0] = [];
 
-/// The rows of what the source of a bridge has after these.
+/// The rows of the further fields of a bridge.
 pub const AER_BRIDGE: [Row; 3] = [
     Row::Number("Secondary Uncorrectable Error Mask", 4),
     Row::Number("Secondary Uncorrectable Error Severity", 4),
@@ -346,14 +347,14 @@ impl Tail<12> for AerBridge {
 }
 
 impl PcieAerRootPort {
-    /// The source of one root port, with zero in every other field.
+    /// The source of one root port. Every field except type, flags and address is zero.
     pub fn new_root_port(ff: FirmwareFirst, device: PciDevice) -> PcieAerRootPort
         ensures { result ≡ aer_of zero_root_port ff device }
     {
         Aer::of(ff, device)
     }
 
-    /// What goes into the Root Error Command register (offset 44).
+    /// Sets the value of the Root Error Command register (offset 44).
     pub fn root_error_command(mut self, root_error_command: u32) -> PcieAerRootPort
         ensures { result ≡ record self { tail = record self.tail { root_error_command = root_error_command } } }
     {
@@ -363,7 +364,7 @@ impl PcieAerRootPort {
 }
 
 impl PcieAerDevice {
-    /// The source of one endpoint, with zero in every other field.
+    /// The source of one endpoint. Every field except type, flags and address is zero.
     pub fn new_root_port(ff: FirmwareFirst, device: PciDevice) -> PcieAerDevice
         ensures { result ≡ aer_of zero_device ff device }
     {
@@ -372,14 +373,14 @@ impl PcieAerDevice {
 }
 
 impl PcieAerBridge {
-    /// The source of one bridge, with zero in every other field.
+    /// The source of one bridge. Every field except type, flags and address is zero.
     pub fn new_bridge(ff: FirmwareFirst, device: PciDevice) -> PcieAerBridge
         ensures { result ≡ aer_of zero_bridge ff device }
     {
         Aer::of(ff, device)
     }
 
-    /// What goes into the Secondary Uncorrectable Error Mask register (offset 44).
+    /// Sets the value of the Secondary Uncorrectable Error Mask register (offset 44).
     pub fn secondary_uncorrectable_error_mask(
         mut self,
         secondary_uncorrectable_error_mask: u32,
@@ -394,7 +395,7 @@ impl PcieAerBridge {
         self
     }
 
-    /// What goes into the Secondary Uncorrectable Error Severity register (offset 48).
+    /// Sets the value of the Secondary Uncorrectable Error Severity register (offset 48).
     pub fn secondary_uncorrectable_error_severity(
         mut self,
         secondary_uncorrectable_error_severity: u32,
@@ -409,7 +410,7 @@ impl PcieAerBridge {
         self
     }
 
-    /// What goes into the Secondary Advanced Error Capabilities and Control register (offset 52).
+    /// Sets the value of the Secondary Advanced Error Capabilities and Control register (offset 52).
     pub fn secondary_aer_cap_ctrl(mut self, secondary_aer_cap_ctrl: u32) -> PcieAerBridge
         ensures { result ≡ record self { tail = record self.tail { secondary_aer_cap_ctrl = secondary_aer_cap_ctrl } } }
     {

@@ -1,4 +1,4 @@
-//! Entries of error status blocks: one error each.
+//! Entries of error status blocks. Each entry describes one error.
 
 ghost use Rattle.std.specs.Prelude.{◌≡◌, ◌≤◌, ◌^◌, ◌⊎◌, ◌++◌, ◌∷◌, [], length, map, min, None, OnOk, OnErr, IfOk, IfErr};
 ghost use Rattle.acpi_base.specs.Fields.{AreRowsOf};
@@ -14,33 +14,33 @@ use acpi_base::row::{Row, Value, record_of};
 use acpi_base::sink::AmlSink;
 use std::alloc::Global;
 
-/// A Generic Error Data Entry (ACPI 6.5, 18.3.2.7.1), whose section type has two bytes here: 58 bytes, and its data in order.
-/// Its length field is what the caller writes there.
+/// A Generic Error Data Entry (ACPI 6.5, 18.3.2.7.1): 58 bytes, and then its data. Its section type has two bytes here. The
+/// caller sets its length field.
 #[derive(Drop)]
 pub struct GenericErrorData {
-    /// Which kind of section the data is (offset 0).
+    /// The type of section of the data (offset 0).
     pub section_type: u16,
-    /// How severe the error is (offset 2).
+    /// The severity of the error (offset 2).
     pub severity: ErrorSeverity,
     /// The revision of the entry's format (offset 6).
     pub revision: u16,
-    /// Which of the id, the text and the time are given, a bit for each (offset 8).
+    /// Bits that say which of the id, the text and the time are valid (offset 8).
     pub validation: u8,
     /// Flags of the section (offset 9).
     pub flags: u8,
-    /// How many bytes of data follow (offset 10).
+    /// The number of bytes of the data (offset 10).
     pub error_data_length: u32,
-    /// The id of the unit to replace (offset 14).
+    /// The id of the field replaceable unit (offset 14).
     pub fru_id: [u8; 16],
-    /// Its name (offset 30).
+    /// The name of the field replaceable unit (offset 30).
     pub fru_text: [u8; 20],
-    /// When the error was (offset 50).
+    /// The time of the error (offset 50).
     pub timestamp: [u8; 8],
     objects: Vec<Box<dyn Aml + Drop>>,
 }
 
 impl GenericErrorData {
-    /// An entry without data, with zero in every field but the severity.
+    /// An entry without data. Every field except the severity is zero.
     pub fn new(alloc: Global, severity: ErrorSeverity) -> GenericErrorData
         ensures { IsNewErrorData severity result }
     {
@@ -58,7 +58,7 @@ impl GenericErrorData {
         }
     }
 
-    /// Adds an object, which is written after those before it. Memory is the one error, and the value is unchanged then.
+    /// Adds an object to the data, after the earlier ones. The only error is `Memory`; the entry is unchanged then.
     pub fn add_data(&mut self, part: Box<dyn Aml + Drop>) -> R<()>
         ensures ok { OnOk result (self.new.objects.items ≡ self.old.objects.items ++ part ∷ []) }
         ensures err { OnErr result (self.new.objects.items ≡ self.old.objects.items) }
@@ -69,8 +69,8 @@ impl GenericErrorData {
         Ok(())
     }
 
-    /// Writes the entry and then its objects, up to the first that is refused, which is the answer. What stands before the
-    /// refusal has been given.
+    /// Writes the entry and then the objects of its data. The error is that of the first object that fails. The sink has taken
+    /// everything before this error.
     pub fn to_aml_bytes(&self, sink: &mut dyn AmlSink) -> R<()>
         ensures ok { OnOk result (Wrote (error_data_object self.now (map (λ part. object part) self.now.objects.items))
             (meaning sink.old) (meaning sink.new)) }
@@ -81,8 +81,8 @@ impl GenericErrorData {
         write_all(&self.objects, sink)
     }
 
-    /// The number of bytes of the data, which is what `error_data_length` has to be. The first error of an object, else
-    /// FieldWidth where four bytes don't hold the number. Nothing is kept: each object writes into a counter.
+    /// The number of bytes of the data, which is the value for `error_data_length`. The error is that of the first object that
+    /// fails, or `FieldWidth` if the number doesn't fit four bytes. It takes no memory: each object is written into a counter.
     pub fn data_size(&self) -> R<u32>
         ensures size { IfOk result (λ n. n ≡ length (all_of (map (λ part. object part) self.now.objects.items)).front) }
         ensures whole { OnOk result ((all_of (map (λ part. object part) self.now.objects.items)).end ≡ None) }
@@ -96,7 +96,7 @@ impl GenericErrorData {
         Ok(size as u32)
     }
 
-    // The entry's bytes before its data.
+    // The bytes of the entry before its data.
     fn head(&self) -> [u8; 58]
         ensures { result ≡ error_data_head self.now }
     {
@@ -147,7 +147,7 @@ fn write_into_counter(parts: &Vec<Box<dyn Aml + Drop>>, counter: &mut Counter) -
     write_all(parts, counter)
 }
 
-// How many bytes boxed objects write, up to 2^64 - 1.
+// The number of bytes that boxed objects write, up to 2^64 - 1.
 fn count_all(parts: &Vec<Box<dyn Aml + Drop>>) -> R<u64>
     ensures count { IfOk result (λ n.
         n ≡ min (length (all_of (map (λ part. object part) parts.now.items)).front) most_of_64_bits) }
@@ -159,7 +159,7 @@ fn count_all(parts: &Vec<Box<dyn Aml + Drop>>) -> R<u64>
     Ok(counter.count())
 }
 
-// Writes boxed objects, one after another.
+// Writes boxed objects, in order.
 fn write_all(parts: &Vec<Box<dyn Aml + Drop>>, sink: &mut dyn AmlSink) -> R<()>
     ensures ok { OnOk result (Wrote (all_of (map (λ part. object part) parts.now.items)) (meaning sink.old) (meaning sink.new)) }
     ensures err { IfErr result (λ e. WriteRefused e (all_of (map (λ part. object part) parts.now.items))

@@ -18,14 +18,14 @@ use acpi_base::object::Aml;
 use acpi_base::row::{Record, Row, Value, record_of, record_of_numbers};
 use acpi_base::sink::AmlSink;
 
-/// Whether a source is in use (ACPI 6.5, 18.3.2.7, Enabled).
+/// Whether a source is enabled (ACPI 6.5, 18.3.2.7, Enabled).
 #[derive(Copy, Clone, Debug, PartialEq)]
 pub enum EnabledStatus {
     Disabled = 0,
     Enabled = 1,
 }
 
-/// A generic hardware error source (ACPI 6.5, 18.3.2.7 and 18.3.2.8): 64 bytes, and the tail of its version.
+/// A generic hardware error source (ACPI 6.5, 18.3.2.7 and 18.3.2.8): 64 bytes, and the fields of its version.
 #[derive(Clone, Copy, Debug)]
 pub struct Generic<T, const N: usize> {
     source_id: u16,
@@ -40,8 +40,8 @@ pub struct Generic<T, const N: usize> {
 }
 
 impl<T: Tail<N>, const N: usize> Generic<T, N> {
-    /// A source of an id (offset 2) that is related to no other, with zero in every other field; so are all 28 bytes of its
-    /// notification.
+    /// A source with this id (offset 2) and status, and without a related source. Every other field is zero. Until `notification`
+    /// sets them, the 28 bytes of its notification are zero as well, and so is the length in them.
     pub fn new(source_id: u16, enabled: EnabledStatus) -> Generic<T, N>
         ensures { result ≡ generic T.zero source_id enabled }
     {
@@ -58,7 +58,7 @@ impl<T: Tail<N>, const N: usize> Generic<T, N> {
         }
     }
 
-    /// How many error records to keep room for (offset 8).
+    /// Sets the number of error records to preallocate (offset 8).
     pub fn num_records(mut self, num_records: u32) -> Generic<T, N>
         ensures { result ≡ record self { num_records = num_records } }
     {
@@ -66,7 +66,7 @@ impl<T: Tail<N>, const N: usize> Generic<T, N> {
         self
     }
 
-    /// The most sections of a record (offset 12).
+    /// Sets the greatest number of sections of a record (offset 12).
     pub fn max_sections(mut self, max_sections: u32) -> Generic<T, N>
         ensures { result ≡ record self { max_sections = max_sections } }
     {
@@ -74,7 +74,7 @@ impl<T: Tail<N>, const N: usize> Generic<T, N> {
         self
     }
 
-    /// The most bytes of raw data of an error (offset 16).
+    /// Sets the greatest number of bytes of an error's raw data (offset 16).
     pub fn max_raw_length(mut self, max_raw_length: u32) -> Generic<T, N>
         ensures { result ≡ record self { max_raw_length = max_raw_length } }
     {
@@ -82,7 +82,7 @@ impl<T: Tail<N>, const N: usize> Generic<T, N> {
         self
     }
 
-    /// The register that holds the address of the error status block (offset 20).
+    /// Sets the register that contains the address of the error status block (offset 20).
     pub fn error_status_address(mut self, error_status_address: GAS) -> Generic<T, N>
         ensures { result ≡ record self { error_status_address = error_status_address } }
     {
@@ -90,7 +90,7 @@ impl<T: Tail<N>, const N: usize> Generic<T, N> {
         self
     }
 
-    /// How the source tells of an error (offset 32).
+    /// Sets how the source notifies the operating system of an error (offset 32).
     pub fn notification(mut self, notification: NotificationStructure) -> Generic<T, N>
         ensures { result ≡ record self { notification = notification } }
     {
@@ -98,7 +98,7 @@ impl<T: Tail<N>, const N: usize> Generic<T, N> {
         self
     }
 
-    /// The bytes of the error status block (offset 60).
+    /// Sets the number of bytes of the error status block (offset 60).
     pub fn error_status_block_len(mut self, error_status_block_len: u32) -> Generic<T, N>
         ensures { result ≡ record self { error_status_block_len = error_status_block_len } }
     {
@@ -129,7 +129,7 @@ impl<T: Tail<N>, const N: usize> Generic<T, N> {
     }
 }
 
-/// The rows of a Generic Hardware Error Source, as in both versions.
+/// The rows of a Generic Hardware Error Source that both versions have.
 pub const GENERIC: [Row; 11] = [
     Row::Number("Type", 2),
     Row::Number("Source Id", 2),
@@ -144,7 +144,7 @@ pub const GENERIC: [Row; 11] = [
     Row::Number("Error Status Block Length", 4),
 ];
 
-/// The names and widths of the fields of both versions, in order.
+/// The names and widths of the fields that both versions have, in order.
 pub fn generic_rows<T: Tail<N>, const N: usize>() -> &'static [Row]
     ensures { (s : Generic T N) → AreRowsOf result.now (generic_head_fields T.KIND s) }
 {
@@ -164,14 +164,14 @@ impl<T: Tail<N>, const N: usize> Aml for Generic<T, N> {
 /// A generic hardware error source: 64 bytes (ACPI 6.5, 18.3.2.7).
 pub type GenericHardwareSource = Generic<Unacknowledged, 0>;
 
-/// A generic hardware error source of version 2, whose errors are acknowledged: 92 bytes (ACPI 6.5, 18.3.2.8).
+/// A generic hardware error source of version 2, whose errors the operating system acknowledges: 92 bytes (ACPI 6.5, 18.3.2.8).
 pub type GenericHardwareSourceV2 = Generic<Acknowledged, 28>;
 
-/// The tail of a source of version 1, which is empty.
+/// The further fields of a source of version 1: none.
 #[derive(Clone, Copy, Debug, Default)]
 pub struct Unacknowledged {}
 
-/// The tail of a source of version 2.
+/// The further fields of a source of version 2.
 #[derive(Clone, Copy, Debug, Default)]
 pub struct Acknowledged {
     read_ack_register: GAS,
@@ -179,10 +179,10 @@ pub struct Acknowledged {
     read_ack_write: u64,
 }
 
-/// The rows of what version 1 of such a source has after these.
+/// The rows of the further fields of version 1: none.
 pub const UNACKNOWLEDGED: [Row; 0] = [];
 
-/// The rows of what version 2 of such a source has after these.
+/// The rows of the further fields of version 2.
 pub const ACKNOWLEDGED: [Row; 3] = [
     Row::Register("Read Ack Register"),
     Row::Number("Read Ack Preserve", 8),
@@ -249,7 +249,7 @@ impl Tail<28> for Acknowledged {
 }
 
 impl GenericHardwareSourceV2 {
-    /// The register by which the error is acknowledged (offset 64).
+    /// Sets the register by which an error is acknowledged (offset 64).
     pub fn read_ack_register(mut self, read_ack_register: GAS) -> GenericHardwareSourceV2
         ensures { result ≡ record self { tail = record self.tail { read_ack_register = read_ack_register } } }
     {
@@ -257,7 +257,7 @@ impl GenericHardwareSourceV2 {
         self
     }
 
-    /// The bits of that register that stay (offset 76).
+    /// Sets the bits of that register that an acknowledgement keeps (offset 76).
     pub fn read_ack_preserve(mut self, read_ack_preserve: u64) -> GenericHardwareSourceV2
         ensures { result ≡ record self { tail = record self.tail { read_ack_preserve = read_ack_preserve } } }
     {
@@ -265,7 +265,7 @@ impl GenericHardwareSourceV2 {
         self
     }
 
-    /// The bits of that register that are written (offset 84).
+    /// Sets the bits of that register that an acknowledgement writes (offset 84).
     pub fn read_ack_write(mut self, read_ack_write: u64) -> GenericHardwareSourceV2
         ensures { result ≡ record self { tail = record self.tail { read_ack_write = read_ack_write } } }
     {

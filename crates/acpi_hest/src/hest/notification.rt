@@ -1,4 +1,4 @@
-//! How a source tells of an error.
+//! How a source notifies the operating system of an error.
 
 ghost use Rattle.std.specs.Prelude.{◌≡◌};
 ghost use Rattle.acpi_base.specs.Object.{whole, whole_ends_well};
@@ -10,7 +10,7 @@ use acpi_base::object::Aml;
 use acpi_base::row::{Record, Row, Word, record_of_numbers, write_record};
 use acpi_base::sink::AmlSink;
 
-/// How a source tells of an error (ACPI 6.5, 18.3.2.9, Type). The last four are those of RISC-V.
+/// The type of a notification (ACPI 6.5, 18.3.2.9, Type). The last four are those of RISC-V.
 #[derive(Clone, Copy, Debug, Default)]
 pub enum NotificationType {
     #[default]
@@ -47,7 +47,7 @@ pub struct NotificationStructure {
 }
 
 impl NotificationStructure {
-    /// A notification of a type, with zero in every other field but its length.
+    /// A notification of this type, with its length of 28. Every other field is zero.
     pub fn new(kind: NotificationType) -> NotificationStructure
         ensures { result ≡ notification (type_number kind) 28 }
     {
@@ -58,7 +58,7 @@ impl NotificationStructure {
         }
     }
 
-    /// What a source has before it is given a notification: 28 zeros, its length among them.
+    /// The 28 zeros of a source without a notification. Its length is zero, too.
     pub(crate) fn none() -> NotificationStructure
         ensures { result ≡ no_notification }
     {
@@ -75,7 +75,7 @@ impl NotificationStructure {
         }
     }
 
-    /// Which of the fields may be written, a bit for each (offset 2).
+    /// Sets the bits that say which fields the operating system may write (offset 2).
     pub fn conf_write_en(mut self, conf_write_en: u16) -> NotificationStructure
         ensures { result ≡ record self { conf_write_en = conf_write_en } }
     {
@@ -83,7 +83,7 @@ impl NotificationStructure {
         self
     }
 
-    /// How often to poll, in milliseconds (offset 4).
+    /// Sets the poll interval in milliseconds (offset 4).
     pub fn poll_interval_ms(mut self, poll_interval_ms: u32) -> NotificationStructure
         ensures { result ≡ record self { poll_interval_ms = poll_interval_ms } }
     {
@@ -91,7 +91,7 @@ impl NotificationStructure {
         self
     }
 
-    /// The interrupt, if the source has one (offset 8).
+    /// Sets the interrupt vector (offset 8).
     pub fn vector(mut self, vector: u32) -> NotificationStructure
         ensures { result ≡ record self { vector = vector } }
     {
@@ -99,7 +99,7 @@ impl NotificationStructure {
         self
     }
 
-    /// How many errors within the window make polling the way (offset 12).
+    /// Sets the number of errors in the window at which the operating system switches to polling (offset 12).
     pub fn polling_threshold_value(mut self, polling_threshold_value: u32) -> NotificationStructure
         ensures { result ≡ record self { polling_threshold_value = polling_threshold_value } }
     {
@@ -107,7 +107,7 @@ impl NotificationStructure {
         self
     }
 
-    /// The window of that number, in milliseconds (offset 16).
+    /// Sets the window of the polling threshold, in milliseconds (offset 16).
     pub fn polling_threshold_window_ms(
         mut self,
         polling_threshold_window_ms: u32,
@@ -118,7 +118,7 @@ impl NotificationStructure {
         self
     }
 
-    /// How many errors within the window are one notification (offset 20).
+    /// Sets the number of errors in the window that make one notification (offset 20).
     pub fn error_threshold_value(mut self, error_threshold_value: u32) -> NotificationStructure
         ensures { result ≡ record self { error_threshold_value = error_threshold_value } }
     {
@@ -126,7 +126,7 @@ impl NotificationStructure {
         self
     }
 
-    /// The window of that number, in milliseconds (offset 24).
+    /// Sets the window of the error threshold, in milliseconds (offset 24).
     pub fn error_threshold_window_ms(
         mut self,
         error_threshold_window_ms: u32,

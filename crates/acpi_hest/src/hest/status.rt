@@ -10,7 +10,7 @@ use acpi_base::object::Aml;
 use acpi_base::row::{Record, Row, record_of_numbers, write_record};
 use acpi_base::sink::AmlSink;
 
-/// How severe an error is (ACPI 6.5, 18.3.2.7.1, Error Severity).
+/// The severity of an error (ACPI 6.5, 18.3.2.7.1, Error Severity).
 #[derive(Copy, Clone, Debug, Default)]
 pub enum ErrorSeverity {
     Recoverable = 0,
@@ -28,8 +28,8 @@ pub struct GenericErrorStatus {
 }
 
 impl GenericErrorStatus {
-    /// The block of this many errors of each kind. Its status tells one uncorrectable error by 1, one correctable by 2, several
-    /// uncorrectable by 4 and several correctable by 8.
+    /// The block for these numbers of uncorrectable and correctable errors. The status has 1 for one uncorrectable error and 4
+    /// for several; 2 for one correctable error and 8 for several.
     pub fn new(
         correctable_count: u32,
         uncorrectable_count: u32,
@@ -68,7 +68,7 @@ impl Record<20> for GenericErrorStatus {
     }
 }
 
-// The status of this many errors, where one is told so and several so.
+// The status bit for a number of errors: none for 0, `one` for exactly one error, and `several` for more.
 fn status_of(count: u32, one: u32, several: u32) -> u32
     ensures { result ≡ status_of count one several }
 {

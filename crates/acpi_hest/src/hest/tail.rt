@@ -1,10 +1,10 @@
-//! What sources of one form differ in.
+//! The fields in which sources of one form differ.
 
 ghost use Rattle.std.specs.Prelude.{◌≡◌, ◌<◌, ◌^◌, ℕ};
 
 use acpi_base::row::Record;
 
-/// What a kind of source has after the fields that all sources of its form have, a record of `N` bytes, and its type.
+/// The fields after those that all sources of a form have: a record of `N` bytes. Its type also gives the source's type.
 pub trait Tail<const N: usize>: Record<N> + Copy {
     ghost KIND: { ℕ };
 
@@ -13,7 +13,7 @@ pub trait Tail<const N: usize>: Record<N> + Copy {
     /// The source's type.
     const KIND: u16;
 
-    /// The fields, each zero.
+    /// The fields with the value zero.
     fn zero() -> Self
         ensures { result ≡ zero };
 

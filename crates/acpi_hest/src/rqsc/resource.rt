@@ -1,4 +1,4 @@
-//! Resources that a controller shares out.
+//! Resources that a controller allocates.
 
 ghost use Rattle.std.specs.Prelude.{◌≡◌, ◌++◌, length, IfOk, OnOk, IfErr};
 ghost use Rattle.acpi_base.specs.Fields.{AreRowsOf};
@@ -18,14 +18,14 @@ use acpi_base::object::Aml;
 use acpi_base::row::{Record, Row, record_of_numbers, write_record};
 use acpi_base::sink::AmlSink;
 
-/// What a resource is (offset 0).
+/// The type of a resource (offset 0).
 #[derive(Copy, Clone, Debug)]
 pub enum ResourceType {
     Cache = 0,
     Memory = 1,
 }
 
-/// A cache of PPTT, by its id: 12 bytes.
+/// A cache in PPTT, by its cache id: 12 bytes.
 #[derive(Drop, Clone, Debug)]
 pub struct CacheResource {
     cache_id: u32,
@@ -65,7 +65,7 @@ impl Aml for CacheResource {
     }
 }
 
-/// Memory of a proximity domain of SRAT: 20 bytes.
+/// The memory of a proximity domain in SRAT: 20 bytes.
 #[derive(Drop, Clone, Debug)]
 pub struct MemoryAffinityStructureResource {
     proximity_domain: u32,
@@ -73,7 +73,7 @@ pub struct MemoryAffinityStructureResource {
 }
 
 impl MemoryAffinityStructureResource {
-    /// The memory of a domain, 0 where there is no SRAT, and how many bytes a second a block of bandwidth is.
+    /// The memory of a domain, or 0 if there is no SRAT, and the bytes a second of one bandwidth block.
     pub fn new(
         proximity_domain: u32,
         raw_bandwidth_per_block: u64,
@@ -131,7 +131,7 @@ pub struct ACPIDeviceResource {
 }
 
 impl ACPIDeviceResource {
-    /// The device of these `_HID` and `_UID`.
+    /// The device with this `_HID` and `_UID`.
     pub fn new(acpi_hardware_id: u64, acpi_unique_id: u32) -> ACPIDeviceResource
         ensures { result ≡ acpi_resource acpi_hardware_id acpi_unique_id }
     {
@@ -180,7 +180,7 @@ pub struct PCIDeviceResource {
 }
 
 impl PCIDeviceResource {
-    /// The function of a segment, bus, device and function number, as the platform joins them.
+    /// A PCI function, whose segment, bus, device and function are joined as the platform defines it.
     pub fn new(bdf: u32) -> PCIDeviceResource
         ensures { result ≡ pci_resource bdf }
     {
@@ -213,7 +213,7 @@ impl Aml for PCIDeviceResource {
     }
 }
 
-/// Which resource it is. A vendor's has a type of its own, and its two ids and what follows them as bytes.
+/// The id of a resource. A vendor's id has its own type, two ids, and bytes after these.
 #[derive(Drop, Debug)]
 pub enum ResourceID {
     Cache(CacheResource),
@@ -224,7 +224,7 @@ pub enum ResourceID {
 }
 
 impl ResourceID {
-    /// The number of its type: 0 to 3 in the variants' order, or the vendor's.
+    /// The number of the id's type: 0 to 3 in the order of the variants, or the vendor's number.
     pub fn resource_id_type(&self) -> u8
         ensures { result ≡ id_number self.now }
     {
@@ -237,7 +237,7 @@ impl ResourceID {
         }
     }
 
-    /// How many bytes it has, that of its type among them.
+    /// The number of bytes of the id, with the byte of its type.
     pub fn len(&self) -> usize
         ensures { result ≡ length (id_bytes self.now) }
     {
@@ -250,7 +250,7 @@ impl ResourceID {
         }
     }
 
-    /// An id of the same value; a vendor's bytes in memory from where this one has its own. Memory is the one error.
+    /// An id with the same value. The bytes of a vendor's id are in memory of the same allocator. The only error is `Memory`.
     pub fn clone(&self) -> R<ResourceID>
         ensures ok { IfOk result (λ id. same_id id self.now) }
         ensures err { IfErr result (λ e. e ≡ Error.Memory) }
@@ -269,7 +269,7 @@ impl ResourceID {
         }
     }
 
-    // Gives a sink some bytes and then the payload's.
+    // Writes a list of bytes to a sink, and then those of the id.
     fn write_behind(&self, head: &[u8], sink: &mut dyn AmlSink) -> R<()>
         ensures ok { OnOk result (Took (meaning sink.old) (head.now ++ payload self.now) (meaning sink.new)) }
         ensures err { IfErr result (λ e. Refused e (meaning sink.old) (head.now ++ payload self.now) (meaning sink.new)) }
@@ -294,8 +294,8 @@ impl Aml for ResourceID {
     }
 }
 
-/// A resource that a controller shares out: 7 bytes, and its id's. It is refused when written, by FieldWidth, where it has more
-/// than 65,535.
+/// A resource that a controller allocates: 7 bytes, and those of its id. Writing it returns `FieldWidth` if it has more than
+/// 65,535 bytes.
 #[derive(Drop, Debug)]
 pub struct ResourceStructure {
     kind: ResourceType,
@@ -304,7 +304,7 @@ pub struct ResourceStructure {
 }
 
 impl ResourceStructure {
-    /// A resource with flags of its type (offset 4).
+    /// A resource with the flags of its type (offset 4).
     pub fn new(
         resource_type: ResourceType,
         resource_flags: u16,
@@ -319,14 +319,14 @@ impl ResourceStructure {
         }
     }
 
-    /// How many bytes the resource has, also where these are too many to be written.
+    /// The number of bytes of the resource, even if it has too many to be written.
     pub fn len(&self) -> usize
         ensures { result ≡ length (resource_bytes self.now) }
     {
         7 + self.id.len()
     }
 
-    /// A resource of the same value, as `ResourceID::clone` makes its id.
+    /// A resource with the same value, whose id `ResourceID::clone` makes.
     pub fn clone(&self) -> R<ResourceStructure>
         ensures ok { IfOk result (λ r. SameResource r self.now) }
         ensures err { IfErr result (λ e. e ≡ Error.Memory) }
@@ -338,7 +338,7 @@ impl ResourceStructure {
         })
     }
 
-    // The resource's bytes before its payload.
+    // The bytes of the resource before its id.
     fn head(&self, size: u16) -> [u8; 8]
         requires { size ≡ length (resource_bytes self.now) }
         ensures { result ≡ resource_head self.now }
@@ -367,7 +367,7 @@ pub const RESOURCE: [Row; 6] = [
     Row::Number("Resource ID Type", 1),
 ];
 
-/// The names and widths of a resource's fields before its payload, in order.
+/// The names and widths of a resource's fields before its id, in order.
 pub fn resource_rows() -> &'static [Row]
     ensures { (r : ResourceStructure) → AreRowsOf result.now (resource_head_fields r) }
 {

@@ -1,4 +1,4 @@
-//! Interrupt controllers of Arm: the parts of a GIC.
+//! Interrupt controllers of Arm: the parts of a Generic Interrupt Controller (GIC).
 
 ghost use Rattle.std.specs.Prelude.{◌≡◌};
 ghost use Rattle.acpi_base.specs.Object.{whole, whole_ends_well};
@@ -22,10 +22,11 @@ const MAINTENANCE_EDGE: u32 = 0x4;
 
 const ONLINE_CAPABLE: u32 = 0x8;
 
-// A flag of a message frame (ACPI 6.5, 5.2.12.16, offset 16): its own numbers of interrupts hold, and not the register's.
+// A flag of a message frame (ACPI 6.5, 5.2.12.16, offset 16): the SPI count and base of the structure are used, instead of those
+// in the frame's register.
 const SPI_COUNT_AND_BASE: u32 = 0x1;
 
-/// How an interrupt is signalled.
+/// How an interrupt is triggered.
 #[derive(Clone, Copy, Debug, PartialEq, Eq)]
 pub enum Trigger {
     Edge,
@@ -33,7 +34,7 @@ pub enum Trigger {
 }
 
 impl Trigger {
-    // Flags, with this one among them where the interrupt is edge triggered.
+    // Flags, with this flag set if the interrupt is edge triggered.
     fn with_edge(self, flag: u32, flags: u32) -> u32
         ensures { result ≡ with_edge self flag flags }
     {
@@ -44,7 +45,7 @@ impl Trigger {
     }
 }
 
-/// A processor and its interface to a GIC (GICC): 82 bytes (ACPI 6.5, 5.2.12.14). What no setter has set is zero.
+/// A processor and its interface to a GIC (GICC): 82 bytes (ACPI 6.5, 5.2.12.14). Fields are zero until a setter sets them.
 #[derive(Clone, Copy, Debug)]
 pub struct Gicc {
     cpu_interface_number: u32,
@@ -65,7 +66,7 @@ pub struct Gicc {
 }
 
 impl Gicc {
-    /// An interface of which the flags alone are set (offset 12): 1 for an enabled processor, 8 for one that can be brought
+    /// An interface in which only the flags are set (offset 12): 1 for an enabled processor, or 8 for one that can be brought
     /// online.
     pub fn new(status: EnabledStatus) -> Gicc
         ensures { result ≡ gicc status }
@@ -94,8 +95,7 @@ impl Gicc {
         }
     }
 
-    /// The interrupt of the performance monitors (offset 20), with flag 2 where it is edge triggered. A level clears no
-    /// flag.
+    /// Sets the performance monitors' interrupt (offset 20), and flag 2 if it is edge triggered. `Level` clears no flag.
     pub fn performance_interrupt(mut self, gsi: u32, trigger: Trigger) -> Gicc
         ensures { result ≡ with_performance_interrupt gsi trigger self }
     {
@@ -104,8 +104,8 @@ impl Gicc {
         self
     }
 
-    /// The interrupt of virtual interface maintenance (offset 56), with flag 4 where it is edge triggered. A level clears
-    /// no flag.
+    /// Sets the virtual interface's maintenance interrupt (offset 56), and flag 4 if it is edge triggered. `Level` clears no
+    /// flag.
     pub fn maintenance_interrupt(mut self, gsi: u32, trigger: Trigger) -> Gicc
         ensures { result ≡ with_maintenance_interrupt gsi trigger self }
     {
@@ -114,7 +114,7 @@ impl Gicc {
         self
     }
 
-    /// The interface's number in the GIC (offset 4).
+    /// Sets the interface's number in the GIC (offset 4).
     pub fn cpu_interface_number(mut self, cpu_interface_number: u32) -> Gicc
         ensures { result ≡ record self { cpu_interface_number = cpu_interface_number } }
     {
@@ -122,7 +122,7 @@ impl Gicc {
         self
     }
 
-    /// The processor's unique id in the namespace (offset 8).
+    /// Sets the processor's unique id in the namespace (offset 8).
     pub fn acpi_processor_uid(mut self, acpi_processor_uid: u32) -> Gicc
         ensures { result ≡ record self { acpi_processor_uid = acpi_processor_uid } }
     {
@@ -130,7 +130,7 @@ impl Gicc {
         self
     }
 
-    /// The version of the protocol by which the processor is parked, 0 for none (offset 16).
+    /// Sets the version of the parking protocol, or 0 for none (offset 16).
     pub fn parking_protocol_version(mut self, parking_protocol_version: u32) -> Gicc
         ensures { result ≡ record self { parking_protocol_version = parking_protocol_version } }
     {
@@ -138,7 +138,7 @@ impl Gicc {
         self
     }
 
-    /// The physical address of the parking protocol's mailbox (offset 24).
+    /// Sets the physical address of the parking protocol's mailbox (offset 24).
     pub fn parked_address(mut self, parked_address: u64) -> Gicc
         ensures { result ≡ record self { parked_address = parked_address } }
     {
@@ -146,7 +146,7 @@ impl Gicc {
         self
     }
 
-    /// The physical address of the interface's registers (offset 32).
+    /// Sets the physical address of the interface's registers (offset 32).
     pub fn base_address(mut self, base_address: u64) -> Gicc
         ensures { result ≡ record self { base_address = base_address } }
     {
@@ -154,7 +154,7 @@ impl Gicc {
         self
     }
 
-    /// The physical address of the registers of virtual interfaces, GICV (offset 40).
+    /// Sets the physical address of the registers of virtual interfaces, GICV (offset 40).
     pub fn virtual_registers(mut self, virtual_registers: u64) -> Gicc
         ensures { result ≡ record self { virtual_registers = virtual_registers } }
     {
@@ -162,7 +162,7 @@ impl Gicc {
         self
     }
 
-    /// The physical address of the control block of virtual interfaces, GICH (offset 48).
+    /// Sets the physical address of the control block of virtual interfaces, GICH (offset 48).
     pub fn control_block_registers(mut self, control_block_registers: u64) -> Gicc
         ensures { result ≡ record self { control_block_registers = control_block_registers } }
     {
@@ -170,7 +170,7 @@ impl Gicc {
         self
     }
 
-    /// The physical address of the interface's redistributor (offset 60).
+    /// Sets the physical address of the interface's redistributor (offset 60).
     pub fn redistributor_base(mut self, redistributor_base: u64) -> Gicc
         ensures { result ≡ record self { redistributor_base = redistributor_base } }
     {
@@ -178,7 +178,7 @@ impl Gicc {
         self
     }
 
-    /// The affinity fields of the processor's MPIDR register (offset 68).
+    /// Sets the affinity fields of the processor's MPIDR register (offset 68).
     pub fn mpidr(mut self, mpidr: u64) -> Gicc
         ensures { result ≡ record self { mpidr = mpidr } }
     {
@@ -186,7 +186,7 @@ impl Gicc {
         self
     }
 
-    /// How efficient the processor is among all, 0 the most (offset 76).
+    /// Sets the processor's power efficiency class (offset 76): 0 is the most efficient.
     pub fn power_efficiency_class(mut self, power_efficiency_class: u8) -> Gicc
         ensures { result ≡ record self { power_efficiency_class = power_efficiency_class } }
     {
@@ -194,7 +194,7 @@ impl Gicc {
         self
     }
 
-    /// The interrupt of the statistical profiling extension's overflow (offset 78).
+    /// Sets the buffer overflow interrupt of the Statistical Profiling Extension (offset 78).
     pub fn overflow_interrupt(mut self, overflow_interrupt: u16) -> Gicc
         ensures { result ≡ record self { overflow_interrupt = overflow_interrupt } }
     {
@@ -202,7 +202,7 @@ impl Gicc {
         self
     }
 
-    /// The interrupt of the trace buffer extension (offset 80).
+    /// Sets the interrupt of the Trace Buffer Extension (offset 80).
     pub fn trbe_interrupt(mut self, trbe_interrupt: u16) -> Gicc
         ensures { result ≡ record self { trbe_interrupt = trbe_interrupt } }
     {
@@ -288,7 +288,7 @@ impl Aml for Gicc {
     }
 }
 
-/// The architecture of a GIC (ACPI 6.5, 5.2.12.15, offset 20). Unspecified: as the hardware tells.
+/// The version of a GIC (ACPI 6.5, 5.2.12.15, offset 20). For `Unspecified` the hardware's registers contain it.
 #[derive(Clone, Copy, Debug, PartialEq)]
 pub enum GicVersion {
     Unspecified = 0,
@@ -307,7 +307,7 @@ pub struct Gicd {
 }
 
 impl Gicd {
-    /// A distributor of an id (offset 4) at a physical address (offset 8).
+    /// A distributor with this id (offset 4) at a physical address (offset 8).
     pub fn new(gic_id: u32, base_addr: u64, version: GicVersion) -> Gicd
         ensures { result ≡ gicd gic_id base_addr version }
     {
@@ -365,8 +365,8 @@ impl Aml for Gicd {
     }
 }
 
-/// A frame of registers by which devices raise interrupts as messages: 24 bytes (ACPI 6.5, 5.2.12.16). What no setter has
-/// set is zero.
+/// A frame of registers through which devices send interrupts as messages: 24 bytes (ACPI 6.5, 5.2.12.16). Fields are zero until
+/// a setter sets them.
 #[derive(Clone, Copy, Debug)]
 pub struct GicMsi {
     gic_msi_frame_id: u32,
@@ -377,7 +377,7 @@ pub struct GicMsi {
 }
 
 impl GicMsi {
-    /// A frame of which everything is zero: its own register tells its interrupts.
+    /// A frame in which every field is zero: its SPI count and base are those in its register.
     pub fn new() -> GicMsi
         ensures { result ≡ gic_msi }
     {
@@ -390,7 +390,7 @@ impl GicMsi {
         }
     }
 
-    /// The frame's id (offset 4).
+    /// Sets the frame's id (offset 4).
     pub fn gic_msi_frame_id(mut self, gic_msi_frame_id: u32) -> GicMsi
         ensures { result ≡ record self { gic_msi_frame_id = gic_msi_frame_id } }
     {
@@ -398,7 +398,7 @@ impl GicMsi {
         self
     }
 
-    /// The frame's physical address (offset 8).
+    /// Sets the frame's physical address (offset 8).
     pub fn base_addr(mut self, base_addr: u64) -> GicMsi
         ensures { result ≡ record self { base_addr = base_addr } }
     {
@@ -406,8 +406,8 @@ impl GicMsi {
         self
     }
 
-    /// How many shared interrupts the frame raises (offset 20), and the first one's number (offset 22), with flag 1: these
-    /// hold, and not what the frame's register tells.
+    /// Sets the SPI count (offset 20) and the SPI base (offset 22), and flag 1. They are used instead of those in the frame's
+    /// register.
     pub fn spi_count_and_base(mut self, spi_count: u16, spi_base: u16) -> GicMsi
         ensures { result ≡ with_spis spi_count spi_base self }
     {
@@ -472,7 +472,7 @@ pub struct Gicr {
 }
 
 impl Gicr {
-    /// Redistributors from a physical address on (offset 4), in this many bytes (offset 12).
+    /// Redistributors from a physical address on (offset 4). The length is in bytes (offset 12).
     pub fn new(discovery_range_base: u64, discovery_range_length: u32) -> Gicr
         ensures { result ≡ gicr discovery_range_base discovery_range_length }
     {
@@ -531,7 +531,7 @@ pub struct GicIts {
 }
 
 impl GicIts {
-    /// A service of an id (offset 4) at a physical address (offset 8).
+    /// A service with this id (offset 4) at a physical address (offset 8).
     pub fn new(gic_its_id: u32, base_addr: u64) -> GicIts
         ensures { result ≡ gic_its gic_its_id base_addr }
     {

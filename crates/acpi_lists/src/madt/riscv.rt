@@ -10,7 +10,7 @@ use acpi_base::object::Aml;
 use acpi_base::row::{Record, Row, Value, Word, record_of, record_of_numbers, write_record};
 use acpi_base::sink::AmlSink;
 
-/// Whether a hart can be used, or could be brought online later (offset 4 of RINTC).
+/// Whether a hart is enabled, or can be brought online later (offset 4 of RINTC).
 #[derive(Clone, Copy, Debug, PartialEq)]
 pub enum HartStatus {
     Disabled = 0,
@@ -30,8 +30,13 @@ pub struct RINTC {
 }
 
 impl RINTC {
-    /// The hart that `mhartid` tells (offset 8), of a unique id in the namespace (offset 16), with an external interrupt
-    /// controller (offset 20), and the physical address (offset 24) and bytes (offset 32) of its incoming MSI controller.
+    /// A hart, by these values:
+    ///
+    /// - `mhartid`: the value of its `mhartid` register (offset 8),
+    /// - `acpi_processor_uid`: its unique id in the namespace (offset 16),
+    /// - `ext_int_ctrl_id`: the id of its external interrupt controller (offset 20),
+    /// - `imsic_base_addr`: the physical address of its incoming MSI controller (offset 24),
+    /// - `imsic_size`: the number of bytes of that controller (offset 32).
     pub fn new(
         hart_status: HartStatus,
         mhartid: u64,
@@ -110,8 +115,8 @@ impl Aml for RINTC {
     }
 }
 
-/// What all incoming MSI controllers have in common (IMSIC, MADT structure of type 25): 16 bytes. A table needs
-/// one, and `MADT::add_imsic` adds no second.
+/// The common values of all incoming MSI controllers (IMSIC, MADT structure of type 25): 16 bytes. A table with such controllers
+/// has one, and `MADT::add_imsic` adds no second.
 #[derive(Clone, Copy, Debug)]
 pub struct IMSIC {
     num_supervisor_interrupt_identities: u16,
@@ -123,9 +128,12 @@ pub struct IMSIC {
 }
 
 impl IMSIC {
-    /// How many interrupts there are in supervisor mode (offset 8) and in a guest (offset 10), and how many bits of a
-    /// message's address tell the guest (offset 12), the hart (offset 13) and the group of harts (offset 14), which begins
-    /// at this bit of the address (offset 15).
+    /// The controllers, by these values:
+    ///
+    /// - the number of interrupts in supervisor mode (offset 8) and in a guest (offset 10),
+    /// - how many bits of a message's address select the guest (offset 12), the hart (offset 13) and the group of harts (offset
+    ///   14),
+    /// - the first bit of the address that selects the group (offset 15).
     pub fn new(
         num_supervisor_interrupt_identities: u16,
         num_guest_interrupt_identities: u16,
@@ -205,7 +213,7 @@ impl Aml for IMSIC {
     }
 }
 
-/// An advanced controller of wired interrupts (APLIC, MADT structure of type 26): 36 bytes.
+/// An Advanced Platform-Level Interrupt Controller for wired interrupts (APLIC, MADT structure of type 26): 36 bytes.
 #[derive(Clone, Copy, Debug)]
 pub struct APLIC {
     aplic_id: u8,
@@ -218,9 +226,12 @@ pub struct APLIC {
 }
 
 impl APLIC {
-    /// A controller of an id (offset 3) and hardware id (offset 8), with this many structures that deliver interrupts to
-    /// harts, one for each hart (offset 16), the first of its global system interrupts (offset 20), its physical address
-    /// (offset 24), its bytes (offset 32), and how many sources it has (offset 18).
+    /// A controller, by these values:
+    ///
+    /// - its id (offset 3) and its hardware id (offset 8),
+    /// - its number of interrupt delivery structures, one for each hart (offset 16), and of interrupt sources (offset 18),
+    /// - the first of its global system interrupts (offset 20),
+    /// - its physical address (offset 24) and its number of bytes (offset 32).
     pub fn new(
         aplic_id: u8,
         hardware_id: [u8; 8],
@@ -304,7 +315,7 @@ impl Aml for APLIC {
     }
 }
 
-/// A platform-level controller of wired interrupts (PLIC, MADT structure of type 27): 36 bytes.
+/// A Platform-Level Interrupt Controller for wired interrupts (PLIC, MADT structure of type 27): 36 bytes.
 #[derive(Clone, Copy, Debug)]
 pub struct PLIC {
     plic_id: u8,
@@ -317,9 +328,12 @@ pub struct PLIC {
 }
 
 impl PLIC {
-    /// A controller of an id (offset 3) and hardware id (offset 4), with this many sources (offset 12), a highest priority
-    /// (offset 14), its bytes (offset 20), its physical address (offset 24), and the first of its global system interrupts
-    /// (offset 32).
+    /// A controller, by these values:
+    ///
+    /// - its id (offset 3) and its hardware id (offset 4),
+    /// - its number of interrupt sources (offset 12) and its highest priority (offset 14),
+    /// - its number of bytes (offset 20) and its physical address (offset 24),
+    /// - the first of its global system interrupts (offset 32).
     pub fn new(
         plic_id: u8,
         hardware_id: [u8; 8],

@@ -20,7 +20,7 @@ pub struct ProcessorLocalApic {
 }
 
 impl ProcessorLocalApic {
-    /// The processor of a unique id in the namespace (offset 2), with a local APIC (offset 3).
+    /// The processor with this unique id in the namespace (offset 2) and this local APIC id (offset 3).
     pub fn new(uid: u8, apic_id: u8, enabled: EnabledStatus) -> ProcessorLocalApic
         ensures { result ≡ processor_local_apic uid apic_id enabled }
     {
@@ -81,7 +81,8 @@ pub struct IoApic {
 }
 
 impl IoApic {
-    /// An I/O APIC (offset 2) at a physical address (offset 4), whose inputs begin at a global system interrupt (offset 8).
+    /// The I/O APIC with this id (offset 2) at a physical address (offset 4). Its inputs begin at a global system interrupt
+    /// (offset 8).
     pub fn new(io_apic_id: u8, io_apic_addr: u32, gsi_base: u32) -> IoApic
         ensures { result ≡ io_apic io_apic_id io_apic_addr gsi_base }
     {

@@ -1,4 +1,4 @@
-//! Caches in front of memory.
+//! Memory side caches.
 
 ghost use Rattle.std.specs.Prelude.{◌≡◌, ◌≢◌, ◌+◌, ◌<◌, ◌++◌, OnOk, OnErr, IfErr};
 ghost use Rattle.acpi_base.specs.Bytes.{le};
@@ -15,7 +15,7 @@ use acpi_core::entries::Entries;
 use std::alloc::Global;
 use std::marker::Model;
 
-/// How many levels of caches there are, or which of them one is (attribute bits 0 to 3 and 4 to 7).
+/// A number of cache levels, or the level of a cache (attribute bits 0 to 3 and 4 to 7).
 #[derive(Clone, Copy, Debug, PartialEq)]
 pub enum CacheLevel {
     None = 0,
@@ -24,7 +24,7 @@ pub enum CacheLevel {
     Three = 3,
 }
 
-/// How addresses are spread over a cache (attribute bits 8 to 11).
+/// The associativity of a cache (attribute bits 8 to 11).
 #[derive(Clone, Copy, Debug, PartialEq)]
 pub enum Associativity {
     None = 0,
@@ -32,7 +32,7 @@ pub enum Associativity {
     Complex = 2,
 }
 
-/// When a cache writes to memory (attribute bits 12 to 15).
+/// The write policy of a cache (attribute bits 12 to 15).
 #[derive(Clone, Copy, Debug, PartialEq)]
 pub enum WritePolicy {
     None = 0,
@@ -40,8 +40,7 @@ pub enum WritePolicy {
     Writethrough = 2,
 }
 
-/// A cache in front of a memory (Memory Side Cache Information Structure, ACPI 6.5, 5.2.28.5): 32 bytes, and 2 for each SMBIOS
-/// handle.
+/// A memory side cache (Memory Side Cache Information Structure, ACPI 6.5, 5.2.28.5): 32 bytes, and 2 for each SMBIOS handle.
 #[derive(Drop)]
 pub struct MemorySideCache {
     domain: u32,
@@ -65,8 +64,7 @@ impl Model for MemorySideCache {
 }
 
 impl MemorySideCache {
-    /// The cache of a memory's proximity domain, of `cache_size` bytes, with lines of `cacheline_size` bytes. It has no SMBIOS
-    /// handles.
+    /// The cache of a memory's proximity domain. Its size and the size of its lines are in bytes. It has no SMBIOS handles.
     pub fn new(
         alloc: Global,
         proximity_domain: u32,
@@ -100,7 +98,8 @@ impl MemorySideCache {
         self.handles.len()
     }
 
-    /// Adds the handle of an SMBIOS structure. FieldWidth at the 65,536th, and unchanged where it is refused.
+    /// Adds the handle of an SMBIOS structure. The error is `FieldWidth` at the 65,536th handle. After an error the cache is
+    /// unchanged.
     pub fn add_smbios_handle(&mut self, handle: u16) -> R<()>
         ensures ok { OnOk result (self.new ≡ record self.old {
           count = self.old.count + 1;
@@ -113,7 +112,7 @@ impl MemorySideCache {
         self.handles.push(handle.to_le_bytes())
     }
 
-    // The structure's bytes before its handles.
+    // The bytes of the structure before its handles.
     fn head(&self) -> [u8; 32]
         ensures { result ≡ cache_head self.now }
     {

@@ -17,7 +17,7 @@ use acpi_base::sink::AmlSink;
 use std::alloc::Global;
 use std::marker::Model;
 
-/// Which memory or cache a matrix is about (flag bits 0 to 3).
+/// The memory or cache that a matrix describes (flag bits 0 to 3).
 #[derive(Clone, Copy, Debug, PartialEq)]
 pub enum LocalityType {
     Memory = 0,
@@ -26,7 +26,7 @@ pub enum LocalityType {
     ThirdLevelCache = 3,
 }
 
-/// What the entries of a matrix are (offset 9). Those of access hold for reading and for writing.
+/// The type of the entries of a matrix (offset 9). An access type is for both reading and writing.
 #[derive(Clone, Copy, Debug)]
 pub enum DataType {
     AccessLatency = 0,
@@ -37,7 +37,7 @@ pub enum DataType {
     WriteBandwidth = 5,
 }
 
-/// From which size of transfers on the entries hold (offset 10).
+/// The least size of transfers for which the entries hold (offset 10).
 #[derive(Clone, Copy, Debug)]
 pub enum MinTransferSize {
     SizeByteAligned = 0,
@@ -54,7 +54,7 @@ pub enum MinTransferSize {
     Size64k = 11,
 }
 
-/// Flags beside the locality type (offset 8).
+/// Flags other than the locality type (offset 8).
 const MINIMUM_TRANSFER_SIZE: u8 = 16;
 
 const NON_SEQUENTIAL: u8 = 32;
@@ -98,7 +98,7 @@ impl Model for SystemLocality {
     }) };
 }
 
-/// A law: the cells of a system locality stand at their places in its bytes, and its lists have the bytes of its cells.
+/// A law: each cell of a system locality is at its place in the bytes, and its lists have as many bytes as its cells.
 pub fn cells_stand(locality: &SystemLocality)
     ensures cells { CellsStand locality.now }
     ensures keeps { IsLocality locality.now }
@@ -106,7 +106,8 @@ pub fn cells_stand(locality: &SystemLocality)
     let _ = &locality.lists;
 }
 
-// How many bytes the lists of this many initiators and targets have. Matrix where the structure's size would reach 2^32.
+// The number of bytes of the lists of initiators, targets and entries. The error is `Matrix` if the structure's size would reach
+// 2^32.
 fn size_of_lists(initiators: usize, targets: usize) -> R<usize>
     ensures size { IfOk result (λ size. size ≡ lists_size initiators targets) }
     ensures ok { OnOk result (locality_size initiators targets < 2 ^ 32) }
@@ -122,7 +123,7 @@ fn size_of_lists(initiators: usize, targets: usize) -> R<usize>
     Ok(size)
 }
 
-// The lists of a new matrix: this many bytes of domains, and behind them those of the entries.
+// The lists of a new matrix: `domains` bytes for the domains, and then the entries.
 fn new_lists(alloc: Global, domains: usize, size: usize) -> R<Vec<u8>>
     requires { domains ≤ size }
     ensures bytes { IfOk result (λ v. v.items ≡ zeros domains ++ replicate (size - domains) 255) }
@@ -136,8 +137,10 @@ fn new_lists(alloc: Global, domains: usize, size: usize) -> R<Vec<u8>>
 }
 
 impl SystemLocality {
-    /// A matrix over this many initiators and targets, whose entries count in units of `entry_base_unit` picoseconds or
-    /// megabytes a second. Each domain is 0, and each entry 0xffff: unreachable. Matrix where its size would reach 2^32.
+    /// A matrix with these numbers of initiators and targets. Each domain is 0, and each entry is 0xffff, which means
+    /// unreachable. The units of entries are those of ACPI 6.5: `entry_base_unit` picoseconds or megabytes a second. In a HMAT of
+    /// revision 1 a reader may take other units: Linux shows latencies a hundred times as large, and bandwidths a tenth. The
+    /// error is `Matrix` if the size would reach 2^32.
     pub fn new(
         alloc: Global,
         loc_type: LocalityType,
@@ -166,21 +169,21 @@ impl SystemLocality {
         })
     }
 
-    /// The entries hold for transfers that aren't sequential (flag 32).
+    /// Sets flag 32: the entries are for transfers that aren't sequential.
     pub fn non_sequential_transfers(&mut self)
         ensures { self.new ≡ record self.old { flags = bit_or self.old.flags 32 } }
     {
         self.flags |= NON_SEQUENTIAL;
     }
 
-    /// The entries hold from the minimum transfer size on alone (flag 16).
+    /// Sets flag 16: the entries hold only from the minimum transfer size on.
     pub fn minimum_transfer_size_required(&mut self)
         ensures { self.new ≡ record self.old { flags = bit_or self.old.flags 16 } }
     {
         self.flags |= MINIMUM_TRANSFER_SIZE;
     }
 
-    /// Sets the proximity domain of an initiator. Index where there is no such initiator, and nothing changes then.
+    /// Sets the proximity domain of an initiator. The error is `Index` if there is no such initiator; nothing changes then.
     pub fn set_initiator_value(&mut self, idx: usize, value: u32) -> R<()>
         ensures { Sets result self.old (initiator_at idx) value self.new }
     {
@@ -191,7 +194,7 @@ impl SystemLocality {
         Ok(())
     }
 
-    /// Sets the proximity domain of a target. Index where there is no such target, and nothing changes then.
+    /// Sets the proximity domain of a target. The error is `Index` if there is no such target; nothing changes then.
     pub fn set_target_value(&mut self, idx: usize, value: u32) -> R<()>
         ensures { Sets result self.old (target_at idx) value self.new }
     {
@@ -203,7 +206,8 @@ impl SystemLocality {
         Ok(())
     }
 
-    /// Sets the entry of an initiator and a target. Index where there is no such initiator or target, and nothing changes then.
+    /// Sets the entry of an initiator and a target. The error is `Index` if there is no such initiator or target; nothing changes
+    /// then.
     pub fn set_entry_value(&mut self, initiator_idx: usize, target_idx: usize, value: u16) -> R<()>
         ensures { Sets result self.old (entry_at initiator_idx target_idx) value self.new }
     {
@@ -217,7 +221,7 @@ impl SystemLocality {
         Ok(())
     }
 
-    // The structure's bytes before its lists.
+    // The bytes of the structure before its lists.
     fn head(&self) -> [u8; 32]
         ensures { result ≡ locality_head self.now }
     {

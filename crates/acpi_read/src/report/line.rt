@@ -1,4 +1,4 @@
-//! What lines say. What begins with `push` adds to a text.
+//! The lines of terms. A function whose name begins with `push` adds to a text.
 
 ghost use Rattle.std.specs.Prelude.{◌≡◌, ◌++◌, [], OnOk, string_bytes, codes};
 ghost use Rattle.acpi_term.specs.Tree.{def_method, def_power_res, def_field};
@@ -70,7 +70,7 @@ fn push_data(bytes: &[u8], text: &mut String) -> Result<(), AllocError>
     Ok(())
 }
 
-/// What a line says of a term with this many children, without its width.
+/// Adds the line of a term with this many children, without its width.
 pub fn push_head(kind: Kind<'_>, count: usize, text: &mut String) -> Result<(), AllocError>
     ensures { OnOk result (string_bytes text.new ≡ string_bytes text.old ++ head_text (head_of kind.entry) count) }
 {

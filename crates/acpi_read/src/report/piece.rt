@@ -1,4 +1,4 @@
-//! Lines of pieces. What begins with `push` adds to a text.
+//! The lines of pieces. A function whose name begins with `push` adds to a text.
 
 ghost use Rattle.std.specs.Prelude.{◌≡◌, ◌++◌, ◌≤◌, length, map, string_bytes, OnOk};
 ghost use Rattle.std.specs.List.{All};
@@ -24,7 +24,7 @@ fn push_piece(kind: Place, piece: &Piece<'_>, text: &mut String) -> Result<(), A
     }
 }
 
-/// A line for each piece.
+/// Adds a line for each piece.
 pub fn push_pieces(kind: Place, pieces: &[Piece<'_>], text: &mut String) -> Result<(), AllocError>
     requires { All (λ piece. end_of kind ≤ length piece) (map (λ p. p.bytes.now) pieces.now) }
     ensures { OnOk result (string_bytes text.new ≡ string_bytes text.old

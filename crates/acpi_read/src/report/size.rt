@@ -1,4 +1,4 @@
-//! How many bytes spell terms, as far as a length can count them.
+//! The number of bytes that spell terms, up to the greatest length.
 
 ghost use Rattle.std.specs.Prelude.{◌≡◌, ℕ, ◌+◌, length, map, max, IfOk};
 ghost use Rattle.acpi_base.specs.Number.{number_bytes};
@@ -11,7 +11,7 @@ use acpi_term::name_string::NameString;
 use acpi_term::term::{Term, TermEntry};
 use std::alloc::{AllocError, Global};
 
-/// No length can count this many.
+/// No length can count this many bytes or more.
 pub const LIMIT: u32 = 0x1000_0000;
 
 fn capped(n: usize) -> u32
@@ -33,7 +33,7 @@ fn number_size(value: u64, width: u8) -> u32
     1 + u32::from(width)
 }
 
-// A name and this many more bytes.
+// The number of bytes of a name, plus `more`.
 fn name_size(name: &NameString, more: u32) -> u32
     ensures { result ≡ capped (length name.now + more) }
 {
@@ -66,7 +66,7 @@ fn entries_size(entries: &[TermEntry]) -> u32
     size
 }
 
-// The bytes of a term beside its children's and, of a framed one, its opcode and its length.
+// The number of a term's own bytes: all but those of its children and, of a frame, its opcode and length.
 fn own_size(kind: Kind<'_>, width: u8) -> u32
     ensures { (n : ℕ) → result ≡ capped (own_size (layout (head_of kind.entry) width n)) }
 {
@@ -88,7 +88,7 @@ fn own_size(kind: Kind<'_>, width: u8) -> u32
     }
 }
 
-/// The sizes of terms' contents, each before those of its children.
+/// The sizes of the contents of terms. A term's size comes before those of its children.
 pub fn content_sizes(alloc: Global, terms: &[Term]) -> Result<Vec<u32>, AllocError>
     ensures { IfOk result (λ sizes. sizes.items ≡ content_sizes (views terms.now)) }
 {
@@ -97,7 +97,7 @@ pub fn content_sizes(alloc: Global, terms: &[Term]) -> Result<Vec<u32>, AllocErr
     Ok(sizes)
 }
 
-// Adds the sizes of terms' contents, and answers how many bytes spell the terms.
+// Adds the sizes of the contents of terms, and returns how many bytes spell the terms.
 #[cycle(size)]
 fn add_all(terms: &[Term], sizes: &mut Vec<u32>) -> Result<u32, AllocError>
     ensures { IfOk result (λ bytes. AreSized (views terms.now) sizes.old.items sizes.new.items bytes) }
@@ -109,7 +109,7 @@ fn add_all(terms: &[Term], sizes: &mut Vec<u32>) -> Result<u32, AllocError>
     Ok(all)
 }
 
-// A term's size is known only after those of its children, before which it stands.
+// A term's size is known only after those of its children, but is placed before them.
 #[cycle(size)]
 fn add_one(term: &Term, sizes: &mut Vec<u32>) -> Result<u32, AllocError>
     ensures { IfOk result (λ bytes. AreSized (single (view term.now)) sizes.old.items sizes.new.items bytes) }
@@ -124,7 +124,7 @@ fn add_one(term: &Term, sizes: &mut Vec<u32>) -> Result<u32, AllocError>
     Ok(with_frame(parts.kind, parts.width, content))
 }
 
-// As `add_all`. Most terms have no children of one kind or of either, and then no call is made.
+// Does what `add_all` does. Most terms have no children in one of their lists or in both, and an empty list takes no call.
 #[cycle(size)]
 #[inline(always)]
 fn add_any(terms: &[Term], sizes: &mut Vec<u32>) -> Result<u32, AllocError>
@@ -136,7 +136,7 @@ fn add_any(terms: &[Term], sizes: &mut Vec<u32>) -> Result<u32, AllocError>
     add_all(terms, sizes)
 }
 
-// The bytes of a term whose content has a size.
+// The number of bytes of a term whose content has this size.
 fn with_frame(kind: Kind<'_>, width: u8, content: u32) -> u32
     ensures { (n : ℕ) → result ≡ capped (content + frame_size (layout (head_of kind.entry) width n) width) }
 {

@@ -1,4 +1,4 @@
-//! The widths that lines tell.
+//! The widths in the lines of terms.
 
 ghost use Rattle.std.specs.Prelude.{◌≡◌, ◌+◌, ◌^◌, ◌==◌, ◌&&◌, ◌++◌, nat_lt, OnOk, string_bytes};
 ghost use Rattle.acpi_base.specs.Number.{number_width};
@@ -28,7 +28,7 @@ fn number_width(value: u64) -> u8
     }
 }
 
-// The width that a writer of this workspace chooses for what has no frame.
+// The width in which this library writes a term without a frame.
 fn own_width(kind: Kind<'_>) -> u8
     ensures { result ≡ own_width (head_of kind.entry) }
 {
@@ -38,14 +38,14 @@ fn own_width(kind: Kind<'_>) -> u8
     }
 }
 
-// Whether a width is the least that counts a content of this size, and any does.
+// Whether a width is the least that counts a content of this size. It is false if none does.
 fn is_least(width: u8, size: u32) -> bool
     ensures { result ≡ (width == least_width size && nat_lt (4 + size) (2 ^ 28)) }
 {
     width == least_width(size as usize) && size < LIMIT - 4
 }
 
-// Whether a writer of this workspace chooses a width for a term whose content has this size.
+// Whether this library writes a term whose content has this size in this width.
 fn is_chosen(kind: Kind<'_>, width: u8, size: u32) -> bool
     ensures { (children : Terms) → size ≡ capped (content_size (head_of kind.entry) width children)
         → result ≡ is_chosen (head_of kind.entry) width (count children) (spelling children) }
@@ -56,14 +56,14 @@ fn is_chosen(kind: Kind<'_>, width: u8, size: u32) -> bool
     }
 }
 
-// A width, unless it is the one that is chosen.
+// The width, or `None` if it is the one that this library writes.
 fn unless(chosen: bool, width: u8) -> Option<u8>
     ensures { width_words result ≡ width_suffix chosen width }
 {
     if chosen { None } else { Some(width) }
 }
 
-/// The width of a term whose content has this size, if it is printed.
+/// The width of a term whose content has this size, if the report shows it.
 pub fn shown_width(kind: Kind<'_>, width: u8, size: u32) -> Option<u8>
     ensures { (children : Terms) → size ≡ capped (content_size (head_of kind.entry) width children)
         → width_words result ≡ term_suffix (head_of kind.entry) width children }
@@ -71,14 +71,14 @@ pub fn shown_width(kind: Kind<'_>, width: u8, size: u32) -> Option<u8>
     unless(is_chosen(kind, width, size), width)
 }
 
-/// The width of a field entry of this many bits, if it is printed.
+/// The width of a field entry of this many bits, if the report shows it.
 pub fn shown_entry_width(bits: u32, width: u8) -> Option<u8>
     ensures { width_words result ≡ width_suffix (width == least_width bits && nat_lt bits (2 ^ 28)) width }
 {
     unless(width == least_width(bits as usize) && bits < LIMIT, width)
 }
 
-/// A width, if it is printed.
+/// Adds a width, if the report shows it.
 pub fn push_width(shown: Option<u8>, text: &mut String) -> Result<(), AllocError>
     ensures { OnOk result (string_bytes text.new ≡ string_bytes text.old ++ width_words shown) }
 {

@@ -1,4 +1,4 @@
-//! Pieces of lines. What begins with `push` adds to a text.
+//! Parts of lines. A function whose name begins with `push` adds to a text.
 
 ghost use Rattle.std.specs.Prelude.{◌≡◌, ◌<◌, ◌++◌, OnOk, string_bytes, codes, if◌then◌else◌};
 ghost use Rattle.std.specs.Fmt.{decimal};
@@ -24,7 +24,7 @@ fn push_hex_byte(byte: u8, text: &mut String) -> Result<(), AllocError>
     text.push(hex_digit(byte % 16))
 }
 
-/// Two hexadecimal digits a byte.
+/// Adds two hexadecimal digits for each byte.
 pub fn push_hex(bytes: &[u8], text: &mut String) -> Result<(), AllocError>
     ensures { OnOk result (string_bytes text.new ≡ string_bytes text.old ++ hex_bytes bytes.now) }
 {
@@ -34,7 +34,7 @@ pub fn push_hex(bytes: &[u8], text: &mut String) -> Result<(), AllocError>
     Ok(())
 }
 
-// `"`, `\` and what doesn't print as `\x` and two digits.
+// Adds a byte. `"`, `\` and a byte that isn't printable become `\x` and two digits.
 fn push_quoted_byte(byte: u8, text: &mut String) -> Result<(), AllocError>
     ensures { OnOk result (string_bytes text.new ≡ string_bytes text.old ++ quoted_byte byte) }
 {
@@ -46,7 +46,7 @@ fn push_quoted_byte(byte: u8, text: &mut String) -> Result<(), AllocError>
     }
 }
 
-/// A string's bytes.
+/// Adds the bytes of a string.
 pub fn push_quoted(bytes: &[u8], text: &mut String) -> Result<(), AllocError>
     ensures { OnOk result (string_bytes text.new ≡ string_bytes text.old ++ quoted_bytes bytes.now) }
 {
@@ -81,7 +81,7 @@ fn push_segments(segments: &[u8], text: &mut String) -> Result<(), AllocError>
     push_ascii(rest, text)
 }
 
-// The segments of a path, without what counts them.
+// The segments of a path, without the prefix that counts them.
 fn segments_of(path: &[u8]) -> &[u8]
     ensures { result.now ≡ segments_of path.now }
 {
@@ -108,7 +108,7 @@ fn push_name(name: &NameString, text: &mut String) -> Result<(), AllocError>
     push_segments(segments_of(rest), text)
 }
 
-/// A word, and a name.
+/// Adds a word and a name.
 pub fn push_named(word: &str, name: &NameString, text: &mut String) -> Result<(), AllocError>
     ensures { OnOk result (string_bytes text.new ≡ string_bytes text.old ++ (word.now ++ name_text name.now)) }
 {
@@ -116,14 +116,14 @@ pub fn push_named(word: &str, name: &NameString, text: &mut String) -> Result<()
     push_name(name, text)
 }
 
-/// A word, and a number in decimal.
+/// Adds a word and a decimal number.
 pub fn push_number(word: &str, n: u64, text: &mut String) -> Result<(), AllocError>
     ensures { OnOk result (string_bytes text.new ≡ string_bytes text.old ++ (word.now ++ decimal n)) }
 {
     write!(text, "{word}{n}")
 }
 
-/// A word, and `1` or `0`.
+/// Adds a word, and `1` or `0`.
 pub fn push_flag(word: &str, flag: bool, text: &mut String) -> Result<(), AllocError>
     ensures { OnOk result (string_bytes text.new ≡ string_bytes text.old
         ++ (word.now ++ (if flag then codes "1" else codes "0"))) }
@@ -132,7 +132,7 @@ pub fn push_flag(word: &str, flag: bool, text: &mut String) -> Result<(), AllocE
     text.push(if flag { '1' } else { '0' })
 }
 
-/// A word and a name, and another word and a number.
+/// Adds a word and a name, and another word and a number.
 #[tactic(auto, using(crate::proofs::Texts::after_two))]
 pub fn push_numbered(
     word: &str,
@@ -148,7 +148,7 @@ pub fn push_numbered(
     push_number(label, n, text)
 }
 
-/// Two spaces a level, of sixteen levels at once as far as there are this many.
+/// Adds two spaces for each level, sixteen levels at a time where there are that many.
 pub fn push_indent(depth: usize, text: &mut String) -> Result<(), AllocError>
     ensures { OnOk result (string_bytes text.new ≡ string_bytes text.old ++ indent depth) }
 {

@@ -1,4 +1,4 @@
-//! Why a term can't be read, wherever it stands.
+//! Why a term can't be read, without its offset.
 
 ghost use Rattle.std.specs.Prelude.{◌≡◌, ◌≢◌, Some};
 ghost use Rattle.acpi_read.specs.declared.terms.cause.Cause.TheVariants.{Memory};
@@ -21,7 +21,7 @@ pub enum Cause {
 }
 
 impl Cause {
-    /// The error, for a term at an offset.
+    /// The error for a term at an offset.
     pub fn at(self, offset: usize) -> ReadError
         ensures kind { error_kind result ≡ cause_kind self }
         ensures placed { IsPlaced offset result }

@@ -32,7 +32,7 @@ fn entry(bytes: &[u8]) -> Result<(TermEntry, &[u8]), Cause>
     }
 }
 
-/// The entries that the bytes are.
+/// Reads all of the bytes as entries.
 pub fn entries(alloc: Global, bytes: &[u8]) -> Result<Vec<TermEntry>, Cause>
     ensures { Gives (λ v. map entry_view v.items) result (entries_at (length bytes.now) bytes.now) }
 {

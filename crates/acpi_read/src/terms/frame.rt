@@ -15,7 +15,7 @@ fn cut(size: usize, bytes: &[u8]) -> Result<(&[u8], &[u8]), Cause>
     Ok(bytes.split_at(size))
 }
 
-/// A number of this many bytes, lowest first, and the bytes after it. One byte, two and four are read at once.
+/// A number of this many bytes, lowest first, and the bytes after it. Numbers of one, two and four bytes are read at once.
 #[tactic(auto, unfolding(acpi_term::specs::Reading::high_at))]
 pub fn number(size: u8, bytes: &[u8]) -> Result<(u64, &[u8]), Cause>
     requires { size ≤ 8 }
@@ -36,7 +36,7 @@ pub fn number(size: u8, bytes: &[u8]) -> Result<(u64, &[u8]), Cause>
     }
 }
 
-// The same, byte by byte.
+// Reads a number byte by byte.
 #[tactic(auto, unfolding(acpi_term::specs::Reading::high_at))]
 fn number_by_bytes(size: u8, bytes: &[u8]) -> Result<(u64, &[u8]), Cause>
     requires { size ≤ 8 }
@@ -65,7 +65,7 @@ fn long_length(following: u8, low: u8, bytes: &[u8]) -> Result<(u8, u32, &[u8]),
     Ok((following + 1, u32::from(low) + 16 * (high as u32), rest))
 }
 
-/// The width of a length in any of its forms, the length, and the bytes after it.
+/// The width of a length, its value, and the bytes after it. The width needn't be the least.
 #[tactic(auto, unfolding(acpi_term::specs::Reading::length_at))]
 pub fn length(bytes: &[u8]) -> Result<(u8, u32, &[u8]), Cause>
     ensures { Gives (λ x. (x.0, x.1, x.2.now)) result (length_at bytes.now) }

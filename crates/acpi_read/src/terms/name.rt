@@ -9,7 +9,7 @@ use acpi_term::name_string::{NameString, name_of};
 use acpi_term::segment::{is_lead, is_segment};
 use std::alloc::Global;
 
-/// Whether a name begins with the byte.
+/// Whether a name may begin with the byte.
 pub fn begins_name(byte: u8) -> bool
     ensures { result ≡ begins_name byte }
 {

@@ -1,4 +1,4 @@
-//! The heads of terms: what stands before their children (ACPI 6.5, 20.2.3 and 20.2.5).
+//! The heads of terms: the bytes before their children (ACPI 6.5, 20.2.3 and 20.2.5).
 
 ghost use Rattle.std.specs.Prelude.{◌≡◌, ◌≤◌, length, IfOk};
 ghost use Rattle.acpi_term.specs.Arity.{arity};
@@ -24,7 +24,7 @@ use acpi_term::op::Op;
 use acpi_term::term::Term;
 use std::alloc::Global;
 
-/// A term whose children fill a frame, without them: the width of its length, and what is its own.
+/// A term whose children are all of a frame, without its children: the width of its length, and its own values.
 #[derive(Drop)]
 pub enum Block {
     Scope(u8, NameString),
@@ -34,7 +34,7 @@ pub enum Block {
     Else(u8),
 }
 
-/// The same of a term whose first child stands apart from the others.
+/// The same for a term whose first child is kept apart from the others.
 #[derive(Clone, Copy)]
 pub enum FirstAndBlock {
     VarPackage(u8),
@@ -81,7 +81,7 @@ impl Block {
 }
 
 impl FirstAndBlock {
-    /// Where the first child stands.
+    /// The place of the first child.
     pub fn mode(self) -> Mode
         ensures { result ≡ inner (first_head self) }
     {
@@ -116,29 +116,29 @@ impl FirstAndBlock {
     }
 }
 
-/// What the children of a term are read from.
+/// The head of a term, and the bytes from which its children are read.
 #[derive(Drop)]
 pub enum TermStart<'a> {
-    /// A term without children, and the rest.
+    /// A term without children, and the bytes after it.
     Leaf(Term, &'a [u8]),
-    /// A name, how many arguments it has, and the rest.
+    /// A name, the number of its arguments, and the bytes after it.
     Call(NameString, u8, &'a [u8]),
-    /// An operator, and the rest.
+    /// An operator, and the bytes after it.
     Operator(Op, &'a [u8]),
-    /// A region's name and space, and the rest.
+    /// A region's name and space, and the bytes after these.
     Region(NameString, u8, &'a [u8]),
-    /// A name that is given a value, and the rest.
+    /// The name of a value, and the bytes after it.
     Define(NameString, &'a [u8]),
-    /// A frame, the content after what is its own, and what follows.
+    /// A frame, the content after its own values, and the bytes after the frame.
     Block(Block, &'a [u8], &'a [u8]),
     FirstAndBlock(FirstAndBlock, &'a [u8], &'a [u8]),
-    /// The width, how many elements, the content after it, and what follows.
+    /// The width, the number of elements, the content after it, and the bytes after the frame.
     Package(u8, u8, &'a [u8], &'a [u8]),
-    /// The width, the content, and what follows.
+    /// The width, the content, and the bytes after the frame.
     Buffer(u8, &'a [u8], &'a [u8]),
 }
 
-/// The byte that is the number itself.
+/// A number that is its opcode alone.
 fn small_number(byte: u8, rest: &[u8]) -> TermStart<'_>
     ensures gives { seen result ≡ follows (number byte) 0 0 rest.now }
     ensures alone { IsAlone result }
@@ -377,7 +377,7 @@ fn operator<'a>(code: &[u8], rest: &'a [u8]) -> Result<TermStart<'a>, Cause>
     }
 }
 
-/// After the byte 5B.
+/// Reads the head of a term after the byte 5B.
 fn extended(alloc: Global, bytes: &[u8]) -> Result<TermStart<'_>, Cause>
     ensures gives { Gives seen result (extended_at bytes.now) }
     ensures alone { IfOk result IsAlone }
@@ -451,7 +451,7 @@ fn open_head<'a>(arities: &Arities, mode: Mode, bytes: &'a [u8]) -> Result<TermS
     Ok(TermStart::Call(name, count, rest))
 }
 
-/// The head of the term at the front, and where its children are, which is within the bytes.
+/// Reads the head of the term at the front. Its children are read from bytes within the given ones.
 pub fn open<'a>(arities: &Arities, mode: Mode, bytes: &'a [u8]) -> Result<TermStart<'a>, Cause>
     ensures gives { Gives seen result (open_at (arity arities.now) mode bytes.now) }
     ensures alone { IfOk result IsAlone }

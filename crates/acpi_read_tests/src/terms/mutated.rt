@@ -10,8 +10,8 @@ use acpi_vectors::same;
 use std::alloc::Global;
 use std::test::Fail;
 
-// Valid terms, cut where others may stand in their place: the serial port; a method with a loop and a branch, and a call of it;
-// a region, a field and a mutex; and packages, a string, a power resource and numbers.
+// Valid terms, cut in pieces that can be swapped: the serial port; a method with a loop and a branch, and a call of it; a region,
+// a field and a mutex; and packages, a string, a power resource and numbers.
 fn nth(index: usize) -> [&'static [u8]; 6] {
     match index {
         0 => [&PORT[..12], &PORT[12..22], &PORT[22..], b"", b"", b""],
@@ -42,7 +42,7 @@ fn nth(index: usize) -> [&'static [u8]; 6] {
     }
 }
 
-// Whether the bytes are read. Where they are, their terms are spelled by them, and have a report.
+// Whether the bytes can be read. If so, their terms have to be spelled by these bytes, and have a report.
 fn is_read(alloc: Global, bytes: &[u8], arities: &Arities) -> Result<bool, Fail> {
     match terms(bytes, arities) {
         Ok(list) => {

@@ -7,7 +7,8 @@ use acpi_vectors::table::{patched, stands};
 use acpi_vectors::{OEM, OEM_REVISION, OEM_TABLE, equal, writes, written};
 use std::test::Fail;
 
-// The byte at each offset is the offset's lowest, but in reserved bytes, the checksum, spaces and access sizes.
+// The byte at each offset is the low byte of the offset, except for reserved bytes, the checksum, address spaces and access
+// sizes.
 fn numbered() -> FADTBuilder {
     FADTBuilder {
         signature: [0x00, 0x01, 0x02, 0x03],
@@ -242,7 +243,7 @@ fn profiles(rt: HostRuntime) -> Result<(), Fail> {
     Ok(())
 }
 
-// Each call sets its own fields, and zero in the twin of an address.
+// Each call sets its own fields. A call for an address sets the address of the other width to zero.
 #[test]
 fn setters(rt: HostRuntime) -> Result<(), Fail> {
     let alloc = rt.alloc();

@@ -33,7 +33,7 @@ fn tcpa(rt: HostRuntime) -> Result<(), Fail> {
     equal(&TpmServer1_2::len(), &100)
 }
 
-// Each setter's bytes and flags, and nothing else changes but the checksum.
+// Each setter changes its own bytes and flags, and the checksum.
 #[test]
 fn tcpa_setters(rt: HostRuntime) -> Result<(), Fail> {
     let alloc = rt.alloc();
@@ -78,7 +78,7 @@ fn tcpa_setters(rt: HostRuntime) -> Result<(), Fail> {
     stands(alloc, &all, 58, b"\x07\x0f\x01")
 }
 
-// Flags of the device and of its interrupt where setters follow each other, or one is called twice.
+// The flags of the device and of its interrupt after several setters, and after one that is called twice.
 #[test]
 fn joined_setters(rt: HostRuntime) -> Result<(), Fail> {
     let server = TpmServer1_2::new(OEM, OEM_TABLE, OEM_REVISION);

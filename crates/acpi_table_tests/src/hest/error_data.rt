@@ -20,7 +20,7 @@ fn error_data(rt: HostRuntime) -> Result<(), Fail> {
     same(&bytes, &wanted)
 }
 
-// The data of no object, of one and of two, and what is refused while it is counted.
+// The data of no object, of one and of two, and the errors of counting it.
 #[test]
 fn data_sizes(rt: HostRuntime) -> Result<(), Fail> {
     let alloc = rt.alloc();

@@ -1,4 +1,4 @@
-//! MADT of one structure of each kind, and of many of a kind, after each addition.
+//! A MADT with one structure of each kind, and one with many of a kind, after each addition.
 
 use acpi_tables::Aml;
 use acpi_tables::madt::{
@@ -15,7 +15,7 @@ fn table(alloc: Global) -> MADT {
     MADT::new(alloc, OEM, OEM_TABLE, OEM_REVISION, local)
 }
 
-// Adds a structure, and the table is its header, its fixed fields and the bytes of all structures so far.
+// Adds a structure, and fails unless the table is its header, its fixed fields and the bytes of all structures so far.
 fn adds<T: Aml + Drop>(
     alloc: Global,
     madt: &mut MADT,

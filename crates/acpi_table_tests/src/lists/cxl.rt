@@ -116,7 +116,7 @@ fn windows(rt: HostRuntime) -> Result<(), Fail> {
     many(alloc, &table, b"CEDT", 1, &[], &[], 0)
 }
 
-// A window of two ways and one target isn't added, and what was there stays.
+// A window with two ways and one target isn't added, and the table is unchanged.
 #[test]
 fn one_target_of_two(rt: HostRuntime) -> Result<(), Fail> {
     let alloc = rt.alloc();

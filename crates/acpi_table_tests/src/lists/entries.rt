@@ -44,7 +44,7 @@ fn many_entries(rt: HostRuntime) -> Result<(), Fail> {
     many(alloc, &table, b"XSDT", 1, &[], &entry, 8_192)
 }
 
-// Different entries, with a true length and sum after each.
+// Different entries. The length and the sum are right after each.
 #[test]
 fn each_entry(rt: HostRuntime) -> Result<(), Fail> {
     let alloc = rt.alloc();

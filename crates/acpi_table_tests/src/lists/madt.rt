@@ -16,7 +16,7 @@ fn table(alloc: Global, int: LocalInterruptController) -> MADT {
     MADT::new(alloc, OEM, OEM_TABLE, OEM_REVISION, int)
 }
 
-// Structures of several types in one list, which stays as it is.
+// Structures of several types in one list, which is only borrowed.
 #[test]
 fn borrowed(rt: HostRuntime) -> Result<(), Fail> {
     let alloc = rt.alloc();
@@ -295,7 +295,7 @@ fn controllers_of_harts(rt: HostRuntime) -> Result<(), Fail> {
     )
 }
 
-// A table has this length and checksum, and this many of such controllers.
+// Fails unless a table has this length and checksum, and this many such controllers.
 fn holds(alloc: Global, madt: &MADT, size: u8, checksum: u8, imsics: u32) -> Result<(), Fail> {
     stands(alloc, madt, 4, &[size, 0, 0, 0, 1, checksum])?;
     many(alloc, madt, b"APIC", 1, &[0; 8], &IMSIC_BYTES, imsics)
@@ -333,7 +333,7 @@ fn add_nth(madt: &mut MADT, i: u16) -> R<()> {
     }
 }
 
-// Its bytes.
+// The bytes of that structure.
 fn append_nth(bytes: &mut Vec<u8>, i: u16) -> R<()> {
     let [low, high] = i.to_le_bytes();
     if i % 2 == 0 {
@@ -344,7 +344,7 @@ fn append_nth(bytes: &mut Vec<u8>, i: u16) -> R<()> {
     Ok(())
 }
 
-// A table of this many structures has this length, sums to zero, and is its header and these joined.
+// Fails unless a table of this many structures has this length, sums to zero, and is its header and these structures.
 fn of_many(alloc: Global, count: u16, size: u32) -> Result<(), Fail> {
     let mut madt = table(alloc, LocalInterruptController::Riscv);
     let mut structures = Vec::new(alloc);
