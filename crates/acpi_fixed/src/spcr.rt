@@ -11,7 +11,7 @@ use crate::sealed::write_table;
 use acpi_base::error::R;
 use acpi_base::object::Aml;
 use acpi_base::oem::Oem;
-use acpi_base::row::{Record, Row, Value, record_of};
+use acpi_base::row::{Record, Row, Value, Word, record_of};
 use acpi_base::sink::AmlSink;
 use std::marker::PhantomData;
 
@@ -38,17 +38,48 @@ impl SPCR<'_> {
 
 /// The rows of an SPCR after its header.
 pub const SPCR_ROWS: [Row; 24] = [
-    Row::Number("Interface Type", 1),
+    Row::OneOf(
+        "Interface Type",
+        1,
+        &[
+            Word(0, "16550"),
+            Word(1, "16550 Subset"),
+            Word(3, "Arm PL011"),
+            Word(14, "Arm SBSA Generic UART"),
+            Word(15, "Arm DCC"),
+            Word(18, "16550 with Generic Address"),
+            Word(21, "RISC-V SBI Console"),
+        ],
+    ),
     Row::Reserved(3),
     Row::Register("Base Address"),
     Row::Number("Interrupt Type", 1),
     Row::Number("IRQ", 1),
     Row::Number("Global System Interrupt", 4),
-    Row::Number("Configured Baud Rate", 1),
+    Row::OneOf(
+        "Configured Baud Rate",
+        1,
+        &[
+            Word(0, "As Is"),
+            Word(3, "9600"),
+            Word(4, "19200"),
+            Word(6, "57600"),
+            Word(7, "115200"),
+        ],
+    ),
     Row::Number("Parity", 1),
     Row::Number("Stop Bits", 1),
     Row::Number("Flow Control", 1),
-    Row::Number("Terminal Type", 1),
+    Row::OneOf(
+        "Terminal Type",
+        1,
+        &[
+            Word(0, "VT100"),
+            Word(1, "Extended VT100"),
+            Word(2, "VT-UTF8"),
+            Word(3, "ANSI"),
+        ],
+    ),
     Row::Number("Language", 1),
     Row::Number("PCI Device ID", 2),
     Row::Number("PCI Vendor ID", 2),

@@ -391,7 +391,17 @@ pub const TPM2_FIXED: [Row; 7] = [
     Row::OneOf("Platform Class", 2, &[Word(0, "Client"), Word(1, "Server")]),
     Row::Reserved(2),
     Row::Number("Address of CRB Control Area", 8),
-    Row::Number("Start Method", 4),
+    Row::OneOf(
+        "Start Method",
+        4,
+        &[
+            Word(2, "ACPI Start Method"),
+            Word(6, "Memory Mapped I/O"),
+            Word(7, "Command Response Buffer"),
+            Word(8, "Command Response Buffer with ACPI Start Method"),
+            Word(11, "Command Response Buffer with Arm SMC"),
+        ],
+    ),
     Row::Bytes("Start Method Specific Parameters", 12),
     Row::Number("Log Area Minimum Length", 4),
     Row::Number("Log Area Start Address", 8),

@@ -413,7 +413,11 @@ pub const FIXED_MEMORY: [Row; 12] = [
     Row::Number("Base HPA", 8),
     Row::Number("Window Size", 8),
     Row::Number("Encoded Number of Interleave Ways", 1),
-    Row::Number("Interleave Arithmetic", 1),
+    Row::OneOf(
+        "Interleave Arithmetic",
+        1,
+        &[Word(0, "Standard Modulo"), Word(1, "Modulo with XOR")],
+    ),
     Row::Reserved(2),
     Row::Number("Host Bridge Interleave Granularity", 4),
     Row::Flags(

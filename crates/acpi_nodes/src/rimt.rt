@@ -27,7 +27,7 @@ pub use crate::pci::PciDevice;
 use acpi_base::error::R;
 use acpi_base::object::Aml;
 use acpi_base::oem::Oem;
-use acpi_base::row::{Record, Row, record_of_numbers, write_record};
+use acpi_base::row::{Record, Row, Word, record_of_numbers, write_record};
 use acpi_base::sink::AmlSink;
 use acpi_core::form::Form;
 use acpi_core::kind::Kind;
@@ -175,7 +175,11 @@ impl InterruptWire {
 /// The rows of an interrupt wire.
 pub const INTERRUPT_WIRE: [Row; 3] = [
     Row::Number("Interrupt Number", 4),
-    Row::Number("Flags", 2),
+    Row::Flags(
+        "Flags",
+        2,
+        &[Word(1, "Level Triggered"), Word(2, "Active High")],
+    ),
     Row::Number("APLIC ID", 2),
 ];
 
@@ -282,7 +286,11 @@ pub const IOMMU: [Row; 12] = [
     Row::Number("ID", 2),
     Row::Number("Model", 2),
     Row::Number("Base Address", 8),
-    Row::Number("Flags", 4),
+    Row::Flags(
+        "Flags",
+        4,
+        &[Word(1, "PCI Device"), Word(2, "Proximity Domain Valid")],
+    ),
     Row::Number("PCI Segment", 2),
     Row::Number("PCI BDF", 2),
     Row::Number("Proximity Domain", 4),
@@ -354,7 +362,15 @@ pub const ID_MAPPING: [Row; 5] = [
     Row::Number("Destination ID Base", 4),
     Row::Number("Number of IDs", 4),
     Row::Number("Destination IOMMU Offset", 4),
-    Row::Number("Flags", 4),
+    Row::Flags(
+        "Flags",
+        4,
+        &[
+            Word(1, "ATS Required"),
+            Word(2, "PRI Required"),
+            Word(4, "RCiEP"),
+        ],
+    ),
 ];
 
 impl Record<20> for IdMapping {
@@ -451,7 +467,11 @@ pub const ROOT_COMPLEX: [Row; 8] = [
     Row::Number("Length", 2),
     Row::Number("ID", 2),
     Row::Number("PCI Segment", 2),
-    Row::Number("Flags", 4),
+    Row::Flags(
+        "Flags",
+        4,
+        &[Word(1, "ATS Supported"), Word(2, "PRI Supported")],
+    ),
     Row::Number("Offset of Mappings", 2),
     Row::Number("Number of Mappings", 2),
 ];

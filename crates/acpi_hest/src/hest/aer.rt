@@ -13,7 +13,7 @@ use crate::hest::tail::Tail;
 use crate::parts::write_record_behind;
 use acpi_base::error::R;
 use acpi_base::object::Aml;
-use acpi_base::row::{Record, Row, record_of_numbers};
+use acpi_base::row::{Record, Row, Word, record_of_numbers};
 use acpi_base::sink::AmlSink;
 
 /// Whether firmware handles the errors of a source before the operating system does (ACPI 6.5, 18.3.2.4, Flags).
@@ -189,7 +189,7 @@ pub const AER: [Row; 16] = [
     Row::Number("Type", 2),
     Row::Number("Source Id", 2),
     Row::Reserved(2),
-    Row::Number("Flags", 1),
+    Row::Flags("Flags", 1, &[Word(1, "FIRMWARE_FIRST"), Word(2, "GLOBAL")]),
     Row::Number("Enabled", 1),
     Row::Number("Number of Records to Pre-allocate", 4),
     Row::Number("Max Sections Per Record", 4),

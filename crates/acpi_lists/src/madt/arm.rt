@@ -327,7 +327,16 @@ pub const GICD: [Row; 8] = [
     Row::Number("GIC ID", 4),
     Row::Number("Physical Base Address", 8),
     Row::Number("System Vector Base", 4),
-    Row::Number("GIC Version", 1),
+    Row::OneOf(
+        "GIC Version",
+        1,
+        &[
+            Word(1, "GICv1"),
+            Word(2, "GICv2"),
+            Word(3, "GICv3"),
+            Word(4, "GICv4"),
+        ],
+    ),
     Row::Reserved(3),
 ];
 

@@ -12,7 +12,7 @@ use acpi_base::error::{Error, R};
 use acpi_base::object::Aml;
 use acpi_base::parts::write_parts;
 use acpi_base::patch::write_at;
-use acpi_base::row::{Row, record_of_numbers};
+use acpi_base::row::{Row, Word, record_of_numbers};
 use acpi_base::sink::AmlSink;
 use std::alloc::Global;
 use std::marker::Model;
@@ -249,8 +249,26 @@ pub const SYSTEM_LOCALITY: [Row; 11] = [
     Row::Number("Type", 2),
     Row::Reserved(2),
     Row::Number("Length", 4),
-    Row::Number("Flags", 1),
-    Row::Number("Data Type", 1),
+    Row::Flags(
+        "Flags",
+        1,
+        &[
+            Word(16, "Minimum Transfer Size"),
+            Word(32, "Non-sequential Transfers"),
+        ],
+    ),
+    Row::OneOf(
+        "Data Type",
+        1,
+        &[
+            Word(0, "Access Latency"),
+            Word(1, "Read Latency"),
+            Word(2, "Write Latency"),
+            Word(3, "Access Bandwidth"),
+            Word(4, "Read Bandwidth"),
+            Word(5, "Write Bandwidth"),
+        ],
+    ),
     Row::Number("MinTransferSize", 1),
     Row::Reserved(1),
     Row::Number("Number of Initiator Proximity Domains", 4),
