@@ -1,11 +1,17 @@
 #!/bin/sh
 # Boots an unmodified Linux under QEMU from an image of tables, and prints what the kernel says of each. Not a part of the gate.
 #
-#     VMLINUZ=KERNEL sh boot.sh IMAGE [BASE]
+#     VMLINUZ=KERNEL sh boot.sh IMAGE [BASE [NODES PROCESSORS]]
 #
-# The image's bytes are those from the address BASE on, 0x1c000000 if none is named, and its RSDP is the last one in it. The
-# machine is a q35 with two processors and 512 MiB. The kernel finds no disk and stops there, which is no fault. The status is 1
-# where it didn't take the RSDP, complains about a table or about AML, or doesn't come so far.
+# The bytes of the image begin at the address BASE, in hexadecimal with or without 0x (1c000000 if none is named). The tables
+# are in the first MiB from there, and the 3 MiB after it are reserved for pages that tables point to. Its RSDP is the last one
+# in it. The machine is a q35 with 512 MiB and PROCESSORS processors. Linux has to find NODES nodes of memory, and each table of
+# the image once. NODES and PROCESSORS are 2 if they aren't named, as in the example's image. The kernel finds no disk and stops
+# there, which is no fault. The status is 1 if the kernel didn't take the RSDP or a table, found another number of nodes or
+# processors, complains about a table, AML or what they describe, or doesn't come so far.
+#
+# Linux doesn't sum an RSDP that acpi_rsdp= names, and on x86 it doesn't read the PPTT: of these, `acpitool image` checks the sums
+# of the RSDP, and only the sum of the PPTT is seen here.
 #
 # It takes qemu-system-x86_64 (Debian's package qemu-system-x86) and a kernel with a serial console. Debian's
 # linux-image-cloud-amd64 has one: `apt-get download` the package that it depends on, and unpack it with `dpkg-deb -x`.
@@ -16,9 +22,18 @@ fail() {
     exit 1
 }
 
-[ $# -ge 1 ] || fail 'usage: VMLINUZ=KERNEL sh boot.sh IMAGE [BASE]'
+[ $# -ge 1 ] && [ $# -le 4 ] && [ $# -ne 3 ] || fail 'usage: VMLINUZ=KERNEL sh boot.sh IMAGE [BASE [NODES PROCESSORS]]'
 image=$1
-base=${2:-0x1c000000}
+base=${2:-1c000000}
+base=${base#0x}
+nodes=${3:-2}
+processors=${4:-2}
+case $base in
+*[!0-9A-Fa-f]* | '') fail "BASE has to be in hexadecimal, and is $2" ;;
+esac
+case $nodes:$processors in
+*[!0-9:]* | :* | *:) fail "NODES and PROCESSORS have to be numbers, and are $nodes and $processors" ;;
+esac
 command -v qemu-system-x86_64 >/dev/null || fail "qemu-system-x86_64 isn't here: Debian has it in qemu-system-x86"
 [ -n "${VMLINUZ:-}" ] || fail 'VMLINUZ has to name a kernel: a vmlinuz file'
 [ -r "$VMLINUZ" ] || fail "the kernel $VMLINUZ can't be read"
@@ -26,29 +41,72 @@ command -v qemu-system-x86_64 >/dev/null || fail "qemu-system-x86_64 isn't here:
 
 at=$(grep -abo 'RSD PTR ' "$image" | tail -n 1 | cut -d: -f1)
 [ -n "$at" ] || fail "there is no RSDP in $image"
+base=$(printf '0x%x' "$((0x$base))")
 rsdp=$(printf '0x%x' $((base + at)))
+errors=$(printf '0x%x' $((base + 0x100000)))
 echo "base $base, RSDP $rsdp"
 
 work=$(mktemp -d)
 trap 'rm -rf "$work"' EXIT
 
+# The tables in the image, by their own bytes and not by the XSDT: a signature, and a length after which all bytes sum to zero.
+# Only a FACS has no sum. Each line has a signature and an offset.
+od -An -v -tu1 -w1 "$image" | awk '
+    { byte[NR - 1] = $1 }
+    function signature(from,    i, letter, letters) {
+        for (i = from; i < from + 4; i++) {
+            letter = sprintf("%c", byte[i])
+            if (letter !~ /[A-Z0-9_!]/) return ""
+            letters = letters letter
+        }
+        return letters
+    }
+    END {
+        for (from = 0; from + 36 <= NR; from++) {
+            letters = signature(from)
+            size = byte[from + 4] + 256 * (byte[from + 5] + 256 * (byte[from + 6] + 256 * byte[from + 7]))
+            if (letters == "" || size < 36 || from + size > NR) continue
+            sum = 0
+            for (i = from; i < from + size; i++) sum += byte[i]
+            if (letters == "FACS" && size == 64 || letters != "FACS" && sum % 256 == 0) {
+                print letters, from
+                from += size - 1
+            }
+        }
+    }
+' >"$work/tables"
+
 # Without nokaslr the kernel may put itself where the tables are, and without the last word it doesn't sum their bytes.
-timeout 300 qemu-system-x86_64 -M q35 -m 512 -smp 2 -nographic -no-reboot -kernel "$VMLINUZ" \
+timeout 300 qemu-system-x86_64 -M q35 -m 512 -smp "$processors" -nographic -no-reboot -kernel "$VMLINUZ" \
     -device "loader,file=$image,addr=$base,force-raw=on" \
-    -append "console=ttyS0 panic=-1 acpi_rsdp=$rsdp memmap=4M#$base nokaslr acpi_force_table_verification" \
+    -append "console=ttyS0 panic=-1 acpi_rsdp=$rsdp memmap=1M#$base memmap=3M\$$errors nokaslr acpi_force_table_verification" \
     </dev/null >"$work/console" 2>&1 || { cat "$work/console" >&2; fail "QEMU didn't end as it should"; }
 tr -d '\r' <"$work/console" >"$work/lines"
 
 # What the kernel says of tables, processors, memory and the devices that it found by them.
-grep -aE 'ACPI|SRAT|NUMA|acpi/hmat|PPTT|BERT|HEST|GHES|APEI|MCFG|MMCONFIG|smpboot|smp: ' "$work/lines" || true
+parts='ACPI|SRAT|SLIT|NUMA|hmat|HMAT|PPTT|BERT|HEST|GHES|APEI|MCFG|MMCONFIG|PCI|pci_bus|APIC|smpboot|smp: '
+grep -aE "$parts" "$work/lines" || true
 
 grep -aq "ACPI: RSDP 0x0*$(printf '%X' "$rsdp") " "$work/lines" || fail "the kernel didn't take the RSDP"
 grep -aq 'Unable to mount root fs' "$work/lines" || fail "the kernel didn't come to its disk"
 
-# What it says against a table or AML. Of HEST it tells, where AML has no \_SB._OSC, that firmware isn't asked first.
-against='Error|Warning|BUG|[Ii]nvalid|[Ii]ncorrect|[Bb]ad |not correct|ignor|disabl|[Ff]ailed|[Uu]nexpected'
-if grep -aE "(ACPI|SRAT|SLIT|HMAT|hmat|PPTT|BERT|HEST|GHES|MCFG).*($against)|Firmware Bug|MP-BIOS bug" "$work/lines" |
-    grep -av 'Failed to enable APEI firmware first mode' >"$work/complaints"; then
+# Each table is taken once.
+while read -r signature from; do
+    address=$(printf '%X' $((base + from)))
+    count=$(grep -acE "ACPI: $signature 0x0*$address " "$work/lines" || true)
+    [ "$count" -eq 1 ] || fail "the kernel took the $signature at 0x$address $count times"
+done <"$work/tables"
+
+found=$(sed -n 's/.*smp: Brought up \([0-9]*\) nodes*, \([0-9]*\) CPUs*.*/\1 \2/p' "$work/lines")
+[ "$found" = "$nodes $processors" ] || fail "the kernel found ${found:-no} nodes and processors, and not $nodes $processors"
+
+# What it says against a table, AML or what they describe. It says two things that are no complaints: AML without \_SB._OSC
+# doesn't ask for errors to go to firmware first, and a root bridge without _PXM has no node.
+against="Can.t|Can not|[Cc]annot|[Uu]nable|[Nn]o memory|Not used|not enabled|not using|not correct|not found|[Uu]nknown|wrong"
+against="$against|[Ee]rror|Warning|[Ii]nvalid|[Ii]ncorrect|[Bb]ad |[Ii]gnor|[Dd]isabl|[Ff]ail|[Uu]nexpected|[Uu]nsupported"
+anywhere='Firmware (Bug|Warn|Info)|MP-BIOS bug|BIOS reported|No IOAPIC|cut here|BUG:|WARNING:|Oops|PM-Timer .*(fail|not)'
+if grep -aE "($parts).*($against)|$anywhere" "$work/lines" |
+    grep -avE 'Failed to enable APEI firmware first mode|Unknown NUMA node; performance will be reduced' >"$work/complaints"; then
     cat "$work/complaints" >&2
     fail 'the kernel complains'
 fi

@@ -1,47 +1,68 @@
 #!/bin/sh
 # Disassembles with ACPICA's iasl each table that the example writes, its definition blocks with their AML, and prints a line
-# for each. Ends with status 1 at the first complaint about a table. The example and what it stands on are proved first; with a
-# folder as its argument, the tables are the files of that folder. Not a part of the gate.
+# for each. With a folder as its argument, the tables are the files of that folder. Without one, the example and what it stands on
+# are proved first. Not a part of the gate. The status is 1 if iasl refuses a table, or if there is none.
+#
+# iasl refuses a table if it ends with an error, writes no text, or says that the bytes are wrong. It also warns of what it can't
+# know from one table, as of names that another definition block declares. These warnings are printed, and don't count.
 #
 # Tried with release 20200925, Debian's package acpica-tools. It knows ACPI 6.3. In these tables it doesn't know:
-# - PPTT: the cache's id (offset 24 of a cache's node, and flag 128 that tells it);
+# - PPTT: the cache's id (offset 24 of a cache's node, and the flag 128 for it);
 # - HMAT: the minimum transfer size (offset 10 of a matrix) and the flags 16 and 32 beside the hierarchy.
-# It passes over them without a word, so nothing here says that they are right. Nor does it see that a last structure tells more
-# bytes than there are, or bytes behind a table in its file; acpiread does.
+# It doesn't write of these, so nothing here says that they are right. Nor does it see a last structure that is longer than the
+# rest of the table, or bytes after a table in its file. acpiread sees both.
 set -eu
-cd "$(dirname "$0")"
 
-if ! command -v iasl >/dev/null; then
-    echo "iasl isn't here: Debian has it in acpica-tools" >&2
+fail() {
+    echo "$1" >&2
     exit 1
+}
+
+command -v iasl >/dev/null || fail "iasl isn't here: Debian has it in acpica-tools"
+[ $# -le 1 ] || fail 'usage: sh iasl.sh [FOLDER]'
+
+# The folder is the caller's, from where the caller is.
+if [ $# -eq 1 ]; then
+    [ -d "$1" ] || fail "$1: there is no such folder"
+    tables=$(cd "$1" && pwd) || fail "$1: the folder can't be read"
+    [ -n "$(ls -A "$tables")" ] || fail "$1: the folder is empty"
 fi
 
+cd "$(dirname "$0")"
 . ./crates.sh
 
-if [ $# -gt 0 ]; then
-    tables=$1
-else
+if [ $# -eq 0 ]; then
     prove_libraries acpi_example
     tables=$work/acpi
     mkdir "$tables"
     quietly acpi_example run -- "$tables" 0x1c000000
 fi
 
-# Where iasl said something against a table: what it says of it, and what it writes into the text.
-said='error|warning|invalid|unknown|incorrect|\*\*\*\*'
-written='Error:|Warning:|Invalid|Unknown|Incorrect|\*\*\*\*'
+# What iasl says against bytes, on its output and in the text that it writes.
+said='error|invalid|unknown|incorrect|\*\*\*\*'
+written='Error:|Invalid|Unknown|Incorrect|\*\*\*\*'
+# What it says of names and methods that it doesn't find in this table.
+warned='External|external|iASL Warning|unresolved|Unknown method, guessing'
+
+# Writes the text of a table to a file, and what iasl says to $work/log. The status is 1 if iasl refuses the table.
+disassemble() {
+    table=$1
+    text=$2
+    iasl -p "${text%.dsl}" -d "$table" >"$work/log" 2>&1 && [ -s "$text" ] &&
+        ! grep -Ei "$said" "$work/log" | grep -Evq "$warned" && ! grep -E "$written" "$text" | grep -Evq "$warned"
+}
 
 for table in "$tables"/*; do
     name=${table##*/}
     # All tables at their addresses.
     [ "$name" != image ] || continue
     text=$work/$name.dsl
-    if ! iasl -p "$work/$name" -d "$table" >"$work/log" 2>&1 || [ ! -s "$text" ] ||
-        grep -Eiq "$said" "$work/log" || grep -Eq "$written" "$text"; then
+    if ! disassemble "$table" "$text"; then
         echo "$name: refused by iasl" >&2
         grep -Ei "$said" "$work/log" >&2 || cat "$work/log" >&2
         grep -Es "$written" "$text" >&2 || true
         exit 1
     fi
+    grep -E "$warned" "$work/log" | sed "s/^/$name: /" || true
     echo "$name: $(sed -n 's/^ACPI: \(....\) .*/\1/p' "$work/log") disassembled"
 done

@@ -3,6 +3,7 @@
 ghost use Rattle.std.specs.Prelude.{◌≡◌};
 
 use acpi_tables::Error as TableError;
+use acpi_tables::layout::ImageFault;
 use std::io;
 use thiserror::Error;
 
@@ -12,6 +13,9 @@ pub enum Failure {
     /// The words aren't a folder and a base.
     #[error("usage: acpi_example FOLDER BASE")]
     Usage,
+    /// The image and the pages of errors would pass the last address.
+    #[error("BASE {0:#x}: the 0x111000 bytes from there on pass the last address")]
+    Base(u64),
     /// The system refused the words, or took no output.
     #[error("{what}: {error}")]
     System {
@@ -36,6 +40,9 @@ pub enum Failure {
         name: &'static str,
         error: TableError,
     },
+    /// The image has a fault.
+    #[error("image: {0}")]
+    Image(ImageFault),
 }
 
 impl Failure {
@@ -46,7 +53,7 @@ impl Failure {
         ensures { result ≡ status_of self.now }
     {
         match self {
-            Failure::Usage => 2,
+            Failure::Usage | Failure::Base(_) => 2,
             _ => 1,
         }
     }

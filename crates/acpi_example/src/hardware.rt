@@ -1,8 +1,10 @@
 //! The fixed hardware of ACPI, and the sources of errors.
 
+ghost use Rattle.std.specs.Prelude.{◌+◌, ◌≤◌, ◌^◌};
+
 use crate::machine::{
-    BOOT_ERRORS, CONTROL_PORTS, ERROR_STATUS, EVENT_PORTS, GENERAL_EVENT_BYTES,
-    GENERAL_EVENT_PORTS, SCI, TIMER_PORTS,
+    BOOT_ERRORS, BYTES_FROM_BASE, CONTROL_PORTS, ERROR_PAGE, ERROR_STATUS, EVENT_PORTS,
+    GENERAL_EVENT_BYTES, GENERAL_EVENT_PORTS, SCI, TIMER_PORTS,
 };
 use crate::oem::{OEM_ID, OEM_REVISION, OEM_TABLE_ID};
 use acpi_tables::R;
@@ -46,8 +48,11 @@ pub fn fixed_hardware() -> FADTBuilder {
         .flag(Flags::TmrValExt)
 }
 
-/// The sources of errors: the root ports of PCI Express, and firmware, which writes to a page of memory that is polled.
-pub fn error_sources(alloc: Global, base: u64) -> R<HEST> {
+/// The sources of errors: the root ports of PCI Express, and firmware, which writes to a page of memory that is polled. `HEST`
+/// writes 0 for Enabled of the root ports, so their source is disabled.
+pub fn error_sources(alloc: Global, base: u64) -> R<HEST>
+    requires { base + BYTES_FROM_BASE ≤ 2 ^ 64 }
+{
     let mut table = HEST::new(alloc, OEM_ID, OEM_TABLE_ID, OEM_REVISION);
     table.add_structure(PcieAerRootPort::new_global())?;
     let polled = NotificationStructure::new(NotificationType::Polled).poll_interval_ms(1000);
@@ -56,7 +61,7 @@ pub fn error_sources(alloc: Global, base: u64) -> R<HEST> {
         64,
         0,
         AccessSize::QwordAccess,
-        base.wrapping_add(ERROR_STATUS),
+        base + ERROR_STATUS,
     );
     table.add_structure(
         GenericHardwareSource::new(1, hest::EnabledStatus::Enabled)
@@ -65,18 +70,20 @@ pub fn error_sources(alloc: Global, base: u64) -> R<HEST> {
             .max_raw_length(0x1000)
             .error_status_address(status)
             .notification(polled)
-            .error_status_block_len(0x1000),
+            .error_status_block_len(ERROR_PAGE),
     )?;
     Ok(table)
 }
 
 /// The page to which firmware writes the errors of the boot before. It has none.
-pub fn boot_errors(base: u64) -> BERT {
+pub fn boot_errors(base: u64) -> BERT
+    requires { base + BYTES_FROM_BASE ≤ 2 ^ 64 }
+{
     BERT::new(
         OEM_ID,
         OEM_TABLE_ID,
         OEM_REVISION,
-        0x1000,
-        base.wrapping_add(BOOT_ERRORS),
+        ERROR_PAGE,
+        base + BOOT_ERRORS,
     )
 }

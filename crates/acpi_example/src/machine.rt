@@ -53,3 +53,9 @@ pub const ERROR_STATUS: u64 = 0x10_0000;
 
 /// The page to which firmware writes the errors of the boot before, as an offset from the base of the tables.
 pub const BOOT_ERRORS: u64 = 0x11_0000;
+
+/// The bytes of a page of errors.
+pub const ERROR_PAGE: u32 = 0x1000;
+
+/// The bytes from the base of the tables to the end of the pages of errors.
+pub const BYTES_FROM_BASE: u64 = 0x11_1000;

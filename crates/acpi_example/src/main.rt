@@ -1,10 +1,11 @@
 //! What a virtual machine monitor does: it builds the tables of a machine, lays them at their addresses and writes them to
 //! files. `acpi_example FOLDER BASE` writes each table to a file of the folder, and the image of all tables to `image`. The
-//! image is for the physical address BASE, a multiple of 64 in hexadecimal. The program prints BASE and the RSDP's address.
+//! image is for the physical address BASE, a multiple of 64 in hexadecimal, and it is checked before it is written. The two pages
+//! for errors are in the 0x111000 bytes from BASE on. The program prints BASE and the RSDP's address.
 //! Status 0: every file was written. 1: a call was refused, and a line on standard error says which. 2: the words are wrong.
 #![tactic(auto)]
 
-ghost use Rattle.std.specs.Prelude.{◌≡◌, ◌%◌, IfOk};
+ghost use Rattle.std.specs.Prelude.{◌≡◌, ◌%◌, ◌+◌, ◌≤◌, ◌^◌, IfOk};
 
 mod domains;
 mod failure;
@@ -22,11 +23,12 @@ use crate::domains::{attributes, distances};
 use crate::failure::Failure;
 use crate::hardware::{boot_errors, error_sources, fixed_hardware};
 use crate::image::image;
-use crate::machine::PROCESSORS;
+use crate::machine::{BYTES_FROM_BASE, PROCESSORS};
 use crate::namespace::namespace_block;
 use crate::platform::{configuration_space, interrupt_controllers, memory};
 use crate::table::package_block;
 use crate::topology::topology;
+use acpi_tables::layout::check_image;
 use acpi_tables::{Aml, R};
 use std::alloc::Global;
 use std::io::Print;
@@ -59,7 +61,8 @@ fn run(rt: &(impl Env + Files + Print + AllocGlobal)) -> Result<(), Failure> {
 
 // The folder and the base.
 fn arguments(rt: &(impl Env + AllocGlobal)) -> Result<(String, u64), Failure>
-    ensures { IfOk result (λ wanted. wanted.1 % 64 ≡ 0) }
+    ensures unit { IfOk result (λ wanted. wanted.1 % 64 ≡ 0) }
+    ensures room { IfOk result (λ wanted. wanted.1 + BYTES_FROM_BASE ≤ 2 ^ 64) }
 {
     let words = env::args(rt).map_err(|error| Failure::System {
         what: "arguments",
@@ -70,7 +73,12 @@ fn arguments(rt: &(impl Env + AllocGlobal)) -> Result<(String, u64), Failure>
         return Err(Failure::Usage);
     };
     match u64::from_str_radix(base.trim_start_matches("0x"), 16) {
-        Ok(base) if base % 64 == 0 => Ok((folder, base)),
+        Ok(base) if base % 64 == 0 => {
+            if u64::MAX - base < BYTES_FROM_BASE - 1 {
+                return Err(Failure::Base(base));
+            }
+            Ok((folder, base))
+        }
         _ => Err(Failure::Usage),
     }
 }
@@ -104,7 +112,9 @@ fn save_memory(rt: &impl Files, alloc: Global, folder: &str) -> Result<(), Failu
 }
 
 // The tables of errors.
-fn save_errors(rt: &impl Files, alloc: Global, folder: &str, base: u64) -> Result<(), Failure> {
+fn save_errors(rt: &impl Files, alloc: Global, folder: &str, base: u64) -> Result<(), Failure>
+    requires { base + BYTES_FROM_BASE ≤ 2 ^ 64 }
+{
     save(rt, alloc, folder, "hest", error_sources(alloc, base))?;
     save(rt, alloc, folder, "bert", Ok(boot_errors(base)))
 }
@@ -121,17 +131,19 @@ fn save<T: Aml + Drop>(
     write_file(rt, alloc, folder, name, &bytes)
 }
 
-// Writes the image to a file of the folder, and prints the addresses of its first byte and of its RSDP.
+// Checks the image, writes it to a file of the folder, and prints the addresses of its first byte and of its RSDP.
 fn save_image(
     rt: &(impl Files + Print),
     alloc: Global,
     folder: &str,
     base: u64,
 ) -> Result<(), Failure>
-    requires { base % 64 ≡ 0 }
+    requires unit { base % 64 ≡ 0 }
+    requires room { base + BYTES_FROM_BASE ≤ 2 ^ 64 }
 {
     let name = "image";
     let image = image(alloc, base).map_err(|error| Failure::Table { name, error })?;
+    check_image(alloc, &image.bytes, base, image.rsdp).map_err(Failure::Image)?;
     write_file(rt, alloc, folder, name, &image.bytes)?;
     println!(rt; "base {base:#x} RSDP {:#x}", image.rsdp).map_err(|error| Failure::System {
         what: "standard output",

@@ -82,7 +82,9 @@ module _ (base : ℕ) (oem : Oem) (facs dsdt : List ℕ) (fadt : FADTBuilder) {X
         (fits_is base (length p.bytes) (length (map f xs)) (omega (arith, low, ap length bytes_are)) (omega (arith, few, counted)))
 
     pub shown_is : (rsdp : ℕ) → (base + length made ≤ 2 ^ 64 → rsdp ≡ (with_pointer base oem (record { bytes = bytes; places = places' })).rsdp) → base + length made ≤ 2 ^ 64
-        → record { bytes = made; rsdp = rsdp } ≡ image base oem facs dsdt fadt (fronts (map f xs))
+        → record { bytes = made; rsdp = rsdp; places = places } ≡ image base oem facs dsdt fadt (fronts (map f xs))
     shown_is rsdp at low =
-        ap (λ b. record { bytes = b; rsdp = rsdp }) bytes_are
-        ∙ ap (λ r. record { bytes = (image base oem facs dsdt fadt (fronts (map f xs))).bytes; rsdp = r }) (at low ∙ ap (λ l. (with_pointer base oem l).rsdp) laid_is)
+        let p = image base oem facs dsdt fadt (fronts (map f xs)) in
+        ap (λ b. record { bytes = b; rsdp = rsdp; places = places }) bytes_are
+        ∙ ap (λ r. record { bytes = p.bytes; rsdp = r; places = places }) (at low ∙ ap (λ l. (with_pointer base oem l).rsdp) laid_is)
+        ∙ ap (λ l. record { bytes = p.bytes; rsdp = p.rsdp; places = l }) (sym read' ∙ ap (λ (l : Laid). l.places) laid_is)

@@ -1,22 +1,22 @@
 -- Addresses, read out of the bytes of the tables that contain them.
-use Rattle.std.proofs.Common.{◌≡◌, ℕ, ◌+◌, ◌*◌, ◌^◌, ◌<◌, ◌≤◌, List, [], ◌∷◌, ◌++◌, length, map, take, drop, get_or, refl, sym, ap, ◌∙◌, arith, length-append, inl, zero, suc}
-use Rattle.std.specs.Prelude.{sum, codes}
+use Rattle.std.proofs.Common.{◌≡◌, ℕ, ◌+◌, ◌*◌, ◌^◌, ◌<◌, ◌≤◌, List, [], ◌∷◌, ◌++◌, length, map, take, drop, get_or, refl, ap, ◌∙◌, arith, length-append, inl, zero, suc}
+use Rattle.std.specs.Prelude.{sum}
 use Rattle.std.proofs.Math.Seq.{drop-append-add}
-use Rattle.std.proofs.lemmas.List.{append-nil, take_at, get_or-map, length-map}
+use Rattle.std.proofs.lemmas.List.{take_at, get_or-map, length-map}
 use Rattle.std.specs.List.{concat}
 use Rattle.acpi_base.specs.declared.oem.Oem.{Oem}
 use Rattle.acpi_base.specs.Bytes.{le, put, carried, complement, field_at}
 use Rattle.acpi_base.specs.Fields.{fields_joined}
 use Rattle.acpi_base.proofs.Bytes.{carried_le, length_le}
 use Rattle.acpi_base.proofs.Ends.{drop_put}
-use Rattle.acpi_core.specs.Listing.{Listing, IsListing, bytes_of}
+use Rattle.acpi_core.specs.Listing.{IsListing, bytes_of}
 use Rattle.acpi_core.specs.Offset.{offset_of, structure_at}
 use Rattle.acpi_core.proofs.Offsets.{are_true, stand}
 use Rattle.acpi_fixed.specs.declared.fadt.FADTBuilder.{FADTBuilder}
-use Rattle.acpi_fixed.specs.Fadt.{fadt_bytes, header_fields, fadt_fields, builder_bytes}
+use Rattle.acpi_fixed.specs.Fadt.{fadt_bytes, header_fields, fadt_fields}
 use Rattle.acpi_fixed.specs.Rsdp.{rsdp_bytes, rsdp_for}
-use Rattle.acpi_layout.specs.Image.{Laid, pointing, listing}
-use Rattle.acpi_layout.specs.Laws.{Points, ImagesPoint, xsdt_address}
+use Rattle.acpi_layout.specs.Image.{pointing, listing}
+use Rattle.acpi_layout.specs.Laws.{ImagesPoint, xsdt_address}
 use Rattle.acpi_layout.proofs.Images.{size_listing}
 
 -- a number, after a header of 36 bytes, whose field the checksum doesn't change
@@ -35,7 +35,7 @@ number_in_fadt p place w v header within is small =
 
 -- ---- the XSDT's entries
 
-is_listing : (base : ℕ) (oem : Oem) (places : List ℕ) → length oem.id ≡ 6 → length oem.table_id ≡ 8 → 36 + 8 * length places < 2 ^ 32 → IsListing (listing base oem places)
+pub is_listing : (base : ℕ) (oem : Oem) (places : List ℕ) → length oem.id ≡ 6 → length oem.table_id ≡ 8 → 36 + 8 * length places < 2 ^ 32 → IsListing (listing base oem places)
 is_listing base oem places six eight fits = record {
   signature = refl;
   id = six;

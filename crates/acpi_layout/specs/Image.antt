@@ -49,10 +49,11 @@ listing base oem places = record (xsdt oem) { structures = map (λ place. le 8 (
 
 -- ---- the image
 
--- The bytes from an address on, and the RSDP's address.
+-- The bytes from an address on, the RSDP's address, and where among the bytes the FADT and the tables begin.
 pub record Picture : Type 0 where
   pub bytes : List ℕ
   pub rsdp : ℕ
+  pub places : List ℕ
 
 -- the FACS, the DSDT after it, and then the FADT and the tables in order
 abbrev pub tables_laid : ℕ → List ℕ → List ℕ → FADTBuilder → List (List ℕ) → Laid
@@ -67,6 +68,7 @@ abbrev pub with_pointer : ℕ → Oem → Laid → Picture
 with_pointer base oem laid = record {
   bytes = padded 16 (with_xsdt base oem laid) ++ rsdp_bytes (rsdp_for oem.id (base + length (padded 8 laid.bytes)));
   rsdp = base + length (padded 16 (with_xsdt base oem laid));
+  places = laid.places;
 }
 
 abbrev pub image : ℕ → Oem → List ℕ → List ℕ → FADTBuilder → List (List ℕ) → Picture

@@ -8,9 +8,9 @@ use Rattle.acpi_fixed.specs.declared.fadt.FADTBuilder.{FADTBuilder}
 use Rattle.acpi_layout.specs.declared.layout.Image.{Image}
 use Rattle.acpi_layout.specs.Image.{Picture, image, fronts, image_end}
 
--- the bytes and the address that were answered
+-- the bytes, the address and the offsets that were returned
 abbrev pub shown : Image → Picture
-shown made = record { bytes = made.bytes.items; rsdp = made.rsdp }
+shown made = record { bytes = made.bytes.items; rsdp = made.rsdp; places = made.places.items }
 
 -- The image, where all tables are whole and there is place for it. Else there is none, and the refusal is that of the first
 -- table that isn't whole, else FieldWidth. Or memory ran out.

@@ -1,3 +1,6 @@
 pub mod Image
 pub mod Lays
 pub mod Laws
+pub mod Addresses
+pub mod Found
+pub mod ReadBack

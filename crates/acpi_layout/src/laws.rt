@@ -1,6 +1,7 @@
 //! Laws over the definition of an image. Each function is a law: it does nothing, and ensures it.
 
 ghost use Rattle.acpi_layout.specs.Laws.{ImagesStand, ImagesPoint, ImagesAreAligned};
+ghost use Rattle.acpi_layout.specs.ReadBack.{ImagesAreFound};
 
 /// In an image each table's bytes stand at its address: the FACS, the DSDT, the FADT and the tables, the XSDT and the RSDP. No two
 /// overlap, and gaps are zero.
@@ -17,4 +18,10 @@ pub fn images_point()
 /// The tables and the XSDT stand at multiples of 8, and the RSDP at one of 16.
 pub fn images_are_aligned()
     ensures { ImagesAreAligned }
+{}
+
+/// What `lay` makes of correct tables is an image by the definition of `check_image`. Its tables are exactly these, at the
+/// addresses that `lay` wrote, which are read from the bytes.
+pub fn images_are_found()
+    ensures { ImagesAreFound }
 {}

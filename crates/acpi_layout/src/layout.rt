@@ -25,6 +25,8 @@ pub struct Image {
     pub bytes: Vec<u8>,
     /// The physical address of the RSDP (ACPI 6.5, 5.2.5), from which the other tables are found.
     pub rsdp: u64,
+    /// The offset in `bytes` of the FADT, and that of each table in order. The FACS is at offset 0, and the DSDT at 64.
+    pub places: Vec<u64>,
 }
 
 // The FACS at base, the DSDT after it, and the FADT that points to both.
@@ -115,5 +117,9 @@ pub fn lay(
     if bytes.len() as u64 - 1 > u64::MAX - base {
         return Err(Error::FieldWidth);
     }
-    Ok(Image { bytes, rsdp })
+    Ok(Image {
+        bytes,
+        rsdp,
+        places,
+    })
 }

@@ -1,6 +1,11 @@
 //! The tables of a guest at their addresses, in one image.
 #![tactic(auto)]
 
+mod apart;
+pub mod check;
+pub mod fault;
+mod found;
 pub mod laws;
 pub mod layout;
+pub mod located;
 mod place;

@@ -2,7 +2,7 @@
 
 use acpi_tables::facs::FACS;
 use acpi_tables::fadt::FADTBuilder;
-use acpi_tables::layout::{Image, lay};
+use acpi_tables::layout::{Image, check_image, lay};
 use acpi_tables::mcfg::MCFG;
 use acpi_tables::read::Table;
 use acpi_tables::rhct::IsaStringNode;
@@ -132,7 +132,7 @@ fn one_table(rt: HostRuntime) -> Result<(), Fail> {
 }
 
 // The number in this many bytes at an offset, lowest first.
-fn number(bytes: &[u8], offset: u64, width: u64) -> u64 {
+pub(crate) fn number(bytes: &[u8], offset: u64, width: u64) -> u64 {
     let mut value = 0u64;
     for i in 0..width {
         let place = offset.wrapping_add(width).wrapping_sub(i).wrapping_sub(1);
@@ -219,7 +219,10 @@ fn follows(
     }
     gap(bytes, base, end, listed, 8)?;
     let end = listed.wrapping_add(xsdt.bytes().len() as u64);
-    gap(bytes, base, end, image.rsdp, 16)
+    gap(bytes, base, end, image.rsdp, 16)?;
+
+    let found = check_image(alloc, bytes, base, image.rsdp)?;
+    equal(&found.len(), &tables.len().wrapping_add(5))
 }
 
 #[test]

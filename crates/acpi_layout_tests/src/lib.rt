@@ -2,6 +2,10 @@
 #![tactic(auto)]
 
 #[cfg(test)]
+mod changed;
+#[cfg(test)]
+mod found;
+#[cfg(test)]
 mod large;
 #[cfg(test)]
 mod layout;

@@ -1,6 +1,7 @@
 //! Why a run fails.
 
 use acpi_tables::Error;
+use acpi_tables::layout::ImageFault;
 use acpi_tables::read::ReadError;
 use std::alloc::{AllocError, AllocFailed};
 use std::io;
@@ -15,6 +16,7 @@ pub enum Fault {
     /// A call returned another error.
     Built(Error),
     Read(ReadError),
+    Image(ImageFault),
     /// The output can't be written.
     Output(io::Error),
 }
@@ -33,6 +35,15 @@ impl From<ReadError> for Fault {
         match error {
             ReadError::Memory => Fault::Memory,
             other => Fault::Read(other),
+        }
+    }
+}
+
+impl From<ImageFault> for Fault {
+    fn from(error: ImageFault) -> Fault {
+        match error {
+            ImageFault::Memory => Fault::Memory,
+            other => Fault::Image(other),
         }
     }
 }

@@ -4,7 +4,7 @@ use crate::fault::Fault;
 use crate::trial::{Grows, Trial};
 use acpi_tables::facs::FACS;
 use acpi_tables::fadt::FADTBuilder;
-use acpi_tables::layout::{Image, lay};
+use acpi_tables::layout::{Image, check_image, lay};
 use acpi_tables::mcfg::MCFG;
 use acpi_tables::sdt::Sdt;
 use acpi_tables::{Aml, R};
@@ -30,13 +30,15 @@ fn image(alloc: Global, block: &Sdt, table: &MCFG) -> R<Image> {
     )
 }
 
-/// An image, which borrows the definition block and the tables.
+/// An image, which borrows the definition block and the tables, and the list of its tables.
 pub fn images(trial: &mut Trial, alloc: Global) -> Result<(), Fault> {
     let block = trial.make(&0x1000u16, || Ok(Sdt::empty(alloc)?))?;
     let table = trial.make(&block, || Ok(mcfg(alloc)?))?;
     for lent in [&block as &dyn Aml, &table] {
         let image = trial.make(lent, || Ok(image(alloc, &block, &table)?))?;
         trial.count(&image.bytes);
+        let check = || Ok(check_image(alloc, &image.bytes, 0x1000, image.rsdp)?);
+        trial.make(lent, check)?;
     }
     Ok(())
 }

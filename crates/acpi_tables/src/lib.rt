@@ -12,7 +12,7 @@
 //! use acpi_tables::gas::{AccessSize, AddressSpace, GAS};
 //! use acpi_tables::hest::{HEST, PcieAerRootPort};
 //! use acpi_tables::hmat::{HMAT, MemoryProximityDomain};
-//! use acpi_tables::layout::{Image, lay};
+//! use acpi_tables::layout::{Image, ImageFault, Located, check_image, lay};
 //! use acpi_tables::madt::{EnabledStatus, LocalInterruptController, MADT, ProcessorLocalApic};
 //! use acpi_tables::mcfg::MCFG;
 //! use acpi_tables::pptt::{PPTT, ProcessorNode};
@@ -140,6 +140,11 @@
 //!     lay(0x1c00_0000, OEM, TABLE, 1, &block, &facs, fadt, tables)
 //! }
 //!
+//! // layout: where each table of an image is.
+//! fn places(alloc: Global, image: &Image) -> Result<Vec<Located>, ImageFault> {
+//!     check_image(alloc, &image.bytes, 0x1c00_0000, image.rsdp)
+//! }
+//!
 //! // read: the report of a table's bytes.
 //! fn report(alloc: Global, bytes: &[u8]) -> Result<String, ReadError> {
 //!     let table = Table::check(bytes)?;
@@ -210,9 +215,12 @@ pub mod hmat {
     };
 }
 
-/// The tables of a guest at their addresses, in one image.
+/// The tables of a guest at their addresses, in one image, which is made and checked.
 pub mod layout {
+    pub use acpi_layout::check::check_image;
+    pub use acpi_layout::fault::ImageFault;
     pub use acpi_layout::layout::{Image, lay};
+    pub use acpi_layout::located::Located;
 }
 
 /// The Multiple APIC Description Table and its structures (ACPI 6.5, 5.2.12). `hest` has a type `EnabledStatus`, too: write

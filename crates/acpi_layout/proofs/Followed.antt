@@ -1,0 +1,86 @@
+-- An image has one list of tables: what is found at each step is what every list has there.
+use Rattle.std.proofs.Common.{◌≡◌, ℕ, ◌<◌, List, [], ◌∷◌, ◌++◌, length, get_or, sym, ap, ◌∙◌, arith, subst, codes}
+use Rattle.std.specs.List.{All}
+use Rattle.std.proofs.lemmas.List.{ext_get_or}
+use Rattle.acpi_base.specs.Bytes.{field_at}
+use Rattle.acpi_base.specs.Table.{IsTrueTable}
+use Rattle.acpi_layout.specs.declared.located.Located.{Located}
+use Rattle.acpi_layout.specs.Addresses.{Lies}
+use Rattle.acpi_layout.specs.Found.{contents, IsPointer, IsNamedTableAt, AreEntries, IsOnlyFadt, IsControlAt, AreApart, IsImage}
+use Rattle.acpi_layout.proofs.Founds.{none_yet}
+
+-- the FADT is in the image, as an entry of the XSDT
+pub fadt_lies : (base : ℕ) (bytes : List ℕ) (xsdt : Located) (es ys : List Located) (f : Located) → ys ≡ es → AreEntries base bytes xsdt es → IsOnlyFadt ys f → Lies base bytes f.address f.length
+fadt_lies base bytes xsdt es ys f same are is =
+    let inside : is.index < length es = omega (arith, ap length same, is.inside) in
+    let t = get_or es is.index none_yet in
+    let there : t ≡ f = ap (λ (l : List Located). get_or l is.index none_yet) (sym same) ∙ is.is none_yet in
+    let at = are.each is.index none_yet inside in
+    subst (λ (x : Located). Lies base bytes x.address x.length) there (subst (λ a. Lies base bytes a t.length) (sym (ap (λ (x : Located). x.address) at.is)) at.whole)
+
+module _ (bytes : List ℕ) (base rsdp : ℕ) (tables : List Located) (im : IsImage bytes base rsdp tables) (p : Located) (p_is : IsPointer base bytes rsdp p) where
+  same_pointer : im.pointer ≡ p
+  same_pointer = im.pointer_is.is ∙ sym p_is.is
+
+  pub xsdt_there : IsNamedTableAt base bytes (codes "XSDT") (field_at 24 8 (contents base bytes p)) im.xsdt
+  xsdt_there = subst (λ (t : Located). IsNamedTableAt base bytes (codes "XSDT") (field_at 24 8 (contents base bytes t)) im.xsdt) same_pointer im.xsdt_is
+
+  module _ (x : Located) (x_is : IsNamedTableAt base bytes (codes "XSDT") (field_at 24 8 (contents base bytes p)) x) where
+    same_xsdt : im.xsdt ≡ x
+    same_xsdt = xsdt_there.is_table.is ∙ sym x_is.is_table.is
+
+    pub entries_there : AreEntries base bytes x im.entries
+    entries_there = subst (λ (t : Located). AreEntries base bytes t im.entries) same_xsdt im.entries_are
+
+    pub xsdt_correct : IsTrueTable (contents base bytes x)
+    xsdt_correct = subst (λ (t : Located). IsTrueTable (contents base bytes t)) same_xsdt im.xsdt_is_correct
+
+    module _ (es ys : List Located) (es_are : AreEntries base bytes x es) (read : ys ≡ es) where
+      same_length : length im.entries ≡ length es
+      same_length = omega (arith, entries_there.counted, es_are.counted)
+
+      same_entries : im.entries ≡ ys
+      same_entries =
+          ext_get_or none_yet im.entries es same_length
+          (λ i inside. (entries_there.each i none_yet inside).is ∙ sym (es_are.each i none_yet (omega (arith, same_length, inside))).is) ∙ sym read
+
+      pub fadt_there : IsOnlyFadt ys im.fadt
+      fadt_there = subst (λ (l : List Located). IsOnlyFadt l im.fadt) same_entries im.fadt_is
+
+      pub entries_correct : All (λ table. IsTrueTable (contents base bytes table)) ys
+      entries_correct = subst (λ (l : List Located). All (λ table. IsTrueTable (contents base bytes table)) l) same_entries im.entries_are_correct
+
+      module _ (f : Located) (f_is : IsOnlyFadt ys f) where
+        same_fadt : im.fadt ≡ f
+        same_fadt =
+            let there = fadt_there in
+            let is : get_or ys there.index none_yet ≡ im.fadt = there.is none_yet in
+            let at : there.index ≡ f_is.index = f_is.only there.index none_yet there.inside (ap (λ (t : Located). t.signature) is ∙ there.signature) in
+            sym is ∙ ap (λ i. get_or ys i none_yet) at ∙ f_is.is none_yet
+
+        pub facs_there : IsControlAt base bytes (field_at 132 8 (contents base bytes f)) im.facs
+        facs_there = subst (λ (t : Located). IsControlAt base bytes (field_at 132 8 (contents base bytes t)) im.facs) same_fadt im.facs_is
+
+        pub dsdt_there : IsNamedTableAt base bytes (codes "DSDT") (field_at 140 8 (contents base bytes f)) im.dsdt
+        dsdt_there = subst (λ (t : Located). IsNamedTableAt base bytes (codes "DSDT") (field_at 140 8 (contents base bytes t)) im.dsdt) same_fadt im.dsdt_is
+
+        module _ (a d : Located) (a_is : IsControlAt base bytes (field_at 132 8 (contents base bytes f)) a)
+            (d_is : IsNamedTableAt base bytes (codes "DSDT") (field_at 140 8 (contents base bytes f)) d) where
+          same_facs : im.facs ≡ a
+          same_facs = facs_there.is ∙ sym a_is.is
+
+          same_dsdt : im.dsdt ≡ d
+          same_dsdt = dsdt_there.is_table.is ∙ sym d_is.is_table.is
+
+          pub dsdt_correct : IsTrueTable (contents base bytes d)
+          dsdt_correct = subst (λ (t : Located). IsTrueTable (contents base bytes t)) same_dsdt im.dsdt_is_correct
+
+          pub all_apart : (ts found zs : List Located) → zs ≡ es → found ≡ p ∷ x ∷ (zs ++ (a ∷ d ∷ [])) → ts ≡ found → AreApart ts
+          all_apart ts found zs read' listed read'' =
+              let same : tables ≡ ts =
+              im.listed ∙ ap (λ t. t ∷ im.xsdt ∷ (im.entries ++ (im.facs ∷ im.dsdt ∷ []))) same_pointer
+              ∙ ap (λ t. p ∷ t ∷ (im.entries ++ (im.facs ∷ im.dsdt ∷ []))) same_xsdt
+              ∙ ap (λ (l : List Located). p ∷ x ∷ (l ++ (im.facs ∷ im.dsdt ∷ []))) (same_entries ∙ read ∙ sym read')
+              ∙ ap (λ t. p ∷ x ∷ (zs ++ (t ∷ im.dsdt ∷ []))) same_facs ∙ ap (λ t. p ∷ x ∷ (zs ++ (a ∷ t ∷ []))) same_dsdt
+              ∙ sym listed ∙ sym read'' in
+              subst AreApart same im.apart

@@ -1,0 +1,119 @@
+-- Facts about the tables of an image.
+use Rattle.std.proofs.Common.{◌≡◌, ℕ, ◌+◌, ◌-◌, ◌*◌, ◌/◌, ◌<◌, ◌≤◌, List, [], ◌∷◌, ◌++◌, length, get_or, take, drop, refl, sym, ap, ◌∙◌, arith, subst, add-one, zero, suc, below_more, codes}
+use Rattle.std.specs.Prelude.{Result, Ok, Err, OnErr, IfErr, IsErrAnd}
+use Rattle.std.specs.List.{All}
+use Rattle.std.proofs.lemmas.List.{take_rest, get_or_push, get_or_append_left, get_or-drop, length-drop}
+use Rattle.std.proofs.lemmas.Result.{err_from_is_err_and}
+use Rattle.std.proofs.Math.Seq.{drop-cons}
+use Rattle.acpi_base.specs.Bytes.{field_at}
+use Rattle.acpi_layout.specs.declared.located.Located.{Located}
+use Rattle.acpi_layout.specs.Found.{contents, IsTableAt, AreEntries, IsOnlyFadt, IsApart, AreApart}
+
+-- ---- exits
+
+pub on_err : {T E : Type 0} (P : Type 0) (r : Result T E) → P → OnErr r P
+on_err P (Ok x) p = tt
+on_err P (Err e) p = p
+
+pub at_exit : {T E : Type 0} (r : Result T E) (P : E → Type 0) (e : E) → IsErrAnd r (λ y. y ≡ e) → P e → IfErr r P
+at_exit r P e is holds = let p = err_from_is_err_and r is in rw (p.1, p.2) holds
+
+-- ---- elements
+
+abbrev pub none_yet : Located
+none_yet = record { address = 0; length = 0; signature = [] }
+
+pub same_at : (xs : List Located) (i : ℕ) (d e : Located) → i < length xs → get_or xs i d ≡ get_or xs i e
+same_at [] i d e inside = absurd (omega arith)
+same_at (x ∷ xs) zero d e inside = refl
+same_at (x ∷ xs) (suc i) d e inside = same_at xs i d e (omega arith)
+
+pub signature_at : (xs : List Located) (i : ℕ) (e : Located) (s : List ℕ) → i < length xs → (get_or xs i e).signature ≡ s → (d : Located) → (get_or xs i d).signature ≡ s
+signature_at xs i e s inside is d = ap (λ (t : Located). t.signature) (same_at xs i d e inside) ∙ is
+
+-- ---- no two overlap
+
+drop_is : (xs : List Located) (i : ℕ) (d : Located) → i < length xs → drop i xs ≡ get_or xs i d ∷ drop (i + 1) xs
+drop_is xs i d inside = drop-cons xs i d inside ∙ ap (λ n. get_or xs i d ∷ drop n xs) (sym (add-one i))
+
+module _ (xs : List Located) (i : ℕ) (d : Located) (inside : i < length xs) where
+  pub first_apart : AreApart (drop i xs) → All (IsApart (get_or xs i d)) (take (length xs - (i + 1)) (drop (i + 1) xs))
+  first_apart all = subst (λ (ys : List Located). All (IsApart (get_or xs i d)) ys) (sym (take_rest xs (i + 1))) (subst AreApart (drop_is xs i d inside) all).0
+
+  pub rest_apart : AreApart (drop i xs) → AreApart (drop (i + 1) xs)
+  rest_apart all = (subst AreApart (drop_is xs i d inside) all).1
+
+  pub both_apart : All (IsApart (get_or xs i d)) (take (length xs - (i + 1)) (drop (i + 1) xs)) → AreApart (drop (i + 1) xs) → AreApart (drop i xs)
+  both_apart first rest =
+      let all : All (IsApart (get_or xs i d)) (drop (i + 1) xs) = subst (λ (ys : List Located). All (IsApart (get_or xs i d)) ys) (take_rest xs (i + 1)) first in
+      subst AreApart (sym (drop_is xs i d inside)) (all, rest)
+
+-- ---- the tables that an XSDT lists
+
+module _ (base : ℕ) (bytes whole : List ℕ) (xsdt : Located) (is : whole ≡ contents base bytes xsdt) (size : length whole ≡ xsdt.length) where
+  pub entry_refused : (i address : ℕ) → address ≡ field_at (36 + 8 * i) 8 whole → i < (length whole - 36) / 8
+      → ((table : Located) → IsTableAt base bytes address table → ⊥) → (entries : List Located) → AreEntries base bytes xsdt entries → ⊥
+  entry_refused i address from within none entries are =
+      let inside : i < length entries = omega (arith, are.counted, size, within) in
+      let at : field_at (36 + 8 * i) 8 (contents base bytes xsdt) ≡ address = ap (λ (b : List ℕ). field_at (36 + 8 * i) 8 b) (sym is) ∙ sym from in
+      none (get_or entries i none_yet) (subst (λ a. IsTableAt base bytes a (get_or entries i none_yet)) at (are.each i none_yet inside))
+
+  pub entries_are : (entries : List Located) → xsdt.length ≡ 36 + 8 * length entries
+      → ((k : ℕ) (d : Located) → k < length entries → IsTableAt base bytes (field_at (36 + 8 * k) 8 whole) (get_or entries k d)) → AreEntries base bytes xsdt entries
+  entries_are entries counted each = record {
+    counted = counted;
+    each = λ k d inside. subst (λ (b : List ℕ). IsTableAt base bytes (field_at (36 + 8 * k) 8 b) (get_or entries k d)) is (each k d inside);
+  }
+
+pub entries_next : (base : ℕ) (bytes whole : List ℕ) (entries new : List Located) (i address : ℕ) (table : Located) → new ≡ entries ++ table ∷ [] → length entries ≡ i
+    → ((k : ℕ) (d : Located) → k < i → IsTableAt base bytes (field_at (36 + 8 * k) 8 whole) (get_or entries k d))
+    → address ≡ field_at (36 + 8 * i) 8 whole → IsTableAt base bytes address table
+    → (k : ℕ) (d : Located) → k < i + 1 → IsTableAt base bytes (field_at (36 + 8 * k) 8 whole) (get_or new k d)
+entries_next base bytes whole entries new i address table pushed size each from here k d below =
+    let P : ℕ → Type 0 = λ j. (d : Located) → IsTableAt base bytes (field_at (36 + 8 * j) 8 whole) (get_or new j d) in
+    let left : (j : ℕ) (d : Located) → j < i → get_or new j d ≡ get_or entries j d =
+    λ j d h. ap (λ (l : List Located). get_or l j d) pushed ∙ get_or_append_left entries (table ∷ []) d j (omega (arith, size, h)) in
+    let last : (d : Located) → get_or new i d ≡ table = λ d. ap (λ (l : List Located). get_or l i d) pushed ∙ get_or_push entries table d i size in
+    below_more P i
+    (λ j h d. subst (λ (t : Located). IsTableAt base bytes (field_at (36 + 8 * j) 8 whole) t) (sym (left j d h)) (each j d h))
+    (λ d. subst (λ (t : Located). IsTableAt base bytes (field_at (36 + 8 * i) 8 whole) t) (sym (last d)) (subst (λ a. IsTableAt base bytes a table) from here)) k below d
+
+-- ---- the FADT
+
+pub second_fadt : (xs : List Located) (i j : ℕ) (d e : Located) → i < j → j < length xs → (get_or xs i d).signature ≡ codes "FACP" → (get_or xs j e).signature ≡ codes "FACP"
+    → (fadt : Located) → IsOnlyFadt xs fadt → ⊥
+second_fadt xs i j d e after inside first second fadt is = omega (arith, after, is.only i d (omega arith) first, is.only j e inside second)
+
+only_here : (i at : ℕ) → (i < at → ⊥) → (at < i → ⊥) → i ≡ at
+only_here i at before after = omega arith
+
+pub only_is : (xs : List Located) (at : ℕ) (e : Located) → at < length xs → (get_or xs at e).signature ≡ codes "FACP" → 148 ≤ (get_or xs at e).length
+    → ((k : ℕ) (d : Located) → k < at → (get_or xs k d).signature ≡ codes "FACP" → ⊥)
+    → ((k : ℕ) (d : Located) → at + 1 + k < length xs → (get_or xs (at + 1 + k) d).signature ≡ codes "FACP" → ⊥)
+    → IsOnlyFadt xs (get_or xs at e)
+only_is xs at e inside signature long before after = record {
+  index = at;
+  inside = inside;
+  is = λ d. same_at xs at d e inside;
+  signature = signature;
+  only = λ i d within named. only_here i at (λ h. before i d h named)
+      (λ h. let at_is : at + 1 + (i - (at + 1)) ≡ i = omega (arith, h) in
+      after (i - (at + 1)) d (omega (arith, at_is, within)) (ap (λ n. (get_or xs n d).signature) at_is ∙ named));
+  has_addresses = long;
+}
+
+-- ---- the elements behind
+
+pub rest_size : (xs : List Located) (n : ℕ) → length (take (length xs - n) (drop n xs)) ≡ length xs - n
+rest_size xs n = ap length (take_rest xs n) ∙ length-drop n xs
+
+pub in_rest : (xs : List Located) (n k : ℕ) (d : Located) → get_or (take (length xs - n) (drop n xs)) k d ≡ get_or xs (n + k) d
+in_rest xs n k d = ap (λ (l : List Located). get_or l k d) (take_rest xs n) ∙ get_or-drop n xs k d
+
+pub rest_inside : (xs : List Located) (n k : ℕ) → k < length (take (length xs - n) (drop n xs)) → n + k < length xs
+rest_inside xs n k h = omega (arith, h, rest_size xs n)
+
+-- ---- addresses in tables
+
+pub pointed : (whole bytes : List ℕ) (offset address : ℕ) → whole ≡ bytes → address ≡ field_at offset 8 whole → address ≡ field_at offset 8 bytes
+pointed whole bytes offset address is from = from ∙ ap (λ (b : List ℕ). field_at offset 8 b) is

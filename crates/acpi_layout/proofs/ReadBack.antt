@@ -1,0 +1,351 @@
+-- Images are read back.
+use Rattle.std.proofs.Common.{◌≡◌, ◌≢◌, ℕ, zero, suc, ◌+◌, ◌-◌, ◌*◌, ◌%◌, ◌^◌, ◌<◌, ◌≤◌, List, [], ◌∷◌, ◌++◌, length, map, take, drop, get_or, refl, sym, ap, subst, ◌∙◌, arith, append_assoc, length-append, take-take, inl, inr, codes}
+use Rattle.std.specs.Prelude.{sum}
+use Rattle.std.specs.List.{All}
+use Rattle.std.proofs.Math.Seq.{drop-append-add}
+use Rattle.std.proofs.lemmas.List.{length-replicate, take_at, get_or-map, length-map, drop-take}
+use Rattle.std.proofs.lemmas.List.Elements.{All-append, All-map}
+use Rattle.acpi_base.specs.declared.oem.Oem.{Oem}
+use Rattle.acpi_base.specs.Bytes.{put, carried, complement, field_at}
+use Rattle.acpi_base.specs.Fields.{fields_joined}
+use Rattle.acpi_base.specs.Layout.{zeros}
+use Rattle.acpi_base.specs.Table.{IsTrueTable}
+use Rattle.acpi_core.specs.Listing.{bytes_of, body_of}
+use Rattle.acpi_core.proofs.Offsets.{parts}
+use Rattle.acpi_fixed.specs.declared.fadt.FADTBuilder.{FADTBuilder}
+use Rattle.acpi_fixed.specs.Fadt.{fadt_bytes, builder_bytes, header_fields, fadt_fields}
+use Rattle.acpi_fixed.specs.Rsdp.{rsdp_bytes, rsdp_for}
+use Rattle.acpi_fixed.proofs.Tables.{pointers, true_fadt, length-fadt}
+use Rattle.acpi_layout.specs.declared.located.Located.{Located}
+use Rattle.acpi_layout.specs.Addresses.{Lies, bytes_at}
+use Rattle.acpi_layout.specs.Image.{pointing, listing, tables_laid, image}
+use Rattle.acpi_layout.specs.Laws.{Standing, Stand, standing_at, xsdt_address, Points}
+use Rattle.acpi_layout.specs.Found.{located, contents, IsTableAt, IsControlAt, IsApart, AreApart, IsImage}
+use Rattle.acpi_layout.specs.ReadBack.{AreTables, found_at, laid_tables, ImagesAreFound}
+use Rattle.acpi_layout.proofs.Images.{size_listing}
+use Rattle.acpi_layout.proofs.Standing.{stand}
+use Rattle.acpi_layout.proofs.Pointing.{point, is_listing}
+
+-- ---- bytes that stand at an address
+
+record IsThere (base : ℕ) (total : List ℕ) (s : Standing) : Type 0 where
+  lies : Lies base total s.address (length s.bytes)
+  is : bytes_at base total s.address (length s.bytes) ≡ s.bytes
+
+abbrev AreThere : ℕ → List ℕ → List Standing → Type 0
+AreThere base total [] = Unit {0}
+AreThere base total (s ∷ more) = IsThere base total s × AreThere base total more
+
+are_there : (base : ℕ) (pre : List ℕ) (from : ℕ) (ss : List Standing) (rest total : List ℕ) → from ≡ base + length pre → total ≡ pre ++ rest → Stand from ss rest → AreThere base total ss
+are_there base pre from [] rest total at is h = tt
+are_there base pre from (s ∷ ss) rest total at is h =
+    let k = h.0 in
+    let more = h.1 in
+    let front = pre ++ zeros k in
+    let whole : total ≡ front ++ (s.bytes ++ more) = is ∙ ap (λ b. pre ++ b) h.3 ∙ sym (append_assoc pre (zeros k) (s.bytes ++ more)) in
+    let long : length front ≡ length pre + k = omega (arith, length-append pre (zeros k), length-replicate {A = ℕ} k 0) in
+    let size : length total ≡ length front + (length s.bytes + length more) =
+    omega (arith, ap length whole, length-append front (s.bytes ++ more), length-append s.bytes more) in
+    let far : s.address - base ≡ length front + 0 = omega (arith, long, h.2, at) in (
+      record {
+        lies = record { begins = omega (arith, h.2, at); ends = omega (arith, h.2, at, size, long) };
+        is = ap (λ n. take (length s.bytes) (drop n total)) far ∙ ap (λ b. take (length s.bytes) (drop (length front + 0) b)) whole
+            ∙ ap (λ b. take (length s.bytes) b) (drop-append-add front (s.bytes ++ more) 0) ∙ take_at s.bytes more (length s.bytes) refl;
+      },
+      are_there base (front ++ s.bytes) (s.address + length s.bytes) ss more total (omega (arith, h.2, at, long, length-append front s.bytes))
+          (whole ∙ sym (append_assoc front s.bytes more)) h.4,
+    )
+
+those_there : (base : ℕ) (total : List ℕ) (ms more : List Standing) → AreThere base total (ms ++ more) → AreThere base total ms × AreThere base total more
+those_there base total [] more h = (tt, h)
+those_there base total (s ∷ ms) more h = let r = those_there base total ms more h.1 in ((h.0, r.0), r.1)
+
+one_there : (base : ℕ) (total : List ℕ) (ms : List Standing) (i : ℕ) (e : Standing) → AreThere base total ms → i < length ms → IsThere base total (get_or ms i e)
+one_there base total [] i e h inside = absurd (omega (arith, inside))
+one_there base total (s ∷ ms) zero e h inside = h.0
+one_there base total (s ∷ ms) (suc i) e h inside = one_there base total ms i e h.1 (omega (arith, inside))
+
+-- the same by its address, with all that a reader reads
+place_is : (base : ℕ) (total : List ℕ) (s : Standing) → IsThere base total s → found_at s ≡ located base total s.address (length s.bytes)
+place_is base total s there = ap (λ (b : List ℕ). record { address = s.address; length = length s.bytes; signature = take 4 b }) (sym there.is)
+
+header_kept : (m n : ℕ) (b : List ℕ) → 8 ≤ n → m + 8 ≡ n → take 4 (drop 4 (take n b)) ≡ take 4 (drop 4 b)
+header_kept m n b long is =
+    let n_is : n ≡ 4 + (m + 4) = omega (arith, is) in
+    ap (λ (k : ℕ). take 4 (drop 4 (take k b))) n_is ∙ ap (take 4) (drop-take 4 (m + 4) b) ∙ take-take 4 (m + 4) (drop 4 b) (omega arith)
+
+length_told : (n : ℕ) (b : List ℕ) → 36 ≤ n → field_at 4 4 (take 36 b) ≡ field_at 4 4 (take n b)
+length_told n b long = ap carried (header_kept 28 36 b (omega arith) refl ∙ sym (header_kept (n - 8) n b (omega (arith, long)) (omega (arith, long))))
+
+table_there : (base : ℕ) (total : List ℕ) (s : Standing) → IsThere base total s → IsTrueTable s.bytes → IsTableAt base total s.address (found_at s)
+table_there base total s there true =
+    let told : field_at 4 4 (bytes_at base total s.address 36) ≡ length s.bytes =
+    length_told (length s.bytes) (drop (s.address - base) total) true.header ∙ ap (λ b. field_at 4 4 b) there.is ∙ true.tells in
+    record {
+      header = record { begins = there.lies.begins; ends = omega (arith, there.lies.ends, true.header) };
+      is = place_is base total s there ∙ ap (located base total s.address) (sym told);
+      whole = there.lies;
+      has_header = true.header;
+    }
+
+-- ---- the list of the tables
+
+-- each of a part of a list, in order, and what stands after it
+record Spans (from : ℕ) (ms more : List Standing) : Type 0 where
+  to : ℕ
+  rest : List ℕ
+  after : from ≤ to
+  begin : All (λ (t : Located). from ≤ t.address) (map found_at ms)
+  end : All (λ (t : Located). t.address + t.length ≤ to) (map found_at ms)
+  apart : (tail : List Located) → All (λ (t : Located). t.address + t.length ≤ from) tail → AreApart tail → AreApart (map found_at ms ++ tail)
+  stand_on : Stand to more rest
+
+all_cons : {X : Type 0} (P : X → Type 0) (x : X) (xs : List X) → P x → All P xs → All P (x ∷ xs)
+all_cons P x xs first all zero d inside = first
+all_cons P x xs first all (suc k) d inside = all k d (omega (arith, inside))
+
+all_nil : {X : Type 0} (P : X → Type 0) → All P []
+all_nil P k d inside = absurd (omega (arith, inside))
+
+spans : (from : ℕ) (ms more : List Standing) (bytes : List ℕ) → Stand from (ms ++ more) bytes → Spans from ms more
+spans from [] more bytes h = record {
+  to = from;
+  rest = bytes;
+  after = omega arith;
+  begin = all_nil (λ (t : Located). from ≤ t.address);
+  end = all_nil (λ (t : Located). t.address + t.length ≤ from);
+  apart = λ tail below apart. apart;
+  stand_on = h;
+}
+spans from (s ∷ ms) more bytes h =
+    let next = spans (s.address + length s.bytes) ms more h.1 h.4 in
+    let low : from ≤ s.address = omega (arith, h.2) in
+    let past : s.address + length s.bytes ≤ next.to = next.after in
+    record {
+      to = next.to;
+      rest = next.rest;
+      after = omega (arith, low, past);
+      begin = all_cons (λ (t : Located). from ≤ t.address) (found_at s) (map found_at ms) low (λ k d inside. omega (arith, low, next.begin k d inside));
+      end = all_cons (λ (t : Located). t.address + t.length ≤ next.to) (found_at s) (map found_at ms) past next.end;
+      apart = λ tail below apart. (
+        All-append (IsApart (found_at s)) (map found_at ms) tail (λ k d inside. inl (next.begin k d inside)) (λ k d inside. inr (omega (arith, low, below k d inside))),
+        next.apart tail (λ k d inside. omega (arith, low, below k d inside)) apart,
+      );
+      stand_on = next.stand_on;
+    }
+
+apart_is : (base : ℕ) (f d x r : Standing) (ms : List Standing) (bytes : List ℕ) → Stand base (f ∷ d ∷ (ms ++ (x ∷ r ∷ []))) bytes
+    → AreApart (found_at r ∷ found_at x ∷ (map found_at ms ++ (found_at f ∷ found_at d ∷ [])))
+apart_is base f d x r ms bytes h =
+    let h1 = h.4 in
+    let mid = spans (d.address + length d.bytes) ms (x ∷ r ∷ []) h1.1 h1.4 in
+    let hx = mid.stand_on in
+    let hr = hx.4 in
+    let f_d : f.address + length f.bytes ≤ d.address = omega (arith, h1.2) in
+    let d_x : d.address + length d.bytes ≤ x.address = omega (arith, mid.after, hx.2) in
+    let m_x : mid.to ≤ x.address = omega (arith, hx.2) in
+    let x_r : x.address + length x.bytes ≤ r.address = omega (arith, hr.2) in
+    let two : List Located = found_at f ∷ found_at d ∷ [] in
+    let by : (n : ℕ) → d.address + length d.bytes ≤ n → All (λ (t : Located). t.address + t.length ≤ n) two = λ n far.
+    all_cons (λ (t : Located). t.address + t.length ≤ n) (found_at f) (found_at d ∷ []) (omega (arith, f_d, far))
+    (all_cons (λ (t : Located). t.address + t.length ≤ n) (found_at d) [] far (all_nil (λ (t : Located). t.address + t.length ≤ n))) in
+    let all : (n : ℕ) → x.address ≤ n → All (λ (t : Located). t.address + t.length ≤ n) (map found_at ms ++ two) = λ n far.
+    All-append (λ (t : Located). t.address + t.length ≤ n) (map found_at ms) two (λ k e inside. omega (arith, mid.end k e inside, m_x, far)) (by n (omega (arith, d_x, far))) in
+    let two_apart : AreApart two = (all_cons (IsApart (found_at f)) (found_at d) [] (inl f_d) (all_nil (IsApart (found_at f))), (all_nil (IsApart (found_at d)), tt)) in
+    let mids = mid.apart two (by (d.address + length d.bytes) (omega arith)) two_apart in (
+      all_cons (IsApart (found_at r)) (found_at x) (map found_at ms ++ two) (inr x_r) (λ k e inside. inr (all r.address (omega (arith, x_r)) k e inside)),
+      ((λ k e inside. inr (all x.address (omega arith) k e inside)), mids),
+    )
+
+-- ---- the FADT
+
+front_kept : (k x : List ℕ) → 9 ≤ length x → take 4 (put 9 k x) ≡ take 4 x
+unfolding put
+front_kept k (a ∷ b ∷ c ∷ d ∷ x) long = refl
+front_kept k x long = absurd (omega (arith, long))
+
+size_is : (f : FADTBuilder) → length (fields_joined (header_fields f)) ≡ 36 → length (builder_bytes f) ≡ 276
+size_is f header =
+    let size : length (fields_joined (fadt_fields f)) ≡ 240 = refl in
+    omega (arith, length-append (fields_joined (header_fields f)) (fields_joined (fadt_fields f)), header, size)
+
+four_is : (s : List ℕ) → s ≡ codes "FACP" → length s ≡ 4
+four_is s is = ap length is
+
+fadt_named : (f : FADTBuilder) → f.signature ≡ codes "FACP" → length (fields_joined (header_fields f)) ≡ 36 → take 4 (fadt_bytes f) ≡ codes "FACP"
+fadt_named f is header =
+    front_kept (complement (sum (put 9 (0 ∷ []) (builder_bytes f))) ∷ []) (builder_bytes f) (omega (arith, size_is f header))
+    ∙ ap (take 4) (append_assoc f.signature _ _) ∙ take_at f.signature _ 4 (four_is f.signature is) ∙ is
+
+-- ---- the XSDT
+
+module _ (base : ℕ) (oem : Oem) (places : List ℕ) (six : length oem.id ≡ 6) (eight : length oem.table_id ≡ 8) (fits : 36 + 8 * length places < 2 ^ 32) where
+  xsdt_size : length (bytes_of (listing base oem places)) ≡ 36 + 8 * length places
+  xsdt_size =
+      let t = listing base oem places in
+      let p = parts t (is_listing base oem places six eight fits) in
+      omega (arith, ap length p.is, length-append p.front (body_of t), p.long, size_listing base oem places)
+
+  xsdt_named : take 4 (bytes_of (listing base oem places)) ≡ codes "XSDT"
+  unfolding put
+  xsdt_named = refl
+
+-- ---- the RSDP
+
+module _ (id : List ℕ) (a : ℕ) (six : length id ≡ 6) where
+  revision_is : field_at 15 1 (rsdp_bytes (rsdp_for id a)) ≡ 2
+  revision_is =
+      let past : 6 ≡ length id + 0 = omega (arith, six) in
+      ap (λ n. carried (take 1 (drop n (drop 9 (rsdp_bytes (rsdp_for id a)))))) past ∙ ap (λ b. carried (take 1 b)) (drop-append-add id _ 0) ∙ refl
+
+  size_told : field_at 20 4 (rsdp_bytes (rsdp_for id a)) ≡ 36
+  size_told =
+      let past : 11 ≡ length id + 5 = omega (arith, six) in
+      ap (λ n. carried (take 4 (drop n (drop 9 (rsdp_bytes (rsdp_for id a)))))) past ∙ ap (λ b. carried (take 4 b)) (drop-append-add id _ 5) ∙ refl
+
+-- ---- the entries
+
+row_at : (base : ℕ) (places : List ℕ) (tables : List (List ℕ)) (i : ℕ) (e : Standing) → length places ≡ length tables → i < length places
+    → get_or (standing_at base places tables) i e ≡ record { address = base + get_or places i 0; bytes = get_or tables i [] }
+row_at base [] tables i e same inside = absurd (omega (arith, inside))
+row_at base (p ∷ places) [] i e same inside = absurd (omega (arith, same))
+row_at base (p ∷ places) (t ∷ tables) zero e same inside = refl
+row_at base (p ∷ places) (t ∷ tables) (suc i) e same inside = row_at base places tables i e (omega (arith, same)) (omega (arith, inside))
+
+rows_counted : (base : ℕ) (places : List ℕ) (tables : List (List ℕ)) → length places ≡ length tables → length (standing_at base places tables) ≡ length places
+rows_counted base [] tables same = refl
+rows_counted base (p ∷ places) [] same = absurd (omega (arith, same))
+rows_counted base (p ∷ places) (t ∷ tables) same = omega (arith, rows_counted base places tables (omega (arith, same)))
+
+all_true : (t : List ℕ) (ts : List (List ℕ)) → IsTrueTable t → All IsTrueTable ts → (i : ℕ) → i < length (t ∷ ts) → IsTrueTable (get_or (t ∷ ts) i [])
+all_true t ts first all zero inside = first
+all_true t ts first all (suc i) inside = all i [] (omega (arith, inside))
+
+others_at : (P : List ℕ → Type 0) (t : List ℕ) (ts : List (List ℕ)) → All P ts → (i : ℕ) → 0 < i → i < length (t ∷ ts) → P (get_or (t ∷ ts) i [])
+others_at P t ts all zero after inside = absurd (omega (arith, after))
+others_at P t ts all (suc i) after inside = all i [] (omega (arith, inside))
+
+only_first : (i : ℕ) → (0 < i → ⊥) → i ≡ 0
+only_first i h = omega arith
+
+no_row : Standing
+no_row = record { address = 0; bytes = [] }
+
+module _ (base : ℕ) (oem : Oem) (facs dsdt : List ℕ) (fadt : FADTBuilder) (tables : List (List ℕ)) (six : length oem.id ≡ 6) (eight : length oem.table_id ≡ 8)
+    (are : AreTables facs dsdt fadt tables) (low : base + length (image base oem facs dsdt fadt tables).bytes ≤ 2 ^ 64) (few : 36 + 8 * (1 + length tables) < 2 ^ 32) where
+  found : IsImage (image base oem facs dsdt fadt tables).bytes base (image base oem facs dsdt fadt tables).rsdp (laid_tables base oem facs dsdt fadt tables)
+  found =
+      let total = (image base oem facs dsdt fadt tables).bytes in
+      let laid = tables_laid base facs dsdt fadt tables in
+      let p = pointing base (base + length facs) fadt in
+      let all = fadt_bytes p ∷ tables in
+      let rows = standing_at base laid.places all in
+      let s = stand base oem facs dsdt fadt tables in
+      let f : Standing = record { address = base; bytes = facs } in
+      let d : Standing = record { address = base + length facs; bytes = dsdt } in
+      let x : Standing = record { address = xsdt_address base laid; bytes = bytes_of (listing base oem laid.places) } in
+      let r : Standing = record { address = (image base oem facs dsdt fadt tables).rsdp; bytes = rsdp_bytes (rsdp_for oem.id (xsdt_address base laid)) } in
+      let there : AreThere base total (f ∷ d ∷ (rows ++ (x ∷ r ∷ []))) = are_there base [] base (f ∷ d ∷ (rows ++ (x ∷ r ∷ []))) total total (omega arith) refl s.all in
+      let f_there = there.0 in
+      let d_there = there.1.0 in
+      let both = those_there base total rows (x ∷ r ∷ []) there.1.1 in
+      let x_there = both.1.0 in
+      let r_there = both.1.1.0 in
+      let fits : 36 + 8 * length laid.places < 2 ^ 32 = omega (arith, s.listed, few) in
+      let x_size = xsdt_size base oem laid.places six eight fits in
+      let x_low : xsdt_address base laid < 2 ^ 64 = omega (arith, x_there.lies.ends, x_size, low) in
+      let d_low : base + length facs < 2 ^ 64 = omega (arith, d_there.lies.ends, are.dsdt_is_correct.header, low) in
+      let pt : Points base oem facs fadt laid = point base oem facs fadt laid six eight are.fadt_header fits x_low d_low in
+      let p_named : take 4 (fadt_bytes p) ≡ codes "FACP" = fadt_named p are.fadt_signature are.fadt_header in
+      let p_true : IsTrueTable (fadt_bytes p) = true_fadt p (four_is fadt.signature are.fadt_signature) (size_is p are.fadt_header) are.fadt_length in
+      let p_size : length (fadt_bytes p) ≡ 276 = length-fadt p (size_is p are.fadt_header) in
+      let same : length laid.places ≡ length all = omega (arith, s.listed) in
+      let counted = rows_counted base laid.places all same in
+      let true_at : (i : ℕ) → i < length all → IsTrueTable (get_or all i []) = λ i inside. all_true (fadt_bytes p) tables p_true are.are_correct i inside in
+      let x_contents : contents base total (found_at x) ≡ x.bytes = x_there.is in
+      let entry : (i : ℕ) → i < length laid.places → IsTableAt base total (base + get_or laid.places i 0) (found_at (get_or rows i no_row)) = λ i inside.
+      let row = row_at base laid.places all i no_row same inside in
+      let here = one_there base total rows i no_row both.0 (omega (arith, counted, inside)) in
+      let true : IsTrueTable (get_or rows i no_row).bytes = subst (λ (w : Standing). IsTrueTable w.bytes) (sym row) (true_at i (omega (arith, same, inside))) in
+      subst (λ n. IsTableAt base total n (found_at (get_or rows i no_row))) (ap (λ (w : Standing). w.address) row) (table_there base total (get_or rows i no_row) here true) in
+      let small : (i : ℕ) → i < length laid.places → base + get_or laid.places i 0 < 2 ^ 64 = λ i inside. let e = entry i inside in omega (arith, e.header.ends, low) in
+      let first = get_or rows 0 no_row in
+      let some : 0 < length laid.places = omega (arith, s.listed) in
+      let first_is = row_at base laid.places all 0 no_row same some in
+      let first_bytes : first.bytes ≡ fadt_bytes p = ap (λ (w : Standing). w.bytes) first_is in
+      let first_there = one_there base total rows 0 no_row both.0 (omega (arith, counted, some)) in
+      let first_contents : contents base total (found_at first) ≡ fadt_bytes p = first_there.is ∙ first_bytes in
+      let ptr = pointers oem.id (xsdt_address base laid) six in
+      let r_bytes : bytes_at base total r.address 36 ≡ r.bytes = ap (λ n. bytes_at base total r.address n) (sym ptr.0) ∙ r_there.is in
+      let f_bytes : bytes_at base total f.address 64 ≡ facs = ap (λ n. bytes_at base total f.address n) (sym are.facs_length) ∙ f_there.is in
+      let x_at : field_at 24 8 (contents base total (found_at r)) ≡ x.address = ap (λ b. field_at 24 8 b) r_there.is ∙ pt.xsdt in
+      let f_at : field_at 132 8 (contents base total (found_at first)) ≡ base = ap (λ b. field_at 132 8 b) first_contents ∙ pt.x_firmware_ctrl in
+      let d_at : field_at 140 8 (contents base total (found_at first)) ≡ base + length facs = ap (λ b. field_at 140 8 b) first_contents ∙ pt.x_dsdt in
+      let placed : (i : ℕ) → i < length rows → i < length laid.places = λ i inside. omega (arith, counted, inside) in
+      let mapped : (i : ℕ) → i < length (map found_at rows) → i < length rows = λ i inside. omega (arith, length-map rows found_at, inside) in
+      let control : IsControlAt base total base (found_at f) = record {
+        whole = record { begins = f_there.lies.begins; ends = omega (arith, f_there.lies.ends, are.facs_length) };
+        is = place_is base total f f_there ∙ ap (located base total base) are.facs_length;
+        signature = are.facs_signature;
+        tells = ap (λ b. field_at 4 4 b) f_bytes ∙ are.facs_tells;
+      } in
+      record {
+        pointer = found_at r;
+        xsdt = found_at x;
+        entries = map found_at rows;
+        fadt = found_at first;
+        facs = found_at f;
+        dsdt = found_at d;
+        pointer_is = record {
+          whole = record { begins = r_there.lies.begins; ends = omega (arith, r_there.lies.ends, ptr.0) };
+          is = place_is base total r r_there ∙ ap (located base total r.address) ptr.0;
+          signature = ap (take 8) r_bytes;
+          checksum = ap (λ b. sum (take 20 b) % 256) r_bytes ∙ ptr.1;
+          revision = ap (λ b. field_at 15 1 b) r_bytes ∙ revision_is oem.id (xsdt_address base laid) six;
+          tells = ap (λ b. field_at 20 4 b) r_bytes ∙ size_told oem.id (xsdt_address base laid) six;
+          extended_checksum = ap (λ b. sum b % 256) r_bytes ∙ ptr.2;
+        };
+        xsdt_is = record {
+          is_table = subst (λ n. IsTableAt base total n (found_at x)) (sym x_at) (table_there base total x x_there pt.xsdt_is_true);
+          is_named = xsdt_named base oem laid.places six eight fits;
+        };
+        entries_are = record {
+          counted = omega (arith, x_size, counted, length-map rows found_at);
+          each = λ i e inside.
+              let at : field_at (36 + 8 * i) 8 (contents base total (found_at x)) ≡ base + get_or laid.places i 0 =
+              ap (λ b. field_at (36 + 8 * i) 8 b) x_contents ∙ pt.entries i (placed i (mapped i inside)) (small i (placed i (mapped i inside))) in
+              let is : get_or (map found_at rows) i e ≡ found_at (get_or rows i no_row) = get_or-map found_at rows i no_row e (mapped i inside) in
+              subst (λ n. IsTableAt base total n (get_or (map found_at rows) i e)) (sym at)
+              (subst (λ (t : Located). IsTableAt base total (base + get_or laid.places i 0) t) (sym is) (entry i (placed i (mapped i inside))));
+        };
+        fadt_is = record {
+          index = 0;
+          inside = omega (arith, length-map rows found_at, counted, some);
+          is = λ e. get_or-map found_at rows 0 no_row e (omega (arith, counted, some));
+          signature = ap (take 4) first_bytes ∙ p_named;
+          only = λ i e inside named. only_first i (λ after.
+              let row = row_at base laid.places all i no_row same (placed i (mapped i inside)) in
+              let is : get_or (map found_at rows) i e ≡ found_at (get_or rows i no_row) = get_or-map found_at rows i no_row e (mapped i inside) in
+              let other : take 4 (get_or all i []) ≢ codes "FACP" =
+              others_at (λ t. take 4 t ≢ codes "FACP") (fadt_bytes p) tables are.are_others i after (omega (arith, same, placed i (mapped i inside))) in
+              other (sym (ap (λ (w : Standing). take 4 w.bytes) row) ∙ sym (ap (λ (t : Located). t.signature) is) ∙ named));
+          has_addresses = omega (arith, ap length first_bytes, p_size);
+        };
+        facs_is = subst (λ n. IsControlAt base total n (found_at f)) (sym f_at) control;
+        dsdt_is = record {
+          is_table = subst (λ n. IsTableAt base total n (found_at d)) (sym d_at) (table_there base total d d_there are.dsdt_is_correct);
+          is_named = are.dsdt_signature;
+        };
+        listed = refl;
+        apart = apart_is base f d x r rows total s.all;
+        xsdt_is_correct = subst IsTrueTable (sym x_there.is) pt.xsdt_is_true;
+        entries_are_correct = All-map (λ (t : Located). IsTrueTable (contents base total t)) found_at rows (λ i e inside.
+            let row = row_at base laid.places all i e same (placed i inside) in
+            let here = one_there base total rows i e both.0 inside in
+            let true : IsTrueTable (get_or rows i e).bytes = subst (λ (w : Standing). IsTrueTable w.bytes) (sym row) (true_at i (omega (arith, same, placed i inside))) in
+            subst IsTrueTable (sym here.is) true);
+        dsdt_is_correct = subst IsTrueTable (sym d_there.is) are.dsdt_is_correct;
+      }
+
+pub are_found : ImagesAreFound
+are_found base oem facs dsdt fadt tables six eight are low few = found base oem facs dsdt fadt tables six eight are low few

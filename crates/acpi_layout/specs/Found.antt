@@ -1,0 +1,97 @@
+-- The tables that an operating system finds from the RSDP on (ACPI 6.5, 5.2.5 to 5.2.10).
+use Rattle.std.specs.Prelude.{◌≡◌, ℕ, ◌+◌, ◌*◌, ◌%◌, ◌<◌, ◌≤◌, List, [], ◌∷◌, ◌++◌, length, sum, take, codes, slice_index_or, ◌⊎◌}
+use Rattle.std.specs.List.{All}
+use Rattle.acpi_base.specs.Bytes.{field_at}
+use Rattle.acpi_base.specs.Table.{IsTrueTable}
+use Rattle.acpi_layout.specs.declared.located.Located.{Located}
+use Rattle.acpi_layout.specs.Addresses.{Lies, bytes_at}
+
+-- ---- tables at addresses
+
+-- the table of this length at an address, whose first four bytes are its signature
+abbrev pub located : ℕ → List ℕ → ℕ → ℕ → Located
+located base bytes address n = record { address = address; length = n; signature = take 4 (bytes_at base bytes address n) }
+
+-- all bytes of a table
+abbrev pub contents : ℕ → List ℕ → Located → List ℕ
+contents base bytes table = bytes_at base bytes table.address table.length
+
+-- A table with the standard header is at this address (5.2.6): its length is the one at offset 4, and all of it is in the image.
+pub record IsTableAt (base : ℕ) (bytes : List ℕ) (address : ℕ) (table : Located) : Type 0 where
+  pub header : Lies base bytes address 36
+  pub is : table ≡ located base bytes address (field_at 4 4 (bytes_at base bytes address 36))
+  pub whole : Lies base bytes address table.length
+  pub has_header : 36 ≤ table.length
+
+-- ---- each table
+
+-- The RSDP at this address (5.2.5.3). The checksum at offset 8 is that of the first 20 bytes, and the one at 32 that of all.
+pub record IsPointer (base : ℕ) (bytes : List ℕ) (address : ℕ) (rsdp : Located) : Type 0 where
+  pub whole : Lies base bytes address 36
+  pub is : rsdp ≡ located base bytes address 36
+  pub signature : take 8 (bytes_at base bytes address 36) ≡ codes "RSD PTR "
+  pub checksum : sum (take 20 (bytes_at base bytes address 36)) % 256 ≡ 0
+  pub revision : field_at 15 1 (bytes_at base bytes address 36) ≡ 2
+  pub tells : field_at 20 4 (bytes_at base bytes address 36) ≡ 36
+  pub extended_checksum : sum (bytes_at base bytes address 36) % 256 ≡ 0
+
+-- The XSDT (5.2.8) or the DSDT (5.2.11.1) at this address, by its signature.
+pub record IsNamedTableAt (base : ℕ) (bytes : List ℕ) (signature : List ℕ) (address : ℕ) (table : Located) : Type 0 where
+  pub is_table : IsTableAt base bytes address table
+  pub is_named : table.signature ≡ signature
+
+-- The tables that the XSDT lists, in order (5.2.8): after its header, it has 8 bytes for the address of each.
+pub record AreEntries (base : ℕ) (bytes : List ℕ) (xsdt : Located) (entries : List Located) : Type 0 where
+  pub counted : xsdt.length ≡ 36 + 8 * length entries
+  pub each : (i : ℕ) (d : Located) → i < length entries
+      → IsTableAt base bytes (field_at (36 + 8 * i) 8 (contents base bytes xsdt)) (slice_index_or entries i d)
+
+-- The FADT (5.2.9) is the only one of these tables that has its signature, and has both addresses of 64 bits, up to offset 148.
+pub record IsOnlyFadt (tables : List Located) (fadt : Located) : Type 0 where
+  pub index : ℕ
+  pub inside : index < length tables
+  pub is : (d : Located) → slice_index_or tables index d ≡ fadt
+  pub signature : fadt.signature ≡ codes "FACP"
+  pub only : (i : ℕ) (d : Located) → i < length tables → (slice_index_or tables i d).signature ≡ codes "FACP" → i ≡ index
+  pub has_addresses : 148 ≤ fadt.length
+
+-- The FACS at this address (5.2.10), which has no checksum.
+pub record IsControlAt (base : ℕ) (bytes : List ℕ) (address : ℕ) (facs : Located) : Type 0 where
+  pub whole : Lies base bytes address 64
+  pub is : facs ≡ located base bytes address 64
+  pub signature : facs.signature ≡ codes "FACS"
+  pub tells : field_at 4 4 (bytes_at base bytes address 64) ≡ 64
+
+-- ---- no two overlap
+
+-- one ends before the other begins
+abbrev pub IsApart : Located → Located → Type 0
+IsApart a b = (a.address + a.length ≤ b.address) ⊎ (b.address + b.length ≤ a.address)
+
+abbrev pub AreApart : List Located → Type 0
+AreApart [] = Unit {0}
+AreApart (table ∷ tables) = All (IsApart table) tables × AreApart tables
+
+-- ---- all of them
+
+-- These bytes, from the address base on, are the image of these tables. The RSDP at the address rsdp points to the XSDT. Its
+-- entries point to the FADT and the others. The FADT points to the FACS by X_FIRMWARE_CTRL at offset 132, and to the DSDT by
+-- X_DSDT at 140. Each table with the standard header has its length and sums to zero, and no two overlap, so none is listed twice.
+pub record IsImage (bytes : List ℕ) (base rsdp : ℕ) (tables : List Located) : Type 0 where
+  pub pointer : Located
+  pub xsdt : Located
+  pub entries : List Located
+  pub fadt : Located
+  pub facs : Located
+  pub dsdt : Located
+  pub pointer_is : IsPointer base bytes rsdp pointer
+  pub xsdt_is : IsNamedTableAt base bytes (codes "XSDT") (field_at 24 8 (contents base bytes pointer)) xsdt
+  pub entries_are : AreEntries base bytes xsdt entries
+  pub fadt_is : IsOnlyFadt entries fadt
+  pub facs_is : IsControlAt base bytes (field_at 132 8 (contents base bytes fadt)) facs
+  pub dsdt_is : IsNamedTableAt base bytes (codes "DSDT") (field_at 140 8 (contents base bytes fadt)) dsdt
+  pub listed : tables ≡ pointer ∷ xsdt ∷ (entries ++ (facs ∷ dsdt ∷ []))
+  pub apart : AreApart tables
+  pub xsdt_is_correct : IsTrueTable (contents base bytes xsdt)
+  pub entries_are_correct : All (λ table. IsTrueTable (contents base bytes table)) entries
+  pub dsdt_is_correct : IsTrueTable (contents base bytes dsdt)

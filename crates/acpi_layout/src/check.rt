@@ -1,0 +1,61 @@
+//! Images read back.
+
+ghost use Rattle.std.specs.Prelude.{◌≡◌, ◌≢◌, List, [], ◌∷◌, ◌++◌, IfOk, IfErr};
+ghost use Rattle.acpi_layout.specs.declared.fault.ImageFault.TheVariants.{Memory};
+ghost use Rattle.acpi_layout.specs.declared.located.Located.{Located};
+ghost use Rattle.acpi_layout.specs.Found.{IsImage};
+
+use crate::apart::are_apart;
+use crate::fault::ImageFault;
+use crate::found::{are_correct, control, entries, is_correct, named_table, only_fadt, pointer};
+use crate::located::Located;
+use std::alloc::Global;
+
+// The tables in the order in which they are found.
+fn in_order(
+    alloc: Global,
+    pointer: Located,
+    xsdt: Located,
+    entries: &[Located],
+    facs: Located,
+    dsdt: Located,
+) -> Result<Vec<Located>, ImageFault>
+    ensures ok { IfOk result (λ tables. tables.items ≡ pointer ∷ xsdt ∷ (entries.now ++ (facs ∷ dsdt ∷ []))) }
+    ensures err { IfErr result (λ e. e ≡ Memory) }
+{
+    let mut tables = vec![in alloc; pointer, xsdt]?;
+    tables.extend_from_slice(entries)?;
+    tables.push(facs)?;
+    tables.push(dsdt)?;
+    Ok(tables)
+}
+
+/// Checks the tables of an image, as an operating system finds them. The bytes begin at the physical address `base`, and the RSDP
+/// is at the address `rsdp`. The RSDP (ACPI 6.5, 5.2.5.3) of revision 2 points to the XSDT (5.2.8), and its entries to the FADT
+/// and the others. X_FIRMWARE_CTRL of the FADT (5.2.9) points to the FACS (5.2.10), and X_DSDT to the DSDT. Each table is in the
+/// image with its whole length and sums to zero, except the FACS, which has no checksum. No two overlap.
+///
+/// Returns the tables in the order in which they are found: the RSDP, the XSDT, its entries in order, the FACS and the DSDT. The
+/// fields of 32 bits for addresses are not read. Each pair of tables is compared once, and no byte is copied.
+pub fn check_image(
+    alloc: Global,
+    bytes: &[u8],
+    base: u64,
+    rsdp: u64,
+) -> Result<Vec<Located>, ImageFault>
+    ensures ok { IfOk result (λ tables. IsImage bytes.now base rsdp tables.items) }
+    ensures err { IfErr result (λ e. e ≢ Memory → (tables : List Located) → ¬ IsImage bytes.now base rsdp tables) }
+{
+    let pointer = pointer(bytes, base, rsdp)?;
+    let xsdt = named_table(bytes, base, *b"XSDT", pointer, 24)?;
+    let entries = entries(alloc, bytes, base, xsdt)?;
+    let fadt = only_fadt(xsdt.address, &entries)?;
+    let facs = control(bytes, base, fadt)?;
+    let dsdt = named_table(bytes, base, *b"DSDT", fadt, 140)?;
+    let tables = in_order(alloc, pointer, xsdt, &entries, facs, dsdt)?;
+    are_apart(&tables)?;
+    is_correct(bytes, base, xsdt)?;
+    are_correct(bytes, base, &entries)?;
+    is_correct(bytes, base, dsdt)?;
+    Ok(tables)
+}

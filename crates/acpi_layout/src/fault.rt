@@ -1,0 +1,83 @@
+//! Why bytes aren't an image.
+
+ghost use Rattle.std.specs.Prelude.{◌≡◌};
+ghost use Rattle.acpi_layout.specs.declared.fault.ImageFault.TheVariants.{Memory};
+
+use std::alloc::{AllocError, AllocFailed};
+use std::fmt;
+
+/// What is wrong in an image, with the address of the table where it is. If there are several faults, any of them may be
+/// returned.
+#[derive(Clone, Copy, Debug, PartialEq)]
+pub enum ImageFault {
+    /// The allocator refused memory.
+    Memory,
+    /// A table that begins at this address isn't in the image with its whole length.
+    Outside(u64),
+    /// The signature at this address isn't that of an RSDP, an XSDT, a FACS or a DSDT, to which it was pointed.
+    Signature(u64),
+    /// The length of the table at this address can't be right: 36 of an RSDP, 64 of a FACS, at least 36 of any other, and
+    /// at least 148 of a FADT.
+    Length(u64),
+    /// The revision of the RSDP at this address isn't 2.
+    Revision(u64),
+    /// The table at this address doesn't sum to zero.
+    Sum(u64),
+    /// The length of the XSDT at this address, without its header, isn't a multiple of 8.
+    Entries(u64),
+    /// The XSDT at this address lists no FADT.
+    NoFadt(u64),
+    /// The table at this address is a second FADT.
+    SecondFadt(u64),
+    /// The tables at these two addresses overlap, or are the same.
+    Overlap(u64, u64),
+}
+
+/// The fault as text, for the user of a program.
+impl fmt::Display for ImageFault {
+    fn fmt<W: fmt::Write>(&self, f: &mut fmt::Formatter<W>) -> fmt::Result {
+        match self {
+            ImageFault::Memory => write!(f, "out of memory"),
+            ImageFault::Outside(address) => write!(
+                f,
+                "at {address:#x}: the table isn't in the image"
+            ),
+            ImageFault::Signature(address) => write!(f, "at {address:#x}: the signature is wrong"),
+            ImageFault::Length(address) => write!(f, "at {address:#x}: the length is wrong"),
+            ImageFault::Revision(address) => write!(f, "at {address:#x}: the revision isn't 2"),
+            ImageFault::Sum(address) => write!(f, "at {address:#x}: the bytes don't sum to zero"),
+            ImageFault::Entries(address) => {
+                write!(
+                    f,
+                    "at {address:#x}: the XSDT doesn't end after a whole entry"
+                )
+            }
+            ImageFault::NoFadt(address) => write!(f, "at {address:#x}: the XSDT lists no FADT"),
+            ImageFault::SecondFadt(address) => write!(f, "at {address:#x}: this is a second FADT"),
+            ImageFault::Overlap(first, second) => {
+                write!(
+                    f,
+                    "at {first:#x}: the table overlaps the one at {second:#x}"
+                )
+            }
+        }
+    }
+}
+
+impl std::error::Error for ImageFault {}
+
+impl From<AllocError> for ImageFault {
+    ghost from_gives = { λ _ e. e ≡ Memory };
+
+    fn from(_error: AllocError) -> ImageFault {
+        ImageFault::Memory
+    }
+}
+
+impl<T: Drop> From<AllocFailed<T>> for ImageFault {
+    ghost from_gives = { λ _ e. e ≡ Memory };
+
+    fn from(_error: AllocFailed<T>) -> ImageFault {
+        ImageFault::Memory
+    }
+}

@@ -1,0 +1,259 @@
+//! The tables of an image, each found by the address that another one contains.
+
+ghost use Rattle.std.specs.Prelude.{◌≡◌, ◌≢◌, ℕ, ◌+◌, ◌<◌, ◌≤◌, ◌%◌, List, length, sum, codes, slice_index_or, IsTrue, IfSome, IfNone, IfOk, IfErr, OnOk, OnErr, ◌↔◌};
+ghost use Rattle.std.specs.List.{All};
+ghost use Rattle.acpi_base.specs.Bytes.{field_at};
+ghost use Rattle.acpi_base.specs.Table.{IsTrueTable};
+ghost use Rattle.acpi_layout.specs.declared.fault.ImageFault.TheVariants.{Memory};
+ghost use Rattle.acpi_layout.specs.declared.located.Located.{Located};
+ghost use Rattle.acpi_layout.specs.Addresses.{Lies, bytes_at};
+ghost use Rattle.acpi_layout.specs.Found.{contents, IsTableAt, IsPointer, IsNamedTableAt, AreEntries, IsOnlyFadt, IsControlAt};
+
+use crate::fault::ImageFault;
+use crate::located::Located;
+use acpi_base::checksum::Checksum;
+use acpi_read::table::Table;
+use std::alloc::Global;
+
+// The number in four bytes, lowest first.
+fn dword(bytes: &[u8], offset: usize) -> u32
+    requires { offset + 4 ≤ length bytes.now }
+    ensures { result ≡ field_at offset 4 bytes.now }
+{
+    u32::from_le_bytes([
+        bytes[offset],
+        bytes[offset + 1],
+        bytes[offset + 2],
+        bytes[offset + 3],
+    ])
+}
+
+// The number in eight bytes, lowest first.
+fn qword(bytes: &[u8], offset: usize) -> u64
+    requires { offset + 8 ≤ length bytes.now }
+    ensures { result ≡ field_at offset 8 bytes.now }
+{
+    u64::from_le_bytes([
+        bytes[offset],
+        bytes[offset + 1],
+        bytes[offset + 2],
+        bytes[offset + 3],
+        bytes[offset + 4],
+        bytes[offset + 5],
+        bytes[offset + 6],
+        bytes[offset + 7],
+    ])
+}
+
+fn sums_to_zero(bytes: &[u8]) -> bool
+    ensures { IsTrue result ↔ (sum bytes.now % 256 ≡ 0) }
+{
+    let mut checksum = Checksum::default();
+    checksum.append(bytes);
+    checksum.raw_value() == 0
+}
+
+// The bytes from an address on.
+fn part(bytes: &[u8], base: u64, address: u64, size: u32) -> Result<&[u8], ImageFault>
+    ensures ok { IfOk result (λ part. part.now ≡ bytes_at base bytes.now address size) }
+    ensures size { IfOk result (λ part. length part.now ≡ size) }
+    ensures lies { OnOk result (Lies base bytes.now address size) }
+    ensures err { OnErr result (¬ Lies base bytes.now address size) }
+{
+    if address < base {
+        return Err(ImageFault::Outside(address));
+    }
+    let offset = address - base;
+    let count = bytes.len() as u64;
+    if offset > count || size as u64 > count - offset {
+        return Err(ImageFault::Outside(address));
+    }
+    let offset = offset as usize;
+    Ok(&bytes[offset..offset + size as usize])
+}
+
+// All bytes of a table.
+fn contents(bytes: &[u8], base: u64, table: Located) -> &[u8]
+    requires { Lies base bytes.now table.address table.length }
+    ensures is { result.now ≡ contents base bytes.now table }
+    ensures size { length result.now ≡ table.length }
+{
+    let offset = (table.address - base) as usize;
+    &bytes[offset..offset + table.length as usize]
+}
+
+// The table with the standard header at an address.
+fn table(bytes: &[u8], base: u64, address: u64) -> Result<Located, ImageFault>
+    ensures ok { IfOk result (λ table. IsTableAt base bytes.now address table) }
+    ensures err { OnErr result ((table : Located) → ¬ IsTableAt base bytes.now address table) }
+{
+    let header = part(bytes, base, address, 36)?;
+    let length = dword(header, 4);
+    if length < 36 {
+        return Err(ImageFault::Length(address));
+    }
+    let whole = part(bytes, base, address, length)?;
+    let signature = [whole[0], whole[1], whole[2], whole[3]];
+    Ok(Located {
+        address,
+        length,
+        signature,
+    })
+}
+
+// The table with the standard header and this signature, whose address is at an offset of another table.
+pub(crate) fn named_table(
+    bytes: &[u8],
+    base: u64,
+    signature: [u8; 4],
+    from: Located,
+    offset: usize,
+) -> Result<Located, ImageFault>
+    requires lies { Lies base bytes.now from.address from.length }
+    requires within { offset + 8 ≤ from.length }
+    ensures ok { IfOk result (λ table.
+        IsNamedTableAt base bytes.now signature (field_at offset 8 (contents base bytes.now from)) table) }
+    ensures err { OnErr result ((table : Located)
+        → ¬ IsNamedTableAt base bytes.now signature (field_at offset 8 (contents base bytes.now from)) table) }
+{
+    let address = qword(contents(bytes, base, from), offset);
+    let found = table(bytes, base, address)?;
+    if found.signature != signature {
+        return Err(ImageFault::Signature(address));
+    }
+    Ok(found)
+}
+
+// The RSDP at an address.
+pub(crate) fn pointer(bytes: &[u8], base: u64, address: u64) -> Result<Located, ImageFault>
+    ensures ok { IfOk result (λ rsdp. IsPointer base bytes.now address rsdp) }
+    ensures err { OnErr result ((rsdp : Located) → ¬ IsPointer base bytes.now address rsdp) }
+{
+    let whole = part(bytes, base, address, 36)?;
+    if whole[..8] != b"RSD PTR "[..] {
+        return Err(ImageFault::Signature(address));
+    }
+    if whole[15] != 2 {
+        return Err(ImageFault::Revision(address));
+    }
+    if dword(whole, 20) != 36 {
+        return Err(ImageFault::Length(address));
+    }
+    if !sums_to_zero(&whole[..20]) || !sums_to_zero(whole) {
+        return Err(ImageFault::Sum(address));
+    }
+    let signature = [whole[0], whole[1], whole[2], whole[3]];
+    Ok(Located {
+        address,
+        length: 36,
+        signature,
+    })
+}
+
+// The FACS to which a FADT points.
+pub(crate) fn control(bytes: &[u8], base: u64, fadt: Located) -> Result<Located, ImageFault>
+    requires lies { Lies base bytes.now fadt.address fadt.length }
+    requires within { 148 ≤ fadt.length }
+    ensures ok { IfOk result (λ facs. IsControlAt base bytes.now (field_at 132 8 (contents base bytes.now fadt)) facs) }
+    ensures err { OnErr result ((facs : Located)
+        → ¬ IsControlAt base bytes.now (field_at 132 8 (contents base bytes.now fadt)) facs) }
+{
+    let address = qword(contents(bytes, base, fadt), 132);
+    let whole = part(bytes, base, address, 64)?;
+    let signature = [whole[0], whole[1], whole[2], whole[3]];
+    if signature != *b"FACS" {
+        return Err(ImageFault::Signature(address));
+    }
+    if dword(whole, 4) != 64 {
+        return Err(ImageFault::Length(address));
+    }
+    Ok(Located {
+        address,
+        length: 64,
+        signature,
+    })
+}
+
+// The tables that an XSDT lists.
+pub(crate) fn entries(
+    alloc: Global,
+    bytes: &[u8],
+    base: u64,
+    xsdt: Located,
+) -> Result<Vec<Located>, ImageFault>
+    requires lies { Lies base bytes.now xsdt.address xsdt.length }
+    requires within { 36 ≤ xsdt.length }
+    ensures ok { IfOk result (λ entries. AreEntries base bytes.now xsdt entries.items) }
+    ensures err { IfErr result (λ e. e ≢ Memory → (entries : List Located) → ¬ AreEntries base bytes.now xsdt entries) }
+{
+    let whole = contents(bytes, base, xsdt);
+    if (xsdt.length - 36) % 8 != 0 {
+        return Err(ImageFault::Entries(xsdt.address));
+    }
+    let count = (whole.len() - 36) / 8;
+    let mut entries = Vec::new(alloc);
+    for i in 0..count {
+        entries.push(table(bytes, base, qword(whole, 36 + 8 * i))?)?;
+    }
+    Ok(entries)
+}
+
+// The index of the first of these tables with the signature of a FADT.
+fn first_fadt(tables: &[Located]) -> Option<usize>
+    ensures some { IfSome result (λ index. index < length tables.now
+        × ((d : Located) → (slice_index_or tables.now index d).signature ≡ codes "FACP")) }
+    ensures before { IfSome result (λ index. (k : ℕ) (d : Located) → k < index
+        → (slice_index_or tables.now k d).signature ≢ codes "FACP") }
+    ensures none { IfNone result (All (λ table. table.signature ≢ codes "FACP") tables.now) }
+{
+    for (i, table) in tables.iter().enumerate() {
+        if table.signature == *b"FACP" {
+            return Some(i);
+        }
+    }
+    None
+}
+
+// The only FADT of these tables, which the XSDT at an address lists.
+pub(crate) fn only_fadt(xsdt: u64, tables: &[Located]) -> Result<Located, ImageFault>
+    ensures ok { IfOk result (λ fadt. IsOnlyFadt tables.now fadt) }
+    ensures err { OnErr result ((fadt : Located) → ¬ IsOnlyFadt tables.now fadt) }
+{
+    let Some(index) = first_fadt(tables) else {
+        return Err(ImageFault::NoFadt(xsdt));
+    };
+    let fadt = tables[index];
+    for other in &tables[index + 1..] {
+        if other.signature == *b"FACP" {
+            return Err(ImageFault::SecondFadt(other.address));
+        }
+    }
+    if fadt.length < 148 {
+        return Err(ImageFault::Length(fadt.address));
+    }
+    Ok(fadt)
+}
+
+// Each table sums to zero, and has its length.
+pub(crate) fn are_correct(bytes: &[u8], base: u64, tables: &[Located]) -> Result<(), ImageFault>
+    requires { All (λ table. Lies base bytes.now table.address table.length) tables.now }
+    ensures ok { OnOk result (All (λ table. IsTrueTable (contents base bytes.now table)) tables.now) }
+    ensures err { OnErr result (¬ All (λ table. IsTrueTable (contents base bytes.now table)) tables.now) }
+{
+    for table in tables {
+        is_correct(bytes, base, *table)?;
+    }
+    Ok(())
+}
+
+// A table sums to zero, and has its length.
+pub(crate) fn is_correct(bytes: &[u8], base: u64, table: Located) -> Result<(), ImageFault>
+    requires { Lies base bytes.now table.address table.length }
+    ensures ok { OnOk result (IsTrueTable (contents base bytes.now table)) }
+    ensures err { OnErr result (¬ IsTrueTable (contents base bytes.now table)) }
+{
+    if Table::check(contents(bytes, base, table)).is_err() {
+        return Err(ImageFault::Sum(table.address));
+    }
+    Ok(())
+}

@@ -1,0 +1,131 @@
+//! Images of which one byte was changed at random.
+
+use crate::layout::{dsdt, image, mcfg, number};
+use acpi_tables::Aml;
+use acpi_tables::layout::{Located, check_image};
+use acpi_vectors::equal;
+use acpi_vectors::mutation::Numbers;
+use std::alloc::Global;
+use std::test::Fail;
+
+const BASE: u64 = 0x1000;
+
+// These bytes from an address on, or none if one of them isn't in the image.
+fn at(bytes: &[u8], address: u64, size: u64) -> &[u8] {
+    let start = address.wrapping_sub(BASE);
+    let end = start.wrapping_add(size);
+    if start > end || end > bytes.len() as u64 {
+        return &[];
+    }
+    bytes.get(start as usize..end as usize).unwrap_or(&[])
+}
+
+fn sums(bytes: &[u8]) -> bool {
+    let mut sum = 0u8;
+    for byte in bytes {
+        sum = sum.wrapping_add(*byte);
+    }
+    sum == 0
+}
+
+// The length of the table with a standard header at an address, or 0 if none is there.
+fn size_at(bytes: &[u8], address: u64) -> u64 {
+    let size = number(at(bytes, address, 36), 4, 4);
+    let table = at(bytes, address, size);
+    if table.len() < 36 || !sums(table) {
+        return 0;
+    }
+    size
+}
+
+// The address and the length of each table, or none if the bytes aren't an image.
+fn plain(alloc: Global, bytes: &[u8], rsdp: u64) -> Result<Vec<(u64, u64)>, Fail> {
+    let none = Vec::new(alloc);
+    let pointer = at(bytes, rsdp, 36);
+    if !pointer.starts_with(b"RSD PTR ") || number(pointer, 15, 1) != 2 {
+        return Ok(none);
+    }
+    if number(pointer, 20, 4) != 36 || !sums(pointer) || !sums(at(pointer, BASE, 20)) {
+        return Ok(none);
+    }
+    let xsdt = number(pointer, 24, 8);
+    let size = size_at(bytes, xsdt);
+    if !at(bytes, xsdt, size).starts_with(b"XSDT") || size % 8 != 4 {
+        return Ok(none);
+    }
+    let mut found = vec![in alloc; (rsdp, 36), (xsdt, size)]?;
+    let mut fadt = 0;
+    let mut fadts = 0u32;
+    for i in 0..size.saturating_sub(36) / 8 {
+        let place = xsdt.wrapping_sub(BASE).wrapping_add(36);
+        let address = number(bytes, place.wrapping_add(i.wrapping_mul(8)), 8);
+        let length = size_at(bytes, address);
+        if length == 0 {
+            return Ok(none);
+        }
+        if at(bytes, address, 4) == b"FACP".as_slice() {
+            fadt = address;
+            fadts = fadts.wrapping_add(1);
+        }
+        found.push((address, length))?;
+    }
+    if fadts != 1 || size_at(bytes, fadt) < 148 {
+        return Ok(none);
+    }
+    let facs = number(at(bytes, fadt, 148), 132, 8);
+    let dsdt = number(at(bytes, fadt, 148), 140, 8);
+    let length = size_at(bytes, dsdt);
+    if !at(bytes, facs, 64).starts_with(b"FACS\x40\0\0\0")
+        || !at(bytes, dsdt, length).starts_with(b"DSDT")
+    {
+        return Ok(none);
+    }
+    found.push((facs, 64))?;
+    found.push((dsdt, length))?;
+    for (i, (address, length)) in found.iter().enumerate() {
+        for (other, size) in found.iter().skip(i.wrapping_add(1)) {
+            if *address < other.wrapping_add(*size) && *other < address.wrapping_add(*length) {
+                return Ok(none);
+            }
+        }
+    }
+    Ok(found)
+}
+
+// The tables that were found are those of the plain check.
+fn are_same(found: &[Located], wanted: &[(u64, u64)]) -> Result<(), Fail> {
+    equal(&found.len(), &wanted.len())?;
+    for (table, wanted) in found.iter().zip(wanted) {
+        equal(&(table.address, u64::from(table.length)), wanted)?;
+    }
+    Ok(())
+}
+
+#[test]
+fn single_bytes(rt: HostRuntime) -> Result<(), Fail> {
+    let alloc = rt.alloc();
+    let sdt = dsdt(alloc, 36)?;
+    let mcfg = mcfg(alloc)?;
+    let made = image(alloc, 0x40, &sdt, vec![in alloc; &mcfg as &dyn Aml]?)?;
+    let mut numbers = Numbers(0x9e37_79b9_7f4a_7c15);
+    let mut accepted = 0u32;
+    for _ in 0..10_000 {
+        let mut bytes = Vec::from_slice(alloc, &made.bytes)?;
+        let place = numbers.below(bytes.len());
+        let change = (numbers.below(255) % 255) as u8;
+        if place >= bytes.len() {
+            return Err(Fail::new("no byte"));
+        }
+        bytes[place] = bytes[place].wrapping_add(change).wrapping_add(1);
+        let wanted = plain(alloc, &bytes, made.rsdp)?;
+        match check_image(alloc, &bytes, BASE, made.rsdp) {
+            Ok(found) => {
+                are_same(&found, &wanted)?;
+                accepted = accepted.wrapping_add(1);
+            }
+            Err(_) => equal(&wanted.len(), &0)?,
+        }
+    }
+    // Of 548 bytes, 80 count for nothing: 56 of the FACS, and 24 in gaps.
+    equal(&(accepted > 1_300 && accepted < 1_600), &true)
+}

@@ -1,0 +1,254 @@
+//! Images that are read back, and the fault of each that is broken.
+
+use crate::layout::{dsdt, image, mcfg};
+use acpi_tables::Aml;
+use acpi_tables::layout::{Image, ImageFault, Located, check_image};
+use acpi_vectors::{agree, equal};
+use std::alloc::Global;
+use std::test::Fail;
+
+// The FACS at 0x1000, the DSDT at 0x1040 (36 bytes), the FADT at 0x1068 (276), the MCFG at 0x1180 (60), the XSDT at 0x11c0 (52) and
+// the RSDP at 0x1200.
+fn sample(alloc: Global) -> Result<Image, Fail> {
+    let sdt = dsdt(alloc, 36)?;
+    let mcfg = mcfg(alloc)?;
+    Ok(image(alloc, 0x40, &sdt, vec![in alloc; &mcfg as &dyn Aml]?)?)
+}
+
+fn located(address: u64, length: u32, signature: &[u8; 4]) -> Located {
+    Located {
+        address,
+        length,
+        signature: *signature,
+    }
+}
+
+#[test]
+fn tables_in_order(rt: HostRuntime) -> Result<(), Fail> {
+    let alloc = rt.alloc();
+    let made = sample(alloc)?;
+    let found = check_image(alloc, &made.bytes, 0x1000, made.rsdp)?;
+    let wanted = [
+        located(0x1200, 36, b"RSD "),
+        located(0x11c0, 52, b"XSDT"),
+        located(0x1068, 276, b"FACP"),
+        located(0x1180, 60, b"MCFG"),
+        located(0x1000, 64, b"FACS"),
+        located(0x1040, 36, b"DSDT"),
+    ];
+    equal(&found.len(), &6)?;
+    for (found, wanted) in found.iter().zip(&wanted) {
+        equal(found, wanted)?;
+    }
+    equal(&made.places.len(), &2)?;
+    for (place, wanted) in made.places.iter().zip([0x68, 0x180]) {
+        equal(place, &wanted)?;
+    }
+    Ok(())
+}
+
+// Writes bytes over those at an offset.
+fn overwrite(bytes: &mut Vec<u8>, at: usize, with: &[u8]) -> Result<(), Fail> {
+    if at > bytes.len() || with.len() > bytes.len() - at {
+        return Err(Fail::new(format_args!("no room at {at}")));
+    }
+    bytes[at..at + with.len()].copy_from_slice(with);
+    Ok(())
+}
+
+// With these bytes at their offset, the image has this fault.
+fn faults(alloc: Global, made: &Image, rows: &[(usize, &[u8], ImageFault)]) -> Result<(), Fail> {
+    for (at, with, wanted) in rows {
+        let mut bytes = Vec::from_slice(alloc, &made.bytes)?;
+        overwrite(&mut bytes, *at, *with)?;
+        let found = check_image(alloc, &bytes, 0x1000, made.rsdp);
+        equal(&found.err(), &Some(*wanted))?;
+    }
+    Ok(())
+}
+
+#[test]
+fn wrong_pointers(rt: HostRuntime) -> Result<(), Fail> {
+    let alloc = rt.alloc();
+    let made = sample(alloc)?;
+    faults(
+        alloc,
+        &made,
+        &[
+            // X_FIRMWARE_CTRL: the DSDT, 64 bytes of which the last are past the end, one byte before the image
+            (0xec, b"\x40\x10", ImageFault::Signature(0x1040)),
+            (0xec, b"\xe8\x11", ImageFault::Outside(0x11e8)),
+            (0xec, b"\xff\x0f", ImageFault::Outside(0xfff)),
+            // X_DSDT: the FACS, the last bytes, 2^64 - 1
+            (0xf4, b"\0\x10", ImageFault::Signature(0x1000)),
+            (0xf4, b"\x01\x12", ImageFault::Outside(0x1201)),
+            (
+                0xf4,
+                b"\xff\xff\xff\xff\xff\xff\xff\xff",
+                ImageFault::Outside(u64::MAX),
+            ),
+            // entries: none is the FADT, one is 0, one is in the middle of the MCFG
+            (0x1e4, b"\x80\x11", ImageFault::NoFadt(0x11c0)),
+            (0x1ec, b"\0\0", ImageFault::Outside(0)),
+            (0x1ec, b"\x84\x11", ImageFault::Outside(0x1184)),
+            // the address of the XSDT, with the sums mended: the FADT, and past the end
+            (
+                0x208,
+                b"\x26FOOBAR\x02\0\0\0\0\x24\0\0\0\x68\x10\0\0\0\0\0\0\x64",
+                ImageFault::Signature(0x1068),
+            ),
+            (
+                0x208,
+                b"\x26FOOBAR\x02\0\0\0\0\x24\0\0\0\x24\x12\0\0\0\0\0\0\xa6",
+                ImageFault::Outside(0x1224),
+            ),
+        ],
+    )?;
+    for rsdp in [0, 0xfff, 0x1201, u64::MAX] {
+        let found = check_image(alloc, &made.bytes, 0x1000, rsdp);
+        equal(&found.err(), &Some(ImageFault::Outside(rsdp)))?;
+    }
+    let found = check_image(alloc, &made.bytes, 0x1000, 0x11c0);
+    equal(&found.err(), &Some(ImageFault::Signature(0x11c0)))
+}
+
+#[test]
+fn overlaps(rt: HostRuntime) -> Result<(), Fail> {
+    let alloc = rt.alloc();
+    faults(
+        alloc,
+        &sample(alloc)?,
+        &[
+            // the DSDT is an entry, too
+            (0x1ec, b"\x40\x10", ImageFault::Overlap(0x1040, 0x1040)),
+            // the MCFG has one byte of the XSDT, and the DSDT one of the FADT
+            (0x184, b"\x41", ImageFault::Overlap(0x11c0, 0x1180)),
+            (0x44, b"\x29", ImageFault::Overlap(0x1068, 0x1040)),
+        ],
+    )
+}
+
+#[test]
+fn entry_twice(rt: HostRuntime) -> Result<(), Fail> {
+    let alloc = rt.alloc();
+    let sdt = dsdt(alloc, 36)?;
+    let first = mcfg(alloc)?;
+    let second = mcfg(alloc)?;
+    // the second MCFG at 0x11c0, the XSDT at 0x1200, the RSDP at 0x1240
+    let tables = vec![in alloc; &first as &dyn Aml, &second]?;
+    let made = image(alloc, 0x40, &sdt, tables)?;
+    equal(
+        &check_image(alloc, &made.bytes, 0x1000, made.rsdp)?.len(),
+        &7,
+    )?;
+    faults(
+        alloc,
+        &made,
+        &[
+            (0x234, b"\x80\x11", ImageFault::Overlap(0x1180, 0x1180)),
+            (0x22c, b"\xc0\x11", ImageFault::Overlap(0x11c0, 0x11c0)),
+            (0x22c, b"\x68\x10", ImageFault::SecondFadt(0x1068)),
+        ],
+    )
+}
+
+#[test]
+fn lengths(rt: HostRuntime) -> Result<(), Fail> {
+    let alloc = rt.alloc();
+    faults(
+        alloc,
+        &sample(alloc)?,
+        &[
+            // no whole entries
+            (0x1c4, b"\x35", ImageFault::Entries(0x11c0)),
+            (0x1c4, b"\x33", ImageFault::Entries(0x11c0)),
+            // tables that pass the end
+            (0x1c4, b"\x65", ImageFault::Outside(0x11c0)),
+            (0x184, b"\xa5", ImageFault::Outside(0x1180)),
+            (0x6c, b"\xff\xff\xff\xff", ImageFault::Outside(0x1068)),
+            (0x44, b"\xe5\x01", ImageFault::Outside(0x1040)),
+            // lengths that no such table has
+            (0x1c4, b"\x23", ImageFault::Length(0x11c0)),
+            (0x184, b"\x23", ImageFault::Length(0x1180)),
+            (0x44, b"\0", ImageFault::Length(0x1040)),
+            (0x6c, b"\x93\0", ImageFault::Length(0x1068)),
+            (0x04, b"\x3f", ImageFault::Length(0x1000)),
+            (0x04, b"\x41", ImageFault::Length(0x1000)),
+            (0x214, b"\x14", ImageFault::Length(0x1200)),
+        ],
+    )
+}
+
+#[test]
+fn names_and_sums(rt: HostRuntime) -> Result<(), Fail> {
+    let alloc = rt.alloc();
+    faults(
+        alloc,
+        &sample(alloc)?,
+        &[
+            (0x200, b"RSD PTR_", ImageFault::Signature(0x1200)),
+            (0x1c0, b"RSDT", ImageFault::Signature(0x11c0)),
+            (0x40, b"SSDT", ImageFault::Signature(0x1040)),
+            (0, b"FACT", ImageFault::Signature(0x1000)),
+            (0x180, b"FACP", ImageFault::SecondFadt(0x1180)),
+            (0x68, b"FADT", ImageFault::NoFadt(0x11c0)),
+            (0x20f, b"\0", ImageFault::Revision(0x1200)),
+            (0x20f, b"\x03", ImageFault::Revision(0x1200)),
+            // the first 20 bytes of the RSDP, and those after them
+            (0x208, b"\x27", ImageFault::Sum(0x1200)),
+            (0x220, b"\x0c", ImageFault::Sum(0x1200)),
+            (0x1d8, b"\xf0", ImageFault::Sum(0x11c0)),
+            (0x80, b"\xf0", ImageFault::Sum(0x1068)),
+            (0x1bb, b"\xfe", ImageFault::Sum(0x1180)),
+            (0x58, b"\xf0", ImageFault::Sum(0x1040)),
+        ],
+    )
+}
+
+// A reserved byte of the RSDP counts for the second sum alone.
+#[test]
+fn second_sum(rt: HostRuntime) -> Result<(), Fail> {
+    let alloc = rt.alloc();
+    let made = sample(alloc)?;
+    let mut bytes = Vec::from_slice(alloc, &made.bytes)?;
+    overwrite(&mut bytes, 0x221, b"\x01")?;
+    let found = check_image(alloc, &bytes, 0x1000, made.rsdp);
+    equal(&found.err(), &Some(ImageFault::Sum(0x1200)))?;
+    overwrite(&mut bytes, 0x220, b"\x0a")?;
+    equal(&check_image(alloc, &bytes, 0x1000, made.rsdp)?.len(), &6)
+}
+
+#[test]
+fn texts(rt: HostRuntime) -> Result<(), Fail> {
+    let alloc = rt.alloc();
+    for (fault, wanted) in [
+        (ImageFault::Memory, "out of memory"),
+        (
+            ImageFault::Outside(0x1c00_0040),
+            "at 0x1c000040: the table isn't in the image",
+        ),
+        (ImageFault::Signature(0), "at 0x0: the signature is wrong"),
+        (ImageFault::Length(0xa0), "at 0xa0: the length is wrong"),
+        (ImageFault::Revision(0xa0), "at 0xa0: the revision isn't 2"),
+        (
+            ImageFault::Sum(0xa0),
+            "at 0xa0: the bytes don't sum to zero",
+        ),
+        (
+            ImageFault::Entries(0xa0),
+            "at 0xa0: the XSDT doesn't end after a whole entry",
+        ),
+        (ImageFault::NoFadt(0xa0), "at 0xa0: the XSDT lists no FADT"),
+        (
+            ImageFault::SecondFadt(0xa0),
+            "at 0xa0: this is a second FADT",
+        ),
+        (
+            ImageFault::Overlap(0xa0, u64::MAX),
+            "at 0xa0: the table overlaps the one at 0xffffffffffffffff",
+        ),
+    ] {
+        agree(&format!(in alloc; "{fault}")?, wanted)?;
+    }
+    Ok(())
+}
