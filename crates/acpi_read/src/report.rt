@@ -4,7 +4,7 @@ mod line;
 mod piece;
 mod size;
 mod width;
-mod words;
+pub mod words;
 
 ghost use Rattle.std.specs.Prelude.{◌≡◌, ◌++◌, IfErr, IfOk, OnOk, codes, map, string_bytes};
 ghost use Rattle.std.specs.Fmt.{decimal};
@@ -19,7 +19,8 @@ use crate::report::line::push_head;
 use crate::report::piece::push_pieces;
 use crate::report::size::content_sizes;
 use crate::report::width::{push_width, shown_entry_width, shown_width};
-use crate::report::words::{push_indent, push_number};
+use crate::report::words::push_indent;
+pub use crate::report::words::push_number;
 use crate::table::Table;
 use acpi_term::apart::{Kind, parts_of};
 use acpi_term::read_error::ReadError;
@@ -201,7 +202,8 @@ fn push_named_bits(name: &[u8], bits: u32, text: &mut String) -> Result<(), Allo
     push_number(" bits ", u64::from(bits), text)
 }
 
-fn push_shown(name: &[u8], text: &mut String) -> Result<(), AllocError>
+/// Adds the bytes of a signature or of a segment to a text, each as `?` if it isn't printable.
+pub fn push_shown(name: &[u8], text: &mut String) -> Result<(), AllocError>
     ensures { OnOk result (string_bytes text.new ≡ string_bytes text.old ++ map printable name.now) }
 {
     for byte in name {

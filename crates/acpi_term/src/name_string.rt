@@ -6,7 +6,7 @@ ghost use Rattle.std.specs.Bool.{nat_eq};
 ghost use Rattle.acpi_term.specs.Held.{held, Holds};
 ghost use Rattle.acpi_term.specs.Name.{IsName};
 ghost use Rattle.acpi_term.specs.PathText.{parts, are_standard, path_spelling, is_name_text};
-ghost use Rattle.acpi_term.specs.Arity.{is_stated, are_arities, arity};
+ghost use Rattle.acpi_term.specs.Arity.{is_stated, are_arities, arity, with_new};
 ghost use Rattle.acpi_term.specs.Spelling.{arguments};
 ghost use Rattle.std.specs.Cmp.{partial_equiv_from_equiv};
 ghost use Rattle.std.specs.Cmp.Lexicographic.{nat_list_eq_equiv};
@@ -163,6 +163,26 @@ impl Arities {
         0
     }
 
+    /// The same list once more, in memory of its own.
+    pub fn copy(&self, alloc: Global) -> Result<Arities, AllocError>
+        ensures { IfOk result (λ arities. arities ≡ self.now) }
+    {
+        let counts = copied(alloc, &self.counts)?;
+        let copy = Arities { counts };
+        Ok(copy)
+    }
+
+    /// Adds how many arguments a name takes, unless the list states it already.
+    pub fn add(&mut self, name: NameString, count: u8) -> Result<(), AllocError>
+        ensures { OnOk result (self.new ≡ with_new self.old (name, count)) }
+    {
+        if is_stated(&self.counts, name.as_bytes()) {
+            return Ok(());
+        }
+        self.counts.push((name, count))?;
+        Ok(())
+    }
+
     /// The allocator of the list.
     pub fn allocator(&self) -> Global {
         *self.counts.allocator()
@@ -177,6 +197,16 @@ pub fn arguments(arities: &Arities, mode: Mode, name: &[u8]) -> u8
         Mode::Term | Mode::Count => arities.count_of(name),
         Mode::Element => 0,
     }
+}
+
+fn copied(alloc: Global, counts: &[(NameString, u8)]) -> Result<Vec<(NameString, u8)>, AllocError>
+    ensures { IfOk result (λ copies. copies.items ≡ counts.now) }
+{
+    let mut copies = Vec::with_capacity(alloc, counts.len())?;
+    'counts: for (name, count) in counts {
+        copies.push((name_of(alloc, name.as_bytes())?, *count))?;
+    }
+    Ok(copies)
 }
 
 fn is_stated(counts: &[(NameString, u8)], name: &[u8]) -> bool

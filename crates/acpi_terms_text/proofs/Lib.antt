@@ -1,0 +1,9 @@
+pub mod Groups
+pub mod Woven
+pub mod Templates
+pub mod Runs
+pub mod Walks
+pub mod Dots
+pub mod Single
+pub mod Placed
+pub mod Kept

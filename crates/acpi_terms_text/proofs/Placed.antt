@@ -1,0 +1,304 @@
+-- Each line of the report has the comment of its own term.
+use Rattle.std.proofs.Common.{◌≡◌, ◌≢◌, ℕ, zero, suc, ◌==◌, ◌&&◌, not, Bool, true, false, List, [], ◌∷◌, ◌++◌, length, map, refl, ap, sym, ◌∙◌, append_assoc, arith}
+use Rattle.std.specs.Prelude.{codes, replicate, nat_le, if◌then◌else◌}
+use Rattle.std.specs.Fmt.{decimal}
+use Rattle.std.proofs.lemmas.List.{append-nil}
+use Rattle.std.proofs.lemmas.Bool.{and_parts}
+use Rattle.std.proofs.lemmas.Bool.Decides.{nat_tests}
+use Rattle.acpi_term.specs.declared.mode.Mode.{Mode}
+use Rattle.acpi_term.specs.declared.mode.Mode.TheVariants.{Term}
+use Rattle.acpi_term.specs.declared.op.Op.{Op}
+use Rattle.acpi_term.specs.declared.op.Op.TheVariants as op
+use Rattle.acpi_term.specs.Name.{is_lead, is_part, is_segment, AreSegments, no_more, one_more, IsPath, single, double, multiple, IsName, relative, rooted}
+use Rattle.acpi_term.specs.Operator.{word}
+use Rattle.acpi_term.specs.Row.{entry_width}
+use Rattle.acpi_term.specs.Spelling.{IsStandard, AreLegal, inner, next, spelling}
+use Rattle.acpi_term.specs.Tree.{Entry, named, reserved, Head, number, ones, string, local, arg, call, def_scope, def_device, def_method, def_power_res, def_field, def_op_region, def_name, def_mutex, def_acquire, def_release, def_buffer, def_package, def_var_package, def_if, def_while, def_else, op, Terms, end, term, count}
+use Rattle.acpi_read.specs.Lines.{hex_byte, quoted_byte, quoted_bytes, dotted_segments, tail, segments_of, name_text, width_suffix, is_chosen, is_entry_chosen, data_text, head_text, indent, line, entry_text, entry_line, entry_lines, own_lines, term_suffix, lines}
+use Rattle.acpi_read.specs.Report.{printable}
+use Rattle.acpi_terms_text.specs.Comment.{has_ids, note, comment, noted_lines, annotated, IsAnnotated}
+use Rattle.acpi_terms_text.specs.Woven.{entry_notes, notes, woven}
+use Rattle.acpi_terms_text.specs.Laws.{IsOneLine}
+use Rattle.acpi_read.specs.Terms.{AreRead}
+use Rattle.acpi_terms_text.proofs.Single.{one_and, is_line, tested, bytes_line, decimal_line}
+use Rattle.acpi_terms_text.proofs.Woven.{woven_line}
+
+-- ---- names
+
+lead_line : (b : ℕ) → is_lead b ≡ true → b ≢ 10
+lead_line b h = λ e. absurd (grind (arith, nat_tests, e, h))
+
+part_line : (b : ℕ) → is_part b ≡ true → b ≢ 10
+part_line b h = λ e. absurd (grind (arith, nat_tests, e, h))
+
+segment_line : (a b c d : ℕ) → is_segment a b c d ≡ true → (s : List ℕ) → IsOneLine s → IsOneLine (a ∷ b ∷ c ∷ d ∷ s)
+unfolding is_segment
+segment_line a b c d h s others =
+    let p = and_parts (is_lead a && is_part b && is_part c) (is_part d) h in
+    let q = and_parts (is_lead a && is_part b) (is_part c) p.0 in
+    let r = and_parts (is_lead a) (is_part b) q.0 in
+    (lead_line a r.0, (part_line b r.1, (part_line c q.1, (part_line d p.1, others))))
+
+segments_line : (n : ℕ) (s : List ℕ) → AreSegments n s → IsOneLine s
+segments_line n s no_more = tt
+segments_line n s (one_more {n = m} {a = a} {b = b} {c = c} {d = d} {s = more} good others) = segment_line a b c d good more (segments_line m more others)
+
+dot_line : IsOneLine (46 ∷ [])
+dot_line = tested (46 ∷ []) refl
+
+dotted_line : (s : List ℕ) → IsOneLine s → IsOneLine (dotted_segments s)
+dotted_line [] p = p
+dotted_line (a ∷ []) p = p
+dotted_line (a ∷ b ∷ []) p = p
+dotted_line (a ∷ b ∷ c ∷ []) p = p
+dotted_line (a ∷ b ∷ c ∷ d ∷ []) p = p
+dotted_line (a ∷ b ∷ c ∷ d ∷ e ∷ rest) p = (p.0, (p.1.0, (p.1.1.0, (p.1.1.1.0, (dot_line.0, dotted_line (e ∷ rest) p.1.1.1.1)))))
+
+tail_line : (s : List ℕ) → IsOneLine s → IsOneLine (tail s)
+tail_line [] p = p
+tail_line (b ∷ s) p = p.1
+
+choice_line : (t : Bool) (a b : List ℕ) → IsOneLine a → IsOneLine b → IsOneLine (if t then a else b)
+choice_line true a b p q = p
+choice_line false a b p q = q
+
+parts_line : (s : List ℕ) → IsOneLine s → IsOneLine (segments_of s)
+parts_line [] p = p
+parts_line (b ∷ s) p = choice_line (b == 46) s (if b == 47 then tail s else b ∷ s) p.1 (choice_line (b == 47) (tail s) (b ∷ s) (tail_line s p.1) p)
+
+path_line : (s : List ℕ) → IsPath s → IsOneLine (segments_of s)
+path_line s (single one) = parts_line s (segments_line 1 s one)
+path_line s (double {s = two} both) = segments_line 2 two both
+path_line s (multiple {n = n} {s = several} low high all) = segments_line n several all
+
+root_line : IsOneLine (92 ∷ [])
+root_line = tested (92 ∷ []) refl
+
+plain_line : (s : List ℕ) → IsOneLine s → IsOneLine (name_text s)
+plain_line [] p = p
+plain_line (b ∷ s) p =
+    choice_line (b == 92) (92 ∷ dotted_segments (segments_of s)) (dotted_segments (segments_of (b ∷ s))) (root_line.0, dotted_line (segments_of s) (parts_line s p.1)) (dotted_line (segments_of (b ∷ s)) (parts_line (b ∷ s) p))
+
+name_line : (name : List ℕ) → IsName name → IsOneLine (name_text name)
+name_line name (relative (single one)) = plain_line name (segments_line 1 name one)
+name_line name (relative (double {s = two} both)) = dotted_line two (segments_line 2 two both)
+name_line name (relative (multiple {n = n} {s = several} low high all)) = dotted_line several (segments_line n several all)
+name_line name (rooted {s = s} path) = (root_line.0, dotted_line (segments_of s) (path_line s path))
+
+-- ---- words
+
+and_decimal : (said : List ℕ) (n : ℕ) → is_line said ≡ true → IsOneLine (said ++ decimal n)
+and_decimal said n is = one_and said (decimal n) (tested said is) (decimal_line n)
+
+then_decimal : (front said : List ℕ) (n : ℕ) → IsOneLine front → is_line said ≡ true → IsOneLine (front ++ said ++ decimal n)
+then_decimal front said n one is = one_and (front ++ said) (decimal n) (one_and front said one (tested said is)) (decimal_line n)
+
+alone_line : (said name : List ℕ) → is_line said ≡ true → IsName name → IsOneLine (said ++ name_text name)
+alone_line said name is std = one_and said (name_text name) (tested said is) (name_line name std)
+
+flag_line : (flag : Bool) → IsOneLine (if flag then codes "1" else codes "0")
+flag_line true = tested (codes "1") refl
+flag_line false = tested (codes "0") refl
+
+print_line : (b : ℕ) → (nat_le 32 b && nat_le b 126 && not (b == 34) && not (b == 92)) ≡ true → b ≢ 10
+print_line b is = λ e. absurd (grind (arith, nat_tests, e, is))
+
+escape_line : IsOneLine (92 ∷ 120 ∷ [])
+escape_line = tested (92 ∷ 120 ∷ []) refl
+
+byte_line : (b : ℕ) → IsOneLine (quoted_byte b)
+byte_line b =
+    elim (nat_le 32 b && nat_le b 126 && not (b == 34) && not (b == 92)) as (λ v. (nat_le 32 b && nat_le b 126 && not (b == 34) && not (b == 92)) ≡ v → IsOneLine (if v then b ∷ [] else 92 ∷ 120 ∷ hex_byte b)) [
+      | true ↦ λ is. (print_line b is, tt)
+      | false ↦ λ is. (escape_line.0, (escape_line.1.0, bytes_line (b ∷ [])))
+    ] refl
+
+quoted_line : (s : List ℕ) → IsOneLine (quoted_bytes s)
+quoted_line [] = tt
+quoted_line (b ∷ s) = one_and (quoted_byte b) (quoted_bytes s) (byte_line b) (quoted_line s)
+
+space_line : IsOneLine (32 ∷ [])
+space_line = tested (32 ∷ []) refl
+
+data_line : (bytes : List ℕ) → IsOneLine (data_text bytes)
+data_line [] = tt
+data_line (b ∷ bytes) = (space_line.0, bytes_line (b ∷ bytes))
+
+word_line : (o : Op) → is_line (word o) ≡ true
+word_line op.LNot = refl
+word_line op.LEqual = refl
+word_line op.LLess = refl
+word_line op.LGreater = refl
+word_line op.LAnd = refl
+word_line op.LOr = refl
+word_line op.Increment = refl
+word_line op.Decrement = refl
+word_line op.Break = refl
+word_line op.ObjectType = refl
+word_line op.SizeOf = refl
+word_line op.Return = refl
+word_line op.DeRefOf = refl
+word_line op.Add = refl
+word_line op.Concat = refl
+word_line op.Subtract = refl
+word_line op.Multiply = refl
+word_line op.ShiftLeft = refl
+word_line op.ShiftRight = refl
+word_line op.And = refl
+word_line op.Nand = refl
+word_line op.Or = refl
+word_line op.Nor = refl
+word_line op.Xor = refl
+word_line op.ConcatRes = refl
+word_line op.Mod = refl
+word_line op.Index = refl
+word_line op.ToString = refl
+word_line op.CreateDWordField = refl
+word_line op.CreateQWordField = refl
+word_line op.ToBuffer = refl
+word_line op.ToInteger = refl
+word_line op.Store = refl
+word_line op.Notify = refl
+word_line op.Mid = refl
+word_line op.CreateField = refl
+
+head_line : (h : Head) (n : ℕ) → IsStandard h → IsOneLine (head_text h n)
+head_line (number v) n std = and_decimal (codes "number ") v refl
+head_line ones n std = tested (codes "ones") refl
+head_line (string s) n std = one_and (codes "text \"" ++ quoted_bytes s) (codes "\"") (one_and (codes "text \"") (quoted_bytes s) (tested (codes "text \"") refl) (quoted_line s)) (tested (codes "\"") refl)
+head_line (local k) n std = and_decimal (codes "local ") k refl
+head_line (arg k) n std = and_decimal (codes "arg ") k refl
+head_line (call name) n std = then_decimal (codes "name " ++ name_text name) (codes " args ") n (alone_line (codes "name ") name refl std) refl
+head_line (def_scope name) n std = alone_line (codes "scope ") name refl std
+head_line (def_device name) n std = alone_line (codes "device ") name refl std
+head_line (def_method name args serialized) n std = one_and (codes "method " ++ name_text name ++ codes " args " ++ decimal args ++ codes " serialized ") (if serialized then codes "1" else codes "0") (one_and (codes "method " ++ name_text name ++ codes " args " ++ decimal args) (codes " serialized ") (then_decimal (codes "method " ++ name_text name) (codes " args ") args (alone_line (codes "method ") name refl std) refl) (tested (codes " serialized ") refl)) (flag_line serialized)
+head_line (def_power_res name level order) n std = then_decimal (codes "power " ++ name_text name ++ codes " level " ++ decimal level) (codes " order ") order (then_decimal (codes "power " ++ name_text name) (codes " level ") level (alone_line (codes "power ") name refl std.0) refl) refl
+head_line (def_field name access lock update entries) n std = then_decimal (codes "field " ++ name_text name ++ codes " access " ++ decimal access ++ codes " lock " ++ decimal lock) (codes " update ") update (then_decimal (codes "field " ++ name_text name ++ codes " access " ++ decimal access) (codes " lock ") lock (then_decimal (codes "field " ++ name_text name) (codes " access ") access (alone_line (codes "field ") name refl std.0) refl) refl) refl
+head_line (def_op_region name space) n std = then_decimal (codes "region " ++ name_text name) (codes " space ") space (alone_line (codes "region ") name refl std.0) refl
+head_line (def_name name) n std = alone_line (codes "define ") name refl std
+head_line (def_mutex name level) n std = then_decimal (codes "mutex " ++ name_text name) (codes " level ") level (alone_line (codes "mutex ") name refl std.0) refl
+head_line (def_acquire name timeout) n std = then_decimal (codes "acquire " ++ name_text name) (codes " timeout ") timeout (alone_line (codes "acquire ") name refl std.0) refl
+head_line (def_release name) n std = alone_line (codes "release ") name refl std
+head_line (def_buffer bytes) n std = one_and (codes "buffer data") (data_text bytes) (tested (codes "buffer data") refl) (data_line bytes)
+head_line def_package n std = and_decimal (codes "package ") n refl
+head_line def_var_package n std = tested (codes "varpackage") refl
+head_line def_if n std = tested (codes "if") refl
+head_line def_while n std = tested (codes "while") refl
+head_line def_else n std = tested (codes "else") refl
+head_line (op o) n std = tested (word o) (word_line o)
+
+indent_line : (d : ℕ) → IsOneLine (indent d)
+indent_line zero = tt
+indent_line (suc d) = (space_line.0, (space_line.0, indent_line d))
+
+suffix_line : (chosen : Bool) (w : ℕ) → IsOneLine (width_suffix chosen w)
+suffix_line true w = tt
+suffix_line false w = and_decimal (codes " width ") w refl
+
+shown_line : (b : ℕ) → printable b ≢ 10
+shown_line b = λ e. absurd (grind (arith, nat_tests, e))
+
+all_shown : (name : List ℕ) → IsOneLine (map printable name)
+all_shown [] = tt
+all_shown (b ∷ name) = (shown_line b, all_shown name)
+
+bits_line : (e : Entry) → IsOneLine (entry_text e)
+bits_line (named name bits w) = then_decimal (codes "entry " ++ map printable name) (codes " bits ") bits (one_and (codes "entry ") (map printable name) (tested (codes "entry ") refl) (all_shown name)) refl
+bits_line (reserved bits w) = and_decimal (codes "reserved bits ") bits refl
+
+-- ---- lines
+
+line_placed : (d : ℕ) (said width rest n : List ℕ) (ns : List (List ℕ)) → IsOneLine said → IsOneLine width
+    → woven (line d said width ++ rest) (n ∷ ns) ≡ line d said (width ++ comment n) ++ woven rest ns
+line_placed d said width rest n ns one two =
+    let front = indent d ++ (said ++ width) in
+    let single : IsOneLine front = one_and (indent d) (said ++ width) (indent_line d) (one_and said width one two) in
+    let cut : line d said width ++ rest ≡ front ++ (10 ∷ rest) = simp append_assoc in
+    let joined : front ++ (comment n ++ (10 ∷ woven rest ns)) ≡ line d said (width ++ comment n) ++ woven rest ns = simp append_assoc in
+    ap (λ (l : List ℕ). woven l (n ∷ ns)) cut ∙ woven_line front rest n ns single ∙ joined
+
+entry_placed : (d : ℕ) (e : Entry) (rest : List ℕ) (ns : List (List ℕ)) → woven (entry_line d e ++ rest) ([] ∷ ns) ≡ entry_line d e ++ woven rest ns
+entry_placed d e rest ns =
+    let width = width_suffix (is_entry_chosen e) (entry_width e) in
+    line_placed d (entry_text e) width rest [] ns (bits_line e) (suffix_line (is_entry_chosen e) (entry_width e))
+    ∙ ap (λ (l : List ℕ). line d (entry_text e) l ++ woven rest ns) (append-nil width)
+
+entries_placed : (d : ℕ) (entries : List Entry) (rest : List ℕ) (ns : List (List ℕ))
+    → woven (entry_lines d entries ++ rest) (replicate (length entries) [] ++ ns) ≡ entry_lines d entries ++ woven rest ns
+entries_placed d [] rest ns = refl
+entries_placed d (e ∷ entries) rest ns =
+    ap (λ (l : List ℕ). woven l ([] ∷ (replicate (length entries) [] ++ ns))) (append_assoc (entry_line d e) (entry_lines d entries) rest)
+    ∙ entry_placed d e (entry_lines d entries ++ rest) (replicate (length entries) [] ++ ns)
+    ∙ ap (λ (l : List ℕ). entry_line d e ++ l) (entries_placed d entries rest ns)
+    ∙ sym (append_assoc (entry_line d e) (entry_lines d entries) (woven rest ns))
+
+own_placed : (d : ℕ) (h : Head) (rest : List ℕ) (ns : List (List ℕ)) → woven (own_lines d h ++ rest) (entry_notes h ++ ns) ≡ own_lines d h ++ woven rest ns
+own_placed d (number v) rest ns = refl
+own_placed d ones rest ns = refl
+own_placed d (string s) rest ns = refl
+own_placed d (local k) rest ns = refl
+own_placed d (arg k) rest ns = refl
+own_placed d (call name) rest ns = refl
+own_placed d (def_scope name) rest ns = refl
+own_placed d (def_device name) rest ns = refl
+own_placed d (def_method name args serialized) rest ns = refl
+own_placed d (def_power_res name level order) rest ns = refl
+own_placed d (def_field name access lock update entries) rest ns = entries_placed d entries rest ns
+own_placed d (def_op_region name space) rest ns = refl
+own_placed d (def_name name) rest ns = refl
+own_placed d (def_mutex name level) rest ns = refl
+own_placed d (def_acquire name timeout) rest ns = refl
+own_placed d (def_release name) rest ns = refl
+own_placed d (def_buffer bytes) rest ns = refl
+own_placed d def_package rest ns = refl
+own_placed d def_var_package rest ns = refl
+own_placed d def_if rest ns = refl
+own_placed d def_while rest ns = refl
+own_placed d def_else rest ns = refl
+own_placed d (op o) rest ns = refl
+
+module _ (arity : List ℕ → ℕ) where
+  all_placed : (m : Mode) (ids : Bool) (d : ℕ) (ts : Terms) → AreLegal arity m ts → (rest : List ℕ) (ns : List (List ℕ))
+      → woven (lines d ts ++ rest) (notes ids ts ++ ns) ≡ noted_lines ids d ts ++ woven rest ns
+  all_placed m ids d end legal rest ns = refl
+  all_placed m ids d (term h w c o) legal rest ns =
+      let said = head_text h (count c) in
+      let width = term_suffix h w c in
+      let n = note ids h w c in
+      let first = line d said width in
+      let own = own_lines (suc d) h in
+      let below = lines (suc d) c in
+      let after = lines d o in
+      let inner_notes = notes (has_ids ids h) c in
+      let after_notes = notes ids o in
+      let first' = line d said (width ++ comment n) in
+      let below' = noted_lines (has_ids ids h) (suc d) c in
+      let after' = noted_lines ids d o in
+      let texts : (first ++ own ++ below ++ after) ++ rest ≡ first ++ (own ++ (below ++ (after ++ rest))) = simp append_assoc in
+      let lists : (entry_notes h ++ (inner_notes ++ after_notes)) ++ ns ≡ entry_notes h ++ (inner_notes ++ (after_notes ++ ns)) = simp append_assoc in
+      let joined : first' ++ (own ++ (below' ++ (after' ++ woven rest ns))) ≡ (first' ++ own ++ below' ++ after') ++ woven rest ns = simp append_assoc in
+      ap (λ (l : List ℕ). woven l (n ∷ ((entry_notes h ++ (inner_notes ++ after_notes)) ++ ns))) texts
+      ∙ ap (λ (l : List (List ℕ)). woven (first ++ (own ++ (below ++ (after ++ rest)))) (n ∷ l)) lists
+      ∙ line_placed d said width (own ++ (below ++ (after ++ rest))) n (entry_notes h ++ (inner_notes ++ (after_notes ++ ns))) (head_line h (count c) legal.0.is_standard) (suffix_line (is_chosen h w (count c) (spelling c)) w)
+      ∙ ap (λ (l : List ℕ). first' ++ l)
+      (own_placed (suc d) h (below ++ (after ++ rest)) (inner_notes ++ (after_notes ++ ns))
+      ∙ ap (λ (l : List ℕ). own ++ l)
+      (all_placed (inner h) (has_ids ids h) (suc d) c legal.1 (after ++ rest) (after_notes ++ ns)
+      ∙ ap (λ (l : List ℕ). below' ++ l) (all_placed (next m) ids d o legal.2 rest ns)))
+      ∙ joined
+
+  pub in_place : (m : Mode) (ts : Terms) → AreLegal arity m ts → woven (lines 0 ts) (notes false ts) ≡ annotated ts
+  in_place m ts legal =
+      ap (λ (l : List ℕ). woven l (notes false ts)) (sym (append-nil (lines 0 ts)))
+      ∙ ap (λ (l : List (List ℕ)). woven (lines 0 ts ++ []) l) (sym (append-nil (notes false ts)))
+      ∙ all_placed m false 0 ts legal [] []
+      ∙ append-nil (annotated ts)
+
+-- The report of terms that were read, with its comments.
+pub is_annotated : (arity : List ℕ → ℕ) (bytes : List ℕ) (ts : Terms) (report text : List ℕ) (said : List (List ℕ)) → AreRead arity bytes ts
+    → report ≡ lines 0 ts → said ≡ notes false ts → text ≡ woven report said → IsAnnotated arity bytes text
+is_annotated arity bytes ts report text said read p q r = record {
+  terms = ts;
+  read = read;
+  is = r ∙ ap (λ (l : List ℕ). woven l said) p ∙ ap (λ (l : List (List ℕ)). woven (lines 0 ts) l) q ∙ in_place arity Term ts read.spelled.0;
+}

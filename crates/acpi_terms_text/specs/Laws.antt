@@ -1,0 +1,25 @@
+-- What laws say.
+use Rattle.std.specs.Prelude.{◌≢◌, ℕ, List, [], ◌∷◌, ◌++◌, codes}
+use Rattle.acpi_term.specs.declared.mode.Mode.TheVariants.{Term}
+use Rattle.acpi_term.specs.Spelling.{Spells}
+use Rattle.acpi_term.specs.Tree.{Terms}
+use Rattle.acpi_read.specs.Lines.{lines}
+use Rattle.acpi_terms_text.specs.Comment.{annotated}
+
+-- no byte ends a line
+abbrev pub IsOneLine : List ℕ → Type 0
+IsOneLine [] = Unit {0}
+IsOneLine (c ∷ text) = (c ≢ 10) × IsOneLine text
+
+-- The lines of the second text are those of the first one, some of them with a comment after them.
+pub data HasLines : List ℕ → List ℕ → Type 0 where
+  same : {text : List ℕ} → HasLines text text
+  plain : (line : List ℕ) {rest text : List ℕ} → IsOneLine line → HasLines rest text
+      → HasLines (line ++ 10 ∷ rest) (line ++ 10 ∷ text)
+  noted : (line note : List ℕ) {rest text : List ℕ} → IsOneLine line → IsOneLine note → HasLines rest text
+      → HasLines (line ++ 10 ∷ rest) (line ++ (codes "  // " ++ (note ++ 10 ∷ text)))
+
+-- The text of terms that bytes spell has the lines of their report.
+abbrev pub LinesAreKept : Type 0
+LinesAreKept = (arity : List ℕ → ℕ) (bytes : List ℕ) (ts : Terms) → Spells arity Term bytes ts
+    → HasLines (lines 0 ts) (annotated ts)

@@ -1,0 +1,7 @@
+pub mod Methods
+pub mod Eisa
+pub mod Uuid
+pub mod Descriptor
+pub mod Comment
+pub mod Woven
+pub mod Laws

@@ -1,0 +1,10 @@
+//! Definition blocks as text: how many arguments their own methods take, and comments in the report of their terms.
+#![tactic(auto)]
+
+pub mod annotate;
+mod descriptor;
+mod eisa;
+pub mod laws;
+pub mod methods;
+mod note;
+mod uuid;
