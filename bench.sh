@@ -87,6 +87,7 @@ bytes=$(made aml 16384)
 beyond terms aml 16384 "$bytes" 'a byte that is read, and whose terms are dropped'
 beyond report terms 16384 "$bytes" 'a byte whose terms are reported'
 beyond table madt 100000 100000 'a structure that is reported'
+beyond show madt 28000 1008000 'a byte of a table of structures of 36 bytes that is shown by its form'
 built flat 20000 'a term at depth 1'
 built deep 20000 'a term at depth 250'
 

@@ -6,6 +6,7 @@ ghost use Rattle.acpi_term.specs.View.{view, views};
 ghost use Rattle.acpi_bench.specs.Nesting.{numbers, inside};
 
 use crate::fault::Fault;
+use acpi_forms::show::show;
 use acpi_tables::R;
 use acpi_tables::read::{Arities, Table, Term, report_table, report_terms, terms};
 use std::alloc::Global;
@@ -25,6 +26,12 @@ pub fn reported(alloc: Global, terms: &[Term]) -> Result<usize, Fault> {
 pub fn shown(alloc: Global, bytes: &[u8]) -> Result<usize, Fault> {
     let table = Table::check(bytes)?;
     Ok(report_table(alloc, &table)?.len())
+}
+
+/// The number of bytes of the text of a table by its form.
+pub fn named(alloc: Global, bytes: &[u8]) -> Result<usize, Fault> {
+    let table = Table::check(bytes)?;
+    Ok(show(alloc, &table)?.len())
 }
 
 fn zero() -> Term

@@ -5,7 +5,7 @@ use crate::fault::Fault;
 use crate::growing::{Growing, grown};
 use crate::matrices::{hmat, slit};
 use crate::nodes::{harts, ranges};
-use crate::reading::{nested, read, reported, shown};
+use crate::reading::{named, nested, read, reported, shown};
 use acpi_tables::cedt::CEDT;
 use acpi_tables::hest::HEST;
 use acpi_tables::madt::MADT;
@@ -68,6 +68,10 @@ pub fn made(alloc: Global, name: &str, size: u32) -> Result<Option<(usize, &'sta
         "table" => {
             let bytes = built::<MADT>(alloc, size)?;
             Ok(Some((shown(alloc, &bytes)?, text)))
+        }
+        "show" => {
+            let bytes = built::<MADT>(alloc, size)?;
+            Ok(Some((named(alloc, &bytes)?, text)))
         }
         "flat" => {
             let terms = nested(alloc, 0, size)?;

@@ -1,5 +1,6 @@
 pub mod Numbers
 pub mod Digits
+pub mod Offsets
 pub mod Reading
 pub mod Lines
 pub mod Spaces
@@ -8,4 +9,6 @@ pub mod Shown
 pub mod Parts
 pub mod Pieces
 pub mod Tables
+mod Names
+mod Stands
 mod Comments

@@ -11,10 +11,11 @@ use Rattle.acpi_text.specs.Hex.{numbers_text}
 use Rattle.acpi_text.specs.Laws.{LinesHaveFields, TitlesAreEmpty}
 use Rattle.acpi_text.specs.Label.{prints, all_print, is_label, label}
 use Rattle.acpi_text.specs.Line.{spaces, margin}
+use Rattle.acpi_text.specs.Names.{OneLine}
 use Rattle.acpi_text.specs.Note.{Note, plain, flags, one_of, decimal_text, flags_text, find_word, word_text, number_meaning, meaning}
 use Rattle.std.specs.Prelude.{bit_and}
 use Rattle.acpi_text.specs.Reading.{at_start, in_name, read}
-use Rattle.acpi_text.proofs.Reading.{Ends, Quiet, OneLine, quiet_append, one_line_append, name_read, comment_read, numbers_read}
+use Rattle.acpi_text.proofs.Reading.{Ends, Quiet, quiet_append, one_line_append, name_read, comment_read, numbers_read}
 
 -- ---- what stands before the colon
 
@@ -75,14 +76,14 @@ quiet_is_one_line (c ∷ text) quiet = (quiet.0, quiet_is_one_line text quiet.2)
 printed_byte : (b : ℕ) → prints b ≡ true → (b == 10) ≡ false
 printed_byte b is = grind (arith, nat_tests)
 
-printed_is_one_line : (field : List ℕ) → all_print field ≡ true → OneLine field
+pub printed_is_one_line : (field : List ℕ) → all_print field ≡ true → OneLine field
 printed_is_one_line [] is = tt
 printed_is_one_line (b ∷ field) is =
     let parts = and_parts (prints b) (all_print field) is in
     (printed_byte b parts.0, printed_is_one_line field parts.1)
 
 -- a number of at most eight bytes
-small_number : (w n : ℕ) (field : List ℕ) → AreBytes field → length field ≡ w * n → n ≡ 1 → w ≤ 8 → carried field < 2 ^ 64
+pub small_number : (w n : ℕ) (field : List ℕ) → AreBytes field → length field ≡ w * n → n ≡ 1 → w ≤ 8 → carried field < 2 ^ 64
 small_number w n field are size one narrow =
     narrow_carried field are (let e : length field ≡ w * 1 = size ∙ ap (λ k. w * k) one in omega (arith, e))
 
@@ -112,10 +113,10 @@ first_chosen : (b : Bool) (none said : List ℕ) → IsComment none → OneLine 
 first_chosen true none said one two = one
 first_chosen false none said one two = said_comment said two
 
-label_one_line : (name : List ℕ) → OneLine (label name)
+pub label_one_line : (name : List ℕ) → OneLine (label name)
 label_one_line name = quiet_is_one_line (label name) (quiet_label name)
 
-later_flags : (words : List (ℕ × List ℕ)) (n : ℕ) → OneLine (flags_text false words n)
+pub later_flags : (words : List (ℕ × List ℕ)) (n : ℕ) → OneLine (flags_text false words n)
 later_flags [] n = tt
 later_flags (word ∷ words) n = flag_chosen (bit_and n word.0 == 0) (flags_text false words n) (label word.1) (later_flags words n) (label_one_line word.1)
 
@@ -141,7 +142,7 @@ comments_end true c number text one two = one refl
 comments_end false true number text one two = said_comment (34 ∷ (text ++ 34 ∷ [])) (refl, one_line_append text (34 ∷ []) (two refl) (refl, tt))
 comments_end false false number text one two = λ more _. refl
 
-meaning_ends : (note : Note) (w n : ℕ) (field more : List ℕ) → AreBytes field → length field ≡ w * n
+pub meaning_ends : (note : Note) (w n : ℕ) (field more : List ℕ) → AreBytes field → length field ≡ w * n
     → Ends (meaning note w n field ++ (10 ∷ more)) (read at_start more)
 meaning_ends note w n field more are size =
     comments_end (n == 1 && nat_le w 8) (w == 1 && all_print field) (number_meaning note (carried field)) field

@@ -32,18 +32,16 @@ one_fits w left less size next is =
     (omega arith, omega arith)
 
 -- the next number was written
-pub numbers_go_on : (w left less : ℕ) (rest number more old now spaced new : List ℕ) → left ≡ less + 1 → number ≡ take w rest → more ≡ drop w rest
-    → now ++ numbers_text w left rest ≡ old → spaced ≡ now ++ 32 ∷ [] → new ≡ spaced ++ number_text number
+pub numbers_go_on : (w left less : ℕ) (rest number more old now new : List ℕ) → left ≡ less + 1 → number ≡ take w rest → more ≡ drop w rest
+    → now ++ numbers_text w left rest ≡ old → new ≡ now ++ 32 ∷ number_text number
     → new ++ numbers_text w less more ≡ old
-numbers_go_on w left less rest number more old now spaced new next front back before space added =
+numbers_go_on w left less rest number more old now new next front back before added =
     let others = numbers_text w less (drop w rest) in
-    let one = number_text (take w rest) in
-    let whole : numbers_text w left rest ≡ 32 ∷ (one ++ others) = ap (λ n. numbers_text w n rest) (let e : left ≡ suc less = omega arith in e) in
-    let said : new ≡ (now ++ 32 ∷ []) ++ one = added ∙ ap (λ (l : List ℕ). l ++ number_text number) space ∙ ap (λ (l : List ℕ). (now ++ 32 ∷ []) ++ number_text l) front in
+    let one = 32 ∷ number_text (take w rest) in
+    let whole : numbers_text w left rest ≡ one ++ others = ap (λ n. numbers_text w n rest) (let e : left ≡ suc less = omega arith in e) in
     ap (λ (l : List ℕ). new ++ numbers_text w less l) back
-    ∙ ap (λ (l : List ℕ). l ++ others) said
-    ∙ append_assoc (now ++ 32 ∷ []) one others
-    ∙ append_assoc now (32 ∷ []) (one ++ others)
+    ∙ ap (λ (l : List ℕ). l ++ others) (added ∙ ap (λ (l : List ℕ). now ++ 32 ∷ number_text l) front)
+    ∙ append_assoc now one others
     ∙ ap (λ (l : List ℕ). now ++ l) (sym whole)
     ∙ before
 

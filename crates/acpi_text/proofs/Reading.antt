@@ -7,6 +7,7 @@ use Rattle.acpi_base.proofs.Bytes.{bytes_take, bytes_drop}
 use Rattle.acpi_text.proofs.Numbers.{one_fits}
 use Rattle.acpi_base.specs.Bytes.{AreBytes}
 use Rattle.acpi_text.specs.Hex.{hex_digit, hex_byte, number_text, numbers_text}
+use Rattle.acpi_text.specs.Names.{OneLine}
 use Rattle.acpi_text.specs.Reading.{in_name, in_comment, in_number, digit_value, read}
 
 -- ---- digits
@@ -17,7 +18,7 @@ pub record IsDigit (c n : ℕ) : Type 0 where
   pub slash : (c == 47) ≡ false
   pub value : digit_value c ≡ n
 
-digit_read : (n : ℕ) → n < 16 → IsDigit (hex_digit n) n
+pub digit_read : (n : ℕ) → n < 16 → IsDigit (hex_digit n) n
 digit_read n small = record {
   space = grind (arith, nat_tests);
   end = grind (arith, nat_tests);
@@ -70,11 +71,6 @@ numbers_read w (suc n) field text bytes are size ends = λ number.
 abbrev pub Quiet : List ℕ → Type 0
 Quiet [] = Unit {0}
 Quiet (c ∷ text) = ((c == 10) ≡ false) × ((c == 58) ≡ false) × Quiet text
-
--- not the end of a line
-abbrev pub OneLine : List ℕ → Type 0
-OneLine [] = Unit {0}
-OneLine (c ∷ text) = ((c == 10) ≡ false) × OneLine text
 
 pub quiet_append : (a b : List ℕ) → Quiet a → Quiet b → Quiet (a ++ b)
 quiet_append [] b one two = two

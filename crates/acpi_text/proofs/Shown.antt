@@ -33,7 +33,7 @@ nothing_left at k slots others bytes rest one two =
     ap (slots_text at slots) (nil_from_length bytes one) ∙ none_shown at slots
     ∙ sym (ap (slots_text k others) (nil_from_length rest two) ∙ none_shown k others)
 
-some_bytes : (bytes : List ℕ) → 0 < length bytes → (length bytes == 0) ≡ false
+pub some_bytes : (bytes : List ℕ) → 0 < length bytes → (length bytes == 0) ≡ false
 some_bytes bytes some = ne_eqb (length bytes) 0 (λ e. absurd (omega (arith, e, some)))
 
 heading_shown : (at depth : ℕ) (name bytes : List ℕ) (slots : List Slot) → 0 < length bytes

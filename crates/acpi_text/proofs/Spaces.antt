@@ -10,7 +10,7 @@ use Rattle.std.proofs.lemmas.Bool.Decides.{nat_tests}
 use Rattle.acpi_text.specs.Label.{prints, all_print}
 use Rattle.acpi_text.specs.Line.{spaces, padded}
 
-spaces-append : (m n : ℕ) → spaces (m + n) ≡ spaces m ++ spaces n
+pub spaces-append : (m n : ℕ) → spaces (m + n) ≡ spaces m ++ spaces n
 spaces-append zero n = ap spaces (let e : 0 + n ≡ n = omega arith in e)
 spaces-append (suc m) n = ap spaces (let e : suc m + n ≡ suc (m + n) = omega arith in e) ∙ ap (λ (l : List ℕ). 32 ∷ l) (spaces-append m n)
 

@@ -4,6 +4,7 @@ pub mod Label
 pub mod Note
 pub mod Words
 pub mod Line
+pub mod Offset
 pub mod Register
 pub mod Slot
 pub mod Form
@@ -12,4 +13,5 @@ pub mod Piece
 pub mod Structure
 pub mod Table
 pub mod Reading
+pub mod Names
 pub mod Laws

@@ -9,6 +9,7 @@ mod inner;
 pub mod laws;
 mod line;
 mod note;
+mod offset;
 mod part;
 mod piece;
 mod size;

@@ -1,6 +1,6 @@
 //! What the value of a field means, as a comment after it. A function whose name begins with `push` adds to a text.
 
-ghost use Rattle.std.specs.Prelude.{◌≡◌, ◌≤◌, ◌*◌, ◌++◌, true, length, OnOk, string_bytes, codes};
+ghost use Rattle.std.specs.Prelude.{◌≡◌, ◌<◌, ◌≤◌, ◌*◌, ◌++◌, true, length, OnOk, string_bytes, codes};
 ghost use Rattle.std.specs.Option.{option_map};
 ghost use Rattle.acpi_base.specs.Bytes.{carried};
 ghost use Rattle.acpi_text.specs.Label.{all_print, prints};
@@ -38,8 +38,8 @@ fn all_print(bytes: &[u8]) -> bool
     true
 }
 
-// Returns the number that bytes carry, lowest first.
-fn number(bytes: &[u8]) -> u64
+// Returns the number that bytes of any width carry, byte by byte.
+fn wide_number(bytes: &[u8]) -> u64
     requires { length bytes.now ≤ 8 }
     ensures { result ≡ carried bytes.now }
 {
@@ -50,6 +50,38 @@ fn number(bytes: &[u8]) -> u64
         number = number * 256 + u64::from(bytes[left]);
     }
     number
+}
+
+// Returns the number that fewer than four bytes carry. The cases are apart for the same reason as in `hex.rt`.
+#[inline(always)]
+fn narrow_number(bytes: &[u8]) -> u64
+    requires { length bytes.now < 4 }
+    ensures { result ≡ carried bytes.now }
+{
+    match bytes.len() {
+        1 => u64::from(bytes[0]),
+        2 => u64::from(u16::from_le_bytes([bytes[0], bytes[1]])),
+        _ => wide_number(bytes),
+    }
+}
+
+// Returns the number that bytes carry, lowest first.
+#[rattlefmt::skip]
+#[inline(always)]
+fn number(bytes: &[u8]) -> u64
+    requires { length bytes.now ≤ 8 }
+    ensures { result ≡ carried bytes.now }
+{
+    if bytes.len() < 4 {
+        return narrow_number(bytes);
+    }
+    match bytes.len() {
+        4 => u64::from(u32::from_le_bytes([bytes[0], bytes[1], bytes[2], bytes[3]])),
+        8 => u64::from_le_bytes([
+            bytes[0], bytes[1], bytes[2], bytes[3], bytes[4], bytes[5], bytes[6], bytes[7],
+        ]),
+        _ => wide_number(bytes),
+    }
 }
 
 // Adds bytes that all print, between quotation marks.
@@ -66,6 +98,7 @@ fn push_quoted(bytes: &[u8], text: &mut String) -> Result<(), AllocError>
 }
 
 // Adds a number of two digits or more.
+#[inline(always)]
 fn push_decimal(number: u64, text: &mut String) -> Result<(), AllocError>
     ensures { OnOk result (string_bytes text.new ≡ string_bytes text.old ++ decimal_text number) }
 {

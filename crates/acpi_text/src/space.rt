@@ -4,7 +4,7 @@ ghost use Rattle.std.specs.Prelude.{◌≡◌, ◌+◌, ◌*◌, ◌==◌, ◌&&
 ghost use Rattle.acpi_text.specs.Label.{prints, is_label, label};
 ghost use Rattle.acpi_text.specs.Line.{spaces, margin, padded};
 
-use itoa::Buffer;
+use crate::offset::push_offset;
 use std::alloc::AllocError;
 
 /// The column of the colon before a line's numbers.
@@ -13,12 +13,11 @@ const COLUMN: usize = 40;
 // As many spaces as there are before the column, and the colon.
 const SPACES: &str = "                                        :";
 
-// Adds two spaces for a line, and two more for each level.
+// Adds two spaces for each level.
 #[inline(always)]
 fn push_level(depth: u8, text: &mut String) -> Result<(), AllocError>
-    ensures { OnOk result (string_bytes text.new ≡ string_bytes text.old ++ spaces (2 * depth + 2)) }
+    ensures { OnOk result (string_bytes text.new ≡ string_bytes text.old ++ spaces (2 * depth)) }
 {
-    text.push_str("  ")?;
     let mut left = depth;
     'levels: while left > 0 {
         text.push_str("  ")?;
@@ -63,9 +62,9 @@ pub fn push_margin(
     ensures { OnOk result (string_bytes text.new ≡ string_bytes text.old ++ margin depth offset name.now) }
 {
     push_level(depth, text)?;
-    text.push_str(Buffer::new().format(offset))?;
-    text.push_str(" ")?;
-    push_label(name, text)
+    push_offset(offset, text)?;
+    push_label(name, text)?;
+    Ok(())
 }
 
 /// Adds the offset and the name of a line, spaces up to the column of the colon, and the colon.

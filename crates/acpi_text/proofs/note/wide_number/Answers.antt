@@ -1,7 +1,7 @@
 use Rattle.std.proofs.Common.{◌-◌, arith}
 use Rattle.acpi_base.proofs.Bytes.{bytes_each}
 use Rattle.acpi_text.proofs.Numbers.{carried_fits}
-use Rattle.acpi_text.proofs.note.number.Goals as goal
+use Rattle.acpi_text.proofs.note.wide_number.Goals as goal
 
 pub overflow_mul-number : goal.overflow_mul-number
 overflow_mul-number c =

@@ -1,6 +1,6 @@
 use Rattle.std.proofs.Common.{◌≡◌, ◌≤◌, drop, length}
 use Rattle.acpi_base.specs.Bytes.{carried}
-use Rattle.acpi_text.proofs.note.number.Given as goal
+use Rattle.acpi_text.proofs.note.wide_number.Given as goal
 
 abbrev pub invariant-bytes : goal.invariant-bytes
 invariant-bytes l = record {

@@ -1,0 +1,394 @@
+-- The names that texts show.
+use Rattle.std.proofs.Common.{◌≡◌, ℕ, zero, suc, ◌+◌, ◌-◌, ◌*◌, ◌/◌, ◌%◌, ◌^◌, ◌<◌, ◌==◌, ◌&&◌, nat_le, nat_lt, Bool, true, false, cond}
+use Rattle.std.proofs.Common.{List, [], ◌∷◌, ◌++◌, length, take, drop, codes, refl, sym, ap, subst, ◌∙◌, append_assoc, arith, Option, Some, None}
+use Rattle.std.specs.Prelude.{replicate, bit_and}
+use Rattle.std.specs.Fmt.{decimal}
+use Rattle.std.proofs.lemmas.List.{append-nil, length-take-le}
+use Rattle.std.proofs.lemmas.Bool.{and_parts, eqb-true, leb-true, ltb-false}
+use Rattle.acpi_base.specs.Bytes.{AreBytes, carried}
+use Rattle.acpi_base.specs.declared.walk.Place.{Place}
+use Rattle.acpi_base.specs.declared.walk.Sizes.{Sizes}
+use Rattle.acpi_base.specs.declared.walk.Walk.{Walk}
+use Rattle.acpi_base.proofs.Bytes.{bytes_take, bytes_drop}
+use Rattle.acpi_text.specs.declared.form.Inner.{Inner}
+use Rattle.acpi_text.specs.declared.form.Inner.TheVariants.{Nothing, Structures}
+use Rattle.acpi_text.specs.declared.form.Part.{Part}
+use Rattle.acpi_text.specs.declared.form.StructureForm.{StructureForm}
+use Rattle.acpi_text.specs.declared.form.TableForm.{TableForm}
+use Rattle.std.specs.List.{flat_map, slice_range}
+use Rattle.acpi_base.specs.declared.row.Row.{Row}
+use Rattle.acpi_base.specs.declared.row.Row.TheVariants as rows
+use Rattle.acpi_text.specs.declared.form.Choice.{Choice}
+use Rattle.acpi_text.specs.declared.form.Part.TheVariants as parts
+use Rattle.acpi_text.specs.Form.{number_at, count_of, repeated, group_slots, find_choice, choice_slots, part_slots, parts_slots}
+use Rattle.acpi_text.specs.Hex.{hex_byte, number_text, numbers_text}
+use Rattle.acpi_text.specs.Label.{label, all_print}
+use Rattle.acpi_text.specs.Line.{spaces, margin, padded, line, title}
+use Rattle.acpi_text.specs.Names.{OneLine, WholeLines, Named, Names, Wanted, sized, until, unnamed, row_fields, rows_fields, times, choice_fields, part_fields}
+use Rattle.acpi_text.specs.Names.{field_and, fields_of, parts_fields, structure_and, structures_up_to, fields_and_structures, content_fields, structure_fields}
+use Rattle.acpi_text.specs.Names.{table_fields, LinesHaveNames, TextsHaveNames}
+use Rattle.acpi_text.specs.Note.{Note, plain, flags, one_of, decimal_text, flags_text, find_word, word_text, number_meaning, meaning}
+use Rattle.acpi_text.specs.Piece.{piece_and, pieces_up_to, parts_and_pieces}
+use Rattle.acpi_text.specs.Reading.{at_start, in_number, read}
+use Rattle.acpi_text.specs.Size.{front_size}
+use Rattle.acpi_text.specs.Slot.{Slot, heading, field, upto, unknown, nameless_lines, nameless, field_text, slots_text, row_slots}
+use Rattle.acpi_text.specs.Structure.{find_form, form_name, form_parts, form_inner, inner_text, content_text, kind_text, piece_line, piece_text}
+use Rattle.acpi_text.specs.Table.{start_of, body_text}
+use Rattle.acpi_text.proofs.Lines.{quiet_decimal, quiet_is_one_line, label_one_line, later_flags, printed_is_one_line, small_number, meaning_ends}
+use Rattle.acpi_text.proofs.Shown.{some_bytes}
+use Rattle.acpi_text.proofs.Reading.{digit_read, one_line_append, numbers_read}
+
+-- ---- one line
+
+spaces_are : (n : ℕ) → spaces n ≡ replicate n 32
+spaces_are zero = refl
+spaces_are (suc n) = ap (λ (l : List ℕ). 32 ∷ l) (spaces_are n)
+
+byte_line : (b : ℕ) → b < 256 → OneLine (hex_byte b)
+byte_line b small = ((digit_read (b / 16) (omega arith)).end, ((digit_read (b % 16) (omega arith)).end, tt))
+
+number_line : (bytes : List ℕ) → AreBytes bytes → OneLine (number_text bytes)
+number_line [] are = tt
+number_line (b ∷ bytes) are = one_line_append (number_text bytes) (hex_byte b) (number_line bytes are.1) (byte_line b are.0)
+
+numbers_line : (w n : ℕ) (bytes : List ℕ) → AreBytes bytes → OneLine (numbers_text w n bytes)
+numbers_line w zero bytes are = tt
+numbers_line w (suc n) bytes are = (
+  refl,
+  one_line_append (number_text (take w bytes)) (numbers_text w n (drop w bytes))
+      (number_line (take w bytes) (bytes_take w bytes are)) (numbers_line w n (drop w bytes) (bytes_drop w bytes are)),
+)
+
+comment_line : (said : List ℕ) → OneLine said → OneLine (codes "  // " ++ said)
+comment_line said one = (refl, (refl, (refl, (refl, (refl, one)))))
+
+decimal_line : (n : ℕ) → n < 2 ^ 64 → OneLine (decimal_text n)
+decimal_line n small = chosen (nat_lt n 10)
+  where
+    chosen : (b : Bool) → OneLine (cond b [] (codes "  // " ++ decimal n))
+    chosen true = tt
+    chosen false = comment_line (decimal n) (quiet_is_one_line (decimal n) (quiet_decimal n small))
+
+flag_line : (b : Bool) (none said : List ℕ) → OneLine none → OneLine said → OneLine (cond b none (codes "  // " ++ said))
+flag_line true none said one two = one
+flag_line false none said one two = comment_line said two
+
+flags_line : (words : List (ℕ × List ℕ)) (n : ℕ) → OneLine (flags_text true words n)
+flags_line [] n = tt
+flags_line (word ∷ words) n =
+    flag_line (bit_and n word.0 == 0) (flags_text true words n) (label word.1 ++ flags_text false words n) (flags_line words n)
+    (one_line_append (label word.1) (flags_text false words n) (label_one_line word.1) (later_flags words n))
+
+word_line : (name : Option (List ℕ)) (n : ℕ) → n < 2 ^ 64 → OneLine (word_text name n)
+word_line (Some name) n small = comment_line (label name) (label_one_line name)
+word_line None n small = decimal_line n small
+
+note_line : (note : Note) (n : ℕ) → n < 2 ^ 64 → OneLine (number_meaning note n)
+note_line plain n small = decimal_line n small
+note_line (flags words) n small = flags_line words n
+note_line (one_of words) n small = word_line (find_word words n) n small
+
+-- nothing, a number, or a text, as the two tests say
+chosen_line : (a c : Bool) (number text : List ℕ) → (a ≡ true → OneLine number) → (c ≡ true → OneLine text)
+    → OneLine (cond a number (cond c (codes "  // \"" ++ (text ++ codes "\"")) []))
+chosen_line true c number text one two = one refl
+chosen_line false true number text one two = comment_line (34 ∷ (text ++ 34 ∷ [])) (refl, one_line_append text (34 ∷ []) (two refl) (refl, tt))
+chosen_line false false number text one two = tt
+
+meaning_line : (note : Note) (w n : ℕ) (bytes : List ℕ) → AreBytes bytes → length bytes ≡ w * n → OneLine (meaning note w n bytes)
+meaning_line note w n bytes are size =
+    chosen_line (n == 1 && nat_le w 8) (w == 1 && all_print bytes) (number_meaning note (carried bytes)) bytes
+    (λ is. let parts = and_parts (n == 1) (nat_le w 8) is in
+    note_line note (carried bytes) (small_number w n bytes are size (eqb-true n 1 parts.0) (leb-true w 8 parts.1)))
+    (λ is. printed_is_one_line bytes (and_parts (w == 1) (all_print bytes) is).1)
+
+pub line_named : LinesHaveNames
+line_named depth offset name note w n bytes are size =
+    let blank = 40 - length (margin depth offset name) in
+    let numbers = numbers_text w n bytes in
+    let means = meaning note w n bytes in
+    let rest = 58 ∷ (numbers ++ (means ++ 10 ∷ [])) in
+    let dec = decimal offset in
+    let named = label name in
+    record {
+      indent = 2 * depth;
+      blank = blank;
+      said = numbers ++ means;
+      parts =
+          append_assoc (margin depth offset name) (spaces blank) rest
+          ∙ append_assoc (spaces (2 * depth + 2)) (dec ++ 32 ∷ named) (spaces blank ++ rest)
+          ∙ ap (λ (l : List ℕ). spaces (2 * depth + 2) ++ l) (append_assoc dec (32 ∷ named) (spaces blank ++ rest))
+          ∙ ap (λ (l : List ℕ). spaces (2 * depth + 2) ++ (dec ++ (32 ∷ (named ++ (spaces blank ++ (58 ∷ l)))))) (sym (append_assoc numbers means (10 ∷ [])))
+          ∙ ap (λ (l : List ℕ). l ++ (dec ++ (32 ∷ (named ++ (spaces blank ++ (58 ∷ ((numbers ++ means) ++ 10 ∷ []))))))) (spaces_are (2 * depth + 2))
+          ∙ ap (λ (l : List ℕ). replicate (2 * depth + 2) 32 ++ (dec ++ (32 ∷ (named ++ (l ++ (58 ∷ ((numbers ++ means) ++ 10 ∷ []))))))) (spaces_are blank);
+      ends = one_line_append numbers means (numbers_line w n bytes are) (meaning_line note w n bytes are size);
+      reads = λ more.
+          ap (read (in_number [])) (append_assoc numbers means (10 ∷ more))
+          ∙ numbers_read w n bytes (means ++ (10 ∷ more)) (read at_start more) are size (meaning_ends note w n bytes more are size) [];
+    }
+
+-- ---- whole lines
+
+whole_after : (a b : List ℕ) → WholeLines b → 0 < length b → WholeLines (a ++ b)
+whole_after [] b whole some = whole
+whole_after (x ∷ []) [] whole some = absurd (omega (arith, some))
+whole_after (x ∷ []) (c ∷ b) whole some = whole
+whole_after (x ∷ y ∷ a) b whole some = whole_after (y ∷ a) b whole some
+
+whole_append : (a b : List ℕ) → WholeLines a → WholeLines b → WholeLines (a ++ b)
+whole_append a [] one two = subst WholeLines (sym (append-nil a)) one
+whole_append a (c ∷ b) one two = whole_after a (c ∷ b) two (omega arith)
+
+ended : (text : List ℕ) → WholeLines (text ++ 10 ∷ [])
+ended text = whole_after text (10 ∷ []) refl (omega arith)
+
+line_whole : (depth offset : ℕ) (name : List ℕ) (note : Note) (w n : ℕ) (bytes : List ℕ) → WholeLines (line depth offset name note w n bytes)
+line_whole depth offset name note w n bytes =
+    let front = padded 40 (margin depth offset name) in
+    let numbers = numbers_text w n bytes in
+    let means = meaning note w n bytes in
+    subst WholeLines
+    (append_assoc front (58 ∷ (numbers ++ means)) (10 ∷ []) ∙ ap (λ (l : List ℕ). front ++ (58 ∷ l)) (append_assoc numbers means (10 ∷ [])))
+    (ended (front ++ (58 ∷ (numbers ++ means))))
+
+nameless_whole : (k at : ℕ) (bytes : List ℕ) → WholeLines (nameless_lines k at bytes)
+nameless_whole zero at bytes = tt
+nameless_whole (suc k) at bytes =
+    whole_append (line 0 at (codes "Bytes") plain 1 (length (take 16 bytes)) (take 16 bytes)) (nameless_lines k (at + 16) (drop 16 bytes))
+    (line_whole 0 at (codes "Bytes") plain 1 (length (take 16 bytes)) (take 16 bytes)) (nameless_whole k (at + 16) (drop 16 bytes))
+
+-- ---- lines one after another
+
+names_after : (fields : List Named) (a b : List ℕ) → WholeLines a → Names fields b → Names fields (a ++ b)
+names_after [] a b whole names = whole_append a b whole names
+names_after (one ∷ others) a b whole (before, named, after, is, start, has, more) = (
+  a ++ before,
+  named,
+  after,
+  ap (λ (l : List ℕ). a ++ l) is ∙ sym (append_assoc a before (named ++ after)),
+  whole_append a before whole start,
+  has,
+  more,
+)
+
+names_append : (fields more : List Named) (a b : List ℕ) → Names fields a → Names more b → Names (fields ++ more) (a ++ b)
+names_append [] more a b one two = names_after more a b one two
+names_append (f ∷ fields) more a b (before, named, after, is, start, has, others) two = (
+  before,
+  named,
+  after ++ b,
+  ap (λ (l : List ℕ). l ++ b) is ∙ append_assoc before (named ++ after) b ∙ ap (λ (l : List ℕ). before ++ l) (append_assoc named after b),
+  start,
+  has,
+  names_append fields more after b others two,
+)
+
+-- ---- slots
+
+-- the fields of slots
+abbrev want : List Slot → List Wanted
+want [] = []
+want (heading depth name ∷ slots) = want slots
+want (field depth name note w n ∷ slots) = sized name (w * n) ∷ want slots
+want (upto depth name end ∷ slots) = until name end ∷ want slots
+want (unknown ∷ slots) = unnamed ∷ want slots
+
+none_chosen : (b : Bool) (x : List Named) → x ≡ [] → cond b x [] ≡ []
+none_chosen true x none = none
+none_chosen false x none = refl
+
+no_fields : (at : ℕ) (wanted : List Wanted) → fields_of at wanted [] ≡ []
+no_fields at [] = refl
+no_fields at (sized name size ∷ wanted) = refl
+no_fields at (until name end ∷ wanted) = none_chosen (nat_le end at) (fields_of at wanted []) (no_fields at wanted)
+no_fields at (unnamed ∷ wanted) = refl
+
+module _ (fields : ℕ → List ℕ → List Named) (after : ℕ → List ℕ → List ℕ)
+    (others : (k : ℕ) (rest : List ℕ) → AreBytes rest → Names (fields k rest) (after k rest)) where
+  field_named : (at depth : ℕ) (name : List ℕ) (note : Note) (w n : ℕ) (bytes : List ℕ) → AreBytes bytes
+      → Names (field_and fields at name (w * n) bytes) (field_text after at depth name note w n bytes)
+  field_named at depth name note w n [] are = tt
+  field_named at depth name note w n (b ∷ bytes) are =
+      subst (λ none. Names (cond none [] (cond (nat_lt (length whole) (w * n)) [] named)) (cond none [] (cond (nat_lt (length whole) (w * n)) (nameless at whole) shown)))
+      (sym (some_bytes whole (omega arith))) (chosen (nat_lt (length (b ∷ bytes)) (w * n)) refl)
+    where
+      whole : List ℕ
+      whole = b ∷ bytes
+
+      named : List Named
+      named = record { offset = at; name = name; bytes = take (w * n) whole } ∷ fields (at + w * n) (drop (w * n) whole)
+
+      shown : List ℕ
+      shown = line depth at name note w n (take (w * n) whole) ++ after (at + w * n) (drop (w * n) whole)
+
+      chosen : (short : Bool) → nat_lt (length (b ∷ bytes)) (w * n) ≡ short
+          → Names (cond short [] named) (cond short (nameless at whole) shown)
+      chosen true is = nameless_whole _ at whole
+      chosen false is = (
+        [],
+        line depth at name note w n (take (w * n) whole),
+        after (at + w * n) (drop (w * n) whole),
+        refl,
+        tt,
+        line_named depth at name note w n (take (w * n) whole) (bytes_take (w * n) whole are) (length-take-le (w * n) whole (ltb-false _ _ is)),
+        others (at + w * n) (drop (w * n) whole) (bytes_drop (w * n) whole are),
+      )
+
+either_named : (b : Bool) (fields others : List Named) (text other : List ℕ) → Names fields text → Names others other
+    → Names (cond b fields others) (cond b text other)
+either_named true fields others text other one two = one
+either_named false fields others text other one two = two
+
+slots_named : (at : ℕ) (slots : List Slot) (bytes : List ℕ) → AreBytes bytes → Names (fields_of at (want slots) bytes) (slots_text at slots bytes)
+slots_named at [] bytes are = nameless_whole _ at bytes
+slots_named at (unknown ∷ slots) bytes are = nameless_whole _ at bytes
+slots_named at (heading depth name ∷ slots) [] are = subst (λ l. Names l []) (sym (no_fields at (want slots))) tt
+slots_named at (heading depth name ∷ slots) (b ∷ bytes) are =
+    subst (λ none. Names (fields_of at (want slots) (b ∷ bytes)) (cond none [] (title depth at name ++ slots_text at slots (b ∷ bytes))))
+    (sym (some_bytes (b ∷ bytes) (omega arith)))
+    (names_after (fields_of at (want slots) (b ∷ bytes)) (title depth at name) (slots_text at slots (b ∷ bytes))
+    (ended (margin depth at name)) (slots_named at slots (b ∷ bytes) are))
+slots_named at (field depth name note w n ∷ slots) bytes are =
+    field_named (λ k rest. fields_of k (want slots) rest) (λ k rest. slots_text k slots rest) (λ k rest fits. slots_named k slots rest fits)
+    at depth name note w n bytes are
+slots_named at (upto depth name end ∷ slots) bytes are =
+    either_named (nat_le end at) (fields_of at (want slots) bytes) (field_and (λ k rest. fields_of k (want slots) rest) at name (end - at) bytes)
+    (slots_text at slots bytes) (field_text (λ k rest. slots_text k slots rest) at depth name plain 1 (end - at) bytes)
+    (slots_named at slots bytes are)
+    (subst (λ size. Names (field_and (λ k rest. fields_of k (want slots) rest) at name size bytes) (field_text (λ k rest. slots_text k slots rest) at depth name plain 1 (end - at) bytes))
+    (let e : 1 * (end - at) ≡ end - at = omega arith in e)
+    (field_named (λ k rest. fields_of k (want slots) rest) (λ k rest. slots_text k slots rest) (λ k rest fits. slots_named k slots rest fits)
+    at depth name plain 1 (end - at) bytes are))
+
+-- ---- forms
+
+want_append : (a b : List Slot) → want (a ++ b) ≡ want a ++ want b
+want_append [] b = refl
+want_append (heading depth name ∷ a) b = want_append a b
+want_append (field depth name note w n ∷ a) b = ap (λ l. sized name (w * n) ∷ l) (want_append a b)
+want_append (upto depth name end ∷ a) b = ap (λ l. until name end ∷ l) (want_append a b)
+want_append (unknown ∷ a) b = ap (λ l. unnamed ∷ l) (want_append a b)
+
+-- the fields of each of a list
+module _ {X : Type 0} (slots : X → List Slot) (fields : X → List Wanted) (same : (x : X) → want (slots x) ≡ fields x) where
+  each_wanted : (xs : List X) → want (flat_map slots xs) ≡ flat_map fields xs
+  each_wanted [] = refl
+  each_wanted (x ∷ xs) =
+      want_append (slots x) (flat_map slots xs) ∙ ap (λ l. l ++ want (flat_map slots xs)) (same x) ∙ ap (λ l. fields x ++ l) (each_wanted xs)
+
+repeated_wanted : (n : ℕ) (slots : List Slot) (fields : List Wanted) → want slots ≡ fields → want (repeated n slots) ≡ times n fields
+repeated_wanted zero slots fields same = refl
+repeated_wanted (suc n) slots fields same =
+    want_append slots (repeated n slots) ∙ ap (λ l. l ++ want (repeated n slots)) same ∙ ap (λ l. fields ++ l) (repeated_wanted n slots fields same)
+
+one_number : (name : List ℕ) (w : ℕ) → sized name (w * 1) ∷ [] ≡ sized name w ∷ []
+one_number name w = ap (λ n. sized name n ∷ []) (let e : w * 1 ≡ w = omega arith in e)
+
+some_bytes_of : (name : List ℕ) (n : ℕ) → sized name (1 * n) ∷ [] ≡ sized name n ∷ []
+some_bytes_of name n = ap (λ k. sized name k ∷ []) (let e : 1 * n ≡ n = omega arith in e)
+
+row_wanted : (depth : ℕ) (row : Row) → want (row_slots depth row) ≡ row_fields row
+row_wanted depth (rows.Number name w) = one_number name.now w
+row_wanted depth (rows.Flags name w words) = one_number name.now w
+row_wanted depth (rows.OneOf name w words) = one_number name.now w
+row_wanted depth (rows.Bytes name n) = some_bytes_of name.now n
+row_wanted depth (rows.Register name) = refl
+row_wanted depth (rows.Reserved n) = some_bytes_of (codes "Reserved") n
+
+rows_wanted : (depth : ℕ) (list : List Row) → want (flat_map (row_slots depth) list) ≡ rows_fields list
+rows_wanted depth list = each_wanted (row_slots depth) row_fields (row_wanted depth) list
+
+choice_wanted : (depth : ℕ) (choice : Option Choice) → want (choice_slots depth choice) ≡ choice_fields choice
+choice_wanted depth (Some choice) = rows_wanted (depth + 1) choice.rows.now
+choice_wanted depth None = refl
+
+matrix_wanted : (none : Bool) (n : ℕ) (slots : List Slot) (fields : List Wanted) → want slots ≡ fields
+    → want (cond none [] (repeated n slots)) ≡ cond none [] (times n fields)
+matrix_wanted true n slots fields same = refl
+matrix_wanted false n slots fields same = repeated_wanted n slots fields same
+
+part_wanted : (depth start : ℕ) (whole : List ℕ) (part : Part) → want (part_slots depth start whole part) ≡ part_fields start whole part
+part_wanted depth start whole (parts.Fields list) = rows_wanted depth list.now
+part_wanted depth start whole (parts.Between list from to) = rows_wanted depth (slice_range list.now from to)
+part_wanted depth start whole (parts.Group name list) = rows_wanted (depth + 1) list.now
+part_wanted depth start whole (parts.Entries name count list) =
+    repeated_wanted (count_of count whole) (group_slots depth name.now list.now) (rows_fields list.now) (rows_wanted (depth + 1) list.now)
+part_wanted depth start whole (parts.Numbers name w count) =
+    repeated_wanted (count_of count whole) (field depth name.now plain w 1 ∷ []) (sized name.now w ∷ []) (one_number name.now w)
+part_wanted depth start whole (parts.Matrix name w list columns) =
+    matrix_wanted (number_at columns whole == 0) (number_at list whole) (field depth name.now plain w (number_at columns whole) ∷ [])
+    (sized name.now (w * number_at columns whole) ∷ []) refl
+part_wanted depth start whole (parts.Bytes name count) = some_bytes_of name.now (number_at count whole)
+part_wanted depth start whole (parts.Until name end) = refl
+part_wanted depth start whole (parts.Chosen by choices) = choice_wanted depth (find_choice (number_at by whole) choices.now)
+
+parts_named : (depth at : ℕ) (list : List Part) (piece : List ℕ) → AreBytes piece
+    → Names (parts_fields at piece list) (slots_text at (parts_slots depth at piece list) piece)
+parts_named depth at list piece are =
+    subst (λ wanted. Names (fields_of at wanted piece) (slots_text at (parts_slots depth at piece list) piece))
+    (each_wanted (part_slots depth at piece) (part_fields at piece) (part_wanted depth at piece) list)
+    (slots_named at (parts_slots depth at piece list) piece are)
+
+-- ---- structures
+
+-- the text of each structure names its fields
+abbrev EachNames : (ℕ → List ℕ → List Named) → (ℕ → List ℕ → List ℕ) → Type 0
+EachNames fields shown = (at : ℕ) (piece : List ℕ) → AreBytes piece → Names (fields at piece) (shown at piece)
+
+module _ (sizes : Sizes) (fields : ℕ → List ℕ → List Named) (shown : ℕ → List ℕ → List ℕ) (each : EachNames fields shown) where
+  front_names : (front : Option ℕ) (n at : ℕ) (bytes : List ℕ) → AreBytes bytes
+      → ((k : ℕ) (rest : List ℕ) → AreBytes rest → Names (structures_up_to n sizes fields k rest) (pieces_up_to n sizes shown k rest))
+      → Names (structure_and front fields (λ k rest. structures_up_to n sizes fields k rest) at bytes)
+      (piece_and front shown (λ k rest. pieces_up_to n sizes shown k rest) at bytes)
+  front_names None n at bytes are others = nameless_whole _ at bytes
+  front_names (Some size) n at bytes are others =
+      names_append (fields at (take size bytes)) (structures_up_to n sizes fields (at + size) (drop size bytes))
+      (shown at (take size bytes)) (pieces_up_to n sizes shown (at + size) (drop size bytes))
+      (each at (take size bytes) (bytes_take size bytes are)) (others (at + size) (drop size bytes) (bytes_drop size bytes are))
+
+  pieces_names : (n at : ℕ) (bytes : List ℕ) → AreBytes bytes → Names (structures_up_to n sizes fields at bytes) (pieces_up_to n sizes shown at bytes)
+  pieces_names zero at bytes are = nameless_whole _ at bytes
+  pieces_names (suc n) at bytes are = front_names (front_size sizes bytes) n at bytes are (λ k rest fits. pieces_names n k rest fits)
+
+  all_names : (list : List Part) (start at : ℕ) (bytes : List ℕ) → AreBytes bytes
+      → Names (fields_and_structures list start sizes fields at bytes) (parts_and_pieces list start sizes shown at bytes)
+  all_names list start at bytes are =
+      let front = take start bytes in
+      let rest = drop start bytes in
+      names_append (parts_fields at front list) (structures_up_to (length rest) sizes fields (at + length front) rest)
+      (slots_text at (parts_slots 0 at front list) front) (pieces_up_to (length rest) sizes shown (at + length front) rest)
+      (parts_named 0 at list front (bytes_take start bytes are))
+      (pieces_names (length rest) (at + length front) rest (bytes_drop start bytes are))
+
+inner_names : (name : List ℕ) (list : List Part) → EachNames (λ k one. parts_fields k one list) (inner_text name list)
+inner_names name list at piece are =
+    names_after (parts_fields at piece list) (title 0 at name) (slots_text at (parts_slots 1 at piece list) piece)
+    (ended (margin 0 at name)) (parts_named 1 at list piece are)
+
+content_names : (list : List Part) (inner : Inner) (at : ℕ) (piece : List ℕ) → AreBytes piece
+    → Names (content_fields list inner at piece) (content_text list inner at piece)
+content_names list Nothing at piece are = parts_named 0 at list piece are
+content_names list (Structures start name sizes inner) at piece are =
+    all_names sizes (λ k one. parts_fields k one inner.now) (inner_text name.now inner.now) (inner_names name.now inner.now) list start at piece are
+
+piece_names : (kind : Place) (forms : List StructureForm) → EachNames (structure_fields kind forms) (piece_text kind forms)
+piece_names kind forms at piece are =
+    let form = find_form (number_at kind piece) forms in
+    names_after (structure_fields kind forms at piece) (piece_line kind form at piece) (content_text (form_parts form) (form_inner form) at piece)
+    (ended (decimal at ++ kind_text kind piece ++ codes " size " ++ decimal (length piece) ++ form_name form))
+    (content_names (form_parts form) (form_inner form) at piece are)
+
+-- ---- tables
+
+body_names : (form : TableForm) (walk : Option Walk) (bytes : List ℕ) → AreBytes bytes
+    → Names (table_fields form walk bytes) (body_text form walk bytes)
+body_names form None bytes are = parts_named 0 0 form.parts.now bytes are
+body_names form (Some walk) bytes are =
+    all_names walk.sizes (structure_fields walk.kind form.structures.now) (piece_text walk.kind form.structures.now)
+    (piece_names walk.kind form.structures.now) form.parts.now (start_of walk bytes) 0 bytes are
+
+pub tables_named : TextsHaveNames
+tables_named form walk bytes are small =
+    subst (Names (table_fields form walk bytes)) (append_assoc (label form.name.now) (10 ∷ []) (body_text form walk bytes))
+    (names_after (table_fields form walk bytes) (label form.name.now ++ 10 ∷ []) (body_text form walk bytes)
+    (ended (label form.name.now)) (body_names form walk bytes are))
