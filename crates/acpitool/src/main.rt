@@ -1,0 +1,9 @@
+//! Shows ACPI tables field by field: `acpitool show FILE ..`.
+#![tactic(auto)]
+
+use acpitool_run::program::start;
+use std::process::ExitCode;
+
+fn main(rt: HostRuntime) -> ExitCode {
+    ExitCode::from(start(&rt, &mut rt.stdout(), &mut rt.stderr()))
+}

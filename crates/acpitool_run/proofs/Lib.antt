@@ -1,0 +1,4 @@
+mod Outcomes
+mod Pointers
+mod Texts
+mod Words

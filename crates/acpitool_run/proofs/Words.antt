@@ -1,0 +1,14 @@
+-- The first word, and those after it.
+use Rattle.std.proofs.Common.{◌≡◌, ◌≤◌, ◌-◌, List, [], ◌∷◌, length, map, take, drop, sym, ap, ◌∙◌, arith, get_or}
+use Rattle.std.proofs.lemmas.List.{take_all}
+
+-- where the first word has a text
+pub front_word : {A B : Type 0} (f : A → B) (xs : List A) (x : A) (t : B) → f x ≡ t → x ≡ get_or xs 0 x → 1 ≤ length xs
+    → map f xs ≡ t ∷ map f (drop 1 xs)
+front_word f [] x t has is some = absurd (omega (arith, some))
+front_word f (y ∷ ys) x t has is some = ap (λ z. z ∷ map f ys) (ap f (sym is) ∙ has)
+
+pub front_of_all : {A B : Type 0} (f : A → B) (xs : List A) (x : A) (t : B) → f x ≡ t → x ≡ get_or xs 0 x → 1 ≤ length xs
+    → map f xs ≡ t ∷ map f (take (length xs - 1) (drop 1 xs))
+front_of_all f [] x t has is some = absurd (omega (arith, some))
+front_of_all f (y ∷ ys) x t has is some = ap (λ z. z ∷ map f ys) (ap f (sym is) ∙ has) ∙ ap (λ zs. t ∷ map f zs) (sym (take_all (length (y ∷ ys) - 1) ys (omega arith)))

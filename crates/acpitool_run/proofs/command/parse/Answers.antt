@@ -1,0 +1,27 @@
+use Rattle.std.proofs.Common.{map, drop, string_bytes, inl, sym, ◌∙◌}
+use Rattle.acpitool_run.proofs.Words.{front_word, front_of_all}
+use Rattle.acpitool_run.proofs.command.parse.Goals as goal
+
+pub returns-in-text : goal.returns-in-text
+returns-in-text c = inl (
+  map (λ word. string_bytes word) (drop 1 c.args.words.now),
+  front_word (λ word. string_bytes word) c.args.words.now c.word-item.result _
+      (sym c.as_str.ensures.value ∙ c.in-text.is) c.word-item.is c.in-len1-up.len_at_least,
+)
+
+pub returns-in-text-2 : goal.returns-in-text-2
+returns-in-text-2 c = (
+  map (λ word. string_bytes word) (drop 1 c.args.words.now),
+  front_word (λ word. string_bytes word) c.args.words.now c.word-item.result _
+      (sym c.as_str.ensures.value ∙ c.in-text-2.is) c.word-item.is c.in-len1-up.len_at_least,
+)
+
+pub returns-in-show : goal.returns-in-show
+returns-in-show c = c.show.ensures _
+    (front_of_all (λ word. string_bytes word) c.args.words.now c.word-item.result _
+    (sym c.as_str.ensures.value ∙ c.in-show.is) c.word-item.is c.in-len1-up.len_at_least)
+
+pub returns-in-image : goal.returns-in-image
+returns-in-image c = c.image.ensures _
+    (front_of_all (λ word. string_bytes word) c.args.words.now c.word-item.result _
+    (sym c.as_str.ensures.value ∙ c.in-image.is) c.word-item.is c.in-len1-up.len_at_least)

@@ -1,0 +1,95 @@
+-- What words ask for.
+use Rattle.std.specs.Prelude.{◌≡◌, ◌≢◌, ◌⊎◌, ℕ, ◌^◌, ◌<◌, ◌≤◌, ◌==◌, nat_eq, nat_lt, drop, ◌&&◌, Bool, if◌then◌else◌, List, [], ◌∷◌, Option, Some, None, length, slice_index, map, string_bytes, codes}
+use Rattle.std.specs.List.{starts_with}
+use Rattle.std.specs.Str.Parse.{IsNumeral, digits_value, without_leading_plus}
+use Rattle.acpitool_run.specs.declared.command.Command.{Command}
+use Rattle.acpitool_run.specs.declared.command.Command.TheVariants.{Help, Version, Show, Image}
+use Rattle.acpitool_run.specs.declared.command.Wrong.{Wrong}
+use Rattle.acpitool_run.specs.declared.command.Wrong.TheVariants.{NoCommand, Unknown, NoFile, NoImage, Base}
+
+-- whether a word is an option: a dash and more
+abbrev pub is_option : List ℕ → Bool
+is_option word = nat_lt 1 (length word) && slice_index word 0 == 45
+
+abbrev pub first_option : List (List ℕ) → Option (List ℕ)
+first_option [] = None
+first_option (word ∷ words) = if is_option word then Some word else first_option words
+
+-- the words of these that take files
+abbrev pub TakesFiles : List ℕ → Type 0
+TakesFiles word = (word ≡ codes "show") ⊎ (word ≡ codes "image")
+
+-- words after `show` or `image` that ask for how the program is used
+pub record AsksForHelp (words : List (List ℕ)) : Type 0 where
+  pub word : List ℕ
+  pub files : List (List ℕ)
+  pub is : words ≡ word ∷ files
+  pub takes : TakesFiles word
+  pub asks : first_option files ≡ Some (codes "--help")
+
+-- ---- an address
+
+-- the digits of an address: all of the word, or those after `0x`
+abbrev pub address_digits : List ℕ → List ℕ
+address_digits word = without_leading_plus (if starts_with nat_eq word (codes "0x") then drop 2 word else word)
+
+-- the word is this address in hexadecimal
+pub record IsAddress (word : List ℕ) (address : ℕ) : Type 0 where
+  pub numeral : IsNumeral 16 (address_digits word)
+  pub is : address ≡ digits_value 16 (address_digits word)
+  pub fits : address < 2 ^ 64
+
+-- `image FILE` and `image FILE BASE`; without a word for it the base is 0
+abbrev pub AsksForImage : List (List ℕ) → List ℕ → ℕ → Type 0
+AsksForImage words file base =
+    ((words ≡ codes "image" ∷ file ∷ []) × (base ≡ 0))
+    ⊎ ((word : List ℕ) × (words ≡ codes "image" ∷ file ∷ word ∷ []) × IsAddress word base)
+
+-- the words ask for a command
+abbrev pub Asks : List (List ℕ) → Command → Type 0
+Asks words Help = ((more : List (List ℕ)) × (words ≡ codes "--help" ∷ more)) ⊎ AsksForHelp words
+Asks words Version = (more : List (List ℕ)) × (words ≡ codes "--version" ∷ more)
+Asks words (Show files) =
+    (words ≡ codes "show" ∷ map (λ file. string_bytes file) files.now)
+    × (first_option (map (λ file. string_bytes file) files.now) ≡ None)
+    × (1 ≤ length files.now)
+Asks words (Image file base) = AsksForImage words file.now base
+
+-- the first word is no command
+pub record IsNoCommand (words : List (List ℕ)) (word : List ℕ) : Type 0 where
+  pub more : List (List ℕ)
+  pub is : words ≡ word ∷ more
+  pub no_help : word ≢ codes "--help"
+  pub no_version : word ≢ codes "--version"
+  pub no_show : word ≢ codes "show"
+  pub no_image : word ≢ codes "image"
+
+-- a word after `show` or `image` is an option that there isn't
+pub record IsNoOption (words : List (List ℕ)) (word : List ℕ) : Type 0 where
+  pub command : List ℕ
+  pub files : List (List ℕ)
+  pub is : words ≡ command ∷ files
+  pub takes : TakesFiles command
+  pub first : first_option files ≡ Some word
+  pub no_help : word ≢ codes "--help"
+
+-- a word after `image FILE BASE`
+pub record IsExtra (words : List (List ℕ)) (word : List ℕ) : Type 0 where
+  pub file : List ℕ
+  pub base : List ℕ
+  pub more : List (List ℕ)
+  pub is : words ≡ codes "image" ∷ file ∷ base ∷ word ∷ more
+
+-- the word in the place of BASE isn't an address
+pub record IsNoBase (words : List (List ℕ)) (word : List ℕ) : Type 0 where
+  pub file : List ℕ
+  pub is : words ≡ codes "image" ∷ file ∷ word ∷ []
+  pub not : (base : ℕ) → ¬ IsAddress word base
+
+-- why words ask for nothing
+abbrev pub IsWrong : List (List ℕ) → Wrong → Type 0
+IsWrong words NoCommand = words ≡ []
+IsWrong words (Unknown word) = IsNoCommand words word.now ⊎ IsNoOption words word.now ⊎ IsExtra words word.now
+IsWrong words NoFile = words ≡ codes "show" ∷ []
+IsWrong words NoImage = words ≡ codes "image" ∷ []
+IsWrong words (Base word) = IsNoBase words word.now

@@ -1,0 +1,7 @@
+pub mod Check
+pub mod Text
+pub mod Command
+pub mod Image
+pub mod Listing
+pub mod Outcome
+pub mod Program

@@ -1,0 +1,187 @@
+//! The tables of an image, found from its pointer on.
+
+ghost use Rattle.std.specs.Prelude.{◌≡◌, ◌≢◌, ◌↔◌, ◌^◌, ◌<◌, ℕ, List, IfErr, ◌+◌, ◌-◌, ◌%◌, ◌≤◌, take, drop, IsTrue, IfOk, OnOk, string_bytes, codes, false, ◌++◌, MatchOption, length};
+ghost use Rattle.std.specs.Fmt.{digits};
+ghost use Rattle.std.specs.Io.KnownBytes.{Appends};
+ghost use Rattle.acpi_layout.specs.Found.{IsImage};
+ghost use Rattle.acpi_layout.specs.declared.fault.ImageFault.TheVariants.{Memory};
+ghost use Rattle.acpi_layout.specs.declared.located.Located.{Located};
+ghost use Rattle.acpitool_run.specs.Image.{IsPointerAt, IsFirstPointer, HasNoPointer, IsFoundImage};
+ghost use Rattle.acpitool_run.specs.Listing.{IsNoImage};
+ghost use Rattle.acpitool_run.specs.Image.{revision_offset, revision_of, table_line, table_lines};
+
+use crate::check::check_pointer;
+use acpi_layout::check::check_image;
+use acpi_layout::fault::ImageFault;
+use acpi_layout::located::Located;
+use acpi_read::report::{push_number, push_shown};
+use std::alloc::{AllocError, Global};
+use std::io;
+use std::io::Write;
+
+// Returns the bytes that a pointer at an offset has.
+fn pointer_at(bytes: &[u8], at: usize) -> &[u8]
+    requires { at + 36 ≤ length bytes.now }
+    ensures { result.now ≡ take 36 (drop at bytes.now) }
+{
+    &bytes[at..at + 36]
+}
+
+// Returns whether a pointer of 36 bytes is at an offset, which is a multiple of 16.
+fn is_pointer_at(bytes: &[u8], at: usize) -> bool
+    requires whole { at + 36 ≤ length bytes.now }
+    requires aligned { at % 16 ≡ 0 }
+    ensures { IsTrue result ↔ IsPointerAt bytes.now at }
+{
+    let pointer = pointer_at(bytes, at);
+    pointer.starts_with(b"RSD PTR ") && check_pointer(pointer).is_ok()
+}
+
+/// Why the tables of an image can't be listed.
+#[derive(Clone, Copy, Debug)]
+pub enum NoImage {
+    /// There is no Root System Description Pointer.
+    NoPointer,
+    /// What the pointer leads to is wrong.
+    Wrong(ImageFault),
+}
+
+/// Returns the offset of the first Root System Description Pointer with 36 bytes, at multiples of 16 (ACPI 6.5, 5.2.5.1).
+pub fn find_pointer(bytes: &[u8]) -> Option<usize>
+    ensures { MatchOption result (HasNoPointer bytes.now) (IsFirstPointer bytes.now) }
+{
+    let mut at = 0;
+    'steps: while at < bytes.len() && 36 <= bytes.len() - at {
+        if is_pointer_at(bytes, at) {
+            return Some(at);
+        }
+        at += 16;
+    }
+    None
+}
+
+// Returns the offset of a table's revision.
+fn revision_offset(signature: [u8; 4]) -> usize
+    ensures { result ≡ revision_offset signature }
+{
+    match &signature {
+        b"RSD " => 15,
+        b"FACS" => 32,
+        _ => 8,
+    }
+}
+
+// Returns the bytes from an address on, or none if it is after them.
+fn bytes_from(base: u64, bytes: &[u8], address: u64) -> &[u8]
+    ensures { result.now ≡ drop (address - base) bytes.now }
+{
+    let start = address.saturating_sub(base);
+    if start < bytes.len() as u64 {
+        &bytes[start as usize..]
+    } else {
+        &bytes[bytes.len()..]
+    }
+}
+
+fn revision_of(base: u64, bytes: &[u8], table: &Located) -> u8
+    ensures { result ≡ revision_of base bytes.now table.now }
+{
+    let bytes = bytes_from(base, bytes, table.address);
+    match bytes.get(revision_offset(table.signature)) {
+        Some(revision) => *revision,
+        None => 0,
+    }
+}
+
+// Returns an address in hexadecimal.
+fn address_text(alloc: Global, address: u64) -> Result<String, AllocError>
+    ensures { IfOk result (λ text. string_bytes text ≡ codes "0x" ++ digits 16 false address) }
+{
+    format!(in alloc; "0x{address:x}")
+}
+
+// Returns the line of a table: its address, signature, length and revision.
+fn line(alloc: Global, base: u64, bytes: &[u8], table: &Located) -> Result<String, AllocError>
+    ensures { IfOk result (λ text. string_bytes text ≡ table_line base bytes.now table.now) }
+{
+    let mut text = address_text(alloc, table.address)?;
+    text.push_str(" ")?;
+    push_shown(&table.signature, &mut text)?;
+    push_number(" length ", u64::from(table.length), &mut text)?;
+    let revision = revision_of(base, bytes, table);
+    push_number(" revision ", u64::from(revision), &mut text)?;
+    text.push_str("\n")?;
+    Ok(text)
+}
+
+// Prints the line of a table.
+fn print_table<O: Write>(
+    alloc: Global,
+    base: u64,
+    bytes: &[u8],
+    table: &Located,
+    out: &mut O,
+) -> io::Result<()>
+    ensures { OnOk result (Appends (O.contents out.old) (O.contents out.new) (table_line base bytes.now table.now)) }
+{
+    let text = line(alloc, base, bytes, table)?;
+    out.write_all(text.as_bytes())
+}
+
+/// Prints a line for each table: its address, signature, length and revision.
+pub fn print_tables<O: Write>(
+    alloc: Global,
+    base: u64,
+    bytes: &[u8],
+    tables: &[Located],
+    out: &mut O,
+) -> io::Result<()>
+    ensures { OnOk result (Appends (O.contents out.old) (O.contents out.new) (table_lines base bytes.now tables.now)) }
+{
+    'tables: for table in tables {
+        print_table(alloc, base, bytes, table, out)?;
+    }
+    Ok(())
+}
+
+// Returns the tables that a pointer at an offset leads to.
+fn tables_from(
+    alloc: Global,
+    base: u64,
+    bytes: &[u8],
+    at: usize,
+) -> Result<Vec<Located>, ImageFault>
+    ensures ok { IfOk result (λ tables. (base + at < 2 ^ 64) × IsImage bytes.now base (base + at) tables.items) }
+    ensures err { IfErr result (λ e. e ≢ Memory → (tables : List Located) → base + at < 2 ^ 64
+        → ¬ IsImage bytes.now base (base + at) tables) }
+{
+    match base.checked_add(at as u64) {
+        Some(address) => match check_image(alloc, bytes, base, address) {
+            Ok(tables) => Ok(tables),
+            Err(fault) => Err(fault),
+        },
+        None => Err(ImageFault::Outside(base)),
+    }
+}
+
+/// Returns the tables of an image that begins at the physical address `base`, from its first pointer on, or why there are none.
+pub fn find_tables(alloc: Global, base: u64, bytes: &[u8]) -> Result<Vec<Located>, NoImage>
+    ensures ok { IfOk result (λ tables. IsFoundImage base bytes.now tables.items) }
+    ensures err { IfErr result (IsNoImage base bytes.now) }
+{
+    let Some(at) = find_pointer(bytes) else {
+        return Err(NoImage::NoPointer);
+    };
+    match tables_from(alloc, base, bytes, at) {
+        Ok(tables) => Ok(tables),
+        Err(fault) => Err(NoImage::Wrong(fault)),
+    }
+}
+
+/// Returns why there is no image, as text.
+pub fn why(alloc: Global, fault: &NoImage) -> Result<String, AllocError> {
+    match fault {
+        NoImage::NoPointer => format!(in alloc; "no RSDP at a multiple of 16 bytes"),
+        NoImage::Wrong(fault) => format!(in alloc; "{fault}"),
+    }
+}

@@ -1,0 +1,334 @@
+//! A run of the program.
+
+ghost use Rattle.std.specs.Prelude.{◌≡◌, ◌≤◌, ℕ, max, List, [], ◌∷◌, ◌++◌, map, codes, string_bytes, IfOk, OnOk};
+ghost use Rattle.std.specs.Io.KnownBytes.{Appends};
+ghost use Rattle.acpitool_run.specs.Listing.{Listed};
+ghost use Rattle.acpitool_run.specs.Outcome.{Printed};
+ghost use Rattle.acpitool_run.specs.Program.{wrong_line, wrong_text, Ended};
+
+use crate::command::{Command, Wrong, parse};
+use crate::image::{NoImage, find_tables, print_tables, why};
+use crate::outcome::{print_unread, show_table, tell_unread};
+use acpiread_run::input::read_terms;
+use std::alloc::Global;
+use std::io::{ErrorKind, Input, Write};
+use std::rt::{Env, Files};
+use std::{env, fs, io};
+
+const HELP: &str = "\
+usage: acpitool show FILE ..
+       acpitool image FILE [BASE]
+       acpitool --help | --version
+
+show prints each table field by field: the offset, the name and the value of each field, and what the value
+means. The text has all bytes of the table. A FILE is a table, an RSDP, a FACS, or a folder of such files;
+- is standard input.
+
+image finds the RSDP in a file with the bytes of a guest's memory, follows it to all tables, and checks them.
+It prints the address, signature, length and revision of each. BASE is the address of the first byte in
+hexadecimal; it is 0 if there is none.
+
+The status is 0 if everything is shown, 1 if something isn't a table or an image or output can't be written,
+and 2 if a file can't be read or the words are wrong.
+";
+
+const VERSION: &str = "acpitool 0.1.0\n";
+
+// Prints a text, and returns 0.
+fn print<O: Write>(text: &str, out: &mut O) -> io::Result<u8>
+    ensures { IfOk result (λ status. (status ≡ 0) × Appends (O.contents out.old) (O.contents out.new) text.now) }
+{
+    out.write_all(text.as_bytes())?;
+    Ok(0)
+}
+
+// Prints which word is wrong.
+fn print_wrong<E: Write>(wrong: &Wrong<'_>, err: &mut E) -> io::Result<()>
+    ensures { OnOk result (Appends (E.contents err.old) (E.contents err.new) (wrong_line wrong.now)) }
+{
+    match wrong {
+        Wrong::NoCommand => err.write_all(b"acpitool: no command\n"),
+        Wrong::NoFile => err.write_all(b"acpitool: no file to show\n"),
+        Wrong::NoImage => err.write_all(b"acpitool: no file with an image\n"),
+        Wrong::Base(word) => writeln!(err, "acpitool: not an address in hexadecimal: {word}"),
+        Wrong::Unknown(word) => writeln!(err, "acpitool: unknown word {word}"),
+    }
+}
+
+// Prints which word is wrong and how the program is used, and returns 2.
+fn tell_wrong<E: Write>(wrong: &Wrong<'_>, err: &mut E) -> io::Result<u8>
+    ensures { IfOk result (λ status. (status ≡ 2)
+        × Appends (E.contents err.old) (E.contents err.new) (wrong_text wrong.now)) }
+{
+    print_wrong(wrong, err)?;
+    err.write_all(b"usage: acpitool show FILE .. | image FILE [BASE] | --help | --version\n")?;
+    Ok(2)
+}
+
+// Shows the bytes of a file, if it could be read.
+fn show_bytes<O: Write, E: Write>(
+    alloc: Global,
+    name: &str,
+    read: io::Result<Vec<u8>>,
+    several: bool,
+    out: &mut O,
+    err: &mut E,
+) -> io::Result<u8>
+    ensures { IfOk result (λ status. Printed (O.contents out.old) (O.contents out.new)
+        (E.contents err.old) (E.contents err.new) status) }
+{
+    match read {
+        Ok(bytes) => show_table(alloc, name, &bytes, several, out, err),
+        Err(error) => tell_unread(alloc, name, &error, out, err),
+    }
+}
+
+// Returns the bytes of a file, at most one more than a table can have.
+fn read_file<R: Files>(rt: &R, alloc: Global, path: &str) -> io::Result<Vec<u8>> {
+    read_terms(alloc, fs::open(rt, path)?)
+}
+
+// Returns the paths of a folder's files, in the order of their names.
+fn files_in<R: Files + AllocGlobal + Clone + Drop>(
+    rt: &R,
+    alloc: Global,
+    folder: &str,
+) -> io::Result<Vec<String>> {
+    let mut paths = Vec::new(alloc);
+    for entry in fs::read_dir(rt, folder)? {
+        let entry = entry?;
+        if !fs::metadata(rt, entry.path())?.is_dir() {
+            paths.push(String::from_str(alloc, entry.path().as_str())?)?;
+        }
+    }
+    paths.sort()?;
+    Ok(paths)
+}
+
+// Returns the greater status.
+fn worst_of(a: u8, b: u8) -> u8
+    ensures { result ≡ max a b }
+{
+    if a < b { b } else { a }
+}
+
+// Shows files, one after another, and returns the greatest status.
+fn show_files<R: Files, O: Write, E: Write>(
+    rt: &R,
+    alloc: Global,
+    paths: &[String],
+    out: &mut O,
+    err: &mut E,
+) -> io::Result<u8>
+    ensures { IfOk result (λ status. Printed (O.contents out.old) (O.contents out.new)
+        (E.contents err.old) (E.contents err.new) status) }
+{
+    let mut worst = 0;
+    for path in paths {
+        let name = path.as_str();
+        let status = show_bytes(alloc, name, read_file(rt, alloc, name), true, out, err)?;
+        worst = worst_of(worst, status);
+    }
+    Ok(worst)
+}
+
+// Shows the files of a folder.
+fn show_folder<R: Files + AllocGlobal + Clone + Drop, O: Write, E: Write>(
+    rt: &R,
+    alloc: Global,
+    folder: &str,
+    out: &mut O,
+    err: &mut E,
+) -> io::Result<u8>
+    ensures { IfOk result (λ status. Printed (O.contents out.old) (O.contents out.new)
+        (E.contents err.old) (E.contents err.new) status) }
+{
+    match files_in(rt, alloc, folder) {
+        Ok(paths) => show_files(rt, alloc, &paths, out, err),
+        Err(error) => tell_unread(alloc, folder, &error, out, err),
+    }
+}
+
+fn is_folder<R: Files>(rt: &R, path: &str) -> bool {
+    match fs::metadata(rt, path) {
+        Ok(metadata) => metadata.is_dir(),
+        Err(_) => false,
+    }
+}
+
+// Shows what a word of `show` names: a file, the files of a folder, or standard input.
+fn show_word<R: Files + Input + AllocGlobal + Clone + Drop, O: Write, E: Write>(
+    rt: &R,
+    alloc: Global,
+    word: &str,
+    several: bool,
+    out: &mut O,
+    err: &mut E,
+) -> io::Result<u8>
+    ensures { IfOk result (λ status. Printed (O.contents out.old) (O.contents out.new)
+        (E.contents err.old) (E.contents err.new) status) }
+{
+    if word == "-" {
+        return show_bytes(
+            alloc,
+            word,
+            read_terms(alloc, rt.reader()),
+            several,
+            out,
+            err,
+        );
+    }
+    if is_folder(rt, word) {
+        return show_folder(rt, alloc, word, out, err);
+    }
+    show_bytes(alloc, word, read_file(rt, alloc, word), several, out, err)
+}
+
+// Shows what the words of `show` name, in order, and returns the greatest status.
+fn show_words<R: Files + Input + AllocGlobal + Clone + Drop, O: Write, E: Write>(
+    rt: &R,
+    alloc: Global,
+    words: &[String],
+    out: &mut O,
+    err: &mut E,
+) -> io::Result<u8>
+    ensures { IfOk result (λ status. Printed (O.contents out.old) (O.contents out.new)
+        (E.contents err.old) (E.contents err.new) status) }
+{
+    let mut worst = 0;
+    for word in words {
+        let status = show_word(rt, alloc, word.as_str(), words.len() > 1, out, err)?;
+        worst = worst_of(worst, status);
+    }
+    Ok(worst)
+}
+
+// Prints why a file has no image, and returns 1.
+fn tell_no_image<E: Write>(
+    alloc: Global,
+    file: &str,
+    fault: &NoImage,
+    err: &mut E,
+) -> io::Result<u8>
+    ensures is { IfOk result (λ status. status ≡ 1) }
+    ensures line { OnOk result ((why : List ℕ) × Appends (E.contents err.old) (E.contents err.new)
+        (file.now ++ codes ": " ++ why ++ 10 ∷ [])) }
+{
+    let why = why(alloc, fault)?;
+    print_unread(file, why.as_str(), err)?;
+    Ok(1)
+}
+
+// Lists the tables of an image.
+fn list_tables<O: Write, E: Write>(
+    alloc: Global,
+    file: &str,
+    base: u64,
+    bytes: &[u8],
+    out: &mut O,
+    err: &mut E,
+) -> io::Result<u8>
+    ensures { IfOk result (λ status. Listed file.now base (O.contents out.old) (O.contents out.new)
+        (E.contents err.old) (E.contents err.new) status) }
+{
+    match find_tables(alloc, base, bytes) {
+        Ok(tables) => {
+            print_tables(alloc, base, bytes, &tables, out)?;
+            Ok(0)
+        }
+        Err(fault) => tell_no_image(alloc, file, &fault, err),
+    }
+}
+
+// Prints why a file can't be read, and returns 2.
+fn tell_unread_image<E: Write>(
+    alloc: Global,
+    file: &str,
+    error: &io::Error,
+    err: &mut E,
+) -> io::Result<u8>
+    ensures is { IfOk result (λ status. status ≡ 2) }
+    ensures line { OnOk result ((why : List ℕ) × Appends (E.contents err.old) (E.contents err.new)
+        (file.now ++ codes ": " ++ why ++ 10 ∷ [])) }
+{
+    let why = format!(in alloc; "{error}")?;
+    print_unread(file, why.as_str(), err)?;
+    Ok(2)
+}
+
+// Lists the tables of the image in a file.
+fn list_file<R: Files, O: Write, E: Write>(
+    rt: &R,
+    alloc: Global,
+    file: &str,
+    base: u64,
+    out: &mut O,
+    err: &mut E,
+) -> io::Result<u8>
+    ensures { IfOk result (λ status. Listed file.now base (O.contents out.old) (O.contents out.new)
+        (E.contents err.old) (E.contents err.new) status) }
+{
+    match read_file(rt, alloc, file) {
+        Ok(bytes) => list_tables(alloc, file, base, &bytes, out, err),
+        Err(error) => tell_unread_image(alloc, file, &error, err),
+    }
+}
+
+/// Runs the program on the words after its name, and returns its exit status:
+///
+/// - 0: everything that was asked for went to `out`, and nothing to `err`;
+/// - 1: something that was read isn't a table, an RSDP, a FACS or an image; `err` has a line for each;
+/// - 2: a file can't be read, or words are wrong; `err` has a line for each file, or which word is wrong and the usage.
+///
+/// What can be shown is shown, whatever the status is. An error is one of `out` or `err`, or memory ran out.
+pub fn run<R: Files + Input + AllocGlobal + Clone + Drop, O: Write, E: Write>(
+    rt: &R,
+    alloc: Global,
+    words: &[String],
+    out: &mut O,
+    err: &mut E,
+) -> io::Result<u8>
+    ensures { IfOk result (λ status. Ended (map (λ word. string_bytes word) words.now)
+        (O.contents out.old) (O.contents out.new) (E.contents err.old) (E.contents err.new) status) }
+{
+    match parse(words) {
+        Ok(Command::Help) => print(HELP, out),
+        Ok(Command::Version) => print(VERSION, out),
+        Ok(Command::Show(words)) => show_words(rt, alloc, words, out, err),
+        Ok(Command::Image(file, base)) => list_file(rt, alloc, file, base, out, err),
+        Err(wrong) => tell_wrong(&wrong, err),
+    }
+}
+
+// Runs the program on its own words.
+fn run_own<R: Env + Files + Input + AllocGlobal + Clone + Drop, O: Write, E: Write>(
+    rt: &R,
+    out: &mut O,
+    err: &mut E,
+) -> io::Result<u8>
+    ensures { IfOk result (λ status. status ≤ 2) }
+{
+    let words: Vec<String> = env::args(rt)?.skip(1).collect(rt.alloc())?;
+    let status = run(rt, rt.alloc(), &words, out, err)?;
+    out.flush()?;
+    Ok(status)
+}
+
+/// Runs the program on its own words, and returns its exit status. A reader of `out` that goes away ends it with 0 and without a
+/// word; other output that can't be written, with 1 and a line on `err`.
+pub fn start<R: Env + Files + Input + AllocGlobal + Clone + Drop, O: Write, E: Write>(
+    rt: &R,
+    out: &mut O,
+    err: &mut E,
+) -> u8
+    ensures { result ≤ 2 }
+{
+    match run_own(rt, out, err) {
+        Ok(status) => status,
+        Err(error) if error.kind() == ErrorKind::BrokenPipe => 0,
+        Err(error) => {
+            let _written = writeln!(err, "acpitool: {error}");
+            1
+        }
+    }
+}
