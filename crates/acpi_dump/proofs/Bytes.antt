@@ -1,5 +1,5 @@
 -- Bytes read one by one.
-use Rattle.std.proofs.Common.{◌≡◌, ℕ, zero, suc, ◌+◌, ◌-◌, ◌<◌, true, false, if◌then◌else◌, Bool, List, [], ◌∷◌, ◌++◌, take, drop, length, refl, ap, ◌∙◌, arith, append_assoc, sym, add-one}
+use Rattle.std.proofs.Common.{◌≡◌, ℕ, zero, suc, ◌-◌, true, false, if◌then◌else◌, Bool, List, [], ◌∷◌, ◌++◌, take, drop, length, refl, ap, ◌∙◌, append_assoc, sym}
 use Rattle.std.proofs.lemmas.List.{take_rest, append-nil}
 use Rattle.acpi_dump.specs.Line.{is_byte, byte_of, bytes_in}
 

@@ -34,7 +34,9 @@ pub fn number(digits: &[u8]) -> Option<usize>
 {
     let mut number: usize = 0;
     'digits: for byte in digits {
-        number = number.checked_mul(16)?.checked_add(usize::from(digit(*byte)))?;
+        number = number
+            .checked_mul(16)?
+            .checked_add(usize::from(digit(*byte)))?;
     }
     Some(number)
 }

@@ -1,6 +1,8 @@
 //! The tables of a dump.
 
 ghost use Rattle.std.specs.Prelude.{◌≡◌, ◌≢◌, Ok, Err, IfOk, IfErr, map};
+ghost use Rattle.std.specs.Char.{is_ascii_hexdigit};
+ghost use Rattle.std.specs.List.{AllPass};
 ghost use Rattle.std.specs.Str.Parse.{digits_value};
 ghost use Rattle.acpi_dump.specs.Line.{bytes_in};
 ghost use Rattle.acpi_dump.specs.Dump.{bytes, line_of, step, latest_first, IsStep, is_dump, tables_of};
@@ -14,6 +16,7 @@ use std::alloc::Global;
 
 // Adds the bytes of a line to the last table, which is taken out of the list while it grows.
 fn add(line: usize, parts: Parts<'_>, tables: &mut Vec<Vec<u8>>) -> Result<(), DumpFault>
+    requires { AllPass is_ascii_hexdigit parts.digits.now }
     ensures { IsStep (step line (latest_first tables.old)
         (bytes (digits_value 16 parts.entry.digits.now) (bytes_in 16 parts.entry.rest.now))) (latest_first tables.new) result }
 {

@@ -2,7 +2,7 @@
 
 ghost use Rattle.std.specs.Prelude.{◌≡◌, ◌==◌, ◌++◌, true, false, length, OnOk, MatchOption, IfSome};
 ghost use Rattle.std.specs.Char.{is_ascii_hexdigit};
-ghost use Rattle.std.specs.List.{take_while, list_all};
+ghost use Rattle.std.specs.List.{take_while, list_all, AllPass};
 ghost use Rattle.acpi_dump.specs.Line.{is_blank, is_address, ends_in_address, is_title, is_byte, bytes_in, unindented, digits_of, rest_of, is_data};
 
 use crate::digits::{digit, is_digit};
@@ -110,6 +110,7 @@ fn count_digits(text: &[u8]) -> usize
 pub fn parts_of(line: &[u8]) -> Option<Parts<'_>>
     ensures cases { MatchOption result (is_data line.now ≡ false) (λ parts. is_data line.now ≡ true) }
     ensures digits { IfSome result (λ parts. parts.digits.now ≡ digits_of line.now) }
+    ensures hexadecimal { IfSome result (λ parts. AllPass is_ascii_hexdigit parts.digits.now) }
     ensures rest { IfSome result (λ parts. parts.rest.now ≡ rest_of line.now) }
 {
     if line.is_empty() || line[0] != b' ' {
