@@ -1,6 +1,6 @@
 //! The words of the command line.
 
-ghost use Rattle.std.specs.Prelude.{◌≡◌, ℕ, nat_eq, if◌then◌else◌, List, ◌∷◌, map, drop, string_bytes, codes};
+ghost use Rattle.std.specs.Prelude.{◌≡◌, ℕ, ◌≤◌, length, nat_eq, if◌then◌else◌, List, ◌∷◌, map, drop, string_bytes, codes};
 ghost use Rattle.std.specs.Prelude.{MatchResult, MatchOption, IfOk, None, Some};
 ghost use Rattle.std.specs.List.{starts_with};
 ghost use Rattle.acpiread_run.specs.Command.{stated};
@@ -97,10 +97,14 @@ fn is_number(word: &[u8]) -> bool
 
 // Returns how many words are files.
 fn files_in(words: &[String]) -> usize
-    ensures { result ≡ files_in (map (λ word. string_bytes word) words.now) }
+    ensures is { result ≡ files_in (map (λ word. string_bytes word) words.now) }
+    ensures within { result ≤ length words.now }
 {
     let mut count = 0;
-    'words: while count < words.len() && !is_number(words[count].as_bytes()) {
+    'words: for word in words {
+        if is_number(word.as_bytes()) {
+            return count;
+        }
         count += 1;
     }
     count
@@ -148,7 +152,7 @@ fn first_unstated(alloc: Global, words: &[String]) -> Result<Option<&str>, Alloc
 }
 
 // Returns why words state no numbers of arguments.
-fn misstated(alloc: Global, words: &[String]) -> Misstated<'_>
+fn why_misstated(alloc: Global, words: &[String]) -> Misstated<'_>
     requires { stated (map (λ word. string_bytes word) words.now) ≡ None }
     ensures { IsMisstated (map (λ word. string_bytes word) words.now) result }
 {
@@ -166,7 +170,7 @@ pub fn numbers(alloc: Global, words: &[String]) -> Result<Arities, Misstated<'_>
 {
     match arities(alloc, words) {
         Ok(arities) => Ok(arities),
-        Err(Fault::Usage) => Err(misstated(alloc, words)),
+        Err(Fault::Usage) => Err(why_misstated(alloc, words)),
         Err(_) => Err(Misstated::Memory),
     }
 }

@@ -1,14 +1,17 @@
 //! What is printed of one table or one file.
 
-ghost use Rattle.std.specs.Prelude.{◌≡◌, ℕ, List, ◌++◌, ◌∷◌, [], IfOk, OnOk, string_bytes, codes, true};
+ghost use Rattle.std.specs.Prelude.{◌≡◌, ℕ, List, [], ◌∷◌, ◌++◌, map, IfOk, OnOk, string_bytes, codes, true, max};
 ghost use Rattle.std.specs.Io.KnownBytes.{Appends};
-ghost use Rattle.acpiread_run.specs.Fault.{line_of};
+ghost use Rattle.acpi_dump.specs.Dump.{is_dump, tables_of};
 ghost use Rattle.acpi_text.specs.Comment.{comment};
-ghost use Rattle.acpitool_run.specs.Outcome.{IsHeading, PrintedTable, Printed};
+ghost use Rattle.acpiread_run.specs.Fault.{line_of};
+ghost use Rattle.acpitool_run.specs.Outcome.{IsHeading, PrintedTables, PrintedFile, PrintedUnread};
 ghost use Rattle.acpitool_run.specs.Text.{IsText, IsTextFault};
 
 use crate::terms::lines_after;
 use crate::text::text_of;
+use acpi_dump::dump::{is_dump, tables_of};
+use acpi_dump::fault::DumpFault;
 use acpi_term::name_string::Arities;
 use acpi_text::comment::push_comment;
 use acpiread_run::fault::Fault;
@@ -52,9 +55,9 @@ pub fn print_unread<E: Write>(name: &str, why: &str, err: &mut E) -> io::Result<
     writeln!(err, "{name}: {why}")
 }
 
-/// Prints the text of a table, a pointer or a control structure on `out`, or on `err` a line that says why it isn't shown. The terms
-/// of a definition block follow its text, in which names take the stated numbers of arguments. Returns 0 or 1.
-pub fn show_table<O: Write, E: Write>(
+// Prints the text of a table, a pointer or a control structure on `out`, and the terms of a definition block after it, or prints on
+// `err` why it isn't shown. Returns 0 or 1.
+fn show_table<O: Write, E: Write>(
     alloc: Global,
     stated: &Arities,
     name: &str,
@@ -63,7 +66,7 @@ pub fn show_table<O: Write, E: Write>(
     out: &mut O,
     err: &mut E,
 ) -> io::Result<u8>
-    ensures { IfOk result (λ status. PrintedTable stated.now name.now bytes.now (O.contents out.old) (O.contents out.new)
+    ensures { IfOk result (λ status. PrintedTables stated.now name.now (bytes.now ∷ []) (O.contents out.old) (O.contents out.new)
         (E.contents err.old) (E.contents err.new) status) }
 {
     match text_of(alloc, bytes) {
@@ -80,6 +83,87 @@ pub fn show_table<O: Write, E: Write>(
     }
 }
 
+/// Returns the greater status.
+pub fn worst_of(a: u8, b: u8) -> u8
+    ensures { result ≡ max a b }
+{
+    if a < b { b } else { a }
+}
+
+// Prints the texts of tables that have one name, and returns the greatest status.
+fn show_tables<O: Write, E: Write>(
+    alloc: Global,
+    stated: &Arities,
+    name: &str,
+    tables: &[Vec<u8>],
+    out: &mut O,
+    err: &mut E,
+) -> io::Result<u8>
+    ensures { IfOk result (λ status. PrintedTables stated.now name.now (map (λ table. table.items) tables.now)
+        (O.contents out.old) (O.contents out.new) (E.contents err.old) (E.contents err.new) status) }
+{
+    let mut worst = 0;
+    'tables: for table in tables {
+        let status = show_table(alloc, stated, name, table, true, out, err)?;
+        worst = worst_of(worst, status);
+    }
+    Ok(worst)
+}
+
+// Prints why a dump has no tables.
+fn tell_broken<E: Write>(alloc: Global, name: &str, fault: DumpFault, err: &mut E) -> io::Result<()>
+    ensures { OnOk result ((why : List ℕ) × Appends (E.contents err.old) (E.contents err.new)
+        (name.now ++ codes ": " ++ why ++ 10 ∷ [])) }
+{
+    let why = format!(in alloc; "{fault}")?;
+    print_unread(name, why.as_str(), err)
+}
+
+// Prints the texts of the tables of a dump, or which of its lines can't be read.
+fn show_dump<O: Write, E: Write>(
+    alloc: Global,
+    stated: &Arities,
+    name: &str,
+    dump: &[u8],
+    out: &mut O,
+    err: &mut E,
+) -> io::Result<u8>
+    requires { is_dump dump.now ≡ true }
+    ensures { IfOk result (λ status. PrintedFile stated.now name.now dump.now (O.contents out.old) (O.contents out.new)
+        (E.contents err.old) (E.contents err.new) status) }
+{
+    match tables_of(alloc, dump) {
+        Ok(tables) => Ok(show_tables(alloc, stated, name, &tables, out, err)?),
+        Err(DumpFault::Memory) => Err(io::Error::from(AllocError)),
+        Err(fault) => {
+            tell_broken(alloc, name, fault, err)?;
+            Ok(1)
+        }
+    }
+}
+
+/// Prints what is in a file: a table, a pointer, a control structure, or the tables of a dump as text. What can't be shown has a line
+/// on `err`. Returns 0 or 1.
+pub fn show_content<O: Write, E: Write>(
+    alloc: Global,
+    stated: &Arities,
+    name: &str,
+    bytes: &[u8],
+    several: bool,
+    out: &mut O,
+    err: &mut E,
+) -> io::Result<u8>
+    ensures { IfOk result (λ status. PrintedFile stated.now name.now bytes.now (O.contents out.old) (O.contents out.new)
+        (E.contents err.old) (E.contents err.new) status) }
+{
+    let status = if is_dump(bytes) {
+        show_dump(alloc, stated, name, bytes, out, err)?
+    } else {
+        show_table(alloc, stated, name, bytes, several, out, err)?
+    };
+    Ok(status)
+}
+
 /// Prints on `err` that a file can't be read, and returns 2.
 pub fn tell_unread<O: Write, E: Write>(
     alloc: Global,
@@ -89,7 +173,7 @@ pub fn tell_unread<O: Write, E: Write>(
     err: &mut E,
 ) -> io::Result<u8>
     ensures is { IfOk result (λ status. status ≡ 2) }
-    ensures printed { IfOk result (λ status. (stated : List (List ℕ × ℕ)) → Printed stated (name.now ∷ []) (O.contents out.old) (O.contents out.new)
+    ensures printed { IfOk result (λ status. PrintedUnread name.now (O.contents out.old) (O.contents out.new)
         (E.contents err.old) (E.contents err.new) status) }
 {
     let why = format!(in alloc; "{error}")?;

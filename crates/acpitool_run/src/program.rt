@@ -1,14 +1,14 @@
 //! A run of the program.
 
-ghost use Rattle.std.specs.Prelude.{◌≡◌, ◌≤◌, ℕ, max, List, [], ◌∷◌, ◌++◌, map, codes, string_bytes, IfOk, IfErr, OnOk};
+ghost use Rattle.std.specs.Prelude.{◌≡◌, ◌≤◌, ℕ, List, [], ◌∷◌, ◌++◌, map, codes, string_bytes, IfOk, IfErr, OnOk};
 ghost use Rattle.std.specs.Io.KnownBytes.{Appends};
 ghost use Rattle.acpitool_run.specs.Listing.{Listed};
-ghost use Rattle.acpitool_run.specs.Outcome.{PrintedTable, Printed, PrintedAny};
+ghost use Rattle.acpitool_run.specs.Outcome.{PrintedFile, PrintedUnread, PrintedAny};
 ghost use Rattle.acpitool_run.specs.Program.{wrong_line, wrong_text, IsShown, Ended};
 
 use crate::command::{Command, Misstated, Wrong, numbers, parse};
 use crate::image::{NoImage, find_tables, print_tables, why};
-use crate::outcome::{print_unread, show_table, tell_unread};
+use crate::outcome::{print_unread, show_content, tell_unread, worst_of};
 use acpi_term::name_string::Arities;
 use acpiread_run::input::read_terms;
 use std::alloc::{AllocError, Global};
@@ -22,8 +22,8 @@ usage: acpitool show FILE .. [NAME=N ..]
        acpitool --help | --version
 
 show prints each table field by field: the offset, the name and the value of each field, and what the value
-means. The text has all bytes of the table. A FILE is a table, an RSDP, a FACS, or a folder of such files;
-- is standard input. The terms of a DSDT or an SSDT follow as comments. NAME=N states how many arguments calls
+means. The text has all bytes of the table. A FILE is a table, an RSDP, a FACS, a dump of tables as text (of
+acpidump), or a folder of such files; - is standard input. The terms of a DSDT or an SSDT follow as comments. NAME=N states how many arguments calls
 of NAME have; other names have as many as the table's own methods, or else none.
 
 image finds the RSDP in a file with the bytes of a guest's memory, follows it to all tables, and checks them.
@@ -33,9 +33,6 @@ hexadecimal; it is 0 if there is none.
 The status is 0 if everything is shown, 1 if something isn't a table or an image or output can't be written,
 and 2 if a file can't be read or the words are wrong.
 ";
-
-const USAGE: &str =
-    "usage: acpitool show FILE .. [NAME=N ..] | image FILE [BASE] | --help | --version\n";
 
 const VERSION: &str = "acpitool 0.1.0\n";
 
@@ -68,7 +65,9 @@ fn tell_wrong<E: Write>(wrong: &Wrong<'_>, err: &mut E) -> io::Result<u8>
         × Appends (E.contents err.old) (E.contents err.new) (wrong_text wrong.now)) }
 {
     print_wrong(wrong, err)?;
-    err.write_all(USAGE.as_bytes())?;
+    err.write_all(
+        b"usage: acpitool show FILE .. [NAME=N ..] | image FILE [BASE] | --help | --version\n",
+    )?;
     Ok(2)
 }
 
@@ -82,15 +81,16 @@ fn show_bytes<O: Write, E: Write>(
     out: &mut O,
     err: &mut E,
 ) -> io::Result<u8>
-    ensures table { IfOk result (λ status. IfOk read (λ bytes. PrintedTable stated.now name.now bytes.items
+    ensures file { IfOk result (λ status. IfOk read (λ bytes. PrintedFile stated.now name.now bytes.items
         (O.contents out.old) (O.contents out.new) (E.contents err.old) (E.contents err.new) status)) }
-    ensures unread { IfOk result (λ status. IfErr read (λ _. status ≡ 2)) }
-    ensures printed { IfOk result (λ status. Printed stated.now (name.now ∷ []) (O.contents out.old) (O.contents out.new)
+    ensures unread { IfOk result (λ status. IfErr read (λ _. PrintedUnread name.now
+        (O.contents out.old) (O.contents out.new) (E.contents err.old) (E.contents err.new) status)) }
+    ensures any { IfOk result (λ status. PrintedAny stated.now (O.contents out.old) (O.contents out.new)
         (E.contents err.old) (E.contents err.new) status) }
 {
     match read {
-        Ok(bytes) => show_table(alloc, stated, name, &bytes, several, out, err),
-        Err(error) => tell_unread(alloc, name, &error, out, err),
+        Ok(bytes) => Ok(show_content(alloc, stated, name, &bytes, several, out, err)?),
+        Err(error) => Ok(tell_unread(alloc, name, &error, out, err)?),
     }
 }
 
@@ -116,13 +116,6 @@ fn files_in<R: Files + AllocGlobal + Clone + Drop>(
     Ok(paths)
 }
 
-// Returns the greater status.
-fn worst_of(a: u8, b: u8) -> u8
-    ensures { result ≡ max a b }
-{
-    if a < b { b } else { a }
-}
-
 // Shows files, one after another, and returns the greatest status.
 fn show_files<R: Files, O: Write, E: Write>(
     rt: &R,
@@ -132,7 +125,7 @@ fn show_files<R: Files, O: Write, E: Write>(
     out: &mut O,
     err: &mut E,
 ) -> io::Result<u8>
-    ensures { IfOk result (λ status. Printed stated.now (map (λ path. string_bytes path) paths.now) (O.contents out.old) (O.contents out.new)
+    ensures { IfOk result (λ status. PrintedAny stated.now (O.contents out.old) (O.contents out.new)
         (E.contents err.old) (E.contents err.new) status) }
 {
     let mut worst = 0;
@@ -166,7 +159,7 @@ fn show_folder<R: Files + AllocGlobal + Clone + Drop, O: Write, E: Write>(
 {
     match files_in(rt, alloc, folder) {
         Ok(paths) => show_files(rt, alloc, stated, &paths, out, err),
-        Err(error) => tell_unread(alloc, folder, &error, out, err),
+        Err(error) => Ok(tell_unread(alloc, folder, &error, out, err)?),
     }
 }
 
@@ -249,8 +242,8 @@ fn show_all<R: Files + Input + AllocGlobal + Clone + Drop, O: Write, E: Write>(
 {
     match numbers(alloc, words) {
         Ok(stated) => show_words(rt, alloc, &stated, files, out, err),
-        Err(Misstated::Word(word)) => tell_wrong(&Wrong::Number(word), err),
-        Err(Misstated::Twice) => tell_wrong(&Wrong::Twice, err),
+        Err(Misstated::Word(word)) => Ok(tell_wrong(&Wrong::Number(word), err)?),
+        Err(Misstated::Twice) => Ok(tell_wrong(&Wrong::Twice, err)?),
         Err(Misstated::Memory) => Err(io::Error::from(AllocError)),
     }
 }

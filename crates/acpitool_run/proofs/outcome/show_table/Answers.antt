@@ -7,13 +7,13 @@ use Rattle.acpitool_run.proofs.outcome.show_table.Goals as goal
 
 pub returns-in_ok-print_text-in-Ok : goal.returns-in_ok-print_text-in-Ok
 returns-in_ok-print_text-in-Ok g c =
+    let H : List ℕ → Type 0 = λ before. IsHeading c.args.name.now before in
     let P : List ℕ → Type 0 = λ text. IsText c.args.bytes.now text in
     let Q : List ℕ → Type 0 = λ after. IsAfter c.args.stated.now c.args.bytes.now after in
-    let H : List ℕ → Type 0 = λ before. IsHeading c.args.name.now before in
     one_shown _ _ _ _ c.args.name.now _ c.args.bytes.now _ _
-    (subst H (sym c.as_str-in-Ok.ensures.value) c.in_ok-before-in-Ok.ensures.is)
-    (subst P (sym c.as_str-2-in-Ok.ensures.value) c.in-Ok.ensures.ok)
-    (subst Q (sym c.as_str-3-in-Ok.ensures.value) c.in_ok-after-in-Ok.ensures)
+    (subst H (sym c.as_str.ensures.value) c.in_ok-before-in-Ok.ensures.is)
+    (subst P (sym c.as_str-in-Ok.ensures.value) c.in-Ok.ensures.ok)
+    (subst Q (sym c.as_str-in-Ok-2.ensures.value) c.in_ok-after-in-Ok.ensures)
     c.in_ok-print_text-in-Ok.ensures
 
 pub returns-in_ok-print_fault-in-Err : goal.returns-in_ok-print_fault-in-Err
