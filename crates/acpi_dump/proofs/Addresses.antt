@@ -7,5 +7,9 @@ not_first : (text : List ℕ) → 0 < length text → is_address text ≡ false 
 not_first [] some is = absurd (omega arith)
 not_first (c ∷ text) some is = ap (λ (b : Bool). b || ends_in_address text) is
 
-pub not_here : (text : List ℕ) (i : ℕ) → i < length text → is_address (take (length text - i) (drop i text)) ≡ false → ends_in_address (drop i text) ≡ ends_in_address (drop (i + 1) text)
-not_here text i h is = not_first (drop i text) (omega (arith, length-drop i text)) (ap is_address (sym (take_rest text i)) ∙ is) ∙ ap ends_in_address (drop-drop 1 i text)
+-- a place without an address is passed
+pub not_here : (text : List ℕ) (i : ℕ) → i < length text → is_address (take (length text - i) (drop i text)) ≡ false
+    → ends_in_address (drop i text) ≡ ends_in_address (drop (i + 1) text)
+not_here text i h is =
+    not_first (drop i text) (omega (arith, length-drop i text)) (ap is_address (sym (take_rest text i)) ∙ is)
+    ∙ ap ends_in_address (drop-drop 1 i text)

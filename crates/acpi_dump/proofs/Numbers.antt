@@ -16,9 +16,10 @@ grows n (c ∷ digits) = let more = grows (n * 16 + digit_value c) digits in ome
 pub too_large : (n : ℕ) (digits : List ℕ) (i all most : ℕ) → i < length digits → digits_value_after 16 n (drop i digits) ≡ all
     → most ≤ n * 16 + digit_value (get_or digits i 0) → most ≤ all
 too_large n digits i all most inside is past =
-    let here : digits_value_after 16 n (drop i digits) ≡ digits_value_after 16 (n * 16 + digit_value (get_or digits i 0)) (drop (i + 1) digits)
+    let next = n * 16 + digit_value (get_or digits i 0) in
+    let here : digits_value_after 16 n (drop i digits) ≡ digits_value_after 16 next (drop (i + 1) digits)
     = at_drop_more (digits_value_after 16 n) digits i 0 inside in
-    let more = grows (n * 16 + digit_value (get_or digits i 0)) (drop (i + 1) digits) in
+    let more = grows next (drop (i + 1) digits) in
     omega (arith, here, more, is)
 
 pub at_end : (n : ℕ) (digits : List ℕ) (i all : ℕ) → length digits ≤ i → digits_value_after 16 n (drop i digits) ≡ all → n ≡ all

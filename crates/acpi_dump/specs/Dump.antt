@@ -32,7 +32,9 @@ step number (table ∷ tables) (bytes offset more) =
     if offset == length table then Ok ((table ++ more) ∷ tables) else Err (Offset number (length table))
 step number tables other = Err (Unknown number)
 
-abbrev pub unless_fault : Result (List (List ℕ)) DumpFault → (List (List ℕ) → Result (List (List ℕ)) DumpFault) → Result (List (List ℕ)) DumpFault
+-- what comes after a step, unless it has a fault
+abbrev pub unless_fault : Result (List (List ℕ)) DumpFault → (List (List ℕ) → Result (List (List ℕ)) DumpFault)
+    → Result (List (List ℕ)) DumpFault
 unless_fault (Ok tables) go_on = go_on tables
 unless_fault (Err fault) go_on = Err fault
 

@@ -11,7 +11,7 @@ is_blank line = list_all (λ c. c == 32 || c == 9) line
 
 -- ` @ 0x` and hexadecimal digits, at least one
 abbrev pub is_address : List ℕ → Bool
-is_address text = nat_lt 6 (length text) && starts_with nat_eq text (codes " @ 0x") && list_all is_ascii_hexdigit (drop 6 text)
+is_address text = nat_lt 5 (length text) && starts_with nat_eq text (codes " @ 0x") && list_all is_ascii_hexdigit (drop 5 text)
 
 -- a text that has such an address at its end
 abbrev pub ends_in_address : List ℕ → Bool

@@ -26,7 +26,7 @@ fn all_digits(text: &[u8]) -> bool
 fn is_address(text: &[u8]) -> bool
     ensures { result ≡ is_address text.now }
 {
-    text.len() > 6 && text.starts_with(b" @ 0x") && all_digits(&text[6..])
+    text.len() > 5 && text.starts_with(b" @ 0x") && all_digits(&text[5..])
 }
 
 // Returns whether a text ends in such an address.

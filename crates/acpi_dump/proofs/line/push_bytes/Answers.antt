@@ -5,8 +5,10 @@ use Rattle.acpi_dump.proofs.line.push_bytes.Goals as goal
 
 pub bytes-preserved : goal.bytes-preserved
 bytes-preserved c =
-    one_more c.bytes.left _ c.bytes.rest.now c.bytes.table.items _ _ (omega arith) (sym c.is_byte.ensures ∙ c.if-is_byte.true)
-    (c.in_ok-push.ensures.items ∙ ap (λ (b : ℕ). c.bytes.table.items ++ b ∷ []) (omega (arith, c.digit.ensures, c.digit-in-bytes.ensures)))
+    one_more c.bytes.left _ c.bytes.rest.now c.bytes.table.items _ _ (omega arith)
+    (sym c.is_byte.ensures ∙ c.if-is_byte.true)
+    (c.in_ok-push.ensures.items ∙ ap (λ (b : ℕ). c.bytes.table.items ++ b ∷ [])
+    (omega (arith, c.digit.ensures, c.digit-in-bytes.ensures)))
     c.bytes.invariant
 
 pub returns-else-is_byte : goal.returns-else-is_byte
