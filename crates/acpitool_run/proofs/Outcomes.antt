@@ -6,8 +6,8 @@ use Rattle.acpiread_run.specs.Fault.{line_of}
 use Rattle.acpiread_run.specs.declared.fault.Fault.{Fault}
 use Rattle.acpi_dump.specs.Dump.{is_dump, tables_of}
 use Rattle.acpi_dump.specs.declared.fault.DumpFault.{DumpFault}
-use Rattle.acpitool_run.specs.Outcome.{Outcome, shown, refused, broken, unread, name_of, output, complaint, status, outputs, complaints, worst}
-use Rattle.acpitool_run.specs.Outcome.{IsHeading, AreTrueOutcomes, AreNamed, HasBytes, HaveBytes, IsOfFile}
+use Rattle.acpitool_run.specs.Outcome.{Outcome, shown, refused, broken, unread, output, complaint, status, outputs, complaints, worst}
+use Rattle.acpitool_run.specs.Outcome.{IsHeading, AreTrueOutcomes, AreNamed, HaveBytes, IsOfFile}
 use Rattle.acpitool_run.specs.Outcome.{Printed, PrintedTables, PrintedFile, PrintedUnread}
 use Rattle.acpitool_run.specs.Program.{Ended, IsDone, IsShown, IsMisstatedAs, wrong_text}
 use Rattle.acpitool_run.specs.declared.command.Wrong.{Wrong}

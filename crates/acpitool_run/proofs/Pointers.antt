@@ -1,5 +1,5 @@
 -- The first pointer of an image.
-use Rattle.std.proofs.Common.{◌≡◌, ◌⊎◌, ℕ, ◌+◌, ◌-◌, ◌%◌, ◌^◌, ◌<◌, ◌≤◌, List, length, inl, inr, arith, sym, ap, ◌∙◌, subst}
+use Rattle.std.proofs.Common.{◌≡◌, ℕ, ◌+◌, ◌%◌, ◌^◌, ◌<◌, List, length, inl, inr, arith, subst}
 use Rattle.std.proofs.lemmas.Bool.{cases_lt}
 use Rattle.acpitool_run.specs.Image.{IsPointerAt, IsFirstPointer, HasNoPointer, IsFoundImage}
 use Rattle.acpi_layout.specs.Found.{IsImage}

@@ -1,7 +1,6 @@
 -- What is printed of an image.
 use Rattle.std.specs.Prelude.{◌≡◌, ◌≢◌, ◌⊎◌, ℕ, List, [], ◌∷◌, ◌++◌, Option, codes}
 use Rattle.std.specs.Io.KnownBytes.{Keeps, Appends}
-use Rattle.acpi_layout.specs.declared.fault.ImageFault.{ImageFault}
 use Rattle.acpi_layout.specs.declared.fault.ImageFault.TheVariants.{Memory}
 use Rattle.acpi_layout.specs.declared.located.Located.{Located}
 use Rattle.acpitool_run.specs.Image.{HasNoPointer, IsFoundImage, table_lines}

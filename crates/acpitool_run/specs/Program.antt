@@ -7,7 +7,6 @@ use Rattle.acpitool_run.specs.Listing.{Listed}
 use Rattle.acpitool_run.specs.Outcome.{PrintedAny}
 use Rattle.acpitool_run.specs.declared.command.Command.{Command}
 use Rattle.acpitool_run.specs.declared.command.Command.TheVariants.{Help, Version, Show, Image}
-use Rattle.acpitool_run.specs.declared.command.Misstated.{Misstated}
 use Rattle.acpitool_run.specs.declared.command.Misstated.TheVariants as misstated
 use Rattle.acpitool_run.specs.declared.command.Wrong.{Wrong}
 use Rattle.acpitool_run.specs.declared.command.Wrong.TheVariants.{NoCommand, Unknown, NoFile, NoImage, Base, Number, Twice}

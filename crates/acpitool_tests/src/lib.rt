@@ -4,6 +4,8 @@
 #[cfg(test)]
 mod blocks;
 #[cfg(test)]
+mod dumps;
+#[cfg(test)]
 mod files;
 #[cfg(test)]
 mod image;
