@@ -32,10 +32,10 @@ cd "$(dirname "$0")"
 . ./crates.sh
 
 if [ $# -eq 0 ]; then
-    prove_libraries acpi_example
+    prove acpi_example
     tables=$work/acpi
     mkdir "$tables"
-    quietly acpi_example run -- "$tables" 0x1c000000
+    crates/acpi_example/out/acpi_example "$tables" 1c000000 >"$work/log"
 fi
 
 # What iasl says against bytes, on its output and in the text that it writes.
