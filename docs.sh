@@ -88,4 +88,6 @@ awk -v work="$work" -v stdout_of_acpitool=crates/acpitool/stdout -v stdout_of_ac
     }
 ' README.md >&2 || status=1
 
+python3 -B fields.py || status=1
+
 exit "$status"
