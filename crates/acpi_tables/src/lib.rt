@@ -25,6 +25,7 @@
 //! use acpi_tables::slit::SLIT;
 //! use acpi_tables::spcr::SPCR;
 //! use acpi_tables::srat::{MemoryAffinity, SRAT};
+//! use acpi_tables::text::show;
 //! use acpi_tables::tpm2::{PlatformClass, StartMethod, Tpm2};
 //! use acpi_tables::viot::{PciDevice, PciRange, VIOT, VirtIoPciIommu};
 //! use acpi_tables::xsdt::XSDT;
@@ -149,6 +150,11 @@
 //! fn report(alloc: Global, bytes: &[u8]) -> Result<String, ReadError> {
 //!     let table = Table::check(bytes)?;
 //!     report_table(alloc, &table)
+//! }
+//!
+//! // text: each field of a table, by its name.
+//! fn fields(alloc: Global, table: &Table) -> R<String> {
+//!     show(alloc, table)
 //! }
 //! ```
 //!
@@ -295,6 +301,18 @@ pub mod spcr {
 /// The System Resource Affinity Table and its structures (ACPI 6.5, 5.2.16).
 pub mod srat {
     pub use acpi_lists::srat::{GenericInitiator, Handle, MemoryAffinity, RintcAffinity, SRAT};
+}
+
+/// The texts of tables, with a line for each field, and of definition blocks.
+pub mod text {
+    pub use acpi_base::row::{Row, Word};
+    pub use acpi_base::walk::{Place, Sizes, Walk};
+    pub use acpi_forms::show::{show, show_facs, show_rsdp};
+    pub use acpi_terms_text::annotate::annotated;
+    pub use acpi_terms_text::methods::own_arities;
+    pub use acpi_text::comment::push_comment;
+    pub use acpi_text::form::{Choice, Count, Inner, Part, StructureForm, TableForm};
+    pub use acpi_text::table::show_by;
 }
 
 /// Trusted platform modules: TCPA and TPM2 (TCG ACPI Specification).

@@ -25,9 +25,10 @@ module _ (table : List ℕ) where
   At at bytes = (rest : List ℕ) × (drop at table ≡ bytes ++ rest)
 
   at_front : (at size : ℕ) (bytes : List ℕ) → At at bytes → At at (take size bytes)
-  at_front at size bytes (rest, is) =
-      (drop size bytes ++ rest,
-      is ∙ ap (λ (l : List ℕ). l ++ rest) (sym (take-append-drop size bytes)) ∙ append_assoc (take size bytes) (drop size bytes) rest)
+  at_front at size bytes (rest, is) = (
+    drop size bytes ++ rest,
+    is ∙ ap (λ (l : List ℕ). l ++ rest) (sym (take-append-drop size bytes)) ∙ append_assoc (take size bytes) (drop size bytes) rest,
+  )
 
   at_rest : (at size : ℕ) (bytes : List ℕ) → At at bytes → size ≤ length bytes → At (at + size) (drop size bytes)
   at_rest at size bytes (rest, is) fits =
@@ -57,8 +58,10 @@ module _ (table : List ℕ) where
       → AllStand table (field_and others at name size bytes)
   field_stands others find at name size bytes here =
       none_or (length bytes == 0) (nat_lt (length bytes) size) (record { offset = at; name = name; bytes = take size bytes } ∷ others (at + size) (drop size bytes))
-      (λ is. (stands at name (take size bytes) (at_front at size bytes here),
-      find (at + size) (drop size bytes) (at_rest at size bytes here (ltb-false _ _ is))))
+      (λ is. (
+        stands at name (take size bytes) (at_front at size bytes here),
+        find (at + size) (drop size bytes) (at_rest at size bytes here (ltb-false _ _ is)),
+      ))
 
   fields_stand : (wanted : List Wanted) → Finds (λ at bytes. fields_of at wanted bytes)
   fields_stand [] at bytes here = tt
@@ -89,11 +92,13 @@ module _ (table : List ℕ) where
 
     -- the bytes before an index are all bytes, or as many as the index says
     rest_stands : (start at : ℕ) (bytes : List ℕ) → At at bytes → At (at + length (take start bytes)) (drop start bytes)
-    rest_stands start at bytes (rest, is) =
-        (rest, sym (drop-drop (length (take start bytes)) at table) ∙ ap (drop (length (take start bytes))) is
-        ∙ ap (λ (l : List ℕ). drop (length (take start bytes)) (l ++ rest)) (sym (take-append-drop start bytes))
-        ∙ ap (drop (length (take start bytes))) (append_assoc (take start bytes) (drop start bytes) rest)
-        ∙ drop-append_seam (take start bytes) (drop start bytes ++ rest))
+    rest_stands start at bytes (rest, is) = (
+      rest,
+      sym (drop-drop (length (take start bytes)) at table) ∙ ap (drop (length (take start bytes))) is
+          ∙ ap (λ (l : List ℕ). drop (length (take start bytes)) (l ++ rest)) (sym (take-append-drop start bytes))
+          ∙ ap (drop (length (take start bytes))) (append_assoc (take start bytes) (drop start bytes) rest)
+          ∙ drop-append_seam (take start bytes) (drop start bytes ++ rest),
+    )
 
     all_stand : (list : List Part) (start : ℕ) → Finds (λ at bytes. fields_and_structures list start sizes fields at bytes)
     all_stand list start at bytes here =

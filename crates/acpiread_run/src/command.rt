@@ -31,8 +31,8 @@ fn misread(error: ReadError) -> Fault
     }
 }
 
-// The name and the number in a word `NAME=N`.
-fn stated(alloc: Global, word: &str) -> Result<(NameString, u8), Fault>
+/// The name and the number in a word `NAME=N`. The error is `Usage` if the word is another, or the one for memory.
+pub fn stated(alloc: Global, word: &str) -> Result<(NameString, u8), Fault>
     ensures ok { IfOk result (λ entry. stated_by word.now ≡ Some entry) }
     ensures err { IfErr result (IsUsageWhere (stated_by word.now ≡ None)) }
 {
@@ -46,8 +46,8 @@ fn stated(alloc: Global, word: &str) -> Result<(NameString, u8), Fault>
     Ok((name, digit - b'0'))
 }
 
-// The argument counts of all words.
-fn arities(alloc: Global, words: &[String]) -> Result<Arities, Fault>
+/// The argument counts of words `NAME=N`. The error is `Usage` if a word is another or a name is there twice, or the one for memory.
+pub fn arities(alloc: Global, words: &[String]) -> Result<Arities, Fault>
     ensures ok { IfOk result (λ arities. stated (map (λ word. string_bytes word) words.now) ≡ Some arities) }
     ensures err { IfErr result (IsUsageWhere (stated (map (λ word. string_bytes word) words.now) ≡ None)) }
 {

@@ -1,3 +1,4 @@
+mod Blocks
 mod Outcomes
 mod Pointers
 mod Texts

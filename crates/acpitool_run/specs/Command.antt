@@ -1,11 +1,15 @@
 -- What words ask for.
-use Rattle.std.specs.Prelude.{◌≡◌, ◌≢◌, ◌⊎◌, ℕ, ◌^◌, ◌<◌, ◌≤◌, ◌==◌, nat_eq, nat_lt, drop, ◌&&◌, Bool, if◌then◌else◌, List, [], ◌∷◌, Option, Some, None, length, slice_index, map, string_bytes, codes}
+use Rattle.std.specs.Prelude.{◌≡◌, ◌≢◌, ◌⊎◌, ℕ, suc, ◌^◌, ◌<◌, ◌≤◌, ◌==◌, nat_eq, nat_lt, drop, not, ◌&&◌, ◌||◌, Bool, false}
+use Rattle.std.specs.Prelude.{if◌then◌else◌, List, [], ◌∷◌, ◌++◌, Option, Some, None, length, slice_index, map, string_bytes, codes}
 use Rattle.std.specs.List.{starts_with}
 use Rattle.std.specs.Str.Parse.{IsNumeral, digits_value, without_leading_plus}
+use Rattle.acpiread_run.specs.Command.{stated_by, stated}
 use Rattle.acpitool_run.specs.declared.command.Command.{Command}
 use Rattle.acpitool_run.specs.declared.command.Command.TheVariants.{Help, Version, Show, Image}
+use Rattle.acpitool_run.specs.declared.command.Misstated.{Misstated}
+use Rattle.acpitool_run.specs.declared.command.Misstated.TheVariants as misstated
 use Rattle.acpitool_run.specs.declared.command.Wrong.{Wrong}
-use Rattle.acpitool_run.specs.declared.command.Wrong.TheVariants.{NoCommand, Unknown, NoFile, NoImage, Base}
+use Rattle.acpitool_run.specs.declared.command.Wrong.TheVariants.{NoCommand, Unknown, NoFile, NoImage, Base, Number, Twice}
 
 -- whether a word is an option: a dash and more
 abbrev pub is_option : List ℕ → Bool
@@ -26,6 +30,36 @@ pub record AsksForHelp (words : List (List ℕ)) : Type 0 where
   pub is : words ≡ word ∷ files
   pub takes : TakesFiles word
   pub asks : first_option files ≡ Some (codes "--help")
+
+-- ---- numbers of arguments
+
+abbrev pub has : ℕ → List ℕ → Bool
+has b [] = false
+has b (c ∷ word) = (c == b) || has b word
+
+-- whether a word states a number of arguments: it has an equals sign and no slash
+abbrev pub is_number : List ℕ → Bool
+is_number word = has 61 word && not (has 47 word)
+
+-- how many files there are: words before the first that states a number of arguments
+abbrev pub files_in : List (List ℕ) → ℕ
+files_in [] = 0
+files_in (word ∷ words) = if is_number word then 0 else suc (files_in words)
+
+abbrev pub unstated_by : Option (List ℕ × ℕ) → List ℕ → Option (List ℕ) → Option (List ℕ)
+unstated_by None word others = Some word
+unstated_by (Some number) word others = others
+
+-- the first word that isn't NAME=N with a digit from 0 to 7
+abbrev pub first_unstated : List (List ℕ) → Option (List ℕ)
+first_unstated [] = None
+first_unstated (word ∷ words) = unstated_by (stated_by word) word (first_unstated words)
+
+-- why words state no numbers of arguments
+abbrev pub IsMisstated : List (List ℕ) → Misstated → Type 0
+IsMisstated words (misstated.Word word) = first_unstated words ≡ Some word.now
+IsMisstated words misstated.Twice = (first_unstated words ≡ None) × (stated words ≡ None)
+IsMisstated words misstated.Memory = Unit {0}
 
 -- ---- an address
 
@@ -49,10 +83,13 @@ AsksForImage words file base =
 abbrev pub Asks : List (List ℕ) → Command → Type 0
 Asks words Help = ((more : List (List ℕ)) × (words ≡ codes "--help" ∷ more)) ⊎ AsksForHelp words
 Asks words Version = (more : List (List ℕ)) × (words ≡ codes "--version" ∷ more)
-Asks words (Show files) =
-    (words ≡ codes "show" ∷ map (λ file. string_bytes file) files.now)
-    × (first_option (map (λ file. string_bytes file) files.now) ≡ None)
-    × (1 ≤ length files.now)
+Asks words (Show files numbers) =
+    (more : List (List ℕ))
+    × (words ≡ codes "show" ∷ more)
+    × (more ≡ map (λ word. string_bytes word) files.now ++ map (λ word. string_bytes word) numbers.now)
+    × (first_option more ≡ None)
+    × (length files.now ≡ files_in more)
+    × (1 ≤ files_in more)
 Asks words (Image file base) = AsksForImage words file.now base
 
 -- the first word is no command
@@ -90,6 +127,9 @@ pub record IsNoBase (words : List (List ℕ)) (word : List ℕ) : Type 0 where
 abbrev pub IsWrong : List (List ℕ) → Wrong → Type 0
 IsWrong words NoCommand = words ≡ []
 IsWrong words (Unknown word) = IsNoCommand words word.now ⊎ IsNoOption words word.now ⊎ IsExtra words word.now
-IsWrong words NoFile = words ≡ codes "show" ∷ []
+IsWrong words NoFile =
+    (more : List (List ℕ)) × (words ≡ codes "show" ∷ more) × (first_option more ≡ None) × (files_in more ≡ 0)
 IsWrong words NoImage = words ≡ codes "image" ∷ []
 IsWrong words (Base word) = IsNoBase words word.now
+IsWrong words (Number word) = ⊥
+IsWrong words Twice = ⊥

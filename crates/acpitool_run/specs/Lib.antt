@@ -1,5 +1,6 @@
 pub mod Check
 pub mod Text
+pub mod Terms
 pub mod Command
 pub mod Image
 pub mod Listing

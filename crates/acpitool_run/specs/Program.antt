@@ -1,13 +1,16 @@
 -- What a run of the program prints.
-use Rattle.std.specs.Prelude.{◌≡◌, ◌⊎◌, ℕ, List, ◌++◌, Option, codes}
+use Rattle.std.specs.Prelude.{◌≡◌, ◌⊎◌, ℕ, List, ◌++◌, Option, Some, codes, map, string_bytes}
 use Rattle.std.specs.Io.KnownBytes.{Keeps, Appends}
-use Rattle.acpitool_run.specs.Command.{Asks, IsWrong}
+use Rattle.acpiread_run.specs.Command.{stated}
+use Rattle.acpitool_run.specs.Command.{Asks, IsWrong, IsMisstated}
 use Rattle.acpitool_run.specs.Listing.{Listed}
-use Rattle.acpitool_run.specs.Outcome.{Printed}
+use Rattle.acpitool_run.specs.Outcome.{PrintedAny}
 use Rattle.acpitool_run.specs.declared.command.Command.{Command}
 use Rattle.acpitool_run.specs.declared.command.Command.TheVariants.{Help, Version, Show, Image}
+use Rattle.acpitool_run.specs.declared.command.Misstated.{Misstated}
+use Rattle.acpitool_run.specs.declared.command.Misstated.TheVariants as misstated
 use Rattle.acpitool_run.specs.declared.command.Wrong.{Wrong}
-use Rattle.acpitool_run.specs.declared.command.Wrong.TheVariants.{NoCommand, Unknown, NoFile, NoImage, Base}
+use Rattle.acpitool_run.specs.declared.command.Wrong.TheVariants.{NoCommand, Unknown, NoFile, NoImage, Base, Number, Twice}
 
 -- which word is wrong, and how the program is used
 abbrev pub wrong_line : Wrong → List ℕ
@@ -16,15 +19,45 @@ wrong_line (Unknown word) = codes "acpitool: unknown word " ++ word.now ++ codes
 wrong_line NoFile = codes "acpitool: no file to show\n"
 wrong_line NoImage = codes "acpitool: no file with an image\n"
 wrong_line (Base word) = codes "acpitool: not an address in hexadecimal: " ++ word.now ++ codes "\n"
+wrong_line (Number word) = codes "acpitool: not NAME=N with N from 0 to 7: " ++ word.now ++ codes "\n"
+wrong_line Twice = codes "acpitool: two numbers of arguments for one name\n"
 
 abbrev pub wrong_text : Wrong → List ℕ
-wrong_text wrong = wrong_line wrong ++ codes "usage: acpitool show FILE .. | image FILE [BASE] | --help | --version\n"
+wrong_text wrong = wrong_line wrong ++ codes "usage: acpitool show FILE .. [NAME=N ..] | image FILE [BASE] | --help | --version\n"
+
+-- ---- show
+
+-- words state these numbers of arguments, and each file has its outcome
+pub record AreShown (numbers : List (List ℕ)) (out out' err err' : Option (List ℕ)) (status : ℕ) : Type 0 where
+  pub all : List (List ℕ × ℕ)
+  pub stated : stated numbers ≡ Some all
+  pub printed : PrintedAny all out out' err err' status
+
+-- which line says that words state no numbers
+abbrev pub IsMisstatedAs : List (List ℕ) → Wrong → Type 0
+IsMisstatedAs numbers (Number word) = IsMisstated numbers (misstated.Word word)
+IsMisstatedAs numbers Twice = IsMisstated numbers misstated.Twice
+IsMisstatedAs numbers _ = ⊥
+
+-- words state no numbers of arguments, and a line says why
+pub record NotStated (numbers : List (List ℕ)) (out out' err err' : Option (List ℕ)) (status : ℕ) : Type 0 where
+  pub wrong : Wrong
+  pub is_wrong : IsMisstatedAs numbers wrong
+  pub is : status ≡ 2
+  pub complained : Appends err err' (wrong_text wrong)
+  pub silent : Keeps out out'
+
+abbrev pub IsShown : List (List ℕ) → Option (List ℕ) → Option (List ℕ) → Option (List ℕ) → Option (List ℕ) → ℕ → Type 0
+IsShown numbers out out' err err' status = AreShown numbers out out' err err' status ⊎ NotStated numbers out out' err err' status
+
+-- ---- all commands
 
 -- what a command prints: a text on standard output alone, or what comes of tables and files
 abbrev pub IsDone : Command → Option (List ℕ) → Option (List ℕ) → Option (List ℕ) → Option (List ℕ) → ℕ → Type 0
 IsDone Help out out' err err' status = (text : List ℕ) × (status ≡ 0) × Appends out out' text × Keeps err err'
 IsDone Version out out' err err' status = (text : List ℕ) × (status ≡ 0) × Appends out out' text × Keeps err err'
-IsDone (Show files) out out' err err' status = Printed out out' err err' status
+IsDone (Show files numbers) out out' err err' status =
+    IsShown (map (λ word. string_bytes word) numbers.now) out out' err err' status
 IsDone (Image file base) out out' err err' status = Listed file.now base out out' err err' status
 
 -- a command that the words ask for was done

@@ -1,9 +1,16 @@
 //! The words of the command line.
 
-ghost use Rattle.std.specs.Prelude.{◌≡◌, ℕ, nat_eq, if◌then◌else◌, List, ◌∷◌, map, drop, string_bytes, codes};
-ghost use Rattle.std.specs.Prelude.{MatchResult, MatchOption, None, Some};
+ghost use Rattle.std.specs.Prelude.{◌≡◌, ℕ, ◌≤◌, length, nat_eq, if◌then◌else◌, List, ◌∷◌, map, drop, string_bytes, codes};
+ghost use Rattle.std.specs.Prelude.{MatchResult, MatchOption, IfOk, None, Some};
 ghost use Rattle.std.specs.List.{starts_with};
-ghost use Rattle.acpitool_run.specs.Command.{is_option, first_option, IsAddress, Asks, IsWrong};
+ghost use Rattle.acpiread_run.specs.Command.{stated};
+ghost use Rattle.acpitool_run.specs.Command.{is_option, first_option, has, is_number, files_in, first_unstated, IsMisstated};
+ghost use Rattle.acpitool_run.specs.Command.{IsAddress, Asks, IsWrong};
+
+use acpi_term::name_string::Arities;
+use acpiread_run::command::{arities, stated};
+use acpiread_run::fault::Fault;
+use std::alloc::{AllocError, Global};
 
 /// What the program is asked for.
 #[derive(Debug, Drop)]
@@ -12,8 +19,9 @@ pub enum Command<'a> {
     Help,
     /// `--version`: its version.
     Version,
-    /// `show FILE ..`: the texts of tables in files, in folders, or on standard input where the word is `-`.
-    Show(&'a [String]),
+    /// `show FILE .. [NAME=N ..]`: the texts of tables in files, in folders, or on standard input where the word is `-`, and the words
+    /// that state numbers of arguments.
+    Show(&'a [String], &'a [String]),
     /// `image FILE [BASE]`: the tables of an image in a file, which begins at the physical address BASE in hexadecimal, or at 0.
     Image(&'a str, u64),
 }
@@ -31,6 +39,21 @@ pub enum Wrong<'a> {
     NoImage,
     /// The word isn't an address in hexadecimal.
     Base(&'a str),
+    /// The word isn't NAME=N with a digit from 0 to 7.
+    Number(&'a str),
+    /// Words state two numbers of arguments for one name.
+    Twice,
+}
+
+/// Why words state no numbers of arguments.
+#[derive(Debug, Drop)]
+pub enum Misstated<'a> {
+    /// The word isn't NAME=N with a digit from 0 to 7.
+    Word(&'a str),
+    /// A name is there twice.
+    Twice,
+    /// Memory ran out.
+    Memory,
 }
 
 // Returns whether a word is an option: a dash and more.
@@ -53,16 +76,102 @@ fn first_option(words: &[String]) -> Option<&str>
     None
 }
 
-// Returns what `show` and these words ask for.
-fn show(files: &[String]) -> Result<Command<'_>, Wrong<'_>>
-    ensures { (words : List (List ℕ)) → words ≡ codes "show" ∷ map (λ file. string_bytes file) files.now
-        → MatchResult result (Asks words) (IsWrong words) }
+// Returns whether a word has a byte.
+fn has(byte: u8, word: &[u8]) -> bool
+    ensures { result ≡ has byte word.now }
 {
-    match first_option(files) {
+    'bytes: for other in word {
+        if *other == byte {
+            return true;
+        }
+    }
+    false
+}
+
+// Returns whether a word states a number of arguments.
+fn is_number(word: &[u8]) -> bool
+    ensures { result ≡ is_number word.now }
+{
+    has(b'=', word) && !has(b'/', word)
+}
+
+// Returns how many words are files.
+fn files_in(words: &[String]) -> usize
+    ensures is { result ≡ files_in (map (λ word. string_bytes word) words.now) }
+    ensures within { result ≤ length words.now }
+{
+    let mut count = 0;
+    'words: for word in words {
+        if is_number(word.as_bytes()) {
+            return count;
+        }
+        count += 1;
+    }
+    count
+}
+
+// Returns what `show` and these words, which aren't options, ask for.
+fn files_of(words: &[String]) -> Result<Command<'_>, Wrong<'_>>
+    requires { first_option (map (λ word. string_bytes word) words.now) ≡ None }
+    ensures { (all : List (List ℕ)) → all ≡ codes "show" ∷ map (λ word. string_bytes word) words.now
+        → MatchResult result (Asks all) (IsWrong all) }
+{
+    let count = files_in(words);
+    if count == 0 {
+        return Err(Wrong::NoFile);
+    }
+    let (files, numbers) = words.split_at(count);
+    Ok(Command::Show(files, numbers))
+}
+
+// Returns what `show` and these words ask for.
+fn show(words: &[String]) -> Result<Command<'_>, Wrong<'_>>
+    ensures { (all : List (List ℕ)) → all ≡ codes "show" ∷ map (λ word. string_bytes word) words.now
+        → MatchResult result (Asks all) (IsWrong all) }
+{
+    match first_option(words) {
         Some("--help") => Ok(Command::Help),
         Some(word) => Err(Wrong::Unknown(word)),
-        None if files.is_empty() => Err(Wrong::NoFile),
-        None => Ok(Command::Show(files)),
+        None => files_of(words),
+    }
+}
+
+// Returns the first word that isn't NAME=N.
+fn first_unstated(alloc: Global, words: &[String]) -> Result<Option<&str>, AllocError>
+    ensures { IfOk result (λ found. MatchOption found (first_unstated (map (λ word. string_bytes word) words.now) ≡ None)
+        (λ word. first_unstated (map (λ word. string_bytes word) words.now) ≡ Some word.now)) }
+{
+    'words: for word in words {
+        match stated(alloc, word.as_str()) {
+            Ok(_) => {}
+            Err(Fault::Usage) => return Ok(Some(word.as_str())),
+            Err(_) => return Err(AllocError),
+        }
+    }
+    Ok(None)
+}
+
+// Returns why words state no numbers of arguments.
+fn why_misstated(alloc: Global, words: &[String]) -> Misstated<'_>
+    requires { stated (map (λ word. string_bytes word) words.now) ≡ None }
+    ensures { IsMisstated (map (λ word. string_bytes word) words.now) result }
+{
+    match first_unstated(alloc, words) {
+        Ok(Some(word)) => Misstated::Word(word),
+        Ok(None) => Misstated::Twice,
+        Err(_) => Misstated::Memory,
+    }
+}
+
+/// Returns the numbers of arguments that words state, each as NAME=N, or why they don't.
+pub fn numbers(alloc: Global, words: &[String]) -> Result<Arities, Misstated<'_>>
+    ensures { MatchResult result (λ numbers. stated (map (λ word. string_bytes word) words.now) ≡ Some numbers)
+        (IsMisstated (map (λ word. string_bytes word) words.now)) }
+{
+    match arities(alloc, words) {
+        Ok(arities) => Ok(arities),
+        Err(Fault::Usage) => Err(why_misstated(alloc, words)),
+        Err(_) => Err(Misstated::Memory),
     }
 }
 

@@ -6,4 +6,5 @@ pub mod command;
 pub mod image;
 pub mod outcome;
 pub mod program;
+pub mod terms;
 pub mod text;

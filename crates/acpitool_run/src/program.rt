@@ -1,28 +1,30 @@
 //! A run of the program.
 
-ghost use Rattle.std.specs.Prelude.{◌≡◌, ◌≤◌, ℕ, max, List, [], ◌∷◌, ◌++◌, map, codes, string_bytes, IfOk, OnOk};
+ghost use Rattle.std.specs.Prelude.{◌≡◌, ◌≤◌, ℕ, List, [], ◌∷◌, ◌++◌, map, codes, string_bytes, IfOk, IfErr, OnOk};
 ghost use Rattle.std.specs.Io.KnownBytes.{Appends};
 ghost use Rattle.acpitool_run.specs.Listing.{Listed};
-ghost use Rattle.acpitool_run.specs.Outcome.{Printed};
-ghost use Rattle.acpitool_run.specs.Program.{wrong_line, wrong_text, Ended};
+ghost use Rattle.acpitool_run.specs.Outcome.{PrintedFile, PrintedUnread, PrintedAny};
+ghost use Rattle.acpitool_run.specs.Program.{wrong_line, wrong_text, IsShown, Ended};
 
-use crate::command::{Command, Wrong, parse};
+use crate::command::{Command, Misstated, Wrong, numbers, parse};
 use crate::image::{NoImage, find_tables, print_tables, why};
-use crate::outcome::{print_unread, show_table, tell_unread};
+use crate::outcome::{print_unread, show_content, tell_unread, worst_of};
+use acpi_term::name_string::Arities;
 use acpiread_run::input::read_terms;
-use std::alloc::Global;
+use std::alloc::{AllocError, Global};
 use std::io::{ErrorKind, Input, Write};
 use std::rt::{Env, Files};
 use std::{env, fs, io};
 
 const HELP: &str = "\
-usage: acpitool show FILE ..
+usage: acpitool show FILE .. [NAME=N ..]
        acpitool image FILE [BASE]
        acpitool --help | --version
 
 show prints each table field by field: the offset, the name and the value of each field, and what the value
-means. The text has all bytes of the table. A FILE is a table, an RSDP, a FACS, or a folder of such files;
-- is standard input.
+means. The text has all bytes of the table. A FILE is a table, an RSDP, a FACS, a dump of tables as text (of
+acpidump), or a folder of such files; - is standard input. The terms of a DSDT or an SSDT follow as comments. NAME=N states how many arguments calls
+of NAME have; other names have as many as the table's own methods, or else none.
 
 image finds the RSDP in a file with the bytes of a guest's memory, follows it to all tables, and checks them.
 It prints the address, signature, length and revision of each. BASE is the address of the first byte in
@@ -52,6 +54,8 @@ fn print_wrong<E: Write>(wrong: &Wrong<'_>, err: &mut E) -> io::Result<()>
         Wrong::NoImage => err.write_all(b"acpitool: no file with an image\n"),
         Wrong::Base(word) => writeln!(err, "acpitool: not an address in hexadecimal: {word}"),
         Wrong::Unknown(word) => writeln!(err, "acpitool: unknown word {word}"),
+        Wrong::Number(word) => writeln!(err, "acpitool: not NAME=N with N from 0 to 7: {word}"),
+        Wrong::Twice => err.write_all(b"acpitool: two numbers of arguments for one name\n"),
     }
 }
 
@@ -61,25 +65,32 @@ fn tell_wrong<E: Write>(wrong: &Wrong<'_>, err: &mut E) -> io::Result<u8>
         × Appends (E.contents err.old) (E.contents err.new) (wrong_text wrong.now)) }
 {
     print_wrong(wrong, err)?;
-    err.write_all(b"usage: acpitool show FILE .. | image FILE [BASE] | --help | --version\n")?;
+    err.write_all(
+        b"usage: acpitool show FILE .. [NAME=N ..] | image FILE [BASE] | --help | --version\n",
+    )?;
     Ok(2)
 }
 
 // Shows the bytes of a file, if it could be read.
 fn show_bytes<O: Write, E: Write>(
     alloc: Global,
+    stated: &Arities,
     name: &str,
     read: io::Result<Vec<u8>>,
     several: bool,
     out: &mut O,
     err: &mut E,
 ) -> io::Result<u8>
-    ensures { IfOk result (λ status. Printed (O.contents out.old) (O.contents out.new)
+    ensures file { IfOk result (λ status. IfOk read (λ bytes. PrintedFile stated.now name.now bytes.items
+        (O.contents out.old) (O.contents out.new) (E.contents err.old) (E.contents err.new) status)) }
+    ensures unread { IfOk result (λ status. IfErr read (λ _. PrintedUnread name.now
+        (O.contents out.old) (O.contents out.new) (E.contents err.old) (E.contents err.new) status)) }
+    ensures any { IfOk result (λ status. PrintedAny stated.now (O.contents out.old) (O.contents out.new)
         (E.contents err.old) (E.contents err.new) status) }
 {
     match read {
-        Ok(bytes) => show_table(alloc, name, &bytes, several, out, err),
-        Err(error) => tell_unread(alloc, name, &error, out, err),
+        Ok(bytes) => Ok(show_content(alloc, stated, name, &bytes, several, out, err)?),
+        Err(error) => Ok(tell_unread(alloc, name, &error, out, err)?),
     }
 }
 
@@ -105,28 +116,30 @@ fn files_in<R: Files + AllocGlobal + Clone + Drop>(
     Ok(paths)
 }
 
-// Returns the greater status.
-fn worst_of(a: u8, b: u8) -> u8
-    ensures { result ≡ max a b }
-{
-    if a < b { b } else { a }
-}
-
 // Shows files, one after another, and returns the greatest status.
 fn show_files<R: Files, O: Write, E: Write>(
     rt: &R,
     alloc: Global,
+    stated: &Arities,
     paths: &[String],
     out: &mut O,
     err: &mut E,
 ) -> io::Result<u8>
-    ensures { IfOk result (λ status. Printed (O.contents out.old) (O.contents out.new)
+    ensures { IfOk result (λ status. PrintedAny stated.now (O.contents out.old) (O.contents out.new)
         (E.contents err.old) (E.contents err.new) status) }
 {
     let mut worst = 0;
     for path in paths {
         let name = path.as_str();
-        let status = show_bytes(alloc, name, read_file(rt, alloc, name), true, out, err)?;
+        let status = show_bytes(
+            alloc,
+            stated,
+            name,
+            read_file(rt, alloc, name),
+            true,
+            out,
+            err,
+        )?;
         worst = worst_of(worst, status);
     }
     Ok(worst)
@@ -136,16 +149,17 @@ fn show_files<R: Files, O: Write, E: Write>(
 fn show_folder<R: Files + AllocGlobal + Clone + Drop, O: Write, E: Write>(
     rt: &R,
     alloc: Global,
+    stated: &Arities,
     folder: &str,
     out: &mut O,
     err: &mut E,
 ) -> io::Result<u8>
-    ensures { IfOk result (λ status. Printed (O.contents out.old) (O.contents out.new)
+    ensures { IfOk result (λ status. PrintedAny stated.now (O.contents out.old) (O.contents out.new)
         (E.contents err.old) (E.contents err.new) status) }
 {
     match files_in(rt, alloc, folder) {
-        Ok(paths) => show_files(rt, alloc, &paths, out, err),
-        Err(error) => tell_unread(alloc, folder, &error, out, err),
+        Ok(paths) => show_files(rt, alloc, stated, &paths, out, err),
+        Err(error) => Ok(tell_unread(alloc, folder, &error, out, err)?),
     }
 }
 
@@ -160,17 +174,19 @@ fn is_folder<R: Files>(rt: &R, path: &str) -> bool {
 fn show_word<R: Files + Input + AllocGlobal + Clone + Drop, O: Write, E: Write>(
     rt: &R,
     alloc: Global,
+    stated: &Arities,
     word: &str,
     several: bool,
     out: &mut O,
     err: &mut E,
 ) -> io::Result<u8>
-    ensures { IfOk result (λ status. Printed (O.contents out.old) (O.contents out.new)
+    ensures { IfOk result (λ status. PrintedAny stated.now (O.contents out.old) (O.contents out.new)
         (E.contents err.old) (E.contents err.new) status) }
 {
     if word == "-" {
         return show_bytes(
             alloc,
+            stated,
             word,
             read_terms(alloc, rt.reader()),
             several,
@@ -179,28 +195,57 @@ fn show_word<R: Files + Input + AllocGlobal + Clone + Drop, O: Write, E: Write>(
         );
     }
     if is_folder(rt, word) {
-        return show_folder(rt, alloc, word, out, err);
+        return show_folder(rt, alloc, stated, word, out, err);
     }
-    show_bytes(alloc, word, read_file(rt, alloc, word), several, out, err)
+    show_bytes(
+        alloc,
+        stated,
+        word,
+        read_file(rt, alloc, word),
+        several,
+        out,
+        err,
+    )
 }
 
-// Shows what the words of `show` name, in order, and returns the greatest status.
+// Shows what the files of `show` name, in order, and returns the greatest status.
 fn show_words<R: Files + Input + AllocGlobal + Clone + Drop, O: Write, E: Write>(
     rt: &R,
     alloc: Global,
+    stated: &Arities,
+    files: &[String],
+    out: &mut O,
+    err: &mut E,
+) -> io::Result<u8>
+    ensures { IfOk result (λ status. PrintedAny stated.now (O.contents out.old) (O.contents out.new)
+        (E.contents err.old) (E.contents err.new) status) }
+{
+    let mut worst = 0;
+    for word in files {
+        let status = show_word(rt, alloc, stated, word.as_str(), files.len() > 1, out, err)?;
+        worst = worst_of(worst, status);
+    }
+    Ok(worst)
+}
+
+// Shows what the files of `show` name, if the other words state numbers of arguments.
+fn show_all<R: Files + Input + AllocGlobal + Clone + Drop, O: Write, E: Write>(
+    rt: &R,
+    alloc: Global,
+    files: &[String],
     words: &[String],
     out: &mut O,
     err: &mut E,
 ) -> io::Result<u8>
-    ensures { IfOk result (λ status. Printed (O.contents out.old) (O.contents out.new)
+    ensures { IfOk result (λ status. IsShown (map (λ word. string_bytes word) words.now) (O.contents out.old) (O.contents out.new)
         (E.contents err.old) (E.contents err.new) status) }
 {
-    let mut worst = 0;
-    for word in words {
-        let status = show_word(rt, alloc, word.as_str(), words.len() > 1, out, err)?;
-        worst = worst_of(worst, status);
+    match numbers(alloc, words) {
+        Ok(stated) => show_words(rt, alloc, &stated, files, out, err),
+        Err(Misstated::Word(word)) => Ok(tell_wrong(&Wrong::Number(word), err)?),
+        Err(Misstated::Twice) => Ok(tell_wrong(&Wrong::Twice, err)?),
+        Err(Misstated::Memory) => Err(io::Error::from(AllocError)),
     }
-    Ok(worst)
 }
 
 // Prints why a file has no image, and returns 1.
@@ -294,7 +339,7 @@ pub fn run<R: Files + Input + AllocGlobal + Clone + Drop, O: Write, E: Write>(
     match parse(words) {
         Ok(Command::Help) => print(HELP, out),
         Ok(Command::Version) => print(VERSION, out),
-        Ok(Command::Show(words)) => show_words(rt, alloc, words, out, err),
+        Ok(Command::Show(files, words)) => show_all(rt, alloc, files, words, out, err),
         Ok(Command::Image(file, base)) => list_file(rt, alloc, file, base, out, err),
         Err(wrong) => tell_wrong(&wrong, err),
     }

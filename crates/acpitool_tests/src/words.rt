@@ -3,7 +3,8 @@
 use crate::program::ends;
 use std::test::Fail;
 
-const USAGE: &str = "usage: acpitool show FILE .. | image FILE [BASE] | --help | --version\n";
+const USAGE: &str =
+    "usage: acpitool show FILE .. [NAME=N ..] | image FILE [BASE] | --help | --version\n";
 
 #[test]
 fn words(rt: HostRuntime) -> Result<(), Fail> {

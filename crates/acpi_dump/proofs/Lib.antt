@@ -1,0 +1,4 @@
+pub mod FirstLine
+pub mod Numbers
+pub mod Bytes
+pub mod Addresses

@@ -1,0 +1,81 @@
+//! The terms of a definition block, in comments after its text.
+
+ghost use Rattle.std.specs.Prelude.{◌≡◌, ◌≢◌, ◌+◌, ◌<◌, ◌≤◌, ◌^◌, ◌⊎◌, length, drop, IfOk, IfErr, IfSome, string_bytes};
+ghost use Rattle.acpi_term.specs.ReadError.{offset_of};
+ghost use Rattle.acpi_term.specs.declared.read_error.ReadError.TheVariants.{Memory};
+ghost use Rattle.acpitool_run.specs.Terms.{has_terms, report_lines, error_line, IsReport, IsNoReport, HasReport, HasError, IsAfter};
+
+use acpi_term::name_string::Arities;
+use acpi_term::read_error::ReadError;
+use acpi_terms_text::annotate::annotated;
+use acpi_terms_text::methods::own_arities;
+use acpi_text::comment::push_comment;
+use acpiread_run::fault::Fault;
+use std::alloc::{AllocError, Global};
+
+// The offset of the terms of a table: they follow its header.
+const BODY: usize = 36;
+
+// Returns whether terms follow the header of a table.
+fn has_terms(bytes: &[u8]) -> bool
+    ensures { result ≡ has_terms bytes.now }
+{
+    bytes.len() >= BODY && (bytes.starts_with(b"DSDT") || bytes.starts_with(b"SSDT"))
+}
+
+// Returns the report of terms with comments.
+fn report(alloc: Global, stated: &Arities, terms: &[u8]) -> Result<String, ReadError>
+    ensures ok { IfOk result (λ text. IsReport stated.now terms.now (string_bytes text)) }
+    ensures err { IfErr result (IsNoReport stated.now terms.now) }
+    ensures place { IfErr result (λ e. IfSome (offset_of e) (λ offset. offset ≤ length terms.now)) }
+{
+    let own = own_arities(alloc, terms, stated)?;
+    annotated(alloc, terms, &own)
+}
+
+// Returns the lines of a report.
+fn report_lines(alloc: Global, report: &str) -> Result<String, AllocError>
+    ensures { IfOk result (λ lines. string_bytes lines ≡ report_lines report.now) }
+{
+    let mut lines = String::new(alloc);
+    push_comment(
+        "Calls take the stated numbers of arguments, or else those of the methods in this table.",
+        &mut lines,
+    )?;
+    push_comment(report, &mut lines)?;
+    Ok(lines)
+}
+
+// Returns the line of an error.
+fn error_line(alloc: Global, fault: &Fault) -> Result<String, AllocError>
+    ensures { IfOk result (λ line. string_bytes line ≡ error_line fault.now) }
+{
+    let text = format!(in alloc; "{fault}")?;
+    let mut line = String::new(alloc);
+    push_comment(text.as_str(), &mut line)?;
+    Ok(line)
+}
+
+// Returns what follows the text of a definition block.
+fn block_lines(alloc: Global, stated: &Arities, bytes: &[u8]) -> Result<String, AllocError>
+    requires { 36 ≤ length bytes.now }
+    ensures { IfOk result (λ after. HasReport stated.now bytes.now (string_bytes after) ⊎ HasError stated.now bytes.now (string_bytes after)) }
+{
+    match report(alloc, stated, &bytes[BODY..]) {
+        Ok(text) => report_lines(alloc, text.as_str()),
+        Err(ReadError::Memory) => Err(AllocError),
+        Err(error) => error_line(alloc, &Fault::after(BODY, error)),
+    }
+}
+
+/// Returns what follows the text of a table: the report of a definition block's terms in comments, or why they can't be read. Calls
+/// take the stated numbers of arguments, or else those of the block's own methods. The error is that memory ran out.
+pub fn lines_after(alloc: Global, stated: &Arities, bytes: &[u8]) -> Result<String, AllocError>
+    ensures { IfOk result (λ after. IsAfter stated.now bytes.now (string_bytes after)) }
+{
+    if has_terms(bytes) {
+        block_lines(alloc, stated, bytes)
+    } else {
+        Ok(String::new(alloc))
+    }
+}
