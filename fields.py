@@ -17,7 +17,8 @@ from shown import tables_of
 SHOWN = "crates/acpitool/stdout"
 DOCUMENT = "docs/FORMATS.md"
 BEGIN, END = "<!-- fields: fields.py makes these lines -->\n", "<!-- end of fields -->\n"
-HEADER = ["Signature", "Length", "Revision", "Checksum", "OEM ID", "OEM Table ID", "OEM Revision", "Creator ID", "Creator Revision"]
+HEADER = ["Signature", "Length", "Revision", "Checksum", "OEM ID", "OEM Table ID", "OEM Revision", "Creator ID"]
+HEADER += ["Creator Revision"]
 REGISTER = ["Address Space ID", "Register Bit Width", "Register Bit Offset", "Access Size", "Address"]
 # Names of the sources that no line has. Lists begin right after the fields before them, so no bytes are before them. A device
 # handle is shown as one of its two kinds, and the header of a SLIT by the header's fields.
@@ -77,7 +78,8 @@ class Field:
 
 
 def flags_of(line):
-    """Returns the masks and names of a field's flags. In the data all flags with names are set, and the names come by their bits."""
+    """Returns the masks and names of a field's flags. In the data all flags with names are set, and their names are in the order
+    of their bits."""
     names = line.comment.split(" | ")
     value = line.numbers[0][0]
     masks = [1 << bit for bit in range(64) if value >> bit & 1]

@@ -121,7 +121,8 @@ class Comparison:
         """Whether the range is one of several fields of iasl, one after another, that are one field of acpitool together."""
         for at, found, _, _ in self.ours:
             if at <= begin and end <= at + len(found):
-                parts = sorted((it, it + len(bits)) for it, bits, _ in self.theirs if at <= it and it + len(bits) <= at + len(found))
+                fields = [(it, it + len(bits)) for it, bits, _ in self.theirs]
+                parts = sorted(it for it in fields if at <= it[0] and it[1] <= at + len(found))
                 ends = [at, *(it[1] for it in parts)]
                 return [it[0] for it in parts] == ends[:-1] and ends[-1] == at + len(found)
         return False

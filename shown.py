@@ -49,8 +49,8 @@ def line_of(text):
 
 
 def tables_of(text):
-    """Returns the tables of a text, in order. A table's name is the first line, or the line after a file's name. Lines that aren't
-    fields, as the terms of a definition block, are left out."""
+    """Returns the tables of a text, in order. A table's name is the first line that is no comment, or such a line after comments.
+    Comments are the names of files and the terms of definition blocks."""
     tables, above, is_name = [], [], True
     for it in text.splitlines():
         if it.startswith("// "):
