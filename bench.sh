@@ -14,8 +14,7 @@ cd "$(dirname "$0")"
 
 command -v valgrind >/dev/null || { echo 'bench.sh: valgrind is missing' >&2; exit 1; }
 
-prove_libraries acpi_bench
-quietly acpi_bench run -- xsdt=2
+prove acpi_bench
 bench=crates/acpi_bench/out/acpi_bench
 figures=$work/figures
 status=0

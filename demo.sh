@@ -1,7 +1,8 @@
 #!/bin/sh
-# Has one program write tables and the other read them: each whole, one without its last byte, and one with its AML. Then the
-# reader meets what only the system can give it. Both are proved before they are built, with everything that they stand on.
-# The first run takes minutes, and a later one seconds.
+# Has one program write tables, and two others read them. acpiread reads each table, one without its last byte, and one with its
+# AML. acpitool shows a table field by field, and finds the tables of an image. Then acpiread meets what only the system can give
+# it. The programs are proved before they are built, with everything that they stand on. The first run takes minutes, and a later
+# one seconds. With `built`, the programs are those that `rt ci` left, and nothing is proved.
 set -eu
 cd "$(dirname "$0")"
 
@@ -14,40 +15,39 @@ expect() {
     fi
 }
 
-prove_libraries acpi_example acpiread
+[ "${1-}" = built ] || prove acpi_example acpiread acpitool
 mkdir "$work/acpi"
-quietly acpi_example run -- "$work/acpi" 0x1c000000
 expect "$(crates/acpi_example/out/acpi_example "$work/acpi" 1c000000)" 'base 0x1c000000 RSDP 0x1c000740'
-quietly acpiread run -- table "$work/acpi/package"
 read=crates/acpiread/out/acpiread
+tool=crates/acpitool/out/acpitool
 
-# A table that was written, and the lines that the reader tells of it.
-tells() {
+# A table that was written, and the lines that acpiread prints for it.
+reads() {
     lines=$("$read" table "$work/acpi/$1") || true
     echo "$lines"
     expect "$lines" "$2"
 }
 
-tells package 'DSDT length 41 revision 2 sum 0'
-tells fadt 'FACP length 276 revision 6 sum 0'
-tells madt 'APIC length 92 revision 1 sum 0
+reads package 'DSDT length 41 revision 2 sum 0'
+reads fadt 'FACP length 276 revision 6 sum 0'
+reads madt 'APIC length 92 revision 1 sum 0
 44 type 0 size 8
 52 type 0 size 8
 60 type 1 size 12
 72 type 2 size 10
 82 type 2 size 10'
-tells mcfg 'MCFG length 60 revision 1 sum 0
+reads mcfg 'MCFG length 60 revision 1 sum 0
 44 entry size 16'
-tells srat 'SRAT length 128 revision 1 sum 0
+reads srat 'SRAT length 128 revision 1 sum 0
 48 type 1 size 40
 88 type 1 size 40'
-tells slit 'SLIT length 48 revision 1 sum 0'
-tells hmat 'HMAT length 232 revision 1 sum 0
+reads slit 'SLIT length 48 revision 1 sum 0'
+reads hmat 'HMAT length 232 revision 1 sum 0
 40 type 0 size 40
 80 type 0 size 40
 120 type 1 size 56
 176 type 1 size 56'
-tells pptt 'PPTT length 312 revision 3 sum 0
+reads pptt 'PPTT length 312 revision 3 sum 0
 36 type 1 size 28
 64 type 0 size 24
 88 type 1 size 28
@@ -58,20 +58,57 @@ tells pptt 'PPTT length 312 revision 3 sum 0
 228 type 1 size 28
 256 type 1 size 28
 284 type 0 size 28'
-tells hest 'HEST length 152 revision 1 sum 0
+reads hest 'HEST length 152 revision 1 sum 0
 40 type 6 size 48
 88 type 9 size 64'
-tells bert 'BERT length 48 revision 1 sum 0'
+reads bert 'BERT length 48 revision 1 sum 0'
 
-# What a run ends with that prints no report: its status, its line, and the words.
+# A table field by field (PCI Firmware 3.3, 4.1.2), and the tables of the image, in the order in which an operating system finds
+# them.
+lines=$("$tool" show "$work/acpi/mcfg") || true
+echo "$lines"
+expect "$lines" 'PCI Express Memory Mapped Configuration Table (MCFG)
+  0 Signature                           : 4d 43 46 47  // "MCFG"
+  4 Length                              : 0000003c  // 60
+  8 Revision                            : 01
+  9 Checksum                            : ab  // 171
+  10 OEM ID                             : 46 4f 4f 42 41 52  // "FOOBAR"
+  16 OEM Table ID                       : 43 41 46 45 44 45 41 44  // "CAFEDEAD"
+  24 OEM Revision                       : deadbeef  // 3735928559
+  28 Creator ID                         : 52 56 41 54  // "RVAT"
+  32 Creator Revision                   : 00 00 00 01
+  36 Reserved                           : 00 00 00 00 00 00 00 00
+44 entry size 16 Configuration Space Base Address Allocation Structure
+  44 Base Address                       : 00000000b0000000  // 2952790016
+  52 Segment Group Number               : 0000
+  54 Start Bus Number                   : 00
+  55 End Bus Number                     : ff  // 255
+  56 Reserved                           : 00 00 00 00'
+lines=$("$tool" image "$work/acpi/image" 1c000000) || true
+echo "$lines"
+expect "$lines" '0x1c000740 RSD  length 36 revision 2
+0x1c0006d0 XSDT length 108 revision 1
+0x1c000180 FACP length 276 revision 6
+0x1c000298 APIC length 92 revision 1
+0x1c0002f8 MCFG length 60 revision 1
+0x1c000338 SRAT length 128 revision 1
+0x1c0003b8 SLIT length 48 revision 1
+0x1c0003e8 HMAT length 232 revision 1
+0x1c0004d0 PPTT length 312 revision 3
+0x1c000608 HEST length 152 revision 1
+0x1c0006a0 BERT length 48 revision 1
+0x1c000000 FAab length 64 revision 1
+0x1c000040 DSDT length 314 revision 2'
+
+# A run of acpiread that prints no report: its status, its line, and its words.
 ends() {
     wanted=$1
-    told=$2
+    said=$2
     shift 2
     status=0
     line=$("$read" "$@" 2>&1 >"$output") || status=$?
     echo "$line"
-    expect "$line" "$told"
+    expect "$line" "$said"
     expect "status $status" "status $wanted"
 }
 

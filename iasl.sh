@@ -1,7 +1,10 @@
 #!/bin/sh
 # Disassembles with ACPICA's iasl each table that the example writes, its definition blocks with their AML, and prints a line
-# for each. With a folder as its argument, the tables are the files of that folder. Without one, the example and what it stands on
-# are proved first. Not a part of the gate. The status is 1 if iasl refuses a table, or if there is none.
+# for each. It compares the fields that iasl writes with those that `acpitool show` prints, as iasl_fields.py says. With a folder
+# as its argument, the tables are the files of that folder. Without one they are those of the example, and then the fields of
+# crates/acpitool/data are compared, too: these tables have each structure, with values that iasl needn't accept. The programs and
+# what they stand on are proved first. Not a part of the gate. The status is 1 if iasl refuses a table, if its fields are others,
+# or if there is no table.
 #
 # iasl refuses a table if it ends with an error, writes no text, or says that the bytes are wrong. It also warns of what it can't
 # know from one table, as of names that another definition block declares. These warnings are printed, and don't count.
@@ -31,11 +34,14 @@ fi
 cd "$(dirname "$0")"
 . ./crates.sh
 
-if [ $# -eq 0 ]; then
-    prove_libraries acpi_example
+tool=crates/acpitool/out/acpitool
+if [ $# -eq 1 ]; then
+    prove acpitool
+else
+    prove acpi_example acpitool
     tables=$work/acpi
     mkdir "$tables"
-    quietly acpi_example run -- "$tables" 0x1c000000
+    crates/acpi_example/out/acpi_example "$tables" 1c000000 >"$work/log"
 fi
 
 # What iasl says against bytes, on its output and in the text that it writes.
@@ -52,6 +58,13 @@ disassemble() {
         ! grep -Ei "$said" "$work/log" | grep -Evq "$warned" && ! grep -E "$written" "$text" | grep -Evq "$warned"
 }
 
+# Compares the fields in a table's text with those that acpitool shows, and prints what differs.
+compare_fields() {
+    "$tool" show "$1" >"$work/shown" || fail "$1: acpitool doesn't show it"
+    python3 -B iasl_fields.py "$work/shown" "$2" >"$work/compared" || { cat "$work/compared" >&2; fail "$1: its fields differ"; }
+    sed "s|^|${1##*/}: |" "$work/compared"
+}
+
 for table in "$tables"/*; do
     name=${table##*/}
     # All tables at their addresses.
@@ -65,4 +78,18 @@ for table in "$tables"/*; do
     fi
     grep -E "$warned" "$work/log" | sed "s/^/$name: /" || true
     echo "$name: $(sed -n 's/^ACPI: \(....\) .*/\1/p' "$work/log") disassembled"
+    compare_fields "$table" "$text"
+done
+
+[ $# -eq 0 ] || exit 0
+for table in crates/acpitool/data/*; do
+    name=${table##*/}
+    text=$work/$name.dsl
+    rm -f "$text"
+    disassemble "$table" "$text" || true
+    if [ ! -s "$text" ] || grep -q 'Unknown ACPI table signature' "$text"; then
+        echo "$name: iasl doesn't know it"
+    else
+        compare_fields "$table" "$text"
+    fi
 done

@@ -11,10 +11,7 @@ cd "$(dirname "$0")"
 
 . ./crates.sh
 
-prove_libraries acpi_limits acpiread
-quietly acpi_limits run -- VIOT
-printf '\0' >"$work/file"
-quietly acpiread run -- aml "$work/file"
+prove acpi_limits acpiread
 limits=crates/acpi_limits/out/acpi_limits
 read=crates/acpiread/out/acpiread
 
