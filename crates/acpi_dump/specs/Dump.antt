@@ -1,5 +1,6 @@
 -- The tables of a dump.
-use Rattle.std.specs.Prelude.{ℕ, ◌+◌, ◌==◌, Bool, false, if◌then◌else◌, List, [], ◌∷◌, ◌++◌, length, reverse, map, Result, Ok, Err, MatchResult, ◌≡◌, ◌≢◌, Vec}
+use Rattle.std.specs.Prelude.{ℕ, ◌+◌, ◌==◌, Bool, false, if◌then◌else◌, List, [], ◌∷◌, ◌++◌, length, reverse, map, Result, Ok}
+use Rattle.std.specs.Prelude.{Err, MatchResult, ◌≡◌, ◌≢◌, Vec}
 use Rattle.std.specs.declared.alloc.Global.{Global}
 use Rattle.std.specs.Str.Lines.{strip_carriage_return}
 use Rattle.std.specs.Str.Parse.{digits_value}

@@ -3,7 +3,8 @@
 ghost use Rattle.std.specs.Prelude.{◌≡◌, ◌==◌, ◌++◌, true, false, length, OnOk, MatchOption, IfSome};
 ghost use Rattle.std.specs.Char.{is_ascii_hexdigit};
 ghost use Rattle.std.specs.List.{take_while, list_all, AllPass};
-ghost use Rattle.acpi_dump.specs.Line.{is_blank, is_address, ends_in_address, is_title, is_byte, bytes_in, unindented, digits_of, rest_of, is_data};
+ghost use Rattle.acpi_dump.specs.Line.{is_blank, is_address, ends_in_address, is_title, is_byte, bytes_in, unindented};
+ghost use Rattle.acpi_dump.specs.Line.{digits_of, rest_of, is_data};
 
 use crate::digits::{digit, is_digit};
 use std::alloc::AllocError;

@@ -50,8 +50,8 @@ status (unread name why) = 2
 abbrev pub IsHeading : List ℕ → List ℕ → Type 0
 IsHeading name before = (before ≡ []) ⊎ (before ≡ comment name)
 
--- The text shows the bytes, and a definition block's terms follow, in which names take the stated numbers of arguments. The fault is
--- one of the bytes, and a broken dump has no tables.
+-- The text shows the bytes, and a definition block's terms follow, in which names take the stated numbers of arguments. The fault
+-- is one of the bytes, and a broken dump has no tables.
 abbrev pub IsTrueOutcome : List (List ℕ × ℕ) → Outcome → Type 0
 IsTrueOutcome stated (shown name before bytes text after) =
     IsHeading name before × IsText bytes text × IsAfter stated bytes after
@@ -79,7 +79,8 @@ AreTrueOutcomes stated [] = Unit {0}
 AreTrueOutcomes stated (outcome ∷ more) = IsTrueOutcome stated outcome × AreTrueOutcomes stated more
 
 -- these outcomes were printed in order, and the worst status was returned
-pub record Printed (stated : List (List ℕ × ℕ)) (outcomes : List Outcome) (out out' err err' : Option (List ℕ)) (returned : ℕ) : Type 0 where
+pub record Printed (stated : List (List ℕ × ℕ)) (outcomes : List Outcome)
+    (out out' err err' : Option (List ℕ)) (returned : ℕ) : Type 0 where
   pub are : AreTrueOutcomes stated outcomes
   pub wrote : Appends out out' (outputs outcomes)
   pub complained : Appends err err' (complaints outcomes)

@@ -1,5 +1,6 @@
 -- The terms of a definition block, in comments after its text.
-use Rattle.std.specs.Prelude.{◌≡◌, ◌≢◌, ◌⊎◌, ℕ, nat_eq, nat_le, ◌&&◌, ◌||◌, Bool, true, false, List, [], ◌++◌, length, drop, codes}
+use Rattle.std.specs.Prelude.{◌≡◌, ◌≢◌, ◌⊎◌, ℕ, nat_eq, nat_le, ◌&&◌, ◌||◌, Bool, true, false, List, [], ◌++◌, length, drop}
+use Rattle.std.specs.Prelude.{codes}
 use Rattle.std.specs.List.{starts_with}
 use Rattle.acpi_read.specs.Terms.{IsUnread}
 use Rattle.acpi_term.specs.Arity.{arity}

@@ -19,8 +19,8 @@ pub enum Command<'a> {
     Help,
     /// `--version`: its version.
     Version,
-    /// `show FILE .. [NAME=N ..]`: the texts of tables in files, in folders, or on standard input where the word is `-`, and the words
-    /// that state numbers of arguments.
+    /// `show FILE .. [NAME=N ..]`: the texts of tables in files, in folders, or on standard input where the word is `-`, and the
+    /// words that state numbers of arguments.
     Show(&'a [String], &'a [String]),
     /// `image FILE [BASE]`: the tables of an image in a file, which begins at the physical address BASE in hexadecimal, or at 0.
     Image(&'a str, u64),

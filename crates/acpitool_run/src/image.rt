@@ -1,6 +1,7 @@
 //! The tables of an image, found from its pointer on.
 
-ghost use Rattle.std.specs.Prelude.{◌≡◌, ◌≢◌, ◌↔◌, ◌^◌, ◌<◌, ℕ, List, IfErr, ◌+◌, ◌-◌, ◌%◌, ◌≤◌, take, drop, IsTrue, IfOk, OnOk, string_bytes, codes, false, ◌++◌, MatchOption, length};
+ghost use Rattle.std.specs.Prelude.{◌≡◌, ◌≢◌, ◌↔◌, ◌^◌, ◌<◌, ℕ, List, IfErr, ◌+◌, ◌-◌, ◌%◌, ◌≤◌, take, drop, IsTrue, IfOk};
+ghost use Rattle.std.specs.Prelude.{OnOk, string_bytes, codes, false, ◌++◌, MatchOption, length};
 ghost use Rattle.std.specs.Fmt.{digits};
 ghost use Rattle.std.specs.Io.KnownBytes.{Appends};
 ghost use Rattle.acpi_layout.specs.Found.{IsImage};

@@ -55,8 +55,8 @@ pub fn print_unread<E: Write>(name: &str, why: &str, err: &mut E) -> io::Result<
     writeln!(err, "{name}: {why}")
 }
 
-// Prints the text of a table, a pointer or a control structure on `out`, and the terms of a definition block after it, or prints on
-// `err` why it isn't shown. Returns 0 or 1.
+// Prints the text of a table, a pointer or a control structure on `out`, and the terms of a definition block after it, or prints
+// on `err` why it isn't shown. Returns 0 or 1.
 fn show_table<O: Write, E: Write>(
     alloc: Global,
     stated: &Arities,
@@ -142,8 +142,8 @@ fn show_dump<O: Write, E: Write>(
     }
 }
 
-/// Prints what is in a file: a table, a pointer, a control structure, or the tables of a dump as text. What can't be shown has a line
-/// on `err`. Returns 0 or 1.
+/// Prints what is in a file: a table, a pointer, a control structure, or the tables of a dump as text. What can't be shown has a
+/// line on `err`. Returns 0 or 1.
 pub fn show_content<O: Write, E: Write>(
     alloc: Global,
     stated: &Arities,

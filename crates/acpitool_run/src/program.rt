@@ -23,8 +23,9 @@ usage: acpitool show FILE .. [NAME=N ..]
 
 show prints each table field by field: the offset, the name and the value of each field, and what the value
 means. The text has all bytes of the table. A FILE is a table, an RSDP, a FACS, a dump of tables as text (of
-acpidump), or a folder of such files; - is standard input. The terms of a DSDT or an SSDT follow as comments. NAME=N states how many arguments calls
-of NAME have; other names have as many as the table's own methods, or else none.
+acpidump), or a folder of such files; - is standard input. The terms of a DSDT or an SSDT follow as comments.
+NAME=N states how many arguments calls of NAME have. Calls of other names have as many as the method of this
+name in the table, or else none.
 
 image finds the RSDP in a file with the bytes of a guest's memory, follows it to all tables, and checks them.
 It prints the address, signature, length and revision of each. BASE is the address of the first byte in

@@ -3,7 +3,8 @@
 ghost use Rattle.std.specs.Prelude.{◌≡◌, ◌≢◌, ◌+◌, ◌<◌, ◌≤◌, ◌^◌, ◌⊎◌, length, drop, IfOk, IfErr, IfSome, string_bytes};
 ghost use Rattle.acpi_term.specs.ReadError.{offset_of};
 ghost use Rattle.acpi_term.specs.declared.read_error.ReadError.TheVariants.{Memory};
-ghost use Rattle.acpitool_run.specs.Terms.{has_terms, report_lines, error_line, IsReport, IsNoReport, HasReport, HasError, IsAfter};
+ghost use Rattle.acpitool_run.specs.Terms.{has_terms, report_lines, error_line, IsReport, IsNoReport, HasReport, HasError};
+ghost use Rattle.acpitool_run.specs.Terms.{IsAfter};
 
 use acpi_term::name_string::Arities;
 use acpi_term::read_error::ReadError;
@@ -59,7 +60,8 @@ fn error_line(alloc: Global, fault: &Fault) -> Result<String, AllocError>
 // Returns what follows the text of a definition block.
 fn block_lines(alloc: Global, stated: &Arities, bytes: &[u8]) -> Result<String, AllocError>
     requires { 36 ≤ length bytes.now }
-    ensures { IfOk result (λ after. HasReport stated.now bytes.now (string_bytes after) ⊎ HasError stated.now bytes.now (string_bytes after)) }
+    ensures { IfOk result (λ after. HasReport stated.now bytes.now (string_bytes after)
+        ⊎ HasError stated.now bytes.now (string_bytes after)) }
 {
     match report(alloc, stated, &bytes[BODY..]) {
         Ok(text) => report_lines(alloc, text.as_str()),
@@ -68,8 +70,8 @@ fn block_lines(alloc: Global, stated: &Arities, bytes: &[u8]) -> Result<String, 
     }
 }
 
-/// Returns what follows the text of a table: the report of a definition block's terms in comments, or why they can't be read. Calls
-/// take the stated numbers of arguments, or else those of the block's own methods. The error is that memory ran out.
+/// Returns what follows the text of a table: the report of a definition block's terms in comments, or why they can't be read.
+/// Calls take the stated numbers of arguments, or else those of the block's own methods. The error is that memory ran out.
 pub fn lines_after(alloc: Global, stated: &Arities, bytes: &[u8]) -> Result<String, AllocError>
     ensures { IfOk result (λ after. IsAfter stated.now bytes.now (string_bytes after)) }
 {
