@@ -1,3 +1,4 @@
 pub mod Gives
 pub mod Step
 pub mod Meaning
+pub mod Laws

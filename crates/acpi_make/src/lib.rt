@@ -3,6 +3,7 @@
 #![tactic(auto)]
 
 pub mod fault;
-mod read;
-mod state;
+pub mod laws;
+pub mod read;
+pub mod state;
 mod step;

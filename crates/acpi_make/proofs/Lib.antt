@@ -1,0 +1,6 @@
+pub mod Outcomes
+pub mod Digits
+pub mod Reading
+pub mod Lines
+pub mod Slots
+pub mod Tables
