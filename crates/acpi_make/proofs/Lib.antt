@@ -4,3 +4,4 @@ pub mod Reading
 pub mod Lines
 pub mod Slots
 pub mod Tables
+pub mod Fields

@@ -2,8 +2,10 @@
 
 #![tactic(auto)]
 
+pub mod complete;
 pub mod fault;
 pub mod laws;
+pub mod make;
 pub mod read;
 pub mod state;
 mod step;

@@ -158,7 +158,11 @@ fn goes_on(state: State, byte: u8) -> Step
 fn wanted_for(byte: u8) -> Wanted
     ensures { result ≡ wanted_for byte }
 {
-    if byte == b'\r' { Wanted::LineFeed } else { Wanted::Printing }
+    if byte == b'\r' {
+        Wanted::LineFeed
+    } else {
+        Wanted::Printing
+    }
 }
 
 /// Returns what a character does.
