@@ -5,3 +5,4 @@ pub mod Lines
 pub mod Slots
 pub mod Tables
 pub mod Fields
+pub mod Making

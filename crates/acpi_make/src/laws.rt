@@ -1,8 +1,13 @@
 //! Laws of texts, which cost nothing when they run.
 
-ghost use Rattle.acpi_make.specs.Laws.{TablesAreMeant};
+ghost use Rattle.acpi_make.specs.Laws.{TablesAreMeant, TablesAreMade};
 
 /// A law: the text of a table means the table's bytes, for every form.
 pub fn tables_are_meant()
     ensures { TablesAreMeant }
+{}
+
+/// A law: the text of a table is made into the table, for every form.
+pub fn tables_are_made()
+    ensures { TablesAreMade }
 {}
