@@ -6,3 +6,4 @@ pub mod Slots
 pub mod Tables
 pub mod Fields
 pub mod Making
+pub mod Truth

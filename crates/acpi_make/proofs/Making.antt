@@ -9,7 +9,7 @@ use Rattle.acpi_make.specs.Laws.{TablesAreMade}
 
 -- ---- known bytes are kept
 
-drop_known : (n : ℕ) (bytes : List ℕ) → drop n (map Some bytes) ≡ map Some (drop n bytes)
+pub drop_known : (n : ℕ) (bytes : List ℕ) → drop n (map Some bytes) ≡ map Some (drop n bytes)
 drop_known zero bytes = refl
 drop_known (suc n) [] = refl
 drop_known (suc n) (b ∷ bytes) = drop_known n bytes

@@ -65,7 +65,7 @@ fn cut(rt: HostRuntime) -> Result<(), Fail> {
         }
     }
     // The last line may end without its line feed.
-    if made + 1 == TEXT.len() {
+    if made.checked_add(1) == Some(TEXT.len()) {
         Ok(())
     } else {
         Err(Fail::new(format_args!("{made} bytes of text are made")))
