@@ -28,7 +28,9 @@ written offset w value cells = take offset cells ++ (map Some (le w value) ++ dr
 -- a number in a field, if all bytes of the field are there, none of them is known, and the number fits
 abbrev pub filled : ℕ → ℕ → ℕ → List (Option ℕ) → List (Option ℕ)
 filled offset w value cells =
-    if nat_lt offset (length cells) && nat_le w (unknown_front (drop offset cells)) && fits w value then written offset w value cells else cells
+    if nat_lt offset (length cells) && nat_le w (unknown_front (drop offset cells)) && fits w value
+    then written offset w value cells
+    else cells
 
 abbrev pub all_filled : List Field → List (Option ℕ) → List (Option ℕ)
 all_filled [] cells = cells

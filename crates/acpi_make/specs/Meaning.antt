@@ -38,5 +38,7 @@ meaning text = read 1 Start [] text
 -- A step was done. The number's bytes are kept with the lowest last.
 abbrev pub Acts : Result State MakeError → ℕ → Step → List ℕ → List ℕ → List (Option ℕ) → List (Option ℕ) → Type 0
 Acts (Ok state) line done number now cells new =
-    (rest : State → List ℕ → Outcome) → with_front new (rest state (reverse now)) ≡ with_front cells (act line done (reverse number) rest)
-Acts (Err error) line done number now cells new = (rest : State → List ℕ → Outcome) → Fails error (act line done (reverse number) rest)
+    (rest : State → List ℕ → Outcome)
+    → with_front new (rest state (reverse now)) ≡ with_front cells (act line done (reverse number) rest)
+Acts (Err error) line done number now cells new =
+    (rest : State → List ℕ → Outcome) → Fails error (act line done (reverse number) rest)

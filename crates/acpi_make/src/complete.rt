@@ -105,8 +105,8 @@ fn known(alloc: Global, cells: &[Option<u8>]) -> Result<Vec<u8>, MakeError>
     Ok(bytes)
 }
 
-/// Fills fields whose bytes aren't known, and the checksum at offset 9, and returns all bytes. The error is that memory ran out, or
-/// the offset of the first byte that isn't known after this.
+/// Fills fields whose bytes aren't known, and the checksum at offset 9, and returns all bytes. The error is that memory ran out,
+/// or the offset of the first byte that isn't known after this.
 pub fn complete(
     alloc: Global,
     fields: &[Field],

@@ -68,8 +68,8 @@ fn ends(rt: HostRuntime) -> Result<(), Fail> {
     wants(rt.alloc(), b"  4 A: 00 /", 1, Wanted::Slash)
 }
 
-// Bytes that nothing determines: the offset of the first. Only some of the length's bytes are left out, and then a field that isn't
-// worked out.
+// Bytes that nothing determines: the offset of the first. Only some of the length's bytes are left out, then bytes of a field that
+// isn't worked out, and then the only byte.
 #[test]
 fn unknown(rt: HostRuntime) -> Result<(), Fail> {
     let texts: [(&[u8], usize); 3] = [
