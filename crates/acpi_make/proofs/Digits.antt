@@ -1,0 +1,68 @@
+-- Characters, and what tests say of them.
+use Rattle.std.proofs.Common.{◌≡◌, ℕ, zero, suc, ◌<◌, ◌==◌, ◌&&◌, not, Bool, true, false, Option, Some, None, refl, subst, arith, inl, inr}
+use Rattle.std.proofs.lemmas.Bool.{and_parts, eqb-true, cases_lt}
+use Rattle.acpi_text.specs.Hex.{hex_digit}
+use Rattle.acpi_make.specs.Step.{digit_of, is_control}
+
+-- a character that prints
+pub record Prints (c : ℕ) : Type 0 where
+  pub line : (c == 10) ≡ false
+  pub control : is_control c ≡ false
+
+-- a digit, which begins a value, and is neither a space nor a slash
+pub record IsDigit (c n : ℕ) : Type 0 where
+  pub prints : Prints c
+  pub space : (c == 32) ≡ false
+  pub slash : (c == 47) ≡ false
+  pub quotation : (c == 34) ≡ false
+  pub question : (c == 63) ≡ false
+  pub value : digit_of c ≡ Some n
+
+abbrev is_some : Option ℕ → ℕ → Bool
+is_some (Some m) n = m == n
+is_some None n = false
+
+abbrev is_digit : ℕ → ℕ → Bool
+is_digit c n = not (c == 10) && not (is_control c) && not (c == 32) && not (c == 47) && not (c == 34) && not (c == 63) && is_some (digit_of c) n
+
+false_by : (b : Bool) → not b ≡ true → b ≡ false
+false_by true is = absurd cc
+false_by false is = refl
+
+some_by : (o : Option ℕ) (n : ℕ) → is_some o n ≡ true → o ≡ Some n
+some_by (Some m) n is = let e = eqb-true m n is in cc
+some_by None n is = absurd cc
+
+digit_by : (c n : ℕ) → is_digit c n ≡ true → IsDigit c n
+digit_by c n is =
+    let a = and_parts (not (c == 10) && not (is_control c) && not (c == 32) && not (c == 47) && not (c == 34) && not (c == 63)) (is_some (digit_of c) n) is in
+    let b = and_parts (not (c == 10) && not (is_control c) && not (c == 32) && not (c == 47) && not (c == 34)) (not (c == 63)) a.0 in
+    let d = and_parts (not (c == 10) && not (is_control c) && not (c == 32) && not (c == 47)) (not (c == 34)) b.0 in
+    let e = and_parts (not (c == 10) && not (is_control c) && not (c == 32)) (not (c == 47)) d.0 in
+    let f = and_parts (not (c == 10) && not (is_control c)) (not (c == 32)) e.0 in
+    let g = and_parts (not (c == 10)) (not (is_control c)) f.0 in
+    record {
+      prints = record { line = false_by (c == 10) g.0; control = false_by (is_control c) g.1 };
+      space = false_by (c == 32) f.1;
+      slash = false_by (c == 47) e.1;
+      quotation = false_by (c == 34) d.1;
+      question = false_by (c == 63) b.1;
+      value = some_by (digit_of c) n a.1;
+    }
+
+-- the digits below n
+abbrev are_digits : ℕ → Bool
+are_digits zero = true
+are_digits (suc n) = is_digit (hex_digit n) n && are_digits n
+
+below : (m n : ℕ) → are_digits m ≡ true → n < m → IsDigit (hex_digit n) n
+below zero n are less = absurd (omega arith)
+below (suc m) n are less =
+    let parts = and_parts (is_digit (hex_digit m) m) (are_digits m) are in
+    elim (cases_lt n m) [
+      | inl lower ↦ below m n parts.1 lower
+      | inr not ↦ let e : m ≡ n = omega arith in subst (λ k. IsDigit (hex_digit k) k) e (digit_by (hex_digit m) m parts.0)
+    ]
+
+pub digit_is : (n : ℕ) → n < 16 → IsDigit (hex_digit n) n
+digit_is n small = below 16 n refl small

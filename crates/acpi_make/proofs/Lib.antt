@@ -1,0 +1,9 @@
+pub mod Outcomes
+pub mod Digits
+pub mod Reading
+pub mod Lines
+pub mod Slots
+pub mod Tables
+pub mod Fields
+pub mod Making
+pub mod Truth

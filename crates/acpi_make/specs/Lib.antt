@@ -1,0 +1,5 @@
+pub mod Gives
+pub mod Step
+pub mod Meaning
+pub mod Laws
+pub mod Complete

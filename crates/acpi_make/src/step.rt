@@ -1,0 +1,182 @@
+//! What each character of a text does.
+
+ghost use Rattle.std.specs.Prelude.{◌≡◌, ◌<◌, IfSome};
+ghost use Rattle.acpi_make.specs.Step.{digit_of, is_control, line_end, first_digit, second_digit, after_space, goes_on, wanted_for, step, IsHalf, GoesToHalf};
+
+use crate::fault::Wanted;
+use crate::state::{State, Step};
+
+// Returns the number of a digit, of either case.
+#[inline(always)]
+fn digit_of(byte: u8) -> Option<u8>
+    ensures digit { result ≡ digit_of byte }
+    ensures small { IfSome result (λ d. d < 16) }
+{
+    match byte {
+        b'0'..=b'9' => Some(byte - 48),
+        b'A'..=b'F' => Some(byte - 55),
+        b'a'..=b'f' => Some(byte - 87),
+        _ => None,
+    }
+}
+
+// Returns whether a character is none that prints.
+#[inline(always)]
+fn is_control(byte: u8) -> bool
+    ensures { result ≡ is_control byte }
+{
+    byte < 32 || byte == 127
+}
+
+// Returns what the first digit of a byte does.
+#[inline(always)]
+fn first_digit(wanted: Wanted, byte: u8) -> Step
+    ensures does { result ≡ first_digit wanted (digit_of byte) }
+    ensures half { GoesToHalf result }
+{
+    match digit_of(byte) {
+        Some(digit) => Step::Goes(State::Half(digit)),
+        None => Step::Wants(wanted),
+    }
+}
+
+// Returns what the second digit of a byte does.
+#[inline(always)]
+fn second_digit(high: u8, byte: u8) -> Step
+    requires { high < 16 }
+    ensures does { result ≡ second_digit high (digit_of byte) }
+    ensures half { GoesToHalf result }
+{
+    match digit_of(byte) {
+        Some(digit) => Step::Adds(16 * high + digit),
+        None => Step::Wants(Wanted::SecondDigit),
+    }
+}
+
+// Returns what the end of a line does.
+#[inline(always)]
+pub fn line_end(state: State) -> Step
+    ensures ends { result ≡ line_end state }
+    ensures half { GoesToHalf result }
+{
+    match state {
+        State::Number => Step::Ends(State::Start),
+        State::Half(_) => Step::Wants(Wanted::SecondDigit),
+        State::Quoted => Step::Wants(Wanted::QuotationMark),
+        State::HalfMark => Step::Wants(Wanted::QuestionMark),
+        State::HalfComment => Step::Wants(Wanted::Slash),
+        State::Start => Step::Goes(State::Start),
+        State::Indented => Step::Goes(State::Start),
+        State::Slashed => Step::Goes(State::Start),
+        State::Named => Step::Goes(State::Start),
+        State::Skipped => Step::Goes(State::Start),
+        State::Ended => Step::Goes(State::Start),
+        State::Spaced => Step::Goes(State::Start),
+        State::Marked => Step::Goes(State::Start),
+    }
+}
+
+// Returns what a character does after a space that follows a colon or a value.
+#[inline(always)]
+fn after_space(byte: u8) -> Step
+    ensures does { result ≡ after_space byte }
+    ensures half { GoesToHalf result }
+{
+    match byte {
+        b' ' => Step::Goes(State::Spaced),
+        b'/' => Step::Goes(State::HalfComment),
+        b'"' => Step::Goes(State::Quoted),
+        b'?' => Step::Goes(State::HalfMark),
+        _ => first_digit(Wanted::Value, byte),
+    }
+}
+
+// Returns what a character that prints does.
+#[inline(always)]
+fn goes_on(state: State, byte: u8) -> Step
+    requires { IsHalf state }
+    ensures does { result ≡ goes_on state byte }
+    ensures half { GoesToHalf result }
+{
+    match state {
+        State::Start => match byte {
+            b' ' => Step::Goes(State::Indented),
+            _ => Step::Goes(State::Skipped),
+        },
+        State::Indented => match byte {
+            b' ' => Step::Goes(State::Indented),
+            b':' => Step::Goes(State::Ended),
+            b'/' => Step::Goes(State::Slashed),
+            _ => Step::Goes(State::Named),
+        },
+        State::Slashed => match byte {
+            b'/' => Step::Goes(State::Skipped),
+            b':' => Step::Goes(State::Ended),
+            _ => Step::Goes(State::Named),
+        },
+        State::Named => match byte {
+            b':' => Step::Goes(State::Ended),
+            _ => Step::Goes(State::Named),
+        },
+        State::Skipped => Step::Goes(State::Skipped),
+        State::Ended => match byte {
+            b' ' => Step::Goes(State::Spaced),
+            b'/' => Step::Goes(State::HalfComment),
+            _ => Step::Wants(Wanted::Space),
+        },
+        State::Spaced => after_space(byte),
+        State::HalfComment => match byte {
+            b'/' => Step::Goes(State::Skipped),
+            _ => Step::Wants(Wanted::Slash),
+        },
+        State::Number => match byte {
+            b' ' => Step::Ends(State::Spaced),
+            b'/' => Step::Ends(State::HalfComment),
+            _ => first_digit(Wanted::Digit, byte),
+        },
+        State::Half(high) => second_digit(high, byte),
+        State::Quoted => match byte {
+            b'"' => Step::Goes(State::Ended),
+            0..=126 => Step::Has(Some(byte), State::Quoted),
+            _ => Step::Wants(Wanted::QuotationMark),
+        },
+        State::HalfMark => match byte {
+            b'?' => Step::Has(None, State::Marked),
+            _ => Step::Wants(Wanted::QuestionMark),
+        },
+        State::Marked => match byte {
+            b' ' => Step::Goes(State::Spaced),
+            b'/' => Step::Goes(State::HalfComment),
+            b'?' => Step::Goes(State::HalfMark),
+            _ => Step::Wants(Wanted::Space),
+        },
+    }
+}
+
+// Returns what a control character that isn't the end of a line wants.
+#[cold]
+fn wanted_for(byte: u8) -> Wanted
+    ensures { result ≡ wanted_for byte }
+{
+    if byte == b'\r' {
+        Wanted::LineFeed
+    } else {
+        Wanted::Printing
+    }
+}
+
+/// Returns what a character does.
+#[inline(always)]
+pub fn step(state: State, byte: u8) -> Step
+    requires { IsHalf state }
+    ensures does { result ≡ step state byte }
+    ensures half { GoesToHalf result }
+{
+    if byte == b'\n' {
+        line_end(state)
+    } else if is_control(byte) {
+        Step::Wants(wanted_for(byte))
+    } else {
+        goes_on(state, byte)
+    }
+}

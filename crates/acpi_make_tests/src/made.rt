@@ -1,0 +1,73 @@
+//! Whole tables.
+
+use acpi_make::make::make;
+use acpi_text::form::TableForm;
+use acpi_text::table::show_by;
+use acpi_vectors::same;
+use std::test::Fail;
+
+// A table without structures, of the standard header alone (ACPI 6.5, 5.2.6). Its bytes but the checksum sum to 1658, so that the
+// checksum is 134.
+#[rattlefmt::skip]
+const TEXT: &[u8] = b"\
+Test Table (TEST)
+  0 Signature                           : \"TEST\"
+  4 Length                              : ????????
+  8 Revision                            : 01
+  9 Checksum                            : ??
+  10 OEM ID                             : \"FOOBAR\"
+  16 OEM Table ID                       : \"CAFEDEAD\"
+  24 OEM Revision                       : 00000001  // a comment
+  28 Creator ID                         : \"RVAT\"
+  32 Creator Revision                   : 01000000
+";
+
+const BYTES: &[u8] = b"TEST\x24\0\0\0\x01\x86FOOBARCAFEDEAD\x01\0\0\0RVAT\0\0\0\x01";
+
+// The length and the checksum are worked out.
+#[test]
+fn worked_out(rt: HostRuntime) -> Result<(), Fail> {
+    let made = make(rt.alloc(), TEXT)?;
+    same(&made, BYTES)
+}
+
+// The form of bytes without names.
+const FORM: TableForm = TableForm {
+    name: "Test Table (TEST)",
+    parts: &[],
+    structures: &[],
+};
+
+// The text of a table is made into the table, also if its length and its checksum aren't true.
+#[test]
+fn shown(rt: HostRuntime) -> Result<(), Fail> {
+    let tables: [&[u8]; 4] = [
+        BYTES,
+        b"",
+        b"TEST\xff\xff\0\0\x01\x01FOOBARCAFEDEAD\x01\0\0\0RVAT\0\0\0\x01",
+        b"\xff\0\xff",
+    ];
+    for table in &tables {
+        let text = show_by(rt.alloc(), &FORM, None, *table)?;
+        let made = make(rt.alloc(), text.as_bytes())?;
+        same(&made, *table)?;
+    }
+    Ok(())
+}
+
+// Each beginning of a text is made into bytes or has a fault.
+#[test]
+fn cut(rt: HostRuntime) -> Result<(), Fail> {
+    let mut made = 0;
+    for end in 0..TEXT.len() {
+        if make(rt.alloc(), &TEXT[..end]).is_ok() {
+            made = end;
+        }
+    }
+    // The last line may end without its line feed.
+    if made.checked_add(1) == Some(TEXT.len()) {
+        Ok(())
+    } else {
+        Err(Fail::new(format_args!("{made} bytes of text are made")))
+    }
+}
