@@ -2,6 +2,7 @@
 
 use crate::program::{TABLE, TEXT, ends, path};
 use std::fs;
+use std::io::Input;
 use std::rt::Files;
 use std::test::Fail;
 
@@ -65,6 +66,18 @@ fn write_in(
     Ok(())
 }
 
+// Fails unless a run that shows two files has status 2 and prints these texts. The words have one lifetime here, which the borrow
+// checker wants of an array.
+fn ends_for_two<'a, R: Files + Input + AllocGlobal + Clone + Drop>(
+    rt: &R,
+    first: &'a str,
+    second: &'a str,
+    out: &str,
+    err: &str,
+) -> Result<(), Fail> {
+    ends(rt, &["show", first, second], 2, out, err)
+}
+
 // A folder's files are shown in the order of their names. The greatest status counts.
 #[test]
 fn folders(rt: HostRuntime) -> Result<(), Fail> {
@@ -80,8 +93,7 @@ fn folders(rt: HostRuntime) -> Result<(), Fail> {
     ends(&rt, &["show", folder], 1, out.as_str(), err.as_str())?;
     let missing = format!(in rt.alloc(); "{folder}/d")?;
     let both = format!(in rt.alloc(); "{missing}: No such file or directory (os error 2)\n{err}")?;
-    let words = ["show", missing.as_str(), folder];
-    ends(&rt, &words, 2, out.as_str(), both.as_str())?;
+    ends_for_two(&rt, missing.as_str(), folder, out.as_str(), both.as_str())?;
     fs::remove_dir_all(&rt, folder)?;
     Ok(())
 }

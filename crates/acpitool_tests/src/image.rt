@@ -51,7 +51,7 @@ fn images(rt: HostRuntime) -> Result<(), Fail> {
     let other = format!(in rt.alloc(); "{file}: at 0x1c000180: the table isn't in the image\n")?;
     ends(&rt, &["image", file], 1, "", other.as_str())?;
     // A pointer at an offset that isn't a multiple of 16 is none.
-    bytes.remove(0);
+    bytes.insert(0, 0)?;
     fs::write(&rt, file, &bytes)?;
     let none = format!(in rt.alloc(); "{file}: no RSDP at a multiple of 16 bytes\n")?;
     ends(&rt, &["image", file, "1c000000"], 1, "", none.as_str())?;
