@@ -97,7 +97,7 @@ expect "$lines" '0x1c000740 RSD  length 36 revision 2
 0x1c0004d0 PPTT length 312 revision 3
 0x1c000608 HEST length 152 revision 1
 0x1c0006a0 BERT length 48 revision 1
-0x1c000000 FAab length 64 revision 1
+0x1c000000 FACS length 64 revision 1
 0x1c000040 DSDT length 314 revision 2'
 
 # A run of acpiread that prints no report: its status, its line, and its words.

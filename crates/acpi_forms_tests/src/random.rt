@@ -60,7 +60,7 @@ fn fill(signature: [u8; 4], numbers: &mut Numbers, bytes: &mut Vec<u8>) -> Resul
     bytes.extend_from_slice(&(length as u64).to_le_bytes()[..4])?;
     let bound = if numbers.below(2) == 0 { 40 } else { 256 };
     for _ in 8..length {
-        bytes.push(numbers.below(bound) as u8)?;
+        bytes.push(numbers.below(bound).to_le_bytes()[0])?;
     }
     Ok(())
 }
