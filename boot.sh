@@ -5,10 +5,11 @@
 #
 # The bytes of the image begin at the address BASE, in hexadecimal with or without 0x (1c000000 if none is named). The tables
 # are in the first MiB from there, and the 3 MiB after it are reserved for pages that tables point to. Its RSDP is the last one
-# in it. The machine is a q35 with 512 MiB and PROCESSORS processors. Linux has to find NODES nodes of memory, and each table of
-# the image once. NODES and PROCESSORS are 2 if they aren't named, as in the example's image. The kernel finds no disk and stops
-# there, which is no fault. The status is 1 if the kernel didn't take the RSDP or a table, found another number of nodes or
-# processors, complains about a table, AML or what they describe, or doesn't come so far.
+# in it. The machine is a q35 with 512 MiB and PROCESSORS processors, each in a package of its own. Linux has to find NODES nodes
+# of memory and each table of the image once, and each processor in its domain, if there is an SRAT. NODES and PROCESSORS are 2
+# if they aren't named, as in the example's image. The kernel finds no disk and stops there, which is no fault. The status is 1
+# if the kernel didn't take the RSDP or a table, found another number of nodes or processors or a processor without a domain,
+# complains about a table, AML or what they describe, or doesn't come so far.
 #
 # Linux doesn't sum an RSDP that acpi_rsdp= names, and on x86 it doesn't read the PPTT: of these, `acpitool image` checks the sums
 # of the RSDP, and only the sum of the PPTT is seen here.
@@ -50,9 +51,21 @@ work=$(mktemp -d)
 trap 'rm -rf "$work"' EXIT
 
 # The tables in the image, by their own bytes and not by the XSDT: a signature, and a length after which all bytes sum to zero.
-# Only a FACS has no sum. Each line has a signature and an offset.
-od -An -v -tu1 -w1 "$image" | awk '
+# Only a FACS has no sum. Each line has a signature and an offset. The lines of the other file are what the kernel says of the
+# enabled processors of an SRAT (ACPI 6.5, 5.2.16.1 and 5.2.16.3). Of a SRAT of revision 1 it uses the low 8 bits of the domain
+# of a local APIC.
+: >"$work/domains"
+od -An -v -tu1 -w1 "$image" | awk -v domains="$work/domains" '
     { byte[NR - 1] = $1 }
+    function number(from) { return byte[from] + 256 * (byte[from + 1] + 256 * (byte[from + 2] + 256 * byte[from + 3])) }
+    function print_domains(from, end, revision,    at, domain) {
+        for (at = from + 48; at + 16 <= end && byte[at + 1]; at += byte[at + 1])
+            if (byte[at] == 0 && byte[at + 4] % 2) {
+                domain = byte[at + 2] + (revision > 1 ? 256 * (number(at + 9) % 2 ^ 24) : 0)
+                printf "PXM %.0f -> APIC 0x%02x\n", domain, byte[at + 3] >domains
+            } else if (byte[at] == 2 && byte[at + 12] % 2)
+                printf "PXM %.0f -> APIC 0x%04x\n", number(at + 4), number(at + 8) >domains
+    }
     function signature(from,    i, letter, letters) {
         for (i = from; i < from + 4; i++) {
             letter = sprintf("%c", byte[i])
@@ -64,12 +77,13 @@ od -An -v -tu1 -w1 "$image" | awk '
     END {
         for (from = 0; from + 36 <= NR; from++) {
             letters = signature(from)
-            size = byte[from + 4] + 256 * (byte[from + 5] + 256 * (byte[from + 6] + 256 * byte[from + 7]))
+            size = number(from + 4)
             if (letters == "" || size < 36 || from + size > NR) continue
             sum = 0
             for (i = from; i < from + size; i++) sum += byte[i]
             if (letters == "FACS" && size == 64 || letters != "FACS" && sum % 256 == 0) {
                 print letters, from
+                if (letters == "SRAT") print_domains(from, from + size, byte[from + 8])
                 from += size - 1
             }
         }
@@ -77,7 +91,7 @@ od -An -v -tu1 -w1 "$image" | awk '
 ' >"$work/tables"
 
 # Without nokaslr the kernel may put itself where the tables are, and without the last word it doesn't sum their bytes.
-timeout 300 qemu-system-x86_64 -M q35 -m 512 -smp "$processors" -nographic -no-reboot -kernel "$VMLINUZ" \
+timeout 300 qemu-system-x86_64 -M q35 -m 512 -smp "$processors,sockets=$processors" -nographic -no-reboot -kernel "$VMLINUZ" \
     -device "loader,file=$image,addr=$base,force-raw=on" \
     -append "console=ttyS0 panic=-1 acpi_rsdp=$rsdp memmap=1M#$base memmap=3M\$$errors nokaslr acpi_force_table_verification" \
     </dev/null >"$work/console" 2>&1 || { cat "$work/console" >&2; fail "QEMU didn't end as it should"; }
@@ -99,6 +113,15 @@ done <"$work/tables"
 
 found=$(sed -n 's/.*smp: Brought up \([0-9]*\) nodes*, \([0-9]*\) CPUs*.*/\1 \2/p' "$work/lines")
 [ "$found" = "$nodes $processors" ] || fail "the kernel found ${found:-no} nodes and processors, and not $nodes $processors"
+
+# Each processor is in its domain.
+if grep -q '^SRAT ' "$work/tables"; then
+    enabled=$(wc -l <"$work/domains")
+    [ "$enabled" -eq "$processors" ] || fail "the SRAT has domains for $enabled enabled processors, and not $processors"
+fi
+while read -r line; do
+    grep -aq "SRAT: $line -> Node" "$work/lines" || fail "the kernel doesn't say SRAT: $line"
+done <"$work/domains"
 
 # What it says against a table, AML or what they describe. It says two things that are no complaints: AML without \_SB._OSC
 # doesn't ask for errors to go to firmware first, and a root bridge without _PXM has no node.

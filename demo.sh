@@ -17,7 +17,7 @@ expect() {
 
 [ "${1-}" = built ] || prove acpi_example acpiread acpitool
 mkdir "$work/acpi"
-expect "$(crates/acpi_example/out/acpi_example "$work/acpi" 1c000000)" 'base 0x1c000000 RSDP 0x1c000740'
+expect "$(crates/acpi_example/out/acpi_example "$work/acpi" 1c000000)" 'base 0x1c000000 RSDP 0x1c0007a0'
 read=crates/acpiread/out/acpiread
 tool=crates/acpitool/out/acpitool
 
@@ -38,16 +38,18 @@ reads madt 'APIC length 92 revision 1 sum 0
 82 type 2 size 10'
 reads mcfg 'MCFG length 60 revision 1 sum 0
 44 entry size 16'
-reads srat 'SRAT length 128 revision 1 sum 0
-48 type 1 size 40
-88 type 1 size 40'
+reads srat 'SRAT length 160 revision 1 sum 0
+48 type 0 size 16
+64 type 0 size 16
+80 type 1 size 40
+120 type 1 size 40'
 reads slit 'SLIT length 48 revision 1 sum 0'
 reads hmat 'HMAT length 232 revision 1 sum 0
 40 type 0 size 40
 80 type 0 size 40
 120 type 1 size 56
 176 type 1 size 56'
-reads pptt 'PPTT length 312 revision 3 sum 0
+reads pptt 'PPTT length 364 revision 3 sum 0
 36 type 1 size 28
 64 type 0 size 24
 88 type 1 size 28
@@ -55,9 +57,11 @@ reads pptt 'PPTT length 312 revision 3 sum 0
 144 type 1 size 28
 172 type 0 size 28
 200 type 1 size 28
-228 type 1 size 28
-256 type 1 size 28
-284 type 0 size 28'
+228 type 0 size 24
+252 type 1 size 28
+280 type 1 size 28
+308 type 1 size 28
+336 type 0 size 28'
 reads hest 'HEST length 152 revision 1 sum 0
 40 type 6 size 48
 88 type 9 size 64'
@@ -86,17 +90,17 @@ expect "$lines" 'PCI Express Memory Mapped Configuration Table (MCFG)
   56 Reserved                           : 00 00 00 00'
 lines=$("$tool" image "$work/acpi/image" 1c000000) || true
 echo "$lines"
-expect "$lines" '0x1c000740 RSD  length 36 revision 2
-0x1c0006d0 XSDT length 108 revision 1
+expect "$lines" '0x1c0007a0 RSD  length 36 revision 2
+0x1c000728 XSDT length 108 revision 1
 0x1c000180 FACP length 276 revision 6
 0x1c000298 APIC length 92 revision 1
 0x1c0002f8 MCFG length 60 revision 1
-0x1c000338 SRAT length 128 revision 1
-0x1c0003b8 SLIT length 48 revision 1
-0x1c0003e8 HMAT length 232 revision 1
-0x1c0004d0 PPTT length 312 revision 3
-0x1c000608 HEST length 152 revision 1
-0x1c0006a0 BERT length 48 revision 1
+0x1c000338 SRAT length 160 revision 1
+0x1c0003d8 SLIT length 48 revision 1
+0x1c000408 HMAT length 232 revision 1
+0x1c0004f0 PPTT length 364 revision 3
+0x1c000660 HEST length 152 revision 1
+0x1c0006f8 BERT length 48 revision 1
 0x1c000000 FACS length 64 revision 1
 0x1c000040 DSDT length 314 revision 2'
 

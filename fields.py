@@ -37,7 +37,15 @@ def sources():
 FORMS, ROWS = sources()
 REPEATED = set(re.findall(r'(?:Part::(?:Numbers|Entries|Matrix)\(|Inner::Structures\(\s*\d+,)\s*"([^"]+)"', FORMS))
 SIZED = set(re.findall(r'Part::(?:Bytes|Until)\(\s*"([^"]+)"', FORMS))
-WORDS = {(int(mask.replace("_", ""), 0), name) for mask, name in re.findall(r'Word\(\s*(\w+),\s*"([^"]+)"', ROWS)}
+# The masks and names of flags: those of a row of flags, in the row or in a constant. Words of numbers that stand for one of
+# several things are no flags.
+LISTS = dict(re.findall(r"const (\w+): \[Word; \d+\] = \[(.*?)\];", ROWS, re.DOTALL))
+OF_FLAGS = re.findall(r'Row::Flags\(\s*"[^"]+",\s*\d+,\s*&(?:(\w+)|\[(.*?)\])', ROWS, re.DOTALL)
+WORDS = {
+    (int(mask.replace("_", ""), 0), name)
+    for list, own in OF_FLAGS
+    for mask, name in re.findall(r'Word\(\s*(\w+),\s*"([^"]+)"', own or LISTS[list])
+}
 
 
 def stop(why):

@@ -7,7 +7,7 @@ use crate::hardware::{boot_errors, error_sources, fixed_hardware};
 use crate::machine::{BYTES_FROM_BASE, PROCESSORS};
 use crate::namespace::namespace_block;
 use crate::oem::{OEM_ID, OEM_REVISION, OEM_TABLE_ID};
-use crate::platform::{configuration_space, interrupt_controllers, memory};
+use crate::platform::{affinities, configuration_space, interrupt_controllers};
 use crate::topology::topology;
 use acpi_tables::facs::FACS;
 #[cfg(test)]
@@ -26,7 +26,7 @@ pub fn image(alloc: Global, base: u64) -> R<Image>
     let namespace = namespace_block(alloc)?;
     let controllers = interrupt_controllers(alloc)?;
     let spaces = configuration_space(alloc)?;
-    let memory = memory(alloc)?;
+    let affinities = affinities(alloc)?;
     let distances = distances(alloc)?;
     let attributes = attributes(alloc)?;
     let topology = topology(alloc, PROCESSORS)?;
@@ -35,7 +35,7 @@ pub fn image(alloc: Global, base: u64) -> R<Image>
     let tables: Vec<&dyn Aml> = vec![in alloc;
         &controllers as &dyn Aml,
         &spaces,
-        &memory,
+        &affinities,
         &distances,
         &attributes,
         &topology,

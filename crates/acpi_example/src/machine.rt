@@ -1,6 +1,6 @@
-//! The machine that the tables describe: QEMU's q35 with two processors and 512 MiB.
+//! The machine that the tables describe: QEMU's q35 with 512 MiB, and two packages of one processor each.
 
-/// The number of processors. Their ids are 0, 1 and so on, in the MADT and in the namespace.
+/// The number of processors. Their ids are 0, 1 and so on, in the MADT, in the SRAT and in the namespace.
 pub const PROCESSORS: u8 = 2;
 
 /// The bytes of memory of each of the two domains. The first domain begins at address 0.

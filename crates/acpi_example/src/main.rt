@@ -15,7 +15,6 @@ mod machine;
 mod namespace;
 mod oem;
 mod platform;
-mod source_override;
 mod table;
 mod topology;
 
@@ -25,7 +24,7 @@ use crate::hardware::{boot_errors, error_sources, fixed_hardware};
 use crate::image::image;
 use crate::machine::{BYTES_FROM_BASE, PROCESSORS};
 use crate::namespace::namespace_block;
-use crate::platform::{configuration_space, interrupt_controllers, memory};
+use crate::platform::{affinities, configuration_space, interrupt_controllers};
 use crate::table::package_block;
 use crate::topology::topology;
 use acpi_tables::layout::check_image;
@@ -106,7 +105,7 @@ fn save_machine(rt: &impl Files, alloc: Global, folder: &str) -> Result<(), Fail
 // The tables of memory and of PCI.
 fn save_memory(rt: &impl Files, alloc: Global, folder: &str) -> Result<(), Failure> {
     save(rt, alloc, folder, "mcfg", configuration_space(alloc))?;
-    save(rt, alloc, folder, "srat", memory(alloc))?;
+    save(rt, alloc, folder, "srat", affinities(alloc))?;
     save(rt, alloc, folder, "slit", distances(alloc))?;
     save(rt, alloc, folder, "hmat", attributes(alloc))
 }

@@ -1,4 +1,4 @@
-//! The processors and their caches.
+//! The packages of processors, and their caches.
 
 ghost use Rattle.std.specs.Prelude.{◌≡◌, ◌+◌, ◌*◌, length, IfOk, OnOk};
 
@@ -28,7 +28,7 @@ fn add_core(alloc: Global, table: &mut PPTT, package: &ProcessorHandle, number: 
     ensures { OnOk result (length table.new.table.table.structures ≡ length table.old.table.table.structures + 4) }
 {
     let number = u32::from(number);
-    let first_id = 2 + 3 * number;
+    let first_id = 2 + 4 * number;
     let l2 = table.add_cache(cache(first_id, CacheType::Unified, 2048, 8).to_node())?;
     let data = cache(first_id + 1, CacheType::Data, 64, 8).next_level(&l2);
     let data = table.add_cache(data.to_node())?;
@@ -43,19 +43,27 @@ fn add_core(alloc: Global, table: &mut PPTT, package: &ProcessorHandle, number: 
     Ok(())
 }
 
-/// A package of cores, which share its cache.
-pub fn topology(alloc: Global, cores: u8) -> R<PPTT>
-    ensures { IfOk result (λ pptt. length pptt.table.table.structures ≡ 2 + 4 * cores) }
+// Adds a package of one core, and its cache.
+fn add_package(alloc: Global, table: &mut PPTT, number: u8) -> R<()>
+    ensures { OnOk result (length table.new.table.table.structures ≡ length table.old.table.table.structures + 6) }
 {
-    let mut table = PPTT::new(alloc, OEM_ID, OEM_TABLE_ID, OEM_REVISION);
-    let shared = table.add_cache(cache(1, CacheType::Unified, 8192, 16).to_node())?;
+    let id = 1 + 4 * u32::from(number);
+    let shared = table.add_cache(cache(id, CacheType::Unified, 8192, 16).to_node())?;
     let package = ProcessorNode::new(alloc, None, 0)
         .physical()
         .identical()
         .add_cache(&shared)?;
     let package = table.add_processor(package)?;
-    'cores: for number in 0..cores {
-        add_core(alloc, &mut table, &package, number)?;
+    add_core(alloc, table, &package, number)
+}
+
+/// Packages of one core each. Caches aren't shared between packages, so each package can be in a domain of its own.
+pub fn topology(alloc: Global, packages: u8) -> R<PPTT>
+    ensures { IfOk result (λ pptt. length pptt.table.table.structures ≡ 6 * packages) }
+{
+    let mut table = PPTT::new(alloc, OEM_ID, OEM_TABLE_ID, OEM_REVISION);
+    'packages: for number in 0..packages {
+        add_package(alloc, &mut table, number)?;
     }
     Ok(table)
 }

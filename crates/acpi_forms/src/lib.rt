@@ -5,6 +5,7 @@ pub mod fixed;
 pub mod form;
 pub mod hest;
 pub mod lists;
+pub mod make;
 pub mod matrices;
 pub mod nodes;
 pub mod show;

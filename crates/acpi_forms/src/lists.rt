@@ -5,12 +5,14 @@ use acpi_base::row::Row;
 use acpi_base::walk::Place;
 use acpi_lists::cedt::{CXL_HOST_BRIDGE, FIXED_MEMORY, PORT_ASSOCIATION, XOR_MAPS};
 use acpi_lists::madt::{
-    APLIC_ROWS, GIC_ITS, GIC_MSI, GICC, GICD, GICR, IMSIC_ROWS, IO_APIC, MADT_FIXED, PLIC_ROWS,
-    PROCESSOR_LOCAL_APIC, RINTC_ROWS,
+    APLIC_ROWS, GIC_ITS, GIC_MSI, GICC, GICD, GICR, IMSIC_ROWS, INTERRUPT_SOURCE_OVERRIDE, IO_APIC,
+    LOCAL_APIC_ADDRESS_OVERRIDE, LOCAL_APIC_NMI, LOCAL_X2APIC_NMI, MADT_FIXED, NMI_SOURCE,
+    PLIC_ROWS, PROCESSOR_LOCAL_APIC, PROCESSOR_LOCAL_X2APIC, RINTC_ROWS,
 };
 use acpi_lists::mcfg::ECAM;
 use acpi_lists::srat::{
-    ACPI_HANDLE, GENERIC_INITIATOR, MEMORY_AFFINITY, PCI_HANDLE, RINTC_AFFINITY,
+    ACPI_HANDLE, GENERIC_INITIATOR, GIC_ITS_AFFINITY, GICC_AFFINITY, MEMORY_AFFINITY, PCI_HANDLE,
+    PROCESSOR_LOCAL_APIC_AFFINITY, PROCESSOR_LOCAL_X2APIC_AFFINITY, RINTC_AFFINITY,
 };
 use acpi_lists::xsdt::XSDT_ENTRY;
 use acpi_text::form::{Choice, Count, Inner, Part, StructureForm, TableForm};
@@ -39,7 +41,7 @@ pub const MCFG: TableForm = TableForm {
     }],
 };
 
-const MADT_STRUCTURES: [StructureForm; 11] = [
+const MADT_STRUCTURES: [StructureForm; 17] = [
     StructureForm {
         number: 0,
         name: "Processor Local APIC Structure",
@@ -50,6 +52,42 @@ const MADT_STRUCTURES: [StructureForm; 11] = [
         number: 1,
         name: "I/O APIC Structure",
         parts: &[Part::Fields(&IO_APIC)],
+        inner: &Inner::Nothing,
+    },
+    StructureForm {
+        number: 2,
+        name: "Interrupt Source Override Structure",
+        parts: &[Part::Fields(&INTERRUPT_SOURCE_OVERRIDE)],
+        inner: &Inner::Nothing,
+    },
+    StructureForm {
+        number: 3,
+        name: "Non-Maskable Interrupt (NMI) Source Structure",
+        parts: &[Part::Fields(&NMI_SOURCE)],
+        inner: &Inner::Nothing,
+    },
+    StructureForm {
+        number: 4,
+        name: "Local APIC NMI Structure",
+        parts: &[Part::Fields(&LOCAL_APIC_NMI)],
+        inner: &Inner::Nothing,
+    },
+    StructureForm {
+        number: 5,
+        name: "Local APIC Address Override Structure",
+        parts: &[Part::Fields(&LOCAL_APIC_ADDRESS_OVERRIDE)],
+        inner: &Inner::Nothing,
+    },
+    StructureForm {
+        number: 9,
+        name: "Processor Local x2APIC Structure",
+        parts: &[Part::Fields(&PROCESSOR_LOCAL_X2APIC)],
+        inner: &Inner::Nothing,
+    },
+    StructureForm {
+        number: 10,
+        name: "Local x2APIC NMI Structure",
+        parts: &[Part::Fields(&LOCAL_X2APIC_NMI)],
         inner: &Inner::Nothing,
     },
     StructureForm {
@@ -129,11 +167,35 @@ const HANDLES: [Choice; 2] = [
     },
 ];
 
-const SRAT_STRUCTURES: [StructureForm; 3] = [
+const SRAT_STRUCTURES: [StructureForm; 7] = [
+    StructureForm {
+        number: 0,
+        name: "Processor Local APIC/SAPIC Affinity Structure",
+        parts: &[Part::Fields(&PROCESSOR_LOCAL_APIC_AFFINITY)],
+        inner: &Inner::Nothing,
+    },
     StructureForm {
         number: 1,
         name: "Memory Affinity Structure",
         parts: &[Part::Fields(&MEMORY_AFFINITY)],
+        inner: &Inner::Nothing,
+    },
+    StructureForm {
+        number: 2,
+        name: "Processor Local x2APIC Affinity Structure",
+        parts: &[Part::Fields(&PROCESSOR_LOCAL_X2APIC_AFFINITY)],
+        inner: &Inner::Nothing,
+    },
+    StructureForm {
+        number: 3,
+        name: "GICC Affinity Structure",
+        parts: &[Part::Fields(&GICC_AFFINITY)],
+        inner: &Inner::Nothing,
+    },
+    StructureForm {
+        number: 4,
+        name: "GIC Interrupt Translation Service (ITS) Affinity Structure",
+        parts: &[Part::Fields(&GIC_ITS_AFFINITY)],
         inner: &Inner::Nothing,
     },
     StructureForm {

@@ -35,7 +35,7 @@ end_no_place end fits is_whole fails = rw (is_whole, fails) refl
 end_own : (end : Option Error) (fits : Bool) (e : Error) → end ≡ Some e → end_or end fits ≡ Some e
 end_own end fits e is = rw is refl
 
-module _ (base : ℕ) (oem : Oem) (facs dsdt : List ℕ) (fadt : FADTBuilder) (tables : List Object) where
+module _ (base : ℕ) (oem : Oem) (facs : Option (List ℕ)) (dsdt : List ℕ) (fadt : FADTBuilder) (tables : List Object) where
   -- a refusal
   pub refused : (r : Result Image Error) (e : Error) → IsErrAnd r (λ y. y ≡ e) → (e ≢ Memory → image_end base oem facs dsdt fadt tables ≡ Some e) → Lays r base oem facs dsdt fadt tables
   refused r e is cause = let p = err_from_is_err_and r is in rw (p.1, p.2) (record { ok = tt; accepted = tt; cause = cause })
@@ -47,7 +47,7 @@ module _ (base : ℕ) (oem : Oem) (facs dsdt : List ℕ) (fadt : FADTBuilder) (t
   table_refused e own other = end_own (all_of tables).end (has_place base (image base oem facs dsdt fadt (fronts tables)) (length tables)) e (own.cause other)
 
 -- Slices of what vectors hold are that, and the steps' results are in their terms.
-module _ (base : ℕ) (oem : Oem) (facs dsdt : List ℕ) (fadt : FADTBuilder) {X : Type 0} (f : X → Object) (xs ys : List X) (read : ys ≡ xs) (start : Laid)
+module _ (base : ℕ) (oem : Oem) (facs : Option (List ℕ)) (dsdt : List ℕ) (fadt : FADTBuilder) {X : Type 0} (f : X → Object) (xs ys : List X) (read : ys ≡ xs) (start : Laid)
     (first : start ≡ tables_laid base facs dsdt fadt []) (bytes places places' : List ℕ) (read' : places' ≡ places) (all : Places (map f ys) start (record { bytes = bytes; places = places })) where
   all_is : Places (map f xs) start (record { bytes = bytes; places = places' })
   all_is = rw (read', ← read) all

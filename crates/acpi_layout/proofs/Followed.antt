@@ -1,12 +1,13 @@
 -- An image has one list of tables: what is found at each step is what every list has there.
-use Rattle.std.proofs.Common.{◌≡◌, ℕ, ◌<◌, List, [], ◌∷◌, ◌++◌, length, get_or, sym, ap, ◌∙◌, arith, subst, codes}
+use Rattle.std.proofs.Common.{◌≡◌, ℕ, ◌<◌, List, [], ◌∷◌, ◌++◌, length, get_or, refl, sym, ap, ◌∙◌, arith, subst, codes}
+use Rattle.std.specs.Prelude.{Option, Some, None}
 use Rattle.std.specs.List.{All}
 use Rattle.std.proofs.lemmas.List.{ext_get_or}
 use Rattle.acpi_base.specs.Bytes.{field_at}
 use Rattle.acpi_base.specs.Table.{IsTrueTable}
 use Rattle.acpi_layout.specs.declared.located.Located.{Located}
 use Rattle.acpi_layout.specs.Addresses.{Lies}
-use Rattle.acpi_layout.specs.Found.{contents, IsPointer, IsNamedTableAt, AreEntries, IsOnlyFadt, IsControlAt, AreApart, IsImage}
+use Rattle.acpi_layout.specs.Found.{contents, IsPointer, IsNamedTableAt, AreEntries, IsOnlyFadt, IsControlOf, if_found, AreApart, IsImage}
 use Rattle.acpi_layout.proofs.Founds.{none_yet}
 
 -- the FADT is in the image, as an entry of the XSDT
@@ -17,6 +18,13 @@ fadt_lies base bytes xsdt es ys f same are is =
     let there : t ≡ f = ap (λ (l : List Located). get_or l is.index none_yet) (sym same) ∙ is.is none_yet in
     let at = are.each is.index none_yet inside in
     subst (λ (x : Located). Lies base bytes x.address x.length) there (subst (λ a. Lies base bytes a t.length) (sym (ap (λ (x : Located). x.address) at.is)) at.whole)
+
+-- a FADT has one FACS or none
+same_control : (base : ℕ) (bytes fadt : List ℕ) (u v : Option Located) → IsControlOf base bytes fadt u → IsControlOf base bytes fadt v → u ≡ v
+same_control base bytes fadt None None u_is v_is = refl
+same_control base bytes fadt None (Some v) u_is v_is = absurd (let one = v_is.0 in cc)
+same_control base bytes fadt (Some u) None u_is v_is = absurd (let one = u_is.0 in cc)
+same_control base bytes fadt (Some u) (Some v) u_is v_is = ap (λ x. Some x) (u_is.1.is ∙ sym v_is.1.is)
 
 module _ (bytes : List ℕ) (base rsdp : ℕ) (tables : List Located) (im : IsImage bytes base rsdp tables) (p : Located) (p_is : IsPointer base bytes rsdp p) where
   same_pointer : im.pointer ≡ p
@@ -58,16 +66,16 @@ module _ (bytes : List ℕ) (base rsdp : ℕ) (tables : List Located) (im : IsIm
             let at : there.index ≡ f_is.index = f_is.only there.index none_yet there.inside (ap (λ (t : Located). t.signature) is ∙ there.signature) in
             sym is ∙ ap (λ i. get_or ys i none_yet) at ∙ f_is.is none_yet
 
-        pub facs_there : IsControlAt base bytes (field_at 132 8 (contents base bytes f)) im.facs
-        facs_there = subst (λ (t : Located). IsControlAt base bytes (field_at 132 8 (contents base bytes t)) im.facs) same_fadt im.facs_is
+        pub facs_there : IsControlOf base bytes (contents base bytes f) im.facs
+        facs_there = subst (λ (t : Located). IsControlOf base bytes (contents base bytes t) im.facs) same_fadt im.facs_is
 
         pub dsdt_there : IsNamedTableAt base bytes (codes "DSDT") (field_at 140 8 (contents base bytes f)) im.dsdt
         dsdt_there = subst (λ (t : Located). IsNamedTableAt base bytes (codes "DSDT") (field_at 140 8 (contents base bytes t)) im.dsdt) same_fadt im.dsdt_is
 
-        module _ (a d : Located) (a_is : IsControlAt base bytes (field_at 132 8 (contents base bytes f)) a)
+        module _ (a : Option Located) (d : Located) (a_is : IsControlOf base bytes (contents base bytes f) a)
             (d_is : IsNamedTableAt base bytes (codes "DSDT") (field_at 140 8 (contents base bytes f)) d) where
           same_facs : im.facs ≡ a
-          same_facs = facs_there.is ∙ sym a_is.is
+          same_facs = same_control base bytes (contents base bytes f) im.facs a facs_there a_is
 
           same_dsdt : im.dsdt ≡ d
           same_dsdt = dsdt_there.is_table.is ∙ sym d_is.is_table.is
@@ -75,12 +83,12 @@ module _ (bytes : List ℕ) (base rsdp : ℕ) (tables : List Located) (im : IsIm
           pub dsdt_correct : IsTrueTable (contents base bytes d)
           dsdt_correct = subst (λ (t : Located). IsTrueTable (contents base bytes t)) same_dsdt im.dsdt_is_correct
 
-          pub all_apart : (ts found zs : List Located) → zs ≡ es → found ≡ p ∷ x ∷ (zs ++ (a ∷ d ∷ [])) → ts ≡ found → AreApart ts
+          pub all_apart : (ts found zs : List Located) → zs ≡ es → found ≡ p ∷ x ∷ (zs ++ (if_found a ++ (d ∷ []))) → ts ≡ found → AreApart ts
           all_apart ts found zs read' listed read'' =
               let same : tables ≡ ts =
-              im.listed ∙ ap (λ t. t ∷ im.xsdt ∷ (im.entries ++ (im.facs ∷ im.dsdt ∷ []))) same_pointer
-              ∙ ap (λ t. p ∷ t ∷ (im.entries ++ (im.facs ∷ im.dsdt ∷ []))) same_xsdt
-              ∙ ap (λ (l : List Located). p ∷ x ∷ (l ++ (im.facs ∷ im.dsdt ∷ []))) (same_entries ∙ read ∙ sym read')
-              ∙ ap (λ t. p ∷ x ∷ (zs ++ (t ∷ im.dsdt ∷ []))) same_facs ∙ ap (λ t. p ∷ x ∷ (zs ++ (a ∷ t ∷ []))) same_dsdt
+              im.listed ∙ ap (λ t. t ∷ im.xsdt ∷ (im.entries ++ (if_found im.facs ++ (im.dsdt ∷ [])))) same_pointer
+              ∙ ap (λ t. p ∷ t ∷ (im.entries ++ (if_found im.facs ++ (im.dsdt ∷ [])))) same_xsdt
+              ∙ ap (λ (l : List Located). p ∷ x ∷ (l ++ (if_found im.facs ++ (im.dsdt ∷ [])))) (same_entries ∙ read ∙ sym read')
+              ∙ ap (λ (t : Option Located). p ∷ x ∷ (zs ++ (if_found t ++ (im.dsdt ∷ [])))) same_facs ∙ ap (λ t. p ∷ x ∷ (zs ++ (if_found a ++ (t ∷ [])))) same_dsdt
               ∙ sym listed ∙ sym read'' in
               subst AreApart same im.apart

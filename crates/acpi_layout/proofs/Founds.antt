@@ -1,13 +1,13 @@
 -- Facts about the tables of an image.
 use Rattle.std.proofs.Common.{◌≡◌, ℕ, ◌+◌, ◌-◌, ◌*◌, ◌/◌, ◌<◌, ◌≤◌, List, [], ◌∷◌, ◌++◌, length, get_or, take, drop, refl, sym, ap, ◌∙◌, arith, subst, add-one, zero, suc, below_more, codes}
-use Rattle.std.specs.Prelude.{Result, Ok, Err, OnErr, IfErr, IsErrAnd}
+use Rattle.std.specs.Prelude.{Result, Ok, Err, OnErr, IfErr, IsErrAnd, true, false, Option, Some, None}
 use Rattle.std.specs.List.{All}
 use Rattle.std.proofs.lemmas.List.{take_rest, get_or_push, get_or_append_left, get_or-drop, length-drop}
 use Rattle.std.proofs.lemmas.Result.{err_from_is_err_and}
 use Rattle.std.proofs.Math.Seq.{drop-cons}
 use Rattle.acpi_base.specs.Bytes.{field_at}
 use Rattle.acpi_layout.specs.declared.located.Located.{Located}
-use Rattle.acpi_layout.specs.Found.{contents, IsTableAt, AreEntries, IsOnlyFadt, IsApart, AreApart}
+use Rattle.acpi_layout.specs.Found.{contents, IsTableAt, AreEntries, IsOnlyFadt, IsControlAt, has_no_control, IsControlOf, IsApart, AreApart}
 
 -- ---- exits
 
@@ -101,6 +101,17 @@ only_is xs at e inside signature long before after = record {
       after (i - (at + 1)) d (omega (arith, at_is, within)) (ap (λ n. (get_or xs n d).signature) at_is ∙ named));
   has_addresses = long;
 }
+
+-- ---- the FACS
+
+-- a FADT that doesn't say that there is none, and points to none
+pub no_control : (base : ℕ) (bytes whole fadt : List ℕ) (address : ℕ) → whole ≡ fadt → address ≡ field_at 132 8 whole → has_no_control whole ≡ false
+    → ((facs : Located) → IsControlAt base bytes address facs → ⊥) → (facs : Option Located) → IsControlOf base bytes fadt facs → ⊥
+no_control base bytes whole fadt address same from says none None is =
+    let both : true ≡ false = sym is ∙ sym (ap has_no_control same) ∙ says in
+    absurd cc
+no_control base bytes whole fadt address same from says none (Some facs) is =
+    none facs (subst (λ a. IsControlAt base bytes a facs) (sym (from ∙ ap (λ (b : List ℕ). field_at 132 8 b) same)) is.1)
 
 -- ---- the elements behind
 

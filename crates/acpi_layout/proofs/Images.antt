@@ -1,6 +1,6 @@
 -- Images: what the steps of laying make.
 use Rattle.std.proofs.Common.{◌≡◌, ℕ, ◌+◌, ◌*◌, ◌^◌, ◌<◌, ◌≤◌, List, [], ◌∷◌, ◌++◌, length, map, take, drop, get_or, Bool, true, false, Some, None, refl, sym, ap, ◌∙◌, arith, length-append}
-use Rattle.std.specs.Prelude.{codes, sum, if◌then◌else◌}
+use Rattle.std.specs.Prelude.{codes, sum, if◌then◌else◌, Option}
 use Rattle.std.proofs.lemmas.List.{take_more, map-append, length-take-le}
 use Rattle.std.proofs.lemmas.Bool.Decides.{nat_tests}
 use Rattle.acpi_base.specs.declared.error.Error.{Error}
@@ -18,7 +18,7 @@ use Rattle.acpi_fixed.specs.declared.fadt.FADTBuilder.{FADTBuilder}
 use Rattle.acpi_fixed.specs.Fadt.{fadt_bytes, header_fields, legacy_fields, extended_fields}
 use Rattle.acpi_fixed.specs.declared.rsdp.Rsdp.{Rsdp}
 use Rattle.acpi_fixed.specs.Rsdp.{rsdp_bytes, rsdp_for}
-use Rattle.acpi_layout.specs.Image.{Laid, padded, placed, all_placed, pointing, listing, tables_laid, with_xsdt, with_pointer, fronts, Places}
+use Rattle.acpi_layout.specs.Image.{Laid, padded, placed, all_placed, control_bytes, control_address, pointing, listing, tables_laid, with_xsdt, with_pointer, fronts, Places}
 
 -- ---- tables one after another
 
@@ -128,18 +128,19 @@ module _ (base : ℕ) (oem : Oem) (places : List ℕ) (i : ℕ) (inside : i < le
 
 -- ---- the steps
 
--- the FACS, the DSDT and the FADT
-pub begun_is : (base d n : ℕ) (facs dsdt b0 p0 b1 b2 b3 p3 b4 : List ℕ) (fadt pointed : FADTBuilder) → b0 ≡ [] → p0 ≡ [] → Appended (whole facs) b0 b1
-    → n ≡ length b1 → le 8 d ≡ le 8 (base + n) → Appended (whole dsdt) b1 b2 → b3 ≡ padded 8 b2 → p3 ≡ p0 ++ length (padded 8 b2) ∷ [] → pointed ≡ pointing base d fadt
-    → Appended (whole (fadt_bytes pointed)) b3 b4 → record { bytes = b4; places = p3 } ≡ tables_laid base facs dsdt fadt []
-begun_is base d n facs dsdt b0 p0 b1 b2 b3 p3 b4 fadt pointed no_bytes no_places first size address second begun place points third =
-    let at_base : b1 ≡ facs = first.joined ∙ ap (λ (b : List ℕ). b ++ facs) no_bytes in
-    let told : le 8 d ≡ le 8 (base + length facs) = address ∙ ap (λ k. le 8 (base + k)) (size ∙ ap length at_base) in
-    let behind : b2 ≡ facs ++ dsdt = second.joined ∙ ap (λ b. b ++ dsdt) at_base in
-    let is : fadt_bytes pointed ≡ fadt_bytes (pointing base (base + length facs) fadt) = ap fadt_bytes points ∙ fadt_same base d (base + length facs) fadt told in
+-- the FACS if there is one, the DSDT and the FADT
+pub begun_is : (base d n : ℕ) (facs : Option (List ℕ)) (dsdt p0 b1 b2 b3 p3 b4 : List ℕ) (fadt pointed : FADTBuilder) → p0 ≡ [] → b1 ≡ control_bytes facs
+    → n ≡ length b1 → le 8 d ≡ le 8 (base + n) → Appended (whole dsdt) b1 b2 → b3 ≡ padded 8 b2 → p3 ≡ p0 ++ length (padded 8 b2) ∷ []
+    → pointed ≡ pointing (control_address base facs) d fadt → Appended (whole (fadt_bytes pointed)) b3 b4 → record { bytes = b4; places = p3 } ≡ tables_laid base facs dsdt fadt []
+begun_is base d n facs dsdt p0 b1 b2 b3 p3 b4 fadt pointed no_places at_base size address second begun place points third =
+    let at = control_address base facs in
+    let front = control_bytes facs in
+    let told : le 8 d ≡ le 8 (base + length front) = address ∙ ap (λ k. le 8 (base + k)) (size ∙ ap length at_base) in
+    let behind : b2 ≡ front ++ dsdt = second.joined ∙ ap (λ b. b ++ dsdt) at_base in
+    let is : fadt_bytes pointed ≡ fadt_bytes (pointing at (base + length front) fadt) = ap fadt_bytes points ∙ fadt_same at d (base + length front) fadt told in
     placed_is b2 p0 b3 p3 b4 (fadt_bytes pointed) begun place third.joined ∙ ap (λ f. placed f (record { bytes = b2; places = p0 })) is
-    ∙ ap (λ b. placed (fadt_bytes (pointing base (base + length facs) fadt)) (record { bytes = b; places = p0 })) behind
-    ∙ ap (λ p. placed (fadt_bytes (pointing base (base + length facs) fadt)) (record { bytes = facs ++ dsdt; places = p })) no_places
+    ∙ ap (λ b. placed (fadt_bytes (pointing at (base + length front) fadt)) (record { bytes = b; places = p0 })) behind
+    ∙ ap (λ p. placed (fadt_bytes (pointing at (base + length front) fadt)) (record { bytes = front ++ dsdt; places = p })) no_places
 
 module _ (base d n : ℕ) (oem : Oem) (b0 places b1 b2 b3 b4 : List ℕ) (table : Listing) (pointer : Rsdp) (lists : table ≡ listing base oem places) (padding : b1 ≡ padded 8 b0)
     (first : Appended (whole (bytes_of table)) b1 b2) (padding2 : b3 ≡ padded 16 b2) (second : Appended (whole (rsdp_bytes pointer)) b3 b4) where

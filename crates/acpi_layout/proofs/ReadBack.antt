@@ -1,12 +1,14 @@
 -- Images are read back.
-use Rattle.std.proofs.Common.{◌≡◌, ◌≢◌, ℕ, zero, suc, ◌+◌, ◌-◌, ◌*◌, ◌%◌, ◌^◌, ◌<◌, ◌≤◌, List, [], ◌∷◌, ◌++◌, length, map, take, drop, get_or, refl, sym, ap, subst, ◌∙◌, arith, append_assoc, length-append, take-take, inl, inr, codes}
-use Rattle.std.specs.Prelude.{sum}
+use Rattle.std.proofs.Common.{◌≡◌, ◌≢◌, ℕ, zero, suc, ◌+◌, ◌-◌, ◌*◌, ◌/◌, ◌%◌, ◌^◌, ◌<◌, ◌≤◌, List, [], ◌∷◌, ◌++◌, length, map, take, drop, get_or, refl, sym, ap, subst, ◌∙◌, arith, append_assoc, length-append, take-take, inl, inr, codes}
+use Rattle.std.specs.Prelude.{sum, bit_or, Bool, true, false, ◌==◌, ◌&&◌, if◌then◌else◌, Option, Some, None}
 use Rattle.std.specs.List.{All}
 use Rattle.std.proofs.Math.Seq.{drop-append-add}
-use Rattle.std.proofs.lemmas.List.{length-replicate, take_at, get_or-map, length-map, drop-take}
+use Rattle.std.proofs.lemmas.List.{append-nil, length-replicate, take_at, get_or-map, length-map, drop-take}
+use Rattle.std.proofs.lemmas.Nat.{or_shr}
+use Rattle.std.specs.Int.Bits.{or_step}
 use Rattle.std.proofs.lemmas.List.Elements.{All-append, All-map}
 use Rattle.acpi_base.specs.declared.oem.Oem.{Oem}
-use Rattle.acpi_base.specs.Bytes.{put, carried, complement, field_at}
+use Rattle.acpi_base.specs.Bytes.{le, put, carried, complement, field_at}
 use Rattle.acpi_base.specs.Fields.{fields_joined}
 use Rattle.acpi_base.specs.Layout.{zeros}
 use Rattle.acpi_base.specs.Table.{IsTrueTable}
@@ -18,13 +20,13 @@ use Rattle.acpi_fixed.specs.Rsdp.{rsdp_bytes, rsdp_for}
 use Rattle.acpi_fixed.proofs.Tables.{pointers, true_fadt, length-fadt}
 use Rattle.acpi_layout.specs.declared.located.Located.{Located}
 use Rattle.acpi_layout.specs.Addresses.{Lies, bytes_at}
-use Rattle.acpi_layout.specs.Image.{pointing, listing, tables_laid, image}
-use Rattle.acpi_layout.specs.Laws.{Standing, Stand, standing_at, xsdt_address, Points}
-use Rattle.acpi_layout.specs.Found.{located, contents, IsTableAt, IsControlAt, IsApart, AreApart, IsImage}
-use Rattle.acpi_layout.specs.ReadBack.{AreTables, found_at, laid_tables, ImagesAreFound}
+use Rattle.acpi_layout.specs.Image.{control_bytes, control_address, pointed_fadt, listing, tables_laid, image}
+use Rattle.acpi_layout.specs.Laws.{Standing, Stand, standing_at, standing_control, xsdt_address, Points}
+use Rattle.acpi_layout.specs.Found.{located, contents, IsTableAt, IsControlAt, is_reduced, has_no_control, IsControlOf, if_found, IsApart, AreApart, IsImage}
+use Rattle.acpi_layout.specs.ReadBack.{IsControl, AreTables, found_at, found_control, laid_tables, ImagesAreFound, ReducedIsTold}
 use Rattle.acpi_layout.proofs.Images.{size_listing}
 use Rattle.acpi_layout.proofs.Standing.{stand}
-use Rattle.acpi_layout.proofs.Pointing.{point, is_listing}
+use Rattle.acpi_layout.proofs.Pointing.{point, is_listing, flags_in_fadt}
 
 -- ---- bytes that stand at an address
 
@@ -78,14 +80,14 @@ length_told : (n : ℕ) (b : List ℕ) → 36 ≤ n → field_at 4 4 (take 36 b)
 length_told n b long = ap carried (header_kept 28 36 b (omega arith) refl ∙ sym (header_kept (n - 8) n b (omega (arith, long)) (omega (arith, long))))
 
 table_there : (base : ℕ) (total : List ℕ) (s : Standing) → IsThere base total s → IsTrueTable s.bytes → IsTableAt base total s.address (found_at s)
-table_there base total s there true =
+table_there base total s there correct =
     let told : field_at 4 4 (bytes_at base total s.address 36) ≡ length s.bytes =
-    length_told (length s.bytes) (drop (s.address - base) total) true.header ∙ ap (λ b. field_at 4 4 b) there.is ∙ true.tells in
+    length_told (length s.bytes) (drop (s.address - base) total) correct.header ∙ ap (λ b. field_at 4 4 b) there.is ∙ correct.tells in
     record {
-      header = record { begins = there.lies.begins; ends = omega (arith, there.lies.ends, true.header) };
+      header = record { begins = there.lies.begins; ends = omega (arith, there.lies.ends, correct.header) };
       is = place_is base total s there ∙ ap (located base total s.address) (sym told);
       whole = there.lies;
-      has_header = true.header;
+      has_header = correct.header;
     }
 
 -- ---- the list of the tables
@@ -134,28 +136,78 @@ spans from (s ∷ ms) more bytes h =
       stand_on = next.stand_on;
     }
 
-apart_is : (base : ℕ) (f d x r : Standing) (ms : List Standing) (bytes : List ℕ) → Stand base (f ∷ d ∷ (ms ++ (x ∷ r ∷ []))) bytes
-    → AreApart (found_at r ∷ found_at x ∷ (map found_at ms ++ (found_at f ∷ found_at d ∷ [])))
-apart_is base f d x r ms bytes h =
-    let h1 = h.4 in
-    let mid = spans (d.address + length d.bytes) ms (x ∷ r ∷ []) h1.1 h1.4 in
+-- a few tables at first, and then others, the XSDT and the RSDP
+apart_is : (from : ℕ) (few ms : List Standing) (x r : Standing) (bytes : List ℕ) → Stand from (few ++ (ms ++ (x ∷ r ∷ []))) bytes
+    → AreApart (found_at r ∷ found_at x ∷ (map found_at ms ++ map found_at few))
+apart_is from few ms x r bytes h =
+    let low = spans from few (ms ++ (x ∷ r ∷ [])) bytes h in
+    let mid = spans low.to ms (x ∷ r ∷ []) low.rest low.stand_on in
     let hx = mid.stand_on in
     let hr = hx.4 in
-    let f_d : f.address + length f.bytes ≤ d.address = omega (arith, h1.2) in
-    let d_x : d.address + length d.bytes ≤ x.address = omega (arith, mid.after, hx.2) in
+    let last = map found_at few in
+    let l_x : low.to ≤ x.address = omega (arith, mid.after, hx.2) in
     let m_x : mid.to ≤ x.address = omega (arith, hx.2) in
     let x_r : x.address + length x.bytes ≤ r.address = omega (arith, hr.2) in
-    let two : List Located = found_at f ∷ found_at d ∷ [] in
-    let by : (n : ℕ) → d.address + length d.bytes ≤ n → All (λ (t : Located). t.address + t.length ≤ n) two = λ n far.
-    all_cons (λ (t : Located). t.address + t.length ≤ n) (found_at f) (found_at d ∷ []) (omega (arith, f_d, far))
-    (all_cons (λ (t : Located). t.address + t.length ≤ n) (found_at d) [] far (all_nil (λ (t : Located). t.address + t.length ≤ n))) in
-    let all : (n : ℕ) → x.address ≤ n → All (λ (t : Located). t.address + t.length ≤ n) (map found_at ms ++ two) = λ n far.
-    All-append (λ (t : Located). t.address + t.length ≤ n) (map found_at ms) two (λ k e inside. omega (arith, mid.end k e inside, m_x, far)) (by n (omega (arith, d_x, far))) in
-    let two_apart : AreApart two = (all_cons (IsApart (found_at f)) (found_at d) [] (inl f_d) (all_nil (IsApart (found_at f))), (all_nil (IsApart (found_at d)), tt)) in
-    let mids = mid.apart two (by (d.address + length d.bytes) (omega arith)) two_apart in (
-      all_cons (IsApart (found_at r)) (found_at x) (map found_at ms ++ two) (inr x_r) (λ k e inside. inr (all r.address (omega (arith, x_r)) k e inside)),
+    let by : (n : ℕ) → low.to ≤ n → All (λ (t : Located). t.address + t.length ≤ n) last = λ n far k e inside. omega (arith, low.end k e inside, far) in
+    let all : (n : ℕ) → x.address ≤ n → All (λ (t : Located). t.address + t.length ≤ n) (map found_at ms ++ last) = λ n far.
+    All-append (λ (t : Located). t.address + t.length ≤ n) (map found_at ms) last (λ k e inside. omega (arith, mid.end k e inside, m_x, far)) (by n (omega (arith, l_x, far))) in
+    let last_apart : AreApart last = subst AreApart (append-nil last) (low.apart [] (all_nil (λ (t : Located). t.address + t.length ≤ from)) tt) in
+    let mids = mid.apart last (by low.to (omega arith)) last_apart in (
+      all_cons (IsApart (found_at r)) (found_at x) (map found_at ms ++ last) (inr x_r) (λ k e inside. inr (all r.address (omega (arith, x_r)) k e inside)),
       ((λ k e inside. inr (all x.address (omega arith) k e inside)), mids),
     )
+
+-- ---- the FACS
+
+-- the FACS, or none, as the test says, and then the DSDT
+some_apart : (base : ℕ) (b : Bool) (f d x r : Standing) (ms : List Standing) (bytes : List ℕ) → Stand base (f ∷ d ∷ (ms ++ (x ∷ r ∷ []))) bytes
+    → AreApart (found_at r ∷ found_at x ∷ (map found_at ms ++ (if_found (if b then None else Some (found_at f)) ++ (found_at d ∷ []))))
+some_apart base true f d x r ms bytes h = apart_is (f.address + length f.bytes) (d ∷ []) ms x r h.1 h.4
+some_apart base false f d x r ms bytes h = apart_is base (f ∷ d ∷ []) ms x r bytes h
+
+control_apart : (base : ℕ) (facs : Option (List ℕ)) (fadt : FADTBuilder) (d x r : Standing) (ms : List Standing) (bytes : List ℕ)
+    → Stand base (standing_control base facs ++ (d ∷ (ms ++ (x ∷ r ∷ [])))) bytes
+    → AreApart (found_at r ∷ found_at x ∷ (map found_at ms ++ (if_found (found_control base facs fadt) ++ (found_at d ∷ []))))
+control_apart base None fadt d x r ms bytes h = apart_is base (d ∷ []) ms x r bytes h
+control_apart base (Some facs) fadt d x r ms bytes h =
+    some_apart base (is_reduced fadt.flags && (base == 0)) (record { address = base; bytes = facs }) d x r ms bytes h
+
+some_found : (base : ℕ) (total fadt : List ℕ) (b : Bool) (f : Located) → has_no_control fadt ≡ b → IsControlAt base total (field_at 132 8 fadt) f
+    → IsControlOf base total fadt (if b then None else Some f)
+some_found base total fadt true f says is = says
+some_found base total fadt false f says is = (says, is)
+
+control_found : (base : ℕ) (total whole : List ℕ) (facs : Option (List ℕ)) (fadt : FADTBuilder) → IsControl fadt facs → AreThere base total (standing_control base facs)
+    → field_at 132 8 whole ≡ control_address base facs → is_reduced (field_at 112 4 whole) ≡ is_reduced fadt.flags → IsControlOf base total whole (found_control base facs fadt)
+control_found base total whole None fadt are there at flags =
+    ap (λ b. b && (field_at 132 8 whole == 0)) (flags ∙ are) ∙ ap (λ n. true && (n == 0)) at
+control_found base total whole (Some facs) fadt are there at flags =
+    let f : Standing = record { address = base; bytes = facs } in
+    let f_there = there.0 in
+    let f_bytes : bytes_at base total base 64 ≡ facs = ap (λ n. bytes_at base total base n) (sym are.size) ∙ f_there.is in
+    let is : IsControlAt base total base (found_at f) = record {
+      whole = record { begins = f_there.lies.begins; ends = omega (arith, f_there.lies.ends, are.size) };
+      is = place_is base total f f_there ∙ ap (located base total base) are.size;
+      signature = are.signature;
+      tells = ap (λ b. field_at 4 4 b) f_bytes ∙ are.tells;
+    } in
+    some_found base total whole (is_reduced fadt.flags && (base == 0)) (found_at f)
+    (ap (λ b. b && (field_at 132 8 whole == 0)) flags ∙ ap (λ n. is_reduced fadt.flags && (n == 0)) at)
+    (subst (λ n. IsControlAt base total n (found_at f)) (sym at) is)
+
+-- ---- HW_REDUCED_ACPI
+
+-- the low bits of a number are in its bytes
+flags_told : (n : ℕ) → is_reduced (carried (le 4 n)) ≡ is_reduced n
+flags_told n =
+    let same : carried (le 4 n) / 2 ^ 20 % 2 ≡ n / 2 ^ 20 % 2 = omega arith in
+    ap (λ k. k == 1) same
+
+bit_set : (n : ℕ) → bit_or n 0x100000 / 2 ^ 20 % 2 ≡ 1
+bit_set n = omega (arith, or_shr n 0x100000 20, or_step (n / 2 ^ 20) 1)
+
+pub reduced_is_told : ReducedIsTold
+reduced_is_told fadt = ap (λ k. k == 1) (bit_set fadt.flags)
 
 -- ---- the FADT
 
@@ -231,22 +283,22 @@ only_first i h = omega arith
 no_row : Standing
 no_row = record { address = 0; bytes = [] }
 
-module _ (base : ℕ) (oem : Oem) (facs dsdt : List ℕ) (fadt : FADTBuilder) (tables : List (List ℕ)) (six : length oem.id ≡ 6) (eight : length oem.table_id ≡ 8)
+module _ (base : ℕ) (oem : Oem) (facs : Option (List ℕ)) (dsdt : List ℕ) (fadt : FADTBuilder) (tables : List (List ℕ)) (six : length oem.id ≡ 6) (eight : length oem.table_id ≡ 8)
     (are : AreTables facs dsdt fadt tables) (low : base + length (image base oem facs dsdt fadt tables).bytes ≤ 2 ^ 64) (few : 36 + 8 * (1 + length tables) < 2 ^ 32) where
   found : IsImage (image base oem facs dsdt fadt tables).bytes base (image base oem facs dsdt fadt tables).rsdp (laid_tables base oem facs dsdt fadt tables)
   found =
       let total = (image base oem facs dsdt fadt tables).bytes in
       let laid = tables_laid base facs dsdt fadt tables in
-      let p = pointing base (base + length facs) fadt in
+      let p = pointed_fadt base facs fadt in
       let all = fadt_bytes p ∷ tables in
       let rows = standing_at base laid.places all in
       let s = stand base oem facs dsdt fadt tables in
-      let f : Standing = record { address = base; bytes = facs } in
-      let d : Standing = record { address = base + length facs; bytes = dsdt } in
+      let control = standing_control base facs in
+      let d : Standing = record { address = base + length (control_bytes facs); bytes = dsdt } in
       let x : Standing = record { address = xsdt_address base laid; bytes = bytes_of (listing base oem laid.places) } in
       let r : Standing = record { address = (image base oem facs dsdt fadt tables).rsdp; bytes = rsdp_bytes (rsdp_for oem.id (xsdt_address base laid)) } in
-      let there : AreThere base total (f ∷ d ∷ (rows ++ (x ∷ r ∷ []))) = are_there base [] base (f ∷ d ∷ (rows ++ (x ∷ r ∷ []))) total total (omega arith) refl s.all in
-      let f_there = there.0 in
+      let after : List Standing = d ∷ (rows ++ (x ∷ r ∷ [])) in
+      let there = those_there base total control after (are_there base [] base (control ++ after) total total (omega arith) refl s.all) in
       let d_there = there.1.0 in
       let both = those_there base total rows (x ∷ r ∷ []) there.1.1 in
       let x_there = both.1.0 in
@@ -254,7 +306,7 @@ module _ (base : ℕ) (oem : Oem) (facs dsdt : List ℕ) (fadt : FADTBuilder) (t
       let fits : 36 + 8 * length laid.places < 2 ^ 32 = omega (arith, s.listed, few) in
       let x_size = xsdt_size base oem laid.places six eight fits in
       let x_low : xsdt_address base laid < 2 ^ 64 = omega (arith, x_there.lies.ends, x_size, low) in
-      let d_low : base + length facs < 2 ^ 64 = omega (arith, d_there.lies.ends, are.dsdt_is_correct.header, low) in
+      let d_low : base + length (control_bytes facs) < 2 ^ 64 = omega (arith, d_there.lies.ends, are.dsdt_is_correct.header, low) in
       let pt : Points base oem facs fadt laid = point base oem facs fadt laid six eight are.fadt_header fits x_low d_low in
       let p_named : take 4 (fadt_bytes p) ≡ codes "FACP" = fadt_named p are.fadt_signature are.fadt_header in
       let p_true : IsTrueTable (fadt_bytes p) = true_fadt p (four_is fadt.signature are.fadt_signature) (size_is p are.fadt_header) are.fadt_length in
@@ -266,8 +318,8 @@ module _ (base : ℕ) (oem : Oem) (facs dsdt : List ℕ) (fadt : FADTBuilder) (t
       let entry : (i : ℕ) → i < length laid.places → IsTableAt base total (base + get_or laid.places i 0) (found_at (get_or rows i no_row)) = λ i inside.
       let row = row_at base laid.places all i no_row same inside in
       let here = one_there base total rows i no_row both.0 (omega (arith, counted, inside)) in
-      let true : IsTrueTable (get_or rows i no_row).bytes = subst (λ (w : Standing). IsTrueTable w.bytes) (sym row) (true_at i (omega (arith, same, inside))) in
-      subst (λ n. IsTableAt base total n (found_at (get_or rows i no_row))) (ap (λ (w : Standing). w.address) row) (table_there base total (get_or rows i no_row) here true) in
+      let correct : IsTrueTable (get_or rows i no_row).bytes = subst (λ (w : Standing). IsTrueTable w.bytes) (sym row) (true_at i (omega (arith, same, inside))) in
+      subst (λ n. IsTableAt base total n (found_at (get_or rows i no_row))) (ap (λ (w : Standing). w.address) row) (table_there base total (get_or rows i no_row) here correct) in
       let small : (i : ℕ) → i < length laid.places → base + get_or laid.places i 0 < 2 ^ 64 = λ i inside. let e = entry i inside in omega (arith, e.header.ends, low) in
       let first = get_or rows 0 no_row in
       let some : 0 < length laid.places = omega (arith, s.listed) in
@@ -277,24 +329,19 @@ module _ (base : ℕ) (oem : Oem) (facs dsdt : List ℕ) (fadt : FADTBuilder) (t
       let first_contents : contents base total (found_at first) ≡ fadt_bytes p = first_there.is ∙ first_bytes in
       let ptr = pointers oem.id (xsdt_address base laid) six in
       let r_bytes : bytes_at base total r.address 36 ≡ r.bytes = ap (λ n. bytes_at base total r.address n) (sym ptr.0) ∙ r_there.is in
-      let f_bytes : bytes_at base total f.address 64 ≡ facs = ap (λ n. bytes_at base total f.address n) (sym are.facs_length) ∙ f_there.is in
       let x_at : field_at 24 8 (contents base total (found_at r)) ≡ x.address = ap (λ b. field_at 24 8 b) r_there.is ∙ pt.xsdt in
-      let f_at : field_at 132 8 (contents base total (found_at first)) ≡ base = ap (λ b. field_at 132 8 b) first_contents ∙ pt.x_firmware_ctrl in
-      let d_at : field_at 140 8 (contents base total (found_at first)) ≡ base + length facs = ap (λ b. field_at 140 8 b) first_contents ∙ pt.x_dsdt in
+      let f_at : field_at 132 8 (contents base total (found_at first)) ≡ control_address base facs = ap (λ b. field_at 132 8 b) first_contents ∙ pt.x_firmware_ctrl in
+      let d_at : field_at 140 8 (contents base total (found_at first)) ≡ base + length (control_bytes facs) = ap (λ b. field_at 140 8 b) first_contents ∙ pt.x_dsdt in
       let placed : (i : ℕ) → i < length rows → i < length laid.places = λ i inside. omega (arith, counted, inside) in
       let mapped : (i : ℕ) → i < length (map found_at rows) → i < length rows = λ i inside. omega (arith, length-map rows found_at, inside) in
-      let control : IsControlAt base total base (found_at f) = record {
-        whole = record { begins = f_there.lies.begins; ends = omega (arith, f_there.lies.ends, are.facs_length) };
-        is = place_is base total f f_there ∙ ap (located base total base) are.facs_length;
-        signature = are.facs_signature;
-        tells = ap (λ b. field_at 4 4 b) f_bytes ∙ are.facs_tells;
-      } in
+      let flags_at : is_reduced (field_at 112 4 (contents base total (found_at first))) ≡ is_reduced fadt.flags =
+      ap (λ b. is_reduced (field_at 112 4 b)) first_contents ∙ ap is_reduced (flags_in_fadt p are.fadt_header) ∙ flags_told fadt.flags in
       record {
         pointer = found_at r;
         xsdt = found_at x;
         entries = map found_at rows;
         fadt = found_at first;
-        facs = found_at f;
+        facs = found_control base facs fadt;
         dsdt = found_at d;
         pointer_is = record {
           whole = record { begins = r_there.lies.begins; ends = omega (arith, r_there.lies.ends, ptr.0) };
@@ -331,19 +378,19 @@ module _ (base : ℕ) (oem : Oem) (facs dsdt : List ℕ) (fadt : FADTBuilder) (t
               other (sym (ap (λ (w : Standing). take 4 w.bytes) row) ∙ sym (ap (λ (t : Located). t.signature) is) ∙ named));
           has_addresses = omega (arith, ap length first_bytes, p_size);
         };
-        facs_is = subst (λ n. IsControlAt base total n (found_at f)) (sym f_at) control;
+        facs_is = control_found base total (contents base total (found_at first)) facs fadt are.control there.0 f_at flags_at;
         dsdt_is = record {
           is_table = subst (λ n. IsTableAt base total n (found_at d)) (sym d_at) (table_there base total d d_there are.dsdt_is_correct);
           is_named = are.dsdt_signature;
         };
         listed = refl;
-        apart = apart_is base f d x r rows total s.all;
+        apart = control_apart base facs fadt d x r rows total s.all;
         xsdt_is_correct = subst IsTrueTable (sym x_there.is) pt.xsdt_is_true;
         entries_are_correct = All-map (λ (t : Located). IsTrueTable (contents base total t)) found_at rows (λ i e inside.
             let row = row_at base laid.places all i e same (placed i inside) in
             let here = one_there base total rows i e both.0 inside in
-            let true : IsTrueTable (get_or rows i e).bytes = subst (λ (w : Standing). IsTrueTable w.bytes) (sym row) (true_at i (omega (arith, same, placed i inside))) in
-            subst IsTrueTable (sym here.is) true);
+            let correct : IsTrueTable (get_or rows i e).bytes = subst (λ (w : Standing). IsTrueTable w.bytes) (sym row) (true_at i (omega (arith, same, placed i inside))) in
+            subst IsTrueTable (sym here.is) correct);
         dsdt_is_correct = subst IsTrueTable (sym d_there.is) are.dsdt_is_correct;
       }
 

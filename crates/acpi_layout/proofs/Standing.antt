@@ -1,12 +1,13 @@
 -- Where everything stands in an image.
 use Rattle.std.proofs.Common.{◌≡◌, ℕ, ◌+◌, ◌%◌, List, [], ◌∷◌, ◌++◌, length, refl, sym, ap, subst, ◌∙◌, arith, append_assoc, length-append}
+use Rattle.std.specs.Prelude.{Option, Some, None}
 use Rattle.std.proofs.lemmas.List.{append-nil, length-replicate}
 use Rattle.acpi_base.specs.Layout.{zeros}
 use Rattle.acpi_core.specs.Listing.{bytes_of}
 use Rattle.acpi_fixed.specs.Fadt.{fadt_bytes}
 use Rattle.acpi_fixed.specs.Rsdp.{rsdp_bytes, rsdp_for}
-use Rattle.acpi_layout.specs.Image.{Laid, gap, padded, placed, all_placed, pointing, listing, tables_laid, with_xsdt, image}
-use Rattle.acpi_layout.specs.Laws.{Standing, Stand, standing_at, xsdt_address, ImagesStand, AreAligned, ImagesAreAligned}
+use Rattle.acpi_layout.specs.Image.{Laid, gap, padded, placed, all_placed, control_bytes, pointed_fadt, listing, tables_laid, with_xsdt, image}
+use Rattle.acpi_layout.specs.Laws.{Standing, Stand, standing_at, standing_control, xsdt_address, ImagesStand, AreAligned, ImagesAreAligned}
 use Rattle.acpi_layout.proofs.Answered.{places_counted}
 
 -- one more after zeros
@@ -51,25 +52,31 @@ module _ (base : ℕ) (before : List Standing) where
       let more = all_stand tables (placed t laid) (done ++ t ∷ []) (omega (arith, same, length-append laid.places (place ∷ []), length-append done (t ∷ []))) (rw list at next) in
       rw (append_assoc done (t ∷ []) tables) at more
 
-regrouped : (a s : List Standing) (x y : Standing) → ((a ++ s) ++ x ∷ []) ++ y ∷ [] ≡ a ++ (s ++ x ∷ y ∷ [])
-regrouped a s x y = append_assoc (a ++ s) (x ∷ []) (y ∷ []) ∙ append_assoc a s (x ∷ y ∷ [])
+regrouped : (a b s : List Standing) (x y : Standing) → (((a ++ b) ++ s) ++ x ∷ []) ++ y ∷ [] ≡ a ++ (b ++ (s ++ x ∷ y ∷ []))
+regrouped a b s x y = simp append_assoc
+
+-- the FACS if there is one, and the DSDT
+begins : (base : ℕ) (facs : Option (List ℕ)) (dsdt : List ℕ)
+    → Stand base (standing_control base facs ++ record { address = base + length (control_bytes facs); bytes = dsdt } ∷ []) (control_bytes facs ++ dsdt)
+begins base None dsdt = (0, [], omega arith, sym (append-nil dsdt), refl)
+begins base (Some facs) dsdt = (0, dsdt, omega arith, refl, (0, [], omega arith, sym (append-nil dsdt), refl))
 
 pub stand : ImagesStand
 stand base oem facs dsdt fadt tables =
-    let first = fadt_bytes (pointing base (base + length facs) fadt) in
-    let start : Laid = record { bytes = facs ++ dsdt; places = [] } in
+    let first = fadt_bytes (pointed_fadt base facs fadt) in
+    let start : Laid = record { bytes = control_bytes facs ++ dsdt; places = [] } in
     let laid = tables_laid base facs dsdt fadt tables in
-    let two : List Standing = record { address = base; bytes = facs } ∷ record { address = base + length facs; bytes = dsdt } ∷ [] in
-    let begins : Stand base two (facs ++ dsdt) =
-    (0, dsdt, omega arith, refl, (0, [], omega arith, sym (append-nil dsdt), refl)) in
-    let listed = all_stand base two (first ∷ tables) start [] refl begins in
+    let control = standing_control base facs in
+    let block : List Standing = record { address = base + length (control_bytes facs); bytes = dsdt } ∷ [] in
+    let two = control ++ block in
+    let listed = all_stand base two (first ∷ tables) start [] refl (rw append-nil (begins base facs dsdt)) in
     let rows = standing_at base laid.places (first ∷ tables) in
     let at_xsdt : Standing = record { address = xsdt_address base laid; bytes = bytes_of (listing base oem laid.places) } in
     let at_rsdp : Standing = record { address = (image base oem facs dsdt fadt tables).rsdp; bytes = rsdp_bytes (rsdp_for oem.id (xsdt_address base laid)) } in
     let xsdt = stand_padded 8 base (two ++ rows) laid.bytes at_xsdt.bytes listed in
     let pointer = stand_padded 16 base ((two ++ rows) ++ at_xsdt ∷ []) (with_xsdt base oem laid) at_rsdp.bytes xsdt in
     record {
-      all = subst (λ (l : List Standing). Stand base l (image base oem facs dsdt fadt tables).bytes) (regrouped two rows at_xsdt at_rsdp) pointer;
+      all = subst (λ (l : List Standing). Stand base l (image base oem facs dsdt fadt tables).bytes) (regrouped control block rows at_xsdt at_rsdp) pointer;
       listed = omega (arith, places_counted (first ∷ tables) start);
     }
 
@@ -94,7 +101,7 @@ pub are_aligned : ImagesAreAligned
 are_aligned base oem facs dsdt fadt tables aligned =
     let laid = tables_laid base facs dsdt fadt tables in
     record {
-      listed = all_aligned base (fadt_bytes (pointing base (base + length facs) fadt) ∷ tables) (record { bytes = facs ++ dsdt; places = [] }) aligned tt;
+      listed = all_aligned base (fadt_bytes (pointed_fadt base facs fadt) ∷ tables) (record { bytes = control_bytes facs ++ dsdt; places = [] }) aligned tt;
       xsdt = padded_8 base laid.bytes aligned;
       pointer = padded_16 base (with_xsdt base oem laid) aligned;
     }

@@ -1,5 +1,6 @@
 -- The tables that an operating system finds from the RSDP on (ACPI 6.5, 5.2.5 to 5.2.10).
-use Rattle.std.specs.Prelude.{◌≡◌, ℕ, ◌+◌, ◌*◌, ◌%◌, ◌<◌, ◌≤◌, List, [], ◌∷◌, ◌++◌, length, sum, take, codes, slice_index_or, ◌⊎◌}
+use Rattle.std.specs.Prelude.{◌≡◌, ℕ, ◌+◌, ◌*◌, ◌/◌, ◌%◌, ◌^◌, ◌<◌, ◌≤◌, List, [], ◌∷◌, ◌++◌, length, sum, take, codes}
+use Rattle.std.specs.Prelude.{slice_index_or, ◌⊎◌, ◌==◌, ◌&&◌, Bool, true, false, Option, Some, None}
 use Rattle.std.specs.List.{All}
 use Rattle.acpi_base.specs.Bytes.{field_at}
 use Rattle.acpi_base.specs.Table.{IsTrueTable}
@@ -62,6 +63,25 @@ pub record IsControlAt (base : ℕ) (bytes : List ℕ) (address : ℕ) (facs : L
   pub signature : facs.signature ≡ codes "FACS"
   pub tells : field_at 4 4 (bytes_at base bytes address 64) ≡ 64
 
+-- HW_REDUCED_ACPI: bit 20 of a FADT's Flags (5.2.9).
+abbrev pub is_reduced : ℕ → Bool
+is_reduced flags = flags / 2 ^ 20 % 2 == 1
+
+-- Whether a FADT says that there is no FACS (5.2.9): HW_REDUCED_ACPI is set in Flags at offset 112, and X_FIRMWARE_CTRL at offset
+-- 132 is 0.
+abbrev pub has_no_control : List ℕ → Bool
+has_no_control fadt = is_reduced (field_at 112 4 fadt) && (field_at 132 8 fadt == 0)
+
+-- The FACS of a FADT, or none.
+abbrev pub IsControlOf : ℕ → List ℕ → List ℕ → Option Located → Type 0
+IsControlOf base bytes fadt None = has_no_control fadt ≡ true
+IsControlOf base bytes fadt (Some facs) = (has_no_control fadt ≡ false) × IsControlAt base bytes (field_at 132 8 fadt) facs
+
+-- a table, if there is one
+abbrev pub if_found : Option Located → List Located
+if_found None = []
+if_found (Some table) = table ∷ []
+
 -- ---- no two overlap
 
 -- one ends before the other begins
@@ -75,22 +95,23 @@ AreApart (table ∷ tables) = All (IsApart table) tables × AreApart tables
 -- ---- all of them
 
 -- These bytes, from the address base on, are the image of these tables. The RSDP at the address rsdp points to the XSDT. Its
--- entries point to the FADT and the others. The FADT points to the FACS by X_FIRMWARE_CTRL at offset 132, and to the DSDT by
--- X_DSDT at 140. Each table with the standard header has its length and sums to zero, and no two overlap, so none is listed twice.
+-- entries point to the FADT and the others. The FADT points to the FACS by X_FIRMWARE_CTRL at offset 132, or says that there is
+-- none, and to the DSDT by X_DSDT at 140. Each table with the standard header has its length and sums to zero, and no two overlap,
+-- so none is listed twice.
 pub record IsImage (bytes : List ℕ) (base rsdp : ℕ) (tables : List Located) : Type 0 where
   pub pointer : Located
   pub xsdt : Located
   pub entries : List Located
   pub fadt : Located
-  pub facs : Located
+  pub facs : Option Located
   pub dsdt : Located
   pub pointer_is : IsPointer base bytes rsdp pointer
   pub xsdt_is : IsNamedTableAt base bytes (codes "XSDT") (field_at 24 8 (contents base bytes pointer)) xsdt
   pub entries_are : AreEntries base bytes xsdt entries
   pub fadt_is : IsOnlyFadt entries fadt
-  pub facs_is : IsControlAt base bytes (field_at 132 8 (contents base bytes fadt)) facs
+  pub facs_is : IsControlOf base bytes (contents base bytes fadt) facs
   pub dsdt_is : IsNamedTableAt base bytes (codes "DSDT") (field_at 140 8 (contents base bytes fadt)) dsdt
-  pub listed : tables ≡ pointer ∷ xsdt ∷ (entries ++ (facs ∷ dsdt ∷ []))
+  pub listed : tables ≡ pointer ∷ xsdt ∷ (entries ++ (if_found facs ++ (dsdt ∷ [])))
   pub apart : AreApart tables
   pub xsdt_is_correct : IsTrueTable (contents base bytes xsdt)
   pub entries_are_correct : All (λ table. IsTrueTable (contents base bytes table)) entries

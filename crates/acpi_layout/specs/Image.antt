@@ -10,7 +10,8 @@ use Rattle.acpi_base.specs.Layout.{zeros}
 use Rattle.acpi_base.specs.Object.{Object, all_of}
 use Rattle.acpi_core.specs.Listing.{Listing, bytes_of}
 use Rattle.acpi_fixed.specs.declared.fadt.FADTBuilder.{FADTBuilder}
-use Rattle.acpi_fixed.specs.Fadt.{fadt_bytes, with_dsdt, with_facs}
+use Rattle.acpi_fixed.specs.declared.fadt.Flags.TheVariants.{HwReducedAcpi}
+use Rattle.acpi_fixed.specs.Fadt.{fadt_bytes, with_dsdt, with_facs, with_flag}
 use Rattle.acpi_fixed.specs.Rsdp.{rsdp_bytes, rsdp_for}
 use Rattle.acpi_lists.specs.Xsdt.{xsdt}
 
@@ -37,11 +38,31 @@ abbrev pub all_placed : List (List ℕ) → Laid → Laid
 all_placed [] laid = laid
 all_placed (table ∷ tables) laid = all_placed tables (placed table laid)
 
+-- ---- the FACS, which a hardware-reduced machine needn't have (ACPI 6.5, 5.2.9)
+
+-- its bytes, or none
+abbrev pub control_bytes : Option (List ℕ) → List ℕ
+control_bytes None = []
+control_bytes (Some facs) = facs
+
+-- its address, or 0
+abbrev pub control_address : ℕ → Option (List ℕ) → ℕ
+control_address base None = 0
+control_address base (Some facs) = base
+
+-- the FADT of a machine without one
+abbrev pub reduced : FADTBuilder → FADTBuilder
+reduced fadt = with_flag HwReducedAcpi fadt
+
 -- ---- what points to what
 
 -- the FADT with the addresses of the FACS and the DSDT, in its fields of 64 bits
 abbrev pub pointing : ℕ → ℕ → FADTBuilder → FADTBuilder
 pointing facs_at dsdt_at fadt = with_dsdt 0 dsdt_at (with_facs 0 facs_at fadt)
+
+-- the same where the FACS, if there is one, is at base, and the DSDT after it
+abbrev pub pointed_fadt : ℕ → Option (List ℕ) → FADTBuilder → FADTBuilder
+pointed_fadt base facs fadt = pointing (control_address base facs) (base + length (control_bytes facs)) fadt
 
 -- the XSDT whose entries are the addresses of these places
 abbrev pub listing : ℕ → Oem → List ℕ → Listing
@@ -55,10 +76,10 @@ pub record Picture : Type 0 where
   pub rsdp : ℕ
   pub places : List ℕ
 
--- the FACS, the DSDT after it, and then the FADT and the tables in order
-abbrev pub tables_laid : ℕ → List ℕ → List ℕ → FADTBuilder → List (List ℕ) → Laid
+-- the FACS if there is one, the DSDT after it, and then the FADT and the tables in order
+abbrev pub tables_laid : ℕ → Option (List ℕ) → List ℕ → FADTBuilder → List (List ℕ) → Laid
 tables_laid base facs dsdt fadt tables =
-    all_placed (fadt_bytes (pointing base (base + length facs) fadt) ∷ tables) (record { bytes = facs ++ dsdt; places = [] })
+    all_placed (fadt_bytes (pointed_fadt base facs fadt) ∷ tables) (record { bytes = control_bytes facs ++ dsdt; places = [] })
 
 -- the XSDT at the next multiple of 8, and the RSDP at the next multiple of 16
 abbrev pub with_xsdt : ℕ → Oem → Laid → List ℕ
@@ -71,7 +92,7 @@ with_pointer base oem laid = record {
   places = laid.places;
 }
 
-abbrev pub image : ℕ → Oem → List ℕ → List ℕ → FADTBuilder → List (List ℕ) → Picture
+abbrev pub image : ℕ → Oem → Option (List ℕ) → List ℕ → FADTBuilder → List (List ℕ) → Picture
 image base oem facs dsdt fadt tables = with_pointer base oem (tables_laid base facs dsdt fadt tables)
 
 -- ---- where there is none
@@ -89,7 +110,7 @@ abbrev pub end_or : Option Error → Bool → Option Error
 end_or (Some e) fits = Some e
 end_or None fits = if fits then None else Some FieldWidth
 
-abbrev pub image_end : ℕ → Oem → List ℕ → List ℕ → FADTBuilder → List Object → Option Error
+abbrev pub image_end : ℕ → Oem → Option (List ℕ) → List ℕ → FADTBuilder → List Object → Option Error
 image_end base oem facs dsdt fadt tables =
     end_or (all_of tables).end (has_place base (image base oem facs dsdt fadt (fronts tables)) (length tables))
 

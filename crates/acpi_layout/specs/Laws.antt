@@ -1,5 +1,6 @@
 -- What holds of images, whatever is laid.
 use Rattle.std.specs.Prelude.{◌≡◌, ℕ, ◌+◌, ◌*◌, ◌%◌, ◌^◌, ◌<◌, List, [], ◌∷◌, ◌++◌, length, slice_index_or}
+use Rattle.std.specs.Prelude.{Option, Some, None}
 use Rattle.acpi_base.specs.declared.oem.Oem.{Oem}
 use Rattle.acpi_base.specs.Bytes.{field_at}
 use Rattle.acpi_base.specs.Fields.{fields_joined}
@@ -9,7 +10,7 @@ use Rattle.acpi_core.specs.Listing.{bytes_of}
 use Rattle.acpi_fixed.specs.declared.fadt.FADTBuilder.{FADTBuilder}
 use Rattle.acpi_fixed.specs.Fadt.{fadt_bytes, header_fields}
 use Rattle.acpi_fixed.specs.Rsdp.{rsdp_bytes, rsdp_for}
-use Rattle.acpi_layout.specs.Image.{Laid, padded, pointing, listing, tables_laid, image}
+use Rattle.acpi_layout.specs.Image.{Laid, padded, control_bytes, control_address, pointed_fadt, listing, tables_laid, image}
 
 -- bytes at an address
 pub record Standing : Type 0 where
@@ -31,37 +32,43 @@ standing_at base (place ∷ places) [] = []
 standing_at base (place ∷ places) (table ∷ tables) = record { address = base + place; bytes = table }
     ∷ standing_at base places tables
 
+-- the FACS at base, if there is one
+abbrev pub standing_control : ℕ → Option (List ℕ) → List Standing
+standing_control base None = []
+standing_control base (Some facs) = record { address = base; bytes = facs } ∷ []
+
 -- where the XSDT is
 abbrev pub xsdt_address : ℕ → Laid → ℕ
 xsdt_address base laid = base + length (padded 8 laid.bytes)
 
 -- The RSDP at its address points to the XSDT, whose entries are the addresses of the FADT and then of the tables in order. The
--- FADT points to the FACS and the DSDT. All of them stand there, and no two overlap.
-pub record Stands (base : ℕ) (oem : Oem) (facs dsdt : List ℕ) (fadt : FADTBuilder) (tables : List (List ℕ))
+-- FADT points to the FACS, if there is one, and to the DSDT. All of them stand there, and no two overlap.
+pub record Stands (base : ℕ) (oem : Oem) (facs : Option (List ℕ)) (dsdt : List ℕ) (fadt : FADTBuilder) (tables : List (List ℕ))
     (laid : Laid) : Type 0 where
   pub all : Stand base
-      (record { address = base; bytes = facs } ∷ record { address = base + length facs; bytes = dsdt }
-      ∷ (standing_at base laid.places (fadt_bytes (pointing base (base + length facs) fadt) ∷ tables)
+      (standing_control base facs
+      ++ (record { address = base + length (control_bytes facs); bytes = dsdt }
+      ∷ (standing_at base laid.places (fadt_bytes (pointed_fadt base facs fadt) ∷ tables)
       ++ (record { address = xsdt_address base laid; bytes = bytes_of (listing base oem laid.places) }
       ∷ record {
         address = (image base oem facs dsdt fadt tables).rsdp;
         bytes = rsdp_bytes (rsdp_for oem.id (xsdt_address base laid));
-      } ∷ [])))
+      } ∷ []))))
       (image base oem facs dsdt fadt tables).bytes
   pub listed : length laid.places ≡ 1 + length tables
 
 abbrev pub ImagesStand : Type 0
 ImagesStand =
-    (base : ℕ) (oem : Oem) (facs dsdt : List ℕ) (fadt : FADTBuilder) (tables : List (List ℕ))
+    (base : ℕ) (oem : Oem) (facs : Option (List ℕ)) (dsdt : List ℕ) (fadt : FADTBuilder) (tables : List (List ℕ))
     → Stands base oem facs dsdt fadt tables (tables_laid base facs dsdt fadt tables)
 
--- The addresses that tables contain, read out of their bytes: the FADT's of the FACS and the DSDT, in its fields of 64 bits, with
--- zeros in those of 32 bits; the XSDT's of the FADT and the tables, in order; the RSDP's of the XSDT.
-pub record Points (base : ℕ) (oem : Oem) (facs : List ℕ) (fadt : FADTBuilder) (laid : Laid) : Type 0 where
-  pub firmware_ctrl : field_at 36 4 (fadt_bytes (pointing base (base + length facs) fadt)) ≡ 0
-  pub dsdt : field_at 40 4 (fadt_bytes (pointing base (base + length facs) fadt)) ≡ 0
-  pub x_firmware_ctrl : field_at 132 8 (fadt_bytes (pointing base (base + length facs) fadt)) ≡ base
-  pub x_dsdt : field_at 140 8 (fadt_bytes (pointing base (base + length facs) fadt)) ≡ base + length facs
+-- The addresses that tables contain, read out of their bytes: the FADT's of the FACS, or 0, and of the DSDT, in its fields of 64
+-- bits, with zeros in those of 32 bits; the XSDT's of the FADT and the tables, in order; the RSDP's of the XSDT.
+pub record Points (base : ℕ) (oem : Oem) (facs : Option (List ℕ)) (fadt : FADTBuilder) (laid : Laid) : Type 0 where
+  pub firmware_ctrl : field_at 36 4 (fadt_bytes (pointed_fadt base facs fadt)) ≡ 0
+  pub dsdt : field_at 40 4 (fadt_bytes (pointed_fadt base facs fadt)) ≡ 0
+  pub x_firmware_ctrl : field_at 132 8 (fadt_bytes (pointed_fadt base facs fadt)) ≡ control_address base facs
+  pub x_dsdt : field_at 140 8 (fadt_bytes (pointed_fadt base facs fadt)) ≡ base + length (control_bytes facs)
   pub entries : (i : ℕ) → i < length laid.places → base + slice_index_or laid.places i 0 < 2 ^ 64
       → field_at (36 + 8 * i) 8 (bytes_of (listing base oem laid.places)) ≡ base + slice_index_or laid.places i 0
   pub xsdt : field_at 24 8 (rsdp_bytes (rsdp_for oem.id (xsdt_address base laid))) ≡ xsdt_address base laid
@@ -71,9 +78,9 @@ pub record Points (base : ℕ) (oem : Oem) (facs : List ℕ) (fadt : FADTBuilder
 -- 2^64.
 abbrev pub ImagesPoint : Type 0
 ImagesPoint =
-    (base : ℕ) (oem : Oem) (facs : List ℕ) (fadt : FADTBuilder) (laid : Laid)
+    (base : ℕ) (oem : Oem) (facs : Option (List ℕ)) (fadt : FADTBuilder) (laid : Laid)
     → length oem.id ≡ 6 → length oem.table_id ≡ 8 → length (fields_joined (header_fields fadt)) ≡ 36
-    → 36 + 8 * length laid.places < 2 ^ 32 → xsdt_address base laid < 2 ^ 64 → base + length facs < 2 ^ 64
+    → 36 + 8 * length laid.places < 2 ^ 32 → xsdt_address base laid < 2 ^ 64 → base + length (control_bytes facs) < 2 ^ 64
     → Points base oem facs fadt laid
 
 -- each is a multiple of 8
@@ -89,5 +96,5 @@ pub record Aligned (base : ℕ) (laid : Laid) (rsdp : ℕ) : Type 0 where
 
 abbrev pub ImagesAreAligned : Type 0
 ImagesAreAligned =
-    (base : ℕ) (oem : Oem) (facs dsdt : List ℕ) (fadt : FADTBuilder) (tables : List (List ℕ)) → base % 64 ≡ 0
+    (base : ℕ) (oem : Oem) (facs : Option (List ℕ)) (dsdt : List ℕ) (fadt : FADTBuilder) (tables : List (List ℕ)) → base % 64 ≡ 0
     → Aligned base (tables_laid base facs dsdt fadt tables) (image base oem facs dsdt fadt tables).rsdp

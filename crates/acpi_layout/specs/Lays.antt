@@ -1,5 +1,5 @@
 -- What laying tables answers.
-use Rattle.std.specs.Prelude.{◌≡◌, ◌≢◌, ℕ, List, None, Some, Result, IfOk, IfErr, OnOk}
+use Rattle.std.specs.Prelude.{◌≡◌, ◌≢◌, ℕ, List, Option, None, Some, Result, IfOk, IfErr, OnOk}
 use Rattle.acpi_base.specs.declared.error.Error.{Error}
 use Rattle.acpi_base.specs.declared.error.Error.TheVariants.{Memory}
 use Rattle.acpi_base.specs.declared.oem.Oem.{Oem}
@@ -14,7 +14,7 @@ shown made = record { bytes = made.bytes.items; rsdp = made.rsdp; places = made.
 
 -- The image, where all tables are whole and there is place for it. Else there is none, and the refusal is that of the first
 -- table that isn't whole, else FieldWidth. Or memory ran out.
-pub record Lays (result : Result Image Error) (base : ℕ) (oem : Oem) (facs dsdt : List ℕ) (fadt : FADTBuilder)
+pub record Lays (result : Result Image Error) (base : ℕ) (oem : Oem) (facs : Option (List ℕ)) (dsdt : List ℕ) (fadt : FADTBuilder)
     (tables : List Object) : Type 0 where
   pub ok : IfOk result (λ made. shown made ≡ image base oem facs dsdt fadt (fronts tables))
   pub accepted : OnOk result (image_end base oem facs dsdt fadt tables ≡ None)

@@ -3,7 +3,7 @@
 ghost use Rattle.std.specs.Prelude.{◌≡◌, ◌≢◌, List, [], ◌∷◌, ◌++◌, IfOk, IfErr};
 ghost use Rattle.acpi_layout.specs.declared.fault.ImageFault.TheVariants.{Memory};
 ghost use Rattle.acpi_layout.specs.declared.located.Located.{Located};
-ghost use Rattle.acpi_layout.specs.Found.{IsImage};
+ghost use Rattle.acpi_layout.specs.Found.{if_found, IsImage};
 
 use crate::apart::are_apart;
 use crate::fault::ImageFault;
@@ -17,26 +17,30 @@ fn in_order(
     pointer: Located,
     xsdt: Located,
     entries: &[Located],
-    facs: Located,
+    facs: Option<Located>,
     dsdt: Located,
 ) -> Result<Vec<Located>, ImageFault>
-    ensures ok { IfOk result (λ tables. tables.items ≡ pointer ∷ xsdt ∷ (entries.now ++ (facs ∷ dsdt ∷ []))) }
+    ensures ok { IfOk result (λ tables. tables.items
+        ≡ pointer ∷ xsdt ∷ (entries.now ++ (if_found facs ++ (dsdt ∷ [])))) }
     ensures err { IfErr result (λ e. e ≡ Memory) }
 {
     let mut tables = vec![in alloc; pointer, xsdt]?;
     tables.extend_from_slice(entries)?;
-    tables.push(facs)?;
+    if let Some(facs) = facs {
+        tables.push(facs)?;
+    }
     tables.push(dsdt)?;
     Ok(tables)
 }
 
 /// Checks the tables of an image, as an operating system finds them. The bytes begin at the physical address `base`, and the RSDP
 /// is at the address `rsdp`. The RSDP (ACPI 6.5, 5.2.5.3) of revision 2 points to the XSDT (5.2.8), and its entries to the FADT
-/// and the others. X_FIRMWARE_CTRL of the FADT (5.2.9) points to the FACS (5.2.10), and X_DSDT to the DSDT. Each table is in the
-/// image with its whole length and sums to zero, except the FACS, which has no checksum. No two overlap.
+/// and the others. X_FIRMWARE_CTRL of the FADT (5.2.9) points to the FACS (5.2.10), and X_DSDT to the DSDT. There is no FACS if
+/// X_FIRMWARE_CTRL is 0 and the FADT's flag HW_REDUCED_ACPI is set. Each table is in the image with its whole length and sums to
+/// zero, except the FACS, which has no checksum. No two overlap.
 ///
-/// Returns the tables in the order in which they are found: the RSDP, the XSDT, its entries in order, the FACS and the DSDT. The
-/// fields of 32 bits for addresses are not read. Each pair of tables is compared once, and no byte is copied.
+/// Returns the tables in the order in which they are found: the RSDP, the XSDT, its entries in order, the FACS if there is one,
+/// and the DSDT. The fields of 32 bits for addresses are not read. Each pair of tables is compared once, and no byte is copied.
 pub fn check_image(
     alloc: Global,
     bytes: &[u8],

@@ -1,6 +1,6 @@
 //! The tables of an image, each found by the address that another one contains.
 
-ghost use Rattle.std.specs.Prelude.{◌≡◌, ◌≢◌, ℕ, ◌+◌, ◌<◌, ◌≤◌, ◌%◌, List, length, sum, codes, slice_index_or, IsTrue, IfSome, IfNone, IfOk, IfErr, OnOk, OnErr, ◌↔◌};
+ghost use Rattle.std.specs.Prelude.{◌≡◌, ◌≢◌, ℕ, ◌+◌, ◌<◌, ◌≤◌, ◌%◌, List, length, sum, codes, slice_index_or, Option, IsTrue, IfSome, IfNone, IfOk, IfErr, OnOk, OnErr, ◌↔◌};
 ghost use Rattle.std.specs.List.{All};
 ghost use Rattle.acpi_base.specs.Bytes.{field_at};
 ghost use Rattle.acpi_base.specs.Table.{IsTrueTable};
@@ -8,6 +8,7 @@ ghost use Rattle.acpi_layout.specs.declared.fault.ImageFault.TheVariants.{Memory
 ghost use Rattle.acpi_layout.specs.declared.located.Located.{Located};
 ghost use Rattle.acpi_layout.specs.Addresses.{Lies, bytes_at};
 ghost use Rattle.acpi_layout.specs.Found.{contents, IsTableAt, IsPointer, IsNamedTableAt, AreEntries, IsOnlyFadt, IsControlAt};
+ghost use Rattle.acpi_layout.specs.Found.{is_reduced, has_no_control, IsControlOf};
 
 use crate::fault::ImageFault;
 use crate::located::Located;
@@ -150,15 +151,26 @@ pub(crate) fn pointer(bytes: &[u8], base: u64, address: u64) -> Result<Located, 
     })
 }
 
-// The FACS to which a FADT points.
-pub(crate) fn control(bytes: &[u8], base: u64, fadt: Located) -> Result<Located, ImageFault>
-    requires lies { Lies base bytes.now fadt.address fadt.length }
-    requires within { 148 ≤ fadt.length }
-    ensures ok { IfOk result (λ facs. IsControlAt base bytes.now (field_at 132 8 (contents base bytes.now fadt)) facs) }
-    ensures err { OnErr result ((facs : Located)
-        → ¬ IsControlAt base bytes.now (field_at 132 8 (contents base bytes.now fadt)) facs) }
+// Whether these are a FADT's Flags of a hardware-reduced machine: bit 20 is HW_REDUCED_ACPI.
+fn is_reduced(flags: u32) -> bool
+    ensures { result ≡ is_reduced flags }
 {
-    let address = qword(contents(bytes, base, fadt), 132);
+    flags / 0x10_0000 % 2 == 1
+}
+
+// Whether a FADT says that there is no FACS.
+fn has_no_control(fadt: &[u8]) -> bool
+    requires { 148 ≤ length fadt.now }
+    ensures { result ≡ has_no_control fadt.now }
+{
+    is_reduced(dword(fadt, 112)) && qword(fadt, 132) == 0
+}
+
+// The FACS at an address.
+fn control_at(bytes: &[u8], base: u64, address: u64) -> Result<Located, ImageFault>
+    ensures ok { IfOk result (λ facs. IsControlAt base bytes.now address facs) }
+    ensures err { OnErr result ((facs : Located) → ¬ IsControlAt base bytes.now address facs) }
+{
     let whole = part(bytes, base, address, 64)?;
     let signature = [whole[0], whole[1], whole[2], whole[3]];
     if signature != *b"FACS" {
@@ -172,6 +184,21 @@ pub(crate) fn control(bytes: &[u8], base: u64, fadt: Located) -> Result<Located,
         length: 64,
         signature,
     })
+}
+
+// The FACS of a FADT, or none.
+pub(crate) fn control(bytes: &[u8], base: u64, fadt: Located) -> Result<Option<Located>, ImageFault>
+    requires lies { Lies base bytes.now fadt.address fadt.length }
+    requires within { 148 ≤ fadt.length }
+    ensures ok { IfOk result (λ facs. IsControlOf base bytes.now (contents base bytes.now fadt) facs) }
+    ensures err { OnErr result ((facs : Option Located) → ¬ IsControlOf base bytes.now (contents base bytes.now fadt) facs) }
+{
+    let fields = contents(bytes, base, fadt);
+    if has_no_control(fields) {
+        return Ok(None);
+    }
+    let facs = control_at(bytes, base, qword(fields, 132))?;
+    Ok(Some(facs))
 }
 
 // The tables that an XSDT lists.

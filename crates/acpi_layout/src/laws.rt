@@ -1,16 +1,16 @@
 //! Laws over the definition of an image. Each function is a law: it does nothing, and ensures it.
 
 ghost use Rattle.acpi_layout.specs.Laws.{ImagesStand, ImagesPoint, ImagesAreAligned};
-ghost use Rattle.acpi_layout.specs.ReadBack.{ImagesAreFound};
+ghost use Rattle.acpi_layout.specs.ReadBack.{ImagesAreFound, ReducedIsTold};
 
-/// In an image each table's bytes stand at its address: the FACS, the DSDT, the FADT and the tables, the XSDT and the RSDP. No two
-/// overlap, and gaps are zero.
+/// In an image each table's bytes stand at its address: the FACS if there is one, the DSDT, the FADT and the tables, the XSDT and
+/// the RSDP. No two overlap, and gaps are zero.
 pub fn images_stand()
     ensures { ImagesStand }
 {}
 
-/// The addresses are read out of the tables' bytes: of the FACS and the DSDT at 132 and 140 of the FADT, where 36 and 40 are
-/// zero, of each table in the XSDT's entries, and of the XSDT at 24 of the RSDP. The XSDT is a true table.
+/// The addresses are read out of the tables' bytes: of the FACS, or 0, and the DSDT at 132 and 140 of the FADT, where 36 and 40
+/// are zero, of each table in the XSDT's entries, and of the XSDT at 24 of the RSDP. The XSDT is a true table.
 pub fn images_point()
     ensures { ImagesPoint }
 {}
@@ -20,8 +20,14 @@ pub fn images_are_aligned()
     ensures { ImagesAreAligned }
 {}
 
-/// What `lay` makes of correct tables is an image by the definition of `check_image`. Its tables are exactly these, at the
-/// addresses that `lay` wrote, which are read from the bytes.
+/// What `lay` and `lay_reduced` make of correct tables is an image by the definition of `check_image`. Its tables are exactly
+/// these, at the addresses that were written, which are read from the bytes. Only a FACS at the address 0 of a hardware-reduced
+/// machine isn't found.
 pub fn images_are_found()
     ensures { ImagesAreFound }
+{}
+
+/// The FADT of `lay_reduced` has the flag HW_REDUCED_ACPI, so a reader looks for no FACS.
+pub fn reduced_is_told()
+    ensures { ReducedIsTold }
 {}

@@ -1,9 +1,10 @@
 //! The tables at their addresses.
 
 ghost use Rattle.std.specs.Prelude.{◌≡◌, ◌≢◌, ◌%◌, ◌+◌, ◌*◌, ◌<◌, ◌≤◌, ◌^◌, [], ◌∷◌, length, map, OnOk, IfOk, IfErr, None, Some};
+ghost use Rattle.std.specs.Option.{option_map};
 ghost use Rattle.acpi_base.specs.Object.{Object};
 ghost use Rattle.acpi_fixed.specs.Facs.{facs_bytes};
-ghost use Rattle.acpi_layout.specs.Image.{tables_laid, listing, with_pointer};
+ghost use Rattle.acpi_layout.specs.Image.{control_bytes, control_address, reduced, tables_laid, listing, with_pointer};
 ghost use Rattle.acpi_layout.specs.Lays.{Lays};
 
 use crate::place::{address, begin, pad, place_all};
@@ -13,7 +14,7 @@ use acpi_base::object::Aml;
 use acpi_base::oem::Oem;
 use acpi_base::sdt::Sdt;
 use acpi_fixed::facs::FACS;
-use acpi_fixed::fadt::FADTBuilder;
+use acpi_fixed::fadt::{FADTBuilder, Flags};
 use acpi_fixed::rsdp::Rsdp;
 use acpi_lists::xsdt::XSDT;
 use std::alloc::Global;
@@ -25,14 +26,31 @@ pub struct Image {
     pub bytes: Vec<u8>,
     /// The physical address of the RSDP (ACPI 6.5, 5.2.5), from which the other tables are found.
     pub rsdp: u64,
-    /// The offset in `bytes` of the FADT, and that of each table in order. The FACS is at offset 0, and the DSDT at 64.
+    /// The offset in `bytes` of the FADT, and that of each table in order. The FACS is at offset 0, and the DSDT at 64, or at 0 if
+    /// there is no FACS.
     pub places: Vec<u64>,
 }
 
-// The FACS at base, the DSDT after it, and the FADT that points to both.
+// The FACS at base, if there is one. Returns its address, or 0.
+fn place_control(base: u64, facs: Option<FACS>, bytes: &mut Vec<u8>) -> R<u64>
+    requires { bytes.old.items ≡ [] }
+    ensures address { IfOk result (λ address. address ≡ control_address base (option_map facs_bytes facs)) }
+    ensures bytes { OnOk result (bytes.new.items ≡ control_bytes (option_map facs_bytes facs)) }
+    ensures err { IfErr result (λ e. e ≡ Error.Memory) }
+{
+    match facs {
+        Some(facs) => {
+            append_value(&facs, bytes)?;
+            Ok(base)
+        }
+        None => Ok(0),
+    }
+}
+
+// The FACS at base, if there is one, the DSDT after it, and the FADT that points to both.
 fn begin_image(
     base: u64,
-    facs: &FACS,
+    facs: Option<FACS>,
     sdt: &Sdt,
     fadt: FADTBuilder,
     bytes: &mut Vec<u8>,
@@ -40,14 +58,17 @@ fn begin_image(
 ) -> R<()>
     requires new { (bytes.old.items ≡ []) × (places.old.items ≡ []) }
     ensures ok { OnOk result (record { bytes = bytes.new.items; places = places.new.items }
-        ≡ tables_laid base (facs_bytes facs.now) sdt.now.bytes fadt []) }
+        ≡ tables_laid base (option_map facs_bytes facs) sdt.now.bytes fadt []) }
     ensures err { IfErr result (λ e. e ≡ Error.Memory) }
 {
-    append_value(facs, bytes)?;
+    let control = place_control(base, facs, bytes)?;
     let dsdt = address(base, bytes.len() as u64);
     append_value(sdt, bytes)?;
     begin(bytes, places)?;
-    append_value(&fadt.firmware_ctrl_64(base).dsdt_64(dsdt).finalize(), bytes)?;
+    append_value(
+        &fadt.firmware_ctrl_64(control).dsdt_64(dsdt).finalize(),
+        bytes,
+    )?;
     Ok(())
 }
 
@@ -84,31 +105,18 @@ fn finish(alloc: Global, base: u64, oem: Oem, bytes: &mut Vec<u8>, places: &[u64
     Ok(rsdp)
 }
 
-/// Lays the tables of a guest into one image, which is to stand at the physical address `base`, a multiple of 64: the
-/// FACS there, the DSDT `sdt` after it, then the FADT and the tables at multiples of 8, an XSDT (ACPI 6.5, 5.2.8) of
-/// the FADT and the tables in order at the next multiple of 8, and the RSDP (5.2.5) at the next multiple of 16. Gaps
-/// are zero. The FADT points by its fields of 64 bits. The refusal of the first table that has one, else FieldWidth
-/// where a byte's address would pass 2^64 - 1 or the XSDT's length would reach 2^32.
-pub fn lay(
+// Lays the tables of a guest, with a FACS or without one.
+fn lay_all(
     base: u64,
-    oem_id: [u8; 6],
-    oem_table_id: [u8; 8],
-    oem_revision: u32,
+    oem: Oem,
+    facs: Option<FACS>,
     sdt: &Sdt,
-    facs: &FACS,
     fadt: FADTBuilder,
     tables: Vec<&dyn Aml>,
 ) -> R<Image>
-    requires base { base % 64 ≡ 0 }
-    ensures { Lays result base (record { id = oem_id; table_id = oem_table_id; revision = oem_revision })
-        (facs_bytes facs.now) sdt.now.bytes fadt (map (λ table. object table.now) tables.entry.items) }
+    ensures { Lays result base oem (option_map facs_bytes facs) sdt.now.bytes fadt (map (λ table. object table.now) tables.entry.items) }
 {
     let alloc = *tables.allocator();
-    let oem = Oem {
-        id: oem_id,
-        table_id: oem_table_id,
-        revision: oem_revision,
-    };
     let mut bytes = Vec::new(alloc);
     let mut places = Vec::new(alloc);
     begin_image(base, facs, sdt, fadt, &mut bytes, &mut places)?;
@@ -122,4 +130,59 @@ pub fn lay(
         rsdp,
         places,
     })
+}
+
+/// Lays the tables of a guest into one image, which is for the physical address `base`, a multiple of 64. The FACS is there, the
+/// DSDT `sdt` is after it, and then the FADT and the tables are at multiples of 8. An XSDT (ACPI 6.5, 5.2.8) of the FADT and the
+/// tables, in order, is at the next multiple of 8, and the RSDP (5.2.5) at the next multiple of 16. Gaps are zero. The FADT has
+/// the addresses in its fields of 64 bits.
+///
+/// The error is that of the first table that has one. Otherwise it is `FieldWidth` if the address of a byte would be more than
+/// 2^64 - 1, or the XSDT's length would reach 2^32.
+pub fn lay(
+    base: u64,
+    oem_id: [u8; 6],
+    oem_table_id: [u8; 8],
+    oem_revision: u32,
+    sdt: &Sdt,
+    facs: &FACS,
+    fadt: FADTBuilder,
+    tables: Vec<&dyn Aml>,
+) -> R<Image>
+    requires base { base % 64 ≡ 0 }
+    ensures { Lays result base (record { id = oem_id; table_id = oem_table_id; revision = oem_revision })
+        (Some (facs_bytes facs.now)) sdt.now.bytes fadt (map (λ table. object table.now) tables.entry.items) }
+{
+    let oem = Oem {
+        id: oem_id,
+        table_id: oem_table_id,
+        revision: oem_revision,
+    };
+    lay_all(base, oem, Some(*facs), sdt, fadt, tables)
+}
+
+/// Lays the tables of a hardware-reduced machine, which needs no FACS (ACPI 6.5, 5.2.9), as `lay` does. The image has no FACS: the
+/// DSDT is at `base`. In the FADT the flag HW_REDUCED_ACPI is set, and X_FIRMWARE_CTRL is 0.
+///
+/// The errors are those of `lay`.
+pub fn lay_reduced(
+    base: u64,
+    oem_id: [u8; 6],
+    oem_table_id: [u8; 8],
+    oem_revision: u32,
+    sdt: &Sdt,
+    fadt: FADTBuilder,
+    tables: Vec<&dyn Aml>,
+) -> R<Image>
+    requires base { base % 64 ≡ 0 }
+    ensures { Lays result base (record { id = oem_id; table_id = oem_table_id; revision = oem_revision })
+        None sdt.now.bytes (reduced fadt) (map (λ table. object table.now) tables.entry.items) }
+{
+    let oem = Oem {
+        id: oem_id,
+        table_id: oem_table_id,
+        revision: oem_revision,
+    };
+    let fadt = fadt.flag(Flags::HwReducedAcpi);
+    lay_all(base, oem, None, sdt, fadt, tables)
 }

@@ -15,7 +15,7 @@ fn sample(alloc: Global) -> Result<Image, Fail> {
     Ok(image(alloc, 0x40, &sdt, vec![in alloc; &mcfg as &dyn Aml]?)?)
 }
 
-fn located(address: u64, length: u32, signature: &[u8; 4]) -> Located {
+pub(crate) fn located(address: u64, length: u32, signature: &[u8; 4]) -> Located {
     Located {
         address,
         length,
@@ -57,7 +57,11 @@ fn overwrite(bytes: &mut Vec<u8>, at: usize, with: &[u8]) -> Result<(), Fail> {
 }
 
 // With these bytes at their offset, the image has this fault.
-fn faults(alloc: Global, made: &Image, rows: &[(usize, &[u8], ImageFault)]) -> Result<(), Fail> {
+pub(crate) fn faults(
+    alloc: Global,
+    made: &Image,
+    rows: &[(usize, &[u8], ImageFault)],
+) -> Result<(), Fail> {
     for (at, with, wanted) in rows {
         let mut bytes = Vec::from_slice(alloc, &made.bytes)?;
         overwrite(&mut bytes, *at, *with)?;

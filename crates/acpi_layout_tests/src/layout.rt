@@ -13,7 +13,7 @@ use acpi_vectors::{OEM, OEM_REVISION, OEM_TABLE, equal, refuses, same, writes};
 use std::alloc::Global;
 use std::test::Fail;
 
-fn fadt() -> FADTBuilder {
+pub(crate) fn fadt() -> FADTBuilder {
     FADTBuilder::new(OEM, OEM_TABLE, OEM_REVISION)
 }
 

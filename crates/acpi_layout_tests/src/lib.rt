@@ -9,3 +9,5 @@ mod found;
 mod large;
 #[cfg(test)]
 mod layout;
+#[cfg(test)]
+mod reduced;

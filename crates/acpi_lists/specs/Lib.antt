@@ -1,8 +1,11 @@
 pub mod Xsdt
 pub mod Mcfg
 pub mod Srat
+pub mod SratProcessors
 pub mod Cedt
 pub mod MadtX86
+pub mod MadtInterrupts
+pub mod MadtLocalApics
 pub mod MadtArm
 pub mod MadtRiscv
 pub mod Madt

@@ -1,5 +1,5 @@
 -- The Multiple APIC Description Table (ACPI 6.5, 5.2.12).
-use Rattle.std.specs.Prelude.{◌≡◌, ℕ, Bool, true, false, List, [], ◌∷◌, length, codes, Result, Err, OnOk, OnErr}
+use Rattle.std.specs.Prelude.{◌≡◌, ℕ, true, false, List, [], ◌∷◌, length, codes, Result, Err, OnOk, OnErr}
 use Rattle.acpi_base.specs.Fields.{NamedField, dword, fields_joined}
 use Rattle.acpi_base.specs.Object.{whole}
 use Rattle.acpi_base.specs.Walk.{IsPiece, madt_walk}
@@ -9,6 +9,8 @@ use Rattle.acpi_base.specs.declared.oem.Oem.{Oem}
 use Rattle.acpi_core.specs.Addition.{Adds}
 use Rattle.acpi_core.specs.Listing.{Listing, length_limit}
 use Rattle.acpi_lists.specs.MadtArm.{gicc_bytes, gicd_bytes, gic_msi_bytes, gicr_bytes, gic_its_bytes}
+use Rattle.acpi_lists.specs.MadtInterrupts.{source_override_bytes, nmi_source_bytes, local_apic_nmi_bytes, local_x2apic_nmi_bytes}
+use Rattle.acpi_lists.specs.MadtLocalApics.{address_override_bytes, local_x2apic_bytes}
 use Rattle.acpi_lists.specs.MadtRiscv.{rintc_bytes, imsic_bytes, aplic_bytes, plic_bytes}
 use Rattle.acpi_lists.specs.MadtX86.{processor_local_apic_bytes, io_apic_bytes}
 use Rattle.acpi_lists.specs.declared.madt.MADT.{MADT}
@@ -21,6 +23,12 @@ use Rattle.acpi_lists.specs.declared.madt.arm.Gicd.{Gicd}
 use Rattle.acpi_lists.specs.declared.madt.arm.GicMsi.{GicMsi}
 use Rattle.acpi_lists.specs.declared.madt.arm.Gicr.{Gicr}
 use Rattle.acpi_lists.specs.declared.madt.arm.GicIts.{GicIts}
+use Rattle.acpi_lists.specs.declared.madt.interrupts.InterruptSourceOverride.{InterruptSourceOverride}
+use Rattle.acpi_lists.specs.declared.madt.interrupts.NmiSource.{NmiSource}
+use Rattle.acpi_lists.specs.declared.madt.interrupts.LocalApicNmi.{LocalApicNmi}
+use Rattle.acpi_lists.specs.declared.madt.interrupts.LocalX2ApicNmi.{LocalX2ApicNmi}
+use Rattle.acpi_lists.specs.declared.madt.local_apics.LocalApicAddressOverride.{LocalApicAddressOverride}
+use Rattle.acpi_lists.specs.declared.madt.local_apics.ProcessorLocalX2Apic.{ProcessorLocalX2Apic}
 use Rattle.acpi_lists.specs.declared.madt.riscv.RINTC.{RINTC}
 use Rattle.acpi_lists.specs.declared.madt.riscv.IMSIC.{IMSIC}
 use Rattle.acpi_lists.specs.declared.madt.riscv.APLIC.{APLIC}
@@ -61,6 +69,12 @@ pub record AddsImsic (result : Result Unit Error) (old : MADT) (imsic : List ℕ
 pub record StructuresTellTheirLength : Type 0 where
   pub processor_local_apic : (s : ProcessorLocalApic) → IsPiece madt_walk.sizes (processor_local_apic_bytes s)
   pub io_apic : (s : IoApic) → IsPiece madt_walk.sizes (io_apic_bytes s)
+  pub interrupt_source_override : (s : InterruptSourceOverride) → IsPiece madt_walk.sizes (source_override_bytes s)
+  pub nmi_source : (s : NmiSource) → IsPiece madt_walk.sizes (nmi_source_bytes s)
+  pub local_apic_nmi : (s : LocalApicNmi) → IsPiece madt_walk.sizes (local_apic_nmi_bytes s)
+  pub address_override : (s : LocalApicAddressOverride) → IsPiece madt_walk.sizes (address_override_bytes s)
+  pub local_x2apic : (s : ProcessorLocalX2Apic) → IsPiece madt_walk.sizes (local_x2apic_bytes s)
+  pub local_x2apic_nmi : (s : LocalX2ApicNmi) → IsPiece madt_walk.sizes (local_x2apic_nmi_bytes s)
   pub gicc : (s : Gicc) → IsPiece madt_walk.sizes (gicc_bytes s)
   pub gicd : (s : Gicd) → IsPiece madt_walk.sizes (gicd_bytes s)
   pub gic_msi : (s : GicMsi) → IsPiece madt_walk.sizes (gic_msi_bytes s)

@@ -16,6 +16,8 @@ ghost use Rattle.acpi_lists.specs.MadtRiscv.{imsic_bytes};
 ghost use Rattle.acpi_lists.specs.declared.madt.LocalInterruptController.{LocalInterruptController};
 
 mod arm;
+mod interrupts;
+mod local_apics;
 mod riscv;
 mod x86;
 
@@ -30,6 +32,14 @@ use acpi_core::table::Table;
 use acpi_core::walked::{Walked, is_walked};
 pub use arm::{
     GIC_ITS, GIC_MSI, GICC, GICD, GICR, GicIts, GicMsi, GicVersion, Gicc, Gicd, Gicr, Trigger,
+};
+pub use interrupts::{
+    INTERRUPT_SOURCE_OVERRIDE, InterruptSourceOverride, LOCAL_APIC_NMI, LOCAL_X2APIC_NMI,
+    LocalApicNmi, LocalX2ApicNmi, NMI_SOURCE, NmiSource, Polarity, TriggerMode,
+};
+pub use local_apics::{
+    LOCAL_APIC_ADDRESS_OVERRIDE, LocalApicAddressOverride, PROCESSOR_LOCAL_X2APIC,
+    ProcessorLocalX2Apic,
 };
 pub use riscv::{
     APLIC, APLIC_ROWS, HartStatus, IMSIC, IMSIC_ROWS, PLIC, PLIC_ROWS, RINTC, RINTC_ROWS,
@@ -56,7 +66,7 @@ impl LocalInterruptController {
     }
 }
 
-/// Whether a processor is enabled, or can be brought online later (ACPI 6.5, 5.2.12.2 and 5.2.12.14).
+/// Whether a processor is enabled, or can be brought online later (ACPI 6.5, 5.2.12.2, 5.2.12.12 and 5.2.12.14).
 #[derive(Clone, Copy, Debug, PartialEq)]
 pub enum EnabledStatus {
     Disabled = 0,

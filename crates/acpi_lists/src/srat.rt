@@ -15,7 +15,11 @@ ghost use Rattle.acpi_lists.specs.Srat.{handle_type, is_address};
 ghost use Rattle.acpi_lists.specs.Srat.{generic_initiator, generic_initiator_fields, generic_initiator_object};
 ghost use Rattle.acpi_lists.specs.Srat.{generic_initiator_ends_well};
 ghost use Rattle.acpi_lists.specs.Srat.{rintc_affinity, rintc_affinity_bytes, rintc_affinity_fields};
+ghost use Rattle.acpi_lists.specs.SratProcessors.{apic_affinity_bytes, x2apic_affinity_bytes};
+ghost use Rattle.acpi_lists.specs.SratProcessors.{gicc_affinity_bytes, its_affinity_bytes};
 ghost use Rattle.acpi_lists.specs.declared.srat.GenericInitiator.{GenericInitiator};
+
+mod processors;
 
 use acpi_base::error::{Error, R};
 use acpi_base::object::Aml;
@@ -26,10 +30,14 @@ use acpi_core::form::Form;
 use acpi_core::kind::Kind;
 use acpi_core::table::Table;
 use acpi_core::walked::{Walked, is_walked};
+pub use processors::{
+    GIC_ITS_AFFINITY, GICC_AFFINITY, GicItsAffinity, GiccAffinity, PROCESSOR_LOCAL_APIC_AFFINITY,
+    PROCESSOR_LOCAL_X2APIC_AFFINITY, ProcessorLocalApicAffinity, ProcessorLocalX2ApicAffinity,
+};
 use std::alloc::Global;
 
 /// The System Resource Affinity Table (ACPI 6.5, 5.2.16). Its structures begin at offset 48. Its revision is 1, with which Linux
-/// uses the low 8 bits of a proximity domain only.
+/// uses only the low 8 bits of the proximity domains of memory and of local APICs.
 #[derive(Drop)]
 pub struct SRAT {
     table: Walked<SratKind, 48>,
@@ -88,6 +96,40 @@ impl SRAT {
         ensures { Adds result self.old.table (whole (rintc_affinity_bytes rintc)) self.new.table }
     {
         self.table.add_record(&rintc)
+    }
+
+    /// Adds a processor with a local APIC. The error is `FieldWidth` if the length would reach 2^32.
+    pub fn add_processor_local_apic_affinity(
+        &mut self,
+        processor: ProcessorLocalApicAffinity,
+    ) -> R<()>
+        ensures { Adds result self.old.table (whole (apic_affinity_bytes processor)) self.new.table }
+    {
+        self.table.add_record(&processor)
+    }
+
+    /// Adds a processor with a local x2APIC. The error is `FieldWidth` if the length would reach 2^32.
+    pub fn add_processor_local_x2apic_affinity(
+        &mut self,
+        processor: ProcessorLocalX2ApicAffinity,
+    ) -> R<()>
+        ensures { Adds result self.old.table (whole (x2apic_affinity_bytes processor)) self.new.table }
+    {
+        self.table.add_record(&processor)
+    }
+
+    /// Adds a processor with a CPU interface of a GIC. The error is `FieldWidth` if the length would reach 2^32.
+    pub fn add_gicc_affinity(&mut self, processor: GiccAffinity) -> R<()>
+        ensures { Adds result self.old.table (whole (gicc_affinity_bytes processor)) self.new.table }
+    {
+        self.table.add_record(&processor)
+    }
+
+    /// Adds an interrupt translation service of a GIC. The error is `FieldWidth` if the length would reach 2^32.
+    pub fn add_gic_its_affinity(&mut self, service: GicItsAffinity) -> R<()>
+        ensures { Adds result self.old.table (whole (its_affinity_bytes service)) self.new.table }
+    {
+        self.table.add_record(&service)
     }
 
     /// The number of bytes of the table.

@@ -1,5 +1,5 @@
 -- Characters, and what tests say of them.
-use Rattle.std.proofs.Common.{◌≡◌, ℕ, zero, suc, ◌<◌, ◌==◌, ◌&&◌, not, Bool, true, false, Option, Some, None, refl, subst, arith, inl, inr}
+use Rattle.std.proofs.Common.{◌≡◌, ℕ, zero, suc, ◌<◌, ◌==◌, ◌&&◌, ◌||◌, not, Bool, true, false, Option, Some, None, refl, subst, arith, inl, inr}
 use Rattle.std.proofs.lemmas.Bool.{and_parts, eqb-true, cases_lt}
 use Rattle.acpi_text.specs.Hex.{hex_digit}
 use Rattle.acpi_make.specs.Step.{digit_of, is_control}
@@ -16,18 +16,27 @@ pub record IsDigit (c n : ℕ) : Type 0 where
   pub slash : (c == 47) ≡ false
   pub quotation : (c == 34) ≡ false
   pub question : (c == 63) ≡ false
+  pub brace : (c == 123) ≡ false
+  pub word : (c == 35 || c == 64) ≡ false
   pub value : digit_of c ≡ Some n
 
 abbrev is_some : Option ℕ → ℕ → Bool
 is_some (Some m) n = m == n
 is_some None n = false
 
+abbrev is_mark : ℕ → Bool
+is_mark c = c == 34 || (c == 63 || (c == 123 || (c == 35 || c == 64)))
+
 abbrev is_digit : ℕ → ℕ → Bool
-is_digit c n = not (c == 10) && not (is_control c) && not (c == 32) && not (c == 47) && not (c == 34) && not (c == 63) && is_some (digit_of c) n
+is_digit c n = not (c == 10) && not (is_control c) && not (c == 32) && not (c == 47) && not (is_mark c) && is_some (digit_of c) n
 
 false_by : (b : Bool) → not b ≡ true → b ≡ false
 false_by true is = absurd cc
 false_by false is = refl
+
+neither : (a b : Bool) → not (a || b) ≡ true → (not a ≡ true) × (not b ≡ true)
+neither true b is = absurd cc
+neither false b is = (refl, is)
 
 some_by : (o : Option ℕ) (n : ℕ) → is_some o n ≡ true → o ≡ Some n
 some_by (Some m) n is = let e = eqb-true m n is in cc
@@ -35,18 +44,22 @@ some_by None n is = absurd cc
 
 digit_by : (c n : ℕ) → is_digit c n ≡ true → IsDigit c n
 digit_by c n is =
-    let a = and_parts (not (c == 10) && not (is_control c) && not (c == 32) && not (c == 47) && not (c == 34) && not (c == 63)) (is_some (digit_of c) n) is in
-    let b = and_parts (not (c == 10) && not (is_control c) && not (c == 32) && not (c == 47) && not (c == 34)) (not (c == 63)) a.0 in
-    let d = and_parts (not (c == 10) && not (is_control c) && not (c == 32) && not (c == 47)) (not (c == 34)) b.0 in
-    let e = and_parts (not (c == 10) && not (is_control c) && not (c == 32)) (not (c == 47)) d.0 in
-    let f = and_parts (not (c == 10) && not (is_control c)) (not (c == 32)) e.0 in
-    let g = and_parts (not (c == 10)) (not (is_control c)) f.0 in
+    let a = and_parts (not (c == 10) && not (is_control c) && not (c == 32) && not (c == 47) && not (is_mark c)) (is_some (digit_of c) n) is in
+    let b = and_parts (not (c == 10) && not (is_control c) && not (c == 32) && not (c == 47)) (not (is_mark c)) a.0 in
+    let d = and_parts (not (c == 10) && not (is_control c) && not (c == 32)) (not (c == 47)) b.0 in
+    let e = and_parts (not (c == 10) && not (is_control c)) (not (c == 32)) d.0 in
+    let f = and_parts (not (c == 10)) (not (is_control c)) e.0 in
+    let g = neither (c == 34) (c == 63 || (c == 123 || (c == 35 || c == 64))) b.1 in
+    let h = neither (c == 63) (c == 123 || (c == 35 || c == 64)) g.1 in
+    let k = neither (c == 123) (c == 35 || c == 64) h.1 in
     record {
-      prints = record { line = false_by (c == 10) g.0; control = false_by (is_control c) g.1 };
-      space = false_by (c == 32) f.1;
-      slash = false_by (c == 47) e.1;
-      quotation = false_by (c == 34) d.1;
-      question = false_by (c == 63) b.1;
+      prints = record { line = false_by (c == 10) f.0; control = false_by (is_control c) f.1 };
+      space = false_by (c == 32) e.1;
+      slash = false_by (c == 47) d.1;
+      quotation = false_by (c == 34) g.0;
+      question = false_by (c == 63) h.0;
+      brace = false_by (c == 123) k.0;
+      word = false_by (c == 35 || c == 64) k.1;
       value = some_by (digit_of c) n a.1;
     }
 

@@ -1,9 +1,11 @@
 pub mod Outcomes
 pub mod Digits
 pub mod Reading
+pub mod Quiet
 pub mod Lines
 pub mod Slots
 pub mod Tables
+pub mod Entries
+pub mod Numbers
 pub mod Fields
 pub mod Making
-pub mod Truth

@@ -1,128 +1,41 @@
--- What whole lines mean.
-use Rattle.std.proofs.Common.{◌≡◌, ℕ, zero, suc, ◌+◌, ◌-◌, ◌*◌, ◌%◌, ◌^◌, ◌<◌, ◌≤◌, ◌==◌, ◌&&◌, not, nat_le, nat_lt, true, false, Bool, cond}
+-- What whole lines consist of.
+use Rattle.std.proofs.Common.{◌≡◌, ℕ, zero, suc, ◌+◌, ◌-◌, ◌*◌, ◌^◌, ◌<◌, ◌≤◌, ◌==◌, ◌&&◌, nat_le, nat_lt, true, false, Bool, cond}
 use Rattle.std.proofs.Common.{List, [], ◌∷◌, ◌++◌, length, codes, map, Some, None, Option, refl, sym, ap, ◌∙◌, append_assoc, arith}
 use Rattle.std.specs.Prelude.{bit_and}
 use Rattle.std.specs.Fmt.{decimal}
-use Rattle.std.proofs.lemmas.Fmt.{decimal_by_steps}
-use Rattle.std.proofs.lemmas.Bool.Decides.{nat_tests}
 use Rattle.std.proofs.lemmas.Bool.{and_parts, eqb-true, leb-true}
 use Rattle.acpi_base.specs.Bytes.{AreBytes, carried}
 use Rattle.acpi_text.proofs.Lines.{small_number}
 use Rattle.acpi_text.specs.Hex.{numbers_text}
-use Rattle.acpi_text.specs.Label.{prints, all_print, is_label, label}
+use Rattle.acpi_text.specs.Label.{prints, all_print, label}
 use Rattle.acpi_text.specs.Line.{spaces, margin, line, title}
 use Rattle.acpi_text.specs.Note.{Note, plain, flags, one_of, decimal_text, flags_text, find_word, word_text, number_meaning, meaning}
-use Rattle.acpi_make.proofs.Digits.{Prints}
-use Rattle.acpi_make.proofs.Outcomes.{front_none}
+use Rattle.acpi_make.proofs.Outcomes.{front_none, front_both}
+use Rattle.acpi_make.proofs.Quiet.{Plain, Quiet, Leads, plain_append, quiet_is_plain, quiet_text, quiet_label, quiet_decimal, leads_append, leads_decimal, printed, is_quiet}
 use Rattle.acpi_make.proofs.Reading.{Follows, space_follows, end_follows, numbers_follow}
 use Rattle.acpi_make.specs.Gives.{with_front}
+use Rattle.acpi_make.specs.Item.{known_cells, byte_items, cells_of}
 use Rattle.acpi_make.specs.Meaning.{Outcome, act, read}
-use Rattle.acpi_make.specs.Step.{is_control}
+use Rattle.acpi_make.specs.declared.item.Cell.{Cell}
+use Rattle.acpi_make.specs.declared.item.Cell.TheVariants.{Byte}
+use Rattle.acpi_make.specs.declared.item.Item.{Item}
+use Rattle.acpi_make.specs.declared.item.Item.TheVariants.{Heading, Name}
 use Rattle.acpi_make.specs.declared.state.State.{State}
-use Rattle.acpi_make.specs.declared.state.State.TheVariants.{Start, Indented, Slashed, Named, Skipped}
+use Rattle.acpi_make.specs.declared.state.State.TheVariants.{Start, Slashed, Headed, Indented, NameSlashed, Named, Skipped, Ended}
 use Rattle.acpi_make.specs.declared.state.Step.{Step}
 use Rattle.acpi_make.specs.declared.state.Step.TheVariants.{Goes}
 
--- ---- texts that print
-
--- each character prints
-abbrev pub Plain : List ℕ → Type 0
-Plain [] = Unit {0}
-Plain (c ∷ text) = Prints c × Plain text
-
--- each prints, and none is a colon
-abbrev pub Quiet : List ℕ → Type 0
-Quiet [] = Unit {0}
-Quiet (c ∷ text) = Prints c × ((c == 58) ≡ false) × Quiet text
-
-plain_append : (a b : List ℕ) → Plain a → Plain b → Plain (a ++ b)
-plain_append [] b one two = two
-plain_append (c ∷ a) b one two = (one.0, plain_append a b one.1 two)
-
-pub quiet_append : (a b : List ℕ) → Quiet a → Quiet b → Quiet (a ++ b)
-quiet_append [] b one two = two
-quiet_append (c ∷ a) b one two = (one.0, one.1, quiet_append a b one.2 two)
-
-quiet_is_plain : (text : List ℕ) → Quiet text → Plain text
-quiet_is_plain [] quiet = tt
-quiet_is_plain (c ∷ text) quiet = (quiet.0, quiet_is_plain text quiet.2)
-
--- ---- as tests
-
-abbrev is_quiet : List ℕ → Bool
-is_quiet [] = true
-is_quiet (c ∷ text) = (not (c == 10) && not (is_control c) && not (c == 58)) && is_quiet text
-
-quiet_byte : (a b c : Bool) → (not a && not b && not c) ≡ true → (a ≡ false) × (b ≡ false) × (c ≡ false)
-quiet_byte true b c is = absurd cc
-quiet_byte false true c is = absurd cc
-quiet_byte false false true is = absurd cc
-quiet_byte false false false is = (refl, refl, refl)
-
-pub quiet_text : (text : List ℕ) → is_quiet text ≡ true → Quiet text
-quiet_text [] is = tt
-quiet_text (c ∷ text) is =
-    let parts = and_parts (not (c == 10) && not (is_control c) && not (c == 58)) (is_quiet text) is in
-    let byte = quiet_byte (c == 10) (is_control c) (c == 58) parts.0 in
-    (record { line = byte.0; control = byte.1 }, byte.2, quiet_text text parts.1)
-
--- ---- names, and numbers in decimal
-
-printed : (b : ℕ) → prints b ≡ true → Prints b
-printed b is = record { line = grind (arith, nat_tests); control = grind (arith, nat_tests) }
-
-no_colon : (b : Bool) → not b ≡ true → b ≡ false
-no_colon true is = absurd cc
-no_colon false is = refl
-
-quiet_name : (name : List ℕ) → is_label name ≡ true → Quiet name
-quiet_name [] is = tt
-quiet_name (b ∷ name) is =
-    let parts = and_parts (prints b && not (b == 58)) (is_label name) is in
-    let one = and_parts (prints b) (not (b == 58)) parts.0 in
-    (printed b one.0, no_colon (b == 58) one.1, quiet_name name parts.1)
-
-quiet_chosen : (b : Bool) (name : List ℕ) → (b ≡ true → Quiet name) → Quiet (cond b name (codes "?"))
-quiet_chosen true name quiet = quiet refl
-quiet_chosen false name quiet = quiet_text (codes "?") refl
-
-pub quiet_label : (name : List ℕ) → Quiet (label name)
-quiet_label name = quiet_chosen (is_label name) name (quiet_name name)
-
-quiet_digit : (n : ℕ) → n < 10 → Quiet ((48 + n) ∷ [])
-quiet_digit n small = (record { line = grind (arith, nat_tests); control = grind (arith, nat_tests) }, grind (arith, nat_tests), tt)
-
--- it begins with what is neither a space nor a slash
-abbrev pub Leads : List ℕ → Type 0
-Leads [] = ⊥
-Leads (c ∷ text) = ((c == 32) ≡ false) × ((c == 47) ≡ false) × Quiet (c ∷ text)
-
-leads_quiet : (text : List ℕ) → Leads text → Quiet text
-leads_quiet [] leads = absurd leads
-leads_quiet (c ∷ text) leads = leads.2
-
-leads_append : (a b : List ℕ) → Leads a → Quiet b → Leads (a ++ b)
-leads_append [] b one two = absurd one
-leads_append (c ∷ a) b one two = (one.0, one.1, quiet_append (c ∷ a) b one.2 two)
-
-leads_decimal : (n : ℕ) → n < 2 ^ 64 → Leads (decimal n)
-leads_decimal = decimal_by_steps (λ m ds. Leads ds)
-    (λ m small. (grind (arith, nat_tests), grind (arith, nat_tests), quiet_digit m small))
-    (λ m ds large leads. leads_append ds ((48 + m % 10) ∷ []) leads (quiet_digit (m % 10) (omega arith)))
-
-pub quiet_decimal : (n : ℕ) → n < 2 ^ 64 → Quiet (decimal n)
-quiet_decimal n small = leads_quiet (decimal n) (leads_decimal n small)
-
 -- ---- what stands before the colon
 
-name_read : (k : ℕ) (name text : List ℕ) → Quiet name → read k Named [] (name ++ text) ≡ read k Named [] text
-name_read k [] text quiet = refl
-name_read k (c ∷ name) text quiet = rw (quiet.0.line, quiet.0.control, quiet.1) (name_read k name text quiet.2)
+name_read : (k from : ℕ) (name text : List ℕ) → Quiet name → read k (Named from) [] (name ++ text) ≡ read k (Named from) [] text
+name_read k from [] text quiet = refl
+name_read k from (c ∷ name) text quiet = rw (quiet.0.line, quiet.0.control, quiet.1) (name_read k from name text quiet.2)
 
-lead_read : (k : ℕ) (name text : List ℕ) → Leads name → read k Indented [] (name ++ text) ≡ read k Named [] text
+lead_read : (k : ℕ) (name text : List ℕ) → Leads name → read k Indented [] (name ++ text) ≡ read k (Named (length (name ++ text))) [] text
 lead_read k [] text leads = absurd leads
 lead_read k (c ∷ name) text leads =
-    rw (leads.2.0.line, leads.2.0.control, leads.0, leads.2.1, leads.1) (name_read k name text leads.2.2)
+    rw (leads.2.0.line, leads.2.0.control, leads.0, leads.2.1, leads.1)
+    (name_read k (length (c ∷ (name ++ text))) name text leads.2.2)
 
 spaces_read : (k n : ℕ) (text : List ℕ) → read k Indented [] (spaces n ++ text) ≡ read k Indented [] text
 spaces_read k zero text = refl
@@ -132,58 +45,102 @@ spaces_start : (k n : ℕ) (text : List ℕ) → 1 ≤ n → read k Start [] (sp
 spaces_start k zero text some = absurd (omega arith)
 spaces_start k (suc n) text some = spaces_read k n text
 
+-- an offset and a name
+abbrev named : ℕ → List ℕ → List ℕ
+named offset name = decimal offset ++ 32 ∷ label name
+
 margin_read : (k depth offset : ℕ) (name text : List ℕ) → offset < 2 ^ 64
-    → read k Start [] (margin depth offset name ++ text) ≡ read k Named [] text
+    → read k Start [] (margin depth offset name ++ text) ≡ read k (Named (length (named offset name ++ text))) [] text
 margin_read k depth offset name text small =
     let blank = spaces (2 * depth + 2) in
-    let named = decimal offset ++ 32 ∷ label name in
-    ap (read k Start []) (append_assoc blank named text)
-    ∙ spaces_start k (2 * depth + 2) (named ++ text) (omega arith)
-    ∙ lead_read k named text (leads_append (decimal offset) (32 ∷ label name) (leads_decimal offset small)
+    ap (read k Start []) (append_assoc blank (named offset name) text)
+    ∙ spaces_start k (2 * depth + 2) (named offset name ++ text) (omega arith)
+    ∙ lead_read k (named offset name) text (leads_append (decimal offset) (32 ∷ label name) (leads_decimal offset small)
     (record { line = refl; control = refl }, refl, quiet_label name))
 
-blank_read : (k n : ℕ) (text : List ℕ) → read k Named [] (spaces n ++ text) ≡ read k Named [] text
-blank_read k zero text = refl
-blank_read k (suc n) text = blank_read k n text
+blank_read : (k from n : ℕ) (text : List ℕ) → read k (Named from) [] (spaces n ++ text) ≡ read k (Named from) [] text
+blank_read k from zero text = refl
+blank_read k from (suc n) text = blank_read k from n text
 
 -- ---- lines without bytes
+
+-- What is read is parts without bytes, and then the text after this line.
+record Empty (k : ℕ) (more : List ℕ) (outcome : Outcome) : Type 0 where
+  parts : List Item
+  none : cells_of parts ≡ []
+  is : outcome ≡ with_front parts (read (k + 1) Start [] more)
+
+nothing : (k : ℕ) (more : List ℕ) → Empty k more (read (k + 1) Start [] more)
+nothing k more = record { parts = []; none = refl; is = sym (front_none (read (k + 1) Start [] more)) }
+
+headed : (k : ℕ) (more : List ℕ) (from to : ℕ) → Empty k more (with_front (Heading from to ∷ []) (read (k + 1) Start [] more))
+headed k more from to = record { parts = Heading from to ∷ []; none = refl; is = refl }
+
+entitled : (k : ℕ) (more : List ℕ) (from to : ℕ) → Empty k more (with_front (Name from to ∷ []) (read (k + 1) Start [] more))
+entitled k more from to = record { parts = Name from to ∷ []; none = refl; is = refl }
+
+-- either step
+chosen : (k : ℕ) (more : List ℕ) (b : Bool) (one two : Step) (rest : State → List ℕ → Outcome)
+    → Empty k more (act k one [] rest) → Empty k more (act k two [] rest) → Empty k more (act k (cond b one two) [] rest)
+chosen k more true one two rest first second = first
+chosen k more false one two rest first second = second
+
+skipped_empty : (k : ℕ) (said more : List ℕ) → Plain said → Empty k more (read k Skipped [] (said ++ 10 ∷ more))
+skipped_empty k [] more prints = nothing k more
+skipped_empty k (c ∷ said) more prints = rw (prints.0.line, prints.0.control) (skipped_empty k said more prints.1)
+
+headed_empty : (k from : ℕ) (said more : List ℕ) → Plain said → Empty k more (read k (Headed from) [] (said ++ 10 ∷ more))
+headed_empty k from [] more prints = headed k more from (length (10 ∷ more))
+headed_empty k from (c ∷ said) more prints = rw (prints.0.line, prints.0.control) (headed_empty k from said more prints.1)
+
+named_empty : (k from : ℕ) (name more : List ℕ) → Quiet name → Empty k more (read k (Named from) [] (name ++ 10 ∷ more))
+named_empty k from [] more quiet = entitled k more from (length (10 ∷ more))
+named_empty k from (c ∷ name) more quiet = rw (quiet.0.line, quiet.0.control, quiet.1) (named_empty k from name more quiet.2)
+
+slashed_empty : (k from : ℕ) (said more : List ℕ) → Plain said → Empty k more (read k (Slashed from) [] (said ++ 10 ∷ more))
+slashed_empty k from [] more prints = headed k more from (length (10 ∷ more))
+slashed_empty k from (c ∷ said) more prints =
+    rw (prints.0.line, prints.0.control)
+    (chosen k more (c == 47) (Goes Skipped) (Goes (Headed from)) (λ state number. read k state number (said ++ 10 ∷ more))
+    (skipped_empty k said more prints.1)
+    (headed_empty k from said more prints.1))
+
+name_slashed_empty : (k from : ℕ) (name more : List ℕ) → Quiet name → Empty k more (read k (NameSlashed from) [] (name ++ 10 ∷ more))
+name_slashed_empty k from [] more quiet = entitled k more from (length (10 ∷ more))
+name_slashed_empty k from (c ∷ name) more quiet =
+    rw (quiet.0.line, quiet.0.control, quiet.1)
+    (chosen k more (c == 47) (Goes Skipped) (Goes (Named from)) (λ state number. read k state number (name ++ 10 ∷ more))
+    (skipped_empty k name more (quiet_is_plain name quiet.2))
+    (named_empty k from name more quiet.2))
+
+indented_empty : (k : ℕ) (name more : List ℕ) → Quiet name → Empty k more (read k Indented [] (name ++ 10 ∷ more))
+indented_empty k [] more quiet = nothing k more
+indented_empty k (c ∷ name) more quiet =
+    let here = length (c ∷ (name ++ 10 ∷ more)) in
+    let rest : State → List ℕ → Outcome = λ state number. read k state number (name ++ 10 ∷ more) in
+    rw (quiet.0.line, quiet.0.control, quiet.1)
+    (chosen k more (c == 32) (Goes Indented) (cond (c == 47) (Goes (NameSlashed here)) (Goes (Named here))) rest
+    (indented_empty k name more quiet.2)
+    (chosen k more (c == 47) (Goes (NameSlashed here)) (Goes (Named here)) rest
+    (name_slashed_empty k here name more quiet.2)
+    (named_empty k here name more quiet.2)))
+
+-- a line that has no colon, for any first character
+quiet_line : (k : ℕ) (name more : List ℕ) → Quiet name → Empty k more (read k Start [] (name ++ 10 ∷ more))
+quiet_line k [] more quiet = nothing k more
+quiet_line k (c ∷ name) more quiet =
+    let here = length (c ∷ (name ++ 10 ∷ more)) in
+    let rest : State → List ℕ → Outcome = λ state number. read k state number (name ++ 10 ∷ more) in
+    rw (quiet.0.line, quiet.0.control)
+    (chosen k more (c == 32) (Goes Indented) (cond (c == 47) (Goes (Slashed here)) (Goes (Headed here))) rest
+    (indented_empty k name more quiet.2)
+    (chosen k more (c == 47) (Goes (Slashed here)) (Goes (Headed here)) rest
+    (slashed_empty k here name more (quiet_is_plain name quiet.2))
+    (headed_empty k here name more (quiet_is_plain name quiet.2))))
 
 skipped_read : (k : ℕ) (said more : List ℕ) → Plain said → read k Skipped [] (said ++ 10 ∷ more) ≡ read (k + 1) Start [] more
 skipped_read k [] more prints = refl
 skipped_read k (c ∷ said) more prints = rw (prints.0.line, prints.0.control) (skipped_read k said more prints.1)
-
--- both steps have the outcome
-chosen : (k : ℕ) (b : Bool) (one two : Step) (rest : State → List ℕ → Outcome) (outcome : Outcome)
-    → act k one [] rest ≡ outcome → act k two [] rest ≡ outcome → act k (cond b one two) [] rest ≡ outcome
-chosen k true one two rest outcome first second = first
-chosen k false one two rest outcome first second = second
-
-slashed_read : (k : ℕ) (name more : List ℕ) → Quiet name → read k Slashed [] (name ++ 10 ∷ more) ≡ read (k + 1) Start [] more
-slashed_read k [] more quiet = refl
-slashed_read k (c ∷ name) more quiet =
-    rw (quiet.0.line, quiet.0.control, quiet.1)
-    (chosen k (c == 47) (Goes Skipped) (Goes Named) (λ state number. read k state number (name ++ 10 ∷ more)) _
-    (skipped_read k name more (quiet_is_plain name quiet.2))
-    (name_read k name (10 ∷ more) quiet.2))
-
-indented_read : (k : ℕ) (name more : List ℕ) → Quiet name → read k Indented [] (name ++ 10 ∷ more) ≡ read (k + 1) Start [] more
-indented_read k [] more quiet = refl
-indented_read k (c ∷ name) more quiet =
-    rw (quiet.0.line, quiet.0.control, quiet.1)
-    (chosen k (c == 32) (Goes Indented) (cond (c == 47) (Goes Slashed) (Goes Named)) (λ state number. read k state number (name ++ 10 ∷ more)) _
-    (indented_read k name more quiet.2)
-    (chosen k (c == 47) (Goes Slashed) (Goes Named) (λ state number. read k state number (name ++ 10 ∷ more)) _
-    (slashed_read k name more quiet.2)
-    (name_read k name (10 ∷ more) quiet.2)))
-
--- a line that has no colon, for any first character
-pub quiet_line_read : (k : ℕ) (name more : List ℕ) → Quiet name → read k Start [] (name ++ 10 ∷ more) ≡ read (k + 1) Start [] more
-quiet_line_read k [] more quiet = refl
-quiet_line_read k (c ∷ name) more quiet =
-    rw (quiet.0.line, quiet.0.control)
-    (chosen k (c == 32) (Goes Indented) (Goes Skipped) (λ state number. read k state number (name ++ 10 ∷ more)) _
-    (indented_read k name more quiet.2)
-    (skipped_read k name more (quiet_is_plain name quiet.2)))
 
 -- ---- comments
 
@@ -268,29 +225,35 @@ meaning_is_comment note w n field are size =
 
 -- ---- whole lines
 
--- whole lines that mean these bytes, also if other text follows
+-- Whole lines that have these bytes, also if other text follows.
 pub record Means (lines bytes : List ℕ) : Type 0 where
   pub count : ℕ
+  pub parts : ℕ → List ℕ → List Item
+  pub cells : (k : ℕ) (more : List ℕ) → cells_of (parts k more) ≡ known_cells bytes
   pub reads : (k : ℕ) (more : List ℕ)
-      → read k Start [] (lines ++ more) ≡ with_front (map Some bytes) (read (k + count) Start [] more)
+      → read k Start [] (lines ++ more) ≡ with_front (parts k more) (read (k + count) Start [] more)
 
 pub line_empty : (name : List ℕ) → Quiet name → Means (name ++ 10 ∷ []) []
 line_empty name quiet = record {
   count = 1;
-  reads = λ k more.
-      ap (read k Start []) (append_assoc name (10 ∷ []) more)
-      ∙ quiet_line_read k name more quiet
-      ∙ sym (front_none (read (k + 1) Start [] more));
+  parts = λ k more. (quiet_line k name more quiet).parts;
+  cells = λ k more. (quiet_line k name more quiet).none;
+  reads = λ k more. ap (read k Start []) (append_assoc name (10 ∷ []) more) ∙ (quiet_line k name more quiet).is;
 }
 
 pub title_means : (depth offset : ℕ) (name : List ℕ) → offset < 2 ^ 64 → Means (title depth offset name) []
 title_means depth offset name small = record {
   count = 1;
+  parts = λ k more. Name (length (named offset name ++ (10 ∷ more))) (length (10 ∷ more)) ∷ [];
+  cells = λ k more. refl;
   reads = λ k more.
       ap (read k Start []) (append_assoc (margin depth offset name) (10 ∷ []) more)
-      ∙ margin_read k depth offset name (10 ∷ more) small
-      ∙ sym (front_none (read (k + 1) Start [] more));
+      ∙ margin_read k depth offset name (10 ∷ more) small;
 }
+
+cells_of_bytes : (bytes : List ℕ) → cells_of (byte_items bytes) ≡ known_cells bytes
+cells_of_bytes [] = refl
+cells_of_bytes (b ∷ bytes) = ap (λ l. Byte b ∷ l) (cells_of_bytes bytes)
 
 pub line_means : (depth offset : ℕ) (name : List ℕ) (note : Note) (w n : ℕ) (field : List ℕ) → offset < 2 ^ 64 → AreBytes field
     → length field ≡ w * n → Means (line depth offset name note w n field) field
@@ -300,18 +263,23 @@ line_means depth offset name note w n field small are size =
     let said = meaning note w n field in
     let after = said ++ 10 ∷ [] in
     let numbers = numbers_text w n field in
+    let rest : List ℕ → List ℕ = λ more. numbers ++ (said ++ (10 ∷ more)) in
+    let from : List ℕ → ℕ = λ more. length (named offset name ++ (blank ++ (58 ∷ rest more))) in
+    let one : List ℕ → List Item = λ more. Name (from more) (length (58 ∷ rest more)) ∷ [] in
     record {
       count = 1;
+      parts = λ k more. one more ++ byte_items field;
+      cells = λ k more. cells_of_bytes field;
       reads = λ k more.
-          let rest = numbers ++ (said ++ (10 ∷ more)) in
           ap (read k Start []) (
           append_assoc (front ++ blank) (58 ∷ (numbers ++ after)) more
           ∙ append_assoc front blank (58 ∷ ((numbers ++ after) ++ more))
           ∙ ap (λ (l : List ℕ). front ++ (blank ++ (58 ∷ l))) (
           append_assoc numbers after more
           ∙ ap (λ (l : List ℕ). numbers ++ l) (append_assoc said (10 ∷ []) more)))
-          ∙ margin_read k depth offset name (blank ++ (58 ∷ rest)) small
-          ∙ blank_read k (40 - length front) (58 ∷ rest)
-          ∙ (numbers_follow k w n field (said ++ (10 ∷ more)) (read (k + 1) Start [] more) are size
-          (meaning_is_comment note w n field are size k more)).ended;
+          ∙ margin_read k depth offset name (blank ++ (58 ∷ rest more)) small
+          ∙ blank_read k (from more) (40 - length front) (58 ∷ rest more)
+          ∙ ap (with_front (one more)) (numbers_follow k w n field (said ++ (10 ∷ more)) (read (k + 1) Start [] more) are size
+          (meaning_is_comment note w n field are size k more)).ended
+          ∙ front_both (one more) (byte_items field) (read (k + 1) Start [] more);
     }

@@ -1,6 +1,6 @@
 -- What parts of lines mean.
 use Rattle.std.proofs.Common.{◌≡◌, ℕ, zero, suc, ◌+◌, ◌*◌, ◌/◌, ◌%◌, ◌<◌}
-use Rattle.std.proofs.Common.{List, [], ◌∷◌, ◌++◌, length, take, drop, map, Some, refl, sym, ap, ◌∙◌, append_assoc, arith}
+use Rattle.std.proofs.Common.{List, [], ◌∷◌, ◌++◌, length, take, drop, refl, sym, ap, ◌∙◌, append_assoc, arith}
 use Rattle.std.proofs.lemmas.List.{map-append, length-drop, take-append-drop}
 use Rattle.acpi_base.proofs.Bytes.{bytes_take, bytes_drop}
 use Rattle.acpi_base.specs.Bytes.{AreBytes}
@@ -9,7 +9,10 @@ use Rattle.acpi_text.specs.Hex.{hex_digit, hex_byte, number_text, numbers_text}
 use Rattle.acpi_make.proofs.Outcomes.{front_none, front_both}
 use Rattle.acpi_make.proofs.Digits.{IsDigit, digit_is}
 use Rattle.acpi_make.specs.Gives.{with_front}
+use Rattle.acpi_make.specs.Item.{byte_items}
 use Rattle.acpi_make.specs.Meaning.{Outcome, read}
+use Rattle.acpi_make.specs.declared.item.Cell.TheVariants.{Byte}
+use Rattle.acpi_make.specs.declared.item.Item.TheVariants as items
 use Rattle.acpi_make.specs.declared.state.State.TheVariants.{Start, Ended, Spaced, Number, Half}
 
 -- ---- numbers
@@ -23,7 +26,7 @@ first_read line n c number text is = rw (is.prints.line, is.prints.control, is.s
 
 begin_read : (line n c : ℕ) (text : List ℕ) → IsDigit c n → read line Spaced [] (c ∷ text) ≡ read line (Half n) [] text
 begin_read line n c text is =
-    rw (is.prints.line, is.prints.control, is.space, is.slash, is.quotation, is.question, is.value) refl
+    rw (is.prints.line, is.prints.control, is.space, is.slash, is.quotation, is.question, is.brace, is.word, is.value) refl
 
 whole_byte : (line b : ℕ) (number text : List ℕ) → b < 256
     → read line (Half (b / 16)) number (hex_digit (b % 16) ∷ text) ≡ read line Number (b ∷ number) text
@@ -56,35 +59,35 @@ number_read line b (c ∷ field) text are =
 pub record Follows (line : ℕ) (text : List ℕ) (outcome : Outcome) : Type 0 where
   pub ended : read line Ended [] text ≡ outcome
   pub spaced : read line Spaced [] text ≡ outcome
-  pub number : (number : List ℕ) → read line Number number text ≡ with_front (map Some number) outcome
+  pub number : (number : List ℕ) → read line Number number text ≡ with_front (byte_items number) outcome
 
 pub space_follows : (line : ℕ) (text : List ℕ) (outcome : Outcome) → read line Spaced [] text ≡ outcome → Follows line (32 ∷ text) outcome
 space_follows line text outcome is = record {
   ended = is;
   spaced = is;
-  number = λ number. ap (with_front (map Some number)) is;
+  number = λ number. ap (with_front (byte_items number)) is;
 }
 
 pub end_follows : (line : ℕ) (more : List ℕ) → Follows line (10 ∷ more) (read (line + 1) Start [] more)
 end_follows line more = record { ended = refl; spaced = refl; number = λ number. refl }
 
 number_follows : (line : ℕ) (one text : List ℕ) (outcome : Outcome) → AreBytes one → Follows line text outcome
-    → read line Spaced [] (number_text one ++ text) ≡ with_front (map Some one) outcome
+    → read line Spaced [] (number_text one ++ text) ≡ with_front (byte_items one) outcome
 number_follows line [] text outcome are follows = follows.spaced ∙ sym (front_none outcome)
 number_follows line (b ∷ one) text outcome are follows = number_read line b one text are ∙ follows.number (b ∷ one)
 
-some_parts : (k : ℕ) (field : List ℕ) → map Some (take k field) ++ map Some (drop k field) ≡ map Some field
-some_parts k field = sym (map-append Some (take k field) (drop k field)) ∙ ap (map Some) (take-append-drop k field)
+parts_of_items : (k : ℕ) (field : List ℕ) → byte_items (take k field) ++ byte_items (drop k field) ≡ byte_items field
+parts_of_items k field = sym (map-append (λ b. items.Cell (Byte b)) (take k field) (drop k field)) ∙ ap byte_items (take-append-drop k field)
 
 follows_by : (line : ℕ) (text : List ℕ) (a b : Outcome) → a ≡ b → Follows line text a → Follows line text b
 follows_by line text a b same follows = record {
   ended = follows.ended ∙ same;
   spaced = follows.spaced ∙ same;
-  number = λ number. follows.number number ∙ ap (with_front (map Some number)) same;
+  number = λ number. follows.number number ∙ ap (with_front (byte_items number)) same;
 }
 
 pub numbers_follow : (line w n : ℕ) (field text : List ℕ) (outcome : Outcome) → AreBytes field → length field ≡ w * n
-    → Follows line text outcome → Follows line (numbers_text w n field ++ text) (with_front (map Some field) outcome)
+    → Follows line text outcome → Follows line (numbers_text w n field ++ text) (with_front (byte_items field) outcome)
 numbers_follow line w zero [] text outcome are size follows = follows_by line text outcome _ (sym (front_none outcome)) follows
 numbers_follow line w zero (b ∷ field) text outcome are size follows = absurd (omega (arith, size))
 numbers_follow line w (suc n) field text outcome are size follows =
@@ -94,7 +97,7 @@ numbers_follow line w (suc n) field text outcome are size follows =
     let inner : length others ≡ w * n = length-drop w field ∙ (one_fits w (suc n) n (length field) (omega arith) size).1 in
     space_follows line ((number_text one ++ numbers_text w n others) ++ text) _
     (ap (read line Spaced []) (append_assoc (number_text one) (numbers_text w n others) text)
-    ∙ number_follows line one after (with_front (map Some others) outcome) (bytes_take w field are)
+    ∙ number_follows line one after (with_front (byte_items others) outcome) (bytes_take w field are)
     (numbers_follow line w n others text outcome (bytes_drop w field are) inner follows)
-    ∙ front_both (map Some one) (map Some others) outcome
-    ∙ ap (λ cells. with_front cells outcome) (some_parts w field))
+    ∙ front_both (byte_items one) (byte_items others) outcome
+    ∙ ap (λ parts. with_front parts outcome) (parts_of_items w field))

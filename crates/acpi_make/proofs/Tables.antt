@@ -1,6 +1,6 @@
 -- What the texts of whole tables mean.
 use Rattle.std.proofs.Common.{◌≡◌, ℕ, zero, suc, ◌+◌, ◌^◌, ◌<◌, ◌≤◌, ◌==◌, nat_le, Bool, true, false, cond}
-use Rattle.std.proofs.Common.{List, [], ◌++◌, length, take, drop, codes, map, refl, sym, ap, ◌∙◌, arith, length-append, Option, Some, None, Ok}
+use Rattle.std.proofs.Common.{List, [], ◌++◌, length, take, drop, codes, refl, sym, ap, ◌∙◌, subst, append_assoc, arith, length-append, Option, Some, None, ◌∷◌}
 use Rattle.std.specs.Fmt.{decimal}
 use Rattle.std.proofs.lemmas.List.{append-nil, length-drop, length-take, length-take-le, take-append-drop}
 use Rattle.std.proofs.Math.Nat.{min-le_left}
@@ -23,14 +23,12 @@ use Rattle.acpi_text.specs.Piece.{piece_and, pieces_up_to, pieces_text, parts_an
 use Rattle.acpi_text.specs.Size.{front_size}
 use Rattle.acpi_text.specs.Slot.{slots_text}
 use Rattle.acpi_text.specs.Structure.{find_form, form_name, form_parts, form_inner, inner_text, content_text, kind_text, piece_line, piece_text}
-use Rattle.acpi_text.specs.Table.{start_of, body_text}
+use Rattle.acpi_text.specs.Table.{start_of, body_text, table_text}
 use Rattle.acpi_text.proofs.Numbers.{narrow_carried}
 use Rattle.acpi_text.proofs.Pieces.{front_within}
-use Rattle.acpi_make.proofs.Lines.{Quiet, quiet_append, quiet_text, quiet_label, quiet_decimal, Means, line_empty, title_means, quiet_line_read}
+use Rattle.acpi_make.proofs.Quiet.{Quiet, quiet_append, quiet_text, quiet_label, quiet_decimal}
+use Rattle.acpi_make.proofs.Lines.{Means, line_empty, title_means}
 use Rattle.acpi_make.proofs.Slots.{means_append, means_parts, slots_mean, all_nameless}
-use Rattle.acpi_make.specs.Laws.{TablesAreMeant}
-use Rattle.acpi_make.specs.Meaning.{read}
-use Rattle.acpi_make.specs.declared.state.State.TheVariants.{Start}
 
 -- ---- the line of a structure
 
@@ -139,10 +137,10 @@ body_means form (Some walk) bytes are small =
     parts_and_pieces_mean walk.sizes (piece_text walk.kind form.structures.now) (piece_means walk.kind form.structures.now)
     form.parts.now (start_of walk bytes) 0 bytes are (omega (arith, small))
 
-pub tables_mean : TablesAreMeant
+pub tables_mean : (form : TableForm) (walk : Option Walk) (bytes : List ℕ) → AreBytes bytes → length bytes < 2 ^ 64
+    → Means (table_text form walk bytes) bytes
 tables_mean form walk bytes are small =
-    let body = body_text form walk bytes in
-    quiet_line_read 1 (label form.name.now) body (quiet_label form.name.now)
-    ∙ ap (read 2 Start []) (sym (append-nil body))
-    ∙ (body_means form walk bytes are small).reads 2 []
-    ∙ ap Ok (append-nil (map Some bytes))
+    let name = label form.name.now in
+    subst (λ l. Means l bytes) (append_assoc name (10 ∷ []) (body_text form walk bytes))
+    (means_append (name ++ 10 ∷ []) (body_text form walk bytes) [] bytes (line_empty name (quiet_label form.name.now))
+    (body_means form walk bytes are small))

@@ -1,75 +1,99 @@
 -- What a text leaves to be worked out.
-use Rattle.std.specs.Prelude.{ℕ, zero, suc, ◌+◌, ◌/◌, ◌==◌, nat_lt, nat_le, ◌&&◌, Bool, if◌then◌else◌}
-use Rattle.std.specs.Prelude.{List, [], ◌∷◌, ◌++◌, length, take, drop, map, Option, Some, None, Result, Ok, Err}
+use Rattle.std.specs.Prelude.{ℕ, ◌+◌, ◌%◌, ◌==◌, nat_lt, nat_le, ◌&&◌, not, Bool, if◌then◌else◌, sum, slice_index}
+use Rattle.std.specs.Prelude.{List, [], ◌∷◌, ◌++◌, length, take, drop, Result, Ok, Err}
 use Rattle.acpi_base.specs.Bytes.{le, complement}
+use Rattle.acpi_make.specs.Fits.{fits}
 use Rattle.acpi_make.specs.Gives.{with_front}
-use Rattle.acpi_make.specs.Meaning.{meaning}
-use Rattle.acpi_make.specs.declared.complete.Field.{Field}
+use Rattle.acpi_make.specs.Heading.{known_front, has_number}
+use Rattle.acpi_make.specs.Item.{known_cells}
+use Rattle.acpi_make.specs.Own.{own}
+use Rattle.acpi_make.specs.declared.complete.Shape.{Shape}
+use Rattle.acpi_make.specs.declared.complete.Shape.TheVariants.{Table, Pointer, Control}
 use Rattle.acpi_make.specs.declared.fault.Fault.{Fault}
-use Rattle.acpi_make.specs.declared.fault.Fault.TheVariants.{Unknown}
+use Rattle.acpi_make.specs.declared.fault.Wanted.TheVariants as wants
+use Rattle.acpi_make.specs.declared.item.Cell.{Cell}
+use Rattle.acpi_make.specs.declared.item.Cell.TheVariants.{Byte, Left}
+use Rattle.acpi_make.specs.declared.own.Own.{Own}
 
 -- ---- fields
 
 -- how many bytes stand before the first that is known
-abbrev pub unknown_front : List (Option ℕ) → ℕ
-unknown_front [] = 0
-unknown_front (None ∷ cells) = 1 + unknown_front cells
-unknown_front (Some byte ∷ cells) = 0
-
--- whether a number has at most w bytes
-abbrev pub fits : ℕ → ℕ → Bool
-fits zero value = value == 0
-fits (suc w) value = fits w (value / 256)
+abbrev pub left_front : List Cell → ℕ
+left_front [] = 0
+left_front (Left line ∷ cells) = 1 + left_front cells
+left_front (Byte b ∷ cells) = 0
 
 -- a number over the w bytes at an offset
-abbrev pub written : ℕ → ℕ → ℕ → List (Option ℕ) → List (Option ℕ)
-written offset w value cells = take offset cells ++ (map Some (le w value) ++ drop (offset + w) cells)
+abbrev pub written : ℕ → ℕ → ℕ → List Cell → List Cell
+written offset w n cells = take offset cells ++ (known_cells (le w n) ++ drop (offset + w) cells)
 
 -- a number in a field, if all bytes of the field are there, none of them is known, and the number fits
-abbrev pub filled : ℕ → ℕ → ℕ → List (Option ℕ) → List (Option ℕ)
-filled offset w value cells =
-    if nat_lt offset (length cells) && nat_le w (unknown_front (drop offset cells)) && fits w value
-    then written offset w value cells
+abbrev pub filled : ℕ → ℕ → ℕ → List Cell → List Cell
+filled offset w n cells =
+    if nat_lt offset (length cells) && nat_le w (left_front (drop offset cells)) && fits w n
+    then written offset w n cells
     else cells
 
-abbrev pub all_filled : List Field → List (Option ℕ) → List (Option ℕ)
+abbrev pub all_filled : List Own → List Cell → List Cell
 all_filled [] cells = cells
-all_filled (field ∷ fields) cells = all_filled fields (filled field.offset field.width field.value cells)
+all_filled (one ∷ owns) cells = all_filled owns (filled one.offset one.width one.number cells)
 
--- ---- the checksum (ACPI 6.5, 5.2.6)
+-- ---- checksums
 
 -- the sum of the bytes that are known
-abbrev pub known_sum : List (Option ℕ) → ℕ
+abbrev pub known_sum : List Cell → ℕ
 known_sum [] = 0
-known_sum (None ∷ cells) = known_sum cells
-known_sum (Some byte ∷ cells) = byte + known_sum cells
+known_sum (Left line ∷ cells) = known_sum cells
+known_sum (Byte b ∷ cells) = b + known_sum cells
 
--- the byte at offset 9 that makes the sum zero, if it isn't known
-abbrev pub summed : List (Option ℕ) → List (Option ℕ)
-summed cells = filled 9 1 (complement (known_sum cells)) cells
+-- the byte at an offset that makes the sum of the first n bytes zero, if it isn't known
+abbrev pub summed_at : ℕ → ℕ → List Cell → List Cell
+summed_at offset n cells = filled offset 1 (complement (known_sum (take n cells))) cells
+
+-- The checksums: of a table (ACPI 6.5, 5.2.6), and of a pointer, for its first 20 bytes and for all (5.2.5.3).
+abbrev pub summed : Shape → List Cell → List Cell
+summed Table cells = summed_at 9 (length cells) cells
+summed Pointer cells = summed_at 32 (length cells) (summed_at 8 20 cells)
+summed Control cells = cells
+
+-- the length of all bytes: of a table (5.2.6), of a pointer (5.2.5.3), and of a control structure (5.2.10)
+abbrev pub length_own : Shape → ℕ → Own
+length_own Table total = own 4 4 total
+length_own Pointer total = own 20 4 total
+length_own Control total = own 4 4 total
 
 -- ---- all bytes
 
--- the bytes from an offset on, or the offset of the first that isn't known
-abbrev pub known : ℕ → List (Option ℕ) → Result (List ℕ) Fault
-known offset [] = Ok []
-known offset (Some byte ∷ cells) = with_front (byte ∷ []) (known (offset + 1) cells)
-known offset (None ∷ cells) = Err (Unknown offset)
+-- all bytes, or the line that leaves out the first that isn't known
+abbrev pub known : List Cell → Result (List ℕ) Fault
+known [] = Ok []
+known (Byte b ∷ cells) = with_front (b ∷ []) (known cells)
+known (Left line ∷ cells) = Err (record { line = line; wanted = wants.Bytes })
 
--- the bytes with these fields and the checksum worked out
-abbrev pub completed : List Field → List (Option ℕ) → Result (List ℕ) Fault
-completed fields cells = known 0 (summed (all_filled fields cells))
+-- the bytes with these numbers and the checksums worked out
+abbrev pub completed : Shape → List Own → List Cell → Result (List ℕ) Fault
+completed shape owns cells = known (summed shape (all_filled owns cells))
 
--- the length of a table, at offset 4 (ACPI 6.5, 5.2.6)
-abbrev pub length_field : List (Option ℕ) → Field
-length_field cells = record { offset = 4; width = 4; value = length cells }
+-- ---- numbers that aren't true
 
--- ---- tables
+-- whether all bytes of a number's field are known, and it is another number
+abbrev pub is_untrue : Own → List Cell → Bool
+is_untrue one cells =
+    nat_le one.width (known_front (drop one.offset cells)) && not (has_number one.width one.number (drop one.offset cells))
 
-abbrev pub made_of : Result (List (Option ℕ)) Fault → Result (List ℕ) Fault
-made_of (Ok cells) = completed (length_field cells ∷ []) cells
-made_of (Err fault) = Err fault
+-- the numbers that the text states otherwise
+abbrev pub untrue : List Own → List Cell → List Own
+untrue [] cells = []
+untrue (one ∷ owns) cells = if is_untrue one cells then one ∷ untrue owns cells else untrue owns cells
 
--- the table that a text is made into
-abbrev pub made : List ℕ → Result (List ℕ) Fault
-made text = made_of (meaning text)
+-- the byte at an offset that would make the sum of the first n bytes zero, if they don't sum to zero
+abbrev pub untrue_sum : ℕ → ℕ → List ℕ → List Own
+untrue_sum offset n bytes =
+    if nat_lt offset (length bytes) && not (sum (take n bytes) % 256 == 0)
+    then own offset 1 ((slice_index bytes offset + complement (sum (take n bytes))) % 256) ∷ []
+    else []
+
+abbrev pub untrue_sums : Shape → List ℕ → List Own
+untrue_sums Table bytes = untrue_sum 9 (length bytes) bytes
+untrue_sums Pointer bytes = untrue_sum 8 20 bytes ++ untrue_sum 32 (length bytes) bytes
+untrue_sums Control bytes = []

@@ -18,3 +18,13 @@ Gives view (Err error) outcome = Fails error outcome
 abbrev pub with_front : {A : Type 0} → List A → Result (List A) Fault → Result (List A) Fault
 with_front front (Ok items) = Ok (front ++ items)
 with_front front (Err fault) = Err fault
+
+-- what follows from an outcome
+abbrev pub and_then : {A B : Type 0} → Result A Fault → (A → Result B Fault) → Result B Fault
+and_then (Ok value) rest = rest value
+and_then (Err fault) rest = Err fault
+
+-- a call changes a value, as seen by a view, to the outcome, unless memory ran out
+abbrev pub Changes : {B : Type 0} → Result (Unit {0}) MakeError → B → Result B Fault → Type 0
+Changes (Ok done) new outcome = outcome ≡ Ok new
+Changes (Err error) new outcome = Fails error outcome

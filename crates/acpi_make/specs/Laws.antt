@@ -1,24 +1,40 @@
 -- What laws say.
-use Rattle.std.specs.Prelude.{◌≡◌, ℕ, ◌^◌, ◌<◌, ◌≤◌, List, length, drop, map, Option, Some, Ok}
+use Rattle.std.specs.Prelude.{◌≡◌, ℕ, ◌^◌, ◌<◌, List, length, Option, Result, Ok}
 use Rattle.acpi_base.specs.Bytes.{AreBytes}
 use Rattle.acpi_base.specs.declared.walk.Walk.{Walk}
 use Rattle.acpi_text.specs.Table.{table_text}
 use Rattle.acpi_text.specs.declared.form.TableForm.{TableForm}
-use Rattle.acpi_base.specs.Table.{IsTrueTable}
-use Rattle.acpi_make.specs.Complete.{unknown_front, made}
-use Rattle.acpi_make.specs.Meaning.{meaning}
+use Rattle.acpi_make.specs.Gives.{and_then}
+use Rattle.acpi_make.specs.Item.{known_cells, cells_of}
+use Rattle.acpi_make.specs.Made.{Table, made}
+use Rattle.acpi_make.specs.Meaning.{parts_of}
+use Rattle.acpi_make.specs.declared.complete.Shape.{Shape}
+use Rattle.acpi_make.specs.declared.draft.Source.{Source}
+use Rattle.acpi_make.specs.declared.fault.Fault.{Fault}
+use Rattle.acpi_make.specs.declared.item.Item.{Item}
 
--- For any form, the text of a table means the table's bytes, each of them known.
-abbrev pub TablesAreMeant : Type 0
-TablesAreMeant = (form : TableForm) (walk : Option Walk) (bytes : List ℕ) → AreBytes bytes → length bytes < 2 ^ 64
-    → meaning (table_text form walk bytes) ≡ Ok (map Some bytes)
+-- the table that a text is made into
+abbrev pub made_text : Shape → Option Walk → Source → Result Table Fault
+made_text shape walk s = and_then (parts_of s.text.now) (λ parts. made shape walk s parts)
 
--- For any form, the text of a table is made into the table.
+-- The text has these bytes, each of them known.
+pub record HasBytes (text bytes : List ℕ) : Type 0 where
+  pub parts : List Item
+  pub read : parts_of text ≡ Ok parts
+  pub cells : cells_of parts ≡ known_cells bytes
+
+-- For any form, the text of a table has the table's bytes.
+abbrev pub TablesAreRead : Type 0
+TablesAreRead = (form : TableForm) (walk : Option Walk) (bytes : List ℕ) → AreBytes bytes → length bytes < 2 ^ 64
+    → HasBytes (table_text form walk bytes) bytes
+
+-- The text is made into a table of these bytes.
+pub record IsMadeInto (shape : Shape) (walk : Option Walk) (s : Source) (bytes : List ℕ) : Type 0 where
+  pub table : Table
+  pub is : made_text shape walk s ≡ Ok table
+  pub same : table.bytes ≡ bytes
+
+-- The text of a table is made into the table, whatever the forms by which it is shown and made.
 abbrev pub TablesAreMade : Type 0
-TablesAreMade = (form : TableForm) (walk : Option Walk) (bytes : List ℕ) → AreBytes bytes → length bytes < 2 ^ 64
-    → made (table_text form walk bytes) ≡ Ok bytes
-
--- What is made of a text of 36 bytes or more is a correct table, if the text leaves its length and its checksum to be worked out.
-abbrev pub TablesAreTrue : Type 0
-TablesAreTrue = (text : List ℕ) (cells : List (Option ℕ)) (bytes : List ℕ) → meaning text ≡ Ok cells → 36 ≤ length cells
-    → 4 ≤ unknown_front (drop 4 cells) → 1 ≤ unknown_front (drop 9 cells) → made text ≡ Ok bytes → IsTrueTable bytes
+TablesAreMade = (form : TableForm) (walk other : Option Walk) (shape : Shape) (s : Source) (bytes : List ℕ)
+    → AreBytes bytes → length bytes < 2 ^ 64 → s.text.now ≡ table_text form walk bytes → IsMadeInto shape other s bytes

@@ -1,59 +1,54 @@
 //! What a text leaves to be worked out.
 
-ghost use Rattle.std.specs.Prelude.{◌≡◌, ◌+◌, ◌≤◌, length};
+ghost use Rattle.std.specs.Prelude.{◌≡◌, ◌+◌, ◌≤◌, ◌%◌, ◌++◌, length, take, sum, OnOk, IfOk};
 ghost use Rattle.acpi_base.specs.Bytes.{complement};
-ghost use Rattle.acpi_make.specs.Complete.{unknown_front, fits, written, filled, all_filled, known_sum, summed, known, completed};
+ghost use Rattle.acpi_make.specs.Complete.{left_front, written, filled, all_filled, known_sum, summed_at, summed, length_own};
+ghost use Rattle.acpi_make.specs.Complete.{known, completed, is_untrue, untrue, untrue_sum, untrue_sums};
 ghost use Rattle.acpi_make.specs.Gives.{Gives};
 
-use crate::fault::{Fault, MakeError};
-use std::alloc::Global;
+use crate::draft::fits;
+use crate::fault::{Fault, MakeError, Wanted};
+use crate::heading::{has_number, known_front};
+use crate::item::Cell;
+use crate::own::Own;
+use std::alloc::{AllocError, Global};
 
-/// A number that is worked out, and the field that contains it: the field's offset and its width in bytes.
-#[derive(Clone, Copy, Debug)]
-pub struct Field {
-    pub offset: usize,
-    pub width: usize,
-    pub value: usize,
+/// What bytes have a length and checksums.
+#[derive(Clone, Copy, Debug, PartialEq, Eq)]
+pub enum Shape {
+    /// A table with the standard header (ACPI 6.5, 5.2.6).
+    Table,
+    /// A Root System Description Pointer (ACPI 6.5, 5.2.5.3).
+    Pointer,
+    /// A Firmware ACPI Control Structure (ACPI 6.5, 5.2.10).
+    Control,
 }
 
 // Returns how many bytes stand before the first that is known.
-fn unknown_front(cells: &[Option<u8>]) -> usize
-    ensures front { result ≡ unknown_front cells.now }
+fn left_front(cells: &[Cell]) -> usize
+    ensures front { result ≡ left_front cells.now }
     ensures within { result ≤ length cells.now }
 {
     let mut front = 0;
     'cells: for cell in cells {
         match cell {
-            None => front += 1,
-            Some(_) => return front,
+            Cell::Left(_) => front += 1,
+            Cell::Byte(_) => return front,
         }
     }
     front
 }
 
-// Returns whether a number has at most so many bytes.
-fn fits(width: usize, value: usize) -> bool
-    ensures { result ≡ fits width value }
-{
-    let mut left = width;
-    let mut rest = value;
-    'bytes: while left > 0 {
-        left -= 1;
-        rest /= 256;
-    }
-    rest == 0
-}
-
 // Writes a number over the bytes at an offset.
-fn write(offset: usize, width: usize, value: usize, cells: &mut [Option<u8>])
+fn write(offset: usize, width: usize, number: usize, cells: &mut [Cell])
     requires { offset + width ≤ length cells.old }
-    ensures { cells.new ≡ written offset width value cells.old }
+    ensures { cells.new ≡ written offset width number cells.old }
 {
     let mut at = offset;
     let mut left = width;
-    let mut rest = value;
+    let mut rest = number;
     'bytes: while left > 0 {
-        cells[at] = Some((rest % 256) as u8);
+        cells[at] = Cell::Byte((rest % 256) as u8);
         at += 1;
         left -= 1;
         rest /= 256;
@@ -61,61 +56,192 @@ fn write(offset: usize, width: usize, value: usize, cells: &mut [Option<u8>])
 }
 
 // Writes a number into a field, if all bytes of the field are there, none of them is known, and the number fits.
-fn fill(offset: usize, width: usize, value: usize, cells: &mut [Option<u8>])
-    ensures { cells.new ≡ filled offset width value cells.old }
+fn fill(offset: usize, width: usize, number: usize, cells: &mut [Cell])
+    ensures { cells.new ≡ filled offset width number cells.old }
 {
-    if offset < cells.len() && width <= unknown_front(&cells[offset..]) && fits(width, value) {
-        write(offset, width, value, cells);
+    if offset < cells.len() && width <= left_front(&cells[offset..]) && fits(width, number) {
+        write(offset, width, number, cells);
     }
 }
 
-// Fills fields, in order.
-fn fill_all(fields: &[Field], cells: &mut [Option<u8>])
-    ensures { cells.new ≡ all_filled fields.now cells.old }
+// Writes numbers into their fields, in order.
+fn fill_all(owns: &[Own], cells: &mut [Cell])
+    ensures { cells.new ≡ all_filled owns.now cells.old }
 {
-    'fields: for field in fields {
-        fill(field.offset, field.width, field.value, cells);
+    'owns: for own in owns {
+        fill(own.offset, own.width, own.number, cells);
     }
 }
 
 // Returns the byte that makes the sum of the known bytes zero.
-fn checksum(cells: &[Option<u8>]) -> u8
+fn checksum(cells: &[Cell]) -> u8
     ensures { result ≡ complement (known_sum cells.now) }
 {
     let mut left: u8 = 0;
     'cells: for cell in cells {
-        if let Some(byte) = cell {
+        if let Cell::Byte(byte) = cell {
             left = left.wrapping_sub(*byte);
         }
     }
     left
 }
 
+// Returns the first bytes, or all if there are fewer.
+fn front(count: usize, cells: &[Cell]) -> &[Cell]
+    ensures { result.now ≡ take count cells.now }
+{
+    if count < cells.len() {
+        &cells[..count]
+    } else {
+        cells
+    }
+}
+
+// Writes the byte at an offset that makes the sum of the first bytes zero, if it isn't known.
+fn fill_sum(offset: usize, count: usize, cells: &mut [Cell])
+    ensures { cells.new ≡ summed_at offset count cells.old }
+{
+    let sum = checksum(front(count, cells));
+    fill(offset, 1, usize::from(sum), cells);
+}
+
+// Writes the checksums that aren't known.
+fn fill_sums(shape: Shape, cells: &mut [Cell])
+    ensures { cells.new ≡ summed shape cells.old }
+{
+    match shape {
+        Shape::Table => fill_sum(9, cells.len(), cells),
+        Shape::Pointer => {
+            let size = cells.len();
+            fill_sum(8, 20, cells);
+            fill_sum(32, size, cells);
+        }
+        Shape::Control => {}
+    }
+}
+
+/// Returns the length of all bytes.
+pub fn length_own(shape: Shape, total: usize) -> Own
+    ensures { result ≡ length_own shape total }
+{
+    let offset = match shape {
+        Shape::Table => 4,
+        Shape::Pointer => 20,
+        Shape::Control => 4,
+    };
+    Own {
+        offset,
+        width: 4,
+        number: total,
+    }
+}
+
 // Returns the bytes, if all of them are known.
-fn known(alloc: Global, cells: &[Option<u8>]) -> Result<Vec<u8>, MakeError>
-    ensures { Gives (λ bytes. bytes.items) result (known 0 cells.now) }
+fn known(alloc: Global, cells: &[Cell]) -> Result<Vec<u8>, MakeError>
+    ensures { Gives (λ bytes. bytes.items) result (known cells.now) }
 {
     let mut bytes = Vec::with_capacity(alloc, cells.len())?;
-    'cells: for (offset, cell) in cells.iter().enumerate() {
-        match cell {
-            Some(byte) => bytes.push(*byte)?,
-            None => return Err(MakeError::Fault(Fault::Unknown(offset))),
+    'cells: for cell in cells {
+        match *cell {
+            Cell::Byte(byte) => bytes.push(byte)?,
+            Cell::Left(line) => {
+                let wanted = Wanted::Bytes;
+                return Err(MakeError::Fault(Fault { line, wanted }));
+            }
         }
     }
     Ok(bytes)
 }
 
-/// Fills fields whose bytes aren't known, and the checksum at offset 9, and returns all bytes. The error is that memory ran out,
-/// or the offset of the first byte that isn't known after this.
+/// Writes numbers into fields whose bytes aren't known, and the checksums, and returns all bytes. The error is that memory ran out,
+/// or the line that leaves out the first byte that isn't known after this.
 pub fn complete(
     alloc: Global,
-    fields: &[Field],
-    mut cells: Vec<Option<u8>>,
+    shape: Shape,
+    owns: &[Own],
+    mut cells: Vec<Cell>,
 ) -> Result<Vec<u8>, MakeError>
-    ensures { Gives (λ bytes. bytes.items) result (completed fields.now cells.items) }
+    ensures { Gives (λ bytes. bytes.items) result (completed shape owns.now cells.items) }
 {
-    fill_all(fields, &mut cells);
-    let sum = checksum(&cells);
-    fill(9, 1, usize::from(sum), &mut cells);
+    fill_all(owns, &mut cells);
+    fill_sums(shape, &mut cells);
     known(alloc, &cells)
+}
+
+// Returns whether all bytes of a number's field are known, and it is another number.
+fn is_untrue(own: &Own, cells: &[Cell]) -> bool
+    ensures { result ≡ is_untrue own.now cells.now }
+{
+    let field = if own.offset < cells.len() {
+        &cells[own.offset..]
+    } else {
+        &[]
+    };
+    own.width <= known_front(field) && !has_number(own.width, own.number, field)
+}
+
+/// Returns the numbers that a text states otherwise.
+pub fn untrue(alloc: Global, owns: &[Own], cells: &[Cell]) -> Result<Vec<Own>, AllocError>
+    ensures { IfOk result (λ list. list.items ≡ untrue owns.now cells.now) }
+{
+    let mut list = Vec::new(alloc);
+    'owns: for own in owns {
+        if is_untrue(own, cells) {
+            list.push(*own)?;
+        }
+    }
+    Ok(list)
+}
+
+// Returns the sum of bytes modulo 256.
+fn sum_of(bytes: &[u8]) -> u8
+    ensures { result ≡ sum bytes.now % 256 }
+{
+    let mut sum: u8 = 0;
+    'bytes: for byte in bytes {
+        sum = sum.wrapping_add(*byte);
+    }
+    sum
+}
+
+// Adds the byte at an offset that would make the sum of the first bytes zero, if they don't sum to zero.
+fn push_untrue_sum(
+    offset: usize,
+    count: usize,
+    bytes: &[u8],
+    list: &mut Vec<Own>,
+) -> Result<(), AllocError>
+    ensures { OnOk result (list.new.items ≡ list.old.items ++ untrue_sum offset count bytes.now) }
+{
+    if offset >= bytes.len() {
+        return Ok(());
+    }
+    let front = if count < bytes.len() {
+        &bytes[..count]
+    } else {
+        bytes
+    };
+    let sum = sum_of(front);
+    if sum != 0 {
+        list.push(Own {
+            offset,
+            width: 1,
+            number: usize::from(bytes[offset].wrapping_sub(sum)),
+        })?;
+    }
+    Ok(())
+}
+
+/// Adds the checksums that aren't right, with the bytes that would be.
+pub fn push_untrue_sums(shape: Shape, bytes: &[u8], list: &mut Vec<Own>) -> Result<(), AllocError>
+    ensures { OnOk result (list.new.items ≡ list.old.items ++ untrue_sums shape bytes.now) }
+{
+    match shape {
+        Shape::Table => push_untrue_sum(9, bytes.len(), bytes, list),
+        Shape::Pointer => {
+            push_untrue_sum(8, 20, bytes, list)?;
+            push_untrue_sum(32, bytes.len(), bytes, list)
+        }
+        Shape::Control => Ok(()),
+    }
 }

@@ -4,6 +4,7 @@ ghost use Rattle.std.specs.Prelude.{◌≡◌};
 ghost use Rattle.acpi_make.specs.declared.fault.MakeError.TheVariants.{Memory};
 
 use std::alloc::{AllocError, AllocFailed};
+use std::fmt;
 
 /// What has to stand where a text is wrong.
 #[derive(Clone, Copy, Debug, PartialEq, Eq)]
@@ -14,7 +15,7 @@ pub enum Wanted {
     Printing,
     /// A space, after a colon or a value.
     Space,
-    /// A value: digits, a text between quotation marks, or question marks.
+    /// A value.
     Value,
     /// A digit, or the end of the number.
     Digit,
@@ -26,15 +27,25 @@ pub enum Wanted {
     QuestionMark,
     /// The second slash of a comment.
     Slash,
+    /// The brace that ends names.
+    Brace,
+    /// The name of a field: the structure has no field of the line's name, so its value has to be bytes.
+    Field,
+    /// Names of the field's flags, or the name of one of its values.
+    Name,
+    /// A number in decimal that fits the field.
+    Number,
+    /// The label of a structure, whose offset fits the field.
+    Label,
+    /// Bytes in place of question marks: nothing determines them.
+    Bytes,
 }
 
-/// A fault of a text.
+/// What is wanted in a line, which is counted from 1.
 #[derive(Clone, Copy, Debug, PartialEq, Eq)]
-pub enum Fault {
-    /// What is wanted in a line, which is counted from 1.
-    Line(usize, Wanted),
-    /// The offset of a byte that isn't known, and that nothing determines.
-    Unknown(usize),
+pub struct Fault {
+    pub line: usize,
+    pub wanted: Wanted,
 }
 
 /// Why a text isn't made into bytes.
@@ -43,6 +54,45 @@ pub enum MakeError {
     Memory,
     Fault(Fault),
 }
+
+impl Wanted {
+    /// What has to stand there, as text.
+    pub fn text(self) -> &'static str {
+        match self {
+            Wanted::LineFeed => "a line feed without a carriage return",
+            Wanted::Printing => "a character that prints",
+            Wanted::Space => "a space",
+            Wanted::Value => "a value",
+            Wanted::Digit => "a hexadecimal digit",
+            Wanted::SecondDigit => "the second digit of a byte",
+            Wanted::QuotationMark => "a quotation mark at the end of the text",
+            Wanted::QuestionMark => "a second question mark",
+            Wanted::Slash => "a second slash",
+            Wanted::Brace => "a brace at the end of the names",
+            Wanted::Field => "bytes, or the name of a field before the colon",
+            Wanted::Name => "a name of a flag or a value of this field",
+            Wanted::Number => "a decimal number that fits the field",
+            Wanted::Label => "the label of a structure",
+            Wanted::Bytes => "bytes, which nothing determines",
+        }
+    }
+}
+
+/// The fault as text, for the user of a program.
+impl fmt::Display for MakeError {
+    fn fmt<W: fmt::Write>(&self, f: &mut fmt::Formatter<W>) -> fmt::Result {
+        match *self {
+            MakeError::Memory => write!(f, "out of memory"),
+            MakeError::Fault(fault) => {
+                let line = fault.line;
+                let wanted = fault.wanted.text();
+                write!(f, "line {line}: {wanted} expected")
+            }
+        }
+    }
+}
+
+impl std::error::Error for MakeError {}
 
 impl From<AllocError> for MakeError {
     ghost from_gives = { λ _ e. e ≡ Memory };

@@ -3,9 +3,18 @@
 #![tactic(auto)]
 
 pub mod complete;
+pub mod draft;
+pub mod entry;
 pub mod fault;
+pub mod heading;
+pub mod item;
 pub mod laws;
 pub mod make;
+pub mod own;
 pub mod read;
+pub mod signature;
 pub mod state;
 mod step;
+pub mod template;
+mod text;
+mod value;

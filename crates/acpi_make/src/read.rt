@@ -1,22 +1,24 @@
-//! The meaning of a text.
+//! The parts of a text.
 
-ghost use Rattle.std.specs.Prelude.{◌≡◌, ◌++◌, [], Some, map, reverse, OnOk, IfOk};
+ghost use Rattle.std.specs.Prelude.{◌≡◌, ◌++◌, [], reverse, OnOk, IfOk};
 ghost use Rattle.acpi_make.specs.Gives.{Gives};
-ghost use Rattle.acpi_make.specs.Meaning.{meaning, Acts};
+ghost use Rattle.acpi_make.specs.Item.{byte_items};
+ghost use Rattle.acpi_make.specs.Meaning.{parts_of, Acts};
 ghost use Rattle.acpi_make.specs.Step.{IsHalf, GoesToHalf};
 
 use crate::fault::{Fault, MakeError};
+use crate::item::{Cell, Item};
 use crate::state::{State, Step};
 use crate::step::{line_end, step};
 use std::alloc::{AllocError, Global};
 
-// Adds the bytes of a number to those of the text, lowest first, and leaves none in the number.
-fn end_number(number: &mut Vec<u8>, cells: &mut Vec<Option<u8>>) -> Result<(), AllocError>
-    ensures added { OnOk result (cells.new.items ≡ cells.old.items ++ map Some (reverse number.old.items)) }
+// Adds the bytes of a number to the parts of the text, lowest first, and leaves none in the number.
+fn end_number(number: &mut Vec<u8>, items: &mut Vec<Item>) -> Result<(), AllocError>
+    ensures added { OnOk result (items.new.items ≡ items.old.items ++ byte_items (reverse number.old.items)) }
     ensures emptied { OnOk result (number.new.items ≡ []) }
 {
     'bytes: while let Some(byte) = number.pop() {
-        cells.push(Some(byte))?;
+        items.push(Item::Cell(Cell::Byte(byte)))?;
     }
     Ok(())
 }
@@ -27,10 +29,10 @@ fn act(
     done: Step,
     line: usize,
     number: &mut Vec<u8>,
-    cells: &mut Vec<Option<u8>>,
+    items: &mut Vec<Item>,
 ) -> Result<State, MakeError>
     requires { GoesToHalf done }
-    ensures acts { Acts result line done number.old.items number.new.items cells.old.items cells.new.items }
+    ensures acts { Acts result line done number.old.items number.new.items items.old.items items.new.items }
     ensures half { IfOk result IsHalf }
 {
     match done {
@@ -40,31 +42,35 @@ fn act(
             Ok(State::Number)
         }
         Step::Ends(state) => {
-            end_number(number, cells)?;
+            end_number(number, items)?;
             Ok(state)
         }
-        Step::Has(byte, state) => {
-            cells.push(byte)?;
+        Step::Has(item, state) => {
+            items.push(item)?;
             Ok(state)
         }
-        Step::Wants(wanted) => Err(MakeError::Fault(Fault::Line(line, wanted))),
+        Step::Wants(wanted) => Err(MakeError::Fault(Fault { line, wanted })),
     }
 }
 
-/// Returns the bytes of a text, each known or not. The error is that memory ran out, or what is wrong, and in which line.
-pub fn read_text(alloc: Global, text: &[u8]) -> Result<Vec<Option<u8>>, MakeError>
-    ensures { Gives (λ bytes. bytes.items) result (meaning text.now) }
+/// Returns the parts of a text: its bytes, its headings, the names of its lines, and values by name. The error is that memory ran
+/// out, or what is wrong, and in which line.
+pub fn read_text(alloc: Global, text: &[u8]) -> Result<Vec<Item>, MakeError>
+    ensures { Gives (λ items. items.items) result (parts_of text.now) }
 {
     let mut line = 1;
     let mut state = State::Start;
     let mut number = Vec::new(alloc);
-    let mut cells = Vec::new(alloc);
-    'bytes: for byte in text {
-        state = act(step(state, *byte), line, &mut number, &mut cells)?;
+    let mut items = Vec::new(alloc);
+    let mut rest = text;
+    'bytes: while let [byte, more @ ..] = rest {
+        let done = step(line, rest.len(), state, *byte);
+        state = act(done, line, &mut number, &mut items)?;
         if *byte == b'\n' {
             line += 1;
         }
+        rest = more;
     }
-    act(line_end(state), line, &mut number, &mut cells)?;
-    Ok(cells)
+    act(line_end(line, 0, state), line, &mut number, &mut items)?;
+    Ok(items)
 }

@@ -1,19 +1,24 @@
 //! Where the reader of a text is, and what a character does there.
 
 use crate::fault::Wanted;
+use crate::item::Item;
 
-/// Where the reader of a text is.
+/// Where the reader of a text is. A number is the place at which a heading, a name or a value begins.
 #[derive(Clone, Copy, Debug)]
 pub enum State {
     /// Where a line begins.
     Start,
+    /// After a slash there.
+    Slashed(usize),
+    /// In a heading.
+    Headed(usize),
     /// After spaces that a line begins with.
     Indented,
     /// After a slash there.
-    Slashed,
+    NameSlashed(usize),
     /// In what stands before the colon of a line.
-    Named,
-    /// In what has no bytes: a heading or a comment.
+    Named(usize),
+    /// In a comment.
     Skipped,
     /// After a colon or a value.
     Ended,
@@ -31,19 +36,23 @@ pub enum State {
     HalfMark,
     /// After the second.
     Marked,
+    /// In names between braces.
+    Braced(usize),
+    /// In a label, or a number in decimal.
+    Worded(usize),
 }
 
 /// What a character does.
 #[derive(Clone, Copy, Debug)]
 pub enum Step {
-    /// It ends no byte.
+    /// It ends nothing.
     Goes(State),
     /// It is the second digit of a byte of this value.
     Adds(u8),
     /// It ends a number.
     Ends(State),
-    /// It is a byte of this value, or one that isn't known.
-    Has(Option<u8>, State),
+    /// It ends a part of the text.
+    Has(Item, State),
     /// Something else has to stand here.
     Wants(Wanted),
 }

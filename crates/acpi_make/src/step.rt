@@ -1,9 +1,11 @@
 //! What each character of a text does.
 
-ghost use Rattle.std.specs.Prelude.{◌≡◌, ◌<◌, IfSome};
-ghost use Rattle.acpi_make.specs.Step.{digit_of, is_control, line_end, first_digit, second_digit, after_space, goes_on, wanted_for, step, IsHalf, GoesToHalf};
+ghost use Rattle.std.specs.Prelude.{◌≡◌, ◌<◌, ◌≤◌, IfSome};
+ghost use Rattle.acpi_make.specs.Step.{digit_of, is_control, line_end, first_digit, second_digit};
+ghost use Rattle.acpi_make.specs.Step.{from_start, from_indent, after_space, goes_on, wanted_for, step, IsHalf, GoesToHalf};
 
 use crate::fault::Wanted;
+use crate::item::{Cell, Item};
 use crate::state::{State, Step};
 
 // Returns the number of a digit, of either case.
@@ -55,8 +57,8 @@ fn second_digit(high: u8, byte: u8) -> Step
 
 // Returns what the end of a line does.
 #[inline(always)]
-pub fn line_end(state: State) -> Step
-    ensures ends { result ≡ line_end state }
+pub fn line_end(line: usize, here: usize, state: State) -> Step
+    ensures ends { result ≡ line_end line here state }
     ensures half { GoesToHalf result }
 {
     match state {
@@ -65,10 +67,14 @@ pub fn line_end(state: State) -> Step
         State::Quoted => Step::Wants(Wanted::QuotationMark),
         State::HalfMark => Step::Wants(Wanted::QuestionMark),
         State::HalfComment => Step::Wants(Wanted::Slash),
+        State::Braced(_) => Step::Wants(Wanted::Brace),
+        State::Slashed(from) => Step::Has(Item::Heading(from, here), State::Start),
+        State::Headed(from) => Step::Has(Item::Heading(from, here), State::Start),
+        State::NameSlashed(from) => Step::Has(Item::Name(from, here), State::Start),
+        State::Named(from) => Step::Has(Item::Name(from, here), State::Start),
+        State::Worded(from) => Step::Has(Item::Value(line, from, here), State::Start),
         State::Start => Step::Goes(State::Start),
         State::Indented => Step::Goes(State::Start),
-        State::Slashed => Step::Goes(State::Start),
-        State::Named => Step::Goes(State::Start),
         State::Skipped => Step::Goes(State::Start),
         State::Ended => Step::Goes(State::Start),
         State::Spaced => Step::Goes(State::Start),
@@ -76,10 +82,37 @@ pub fn line_end(state: State) -> Step
     }
 }
 
+// Returns what a character does where a line begins.
+#[inline(always)]
+fn from_start(here: usize, byte: u8) -> Step
+    ensures does { result ≡ from_start here byte }
+    ensures half { GoesToHalf result }
+{
+    match byte {
+        b' ' => Step::Goes(State::Indented),
+        b'/' => Step::Goes(State::Slashed(here)),
+        _ => Step::Goes(State::Headed(here)),
+    }
+}
+
+// Returns what a character does after spaces that a line begins with.
+#[inline(always)]
+fn from_indent(here: usize, byte: u8) -> Step
+    ensures does { result ≡ from_indent here byte }
+    ensures half { GoesToHalf result }
+{
+    match byte {
+        b' ' => Step::Goes(State::Indented),
+        b':' => Step::Has(Item::Name(here, here), State::Ended),
+        b'/' => Step::Goes(State::NameSlashed(here)),
+        _ => Step::Goes(State::Named(here)),
+    }
+}
+
 // Returns what a character does after a space that follows a colon or a value.
 #[inline(always)]
-fn after_space(byte: u8) -> Step
-    ensures does { result ≡ after_space byte }
+fn after_space(here: usize, byte: u8) -> Step
+    ensures does { result ≡ after_space here byte }
     ensures half { GoesToHalf result }
 {
     match byte {
@@ -87,36 +120,36 @@ fn after_space(byte: u8) -> Step
         b'/' => Step::Goes(State::HalfComment),
         b'"' => Step::Goes(State::Quoted),
         b'?' => Step::Goes(State::HalfMark),
+        b'{' => Step::Goes(State::Braced(here)),
+        b'#' | b'@' => Step::Goes(State::Worded(here)),
         _ => first_digit(Wanted::Value, byte),
     }
 }
 
 // Returns what a character that prints does.
 #[inline(always)]
-fn goes_on(state: State, byte: u8) -> Step
-    requires { IsHalf state }
-    ensures does { result ≡ goes_on state byte }
+fn goes_on(line: usize, here: usize, state: State, byte: u8) -> Step
+    requires half { IsHalf state }
+    requires some { 1 ≤ here }
+    ensures does { result ≡ goes_on line here state byte }
     ensures half { GoesToHalf result }
 {
     match state {
-        State::Start => match byte {
-            b' ' => Step::Goes(State::Indented),
-            _ => Step::Goes(State::Skipped),
-        },
-        State::Indented => match byte {
-            b' ' => Step::Goes(State::Indented),
-            b':' => Step::Goes(State::Ended),
-            b'/' => Step::Goes(State::Slashed),
-            _ => Step::Goes(State::Named),
-        },
-        State::Slashed => match byte {
+        State::Start => from_start(here, byte),
+        State::Slashed(from) => match byte {
             b'/' => Step::Goes(State::Skipped),
-            b':' => Step::Goes(State::Ended),
-            _ => Step::Goes(State::Named),
+            _ => Step::Goes(State::Headed(from)),
         },
-        State::Named => match byte {
-            b':' => Step::Goes(State::Ended),
-            _ => Step::Goes(State::Named),
+        State::Headed(from) => Step::Goes(State::Headed(from)),
+        State::Indented => from_indent(here, byte),
+        State::NameSlashed(from) => match byte {
+            b'/' => Step::Goes(State::Skipped),
+            b':' => Step::Has(Item::Name(from, here), State::Ended),
+            _ => Step::Goes(State::Named(from)),
+        },
+        State::Named(from) => match byte {
+            b':' => Step::Has(Item::Name(from, here), State::Ended),
+            _ => Step::Goes(State::Named(from)),
         },
         State::Skipped => Step::Goes(State::Skipped),
         State::Ended => match byte {
@@ -124,7 +157,7 @@ fn goes_on(state: State, byte: u8) -> Step
             b'/' => Step::Goes(State::HalfComment),
             _ => Step::Wants(Wanted::Space),
         },
-        State::Spaced => after_space(byte),
+        State::Spaced => after_space(here, byte),
         State::HalfComment => match byte {
             b'/' => Step::Goes(State::Skipped),
             _ => Step::Wants(Wanted::Slash),
@@ -137,11 +170,11 @@ fn goes_on(state: State, byte: u8) -> Step
         State::Half(high) => second_digit(high, byte),
         State::Quoted => match byte {
             b'"' => Step::Goes(State::Ended),
-            0..=126 => Step::Has(Some(byte), State::Quoted),
+            0..=126 => Step::Has(Item::Cell(Cell::Byte(byte)), State::Quoted),
             _ => Step::Wants(Wanted::QuotationMark),
         },
         State::HalfMark => match byte {
-            b'?' => Step::Has(None, State::Marked),
+            b'?' => Step::Has(Item::Cell(Cell::Left(line)), State::Marked),
             _ => Step::Wants(Wanted::QuestionMark),
         },
         State::Marked => match byte {
@@ -149,6 +182,14 @@ fn goes_on(state: State, byte: u8) -> Step
             b'/' => Step::Goes(State::HalfComment),
             b'?' => Step::Goes(State::HalfMark),
             _ => Step::Wants(Wanted::Space),
+        },
+        State::Braced(from) => match byte {
+            b'}' => Step::Has(Item::Value(line, from, here - 1), State::Ended),
+            _ => Step::Goes(State::Braced(from)),
+        },
+        State::Worded(from) => match byte {
+            b' ' => Step::Has(Item::Value(line, from, here), State::Spaced),
+            _ => Step::Goes(State::Worded(from)),
         },
     }
 }
@@ -165,18 +206,19 @@ fn wanted_for(byte: u8) -> Wanted
     }
 }
 
-/// Returns what a character does.
+/// Returns what a character does in a line, with the number of characters from this one to the text's end.
 #[inline(always)]
-pub fn step(state: State, byte: u8) -> Step
-    requires { IsHalf state }
-    ensures does { result ≡ step state byte }
+pub fn step(line: usize, here: usize, state: State, byte: u8) -> Step
+    requires half { IsHalf state }
+    requires some { 1 ≤ here }
+    ensures does { result ≡ step line here state byte }
     ensures half { GoesToHalf result }
 {
     if byte == b'\n' {
-        line_end(state)
+        line_end(line, here, state)
     } else if is_control(byte) {
         Step::Wants(wanted_for(byte))
     } else {
-        goes_on(state, byte)
+        goes_on(line, here, state, byte)
     }
 }

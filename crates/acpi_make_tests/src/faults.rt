@@ -1,7 +1,8 @@
 //! Faults of texts, each with its line.
 
+use crate::forms::make_plain;
+use acpi_make::complete::Shape;
 use acpi_make::fault::{Fault, MakeError, Wanted};
-use acpi_make::make::make;
 use acpi_make::read::read_text;
 use acpi_vectors::equal;
 use std::alloc::Global;
@@ -11,7 +12,7 @@ use std::test::Fail;
 fn wants(alloc: Global, text: &[u8], line: usize, wanted: Wanted) -> Result<(), Fail> {
     match read_text(alloc, text) {
         Ok(_) => Err(Fail::new(format_args!("it is read"))),
-        Err(error) => equal(&error, &MakeError::Fault(Fault::Line(line, wanted))),
+        Err(error) => equal(&error, &MakeError::Fault(Fault { line, wanted })),
     }
 }
 
@@ -68,19 +69,25 @@ fn ends(rt: HostRuntime) -> Result<(), Fail> {
     wants(rt.alloc(), b"  4 A: 00 /", 1, Wanted::Slash)
 }
 
-// Bytes that nothing determines: the offset of the first. Only some of the length's bytes are left out, then bytes of a field that
-// isn't worked out, and then the only byte.
+// The line of the first byte that nothing determines. Only some of the length's bytes are left out, then bytes of a field that isn't
+// worked out, and then the only byte.
 #[test]
-fn unknown(rt: HostRuntime) -> Result<(), Fail> {
+fn left_out(rt: HostRuntime) -> Result<(), Fail> {
     let texts: [(&[u8], usize); 3] = [
-        (b"  0 A: \"APIC\" ???? 0000", 4),
-        (b"  0 A: \"APIC\" ???????? 01 ?? ??", 10),
-        (b"  0 A: ??", 0),
+        (b"  0 A: \"APIC\"\n  4 B: ???? 0000", 2),
+        (b"  0 A: \"APIC\" ???????? 01 ??\n\n  10 B: ??", 3),
+        (b"  0 A: ??", 1),
     ];
-    for (text, offset) in &texts {
-        match make(rt.alloc(), *text) {
+    for (text, line) in &texts {
+        match make_plain(rt.alloc(), Shape::Table, *text) {
             Ok(_) => return Err(Fail::new(format_args!("it is made"))),
-            Err(error) => equal(&error, &MakeError::Fault(Fault::Unknown(*offset)))?,
+            Err(error) => {
+                let fault = Fault {
+                    line: *line,
+                    wanted: Wanted::Bytes,
+                };
+                equal(&error, &MakeError::Fault(fault))?;
+            }
         }
     }
     Ok(())

@@ -4,6 +4,10 @@
 #[cfg(test)]
 mod faults;
 #[cfg(test)]
+mod forms;
+#[cfg(test)]
 mod made;
+#[cfg(test)]
+mod names;
 #[cfg(test)]
 mod values;

@@ -1,7 +1,9 @@
 //! Whole tables.
 
-use acpi_make::make::make;
-use acpi_text::form::TableForm;
+use crate::forms::{FORM, WALK, make_plain};
+use acpi_make::complete::Shape;
+use acpi_make::make::make_of;
+use acpi_make::read::read_text;
 use acpi_text::table::show_by;
 use acpi_vectors::same;
 use std::test::Fail;
@@ -27,30 +29,26 @@ const BYTES: &[u8] = b"TEST\x24\0\0\0\x01\x86FOOBARCAFEDEAD\x01\0\0\0RVAT\0\0\0\
 // The length and the checksum are worked out.
 #[test]
 fn worked_out(rt: HostRuntime) -> Result<(), Fail> {
-    let made = make(rt.alloc(), TEXT)?;
-    same(&made, BYTES)
+    let made = make_plain(rt.alloc(), Shape::Table, TEXT)?;
+    same(&made.bytes, BYTES)
 }
-
-// The form of bytes without names.
-const FORM: TableForm = TableForm {
-    name: "Test Table (TEST)",
-    parts: &[],
-    structures: &[],
-};
 
 // The text of a table is made into the table, also if its length and its checksum aren't true.
 #[test]
 fn shown(rt: HostRuntime) -> Result<(), Fail> {
-    let tables: [&[u8]; 4] = [
+    let tables: [&[u8]; 5] = [
         BYTES,
+        b"TEST\x48\0\0\0\x01\0FOOBARCAFEDEAD\x01\0\0\0RVAT\0\0\0\x01\x03\0\0\0\x2a\0\x07\x0e\x03\x80\x04\0\0\0\0\x01\x05\0\0\0\x08\x06\x06\0a:\x09\x04\0\0\x07\x09\0",
         b"",
         b"TEST\xff\xff\0\0\x01\x01FOOBARCAFEDEAD\x01\0\0\0RVAT\0\0\0\x01",
         b"\xff\0\xff",
     ];
     for table in &tables {
-        let text = show_by(rt.alloc(), &FORM, None, *table)?;
-        let made = make(rt.alloc(), text.as_bytes())?;
-        same(&made, *table)?;
+        let text = show_by(rt.alloc(), &FORM, Some(WALK), *table)?;
+        let text = text.as_bytes();
+        let items = read_text(rt.alloc(), text)?;
+        let made = make_of(rt.alloc(), FORM, Some(WALK), Shape::Table, text, &items)?;
+        same(&made.bytes, *table)?;
     }
     Ok(())
 }
@@ -60,7 +58,7 @@ fn shown(rt: HostRuntime) -> Result<(), Fail> {
 fn cut(rt: HostRuntime) -> Result<(), Fail> {
     let mut made = 0;
     for end in 0..TEXT.len() {
-        if make(rt.alloc(), &TEXT[..end]).is_ok() {
+        if make_plain(rt.alloc(), Shape::Table, &TEXT[..end]).is_ok() {
             made = end;
         }
     }

@@ -4,7 +4,7 @@ use crate::fault::Fault;
 use crate::trial::{Grows, Trial};
 use acpi_tables::facs::FACS;
 use acpi_tables::fadt::FADTBuilder;
-use acpi_tables::layout::{Image, check_image, lay};
+use acpi_tables::layout::{Image, check_image, lay, lay_reduced};
 use acpi_tables::mcfg::MCFG;
 use acpi_tables::sdt::Sdt;
 use acpi_tables::{Aml, R};
@@ -30,7 +30,19 @@ fn image(alloc: Global, block: &Sdt, table: &MCFG) -> R<Image> {
     )
 }
 
-/// An image, which borrows the definition block and the tables, and the list of its tables.
+fn reduced_image(alloc: Global, block: &Sdt, table: &MCFG) -> R<Image> {
+    lay_reduced(
+        0x1000,
+        OEM,
+        OEM_TABLE,
+        OEM_REVISION,
+        block,
+        FADTBuilder::new(OEM, OEM_TABLE, OEM_REVISION),
+        vec![in alloc; table as &dyn Aml]?,
+    )
+}
+
+/// An image, which borrows the definition block and the tables, and the list of its tables. And an image without a FACS.
 pub fn images(trial: &mut Trial, alloc: Global) -> Result<(), Fault> {
     let block = trial.make(&0x1000u16, || Ok(Sdt::empty(alloc)?))?;
     let table = trial.make(&block, || Ok(mcfg(alloc)?))?;
@@ -40,5 +52,7 @@ pub fn images(trial: &mut Trial, alloc: Global) -> Result<(), Fault> {
         let check = || Ok(check_image(alloc, &image.bytes, 0x1000, image.rsdp)?);
         trial.make(lent, check)?;
     }
+    let reduced = trial.make(&table, || { Ok(reduced_image(alloc, &block, &table)?) })?;
+    trial.count(&reduced.bytes);
     Ok(())
 }

@@ -4,4 +4,6 @@ mod additions;
 mod affinity;
 mod cxl;
 mod entries;
+mod interrupts;
 mod madt;
+mod processors;

@@ -7,8 +7,9 @@ use acpi_tables::cedt::{
 use acpi_tables::fadt::{Flags, PmProfile};
 use acpi_tables::gas::{AccessSize, AddressSpace};
 use acpi_tables::hest::{EnabledStatus, ErrorSeverity, FirmwareFirst, NotificationType};
-use acpi_tables::madt::{self, GicVersion, HartStatus};
+use acpi_tables::madt::{self, GicVersion, HartStatus, Polarity, TriggerMode};
 use acpi_tables::rqsc::{ControllerType, ResourceType};
+use acpi_tables::spcr::{BaudRate, FlowControl, InterfaceType, InterruptController, TerminalType};
 use acpi_tables::tpm2::{PlatformClass, StartMethod};
 use acpi_vectors::equal;
 use std::test::Fail;
@@ -66,6 +67,52 @@ fn fixed() -> Result<(), Fail> {
 }
 
 #[test]
+fn ports() -> Result<(), Fail> {
+    for (number, wanted) in [
+        (InterfaceType::Uart16550 as u32, 0),
+        (InterfaceType::Uart16550Subset as u32, 1),
+        (InterfaceType::Max311xe as u32, 2),
+        (InterfaceType::ArmPl011 as u32, 3),
+        (InterfaceType::Msm8x60 as u32, 4),
+        (InterfaceType::Nvidia16550 as u32, 5),
+        (InterfaceType::TiOmap as u32, 6),
+        (InterfaceType::Apm88xxxx as u32, 8),
+        (InterfaceType::Msm8974 as u32, 9),
+        (InterfaceType::Sam5250 as u32, 10),
+        (InterfaceType::IntelUsif as u32, 11),
+        (InterfaceType::Imx6 as u32, 12),
+        (InterfaceType::ArmSbsa32Bit as u32, 13),
+        (InterfaceType::ArmSbsa as u32, 14),
+        (InterfaceType::ArmDcc as u32, 15),
+        (InterfaceType::Bcm2835 as u32, 16),
+        (InterfaceType::Sdm845Slow as u32, 17),
+        (InterfaceType::Uart16550WithGas as u32, 18),
+        (InterfaceType::Sdm845Fast as u32, 19),
+        (InterfaceType::IntelLpss as u32, 20),
+        (InterfaceType::RiscvSbi as u32, 21),
+        (InterruptController::IoApic as u32, 2),
+        (InterruptController::IoSapic as u32, 4),
+        (InterruptController::ArmGic as u32, 8),
+        (InterruptController::RiscvPlic as u32, 16),
+        (BaudRate::AsIs as u32, 0),
+        (BaudRate::Baud9600 as u32, 3),
+        (BaudRate::Baud19200 as u32, 4),
+        (BaudRate::Baud57600 as u32, 6),
+        (BaudRate::Baud115200 as u32, 7),
+        (FlowControl::Dcd as u32, 1),
+        (FlowControl::RtsCts as u32, 2),
+        (FlowControl::XonXoff as u32, 4),
+        (TerminalType::Vt100 as u32, 0),
+        (TerminalType::ExtendedVt100 as u32, 1),
+        (TerminalType::VtUtf8 as u32, 2),
+        (TerminalType::Ansi as u32, 3),
+    ] {
+        equal(&number, &wanted)?;
+    }
+    Ok(())
+}
+
+#[test]
 fn sources() -> Result<(), Fail> {
     for (number, wanted) in [
         (FirmwareFirst::Disabled as u32, 0),
@@ -108,6 +155,12 @@ fn lists() -> Result<(), Fail> {
         (madt::EnabledStatus::Disabled as u32, 0),
         (madt::EnabledStatus::Enabled as u32, 1),
         (madt::EnabledStatus::DisabledOnlineCapable as u32, 2),
+        (Polarity::OfBus as u32, 0),
+        (Polarity::ActiveHigh as u32, 1),
+        (Polarity::ActiveLow as u32, 3),
+        (TriggerMode::OfBus as u32, 0),
+        (TriggerMode::Edge as u32, 1),
+        (TriggerMode::Level as u32, 3),
         (HartStatus::Disabled as u32, 0),
         (HartStatus::Enabled as u32, 1),
         (HartStatus::OnlineCapable as u32, 2),

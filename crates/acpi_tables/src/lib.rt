@@ -225,7 +225,7 @@ pub mod hmat {
 pub mod layout {
     pub use acpi_layout::check::check_image;
     pub use acpi_layout::fault::ImageFault;
-    pub use acpi_layout::layout::{Image, lay};
+    pub use acpi_layout::layout::{Image, lay, lay_reduced};
     pub use acpi_layout::located::Located;
 }
 
@@ -234,7 +234,9 @@ pub mod layout {
 pub mod madt {
     pub use acpi_lists::madt::{
         APLIC, EnabledStatus, GicIts, GicMsi, GicVersion, Gicc, Gicd, Gicr, HartStatus, IMSIC,
-        IoApic, LocalInterruptController, MADT, PLIC, ProcessorLocalApic, RINTC, Trigger,
+        InterruptSourceOverride, IoApic, LocalApicAddressOverride, LocalApicNmi,
+        LocalInterruptController, LocalX2ApicNmi, MADT, NmiSource, PLIC, Polarity,
+        ProcessorLocalApic, ProcessorLocalX2Apic, RINTC, Trigger, TriggerMode,
     };
 }
 
@@ -295,12 +297,17 @@ pub mod slit {
 
 /// The Serial Port Console Redirection table (Microsoft).
 pub mod spcr {
-    pub use acpi_fixed::spcr::SPCR;
+    pub use acpi_fixed::spcr::{
+        BaudRate, FlowControl, InterfaceType, InterruptController, SPCR, TerminalType,
+    };
 }
 
 /// The System Resource Affinity Table and its structures (ACPI 6.5, 5.2.16).
 pub mod srat {
-    pub use acpi_lists::srat::{GenericInitiator, Handle, MemoryAffinity, RintcAffinity, SRAT};
+    pub use acpi_lists::srat::{
+        GenericInitiator, GicItsAffinity, GiccAffinity, Handle, MemoryAffinity,
+        ProcessorLocalApicAffinity, ProcessorLocalX2ApicAffinity, RintcAffinity, SRAT,
+    };
 }
 
 /// The texts of tables, with a line for each field, and of definition blocks.

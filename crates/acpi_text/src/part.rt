@@ -35,8 +35,8 @@ fn count_of(count: Count, whole: &[u8]) -> usize
     }
 }
 
-// Returns the rows from one index on and before another, as far as there are rows.
-fn between(rows: &[Row], from: usize, to: usize) -> &[Row]
+/// Returns the rows from one index on and before another, as far as there are rows.
+pub fn between(rows: &[Row], from: usize, to: usize) -> &[Row]
     ensures { result.now ≡ slice_range rows.now from to }
 {
     let end = if to < rows.len() { to } else { rows.len() };

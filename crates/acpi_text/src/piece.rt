@@ -14,8 +14,8 @@ use acpi_base::walk::{Place, Sizes};
 use itoa::Buffer;
 use std::alloc::AllocError;
 
-// Returns the form with a number.
-fn find_form(number: usize, forms: &[StructureForm]) -> Option<StructureForm>
+/// Returns the form with a number.
+pub fn find_form(number: usize, forms: &[StructureForm]) -> Option<StructureForm>
     ensures { result ≡ find_form number forms.now }
 {
     for form in forms {
@@ -26,7 +26,8 @@ fn find_form(number: usize, forms: &[StructureForm]) -> Option<StructureForm>
     None
 }
 
-fn parts_of(form: Option<StructureForm>) -> &'static [Part]
+/// Returns the parts of a form, or none without a form.
+pub fn parts_of(form: Option<StructureForm>) -> &'static [Part]
     ensures { result.now ≡ form_parts form }
 {
     match form {
@@ -35,7 +36,8 @@ fn parts_of(form: Option<StructureForm>) -> &'static [Part]
     }
 }
 
-fn inner_of(form: Option<StructureForm>) -> &'static Inner
+/// Returns what a form contains after its parts.
+pub fn inner_of(form: Option<StructureForm>) -> &'static Inner
     ensures { result.now ≡ form_inner form }
 {
     match form {

@@ -13,9 +13,9 @@ const COLUMN: usize = 40;
 // As many spaces as there are before the column, and the colon.
 const SPACES: &str = "                                        :";
 
-// Adds two spaces for each level.
+/// Adds two spaces for each level.
 #[inline(always)]
-fn push_level(depth: u8, text: &mut String) -> Result<(), AllocError>
+pub fn push_level(depth: u8, text: &mut String) -> Result<(), AllocError>
     ensures { OnOk result (string_bytes text.new ≡ string_bytes text.old ++ spaces (2 * depth)) }
 {
     let mut left = depth;

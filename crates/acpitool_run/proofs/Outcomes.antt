@@ -6,15 +6,18 @@ use Rattle.acpiread_run.specs.Fault.{line_of}
 use Rattle.acpiread_run.specs.declared.fault.Fault.{Fault}
 use Rattle.acpi_dump.specs.Dump.{is_dump, tables_of}
 use Rattle.acpi_dump.specs.declared.fault.DumpFault.{DumpFault}
+use Rattle.acpitool_run.specs.Making.{IsWritten, MakesOrNot}
 use Rattle.acpitool_run.specs.Outcome.{Outcome, shown, refused, broken, unread, output, complaint, status, outputs, complaints, worst}
+use Rattle.acpitool_run.specs.Making.{IsWritten, MakesOrNot}
 use Rattle.acpitool_run.specs.Outcome.{IsHeading, AreTrueOutcomes, AreNamed, HaveBytes, IsOfFile}
+use Rattle.acpitool_run.specs.Making.{IsWritten, MakesOrNot}
 use Rattle.acpitool_run.specs.Outcome.{Printed, PrintedTables, PrintedFile, PrintedUnread}
 use Rattle.acpitool_run.specs.Program.{Ended, IsDone, IsShown, IsMisstatedAs, wrong_text}
 use Rattle.acpitool_run.specs.declared.command.Wrong.{Wrong}
 use Rattle.acpitool_run.specs.Terms.{IsAfter}
 use Rattle.acpitool_run.specs.Text.{IsText, IsTextFault}
 use Rattle.acpitool_run.specs.declared.command.Command.{Command}
-use Rattle.acpitool_run.specs.declared.command.Command.TheVariants.{Help, Version, Show, Image}
+use Rattle.acpitool_run.specs.declared.command.Command.TheVariants.{Help, Version, Show, Image, Make, Template}
 
 -- ---- bytes of writers
 
@@ -211,6 +214,15 @@ not_stated numbers wrong o e e' s said misstated = inr (record {
   silent = keeps_self o;
 })
 
+written_small : (file : List ℕ) (e e' : Option (List ℕ)) (s : ℕ) → IsWritten file e e' s → s ≤ 2
+written_small file e e' s (inl done) = let is = done.0 in omega (arith, is)
+written_small file e e' s (inr lost) = let is = lost.0 in omega (arith, is)
+
+made_small : (name file : List ℕ) (e e' : Option (List ℕ)) (s : ℕ) → MakesOrNot name file e e' s → s ≤ 2
+made_small name file e e' s (inl (inl made)) = written_small file made.between e' s made.wrote
+made_small name file e e' s (inl (inr none)) = let is = none.is in omega (arith, is)
+made_small name file e e' s (inr lost) = let is = lost.is in omega (arith, is)
+
 done_small : (o o' e e' : Option (List ℕ)) (s : ℕ) (command : Command) → IsDone command o o' e e' s → s ≤ 2
 done_small o o' e e' s Help done = let is = done.1 in omega (arith, is)
 done_small o o' e e' s Version done = let is = done.1 in omega (arith, is)
@@ -219,6 +231,8 @@ done_small o o' e e' s (Show files numbers) (inr wrong) = let is = wrong.is in o
 done_small o o' e e' s (Image file base) (inl tables) = let is = tables.is in omega (arith, is)
 done_small o o' e e' s (Image file base) (inr (inl none)) = let is = none.is in omega (arith, is)
 done_small o o' e e' s (Image file base) (inr (inr lost)) = let is = lost.is in omega (arith, is)
+done_small o o' e e' s (Template signature) done = let is = done.1 in omega (arith, is)
+done_small o o' e e' s (Make text file) done = made_small text.now file.now e e' s done.0
 
 -- a run's status is at most 2
 pub ended_small : (words : List (List ℕ)) (o o' e e' : Option (List ℕ)) (s : ℕ) → Ended words o o' e e' s → s ≤ 2

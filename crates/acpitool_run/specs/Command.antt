@@ -6,11 +6,12 @@ use Rattle.std.specs.List.{starts_with}
 use Rattle.std.specs.Str.Parse.{IsNumeral, digits_value, without_leading_plus}
 use Rattle.acpiread_run.specs.Command.{stated_by, stated}
 use Rattle.acpitool_run.specs.declared.command.Command.{Command}
-use Rattle.acpitool_run.specs.declared.command.Command.TheVariants.{Help, Version, Show, Image}
+use Rattle.acpitool_run.specs.declared.command.Command.TheVariants.{Help, Version, Show, Image, Make, Template}
 use Rattle.acpitool_run.specs.declared.command.Misstated.{Misstated}
 use Rattle.acpitool_run.specs.declared.command.Misstated.TheVariants as misstated
 use Rattle.acpitool_run.specs.declared.command.Wrong.{Wrong}
-use Rattle.acpitool_run.specs.declared.command.Wrong.TheVariants.{NoCommand, Unknown, NoFile, NoImage, Base, Number, Twice}
+use Rattle.acpitool_run.specs.declared.command.Wrong.TheVariants.{NoCommand, Unknown, NoFile, NoImage, NoText, NoTable, Base, Number, Twice}
+use Rattle.acpitool_run.specs.declared.command.Wrong.TheVariants.{NoSignature, Signature}
 
 -- whether a word is an option: a dash and more
 abbrev pub is_option : List ℕ → Bool
@@ -20,16 +21,16 @@ abbrev pub first_option : List (List ℕ) → Option (List ℕ)
 first_option [] = None
 first_option (word ∷ words) = if is_option word then Some word else first_option words
 
--- the words of these that take files
-abbrev pub TakesFiles : List ℕ → Type 0
-TakesFiles word = (word ≡ codes "show") ⊎ (word ≡ codes "image")
+-- the words after which there are others
+abbrev pub TakesWords : List ℕ → Type 0
+TakesWords word = (word ≡ codes "show") ⊎ (word ≡ codes "image") ⊎ (word ≡ codes "make") ⊎ (word ≡ codes "template")
 
--- words after `show` or `image` that ask for how the program is used
+-- words after one of these that ask for how the program is used
 pub record AsksForHelp (words : List (List ℕ)) : Type 0 where
   pub word : List ℕ
   pub files : List (List ℕ)
   pub is : words ≡ word ∷ files
-  pub takes : TakesFiles word
+  pub takes : TakesWords word
   pub asks : first_option files ≡ Some (codes "--help")
 
 -- ---- numbers of arguments
@@ -92,6 +93,8 @@ Asks words (Show files numbers) =
     × (length files.now ≡ files_in more)
     × (1 ≤ files_in more)
 Asks words (Image file base) = AsksForImage words file.now base
+Asks words (Template signature) = (words ≡ codes "template" ∷ signature.now ∷ []) × (length signature.now ≡ 4)
+Asks words (Make text file) = words ≡ codes "make" ∷ text.now ∷ file.now ∷ []
 
 -- the first word is no command
 pub record IsNoCommand (words : List (List ℕ)) (word : List ℕ) : Type 0 where
@@ -101,22 +104,32 @@ pub record IsNoCommand (words : List (List ℕ)) (word : List ℕ) : Type 0 wher
   pub no_version : word ≢ codes "--version"
   pub no_show : word ≢ codes "show"
   pub no_image : word ≢ codes "image"
+  pub no_make : word ≢ codes "make"
+  pub no_template : word ≢ codes "template"
 
--- a word after `show` or `image` is an option that there isn't
+-- a word after a command is an option that there isn't
 pub record IsNoOption (words : List (List ℕ)) (word : List ℕ) : Type 0 where
   pub command : List ℕ
   pub files : List (List ℕ)
   pub is : words ≡ command ∷ files
-  pub takes : TakesFiles command
+  pub takes : TakesWords command
   pub first : first_option files ≡ Some word
   pub no_help : word ≢ codes "--help"
 
--- a word after `image FILE BASE`
-pub record IsExtra (words : List (List ℕ)) (word : List ℕ) : Type 0 where
-  pub file : List ℕ
-  pub base : List ℕ
+-- a word after `template SIGNATURE`
+pub record IsAfterSignature (words : List (List ℕ)) (word : List ℕ) : Type 0 where
+  pub signature : List ℕ
   pub more : List (List ℕ)
-  pub is : words ≡ codes "image" ∷ file ∷ base ∷ word ∷ more
+  pub is : words ≡ codes "template" ∷ signature ∷ word ∷ more
+
+-- a word after `image FILE BASE` or `make TEXT FILE`
+pub record IsExtra (words : List (List ℕ)) (word : List ℕ) : Type 0 where
+  pub command : List ℕ
+  pub first : List ℕ
+  pub second : List ℕ
+  pub more : List (List ℕ)
+  pub is : words ≡ command ∷ first ∷ second ∷ word ∷ more
+  pub takes : (command ≡ codes "image") ⊎ (command ≡ codes "make")
 
 -- the word in the place of BASE isn't an address
 pub record IsNoBase (words : List (List ℕ)) (word : List ℕ) : Type 0 where
@@ -127,10 +140,15 @@ pub record IsNoBase (words : List (List ℕ)) (word : List ℕ) : Type 0 where
 -- why words ask for nothing
 abbrev pub IsWrong : List (List ℕ) → Wrong → Type 0
 IsWrong words NoCommand = words ≡ []
-IsWrong words (Unknown word) = IsNoCommand words word.now ⊎ IsNoOption words word.now ⊎ IsExtra words word.now
+IsWrong words (Unknown word) =
+    IsNoCommand words word.now ⊎ IsNoOption words word.now ⊎ IsExtra words word.now ⊎ IsAfterSignature words word.now
 IsWrong words NoFile =
     (more : List (List ℕ)) × (words ≡ codes "show" ∷ more) × (first_option more ≡ None) × (files_in more ≡ 0)
 IsWrong words NoImage = words ≡ codes "image" ∷ []
+IsWrong words NoSignature = words ≡ codes "template" ∷ []
+IsWrong words (Signature word) = (words ≡ codes "template" ∷ word.now ∷ []) × (length word.now ≢ 4)
+IsWrong words NoText = words ≡ codes "make" ∷ []
+IsWrong words NoTable = (more : List (List ℕ)) × (words ≡ codes "make" ∷ more) × (length more ≡ 1)
 IsWrong words (Base word) = IsNoBase words word.now
 IsWrong words (Number word) = ⊥
 IsWrong words Twice = ⊥

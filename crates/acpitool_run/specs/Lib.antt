@@ -4,5 +4,6 @@ pub mod Terms
 pub mod Command
 pub mod Image
 pub mod Listing
+pub mod Making
 pub mod Outcome
 pub mod Program

@@ -1,15 +1,18 @@
 -- What a run of the program prints.
 use Rattle.std.specs.Prelude.{◌≡◌, ◌⊎◌, ℕ, List, ◌++◌, Option, Some, codes, map, string_bytes}
 use Rattle.std.specs.Io.KnownBytes.{Keeps, Appends}
+use Rattle.acpi_forms.specs.Makes.{IsTemplateOf}
 use Rattle.acpiread_run.specs.Command.{stated}
 use Rattle.acpitool_run.specs.Command.{Asks, IsWrong, IsMisstated}
 use Rattle.acpitool_run.specs.Listing.{Listed}
+use Rattle.acpitool_run.specs.Making.{Makes}
 use Rattle.acpitool_run.specs.Outcome.{PrintedAny}
 use Rattle.acpitool_run.specs.declared.command.Command.{Command}
-use Rattle.acpitool_run.specs.declared.command.Command.TheVariants.{Help, Version, Show, Image}
+use Rattle.acpitool_run.specs.declared.command.Command.TheVariants.{Help, Version, Show, Image, Make, Template}
 use Rattle.acpitool_run.specs.declared.command.Misstated.TheVariants as misstated
 use Rattle.acpitool_run.specs.declared.command.Wrong.{Wrong}
-use Rattle.acpitool_run.specs.declared.command.Wrong.TheVariants.{NoCommand, Unknown, NoFile, NoImage, Base, Number, Twice}
+use Rattle.acpitool_run.specs.declared.command.Wrong.TheVariants.{NoCommand, Unknown, NoFile, NoImage, NoText, NoTable, Base, Number, Twice}
+use Rattle.acpitool_run.specs.declared.command.Wrong.TheVariants.{NoSignature, Signature}
 
 -- which word is wrong, and how the program is used
 abbrev pub wrong_line : Wrong → List ℕ
@@ -17,12 +20,16 @@ wrong_line NoCommand = codes "acpitool: no command\n"
 wrong_line (Unknown word) = codes "acpitool: unknown word " ++ word.now ++ codes "\n"
 wrong_line NoFile = codes "acpitool: no file to show\n"
 wrong_line NoImage = codes "acpitool: no file with an image\n"
+wrong_line NoText = codes "acpitool: no text to make\n"
+wrong_line NoTable = codes "acpitool: no file for the table\n"
+wrong_line NoSignature = codes "acpitool: no signature\n"
+wrong_line (Signature word) = codes "acpitool: not a signature of four characters: " ++ word.now ++ codes "\n"
 wrong_line (Base word) = codes "acpitool: not an address in hexadecimal: " ++ word.now ++ codes "\n"
 wrong_line (Number word) = codes "acpitool: not NAME=N with N from 0 to 7: " ++ word.now ++ codes "\n"
 wrong_line Twice = codes "acpitool: two numbers of arguments for one name\n"
 
 abbrev pub wrong_text : Wrong → List ℕ
-wrong_text wrong = wrong_line wrong ++ codes "usage: acpitool show FILE .. [NAME=N ..] | image FILE [BASE] | --help | --version\n"
+wrong_text wrong = wrong_line wrong ++ codes "usage: acpitool show FILE .. [NAME=N ..] | image FILE [BASE] | make TEXT FILE | template SIGNATURE | --help | --version\n"
 
 -- ---- show
 
@@ -58,6 +65,9 @@ IsDone Version out out' err err' status = (text : List ℕ) × (status ≡ 0) ×
 IsDone (Show files numbers) out out' err err' status =
     IsShown (map (λ word. string_bytes word) numbers.now) out out' err err' status
 IsDone (Image file base) out out' err err' status = Listed file.now base out out' err err' status
+IsDone (Template signature) out out' err err' status =
+    (text : List ℕ) × (status ≡ 0) × Appends out out' text × Keeps err err' × IsTemplateOf signature.now text
+IsDone (Make text file) out out' err err' status = Makes text.now file.now out out' err err' status
 
 -- a command that the words ask for was done
 pub record Done (words : List (List ℕ)) (out out' err err' : Option (List ℕ)) (status : ℕ) : Type 0 where

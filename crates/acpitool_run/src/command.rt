@@ -24,6 +24,10 @@ pub enum Command<'a> {
     Show(&'a [String], &'a [String]),
     /// `image FILE [BASE]`: the tables of an image in a file, which begins at the physical address BASE in hexadecimal, or at 0.
     Image(&'a str, u64),
+    /// `make TEXT FILE`: the table of a text, which goes to a file.
+    Make(&'a str, &'a str),
+    /// `template SIGNATURE`: a text of a table of the signature, for a start.
+    Template(&'a str),
 }
 
 /// Why words ask for nothing.
@@ -37,6 +41,14 @@ pub enum Wrong<'a> {
     NoFile,
     /// `image` has no file.
     NoImage,
+    /// `make` has no text.
+    NoText,
+    /// `make` has no file for the table.
+    NoTable,
+    /// `template` has no signature.
+    NoSignature,
+    /// The word isn't a signature of four bytes.
+    Signature(&'a str),
     /// The word isn't an address in hexadecimal.
     Base(&'a str),
     /// The word isn't NAME=N with a digit from 0 to 7.
@@ -226,6 +238,62 @@ fn image(words: &[String]) -> Result<Command<'_>, Wrong<'_>>
     }
 }
 
+// Returns what `make` and these words, which aren't options, ask for.
+fn make_of(words: &[String]) -> Result<Command<'_>, Wrong<'_>>
+    ensures { (all : List (List ℕ)) → all ≡ codes "make" ∷ map (λ word. string_bytes word) words.now
+        → MatchResult result (Asks all) (IsWrong all) }
+{
+    match words {
+        [] => Err(Wrong::NoText),
+        [_] => Err(Wrong::NoTable),
+        [text, file] => Ok(Command::Make(text.as_str(), file.as_str())),
+        [_, _, extra, ..] => Err(Wrong::Unknown(extra.as_str())),
+    }
+}
+
+// Returns what `make` and these words ask for.
+fn make(words: &[String]) -> Result<Command<'_>, Wrong<'_>>
+    ensures { (all : List (List ℕ)) → all ≡ codes "make" ∷ map (λ word. string_bytes word) words.now
+        → MatchResult result (Asks all) (IsWrong all) }
+{
+    match first_option(words) {
+        Some("--help") => Ok(Command::Help),
+        Some(word) => Err(Wrong::Unknown(word)),
+        None => make_of(words),
+    }
+}
+
+// Returns what `template` and these words, which aren't options, ask for.
+fn template_of(words: &[String]) -> Result<Command<'_>, Wrong<'_>>
+    ensures { (all : List (List ℕ)) → all ≡ codes "template" ∷ map (λ word. string_bytes word) words.now
+        → MatchResult result (Asks all) (IsWrong all) }
+{
+    match words {
+        [] => Err(Wrong::NoSignature),
+        [signature] => {
+            let word = signature.as_str();
+            if word.len() == 4 {
+                Ok(Command::Template(word))
+            } else {
+                Err(Wrong::Signature(word))
+            }
+        }
+        [_, extra, ..] => Err(Wrong::Unknown(extra.as_str())),
+    }
+}
+
+// Returns what `template` and these words ask for.
+fn template(words: &[String]) -> Result<Command<'_>, Wrong<'_>>
+    ensures { (all : List (List ℕ)) → all ≡ codes "template" ∷ map (λ word. string_bytes word) words.now
+        → MatchResult result (Asks all) (IsWrong all) }
+{
+    match first_option(words) {
+        Some("--help") => Ok(Command::Help),
+        Some(word) => Err(Wrong::Unknown(word)),
+        None => template_of(words),
+    }
+}
+
 /// Returns the command that words ask for, without the program's name, or which word is wrong.
 pub fn parse(words: &[String]) -> Result<Command<'_>, Wrong<'_>>
     ensures { MatchResult result (Asks (map (λ word. string_bytes word) words.now))
@@ -239,6 +307,8 @@ pub fn parse(words: &[String]) -> Result<Command<'_>, Wrong<'_>>
         "--version" => Ok(Command::Version),
         "show" => show(rest),
         "image" => image(rest),
+        "make" => make(rest),
+        "template" => template(rest),
         word => Err(Wrong::Unknown(word)),
     }
 }

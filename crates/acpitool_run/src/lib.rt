@@ -4,6 +4,7 @@
 pub mod check;
 pub mod command;
 pub mod image;
+pub mod making;
 pub mod outcome;
 pub mod program;
 pub mod terms;

@@ -1,14 +1,18 @@
 //! A run of the program.
 
-ghost use Rattle.std.specs.Prelude.{◌≡◌, ◌≤◌, ℕ, List, [], ◌∷◌, ◌++◌, map, codes, string_bytes, IfOk, IfErr, OnOk};
+ghost use Rattle.std.specs.Prelude.{◌≡◌, ◌≤◌, ℕ, List, [], ◌∷◌, ◌++◌, length, map, codes, string_bytes, IfOk, IfErr, OnOk};
 ghost use Rattle.std.specs.Io.KnownBytes.{Appends};
+ghost use Rattle.acpi_forms.specs.Makes.{IsTemplateOf};
 ghost use Rattle.acpitool_run.specs.Listing.{Listed};
+ghost use Rattle.acpitool_run.specs.Making.{IsWritten, MakesFile, MakesOrNot};
 ghost use Rattle.acpitool_run.specs.Outcome.{PrintedFile, PrintedUnread, PrintedAny};
 ghost use Rattle.acpitool_run.specs.Program.{wrong_line, wrong_text, IsShown, Ended};
 
 use crate::command::{Command, Misstated, Wrong, numbers, parse};
 use crate::image::{NoImage, find_tables, print_tables, why};
+use crate::making::make_text;
 use crate::outcome::{print_unread, show_content, tell_unread, worst_of};
+use acpi_forms::make::template;
 use acpi_term::name_string::Arities;
 use acpiread_run::input::read_terms;
 use std::alloc::{AllocError, Global};
@@ -19,6 +23,8 @@ use std::{env, fs, io};
 const HELP: &str = "\
 usage: acpitool show FILE .. [NAME=N ..]
        acpitool image FILE [BASE]
+       acpitool make TEXT FILE
+       acpitool template SIGNATURE
        acpitool --help | --version
 
 show prints each table field by field: the offset, the name and the value of each field, and what the value
@@ -31,8 +37,14 @@ image finds the RSDP in a file with the bytes of a guest's memory, follows it to
 It prints the address, signature, length and revision of each. BASE is the address of the first byte in
 hexadecimal; it is 0 if there is none.
 
-The status is 0 if everything is shown, 1 if something isn't a table or an image or output can't be written,
-and 2 if a file can't be read or the words are wrong.
+make reads a text that show prints, changed or written by hand, and writes the bytes of its table to FILE.
+Question marks are worked out: the length, the checksum, and how long, how many and of which type structures
+are. Other numbers are written as they are, and a line says which would be right.
+
+template prints such a text of a table: all fields with zeros, and one structure of each kind.
+
+The status is 0 if everything is shown or written, 1 if something isn't a table, an image or a text of a table,
+or output can't be written, and 2 if a file can't be read or the words are wrong.
 ";
 
 const VERSION: &str = "acpitool 0.1.0\n";
@@ -53,6 +65,12 @@ fn print_wrong<E: Write>(wrong: &Wrong<'_>, err: &mut E) -> io::Result<()>
         Wrong::NoCommand => err.write_all(b"acpitool: no command\n"),
         Wrong::NoFile => err.write_all(b"acpitool: no file to show\n"),
         Wrong::NoImage => err.write_all(b"acpitool: no file with an image\n"),
+        Wrong::NoText => err.write_all(b"acpitool: no text to make\n"),
+        Wrong::NoSignature => err.write_all(b"acpitool: no signature\n"),
+        Wrong::Signature(word) => {
+            writeln!(err, "acpitool: not a signature of four characters: {word}")
+        }
+        Wrong::NoTable => err.write_all(b"acpitool: no file for the table\n"),
         Wrong::Base(word) => writeln!(err, "acpitool: not an address in hexadecimal: {word}"),
         Wrong::Unknown(word) => writeln!(err, "acpitool: unknown word {word}"),
         Wrong::Number(word) => writeln!(err, "acpitool: not NAME=N with N from 0 to 7: {word}"),
@@ -67,7 +85,7 @@ fn tell_wrong<E: Write>(wrong: &Wrong<'_>, err: &mut E) -> io::Result<u8>
 {
     print_wrong(wrong, err)?;
     err.write_all(
-        b"usage: acpitool show FILE .. [NAME=N ..] | image FILE [BASE] | --help | --version\n",
+        b"usage: acpitool show FILE .. [NAME=N ..] | image FILE [BASE] | make TEXT FILE | template SIGNATURE | --help | --version\n",
     )?;
     Ok(2)
 }
@@ -320,10 +338,96 @@ fn list_file<R: Files, O: Write, E: Write>(
     }
 }
 
+// Writes bytes to a file: to another one beside it, which then takes its name, so that a file that is there stays whole.
+fn write_file<R: Files>(rt: &R, alloc: Global, file: &str, bytes: &[u8]) -> io::Result<()> {
+    let part = format!(in alloc; "{file}.part")?;
+    let written = fs::write(rt, part.as_str(), bytes);
+    let moved = match written {
+        Ok(()) => fs::rename(rt, part.as_str(), file),
+        Err(error) => Err(error),
+    };
+    if moved.is_err() {
+        let _removed = fs::remove_file(rt, part.as_str());
+    }
+    moved
+}
+
+// Prints why the table of a text can't be written, and returns 1, or returns 0 if it was written.
+fn tell_written<E: Write>(
+    alloc: Global,
+    file: &str,
+    written: io::Result<()>,
+    err: &mut E,
+) -> io::Result<u8>
+    ensures { IfOk result (λ status. IsWritten file.now (E.contents err.old) (E.contents err.new) status) }
+{
+    match written {
+        Ok(()) => Ok(0),
+        Err(error) => {
+            let why = format!(in alloc; "{error}")?;
+            print_unread(file, why.as_str(), err)?;
+            Ok(1)
+        }
+    }
+}
+
+// Makes a text into a table, and writes it to a file.
+fn make_bytes<R: Files, E: Write>(
+    rt: &R,
+    alloc: Global,
+    name: &str,
+    text: &[u8],
+    file: &str,
+    err: &mut E,
+) -> io::Result<u8>
+    ensures { IfOk result (λ status. MakesFile name.now file.now (E.contents err.old) (E.contents err.new) status) }
+{
+    match make_text(alloc, name, text, err)? {
+        Some(bytes) => {
+            let written = write_file(rt, alloc, file, &bytes);
+            tell_written(alloc, file, written, err)
+        }
+        None => Ok(1),
+    }
+}
+
+// Makes the text in a file, or on standard input, into a table, and writes it to another file.
+fn make_file<R: Files + Input, E: Write>(
+    rt: &R,
+    alloc: Global,
+    name: &str,
+    file: &str,
+    err: &mut E,
+) -> io::Result<u8>
+    ensures { IfOk result (λ status. MakesOrNot name.now file.now (E.contents err.old) (E.contents err.new) status) }
+{
+    let read = if name == "-" {
+        read_terms(alloc, rt.reader())
+    } else {
+        read_file(rt, alloc, name)
+    };
+    match read {
+        Ok(text) => make_bytes(rt, alloc, name, &text, file, err),
+        Err(error) => tell_unread_image(alloc, name, &error, err),
+    }
+}
+
+// Prints a template of a signature of four bytes, and returns 0.
+fn print_template<O: Write>(alloc: Global, signature: &str, out: &mut O) -> io::Result<u8>
+    requires { length signature.now ≡ 4 }
+    ensures { IfOk result (λ status. (text : List ℕ) × (status ≡ 0)
+        × Appends (O.contents out.old) (O.contents out.new) text × IsTemplateOf signature.now text) }
+{
+    let text = template(alloc, signature)?.unwrap();
+    out.write_all(text.as_bytes())?;
+    Ok(0)
+}
+
 /// Runs the program on the words after its name, and returns its exit status:
 ///
-/// - 0: everything that was asked for went to `out`, and nothing to `err`;
-/// - 1: something that was read isn't a table, an RSDP, a FACS or an image; `err` has a line for each;
+/// - 0: everything that was asked for went to `out` or to a file, and nothing to `err` but notes on numbers of a text;
+/// - 1: something that was read isn't a table, an RSDP, a FACS, an image or a text of a table, or a table can't be written; `err`
+///   has a line for each;
 /// - 2: a file can't be read, or words are wrong; `err` has a line for each file, or which word is wrong and the usage.
 ///
 /// What can be shown is shown, whatever the status is. An error is one of `out` or `err`, or memory ran out.
@@ -342,6 +446,8 @@ pub fn run<R: Files + Input + AllocGlobal + Clone + Drop, O: Write, E: Write>(
         Ok(Command::Version) => print(VERSION, out),
         Ok(Command::Show(files, words)) => show_all(rt, alloc, files, words, out, err),
         Ok(Command::Image(file, base)) => list_file(rt, alloc, file, base, out, err),
+        Ok(Command::Template(signature)) => print_template(alloc, signature, out),
+        Ok(Command::Make(text, file)) => make_file(rt, alloc, text, file, err),
         Err(wrong) => tell_wrong(&wrong, err),
     }
 }

@@ -2,5 +2,5 @@ use Rattle.std.proofs.Common.{◌≡◌, drop}
 use Rattle.acpi_make.specs.Complete.{all_filled}
 use Rattle.acpi_make.proofs.complete.fill_all.Given as goal
 
-abbrev pub invariant-fields : goal.invariant-fields
-invariant-fields l = all_filled (drop l.field-index l.fields) l.cells ≡ all_filled l.fields l.initial.cells
+abbrev pub invariant-owns : goal.invariant-owns
+invariant-owns l = all_filled (drop l.own-index l.owns) l.cells ≡ all_filled l.owns l.initial.cells

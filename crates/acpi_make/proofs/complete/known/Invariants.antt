@@ -4,4 +4,4 @@ use Rattle.acpi_make.specs.Gives.{with_front}
 use Rattle.acpi_make.proofs.complete.known.Given as goal
 
 abbrev pub invariant-cells : goal.invariant-cells
-invariant-cells l = with_front l.bytes.items (known l.offset (drop l.offset l.cells)) ≡ known 0 l.cells
+invariant-cells l = with_front l.bytes.items (known (drop l.cell-index l.cells)) ≡ known l.cells

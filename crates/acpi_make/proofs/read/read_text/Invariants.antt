@@ -1,12 +1,15 @@
-use Rattle.std.proofs.Common.{◌≡◌, ◌+◌, ◌≤◌, reverse, drop}
+use Rattle.std.proofs.Common.{◌≡◌, ◌+◌, ◌≤◌, length, reverse}
 use Rattle.acpi_make.specs.Gives.{with_front}
-use Rattle.acpi_make.specs.Meaning.{read, meaning}
+use Rattle.acpi_make.specs.Meaning.{read, parts_of}
 use Rattle.acpi_make.specs.Step.{IsHalf}
 use Rattle.acpi_make.proofs.read.read_text.Given as goal
 
 abbrev pub invariant-bytes : goal.invariant-bytes
 invariant-bytes l = record {
-  lines : l.line ≤ l.byte-index + 1;
+  lines : l.line + length l.rest ≤ length l.text + 1;
   half : IsHalf l.state;
-  means : with_front l.cells.items (read l.line l.state (reverse l.number.items) (drop l.byte-index l.text)) ≡ meaning l.text;
+  means : with_front l.items.items (read l.line l.state (reverse l.number.items) l.rest) ≡ parts_of l.text;
 }
+
+abbrev pub decreases-bytes : goal.decreases-bytes
+decreases-bytes l = length l.rest

@@ -1,0 +1,88 @@
+-- What texts are made into.
+use Rattle.std.specs.Prelude.{◌≡◌, ℕ, ◌==◌, if◌then◌else◌, List, codes, Option, Some, None, Result, Ok, Err}
+use Rattle.acpi_base.specs.Bytes.{carried}
+use Rattle.acpi_base.specs.Walk.{named, walk_of}
+use Rattle.acpi_base.specs.declared.walk.Walk.{Walk}
+use Rattle.acpi_make.specs.Gives.{Gives}
+use Rattle.acpi_make.specs.Made.{type_place, made, table_of}
+use Rattle.acpi_make.specs.Meaning.{parts_of}
+use Rattle.acpi_make.specs.Signature.{signature_of}
+use Rattle.acpi_make.specs.Template.{template_text}
+use Rattle.acpi_make.specs.declared.complete.Shape.{Shape}
+use Rattle.acpi_make.specs.declared.complete.Shape.TheVariants.{Table, Pointer, Control}
+use Rattle.acpi_make.specs.declared.draft.Source.{Source}
+use Rattle.acpi_make.specs.declared.fault.Fault.{Fault}
+use Rattle.acpi_make.specs.declared.fault.MakeError.{MakeError}
+use Rattle.acpi_make.specs.declared.fault.MakeError.TheVariants as errors
+use Rattle.acpi_make.specs.declared.item.Item.{Item}
+use Rattle.acpi_make.specs.declared.make.Made.{Made}
+use Rattle.acpi_text.specs.declared.form.TableForm.{TableForm}
+use Rattle.acpi_forms.specs.Named.{Named, IsNamed, names_of, rsdp_names, facs_names}
+
+-- ---- the form, the walk and the shape of a signature
+
+-- a pointer (ACPI 6.5, 5.2.5.3), a control structure (5.2.10), or a table with the standard header (5.2.6)
+abbrev pub shape_of : ℕ → Shape
+shape_of signature =
+    if signature == named (codes "RSD ") then Pointer
+    else (if signature == named (codes "FACS") then Control
+    else Table)
+
+abbrev pub shape_names : Shape → ℕ → Named
+shape_names Table signature = names_of signature
+shape_names Pointer signature = rsdp_names
+shape_names Control signature = facs_names
+
+abbrev pub shape_walk : Shape → ℕ → Option Walk
+shape_walk Table signature = walk_of signature
+shape_walk Pointer signature = None
+shape_walk Control signature = None
+
+-- a text whose signature isn't stated has that of no table
+abbrev pub signature_or_none : Option ℕ → ℕ
+signature_or_none (Some signature) = signature
+signature_or_none None = 0
+
+-- ---- what is made
+
+-- the table of a text, by a form that has these names
+pub record IsMadeBy (names : Named) (walk : Option Walk) (shape : Shape) (text : List ℕ) (parts : List Item)
+    (result : Result Made MakeError) : Type 0 where
+  pub source : Source
+  pub is_named : IsNamed source.form names
+  pub kind : source.kind ≡ type_place walk
+  pub same : source.text.now ≡ text
+  pub gives : Gives table_of result (made shape walk source parts)
+
+abbrev pub IsMadeAs : ℕ → List ℕ → List Item → Result Made MakeError → Type 0
+IsMadeAs signature text parts result =
+    IsMadeBy (shape_names (shape_of signature) signature) (shape_walk (shape_of signature) signature) (shape_of signature) text parts result
+
+-- by the signature of the text; a text that isn't read has the fault of its reading
+abbrev pub IsMadeOf : Result (List Item) Fault → List ℕ → Result Made MakeError → Type 0
+IsMadeOf (Ok parts) text result = IsMadeAs (signature_or_none (signature_of parts)) text parts result
+IsMadeOf (Err fault) text result = Gives {B = Made} (λ made. made) result (Err fault)
+
+abbrev pub UnlessMemory : Result Made MakeError → Type 0 → Type 0
+UnlessMemory (Ok made) fact = fact
+UnlessMemory (Err (errors.Fault fault)) fact = fact
+UnlessMemory (Err errors.Memory) fact = Unit {0}
+
+-- the table that a text is made into, unless memory ran out
+abbrev pub IsMade : List ℕ → Result Made MakeError → Type 0
+IsMade text result = UnlessMemory result (IsMadeOf (parts_of text) text result)
+
+-- ---- templates
+
+-- the signature in a template: that of a pointer has eight bytes
+abbrev pub signature_text : Shape → List ℕ → List ℕ
+signature_text Table signature = signature
+signature_text Pointer signature = codes "RSD PTR "
+signature_text Control signature = signature
+
+-- a template of a signature, by a form that has its names
+pub record IsTemplateOf (signature text : List ℕ) : Type 0 where
+  pub form : TableForm
+  pub is_named : IsNamed form (shape_names (shape_of (carried signature)) (carried signature))
+  pub is : text ≡ template_text (signature_text (shape_of (carried signature)) signature) (shape_of (carried signature)) form
+      (shape_walk (shape_of (carried signature)) (carried signature))

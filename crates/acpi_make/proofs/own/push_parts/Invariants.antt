@@ -1,0 +1,6 @@
+use Rattle.std.proofs.Common.{◌≡◌, ◌++◌, drop}
+use Rattle.acpi_make.specs.Own.{parts_own}
+use Rattle.acpi_make.proofs.own.push_parts.Given as goal
+
+abbrev pub invariant-parts : goal.invariant-parts
+invariant-parts l = l.owns.items ++ parts_own l.text l.marks l.total l.start l.size (drop l.part-index l.parts) ≡ l.initial.owns.items ++ parts_own l.text l.marks l.total l.start l.size l.parts

@@ -1,0 +1,7 @@
+use Rattle.std.proofs.Common.{◌≡◌, drop}
+use Rattle.acpi_text.specs.Note.{words_of}
+use Rattle.acpi_make.specs.Value.{front_name}
+use Rattle.acpi_make.proofs.value.front_name.Given as goal
+
+abbrev pub invariant-words : goal.invariant-words
+invariant-words l = front_name (words_of (drop l.word-index l.words)) l.text ≡ front_name (words_of l.words) l.text

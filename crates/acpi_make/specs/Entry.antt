@@ -1,0 +1,140 @@
+-- The fields that a form names.
+use Rattle.std.specs.Prelude.{ℕ, ◌+◌, ◌^◌, nat_le, nat_lt, ◌&&◌, Bool, false, if◌then◌else◌, List, [], ◌∷◌, codes}
+use Rattle.std.specs.Prelude.{◌≡◌, Option, Some, None}
+use Rattle.std.specs.List.{flat_map, slice_range}
+use Rattle.acpi_base.specs.declared.row.Row.{Row}
+use Rattle.acpi_base.specs.declared.row.Row.TheVariants.{Number, Flags, OneOf, Bytes, Register, Reserved}
+use Rattle.acpi_text.specs.Note.{Note, plain, flags, one_of, words_of}
+use Rattle.acpi_text.specs.Register.{address_spaces, access_sizes}
+use Rattle.acpi_text.specs.Words.{note_of}
+use Rattle.acpi_text.specs.declared.form.Choice.{Choice}
+use Rattle.acpi_text.specs.declared.form.Inner.{Inner}
+use Rattle.acpi_text.specs.declared.form.Inner.TheVariants.{Nothing, Structures}
+use Rattle.acpi_text.specs.declared.form.Part.{Part}
+use Rattle.acpi_text.specs.declared.form.Part.TheVariants as parts
+use Rattle.acpi_make.specs.Text.{after, are_spaces}
+use Rattle.acpi_make.specs.declared.entry.Field.{Field}
+use Rattle.acpi_make.specs.declared.entry.Search.{Search}
+use Rattle.acpi_make.specs.declared.entry.Search.TheVariants.{Found, Missing}
+
+-- a kind of field: its width in bytes, and what its values mean
+pub record Kind : Type 0 where
+  pub width : ℕ
+  pub note : Note
+
+abbrev pub kind_of : Field → Kind
+kind_of field = record { width = field.width; note = note_of field.words }
+
+-- a field that a form names
+pub record Entry : Type 0 where
+  pub name : List ℕ
+  pub kind : Kind
+
+abbrev pub entry : List ℕ → ℕ → Note → Entry
+entry name width note = record { name = name; kind = record { width = width; note = note } }
+
+-- ---- the fields of rows
+
+-- the fields of a register's address (ACPI 6.5, 5.2.3.2)
+abbrev pub register_entries : List Entry
+register_entries =
+    entry (codes "Address Space ID") 1 (one_of address_spaces)
+    ∷ entry (codes "Register Bit Width") 1 plain
+    ∷ entry (codes "Register Bit Offset") 1 plain
+    ∷ entry (codes "Access Size") 1 (one_of access_sizes)
+    ∷ entry (codes "Address") 8 plain
+    ∷ []
+
+-- the field of a row
+abbrev pub row_entry : Row → Entry
+row_entry (Number name w) = entry name.now w plain
+row_entry (Flags name w words) = entry name.now w (flags (words_of words.now))
+row_entry (OneOf name w words) = entry name.now w (one_of (words_of words.now))
+row_entry (Bytes name n) = entry name.now n plain
+row_entry (Register name) = entry name.now 12 plain
+row_entry (Reserved n) = entry (codes "Reserved") n plain
+
+-- a name over fields, which has no bytes
+abbrev pub title_entry : List ℕ → Entry
+title_entry name = entry name 0 plain
+
+-- the fields of a row: a register is a name over those of its address
+abbrev pub row_entries : Row → List Entry
+row_entries (Register name) = title_entry name.now ∷ register_entries
+row_entries row = row_entry row ∷ []
+
+abbrev pub rows_entries : List Row → List Entry
+rows_entries rows = flat_map row_entries rows
+
+-- ---- the fields of parts
+
+abbrev pub titled_entries : List ℕ → List Row → List Entry
+titled_entries name rows = title_entry name ∷ rows_entries rows
+
+abbrev pub choice_entries : Choice → List Entry
+choice_entries choice = titled_entries choice.name.now choice.rows.now
+
+-- Each field and each name over fields once, also where a structure has it several times.
+abbrev pub part_entries : Part → List Entry
+part_entries (parts.Fields rows) = rows_entries rows.now
+part_entries (parts.Between rows from to) = rows_entries (slice_range rows.now from to)
+part_entries (parts.Group name rows) = titled_entries name.now rows.now
+part_entries (parts.Entries name count rows) = titled_entries name.now rows.now
+part_entries (parts.Numbers name w count) = entry name.now w plain ∷ []
+part_entries (parts.Matrix name w rows columns) = entry name.now w plain ∷ []
+part_entries (parts.Bytes name count) = []
+part_entries (parts.Until name end) = []
+part_entries (parts.Chosen by choices) = flat_map choice_entries choices.now
+
+abbrev pub parts_entries : List Part → List Entry
+parts_entries list = flat_map part_entries list
+
+-- the fields of structures within, under their name
+abbrev pub inner_entries : Inner → List Entry
+inner_entries Nothing = []
+inner_entries (Structures start name sizes parts) = title_entry name.now ∷ parts_entries parts.now
+
+-- ---- a field by its name
+
+abbrev pub ends_in_spaces : Option (List ℕ) → Bool
+ends_in_spaces (Some rest) = are_spaces rest
+ends_in_spaces None = false
+
+-- whether a line has a name, and spaces after it
+abbrev pub is_line_of : List ℕ → List ℕ → Bool
+is_line_of name line = ends_in_spaces (after name line)
+
+-- The number of the field after one. No form has as many fields as the last number.
+abbrev pub next_number : ℕ → ℕ
+next_number k = if nat_lt k (2 ^ 32) then k + 1 else k
+
+-- the number after those of these fields, the first of which has the number k
+abbrev pub number_after : ℕ → List Entry → ℕ
+number_after k [] = k
+number_after k (one ∷ entries) = number_after (next_number k) entries
+
+-- the first field of a line's name with this number or a higher one, where the first of the list has the number k
+abbrev pub find_entry : ℕ → ℕ → List ℕ → List Entry → Option (ℕ × Kind)
+find_entry k least line [] = None
+find_entry k least line (one ∷ entries) =
+    if nat_le least k && is_line_of one.name line then Some (k, one.kind) else find_entry (next_number k) least line entries
+
+abbrev pub or_else : {A : Type 0} → Option A → Option A → Option A
+or_else (Some value) other = Some value
+or_else None other = other
+
+-- the next field of a line's name, from this one on, and then from the first on
+abbrev pub next_entry : ℕ → List ℕ → List Entry → Option (ℕ × Kind)
+next_entry least line entries = or_else (find_entry 0 least line entries) (find_entry 0 0 line entries)
+
+-- ---- what a call finds
+
+-- the field that was found, or that there is none, and the number after the last
+abbrev pub IsSearch : Search → ℕ → ℕ → List ℕ → List Entry → Type 0
+IsSearch (Found number field) k least line entries = find_entry k least line entries ≡ Some (number, kind_of field)
+IsSearch (Missing next) k least line entries =
+    (next ≡ number_after k entries) × (find_entry k least line entries ≡ None)
+
+abbrev pub found_of : Option (ℕ × Field) → Option (ℕ × Kind)
+found_of (Some found) = Some (found.0, kind_of found.1)
+found_of None = None

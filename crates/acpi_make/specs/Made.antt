@@ -1,0 +1,55 @@
+-- The table that a text is made into.
+use Rattle.std.specs.Prelude.{List, [], ◌∷◌, ◌++◌, length, Option, Some, None, Result, Ok, Err, ℕ}
+use Rattle.acpi_base.specs.declared.walk.Place.{Place}
+use Rattle.acpi_base.specs.declared.walk.Place.TheVariants.{Nowhere}
+use Rattle.acpi_base.specs.declared.walk.Walk.{Walk}
+use Rattle.acpi_make.specs.Complete.{length_own, completed, untrue, untrue_sums}
+use Rattle.acpi_make.specs.Draft.{Drafted, nothing_yet, all_taken}
+use Rattle.acpi_make.specs.Gives.{and_then}
+use Rattle.acpi_make.specs.Own.{walk_own, table_own, references_own}
+use Rattle.acpi_make.specs.declared.complete.Shape.{Shape}
+use Rattle.acpi_make.specs.declared.draft.Source.{Source}
+use Rattle.acpi_make.specs.declared.fault.Fault.{Fault}
+use Rattle.acpi_make.specs.declared.item.Item.{Item}
+use Rattle.acpi_make.specs.declared.make.Made.{Made}
+use Rattle.acpi_make.specs.declared.own.Own.{Own}
+
+-- the bytes of a table, and those of its own numbers that aren't true
+pub record Table : Type 0 where
+  pub bytes : List ℕ
+  pub untrue : List Own
+
+-- where a structure's type is
+abbrev pub type_place : Option Walk → Place
+type_place (Some walk) = walk.kind
+type_place None = Nowhere
+
+-- a table's length, and what its walk says of its structures
+abbrev pub sizes_own : Shape → Option Walk → Drafted → List Own
+sizes_own shape walk d = length_own shape (length d.cells) ∷ walk_own walk d.marks (length d.cells)
+
+abbrev pub made_of : Shape → Option Walk → Drafted → List ℕ → Table
+made_of shape walk d bytes = record {
+  bytes = bytes;
+  untrue = untrue (sizes_own shape walk d) d.cells ++ untrue_sums shape bytes;
+}
+
+-- the offsets to which references refer, and then all numbers that a table has of itself
+abbrev pub numbers_own : Shape → Option Walk → Source → Drafted → Result (List Own) Fault
+numbers_own shape walk s d =
+    and_then (references_own s.text.now d.marks d.marks) (λ references.
+    Ok (references ++ (sizes_own shape walk d ++ table_own s d.cells d.marks)))
+
+-- the table of a table in the making
+abbrev pub finished : Shape → Option Walk → Source → Drafted → Result Table Fault
+finished shape walk s d =
+    and_then (numbers_own shape walk s d) (λ owns.
+    and_then (completed shape owns d.cells) (λ bytes.
+    Ok (made_of shape walk d bytes)))
+
+-- the table that the parts of a text are made into
+abbrev pub made : Shape → Option Walk → Source → List Item → Result Table Fault
+made shape walk s parts = and_then (all_taken s parts nothing_yet) (λ d. finished shape walk s d)
+
+abbrev pub table_of : Made → Table
+table_of made = record { bytes = made.bytes.items; untrue = made.untrue.items }

@@ -1,0 +1,237 @@
+-- A text of a form with zeros, for a start.
+use Rattle.std.specs.Prelude.{ℕ, zero, suc, ◌+◌, ◌*◌, ◌^◌, ◌==◌, nat_lt, not, ◌&&◌, ◌||◌, Bool, true, false, if◌then◌else◌}
+use Rattle.std.specs.Prelude.{List, [], ◌∷◌, ◌++◌, length, codes, Option, Some, None}
+use Rattle.std.specs.List.{flat_map, slice_range}
+use Rattle.acpi_base.specs.Fields.{row_width}
+use Rattle.acpi_base.specs.Walk.{place_offset, place_width}
+use Rattle.acpi_base.specs.declared.row.Row.{Row}
+use Rattle.acpi_base.specs.declared.row.Row.TheVariants.{Number, Flags, OneOf, Bytes, Register, Reserved}
+use Rattle.acpi_base.specs.declared.walk.Place.{Place}
+use Rattle.acpi_base.specs.declared.walk.Sizes.{Sizes}
+use Rattle.acpi_base.specs.declared.walk.Sizes.TheVariants.{EachOf, ToldAt, BySource}
+use Rattle.acpi_base.specs.declared.walk.Walk.{Walk}
+use Rattle.acpi_text.specs.declared.form.Choice.{Choice}
+use Rattle.acpi_text.specs.declared.form.Count.{Count}
+use Rattle.acpi_text.specs.declared.form.Count.TheVariants.{Field, Rest}
+use Rattle.acpi_text.specs.declared.form.Inner.{Inner}
+use Rattle.acpi_text.specs.declared.form.Inner.TheVariants.{Nothing, Structures}
+use Rattle.acpi_text.specs.declared.form.Part.{Part}
+use Rattle.acpi_text.specs.declared.form.Part.TheVariants as parts
+use Rattle.acpi_text.specs.declared.form.StructureForm.{StructureForm}
+use Rattle.acpi_text.specs.declared.form.TableForm.{TableForm}
+use Rattle.acpi_text.specs.Label.{label}
+use Rattle.acpi_text.specs.Line.{spaces}
+use Rattle.acpi_text.specs.Note.{Note, plain, flags, one_of, words_of}
+use Rattle.acpi_text.specs.Register.{address_spaces, access_sizes}
+use Rattle.acpi_make.specs.Complete.{length_own}
+use Rattle.acpi_make.specs.Entry.{row_entry}
+use Rattle.acpi_make.specs.declared.complete.Shape.{Shape}
+use Rattle.acpi_make.specs.declared.complete.Shape.TheVariants as shapes
+
+-- ---- lists
+
+-- whether a number is among others
+abbrev pub is_among : ℕ → List ℕ → Bool
+is_among n [] = false
+is_among n (m ∷ others) = n == m || is_among n others
+
+abbrev pub times : ℕ → List ℕ → List ℕ
+times zero text = []
+times (suc n) text = text ++ times n text
+
+-- names, each with a text before it
+abbrev pub joined : List ℕ → List (ℕ × List ℕ) → List ℕ
+joined between [] = []
+joined between (word ∷ words) = between ++ (label word.1 ++ joined between words)
+
+-- names in a comment, with a text between them
+abbrev pub names_hint : List ℕ → List (ℕ × List ℕ) → List ℕ
+names_hint between [] = []
+names_hint between (word ∷ words) = codes "  // " ++ (label word.1 ++ joined between words)
+
+-- the names of flags, or of values
+abbrev pub hint : Note → List ℕ
+hint plain = []
+hint (flags words) = names_hint (codes " | ") words
+hint (one_of words) = names_hint (codes ", ") words
+
+-- ---- a field
+
+-- What a template has in place of zeros: the signature at offset 0, and question marks at the offsets of a table's own numbers.
+pub record Known : Type 0 where
+  pub signature : List ℕ
+  pub own : List ℕ
+
+abbrev pub zeros : Row → List ℕ
+zeros (Number name w) = 32 ∷ times w (codes "00")
+zeros (Flags name w words) = 32 ∷ times w (codes "00")
+zeros (OneOf name w words) = 32 ∷ times w (codes "00")
+zeros (Bytes name n) = times n (codes " 00")
+zeros (Register name) = times 12 (codes " 00")
+zeros (Reserved n) = times n (codes " 00")
+
+abbrev pub value_text : Known → ℕ → Row → List ℕ
+value_text known at row =
+    if at == 0 && not (length known.signature == 0) then codes " \"" ++ (known.signature ++ codes "\"")
+    else (if is_among at known.own then 32 ∷ times (row_width row) (codes "??")
+    else zeros row)
+
+abbrev pub field_line : ℕ → List ℕ → List ℕ → List ℕ
+field_line depth name value = spaces (2 * depth) ++ (codes "  " ++ (label name ++ (58 ∷ (value ++ 10 ∷ []))))
+
+abbrev pub title_line : ℕ → List ℕ → List ℕ
+title_line depth name = spaces (2 * depth) ++ (codes "  " ++ (label name ++ 10 ∷ []))
+
+-- the line of a row at an offset
+abbrev pub row_line : ℕ → Known → ℕ → Row → List ℕ
+row_line depth known at row =
+    field_line depth (row_entry row).name (value_text known at row ++ hint (row_entry row).kind.note)
+
+-- the offset after a field of w bytes; no field is at 2^32 or after it
+abbrev pub offset_after : ℕ → ℕ → ℕ
+offset_after at w = if nat_lt at (2 ^ 32) && nat_lt w (2 ^ 32) then at + w else at
+
+-- the lines of rows of which none is a register
+abbrev pub plain_lines : ℕ → Known → ℕ → List Row → List ℕ
+plain_lines depth known at [] = []
+plain_lines depth known at (row ∷ rows) =
+    row_line depth known at row ++ plain_lines depth known (offset_after at (row_width row)) rows
+
+abbrev pub nothing_known : Known
+nothing_known = record { signature = []; own = [] }
+
+-- the fields of a register's address (ACPI 6.5, 5.2.3.2)
+abbrev pub address_lines : ℕ → List ℕ
+address_lines depth =
+    field_line depth (codes "Address Space ID") (codes " 00" ++ hint (one_of address_spaces))
+    ++ (field_line depth (codes "Register Bit Width") (codes " 00" ++ [])
+    ++ (field_line depth (codes "Register Bit Offset") (codes " 00" ++ [])
+    ++ (field_line depth (codes "Access Size") (codes " 00" ++ hint (one_of access_sizes))
+    ++ (field_line depth (codes "Address") (codes " 0000000000000000" ++ []) ++ []))))
+
+abbrev pub row_lines : ℕ → Known → ℕ → Row → List ℕ
+row_lines depth known at (Register name) = title_line depth name.now ++ address_lines (depth + 1)
+row_lines depth known at row = row_line depth known at row
+
+abbrev pub rows_lines : ℕ → Known → ℕ → List Row → List ℕ
+rows_lines depth known at [] = []
+rows_lines depth known at (row ∷ rows) =
+    row_lines depth known at row ++ rows_lines depth known (offset_after at (row_width row)) rows
+
+abbrev pub rows_end : ℕ → List Row → ℕ
+rows_end at [] = at
+rows_end at (row ∷ rows) = rows_end (offset_after at (row_width row)) rows
+
+-- ---- parts
+
+abbrev pub choice_lines : ℕ → Known → ℕ → List Choice → List ℕ
+choice_lines depth known at [] = []
+choice_lines depth known at (choice ∷ choices) =
+    title_line depth choice.name.now ++ rows_lines (depth + 1) known at choice.rows.now
+
+abbrev pub choice_end : ℕ → List Choice → ℕ
+choice_end at [] = at
+choice_end at (choice ∷ choices) = rows_end at choice.rows.now
+
+-- one of each entry, the first choice, and no bytes where their number can be any
+abbrev pub part_lines : ℕ → Known → ℕ → Part → List ℕ
+part_lines depth known at (parts.Fields rows) = rows_lines depth known at rows.now
+part_lines depth known at (parts.Between rows from to) = rows_lines depth known at (slice_range rows.now from to)
+part_lines depth known at (parts.Group name rows) = title_line depth name.now ++ rows_lines (depth + 1) known at rows.now
+part_lines depth known at (parts.Entries name count rows) = title_line depth name.now ++ rows_lines (depth + 1) nothing_known at rows.now
+part_lines depth known at (parts.Numbers name w count) = field_line depth name.now (32 ∷ times w (codes "00"))
+part_lines depth known at (parts.Matrix name w rows columns) = field_line depth name.now (32 ∷ times w (codes "00"))
+part_lines depth known at (parts.Bytes name count) = field_line depth name.now (codes " \"\"")
+part_lines depth known at (parts.Until name end) = field_line depth name.now (codes " \"\"")
+part_lines depth known at (parts.Chosen by choices) = choice_lines depth known at choices.now
+
+abbrev pub part_end : ℕ → Part → ℕ
+part_end at (parts.Fields rows) = rows_end at rows.now
+part_end at (parts.Between rows from to) = rows_end at (slice_range rows.now from to)
+part_end at (parts.Group name rows) = rows_end at rows.now
+part_end at (parts.Entries name count rows) = rows_end at rows.now
+part_end at (parts.Numbers name w count) = offset_after at w
+part_end at (parts.Matrix name w rows columns) = offset_after at w
+part_end at (parts.Bytes name count) = at
+part_end at (parts.Until name end) = at
+part_end at (parts.Chosen by choices) = choice_end at choices.now
+
+abbrev pub parts_lines : ℕ → Known → ℕ → List Part → List ℕ
+parts_lines depth known at [] = []
+parts_lines depth known at (part ∷ list) = part_lines depth known at part ++ parts_lines depth known (part_end at part) list
+
+-- ---- the offsets of a table's own numbers
+
+abbrev pub place_at : Place → List ℕ
+place_at place = if place_width place == 0 then [] else place_offset place ∷ []
+
+abbrev pub size_at : Sizes → List ℕ
+size_at (EachOf n) = []
+size_at (ToldAt place) = place_at place
+size_at BySource = []
+
+abbrev pub counted_at : Count → List ℕ
+counted_at (Field place) = place_at place
+counted_at Rest = []
+
+abbrev pub count_at : Part → List ℕ
+count_at (parts.Fields rows) = []
+count_at (parts.Between rows from to) = []
+count_at (parts.Group name rows) = []
+count_at (parts.Entries name count rows) = counted_at count
+count_at (parts.Numbers name w count) = counted_at count
+count_at (parts.Matrix name w rows columns) = []
+count_at (parts.Bytes name count) = place_at count
+count_at (parts.Until name end) = place_at end
+count_at (parts.Chosen by choices) = []
+
+abbrev pub counts_at : List Part → List ℕ
+counts_at list = flat_map count_at list
+
+-- ---- structures and tables
+
+abbrev pub inner_lines : Inner → List ℕ
+inner_lines Nothing = []
+inner_lines (Structures start name sizes list) = title_line 0 name.now ++ parts_lines 1 nothing_known 0 list.now
+
+abbrev pub structure_known : Walk → List Part → Known
+structure_known walk list = record {
+  signature = [];
+  own = place_at walk.kind ++ (size_at walk.sizes ++ counts_at list);
+}
+
+-- a structure's name and its parts
+abbrev pub structure_lines : Walk → StructureForm → List ℕ
+structure_lines walk form =
+    label form.name.now
+    ++ (10 ∷ (parts_lines 0 (structure_known walk form.parts.now) 0 form.parts.now ++ inner_lines form.inner.now))
+
+abbrev pub structures_lines : Walk → List StructureForm → List ℕ
+structures_lines walk forms = flat_map (structure_lines walk) forms
+
+-- the checksums
+abbrev pub sums_at : Shape → List ℕ
+sums_at shapes.Table = 9 ∷ []
+sums_at shapes.Pointer = 8 ∷ 32 ∷ []
+sums_at shapes.Control = []
+
+abbrev pub walk_at : Option Walk → List ℕ
+walk_at (Some walk) = place_at walk.count ++ place_at walk.told_start
+walk_at None = []
+
+abbrev pub table_own : Shape → Option Walk → List Part → List ℕ
+table_own shape walk list = (length_own shape 0).offset ∷ (sums_at shape ++ (walk_at walk ++ counts_at list))
+
+abbrev pub table_known : List ℕ → Shape → Option Walk → List Part → Known
+table_known signature shape walk list = record { signature = signature; own = table_own shape walk list }
+
+abbrev pub structures_text : Option Walk → List StructureForm → List ℕ
+structures_text (Some walk) forms = structures_lines walk forms
+structures_text None forms = []
+
+-- a table's name, its parts, and one structure of each kind
+abbrev pub template_text : List ℕ → Shape → TableForm → Option Walk → List ℕ
+template_text signature shape form walk =
+    label form.name.now
+    ++ (10 ∷ (parts_lines 0 (table_known signature shape walk form.parts.now) 0 form.parts.now
+    ++ structures_text walk form.structures.now))

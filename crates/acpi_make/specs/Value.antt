@@ -1,0 +1,69 @@
+-- Numbers by name and in decimal.
+use Rattle.std.specs.Prelude.{ℕ, zero, suc, ◌-◌, ◌==◌, if◌then◌else◌, bit_or, List, [], ◌∷◌, length, take, Option, Some, None, codes}
+use Rattle.acpi_text.specs.Note.{Note, plain, flags, one_of}
+use Rattle.acpi_make.specs.Text.{after, decimal_of}
+use Rattle.acpi_make.specs.declared.value.Names.{Names}
+use Rattle.acpi_make.specs.declared.value.Names.TheVariants as names
+
+-- what names begin with: no name that is known, the number of the last name, or that of a name and the names after it
+pub data Front : Type 0 where
+  unnamed : Front
+  last : ℕ → Front
+  more : ℕ → List ℕ → Front
+
+-- a name's number, with what stands after the name: nothing, or a bar and names
+abbrev pub bar_then : ℕ → Option (List ℕ) → Front
+bar_then n (Some text) = more n text
+bar_then n None = unnamed
+
+abbrev pub name_then : ℕ → Option (List ℕ) → Front
+name_then n (Some []) = last n
+name_then n (Some (c ∷ text)) = bar_then n (after (codes " | ") (c ∷ text))
+name_then n None = unnamed
+
+abbrev pub or_front : Front → Front → Front
+or_front unnamed other = other
+or_front (last n) other = last n
+or_front (more n text) other = more n text
+
+-- the front of a text of names, each with its number
+abbrev pub front_name : List (ℕ × List ℕ) → List ℕ → Front
+front_name [] text = unnamed
+front_name (word ∷ words) text = or_front (name_then word.0 (after word.1 text)) (front_name words text)
+
+-- ---- flags
+
+abbrev pub and_more : Front → ℕ → (ℕ → List ℕ → Option ℕ) → Option ℕ
+and_more unnamed all rest = None
+and_more (last n) all rest = Some (bit_or all n)
+and_more (more n text) all rest = rest (bit_or all n) text
+
+-- these flags, and those of at most n names
+abbrev pub joined : ℕ → ℕ → List (ℕ × List ℕ) → List ℕ → Option ℕ
+joined zero all words text = None
+joined (suc n) all words text = and_more (front_name words text) all (λ all text. joined n all words text)
+
+-- ---- values
+
+abbrev pub only : Front → Option ℕ
+only unnamed = None
+only (last n) = Some n
+only (more n text) = None
+
+-- the number of names: flags with bars between them, or one value
+abbrev pub names_value : Note → List ℕ → Option ℕ
+names_value plain text = None
+names_value (flags words) text = if length text == 0 then Some 0 else joined (length text) 0 words text
+names_value (one_of words) text = only (front_name words text)
+
+-- the number of a value: decimal digits after a number sign, or names between braces
+abbrev pub value_of : Note → List ℕ → Option ℕ
+value_of note [] = None
+value_of note (c ∷ text) = if c == 35 then decimal_of text else names_value note (take (length text - 1) text)
+
+-- ---- what a call returns
+
+abbrev pub front_of : Names → Front
+front_of names.Unnamed = unnamed
+front_of (names.Last n) = last n
+front_of (names.More n text) = more n text.now

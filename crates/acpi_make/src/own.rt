@@ -1,0 +1,393 @@
+//! The numbers that a table has of itself.
+
+ghost use Rattle.std.specs.Prelude.{◌≡◌, ◌≤◌, ◌++◌, OnOk, length};
+ghost use Rattle.acpi_make.specs.Gives.{Changes, with_front};
+ghost use Rattle.acpi_make.specs.Heading.{label_of};
+ghost use Rattle.acpi_make.specs.Own.{own_at, next_start, count_structures, size_own, sizes_own, walk_own};
+ghost use Rattle.acpi_make.specs.Own.{count_lines, next_line, find_line, count_own, part_own, parts_own};
+ghost use Rattle.acpi_make.specs.Own.{kind_own, structure_own, contents_own, table_own, has_label, find_label, reference_own, references_own};
+
+use crate::draft::{Mark, Source, fits};
+use crate::entry::is_line_of;
+use crate::fault::{Fault, MakeError, Wanted};
+use crate::heading::{label_of, structure_form};
+use crate::item::Cell;
+use crate::text::{after, after_offset, part_at};
+use acpi_base::walk::{Place, Sizes, Walk};
+use acpi_text::form::{Count, Part, StructureForm};
+use acpi_text::piece::parts_of;
+use std::alloc::AllocError;
+
+/// A number that a table has of itself, as its length: the offset of its field, the field's width in bytes, and the number.
+#[derive(Clone, Copy, Debug, PartialEq, Eq)]
+pub struct Own {
+    pub offset: usize,
+    pub width: usize,
+    pub number: usize,
+}
+
+// Adds a number at a place of a structure of this size, if the structure has the place.
+fn push_at(
+    start: usize,
+    size: usize,
+    place: Place,
+    number: usize,
+    owns: &mut Vec<Own>,
+) -> Result<(), AllocError>
+    ensures { OnOk result (owns.new.items ≡ owns.old.items ++ own_at start size place number) }
+{
+    let (offset, end) = (place.offset(), place.end());
+    if start < 1 << 62 && offset < end && end <= size {
+        owns.push(Own {
+            offset: start + offset,
+            width: end - offset,
+            number,
+        })?;
+    }
+    Ok(())
+}
+
+// Returns the offset of the next structure, or that of the table's end.
+fn next_start(marks: &[Mark], total: usize) -> usize
+    ensures { result ≡ next_start marks.now total }
+{
+    'marks: for mark in marks {
+        if let Mark::Structure(at, _, _) = *mark {
+            return at;
+        }
+    }
+    total
+}
+
+fn count_structures(marks: &[Mark]) -> usize
+    ensures is { result ≡ count_structures marks.now }
+    ensures within { result ≤ length marks.now }
+{
+    let mut count = 0;
+    'marks: for mark in marks {
+        match *mark {
+            Mark::Structure(_, _, _) => count += 1,
+            Mark::Line(_, _, _) => {}
+            Mark::Reference(_, _, _, _, _) => {}
+        }
+    }
+    count
+}
+
+// Adds the length of a structure, if it has a field for it.
+fn push_size(sizes: Sizes, start: usize, size: usize, owns: &mut Vec<Own>) -> Result<(), AllocError>
+    ensures { OnOk result (owns.new.items ≡ owns.old.items ++ size_own sizes start size) }
+{
+    match sizes {
+        Sizes::ToldAt(place) => push_at(start, size, place, size, owns),
+        Sizes::EachOf(_) => Ok(()),
+        Sizes::BySource => Ok(()),
+    }
+}
+
+// Adds the lengths of all structures.
+fn push_sizes(
+    sizes: Sizes,
+    marks: &[Mark],
+    total: usize,
+    owns: &mut Vec<Own>,
+) -> Result<(), AllocError>
+    ensures { OnOk result (owns.new.items ≡ owns.old.items ++ sizes_own sizes marks.now total) }
+{
+    'marks: for i in 0..marks.len() {
+        match marks[i] {
+            Mark::Structure(at, _, _) => {
+                let size = next_start(&marks[i + 1..], total).saturating_sub(at);
+                push_size(sizes, at, size, owns)?;
+            }
+            Mark::Line(_, _, _) => {}
+            Mark::Reference(_, _, _, _, _) => {}
+        }
+    }
+    Ok(())
+}
+
+/// Adds the number of structures, the offset of the first, and their lengths.
+pub fn push_walk(
+    walk: Option<Walk>,
+    marks: &[Mark],
+    total: usize,
+    owns: &mut Vec<Own>,
+) -> Result<(), AllocError>
+    ensures { OnOk result (owns.new.items ≡ owns.old.items ++ walk_own walk marks.now total) }
+{
+    let Some(walk) = walk else {
+        return Ok(());
+    };
+    let first = next_start(marks, total);
+    push_at(0, first, walk.count, count_structures(marks), owns)?;
+    push_at(0, first, walk.told_start, first, owns)?;
+    push_sizes(walk.sizes, marks, total, owns)
+}
+
+// Returns how many lines of a structure have a name, up to the next structure.
+fn count_lines(text: &[u8], name: &str, marks: &[Mark]) -> usize
+    ensures is { result ≡ count_lines text.now name.now marks.now }
+    ensures within { result ≤ length marks.now }
+{
+    let mut count = 0;
+    'marks: for mark in marks {
+        match *mark {
+            Mark::Structure(_, _, _) => return count,
+            Mark::Line(_, from, to) => {
+                if is_line_of(name.as_bytes(), after_offset(part_at(from, to, text))) {
+                    count += 1;
+                }
+            }
+            Mark::Reference(_, _, _, _, _) => {}
+        }
+    }
+    count
+}
+
+// Returns the offset of the next line, or that of the table's end.
+fn next_line(marks: &[Mark], total: usize) -> usize
+    ensures { result ≡ next_line marks.now total }
+{
+    'marks: for mark in marks {
+        match *mark {
+            Mark::Structure(at, _, _) => return at,
+            Mark::Line(at, _, _) => return at,
+            Mark::Reference(_, _, _, _, _) => {}
+        }
+    }
+    total
+}
+
+// Returns the offsets at which the first line with a name begins and ends, up to the next structure.
+fn find_line(text: &[u8], name: &str, marks: &[Mark], total: usize) -> Option<(usize, usize)>
+    ensures { result ≡ find_line text.now name.now marks.now total }
+{
+    'marks: for i in 0..marks.len() {
+        match marks[i] {
+            Mark::Structure(_, _, _) => return None,
+            Mark::Line(at, from, to) => {
+                if is_line_of(name.as_bytes(), after_offset(part_at(from, to, text))) {
+                    return Some((at, next_line(&marks[i + 1..], total)));
+                }
+            }
+            Mark::Reference(_, _, _, _, _) => {}
+        }
+    }
+    None
+}
+
+// Adds the number of a structure's entries.
+fn push_count(
+    text: &[u8],
+    marks: &[Mark],
+    start: usize,
+    size: usize,
+    name: &str,
+    count: Count,
+    owns: &mut Vec<Own>,
+) -> Result<(), AllocError>
+    ensures { OnOk result (owns.new.items ≡ owns.old.items ++ count_own text.now marks.now start size name.now count) }
+{
+    match count {
+        Count::Field(place) => push_at(start, size, place, count_lines(text, name, marks), owns),
+        Count::Rest => Ok(()),
+    }
+}
+
+// Adds the number that a structure has of a part.
+fn push_part(
+    text: &[u8],
+    marks: &[Mark],
+    total: usize,
+    start: usize,
+    size: usize,
+    part: &Part,
+    owns: &mut Vec<Own>,
+) -> Result<(), AllocError>
+    ensures { OnOk result (owns.new.items ≡ owns.old.items ++ part_own text.now marks.now total start size part.now) }
+{
+    match *part {
+        Part::Entries(name, count, _) => push_count(text, marks, start, size, name, count, owns),
+        Part::Numbers(name, _, count) => push_count(text, marks, start, size, name, count, owns),
+        Part::Bytes(name, place) => match find_line(text, name, marks, total) {
+            Some((from, to)) => push_at(start, size, place, to.saturating_sub(from), owns),
+            None => Ok(()),
+        },
+        Part::Until(name, place) => match find_line(text, name, marks, total) {
+            Some((_, to)) => push_at(start, size, place, to.saturating_sub(start), owns),
+            None => Ok(()),
+        },
+        Part::Fields(_) | Part::Between(_, _, _) | Part::Group(_, _) => Ok(()),
+        Part::Matrix(_, _, _, _) | Part::Chosen(_, _) => Ok(()),
+    }
+}
+
+// Adds the numbers that a structure has of its parts.
+fn push_parts(
+    text: &[u8],
+    marks: &[Mark],
+    total: usize,
+    start: usize,
+    size: usize,
+    parts: &[Part],
+    owns: &mut Vec<Own>,
+) -> Result<(), AllocError>
+    ensures { OnOk result (owns.new.items ≡ owns.old.items ++ parts_own text.now marks.now total start size parts.now) }
+{
+    'parts: for part in parts {
+        push_part(text, marks, total, start, size, part, owns)?;
+    }
+    Ok(())
+}
+
+// Adds the type of a structure, by its form.
+fn push_kind(
+    kind: Place,
+    start: usize,
+    size: usize,
+    form: Option<StructureForm>,
+    owns: &mut Vec<Own>,
+) -> Result<(), AllocError>
+    ensures { OnOk result (owns.new.items ≡ owns.old.items ++ kind_own kind start size form) }
+{
+    match form {
+        Some(form) => push_at(start, size, kind, form.number, owns),
+        None => Ok(()),
+    }
+}
+
+// Adds the type of a structure, and the numbers of what it contains.
+#[tactic(auto, unfolding(crate::specs::Own::structure_own))]
+fn push_structure(
+    source: &Source,
+    cells: &[Cell],
+    marks: &[Mark],
+    total: usize,
+    at: usize,
+    from: usize,
+    to: usize,
+    owns: &mut Vec<Own>,
+) -> Result<(), AllocError>
+    ensures { OnOk result (owns.new.items ≡ owns.old.items ++ structure_own source.now cells.now marks.now total at from to) }
+{
+    let bytes = if at < cells.len() { &cells[at..] } else { &[] };
+    let heading = part_at(from, to, source.text);
+    let form = structure_form(source.kind, source.form.structures, heading, bytes);
+    let size = next_start(marks, total).saturating_sub(at);
+    push_kind(source.kind, at, size, form, owns)?;
+    push_parts(source.text, marks, total, at, size, parts_of(form), owns)
+}
+
+// Adds the types of structures, and the numbers of what they contain.
+fn push_contents(
+    source: &Source,
+    cells: &[Cell],
+    marks: &[Mark],
+    total: usize,
+    owns: &mut Vec<Own>,
+) -> Result<(), AllocError>
+    ensures { OnOk result (owns.new.items ≡ owns.old.items ++ contents_own source.now cells.now marks.now total) }
+{
+    'marks: for i in 0..marks.len() {
+        match marks[i] {
+            Mark::Structure(at, from, to) => {
+                push_structure(source, cells, &marks[i + 1..], total, at, from, to, owns)?;
+            }
+            Mark::Line(_, _, _) => {}
+            Mark::Reference(_, _, _, _, _) => {}
+        }
+    }
+    Ok(())
+}
+
+/// Adds the types of structures, and the numbers of what the table and its structures contain.
+pub fn push_table(
+    source: &Source,
+    cells: &[Cell],
+    marks: &[Mark],
+    owns: &mut Vec<Own>,
+) -> Result<(), AllocError>
+    ensures { OnOk result (owns.new.items ≡ owns.old.items ++ table_own source.now cells.now marks.now) }
+{
+    let total = cells.len();
+    let first = next_start(marks, total);
+    push_parts(source.text, marks, total, 0, first, source.form.parts, owns)?;
+    push_contents(source, cells, marks, total, owns)
+}
+
+// Returns whether a heading has a label.
+fn has_label(wanted: &[u8], heading: &[u8]) -> bool
+    ensures { result ≡ has_label wanted.now (label_of heading.now) }
+{
+    match label_of(heading) {
+        Some(label) => match after(wanted, label) {
+            Some(rest) => rest.is_empty(),
+            None => false,
+        },
+        None => false,
+    }
+}
+
+// Returns the offset of the structure with a label.
+fn find_label(text: &[u8], wanted: &[u8], marks: &[Mark]) -> Option<usize>
+    ensures { result ≡ find_label text.now wanted.now marks.now }
+{
+    'marks: for mark in marks {
+        match *mark {
+            Mark::Structure(at, from, to) => {
+                if has_label(wanted, part_at(from, to, text)) {
+                    return Some(at);
+                }
+            }
+            Mark::Line(_, _, _) => {}
+            Mark::Reference(_, _, _, _, _) => {}
+        }
+    }
+    None
+}
+
+// Adds the offset of the structure to which a reference refers.
+fn push_reference(
+    at: usize,
+    width: usize,
+    line: usize,
+    offset: Option<usize>,
+    owns: &mut Vec<Own>,
+) -> Result<(), MakeError>
+    ensures { Changes result owns.new.items (with_front owns.old.items (reference_own at width line offset)) }
+{
+    match offset {
+        Some(number) if fits(width, number) => {
+            owns.push(Own {
+                offset: at,
+                width,
+                number,
+            })?;
+            Ok(())
+        }
+        _ => {
+            let wanted = Wanted::Label;
+            Err(MakeError::Fault(Fault { line, wanted }))
+        }
+    }
+}
+
+/// Adds the offsets of the structures to which references refer. The error is that memory ran out, or that a structure with this
+/// label is wanted.
+pub fn push_references(text: &[u8], marks: &[Mark], owns: &mut Vec<Own>) -> Result<(), MakeError>
+    ensures { Changes result owns.new.items (with_front owns.old.items (references_own text.now marks.now marks.now)) }
+{
+    'marks: for mark in marks {
+        match *mark {
+            Mark::Reference(at, width, line, from, to) => {
+                let value = part_at(from, to, text);
+                let label = if value.is_empty() { value } else { &value[1..] };
+                push_reference(at, width, line, find_label(text, label, marks), owns)?;
+            }
+            Mark::Structure(_, _, _) => {}
+            Mark::Line(_, _, _) => {}
+        }
+    }
+    Ok(())
+}

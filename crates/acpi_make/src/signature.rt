@@ -1,0 +1,34 @@
+//! The signature of a text's table.
+
+ghost use Rattle.std.specs.Prelude.{◌≡◌, MatchOption, None, Some};
+ghost use Rattle.acpi_make.specs.Signature.{first_byte, signature_of};
+
+use crate::item::{Cell, Item};
+
+// Returns the first byte of a text, and what follows it, if the first byte is stated.
+fn first_byte(items: &[Item]) -> Option<(u8, &[Item])>
+    ensures { MatchOption result (first_byte items.now ≡ None) (λ found. first_byte items.now ≡ Some (found.0, found.1.now)) }
+{
+    'items: for i in 0..items.len() {
+        match items[i] {
+            Item::Cell(Cell::Byte(byte)) => return Some((byte, &items[i + 1..])),
+            Item::Cell(Cell::Left(_)) => return None,
+            Item::Value(_, _, _) => return None,
+            Item::Heading(_, _) => {}
+            Item::Name(_, _) => {}
+        }
+    }
+    None
+}
+
+/// Returns the signature of the table that the parts of a text give: the number of its first four bytes, lowest first. There is
+/// none if one of these bytes isn't stated.
+pub fn signature_of(items: &[Item]) -> Option<u32>
+    ensures { result ≡ signature_of items.now }
+{
+    let (a, rest) = first_byte(items)?;
+    let (b, rest) = first_byte(rest)?;
+    let (c, rest) = first_byte(rest)?;
+    let (d, _) = first_byte(rest)?;
+    Some(u32::from_le_bytes([a, b, c, d]))
+}

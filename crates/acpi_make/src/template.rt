@@ -1,0 +1,554 @@
+//! A text of a form with zeros, for a start. A function whose name begins with `push` adds to a text.
+
+ghost use Rattle.std.specs.Prelude.{◌≡◌, ◌+◌, ◌*◌, ◌<◌, ◌∷◌, ◌++◌, OnOk, IfOk, string_bytes, codes};
+ghost use Rattle.acpi_text.specs.Label.{label};
+ghost use Rattle.acpi_text.specs.Line.{spaces};
+ghost use Rattle.acpi_text.specs.Note.{words_of};
+ghost use Rattle.acpi_text.specs.Words.{note_of};
+ghost use Rattle.acpi_make.specs.Template.{is_among, times, joined, names_hint, hint, zeros, value_text};
+ghost use Rattle.acpi_make.specs.Template.{field_line, title_line, row_line, offset_after, plain_lines, address_lines};
+ghost use Rattle.acpi_make.specs.Template.{row_lines, rows_lines, rows_end, choice_lines, choice_end, part_lines, part_end};
+ghost use Rattle.acpi_make.specs.Template.{parts_lines, place_at, size_at, count_at, counts_at, inner_lines, structure_known};
+ghost use Rattle.acpi_make.specs.Template.{structure_lines, structures_text, sums_at, walk_at, table_own, template_text};
+ghost use Rattle.acpi_make.specs.TemplateKnown.{known_of};
+
+use crate::complete::{Shape, length_own};
+use crate::entry::row_field;
+use acpi_base::gas::GENERIC_ADDRESS;
+use acpi_base::row::{Row, Word};
+use acpi_base::walk::{Place, Sizes, Walk};
+use acpi_text::form::{Choice, Count, Inner, Part, StructureForm, TableForm};
+use acpi_text::note::Words;
+use acpi_text::part::between;
+use acpi_text::space::{push_label, push_level};
+use std::alloc::{AllocError, Global};
+
+// Returns whether a number is among others.
+fn is_among(number: usize, others: &[usize]) -> bool
+    ensures { result ≡ is_among number others.now }
+{
+    'others: for other in others {
+        if number == *other {
+            return true;
+        }
+    }
+    false
+}
+
+// Adds a text this many times.
+fn push_times(count: usize, one: &str, text: &mut String) -> Result<(), AllocError>
+    ensures { OnOk result (string_bytes text.new ≡ string_bytes text.old ++ times count one.now) }
+{
+    let mut left = count;
+    'times: while left > 0 {
+        text.push_str(one)?;
+        left -= 1;
+    }
+    Ok(())
+}
+
+// Adds names, with a text before each.
+fn push_joined(between: &str, words: &[Word], text: &mut String) -> Result<(), AllocError>
+    ensures { OnOk result (string_bytes text.new ≡ string_bytes text.old ++ joined between.now (words_of words.now)) }
+{
+    'words: for word in words {
+        text.push_str(between)?;
+        push_label(word.1, text)?;
+    }
+    Ok(())
+}
+
+// Adds names in a comment, with a text between them.
+fn push_names(between: &str, words: &[Word], text: &mut String) -> Result<(), AllocError>
+    ensures { OnOk result (string_bytes text.new ≡ string_bytes text.old ++ names_hint between.now (words_of words.now)) }
+{
+    let Some((word, others)) = words.split_first() else {
+        return Ok(());
+    };
+    text.push_str("  // ")?;
+    push_label(word.1, text)?;
+    push_joined(between, others, text)
+}
+
+// Adds the names of flags, or of values.
+fn push_hint(words: Words, text: &mut String) -> Result<(), AllocError>
+    ensures { OnOk result (string_bytes text.new ≡ string_bytes text.old ++ hint (note_of words)) }
+{
+    match words {
+        Words::None => Ok(()),
+        Words::Flags(words) => push_names(" | ", words, text),
+        Words::OneOf(words) => push_names(", ", words, text),
+    }
+}
+
+// What a template has in place of zeros: the signature at offset 0, and question marks at the offsets of a table's own numbers.
+#[derive(Clone, Copy, Debug)]
+struct Known<'a> {
+    signature: &'a str,
+    own: &'a [usize],
+}
+
+// Adds the zeros of a row.
+fn push_zeros(row: &Row, text: &mut String) -> Result<(), AllocError>
+    ensures { OnOk result (string_bytes text.new ≡ string_bytes text.old ++ zeros row.now) }
+{
+    match *row {
+        Row::Number(_, width) | Row::Flags(_, width, _) | Row::OneOf(_, width, _) => {
+            text.push_str(" ")?;
+            push_times(width, "00", text)
+        }
+        Row::Bytes(_, count) => push_times(count, " 00", text),
+        Row::Register(_) => push_times(12, " 00", text),
+        Row::Reserved(count) => push_times(count, " 00", text),
+    }
+}
+
+// Adds the value of a row at an offset.
+fn push_value(known: &Known, at: usize, row: &Row, text: &mut String) -> Result<(), AllocError>
+    ensures { OnOk result (string_bytes text.new ≡ string_bytes text.old ++ value_text (known_of known.now) at row.now) }
+{
+    if at == 0 && !known.signature.is_empty() {
+        text.push_str(" \"")?;
+        text.push_str(known.signature)?;
+        text.push_str("\"")
+    } else if is_among(at, known.own) {
+        text.push_str(" ")?;
+        push_times(row.width(), "??", text)
+    } else {
+        push_zeros(row, text)
+    }
+}
+
+// Adds what a line begins with: spaces, and a name.
+fn push_name(depth: u8, name: &str, text: &mut String) -> Result<(), AllocError>
+    ensures { OnOk result (string_bytes text.new ≡ string_bytes text.old
+        ++ (spaces (2 * depth) ++ (codes "  " ++ label name.now))) }
+{
+    push_level(depth, text)?;
+    text.push_str("  ")?;
+    push_label(name, text)
+}
+
+// Adds the line of a name over fields.
+fn push_title(depth: u8, name: &str, text: &mut String) -> Result<(), AllocError>
+    ensures { OnOk result (string_bytes text.new ≡ string_bytes text.old ++ title_line depth name.now) }
+{
+    push_name(depth, name, text)?;
+    text.push_str("\n")
+}
+
+// Adds the line of a row at an offset.
+fn push_row_line(
+    depth: u8,
+    known: &Known,
+    at: usize,
+    row: &Row,
+    text: &mut String,
+) -> Result<(), AllocError>
+    ensures { OnOk result (string_bytes text.new ≡ string_bytes text.old ++ row_line depth (known_of known.now) at row.now) }
+{
+    let (name, field) = row_field(row);
+    push_name(depth, name, text)?;
+    text.push_str(":")?;
+    push_value(known, at, row, text)?;
+    push_hint(field.words, text)?;
+    text.push_str("\n")
+}
+
+// Returns the offset after a field.
+fn offset_after(at: usize, width: usize) -> usize
+    ensures { result ≡ offset_after at width }
+{
+    if at < 1 << 32 && width < 1 << 32 {
+        at + width
+    } else {
+        at
+    }
+}
+
+// Adds the lines of rows of which none is a register.
+fn push_plain(
+    depth: u8,
+    known: &Known,
+    at: usize,
+    rows: &[Row],
+    text: &mut String,
+) -> Result<(), AllocError>
+    ensures { OnOk result (string_bytes text.new ≡ string_bytes text.old ++ plain_lines depth (known_of known.now) at rows.now) }
+{
+    let mut offset = at;
+    'rows: for row in rows {
+        push_row_line(depth, known, offset, row, text)?;
+        offset = offset_after(offset, row.width());
+    }
+    Ok(())
+}
+
+// Nothing but zeros.
+const NOTHING: Known<'static> = Known {
+    signature: "",
+    own: &[],
+};
+
+// Adds the fields of a register's address.
+fn push_address(depth: u8, text: &mut String) -> Result<(), AllocError>
+    ensures { OnOk result (string_bytes text.new ≡ string_bytes text.old ++ address_lines depth) }
+{
+    push_plain(depth, &NOTHING, 1, &GENERIC_ADDRESS, text)
+}
+
+// Adds the lines of a row.
+fn push_row(
+    depth: u8,
+    known: &Known,
+    at: usize,
+    row: &Row,
+    text: &mut String,
+) -> Result<(), AllocError>
+    requires { depth < 255 }
+    ensures { OnOk result (string_bytes text.new ≡ string_bytes text.old ++ row_lines depth (known_of known.now) at row.now) }
+{
+    match *row {
+        Row::Register(name) => {
+            push_title(depth, name, text)?;
+            push_address(depth + 1, text)
+        }
+        Row::Number(_, _) | Row::Flags(_, _, _) | Row::OneOf(_, _, _) => {
+            push_row_line(depth, known, at, row, text)
+        }
+        Row::Bytes(_, _) | Row::Reserved(_) => push_row_line(depth, known, at, row, text),
+    }
+}
+
+// Adds the lines of rows.
+fn push_rows(
+    depth: u8,
+    known: &Known,
+    at: usize,
+    rows: &[Row],
+    text: &mut String,
+) -> Result<(), AllocError>
+    requires { depth < 255 }
+    ensures { OnOk result (string_bytes text.new ≡ string_bytes text.old ++ rows_lines depth (known_of known.now) at rows.now) }
+{
+    let mut offset = at;
+    'rows: for row in rows {
+        push_row(depth, known, offset, row, text)?;
+        offset = offset_after(offset, row.width());
+    }
+    Ok(())
+}
+
+// Returns the offset after rows.
+fn rows_end(at: usize, rows: &[Row]) -> usize
+    ensures { result ≡ rows_end at rows.now }
+{
+    let mut offset = at;
+    'rows: for row in rows {
+        offset = offset_after(offset, row.width());
+    }
+    offset
+}
+
+// Adds a name over the lines of rows.
+fn push_group(
+    depth: u8,
+    known: &Known,
+    at: usize,
+    name: &str,
+    rows: &[Row],
+    text: &mut String,
+) -> Result<(), AllocError>
+    requires { depth < 254 }
+    ensures { OnOk result (string_bytes text.new ≡ string_bytes text.old
+        ++ (title_line depth name.now ++ rows_lines (depth + 1) (known_of known.now) at rows.now)) }
+{
+    push_title(depth, name, text)?;
+    push_rows(depth + 1, known, at, rows, text)
+}
+
+// Adds the lines of the first choice.
+fn push_choice(
+    depth: u8,
+    known: &Known,
+    at: usize,
+    choices: &[Choice],
+    text: &mut String,
+) -> Result<(), AllocError>
+    requires { depth < 254 }
+    ensures { OnOk result (string_bytes text.new ≡ string_bytes text.old ++ choice_lines depth (known_of known.now) at choices.now) }
+{
+    match choices.first() {
+        Some(choice) => push_group(depth, known, at, choice.name, choice.rows, text),
+        None => Ok(()),
+    }
+}
+
+fn choice_end(at: usize, choices: &[Choice]) -> usize
+    ensures { result ≡ choice_end at choices.now }
+{
+    match choices.first() {
+        Some(choice) => rows_end(at, choice.rows),
+        None => at,
+    }
+}
+
+// Adds the line of a number of a list or of a matrix.
+fn push_number(depth: u8, name: &str, width: usize, text: &mut String) -> Result<(), AllocError>
+    ensures { OnOk result (string_bytes text.new ≡ string_bytes text.old
+        ++ field_line depth name.now (32 ∷ times width (codes "00"))) }
+{
+    push_name(depth, name, text)?;
+    text.push_str(": ")?;
+    push_times(width, "00", text)?;
+    text.push_str("\n")
+}
+
+// Adds the line of bytes of which there are none.
+fn push_empty(depth: u8, name: &str, text: &mut String) -> Result<(), AllocError>
+    ensures { OnOk result (string_bytes text.new ≡ string_bytes text.old ++ field_line depth name.now (codes " \"\"")) }
+{
+    push_name(depth, name, text)?;
+    text.push_str(": \"\"\n")
+}
+
+// Adds the lines of a part.
+fn push_part(
+    depth: u8,
+    known: &Known,
+    at: usize,
+    part: &Part,
+    text: &mut String,
+) -> Result<(), AllocError>
+    requires { depth < 254 }
+    ensures { OnOk result (string_bytes text.new ≡ string_bytes text.old ++ part_lines depth (known_of known.now) at part.now) }
+{
+    match *part {
+        Part::Fields(rows) => push_rows(depth, known, at, rows, text),
+        Part::Between(rows, from, to) => {
+            push_rows(depth, known, at, between(rows, from, to), text)
+        }
+        Part::Group(name, rows) => push_group(depth, known, at, name, rows, text),
+        Part::Entries(name, _, rows) => push_group(depth, &NOTHING, at, name, rows, text),
+        Part::Numbers(name, width, _) => push_number(depth, name, width, text),
+        Part::Matrix(name, width, _, _) => push_number(depth, name, width, text),
+        Part::Bytes(name, _) => push_empty(depth, name, text),
+        Part::Until(name, _) => push_empty(depth, name, text),
+        Part::Chosen(_, choices) => push_choice(depth, known, at, choices, text),
+    }
+}
+
+// Returns the offset after a part.
+fn part_end(at: usize, part: &Part) -> usize
+    ensures { result ≡ part_end at part.now }
+{
+    match *part {
+        Part::Fields(rows) => rows_end(at, rows),
+        Part::Between(rows, from, to) => rows_end(at, between(rows, from, to)),
+        Part::Group(_, rows) => rows_end(at, rows),
+        Part::Entries(_, _, rows) => rows_end(at, rows),
+        Part::Numbers(_, width, _) => offset_after(at, width),
+        Part::Matrix(_, width, _, _) => offset_after(at, width),
+        Part::Bytes(_, _) => at,
+        Part::Until(_, _) => at,
+        Part::Chosen(_, choices) => choice_end(at, choices),
+    }
+}
+
+// Adds the lines of parts.
+fn push_parts(
+    depth: u8,
+    known: &Known,
+    at: usize,
+    parts: &[Part],
+    text: &mut String,
+) -> Result<(), AllocError>
+    requires { depth < 254 }
+    ensures { OnOk result (string_bytes text.new ≡ string_bytes text.old ++ parts_lines depth (known_of known.now) at parts.now) }
+{
+    let mut offset = at;
+    'parts: for part in parts {
+        push_part(depth, known, offset, part, text)?;
+        offset = part_end(offset, part);
+    }
+    Ok(())
+}
+
+// Adds the offset of a field, if there is one.
+fn push_place(place: Place, own: &mut Vec<usize>) -> Result<(), AllocError>
+    ensures { OnOk result (own.new.items ≡ own.old.items ++ place_at place) }
+{
+    if place.offset() < place.end() {
+        own.push(place.offset())?;
+    }
+    Ok(())
+}
+
+fn push_size(sizes: Sizes, own: &mut Vec<usize>) -> Result<(), AllocError>
+    ensures { OnOk result (own.new.items ≡ own.old.items ++ size_at sizes) }
+{
+    match sizes {
+        Sizes::ToldAt(place) => push_place(place, own),
+        Sizes::EachOf(_) => Ok(()),
+        Sizes::BySource => Ok(()),
+    }
+}
+
+// Adds the offset of the number of a part.
+fn push_count(part: &Part, own: &mut Vec<usize>) -> Result<(), AllocError>
+    ensures { OnOk result (own.new.items ≡ own.old.items ++ count_at part.now) }
+{
+    match *part {
+        Part::Entries(_, Count::Field(place), _) => push_place(place, own),
+        Part::Numbers(_, _, Count::Field(place)) => push_place(place, own),
+        Part::Entries(_, Count::Rest, _) => Ok(()),
+        Part::Numbers(_, _, Count::Rest) => Ok(()),
+        Part::Bytes(_, place) => push_place(place, own),
+        Part::Until(_, place) => push_place(place, own),
+        Part::Fields(_) | Part::Between(_, _, _) | Part::Group(_, _) => Ok(()),
+        Part::Matrix(_, _, _, _) | Part::Chosen(_, _) => Ok(()),
+    }
+}
+
+fn push_counts(parts: &[Part], own: &mut Vec<usize>) -> Result<(), AllocError>
+    ensures { OnOk result (own.new.items ≡ own.old.items ++ counts_at parts.now) }
+{
+    'parts: for part in parts {
+        push_count(part, own)?;
+    }
+    Ok(())
+}
+
+// Adds the lines of structures within.
+fn push_inner(inner: &Inner, text: &mut String) -> Result<(), AllocError>
+    ensures { OnOk result (string_bytes text.new ≡ string_bytes text.old ++ inner_lines inner.now) }
+{
+    match *inner {
+        Inner::Nothing => Ok(()),
+        Inner::Structures(_, name, _, parts) => {
+            push_title(0, name, text)?;
+            push_parts(1, &NOTHING, 0, parts, text)
+        }
+    }
+}
+
+// Returns the offsets of a structure's own numbers.
+fn structure_own(alloc: Global, walk: &Walk, parts: &[Part]) -> Result<Vec<usize>, AllocError>
+    ensures { IfOk result (λ own. own.items ≡ (structure_known walk.now parts.now).own) }
+{
+    let mut own = Vec::new(alloc);
+    push_place(walk.kind, &mut own)?;
+    push_size(walk.sizes, &mut own)?;
+    push_counts(parts, &mut own)?;
+    Ok(own)
+}
+
+// Adds the lines of a structure.
+fn push_structure(
+    alloc: Global,
+    walk: &Walk,
+    form: &StructureForm,
+    text: &mut String,
+) -> Result<(), AllocError>
+    ensures { OnOk result (string_bytes text.new ≡ string_bytes text.old ++ structure_lines walk.now form.now) }
+{
+    let own = structure_own(alloc, walk, form.parts)?;
+    let known = Known {
+        signature: "",
+        own: &own,
+    };
+    push_label(form.name, text)?;
+    text.push_str("\n")?;
+    push_parts(0, &known, 0, form.parts, text)?;
+    push_inner(form.inner, text)
+}
+
+// Adds the lines of structures.
+fn push_structures(
+    alloc: Global,
+    walk: Option<Walk>,
+    forms: &[StructureForm],
+    text: &mut String,
+) -> Result<(), AllocError>
+    ensures { OnOk result (string_bytes text.new ≡ string_bytes text.old ++ structures_text walk forms.now) }
+{
+    let Some(walk) = walk else {
+        return Ok(());
+    };
+    'forms: for form in forms {
+        push_structure(alloc, &walk, form, text)?;
+    }
+    Ok(())
+}
+
+// Adds the offsets of the checksums.
+fn push_sums(shape: Shape, own: &mut Vec<usize>) -> Result<(), AllocError>
+    ensures { OnOk result (own.new.items ≡ own.old.items ++ sums_at shape) }
+{
+    match shape {
+        Shape::Table => {
+            own.push(9)?;
+            Ok(())
+        }
+        Shape::Pointer => {
+            own.push(8)?;
+            own.push(32)?;
+            Ok(())
+        }
+        Shape::Control => Ok(()),
+    }
+}
+
+fn push_walk(walk: Option<Walk>, own: &mut Vec<usize>) -> Result<(), AllocError>
+    ensures { OnOk result (own.new.items ≡ own.old.items ++ walk_at walk) }
+{
+    match walk {
+        Some(walk) => {
+            push_place(walk.count, own)?;
+            push_place(walk.told_start, own)
+        }
+        None => Ok(()),
+    }
+}
+
+// Returns the offsets of a table's own numbers.
+fn table_own(
+    alloc: Global,
+    shape: Shape,
+    walk: Option<Walk>,
+    parts: &[Part],
+) -> Result<Vec<usize>, AllocError>
+    ensures { IfOk result (λ own. own.items ≡ table_own shape walk parts.now) }
+{
+    let mut own = Vec::new(alloc);
+    own.push(length_own(shape, 0).offset)?;
+    push_sums(shape, &mut own)?;
+    push_walk(walk, &mut own)?;
+    push_counts(parts, &mut own)?;
+    Ok(own)
+}
+
+/// Returns a text of a form, for a start: a line for each field, with zeros, and one structure of each kind. The signature is there,
+/// question marks stand for the table's own numbers, and comments have the names of flags and values. The only error is that memory
+/// ran out.
+pub fn template_of(
+    alloc: Global,
+    signature: &str,
+    shape: Shape,
+    form: &TableForm,
+    walk: Option<Walk>,
+) -> Result<String, AllocError>
+    ensures { IfOk result (λ text. string_bytes text ≡ template_text signature.now shape form.now walk) }
+{
+    let own = table_own(alloc, shape, walk, form.parts)?;
+    let known = Known {
+        signature,
+        own: &own,
+    };
+    let mut text = String::new(alloc);
+    push_label(form.name, &mut text)?;
+    text.push_str("\n")?;
+    push_parts(0, &known, 0, form.parts, &mut text)?;
+    push_structures(alloc, walk, form.structures, &mut text)?;
+    Ok(text)
+}

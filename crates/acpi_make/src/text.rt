@@ -1,0 +1,110 @@
+//! Parts of texts.
+
+ghost use Rattle.std.specs.Prelude.{◌≡◌, ◌≤◌, length, None, Some, MatchOption};
+ghost use Rattle.acpi_make.specs.Text.{part_at, after, are_spaces, is_decimal, digits_front, more_digits, decimal_of, after_offset};
+
+/// Returns the part of a text between two places.
+pub fn part_at(from: usize, to: usize, text: &[u8]) -> &[u8]
+    ensures { result.now ≡ part_at from to text.now }
+{
+    let rest = &text[text.len().saturating_sub(from)..];
+    let size = from.saturating_sub(to);
+    if size < rest.len() {
+        &rest[..size]
+    } else {
+        rest
+    }
+}
+
+/// Returns what stands after the text's front, if it has this one.
+pub fn after<'a>(front: &[u8], text: &'a [u8]) -> Option<&'a [u8]>
+    ensures { MatchOption result (after front.now text.now ≡ None) (λ rest. after front.now text.now ≡ Some rest.now) }
+{
+    let mut wanted = front;
+    let mut rest = text;
+    'characters: while let [character, others @ ..] = wanted {
+        match rest {
+            [other, more @ ..] if character == other => {
+                wanted = others;
+                rest = more;
+            }
+            _ => return None,
+        }
+    }
+    Some(rest)
+}
+
+/// Returns whether a text has spaces alone.
+pub fn are_spaces(text: &[u8]) -> bool
+    ensures { result ≡ are_spaces text.now }
+{
+    'characters: for character in text {
+        if *character != b' ' {
+            return false;
+        }
+    }
+    true
+}
+
+fn is_decimal(character: u8) -> bool
+    ensures { result ≡ is_decimal character }
+{
+    (b'0'..=b'9').contains(&character)
+}
+
+/// Returns how many digits a text begins with.
+pub fn digits_front(text: &[u8]) -> usize
+    ensures is { result ≡ digits_front text.now }
+    ensures within { result ≤ length text.now }
+{
+    let mut count = 0;
+    'digits: for character in text {
+        if !is_decimal(*character) {
+            return count;
+        }
+        count += 1;
+    }
+    count
+}
+
+// Returns a number with a further digit.
+fn more_digits(number: u64, character: u8) -> Option<u64>
+    ensures { result ≡ more_digits number character }
+{
+    if !is_decimal(character) {
+        return None;
+    }
+    let tens = number.checked_mul(10)?;
+    tens.checked_add(u64::from(character - b'0'))
+}
+
+/// Returns the number of a text of decimal digits, if it is below 2^64.
+pub fn decimal_of(text: &[u8]) -> Option<u64>
+    ensures { result ≡ decimal_of text.now }
+{
+    if text.is_empty() {
+        return None;
+    }
+    let mut number = 0;
+    'digits: for character in text {
+        match more_digits(number, *character) {
+            Some(more) => number = more,
+            None => return None,
+        }
+    }
+    Some(number)
+}
+
+/// Returns what stands after an offset and a space, or the text, if it begins with no digit.
+pub fn after_offset(text: &[u8]) -> &[u8]
+    ensures { result.now ≡ after_offset text.now }
+{
+    let digits = digits_front(text);
+    if digits == 0 {
+        text
+    } else if digits < text.len() {
+        &text[digits + 1..]
+    } else {
+        &[]
+    }
+}

@@ -1,0 +1,106 @@
+//! Numbers by name and in decimal.
+
+ghost use Rattle.std.specs.Prelude.{◌≡◌, length};
+ghost use Rattle.acpi_text.specs.Note.{words_of};
+ghost use Rattle.acpi_text.specs.Words.{note_of};
+ghost use Rattle.acpi_make.specs.Text.{after};
+ghost use Rattle.acpi_make.specs.Value.{front_name, front_of, name_then, joined, only, names_value, value_of};
+
+use crate::text::{after, decimal_of};
+use acpi_base::row::Word;
+use acpi_text::note::Words;
+
+/// What names begin with.
+#[derive(Clone, Copy, Debug)]
+pub enum Names<'a> {
+    /// No name that is known.
+    Unnamed,
+    /// The last name, which has this number.
+    Last(u64),
+    /// A name with this number, and the names after it.
+    More(u64, &'a [u8]),
+}
+
+// Returns the number of a name, and the names after it, if the text begins with this name.
+fn name_then<'a>(number: u64, name: &str, text: &'a [u8]) -> Names<'a>
+    ensures { front_of result ≡ name_then number (after name.now text.now) }
+{
+    let Some(rest) = after(name.as_bytes(), text) else {
+        return Names::Unnamed;
+    };
+    if rest.is_empty() {
+        return Names::Last(number);
+    }
+    match after(b" | ", rest) {
+        Some(more) => Names::More(number, more),
+        None => Names::Unnamed,
+    }
+}
+
+// Returns what a text of names begins with.
+fn front_name<'a>(words: &[Word], text: &'a [u8]) -> Names<'a>
+    ensures { front_of result ≡ front_name (words_of words.now) text.now }
+{
+    'words: for word in words {
+        match name_then(word.0, word.1, text) {
+            Names::Unnamed => {}
+            front => return front,
+        }
+    }
+    Names::Unnamed
+}
+
+// Returns flags with bars between their names.
+fn joined(words: &[Word], text: &[u8]) -> Option<u64>
+    ensures { result ≡ joined (length text.now) 0 (words_of words.now) text.now }
+{
+    let mut all = 0;
+    let mut rest = text;
+    let mut left = text.len();
+    'names: while left > 0 {
+        left -= 1;
+        match front_name(words, rest) {
+            Names::Unnamed => return None,
+            Names::Last(number) => return Some(all | number),
+            Names::More(number, more) => {
+                all |= number;
+                rest = more;
+            }
+        }
+    }
+    None
+}
+
+// Returns the number of a value by its name.
+fn one_of(words: &[Word], text: &[u8]) -> Option<u64>
+    ensures { result ≡ only (front_name (words_of words.now) text.now) }
+{
+    match front_name(words, text) {
+        Names::Last(number) => Some(number),
+        Names::Unnamed => None,
+        Names::More(_, _) => None,
+    }
+}
+
+// Returns the number of names.
+fn names_value(words: Words, text: &[u8]) -> Option<u64>
+    ensures { result ≡ names_value (note_of words) text.now }
+{
+    match words {
+        Words::None => None,
+        Words::Flags(_) if text.is_empty() => Some(0),
+        Words::Flags(words) => joined(words, text),
+        Words::OneOf(words) => one_of(words, text),
+    }
+}
+
+/// Returns the number of a value: decimal digits after a number sign, or names between braces.
+pub fn value_of(words: Words, text: &[u8]) -> Option<u64>
+    ensures { result ≡ value_of (note_of words) text.now }
+{
+    match text {
+        [] => None,
+        [b'#', digits @ ..] => decimal_of(digits),
+        [_, names @ ..] => names_value(words, &names[..names.len().saturating_sub(1)]),
+    }
+}
