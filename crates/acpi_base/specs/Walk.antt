@@ -130,6 +130,15 @@ rqsc_walk = record { start = 40; sizes = ToldAt (Word 2); kind = Byte 0; count =
 abbrev pub hmat_walk : Walk
 hmat_walk = record { start = 40; sizes = ToldAt (DWord 4); kind = Word 0; count = Nowhere; told_start = Nowhere }
 
+abbrev pub gtdt_walk : Walk
+gtdt_walk = record { start = 104; sizes = ToldAt (Word 1); kind = Byte 0; count = DWord 88; told_start = DWord 92 }
+
+abbrev pub iort_walk : Walk
+iort_walk = record { start = 48; sizes = ToldAt (Word 1); kind = Byte 0; count = DWord 36; told_start = DWord 40 }
+
+abbrev pub dbg2_walk : Walk
+dbg2_walk = record { start = 44; sizes = ToldAt (Word 1); kind = Nowhere; count = DWord 40; told_start = DWord 36 }
+
 -- a signature as a number, lowest byte first
 abbrev pub named : List ℕ → ℕ
 named signature = carried signature
@@ -149,6 +158,9 @@ walks =
     ∷ (codes "RIMT", rimt_walk)
     ∷ (codes "RQSC", rqsc_walk)
     ∷ (codes "HMAT", hmat_walk)
+    ∷ (codes "GTDT", gtdt_walk)
+    ∷ (codes "IORT", iort_walk)
+    ∷ (codes "DBG2", dbg2_walk)
     ∷ []
 
 -- the walk in the row of a signature

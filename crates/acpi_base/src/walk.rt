@@ -39,7 +39,7 @@ use Sizes::{BySource, EachOf, ToldAt};
 
 // The walks of all tables that have structures, by signature.
 #[rattlefmt::skip]
-const WALKS: [([u8; 4], Walk); 12] = [
+const WALKS: [([u8; 4], Walk); 15] = [
     (*b"XSDT", Walk { start: 36, sizes: EachOf(8), kind: Nowhere, count: Nowhere, told_start: Nowhere }),
     (*b"MCFG", Walk { start: 44, sizes: EachOf(16), kind: Nowhere, count: Nowhere, told_start: Nowhere }),
     (*b"APIC", Walk { start: 44, sizes: ToldAt(Byte(1)), kind: Byte(0), count: Nowhere, told_start: Nowhere }),
@@ -52,6 +52,9 @@ const WALKS: [([u8; 4], Walk); 12] = [
     (*b"RIMT", Walk { start: 48, sizes: ToldAt(Word(2)), kind: Byte(0), count: DWord(36), told_start: DWord(40) }),
     (*b"RQSC", Walk { start: 40, sizes: ToldAt(Word(2)), kind: Byte(0), count: DWord(36), told_start: Nowhere }),
     (*b"HMAT", Walk { start: 40, sizes: ToldAt(DWord(4)), kind: Word(0), count: Nowhere, told_start: Nowhere }),
+    (*b"GTDT", Walk { start: 104, sizes: ToldAt(Word(1)), kind: Byte(0), count: DWord(88), told_start: DWord(92) }),
+    (*b"IORT", Walk { start: 48, sizes: ToldAt(Word(1)), kind: Byte(0), count: DWord(36), told_start: DWord(40) }),
+    (*b"DBG2", Walk { start: 44, sizes: ToldAt(Word(1)), kind: Nowhere, count: DWord(40), told_start: DWord(36) }),
 ];
 
 /// The walk of the tables of a signature, if they have structures. The signature is a number, lowest byte first.
