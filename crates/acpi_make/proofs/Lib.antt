@@ -9,3 +9,6 @@ pub mod Entries
 pub mod Numbers
 pub mod Fields
 pub mod Making
+pub mod Truth
+pub mod Order
+pub mod Listed

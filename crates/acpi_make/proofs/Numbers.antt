@@ -1,6 +1,7 @@
--- Numbers in cells.
-use Rattle.std.proofs.Common.{◌≡◌, ℕ, zero, suc, ◌-◌, ◌/◌, ◌%◌, ◌<◌, ◌&&◌, true, List, ◌∷◌, refl, sym, ap, ◌∙◌, arith}
+-- Numbers in cells, and in bytes.
+use Rattle.std.proofs.Common.{◌≡◌, ℕ, zero, suc, ◌-◌, ◌/◌, ◌%◌, ◌<◌, ◌&&◌, true, List, ◌∷◌, refl, sym, ap, ◌∙◌, arith, eq-eqb}
 use Rattle.acpi_make.specs.Heading.{is_lowest, has_number}
+use Rattle.acpi_make.specs.Notes.{begins_with}
 use Rattle.acpi_base.proofs.Bytes.{le_step}
 use Rattle.acpi_base.specs.Bytes.{le}
 use Rattle.acpi_make.specs.Item.{known_cells}
@@ -13,6 +14,13 @@ lowest_is zero n cells cell more some is lowest = absurd (omega arith)
 lowest_is (suc w) n cells cell more some is lowest =
     ap (has_number (suc w) n) is ∙ ap (λ b. b && has_number w (n / 256) more) lowest
     ∙ ap (λ k. has_number k (n / 256) more) (let e : w ≡ suc w - 1 = omega arith in e)
+
+pub next_begins : (w n : ℕ) (bytes : List ℕ) (b : ℕ) (more : List ℕ) → 0 < w → bytes ≡ b ∷ more → b ≡ n % 256
+    → begins_with w n bytes ≡ begins_with (w - 1) (n / 256) more
+next_begins zero n bytes b more some is lowest = absurd (omega arith)
+next_begins (suc w) n bytes b more some is lowest =
+    ap (begins_with (suc w) n) is ∙ ap (λ same. same && begins_with w (n / 256) more) (eq-eqb b (n % 256) lowest)
+    ∙ ap (λ k. begins_with k (n / 256) more) (let e : w ≡ suc w - 1 = omega arith in e)
 
 -- the lowest byte of a number, and the others
 pub next_lowest : (w n : ℕ) → 0 < w → known_cells (le w n) ≡ Byte (n % 256) ∷ known_cells (le (w - 1) (n / 256))

@@ -1,10 +1,9 @@
 -- What a text leaves to be worked out.
-use Rattle.std.specs.Prelude.{ℕ, ◌+◌, ◌%◌, ◌==◌, nat_lt, nat_le, ◌&&◌, not, Bool, if◌then◌else◌, sum, slice_index}
+use Rattle.std.specs.Prelude.{ℕ, ◌+◌, nat_lt, nat_le, ◌&&◌, if◌then◌else◌}
 use Rattle.std.specs.Prelude.{List, [], ◌∷◌, ◌++◌, length, take, drop, Result, Ok, Err}
 use Rattle.acpi_base.specs.Bytes.{le, complement}
 use Rattle.acpi_make.specs.Fits.{fits}
 use Rattle.acpi_make.specs.Gives.{with_front}
-use Rattle.acpi_make.specs.Heading.{known_front, has_number}
 use Rattle.acpi_make.specs.Item.{known_cells}
 use Rattle.acpi_make.specs.Own.{own}
 use Rattle.acpi_make.specs.declared.complete.Shape.{Shape}
@@ -73,27 +72,3 @@ known (Left line ∷ cells) = Err (record { line = line; wanted = wants.Bytes })
 -- the bytes with these numbers and the checksums worked out
 abbrev pub completed : Shape → List Own → List Cell → Result (List ℕ) Fault
 completed shape owns cells = known (summed shape (all_filled owns cells))
-
--- ---- numbers that aren't true
-
--- whether all bytes of a number's field are known, and it is another number
-abbrev pub is_untrue : Own → List Cell → Bool
-is_untrue one cells =
-    nat_le one.width (known_front (drop one.offset cells)) && not (has_number one.width one.number (drop one.offset cells))
-
--- the numbers that the text states otherwise
-abbrev pub untrue : List Own → List Cell → List Own
-untrue [] cells = []
-untrue (one ∷ owns) cells = if is_untrue one cells then one ∷ untrue owns cells else untrue owns cells
-
--- the byte at an offset that would make the sum of the first n bytes zero, if they don't sum to zero
-abbrev pub untrue_sum : ℕ → ℕ → List ℕ → List Own
-untrue_sum offset n bytes =
-    if nat_lt offset (length bytes) && not (sum (take n bytes) % 256 == 0)
-    then own offset 1 ((slice_index bytes offset + complement (sum (take n bytes))) % 256) ∷ []
-    else []
-
-abbrev pub untrue_sums : Shape → List ℕ → List Own
-untrue_sums Table bytes = untrue_sum 9 (length bytes) bytes
-untrue_sums Pointer bytes = untrue_sum 8 20 bytes ++ untrue_sum 32 (length bytes) bytes
-untrue_sums Control bytes = []

@@ -1,14 +1,20 @@
 -- What laws say.
-use Rattle.std.specs.Prelude.{◌≡◌, ℕ, ◌^◌, ◌<◌, List, length, Option, Result, Ok}
+use Rattle.std.specs.Prelude.{◌≡◌, ℕ, ◌^◌, ◌<◌, ◌≤◌, List, [], length, Option, Some, Result, Ok}
 use Rattle.acpi_base.specs.Bytes.{AreBytes}
+use Rattle.acpi_base.specs.Table.{IsTrueTable}
+use Rattle.acpi_base.specs.Walk.{Walks, IsSound}
 use Rattle.acpi_base.specs.declared.walk.Walk.{Walk}
 use Rattle.acpi_text.specs.Table.{table_text}
 use Rattle.acpi_text.specs.declared.form.TableForm.{TableForm}
+use Rattle.acpi_make.specs.Draft.{Drafted, nothing_yet, all_taken}
 use Rattle.acpi_make.specs.Gives.{and_then}
 use Rattle.acpi_make.specs.Item.{known_cells, cells_of}
-use Rattle.acpi_make.specs.Made.{Table, made}
+use Rattle.acpi_make.specs.Made.{Table, made, finished}
 use Rattle.acpi_make.specs.Meaning.{parts_of}
+use Rattle.acpi_make.specs.Own.{next_start}
+use Rattle.acpi_make.specs.Pieces.{pieces_of, HaveBytesOf}
 use Rattle.acpi_make.specs.declared.complete.Shape.{Shape}
+use Rattle.acpi_make.specs.declared.complete.Shape.TheVariants as shapes
 use Rattle.acpi_make.specs.declared.draft.Source.{Source}
 use Rattle.acpi_make.specs.declared.fault.Fault.{Fault}
 use Rattle.acpi_make.specs.declared.item.Item.{Item}
@@ -38,3 +44,21 @@ pub record IsMadeInto (shape : Shape) (walk : Option Walk) (s : Source) (bytes :
 abbrev pub TablesAreMade : Type 0
 TablesAreMade = (form : TableForm) (walk other : Option Walk) (shape : Shape) (s : Source) (bytes : List ℕ)
     → AreBytes bytes → length bytes < 2 ^ 64 → s.text.now ≡ table_text form walk bytes → IsMadeInto shape other s bytes
+
+-- A table of 36 bytes or more that is made without a note is correct: its length is right, and it sums to zero.
+abbrev pub TablesAreTrue : Type 0
+TablesAreTrue = (walk : Option Walk) (s : Source) (parts : List Item) (table : Table)
+    → made shapes.Table walk s parts ≡ Ok table → table.untrue ≡ [] → 36 ≤ length table.bytes → IsTrueTable table.bytes
+
+-- A table that is made without a note is walked by the structures that the text lists, if the first of them begins where those of
+-- the table do, and the text has the bytes of each.
+abbrev pub TablesAreWalked : Type 0
+TablesAreWalked = (walk : Walk) (s : Source) (parts : List Item) (d : Drafted) (table : Table)
+    → IsSound walk
+    → all_taken s parts nothing_yet ≡ Ok d
+    → finished shapes.Table (Some walk) s d ≡ Ok table
+    → table.untrue ≡ []
+    → length table.bytes < 2 ^ 62
+    → next_start d.marks (length table.bytes) ≡ walk.start
+    → HaveBytesOf walk.sizes (pieces_of d.marks table.bytes)
+    → Walks walk table.bytes (pieces_of d.marks table.bytes)

@@ -8,7 +8,9 @@ pub mod Fits
 pub mod Draft
 pub mod Own
 pub mod Complete
+pub mod Notes
 pub mod Made
+pub mod Pieces
 pub mod Laws
 pub mod Signature
 pub mod Template

@@ -3,9 +3,10 @@ use Rattle.std.specs.Prelude.{List, [], ◌∷◌, ◌++◌, length, Option, Som
 use Rattle.acpi_base.specs.declared.walk.Place.{Place}
 use Rattle.acpi_base.specs.declared.walk.Place.TheVariants.{Nowhere}
 use Rattle.acpi_base.specs.declared.walk.Walk.{Walk}
-use Rattle.acpi_make.specs.Complete.{length_own, completed, untrue, untrue_sums}
+use Rattle.acpi_make.specs.Complete.{length_own, completed}
 use Rattle.acpi_make.specs.Draft.{Drafted, nothing_yet, all_taken}
 use Rattle.acpi_make.specs.Gives.{and_then}
+use Rattle.acpi_make.specs.Notes.{notes}
 use Rattle.acpi_make.specs.Own.{walk_own, table_own, references_own}
 use Rattle.acpi_make.specs.declared.complete.Shape.{Shape}
 use Rattle.acpi_make.specs.declared.draft.Source.{Source}
@@ -14,7 +15,7 @@ use Rattle.acpi_make.specs.declared.item.Item.{Item}
 use Rattle.acpi_make.specs.declared.make.Made.{Made}
 use Rattle.acpi_make.specs.declared.own.Own.{Own}
 
--- the bytes of a table, and those of its own numbers that aren't true
+-- the bytes of a table, and the numbers of itself that aren't in them
 pub record Table : Type 0 where
   pub bytes : List ℕ
   pub untrue : List Own
@@ -31,7 +32,7 @@ sizes_own shape walk d = length_own shape (length d.cells) ∷ walk_own walk d.m
 abbrev pub made_of : Shape → Option Walk → Drafted → List ℕ → Table
 made_of shape walk d bytes = record {
   bytes = bytes;
-  untrue = untrue (sizes_own shape walk d) d.cells ++ untrue_sums shape bytes;
+  untrue = notes shape (sizes_own shape walk d) bytes;
 }
 
 -- the offsets to which references refer, and then all numbers that a table has of itself

@@ -1,17 +1,16 @@
 //! What a text leaves to be worked out.
 
-ghost use Rattle.std.specs.Prelude.{◌≡◌, ◌+◌, ◌≤◌, ◌%◌, ◌++◌, length, take, sum, OnOk, IfOk};
+ghost use Rattle.std.specs.Prelude.{◌≡◌, ◌+◌, ◌≤◌, length, take};
 ghost use Rattle.acpi_base.specs.Bytes.{complement};
 ghost use Rattle.acpi_make.specs.Complete.{left_front, written, filled, all_filled, known_sum, summed_at, summed, length_own};
-ghost use Rattle.acpi_make.specs.Complete.{known, completed, is_untrue, untrue, untrue_sum, untrue_sums};
+ghost use Rattle.acpi_make.specs.Complete.{known, completed};
 ghost use Rattle.acpi_make.specs.Gives.{Gives};
 
 use crate::draft::fits;
 use crate::fault::{Fault, MakeError, Wanted};
-use crate::heading::{has_number, known_front};
 use crate::item::Cell;
 use crate::own::Own;
-use std::alloc::{AllocError, Global};
+use std::alloc::Global;
 
 /// What bytes have a length and checksums.
 #[derive(Clone, Copy, Debug, PartialEq, Eq)]
@@ -166,82 +165,4 @@ pub fn complete(
     fill_all(owns, &mut cells);
     fill_sums(shape, &mut cells);
     known(alloc, &cells)
-}
-
-// Returns whether all bytes of a number's field are known, and it is another number.
-fn is_untrue(own: &Own, cells: &[Cell]) -> bool
-    ensures { result ≡ is_untrue own.now cells.now }
-{
-    let field = if own.offset < cells.len() {
-        &cells[own.offset..]
-    } else {
-        &[]
-    };
-    own.width <= known_front(field) && !has_number(own.width, own.number, field)
-}
-
-/// Returns the numbers that a text states otherwise.
-pub fn untrue(alloc: Global, owns: &[Own], cells: &[Cell]) -> Result<Vec<Own>, AllocError>
-    ensures { IfOk result (λ list. list.items ≡ untrue owns.now cells.now) }
-{
-    let mut list = Vec::new(alloc);
-    'owns: for own in owns {
-        if is_untrue(own, cells) {
-            list.push(*own)?;
-        }
-    }
-    Ok(list)
-}
-
-// Returns the sum of bytes modulo 256.
-fn sum_of(bytes: &[u8]) -> u8
-    ensures { result ≡ sum bytes.now % 256 }
-{
-    let mut sum: u8 = 0;
-    'bytes: for byte in bytes {
-        sum = sum.wrapping_add(*byte);
-    }
-    sum
-}
-
-// Adds the byte at an offset that would make the sum of the first bytes zero, if they don't sum to zero.
-fn push_untrue_sum(
-    offset: usize,
-    count: usize,
-    bytes: &[u8],
-    list: &mut Vec<Own>,
-) -> Result<(), AllocError>
-    ensures { OnOk result (list.new.items ≡ list.old.items ++ untrue_sum offset count bytes.now) }
-{
-    if offset >= bytes.len() {
-        return Ok(());
-    }
-    let front = if count < bytes.len() {
-        &bytes[..count]
-    } else {
-        bytes
-    };
-    let sum = sum_of(front);
-    if sum != 0 {
-        list.push(Own {
-            offset,
-            width: 1,
-            number: usize::from(bytes[offset].wrapping_sub(sum)),
-        })?;
-    }
-    Ok(())
-}
-
-/// Adds the checksums that aren't right, with the bytes that would be.
-pub fn push_untrue_sums(shape: Shape, bytes: &[u8], list: &mut Vec<Own>) -> Result<(), AllocError>
-    ensures { OnOk result (list.new.items ≡ list.old.items ++ untrue_sums shape bytes.now) }
-{
-    match shape {
-        Shape::Table => push_untrue_sum(9, bytes.len(), bytes, list),
-        Shape::Pointer => {
-            push_untrue_sum(8, 20, bytes, list)?;
-            push_untrue_sum(32, bytes.len(), bytes, list)
-        }
-        Shape::Control => Ok(()),
-    }
 }

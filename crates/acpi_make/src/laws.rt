@@ -1,6 +1,6 @@
 //! Laws of texts, which cost nothing when they run.
 
-ghost use Rattle.acpi_make.specs.Laws.{TablesAreRead, TablesAreMade};
+ghost use Rattle.acpi_make.specs.Laws.{TablesAreRead, TablesAreMade, TablesAreTrue, TablesAreWalked};
 
 /// A law: the text of a table has the table's bytes, for every form.
 pub fn tables_are_read()
@@ -10,4 +10,14 @@ pub fn tables_are_read()
 /// A law: the text of a table is made into the table, for every form.
 pub fn tables_are_made()
     ensures { TablesAreMade }
+{}
+
+/// A law: a table that is made without a note is correct.
+pub fn tables_are_true()
+    ensures { TablesAreTrue }
+{}
+
+/// A law: a table that is made without a note is walked by the structures that its text lists.
+pub fn tables_are_walked()
+    ensures { TablesAreWalked }
 {}

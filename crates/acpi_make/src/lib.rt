@@ -10,6 +10,7 @@ pub mod heading;
 pub mod item;
 pub mod laws;
 pub mod make;
+pub mod notes;
 pub mod own;
 pub mod read;
 pub mod signature;

@@ -1,15 +1,15 @@
 //! Tables from texts.
 
 ghost use Rattle.std.specs.Prelude.{◌≡◌, ◌++◌, IfOk, OnOk};
-ghost use Rattle.acpi_make.specs.Complete.{untrue};
 ghost use Rattle.acpi_make.specs.Draft.{drafted};
 ghost use Rattle.acpi_make.specs.Gives.{Gives};
 ghost use Rattle.acpi_make.specs.Made.{type_place, sizes_own, numbers_own, finished, made, table_of};
 
-use crate::complete::{Shape, complete, length_own, push_untrue_sums, untrue};
+use crate::complete::{Shape, complete, length_own};
 use crate::draft::{Draft, Source, draft_of};
 use crate::fault::MakeError;
 use crate::item::Item;
+use crate::notes::notes;
 use crate::own::{Own, push_references, push_table, push_walk};
 use acpi_base::walk::{Place, Walk};
 use acpi_text::form::TableForm;
@@ -20,7 +20,7 @@ use std::alloc::{AllocError, Global};
 pub struct Made {
     /// Its bytes.
     pub bytes: Vec<u8>,
-    /// Its own numbers that the text states otherwise, with the values that would be true.
+    /// Its own numbers that aren't in its bytes since the text states others, with the values that would be right.
     pub untrue: Vec<Own>,
 }
 
@@ -48,18 +48,18 @@ fn push_sizes(
     push_walk(walk, &draft.marks, total, owns)
 }
 
-// Returns the length of a table, and what its walk says of its structures, where the text states another number.
-fn untrue_sizes(
+// Returns the length of a table, and what its walk says of its structures.
+fn sizes_own(
     alloc: Global,
     shape: Shape,
     walk: Option<Walk>,
     draft: &Draft,
 ) -> Result<Vec<Own>, AllocError>
-    ensures { IfOk result (λ owns. owns.items ≡ untrue (sizes_own shape walk (drafted draft.now)) (drafted draft.now).cells) }
+    ensures { IfOk result (λ owns. owns.items ≡ sizes_own shape walk (drafted draft.now)) }
 {
-    let mut sizes = Vec::new(alloc);
-    push_sizes(shape, walk, draft, &mut sizes)?;
-    untrue(alloc, &sizes, &draft.cells)
+    let mut owns = Vec::new(alloc);
+    push_sizes(shape, walk, draft, &mut owns)?;
+    Ok(owns)
 }
 
 // Returns the offsets to which references refer, and then all numbers that a table has of itself.
@@ -89,14 +89,11 @@ fn finish(
 ) -> Result<Made, MakeError>
     ensures { Gives table_of result (finished shape walk source.now (drafted draft)) }
 {
-    let mut wrong = untrue_sizes(alloc, shape, walk, &draft)?;
+    let sizes = sizes_own(alloc, shape, walk, &draft)?;
     let owns = numbers_own(alloc, shape, walk, source, &draft)?;
     let bytes = complete(alloc, shape, &owns, draft.cells)?;
-    push_untrue_sums(shape, &bytes, &mut wrong)?;
-    Ok(Made {
-        bytes,
-        untrue: wrong,
-    })
+    let untrue = notes(alloc, shape, &sizes, &bytes)?;
+    Ok(Made { bytes, untrue })
 }
 
 /// Returns the table that the parts of a text are made into, by the form and the walk of its signature. What the text leaves out is

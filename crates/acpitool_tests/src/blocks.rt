@@ -1,6 +1,6 @@
 //! Definition blocks: the terms after the text, and the numbers of arguments that words state.
 
-use crate::program::{ends, path};
+use crate::program::{USAGE, ends, path};
 use std::fs;
 use std::test::Fail;
 
@@ -73,9 +73,6 @@ fn terms(rt: HostRuntime) -> Result<(), Fail> {
     fs::remove_file(&rt, file)?;
     Ok(())
 }
-
-const USAGE: &str =
-    "usage: acpitool show FILE .. [NAME=N ..] | image FILE [BASE] | --help | --version\n";
 
 // Words that state no numbers are named. A word with a slash is a file.
 #[test]

@@ -1,4 +1,4 @@
-//! Tests of the program `acpitool`: its words, statuses, files, and writers that fail.
+//! Tests of the program `acpitool`: its words, statuses, files, texts that are made into tables, and writers that fail.
 #![tactic(auto)]
 
 #[cfg(test)]
@@ -9,6 +9,8 @@ mod dumps;
 mod files;
 #[cfg(test)]
 mod image;
+#[cfg(test)]
+mod make;
 #[cfg(test)]
 mod program;
 #[cfg(test)]

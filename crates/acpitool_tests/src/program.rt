@@ -26,6 +26,10 @@ Unknown table
   32 Creator Revision                   : 00 00 00 01
 ";
 
+/// What is printed after the line of a wrong word.
+pub const USAGE: &str = "\
+usage: acpitool show FILE .. [NAME=N ..] | image FILE [BASE] | make TEXT FILE | template SIGNATURE | --help | --version\n";
+
 /// A path that no other test uses.
 pub fn path(rt: &(impl Env + AllocGlobal), process: Process, name: &str) -> io::Result<String> {
     let folder = env::temp_dir(rt)?;

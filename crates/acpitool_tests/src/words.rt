@@ -1,10 +1,7 @@
 //! Words that ask for something, and words that are wrong.
 
-use crate::program::ends;
+use crate::program::{USAGE, ends};
 use std::test::Fail;
-
-const USAGE: &str =
-    "usage: acpitool show FILE .. [NAME=N ..] | image FILE [BASE] | --help | --version\n";
 
 #[test]
 fn words(rt: HostRuntime) -> Result<(), Fail> {
@@ -29,6 +26,16 @@ fn words(rt: HostRuntime) -> Result<(), Fail> {
         ),
         (&["image", "x", "0", "y"], "acpitool: unknown word y\n"),
         (&["image", "--all"], "acpitool: unknown word --all\n"),
+        (&["make"], "acpitool: no text to make\n"),
+        (&["make", "x"], "acpitool: no file for the table\n"),
+        (&["make", "x", "y", "z"], "acpitool: unknown word z\n"),
+        (&["make", "x", "--all"], "acpitool: unknown word --all\n"),
+        (&["template"], "acpitool: no signature\n"),
+        (&["template", "APIC", "x"], "acpitool: unknown word x\n"),
+        (
+            &["template", "MADT1"],
+            "acpitool: not a signature of four characters: MADT1\n",
+        ),
     ] {
         let err = format!(in rt.alloc(); "{line}{USAGE}")?;
         ends(&rt, words, 2, "", err.as_str())?;

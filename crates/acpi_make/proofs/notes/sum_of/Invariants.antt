@@ -1,6 +1,6 @@
 use Rattle.std.proofs.Common.{◌≡◌, ◌%◌, ◌<◌, take}
 use Rattle.std.specs.Prelude.{sum}
-use Rattle.acpi_make.proofs.complete.sum_of.Given as goal
+use Rattle.acpi_make.proofs.notes.sum_of.Given as goal
 
 abbrev pub invariant-bytes : goal.invariant-bytes
 invariant-bytes l = l.sum ≡ sum (take l.byte-index l.bytes) % 256

@@ -1,0 +1,196 @@
+-- Tables that are made without notes are correct.
+use Rattle.std.proofs.Common.{◌≡◌, ℕ, zero, suc, ◌+◌, ◌/◌, ◌%◌, ◌<◌, ◌≤◌, ◌==◌, nat_lt, nat_le, ◌&&◌, not, Bool, true, false, cond}
+use Rattle.std.proofs.Common.{List, [], ◌∷◌, ◌++◌, length, take, drop, map, Option, Some, None, Result, Ok, Err, refl, sym, ap, subst, ◌∙◌, arith, length-append}
+use Rattle.std.specs.Prelude.{sum}
+use Rattle.std.proofs.Math.Seq.{take-length}
+use Rattle.std.proofs.lemmas.Bool.{lt-ltb, le-leb, eqb-true, leb-true, and_parts}
+use Rattle.std.proofs.lemmas.List.{take-append-drop, drop-drop, length-drop, length-map}
+use Rattle.acpi_base.proofs.Bytes.{length_le}
+use Rattle.acpi_base.specs.Bytes.{le, carried, field_at}
+use Rattle.acpi_base.specs.Table.{IsTrueTable}
+use Rattle.acpi_base.specs.declared.walk.Walk.{Walk}
+use Rattle.acpi_make.specs.Complete.{left_front, written, filled, all_filled, summed, known, completed}
+use Rattle.acpi_make.specs.Draft.{Drafted, nothing_yet, all_taken}
+use Rattle.acpi_make.specs.Fits.{fits}
+use Rattle.acpi_make.specs.Gives.{with_front, and_then}
+use Rattle.acpi_make.specs.Item.{known_cells}
+use Rattle.acpi_make.specs.Laws.{TablesAreTrue}
+use Rattle.acpi_make.specs.Made.{Table, sizes_own, made_of, numbers_own, finished}
+use Rattle.acpi_make.specs.Notes.{begins_with, is_untrue, untrue, untrue_sum, notes}
+use Rattle.acpi_make.specs.Own.{own}
+use Rattle.acpi_make.specs.declared.complete.Shape.{Shape}
+use Rattle.acpi_make.specs.declared.complete.Shape.TheVariants as shapes
+use Rattle.acpi_make.specs.declared.draft.Source.{Source}
+use Rattle.acpi_make.specs.declared.fault.Fault.{Fault}
+use Rattle.acpi_make.specs.declared.item.Cell.{Cell}
+use Rattle.acpi_make.specs.declared.item.Cell.TheVariants.{Byte, Left}
+use Rattle.acpi_make.specs.declared.own.Own.{Own}
+
+-- ---- as many bytes as cells
+
+-- what a value comes from
+pub record Then {A B : Type 0} (first : Result A Fault) (rest : A → Result B Fault) (value : B) : Type 0 where
+  pub middle : A
+  pub is : first ≡ Ok middle
+  pub follows : rest middle ≡ Ok value
+
+pub then_is : {A B : Type 0} → (first : Result A Fault) (rest : A → Result B Fault) (value : B) → and_then first rest ≡ Ok value → Then first rest value
+then_is (Ok middle) rest value is = record { middle = middle; is = refl; follows = is }
+then_is (Err fault) rest value is = absurd cc
+
+record Front (b : ℕ) (read : Result (List ℕ) Fault) (bytes : List ℕ) : Type 0 where
+  rest : List ℕ
+  is : read ≡ Ok rest
+  whole : b ∷ rest ≡ bytes
+
+front_is : (b : ℕ) (read : Result (List ℕ) Fault) (bytes : List ℕ) → with_front (b ∷ []) read ≡ Ok bytes → Front b read bytes
+front_is b (Ok rest) bytes is = record { rest = rest; is = refl; whole = cc }
+front_is b (Err fault) bytes is = absurd cc
+
+length_known : (cells : List Cell) (bytes : List ℕ) → known cells ≡ Ok bytes → length bytes ≡ length cells
+length_known [] bytes is = let e : [] ≡ bytes = cc in ap length (sym e)
+length_known (Left line ∷ cells) bytes is = absurd cc
+length_known (Byte b ∷ cells) bytes is =
+    let front = front_is b (known cells) bytes is in
+    ap length (sym front.whole) ∙ ap suc (length_known cells front.rest front.is)
+
+left_within : (cells : List Cell) → left_front cells ≤ length cells
+left_within [] = omega arith
+left_within (Left line ∷ cells) = omega (arith, left_within cells)
+left_within (Byte b ∷ cells) = omega arith
+
+length_written : (offset w n : ℕ) (cells : List Cell) → w ≤ length (drop offset cells) → length (written offset w n cells) ≡ length cells
+length_written offset w n cells fits =
+    let all = length-append (take offset cells) (known_cells (le w n) ++ drop (offset + w) cells) in
+    let end = length-append (known_cells (le w n)) (drop (offset + w) cells) in
+    let own = length-map (le w n) Byte ∙ length_le w n in
+    let rest = ap length (sym (drop-drop w offset cells)) ∙ length-drop w (drop offset cells) in
+    let whole = sym (length-append (take offset cells) (drop offset cells)) ∙ ap length (take-append-drop offset cells) in
+    omega (arith, all, end, own, rest, whole, fits)
+
+length_chosen : (a b c : Bool) (x y : List Cell) → (b ≡ true → length x ≡ length y) → length (cond (a && b && c) x y) ≡ length y
+length_chosen true true true x y same = same refl
+length_chosen true true false x y same = refl
+length_chosen true false c x y same = refl
+length_chosen false b c x y same = refl
+
+length_filled : (offset w n : ℕ) (cells : List Cell) → length (filled offset w n cells) ≡ length cells
+length_filled offset w n cells =
+    let left = left_front (drop offset cells) in
+    length_chosen (nat_lt offset (length cells)) (nat_le w left) (fits w n) _ _
+    (λ is. length_written offset w n cells (let e = leb-true w left is in omega (arith, e, left_within (drop offset cells))))
+
+length_all : (owns : List Own) (cells : List Cell) → length (all_filled owns cells) ≡ length cells
+length_all [] cells = refl
+length_all (one ∷ owns) cells =
+    length_all owns (filled one.offset one.width one.number cells) ∙ length_filled one.offset one.width one.number cells
+
+length_summed : (shape : Shape) (cells : List Cell) → length (summed shape cells) ≡ length cells
+length_summed shapes.Table cells = length_filled 9 1 _ cells
+length_summed shapes.Pointer cells = length_filled 32 1 _ _ ∙ length_filled 8 1 _ cells
+length_summed shapes.Control cells = refl
+
+length_completed : (shape : Shape) (owns : List Own) (cells : List Cell) (bytes : List ℕ) → completed shape owns cells ≡ Ok bytes
+    → length bytes ≡ length cells
+length_completed shape owns cells bytes is =
+    length_known (summed shape (all_filled owns cells)) bytes is ∙ length_summed shape (all_filled owns cells) ∙ length_all owns cells
+
+-- a table that is made has as many bytes as its text, and notes on them
+pub record IsFinished (shape : Shape) (walk : Option Walk) (d : Drafted) (table : Table) : Type 0 where
+  pub size : length table.bytes ≡ length d.cells
+  pub noted : table.untrue ≡ notes shape (sizes_own shape walk d) table.bytes
+
+pub finished_is : (shape : Shape) (walk : Option Walk) (s : Source) (d : Drafted) (table : Table) → finished shape walk s d ≡ Ok table
+    → IsFinished shape walk d table
+finished_is shape walk s d table is =
+    let one = then_is (numbers_own shape walk s d) _ table is in
+    let two = then_is (completed shape one.middle d.cells) _ table one.follows in
+    let same : made_of shape walk d two.middle ≡ table = cc in
+    subst (λ made. IsFinished shape walk d made) same
+    (record { size = length_completed shape one.middle d.cells two.middle two.is; noted = refl })
+
+-- ---- numbers without a note
+
+-- none of the numbers has a note
+abbrev pub AllHold : List ℕ → List Own → Type 0
+AllHold bytes [] = Unit {0}
+AllHold bytes (one ∷ owns) = (is_untrue one bytes ≡ false) × AllHold bytes owns
+
+not_noted : (b : Bool) (one : Own) (owns : List Own) → cond b (one ∷ owns) owns ≡ [] → (b ≡ false) × (owns ≡ [])
+not_noted true one owns is = absurd cc
+not_noted false one owns is = (refl, is)
+
+all_hold : (owns : List Own) (bytes : List ℕ) → untrue owns bytes ≡ [] → AllHold bytes owns
+all_hold [] bytes is = tt
+all_hold (one ∷ owns) bytes is =
+    let rest = not_noted (is_untrue one bytes) one (untrue owns bytes) is in
+    (rest.0, all_hold owns bytes rest.1)
+
+none_in : (a b : List Own) → a ++ b ≡ [] → (a ≡ []) × (b ≡ [])
+none_in [] b is = (refl, is)
+none_in (one ∷ a) b is = absurd cc
+
+pub hold_both : (bytes : List ℕ) (a b : List Own) → AllHold bytes (a ++ b) → AllHold bytes a × AllHold bytes b
+hold_both bytes [] b hold = (tt, hold)
+hold_both bytes (one ∷ a) b hold =
+    let rest = hold_both bytes a b hold.1 in
+    ((hold.0, rest.0), rest.1)
+
+begins_is : (w n : ℕ) (bytes : List ℕ) → begins_with w n bytes ≡ true → carried (take w bytes) ≡ n
+begins_is zero n bytes is = sym (eqb-true n 0 is)
+begins_is (suc w) n [] is = absurd cc
+begins_is (suc w) n (b ∷ bytes) is =
+    let parts = and_parts (b == n % 256) (begins_with w (n / 256) bytes) is in
+    let lowest = eqb-true b (n % 256) parts.0 in
+    let rest = begins_is w (n / 256) bytes parts.1 in
+    omega (arith, lowest, rest)
+
+not_false : (a b : Bool) → a ≡ true → (a && not b) ≡ false → b ≡ true
+not_false true true one is = refl
+not_false true false one is = absurd cc
+not_false false b one is = absurd cc
+
+-- a number without a note is in its field, if the field is there
+pub holds : (offset w n : ℕ) (bytes : List ℕ) → w ≤ length (drop offset bytes) → is_untrue (own offset w n) bytes ≡ false
+    → field_at offset w bytes ≡ n
+holds offset w n bytes within is =
+    let field = drop offset bytes in
+    begins_is w n field (not_false (nat_le w (length field)) (begins_with w n field) (le-leb w (length field) within) is)
+
+-- ---- whole tables
+
+no_sum : (a b : Bool) (one : Own) → a ≡ true → cond (a && not b) (one ∷ []) [] ≡ [] → b ≡ true
+no_sum true true one is none = refl
+no_sum true false one is none = absurd cc
+no_sum false b one is none = absurd cc
+
+sum_right : (offset : ℕ) (bytes : List ℕ) → offset < length bytes → untrue_sum offset (length bytes) bytes ≡ [] → sum bytes % 256 ≡ 0
+sum_right offset bytes within none =
+    let front = take (length bytes) bytes in
+    ap (λ l. sum l % 256) (sym (take-length bytes))
+    ∙ eqb-true (sum front % 256) 0 (no_sum (nat_lt offset (length bytes)) (sum front % 256 == 0) _ (lt-ltb offset (length bytes) within) none)
+
+-- what a table without notes is
+pub record IsQuiet (walk : Option Walk) (d : Drafted) (bytes : List ℕ) : Type 0 where
+  pub hold : AllHold bytes (sizes_own shapes.Table walk d)
+  pub sums : untrue_sum 9 (length bytes) bytes ≡ []
+
+pub quiet_is : (walk : Option Walk) (d : Drafted) (table : Table) → IsFinished shapes.Table walk d table → table.untrue ≡ []
+    → IsQuiet walk d table.bytes
+quiet_is walk d table is none =
+    let sizes = sizes_own shapes.Table walk d in
+    let both = none_in (untrue sizes table.bytes) (untrue_sum 9 (length table.bytes) table.bytes) (sym is.noted ∙ none) in
+    record { hold = all_hold sizes table.bytes both.0; sums = both.1 }
+
+pub tables_true : TablesAreTrue
+tables_true walk s parts table is none long =
+    let one = then_is (all_taken s parts nothing_yet) _ table is in
+    let done = finished_is shapes.Table walk s one.middle table one.follows in
+    let quiet = quiet_is walk one.middle table done none in
+    record {
+      header = long;
+      tells =
+          holds 4 4 (length one.middle.cells) table.bytes (omega (arith, long, length-drop 4 table.bytes)) quiet.hold.0
+          ∙ sym done.size;
+      zero = sum_right 9 table.bytes (omega (arith, long)) quiet.sums;
+    }

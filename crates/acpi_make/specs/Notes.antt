@@ -1,0 +1,41 @@
+-- The numbers of a table that aren't right.
+use Rattle.std.specs.Prelude.{ℕ, zero, suc, ◌+◌, ◌/◌, ◌%◌, ◌==◌, nat_lt, nat_le, ◌&&◌, not, Bool, false, if◌then◌else◌, sum, slice_index}
+use Rattle.std.specs.Prelude.{List, [], ◌∷◌, ◌++◌, length, take, drop}
+use Rattle.acpi_base.specs.Bytes.{complement}
+use Rattle.acpi_make.specs.Own.{own}
+use Rattle.acpi_make.specs.declared.complete.Shape.{Shape}
+use Rattle.acpi_make.specs.declared.complete.Shape.TheVariants.{Table, Pointer, Control}
+use Rattle.acpi_make.specs.declared.own.Own.{Own}
+
+-- whether bytes begin with w bytes of this number, lowest first
+abbrev pub begins_with : ℕ → ℕ → List ℕ → Bool
+begins_with zero n bytes = n == 0
+begins_with (suc w) n [] = false
+begins_with (suc w) n (b ∷ bytes) = b == n % 256 && begins_with w (n / 256) bytes
+
+-- whether all bytes of a number's field are there, and it is another number
+abbrev pub is_untrue : Own → List ℕ → Bool
+is_untrue one bytes =
+    nat_le one.width (length (drop one.offset bytes)) && not (begins_with one.width one.number (drop one.offset bytes))
+
+-- the numbers that aren't in their fields
+abbrev pub untrue : List Own → List ℕ → List Own
+untrue [] bytes = []
+untrue (one ∷ owns) bytes = if is_untrue one bytes then one ∷ untrue owns bytes else untrue owns bytes
+
+-- the byte at an offset that would make the sum of the first n bytes zero, if they don't sum to zero
+abbrev pub untrue_sum : ℕ → ℕ → List ℕ → List Own
+untrue_sum offset n bytes =
+    if nat_lt offset (length bytes) && not (sum (take n bytes) % 256 == 0)
+    then own offset 1 ((slice_index bytes offset + complement (sum (take n bytes))) % 256) ∷ []
+    else []
+
+-- The checksums: of a table (ACPI 6.5, 5.2.6), and of a pointer, for its first 20 bytes and for all (5.2.5.3).
+abbrev pub untrue_sums : Shape → List ℕ → List Own
+untrue_sums Table bytes = untrue_sum 9 (length bytes) bytes
+untrue_sums Pointer bytes = untrue_sum 8 20 bytes ++ untrue_sum 32 (length bytes) bytes
+untrue_sums Control bytes = []
+
+-- the numbers that aren't in their fields, and the checksums that aren't right
+abbrev pub notes : Shape → List Own → List ℕ → List Own
+notes shape owns bytes = untrue owns bytes ++ untrue_sums shape bytes
