@@ -1,6 +1,6 @@
 -- What whole lines consist of.
 use Rattle.std.proofs.Common.{◌≡◌, ℕ, zero, suc, ◌+◌, ◌-◌, ◌*◌, ◌^◌, ◌<◌, ◌≤◌, ◌==◌, ◌&&◌, nat_le, nat_lt, true, false, Bool, cond}
-use Rattle.std.proofs.Common.{List, [], ◌∷◌, ◌++◌, length, codes, map, Some, None, Option, refl, sym, ap, ◌∙◌, append_assoc, arith}
+use Rattle.std.proofs.Common.{List, [], ◌∷◌, ◌++◌, length, codes, Some, None, Option, refl, sym, ap, ◌∙◌, append_assoc, arith}
 use Rattle.std.specs.Prelude.{bit_and}
 use Rattle.std.specs.Fmt.{decimal}
 use Rattle.std.proofs.lemmas.Bool.{and_parts, eqb-true, leb-true}
@@ -16,12 +16,11 @@ use Rattle.acpi_make.proofs.Reading.{Follows, space_follows, end_follows, number
 use Rattle.acpi_make.specs.Gives.{with_front}
 use Rattle.acpi_make.specs.Item.{known_cells, byte_items, cells_of}
 use Rattle.acpi_make.specs.Meaning.{Outcome, act, read}
-use Rattle.acpi_make.specs.declared.item.Cell.{Cell}
 use Rattle.acpi_make.specs.declared.item.Cell.TheVariants.{Byte}
 use Rattle.acpi_make.specs.declared.item.Item.{Item}
 use Rattle.acpi_make.specs.declared.item.Item.TheVariants.{Heading, Name}
 use Rattle.acpi_make.specs.declared.state.State.{State}
-use Rattle.acpi_make.specs.declared.state.State.TheVariants.{Start, Slashed, Headed, Indented, NameSlashed, Named, Skipped, Ended}
+use Rattle.acpi_make.specs.declared.state.State.TheVariants.{Start, Slashed, Headed, Indented, NameSlashed, Named, Skipped}
 use Rattle.acpi_make.specs.declared.state.Step.{Step}
 use Rattle.acpi_make.specs.declared.state.Step.TheVariants.{Goes}
 

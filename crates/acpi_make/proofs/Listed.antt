@@ -1,12 +1,12 @@
 -- Tables that are made without notes are walked by the structures that their texts list.
 use Rattle.std.proofs.Common.{◌≡◌, ℕ, zero, suc, ◌+◌, ◌-◌, ◌^◌, ◌<◌, ◌≤◌, nat_lt, nat_le, ◌&&◌, Bool, true, false, cond}
-use Rattle.std.proofs.Common.{List, [], ◌∷◌, ◌++◌, length, take, drop, Option, Some, None, Result, Ok, Err, refl, sym, ap, subst, ◌∙◌, arith}
+use Rattle.std.proofs.Common.{List, [], ◌∷◌, ◌++◌, length, take, drop, Some, refl, sym, ap, subst, ◌∙◌, arith}
 use Rattle.std.specs.List.{concat}
 use Rattle.std.proofs.Math.Seq.{drop-length}
 use Rattle.std.proofs.lemmas.Bool.{lt-ltb, le-leb}
 use Rattle.std.proofs.lemmas.List.{take-append-drop, drop-drop, drop-take, length-drop, length-take-le}
 use Rattle.acpi_base.specs.Bytes.{carried, field_at}
-use Rattle.acpi_base.specs.Walk.{place_offset, place_width, end_of, number_in, IsPiece, ArePieces, Tells, Walks, IsSound, HasSizes}
+use Rattle.acpi_base.specs.Walk.{place_offset, place_width, end_of, IsPiece, ArePieces, Tells, HasSizes}
 use Rattle.acpi_base.specs.declared.walk.Place.{Place}
 use Rattle.acpi_base.specs.declared.walk.Place.TheVariants.{Nowhere, Byte, Word, DWord}
 use Rattle.acpi_base.specs.declared.walk.Sizes.{Sizes}

@@ -1,18 +1,18 @@
 -- What texts of known bytes are made into.
 use Rattle.std.proofs.Common.{◌≡◌, ℕ, zero, suc, ◌+◌, ◌==◌, nat_lt, nat_le, ◌&&◌, Bool, true, false, cond}
-use Rattle.std.proofs.Common.{List, [], ◌∷◌, ◌++◌, length, take, drop, map, Option, Some, None, Result, Ok, Err, refl, sym, ap, subst, ◌∙◌, append_assoc, arith}
+use Rattle.std.proofs.Common.{List, [], ◌∷◌, ◌++◌, length, take, drop, Option, Some, None, Result, Ok, refl, sym, ap, subst, ◌∙◌, append_assoc, arith}
 use Rattle.std.proofs.lemmas.Bool.{lt-leb}
 use Rattle.std.proofs.lemmas.List.{append-nil, take-append-drop}
 use Rattle.acpi_base.specs.declared.walk.Walk.{Walk}
 use Rattle.acpi_make.specs.Complete.{left_front, written, filled, all_filled, summed_at, summed, known, completed}
-use Rattle.acpi_make.specs.Draft.{Drafted, nothing_yet, line_found, with_line, with_heading, with_cells, taken, all_taken}
+use Rattle.acpi_make.specs.Draft.{Drafted, nothing_yet, line_found, with_line, with_heading, with_cells, all_taken}
 use Rattle.acpi_make.specs.Entry.{Kind}
 use Rattle.acpi_make.specs.Fits.{fits}
 use Rattle.acpi_make.specs.Gives.{with_front, and_then}
 use Rattle.acpi_make.specs.Item.{known_cells, cells_of}
 use Rattle.acpi_make.specs.Laws.{HasBytes, IsMadeInto, TablesAreRead, TablesAreMade}
-use Rattle.acpi_make.specs.Made.{Table, sizes_own, made_of, numbers_own, finished, made}
-use Rattle.acpi_make.specs.Meaning.{parts_of, read}
+use Rattle.acpi_make.specs.Made.{sizes_own, made_of, finished, made}
+use Rattle.acpi_make.specs.Meaning.{read}
 use Rattle.acpi_make.specs.Own.{table_own, references_own}
 use Rattle.acpi_make.specs.declared.complete.Shape.{Shape}
 use Rattle.acpi_make.specs.declared.complete.Shape.TheVariants as shapes
@@ -22,12 +22,11 @@ use Rattle.acpi_make.specs.declared.draft.Mark.TheVariants.{Structure, Line, Ref
 use Rattle.acpi_make.specs.declared.draft.Source.{Source}
 use Rattle.acpi_make.specs.declared.fault.Fault.{Fault}
 use Rattle.acpi_make.specs.declared.item.Cell.{Cell}
-use Rattle.acpi_make.specs.declared.item.Cell.TheVariants.{Byte, Left}
+use Rattle.acpi_make.specs.declared.item.Cell.TheVariants.{Byte}
 use Rattle.acpi_make.specs.declared.item.Item.{Item}
 use Rattle.acpi_make.specs.declared.item.Item.TheVariants as items
 use Rattle.acpi_make.specs.declared.own.Own.{Own}
 use Rattle.acpi_make.specs.declared.state.State.TheVariants.{Start}
-use Rattle.acpi_make.proofs.Lines.{Means}
 use Rattle.acpi_make.proofs.Tables.{tables_mean}
 
 -- ---- known bytes are kept

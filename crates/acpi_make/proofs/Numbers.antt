@@ -1,5 +1,5 @@
 -- Numbers in cells, and in bytes.
-use Rattle.std.proofs.Common.{◌≡◌, ℕ, zero, suc, ◌-◌, ◌/◌, ◌%◌, ◌<◌, ◌&&◌, true, List, ◌∷◌, refl, sym, ap, ◌∙◌, arith, eq-eqb}
+use Rattle.std.proofs.Common.{◌≡◌, ℕ, zero, suc, ◌-◌, ◌/◌, ◌%◌, ◌<◌, ◌&&◌, true, List, ◌∷◌, ap, ◌∙◌, arith, eq-eqb}
 use Rattle.acpi_make.specs.Heading.{is_lowest, has_number}
 use Rattle.acpi_make.specs.Notes.{begins_with}
 use Rattle.acpi_base.proofs.Bytes.{le_step}

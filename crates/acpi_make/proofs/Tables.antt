@@ -2,7 +2,7 @@
 use Rattle.std.proofs.Common.{◌≡◌, ℕ, zero, suc, ◌+◌, ◌^◌, ◌<◌, ◌≤◌, ◌==◌, nat_le, Bool, true, false, cond}
 use Rattle.std.proofs.Common.{List, [], ◌++◌, length, take, drop, codes, refl, sym, ap, ◌∙◌, subst, append_assoc, arith, length-append, Option, Some, None, ◌∷◌}
 use Rattle.std.specs.Fmt.{decimal}
-use Rattle.std.proofs.lemmas.List.{append-nil, length-drop, length-take, length-take-le, take-append-drop}
+use Rattle.std.proofs.lemmas.List.{length-drop, length-take, length-take-le, take-append-drop}
 use Rattle.std.proofs.Math.Nat.{min-le_left}
 use Rattle.acpi_base.specs.Bytes.{AreBytes, carried}
 use Rattle.acpi_base.specs.Walk.{place_offset, place_width, end_of}

@@ -1,13 +1,12 @@
 -- Tables that are made without notes are correct.
 use Rattle.std.proofs.Common.{◌≡◌, ℕ, zero, suc, ◌+◌, ◌/◌, ◌%◌, ◌<◌, ◌≤◌, ◌==◌, nat_lt, nat_le, ◌&&◌, not, Bool, true, false, cond}
-use Rattle.std.proofs.Common.{List, [], ◌∷◌, ◌++◌, length, take, drop, map, Option, Some, None, Result, Ok, Err, refl, sym, ap, subst, ◌∙◌, arith, length-append}
+use Rattle.std.proofs.Common.{List, [], ◌∷◌, ◌++◌, length, take, drop, Option, Result, Ok, Err, refl, sym, ap, subst, ◌∙◌, arith, length-append}
 use Rattle.std.specs.Prelude.{sum}
 use Rattle.std.proofs.Math.Seq.{take-length}
 use Rattle.std.proofs.lemmas.Bool.{lt-ltb, le-leb, eqb-true, leb-true, and_parts}
 use Rattle.std.proofs.lemmas.List.{take-append-drop, drop-drop, length-drop, length-map}
 use Rattle.acpi_base.proofs.Bytes.{length_le}
 use Rattle.acpi_base.specs.Bytes.{le, carried, field_at}
-use Rattle.acpi_base.specs.Table.{IsTrueTable}
 use Rattle.acpi_base.specs.declared.walk.Walk.{Walk}
 use Rattle.acpi_make.specs.Complete.{left_front, written, filled, all_filled, summed, known, completed}
 use Rattle.acpi_make.specs.Draft.{Drafted, nothing_yet, all_taken}

@@ -1,8 +1,7 @@
 -- A table in the making.
-use Rattle.std.specs.Prelude.{◌≡◌, ℕ, ◌==◌, nat_le, ◌&&◌, Bool, true, false, if◌then◌else◌}
-use Rattle.std.specs.Prelude.{List, [], ◌∷◌, ◌++◌, length, drop, map, replicate, Option, Some, None, Result, Ok, Err}
+use Rattle.std.specs.Prelude.{ℕ, ◌==◌, Bool, true, false, if◌then◌else◌}
+use Rattle.std.specs.Prelude.{List, [], ◌∷◌, ◌++◌, length, drop, replicate, Option, Some, None, Result, Ok, Err}
 use Rattle.acpi_base.specs.Bytes.{le}
-use Rattle.acpi_text.specs.Note.{Note}
 use Rattle.acpi_text.specs.Structure.{form_parts, form_inner}
 use Rattle.acpi_text.specs.declared.form.Inner.{Inner}
 use Rattle.acpi_text.specs.declared.form.Inner.TheVariants.{Nothing}

@@ -1,5 +1,5 @@
 -- The table that a text is made into.
-use Rattle.std.specs.Prelude.{List, [], ◌∷◌, ◌++◌, length, Option, Some, None, Result, Ok, Err, ℕ}
+use Rattle.std.specs.Prelude.{List, ◌∷◌, ◌++◌, length, Option, Some, None, Result, Ok, ℕ}
 use Rattle.acpi_base.specs.declared.walk.Place.{Place}
 use Rattle.acpi_base.specs.declared.walk.Place.TheVariants.{Nowhere}
 use Rattle.acpi_base.specs.declared.walk.Walk.{Walk}

@@ -1,5 +1,5 @@
 -- A text of a form with zeros, for a start.
-use Rattle.std.specs.Prelude.{ℕ, zero, suc, ◌+◌, ◌*◌, ◌^◌, ◌==◌, nat_lt, not, ◌&&◌, ◌||◌, Bool, true, false, if◌then◌else◌}
+use Rattle.std.specs.Prelude.{ℕ, zero, suc, ◌+◌, ◌*◌, ◌^◌, ◌==◌, nat_lt, not, ◌&&◌, ◌||◌, Bool, false, if◌then◌else◌}
 use Rattle.std.specs.Prelude.{List, [], ◌∷◌, ◌++◌, length, codes, Option, Some, None}
 use Rattle.std.specs.List.{flat_map, slice_range}
 use Rattle.acpi_base.specs.Fields.{row_width}
@@ -21,7 +21,7 @@ use Rattle.acpi_text.specs.declared.form.StructureForm.{StructureForm}
 use Rattle.acpi_text.specs.declared.form.TableForm.{TableForm}
 use Rattle.acpi_text.specs.Label.{label}
 use Rattle.acpi_text.specs.Line.{spaces}
-use Rattle.acpi_text.specs.Note.{Note, plain, flags, one_of, words_of}
+use Rattle.acpi_text.specs.Note.{Note, plain, flags, one_of}
 use Rattle.acpi_text.specs.Register.{address_spaces, access_sizes}
 use Rattle.acpi_make.specs.Complete.{length_own}
 use Rattle.acpi_make.specs.Entry.{row_entry}

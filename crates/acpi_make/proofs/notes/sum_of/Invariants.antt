@@ -1,4 +1,4 @@
-use Rattle.std.proofs.Common.{◌≡◌, ◌%◌, ◌<◌, take}
+use Rattle.std.proofs.Common.{◌≡◌, ◌%◌, take}
 use Rattle.std.specs.Prelude.{sum}
 use Rattle.acpi_make.proofs.notes.sum_of.Given as goal
 
