@@ -53,7 +53,7 @@ names_hint between (word ∷ words) = codes "  // " ++ (label word.1 ++ joined b
 abbrev pub hint : Note → List ℕ
 hint plain = []
 hint (flags words) = names_hint (codes " | ") words
-hint (one_of words) = names_hint (codes ", ") words
+hint (one_of words) = names_hint (codes "; ") words
 
 -- ---- a field
 

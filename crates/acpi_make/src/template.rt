@@ -77,7 +77,7 @@ fn push_hint(words: Words, text: &mut String) -> Result<(), AllocError>
     match words {
         Words::None => Ok(()),
         Words::Flags(words) => push_names(" | ", words, text),
-        Words::OneOf(words) => push_names(", ", words, text),
+        Words::OneOf(words) => push_names("; ", words, text),
     }
 }
 

@@ -25,7 +25,7 @@
 //! use acpi_tables::slit::SLIT;
 //! use acpi_tables::spcr::SPCR;
 //! use acpi_tables::srat::{MemoryAffinity, SRAT};
-//! use acpi_tables::text::show;
+//! use acpi_tables::text::{Made, MakeError, make, show};
 //! use acpi_tables::tpm2::{PlatformClass, StartMethod, Tpm2};
 //! use acpi_tables::viot::{PciDevice, PciRange, VIOT, VirtIoPciIommu};
 //! use acpi_tables::xsdt::XSDT;
@@ -155,6 +155,11 @@
 //! // text: each field of a table, by its name.
 //! fn fields(alloc: Global, table: &Table) -> R<String> {
 //!     show(alloc, table)
+//! }
+//!
+//! // The same text, changed or written by hand, is made into a table.
+//! fn table_of(alloc: Global, text: &[u8]) -> Result<Made, MakeError> {
+//!     make(alloc, text)
 //! }
 //! ```
 //!
@@ -310,11 +315,15 @@ pub mod srat {
     };
 }
 
-/// The texts of tables, with a line for each field, and of definition blocks.
+/// The texts of tables, with a line for each field, and of definition blocks; tables that are made of texts.
 pub mod text {
     pub use acpi_base::row::{Row, Word};
     pub use acpi_base::walk::{Place, Sizes, Walk};
+    pub use acpi_forms::make::{make, template};
     pub use acpi_forms::show::{show, show_facs, show_rsdp};
+    pub use acpi_make::fault::{Fault, MakeError, Wanted};
+    pub use acpi_make::make::Made;
+    pub use acpi_make::own::Own;
     pub use acpi_terms_text::annotate::annotated;
     pub use acpi_terms_text::methods::own_arities;
     pub use acpi_text::comment::push_comment;
