@@ -1,10 +1,10 @@
-# What demo.sh, bench.sh, iasl.sh, limits.sh and memory.sh share: how crates of crates.txt are proved and built. Sourced from the
-# root. Crates that don't stand on each other are proved side by side, as many at a time as there are processors, at most four,
-# and 3 GB of free memory for each. JOBS says how many instead.
+# What demo.sh, texts.sh, bench.sh, iasl.sh, limits.sh and memory.sh share: how crates of crates.txt are proved and built. Sourced
+# from the root. Crates that don't stand on each other are proved side by side, as many at a time as there are processors, at most
+# four, and 3 GB of free memory for each. JOBS says how many instead.
 
 work=$(mktemp -d)
 running=
-trap 'end_runs; rm -rf "$work"' EXIT
+trap 'end_runs; rm -rf "$work"; rmdir out 2>/dev/null || true' EXIT
 trap 'exit 130' INT
 trap 'exit 143' TERM HUP
 
@@ -51,6 +51,34 @@ lanes() {
     ' /proc/meminfo
 }
 
+# Copies the sources of a crate to another folder of crates.
+copy_sources() {
+    mkdir -p "$2/$1"
+    for part in "crates/$1"/*; do
+        [ "${part##*/}" = out ] || cp -R "$part" "$2/$1"
+    done
+}
+
+# Makes the folder in which a crate is proved. While rt works on a crate, it keeps other runs from it and from all that it stands
+# on. So each crate is proved beside copies of those that it stands on, with links to their libraries, and its own work is moved
+# there and back.
+begin_folder() {
+    mkdir -p "$folder/crates"
+    cp crates.txt "$folder"
+    for below in $(crates_below "$crate" | sed 's/:.*//'); do
+        copy_sources "$below" "$folder/crates"
+        [ "$below" != "$crate" ] || continue
+        mkdir "$folder/crates/$below/out"
+        cp -R -l "crates/$below/out/rlib" "$folder/crates/$below/out"
+    done
+    [ ! -d "crates/$crate/out" ] || mv "crates/$crate/out" "$folder/crates/$crate"
+}
+
+end_folder() {
+    [ ! -d "$folder/crates/$crate/out" ] || mv "$folder/crates/$crate/out" "crates/$crate"
+    rm -rf "$folder"
+}
+
 # Begins to prove and build a crate. A program is built by a run, so it gets words with which it ends at once.
 begin() {
     crate=$1
@@ -63,12 +91,15 @@ begin() {
     acpi_memory) set -- run --jobs 1 ;;
     *) set -- lib --jobs 1 ;;
     esac
+    folder=$PWD/out/$crate
     (
-        cd "crates/$crate"
-        rt "$@" </dev/null >"$work/$crate.log" 2>&1 &
+        begin_folder
+        (cd "$folder/crates/$crate" && exec rt "$@" </dev/null >"$work/$crate.log" 2>&1) &
         run=$!
-        trap 'kill "$run" 2>/dev/null; wait "$run"; exit 1' TERM
-        if wait "$run"; then echo "$crate 0" >&3; else echo "$crate 1" >&3; fi
+        trap 'kill "$run" 2>/dev/null; wait "$run"; end_folder; exit 1' TERM
+        if wait "$run"; then proved=0; else proved=1; fi
+        end_folder
+        echo "$crate $proved" >&3
     ) &
     running="$running $crate:$!"
 }

@@ -1,8 +1,8 @@
 #!/bin/sh
 # Has one program write tables, and two others read them. acpiread reads each table, one without its last byte, and one with its
-# AML. acpitool shows a table field by field, and finds the tables of an image. Then acpiread meets what only the system can give
-# it. The programs are proved before they are built, with everything that they stand on. The first run takes minutes, and a later
-# one seconds. With `built`, the programs are those that `rt ci` left, and nothing is proved.
+# AML. acpitool shows a table field by field, finds the tables of an image, and makes a table of a text. Then acpiread meets what
+# only the system can give it. The programs are proved before they are built, with everything that they stand on. The first run
+# takes minutes, and a later one seconds. With `built`, the programs are those that `rt ci` left, and nothing is proved.
 set -eu
 cd "$(dirname "$0")"
 
@@ -103,6 +103,31 @@ expect "$lines" '0x1c0007a0 RSD  length 36 revision 2
 0x1c0006f8 BERT length 48 revision 1
 0x1c000000 FACS length 64 revision 1
 0x1c000040 DSDT length 314 revision 2'
+
+# A text is made into a table: the beginning of a template, with the first processor enabled. Its length, its checksum, and the
+# type and the length of its structure are worked out. Both programs read the table.
+"$tool" template APIC >"$work/template"
+sed -e '/^I.O APIC/,$d' -e 's/^  Revision: 00/  Revision: 05/' -e 's/^  APIC ID: 00/  APIC ID: #7/' \
+    -e '/^Processor/,$s/Flags: 00000000 .*/Flags: {Enabled}/' "$work/template" >"$work/text"
+cat "$work/text"
+expect "$("$tool" make "$work/text" "$work/acpi/made" 2>&1)" ''
+reads made 'APIC length 52 revision 5 sum 0
+44 type 0 size 8'
+lines=$("$tool" show "$work/acpi/made" | sed -n '/^44/,$p') || true
+echo "$lines"
+expect "$lines" '44 type 0 size 8 Processor Local APIC Structure
+  44 Type                               : 00
+  45 Length                             : 08
+  46 ACPI Processor UID                 : 00
+  47 APIC ID                            : 07
+  48 Flags                              : 00000001  // Enabled'
+
+# Each table that was written is made of its own text again.
+for table in package fadt madt mcfg srat slit hmat pptt hest bert namespace; do
+    "$tool" show "$work/acpi/$table" >"$work/text"
+    expect "$table $("$tool" make "$work/text" "$work/made" 2>&1)" "$table "
+    cmp "$work/acpi/$table" "$work/made"
+done
 
 # A run of acpiread that prints no report: its status, its line, and its words.
 ends() {
