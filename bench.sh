@@ -87,6 +87,7 @@ beyond terms aml 16384 "$bytes" 'a byte that is read, and whose terms are droppe
 beyond report terms 16384 "$bytes" 'a byte whose terms are reported'
 beyond table madt 100000 100000 'a structure that is reported'
 beyond show madt 28000 1008000 'a byte of a table of structures of 36 bytes that is shown by its form'
+beyond make show 2000 "$(made show 2000)" 'a byte of text that is made into a table'
 built flat 20000 'a term at depth 1'
 built deep 20000 'a term at depth 250'
 

@@ -64,8 +64,9 @@ copy_sources() {
 # there and back.
 begin_folder() {
     mkdir -p "$folder/crates"
-    cp crates.txt "$folder"
+    : >"$folder/crates.txt"
     for below in $(crates_below "$crate" | sed 's/:.*//'); do
+        grep "^$below[ :]" crates.txt >>"$folder/crates.txt"
         copy_sources "$below" "$folder/crates"
         [ "$below" != "$crate" ] || continue
         mkdir "$folder/crates/$below/out"

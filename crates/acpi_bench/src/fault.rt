@@ -4,6 +4,7 @@ ghost use Rattle.std.specs.Prelude.{◌≡◌};
 
 use acpi_tables::Error as TableError;
 use acpi_tables::read::ReadError;
+use acpi_tables::text::MakeError;
 use std::alloc::{AllocError, AllocFailed};
 use std::io;
 use thiserror::Error;
@@ -23,6 +24,9 @@ pub enum Fault {
     /// A table wasn't read.
     #[error("{0}")]
     Read(#[from] ReadError),
+    /// A table wasn't made of a text.
+    #[error("{0}")]
+    Made(#[from] MakeError),
 }
 
 impl Fault {

@@ -8,7 +8,7 @@
 //! - `aml`, `dsdt`: N devices as bytes of AML; as a definition block.
 //! - `terms`, `report`: the terms of N devices; and their text.
 //! - `table`: the report of the table of `madt`.
-//! - `show`: the text of the table of `madt` by its form.
+//! - `show`, `make`: the text of the table of `madt` by its form; and the table that is made of this text.
 //! - `flat`, `deep`: the text of N terms at depth 1; at depth 250.
 //!
 //! The exit status is 1 if a call failed. It is 2 if a word is wrong, and a line on standard error says which.

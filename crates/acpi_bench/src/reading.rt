@@ -6,9 +6,9 @@ ghost use Rattle.acpi_term.specs.View.{view, views};
 ghost use Rattle.acpi_bench.specs.Nesting.{numbers, inside};
 
 use crate::fault::Fault;
-use acpi_forms::show::show;
 use acpi_tables::R;
 use acpi_tables::read::{Arities, Table, Term, report_table, report_terms, terms};
+use acpi_tables::text::{make, show};
 use std::alloc::Global;
 
 /// The terms of the devices of `blocks`, which call no method.
@@ -28,10 +28,16 @@ pub fn shown(alloc: Global, bytes: &[u8]) -> Result<usize, Fault> {
     Ok(report_table(alloc, &table)?.len())
 }
 
-/// The number of bytes of the text of a table by its form.
-pub fn named(alloc: Global, bytes: &[u8]) -> Result<usize, Fault> {
+/// The text of a table by its form.
+pub fn named(alloc: Global, bytes: &[u8]) -> Result<String, Fault> {
     let table = Table::check(bytes)?;
-    Ok(show(alloc, &table)?.len())
+    Ok(show(alloc, &table)?)
+}
+
+/// The number of bytes of the table that a text is made into.
+pub fn made_again(alloc: Global, text: &str) -> Result<usize, Fault> {
+    let made = make(alloc, text.as_bytes())?;
+    Ok(made.bytes.len())
 }
 
 fn zero() -> Term

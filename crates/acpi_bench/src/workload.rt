@@ -5,7 +5,7 @@ use crate::fault::Fault;
 use crate::growing::{Growing, grown};
 use crate::matrices::{hmat, slit};
 use crate::nodes::{harts, ranges};
-use crate::reading::{named, nested, read, reported, shown};
+use crate::reading::{made_again, named, nested, read, reported, shown};
 use acpi_tables::cedt::CEDT;
 use acpi_tables::hest::HEST;
 use acpi_tables::madt::MADT;
@@ -71,7 +71,12 @@ pub fn made(alloc: Global, name: &str, size: u32) -> Result<Option<(usize, &'sta
         }
         "show" => {
             let bytes = built::<MADT>(alloc, size)?;
-            Ok(Some((named(alloc, &bytes)?, text)))
+            Ok(Some((named(alloc, &bytes)?.len(), text)))
+        }
+        "make" => {
+            let bytes = built::<MADT>(alloc, size)?;
+            let text = named(alloc, &bytes)?;
+            Ok(Some((made_again(alloc, text.as_str())?, "bytes")))
         }
         "flat" => {
             let terms = nested(alloc, 0, size)?;
