@@ -1,1 +1,2 @@
-mod Numbers
+mod Spaces
+pub mod Numbers

@@ -1,20 +1,20 @@
-//! Laws about the numbers of faults, which hold for all calls.
+//! What the numbers tell that calls return. Each function is a law: it does nothing, and ensures it.
 
-ghost use Rattle.acpi_c_run.specs.Laws.{NumbersDiffer, ZeroIsFine, ZeroIsGiven, FaultsWriteNothing};
+ghost use Rattle.acpi_c_run.specs.Laws.{NumbersDiffer, ChecksAreFine, FineIsAllGiven, FaultsWriteNothing};
 
 /// A number is that of one fault, and 0 of none.
 pub fn numbers_differ()
     ensures { NumbersDiffer }
 {}
 
-/// A check that returns 0 has found what it was asked for.
-pub fn zero_is_fine()
-    ensures { ZeroIsFine }
+/// A check that returns 0 has found what it was asked for: a table, terms or an image.
+pub fn checks_are_fine()
+    ensures { ChecksAreFine }
 {}
 
-/// A call that returns 0 has given what it found: it's the first bytes of the buffer, as many as `size` says.
-pub fn zero_is_given()
-    ensures { ZeroIsGiven }
+/// A call that returns 0 has given what it found. It is the front of the buffer, as much as `size` says.
+pub fn fine_is_given()
+    ensures { FineIsAllGiven }
 {}
 
 /// A call that returns the number of a fault has written nothing into the buffer.
