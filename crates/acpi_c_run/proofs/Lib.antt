@@ -1,2 +1,3 @@
 mod Spaces
+mod Found
 pub mod Numbers
