@@ -11,8 +11,8 @@
 
    No function keeps anything between calls, and several threads may call them at once. A function that is given `out` writes what
    it found to its front, and sets *size to how much that is, in bytes or structures. Texts have no zero at their end. If it is
-   more than out_size, the result is ACPI_FAULT_BUFFER, and `out` is as it was: so a first call with an out_size of 0 asks for the
-   size. With any other fault *size is 0, and `out` is as it was. *place is where a fault is, and otherwise 0. */
+   more than out_size, the result is ACPI_FAULT_BUFFER, and `out` is unchanged: so a first call with an out_size of 0 asks for the
+   size. With any other fault *size is 0, and `out` is unchanged. *place is where a fault is, and otherwise 0. */
 #ifndef ACPI_H
 #define ACPI_H
 

@@ -4,7 +4,7 @@
 ghost use Rattle.std.specs.Prelude.{◌≡◌};
 ghost use Rattle.acpi_base.specs.Table.{IsTrueTable};
 ghost use Rattle.acpi_c_run.specs.Aml.{AreTerms, IsAmlRefusal};
-ghost use Rattle.acpi_c_run.specs.Answers.{Answers, Gives, GivesAnywhere};
+ghost use Rattle.acpi_c_run.specs.Results.{Checks, Gives, GivesAnywhere};
 ghost use Rattle.acpi_c_run.specs.Image.{IsImageOfTables, IsImageRefusal};
 ghost use Rattle.acpi_c_run.specs.Make.{IsTableOf, IsMakeRefusal, IsTemplate, IsTemplateRefusal};
 ghost use Rattle.acpi_c_run.specs.Names.{version, IsName, IsNoName};
@@ -40,7 +40,7 @@ pub extern "C" fn acpi_fault_name(number: u32, out: &mut [u8], size: &mut usize)
 /// Checks a table.
 #[unsafe(no_mangle)]
 pub extern "C" fn acpi_check_table(bytes: &[u8], place: &mut u64) -> u32
-    ensures { Answers (IsTrueTable bytes.now) (IsTableRefusal bytes.now) result place.new }
+    ensures { Checks (IsTrueTable bytes.now) (IsTableRefusal bytes.now) result place.new }
 {
     check_table(bytes, place)
 }
@@ -67,7 +67,7 @@ pub extern "C" fn acpi_check_aml(
     arities: &[u8],
     place: &mut u64,
 ) -> u32
-    ensures { Answers (AreTerms arities.now bytes.now) (IsAmlRefusal arities.now bytes.now) result place.new }
+    ensures { Checks (AreTerms arities.now bytes.now) (IsAmlRefusal arities.now bytes.now) result place.new }
 {
     check_aml(alloc, bytes, arities, place)
 }
@@ -81,7 +81,7 @@ pub extern "C" fn acpi_check_image(
     rsdp: u64,
     place: &mut u64,
 ) -> u32
-    ensures { Answers (IsImageOfTables bytes.now base rsdp) (IsImageRefusal bytes.now base rsdp) result place.new }
+    ensures { Checks (IsImageOfTables bytes.now base rsdp) (IsImageRefusal bytes.now base rsdp) result place.new }
 {
     check_image(alloc, bytes, base, rsdp, place)
 }

@@ -5,7 +5,7 @@ use Rattle.acpi_base.specs.Walk.{ArePiecesOf}
 use Rattle.acpi_read.specs.Pieces.{offsets_of}
 use Rattle.acpi_read.specs.Report.{kind_of}
 use Rattle.acpi_term.specs.declared.read_error.ReadError.TheVariants.{Memory}
-use Rattle.acpi_c_run.specs.Answers.{seen, IsOutcome}
+use Rattle.acpi_c_run.specs.Results.{seen, IsOutcome}
 use Rattle.acpi_c_run.specs.Refused.{by_memory}
 use Rattle.acpi_c_run.specs.Structures.{structures, AreStructures, IsStructuresRefusal}
 use Rattle.acpi_c_run.specs.declared.refused.Refused.{Refused}

@@ -1,8 +1,8 @@
--- What the numbers of outcomes tell.
+-- What the numbers of outcomes mean.
 use Rattle.std.proofs.Common.{◌≡◌, ℕ, ◌+◌, ◌≤◌, nat_le, Bool, true, false, List, ◌++◌, length, take, drop, Result, Ok, Err, sym, refl, ap, subst, ◌∙◌, arith, rules}
 use Rattle.std.proofs.Math.Seq.{take-append_seam}
 use Rattle.std.proofs.lemmas.List.{length-append}
-use Rattle.acpi_c_run.specs.Answers.{IsOutcome, Told, Answers, IsPut, IsGiven, Gives}
+use Rattle.acpi_c_run.specs.Results.{IsOutcome, IsResult, Checks, IsPut, IsGiven, Gives}
 use Rattle.acpi_c_run.specs.Fault.{number_of}
 use Rattle.acpi_c_run.specs.Laws.{NumbersDiffer, FineIsTrue, IsFront, FineIsGiven, FaultLeaves}
 use Rattle.acpi_c_run.specs.declared.fault.Fault.{Fault}
@@ -16,12 +16,12 @@ no_zero : (f : Fault) → 0 ≡ number_of f → ⊥
 no_zero f is = let one = (numbers f).0 in absurd (omega (arith, one, is))
 
 fine_of : (fact : Type 0) (why : Refused → Type 0) (outcome : Result (Unit {0}) Refused) (place : ℕ)
-    → IsOutcome (λ done. fact) why outcome → Told outcome 0 place → fact
-fine_of fact why (Ok done) place is told = is
-fine_of fact why (Err refused) place is told = absurd (no_zero refused.fault told.0)
+    → IsOutcome (λ done. fact) why outcome → IsResult outcome 0 place → fact
+fine_of fact why (Ok done) place is returned = is
+fine_of fact why (Err refused) place is returned = absurd (no_zero refused.fault returned.0)
 
 pub fine_is_true : (fact : Type 0) (why : Refused → Type 0) → FineIsTrue fact why
-fine_is_true fact why place answers = fine_of fact why answers.outcome place answers.is answers.told
+fine_is_true fact why place checks = fine_of fact why checks.outcome place checks.is checks.returned
 
 put_front : {A : Type 0} (is : List A → Type 0) (fits : Bool) (found old new : List A) → nat_le (length found) (length old) ≡ fits
     → is found → IsPut fits found old new 0 → IsFront is new (length found)

@@ -1,8 +1,8 @@
--- What the numbers tell that calls return.
+-- What the results of calls mean.
 use Rattle.std.specs.Prelude.{◌≡◌, ℕ, ◌≤◌, List, length, take, Some}
 use Rattle.acpi_base.specs.Table.{IsTrueTable}
 use Rattle.acpi_c_run.specs.Aml.{AreTerms, IsAmlRefusal}
-use Rattle.acpi_c_run.specs.Answers.{Answers, Gives}
+use Rattle.acpi_c_run.specs.Results.{Checks, Gives}
 use Rattle.acpi_c_run.specs.Fault.{number_of, fault_of}
 use Rattle.acpi_c_run.specs.Image.{IsImageOfTables, IsImageRefusal}
 use Rattle.acpi_c_run.specs.Make.{IsTableOf, IsMakeRefusal, IsTemplate, IsTemplateRefusal}
@@ -20,7 +20,7 @@ NumbersDiffer = (f : Fault) → (1 ≤ number_of f) × (fault_of (number_of f) �
 
 -- a check that returns 0 has found that the fact holds
 abbrev pub FineIsTrue : Type 0 → (Refused → Type 0) → Type 0
-FineIsTrue fact why = (place : ℕ) → Answers fact why 0 place → fact
+FineIsTrue fact why = (place : ℕ) → Checks fact why 0 place → fact
 
 -- what is given is at the front of the buffer, with its size
 pub record IsFront {A : Type 0} (is : List A → Type 0) (new : List A) (size : ℕ) : Type 0 where
@@ -31,7 +31,7 @@ pub record IsFront {A : Type 0} (is : List A → Type 0) (new : List A) (size : 
 abbrev pub FineIsGiven : {A : Type 0} → (List A → Type 0) → (Refused → Type 0) → Type 0
 FineIsGiven {A} is why = (old new : List A) (place size : ℕ) → Gives is why old new 0 place size → IsFront is new size
 
--- a call that returns the number of a fault has left the buffer as it was
+-- a call that returns the number of a fault has left the buffer unchanged
 abbrev pub FaultLeaves : {A : Type 0} → (List A → Type 0) → (Refused → Type 0) → Type 0
 FaultLeaves {A} is why = (old new : List A) (f : Fault) (place size : ℕ) → Gives is why old new (number_of f) place size → new ≡ old
 

@@ -1,6 +1,6 @@
 pub mod Fault
 pub mod Refused
-pub mod Answers
+pub mod Results
 pub mod Table
 pub mod Structures
 pub mod Aml

@@ -4,11 +4,11 @@ ghost use Rattle.std.specs.Prelude.{◌≡◌, ◌≢◌, ◌<◌, ◌++◌, ◌
 ghost use Rattle.acpi_term.specs.Arity.{arity};
 ghost use Rattle.acpi_c_run.specs.Aml.{words, AreStated, AreNotStated, AreTerms, IsAmlRefusal};
 ghost use Rattle.acpi_c_run.specs.Aml.{SpellTerms, IsTermsRefusal};
-ghost use Rattle.acpi_c_run.specs.Answers.{IsOutcome, Answers};
+ghost use Rattle.acpi_c_run.specs.Results.{IsOutcome, Checks};
 ghost use Rattle.acpi_c_run.specs.Refused.{by_memory};
 
 use crate::fault::Fault;
-use crate::give::tell;
+use crate::give::result_of;
 use crate::refused::Refused;
 use acpi_read::terms::terms;
 use acpi_term::name_string::Arities;
@@ -90,7 +90,7 @@ fn checked(alloc: Global, bytes: &[u8], text: &[u8]) -> Result<(), Refused>
 /// method has: `arities` is a text of words `NAME=N` with a space between two, and any other name takes none. Returns 0, or the number
 /// of a fault, whose offset in `bytes` is `place`.
 pub fn check_aml(alloc: Global, bytes: &[u8], arities: &[u8], place: &mut u64) -> u32
-    ensures { Answers (AreTerms arities.now bytes.now) (IsAmlRefusal arities.now bytes.now) result place.new }
+    ensures { Checks (AreTerms arities.now bytes.now) (IsAmlRefusal arities.now bytes.now) result place.new }
 {
-    tell(checked(alloc, bytes, arities), place)
+    result_of(checked(alloc, bytes, arities), place)
 }

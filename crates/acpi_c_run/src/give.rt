@@ -1,15 +1,15 @@
 //! Outcomes, as numbers and in the caller's buffers.
 
 ghost use Rattle.std.specs.Prelude.{◌≡◌, Ok, Err};
-ghost use Rattle.acpi_c_run.specs.Answers.{seen, Told, IsGiven};
+ghost use Rattle.acpi_c_run.specs.Results.{seen, IsResult, IsGiven};
 ghost use Rattle.acpi_c_run.specs.Fault.{number_of};
 
 use crate::fault::Fault;
 use crate::refused::Refused;
 
-// Tells an outcome: its number and its place.
-pub(crate) fn tell(outcome: Result<(), Refused>, place: &mut u64) -> u32
-    ensures { Told outcome result place.new }
+// Returns the number of an outcome, and sets its place.
+pub(crate) fn result_of(outcome: Result<(), Refused>, place: &mut u64) -> u32
+    ensures { IsResult outcome result place.new }
 {
     match outcome {
         Ok(()) => {
@@ -36,7 +36,7 @@ pub(crate) fn put<T: Copy>(found: &[T], out: &mut [T], size: &mut usize, place: 
     0
 }
 
-// Tells a refusal, and leaves a buffer as it is.
+// Returns the number of a refusal, sets its place, and leaves a buffer unchanged.
 pub(crate) fn refuse<T>(refused: Refused, _out: &mut [T], size: &mut usize, place: &mut u64) -> u32
     ensures { IsGiven (Err refused) _out.old _out.new result place.new size.new }
 {
@@ -45,7 +45,7 @@ pub(crate) fn refuse<T>(refused: Refused, _out: &mut [T], size: &mut usize, plac
     refused.fault.number()
 }
 
-// Writes what was found to the front of a buffer, or tells the refusal.
+// Writes what was found to the front of a buffer, or returns the number of the refusal.
 pub(crate) fn give<T: Copy + Drop>(
     found: Result<Vec<T>, Refused>,
     out: &mut [T],

@@ -1,9 +1,9 @@
 //! Checks of images.
 
-ghost use Rattle.acpi_c_run.specs.Answers.{IsOutcome, Answers};
+ghost use Rattle.acpi_c_run.specs.Results.{IsOutcome, Checks};
 ghost use Rattle.acpi_c_run.specs.Image.{IsImageOfTables, IsImageRefusal};
 
-use crate::give::tell;
+use crate::give::result_of;
 use crate::refused::Refused;
 use acpi_layout::check::check_image as tables_of;
 use std::alloc::Global;
@@ -22,7 +22,7 @@ fn checked(alloc: Global, bytes: &[u8], base: u64, rsdp: u64) -> Result<(), Refu
 /// address `base`, and the RSDP is at the address `rsdp`. Returns 0, or the number of a fault, and `place` is the address of the
 /// table where it is.
 pub fn check_image(alloc: Global, bytes: &[u8], base: u64, rsdp: u64, place: &mut u64) -> u32
-    ensures { Answers (IsImageOfTables bytes.now base rsdp) (IsImageRefusal bytes.now base rsdp) result place.new }
+    ensures { Checks (IsImageOfTables bytes.now base rsdp) (IsImageRefusal bytes.now base rsdp) result place.new }
 {
-    tell(checked(alloc, bytes, base, rsdp), place)
+    result_of(checked(alloc, bytes, base, rsdp), place)
 }

@@ -1,4 +1,4 @@
-//! What the numbers tell that calls return. Each function is a law: it does nothing, and ensures it.
+//! What the results of calls mean. Each function is a law: it does nothing, and ensures it.
 
 ghost use Rattle.acpi_c_run.specs.Laws.{NumbersDiffer, ChecksAreFine, FineIsAllGiven, FaultsWriteNothing};
 

@@ -1,7 +1,7 @@
 //! Tables of texts, and texts to begin with.
 
 ghost use Rattle.std.specs.Prelude.{◌≡◌, ◌↔◌, IfOk, IfErr, string_bytes, length};
-ghost use Rattle.acpi_c_run.specs.Answers.{seen, IsOutcome, Gives, GivesAnywhere};
+ghost use Rattle.acpi_c_run.specs.Results.{seen, IsOutcome, Gives, GivesAnywhere};
 ghost use Rattle.acpi_c_run.specs.Make.{IsTableOf, IsMakeRefusal, IsTemplate, IsTemplateRefusal};
 
 use crate::fault::Fault;

@@ -1,14 +1,14 @@
 //! Words of faults, and the version.
 
 ghost use Rattle.std.specs.Prelude.{◌≡◌, Some, None, Ok, Err};
-ghost use Rattle.acpi_c_run.specs.Answers.{Gives, GivesAnywhere};
+ghost use Rattle.acpi_c_run.specs.Results.{Gives, GivesAnywhere};
 ghost use Rattle.acpi_c_run.specs.Names.{version, IsName, IsNoName};
 
 use crate::fault::{Fault, words_of};
 use crate::give::{put, refuse};
 use crate::refused::Refused;
 
-// Writes the words of a number, or tells that it has none.
+// Writes the words of a number, or returns that it has none.
 fn write_words(number: u32, out: &mut [u8], size: &mut usize, place: &mut u64) -> u32
     ensures { Gives (IsName number) (IsNoName number) out.old out.new result place.new size.new }
 {

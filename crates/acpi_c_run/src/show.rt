@@ -1,7 +1,7 @@
 //! Texts of tables.
 
 ghost use Rattle.std.specs.Prelude.{◌≡◌, IfOk, IfErr, string_bytes};
-ghost use Rattle.acpi_c_run.specs.Answers.{seen, IsOutcome, Gives};
+ghost use Rattle.acpi_c_run.specs.Results.{seen, IsOutcome, Gives};
 ghost use Rattle.acpi_c_run.specs.Refused.{by_memory};
 ghost use Rattle.acpi_c_run.specs.Show.{kind_of, IsText, IsTextRefusal};
 
@@ -63,7 +63,7 @@ fn shown(alloc: Global, bytes: &[u8]) -> Result<Vec<u8>, Refused>
 }
 
 /// Writes the text of a table to `out`, from which `make` makes the table again. `size` is the number of its bytes. A table has to
-/// be right. An RSDP (ACPI 6.5, 5.2.5.3) and a FACS (5.2.10), by their signatures, are shown with whatever bytes they have. Returns
+/// be right. An RSDP (ACPI 6.5, 5.2.5.3) and a FACS (5.2.10), by their signatures, are shown with any bytes that they have. Returns
 /// 0, or the number of a fault, whose offset is `place`. If `out` has space for fewer bytes, the fault is `Buffer`, and nothing is
 /// written to `out`. With any other fault `size` is 0.
 pub fn show(alloc: Global, bytes: &[u8], out: &mut [u8], size: &mut usize, place: &mut u64) -> u32

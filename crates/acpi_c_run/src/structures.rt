@@ -4,7 +4,7 @@ ghost use Rattle.std.specs.Prelude.{◌≡◌, ◌++◌, IfOk, IfErr, OnOk, map}
 ghost use Rattle.acpi_base.specs.Table.{IsTrueTable};
 ghost use Rattle.acpi_read.specs.Pieces.{kind_in};
 ghost use Rattle.acpi_read.specs.Report.{kind_of};
-ghost use Rattle.acpi_c_run.specs.Answers.{seen, IsOutcome, Gives};
+ghost use Rattle.acpi_c_run.specs.Results.{seen, IsOutcome, Gives};
 ghost use Rattle.acpi_c_run.specs.Refused.{by_memory};
 ghost use Rattle.acpi_c_run.specs.Structures.{kind_or_none, structure, structures, AreStructures, IsStructuresRefusal};
 

@@ -1,10 +1,10 @@
 //! Checks of tables.
 
 ghost use Rattle.acpi_base.specs.Table.{IsTrueTable};
-ghost use Rattle.acpi_c_run.specs.Answers.{IsOutcome, Answers};
+ghost use Rattle.acpi_c_run.specs.Results.{IsOutcome, Checks};
 ghost use Rattle.acpi_c_run.specs.Table.{IsTableRefusal};
 
-use crate::give::tell;
+use crate::give::result_of;
 use crate::refused::Refused;
 use acpi_read::table::Table;
 
@@ -21,7 +21,7 @@ fn checked(bytes: &[u8]) -> Result<(), Refused>
 /// Checks that bytes are a table (ACPI 6.5, 5.2.6): a header, its length, and a sum of zero. Returns 0, or the number of a fault,
 /// whose offset is `place`. It takes no memory.
 pub fn check_table(bytes: &[u8], place: &mut u64) -> u32
-    ensures { Answers (IsTrueTable bytes.now) (IsTableRefusal bytes.now) result place.new }
+    ensures { Checks (IsTrueTable bytes.now) (IsTableRefusal bytes.now) result place.new }
 {
-    tell(checked(bytes), place)
+    result_of(checked(bytes), place)
 }

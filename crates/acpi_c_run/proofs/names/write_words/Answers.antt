@@ -1,5 +1,5 @@
 use Rattle.std.proofs.Common.{◌≡◌, Some, Ok, Err, rules, sym}
-use Rattle.acpi_c_run.specs.Answers.{IsGiven}
+use Rattle.acpi_c_run.specs.Results.{IsGiven}
 use Rattle.acpi_c_run.specs.Names.{IsName, IsNoName}
 use Rattle.acpi_c_run.proofs.names.write_words.Goals as goal
 

@@ -19,25 +19,25 @@ seen view (Err refused) = Err refused
 -- ---- calls that only check
 
 -- an outcome as a number and a place: 0 and 0, or those of the refusal
-abbrev pub Told : {A : Type 0} → Result A Refused → ℕ → ℕ → Type 0
-Told (Ok found) number place = (number ≡ 0) × (place ≡ 0)
-Told (Err refused) number place = (number ≡ number_of refused.fault) × (place ≡ refused.place)
+abbrev pub IsResult : {A : Type 0} → Result A Refused → ℕ → ℕ → Type 0
+IsResult (Ok found) number place = (number ≡ 0) × (place ≡ 0)
+IsResult (Err refused) number place = (number ≡ number_of refused.fault) × (place ≡ refused.place)
 
 -- A fact holds and 0 is returned, or the number and the place of a refusal are.
-pub record Answers (fact : Type 0) (why : Refused → Type 0) (number place : ℕ) : Type 0 where
+pub record Checks (fact : Type 0) (why : Refused → Type 0) (number place : ℕ) : Type 0 where
   pub outcome : Result (Unit {0}) Refused
   pub is : IsOutcome (λ done. fact) why outcome
-  pub told : Told outcome number place
+  pub returned : IsResult outcome number place
 
 -- ---- calls that write into a buffer
 
--- what was found stands at the front of a buffer that has space for it; any other buffer is as it was
+-- what was found is at the front of a buffer that has space for it; any other buffer is unchanged
 abbrev pub IsPut : {A : Type 0} → Bool → List A → List A → List A → ℕ → Type 0
 IsPut true found old new number = (number ≡ 0) × (new ≡ found ++ drop (length found) old)
 IsPut false found old new number = (number ≡ number_of Buffer) × (new ≡ old)
 
--- An outcome as a number, a place, the size of what was found, and a buffer. With a refusal the size is 0, and the buffer is as
--- it was.
+-- An outcome as a number, a place, the size of what was found, and a buffer. With a refusal the size is 0, and the buffer is
+-- unchanged.
 abbrev pub IsGiven : {A : Type 0} → Result (List A) Refused → List A → List A → ℕ → ℕ → ℕ → Type 0
 IsGiven (Ok found) old new number place size =
     (place ≡ 0) × (size ≡ length found) × IsPut (nat_le (length found) (length old)) found old new number
@@ -50,6 +50,6 @@ pub record Gives {A : Type 0} (is : List A → Type 0) (why : Refused → Type 0
   pub found : IsOutcome is why outcome
   pub given : IsGiven outcome old new number place size
 
--- the same for a call that tells no place
+-- the same for a call without a place
 abbrev pub GivesAnywhere : {A : Type 0} → (List A → Type 0) → (Refused → Type 0) → List A → List A → ℕ → ℕ → Type 0
 GivesAnywhere is why old new number size = (place : ℕ) × Gives is why old new number place size
