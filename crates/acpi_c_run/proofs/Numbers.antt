@@ -1,8 +1,8 @@
 -- What the numbers of outcomes mean.
-use Rattle.std.proofs.Common.{◌≡◌, ℕ, ◌+◌, ◌≤◌, nat_le, Bool, true, false, List, ◌++◌, length, take, drop, Result, Ok, Err, sym, refl, ap, subst, ◌∙◌, arith, rules}
+use Rattle.std.proofs.Common.{◌≡◌, ℕ, ◌+◌, nat_le, Bool, true, false, List, length, take, drop, Result, Ok, Err, sym, refl, ap, subst, ◌∙◌, arith, rules}
 use Rattle.std.proofs.Math.Seq.{take-append_seam}
 use Rattle.std.proofs.lemmas.List.{length-append}
-use Rattle.acpi_c_run.specs.Results.{IsOutcome, IsResult, Checks, IsPut, IsGiven, Gives}
+use Rattle.acpi_c_run.specs.Results.{IsOutcome, IsResult, IsPut, IsGiven}
 use Rattle.acpi_c_run.specs.Fault.{number_of}
 use Rattle.acpi_c_run.specs.Laws.{NumbersDiffer, FineIsTrue, IsFront, FineIsGiven, FaultLeaves}
 use Rattle.acpi_c_run.specs.declared.fault.Fault.{Fault}

@@ -1,5 +1,5 @@
 -- Tables of texts, and texts to begin with.
-use Rattle.std.specs.Prelude.{◌≡◌, ◌≢◌, ◌⊎◌, ℕ, List, length, Ok, Err}
+use Rattle.std.specs.Prelude.{◌≡◌, ◌⊎◌, ℕ, List, length, Ok, Err}
 use Rattle.std.specs.Str.{IsUtf8}
 use Rattle.acpi_forms.specs.Makes.{IsMade, IsTemplateOf}
 use Rattle.acpi_make.specs.declared.fault.MakeError.{MakeError}

@@ -1,6 +1,5 @@
 //! Tables of texts, and texts to begin with.
 
-ghost use Rattle.std.specs.Prelude.{◌≡◌, ◌↔◌, IfOk, IfErr, string_bytes, length};
 ghost use Rattle.acpi_c_run.specs.Results.{seen, IsOutcome, Gives, GivesAnywhere};
 ghost use Rattle.acpi_c_run.specs.Make.{IsTableOf, IsMakeRefusal, IsTemplate, IsTemplateRefusal};
 
@@ -36,6 +35,9 @@ fn begun(alloc: Global, signature: &[u8]) -> Result<Vec<u8>, Refused>
     let Ok(signature) = std::str::from_utf8(signature) else {
         return Err(Refused::anywhere(Fault::Signature));
     };
+    if signature.len() != 4 {
+        return Err(Refused::anywhere(Fault::Signature));
+    }
     match template_of(alloc, signature)? {
         Some(text) => Ok(text.into_bytes()),
         None => Err(Refused::anywhere(Fault::Signature)),

@@ -1,6 +1,6 @@
 //! Texts of tables.
 
-ghost use Rattle.std.specs.Prelude.{◌≡◌, IfOk, IfErr, string_bytes};
+ghost use Rattle.std.specs.Prelude.{◌≡◌, IfOk, IfErr, IsOk, OnOk, string_bytes};
 ghost use Rattle.acpi_c_run.specs.Results.{seen, IsOutcome, Gives};
 ghost use Rattle.acpi_c_run.specs.Refused.{by_memory};
 ghost use Rattle.acpi_c_run.specs.Show.{kind_of, IsText, IsTextRefusal};

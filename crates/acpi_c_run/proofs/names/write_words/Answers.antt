@@ -1,4 +1,4 @@
-use Rattle.std.proofs.Common.{◌≡◌, Some, Ok, Err, rules, sym}
+use Rattle.std.proofs.Common.{Ok, Err, rules}
 use Rattle.acpi_c_run.specs.Results.{IsGiven}
 use Rattle.acpi_c_run.specs.Names.{IsName, IsNoName}
 use Rattle.acpi_c_run.proofs.names.write_words.Goals as goal
