@@ -1,7 +1,8 @@
 #!/bin/sh
 # Compares the documents with what the gate compiles and compares: the programs of README with the crates readme_table and
-# readme_image, its samples with the output that the programs are compared with, and the fields in docs/FORMATS.md with the
-# output of `acpitool show`. It says what differs, and then its status is 1. It proves nothing and needs no built program.
+# readme_image, its samples with the output that the programs are compared with, the fields in docs/FORMATS.md with the output of
+# `acpitool show`, and the declarations for C and Rust with the source of `acpi_c`. It says what differs, and then its status is
+# 1. It proves nothing and needs no built program.
 set -eu
 cd "$(dirname "$0")"
 
@@ -89,5 +90,6 @@ awk -v work="$work" -v stdout_of_acpitool=crates/acpitool/stdout -v stdout_of_ac
 ' README.md >&2 || status=1
 
 python3 -B fields.py || status=1
+python3 -B c_header.py || status=1
 
 exit "$status"

@@ -1,0 +1,114 @@
+//! Declarations of `libacpi_c.a` for Rust. `include/acpi.h` says what each function does, and what its caller owes.
+#![allow(dead_code)]
+
+/// `acpi_version()` returns this, if the library fits these declarations.
+pub const VERSION: u32 = 1;
+
+/// The type of a structure, if the structures of its table have none.
+pub const NO_KIND: usize = usize::MAX;
+
+/// The numbers of faults.
+pub mod fault {
+    pub const MEMORY: u32 = 1;
+    pub const BUFFER: u32 = 2;
+    pub const NO_FAULT: u32 = 3;
+    pub const ARITIES: u32 = 4;
+    pub const SIGNATURE: u32 = 5;
+    pub const SHORT_HEADER: u32 = 16;
+    pub const TABLE_LENGTH: u32 = 17;
+    pub const SUM: u32 = 18;
+    pub const STRUCTURE: u32 = 19;
+    pub const COUNT: u32 = 20;
+    pub const UNKNOWN_SOURCE: u32 = 21;
+    pub const TRUNCATED: u32 = 32;
+    pub const OPCODE: u32 = 33;
+    pub const PKG_LENGTH: u32 = 34;
+    pub const NUMBER: u32 = 35;
+    pub const FLAGS: u32 = 36;
+    pub const TEXT: u32 = 37;
+    pub const TOO_DEEP: u32 = 38;
+    pub const IMAGE_OUTSIDE: u32 = 48;
+    pub const IMAGE_SIGNATURE: u32 = 49;
+    pub const IMAGE_LENGTH: u32 = 50;
+    pub const IMAGE_REVISION: u32 = 51;
+    pub const IMAGE_SUM: u32 = 52;
+    pub const IMAGE_ENTRIES: u32 = 53;
+    pub const IMAGE_NO_FADT: u32 = 54;
+    pub const IMAGE_SECOND_FADT: u32 = 55;
+    pub const IMAGE_OVERLAP: u32 = 56;
+    pub const WANTS_LINE_FEED: u32 = 64;
+    pub const WANTS_PRINTING: u32 = 65;
+    pub const WANTS_SPACE: u32 = 66;
+    pub const WANTS_VALUE: u32 = 67;
+    pub const WANTS_DIGIT: u32 = 68;
+    pub const WANTS_SECOND_DIGIT: u32 = 69;
+    pub const WANTS_QUOTATION_MARK: u32 = 70;
+    pub const WANTS_QUESTION_MARK: u32 = 71;
+    pub const WANTS_SLASH: u32 = 72;
+    pub const WANTS_BRACE: u32 = 73;
+    pub const WANTS_FIELD: u32 = 74;
+    pub const WANTS_NAME: u32 = 75;
+    pub const WANTS_NUMBER: u32 = 76;
+    pub const WANTS_LABEL: u32 = 77;
+    pub const WANTS_BYTES: u32 = 78;
+}
+
+/// A structure of a table: its offset in the table, its type or `NO_KIND`, and the number of its bytes.
+#[repr(C)]
+#[derive(Clone, Copy, Debug, Default, PartialEq, Eq)]
+pub struct Structure {
+    pub offset: usize,
+    pub kind: usize,
+    pub size: usize,
+}
+
+extern "C" {
+    pub fn acpi_version() -> u32;
+    pub fn acpi_fault_name(number: u32, out: *mut u8, out_size: usize, size: *mut usize) -> u32;
+    pub fn acpi_check_table(bytes: *const u8, bytes_size: usize, place: *mut u64) -> u32;
+    pub fn acpi_table_structures(
+        bytes: *const u8,
+        bytes_size: usize,
+        out: *mut Structure,
+        out_size: usize,
+        size: *mut usize,
+        place: *mut u64,
+    ) -> u32;
+    pub fn acpi_check_aml(
+        bytes: *const u8,
+        bytes_size: usize,
+        arities: *const u8,
+        arities_size: usize,
+        place: *mut u64,
+    ) -> u32;
+    pub fn acpi_check_image(
+        bytes: *const u8,
+        bytes_size: usize,
+        base: u64,
+        rsdp: u64,
+        place: *mut u64,
+    ) -> u32;
+    pub fn acpi_show(
+        bytes: *const u8,
+        bytes_size: usize,
+        out: *mut u8,
+        out_size: usize,
+        size: *mut usize,
+        place: *mut u64,
+    ) -> u32;
+    pub fn acpi_make(
+        text: *const u8,
+        text_size: usize,
+        out: *mut u8,
+        out_size: usize,
+        size: *mut usize,
+        place: *mut u64,
+    ) -> u32;
+    pub fn acpi_template(
+        signature: *const u8,
+        signature_size: usize,
+        out: *mut u8,
+        out_size: usize,
+        size: *mut usize,
+    ) -> u32;
+}

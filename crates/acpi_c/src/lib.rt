@@ -1,0 +1,128 @@
+//! Checks, texts and tables for callers in C and Rust. `include/acpi.h` declares these functions, and says what their callers owe.
+#![tactic(auto)]
+
+ghost use Rattle.std.specs.Prelude.{◌≡◌};
+ghost use Rattle.acpi_base.specs.Table.{IsTrueTable};
+ghost use Rattle.acpi_c_run.specs.Aml.{AreTerms, IsAmlRefusal};
+ghost use Rattle.acpi_c_run.specs.Results.{Checks, Gives, GivesAnywhere};
+ghost use Rattle.acpi_c_run.specs.Image.{IsImageOfTables, IsImageRefusal};
+ghost use Rattle.acpi_c_run.specs.Make.{IsTableOf, IsMakeRefusal, IsTemplate, IsTemplateRefusal};
+ghost use Rattle.acpi_c_run.specs.Names.{version, IsName, IsNoName};
+ghost use Rattle.acpi_c_run.specs.Show.{IsText, IsTextRefusal};
+ghost use Rattle.acpi_c_run.specs.Structures.{AreStructures, IsStructuresRefusal};
+ghost use Rattle.acpi_c_run.specs.Table.{IsTableRefusal};
+
+use acpi_c_run::aml::check_aml;
+use acpi_c_run::image::check_image;
+use acpi_c_run::make::{make, template};
+use acpi_c_run::names::{fault_name, version};
+use acpi_c_run::show::show;
+use acpi_c_run::structures::{Structure, table_structures};
+use acpi_c_run::table::check_table;
+use std::alloc::Global;
+
+/// The version of these functions.
+#[unsafe(no_mangle)]
+pub extern "C" fn acpi_version() -> u32
+    ensures { result ≡ version }
+{
+    version()
+}
+
+/// Writes the words of a number that another function returned.
+#[unsafe(no_mangle)]
+pub extern "C" fn acpi_fault_name(number: u32, out: &mut [u8], size: &mut usize) -> u32
+    ensures { GivesAnywhere (IsName number) (IsNoName number) out.old out.new result size.new }
+{
+    fault_name(number, out, size)
+}
+
+/// Checks a table.
+#[unsafe(no_mangle)]
+pub extern "C" fn acpi_check_table(bytes: &[u8], place: &mut u64) -> u32
+    ensures { Checks (IsTrueTable bytes.now) (IsTableRefusal bytes.now) result place.new }
+{
+    check_table(bytes, place)
+}
+
+/// Writes the structures of a table.
+#[unsafe(no_mangle)]
+pub extern "C" fn acpi_table_structures(
+    alloc: Global,
+    bytes: &[u8],
+    out: &mut [Structure],
+    size: &mut usize,
+    place: &mut u64,
+) -> u32
+    ensures { Gives (AreStructures bytes.now) (IsStructuresRefusal bytes.now) out.old out.new result place.new size.new }
+{
+    table_structures(alloc, bytes, out, size, place)
+}
+
+/// Checks terms of AML.
+#[unsafe(no_mangle)]
+pub extern "C" fn acpi_check_aml(
+    alloc: Global,
+    bytes: &[u8],
+    arities: &[u8],
+    place: &mut u64,
+) -> u32
+    ensures { Checks (AreTerms arities.now bytes.now) (IsAmlRefusal arities.now bytes.now) result place.new }
+{
+    check_aml(alloc, bytes, arities, place)
+}
+
+/// Checks the tables of an image.
+#[unsafe(no_mangle)]
+pub extern "C" fn acpi_check_image(
+    alloc: Global,
+    bytes: &[u8],
+    base: u64,
+    rsdp: u64,
+    place: &mut u64,
+) -> u32
+    ensures { Checks (IsImageOfTables bytes.now base rsdp) (IsImageRefusal bytes.now base rsdp) result place.new }
+{
+    check_image(alloc, bytes, base, rsdp, place)
+}
+
+/// Writes the text of a table.
+#[unsafe(no_mangle)]
+pub extern "C" fn acpi_show(
+    alloc: Global,
+    bytes: &[u8],
+    out: &mut [u8],
+    size: &mut usize,
+    place: &mut u64,
+) -> u32
+    ensures { Gives (IsText bytes.now) (IsTextRefusal bytes.now) out.old out.new result place.new size.new }
+{
+    show(alloc, bytes, out, size, place)
+}
+
+/// Makes a text into a table.
+#[unsafe(no_mangle)]
+pub extern "C" fn acpi_make(
+    alloc: Global,
+    text: &[u8],
+    out: &mut [u8],
+    size: &mut usize,
+    place: &mut u64,
+) -> u32
+    ensures { Gives (IsTableOf text.now) (IsMakeRefusal text.now) out.old out.new result place.new size.new }
+{
+    make(alloc, text, out, size, place)
+}
+
+/// Writes a text to begin a table of a signature with.
+#[unsafe(no_mangle)]
+pub extern "C" fn acpi_template(
+    alloc: Global,
+    signature: &[u8],
+    out: &mut [u8],
+    size: &mut usize,
+) -> u32
+    ensures { GivesAnywhere (IsTemplate signature.now) (IsTemplateRefusal signature.now) out.old out.new result size.new }
+{
+    template(alloc, signature, out, size)
+}

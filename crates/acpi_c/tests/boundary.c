@@ -1,0 +1,357 @@
+/* Calls every function of acpi.h at its limits. Buffers end where a page ends, and the next page can't be touched, so a byte that
+   is read or written past a buffer ends the program. c.sh makes names.h of the comments of acpi.h.
+
+   boundary FILE..   names, empty input, buffers a byte too small, tables that are cut and changed, and random input. Each file is
+                     a correct table.
+   boundary          what each function returns for one input, with a call that memory.c refused made once more. */
+#define _DEFAULT_SOURCE
+#include "acpi.h"
+#include <stdio.h>
+#include <stdlib.h>
+#include <string.h>
+#include <sys/mman.h>
+#include <unistd.h>
+
+#define MOST (1 << 20)
+#define PLENTY (1 << 16)
+#define RUNS 10000
+#define UNTOUCHED 0xa5
+#define UNTOLD 0xa5a5a5a5a5a5a5a5u
+
+static const struct {
+    uint32_t number;
+    const char *words;
+} names[] = {
+#include "names.h"
+};
+
+/* Ends the program where a condition doesn't hold. */
+#define want(condition) (void)((condition) || (fail(__LINE__, #condition), 0))
+
+static void fail(int line, const char *what) {
+    fprintf(stderr, "boundary.c:%d: %s\n", line, what);
+    exit(1);
+}
+
+/* ---- memory that ends where a page ends */
+
+struct edge {
+    uint8_t *end;
+};
+
+static struct edge make_edge(void) {
+    size_t page = (size_t)sysconf(_SC_PAGESIZE);
+    size_t size = MOST + page;
+    uint8_t *start = mmap(NULL, size, PROT_READ | PROT_WRITE, MAP_PRIVATE | MAP_ANONYMOUS, -1, 0);
+    want(start != MAP_FAILED && mprotect(start + MOST, page, PROT_NONE) == 0);
+    return (struct edge){start + MOST};
+}
+
+static struct edge input, second, output;
+
+static uint8_t *put(struct edge edge, const void *bytes, size_t size) {
+    return memmove(edge.end - size, bytes, size);
+}
+
+static uint8_t *blank(size_t size) {
+    return memset(output.end - size, UNTOUCHED, size);
+}
+
+static int is_blank(const uint8_t *bytes, size_t size) {
+    while (size > 0 && bytes[size - 1] == UNTOUCHED)
+        size--;
+    return size == 0;
+}
+
+/* ---- calls, each with its input and its output at an edge */
+
+static uint64_t place;
+static size_t size;
+
+/* What a function may return that was given this much space. */
+static uint32_t kept(uint32_t number, const uint8_t *out, size_t out_size, size_t unit) {
+    if (number == 0)
+        want(size <= out_size);
+    else if (number == ACPI_FAULT_BUFFER)
+        want(size > out_size && is_blank(out, out_size * unit));
+    else
+        want(size == 0 && is_blank(out, out_size * unit));
+    want(place != UNTOLD && (place == 0 || (number != 0 && number != ACPI_FAULT_BUFFER)));
+    return number;
+}
+
+static uint32_t check_table(const void *bytes, size_t bytes_size) {
+    place = UNTOLD;
+    return acpi_check_table(put(input, bytes, bytes_size), bytes_size, &place);
+}
+
+static uint32_t check_aml(const void *bytes, size_t bytes_size, const char *arities, size_t arities_size) {
+    place = UNTOLD;
+    uint8_t *words = put(second, arities, arities_size);
+    return acpi_check_aml(put(input, bytes, bytes_size), bytes_size, words, arities_size, &place);
+}
+
+static uint32_t check_image(const void *bytes, size_t bytes_size, uint64_t base, uint64_t rsdp) {
+    place = UNTOLD;
+    return acpi_check_image(put(input, bytes, bytes_size), bytes_size, base, rsdp, &place);
+}
+
+static uint32_t structures(const void *bytes, size_t bytes_size, size_t out_size) {
+    uint8_t *out = blank(out_size * sizeof(struct acpi_structure));
+    struct acpi_structure *all = (struct acpi_structure *)(void *)out;
+    place = UNTOLD;
+    uint32_t number = acpi_table_structures(put(input, bytes, bytes_size), bytes_size, all, out_size, &size, &place);
+    return kept(number, out, out_size, sizeof *all);
+}
+
+static uint32_t show(const void *bytes, size_t bytes_size, size_t out_size) {
+    uint8_t *out = blank(out_size);
+    place = UNTOLD;
+    return kept(acpi_show(put(input, bytes, bytes_size), bytes_size, out, out_size, &size, &place), out, out_size, 1);
+}
+
+static uint32_t make(const void *text, size_t text_size, size_t out_size) {
+    uint8_t *out = blank(out_size);
+    place = UNTOLD;
+    return kept(acpi_make(put(input, text, text_size), text_size, out, out_size, &size, &place), out, out_size, 1);
+}
+
+static uint32_t template(const void *signature, size_t signature_size, size_t out_size) {
+    uint8_t *out = blank(out_size);
+    place = 0;
+    uint32_t number = acpi_template(put(input, signature, signature_size), signature_size, out, out_size, &size);
+    return kept(number, out, out_size, 1);
+}
+
+static uint32_t fault_name(uint32_t number, size_t out_size) {
+    uint8_t *out = blank(out_size);
+    place = 0;
+    return kept(acpi_fault_name(number, out, out_size, &size), out, out_size, 1);
+}
+
+/* ---- names, empty input, and numbers of arguments */
+
+static void try_names(void) {
+    size_t count = sizeof names / sizeof *names, known = 0;
+    for (uint32_t number = 1; number < 1000; number++) {
+        size_t at = 0;
+        while (at < count && names[at].number != number)
+            at++;
+        if (at == count) {
+            want(fault_name(number, 100) == ACPI_FAULT_NO_FAULT);
+            continue;
+        }
+        size_t length = strlen(names[at].words);
+        want(fault_name(number, length) == 0 && size == length);
+        want(memcmp(output.end - length, names[at].words, length) == 0);
+        want(fault_name(number, length - 1) == ACPI_FAULT_BUFFER && size == length);
+        known++;
+    }
+    want(known == count && count > 40);
+    want(fault_name(0, 4) == 0 && size == 4 && memcmp(output.end - 4, "fine", 4) == 0);
+    want(fault_name(UINT32_MAX, 0) == ACPI_FAULT_NO_FAULT);
+}
+
+static void try_empty(void) {
+    want(check_table("", 0) == ACPI_FAULT_SHORT_HEADER && place == 0);
+    want(structures("", 0, 0) == ACPI_FAULT_SHORT_HEADER && place == 0);
+    want(show("", 0, 0) == ACPI_FAULT_SHORT_HEADER && place == 0);
+    want(check_aml("", 0, "", 0) == 0 && place == 0);
+    want(check_image("", 0, 0, 0) == ACPI_FAULT_IMAGE_OUTSIDE && place == 0);
+    want(check_image("", 0, UINT64_MAX, UINT64_MAX) == ACPI_FAULT_IMAGE_OUTSIDE && place == UINT64_MAX);
+    want(template("", 0, 0) == ACPI_FAULT_SIGNATURE && template("APICX", 5, 0) == ACPI_FAULT_SIGNATURE);
+    want(template("\xff\xff\xff\xff", 4, 0) == ACPI_FAULT_SIGNATURE);
+    want(make("", 0, MOST) == 0 && size == 0);
+}
+
+static void try_arguments(void) {
+    /* MTHD (One), where MTHD takes one argument (ACPI 6.5, 20.2.5). */
+    static const uint8_t call[] = {'M', 'T', 'H', 'D', 1};
+    want(check_aml(call, 5, "MTHD=1", 6) == 0 && check_aml(call, 5, "OTHR=7 MTHD=1", 13) == 0);
+    want(check_aml(call, 5, "MTHD=2", 6) == ACPI_FAULT_TRUNCATED);
+    static const char *wrong[] = {"MTHD", "MTHD=8", "MTHD=12", "mthd=1", "MTHD=1 MTHD=1", " MTHD=1", "MTHD=1  A___=1", "\xff=1"};
+    for (size_t i = 0; i < sizeof wrong / sizeof *wrong; i++)
+        want(check_aml(call, 5, wrong[i], strlen(wrong[i])) == ACPI_FAULT_ARITIES && place == 0);
+    /* An opcode that no term begins with, after a term of one byte. */
+    want(check_aml("\x01\xfe", 2, "", 0) == ACPI_FAULT_OPCODE && place == 1);
+}
+
+/* ---- tables */
+
+/* Makes the bytes of a table sum to zero, by the checksum at offset 9 (ACPI 6.5, 5.2.6). */
+static void seal(uint8_t *table, size_t count) {
+    uint8_t sum = 0;
+    for (size_t i = 0; i < count; i++)
+        sum = (uint8_t)(sum + table[i]);
+    table[9] = (uint8_t)(table[9] - sum);
+}
+
+/* The text of a table makes the table again, and a buffer that is a byte smaller is too small for either. */
+static void try_texts(const uint8_t *table, size_t count) {
+    static uint8_t text[MOST];
+    want(show(table, count, 0) == ACPI_FAULT_BUFFER);
+    size_t length = size;
+    want(show(table, count, length - 1) == ACPI_FAULT_BUFFER && size == length);
+    want(show(table, count, length) == 0 && size == length && place == 0);
+    memcpy(text, output.end - length, length);
+    want(make(text, length, count - 1) == ACPI_FAULT_BUFFER && size == count);
+    want(make(text, length, count) == 0 && size == count && place == 0);
+    want(memcmp(output.end - count, table, count) == 0);
+}
+
+static void try_structures(const uint8_t *table, size_t count) {
+    uint32_t number = structures(table, count, count);
+    want(number != ACPI_FAULT_BUFFER);
+    size_t all = size;
+    if (number == 0 && all > 0)
+        want(structures(table, count, all - 1) == ACPI_FAULT_BUFFER && size == all);
+    if (number == 0)
+        want(structures(table, count, all) == 0 && size == all);
+}
+
+static void try_table(const uint8_t *table, size_t count) {
+    static uint8_t changed[MOST];
+    want(check_table(table, count) == 0 && place == 0);
+    try_texts(table, count);
+    try_structures(table, count);
+    for (size_t cut = 0; cut < count; cut++) {
+        want(check_table(table, cut) == (cut < 36 ? ACPI_FAULT_SHORT_HEADER : ACPI_FAULT_TABLE_LENGTH));
+        want(place == (cut < 36 ? cut : 4));
+        want(show(table, cut, PLENTY) != 0 && structures(table, cut, 9) != 0);
+    }
+    for (size_t at = 0; at < count; at++) {
+        int is_length = at >= 4 && at < 8;
+        memcpy(changed, table, count);
+        changed[at] ^= 0xff;
+        want(check_table(changed, count) == (is_length ? ACPI_FAULT_TABLE_LENGTH : ACPI_FAULT_SUM));
+        want(place == (is_length ? 4 : 9));
+        seal(changed, count);
+        if (is_length || at == 9)
+            continue;
+        want(check_table(changed, count) == 0);
+        try_structures(changed, count);
+        if (at % 7 == 0)
+            try_texts(changed, count);
+    }
+}
+
+/* ---- random input */
+
+static uint64_t state = 0x9e3779b97f4a7c15u;
+
+/* A number below a limit, by xorshift. */
+static size_t any(size_t below) {
+    state ^= state << 13;
+    state ^= state >> 7;
+    state ^= state << 17;
+    return (size_t)(state >> 16) % below;
+}
+
+/* Random bytes, or some of these with changes, of at most 400 bytes. */
+static size_t vary(uint8_t *to, const uint8_t *from, size_t count) {
+    size_t length = any(400);
+    for (size_t i = 0; i < length; i++)
+        to[i] = (uint8_t)any(256);
+    if (any(4) == 0)
+        return length;
+    if (length > count)
+        length = count;
+    size_t start = any(2) == 0 ? 0 : any(count - length + 1);
+    memcpy(to, from + start, length);
+    for (size_t changes = any(5); changes > 0 && length > 0; changes--)
+        to[any(length)] = (uint8_t)any(256);
+    if (length >= 36 && start == 0 && any(2) == 0) {
+        memcpy(to + 4, (uint8_t[]){(uint8_t)length, (uint8_t)(length >> 8), 0, 0}, 4);
+        seal(to, length);
+    }
+    return length;
+}
+
+static void try_random(const uint8_t *table, size_t count) {
+    static uint8_t text[MOST], bytes[400];
+    want(show(table, count, MOST) == 0);
+    size_t length = size;
+    memcpy(text, output.end - MOST, length);
+    static const char words[] = "MTHD=1 \\_SB_.PCI0=2 A___=7";
+    for (int run = 0; run < RUNS; run++) {
+        size_t some = vary(bytes, table, count);
+        check_table(bytes, some);
+        structures(bytes, some, any(20));
+        show(bytes, some, any(2) == 0 ? PLENTY : any(4000));
+        check_image(bytes, some, any(2) == 0 ? 0 : UINT64_MAX - any(400), any(400));
+        check_aml(bytes, some, words, any(sizeof words));
+        if (some >= 36)
+            check_aml(bytes + 36, some - 36, "", 0);
+        some = vary(bytes, (const uint8_t *)words, sizeof words - 1);
+        check_aml("", 0, (const char *)bytes, some);
+        template(bytes, any(2) == 0 ? some : some < 4 ? some : 4, any(9000));
+        some = vary(bytes, text, length);
+        make(bytes, some, any(2) == 0 ? PLENTY : any(500));
+        fault_name((uint32_t)any(UINT32_MAX), any(60));
+    }
+}
+
+/* ---- refused memory */
+
+static uint32_t refusals;
+
+/* Whether a call has to be made once more. */
+static int is_refused(uint32_t number) {
+    refusals += number == ACPI_FAULT_MEMORY;
+    return number == ACPI_FAULT_MEMORY && refusals == 1;
+}
+
+static void tell(const char *name, uint32_t number, size_t out_size) {
+    uint32_t sum = 0;
+    for (size_t i = 0; number == 0 && i < size; i++)
+        sum = sum * 31 + (output.end - out_size)[i];
+    printf("%s %u %zu %u\n", name, number, size, sum);
+}
+
+static void try_memory(void) {
+    static uint8_t text[MOST], table[MOST];
+    uint32_t number = 0;
+    while (is_refused(number = template("APIC", 4, MOST))) {}
+    tell("template", number, MOST);
+    size_t length = size;
+    memcpy(text, output.end - MOST, length);
+    while (is_refused(number = make(text, length, MOST))) {}
+    tell("make", number, MOST);
+    size_t count = size;
+    memcpy(table, output.end - MOST, count);
+    while (is_refused(number = show(table, count, MOST))) {}
+    tell("show", number, MOST);
+    while (is_refused(number = structures(table, count, 1000))) {}
+    size *= sizeof(struct acpi_structure);
+    tell("structures", number, 1000 * sizeof(struct acpi_structure));
+    /* Name (A___, Package () {"ABC", MTHD ()}) (ACPI 6.5, 20.2.5) */
+    static const uint8_t aml[] = "\x08" "A___" "\x12\x0b\x02\x0d" "ABC\0" "MTHD";
+    while (is_refused(number = check_aml(aml, sizeof aml - 1, "MTHD=1 \\_SB_.PCI0=2", 19))) {}
+    printf("aml %u\n", number);
+}
+
+int main(int count, char **files) {
+    static uint8_t table[MOST];
+    input = make_edge();
+    second = make_edge();
+    output = make_edge();
+    if (count == 1) {
+        try_memory();
+        return 0;
+    }
+    want(acpi_version() == ACPI_VERSION);
+    try_names();
+    try_empty();
+    try_arguments();
+    for (int i = 1; i < count; i++) {
+        FILE *file = fopen(files[i], "rb");
+        want(file != NULL);
+        size_t length = fread(table, 1, sizeof table, file);
+        fclose(file);
+        try_table(table, length);
+        if (i == 1)
+            try_random(table, length);
+    }
+    printf("%d tables, cut and changed, and %d random inputs to each function\n", count - 1, RUNS);
+    return 0;
+}

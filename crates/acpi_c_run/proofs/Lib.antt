@@ -1,0 +1,4 @@
+mod Spaces
+mod Found
+mod Texts
+pub mod Numbers

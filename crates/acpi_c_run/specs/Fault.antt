@@ -1,0 +1,81 @@
+-- What can be wrong, by numbers that stay.
+use Rattle.std.specs.Prelude.{ℕ, ◌==◌, if◌then◌else◌, List, [], ◌∷◌, Option, Some, codes}
+use Rattle.std.specs.List.{find}
+use Rattle.std.specs.Option.{option_map}
+use Rattle.acpi_c_run.specs.declared.fault.Fault.{Fault}
+use Rattle.acpi_c_run.specs.declared.fault.Fault.TheVariants as fault
+
+pub record Facts : Type 0 where
+  pub number : ℕ
+  pub words : List ℕ
+
+abbrev pub known : ℕ → List ℕ → Facts
+known n text = record { number = n; words = text }
+
+abbrev pub facts : Fault → Facts
+facts fault.Memory = known 1 (codes "out of memory")
+facts fault.Buffer = known 2 (codes "the buffer is too small")
+facts fault.NoFault = known 3 (codes "no fault has this number")
+facts fault.Arities = known 4 (codes "a number of arguments isn't NAME=N, or a name has two")
+facts fault.Signature = known 5 (codes "a signature has four bytes of text")
+facts fault.ShortHeader = known 16 (codes "a table has at least the 36 bytes of the standard header")
+facts fault.TableLength = known 17 (codes "the length of a table isn't the number of its bytes")
+facts fault.Sum = known 18 (codes "the bytes of a table don't sum to zero")
+facts fault.Structure = known 19 (codes "a structure isn't as long as it says")
+facts fault.Count = known 20 (codes "a count isn't the number of what it counts")
+facts fault.UnknownSource = known 21 (codes "the size of an error source isn't known")
+facts fault.Truncated = known 32 (codes "the bytes end within a term")
+facts fault.Opcode = known 33 (codes "no term begins so")
+facts fault.PkgLength = known 34 (codes "a PkgLength doesn't fit what surrounds it")
+facts fault.Number = known 35 (codes "a number isn't in its shortest form")
+facts fault.Flags = known 36 (codes "flags have no meaning")
+facts fault.Text = known 37 (codes "a string has a byte past 7F")
+facts fault.TooDeep = known 38 (codes "terms nest too deep")
+facts fault.ImageOutside = known 48 (codes "a table isn't in the image with its whole length")
+facts fault.ImageSignature = known 49 (codes "the signature of a table is wrong")
+facts fault.ImageLength = known 50 (codes "the length of a table is wrong")
+facts fault.ImageRevision = known 51 (codes "the revision of the RSDP isn't 2")
+facts fault.ImageSum = known 52 (codes "the bytes of a table in the image don't sum to zero")
+facts fault.ImageEntries = known 53 (codes "the XSDT doesn't end after a whole entry")
+facts fault.ImageNoFadt = known 54 (codes "the XSDT lists no FADT")
+facts fault.ImageSecondFadt = known 55 (codes "the XSDT lists a second FADT")
+facts fault.ImageOverlap = known 56 (codes "two tables overlap")
+facts fault.WantsLineFeed = known 64 (codes "a line feed without a carriage return expected")
+facts fault.WantsPrinting = known 65 (codes "a character that prints expected")
+facts fault.WantsSpace = known 66 (codes "a space expected")
+facts fault.WantsValue = known 67 (codes "a value expected")
+facts fault.WantsDigit = known 68 (codes "a hexadecimal digit expected")
+facts fault.WantsSecondDigit = known 69 (codes "the second digit of a byte expected")
+facts fault.WantsQuotationMark = known 70 (codes "a quotation mark at the end of the text expected")
+facts fault.WantsQuestionMark = known 71 (codes "a second question mark expected")
+facts fault.WantsSlash = known 72 (codes "a second slash expected")
+facts fault.WantsBrace = known 73 (codes "a brace at the end of the names expected")
+facts fault.WantsField = known 74 (codes "bytes, or the name of a field before the colon, expected")
+facts fault.WantsName = known 75 (codes "a name of a flag or a value of this field expected")
+facts fault.WantsNumber = known 76 (codes "a decimal number that fits the field expected")
+facts fault.WantsLabel = known 77 (codes "the label of a structure expected")
+facts fault.WantsBytes = known 78 (codes "bytes expected, which nothing determines")
+
+abbrev pub number_of : Fault → ℕ
+number_of f = (facts f).number
+
+abbrev pub words : Fault → List ℕ
+words f = (facts f).words
+
+abbrev pub faults : List Fault
+faults =
+    fault.Memory ∷ fault.Buffer ∷ fault.NoFault ∷ fault.Arities ∷ fault.Signature ∷ fault.ShortHeader ∷
+    fault.TableLength ∷ fault.Sum ∷ fault.Structure ∷ fault.Count ∷ fault.UnknownSource ∷ fault.Truncated ∷
+    fault.Opcode ∷ fault.PkgLength ∷ fault.Number ∷ fault.Flags ∷ fault.Text ∷ fault.TooDeep ∷
+    fault.ImageOutside ∷ fault.ImageSignature ∷ fault.ImageLength ∷ fault.ImageRevision ∷ fault.ImageSum ∷ fault.ImageEntries ∷
+    fault.ImageNoFadt ∷ fault.ImageSecondFadt ∷ fault.ImageOverlap ∷ fault.WantsLineFeed ∷ fault.WantsPrinting ∷ fault.WantsSpace ∷
+    fault.WantsValue ∷ fault.WantsDigit ∷ fault.WantsSecondDigit ∷ fault.WantsQuotationMark ∷ fault.WantsQuestionMark ∷ fault.WantsSlash ∷
+    fault.WantsBrace ∷ fault.WantsField ∷ fault.WantsName ∷ fault.WantsNumber ∷ fault.WantsLabel ∷ fault.WantsBytes ∷ []
+
+-- the fault of a number
+abbrev pub fault_of : ℕ → Option Fault
+fault_of n = find (λ f. number_of f == n) faults
+
+-- the words of a number: those of its fault, and `fine` of 0
+abbrev pub words_of : ℕ → Option (List ℕ)
+words_of n = if n == 0 then Some (codes "fine") else option_map words (fault_of n)

@@ -1,0 +1,11 @@
+pub mod Fault
+pub mod Refused
+pub mod Results
+pub mod Table
+pub mod Structures
+pub mod Aml
+pub mod Image
+pub mod Show
+pub mod Make
+pub mod Names
+pub mod Laws

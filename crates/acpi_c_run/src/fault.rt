@@ -1,0 +1,158 @@
+//! What can be wrong, by numbers that stay.
+
+ghost use Rattle.std.specs.Prelude.{◌≡◌};
+ghost use Rattle.std.specs.Option.{option_map};
+ghost use Rattle.acpi_c_run.specs.Fault.{number_of, words, fault_of, words_of};
+
+/// What is wrong. A number is never given to another fault.
+#[derive(Clone, Copy, Debug, PartialEq, Eq)]
+pub enum Fault {
+    Memory,
+    Buffer,
+    NoFault,
+    Arities,
+    Signature,
+    ShortHeader,
+    TableLength,
+    Sum,
+    Structure,
+    Count,
+    UnknownSource,
+    Truncated,
+    Opcode,
+    PkgLength,
+    Number,
+    Flags,
+    Text,
+    TooDeep,
+    ImageOutside,
+    ImageSignature,
+    ImageLength,
+    ImageRevision,
+    ImageSum,
+    ImageEntries,
+    ImageNoFadt,
+    ImageSecondFadt,
+    ImageOverlap,
+    WantsLineFeed,
+    WantsPrinting,
+    WantsSpace,
+    WantsValue,
+    WantsDigit,
+    WantsSecondDigit,
+    WantsQuotationMark,
+    WantsQuestionMark,
+    WantsSlash,
+    WantsBrace,
+    WantsField,
+    WantsName,
+    WantsNumber,
+    WantsLabel,
+    WantsBytes,
+}
+
+/// Every fault: its number and its words.
+macro_rules! faults {
+    ($wanted:ident of $subject:expr) => {
+        look_up! { $wanted $subject;
+            Memory 1 "out of memory"
+            Buffer 2 "the buffer is too small"
+            NoFault 3 "no fault has this number"
+            Arities 4 "a number of arguments isn't NAME=N, or a name has two"
+            Signature 5 "a signature has four bytes of text"
+            ShortHeader 16 "a table has at least the 36 bytes of the standard header"
+            TableLength 17 "the length of a table isn't the number of its bytes"
+            Sum 18 "the bytes of a table don't sum to zero"
+            Structure 19 "a structure isn't as long as it says"
+            Count 20 "a count isn't the number of what it counts"
+            UnknownSource 21 "the size of an error source isn't known"
+            Truncated 32 "the bytes end within a term"
+            Opcode 33 "no term begins so"
+            PkgLength 34 "a PkgLength doesn't fit what surrounds it"
+            Number 35 "a number isn't in its shortest form"
+            Flags 36 "flags have no meaning"
+            Text 37 "a string has a byte past 7F"
+            TooDeep 38 "terms nest too deep"
+            ImageOutside 48 "a table isn't in the image with its whole length"
+            ImageSignature 49 "the signature of a table is wrong"
+            ImageLength 50 "the length of a table is wrong"
+            ImageRevision 51 "the revision of the RSDP isn't 2"
+            ImageSum 52 "the bytes of a table in the image don't sum to zero"
+            ImageEntries 53 "the XSDT doesn't end after a whole entry"
+            ImageNoFadt 54 "the XSDT lists no FADT"
+            ImageSecondFadt 55 "the XSDT lists a second FADT"
+            ImageOverlap 56 "two tables overlap"
+            WantsLineFeed 64 "a line feed without a carriage return expected"
+            WantsPrinting 65 "a character that prints expected"
+            WantsSpace 66 "a space expected"
+            WantsValue 67 "a value expected"
+            WantsDigit 68 "a hexadecimal digit expected"
+            WantsSecondDigit 69 "the second digit of a byte expected"
+            WantsQuotationMark 70 "a quotation mark at the end of the text expected"
+            WantsQuestionMark 71 "a second question mark expected"
+            WantsSlash 72 "a second slash expected"
+            WantsBrace 73 "a brace at the end of the names expected"
+            WantsField 74 "bytes, or the name of a field before the colon, expected"
+            WantsName 75 "a name of a flag or a value of this field expected"
+            WantsNumber 76 "a decimal number that fits the field expected"
+            WantsLabel 77 "the label of a structure expected"
+            WantsBytes 78 "bytes expected, which nothing determines"
+        }
+    };
+}
+
+/// Selects a column of these rows.
+macro_rules! look_up {
+    (number $fault:expr; $($name:ident $number:literal $words:literal)*) => {
+        match $fault {
+            $(Fault::$name => $number,)*
+        }
+    };
+    (words $fault:expr; $($name:ident $number:literal $words:literal)*) => {
+        match $fault {
+            $(Fault::$name => $words,)*
+        }
+    };
+    (fault $number:expr; $($name:ident $value:literal $words:literal)*) => {
+        match $number {
+            $($value => Some(Fault::$name),)*
+            _ => None,
+        }
+    };
+}
+
+impl Fault {
+    /// The fault's number.
+    pub fn number(self) -> u32
+        ensures { result ≡ number_of self }
+    {
+        faults!(number of self)
+    }
+
+    /// What is wrong, in words.
+    pub fn words(self) -> &'static str
+        ensures { result.now ≡ words self }
+    {
+        faults!(words of self)
+    }
+
+    /// The fault of a number, if there is one.
+    pub fn of_number(number: u32) -> Option<Fault>
+        ensures { result ≡ fault_of number }
+    {
+        faults!(fault of number)
+    }
+}
+
+/// The words of a number: those of its fault, and `fine` of 0.
+pub fn words_of(number: u32) -> Option<&'static str>
+    ensures { option_map (λ words. words.now) result ≡ words_of number }
+{
+    if number == 0 {
+        return Some("fine");
+    }
+    match Fault::of_number(number) {
+        Some(fault) => Some(fault.words()),
+        None => None,
+    }
+}
