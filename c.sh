@@ -41,9 +41,11 @@ compile examples/check.c "$work/check"
 compile examples/check.c "$work/check_sanitized" -fsanitize=address,undefined -fno-sanitize-recover=all
 compile tests/boundary.c "$work/boundary"
 compile tests/boundary.c "$work/boundary_sanitized" -fsanitize=address,undefined -fno-sanitize-recover=all
-printf '#include "acpi.h"\nint main() { return acpi_version() == ACPI_VERSION ? 0 : 1; }\n' >"$work/plus.cc"
-c++ -Wall -Wextra -Werror -I "$source/include" -o "$work/plus" "$work/plus.cc" "$source/out/c/libacpi_c.a"
-"$work/plus"
+if command -v c++ >/dev/null; then
+    printf '#include "acpi.h"\nint main() { return acpi_version() == ACPI_VERSION ? 0 : 1; }\n' >"$work/plus.cc"
+    c++ -Wall -Wextra -Werror -I "$source/include" -o "$work/plus" "$work/plus.cc" "$source/out/c/libacpi_c.a"
+    "$work/plus"
+fi
 
 # The tables and the image of the example, and a table without its last byte.
 mkdir "$work/acpi"
@@ -82,10 +84,10 @@ if command -v cargo >/dev/null; then
     checks "$work/cargo/debug/acpi_check"
 fi
 
-# To the limits of each function: the example's tables.
+# To the limits of each function.
 rm "$work/acpi/cut"
-"$work/boundary" "$work/acpi"/*
-"$work/boundary_sanitized" "$work/acpi"/*
+"$work/boundary" "$work/image" "${base#0x}" "${rsdp#0x}" "$work/acpi"/*
+"$work/boundary_sanitized" "$work/image" "${base#0x}" "${rsdp#0x}" "$work/acpi"/*
 
 # The same results with each growth refused once. A call that returns that memory ran out is made again.
 cc -shared -fPIC -O1 -o "$work/memory.so" memory.c
