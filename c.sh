@@ -2,17 +2,26 @@
 # Builds the library for callers in C and Rust, and programs that call it: `check` in C and in Rust, on the tables and the image
 # of acpi_example, and `boundary`, which goes to the limits of each function. In C both are built a second time with the address
 # and undefined behaviour sanitizers, and `boundary` is run once for each growth, with that one refused by memory.c. The library
-# and the example are proved before they are built, with everything that they stand on; with `built`, those are taken that
-# `rt ci` left. The library, with its allocator, is then in crates/acpi_c/out/c.
+# and the example are proved before they are built, with everything that they stand on. With `built`, the example is the one that
+# `rt ci` left. It leaves no static library, so the one that is there is taken if no source is newer, and is built otherwise. The
+# library, with its allocator, is then in crates/acpi_c/out/c.
 set -eu
 cd "$(dirname "$0")"
 
 . ./crates.sh
 
+# Whether the library is there, and no source of it or of what it stands on is newer.
+is_fresh() {
+    [ -f crates/acpi_c/out/libacpi_c.a ] || return 1
+    crates_below acpi_c | sed 's/:.*//' | while read -r crate; do
+        find "crates/$crate" \( -name '*.rt' -o -name '*.antt' \) -newer crates/acpi_c/out/libacpi_c.a ! -path '*/out/*'
+    done >"$work/newer"
+    [ ! -s "$work/newer" ]
+}
+
 wanted=
-for file in acpi_c/out/libacpi_c.a acpi_example/out/acpi_example; do
-    if [ "${1-}" != built ] || [ ! -f "crates/$file" ]; then wanted="$wanted ${file%%/*}"; fi
-done
+if [ "${1-}" != built ] || ! is_fresh; then wanted=acpi_c; fi
+if [ "${1-}" != built ] || [ ! -f crates/acpi_example/out/acpi_example ]; then wanted="$wanted acpi_example"; fi
 # shellcheck disable=SC2086
 [ -z "$wanted" ] || prove $wanted
 

@@ -22,7 +22,7 @@ end_runs() {
 crates_below() {
     awk -F: -v wanted="$*" '
         BEGIN { count = split(wanted, names, " "); for (i = 1; i <= count; i++) above[names[i]] = 1 }
-        /^[a-z]/ { name[++lines] = $1; on[lines] = $2 }
+        /^[a-z]/ { name[++lines] = $1; sub(/ .*/, "", name[lines]); on[lines] = $2 }
         END {
             for (i = lines; i > 0; i--)
                 if (name[i] in above) {
