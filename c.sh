@@ -2,17 +2,26 @@
 # Builds the library for callers in C and Rust, and programs that call it: `check` in C and in Rust, on the tables and the image
 # of acpi_example, and `boundary`, which goes to the limits of each function. In C both are built a second time with the address
 # and undefined behaviour sanitizers, and `boundary` is run once for each growth, with that one refused by memory.c. The library
-# and the example are proved before they are built, with everything that they stand on; with `built`, those are taken that
-# `rt ci` left. The library, with its allocator, is then in crates/acpi_c/out/c.
+# and the example are proved before they are built, with everything that they stand on. With `built`, the example is the one that
+# `rt ci` left. It leaves no static library, so the one that is there is taken if no source is newer, and is built otherwise. The
+# library, with its allocator, is then in crates/acpi_c/out/c.
 set -eu
 cd "$(dirname "$0")"
 
 . ./crates.sh
 
+# Whether the library is there, and no source of it or of what it stands on is newer.
+is_fresh() {
+    [ -f crates/acpi_c/out/libacpi_c.a ] || return 1
+    crates_below acpi_c | sed 's/:.*//' | while read -r crate; do
+        find "crates/$crate" \( -name '*.rt' -o -name '*.antt' \) -newer crates/acpi_c/out/libacpi_c.a ! -path '*/out/*'
+    done >"$work/newer"
+    [ ! -s "$work/newer" ]
+}
+
 wanted=
-for file in acpi_c/out/libacpi_c.a acpi_example/out/acpi_example; do
-    if [ "${1-}" != built ] || [ ! -f "crates/$file" ]; then wanted="$wanted ${file%%/*}"; fi
-done
+if [ "${1-}" != built ] || ! is_fresh; then wanted=acpi_c; fi
+if [ "${1-}" != built ] || [ ! -f crates/acpi_example/out/acpi_example ]; then wanted="$wanted acpi_example"; fi
 # shellcheck disable=SC2086
 [ -z "$wanted" ] || prove $wanted
 
@@ -41,9 +50,11 @@ compile examples/check.c "$work/check"
 compile examples/check.c "$work/check_sanitized" -fsanitize=address,undefined -fno-sanitize-recover=all
 compile tests/boundary.c "$work/boundary"
 compile tests/boundary.c "$work/boundary_sanitized" -fsanitize=address,undefined -fno-sanitize-recover=all
-printf '#include "acpi.h"\nint main() { return acpi_version() == ACPI_VERSION ? 0 : 1; }\n' >"$work/plus.cc"
-c++ -Wall -Wextra -Werror -I "$source/include" -o "$work/plus" "$work/plus.cc" "$source/out/c/libacpi_c.a"
-"$work/plus"
+if command -v c++ >/dev/null; then
+    printf '#include "acpi.h"\nint main() { return acpi_version() == ACPI_VERSION ? 0 : 1; }\n' >"$work/plus.cc"
+    c++ -Wall -Wextra -Werror -I "$source/include" -o "$work/plus" "$work/plus.cc" "$source/out/c/libacpi_c.a"
+    "$work/plus"
+fi
 
 # The tables and the image of the example, and a table without its last byte.
 mkdir "$work/acpi"
@@ -82,10 +93,10 @@ if command -v cargo >/dev/null; then
     checks "$work/cargo/debug/acpi_check"
 fi
 
-# To the limits of each function: the example's tables.
+# To the limits of each function.
 rm "$work/acpi/cut"
-"$work/boundary" "$work/acpi"/*
-"$work/boundary_sanitized" "$work/acpi"/*
+"$work/boundary" "$work/image" "${base#0x}" "${rsdp#0x}" "$work/acpi"/*
+"$work/boundary_sanitized" "$work/image" "${base#0x}" "${rsdp#0x}" "$work/acpi"/*
 
 # The same results with each growth refused once. A call that returns that memory ran out is made again.
 cc -shared -fPIC -O1 -o "$work/memory.so" memory.c

@@ -3,9 +3,10 @@
    A result of type uint32_t is 0 if all is well, or else the number of a fault, which never changes. What the caller owes, since
    nothing checks it:
 
-   - A pointer isn't NULL, also with a size of 0. Its size is the number of bytes (of structures, for `struct acpi_structure *`)
-     that are there for the whole call.
-   - Memory that is written (`out`, `size`, `place`) overlaps no other argument. No other thread uses it during the call.
+   - A pointer isn't NULL, also with a size of 0, and is aligned for its type. Its size is the number of bytes (of structures, for
+     `struct acpi_structure *`) that are there for the whole call.
+   - Memory that is written (`out`, `size`, `place`) overlaps no other argument. During the call no other thread uses it, and none
+     writes to what is read.
    - malloc, realloc and free are those of one allocator, and align a block as C says. No call is made from a signal handler, or
      from the forked child of a process with threads.
 

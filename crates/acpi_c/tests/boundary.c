@@ -1,9 +1,11 @@
 /* Calls every function of acpi.h at its limits. Buffers end where a page ends, and the next page can't be touched, so a byte that
    is read or written past a buffer ends the program. c.sh makes names.h of the comments of acpi.h.
 
-   boundary FILE..   names, empty input, buffers a byte too small, tables that are cut and changed, and random input. Each file is
-                     a correct table.
-   boundary          what each function returns for one input, with a call that memory.c refused made once more. */
+   boundary IMAGE BASE RSDP TABLE..
+       names, empty input, buffers a byte too small, the image and the tables cut and changed, and random input. The files are
+       correct; the addresses of the image's first byte and of its RSDP are in hexadecimal.
+   boundary
+       what each function returns for one input, with a call that memory.c refused made once more. */
 #define _DEFAULT_SOURCE
 #include "acpi.h"
 #include <stdio.h>
@@ -164,6 +166,13 @@ static void try_empty(void) {
     want(make("", 0, MOST) == 0 && size == 0);
 }
 
+static void try_template(void) {
+    want(template("APIC", 4, 0) == ACPI_FAULT_BUFFER);
+    size_t length = size;
+    want(template("APIC", 4, length - 1) == ACPI_FAULT_BUFFER && size == length);
+    want(template("APIC", 4, length) == 0 && size == length);
+}
+
 static void try_arguments(void) {
     /* MTHD (One), where MTHD takes one argument (ACPI 6.5, 20.2.5). */
     static const uint8_t call[] = {'M', 'T', 'H', 'D', 1};
@@ -232,6 +241,24 @@ static void try_table(const uint8_t *table, size_t count) {
         try_structures(changed, count);
         if (at % 7 == 0)
             try_texts(changed, count);
+    }
+}
+
+/* ---- images */
+
+static void try_image(const uint8_t *image, size_t count, uint64_t base, uint64_t rsdp) {
+    static uint8_t changed[MOST];
+    want(check_image(image, count, base, rsdp) == 0 && place == 0);
+    want(check_image(image, count, base, rsdp + 16) != 0 && check_image(image, count, base - 16, rsdp) != 0);
+    for (size_t cut = 0; cut < rsdp - base + 36; cut++)
+        want(check_image(image, cut, base, rsdp) == ACPI_FAULT_IMAGE_OUTSIDE && place == rsdp);
+    /* Each byte of the RSDP is in a sum, or is compared (ACPI 6.5, 5.2.5.3). */
+    for (size_t at = 0; at < count; at++) {
+        memcpy(changed, image, count);
+        changed[at] ^= 0xff;
+        uint32_t number = check_image(changed, count, base, rsdp);
+        want(number == 0 || number >= ACPI_FAULT_IMAGE_OUTSIDE);
+        want(at < rsdp - base || at >= rsdp - base + 36 || (number != 0 && place == rsdp));
     }
 }
 
@@ -330,8 +357,16 @@ static void try_memory(void) {
     printf("aml %u\n", number);
 }
 
+static size_t read_file(const char *path, uint8_t *bytes) {
+    FILE *file = fopen(path, "rb");
+    want(file != NULL);
+    size_t length = fread(bytes, 1, MOST, file);
+    fclose(file);
+    return length;
+}
+
 int main(int count, char **files) {
-    static uint8_t table[MOST];
+    static uint8_t bytes[MOST];
     input = make_edge();
     second = make_edge();
     output = make_edge();
@@ -339,19 +374,19 @@ int main(int count, char **files) {
         try_memory();
         return 0;
     }
-    want(acpi_version() == ACPI_VERSION);
+    want(count > 4 && acpi_version() == ACPI_VERSION);
     try_names();
     try_empty();
+    try_template();
     try_arguments();
-    for (int i = 1; i < count; i++) {
-        FILE *file = fopen(files[i], "rb");
-        want(file != NULL);
-        size_t length = fread(table, 1, sizeof table, file);
-        fclose(file);
-        try_table(table, length);
-        if (i == 1)
-            try_random(table, length);
+    size_t length = read_file(files[1], bytes);
+    try_image(bytes, length, strtoull(files[2], NULL, 16), strtoull(files[3], NULL, 16));
+    for (int i = 4; i < count; i++) {
+        length = read_file(files[i], bytes);
+        try_table(bytes, length);
+        if (i == 4)
+            try_random(bytes, length);
     }
-    printf("%d tables, cut and changed, and %d random inputs to each function\n", count - 1, RUNS);
+    printf("an image and %d tables, cut and changed, and %d random inputs to each function\n", count - 4, RUNS);
     return 0;
 }
