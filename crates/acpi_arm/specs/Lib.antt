@@ -1,1 +1,3 @@
+pub mod Dbg2
 pub mod Gtdt
+pub mod Offsets
