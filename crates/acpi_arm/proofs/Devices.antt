@@ -1,10 +1,10 @@
 -- Tables of devices, and their devices.
-use Rattle.std.proofs.Common.{◌≡◌, ℕ, ◌+◌, ◌<◌, ◌^◌, ◌⊎◌, List, [], ◌∷◌, ◌++◌, length, take, drop, refl, sym, ap, subst, ◌∙◌, arith, append_assoc, length-append, ⊎_elim}
-use Rattle.std.specs.Prelude.{Result, Ok, Err, codes, None, Some}
+use Rattle.std.proofs.Common.{◌≡◌, ℕ, ◌<◌, ◌^◌, ◌⊎◌, List, [], ◌∷◌, ◌++◌, length, take, drop, refl, sym, ap, subst, ◌∙◌, arith, append_assoc, length-append, ⊎_elim}
+use Rattle.std.specs.Prelude.{Result, Ok, Err, None, Some}
 use Rattle.std.specs.List.{concat}
-use Rattle.std.proofs.lemmas.List.{append-nil, take_at, drop_at}
+use Rattle.std.proofs.lemmas.List.{append-nil, drop_at}
 use Rattle.acpi_base.specs.Bytes.{le, carried, field_at}
-use Rattle.acpi_base.specs.Walk.{IsPiece, ArePieces, Walks, dbg2_walk, walk_of, named}
+use Rattle.acpi_base.specs.Walk.{IsPiece, ArePieces, Walks, dbg2_walk, walk_of}
 use Rattle.acpi_base.specs.declared.error.Error.{Error}
 use Rattle.acpi_base.specs.declared.oem.Oem.{Oem}
 use Rattle.acpi_base.specs.declared.walk.Place.TheVariants.{Word}

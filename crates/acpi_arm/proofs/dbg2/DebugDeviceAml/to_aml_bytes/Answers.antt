@@ -1,4 +1,4 @@
-use Rattle.std.proofs.Common.{◌≡◌, ◌<◌, ◌^◌, ◌++◌, ◌+◌, [], ◌∷◌, length, ap, ◌∙◌, arith}
+use Rattle.std.proofs.Common.{◌≡◌, ◌<◌, ◌^◌, ◌++◌, [], ◌∷◌, length, ap, ◌∙◌, arith}
 use Rattle.acpi_arm.specs.Dbg2.{device_bytes}
 use Rattle.acpi_arm.proofs.Devices.{parts_joined, size_of_device}
 use Rattle.acpi_arm.proofs.Written.{wrote_structure, refused_structure, refused_length}
