@@ -23,12 +23,14 @@ REGISTER = ["Address Space ID", "Register Bit Width", "Register Bit Offset", "Ac
 # Names of the sources that no line has. Lists begin right after the fields before them, so no bytes are before them. A device
 # handle is shown as one of its two kinds, and the header of a SLIT by the header's fields.
 IN_NO_TABLE = ("hest/status.rt", "hest/error_data.rt")
-UNSEEN = ["Before the Interrupt Wires", "Before the Mappings", "Device Handle", "Header"]
+UNSEEN = ["Before the Interrupt Wires", "Before the Mappings", "Before the Timers", "Before the Addresses", "Before the Sizes"]
+UNSEEN += ["Before the Name", "Before the OEM Data", "Before the Context Interrupts", "Before the PMU Interrupts"]
+UNSEEN += ["Before the Descriptors", "Device Handle", "Header"]
 
 
 def sources():
     """Returns the text of the forms, and that of the rows that they name. Error status blocks and their data are in no table."""
-    rows = ["base", "fixed", "lists", "hest", "nodes", "matrices"]
+    rows = ["base", "fixed", "lists", "hest", "nodes", "matrices", "arm"]
     files = lambda crate: sorted(glob.glob(f"crates/{crate}/src/**/*.rt", recursive=True))
     read = lambda crate: "".join(open(it).read() for it in files(crate) if not it.endswith(IN_NO_TABLE))
     return read("acpi_forms"), "".join(read(f"acpi_{it}") for it in rows)

@@ -117,6 +117,22 @@ hmat_kinds =
     ∷ (2, codes "Memory Side Cache Information Structure")
     ∷ []
 
+-- the platform timers of GTDT (ACPI 6.5, 5.2.25)
+abbrev pub gtdt_kinds : List (ℕ × List ℕ)
+gtdt_kinds = (0, codes "GT Block Structure") ∷ (1, codes "Arm Generic Watchdog Structure") ∷ []
+
+-- the nodes of IORT (Arm DEN0049E.d)
+abbrev pub iort_kinds : List (ℕ × List ℕ)
+iort_kinds =
+    (0, codes "ITS Group")
+    ∷ (1, codes "Named Component")
+    ∷ (2, codes "Root Complex")
+    ∷ (3, codes "SMMUv1 or SMMUv2")
+    ∷ (4, codes "SMMUv3")
+    ∷ (5, codes "Performance Monitoring Counter Group (PMCG)")
+    ∷ (6, codes "Reserved Memory Range (RMR)")
+    ∷ []
+
 abbrev pub tables : List Named
 tables =
     record { signature = codes "XSDT"; name = codes "Extended System Description Table (XSDT)"; kinds = (0, codes "Entry") ∷ [] }
@@ -148,6 +164,13 @@ tables =
     ∷ record { signature = codes "RIMT"; name = codes "RISC-V IO Mapping Table (RIMT)"; kinds = rimt_kinds }
     ∷ record { signature = codes "HMAT"; name = codes "Heterogeneous Memory Attribute Table (HMAT)"; kinds = hmat_kinds }
     ∷ record { signature = codes "SLIT"; name = codes "System Locality Information Table (SLIT)"; kinds = [] }
+    ∷ record { signature = codes "GTDT"; name = codes "Generic Timer Description Table (GTDT)"; kinds = gtdt_kinds }
+    ∷ record {
+      signature = codes "DBG2";
+      name = codes "Debug Port Table 2 (DBG2)";
+      kinds = (0, codes "Debug Device Information Structure") ∷ [];
+    }
+    ∷ record { signature = codes "IORT"; name = codes "IO Remapping Table (IORT)"; kinds = iort_kinds }
     ∷ []
 
 -- the records that have no standard header (ACPI 6.5, 5.2.5.3 and 5.2.10)

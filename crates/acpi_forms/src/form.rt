@@ -4,6 +4,7 @@ ghost use Rattle.std.specs.Prelude.{◌≡◌};
 ghost use Rattle.acpi_base.specs.Walk.{named};
 ghost use Rattle.acpi_forms.specs.Named.{find_form, names_of, rsdp_names, facs_names, IsNamed};
 
+use crate::arm::{DBG2, GTDT, IORT};
 use crate::fixed::{BERT, DSDT, FACS, FADT, RSDP, SPCR, SSDT, TCPA, TPM2, UNKNOWN};
 use crate::hest::{HEST, RQSC};
 use crate::lists::{CEDT, MADT, MCFG, SRAT, XSDT};
@@ -13,7 +14,7 @@ use acpi_text::form::TableForm;
 
 // The forms of tables, by their signatures.
 #[rattlefmt::skip]
-const FORMS: [([u8; 4], TableForm); 21] = [
+const FORMS: [([u8; 4], TableForm); 24] = [
     (*b"XSDT", XSDT),
     (*b"FACP", FADT),
     (*b"FACS", FACS),
@@ -35,6 +36,9 @@ const FORMS: [([u8; 4], TableForm); 21] = [
     (*b"RIMT", RIMT),
     (*b"HMAT", HMAT),
     (*b"SLIT", SLIT),
+    (*b"GTDT", GTDT),
+    (*b"DBG2", DBG2),
+    (*b"IORT", IORT),
 ];
 
 // A signature as a number, lowest byte first.

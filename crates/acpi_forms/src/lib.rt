@@ -1,6 +1,7 @@
 //! The forms of tables: which fields, lists and structures each has, by the rows that its writer has.
 #![tactic(auto)]
 
+pub mod arm;
 pub mod fixed;
 pub mod form;
 pub mod hest;

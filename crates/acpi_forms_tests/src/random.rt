@@ -8,10 +8,10 @@ use acpi_vectors::table::seal;
 use std::alloc::Global;
 use std::test::Fail;
 
-const SIGNATURES: [[u8; 4]; 20] = [
+const SIGNATURES: [[u8; 4]; 23] = [
     *b"XSDT", *b"FACP", *b"DSDT", *b"SSDT", *b"BERT", *b"SPCR", *b"TCPA", *b"TPM2", *b"MCFG",
     *b"APIC", *b"SRAT", *b"CEDT", *b"HEST", *b"RQSC", *b"PPTT", *b"RHCT", *b"VIOT", *b"RIMT",
-    *b"HMAT", *b"SLIT",
+    *b"HMAT", *b"SLIT", *b"GTDT", *b"DBG2", *b"IORT",
 ];
 
 // The value of a hexadecimal digit.

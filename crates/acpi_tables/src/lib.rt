@@ -7,11 +7,14 @@
 //! use acpi_tables::aml::{ONE, Package, ZERO};
 //! use acpi_tables::bert::BERT;
 //! use acpi_tables::cedt::{CEDT, CxlHostBridge, CxlVersion};
+//! use acpi_tables::dbg2::{DBG2, DebugDevice, DebugPort};
 //! use acpi_tables::facs::FACS;
 //! use acpi_tables::fadt::{FADTBuilder, Flags};
 //! use acpi_tables::gas::{AccessSize, AddressSpace, GAS};
+//! use acpi_tables::gtdt::{GTDT, Timer, Timers};
 //! use acpi_tables::hest::{HEST, PcieAerRootPort};
 //! use acpi_tables::hmat::{HMAT, MemoryProximityDomain};
+//! use acpi_tables::iort::{IORT, IdMapping, ItsGroup, Output, RootComplex};
 //! use acpi_tables::layout::{Image, ImageFault, Located, check_image, lay};
 //! use acpi_tables::madt::{EnabledStatus, LocalInterruptController, MADT, ProcessorLocalApic};
 //! use acpi_tables::mcfg::MCFG;
@@ -23,7 +26,7 @@
 //! use acpi_tables::rsdp::Rsdp;
 //! use acpi_tables::sdt::{Sdt, append_object};
 //! use acpi_tables::slit::SLIT;
-//! use acpi_tables::spcr::SPCR;
+//! use acpi_tables::spcr::{InterfaceType, SPCR};
 //! use acpi_tables::srat::{MemoryAffinity, SRAT};
 //! use acpi_tables::text::{Made, MakeError, make, show};
 //! use acpi_tables::tpm2::{PlatformClass, StartMethod, Tpm2};
@@ -120,6 +123,27 @@
 //!     iommus.to_aml_bytes(sink)
 //! }
 //!
+//! fn arm(alloc: Global, sink: &mut dyn AmlSink) -> R<()> {
+//!     // gtdt: the timers of each processor.
+//!     let timers = Timers::new(Timer::new(30), Timer::new(27));
+//!     GTDT::new(alloc, OEM, TABLE, 1, timers).to_aml_bytes(sink)?;
+//!     // dbg2: a PL011 with its registers.
+//!     let registers = GAS::new(AddressSpace::SystemMemory, 32, 0, AccessSize::DwordAccess, 0x900_0000);
+//!     let port = DebugPort::Serial(InterfaceType::ArmPl011);
+//!     let mut ports = DBG2::new(alloc, OEM, TABLE, 1);
+//!     ports.add_device(DebugDevice::new(alloc, port).register(registers, 0x1000)?)?;
+//!     ports.to_aml_bytes(sink)?;
+//!     // iort: a root complex whose interrupts go to an interrupt translation service.
+//!     let mut nodes = IORT::new(alloc, OEM, TABLE, 1);
+//!     let mut services = ItsGroup::new(alloc);
+//!     services.add_its(0)?;
+//!     let services = Output::ItsGroup(nodes.add_its_group(services)?);
+//!     let mut root_complex = RootComplex::new(alloc, 0);
+//!     root_complex.add_mapping(IdMapping::new(0, 0xffff, 0, services))?;
+//!     nodes.add_root_complex(root_complex)?;
+//!     nodes.to_aml_bytes(sink)
+//! }
+//!
 //! fn matrices(alloc: Global, sink: &mut dyn AmlSink) -> R<()> {
 //!     // slit: the distance of two localities.
 //!     let mut distances = SLIT::new(alloc, OEM, TABLE, 1, 2)?;
@@ -192,6 +216,11 @@ pub mod cedt {
     };
 }
 
+/// The Debug Port Table 2 and its devices (Microsoft). The registers of a serial port are the type `InterfaceType` of `spcr`.
+pub mod dbg2 {
+    pub use acpi_arm::dbg2::{DBG2, DebugDevice, DebugPort};
+}
+
 /// The Firmware ACPI Control Structure (ACPI 6.5, 5.2.10).
 pub mod facs {
     pub use acpi_fixed::facs::FACS;
@@ -205,6 +234,13 @@ pub mod fadt {
 /// Addresses of registers (ACPI 6.5, 5.2.3.2).
 pub mod gas {
     pub use acpi_base::gas::{AccessSize, AddressSpace, GAS};
+}
+
+/// The Generic Timer Description Table and its platform timers (ACPI 6.5, 5.2.25).
+pub mod gtdt {
+    pub use acpi_arm::gtdt::{
+        GTDT, GenericWatchdog, GtBlock, GtBlockTimer, Interrupt, Timer, Timers,
+    };
 }
 
 /// The Hardware Error Source Table and its structures (ACPI 6.5, 18.3.2). Other modules have types of the same names: `madt` has
@@ -223,6 +259,16 @@ pub mod hmat {
     pub use acpi_matrices::hmat::{
         Associativity, CacheLevel, DataType, HMAT, LocalityType, MemoryProximityDomain,
         MemorySideCache, MinTransferSize, SystemLocality, WritePolicy,
+    };
+}
+
+/// The I/O Remapping Table and its nodes (Arm DEN0049E.d). `rimt` has a type `IdMapping`, too: write `iort::IdMapping`.
+pub mod iort {
+    pub use acpi_arm::iort::{
+        AccessAttributes, Httu, IORT, IdMapping, ItsGroup, ItsGroupHandle, MemoryAccess,
+        MemoryRange, Monitored, NamedComponent, NamedComponentHandle, Output, Pmcg, ReservedMemory,
+        RootComplex, RootComplexHandle, Smmu, SmmuHandle, SmmuInterrupt, SmmuModel, SmmuV3,
+        SmmuV3Handle, SmmuV3Model,
     };
 }
 
@@ -268,7 +314,7 @@ pub mod rhct {
 }
 
 /// The RISC-V I/O Mapping Table and its devices (this project's profile). `PciDevice` is the type of `viot`. `hest` has another
-/// type of this name.
+/// type of this name. `iort` has a type `IdMapping`, too: write `rimt::IdMapping`.
 pub mod rimt {
     pub use acpi_nodes::rimt::{
         IdMapping, InterruptWire, Iommu, IommuOffset, PciDevice, PcieRootComplex, Platform, RIMT,

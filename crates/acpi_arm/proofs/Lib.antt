@@ -1,0 +1,4 @@
+pub mod Calls
+pub mod Devices
+pub mod Iorts
+pub mod Written

@@ -1,0 +1,217 @@
+-- The nodes of IORT but those of SMMUs (Arm DEN0049E.d).
+use Rattle.std.specs.Prelude.{ℕ, ◌+◌, ◌-◌, ◌*◌, ◌%◌, List, [], ◌∷◌, ◌++◌, length, String, string_bytes}
+use Rattle.std.specs.declared.alloc.Global.{Global}
+use Rattle.acpi_base.specs.Fields.{NamedField, byte, word, dword, qword, reserved, fields_joined}
+use Rattle.acpi_base.specs.Layout.{zeros}
+use Rattle.acpi_core.specs.Entries.{no_entries}
+use Rattle.acpi_arm.specs.Offsets.{offset_if}
+use Rattle.acpi_arm.specs.declared.iort.components.NamedComponent.{NamedComponent}
+use Rattle.acpi_arm.specs.declared.iort.components.RootComplex.{RootComplex}
+use Rattle.acpi_arm.specs.declared.iort.its.ItsGroup.{ItsGroup}
+use Rattle.acpi_arm.specs.declared.iort.monitor.Monitored.{Monitored}
+use Rattle.acpi_arm.specs.declared.iort.monitor.Monitored.TheVariants as monitored
+use Rattle.acpi_arm.specs.declared.iort.monitor.Pmcg.{Pmcg}
+use Rattle.acpi_arm.specs.declared.iort.regions.AccessAttributes.{AccessAttributes}
+use Rattle.acpi_arm.specs.declared.iort.regions.AccessAttributes.TheVariants as attributes
+use Rattle.acpi_arm.specs.declared.iort.regions.MemoryRange.{MemoryRange}
+use Rattle.acpi_arm.specs.declared.iort.regions.ReservedMemory.{ReservedMemory}
+use Rattle.acpi_arm.specs.Iort.{memory_access}
+
+-- ---- ITS group
+
+abbrev pub its_group : ItsGroup
+its_group = record { identifier = 0; services = no_entries }
+
+abbrev pub its_group_head_fields : ItsGroup → List NamedField
+its_group_head_fields g =
+    byte "Type" 0  -- 0
+    ∷ word "Length" (20 + length g.services.bytes)  -- 1
+    ∷ byte "Revision" 1  -- 3
+    ∷ dword "Identifier" g.identifier  -- 4
+    ∷ dword "Number of ID Mappings" 0  -- 8
+    ∷ dword "Reference to ID Array" 0  -- 12
+    ∷ dword "Number of ITSs" g.services.count  -- 16
+    ∷ []
+
+abbrev pub its_group_head : ItsGroup → List ℕ
+its_group_head g = fields_joined (its_group_head_fields g)
+
+abbrev pub its_group_bytes : ItsGroup → List ℕ
+its_group_bytes g = its_group_head g ++ g.services.bytes  -- 20: GIC ITS Identifier Array
+
+-- ---- named component
+
+abbrev pub named_component : String Global → NamedComponent
+named_component name = record {
+  identifier = 0;
+  flags = 0;
+  access = memory_access;
+  address_size_limit = 0;
+  name = name;
+  mappings = no_entries;
+}
+
+-- the number of zeros after a name of this many bytes: the zero that ends it, and those up to a multiple of 4
+abbrev pub name_end : ℕ → ℕ
+name_end n = 4 - (n + 1) % 4
+
+-- where the name and these zeros end
+abbrev pub component_start : NamedComponent → ℕ
+component_start c = 29 + length (string_bytes c.name) + name_end (length (string_bytes c.name))
+
+abbrev pub component_size : NamedComponent → ℕ
+component_size c = component_start c + length c.mappings.bytes
+
+abbrev pub component_head_fields : NamedComponent → List NamedField
+component_head_fields c =
+    byte "Type" 1  -- 0
+    ∷ word "Length" (component_size c)  -- 1
+    ∷ byte "Revision" 4  -- 3
+    ∷ dword "Identifier" c.identifier  -- 4
+    ∷ dword "Number of ID Mappings" c.mappings.count  -- 8
+    ∷ dword "Reference to ID Array" (offset_if c.mappings.count (component_start c))  -- 12
+    ∷ dword "Node Flags" c.flags  -- 16
+    ∷ dword "Cache Coherent Attribute" c.access.cache_coherent  -- 20
+    ∷ byte "Allocation Hints" c.access.hints  -- 24
+    ∷ reserved 2  -- 25
+    ∷ byte "Memory Access Flags" c.access.flags  -- 27
+    ∷ byte "Device Memory Address Size Limit" c.address_size_limit  -- 28
+    ∷ []
+
+abbrev pub component_head : NamedComponent → List ℕ
+component_head c = fields_joined (component_head_fields c)
+
+-- 29: Device Object Name, zeros, and then the mappings
+abbrev pub component_bytes : NamedComponent → List ℕ
+component_bytes c =
+    component_head c ++ (string_bytes c.name ++ (zeros (name_end (length (string_bytes c.name))) ++ c.mappings.bytes))
+
+-- ---- root complex
+
+abbrev pub root_complex : ℕ → RootComplex
+root_complex segment = record {
+  identifier = 0;
+  access = memory_access;
+  ats_attribute = 0;
+  segment = segment;
+  address_size_limit = 0;
+  mappings = no_entries;
+}
+
+abbrev pub root_complex_head_fields : RootComplex → List NamedField
+root_complex_head_fields c =
+    byte "Type" 2  -- 0
+    ∷ word "Length" (36 + length c.mappings.bytes)  -- 1
+    ∷ byte "Revision" 3  -- 3
+    ∷ dword "Identifier" c.identifier  -- 4
+    ∷ dword "Number of ID Mappings" c.mappings.count  -- 8
+    ∷ dword "Reference to ID Array" (offset_if c.mappings.count 36)  -- 12
+    ∷ dword "Cache Coherent Attribute" c.access.cache_coherent  -- 16
+    ∷ byte "Allocation Hints" c.access.hints  -- 20
+    ∷ reserved 2  -- 21
+    ∷ byte "Memory Access Flags" c.access.flags  -- 23
+    ∷ dword "ATS Attribute" c.ats_attribute  -- 24
+    ∷ dword "PCI Segment Number" c.segment  -- 28
+    ∷ byte "Memory Address Size Limit" c.address_size_limit  -- 32
+    ∷ reserved 3  -- 33
+    ∷ []
+
+abbrev pub root_complex_head : RootComplex → List ℕ
+root_complex_head c = fields_joined (root_complex_head_fields c)
+
+abbrev pub root_complex_bytes : RootComplex → List ℕ
+root_complex_bytes c = root_complex_head c ++ c.mappings.bytes  -- 36: ID mappings
+
+-- ---- Performance Monitoring Counter Group (PMCG)
+
+-- the offset of the node whose events are counted
+abbrev pub monitored_offset : Monitored → ℕ
+monitored_offset (monitored.Smmu handle) = handle
+monitored_offset (monitored.SmmuV3 handle) = handle
+monitored_offset (monitored.RootComplex handle) = handle
+monitored_offset (monitored.NamedComponent handle) = handle
+
+abbrev pub pmcg : ℕ → Monitored → Pmcg
+pmcg page_0 node = record {
+  identifier = 0;
+  page_0 = page_0;
+  overflow_gsiv = 0;
+  node = monitored_offset node;
+  page_1 = 0;
+  mappings = no_entries;
+}
+
+abbrev pub pmcg_head_fields : Pmcg → List NamedField
+pmcg_head_fields p =
+    byte "Type" 5  -- 0
+    ∷ word "Length" (40 + length p.mappings.bytes)  -- 1
+    ∷ byte "Revision" 2  -- 3
+    ∷ dword "Identifier" p.identifier  -- 4
+    ∷ dword "Number of ID Mappings" p.mappings.count  -- 8
+    ∷ dword "Reference to ID Array" (offset_if p.mappings.count 40)  -- 12
+    ∷ qword "Page 0 Base Address" p.page_0  -- 16
+    ∷ dword "Overflow Interrupt GSIV" p.overflow_gsiv  -- 24
+    ∷ dword "Node Reference" p.node  -- 28
+    ∷ qword "Page 1 Base Address" p.page_1  -- 32
+    ∷ []
+
+abbrev pub pmcg_head : Pmcg → List ℕ
+pmcg_head p = fields_joined (pmcg_head_fields p)
+
+abbrev pub pmcg_bytes : Pmcg → List ℕ
+pmcg_bytes p = pmcg_head p ++ p.mappings.bytes  -- 40: ID mapping
+
+-- ---- Reserved Memory Range (RMR)
+
+-- Access Attributes, at bits 2 to 9 of the flags
+abbrev pub attributes_number : AccessAttributes → ℕ
+attributes_number attributes.DeviceNGnRnE = 0
+attributes_number attributes.DeviceNGnRE = 1
+attributes_number attributes.DeviceNGRE = 2
+attributes_number attributes.DeviceGRE = 3
+attributes_number attributes.NormalNonCacheable = 4
+attributes_number attributes.NormalWriteBack = 5
+
+abbrev pub memory_range : ℕ → ℕ → MemoryRange
+memory_range base size = record { base = base; size = size }
+
+abbrev pub range_fields : MemoryRange → List NamedField
+range_fields r =
+    qword "Physical Range Offset" r.base  -- 0
+    ∷ qword "Physical Range Length" r.size  -- 8
+    ∷ reserved 4  -- 16
+    ∷ []
+
+abbrev pub range_bytes : MemoryRange → List ℕ
+range_bytes r = fields_joined (range_fields r)
+
+abbrev pub reserved_memory : AccessAttributes → ReservedMemory
+reserved_memory access = record {
+  identifier = 0;
+  flags = 4 * attributes_number access;
+  ranges = no_entries;
+  mappings = no_entries;
+}
+
+abbrev pub reserved_memory_size : ReservedMemory → ℕ
+reserved_memory_size m = 28 + length m.ranges.bytes + length m.mappings.bytes
+
+abbrev pub reserved_memory_head_fields : ReservedMemory → List NamedField
+reserved_memory_head_fields m =
+    byte "Type" 6  -- 0
+    ∷ word "Length" (reserved_memory_size m)  -- 1
+    ∷ byte "Revision" 3  -- 3
+    ∷ dword "Identifier" m.identifier  -- 4
+    ∷ dword "Number of ID Mappings" m.mappings.count  -- 8
+    ∷ dword "Reference to ID Array" (offset_if m.mappings.count (28 + length m.ranges.bytes))  -- 12
+    ∷ dword "Flags" m.flags  -- 16
+    ∷ dword "Number of Memory Range Descriptors" m.ranges.count  -- 20
+    ∷ dword "Reference to Memory Range Descriptors" (offset_if m.ranges.count 28)  -- 24
+    ∷ []
+
+abbrev pub reserved_memory_head : ReservedMemory → List ℕ
+reserved_memory_head m = fields_joined (reserved_memory_head_fields m)
+
+-- 28: Memory Range Descriptors, and then the ID mappings
+abbrev pub reserved_memory_bytes : ReservedMemory → List ℕ
+reserved_memory_bytes m = reserved_memory_head m ++ (m.ranges.bytes ++ m.mappings.bytes)

@@ -1,0 +1,17 @@
+//! The tables of an Arm machine, beside those that every machine has.
+#![tactic(auto)]
+
+pub mod dbg2;
+pub mod gtdt;
+pub mod handle;
+pub mod iort;
+mod told;
+
+/// Laws about the tables. Each function is a law: it does nothing, and its `ensures` states the law.
+pub mod laws {
+    pub use crate::dbg2::dbg2_is_walked;
+    pub use crate::gtdt::gtdt_is_walked;
+    pub use crate::iort::{
+        iort_identifiers_are_read, iort_is_walked, iort_nodes_tell_kinds, iort_references_are_read,
+    };
+}

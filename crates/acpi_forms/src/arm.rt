@@ -1,0 +1,184 @@
+//! The forms of the tables of an Arm machine.
+
+use acpi_arm::dbg2::DEBUG_DEVICE;
+use acpi_arm::gtdt::{GENERIC_WATCHDOG, GT_BLOCK, GT_BLOCK_TIMER, GTDT_FIXED, GTDT_LAST};
+use acpi_arm::iort::{
+    ID_MAPPING, ITS_GROUP, MEMORY_RANGE, NAMED_COMPONENT, PMCG, RESERVED_MEMORY, ROOT_COMPLEX,
+    SMMU, SMMU_INTERRUPT, SMMU_V3,
+};
+use acpi_base::gas::GENERIC_ADDRESS;
+use acpi_base::header::HEADER;
+use acpi_base::row::Row;
+use acpi_base::walk::Place;
+use acpi_text::form::{Count, Inner, Part, StructureForm, TableForm};
+
+const GTDT_TIMERS: [StructureForm; 2] = [
+    StructureForm {
+        number: 0,
+        name: "GT Block Structure",
+        parts: &[
+            Part::Fields(&GT_BLOCK),
+            Part::Until("Before the Timers", Place::DWord(16)),
+            Part::Entries(
+                "GT Block Timer Structure",
+                Count::Field(Place::DWord(12)),
+                &GT_BLOCK_TIMER,
+            ),
+        ],
+        inner: &Inner::Nothing,
+    },
+    StructureForm {
+        number: 1,
+        name: "Arm Generic Watchdog Structure",
+        parts: &[Part::Fields(&GENERIC_WATCHDOG)],
+        inner: &Inner::Nothing,
+    },
+];
+
+/// The Generic Timer Description Table (ACPI 6.5, 5.2.25).
+pub const GTDT: TableForm = TableForm {
+    name: "Generic Timer Description Table (GTDT)",
+    parts: &[
+        Part::Fields(&HEADER),
+        Part::Fields(&GTDT_FIXED),
+        Part::Fields(&[Row::Number("Platform Timer Count", 4)]),
+        Part::Fields(&GTDT_LAST),
+    ],
+    structures: &GTDT_TIMERS,
+};
+
+/// The Debug Port Table 2 (Microsoft).
+pub const DBG2: TableForm = TableForm {
+    name: "Debug Port Table 2 (DBG2)",
+    parts: &[
+        Part::Fields(&HEADER),
+        Part::Fields(&[
+            Row::Number("OffsetDbgDeviceInfo", 4),
+            Row::Number("NumberDbgDeviceInfo", 4),
+        ]),
+    ],
+    structures: &[StructureForm {
+        number: 0,
+        name: "Debug Device Information Structure",
+        parts: &[
+            Part::Fields(&DEBUG_DEVICE),
+            Part::Until("Before the Addresses", Place::Word(18)),
+            Part::Entries(
+                "BaseAddressRegister",
+                Count::Field(Place::Byte(3)),
+                &GENERIC_ADDRESS,
+            ),
+            Part::Until("Before the Sizes", Place::Word(20)),
+            Part::Numbers("AddressSize", 4, Count::Field(Place::Byte(3))),
+            Part::Until("Before the Name", Place::Word(6)),
+            Part::Bytes("NamespaceString", Place::Word(4)),
+            Part::Until("Before the OEM Data", Place::Word(10)),
+            Part::Bytes("OemData", Place::Word(8)),
+        ],
+        inner: &Inner::Nothing,
+    }],
+};
+
+const IORT_NODES: [StructureForm; 7] = [
+    StructureForm {
+        number: 0,
+        name: "ITS Group",
+        parts: &[
+            Part::Fields(&ITS_GROUP),
+            Part::Numbers("GIC ITS Identifier", 4, Count::Field(Place::DWord(16))),
+        ],
+        inner: &Inner::Nothing,
+    },
+    StructureForm {
+        number: 1,
+        name: "Named Component",
+        parts: &[
+            Part::Fields(&NAMED_COMPONENT),
+            Part::Until("Device Object Name", Place::DWord(12)),
+            Part::Entries("ID Mapping", Count::Field(Place::DWord(8)), &ID_MAPPING),
+        ],
+        inner: &Inner::Nothing,
+    },
+    StructureForm {
+        number: 2,
+        name: "Root Complex",
+        parts: &[
+            Part::Fields(&ROOT_COMPLEX),
+            Part::Until("Before the Mappings", Place::DWord(12)),
+            Part::Entries("ID Mapping", Count::Field(Place::DWord(8)), &ID_MAPPING),
+        ],
+        inner: &Inner::Nothing,
+    },
+    StructureForm {
+        number: 3,
+        name: "SMMUv1 or SMMUv2",
+        parts: &[
+            Part::Fields(&SMMU),
+            Part::Until("Before the Context Interrupts", Place::DWord(48)),
+            Part::Entries(
+                "Context Interrupt",
+                Count::Field(Place::DWord(44)),
+                &SMMU_INTERRUPT,
+            ),
+            Part::Until("Before the PMU Interrupts", Place::DWord(56)),
+            Part::Entries(
+                "PMU Interrupt",
+                Count::Field(Place::DWord(52)),
+                &SMMU_INTERRUPT,
+            ),
+            Part::Until("Before the Mappings", Place::DWord(12)),
+            Part::Entries("ID Mapping", Count::Field(Place::DWord(8)), &ID_MAPPING),
+        ],
+        inner: &Inner::Nothing,
+    },
+    StructureForm {
+        number: 4,
+        name: "SMMUv3",
+        parts: &[
+            Part::Fields(&SMMU_V3),
+            Part::Until("Before the Mappings", Place::DWord(12)),
+            Part::Entries("ID Mapping", Count::Field(Place::DWord(8)), &ID_MAPPING),
+        ],
+        inner: &Inner::Nothing,
+    },
+    StructureForm {
+        number: 5,
+        name: "Performance Monitoring Counter Group (PMCG)",
+        parts: &[
+            Part::Fields(&PMCG),
+            Part::Until("Before the Mappings", Place::DWord(12)),
+            Part::Entries("ID Mapping", Count::Field(Place::DWord(8)), &ID_MAPPING),
+        ],
+        inner: &Inner::Nothing,
+    },
+    StructureForm {
+        number: 6,
+        name: "Reserved Memory Range (RMR)",
+        parts: &[
+            Part::Fields(&RESERVED_MEMORY),
+            Part::Until("Before the Descriptors", Place::DWord(24)),
+            Part::Entries(
+                "Memory Range Descriptor",
+                Count::Field(Place::DWord(20)),
+                &MEMORY_RANGE,
+            ),
+            Part::Until("Before the Mappings", Place::DWord(12)),
+            Part::Entries("ID Mapping", Count::Field(Place::DWord(8)), &ID_MAPPING),
+        ],
+        inner: &Inner::Nothing,
+    },
+];
+
+/// The IO Remapping Table (Arm DEN0049E.d).
+pub const IORT: TableForm = TableForm {
+    name: "IO Remapping Table (IORT)",
+    parts: &[
+        Part::Fields(&HEADER),
+        Part::Fields(&[
+            Row::Number("Number of IORT Nodes", 4),
+            Row::Number("Offset to Array of IORT Nodes", 4),
+            Row::Reserved(4),
+        ]),
+    ],
+    structures: &IORT_NODES,
+};
