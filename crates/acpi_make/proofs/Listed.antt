@@ -57,7 +57,7 @@ place_holds : (start size : ℕ) (place : Place) (n : ℕ) (bytes : List ℕ) �
     → start + size ≤ length bytes → AllHold bytes (own_at start size place n) → field_at (start + place_offset place) (place_width place) bytes ≡ n
 place_holds start size place n bytes small wide within inside hold =
     let is = three_chosen (nat_lt start (2 ^ 62)) (nat_le 1 (place_width place)) (nat_le (end_of place) size) _ []
-        (lt-ltb start (2 ^ 62) small) (le-leb 1 (place_width place) wide) (le-leb (end_of place) size within) in
+    (lt-ltb start (2 ^ 62) small) (le-leb 1 (place_width place) wide) (le-leb (end_of place) size within) in
     let one : AllHold bytes (own (start + place_offset place) (place_width place) n ∷ []) = subst (AllHold bytes) is hold in
     holds (start + place_offset place) (place_width place) n bytes
     (omega (arith, within, inside, length-drop (start + place_offset place) bytes)) one.0
@@ -93,20 +93,22 @@ piece_is BySource at next bytes sound up within small has hold = has
 piece_is (ToldAt place) at next bytes sound up within small has hold =
     let size = next - at in
     let long = length-take-le size (drop at bytes) (omega (arith, up, within, length-drop at bytes)) in
-    let fits : end_of place ≤ size = omega (arith, has, long) in
-    (has,
-    field_inside at size (place_offset place) (place_width place) bytes fits
-    ∙ place_holds at size place size bytes (omega (arith, up, within, small)) (wide_place place sound) fits (omega (arith, up, within)) hold
-    ∙ sym long)
+    let fits : end_of place ≤ size = omega (arith, has, long) in (
+      has,
+      field_inside at size (place_offset place) (place_width place) bytes fits
+          ∙ place_holds at size place size bytes (omega (arith, up, within, small)) (wide_place place sound) fits (omega (arith, up, within)) hold
+          ∙ sym long,
+    )
 
 pieces_are : (sizes : Sizes) (marks : List Mark) (bytes : List ℕ) → HasSizes sizes → Ascending marks (length bytes) → length bytes < 2 ^ 62
     → HaveBytesOf sizes (pieces_of marks bytes) → AllHold bytes (sizes_own sizes marks (length bytes)) → ArePieces sizes (pieces_of marks bytes)
 pieces_are sizes [] bytes sound up small have hold = tt
 pieces_are sizes (Structure at from to ∷ marks) bytes sound up small have hold =
     let next = next_start marks (length bytes) in
-    let both = hold_both bytes (size_own sizes at (next - at)) (sizes_own sizes marks (length bytes)) hold in
-    (piece_is sizes at next bytes sound up.0 (start_within marks (length bytes) up.1) small have.0 both.0,
-    pieces_are sizes marks bytes sound up.1 small have.1 both.1)
+    let both = hold_both bytes (size_own sizes at (next - at)) (sizes_own sizes marks (length bytes)) hold in (
+      piece_is sizes at next bytes sound up.0 (start_within marks (length bytes) up.1) small have.0 both.0,
+      pieces_are sizes marks bytes sound up.1 small have.1 both.1,
+    )
 pieces_are sizes (Line at from to ∷ marks) bytes sound up small have hold = pieces_are sizes marks bytes sound up small have hold
 pieces_are sizes (Reference at w line from to ∷ marks) bytes sound up small have hold = pieces_are sizes marks bytes sound up small have hold
 
