@@ -1,7 +1,8 @@
 #!/bin/sh
 # Runs programs once for each growth, with that one refused by memory.c. `acpi_memory` has to end as ever, since it makes each
 # refused call once more. `acpiread` has to print its whole report, or to end with status 1, `refused: Memory` and no report.
-# Both are proved before they are built, with everything that they stand on; with `built`, those are run that `rt ci` left.
+# `acpitool` has to print a whole text, or to write a whole table, or to end with a line that says that memory ran out, and nothing
+# else. All are proved before they are built, with everything that they stand on; with `built`, those are run that `rt ci` left.
 set -eu
 cd "$(dirname "$0")"
 
@@ -24,10 +25,11 @@ device >"$work/aml"
 { header 'DSDT\126\0\0\0\002\107' && device; } >"$work/dsdt"
 
 if [ "${1-}" != built ]; then
-    prove acpi_memory acpiread
+    prove acpi_memory acpiread acpitool
 fi
 memory=$PWD/crates/acpi_memory/out/acpi_memory
 read=$PWD/crates/acpiread/out/acpiread
+tool=$PWD/crates/acpitool/out/acpitool
 cc -shared -fPIC -O1 -o "$work/memory.so" memory.c
 
 # Runs words with one growth refused, and keeps the status and what is written.
@@ -35,7 +37,7 @@ refusing() {
     number=$1
     shift
     status=0
-    rm -f "$work/growths"
+    rm -f "$work/growths" "$work/made"
     env REFUSED="$number" GROWTHS="$work/growths" LD_PRELOAD="$work/memory.so" "$@" >"$work/out" 2>"$work/err" || status=$?
 }
 
@@ -71,8 +73,27 @@ is_whole_or_refused() {
     is_whole || { [ "$status" = 1 ] && [ ! -s "$work/out" ] && [ "$(cat "$work/err")" = 'refused: Memory' ]; }
 }
 
+# acpitool says of which file it speaks, if it is at one.
+says_memory() {
+    [ "$status" = 1 ] || [ "$status" = 2 ] || return 1
+    [ ! -s "$work/out" ] && grep -Eqx '(acpitool|[^ ]*): (out of memory|refused: Memory)' "$work/err"
+}
+
+is_whole_or_says_memory() {
+    is_whole || says_memory
+}
+
+is_made_or_says_memory() {
+    { is_whole && cmp -s "$work/made" "$work/table"; } || { says_memory && [ ! -e "$work/made" ] && [ ! -e "$work/made.part" ]; }
+}
+
 each is_whole "$memory"
 cmp "$work/whole" crates/acpi_memory/stdout
 each is_whole_or_refused "$read" table "$work/table"
 each is_whole_or_refused "$read" aml "$work/aml"
 each is_whole_or_refused "$read" dsdt "$work/dsdt"
+each is_whole_or_says_memory "$tool" show "$work/table"
+each is_whole_or_says_memory "$tool" show "$work/dsdt"
+each is_whole_or_says_memory "$tool" template APIC
+"$tool" show "$work/table" >"$work/text"
+each is_made_or_says_memory "$tool" make "$work/text" "$work/made"
