@@ -52,7 +52,7 @@ fn main(rt: HostRuntime) -> io::Result<ExitCode> {
 
 // A machine that the tables describe.
 #[derive(Clone, Copy)]
-enum Machine {
+enum Target {
     Q35,
     Virt,
 }
@@ -60,7 +60,7 @@ enum Machine {
 // What the words ask for.
 #[derive(Drop)]
 struct Wanted {
-    machine: Machine,
+    target: Target,
     folder: String,
     base: u64,
 }
@@ -72,14 +72,14 @@ fn run(rt: &(impl Env + Files + Print + AllocGlobal)) -> Result<(), Failure> {
     let folder = existing(rt, wanted.folder)?;
     let folder = folder.as_str();
     let base = wanted.base;
-    match wanted.machine {
-        Machine::Q35 => {
+    match wanted.target {
+        Target::Q35 => {
             save_machine(rt, alloc, folder)?;
             save_memory(rt, alloc, folder)?;
             save_errors(rt, alloc, folder, base)?;
             save_image(rt, alloc, folder, base, image(alloc, base))
         }
-        Machine::Virt => {
+        Target::Virt => {
             save_arm_machine(rt, alloc, folder)?;
             save_arm_devices(rt, alloc, folder)?;
             save_image(rt, alloc, folder, base, reduced_image(alloc, base))
@@ -97,9 +97,9 @@ fn arguments(rt: &(impl Env + AllocGlobal)) -> Result<Wanted, Failure>
         error,
     })?;
     let mut words = words.skip(1);
-    let (machine, folder) = match words.next() {
-        Some(word) if word.as_str() == "arm" => (Machine::Virt, words.next()),
-        word => (Machine::Q35, word),
+    let (target, folder) = match words.next() {
+        Some(word) if word.as_str() == "arm" => (Target::Virt, words.next()),
+        word => (Target::Q35, word),
     };
     let (Some(folder), Some(base), None) = (folder, words.next(), words.next()) else {
         return Err(Failure::Usage);
@@ -110,7 +110,7 @@ fn arguments(rt: &(impl Env + AllocGlobal)) -> Result<Wanted, Failure>
                 return Err(Failure::Base(base));
             }
             Ok(Wanted {
-                machine,
+                target,
                 folder,
                 base,
             })
