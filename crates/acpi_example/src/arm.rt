@@ -27,7 +27,7 @@ pub fn reduced_image(alloc: Global, base: u64) -> R<Image>
     let namespace = namespace_block(alloc)?;
     let controllers = interrupt_controllers(alloc)?;
     let timers = timers(alloc);
-    let console = console();
+    let console = console(alloc)?;
     let ports = debug_ports(alloc)?;
     let spaces = configuration_space(alloc)?;
     let remapping = remapping(alloc)?;

@@ -170,7 +170,7 @@ fn save_arm_machine(rt: &impl Files, alloc: Global, folder: &str) -> Result<(), 
 
 // The tables of its console and of PCI.
 fn save_arm_devices(rt: &impl Files, alloc: Global, folder: &str) -> Result<(), Failure> {
-    save(rt, alloc, folder, "spcr", Ok(arm_platform::console()))?;
+    save(rt, alloc, folder, "spcr", arm_platform::console(alloc))?;
     save(rt, alloc, folder, "dbg2", arm_platform::debug_ports(alloc))?;
     save(
         rt,

@@ -8,7 +8,6 @@ use crate::arm::virt::{
     TRANSLATION_SERVICE_ID,
 };
 use crate::oem::{OEM_ID, OEM_REVISION, OEM_TABLE_ID};
-use acpi_tables::R;
 use acpi_tables::dbg2::{DBG2, DebugDevice, DebugPort};
 use acpi_tables::fadt::FADTBuilder;
 use acpi_tables::gas::{AccessSize, AddressSpace, GAS};
@@ -20,7 +19,9 @@ use acpi_tables::madt::{
     EnabledStatus, GicIts, GicVersion, Gicc, Gicd, Gicr, LocalInterruptController, MADT, Trigger,
 };
 use acpi_tables::mcfg::MCFG;
+use acpi_tables::sdt::Sdt;
 use acpi_tables::spcr::{BaudRate, InterfaceType, InterruptController, SPCR};
+use acpi_tables::{Aml, R};
 use std::alloc::Global;
 
 /// The fields of the FADT (ACPI 6.5, 5.2.9): the machine has no fixed hardware, and firmware offers PSCI by `HVC`.
@@ -76,18 +77,17 @@ fn serial_registers() -> GAS {
     )
 }
 
-/// The console: the PL011.
-pub fn console() -> SPCR<'static> {
-    let registers = serial_registers();
-    SPCR::new(
-        OEM_ID,
-        OEM_TABLE_ID,
-        OEM_REVISION,
-        InterfaceType::ArmPl011,
-        registers,
-    )
-    .gsi(InterruptController::ArmGic, SERIAL_INTERRUPT)
-    .baud_rate(BaudRate::Baud115200)
+/// The console: the PL011. It is an `Sdt` with the table's bytes: a vector of borrowed tables takes no type with a lifetime.
+pub fn console(alloc: Global) -> R<Sdt> {
+    let (kind, registers) = (InterfaceType::ArmPl011, serial_registers());
+    let port = SPCR::new(OEM_ID, OEM_TABLE_ID, OEM_REVISION, kind, registers)
+        .gsi(InterruptController::ArmGic, SERIAL_INTERRUPT)
+        .baud_rate(BaudRate::Baud115200);
+    let mut bytes = Vec::new(alloc);
+    port.to_aml_bytes(&mut bytes)?;
+    let mut table = Sdt::new(alloc, *b"SPCR", 36, 4, OEM_ID, OEM_TABLE_ID, OEM_REVISION)?;
+    table.append_slice(bytes.get(36..).unwrap_or(&[]))?;
+    Ok(table)
 }
 
 /// The port for debuggers: the PL011, too.
