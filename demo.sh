@@ -1,8 +1,9 @@
 #!/bin/sh
 # Has one program write tables, and two others read them. acpiread reads each table, one without its last byte, and one with its
-# AML. acpitool shows a table field by field, finds the tables of an image, and makes a table of a text. Then acpiread meets what
-# only the system can give it. The programs are proved before they are built, with everything that they stand on. The first run
-# takes minutes, and a later one seconds. With `built`, the programs are those that `rt ci` left, and nothing is proved.
+# AML. acpitool shows a table field by field, finds the tables of an image, and makes a table of a text. The same programs read the
+# tables of an Arm machine. Then acpiread meets what only the system can give it. The programs are proved before they are built,
+# with everything that they stand on. The first run takes minutes, and a later one seconds. With `built`, the programs are those
+# that `rt ci` left, and nothing is proved.
 set -eu
 cd "$(dirname "$0")"
 
@@ -128,6 +129,44 @@ for table in package fadt madt mcfg srat slit hmat pptt hest bert namespace; do
     expect "$table $("$tool" make "$work/text" "$work/made" 2>&1)" "$table "
     cmp "$work/acpi/$table" "$work/made"
 done
+
+# An Arm machine: what acpiread prints for its tables, and its image, which has no FACS.
+mkdir "$work/arm"
+expect "$(crates/acpi_example/out/acpi_example arm "$work/arm" 40000000)" 'base 0x40000000 RSDP 0x40000600'
+arm_reads() {
+    lines=$("$read" table "$work/arm/$1") || true
+    echo "$lines"
+    expect "$lines" "$2"
+}
+
+arm_reads madt 'APIC length 268 revision 1 sum 0
+44 type 12 size 24
+68 type 11 size 82
+150 type 11 size 82
+232 type 14 size 16
+248 type 15 size 20'
+arm_reads gtdt 'GTDT length 104 revision 3 sum 0'
+arm_reads spcr 'SPCR length 90 revision 4 sum 0'
+arm_reads dbg2 'DBG2 length 92 revision 0 sum 0
+44 entry size 48'
+arm_reads mcfg 'MCFG length 60 revision 1 sum 0
+44 entry size 16'
+arm_reads iort 'IORT length 216 revision 5 sum 0
+48 type 0 size 24
+72 type 4 size 88
+160 type 2 size 56'
+lines=$("$tool" image "$work/arm/image" 40000000) || true
+echo "$lines"
+expect "$lines" '0x40000600 RSD  length 36 revision 2
+0x40000598 XSDT length 92 revision 1
+0x40000130 FACP length 276 revision 6
+0x40000248 APIC length 268 revision 1
+0x40000358 GTDT length 104 revision 3
+0x400003c0 SPCR length 90 revision 4
+0x40000420 DBG2 length 92 revision 0
+0x40000480 MCFG length 60 revision 1
+0x400004c0 IORT length 216 revision 5
+0x40000000 DSDT length 298 revision 2'
 
 # A run of acpiread that prints no report: its status, its line, and its words.
 ends() {

@@ -69,9 +69,27 @@ fn mappings_and_ranges(rt: HostRuntime) -> Result<(), Fail> {
     )
 }
 
-// Memory accesses are at offset 16 of a root complex and at 20 of a named component.
+// Fails unless each object writes these bytes, with those numbers at their offsets.
+fn changed(alloc: Global, plain: &[u8], rows: &[(&dyn Aml, &[(usize, u8)])]) -> Result<(), Fail> {
+    for (aml, changes) in rows {
+        let mut wanted = Vec::from_slice(alloc, plain)?;
+        for (at, number) in *changes {
+            if *at < wanted.len() {
+                wanted[*at] = *number;
+            }
+        }
+        writes(alloc, *aml, &wanted)?;
+    }
+    Ok(())
+}
+
+// A component without a name, whose accesses are at offset 20.
+fn component(alloc: Global, access: MemoryAccess) -> NamedComponent {
+    NamedComponent::new(alloc, String::new(alloc)).memory_access(access)
+}
+
 #[test]
-fn components_and_root_complexes(rt: HostRuntime) -> Result<(), Fail> {
+fn memory_accesses(rt: HostRuntime) -> Result<(), Fail> {
     let alloc = rt.alloc();
     let access = MemoryAccess::new();
     let hints = access
@@ -79,52 +97,67 @@ fn components_and_root_complexes(rt: HostRuntime) -> Result<(), Fail> {
         .write_allocate()
         .read_allocate()
         .hints_override();
-    for (access, [coherent, hints, flags]) in [
-        (access, [0, 0, 0]),
-        (access.cache_coherent(), [1, 0, 0]),
-        (access.transient(), [0, 1, 0]),
-        (access.write_allocate(), [0, 2, 0]),
-        (access.read_allocate(), [0, 4, 0]),
-        (access.hints_override(), [0, 8, 0]),
-        (access.coherent_path(), [0, 0, 1]),
-        (access.cacheable_attributes(), [0, 0, 2]),
-        (
-            hints
-                .cache_coherent()
-                .coherent_path()
-                .cacheable_attributes(),
-            [1, 15, 3],
-        ),
-    ] {
-        let mut wanted =
-            *b"\x02\x24\0\x03\0\0\0\0\0\0\0\0\0\0\0\0\0\0\0\0\0\0\0\0\0\0\0\0\x01\x02\x03\x04\0\0\0\0";
-        wanted[16] = coherent;
-        wanted[20] = hints;
-        wanted[23] = flags;
-        let plain = RootComplex::new(alloc, 0x0403_0201).memory_access(access);
-        writes(alloc, &plain, &wanted)?;
-        let mut wanted = *b"\x01\x20\0\x04\0\0\0\0\0\0\0\0\0\0\0\0\0\0\0\0\0\0\0\0\0\0\0\0\0\0\0\0";
-        wanted[20] = coherent;
-        wanted[24] = hints;
-        wanted[27] = flags;
-        let plain = NamedComponent::new(alloc, String::new(alloc)).memory_access(access);
-        writes(alloc, &plain, &wanted)?;
-    }
-    let plain = || RootComplex::new(alloc, 0);
-    for (root_complex, attribute) in [
-        (plain().ats_supported(), 1),
-        (plain().pri_supported(), 2),
-        (plain().pasid_forwarding(), 4),
-        (
-            plain().ats_supported().pri_supported().pasid_forwarding(),
-            7,
-        ),
-    ] {
-        let mut wanted =
-            *b"\x02\x24\0\x03\0\0\0\0\0\0\0\0\0\0\0\0\0\0\0\0\0\0\0\0\0\0\0\0\0\0\0\0\x40\0\0\0";
-        wanted[24] = attribute;
-        writes(alloc, &root_complex.address_size_limit(64), &wanted)?;
-    }
+    let full = hints
+        .cache_coherent()
+        .coherent_path()
+        .cacheable_attributes();
+    let plain = *b"\x01\x20\0\x04\0\0\0\0\0\0\0\0\0\0\0\0\0\0\0\0\0\0\0\0\0\0\0\0\0\0\0\0";
+    changed(
+        alloc,
+        &plain,
+        &[
+            (&component(alloc, access), &[]),
+            (&component(alloc, access.cache_coherent()), &[(20, 1)]),
+            (&component(alloc, access.transient()), &[(24, 1)]),
+            (&component(alloc, access.write_allocate()), &[(24, 2)]),
+            (&component(alloc, access.read_allocate()), &[(24, 4)]),
+            (&component(alloc, access.hints_override()), &[(24, 8)]),
+            (&component(alloc, access.coherent_path()), &[(27, 1)]),
+            (&component(alloc, access.cacheable_attributes()), &[(27, 2)]),
+            (&component(alloc, full), &[(20, 1), (24, 15), (27, 3)]),
+        ],
+    )
+}
+
+#[test]
+fn root_complexes(rt: HostRuntime) -> Result<(), Fail> {
+    let alloc = rt.alloc();
+    let access = MemoryAccess::new()
+        .cache_coherent()
+        .read_allocate()
+        .cacheable_attributes();
+    let first = RootComplex::new(alloc, 0x0403_0201).memory_access(access);
+    let second = RootComplex::new(alloc, 0)
+        .ats_supported()
+        .address_size_limit(64);
+    let third = RootComplex::new(alloc, 0).pri_supported();
+    let fourth = RootComplex::new(alloc, 0).pasid_forwarding();
+    let fifth = RootComplex::new(alloc, 0)
+        .ats_supported()
+        .pri_supported()
+        .pasid_forwarding();
+    changed(
+        alloc,
+        b"\x02\x24\0\x03\0\0\0\0\0\0\0\0\0\0\0\0\0\0\0\0\0\0\0\0\0\0\0\0\0\0\0\0\0\0\0\0",
+        &[
+            (
+                &first,
+                &[
+                    (16, 1),
+                    (20, 4),
+                    (23, 2),
+                    (28, 1),
+                    (29, 2),
+                    (30, 3),
+                    (31, 4),
+                ],
+            ),
+            (&second, &[(24, 1), (32, 64)]),
+            (&third, &[(24, 2)]),
+            (&fourth, &[(24, 4)]),
+            (&fifth, &[(24, 7)]),
+        ],
+    )?;
     let mut mapped = RootComplex::new(alloc, 1);
     mapped.add_mapping(mapping(alloc)?)?;
     mapped.add_mapping(mapping(alloc)?.single())?;
@@ -211,40 +244,14 @@ fn smmus(rt: HostRuntime) -> Result<(), Fail> {
     )
 }
 
+// An SMMUv3 whose registers are at the address 0.
+fn generic(alloc: Global) -> SmmuV3 {
+    SmmuV3::new(alloc, SmmuV3Model::Generic, 0)
+}
+
 #[test]
 fn smmus_of_version_3(rt: HostRuntime) -> Result<(), Fail> {
     let alloc = rt.alloc();
-    let plain = || SmmuV3::new(alloc, SmmuV3Model::Generic, 0);
-    let empty =
-        *b"\x04\x44\0\x04\0\0\0\0\0\0\0\0\0\0\0\0\0\0\0\0\0\0\0\0\0\0\0\0\0\0\0\0\0\0\0\0\0\0\0\0\
-        \0\0\0\0\0\0\0\0\0\0\0\0\0\0\0\0\0\0\0\0\0\0\0\0\0\0\0\0";
-    for (smmu, flags, at, number) in [
-        (
-            SmmuV3::new(alloc, SmmuV3Model::HiSiliconHi161x, 0),
-            0,
-            40,
-            1,
-        ),
-        (SmmuV3::new(alloc, SmmuV3Model::CaviumCn99xx, 0), 0, 40, 2),
-        (SmmuV3::new(alloc, SmmuV3Model::Generic, 9), 0, 16, 9),
-        (plain().cohacc_override(), 1, 16, 0),
-        (plain().httu_override(Httu::AccessFlag), 2, 16, 0),
-        (plain().httu_override(Httu::AccessFlagAndDirty), 4, 16, 0),
-        (plain().vatos_address(7), 0, 32, 7),
-        (plain().event_gsiv(1), 0, 44, 1),
-        (plain().pri_gsiv(2), 0, 48, 2),
-        (plain().gerr_gsiv(3), 0, 52, 3),
-        (plain().sync_gsiv(4), 0, 56, 4),
-        (plain().proximity_domain(5), 8, 60, 5),
-        (plain().device_id_mapping(6), 16, 64, 6),
-    ] {
-        let mut wanted = empty;
-        wanted[24] = flags;
-        if at < 68 {
-            wanted[at] = number;
-        }
-        writes(alloc, &smmu, &wanted)?;
-    }
     let mut mapped = SmmuV3::new(alloc, SmmuV3Model::Generic, 0x0807_0605_0403_0201);
     mapped.add_mapping(mapping(alloc)?)?;
     equal(&mapped.mapping_count(), &1)?;
@@ -254,37 +261,68 @@ fn smmus_of_version_3(rt: HostRuntime) -> Result<(), Fail> {
         b"\x04\x58\0\x04\0\0\0\0\x01\0\0\0\x44\0\0\0\x01\x02\x03\x04\x05\x06\x07\x08\0\0\0\0\0\0\0\0\0\0\0\0\0\0\0\0\
             \0\0\0\0\0\0\0\0\0\0\0\0\0\0\0\0\0\0\0\0\0\0\0\0\0\0\0\0\
             \x01\x02\x03\x04\x05\x06\x07\x08\x09\x0a\x0b\x0c\x30\0\0\0\0\0\0\0",
+    )?;
+    changed(
+        alloc,
+        b"\x04\x44\0\x04\0\0\0\0\0\0\0\0\0\0\0\0\0\0\0\0\0\0\0\0\0\0\0\0\0\0\0\0\0\0\0\0\0\0\0\0\
+            \0\0\0\0\0\0\0\0\0\0\0\0\0\0\0\0\0\0\0\0\0\0\0\0\0\0\0\0",
+        &[
+            (
+                &SmmuV3::new(alloc, SmmuV3Model::HiSiliconHi161x, 0),
+                &[(40, 1)],
+            ),
+            (
+                &SmmuV3::new(alloc, SmmuV3Model::CaviumCn99xx, 0),
+                &[(40, 2)],
+            ),
+            (&generic(alloc).cohacc_override(), &[(24, 1)]),
+            (&generic(alloc).httu_override(Httu::AccessFlag), &[(24, 2)]),
+            (
+                &generic(alloc).httu_override(Httu::AccessFlagAndDirty),
+                &[(24, 4)],
+            ),
+            (&generic(alloc).vatos_address(7), &[(32, 7)]),
+            (
+                &generic(alloc).event_gsiv(1).pri_gsiv(2),
+                &[(44, 1), (48, 2)],
+            ),
+            (
+                &generic(alloc).gerr_gsiv(3).sync_gsiv(4),
+                &[(52, 3), (56, 4)],
+            ),
+            (&generic(alloc).proximity_domain(5), &[(24, 8), (60, 5)]),
+            (&generic(alloc).device_id_mapping(6), &[(24, 16), (64, 6)]),
+        ],
     )
+}
+
+// Reserved memory without ranges.
+fn reserved(alloc: Global, attributes: AccessAttributes) -> ReservedMemory {
+    ReservedMemory::new(alloc, attributes)
 }
 
 #[test]
 fn reserved_memory(rt: HostRuntime) -> Result<(), Fail> {
     let alloc = rt.alloc();
-    let plain = |attributes| ReservedMemory::new(alloc, attributes);
-    for (memory, flags) in [
-        (plain(AccessAttributes::DeviceNGnRnE), 0),
-        (plain(AccessAttributes::DeviceNGnRE), 4),
-        (plain(AccessAttributes::DeviceNGRE), 8),
-        (plain(AccessAttributes::DeviceGRE), 12),
-        (plain(AccessAttributes::NormalNonCacheable), 16),
-        (plain(AccessAttributes::NormalWriteBack), 20),
-        (
-            plain(AccessAttributes::DeviceNGnRnE).remapping_permitted(),
-            1,
-        ),
-        (plain(AccessAttributes::DeviceNGnRnE).privileged(), 2),
-        (
-            plain(AccessAttributes::NormalWriteBack)
-                .privileged()
-                .remapping_permitted(),
-            23,
-        ),
-    ] {
-        let mut wanted = *b"\x06\x1c\0\x03\0\0\0\0\0\0\0\0\0\0\0\0\0\0\0\0\0\0\0\0\0\0\0\0";
-        wanted[16] = flags;
-        writes(alloc, &memory, &wanted)?;
-    }
-    let mut full = plain(AccessAttributes::DeviceNGnRnE);
+    changed(
+        alloc,
+        b"\x06\x1c\0\x03\0\0\0\0\0\0\0\0\0\0\0\0\0\0\0\0\0\0\0\0\0\0\0\0",
+        &[
+            (&reserved(alloc, AccessAttributes::DeviceNGnRnE), &[]),
+            (&reserved(alloc, AccessAttributes::DeviceNGnRE), &[(16, 4)]),
+            (&reserved(alloc, AccessAttributes::DeviceNGRE), &[(16, 8)]),
+            (&reserved(alloc, AccessAttributes::DeviceGRE), &[(16, 12)]),
+            (
+                &reserved(alloc, AccessAttributes::NormalNonCacheable).privileged(),
+                &[(16, 18)],
+            ),
+            (
+                &reserved(alloc, AccessAttributes::NormalWriteBack).remapping_permitted(),
+                &[(16, 21)],
+            ),
+        ],
+    )?;
+    let mut full = reserved(alloc, AccessAttributes::DeviceNGnRnE);
     full.add_range(MemoryRange::new(0x1_0000, 0x2_0000))?;
     full.add_range(MemoryRange::new(0x8_0000, 0x1_0000))?;
     full.add_mapping(mapping(alloc)?)?;

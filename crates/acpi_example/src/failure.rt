@@ -11,7 +11,7 @@ use thiserror::Error;
 #[derive(Debug, Drop, Error)]
 pub enum Failure {
     /// The words aren't a folder and a base.
-    #[error("usage: acpi_example FOLDER BASE")]
+    #[error("usage: acpi_example [arm] FOLDER BASE")]
     Usage,
     /// The image and the pages of errors would pass the last address.
     #[error("BASE {0:#x}: the 0x111000 bytes from there on pass the last address")]

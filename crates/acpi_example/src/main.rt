@@ -1,12 +1,14 @@
 //! What a virtual machine monitor does: it builds the tables of a machine, lays them at their addresses and writes them to
 //! files. `acpi_example FOLDER BASE` writes each table to a file of the folder, and the image of all tables to `image`. The
 //! image is for the physical address BASE, a multiple of 64 in hexadecimal, and it is checked before it is written. The two pages
-//! for errors are in the 0x111000 bytes from BASE on. The program prints BASE and the RSDP's address.
+//! for errors are in the 0x111000 bytes from BASE on. The program prints BASE and the RSDP's address. With `arm` before the folder
+//! the machine is an Arm one, without such pages.
 //! Status 0: every file was written. 1: a call was refused, and a line on standard error says which. 2: the words are wrong.
 #![tactic(auto)]
 
 ghost use Rattle.std.specs.Prelude.{◌≡◌, ◌%◌, ◌+◌, ◌≤◌, ◌^◌, IfOk};
 
+mod arm;
 mod domains;
 mod failure;
 mod hardware;
@@ -18,6 +20,8 @@ mod platform;
 mod table;
 mod topology;
 
+use crate::arm::namespace::namespace_block as arm_namespace_block;
+use crate::arm::{platform as arm_platform, reduced_image};
 use crate::domains::{attributes, distances};
 use crate::failure::Failure;
 use crate::hardware::{boot_errors, error_sources, fixed_hardware};
@@ -27,7 +31,7 @@ use crate::namespace::namespace_block;
 use crate::platform::{affinities, configuration_space, interrupt_controllers};
 use crate::table::package_block;
 use crate::topology::topology;
-use acpi_tables::layout::check_image;
+use acpi_tables::layout::{Image, check_image};
 use acpi_tables::{Aml, R};
 use std::alloc::Global;
 use std::io::Print;
@@ -46,29 +50,58 @@ fn main(rt: HostRuntime) -> io::Result<ExitCode> {
     }
 }
 
+// A machine that the tables describe.
+#[derive(Clone, Copy)]
+enum Target {
+    Q35,
+    Virt,
+}
+
+// What the words ask for.
+#[derive(Drop)]
+struct Wanted {
+    target: Target,
+    folder: String,
+    base: u64,
+}
+
 // Writes every file, and prints the addresses.
 fn run(rt: &(impl Env + Files + Print + AllocGlobal)) -> Result<(), Failure> {
     let alloc = rt.alloc();
-    let (folder, base) = arguments(rt)?;
-    let folder = existing(rt, folder)?;
+    let wanted = arguments(rt)?;
+    let folder = existing(rt, wanted.folder)?;
     let folder = folder.as_str();
-    save_machine(rt, alloc, folder)?;
-    save_memory(rt, alloc, folder)?;
-    save_errors(rt, alloc, folder, base)?;
-    save_image(rt, alloc, folder, base)
+    let base = wanted.base;
+    match wanted.target {
+        Target::Q35 => {
+            save_machine(rt, alloc, folder)?;
+            save_memory(rt, alloc, folder)?;
+            save_errors(rt, alloc, folder, base)?;
+            save_image(rt, alloc, folder, base, image(alloc, base))
+        }
+        Target::Virt => {
+            save_arm_machine(rt, alloc, folder)?;
+            save_arm_devices(rt, alloc, folder)?;
+            save_image(rt, alloc, folder, base, reduced_image(alloc, base))
+        }
+    }
 }
 
-// The folder and the base.
-fn arguments(rt: &(impl Env + AllocGlobal)) -> Result<(String, u64), Failure>
-    ensures unit { IfOk result (λ wanted. wanted.1 % 64 ≡ 0) }
-    ensures room { IfOk result (λ wanted. wanted.1 + BYTES_FROM_BASE ≤ 2 ^ 64) }
+// The machine, the folder and the base.
+fn arguments(rt: &(impl Env + AllocGlobal)) -> Result<Wanted, Failure>
+    ensures unit { IfOk result (λ wanted. wanted.base % 64 ≡ 0) }
+    ensures room { IfOk result (λ wanted. wanted.base + BYTES_FROM_BASE ≤ 2 ^ 64) }
 {
     let words = env::args(rt).map_err(|error| Failure::System {
         what: "arguments",
         error,
     })?;
     let mut words = words.skip(1);
-    let (Some(folder), Some(base), None) = (words.next(), words.next(), words.next()) else {
+    let (target, folder) = match words.next() {
+        Some(word) if word.as_str() == "arm" => (Target::Virt, words.next()),
+        word => (Target::Q35, word),
+    };
+    let (Some(folder), Some(base), None) = (folder, words.next(), words.next()) else {
         return Err(Failure::Usage);
     };
     match u64::from_str_radix(base.trim_start_matches("0x"), 16) {
@@ -76,7 +109,11 @@ fn arguments(rt: &(impl Env + AllocGlobal)) -> Result<(String, u64), Failure>
             if u64::MAX - base < BYTES_FROM_BASE - 1 {
                 return Err(Failure::Base(base));
             }
-            Ok((folder, base))
+            Ok(Wanted {
+                target,
+                folder,
+                base,
+            })
         }
         _ => Err(Failure::Usage),
     }
@@ -118,6 +155,33 @@ fn save_errors(rt: &impl Files, alloc: Global, folder: &str, base: u64) -> Resul
     save(rt, alloc, folder, "bert", Ok(boot_errors(base)))
 }
 
+// The definition block of an Arm machine, and the tables of its fixed hardware, interrupts and timers.
+fn save_arm_machine(rt: &impl Files, alloc: Global, folder: &str) -> Result<(), Failure> {
+    save(rt, alloc, folder, "namespace", arm_namespace_block(alloc))?;
+    save(
+        rt,
+        alloc,
+        folder,
+        "madt",
+        arm_platform::interrupt_controllers(alloc),
+    )?;
+    save(rt, alloc, folder, "gtdt", Ok(arm_platform::timers(alloc)))
+}
+
+// The tables of its console and of PCI.
+fn save_arm_devices(rt: &impl Files, alloc: Global, folder: &str) -> Result<(), Failure> {
+    save(rt, alloc, folder, "spcr", arm_platform::console(alloc))?;
+    save(rt, alloc, folder, "dbg2", arm_platform::debug_ports(alloc))?;
+    save(
+        rt,
+        alloc,
+        folder,
+        "mcfg",
+        arm_platform::configuration_space(alloc),
+    )?;
+    save(rt, alloc, folder, "iort", arm_platform::remapping(alloc))
+}
+
 // Writes a table's bytes to a file of the folder, which has the table's name.
 fn save<T: Aml + Drop>(
     rt: &impl Files,
@@ -136,12 +200,10 @@ fn save_image(
     alloc: Global,
     folder: &str,
     base: u64,
-) -> Result<(), Failure>
-    requires unit { base % 64 ≡ 0 }
-    requires room { base + BYTES_FROM_BASE ≤ 2 ^ 64 }
-{
+    made: R<Image>,
+) -> Result<(), Failure> {
     let name = "image";
-    let image = image(alloc, base).map_err(|error| Failure::Table { name, error })?;
+    let image = made.map_err(|error| Failure::Table { name, error })?;
     check_image(alloc, &image.bytes, base, image.rsdp).map_err(Failure::Image)?;
     write_file(rt, alloc, folder, name, &image.bytes)?;
     println!(rt; "base {base:#x} RSDP {:#x}", image.rsdp).map_err(|error| Failure::System {

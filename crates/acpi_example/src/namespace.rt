@@ -65,8 +65,8 @@ fn serial_port(alloc: Global) -> R<Device> {
     )
 }
 
-// A processor. Its id is that of its local APIC in the MADT.
-fn processor(alloc: Global, number: u8) -> R<Device> {
+/// A processor. Its id is that of its interrupt controller in the MADT.
+pub fn processor(alloc: Global, number: u8) -> R<Device> {
     let text = format!(in alloc; "_SB_.C{number:03}")?;
     let kind = "ACPI0007";
     let id = Name::new(Path::new(alloc, "_HID")?, &kind)?;
