@@ -28,10 +28,16 @@ build_over_ci() {
         "$kit/bin/rattle" build --crate-name acpi_c src/lib.rt --crate-type staticlib --links acpi_c= --jobs 1 \
             --extern "std=$kit/rlibs/std.rlib" -L "dependency=$kit/rlibs" "$@" --toolchain "$kit/toolchain" --backend llvm \
             --antt-project "$kit/rattle/logic/antt-project.json" --logic-built "$kit/logic_built" -o out/libacpi_c.a
-    ) >"$work/acpi_c.log" 2>&1 || { cat "$work/acpi_c.log" >&2 && exit 1; }
+    ) >"$work/acpi_c.log" 2>&1
 }
 
-if [ "${1-}" = built ]; then build_over_ci; else prove acpi_c acpi_example; fi
+if [ "${1-}" != built ]; then
+    prove acpi_c acpi_example
+elif ! build_over_ci; then
+    cat "$work/acpi_c.log" >&2
+    echo "acpi_c isn't built over what rt ci left: all that it stands on is proved once more" >&2
+    prove acpi_c
+fi
 
 # One archive with what the library calls for memory, which the kit has in C: malloc, realloc and free.
 source=$PWD/crates/acpi_c
