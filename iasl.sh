@@ -1,6 +1,6 @@
 #!/bin/sh
-# Disassembles with ACPICA's iasl each table that the example writes, its definition blocks with their AML, and prints a line
-# for each. It compares the fields that iasl writes with those that `acpitool show` prints, as iasl_fields.py says. With a folder
+# Disassembles with ACPICA's iasl each table that the example writes for both of its machines, its definition blocks with their
+# AML, and prints a line for each. It compares the fields that iasl writes with those that `acpitool show` prints, as iasl_fields.py says. With a folder
 # as its argument, the tables are the files of that folder. Without one they are those of the example, and then the fields of
 # crates/acpitool/data are compared, too: these tables have each structure, with values that iasl needn't accept. The programs and
 # what they stand on are proved first. Not a part of the gate. The status is 1 if iasl refuses a table, if its fields are others,
@@ -42,6 +42,8 @@ else
     tables=$work/acpi
     mkdir "$tables"
     crates/acpi_example/out/acpi_example "$tables" 1c000000 >"$work/log"
+    mkdir "$tables/arm"
+    crates/acpi_example/out/acpi_example arm "$tables/arm" 40000000 >"$work/log"
 fi
 
 # What iasl says against bytes, on its output and in the text that it writes.
@@ -65,10 +67,10 @@ compare_fields() {
     sed "s|^|${1##*/}: |" "$work/compared"
 }
 
-for table in "$tables"/*; do
+for table in "$tables"/* "$tables"/arm/*; do
     name=${table##*/}
     # All tables at their addresses.
-    [ "$name" != image ] || continue
+    [ "$name" != image ] && [ -f "$table" ] || continue
     text=$work/$name.dsl
     if ! disassemble "$table" "$text"; then
         echo "$name: refused by iasl" >&2
