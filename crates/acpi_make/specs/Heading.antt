@@ -1,5 +1,5 @@
 -- What a heading says, and which form a structure has.
-use Rattle.std.specs.Prelude.{ℕ, zero, suc, ◌+◌, ◌/◌, ◌%◌, ◌==◌, nat_le, ◌&&◌, Bool, false, if◌then◌else◌}
+use Rattle.std.specs.Prelude.{ℕ, zero, suc, ◌+◌, ◌/◌, ◌%◌, ◌==◌, nat_le, ◌&&◌, Bool, true, false, if◌then◌else◌}
 use Rattle.std.specs.Prelude.{List, [], ◌∷◌, take, drop, Option, Some, None, codes}
 use Rattle.acpi_base.specs.Walk.{place_offset, place_width}
 use Rattle.acpi_base.specs.declared.walk.Place.{Place}
@@ -54,6 +54,10 @@ abbrev pub known_front : List Cell → ℕ
 known_front [] = 0
 known_front (Byte b ∷ cells) = 1 + known_front cells
 known_front (Left line ∷ cells) = 0
+
+abbrev pub is_known : Cell → Bool
+is_known (Byte b) = true
+is_known (Left line) = false
 
 -- whether a byte is known, and is the lowest of a number
 abbrev pub is_lowest : Cell → ℕ → Bool

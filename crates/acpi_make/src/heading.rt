@@ -1,9 +1,9 @@
 //! What a heading says, and which form a structure has.
 
-ghost use Rattle.std.specs.Prelude.{◌≡◌, ◌≤◌, length, MatchOption, None, Some};
+ghost use Rattle.std.specs.Prelude.{◌≡◌, ◌≤◌, nat_le, length, MatchOption, None, Some};
 ghost use Rattle.acpi_base.specs.Walk.{place_width};
 ghost use Rattle.acpi_make.specs.Heading.{word_front, label_of, unlabelled, described, find_named, numbered, by_heading};
-ghost use Rattle.acpi_make.specs.Heading.{known_front, is_lowest, has_number, by_bytes, structure_form};
+ghost use Rattle.acpi_make.specs.Heading.{known_front, is_known, is_lowest, has_number, by_bytes, structure_form};
 
 use crate::entry::is_line_of;
 use crate::item::Cell;
@@ -87,19 +87,33 @@ fn by_heading(heading: &[u8], forms: &[StructureForm]) -> Option<StructureForm>
     }
 }
 
-/// Returns how many bytes are known before the first that isn't.
-pub fn known_front(cells: &[Cell]) -> usize
-    ensures front { result ≡ known_front cells.now }
-    ensures within { result ≤ length cells.now }
+// Returns whether a byte is known.
+fn is_known(cell: Cell) -> bool
+    ensures { result ≡ is_known cell }
 {
-    let mut front = 0;
-    'cells: for cell in cells {
-        match cell {
-            Cell::Byte(_) => front += 1,
-            Cell::Left(_) => return front,
-        }
+    match cell {
+        Cell::Byte(_) => true,
+        Cell::Left(_) => false,
     }
-    front
+}
+
+// Returns whether there are `width` bytes and all of them are known. It looks at no byte after them.
+fn are_known(width: usize, cells: &[Cell]) -> bool
+    ensures { result ≡ nat_le width (known_front cells.now) }
+{
+    let mut left = width;
+    let mut cells_left = cells;
+    'bytes: while left > 0 {
+        left -= 1;
+        let Some((cell, more)) = cells_left.split_first() else {
+            return false;
+        };
+        if !is_known(*cell) {
+            return false;
+        }
+        cells_left = more;
+    }
+    true
 }
 
 // Returns whether a byte is known, and is the lowest of a number.
@@ -162,7 +176,7 @@ pub fn structure_form(
         &[]
     };
     let width = end - offset;
-    if width <= known_front(bytes) {
+    if are_known(width, bytes) {
         by_bytes(width, bytes, forms)
     } else {
         by_heading(heading, forms)
