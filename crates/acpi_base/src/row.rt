@@ -71,6 +71,7 @@ pub fn write_record<const N: usize, T: Record<N>>(value: &T, sink: &mut dyn AmlS
 }
 
 /// The bytes of a record of numbers. Each number has the width of its row, lowest byte first.
+#[inline(always)]
 pub fn record_of_numbers<const N: usize>(rows: &[Row], numbers: &[u64]) -> [u8; N]
     requires count { length rows.now ≡ length numbers.now }
     requires numbers { IsTrue (are_numbers rows.now) }
