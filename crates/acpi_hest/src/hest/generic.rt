@@ -15,6 +15,7 @@ use crate::parts::write_record_behind;
 use acpi_base::error::R;
 use acpi_base::gas::GAS;
 use acpi_base::object::Aml;
+use acpi_base::record::{Field, record};
 use acpi_base::row::{Record, Row, Value, record_of, record_of_numbers};
 use acpi_base::sink::AmlSink;
 
@@ -110,22 +111,25 @@ impl<T: Tail<N>, const N: usize> Generic<T, N> {
     fn head(&self) -> [u8; 64]
         ensures { result ≡ generic_head T.KIND self.now }
     {
-        record_of(
-            &GENERIC,
+        let numbers: [u8; 20] = record_of_numbers(
+            &GENERIC[..8],
             &[
-                Value::Number(u64::from(T::KIND)),
-                Value::Number(u64::from(self.source_id)),
-                Value::Number(0xffff),
-                Value::Number(0),
-                Value::Number(self.enabled as u64),
-                Value::Number(u64::from(self.num_records)),
-                Value::Number(u64::from(self.max_sections)),
-                Value::Number(u64::from(self.max_raw_length)),
-                Value::Bytes(&self.error_status_address.bytes()),
-                Value::Bytes(&self.notification.bytes()),
-                Value::Number(u64::from(self.error_status_block_len)),
+                u64::from(T::KIND),
+                u64::from(self.source_id),
+                0xffff,
+                0,
+                self.enabled as u64,
+                u64::from(self.num_records),
+                u64::from(self.max_sections),
+                u64::from(self.max_raw_length),
             ],
-        )
+        );
+        record(&[
+            Field::Bytes(&numbers),
+            Field::Bytes(&self.error_status_address.bytes()),
+            Field::Bytes(&self.notification.bytes()),
+            Field::DWord(self.error_status_block_len),
+        ])
     }
 }
 
