@@ -1,4 +1,4 @@
-# What demo.sh, texts.sh, bench.sh, iasl.sh, limits.sh and memory.sh share: how crates of crates.txt are proved and built. Sourced
+# What demo.sh, cases.sh, bench.sh, iasl.sh, limits.sh and memory.sh share: how crates of crates.txt are proved and built. Sourced
 # from the root. Crates that don't stand on each other are proved side by side, as many at a time as there are processors, at most
 # four, and 3 GB of free memory for each. JOBS says how many instead.
 

@@ -1,4 +1,4 @@
-"""Compares what `acpitool make` makes of texts with what it has to make. texts.sh says which texts there are."""
+"""Compares what `acpitool make` makes of texts with what it has to make. cases.sh says which texts there are."""
 
 import os
 import random
@@ -8,7 +8,7 @@ import sys
 
 TOOL, WORK, COUNT = os.path.abspath(sys.argv[1]), sys.argv[2], int(sys.argv[3])
 TABLE, TEXT = os.path.join(WORK, "table"), os.path.join(WORK, "text")
-DATA, SHOWN, CASES = "crates/acpitool/data", "crates/acpitool/stdout", "cases"
+DATA, SHOWN, CASES = "crates/acpitool/data", "crates/acpitool/stdout", "cases/make"
 wrong = []
 
 
@@ -101,7 +101,8 @@ def changed_text(text):
     elif change == 3:
         lines[at] = lines[at][: random.randrange(len(lines[at]) + 1)]
     elif change == 4:
-        lines[at] = lines[at].split(b":")[0] + b": " + random.choice((b"??", b"????", b"#7", b"{Enabled}", b"{}", b"@a", b'"a"', b""))
+        values = (b"??", b"????", b"#7", b"{Enabled}", b"{}", b"@a", b'"a"', b"")
+        lines[at] = lines[at].split(b":")[0] + b": " + random.choice(values)
     else:
         line = bytearray(lines[at] or b" ")
         line[random.randrange(len(line))] = random.randrange(128)
@@ -138,6 +139,7 @@ for number in range(COUNT):
         break
 
 for line in wrong:
-    print(f"texts.sh: {line}", file=sys.stderr)
-print(f"{tried} cases, {len(tables)} tables and their texts, {COUNT} random tables, {made} of {COUNT} changed texts were made again")
+    print(f"cases.sh: {line}", file=sys.stderr)
+print(f"{tried} cases, {len(tables)} tables and their texts, {COUNT} random tables")
+print(f"{made} of {COUNT} changed texts were made again")
 sys.exit(1 if wrong else 0)

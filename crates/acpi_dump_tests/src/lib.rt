@@ -1,11 +1,6 @@
-//! Tests of dumps as text. The texts are in the form that `acpidump` writes, with bytes chosen by hand.
+//! Tests of what `acpitool` can't show: it reads no text as a dump that doesn't begin with a title. All other texts are in
+//! `cases/dumps.cases`.
 #![tactic(auto)]
 
 #[cfg(test)]
 mod faults;
-#[cfg(test)]
-mod outcome;
-#[cfg(test)]
-mod tables;
-#[cfg(test)]
-mod titles;

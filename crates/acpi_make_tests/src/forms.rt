@@ -1,110 +1,114 @@
-//! The table by which texts are made here: a header, a count, and structures of two kinds.
+//! Texts by forms that no table has.
 
-use acpi_base::header::HEADER;
 use acpi_base::row::{Row, Word};
 use acpi_base::walk::{Place, Sizes, Walk};
-use acpi_make::complete::Shape;
-use acpi_make::fault::MakeError;
-use acpi_make::make::{Made, make_of};
-use acpi_make::read::read_text;
-use acpi_text::form::{Choice, Count, Inner, Part, StructureForm, TableForm};
-use std::alloc::Global;
+use acpi_text::form::{Count, Inner, Part, StructureForm, TableForm};
+use acpi_text::table::show_by;
+use acpi_vectors::agree;
+use std::test::Fail;
 
-const NODE: [Row; 4] = [
-    Row::Number("Type", 1),
-    Row::Number("Length", 1),
-    Row::Flags(
-        "Flags",
-        2,
-        &[
-            Word(1, "Enabled"),
-            Word(2, "Hot Pluggable"),
-            Word(0x8000, "Online"),
-        ],
-    ),
-    Row::OneOf("Kind", 1, &[Word(3, "Processor"), Word(4, "Cache")]),
+const FLAGS: [Word; 3] = [
+    Word(0x01, "a\nb"),
+    Word(0x02, "c:d"),
+    Word(0x8000_0000, "Last"),
 ];
 
-const NODE_END: [Row; 2] = [
-    Row::Number("Parent", 4),
-    Row::Number("Number of Resources", 1),
+const LETTERS: [Row; 3] = [
+    Row::Number("A", 1),
+    Row::Number("B", 1),
+    Row::Number("C", 1),
 ];
 
-const LIST: [Row; 3] = [
-    Row::Number("Type", 1),
-    Row::Number("Length", 1),
-    Row::Number("Offset of Entries", 2),
-];
-
-const ENTRY: [Row; 2] = [Row::Number("Length", 2), Row::Register("Register")];
-
-const HANDLES: [Choice; 2] = [
-    Choice {
-        number: 0,
-        name: "None",
-        rows: &[],
-    },
-    Choice {
-        number: 1,
-        name: "Handle",
-        rows: &[Row::Bytes("Id", 4)],
-    },
-];
-
-const STRUCTURES: [StructureForm; 2] = [
-    StructureForm {
-        number: 7,
-        name: "Node Structure",
-        parts: &[
-            Part::Fields(&NODE),
-            Part::Fields(&NODE_END),
-            Part::Numbers("Resource", 4, Count::Field(Place::Byte(9))),
-        ],
-        inner: &Inner::Nothing,
-    },
-    StructureForm {
-        number: 8,
-        name: "List Structure",
-        parts: &[
-            Part::Fields(&LIST),
-            Part::Until("Name", Place::Word(2)),
-            Part::Entries("Entry", Count::Rest, &ENTRY),
-            Part::Chosen(Place::Byte(0), &HANDLES),
-        ],
-        inner: &Inner::Nothing,
-    },
-];
-
-/// Its form.
-pub const FORM: TableForm = TableForm {
-    name: "Test Table (TEST)",
+const FORM: TableForm = TableForm {
+    name: "a\nb",
     parts: &[
-        Part::Fields(&HEADER),
-        Part::Fields(&[
-            Row::Number("Number of Nodes", 4),
-            Row::Number("Offset of Nodes", 2),
-        ]),
+        Part::Fields(&[Row::Number("a:b", 1), Row::Flags("Flags", 4, &FLAGS)]),
+        Part::Between(&LETTERS, 1, 2),
+        Part::Between(&LETTERS, 2, 2),
+        Part::Between(&LETTERS, 2, 1),
+        Part::Between(&LETTERS, 3, 9),
+        Part::Between(&LETTERS, 1, 9),
+        Part::Until("None", Place::Byte(99)),
+        Part::Entries("None", Count::Field(Place::DWord(99)), &LETTERS),
+        Part::Bytes("Text", Place::Byte(99)),
+        Part::Matrix("Row", 4, Place::Byte(6), Place::Byte(7)),
     ],
-    structures: &STRUCTURES,
+    structures: &[],
 };
 
-/// How its structures are found.
-pub const WALK: Walk = Walk {
-    start: 42,
-    sizes: Sizes::ToldAt(Place::Byte(1)),
-    kind: Place::Byte(0),
-    count: Place::DWord(36),
-    told_start: Place::Word(40),
-};
-
-/// The table of a text by this form.
-pub fn make(alloc: Global, text: &[u8]) -> Result<Made, MakeError> {
-    let items = read_text(alloc, text)?;
-    make_of(alloc, FORM, Some(WALK), Shape::Table, text, &items)
+// Names with the end of a line or a colon are question marks. There are no rows past the last, nor where the first index isn't
+// below the second. The number in a field that the bytes haven't is 0. A matrix has numbers of four bytes.
+#[test]
+fn names_and_places(rt: HostRuntime) -> Result<(), Fail> {
+    let lines = "\
+?
+  0 ?                                   : 0a  // 10
+  1 Flags                               : 80000003  // ? | ? | Last
+  5 B                                   : 01
+  6 B                                   : 02
+  7 C                                   : 02
+  8 Text                                :  // \"\"
+  8 Row                                 : 00000001 00000002
+  16 Row                                : 80000000 0000000a
+";
+    let bytes = b"\x0a\x03\0\0\x80\x01\x02\x02\
+        \x01\0\0\0\x02\0\0\0\
+        \0\0\0\x80\x0a\0\0\0";
+    agree(&show_by(rt.alloc(), &FORM, None, bytes)?, lines)?;
+    agree(&show_by(rt.alloc(), &FORM, None, b"")?, "?\n")
 }
 
-/// The bytes of a text that has no header, without a walk.
-pub fn make_plain(alloc: Global, shape: Shape, text: &[u8]) -> Result<Made, MakeError> {
-    let items = read_text(alloc, text)?;
-    make_of(alloc, FORM, None, shape, text, &items)
+const INNER: TableForm = TableForm {
+    name: "Parts",
+    parts: &[],
+    structures: &[StructureForm {
+        number: 0,
+        name: "Outer",
+        parts: &[],
+        inner: &Inner::Structures(
+            2,
+            "Inner",
+            Sizes::EachOf(9),
+            &[
+                Part::Fields(&[Row::Number("Offset of End", 1), Row::Number("Columns", 1)]),
+                Part::Until("Before", Place::Byte(0)),
+                Part::Matrix("Row", 1, Place::Byte(1), Place::Byte(1)),
+            ],
+        ),
+    }],
+};
+
+const ENTRIES: Walk = Walk {
+    start: 0,
+    sizes: Sizes::EachOf(20),
+    kind: Place::Nowhere,
+    count: Place::Nowhere,
+    told_start: Place::Nowhere,
+};
+
+// Parts of inner structures stand a level below their name, and offsets count from the beginning of the inner structure.
+#[test]
+fn parts_within(rt: HostRuntime) -> Result<(), Fail> {
+    let lines = "\
+Parts
+0 entry size 20 Outer
+  0 Bytes                               : 61 0a
+  2 Inner
+    2 Offset of End                     : 04
+    3 Columns                           : 02
+    4 Before                            : 00 00
+    6 Row                               : 01 02
+    8 Row                               : 03 04
+  10 Bytes                              : 05
+  11 Inner
+    11 Offset of End                    : 02
+    12 Columns                          : 03
+    13 Row                              : 01 02 03
+    16 Row                              : 04 05 06
+  19 Bytes                              : 07
+";
+    let bytes = b"\x61\x0a\
+        \x04\x02\0\0\x01\x02\x03\x04\x05\
+        \x02\x03\x01\x02\x03\x04\x05\x06\x07";
+    agree(&show_by(rt.alloc(), &INNER, Some(ENTRIES), bytes)?, lines)
 }

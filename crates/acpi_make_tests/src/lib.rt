@@ -1,13 +1,8 @@
-//! Tests of what texts are made into: texts and bytes by hand, from docs/FORMATS.md and the layouts of the standard.
+//! Tests of `acpi_text` and `acpi_make` that no table of `acpi_forms` can show: forms made up for the tests, and the parts of a
+//! text. Texts of tables are in `cases/shown.cases`, and tables of texts in `cases/make`.
 #![tactic(auto)]
 
 #[cfg(test)]
-mod faults;
-#[cfg(test)]
 mod forms;
 #[cfg(test)]
-mod made;
-#[cfg(test)]
-mod names;
-#[cfg(test)]
-mod values;
+mod parts;

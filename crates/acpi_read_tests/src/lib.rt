@@ -1,18 +1,12 @@
-//! Tests of terms for what no contract says: bytes worked out by hand, the kinds of errors, printed text, and that each call
-//! succeeds if there is memory.
+//! Tests of terms for what no contract says and no case of `cases/aml.cases` shows: terms that no bytes spell, long names,
+//! lengths, large frames, and bytes that are changed at random.
 #![tactic(auto)]
 
 #[cfg(test)]
-mod faults;
-#[cfg(test)]
-mod limits;
-#[cfg(test)]
-mod lines;
-#[cfg(test)]
-mod report;
+mod names;
 #[cfg(test)]
 mod sizes;
 #[cfg(test)]
-mod spelling;
-#[cfg(test)]
 mod terms;
+#[cfg(test)]
+mod unspelled;

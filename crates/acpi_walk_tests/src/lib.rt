@@ -1,20 +1,10 @@
-//! Tests of checked tables, their structures and their reports: bytes worked out by hand, cut, replaced or changed at random, and
-//! the kinds of errors.
+//! Tests of checked tables and their structures: tables of each signature that are cut, repeated, or changed in one byte or at
+//! random. Tables of given bytes, with their reports and faults, are in `cases/tables.cases`.
 #![tactic(auto)]
 
 #[cfg(test)]
 mod changed;
 #[cfg(test)]
-mod faults;
-#[cfg(test)]
-mod large;
-#[cfg(test)]
-mod mutated;
-#[cfg(test)]
-mod pieces;
+mod joined;
 #[cfg(test)]
 mod samples;
-#[cfg(test)]
-mod table;
-#[cfg(test)]
-mod walked;

@@ -1,21 +1,13 @@
-//! Tests of the program: runs on files with every status and text, input in parts or with errors, and writers that fail.
+//! Tests of what runs of `acpiread` on files can't show: input in parts, without an end or with errors, writers that fail, and words
+//! without a file. All other runs are in `cases/acpiread.cases`.
 #![tactic(auto)]
 
 #[cfg(test)]
-mod aml;
-#[cfg(test)]
-mod dsdt;
-#[cfg(test)]
-mod faults;
-#[cfg(test)]
-mod files;
-#[cfg(test)]
-mod program;
-#[cfg(test)]
 mod reads;
 #[cfg(test)]
-mod structures;
-#[cfg(test)]
-mod words;
-#[cfg(test)]
 mod writes;
+
+/// A definition block with a package of 0 and 1.
+#[cfg(test)]
+const DSDT: [u8; 41] =
+    *b"DSDT\x29\x00\x00\x00\x02\x41FOOBARCAFEDEAD\xef\xbe\xad\xdeRVAT\x00\x00\x00\x01\x12\x04\x02\x00\x01";

@@ -1,6 +1,6 @@
-//! Input that comes in parts, and input that fails.
+//! Input that comes in parts, input that fails, and input without an end.
 
-use crate::program::DSDT;
+use crate::DSDT;
 use acpi_vectors::{equal, same};
 use acpiread_run::input::{read_table, read_terms};
 use std::alloc::Global;
@@ -8,20 +8,32 @@ use std::io;
 use std::io::{Error, ErrorKind, Read};
 use std::test::Fail;
 
-// Bytes that come in parts of this size at most, and after them the end or a failure.
+// What comes after the bytes of an input.
+#[derive(Clone, Copy)]
+enum After {
+    End,
+    Failure,
+    Zeros,
+}
+
+// Bytes that come in parts of this size at most, and what comes after them.
 #[derive(Drop)]
 struct Parts<'a> {
     bytes: &'a [u8],
     most: usize,
-    failure: Option<ErrorKind>,
+    after: After,
 }
 
 impl Read for Parts<'_> {
     fn read(&mut self, buf: &mut [u8]) -> io::Result<usize> {
         if self.bytes.is_empty() {
-            return match self.failure {
-                Some(kind) => Err(Error::from(kind)),
-                None => Ok(0),
+            return match self.after {
+                After::End => Ok(0),
+                After::Failure => Err(Error::from(ErrorKind::BrokenPipe)),
+                After::Zeros => {
+                    buf.fill(0);
+                    Ok(buf.len())
+                }
             };
         }
         let count = self.bytes.len().min(buf.len()).min(self.most);
@@ -32,32 +44,24 @@ impl Read for Parts<'_> {
     }
 }
 
-// Reads as a table, or as terms.
-fn read(alloc: Global, is_table: bool, parts: Parts<'_>) -> io::Result<Vec<u8>> {
-    if is_table {
-        read_table(alloc, parts)
-    } else {
-        read_terms(alloc, parts)
-    }
-}
-
-// For each size of parts, all bytes that are needed are read, or the failure before the last of them is returned.
+// Fails unless a table, or terms, are read as these bytes for each size of parts. Without them the failure is returned.
 fn comes(
     alloc: Global,
     is_table: bool,
     bytes: &[u8],
+    after: After,
     wanted: Option<&[u8]>,
-    failure: Option<ErrorKind>,
 ) -> Result<(), Fail> {
     for most in [1, 7, 100] {
-        let parts = Parts {
-            bytes,
-            most,
-            failure,
+        let parts = Parts { bytes, most, after };
+        let read = if is_table {
+            read_table(alloc, parts)
+        } else {
+            read_terms(alloc, parts)
         };
-        match (read(alloc, is_table, parts), wanted) {
+        match (read, wanted) {
             (Ok(read), Some(wanted)) => same(&read, wanted)?,
-            (Err(error), None) => equal(&Some(error.kind()), &failure)?,
+            (Err(error), None) => equal(&error.kind(), &ErrorKind::BrokenPipe)?,
             _ => return Err(Fail::new(format_args!("{bytes:?} by {most}"))),
         }
     }
@@ -70,17 +74,41 @@ fn beginnings(rt: HostRuntime) -> Result<(), Fail> {
     let alloc = rt.alloc();
     let mut more = Vec::from_slice(alloc, DSDT.as_slice())?;
     more.extend_from_slice(&[0x60, 0x61])?;
-    let failure = Some(ErrorKind::BrokenPipe);
     for size in 0..=more.len() {
         let bytes = &more[..size];
-        for (is_table, wanted, failure) in [
-            (true, Some(&bytes[..size.min(42)]), None),
-            (false, Some(bytes), None),
-            (false, None, failure),
-            (true, bytes.get(..42), failure),
-        ] {
-            comes(alloc, is_table, bytes, wanted, failure)?;
-        }
+        let first = &bytes[..size.min(42)];
+        comes(alloc, true, bytes, After::End, Some(first))?;
+        comes(alloc, false, bytes, After::End, Some(bytes))?;
+        comes(alloc, false, bytes, After::Failure, None)?;
+        comes(alloc, true, bytes, After::Failure, bytes.get(..42))?;
+    }
+    Ok(())
+}
+
+// Of a file without an end, the table and one byte more are read: with a length of 41, with lengths below that of the header, with
+// others in each of the higher bytes, and without a byte but zeros.
+#[test]
+fn endless(rt: HostRuntime) -> Result<(), Fail> {
+    for (at, byte, known, count) in [
+        (4, 41, 41, 42),
+        (4, 36, 37, 37),
+        (4, 35, 37, 37),
+        (4, 0, 37, 37),
+        (5, 1, 41, 298),
+        (6, 1, 41, 65_578),
+        (7, 1, 41, 16_777_258),
+        (0, 0, 0, 37),
+    ] {
+        let mut table = DSDT;
+        table[at] = byte;
+        let parts = Parts {
+            bytes: &table[..known],
+            most: 100,
+            after: After::Zeros,
+        };
+        let read = read_table(rt.alloc(), parts)?;
+        equal(&read.len(), &count)?;
+        assert!(rt; read.starts_with(&table[..known]));
     }
     Ok(())
 }

@@ -1,16 +1,20 @@
-//! Output that can't be written.
+//! Output that can't be written, words without a file that can be read, and the deepest terms.
 
-use crate::program::{DSDT, USAGE, owned, path};
+use crate::DSDT;
+use acpi_read::report::push_number;
 use acpi_vectors::{equal, same};
 use acpiread_run::program::{run, start};
 use std::alloc::Global;
 use std::io::{Error, ErrorKind, Write};
-use std::rt::Files;
+use std::rt::{Env, Files};
 use std::test::Fail;
-use std::{fs, io};
+use std::{env, fs, io, process};
+
+// The line of a run on wrong words.
+const USAGE: &str = "usage: acpiread table FILE | aml FILE [NAME=N ..] | dsdt FILE [NAME=N ..]\n";
 
 // Room for more than any line.
-const AMPLE: usize = 1_000;
+const AMPLE: usize = 1_000_000;
 
 // A writer with room for this many bytes, which fails after these.
 #[derive(Drop)]
@@ -47,65 +51,99 @@ impl Write for Full {
     }
 }
 
-// A run whose writers have this much room: its status, and what each has taken.
-fn run_full(
+// Fails unless a run whose writers have this much room has this status, and each has taken these bytes.
+fn ends(
     rt: &(impl Files + AllocGlobal),
     words: &[String],
-    rooms: [usize; 2],
-) -> io::Result<(Option<u8>, [Vec<u8>; 2])> {
-    let mut out = Full::new(rt.alloc(), rooms[0]);
-    let mut err = Full::new(rt.alloc(), rooms[1]);
-    let status = run(rt, rt.alloc(), words, &mut out, &mut err).ok();
-    Ok((status, [out.taken, err.taken]))
+    rooms: (usize, usize),
+    status: Option<u8>,
+    out: &str,
+    err: &str,
+) -> Result<(), Fail> {
+    let mut to_out = Full::new(rt.alloc(), rooms.0);
+    let mut to_err = Full::new(rt.alloc(), rooms.1);
+    equal(
+        &run(rt, rt.alloc(), words, &mut to_out, &mut to_err).ok(),
+        &status,
+    )?;
+    same(&to_out.taken, out.as_bytes())?;
+    same(&to_err.taken, err.as_bytes())
 }
 
-// For each byte of the lines that fails, and for the flush after them, a run has no status, the bytes before are written, and the
-// other writer gets nothing.
-fn fails(
+fn owned(rt: &impl AllocGlobal, words: &[&str]) -> io::Result<Vec<String>> {
+    let mut owned = Vec::new(rt.alloc());
+    for word in words {
+        owned.push(String::from_str(rt.alloc(), word)?)?;
+    }
+    Ok(owned)
+}
+
+// Fails unless a run prints these lines: a report for status 0, or else a fault. For each byte of the lines that fails, and for the
+// flush after them, it has no status, the bytes before are written, and the other writer gets nothing.
+fn prints(
     rt: &(impl Files + AllocGlobal),
     words: &[&str],
     status: u8,
     lines: &str,
 ) -> Result<(), Fail> {
     let words = owned(rt, words)?;
-    let size = lines.len();
-    for room in 0..=size + 1 {
-        let rooms = if status == 0 {
-            [room, AMPLE]
-        } else {
-            [AMPLE, room]
+    for room in 0..=lines.len() + 1 {
+        let (written, told) = match lines.get(..room) {
+            Some(written) => (written, None),
+            None => (lines, Some(status)),
         };
-        let (told, [out, err]) = run_full(rt, &words, rooms)?;
-        let (written, other) = if status == 0 { (out, err) } else { (err, out) };
-        let wanted = if room > size { Some(status) } else { None };
-        equal(&told, &wanted)?;
-        same(&written, &lines.as_bytes()[..room.min(size)])?;
-        same(&other, b"")?;
+        if status == 0 {
+            ends(rt, &words, (room, AMPLE), told, written, "")?;
+        } else {
+            ends(rt, &words, (AMPLE, room), told, "", written)?;
+        }
     }
+    Ok(())
+}
+
+// A path that no other process uses.
+fn path(rt: &(impl Env + AllocGlobal), id: u32) -> io::Result<String> {
+    let folder = env::temp_dir(rt)?;
+    let mut path = String::from_str(rt.alloc(), folder.as_str())?;
+    push_number("/acpiread-", u64::from(id), &mut path)?;
+    Ok(path)
+}
+
+// A file with a table, and other words than the commands.
+fn prints_tables(rt: &(impl Files + AllocGlobal), file: &str) -> Result<(), Fail> {
+    fs::write(rt, file, DSDT.as_slice())?;
+    prints(rt, &["table", file], 0, "DSDT length 41 revision 2 sum 0\n")?;
+    let report = "DSDT length 41 revision 2 sum 0\npackage 2\n  number 0\n  number 1\n";
+    prints(rt, &["dsdt", file], 0, report)?;
+    for word in ["tables", "Table", "am", "AML", "ssdt", ""] {
+        prints(rt, &[word, file], 2, USAGE)?;
+    }
+    fs::write(rt, file, &DSDT[..40])?;
+    prints(rt, &["table", file], 1, "refused at 4: TableLength\n")?;
+    fs::remove_file(rt, file)?;
     Ok(())
 }
 
 #[test]
 fn full_writers(rt: HostRuntime) -> Result<(), Fail> {
-    let path = path(&rt, rt.process(), "full")?;
-    let file = path.as_str();
-    fs::write(&rt, file, DSDT.as_slice())?;
-    fails(
-        &rt,
-        &["table", file],
-        0,
-        "DSDT length 41 revision 2 sum 0\n",
-    )?;
-    fails(
-        &rt,
-        &["dsdt", file],
-        0,
-        "DSDT length 41 revision 2 sum 0\npackage 2\n  number 0\n  number 1\n",
-    )?;
-    fs::write(&rt, file, &DSDT[..40])?;
-    fails(&rt, &["table", file], 1, "refused at 4: TableLength\n")?;
-    fs::remove_file(&rt, file)?;
-    fails(&rt, &["table", file], 2, USAGE)
+    let path = path(&rt, process::id(rt.process()))?;
+    prints_tables(&rt, path.as_str())?;
+    // A file that isn't there, and a folder.
+    let folder = env::temp_dir(&rt)?;
+    for file in [path.as_str(), folder.as_str()] {
+        prints(&rt, &["table", file], 2, USAGE)?;
+        prints(&rt, &["aml", file], 2, USAGE)?;
+        prints(&rt, &["dsdt", file], 2, USAGE)?;
+    }
+    Ok(())
+}
+
+#[test]
+fn no_file(rt: HostRuntime) -> Result<(), Fail> {
+    prints(&rt, &[], 2, USAGE)?;
+    prints(&rt, &["table"], 2, USAGE)?;
+    prints(&rt, &["aml"], 2, USAGE)?;
+    prints(&rt, &["dsdt"], 2, USAGE)
 }
 
 // For all words, neither a report nor a fault can be written.

@@ -1,99 +1,69 @@
-//! Files and folders that are shown, and files that can't be.
+//! Files and folders that are shown, files that can't be read, and files that aren't written.
 
-use crate::program::{TABLE, TEXT, ends, path};
+use crate::program::{TABLE, TEXT, ends, have_lines, write};
+use acpi_vectors::same;
 use std::fs;
-use std::io::Input;
-use std::rt::Files;
 use std::test::Fail;
 
+const MISSING: &str = "/=1: No such file or directory (os error 2)\n";
+
+// A file that is missing, for each command. A word with `=` and a slash is a file.
 #[test]
-fn files(rt: HostRuntime) -> Result<(), Fail> {
-    let path = path(&rt, rt.process(), "file")?;
-    let file = path.as_str();
-    let missing = format!(in rt.alloc(); "{file}: No such file or directory (os error 2)\n")?;
-    ends(&rt, &["show", file], 2, "", missing.as_str())?;
-    fs::write(&rt, file, TABLE.as_slice())?;
-    ends(&rt, &["show", file], 0, TEXT, "")?;
-    let twice = format!(in rt.alloc(); "// {file}\n{TEXT}// {file}\n{TEXT}")?;
-    ends(&rt, &["show", file, file], 0, twice.as_str(), "")?;
-    fs::remove_file(&rt, file)?;
-    Ok(())
+fn missing(rt: HostRuntime) -> Result<(), Fail> {
+    have_lines(
+        &rt,
+        "",
+        "",
+        &[
+            (&["show", "/=1"], MISSING),
+            (&["image", "/=1"], MISSING),
+            (&["make", "/=1", "/=2"], MISSING),
+        ],
+    )
 }
 
-// What isn't a table has a line, and the others are shown.
+// A file of a folder that isn't a table has a line, and an empty folder has none. In which order files are shown is compared for
+// the folder `data` of `acpitool`.
 #[test]
-fn wrong_files(rt: HostRuntime) -> Result<(), Fail> {
-    let path = path(&rt, rt.process(), "wrong")?;
-    let file = path.as_str();
-    let mut sum = TABLE;
-    sum[35] = 2;
-    let mut pointer = *b"RSD PTR \x00FOOBAR\x00\x00\x00\x00\x00";
-    let mut control = [0; 64];
-    control[..4].copy_from_slice(b"FACS");
-    control[4] = 63;
-    for (bytes, why) in [
-        (&[] as &[u8], "refused at 0: ShortHeader"),
-        (&TABLE[..35], "refused at 35: ShortHeader"),
-        (&sum, "refused at 9: Sum"),
-        (&pointer, "refused at 8: Sum"),
-        (&pointer[..19], "refused at 19: ShortHeader"),
-        (&control, "refused at 4: TableLength"),
-        (&control[..63], "refused at 63: ShortHeader"),
-    ] {
-        fs::write(&rt, file, bytes)?;
-        let line = format!(in rt.alloc(); "{file}: {why}\n")?;
-        ends(&rt, &["show", file], 1, "", line.as_str())?;
-    }
-    // The sum of the first 20 bytes of a pointer of revision 2 is right, and its length and its second sum aren't.
-    pointer[15] = 2;
-    pointer[8] = 0x26;
-    fs::write(&rt, file, pointer.as_slice())?;
-    let line = format!(in rt.alloc(); "{file}: refused at 20: ShortHeader\n")?;
-    ends(&rt, &["show", file], 1, "", line.as_str())?;
-    fs::remove_file(&rt, file)?;
-    Ok(())
+fn folder(rt: HostRuntime) -> Result<(), Fail> {
+    fs::create_dir(&rt, "folder")?;
+    ends(&rt, &["show", "folder"], 0, &[], &[])?;
+    write(&rt, "folder/c", &TABLE[..9])?;
+    let line = "folder/c: refused at 9: ShortHeader\n";
+    ends(&rt, &["show", "folder"], 1, &[], &[line])
 }
 
-// Writes a file of a folder.
-fn write_in(
-    rt: &(impl Files + AllocGlobal),
-    folder: &str,
-    name: &str,
-    bytes: &[u8],
-) -> Result<(), Fail> {
-    let file = format!(in rt.alloc(); "{folder}/{name}")?;
-    fs::write(rt, file.as_str(), bytes)?;
-    Ok(())
-}
-
-// Fails unless a run that shows two files has status 2 and prints these texts. The words have one lifetime here, which the borrow
-// checker wants of an array.
-fn ends_for_two<'a, R: Files + Input + AllocGlobal + Clone + Drop>(
-    rt: &R,
-    first: &'a str,
-    second: &'a str,
-    out: &str,
-    err: &str,
-) -> Result<(), Fail> {
-    ends(rt, &["show", first, second], 2, out, err)
-}
-
-// A folder's files are shown in the order of their names. The greatest status counts.
+// Several files are shown one after another, each with its name, also if it is named twice. The greatest status counts: that of a
+// missing file is 2, and that of a file which isn't a table is 1.
 #[test]
-fn folders(rt: HostRuntime) -> Result<(), Fail> {
-    let path = path(&rt, rt.process(), "folder")?;
-    let folder = path.as_str();
-    fs::create_dir(&rt, folder)?;
-    ends(&rt, &["show", folder], 0, "", "")?;
-    write_in(&rt, folder, "b", &TABLE)?;
-    write_in(&rt, folder, "c", &TABLE[..9])?;
-    write_in(&rt, folder, "a", &TABLE)?;
-    let out = format!(in rt.alloc(); "// {folder}/a\n{TEXT}// {folder}/b\n{TEXT}")?;
-    let err = format!(in rt.alloc(); "{folder}/c: refused at 9: ShortHeader\n")?;
-    ends(&rt, &["show", folder], 1, out.as_str(), err.as_str())?;
-    let missing = format!(in rt.alloc(); "{folder}/d")?;
-    let both = format!(in rt.alloc(); "{missing}: No such file or directory (os error 2)\n{err}")?;
-    ends_for_two(&rt, missing.as_str(), folder, out.as_str(), both.as_str())?;
-    fs::remove_dir_all(&rt, folder)?;
-    Ok(())
+fn several(rt: HostRuntime) -> Result<(), Fail> {
+    write(&rt, "short", &TABLE[..9])?;
+    write(&rt, "shown", &TABLE)?;
+    let words = ["show", "/=1", "shown", "short", "shown"];
+    let out = ["// shown\n", TEXT, "// shown\n", TEXT];
+    let err = [MISSING, "short: refused at 9: ShortHeader\n"];
+    ends(&rt, &words, 2, &out, &err)
+}
+
+fn has(rt: &HostRuntime, name: &str, wanted: &[u8]) -> Result<(), Fail> {
+    same(&fs::read(rt, name)?, wanted)
+}
+
+// A text that isn't one of a table leaves the file as it is.
+#[test]
+fn not_made(rt: HostRuntime) -> Result<(), Fail> {
+    let text = "  Signature: \"OEMX\"\n\n  Length: 0\n";
+    write(&rt, "text", text.as_bytes())?;
+    write(&rt, "kept", &TABLE)?;
+    let line = "text: line 3: the second digit of a byte expected\n";
+    ends(&rt, &["make", "text", "kept"], 1, &[], &[line])?;
+    has(&rt, "kept", &TABLE)
+}
+
+// A table that can't be written has a line.
+#[test]
+fn not_written(rt: HostRuntime) -> Result<(), Fail> {
+    write(&rt, "whole", TEXT.as_bytes())?;
+    let line = "whole/table: Not a directory (os error 20)\n";
+    ends(&rt, &["make", "whole", "whole/table"], 1, &[], &[line])
 }

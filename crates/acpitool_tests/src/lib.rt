@@ -1,16 +1,9 @@
-//! Tests of the program `acpitool`: its words, statuses, files, texts that are made into tables, and writers that fail.
+//! Tests of the program `acpitool` that take more than a run on one file: several files and folders, files that are missing or
+//! can't be written, words without a file, and writers that fail. Runs on one file are in `cases/acpitool.cases`.
 #![tactic(auto)]
 
 #[cfg(test)]
-mod blocks;
-#[cfg(test)]
-mod dumps;
-#[cfg(test)]
 mod files;
-#[cfg(test)]
-mod image;
-#[cfg(test)]
-mod make;
 #[cfg(test)]
 mod program;
 #[cfg(test)]

@@ -1,12 +1,9 @@
-//! Runs of the program: every status and text.
+//! Runs of the program: the status and the printed texts. Tests run in a new folder, so their files have short names.
 
 use acpi_vectors::{equal, same};
 use acpitool_run::program::run;
-use std::io::Input;
-use std::process::Process;
-use std::rt::{Env, Files};
 use std::test::Fail;
-use std::{env, io, process};
+use std::{fs, io};
 
 /// A header without structures, of a signature that isn't known.
 pub const TABLE: [u8; 36] =
@@ -26,20 +23,14 @@ Unknown table
   32 Creator Revision                   : 00 00 00 01
 ";
 
-/// What is printed after the line of a wrong word.
-pub const USAGE: &str = "\
-usage: acpitool show FILE .. [NAME=N ..] | image FILE [BASE] | make TEXT FILE | template SIGNATURE | --help | --version\n";
-
-/// A path that no other test uses.
-pub fn path(rt: &(impl Env + AllocGlobal), process: Process, name: &str) -> io::Result<String> {
-    let folder = env::temp_dir(rt)?;
-    let id = process::id(process);
-    let folder = folder.as_str();
-    Ok(format!(in rt.alloc(); "{folder}/acpitool-{id}-{name}")?)
+/// Writes a file.
+pub fn write(rt: &HostRuntime, name: &str, bytes: &[u8]) -> Result<(), Fail> {
+    fs::write(rt, name, bytes)?;
+    Ok(())
 }
 
 /// The words in the type that a run takes.
-pub fn owned(rt: &impl AllocGlobal, words: &[&str]) -> io::Result<Vec<String>> {
+pub fn owned(rt: &HostRuntime, words: &[&str]) -> io::Result<Vec<String>> {
     let mut owned = Vec::new(rt.alloc());
     for word in words {
         owned.push(String::from_str(rt.alloc(), word)?)?;
@@ -47,19 +38,32 @@ pub fn owned(rt: &impl AllocGlobal, words: &[&str]) -> io::Result<Vec<String>> {
     Ok(owned)
 }
 
-/// Fails unless a run on the words has this status and prints these texts.
-pub fn ends<R: Files + Input + AllocGlobal + Clone + Drop>(
-    rt: &R,
+/// Fails unless a run on the words has this status and prints these texts, each in pieces.
+pub fn ends(
+    rt: &HostRuntime,
     words: &[&str],
     status: u8,
-    out: &str,
-    err: &str,
+    out: &[&str],
+    err: &[&str],
 ) -> Result<(), Fail> {
     let mut printed = Vec::new(rt.alloc());
     let mut told = Vec::new(rt.alloc());
     let words = owned(rt, words)?;
     let result = run(rt, rt.alloc(), &words, &mut printed, &mut told)?;
-    same(&printed, out.as_bytes())?;
-    same(&told, err.as_bytes())?;
+    same(&printed, out.concat(rt.alloc())?.as_bytes())?;
+    same(&told, err.concat(rt.alloc())?.as_bytes())?;
     equal(&result, &status)
+}
+
+/// Fails unless a run on each of these words has status 2, and prints its line between two texts.
+pub fn have_lines(
+    rt: &HostRuntime,
+    before: &str,
+    after: &str,
+    all: &[(&[&str], &str)],
+) -> Result<(), Fail> {
+    for (words, line) in all {
+        ends(rt, *words, 2, &[], &[before, *line, after])?;
+    }
+    Ok(())
 }

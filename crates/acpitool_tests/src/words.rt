@@ -1,44 +1,83 @@
-//! Words that ask for something, and words that are wrong.
+//! Words without a file: those that ask for something, and those that are wrong.
 
-use crate::program::{USAGE, ends};
+use crate::program::{ends, have_lines};
 use std::test::Fail;
 
+// What is printed after the line of a wrong word.
+const USAGE: &str = "\
+usage: acpitool show FILE .. [NAME=N ..] | image FILE [BASE] | make TEXT FILE | template SIGNATURE | --help | --version\n";
+
+// The template of a signature that isn't known.
+const TEMPLATE: &str = "\
+Unknown table
+  Signature: \"OEMX\"
+  Length: ????????
+  Revision: 00
+  Checksum: ??
+  OEM ID: 00 00 00 00 00 00
+  OEM Table ID: 00 00 00 00 00 00 00 00
+  OEM Revision: 00000000
+  Creator ID: 00 00 00 00
+  Creator Revision: 00 00 00 00
+";
+
 #[test]
-fn words(rt: HostRuntime) -> Result<(), Fail> {
-    ends(&rt, &["--version"], 0, "acpitool 0.1.0\n", "")?;
-    ends(&rt, &["--version", "show"], 0, "acpitool 0.1.0\n", "")?;
-    for (words, line) in [
-        (&[] as &[&str], "acpitool: no command\n"),
-        (&["show"], "acpitool: no file to show\n"),
-        (&["shows", "x"], "acpitool: unknown word shows\n"),
-        (&["", "x"], "acpitool: unknown word \n"),
-        (&["-h"], "acpitool: unknown word -h\n"),
-        (&["show", "x", "--all"], "acpitool: unknown word --all\n"),
-        (&["show", "-x", "--help"], "acpitool: unknown word -x\n"),
-        (&["image"], "acpitool: no file with an image\n"),
-        (
-            &["image", "x", "1g"],
-            "acpitool: not an address in hexadecimal: 1g\n",
-        ),
-        (
-            &["image", "x", "0x"],
-            "acpitool: not an address in hexadecimal: 0x\n",
-        ),
-        (&["image", "x", "0", "y"], "acpitool: unknown word y\n"),
-        (&["image", "--all"], "acpitool: unknown word --all\n"),
-        (&["make"], "acpitool: no text to make\n"),
-        (&["make", "x"], "acpitool: no file for the table\n"),
-        (&["make", "x", "y", "z"], "acpitool: unknown word z\n"),
-        (&["make", "x", "--all"], "acpitool: unknown word --all\n"),
-        (&["template"], "acpitool: no signature\n"),
-        (&["template", "APIC", "x"], "acpitool: unknown word x\n"),
-        (
-            &["template", "MADT1"],
-            "acpitool: not a signature of four characters: MADT1\n",
-        ),
-    ] {
-        let err = format!(in rt.alloc(); "{line}{USAGE}")?;
-        ends(&rt, words, 2, "", err.as_str())?;
-    }
-    Ok(())
+fn version(rt: HostRuntime) -> Result<(), Fail> {
+    ends(&rt, &["--version"], 0, &["acpitool 0.1.0\n"], &[])?;
+    ends(&rt, &["--version", "show"], 0, &["acpitool 0.1.0\n"], &[])
+}
+
+#[test]
+fn template(rt: HostRuntime) -> Result<(), Fail> {
+    ends(&rt, &["template", "OEMX"], 0, &[TEMPLATE], &[])
+}
+
+#[test]
+fn wrong_commands(rt: HostRuntime) -> Result<(), Fail> {
+    have_lines(
+        &rt,
+        "acpitool: ",
+        USAGE,
+        &[
+            (&[], "no command\n"),
+            (&["shows", "x"], "unknown word shows\n"),
+            (&["", "x"], "unknown word \n"),
+            (&["-h"], "unknown word -h\n"),
+            (&["show"], "no file to show\n"),
+            (&["show", "MTHD=2"], "no file to show\n"),
+            (&["image"], "no file with an image\n"),
+        ],
+    )
+}
+
+#[test]
+fn wrong_makes(rt: HostRuntime) -> Result<(), Fail> {
+    have_lines(
+        &rt,
+        "acpitool: ",
+        USAGE,
+        &[
+            (&["make"], "no text to make\n"),
+            (&["make", "x"], "no file for the table\n"),
+            (&["make", "x", "y", "z"], "unknown word z\n"),
+            (&["make", "x", "--all"], "unknown word --all\n"),
+        ],
+    )
+}
+
+#[test]
+fn wrong_templates(rt: HostRuntime) -> Result<(), Fail> {
+    have_lines(
+        &rt,
+        "acpitool: ",
+        USAGE,
+        &[
+            (&["template"], "no signature\n"),
+            (&["template", "APIC", "x"], "unknown word x\n"),
+            (
+                &["template", "MADT1"],
+                "not a signature of four characters: MADT1\n",
+            ),
+        ],
+    )
 }

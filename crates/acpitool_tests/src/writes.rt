@@ -1,11 +1,11 @@
 //! Output that can't be written.
 
-use crate::program::{TABLE, TEXT, owned, path};
+use crate::program::{TABLE, TEXT, owned, write};
 use acpi_vectors::equal;
 use acpitool_run::program::run;
+use std::io;
 use std::io::{Error, ErrorKind, Write};
 use std::test::Fail;
-use std::{fs, io};
 
 // A writer with room for this many bytes, which then fails.
 #[derive(Drop)]
@@ -26,21 +26,19 @@ impl Write for Full {
     }
 }
 
+// Fails unless a run that prints to a writer with this room has this status. 9 stands for none.
+fn ends_with(rt: &HostRuntime, words: &[String], room: usize, status: u8) -> Result<(), Fail> {
+    let result = run(rt, rt.alloc(), words, &mut Full(room), &mut Full(0));
+    equal(&result.unwrap_or(9), &status)
+}
+
 // A text is written whole, or a run has no status.
 #[test]
 fn texts_are_whole(rt: HostRuntime) -> Result<(), Fail> {
-    let path = path(&rt, rt.process(), "whole")?;
-    let file = path.as_str();
-    fs::write(&rt, file, TABLE.as_slice())?;
-    let words = owned(&rt, &["show", file])?;
+    write(&rt, "table", &TABLE)?;
+    let words = owned(&rt, &["show", "table"])?;
     for room in 0..TEXT.len() {
-        let mut out = Full(room);
-        let status = run(&rt, rt.alloc(), &words, &mut out, &mut Full(0)).ok();
-        equal(&status, &None)?;
+        ends_with(&rt, &words, room, 9)?;
     }
-    let mut out = Full(TEXT.len());
-    let status = run(&rt, rt.alloc(), &words, &mut out, &mut Full(0)).ok();
-    equal(&status, &Some(0))?;
-    fs::remove_file(&rt, file)?;
-    Ok(())
+    ends_with(&rt, &words, TEXT.len(), 0)
 }

@@ -1,0 +1,26 @@
+#!/bin/sh
+# Compares what acpiread and acpitool print with what they have to print:
+# - the runs in cases/*.cases, whose bytes and lines were worked out by hand from the standard (cases.py has their form);
+# - each text of cases/make and its bytes in hexadecimal, its notes, or its fault;
+# - each text of crates/acpitool/stdout and its table in crates/acpitool/data, both worked out from the standard;
+# - a template of each signature, which has no notes;
+# - 10,000 tables of random bytes, each shown and made again, and 10,000 such texts with a random change. A text is made into a
+#   table, which is shown and made again as the same table, or it has a fault.
+# With `built`, the programs are those that `rt ci` left. Otherwise they are proved first. The first word that is a number is how
+# many random tables and texts there are.
+set -eu
+cd "$(dirname "$0")"
+
+. ./crates.sh
+
+count=10000
+for word in "$@"; do
+    case $word in
+    built) built=1 ;;
+    *[!0-9]* | '') echo "usage: cases.sh [built] [COUNT]" >&2 && exit 2 ;;
+    *) count=$word ;;
+    esac
+done
+[ -n "${built-}" ] || prove acpiread acpitool
+python3 -B cases.py crates "$work"
+python3 -B texts.py crates/acpitool/out/acpitool "$work" "$count"
