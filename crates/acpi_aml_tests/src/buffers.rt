@@ -1,14 +1,15 @@
 //! Buffers, ids and resource descriptors, byte for byte.
 
+use super::make::{device, named, template};
 use super::tables::dsdt;
 use acpi_tables::aml::{
-    BufferData, BufferTerm, Device, EISAName, IO, Interrupt, Memory32Fixed, Name, Path, Register,
+    BufferData, BufferTerm, Device, EISAName, IO, Interrupt, Memory32Fixed, Register,
     ResourceTemplate, Uuid,
 };
 use acpi_tables::gas::{self, AccessSize, GAS};
 use acpi_tables::sdt::append_object;
-use acpi_tables::{Aml, Error, R};
-use acpi_vectors::{all, equal, makes, refuses, writes, written};
+use acpi_tables::{Error, R};
+use acpi_vectors::{all, equal, makes, refuses, writes};
 use std::alloc::Global;
 use std::test::Fail;
 
@@ -16,9 +17,10 @@ use std::test::Fail;
 fn buffers(rt: HostRuntime) -> Result<(), Fail> {
     let alloc = rt.alloc();
     makes(alloc, BufferData::new(Vec::new(alloc)), &[0x11, 0x02, 0x00])?;
+    let two = vec![in alloc; 1u8, 2]?;
     makes(
         alloc,
-        BufferData::new(vec![in alloc; 1u8, 2]?),
+        BufferData::new(two),
         &[0x11, 0x05, 0x0a, 0x02, 0x01, 0x02],
     )?;
     makes(
@@ -33,10 +35,17 @@ fn buffers(rt: HostRuntime) -> Result<(), Fail> {
     )
 }
 
+// Fails unless a buffer of so many bytes 0xab is these bytes, and then its own.
+fn begins(alloc: Global, size: usize, start: &[u8]) -> Result<(), Fail> {
+    let content = vec![in alloc; 0xabu8; size]?;
+    let mut wanted = Vec::from_slice(alloc, start)?;
+    wanted.extend_from_slice(&content)?;
+    makes(alloc, BufferData::new(content), &wanted)
+}
+
 // The size is written in the least width. The length before it counts the size and the bytes.
 #[test]
 fn sizes_of_buffers(rt: HostRuntime) -> Result<(), Fail> {
-    let alloc = rt.alloc();
     let starts: [(usize, &[u8]); 5] = [
         (0xff, &[0x11, 0x43, 0x10, 0x0a, 0xff]),
         (0x100, &[0x11, 0x45, 0x10, 0x0b, 0x00, 0x01]),
@@ -51,11 +60,7 @@ fn sizes_of_buffers(rt: HostRuntime) -> Result<(), Fail> {
         ),
     ];
     for (size, start) in starts {
-        let data = BufferData::new(vec![in alloc; 0xabu8; size]?)?;
-        let bytes = written(alloc, &data)?;
-        assert!(rt; bytes.starts_with(start));
-        equal(&bytes.len(), &start.len().saturating_add(size))?;
-        assert!(rt; bytes.ends_with(&[0xab]));
+        begins(rt.alloc(), size, start)?;
     }
     Ok(())
 }
@@ -140,12 +145,11 @@ fn registers(rt: HostRuntime) -> Result<(), Fail> {
         AccessSize::DwordAccess,
         0x1000,
     ));
-    let inside: Vec<&dyn Aml> = vec![in alloc; &register as &dyn Aml]?;
     let wanted = [
         0x11, 0x14, 0x0a, 0x11, 0x82, 0x0c, 0x00, 0x00, 0x20, 0x00, 0x03, 0x00, 0x10, 0x00, 0x00,
         0x00, 0x00, 0x00, 0x00, 0x79, 0x00,
     ];
-    makes(alloc, ResourceTemplate::new(inside), &wanted)?;
+    makes(alloc, template(alloc, &[&register]), &wanted)?;
     let config = GAS::new_pci_config(16, AccessSize::WordAccess, 31, 7, 0x40);
     writes(
         alloc,
@@ -213,17 +217,11 @@ const COM1: [u8; 50] = [
 ];
 
 fn com1(alloc: Global) -> R<Device> {
-    let id = Name::new(Path::new(alloc, "_HID")?, &EISAName::new("PNP0501")?)?;
-    let (interrupt, ports) = (
-        Interrupt::new(true, true, false, false, 4),
-        IO::new(0x3f8, 0x3f8, 0, 8),
-    );
-    let resources = ResourceTemplate::new(vec![in alloc; &interrupt as &dyn Aml, &ports]?)?;
-    let current = Name::new(Path::new(alloc, "_CRS")?, &resources)?;
-    Device::new(
-        Path::new(alloc, "_SB_.COM1")?,
-        vec![in alloc; &id as &dyn Aml, &current]?,
-    )
+    let id = named(alloc, "_HID", &EISAName::new("PNP0501")?)?;
+    let interrupt = Interrupt::new(true, true, false, false, 4);
+    let ports = IO::new(0x3f8, 0x3f8, 0, 8);
+    let current = named(alloc, "_CRS", &template(alloc, &[&interrupt, &ports])?)?;
+    device(alloc, "_SB_.COM1", &[&id, &current])
 }
 
 #[test]

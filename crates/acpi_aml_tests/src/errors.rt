@@ -3,7 +3,12 @@
 use acpi_tables::Error;
 use acpi_tables::read::ReadError;
 use acpi_vectors::agree;
+use std::alloc::Global;
 use std::test::Fail;
+
+fn says(alloc: Global, error: Error, text: &str) -> Result<(), Fail> {
+    agree(&format!(in alloc; "{error}")?, text)
+}
 
 #[test]
 fn errors(rt: HostRuntime) -> Result<(), Fail> {
@@ -98,9 +103,13 @@ fn errors(rt: HostRuntime) -> Result<(), Fail> {
         ),
     ] {
         agree(error.name(), name)?;
-        agree(&format!(in rt.alloc(); "{error}")?, text)?;
+        says(rt.alloc(), error, text)?;
     }
     Ok(())
+}
+
+fn read_says(alloc: Global, error: ReadError, text: &str) -> Result<(), Fail> {
+    agree(&format!(in alloc; "{error}")?, text)
 }
 
 #[test]
@@ -159,7 +168,7 @@ fn read_errors(rt: HostRuntime) -> Result<(), Fail> {
             "at offset 40: the size of an error source isn't known",
         ),
     ] {
-        agree(&format!(in rt.alloc(); "{error}")?, text)?;
+        read_says(rt.alloc(), error, text)?;
     }
     Ok(())
 }

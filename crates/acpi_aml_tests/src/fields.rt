@@ -13,6 +13,10 @@ fn path(alloc: Global, text: &str) -> R<Path> {
     Path::new(alloc, text)
 }
 
+fn region(alloc: Global, space: OpRegionSpace) -> R<OpRegion> {
+    OpRegion::new(path(alloc, "PRST")?, space, &0xcd8u16, &12u8)
+}
+
 #[test]
 fn regions(rt: HostRuntime) -> Result<(), Fail> {
     let alloc = rt.alloc();
@@ -31,70 +35,74 @@ fn regions(rt: HostRuntime) -> Result<(), Fail> {
         let mut wanted = *b"\x5b\x80PRST\xff\x0b\xd8\x0c\x0a\x0c";
         equal(&(space as u8), &number)?;
         wanted[6] = number;
-        let region = OpRegion::new(path(alloc, "PRST")?, space, &0xcd8u16, &12u8);
-        makes(alloc, region, &wanted)?;
+        makes(alloc, region(alloc, space), &wanted)?;
     }
     Ok(())
 }
 
-fn field(alloc: Global, entries: Vec<FieldEntry>) -> R<Field> {
-    Field::new(
-        path(alloc, "PRST")?,
-        FieldAccessType::Byte,
-        FieldLockRule::NoLock,
-        FieldUpdateRule::WriteAsZeroes,
-        entries,
-    )
+// An access type and the two rules.
+type Kind = (FieldAccessType, FieldLockRule, FieldUpdateRule);
+
+fn field(alloc: Global, name: &str, kind: Kind, entries: &[FieldEntry]) -> R<Field> {
+    let (access, lock, update) = kind;
+    let entries = Vec::from_slice(alloc, entries)?;
+    Field::new(path(alloc, name)?, access, lock, update, entries)
 }
+
+const BYTES: Kind = (
+    FieldAccessType::Byte,
+    FieldLockRule::NoLock,
+    FieldUpdateRule::WriteAsZeroes,
+);
 
 #[test]
 fn fields(rt: HostRuntime) -> Result<(), Fail> {
-    let alloc = rt.alloc();
-    let entries = vec![in alloc; FieldEntry::Reserved(32), FieldEntry::Named(*b"CPEN", 1)]?;
+    let entries = [FieldEntry::Reserved(32), FieldEntry::Named(*b"CPEN", 1)];
     makes(
-        alloc,
-        field(alloc, entries),
+        rt.alloc(),
+        field(rt.alloc(), "PRST", BYTES, &entries),
         b"\x5b\x81\x0dPRST\x41\x00\x20CPEN\x01",
     )
 }
 
 #[test]
-fn fields_of_many_entries(rt: HostRuntime) -> Result<(), Fail> {
-    let alloc = rt.alloc();
-    let seven = Field::new(
-        path(alloc, "REGS")?,
+fn a_field_of_seven_entries(rt: HostRuntime) -> Result<(), Fail> {
+    let kind = (
         FieldAccessType::Word,
         FieldLockRule::NoLock,
         FieldUpdateRule::WriteAsOnes,
-        vec![in alloc;
-            FieldEntry::Named(*b"MODE", 3),
-            FieldEntry::Reserved(5),
-            FieldEntry::Named(*b"BUSY", 1),
-            FieldEntry::Named(*b"RATE", 7),
-            FieldEntry::Named(*b"PAGE", 16),
-            FieldEntry::Reserved(32),
-            FieldEntry::Named(*b"SIZE", 48),
-        ]?,
     );
+    let entries = [
+        FieldEntry::Named(*b"MODE", 3),
+        FieldEntry::Reserved(5),
+        FieldEntry::Named(*b"BUSY", 1),
+        FieldEntry::Named(*b"RATE", 7),
+        FieldEntry::Named(*b"PAGE", 16),
+        FieldEntry::Reserved(32),
+        FieldEntry::Named(*b"SIZE", 48),
+    ];
     makes(
-        alloc,
-        seven,
+        rt.alloc(),
+        field(rt.alloc(), "REGS", kind, &entries),
         b"\x5b\x81\x23REGS\x22MODE\x03\x00\x05BUSY\x01RATE\x07PAGE\x10\x00\x20SIZE\x30",
-    )?;
-    let three = Field::new(
-        path(alloc, "REGS")?,
+    )
+}
+
+#[test]
+fn a_field_of_three_entries(rt: HostRuntime) -> Result<(), Fail> {
+    let kind = (
         FieldAccessType::DWord,
         FieldLockRule::Lock,
         FieldUpdateRule::Preserve,
-        vec![in alloc;
-            FieldEntry::Named(*b"LOW_", 20),
-            FieldEntry::Reserved(12),
-            FieldEntry::Named(*b"HIGH", 31),
-        ]?,
     );
+    let entries = [
+        FieldEntry::Named(*b"LOW_", 20),
+        FieldEntry::Reserved(12),
+        FieldEntry::Named(*b"HIGH", 31),
+    ];
     makes(
-        alloc,
-        three,
+        rt.alloc(),
+        field(rt.alloc(), "REGS", kind, &entries),
         b"\x5b\x81\x12REGS\x13LOW_\x14\x00\x0cHIGH\x1f",
     )
 }
@@ -109,7 +117,7 @@ fn flags(alloc: Global, access: FieldAccessType, rest: u8) -> Result<(), Fail> {
         ] {
             let mut wanted = *b"\x5b\x81\x06PRST\xff";
             wanted[7] = rest | of_lock | of_update;
-            let field = Field::new(path(alloc, "PRST")?, access, lock, update, Vec::new(alloc));
+            let field = field(alloc, "PRST", (access, lock, update), &[]);
             makes(alloc, field, &wanted)?;
         }
     }
@@ -142,7 +150,14 @@ fn rules(_: HostRuntime) -> Result<(), Fail> {
 }
 
 fn reserved(alloc: Global, bits: usize) -> R<Field> {
-    field(alloc, vec![in alloc; FieldEntry::Reserved(bits)]?)
+    field(alloc, "PRST", BYTES, &[FieldEntry::Reserved(bits)])
+}
+
+// Fails unless a field of so many reserved bits has these bytes after its flags.
+fn reserves(alloc: Global, bits: usize, end: &[u8]) -> Result<(), Fail> {
+    let field = reserved(alloc, bits)?;
+    let bytes = written(alloc, &field)?;
+    same(bytes.get(8..).unwrap_or(&[]), end)
 }
 
 #[test]
@@ -159,8 +174,7 @@ fn field_lengths(rt: HostRuntime) -> Result<(), Fail> {
         (0xfff_ffff, &[0x00, 0xcf, 0xff, 0xff, 0xff]),
     ];
     for (bits, end) in ends {
-        let bytes = written(alloc, &reserved(alloc, bits)?)?;
-        same(bytes.get(8..).unwrap_or(&[]), end)?;
+        reserves(alloc, bits, end)?;
     }
     refuses(reserved(alloc, 0x1000_0000), Error::PkgLength)
 }

@@ -11,6 +11,8 @@ mod errors;
 #[cfg(test)]
 mod fields;
 #[cfg(test)]
+mod make;
+#[cfg(test)]
 mod numbers;
 #[cfg(test)]
 mod objects;

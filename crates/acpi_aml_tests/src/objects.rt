@@ -1,12 +1,12 @@
 //! Named and framed objects, byte for byte.
 
+use super::make::{device, method, named, scope};
 use acpi_tables::aml::{
-    Acquire, Add, AmlStr, AmlString, Arg, CreateField, Device, Else, If, LessThan, Local, Method,
-    MethodCall, Mutex, Name, NotEqual, ONE, Path, PowerResource, Release, Return, Scope, While,
-    ZERO,
+    Acquire, Add, AmlStr, AmlString, Arg, CreateField, Else, If, LessThan, Local, MethodCall,
+    Mutex, Name, NotEqual, ONE, Path, PowerResource, Release, Return, Scope, While, ZERO,
 };
 use acpi_tables::{Aml, Error, R};
-use acpi_vectors::{all, equal, makes, refuses, same, writes, written};
+use acpi_vectors::{equal, makes, refuses, same, writes, written};
 use std::alloc::Global;
 use std::test::Fail;
 
@@ -19,8 +19,7 @@ fn none(alloc: Global) -> Vec<&'static dyn Aml> {
 }
 
 #[test]
-fn paths(rt: HostRuntime) -> Result<(), Fail> {
-    let alloc = rt.alloc();
+fn texts_of_no_path(rt: HostRuntime) -> Result<(), Fail> {
     for text in [
         "",
         "\\",
@@ -40,8 +39,14 @@ fn paths(rt: HostRuntime) -> Result<(), Fail> {
         "ABCD.EF.H",
         "ABCD\\EFGH",
     ] {
-        refuses(path(alloc, text), Error::NamePart)?;
+        refuses(path(rt.alloc(), text), Error::NamePart)?;
     }
+    Ok(())
+}
+
+#[test]
+fn paths(rt: HostRuntime) -> Result<(), Fail> {
+    let alloc = rt.alloc();
     let rows: [(&str, &[u8]); 4] = [
         ("\\_SB_.COM1", b"\x5c\x2e_SB_COM1"),
         ("\\_SB_", b"\x5c_SB_"),
@@ -54,23 +59,22 @@ fn paths(rt: HostRuntime) -> Result<(), Fail> {
     makes(alloc, Name::new_field_name(alloc, "FLD0"), b"FLD0")
 }
 
-// A text with `more` parts after its first.
-fn parts(alloc: Global, more: usize) -> Result<String, Fail> {
-    let mut text = String::new(alloc);
-    text.push_str("_SB_")?;
+// A path with `more` parts after its first.
+fn long_path(alloc: Global, more: usize) -> R<Path> {
+    let mut text = String::from_str(alloc, "_SB_")?;
     for _ in 0..more {
         text.push_str(".ABCD")?;
     }
-    Ok(text)
+    path(alloc, &text)
 }
 
 #[test]
 fn long_paths(rt: HostRuntime) -> Result<(), Fail> {
     let alloc = rt.alloc();
-    let long = written(alloc, &path(alloc, &parts(alloc, 254)?)?)?;
+    let long = written(alloc, &long_path(alloc, 254)?)?;
     equal(&long.len(), &1022)?;
-    assert!(rt; long.starts_with(b"\x2f\xff_SB_ABCD"));
-    refuses(path(alloc, &parts(alloc, 255)?), Error::PathParts)
+    same(long.get(..10).unwrap_or(&[]), b"\x2f\xff_SB_ABCD")?;
+    refuses(long_path(alloc, 255), Error::PathParts)
 }
 
 #[test]
@@ -79,9 +83,13 @@ fn strings(rt: HostRuntime) -> Result<(), Fail> {
     let mut text: AmlString = String::new(alloc);
     writes(alloc, &text, &[0x0d, 0x00])?;
     text.push_str("ACPI")?;
-    writes(alloc, &text, b"\x0dACPI\0")?;
+    writes(alloc, &text, b"\x0dACPI\0")
+}
+
+#[test]
+fn borrowed_strings(rt: HostRuntime) -> Result<(), Fail> {
     let text: AmlStr = "ab";
-    let mut bytes = Vec::new(alloc);
+    let mut bytes = Vec::new(rt.alloc());
     text.to_aml_bytes(&mut bytes)?;
     same(&bytes, b"\x0dab\0")
 }
@@ -90,12 +98,16 @@ fn strings(rt: HostRuntime) -> Result<(), Fail> {
 fn methods(rt: HostRuntime) -> Result<(), Fail> {
     let alloc = rt.alloc();
     let answer = Return::new(alloc, &15u8)?;
-    let body: Vec<&dyn Aml> = vec![in alloc; &answer as &dyn Aml]?;
-    let method = Method::new(path(alloc, "_STA")?, 0, false, body);
-    makes(alloc, method, b"\x14\x09_STA\x00\xa4\x0a\x0f")?;
-    let serialized = Method::new(path(alloc, "_STA")?, 7, true, none(alloc));
+    let method = method(alloc, ("_STA", 0, false), &[&answer]);
+    makes(alloc, method, b"\x14\x09_STA\x00\xa4\x0a\x0f")
+}
+
+#[test]
+fn arguments_of_methods(rt: HostRuntime) -> Result<(), Fail> {
+    let alloc = rt.alloc();
+    let serialized = method(alloc, ("_STA", 7, true), &[]);
     makes(alloc, serialized, b"\x14\x06_STA\x0f")?;
-    let eight = Method::new(path(alloc, "_STA")?, 8, false, none(alloc));
+    let eight = method(alloc, ("_STA", 8, false), &[]);
     refuses(eight, Error::MethodArgs)
 }
 
@@ -142,40 +154,55 @@ fn variables(rt: HostRuntime) -> Result<(), Fail> {
 }
 
 fn hid(alloc: Global) -> R<Name> {
-    Name::new(path(alloc, "_HID")?, &1u8)
+    named(alloc, "_HID", &1u8)
+}
+
+#[test]
+fn names(rt: HostRuntime) -> Result<(), Fail> {
+    let alloc = rt.alloc();
+    makes(alloc, hid(alloc), b"\x08_HID\x01")?;
+    makes(
+        alloc,
+        named(alloc, "_SB_.PCI3._ADR", &0x1234u16),
+        b"\x08\x2f\x03_SB_PCI3_ADR\x0b\x34\x12",
+    )
 }
 
 #[test]
 fn devices(rt: HostRuntime) -> Result<(), Fail> {
     let alloc = rt.alloc();
-    let name = hid(alloc)?;
-    writes(alloc, &name, b"\x08_HID\x01")?;
-    makes(
-        alloc,
-        Name::new(path(alloc, "_SB_.PCI3._ADR")?, &0x1234u16),
-        b"\x08\x2f\x03_SB_PCI3_ADR\x0b\x34\x12",
-    )?;
-    let inside: Vec<&dyn Aml> = vec![in alloc; &name as &dyn Aml]?;
-    makes(
-        alloc,
-        Device::new(path(alloc, "COM1")?, inside),
-        b"\x5b\x82\x0bCOM1\x08_HID\x01",
-    )
+    let device = device(alloc, "COM1", &[&hid(alloc)?]);
+    makes(alloc, device, b"\x5b\x82\x0bCOM1\x08_HID\x01")
 }
 
 #[test]
 fn scopes(rt: HostRuntime) -> Result<(), Fail> {
     let alloc = rt.alloc();
-    let name = hid(alloc)?;
-    let inside: Vec<&dyn Aml> = vec![in alloc; &name as &dyn Aml]?;
-    let wanted = b"\x10\x0b_SB_\x08_HID\x01";
-    makes(alloc, Scope::new(path(alloc, "_SB_")?, inside), wanted)?;
-    let raw = Scope::raw(path(alloc, "_SB_")?, written(alloc, &name)?)?;
-    same(&raw, wanted)?;
-    let power = PowerResource::new(path(alloc, "PRSC")?, 0, 0, none(alloc));
-    makes(alloc, power, b"\x5b\x84\x08PRSC\0\0\0")?;
-    let power = PowerResource::new(path(alloc, "PRSC")?, 5, 0x1234, none(alloc));
-    makes(alloc, power, b"\x5b\x84\x08PRSC\x05\x34\x12")
+    let scope = scope(alloc, "_SB_", &[&hid(alloc)?]);
+    makes(alloc, scope, b"\x10\x0b_SB_\x08_HID\x01")
+}
+
+#[test]
+fn a_scope_of_bytes(rt: HostRuntime) -> Result<(), Fail> {
+    let alloc = rt.alloc();
+    let inside = written(alloc, &hid(alloc)?)?;
+    let raw = Scope::raw(path(alloc, "_SB_")?, inside)?;
+    same(&raw, b"\x10\x0b_SB_\x08_HID\x01")
+}
+
+fn power(alloc: Global, level: u8, order: u16) -> R<PowerResource> {
+    PowerResource::new(path(alloc, "PRSC")?, level, order, none(alloc))
+}
+
+#[test]
+fn power_resources(rt: HostRuntime) -> Result<(), Fail> {
+    let alloc = rt.alloc();
+    makes(alloc, power(alloc, 0, 0), b"\x5b\x84\x08PRSC\0\0\0")?;
+    makes(
+        alloc,
+        power(alloc, 5, 0x1234),
+        b"\x5b\x84\x08PRSC\x05\x34\x12",
+    )
 }
 
 #[test]
@@ -192,29 +219,34 @@ fn branches(rt: HostRuntime) -> Result<(), Fail> {
     makes(alloc, Else::new(none(alloc)), &[0xa1, 0x01])
 }
 
-#[test]
-fn loops(rt: HostRuntime) -> Result<(), Fail> {
-    let alloc = rt.alloc();
+// A loop that counts up to five.
+fn counting(alloc: Global) -> R<While> {
     let below = LessThan::new(alloc, &Local(0), &5u8)?;
     let next = Add::new(alloc, &Local(0), &Local(0), &ONE)?;
-    let body: Vec<&dyn Aml> = vec![in alloc; &next as &dyn Aml]?;
+    While::new(&below, vec![in alloc; &next as &dyn Aml]?)
+}
+
+#[test]
+fn loops(rt: HostRuntime) -> Result<(), Fail> {
     let wanted = [0xa2, 0x09, 0x95, 0x60, 0x0a, 0x05, 0x72, 0x60, 0x01, 0x60];
-    makes(alloc, While::new(&below, body), &wanted)
+    makes(rt.alloc(), counting(rt.alloc()), &wanted)
+}
+
+fn acquired(alloc: Global, timeout: u16) -> R<Acquire> {
+    Ok(Acquire::new(path(alloc, "MUTX")?, timeout))
 }
 
 #[test]
 fn mutexes(rt: HostRuntime) -> Result<(), Fail> {
     let alloc = rt.alloc();
-    let name = || path(alloc, "MUTX");
-    all(
+    writes(
         alloc,
-        &[
-            (&Mutex::new(name()?, 3), b"\x5b\x01MUTX\x03"),
-            (&Acquire::new(name()?, 0xffff), b"\x5b\x23MUTX\xff\xff"),
-            (&Acquire::new(name()?, 0x1234), b"\x5b\x23MUTX\x34\x12"),
-            (&Release::new(name()?), b"\x5b\x27MUTX"),
-        ],
-    )
+        &Mutex::new(path(alloc, "MUTX")?, 3),
+        b"\x5b\x01MUTX\x03",
+    )?;
+    makes(alloc, acquired(alloc, 0xffff), b"\x5b\x23MUTX\xff\xff")?;
+    makes(alloc, acquired(alloc, 0x1234), b"\x5b\x23MUTX\x34\x12")?;
+    writes(alloc, &Release::new(path(alloc, "MUTX")?), b"\x5b\x27MUTX")
 }
 
 #[test]

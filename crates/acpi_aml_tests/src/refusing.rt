@@ -1,11 +1,11 @@
 //! Objects that return errors.
 
+use super::make::{device, method, named, scope, template};
 use acpi_tables::aml::{
-    Add, AddressSpace, Arg, Device, Else, If, Local, Method, MethodCall, Name, NotEqual, ONE,
-    OpRegion, OpRegionSpace, Package, PackageBuilder, Path, PowerResource, ResourceTemplate, Scope,
-    Store, VarPackageTerm, While, ZERO,
+    Add, AddressSpace, Arg, Else, If, Local, MethodCall, NotEqual, ONE, OpRegion, OpRegionSpace,
+    Package, PackageBuilder, Path, PowerResource, Store, VarPackageTerm, While, ZERO,
 };
-use acpi_tables::{Aml, Error, u8sum};
+use acpi_tables::{Aml, Error, R, u8sum};
 use acpi_vectors::broken::Broken;
 use acpi_vectors::{refuses, same, writes};
 use std::alloc::Global;
@@ -15,46 +15,59 @@ const BROKEN: Broken = Broken {};
 
 #[test]
 fn an_object_that_refuses(rt: HostRuntime) -> Result<(), Fail> {
-    let alloc = rt.alloc();
-    let mut bytes = Vec::new(alloc);
+    let mut bytes = Vec::new(rt.alloc());
     refuses(BROKEN.to_aml_bytes(&mut bytes), Error::Sink(9))?;
     same(&bytes, &[1, 2, 3, 4])?;
-    refuses(u8sum(&BROKEN), Error::Sink(9))?;
-    let mut builder = PackageBuilder::new(alloc);
-    builder.add_element(&ONE)?;
-    refuses(builder.add_element(&BROKEN), Error::Sink(9))?;
-    writes(alloc, &builder, &[0x12, 0x03, 0x01, 0x01])
+    refuses(u8sum(&BROKEN), Error::Sink(9))
 }
 
-fn broken_first(alloc: Global) -> Result<Vec<&'static dyn Aml>, Fail> {
+#[test]
+fn an_element_that_refuses(rt: HostRuntime) -> Result<(), Fail> {
+    let mut builder = PackageBuilder::new(rt.alloc());
+    builder.add_element(&ONE)?;
+    refuses(builder.add_element(&BROKEN), Error::Sink(9))?;
+    writes(rt.alloc(), &builder, &[0x12, 0x03, 0x01, 0x01])
+}
+
+fn broken_first(alloc: Global) -> R<Vec<&'static dyn Aml>> {
     Ok(vec![in alloc; &BROKEN as &dyn Aml, &ZERO]?)
+}
+
+fn call(alloc: Global, arguments: &[&dyn Aml]) -> R<MethodCall> {
+    let arguments = Vec::from_slice(alloc, arguments)?;
+    MethodCall::new(Path::new(alloc, "NAME")?, arguments)
 }
 
 #[test]
 fn a_child_that_refuses(rt: HostRuntime) -> Result<(), Fail> {
     let alloc = rt.alloc();
-    let sb = || Path::new(alloc, "_SB_");
     refuses(Package::new(broken_first(alloc)?), Error::Sink(9))?;
-    refuses(Scope::new(sb()?, broken_first(alloc)?), Error::Sink(9))?;
-    refuses(Device::new(sb()?, broken_first(alloc)?), Error::Sink(9))?;
-    refuses(MethodCall::new(sb()?, broken_first(alloc)?), Error::Sink(9))
+    refuses(scope(alloc, "_SB_", &[&BROKEN, &ZERO]), Error::Sink(9))?;
+    refuses(device(alloc, "_SB_", &[&BROKEN, &ZERO]), Error::Sink(9))?;
+    refuses(call(alloc, &[&BROKEN, &ZERO]), Error::Sink(9))
+}
+
+fn power(alloc: Global) -> R<PowerResource> {
+    let parts = broken_first(alloc)?;
+    PowerResource::new(Path::new(alloc, "_SB_")?, 0, 0, parts)
 }
 
 #[test]
 fn a_part_that_refuses(rt: HostRuntime) -> Result<(), Fail> {
     let alloc = rt.alloc();
-    let sb = || Path::new(alloc, "_SB_");
-    refuses(
-        Method::new(sb()?, 0, false, broken_first(alloc)?),
-        Error::Sink(9),
-    )?;
-    refuses(
-        PowerResource::new(sb()?, 0, 0, broken_first(alloc)?),
-        Error::Sink(9),
-    )?;
+    refuses(power(alloc), Error::Sink(9))?;
     refuses(Else::new(broken_first(alloc)?), Error::Sink(9))?;
     refuses(If::new(&ONE, broken_first(alloc)?), Error::Sink(9))?;
     refuses(While::new(&ONE, broken_first(alloc)?), Error::Sink(9))
+}
+
+fn region(alloc: Global, start: &dyn Aml, size: &dyn Aml) -> R<OpRegion> {
+    OpRegion::new(
+        Path::new(alloc, "PRST")?,
+        OpRegionSpace::SystemIO,
+        start,
+        size,
+    )
 }
 
 #[test]
@@ -63,17 +76,8 @@ fn an_operand_that_refuses(rt: HostRuntime) -> Result<(), Fail> {
     refuses(If::new(&BROKEN, Vec::new(alloc)), Error::Sink(9))?;
     refuses(While::new(&BROKEN, Vec::new(alloc)), Error::Sink(9))?;
     refuses(VarPackageTerm::new(alloc, &BROKEN), Error::Sink(9))?;
-    refuses(
-        Name::new(Path::new(alloc, "_HID")?, &BROKEN),
-        Error::Sink(9),
-    )?;
-    let region = OpRegion::new(
-        Path::new(alloc, "PRST")?,
-        OpRegionSpace::SystemIO,
-        &BROKEN,
-        &Arg(7),
-    );
-    refuses(region, Error::Sink(9))
+    refuses(named(alloc, "_HID", &BROKEN), Error::Sink(9))?;
+    refuses(region(alloc, &BROKEN, &Arg(7)), Error::Sink(9))
 }
 
 #[test]
@@ -88,50 +92,85 @@ fn the_first_refusal_in_written_order(rt: HostRuntime) -> Result<(), Fail> {
 
 // If a number passes its limit and a child fails, the error is that of the limit.
 #[test]
-fn limits_before_children(rt: HostRuntime) -> Result<(), Fail> {
-    let alloc = rt.alloc();
-    for (args, refusal) in [(7, Error::Sink(9)), (8, Error::MethodArgs)] {
-        let method = Method::new(Path::new(alloc, "MTHD")?, args, false, broken_first(alloc)?);
+fn arguments_before_children(rt: HostRuntime) -> Result<(), Fail> {
+    for (args, refusal) in [
+        (0, Error::Sink(9)),
+        (7, Error::Sink(9)),
+        (8, Error::MethodArgs),
+    ] {
+        let method = method(rt.alloc(), ("MTHD", args, false), &[&BROKEN, &ZERO]);
         refuses(method, refusal)?;
-    }
-    for (more, refusal) in [(253, Error::Sink(9)), (254, Error::PackageElements)] {
-        let mut elements = broken_first(alloc)?;
-        for _ in 0..more {
-            elements.push(&ONE)?;
-        }
-        refuses(Package::new(elements), refusal)?;
     }
     Ok(())
 }
 
-// A text of this first part, 254 other parts, and this last part.
-fn parts(alloc: Global, first: &str, last: &str) -> Result<String, Fail> {
+fn package(alloc: Global, more: u16) -> R<Package> {
+    let mut elements = broken_first(alloc)?;
+    for _ in 0..more {
+        elements.push(&ONE)?;
+    }
+    Package::new(elements)
+}
+
+#[test]
+fn the_number_of_elements_before_them(rt: HostRuntime) -> Result<(), Fail> {
+    refuses(package(rt.alloc(), 253), Error::Sink(9))?;
+    refuses(package(rt.alloc(), 254), Error::PackageElements)
+}
+
+// A path of this first part, 254 other parts, and this last part.
+fn parts(alloc: Global, first: &str, last: &str) -> R<Path> {
     let mut text = String::from_str(alloc, first)?;
     for _ in 0..254 {
         text.push_str(".ABCD")?;
     }
     text.push_str(last)?;
-    Ok(text)
+    Path::new(alloc, &text)
 }
 
 #[test]
 fn parts_before_their_number(rt: HostRuntime) -> Result<(), Fail> {
-    let alloc = rt.alloc();
     for (first, last, refusal) in [
         ("_SB_", ".ABCD", Error::PathParts),
         ("_SB", ".ABCD", Error::NamePart),
         ("_SB_", ".ABC", Error::NamePart),
         ("_SB_", ".ABCD.", Error::NamePart),
     ] {
-        refuses(Path::new(alloc, &parts(alloc, first, last)?), refusal)?;
+        refuses(parts(rt.alloc(), first, last), refusal)?;
     }
     Ok(())
+}
+
+fn branch(alloc: Global, test: &dyn Aml, part: &dyn Aml) -> R<If> {
+    If::new(test, vec![in alloc; part]?)
+}
+
+fn repeated(alloc: Global, test: &dyn Aml, part: &dyn Aml) -> R<While> {
+    While::new(test, vec![in alloc; part]?)
+}
+
+fn both(alloc: Global, first: &dyn Aml, second: &dyn Aml) -> R<Package> {
+    Package::new(vec![in alloc; first, second]?)
+}
+
+// Fails unless each object of two parts returns this error.
+fn all_refuse(
+    alloc: Global,
+    first: &dyn Aml,
+    second: &dyn Aml,
+    refusal: Error,
+) -> Result<(), Fail> {
+    refuses(branch(alloc, first, second), refusal)?;
+    refuses(repeated(alloc, first, second), refusal)?;
+    refuses(template(alloc, &[first, second]), refusal)?;
+    refuses(both(alloc, first, second), refusal)?;
+    refuses(call(alloc, &[first, second]), refusal)?;
+    refuses(region(alloc, first, second), refusal)
 }
 
 // If two parts fail, the error is that of the part that is written first.
 #[test]
 fn the_first_part_that_refuses(rt: HostRuntime) -> Result<(), Fail> {
-    let alloc = rt.alloc();
     let range = AddressSpace::new_io(5u16, 4, None);
     let (arg, local) = (Arg(7), Local(8));
     let all: [(&dyn Aml, Error); 4] = [
@@ -142,20 +181,7 @@ fn the_first_part_that_refuses(rt: HostRuntime) -> Result<(), Fail> {
     ];
     for (first, refusal) in all {
         for (second, _) in all {
-            refuses(If::new(first, vec![in alloc; second]?), refusal)?;
-            refuses(While::new(first, vec![in alloc; second]?), refusal)?;
-            refuses(
-                ResourceTemplate::new(vec![in alloc; first, second]?),
-                refusal,
-            )?;
-            refuses(Package::new(vec![in alloc; first, second]?), refusal)?;
-            let path = || Path::new(alloc, "NAME");
-            refuses(
-                MethodCall::new(path()?, vec![in alloc; first, second]?),
-                refusal,
-            )?;
-            let region = OpRegion::new(path()?, OpRegionSpace::SystemIO, first, second);
-            refuses(region, refusal)?;
+            all_refuse(rt.alloc(), first, second, refusal)?;
         }
     }
     Ok(())

@@ -1,6 +1,7 @@
 //! Address spaces, byte for byte, alone and in templates.
 
-use acpi_tables::aml::{AddressSpace, AddressSpaceCacheable, Name, Path, ResourceTemplate};
+use super::make::{named, template};
+use acpi_tables::aml::{AddressSpace, AddressSpaceCacheable, Name};
 use acpi_tables::{Aml, Error, R};
 use acpi_vectors::{all, equal, makes, refuses, writes};
 use std::alloc::Global;
@@ -157,38 +158,34 @@ fn memory_types(rt: HostRuntime) -> Result<(), Fail> {
     Ok(())
 }
 
+// Fails unless a range returns an error, and writes nothing.
+fn has_no_length(alloc: Global, range: &dyn Aml) -> Result<(), Fail> {
+    let mut bytes = Vec::new(alloc);
+    refuses(range.to_aml_bytes(&mut bytes), Error::AddressRange)?;
+    equal(&bytes.len(), &0)
+}
+
 #[test]
 fn ranges_without_a_length(rt: HostRuntime) -> Result<(), Fail> {
-    let mut bytes = Vec::new(rt.alloc());
-    let ranges: [&dyn Aml; 4] = [
-        &AddressSpace::new_io(5u16, 4, None),
-        &AddressSpace::new_io(0u16, u16::MAX, None),
-        &AddressSpace::new_io(0u32, u32::MAX, None),
-        &AddressSpace::new_io(0u64, u64::MAX, None),
-    ];
-    for range in ranges {
-        refuses(range.to_aml_bytes(&mut bytes), Error::AddressRange)?;
-        equal(&bytes.len(), &0)?;
-    }
-    Ok(())
+    let alloc = rt.alloc();
+    has_no_length(alloc, &AddressSpace::new_io(5u16, 4, None))?;
+    has_no_length(alloc, &AddressSpace::new_io(0u16, u16::MAX, None))?;
+    has_no_length(alloc, &AddressSpace::new_io(0u32, u32::MAX, None))?;
+    has_no_length(alloc, &AddressSpace::new_io(0u64, u64::MAX, None))
 }
 
 // A name for a template, as a device's settings have it.
-fn settings(alloc: Global, template: R<ResourceTemplate>) -> R<Name> {
-    Name::new(Path::new(alloc, "_CRS")?, &template?)
+fn settings(alloc: Global, descriptors: &[&dyn Aml]) -> R<Name> {
+    named(alloc, "_CRS", &template(alloc, descriptors)?)
 }
 
 #[test]
 fn a_template_of_ports(rt: HostRuntime) -> Result<(), Fail> {
-    let alloc = rt.alloc();
     let low = AddressSpace::new_io(0x0102u16, 0x0cf7, None);
     let high = AddressSpace::new_io(0x0d03u16, 0xfffe, Some(0x0405));
     makes(
-        alloc,
-        settings(
-            alloc,
-            ResourceTemplate::new(vec![in alloc; &low as &dyn Aml, &high]?),
-        ),
+        rt.alloc(),
+        settings(rt.alloc(), &[&low, &high]),
         &[
             0x08, 0x5f, 0x43, 0x52, 0x53, 0x11, 0x25, 0x0a, 0x22, 0x88, 0x0d, 0x00, 0x01, 0x0c,
             0x03, 0x00, 0x00, 0x02, 0x01, 0xf7, 0x0c, 0x00, 0x00, 0xf6, 0x0b, 0x88, 0x0d, 0x00,
@@ -199,33 +196,31 @@ fn a_template_of_ports(rt: HostRuntime) -> Result<(), Fail> {
 }
 
 #[test]
-fn templates_of_memory(rt: HostRuntime) -> Result<(), Fail> {
-    let alloc = rt.alloc();
+fn a_template_of_two_ranges_of_memory(rt: HostRuntime) -> Result<(), Fail> {
     let cached = AddressSpaceCacheable::Cacheable;
     let video = AddressSpace::new_memory(cached, true, 0x000a_1000u32, 0x000b_fedc, None);
     let uncached = AddressSpaceCacheable::NotCacheable;
     let devices = AddressSpace::new_memory(uncached, true, 0xc010_2030u32, 0xfebf_dcba, None);
     makes(
-        alloc,
-        settings(
-            alloc,
-            ResourceTemplate::new(vec![in alloc; &video as &dyn Aml, &devices]?),
-        ),
+        rt.alloc(),
+        settings(rt.alloc(), &[&video, &devices]),
         &[
             0x08, 0x5f, 0x43, 0x52, 0x53, 0x11, 0x39, 0x0a, 0x36, 0x87, 0x17, 0x00, 0x00, 0x0c,
             0x03, 0, 0, 0, 0, 0x00, 0x10, 0x0a, 0x00, 0xdc, 0xfe, 0x0b, 0x00, 0, 0, 0, 0, 0xdd,
             0xee, 0x01, 0x00, 0x87, 0x17, 0x00, 0x00, 0x0c, 0x01, 0, 0, 0, 0, 0x30, 0x20, 0x10,
             0xc0, 0xba, 0xdc, 0xbf, 0xfe, 0, 0, 0, 0, 0x8b, 0xbc, 0xaf, 0x3e, 0x79, 0x00,
         ],
-    )?;
+    )
+}
+
+#[test]
+fn a_template_of_a_long_range_of_memory(rt: HostRuntime) -> Result<(), Fail> {
+    let cached = AddressSpaceCacheable::Cacheable;
     let (first, last) = (0x0102_0304_0506_0708u64, 0x1121_3141_5161_7181);
     let large = AddressSpace::new_memory(cached, true, first, last, None);
     makes(
-        alloc,
-        settings(
-            alloc,
-            ResourceTemplate::new(vec![in alloc; &large as &dyn Aml]?),
-        ),
+        rt.alloc(),
+        settings(rt.alloc(), &[&large]),
         &[
             0x08, 0x5f, 0x43, 0x52, 0x53, 0x11, 0x33, 0x0a, 0x30, 0x8a, 0x2b, 0x00, 0x00, 0x0c,
             0x03, 0, 0, 0, 0, 0, 0, 0, 0, 0x08, 0x07, 0x06, 0x05, 0x04, 0x03, 0x02, 0x01, 0x81,

@@ -11,9 +11,7 @@ use acpi_vectors::{OEM, OEM_REVISION, OEM_TABLE, all, equal, refuses, same, writ
 use std::alloc::Global;
 use std::test::Fail;
 
-#[test]
-fn checksums(_: HostRuntime) -> Result<(), Fail> {
-    let mut checksum = Checksum::default();
+fn adds_up(checksum: &mut Checksum) -> Result<(), Fail> {
     equal(&checksum.value(), &0)?;
     checksum.add(1);
     equal(&checksum.value(), &255)?;
@@ -28,7 +26,10 @@ fn checksums(_: HostRuntime) -> Result<(), Fail> {
     equal(&checksum.value(), &255)?;
     checksum.add(1);
     equal(&checksum.value(), &254)?;
-    equal(&checksum.raw_value(), &2)?;
+    equal(&checksum.raw_value(), &2)
+}
+
+fn takes_off(checksum: &mut Checksum) -> Result<(), Fail> {
     checksum.delete(&[1, 255]);
     checksum.sub(2);
     equal(&checksum.raw_value(), &0)?;
@@ -37,6 +38,13 @@ fn checksums(_: HostRuntime) -> Result<(), Fail> {
     equal(&checksum.raw_value(), &0xc3)?;
     checksum.delete(&[0xc0, 0x10]);
     equal(&checksum.raw_value(), &0xf3)
+}
+
+#[test]
+fn checksums(_: HostRuntime) -> Result<(), Fail> {
+    let mut checksum = Checksum::default();
+    adds_up(&mut checksum)?;
+    takes_off(&mut checksum)
 }
 
 #[test]
@@ -82,56 +90,76 @@ fn whole_is(table: &Sdt, len: u8, checksum: u8, contents: &[u8]) -> Result<(), F
     same(table.as_slice().get(36..).unwrap_or(&[]), contents)
 }
 
+fn takes_bytes(alloc: Global, table: &mut Sdt) -> Result<(), Fail> {
+    equal(&table.is_empty(), &false)?;
+    whole_is(table, 36, 0x5f, &[])?;
+    table.append_slice(&[])?;
+    whole_is(table, 36, 0x5f, &[])?;
+    table.update_checksum();
+    whole_is(table, 36, 0x5f, &[])?;
+    writes(alloc, table, table.as_slice())?;
+    table.append_slice(&[0x12, 0x04, 0x02, 0x00, 0x01])?;
+    whole_is(table, 41, 0x41, &[0x12, 0x04, 0x02, 0x00, 0x01])?;
+    table.update_checksum();
+    whole_is(table, 41, 0x41, &[0x12, 0x04, 0x02, 0x00, 0x01])
+}
+
 #[test]
 fn tables(rt: HostRuntime) -> Result<(), Fail> {
-    let mut table = dsdt(rt.alloc())?;
-    assert!(rt; !table.is_empty());
-    whole_is(&table, 36, 0x5f, &[])?;
-    table.append_slice(&[])?;
-    whole_is(&table, 36, 0x5f, &[])?;
-    table.update_checksum();
-    whole_is(&table, 36, 0x5f, &[])?;
-    writes(rt.alloc(), &table, table.as_slice())?;
-    table.append_slice(&[0x12, 0x04, 0x02, 0x00, 0x01])?;
-    whole_is(&table, 41, 0x41, &[0x12, 0x04, 0x02, 0x00, 0x01])?;
-    table.update_checksum();
-    whole_is(&table, 41, 0x41, &[0x12, 0x04, 0x02, 0x00, 0x01])
+    takes_bytes(rt.alloc(), &mut dsdt(rt.alloc())?)
+}
+
+fn of_length(alloc: Global, length: u32) -> R<Sdt> {
+    Sdt::new(alloc, *b"DSDT", length, 2, *b"FOOBAR", *b"CAFEDEAD", 1)
 }
 
 #[test]
 fn short_tables(rt: HostRuntime) -> Result<(), Fail> {
-    let short = Sdt::new(rt.alloc(), *b"DSDT", 35, 2, *b"FOOBAR", *b"CAFEDEAD", 1);
-    refuses(short, Error::ShortTable)?;
-    let long = Sdt::new(rt.alloc(), *b"DSDT", 40, 2, *b"FOOBAR", *b"CAFEDEAD", 1)?;
+    refuses(of_length(rt.alloc(), 35), Error::ShortTable)?;
+    let long = of_length(rt.alloc(), 40)?;
     equal(&long.len(), &40)?;
-    assert!(rt; long.as_slice().ends_with(&[0, 0, 0, 1, 0, 0, 0, 0]));
-    Ok(())
+    let end = long.as_slice().get(32..).unwrap_or(&[]);
+    same(end, &[0, 0, 0, 1, 0, 0, 0, 0])
+}
+
+fn takes_values(table: &mut Sdt) -> Result<(), Fail> {
+    table.append(0x1234u16)?;
+    whole_is(table, 38, 0x17, &[0x34, 0x12])?;
+    if table.len() != 38 {
+        return Err(Fail::new("another length"));
+    }
+    table.write_u8(36, 0);
+    whole_is(table, 38, 0x4b, &[0x00, 0x12])?;
+    table.append([0u8; 0])?;
+    whole_is(table, 38, 0x4b, &[0x00, 0x12])
 }
 
 #[test]
 fn values_at_the_end_and_at_offsets(rt: HostRuntime) -> Result<(), Fail> {
-    let mut table = dsdt(rt.alloc())?;
-    table.append(0x1234u16)?;
-    whole_is(&table, 38, 0x17, &[0x34, 0x12])?;
-    assert!(rt; 36 < table.len());
-    table.write_u8(36, 0);
-    whole_is(&table, 38, 0x4b, &[0x00, 0x12])?;
-    table.append([0u8; 0])?;
-    whole_is(&table, 38, 0x4b, &[0x00, 0x12])
+    takes_values(&mut dsdt(rt.alloc())?)
+}
+
+// Writes over the checksum, and then over the length.
+fn takes_a_length(table: &mut Sdt) -> Result<(), Fail> {
+    if table.len() != 36 {
+        return Err(Fail::new("another length"));
+    }
+    table.write_u8(9, 0xff);
+    whole_is(table, 36, 0x5f, &[])?;
+    if table.len() != 36 {
+        return Err(Fail::new("another length"));
+    }
+    table.write_u32(4, 1000);
+    equal(&table.len(), &36)?;
+    let start = table.as_slice().get(..10).unwrap_or(&[]);
+    same(start, b"DSDT\xe8\x03\0\0\x02\x98")?;
+    table.byte(0xaa)?;
+    whole_is(table, 37, 0xb4, &[0xaa])
 }
 
 #[test]
 fn a_length_that_the_caller_wrote(rt: HostRuntime) -> Result<(), Fail> {
-    let mut table = dsdt(rt.alloc())?;
-    assert!(rt; table.len() == 36);
-    table.write_u8(9, 0xff);
-    whole_is(&table, 36, 0x5f, &[])?;
-    assert!(rt; table.len() == 36);
-    table.write_u32(4, 1000);
-    assert!(rt; table.len() == 36);
-    assert!(rt; table.as_slice().starts_with(b"DSDT\xe8\x03\0\0\x02\x98"));
-    table.byte(0xaa)?;
-    whole_is(&table, 37, 0xb4, &[0xaa])
+    takes_a_length(&mut dsdt(rt.alloc())?)
 }
 
 #[test]

@@ -1,11 +1,11 @@
 //! DBG2 and its devices.
 
-use acpi_base::error::Error;
+use acpi_base::error::{Error, R};
 use acpi_tables::dbg2::{DBG2, DebugDevice, DebugPort};
 use acpi_tables::gas::{AccessSize, AddressSpace, GAS};
 use acpi_tables::spcr::InterfaceType;
-use acpi_vectors::table::stands;
-use acpi_vectors::{OEM, OEM_REVISION, OEM_TABLE, equal, refuses, writes, written};
+use acpi_vectors::table::all_stand;
+use acpi_vectors::{OEM, OEM_REVISION, OEM_TABLE, equal, refuses, sized, writes};
 use std::alloc::Global;
 use std::test::Fail;
 
@@ -38,91 +38,137 @@ fn ports(rt: HostRuntime) -> Result<(), Fail> {
     Ok(())
 }
 
-#[test]
-fn a_device_with_all_lists(rt: HostRuntime) -> Result<(), Fail> {
-    let alloc = rt.alloc();
-    let (memory, io) = (AddressSpace::SystemMemory, AddressSpace::SystemIo);
-    let first = GAS::new(
-        memory,
+// Two registers: of 32 bits in memory, and of 8 bits in I/O space.
+fn two_registers(alloc: Global) -> R<DebugDevice> {
+    let memory = GAS::new(
+        AddressSpace::SystemMemory,
         32,
         1,
         AccessSize::DwordAccess,
         0x0807_0605_0403_0201,
     );
-    let second = GAS::new(io, 8, 0, AccessSize::ByteAccess, 0x3f8);
-    let device = DebugDevice::new(alloc, DebugPort::Serial(InterfaceType::ArmPl011))
-        .register(first, 0x1413_1211)?
-        .register(second, 8)?
-        .namespace_string(String::from_str(alloc, "\\_SB.COM1")?)
-        .oem_data(Vec::from_slice(alloc, b"\xa0\xa1\xa2")?);
+    let io = GAS::new(AddressSpace::SystemIo, 8, 0, AccessSize::ByteAccess, 0x3f8);
+    DebugDevice::new(alloc, DebugPort::Serial(InterfaceType::ArmPl011))
+        .register(memory, 0x1413_1211)?
+        .register(io, 8)
+}
+
+fn full_device(alloc: Global) -> R<DebugDevice> {
+    let device = two_registers(alloc)?.namespace_string(String::from_str(alloc, "\\_SB.COM1")?);
+    Ok(device.oem_data(Vec::from_slice(alloc, b"\xa0\xa1\xa2")?))
+}
+
+const FULL_DEVICE: &[u8] = b"\0\x43\0\x02\x0a\0\x36\0\x03\0\x40\0\0\x80\x03\0\0\0\x16\0\x2e\0\
+    \0\x20\x01\x03\x01\x02\x03\x04\x05\x06\x07\x08\x01\x08\0\x01\xf8\x03\0\0\0\0\0\0\
+    \x11\x12\x13\x14\x08\0\0\0\\_SB.COM1\0\xa0\xa1\xa2";
+
+#[test]
+fn a_device_with_all_lists(rt: HostRuntime) -> Result<(), Fail> {
+    let device = full_device(rt.alloc())?;
     equal(&device.register_count(), &2)?;
-    let wanted = b"\0\x43\0\x02\x0a\0\x36\0\x03\0\x40\0\0\x80\x03\0\0\0\x16\0\x2e\0\
-        \0\x20\x01\x03\x01\x02\x03\x04\x05\x06\x07\x08\x01\x08\0\x01\xf8\x03\0\0\0\0\0\0\
-        \x11\x12\x13\x14\x08\0\0\0\\_SB.COM1\0\xa0\xa1\xa2";
-    writes(alloc, &device, wanted)?;
-    let mut table = DBG2::new(alloc, OEM, OEM_TABLE, OEM_REVISION);
-    stands(alloc, &table, 0, b"DBG2\x2c\0\0\0\0")?;
-    stands(alloc, &table, 36, b"\x2c\0\0\0\0\0\0\0")?;
-    table.add_device(device)?;
+    writes(rt.alloc(), &device, FULL_DEVICE)
+}
+
+fn table(alloc: Global) -> DBG2 {
+    DBG2::new(alloc, OEM, OEM_TABLE, OEM_REVISION)
+}
+
+fn two_devices(alloc: Global) -> R<DBG2> {
+    let mut table = table(alloc);
+    table.add_device(full_device(alloc)?)?;
     table.add_device(DebugDevice::new(alloc, DebugPort::UsbXhci))?;
-    stands(alloc, &table, 36, b"\x2c\0\0\0\x02\0\0\0")?;
-    stands(alloc, &table, 44, wanted)?;
-    stands(
-        alloc,
+    Ok(table)
+}
+
+#[test]
+fn a_table_of_two_devices(rt: HostRuntime) -> Result<(), Fail> {
+    let table = two_devices(rt.alloc())?;
+    equal(&(table.len(), table.count()), &(135, 2))?;
+    all_stand(
+        rt.alloc(),
         &table,
-        111,
-        b"\0\x18\0\0\x02\0\x16\0\0\0\0\0\x02\x80\0\0\0\0\x16\0\x16\0.\0",
-    )?;
-    equal(&(table.len(), table.count()), &(135, 2))
+        &[
+            (36, b"\x2c\0\0\0\x02\0\0\0"),
+            (44, FULL_DEVICE),
+            (
+                111,
+                b"\0\x18\0\0\x02\0\x16\0\0\0\0\0\x02\x80\0\0\0\0\x16\0\x16\0.\0",
+            ),
+        ],
+    )
+}
+
+#[test]
+fn a_table_without_devices(rt: HostRuntime) -> Result<(), Fail> {
+    all_stand(
+        rt.alloc(),
+        &table(rt.alloc()),
+        &[(0, b"DBG2\x2c\0\0\0\0"), (36, b"\x2c\0\0\0\0\0\0\0")],
+    )
+}
+
+fn registers(alloc: Global, count: u16) -> R<DebugDevice> {
+    let mut device = DebugDevice::new(alloc, DebugPort::Ieee1394);
+    for _ in 0..count {
+        device = device.register(GAS::default(), 0)?;
+    }
+    Ok(device)
+}
+
+fn name(alloc: Global, size: usize) -> R<String> {
+    let mut text = String::new(alloc);
+    for _ in 0..size {
+        text.push('n')?;
+    }
+    Ok(text)
 }
 
 // A device with this many registers, with a name and OEM data of these numbers of bytes.
-fn device(alloc: Global, registers: u16, name: u32, oem_data: u32) -> Result<DebugDevice, Fail> {
-    let mut device = DebugDevice::new(alloc, DebugPort::Ieee1394);
-    for _ in 0..registers {
-        device = device.register(GAS::default(), 0)?;
-    }
-    let mut text = String::new(alloc);
-    for _ in 0..name {
-        text.push('n')?;
-    }
-    let mut bytes = Vec::new(alloc);
-    for _ in 0..oem_data {
-        bytes.push(0xa5)?;
-    }
-    Ok(device.namespace_string(text).oem_data(bytes))
+fn device(alloc: Global, (count, length, size): (u16, usize, usize)) -> R<DebugDevice> {
+    let device = registers(alloc, count)?.namespace_string(name(alloc, length)?);
+    Ok(device.oem_data(vec![in alloc; 0xa5; size]?))
 }
 
-// Devices of at most 65,535 bytes and 255 registers.
+fn takes(alloc: Global, parts: (u16, usize, usize), size: usize) -> Result<(), Fail> {
+    sized(alloc, &device(alloc, parts)?, size)?;
+    let mut table = table(alloc);
+    table.add_device(device(alloc, parts)?)?;
+    equal(&table.count(), &1)
+}
+
+fn is_too_long(alloc: Global, parts: (u16, usize, usize)) -> Result<(), Fail> {
+    let mut table = table(alloc);
+    refuses(table.add_device(device(alloc, parts)?), Error::FieldWidth)?;
+    equal(&table.count(), &0)
+}
+
+// Devices of at most 65,535 bytes.
 #[test]
 fn the_longest_devices(rt: HostRuntime) -> Result<(), Fail> {
-    let alloc = rt.alloc();
-    let mut table = DBG2::new(alloc, OEM, OEM_TABLE, OEM_REVISION);
-    let mut added = 0u32;
-    for (registers, name, oem_data, size) in [
-        (255, 0, 0, Some(4103)),
-        (0, 65_512, 0, Some(65_535)),
-        (0, 65_513, 0, None),
-        (0, 0, 65_512, Some(65_535)),
-        (0, 0, 65_513, None),
-        (255, 61_432, 0, Some(65_535)),
-        (255, 61_432, 1, None),
-        (1, 65_490, 6, Some(65_535)),
-        (1, 65_490, 7, None),
-        (1, 70_000, 0, None),
+    for (parts, size) in [
+        ((255, 0, 0), 4103),
+        ((0, 65_512, 0), 65_535),
+        ((0, 0, 65_512), 65_535),
+        ((255, 61_432, 0), 65_535),
+        ((1, 65_490, 6), 65_535),
     ] {
-        let made = device(alloc, registers, name, oem_data)?;
-        match size {
-            Some(size) => {
-                equal(&written(alloc, &made)?.len(), &size)?;
-                table.add_device(made)?;
-                added = added.wrapping_add(1);
-            }
-            None => refuses(table.add_device(made), Error::FieldWidth)?,
-        }
-        equal(&table.count(), &added)?;
+        takes(rt.alloc(), parts, size)?;
     }
-    let full = device(alloc, 255, 0, 0)?;
+    for parts in [
+        (0, 65_513, 0),
+        (0, 0, 65_513),
+        (255, 61_432, 1),
+        (1, 65_490, 7),
+        (1, 70_000, 0),
+    ] {
+        is_too_long(rt.alloc(), parts)?;
+    }
+    Ok(())
+}
+
+#[test]
+fn the_most_registers(rt: HostRuntime) -> Result<(), Fail> {
+    let full = registers(rt.alloc(), 255)?;
     equal(&full.register_count(), &255)?;
     refuses(full.register(GAS::default(), 0), Error::FieldWidth)
 }

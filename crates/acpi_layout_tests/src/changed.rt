@@ -1,8 +1,9 @@
 //! Images of which one byte was changed at random.
 
-use crate::layout::{dsdt, image, mcfg, number};
-use acpi_tables::Aml;
-use acpi_tables::layout::{Located, check_image};
+use crate::found::sample;
+use crate::layout::number;
+use acpi_tables::R;
+use acpi_tables::layout::{Image, Located, check_image};
 use acpi_vectors::equal;
 use acpi_vectors::mutation::Numbers;
 use std::alloc::Global;
@@ -38,39 +39,52 @@ fn size_at(bytes: &[u8], address: u64) -> u64 {
     size
 }
 
-// The address and the length of each table, or none if the bytes aren't an image.
-fn plain(alloc: Global, bytes: &[u8], rsdp: u64) -> Result<Vec<(u64, u64)>, Fail> {
-    let none = Vec::new(alloc);
+// The address and the length of the XSDT, if the RSDP at an address is right.
+fn listed(bytes: &[u8], rsdp: u64) -> Option<(u64, u64)> {
     let pointer = at(bytes, rsdp, 36);
     if !pointer.starts_with(b"RSD PTR ") || number(pointer, 15, 1) != 2 {
-        return Ok(none);
+        return None;
     }
     if number(pointer, 20, 4) != 36 || !sums(pointer) || !sums(at(pointer, BASE, 20)) {
-        return Ok(none);
+        return None;
     }
     let xsdt = number(pointer, 24, 8);
     let size = size_at(bytes, xsdt);
     if !at(bytes, xsdt, size).starts_with(b"XSDT") || size % 8 != 4 {
-        return Ok(none);
+        return None;
     }
-    let mut found = vec![in alloc; (rsdp, 36), (xsdt, size)]?;
-    let mut fadt = 0;
-    let mut fadts = 0u32;
+    Some((xsdt, size))
+}
+
+// Adds the tables that an XSDT lists, and returns the address of the only FADT, if all are right.
+fn add_listed(
+    bytes: &[u8],
+    (xsdt, size): (u64, u64),
+    found: &mut Vec<(u64, u64)>,
+) -> R<Option<u64>> {
+    let mut fadt = None;
     for i in 0..size.saturating_sub(36) / 8 {
         let place = xsdt.wrapping_sub(BASE).wrapping_add(36);
         let address = number(bytes, place.wrapping_add(i.wrapping_mul(8)), 8);
         let length = size_at(bytes, address);
         if length == 0 {
-            return Ok(none);
+            return Ok(None);
         }
         if at(bytes, address, 4) == b"FACP".as_slice() {
-            fadt = address;
-            fadts = fadts.wrapping_add(1);
+            if fadt.is_some() {
+                return Ok(None);
+            }
+            fadt = Some(address);
         }
         found.push((address, length))?;
     }
-    if fadts != 1 || size_at(bytes, fadt) < 148 {
-        return Ok(none);
+    Ok(fadt)
+}
+
+// Adds the tables to which an FADT points, and tells whether they are right.
+fn add_pointed(bytes: &[u8], fadt: u64, found: &mut Vec<(u64, u64)>) -> R<bool> {
+    if size_at(bytes, fadt) < 148 {
+        return Ok(false);
     }
     let facs = number(at(bytes, fadt, 148), 132, 8);
     let dsdt = number(at(bytes, fadt, 148), 140, 8);
@@ -78,16 +92,42 @@ fn plain(alloc: Global, bytes: &[u8], rsdp: u64) -> Result<Vec<(u64, u64)>, Fail
     if !at(bytes, facs, 64).starts_with(b"FACS\x40\0\0\0")
         || !at(bytes, dsdt, length).starts_with(b"DSDT")
     {
-        return Ok(none);
+        return Ok(false);
     }
     found.push((facs, 64))?;
     found.push((dsdt, length))?;
+    Ok(true)
+}
+
+fn overlap(found: &[(u64, u64)]) -> bool {
     for (i, (address, length)) in found.iter().enumerate() {
         for (other, size) in found.iter().skip(i.wrapping_add(1)) {
             if *address < other.wrapping_add(*size) && *other < address.wrapping_add(*length) {
-                return Ok(none);
+                return true;
             }
         }
+    }
+    false
+}
+
+// Adds all tables of an image, and tells whether the bytes are one.
+fn add_all(bytes: &[u8], rsdp: u64, found: &mut Vec<(u64, u64)>) -> R<bool> {
+    let Some(xsdt) = listed(bytes, rsdp) else {
+        return Ok(false);
+    };
+    found.push((rsdp, 36))?;
+    found.push(xsdt)?;
+    let Some(fadt) = add_listed(bytes, xsdt, found)? else {
+        return Ok(false);
+    };
+    Ok(add_pointed(bytes, fadt, found)? && !overlap(found))
+}
+
+// The address and the length of each table, or none if the bytes aren't an image.
+fn plain(alloc: Global, bytes: &[u8], rsdp: u64) -> R<Vec<(u64, u64)>> {
+    let mut found = Vec::new(alloc);
+    if !add_all(bytes, rsdp, &mut found)? {
+        found.clear();
     }
     Ok(found)
 }
@@ -101,31 +141,49 @@ fn are_same(found: &[Located], wanted: &[(u64, u64)]) -> Result<(), Fail> {
     Ok(())
 }
 
-#[test]
-fn single_bytes(rt: HostRuntime) -> Result<(), Fail> {
-    let alloc = rt.alloc();
-    let sdt = dsdt(alloc, 36)?;
-    let mcfg = mcfg(alloc)?;
-    let made = image(alloc, 0x40, &sdt, vec![in alloc; &mcfg as &dyn Aml]?)?;
-    let mut numbers = Numbers(0x9e37_79b9_7f4a_7c15);
-    let mut accepted = 0u32;
-    for _ in 0..10_000 {
-        let mut bytes = Vec::from_slice(alloc, &made.bytes)?;
-        let place = numbers.below(bytes.len());
-        let change = (numbers.below(255) % 255) as u8;
-        if place >= bytes.len() {
-            return Err(Fail::new("no byte"));
+// Tells whether bytes are an image, and fails unless the plain check says the same.
+fn is_image(alloc: Global, bytes: &[u8], rsdp: u64) -> Result<bool, Fail> {
+    let wanted = plain(alloc, bytes, rsdp)?;
+    match check_image(alloc, bytes, BASE, rsdp) {
+        Ok(found) => {
+            are_same(&found, &wanted)?;
+            Ok(true)
         }
-        bytes[place] = bytes[place].wrapping_add(change).wrapping_add(1);
-        let wanted = plain(alloc, &bytes, made.rsdp)?;
-        match check_image(alloc, &bytes, BASE, made.rsdp) {
-            Ok(found) => {
-                are_same(&found, &wanted)?;
-                accepted = accepted.wrapping_add(1);
-            }
-            Err(_) => equal(&wanted.len(), &0)?,
+        Err(_) => {
+            equal(&wanted.len(), &0)?;
+            Ok(false)
         }
     }
+}
+
+// The bytes with one that was changed at random.
+fn changed(alloc: Global, bytes: &[u8], numbers: &mut Numbers) -> Result<Vec<u8>, Fail> {
+    let mut bytes = Vec::from_slice(alloc, bytes)?;
+    let place = numbers.below(bytes.len());
+    let change = (numbers.below(255) % 255) as u8;
+    if place >= bytes.len() {
+        return Err(Fail::new("no byte"));
+    }
+    bytes[place] = bytes[place].wrapping_add(change).wrapping_add(1);
+    Ok(bytes)
+}
+
+// Of this many changed images, the number of those that are images.
+fn accepted(alloc: Global, made: &Image, count: u32) -> Result<u32, Fail> {
+    let mut numbers = Numbers(0x9e37_79b9_7f4a_7c15);
+    let mut accepted = 0u32;
+    for _ in 0..count {
+        let bytes = changed(alloc, &made.bytes, &mut numbers)?;
+        if is_image(alloc, &bytes, made.rsdp)? {
+            accepted = accepted.wrapping_add(1);
+        }
+    }
+    Ok(accepted)
+}
+
+#[test]
+fn single_bytes(rt: HostRuntime) -> Result<(), Fail> {
+    let accepted = accepted(rt.alloc(), &sample(rt.alloc())?, 10_000)?;
     // Of 548 bytes, 80 count for nothing: 56 of the FACS, and 24 in gaps.
     equal(&(accepted > 1_300 && accepted < 1_600), &true)
 }

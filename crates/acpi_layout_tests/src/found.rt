@@ -1,7 +1,7 @@
 //! Images that are read back, and the fault of each that is broken.
 
 use crate::layout::{dsdt, image, mcfg};
-use acpi_tables::Aml;
+use acpi_tables::R;
 use acpi_tables::layout::{Image, ImageFault, Located, check_image};
 use acpi_vectors::{agree, equal};
 use std::alloc::Global;
@@ -9,10 +9,9 @@ use std::test::Fail;
 
 // The FACS at 0x1000, the DSDT at 0x1040 (36 bytes), the FADT at 0x1068 (276), the MCFG at 0x1180 (60), the XSDT at 0x11c0 (52) and
 // the RSDP at 0x1200.
-fn sample(alloc: Global) -> Result<Image, Fail> {
-    let sdt = dsdt(alloc, 36)?;
+pub(crate) fn sample(alloc: Global) -> R<Image> {
     let mcfg = mcfg(alloc)?;
-    Ok(image(alloc, 0x40, &sdt, vec![in alloc; &mcfg as &dyn Aml]?)?)
+    image(alloc, 0x40, &dsdt(alloc, 36)?, &[&mcfg])
 }
 
 pub(crate) fn located(address: u64, length: u32, signature: &[u8; 4]) -> Located {
@@ -23,28 +22,51 @@ pub(crate) fn located(address: u64, length: u32, signature: &[u8; 4]) -> Located
     }
 }
 
+// Fails unless these tables are found in bytes, in this order.
+fn finds_all(
+    alloc: Global,
+    (bytes, base, rsdp): (&[u8], u64, u64),
+    wanted: &[Located],
+) -> Result<(), Fail> {
+    let found = check_image(alloc, bytes, base, rsdp)?;
+    equal(&found.as_slice(), &wanted)
+}
+
+// Fails unless this many tables are found in bytes.
+pub(crate) fn finds(
+    alloc: Global,
+    (bytes, base, rsdp): (&[u8], u64, u64),
+    count: usize,
+) -> Result<(), Fail> {
+    equal(&check_image(alloc, bytes, base, rsdp)?.len(), &count)
+}
+
+// Fails unless an image at 0x1000 has these tables, of which the FADT and the next have these offsets.
+pub(crate) fn has_tables(
+    alloc: Global,
+    image: Image,
+    places: [u64; 2],
+    wanted: &[Located],
+) -> Result<(), Fail> {
+    finds_all(alloc, (&image.bytes, 0x1000, image.rsdp), wanted)?;
+    equal(&image.places.as_slice(), &places.as_slice())
+}
+
 #[test]
 fn tables_in_order(rt: HostRuntime) -> Result<(), Fail> {
-    let alloc = rt.alloc();
-    let made = sample(alloc)?;
-    let found = check_image(alloc, &made.bytes, 0x1000, made.rsdp)?;
-    let wanted = [
-        located(0x1200, 36, b"RSD "),
-        located(0x11c0, 52, b"XSDT"),
-        located(0x1068, 276, b"FACP"),
-        located(0x1180, 60, b"MCFG"),
-        located(0x1000, 64, b"FACS"),
-        located(0x1040, 36, b"DSDT"),
-    ];
-    equal(&found.len(), &6)?;
-    for (found, wanted) in found.iter().zip(&wanted) {
-        equal(found, wanted)?;
-    }
-    equal(&made.places.len(), &2)?;
-    for (place, wanted) in made.places.iter().zip([0x68, 0x180]) {
-        equal(place, &wanted)?;
-    }
-    Ok(())
+    has_tables(
+        rt.alloc(),
+        sample(rt.alloc())?,
+        [0x68, 0x180],
+        &[
+            located(0x1200, 36, b"RSD "),
+            located(0x11c0, 52, b"XSDT"),
+            located(0x1068, 276, b"FACP"),
+            located(0x1180, 60, b"MCFG"),
+            located(0x1000, 64, b"FACS"),
+            located(0x1040, 36, b"DSDT"),
+        ],
+    )
 }
 
 // Writes bytes over those at an offset.
@@ -56,6 +78,21 @@ fn overwrite(bytes: &mut Vec<u8>, at: usize, with: &[u8]) -> Result<(), Fail> {
     Ok(())
 }
 
+// The bytes of an image, with these over those at an offset.
+fn overwritten(alloc: Global, made: &Image, at: usize, with: &[u8]) -> Result<Vec<u8>, Fail> {
+    let mut bytes = Vec::from_slice(alloc, &made.bytes)?;
+    overwrite(&mut bytes, at, with)?;
+    Ok(bytes)
+}
+
+// Fails unless bytes have this fault, where the RSDP is looked for at an address.
+fn has_fault(alloc: Global, bytes: &[u8], rsdp: u64, wanted: ImageFault) -> Result<(), Fail> {
+    match check_image(alloc, bytes, 0x1000, rsdp) {
+        Err(fault) => equal(&fault, &wanted),
+        Ok(_) => Err(Fail::new("no fault")),
+    }
+}
+
 // With these bytes at their offset, the image has this fault.
 pub(crate) fn faults(
     alloc: Global,
@@ -63,21 +100,17 @@ pub(crate) fn faults(
     rows: &[(usize, &[u8], ImageFault)],
 ) -> Result<(), Fail> {
     for (at, with, wanted) in rows {
-        let mut bytes = Vec::from_slice(alloc, &made.bytes)?;
-        overwrite(&mut bytes, *at, *with)?;
-        let found = check_image(alloc, &bytes, 0x1000, made.rsdp);
-        equal(&found.err(), &Some(*wanted))?;
+        let bytes = overwritten(alloc, made, *at, *with)?;
+        has_fault(alloc, &bytes, made.rsdp, *wanted)?;
     }
     Ok(())
 }
 
 #[test]
 fn wrong_pointers(rt: HostRuntime) -> Result<(), Fail> {
-    let alloc = rt.alloc();
-    let made = sample(alloc)?;
     faults(
-        alloc,
-        &made,
+        rt.alloc(),
+        &sample(rt.alloc())?,
         &[
             // X_FIRMWARE_CTRL: the DSDT, 64 bytes of which the last are past the end, one byte before the image
             (0xec, b"\x40\x10", ImageFault::Signature(0x1040)),
@@ -107,13 +140,30 @@ fn wrong_pointers(rt: HostRuntime) -> Result<(), Fail> {
                 ImageFault::Outside(0x1224),
             ),
         ],
-    )?;
-    for rsdp in [0, 0xfff, 0x1201, u64::MAX] {
-        let found = check_image(alloc, &made.bytes, 0x1000, rsdp);
-        equal(&found.err(), &Some(ImageFault::Outside(rsdp)))?;
+    )
+}
+
+// Fails unless bytes have these faults, where the RSDP is looked for at these addresses.
+fn has_faults(alloc: Global, bytes: &[u8], rows: &[(u64, ImageFault)]) -> Result<(), Fail> {
+    for (rsdp, wanted) in rows {
+        has_fault(alloc, bytes, *rsdp, *wanted)?;
     }
-    let found = check_image(alloc, &made.bytes, 0x1000, 0x11c0);
-    equal(&found.err(), &Some(ImageFault::Signature(0x11c0)))
+    Ok(())
+}
+
+#[test]
+fn wrong_addresses_of_the_rsdp(rt: HostRuntime) -> Result<(), Fail> {
+    has_faults(
+        rt.alloc(),
+        &sample(rt.alloc())?.bytes,
+        &[
+            (0, ImageFault::Outside(0)),
+            (0xfff, ImageFault::Outside(0xfff)),
+            (0x1201, ImageFault::Outside(0x1201)),
+            (u64::MAX, ImageFault::Outside(u64::MAX)),
+            (0x11c0, ImageFault::Signature(0x11c0)),
+        ],
+    )
 }
 
 #[test]
@@ -132,21 +182,19 @@ fn overlaps(rt: HostRuntime) -> Result<(), Fail> {
     )
 }
 
-#[test]
-fn entry_twice(rt: HostRuntime) -> Result<(), Fail> {
-    let alloc = rt.alloc();
-    let sdt = dsdt(alloc, 36)?;
+// The second MCFG is at 0x11c0, the XSDT at 0x1200, the RSDP at 0x1240.
+fn two_mcfgs(alloc: Global) -> R<Image> {
     let first = mcfg(alloc)?;
     let second = mcfg(alloc)?;
-    // the second MCFG at 0x11c0, the XSDT at 0x1200, the RSDP at 0x1240
-    let tables = vec![in alloc; &first as &dyn Aml, &second]?;
-    let made = image(alloc, 0x40, &sdt, tables)?;
-    equal(
-        &check_image(alloc, &made.bytes, 0x1000, made.rsdp)?.len(),
-        &7,
-    )?;
+    image(alloc, 0x40, &dsdt(alloc, 36)?, &[&first, &second])
+}
+
+#[test]
+fn entry_twice(rt: HostRuntime) -> Result<(), Fail> {
+    let made = two_mcfgs(rt.alloc())?;
+    finds(rt.alloc(), (&made.bytes, 0x1000, made.rsdp), 7)?;
     faults(
-        alloc,
+        rt.alloc(),
         &made,
         &[
             (0x234, b"\x80\x11", ImageFault::Overlap(0x1180, 0x1180)),
@@ -212,47 +260,64 @@ fn names_and_sums(rt: HostRuntime) -> Result<(), Fail> {
 // A reserved byte of the RSDP counts for the second sum alone.
 #[test]
 fn second_sum(rt: HostRuntime) -> Result<(), Fail> {
-    let alloc = rt.alloc();
-    let made = sample(alloc)?;
-    let mut bytes = Vec::from_slice(alloc, &made.bytes)?;
-    overwrite(&mut bytes, 0x221, b"\x01")?;
-    let found = check_image(alloc, &bytes, 0x1000, made.rsdp);
-    equal(&found.err(), &Some(ImageFault::Sum(0x1200)))?;
-    overwrite(&mut bytes, 0x220, b"\x0a")?;
-    equal(&check_image(alloc, &bytes, 0x1000, made.rsdp)?.len(), &6)
+    let image = sample(rt.alloc())?;
+    let fault = ImageFault::Sum(0x1200);
+    faults(rt.alloc(), &image, &[(0x221, b"\x01", fault)])?;
+    let bytes = overwritten(rt.alloc(), &image, 0x220, b"\x0a\x01")?;
+    finds(rt.alloc(), (&bytes, 0x1000, image.rsdp), 6)
+}
+
+fn tells(alloc: Global, fault: ImageFault, wanted: &str) -> Result<(), Fail> {
+    agree(&format!(in alloc; "{fault}")?, wanted)
 }
 
 #[test]
 fn texts(rt: HostRuntime) -> Result<(), Fail> {
     let alloc = rt.alloc();
-    for (fault, wanted) in [
-        (ImageFault::Memory, "out of memory"),
-        (
-            ImageFault::Outside(0x1c00_0040),
-            "at 0x1c000040: the table isn't in the image",
-        ),
-        (ImageFault::Signature(0), "at 0x0: the signature is wrong"),
-        (ImageFault::Length(0xa0), "at 0xa0: the length is wrong"),
-        (ImageFault::Revision(0xa0), "at 0xa0: the revision isn't 2"),
-        (
-            ImageFault::Sum(0xa0),
-            "at 0xa0: the bytes don't sum to zero",
-        ),
-        (
-            ImageFault::Entries(0xa0),
-            "at 0xa0: the XSDT doesn't end after a whole entry",
-        ),
-        (ImageFault::NoFadt(0xa0), "at 0xa0: the XSDT lists no FADT"),
-        (
-            ImageFault::SecondFadt(0xa0),
-            "at 0xa0: this is a second FADT",
-        ),
-        (
-            ImageFault::Overlap(0xa0, u64::MAX),
-            "at 0xa0: the table overlaps the one at 0xffffffffffffffff",
-        ),
-    ] {
-        agree(&format!(in alloc; "{fault}")?, wanted)?;
-    }
-    Ok(())
+    tells(alloc, ImageFault::Memory, "out of memory")?;
+    tells(
+        alloc,
+        ImageFault::Outside(0x1c00_0040),
+        "at 0x1c000040: the table isn't in the image",
+    )?;
+    tells(
+        alloc,
+        ImageFault::Signature(0),
+        "at 0x0: the signature is wrong",
+    )?;
+    tells(
+        alloc,
+        ImageFault::Length(0xa0),
+        "at 0xa0: the length is wrong",
+    )?;
+    tells(
+        alloc,
+        ImageFault::Revision(0xa0),
+        "at 0xa0: the revision isn't 2",
+    )?;
+    tells(
+        alloc,
+        ImageFault::Sum(0xa0),
+        "at 0xa0: the bytes don't sum to zero",
+    )?;
+    tells(
+        alloc,
+        ImageFault::Entries(0xa0),
+        "at 0xa0: the XSDT doesn't end after a whole entry",
+    )?;
+    tells(
+        alloc,
+        ImageFault::NoFadt(0xa0),
+        "at 0xa0: the XSDT lists no FADT",
+    )?;
+    tells(
+        alloc,
+        ImageFault::SecondFadt(0xa0),
+        "at 0xa0: this is a second FADT",
+    )?;
+    tells(
+        alloc,
+        ImageFault::Overlap(0xa0, u64::MAX),
+        "at 0xa0: the table overlaps the one at 0xffffffffffffffff",
+    )
 }

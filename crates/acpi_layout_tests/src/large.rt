@@ -1,24 +1,25 @@
 //! An image whose tables pass 65,535 bytes, at an address of different bytes.
 
-use crate::layout::{SHARED, dsdt, holds, image, mcfg};
-use acpi_tables::Aml;
-use acpi_tables::sdt::Sdt;
-use acpi_vectors::{OEM, OEM_REVISION, OEM_TABLE, equal};
+use crate::layout::{SHARED, dsdt, image, is, mcfg, ssdt};
+use acpi_tables::R;
+use acpi_tables::layout::Image;
+use std::alloc::Global;
 use std::test::Fail;
+
+fn large(alloc: Global) -> R<Image> {
+    let ssdt = ssdt(alloc, 66_051)?;
+    let mcfg = mcfg(alloc)?;
+    let units = 0x00a0_9c98_9490_4906;
+    image(alloc, units, &dsdt(alloc, 65_723)?, &[&ssdt, &mcfg])
+}
 
 // From 0x2827_2625_2412_4180 on: the DSDT ends at 0x100fb, the FADT stands at 0x10100, the SSDT at 0x10218 and up to 0x2041b.
 #[test]
 fn addresses(rt: HostRuntime) -> Result<(), Fail> {
-    let alloc = rt.alloc();
-    let sdt = dsdt(alloc, 65_723)?;
-    let ssdt = Sdt::new(alloc, *b"SSDT", 66_051, 2, OEM, OEM_TABLE, OEM_REVISION)?;
-    let mcfg = mcfg(alloc)?;
-    let tables = vec![in alloc; &ssdt as &dyn Aml, &mcfg]?;
-    let image = image(alloc, 0x00a0_9c98_9490_4906, &sdt, tables)?;
-    equal(&image.rsdp, &0x2827_2625_2414_4620)?;
-    holds(
-        alloc,
-        &image.bytes,
+    is(
+        rt.alloc(),
+        large(rt.alloc())?,
+        0x2827_2625_2414_4620,
         132_292,
         &[
             (0, &SHARED),

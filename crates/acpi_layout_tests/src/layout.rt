@@ -1,8 +1,9 @@
 //! Images of tables at their addresses.
 
+use crate::found::{finds, sample};
 use acpi_tables::facs::FACS;
 use acpi_tables::fadt::FADTBuilder;
-use acpi_tables::layout::{Image, check_image, lay};
+use acpi_tables::layout::{Image, lay};
 use acpi_tables::mcfg::MCFG;
 use acpi_tables::read::Table;
 use acpi_tables::rhct::IsaStringNode;
@@ -27,8 +28,12 @@ pub(crate) fn mcfg(alloc: Global) -> R<MCFG> {
     Ok(table)
 }
 
+pub(crate) fn ssdt(alloc: Global, length: u32) -> R<Sdt> {
+    Sdt::new(alloc, *b"SSDT", length, 2, OEM, OEM_TABLE, OEM_REVISION)
+}
+
 // An image at a multiple of 64.
-pub(crate) fn image(alloc: Global, units: u64, sdt: &Sdt, tables: Vec<&dyn Aml>) -> R<Image> {
+fn image_of(units: u64, sdt: &Sdt, tables: Vec<&dyn Aml>) -> R<Image> {
     let base = units % 0x0400_0000_0000_0000 * 64;
     lay(
         base,
@@ -42,13 +47,12 @@ pub(crate) fn image(alloc: Global, units: u64, sdt: &Sdt, tables: Vec<&dyn Aml>)
     )
 }
 
+pub(crate) fn image(alloc: Global, units: u64, sdt: &Sdt, tables: &[&dyn Aml]) -> R<Image> {
+    image_of(units, sdt, Vec::from_slice(alloc, tables)?)
+}
+
 // All bytes are zero but these at their offsets.
-pub(crate) fn holds(
-    alloc: Global,
-    bytes: &[u8],
-    size: usize,
-    parts: &[(usize, &[u8])],
-) -> Result<(), Fail> {
+fn holds(alloc: Global, bytes: &[u8], size: usize, parts: &[(usize, &[u8])]) -> Result<(), Fail> {
     let mut wanted = Vec::new(alloc);
     wanted.resize(size, 0)?;
     for (at, part) in parts {
@@ -58,6 +62,18 @@ pub(crate) fn holds(
         wanted[*at..*at + part.len()].copy_from_slice(*part);
     }
     same(bytes, &wanted)
+}
+
+// An image has its RSDP at this address, and its bytes are zero but these at their offsets.
+pub(crate) fn is(
+    alloc: Global,
+    image: Image,
+    rsdp: u64,
+    size: usize,
+    parts: &[(usize, &[u8])],
+) -> Result<(), Fail> {
+    equal(&image.rsdp, &rsdp)?;
+    holds(alloc, &image.bytes, size, parts)
 }
 
 // The FACS without its zeros at the end, a DSDT of 36 bytes, an FADT up to its DSDT's address.
@@ -70,15 +86,16 @@ const FIXED: [u8; 36] = *b"FACP\x14\x01\0\0\x06\x1aFOOBARCAFEDEAD\xef\xbe\xad\xd
 
 const POINTERS: [u8; 17] = *b"\x05\0\x10\0\0\0\0\0\0\x40\x10\0\0\0\0\0\0";
 
+fn without_tables(alloc: Global) -> R<Image> {
+    image(alloc, 0x40, &dsdt(alloc, 36)?, &[])
+}
+
 #[test]
 fn no_tables(rt: HostRuntime) -> Result<(), Fail> {
-    let alloc = rt.alloc();
-    let sdt = dsdt(alloc, 36)?;
-    let image = image(alloc, 0x40, &sdt, Vec::new(alloc))?;
-    equal(&image.rsdp, &0x11b0)?;
-    holds(
-        alloc,
-        &image.bytes,
+    is(
+        rt.alloc(),
+        without_tables(rt.alloc())?,
+        0x11b0,
         468,
         &[
             (0, &SHARED),
@@ -99,14 +116,10 @@ fn no_tables(rt: HostRuntime) -> Result<(), Fail> {
 
 #[test]
 fn one_table(rt: HostRuntime) -> Result<(), Fail> {
-    let alloc = rt.alloc();
-    let sdt = dsdt(alloc, 36)?;
-    let mcfg = mcfg(alloc)?;
-    let image = image(alloc, 0x40, &sdt, vec![in alloc; &mcfg as &dyn Aml]?)?;
-    equal(&image.rsdp, &0x1200)?;
-    holds(
-        alloc,
-        &image.bytes,
+    is(
+        rt.alloc(),
+        sample(rt.alloc())?,
+        0x1200,
         548,
         &[
             (0, &SHARED),
@@ -145,24 +158,87 @@ pub(crate) fn number(bytes: &[u8], offset: u64, width: u64) -> u64 {
     value
 }
 
-// The table at an address, as long as it tells.
-fn table_at(bytes: &[u8], base: u64, address: u64) -> Result<Table<'_>, Fail> {
-    let offset = address.wrapping_sub(base);
-    let size = number(bytes, offset.wrapping_add(4), 4) as usize;
+// This many bytes at an offset, or none.
+fn part(bytes: &[u8], offset: u64, size: u64) -> &[u8] {
     let at = offset as usize;
-    let table = bytes.get(at..at.wrapping_add(size)).unwrap_or(&[]);
-    Ok(Table::check(table)?)
+    bytes.get(at..at.wrapping_add(size as usize)).unwrap_or(&[])
 }
 
-// There are fewer zeros than a unit between two addresses, of which the second is a multiple of the unit.
-fn gap(bytes: &[u8], base: u64, from: u64, to: u64, unit: u64) -> Result<(), Fail> {
-    if unit == 0 || to % unit != 0 || from > to || to - from >= unit {
-        return Err(Fail::new(format_args!("no gap from {from} to {to}")));
-    }
-    for address in from..to {
-        equal(&number(bytes, address.wrapping_sub(base), 1), &0)?;
+// The signature and the bytes of the table at an offset, as long as it tells.
+fn table_at(bytes: &[u8], offset: u64) -> Result<([u8; 4], &[u8]), Fail> {
+    let size = number(bytes, offset.wrapping_add(4), 4);
+    let table = Table::check(part(bytes, offset, size))?;
+    Ok((table.signature(), table.bytes()))
+}
+
+// There are at most this many bytes between two offsets, all zero. The second offset is a multiple of the number after it.
+fn gap(bytes: &[u8], from: u64, to: u64, most: u64) -> Result<(), Fail> {
+    equal(&(to & most, to.wrapping_sub(from) <= most), &(0, true))?;
+    for offset in from..to {
+        equal(&number(bytes, offset, 1), &0)?;
     }
     Ok(())
+}
+
+// The offset of the XSDT, which the RSDP at the end has.
+fn listed(bytes: &[u8], base: u64, rsdp: u64) -> Result<u64, Fail> {
+    let place = rsdp.wrapping_sub(base);
+    equal(&(bytes.len() as u64), &place.wrapping_add(36))?;
+    same(part(bytes, place, 8), b"RSD PTR ")?;
+    Ok(number(bytes, place.wrapping_add(24), 8).wrapping_sub(base))
+}
+
+// The FADT at an offset points to the FACS at the start and to this DSDT, which ends before it. Returns the FADT's end.
+fn points(bytes: &[u8], base: u64, offset: u64, sdt: &Sdt) -> Result<u64, Fail> {
+    let (signature, fadt) = table_at(bytes, offset)?;
+    equal(&signature, b"FACP")?;
+    equal(&number(fadt, 36, 8), &0)?;
+    equal(&number(fadt, 132, 8), &base)?;
+    equal(&number(fadt, 140, 8), &base.wrapping_add(64))?;
+    same(part(bytes, 0, 8), b"FACS\x40\0\0\0")?;
+    let (_, contents) = table_at(bytes, 64)?;
+    same(contents, sdt.as_slice())?;
+    gap(bytes, 64u64.wrapping_add(sdt.len() as u64), offset, 7)?;
+    Ok(offset.wrapping_add(276))
+}
+
+// This table stands at an offset, with zeros before it. Returns its end.
+fn stands_at(
+    alloc: Global,
+    bytes: &[u8],
+    before: u64,
+    offset: u64,
+    wanted: &dyn Aml,
+) -> Result<u64, Fail> {
+    let (_, table) = table_at(bytes, offset)?;
+    writes(alloc, wanted, table)?;
+    let _ = pieces(alloc, table)?;
+    gap(bytes, before, offset, 7)?;
+    Ok(offset.wrapping_add(table.len() as u64))
+}
+
+// The number of pieces of a table.
+fn pieces(alloc: Global, table: &[u8]) -> Result<usize, Fail> {
+    Ok(Table::check(table)?.pieces(alloc)?.len())
+}
+
+// At the entries of an XSDT are the FADT and these tables, in order. Returns the end of the last.
+fn stand(
+    alloc: Global,
+    (bytes, base): (&[u8], u64),
+    xsdt: &[u8],
+    sdt: &Sdt,
+    tables: &[&dyn Aml],
+) -> Result<u64, Fail> {
+    let fadt = number(xsdt, 36, 8).wrapping_sub(base);
+    let mut end = points(bytes, base, fadt, sdt)?;
+    let mut entry = 44u64;
+    for wanted in tables {
+        let offset = number(xsdt, entry, 8).wrapping_sub(base);
+        end = stands_at(alloc, bytes, end, offset, *wanted)?;
+        entry = entry.wrapping_add(8);
+    }
+    Ok(end)
 }
 
 // From the RSDP on all tables are found, in order and whole, and between them are zeros.
@@ -174,176 +250,152 @@ fn follows(
     tables: &[&dyn Aml],
 ) -> Result<(), Fail> {
     let bytes = image.bytes.as_slice();
-    let rsdp = image.rsdp.wrapping_sub(base);
-    let at = rsdp as usize;
-    equal(&bytes.len(), &at.wrapping_add(36))?;
-    same(
-        bytes.get(at..at.wrapping_add(8)).unwrap_or(&[]),
-        b"RSD PTR ",
-    )?;
-    let listed = number(bytes, rsdp.wrapping_add(24), 8);
-    let xsdt = table_at(bytes, base, listed)?;
-    equal(&xsdt.signature(), b"XSDT")?;
-    let entries = xsdt.pieces(alloc)?;
-    let Some((first, entries)) = entries.split_first() else {
-        return Err(Fail::new("no entry"));
-    };
-    equal(&entries.len(), &tables.len())?;
+    let listed = listed(bytes, base, image.rsdp)?;
+    let (signature, xsdt) = table_at(bytes, listed)?;
+    equal(&signature, b"XSDT")?;
+    equal(&pieces(alloc, xsdt)?, &tables.len().wrapping_add(1))?;
+    let end = stand(alloc, (bytes, base), xsdt, sdt, tables)?;
+    gap(bytes, end, listed, 7)?;
+    let end = listed.wrapping_add(xsdt.len() as u64);
+    gap(bytes, end, image.rsdp.wrapping_sub(base), 15)?;
+    finds(
+        alloc,
+        (bytes, base, image.rsdp),
+        tables.len().wrapping_add(5),
+    )
+}
 
-    let first = number(first.bytes, 0, 8);
-    let fadt = table_at(bytes, base, first)?;
-    equal(&fadt.signature(), b"FACP")?;
-    let contents = number(fadt.bytes(), 140, 8);
-    for (at, address) in [(36, 0), (132, base), (140, base.wrapping_add(64))] {
-        equal(&number(fadt.bytes(), at, 8), &address)?;
-    }
-    same(bytes.get(..8).unwrap_or(&[]), b"FACS\x40\0\0\0")?;
-    let block = table_at(bytes, base, contents)?;
-    same(block.bytes(), sdt.as_slice())?;
-    gap(
-        bytes,
-        base,
-        contents.wrapping_add(sdt.len() as u64),
-        first,
-        8,
-    )?;
+// The image of these tables at a multiple of 64, all of which are found in it.
+fn laid(alloc: Global, units: u64, sdt: &Sdt, tables: &[&dyn Aml]) -> Result<Image, Fail> {
+    let made = image(alloc, units, sdt, tables)?;
+    follows(alloc, units.wrapping_mul(64), &made, sdt, tables)?;
+    Ok(made)
+}
 
-    let mut end = first.wrapping_add(276);
-    for (entry, wanted) in entries.iter().zip(tables) {
-        let address = number(entry.bytes, 0, 8);
-        let table = table_at(bytes, base, address)?;
-        writes(alloc, *wanted, table.bytes())?;
-        table.pieces(alloc)?;
-        gap(bytes, base, end, address, 8)?;
-        end = address.wrapping_add(table.bytes().len() as u64);
-    }
-    gap(bytes, base, end, listed, 8)?;
-    let end = listed.wrapping_add(xsdt.bytes().len() as u64);
-    gap(bytes, base, end, image.rsdp, 16)?;
-
-    let found = check_image(alloc, bytes, base, image.rsdp)?;
-    equal(&found.len(), &tables.len().wrapping_add(5))
+// A DSDT of 36 bytes and an SSDT of 37, both longer by a number, between two MCFGs.
+fn lays_three(alloc: Global, units: u64, more: u32) -> Result<(), Fail> {
+    let mcfg = mcfg(alloc)?;
+    let other = ssdt(alloc, more.wrapping_add(37))?;
+    let sdt = dsdt(alloc, more.wrapping_add(36))?;
+    laid(alloc, units, &sdt, &[&mcfg, &other, &mcfg])?;
+    Ok(())
 }
 
 #[test]
 fn pointers(rt: HostRuntime) -> Result<(), Fail> {
-    let alloc = rt.alloc();
     // 0, 0x1000, 0x1c00_0000, above 32 bits, the last 32 KiB
     for units in [0, 0x40, 0x0070_0000, 0x0400_0001, 0x03ff_ffff_ffff_fe00] {
         for more in 0..17u32 {
-            let sdt = dsdt(alloc, more.wrapping_add(36))?;
-            let mcfg = mcfg(alloc)?;
-            let other = Sdt::new(
-                alloc,
-                *b"SSDT",
-                more.wrapping_add(37),
-                2,
-                OEM,
-                OEM_TABLE,
-                OEM_REVISION,
-            )?;
-            let made = image(
-                alloc,
-                units,
-                &sdt,
-                vec![in alloc; &mcfg as &dyn Aml, &other, &mcfg]?,
-            )?;
-            follows(
-                alloc,
-                units.wrapping_mul(64),
-                &made,
-                &sdt,
-                &[&mcfg, &other, &mcfg],
-            )?;
+            lays_three(rt.alloc(), units, more)?;
         }
     }
     Ok(())
 }
 
-#[test]
-fn many_tables(rt: HostRuntime) -> Result<(), Fail> {
-    let alloc = rt.alloc();
-    let sdt = dsdt(alloc, 1001)?;
-    let mcfg = mcfg(alloc)?;
-    let mut tables: Vec<&dyn Aml> = Vec::new(alloc);
-    let mut same: Vec<&dyn Aml> = Vec::new(alloc);
-    for _ in 0..200u8 {
-        tables.push(&mcfg)?;
-        same.push(&mcfg)?;
-    }
-    let made = image(alloc, 0x40, &sdt, tables)?;
-    // 64 and 1,001 bytes, the FADT at 1,072, tables of 64 bytes from 1,352 on, entries for 201, the RSDP at 15,808
-    equal(&made.rsdp, &0x4dc0)?;
-    equal(&made.bytes.len(), &15_844)?;
-    follows(alloc, 0x1000, &made, &sdt, &same)
+// An image with 200 times the same table.
+fn laid_often(alloc: Global, table: &dyn Aml) -> Result<Image, Fail> {
+    let tables = vec![in alloc; table; 200]?;
+    laid(alloc, 0x40, &dsdt(alloc, 1001)?, &tables)
 }
 
+// Fails unless an image has its RSDP at this address, and this many bytes.
+fn ends(image: Image, rsdp: u64, size: usize) -> Result<(), Fail> {
+    equal(&(image.rsdp, image.bytes.len()), &(rsdp, size))
+}
+
+// 64 and 1,001 bytes, the FADT at 1,072, tables of 64 bytes from 1,352 on, entries for 201, the RSDP at 15,808.
 #[test]
-fn pointers_of_the_caller(rt: HostRuntime) -> Result<(), Fail> {
-    let alloc = rt.alloc();
-    let sdt = dsdt(alloc, 36)?;
-    let pointing = fadt()
-        .firmware_ctrl_32(0x0403_0201)
-        .dsdt_32(0x0807_0605)
-        .acpi_enable();
-    let made = lay(
+fn many_tables(rt: HostRuntime) -> Result<(), Fail> {
+    let mcfg = mcfg(rt.alloc())?;
+    ends(laid_often(rt.alloc(), &mcfg)?, 0x4dc0, 15_844)
+}
+
+// The image of an FADT to which the caller gave addresses.
+fn pointed(alloc: Global, sdt: &Sdt) -> R<Image> {
+    let fadt = fadt().firmware_ctrl_32(0x0403_0201).dsdt_32(0x0807_0605);
+    lay(
         0x1000,
         OEM,
         OEM_TABLE,
         OEM_REVISION,
-        &sdt,
+        sdt,
         &FACS::new(),
-        pointing,
+        fadt.acpi_enable(),
         Vec::new(alloc),
-    )?;
-    follows(alloc, 0x1000, &made, &sdt, &[])?;
-    equal(&number(&made.bytes, 156, 2), &1)
+    )
+}
+
+// All tables are found in such an image, and ACPI_ENABLE of its FADT is 1.
+fn is_pointed(alloc: Global, image: Image, sdt: &Sdt) -> Result<(), Fail> {
+    follows(alloc, 0x1000, &image, sdt, &[])?;
+    equal(&number(&image.bytes, 156, 2), &1)
 }
 
 #[test]
-fn ends_of_memory(rt: HostRuntime) -> Result<(), Fail> {
-    let alloc = rt.alloc();
-    let small = dsdt(alloc, 36)?;
-    // 468 bytes fit into the last 512, and not into the last 448
-    let made = image(alloc, 0x03ff_ffff_ffff_fff8, &small, Vec::new(alloc))?;
-    equal(&made.rsdp, &0xffff_ffff_ffff_ffb0)?;
-    follows(alloc, 0xffff_ffff_ffff_fe00, &made, &small, &[])?;
+fn pointers_of_the_caller(rt: HostRuntime) -> Result<(), Fail> {
+    let sdt = dsdt(rt.alloc(), 36)?;
+    is_pointed(rt.alloc(), pointed(rt.alloc(), &sdt)?, &sdt)
+}
+
+// 468 bytes fit into the last 512.
+#[test]
+fn the_end_of_memory(rt: HostRuntime) -> Result<(), Fail> {
+    let sdt = dsdt(rt.alloc(), 36)?;
+    let made = laid(rt.alloc(), 0x03ff_ffff_ffff_fff8, &sdt, &[])?;
+    ends(made, 0xffff_ffff_ffff_ffb0, 468)
+}
+
+// 468 bytes don't fit into the last 448.
+#[test]
+fn past_the_end_of_memory(rt: HostRuntime) -> Result<(), Fail> {
+    let sdt = dsdt(rt.alloc(), 36)?;
     for units in 0x03ff_ffff_ffff_fff9..0x0400_0000_0000_0000u64 {
-        refuses(
-            image(alloc, units, &small, Vec::new(alloc)),
-            Error::FieldWidth,
-        )?;
+        refuses(image(rt.alloc(), units, &sdt, &[]), Error::FieldWidth)?;
     }
-    // 500 bytes fit into the last 512, and 516 don't
-    let fits = dsdt(alloc, 68)?;
-    let made = image(alloc, 0x03ff_ffff_ffff_fff8, &fits, Vec::new(alloc))?;
-    equal(&made.bytes.len(), &500)?;
-    equal(&made.rsdp, &0xffff_ffff_ffff_ffd0)?;
-    let passes = dsdt(alloc, 84)?;
-    refuses(
-        image(alloc, 0x03ff_ffff_ffff_fff8, &passes, Vec::new(alloc)),
-        Error::FieldWidth,
-    )
+    Ok(())
+}
+
+// An image at the last 512 bytes, with a DSDT of this length.
+fn at_the_end(alloc: Global, length: u32) -> R<Image> {
+    image(alloc, 0x03ff_ffff_ffff_fff8, &dsdt(alloc, length)?, &[])
+}
+
+// 500 bytes fit into the last 512, and 516 don't.
+#[test]
+fn the_longest_image_at_the_end(rt: HostRuntime) -> Result<(), Fail> {
+    ends(at_the_end(rt.alloc(), 68)?, 0xffff_ffff_ffff_ffd0, 500)?;
+    refuses(at_the_end(rt.alloc(), 84), Error::FieldWidth)
+}
+
+// Fails unless an image of these tables is refused.
+fn refused(alloc: Global, units: u64, tables: Vec<&dyn Aml>, wanted: Error) -> Result<(), Fail> {
+    let sdt = dsdt(alloc, 36)?;
+    refuses(image_of(units, &sdt, tables), wanted)
+}
+
+#[test]
+fn broken_tables(rt: HostRuntime) -> Result<(), Fail> {
+    let mcfg = mcfg(rt.alloc())?;
+    let broken = Broken {};
+    for units in [0, 0x40, 0x03ff_ffff_ffff_ffff] {
+        let alone = vec![in rt.alloc(); &broken as &dyn Aml]?;
+        refused(rt.alloc(), units, alone, Error::Sink(9))?;
+        let between = vec![in rt.alloc(); &mcfg as &dyn Aml, &broken, &mcfg]?;
+        refused(rt.alloc(), units, between, Error::Sink(9))?;
+    }
+    Ok(())
 }
 
 const LETTERS: [u8; 65_526] = [b'a'; 65_526];
 
+// Of two refusals the first is told.
 #[test]
-fn refused_tables(rt: HostRuntime) -> Result<(), Fail> {
-    let alloc = rt.alloc();
-    let sdt = dsdt(alloc, 36)?;
-    let mcfg = mcfg(alloc)?;
+fn the_first_refusal(rt: HostRuntime) -> Result<(), Fail> {
+    let mcfg = mcfg(rt.alloc())?;
     let broken = Broken {};
-    for units in [0, 0x40, 0x03ff_ffff_ffff_ffff] {
-        let alone = vec![in alloc; &broken as &dyn Aml]?;
-        refuses(image(alloc, units, &sdt, alone), Error::Sink(9))?;
-        let between = vec![in alloc; &mcfg as &dyn Aml, &broken, &mcfg]?;
-        refuses(image(alloc, units, &sdt, between), Error::Sink(9))?;
-    }
-    // Of two refusals the first is told.
     let long = IsaStringNode::new(str::from_utf8(&LETTERS)?);
-    let tables = vec![in alloc; &mcfg as &dyn Aml, &long, &broken]?;
-    refuses(image(alloc, 0x40, &sdt, tables), Error::FieldWidth)?;
-    let tables = vec![in alloc; &mcfg as &dyn Aml, &broken, &long]?;
-    refuses(image(alloc, 0x40, &sdt, tables), Error::Sink(9))
+    let tables = vec![in rt.alloc(); &mcfg as &dyn Aml, &long, &broken]?;
+    refused(rt.alloc(), 0x40, tables, Error::FieldWidth)?;
+    let tables = vec![in rt.alloc(); &mcfg as &dyn Aml, &broken, &long]?;
+    refused(rt.alloc(), 0x40, tables, Error::Sink(9))
 }

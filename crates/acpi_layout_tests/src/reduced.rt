@@ -1,39 +1,35 @@
 //! Images of hardware-reduced machines, which need no FACS (ACPI 6.5, 5.2.9).
 
-use crate::found::{faults, located};
-use crate::layout::{dsdt, fadt, holds, mcfg, number};
+use crate::found::{faults, finds, has_tables, located};
+use crate::layout::{dsdt, fadt, is, mcfg, number};
 use acpi_tables::facs::FACS;
 use acpi_tables::fadt::{FADTBuilder, Flags};
-use acpi_tables::layout::{Image, ImageFault, check_image, lay, lay_reduced};
-use acpi_tables::sdt::Sdt;
+use acpi_tables::layout::{Image, ImageFault, lay, lay_reduced};
 use acpi_tables::{Aml, Error, R};
 use acpi_vectors::broken::Broken;
 use acpi_vectors::{OEM, OEM_REVISION, OEM_TABLE, equal, refuses};
 use std::alloc::Global;
 use std::test::Fail;
 
-// An image without a FACS at a multiple of 64.
-fn reduced(units: u64, sdt: &Sdt, fadt: FADTBuilder, tables: Vec<&dyn Aml>) -> R<Image> {
+// An image of a DSDT of 36 bytes, without a FACS, at a multiple of 64.
+fn reduced(alloc: Global, units: u64, fadt: FADTBuilder, tables: &[&dyn Aml]) -> R<Image> {
     let base = units % 0x0400_0000_0000_0000 * 64;
-    lay_reduced(base, OEM, OEM_TABLE, OEM_REVISION, sdt, fadt, tables)
+    let tables = Vec::from_slice(alloc, tables)?;
+    let sdt = dsdt(alloc, 36)?;
+    lay_reduced(base, OEM, OEM_TABLE, OEM_REVISION, &sdt, fadt, tables)
 }
 
 // The DSDT at 0x1000 (36 bytes), the FADT at 0x1028 (276), the MCFG at 0x1140 (60), the XSDT at 0x1180 (52), the RSDP at 0x11c0.
-fn sample(alloc: Global) -> Result<Image, Fail> {
-    let sdt = dsdt(alloc, 36)?;
-    let mcfg = mcfg(alloc)?;
-    Ok(reduced(0x40, &sdt, fadt(), vec![in alloc; &mcfg as &dyn Aml]?)?)
+fn sample(alloc: Global) -> R<Image> {
+    reduced(alloc, 0x40, fadt(), &[&mcfg(alloc)?])
 }
 
 #[test]
 fn no_tables(rt: HostRuntime) -> Result<(), Fail> {
-    let alloc = rt.alloc();
-    let sdt = dsdt(alloc, 36)?;
-    let image = reduced(0x40, &sdt, fadt(), Vec::new(alloc))?;
-    equal(&image.rsdp, &0x1170)?;
-    holds(
-        alloc,
-        &image.bytes,
+    is(
+        rt.alloc(),
+        reduced(rt.alloc(), 0x40, fadt(), &[])?,
+        0x1170,
         404,
         &[
             (
@@ -61,38 +57,34 @@ fn no_tables(rt: HostRuntime) -> Result<(), Fail> {
 
 #[test]
 fn tables_in_order(rt: HostRuntime) -> Result<(), Fail> {
-    let alloc = rt.alloc();
-    let made = sample(alloc)?;
-    let found = check_image(alloc, &made.bytes, 0x1000, made.rsdp)?;
-    let wanted = [
-        located(0x11c0, 36, b"RSD "),
-        located(0x1180, 52, b"XSDT"),
-        located(0x1028, 276, b"FACP"),
-        located(0x1140, 60, b"MCFG"),
-        located(0x1000, 36, b"DSDT"),
-    ];
-    equal(&found.len(), &5)?;
-    for (found, wanted) in found.iter().zip(&wanted) {
-        equal(found, wanted)?;
-    }
-    equal(&made.places.len(), &2)?;
-    for (place, wanted) in made.places.iter().zip([0x28, 0x140]) {
-        equal(place, &wanted)?;
-    }
-    Ok(())
+    has_tables(
+        rt.alloc(),
+        sample(rt.alloc())?,
+        [0x28, 0x140],
+        &[
+            located(0x11c0, 36, b"RSD "),
+            located(0x1180, 52, b"XSDT"),
+            located(0x1028, 276, b"FACP"),
+            located(0x1140, 60, b"MCFG"),
+            located(0x1000, 36, b"DSDT"),
+        ],
+    )
 }
 
-// The other flags are the caller's, and its addresses aren't kept.
-#[test]
-fn fields_of_the_caller(rt: HostRuntime) -> Result<(), Fail> {
-    let alloc = rt.alloc();
-    let sdt = dsdt(alloc, 36)?;
-    let fadt = fadt()
-        .flag(Flags::Headless)
-        .flag(Flags::HwReducedAcpi)
-        .firmware_ctrl_64(0x1000)
-        .dsdt_32(0x1000);
-    let made = reduced(0x40, &sdt, fadt, Vec::new(alloc))?;
+// The image of an FADT with flags and addresses of the caller.
+fn flagged(alloc: Global) -> R<Image> {
+    let fadt = fadt().flag(Flags::Headless).flag(Flags::HwReducedAcpi);
+    let fadt = fadt.firmware_ctrl_64(0x1000).dsdt_32(0x1000);
+    reduced(alloc, 0x40, fadt, &[])
+}
+
+// Fails unless this many tables are found in an image at a base.
+fn has_count(alloc: Global, image: Image, base: u64, count: usize) -> Result<(), Fail> {
+    finds(alloc, (&image.bytes, base, image.rsdp), count)
+}
+
+// Fails unless these bytes of an FADT at 0x28 hold these numbers.
+fn has_fields(bytes: &[u8]) -> Result<(), Fail> {
     for (offset, width, wanted) in [
         (36, 8, 0),
         (112, 4, 0x0010_1000),
@@ -100,20 +92,24 @@ fn fields_of_the_caller(rt: HostRuntime) -> Result<(), Fail> {
         (140, 8, 0x1000),
     ] {
         let place = 0x28u64.wrapping_add(offset);
-        equal(&number(&made.bytes, place, width), &wanted)?;
+        equal(&number(bytes, place, width), &wanted)?;
     }
-    equal(
-        &check_image(alloc, &made.bytes, 0x1000, made.rsdp)?.len(),
-        &4,
-    )
+    Ok(())
+}
+
+// The other flags are the caller's, and its addresses aren't kept.
+#[test]
+fn fields_of_the_caller(rt: HostRuntime) -> Result<(), Fail> {
+    let image = flagged(rt.alloc())?;
+    has_fields(&image.bytes)?;
+    has_count(rt.alloc(), image, 0x1000, 4)
 }
 
 #[test]
 fn faults_without_a_facs(rt: HostRuntime) -> Result<(), Fail> {
-    let alloc = rt.alloc();
     faults(
-        alloc,
-        &sample(alloc)?,
+        rt.alloc(),
+        &sample(rt.alloc())?,
         &[
             // Flags without bit 20: none, and all others
             (0x9a, b"\0", ImageFault::Outside(0)),
@@ -128,44 +124,53 @@ fn faults_without_a_facs(rt: HostRuntime) -> Result<(), Fail> {
     )
 }
 
+// An image with a FACS, and without other tables, at a multiple of 64.
+fn with_facs(alloc: Global, units: u64, fadt: FADTBuilder) -> R<Image> {
+    let base = units % 0x0400_0000_0000_0000 * 64;
+    lay(
+        base,
+        OEM,
+        OEM_TABLE,
+        OEM_REVISION,
+        &dsdt(alloc, 36)?,
+        &FACS::new(),
+        fadt,
+        Vec::new(alloc),
+    )
+}
+
 // A FACS at the address 0 isn't found in a hardware-reduced machine, and is in any other.
 #[test]
 fn facs_of_a_reduced_machine(rt: HostRuntime) -> Result<(), Fail> {
     let alloc = rt.alloc();
-    let sdt = dsdt(alloc, 36)?;
-    for (base, fadt, wanted) in [
-        (0, fadt(), 5),
-        (0, fadt().flag(Flags::HwReducedAcpi), 4),
-        (0x1000, fadt().flag(Flags::HwReducedAcpi), 5),
-    ] {
-        let made = lay(
-            base,
-            OEM,
-            OEM_TABLE,
-            OEM_REVISION,
-            &sdt,
-            &FACS::new(),
-            fadt,
-            Vec::new(alloc),
-        )?;
-        let found = check_image(alloc, &made.bytes, base, made.rsdp)?;
-        equal(&found.len(), &wanted)?;
-    }
-    let made = reduced(0, &sdt, fadt(), Vec::new(alloc))?;
-    equal(&check_image(alloc, &made.bytes, 0, made.rsdp)?.len(), &4)
+    let made = with_facs(alloc, 0, fadt())?;
+    has_count(alloc, made, 0, 5)?;
+    let made = with_facs(alloc, 0, fadt().flag(Flags::HwReducedAcpi))?;
+    has_count(alloc, made, 0, 4)?;
+    let made = with_facs(alloc, 0x40, fadt().flag(Flags::HwReducedAcpi))?;
+    has_count(alloc, made, 0x1000, 5)
 }
 
 #[test]
-fn errors(rt: HostRuntime) -> Result<(), Fail> {
-    let alloc = rt.alloc();
-    let sdt = dsdt(alloc, 36)?;
-    // 404 bytes fit into the last 448, and not into the last 384
-    let last = 0x03ff_ffff_ffff_fff9;
-    let made = reduced(last, &sdt, fadt(), Vec::new(alloc))?;
-    equal(&made.rsdp, &0xffff_ffff_ffff_ffb0)?;
-    let past = reduced(0x03ff_ffff_ffff_fffa, &sdt, fadt(), Vec::new(alloc));
-    refuses(past, Error::FieldWidth)?;
-    let broken = Broken {};
-    let tables = vec![in alloc; &broken as &dyn Aml]?;
-    refuses(reduced(0x40, &sdt, fadt(), tables), Error::Sink(9))
+fn an_image_at_0(rt: HostRuntime) -> Result<(), Fail> {
+    has_count(rt.alloc(), reduced(rt.alloc(), 0, fadt(), &[])?, 0, 4)
+}
+
+fn has_rsdp_at(image: Image, rsdp: u64) -> Result<(), Fail> {
+    equal(&image.rsdp, &rsdp)
+}
+
+// 404 bytes fit into the last 448, and not into the last 384.
+#[test]
+fn the_end_of_memory(rt: HostRuntime) -> Result<(), Fail> {
+    let made = reduced(rt.alloc(), 0x03ff_ffff_ffff_fff9, fadt(), &[])?;
+    has_rsdp_at(made, 0xffff_ffff_ffff_ffb0)?;
+    let past = reduced(rt.alloc(), 0x03ff_ffff_ffff_fffa, fadt(), &[]);
+    refuses(past, Error::FieldWidth)
+}
+
+#[test]
+fn a_broken_table(rt: HostRuntime) -> Result<(), Fail> {
+    let made = reduced(rt.alloc(), 0x40, fadt(), &[&Broken {}]);
+    refuses(made, Error::Sink(9))
 }

@@ -6,6 +6,10 @@ mod hmat;
 #[cfg(test)]
 mod large;
 #[cfg(test)]
+mod localities;
+#[cfg(test)]
 mod numbers;
+#[cfg(test)]
+mod side_caches;
 #[cfg(test)]
 mod slit;

@@ -1,44 +1,25 @@
 //! Flags of processors and caches, set twice and after others.
 
-use acpi_tables::pptt::{AllocationType, CacheNodeBuilder, CacheType, ProcessorNode, WritePolicy};
+use crate::pptt::{cache, flagged, processor};
+use acpi_tables::pptt::{AllocationType, CacheType, WritePolicy};
 use acpi_vectors::writes;
-use std::alloc::Global;
 use std::test::Fail;
-
-fn processor(alloc: Global) -> ProcessorNode {
-    ProcessorNode::new(alloc, None, 0x0403_0201)
-}
 
 #[test]
 fn processors(rt: HostRuntime) -> Result<(), Fail> {
     let alloc = rt.alloc();
-    let all = [
-        (processor(alloc).physical().physical(), 1),
-        (processor(alloc).valid().valid(), 2),
-        (processor(alloc).thread().thread(), 4),
-        (processor(alloc).identical().identical(), 16),
-        (processor(alloc).leaf().physical(), 9),
-        (
-            processor(alloc)
-                .identical()
-                .leaf()
-                .thread()
-                .valid()
-                .physical(),
-            31,
-        ),
-    ];
-    for (node, flags) in all {
-        let mut wanted = *b"\0\x14\0\0\0\0\0\0\0\0\0\0\x01\x02\x03\x04\0\0\0\0";
-        wanted[4] = flags;
-        writes(alloc, &node, &wanted)?;
-    }
-    Ok(())
+    flagged(alloc, processor(alloc).physical().physical(), 1)?;
+    flagged(alloc, processor(alloc).valid().valid(), 2)?;
+    flagged(alloc, processor(alloc).thread().thread(), 4)?;
+    flagged(alloc, processor(alloc).identical().identical(), 16)?;
+    flagged(alloc, processor(alloc).leaf().physical(), 9)?;
+    let all = processor(alloc).identical().leaf().thread().valid();
+    flagged(alloc, all.physical(), 31)
 }
 
 #[test]
 fn caches(rt: HostRuntime) -> Result<(), Fail> {
-    let builder = CacheNodeBuilder::default()
+    let builder = cache()
         .id(7)
         .id(0x4443_4241)
         .line_size(7)

@@ -1,8 +1,11 @@
 //! Offsets past 65,535, and numbers of nodes past 65,535.
 
+use crate::pptt::{cache, with_caches};
+use crate::rhct::hart;
 use acpi_base::error::R;
-use acpi_tables::pptt::{CacheNodeBuilder, PPTT, ProcessorNode};
-use acpi_tables::rhct::{CmoNode, HartInfoNode, RHCT, VirtualAddressScheme};
+use acpi_base::object::Aml;
+use acpi_tables::pptt::{CacheHandle, PPTT, ProcessorHandle, ProcessorNode};
+use acpi_tables::rhct::{CmoNode, RHCT, VirtualAddressScheme};
 use acpi_tables::rimt::{IdMapping, Iommu, PcieRootComplex, RIMT};
 use acpi_vectors::table::{many, stands};
 use acpi_vectors::{OEM, OEM_REVISION, OEM_TABLE};
@@ -19,31 +22,61 @@ fn nodes(alloc: Global, node: &[u8], count: u32, last: &[u8]) -> R<Vec<u8>> {
     Ok(bytes)
 }
 
+// Fails unless a table begins with these bytes, and is its header, fixed fields, this many equal nodes, and these after them.
+fn holds(
+    alloc: Global,
+    table: &dyn Aml,
+    head: &[u8; 9],
+    fixed: &[u8],
+    (node, count): (&[u8], u32),
+    last: &[u8],
+) -> Result<(), Fail> {
+    stands(alloc, table, 0, head)?;
+    let signature = [head[0], head[1], head[2], head[3]];
+    let wanted = nodes(alloc, node, count, last)?;
+    many(alloc, table, &signature, head[8], fixed, &wanted, 1)
+}
+
+// Adds 7,001 equal caches, and returns the handle of the last.
+fn add_caches(table: &mut PPTT) -> R<CacheHandle> {
+    let node = cache().id(0x0403_0201).to_node();
+    for _ in 0..7000u16 {
+        table.add_cache(node)?;
+    }
+    table.add_cache(node)
+}
+
+fn add_core(alloc: Global, table: &mut PPTT) -> R<ProcessorHandle> {
+    let shared = add_caches(table)?;
+    let own = table.add_cache(cache().next_level(&shared).to_node())?;
+    let package = with_caches(ProcessorNode::new(alloc, None, 5), &[shared])?;
+    let package = table.add_processor(package)?;
+    let core = ProcessorNode::new(alloc, Some(&package), 6);
+    table.add_processor(with_caches(core, &[own, shared])?)
+}
+
 // The last of 7,001 caches is at 36 + 28 * 7,000, which is 0x2fdc4. The nodes after it are at 0x2fde0, 0x2fdfc and 0x2fe14.
 #[test]
 fn pptt(rt: HostRuntime) -> Result<(), Fail> {
     let alloc = rt.alloc();
     let mut table = PPTT::new(alloc, OEM, OEM_TABLE, OEM_REVISION);
-    let node = CacheNodeBuilder::default().id(0x0403_0201).to_node();
-    let mut shared = table.add_cache(node)?;
-    for _ in 0..7000u16 {
-        shared = table.add_cache(node)?;
-    }
-    let own = CacheNodeBuilder::default().next_level(&shared).to_node();
-    let own = table.add_cache(own)?;
-    let package = ProcessorNode::new(alloc, None, 5).add_cache(&shared)?;
-    let package = table.add_processor(package)?;
-    let core = ProcessorNode::new(alloc, Some(&package), 6)
-        .add_cache(&own)?
-        .add_cache(&shared)?;
-    table.add_processor(core)?;
-    stands(alloc, &table, 0, b"PPTT\x30\xfe\x02\0\x03")?;
+    add_core(alloc, &mut table)?;
     let cache = b"\x01\x1c\0\0\x80\0\0\0\0\0\0\0\0\0\0\0\0\0\0\0\0\0\0\0\x01\x02\x03\x04";
     let last = b"\x01\x1c\0\0\0\0\0\0\xc4\xfd\x02\0\0\0\0\0\0\0\0\0\0\0\0\0\0\0\0\0\
 \0\x18\0\0\0\0\0\0\0\0\0\0\x05\0\0\0\x01\0\0\0\xc4\xfd\x02\0\
 \0\x1c\0\0\0\0\0\0\xfc\xfd\x02\0\x06\0\0\0\x02\0\0\0\xe0\xfd\x02\0\xc4\xfd\x02\0";
-    let wanted = nodes(alloc, cache, 7001, last)?;
-    many(alloc, &table, b"PPTT", 3, &[], &wanted, 1)
+    let head = b"PPTT\x30\xfe\x02\0\x03";
+    holds(alloc, &table, head, &[], (cache, 7001), last)
+}
+
+fn add_hart(alloc: Global, table: &mut RHCT) -> R<()> {
+    for _ in 0..66_047u32 {
+        table.add_mmu_node(VirtualAddressScheme::Sv57)?;
+    }
+    let string = table.add_isa_string("abc")?;
+    let first = table.add_cmo(CmoNode::new(1, 2, 3))?;
+    let second = table.add_cmo(CmoNode::new(4, 5, 6))?;
+    table.add_hart_info(hart(alloc, 0x0403_0201, &string, &[second, first])?)
 }
 
 // 66,047 nodes end at 56 + 8 * 66,047, which is 0x81030. The nodes after the string there are at 0x8103c, 0x81046 and 0x81050.
@@ -51,24 +84,27 @@ fn pptt(rt: HostRuntime) -> Result<(), Fail> {
 fn rhct(rt: HostRuntime) -> Result<(), Fail> {
     let alloc = rt.alloc();
     let mut table = RHCT::new(alloc, OEM, OEM_TABLE, OEM_REVISION, 1);
-    for _ in 0..66_047u32 {
-        table.add_mmu_node(VirtualAddressScheme::Sv57)?;
-    }
-    let string = table.add_isa_string("abc")?;
-    let first = table.add_cmo(CmoNode::new(1, 2, 3))?;
-    let second = table.add_cmo(CmoNode::new(4, 5, 6))?;
-    let hart = HartInfoNode::new(alloc, 0x0403_0201, &string)?
-        .with_cmo(&second)?
-        .with_cmo(&first)?;
-    table.add_hart_info(hart)?;
-    stands(alloc, &table, 0, b"RHCT\x68\x10\x08\0\x01")?;
+    add_hart(alloc, &mut table)?;
     let last = b"\0\0\x0c\0\x01\0\x04\0abc\0\
 \x01\0\x0a\0\x01\0\0\x01\x02\x03\
 \x01\0\x0a\0\x01\0\0\x04\x05\x06\
 \xff\xff\x18\0\x01\0\x03\0\x01\x02\x03\x04\x30\x10\x08\0\x46\x10\x08\0\x3c\x10\x08\0";
-    let wanted = nodes(alloc, b"\x02\0\x08\0\x01\0\0\x02", 66_047, last)?;
+    let head = b"RHCT\x68\x10\x08\0\x01";
     let fixed = b"\0\0\0\0\x01\0\0\0\0\0\0\0\x03\x02\x01\0\x38\0\0\0";
-    many(alloc, &table, b"RHCT", 1, fixed, &wanted, 1)
+    let scheme = b"\x02\0\x08\0\x01\0\0\x02";
+    holds(alloc, &table, head, fixed, (scheme, 66_047), last)
+}
+
+fn add_root_complexes(alloc: Global, table: &mut RIMT) -> R<()> {
+    for _ in 0..66_048u32 {
+        table.add_pcie_root_complex(PcieRootComplex::new(0x0201, 0x0403, false, true, None))?;
+    }
+    let first = table.add_iommu(Iommu::new(7, None, None, None, None))?;
+    let second = table.add_iommu(Iommu::new(8, None, None, None, None))?;
+    let upper = IdMapping::new(1, 2, 3, second, true, false, true);
+    let lower = IdMapping::new(4, 5, 6, first, false, true, true);
+    let mappings = vec![in alloc; upper, lower]?;
+    table.add_pcie_root_complex(PcieRootComplex::new(9, 10, false, false, Some(mappings)))
 }
 
 // 66,048 root complexes end at 48 + 16 * 66,048, which is 0x102030. The devices after the IOMMU there are at 0x102050 and
@@ -77,23 +113,14 @@ fn rhct(rt: HostRuntime) -> Result<(), Fail> {
 fn rimt(rt: HostRuntime) -> Result<(), Fail> {
     let alloc = rt.alloc();
     let mut table = RIMT::new(alloc, OEM, OEM_TABLE, OEM_REVISION);
-    for _ in 0..66_048u32 {
-        table.add_pcie_root_complex(PcieRootComplex::new(0x0201, 0x0403, false, true, None))?;
-    }
-    let first = table.add_iommu(Iommu::new(7, None, None, None, None))?;
-    let second = table.add_iommu(Iommu::new(8, None, None, None, None))?;
-    let mut mappings = Vec::new(alloc);
-    mappings.push(IdMapping::new(1, 2, 3, second, true, false, true))?;
-    mappings.push(IdMapping::new(4, 5, 6, first, false, true, true))?;
-    table.add_pcie_root_complex(PcieRootComplex::new(9, 10, false, false, Some(mappings)))?;
-    stands(alloc, &table, 0, b"RIMT\xa8\x20\x10\0\x01")?;
+    add_root_complexes(alloc, &mut table)?;
     let last = b"\0\x01\x20\0\x07\0\0\0\0\0\0\0\0\0\0\0\0\0\0\0\0\0\0\0\0\0\0\0\0\0\x20\0\
 \0\x01\x20\0\x08\0\0\0\0\0\0\0\0\0\0\0\0\0\0\0\0\0\0\0\0\0\0\0\0\0\x20\0\
 \x01\x01\x38\0\x09\0\x0a\0\0\0\0\0\x10\0\x02\0\
 \x01\0\0\0\x02\0\0\0\x03\0\0\0\x50\x20\x10\0\x05\0\0\0\
 \x04\0\0\0\x05\0\0\0\x06\0\0\0\x30\x20\x10\0\x06\0\0\0";
     let complex = b"\x01\x01\x10\0\x01\x02\x03\x04\x02\0\0\0\x10\0\0\0";
-    let wanted = nodes(alloc, complex, 66_048, last)?;
+    let head = b"RIMT\xa8\x20\x10\0\x01";
     let fixed = b"\x03\x02\x01\0\x30\0\0\0\0\0\0\0";
-    many(alloc, &table, b"RIMT", 1, fixed, &wanted, 1)
+    holds(alloc, &table, head, fixed, (complex, 66_048), last)
 }

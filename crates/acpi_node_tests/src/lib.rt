@@ -16,4 +16,6 @@ mod rhct;
 #[cfg(test)]
 mod rimt;
 #[cfg(test)]
+mod rimt_limits;
+#[cfg(test)]
 mod viot;

@@ -1,8 +1,11 @@
 //! RHCT and its nodes.
 
-use acpi_base::error::Error;
+use crate::rimt::name;
+use crate::rimt_limits::behind;
+use acpi_base::error::{Error, R};
 use acpi_tables::rhct::{
-    CmoNode, HartInfoNode, IsaStringNode, MmuNode, RHCT, VirtualAddressScheme,
+    CmoHandle, CmoNode, HartInfoNode, IsaStringHandle, IsaStringNode, MmuNode, RHCT,
+    VirtualAddressScheme,
 };
 use acpi_vectors::table::many;
 use acpi_vectors::{OEM, OEM_REVISION, OEM_TABLE, all, equal, refuses, writes};
@@ -13,10 +16,15 @@ fn table(alloc: Global) -> RHCT {
     RHCT::new(alloc, OEM, OEM_TABLE, OEM_REVISION, 0x0807_0605_0403_0201)
 }
 
+// Fails unless a table has these bytes.
+fn is(alloc: Global, table: RHCT, wanted: &[u8]) -> Result<(), Fail> {
+    writes(alloc, &table, wanted)
+}
+
 // Fails unless the table is the fixed fields with this number of nodes, and these nodes this many times.
 fn holds(
     alloc: Global,
-    table: &RHCT,
+    table: RHCT,
     number: [u8; 2],
     nodes: &[u8],
     times: u32,
@@ -24,26 +32,53 @@ fn holds(
     let mut fixed = *b"\0\0\0\0\x01\x02\x03\x04\x05\x06\x07\x08\0\0\0\0\x38\0\0\0";
     fixed[12] = number[0];
     fixed[13] = number[1];
-    many(alloc, table, b"RHCT", 1, &fixed, nodes, times)
+    many(alloc, &table, b"RHCT", 1, &fixed, nodes, times)
 }
 
 #[test]
-fn rhct(rt: HostRuntime) -> Result<(), Fail> {
-    let alloc = rt.alloc();
-    let mut table = table(alloc);
-    writes(
-        alloc,
-        &table,
+fn a_table_without_nodes(rt: HostRuntime) -> Result<(), Fail> {
+    is(
+        rt.alloc(),
+        table(rt.alloc()),
         b"RHCT\x38\0\0\0\x01\xeeFOOBARCAFEDEAD\xef\xbe\xad\xdeRVAT\0\0\0\x01\
             \0\0\0\0\x01\x02\x03\x04\x05\x06\x07\x08\0\0\0\0\x38\0\0\0",
-    )?;
-    let string = table.add_isa_string("foobar")?;
+    )
+}
+
+#[test]
+fn a_table_of_a_string(rt: HostRuntime) -> Result<(), Fail> {
+    let mut table = table(rt.alloc());
+    table.add_isa_string("foobar")?;
     let node = b"\0\0\x10\0\x01\0\x07\0foobar\0\0";
-    holds(alloc, &table, [1, 0], node, 1)?;
-    table.add_hart_info(HartInfoNode::new(alloc, 3, &string)?)?;
-    writes(
-        alloc,
-        &table,
+    holds(rt.alloc(), table, [1, 0], node, 1)
+}
+
+// A hart of this number, this ISA string and these block sizes.
+pub(crate) fn hart(
+    alloc: Global,
+    number: u32,
+    string: &IsaStringHandle,
+    blocks: &[CmoHandle],
+) -> R<HartInfoNode> {
+    let mut hart = HartInfoNode::new(alloc, number, string)?;
+    for block in blocks {
+        hart = hart.with_cmo(block)?;
+    }
+    Ok(hart)
+}
+
+fn add_hart(alloc: Global, table: &mut RHCT) -> R<()> {
+    let string = table.add_isa_string("foobar")?;
+    table.add_hart_info(hart(alloc, 3, &string, &[])?)
+}
+
+#[test]
+fn a_table_of_a_string_and_a_hart(rt: HostRuntime) -> Result<(), Fail> {
+    let mut table = table(rt.alloc());
+    add_hart(rt.alloc(), &mut table)?;
+    is(
+        rt.alloc(),
+        table,
         b"RHCT\x58\0\0\0\x01\xf0FOOBARCAFEDEAD\xef\xbe\xad\xdeRVAT\0\0\0\x01\
             \0\0\0\0\x01\x02\x03\x04\x05\x06\x07\x08\x02\0\0\0\x38\0\0\0\
             \0\0\x10\0\x01\0\x07\0foobar\0\0\
@@ -51,41 +86,65 @@ fn rhct(rt: HostRuntime) -> Result<(), Fail> {
     )
 }
 
-// A text made at run time, and the offsets of handles and of their copies.
-#[test]
-fn made_text(rt: HostRuntime) -> Result<(), Fail> {
-    let alloc = rt.alloc();
-    let mut table = table(alloc);
-    let width = 64;
-    let text = format!(in alloc; "rv{width}i")?;
-    let string = table.add_isa_string(&text)?;
-    let node = b"\0\0\x0e\0\x01\0\x06\0rv64i\0";
-    holds(alloc, &table, [1, 0], node, 1)?;
-    let blocks = table.add_cmo(CmoNode::new(6, 7, 8))?;
-    let copy = blocks;
-    equal(&string.offset(), &56)?;
-    equal(&copy.offset(), &70)?;
-    let hart = HartInfoNode::new(alloc, 3, &string)?;
-    equal(&hart.offset_count(), &1)?;
-    let hart = hart.with_cmo(&copy)?.with_cmo(&blocks)?;
-    equal(&hart.offset_count(), &3)
+fn add_made_text(alloc: Global, table: &mut RHCT) -> R<IsaStringHandle> {
+    let mut text = String::from_str(alloc, "rv64")?;
+    text.push('i')?;
+    table.add_isa_string(&text)
 }
 
-// Two harts, each with its own string and block sizes.
 #[test]
-fn handles(rt: HostRuntime) -> Result<(), Fail> {
-    let alloc = rt.alloc();
-    let mut table = table(alloc);
-    let first = table.add_isa_string("rv64i")?;
+fn a_text_made_at_run_time(rt: HostRuntime) -> Result<(), Fail> {
+    let mut table = table(rt.alloc());
+    add_made_text(rt.alloc(), &mut table)?;
+    let node = b"\0\0\x0e\0\x01\0\x06\0rv64i\0";
+    holds(rt.alloc(), table, [1, 0], node, 1)
+}
+
+// Adds a string of 14 bytes and block sizes, and returns their handles.
+fn add_both(table: &mut RHCT) -> R<(IsaStringHandle, CmoHandle)> {
+    let string = table.add_isa_string("rv64i")?;
     let blocks = table.add_cmo(CmoNode::new(6, 7, 8))?;
+    Ok((string, blocks))
+}
+
+fn both(alloc: Global) -> R<(IsaStringHandle, CmoHandle)> {
+    add_both(&mut table(alloc))
+}
+
+#[test]
+fn offsets_of_handles_and_copies(rt: HostRuntime) -> Result<(), Fail> {
+    let (string, blocks) = both(rt.alloc())?;
+    let copy = blocks;
+    equal(&(string.offset(), copy.offset()), &(56, 70))
+}
+
+fn offset_count(alloc: Global, string: &IsaStringHandle, blocks: &[CmoHandle]) -> R<usize> {
+    let hart = hart(alloc, 3, string, blocks)?;
+    Ok(hart.offset_count())
+}
+
+#[test]
+fn offsets_of_a_hart_are_counted(rt: HostRuntime) -> Result<(), Fail> {
+    let (string, blocks) = both(rt.alloc())?;
+    let copy = blocks;
+    equal(&offset_count(rt.alloc(), &string, &[])?, &1)?;
+    equal(&offset_count(rt.alloc(), &string, &[copy, blocks])?, &3)
+}
+
+// Adds two harts, each with its own string and block sizes.
+fn add_two_harts(alloc: Global, table: &mut RHCT) -> R<()> {
+    let (first, blocks) = add_both(table)?;
     table.add_mmu_node(VirtualAddressScheme::Sv48)?;
     let second = table.add_isa_string("rv64")?;
     let others = table.add_cmo(CmoNode::new(9, 10, 11))?;
-    let hart = HartInfoNode::new(alloc, 0x0403_0201, &second)?
-        .with_cmo(&others)?
-        .with_cmo(&blocks)?;
-    table.add_hart_info(hart)?;
-    table.add_hart_info(HartInfoNode::new(alloc, u32::MAX, &first)?.with_cmo(&blocks)?)?;
+    table.add_hart_info(hart(alloc, 0x0403_0201, &second, &[others, blocks])?)?;
+    table.add_hart_info(hart(alloc, u32::MAX, &first, &[blocks])?)
+}
+
+#[test]
+fn handles(rt: HostRuntime) -> Result<(), Fail> {
+    let mut table = table(rt.alloc());
+    add_two_harts(rt.alloc(), &mut table)?;
     let nodes = b"\0\0\x0e\0\x01\0\x06\0rv64i\0\
 \x01\0\x0a\0\x01\0\0\x06\x07\x08\
 \x02\0\x08\0\x01\0\0\x01\
@@ -93,7 +152,7 @@ fn handles(rt: HostRuntime) -> Result<(), Fail> {
 \x01\0\x0a\0\x01\0\0\x09\x0a\x0b\
 \xff\xff\x18\0\x01\0\x03\0\x01\x02\x03\x04\x58\0\0\0\x66\0\0\0\x46\0\0\0\
 \xff\xff\x14\0\x01\0\x02\0\xff\xff\xff\xff\x38\0\0\0\x46\0\0\0";
-    holds(alloc, &table, [7, 0], nodes, 1)
+    holds(rt.alloc(), table, [7, 0], nodes, 1)
 }
 
 #[test]
@@ -117,27 +176,31 @@ fn isa_strings(rt: HostRuntime) -> Result<(), Fail> {
     Ok(())
 }
 
-const LETTERS: [u8; 65_526] = [b'a'; 65_526];
+// With a text of 65,526 bytes the length would be 65,536. After that refusal the table takes the text without its last byte.
+fn takes_longest(alloc: Global, table: &mut RHCT) -> Result<(), Fail> {
+    let longer = name(alloc, 65_526)?;
+    refuses(table.add_isa_string(&longer), Error::FieldWidth)?;
+    table.add_isa_string(&name(alloc, 65_525)?)?;
+    Ok(())
+}
 
-// With a text of 65,526 bytes the length would be 65,536.
-#[test]
-fn longest_isa_string(rt: HostRuntime) -> Result<(), Fail> {
-    let alloc = rt.alloc();
-    let text = str::from_utf8(&LETTERS)?;
-    let mut table = table(alloc);
-    refuses(table.add_isa_string(text), Error::FieldWidth)?;
-    table.add_isa_string(text.get(..65_525).ok_or("text")?)?;
-    let mut node = Vec::from_slice(alloc, b"\0\0\xfe\xff\x01\0\xf6\xff")?;
-    node.extend_from_slice(&LETTERS[..65_525])?;
+fn longest_node(alloc: Global) -> R<Vec<u8>> {
+    let mut node = behind(alloc, b"\0\0\xfe\xff\x01\0\xf6\xff", b"n", 65_525)?;
     node.push(0)?;
-    holds(alloc, &table, [1, 0], &node, 1)
+    Ok(node)
 }
 
 #[test]
-fn blocks_and_schemes(rt: HostRuntime) -> Result<(), Fail> {
-    let alloc = rt.alloc();
+fn longest_isa_string(rt: HostRuntime) -> Result<(), Fail> {
+    let mut table = table(rt.alloc());
+    takes_longest(rt.alloc(), &mut table)?;
+    holds(rt.alloc(), table, [1, 0], &longest_node(rt.alloc())?, 1)
+}
+
+#[test]
+fn block_sizes_and_schemes(rt: HostRuntime) -> Result<(), Fail> {
     all(
-        alloc,
+        rt.alloc(),
         &[
             (&CmoNode::new(1, 2, 3), b"\x01\0\x0a\0\x01\0\0\x01\x02\x03"),
             (
@@ -157,65 +220,91 @@ fn blocks_and_schemes(rt: HostRuntime) -> Result<(), Fail> {
                 b"\x02\0\x08\0\x01\0\0\x02",
             ),
         ],
-    )?;
-    let mut table = table(alloc);
+    )
+}
+
+#[test]
+fn a_table_of_two_schemes(rt: HostRuntime) -> Result<(), Fail> {
+    let mut table = table(rt.alloc());
     table.add_mmu_node(VirtualAddressScheme::Sv39)?;
     table.add_mmu_node(VirtualAddressScheme::Sv57)?;
     let nodes = b"\x02\0\x08\0\x01\0\0\0\x02\0\x08\0\x01\0\0\x02";
-    holds(alloc, &table, [2, 0], nodes, 1)
+    holds(rt.alloc(), table, [2, 0], nodes, 1)
+}
+
+// A hart of a string and of 16,379 block sizes, which are as many as it can have.
+fn full_hart(alloc: Global, string: &IsaStringHandle, blocks: CmoHandle) -> R<HartInfoNode> {
+    hart(alloc, 7, string, &vec![in alloc; blocks; 16379]?)
+}
+
+#[test]
+fn too_many_offsets(rt: HostRuntime) -> Result<(), Fail> {
+    let (string, blocks) = both(rt.alloc())?;
+    let full = full_hart(rt.alloc(), &string, blocks)?;
+    refuses(full.with_cmo(&blocks), Error::FieldWidth)
+}
+
+fn add_full_hart(alloc: Global, table: &mut RHCT) -> Result<(), Fail> {
+    let string = table.add_isa_string("ab")?;
+    let blocks = table.add_cmo(CmoNode::new(4, 5, 6))?;
+    table.add_hart_info(full_hart(alloc, &string, blocks)?)?;
+    equal(&table.len(), &(56 + 22 + 65532))
 }
 
 #[test]
 fn most_offsets(rt: HostRuntime) -> Result<(), Fail> {
-    let alloc = rt.alloc();
-    let mut table = table(alloc);
-    let string = table.add_isa_string("ab")?;
-    let blocks = table.add_cmo(CmoNode::new(4, 5, 6))?;
-    let mut hart = HartInfoNode::new(alloc, 7, &string)?;
-    let mut most = HartInfoNode::new(alloc, 7, &string)?;
-    let mut wanted = Vec::new(alloc);
-    wanted.extend_from_slice(b"\0\0\x0c\0\x01\0\x03\0ab\0\0")?;
-    wanted.extend_from_slice(b"\x01\0\x0a\0\x01\0\0\x04\x05\x06")?;
-    wanted.extend_from_slice(b"\xff\xff\xfc\xff\x01\0\xfc\x3f\x07\0\0\0\x38\0\0\0")?;
-    for _ in 0..16379u16 {
-        hart = hart.with_cmo(&blocks)?;
-        most = most.with_cmo(&blocks)?;
-        wanted.extend_from_slice(b"\x44\0\0\0")?;
-    }
-    equal(&wanted.len(), &(22 + 65532))?;
-    assert!(rt; matches!(most.with_cmo(&blocks), Err(Error::FieldWidth)));
-    table.add_hart_info(hart)?;
-    holds(alloc, &table, [3, 0], &wanted, 1)
+    let mut table = table(rt.alloc());
+    add_full_hart(rt.alloc(), &mut table)?;
+    // the fixed fields, the string, the block sizes, and the hart before its last 16,379 offsets
+    let fixed = b"\0\0\0\0\x01\x02\x03\x04\x05\x06\x07\x08\x03\0\0\0\x38\0\0\0\
+\0\0\x0c\0\x01\0\x03\0ab\0\0\
+\x01\0\x0a\0\x01\0\0\x04\x05\x06\
+\xff\xff\xfc\xff\x01\0\xfc\x3f\x07\0\0\0\x38\0\0\0";
+    many(rt.alloc(), &table, b"RHCT", 1, fixed, b"\x44\0\0\0", 16379)
 }
 
 #[test]
-fn many_nodes(rt: HostRuntime) -> Result<(), Fail> {
-    let alloc = rt.alloc();
-    let mut strings = table(alloc);
-    let mut blocks = table(alloc);
-    let mut schemes = table(alloc);
+fn many_strings(rt: HostRuntime) -> Result<(), Fail> {
+    let mut table = table(rt.alloc());
     for _ in 0..256u16 {
-        strings.add_isa_string("abc")?;
-        blocks.add_cmo(CmoNode::new(1, 2, 3))?;
-        schemes.add_mmu_node(VirtualAddressScheme::Sv57)?;
+        table.add_isa_string("abc")?;
     }
     let node = b"\0\0\x0c\0\x01\0\x04\0abc\0";
-    holds(alloc, &strings, [0, 1], node, 256)?;
+    holds(rt.alloc(), table, [0, 1], node, 256)
+}
+
+#[test]
+fn many_block_sizes(rt: HostRuntime) -> Result<(), Fail> {
+    let mut table = table(rt.alloc());
+    for _ in 0..256u16 {
+        table.add_cmo(CmoNode::new(1, 2, 3))?;
+    }
     let node = b"\x01\0\x0a\0\x01\0\0\x01\x02\x03";
-    holds(alloc, &blocks, [0, 1], node, 256)?;
+    holds(rt.alloc(), table, [0, 1], node, 256)
+}
+
+#[test]
+fn many_schemes(rt: HostRuntime) -> Result<(), Fail> {
+    let mut table = table(rt.alloc());
+    for _ in 0..256u16 {
+        table.add_mmu_node(VirtualAddressScheme::Sv57)?;
+    }
     let node = b"\x02\0\x08\0\x01\0\0\x02";
-    holds(alloc, &schemes, [0, 1], node, 256)
+    holds(rt.alloc(), table, [0, 1], node, 256)
+}
+
+fn add_harts(alloc: Global, table: &mut RHCT, string: &IsaStringHandle) -> R<()> {
+    for _ in 0..300u16 {
+        table.add_hart_info(hart(alloc, 9, string, &[])?)?;
+    }
+    Ok(())
 }
 
 #[test]
 fn many_harts(rt: HostRuntime) -> Result<(), Fail> {
-    let alloc = rt.alloc();
-    let mut other = table(alloc);
-    let string = other.add_isa_string("a")?;
-    let mut table = table(alloc);
-    for _ in 0..300u16 {
-        table.add_hart_info(HartInfoNode::new(alloc, 9, &string)?)?;
-    }
+    let string = table(rt.alloc()).add_isa_string("a")?;
+    let mut table = table(rt.alloc());
+    add_harts(rt.alloc(), &mut table, &string)?;
     let node = b"\xff\xff\x10\0\x01\0\x01\0\x09\0\0\0\x38\0\0\0";
-    holds(alloc, &table, [0x2c, 1], node, 300)
+    holds(rt.alloc(), table, [0x2c, 1], node, 300)
 }

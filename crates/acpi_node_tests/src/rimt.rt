@@ -1,44 +1,43 @@
 //! RIMT and its devices.
 
-use acpi_base::error::{Error, R};
-use acpi_base::object::Aml;
+use acpi_base::error::R;
 use acpi_tables::rimt::{
     IdMapping, InterruptWire, Iommu, IommuOffset, PciDevice, PcieRootComplex, Platform, RIMT,
 };
 use acpi_vectors::table::{many, stands};
-use acpi_vectors::{OEM, OEM_REVISION, OEM_TABLE, all, equal, refuses, same, writes};
+use acpi_vectors::{OEM, OEM_REVISION, OEM_TABLE, writes};
 use std::alloc::Global;
 use std::test::Fail;
-
-// The fields after the header of a table of one device.
-const ONE_DEVICE: [u8; 12] = *b"\x01\0\0\0\x30\0\0\0\0\0\0\0";
 
 // An IOMMU of zeros without wires.
 const PLAIN_IOMMU: [u8; 32] =
     *b"\0\x01\x20\0\0\0\0\0\0\0\0\0\0\0\0\0\0\0\0\0\0\0\0\0\0\0\0\0\0\0\x20\0";
 
-fn table(alloc: Global) -> RIMT {
+pub(crate) fn table(alloc: Global) -> RIMT {
     RIMT::new(alloc, OEM, OEM_TABLE, OEM_REVISION)
 }
 
 fn four_wires(alloc: Global) -> R<Vec<InterruptWire>> {
     let mut wires = Vec::new(alloc);
-    wires.push(InterruptWire::new(1, true, false, 1))?;
-    wires.push(InterruptWire::new(2, false, true, 2))?;
-    wires.push(InterruptWire::new(3, true, true, 3))?;
-    wires.push(InterruptWire::new(4, false, false, 4))?;
+    for (number, level, high) in [
+        (1, true, false),
+        (2, false, true),
+        (3, true, true),
+        (4, false, false),
+    ] {
+        wires.push(InterruptWire::new(u32::from(number), level, high, number))?;
+    }
     Ok(wires)
 }
 
 fn two_mappings(alloc: Global, iommu: IommuOffset) -> R<Vec<IdMapping>> {
-    let mut mappings = Vec::new(alloc);
-    mappings.push(IdMapping::new(1, 2, 10, iommu, true, true, false))?;
-    mappings.push(IdMapping::new(2, 3, 5, iommu, false, false, true))?;
-    Ok(mappings)
+    let first = IdMapping::new(1, 2, 10, iommu, true, true, false);
+    let second = IdMapping::new(2, 3, 5, iommu, false, false, true);
+    Ok(vec![in alloc; first, second]?)
 }
 
-// This many equal wires, and this many equal mappings.
-fn wires(alloc: Global, count: u16) -> R<Vec<InterruptWire>> {
+// This many equal wires.
+pub(crate) fn wires(alloc: Global, count: u16) -> R<Vec<InterruptWire>> {
     let mut wires = Vec::new(alloc);
     for _ in 0..count {
         wires.push(InterruptWire::new(0x0403_0201, false, true, 0x0605))?;
@@ -46,72 +45,77 @@ fn wires(alloc: Global, count: u16) -> R<Vec<InterruptWire>> {
     Ok(wires)
 }
 
-fn mappings(alloc: Global, iommu: IommuOffset, count: u16) -> R<Vec<IdMapping>> {
+fn add_plain_iommu(table: &mut RIMT) -> R<IommuOffset> {
+    table.add_iommu(Iommu::new(0, None, None, None, None))
+}
+
+// The offset of the first device of a table.
+fn first_offset(alloc: Global) -> R<IommuOffset> {
+    add_plain_iommu(&mut table(alloc))
+}
+
+fn mapping(iommu: IommuOffset) -> IdMapping {
+    let (source, target, count) = (0x0403_0201, 0x0807_0605, 0x0c0b_0a09);
+    IdMapping::new(source, target, count, iommu, false, true, false)
+}
+
+// This many equal mappings to the first device of a table.
+pub(crate) fn mappings(alloc: Global, count: u16) -> R<Vec<IdMapping>> {
+    let iommu = first_offset(alloc)?;
     let mut mappings = Vec::new(alloc);
     for _ in 0..count {
-        mappings.push(IdMapping::new(
-            0x0403_0201,
-            0x0807_0605,
-            0x0c0b_0a09,
-            iommu,
-            false,
-            true,
-            false,
-        ))?;
+        mappings.push(mapping(iommu))?;
     }
     Ok(mappings)
 }
 
-// A head, and the bytes of this many equal entries after it.
-fn behind(alloc: Global, head: &[u8], entry: &[u8], count: u16) -> R<Vec<u8>> {
-    let mut bytes = Vec::new(alloc);
-    bytes.extend_from_slice(head)?;
+// A name of this many letters.
+pub(crate) fn name(alloc: Global, count: u32) -> R<String> {
+    let mut name = String::new(alloc);
     for _ in 0..count {
-        bytes.extend_from_slice(entry)?;
+        name.push('n')?;
     }
-    Ok(bytes)
+    Ok(name)
 }
 
-fn text(alloc: Global, count: u32) -> Result<String, Fail> {
-    let mut text = String::new(alloc);
-    for _ in 0..count {
-        text.push('n')?;
-    }
-    Ok(text)
-}
-
-const WIRE: &[u8] = b"\x01\x02\x03\x04\x02\0\x05\x06";
-
-// A mapping to the first IOMMU of a table.
-const MAPPING: &[u8] = b"\x01\x02\x03\x04\x05\x06\x07\x08\x09\x0a\x0b\x0c\x30\0\0\0\x02\0\0\0";
-
-// The offset of the first device of a table.
-fn first_offset(alloc: Global) -> R<IommuOffset> {
-    table(alloc).add_iommu(Iommu::new(0, None, None, None, None))
+// Fails unless a table has these bytes.
+fn is(alloc: Global, table: RIMT, wanted: &[u8]) -> Result<(), Fail> {
+    writes(alloc, &table, wanted)
 }
 
 #[test]
-fn empty(rt: HostRuntime) -> Result<(), Fail> {
-    let alloc = rt.alloc();
-    writes(
-        alloc,
-        &table(alloc),
+fn a_table_without_devices(rt: HostRuntime) -> Result<(), Fail> {
+    is(
+        rt.alloc(),
+        table(rt.alloc()),
         b"RIMT\x30\0\0\0\x01\x17FOOBARCAFEDEAD\xef\xbe\xad\xdeRVAT\0\0\0\x01\0\0\0\0\x30\0\0\0\0\0\0\0",
     )
 }
 
+// Adds an IOMMU with four wires, and returns two mappings to it.
+fn add_iommu(
+    alloc: Global,
+    table: &mut RIMT,
+    base: Option<u64>,
+    device: Option<PciDevice>,
+) -> R<Vec<IdMapping>> {
+    let wires = four_wires(alloc)?;
+    let offset = table.add_iommu(Iommu::new(1, base, device, Some(15), Some(wires)))?;
+    two_mappings(alloc, offset)
+}
+
+fn add_root_complex(alloc: Global, table: &mut RIMT) -> R<()> {
+    let mappings = add_iommu(alloc, table, None, Some(PciDevice::new(5, 6, 7, 7)))?;
+    table.add_pcie_root_complex(PcieRootComplex::new(1, 1, true, true, Some(mappings)))
+}
+
 #[test]
 fn a_root_complex(rt: HostRuntime) -> Result<(), Fail> {
-    let alloc = rt.alloc();
-    let mut table = table(alloc);
-    let device = PciDevice::new(5, 6, 7, 7);
-    let iommu = Iommu::new(1, None, Some(device), Some(15), Some(four_wires(alloc)?));
-    let offset = table.add_iommu(iommu)?;
-    let mappings = two_mappings(alloc, offset)?;
-    table.add_pcie_root_complex(PcieRootComplex::new(1, 1, true, true, Some(mappings)))?;
-    writes(
-        alloc,
-        &table,
+    let mut table = table(rt.alloc());
+    add_root_complex(rt.alloc(), &mut table)?;
+    is(
+        rt.alloc(),
+        table,
         b"RIMT\xa8\0\0\0\x01\xf2FOOBARCAFEDEAD\xef\xbe\xad\xdeRVAT\0\0\0\x01\
             \x02\0\0\0\x30\0\0\0\0\0\0\0\
             \0\x01\x40\0\x01\0\0\0\0\0\0\0\0\0\0\0\
@@ -124,18 +128,19 @@ fn a_root_complex(rt: HostRuntime) -> Result<(), Fail> {
     )
 }
 
+fn add_platform(alloc: Global, table: &mut RIMT) -> R<()> {
+    let name = String::from_str(alloc, "FULL.PATH.TO.DEVICE")?;
+    let mappings = add_iommu(alloc, table, Some(0x1000), None)?;
+    table.add_platform(Platform::new(1, name, Some(mappings)))
+}
+
 #[test]
 fn a_platform_device(rt: HostRuntime) -> Result<(), Fail> {
-    let alloc = rt.alloc();
-    let mut table = table(alloc);
-    let iommu = Iommu::new(1, Some(0x1000), None, Some(15), Some(four_wires(alloc)?));
-    let offset = table.add_iommu(iommu)?;
-    let mappings = two_mappings(alloc, offset)?;
-    let name = String::from_str(alloc, "FULL.PATH.TO.DEVICE")?;
-    table.add_platform(Platform::new(1, name, Some(mappings)))?;
-    writes(
-        alloc,
-        &table,
+    let mut table = table(rt.alloc());
+    add_platform(rt.alloc(), &mut table)?;
+    is(
+        rt.alloc(),
+        table,
         b"RIMT\xb8\0\0\0\x01\xc3FOOBARCAFEDEAD\xef\xbe\xad\xdeRVAT\0\0\0\x01\
             \x02\0\0\0\x30\0\0\0\0\0\0\0\
             \0\x01\x40\0\x01\0\0\0\0\x10\0\0\0\0\0\0\
@@ -150,28 +155,45 @@ fn a_platform_device(rt: HostRuntime) -> Result<(), Fail> {
 }
 
 #[test]
-fn wires_and_mappings(rt: HostRuntime) -> Result<(), Fail> {
-    let alloc = rt.alloc();
-    let offset = first_offset(alloc)?;
-    all(
-        alloc,
-        &[
-            (
-                &InterruptWire::new(u32::MAX, true, true, u16::MAX),
-                b"\xff\xff\xff\xff\x03\0\xff\xff",
-            ),
-            (&InterruptWire::new(0, false, false, 0), b"\0\0\0\0\0\0\0\0"),
-            (
-                &InterruptWire::new(0x0403_0201, true, false, 0x0605),
-                b"\x01\x02\x03\x04\x01\0\x05\x06",
-            ),
-            (&InterruptWire::new(0x0403_0201, false, true, 0x0605), WIRE),
-            (
-                &IdMapping::new(u32::MAX, u32::MAX, u32::MAX, offset, true, true, true),
-                b"\xff\xff\xff\xff\xff\xff\xff\xff\xff\xff\xff\xff\x30\0\0\0\x07\0\0\0",
-            ),
-        ],
-    )?;
+fn interrupt_wires(rt: HostRuntime) -> Result<(), Fail> {
+    let rows: [(u32, bool, bool, u16, &[u8]); 4] = [
+        (
+            u32::MAX,
+            true,
+            true,
+            u16::MAX,
+            b"\xff\xff\xff\xff\x03\0\xff\xff",
+        ),
+        (0, false, false, 0, b"\0\0\0\0\0\0\0\0"),
+        (
+            0x0403_0201,
+            true,
+            false,
+            0x0605,
+            b"\x01\x02\x03\x04\x01\0\x05\x06",
+        ),
+        (
+            0x0403_0201,
+            false,
+            true,
+            0x0605,
+            b"\x01\x02\x03\x04\x02\0\x05\x06",
+        ),
+    ];
+    for (number, level, high, aplic, wanted) in rows {
+        let wire = InterruptWire::new(number, level, high, aplic);
+        writes(rt.alloc(), &wire, wanted)?;
+    }
+    Ok(())
+}
+
+fn mapping_is(alloc: Global, made: IdMapping, wanted: &[u8; 20]) -> Result<(), Fail> {
+    writes(alloc, &made, wanted)
+}
+
+#[test]
+fn flags_of_mappings(rt: HostRuntime) -> Result<(), Fail> {
+    let offset = first_offset(rt.alloc())?;
     for (ats, pri, rciep, flags) in [
         (false, false, false, 0),
         (true, false, false, 1),
@@ -182,234 +204,176 @@ fn wires_and_mappings(rt: HostRuntime) -> Result<(), Fail> {
     ] {
         let mut wanted = *b"\0\0\0\0\0\0\0\0\0\0\0\0\x30\0\0\0\0\0\0\0";
         wanted[16] = flags;
-        writes(
-            alloc,
-            &IdMapping::new(0, 0, 0, offset, ats, pri, rciep),
-            &wanted,
-        )?;
+        let made = IdMapping::new(0, 0, 0, offset, ats, pri, rciep);
+        mapping_is(rt.alloc(), made, &wanted)?;
     }
     Ok(())
 }
 
 #[test]
-fn iommus(rt: HostRuntime) -> Result<(), Fail> {
+fn the_highest_mapping(rt: HostRuntime) -> Result<(), Fail> {
+    let offset = first_offset(rt.alloc())?;
+    mapping_is(
+        rt.alloc(),
+        IdMapping::new(u32::MAX, u32::MAX, u32::MAX, offset, true, true, true),
+        b"\xff\xff\xff\xff\xff\xff\xff\xff\xff\xff\xff\xff\x30\0\0\0\x07\0\0\0",
+    )
+}
+
+// Fails unless an IOMMU has these bytes.
+pub(crate) fn iommu(alloc: Global, made: Iommu, wanted: &[u8]) -> Result<(), Fail> {
+    writes(alloc, &made, wanted)
+}
+
+#[test]
+fn iommus_of_zeros(rt: HostRuntime) -> Result<(), Fail> {
     let alloc = rt.alloc();
-    let zero = PciDevice::new(0, 0, 0, 0);
-    let mut with_device = PLAIN_IOMMU;
-    with_device[16] = 1;
-    let mut with_domain = PLAIN_IOMMU;
-    with_domain[16] = 2;
-    let last = PciDevice::new(u16::MAX, 0xff, 31, 7);
-    let most = Iommu::new(
-        u16::MAX,
-        Some(u64::MAX),
-        Some(last),
-        Some(u32::MAX),
-        Some(wires(alloc, 1)?),
-    );
-    let device = PciDevice::new(0x1211, 0x13, 0x14, 5);
-    let filled = Iommu::new(
-        0x0201,
-        Some(0x2827_2625_2423_2221),
-        Some(device),
-        Some(0x3433_3231),
-        None,
-    );
-    all(
+    iommu(alloc, Iommu::new(0, None, None, None, None), &PLAIN_IOMMU)?;
+    let empty = Some(Vec::new(alloc));
+    iommu(
         alloc,
-        &[
-            (&Iommu::new(0, None, None, None, None), &PLAIN_IOMMU),
-            (
-                &Iommu::new(0, Some(0), None, None, Some(Vec::new(alloc))),
-                &PLAIN_IOMMU,
-            ),
-            (&Iommu::new(0, None, Some(zero), None, None), &with_device),
-            (&Iommu::new(0, None, None, Some(0), None), &with_domain),
-            (
-                &most,
-                b"\0\x01\x28\0\xff\xff\0\0\xff\xff\xff\xff\xff\xff\xff\xff\
-                    \x03\0\0\0\xff\xff\xff\xff\xff\xff\xff\xff\x01\0\x20\0\x01\x02\x03\x04\x02\0\x05\x06",
-            ),
-            (
-                &filled,
-                b"\0\x01\x20\0\x01\x02\0\0\x21\x22\x23\x24\x25\x26\x27\x28\x03\0\0\0\x11\x12\xa5\x13\x31\x32\x33\x34\0\0\x20\0",
-            ),
-        ],
+        Iommu::new(0, Some(0), None, None, empty),
+        &PLAIN_IOMMU,
+    )?;
+    let mut wanted = PLAIN_IOMMU;
+    wanted[16] = 1;
+    let zero = Some(PciDevice::new(0, 0, 0, 0));
+    iommu(alloc, Iommu::new(0, None, zero, None, None), &wanted)?;
+    wanted[16] = 2;
+    iommu(alloc, Iommu::new(0, None, None, Some(0), None), &wanted)
+}
+
+#[test]
+fn the_highest_iommu(rt: HostRuntime) -> Result<(), Fail> {
+    let device = Some(PciDevice::new(u16::MAX, 0xff, 31, 7));
+    let wires = Some(wires(rt.alloc(), 1)?);
+    iommu(
+        rt.alloc(),
+        Iommu::new(u16::MAX, Some(u64::MAX), device, Some(u32::MAX), wires),
+        b"\0\x01\x28\0\xff\xff\0\0\xff\xff\xff\xff\xff\xff\xff\xff\
+            \x03\0\0\0\xff\xff\xff\xff\xff\xff\xff\xff\x01\0\x20\0\x01\x02\x03\x04\x02\0\x05\x06",
     )
 }
 
 #[test]
-fn root_complexes(rt: HostRuntime) -> Result<(), Fail> {
-    let alloc = rt.alloc();
-    for (ats, pri, flags) in [
-        (false, false, 0),
-        (true, false, 1),
-        (false, true, 2),
-        (true, true, 3),
-    ] {
-        let mut wanted = *b"\x01\x01\x10\0\x01\x02\x03\x04\0\0\0\0\x10\0\0\0";
-        wanted[8] = flags;
-        let plain = PcieRootComplex::new(0x0201, 0x0403, ats, pri, None);
-        writes(alloc, &plain, &wanted)?;
-        let empty = PcieRootComplex::new(0x0201, 0x0403, ats, pri, Some(Vec::new(alloc)));
-        writes(alloc, &empty, &wanted)?;
-    }
-    let offset = first_offset(alloc)?;
-    let full = PcieRootComplex::new(
-        u16::MAX,
-        u16::MAX,
-        true,
-        true,
-        Some(mappings(alloc, offset, 1)?),
-    );
-    writes(
-        alloc,
-        &full,
+fn fields_of_an_iommu(rt: HostRuntime) -> Result<(), Fail> {
+    let base = Some(0x2827_2625_2423_2221);
+    let device = Some(PciDevice::new(0x1211, 0x13, 0x14, 5));
+    iommu(
+        rt.alloc(),
+        Iommu::new(0x0201, base, device, Some(0x3433_3231), None),
+        b"\0\x01\x20\0\x01\x02\0\0\x21\x22\x23\x24\x25\x26\x27\x28\x03\0\0\0\x11\x12\xa5\x13\x31\x32\x33\x34\0\0\x20\0",
+    )
+}
+
+// Fails unless a root complex has these bytes.
+pub(crate) fn root_complex(
+    alloc: Global,
+    made: PcieRootComplex,
+    wanted: &[u8],
+) -> Result<(), Fail> {
+    writes(alloc, &made, wanted)
+}
+
+// Fails unless root complexes without mappings have these flags, at offset 8.
+fn flagged(alloc: Global, ats: bool, pri: bool, flags: u8) -> Result<(), Fail> {
+    let mut wanted = *b"\x01\x01\x10\0\x01\x02\x03\x04\0\0\0\0\x10\0\0\0";
+    wanted[8] = flags;
+    let plain = PcieRootComplex::new(0x0201, 0x0403, ats, pri, None);
+    root_complex(alloc, plain, &wanted)?;
+    let empty = Some(Vec::new(alloc));
+    let empty = PcieRootComplex::new(0x0201, 0x0403, ats, pri, empty);
+    root_complex(alloc, empty, &wanted)
+}
+
+#[test]
+fn flags_of_root_complexes(rt: HostRuntime) -> Result<(), Fail> {
+    flagged(rt.alloc(), false, false, 0)?;
+    flagged(rt.alloc(), true, false, 1)?;
+    flagged(rt.alloc(), false, true, 2)?;
+    flagged(rt.alloc(), true, true, 3)
+}
+
+#[test]
+fn the_highest_root_complex(rt: HostRuntime) -> Result<(), Fail> {
+    let mappings = Some(mappings(rt.alloc(), 1)?);
+    root_complex(
+        rt.alloc(),
+        PcieRootComplex::new(u16::MAX, u16::MAX, true, true, mappings),
         b"\x01\x01\x24\0\xff\xff\xff\xff\x03\0\0\0\x10\0\x01\0\
             \x01\x02\x03\x04\x05\x06\x07\x08\x09\x0a\x0b\x0c\x30\0\0\0\x02\0\0\0",
     )
 }
 
+// Fails unless a platform device has these bytes.
+pub(crate) fn platform(alloc: Global, made: Platform, wanted: &[u8]) -> Result<(), Fail> {
+    writes(alloc, &made, wanted)
+}
+
 #[test]
-fn platform_devices(rt: HostRuntime) -> Result<(), Fail> {
-    let alloc = rt.alloc();
-    let offset = first_offset(alloc)?;
-    let nameless = Platform::new(0x0201, String::new(alloc), None);
-    let named = Platform::new(u16::MAX, text(alloc, 3)?, Some(Vec::new(alloc)));
-    let mapped = Platform::new(0, text(alloc, 1)?, Some(mappings(alloc, offset, 1)?));
-    all(
-        alloc,
-        &[
-            (&nameless, b"\x02\x01\x0d\0\x01\x02\0\0\x0d\0\0\0\0"),
-            (&named, b"\x02\x01\x10\0\xff\xff\0\0\x10\0\0\0nnn\0"),
-            (
-                &mapped,
-                b"\x02\x01\x22\0\0\0\0\0\x0e\0\x01\0n\0\x01\x02\x03\x04\x05\x06\x07\x08\x09\x0a\x0b\x0c\x30\0\0\0\x02\0\0\0",
-            ),
-        ],
+fn a_platform_device_without_mappings(rt: HostRuntime) -> Result<(), Fail> {
+    platform(
+        rt.alloc(),
+        Platform::new(0x0201, String::new(rt.alloc()), None),
+        b"\x02\x01\x0d\0\x01\x02\0\0\x0d\0\0\0\0",
     )
+}
+
+// A platform device of this id with a name of this many letters, and with this many mappings.
+pub(crate) fn mapped(alloc: Global, id: u16, letters: u32, count: u16) -> R<Platform> {
+    let mappings = mappings(alloc, count)?;
+    Ok(Platform::new(id, name(alloc, letters)?, Some(mappings)))
+}
+
+#[test]
+fn mapped_platform_devices(rt: HostRuntime) -> Result<(), Fail> {
+    platform(
+        rt.alloc(),
+        mapped(rt.alloc(), u16::MAX, 3, 0)?,
+        b"\x02\x01\x10\0\xff\xff\0\0\x10\0\0\0nnn\0",
+    )?;
+    platform(
+        rt.alloc(),
+        mapped(rt.alloc(), 0, 1, 1)?,
+        b"\x02\x01\x22\0\0\0\0\0\x0e\0\x01\0n\0\x01\x02\x03\x04\x05\x06\x07\x08\x09\x0a\x0b\x0c\x30\0\0\0\x02\0\0\0",
+    )
+}
+
+// Fails unless a mapping refers to this offset.
+fn refers(alloc: Global, iommu: IommuOffset, offset: u8) -> Result<(), Fail> {
+    let mut wanted = [0; 20];
+    wanted[12] = offset;
+    let made = IdMapping::new(0, 0, 0, iommu, false, false, false);
+    mapping_is(alloc, made, &wanted)
+}
+
+// Adds an IOMMU of 64 bytes, a platform device of 13 and two IOMMUs of 32.
+fn offsets_are_told(alloc: Global, table: &mut RIMT) -> Result<(), Fail> {
+    let wires = four_wires(alloc)?;
+    let first = table.add_iommu(Iommu::new(1, None, None, None, Some(wires)))?;
+    refers(alloc, first, 48)?;
+    table.add_platform(Platform::new(2, String::new(alloc), None))?;
+    refers(alloc, add_plain_iommu(table)?, 125)?;
+    refers(alloc, add_plain_iommu(table)?, 157)
 }
 
 #[test]
 fn later_offsets(rt: HostRuntime) -> Result<(), Fail> {
-    let alloc = rt.alloc();
-    let mut table = table(alloc);
-    let first = table.add_iommu(Iommu::new(1, None, None, None, Some(four_wires(alloc)?)))?;
-    table.add_platform(Platform::new(2, String::new(alloc), None))?;
-    let second = table.add_iommu(Iommu::new(3, None, None, None, None))?;
-    let third = table.add_iommu(Iommu::new(4, None, None, None, None))?;
-    for (iommu, offset) in [(first, 48), (second, 125), (third, 157)] {
-        let mut wanted = [0; 20];
-        wanted[12] = offset;
-        writes(
-            alloc,
-            &IdMapping::new(0, 0, 0, iommu, false, false, false),
-            &wanted,
-        )?;
-    }
-    Ok(())
+    offsets_are_told(rt.alloc(), &mut table(rt.alloc()))
 }
 
 #[test]
 fn devices_past_a_byte(rt: HostRuntime) -> Result<(), Fail> {
-    let alloc = rt.alloc();
-    let mut table = table(alloc);
+    let mut table = table(rt.alloc());
     for _ in 0..256u16 {
-        let _ = table.add_iommu(Iommu::new(0, None, None, None, None))?;
+        let _ = add_plain_iommu(&mut table)?;
     }
     stands(
-        alloc,
+        rt.alloc(),
         &table,
         0,
         b"RIMT\x30\x20\0\0\x01\xf6FOOBARCAFEDEAD\xef\xbe\xad\xdeRVAT\0\0\0\x01\0\x01\0\0\x30\0\0\0\0\0\0\0",
     )?;
     let fixed = b"\0\x01\0\0\x30\0\0\0\0\0\0\0";
-    many(alloc, &table, b"RIMT", 1, fixed, &PLAIN_IOMMU, 256)
-}
-
-// Fails unless writing an object returns `FieldWidth` before it writes anything.
-fn refused(alloc: Global, aml: &dyn Aml) -> Result<(), Fail> {
-    let mut bytes = Vec::new(alloc);
-    refuses(aml.to_aml_bytes(&mut bytes), Error::FieldWidth)?;
-    same(&bytes, &[])
-}
-
-#[test]
-fn the_most_wires(rt: HostRuntime) -> Result<(), Fail> {
-    let alloc = rt.alloc();
-    let mut head = PLAIN_IOMMU;
-    head[2..4].copy_from_slice(&[0xf8, 0xff]);
-    head[28..30].copy_from_slice(&[0xfb, 0x1f]);
-    let wanted = behind(alloc, &head, WIRE, 8187)?;
-    equal(&wanted.len(), &65_528)?;
-    let full = Iommu::new(0, None, None, None, Some(wires(alloc, 8187)?));
-    writes(alloc, &full, &wanted)?;
-    let mut table = table(alloc);
-    let _ = table.add_iommu(full)?;
-    many(alloc, &table, b"RIMT", 1, &ONE_DEVICE, &wanted, 1)?;
-    let more = Iommu::new(0, None, None, None, Some(wires(alloc, 8188)?));
-    refused(alloc, &more)?;
-    refuses(table.add_iommu(more), Error::FieldWidth)?;
-    many(alloc, &table, b"RIMT", 1, &ONE_DEVICE, &wanted, 1)
-}
-
-#[test]
-fn the_most_mappings(rt: HostRuntime) -> Result<(), Fail> {
-    let alloc = rt.alloc();
-    let offset = first_offset(alloc)?;
-    let wanted = behind(
-        alloc,
-        b"\x01\x01\xec\xff\x01\x02\x03\x04\0\0\0\0\x10\0\xcb\x0c",
-        MAPPING,
-        3275,
-    )?;
-    equal(&wanted.len(), &65_516)?;
-    let given = mappings(alloc, offset, 3275)?;
-    let full = PcieRootComplex::new(0x0201, 0x0403, false, false, Some(given));
-    writes(alloc, &full, &wanted)?;
-    let mut table = table(alloc);
-    table.add_pcie_root_complex(full)?;
-    many(alloc, &table, b"RIMT", 1, &ONE_DEVICE, &wanted, 1)?;
-    let given = mappings(alloc, offset, 3276)?;
-    let more = PcieRootComplex::new(0x0201, 0x0403, false, false, Some(given));
-    refused(alloc, &more)?;
-    refuses(table.add_pcie_root_complex(more), Error::FieldWidth)?;
-    many(alloc, &table, b"RIMT", 1, &ONE_DEVICE, &wanted, 1)
-}
-
-#[test]
-fn the_longest_platform_devices(rt: HostRuntime) -> Result<(), Fail> {
-    let alloc = rt.alloc();
-    let offset = first_offset(alloc)?;
-    let wanted = behind(
-        alloc,
-        b"\x02\x01\xff\xff\x01\x02\0\0\x0f\0\xcc\x0cnn\0",
-        MAPPING,
-        3276,
-    )?;
-    equal(&wanted.len(), &65_535)?;
-    let given = mappings(alloc, offset, 3276)?;
-    let full = Platform::new(0x0201, text(alloc, 2)?, Some(given));
-    writes(alloc, &full, &wanted)?;
-    let mut table = table(alloc);
-    table.add_platform(full)?;
-    many(alloc, &table, b"RIMT", 1, &ONE_DEVICE, &wanted, 1)?;
-    let given = mappings(alloc, offset, 3276)?;
-    let more = Platform::new(0x0201, text(alloc, 3)?, Some(given));
-    refused(alloc, &more)?;
-    refuses(table.add_platform(more), Error::FieldWidth)?;
-    many(alloc, &table, b"RIMT", 1, &ONE_DEVICE, &wanted, 1)?;
-    let mut named = behind(
-        alloc,
-        b"\x02\x01\xff\xff\x01\x02\0\0\xff\xff\0\0",
-        b"n",
-        65_522,
-    )?;
-    named.push(0)?;
-    writes(
-        alloc,
-        &Platform::new(0x0201, text(alloc, 65_522)?, None),
-        &named,
-    )?;
-    refused(alloc, &Platform::new(0x0201, text(alloc, 65_523)?, None))
+    many(rt.alloc(), &table, b"RIMT", 1, fixed, &PLAIN_IOMMU, 256)
 }

@@ -39,18 +39,21 @@ fn records(rt: HostRuntime) -> Result<(), Fail> {
     )
 }
 
-#[test]
-fn tpm2(rt: HostRuntime) -> Result<(), Fail> {
-    let alloc = rt.alloc();
-    let mut table = Tpm2::new(
+fn tpm2_table() -> Tpm2 {
+    Tpm2::new(
         OEM,
         OEM_TABLE,
         OEM_REVISION,
         PlatformClass::Server,
         1,
         StartMethod::Crb,
-    );
-    starve(alloc, 52, &table)?;
+    )
+}
+
+#[test]
+fn tpm2(rt: HostRuntime) -> Result<(), Fail> {
+    let mut table = tpm2_table();
+    starve(rt.alloc(), 52, &table)?;
     table.set_log_area(2, 3)?;
-    starve(alloc, 76, &table)
+    starve(rt.alloc(), 76, &table)
 }

@@ -1,6 +1,6 @@
 //! HEST and RQSC, and their structures.
 
-use crate::short::{Short, starve_all};
+use crate::short::{Short, starve_all, starve_made};
 use acpi_tables::R;
 use acpi_tables::gas::GAS;
 use acpi_tables::hest::{
@@ -16,15 +16,19 @@ use acpi_vectors::{OEM, OEM_REVISION, OEM_TABLE, equal};
 use std::alloc::Global;
 use std::test::Fail;
 
+fn hest(alloc: Global) -> R<HEST> {
+    let mut hest = HEST::new(alloc, OEM, OEM_TABLE, OEM_REVISION);
+    hest.add_structure(PcieAerRootPort::new_global())?;
+    Ok(hest)
+}
+
 #[test]
 fn error_sources(rt: HostRuntime) -> Result<(), Fail> {
     let alloc = rt.alloc();
-    let mut hest = HEST::new(alloc, OEM, OEM_TABLE, OEM_REVISION);
-    hest.add_structure(PcieAerRootPort::new_global())?;
+    starve_made(alloc, 88, hest(alloc))?;
     starve_all(
         alloc,
         &[
-            (88, &hest),
             (48, &PcieAerRootPort::new_global()),
             (44, &PcieAerDevice::new_global()),
             (56, &PcieAerBridge::new_global()),
@@ -36,14 +40,14 @@ fn error_sources(rt: HostRuntime) -> Result<(), Fail> {
     )
 }
 
-// An entry of error data isn't an object, but is written like one.
-#[test]
-fn error_data(rt: HostRuntime) -> Result<(), Fail> {
-    let alloc = rt.alloc();
-    let mut entry = GenericErrorData::new(alloc, ErrorSeverity::Fatal);
-    entry.add_data(Box::new(alloc, 0x0201u16)?)?;
-    let mut whole = Vec::new(alloc);
-    entry.to_aml_bytes(&mut whole)?;
+fn bytes_of(alloc: Global, entry: &GenericErrorData) -> R<Vec<u8>> {
+    let mut bytes = Vec::new(alloc);
+    entry.to_aml_bytes(&mut bytes)?;
+    Ok(bytes)
+}
+
+fn starve_entry(alloc: Global, entry: &GenericErrorData) -> Result<(), Fail> {
+    let whole = bytes_of(alloc, entry)?;
     equal(&whole.len(), &61)?;
     for room in 0..whole.len() {
         let mut short = Short::new(alloc, room);
@@ -51,6 +55,14 @@ fn error_data(rt: HostRuntime) -> Result<(), Fail> {
         short.is_full(&whole[..room], end)?;
     }
     Ok(())
+}
+
+// An entry of error data isn't an object, but is written like one.
+#[test]
+fn error_data(rt: HostRuntime) -> Result<(), Fail> {
+    let mut entry = GenericErrorData::new(rt.alloc(), ErrorSeverity::Fatal);
+    entry.add_data(Box::new(rt.alloc(), 0x0201u16)?)?;
+    starve_entry(rt.alloc(), &entry)
 }
 
 fn resource() -> ResourceStructure {
@@ -64,19 +76,30 @@ fn controller(alloc: Global) -> R<QoSController> {
     Ok(made)
 }
 
+fn rqsc(alloc: Global) -> R<RQSC> {
+    let mut rqsc = RQSC::new(alloc, OEM, OEM_TABLE, OEM_REVISION);
+    rqsc.add_controller(controller(alloc)?)?;
+    Ok(rqsc)
+}
+
+fn vendors(alloc: Global) -> R<ResourceID> {
+    Ok(ResourceID::VendorSpecific(0x80, b"abc".to_vec(alloc)?))
+}
+
 #[test]
 fn controllers(rt: HostRuntime) -> Result<(), Fail> {
     let alloc = rt.alloc();
-    let mut rqsc = RQSC::new(alloc, OEM, OEM_TABLE, OEM_REVISION);
-    rqsc.add_controller(controller(alloc)?)?;
-    let vendors = ResourceID::VendorSpecific(0x80, b"abc".to_vec(alloc)?);
+    starve_made(alloc, 88, rqsc(alloc))?;
+    starve_made(alloc, 48, controller(alloc))?;
+    starve_made(alloc, 20, Ok(resource()))?;
+    starve_made(alloc, 4, vendors(alloc))
+}
+
+#[test]
+fn resources(rt: HostRuntime) -> Result<(), Fail> {
     starve_all(
-        alloc,
+        rt.alloc(),
         &[
-            (88, &rqsc),
-            (48, &controller(alloc)?),
-            (20, &resource()),
-            (4, &vendors),
             (12, &CacheResource::new(1)),
             (20, &MemoryAffinityStructureResource::new(1, 2)),
             (12, &ACPIDeviceResource::new(1, 2)),

@@ -1,6 +1,7 @@
 //! Tables that are lists, and their structures.
 
-use crate::short::starve_all;
+use crate::short::{starve_all, starve_made};
+use acpi_tables::R;
 use acpi_tables::cedt::{
     CEDT, CxlFixedMemory, CxlHostBridge, CxlVersion, InterleaveArithmetic, InterleaveGranularity,
     InterleaveWays, PortAssociation, ProtocolType, XorInterleaveMath,
@@ -13,32 +14,48 @@ use acpi_tables::mcfg::MCFG;
 use acpi_tables::srat::{GenericInitiator, Handle, MemoryAffinity, RintcAffinity, SRAT};
 use acpi_tables::xsdt::XSDT;
 use acpi_vectors::{OEM, OEM_REVISION, OEM_TABLE};
+use std::alloc::Global;
 use std::test::Fail;
+
+fn xsdt(alloc: Global) -> R<XSDT> {
+    let mut xsdt = XSDT::new(alloc, OEM, OEM_TABLE, OEM_REVISION);
+    xsdt.add_entry(0x0807_0605_0403_0201)?;
+    Ok(xsdt)
+}
+
+fn mcfg(alloc: Global) -> R<MCFG> {
+    let mut mcfg = MCFG::new(alloc, OEM, OEM_TABLE, OEM_REVISION);
+    mcfg.add_ecam(0x0807_0605_0403_0201, 0x0a09, 0x0b, 0x0c)?;
+    Ok(mcfg)
+}
+
+fn madt(alloc: Global) -> R<MADT> {
+    let local = LocalInterruptController::Address(0x0403_0201);
+    let mut madt = MADT::new(alloc, OEM, OEM_TABLE, OEM_REVISION, local);
+    madt.add_structure(ProcessorLocalApic::new(1, 2, EnabledStatus::Enabled))?;
+    Ok(madt)
+}
+
+fn srat(alloc: Global) -> R<SRAT> {
+    let mut srat = SRAT::new(alloc, OEM, OEM_TABLE, OEM_REVISION);
+    srat.add_rintc_affinity(RintcAffinity::new(*b"uid.", 1))?;
+    Ok(srat)
+}
+
+fn cedt(alloc: Global) -> R<CEDT> {
+    let mut cedt = CEDT::new(alloc, OEM, OEM_TABLE, OEM_REVISION);
+    cedt.add_host_bridge(CxlHostBridge::new(1, CxlVersion::Cxl2, 2))?;
+    Ok(cedt)
+}
 
 #[test]
 fn tables(rt: HostRuntime) -> Result<(), Fail> {
     let alloc = rt.alloc();
-    let mut xsdt = XSDT::new(alloc, OEM, OEM_TABLE, OEM_REVISION);
-    xsdt.add_entry(0x0807_0605_0403_0201)?;
-    let mut mcfg = MCFG::new(alloc, OEM, OEM_TABLE, OEM_REVISION);
-    mcfg.add_ecam(0x0807_0605_0403_0201, 0x0a09, 0x0b, 0x0c)?;
-    let local = LocalInterruptController::Address(0x0403_0201);
-    let mut madt = MADT::new(alloc, OEM, OEM_TABLE, OEM_REVISION, local);
-    madt.add_structure(ProcessorLocalApic::new(1, 2, EnabledStatus::Enabled))?;
-    let mut srat = SRAT::new(alloc, OEM, OEM_TABLE, OEM_REVISION);
-    srat.add_rintc_affinity(RintcAffinity::new(*b"uid.", 1))?;
-    let mut cedt = CEDT::new(alloc, OEM, OEM_TABLE, OEM_REVISION);
-    cedt.add_host_bridge(CxlHostBridge::new(1, CxlVersion::Cxl2, 2))?;
-    starve_all(
-        alloc,
-        &[
-            (44, &xsdt),
-            (60, &mcfg),
-            (52, &madt),
-            (68, &srat),
-            (68, &cedt),
-        ],
-    )
+    starve_made(alloc, 44, xsdt(alloc))?;
+    starve_made(alloc, 60, mcfg(alloc))?;
+    starve_made(alloc, 52, madt(alloc))?;
+    starve_made(alloc, 68, srat(alloc))?;
+    starve_made(alloc, 68, cedt(alloc))
 }
 
 #[test]
@@ -80,9 +97,7 @@ fn affinities(rt: HostRuntime) -> Result<(), Fail> {
     )
 }
 
-#[test]
-fn cxl(rt: HostRuntime) -> Result<(), Fail> {
-    let alloc = rt.alloc();
+fn window(alloc: Global) -> R<CxlFixedMemory> {
     let mut window = CxlFixedMemory::new(
         alloc,
         1,
@@ -94,14 +109,24 @@ fn cxl(rt: HostRuntime) -> Result<(), Fail> {
     );
     window.add_target(*b"abcd")?;
     window.add_target(*b"efgh")?;
+    Ok(window)
+}
+
+fn maps(alloc: Global) -> R<XorInterleaveMath> {
     let mut maps = XorInterleaveMath::new(alloc, InterleaveGranularity::Granularity512b);
     maps.add_xormap(0x0807_0605_0403_0201)?;
+    Ok(maps)
+}
+
+#[test]
+fn cxl(rt: HostRuntime) -> Result<(), Fail> {
+    let alloc = rt.alloc();
+    starve_made(alloc, 44, window(alloc))?;
+    starve_made(alloc, 16, maps(alloc))?;
     starve_all(
         alloc,
         &[
             (32, &CxlHostBridge::new(1, CxlVersion::Cxl2, 2)),
-            (44, &window),
-            (16, &maps),
             (
                 17,
                 &PortAssociation::new(1, 2, 3, 4, ProtocolType::CxlMem, 5),

@@ -1,9 +1,10 @@
 //! A sink with little room, and objects that are written to it.
 
-ghost use Rattle.std.specs.Prelude.{◌≡◌, All, Err, OnOk};
+ghost use Rattle.std.specs.Prelude.{◌≡◌, All, Err, IfOk, OnOk};
 ghost use Rattle.acpi_base.specs.declared.error.Error.TheVariants.{Sink};
 ghost use Rattle.acpi_refusal_tests.specs.Short.{IsOfSize, short_of, short_takes_nothing, short_takes_beginning};
 
+use acpi_base::buffer::append_value;
 use acpi_tables::{Aml, AmlSink, Error, R};
 use acpi_vectors::{equal, refuses, same, written};
 use std::alloc::Global;
@@ -61,6 +62,22 @@ pub fn starve(alloc: Global, size: usize, aml: &dyn Aml) -> Result<(), Fail>
     for room in 0..whole.len() {
         let mut short = Short::new(alloc, room);
         let end = aml.to_aml_bytes(&mut short);
+        short.is_full(&whole[..room], end)?;
+    }
+    Ok(())
+}
+
+/// Writes an object of a known type, which a constructor made, to such sinks.
+pub fn starve_made<T: Aml + Drop>(alloc: Global, size: usize, made: R<T>) -> Result<(), Fail>
+    ensures { OnOk result (IfOk made (λ value. IsOfSize size (T.object value))) }
+{
+    let value = made?;
+    let mut whole = Vec::new(alloc);
+    append_value(&value, &mut whole)?;
+    equal(&whole.len(), &size)?;
+    for room in 0..whole.len() {
+        let mut short = Short::new(alloc, room);
+        let end = value.to_aml_bytes(&mut short);
         short.is_full(&whole[..room], end)?;
     }
     Ok(())

@@ -6,17 +6,28 @@ use acpi_core::form::Form;
 use acpi_core::table::Table;
 use acpi_vectors::table::many;
 use acpi_vectors::{OEM, OEM_REVISION, OEM_TABLE, refuses};
+use std::alloc::Global;
 use std::test::Fail;
 
-#[test]
-fn most_structures(rt: HostRuntime) -> Result<(), Fail> {
-    let alloc = rt.alloc();
-    let form = Form::new(*b"TEST", 1, Oem::new(OEM, OEM_TABLE, OEM_REVISION), 2);
-    let mut table: Table<38> = Table::new(alloc, form, &[], &[]);
+type Structures = Table<38>;
+
+// Fails unless a table takes 65,535 structures.
+fn takes_most(alloc: Global, table: &mut Structures) -> Result<(), Fail> {
     for _ in 0..65_535u32 {
         table.add(&[0x5a])?;
     }
-    many(alloc, &table, b"TEST", 1, &[0xff; 2], &[0x5a], 65_535)?;
+    has_most(alloc, table)?;
     refuses(table.add(&[0x5a]), Error::FieldWidth)?;
-    many(alloc, &table, b"TEST", 1, &[0xff; 2], &[0x5a], 65_535)
+    has_most(alloc, table)
+}
+
+fn has_most(alloc: Global, table: &Structures) -> Result<(), Fail> {
+    many(alloc, table, b"TEST", 1, &[0xff; 2], &[0x5a], 65_535)
+}
+
+#[test]
+fn most_structures(rt: HostRuntime) -> Result<(), Fail> {
+    let form = Form::new(*b"TEST", 1, Oem::new(OEM, OEM_TABLE, OEM_REVISION), 2);
+    let mut table: Structures = Table::new(rt.alloc(), form, &[], &[]);
+    takes_most(rt.alloc(), &mut table)
 }

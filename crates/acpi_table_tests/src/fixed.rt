@@ -8,17 +8,23 @@ use acpi_tables::bert::BERT;
 use acpi_tables::facs::FACS;
 use acpi_tables::rsdp::Rsdp;
 use acpi_tables::spcr::SPCR;
-use acpi_tables::u8sum;
+use acpi_tables::{Aml, u8sum};
 use acpi_vectors::{OEM, OEM_REVISION, OEM_TABLE, equal, writes};
+use std::alloc::Global;
 use std::test::Fail;
+
+// Fails unless a table is these bytes, which sum to zero.
+fn sums(alloc: Global, table: &dyn Aml, wanted: &[u8]) -> Result<(), Fail> {
+    writes(alloc, table, wanted)?;
+    equal(&u8sum(table)?, &0)
+}
 
 #[test]
 fn rsdp(rt: HostRuntime) -> Result<(), Fail> {
     let alloc = rt.alloc();
     let rsdp = Rsdp::new(*b"CHYPER", 0xdead_beef);
     let wanted = b"RSD PTR \x14CHYPER\x02\0\0\0\0\x24\0\0\0\xef\xbe\xad\xde\0\0\0\0\xa4\0\0\0";
-    writes(alloc, &rsdp, wanted)?;
-    equal(&u8sum(&rsdp)?, &0)?;
+    sums(alloc, &rsdp, wanted)?;
     equal(&Rsdp::len(), &36)?;
     let numbered = Rsdp {
         signature: [1, 2, 3, 4, 5, 6, 7, 8],
@@ -72,8 +78,7 @@ fn bert(rt: HostRuntime) -> Result<(), Fail> {
     );
     let wanted =
         b"BERT\x30\0\0\0\x01\x76FOOBARCAFEDEAD\xef\xbe\xad\xdeRVAT\0\0\0\x01\x40\x30\x20\x10\xc0\xb0\xa0\x90\x80\x70\x60\x50";
-    writes(rt.alloc(), &bert, wanted)?;
-    equal(&u8sum(&bert)?, &0)
+    sums(rt.alloc(), &bert, wanted)
 }
 
 #[test]
@@ -83,6 +88,5 @@ fn spcr(rt: HostRuntime) -> Result<(), Fail> {
             \x15\0\0\0\0\0\0\0\0\0\0\0\0\0\0\0\
             \0\0\0\0\0\0\0\0\0\0\0\0\xff\xff\xff\xff\
             \0\0\0\0\0\0\0\0\0\0\0\0\0\0\0\0\x02\0\x58\0.\0";
-    writes(rt.alloc(), &spcr, wanted)?;
-    equal(&u8sum(&spcr)?, &0)
+    sums(rt.alloc(), &spcr, wanted)
 }

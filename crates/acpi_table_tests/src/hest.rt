@@ -23,32 +23,34 @@ fn table(alloc: Global) -> HEST {
 const ROOT_PORTS: [u8; 48] =
     *b"\x06\0\0\0\0\0\x02\0\0\0\0\0\0\0\0\0\0\0\0\0\0\0\0\0\0\0\0\0\0\0\0\0\0\0\0\0\0\0\0\0\0\0\0\0\0\0\0\0";
 
-#[test]
-fn sources(rt: HostRuntime) -> Result<(), Fail> {
-    let alloc = rt.alloc();
-    let mut hest = table(alloc);
+// Adds the source of all root ports several times. Fails unless a table has it alone, by this number and these fields.
+fn takes(
+    alloc: Global,
+    hest: &mut HEST,
+    more: u16,
+    count: u32,
+    fields: &[u8; 4],
+) -> Result<(), Fail> {
+    for _ in 0..more {
+        hest.add_structure(PcieAerRootPort::new_global())?;
+    }
+    many(alloc, hest, b"HEST", 1, fields, &ROOT_PORTS, count)
+}
+
+fn takes_many(alloc: Global, hest: &mut HEST) -> Result<(), Fail> {
     writes(
         alloc,
-        &hest,
+        hest,
         b"HEST\x28\0\0\0\x01\x57FOOBARCAFEDEAD\xef\xbe\xad\xdeRVAT\0\0\0\x01\0\0\0\0",
     )?;
-    for _ in 0..256u16 {
-        hest.add_structure(PcieAerRootPort::new_global())?;
-    }
-    many(alloc, &hest, b"HEST", 1, &[0, 1, 0, 0], &ROOT_PORTS, 256)?;
-    stands(alloc, &hest, 0, b"HEST\x28\x30\0\0\x01\x26")?;
-    for _ in 256..1_366u16 {
-        hest.add_structure(PcieAerRootPort::new_global())?;
-    }
-    many(
-        alloc,
-        &hest,
-        b"HEST",
-        1,
-        &[0x56, 5, 0, 0],
-        &ROOT_PORTS,
-        1_366,
-    )
+    takes(alloc, hest, 256, 256, &[0, 1, 0, 0])?;
+    stands(alloc, hest, 0, b"HEST\x28\x30\0\0\x01\x26")?;
+    takes(alloc, hest, 1_110, 1_366, &[0x56, 5, 0, 0])
+}
+
+#[test]
+fn sources(rt: HostRuntime) -> Result<(), Fail> {
+    takes_many(rt.alloc(), &mut table(rt.alloc()))
 }
 
 // Adds a source, and fails unless the table is its header, its count and the bytes of all sources so far.
@@ -65,44 +67,34 @@ fn adds<T: Aml + Drop>(
     many(alloc, hest, b"HEST", 1, &[count, 0, 0, 0], all, 1)
 }
 
+const DEVICES: [u8; 44] =
+    *b"\x07\0\0\0\0\0\x02\0\0\0\0\0\0\0\0\0\0\0\0\0\0\0\0\0\0\0\0\0\0\0\0\0\0\0\0\0\0\0\0\0\0\0\0\0";
+
+const BRIDGES: [u8; 56] =
+    *b"\x08\0\0\0\0\0\x02\0\0\0\0\0\0\0\0\0\0\0\0\0\0\0\0\0\0\0\0\0\0\0\0\0\0\0\0\0\0\0\0\0\0\0\0\0\0\0\0\0\0\0\0\0\0\0\0\0";
+
+fn adds_each_kind(alloc: Global, hest: &mut HEST, all: &mut Vec<u8>) -> Result<(), Fail> {
+    let ports = PcieAerRootPort::new_global();
+    adds(alloc, hest, ports, &ROOT_PORTS, all, 1)?;
+    let devices = PcieAerDevice::new_global();
+    adds(alloc, hest, devices, &DEVICES, all, 2)?;
+    let bridges = PcieAerBridge::new_global();
+    adds(alloc, hest, bridges, &BRIDGES, all, 3)?;
+    let first = GenericHardwareSource::new(0x0302, EnabledStatus::Enabled);
+    let mut bytes = [0; 64];
+    bytes[..8].copy_from_slice(b"\x09\0\x02\x03\xff\xff\0\x01");
+    adds(alloc, hest, first, &bytes, all, 4)?;
+    let second = GenericHardwareSourceV2::new(0x0504, EnabledStatus::Disabled);
+    let mut bytes = [0; 92];
+    bytes[..8].copy_from_slice(b"\x0a\0\x04\x05\xff\xff\0\0");
+    adds(alloc, hest, second, &bytes, all, 5)?;
+    stands(alloc, hest, 4, b"\x58\x01\0\0")
+}
+
 #[test]
 fn each_kind(rt: HostRuntime) -> Result<(), Fail> {
-    let alloc = rt.alloc();
-    let mut hest = table(alloc);
-    let mut all = Vec::new(alloc);
-    let ports = PcieAerRootPort::new_global();
-    adds(alloc, &mut hest, ports, &ROOT_PORTS, &mut all, 1)?;
-    let mut device = [0; 44];
-    device[0] = 7;
-    device[6] = 2;
-    adds(
-        alloc,
-        &mut hest,
-        PcieAerDevice::new_global(),
-        &device,
-        &mut all,
-        2,
-    )?;
-    let mut bridge = [0; 56];
-    bridge[0] = 8;
-    bridge[6] = 2;
-    adds(
-        alloc,
-        &mut hest,
-        PcieAerBridge::new_global(),
-        &bridge,
-        &mut all,
-        3,
-    )?;
-    let mut source = [0; 64];
-    source[..8].copy_from_slice(b"\x09\0\x02\x03\xff\xff\0\x01");
-    let first = GenericHardwareSource::new(0x0302, EnabledStatus::Enabled);
-    adds(alloc, &mut hest, first, &source, &mut all, 4)?;
-    let mut source = [0; 92];
-    source[..8].copy_from_slice(b"\x0a\0\x04\x05\xff\xff\0\0");
-    let second = GenericHardwareSourceV2::new(0x0504, EnabledStatus::Disabled);
-    adds(alloc, &mut hest, second, &source, &mut all, 5)?;
-    stands(alloc, &hest, 4, b"\x58\x01\0\0")
+    let mut hest = table(rt.alloc());
+    adds_each_kind(rt.alloc(), &mut hest, &mut Vec::new(rt.alloc()))
 }
 
 #[test]
@@ -130,10 +122,7 @@ fn root_ports(rt: HostRuntime) -> Result<(), Fail> {
 #[test]
 fn endpoints(rt: HostRuntime) -> Result<(), Fail> {
     let alloc = rt.alloc();
-    let mut wanted = [0; 44];
-    wanted[0] = 7;
-    wanted[6] = 2;
-    writes(alloc, &PcieAerDevice::new_global(), &wanted)?;
+    writes(alloc, &PcieAerDevice::new_global(), &DEVICES)?;
     let device = PcieAerDevice::new_root_port(FirmwareFirst::Disabled, PciDevice::new(0xfe, 31, 7))
         .num_records(0x0b0a_0908)
         .max_sections(0x0f0e_0d0c)
@@ -154,10 +143,7 @@ fn endpoints(rt: HostRuntime) -> Result<(), Fail> {
 #[test]
 fn bridges(rt: HostRuntime) -> Result<(), Fail> {
     let alloc = rt.alloc();
-    let mut wanted = [0; 56];
-    wanted[0] = 8;
-    wanted[6] = 2;
-    writes(alloc, &PcieAerBridge::new_global(), &wanted)?;
+    writes(alloc, &PcieAerBridge::new_global(), &BRIDGES)?;
     let bridge = PcieAerBridge::new_bridge(FirmwareFirst::Enabled, PciDevice::new(0xfe, 31, 7))
         .num_records(0x0b0a_0908)
         .max_sections(0x0f0e_0d0c)
@@ -327,11 +313,14 @@ fn statuses(rt: HostRuntime) -> Result<(), Fail> {
     Ok(())
 }
 
+// Fails unless a table refuses a source, and is unchanged.
+fn is_unchanged(alloc: Global, hest: &mut HEST) -> Result<(), Fail> {
+    takes(alloc, hest, 1, 1, &[1, 0, 0, 0])?;
+    refuses(hest.add_structure(Broken {}), Error::Sink(9))?;
+    takes(alloc, hest, 0, 1, &[1, 0, 0, 0])
+}
+
 #[test]
 fn a_source_that_refuses(rt: HostRuntime) -> Result<(), Fail> {
-    let alloc = rt.alloc();
-    let mut hest = table(alloc);
-    hest.add_structure(PcieAerRootPort::new_global())?;
-    refuses(hest.add_structure(Broken {}), Error::Sink(9))?;
-    many(alloc, &hest, b"HEST", 1, &[1, 0, 0, 0], &ROOT_PORTS, 1)
+    is_unchanged(rt.alloc(), &mut table(rt.alloc()))
 }

@@ -1,9 +1,9 @@
 //! Comparing what objects write with expected bytes and errors.
 
-ghost use Rattle.std.specs.Prelude.{◌≡◌, All, Err, IfOk, OnOk};
+ghost use Rattle.std.specs.Prelude.{◌≡◌, All, Err, IfOk, OnOk, length};
 ghost use Rattle.acpi_base.specs.Object.{Built};
 
-use crate::compare::same;
+use crate::compare::{equal, same};
 use acpi_base::buffer::{append, append_value};
 use acpi_base::error::{Error, R};
 use acpi_base::object::Aml;
@@ -25,6 +25,13 @@ pub fn writes(alloc: Global, aml: &dyn Aml, wanted: &[u8]) -> Result<(), Fail>
 {
     let bytes = written(alloc, aml)?;
     same(&bytes, wanted)
+}
+
+/// Fails unless an object writes this many bytes.
+pub fn sized(alloc: Global, aml: &dyn Aml, wanted: usize) -> Result<(), Fail>
+    ensures { OnOk result (length (object aml.now).front ≡ wanted) }
+{
+    equal(&written(alloc, aml)?.len(), &wanted)
 }
 
 /// Fails unless a constructor succeeded and its object writes these bytes.

@@ -26,6 +26,14 @@ pub fn stands(alloc: Global, table: &dyn Aml, offset: usize, wanted: &[u8]) -> R
     }
 }
 
+/// Fails unless a table has the bytes of each row at its offset, and all of its bytes sum to zero.
+pub fn all_stand(alloc: Global, table: &dyn Aml, rows: &[(usize, &[u8])]) -> Result<(), Fail> {
+    for (offset, wanted) in rows {
+        stands(alloc, table, *offset, *wanted)?;
+    }
+    Ok(())
+}
+
 // The byte that makes the sum of these zero.
 fn checksum_of(bytes: &[u8]) -> u8 {
     let mut sum = 0u8;

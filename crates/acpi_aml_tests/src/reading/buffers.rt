@@ -1,10 +1,10 @@
 //! Buffers and ids.
 
 use super::reads;
-use acpi_tables::Aml;
+use crate::make::template;
 use acpi_tables::aml::{
     AddressSpace, BufferData, BufferTerm, EISAName, IO, Interrupt, Local, Memory32Fixed, Register,
-    ResourceTemplate, Store, Uuid, ZERO,
+    Store, Uuid, ZERO,
 };
 use acpi_tables::gas::{self, AccessSize, GAS};
 use std::test::Fail;
@@ -17,20 +17,25 @@ fn buffers(rt: HostRuntime) -> Result<(), Fail> {
         BufferData::new(Vec::new(alloc)),
         "buffer data\n  number 0\n",
     )?;
+    let two = vec![in alloc; 0xabu8, 2]?;
     reads(
         alloc,
-        BufferData::new(vec![in alloc; 0xabu8, 2]?),
+        BufferData::new(two),
         "buffer data ab02\n  number 2\n",
     )?;
     reads(
         alloc,
         BufferTerm::new(alloc, &2u8),
         "buffer data\n  number 2\n",
-    )?;
-    let store = Store::new(alloc, &Local(0), &ZERO)?;
+    )
+}
+
+#[test]
+fn a_buffer_of_a_stored_size(rt: HostRuntime) -> Result<(), Fail> {
+    let store = Store::new(rt.alloc(), &Local(0), &ZERO)?;
     reads(
-        alloc,
-        BufferTerm::new(alloc, &store),
+        rt.alloc(),
+        BufferTerm::new(rt.alloc(), &store),
         "buffer data\n  store\n    number 0\n    local 0\n",
     )
 }
@@ -52,21 +57,21 @@ fn templates(rt: HostRuntime) -> Result<(), Fail> {
     let alloc = rt.alloc();
     reads(
         alloc,
-        ResourceTemplate::new(Vec::new(alloc)),
+        template(alloc, &[]),
         "buffer data 7900\n  number 2\n",
     )?;
     let interrupt = Interrupt::new(true, true, false, false, 4);
     let io = IO::new(0x3f8, 0x3f8, 0, 8);
     reads(
         alloc,
-        ResourceTemplate::new(vec![in alloc; &interrupt as &dyn Aml, &io]?),
+        template(alloc, &[&interrupt, &io]),
         "buffer data 8906000301040000004701f803f80300087900\n  number 19\n",
     )?;
     let memory = Memory32Fixed::new(true, 0x1000, 0x20);
     let bus = AddressSpace::new_bus_number(0u16, 0xff);
     reads(
         alloc,
-        ResourceTemplate::new(vec![in alloc; &memory as &dyn Aml, &bus]?),
+        template(alloc, &[&memory, &bus]),
         "buffer data 86090001001000002000000088\
          0d00020c0000000000ff00000000017900\n  number 30\n",
     )?;
@@ -79,7 +84,7 @@ fn templates(rt: HostRuntime) -> Result<(), Fail> {
     ));
     reads(
         alloc,
-        ResourceTemplate::new(vec![in alloc; &register as &dyn Aml]?),
+        template(alloc, &[&register]),
         "buffer data 820c00002000030010000000000000\
          7900\n  number 17\n",
     )

@@ -1,13 +1,15 @@
 //! Numbers, strings, names and packages.
 
 use super::{means, nothing_stated, prints, reads, stated};
+use crate::make::named;
 use acpi_tables::aml::{
     AmlString, Arg, Local, MethodCall, Name, ONE, ONES, Package, PackageBuilder, Path,
     VarPackageTerm, ZERO,
 };
 use acpi_tables::read::{NameString, ReadError, terms, terms_of};
-use acpi_tables::{Aml, AmlSink, Error};
+use acpi_tables::{Aml, AmlSink, Error, R};
 use acpi_vectors::{equal, refuses, same};
+use std::alloc::Global;
 use std::test::Fail;
 
 #[test]
@@ -93,19 +95,31 @@ fn paths(rt: HostRuntime) -> Result<(), Fail> {
     )?;
     reads(
         alloc,
-        Name::new(Path::new(alloc, "_UID")?, &7u8),
+        named(alloc, "_UID", &7u8),
         "define _UID\n  number 7\n",
     )
 }
 
-// The characters just outside of those that a name may have.
+// Fails unless a text is no name, and its bytes are no terms.
+fn is_no_name(alloc: Global, text: &str) -> Result<(), Fail> {
+    let made = NameString::new(alloc, text).err();
+    equal(&made, &Some(ReadError::NameText))?;
+    let none = nothing_stated(alloc)?;
+    equal(&terms(text.as_bytes(), &none).is_err(), &true)
+}
+
 #[test]
 fn name_characters(rt: HostRuntime) -> Result<(), Fail> {
-    let alloc = rt.alloc();
     for text in ["AZ_9", "ZA0_", "_9Z0"] {
-        same(NameString::new(alloc, text)?.as_bytes(), text.as_bytes())?;
+        let name = NameString::new(rt.alloc(), text)?;
+        same(name.as_bytes(), text.as_bytes())?;
     }
-    let none = nothing_stated(alloc)?;
+    Ok(())
+}
+
+// The characters just outside of those that a name may have.
+#[test]
+fn characters_of_no_name(rt: HostRuntime) -> Result<(), Fail> {
     for text in [
         "@BCD",
         "[BCD",
@@ -122,47 +136,46 @@ fn name_characters(rt: HostRuntime) -> Result<(), Fail> {
         "AB.D",
         "ABCD.AB.D",
     ] {
-        equal(
-            &NameString::new(alloc, text).err(),
-            &Some(ReadError::NameText),
-        )?;
-        assert!(rt; terms(text.as_bytes(), &none).is_err());
+        is_no_name(rt.alloc(), text)?;
     }
     Ok(())
 }
 
+fn call(alloc: Global) -> R<MethodCall> {
+    let arguments = vec![in alloc; &ONE as &dyn Aml, &5u8]?;
+    MethodCall::new(Path::new(alloc, "MTHD")?, arguments)
+}
+
+// Fails unless the call means these terms, if this name takes so many arguments.
+fn means_if(alloc: Global, name: &str, count: u8, lines: &str) -> Result<(), Fail> {
+    let call = call(alloc)?;
+    means(alloc, &stated(alloc, name, count)?, &[(&call, lines)])
+}
+
 #[test]
 fn calls(rt: HostRuntime) -> Result<(), Fail> {
-    let alloc = rt.alloc();
-    let call = MethodCall::new(
-        Path::new(alloc, "MTHD")?,
-        vec![in alloc; &ONE as &dyn Aml, &5u8]?,
-    )?;
-    let two = stated(alloc, "MTHD", 2)?;
-    means(
-        alloc,
-        &two,
-        &[(&call, "name MTHD args 2\n  number 1\n  number 5\n")],
-    )?;
-    let other = stated(alloc, "\\MTHD", 2)?;
-    means(
-        alloc,
-        &other,
-        &[(&call, "name MTHD args 0\nnumber 1\nnumber 5\n")],
-    )?;
-    let three = stated(alloc, "MTHD", 3)?;
-    assert!(rt; terms_of(&call, &three)?.is_err());
-    Ok(())
+    let lines = "name MTHD args 2\n  number 1\n  number 5\n";
+    means_if(rt.alloc(), "MTHD", 2, lines)?;
+    let lines = "name MTHD args 0\nnumber 1\nnumber 5\n";
+    means_if(rt.alloc(), "\\MTHD", 2, lines)
+}
+
+#[test]
+fn a_call_of_too_few_arguments(rt: HostRuntime) -> Result<(), Fail> {
+    let call = call(rt.alloc())?;
+    let three = stated(rt.alloc(), "MTHD", 3)?;
+    equal(&terms_of(&call, &three)?.is_err(), &true)
+}
+
+fn pair(alloc: Global) -> R<Package> {
+    let elements = vec![in alloc; &ZERO as &dyn Aml, &ONE]?;
+    Package::new(elements)
 }
 
 #[test]
 fn packages(rt: HostRuntime) -> Result<(), Fail> {
     let alloc = rt.alloc();
-    reads(
-        alloc,
-        Package::new(vec![in alloc; &ZERO as &dyn Aml, &ONE]?),
-        "package 2\n  number 0\n  number 1\n",
-    )?;
+    reads(alloc, pair(alloc), "package 2\n  number 0\n  number 1\n")?;
     reads(
         alloc,
         VarPackageTerm::new(alloc, &2u8),
@@ -207,6 +220,5 @@ fn uncounted_elements(rt: HostRuntime) -> Result<(), Fail> {
     let mut builder = PackageBuilder::new(alloc);
     builder.add_element(&ONE)?;
     builder.vec(&[0x0a, 0x05])?;
-    assert!(rt; terms_of(&builder, &none)?.is_err());
-    Ok(())
+    equal(&terms_of(&builder, &none)?.is_err(), &true)
 }

@@ -1,9 +1,11 @@
 //! Widths that this library doesn't write: they are read, kept and reported.
 
 use super::{nothing_stated, prints};
+use acpi_tables::R;
 use acpi_tables::aml::BufferData;
 use acpi_tables::read::{Term, terms};
-use acpi_vectors::{equal, written};
+use acpi_vectors::{equal, same, written};
+use std::alloc::Global;
 use std::test::Fail;
 
 #[test]
@@ -24,7 +26,8 @@ fn numbers(rt: HostRuntime) -> Result<(), Fail> {
 fn frames(rt: HostRuntime) -> Result<(), Fail> {
     let alloc = rt.alloc();
     let none = nothing_stated(alloc)?;
-    assert!(rt; terms(&[0x12, 0x05, 0x02, 0x00, 0x01], &none).is_err());
+    let short = terms(&[0x12, 0x05, 0x02, 0x00, 0x01], &none);
+    equal(&short.is_err(), &true)?;
     prints(
         alloc,
         &none,
@@ -41,29 +44,47 @@ fn frames(rt: HostRuntime) -> Result<(), Fail> {
     )
 }
 
-// A length of four bytes whose last byte isn't zero.
+// A buffer whose length has four bytes, the last of which isn't zero.
+fn long_buffer(alloc: Global) -> R<Vec<u8>> {
+    let content = vec![in alloc; 0xabu8; 0x10_0000]?;
+    let long = BufferData::new(content)?;
+    written(alloc, &long)
+}
+
+// Fails unless bytes are one term, a buffer whose length has four bytes.
+fn is_long_buffer(alloc: Global, bytes: &[u8]) -> Result<(), Fail> {
+    let none = nothing_stated(alloc)?;
+    let terms = terms(bytes, &none)?;
+    let is_long = matches!(terms.as_slice(), [Term::Buffer { width: 4, .. }]);
+    equal(&is_long, &true)
+}
+
 #[test]
 fn long_frames(rt: HostRuntime) -> Result<(), Fail> {
-    let alloc = rt.alloc();
-    let long = BufferData::new(vec![in alloc; 0xabu8; 0x10_0000]?)?;
-    let mut bytes = written(alloc, &long)?;
-    assert!(rt;
-        bytes.starts_with(&[
-            0x11, 0xc9, 0x00, 0x00, 0x01, 0x0c, 0x00, 0x00, 0x10, 0x00, 0xab
-        ])
-    );
+    let bytes = long_buffer(rt.alloc())?;
+    let start = [
+        0x11, 0xc9, 0x00, 0x00, 0x01, 0x0c, 0x00, 0x00, 0x10, 0x00, 0xab,
+    ];
+    same(bytes.get(..11).unwrap_or(&[]), &start)?;
+    is_long_buffer(rt.alloc(), &bytes)
+}
+
+// Fails unless bytes are read as so many terms, or as none.
+fn has_terms(alloc: Global, bytes: &[u8], count: Option<usize>) -> Result<(), Fail> {
     let none = nothing_stated(alloc)?;
-    assert!(rt;
-        matches!(
-            terms(&bytes, &none)?.as_slice(),
-            [Term::Buffer { width: 4, .. }]
-        )
-    );
+    let terms = terms(bytes, &none);
+    equal(&terms.ok().map(|terms| terms.len()), &count)
+}
+
+#[test]
+fn bytes_after_long_frames(rt: HostRuntime) -> Result<(), Fail> {
+    let mut bytes = long_buffer(rt.alloc())?;
     bytes.push(0)?;
-    equal(&terms(&bytes, &none)?.len(), &2)?;
-    bytes[4] = 0x02;
-    assert!(rt; terms(&bytes, &none).is_err());
-    Ok(())
+    has_terms(rt.alloc(), &bytes, Some(2))?;
+    if let Some(byte) = bytes.get_mut(4) {
+        *byte = 0x02;
+    }
+    has_terms(rt.alloc(), &bytes, None)
 }
 
 #[test]

@@ -12,15 +12,19 @@ const VALUES: [u8; 30] = [
     0x52, 0x53, 0x00, 0x40, 0x00, 0x04, 0x68, 0x67, 0x66, 0x65, 0x64, 0x63, 0x62, 0x61,
 ];
 
-#[test]
-fn added(rt: HostRuntime) -> Result<(), Fail> {
-    let mut table = dsdt(rt.alloc())?;
+fn add_values(table: &mut Sdt) -> R<()> {
     table.append(0x11u8)?;
     table.append(0x2122u16)?;
     table.append(0x3132_3334u32)?;
     table.append(0x4142_4344_4546_4748u64)?;
     table.append([0x51u8, 0x52, 0x53])?;
-    table.append(GenericAddress::mmio_address::<u64>(0x6162_6364_6566_6768))?;
+    table.append(GenericAddress::mmio_address::<u64>(0x6162_6364_6566_6768))
+}
+
+#[test]
+fn added(rt: HostRuntime) -> Result<(), Fail> {
+    let mut table = dsdt(rt.alloc())?;
+    add_values(&mut table)?;
     whole_is(&table, 66, 0xa1, &VALUES)
 }
 
@@ -31,42 +35,72 @@ fn zeros(alloc: Global) -> R<Sdt> {
     Ok(table)
 }
 
+fn write_values(table: &mut Sdt) -> Result<(), Fail> {
+    if table.len() != 70 {
+        return Err(Fail::new("another length"));
+    }
+    table.write(36, 0x11u8);
+    if table.len() != 70 {
+        return Err(Fail::new("another length"));
+    }
+    table.write(37, 0x2122u16);
+    if table.len() != 70 {
+        return Err(Fail::new("another length"));
+    }
+    table.write(39, 0x3132_3334u32);
+    if table.len() != 70 {
+        return Err(Fail::new("another length"));
+    }
+    table.write(43, 0x4142_4344_4546_4748u64);
+    if table.len() != 70 {
+        return Err(Fail::new("another length"));
+    }
+    table.write(51, [0x51u8, 0x52, 0x53]);
+    if table.len() != 70 {
+        return Err(Fail::new("another length"));
+    }
+    let register = GenericAddress::mmio_address::<u64>(0x6162_6364_6566_6768);
+    table.write(54, register);
+    Ok(())
+}
+
 #[test]
 fn written_over(rt: HostRuntime) -> Result<(), Fail> {
     let mut table = zeros(rt.alloc())?;
-    assert!(rt; table.len() == 70);
-    table.write(36, 0x11u8);
-    assert!(rt; table.len() == 70);
-    table.write(37, 0x2122u16);
-    assert!(rt; table.len() == 70);
-    table.write(39, 0x3132_3334u32);
-    assert!(rt; table.len() == 70);
-    table.write(43, 0x4142_4344_4546_4748u64);
-    assert!(rt; table.len() == 70);
-    table.write(51, [0x51u8, 0x52, 0x53]);
-    assert!(rt; table.len() == 70);
-    table.write(
-        54,
-        GenericAddress::mmio_address::<u64>(0x6162_6364_6566_6768),
-    );
+    write_values(&mut table)?;
     let mut contents = [0u8; 34];
     contents[..30].copy_from_slice(&VALUES);
     whole_is(&table, 70, 0x9d, &contents)
 }
 
+fn write_by_width(table: &mut Sdt) -> Result<(), Fail> {
+    if table.len() != 70 {
+        return Err(Fail::new("another length"));
+    }
+    table.write_u8(36, 0x11);
+    if table.len() != 70 {
+        return Err(Fail::new("another length"));
+    }
+    table.write_u16(37, 0x2122);
+    if table.len() != 70 {
+        return Err(Fail::new("another length"));
+    }
+    table.write_u32(39, 0x3132_3334);
+    if table.len() != 70 {
+        return Err(Fail::new("another length"));
+    }
+    table.write_u64(43, 0x4142_4344_4546_4748);
+    if table.len() != 70 {
+        return Err(Fail::new("another length"));
+    }
+    table.write_bytes(51, &[0x51, 0x52, 0x53]);
+    Ok(())
+}
+
 #[test]
 fn written_over_by_width(rt: HostRuntime) -> Result<(), Fail> {
     let mut table = zeros(rt.alloc())?;
-    assert!(rt; table.len() == 70);
-    table.write_u8(36, 0x11);
-    assert!(rt; table.len() == 70);
-    table.write_u16(37, 0x2122);
-    assert!(rt; table.len() == 70);
-    table.write_u32(39, 0x3132_3334);
-    assert!(rt; table.len() == 70);
-    table.write_u64(43, 0x4142_4344_4546_4748);
-    assert!(rt; table.len() == 70);
-    table.write_bytes(51, &[0x51, 0x52, 0x53]);
+    write_by_width(&mut table)?;
     let mut contents = [0u8; 34];
     contents[..18].copy_from_slice(&VALUES[..18]);
     whole_is(&table, 70, 0x05, &contents)

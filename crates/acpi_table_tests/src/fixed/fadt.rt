@@ -1,10 +1,11 @@
 //! The FADT: every field of it, and what each call of the builder sets.
 
+use super::sums;
 use acpi_base::gas::{AccessSize, AddressSpace, GAS};
-use acpi_base::object::u8sum;
 use acpi_tables::fadt::{FADT, FADTBuilder, Flags, PmProfile};
 use acpi_vectors::table::{patched, stands};
 use acpi_vectors::{OEM, OEM_REVISION, OEM_TABLE, equal, writes, written};
+use std::alloc::Global;
 use std::test::Fail;
 
 // The byte at each offset is the low byte of the offset, except for reserved bytes, the checksum, address spaces and access
@@ -179,8 +180,7 @@ fn at_first(rt: HostRuntime) -> Result<(), Fail> {
     let mut wanted = [0; 276];
     wanted[..36].copy_from_slice(header);
     wanted[131] = 5;
-    writes(alloc, &table, &wanted)?;
-    equal(&u8sum(&table)?, &0)
+    sums(alloc, &table, &wanted)
 }
 
 #[test]
@@ -243,64 +243,72 @@ fn profiles(rt: HostRuntime) -> Result<(), Fail> {
     Ok(())
 }
 
-// Each call sets its own fields. A call for an address sets the address of the other width to zero.
+// Fails unless a table is that of `numbered` with these parts at their offsets, and the right checksum.
+fn sets(alloc: Global, made: FADTBuilder, parts: &[(usize, &[u8])]) -> Result<(), Fail> {
+    let before = written(alloc, &numbered().finalize())?;
+    patched(alloc, &made.finalize(), &before, parts)
+}
+
+const LOW: [u8; 4] = [0xa0, 0xa1, 0xa2, 0xa3];
+
+const HIGH: [u8; 8] = [0xa0, 0xa1, 0xa2, 0xa3, 0xa4, 0xa5, 0xa6, 0xa7];
+
+// A call for an address sets the address of the other width to zero.
+#[test]
+fn addresses(rt: HostRuntime) -> Result<(), Fail> {
+    let alloc = rt.alloc();
+    let old = numbered();
+    let low = old.firmware_ctrl_32(0xa3a2_a1a0);
+    sets(alloc, low, &[(36, &LOW), (132, &[0; 8])])?;
+    let high = old.firmware_ctrl_64(0xa7a6_a5a4_a3a2_a1a0);
+    sets(alloc, high, &[(36, &[0; 4]), (132, &HIGH)])?;
+    let low = old.dsdt_32(0xa3a2_a1a0);
+    sets(alloc, low, &[(40, &LOW), (140, &[0; 8])])?;
+    let high = old.dsdt_64(0xa7a6_a5a4_a3a2_a1a0);
+    sets(alloc, high, &[(40, &[0; 4]), (140, &HIGH)])?;
+    let last = old.dsdt_32(5).dsdt_64(7);
+    sets(alloc, last, &[(40, &[0; 4]), (140, b"\x07\0\0\0\0\0\0\0")])
+}
+
+const BLOCKS: [u8; 8] = [0x11, 0x12, 0x13, 0x14, 0x21, 0x22, 0x23, 0x24];
+
+// Each call sets its own fields.
 #[test]
 fn setters(rt: HostRuntime) -> Result<(), Fail> {
     let alloc = rt.alloc();
     let old = numbered();
-    let before = written(alloc, &old.finalize())?;
-    let low = b"\xa0\xa1\xa2\xa3";
-    let high = b"\xa0\xa1\xa2\xa3\xa4\xa5\xa6\xa7";
-    let blocks = b"\x11\x12\x13\x14\x21\x22\x23\x24";
-    let rows: [(FADTBuilder, &[(usize, &[u8])]); 10] = [
-        (
-            old.firmware_ctrl_32(0xa3a2_a1a0),
-            &[(36, low), (132, &[0; 8])],
-        ),
-        (
-            old.firmware_ctrl_64(0xa7a6_a5a4_a3a2_a1a0),
-            &[(36, &[0; 4]), (132, high)],
-        ),
-        (old.dsdt_32(0xa3a2_a1a0), &[(40, low), (140, &[0; 8])]),
-        (
-            old.dsdt_64(0xa7a6_a5a4_a3a2_a1a0),
-            &[(40, &[0; 4]), (140, high)],
-        ),
-        (
-            old.dsdt_32(5).dsdt_64(7),
-            &[(40, &[0; 4]), (140, b"\x07\0\0\0\0\0\0\0")],
-        ),
-        (old.acpi_enable(), &[(52, &[1, 0])]),
-        (old.acpi_disable(), &[(52, &[0, 1])]),
-        (old.preferred_pm_profile(PmProfile::Mobile), &[(45, &[2])]),
-        (
-            old.gpe_info(0x1413_1211, 0x2423_2221, 0x31, 0x32, 0x33),
-            &[(80, blocks), (92, &[0x31, 0x32, 0x33])],
-        ),
-        (
-            old.flag(Flags::ResetRegSup)
-                .dsdt_64(0xa7a6_a5a4_a3a2_a1a0)
-                .acpi_enable()
-                .gpe_info(0x1413_1211, 0x2423_2221, 0x31, 0x32, 0x33)
-                .flag(Flags::Wbinvd)
-                .preferred_pm_profile(PmProfile::Tablet)
-                .flag(Flags::LowPowerS0IdleCapable)
-                .firmware_ctrl_32(0xa3a2_a1a0),
-            &[
-                (36, low),
-                (40, &[0; 4]),
-                (45, &[8]),
-                (52, &[1, 0]),
-                (80, blocks),
-                (92, &[0x31, 0x32, 0x33]),
-                (112, b"\x71\x75\x72\x73"),
-                (132, &[0; 8]),
-                (140, high),
-            ],
-        ),
-    ];
-    for (builder, parts) in rows {
-        patched(alloc, &builder.finalize(), &before, parts)?;
-    }
-    Ok(())
+    sets(alloc, old.acpi_enable(), &[(52, &[1, 0])])?;
+    sets(alloc, old.acpi_disable(), &[(52, &[0, 1])])?;
+    let mobile = old.preferred_pm_profile(PmProfile::Mobile);
+    sets(alloc, mobile, &[(45, &[2])])?;
+    let events = old.gpe_info(0x1413_1211, 0x2423_2221, 0x31, 0x32, 0x33);
+    sets(alloc, events, &[(80, &BLOCKS), (92, &[0x31, 0x32, 0x33])])
+}
+
+#[test]
+fn setters_together(rt: HostRuntime) -> Result<(), Fail> {
+    let all = numbered()
+        .flag(Flags::ResetRegSup)
+        .dsdt_64(0xa7a6_a5a4_a3a2_a1a0)
+        .acpi_enable()
+        .gpe_info(0x1413_1211, 0x2423_2221, 0x31, 0x32, 0x33)
+        .flag(Flags::Wbinvd)
+        .preferred_pm_profile(PmProfile::Tablet)
+        .flag(Flags::LowPowerS0IdleCapable)
+        .firmware_ctrl_32(0xa3a2_a1a0);
+    sets(
+        rt.alloc(),
+        all,
+        &[
+            (36, &LOW),
+            (40, &[0; 4]),
+            (45, &[8]),
+            (52, &[1, 0]),
+            (80, &BLOCKS),
+            (92, &[0x31, 0x32, 0x33]),
+            (112, b"\x71\x75\x72\x73"),
+            (132, &[0; 8]),
+            (140, &HIGH),
+        ],
+    )
 }

@@ -6,6 +6,7 @@ use acpi_tables::spcr::{
 };
 use acpi_vectors::table::patched;
 use acpi_vectors::{OEM, OEM_REVISION, OEM_TABLE, writes};
+use std::alloc::Global;
 use std::test::Fail;
 
 fn port() -> SPCR<'static> {
@@ -42,6 +43,11 @@ fn registers(rt: HostRuntime) -> Result<(), Fail> {
     writes(alloc, &arm, wanted)
 }
 
+// Fails unless a port is `PORT` with this part at this offset, and the right checksum.
+fn sets(alloc: Global, port: SPCR<'static>, offset: usize, part: &[u8]) -> Result<(), Fail> {
+    patched(alloc, &port, &PORT, &[(offset, part)])
+}
+
 #[test]
 fn interface_types(rt: HostRuntime) -> Result<(), Fail> {
     for (interface, number) in [
@@ -67,36 +73,47 @@ fn interface_types(rt: HostRuntime) -> Result<(), Fail> {
         (InterfaceType::IntelLpss, 0x14),
         (InterfaceType::RiscvSbi, 0x15),
     ] {
-        let port = of_type(interface);
-        patched(rt.alloc(), &port, &PORT, &[(36, &[number])])?;
+        sets(rt.alloc(), of_type(interface), 36, &[number])?;
     }
     Ok(())
 }
 
+// Fails unless a port of one controller has its flag and this interrupt of it.
+fn has_one_controller(
+    alloc: Global,
+    controller: InterruptController,
+    flag: u8,
+) -> Result<(), Fail> {
+    let only = port().gsi(controller, 0x0403_0201);
+    sets(alloc, only, 52, &[flag, 0, 1, 2, 3, 4])?;
+    let only = port().gsi(controller, 0x0403_0201);
+    let both = only.irq(0xff).gsi(controller, u32::MAX).irq(9);
+    sets(alloc, both, 52, &[flag | 1, 9, 0xff, 0xff, 0xff, 0xff])
+}
+
 #[test]
-fn interrupts(rt: HostRuntime) -> Result<(), Fail> {
-    let alloc = rt.alloc();
-    patched(alloc, &port().irq(4), &PORT, &[(52, &[1, 4])])?;
+fn controllers_of_interrupts(rt: HostRuntime) -> Result<(), Fail> {
     for (controller, flag) in [
         (InterruptController::IoApic, 2),
         (InterruptController::IoSapic, 4),
         (InterruptController::ArmGic, 8),
         (InterruptController::RiscvPlic, 16),
     ] {
-        let only = port().gsi(controller, 0x0403_0201);
-        let wanted: [(usize, &[u8]); 2] = [(52, &[flag]), (54, &[1, 2, 3, 4])];
-        patched(alloc, &only, &PORT, &wanted)?;
-        let both = only.irq(0xff).gsi(controller, u32::MAX).irq(9);
-        let wanted: [(usize, &[u8]); 1] = [(52, &[flag + 1, 9, 0xff, 0xff, 0xff, 0xff])];
-        patched(alloc, &both, &PORT, &wanted)?;
+        has_one_controller(rt.alloc(), controller, flag)?;
     }
+    Ok(())
+}
+
+#[test]
+fn interrupts(rt: HostRuntime) -> Result<(), Fail> {
+    sets(rt.alloc(), port().irq(4), 52, &[1, 4])?;
     let all = port()
         .gsi(InterruptController::IoApic, 1)
         .gsi(InterruptController::IoSapic, 2)
         .gsi(InterruptController::ArmGic, 3)
         .gsi(InterruptController::RiscvPlic, 4)
         .irq(5);
-    patched(alloc, &all, &PORT, &[(52, &[0x1f, 5, 4])])
+    sets(rt.alloc(), all, 52, &[0x1f, 5, 4])
 }
 
 #[test]
@@ -110,55 +127,71 @@ fn baud_rates(rt: HostRuntime) -> Result<(), Fail> {
         (BaudRate::Baud115200, 7),
     ] {
         let port = port().baud_rate(BaudRate::Baud9600).baud_rate(rate);
-        patched(alloc, &port, &PORT, &[(58, &[number])])?;
+        sets(alloc, port, 58, &[number])?;
     }
     Ok(())
 }
 
 #[test]
 fn line_settings(rt: HostRuntime) -> Result<(), Fail> {
-    let alloc = rt.alloc();
-    for (port, offset, byte) in [
-        (port().parity(0xa1), 59, 0xa1),
-        (port().stop_bits(0xa2), 60, 0xa2),
-        (port().flow_control(FlowControl::Dcd), 61, 1),
-        (port().flow_control(FlowControl::RtsCts), 61, 2),
-        (port().flow_control(FlowControl::XonXoff), 61, 4),
-        (port().terminal_type(TerminalType::Vt100), 62, 0),
-        (port().terminal_type(TerminalType::ExtendedVt100), 62, 1),
-        (port().terminal_type(TerminalType::VtUtf8), 62, 2),
-        (port().terminal_type(TerminalType::Ansi), 62, 3),
-        (port().language(0xa3), 63, 0xa3),
+    sets(rt.alloc(), port().parity(0xa1), 59, &[0xa1])?;
+    sets(rt.alloc(), port().stop_bits(0xa2), 60, &[0xa2])?;
+    sets(rt.alloc(), port().language(0xa3), 63, &[0xa3])
+}
+
+#[test]
+fn flow_control(rt: HostRuntime) -> Result<(), Fail> {
+    for (flow, number) in [
+        (FlowControl::Dcd, 1),
+        (FlowControl::RtsCts, 2),
+        (FlowControl::XonXoff, 4),
     ] {
-        patched(alloc, &port, &PORT, &[(offset, &[byte])])?;
+        sets(rt.alloc(), port().flow_control(flow), 61, &[number])?;
     }
     let joined = port()
         .flow_control(FlowControl::XonXoff)
         .flow_control(FlowControl::Dcd)
         .flow_control(FlowControl::Dcd)
         .flow_control(FlowControl::RtsCts);
-    patched(alloc, &joined, &PORT, &[(61, &[7])])
+    sets(rt.alloc(), joined, 61, &[7])
+}
+
+#[test]
+fn terminals(rt: HostRuntime) -> Result<(), Fail> {
+    for (terminal, number) in [
+        (TerminalType::Vt100, 0),
+        (TerminalType::ExtendedVt100, 1),
+        (TerminalType::VtUtf8, 2),
+        (TerminalType::Ansi, 3),
+    ] {
+        sets(rt.alloc(), port().terminal_type(terminal), 62, &[number])?;
+    }
+    Ok(())
 }
 
 #[test]
 fn pci_devices(rt: HostRuntime) -> Result<(), Fail> {
-    let alloc = rt.alloc();
     let ids = port().pci_ids(0x0201, 0x0403);
-    patched(alloc, &ids, &PORT, &[(64, &[1, 2, 3, 4])])?;
+    sets(rt.alloc(), ids, 64, &[1, 2, 3, 4])?;
+    let full = port()
+        .pci_ids(0x0201, 0x0403)
+        .pci_sbdf(5, 6, 7, 0)
+        .keeps_pnp()
+        .keeps_pnp();
+    sets(rt.alloc(), full, 64, &[1, 2, 3, 4, 6, 7, 0, 1, 0, 0, 0, 5])?;
     let last = port().pci_sbdf(0xfe, 0xff, 31, 7);
-    patched(alloc, &last, &PORT, &[(68, &[0xff, 31, 7]), (75, &[0xfe])])?;
-    let full = ids.pci_sbdf(5, 6, 7, 0).keeps_pnp().keeps_pnp();
-    let wanted: [(usize, &[u8]); 1] = [(64, &[1, 2, 3, 4, 6, 7, 0, 1, 0, 0, 0, 5])];
-    patched(alloc, &full, &PORT, &wanted)
+    sets(rt.alloc(), last, 68, &[0xff, 31, 7, 0, 0, 0, 0, 0xfe])
 }
 
 #[test]
 fn frequencies(rt: HostRuntime) -> Result<(), Fail> {
-    let alloc = rt.alloc();
     let clock = port().clock_frequency(0x0403_0201);
-    patched(alloc, &clock, &PORT, &[(76, &[1, 2, 3, 4])])?;
+    sets(rt.alloc(), clock, 76, &[1, 2, 3, 4])?;
     let rate = port().precise_baud_rate(0x0403_0201);
-    patched(alloc, &rate, &PORT, &[(80, &[1, 2, 3, 4])])?;
-    let most = clock.precise_baud_rate(u32::MAX).clock_frequency(u32::MAX);
-    patched(alloc, &most, &PORT, &[(76, &[0xff; 8])])
+    sets(rt.alloc(), rate, 80, &[1, 2, 3, 4])?;
+    let most = port()
+        .clock_frequency(0x0403_0201)
+        .precise_baud_rate(u32::MAX)
+        .clock_frequency(u32::MAX);
+    sets(rt.alloc(), most, 76, &[0xff; 8])
 }

@@ -65,141 +65,129 @@ fn plic() -> PLIC {
 const PLIC_BYTES: [u8; 36] = *b"\x1b\x24\x01\x02RSCV0001\x11\x12\x13\x14\
         \0\0\0\0\x21\x22\x23\x24\x31\0\0\0\0\0\0\0\x41\x42\x43\x44";
 
-#[test]
-fn each_kind(rt: HostRuntime) -> Result<(), Fail> {
-    let alloc = rt.alloc();
-    let mut madt = table(alloc);
-    let mut all = Vec::new(alloc);
+// The states of a processor and of a hart, and the number of both, by turns.
+const STATES: [(EnabledStatus, HartStatus, u8); 3] = [
+    (EnabledStatus::Disabled, HartStatus::Disabled, 0),
+    (EnabledStatus::Enabled, HartStatus::Enabled, 1),
+    (
+        EnabledStatus::DisabledOnlineCapable,
+        HartStatus::OnlineCapable,
+        2,
+    ),
+];
+
+// Adds structures of the interrupt controllers of Arm.
+fn adds_those_of_arm(alloc: Global, madt: &mut MADT, all: &mut Vec<u8>) -> Result<(), Fail> {
     let mut gicc = [0; 82];
     gicc[0] = 0x0b;
     gicc[1] = 0x52;
     gicc[12] = 8;
     let later = Gicc::new(EnabledStatus::DisabledOnlineCapable);
-    adds(alloc, &mut madt, later, &gicc, &mut all)?;
-    let gicd = b"\x0c\x18\0\0\x01\x02\x03\x04\x11\x12\0\0\0\0\0\0\0\0\0\0\x03\0\0\0";
-    adds(
-        alloc,
-        &mut madt,
-        Gicd::new(0x0403_0201, 0x1211, GicVersion::GICv3),
-        gicd,
-        &mut all,
-    )?;
-    let frame = b"\x0d\x18\0\0\0\0\0\0\0\0\0\0\0\0\0\0\x01\0\0\0\x01\x02\x03\x04";
-    adds(
-        alloc,
-        &mut madt,
-        GicMsi::new().spi_count_and_base(0x0201, 0x0403),
-        frame,
-        &mut all,
-    )?;
-    let gicr = b"\x0e\x10\0\0\x11\x12\0\0\0\0\0\0\x01\x02\x03\x04";
-    adds(
-        alloc,
-        &mut madt,
-        Gicr::new(0x1211, 0x0403_0201),
-        gicr,
-        &mut all,
-    )?;
-    let its = b"\x0f\x14\0\0\x01\x02\x03\x04\x11\x12\0\0\0\0\0\0\0\0\0\0";
-    adds(
-        alloc,
-        &mut madt,
-        GicIts::new(0x0403_0201, 0x1211),
-        its,
-        &mut all,
-    )?;
-    adds(
-        alloc,
-        &mut madt,
-        rintc(HartStatus::Enabled),
-        &RINTC_BYTES,
-        &mut all,
-    )?;
-    adds(alloc, &mut madt, aplic(), &APLIC_BYTES, &mut all)?;
-    adds(alloc, &mut madt, plic(), &PLIC_BYTES, &mut all)?;
-    let imsic = b"\x19\x10\x01\0\0\0\0\0\x01\x02\x03\x04\x05\x06\x07\x08";
-    adds(
-        alloc,
-        &mut madt,
-        IMSIC::new(0x0201, 0x0403, 5, 6, 7, 8),
-        imsic,
-        &mut all,
-    )?;
-    let io = b"\x01\x0c\x01\0\x02\x03\x04\x05\x06\x07\x08\x09";
-    adds(
-        alloc,
-        &mut madt,
-        IoApic::new(1, 0x0504_0302, 0x0908_0706),
-        io,
-        &mut all,
-    )?;
-    for (status, number) in [
-        (EnabledStatus::Disabled, 0),
-        (EnabledStatus::Enabled, 1),
-        (EnabledStatus::DisabledOnlineCapable, 2),
-    ] {
+    adds(alloc, madt, later, &gicc, all)?;
+    let bytes = b"\x0c\x18\0\0\x01\x02\x03\x04\x11\x12\0\0\0\0\0\0\0\0\0\0\x03\0\0\0";
+    let gicd = Gicd::new(0x0403_0201, 0x1211, GicVersion::GICv3);
+    adds(alloc, madt, gicd, bytes, all)?;
+    let bytes = b"\x0d\x18\0\0\0\0\0\0\0\0\0\0\0\0\0\0\x01\0\0\0\x01\x02\x03\x04";
+    let frame = GicMsi::new().spi_count_and_base(0x0201, 0x0403);
+    adds(alloc, madt, frame, bytes, all)?;
+    let bytes = b"\x0e\x10\0\0\x11\x12\0\0\0\0\0\0\x01\x02\x03\x04";
+    adds(alloc, madt, Gicr::new(0x1211, 0x0403_0201), bytes, all)?;
+    let bytes = b"\x0f\x14\0\0\x01\x02\x03\x04\x11\x12\0\0\0\0\0\0\0\0\0\0";
+    adds(alloc, madt, GicIts::new(0x0403_0201, 0x1211), bytes, all)
+}
+
+// Adds structures of the interrupt controllers of RISC-V.
+fn adds_those_of_riscv(alloc: Global, madt: &mut MADT, all: &mut Vec<u8>) -> Result<(), Fail> {
+    adds(alloc, madt, rintc(HartStatus::Enabled), &RINTC_BYTES, all)?;
+    adds(alloc, madt, aplic(), &APLIC_BYTES, all)?;
+    adds(alloc, madt, plic(), &PLIC_BYTES, all)?;
+    let bytes = b"\x19\x10\x01\0\0\0\0\0\x01\x02\x03\x04\x05\x06\x07\x08";
+    let imsic = IMSIC::new(0x0201, 0x0403, 5, 6, 7, 8);
+    adds(alloc, madt, imsic, bytes, all)
+}
+
+// Adds structures of the interrupt controllers of x86.
+fn adds_those_of_x86(alloc: Global, madt: &mut MADT, all: &mut Vec<u8>) -> Result<(), Fail> {
+    let bytes = b"\x01\x0c\x01\0\x02\x03\x04\x05\x06\x07\x08\x09";
+    let io = IoApic::new(1, 0x0504_0302, 0x0908_0706);
+    adds(alloc, madt, io, bytes, all)?;
+    for (status, _, number) in STATES {
         let local = ProcessorLocalApic::new(4, 5, status);
-        adds(
-            alloc,
-            &mut madt,
-            local,
-            &[0, 8, 4, 5, number, 0, 0, 0],
-            &mut all,
-        )?;
+        let bytes = [0, 8, 4, 5, number, 0, 0, 0];
+        adds(alloc, madt, local, &bytes, all)?;
+    }
+    Ok(())
+}
+
+fn adds_each_kind(alloc: Global, madt: &mut MADT, all: &mut Vec<u8>) -> Result<(), Fail> {
+    adds_those_of_arm(alloc, madt, all)?;
+    adds_those_of_riscv(alloc, madt, all)?;
+    adds_those_of_x86(alloc, madt, all)
+}
+
+#[test]
+fn each_kind(rt: HostRuntime) -> Result<(), Fail> {
+    let mut madt = table(rt.alloc());
+    adds_each_kind(rt.alloc(), &mut madt, &mut Vec::new(rt.alloc()))
+}
+
+fn adds_processors(alloc: Global, madt: &mut MADT, all: &mut Vec<u8>) -> Result<(), Fail> {
+    for i in 0..64u8 {
+        let (status, _, number) = STATES[usize::from(i % 3)];
+        let local = ProcessorLocalApic::new(i, 7, status);
+        let bytes = [0, 8, i, 7, number, 0, 0, 0];
+        adds(alloc, madt, local, &bytes, all)?;
     }
     Ok(())
 }
 
 #[test]
 fn processors(rt: HostRuntime) -> Result<(), Fail> {
-    let alloc = rt.alloc();
-    let (mut locals, mut ios, mut harts) = (table(alloc), table(alloc), table(alloc));
-    let (mut of_locals, mut of_ios, mut of_harts) = (
-        Vec::new(alloc),
-        Vec::new(alloc),
-        Vec::new(alloc),
-    );
+    let mut madt = table(rt.alloc());
+    adds_processors(rt.alloc(), &mut madt, &mut Vec::new(rt.alloc()))
+}
+
+fn adds_io_apics(alloc: Global, madt: &mut MADT, all: &mut Vec<u8>) -> Result<(), Fail> {
     for i in 0..64u8 {
-        let (status, hart, number) = match i % 3 {
-            0 => (EnabledStatus::Disabled, HartStatus::Disabled, 0),
-            1 => (EnabledStatus::Enabled, HartStatus::Enabled, 1),
-            _ => (
-                EnabledStatus::DisabledOnlineCapable,
-                HartStatus::OnlineCapable,
-                2,
-            ),
-        };
-        let local = ProcessorLocalApic::new(i, 7, status);
-        adds(
-            alloc,
-            &mut locals,
-            local,
-            &[0, 8, i, 7, number, 0, 0, 0],
-            &mut of_locals,
-        )?;
         let io = IoApic::new(i, 0x0504_0302, 0x0908_0706);
-        adds(
-            alloc,
-            &mut ios,
-            io,
-            &[1, 12, i, 0, 2, 3, 4, 5, 6, 7, 8, 9],
-            &mut of_ios,
-        )?;
+        let bytes = [1, 12, i, 0, 2, 3, 4, 5, 6, 7, 8, 9];
+        adds(alloc, madt, io, &bytes, all)?;
+    }
+    Ok(())
+}
+
+#[test]
+fn io_apics(rt: HostRuntime) -> Result<(), Fail> {
+    let mut madt = table(rt.alloc());
+    adds_io_apics(rt.alloc(), &mut madt, &mut Vec::new(rt.alloc()))
+}
+
+fn adds_harts(alloc: Global, madt: &mut MADT, all: &mut Vec<u8>) -> Result<(), Fail> {
+    for i in 0..64u8 {
+        let (_, status, number) = STATES[usize::from(i % 3)];
         let mut bytes = RINTC_BYTES;
         bytes[4] = number;
-        adds(alloc, &mut harts, rintc(hart), &bytes, &mut of_harts)?;
+        adds(alloc, madt, rintc(status), &bytes, all)?;
+    }
+    Ok(())
+}
+
+#[test]
+fn harts(rt: HostRuntime) -> Result<(), Fail> {
+    let mut madt = table(rt.alloc());
+    adds_harts(rt.alloc(), &mut madt, &mut Vec::new(rt.alloc()))
+}
+
+fn adds_controllers(alloc: Global, madt: &mut MADT, all: &mut Vec<u8>) -> Result<(), Fail> {
+    for _ in 0..64u8 {
+        adds(alloc, madt, aplic(), &APLIC_BYTES, all)?;
+        adds(alloc, madt, plic(), &PLIC_BYTES, all)?;
     }
     Ok(())
 }
 
 #[test]
 fn controllers(rt: HostRuntime) -> Result<(), Fail> {
-    let alloc = rt.alloc();
-    let mut madt = table(alloc);
-    let mut all = Vec::new(alloc);
-    for _ in 0..64u8 {
-        adds(alloc, &mut madt, aplic(), &APLIC_BYTES, &mut all)?;
-        adds(alloc, &mut madt, plic(), &PLIC_BYTES, &mut all)?;
-    }
-    Ok(())
+    let mut madt = table(rt.alloc());
+    adds_controllers(rt.alloc(), &mut madt, &mut Vec::new(rt.alloc()))
 }

@@ -4,26 +4,28 @@ use acpi_base::error::Error;
 use acpi_base::object::Aml;
 use acpi_tables::srat::{GenericInitiator, Handle, MemoryAffinity, RintcAffinity, SRAT};
 use acpi_vectors::table::many;
-use acpi_vectors::{OEM, OEM_REVISION, OEM_TABLE, all, refuses, same, writes};
+use acpi_vectors::{OEM, OEM_REVISION, OEM_TABLE, all, equal, refuses, writes};
+use std::alloc::Global;
 use std::test::Fail;
 
 // The fields after the header.
 const FIXED: [u8; 12] = [1, 0, 0, 0, 0, 0, 0, 0, 0, 0, 0, 0];
 
-#[test]
-fn srat(rt: HostRuntime) -> Result<(), Fail> {
-    let alloc = rt.alloc();
-    let mut table = SRAT::new(alloc, OEM, OEM_TABLE, OEM_REVISION);
+fn table(alloc: Global) -> SRAT {
+    SRAT::new(alloc, OEM, OEM_TABLE, OEM_REVISION)
+}
+
+fn is_srat(alloc: Global, table: &mut SRAT) -> Result<(), Fail> {
     writes(
         alloc,
-        &table,
+        table,
         b"SRAT\x30\0\0\0\x01\x48FOOBARCAFEDEAD\xef\xbe\xad\xdeRVAT\0\0\0\x01\x01\0\0\0\0\0\0\0\0\0\0\0",
     )?;
     let memory = MemoryAffinity::new(0x0403_0201, 0x1817_1615_1413_1211, 0x2827_2625_2423_2221);
     table.add_memory_affinity(memory.enabled().hotpluggable().nonvolatile())?;
     writes(
         alloc,
-        &table,
+        table,
         b"SRAT\x58\0\0\0\x01\x1eFOOBARCAFEDEAD\xef\xbe\xad\xdeRVAT\0\0\0\x01\
             \x01\0\0\0\0\0\0\0\0\0\0\0\
             \x01\x28\x01\x02\x03\x04\0\0\x11\x12\x13\x14\x15\x16\x17\x18\
@@ -32,31 +34,36 @@ fn srat(rt: HostRuntime) -> Result<(), Fail> {
 }
 
 #[test]
+fn srat(rt: HostRuntime) -> Result<(), Fail> {
+    is_srat(rt.alloc(), &mut table(rt.alloc()))
+}
+
+fn has_flags(alloc: Global, memory: MemoryAffinity, flags: u8) -> Result<(), Fail> {
+    let mut wanted = [0; 40];
+    wanted[0] = 1;
+    wanted[1] = 40;
+    wanted[28] = flags;
+    writes(alloc, &memory, &wanted)
+}
+
+fn memory() -> MemoryAffinity {
+    MemoryAffinity::new(0, 0, 0)
+}
+
+#[test]
 fn memory_flags(rt: HostRuntime) -> Result<(), Fail> {
     let alloc = rt.alloc();
-    for (memory, flags) in [
-        (MemoryAffinity::new(0, 0, 0), 0),
-        (MemoryAffinity::new(0, 0, 0).enabled(), 1),
-        (MemoryAffinity::new(0, 0, 0).hotpluggable(), 2),
-        (MemoryAffinity::new(0, 0, 0).nonvolatile(), 4),
-        (MemoryAffinity::new(0, 0, 0).enabled().enabled(), 1),
-        (MemoryAffinity::new(0, 0, 0).enabled().hotpluggable(), 3),
-        (MemoryAffinity::new(0, 0, 0).hotpluggable().enabled(), 3),
-        (
-            MemoryAffinity::new(0, 0, 0).hotpluggable().hotpluggable(),
-            2,
-        ),
-        (MemoryAffinity::new(0, 0, 0).nonvolatile().enabled(), 5),
-        (MemoryAffinity::new(0, 0, 0).nonvolatile().hotpluggable(), 6),
-        (MemoryAffinity::new(0, 0, 0).nonvolatile().nonvolatile(), 4),
-    ] {
-        let mut wanted = [0; 40];
-        wanted[0] = 1;
-        wanted[1] = 40;
-        wanted[28] = flags;
-        writes(alloc, &memory, &wanted)?;
-    }
-    Ok(())
+    has_flags(alloc, memory(), 0)?;
+    has_flags(alloc, memory().enabled(), 1)?;
+    has_flags(alloc, memory().hotpluggable(), 2)?;
+    has_flags(alloc, memory().nonvolatile(), 4)?;
+    has_flags(alloc, memory().enabled().enabled(), 1)?;
+    has_flags(alloc, memory().enabled().hotpluggable(), 3)?;
+    has_flags(alloc, memory().hotpluggable().enabled(), 3)?;
+    has_flags(alloc, memory().hotpluggable().hotpluggable(), 2)?;
+    has_flags(alloc, memory().nonvolatile().enabled(), 5)?;
+    has_flags(alloc, memory().nonvolatile().hotpluggable(), 6)?;
+    has_flags(alloc, memory().nonvolatile().nonvolatile(), 4)
 }
 
 #[test]
@@ -105,35 +112,46 @@ fn initiator_flags(rt: HostRuntime) -> Result<(), Fail> {
     Ok(())
 }
 
-// A table of one structure of each kind, after each addition.
-#[test]
-fn each_kind(rt: HostRuntime) -> Result<(), Fail> {
-    let alloc = rt.alloc();
-    let mut table = SRAT::new(alloc, OEM, OEM_TABLE, OEM_REVISION);
+// A structure of each kind.
+const EACH: [u8; 124] = *b"\x01\x28\x01\x02\x03\x04\0\0\x11\x12\0\0\0\0\0\0\
+        \x21\x22\0\0\0\0\0\0\0\0\0\0\x01\0\0\0\0\0\0\0\0\0\0\0\
+        \x05\x20\0\0\x11\x12\x13\x14ABCDEFGHijkl\0\0\0\0\x03\0\0\0\0\0\0\0\
+        \x05\x20\0\x01\x21\x22\x23\x24\x31\x32\x33\x1c\0\0\0\0\0\0\0\0\0\0\0\0\0\0\0\0\0\0\0\0\
+        \x07\x14\0\0\0\0\0\0\x01\x02\x03\x04\x01\0\0\0\x11\x12\x13\x14";
+
+// Fails unless a table has these structures alone.
+fn has(alloc: Global, table: &SRAT, structures: &[u8]) -> Result<(), Fail> {
+    many(alloc, table, b"SRAT", 1, &FIXED, structures, 1)
+}
+
+// Fails unless a table has one structure of each kind, after each addition.
+fn takes_each_kind(alloc: Global, table: &mut SRAT) -> Result<(), Fail> {
     table.add_memory_affinity(MemoryAffinity::new(0x0403_0201, 0x1211, 0x2221).enabled())?;
-    let memory = b"\x01\x28\x01\x02\x03\x04\0\0\x11\x12\0\0\0\0\0\0\
-            \x21\x22\0\0\0\0\0\0\0\0\0\0\x01\0\0\0\0\0\0\0\0\0\0\0";
-    let mut added = Vec::from_slice(alloc, memory)?;
-    many(alloc, &table, b"SRAT", 1, &FIXED, &added, 1)?;
+    has(alloc, table, &EACH[..40])?;
     let acpi = GenericInitiator::new(0x1413_1211, Handle::new_acpi(*b"ABCDEFGH", *b"ijkl"));
     table.add_generic_initiator(acpi.enabled().architectural())?;
-    added.extend_from_slice(b"\x05\x20\0\0\x11\x12\x13\x14ABCDEFGHijkl\0\0\0\0\x03\0\0\0\0\0\0\0")?;
-    many(alloc, &table, b"SRAT", 1, &FIXED, &added, 1)?;
+    has(alloc, table, &EACH[..72])?;
     let pci = GenericInitiator::new(0x2423_2221, Handle::new_pci(0x3231, 0x33, 3, 4));
     table.add_generic_initiator(pci)?;
-    added.extend_from_slice(
-        b"\x05\x20\0\x01\x21\x22\x23\x24\x31\x32\x33\x1c\0\0\0\0\0\0\0\0\0\0\0\0\0\0\0\0\0\0\0\0",
-    )?;
-    many(alloc, &table, b"SRAT", 1, &FIXED, &added, 1)?;
+    has(alloc, table, &EACH[..104])?;
     table.add_rintc_affinity(RintcAffinity::new([1, 2, 3, 4], 0x1413_1211).enabled())?;
-    added.extend_from_slice(b"\x07\x14\0\0\0\0\0\0\x01\x02\x03\x04\x01\0\0\0\x11\x12\x13\x14")?;
-    many(alloc, &table, b"SRAT", 1, &FIXED, &added, 1)
+    has(alloc, table, &EACH)
 }
 
 #[test]
-fn addresses_out_of_range(rt: HostRuntime) -> Result<(), Fail> {
-    let alloc = rt.alloc();
-    let mut table = SRAT::new(alloc, OEM, OEM_TABLE, OEM_REVISION);
+fn each_kind(rt: HostRuntime) -> Result<(), Fail> {
+    takes_each_kind(rt.alloc(), &mut table(rt.alloc()))
+}
+
+// Fails unless an object refuses its address, and writes nothing.
+fn refuses_its_address(alloc: Global, aml: &dyn Aml) -> Result<(), Fail> {
+    let mut bytes = Vec::new(alloc);
+    refuses(aml.to_aml_bytes(&mut bytes), Error::PciAddress)?;
+    equal(&bytes.len(), &0)
+}
+
+// The table is unchanged.
+fn refuses_addresses(alloc: Global, table: &mut SRAT) -> Result<(), Fail> {
     for (device, function) in [(32, 0), (0, 8), (255, 255)] {
         let handle = Handle::Pci {
             segment: 1,
@@ -142,18 +160,23 @@ fn addresses_out_of_range(rt: HostRuntime) -> Result<(), Fail> {
             function,
         };
         let initiator = GenericInitiator::new(0, handle);
-        let mut bytes = Vec::new(alloc);
-        refuses(handle.to_aml_bytes(&mut bytes), Error::PciAddress)?;
-        refuses(initiator.to_aml_bytes(&mut bytes), Error::PciAddress)?;
-        same(&bytes, &[])?;
+        refuses_its_address(alloc, &handle)?;
+        refuses_its_address(alloc, &initiator)?;
         refuses(table.add_generic_initiator(initiator), Error::PciAddress)?;
     }
-    many(alloc, &table, b"SRAT", 1, &FIXED, &[], 0)?;
+    has(alloc, table, &[])
+}
+
+fn takes_an_address(alloc: Global, table: &mut SRAT) -> Result<(), Fail> {
+    refuses_addresses(alloc, table)?;
     table.add_generic_initiator(GenericInitiator::new(0, Handle::new_acpi([0; 8], [0; 4])))?;
-    let mut initiator = [0; 32];
-    initiator[0] = 5;
-    initiator[1] = 32;
-    many(alloc, &table, b"SRAT", 1, &FIXED, &initiator, 1)
+    let initiator = b"\x05\x20\0\0\0\0\0\0\0\0\0\0\0\0\0\0\0\0\0\0\0\0\0\0\0\0\0\0\0\0\0\0";
+    has(alloc, table, initiator)
+}
+
+#[test]
+fn addresses_out_of_range(rt: HostRuntime) -> Result<(), Fail> {
+    takes_an_address(rt.alloc(), &mut table(rt.alloc()))
 }
 
 #[test]
@@ -183,13 +206,15 @@ fn processors(rt: HostRuntime) -> Result<(), Fail> {
     )
 }
 
-#[test]
-fn many_affinities(rt: HostRuntime) -> Result<(), Fail> {
-    let alloc = rt.alloc();
-    let mut table = SRAT::new(alloc, OEM, OEM_TABLE, OEM_REVISION);
+fn takes_many(alloc: Global, table: &mut SRAT) -> Result<(), Fail> {
     for _ in 0..3_300u16 {
         table.add_rintc_affinity(RintcAffinity::new([1, 2, 3, 4], 5).enabled())?;
     }
-    let rintc = [7, 20, 0, 0, 0, 0, 0, 0, 1, 2, 3, 4, 1, 0, 0, 0, 5, 0, 0, 0];
-    many(alloc, &table, b"SRAT", 1, &FIXED, &rintc, 3_300)
+    let rintc = b"\x07\x14\0\0\0\0\0\0\x01\x02\x03\x04\x01\0\0\0\x05\0\0\0";
+    many(alloc, table, b"SRAT", 1, &FIXED, rintc, 3_300)
+}
+
+#[test]
+fn many_affinities(rt: HostRuntime) -> Result<(), Fail> {
+    takes_many(rt.alloc(), &mut table(rt.alloc()))
 }

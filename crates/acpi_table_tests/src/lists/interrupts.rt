@@ -8,6 +8,7 @@ use acpi_tables::madt::{
 };
 use acpi_vectors::table::many;
 use acpi_vectors::{OEM, OEM_REVISION, OEM_TABLE, all, writes};
+use std::alloc::Global;
 use std::test::Fail;
 
 #[test]
@@ -121,55 +122,42 @@ fn local_apics(rt: HostRuntime) -> Result<(), Fail> {
     Ok(())
 }
 
-// A table after each addition of a structure, of each kind in turn.
-#[test]
-fn each_kind(rt: HostRuntime) -> Result<(), Fail> {
-    let alloc = rt.alloc();
-    let local = LocalInterruptController::Address(0x0403_0201);
-    let mut madt = MADT::new(alloc, OEM, OEM_TABLE, OEM_REVISION, local);
-    let mut bytes = Vec::new(alloc);
-    let rows: [(&dyn Aml, &[u8]); 6] = [
-        (
-            &InterruptSourceOverride::new(1, 2),
-            &[2, 10, 0, 1, 2, 0, 0, 0, 0, 0],
-        ),
-        (&NmiSource::new(1), &[3, 8, 0, 0, 1, 0, 0, 0]),
-        (&LocalApicNmi::new(1, 2), &[4, 6, 1, 0, 0, 2]),
-        (
-            &LocalApicAddressOverride::new(1),
-            &[5, 12, 0, 0, 1, 0, 0, 0, 0, 0, 0, 0],
-        ),
-        (
-            &ProcessorLocalX2Apic::new(1, 2, EnabledStatus::Enabled),
-            &[9, 16, 0, 0, 2, 0, 0, 0, 1, 0, 0, 0, 1, 0, 0, 0],
-        ),
-        (
-            &LocalX2ApicNmi::new(1, 2),
-            &[10, 12, 0, 0, 1, 0, 0, 0, 2, 0, 0, 0],
-        ),
+// Fails unless a table is its header, its fixed fields and these structures.
+fn has(alloc: Global, madt: &MADT, structures: &[u8]) -> Result<(), Fail> {
+    let fixed = [1, 2, 3, 4, 0, 0, 0, 0];
+    many(alloc, madt, b"APIC", 1, &fixed, structures, 1)
+}
+
+// A structure of each kind, and another one of the first kind.
+const EACH: [u8; 74] = *b"\x02\x0a\0\x01\x02\0\0\0\0\0\
+        \x03\x08\0\0\x01\0\0\0\
+        \x04\x06\x01\0\0\x02\
+        \x05\x0c\0\0\x01\0\0\0\0\0\0\0\
+        \x09\x10\0\0\x02\0\0\0\x01\0\0\0\x01\0\0\0\
+        \x0a\x0c\0\0\x01\0\0\0\x02\0\0\0\
+        \x02\x0a\0\x01\x02\0\0\0\0\0";
+
+// Fails unless a table has one structure of each kind, after each addition. The last one isn't only borrowed.
+fn takes_each_kind(alloc: Global, madt: &mut MADT) -> Result<(), Fail> {
+    let rows: [(&dyn Aml, usize); 6] = [
+        (&InterruptSourceOverride::new(1, 2), 10),
+        (&NmiSource::new(1), 18),
+        (&LocalApicNmi::new(1, 2), 24),
+        (&LocalApicAddressOverride::new(1), 36),
+        (&ProcessorLocalX2Apic::new(1, 2, EnabledStatus::Enabled), 52),
+        (&LocalX2ApicNmi::new(1, 2), 64),
     ];
-    for (structure, wanted) in rows {
+    for (structure, end) in rows {
         madt.add_borrowed_structure(structure)?;
-        bytes.extend_from_slice(wanted)?;
-        many(
-            alloc,
-            &madt,
-            b"APIC",
-            1,
-            &[1, 2, 3, 4, 0, 0, 0, 0],
-            &bytes,
-            1,
-        )?;
+        has(alloc, madt, EACH.get(..end).unwrap_or(&[]))?;
     }
     madt.add_structure(InterruptSourceOverride::new(1, 2))?;
-    bytes.extend_from_slice(&[2, 10, 0, 1, 2, 0, 0, 0, 0, 0])?;
-    many(
-        alloc,
-        &madt,
-        b"APIC",
-        1,
-        &[1, 2, 3, 4, 0, 0, 0, 0],
-        &bytes,
-        1,
-    )
+    has(alloc, madt, &EACH)
+}
+
+#[test]
+fn each_kind(rt: HostRuntime) -> Result<(), Fail> {
+    let local = LocalInterruptController::Address(0x0403_0201);
+    let mut madt = MADT::new(rt.alloc(), OEM, OEM_TABLE, OEM_REVISION, local);
+    takes_each_kind(rt.alloc(), &mut madt)
 }

@@ -16,42 +16,77 @@ fn table(alloc: Global, int: LocalInterruptController) -> MADT {
     MADT::new(alloc, OEM, OEM_TABLE, OEM_REVISION, int)
 }
 
-// Structures of several types in one list, which is only borrowed.
-#[test]
-fn borrowed(rt: HostRuntime) -> Result<(), Fail> {
-    let alloc = rt.alloc();
-    let mut list: Vec<Box<dyn Aml + Drop>> = Vec::new(alloc);
-    list.push(Box::new(alloc, ProcessorLocalApic::new(1, 2, EnabledStatus::Enabled))?)?;
-    list.push(Box::new(alloc, IoApic::new(3, 0x0706_0504, 8))?)?;
+// Adds structures of two types to a list.
+fn fill(alloc: Global, list: &mut Vec<Box<dyn Aml + Drop>>) -> R<()> {
+    let local = Box::new(alloc, ProcessorLocalApic::new(1, 2, EnabledStatus::Enabled))?;
+    list.push(local)?;
+    let io = Box::new(alloc, IoApic::new(3, 0x0706_0504, 8))?;
+    list.push(io)?;
+    Ok(())
+}
+
+// Fails unless a table has the structures of that list this many times.
+fn has_list(alloc: Global, madt: &MADT, times: u32) -> Result<(), Fail> {
     let bytes = b"\0\x08\x01\x02\x01\0\0\0\x01\x0c\x03\0\x04\x05\x06\x07\x08\0\0\0";
     let fixed = &[1, 2, 3, 4, 0, 0, 0, 0];
-    let local = LocalInterruptController::Address(0x0403_0201);
-    let mut madt = MADT::new(alloc, OEM, OEM_TABLE, OEM_REVISION, local);
+    many(alloc, madt, b"APIC", 1, fixed, bytes, times)
+}
+
+// Adds a list three times.
+fn borrows(alloc: Global, madt: &mut MADT, list: &[Box<dyn Aml + Drop>]) -> Result<(), Fail> {
     for times in 1..4u32 {
-        for structure in &list {
+        for structure in list {
             madt.add_borrowed_structure(&**structure)?;
         }
-        many(alloc, &madt, b"APIC", 1, fixed, bytes, times)?;
+        has_list(alloc, madt, times)?;
         equal(&madt.count(), &(2 * times))?;
     }
+    Ok(())
+}
+
+fn takes_borrowed(
+    alloc: Global,
+    madt: &mut MADT,
+    list: &mut Vec<Box<dyn Aml + Drop>>,
+) -> Result<(), Fail> {
+    fill(alloc, list)?;
+    borrows(alloc, madt, list)?;
     refuses(madt.add_borrowed_structure(&Broken {}), Error::Sink(9))?;
-    many(alloc, &madt, b"APIC", 1, fixed, bytes, 3)
+    has_list(alloc, madt, 3)
+}
+
+// The list is only borrowed.
+#[test]
+fn borrowed(rt: HostRuntime) -> Result<(), Fail> {
+    let local = LocalInterruptController::Address(0x0403_0201);
+    let mut madt = table(rt.alloc(), local);
+    takes_borrowed(rt.alloc(), &mut madt, &mut Vec::new(rt.alloc()))
 }
 
 #[test]
-fn tables(rt: HostRuntime) -> Result<(), Fail> {
-    let alloc = rt.alloc();
-    let riscv = table(alloc, LocalInterruptController::Riscv);
+fn tables_without_structures(rt: HostRuntime) -> Result<(), Fail> {
     let nothing =
         b"APIC\x2c\0\0\0\x01\x6aFOOBARCAFEDEAD\xef\xbe\xad\xdeRVAT\0\0\0\x01\0\0\0\0\0\0\0\0";
-    writes(alloc, &riscv, nothing)?;
-    let mut x86 = table(alloc, LocalInterruptController::Address(0xfee0_0000));
+    writes(
+        rt.alloc(),
+        &table(rt.alloc(), LocalInterruptController::Riscv),
+        nothing,
+    )?;
+    let elsewhere = table(rt.alloc(), LocalInterruptController::Address(0x0403_0201));
+    stands(rt.alloc(), &elsewhere, 36, b"\x01\x02\x03\x04\0\0\0\0")
+}
+
+fn takes_one(alloc: Global, x86: &mut MADT) -> Result<(), Fail> {
     x86.add_structure(ProcessorLocalApic::new(0, 0, EnabledStatus::Enabled))?;
     let one =
         b"APIC\x34\0\0\0\x01\x7bFOOBARCAFEDEAD\xef\xbe\xad\xdeRVAT\0\0\0\x01\0\0\xe0\xfe\0\0\0\0\0\x08\0\0\x01\0\0\0";
-    writes(alloc, &x86, one)?;
-    let elsewhere = table(alloc, LocalInterruptController::Address(0x0403_0201));
-    stands(alloc, &elsewhere, 36, b"\x01\x02\x03\x04\0\0\0\0")
+    writes(alloc, x86, one)
+}
+
+#[test]
+fn a_table_of_one_structure(rt: HostRuntime) -> Result<(), Fail> {
+    let mut x86 = table(rt.alloc(), LocalInterruptController::Address(0xfee0_0000));
+    takes_one(rt.alloc(), &mut x86)
 }
 
 #[test]
@@ -107,58 +142,67 @@ fn cpu_interfaces(rt: HostRuntime) -> Result<(), Fail> {
     writes(alloc, &filled, &wanted)
 }
 
-#[test]
-fn cpu_interface_flags(rt: HostRuntime) -> Result<(), Fail> {
-    let alloc = rt.alloc();
+// Fails unless an interface has these flags, and these bytes of its performance interrupt and its maintenance interrupt.
+fn has_flags(alloc: Global, gicc: &Gicc, flags: u8, first: u8, second: u8) -> Result<(), Fail> {
     let mut wanted = [0; 82];
     wanted[0] = 0x0b;
     wanted[1] = 0x52;
-    writes(alloc, &Gicc::new(EnabledStatus::Disabled), &wanted)?;
-    wanted[12] = 0x01;
-    writes(alloc, &Gicc::new(EnabledStatus::Enabled), &wanted)?;
+    wanted[12] = flags;
+    wanted[20] = first;
+    wanted[56] = second;
+    writes(alloc, gicc, &wanted)
+}
+
+#[test]
+fn cpu_interface_flags(rt: HostRuntime) -> Result<(), Fail> {
+    for (status, flags) in [
+        (EnabledStatus::Disabled, 0),
+        (EnabledStatus::Enabled, 0x01),
+        (EnabledStatus::DisabledOnlineCapable, 0x08),
+    ] {
+        has_flags(rt.alloc(), &Gicc::new(status), flags, 0, 0)?;
+    }
+    Ok(())
+}
+
+#[test]
+fn triggers_of_cpu_interfaces(rt: HostRuntime) -> Result<(), Fail> {
     let later = Gicc::new(EnabledStatus::DisabledOnlineCapable);
-    wanted[12] = 0x08;
-    writes(alloc, &later, &wanted)?;
     let both = later
         .maintenance_interrupt(9, Trigger::Edge)
         .performance_interrupt(7, Trigger::Edge);
-    wanted[12] = 0x0e;
-    wanted[20] = 7;
-    wanted[56] = 9;
-    writes(alloc, &both, &wanted)?;
-    for made in [
-        later
-            .performance_interrupt(7, Trigger::Edge)
-            .maintenance_interrupt(9, Trigger::Edge),
-        both.performance_interrupt(7, Trigger::Edge),
-        both.maintenance_interrupt(9, Trigger::Edge),
-    ] {
-        writes(alloc, &made, &wanted)?;
+    let other = later
+        .performance_interrupt(7, Trigger::Edge)
+        .maintenance_interrupt(9, Trigger::Edge);
+    let twice = both.performance_interrupt(7, Trigger::Edge);
+    let again = both.maintenance_interrupt(9, Trigger::Edge);
+    for gicc in [both, other, twice, again] {
+        has_flags(rt.alloc(), &gicc, 0x0e, 7, 9)?;
     }
+    let mut wanted = [0; 82];
+    wanted[..2].copy_from_slice(&[0x0b, 0x52]);
+    wanted[12] = 0x0e;
+    wanted[20..24].copy_from_slice(&[0xff; 4]);
     let levels = both
         .performance_interrupt(u32::MAX, Trigger::Level)
         .maintenance_interrupt(0, Trigger::Level);
-    wanted[20..24].copy_from_slice(&[0xff; 4]);
-    wanted[56] = 0;
-    writes(alloc, &levels, &wanted)
+    writes(rt.alloc(), &levels, &wanted)
 }
 
 #[test]
 fn distributors(rt: HostRuntime) -> Result<(), Fail> {
-    let alloc = rt.alloc();
-    let versions = [
-        GicVersion::Unspecified,
-        GicVersion::GICv1,
-        GicVersion::GICv2,
-        GicVersion::GICv3,
-        GicVersion::GICv4,
-    ];
-    let mut wanted =
-        *b"\x0c\x18\0\0\x01\x02\x03\x04\x11\x12\x13\x14\x15\x16\x17\x18\0\0\0\0\0\0\0\0";
-    for (number, version) in [0, 1, 2, 3, 4].iter().zip(&versions) {
-        wanted[20] = *number;
-        let gicd = Gicd::new(0x0403_0201, 0x1817_1615_1413_1211, *version);
-        writes(alloc, &gicd, &wanted)?;
+    for (number, version) in [
+        (0, GicVersion::Unspecified),
+        (1, GicVersion::GICv1),
+        (2, GicVersion::GICv2),
+        (3, GicVersion::GICv3),
+        (4, GicVersion::GICv4),
+    ] {
+        let mut wanted =
+            *b"\x0c\x18\0\0\x01\x02\x03\x04\x11\x12\x13\x14\x15\x16\x17\x18\0\0\0\0\0\0\0\0";
+        wanted[20] = number;
+        let gicd = Gicd::new(0x0403_0201, 0x1817_1615_1413_1211, version);
+        writes(rt.alloc(), &gicd, &wanted)?;
     }
     Ok(())
 }
@@ -218,26 +262,24 @@ fn redistributors_and_translation(rt: HostRuntime) -> Result<(), Fail> {
 
 #[test]
 fn harts(rt: HostRuntime) -> Result<(), Fail> {
-    let alloc = rt.alloc();
     equal(&RINTC::len(), &36)?;
-    let statuses = [
-        HartStatus::Disabled,
-        HartStatus::Enabled,
-        HartStatus::OnlineCapable,
-    ];
-    let mut wanted = *b"\x18\x24\x01\0\0\0\0\0\x11\x12\x13\x14\x15\x16\x17\x18\
+    for (number, status) in [
+        (0, HartStatus::Disabled),
+        (1, HartStatus::Enabled),
+        (2, HartStatus::OnlineCapable),
+    ] {
+        let mut wanted = *b"\x18\x24\x01\0\0\0\0\0\x11\x12\x13\x14\x15\x16\x17\x18\
             \x21\x22\x23\x24\x31\x32\x33\x34\x41\x42\x43\x44\x45\x46\x47\x48\x51\x52\x53\x54";
-    for (number, status) in [0, 1, 2].iter().zip(&statuses) {
-        wanted[4] = *number;
+        wanted[4] = number;
         let rintc = RINTC::new(
-            *status,
+            status,
             0x1817_1615_1413_1211,
             0x2423_2221,
             0x3433_3231,
             0x4847_4645_4443_4241,
             0x5453_5251,
         );
-        writes(alloc, &rintc, &wanted)?;
+        writes(rt.alloc(), &rintc, &wanted)?;
     }
     Ok(())
 }
@@ -301,26 +343,33 @@ fn holds(alloc: Global, madt: &MADT, size: u8, checksum: u8, imsics: u32) -> Res
     many(alloc, madt, b"APIC", 1, &[0; 8], &IMSIC_BYTES, imsics)
 }
 
-#[test]
-fn one_imsic(rt: HostRuntime) -> Result<(), Fail> {
-    let alloc = rt.alloc();
-    let mut madt = table(alloc, LocalInterruptController::Riscv);
+fn takes_one_imsic(alloc: Global, madt: &mut MADT) -> Result<(), Fail> {
     madt.add_structure(imsic())?;
     madt.add_imsic(imsic())?;
-    holds(alloc, &madt, 76, 0xae, 2)?;
+    holds(alloc, madt, 76, 0xae, 2)?;
     refuses(madt.add_imsic(imsic()), Error::ImsicSet)?;
-    holds(alloc, &madt, 76, 0xae, 2)
+    holds(alloc, madt, 76, 0xae, 2)
+}
+
+#[test]
+fn one_imsic(rt: HostRuntime) -> Result<(), Fail> {
+    let mut madt = table(rt.alloc(), LocalInterruptController::Riscv);
+    takes_one_imsic(rt.alloc(), &mut madt)
+}
+
+// Fails unless a table refuses a structure, and is unchanged.
+fn is_unchanged(alloc: Global, madt: &mut MADT) -> Result<(), Fail> {
+    refuses(madt.add_structure(Broken {}), Error::Sink(9))?;
+    holds(alloc, madt, 44, 0x6a, 0)?;
+    madt.add_imsic(imsic())?;
+    refuses(madt.add_structure(Broken {}), Error::Sink(9))?;
+    holds(alloc, madt, 60, 0x0c, 1)
 }
 
 #[test]
 fn a_structure_that_refuses(rt: HostRuntime) -> Result<(), Fail> {
-    let alloc = rt.alloc();
-    let mut madt = table(alloc, LocalInterruptController::Riscv);
-    refuses(madt.add_structure(Broken {}), Error::Sink(9))?;
-    holds(alloc, &madt, 44, 0x6a, 0)?;
-    madt.add_imsic(imsic())?;
-    refuses(madt.add_structure(Broken {}), Error::Sink(9))?;
-    holds(alloc, &madt, 60, 0x0c, 1)
+    let mut madt = table(rt.alloc(), LocalInterruptController::Riscv);
+    is_unchanged(rt.alloc(), &mut madt)
 }
 
 // Adds a structure of one of two kinds in turn.
@@ -344,22 +393,30 @@ fn append_nth(bytes: &mut Vec<u8>, i: u16) -> R<()> {
     Ok(())
 }
 
-// Fails unless a table of this many structures has this length, sums to zero, and is its header and these structures.
-fn of_many(alloc: Global, count: u16, size: u32) -> Result<(), Fail> {
-    let mut madt = table(alloc, LocalInterruptController::Riscv);
-    let mut structures = Vec::new(alloc);
+// Adds this many structures. Fails unless a table has this length, sums to zero, and is its header and these structures.
+fn takes_many(
+    alloc: Global,
+    madt: &mut MADT,
+    structures: &mut Vec<u8>,
+    (count, size): (u16, u32),
+) -> Result<(), Fail> {
     for i in 0..count {
-        add_nth(&mut madt, i)?;
-        append_nth(&mut structures, i)?;
+        add_nth(madt, i)?;
+        append_nth(structures, i)?;
     }
-    stands(alloc, &madt, 4, &size.to_le_bytes())?;
-    many(alloc, &madt, b"APIC", 1, &[0; 8], &structures, 1)
+    stands(alloc, madt, 4, &size.to_le_bytes())?;
+    many(alloc, madt, b"APIC", 1, &[0; 8], structures, 1)
+}
+
+fn of_many(alloc: Global, counts: (u16, u32)) -> Result<(), Fail> {
+    let mut madt = table(alloc, LocalInterruptController::Riscv);
+    takes_many(alloc, &mut madt, &mut Vec::new(alloc), counts)
 }
 
 #[test]
 fn many_structures(rt: HostRuntime) -> Result<(), Fail> {
-    let alloc = rt.alloc();
-    of_many(alloc, 256, 2604)?;
-    of_many(alloc, 300, 3044)?;
-    of_many(alloc, 6_600, 66_044)
+    for counts in [(256, 2604), (300, 3044), (6_600, 66_044)] {
+        of_many(rt.alloc(), counts)?;
+    }
+    Ok(())
 }

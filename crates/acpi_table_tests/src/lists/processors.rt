@@ -5,6 +5,7 @@ use acpi_tables::srat::{
 };
 use acpi_vectors::table::many;
 use acpi_vectors::{OEM, OEM_REVISION, OEM_TABLE, all, writes};
+use std::alloc::Global;
 use std::test::Fail;
 
 #[test]
@@ -126,23 +127,32 @@ fn gics(rt: HostRuntime) -> Result<(), Fail> {
     )
 }
 
-// A table after each addition of a structure, of each kind in turn.
+// A structure of each kind.
+const EACH: [u8; 70] = *b"\0\x10\x01\x02\x01\0\0\0\0\0\0\0\0\0\0\0\
+        \x02\x18\0\0\x03\0\0\0\x04\0\0\0\0\0\0\0\0\0\0\0\0\0\0\0\
+        \x03\x12\x05\0\0\0\x06\0\0\0\0\0\0\0\0\0\0\0\
+        \x04\x0c\x07\0\0\0\0\0\x08\0\0\0";
+
+// Fails unless a table has these structures alone.
+fn has(alloc: Global, table: &SRAT, structures: &[u8]) -> Result<(), Fail> {
+    let fixed = [1, 0, 0, 0, 0, 0, 0, 0, 0, 0, 0, 0];
+    many(alloc, table, b"SRAT", 1, &fixed, structures, 1)
+}
+
+// Fails unless a table has one structure of each kind, after each addition.
+fn takes_each_kind(alloc: Global, table: &mut SRAT) -> Result<(), Fail> {
+    table.add_processor_local_apic_affinity(ProcessorLocalApicAffinity::new(1, 2).enabled())?;
+    has(alloc, table, &EACH[..16])?;
+    table.add_processor_local_x2apic_affinity(ProcessorLocalX2ApicAffinity::new(3, 4))?;
+    has(alloc, table, &EACH[..40])?;
+    table.add_gicc_affinity(GiccAffinity::new(5, 6))?;
+    has(alloc, table, &EACH[..58])?;
+    table.add_gic_its_affinity(GicItsAffinity::new(7, 8))?;
+    has(alloc, table, &EACH)
+}
+
 #[test]
 fn each_kind(rt: HostRuntime) -> Result<(), Fail> {
-    let alloc = rt.alloc();
-    let fixed = [1, 0, 0, 0, 0, 0, 0, 0, 0, 0, 0, 0];
-    let mut table = SRAT::new(alloc, OEM, OEM_TABLE, OEM_REVISION);
-    let mut added = Vec::new(alloc);
-    table.add_processor_local_apic_affinity(ProcessorLocalApicAffinity::new(1, 2).enabled())?;
-    added.extend_from_slice(&[0, 16, 1, 2, 1, 0, 0, 0, 0, 0, 0, 0, 0, 0, 0, 0])?;
-    many(alloc, &table, b"SRAT", 1, &fixed, &added, 1)?;
-    table.add_processor_local_x2apic_affinity(ProcessorLocalX2ApicAffinity::new(3, 4))?;
-    added.extend_from_slice(b"\x02\x18\0\0\x03\0\0\0\x04\0\0\0\0\0\0\0\0\0\0\0\0\0\0\0")?;
-    many(alloc, &table, b"SRAT", 1, &fixed, &added, 1)?;
-    table.add_gicc_affinity(GiccAffinity::new(5, 6))?;
-    added.extend_from_slice(&[3, 18, 5, 0, 0, 0, 6, 0, 0, 0, 0, 0, 0, 0, 0, 0, 0, 0])?;
-    many(alloc, &table, b"SRAT", 1, &fixed, &added, 1)?;
-    table.add_gic_its_affinity(GicItsAffinity::new(7, 8))?;
-    added.extend_from_slice(&[4, 12, 7, 0, 0, 0, 0, 0, 8, 0, 0, 0])?;
-    many(alloc, &table, b"SRAT", 1, &fixed, &added, 1)
+    let mut table = SRAT::new(rt.alloc(), OEM, OEM_TABLE, OEM_REVISION);
+    takes_each_kind(rt.alloc(), &mut table)
 }
