@@ -1,9 +1,9 @@
 #!/bin/sh
 # Has one program write tables, and two others read them. acpiread reads each table, one without its last byte, and one with its
-# AML. acpitool shows a table field by field, finds the tables of an image, and makes a table of a text. The same programs read the
-# tables of an Arm machine. Then acpiread meets what only the system can give it. The programs are proved before they are built,
-# with everything that they stand on. The first run takes minutes, and a later one seconds. With `built`, the programs are those
-# that `rt ci` left, and nothing is proved.
+# AML. acpitool shows a table field by field, finds the tables of an image, and makes a table of a text. The same programs read
+# the tables of an Arm machine. Then acpiread meets what only the system can give it. The programs are proved before they are
+# built, with everything that they stand on. The first run takes minutes, and a later one seconds. With `built`, the programs
+# are those that `rt ci` left, and nothing is proved.
 set -eu
 cd "$(dirname "$0")"
 
@@ -104,6 +104,16 @@ expect "$lines" '0x1c0007a0 RSD  length 36 revision 2
 0x1c0006f8 BERT length 48 revision 1
 0x1c000000 FACS length 64 revision 1
 0x1c000040 DSDT length 314 revision 2'
+
+# Images at the first address and at the last one where there is room. The program checks each before it writes it.
+mkdir "$work/edge"
+at_edge() {
+    expect "$(crates/acpi_example/out/acpi_example "$work/edge" "$1")" "base 0x$1 RSDP $2"
+    expect "$("$tool" image "$work/edge/image" "$1" | wc -l)" 13
+}
+
+at_edge 0 0x7a0
+at_edge ffffffffffeef000 0xffffffffffeef7a0
 
 # A text is made into a table: the beginning of a template, with the first processor enabled. Its length, its checksum, and the
 # type and the length of its structure are worked out. Both programs read the table.

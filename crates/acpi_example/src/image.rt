@@ -10,13 +10,9 @@ use crate::oem::{OEM_ID, OEM_REVISION, OEM_TABLE_ID};
 use crate::platform::{affinities, configuration_space, interrupt_controllers};
 use crate::topology::topology;
 use acpi_tables::facs::FACS;
-#[cfg(test)]
-use acpi_tables::layout::check_image;
 use acpi_tables::layout::{Image, lay};
 use acpi_tables::{Aml, R};
 use std::alloc::Global;
-#[cfg(test)]
-use std::test::Fail;
 
 /// The image of the machine's tables. It begins at a physical address that is a multiple of 64.
 pub fn image(alloc: Global, base: u64) -> R<Image>
@@ -52,26 +48,4 @@ pub fn image(alloc: Global, base: u64) -> R<Image>
         fixed_hardware(),
         tables,
     )
-}
-
-// The image for this address has 13 tables: the RSDP, the XSDT, its 9 entries, the FACS and the DSDT.
-#[cfg(test)]
-fn is_found(alloc: Global, base: u64) -> Result<(), Fail>
-    requires unit { base % 64 ≡ 0 }
-    requires room { base + BYTES_FROM_BASE ≤ 2 ^ 64 }
-{
-    let made = image(alloc, base)?;
-    let found = check_image(alloc, &made.bytes, base, made.rsdp)?;
-    if found.len() == 13 {
-        Ok(())
-    } else {
-        Err(Fail::new(format_args!("{} tables", found.len())))
-    }
-}
-
-#[test]
-fn images_are_found(rt: HostRuntime) -> Result<(), Fail> {
-    is_found(rt.alloc(), 0)?;
-    is_found(rt.alloc(), 0x1c00_0000)?;
-    is_found(rt.alloc(), 0xffff_ffff_ffee_f000)
 }

@@ -12,6 +12,11 @@ use acpi_tables::sdt::{Sdt, append_object};
 use acpi_tables::{Aml, R};
 use std::alloc::Global;
 
+/// An object with a name in the namespace.
+pub fn named(alloc: Global, name: &str, value: &dyn Aml) -> R<Name> {
+    Name::new(Path::new(alloc, name)?, value)
+}
+
 // The bridge passes on bus numbers, all ports but its own eight, and the memory for devices.
 fn bridge_resources(alloc: Global) -> R<ResourceTemplate> {
     let buses = AddressSpace::new_bus_number(0u16, u16::from(LAST_BUS));
@@ -30,11 +35,11 @@ fn bridge_resources(alloc: Global) -> R<ResourceTemplate> {
 
 // The root bridge of PCI Express. Its compatible id is that of a bridge of PCI (ACPI 6.5, 6.5.5 and 6.5.6).
 fn root_bridge(alloc: Global) -> R<Device> {
-    let id = Name::new(Path::new(alloc, "_HID")?, &EISAName::new("PNP0A08")?)?;
-    let compatible = Name::new(Path::new(alloc, "_CID")?, &EISAName::new("PNP0A03")?)?;
-    let segment = Name::new(Path::new(alloc, "_SEG")?, &ZERO)?;
-    let unique = Name::new(Path::new(alloc, "_UID")?, &ZERO)?;
-    let current = Name::new(Path::new(alloc, "_CRS")?, &bridge_resources(alloc)?)?;
+    let id = named(alloc, "_HID", &EISAName::new("PNP0A08")?)?;
+    let compatible = named(alloc, "_CID", &EISAName::new("PNP0A03")?)?;
+    let segment = named(alloc, "_SEG", &ZERO)?;
+    let unique = named(alloc, "_UID", &ZERO)?;
+    let current = named(alloc, "_CRS", &bridge_resources(alloc)?)?;
     Device::new(
         Path::new(alloc, "_SB_.PCI0")?,
         vec![in alloc; &id as &dyn Aml, &compatible, &segment, &unique, &current]?,
@@ -56,31 +61,34 @@ fn status(alloc: Global) -> R<Method> {
 }
 
 fn serial_port(alloc: Global) -> R<Device> {
-    let id = Name::new(Path::new(alloc, "_HID")?, &EISAName::new("PNP0501")?)?;
+    let id = named(alloc, "_HID", &EISAName::new("PNP0501")?)?;
     let status = status(alloc)?;
-    let current = Name::new(Path::new(alloc, "_CRS")?, &serial_resources(alloc)?)?;
+    let current = named(alloc, "_CRS", &serial_resources(alloc)?)?;
     Device::new(
         Path::new(alloc, "_SB_.COM1")?,
         vec![in alloc; &id as &dyn Aml, &status, &current]?,
     )
 }
 
+// The path of a processor: its device's name has three digits.
+fn processor_path(alloc: Global, number: u8) -> R<Path> {
+    let text = format!(in alloc; "_SB_.C{number:03}")?;
+    Path::new(alloc, text.as_str())
+}
+
 /// A processor. Its id is that of its interrupt controller in the MADT.
 pub fn processor(alloc: Global, number: u8) -> R<Device> {
-    let text = format!(in alloc; "_SB_.C{number:03}")?;
+    let path = processor_path(alloc, number)?;
     let kind = "ACPI0007";
-    let id = Name::new(Path::new(alloc, "_HID")?, &kind)?;
-    let unique = Name::new(Path::new(alloc, "_UID")?, &number)?;
-    Device::new(
-        Path::new(alloc, text.as_str())?,
-        vec![in alloc; &id as &dyn Aml, &unique]?,
-    )
+    let id = named(alloc, "_HID", &kind)?;
+    let unique = named(alloc, "_UID", &number)?;
+    Device::new(path, vec![in alloc; &id as &dyn Aml, &unique]?)
 }
 
 // The values that switch the machine off (ACPI 6.5, 7.4.2.6).
 fn soft_off(alloc: Global) -> R<Name> {
     let values = Package::new(vec![in alloc; &ZERO as &dyn Aml, &ZERO, &ZERO, &ZERO]?)?;
-    Name::new(Path::new(alloc, "\\_S5_")?, &values)
+    named(alloc, "\\_S5_", &values)
 }
 
 /// A definition block (ACPI 6.5, 5.2.11.1) that holds the namespace.

@@ -82,15 +82,27 @@ impl Grows for RQSC {
     }
 }
 
-/// Clones, each of which borrows its source.
-pub fn clones(trial: &mut Trial, alloc: Global) -> Result<(), Fault> {
+fn clone_of_controller(trial: &mut Trial, alloc: Global) -> Result<(), Fault> {
     let source = trial.make(&0x80u8, || Ok(controller(alloc)?))?;
     let clone = trial.make(&source, || Ok(source.clone()?))?;
-    trial.count_object(&clone)?;
+    trial.count_object(&clone)
+}
+
+fn clone_of_resource(trial: &mut Trial, alloc: Global) -> Result<(), Fault> {
     let source = trial.make(&0x80u8, || Ok(resource(alloc)?))?;
     let clone = trial.make(&source, || Ok(source.clone()?))?;
-    trial.count_object(&clone)?;
+    trial.count_object(&clone)
+}
+
+fn clone_of_id(trial: &mut Trial, alloc: Global) -> Result<(), Fault> {
     let source = trial.make(&0x80u8, || Ok(id(alloc)?))?;
     let clone = trial.make(&source, || Ok(source.clone()?))?;
     trial.count_object(&clone)
+}
+
+/// Clones, each of which borrows its source.
+pub fn clones(trial: &mut Trial, alloc: Global) -> Result<(), Fault> {
+    clone_of_controller(trial, alloc)?;
+    clone_of_resource(trial, alloc)?;
+    clone_of_id(trial, alloc)
 }

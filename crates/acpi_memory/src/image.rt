@@ -42,17 +42,39 @@ fn reduced_image(alloc: Global, block: &Sdt, table: &MCFG) -> R<Image> {
     )
 }
 
+// Makes an image, and the list of its tables.
+fn whole(
+    trial: &mut Trial,
+    alloc: Global,
+    lent: &dyn Aml,
+    block: &Sdt,
+    table: &MCFG,
+) -> Result<(), Fault> {
+    let image = trial.make(lent, || Ok(image(alloc, block, table)?))?;
+    trial.count(&image.bytes);
+    let check = || Ok(check_image(alloc, &image.bytes, 0x1000, image.rsdp)?);
+    trial.make(lent, check)?;
+    Ok(())
+}
+
+// Makes an image without a FACS.
+fn reduced(
+    trial: &mut Trial,
+    alloc: Global,
+    lent: &dyn Aml,
+    block: &Sdt,
+    table: &MCFG,
+) -> Result<(), Fault> {
+    let image = trial.make(lent, || Ok(reduced_image(alloc, block, table)?))?;
+    trial.count(&image.bytes);
+    Ok(())
+}
+
 /// An image, which borrows the definition block and the tables, and the list of its tables. And an image without a FACS.
 pub fn images(trial: &mut Trial, alloc: Global) -> Result<(), Fault> {
     let block = trial.make(&0x1000u16, || Ok(Sdt::empty(alloc)?))?;
     let table = trial.make(&block, || Ok(mcfg(alloc)?))?;
-    for lent in [&block as &dyn Aml, &table] {
-        let image = trial.make(lent, || Ok(image(alloc, &block, &table)?))?;
-        trial.count(&image.bytes);
-        let check = || Ok(check_image(alloc, &image.bytes, 0x1000, image.rsdp)?);
-        trial.make(lent, check)?;
-    }
-    let reduced = trial.make(&table, || { Ok(reduced_image(alloc, &block, &table)?) })?;
-    trial.count(&reduced.bytes);
-    Ok(())
+    whole(trial, alloc, &block, &block, &table)?;
+    whole(trial, alloc, &table, &block, &table)?;
+    reduced(trial, alloc, &table, &block, &table)
 }

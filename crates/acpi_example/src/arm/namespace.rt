@@ -4,11 +4,11 @@ use crate::arm::virt::{
     DEVICE_MEMORY, DEVICE_MEMORY_END, DEVICE_PORTS, LAST_BUS, PROCESSORS, SERIAL_BYTES,
     SERIAL_INTERRUPT, SERIAL_PORT,
 };
-use crate::namespace::processor;
+use crate::namespace::{named, processor};
 use crate::table::empty_block;
 use acpi_tables::aml::{
-    AddressSpace, AddressSpaceCacheable, Device, EISAName, Interrupt, Memory32Fixed, Name, ONE,
-    Path, ResourceTemplate, ZERO,
+    AddressSpace, AddressSpaceCacheable, Device, EISAName, Interrupt, Memory32Fixed, ONE, Path,
+    ResourceTemplate, ZERO,
 };
 use acpi_tables::sdt::{Sdt, append_object};
 use acpi_tables::{Aml, R};
@@ -30,12 +30,12 @@ fn bridge_resources(alloc: Global) -> R<ResourceTemplate> {
 
 // The root bridge of PCI Express. Its accesses are coherent (ACPI 6.5, 6.2.17).
 fn root_bridge(alloc: Global) -> R<Device> {
-    let id = Name::new(Path::new(alloc, "_HID")?, &EISAName::new("PNP0A08")?)?;
-    let compatible = Name::new(Path::new(alloc, "_CID")?, &EISAName::new("PNP0A03")?)?;
-    let segment = Name::new(Path::new(alloc, "_SEG")?, &ZERO)?;
-    let unique = Name::new(Path::new(alloc, "_UID")?, &ZERO)?;
-    let coherent = Name::new(Path::new(alloc, "_CCA")?, &ONE)?;
-    let current = Name::new(Path::new(alloc, "_CRS")?, &bridge_resources(alloc)?)?;
+    let id = named(alloc, "_HID", &EISAName::new("PNP0A08")?)?;
+    let compatible = named(alloc, "_CID", &EISAName::new("PNP0A03")?)?;
+    let segment = named(alloc, "_SEG", &ZERO)?;
+    let unique = named(alloc, "_UID", &ZERO)?;
+    let coherent = named(alloc, "_CCA", &ONE)?;
+    let current = named(alloc, "_CRS", &bridge_resources(alloc)?)?;
     Device::new(
         Path::new(alloc, "_SB_.PCI0")?,
         vec![in alloc;
@@ -58,9 +58,9 @@ fn serial_resources(alloc: Global) -> R<ResourceTemplate> {
 
 fn serial_port(alloc: Global) -> R<Device> {
     let kind = "ARMH0011";
-    let id = Name::new(Path::new(alloc, "_HID")?, &kind)?;
-    let unique = Name::new(Path::new(alloc, "_UID")?, &ZERO)?;
-    let current = Name::new(Path::new(alloc, "_CRS")?, &serial_resources(alloc)?)?;
+    let id = named(alloc, "_HID", &kind)?;
+    let unique = named(alloc, "_UID", &ZERO)?;
+    let current = named(alloc, "_CRS", &serial_resources(alloc)?)?;
     Device::new(
         Path::new(alloc, "_SB_.COM0")?,
         vec![in alloc; &id as &dyn Aml, &unique, &current]?,

@@ -90,12 +90,17 @@ pub fn console(alloc: Global) -> R<Sdt> {
     Ok(table)
 }
 
+// The PL011 as a port for debuggers, by its full name.
+fn debug_port(alloc: Global) -> R<DebugDevice> {
+    let port = DebugPort::Serial(InterfaceType::ArmPl011);
+    let device = DebugDevice::new(alloc, port).register(serial_registers(), SERIAL_BYTES)?;
+    Ok(device.namespace_string(String::from_str(alloc, SERIAL_NAME)?))
+}
+
 /// The port for debuggers: the PL011, too.
 pub fn debug_ports(alloc: Global) -> R<DBG2> {
     let mut table = DBG2::new(alloc, OEM_ID, OEM_TABLE_ID, OEM_REVISION);
-    let port = DebugPort::Serial(InterfaceType::ArmPl011);
-    let device = DebugDevice::new(alloc, port).register(serial_registers(), SERIAL_BYTES)?;
-    table.add_device(device.namespace_string(String::from_str(alloc, SERIAL_NAME)?))?;
+    table.add_device(debug_port(alloc)?)?;
     Ok(table)
 }
 
@@ -106,21 +111,27 @@ pub fn configuration_space(alloc: Global) -> R<MCFG> {
     Ok(table)
 }
 
-/// The way of a PCI device's accesses: from the root complex through the SMMU. Its interrupts go on to the interrupt translation
-/// service. Each of the 65,536 ids stays the same.
-pub fn remapping(alloc: Global) -> R<IORT> {
-    let mut table = IORT::new(alloc, OEM_ID, OEM_TABLE_ID, OEM_REVISION);
+// Adds the interrupt translation service.
+fn add_service(alloc: Global, table: &mut IORT) -> R<Output> {
     let mut services = ItsGroup::new(alloc);
     services.add_its(TRANSLATION_SERVICE_ID)?;
-    let services = Output::ItsGroup(table.add_its_group(services)?);
+    Ok(Output::ItsGroup(table.add_its_group(services)?))
+}
+
+// Adds the SMMU. It passes interrupts on to the interrupt translation service.
+fn add_smmu(alloc: Global, table: &mut IORT, service: Output) -> R<Output> {
     let mut smmu = SmmuV3::new(alloc, SmmuV3Model::Generic, SMMU)
         .cohacc_override()
         .event_gsiv(SMMU_EVENTS)
         .pri_gsiv(SMMU_PAGE_REQUESTS)
         .gerr_gsiv(SMMU_ERRORS)
         .sync_gsiv(SMMU_SYNCHRONIZATION);
-    smmu.add_mapping(IdMapping::new(0, 0xffff, 0, services))?;
-    let smmu = Output::SmmuV3(table.add_smmu_v3(smmu)?);
+    smmu.add_mapping(IdMapping::new(0, 0xffff, 0, service))?;
+    Ok(Output::SmmuV3(table.add_smmu_v3(smmu)?))
+}
+
+// The root complex. Its accesses are coherent, and go through the SMMU.
+fn root_complex(alloc: Global, smmu: Output) -> R<RootComplex> {
     let access = MemoryAccess::new()
         .cache_coherent()
         .coherent_path()
@@ -129,6 +140,15 @@ pub fn remapping(alloc: Global) -> R<IORT> {
         .memory_access(access)
         .address_size_limit(64);
     root_complex.add_mapping(IdMapping::new(0, 0xffff, 0, smmu))?;
-    let _ = table.add_root_complex(root_complex)?;
+    Ok(root_complex)
+}
+
+/// The way of a PCI device's accesses: from the root complex through the SMMU. Its interrupts go on to the interrupt translation
+/// service. Each of the 65,536 ids stays the same.
+pub fn remapping(alloc: Global) -> R<IORT> {
+    let mut table = IORT::new(alloc, OEM_ID, OEM_TABLE_ID, OEM_REVISION);
+    let service = add_service(alloc, &mut table)?;
+    let smmu = add_smmu(alloc, &mut table, service)?;
+    let _ = table.add_root_complex(root_complex(alloc, smmu)?)?;
     Ok(table)
 }
