@@ -3,8 +3,8 @@
 # of acpi_example, and `boundary`, which goes to the limits of each function. In C both are built a second time with the address
 # and undefined behaviour sanitizers, and `boundary` is run once for each growth, with that one refused by memory.c. The library
 # and the example are proved before they are built, with everything that they stand on. With `built`, they stand on the crates
-# that `rt ci` left. It leaves no static library, so acpi_c itself is proved once more. The library, with its allocator, is then in
-# crates/acpi_c/out/c.
+# that `rt ci` left. It leaves no static library, so acpi_c itself is proved once more. The library, with its allocator, is then
+# in crates/acpi_c/out/c.
 set -eu
 cd "$(dirname "$0")"
 

@@ -1,10 +1,10 @@
 #!/bin/sh
 # Disassembles with ACPICA's iasl each table that the example writes for both of its machines, its definition blocks with their
-# AML, and prints a line for each. It compares the fields that iasl writes with those that `acpitool show` prints, as iasl_fields.py says. With a folder
-# as its argument, the tables are the files of that folder. Without one they are those of the example, and then the fields of
-# crates/acpitool/data are compared, too: these tables have each structure, with values that iasl needn't accept. The programs and
-# what they stand on are proved first. Not a part of the gate. The status is 1 if iasl refuses a table, if its fields are others,
-# or if there is no table.
+# AML, and prints a line for each. It compares the fields that iasl writes with those that `acpitool show` prints, as
+# iasl_fields.py says. With a folder as its argument, the tables are the files of that folder. Without one they are those of the
+# example, and then the fields of crates/acpitool/data are compared, too: these tables have each structure, with values that iasl
+# needn't accept. The programs and what they stand on are proved first. Not a part of the gate. The status is 1 if iasl refuses a
+# table, if its fields are others, or if there is no table.
 #
 # iasl refuses a table if it ends with an error, writes no text, or says that the bytes are wrong. It also warns of what it can't
 # know from one table, as of names that another definition block declares. These warnings are printed, and don't count.

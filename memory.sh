@@ -1,8 +1,9 @@
 #!/bin/sh
 # Runs programs once for each growth, with that one refused by memory.c. `acpi_memory` has to end as ever, since it makes each
 # refused call once more. `acpiread` has to print its whole report, or to end with status 1, `refused: Memory` and no report.
-# `acpitool` has to print a whole text, or to write a whole table, or to end with a line that says that memory ran out, and nothing
-# else. All are proved before they are built, with everything that they stand on; with `built`, those are run that `rt ci` left.
+# `acpitool` has to print a whole text, or to write a whole table, or to end with a line that says that memory ran out, and
+# nothing else. All are proved before they are built, with everything that they stand on; with `built`, those are run that `rt
+# ci` left.
 set -eu
 cd "$(dirname "$0")"
 
