@@ -178,7 +178,7 @@ fn range(alloc: Global) -> R<Name> {
     named(alloc, "RNGE", &template(alloc, &[&memory])?)
 }
 
-fn ranging(alloc: Global, range: &Name, fields: &[CreateField]) -> R<Method> {
+fn ranging<'a>(alloc: Global, range: &'a Name, fields: &'a [CreateField]) -> R<Method> {
     let mut body = vec![in alloc; range as &dyn Aml]?;
     for field in fields {
         body.push(field)?;

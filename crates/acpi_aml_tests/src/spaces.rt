@@ -1,7 +1,7 @@
 //! Address spaces, byte for byte, alone and in templates.
 
 use super::make::{named, template};
-use acpi_tables::aml::{AddressSpace, AddressSpaceCacheable, Name};
+use acpi_tables::aml::{AddressSpace, AddressSpaceCacheable, Name, ResourceTemplate};
 use acpi_tables::{Aml, Error, R};
 use acpi_vectors::{all, equal, makes, refuses, writes};
 use std::alloc::Global;
@@ -175,8 +175,8 @@ fn ranges_without_a_length(rt: HostRuntime) -> Result<(), Fail> {
 }
 
 // A name for a template, as a device's settings have it.
-fn settings(alloc: Global, descriptors: &[&dyn Aml]) -> R<Name> {
-    named(alloc, "_CRS", &template(alloc, descriptors)?)
+fn settings(alloc: Global, resources: R<ResourceTemplate>) -> R<Name> {
+    named(alloc, "_CRS", &resources?)
 }
 
 #[test]
@@ -185,7 +185,7 @@ fn a_template_of_ports(rt: HostRuntime) -> Result<(), Fail> {
     let high = AddressSpace::new_io(0x0d03u16, 0xfffe, Some(0x0405));
     makes(
         rt.alloc(),
-        settings(rt.alloc(), &[&low, &high]),
+        settings(rt.alloc(), template(rt.alloc(), &[&low, &high])),
         &[
             0x08, 0x5f, 0x43, 0x52, 0x53, 0x11, 0x25, 0x0a, 0x22, 0x88, 0x0d, 0x00, 0x01, 0x0c,
             0x03, 0x00, 0x00, 0x02, 0x01, 0xf7, 0x0c, 0x00, 0x00, 0xf6, 0x0b, 0x88, 0x0d, 0x00,
@@ -203,7 +203,7 @@ fn a_template_of_two_ranges_of_memory(rt: HostRuntime) -> Result<(), Fail> {
     let devices = AddressSpace::new_memory(uncached, true, 0xc010_2030u32, 0xfebf_dcba, None);
     makes(
         rt.alloc(),
-        settings(rt.alloc(), &[&video, &devices]),
+        settings(rt.alloc(), template(rt.alloc(), &[&video, &devices])),
         &[
             0x08, 0x5f, 0x43, 0x52, 0x53, 0x11, 0x39, 0x0a, 0x36, 0x87, 0x17, 0x00, 0x00, 0x0c,
             0x03, 0, 0, 0, 0, 0x00, 0x10, 0x0a, 0x00, 0xdc, 0xfe, 0x0b, 0x00, 0, 0, 0, 0, 0xdd,
@@ -220,7 +220,7 @@ fn a_template_of_a_long_range_of_memory(rt: HostRuntime) -> Result<(), Fail> {
     let large = AddressSpace::new_memory(cached, true, first, last, None);
     makes(
         rt.alloc(),
-        settings(rt.alloc(), &[&large]),
+        settings(rt.alloc(), template(rt.alloc(), &[&large])),
         &[
             0x08, 0x5f, 0x43, 0x52, 0x53, 0x11, 0x33, 0x0a, 0x30, 0x8a, 0x2b, 0x00, 0x00, 0x0c,
             0x03, 0, 0, 0, 0, 0, 0, 0, 0, 0x08, 0x07, 0x06, 0x05, 0x04, 0x03, 0x02, 0x01, 0x81,
