@@ -95,8 +95,8 @@ fn later_offsets(rt: HostRuntime) -> Result<(), Fail> {
     Ok(())
 }
 
-// Each byte of a small table of each signature, replaced by each other value. The sum is wrong, and then right. With the right one
-// only a wrong length is no table.
+// Each byte of a small table of each signature, replaced by each other value. The sum is wrong at first, and then right. With the
+// right sum only a table of another length is refused.
 #[test]
 fn replacements(rt: HostRuntime) -> Result<(), Fail> {
     let alloc = rt.alloc();

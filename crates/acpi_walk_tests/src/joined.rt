@@ -66,8 +66,8 @@ fn are_joined(sample: &Sample, table: &Table, pieces: &[Piece<'_>]) -> Result<()
     equal(&at, &table.bytes().len())
 }
 
-/// The structures of a table, if they can be found. A table of another signature than the sample's has none. If they can't be found,
-/// the fault is at none of the bytes after the end.
+/// The structures of a table, if they can be found. A table of another signature than the sample's has none. If they can't be
+/// found, the offset of the fault is at most the number of bytes.
 pub fn joined<'a>(
     alloc: Global,
     sample: &Sample,

@@ -1,5 +1,5 @@
-//! Tests of what runs of `acpiread` on files can't show: input in parts, without an end or with errors, writers that fail, and words
-//! without a file. All other runs are in `cases/acpiread.cases`.
+//! Tests of what runs of `acpiread` on files can't show: input in parts, without an end or with errors, writers that fail, and
+//! words without a file. All other runs are in `cases/acpiread.cases`.
 #![tactic(auto)]
 
 #[cfg(test)]

@@ -85,8 +85,8 @@ fn beginnings(rt: HostRuntime) -> Result<(), Fail> {
     Ok(())
 }
 
-// Of a file without an end, the table and one byte more are read: with a length of 41, with lengths below that of the header, with
-// others in each of the higher bytes, and without a byte but zeros.
+// Of a file without an end, the table and one byte more are read. The lengths are that of the table, lengths up to that of the
+// header, and others in each of the higher bytes. The last file has only zeros.
 #[test]
 fn endless(rt: HostRuntime) -> Result<(), Fail> {
     for (at, byte, known, count) in [

@@ -78,8 +78,8 @@ fn owned(rt: &impl AllocGlobal, words: &[&str]) -> io::Result<Vec<String>> {
     Ok(owned)
 }
 
-// Fails unless a run prints these lines: a report for status 0, or else a fault. For each byte of the lines that fails, and for the
-// flush after them, it has no status, the bytes before are written, and the other writer gets nothing.
+// Fails unless a run prints these lines: a report for status 0, or else a fault. For each byte of the lines that can't be written,
+// and for the flush after them, a run has no status, the bytes before are written, and the other writer gets nothing.
 fn prints(
     rt: &(impl Files + AllocGlobal),
     words: &[&str],
