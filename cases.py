@@ -11,8 +11,8 @@ A line at the left margin is a run: the command, the bytes of its file, and afte
 - A line that begins with `+` goes on with the bytes. Lines that begin with `|` are the file instead, as text.
 - `status=2` among the words is the status that is wanted. It is 0 otherwise, or 1 if there is an error.
 
-The lines after it that begin with four spaces are what the run has to print, those after `! ` as an error. There FILE is the name
-of the file. Runs right after one another have the same lines. `#` begins a comment at the left margin."""
+The lines after it that begin with four spaces are what the run has to print, those after `! ` as an error. FILE in them is the
+name of the file. Runs right after one another have the same lines. `#` begins a comment at the left margin."""
 
 import os
 import re
@@ -91,8 +91,8 @@ class Run:
             [os.path.join(CRATES, program, "out", program), self.command, path, *self.words], capture_output=True, check=False
         )
         wanted = self.status if self.status is not None else 1 if errors else 0
-        found = done.stdout.decode("latin-1").splitlines(), done.stderr.decode("latin-1").replace(path, "FILE").splitlines()
-        if (done.returncode, *found) == (wanted, printed, errors):
+        found = [text.decode("latin-1").replace(path, "FILE").splitlines() for text in (done.stdout, done.stderr)]
+        if [done.returncode, *found] == [wanted, printed, errors]:
             return None
         return "\n".join([f"status {done.returncode}, and not {wanted}", *found[0], *(f"! {line}" for line in found[1])])
 
