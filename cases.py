@@ -1,5 +1,5 @@
-"""Runs acpiread and acpitool on the cases of cases/*.cases, and compares what they print. cases.sh gives the folder of the crates
-and a folder for files.
+r"""Runs acpiread and acpitool on the cases of cases/*.cases, and compares what they print. cases.sh gives the folder of the
+crates and a folder for files.
 
 A line at the left margin is a run: the command, the bytes of its file, and after a semicolon further words.
 
@@ -8,11 +8,14 @@ A line at the left margin is a run: the command, the bytes of its file, and afte
 - Bytes are hexadecimal, or ASCII in quotation marks. `00*16` is 16 of them, and so it is with a text. `<APIC 1>` is the standard
   header with this signature and this revision, and with the length and the checksum of all bytes. `@9=07` sets the byte at
   offset 9 after that.
-- A line that begins with `+` goes on with the bytes. Lines that begin with `|` are the file instead, as text.
+- A line that begins with `+` goes on with the bytes. Lines that begin with `|` are the file instead, as text. One that begins
+  with a backslash has escapes, as `\r`, and no line feed but those that it states.
 - `status=2` among the words is the status that is wanted. It is 0 otherwise, or 1 if there is an error.
 
-The lines after it that begin with four spaces are what the run has to print, those after `! ` as an error. FILE in them is the
-name of the file. Runs right after one another have the same lines. `#` begins a comment at the left margin."""
+The lines after it that begin with four spaces are what the run has to print, those after `! ` as an error. After `make` they
+are the bytes that it has to write, with comments after `#`. FILE in them is the name of the file. `lnot*254` is 254 of these
+lines, each two spaces further in than the line before, and the lines after them are within the last. Runs right after one
+another have the same lines. `#` begins a comment at the left margin."""
 
 import os
 import re
@@ -21,7 +24,10 @@ import subprocess
 import sys
 
 CRATES, WORK = os.path.abspath(sys.argv[1]), sys.argv[2]
-PROGRAMS = {"aml": "acpiread", "dsdt": "acpiread", "table": "acpiread", "show": "acpitool", "image": "acpitool"}
+PROGRAMS = {
+    **dict.fromkeys(("aml", "dsdt", "table"), "acpiread"),
+    **dict.fromkeys(("show", "image", "make"), "acpitool"),
+}
 TOKEN = re.compile(
     r'"(?P<text>[^"]*)"'
     r"|<(?P<signature>.{4}) (?P<revision>\d+)>"
@@ -83,18 +89,36 @@ class Run:
 
     def differs(self, printed, errors):
         """What is wrong with the run, or None."""
-        path = os.path.join(WORK, "file")
+        path, made = os.path.join(WORK, "file"), os.path.join(WORK, "made")
         with open(path, "wb") as file:
-            file.write("".join(f"{line}\n" for line in self.text).encode() if self.text else bytes_of(self.content))
+            file.write("".join(self.text).encode("latin-1") if self.text else bytes_of(self.content))
         program = PROGRAMS[self.command]
-        done = subprocess.run(
-            [os.path.join(CRATES, program, "out", program), self.command, path, *self.words], capture_output=True, check=False
-        )
+        words = [self.command, path] if self.command != "make" else [self.command, path, made]
+        program = os.path.join(CRATES, program, "out", program)
+        done = subprocess.run([program, *words, *self.words], capture_output=True, check=False)
         wanted = self.status if self.status is not None else 1 if errors else 0
         found = [text.decode("latin-1").replace(path, "FILE").splitlines() for text in (done.stdout, done.stderr)]
+        if os.path.exists(made):
+            with open(made, "rb") as file:
+                found[0].append(file.read().hex())
+            os.remove(made)
+            printed = [bytes_of(" ".join(line.split("#")[0] for line in printed)).hex()]
         if [done.returncode, *found] == [wanted, printed, errors]:
             return None
         return "\n".join([f"status {done.returncode}, and not {wanted}", *found[0], *(f"! {line}" for line in found[1])])
+
+
+def nested(lines):
+    """The lines, with those that stand for several."""
+    margin = ""
+    for line in lines:
+        several = re.fullmatch(r"(\w+)\*(\d+)", line)
+        if not several:
+            yield margin + line
+            continue
+        for _ in range(int(several[2])):
+            yield margin + several[1]
+            margin += "  "
 
 
 def cases_of(path):
@@ -108,7 +132,9 @@ def cases_of(path):
         elif line.startswith("+"):
             runs[-1].content += " " + line[1:]
         elif line.startswith("|"):
-            runs[-1].text.append(line[2:])
+            runs[-1].text.append(f"{line[2:]}\n")
+        elif line.startswith("\\"):
+            runs[-1].text.append(line[2:].encode("latin-1").decode("unicode_escape"))
         elif not line or line.startswith("#"):
             if runs:
                 yield begun, runs, printed, errors
@@ -129,7 +155,7 @@ for name in names:
     for number, runs, printed, errors in cases_of(os.path.join("cases", name)):
         for place, run in enumerate(runs, 1):
             count += 1
-            found = run.differs(printed, errors)
+            found = run.differs(list(nested(printed)), errors)
             if found is not None:
                 wrong.append(f"cases/{name}:{number}, run {place}: {run.command} {run.content}\n{found}")
 

@@ -1,7 +1,6 @@
 #!/bin/sh
 # Compares what acpiread and acpitool print with what they have to print:
 # - the runs in cases/*.cases, whose bytes and lines were worked out by hand from the standard (cases.py has their form);
-# - each text of cases/make and its bytes in hexadecimal, its notes, or its fault;
 # - each text of crates/acpitool/stdout and its table in crates/acpitool/data, both worked out from the standard;
 # - a template of each signature, which has no notes;
 # - 10,000 tables of random bytes, each shown and made again, and 10,000 such texts with a random change. A text is made into a

@@ -8,7 +8,7 @@ import sys
 
 TOOL, WORK, COUNT = os.path.abspath(sys.argv[1]), sys.argv[2], int(sys.argv[3])
 TABLE, TEXT = os.path.join(WORK, "table"), os.path.join(WORK, "text")
-DATA, SHOWN, CASES = "crates/acpitool/data", "crates/acpitool/stdout", "cases/make"
+DATA, SHOWN = "crates/acpitool/data", "crates/acpitool/stdout"
 wrong = []
 
 
@@ -48,22 +48,6 @@ def read(path, mode="r"):
 def expect(name, found, wanted):
     if found != wanted:
         wrong.append(f"{name}: {found!r}, and not {wanted!r}")
-
-
-def cases():
-    """Each case is a text, and beside it its bytes, its notes or its fault."""
-    names = sorted(name[:-5] for name in os.listdir(CASES) if name.endswith(".text"))
-    for name in names:
-        path = os.path.join(CASES, name)
-        table, said = make(read(path + ".text", "rb"))
-        if os.path.exists(path + ".fault"):
-            expect(path, (table, said), (None, read(path + ".fault")))
-            continue
-        lines = read(path + ".hex").splitlines()
-        wanted = bytes.fromhex("".join(line.split("#")[0] for line in lines))
-        notes = read(path + ".notes") if os.path.exists(path + ".notes") else ""
-        expect(path, (table, said.replace("note: ", "")), (wanted, notes))
-    return len(names)
 
 
 def samples():
@@ -110,7 +94,6 @@ def changed_text(text):
     return b"\n".join(lines)
 
 
-tried = cases()
 tables = samples()
 for table, text in tables:
     expect("a text of crates/acpitool/stdout", make(text)[0], table)
@@ -140,6 +123,6 @@ for number in range(COUNT):
 
 for line in wrong:
     print(f"cases.sh: {line}", file=sys.stderr)
-print(f"{tried} cases, {len(tables)} tables and their texts, {COUNT} random tables")
+print(f"{len(tables)} tables and their texts, {COUNT} random tables")
 print(f"{made} of {COUNT} changed texts were made again")
 sys.exit(1 if wrong else 0)

@@ -1,5 +1,5 @@
-//! Tests of AML and of tables with a header and the caller's content: bytes worked out by hand, the terms that they read back to,
-//! and that each call succeeds if there is memory.
+//! Tests of AML and of tables with a header and the caller's content: bytes worked out by hand, and that each call succeeds if
+//! there is memory.
 #![tactic(auto)]
 
 #[cfg(test)]

@@ -6,12 +6,16 @@ use acpi_vectors::table::stands;
 use acpi_vectors::{OEM, OEM_REVISION, OEM_TABLE, all, equal, refuses, writes};
 use std::test::Fail;
 
+// Flags that are set again stay as they are.
 #[test]
 fn block_timers_and_watchdogs(rt: HostRuntime) -> Result<(), Fail> {
     let timer = GtBlockTimer::new(7, 0x0807_0605_0403_0201);
     let interrupt = Interrupt::new(0x2423_2221);
     let both = interrupt.edge_triggered().active_low();
+    let both = both.edge_triggered().active_low();
+    let common = timer.secure().always_on();
     let watchdog = GenericWatchdog::new(0x0807_0605_0403_0201, 0x1817_1615_1413_1211, 0x2423_2221);
+    let all_flags = watchdog.secure().active_low().edge_triggered();
     all(
         rt.alloc(),
         &[
@@ -36,7 +40,7 @@ fn block_timers_and_watchdogs(rt: HostRuntime) -> Result<(), Fail> {
                     \0\0\0\0\0\0\0\0\x21\x22\x23\x24\x02\0\0\0\0\0\0\0",
             ),
             (
-                &timer
+                &common
                     .physical(both)
                     .virtual_timer(interrupt)
                     .secure()
@@ -61,7 +65,7 @@ fn block_timers_and_watchdogs(rt: HostRuntime) -> Result<(), Fail> {
                 b"\x01\x1c\0\0\x01\x02\x03\x04\x05\x06\x07\x08\x11\x12\x13\x14\x15\x16\x17\x18\x21\x22\x23\x24\x04\0\0\0",
             ),
             (
-                &watchdog.secure().active_low().edge_triggered().secure(),
+                &all_flags.secure().active_low().edge_triggered(),
                 b"\x01\x1c\0\0\x01\x02\x03\x04\x05\x06\x07\x08\x11\x12\x13\x14\x15\x16\x17\x18\x21\x22\x23\x24\x07\0\0\0",
             ),
         ],
@@ -72,6 +76,10 @@ fn block_timers_and_watchdogs(rt: HostRuntime) -> Result<(), Fail> {
 #[test]
 fn timers_of_processors(rt: HostRuntime) -> Result<(), Fail> {
     let alloc = rt.alloc();
+    let full = Timer::new(0x4443_4241)
+        .edge_triggered()
+        .active_low()
+        .always_on();
     let least = Timers::new(Timer::new(30), Timer::new(27));
     let most = Timers::new(
         Timer::new(0x0403_0201).edge_triggered(),
@@ -79,12 +87,7 @@ fn timers_of_processors(rt: HostRuntime) -> Result<(), Fail> {
     )
     .counter_control_base(0x2827_2625_2423_2221)
     .secure_el1(Timer::new(0x3433_3231).always_on())
-    .el2(
-        Timer::new(0x4443_4241)
-            .edge_triggered()
-            .active_low()
-            .always_on(),
-    )
+    .el2(full.edge_triggered().active_low().always_on())
     .counter_read_base(0x5857_5655_5453_5251)
     .virtual_el2(Timer::new(0x6463_6261).active_low());
     let rows: [(Timers, &[u8]); 2] = [

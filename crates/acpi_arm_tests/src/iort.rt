@@ -42,7 +42,7 @@ fn mappings_and_ranges(rt: HostRuntime) -> Result<(), Fail> {
         &[
             (&mapping, MAPPING),
             (
-                &mapping.single(),
+                &mapping.single().single(),
                 b"\x01\x02\x03\x04\x05\x06\x07\x08\x09\x0a\x0b\x0c\x30\0\0\0\x01\0\0\0",
             ),
             (
@@ -54,7 +54,9 @@ fn mappings_and_ranges(rt: HostRuntime) -> Result<(), Fail> {
                 b"\x01\x02\x03\x04\0\0\0\0",
             ),
             (
-                &SmmuInterrupt::new(0x0403_0201).edge_triggered(),
+                &SmmuInterrupt::new(0x0403_0201)
+                    .edge_triggered()
+                    .edge_triggered(),
                 b"\x01\x02\x03\x04\x01\0\0\0",
             ),
             (
@@ -104,7 +106,12 @@ fn memory_accesses(rt: HostRuntime) -> Result<(), Fail> {
         .cache_coherent()
         .coherent_path()
         .cacheable_attributes();
-    let rows: [(MemoryAccess, &[(usize, u8)]); 9] = [
+    let again = full.transient().write_allocate().read_allocate();
+    let again = again
+        .hints_override()
+        .coherent_path()
+        .cacheable_attributes();
+    let rows: [(MemoryAccess, &[(usize, u8)]); 10] = [
         (access, &[]),
         (access.cache_coherent(), &[(20, 1)]),
         (access.transient(), &[(24, 1)]),
@@ -114,6 +121,7 @@ fn memory_accesses(rt: HostRuntime) -> Result<(), Fail> {
         (access.coherent_path(), &[(27, 1)]),
         (access.cacheable_attributes(), &[(27, 2)]),
         (full, &[(20, 1), (24, 15), (27, 3)]),
+        (again, &[(20, 1), (24, 15), (27, 3)]),
     ];
     for (access, changes) in &rows {
         accesses(rt.alloc(), *access, *changes)?;
@@ -167,6 +175,9 @@ fn flags_of_root_complexes(rt: HostRuntime) -> Result<(), Fail> {
         plain_root(alloc)
             .ats_supported()
             .pri_supported()
+            .pasid_forwarding()
+            .ats_supported()
+            .pri_supported()
             .pasid_forwarding(),
         &[(24, 7)],
     )
@@ -195,6 +206,8 @@ fn mappings_of_a_root_complex(rt: HostRuntime) -> Result<(), Fail> {
 fn named(alloc: Global, name: &str) -> R<NamedComponent> {
     let component = NamedComponent::new(alloc, String::from_str(alloc, name)?);
     let mut component = component
+        .stall_supported()
+        .substream_width(31)
         .stall_supported()
         .substream_width(31)
         .address_size_limit(48);
@@ -260,6 +273,8 @@ fn plain_smmu(alloc: Global) -> Smmu {
     Smmu::new(alloc, SmmuModel::GenericV2, 0, 0, fault().edge_triggered())
         .dvm_supported()
         .coherent_walk()
+        .dvm_supported()
+        .coherent_walk()
         .configuration_fault(SmmuInterrupt::new(0x3433_3231).edge_triggered())
 }
 
@@ -318,6 +333,20 @@ fn smmu_v3(alloc: Global, smmu: SmmuV3, changes: &[(usize, u8)]) -> Result<(), F
 // An SMMUv3 whose registers are at the address 0.
 fn generic(alloc: Global) -> SmmuV3 {
     SmmuV3::new(alloc, SmmuV3Model::Generic, 0)
+}
+
+fn flagged(smmu: SmmuV3) -> SmmuV3 {
+    smmu.cohacc_override()
+        .httu_override(Httu::AccessFlagAndDirty)
+        .proximity_domain(5)
+        .device_id_mapping(6)
+}
+
+// Flags that are set again stay as they are.
+#[test]
+fn flags_of_smmus_v3(rt: HostRuntime) -> Result<(), Fail> {
+    let all = flagged(flagged(generic(rt.alloc())));
+    smmu_v3(rt.alloc(), all, &[(24, 29), (60, 5), (64, 6)])
 }
 
 #[test]
@@ -383,7 +412,10 @@ fn attributes_of_reserved_memory(rt: HostRuntime) -> Result<(), Fail> {
         let permitted = ReservedMemory::new(alloc, attributes).remapping_permitted();
         reserved(alloc, permitted, flags | 1)?;
         let privileged = ReservedMemory::new(alloc, attributes).privileged();
-        reserved(alloc, privileged, flags | 2)?;
+        reserved(alloc, privileged.privileged(), flags | 2)?;
+        let both = ReservedMemory::new(alloc, attributes).remapping_permitted();
+        let both = both.privileged().remapping_permitted();
+        reserved(alloc, both, flags | 3)?;
     }
     Ok(())
 }

@@ -1,5 +1,6 @@
 //! Definition blocks of many devices.
 
+use crate::fault::Fault;
 use acpi_tables::aml::{
     Device, EISAName, IO, Interrupt, Method, Name, Path, ResourceTemplate, Return,
 };
@@ -50,6 +51,11 @@ pub fn devices(alloc: Global, count: u32) -> R<Vec<u8>> {
         device(alloc, number)?.to_aml_bytes(&mut bytes)?;
     }
     Ok(bytes)
+}
+
+/// The number of bytes of these devices.
+pub fn bytecode(alloc: Global, count: u32) -> Result<usize, Fault> {
+    Ok(devices(alloc, count)?.len())
 }
 
 /// A definition block (ACPI 6.5, 5.2.11.1) of this many devices.

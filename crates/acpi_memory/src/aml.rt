@@ -8,7 +8,7 @@ use acpi_tables::aml::{
     ZERO,
 };
 use acpi_tables::{Aml, R};
-use acpi_vectors::written;
+use acpi_vectors::{bytes_of, written};
 use std::alloc::Global;
 
 fn path(alloc: Global) -> R<Path> {
@@ -32,14 +32,14 @@ pub fn named(alloc: Global, child: &u32, which: u8) -> R<Vec<u8>> {
     let path = path(alloc)?;
     match which {
         0 => written(alloc, &path),
-        1 => written(alloc, &Name::new_field_name(alloc, "FLD0")?),
-        2 => written(alloc, &Name::new(path, child)?),
+        1 => bytes_of(alloc, Name::new_field_name(alloc, "FLD0")),
+        2 => bytes_of(alloc, Name::new(path, child)),
         3 => Scope::raw(path, b"0123456789".to_vec(alloc)?),
-        4 => written(
+        4 => bytes_of(
             alloc,
-            &OpRegion::new(path, OpRegionSpace::SystemIO, child, &ZERO)?,
+            OpRegion::new(path, OpRegionSpace::SystemIO, child, &ZERO),
         ),
-        _ => written(alloc, &field(path, alloc)?),
+        _ => bytes_of(alloc, field(path, alloc)),
     }
 }
 
@@ -50,15 +50,15 @@ pub fn framed(alloc: Global, child: &u32, which: u8) -> R<Vec<u8>> {
     let path = path(alloc)?;
     let children = vec![in alloc; child as &dyn Aml, &ONE]?;
     match which {
-        0 => written(alloc, &PowerResource::new(path, 1, 2, children)?),
-        1 => written(alloc, &Method::new(path, 7, true, children)?),
-        2 => written(alloc, &MethodCall::new(path, children)?),
-        3 => written(alloc, &If::new(child, children)?),
-        4 => written(alloc, &Else::new(children)?),
-        5 => written(alloc, &Package::new(children)?),
-        6 => written(alloc, &Scope::new(path, children)?),
-        7 => written(alloc, &Device::new(path, children)?),
-        _ => written(alloc, &While::new(child, children)?),
+        0 => bytes_of(alloc, PowerResource::new(path, 1, 2, children)),
+        1 => bytes_of(alloc, Method::new(path, 7, true, children)),
+        2 => bytes_of(alloc, MethodCall::new(path, children)),
+        3 => bytes_of(alloc, If::new(child, children)),
+        4 => bytes_of(alloc, Else::new(children)),
+        5 => bytes_of(alloc, Package::new(children)),
+        6 => bytes_of(alloc, Scope::new(path, children)),
+        7 => bytes_of(alloc, Device::new(path, children)),
+        _ => bytes_of(alloc, While::new(child, children)),
     }
 }
 
@@ -72,10 +72,10 @@ pub const DATA: u8 = 4;
 /// Data.
 pub fn data(alloc: Global, child: &u32, which: u8) -> R<Vec<u8>> {
     match which {
-        0 => written(alloc, &BufferTerm::new(alloc, child)?),
-        1 => written(alloc, &BufferData::new(b"0123456789".to_vec(alloc)?)?),
-        2 => written(alloc, &resources(alloc)?),
-        _ => written(alloc, &VarPackageTerm::new(alloc, child)?),
+        0 => bytes_of(alloc, BufferTerm::new(alloc, child)),
+        1 => bytes_of(alloc, BufferData::new(b"0123456789".to_vec(alloc)?)),
+        2 => bytes_of(alloc, resources(alloc)),
+        _ => bytes_of(alloc, VarPackageTerm::new(alloc, child)),
     }
 }
 

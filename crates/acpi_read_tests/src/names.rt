@@ -25,6 +25,40 @@ fn too_many_segments(rt: HostRuntime) -> Result<(), Fail> {
     refuses(path_bytes(rt.alloc(), &text), Error::PathParts)
 }
 
+#[test]
+fn characters(rt: HostRuntime) -> Result<(), Fail> {
+    for text in ["AZ_9", "ZA0_", "_9Z0"] {
+        let name = NameString::new(rt.alloc(), text)?;
+        same(name.as_bytes(), text.as_bytes())?;
+    }
+    Ok(())
+}
+
+// The characters just outside of those that a name may have, and parts without four characters.
+#[test]
+fn characters_of_no_name(rt: HostRuntime) -> Result<(), Fail> {
+    for text in [
+        "@BCD",
+        "[BCD",
+        "^BCD",
+        "`BCD",
+        "0BCD",
+        "9BCD",
+        "A/CD",
+        "AB:D",
+        "ABC@",
+        "A[CD",
+        "AB^D",
+        "ABC`",
+        "AB.D",
+        "ABCD.AB.D",
+    ] {
+        let error = NameString::new(rt.alloc(), text).err();
+        equal(&error, &Some(ReadError::NameText))?;
+    }
+    Ok(())
+}
+
 // The parts of a path have four bytes, which needn't be those of names.
 #[test]
 fn paths(rt: HostRuntime) -> Result<(), Fail> {

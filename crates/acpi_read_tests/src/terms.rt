@@ -29,6 +29,17 @@ pub fn begins(alloc: Global, list: &[Term], text: &str) -> Result<(), Fail> {
     equal(&report_terms(alloc, list)?.starts_with(text), &true)
 }
 
+// The greatest number of each width, the last local and argument objects, a method with seven arguments, and the last of a field's
+// rules. Their spelling is the bytes.
+#[test]
+fn limits(rt: HostRuntime) -> Result<(), Fail> {
+    let bytes =
+        b"\x0a\xff\x0b\xff\xff\x0c\xff\xff\xff\xff\x0e\xff\xff\xff\xff\xff\xff\xff\xff\x67\x6e\
+        \x14\x06MTHD\x0f\x5b\x81\x06PRST\x55";
+    let list = terms(bytes, &stated(rt.alloc(), 0)?)?;
+    same(&spell(rt.alloc(), &list)?, bytes)
+}
+
 // A serial port: a device with an id and a template of an interrupt and a port.
 const PORT: [u8; 50] =
     *b"\x5b\x82\x30\x2e_SB_COM1\x08_HID\x0c\x41\xd0\x05\x01\x08_CRS\x11\x16\x0a\x13\

@@ -8,7 +8,7 @@ pub mod object;
 pub mod table;
 
 pub use compare::{agree, equal, same};
-pub use object::{all, makes, refuses, sized, writes, written};
+pub use object::{all, bytes_of, makes, refuses, sized, writes, written};
 
 pub const OEM: [u8; 6] = *b"FOOBAR";
 

@@ -19,6 +19,15 @@ pub fn written(alloc: Global, aml: &dyn Aml) -> R<Vec<u8>>
     Ok(bytes)
 }
 
+/// The bytes that an object writes, if its constructor succeeded.
+pub fn bytes_of<T: Aml + Drop>(alloc: Global, made: R<T>) -> R<Vec<u8>>
+    ensures { IfOk result (λ bytes. IfOk made (λ value. Built (T.object value) bytes.items)) }
+{
+    let mut bytes = Vec::new(alloc);
+    append_value(&made?, &mut bytes)?;
+    Ok(bytes)
+}
+
 /// Fails unless an object writes these bytes.
 pub fn writes(alloc: Global, aml: &dyn Aml, wanted: &[u8]) -> Result<(), Fail>
     ensures { OnOk result (Built (object aml.now) wanted.now) }
@@ -38,8 +47,7 @@ pub fn sized(alloc: Global, aml: &dyn Aml, wanted: usize) -> Result<(), Fail>
 pub fn makes<T: Aml + Drop>(alloc: Global, made: R<T>, wanted: &[u8]) -> Result<(), Fail>
     ensures { OnOk result (IfOk made (λ value. Built (T.object value) wanted.now)) }
 {
-    let mut bytes = Vec::new(alloc);
-    append_value(&made?, &mut bytes)?;
+    let bytes = bytes_of(alloc, made)?;
     same(&bytes, wanted)
 }
 

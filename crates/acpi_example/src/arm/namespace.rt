@@ -4,13 +4,13 @@ use crate::arm::virt::{
     DEVICE_MEMORY, DEVICE_MEMORY_END, DEVICE_PORTS, LAST_BUS, PROCESSORS, SERIAL_BYTES,
     SERIAL_INTERRUPT, SERIAL_PORT,
 };
-use crate::namespace::{named, processor};
-use crate::table::empty_block;
+use crate::namespace::{all_named, append_processors, device};
+use crate::table::{append, empty_block};
 use acpi_tables::aml::{
-    AddressSpace, AddressSpaceCacheable, Device, EISAName, Interrupt, Memory32Fixed, ONE, Path,
-    ResourceTemplate, ZERO,
+    AddressSpace, AddressSpaceCacheable, Device, EISAName, Interrupt, Memory32Fixed, Name, ONE,
+    Path, ResourceTemplate, ZERO,
 };
-use acpi_tables::sdt::{Sdt, append_object};
+use acpi_tables::sdt::Sdt;
 use acpi_tables::{Aml, R};
 use std::alloc::Global;
 
@@ -28,25 +28,27 @@ fn bridge_resources(alloc: Global) -> R<ResourceTemplate> {
     ResourceTemplate::new(vec![in alloc; &buses as &dyn Aml, &memory, &ports]?)
 }
 
-// The root bridge of PCI Express. Its accesses are coherent (ACPI 6.5, 6.2.17).
-fn root_bridge(alloc: Global) -> R<Device> {
-    let id = named(alloc, "_HID", &EISAName::new("PNP0A08")?)?;
-    let compatible = named(alloc, "_CID", &EISAName::new("PNP0A03")?)?;
-    let segment = named(alloc, "_SEG", &ZERO)?;
-    let unique = named(alloc, "_UID", &ZERO)?;
-    let coherent = named(alloc, "_CCA", &ONE)?;
-    let current = named(alloc, "_CRS", &bridge_resources(alloc)?)?;
-    Device::new(
-        Path::new(alloc, "_SB_.PCI0")?,
-        vec![in alloc;
-            &id as &dyn Aml,
-            &compatible,
-            &segment,
-            &unique,
-            &coherent,
-            &current,
-        ]?,
+// The objects of the root bridge. Its accesses are coherent (ACPI 6.5, 6.2.17).
+fn bridge_names(alloc: Global) -> R<Vec<Name>> {
+    let (id, compatible) = (EISAName::new("PNP0A08")?, EISAName::new("PNP0A03")?);
+    let resources = bridge_resources(alloc)?;
+    all_named(
+        alloc,
+        &[
+            ("_HID", &id),
+            ("_CID", &compatible),
+            ("_SEG", &ZERO),
+            ("_UID", &ZERO),
+            ("_CCA", &ONE),
+            ("_CRS", &resources),
+        ],
     )
+}
+
+// The root bridge of PCI Express.
+fn root_bridge(alloc: Global) -> R<Device> {
+    let names = bridge_names(alloc)?;
+    device(alloc, Path::new(alloc, "_SB_.PCI0")?, &names, &[])
 }
 
 // The registers of the PL011 and its interrupt, which is triggered by level.
@@ -56,24 +58,25 @@ fn serial_resources(alloc: Global) -> R<ResourceTemplate> {
     ResourceTemplate::new(vec![in alloc; &registers as &dyn Aml, &interrupt]?)
 }
 
-fn serial_port(alloc: Global) -> R<Device> {
-    let kind = "ARMH0011";
-    let id = named(alloc, "_HID", &kind)?;
-    let unique = named(alloc, "_UID", &ZERO)?;
-    let current = named(alloc, "_CRS", &serial_resources(alloc)?)?;
-    Device::new(
-        Path::new(alloc, "_SB_.COM0")?,
-        vec![in alloc; &id as &dyn Aml, &unique, &current]?,
+fn port_names(alloc: Global) -> R<Vec<Name>> {
+    let kind = String::from_str(alloc, "ARMH0011")?;
+    let resources = serial_resources(alloc)?;
+    all_named(
+        alloc,
+        &[("_HID", &kind), ("_UID", &ZERO), ("_CRS", &resources)],
     )
+}
+
+fn serial_port(alloc: Global) -> R<Device> {
+    let names = port_names(alloc)?;
+    device(alloc, Path::new(alloc, "_SB_.COM0")?, &names, &[])
 }
 
 /// A definition block (ACPI 6.5, 5.2.11.1) that holds the namespace.
 pub fn namespace_block(alloc: Global) -> R<Sdt> {
     let mut table = empty_block(alloc)?;
-    append_object(&root_bridge(alloc)?, &mut table)?;
-    append_object(&serial_port(alloc)?, &mut table)?;
-    for number in 0..PROCESSORS {
-        append_object(&processor(alloc, number)?, &mut table)?;
-    }
+    append(&mut table, root_bridge(alloc))?;
+    append(&mut table, serial_port(alloc))?;
+    append_processors(alloc, &mut table, PROCESSORS)?;
     Ok(table)
 }

@@ -1,0 +1,114 @@
+//! The structures of a table, put together again.
+
+use crate::tables::samples::Sample;
+use acpi_read::pieces::Piece;
+use acpi_read::report::report_table;
+use acpi_read::table::Table;
+use acpi_vectors::equal;
+use std::alloc::Global;
+use std::test::Fail;
+
+// The byte at an offset, or 0 if there is none.
+fn byte(bytes: &[u8], at: usize) -> usize {
+    if at < bytes.len() {
+        bytes[at] as usize
+    } else {
+        0
+    }
+}
+
+// The number in two bytes, lowest first.
+fn word(bytes: &[u8], low: usize, high: usize) -> usize {
+    byte(bytes, high)
+        .wrapping_mul(0x100)
+        .wrapping_add(byte(bytes, low))
+}
+
+// The length of a structure, from its own bytes or its table's kind.
+fn told(signature: &[u8; 4], structure: &[u8]) -> usize {
+    match signature {
+        b"XSDT" => 8,
+        b"MCFG" => 16,
+        b"HEST" => match word(structure, 0, 1) {
+            6 => 48,
+            7 => 44,
+            8 => 56,
+            9 => 64,
+            _ => 92,
+        },
+        b"APIC" | b"SRAT" | b"PPTT" => byte(structure, 1),
+        b"HMAT" => word(structure, 6, 7)
+            .wrapping_mul(0x1_0000)
+            .wrapping_add(word(structure, 4, 5)),
+        _ => word(structure, 2, 3),
+    }
+}
+
+// The type of a structure, if the structures of such tables have one.
+fn kind(signature: &[u8; 4], structure: &[u8]) -> Option<usize> {
+    match signature {
+        b"XSDT" | b"MCFG" => None,
+        b"HEST" | b"RHCT" | b"HMAT" => Some(word(structure, 0, 1)),
+        _ => Some(byte(structure, 0)),
+    }
+}
+
+// Fails unless each structure has its length and its type, and they follow each other from the first on up to the table's end.
+fn are_joined(sample: &Sample, table: &Table, pieces: &[Piece<'_>]) -> Result<(), Fail> {
+    let mut at = sample.start;
+    for piece in pieces {
+        equal(&piece.offset, &at)?;
+        equal(&piece.bytes.is_empty(), &false)?;
+        equal(&piece.bytes.len(), &told(sample.signature, piece.bytes))?;
+        equal(&piece.kind(table), &kind(sample.signature, piece.bytes))?;
+        at = at.wrapping_add(piece.bytes.len());
+    }
+    equal(&at, &table.bytes().len())
+}
+
+/// The structures of a table, if they can be found. A table of another signature than the sample's has none. If they can't be
+/// found, the offset of the fault is at most the number of bytes.
+pub fn joined<'a>(
+    alloc: Global,
+    sample: &Sample,
+    table: &Table<'a>,
+) -> Result<Option<Vec<Piece<'a>>>, Fail> {
+    let bytes = table.bytes();
+    match table.pieces(alloc) {
+        Ok(pieces) => {
+            let signature = sample.signature;
+            if bytes.starts_with(signature) {
+                are_joined(sample, table, &pieces)?;
+            } else {
+                equal(&pieces.len(), &0)?;
+            }
+            Ok(Some(pieces))
+        }
+        Err(error) => {
+            let offset = error.offset().ok_or("an offset")?;
+            equal(&(offset <= bytes.len()), &true)?;
+            Ok(None)
+        }
+    }
+}
+
+/// The number of structures, if bytes are a table and its structures can be found. They are its bytes from their offsets on, and
+/// the report has a line for each. If they can't be found, there is no report.
+pub fn reported(alloc: Global, sample: &Sample, bytes: &[u8]) -> Result<Option<usize>, Fail> {
+    let Ok(table) = Table::check(bytes) else {
+        return Ok(None);
+    };
+    let report = report_table(alloc, &table);
+    let Some(pieces) = joined(alloc, sample, &table)? else {
+        equal(&report.is_err(), &true)?;
+        return Ok(None);
+    };
+    equal(&report?.lines().count(), &pieces.len().wrapping_add(1))?;
+    for piece in &pieces {
+        if piece.offset <= bytes.len() {
+            let rest = &bytes[piece.offset..];
+            equal(&rest.starts_with(piece.bytes), &true)?;
+        }
+    }
+    Ok(Some(pieces.len()))
+}
