@@ -87,11 +87,21 @@ fn changed(
     writes(alloc, aml, &wanted)
 }
 
-// A component without a name, whose accesses are at offset 20.
+// A component without a name. Its flags are at offset 16, and its accesses at offset 20.
+const COMPONENT: [u8; 32] =
+    *b"\x01\x20\0\x04\0\0\0\0\0\0\0\0\0\0\0\0\0\0\0\0\0\0\0\0\0\0\0\0\0\0\0\0";
+
 fn accesses(alloc: Global, access: MemoryAccess, changes: &[(usize, u8)]) -> Result<(), Fail> {
     let component = NamedComponent::new(alloc, String::new(alloc)).memory_access(access);
-    let plain = b"\x01\x20\0\x04\0\0\0\0\0\0\0\0\0\0\0\0\0\0\0\0\0\0\0\0\0\0\0\0\0\0\0\0";
-    changed(alloc, &component, plain, changes)
+    changed(alloc, &component, &COMPONENT, changes)
+}
+
+// Flags that are set again stay as they are.
+#[test]
+fn flags_of_components(rt: HostRuntime) -> Result<(), Fail> {
+    let component = NamedComponent::new(rt.alloc(), String::new(rt.alloc()));
+    let component = component.substream_width(31).stall_supported();
+    changed(rt.alloc(), &component, &COMPONENT, &[(16, 0x3f)])
 }
 
 #[test]
@@ -106,11 +116,8 @@ fn memory_accesses(rt: HostRuntime) -> Result<(), Fail> {
         .cache_coherent()
         .coherent_path()
         .cacheable_attributes();
-    let again = full.transient().write_allocate().read_allocate();
-    let again = again
-        .hints_override()
-        .coherent_path()
-        .cacheable_attributes();
+    let again = full.write_allocate().read_allocate().hints_override();
+    let again = again.transient().cacheable_attributes().coherent_path();
     let rows: [(MemoryAccess, &[(usize, u8)]); 10] = [
         (access, &[]),
         (access.cache_coherent(), &[(20, 1)]),
@@ -175,10 +182,18 @@ fn flags_of_root_complexes(rt: HostRuntime) -> Result<(), Fail> {
         plain_root(alloc)
             .ats_supported()
             .pri_supported()
-            .pasid_forwarding()
+            .pasid_forwarding(),
+        &[(24, 7)],
+    )?;
+    root(
+        alloc,
+        plain_root(alloc)
             .ats_supported()
             .pri_supported()
-            .pasid_forwarding(),
+            .pasid_forwarding()
+            .pri_supported()
+            .pasid_forwarding()
+            .ats_supported(),
         &[(24, 7)],
     )
 }
@@ -247,6 +262,24 @@ fn fault() -> SmmuInterrupt {
     SmmuInterrupt::new(0x2423_2221)
 }
 
+// An SMMU whose accesses to tables are coherent.
+#[rattlefmt::skip]
+const SMMU: [u8; 76] = *b"\x03\x4c\0\x03\0\0\0\0\0\0\0\0\0\0\0\0\x01\x02\x03\x04\x05\x06\x07\x08\
+            \x11\x12\x13\x14\x15\x16\x17\x18\0\0\0\0\x02\0\0\0\x3c\0\0\0\0\0\0\0\0\0\0\0\0\0\0\0\0\0\0\0\
+            \x21\x22\x23\x24\0\0\0\0\0\0\0\0\0\0\0\0";
+
+fn smmu(alloc: Global, model: SmmuModel) -> Smmu {
+    let (base, span) = (0x0807_0605_0403_0201, 0x1817_1615_1413_1211);
+    Smmu::new(alloc, model, base, span, fault())
+}
+
+#[test]
+fn flags_of_smmus(rt: HostRuntime) -> Result<(), Fail> {
+    let smmu = smmu(rt.alloc(), SmmuModel::GenericV1);
+    let both = smmu.coherent_walk().dvm_supported();
+    changed(rt.alloc(), &both, &SMMU, &[(36, 3)])
+}
+
 #[test]
 fn models_of_smmus(rt: HostRuntime) -> Result<(), Fail> {
     let alloc = rt.alloc();
@@ -258,13 +291,9 @@ fn models_of_smmus(rt: HostRuntime) -> Result<(), Fail> {
         (SmmuModel::CoreLinkMmu401, 4),
         (SmmuModel::CaviumThunderX, 5),
     ] {
-        let mut wanted = *b"\x03\x4c\0\x03\0\0\0\0\0\0\0\0\0\0\0\0\x01\x02\x03\x04\x05\x06\x07\x08\
-            \x11\x12\x13\x14\x15\x16\x17\x18\0\0\0\0\x02\0\0\0\x3c\0\0\0\0\0\0\0\0\0\0\0\0\0\0\0\0\0\0\0\
-            \x21\x22\x23\x24\0\0\0\0\0\0\0\0\0\0\0\0";
+        let mut wanted = SMMU;
         wanted[32] = number;
-        let base = 0x0807_0605_0403_0201;
-        let smmu = Smmu::new(alloc, model, base, 0x1817_1615_1413_1211, fault());
-        writes(alloc, &smmu.coherent_walk(), &wanted)?;
+        writes(alloc, &smmu(alloc, model).coherent_walk(), &wanted)?;
     }
     Ok(())
 }
@@ -346,6 +375,8 @@ fn flagged(smmu: SmmuV3) -> SmmuV3 {
 #[test]
 fn flags_of_smmus_v3(rt: HostRuntime) -> Result<(), Fail> {
     let all = flagged(flagged(generic(rt.alloc())));
+    smmu_v3(rt.alloc(), all, &[(24, 29), (60, 5), (64, 6)])?;
+    let all = flagged(generic(rt.alloc())).cohacc_override();
     smmu_v3(rt.alloc(), all, &[(24, 29), (60, 5), (64, 6)])
 }
 

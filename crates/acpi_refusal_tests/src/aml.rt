@@ -8,13 +8,22 @@ use acpi_vectors::{OEM, OEM_REVISION, OEM_TABLE};
 use std::alloc::Global;
 use std::test::Fail;
 
-// A serial port.
-fn device(alloc: Global) -> R<Device> {
+// The interrupt and the ports of a serial port.
+fn resources(alloc: Global) -> R<ResourceTemplate> {
     let interrupt = Interrupt::new(true, true, false, false, 4);
     let ports = IO::new(0x3f8, 0x3f8, 0, 8);
-    let resources = ResourceTemplate::new(vec![in alloc; &interrupt as &dyn Aml, &ports]?)?;
+    ResourceTemplate::new(vec![in alloc; &interrupt as &dyn Aml, &ports]?)
+}
+
+fn settings(alloc: Global) -> R<Name> {
+    let resources = resources(alloc)?;
+    Name::new(Path::new(alloc, "_CRS")?, &resources)
+}
+
+// A serial port.
+fn device(alloc: Global) -> R<Device> {
     let id = Name::new(Path::new(alloc, "_HID")?, &EISAName::new("PNP0501")?)?;
-    let settings = Name::new(Path::new(alloc, "_CRS")?, &resources)?;
+    let settings = settings(alloc)?;
     Device::new(
         Path::new(alloc, "_SB_.COM1")?,
         vec![in alloc; &id as &dyn Aml, &settings]?,
