@@ -212,12 +212,12 @@ device _SB_.PCI0
 device _SB_.COM1
   define _HID
     number 17158209
-  method _STA args 0 serialized 0
-    return
-      number 15
   define _CRS
     buffer data 8906000301040000004701f803f80300087900
       number 19
+  method _STA args 0 serialized 0
+    return
+      number 15
 device _SB_.C000
   define _HID
     text "ACPI0007"
