@@ -13,9 +13,9 @@ A line at the left margin is a run: the command, the bytes of its file, and afte
 - `status=2` among the words is the status that is wanted. It is 0 otherwise, or 1 if there is an error.
 
 The lines after it that begin with four spaces are what the run has to print, those after `! ` as an error. After `make` they
-are the bytes that it has to write, with comments after `#`. FILE in them is the name of the file. `lnot*254` is 254 of these
-lines, each two spaces further in than the line before, and the lines after them are within the last. Runs right after one
-another have the same lines. `#` begins a comment at the left margin."""
+are the bytes that it has to write, with comments after `#`. FILE in them is the name of the file. `..` is any lines. `lnot*254`
+is 254 of these lines, each two spaces further in than the line before, and the lines after them are within the last. Runs right
+after one another have the same lines. `#` begins a comment at the left margin."""
 
 import os
 import re
@@ -74,6 +74,12 @@ def bytes_of(words):
     return bytes(content)
 
 
+def are_lines(found, wanted):
+    """Whether lines are the wanted ones."""
+    pattern = "".join(r"(?:.*\n)*?" if line == ".." else re.escape(f"{line}\n") for line in wanted)
+    return re.fullmatch(pattern, "".join(f"{line}\n" for line in found)) is not None
+
+
 class Run:
     """One run: its command, its file, its further words, and the status that is wanted, if one is stated."""
 
@@ -103,7 +109,7 @@ class Run:
                 found[0].append(file.read().hex())
             os.remove(made)
             printed = [bytes_of(" ".join(line.split("#")[0] for line in printed)).hex()]
-        if [done.returncode, *found] == [wanted, printed, errors]:
+        if done.returncode == wanted and are_lines(found[0], printed) and found[1] == errors:
             return None
         return "\n".join([f"status {done.returncode}, and not {wanted}", *found[0], *(f"! {line}" for line in found[1])])
 
