@@ -1,7 +1,8 @@
 r"""Runs acpiread and acpitool on the cases of cases/*.cases, and compares what they print. cases.sh gives the folder of the
 crates and a folder for files.
 
-A line at the left margin is a run: the command, the bytes of its file, and after a semicolon further words.
+A line at the left margin is a run: the command, the bytes of its file, and after a semicolon further words. Only `template` has
+no file.
 
     aml 5b 80 "PRST" 00 "MTHD" 01 00 ; MTHD=1
 
@@ -26,7 +27,7 @@ import sys
 CRATES, WORK = os.path.abspath(sys.argv[1]), sys.argv[2]
 PROGRAMS = {
     **dict.fromkeys(("aml", "dsdt", "table"), "acpiread"),
-    **dict.fromkeys(("show", "image", "make"), "acpitool"),
+    **dict.fromkeys(("show", "image", "make", "template"), "acpitool"),
 }
 TOKEN = re.compile(
     r'"(?P<text>[^"]*)"'
@@ -99,9 +100,9 @@ class Run:
         with open(path, "wb") as file:
             file.write("".join(self.text).encode("latin-1") if self.text else bytes_of(self.content))
         program = PROGRAMS[self.command]
-        words = [self.command, path] if self.command != "make" else [self.command, path, made]
+        files = {"make": [path, made], "template": []}.get(self.command, [path])
         program = os.path.join(CRATES, program, "out", program)
-        done = subprocess.run([program, *words, *self.words], capture_output=True, check=False)
+        done = subprocess.run([program, self.command, *files, *self.words], capture_output=True, check=False)
         wanted = self.status if self.status is not None else 1 if errors else 0
         found = [text.decode("latin-1").replace(path, "FILE").splitlines() for text in (done.stdout, done.stderr)]
         if os.path.exists(made):
