@@ -1,4 +1,5 @@
-//! `acpitool`: several files and folders, files that are missing or can't be written, words without a file, and writers that fail.
+//! `acpitool`: several files and folders, files that are missing or can't be written, words without a file, and writers that
+//! fail.
 
 mod files;
 mod program;

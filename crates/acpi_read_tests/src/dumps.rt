@@ -1,5 +1,5 @@
-//! Dumps without a title, and the texts of their faults. `acpitool` reads no text as a dump that doesn't begin with a title, so it
-//! can't show these. All other dumps are in `cases/dumps.cases`.
+//! Dumps without a title, and the texts of their faults. `acpitool` reads no text as a dump that doesn't begin with a title, so
+//! it can't show these. All other dumps are in `cases/dumps.cases`.
 
 use acpi_dump::{DumpFault, tables_of};
 use acpi_vectors::{agree, equal};

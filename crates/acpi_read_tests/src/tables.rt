@@ -1,5 +1,5 @@
-//! Tables of each signature that are cut, repeated, or changed in one byte or at random. Tables of given bytes, with their reports
-//! and faults, are in `cases/tables.cases`.
+//! Tables of each signature that are cut, repeated, or changed in one byte or at random. Tables of given bytes, with their
+//! reports and faults, are in `cases/tables.cases`.
 
 mod changed;
 mod joined;

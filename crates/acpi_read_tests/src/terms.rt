@@ -29,8 +29,8 @@ pub fn begins(alloc: Global, list: &[Term], text: &str) -> Result<(), Fail> {
     equal(&report_terms(alloc, list)?.starts_with(text), &true)
 }
 
-// The greatest number of each width, the last local and argument objects, a method with seven arguments, and the last of a field's
-// rules. Their spelling is the bytes.
+// The greatest number of each width, the last local and argument objects, a method with seven arguments, and the last of a
+// field's rules. Their spelling is the bytes.
 #[test]
 fn limits(rt: HostRuntime) -> Result<(), Fail> {
     let bytes =
