@@ -375,9 +375,9 @@ fn flagged(smmu: SmmuV3) -> SmmuV3 {
 #[test]
 fn flags_of_smmus_v3(rt: HostRuntime) -> Result<(), Fail> {
     let all = flagged(flagged(generic(rt.alloc())));
-    smmu_v3(rt.alloc(), all, &[(24, 29), (60, 5), (64, 6)])?;
+    smmu_v3(rt.alloc(), all, &[(24, 13), (60, 5), (64, 6)])?;
     let all = flagged(generic(rt.alloc())).cohacc_override();
-    smmu_v3(rt.alloc(), all, &[(24, 29), (60, 5), (64, 6)])
+    smmu_v3(rt.alloc(), all, &[(24, 13), (60, 5), (64, 6)])
 }
 
 #[test]
@@ -415,11 +415,7 @@ fn fields_of_smmus_v3(rt: HostRuntime) -> Result<(), Fail> {
         generic(alloc).proximity_domain(5),
         &[(24, 8), (60, 5)],
     )?;
-    smmu_v3(
-        alloc,
-        generic(alloc).device_id_mapping(6),
-        &[(24, 16), (64, 6)],
-    )
+    smmu_v3(alloc, generic(alloc).device_id_mapping(6), &[(64, 6)])
 }
 
 // Reserved memory without ranges.

@@ -48,13 +48,13 @@ pub fn fixed_hardware() -> FADTBuilder {
         .flag(Flags::TmrValExt)
 }
 
-/// The sources of errors: the root ports of PCI Express, and firmware, which writes to a page of memory that is polled. `HEST`
-/// writes 0 for Enabled of the root ports, so their source is disabled.
+/// The sources of errors: the root ports of PCI Express, and firmware, which writes to a page of memory that is polled.
 pub fn error_sources(alloc: Global, base: u64) -> R<HEST>
     requires { base + BYTES_FROM_BASE ≤ 2 ^ 64 }
 {
     let mut table = HEST::new(alloc, OEM_ID, OEM_TABLE_ID, OEM_REVISION);
-    table.add_structure(PcieAerRootPort::new_global())?;
+    let ports = PcieAerRootPort::new_global().enabled(hest::EnabledStatus::Enabled);
+    table.add_structure(ports)?;
     let polled = NotificationStructure::new(NotificationType::Polled).poll_interval_ms(1000);
     let status = GAS::new(
         AddressSpace::SystemMemory,

@@ -8,9 +8,16 @@ use Rattle.acpi_hest.specs.declared.hest.aer.AerRootPort.{AerRootPort}
 use Rattle.acpi_hest.specs.declared.hest.aer.FirmwareFirst.{FirmwareFirst}
 use Rattle.acpi_hest.specs.declared.hest.aer.FirmwareFirst.TheVariants.{Disabled, Enabled}
 use Rattle.acpi_hest.specs.declared.hest.aer.PciDevice.{PciDevice}
+use Rattle.acpi_hest.specs.declared.hest.generic.EnabledStatus.{EnabledStatus}
+use Rattle.acpi_hest.specs.declared.hest.generic.EnabledStatus.TheVariants as statuses
 
 abbrev pub pci_device : ℕ → ℕ → ℕ → PciDevice
 pci_device bus device function = record { bus = bus; device = device; function = function }
+
+-- Enabled, in sources of all kinds
+abbrev pub enabled_number : EnabledStatus → ℕ
+enabled_number statuses.Disabled = 0
+enabled_number statuses.Enabled = 1
 
 abbrev pub firmware_first_number : FirmwareFirst → ℕ
 firmware_first_number Disabled = 0
@@ -20,7 +27,9 @@ module _ {T : Type 0} {N : ℕ} where
   -- a source with these flags and this address, in which all fields except those of its kind are zero
   abbrev pub aer : T → ℕ → ℕ → ℕ → ℕ → Aer T N
   aer tail flags bus device function = record {
+    source_id = 0;
     flags = flags;
+    enabled = statuses.Disabled;
     num_records = 0;
     max_sections = 0;
     bus = bus;
@@ -46,10 +55,10 @@ module _ {T : Type 0} {N : ℕ} where
   abbrev pub aer_head_fields : ℕ → Aer T N → List NamedField
   aer_head_fields kind s =
       word "Type" kind  -- 0
-      ∷ word "Source Id" 0  -- 2
+      ∷ word "Source Id" s.source_id  -- 2
       ∷ reserved 2  -- 4
       ∷ byte "Flags" s.flags  -- 6
-      ∷ byte "Enabled" 0  -- 7
+      ∷ byte "Enabled" (enabled_number s.enabled)  -- 7
       ∷ dword "Number of Records to Pre-allocate" s.num_records  -- 8
       ∷ dword "Max Sections Per Record" s.max_sections  -- 12
       ∷ dword "Bus" s.bus  -- 16

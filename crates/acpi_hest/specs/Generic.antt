@@ -4,14 +4,10 @@ use Rattle.acpi_base.specs.Fields.{NamedField, byte, word, dword, qword, bytes, 
 use Rattle.acpi_base.specs.Gas.{gas_bytes, no_register}
 use Rattle.acpi_hest.specs.declared.hest.generic.Acknowledged.{Acknowledged}
 use Rattle.acpi_hest.specs.declared.hest.generic.EnabledStatus.{EnabledStatus}
-use Rattle.acpi_hest.specs.declared.hest.generic.EnabledStatus.TheVariants.{Disabled, Enabled}
 use Rattle.acpi_hest.specs.declared.hest.generic.Generic.{Generic}
 use Rattle.acpi_hest.specs.declared.hest.generic.Unacknowledged.{Unacknowledged}
+use Rattle.acpi_hest.specs.Aer.{enabled_number}
 use Rattle.acpi_hest.specs.Notification.{no_notification, notification_bytes}
-
-abbrev pub enabled_number : EnabledStatus → ℕ
-enabled_number Disabled = 0
-enabled_number Enabled = 1
 
 module _ {T : Type 0} {N : ℕ} where
   -- a source with this id, in which all fields except those of its version are zero

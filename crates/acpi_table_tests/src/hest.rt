@@ -102,6 +102,8 @@ fn root_ports(rt: HostRuntime) -> Result<(), Fail> {
     let alloc = rt.alloc();
     writes(alloc, &PcieAerRootPort::new_global(), &ROOT_PORTS)?;
     let port = PcieAerRootPort::new_root_port(FirmwareFirst::Enabled, PciDevice::new(0xfe, 31, 7))
+        .source_id(0x0302)
+        .enabled(EnabledStatus::Enabled)
         .num_records(0x0b0a_0908)
         .max_sections(0x0f0e_0d0c)
         .device_control(0x1918)
@@ -113,7 +115,7 @@ fn root_ports(rt: HostRuntime) -> Result<(), Fail> {
     writes(
         alloc,
         &port,
-        b"\x06\0\0\0\0\0\x01\0\x08\x09\x0a\x0b\x0c\x0d\x0e\x0f\
+        b"\x06\0\x02\x03\0\0\x01\x01\x08\x09\x0a\x0b\x0c\x0d\x0e\x0f\
             \xfe\0\0\0\x1f\0\x07\0\x18\x19\0\0\x1c\x1d\x1e\x1f\
             \x20\x21\x22\x23\x24\x25\x26\x27\x28\x29\x2a\x2b\x2c\x2d\x2e\x2f",
     )

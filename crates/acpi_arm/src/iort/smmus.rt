@@ -344,9 +344,9 @@ const COHACC_OVERRIDE: u32 = 1;
 
 const PROXIMITY_DOMAIN_VALID: u32 = 1 << 3;
 
-const DEVICE_ID_MAPPING_VALID: u32 = 1 << 4;
-
-/// An SMMUv3: 68 bytes, and 20 for each mapping.
+/// An SMMUv3: 68 bytes, and 20 for each mapping. Unless all four of its interrupts have a GSIV, it sends messages for them, and a
+/// reader takes one mapping as that of the SMMU's own device id, and not as one of stream ids: the one that `device_id_mapping`
+/// names, or the first.
 #[derive(Drop)]
 pub struct SmmuV3 {
     pub(crate) identifier: u32,
@@ -451,12 +451,12 @@ impl SmmuV3 {
         self
     }
 
-    /// Sets the index of the mapping of the SMMU's own device id (offset 64), and flag 16.
+    /// Sets the index of the mapping of the SMMU's own device id (offset 64). A reader ignores it if all four interrupts have a
+    /// GSIV.
     pub fn device_id_mapping(mut self, index: u32) -> SmmuV3
-        ensures { result ≡ record self { device_id_mapping = index; flags = bit_or self.flags 16 } }
+        ensures { result ≡ record self { device_id_mapping = index } }
     {
         self.device_id_mapping = index;
-        self.flags |= DEVICE_ID_MAPPING_VALID;
         self
     }
 

@@ -9,6 +9,7 @@ ghost use Rattle.acpi_hest.specs.Aer.{zero_root_port, zero_device, zero_bridge};
 ghost use Rattle.acpi_hest.specs.declared.hest.aer.Aer.{Aer};
 ghost use Rattle.acpi_hest.specs.Aer.{root_port_fields, device_fields, bridge_fields};
 
+use crate::hest::generic::EnabledStatus;
 use crate::hest::tail::Tail;
 use crate::parts::write_record_behind;
 use acpi_base::error::R;
@@ -45,11 +46,12 @@ impl PciDevice {
     }
 }
 
-/// An AER source (ACPI 6.5, 18.3.2.4 to 18.3.2.6): 44 bytes, and the fields of its kind. Enabled (offset 7) and Source Id (offset
-/// 2) are always 0; there is no setter for them.
+/// An AER source (ACPI 6.5, 18.3.2.4 to 18.3.2.6): 44 bytes, and the fields of its kind. A new one isn't enabled, and its id is 0.
 #[derive(Clone, Copy, Debug)]
 pub struct Aer<T, const N: usize> {
+    source_id: u16,
     flags: u8,
+    enabled: EnabledStatus,
     num_records: u32,
     max_sections: u32,
     bus: u32,
@@ -72,7 +74,9 @@ impl<T: Tail<N>, const N: usize> Aer<T, N> {
         ensures { result ≡ aer_global T.zero }
     {
         Aer {
+            source_id: 0,
             flags: GLOBAL,
+            enabled: EnabledStatus::Disabled,
             num_records: 0,
             max_sections: 0,
             bus: 0,
@@ -98,6 +102,22 @@ impl<T: Tail<N>, const N: usize> Aer<T, N> {
             function: u16::from(device.function),
             ..Aer::new_global()
         }
+    }
+
+    /// Sets the id of the source (offset 2), by which others refer to it.
+    pub fn source_id(mut self, source_id: u16) -> Aer<T, N>
+        ensures { result ≡ record self { source_id = source_id } }
+    {
+        self.source_id = source_id;
+        self
+    }
+
+    /// Sets whether the source is enabled (offset 7).
+    pub fn enabled(mut self, enabled: EnabledStatus) -> Aer<T, N>
+        ensures { result ≡ record self { enabled = enabled } }
+    {
+        self.enabled = enabled;
+        self
     }
 
     /// Sets the number of error records to preallocate (offset 8).
@@ -164,10 +184,10 @@ impl<T: Tail<N>, const N: usize> Aer<T, N> {
             &AER,
             &[
                 u64::from(T::KIND),
-                0,
+                u64::from(self.source_id),
                 0,
                 u64::from(self.flags),
-                0,
+                self.enabled as u64,
                 u64::from(self.num_records),
                 u64::from(self.max_sections),
                 u64::from(self.bus),

@@ -19,7 +19,7 @@ use acpi_base::record::{Field, record};
 use acpi_base::row::{Record, Row, Value, record_of, record_of_numbers};
 use acpi_base::sink::AmlSink;
 
-/// Whether a source is enabled (ACPI 6.5, 18.3.2.7, Enabled).
+/// Whether a source is enabled (ACPI 6.5, 18.3.2, Enabled).
 #[derive(Copy, Clone, Debug, PartialEq)]
 pub enum EnabledStatus {
     Disabled = 0,
