@@ -71,7 +71,7 @@ pub struct FADTBuilder {
     /// The size in bytes.
     pub length: u32,
     pub major_version: u8,
-    /// The checksum. `finalize` sets it.
+    /// The checksum. Its value isn't used: the checksum is computed when the table is written.
     pub checksum: u8,
     pub oem_id: [u8; 6],
     pub oem_table_id: [u8; 8],
@@ -195,7 +195,7 @@ impl FADTBuilder {
         }
     }
 
-    /// The table of these fields, with a new checksum. The length field keeps its value.
+    /// The table of these fields, all of which keep their values. Its checksum is computed when it is written.
     pub fn finalize(self) -> FADT
         ensures { result ≡ self }
     {
@@ -351,7 +351,7 @@ const IAPC_BOOT_ARCH: [Word; 6] = [
 ];
 
 // The names of the fixed feature flags (ACPI 6.5, 5.2.9).
-const FLAGS: [Word; 22] = [
+const FLAGS: [Word; 24] = [
     Word(0x1, "WBINVD"),
     Word(0x2, "WBINVD_FLUSH"),
     Word(0x4, "PROC_C1"),
@@ -374,6 +374,8 @@ const FLAGS: [Word; 22] = [
     Word(0x80000, "FORCE_APIC_PHYSICAL_DESTINATION_MODE"),
     Word(0x100000, "HW_REDUCED_ACPI"),
     Word(0x200000, "LOW_POWER_S0_IDLE_CAPABLE"),
+    Word(0x400000, "PERSISTENT_CPU_CACHES Not Persistent"),
+    Word(0x800000, "PERSISTENT_CPU_CACHES Persistent"),
 ];
 
 // The names of the boot architecture flags of Arm (ACPI 6.5, 5.2.9.4).

@@ -395,11 +395,13 @@ pub const TPM2_FIXED: [Row; 7] = [
         "Start Method",
         4,
         &[
+            Word(1, "Vendor Specific Legacy Use"),
             Word(2, "ACPI Start Method"),
             Word(6, "Memory Mapped I/O"),
             Word(7, "Command Response Buffer"),
             Word(8, "Command Response Buffer with ACPI Start Method"),
             Word(11, "Command Response Buffer with Arm SMC"),
+            Word(12, "FIFO over I2C"),
         ],
     ),
     Row::Bytes("Start Method Specific Parameters", 12),
