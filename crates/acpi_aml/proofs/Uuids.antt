@@ -5,7 +5,8 @@ use Rattle.std.proofs.lemmas.List.{reverse-append}
 use Rattle.std.proofs.lemmas.Bool.Decides.{nat_tests}
 use Rattle.acpi_base.specs.Bytes.{AreBytes}
 use Rattle.acpi_base.proofs.Bytes.{bytes_both}
-use Rattle.acpi_aml.specs.Hex.{digit_value, paired, byte_of_digits, led, bytes_of_digits}
+use Rattle.acpi_base.specs.Digit.{digit_value}
+use Rattle.acpi_aml.specs.Hex.{paired, byte_of_digits, led, bytes_of_digits}
 use Rattle.acpi_aml.specs.Uuid.{is_grouped, grouped, uuid_bytes}
 
 tested : (s t u : Bool) (x y z v : ℕ) → (IsTrue s → x < 16) → (IsTrue t → y < 16) → (IsTrue u → z < 16)

@@ -1,13 +1,6 @@
--- Hexadecimal digits.
-use Rattle.std.specs.Prelude.{ℕ, ◌+◌, ◌-◌, ◌*◌, nat_le, ◌&&◌, if◌then◌else◌, List, [], ◌∷◌, Option, Some, None}
-
--- the value of a digit in upper or lower case
-abbrev pub digit_value : ℕ → Option ℕ
-digit_value b =
-    if nat_le 0x30 b && nat_le b 0x39 then Some (b - 0x30)
-    else (if nat_le 0x41 b && nat_le b 0x46 then Some (b - 0x41 + 10)
-    else (if nat_le 0x61 b && nat_le b 0x66 then Some (b - 0x61 + 10)
-    else None))
+-- Bytes of hexadecimal digits.
+use Rattle.std.specs.Prelude.{ℕ, ◌+◌, ◌*◌, List, [], ◌∷◌, Option, Some, None}
+use Rattle.acpi_base.specs.Digit.{digit_value}
 
 abbrev pub paired : Option ℕ → Option ℕ → Option ℕ
 paired (Some high) (Some low) = Some (16 * high + low)

@@ -1,20 +1,9 @@
-//! Hexadecimal digits.
+//! Bytes of hexadecimal digits.
 
-ghost use Rattle.std.specs.Prelude.{◌≡◌, ◌<◌, ◌*◌, length, IfSome};
-ghost use Rattle.acpi_aml.specs.Hex.{digit_value, byte_of_digits, bytes_of_digits};
+ghost use Rattle.std.specs.Prelude.{◌≡◌, ◌*◌, length};
+ghost use Rattle.acpi_aml.specs.Hex.{byte_of_digits, bytes_of_digits};
 
-// The value of a hexadecimal digit in upper or lower case.
-fn digit_value(digit: u8) -> Option<u8>
-    ensures value { result ≡ digit_value digit }
-    ensures small { IfSome result (λ d. d < 16) }
-{
-    match digit {
-        b'0'..=b'9' => Some(digit - b'0'),
-        b'A'..=b'F' => Some(digit - b'A' + 10),
-        b'a'..=b'f' => Some(digit - b'a' + 10),
-        _ => None,
-    }
-}
+use acpi_base::digit::digit_value;
 
 /// The byte that two digits stand for.
 pub(crate) fn byte_of_digits(high: u8, low: u8) -> Option<u8>

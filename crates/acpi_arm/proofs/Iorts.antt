@@ -2,7 +2,7 @@
 use Rattle.std.proofs.Common.{◌≡◌, ℕ, ◌≤◌, List, [], ◌∷◌, ◌++◌, length, take, length-append, ap, arith, refl, sym, ◌∙◌, zero, suc}
 use Rattle.std.specs.Prelude.{string_bytes, None}
 use Rattle.std.proofs.lemmas.List.{append-nil}
-use Rattle.acpi_base.specs.Layout.{zeros}
+use Rattle.acpi_base.specs.Bytes.{zeros}
 use Rattle.acpi_base.specs.Walk.{IsPiece}
 use Rattle.acpi_base.specs.declared.walk.Place.TheVariants.{Word}
 use Rattle.acpi_base.specs.declared.walk.Sizes.TheVariants.{ToldAt}

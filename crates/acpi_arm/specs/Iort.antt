@@ -1,8 +1,7 @@
 -- The I/O Remapping Table (Arm DEN0049E.d), its ID mappings and what its nodes share.
 use Rattle.std.specs.Prelude.{◌≡◌, ◌≢◌, ℕ, ◌<◌, List, [], ◌∷◌, ◌++◌, codes, Result, OnOk, OnErr, IfErr}
-use Rattle.acpi_base.specs.Bytes.{le}
+use Rattle.acpi_base.specs.Bytes.{le, zeros}
 use Rattle.acpi_base.specs.Fields.{NamedField, dword, fields_joined}
-use Rattle.acpi_base.specs.Layout.{zeros}
 use Rattle.acpi_base.specs.declared.error.Error.{Error}
 use Rattle.acpi_base.specs.declared.error.Error.TheVariants.{Memory, FieldWidth}
 use Rattle.acpi_base.specs.declared.oem.Oem.{Oem}

@@ -14,7 +14,7 @@ ghost use Rattle.acpi_fixed.specs.Spcr.{interface_number};
 ghost use Rattle.acpi_arm.specs.Dbg2.{dbg2, KeepsDevices, port_type, port_subtype, Device, debug_device, with_register};
 ghost use Rattle.acpi_arm.specs.Dbg2.{name_at, oem_data_at, device_size, device_head_fields, device_head, device_bytes};
 
-use crate::told::{offset_if, told_size};
+use crate::offsets::offset_if;
 use acpi_base::error::{Error, R};
 use acpi_base::gas::GAS;
 use acpi_base::object::Aml;
@@ -26,6 +26,7 @@ use acpi_core::entries::Entries;
 use acpi_core::form::Form;
 use acpi_core::structure::Known;
 use acpi_core::table::Table;
+use acpi_core::told::told_size;
 use acpi_fixed::spcr::InterfaceType;
 use std::alloc::Global;
 use std::marker::Model;

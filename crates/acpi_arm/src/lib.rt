@@ -5,7 +5,7 @@ pub mod dbg2;
 pub mod gtdt;
 pub mod handle;
 pub mod iort;
-mod told;
+mod offsets;
 
 /// Laws about the tables. Each function is a law: it does nothing, and its `ensures` states the law.
 pub mod laws {

@@ -1,10 +1,10 @@
 -- What is added to a table ends its contents, and what any list of calls makes of it.
 use Rattle.std.proofs.Common.{◌≡◌, ℕ, ◌+◌, ◌≤◌, List, [], ◌∷◌, ◌++◌, length, take, drop, refl, sym, ap, ◌∙◌, arith, append_assoc, length-append}
-use Rattle.std.specs.Prelude.{sum, Result, Ok, Err}
+use Rattle.std.specs.Prelude.{sum, Ok, Err}
 use Rattle.std.proofs.lemmas.List.{append-nil, take-append-drop, length-take-le, drop_at}
 use Rattle.acpi_base.specs.Bytes.{le, put, complement}
 use Rattle.acpi_base.specs.Sdt.{Contents, added}
-use Rattle.acpi_base.specs.SdtCalls.{SdtCall, adds, appends, writes, AreSdtCalls, sdt_after, changed, AreAdditions, contents, IsSdtAfter}
+use Rattle.acpi_base.specs.SdtCalls.{SdtCall, adds, appends, writes, AreSdtCalls, sdt_after, changed, AreAdditions, contents}
 use Rattle.acpi_base.specs.Laws.{AddedEnds, SdtsAreTheirCalls}
 use Rattle.acpi_base.proofs.Bytes.{length_le}
 use Rattle.acpi_base.proofs.Puts.{put-append, length-put}

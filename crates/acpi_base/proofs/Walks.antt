@@ -1,15 +1,14 @@
 -- Walks of tables.
-use Rattle.std.proofs.Common.{rules, ◌≡◌, ℕ, ◌+◌, ◌≤◌, List, [], ◌∷◌, ◌++◌, length, take, drop, refl, sym, ap, ◌∙◌, arith, length-append, length-drop}
+use Rattle.std.proofs.Common.{rules, ◌≡◌, ℕ, ◌+◌, ◌≤◌, ◌⊎◌, List, [], ◌∷◌, ◌++◌, length, take, drop, refl, sym, ap, ◌∙◌, arith, length-append, length-drop, inl, inr}
 use Rattle.std.specs.Prelude.{Option, Some, None, Bool, true, false, ◌==◌, if◌then◌else◌}
 use Rattle.std.specs.List.{concat}
 use Rattle.std.proofs.lemmas.List.{append-nil, take-append-le, drop-append-le, take_at, drop_at}
 use Rattle.std.proofs.lemmas.List.Folds.{concat-append}
 use Rattle.acpi_base.specs.Bytes.{carried, field_at}
-use Rattle.acpi_base.specs.declared.walk.Place.{Place}
 use Rattle.acpi_base.specs.declared.walk.Sizes.{Sizes}
 use Rattle.acpi_base.specs.declared.walk.Sizes.TheVariants.{EachOf, ToldAt, BySource}
 use Rattle.acpi_base.specs.declared.walk.Walk.{Walk}
-use Rattle.acpi_base.specs.Walk.{place_offset, place_width, number_in, source_size, IsPiece, ArePieces, HasSizes, IsSound, OneWalk}
+use Rattle.acpi_base.specs.Walk.{place_offset, place_width, end_of, number_in, source_size, IsPiece, ArePieces, HasSizes, IsShort, IsSound, OneWalk, Walks}
 use Rattle.acpi_base.specs.Walk.{walks, find_walk, walk_of, named, WalksBy, OneListOfPieces}
 
 -- a field in the front of a list
@@ -84,9 +83,27 @@ all_are_sound = search rules
 pub is_sound : (s : ℕ) (w : Walk) → walk_of s ≡ Some w → IsSound w
 is_sound s w is = found_is_sound s walks w all_are_sound is
 
-pieces_by : (o : Option Walk) → ((w : Walk) → o ≡ Some w → HasSizes w.sizes) → (bytes : List ℕ) (ps qs : List (List ℕ)) → WalksBy o bytes ps → WalksBy o bytes qs → ps ≡ qs
-pieces_by (Some w) has bytes ps qs a b = one_walk w bytes ps qs (has w refl) a b
-pieces_by None has bytes ps qs a b = a ∙ sym b
+-- no byte of a short table is where structures would begin
+ends_before : (start first size : ℕ) → first ≤ start → (size ≡ first) ⊎ (size ≡ start) → size ≤ start
+ends_before start first size within (inl here) = omega arith
+ends_before start first size within (inr here) = omega arith
+
+-- so it has no structures
+none_in_short : (w : Walk) (bytes : List ℕ) (ps : List (List ℕ)) → IsSound w → IsShort w bytes → Walks w bytes ps → ps ≡ []
+none_in_short w bytes [] sound short walks = refl
+none_in_short w bytes (p ∷ ps) sound short walks =
+    let ends = ends_before w.start (end_of w.first) (length bytes) sound.told short.ends in
+    absurd (omega (arith, ends, ap length walks.joined, length-drop w.start bytes, length-append p (concat ps), piece_has_bytes w.sizes p sound.has walks.each.0))
+
+pub one_by : (w : Walk) (bytes : List ℕ) (ps qs : List (List ℕ)) → IsSound w → WalksBy (Some w) bytes ps → WalksBy (Some w) bytes qs → ps ≡ qs
+one_by w bytes ps qs sound (inl a) (inl b) = one_walk w bytes ps qs sound.has a b
+one_by w bytes ps qs sound (inl a) (inr b) = none_in_short w bytes ps sound b.0 a ∙ sym b.1
+one_by w bytes ps qs sound (inr a) (inl b) = a.1 ∙ sym (none_in_short w bytes qs sound a.0 b)
+one_by w bytes ps qs sound (inr a) (inr b) = a.1 ∙ sym b.1
+
+pieces_by : (o : Option Walk) → ((w : Walk) → o ≡ Some w → IsSound w) → (bytes : List ℕ) (ps qs : List (List ℕ)) → WalksBy o bytes ps → WalksBy o bytes qs → ps ≡ qs
+pieces_by (Some w) sound bytes ps qs a b = one_by w bytes ps qs (sound w refl) a b
+pieces_by None sound bytes ps qs a b = a ∙ sym b
 
 pub one_list_of_pieces : OneListOfPieces
-one_list_of_pieces bytes ps qs a b = pieces_by (walk_of (field_at 0 4 bytes)) (λ w is. (is_sound (field_at 0 4 bytes) w is).has) bytes ps qs a b
+one_list_of_pieces bytes ps qs a b = pieces_by (walk_of (field_at 0 4 bytes)) (is_sound (field_at 0 4 bytes)) bytes ps qs a b

@@ -1,11 +1,15 @@
 -- Bytes, and numbers as bytes.
-use Rattle.std.specs.Prelude.{ℕ, ◌+◌, ◌-◌, ◌*◌, ◌%◌, ◌<◌, List, [], ◌∷◌, ◌++◌, length, take, drop}
+use Rattle.std.specs.Prelude.{ℕ, ◌+◌, ◌-◌, ◌*◌, ◌%◌, ◌<◌, List, [], ◌∷◌, ◌++◌, length, take, drop, replicate}
 use Rattle.std.specs.Int.{bytes_low_first}
 
 -- each is a byte
 abbrev pub AreBytes : List ℕ → Type 0
 AreBytes [] = Unit {0}
 AreBytes (b ∷ bytes) = (b < 256) × AreBytes bytes
+
+-- this many bytes that are zero
+abbrev pub zeros : ℕ → List ℕ
+zeros n = replicate n 0
 
 -- the lowest w bytes of v, lowest first (ACPI 6.5, 5.2)
 abbrev pub le : ℕ → ℕ → List ℕ

@@ -1,8 +1,7 @@
 -- Records as lists of fields. A field has its name in the standard, its width in bytes, and its bytes.
 use Rattle.std.specs.Prelude.{◌≡◌, ℕ, ◌≤◌, List, [], ◌∷◌, ◌++◌, Bool, true, nat_le, ◌&&◌, map, length, codes}
 use Prim.Native.String.{String}
-use Rattle.acpi_base.specs.Bytes.{le}
-use Rattle.acpi_base.specs.Layout.{zeros}
+use Rattle.acpi_base.specs.Bytes.{le, zeros}
 use Rattle.acpi_base.specs.declared.row.Row.{Row}
 use Rattle.acpi_base.specs.declared.row.Row.TheVariants.{Number, Flags, OneOf, Bytes, Register, Reserved}
 use Rattle.acpi_base.specs.declared.row.Value.{Value}

@@ -1,12 +1,12 @@
 pub mod Error
 pub mod Bytes
+pub mod Digit
 pub mod Sink
 pub mod Object
 pub mod Checksum
 pub mod Buffer
 pub mod Number
 pub mod Text
-pub mod Layout
 pub mod Record
 pub mod Fields
 pub mod Gas

@@ -63,7 +63,7 @@ pub record EndsIn (error : Error) (object : Object) (old new : Meaning) : Type 0
   pub end : object.end ≡ Some error
   pub took : Took old object.front new
 
--- The call returned an error, and the sink took a first part of the bytes. `Memory` is returned only if the object or the sink
+-- The call returned an error, and the sink took a prefix of the bytes. `Memory` is returned only if the object or the sink
 -- may run out of memory. Any other error is the object's own, after all of its bytes, or one of the sink, which doesn't take
 -- these bytes.
 pub record WriteRefused (error : Error) (object : Object) (old new : Meaning) : Type 0 where

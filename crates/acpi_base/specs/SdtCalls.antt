@@ -4,7 +4,7 @@ use Rattle.acpi_base.specs.declared.error.Error.{Error}
 use Rattle.acpi_base.specs.Sdt.{Contents, added, overwritten, Addition, Overwriting}
 
 -- A call, and the table after it. `adds` stands for `append_slice`, `append` and the calls of the sink. `appends` is
--- `append_object`, with the bytes that the object wrote: all of them, or a first part if the call failed. `writes` stands for
+-- `append_object`, with the bytes that the object wrote: all of them, or a prefix if the call failed. `writes` stands for
 -- `write_bytes`, `write` and the others that overwrite.
 pub data SdtCall : Type 0 where
   adds : List ℕ → Result Unit Error → Contents → SdtCall

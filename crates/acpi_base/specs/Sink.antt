@@ -24,7 +24,7 @@ after sink bytes = record {
 pub record Took (old : Meaning) (bytes : List ℕ) (new : Meaning) : Type 0 where
   pub moved : new ≡ after old bytes
 
--- The sink took a first part of the bytes. This part may be empty, and may be all of them.
+-- The sink took a prefix of the bytes. The prefix may be empty, and may be all of them.
 pub record TookBeginning (old : Meaning) (bytes : List ℕ) (new : Meaning) : Type 0 where
   pub part : List ℕ
   pub rest : List ℕ
@@ -36,7 +36,7 @@ pub record IsTold (error : Error) (sink : Meaning) (bytes : List ℕ) : Type 0 w
   pub told : IsTrue (sink.tells error)
   pub untaken : (more : List ℕ) → sink.takes (bytes ++ more) ≡ false
 
--- The sink returned an error and took a first part of the bytes. The error is `Memory` only if the sink may run out of memory.
+-- The sink returned an error and took a prefix of the bytes. The error is `Memory` only if the sink may run out of memory.
 -- Any other error is one that the sink returns for bytes that it doesn't take.
 pub record Refused (error : Error) (old : Meaning) (bytes : List ℕ) (new : Meaning) : Type 0 where
   pub beginning : TookBeginning old bytes new

@@ -36,7 +36,7 @@ fn write_into(aml: &dyn Aml, bytes: &mut Vec<u8>) -> R<()>
     aml.to_aml_bytes(bytes)
 }
 
-/// Writes an object at the end of a vector. After an error the vector may end with a first part of the object's bytes.
+/// Writes an object at the end of a vector. After an error the vector may end with a prefix of the object's bytes.
 pub fn append(aml: &dyn Aml, bytes: &mut Vec<u8>) -> R<()>
     ensures ok { OnOk result (Appended (object aml.now) bytes.old.items bytes.new.items) }
     ensures err { IfErr result (λ e. IsOwnEnd e (object aml.now)) }

@@ -50,7 +50,7 @@ pub struct GAS {
 }
 
 impl GAS {
-    /// A register of `bit_width` bits, which begins at bit `bit_offset` of the bytes at an address.
+    /// A register of `register_bit_width` bits, which begins at bit `register_bit_offset` of the bytes at an address.
     pub fn new(
         address_space_id: AddressSpace,
         register_bit_width: u8,

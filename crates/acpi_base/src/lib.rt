@@ -5,6 +5,7 @@ pub mod address;
 pub mod buffer;
 pub mod checksum;
 pub mod constant;
+pub mod digit;
 pub mod error;
 pub mod gas;
 pub mod header;

@@ -14,7 +14,7 @@ pub trait Aml {
     ghost object: { Self → Object };
 
     /// Writes the object's bytes to the sink, and then returns the object's own error if it has one. After an error the sink has
-    /// taken a first part of the bytes.
+    /// taken a prefix of the bytes.
     fn to_aml_bytes(&self, sink: &mut dyn AmlSink) -> R<()>
         ensures ok { OnOk result (Wrote (object self.now) (meaning sink.old) (meaning sink.new)) }
         ensures err { IfErr result (λ e. WriteRefused e (object self.now) (meaning sink.old) (meaning sink.new)) };

@@ -3,8 +3,7 @@
 ghost use Rattle.std.specs.Prelude.{◌≡◌, ◌≢◌, ◌≤◌, ◌<◌, ◌+◌, ◌-◌, ◌%◌, ◌^◌, ◌++◌, [], ◌∷◌, ◌↔◌, length, replicate, sum, OnOk};
 ghost use Rattle.std.specs.Prelude.{OnErr, IfErr, IfOk, IsTrue};
 ghost use Rattle.std.specs.Int.{to_le_bytes, w16, w32, w64};
-ghost use Rattle.acpi_base.specs.Bytes.{le};
-ghost use Rattle.acpi_base.specs.Layout.{zeros};
+ghost use Rattle.acpi_base.specs.Bytes.{le, zeros};
 ghost use Rattle.acpi_base.specs.Object.{whole, whole_ends_well, Wrote, WriteRefused};
 ghost use Rattle.acpi_base.specs.Sink.{Took, Refused};
 ghost use Rattle.acpi_base.specs.Table.{with_checksum, table_of};

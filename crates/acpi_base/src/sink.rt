@@ -6,10 +6,11 @@ ghost use Rattle.acpi_base.specs.Sink.{Meaning, Took, Refused};
 
 use crate::error::R;
 
-/// A receiver of bytes. After an error a sink has taken a first part of the bytes of that call.
+/// A receiver of bytes. After an error a sink has taken a prefix of the bytes of that call.
 pub trait AmlSink {
     ghost meaning: { Self → Meaning };
 
+    /// One byte. The error is the sink's own, or `Memory`.
     fn byte(&mut self, byte: u8) -> R<()>
         ensures ok { OnOk result (Took (meaning self.old) (byte ∷ []) (meaning self.new)) }
         ensures err { IfErr result (λ e. Refused e (meaning self.old) (byte ∷ []) (meaning self.new)) };

@@ -1,7 +1,8 @@
 //! Walks: how the structures of a table are found.
 
 ghost use Rattle.std.specs.Prelude.{◌≡◌, ◌↔◌, ◌≤◌, length, IsTrue, IfSome};
-ghost use Rattle.acpi_base.specs.Walk.{source_size, named, find_walk, walk_of, number_in, place_offset, end_of, Tells, IsSound};
+ghost use Rattle.acpi_base.specs.Walk.{source_size, named, find_walk, walk_of, number_in, place_offset, end_of};
+ghost use Rattle.acpi_base.specs.Walk.{Tells, IsShort, IsSound};
 
 /// A field of one, two or four bytes at an offset, or no field.
 #[derive(Clone, Copy, Debug)]
@@ -23,15 +24,22 @@ pub enum Sizes {
     BySource,
 }
 
-/// How the structures of a table are found: where the first begins, the length of each, and the field that contains its type. Two
-/// fields of the table may contain the number of structures and the offset of the first.
+/// How the structures of a table are found.
 #[derive(Clone, Copy, Debug)]
 pub struct Walk {
+    /// The offset of the first structure.
     pub start: u8,
+    /// The length of each structure.
     pub sizes: Sizes,
+    /// The field of a structure that contains its type.
     pub kind: Place,
+    /// The field of the table that contains the number of structures.
     pub count: Place,
-    pub told_start: Place,
+    /// The field of the table that contains the offset of the first structure.
+    pub first: Place,
+    /// Whether a table without structures may contain 0 in these two fields, and end after `first`: a GTDT of revision 2 has 96
+    /// bytes.
+    pub short: bool,
 }
 
 use Place::{Byte, DWord, Nowhere, Word};
@@ -40,21 +48,21 @@ use Sizes::{BySource, EachOf, ToldAt};
 // The walks of all tables that have structures, by signature.
 #[rattlefmt::skip]
 const WALKS: [([u8; 4], Walk); 15] = [
-    (*b"XSDT", Walk { start: 36, sizes: EachOf(8), kind: Nowhere, count: Nowhere, told_start: Nowhere }),
-    (*b"MCFG", Walk { start: 44, sizes: EachOf(16), kind: Nowhere, count: Nowhere, told_start: Nowhere }),
-    (*b"APIC", Walk { start: 44, sizes: ToldAt(Byte(1)), kind: Byte(0), count: Nowhere, told_start: Nowhere }),
-    (*b"HEST", Walk { start: 40, sizes: BySource, kind: Word(0), count: DWord(36), told_start: Nowhere }),
-    (*b"SRAT", Walk { start: 48, sizes: ToldAt(Byte(1)), kind: Byte(0), count: Nowhere, told_start: Nowhere }),
-    (*b"CEDT", Walk { start: 36, sizes: ToldAt(Word(2)), kind: Byte(0), count: Nowhere, told_start: Nowhere }),
-    (*b"PPTT", Walk { start: 36, sizes: ToldAt(Byte(1)), kind: Byte(0), count: Nowhere, told_start: Nowhere }),
-    (*b"RHCT", Walk { start: 56, sizes: ToldAt(Word(2)), kind: Word(0), count: DWord(48), told_start: DWord(52) }),
-    (*b"VIOT", Walk { start: 48, sizes: ToldAt(Word(2)), kind: Byte(0), count: Word(36), told_start: Word(38) }),
-    (*b"RIMT", Walk { start: 48, sizes: ToldAt(Word(2)), kind: Byte(0), count: DWord(36), told_start: DWord(40) }),
-    (*b"RQSC", Walk { start: 40, sizes: ToldAt(Word(2)), kind: Byte(0), count: DWord(36), told_start: Nowhere }),
-    (*b"HMAT", Walk { start: 40, sizes: ToldAt(DWord(4)), kind: Word(0), count: Nowhere, told_start: Nowhere }),
-    (*b"GTDT", Walk { start: 104, sizes: ToldAt(Word(1)), kind: Byte(0), count: DWord(88), told_start: DWord(92) }),
-    (*b"IORT", Walk { start: 48, sizes: ToldAt(Word(1)), kind: Byte(0), count: DWord(36), told_start: DWord(40) }),
-    (*b"DBG2", Walk { start: 44, sizes: ToldAt(Word(1)), kind: Nowhere, count: DWord(40), told_start: DWord(36) }),
+    (*b"XSDT", Walk { start: 36, sizes: EachOf(8), kind: Nowhere, count: Nowhere, first: Nowhere, short: false }),
+    (*b"MCFG", Walk { start: 44, sizes: EachOf(16), kind: Nowhere, count: Nowhere, first: Nowhere, short: false }),
+    (*b"APIC", Walk { start: 44, sizes: ToldAt(Byte(1)), kind: Byte(0), count: Nowhere, first: Nowhere, short: false }),
+    (*b"HEST", Walk { start: 40, sizes: BySource, kind: Word(0), count: DWord(36), first: Nowhere, short: false }),
+    (*b"SRAT", Walk { start: 48, sizes: ToldAt(Byte(1)), kind: Byte(0), count: Nowhere, first: Nowhere, short: false }),
+    (*b"CEDT", Walk { start: 36, sizes: ToldAt(Word(2)), kind: Byte(0), count: Nowhere, first: Nowhere, short: false }),
+    (*b"PPTT", Walk { start: 36, sizes: ToldAt(Byte(1)), kind: Byte(0), count: Nowhere, first: Nowhere, short: false }),
+    (*b"RHCT", Walk { start: 56, sizes: ToldAt(Word(2)), kind: Word(0), count: DWord(48), first: DWord(52), short: false }),
+    (*b"VIOT", Walk { start: 48, sizes: ToldAt(Word(2)), kind: Byte(0), count: Word(36), first: Word(38), short: false }),
+    (*b"RIMT", Walk { start: 48, sizes: ToldAt(Word(2)), kind: Byte(0), count: DWord(36), first: DWord(40), short: false }),
+    (*b"RQSC", Walk { start: 40, sizes: ToldAt(Word(2)), kind: Byte(0), count: DWord(36), first: Nowhere, short: false }),
+    (*b"HMAT", Walk { start: 40, sizes: ToldAt(DWord(4)), kind: Word(0), count: Nowhere, first: Nowhere, short: false }),
+    (*b"GTDT", Walk { start: 104, sizes: ToldAt(Word(1)), kind: Byte(0), count: DWord(88), first: DWord(92), short: true }),
+    (*b"IORT", Walk { start: 48, sizes: ToldAt(Word(1)), kind: Byte(0), count: DWord(36), first: DWord(40), short: false }),
+    (*b"DBG2", Walk { start: 44, sizes: ToldAt(Word(1)), kind: Nowhere, count: DWord(40), first: DWord(36), short: false }),
 ];
 
 /// The walk of the tables of a signature, if they have structures. The signature is a number, lowest byte first.
@@ -154,5 +162,19 @@ impl Place {
             Place::Nowhere => true,
             place => place.number(bytes) == number,
         }
+    }
+}
+
+impl Walk {
+    /// Whether these are the bytes of a table without structures that contains 0 as the offset of the first.
+    pub fn is_short(self, bytes: &[u8]) -> bool
+        requires { IsSound self }
+        ensures { IsTrue result ↔ IsShort self bytes.now }
+    {
+        let size = bytes.len();
+        self.short
+            && (size == self.first.end() || size == usize::from(self.start))
+            && self.count.number(bytes) == 0
+            && self.first.number(bytes) == 0
     }
 }

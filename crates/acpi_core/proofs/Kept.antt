@@ -1,5 +1,5 @@
 -- What tables keep over additions.
-use Rattle.std.proofs.Common.{◌≡◌, ℕ, ◌+◌, List, Bool, IsTrue, length, take, refl, ap, ◌∙◌}
+use Rattle.std.proofs.Common.{◌≡◌, ℕ, ◌+◌, List, Bool, IsTrue, length, take, refl, ap, ◌∙◌, inl}
 use Rattle.std.specs.Prelude.{Result, Ok, Err, OnOk, IfErr, Option, Some, None}
 use Rattle.acpi_base.specs.declared.error.Error.{Error}
 use Rattle.acpi_base.specs.Sink.{Meaning}
@@ -10,7 +10,7 @@ use Rattle.acpi_base.specs.declared.walk.Sizes.{Sizes}
 use Rattle.acpi_base.specs.declared.walk.Walk.{Walk}
 use Rattle.acpi_base.specs.Bytes.{field_at}
 use Rattle.std.specs.List.{concat}
-use Rattle.acpi_base.proofs.Walks.{pieces_push, is_sound}
+use Rattle.acpi_base.proofs.Walks.{pieces_push, is_sound, one_by}
 use Rattle.acpi_core.specs.Listing.{Listing, IsListing, bytes_of, with_structure}
 use Rattle.acpi_core.specs.Addition.{Counted, Adds, refusal_of}
 use Rattle.acpi_core.specs.Walk.{IsWalkOf, Keeps, IsWalked}
@@ -65,12 +65,13 @@ is_true w limit closed t kept = (are_true t kept.is).0
 
 pub is_walked : (w : Walk) (limit : ℕ) (closed : Bool) (t : Listing) → Keeps w limit closed t → ArePieces w.sizes t.structures → IsWalked w t
 is_walked w limit closed t kept pieces =
-    let walk = the_walk t w kept.is kept.walk (is_sound (named t.signature) w kept.walk.signature).has pieces in
+    let sound = is_sound (named t.signature) w kept.walk.signature in
+    let found = (the_walk t w kept.is kept.walk sound.has pieces).0 in
     let by : walk_of (field_at 0 4 (bytes_of t)) ≡ Some w = ap walk_of (signature_told t kept.is) ∙ kept.walk.signature in
     record {
       is_true = (are_true t kept.is).0;
-      walks = rw by walk.0;
-      only = rw by walk.1;
+      walks = rw by (inl found);
+      only = rw by (λ ps other. one_by w (bytes_of t) ps t.structures sound other (inl found));
       offsets = λ i h. places w.start t.structures i h ∙ ap (λ n. n + length (concat (take i t.structures))) kept.walk.start;
     }
 

@@ -134,11 +134,11 @@ walked t w is walk each =
           ∙ number_told t.count_width (length t.structures) (omega (arith, some, walk.count_width)) is.width is.counted;
       started = λ some.
           let told = walk.told some in
-          let tw = (place_width w.told_start) in
+          let tw = (place_width w.first) in
           let field = take tw t.after in
           let split : bytes_of t ≡ ((p.front ++ t.before) ++ n) ++ (field ++ (drop tw t.after ++ s)) =
           behind_after ∙ ap (λ z. ((p.front ++ t.before) ++ n) ++ z) (ap (λ a. a ++ s) (sym (take-append-drop tw t.after)) ∙ append_assoc field (drop tw t.after) s) in
-          field_between (bytes_of t) ((p.front ++ t.before) ++ n) field (drop tw t.after ++ s) (place_offset w.told_start) tw split (told.0 ∙ sym l2) (sym (length-take-le tw t.after told.1))
+          field_between (bytes_of t) ((p.front ++ t.before) ++ n) field (drop tw t.after ++ s) (place_offset w.first) tw split (told.0 ∙ sym l2) (sym (length-take-le tw t.after told.1))
           ∙ told.2 ∙ sym walk.start;
     }
 

@@ -14,10 +14,10 @@ pub record IsWalkOf (w : Walk) (t : Listing) : Type 0 where
   pub start : w.start ≡ start_of t
   pub count_at : 1 ≤ place_width w.count → place_offset w.count ≡ 36 + length t.before
   pub count_width : place_width w.count ≡ t.count_width
-  pub told : 1 ≤ place_width w.told_start
-      → (place_offset w.told_start ≡ 36 + length t.before + t.count_width)
-      × (place_width w.told_start ≤ length t.after)
-      × (carried (take (place_width w.told_start) t.after) ≡ start_of t)
+  pub told : 1 ≤ place_width w.first
+      → (place_offset w.first ≡ 36 + length t.before + t.count_width)
+      × (place_width w.first ≤ length t.after)
+      × (carried (take (place_width w.first) t.after) ≡ start_of t)
 
 -- The invariant of a table: it has this walk, and its length is below the limit of its kind. In a closed kind each structure has
 -- the length that the walk expects.

@@ -10,7 +10,7 @@ pub trait Kind {
     /// The walk by which its structures are found.
     ghost walk: { Walk };
 
-    /// Its length is below this.
+    /// The limit of a table's length in bytes: the length is below it.
     ghost limit: { ℕ };
 
     /// Whether all of its structures are types of this library, which have the lengths that the walk expects.

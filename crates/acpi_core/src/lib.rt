@@ -1,5 +1,4 @@
-//! The table of structures: a header, fixed fields, and structures in order. Every table of lists, nodes or matrices is made of
-//! it.
+//! The table of structures: a header, fixed fields, and structures in order. Every table that has structures is made of it.
 #![tactic(auto)]
 
 pub mod entries;
@@ -10,4 +9,5 @@ pub mod listed;
 pub mod settle;
 pub mod structure;
 pub mod table;
+pub mod told;
 pub mod walked;

@@ -11,7 +11,7 @@ use acpi_base::object::Aml;
 pub trait Structure {
     ghost writes: { Self → Object };
 
-    /// Writes the structure at the end of a vector. After an error the vector may end with a first part of its bytes.
+    /// Writes the structure at the end of a vector. After an error the vector may end with a prefix of its bytes.
     fn append_to(&self, bytes: &mut Vec<u8>) -> R<()>
         ensures ok { OnOk result (Appended (writes self.now) bytes.old.items bytes.new.items) }
         ensures err { IfErr result (λ e. IsOwnEnd e (writes self.now)) }

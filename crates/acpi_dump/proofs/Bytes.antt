@@ -3,7 +3,7 @@ use Rattle.std.proofs.Common.{◌≡◌, ℕ, zero, suc, ◌-◌, true, false, i
 use Rattle.std.proofs.lemmas.List.{take_rest, append-nil}
 use Rattle.acpi_dump.specs.Line.{is_byte, byte_of, bytes_in}
 
-next : (most : ℕ) (text : List ℕ) → is_byte text ≡ true → bytes_in (suc most) text ≡ byte_of text ∷ bytes_in most (drop 3 text)
+pub next : (most : ℕ) (text : List ℕ) → is_byte text ≡ true → bytes_in (suc most) text ≡ byte_of text ∷ bytes_in most (drop 3 text)
 unfolding bytes_in
 next most text is = ap (λ (b : Bool). if b then byte_of text ∷ bytes_in most (drop 3 text) else []) is
 

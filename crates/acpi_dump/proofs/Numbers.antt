@@ -1,11 +1,17 @@
 -- Numbers that grow digit by digit.
-use Rattle.std.proofs.Common.{◌≡◌, ℕ, ◌+◌, ◌*◌, ◌≤◌, ◌<◌, List, [], ◌∷◌, length, take, drop, true, ap, get_or, sym, ◌∙◌, arith}
+use Rattle.std.proofs.Common.{◌≡◌, ℕ, ◌+◌, ◌*◌, ◌≤◌, ◌<◌, List, [], ◌∷◌, length, take, drop, true, Some, ap, get_or, sym, ◌∙◌, arith}
 use Rattle.std.proofs.lemmas.List.{at_drop_more, at_drop_all, get_or-take, length-take}
 use Rattle.std.proofs.lemmas.List.Folds.{length-prefix_len}
 use Rattle.std.proofs.lemmas.List.Sums.{prefix_len_passes}
 use Rattle.std.specs.Char.{digit_value, is_ascii_hexdigit}
 use Rattle.std.specs.List.{prefix_len, take_while}
 use Rattle.std.specs.Str.Parse.{digits_value_after}
+use Rattle.std.proofs.lemmas.Bool.Decides.{nat_tests}
+use Rattle.acpi_base.specs.Digit as base
+
+-- a digit has one value
+pub one_value : (c : ℕ) → digit_value c < 16 → base.digit_value c ≡ Some (digit_value c)
+one_value c small = grind (arith, nat_tests, small)
 
 -- further digits make a number no smaller
 pub grows : (n : ℕ) (digits : List ℕ) → n ≤ digits_value_after 16 n digits

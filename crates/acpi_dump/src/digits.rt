@@ -7,6 +7,8 @@ ghost use Rattle.std.specs.Str.Parse.{digits_value};
 ghost use Rattle.std.specs.Bool.{OnTrue};
 ghost use Rattle.std.specs.List.{AllPass};
 
+use acpi_base::digit::digit_value;
+
 /// Returns whether a byte is a hexadecimal digit in upper or lower case.
 pub fn is_digit(byte: u8) -> bool
     ensures value { result ≡ is_ascii_hexdigit byte }
@@ -16,14 +18,14 @@ pub fn is_digit(byte: u8) -> bool
 }
 
 /// Returns the number of a digit.
+#[tactic(auto, using(crate::proofs::Numbers::one_value))]
 pub fn digit(byte: u8) -> u8
     requires { digit_value byte < 16 }
     ensures { result ≡ digit_value byte }
 {
-    match byte {
-        b'0'..=b'9' => byte - b'0',
-        b'A'..=b'F' => byte - b'A' + 10,
-        _ => byte - b'a' + 10,
+    match digit_value(byte) {
+        Some(digit) => digit,
+        None => 0,
     }
 }
 

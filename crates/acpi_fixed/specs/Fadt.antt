@@ -2,7 +2,7 @@
 use Rattle.std.specs.Prelude.{ℕ, List, [], ◌∷◌, ◌++◌, codes, bit_or}
 use Rattle.acpi_base.specs.Fields.{NamedField, byte, word, dword, qword, bytes, reserved, fields_joined}
 use Rattle.acpi_base.specs.Gas.{gas_bytes, no_register}
-use Rattle.acpi_base.specs.Layout.{zeros}
+use Rattle.acpi_base.specs.Bytes.{zeros}
 use Rattle.acpi_base.specs.Table.{with_checksum}
 use Rattle.acpi_fixed.specs.declared.fadt.Flags.{Flags}
 use Rattle.acpi_fixed.specs.declared.fadt.Flags.TheVariants as flags

@@ -10,7 +10,6 @@ use Rattle.std.proofs.lemmas.List.Elements.{All-append, All-map}
 use Rattle.acpi_base.specs.declared.oem.Oem.{Oem}
 use Rattle.acpi_base.specs.Bytes.{le, put, carried, complement, field_at}
 use Rattle.acpi_base.specs.Fields.{fields_joined}
-use Rattle.acpi_base.specs.Layout.{zeros}
 use Rattle.acpi_base.specs.Table.{IsTrueTable}
 use Rattle.acpi_core.specs.Listing.{bytes_of, body_of}
 use Rattle.acpi_core.proofs.Offsets.{parts}

@@ -2,7 +2,7 @@
 use Rattle.std.proofs.Common.{◌≡◌, ℕ, ◌+◌, ◌%◌, List, [], ◌∷◌, ◌++◌, length, refl, sym, ap, subst, ◌∙◌, arith, append_assoc, length-append}
 use Rattle.std.specs.Prelude.{Option, Some, None}
 use Rattle.std.proofs.lemmas.List.{append-nil, length-replicate}
-use Rattle.acpi_base.specs.Layout.{zeros}
+use Rattle.acpi_base.specs.Bytes.{zeros}
 use Rattle.acpi_core.specs.Listing.{bytes_of}
 use Rattle.acpi_fixed.specs.Fadt.{fadt_bytes}
 use Rattle.acpi_fixed.specs.Rsdp.{rsdp_bytes, rsdp_for}

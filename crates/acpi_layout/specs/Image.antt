@@ -5,8 +5,7 @@ use Rattle.std.specs.Prelude.{if◌then◌else◌, Option, Some, None}
 use Rattle.acpi_base.specs.declared.error.Error.{Error}
 use Rattle.acpi_base.specs.declared.error.Error.TheVariants.{FieldWidth}
 use Rattle.acpi_base.specs.declared.oem.Oem.{Oem}
-use Rattle.acpi_base.specs.Bytes.{le}
-use Rattle.acpi_base.specs.Layout.{zeros}
+use Rattle.acpi_base.specs.Bytes.{le, zeros}
 use Rattle.acpi_base.specs.Object.{Object, all_of}
 use Rattle.acpi_core.specs.Listing.{Listing, bytes_of}
 use Rattle.acpi_fixed.specs.declared.fadt.FADTBuilder.{FADTBuilder}

@@ -4,7 +4,6 @@ use Rattle.std.specs.Prelude.{Option, Some, None}
 use Rattle.acpi_base.specs.declared.oem.Oem.{Oem}
 use Rattle.acpi_base.specs.Bytes.{field_at}
 use Rattle.acpi_base.specs.Fields.{fields_joined}
-use Rattle.acpi_base.specs.Layout.{zeros}
 use Rattle.acpi_base.specs.Table.{IsTrueTable}
 use Rattle.acpi_core.specs.Listing.{bytes_of}
 use Rattle.acpi_fixed.specs.declared.fadt.FADTBuilder.{FADTBuilder}

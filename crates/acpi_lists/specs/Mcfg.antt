@@ -1,7 +1,7 @@
 -- The memory mapped configuration space of PCI (PCI Firmware Specification 3.3, 4.1.2).
 use Rattle.std.specs.Prelude.{ℕ, List, [], ◌∷◌, codes}
 use Rattle.acpi_base.specs.Fields.{NamedField, byte, word, qword, reserved, fields_joined}
-use Rattle.acpi_base.specs.Layout.{zeros}
+use Rattle.acpi_base.specs.Bytes.{zeros}
 use Rattle.acpi_base.specs.declared.oem.Oem.{Oem}
 use Rattle.acpi_core.specs.Listing.{Listing, length_limit}
 use Rattle.acpi_lists.specs.declared.mcfg.Ecam.{Ecam}

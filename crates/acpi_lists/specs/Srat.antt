@@ -1,9 +1,8 @@
 -- The System Resource Affinity Table (ACPI 6.5, 5.2.16).
 use Rattle.std.specs.Prelude.{◌≢◌, ℕ, ◌+◌, ◌*◌, ◌&&◌, nat_lt, Bool, true, List, [], ◌∷◌, ◌++◌, codes, Some}
 use Rattle.acpi_base.specs.declared.error.Error.TheVariants.{Memory, PciAddress}
-use Rattle.acpi_base.specs.Bytes.{le}
+use Rattle.acpi_base.specs.Bytes.{le, zeros}
 use Rattle.acpi_base.specs.Fields.{NamedField, byte, word, dword, qword, bytes, reserved, fields_joined}
-use Rattle.acpi_base.specs.Layout.{zeros}
 use Rattle.acpi_base.specs.Object.{Object, whole, provided, provided_ends_well}
 use Rattle.acpi_base.specs.declared.oem.Oem.{Oem}
 use Rattle.acpi_core.specs.Listing.{Listing, length_limit}

@@ -1,8 +1,8 @@
 -- Characters, and what tests say of them.
 use Rattle.std.proofs.Common.{◌≡◌, ℕ, zero, suc, ◌<◌, ◌==◌, ◌&&◌, ◌||◌, not, Bool, true, false, Option, Some, None, refl, subst, arith, inl, inr}
 use Rattle.std.proofs.lemmas.Bool.{and_parts, eqb-true, cases_lt}
-use Rattle.acpi_text.specs.Hex.{hex_digit}
-use Rattle.acpi_make.specs.Step.{digit_of, is_control}
+use Rattle.acpi_base.specs.Digit.{digit_value, hex_digit}
+use Rattle.acpi_make.specs.Step.{is_control}
 
 -- a character that prints
 pub record Prints (c : ℕ) : Type 0 where
@@ -18,7 +18,7 @@ pub record IsDigit (c n : ℕ) : Type 0 where
   pub question : (c == 63) ≡ false
   pub brace : (c == 123) ≡ false
   pub word : (c == 35 || c == 64) ≡ false
-  pub value : digit_of c ≡ Some n
+  pub value : digit_value c ≡ Some n
 
 abbrev is_some : Option ℕ → ℕ → Bool
 is_some (Some m) n = m == n
@@ -28,7 +28,7 @@ abbrev is_mark : ℕ → Bool
 is_mark c = c == 34 || (c == 63 || (c == 123 || (c == 35 || c == 64)))
 
 abbrev is_digit : ℕ → ℕ → Bool
-is_digit c n = not (c == 10) && not (is_control c) && not (c == 32) && not (c == 47) && not (is_mark c) && is_some (digit_of c) n
+is_digit c n = not (c == 10) && not (is_control c) && not (c == 32) && not (c == 47) && not (is_mark c) && is_some (digit_value c) n
 
 false_by : (b : Bool) → not b ≡ true → b ≡ false
 false_by true is = absurd cc
@@ -44,7 +44,7 @@ some_by None n is = absurd cc
 
 digit_by : (c n : ℕ) → is_digit c n ≡ true → IsDigit c n
 digit_by c n is =
-    let a = and_parts (not (c == 10) && not (is_control c) && not (c == 32) && not (c == 47) && not (is_mark c)) (is_some (digit_of c) n) is in
+    let a = and_parts (not (c == 10) && not (is_control c) && not (c == 32) && not (c == 47) && not (is_mark c)) (is_some (digit_value c) n) is in
     let b = and_parts (not (c == 10) && not (is_control c) && not (c == 32) && not (c == 47)) (not (is_mark c)) a.0 in
     let d = and_parts (not (c == 10) && not (is_control c) && not (c == 32)) (not (c == 47)) b.0 in
     let e = and_parts (not (c == 10) && not (is_control c)) (not (c == 32)) d.0 in
@@ -60,7 +60,7 @@ digit_by c n is =
       question = false_by (c == 63) h.0;
       brace = false_by (c == 123) k.0;
       word = false_by (c == 35 || c == 64) k.1;
-      value = some_by (digit_of c) n a.1;
+      value = some_by (digit_value c) n a.1;
     }
 
 -- the digits below n

@@ -129,14 +129,14 @@ tables_walked walk s parts d table sound taken is none small first have =
     let total = length bytes in
     let up : Ascending d.marks total = subst (Ascending d.marks) (sym done.size) (all_ordered s parts nothing_yet d tt taken) in
     let inside : walk.start ≤ total = subst (λ k. k ≤ total) first (start_within d.marks total up) in
-    let owns = subst (λ n. AllHold bytes (own_at 0 (next_start d.marks n) walk.count (count_structures d.marks) ++ (own_at 0 (next_start d.marks n) walk.told_start (next_start d.marks n) ++ sizes_own walk.sizes d.marks n))) (sym done.size) quiet.hold.1 in
-    let starts = subst (λ k. AllHold bytes (own_at 0 k walk.count (count_structures d.marks) ++ (own_at 0 k walk.told_start k ++ sizes_own walk.sizes d.marks total))) first owns in
+    let owns = subst (λ n. AllHold bytes (own_at 0 (next_start d.marks n) walk.count (count_structures d.marks) ++ (own_at 0 (next_start d.marks n) walk.first (next_start d.marks n) ++ sizes_own walk.sizes d.marks n))) (sym done.size) quiet.hold.1 in
+    let starts = subst (λ k. AllHold bytes (own_at 0 k walk.count (count_structures d.marks) ++ (own_at 0 k walk.first k ++ sizes_own walk.sizes d.marks total))) first owns in
     let one = hold_both bytes (own_at 0 walk.start walk.count (count_structures d.marks)) _ starts in
-    let two = hold_both bytes (own_at 0 walk.start walk.told_start walk.start) (sizes_own walk.sizes d.marks total) one.1 in
+    let two = hold_both bytes (own_at 0 walk.start walk.first walk.start) (sizes_own walk.sizes d.marks total) one.1 in
     record {
       reaches = inside;
       joined = ap (λ k. drop k bytes) (sym first) ∙ joined d.marks bytes up;
       each = pieces_are walk.sizes d.marks bytes sound.has up small have two.1;
       counted = λ wide. told walk.start (count_structures d.marks) walk.count bytes sound.count inside one.0 wide ∙ counted d.marks bytes;
-      started = told walk.start walk.start walk.told_start bytes sound.told inside two.0;
+      started = told walk.start walk.start walk.first bytes sound.told inside two.0;
     }

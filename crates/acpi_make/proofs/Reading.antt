@@ -5,7 +5,8 @@ use Rattle.std.proofs.lemmas.List.{map-append, length-drop, take-append-drop}
 use Rattle.acpi_base.proofs.Bytes.{bytes_take, bytes_drop}
 use Rattle.acpi_base.specs.Bytes.{AreBytes}
 use Rattle.acpi_text.proofs.Numbers.{one_fits}
-use Rattle.acpi_text.specs.Hex.{hex_digit, hex_byte, number_text, numbers_text}
+use Rattle.acpi_base.specs.Digit.{hex_digit, hex_byte}
+use Rattle.acpi_text.specs.Hex.{number_text, numbers_text}
 use Rattle.acpi_make.proofs.Outcomes.{front_none, front_both}
 use Rattle.acpi_make.proofs.Digits.{IsDigit, digit_is}
 use Rattle.acpi_make.specs.Gives.{with_front}

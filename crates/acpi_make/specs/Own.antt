@@ -70,7 +70,7 @@ abbrev pub walk_own : Option Walk → List Mark → ℕ → List Own
 walk_own None marks total = []
 walk_own (Some walk) marks total =
     own_at 0 (next_start marks total) walk.count (count_structures marks)
-    ++ (own_at 0 (next_start marks total) walk.told_start (next_start marks total) ++ sizes_own walk.sizes marks total)
+    ++ (own_at 0 (next_start marks total) walk.first (next_start marks total) ++ sizes_own walk.sizes marks total)
 
 -- ---- what a structure contains
 

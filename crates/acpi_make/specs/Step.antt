@@ -1,5 +1,6 @@
 -- What each character of a text does.
 use Rattle.std.specs.Prelude.{ℕ, ◌+◌, ◌-◌, ◌*◌, ◌<◌, ◌==◌, nat_lt, nat_le, ◌&&◌, ◌||◌, Bool, if◌then◌else◌, Option, Some, None}
+use Rattle.acpi_base.specs.Digit.{digit_value}
 use Rattle.acpi_make.specs.declared.fault.Wanted.{Wanted}
 use Rattle.acpi_make.specs.declared.fault.Wanted.TheVariants.{LineFeed, Printing, Space, Digit, SecondDigit, QuotationMark, QuestionMark, Slash, Brace}
 use Rattle.acpi_make.specs.declared.fault.Wanted.TheVariants as wants
@@ -12,14 +13,6 @@ use Rattle.acpi_make.specs.declared.state.Step.{Step}
 use Rattle.acpi_make.specs.declared.state.Step.TheVariants.{Goes, Adds, Ends, Has, Wants}
 
 -- ---- characters
-
--- the number of a digit, of either case
-abbrev pub digit_of : ℕ → Option ℕ
-digit_of c =
-    if nat_le 48 c && nat_le c 57 then Some (c - 48)
-    else (if nat_le 65 c && nat_le c 70 then Some (c - 55)
-    else (if nat_le 97 c && nat_le c 102 then Some (c - 87)
-    else None))
 
 -- whether a character is none that prints
 abbrev pub is_control : ℕ → Bool
@@ -78,7 +71,7 @@ after_space here c =
     else (if c == 63 then Goes HalfMark
     else (if c == 123 then Goes (Braced here)
     else (if c == 35 || c == 64 then Goes (Worded here)
-    else first_digit wants.Value (digit_of c))))))
+    else first_digit wants.Value (digit_value c))))))
 
 -- what a character that prints does
 abbrev pub goes_on : ℕ → ℕ → State → ℕ → Step
@@ -94,8 +87,8 @@ goes_on line here Ended c = if c == 32 then Goes Spaced else (if c == 47 then Go
 goes_on line here Spaced c = after_space here c
 goes_on line here HalfComment c = if c == 47 then Goes Skipped else Wants Slash
 goes_on line here Number c =
-    if c == 32 then Ends Spaced else (if c == 47 then Ends HalfComment else first_digit Digit (digit_of c))
-goes_on line here (Half high) c = second_digit high (digit_of c)
+    if c == 32 then Ends Spaced else (if c == 47 then Ends HalfComment else first_digit Digit (digit_value c))
+goes_on line here (Half high) c = second_digit high (digit_value c)
 goes_on line here Quoted c =
     if c == 34 then Goes Ended else (if nat_le c 126 then Has (Cell (Byte c)) Quoted else Wants QuotationMark)
 goes_on line here HalfMark c = if c == 63 then Has (Cell (Left line)) Marked else Wants QuestionMark

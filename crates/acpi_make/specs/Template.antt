@@ -216,7 +216,7 @@ sums_at shapes.Pointer = 8 ∷ 32 ∷ []
 sums_at shapes.Control = []
 
 abbrev pub walk_at : Option Walk → List ℕ
-walk_at (Some walk) = place_at walk.count ++ place_at walk.told_start
+walk_at (Some walk) = place_at walk.count ++ place_at walk.first
 walk_at None = []
 
 abbrev pub table_own : Shape → Option Walk → List Part → List ℕ

@@ -121,7 +121,7 @@ pub fn push_walk(
     };
     let first = next_start(marks, total);
     push_at(0, first, walk.count, count_structures(marks), owns)?;
-    push_at(0, first, walk.told_start, first, owns)?;
+    push_at(0, first, walk.first, first, owns)?;
     push_sizes(walk.sizes, marks, total, owns)
 }
 

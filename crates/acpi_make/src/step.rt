@@ -1,26 +1,14 @@
 //! What each character of a text does.
 
 ghost use Rattle.std.specs.Prelude.{◌≡◌, ◌<◌, ◌≤◌, IfSome};
-ghost use Rattle.acpi_make.specs.Step.{digit_of, is_control, line_end, first_digit, second_digit};
+ghost use Rattle.acpi_base.specs.Digit.{digit_value};
+ghost use Rattle.acpi_make.specs.Step.{is_control, line_end, first_digit, second_digit};
 ghost use Rattle.acpi_make.specs.Step.{from_start, from_indent, after_space, goes_on, wanted_for, step, IsHalf, GoesToHalf};
 
 use crate::fault::Wanted;
 use crate::item::{Cell, Item};
 use crate::state::{State, Step};
-
-// Returns the number of a digit, of either case.
-#[inline(always)]
-fn digit_of(byte: u8) -> Option<u8>
-    ensures digit { result ≡ digit_of byte }
-    ensures small { IfSome result (λ d. d < 16) }
-{
-    match byte {
-        b'0'..=b'9' => Some(byte - 48),
-        b'A'..=b'F' => Some(byte - 55),
-        b'a'..=b'f' => Some(byte - 87),
-        _ => None,
-    }
-}
+use acpi_base::digit::digit_value;
 
 // Returns whether a character is none that prints.
 #[inline(always)]
@@ -33,10 +21,10 @@ fn is_control(byte: u8) -> bool
 // Returns what the first digit of a byte does.
 #[inline(always)]
 fn first_digit(wanted: Wanted, byte: u8) -> Step
-    ensures does { result ≡ first_digit wanted (digit_of byte) }
+    ensures does { result ≡ first_digit wanted (digit_value byte) }
     ensures half { GoesToHalf result }
 {
-    match digit_of(byte) {
+    match digit_value(byte) {
         Some(digit) => Step::Goes(State::Half(digit)),
         None => Step::Wants(wanted),
     }
@@ -46,10 +34,10 @@ fn first_digit(wanted: Wanted, byte: u8) -> Step
 #[inline(always)]
 fn second_digit(high: u8, byte: u8) -> Step
     requires { high < 16 }
-    ensures does { result ≡ second_digit high (digit_of byte) }
+    ensures does { result ≡ second_digit high (digit_value byte) }
     ensures half { GoesToHalf result }
 {
-    match digit_of(byte) {
+    match digit_value(byte) {
         Some(digit) => Step::Adds(16 * high + digit),
         None => Step::Wants(Wanted::SecondDigit),
     }

@@ -505,7 +505,7 @@ fn push_walk(walk: Option<Walk>, own: &mut Vec<usize>) -> Result<(), AllocError>
     match walk {
         Some(walk) => {
             push_place(walk.count, own)?;
-            push_place(walk.told_start, own)
+            push_place(walk.first, own)
         }
         None => Ok(()),
     }

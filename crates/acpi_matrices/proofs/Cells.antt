@@ -5,8 +5,7 @@ use Rattle.std.proofs.lemmas.Bool.{ltb-true, and_parts, cases_order}
 use Rattle.std.proofs.lemmas.List.{length-replicate}
 use Rattle.std.proofs.lemmas.Nat.{mul-add-lt}
 use Rattle.std.proofs.Math.Nat.{mul_comm}
-use Rattle.acpi_base.specs.Bytes.{le, field_at}
-use Rattle.acpi_base.specs.Layout.{zeros}
+use Rattle.acpi_base.specs.Bytes.{le, field_at, zeros}
 use Rattle.acpi_base.proofs.Bytes.{length_le, carried_le}
 use Rattle.acpi_base.proofs.Puts.{length-put}
 use Rattle.acpi_matrices.specs.Locality.{Locality, IsLocality, Cell, initiator_at, target_at, entry_at, has_cell, place_of, width_of, with_value, lists_size, CellsAreSet, NewCellsAreUnreachable}

@@ -1,7 +1,7 @@
 -- The Heterogeneous Memory Attribute Table (ACPI 6.5, 5.2.28).
 use Rattle.std.specs.Prelude.{ℕ, List, [], ◌∷◌, codes}
 use Rattle.acpi_base.specs.Fields.{NamedField, word, dword, reserved, fields_joined}
-use Rattle.acpi_base.specs.Layout.{zeros}
+use Rattle.acpi_base.specs.Bytes.{zeros}
 use Rattle.acpi_base.specs.declared.oem.Oem.{Oem}
 use Rattle.acpi_core.specs.Listing.{Listing, length_limit}
 use Rattle.acpi_matrices.specs.declared.hmat.MemoryProximityDomain.{MemoryProximityDomain}

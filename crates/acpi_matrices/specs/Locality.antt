@@ -3,9 +3,8 @@ use Rattle.std.specs.Prelude.{◌≡◌, ℕ, ◌+◌, ◌*◌, ◌^◌, ◌<◌
 use Rattle.std.specs.Prelude.{Bool, true, false, List, [], length, replicate, Result, OnOk, OnErr, IfErr}
 use Rattle.acpi_base.specs.declared.error.Error.{Error}
 use Rattle.acpi_base.specs.declared.error.Error.TheVariants.{Index}
-use Rattle.acpi_base.specs.Bytes.{le, put, field_at}
+use Rattle.acpi_base.specs.Bytes.{le, put, field_at, zeros}
 use Rattle.acpi_base.specs.Fields.{NamedField, byte, word, dword, qword, reserved, fields_joined}
-use Rattle.acpi_base.specs.Layout.{zeros}
 use Rattle.acpi_matrices.specs.declared.hmat.locality.DataType.{DataType}
 use Rattle.acpi_matrices.specs.declared.hmat.locality.DataType.TheVariants as types
 use Rattle.acpi_matrices.specs.declared.hmat.locality.MinTransferSize.{MinTransferSize}

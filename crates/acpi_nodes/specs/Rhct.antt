@@ -1,9 +1,8 @@
 -- The RISC-V Hart Capabilities Table (this project's profile).
 use Rattle.std.specs.Prelude.{◌≡◌, ◌≢◌, ℕ, ◌+◌, ◌%◌, ◌^◌, ◌<◌, nat_lt, Bool, List, [], ◌∷◌, ◌++◌, length, codes, Some}
 use Rattle.acpi_base.specs.declared.error.Error.TheVariants.{Memory, FieldWidth}
-use Rattle.acpi_base.specs.Bytes.{le, field_at}
+use Rattle.acpi_base.specs.Bytes.{le, field_at, zeros}
 use Rattle.acpi_base.specs.Fields.{NamedField, byte, word, dword, qword, reserved, fields_joined}
-use Rattle.acpi_base.specs.Layout.{zeros}
 use Rattle.acpi_base.specs.Object.{Object, whole, provided, provided_ends_well}
 use Rattle.acpi_base.specs.declared.oem.Oem.{Oem}
 use Rattle.acpi_core.specs.Calls.{NodeStands}

@@ -2,9 +2,8 @@
 use Rattle.std.specs.Prelude.{◌≡◌, ℕ, ◌+◌, ◌*◌, ◌^◌, ◌<◌, Bool, if◌then◌else◌, List, [], ◌∷◌, ◌++◌, length, codes}
 use Rattle.std.specs.Prelude.{String, string_bytes, Vec, unwrap_or, is_some, Option, Some, None}
 use Rattle.std.specs.declared.alloc.Global.{Global}
-use Rattle.acpi_base.specs.Bytes.{le, field_at}
+use Rattle.acpi_base.specs.Bytes.{le, field_at, zeros}
 use Rattle.acpi_base.specs.Fields.{NamedField, byte, word, dword, qword, reserved, fields_joined}
-use Rattle.acpi_base.specs.Layout.{zeros}
 use Rattle.acpi_base.specs.declared.oem.Oem.{Oem}
 use Rattle.acpi_core.specs.Calls.{NodeStands}
 use Rattle.acpi_core.specs.Listing.{Listing, length_limit}

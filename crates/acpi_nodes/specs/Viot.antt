@@ -1,8 +1,7 @@
 -- The Virtual I/O Translation Table (ACPI 6.5, 5.2.32).
 use Rattle.std.specs.Prelude.{◌≡◌, ℕ, ◌^◌, ◌<◌, List, [], ◌∷◌, ◌++◌, codes}
-use Rattle.acpi_base.specs.Bytes.{le, field_at}
+use Rattle.acpi_base.specs.Bytes.{le, field_at, zeros}
 use Rattle.acpi_base.specs.Fields.{NamedField, byte, word, dword, qword, reserved, fields_joined}
-use Rattle.acpi_base.specs.Layout.{zeros}
 use Rattle.acpi_base.specs.declared.oem.Oem.{Oem}
 use Rattle.acpi_base.specs.Object.{whole}
 use Rattle.acpi_core.specs.Calls.{NodeStands}

@@ -1,11 +1,11 @@
 //! Structures that end in a list of entries.
 
-ghost use Rattle.std.specs.Prelude.{◌≡◌, ◌<◌, ◌^◌, ◌≤◌, ◌++◌, OnOk, IfOk, IfErr};
+ghost use Rattle.std.specs.Prelude.{◌≡◌, ◌<◌, ◌^◌, ◌++◌, OnOk, IfErr};
 ghost use Rattle.std.specs.List.{flat_map};
 ghost use Rattle.acpi_base.specs.Sink.{Took, Refused};
 ghost use Rattle.acpi_nodes.specs.Entries.{entries_of, records_joined};
 
-use acpi_base::error::{Error, R};
+use acpi_base::error::R;
 use acpi_base::parts::write_parts;
 use acpi_base::row::Record;
 use acpi_base::sink::AmlSink;
@@ -18,17 +18,6 @@ pub(crate) fn entries_of<T>(given: &Option<Vec<T>>) -> &[T]
         Some(entries) => entries.as_slice(),
         None => &[],
     }
-}
-
-/// The length of a structure, as its field of two bytes. The error is `FieldWidth` if the length doesn't fit.
-pub(crate) fn told_size(size: usize) -> R<u16>
-    ensures ok { IfOk result (λ told. told ≡ size) }
-    ensures err { IfErr result (λ e. (e ≡ Error.FieldWidth) × (2 ^ 16 ≤ size)) }
-{
-    if size > 0xffff {
-        return Err(Error::FieldWidth);
-    }
-    Ok(size as u16)
 }
 
 /// Writes the bytes before a structure's entries to a sink, and then the entries in order.

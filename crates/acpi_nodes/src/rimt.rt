@@ -21,7 +21,7 @@ ghost use Rattle.acpi_nodes.specs.declared.rimt.PcieRootComplex.{PcieRootComplex
 ghost use Rattle.acpi_nodes.specs.declared.rimt.Platform.{Platform};
 ghost use Rattle.acpi_nodes.specs.Rimt.{wire_fields, mapping_fields};
 
-use crate::entries::{entries_of, told_size, write_with_entries};
+use crate::entries::{entries_of, write_with_entries};
 use crate::handle::Handle;
 pub use crate::pci::PciDevice;
 use acpi_base::error::R;
@@ -32,6 +32,7 @@ use acpi_base::sink::AmlSink;
 use acpi_core::form::Form;
 use acpi_core::kind::Kind;
 use acpi_core::table::Table;
+use acpi_core::told::told_size;
 use acpi_core::walked::{Walked, is_walked};
 use std::alloc::Global;
 

@@ -4,11 +4,10 @@ use Rattle.acpi_base.specs.declared.error.Error.TheVariants.{AddressRange}
 use Rattle.acpi_base.specs.Bytes.{AreBytes, le}
 use Rattle.acpi_base.specs.Fields.{NamedField, fields_joined}
 use Rattle.acpi_base.specs.Gas.{space_number, size_number}
-use Rattle.acpi_base.specs.Layout.{byte, word, record_of}
 use Rattle.acpi_base.specs.Object.{whole, provided}
 use Rattle.acpi_base.proofs.Bytes.{bytes_both, bytes_le}
 use Rattle.acpi_ops.specs.declared.address_space.AddressSpace.{AddressSpace}
-use Rattle.acpi_ops.specs.AddressSpace.{or_zero, is_range, space_bytes}
+use Rattle.acpi_ops.specs.AddressSpace.{byte, word, record_of, or_zero, is_range, space_bytes}
 use Rattle.acpi_ops.specs.Descriptor.{bit, fixed_fields, port_fields, interrupt_fields, register_fields}
 use Rattle.acpi_ops.specs.Laws.{DescriptorsAreBytes}
 

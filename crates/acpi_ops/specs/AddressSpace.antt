@@ -1,12 +1,23 @@
 -- Address spaces (ACPI 6.5, 6.4.3.5).
-use Rattle.std.specs.Prelude.{◌≢◌, ℕ, ◌+◌, ◌-◌, ◌*◌, ◌^◌, nat_le, nat_lt, ◌&&◌, Bool, List, [], ◌∷◌, Option, Some, None}
+use Rattle.std.specs.Prelude.{◌≢◌, ℕ, ◌+◌, ◌-◌, ◌*◌, ◌^◌, nat_le, nat_lt, ◌&&◌, Bool, List, [], ◌∷◌, ◌++◌, Option, Some, None}
 use Rattle.acpi_base.specs.declared.error.Error.TheVariants.{Memory, AddressRange}
 use Rattle.acpi_base.specs.Bytes.{le}
-use Rattle.acpi_base.specs.Layout.{byte, word, record_of}
 use Rattle.acpi_base.specs.Object.{Object, whole, provided, provided_ends_well}
 use Rattle.acpi_ops.specs.declared.address_space.AddressSpace.{AddressSpace}
 use Rattle.acpi_ops.specs.declared.address_space.AddressSpaceCacheable.{AddressSpaceCacheable}
 use Rattle.acpi_ops.specs.declared.address_space.AddressSpaceCacheable.TheVariants as cacheable
+
+-- fields of one byte and of two, lowest byte first
+abbrev pub byte : ℕ → List ℕ
+byte value = value ∷ []
+
+abbrev pub word : ℕ → List ℕ
+word value = le 2 value
+
+-- the bytes of fields, in order
+abbrev pub record_of : List (List ℕ) → List ℕ
+record_of [] = []
+record_of (field ∷ fields) = field ++ record_of fields
 
 -- Memory Type, of the type-specific flags for memory
 abbrev pub cacheable_number : AddressSpaceCacheable → ℕ

@@ -1,10 +1,10 @@
 -- Bytes that are cut into pieces.
-use Rattle.std.proofs.Common.{◌≡◌, ℕ, zero, suc, ◌+◌, ◌<◌, ◌≤◌, ◌==◌, List, [], ◌∷◌, ◌++◌, Bool, true, false, if◌then◌else◌, length, take, drop, get_or, map, refl, sym, ap, ◌∙◌, arith, append_assoc, length-append, length-drop}
+use Rattle.std.proofs.Common.{◌≡◌, ℕ, zero, suc, ◌+◌, ◌<◌, ◌≤◌, ◌==◌, List, [], ◌∷◌, ◌++◌, Bool, true, false, if◌then◌else◌, length, take, drop, get_or, map, refl, sym, ap, ◌∙◌, arith, append_assoc, length-append, length-drop, inl, inr}
 use Rattle.std.specs.Prelude.{Option, Some, None}
 use Rattle.std.specs.List.{All, concat}
 use Rattle.std.proofs.lemmas.List.{append-nil, take-append-drop, length-take-le, drop-drop, map_push}
 use Rattle.acpi_base.specs.Bytes.{field_at}
-use Rattle.acpi_base.specs.Walk.{place_offset, place_width, end_of, number_in, source_size, least, IsPiece, ArePieces, HasSizes, IsSound, offsets_from, Walks, WalksBy, Tells}
+use Rattle.acpi_base.specs.Walk.{place_offset, place_width, end_of, number_in, source_size, least, IsPiece, ArePieces, HasSizes, IsShort, IsSound, offsets_from, Walks, WalksBy, Tells}
 use Rattle.acpi_base.specs.declared.walk.Place.{Place}
 use Rattle.acpi_base.specs.declared.walk.Sizes.{Sizes}
 use Rattle.acpi_base.specs.declared.walk.Sizes.TheVariants.{EachOf, ToldAt, BySource}
@@ -171,7 +171,16 @@ each_reaches s n low (p ∷ ps) all zero d h = omega (arith, low, least_reached 
 each_reaches s n low (p ∷ ps) all (suc k) d h = each_reaches s n low ps all.1 k d (omega arith)
 
 pub reached_by : (o : Option Walk) (w : Walk) (bytes : List ℕ) → o ≡ Some w → IsSound w → (pieces : List (List ℕ)) → WalksBy o bytes pieces → All (λ piece. end_of w.kind ≤ length piece) pieces
-reached_by o w bytes is sound pieces walks = let by : Walks w bytes pieces = rw is at walks in each_reaches w.sizes (end_of w.kind) sound.kind pieces by.each
+reached_by o w bytes is sound pieces walks = reached w bytes sound pieces (rw is at walks)
+  where
+    reached : (w : Walk) (bytes : List ℕ) → IsSound w → (pieces : List (List ℕ)) → WalksBy (Some w) bytes pieces → All (λ piece. end_of w.kind ≤ length piece) pieces
+    reached w bytes sound pieces (inl by) = each_reaches w.sizes (end_of w.kind) sound.kind pieces by.each
+    reached w bytes sound pieces (inr none) = rw none.1 (λ k d h. absurd (omega arith))
+
+-- bytes that aren't those of a short table have no pieces where the walk finds none
+pub no_pieces : (w : Walk) (bytes : List ℕ) → (IsShort w bytes → ⊥) → ((pieces : List (List ℕ)) → Walks w bytes pieces → ⊥) → (pieces : List (List ℕ)) → WalksBy (Some w) bytes pieces → ⊥
+no_pieces w bytes long none pieces (inl walks) = none pieces walks
+no_pieces w bytes long none pieces (inr short) = long short.0
 
 pub all_mapped : {P : Type 0} (f : P → List ℕ) (n : ℕ) (xs : List P) (i : ℕ) (d : P) → All (λ p. n ≤ length p) (map f xs) → i < length xs → n ≤ length (f (get_or xs i d))
 all_mapped f n [] i d all h = absurd (omega arith)

@@ -3,7 +3,7 @@
 ghost use Rattle.std.specs.Prelude.{◌≡◌, ℕ, ◌+◌, ◌≤◌, List, length, take, drop, map, Some, IfOk, IfErr};
 ghost use Rattle.std.specs.List.{All};
 ghost use Rattle.acpi_base.specs.Bytes.{field_at};
-ghost use Rattle.acpi_base.specs.Walk.{end_of, HasSizes, IsSound, Walks, ArePiecesOf};
+ghost use Rattle.acpi_base.specs.Walk.{end_of, HasSizes, IsSound, WalksBy, ArePiecesOf};
 ghost use Rattle.acpi_read.specs.Pieces.{kind_in, refusal_of, IsFront, IsFrontFault, AreCut, IsCutFault};
 ghost use Rattle.acpi_read.specs.Pieces.{offsets_by, offsets_of, IsFaultBy, IsPieceFault};
 ghost use Rattle.acpi_read.specs.Report.{kind_of};
@@ -98,16 +98,19 @@ fn cut(alloc: Global, bytes: &[u8], start: usize, sizes: Sizes) -> Result<Vec<Pi
 // The pieces of a table, found by its walk.
 fn walked(alloc: Global, bytes: &[u8], walk: Walk) -> Result<Vec<Piece<'_>>, ReadError>
     requires sound { IsSound walk }
-    ensures walk { IfOk result (λ v. Walks walk bytes.now (map (λ p. p.bytes.now) v.items)) }
+    ensures walk { IfOk result (λ v. WalksBy (Some walk) bytes.now (map (λ p. p.bytes.now) v.items)) }
     ensures offsets { IfOk result (λ v. map (λ p. p.offset) v.items ≡ offsets_by (Some walk) (map (λ p. p.bytes.now) v.items)) }
     ensures err { IfErr result (λ e. IsFaultBy (refusal_of e) (Some walk) bytes.now) }
 {
+    if walk.is_short(bytes) {
+        return Ok(Vec::new(alloc));
+    }
     let start = usize::from(walk.start);
     if bytes.len() < start {
         return Err(ReadError::Structure(bytes.len()));
     }
-    if !walk.told_start.tells(bytes, start) {
-        return Err(ReadError::Structure(walk.told_start.offset()));
+    if !walk.first.tells(bytes, start) {
+        return Err(ReadError::Structure(walk.first.offset()));
     }
     let pieces = cut(alloc, bytes, start, walk.sizes)?;
     if !walk.count.tells(bytes, pieces.len()) {
@@ -118,13 +121,14 @@ fn walked(alloc: Global, bytes: &[u8], walk: Walk) -> Result<Vec<Piece<'_>>, Rea
 
 impl<'a> Table<'a> {
     /// The table's structures, in order, each with its offset. The list is empty if the tables of this signature have no
-    /// structures. The errors, with their offsets:
+    /// structures, and for a GTDT of 96 or 104 bytes that contains 0 as the number of its platform timers and as the offset of the
+    /// first. The errors, with their offsets:
     ///
     /// - UnknownSource: an error source has a type other than 6 to 10. The offset is that of the source.
     /// - Structure: a structure is shorter than its type and length, or passes the end of the table. The offset is that of the
     ///   structure.
-    /// - Structure: the field with the offset of the first structure isn't 56 (RHCT) or 48 (VIOT, RIMT). The offset is that of
-    ///   this field.
+    /// - Structure: the field with the offset of the first structure doesn't contain 56 (RHCT), 48 (VIOT, RIMT, IORT), 104 (GTDT)
+    ///   or 44 (DBG2). The offset is that of this field.
     /// - Structure: the table ends before its structures begin. The offset is the table's length.
     /// - Count: the table's number of structures is wrong. The offset is that of this field.
     pub fn pieces(&self, alloc: Global) -> Result<Vec<Piece<'a>>, ReadError>

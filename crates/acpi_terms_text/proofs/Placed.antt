@@ -14,7 +14,8 @@ use Rattle.acpi_term.specs.Operator.{word}
 use Rattle.acpi_term.specs.Row.{entry_width}
 use Rattle.acpi_term.specs.Spelling.{IsStandard, AreLegal, inner, next, spelling}
 use Rattle.acpi_term.specs.Tree.{Entry, named, reserved, Head, number, ones, string, local, arg, call, def_scope, def_device, def_method, def_power_res, def_field, def_op_region, def_name, def_mutex, def_acquire, def_release, def_buffer, def_package, def_var_package, def_if, def_while, def_else, op, Terms, end, term, count}
-use Rattle.acpi_read.specs.Lines.{hex_byte, quoted_byte, quoted_bytes, dotted_segments, tail, segments_of, name_text, width_suffix, is_chosen, is_entry_chosen, data_text, head_text, indent, line, entry_text, entry_line, entry_lines, own_lines, term_suffix, lines}
+use Rattle.acpi_base.specs.Digit.{hex_byte}
+use Rattle.acpi_read.specs.Lines.{quoted_byte, quoted_bytes, dotted_segments, tail, segments_of, name_text, width_suffix, is_chosen, is_entry_chosen, data_text, head_text, indent, line, entry_text, entry_line, entry_lines, own_lines, term_suffix, lines}
 use Rattle.acpi_read.specs.Report.{printable}
 use Rattle.acpi_terms_text.specs.Comment.{has_ids, note, comment, noted_lines, annotated, IsAnnotated}
 use Rattle.acpi_terms_text.specs.Woven.{entry_notes, notes, woven}

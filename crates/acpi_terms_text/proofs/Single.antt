@@ -4,7 +4,8 @@ use Rattle.std.specs.Prelude.{if◌then◌else◌}
 use Rattle.std.specs.Fmt.{digit_glyph, digits_onto, digits, decimal}
 use Rattle.std.proofs.lemmas.Bool.{and_parts}
 use Rattle.std.proofs.lemmas.Bool.Decides.{nat_tests}
-use Rattle.acpi_read.specs.Lines.{hex_digit, hex_bytes}
+use Rattle.acpi_base.specs.Digit.{hex_digit}
+use Rattle.acpi_read.specs.Lines.{hex_bytes}
 use Rattle.acpi_terms_text.specs.Laws.{IsOneLine}
 
 -- ---- lists of one line

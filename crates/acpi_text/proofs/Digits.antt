@@ -7,7 +7,8 @@ use Rattle.acpi_base.specs.Bytes.{AreBytes}
 use Rattle.std.proofs.lemmas.Str.Ascii.{IsAscii-nil, IsAscii-cons}
 use Rattle.std.proofs.lemmas.Bool.{and_parts, eqb-true, cases_lt}
 use Rattle.std.proofs.lemmas.Bool.Decides.{nat_tests}
-use Rattle.acpi_text.specs.Hex.{hex_digit, hex_byte, number_text}
+use Rattle.acpi_base.specs.Digit.{hex_digit, hex_byte}
+use Rattle.acpi_text.specs.Hex.{number_text}
 use Rattle.acpi_text.specs.declared.hex.TheConstants.{DIGITS}
 
 -- the digits of the bytes below n stand in the table

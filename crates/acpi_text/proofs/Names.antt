@@ -21,7 +21,8 @@ use Rattle.acpi_base.specs.declared.row.Row.TheVariants as rows
 use Rattle.acpi_text.specs.declared.form.Choice.{Choice}
 use Rattle.acpi_text.specs.declared.form.Part.TheVariants as parts
 use Rattle.acpi_text.specs.Form.{number_at, count_of, repeated, group_slots, find_choice, choice_slots, part_slots, parts_slots}
-use Rattle.acpi_text.specs.Hex.{hex_byte, number_text, numbers_text}
+use Rattle.acpi_base.specs.Digit.{hex_byte}
+use Rattle.acpi_text.specs.Hex.{number_text, numbers_text}
 use Rattle.acpi_text.specs.Label.{label, all_print}
 use Rattle.acpi_text.specs.Line.{spaces, margin, padded, line, title}
 use Rattle.acpi_text.specs.Names.{OneLine, WholeLines, Named, Names, Wanted, sized, until, unnamed, row_fields, rows_fields, times, choice_fields, part_fields}

@@ -5,7 +5,8 @@ use Rattle.std.proofs.lemmas.List.{take_more, append-nil, length-drop}
 use Rattle.std.proofs.Math.Nat.{pow-le-pow_right}
 use Rattle.acpi_base.specs.Bytes.{AreBytes, carried}
 use Rattle.acpi_base.proofs.Bytes.{carried_below, bytes_drop}
-use Rattle.acpi_text.specs.Hex.{hex_byte, number_text, numbers_text}
+use Rattle.acpi_base.specs.Digit.{hex_byte}
+use Rattle.acpi_text.specs.Hex.{number_text, numbers_text}
 
 pub number_text-append : (a b : List ℕ) → number_text (a ++ b) ≡ number_text b ++ number_text a
 number_text-append [] b = sym (append-nil (number_text b))

@@ -6,9 +6,10 @@ use Rattle.std.proofs.lemmas.List.{append-nil, length-drop, take-append-drop}
 use Rattle.acpi_base.proofs.Bytes.{bytes_take, bytes_drop}
 use Rattle.acpi_text.proofs.Numbers.{one_fits}
 use Rattle.acpi_base.specs.Bytes.{AreBytes}
-use Rattle.acpi_text.specs.Hex.{hex_digit, hex_byte, number_text, numbers_text}
+use Rattle.acpi_base.specs.Digit.{hex_digit, hex_byte}
+use Rattle.acpi_text.specs.Hex.{number_text, numbers_text}
 use Rattle.acpi_text.specs.Names.{OneLine}
-use Rattle.acpi_text.specs.Reading.{in_name, in_comment, in_number, digit_value, read}
+use Rattle.acpi_text.specs.Reading.{in_name, in_comment, in_number, lower_digit, read}
 
 -- ---- digits
 
@@ -16,7 +17,7 @@ pub record IsDigit (c n : ℕ) : Type 0 where
   pub space : (c == 32) ≡ false
   pub end : (c == 10) ≡ false
   pub slash : (c == 47) ≡ false
-  pub value : digit_value c ≡ n
+  pub value : lower_digit c ≡ n
 
 pub digit_read : (n : ℕ) → n < 16 → IsDigit (hex_digit n) n
 digit_read n small = record {
@@ -31,7 +32,7 @@ byte_read : (b : ℕ) (number text : List ℕ) → b < 256
 byte_read b number text small =
     let high = digit_read (b / 16) (omega arith) in
     let low = digit_read (b % 16) (omega arith) in
-    let whole : 16 * digit_value (hex_digit (b / 16)) + digit_value (hex_digit (b % 16)) ≡ b = ap (λ n. 16 * n + digit_value (hex_digit (b % 16))) high.value ∙ ap (λ n. 16 * (b / 16) + n) low.value ∙ omega arith in
+    let whole : 16 * lower_digit (hex_digit (b / 16)) + lower_digit (hex_digit (b % 16)) ≡ b = ap (λ n. 16 * n + lower_digit (hex_digit (b % 16))) high.value ∙ ap (λ n. 16 * (b / 16) + n) low.value ∙ omega arith in
     rw (high.space, high.end, high.slash) (ap (λ n. read (in_number (n ∷ number)) text) whole)
 
 -- ---- numbers

@@ -1,9 +1,9 @@
 -- The bytes that a text has.
 use Rattle.std.specs.Prelude.{◌≡◌, ℕ, ◌+◌, ◌-◌, ◌*◌, ◌==◌, nat_lt, if◌then◌else◌, List, [], ◌∷◌, ◌++◌}
 
--- the number of a digit
-abbrev pub digit_value : ℕ → ℕ
-digit_value c = if nat_lt c 58 then c - 48 else c - 87
+-- the value of a digit in lower case
+abbrev pub lower_digit : ℕ → ℕ
+lower_digit c = if nat_lt c 58 then c - 48 else c - 87
 
 -- Where a reader of a text is: where a line begins, in the name of a field, in what has no bytes, between two digits of a field's
 -- bytes, or between two bytes. It has the bytes of the number that it is in, lowest first.
@@ -29,9 +29,9 @@ read (in_number bytes) (c ∷ text) =
     if c == 32 then bytes ++ read (in_number []) text
     else (if c == 10 then bytes ++ read at_start text
     else (if c == 47 then bytes ++ read in_comment text
-    else read (in_byte (digit_value c) bytes) text))
+    else read (in_byte (lower_digit c) bytes) text))
 read (in_byte high bytes) [] = bytes
-read (in_byte high bytes) (c ∷ text) = read (in_number ((16 * high + digit_value c) ∷ bytes)) text
+read (in_byte high bytes) (c ∷ text) = read (in_number ((16 * high + lower_digit c) ∷ bytes)) text
 
 -- the bytes of a text
 abbrev pub bytes_of : List ℕ → List ℕ

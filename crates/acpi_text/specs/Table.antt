@@ -11,7 +11,7 @@ use Rattle.acpi_text.specs.declared.form.TableForm.{TableForm}
 -- where the structures begin: at the offset that the table itself has, if it isn't below the one that its walk has
 abbrev pub start_of : Walk → List ℕ → ℕ
 start_of walk bytes =
-    if nat_lt (number_at walk.told_start bytes) walk.start then walk.start else number_at walk.told_start bytes
+    if nat_lt (number_at walk.first bytes) walk.start then walk.start else number_at walk.first bytes
 
 -- the fields before structures, and these
 abbrev pub body_text : TableForm → Option Walk → List ℕ → List ℕ

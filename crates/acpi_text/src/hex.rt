@@ -1,7 +1,8 @@
 //! Hexadecimal digits, in lower case. A function whose name begins with `push` adds to a text.
 
 ghost use Rattle.std.specs.Prelude.{◌≡◌, ◌*◌, ◌/◌, ◌%◌, ◌∷◌, ◌++◌, length, OnOk, string_bytes};
-ghost use Rattle.acpi_text.specs.Hex.{hex_digit, hex_byte, number_text, numbers_text};
+ghost use Rattle.acpi_base.specs.Digit.{hex_digit, hex_byte};
+ghost use Rattle.acpi_text.specs.Hex.{number_text, numbers_text};
 
 use std::alloc::AllocError;
 use std::str;

@@ -16,7 +16,7 @@ fn start_of(walk: &Walk, bytes: &[u8]) -> usize
     ensures { result ≡ start_of walk.now bytes.now }
 {
     let least = usize::from(walk.start);
-    let start = number_at(walk.told_start, bytes);
+    let start = number_at(walk.first, bytes);
     if start < least { least } else { start }
 }
 

@@ -8,15 +8,15 @@ use Rattle.acpiread_run.specs.declared.command.Command.{Command}
 use Rattle.acpiread_run.specs.declared.command.Command.TheVariants.{Table, Aml, Dsdt}
 
 -- a number of arguments: one digit from `0` to `7`
-abbrev pub digit_value : List ℕ → Option ℕ
-digit_value (b ∷ []) = if nat_le 48 b && nat_le b 55 then Some (b - 48) else None
-digit_value _ = None
+abbrev pub argument_count : List ℕ → Option ℕ
+argument_count (b ∷ []) = if nat_le 48 b && nat_le b 55 then Some (b - 48) else None
+argument_count _ = None
 
 -- the name and the number of a word `NAME=N`, cut at its first `=`: the bytes that spell the name, and the number
 abbrev pub stated_by : List ℕ → Option (List ℕ × ℕ)
 stated_by word =
     if is_name_text (before_first (λ b. b == 61) word)
-    then option_map (λ n. (path_spelling (before_first (λ b. b == 61) word), n)) (digit_value (after_first (λ b. b == 61) word))
+    then option_map (λ n. (path_spelling (before_first (λ b. b == 61) word), n)) (argument_count (after_first (λ b. b == 61) word))
     else None
 
 abbrev pub joined : Option (List ℕ × ℕ) → Option (List (List ℕ × ℕ)) → Option (List (List ℕ × ℕ))

@@ -13,13 +13,14 @@ ghost use Rattle.acpi_arm.specs.declared.iort.components.NamedComponent.{NamedCo
 ghost use Rattle.acpi_arm.specs.declared.iort.components.RootComplex.{RootComplex};
 
 use crate::iort::mapping::{ACCESS_FLAGS, HINTS, IdMapping, MemoryAccess};
-use crate::told::{offset_if, told_size};
+use crate::offsets::offset_if;
 use acpi_base::error::R;
 use acpi_base::object::Aml;
 use acpi_base::parts::write_parts;
 use acpi_base::row::{Record, Row, Word, record_of_numbers};
 use acpi_base::sink::AmlSink;
 use acpi_core::entries::Entries;
+use acpi_core::told::told_size;
 use std::alloc::Global;
 
 // A flag of a named component.

@@ -10,7 +10,7 @@ ghost use Rattle.acpi_arm.specs.declared.iort.monitor.Pmcg.{Pmcg};
 
 use crate::iort::mapping::IdMapping;
 use crate::iort::{NamedComponentHandle, RootComplexHandle, SmmuHandle, SmmuV3Handle};
-use crate::told::offset_if;
+use crate::offsets::offset_if;
 use acpi_base::error::R;
 use acpi_base::object::Aml;
 use acpi_base::parts::write_parts;

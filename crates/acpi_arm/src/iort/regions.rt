@@ -12,13 +12,14 @@ ghost use Rattle.acpi_arm.specs.IortNodes.{reserved_memory_bytes};
 ghost use Rattle.acpi_arm.specs.declared.iort.regions.ReservedMemory.{ReservedMemory};
 
 use crate::iort::mapping::IdMapping;
-use crate::told::{offset_if, told_size};
+use crate::offsets::offset_if;
 use acpi_base::error::R;
 use acpi_base::object::Aml;
 use acpi_base::parts::write_parts;
 use acpi_base::row::{Record, Row, Word, record_of_numbers, write_record};
 use acpi_base::sink::AmlSink;
 use acpi_core::entries::Entries;
+use acpi_core::told::told_size;
 use std::alloc::Global;
 
 /// The attributes with which reserved memory is mapped (bits 2 to 9 at offset 16).

@@ -13,13 +13,14 @@ ghost use Rattle.acpi_arm.specs.declared.iort.smmus.Smmu.{Smmu};
 ghost use Rattle.acpi_arm.specs.declared.iort.smmus.SmmuV3.{SmmuV3};
 
 use crate::iort::mapping::IdMapping;
-use crate::told::{offset_if, told_size};
+use crate::offsets::offset_if;
 use acpi_base::error::R;
 use acpi_base::object::Aml;
 use acpi_base::parts::write_parts;
 use acpi_base::row::{Record, Row, Word, record_of_numbers, write_record};
 use acpi_base::sink::AmlSink;
 use acpi_core::entries::Entries;
+use acpi_core::told::told_size;
 use std::alloc::Global;
 
 /// The model of an SMMUv1 or SMMUv2 (offset 32).

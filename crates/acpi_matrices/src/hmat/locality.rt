@@ -3,7 +3,7 @@
 ghost use Rattle.std.specs.Prelude.{◌≡◌, ◌≢◌, ◌-◌, ◌^◌, ◌<◌, ◌≤◌, ◌++◌, bit_or, length, replicate, IfOk, OnOk, IfErr};
 ghost use Rattle.acpi_base.specs.Fields.{AreRowsOf};
 ghost use Rattle.acpi_base.specs.Object.{whole, whole_ends_well};
-ghost use Rattle.acpi_base.specs.Layout.{zeros};
+ghost use Rattle.acpi_base.specs.Bytes.{zeros};
 ghost use Rattle.acpi_matrices.specs.Locality.{Locality, lists_size, locality_size, locality};
 ghost use Rattle.acpi_matrices.specs.Locality.{locality_head_fields, locality_head, locality_bytes};
 ghost use Rattle.acpi_matrices.specs.Locality.{CellsStand, IsLocality, Sets, initiator_at, target_at, entry_at};

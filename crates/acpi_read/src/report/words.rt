@@ -3,7 +3,8 @@
 ghost use Rattle.std.specs.Prelude.{◌≡◌, ◌<◌, ◌++◌, OnOk, string_bytes, codes, if◌then◌else◌};
 ghost use Rattle.std.specs.Fmt.{decimal};
 ghost use Rattle.std.specs.Str.{IsAscii};
-ghost use Rattle.acpi_read.specs.Lines.{hex_digit, hex_byte, hex_bytes, quoted_byte, quoted_bytes};
+ghost use Rattle.acpi_base.specs.Digit.{hex_digit, hex_byte};
+ghost use Rattle.acpi_read.specs.Lines.{hex_bytes, quoted_byte, quoted_bytes};
 ghost use Rattle.acpi_read.specs.Lines.{dotted_segments, segments_of, name_text, indent};
 
 use acpi_term::name_string::NameString;

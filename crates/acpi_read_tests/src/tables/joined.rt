@@ -40,6 +40,7 @@ fn told(signature: &[u8; 4], structure: &[u8]) -> usize {
         b"HMAT" => word(structure, 6, 7)
             .wrapping_mul(0x1_0000)
             .wrapping_add(word(structure, 4, 5)),
+        b"GTDT" | b"DBG2" | b"IORT" => word(structure, 1, 2),
         _ => word(structure, 2, 3),
     }
 }
@@ -47,7 +48,7 @@ fn told(signature: &[u8; 4], structure: &[u8]) -> usize {
 // The type of a structure, if the structures of such tables have one.
 fn kind(signature: &[u8; 4], structure: &[u8]) -> Option<usize> {
     match signature {
-        b"XSDT" | b"MCFG" => None,
+        b"XSDT" | b"MCFG" | b"DBG2" => None,
         b"HEST" | b"RHCT" | b"HMAT" => Some(word(structure, 0, 1)),
         _ => Some(byte(structure, 0)),
     }

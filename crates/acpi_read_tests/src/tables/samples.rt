@@ -1,4 +1,4 @@
-//! A table of each signature that has structures. `cases/tables.cases` has the same tables and their reports.
+//! A table of each signature that has structures. `cases/tables.cases` has tables with the same structures, and their reports.
 
 use acpi_base::error::R;
 use acpi_vectors::table::table;
@@ -23,7 +23,7 @@ impl Sample {
 }
 
 /// The number of signatures.
-pub const COUNT: usize = 12;
+pub const COUNT: usize = 15;
 
 /// A table of each of these signatures.
 pub fn nth(index: usize) -> Sample {
@@ -139,7 +139,7 @@ pub fn nth(index: usize) -> Sample {
             seams: &[36, 40, 68, 116],
         },
         // The memory of a domain, and its memory side cache.
-        _ => Sample {
+        11 => Sample {
             signature: b"HMAT",
             body: b"\0\0\0\0\0\0\0\0\x28\0\0\0\x01\0\0\0\x01\x02\x03\x04\x05\x06\x07\x08\
 \0\0\0\0\0\0\0\0\0\0\0\0\0\0\0\0\0\0\0\0\
@@ -147,6 +147,39 @@ pub fn nth(index: usize) -> Sample {
             count: 0,
             start: 40,
             seams: &[36, 40, 80, 114],
+        },
+        // Timers, a block of one timer, and a watchdog.
+        12 => Sample {
+            signature: b"GTDT",
+            body: b"\xff\xff\xff\xff\xff\xff\xff\xff\0\0\0\0\x1d\0\0\0\0\0\0\0\x1e\0\0\0\0\0\0\0\x1b\0\0\0\0\0\0\0\
+\x1a\0\0\0\0\0\0\0\xff\xff\xff\xff\xff\xff\xff\xff\x02\0\0\0\x68\0\0\0\0\0\0\0\0\0\0\0\
+\0\x3c\0\0\x11\x12\x13\x14\x15\x16\x17\x18\x01\0\0\0\x14\0\0\0\
+\0\0\0\0\0\0\0\0\0\0\0\0\0\0\0\0\0\0\0\0\0\0\0\0\0\0\0\0\0\0\0\0\0\0\0\0\0\0\0\0\
+\x01\x1c\0\0\x21\x22\x23\x24\x25\x26\x27\x28\x31\x32\x33\x34\x35\x36\x37\x38\x05\0\0\0\x01\0\0\0",
+            count: 88,
+            start: 104,
+            seams: &[36, 104, 164, 192],
+        },
+        // A serial port with a register, and one without.
+        13 => Sample {
+            signature: b"DBG2",
+            body: b"\x2c\0\0\0\x02\0\0\0\
+\0\x28\0\x01\x02\0\x26\0\0\0\0\0\0\x80\x03\0\0\0\x16\0\x22\0\0\x20\0\x03\0\0\0\x09\0\0\0\0\0\x10\0\0.\0\
+\0\x18\0\0\x02\0\x16\0\0\0\0\0\0\x80\0\0\0\0\0\0\0\0.\0",
+            count: 40,
+            start: 44,
+            seams: &[36, 44, 84, 108],
+        },
+        // An ITS group, and a counter group of this node.
+        _ => Sample {
+            signature: b"IORT",
+            body: b"\x02\0\0\0\x30\0\0\0\0\0\0\0\
+\0\x18\0\x01\0\0\0\0\0\0\0\0\0\0\0\0\x01\0\0\0\x05\0\0\0\
+\x05\x28\0\x02\x01\0\0\0\0\0\0\0\0\0\0\0\x11\x12\x13\x14\x15\x16\x17\x18\x21\0\0\0\x30\0\0\0\
+\x31\x32\x33\x34\x35\x36\x37\x38",
+            count: 36,
+            start: 48,
+            seams: &[36, 48, 72, 112],
         },
     }
 }

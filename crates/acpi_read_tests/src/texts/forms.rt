@@ -83,7 +83,8 @@ const ENTRIES: Walk = Walk {
     sizes: Sizes::EachOf(20),
     kind: Place::Nowhere,
     count: Place::Nowhere,
-    told_start: Place::Nowhere,
+    first: Place::Nowhere,
+    short: false,
 };
 
 // Parts of inner structures stand a level below their name, and offsets count from the beginning of the inner structure.

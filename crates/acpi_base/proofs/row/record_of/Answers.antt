@@ -1,7 +1,7 @@
-use Rattle.std.proofs.Common.{◌≡◌, ◌≤◌, ◌+◌, ◌∙◌, ℕ, List, ap, sym, arith, length, take, get_or, []}
+use Rattle.std.proofs.Common.{◌≡◌, ◌≤◌, ◌+◌, ◌∙◌, ap, sym, arith, length, take, get_or, []}
 use Rattle.std.proofs.lemmas.List.{length-take-le}
 use Rattle.acpi_base.specs.Bytes.{put}
-use Rattle.acpi_base.specs.Fields.{row_width, value_in, value_bytes, Fits}
+use Rattle.acpi_base.specs.Fields.{row_width, value_in, value_bytes}
 use Rattle.acpi_base.specs.declared.row.Row.{Row}
 use Rattle.acpi_base.specs.declared.row.Row.TheVariants.{Number}
 use Rattle.acpi_base.specs.declared.row.Value.{Value}

@@ -1,4 +1,4 @@
-use Rattle.std.proofs.Common.{◌≡◌, ◌≤◌, ◌+◌, ◌∙◌, ℕ, List, ap, sym, arith, length, take, get_or, []}
+use Rattle.std.proofs.Common.{◌≡◌, ◌≤◌, ◌+◌, ◌∙◌, ap, sym, arith, length, take, get_or, []}
 use Rattle.std.proofs.lemmas.List.{length-take-le}
 use Rattle.acpi_base.specs.Bytes.{le, put}
 use Rattle.acpi_base.specs.Fields.{row_width, number_bytes}

@@ -1,5 +1,5 @@
 use Rattle.std.proofs.Common.{◌≡◌, ◌<◌, ◌^◌, ◌++◌, [], length, take, ap, ◌∙◌, arith}
-use Rattle.acpi_base.specs.Layout.{zeros}
+use Rattle.acpi_base.specs.Bytes.{zeros}
 use Rattle.acpi_arm.specs.IortNodes.{component_bytes, name_end}
 use Rattle.acpi_arm.proofs.Iorts.{component_long, component_joined, four_zeros, zeros_of_four}
 use Rattle.acpi_arm.proofs.Written.{wrote_structure, refused_structure, refused_length}
