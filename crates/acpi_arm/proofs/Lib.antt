@@ -1,4 +1,5 @@
 pub mod Calls
 pub mod Devices
 pub mod Iorts
+pub mod Lists
 pub mod Written

@@ -4,4 +4,5 @@ pub mod Iort
 pub mod IortLaws
 pub mod IortNodes
 pub mod IortSmmus
+pub mod Lists
 pub mod Offsets

@@ -13,6 +13,7 @@ ghost use Rattle.acpi_core.specs.Walk.{IsWalked};
 ghost use Rattle.acpi_fixed.specs.Spcr.{interface_number};
 ghost use Rattle.acpi_arm.specs.Dbg2.{dbg2, KeepsDevices, port_type, port_subtype, Device, debug_device, with_register};
 ghost use Rattle.acpi_arm.specs.Dbg2.{name_at, oem_data_at, device_size, device_head_fields, device_head, device_bytes};
+ghost use Rattle.acpi_arm.specs.Lists.{DevicesAreRead};
 
 use crate::offsets::offset_if;
 use acpi_base::error::{Error, R};
@@ -102,6 +103,12 @@ pub fn dbg2_is_walked(table: &DBG2)
 {
     let _ = &table.table;
 }
+
+/// A law: the bytes of a device contain the lengths and the offsets of its registers, of its name and of its OEM data, and have
+/// them there.
+pub fn dbg2_devices_are_read()
+    ensures { DevicesAreRead }
+{}
 
 /// A port: its type (offset 12 of a device) and subtype (offset 14).
 #[derive(Clone, Copy, Debug)]

@@ -9,6 +9,7 @@ ghost use Rattle.acpi_core.specs.Addition.{Adds};
 ghost use Rattle.acpi_core.specs.Calls.{IsAfterItsCalls};
 ghost use Rattle.acpi_core.specs.Listing.{bytes_of, length_limit};
 ghost use Rattle.acpi_core.specs.Walk.{IsWalked, Keeps};
+ghost use Rattle.acpi_arm.specs.Lists.{TimersAreRead};
 ghost use Rattle.acpi_arm.specs.declared.gtdt.GtBlock.{GtBlock};
 ghost use Rattle.acpi_arm.specs.declared.gtdt.Timers.{Timers};
 ghost use Rattle.acpi_arm.specs.Gtdt.{gtdt, timer, timers, timers_fields, last_fields, interrupt};
@@ -113,6 +114,11 @@ pub fn gtdt_is_walked(table: &GTDT)
 {
     is_walked(&table.table)
 }
+
+/// A law: the bytes of a block of timers contain their number and their offset, and have them there.
+pub fn gtdt_timers_are_read()
+    ensures { TimersAreRead }
+{}
 
 // Flags of a timer and of a watchdog (ACPI 6.5, tables 5.118, 5.122 and 5.125).
 const EDGE_TRIGGERED: u32 = 1;

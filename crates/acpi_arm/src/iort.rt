@@ -14,6 +14,7 @@ ghost use Rattle.acpi_arm.specs.IortLaws.{NodesTellKinds, NodesStand, Identifier
 ghost use Rattle.acpi_arm.specs.IortNodes.{its_group_bytes, component_bytes, root_complex_bytes, pmcg_bytes};
 ghost use Rattle.acpi_arm.specs.IortNodes.{reserved_memory_bytes};
 ghost use Rattle.acpi_arm.specs.IortSmmus.{smmu_bytes, smmu_v3_bytes};
+ghost use Rattle.acpi_arm.specs.Lists.{ListsAreRead};
 
 mod components;
 mod its;
@@ -209,6 +210,11 @@ pub fn iort_nodes_tell_kinds()
 /// A law: the bytes of a node contain its identifier.
 pub fn iort_identifiers_are_read()
     ensures { IdentifiersAreRead }
+{}
+
+/// A law: the bytes of a node contain the number of entries of each of its lists and the list's offset, and have the list there.
+pub fn iort_lists_are_read()
+    ensures { ListsAreRead }
 {}
 
 /// A law: the bytes of a mapping and of a performance monitoring counter group contain the reference to another node.
