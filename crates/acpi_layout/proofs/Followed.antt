@@ -7,7 +7,7 @@ use Rattle.acpi_base.specs.Bytes.{field_at}
 use Rattle.acpi_base.specs.Table.{IsTrueTable}
 use Rattle.acpi_layout.specs.declared.located.Located.{Located}
 use Rattle.acpi_layout.specs.Addresses.{Lies}
-use Rattle.acpi_layout.specs.Found.{contents, IsPointer, IsNamedTableAt, AreEntries, IsOnlyFadt, IsControlOf, if_found, AreApart, IsImage}
+use Rattle.acpi_layout.specs.Found.{contents, IsPointer, IsNamedTableAt, AreEntries, IsOnlyFadt, dsdt_address, IsControlOf, if_found, AreApart, IsImage, ImagesHaveOneList}
 use Rattle.acpi_layout.proofs.Founds.{none_yet}
 
 -- the FADT is in the image, as an entry of the XSDT
@@ -69,11 +69,11 @@ module _ (bytes : List ℕ) (base rsdp : ℕ) (tables : List Located) (im : IsIm
         pub facs_there : IsControlOf base bytes (contents base bytes f) im.facs
         facs_there = subst (λ (t : Located). IsControlOf base bytes (contents base bytes t) im.facs) same_fadt im.facs_is
 
-        pub dsdt_there : IsNamedTableAt base bytes (codes "DSDT") (field_at 140 8 (contents base bytes f)) im.dsdt
-        dsdt_there = subst (λ (t : Located). IsNamedTableAt base bytes (codes "DSDT") (field_at 140 8 (contents base bytes t)) im.dsdt) same_fadt im.dsdt_is
+        pub dsdt_there : IsNamedTableAt base bytes (codes "DSDT") (dsdt_address (contents base bytes f)) im.dsdt
+        dsdt_there = subst (λ (t : Located). IsNamedTableAt base bytes (codes "DSDT") (dsdt_address (contents base bytes t)) im.dsdt) same_fadt im.dsdt_is
 
         module _ (a : Option Located) (d : Located) (a_is : IsControlOf base bytes (contents base bytes f) a)
-            (d_is : IsNamedTableAt base bytes (codes "DSDT") (field_at 140 8 (contents base bytes f)) d) where
+            (d_is : IsNamedTableAt base bytes (codes "DSDT") (dsdt_address (contents base bytes f)) d) where
           same_facs : im.facs ≡ a
           same_facs = same_control base bytes (contents base bytes f) im.facs a facs_there a_is
 
@@ -83,12 +83,18 @@ module _ (bytes : List ℕ) (base rsdp : ℕ) (tables : List Located) (im : IsIm
           pub dsdt_correct : IsTrueTable (contents base bytes d)
           dsdt_correct = subst (λ (t : Located). IsTrueTable (contents base bytes t)) same_dsdt im.dsdt_is_correct
 
-          pub all_apart : (ts found zs : List Located) → zs ≡ es → found ≡ p ∷ x ∷ (zs ++ (if_found a ++ (d ∷ []))) → ts ≡ found → AreApart ts
-          all_apart ts found zs read' listed read'' =
-              let same : tables ≡ ts =
+          same_tables : (ts found zs : List Located) → zs ≡ es → found ≡ p ∷ x ∷ (zs ++ (if_found a ++ (d ∷ []))) → ts ≡ found → tables ≡ ts
+          same_tables ts found zs read' listed read'' =
               im.listed ∙ ap (λ t. t ∷ im.xsdt ∷ (im.entries ++ (if_found im.facs ++ (im.dsdt ∷ [])))) same_pointer
               ∙ ap (λ t. p ∷ t ∷ (im.entries ++ (if_found im.facs ++ (im.dsdt ∷ [])))) same_xsdt
               ∙ ap (λ (l : List Located). p ∷ x ∷ (l ++ (if_found im.facs ++ (im.dsdt ∷ [])))) (same_entries ∙ read ∙ sym read')
               ∙ ap (λ (t : Option Located). p ∷ x ∷ (zs ++ (if_found t ++ (im.dsdt ∷ [])))) same_facs ∙ ap (λ t. p ∷ x ∷ (zs ++ (if_found a ++ (t ∷ [])))) same_dsdt
-              ∙ sym listed ∙ sym read'' in
-              subst AreApart same im.apart
+              ∙ sym listed ∙ sym read''
+
+          pub all_apart : (ts found zs : List Located) → zs ≡ es → found ≡ p ∷ x ∷ (zs ++ (if_found a ++ (d ∷ []))) → ts ≡ found → AreApart ts
+          all_apart ts found zs read' listed read'' = subst AreApart (same_tables ts found zs read' listed read'') im.apart
+
+pub have_one_list : ImagesHaveOneList
+have_one_list bytes base rsdp t u im other =
+    same_tables bytes base rsdp t im other.pointer other.pointer_is other.xsdt other.xsdt_is other.entries other.entries other.entries_are refl
+    other.fadt other.fadt_is other.facs other.dsdt other.facs_is other.dsdt_is u u other.entries refl other.listed refl

@@ -7,7 +7,7 @@ use Rattle.std.proofs.lemmas.Result.{err_from_is_err_and}
 use Rattle.std.proofs.Math.Seq.{drop-cons}
 use Rattle.acpi_base.specs.Bytes.{field_at}
 use Rattle.acpi_layout.specs.declared.located.Located.{Located}
-use Rattle.acpi_layout.specs.Found.{contents, IsTableAt, AreEntries, IsOnlyFadt, IsControlAt, has_no_control, IsControlOf, IsApart, AreApart}
+use Rattle.acpi_layout.specs.Found.{contents, IsTableAt, AreEntries, IsOnlyFadt, facs_address, IsControlAt, has_no_control, IsControlOf, IsApart, AreApart}
 
 -- ---- exits
 
@@ -105,13 +105,13 @@ only_is xs at e inside signature long before after = record {
 -- ---- the FACS
 
 -- a FADT that doesn't say that there is none, and points to none
-pub no_control : (base : ℕ) (bytes whole fadt : List ℕ) (address : ℕ) → whole ≡ fadt → address ≡ field_at 132 8 whole → has_no_control whole ≡ false
+pub no_control : (base : ℕ) (bytes whole fadt : List ℕ) (address : ℕ) → whole ≡ fadt → address ≡ facs_address whole → has_no_control whole ≡ false
     → ((facs : Located) → IsControlAt base bytes address facs → ⊥) → (facs : Option Located) → IsControlOf base bytes fadt facs → ⊥
 no_control base bytes whole fadt address same from says none None is =
     let both : true ≡ false = sym is ∙ sym (ap has_no_control same) ∙ says in
     absurd cc
 no_control base bytes whole fadt address same from says none (Some facs) is =
-    none facs (subst (λ a. IsControlAt base bytes a facs) (sym (from ∙ ap (λ (b : List ℕ). field_at 132 8 b) same)) is.1)
+    none facs (subst (λ a. IsControlAt base bytes a facs) (sym (from ∙ ap facs_address same)) is.1)
 
 -- ---- the elements behind
 
@@ -123,8 +123,3 @@ in_rest xs n k d = ap (λ (l : List Located). get_or l k d) (take_rest xs n) ∙
 
 pub rest_inside : (xs : List Located) (n k : ℕ) → k < length (take (length xs - n) (drop n xs)) → n + k < length xs
 rest_inside xs n k h = omega (arith, h, rest_size xs n)
-
--- ---- addresses in tables
-
-pub pointed : (whole bytes : List ℕ) (offset address : ℕ) → whole ≡ bytes → address ≡ field_at offset 8 whole → address ≡ field_at offset 8 bytes
-pointed whole bytes offset address is from = from ∙ ap (λ (b : List ℕ). field_at offset 8 b) is

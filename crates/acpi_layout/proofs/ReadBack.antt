@@ -4,11 +4,12 @@ use Rattle.std.specs.Prelude.{sum, bit_or, Bool, true, false, ◌==◌, ◌&&◌
 use Rattle.std.specs.List.{All}
 use Rattle.std.proofs.Math.Seq.{drop-append-add}
 use Rattle.std.proofs.lemmas.List.{append-nil, length-replicate, take_at, get_or-map, length-map, drop-take}
+use Rattle.std.proofs.lemmas.Bool.Decides.{nat_tests}
 use Rattle.std.proofs.lemmas.Nat.{or_shr}
 use Rattle.std.specs.Int.Bits.{or_step}
 use Rattle.std.proofs.lemmas.List.Elements.{All-append, All-map}
 use Rattle.acpi_base.specs.declared.oem.Oem.{Oem}
-use Rattle.acpi_base.specs.Bytes.{le, put, carried, complement, field_at}
+use Rattle.acpi_base.specs.Bytes.{le, put, carried, complement, field_at, zeros}
 use Rattle.acpi_base.specs.Fields.{fields_joined}
 use Rattle.acpi_base.specs.Table.{IsTrueTable}
 use Rattle.acpi_core.specs.Listing.{bytes_of, body_of}
@@ -21,7 +22,7 @@ use Rattle.acpi_layout.specs.declared.located.Located.{Located}
 use Rattle.acpi_layout.specs.Addresses.{Lies, bytes_at}
 use Rattle.acpi_layout.specs.Image.{control_bytes, control_address, pointed_fadt, listing, tables_laid, image}
 use Rattle.acpi_layout.specs.Laws.{Standing, Stand, standing_at, standing_control, xsdt_address, Points}
-use Rattle.acpi_layout.specs.Found.{located, contents, IsTableAt, IsControlAt, is_reduced, has_no_control, IsControlOf, if_found, IsApart, AreApart, IsImage}
+use Rattle.acpi_layout.specs.Found.{located, contents, IsTableAt, address_of, facs_address, dsdt_address, IsControlAt, is_reduced, has_no_control, IsControlOf, if_found, IsApart, AreApart, IsImage}
 use Rattle.acpi_layout.specs.ReadBack.{IsControl, AreTables, found_at, found_control, laid_tables, ImagesAreFound, ReducedIsTold}
 use Rattle.acpi_layout.proofs.Images.{size_listing}
 use Rattle.acpi_layout.proofs.Standing.{stand}
@@ -156,6 +157,17 @@ apart_is from few ms x r bytes h =
       ((λ k e inside. inr (all x.address (omega arith) k e inside)), mids),
     )
 
+-- ---- the addresses in a FADT
+
+zero_or : (a : ℕ) → (if a == 0 then 0 else a) ≡ a
+zero_or a = grind (arith, nat_tests)
+
+-- where the field of 32 bits is 0, that of 64 bits is the address
+address_is : (fadt : List ℕ) (low high a : ℕ) → field_at low 4 fadt ≡ 0 → field_at high 8 fadt ≡ a → address_of fadt low high ≡ a
+unfolding address_of
+address_is fadt low high a none is =
+    ap (λ n. if field_at high 8 fadt == 0 then n else field_at high 8 fadt) none ∙ ap (λ n. if n == 0 then 0 else n) is ∙ zero_or a
+
 -- ---- the FACS
 
 -- the FACS, or none, as the test says, and then the DSDT
@@ -171,15 +183,15 @@ control_apart base None fadt d x r ms bytes h = apart_is base (d ∷ []) ms x r 
 control_apart base (Some facs) fadt d x r ms bytes h =
     some_apart base (is_reduced fadt.flags && (base == 0)) (record { address = base; bytes = facs }) d x r ms bytes h
 
-some_found : (base : ℕ) (total fadt : List ℕ) (b : Bool) (f : Located) → has_no_control fadt ≡ b → IsControlAt base total (field_at 132 8 fadt) f
+some_found : (base : ℕ) (total fadt : List ℕ) (b : Bool) (f : Located) → has_no_control fadt ≡ b → IsControlAt base total (facs_address fadt) f
     → IsControlOf base total fadt (if b then None else Some f)
 some_found base total fadt true f says is = says
 some_found base total fadt false f says is = (says, is)
 
 control_found : (base : ℕ) (total whole : List ℕ) (facs : Option (List ℕ)) (fadt : FADTBuilder) → IsControl fadt facs → AreThere base total (standing_control base facs)
-    → field_at 132 8 whole ≡ control_address base facs → is_reduced (field_at 112 4 whole) ≡ is_reduced fadt.flags → IsControlOf base total whole (found_control base facs fadt)
+    → facs_address whole ≡ control_address base facs → is_reduced (field_at 112 4 whole) ≡ is_reduced fadt.flags → IsControlOf base total whole (found_control base facs fadt)
 control_found base total whole None fadt are there at flags =
-    ap (λ b. b && (field_at 132 8 whole == 0)) (flags ∙ are) ∙ ap (λ n. true && (n == 0)) at
+    ap (λ b. b && (facs_address whole == 0)) (flags ∙ are) ∙ ap (λ n. true && (n == 0)) at
 control_found base total whole (Some facs) fadt are there at flags =
     let f : Standing = record { address = base; bytes = facs } in
     let f_there = there.0 in
@@ -191,7 +203,7 @@ control_found base total whole (Some facs) fadt are there at flags =
       tells = ap (λ b. field_at 4 4 b) f_bytes ∙ are.tells;
     } in
     some_found base total whole (is_reduced fadt.flags && (base == 0)) (found_at f)
-    (ap (λ b. b && (field_at 132 8 whole == 0)) flags ∙ ap (λ n. is_reduced fadt.flags && (n == 0)) at)
+    (ap (λ b. b && (facs_address whole == 0)) flags ∙ ap (λ n. is_reduced fadt.flags && (n == 0)) at)
     (subst (λ n. IsControlAt base total n (found_at f)) (sym at) is)
 
 -- ---- HW_REDUCED_ACPI
@@ -329,8 +341,10 @@ module _ (base : ℕ) (oem : Oem) (facs : Option (List ℕ)) (dsdt : List ℕ) (
       let ptr = pointers oem.id (xsdt_address base laid) six in
       let r_bytes : bytes_at base total r.address 36 ≡ r.bytes = ap (λ n. bytes_at base total r.address n) (sym ptr.0) ∙ r_there.is in
       let x_at : field_at 24 8 (contents base total (found_at r)) ≡ x.address = ap (λ b. field_at 24 8 b) r_there.is ∙ pt.xsdt in
-      let f_at : field_at 132 8 (contents base total (found_at first)) ≡ control_address base facs = ap (λ b. field_at 132 8 b) first_contents ∙ pt.x_firmware_ctrl in
-      let d_at : field_at 140 8 (contents base total (found_at first)) ≡ base + length (control_bytes facs) = ap (λ b. field_at 140 8 b) first_contents ∙ pt.x_dsdt in
+      let f_at : facs_address (contents base total (found_at first)) ≡ control_address base facs =
+      ap facs_address first_contents ∙ address_is (fadt_bytes p) 36 132 (control_address base facs) pt.firmware_ctrl pt.x_firmware_ctrl in
+      let d_at : dsdt_address (contents base total (found_at first)) ≡ base + length (control_bytes facs) =
+      ap dsdt_address first_contents ∙ address_is (fadt_bytes p) 40 140 (base + length (control_bytes facs)) pt.dsdt pt.x_dsdt in
       let placed : (i : ℕ) → i < length rows → i < length laid.places = λ i inside. omega (arith, counted, inside) in
       let mapped : (i : ℕ) → i < length (map found_at rows) → i < length rows = λ i inside. omega (arith, length-map rows found_at, inside) in
       let flags_at : is_reduced (field_at 112 4 (contents base total (found_at first))) ≡ is_reduced fadt.flags =

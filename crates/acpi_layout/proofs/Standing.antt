@@ -1,5 +1,5 @@
 -- Where everything stands in an image.
-use Rattle.std.proofs.Common.{◌≡◌, ℕ, ◌+◌, ◌%◌, List, [], ◌∷◌, ◌++◌, length, refl, sym, ap, subst, ◌∙◌, arith, append_assoc, length-append}
+use Rattle.std.proofs.Common.{◌≡◌, ℕ, ◌+◌, ◌%◌, ◌<◌, List, [], ◌∷◌, ◌++◌, length, refl, sym, ap, subst, ◌∙◌, arith, append_assoc, length-append}
 use Rattle.std.specs.Prelude.{Option, Some, None}
 use Rattle.std.proofs.lemmas.List.{append-nil, length-replicate}
 use Rattle.acpi_base.specs.Bytes.{zeros}
@@ -7,7 +7,7 @@ use Rattle.acpi_core.specs.Listing.{bytes_of}
 use Rattle.acpi_fixed.specs.Fadt.{fadt_bytes}
 use Rattle.acpi_fixed.specs.Rsdp.{rsdp_bytes, rsdp_for}
 use Rattle.acpi_layout.specs.Image.{Laid, gap, padded, placed, all_placed, control_bytes, pointed_fadt, listing, tables_laid, with_xsdt, image}
-use Rattle.acpi_layout.specs.Laws.{Standing, Stand, standing_at, standing_control, xsdt_address, ImagesStand, AreAligned, ImagesAreAligned}
+use Rattle.acpi_layout.specs.Laws.{Standing, Stand, standing_at, standing_control, xsdt_address, ImagesStand, AreAligned, ImagesAreAligned, AreClose, end_of, GapsAreLeast}
 use Rattle.acpi_layout.proofs.Answered.{places_counted}
 
 -- one more after zeros
@@ -104,4 +104,54 @@ are_aligned base oem facs dsdt fadt tables aligned =
       listed = all_aligned base (fadt_bytes (pointed_fadt base facs fadt) ∷ tables) (record { bytes = control_bytes facs ++ dsdt; places = [] }) aligned tt;
       xsdt = padded_8 base laid.bytes aligned;
       pointer = padded_16 base (with_xsdt base oem laid) aligned;
+    }
+
+-- ---- gaps
+
+close_push : (unit from : ℕ) (all : List Standing) (s : Standing) → AreClose unit from all → s.address < end_of from all + unit → AreClose unit from (all ++ s ∷ [])
+close_push unit from [] s all near = (near, tt)
+close_push unit from (t ∷ all) s close near = (close.0, close_push unit (t.address + length t.bytes) all s close.1 near)
+
+end_push : (from : ℕ) (all : List Standing) (s : Standing) → end_of from (all ++ s ∷ []) ≡ s.address + length s.bytes
+end_push from [] s = refl
+end_push from (t ∷ all) s = end_push (t.address + length t.bytes) all s
+
+near_8 : (base : ℕ) (bytes : List ℕ) → base + length (padded 8 bytes) < base + length bytes + 8
+near_8 base bytes = omega (arith, length-padded 8 bytes)
+
+near_16 : (base : ℕ) (bytes : List ℕ) → base + length (padded 16 bytes) < base + length bytes + 16
+near_16 base bytes = omega (arith, length-padded 16 bytes)
+
+module _ (base from : ℕ) where
+  all_close : (tables : List (List ℕ)) (laid : Laid) (done : List (List ℕ)) → length laid.places ≡ length done
+      → AreClose 8 from (standing_at base laid.places done) → end_of from (standing_at base laid.places done) ≡ base + length laid.bytes
+      → AreClose 8 from (standing_at base (all_placed tables laid).places (done ++ tables))
+      × (end_of from (standing_at base (all_placed tables laid).places (done ++ tables)) ≡ base + length (all_placed tables laid).bytes)
+  all_close [] laid done same close end = rw (append-nil done) (close, end)
+  all_close (t ∷ tables) laid done same close end =
+      let place = length (padded 8 laid.bytes) in
+      let one : Standing = record { address = base + place; bytes = t } in
+      let rows = standing_at base laid.places done in
+      let list : rows ++ one ∷ [] ≡ standing_at base (laid.places ++ place ∷ []) (done ++ t ∷ []) = sym (standing_push base place laid.places done t same) in
+      let near : base + place < end_of from rows + 8 = omega (arith, end, near_8 base laid.bytes) in
+      let next : AreClose 8 from (rows ++ one ∷ []) = close_push 8 from rows one close near in
+      let next_end : end_of from (rows ++ one ∷ []) ≡ base + length (padded 8 laid.bytes ++ t) = omega (arith, end_push from rows one, length-append (padded 8 laid.bytes) t) in
+      let more =
+      all_close tables (placed t laid) (done ++ t ∷ []) (omega (arith, same, length-append laid.places (place ∷ []), length-append done (t ∷ [])))
+      (subst (λ (l : List Standing). AreClose 8 from l) list next) (ap (λ (l : List Standing). end_of from l) (sym list) ∙ next_end) in
+      rw (append_assoc done (t ∷ []) tables) at more
+
+pub are_least : GapsAreLeast
+are_least base oem facs dsdt fadt tables =
+    let first = fadt_bytes (pointed_fadt base facs fadt) in
+    let start : Laid = record { bytes = control_bytes facs ++ dsdt; places = [] } in
+    let laid = tables_laid base facs dsdt fadt tables in
+    let from = base + length (control_bytes facs) + length dsdt in
+    let rows = standing_at base laid.places (first ∷ tables) in
+    let all : AreClose 8 from rows × (end_of from rows ≡ base + length laid.bytes) =
+    all_close base from (first ∷ tables) start [] refl tt (omega (arith, length-append (control_bytes facs) dsdt)) in
+    record {
+      listed = all.0;
+      xsdt = omega (arith, all.1, near_8 base laid.bytes);
+      pointer = omega (arith, near_16 base (with_xsdt base oem laid), length-append (padded 8 laid.bytes) (bytes_of (listing base oem laid.places)));
     }

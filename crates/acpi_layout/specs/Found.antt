@@ -1,6 +1,6 @@
 -- The tables that an operating system finds from the RSDP on (ACPI 6.5, 5.2.5 to 5.2.10).
 use Rattle.std.specs.Prelude.{◌≡◌, ℕ, ◌+◌, ◌*◌, ◌/◌, ◌%◌, ◌^◌, ◌<◌, ◌≤◌, List, [], ◌∷◌, ◌++◌, length, sum, take, codes}
-use Rattle.std.specs.Prelude.{slice_index_or, ◌⊎◌, ◌==◌, ◌&&◌, Bool, true, false, Option, Some, None}
+use Rattle.std.specs.Prelude.{slice_index_or, ◌⊎◌, ◌==◌, ◌&&◌, Bool, true, false, if◌then◌else◌, Option, Some, None}
 use Rattle.std.specs.List.{All}
 use Rattle.acpi_base.specs.Bytes.{field_at}
 use Rattle.acpi_base.specs.Table.{IsTrueTable}
@@ -47,7 +47,7 @@ pub record AreEntries (base : ℕ) (bytes : List ℕ) (xsdt : Located) (entries 
   pub each : (i : ℕ) (d : Located) → i < length entries
       → IsTableAt base bytes (field_at (36 + 8 * i) 8 (contents base bytes xsdt)) (slice_index_or entries i d)
 
--- The FADT (5.2.9) is the only one of these tables that has its signature, and has both addresses of 64 bits, up to offset 148.
+-- The FADT (5.2.9) is the only one of these tables that has its signature, and has its fields up to X_DSDT, which ends at 148.
 pub record IsOnlyFadt (tables : List Located) (fadt : Located) : Type 0 where
   pub index : ℕ
   pub inside : index < length tables
@@ -55,6 +55,18 @@ pub record IsOnlyFadt (tables : List Located) (fadt : Located) : Type 0 where
   pub signature : fadt.signature ≡ codes "FACP"
   pub only : (i : ℕ) (d : Located) → i < length tables → (slice_index_or tables i d).signature ≡ codes "FACP" → i ≡ index
   pub has_addresses : 148 ≤ fadt.length
+
+-- The address that a FADT has in two fields (5.2.9): that of 64 bits if it isn't 0, and that of 32 bits otherwise.
+unfoldable pub address_of : List ℕ → ℕ → ℕ → ℕ
+address_of fadt low high = if field_at high 8 fadt == 0 then field_at low 4 fadt else field_at high 8 fadt
+
+-- FIRMWARE_CTRL is at offset 36, and X_FIRMWARE_CTRL at 132.
+abbrev pub facs_address : List ℕ → ℕ
+facs_address fadt = address_of fadt 36 132
+
+-- DSDT is at offset 40, and X_DSDT at 140.
+abbrev pub dsdt_address : List ℕ → ℕ
+dsdt_address fadt = address_of fadt 40 140
 
 -- The FACS at this address (5.2.10), which has no checksum.
 pub record IsControlAt (base : ℕ) (bytes : List ℕ) (address : ℕ) (facs : Located) : Type 0 where
@@ -67,15 +79,15 @@ pub record IsControlAt (base : ℕ) (bytes : List ℕ) (address : ℕ) (facs : L
 abbrev pub is_reduced : ℕ → Bool
 is_reduced flags = flags / 2 ^ 20 % 2 == 1
 
--- Whether a FADT says that there is no FACS (5.2.9): HW_REDUCED_ACPI is set in Flags at offset 112, and X_FIRMWARE_CTRL at offset
--- 132 is 0.
+-- Whether a FADT says that there is no FACS (5.2.9): HW_REDUCED_ACPI is set in Flags at offset 112, and both fields with the
+-- address of the FACS are 0.
 abbrev pub has_no_control : List ℕ → Bool
-has_no_control fadt = is_reduced (field_at 112 4 fadt) && (field_at 132 8 fadt == 0)
+has_no_control fadt = is_reduced (field_at 112 4 fadt) && (facs_address fadt == 0)
 
 -- The FACS of a FADT, or none.
 abbrev pub IsControlOf : ℕ → List ℕ → List ℕ → Option Located → Type 0
 IsControlOf base bytes fadt None = has_no_control fadt ≡ true
-IsControlOf base bytes fadt (Some facs) = (has_no_control fadt ≡ false) × IsControlAt base bytes (field_at 132 8 fadt) facs
+IsControlOf base bytes fadt (Some facs) = (has_no_control fadt ≡ false) × IsControlAt base bytes (facs_address fadt) facs
 
 -- a table, if there is one
 abbrev pub if_found : Option Located → List Located
@@ -95,9 +107,8 @@ AreApart (table ∷ tables) = All (IsApart table) tables × AreApart tables
 -- ---- all of them
 
 -- These bytes, from the address base on, are the image of these tables. The RSDP at the address rsdp points to the XSDT. Its
--- entries point to the FADT and the others. The FADT points to the FACS by X_FIRMWARE_CTRL at offset 132, or says that there is
--- none, and to the DSDT by X_DSDT at 140. Each table with the standard header has its length and sums to zero, and no two overlap,
--- so none is listed twice.
+-- entries point to the FADT and the others. The FADT points to the FACS, or says that there is none, and to the DSDT. Each table
+-- with the standard header has its length and sums to zero, and no two overlap, so none is listed twice.
 pub record IsImage (bytes : List ℕ) (base rsdp : ℕ) (tables : List Located) : Type 0 where
   pub pointer : Located
   pub xsdt : Located
@@ -110,9 +121,14 @@ pub record IsImage (bytes : List ℕ) (base rsdp : ℕ) (tables : List Located) 
   pub entries_are : AreEntries base bytes xsdt entries
   pub fadt_is : IsOnlyFadt entries fadt
   pub facs_is : IsControlOf base bytes (contents base bytes fadt) facs
-  pub dsdt_is : IsNamedTableAt base bytes (codes "DSDT") (field_at 140 8 (contents base bytes fadt)) dsdt
+  pub dsdt_is : IsNamedTableAt base bytes (codes "DSDT") (dsdt_address (contents base bytes fadt)) dsdt
   pub listed : tables ≡ pointer ∷ xsdt ∷ (entries ++ (if_found facs ++ (dsdt ∷ [])))
   pub apart : AreApart tables
   pub xsdt_is_correct : IsTrueTable (contents base bytes xsdt)
   pub entries_are_correct : All (λ table. IsTrueTable (contents base bytes table)) entries
   pub dsdt_is_correct : IsTrueTable (contents base bytes dsdt)
+
+-- The same bytes are the image of one list of tables at most, for one base and one address of the RSDP.
+abbrev pub ImagesHaveOneList : Type 0
+ImagesHaveOneList =
+    (bytes : List ℕ) (base rsdp : ℕ) (t u : List Located) → IsImage bytes base rsdp t → IsImage bytes base rsdp u → t ≡ u

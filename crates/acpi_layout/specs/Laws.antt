@@ -2,7 +2,7 @@
 use Rattle.std.specs.Prelude.{◌≡◌, ℕ, ◌+◌, ◌*◌, ◌%◌, ◌^◌, ◌<◌, List, [], ◌∷◌, ◌++◌, length, slice_index_or}
 use Rattle.std.specs.Prelude.{Option, Some, None}
 use Rattle.acpi_base.specs.declared.oem.Oem.{Oem}
-use Rattle.acpi_base.specs.Bytes.{field_at}
+use Rattle.acpi_base.specs.Bytes.{field_at, zeros}
 use Rattle.acpi_base.specs.Fields.{fields_joined}
 use Rattle.acpi_base.specs.Table.{IsTrueTable}
 use Rattle.acpi_core.specs.Listing.{bytes_of}
@@ -97,3 +97,30 @@ abbrev pub ImagesAreAligned : Type 0
 ImagesAreAligned =
     (base : ℕ) (oem : Oem) (facs : Option (List ℕ)) (dsdt : List ℕ) (fadt : FADTBuilder) (tables : List (List ℕ)) → base % 64 ≡ 0
     → Aligned base (tables_laid base facs dsdt fadt tables) (image base oem facs dsdt fadt tables).rsdp
+
+-- From an address on, each begins less than a unit after the one before it ends.
+abbrev pub AreClose : ℕ → ℕ → List Standing → Type 0
+AreClose unit from [] = Unit {0}
+AreClose unit from (s ∷ more) = (s.address < from + unit) × AreClose unit (s.address + length s.bytes) more
+
+-- where the last of them ends
+abbrev pub end_of : ℕ → List Standing → ℕ
+end_of from [] = from
+end_of from (s ∷ more) = end_of (s.address + length s.bytes) more
+
+-- The gaps are smaller than the units: 8 for the FADT, the tables and the XSDT, and 16 for the RSDP. The DSDT has none before it.
+pub record LeastGaps (base : ℕ) (oem : Oem) (facs : Option (List ℕ)) (dsdt : List ℕ) (fadt : FADTBuilder) (tables : List (List ℕ))
+    (laid : Laid) : Type 0 where
+  pub listed : AreClose 8 (base + length (control_bytes facs) + length dsdt)
+      (standing_at base laid.places (fadt_bytes (pointed_fadt base facs fadt) ∷ tables))
+  pub xsdt : xsdt_address base laid
+      < end_of (base + length (control_bytes facs) + length dsdt)
+      (standing_at base laid.places (fadt_bytes (pointed_fadt base facs fadt) ∷ tables))
+      + 8
+  pub pointer : (image base oem facs dsdt fadt tables).rsdp
+      < xsdt_address base laid + length (bytes_of (listing base oem laid.places)) + 16
+
+abbrev pub GapsAreLeast : Type 0
+GapsAreLeast =
+    (base : ℕ) (oem : Oem) (facs : Option (List ℕ)) (dsdt : List ℕ) (fadt : FADTBuilder) (tables : List (List ℕ))
+    → LeastGaps base oem facs dsdt fadt tables (tables_laid base facs dsdt fadt tables)

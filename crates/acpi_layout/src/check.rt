@@ -7,7 +7,7 @@ ghost use Rattle.acpi_layout.specs.Found.{if_found, IsImage};
 
 use crate::apart::are_apart;
 use crate::fault::ImageFault;
-use crate::found::{are_correct, control, entries, is_correct, named_table, only_fadt, pointer};
+use crate::found::{are_correct, control, dsdt, entries, is_correct, only_fadt, pointer, xsdt};
 use crate::located::Located;
 use std::alloc::Global;
 
@@ -35,12 +35,16 @@ fn in_order(
 
 /// Checks the tables of an image, as an operating system finds them. The bytes begin at the physical address `base`, and the RSDP
 /// is at the address `rsdp`. The RSDP (ACPI 6.5, 5.2.5.3) of revision 2 points to the XSDT (5.2.8), and its entries to the FADT
-/// and the others. X_FIRMWARE_CTRL of the FADT (5.2.9) points to the FACS (5.2.10), and X_DSDT to the DSDT. There is no FACS if
-/// X_FIRMWARE_CTRL is 0 and the FADT's flag HW_REDUCED_ACPI is set. Each table is in the image with its whole length and sums to
-/// zero, except the FACS, which has no checksum. No two overlap.
+/// and the others. X_FIRMWARE_CTRL of the FADT (5.2.9) points to the FACS (5.2.10), and X_DSDT to the DSDT. Where such a field of
+/// 64 bits is 0, the field of 32 bits counts, FIRMWARE_CTRL or DSDT. There is no FACS if both are 0 and the FADT's flag
+/// HW_REDUCED_ACPI is set. Each table is in the image with its whole length and sums to zero, except the FACS, which has no
+/// checksum. No two overlap.
+///
+/// Firmware also has to put the RSDP at a multiple of 16 (5.2.5.1), and the FACS at a multiple of 64 (5.2.10). Both are accepted
+/// at any address.
 ///
 /// Returns the tables in the order in which they are found: the RSDP, the XSDT, its entries in order, the FACS if there is one,
-/// and the DSDT. The fields of 32 bits for addresses are not read. Each pair of tables is compared once, and no byte is copied.
+/// and the DSDT. The RSDP's address of an RSDT is not read. Each pair of tables is compared once, and no byte is copied.
 pub fn check_image(
     alloc: Global,
     bytes: &[u8],
@@ -51,11 +55,11 @@ pub fn check_image(
     ensures err { IfErr result (λ e. e ≢ Memory → (tables : List Located) → ¬ IsImage bytes.now base rsdp tables) }
 {
     let pointer = pointer(bytes, base, rsdp)?;
-    let xsdt = named_table(bytes, base, *b"XSDT", pointer, 24)?;
+    let xsdt = xsdt(bytes, base, pointer)?;
     let entries = entries(alloc, bytes, base, xsdt)?;
     let fadt = only_fadt(xsdt.address, &entries)?;
     let facs = control(bytes, base, fadt)?;
-    let dsdt = named_table(bytes, base, *b"DSDT", fadt, 140)?;
+    let dsdt = dsdt(bytes, base, fadt)?;
     let tables = in_order(alloc, pointer, xsdt, &entries, facs, dsdt)?;
     are_apart(&tables)?;
     is_correct(bytes, base, xsdt)?;

@@ -8,7 +8,7 @@ ghost use Rattle.acpi_layout.specs.declared.fault.ImageFault.TheVariants.{Memory
 ghost use Rattle.acpi_layout.specs.declared.located.Located.{Located};
 ghost use Rattle.acpi_layout.specs.Addresses.{Lies, bytes_at};
 ghost use Rattle.acpi_layout.specs.Found.{contents, IsTableAt, IsPointer, IsNamedTableAt, AreEntries, IsOnlyFadt, IsControlAt};
-ghost use Rattle.acpi_layout.specs.Found.{is_reduced, has_no_control, IsControlOf};
+ghost use Rattle.acpi_layout.specs.Found.{address_of, facs_address, dsdt_address, is_reduced, has_no_control, IsControlOf};
 
 use crate::fault::ImageFault;
 use crate::located::Located;
@@ -102,22 +102,16 @@ fn table(bytes: &[u8], base: u64, address: u64) -> Result<Located, ImageFault>
     })
 }
 
-// The table with the standard header and this signature, whose address is at an offset of another table.
-pub(crate) fn named_table(
+// The table with the standard header and this signature at an address.
+fn named_table(
     bytes: &[u8],
     base: u64,
     signature: [u8; 4],
-    from: Located,
-    offset: usize,
+    address: u64,
 ) -> Result<Located, ImageFault>
-    requires lies { Lies base bytes.now from.address from.length }
-    requires within { offset + 8 ≤ from.length }
-    ensures ok { IfOk result (λ table.
-        IsNamedTableAt base bytes.now signature (field_at offset 8 (contents base bytes.now from)) table) }
-    ensures err { OnErr result ((table : Located)
-        → ¬ IsNamedTableAt base bytes.now signature (field_at offset 8 (contents base bytes.now from)) table) }
+    ensures ok { IfOk result (λ table. IsNamedTableAt base bytes.now signature address table) }
+    ensures err { OnErr result ((table : Located) → ¬ IsNamedTableAt base bytes.now signature address table) }
 {
-    let address = qword(contents(bytes, base, from), offset);
     let found = table(bytes, base, address)?;
     if found.signature != signature {
         return Err(ImageFault::Signature(address));
@@ -151,6 +145,62 @@ pub(crate) fn pointer(bytes: &[u8], base: u64, address: u64) -> Result<Located, 
     })
 }
 
+// The XSDT of an RSDP.
+pub(crate) fn xsdt(bytes: &[u8], base: u64, pointer: Located) -> Result<Located, ImageFault>
+    requires lies { Lies base bytes.now pointer.address pointer.length }
+    requires within { 32 ≤ pointer.length }
+    ensures ok { IfOk result (λ xsdt.
+        IsNamedTableAt base bytes.now (codes "XSDT") (field_at 24 8 (contents base bytes.now pointer)) xsdt) }
+    ensures err { OnErr result ((xsdt : Located)
+        → ¬ IsNamedTableAt base bytes.now (codes "XSDT") (field_at 24 8 (contents base bytes.now pointer)) xsdt) }
+{
+    let address = qword(contents(bytes, base, pointer), 24);
+    named_table(bytes, base, *b"XSDT", address)
+}
+
+// The address that a FADT has in two fields: that of 64 bits if it isn't 0, and that of 32 bits otherwise.
+#[tactic(auto, unfolding(crate::specs::Found::address_of))]
+fn address_of(fadt: &[u8], low: usize, high: usize) -> u64
+    requires low { low + 4 ≤ length fadt.now }
+    requires high { high + 8 ≤ length fadt.now }
+    ensures { result ≡ address_of fadt.now low high }
+{
+    let address = qword(fadt, high);
+    if address == 0 {
+        return dword(fadt, low) as u64;
+    }
+    address
+}
+
+// FIRMWARE_CTRL is at offset 36, and X_FIRMWARE_CTRL at 132.
+fn facs_address(fadt: &[u8]) -> u64
+    requires { 148 ≤ length fadt.now }
+    ensures { result ≡ facs_address fadt.now }
+{
+    address_of(fadt, 36, 132)
+}
+
+// DSDT is at offset 40, and X_DSDT at 140.
+fn dsdt_address(fadt: &[u8]) -> u64
+    requires { 148 ≤ length fadt.now }
+    ensures { result ≡ dsdt_address fadt.now }
+{
+    address_of(fadt, 40, 140)
+}
+
+// The DSDT of a FADT.
+pub(crate) fn dsdt(bytes: &[u8], base: u64, fadt: Located) -> Result<Located, ImageFault>
+    requires lies { Lies base bytes.now fadt.address fadt.length }
+    requires within { 148 ≤ fadt.length }
+    ensures ok { IfOk result (λ dsdt.
+        IsNamedTableAt base bytes.now (codes "DSDT") (dsdt_address (contents base bytes.now fadt)) dsdt) }
+    ensures err { OnErr result ((dsdt : Located)
+        → ¬ IsNamedTableAt base bytes.now (codes "DSDT") (dsdt_address (contents base bytes.now fadt)) dsdt) }
+{
+    let address = dsdt_address(contents(bytes, base, fadt));
+    named_table(bytes, base, *b"DSDT", address)
+}
+
 // Whether these are a FADT's Flags of a hardware-reduced machine: bit 20 is HW_REDUCED_ACPI.
 fn is_reduced(flags: u32) -> bool
     ensures { result ≡ is_reduced flags }
@@ -163,7 +213,7 @@ fn has_no_control(fadt: &[u8]) -> bool
     requires { 148 ≤ length fadt.now }
     ensures { result ≡ has_no_control fadt.now }
 {
-    is_reduced(dword(fadt, 112)) && qword(fadt, 132) == 0
+    is_reduced(dword(fadt, 112)) && facs_address(fadt) == 0
 }
 
 // The FACS at an address.
@@ -197,7 +247,7 @@ pub(crate) fn control(bytes: &[u8], base: u64, fadt: Located) -> Result<Option<L
     if has_no_control(fields) {
         return Ok(None);
     }
-    let facs = control_at(bytes, base, qword(fields, 132))?;
+    let facs = control_at(bytes, base, facs_address(fields))?;
     Ok(Some(facs))
 }
 

@@ -1,6 +1,7 @@
 //! Laws over the definition of an image. Each function is a law: it does nothing, and ensures it.
 
-ghost use Rattle.acpi_layout.specs.Laws.{ImagesStand, ImagesPoint, ImagesAreAligned};
+ghost use Rattle.acpi_layout.specs.Found.{ImagesHaveOneList};
+ghost use Rattle.acpi_layout.specs.Laws.{ImagesStand, ImagesPoint, ImagesAreAligned, GapsAreLeast};
 ghost use Rattle.acpi_layout.specs.ReadBack.{ImagesAreFound, ReducedIsTold};
 
 /// In an image each table's bytes stand at its address: the FACS if there is one, the DSDT, the FADT and the tables, the XSDT and
@@ -20,11 +21,23 @@ pub fn images_are_aligned()
     ensures { ImagesAreAligned }
 {}
 
+/// The FADT, each of the tables and the XSDT begin less than 8 bytes after the one before ends, and the RSDP less than 16. With
+/// `images_are_aligned` each is at the next multiple of 8 or 16, so no gap is longer than it has to be.
+pub fn gaps_are_least()
+    ensures { GapsAreLeast }
+{}
+
 /// What `lay` and `lay_reduced` make of correct tables is an image by the definition of `check_image`. Its tables are exactly
 /// these, at the addresses that were written, which are read from the bytes. Only a FACS at the address 0 of a hardware-reduced
 /// machine isn't found.
 pub fn images_are_found()
     ensures { ImagesAreFound }
+{}
+
+/// By the definition of `check_image`, the same bytes are the image of at most one list of tables, for one base and one address
+/// of the RSDP.
+pub fn images_have_one_list()
+    ensures { ImagesHaveOneList }
 {}
 
 /// The FADT of `lay_reduced` has the flag HW_REDUCED_ACPI, so a reader looks for no FACS.

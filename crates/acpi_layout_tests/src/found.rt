@@ -70,7 +70,7 @@ fn tables_in_order(rt: HostRuntime) -> Result<(), Fail> {
 }
 
 // Writes bytes over those at an offset.
-fn overwrite(bytes: &mut Vec<u8>, at: usize, with: &[u8]) -> Result<(), Fail> {
+pub(crate) fn overwrite(bytes: &mut Vec<u8>, at: usize, with: &[u8]) -> Result<(), Fail> {
     if at > bytes.len() || with.len() > bytes.len() - at {
         return Err(Fail::new(format_args!("no room at {at}")));
     }

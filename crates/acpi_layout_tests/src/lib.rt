@@ -10,4 +10,8 @@ mod large;
 #[cfg(test)]
 mod layout;
 #[cfg(test)]
+mod plain;
+#[cfg(test)]
+mod pointers;
+#[cfg(test)]
 mod reduced;

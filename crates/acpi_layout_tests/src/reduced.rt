@@ -120,6 +120,9 @@ fn faults_without_a_facs(rt: HostRuntime) -> Result<(), Fail> {
             (0xac, b"\0\x10", ImageFault::Signature(0x1000)),
             (0xac, b"\x01", ImageFault::Outside(1)),
             (0xb3, b"\x01", ImageFault::Outside(0x0100_0000_0000_0000)),
+            // FIRMWARE_CTRL, where X_FIRMWARE_CTRL is 0: the DSDT, and 2^24
+            (0x4c, b"\0\x10", ImageFault::Signature(0x1000)),
+            (0x4f, b"\x01", ImageFault::Outside(0x0100_0000)),
         ],
     )
 }

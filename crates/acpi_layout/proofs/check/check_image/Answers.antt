@@ -42,8 +42,8 @@ returns-in_err-facs-clause-err c =
     c.in_err-facs.ensures.err im.facs
     (facs_there _ _ _ _ im _ c.in_ok-pointer.ensures.ok _ c.in_ok-xsdt.ensures.ok _ _ c.in_ok-entries.ensures.ok c.deref.ensures.value _ c.in_ok-fadt.ensures.ok))
 
-pub named_table-requires-2-clause-lies : goal.named_table-requires-2-clause-lies
-named_table-requires-2-clause-lies c = fadt_lies _ _ _ _ _ _ c.deref.ensures.value c.in_ok-entries.ensures.ok c.in_ok-fadt.ensures.ok
+pub dsdt-requires-clause-lies : goal.dsdt-requires-clause-lies
+dsdt-requires-clause-lies c = fadt_lies _ _ _ _ _ _ c.deref.ensures.value c.in_ok-entries.ensures.ok c.in_ok-fadt.ensures.ok
 
 pub returns-in_err-dsdt-clause-err : goal.returns-in_err-dsdt-clause-err
 returns-in_err-dsdt-clause-err c =
