@@ -2,3 +2,8 @@ pub mod FirstLine
 pub mod Numbers
 pub mod Bytes
 pub mod Addresses
+pub mod Plain
+pub mod Glyphs
+pub mod Titles
+pub mod ByteLines
+pub mod ReadBack

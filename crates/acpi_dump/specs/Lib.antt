@@ -1,3 +1,5 @@
 pub mod Lines
 pub mod Line
 pub mod Dump
+pub mod Written
+pub mod Laws

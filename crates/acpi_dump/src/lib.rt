@@ -5,6 +5,7 @@
 mod digits;
 pub mod dump;
 pub mod fault;
+pub mod laws;
 mod line;
 mod lines;
 

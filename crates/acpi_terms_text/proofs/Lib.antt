@@ -7,3 +7,6 @@ pub mod Dots
 pub mod Single
 pub mod Placed
 pub mod Kept
+pub mod Pairs
+pub mod EisaTexts
+pub mod UuidTexts
