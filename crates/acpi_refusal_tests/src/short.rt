@@ -1,6 +1,6 @@
 //! A sink with little room, and objects that are written to it.
 
-ghost use Rattle.std.specs.Prelude.{◌≡◌, All, Err, IfOk, OnOk};
+ghost use Rattle.std.specs.Prelude.{◌≡◌, All, Err, IsOkAnd, OnOk};
 ghost use Rattle.acpi_base.specs.declared.error.Error.TheVariants.{Sink};
 ghost use Rattle.acpi_refusal_tests.specs.Short.{IsOfSize, short_of, short_takes_nothing, short_takes_beginning};
 
@@ -43,7 +43,7 @@ impl Short {
         }
     }
 
-    /// Fails unless the call ended with this sink's error, and the sink has the first part that it had room for.
+    /// Fails unless the call ended with this sink's error, and the sink has the prefix that it had room for.
     pub fn is_full(&self, beginning: &[u8], end: R<()>) -> Result<(), Fail>
         ensures refused { OnOk result (end ≡ Err (Sink 7)) }
         ensures held { OnOk result (self.now.held.items ≡ beginning.now) }
@@ -69,7 +69,7 @@ pub fn starve(alloc: Global, size: usize, aml: &dyn Aml) -> Result<(), Fail>
 
 /// Writes an object of a known type, which a constructor made, to such sinks.
 pub fn starve_made<T: Aml + Drop>(alloc: Global, size: usize, made: R<T>) -> Result<(), Fail>
-    ensures { OnOk result (IfOk made (λ value. IsOfSize size (T.object value))) }
+    ensures { OnOk result (IsOkAnd made (λ value. IsOfSize size (T.object value))) }
 {
     let value = made?;
     let mut whole = Vec::new(alloc);

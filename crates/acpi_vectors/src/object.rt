@@ -1,6 +1,6 @@
 //! Comparing what objects write with expected bytes and errors.
 
-ghost use Rattle.std.specs.Prelude.{◌≡◌, All, Err, IfOk, OnOk, length};
+ghost use Rattle.std.specs.Prelude.{◌≡◌, All, Err, IfOk, IsOkAnd, OnOk, length};
 ghost use Rattle.acpi_base.specs.Object.{Built};
 
 use crate::compare::{equal, same};
@@ -21,7 +21,7 @@ pub fn written(alloc: Global, aml: &dyn Aml) -> R<Vec<u8>>
 
 /// The bytes that an object writes, if its constructor succeeded.
 pub fn bytes_of<T: Aml + Drop>(alloc: Global, made: R<T>) -> R<Vec<u8>>
-    ensures { IfOk result (λ bytes. IfOk made (λ value. Built (T.object value) bytes.items)) }
+    ensures { IfOk result (λ bytes. IsOkAnd made (λ value. Built (T.object value) bytes.items)) }
 {
     let mut bytes = Vec::new(alloc);
     append_value(&made?, &mut bytes)?;
@@ -45,7 +45,7 @@ pub fn sized(alloc: Global, aml: &dyn Aml, wanted: usize) -> Result<(), Fail>
 
 /// Fails unless a constructor succeeded and its object writes these bytes.
 pub fn makes<T: Aml + Drop>(alloc: Global, made: R<T>, wanted: &[u8]) -> Result<(), Fail>
-    ensures { OnOk result (IfOk made (λ value. Built (T.object value) wanted.now)) }
+    ensures { OnOk result (IsOkAnd made (λ value. Built (T.object value) wanted.now)) }
 {
     let bytes = bytes_of(alloc, made)?;
     same(&bytes, wanted)
