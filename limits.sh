@@ -44,6 +44,9 @@ same_size PPTT 36 20 214748362
 same_size RHCT 56 8 536870904
 same_size RIMT 48 32 134217726
 same_size VIOT 48 16 4092
+same_size GTDT 104 28 153391685
+same_size DBG2 44 24 178956968
+same_size IORT 48 68 63161283
 
 # Structures of the caller's own: three of 2^30 bytes, and one that ends at the last byte that a table can have.
 prints "MADT: 4 structures, $most bytes" "$limits" MADT

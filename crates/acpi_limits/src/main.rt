@@ -8,6 +8,7 @@
 //! a name is unknown.
 #![tactic(auto)]
 
+mod arm;
 mod fault;
 mod filling;
 mod lists;
@@ -18,8 +19,11 @@ mod sdt;
 use crate::fault::Fault;
 use crate::filling::{Full, fill};
 use acpi_tables::cedt::CEDT;
+use acpi_tables::dbg2::DBG2;
+use acpi_tables::gtdt::GTDT;
 use acpi_tables::hest::HEST;
 use acpi_tables::hmat::HMAT;
+use acpi_tables::iort::IORT;
 use acpi_tables::madt::MADT;
 use acpi_tables::mcfg::MCFG;
 use acpi_tables::pptt::PPTT;
@@ -73,6 +77,9 @@ fn fill_named(alloc: Global, name: &str) -> Result<Full, Fault> {
         "VIOT" => fill::<VIOT>(alloc),
         "RIMT" => fill::<RIMT>(alloc),
         "HMAT" => fill::<HMAT>(alloc),
+        "GTDT" => fill::<GTDT>(alloc),
+        "DBG2" => fill::<DBG2>(alloc),
+        "IORT" => fill::<IORT>(alloc),
         "Sdt" => fill::<Sdt>(alloc),
         "SLIT" => matrices::slit(alloc),
         "SystemLocality" => matrices::system_locality(alloc),

@@ -3,8 +3,8 @@
 //!
 //! These bytes are counted, in this order:
 //!
-//! - each type of `fill_lists` and `fill_others`, once for each of its `WAYS`: `empty`, after five calls of `grow` in this way.
-//!   `grow` of MADT in way 1 adds one structure in all, since a MADT has one IMSIC at most;
+//! - each type of `fill_lists`, `fill_others` and `fill_arm`, once for each of its `WAYS`: `empty`, after five calls of `grow` in
+//!   this way. `grow` of MADT in way 1 adds one structure in all, since a MADT has one IMSIC at most;
 //! - the error data entry with five objects of three bytes, and the three clones (`errors`);
 //! - each object of `part`, `aml` and `operators`, once;
 //! - the image, twice (`image`);
@@ -17,6 +17,7 @@
 #![tactic(auto)]
 
 mod aml;
+mod arm;
 mod blocks;
 mod cxl;
 mod errors;
@@ -34,8 +35,13 @@ use crate::trial::Trial;
 use acpi_tables::R;
 use acpi_tables::aml::PackageBuilder;
 use acpi_tables::cedt::{CEDT, XorInterleaveMath};
+use acpi_tables::dbg2::DBG2;
+use acpi_tables::gtdt::{GTDT, GtBlock};
 use acpi_tables::hest::HEST;
 use acpi_tables::hmat::{HMAT, MemorySideCache};
+use acpi_tables::iort::{
+    IORT, ItsGroup, NamedComponent, ReservedMemory, RootComplex, Smmu, SmmuV3,
+};
 use acpi_tables::madt::MADT;
 use acpi_tables::mcfg::MCFG;
 use acpi_tables::pptt::PPTT;
@@ -53,6 +59,7 @@ fn main(rt: HostRuntime) -> Result<(), Fault> {
     let mut trial = Trial::new(rt.alloc())?;
     fill_lists(&mut trial, rt.alloc())?;
     fill_others(&mut trial, rt.alloc())?;
+    fill_arm(&mut trial, rt.alloc())?;
     errors::entry(&mut trial, rt.alloc())?;
     errors::clones(&mut trial, rt.alloc())?;
     make_objects(&mut trial, rt.alloc())?;
@@ -84,6 +91,19 @@ fn fill_others(trial: &mut Trial, alloc: Global) -> Result<(), Fault> {
     trial.fill::<MemorySideCache>(alloc)?;
     trial.fill::<Sdt>(alloc)?;
     trial.fill::<PackageBuilder>(alloc)
+}
+
+fn fill_arm(trial: &mut Trial, alloc: Global) -> Result<(), Fault> {
+    trial.fill::<GtBlock>(alloc)?;
+    trial.fill::<GTDT>(alloc)?;
+    trial.fill::<DBG2>(alloc)?;
+    trial.fill::<ItsGroup>(alloc)?;
+    trial.fill::<NamedComponent>(alloc)?;
+    trial.fill::<RootComplex>(alloc)?;
+    trial.fill::<Smmu>(alloc)?;
+    trial.fill::<SmmuV3>(alloc)?;
+    trial.fill::<ReservedMemory>(alloc)?;
+    trial.fill::<IORT>(alloc)
 }
 
 // Structures and tables that are made whole by one call.

@@ -1,8 +1,10 @@
-//! Tests of sinks that return errors: an object has then written a first part of its bytes, and returns the sink's error.
+//! Tests of sinks that return errors: an object has then written a prefix of its bytes, and returns the sink's error.
 #![tactic(auto)]
 
 #[cfg(test)]
 mod aml;
+#[cfg(test)]
+mod arm;
 #[cfg(test)]
 mod fixed;
 #[cfg(test)]
