@@ -1,8 +1,8 @@
 r"""Runs acpiread and acpitool on the cases of cases/*.cases, and compares what they print. cases.sh gives the folder of the
 crates and a folder for files.
 
-A line at the left margin is a run: the command, the bytes of its file, and after a semicolon further words. Only `template` has
-no file.
+A line at the left margin is a run: the command, the bytes of its file, and after a semicolon further words. `template`, `--help`
+and `--version` have no file.
 
     aml 5b 80 "PRST" 00 "MTHD" 01 00 ; MTHD=1
 
@@ -27,8 +27,9 @@ import sys
 CRATES, WORK = os.path.abspath(sys.argv[1]), sys.argv[2]
 PROGRAMS = {
     **dict.fromkeys(("aml", "dsdt", "table"), "acpiread"),
-    **dict.fromkeys(("show", "image", "make", "template"), "acpitool"),
+    **dict.fromkeys(("show", "image", "make", "template", "--help", "--version"), "acpitool"),
 }
+WITHOUT_FILE = ("template", "--help", "--version")
 TOKEN = re.compile(
     r'"(?P<text>[^"]*)"'
     r"|<(?P<signature>.{4}) (?P<revision>\d+)>"
@@ -100,7 +101,7 @@ class Run:
         with open(path, "wb") as file:
             file.write("".join(self.text).encode("latin-1") if self.text else bytes_of(self.content))
         program = PROGRAMS[self.command]
-        files = {"make": [path, made], "template": []}.get(self.command, [path])
+        files = [] if self.command in WITHOUT_FILE else [path, made] if self.command == "make" else [path]
         program = os.path.join(CRATES, program, "out", program)
         done = subprocess.run([program, self.command, *files, *self.words], capture_output=True, check=False)
         wanted = self.status if self.status is not None else 1 if errors else 0

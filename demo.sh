@@ -140,6 +140,16 @@ for table in package fadt madt mcfg srat slit hmat pptt hest bert namespace; do
     cmp "$work/acpi/$table" "$work/made"
 done
 
+# A table goes to standard output, or into a pipe, which stays one.
+"$tool" make "$work/text" - >"$work/printed"
+cmp "$work/made" "$work/printed"
+mkfifo "$work/pipe"
+timeout 60 cat "$work/pipe" >"$work/printed" &
+"$tool" make "$work/text" "$work/pipe"
+wait
+cmp "$work/made" "$work/printed"
+[ -p "$work/pipe" ]
+
 # An Arm machine: what acpiread prints for its tables, and its image, which has no FACS.
 mkdir "$work/arm"
 expect "$(crates/acpi_example/out/acpi_example arm "$work/arm" 40000000)" 'base 0x40000000 RSDP 0x40000600'

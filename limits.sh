@@ -1,8 +1,8 @@
 #!/bin/sh
 # Fills each table, `Sdt`, SLIT and `SystemLocality` until one more structure is refused, and gives `acpiread` files of the most
-# bytes that a table and a list of terms can have, and of one more. Compares what is printed with the numbers that follow from
-# the sizes: a table of n structures has the bytes of its head and n times those of a structure, and fewer than 2^32 (2^16 for
-# VIOT, whose offsets have two bytes).
+# bytes that a table and a list of terms can have, and of one more, and `acpitool` files of as many. Compares what is printed with
+# the numbers that follow from the sizes: a table of n structures has the bytes of its head and n times those of a structure, and
+# fewer than 2^32 (2^16 for VIOT, whose offsets have two bytes).
 #
 # It takes 9 GiB of memory and six minutes, beside the proofs of the programs and of what they stand on, which come first. A file
 # is as long as the most bytes, but takes no room: it is a hole.
@@ -11,9 +11,10 @@ cd "$(dirname "$0")"
 
 . ./crates.sh
 
-prove acpi_limits acpiread
+prove acpi_limits acpiread acpitool
 limits=crates/acpi_limits/out/acpi_limits
 read=crates/acpiread/out/acpiread
+tool=crates/acpitool/out/acpitool
 
 # Runs words, and compares the line that they print on either output with the one that is wanted.
 prints() {
@@ -73,3 +74,10 @@ truncate -s "$most" "$work/file"
 prints "OEM1 length $most revision 1 sum 0" "$read" table "$work/file"
 truncate -s $((most + 1)) "$work/file"
 prints 'refused at 4: TableLength' "$read" table "$work/file"
+
+# Zeros are no image, and no part of a longer file is read as one.
+truncate -s 0 "$work/file"
+truncate -s "$most" "$work/file"
+prints "$work/file: no RSDP at a multiple of 16 bytes" "$tool" image "$work/file"
+truncate -s $((most + 1)) "$work/file"
+prints "$work/file: longer than $most bytes" "$tool" image "$work/file"

@@ -1,5 +1,9 @@
 mod Blocks
+mod Commands
 mod Outcomes
 mod Pointers
+mod Runs
 mod Texts
+mod Whole
 mod Words
+mod Wrongs

@@ -1,23 +1,19 @@
 -- Outcomes one after another.
-use Rattle.std.proofs.Common.{◌≡◌, ℕ, ◌≤◌, max, List, [], ◌∷◌, ◌++◌, Option, Some, None, refl, sym, ap, subst, ◌∙◌, append_assoc, arith, codes, inl, inr, Bool, true, false, Ok, Err}
-use Rattle.std.proofs.lemmas.List.{append-nil}
+use Rattle.std.proofs.Common.{◌≡◌, ℕ, max, List, [], ◌∷◌, ◌++◌, Option, Some, None, refl, sym, ap, subst, ◌∙◌, append_assoc, arith, codes, inl, inr, Bool, true, false, Result, Ok, Err, IfErr, nat_lt, length, map, String, Global, string_bytes}
+use Rattle.std.proofs.lemmas.List.{append-nil, length-map}
 use Rattle.std.specs.Io.KnownBytes.{Keeps, Appends}
+use Rattle.acpiread_run.specs.Command.{stated}
 use Rattle.acpiread_run.specs.Fault.{line_of}
 use Rattle.acpiread_run.specs.declared.fault.Fault.{Fault}
 use Rattle.acpi_dump.specs.Dump.{is_dump, tables_of}
 use Rattle.acpi_dump.specs.declared.fault.DumpFault.{DumpFault}
-use Rattle.acpitool_run.specs.Making.{IsWritten, MakesOrNot}
 use Rattle.acpitool_run.specs.Outcome.{Outcome, shown, refused, broken, unread, output, complaint, status, outputs, complaints, worst}
-use Rattle.acpitool_run.specs.Making.{IsWritten, MakesOrNot}
-use Rattle.acpitool_run.specs.Outcome.{IsHeading, AreTrueOutcomes, AreNamed, HaveBytes, IsOfFile}
-use Rattle.acpitool_run.specs.Making.{IsWritten, MakesOrNot}
-use Rattle.acpitool_run.specs.Outcome.{Printed, PrintedTables, PrintedFile, PrintedUnread}
-use Rattle.acpitool_run.specs.Program.{Ended, IsDone, IsShown, IsMisstatedAs, wrong_text}
+use Rattle.acpitool_run.specs.Outcome.{heading, AreTrueOutcomes, AreNamed, HaveBytes, AreOfTables, AreOfDump, AreOfBytesBy, AreOfBytes}
+use Rattle.acpitool_run.specs.Outcome.{IsUnread, AreOfFile, AreGroups, joined, AreOfEach, AreOfWord, Printed, PrintedAs}
+use Rattle.acpitool_run.specs.Program.{IsShown, IsMisstatedAs, wrong_text}
 use Rattle.acpitool_run.specs.declared.command.Wrong.{Wrong}
 use Rattle.acpitool_run.specs.Terms.{IsAfter}
 use Rattle.acpitool_run.specs.Text.{IsText, IsTextFault}
-use Rattle.acpitool_run.specs.declared.command.Command.{Command}
-use Rattle.acpitool_run.specs.declared.command.Command.TheVariants.{Help, Version, Show, Image, Make, Template}
 
 -- ---- bytes of writers
 
@@ -49,9 +45,9 @@ are_append : (stated : List (List ℕ × ℕ)) (a b : List Outcome) → AreTrueO
 are_append stated [] b one two = two
 are_append stated (o ∷ a) b one two = (one.0, are_append stated a b one.1 two)
 
-named_append : (name : List ℕ) (a b : List Outcome) → AreNamed name a → AreNamed name b → AreNamed name (a ++ b)
-named_append name [] b one two = two
-named_append name (o ∷ a) b one two = (one.0, named_append name a b one.1 two)
+named_append : (several : Bool) (name : List ℕ) (a b : List Outcome) → AreNamed several name a → AreNamed several name b → AreNamed several name (a ++ b)
+named_append several name [] b one two = two
+named_append several name (o ∷ a) b one two = (one.0, named_append several name a b one.1 two)
 
 have_append : (xs ys : List (List ℕ)) (a b : List Outcome) → HaveBytes xs a → HaveBytes ys b → HaveBytes (xs ++ ys) (a ++ b)
 have_append [] ys [] b one two = two
@@ -60,18 +56,6 @@ have_append (x ∷ xs) ys [] b one two = absurd one
 have_append (x ∷ xs) ys (o ∷ a) b one two = (one.0, have_append xs ys a b one.1 two)
 
 -- ---- what calls printed
-
--- each status is at most 2
-worst_small : (a : List Outcome) → worst a ≤ 2
-worst_small [] = omega arith
-worst_small (shown name before bytes text after ∷ more) = let small = worst_small more in grind arith
-worst_small (refused name bytes fault ∷ more) = let small = worst_small more in grind arith
-worst_small (broken name dump why ∷ more) = let small = worst_small more in grind arith
-worst_small (unread name why ∷ more) = let small = worst_small more in grind arith
-
-printed_small : {stated : List (List ℕ × ℕ)} {outcomes : List Outcome} {o o' e e' : Option (List ℕ)} {s : ℕ}
-    → Printed stated outcomes o o' e e' s → s ≤ 2
-printed_small {stated} {outcomes} one = let small = worst_small outcomes in omega (arith, small, one.is)
 
 pub nothing : (stated : List (List ℕ × ℕ)) (out err : Option (List ℕ)) → Printed stated [] out out err err 0
 nothing stated out err = record { are = tt; wrote = appends_none out; complained = appends_none err; is = refl }
@@ -93,110 +77,174 @@ pub same_status : {stated : List (List ℕ × ℕ)} {outcomes : List Outcome} {o
 same_status {stated} {outcomes} {o} {o'} {e} {e'} is one =
     let P : ℕ → Type 0 = λ n. Printed stated outcomes o o' e e' n in subst P (sym is) one
 
+-- of which more is known
+pub as_these : {stated : List (List ℕ × ℕ)} {P Q : List Outcome → Type 0} {o o' e e' : Option (List ℕ)} {s : ℕ}
+    → ((outcomes : List Outcome) → P outcomes → Q outcomes) → PrintedAs stated P o o' e e' s → PrintedAs stated Q o o' e e' s
+as_these {stated} {P} {Q} {o} {o'} {e} {e'} {s} follows one =
+    record { outcomes = one.outcomes; are = follows one.outcomes one.are; printed = one.printed }
+
 -- ---- one outcome
 
-pub one_shown : (stated : List (List ℕ × ℕ)) (out out' err : Option (List ℕ)) (name before bytes text after : List ℕ)
-    → IsHeading name before → IsText bytes text → IsAfter stated bytes after → Appends out out' (before ++ text ++ after)
-    → PrintedTables stated name (bytes ∷ []) out out' err err 0
-one_shown stated out out' err name before bytes text after heading is follows wrote =
-    let P : List ℕ → Type 0 = λ l. Appends out out' l in
+pub one_shown : (stated : List (List ℕ × ℕ)) (out out' err : Option (List ℕ)) (several : Bool) (name before bytes text after : List ℕ)
+    → before ≡ heading several name → IsText bytes text → IsAfter stated bytes after → Appends out out' (before ++ text ++ after)
+    → PrintedAs stated (AreOfTables several name (bytes ∷ [])) out out' err err 0
+one_shown stated out out' err several name before bytes text after heads is follows wrote =
+    let P : List ℕ → Type 0 = λ l. Appends out out' (l ++ text ++ after) in
+    let Q : List ℕ → Type 0 = λ l. Appends out out' l in
     record {
-      outcomes = shown name before bytes text after ∷ [];
-      named = (refl, tt);
-      have = (refl, tt);
+      outcomes = shown several name bytes text after ∷ [];
+      are = record { named = ((refl, refl), tt); have = (refl, tt) };
       printed = record {
-        are = ((heading, is, follows), tt);
-        wrote = subst P (sym (append-nil (before ++ text ++ after))) wrote;
+        are = ((is, follows), tt);
+        wrote = subst Q (sym (append-nil (heading several name ++ text ++ after))) (subst P heads wrote);
         complained = appends_none err;
         is = refl;
       };
     }
 
-pub one_refused : (stated : List (List ℕ × ℕ)) (out err err' : Option (List ℕ)) (name bytes : List ℕ) (fault : Fault)
-    → IsTextFault bytes fault → Appends err err' (name ++ codes ": " ++ line_of fault ++ 10 ∷ [])
-    → PrintedTables stated name (bytes ∷ []) out out err err' 1
-one_refused stated out err err' name bytes fault is wrote =
+pub one_refused : (stated : List (List ℕ × ℕ)) (out err err' : Option (List ℕ)) (several : Bool) (name bytes : List ℕ) (fault : Fault) (why : List ℕ)
+    → IsTextFault bytes fault → why ≡ line_of fault → Appends err err' (name ++ codes ": " ++ why ++ 10 ∷ [])
+    → PrintedAs stated (AreOfTables several name (bytes ∷ [])) out out err err' 1
+one_refused stated out err err' several name bytes fault why is says wrote =
     let P : List ℕ → Type 0 = λ l. Appends err err' l in
+    let Q : List ℕ → Type 0 = λ l. Appends err err' (name ++ codes ": " ++ l ++ 10 ∷ []) in
     record {
       outcomes = refused name bytes fault ∷ [];
-      named = (refl, tt);
-      have = (refl, tt);
+      are = record { named = (refl, tt); have = (refl, tt) };
       printed = record {
         are = (is, tt);
         wrote = appends_none out;
-        complained = subst P (sym (append-nil (name ++ codes ": " ++ line_of fault ++ 10 ∷ []))) wrote;
+        complained = subst P (sym (append-nil (name ++ codes ": " ++ line_of fault ++ 10 ∷ []))) (subst Q says wrote);
         is = refl;
       };
     }
 
 pub one_broken : (stated : List (List ℕ × ℕ)) (out err err' : Option (List ℕ)) (name dump why : List ℕ) (fault : DumpFault)
-    → is_dump dump ≡ true → tables_of dump ≡ Err fault → Appends err err' (name ++ codes ": " ++ why ++ 10 ∷ []) → (s : ℕ) → s ≡ 1
-    → PrintedFile stated name dump out out err err' s
-one_broken stated out err err' name dump why fault dumps is wrote s one =
+    → tables_of dump ≡ Err fault → Appends err err' (name ++ codes ": " ++ why ++ 10 ∷ [])
+    → PrintedAs stated (AreOfDump name dump) out out err err' 1
+one_broken stated out err err' name dump why fault is wrote =
     let P : List ℕ → Type 0 = λ l. Appends err err' l in
-    let Q : Bool → Type 0 = λ b. IsOfFile b dump (broken name dump why ∷ []) in
     record {
       outcomes = broken name dump why ∷ [];
-      named = (refl, tt);
-      of = subst Q (sym dumps) (inr (name, why, refl));
+      are = inr (why, refl);
       printed = record {
         are = ((fault, is), tt);
         wrote = appends_none out;
         complained = subst P (sym (append-nil (name ++ codes ": " ++ why ++ 10 ∷ []))) wrote;
-        is = one;
+        is = refl;
       };
     }
 
-pub one_unread : (out err err' : Option (List ℕ)) (name why : List ℕ)
-    → Appends err err' (name ++ codes ": " ++ why ++ 10 ∷ []) → PrintedUnread name out out err err' 2
-one_unread out err err' name why wrote =
-    let P : List ℕ → Type 0 = λ l. Appends err err' l in (
-      why,
-      λ stated. record {
+pub one_unread : (stated : List (List ℕ × ℕ)) (out err err' : Option (List ℕ)) (name why : List ℕ) (s : ℕ)
+    → Appends err err' (name ++ codes ": " ++ why ++ 10 ∷ []) → s ≡ 2 → PrintedAs stated (IsUnread name) out out err err' s
+one_unread stated out err err' name why s wrote is =
+    let P : List ℕ → Type 0 = λ l. Appends err err' l in
+    record {
+      outcomes = unread name why ∷ [];
+      are = (why, refl);
+      printed = record {
         are = (tt, tt);
         wrote = appends_none out;
         complained = subst P (sym (append-nil (name ++ codes ": " ++ why ++ 10 ∷ []))) wrote;
-        is = refl;
-      },
-    )
+        is = is;
+      };
+    }
 
--- ---- tables and files
+-- ---- tables
 
-pub no_tables : (stated : List (List ℕ × ℕ)) (name : List ℕ) (out err : Option (List ℕ)) → PrintedTables stated name [] out out err err 0
-no_tables stated name out err = record { outcomes = []; named = tt; have = tt; printed = nothing stated out err }
+pub no_tables : (stated : List (List ℕ × ℕ)) (several : Bool) (name : List ℕ) (out err : Option (List ℕ))
+    → PrintedAs stated (AreOfTables several name []) out out err err 0
+no_tables stated several name out err =
+    record { outcomes = []; are = record { named = tt; have = tt }; printed = nothing stated out err }
 
-pub tables_then : {stated : List (List ℕ × ℕ)} {name : List ℕ} {xs ys : List (List ℕ)} {o o' o'' e e' e'' : Option (List ℕ)} {a b : ℕ}
-    → PrintedTables stated name xs o o' e e' a → PrintedTables stated name ys o' o'' e' e'' b
-    → PrintedTables stated name (xs ++ ys) o o'' e e'' (max a b)
-tables_then {stated} {name} {xs} {ys} one two = record {
+pub tables_then : {stated : List (List ℕ × ℕ)} {several : Bool} {name : List ℕ} {xs ys : List (List ℕ)} {o o' o'' e e' e'' : Option (List ℕ)} {a b : ℕ}
+    → PrintedAs stated (AreOfTables several name xs) o o' e e' a → PrintedAs stated (AreOfTables several name ys) o' o'' e' e'' b
+    → PrintedAs stated (AreOfTables several name (xs ++ ys)) o o'' e e'' (max a b)
+tables_then {stated} {several} {name} {xs} {ys} one two = record {
   outcomes = one.outcomes ++ two.outcomes;
-  named = named_append name one.outcomes two.outcomes one.named two.named;
-  have = have_append xs ys one.outcomes two.outcomes one.have two.have;
+  are = record {
+    named = named_append several name one.outcomes two.outcomes one.are.named two.are.named;
+    have = have_append xs ys one.outcomes two.outcomes one.are.have two.are.have;
+  };
   printed = and_then one.printed two.printed;
 }
 
 -- of the same tables, with the same status
-pub same_tables : {stated : List (List ℕ × ℕ)} {name : List ℕ} {xs ys : List (List ℕ)} {o o' e e' : Option (List ℕ)} {a b : ℕ}
-    → xs ≡ ys → a ≡ b → PrintedTables stated name xs o o' e e' b → PrintedTables stated name ys o o' e e' a
-same_tables {stated} {name} {xs} {ys} {o} {o'} {e} {e'} {a} {b} same is one =
-    let P : List (List ℕ) → Type 0 = λ l. PrintedTables stated name l o o' e e' a in
-    let Q : ℕ → Type 0 = λ n. PrintedTables stated name xs o o' e e' n in
+pub same_tables : {stated : List (List ℕ × ℕ)} {several : Bool} {name : List ℕ} {xs ys : List (List ℕ)} {o o' e e' : Option (List ℕ)} {a b : ℕ}
+    → xs ≡ ys → a ≡ b → PrintedAs stated (AreOfTables several name xs) o o' e e' b
+    → PrintedAs stated (AreOfTables several name ys) o o' e e' a
+same_tables {stated} {several} {name} {xs} {ys} {o} {o'} {e} {e'} {a} {b} same is one =
+    let P : List (List ℕ) → Type 0 = λ l. PrintedAs stated (AreOfTables several name l) o o' e e' a in
+    let Q : ℕ → Type 0 = λ n. PrintedAs stated (AreOfTables several name xs) o o' e e' n in
     subst P same (subst Q (sym is) one)
 
--- a file that is a table
-pub file_of_table : (stated : List (List ℕ × ℕ)) (name bytes : List ℕ) (o o' e e' : Option (List ℕ)) (s : ℕ) → is_dump bytes ≡ false
-    → PrintedTables stated name (bytes ∷ []) o o' e e' s → PrintedFile stated name bytes o o' e e' s
-file_of_table stated name bytes o o' e e' s plain one =
-    let P : Bool → Type 0 = λ b. IsOfFile b bytes one.outcomes in
-    record { outcomes = one.outcomes; named = one.named; of = subst P (sym plain) one.have; printed = one.printed }
+-- ---- files
 
--- a file that is a dump of these tables
-pub file_of_tables : (stated : List (List ℕ × ℕ)) (name dump : List ℕ) (tables : List (List ℕ)) (o o' e e' : Option (List ℕ)) (s : ℕ)
-    → is_dump dump ≡ true → tables_of dump ≡ Ok tables → PrintedTables stated name tables o o' e e' s
-    → PrintedFile stated name dump o o' e e' s
-file_of_tables stated name dump tables o o' e e' s dumps is one =
-    let P : Bool → Type 0 = λ b. IsOfFile b dump one.outcomes in
-    record { outcomes = one.outcomes; named = one.named; of = subst P (sym dumps) (inl (tables, is, one.have)); printed = one.printed }
+-- a file that is a table
+pub table_bytes : (several : Bool) (name bytes : List ℕ) → is_dump bytes ≡ false → (outcomes : List Outcome)
+    → AreOfTables several name (bytes ∷ []) outcomes → AreOfBytes several name bytes outcomes
+table_bytes several name bytes plain outcomes are =
+    let P : Bool → Type 0 = λ b. AreOfBytesBy b several name bytes outcomes in subst P (sym plain) are
+
+-- a file that is a dump
+pub dump_bytes : (several : Bool) (name bytes : List ℕ) → is_dump bytes ≡ true → (outcomes : List Outcome)
+    → AreOfDump name bytes outcomes → AreOfBytes several name bytes outcomes
+dump_bytes several name bytes dumps outcomes are =
+    let P : Bool → Type 0 = λ b. AreOfBytesBy b several name bytes outcomes in subst P (sym dumps) are
+
+-- the bytes that were read of a file
+pub file_bytes : (several : Bool) (name bytes : List ℕ) (outcomes : List Outcome) → AreOfBytes several name bytes outcomes
+    → AreOfFile several name outcomes
+file_bytes several name bytes outcomes are = inl (bytes, are)
+
+pub if_err : {T E P : Type 0} (read : Result T E) → P → IfErr read (λ _. P)
+if_err (Ok value) known = tt
+if_err (Err error) known = known
+
+-- ---- words
+
+joined_append : (a : List (List Outcome)) (b : List Outcome) → joined (a ++ b ∷ []) ≡ joined a ++ b
+joined_append [] b = append-nil b
+joined_append (group ∷ a) b = ap (λ l. group ++ l) (joined_append a b) ∙ sym (append_assoc group (joined a) b)
+
+groups_append : (Of : List ℕ → List Outcome → Type 0) (words : List (List ℕ)) (word : List ℕ) (groups : List (List Outcome)) (group : List Outcome)
+    → AreGroups Of words groups → Of word group → AreGroups Of (words ++ word ∷ []) (groups ++ group ∷ [])
+groups_append Of [] word [] group one two = (two, tt)
+groups_append Of [] word (other ∷ groups) group one two = absurd one
+groups_append Of (first ∷ words) word [] group one two = absurd one
+groups_append Of (first ∷ words) word (other ∷ groups) group one two = (one.0, groups_append Of words word groups group one.1 two)
+
+pub no_words : (stated : List (List ℕ × ℕ)) (Of : List ℕ → List Outcome → Type 0) (out err : Option (List ℕ))
+    → PrintedAs stated (AreOfEach Of []) out out err err 0
+no_words stated Of out err =
+    record { outcomes = []; are = record { groups = []; each = tt; are = refl }; printed = nothing stated out err }
+
+-- one more word, in the same list of words, with the same status
+pub word_then : {stated : List (List ℕ × ℕ)} (Of : List ℕ → List Outcome → Type 0) (words all : List (List ℕ)) (word : List ℕ)
+    {o o' o'' e e' e'' : Option (List ℕ)} {a b s : ℕ} → words ++ word ∷ [] ≡ all → s ≡ max a b
+    → PrintedAs stated (AreOfEach Of words) o o' e e' a → PrintedAs stated (Of word) o' o'' e' e'' b
+    → PrintedAs stated (AreOfEach Of all) o o'' e e'' s
+word_then {stated} Of words all word {o} {o'} {o''} {e} {e'} {e''} {a} {b} {s} same is one two =
+    let P : List (List ℕ) → Type 0 = λ l. AreOfEach Of l (one.outcomes ++ two.outcomes) in
+    record {
+      outcomes = one.outcomes ++ two.outcomes;
+      are = subst P same (record {
+        groups = one.are.groups ++ two.outcomes ∷ [];
+        each = groups_append Of words word one.are.groups two.outcomes one.are.each two.are;
+        are = ap (λ l. l ++ two.outcomes) one.are.are ∙ sym (joined_append one.are.groups two.outcomes);
+      });
+      printed = same_status is (and_then one.printed two.printed);
+    }
+
+-- the files of `show`, which are several if there are more than one
+pub all_shown : (files : List (String Global)) (numbers : List (List ℕ)) (all : List (List ℕ × ℕ)) (several : Bool)
+    (o o' e e' : Option (List ℕ)) (s : ℕ) → several ≡ nat_lt 1 (length files) → stated numbers ≡ Some all
+    → PrintedAs all (AreOfEach (AreOfWord several) (map (λ word. string_bytes word) files)) o o' e e' s
+    → IsShown (map (λ word. string_bytes word) files) numbers o o' e e' s
+all_shown files numbers all several o o' e e' s are is one =
+    let text : String Global → List ℕ = λ word. string_bytes word in
+    let P : Bool → Type 0 = λ b. PrintedAs all (AreOfEach (AreOfWord b) (map text files)) o o' e e' s in
+    inl (record { all = all; stated = is; printed = subst P (are ∙ ap (nat_lt 1) (sym (length-map files text))) one })
 
 -- ---- a run
 
@@ -204,37 +252,12 @@ keeps_self : (a : Option (List ℕ)) → Keeps a a
 keeps_self None = tt
 keeps_self (Some xs) = refl
 
-pub not_stated : (numbers : List (List ℕ)) (wrong : Wrong) (o e e' : Option (List ℕ)) (s : ℕ)
-    → (s ≡ 2) × Appends e e' (wrong_text wrong) → IsMisstatedAs numbers wrong → IsShown numbers o o e e' s
-not_stated numbers wrong o e e' s said misstated = inr (record {
+pub not_stated : (files numbers : List (List ℕ)) (wrong : Wrong) (o e e' : Option (List ℕ)) (s : ℕ)
+    → (s ≡ 2) × Appends e e' (wrong_text wrong) → IsMisstatedAs numbers wrong → IsShown files numbers o o e e' s
+not_stated files numbers wrong o e e' s said misstated = inr (record {
   wrong = wrong;
   is_wrong = misstated;
   is = said.0;
   complained = said.1;
   silent = keeps_self o;
 })
-
-written_small : (file : List ℕ) (e e' : Option (List ℕ)) (s : ℕ) → IsWritten file e e' s → s ≤ 2
-written_small file e e' s (inl done) = let is = done.0 in omega (arith, is)
-written_small file e e' s (inr lost) = let is = lost.0 in omega (arith, is)
-
-made_small : (name file : List ℕ) (e e' : Option (List ℕ)) (s : ℕ) → MakesOrNot name file e e' s → s ≤ 2
-made_small name file e e' s (inl (inl made)) = written_small file made.between e' s made.wrote
-made_small name file e e' s (inl (inr none)) = let is = none.is in omega (arith, is)
-made_small name file e e' s (inr lost) = let is = lost.is in omega (arith, is)
-
-done_small : (o o' e e' : Option (List ℕ)) (s : ℕ) (command : Command) → IsDone command o o' e e' s → s ≤ 2
-done_small o o' e e' s Help done = let is = done.1 in omega (arith, is)
-done_small o o' e e' s Version done = let is = done.1 in omega (arith, is)
-done_small o o' e e' s (Show files numbers) (inl all) = printed_small all.printed.1
-done_small o o' e e' s (Show files numbers) (inr wrong) = let is = wrong.is in omega (arith, is)
-done_small o o' e e' s (Image file base) (inl tables) = let is = tables.is in omega (arith, is)
-done_small o o' e e' s (Image file base) (inr (inl none)) = let is = none.is in omega (arith, is)
-done_small o o' e e' s (Image file base) (inr (inr lost)) = let is = lost.is in omega (arith, is)
-done_small o o' e e' s (Template signature) done = let is = done.1 in omega (arith, is)
-done_small o o' e e' s (Make text file) done = made_small text.now file.now e e' s done.0
-
--- a run's status is at most 2
-pub ended_small : (words : List (List ℕ)) (o o' e e' : Option (List ℕ)) (s : ℕ) → Ended words o o' e e' s → s ≤ 2
-ended_small words o o' e e' s (inl done) = done_small o o' e e' s done.command done.done
-ended_small words o o' e e' s (inr wrong) = let is = wrong.is in omega (arith, is)

@@ -6,32 +6,33 @@ use Rattle.acpi_layout.specs.Found.{IsImage}
 use Rattle.acpi_layout.specs.declared.located.Located.{Located}
 
 -- none is before this offset
-abbrev pub NoneBefore : List ℕ → ℕ → Type 0
-NoneBefore bytes at = (k : ℕ) → k < at → ¬ IsPointerAt bytes k
+abbrev pub NoneBefore : ℕ → List ℕ → ℕ → Type 0
+NoneBefore size bytes at = (k : ℕ) → k < at → ¬ IsPointerAt size bytes k
 
-pub none_at_first : (bytes : List ℕ) → NoneBefore bytes 0
-none_at_first bytes k lt is = absurd (omega (arith, lt))
+pub none_at_first : (size : ℕ) (bytes : List ℕ) → NoneBefore size bytes 0
+none_at_first size bytes k lt is = absurd (omega (arith, lt))
 
 -- none is before the next multiple of 16
-pub none_before_next : (bytes : List ℕ) (at : ℕ) → at % 16 ≡ 0 → NoneBefore bytes at → ¬ IsPointerAt bytes at → NoneBefore bytes (at + 16)
-none_before_next bytes at aligned before not k lt is = elim (cases_lt k at) [
+pub none_before_next : (size : ℕ) (bytes : List ℕ) (at : ℕ) → at % 16 ≡ 0 → NoneBefore size bytes at → ¬ IsPointerAt size bytes at
+    → NoneBefore size bytes (at + 16)
+none_before_next size bytes at aligned before not k lt is = elim (cases_lt k at) [
   | inl less ↦ before k less is
   | inr more ↦
       let same : k ≡ at = (let k_aligned = is.aligned in grind (arith, aligned, k_aligned, lt, more)) in
-      let P : ℕ → Type 0 = λ n. IsPointerAt bytes n in
+      let P : ℕ → Type 0 = λ n. IsPointerAt size bytes n in
       not (subst P same is)
 ]
 
--- none is where 36 bytes aren't left
-pub none_at_end : (bytes : List ℕ) (at : ℕ) → NoneBefore bytes at → length bytes < at + 36 → HasNoPointer bytes
-none_at_end bytes at before short k is = elim (cases_lt k at) [
+-- none is where too few bytes are left
+pub none_at_end : (size : ℕ) (bytes : List ℕ) (at : ℕ) → NoneBefore size bytes at → length bytes < at + size → HasNoPointer size bytes
+none_at_end size bytes at before short k is = elim (cases_lt k at) [
   | inl less ↦ before k less is
   | inr more ↦ let whole = is.whole in absurd (omega (arith, short, more, whole))
 ]
 
 -- there is one first pointer
-pub one_first : (bytes : List ℕ) (a b : ℕ) → IsFirstPointer bytes a → IsFirstPointer bytes b → a ≡ b
-one_first bytes a b one two = elim (cases_lt a b) [
+pub one_first : (size : ℕ) (bytes : List ℕ) (a b : ℕ) → IsFirstPointer size bytes a → IsFirstPointer size bytes b → a ≡ b
+one_first size bytes a b one two = elim (cases_lt a b) [
   | inl less ↦ absurd (two.first a less one.is)
   | inr more ↦ elim (cases_lt b a) [
     | inl less ↦ absurd (one.first b less two.is)
@@ -40,10 +41,10 @@ one_first bytes a b one two = elim (cases_lt a b) [
 ]
 
 -- where the tables from the first pointer on are no image, there is none
-pub none_found : (base : ℕ) (bytes : List ℕ) (at : ℕ) → IsFirstPointer bytes at
+pub none_found : (base : ℕ) (bytes : List ℕ) (at : ℕ) → IsFirstPointer 36 bytes at
     → ((tables : List Located) → base + at < 2 ^ 64 → ¬ IsImage bytes base (base + at) tables)
     → (tables : List Located) → ¬ IsFoundImage base bytes tables
 none_found base bytes at first none tables found =
     let P : ℕ → Type 0 = λ n. (base + n < 2 ^ 64) × IsImage bytes base (base + n) tables in
-    let here = subst P (one_first bytes found.at at found.first first) (found.fits, found.image) in
+    let here = subst P (one_first 36 bytes found.at at found.first first) (found.fits, found.image) in
     none tables here.0 here.1

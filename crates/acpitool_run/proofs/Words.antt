@@ -1,5 +1,5 @@
 -- The first word, and those after it.
-use Rattle.std.proofs.Common.{◌≡◌, ◌≤◌, ◌-◌, List, [], ◌∷◌, length, map, take, drop, sym, ap, ◌∙◌, arith, get_or}
+use Rattle.std.proofs.Common.{◌≡◌, ◌≢◌, ℕ, ◌≤◌, ◌-◌, List, [], ◌∷◌, length, map, take, drop, sym, ap, ◌∙◌, arith, get_or}
 use Rattle.std.proofs.lemmas.List.{take_all}
 
 -- where the first word has a text
@@ -12,3 +12,16 @@ pub front_of_all : {A B : Type 0} (f : A → B) (xs : List A) (x : A) (t : B) �
     → map f xs ≡ t ∷ map f (take (length xs - 1) (drop 1 xs))
 front_of_all f [] x t has is some = absurd (omega (arith, some))
 front_of_all f (y ∷ ys) x t has is some = ap (λ z. z ∷ map f ys) (ap f (sym is) ∙ has) ∙ ap (λ zs. t ∷ map f zs) (sym (take_all (length (y ∷ ys) - 1) ys (omega arith)))
+
+-- the third word, which has a text
+pub third_word : {A B : Type 0} (f : A → B) (xs : List A) (x : A) (t : B) → t ≡ f x → x ≡ get_or xs 2 x → 3 ≤ length xs
+    → (first : B) × (second : B) × (others : List B) × (map f xs ≡ first ∷ second ∷ t ∷ others)
+third_word f [] x t has is some = absurd (omega (arith, some))
+third_word f (a ∷ []) x t has is some = absurd (omega (arith, some))
+third_word f (a ∷ b ∷ []) x t has is some = absurd (omega (arith, some))
+third_word f (a ∷ b ∷ y ∷ ys) x t has is some =
+    (f a, f b, map f ys, ap (λ z. f a ∷ f b ∷ z ∷ map f ys) (ap f (sym is) ∙ sym has))
+
+-- words that differ in their third byte
+pub apart : (v w : List ℕ) → v ≡ w → get_or v 2 0 ≢ get_or w 2 0 → ⊥
+apart v w is other = other (ap (λ l. get_or l 2 0) is)

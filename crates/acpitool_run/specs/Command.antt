@@ -9,6 +9,8 @@ use Rattle.acpitool_run.specs.declared.command.Command.{Command}
 use Rattle.acpitool_run.specs.declared.command.Command.TheVariants.{Help, Version, Show, Image, Make, Template}
 use Rattle.acpitool_run.specs.declared.command.Misstated.{Misstated}
 use Rattle.acpitool_run.specs.declared.command.Misstated.TheVariants as misstated
+use Rattle.acpitool_run.specs.declared.command.Verb.{Verb}
+use Rattle.acpitool_run.specs.declared.command.Verb.TheVariants as verbs
 use Rattle.acpitool_run.specs.declared.command.Wrong.{Wrong}
 use Rattle.acpitool_run.specs.declared.command.Wrong.TheVariants.{NoCommand, Unknown, NoFile, NoImage, NoText, NoTable, Base, Number, Twice}
 use Rattle.acpitool_run.specs.declared.command.Wrong.TheVariants.{NoSignature, Signature}
@@ -21,17 +23,23 @@ abbrev pub first_option : List (List ℕ) → Option (List ℕ)
 first_option [] = None
 first_option (word ∷ words) = if is_option word then Some word else first_option words
 
--- the words after which there are others
-abbrev pub TakesWords : List ℕ → Type 0
-TakesWords word = (word ≡ codes "show") ⊎ (word ≡ codes "image") ⊎ (word ≡ codes "make") ⊎ (word ≡ codes "template")
+-- the word of a command
+abbrev pub word_of : Verb → List ℕ
+word_of verbs.Show = codes "show"
+word_of verbs.Image = codes "image"
+word_of verbs.Make = codes "make"
+word_of verbs.Template = codes "template"
 
--- words after one of these that ask for how the program is used
+-- words after a command that ask for how the program is used
 pub record AsksForHelp (words : List (List ℕ)) : Type 0 where
-  pub word : List ℕ
-  pub files : List (List ℕ)
-  pub is : words ≡ word ∷ files
-  pub takes : TakesWords word
-  pub asks : first_option files ≡ Some (codes "--help")
+  pub verb : Verb
+  pub more : List (List ℕ)
+  pub is : words ≡ word_of verb ∷ more
+  pub asks : first_option more ≡ Some (codes "--help")
+
+-- the words are a command and more, of which none is an option
+abbrev pub AreAfter : Verb → List (List ℕ) → List (List ℕ) → Type 0
+AreAfter verb words more = (words ≡ word_of verb ∷ more) × (first_option more ≡ None)
 
 -- ---- numbers of arguments
 
@@ -75,11 +83,10 @@ pub record IsAddress (word : List ℕ) (address : ℕ) : Type 0 where
   pub is : address ≡ digits_value 16 (address_digits word)
   pub fits : address < 2 ^ 64
 
--- `image FILE` and `image FILE BASE`; without a word for it the base is 0
-abbrev pub AsksForImage : List (List ℕ) → List ℕ → ℕ → Type 0
-AsksForImage words file base =
-    ((words ≡ codes "image" ∷ file ∷ []) × (base ≡ 0))
-    ⊎ ((word : List ℕ) × (words ≡ codes "image" ∷ file ∷ word ∷ []) × IsAddress word base)
+-- FILE and FILE BASE after `image`; without a word for it the base is 0
+abbrev pub AreImage : List (List ℕ) → List ℕ → ℕ → Type 0
+AreImage more file base =
+    ((more ≡ file ∷ []) × (base ≡ 0)) ⊎ ((word : List ℕ) × (more ≡ file ∷ word ∷ []) × IsAddress word base)
 
 -- the words ask for a command
 abbrev pub Asks : List (List ℕ) → Command → Type 0
@@ -87,14 +94,15 @@ Asks words Help = ((more : List (List ℕ)) × (words ≡ codes "--help" ∷ mor
 Asks words Version = (more : List (List ℕ)) × (words ≡ codes "--version" ∷ more)
 Asks words (Show files numbers) =
     (more : List (List ℕ))
-    × (words ≡ codes "show" ∷ more)
+    × AreAfter verbs.Show words more
     × (more ≡ map (λ word. string_bytes word) files.now ++ map (λ word. string_bytes word) numbers.now)
-    × (first_option more ≡ None)
     × (length files.now ≡ files_in more)
     × (1 ≤ files_in more)
-Asks words (Image file base) = AsksForImage words file.now base
-Asks words (Template signature) = (words ≡ codes "template" ∷ signature.now ∷ []) × (length signature.now ≡ 4)
-Asks words (Make text file) = words ≡ codes "make" ∷ text.now ∷ file.now ∷ []
+Asks words (Image file base) = (more : List (List ℕ)) × AreAfter verbs.Image words more × AreImage more file.now base
+Asks words (Template signature) =
+    (more : List (List ℕ)) × AreAfter verbs.Template words more × (more ≡ signature.now ∷ []) × (length signature.now ≡ 4)
+Asks words (Make text file) =
+    (more : List (List ℕ)) × AreAfter verbs.Make words more × (more ≡ text.now ∷ file.now ∷ [])
 
 -- the first word is no command
 pub record IsNoCommand (words : List (List ℕ)) (word : List ℕ) : Type 0 where
@@ -109,32 +117,35 @@ pub record IsNoCommand (words : List (List ℕ)) (word : List ℕ) : Type 0 wher
 
 -- a word after a command is an option that there isn't
 pub record IsNoOption (words : List (List ℕ)) (word : List ℕ) : Type 0 where
-  pub command : List ℕ
-  pub files : List (List ℕ)
-  pub is : words ≡ command ∷ files
-  pub takes : TakesWords command
-  pub first : first_option files ≡ Some word
+  pub verb : Verb
+  pub more : List (List ℕ)
+  pub is : words ≡ word_of verb ∷ more
+  pub first : first_option more ≡ Some word
   pub no_help : word ≢ codes "--help"
 
 -- a word after `template SIGNATURE`
 pub record IsAfterSignature (words : List (List ℕ)) (word : List ℕ) : Type 0 where
-  pub signature : List ℕ
   pub more : List (List ℕ)
-  pub is : words ≡ codes "template" ∷ signature ∷ word ∷ more
+  pub after : AreAfter verbs.Template words more
+  pub signature : List ℕ
+  pub others : List (List ℕ)
+  pub is : more ≡ signature ∷ word ∷ others
 
 -- a word after `image FILE BASE` or `make TEXT FILE`
 pub record IsExtra (words : List (List ℕ)) (word : List ℕ) : Type 0 where
-  pub command : List ℕ
+  pub more : List (List ℕ)
+  pub after : AreAfter verbs.Image words more ⊎ AreAfter verbs.Make words more
   pub first : List ℕ
   pub second : List ℕ
-  pub more : List (List ℕ)
-  pub is : words ≡ command ∷ first ∷ second ∷ word ∷ more
-  pub takes : (command ≡ codes "image") ⊎ (command ≡ codes "make")
+  pub others : List (List ℕ)
+  pub is : more ≡ first ∷ second ∷ word ∷ others
 
 -- the word in the place of BASE isn't an address
 pub record IsNoBase (words : List (List ℕ)) (word : List ℕ) : Type 0 where
+  pub more : List (List ℕ)
+  pub after : AreAfter verbs.Image words more
   pub file : List ℕ
-  pub is : words ≡ codes "image" ∷ file ∷ word ∷ []
+  pub is : more ≡ file ∷ word ∷ []
   pub not : (base : ℕ) → ¬ IsAddress word base
 
 -- why words ask for nothing
@@ -142,13 +153,13 @@ abbrev pub IsWrong : List (List ℕ) → Wrong → Type 0
 IsWrong words NoCommand = words ≡ []
 IsWrong words (Unknown word) =
     IsNoCommand words word.now ⊎ IsNoOption words word.now ⊎ IsExtra words word.now ⊎ IsAfterSignature words word.now
-IsWrong words NoFile =
-    (more : List (List ℕ)) × (words ≡ codes "show" ∷ more) × (first_option more ≡ None) × (files_in more ≡ 0)
+IsWrong words NoFile = (more : List (List ℕ)) × AreAfter verbs.Show words more × (files_in more ≡ 0)
 IsWrong words NoImage = words ≡ codes "image" ∷ []
 IsWrong words NoSignature = words ≡ codes "template" ∷ []
-IsWrong words (Signature word) = (words ≡ codes "template" ∷ word.now ∷ []) × (length word.now ≢ 4)
+IsWrong words (Signature word) =
+    (more : List (List ℕ)) × AreAfter verbs.Template words more × (more ≡ word.now ∷ []) × (length word.now ≢ 4)
 IsWrong words NoText = words ≡ codes "make" ∷ []
-IsWrong words NoTable = (more : List (List ℕ)) × (words ≡ codes "make" ∷ more) × (length more ≡ 1)
+IsWrong words NoTable = (more : List (List ℕ)) × AreAfter verbs.Make words more × (length more ≡ 1)
 IsWrong words (Base word) = IsNoBase words word.now
 IsWrong words (Number word) = ⊥
 IsWrong words Twice = ⊥

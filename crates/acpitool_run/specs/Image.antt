@@ -11,20 +11,21 @@ use Rattle.acpitool_run.specs.Check.{IsPointer}
 
 -- ---- the pointer
 
--- A Root System Description Pointer of 36 bytes is at this offset, a multiple of 16 (ACPI 6.5, 5.2.5.1 and 5.2.5.3).
-pub record IsPointerAt (bytes : List ℕ) (at : ℕ) : Type 0 where
+-- A Root System Description Pointer of this size is at this offset, a multiple of 16 (ACPI 6.5, 5.2.5.1 and 5.2.5.3). With 36
+-- bytes it has the address of an XSDT; with 20, which are those of revision 0, only that of an RSDT.
+pub record IsPointerAt (size : ℕ) (bytes : List ℕ) (at : ℕ) : Type 0 where
   pub aligned : at % 16 ≡ 0
-  pub whole : at + 36 ≤ length bytes
-  pub signature : IsTrue (starts_with nat_eq (take 36 (drop at bytes)) (codes "RSD PTR "))
-  pub pointer : IsPointer (take 36 (drop at bytes))
+  pub whole : at + size ≤ length bytes
+  pub signature : IsTrue (starts_with nat_eq (take size (drop at bytes)) (codes "RSD PTR "))
+  pub pointer : IsPointer (take size (drop at bytes))
 
--- the first pointer is at this offset
-pub record IsFirstPointer (bytes : List ℕ) (at : ℕ) : Type 0 where
-  pub is : IsPointerAt bytes at
-  pub first : (k : ℕ) → k < at → ¬ IsPointerAt bytes k
+-- the first pointer of this size is at this offset
+pub record IsFirstPointer (size : ℕ) (bytes : List ℕ) (at : ℕ) : Type 0 where
+  pub is : IsPointerAt size bytes at
+  pub first : (k : ℕ) → k < at → ¬ IsPointerAt size bytes k
 
-abbrev pub HasNoPointer : List ℕ → Type 0
-HasNoPointer bytes = (k : ℕ) → ¬ IsPointerAt bytes k
+abbrev pub HasNoPointer : ℕ → List ℕ → Type 0
+HasNoPointer size bytes = (k : ℕ) → ¬ IsPointerAt size bytes k
 
 -- ---- lines
 
@@ -49,6 +50,6 @@ table_lines base bytes (table ∷ tables) = table_line base bytes table ++ table
 -- The bytes are an image from this base on, whose first pointer leads to these tables.
 pub record IsFoundImage (base : ℕ) (bytes : List ℕ) (tables : List Located) : Type 0 where
   pub at : ℕ
-  pub first : IsFirstPointer bytes at
+  pub first : IsFirstPointer 36 bytes at
   pub fits : base + at < 2 ^ 64
   pub image : IsImage bytes base (base + at) tables

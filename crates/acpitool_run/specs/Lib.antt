@@ -7,3 +7,4 @@ pub mod Listing
 pub mod Making
 pub mod Outcome
 pub mod Program
+pub mod Laws

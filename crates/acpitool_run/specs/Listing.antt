@@ -1,35 +1,40 @@
 -- What is printed of an image.
-use Rattle.std.specs.Prelude.{◌≡◌, ◌≢◌, ◌⊎◌, ℕ, List, [], ◌∷◌, ◌++◌, Option, codes}
+use Rattle.std.specs.Prelude.{◌≡◌, ◌≢◌, ◌⊎◌, ℕ, ◌+◌, List, [], ◌∷◌, ◌++◌, Option, codes, slice_index}
 use Rattle.std.specs.Io.KnownBytes.{Keeps, Appends}
 use Rattle.acpi_layout.specs.declared.fault.ImageFault.TheVariants.{Memory}
 use Rattle.acpi_layout.specs.declared.located.Located.{Located}
-use Rattle.acpitool_run.specs.Image.{HasNoPointer, IsFoundImage, table_lines}
+use Rattle.acpitool_run.specs.Image.{HasNoPointer, IsFirstPointer, IsFoundImage, table_lines}
 use Rattle.acpitool_run.specs.declared.image.NoImage.{NoImage}
-use Rattle.acpitool_run.specs.declared.image.NoImage.TheVariants.{NoPointer, Wrong}
+use Rattle.acpitool_run.specs.declared.image.NoImage.TheVariants.{NoPointer, Old, Wrong}
 
 -- why bytes aren't an image that begins at a base, unless memory ran out
 abbrev pub IsNoImage : ℕ → List ℕ → NoImage → Type 0
-IsNoImage base bytes NoPointer = HasNoPointer bytes
+IsNoImage base bytes NoPointer = HasNoPointer 36 bytes × HasNoPointer 20 bytes
+IsNoImage base bytes (Old at revision) =
+    HasNoPointer 36 bytes × IsFirstPointer 20 bytes at × (revision ≡ slice_index bytes (at + 15))
 IsNoImage base bytes (Wrong fault) = fault ≢ Memory → (tables : List Located) → ¬ IsFoundImage base bytes tables
 
--- the bytes of the file are an image, and a line for each of its tables was printed
-pub record ListedTables (base : ℕ) (out out' err err' : Option (List ℕ)) (status : ℕ) : Type 0 where
-  pub bytes : List ℕ
+-- the bytes are an image, and a line for each of its tables was printed
+pub record ListedTables (base : ℕ) (bytes : List ℕ) (out out' err err' : Option (List ℕ)) (status : ℕ) : Type 0 where
   pub tables : List Located
   pub found : IsFoundImage base bytes tables
   pub wrote : Appends out out' (table_lines base bytes tables)
   pub silent : Keeps err err'
   pub is : status ≡ 0
 
--- the bytes of the file aren't an image, and a line says why
-pub record NotListed (file : List ℕ) (base : ℕ) (out out' err err' : Option (List ℕ)) (status : ℕ) : Type 0 where
-  pub bytes : List ℕ
+-- the bytes aren't an image, and a line says why
+pub record NotListed (file : List ℕ) (base : ℕ) (bytes : List ℕ) (out out' err err' : Option (List ℕ)) (status : ℕ) : Type 0 where
   pub fault : NoImage
   pub cause : IsNoImage base bytes fault
   pub why : List ℕ
   pub complained : Appends err err' (file ++ codes ": " ++ why ++ 10 ∷ [])
   pub silent : Keeps out out'
   pub is : status ≡ 1
+
+-- what comes of the bytes of a file
+abbrev pub ListedBytes : List ℕ → ℕ → List ℕ → Option (List ℕ) → Option (List ℕ) → Option (List ℕ) → Option (List ℕ) → ℕ → Type 0
+ListedBytes file base bytes out out' err err' status =
+    ListedTables base bytes out out' err err' status ⊎ NotListed file base bytes out out' err err' status
 
 -- the file can't be read, and a line says why
 pub record NotRead (file : List ℕ) (out out' err err' : Option (List ℕ)) (status : ℕ) : Type 0 where
@@ -38,8 +43,7 @@ pub record NotRead (file : List ℕ) (out out' err err' : Option (List ℕ)) (st
   pub silent : Keeps out out'
   pub is : status ≡ 2
 
+-- what comes of a file: the system says which bytes it has
 abbrev pub Listed : List ℕ → ℕ → Option (List ℕ) → Option (List ℕ) → Option (List ℕ) → Option (List ℕ) → ℕ → Type 0
 Listed file base out out' err err' status =
-    ListedTables base out out' err err' status
-    ⊎ NotListed file base out out' err err' status
-    ⊎ NotRead file out out' err err' status
+    ((bytes : List ℕ) × ListedBytes file base bytes out out' err err' status) ⊎ NotRead file out out' err err' status

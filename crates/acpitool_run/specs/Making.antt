@@ -1,5 +1,5 @@
 -- What is printed when a text is made into a table.
-use Rattle.std.specs.Prelude.{◌≡◌, ◌⊎◌, ℕ, List, [], ◌∷◌, ◌++◌, Option, Some, None, Ok, Err, codes}
+use Rattle.std.specs.Prelude.{◌≡◌, ◌≢◌, ◌⊎◌, ℕ, List, [], ◌∷◌, ◌++◌, Option, Some, None, Ok, Err, codes}
 use Rattle.std.specs.Fmt.{decimal}
 use Rattle.std.specs.Io.KnownBytes.{Keeps, Appends}
 use Rattle.acpi_forms.specs.Makes.{IsMade}
@@ -7,6 +7,7 @@ use Rattle.acpi_make.specs.declared.fault.Fault.{Fault}
 use Rattle.acpi_make.specs.declared.fault.MakeError.TheVariants as errors
 use Rattle.acpi_make.specs.declared.make.Made.{Made}
 use Rattle.acpi_make.specs.declared.own.Own.{Own}
+use Rattle.acpitool_run.specs.Listing.{NotRead}
 
 -- a number that the text states otherwise, and the number that would be right
 abbrev pub note : List ℕ → Own → List ℕ
@@ -40,38 +41,43 @@ abbrev pub MadeOrNot : List ℕ → List ℕ → Option (List ℕ) → Option (L
 MadeOrNot name text (Some bytes) err err' = MadeText name text bytes err err'
 MadeOrNot name text None err err' = NotMade name text err err'
 
--- the file was written, or a line says why it can't be
-abbrev pub IsWritten : List ℕ → Option (List ℕ) → Option (List ℕ) → ℕ → Type 0
-IsWritten file err err' status =
-    ((status ≡ 0) × Keeps err err')
-    ⊎ ((status ≡ 1) × ((why : List ℕ) × Appends err err' (file ++ codes ": " ++ why ++ 10 ∷ [])))
+-- a file was written
+pub record Saved (err err' : Option (List ℕ)) (status : ℕ) : Type 0 where
+  pub silent : Keeps err err'
+  pub is : status ≡ 0
 
--- the text is made into a table, and this is written to the file
-pub record MadeFile (name file : List ℕ) (err err' : Option (List ℕ)) (status : ℕ) : Type 0 where
-  pub text : List ℕ
+-- a file can't be written, and a line says why
+pub record NotSaved (file : List ℕ) (err err' : Option (List ℕ)) (status : ℕ) : Type 0 where
+  pub why : List ℕ
+  pub complained : Appends err err' (file ++ codes ": " ++ why ++ 10 ∷ [])
+  pub is : status ≡ 1
+
+-- Bytes go to standard output if the file is `-`, and else to the file, of which no contract can say what it has.
+abbrev pub IsWritten : List ℕ → List ℕ → Option (List ℕ) → Option (List ℕ) → Option (List ℕ) → Option (List ℕ) → ℕ → Type 0
+IsWritten bytes file out out' err err' status =
+    ((file ≡ codes "-") × Appends out out' bytes × Saved err err' status)
+    ⊎ ((file ≢ codes "-") × Keeps out out' × (Saved err err' status ⊎ NotSaved file err err' status))
+
+-- the text is made into a table, and its bytes are written
+pub record MadeFile (name text file : List ℕ) (out out' err err' : Option (List ℕ)) (status : ℕ) : Type 0 where
   pub bytes : List ℕ
   pub between : Option (List ℕ)
   pub made : MadeText name text bytes err between
-  pub wrote : IsWritten file between err' status
+  pub wrote : IsWritten bytes file out out' between err' status
 
 -- the text isn't made into a table
-pub record NoTable (name : List ℕ) (err err' : Option (List ℕ)) (status : ℕ) : Type 0 where
-  pub text : List ℕ
+pub record NoTable (name text : List ℕ) (out out' err err' : Option (List ℕ)) (status : ℕ) : Type 0 where
   pub not : NotMade name text err err'
+  pub silent : Keeps out out'
   pub is : status ≡ 1
 
-abbrev pub MakesFile : List ℕ → List ℕ → Option (List ℕ) → Option (List ℕ) → ℕ → Type 0
-MakesFile name file err err' status = MadeFile name file err err' status ⊎ NoTable name err err' status
+-- what comes of a text
+abbrev pub MakesText : List ℕ → List ℕ → List ℕ
+    → Option (List ℕ) → Option (List ℕ) → Option (List ℕ) → Option (List ℕ) → ℕ → Type 0
+MakesText name text file out out' err err' status =
+    MadeFile name text file out out' err err' status ⊎ NoTable name text out out' err err' status
 
--- the text can't be read, and a line says why
-pub record NoText (name : List ℕ) (err err' : Option (List ℕ)) (status : ℕ) : Type 0 where
-  pub why : List ℕ
-  pub complained : Appends err err' (name ++ codes ": " ++ why ++ 10 ∷ [])
-  pub is : status ≡ 2
-
-abbrev pub MakesOrNot : List ℕ → List ℕ → Option (List ℕ) → Option (List ℕ) → ℕ → Type 0
-MakesOrNot name file err err' status = MakesFile name file err err' status ⊎ NoText name err err' status
-
--- what comes of `make TEXT FILE`, which prints nothing on standard output
+-- what comes of `make TEXT FILE`: the system says which text is in the file, or it can't be read and a line says why
 abbrev pub Makes : List ℕ → List ℕ → Option (List ℕ) → Option (List ℕ) → Option (List ℕ) → Option (List ℕ) → ℕ → Type 0
-Makes name file out out' err err' status = MakesOrNot name file err err' status × Keeps out out'
+Makes name file out out' err err' status =
+    ((text : List ℕ) × MakesText name text file out out' err err' status) ⊎ NotRead name out out' err err' status

@@ -1,5 +1,5 @@
 -- What a run prints.
-use Rattle.std.specs.Prelude.{◌≡◌, ◌⊎◌, ℕ, max, Bool, true, false, List, [], ◌∷◌, ◌++◌, Option, Ok, Err, codes}
+use Rattle.std.specs.Prelude.{◌≡◌, ◌≢◌, ◌⊎◌, ℕ, max, Bool, true, false, List, [], ◌∷◌, ◌++◌, Option, Ok, Err, codes}
 use Rattle.std.specs.Io.KnownBytes.{Appends}
 use Rattle.acpi_dump.specs.Dump.{is_dump, tables_of}
 use Rattle.acpi_dump.specs.declared.fault.DumpFault.{DumpFault}
@@ -10,51 +10,45 @@ use Rattle.acpitool_run.specs.Terms.{IsAfter}
 use Rattle.acpitool_run.specs.Text.{IsText, IsTextFault}
 
 -- What comes of a table or of a file that has a name:
--- - shown: the text of its bytes, with lines before it and after it;
+-- - shown: the text of its bytes, after its name if it is one of several, and before further lines;
 -- - refused: its bytes aren't what their signature says;
 -- - broken: it is a dump as text, with a line that can't be read;
 -- - unread: it can't be read, and the system says why.
 pub data Outcome : Type 0 where
-  shown : List ℕ → List ℕ → List ℕ → List ℕ → List ℕ → Outcome
+  shown : Bool → List ℕ → List ℕ → List ℕ → List ℕ → Outcome
   refused : List ℕ → List ℕ → Fault → Outcome
   broken : List ℕ → List ℕ → List ℕ → Outcome
   unread : List ℕ → List ℕ → Outcome
 
-abbrev pub name_of : Outcome → List ℕ
-name_of (shown name before bytes text after) = name
-name_of (refused name bytes fault) = name
-name_of (broken name dump why) = name
-name_of (unread name why) = name
+-- the lines before a text: its name as a comment, if it is one of several
+abbrev pub heading : Bool → List ℕ → List ℕ
+heading true name = comment name
+heading false name = []
 
 -- what goes to standard output
 abbrev pub output : Outcome → List ℕ
-output (shown name before bytes text after) = before ++ text ++ after
+output (shown several name bytes text after) = heading several name ++ text ++ after
 output (refused name bytes fault) = []
 output (broken name dump why) = []
 output (unread name why) = []
 
 -- a line on standard error
 abbrev pub complaint : Outcome → List ℕ
-complaint (shown name before bytes text after) = []
+complaint (shown several name bytes text after) = []
 complaint (refused name bytes fault) = name ++ codes ": " ++ line_of fault ++ 10 ∷ []
 complaint (broken name dump why) = name ++ codes ": " ++ why ++ 10 ∷ []
 complaint (unread name why) = name ++ codes ": " ++ why ++ 10 ∷ []
 
 abbrev pub status : Outcome → ℕ
-status (shown name before bytes text after) = 0
+status (shown several name bytes text after) = 0
 status (refused name bytes fault) = 1
 status (broken name dump why) = 1
 status (unread name why) = 2
 
--- the lines before a text: its name as a comment, or nothing
-abbrev pub IsHeading : List ℕ → List ℕ → Type 0
-IsHeading name before = (before ≡ []) ⊎ (before ≡ comment name)
-
 -- The text shows the bytes, and a definition block's terms follow, in which names take the stated numbers of arguments. The fault
 -- is one of the bytes, and a broken dump has no tables.
 abbrev pub IsTrueOutcome : List (List ℕ × ℕ) → Outcome → Type 0
-IsTrueOutcome stated (shown name before bytes text after) =
-    IsHeading name before × IsText bytes text × IsAfter stated bytes after
+IsTrueOutcome stated (shown several name bytes text after) = IsText bytes text × IsAfter stated bytes after
 IsTrueOutcome stated (refused name bytes fault) = IsTextFault bytes fault
 IsTrueOutcome stated (broken name dump why) = (fault : DumpFault) × (tables_of dump ≡ Err fault)
 IsTrueOutcome stated (unread name why) = Unit {0}
@@ -90,7 +84,7 @@ pub record Printed (stated : List (List ℕ × ℕ)) (outcomes : List Outcome)
 
 -- the outcome is that of these bytes
 abbrev pub HasBytes : List ℕ → Outcome → Type 0
-HasBytes bytes (shown name before its text after) = its ≡ bytes
+HasBytes bytes (shown several name its text after) = its ≡ bytes
 HasBytes bytes (refused name its fault) = its ≡ bytes
 HasBytes bytes (broken name dump why) = ⊥
 HasBytes bytes (unread name why) = ⊥
@@ -101,44 +95,77 @@ HaveBytes [] [] = Unit {0}
 HaveBytes (table ∷ tables) (outcome ∷ more) = HasBytes table outcome × HaveBytes tables more
 HaveBytes _ _ = ⊥
 
-abbrev pub AreNamed : List ℕ → List Outcome → Type 0
-AreNamed name [] = Unit {0}
-AreNamed name (outcome ∷ more) = (name_of outcome ≡ name) × AreNamed name more
+-- the outcome has this name, and is that of one of several or not
+abbrev pub IsNamed : Bool → List ℕ → Outcome → Type 0
+IsNamed several name (shown headed its bytes text after) = (headed ≡ several) × (its ≡ name)
+IsNamed several name (refused its bytes fault) = its ≡ name
+IsNamed several name (broken its dump why) = its ≡ name
+IsNamed several name (unread its why) = its ≡ name
 
--- a dump has outcomes of its tables, or one that says what is wrong with it
-abbrev pub IsOfDump : List ℕ → List Outcome → Type 0
-IsOfDump dump outcomes =
-    ((tables : List (List ℕ)) × (tables_of dump ≡ Ok tables) × HaveBytes tables outcomes)
-    ⊎ ((name : List ℕ) × (why : List ℕ) × (outcomes ≡ broken name dump why ∷ []))
+abbrev pub AreNamed : Bool → List ℕ → List Outcome → Type 0
+AreNamed several name [] = Unit {0}
+AreNamed several name (outcome ∷ more) = IsNamed several name outcome × AreNamed several name more
+
+-- the outcomes of tables with a name
+pub record AreOfTables (several : Bool) (name : List ℕ) (tables : List (List ℕ)) (outcomes : List Outcome) : Type 0 where
+  pub named : AreNamed several name outcomes
+  pub have : HaveBytes tables outcomes
+
+-- a dump has outcomes of its tables, each of which is one of several, or one that says what is wrong with it
+abbrev pub AreOfDump : List ℕ → List ℕ → List Outcome → Type 0
+AreOfDump name dump outcomes =
+    ((tables : List (List ℕ)) × (tables_of dump ≡ Ok tables) × AreOfTables true name tables outcomes)
+    ⊎ ((why : List ℕ) × (outcomes ≡ broken name dump why ∷ []))
 
 -- other bytes have one outcome
-abbrev pub IsOfFile : Bool → List ℕ → List Outcome → Type 0
-IsOfFile true bytes outcomes = IsOfDump bytes outcomes
-IsOfFile false bytes outcomes = HaveBytes (bytes ∷ []) outcomes
+abbrev pub AreOfBytesBy : Bool → Bool → List ℕ → List ℕ → List Outcome → Type 0
+AreOfBytesBy true several name bytes outcomes = AreOfDump name bytes outcomes
+AreOfBytesBy false several name bytes outcomes = AreOfTables several name (bytes ∷ []) outcomes
+
+-- the outcomes of a file's bytes
+abbrev pub AreOfBytes : Bool → List ℕ → List ℕ → List Outcome → Type 0
+AreOfBytes several name bytes outcomes = AreOfBytesBy (is_dump bytes) several name bytes outcomes
+
+-- ---- of which files
+
+-- the outcome of a file or a folder that can't be read
+abbrev pub IsUnread : List ℕ → List Outcome → Type 0
+IsUnread name outcomes = (why : List ℕ) × (outcomes ≡ unread name why ∷ [])
+
+-- the outcomes of a file: the system says which bytes it has
+abbrev pub AreOfFile : Bool → List ℕ → List Outcome → Type 0
+AreOfFile several name outcomes = ((bytes : List ℕ) × AreOfBytes several name bytes outcomes) ⊎ IsUnread name outcomes
+
+-- each word has a group of outcomes, in order
+abbrev pub AreGroups : (List ℕ → List Outcome → Type 0) → List (List ℕ) → List (List Outcome) → Type 0
+AreGroups Of [] [] = Unit {0}
+AreGroups Of (word ∷ words) (group ∷ groups) = Of word group × AreGroups Of words groups
+AreGroups Of _ _ = ⊥
+
+abbrev pub joined : List (List Outcome) → List Outcome
+joined [] = []
+joined (group ∷ groups) = group ++ joined groups
+
+-- the outcomes are those of each word, one after another
+pub record AreOfEach (Of : List ℕ → List Outcome → Type 0) (words : List (List ℕ)) (outcomes : List Outcome) : Type 0 where
+  pub groups : List (List Outcome)
+  pub each : AreGroups Of words groups
+  pub are : outcomes ≡ joined groups
+
+-- the outcomes of a folder: the system says which files it has
+abbrev pub AreOfFolder : List ℕ → List Outcome → Type 0
+AreOfFolder folder outcomes =
+    ((paths : List (List ℕ)) × AreOfEach (AreOfFile true) paths outcomes) ⊎ IsUnread folder outcomes
+
+-- the outcomes of a word: `-` is standard input, and any other word a file or a folder
+abbrev pub AreOfWord : Bool → List ℕ → List Outcome → Type 0
+AreOfWord several word outcomes = AreOfFile several word outcomes ⊎ ((word ≢ codes "-") × AreOfFolder word outcomes)
 
 -- ---- what calls print
 
--- some outcomes
-abbrev pub PrintedAny : List (List ℕ × ℕ) → Option (List ℕ) → Option (List ℕ) → Option (List ℕ) → Option (List ℕ) → ℕ → Type 0
-PrintedAny stated out out' err err' returned = (outcomes : List Outcome) × Printed stated outcomes out out' err err' returned
-
--- the outcomes of tables with a name
-pub record PrintedTables (stated : List (List ℕ × ℕ)) (name : List ℕ) (tables : List (List ℕ))
+-- outcomes that are these were printed
+pub record PrintedAs (stated : List (List ℕ × ℕ)) (Are : List Outcome → Type 0)
     (out out' err err' : Option (List ℕ)) (returned : ℕ) : Type 0 where
   pub outcomes : List Outcome
-  pub named : AreNamed name outcomes
-  pub have : HaveBytes tables outcomes
+  pub are : Are outcomes
   pub printed : Printed stated outcomes out out' err err' returned
-
--- the outcomes of a file's bytes
-pub record PrintedFile (stated : List (List ℕ × ℕ)) (name bytes : List ℕ)
-    (out out' err err' : Option (List ℕ)) (returned : ℕ) : Type 0 where
-  pub outcomes : List Outcome
-  pub named : AreNamed name outcomes
-  pub of : IsOfFile (is_dump bytes) bytes outcomes
-  pub printed : Printed stated outcomes out out' err err' returned
-
--- the outcome of a file that can't be read
-abbrev pub PrintedUnread : List ℕ → Option (List ℕ) → Option (List ℕ) → Option (List ℕ) → Option (List ℕ) → ℕ → Type 0
-PrintedUnread name out out' err err' returned =
-    (why : List ℕ) × ((stated : List (List ℕ × ℕ)) → Printed stated (unread name why ∷ []) out out' err err' returned)

@@ -1,12 +1,14 @@
 -- What a run of the program prints.
-use Rattle.std.specs.Prelude.{◌≡◌, ◌⊎◌, ℕ, List, ◌++◌, Option, Some, codes, map, string_bytes}
+use Rattle.std.specs.Prelude.{◌≡◌, ◌≢◌, ◌⊎◌, ℕ, nat_lt, List, ◌++◌, Option, Some, length, codes, map, string_bytes}
 use Rattle.std.specs.Io.KnownBytes.{Keeps, Appends}
+use Rattle.std.specs.declared.io.ErrorKind.{ErrorKind}
+use Rattle.std.specs.declared.io.ErrorKind.TheVariants.{BrokenPipe}
 use Rattle.acpi_forms.specs.Makes.{IsTemplateOf}
 use Rattle.acpiread_run.specs.Command.{stated}
 use Rattle.acpitool_run.specs.Command.{Asks, IsWrong, IsMisstated}
 use Rattle.acpitool_run.specs.Listing.{Listed}
 use Rattle.acpitool_run.specs.Making.{Makes}
-use Rattle.acpitool_run.specs.Outcome.{PrintedAny}
+use Rattle.acpitool_run.specs.Outcome.{AreOfEach, AreOfWord, PrintedAs}
 use Rattle.acpitool_run.specs.declared.command.Command.{Command}
 use Rattle.acpitool_run.specs.declared.command.Command.TheVariants.{Help, Version, Show, Image, Make, Template}
 use Rattle.acpitool_run.specs.declared.command.Misstated.TheVariants as misstated
@@ -14,7 +16,15 @@ use Rattle.acpitool_run.specs.declared.command.Wrong.{Wrong}
 use Rattle.acpitool_run.specs.declared.command.Wrong.TheVariants.{NoCommand, Unknown, NoFile, NoImage, NoText, NoTable, Base, Number, Twice}
 use Rattle.acpitool_run.specs.declared.command.Wrong.TheVariants.{NoSignature, Signature}
 
--- which word is wrong, and how the program is used
+-- ---- how the program is used
+
+abbrev pub usage : List ℕ
+usage = codes "usage: acpitool show FILE .. [NAME=N ..] | image FILE [BASE] | make TEXT FILE | template SIGNATURE | --help | --version\n"
+
+abbrev pub version : List ℕ
+version = codes "acpitool 0.1.0\n"
+
+-- which word is wrong
 abbrev pub wrong_line : Wrong → List ℕ
 wrong_line NoCommand = codes "acpitool: no command\n"
 wrong_line (Unknown word) = codes "acpitool: unknown word " ++ word.now ++ codes "\n"
@@ -29,15 +39,15 @@ wrong_line (Number word) = codes "acpitool: not NAME=N with N from 0 to 7: " ++ 
 wrong_line Twice = codes "acpitool: two numbers of arguments for one name\n"
 
 abbrev pub wrong_text : Wrong → List ℕ
-wrong_text wrong = wrong_line wrong ++ codes "usage: acpitool show FILE .. [NAME=N ..] | image FILE [BASE] | make TEXT FILE | template SIGNATURE | --help | --version\n"
+wrong_text wrong = wrong_line wrong ++ usage
 
 -- ---- show
 
--- words state these numbers of arguments, and each file has its outcome
-pub record AreShown (numbers : List (List ℕ)) (out out' err err' : Option (List ℕ)) (status : ℕ) : Type 0 where
+-- words state these numbers of arguments, and each file has its outcomes, which are those of several if there are more files
+pub record AreShown (files numbers : List (List ℕ)) (out out' err err' : Option (List ℕ)) (status : ℕ) : Type 0 where
   pub all : List (List ℕ × ℕ)
   pub stated : stated numbers ≡ Some all
-  pub printed : PrintedAny all out out' err err' status
+  pub printed : PrintedAs all (AreOfEach (AreOfWord (nat_lt 1 (length files))) files) out out' err err' status
 
 -- which line says that words state no numbers
 abbrev pub IsMisstatedAs : List (List ℕ) → Wrong → Type 0
@@ -53,17 +63,19 @@ pub record NotStated (numbers : List (List ℕ)) (out out' err err' : Option (Li
   pub complained : Appends err err' (wrong_text wrong)
   pub silent : Keeps out out'
 
-abbrev pub IsShown : List (List ℕ) → Option (List ℕ) → Option (List ℕ) → Option (List ℕ) → Option (List ℕ) → ℕ → Type 0
-IsShown numbers out out' err err' status = AreShown numbers out out' err err' status ⊎ NotStated numbers out out' err err' status
+abbrev pub IsShown : List (List ℕ) → List (List ℕ)
+    → Option (List ℕ) → Option (List ℕ) → Option (List ℕ) → Option (List ℕ) → ℕ → Type 0
+IsShown files numbers out out' err err' status =
+    AreShown files numbers out out' err err' status ⊎ NotStated numbers out out' err err' status
 
 -- ---- all commands
 
--- what a command prints: a text on standard output alone, or what comes of tables and files
+-- what a command prints: the usage and more, the version, or what comes of tables and files
 abbrev pub IsDone : Command → Option (List ℕ) → Option (List ℕ) → Option (List ℕ) → Option (List ℕ) → ℕ → Type 0
-IsDone Help out out' err err' status = (text : List ℕ) × (status ≡ 0) × Appends out out' text × Keeps err err'
-IsDone Version out out' err err' status = (text : List ℕ) × (status ≡ 0) × Appends out out' text × Keeps err err'
+IsDone Help out out' err err' status = (more : List ℕ) × (status ≡ 0) × Appends out out' (usage ++ more) × Keeps err err'
+IsDone Version out out' err err' status = (status ≡ 0) × Appends out out' version × Keeps err err'
 IsDone (Show files numbers) out out' err err' status =
-    IsShown (map (λ word. string_bytes word) numbers.now) out out' err err' status
+    IsShown (map (λ word. string_bytes word) files.now) (map (λ word. string_bytes word) numbers.now) out out' err err' status
 IsDone (Image file base) out out' err err' status = Listed file.now base out out' err err' status
 IsDone (Template signature) out out' err err' status =
     (text : List ℕ) × (status ≡ 0) × Appends out out' text × Keeps err err' × IsTemplateOf signature.now text
@@ -85,3 +97,14 @@ pub record Refused (words : List (List ℕ)) (out out' err err' : Option (List �
 
 abbrev pub Ended : List (List ℕ) → Option (List ℕ) → Option (List ℕ) → Option (List ℕ) → Option (List ℕ) → ℕ → Type 0
 Ended words out out' err err' status = Done words out out' err err' status ⊎ Refused words out out' err err' status
+
+-- ---- the process
+
+-- the status of an error of the output or of the words: 0 if the reader of the output went away, and 1 otherwise
+abbrev pub IsLost : ErrorKind → ℕ → Type 0
+IsLost kind status = ((kind ≡ BrokenPipe) × (status ≡ 0)) ⊎ ((kind ≢ BrokenPipe) × (status ≡ 1))
+
+-- the run ended as one on some words does, or it had an error
+abbrev pub Started : Option (List ℕ) → Option (List ℕ) → Option (List ℕ) → Option (List ℕ) → ℕ → Type 0
+Started out out' err err' status =
+    ((words : List (List ℕ)) × Ended words out out' err err' status) ⊎ ((kind : ErrorKind) × IsLost kind status)

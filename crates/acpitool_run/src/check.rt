@@ -27,9 +27,9 @@ fn sums_to_zero(bytes: &[u8]) -> bool
     checksum.raw_value() == 0
 }
 
-/// Returns Ok if bytes are a Root System Description Pointer (ACPI 6.5, 5.2.5.3): 20 bytes of revision 0, or as many as the length
-/// at offset 20 says, of which the first 20 and all sum to zero. The errors: ShortHeader for fewer bytes than these, TableLength
-/// at 20 for another length, Sum at 8 and 32 for the sums.
+/// Returns Ok if bytes are a Root System Description Pointer (ACPI 6.5, 5.2.5.3): 20 bytes of revision 0, or as many as the
+/// length at offset 20 says, of which the first 20 and all sum to zero. The errors: ShortHeader for fewer bytes than these,
+/// TableLength at 20 for another length, Sum at 8 and 32 for the sums.
 pub fn check_pointer(bytes: &[u8]) -> Result<(), ReadError>
     ensures { IsOk result ↔ IsPointer bytes.now }
 {

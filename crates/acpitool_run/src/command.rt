@@ -5,7 +5,7 @@ ghost use Rattle.std.specs.Prelude.{MatchResult, MatchOption, IfOk, None, Some};
 ghost use Rattle.std.specs.List.{starts_with};
 ghost use Rattle.acpiread_run.specs.Command.{stated};
 ghost use Rattle.acpitool_run.specs.Command.{is_option, first_option, has, is_number, files_in, first_unstated, IsMisstated};
-ghost use Rattle.acpitool_run.specs.Command.{IsAddress, Asks, IsWrong};
+ghost use Rattle.acpitool_run.specs.Command.{word_of, IsAddress, Asks, IsWrong};
 
 use acpi_term::name_string::Arities;
 use acpiread_run::command::{arities, stated};
@@ -28,6 +28,15 @@ pub enum Command<'a> {
     Make(&'a str, &'a str),
     /// `template SIGNATURE`: a text of a table of the signature, for a start.
     Template(&'a str),
+}
+
+/// A command that takes words.
+#[derive(Clone, Copy, Debug)]
+pub enum Verb {
+    Show,
+    Image,
+    Make,
+    Template,
 }
 
 /// Why words ask for nothing.
@@ -123,7 +132,7 @@ fn files_in(words: &[String]) -> usize
 }
 
 // Returns what `show` and these words, which aren't options, ask for.
-fn files_of(words: &[String]) -> Result<Command<'_>, Wrong<'_>>
+fn show(words: &[String]) -> Result<Command<'_>, Wrong<'_>>
     requires { first_option (map (λ word. string_bytes word) words.now) ≡ None }
     ensures { (all : List (List ℕ)) → all ≡ codes "show" ∷ map (λ word. string_bytes word) words.now
         → MatchResult result (Asks all) (IsWrong all) }
@@ -134,18 +143,6 @@ fn files_of(words: &[String]) -> Result<Command<'_>, Wrong<'_>>
     }
     let (files, numbers) = words.split_at(count);
     Ok(Command::Show(files, numbers))
-}
-
-// Returns what `show` and these words ask for.
-fn show(words: &[String]) -> Result<Command<'_>, Wrong<'_>>
-    ensures { (all : List (List ℕ)) → all ≡ codes "show" ∷ map (λ word. string_bytes word) words.now
-        → MatchResult result (Asks all) (IsWrong all) }
-{
-    match first_option(words) {
-        Some("--help") => Ok(Command::Help),
-        Some(word) => Err(Wrong::Unknown(word)),
-        None => files_of(words),
-    }
 }
 
 // Returns the first word that isn't NAME=N.
@@ -208,7 +205,8 @@ fn address_of(word: &str) -> Option<u64>
 }
 
 // Returns what `image` and these words, which aren't options, ask for.
-fn image_of(words: &[String]) -> Result<Command<'_>, Wrong<'_>>
+fn image(words: &[String]) -> Result<Command<'_>, Wrong<'_>>
+    requires { first_option (map (λ word. string_bytes word) words.now) ≡ None }
     ensures { (all : List (List ℕ)) → all ≡ codes "image" ∷ map (λ word. string_bytes word) words.now
         → MatchResult result (Asks all) (IsWrong all) }
 {
@@ -226,20 +224,9 @@ fn image_of(words: &[String]) -> Result<Command<'_>, Wrong<'_>>
     }
 }
 
-// Returns what `image` and these words ask for.
-fn image(words: &[String]) -> Result<Command<'_>, Wrong<'_>>
-    ensures { (all : List (List ℕ)) → all ≡ codes "image" ∷ map (λ word. string_bytes word) words.now
-        → MatchResult result (Asks all) (IsWrong all) }
-{
-    match first_option(words) {
-        Some("--help") => Ok(Command::Help),
-        Some(word) => Err(Wrong::Unknown(word)),
-        None => image_of(words),
-    }
-}
-
 // Returns what `make` and these words, which aren't options, ask for.
-fn make_of(words: &[String]) -> Result<Command<'_>, Wrong<'_>>
+fn make(words: &[String]) -> Result<Command<'_>, Wrong<'_>>
+    requires { first_option (map (λ word. string_bytes word) words.now) ≡ None }
     ensures { (all : List (List ℕ)) → all ≡ codes "make" ∷ map (λ word. string_bytes word) words.now
         → MatchResult result (Asks all) (IsWrong all) }
 {
@@ -251,20 +238,9 @@ fn make_of(words: &[String]) -> Result<Command<'_>, Wrong<'_>>
     }
 }
 
-// Returns what `make` and these words ask for.
-fn make(words: &[String]) -> Result<Command<'_>, Wrong<'_>>
-    ensures { (all : List (List ℕ)) → all ≡ codes "make" ∷ map (λ word. string_bytes word) words.now
-        → MatchResult result (Asks all) (IsWrong all) }
-{
-    match first_option(words) {
-        Some("--help") => Ok(Command::Help),
-        Some(word) => Err(Wrong::Unknown(word)),
-        None => make_of(words),
-    }
-}
-
 // Returns what `template` and these words, which aren't options, ask for.
-fn template_of(words: &[String]) -> Result<Command<'_>, Wrong<'_>>
+fn template(words: &[String]) -> Result<Command<'_>, Wrong<'_>>
+    requires { first_option (map (λ word. string_bytes word) words.now) ≡ None }
     ensures { (all : List (List ℕ)) → all ≡ codes "template" ∷ map (λ word. string_bytes word) words.now
         → MatchResult result (Asks all) (IsWrong all) }
 {
@@ -282,15 +258,20 @@ fn template_of(words: &[String]) -> Result<Command<'_>, Wrong<'_>>
     }
 }
 
-// Returns what `template` and these words ask for.
-fn template(words: &[String]) -> Result<Command<'_>, Wrong<'_>>
-    ensures { (all : List (List ℕ)) → all ≡ codes "template" ∷ map (λ word. string_bytes word) words.now
+// Returns what a command and the words after it ask for.
+fn asked(verb: Verb, words: &[String]) -> Result<Command<'_>, Wrong<'_>>
+    ensures { (all : List (List ℕ)) → all ≡ word_of verb ∷ map (λ word. string_bytes word) words.now
         → MatchResult result (Asks all) (IsWrong all) }
 {
     match first_option(words) {
         Some("--help") => Ok(Command::Help),
         Some(word) => Err(Wrong::Unknown(word)),
-        None => template_of(words),
+        None => match verb {
+            Verb::Show => show(words),
+            Verb::Image => image(words),
+            Verb::Make => make(words),
+            Verb::Template => template(words),
+        },
     }
 }
 
@@ -305,10 +286,10 @@ pub fn parse(words: &[String]) -> Result<Command<'_>, Wrong<'_>>
     match word.as_str() {
         "--help" => Ok(Command::Help),
         "--version" => Ok(Command::Version),
-        "show" => show(rest),
-        "image" => image(rest),
-        "make" => make(rest),
-        "template" => template(rest),
+        "show" => asked(Verb::Show, rest),
+        "image" => asked(Verb::Image, rest),
+        "make" => asked(Verb::Make, rest),
+        "template" => asked(Verb::Template, rest),
         word => Err(Wrong::Unknown(word)),
     }
 }

@@ -20,21 +20,21 @@ use std::alloc::{AllocError, Global};
 use std::io;
 use std::io::Write;
 
-// Returns the bytes that a pointer at an offset has.
-fn pointer_at(bytes: &[u8], at: usize) -> &[u8]
-    requires { at + 36 ≤ length bytes.now }
-    ensures { result.now ≡ take 36 (drop at bytes.now) }
+// Returns the bytes that a pointer of a size at an offset has.
+fn pointer_at(bytes: &[u8], at: usize, size: usize) -> &[u8]
+    requires { at + size ≤ length bytes.now }
+    ensures { result.now ≡ take size (drop at bytes.now) }
 {
-    &bytes[at..at + 36]
+    &bytes[at..at + size]
 }
 
-// Returns whether a pointer of 36 bytes is at an offset, which is a multiple of 16.
-fn is_pointer_at(bytes: &[u8], at: usize) -> bool
-    requires whole { at + 36 ≤ length bytes.now }
+// Returns whether a pointer of a size is at an offset, which is a multiple of 16.
+fn is_pointer_at(bytes: &[u8], at: usize, size: usize) -> bool
+    requires whole { at + size ≤ length bytes.now }
     requires aligned { at % 16 ≡ 0 }
-    ensures { IsTrue result ↔ IsPointerAt bytes.now at }
+    ensures { IsTrue result ↔ IsPointerAt size bytes.now at }
 {
-    let pointer = pointer_at(bytes, at);
+    let pointer = pointer_at(bytes, at, size);
     pointer.starts_with(b"RSD PTR ") && check_pointer(pointer).is_ok()
 }
 
@@ -43,17 +43,20 @@ fn is_pointer_at(bytes: &[u8], at: usize) -> bool
 pub enum NoImage {
     /// There is no Root System Description Pointer.
     NoPointer,
+    /// The first one is at this offset, and has only the address of an RSDT.
+    Old { at: usize, revision: u8 },
     /// What the pointer leads to is wrong.
     Wrong(ImageFault),
 }
 
-/// Returns the offset of the first Root System Description Pointer with 36 bytes, at multiples of 16 (ACPI 6.5, 5.2.5.1).
-pub fn find_pointer(bytes: &[u8]) -> Option<usize>
-    ensures { MatchOption result (HasNoPointer bytes.now) (IsFirstPointer bytes.now) }
+/// Returns the offset of the first Root System Description Pointer of a size, at multiples of 16 (ACPI 6.5, 5.2.5.1).
+pub fn find_pointer(bytes: &[u8], size: usize) -> Option<usize>
+    requires { 0 < size }
+    ensures { MatchOption result (HasNoPointer size bytes.now) (IsFirstPointer size bytes.now) }
 {
     let mut at = 0;
-    'steps: while at < bytes.len() && 36 <= bytes.len() - at {
-        if is_pointer_at(bytes, at) {
+    'steps: while at < bytes.len() && size <= bytes.len() - at {
+        if is_pointer_at(bytes, at, size) {
             return Some(at);
         }
         at += 16;
@@ -165,13 +168,27 @@ fn tables_from(
     }
 }
 
+// Returns why bytes have no pointer to an XSDT.
+fn no_pointer(bytes: &[u8]) -> NoImage
+    requires { HasNoPointer 36 bytes.now }
+    ensures { (base : ℕ) → IsNoImage base bytes.now result }
+{
+    match find_pointer(bytes, 20) {
+        Some(at) => NoImage::Old {
+            at,
+            revision: bytes[at + 15],
+        },
+        None => NoImage::NoPointer,
+    }
+}
+
 /// Returns the tables of an image that begins at the physical address `base`, from its first pointer on, or why there are none.
 pub fn find_tables(alloc: Global, base: u64, bytes: &[u8]) -> Result<Vec<Located>, NoImage>
     ensures ok { IfOk result (λ tables. IsFoundImage base bytes.now tables.items) }
     ensures err { IfErr result (IsNoImage base bytes.now) }
 {
-    let Some(at) = find_pointer(bytes) else {
-        return Err(NoImage::NoPointer);
+    let Some(at) = find_pointer(bytes, 36) else {
+        return Err(no_pointer(bytes));
     };
     match tables_from(alloc, base, bytes, at) {
         Ok(tables) => Ok(tables),
@@ -179,10 +196,14 @@ pub fn find_tables(alloc: Global, base: u64, bytes: &[u8]) -> Result<Vec<Located
     }
 }
 
-/// Returns why there is no image, as text.
-pub fn why(alloc: Global, fault: &NoImage) -> Result<String, AllocError> {
+/// Returns why there is no image that begins at the physical address `base`, as text.
+pub fn why(alloc: Global, base: u64, fault: &NoImage) -> Result<String, AllocError> {
     match fault {
         NoImage::NoPointer => format!(in alloc; "no RSDP at a multiple of 16 bytes"),
+        NoImage::Old { at, revision } => {
+            let address = base.wrapping_add(*at as u64);
+            format!(in alloc; "at 0x{address:x}: an RSDP of revision {revision}, which has no XSDT")
+        }
         NoImage::Wrong(fault) => format!(in alloc; "{fault}"),
     }
 }

@@ -3,9 +3,15 @@
 
 pub mod check;
 pub mod command;
+pub mod complaint;
+pub mod files;
+pub mod help;
 pub mod image;
+pub mod laws;
+pub mod listing;
 pub mod making;
 pub mod outcome;
 pub mod program;
+pub mod show;
 pub mod terms;
 pub mod text;

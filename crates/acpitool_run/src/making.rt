@@ -1,17 +1,20 @@
 //! Texts that are made into tables.
 
-ghost use Rattle.std.specs.Prelude.{◌≡◌, ℕ, List, ◌∷◌, ◌++◌, [], codes, map, IfOk, OnOk};
+ghost use Rattle.std.specs.Prelude.{◌⊎◌, IfOk, OnOk, MatchResult};
 ghost use Rattle.std.specs.Option.{option_map};
 ghost use Rattle.std.specs.Io.KnownBytes.{Appends};
-ghost use Rattle.acpitool_run.specs.Making.{note, notes, MadeOrNot};
+ghost use Rattle.acpitool_run.specs.Making.{note, notes, MadeOrNot, Saved, NotSaved, IsWritten, MakesText, Makes};
 
-use crate::outcome::print_unread;
+use crate::complaint::complain;
+use crate::files::{read_word, write_file};
+use crate::outcome::tell_unread;
 use acpi_forms::make::make;
 use acpi_make::fault::MakeError;
 use acpi_make::own::Own;
 use std::alloc::{AllocError, Global};
 use std::io;
-use std::io::Write;
+use std::io::{ErrorKind, Input, Write};
+use std::rt::Files;
 
 // Prints a number that a text states otherwise, and the number that would be right.
 fn print_note<E: Write>(name: &str, own: &Own, err: &mut E) -> io::Result<()>
@@ -34,20 +37,6 @@ fn print_notes<E: Write>(name: &str, owns: &[Own], err: &mut E) -> io::Result<()
     Ok(())
 }
 
-// Prints why a text isn't made into a table.
-fn print_fault<E: Write>(
-    alloc: Global,
-    name: &str,
-    fault: &MakeError,
-    err: &mut E,
-) -> io::Result<()>
-    ensures { OnOk result ((why : List ℕ) × Appends (E.contents err.old) (E.contents err.new)
-        (name.now ++ codes ": " ++ why ++ 10 ∷ [])) }
-{
-    let why = format!(in alloc; "{fault}")?;
-    print_unread(name, why.as_str(), err)
-}
-
 /// Makes a text into a table, and returns the table's bytes. A line on `err` says of each number that isn't right which would be,
 /// or why the text isn't made into a table. An error is that of `err`, or memory ran out.
 pub fn make_text<E: Write>(
@@ -66,8 +55,109 @@ pub fn make_text<E: Write>(
         }
         Err(MakeError::Memory) => Err(io::Error::from(AllocError)),
         Err(fault) => {
-            print_fault(alloc, name, &fault, err)?;
+            complain(alloc, name, &fault, err)?;
             Ok(None)
         }
+    }
+}
+
+// Returns why a file can't be written. Of all files only FILE.part has to be new.
+fn why_unwritten(alloc: Global, file: &str, error: &io::Error) -> Result<String, AllocError> {
+    match error.kind() {
+        ErrorKind::AlreadyExists => format!(in alloc; "{file}.part exists"),
+        _ => format!(in alloc; "{error}"),
+    }
+}
+
+// Prints why a file can't be written, and returns 1, or returns 0 if it was written.
+fn tell_written<E: Write>(
+    alloc: Global,
+    file: &str,
+    written: io::Result<()>,
+    err: &mut E,
+) -> io::Result<u8>
+    ensures { IfOk result (λ status. MatchResult written
+        (λ _. Saved (E.contents err.old) (E.contents err.new) status)
+        (λ _. NotSaved file.now (E.contents err.old) (E.contents err.new) status)) }
+{
+    match written {
+        Ok(()) => Ok(0),
+        Err(error) => {
+            let why = why_unwritten(alloc, file, &error)?;
+            complain(alloc, file, &why, err)?;
+            Ok(1)
+        }
+    }
+}
+
+// Writes a table to a file, and returns 0, or prints why it can't be written, and returns 1.
+fn save<R: Files, E: Write>(
+    rt: &R,
+    alloc: Global,
+    bytes: &[u8],
+    file: &str,
+    err: &mut E,
+) -> io::Result<u8>
+    ensures { IfOk result (λ status. Saved (E.contents err.old) (E.contents err.new) status
+        ⊎ NotSaved file.now (E.contents err.old) (E.contents err.new) status) }
+{
+    tell_written(alloc, file, write_file(rt, alloc, file, bytes), err)
+}
+
+// Writes a table to standard output if the file is `-`, and else to the file.
+fn write_table<R: Files, O: Write, E: Write>(
+    rt: &R,
+    alloc: Global,
+    bytes: &[u8],
+    file: &str,
+    out: &mut O,
+    err: &mut E,
+) -> io::Result<u8>
+    ensures { IfOk result (λ status. IsWritten bytes.now file.now (O.contents out.old) (O.contents out.new)
+        (E.contents err.old) (E.contents err.new) status) }
+{
+    match file {
+        "-" => {
+            out.write_all(bytes)?;
+            Ok(0)
+        }
+        file => save(rt, alloc, bytes, file, err),
+    }
+}
+
+// Makes a text into a table, and writes it.
+fn make_bytes<R: Files, O: Write, E: Write>(
+    rt: &R,
+    alloc: Global,
+    name: &str,
+    text: &[u8],
+    file: &str,
+    out: &mut O,
+    err: &mut E,
+) -> io::Result<u8>
+    ensures { IfOk result (λ status. MakesText name.now text.now file.now (O.contents out.old) (O.contents out.new)
+        (E.contents err.old) (E.contents err.new) status) }
+{
+    match make_text(alloc, name, text, err)? {
+        Some(bytes) => write_table(rt, alloc, &bytes, file, out, err),
+        None => Ok(1),
+    }
+}
+
+/// Makes the text in a file, or on standard input, into a table, and writes it to another file, or to standard output.
+pub fn make_file<R: Files + Input, O: Write, E: Write>(
+    rt: &R,
+    alloc: Global,
+    name: &str,
+    file: &str,
+    out: &mut O,
+    err: &mut E,
+) -> io::Result<u8>
+    ensures { IfOk result (λ status. Makes name.now file.now (O.contents out.old) (O.contents out.new)
+        (E.contents err.old) (E.contents err.new) status) }
+{
+    match read_word(rt, alloc, name) {
+        Ok(text) => make_bytes(rt, alloc, name, &text, file, out, err),
+        Err(error) => tell_unread(alloc, name, &error, err),
     }
 }

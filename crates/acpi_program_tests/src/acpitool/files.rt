@@ -1,8 +1,10 @@
 //! Files and folders that are shown, files that can't be read, and files that aren't written.
 
-use crate::acpitool::program::{TABLE, TEXT, ends, have_lines, write};
-use acpi_vectors::same;
+use crate::acpitool::program::{TABLE, TEXT, ends, have_lines, owned, write};
+use acpi_vectors::{equal, same};
+use acpitool_run::program::run;
 use std::fs;
+use std::os::unix::fs::symlink;
 use std::test::Fail;
 
 const MISSING: &str = "/=1: No such file or directory (os error 2)\n";
@@ -31,6 +33,16 @@ fn folder(rt: HostRuntime) -> Result<(), Fail> {
     write(&rt, "folder/c", &TABLE[..9])?;
     let line = "folder/c: refused at 9: ShortHeader\n";
     ends(&rt, &["show", "folder"], 1, &[], &[line])
+}
+
+// A link to nothing is a file that can't be read, and the other files of its folder are shown.
+#[test]
+fn links_to_nothing(rt: HostRuntime) -> Result<(), Fail> {
+    fs::create_dir(&rt, "links")?;
+    symlink(&rt, "nothing", "links/a")?;
+    write(&rt, "links/b", &TABLE)?;
+    let line = "links/a: No such file or directory (os error 2)\n";
+    ends(&rt, &["show", "links"], 2, &["// links/b\n", TEXT], &[line])
 }
 
 // Several files are shown one after another, each with its name, also if it is named twice. The greatest status counts: that of a
@@ -66,4 +78,39 @@ fn not_written(rt: HostRuntime) -> Result<(), Fail> {
     write(&rt, "whole", TEXT.as_bytes())?;
     let line = "whole/table: Not a directory (os error 20)\n";
     ends(&rt, &["make", "whole", "whole/table"], 1, &[], &[line])
+}
+
+// The bytes of a table go to standard output where the file is `-`.
+#[test]
+fn made_on_output(rt: HostRuntime) -> Result<(), Fail> {
+    write(&rt, "source", TEXT.as_bytes())?;
+    let mut printed = Vec::new(rt.alloc());
+    let mut told = Vec::new(rt.alloc());
+    let words = owned(&rt, &["make", "source", "-"])?;
+    let status = run(&rt, rt.alloc(), &words, &mut printed, &mut told)?;
+    same(&printed, &TABLE)?;
+    same(&told, &[])?;
+    equal(&status, &0)
+}
+
+// A file with the name of the part that is written first stays as it is.
+#[test]
+fn parts_are_kept(rt: HostRuntime) -> Result<(), Fail> {
+    write(&rt, "lines", TEXT.as_bytes())?;
+    write(&rt, "table.part", b"part")?;
+    let line = "table: table.part exists\n";
+    ends(&rt, &["make", "lines", "table"], 1, &[], &[line])?;
+    has(&rt, "table.part", b"part")
+}
+
+// A link stays a link, and the file that it names takes the table.
+#[test]
+fn links_are_kept(rt: HostRuntime) -> Result<(), Fail> {
+    write(&rt, "form", TEXT.as_bytes())?;
+    write(&rt, "target", b"old")?;
+    symlink(&rt, "target", "link")?;
+    ends(&rt, &["make", "form", "link"], 0, &[], &[])?;
+    has(&rt, "target", &TABLE)?;
+    let is_link = fs::symlink_metadata(&rt, "link")?.is_symlink();
+    equal(&is_link, &true)
 }

@@ -17,21 +17,21 @@ returns-in-text-2 c = (
 )
 
 pub returns-in-show : goal.returns-in-show
-returns-in-show c = c.show.ensures _
+returns-in-show c = c.asked.ensures _
     (front_of_all (λ word. string_bytes word) c.args.words.now c.word-item.result _
     (sym c.as_str.ensures.value ∙ c.in-show.is) c.word-item.is c.in-len1-up.len_at_least)
 
 pub returns-in-image : goal.returns-in-image
-returns-in-image c = c.image.ensures _
+returns-in-image c = c.asked-in-image.ensures _
     (front_of_all (λ word. string_bytes word) c.args.words.now c.word-item.result _
     (sym c.as_str.ensures.value ∙ c.in-image.is) c.word-item.is c.in-len1-up.len_at_least)
 
 pub returns-in-make : goal.returns-in-make
-returns-in-make c = c.make.ensures _
+returns-in-make c = c.asked-in-make.ensures _
     (front_of_all (λ word. string_bytes word) c.args.words.now c.word-item.result _
     (sym c.as_str.ensures.value ∙ c.in-make.is) c.word-item.is c.in-len1-up.len_at_least)
 
 pub returns-in-template : goal.returns-in-template
-returns-in-template c = c.template.ensures _
+returns-in-template c = c.asked-in-template.ensures _
     (front_of_all (λ word. string_bytes word) c.args.words.now c.word-item.result _
     (sym c.as_str.ensures.value ∙ c.in-template.is) c.word-item.is c.in-len1-up.len_at_least)

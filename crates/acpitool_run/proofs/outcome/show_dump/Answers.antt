@@ -1,7 +1,13 @@
-use Rattle.std.proofs.Common.{refl, rules}
-use Rattle.acpitool_run.proofs.Outcomes.{one_broken}
+use Rattle.std.proofs.Common.{List, rules, inl}
+use Rattle.acpitool_run.proofs.Outcomes.{as_these, one_broken}
+use Rattle.acpitool_run.specs.Outcome.{Outcome}
 use Rattle.acpitool_run.proofs.outcome.show_dump.Goals as goal
 
-pub returns-in_ok-tell_broken-in-Err : goal.returns-in_ok-tell_broken-in-Err
-returns-in_ok-tell_broken-in-Err g c = one_broken _ _ _ _ c.args.name.now c.args.dump.now c.in_ok-tell_broken-in-Err.ensures.0 c.in-Err.fault
-    (search rules) (search rules) c.in_ok-tell_broken-in-Err.ensures.1 1 refl
+pub returns-in_ok-show_tables-in-Ok : goal.returns-in_ok-show_tables-in-Ok
+returns-in_ok-show_tables-in-Ok g c =
+    as_these (λ (outcomes : List Outcome). λ are. inl (_, c.in-Ok.ensures.ok, are)) (rw c.deref.ensures.value at c.in_ok-show_tables-in-Ok.ensures)
+
+pub returns-in_ok-complain-in-Err : goal.returns-in_ok-complain-in-Err
+returns-in_ok-complain-in-Err g c =
+    let line = c.in_ok-complain-in-Err.ensures in
+    one_broken _ _ _ _ c.args.name.now c.args.dump.now line.0 c.in-Err.fault (search rules) line.2

@@ -1,5 +1,4 @@
-use Rattle.std.proofs.Common.{List, ℕ, sym, subst}
-use Rattle.acpitool_run.specs.Outcome.{IsHeading}
+use Rattle.std.proofs.Common.{List, ℕ, sym, subst, ◌∙◌}
 use Rattle.acpitool_run.specs.Terms.{IsAfter}
 use Rattle.acpitool_run.specs.Text.{IsText}
 use Rattle.acpitool_run.proofs.Outcomes.{one_shown, one_refused}
@@ -7,14 +6,15 @@ use Rattle.acpitool_run.proofs.outcome.show_table.Goals as goal
 
 pub returns-in_ok-print_text-in-Ok : goal.returns-in_ok-print_text-in-Ok
 returns-in_ok-print_text-in-Ok g c =
-    let H : List ℕ → Type 0 = λ before. IsHeading c.args.name.now before in
     let P : List ℕ → Type 0 = λ text. IsText c.args.bytes.now text in
     let Q : List ℕ → Type 0 = λ after. IsAfter c.args.stated.now c.args.bytes.now after in
-    one_shown _ _ _ _ c.args.name.now _ c.args.bytes.now _ _
-    (subst H (sym c.as_str.ensures.value) c.in_ok-before-in-Ok.ensures.is)
+    one_shown _ _ _ _ c.args.several c.args.name.now _ c.args.bytes.now _ _
+    (c.as_str.ensures.value ∙ c.in_ok-before-in-Ok.ensures)
     (subst P (sym c.as_str-in-Ok.ensures.value) c.in-Ok.ensures.ok)
     (subst Q (sym c.as_str-in-Ok-2.ensures.value) c.in_ok-after-in-Ok.ensures)
     c.in_ok-print_text-in-Ok.ensures
 
-pub returns-in_ok-print_fault-in-Err : goal.returns-in_ok-print_fault-in-Err
-returns-in_ok-print_fault-in-Err g c = one_refused _ _ _ _ c.args.name.now c.args.bytes.now _ c.in-Err.ensures.err c.in_ok-print_fault-in-Err.ensures
+pub returns-in_ok-complain-in-Err : goal.returns-in_ok-complain-in-Err
+returns-in_ok-complain-in-Err g c =
+    let line = c.in_ok-complain-in-Err.ensures in
+    one_refused _ _ _ _ c.args.several c.args.name.now c.args.bytes.now _ line.0 c.in-Err.ensures.err line.1 line.2

@@ -1,0 +1,113 @@
+-- A flush after a run, which keeps what was printed.
+use Rattle.std.proofs.Common.{ℕ, List, Option, Some, None, ◌∙◌, inl, inr}
+use Rattle.std.specs.Io.KnownBytes.{Keeps, Appends}
+use Rattle.acpitool_run.specs.Listing.{Listed, NotRead}
+use Rattle.acpitool_run.specs.Making.{IsWritten, Makes}
+use Rattle.acpitool_run.specs.Outcome.{Outcome, Printed}
+use Rattle.acpitool_run.specs.Program.{Ended, IsDone, IsShown}
+use Rattle.acpitool_run.specs.declared.command.Command.{Command}
+use Rattle.acpitool_run.specs.declared.command.Command.TheVariants.{Help, Version, Show, Image, Make, Template}
+
+appends_kept : (a b c : Option (List ℕ)) (x : List ℕ) → Appends a b x → Keeps b c → Appends a c x
+appends_kept None b c x one two = tt
+appends_kept (Some xs) None c x one two = absurd one
+appends_kept (Some xs) (Some ys) None x one two = absurd two
+appends_kept (Some xs) (Some ys) (Some zs) x one two = two ∙ one
+
+keeps_kept : (a b c : Option (List ℕ)) → Keeps a b → Keeps b c → Keeps a c
+keeps_kept None b c one two = tt
+keeps_kept (Some xs) None c one two = absurd one
+keeps_kept (Some xs) (Some ys) None one two = absurd two
+keeps_kept (Some xs) (Some ys) (Some zs) one two = two ∙ one
+
+printed_kept : (stated : List (List ℕ × ℕ)) (outcomes : List Outcome) (o o' o'' e e' : Option (List ℕ)) (s : ℕ) → Keeps o' o''
+    → Printed stated outcomes o o' e e' s → Printed stated outcomes o o'' e e' s
+printed_kept stated outcomes o o' o'' e e' s kept one =
+    record { are = one.are; wrote = appends_kept o o' o'' _ one.wrote kept; complained = one.complained; is = one.is }
+
+shown_kept : (files numbers : List (List ℕ)) (o o' o'' e e' : Option (List ℕ)) (s : ℕ) → Keeps o' o''
+    → IsShown files numbers o o' e e' s → IsShown files numbers o o'' e e' s
+shown_kept files numbers o o' o'' e e' s kept (inl all) = inl (record {
+  all = all.all;
+  stated = all.stated;
+  printed = record {
+    outcomes = all.printed.outcomes;
+    are = all.printed.are;
+    printed = printed_kept all.all all.printed.outcomes o o' o'' e e' s kept all.printed.printed;
+  };
+})
+shown_kept files numbers o o' o'' e e' s kept (inr not) = inr (record {
+  wrong = not.wrong;
+  is_wrong = not.is_wrong;
+  is = not.is;
+  complained = not.complained;
+  silent = keeps_kept o o' o'' not.silent kept;
+})
+
+unread_kept : (file : List ℕ) (o o' o'' e e' : Option (List ℕ)) (s : ℕ) → Keeps o' o'' → NotRead file o o' e e' s → NotRead file o o'' e e' s
+unread_kept file o o' o'' e e' s kept not =
+    record { why = not.why; complained = not.complained; silent = keeps_kept o o' o'' not.silent kept; is = not.is }
+
+listed_kept : (file : List ℕ) (base : ℕ) (o o' o'' e e' : Option (List ℕ)) (s : ℕ) → Keeps o' o''
+    → Listed file base o o' e e' s → Listed file base o o'' e e' s
+listed_kept file base o o' o'' e e' s kept (inl (bytes, inl all)) = inl (
+  bytes,
+  inl (record {
+    tables = all.tables;
+    found = all.found;
+    wrote = appends_kept o o' o'' _ all.wrote kept;
+    silent = all.silent;
+    is = all.is;
+  }),
+)
+listed_kept file base o o' o'' e e' s kept (inl (bytes, inr not)) = inl (
+  bytes,
+  inr (record {
+    fault = not.fault;
+    cause = not.cause;
+    why = not.why;
+    complained = not.complained;
+    silent = keeps_kept o o' o'' not.silent kept;
+    is = not.is;
+  }),
+)
+listed_kept file base o o' o'' e e' s kept (inr not) = inr (unread_kept file o o' o'' e e' s kept not)
+
+written_kept : (bytes file : List ℕ) (o o' o'' e e' : Option (List ℕ)) (s : ℕ) → Keeps o' o''
+    → IsWritten bytes file o o' e e' s → IsWritten bytes file o o'' e e' s
+written_kept bytes file o o' o'' e e' s kept (inl out) = inl (out.0, appends_kept o o' o'' bytes out.1 kept, out.2)
+written_kept bytes file o o' o'' e e' s kept (inr other) = inr (other.0, keeps_kept o o' o'' other.1 kept, other.2)
+
+made_kept : (name file : List ℕ) (o o' o'' e e' : Option (List ℕ)) (s : ℕ) → Keeps o' o''
+    → Makes name file o o' e e' s → Makes name file o o'' e e' s
+made_kept name file o o' o'' e e' s kept (inl (text, inl made)) = inl (
+  text,
+  inl (record {
+    bytes = made.bytes;
+    between = made.between;
+    made = made.made;
+    wrote = written_kept made.bytes file o o' o'' made.between e' s kept made.wrote;
+  }),
+)
+made_kept name file o o' o'' e e' s kept (inl (text, inr none)) =
+    inl (text, inr (record { not = none.not; silent = keeps_kept o o' o'' none.silent kept; is = none.is }))
+made_kept name file o o' o'' e e' s kept (inr not) = inr (unread_kept name o o' o'' e e' s kept not)
+
+done_kept : (o o' o'' e e' : Option (List ℕ)) (s : ℕ) (command : Command) → Keeps o' o'' → IsDone command o o' e e' s → IsDone command o o'' e e' s
+done_kept o o' o'' e e' s Help kept done = (done.0, done.1, appends_kept o o' o'' _ done.2 kept, done.3)
+done_kept o o' o'' e e' s Version kept done = (done.0, appends_kept o o' o'' _ done.1 kept, done.2)
+done_kept o o' o'' e e' s (Show files numbers) kept done = shown_kept _ _ o o' o'' e e' s kept done
+done_kept o o' o'' e e' s (Image file base) kept done = listed_kept file.now base o o' o'' e e' s kept done
+done_kept o o' o'' e e' s (Template signature) kept done = (done.0, done.1, appends_kept o o' o'' _ done.2 kept, done.3, done.4)
+done_kept o o' o'' e e' s (Make text file) kept done = made_kept text.now file.now o o' o'' e e' s kept done
+
+pub ended_kept : (words : List (List ℕ)) (o o' o'' e e' : Option (List ℕ)) (s : ℕ) → Keeps o' o'' → Ended words o o' e e' s → Ended words o o'' e e' s
+ended_kept words o o' o'' e e' s kept (inl done) =
+    inl (record { command = done.command; asked = done.asked; done = done_kept o o' o'' e e' s done.command kept done.done })
+ended_kept words o o' o'' e e' s kept (inr wrong) = inr (record {
+  wrong = wrong.wrong;
+  is_wrong = wrong.is_wrong;
+  is = wrong.is;
+  complained = wrong.complained;
+  silent = keeps_kept o o' o'' wrong.silent kept;
+})

@@ -1,0 +1,216 @@
+-- Words that are wrong ask for no command.
+use Rattle.std.proofs.Common.{◌≡◌, ◌≢◌, ◌⊎◌, ◌≤◌, ℕ, List, [], ◌∷◌, length, Some, None, refl, ap, subst, ◌∙◌, inl, inr, arith, codes}
+use Rattle.acpitool_run.proofs.Words.{apart}
+use Rattle.acpitool_run.specs.Command.{word_of, first_option, files_in, IsAddress, AreImage, Asks, IsNoCommand, IsExtra, IsWrong}
+use Rattle.acpitool_run.specs.Laws.{WrongAskForNothing}
+use Rattle.acpitool_run.specs.declared.command.Command.{Command}
+use Rattle.acpitool_run.specs.declared.command.Command.TheVariants.{Help, Version, Show, Image, Make, Template}
+use Rattle.acpitool_run.specs.declared.command.Verb.{Verb}
+use Rattle.acpitool_run.specs.declared.command.Verb.TheVariants as verbs
+use Rattle.acpitool_run.specs.declared.command.Wrong.{Wrong}
+use Rattle.acpitool_run.specs.declared.command.Wrong.TheVariants.{NoCommand, Unknown, NoFile, NoImage, NoText, NoTable, Base, Number, Twice}
+use Rattle.acpitool_run.specs.declared.command.Wrong.TheVariants.{NoSignature, Signature}
+
+-- ---- the words after a command
+
+-- they are what the command takes
+abbrev IsTaken : Verb → List (List ℕ) → Type 0
+IsTaken verbs.Show more = 1 ≤ files_in more
+IsTaken verbs.Image more = (file : List ℕ) × (base : ℕ) × AreImage more file base
+IsTaken verbs.Make more = (text : List ℕ) × (file : List ℕ) × (more ≡ text ∷ file ∷ [])
+IsTaken verbs.Template more = (signature : List ℕ) × (more ≡ signature ∷ []) × (length signature ≡ 4)
+
+-- they ask for the usage, or are what the command takes
+abbrev Serves : Verb → List (List ℕ) → Type 0
+Serves verb more = (first_option more ≡ Some (codes "--help")) ⊎ ((first_option more ≡ None) × IsTaken verb more)
+
+-- they have another option, or aren't what the command takes
+abbrev Fails : Verb → List (List ℕ) → Type 0
+Fails verb more =
+    ((word : List ℕ) × (first_option more ≡ Some word) × (word ≢ codes "--help"))
+    ⊎ ((first_option more ≡ None) × ((taken : IsTaken verb more) → ⊥))
+
+-- a command whose words serve, or fail
+record With (Are : Verb → List (List ℕ) → Type 0) (words : List (List ℕ)) : Type 0 where
+  pub verb : Verb
+  pub more : List (List ℕ)
+  pub is : words ≡ word_of verb ∷ more
+  pub are : Are verb more
+
+heads : (words : List (List ℕ)) (a b : List ℕ) (x y : List (List ℕ)) → words ≡ a ∷ x → words ≡ b ∷ y → a ≡ b
+heads words a b x y one two = cc
+
+tails : (words : List (List ℕ)) (a b : List ℕ) (x y : List (List ℕ)) → words ≡ a ∷ x → words ≡ b ∷ y → x ≡ y
+tails words a b x y one two = cc
+
+not_both : (verb : Verb) (more : List (List ℕ)) → Serves verb more → Fails verb more → ⊥
+not_both verb more (inl help) (inl other) = other.2 (cc)
+not_both verb more (inl help) (inr none) = cc (help, none.0)
+not_both verb more (inr none) (inl other) = cc (none.0, other.1)
+not_both verb more (inr taken) (inr none) = none.1 taken.1
+
+same_verb : (a b : Verb) → word_of a ≡ word_of b → a ≡ b
+same_verb verbs.Show verbs.Show is = refl
+same_verb verbs.Show verbs.Image is = absurd (apart (codes "show") (codes "image") is (λ same. absurd (omega (arith, same))))
+same_verb verbs.Show verbs.Make is = absurd (apart (codes "show") (codes "make") is (λ same. absurd (omega (arith, same))))
+same_verb verbs.Show verbs.Template is = absurd (apart (codes "show") (codes "template") is (λ same. absurd (omega (arith, same))))
+same_verb verbs.Image verbs.Show is = absurd (apart (codes "image") (codes "show") is (λ same. absurd (omega (arith, same))))
+same_verb verbs.Image verbs.Image is = refl
+same_verb verbs.Image verbs.Make is = absurd (apart (codes "image") (codes "make") is (λ same. absurd (omega (arith, same))))
+same_verb verbs.Image verbs.Template is = absurd (apart (codes "image") (codes "template") is (λ same. absurd (omega (arith, same))))
+same_verb verbs.Make verbs.Show is = absurd (apart (codes "make") (codes "show") is (λ same. absurd (omega (arith, same))))
+same_verb verbs.Make verbs.Image is = absurd (apart (codes "make") (codes "image") is (λ same. absurd (omega (arith, same))))
+same_verb verbs.Make verbs.Make is = refl
+same_verb verbs.Make verbs.Template is = absurd (apart (codes "make") (codes "template") is (λ same. absurd (omega (arith, same))))
+same_verb verbs.Template verbs.Show is = absurd (apart (codes "template") (codes "show") is (λ same. absurd (omega (arith, same))))
+same_verb verbs.Template verbs.Image is = absurd (apart (codes "template") (codes "image") is (λ same. absurd (omega (arith, same))))
+same_verb verbs.Template verbs.Make is = absurd (apart (codes "template") (codes "make") is (λ same. absurd (omega (arith, same))))
+same_verb verbs.Template verbs.Template is = refl
+
+clash : (words : List (List ℕ)) → With Serves words → With Fails words → ⊥
+clash words one two =
+    let words_same : word_of one.verb ≡ word_of two.verb = heads words _ _ _ _ one.is two.is in
+    let more_same : one.more ≡ two.more = tails words _ _ _ _ one.is two.is in
+    let P : Verb → Type 0 = λ verb. Serves verb one.more in
+    let Q : List (List ℕ) → Type 0 = λ more. Serves two.verb more in
+    not_both two.verb two.more (subst Q more_same (subst P (same_verb one.verb two.verb words_same) one.are)) two.are
+
+-- ---- commands
+
+-- the words are one that asks for something, or a command whose words serve
+abbrev Asked : List (List ℕ) → Type 0
+Asked words =
+    ((more : List (List ℕ)) × (words ≡ codes "--help" ∷ more))
+    ⊎ ((more : List (List ℕ)) × (words ≡ codes "--version" ∷ more))
+    ⊎ With Serves words
+
+asked : (words : List (List ℕ)) (command : Command) → Asks words command → Asked words
+asked words Help (inl first) = inl first
+asked words Help (inr after) = inr (inr (record { verb = after.verb; more = after.more; is = after.is; are = inl after.asks }))
+asked words Version first = inr (inl first)
+asked words (Show files numbers) all = inr (inr (record { verb = verbs.Show; more = all.0; is = all.1.0; are = inr (all.1.1, all.4) }))
+asked words (Image file base) all =
+    inr (inr (record { verb = verbs.Image; more = all.0; is = all.1.0; are = inr (all.1.1, (file.now, base, all.2)) }))
+asked words (Template signature) all =
+    inr (inr (record { verb = verbs.Template; more = all.0; is = all.1.0; are = inr (all.1.1, (signature.now, all.2, all.3)) }))
+asked words (Make text file) all =
+    inr (inr (record { verb = verbs.Make; more = all.0; is = all.1.0; are = inr (all.1.1, (text.now, file.now, all.2)) }))
+
+-- ---- wrong words
+
+-- there is no word, no command, or a command whose words fail
+abbrev Wronged : List (List ℕ) → Type 0
+Wronged words = (words ≡ []) ⊎ ((word : List ℕ) × IsNoCommand words word) ⊎ With Fails words
+
+no_image : (file : List ℕ) (base : ℕ) → AreImage [] file base → ⊥
+no_image file base (inl one) = cc (one.0)
+no_image file base (inr two) = cc (two.1)
+
+no_third : (more others : List (List ℕ)) (a b d file : List ℕ) (base : ℕ) → more ≡ a ∷ b ∷ d ∷ others → AreImage more file base → ⊥
+no_third more others a b d file base is (inl one) = cc (is, one.0)
+no_third more others a b d file base is (inr two) = cc (is, two.1)
+
+no_base : (more : List (List ℕ)) (a word file : List ℕ) (base : ℕ) → more ≡ a ∷ word ∷ [] → ((n : ℕ) → ¬ IsAddress word n)
+    → AreImage more file base → ⊥
+no_base more a word file base is not (inl one) = cc (is, one.0)
+no_base more a word file base is not (inr two) =
+    let P : List ℕ → Type 0 = λ l. IsAddress l base in
+    let same : two.0 ≡ word = cc (is, two.1) in
+    not base (subst P same two.2)
+
+extra : (words : List (List ℕ)) (word : List ℕ) → IsExtra words word → With Fails words
+extra words word one = elim one.after [
+  | inl after ↦ record {
+    verb = verbs.Image;
+    more = one.more;
+    is = after.0;
+    are = inr (after.1, λ taken. no_third one.more one.others one.first one.second word taken.0 taken.1 one.is taken.2);
+  }
+  | inr after ↦ record {
+    verb = verbs.Make;
+    more = one.more;
+    is = after.0;
+    are = inr (after.1, λ taken. cc (one.is, taken.2));
+  }
+]
+
+wronged : (words : List (List ℕ)) (wrong : Wrong) → IsWrong words wrong → Wronged words
+wronged words NoCommand is = inl is
+wronged words (Unknown word) (inl none) = inr (inl (word.now, none))
+wronged words (Unknown word) (inr (inl option)) =
+    inr (inr (record { verb = option.verb; more = option.more; is = option.is; are = inl (word.now, option.first, option.no_help) }))
+wronged words (Unknown word) (inr (inr (inl third))) = inr (inr (extra words word.now third))
+wronged words (Unknown word) (inr (inr (inr second))) = inr (inr (record {
+  verb = verbs.Template;
+  more = second.more;
+  is = second.after.0;
+  are = inr (second.after.1, λ taken. cc (second.is, taken.1));
+}))
+wronged words NoFile all = inr (inr (record {
+  verb = verbs.Show;
+  more = all.0;
+  is = all.1.0;
+  are = inr (all.1.1, λ taken. let none = all.2 in omega (arith, none, taken));
+}))
+wronged words NoImage is =
+    inr (inr (record { verb = verbs.Image; more = []; is = is; are = inr (refl, λ taken. no_image taken.0 taken.1 taken.2) }))
+wronged words NoSignature is =
+    inr (inr (record { verb = verbs.Template; more = []; is = is; are = inr (refl, λ taken. cc (taken.1)) }))
+wronged words (Signature word) all = inr (inr (record {
+  verb = verbs.Template;
+  more = all.0;
+  is = all.1.0;
+  are = inr (all.1.1, λ taken. let same : word.now ≡ taken.0 = cc (all.2, taken.1) in all.3 (ap length same ∙ taken.2));
+}))
+wronged words NoText is = inr (inr (record { verb = verbs.Make; more = []; is = is; are = inr (refl, λ taken. cc (taken.2)) }))
+wronged words NoTable all = inr (inr (record {
+  verb = verbs.Make;
+  more = all.0;
+  is = all.1.0;
+  are = inr (all.1.1, λ taken. let one = all.2 in let two = ap length taken.2 in omega (arith, one, two));
+}))
+wronged words (Base word) one = inr (inr (record {
+  verb = verbs.Image;
+  more = one.more;
+  is = one.after.0;
+  are = inr (one.after.1, λ taken. no_base one.more one.file word.now taken.0 taken.1 one.is one.not taken.2);
+}))
+wronged words (Number word) none = absurd none
+wronged words Twice none = absurd none
+
+-- ---- both
+
+no_help : (verb : Verb) → word_of verb ≡ codes "--help" → ⊥
+no_help verbs.Show is = apart (codes "show") (codes "--help") is (λ same. absurd (omega (arith, same)))
+no_help verbs.Image is = apart (codes "image") (codes "--help") is (λ same. absurd (omega (arith, same)))
+no_help verbs.Make is = apart (codes "make") (codes "--help") is (λ same. absurd (omega (arith, same)))
+no_help verbs.Template is = apart (codes "template") (codes "--help") is (λ same. absurd (omega (arith, same)))
+
+no_version : (verb : Verb) → word_of verb ≡ codes "--version" → ⊥
+no_version verbs.Show is = apart (codes "show") (codes "--version") is (λ same. absurd (omega (arith, same)))
+no_version verbs.Image is = apart (codes "image") (codes "--version") is (λ same. absurd (omega (arith, same)))
+no_version verbs.Make is = apart (codes "make") (codes "--version") is (λ same. absurd (omega (arith, same)))
+no_version verbs.Template is = apart (codes "template") (codes "--version") is (λ same. absurd (omega (arith, same)))
+
+is_command : (words : List (List ℕ)) (word : List ℕ) (verb : Verb) → IsNoCommand words word → word ≡ word_of verb → ⊥
+is_command words word verbs.Show none is = none.no_show is
+is_command words word verbs.Image none is = none.no_image is
+is_command words word verbs.Make none is = none.no_make is
+is_command words word verbs.Template none is = none.no_template is
+
+no_words : (words : List (List ℕ)) (a : List ℕ) (x : List (List ℕ)) → words ≡ [] → words ≡ a ∷ x → ⊥
+no_words words a x none some = cc
+
+contradict : (words : List (List ℕ)) → Wronged words → Asked words → ⊥
+contradict words (inl is) (inl help) = no_words words _ _ is help.1
+contradict words (inl is) (inr (inl version)) = no_words words _ _ is version.1
+contradict words (inl is) (inr (inr one)) = no_words words _ _ is one.is
+contradict words (inr (inl none)) (inl help) = none.1.no_help (heads words _ _ _ _ none.1.is help.1)
+contradict words (inr (inl none)) (inr (inl version)) = none.1.no_version (heads words _ _ _ _ none.1.is version.1)
+contradict words (inr (inl none)) (inr (inr one)) = is_command words none.0 one.verb none.1 (heads words _ _ _ _ none.1.is one.is)
+contradict words (inr (inr two)) (inl help) = no_help two.verb (heads words _ _ _ _ two.is help.1)
+contradict words (inr (inr two)) (inr (inl version)) = no_version two.verb (heads words _ _ _ _ two.is version.1)
+contradict words (inr (inr two)) (inr (inr one)) = clash words one two
+
+pub wrong_ask_for_nothing : WrongAskForNothing
+wrong_ask_for_nothing words wrong command is asks = contradict words (wronged words wrong is) (asked words command asks)

@@ -1,6 +1,0 @@
-use Rattle.std.proofs.Common.{refl}
-use Rattle.acpitool_run.proofs.Outcomes.{appends_then}
-use Rattle.acpitool_run.proofs.program.tell_wrong.Goals as goal
-
-pub returns : goal.returns
-returns g c = (refl, appends_then _ _ _ _ _ c.in_ok-print_wrong.ensures c.in_ok-write_all.ensures.bytes)
