@@ -17,6 +17,7 @@
 # It takes qemu-system-x86_64 (Debian's package qemu-system-x86) and a kernel with a serial console. Debian's
 # linux-image-cloud-amd64 has one: `apt-get download` the package that it depends on, and unpack it with `dpkg-deb -x`.
 set -eu
+export LC_ALL=C
 
 fail() {
     echo "$1" >&2

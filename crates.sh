@@ -1,6 +1,6 @@
-# What demo.sh, cases.sh, bench.sh, iasl.sh, limits.sh and memory.sh share: how crates of crates.txt are proved and built. Sourced
-# from the root. Crates that don't stand on each other are proved side by side, as many at a time as there are processors, at most
-# four, and 3 GB of free memory for each. JOBS says how many instead.
+# What demo.sh, c.sh, cases.sh, docs.sh, bench.sh, iasl.sh, limits.sh and memory.sh share: how crates of crates.txt are proved and
+# built. Sourced from the root. Crates that don't depend on each other are proved side by side: as many at a time as there are
+# processors, at most four, and 3 GB of free memory for each. JOBS says how many instead.
 
 work=$(mktemp -d)
 running=

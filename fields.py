@@ -28,12 +28,17 @@ UNSEEN += ["Before the Name", "Before the OEM Data", "Before the Context Interru
 UNSEEN += ["Before the Descriptors", "Device Handle", "Header"]
 
 
+def read(path):
+    with open(path, encoding="utf-8") as file:
+        return file.read()
+
+
 def sources():
     """Returns the text of the forms, and that of the rows that they name. Error status blocks and their data are in no table."""
     rows = ["base", "fixed", "lists", "hest", "nodes", "matrices", "arm"]
     files = lambda crate: sorted(glob.glob(f"crates/{crate}/src/**/*.rt", recursive=True))
-    read = lambda crate: "".join(open(it).read() for it in files(crate) if not it.endswith(IN_NO_TABLE))
-    return read("acpi_forms"), "".join(read(f"acpi_{it}") for it in rows)
+    all_of = lambda crate: "".join(read(it) for it in files(crate) if not it.endswith(IN_NO_TABLE))
+    return all_of("acpi_forms"), "".join(all_of(f"acpi_{it}") for it in rows)
 
 
 FORMS, ROWS = sources()
@@ -73,13 +78,13 @@ class Field:
             self.flags = flags_of(line)
 
     def is_like(self, other):
-        return self.name == other.name and (self.at == other.at or self.is_repeated)
+        return self.name == other.name and (self.at == other.at or self.is_repeated or self.is_sized)
 
     def text(self, at):
         name = joined(f"{at}{self.name}")
         more = joined(" ..") if self.is_repeated else ""
         if [it.name for it in self.below] == REGISTER:
-            return f"{name}:GAS"
+            return f"{name}:GAS{more}"
         if self.below:
             return f"{name} ({text_of(self.below)}){more}"
         width = "n" if self.is_sized else self.width
@@ -185,18 +190,19 @@ def names_in(lines):
 
 
 def main():
-    tables = tables_of(open(SHOWN).read())
+    tables = tables_of(read(SHOWN))
     seen = {it.name for it in tables} | {name for it in tables for name in names_in(it.lines)} | set(UNSEEN)
     lost = sorted(set(names_in_sources()) - seen)
     if lost:
         stop(f"{SHOWN} doesn't have these names of the sources: {', '.join(lost)}")
-    text = open(DOCUMENT).read()
+    text = read(DOCUMENT)
     if text.count(BEGIN) != 1 or text.count(END) != 1:
         stop(f"{DOCUMENT} has to have the lines {BEGIN.strip()} and {END.strip()} once")
     before, after = text.split(BEGIN)[0], text.split(END)[1]
     wanted = f"{before}{BEGIN}{section(kinds_of(tables))}{END}{after}"
     if sys.argv[1:] == ["renew"]:
-        open(DOCUMENT, "w").write(wanted)
+        with open(DOCUMENT, "w", encoding="utf-8") as file:
+            file.write(wanted)
     elif text != wanted:
         stop(f"the fields in {DOCUMENT} aren't those of {SHOWN}: `python3 -B fields.py renew` writes them")
 

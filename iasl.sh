@@ -67,6 +67,7 @@ compare_fields() {
     sed "s|^|${1##*/}: |" "$work/compared"
 }
 
+count=0
 for table in "$tables"/* "$tables"/arm/*; do
     name=${table##*/}
     # All tables at their addresses.
@@ -81,7 +82,9 @@ for table in "$tables"/* "$tables"/arm/*; do
     grep -E "$warned" "$work/log" | sed "s/^/$name: /" || true
     echo "$name: $(sed -n 's/^ACPI: \(....\) .*/\1/p' "$work/log") disassembled"
     compare_fields "$table" "$text"
+    count=$((count + 1))
 done
+[ "$count" -gt 0 ] || fail "there is no table"
 
 [ $# -eq 0 ] || exit 0
 for table in crates/acpitool/data/*; do

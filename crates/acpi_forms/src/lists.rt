@@ -259,7 +259,7 @@ const CEDT_STRUCTURES: [StructureForm; 4] = [
     },
 ];
 
-/// The CXL Early Discovery Table (CXL 3.0, 9.17.1).
+/// The CXL Early Discovery Table (this project's profile).
 pub const CEDT: TableForm = TableForm {
     name: "CXL Early Discovery Table (CEDT)",
     parts: &[Part::Fields(&HEADER)],

@@ -104,7 +104,8 @@ impl Aml for MADT {
 }
 
 impl MADT {
-    /// A table without structures.
+    /// A table without structures. Its flags (offset 40) are 0: it doesn't say that the machine has two 8259 controllers
+    /// (PCAT_COMPAT).
     pub fn new(
         alloc: Global,
         oem_id: [u8; 6],

@@ -6,7 +6,7 @@ use acpi_tables::{AmlSink, R};
 use acpi_vectors::{OEM, OEM_REVISION, OEM_TABLE};
 use std::alloc::Global;
 
-// As a sink a table keeps a first part of the bytes of a failed call. So each of these calls gives it all bytes at once.
+// As a sink a table keeps a prefix of the bytes of a failed call. So each of these calls gives it all bytes at once.
 impl Grows for Sdt {
     const WAYS: u8 = 8;
 

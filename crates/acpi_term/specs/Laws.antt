@@ -46,7 +46,7 @@ AtMostOneList =
     → ts ≡ us)
     × ((arity : List ℕ → ℕ) (m : Mode) (a b : List ℕ) (ts : Terms) → Spells arity m a ts → Spells arity m b ts → a ≡ b)
 
--- If two first parts of the same bytes spell a term each, they are the same part and the same term.
+-- If two prefixes of the same bytes spell a term each, they are the same prefix and the same term.
 abbrev pub AtMostOneFront : Type 0
 AtMostOneFront =
     (arity : List ℕ → ℕ) (m : Mode) (g h : Head) (v w : ℕ) (c d : Terms) (a b x y : List ℕ)

@@ -28,7 +28,7 @@ pub fn at_most_one_list()
     ensures { AtMostOneList }
 {}
 
-/// At most one first part of given bytes spells a term, and it spells only one.
+/// At most one prefix of given bytes spells a term, and it spells only one.
 pub fn at_most_one_front()
     ensures { AtMostOneFront }
 {}

@@ -8,7 +8,8 @@ ghost use Rattle.acpi_term.specs.ReadError.{name_of, offset_of, message_of};
 use std::alloc::{AllocError, AllocFailed};
 use std::fmt;
 
-/// Why bytes can't be read, with the offset of the fault. If there are several faults, any of them may be returned.
+/// Why bytes can't be read, with the offset of the fault. In AML it is that of the term's first byte. If there are several faults,
+/// any of them may be returned.
 #[derive(Clone, Copy, Debug, PartialEq)]
 pub enum ReadError {
     /// The allocator refused memory.
@@ -23,7 +24,7 @@ pub enum ReadError {
     Length(usize),
     /// Reserved for readers that accept the shortest forms of numbers only. These crates never return it.
     Number(usize),
-    /// A count isn't the number of the things that it counts.
+    /// A count isn't the number of the things that it counts. In a table the offset is that of the count.
     Count(usize),
     /// The flags of a field or a method have a value without a meaning.
     Flags(usize),
@@ -39,9 +40,10 @@ pub enum ReadError {
     TableLength(usize),
     /// The table's bytes don't sum to zero. The checksum is at offset 9.
     Sum(usize),
-    /// A structure isn't as long as it says, or the table's fixed fields don't fit its structures.
+    /// A structure isn't as long as it says, or the table's fixed fields don't fit its structures. The offset is that of the
+    /// structure, or of the field.
     Structure(usize),
-    /// The size of a hardware error source of this type isn't known.
+    /// The size of a hardware error source of this type isn't known. The offset is that of the source.
     UnknownSource(usize),
 }
 

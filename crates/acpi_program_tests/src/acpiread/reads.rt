@@ -68,7 +68,7 @@ fn comes(
     Ok(())
 }
 
-// Each first part of a table and of more, up to its end or a failure. Of a table at most one byte after it is read.
+// Each prefix of a table and of more, up to its end or a failure. Of a table at most one byte after it is read.
 #[test]
 fn beginnings(rt: HostRuntime) -> Result<(), Fail> {
     let alloc = rt.alloc();
