@@ -1,9 +1,8 @@
 pub mod Outcomes
 pub mod Digits
 pub mod Reading
-pub mod Quiet
+pub mod Leads
 pub mod Lines
-pub mod Slots
 pub mod Tables
 pub mod Entries
 pub mod Numbers

@@ -1,17 +1,16 @@
 -- What whole lines consist of.
-use Rattle.std.proofs.Common.{◌≡◌, ℕ, zero, suc, ◌+◌, ◌-◌, ◌*◌, ◌^◌, ◌<◌, ◌≤◌, ◌==◌, ◌&&◌, nat_le, nat_lt, true, false, Bool, cond}
-use Rattle.std.proofs.Common.{List, [], ◌∷◌, ◌++◌, length, codes, Some, None, Option, refl, sym, ap, ◌∙◌, append_assoc, arith}
-use Rattle.std.specs.Prelude.{bit_and}
+use Rattle.std.proofs.Common.{◌≡◌, ℕ, zero, suc, ◌+◌, ◌-◌, ◌*◌, ◌^◌, ◌<◌, ◌≤◌, ◌==◌, true, false, Bool, cond}
+use Rattle.std.proofs.Common.{List, [], ◌∷◌, ◌++◌, length, codes, refl, sym, ap, ◌∙◌, append_assoc, arith}
 use Rattle.std.specs.Fmt.{decimal}
-use Rattle.std.proofs.lemmas.Bool.{and_parts, eqb-true, leb-true}
-use Rattle.acpi_base.specs.Bytes.{AreBytes, carried}
-use Rattle.acpi_text.proofs.Lines.{small_number}
+use Rattle.acpi_base.specs.Bytes.{AreBytes}
+use Rattle.acpi_text.proofs.Meanings.{meaning_by}
+use Rattle.acpi_text.proofs.Printed.{Plain, Quiet, quiet_is_plain, quiet_label}
 use Rattle.acpi_text.specs.Hex.{numbers_text}
-use Rattle.acpi_text.specs.Label.{prints, all_print, label}
+use Rattle.acpi_text.specs.Label.{prints, label}
 use Rattle.acpi_text.specs.Line.{spaces, margin, line, title}
-use Rattle.acpi_text.specs.Note.{Note, plain, flags, one_of, decimal_text, flags_text, find_word, word_text, number_meaning, meaning}
+use Rattle.acpi_text.specs.Note.{Note, meaning}
 use Rattle.acpi_make.proofs.Outcomes.{front_none, front_both}
-use Rattle.acpi_make.proofs.Quiet.{Plain, Quiet, Leads, plain_append, quiet_is_plain, quiet_text, quiet_label, quiet_decimal, leads_append, leads_decimal, printed, is_quiet}
+use Rattle.acpi_make.proofs.Leads.{Leads, leads_append, leads_decimal, printed}
 use Rattle.acpi_make.proofs.Reading.{Follows, space_follows, end_follows, numbers_follow}
 use Rattle.acpi_make.specs.Gives.{with_front}
 use Rattle.acpi_make.specs.Item.{known_cells, byte_items, cells_of}
@@ -28,12 +27,12 @@ use Rattle.acpi_make.specs.declared.state.Step.TheVariants.{Goes}
 
 name_read : (k from : ℕ) (name text : List ℕ) → Quiet name → read k (Named from) [] (name ++ text) ≡ read k (Named from) [] text
 name_read k from [] text quiet = refl
-name_read k from (c ∷ name) text quiet = rw (quiet.0.line, quiet.0.control, quiet.1) (name_read k from name text quiet.2)
+name_read k from (c ∷ name) text quiet = rw ((printed c quiet.0).line, (printed c quiet.0).control, quiet.1) (name_read k from name text quiet.2)
 
 lead_read : (k : ℕ) (name text : List ℕ) → Leads name → read k Indented [] (name ++ text) ≡ read k (Named (length (name ++ text))) [] text
 lead_read k [] text leads = absurd leads
 lead_read k (c ∷ name) text leads =
-    rw (leads.2.0.line, leads.2.0.control, leads.0, leads.2.1, leads.1)
+    rw ((printed c leads.2.0).line, (printed c leads.2.0).control, leads.0, leads.2.1, leads.1)
     (name_read k (length (c ∷ (name ++ text))) name text leads.2.2)
 
 spaces_read : (k n : ℕ) (text : List ℕ) → read k Indented [] (spaces n ++ text) ≡ read k Indented [] text
@@ -55,7 +54,7 @@ margin_read k depth offset name text small =
     ap (read k Start []) (append_assoc blank (named offset name) text)
     ∙ spaces_start k (2 * depth + 2) (named offset name ++ text) (omega arith)
     ∙ lead_read k (named offset name) text (leads_append (decimal offset) (32 ∷ label name) (leads_decimal offset small)
-    (record { line = refl; control = refl }, refl, quiet_label name))
+    (refl, refl, quiet_label name))
 
 blank_read : (k from n : ℕ) (text : List ℕ) → read k (Named from) [] (spaces n ++ text) ≡ read k (Named from) [] text
 blank_read k from zero text = refl
@@ -86,20 +85,20 @@ chosen k more false one two rest first second = second
 
 skipped_empty : (k : ℕ) (said more : List ℕ) → Plain said → Empty k more (read k Skipped [] (said ++ 10 ∷ more))
 skipped_empty k [] more prints = nothing k more
-skipped_empty k (c ∷ said) more prints = rw (prints.0.line, prints.0.control) (skipped_empty k said more prints.1)
+skipped_empty k (c ∷ said) more prints = rw ((printed c prints.0).line, (printed c prints.0).control) (skipped_empty k said more prints.1)
 
 headed_empty : (k from : ℕ) (said more : List ℕ) → Plain said → Empty k more (read k (Headed from) [] (said ++ 10 ∷ more))
 headed_empty k from [] more prints = headed k more from (length (10 ∷ more))
-headed_empty k from (c ∷ said) more prints = rw (prints.0.line, prints.0.control) (headed_empty k from said more prints.1)
+headed_empty k from (c ∷ said) more prints = rw ((printed c prints.0).line, (printed c prints.0).control) (headed_empty k from said more prints.1)
 
 named_empty : (k from : ℕ) (name more : List ℕ) → Quiet name → Empty k more (read k (Named from) [] (name ++ 10 ∷ more))
 named_empty k from [] more quiet = entitled k more from (length (10 ∷ more))
-named_empty k from (c ∷ name) more quiet = rw (quiet.0.line, quiet.0.control, quiet.1) (named_empty k from name more quiet.2)
+named_empty k from (c ∷ name) more quiet = rw ((printed c quiet.0).line, (printed c quiet.0).control, quiet.1) (named_empty k from name more quiet.2)
 
 slashed_empty : (k from : ℕ) (said more : List ℕ) → Plain said → Empty k more (read k (Slashed from) [] (said ++ 10 ∷ more))
 slashed_empty k from [] more prints = headed k more from (length (10 ∷ more))
 slashed_empty k from (c ∷ said) more prints =
-    rw (prints.0.line, prints.0.control)
+    rw ((printed c prints.0).line, (printed c prints.0).control)
     (chosen k more (c == 47) (Goes Skipped) (Goes (Headed from)) (λ state number. read k state number (said ++ 10 ∷ more))
     (skipped_empty k said more prints.1)
     (headed_empty k from said more prints.1))
@@ -107,7 +106,7 @@ slashed_empty k from (c ∷ said) more prints =
 name_slashed_empty : (k from : ℕ) (name more : List ℕ) → Quiet name → Empty k more (read k (NameSlashed from) [] (name ++ 10 ∷ more))
 name_slashed_empty k from [] more quiet = entitled k more from (length (10 ∷ more))
 name_slashed_empty k from (c ∷ name) more quiet =
-    rw (quiet.0.line, quiet.0.control, quiet.1)
+    rw ((printed c quiet.0).line, (printed c quiet.0).control, quiet.1)
     (chosen k more (c == 47) (Goes Skipped) (Goes (Named from)) (λ state number. read k state number (name ++ 10 ∷ more))
     (skipped_empty k name more (quiet_is_plain name quiet.2))
     (named_empty k from name more quiet.2))
@@ -117,7 +116,7 @@ indented_empty k [] more quiet = nothing k more
 indented_empty k (c ∷ name) more quiet =
     let here = length (c ∷ (name ++ 10 ∷ more)) in
     let rest : State → List ℕ → Outcome = λ state number. read k state number (name ++ 10 ∷ more) in
-    rw (quiet.0.line, quiet.0.control, quiet.1)
+    rw ((printed c quiet.0).line, (printed c quiet.0).control, quiet.1)
     (chosen k more (c == 32) (Goes Indented) (cond (c == 47) (Goes (NameSlashed here)) (Goes (Named here))) rest
     (indented_empty k name more quiet.2)
     (chosen k more (c == 47) (Goes (NameSlashed here)) (Goes (Named here)) rest
@@ -130,7 +129,7 @@ quiet_line k [] more quiet = nothing k more
 quiet_line k (c ∷ name) more quiet =
     let here = length (c ∷ (name ++ 10 ∷ more)) in
     let rest : State → List ℕ → Outcome = λ state number. read k state number (name ++ 10 ∷ more) in
-    rw (quiet.0.line, quiet.0.control)
+    rw ((printed c quiet.0).line, (printed c quiet.0).control)
     (chosen k more (c == 32) (Goes Indented) (cond (c == 47) (Goes (Slashed here)) (Goes (Headed here))) rest
     (indented_empty k name more quiet.2)
     (chosen k more (c == 47) (Goes (Slashed here)) (Goes (Headed here)) rest
@@ -139,88 +138,19 @@ quiet_line k (c ∷ name) more quiet =
 
 skipped_read : (k : ℕ) (said more : List ℕ) → Plain said → read k Skipped [] (said ++ 10 ∷ more) ≡ read (k + 1) Start [] more
 skipped_read k [] more prints = refl
-skipped_read k (c ∷ said) more prints = rw (prints.0.line, prints.0.control) (skipped_read k said more prints.1)
+skipped_read k (c ∷ said) more prints = rw ((printed c prints.0).line, (printed c prints.0).control) (skipped_read k said more prints.1)
 
--- ---- comments
+-- ---- what stands after the numbers
 
--- a comment, or nothing
-abbrev pub IsComment : List ℕ → Type 0
-IsComment text = (k : ℕ) (more : List ℕ) → Follows k (text ++ 10 ∷ more) (read (k + 1) Start [] more)
+abbrev EndsLine : List ℕ → Type 0
+EndsLine text = (k : ℕ) (more : List ℕ) → Follows k (text ++ 10 ∷ more) (read (k + 1) Start [] more)
 
-no_comment : IsComment []
-no_comment k more = end_follows k more
-
-said_comment : (said : List ℕ) → Plain said → IsComment (codes "  // " ++ said)
-said_comment said prints k more =
+comment_ends : (said : List ℕ) → Plain said → EndsLine (codes "  // " ++ said)
+comment_ends said prints k more =
     space_follows k (32 ∷ 47 ∷ 47 ∷ 32 ∷ (said ++ 10 ∷ more)) (read (k + 1) Start [] more) (skipped_read k said more prints)
 
-decimal_comment : (n : ℕ) → n < 2 ^ 64 → IsComment (decimal_text n)
-decimal_comment n small = either (nat_lt n 10)
-  where
-    either : (b : Bool) → IsComment (cond b [] (codes "  // " ++ decimal n))
-    either true = no_comment
-    either false = said_comment (decimal n) (quiet_is_plain (decimal n) (quiet_decimal n small))
-
-plain_label : (name : List ℕ) → Plain (label name)
-plain_label name = quiet_is_plain (label name) (quiet_label name)
-
-flag_chosen : (b : Bool) (others name : List ℕ) → Plain others → Plain name
-    → Plain (cond b others (codes " | " ++ (name ++ others)))
-flag_chosen true others name one two = one
-flag_chosen false others name one two =
-    plain_append (codes " | ") (name ++ others) (quiet_is_plain (codes " | ") (quiet_text (codes " | ") refl))
-    (plain_append name others two one)
-
-first_chosen : (b : Bool) (none said : List ℕ) → IsComment none → Plain said → IsComment (cond b none (codes "  // " ++ said))
-first_chosen true none said one two = one
-first_chosen false none said one two = said_comment said two
-
-later_flags : (words : List (ℕ × List ℕ)) (n : ℕ) → Plain (flags_text false words n)
-later_flags [] n = tt
-later_flags (word ∷ words) n =
-    flag_chosen (bit_and n word.0 == 0) (flags_text false words n) (label word.1) (later_flags words n) (plain_label word.1)
-
-first_flags : (words : List (ℕ × List ℕ)) (n : ℕ) → IsComment (flags_text true words n)
-first_flags [] n = no_comment
-first_flags (word ∷ words) n =
-    first_chosen (bit_and n word.0 == 0) (flags_text true words n) (label word.1 ++ flags_text false words n) (first_flags words n)
-    (plain_append (label word.1) (flags_text false words n) (plain_label word.1) (later_flags words n))
-
-word_comment : (name : Option (List ℕ)) (n : ℕ) → n < 2 ^ 64 → IsComment (word_text name n)
-word_comment (Some name) n small = said_comment (label name) (plain_label name)
-word_comment None n small = decimal_comment n small
-
-number_comment : (note : Note) (n : ℕ) → n < 2 ^ 64 → IsComment (number_meaning note n)
-number_comment plain n small = decimal_comment n small
-number_comment (flags words) n small = first_flags words n
-number_comment (one_of words) n small = word_comment (find_word words n) n small
-
-plain_field : (field : List ℕ) → all_print field ≡ true → Plain field
-plain_field [] is = tt
-plain_field (b ∷ field) is =
-    let parts = and_parts (prints b) (all_print field) is in
-    (printed b parts.0, plain_field field parts.1)
-
-plain_text : (text : List ℕ) → is_quiet text ≡ true → Plain text
-plain_text text is = quiet_is_plain text (quiet_text text is)
-
--- nothing, a number, or a text, as the two tests say
-one_comment : (a c : Bool) (number field : List ℕ) → (a ≡ true → IsComment number) → (c ≡ true → Plain field)
-    → IsComment (cond a number (cond c (codes "  // \"" ++ (field ++ codes "\"")) []))
-one_comment true c number field one two = one refl
-one_comment false true number field one two =
-    said_comment (34 ∷ (field ++ 34 ∷ []))
-    (plain_append (codes "\"") (field ++ 34 ∷ []) (plain_text (codes "\"") refl)
-    (plain_append field (codes "\"") (two refl) (plain_text (codes "\"") refl)))
-one_comment false false number field one two = no_comment
-
-meaning_is_comment : (note : Note) (w n : ℕ) (field : List ℕ) → AreBytes field → length field ≡ w * n
-    → IsComment (meaning note w n field)
-meaning_is_comment note w n field are size =
-    one_comment (n == 1 && nat_le w 8) (w == 1 && all_print field) (number_meaning note (carried field)) field
-    (λ is. let parts = and_parts (n == 1) (nat_le w 8) is in
-    number_comment note (carried field) (small_number w n field are size (eqb-true n 1 parts.0) (leb-true w 8 parts.1)))
-    (λ is. plain_field field (and_parts (w == 1) (all_print field) is).1)
+meaning_ends : (note : Note) (w n : ℕ) (field : List ℕ) → AreBytes field → length field ≡ w * n → EndsLine (meaning note w n field)
+meaning_ends = meaning_by EndsLine (λ k more. end_follows k more) comment_ends
 
 -- ---- whole lines
 
@@ -279,6 +209,6 @@ line_means depth offset name note w n field small are size =
           ∙ margin_read k depth offset name (blank ++ (58 ∷ rest more)) small
           ∙ blank_read k (from more) (40 - length front) (58 ∷ rest more)
           ∙ ap (with_front (one more)) (numbers_follow k w n field (said ++ (10 ∷ more)) (read (k + 1) Start [] more) are size
-          (meaning_is_comment note w n field are size k more)).ended
+          (meaning_ends note w n field are size k more)).ended
           ∙ front_both (one more) (byte_items field) (read (k + 1) Start [] more);
     }

@@ -1,11 +1,11 @@
 -- The names that texts show.
-use Rattle.std.proofs.Common.{◌≡◌, ℕ, zero, suc, ◌+◌, ◌-◌, ◌*◌, ◌/◌, ◌%◌, ◌^◌, ◌<◌, ◌==◌, ◌&&◌, nat_le, nat_lt, Bool, true, false, cond}
+use Rattle.std.proofs.Common.{◌≡◌, ℕ, zero, suc, ◌+◌, ◌-◌, ◌*◌, ◌/◌, ◌%◌, ◌<◌, ◌==◌, nat_le, nat_lt, Bool, true, false, cond}
 use Rattle.std.proofs.Common.{List, [], ◌∷◌, ◌++◌, length, take, drop, codes, refl, sym, ap, subst, ◌∙◌, append_assoc, arith, Option, Some, None}
-use Rattle.std.specs.Prelude.{replicate, bit_and}
+use Rattle.std.specs.Prelude.{replicate}
 use Rattle.std.specs.Fmt.{decimal}
 use Rattle.std.proofs.lemmas.List.{append-nil, length-take-le}
-use Rattle.std.proofs.lemmas.Bool.{and_parts, eqb-true, leb-true, ltb-false}
-use Rattle.acpi_base.specs.Bytes.{AreBytes, carried}
+use Rattle.std.proofs.lemmas.Bool.{ltb-false}
+use Rattle.acpi_base.specs.Bytes.{AreBytes}
 use Rattle.acpi_base.specs.declared.walk.Place.{Place}
 use Rattle.acpi_base.specs.declared.walk.Sizes.{Sizes}
 use Rattle.acpi_base.specs.declared.walk.Walk.{Walk}
@@ -23,21 +23,23 @@ use Rattle.acpi_text.specs.declared.form.Part.TheVariants as parts
 use Rattle.acpi_text.specs.Form.{number_at, count_of, repeated, group_slots, find_choice, choice_slots, part_slots, parts_slots}
 use Rattle.acpi_base.specs.Digit.{hex_byte}
 use Rattle.acpi_text.specs.Hex.{number_text, numbers_text}
-use Rattle.acpi_text.specs.Label.{label, all_print}
+use Rattle.acpi_text.specs.Label.{label}
 use Rattle.acpi_text.specs.Line.{spaces, margin, padded, line, title}
 use Rattle.acpi_text.specs.Names.{OneLine, WholeLines, Named, Names, Wanted, sized, until, unnamed, row_fields, rows_fields, times, choice_fields, part_fields}
 use Rattle.acpi_text.specs.Names.{field_and, fields_of, parts_fields, structure_and, structures_up_to, fields_and_structures, content_fields, structure_fields}
 use Rattle.acpi_text.specs.Names.{table_fields, LinesHaveNames, TextsHaveNames}
-use Rattle.acpi_text.specs.Note.{Note, plain, flags, one_of, decimal_text, flags_text, find_word, word_text, number_meaning, meaning}
+use Rattle.acpi_text.specs.Note.{Note, plain, meaning}
 use Rattle.acpi_text.specs.Piece.{piece_and, pieces_up_to, parts_and_pieces}
 use Rattle.acpi_text.specs.Reading.{at_start, in_number, read}
 use Rattle.acpi_text.specs.Size.{front_size}
 use Rattle.acpi_text.specs.Slot.{Slot, heading, field, upto, unknown, nameless_lines, nameless, field_text, slots_text, row_slots}
 use Rattle.acpi_text.specs.Structure.{find_form, form_name, form_parts, form_inner, inner_text, content_text, kind_text, piece_line, piece_text}
 use Rattle.acpi_text.specs.Table.{start_of, body_text}
-use Rattle.acpi_text.proofs.Lines.{quiet_decimal, quiet_is_one_line, label_one_line, later_flags, printed_is_one_line, small_number, meaning_ends}
+use Rattle.acpi_text.proofs.Lines.{meaning_ends}
+use Rattle.acpi_text.proofs.Meanings.{meaning_by}
+use Rattle.acpi_text.proofs.Printed.{Plain, plain_is_one_line, one_line_append}
 use Rattle.acpi_text.proofs.Shown.{some_bytes}
-use Rattle.acpi_text.proofs.Reading.{digit_read, one_line_append, numbers_read}
+use Rattle.acpi_text.proofs.Reading.{digit_read, numbers_read}
 
 -- ---- one line
 
@@ -60,48 +62,11 @@ numbers_line w (suc n) bytes are = (
       (number_line (take w bytes) (bytes_take w bytes are)) (numbers_line w n (drop w bytes) (bytes_drop w bytes are)),
 )
 
-comment_line : (said : List ℕ) → OneLine said → OneLine (codes "  // " ++ said)
-comment_line said one = (refl, (refl, (refl, (refl, (refl, one)))))
-
-decimal_line : (n : ℕ) → n < 2 ^ 64 → OneLine (decimal_text n)
-decimal_line n small = chosen (nat_lt n 10)
-  where
-    chosen : (b : Bool) → OneLine (cond b [] (codes "  // " ++ decimal n))
-    chosen true = tt
-    chosen false = comment_line (decimal n) (quiet_is_one_line (decimal n) (quiet_decimal n small))
-
-flag_line : (b : Bool) (none said : List ℕ) → OneLine none → OneLine said → OneLine (cond b none (codes "  // " ++ said))
-flag_line true none said one two = one
-flag_line false none said one two = comment_line said two
-
-flags_line : (words : List (ℕ × List ℕ)) (n : ℕ) → OneLine (flags_text true words n)
-flags_line [] n = tt
-flags_line (word ∷ words) n =
-    flag_line (bit_and n word.0 == 0) (flags_text true words n) (label word.1 ++ flags_text false words n) (flags_line words n)
-    (one_line_append (label word.1) (flags_text false words n) (label_one_line word.1) (later_flags words n))
-
-word_line : (name : Option (List ℕ)) (n : ℕ) → n < 2 ^ 64 → OneLine (word_text name n)
-word_line (Some name) n small = comment_line (label name) (label_one_line name)
-word_line None n small = decimal_line n small
-
-note_line : (note : Note) (n : ℕ) → n < 2 ^ 64 → OneLine (number_meaning note n)
-note_line plain n small = decimal_line n small
-note_line (flags words) n small = flags_line words n
-note_line (one_of words) n small = word_line (find_word words n) n small
-
--- nothing, a number, or a text, as the two tests say
-chosen_line : (a c : Bool) (number text : List ℕ) → (a ≡ true → OneLine number) → (c ≡ true → OneLine text)
-    → OneLine (cond a number (cond c (codes "  // \"" ++ (text ++ codes "\"")) []))
-chosen_line true c number text one two = one refl
-chosen_line false true number text one two = comment_line (34 ∷ (text ++ 34 ∷ [])) (refl, one_line_append text (34 ∷ []) (two refl) (refl, tt))
-chosen_line false false number text one two = tt
+comment_line : (said : List ℕ) → Plain said → OneLine (codes "  // " ++ said)
+comment_line said prints = (refl, (refl, (refl, (refl, (refl, plain_is_one_line said prints)))))
 
 meaning_line : (note : Note) (w n : ℕ) (bytes : List ℕ) → AreBytes bytes → length bytes ≡ w * n → OneLine (meaning note w n bytes)
-meaning_line note w n bytes are size =
-    chosen_line (n == 1 && nat_le w 8) (w == 1 && all_print bytes) (number_meaning note (carried bytes)) bytes
-    (λ is. let parts = and_parts (n == 1) (nat_le w 8) is in
-    note_line note (carried bytes) (small_number w n bytes are size (eqb-true n 1 parts.0) (leb-true w 8 parts.1)))
-    (λ is. printed_is_one_line bytes (and_parts (w == 1) (all_print bytes) is).1)
+meaning_line = meaning_by OneLine tt comment_line
 
 pub line_named : LinesHaveNames
 line_named depth offset name note w n bytes are size =
@@ -125,7 +90,7 @@ line_named depth offset name note w n bytes are size =
       ends = one_line_append numbers means (numbers_line w n bytes are) (meaning_line note w n bytes are size);
       reads = λ more.
           ap (read (in_number [])) (append_assoc numbers means (10 ∷ more))
-          ∙ numbers_read w n bytes (means ++ (10 ∷ more)) (read at_start more) are size (meaning_ends note w n bytes more are size) [];
+          ∙ numbers_read w n bytes (means ++ (10 ∷ more)) (read at_start more) are size (meaning_ends note w n bytes are size more) [];
     }
 
 -- ---- whole lines

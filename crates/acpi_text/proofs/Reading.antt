@@ -5,6 +5,7 @@ use Rattle.std.proofs.lemmas.Bool.Decides.{nat_tests}
 use Rattle.std.proofs.lemmas.List.{append-nil, length-drop, take-append-drop}
 use Rattle.acpi_base.proofs.Bytes.{bytes_take, bytes_drop}
 use Rattle.acpi_text.proofs.Numbers.{one_fits}
+use Rattle.acpi_text.proofs.Printed.{Quiet, ends_no_line}
 use Rattle.acpi_base.specs.Bytes.{AreBytes}
 use Rattle.acpi_base.specs.Digit.{hex_digit, hex_byte}
 use Rattle.acpi_text.specs.Hex.{number_text, numbers_text}
@@ -68,22 +69,9 @@ numbers_read w (suc n) field text bytes are size ends = λ number.
 
 -- ---- what has no bytes
 
--- neither the end of a line nor a colon
-abbrev pub Quiet : List ℕ → Type 0
-Quiet [] = Unit {0}
-Quiet (c ∷ text) = ((c == 10) ≡ false) × ((c == 58) ≡ false) × Quiet text
-
-pub quiet_append : (a b : List ℕ) → Quiet a → Quiet b → Quiet (a ++ b)
-quiet_append [] b one two = two
-quiet_append (c ∷ a) b one two = (one.0, one.1, quiet_append a b one.2 two)
-
-pub one_line_append : (a b : List ℕ) → OneLine a → OneLine b → OneLine (a ++ b)
-one_line_append [] b one two = two
-one_line_append (c ∷ a) b one two = (one.0, one_line_append a b one.1 two)
-
 pub name_read : (name text : List ℕ) → Quiet name → read in_name (name ++ text) ≡ read in_name text
 name_read [] text quiet = refl
-name_read (c ∷ name) text quiet = rw (quiet.1, quiet.0) (name_read name text quiet.2)
+name_read (c ∷ name) text quiet = rw (quiet.1, ends_no_line c quiet.0) (name_read name text quiet.2)
 
 pub comment_read : (said text : List ℕ) → OneLine said → read in_comment (said ++ text) ≡ read in_comment text
 comment_read [] text one = refl

@@ -1,181 +1,35 @@
--- The bytes of whole tables.
-use Rattle.std.proofs.Common.{◌≡◌, ℕ, zero, suc, ◌+◌, ◌^◌, ◌<◌, ◌≤◌, ◌==◌, ◌&&◌, nat_le, not, Bool, true, false, cond}
-use Rattle.std.proofs.Common.{List, [], ◌∷◌, ◌++◌, length, take, drop, codes, refl, sym, ap, ◌∙◌, append_assoc, arith, length-append, Option, Some, None}
-use Rattle.std.specs.Fmt.{decimal}
-use Rattle.std.proofs.lemmas.List.{append-nil, length-drop, length-take, length-take-le, take-append-drop}
-use Rattle.std.proofs.lemmas.Bool.{and_parts}
-use Rattle.std.proofs.Math.Nat.{min-le_left}
-use Rattle.acpi_base.specs.Bytes.{AreBytes, carried}
-use Rattle.acpi_base.specs.Walk.{place_offset, place_width, end_of}
-use Rattle.acpi_base.specs.declared.walk.Place.{Place}
-use Rattle.acpi_base.specs.declared.walk.Place.TheVariants.{Nowhere, Byte, Word, DWord}
-use Rattle.acpi_base.specs.declared.walk.Sizes.{Sizes}
-use Rattle.acpi_base.specs.declared.walk.Walk.{Walk}
-use Rattle.acpi_base.proofs.Bytes.{bytes_take, bytes_drop}
-use Rattle.acpi_text.specs.declared.form.Inner.{Inner}
-use Rattle.acpi_text.specs.declared.form.Inner.TheVariants.{Nothing, Structures}
-use Rattle.acpi_text.specs.declared.form.Part.{Part}
-use Rattle.acpi_text.specs.declared.form.StructureForm.{StructureForm}
-use Rattle.acpi_text.specs.declared.form.TableForm.{TableForm}
-use Rattle.acpi_text.specs.Form.{number_at, parts_slots}
-use Rattle.acpi_text.specs.Laws.{TablesHaveBytes, TextsDetermineTables}
-use Rattle.acpi_text.specs.Label.{label}
-use Rattle.acpi_text.specs.Line.{title}
-use Rattle.acpi_text.specs.Piece.{piece_and, pieces_up_to, pieces_text, parts_and_pieces}
-use Rattle.acpi_text.specs.Size.{front_size}
-use Rattle.acpi_text.specs.Structure.{find_form, form_name, form_parts, form_inner, inner_text, content_text, kind_text, piece_line, piece_text}
-use Rattle.acpi_text.specs.Reading.{Has, at_start, in_name, in_comment, read}
-use Rattle.acpi_text.specs.Slot.{slots_text}
-use Rattle.acpi_text.specs.Table.{start_of, body_text}
-use Rattle.acpi_text.proofs.Lines.{title_has, quiet_decimal, quiet_label, quiet_is_one_line}
-use Rattle.acpi_text.proofs.Numbers.{narrow_carried}
-use Rattle.acpi_text.proofs.Pieces.{front_within}
-use Rattle.acpi_text.proofs.Reading.{Quiet, quiet_append, name_read, comment_read}
-use Rattle.acpi_text.proofs.Slots.{has_append, has_parts, slots_have, all_nameless}
+-- The bytes of the texts of whole tables.
+use Rattle.std.proofs.Common.{ℕ, List, [], ◌++◌, refl, sym, ap, ◌∙◌, append_assoc}
+use Rattle.std.proofs.lemmas.List.{append-nil}
+use Rattle.acpi_text.specs.Laws.{TextsHaveBytes, TablesHaveBytes, TextsDetermineTables}
+use Rattle.acpi_text.specs.Reading.{Has, at_start, read}
+use Rattle.acpi_text.specs.Table.{table_text}
+use Rattle.acpi_text.proofs.Composed.{Composes, slots_by, table_by}
+use Rattle.acpi_text.proofs.Lines.{empty_has, title_has, line_has}
 
--- ---- lines without bytes
-
--- a line that has no colon has no bytes, for any first character
-quiet_line_read : (text more : List ℕ) → Quiet text → read at_start (text ++ (10 ∷ more)) ≡ read at_start more
-quiet_line_read [] more quiet = refl
-quiet_line_read (c ∷ text) more quiet = chosen (c == 32)
-  where
-    chosen : (b : Bool) → cond b (read in_name (text ++ (10 ∷ more))) (cond (c == 10) (read at_start (text ++ (10 ∷ more))) (read in_comment (text ++ (10 ∷ more)))) ≡ read at_start more
-    chosen true = name_read text (10 ∷ more) quiet.2
-    chosen false =
-        ap (λ b. cond b (read at_start (text ++ (10 ∷ more))) (read in_comment (text ++ (10 ∷ more)))) quiet.0
-        ∙ comment_read text (10 ∷ more) (quiet_is_one_line text quiet.2)
-
-line_empty : (text : List ℕ) → Quiet text → Has (text ++ 10 ∷ []) []
-line_empty text quiet = record {
-  reads = λ more. ap (read at_start) (append_assoc text (10 ∷ []) more) ∙ quiet_line_read text more quiet;
+has_append : (a b x y : List ℕ) → Has a x → Has b y → Has (a ++ b) (x ++ y)
+has_append a b x y one two = record {
+  reads = λ more.
+      ap (read at_start) (append_assoc a b more) ∙ one.reads (b ++ more) ∙ ap (λ (l : List ℕ). x ++ l) (two.reads more)
+      ∙ sym (append_assoc x y (read at_start more));
 }
 
--- ---- structures
+has_composes : Composes Has
+has_composes = record {
+  nothing = record { reads = λ more. refl };
+  append = has_append;
+  empty = empty_has;
+  titles = title_has;
+  lines = line_has;
+}
 
-abbrev is_quiet : List ℕ → Bool
-is_quiet [] = true
-is_quiet (c ∷ text) = (not (c == 10) && not (c == 58)) && is_quiet text
-
-quiet_byte : (a b : Bool) → (not a && not b) ≡ true → (a ≡ false) × (b ≡ false)
-quiet_byte true b is = absurd cc
-quiet_byte false true is = absurd cc
-quiet_byte false false is = (refl, refl)
-
-quiet_text : (text : List ℕ) → is_quiet text ≡ true → Quiet text
-quiet_text [] is = tt
-quiet_text (c ∷ text) is =
-    let parts = and_parts (not (c == 10) && not (c == 58)) (is_quiet text) is in
-    let byte = quiet_byte (c == 10) (c == 58) parts.0 in
-    (byte.0, byte.1, quiet_text text parts.1)
-
-narrow_place : (place : Place) → place_width place ≤ 4
-narrow_place Nowhere = omega arith
-narrow_place (Byte offset) = omega arith
-narrow_place (Word offset) = omega arith
-narrow_place (DWord offset) = omega arith
-
-number_small : (place : Place) (whole : List ℕ) → AreBytes whole → number_at place whole < 2 ^ 64
-number_small place whole are = chosen (nat_le (end_of place) (length whole))
-  where
-    field : List ℕ
-    field = take (place_width place) (drop (place_offset place) whole)
-
-    chosen : (b : Bool) → cond b (carried field) 0 < 2 ^ 64
-    chosen true = narrow_carried field (bytes_take (place_width place) (drop (place_offset place) whole) (bytes_drop (place_offset place) whole are))
-        (omega (arith, length-take (place_width place) (drop (place_offset place) whole), min-le_left (place_width place) (length (drop (place_offset place) whole)), narrow_place place))
-    chosen false = omega arith
-
-quiet_kind : (kind : Place) (piece : List ℕ) → AreBytes piece → Quiet (kind_text kind piece)
-quiet_kind kind piece are = chosen (place_width kind == 0)
-  where
-    chosen : (b : Bool) → Quiet (cond b (codes " entry") (codes " type " ++ decimal (number_at kind piece)))
-    chosen true = quiet_text (codes " entry") refl
-    chosen false = quiet_append (codes " type ") (decimal (number_at kind piece)) (quiet_text (codes " type ") refl)
-        (quiet_decimal (number_at kind piece) (number_small kind piece are))
-
-quiet_name : (form : Option StructureForm) → Quiet (form_name form)
-quiet_name (Some form) = (refl, refl, quiet_label form.name.now)
-quiet_name None = tt
-
-piece_line_has : (kind : Place) (form : Option StructureForm) (at : ℕ) (piece : List ℕ) → AreBytes piece → at < 2 ^ 64 → length piece < 2 ^ 64
-    → Has (piece_line kind form at piece) []
-piece_line_has kind form at piece are small fits =
-    let front = decimal at ++ kind_text kind piece in
-    let size = front ++ codes " size " in
-    let sized = size ++ decimal (length piece) in
-    line_empty (sized ++ form_name form)
-    (quiet_append sized (form_name form)
-    (quiet_append size (decimal (length piece))
-    (quiet_append front (codes " size ")
-    (quiet_append (decimal at) (kind_text kind piece) (quiet_decimal at small) (quiet_kind kind piece are))
-    (quiet_text (codes " size ") refl))
-    (quiet_decimal (length piece) fits))
-    (quiet_name form))
-
--- a text of each structure has the structure's bytes
-abbrev pub EachHas : (ℕ → List ℕ → List ℕ) → Type 0
-EachHas shown = (at : ℕ) (piece : List ℕ) → AreBytes piece → 0 < length piece → at + length piece < 2 ^ 64 → Has (shown at piece) piece
-
-module _ (sizes : Sizes) (shown : ℕ → List ℕ → List ℕ) (each : EachHas shown) where
-  front_has : (front : Option ℕ) (n at : ℕ) (bytes : List ℕ) → front_size sizes bytes ≡ front → AreBytes bytes → at + length bytes < 2 ^ 64
-      → ((k : ℕ) (rest : List ℕ) → AreBytes rest → k + length rest < 2 ^ 64 → Has (pieces_up_to n sizes shown k rest) rest)
-      → Has (piece_and front shown (λ k rest. pieces_up_to n sizes shown k rest) at bytes) bytes
-  front_has None n at bytes is are small others = all_nameless at bytes are small
-  front_has (Some size) n at bytes is are small others =
-      let within = front_within sizes size bytes is in
-      let long = length-take-le size bytes within.fits in
-      has_parts _ size bytes (has_append (shown at (take size bytes)) (pieces_up_to n sizes shown (at + size) (drop size bytes)) (take size bytes) (drop size bytes)
-      (each at (take size bytes) (bytes_take size bytes are) (omega (arith, within.some, long)) (omega (arith, small, within.fits, long)))
-      (others (at + size) (drop size bytes) (bytes_drop size bytes are) (omega (arith, small, within.fits, length-drop size bytes))))
-
-  pieces_have : (n at : ℕ) (bytes : List ℕ) → AreBytes bytes → at + length bytes < 2 ^ 64 → Has (pieces_up_to n sizes shown at bytes) bytes
-  pieces_have zero at bytes are small = all_nameless at bytes are small
-  pieces_have (suc n) at bytes are small =
-      front_has (front_size sizes bytes) n at bytes refl are small (λ k rest bytes fits. pieces_have n k rest bytes fits)
-
-  parts_and_pieces_have : (parts : List Part) (start at : ℕ) (bytes : List ℕ) → AreBytes bytes → at + length bytes < 2 ^ 64
-      → Has (parts_and_pieces parts start sizes shown at bytes) bytes
-  parts_and_pieces_have parts start at bytes are small =
-      let front = take start bytes in
-      let rest = drop start bytes in
-      let joined : length front + length rest ≡ length bytes = sym (length-append front rest) ∙ ap length (take-append-drop start bytes) in
-      has_parts _ start bytes (has_append (slots_text at (parts_slots 0 at front parts) front) (pieces_text sizes shown (at + length front) rest) front rest
-      (slots_have at (parts_slots 0 at front parts) front (bytes_take start bytes are) (omega (arith, small, joined)))
-      (pieces_have (length rest) (at + length front) rest (bytes_drop start bytes are) (omega (arith, small, joined))))
-
-inner_has : (name : List ℕ) (parts : List Part) → EachHas (inner_text name parts)
-inner_has name parts at piece are some small =
-    has_append (title 0 at name) (slots_text at (parts_slots 1 at piece parts) piece) [] piece
-    (title_has 0 at name (omega (arith, small)))
-    (slots_have at (parts_slots 1 at piece parts) piece are small)
-
-content_has : (parts : List Part) (inner : Inner) (at : ℕ) (piece : List ℕ) → AreBytes piece → at + length piece < 2 ^ 64
-    → Has (content_text parts inner at piece) piece
-content_has parts Nothing at piece are small = slots_have at (parts_slots 0 at piece parts) piece are small
-content_has parts (Structures start name sizes inner) at piece are small =
-    parts_and_pieces_have sizes (inner_text name.now inner.now) (inner_has name.now inner.now) parts start at piece are small
-
-piece_has : (kind : Place) (forms : List StructureForm) → EachHas (piece_text kind forms)
-piece_has kind forms at piece are some small =
-    let form = find_form (number_at kind piece) forms in
-    has_append (piece_line kind form at piece) (content_text (form_parts form) (form_inner form) at piece) [] piece
-    (piece_line_has kind form at piece are (omega (arith, small)) (omega (arith, small)))
-    (content_has (form_parts form) (form_inner form) at piece are small)
-
--- ---- tables
-
-body_has : (form : TableForm) (walk : Option Walk) (bytes : List ℕ) → AreBytes bytes → length bytes < 2 ^ 64 → Has (body_text form walk bytes) bytes
-body_has form None bytes are small = slots_have 0 (parts_slots 0 0 bytes form.parts.now) bytes are (omega (arith, small))
-body_has form (Some walk) bytes are small =
-    parts_and_pieces_have walk.sizes (piece_text walk.kind form.structures.now) (piece_has walk.kind form.structures.now)
-    form.parts.now (start_of walk bytes) 0 bytes are (omega (arith, small))
+pub slots_have : TextsHaveBytes
+slots_have = slots_by Has has_composes
 
 pub tables_have : TablesHaveBytes
 tables_have form walk bytes are small =
-    quiet_line_read (label form.name.now) (body_text form walk bytes) (quiet_label form.name.now)
-    ∙ ap (read at_start) (sym (append-nil (body_text form walk bytes)))
-    ∙ (body_has form walk bytes are small).reads []
+    ap (read at_start) (sym (append-nil (table_text form walk bytes)))
+    ∙ (table_by Has has_composes form walk bytes are small).reads []
     ∙ append-nil bytes
 
 pub texts_determine : TextsDetermineTables
