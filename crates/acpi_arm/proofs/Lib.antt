@@ -1,4 +1,3 @@
-pub mod Calls
 pub mod Devices
 pub mod Iorts
 pub mod Lists

@@ -1,16 +1,15 @@
 -- Any list of calls.
-use Rattle.std.proofs.Common.{◌≡◌, ℕ, List, [], ◌∷◌, ◌++◌, ◌≤◌, length, take, drop, refl, sym, ap, subst, ◌∙◌, append_assoc, Bool, arith}
+use Rattle.std.proofs.Common.{◌≡◌, ℕ, List, [], ◌∷◌, ◌++◌, ◌≤◌, length, take, drop, refl, sym, ap, subst, ◌∙◌, append_assoc, arith}
 use Rattle.std.specs.Prelude.{Ok, Err, None}
 use Rattle.std.proofs.lemmas.List.{append-nil, take_at, take-append-le, take-append-drop, length-take}
 use Rattle.acpi_base.specs.declared.walk.Walk.{Walk}
 use Rattle.acpi_base.specs.Object.{Object}
-use Rattle.acpi_base.specs.Walk.{ArePieces}
 use Rattle.acpi_core.specs.Listing.{Listing, IsListing, bytes_of, with_structure}
 use Rattle.acpi_core.specs.Addition.{Counted}
 use Rattle.acpi_core.specs.Offset.{IsLater, StandsAt, StandIn}
-use Rattle.acpi_core.specs.Walk.{Keeps}
+use Rattle.acpi_core.specs.Walk.{IsWalked}
 use Rattle.acpi_core.specs.Calls.{Call, adds, adds_at, refused, AreCalls, table_after, accepted, with_all, StandAtHandles, IsAfter, IsAfterItsCalls, NodeStands, HoldsNodes}
-use Rattle.acpi_core.proofs.Kept.{is_walked, accepted_end}
+use Rattle.acpi_core.proofs.Kept.{accepted_end}
 use Rattle.acpi_core.proofs.Offsets.{stand}
 use Rattle.acpi_core.proofs.Handles.{are_later, handles_stand, same_is_later}
 
@@ -48,25 +47,23 @@ hold t (adds_at o (Ok at) next ∷ calls) is c =
 hold t (adds_at o (Err e) next ∷ calls) is c = hold next calls is c.1
 hold t (refused next ∷ calls) is c = hold next calls is c.1
 
-after : (w : Walk) (limit : ℕ) (closed : Bool) (start : Counted) (calls : List Call) → start.table.structures ≡ [] → AreCalls start calls
-    → Keeps w limit closed (table_after start calls).table → ArePieces w.sizes (table_after start calls).table.structures
+after : (w : Walk) (start : Counted) (calls : List Call) → start.table.structures ≡ [] → AreCalls start calls
+    → IsListing (table_after start calls).table → IsWalked w (table_after start calls).table
     → IsAfter w start.table calls (table_after start calls).table
-after w limit closed start calls none c kept pieces =
-    let last = (table_after start calls).table in
-    record {
-      table = is start calls c;
-      structures = ap (λ l. l.structures) (is start calls c) ∙ structures_of start.table (accepted calls) ∙ ap (λ s. s ++ accepted calls) none;
-      walked = is_walked w limit closed last kept pieces;
-      handles = hold start calls kept.is c;
-    }
+after w start calls none c listing walked = record {
+  table = is start calls c;
+  structures = ap (λ l. l.structures) (is start calls c) ∙ structures_of start.table (accepted calls) ∙ ap (λ s. s ++ accepted calls) none;
+  walked = walked;
+  handles = hold start calls listing c;
+}
 
-pub is_after_its_calls : (w : Walk) (limit : ℕ) (closed : Bool) (first : Listing) (last : Counted) → first.structures ≡ [] → Keeps w limit closed last.table
-    → ArePieces w.sizes last.table.structures → IsAfterItsCalls w first last
-is_after_its_calls w limit closed first last none kept pieces = record {
+pub is_after_its_calls : (w : Walk) (first : Listing) (last : Counted) → first.structures ≡ [] → IsListing last.table → IsWalked w last.table
+    → IsAfterItsCalls w first last
+is_after_its_calls w first last none listing walked = record {
   holds = λ start calls begins c ends.
       subst (λ (l : Counted). IsAfter w first calls l.table) ends
       (subst (λ (f : Listing). IsAfter w f calls (table_after start calls).table) begins
-      (after w limit closed start calls (ap (λ l. l.structures) begins ∙ none) c (rw ends kept) (rw ends pieces)));
+      (after w start calls (ap (λ l. l.structures) begins ∙ none) c (rw ends listing) (rw ends walked)));
 }
 
 -- what stands at the beginning of bytes that stand in others stands there too

@@ -12,7 +12,9 @@ pub returns-clause-walked : goal.returns-clause-walked
 returns-clause-walked g c = rw (← c.table.view_is) (is_walked g.K.Kind.walk g.K.Kind.limit g.K.Kind.closed _ c.table.invariant)
 
 pub returns-clause-calls : goal.returns-clause-calls
-returns-clause-calls g c = rw (← c.table.view_is) (λ pieces first none. is_after_its_calls g.K.Kind.walk g.K.Kind.limit g.K.Kind.closed first _ none c.table.invariant pieces)
+returns-clause-calls g c = rw (← c.table.view_is) (λ pieces first none.
+    is_after_its_calls g.K.Kind.walk first _ none c.table.invariant.is
+    (is_walked g.K.Kind.walk g.K.Kind.limit g.K.Kind.closed _ c.table.invariant pieces))
 
 pub returns-clause-nodes : goal.returns-clause-nodes
 returns-clause-nodes g c = rw (← c.table.view_is) (holds_nodes _ c.table.invariant.is)
