@@ -1,6 +1,6 @@
 //! The tables of an image, each found by the address that another one contains.
 
-ghost use Rattle.std.specs.Prelude.{◌≡◌, ◌≢◌, ℕ, ◌+◌, ◌<◌, ◌≤◌, ◌%◌, List, length, sum, codes, slice_index_or, Option, IsTrue, IfSome, IfNone, IfOk, IfErr, OnOk, OnErr, ◌↔◌};
+ghost use Rattle.std.specs.Prelude.{◌≡◌, ◌≢◌, ℕ, ◌+◌, ◌<◌, ◌≤◌, List, length, codes, slice_index_or, Option, IfSome, IfNone, IfOk, IfErr, OnOk, OnErr};
 ghost use Rattle.std.specs.List.{All};
 ghost use Rattle.acpi_base.specs.Bytes.{field_at};
 ghost use Rattle.acpi_base.specs.Table.{IsTrueTable};
@@ -12,47 +12,9 @@ ghost use Rattle.acpi_layout.specs.Found.{address_of, facs_address, dsdt_address
 
 use crate::fault::ImageFault;
 use crate::located::Located;
-use acpi_base::checksum::Checksum;
+use acpi_read::bytes::{dword_at, qword_at, sums_to_zero};
 use acpi_read::table::Table;
 use std::alloc::Global;
-
-// The number in four bytes, lowest first.
-fn dword(bytes: &[u8], offset: usize) -> u32
-    requires { offset + 4 ≤ length bytes.now }
-    ensures { result ≡ field_at offset 4 bytes.now }
-{
-    u32::from_le_bytes([
-        bytes[offset],
-        bytes[offset + 1],
-        bytes[offset + 2],
-        bytes[offset + 3],
-    ])
-}
-
-// The number in eight bytes, lowest first.
-fn qword(bytes: &[u8], offset: usize) -> u64
-    requires { offset + 8 ≤ length bytes.now }
-    ensures { result ≡ field_at offset 8 bytes.now }
-{
-    u64::from_le_bytes([
-        bytes[offset],
-        bytes[offset + 1],
-        bytes[offset + 2],
-        bytes[offset + 3],
-        bytes[offset + 4],
-        bytes[offset + 5],
-        bytes[offset + 6],
-        bytes[offset + 7],
-    ])
-}
-
-fn sums_to_zero(bytes: &[u8]) -> bool
-    ensures { IsTrue result ↔ (sum bytes.now % 256 ≡ 0) }
-{
-    let mut checksum = Checksum::default();
-    checksum.append(bytes);
-    checksum.raw_value() == 0
-}
 
 // The bytes from an address on.
 fn part(bytes: &[u8], base: u64, address: u64, size: u32) -> Result<&[u8], ImageFault>
@@ -89,7 +51,7 @@ fn table(bytes: &[u8], base: u64, address: u64) -> Result<Located, ImageFault>
     ensures err { OnErr result ((table : Located) → ¬ IsTableAt base bytes.now address table) }
 {
     let header = part(bytes, base, address, 36)?;
-    let length = dword(header, 4);
+    let length = dword_at(header, 4);
     if length < 36 {
         return Err(ImageFault::Length(address));
     }
@@ -131,7 +93,7 @@ pub(crate) fn pointer(bytes: &[u8], base: u64, address: u64) -> Result<Located, 
     if whole[15] != 2 {
         return Err(ImageFault::Revision(address));
     }
-    if dword(whole, 20) != 36 {
+    if dword_at(whole, 20) != 36 {
         return Err(ImageFault::Length(address));
     }
     if !sums_to_zero(&whole[..20]) || !sums_to_zero(whole) {
@@ -154,7 +116,7 @@ pub(crate) fn xsdt(bytes: &[u8], base: u64, pointer: Located) -> Result<Located,
     ensures err { OnErr result ((xsdt : Located)
         → ¬ IsNamedTableAt base bytes.now (codes "XSDT") (field_at 24 8 (contents base bytes.now pointer)) xsdt) }
 {
-    let address = qword(contents(bytes, base, pointer), 24);
+    let address = qword_at(contents(bytes, base, pointer), 24);
     named_table(bytes, base, *b"XSDT", address)
 }
 
@@ -165,9 +127,9 @@ fn address_of(fadt: &[u8], low: usize, high: usize) -> u64
     requires high { high + 8 ≤ length fadt.now }
     ensures { result ≡ address_of fadt.now low high }
 {
-    let address = qword(fadt, high);
+    let address = qword_at(fadt, high);
     if address == 0 {
-        return dword(fadt, low) as u64;
+        return dword_at(fadt, low) as u64;
     }
     address
 }
@@ -213,7 +175,7 @@ fn has_no_control(fadt: &[u8]) -> bool
     requires { 148 ≤ length fadt.now }
     ensures { result ≡ has_no_control fadt.now }
 {
-    is_reduced(dword(fadt, 112)) && facs_address(fadt) == 0
+    is_reduced(dword_at(fadt, 112)) && facs_address(fadt) == 0
 }
 
 // The FACS at an address.
@@ -226,7 +188,7 @@ fn control_at(bytes: &[u8], base: u64, address: u64) -> Result<Located, ImageFau
     if signature != *b"FACS" {
         return Err(ImageFault::Signature(address));
     }
-    if dword(whole, 4) != 64 {
+    if dword_at(whole, 4) != 64 {
         return Err(ImageFault::Length(address));
     }
     Ok(Located {
@@ -270,7 +232,7 @@ pub(crate) fn entries(
     let count = (whole.len() - 36) / 8;
     let mut entries = Vec::new(alloc);
     for i in 0..count {
-        entries.push(table(bytes, base, qword(whole, 36 + 8 * i))?)?;
+        entries.push(table(bytes, base, qword_at(whole, 36 + 8 * i))?)?;
     }
     Ok(entries)
 }

@@ -1,11 +1,10 @@
 //! Tables whose header is right.
 
-ghost use Rattle.std.specs.Prelude.{◌≡◌, ℕ, List, ◌+◌, ◌%◌, ◌≤◌, ◌↔◌, length, sum, take, slice_index, IsTrue, IsOk, IfOk, IfErr};
-ghost use Rattle.acpi_base.specs.Bytes.{field_at};
+ghost use Rattle.std.specs.Prelude.{◌≡◌, ℕ, List, ◌↔◌, take, slice_index, IsOk, IfOk, IfErr};
 ghost use Rattle.acpi_base.specs.Table.{IsTrueTable};
 ghost use Rattle.acpi_read.specs.Table.{IsFault};
 
-use acpi_base::checksum::Checksum;
+use crate::bytes::{dword_at, sums_to_zero};
 use acpi_term::read_error::ReadError;
 use std::marker::Model;
 
@@ -22,27 +21,6 @@ impl<'a> Model for Table<'a> {
     ghost view = { λ t. t.bytes.now };
 
     ghost invariant = { λ t. IsTrueTable t.bytes.now };
-}
-
-// The number in the four bytes at an offset, lowest first.
-fn dword_at(bytes: &[u8], offset: usize) -> u32
-    requires { offset + 4 ≤ length bytes.now }
-    ensures { result ≡ field_at offset 4 bytes.now }
-{
-    u32::from_le_bytes([
-        bytes[offset],
-        bytes[offset + 1],
-        bytes[offset + 2],
-        bytes[offset + 3],
-    ])
-}
-
-fn sums_to_zero(bytes: &[u8]) -> bool
-    ensures { IsTrue result ↔ (sum bytes.now % 256 ≡ 0) }
-{
-    let mut checksum = Checksum::default();
-    checksum.append(bytes);
-    checksum.raw_value() == 0
 }
 
 impl<'a> Table<'a> {

@@ -1,31 +1,10 @@
 //! Which bytes are a Root System Description Pointer or a Firmware ACPI Control Structure.
 
-ghost use Rattle.std.specs.Prelude.{◌≡◌, ◌↔◌, ◌+◌, ◌≤◌, ◌%◌, length, sum, IsTrue, IsOk};
-ghost use Rattle.acpi_base.specs.Bytes.{field_at};
+ghost use Rattle.std.specs.Prelude.{◌↔◌, IsOk};
 ghost use Rattle.acpitool_run.specs.Check.{IsPointer, IsControl};
 
-use acpi_base::checksum::Checksum;
+use acpi_read::bytes::{dword_at, sums_to_zero};
 use acpi_term::read_error::ReadError;
-
-fn dword_at(bytes: &[u8], offset: usize) -> u32
-    requires { offset + 4 ≤ length bytes.now }
-    ensures { result ≡ field_at offset 4 bytes.now }
-{
-    u32::from_le_bytes([
-        bytes[offset],
-        bytes[offset + 1],
-        bytes[offset + 2],
-        bytes[offset + 3],
-    ])
-}
-
-fn sums_to_zero(bytes: &[u8]) -> bool
-    ensures { IsTrue result ↔ (sum bytes.now % 256 ≡ 0) }
-{
-    let mut checksum = Checksum::default();
-    checksum.append(bytes);
-    checksum.raw_value() == 0
-}
 
 /// Returns Ok if bytes are a Root System Description Pointer (ACPI 6.5, 5.2.5.3): 20 bytes of revision 0, or as many as the
 /// length at offset 20 says, of which the first 20 and all sum to zero. The errors: ShortHeader for fewer bytes than these,

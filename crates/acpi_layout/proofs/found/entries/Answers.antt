@@ -10,12 +10,12 @@ pub returns-in_err-table-clause-err : goal.returns-in_err-table-clause-err
 returns-in_err-table-clause-err c =
     let P : ImageFault → Type 0 = λ e. e ≢ Memory → (entries : List Located) → AreEntries c.args.base c.args.bytes.now c.args.xsdt entries → ⊥ in
     at_exit _ P _ c.from_residual.ensures.1
-    (λ other. entry_refused _ _ _ _ c.contents-whole.ensures.is c.contents-whole.ensures.size _ _ c.qword.ensures c.loop-i-test.true c.in_err-table.ensures.err)
+    (λ other. entry_refused _ _ _ _ c.contents-whole.ensures.is c.contents-whole.ensures.size _ _ c.qword_at.ensures c.loop-i-test.true c.in_err-table.ensures.err)
 
 pub loop-i-preserved : goal.loop-i-preserved
 loop-i-preserved c = record {
   counted = omega (arith, c.in_ok-push.ensures.len, c.loop-i.invariant.counted);
-  each = entries_next _ _ _ _ _ _ _ _ c.in_ok-push.ensures.items c.loop-i.invariant.counted c.loop-i.invariant.each c.qword.ensures c.in_ok-table.ensures.ok;
+  each = entries_next _ _ _ _ _ _ _ _ c.in_ok-push.ensures.items c.loop-i.invariant.counted c.loop-i.invariant.each c.qword_at.ensures c.in_ok-table.ensures.ok;
 }
 
 pub returns-clause-ok : goal.returns-clause-ok

@@ -8,4 +8,4 @@ use Rattle.acpi_layout.proofs.found.xsdt.Goals as goal
 pub returns-clause-err : goal.returns-clause-err
 returns-clause-err c =
     subst (λ a. OnErr c.named_table.result ((t : Located) → IsNamedTableAt c.args.base c.args.bytes.now (codes "XSDT") a t → ⊥))
-    (c.qword-address.ensures ∙ ap (λ (b : List ℕ). field_at 24 8 b) c.contents.ensures.is) c.named_table.ensures.err
+    (c.qword_at-address.ensures ∙ ap (λ (b : List ℕ). field_at 24 8 b) c.contents.ensures.is) c.named_table.ensures.err
