@@ -3,9 +3,10 @@ use Rattle.std.proofs.Common.{◌≡◌, ℕ, List, Result, Ok, Err, IsOk, IfOk,
 use Rattle.acpi_text.specs.Reading.{bytes_of}
 use Rattle.acpi_c_run.specs.Refused.{by_memory}
 use Rattle.acpi_c_run.specs.Results.{seen, IsOutcome}
-use Rattle.acpi_c_run.specs.Show.{kind_of, IsShowable, IsTextBy, IsText, IsTextRefusal}
+use Rattle.acpi_forms.specs.Kind.{kind_of, IsTextBy}
+use Rattle.acpi_c_run.specs.Show.{IsShowable, IsText, IsTextRefusal}
 use Rattle.acpi_c_run.specs.declared.refused.Refused.{Refused}
-use Rattle.acpi_c_run.specs.declared.show.Kind.{Kind}
+use Rattle.acpi_forms.specs.declared.kind.Kind.{Kind}
 
 -- a text of bytes of a kind
 record Shown (kind : Kind) (bytes text : List ℕ) : Type 0 where

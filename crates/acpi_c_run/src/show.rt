@@ -3,38 +3,15 @@
 ghost use Rattle.std.specs.Prelude.{◌≡◌, IfOk, IfErr, IsOk, OnOk, string_bytes};
 ghost use Rattle.acpi_c_run.specs.Results.{seen, IsOutcome, Gives};
 ghost use Rattle.acpi_c_run.specs.Refused.{by_memory};
-ghost use Rattle.acpi_c_run.specs.Show.{kind_of, IsText, IsTextRefusal};
+ghost use Rattle.acpi_c_run.specs.Show.{IsText, IsTextRefusal};
 
 use crate::give::give;
 use crate::refused::Refused;
 use acpi_base::error::R;
+use acpi_forms::kind::{Kind, kind_of};
 use acpi_forms::show::{show as show_table, show_facs, show_rsdp};
 use acpi_read::table::Table;
 use std::alloc::{AllocError, Global};
-
-/// What bytes are by their signature.
-#[derive(Clone, Copy, Debug, PartialEq)]
-pub enum Kind {
-    /// A Root System Description Pointer.
-    Pointer,
-    /// A Firmware ACPI Control Structure.
-    Control,
-    /// A table with a standard header.
-    Table,
-}
-
-// Returns what bytes are by their signature.
-fn kind_of(bytes: &[u8]) -> Kind
-    ensures { result ≡ kind_of bytes.now }
-{
-    if bytes.starts_with(b"RSD PTR ") {
-        Kind::Pointer
-    } else if bytes.starts_with(b"FACS") {
-        Kind::Control
-    } else {
-        Kind::Table
-    }
-}
 
 // Returns the bytes of a text, or that memory ran out, which is the only error of a text.
 fn bytes_of(text: R<String>) -> Result<Vec<u8>, Refused>

@@ -1,3 +1,4 @@
 pub mod Named
 pub mod Shows
+pub mod Kind
 pub mod Makes

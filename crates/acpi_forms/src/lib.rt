@@ -5,6 +5,7 @@ pub mod arm;
 pub mod fixed;
 pub mod form;
 pub mod hest;
+pub mod kind;
 pub mod lists;
 pub mod make;
 pub mod matrices;

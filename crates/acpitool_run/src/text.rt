@@ -3,39 +3,16 @@
 ghost use Rattle.std.specs.Prelude.{◌≡◌, string_bytes, IfOk, IfErr};
 ghost use Rattle.acpi_term.specs.declared.read_error.ReadError.TheVariants.{Memory};
 ghost use Rattle.acpiread_run.specs.Fault.{IsRefusal};
-ghost use Rattle.acpitool_run.specs.Text.{kind_of, IsText, IsTextFault};
+ghost use Rattle.acpitool_run.specs.Text.{IsText, IsTextFault};
 
 use crate::check::{check_control, check_pointer};
 use acpi_base::error::R;
+use acpi_forms::kind::{Kind, kind_of};
 use acpi_forms::show::{show, show_facs, show_rsdp};
 use acpi_read::table::Table;
 use acpi_term::read_error::ReadError;
 use acpiread_run::fault::Fault;
 use std::alloc::Global;
-
-/// What bytes are by their signature.
-#[derive(Clone, Copy, Debug, PartialEq)]
-pub enum Kind {
-    /// A Root System Description Pointer.
-    Pointer,
-    /// A Firmware ACPI Control Structure.
-    Control,
-    /// A table with a standard header.
-    Table,
-}
-
-/// Returns what bytes are by their signature.
-pub fn kind_of(bytes: &[u8]) -> Kind
-    ensures { result ≡ kind_of bytes.now }
-{
-    if bytes.starts_with(b"RSD PTR ") {
-        Kind::Pointer
-    } else if bytes.starts_with(b"FACS") {
-        Kind::Control
-    } else {
-        Kind::Table
-    }
-}
 
 // Returns a text, or that memory ran out, which is the only error of a text.
 fn made(text: R<String>) -> Result<String, Fault>

@@ -1,8 +1,8 @@
 use Rattle.std.proofs.Common.{◌≡◌, IfOk, string_bytes, rules}
 use Rattle.acpi_base.specs.Table.{IsTrueTable}
 use Rattle.acpi_text.specs.Reading.{bytes_of}
-use Rattle.acpi_c_run.specs.Show.{kind_of, IsTextBy}
-use Rattle.acpi_c_run.specs.declared.show.Kind.TheVariants.{Pointer, Control, Table}
+use Rattle.acpi_forms.specs.Kind.{kind_of, IsTextBy}
+use Rattle.acpi_forms.specs.declared.kind.Kind.TheVariants.{Pointer, Control, Table}
 use Rattle.acpi_c_run.proofs.Texts.{outcome}
 use Rattle.acpi_c_run.proofs.show.shown.Goals as goal
 

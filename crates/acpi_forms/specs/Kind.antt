@@ -1,0 +1,21 @@
+-- What bytes are by their signature, and their text.
+use Rattle.std.specs.Prelude.{ℕ, nat_eq, List, if◌then◌else◌, codes, None}
+use Rattle.std.specs.List.{starts_with}
+use Rattle.acpi_base.specs.Bytes.{field_at}
+use Rattle.acpi_base.specs.Walk.{walk_of}
+use Rattle.acpi_forms.specs.Named.{names_of, rsdp_names, facs_names}
+use Rattle.acpi_forms.specs.Shows.{IsTextOf}
+use Rattle.acpi_forms.specs.declared.kind.Kind.{Kind}
+use Rattle.acpi_forms.specs.declared.kind.Kind.TheVariants.{Pointer, Control, Table}
+
+abbrev pub kind_of : List ℕ → Kind
+kind_of bytes =
+    if starts_with nat_eq bytes (codes "RSD PTR ") then Pointer
+    else (if starts_with nat_eq bytes (codes "FACS") then Control
+    else Table)
+
+-- the text of bytes of a kind
+abbrev pub IsTextBy : Kind → List ℕ → List ℕ → Type 0
+IsTextBy Pointer bytes text = IsTextOf rsdp_names None bytes text
+IsTextBy Control bytes text = IsTextOf facs_names None bytes text
+IsTextBy Table bytes text = IsTextOf (names_of (field_at 0 4 bytes)) (walk_of (field_at 0 4 bytes)) bytes text
