@@ -3,7 +3,7 @@
 # AML. acpitool shows a table field by field, finds the tables of an image, and makes a table of a text. The same programs read
 # the tables of an Arm machine. Last, acpiread is run on a file that ends early or never, on a wrong word, with little memory, and
 # with output that can't be written. The programs are proved before they are built, with everything that they depend on. The first
-# run takes 40 minutes on four processors, and a later one seconds. With `built`, the programs are those that `rt ci` left, and
+# run takes half an hour on four processors, and a later one seconds. With `built`, the programs are those that `rt ci` left, and
 # nothing is proved.
 set -eu
 cd "$(dirname "$0")"
