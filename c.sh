@@ -120,7 +120,7 @@ refusing() {
 }
 refusing 0
 cp "$work/out" "$work/whole"
-growths=$(cat "$work/growths")
+read -r growths _ <"$work/growths"
 number=0
 while [ "$number" -lt "$growths" ]; do
     number=$((number + 1))

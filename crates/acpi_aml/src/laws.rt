@@ -8,6 +8,8 @@ ghost use Rattle.acpi_aml.specs.Laws.{VarPackagesMean, BuffersMean, BufferTermsM
 use crate::eisa::EISAName;
 use crate::uuid::Uuid;
 
+pub use crate::derived::equal_values_are_the_same;
+
 /// A builder to which elements were added writes the package of these elements.
 pub fn builders_make_packages()
     ensures { BuildersMakePackages }

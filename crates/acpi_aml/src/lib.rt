@@ -4,6 +4,7 @@
 pub mod buffer;
 pub mod builder;
 pub mod control;
+mod derived;
 pub mod eisa;
 pub mod field;
 mod hex;

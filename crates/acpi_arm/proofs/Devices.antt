@@ -1,16 +1,19 @@
 -- Tables of devices, and their devices.
-use Rattle.std.proofs.Common.{rules, ◌≡◌, ℕ, ◌<◌, ◌^◌, ◌⊎◌, List, [], ◌∷◌, ◌++◌, length, take, drop, refl, sym, ap, subst, ◌∙◌, arith, append_assoc, length-append, ⊎_elim, inl}
+use Rattle.std.proofs.Common.{rules, ◌≡◌, ℕ, ◌<◌, ◌^◌, ◌⊎◌, List, [], ◌∷◌, ◌++◌, length, take, drop, refl, sym, ap, subst, ◌∙◌, arith, append_assoc, length-append, ⊎_elim, inl, false}
 use Rattle.std.specs.Prelude.{Result, Ok, Err, None, Some}
 use Rattle.std.specs.List.{concat}
 use Rattle.std.proofs.lemmas.List.{append-nil, drop_at}
 use Rattle.acpi_base.specs.Bytes.{le, carried, field_at}
-use Rattle.acpi_base.specs.Walk.{IsPiece, ArePieces, IsSound, Walks, dbg2_walk, walk_of}
+use Rattle.acpi_base.specs.Walk.{IsPiece, ArePieces, Walks, walk_of}
+use Rattle.acpi_base.specs.declared.further_walk.FurtherWalk.{FurtherWalk}
+use Rattle.acpi_base.specs.FurtherWalk.{dbg2_walk, further_walk_of, FollowsBy, AreStructuresOf, IsSoundFurther}
 use Rattle.acpi_base.specs.declared.error.Error.{Error}
 use Rattle.acpi_base.specs.declared.oem.Oem.{Oem}
 use Rattle.acpi_base.specs.declared.walk.Place.TheVariants.{Word}
 use Rattle.acpi_base.specs.declared.walk.Sizes.TheVariants.{ToldAt}
 use Rattle.acpi_base.proofs.Bytes.{carried_le}
-use Rattle.acpi_base.proofs.Walks.{one_by, pieces_push}
+use Rattle.acpi_base.proofs.Walks.{pieces_push}
+use Rattle.acpi_base.proofs.FurtherWalks.{walks_follow, one_list_of_structures}
 use Rattle.acpi_core.specs.Addition.{Counted, Adds}
 use Rattle.acpi_core.specs.Listing.{Listing, IsListing, bytes_of, field_limit}
 use Rattle.acpi_core.specs.Structure.{structure_of}
@@ -97,23 +100,24 @@ walks oem devices is each =
       started = λ some. ap (λ b. carried (take 4 b)) (ap (drop 36) behind_front ∙ drop_at p.front (le 4 44 ++ (le 4 n ++ s)) 36 p.long);
     }
 
-sound : IsSound dbg2_walk
-sound = search rules
-
 listed_is_walked : (oem : Oem) (devices : List (List ℕ)) → IsListing (listed oem devices) → ArePieces (ToldAt (Word 1)) devices
-    → IsWalked dbg2_walk (listed oem devices)
+    → IsWalked false dbg2_walk (listed oem devices)
 listed_is_walked oem devices is each =
     let t = listed oem devices in
-    let found = walks oem devices is each in
-    let by : walk_of (field_at 0 4 (bytes_of t)) ≡ Some dbg2_walk = ap walk_of (signature_told t is) in
+    let f : FurtherWalk = record { walk = dbg2_walk; least = 44 } in
+    let sound : IsSoundFurther f = search rules in
+    let follows : FollowsBy (Some f) (bytes_of t) devices = inl (walks_follow f (bytes_of t) devices sound (walks oem devices is each)) in
+    let none : walk_of (field_at 0 4 (bytes_of t)) ≡ None = ap walk_of (signature_told t is) in
+    let by : further_walk_of (field_at 0 4 (bytes_of t)) ≡ Some f = ap further_walk_of (signature_told t is) in
+    let found : AreStructuresOf (bytes_of t) devices = rw (none, by) follows in
     record {
       is_true = (are_true t is).0;
-      walks = rw by (inl found);
-      only = rw by (λ pieces other. one_by dbg2_walk (bytes_of t) pieces devices sound other (inl found));
+      walks = found;
+      only = λ pieces other. one_list_of_structures (bytes_of t) pieces devices other found;
       offsets = λ i h. places 44 devices i h;
     }
 
-pub is_walked : (t : Listing) → KeepsDevices t → IsWalked dbg2_walk t
+pub is_walked : (t : Listing) → KeepsDevices t → IsWalked false dbg2_walk t
 is_walked t kept =
     let same : t ≡ listed t.oem t.structures = ap {A = Listing} (λ l. record l { structures = t.structures }) kept.fixed in
     rw same (listed_is_walked t.oem t.structures (rw (← same) kept.is) kept.pieces)

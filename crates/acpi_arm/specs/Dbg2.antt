@@ -5,7 +5,8 @@ use Rattle.std.specs.declared.alloc.Global.{Global}
 use Rattle.acpi_base.specs.Bytes.{le}
 use Rattle.acpi_base.specs.Fields.{NamedField, byte, word, reserved, fields_joined}
 use Rattle.acpi_base.specs.Gas.{gas_bytes}
-use Rattle.acpi_base.specs.Walk.{ArePieces, dbg2_walk}
+use Rattle.acpi_base.specs.Walk.{ArePieces}
+use Rattle.acpi_base.specs.FurtherWalk.{dbg2_walk}
 use Rattle.acpi_base.specs.declared.gas.GAS.{GAS}
 use Rattle.acpi_base.specs.declared.oem.Oem.{Oem}
 use Rattle.acpi_core.specs.Listing.{Listing, IsListing, length_limit}

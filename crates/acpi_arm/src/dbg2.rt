@@ -1,9 +1,9 @@
 //! DBG2: the ports of a machine on which a kernel is debugged.
 
-ghost use Rattle.std.specs.Prelude.{◌≡◌, ◌≢◌, ◌<◌, length, string_bytes, IfOk, IfErr, OnOk};
+ghost use Rattle.std.specs.Prelude.{◌≡◌, ◌≢◌, ◌<◌, false, length, string_bytes, IfOk, IfErr, OnOk};
 ghost use Rattle.acpi_base.specs.Fields.{AreRowsOf};
 ghost use Rattle.acpi_base.specs.Object.{whole, whole_ends_well};
-ghost use Rattle.acpi_base.specs.Walk.{dbg2_walk};
+ghost use Rattle.acpi_base.specs.FurtherWalk.{dbg2_walk};
 ghost use Rattle.acpi_base.specs.declared.oem.Oem.{Oem};
 ghost use Rattle.acpi_core.specs.Addition.{Adds};
 ghost use Rattle.acpi_core.specs.Calls.{IsAfterItsCalls};
@@ -98,8 +98,8 @@ impl DBG2 {
 /// A law: after any calls the table is correct. Its devices, in order, are the one list that the walk finds.
 pub fn dbg2_is_walked(table: &DBG2)
     ensures keeps { KeepsDevices table.now.table }
-    ensures walked { IsWalked dbg2_walk table.now.table }
-    ensures calls { (oem : Oem) → IsAfterItsCalls dbg2_walk (dbg2 oem) table.now }
+    ensures walked { IsWalked false dbg2_walk table.now.table }
+    ensures calls { (oem : Oem) → IsAfterItsCalls false dbg2_walk (dbg2 oem) table.now }
 {
     let _ = &table.table;
 }

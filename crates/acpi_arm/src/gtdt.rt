@@ -1,9 +1,9 @@
 //! GTDT: the timers of an Arm machine.
 
-ghost use Rattle.std.specs.Prelude.{◌≡◌, ◌≢◌, ◌<◌, true, bit_or, length, OnOk, OnErr, IfOk, IfErr};
+ghost use Rattle.std.specs.Prelude.{◌≡◌, ◌≢◌, ◌<◌, false, true, bit_or, length, OnOk, OnErr, IfOk, IfErr};
 ghost use Rattle.acpi_base.specs.Fields.{AreRowsOf, fields_joined};
 ghost use Rattle.acpi_base.specs.Object.{whole, whole_ends_well};
-ghost use Rattle.acpi_base.specs.Walk.{gtdt_walk};
+ghost use Rattle.acpi_base.specs.FurtherWalk.{gtdt_walk};
 ghost use Rattle.acpi_base.specs.declared.oem.Oem.{Oem};
 ghost use Rattle.acpi_core.specs.Addition.{Adds};
 ghost use Rattle.acpi_core.specs.Calls.{IsAfterItsCalls};
@@ -42,6 +42,8 @@ pub struct GtdtKind;
 
 impl Kind for GtdtKind {
     ghost walk = { gtdt_walk };
+
+    ghost ported = { false };
 
     ghost limit = { length_limit };
 
@@ -108,9 +110,9 @@ impl GTDT {
 
 /// A law: after any calls the table is correct. Its platform timers, in order, are the one list that the walk finds.
 pub fn gtdt_is_walked(table: &GTDT)
-    ensures keeps { Keeps gtdt_walk length_limit true table.now.table.table }
-    ensures walked { IsWalked gtdt_walk table.now.table.table }
-    ensures calls { (oem : Oem) (timers : Timers) → IsAfterItsCalls gtdt_walk (gtdt oem timers) table.now.table }
+    ensures keeps { Keeps false gtdt_walk length_limit true table.now.table.table }
+    ensures walked { IsWalked false gtdt_walk table.now.table.table }
+    ensures calls { (oem : Oem) (timers : Timers) → IsAfterItsCalls false gtdt_walk (gtdt oem timers) table.now.table }
 {
     is_walked(&table.table)
 }

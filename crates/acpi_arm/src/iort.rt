@@ -1,8 +1,8 @@
 //! IORT: how the ids of devices reach SMMUs and interrupt translation services.
 
-ghost use Rattle.std.specs.Prelude.{◌≡◌, true, length};
+ghost use Rattle.std.specs.Prelude.{◌≡◌, false, true, length};
 ghost use Rattle.acpi_base.specs.Object.{whole, whole_ends_well};
-ghost use Rattle.acpi_base.specs.Walk.{iort_walk};
+ghost use Rattle.acpi_base.specs.FurtherWalk.{iort_walk};
 ghost use Rattle.acpi_base.specs.declared.oem.Oem.{Oem};
 ghost use Rattle.acpi_core.specs.Addition.{Adds, AddsAt};
 ghost use Rattle.acpi_core.specs.Calls.{IsAfterItsCalls};
@@ -61,6 +61,8 @@ pub struct IortKind;
 
 impl Kind for IortKind {
     ghost walk = { iort_walk };
+
+    ghost ported = { false };
 
     ghost limit = { length_limit };
 
@@ -194,9 +196,9 @@ impl IORT {
 
 /// A law: after any calls the table is correct. Its nodes, in order, are the one list that the walk finds.
 pub fn iort_is_walked(table: &IORT)
-    ensures keeps { Keeps iort_walk length_limit true table.now.table.table }
-    ensures walked { IsWalked iort_walk table.now.table.table }
-    ensures calls { (oem : Oem) → IsAfterItsCalls iort_walk (iort oem) table.now.table }
+    ensures keeps { Keeps false iort_walk length_limit true table.now.table.table }
+    ensures walked { IsWalked false iort_walk table.now.table.table }
+    ensures calls { (oem : Oem) → IsAfterItsCalls false iort_walk (iort oem) table.now.table }
     ensures nodes { NodesStand table.now.table.table }
 {
     is_walked(&table.table)

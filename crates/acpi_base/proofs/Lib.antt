@@ -10,4 +10,5 @@ pub mod Records
 pub mod Values
 pub mod Tables
 pub mod Walks
+pub mod FurtherWalks
 pub mod Ends

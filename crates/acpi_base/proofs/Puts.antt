@@ -84,7 +84,7 @@ pub put-append : (i : ℕ) (a x y : List ℕ) → i + length a ≤ length x → 
 unfolding put
 put-append i a x y h = rw (take-append-le i x y (omega arith), drop-append-le (i + length a) x y h) (simp append_assoc)
 
-take-put : (n i : ℕ) (a x : List ℕ) → n ≤ i → i ≤ length x → take n (put i a x) ≡ take n x
+pub take-put : (n i : ℕ) (a x : List ℕ) → n ≤ i → i ≤ length x → take n (put i a x) ≡ take n x
 unfolding put
 take-put n i a x h k =
     take-append-le n (take i x) (a ++ drop (i + length a) x) (omega (arith, length-take-le i x k)) ∙ sym (take-append-le n (take i x) (drop i x) (omega (arith, length-take-le i x k))) ∙ ap (take n) (take-append-drop i x)

@@ -1,7 +1,7 @@
 -- Tables: their checksums, their lengths, and what they are as sinks.
 use Rattle.std.proofs.Common.{◌≡◌, ℕ, ◌+◌, ◌-◌, ◌%◌, ◌<◌, ◌≤◌, ◌^◌, List, [], ◌∷◌, ◌++◌, length, take, drop, get_or, nat_lt, true, false, refl, sym, ◌∙◌, ap, arith, inl, inr, append_assoc, length-append}
 use Rattle.std.specs.Prelude.{Result, Ok, Err, OnOk, IfErr, None, sum, slice_set}
-use Rattle.std.proofs.lemmas.List.{append-nil, take_at}
+use Rattle.std.proofs.lemmas.List.{append-nil, take_at, drop-take}
 use Rattle.std.proofs.lemmas.Bool.{cases_lt}
 use Rattle.std.proofs.lemmas.Bool.Decides.{nat_tests}
 use Rattle.acpi_base.specs.declared.error.Error.{Error}
@@ -16,7 +16,7 @@ use Rattle.acpi_base.specs.Table.{with_checksum, table_of, IsTrueTable}
 use Rattle.acpi_base.specs.Sdt.{sealed, added, overwritten, Contents, Addition, AddedObject, fits, sdt_of, is_field_width}
 use Rattle.std.proofs.lemmas.List.Sums.{sum_by-append}
 use Rattle.acpi_base.specs.Kept.{IsKept}
-use Rattle.acpi_base.proofs.Puts.{put-put, put_comm, put_over, length-put, sum-put, put-append}
+use Rattle.acpi_base.proofs.Puts.{put-put, put_comm, put_over, take-put, length-put, sum-put, put-append}
 
 -- ---- checksums
 
@@ -182,6 +182,13 @@ table_is_true s body revision oem four six eight small =
     let size : length (h ++ body) ≡ 36 + length body = omega (arith, length-append h body, length-header s (36 + length body) revision oem four six eight) in
     checked_is_true (h ++ body) (36 + length body) (omega (arith, size)) size small (header_tells s (36 + length body) revision oem body four)
 
+-- bytes after a header that contains their length
+pub headed_is_true : (bytes h rest s : List ℕ) (n revision : ℕ) (oem : Oem) → bytes ≡ h ++ rest → h ≡ header s n revision oem → length bytes ≡ n → 36 ≤ n → n < 2 ^ 32
+    → length s ≡ 4 → IsTrueTable (with_checksum bytes)
+headed_is_true bytes h rest s n revision oem is head size long small four =
+    let told : take 4 (drop 4 bytes) ≡ le 4 n = ap (λ b. take 4 (drop 4 b)) (is ∙ ap (λ b. b ++ rest) head) ∙ header_tells s n revision oem rest four in
+    (checked_is_true bytes n (omega (arith, size, long)) size small told).0
+
 pub sealed_is_true : (c : List ℕ) → 36 ≤ length c → length c < 2 ^ 32 → IsTrueTable (sealed c) × (length (sealed c) ≡ length c)
 sealed_is_true c long small =
     let told = put 4 (le 4 (length c)) c in
@@ -201,6 +208,21 @@ pub overwritten_is_zero : (table bytes : List ℕ) (offset : ℕ) → 36 ≤ len
 overwritten_is_zero table bytes offset long within =
     let size : length (put offset bytes table) ≡ length table = length-put offset bytes table within in
     (sum-with_checksum (put offset bytes table) (omega (arith, size)), length-with_checksum (put offset bytes table) (omega (arith, size)) ∙ size)
+
+-- bytes that are written after the header leave the length field
+pub overwritten_is_true : (table bytes : List ℕ) (offset : ℕ) → IsTrueTable table → 36 ≤ offset → offset + length bytes ≤ length table
+    → IsTrueTable (overwritten table offset bytes)
+overwritten_is_true table bytes offset valid after within =
+    let wrote = put offset bytes table in
+    let size : length wrote ≡ length table = length-put offset bytes table within in
+    let zero = overwritten_is_zero table bytes offset valid.header within in
+    let front : take 8 wrote ≡ take 8 table = take-put 8 offset bytes table (omega arith) (omega arith) in
+    let field : take 4 (drop 4 wrote) ≡ take 4 (drop 4 table) = sym (drop-take 4 4 wrote) ∙ ap (drop 4) front ∙ drop-take 4 4 table in
+    record {
+      header = omega (arith, zero.1, valid.header);
+      tells = ap carried (field_kept wrote (omega (arith, size, valid.header)) ∙ field) ∙ valid.tells ∙ sym zero.1;
+      zero = zero.0;
+    }
 
 -- bytes written while the checksum is cleared are written all the same
 cleared_put : (i x : ℕ) (a b : List ℕ) → 10 ≤ length b → i + length a ≤ length b → put 9 (x ∷ []) (put i a (put 9 (0 ∷ []) b)) ≡ put 9 (x ∷ []) (put i a b)

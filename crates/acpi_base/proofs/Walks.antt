@@ -1,5 +1,5 @@
 -- Walks of tables.
-use Rattle.std.proofs.Common.{rules, ◌≡◌, ℕ, ◌+◌, ◌≤◌, ◌⊎◌, List, [], ◌∷◌, ◌++◌, length, take, drop, refl, sym, ap, ◌∙◌, arith, length-append, length-drop, inl, inr}
+use Rattle.std.proofs.Common.{rules, ◌≡◌, ℕ, ◌+◌, ◌≤◌, List, [], ◌∷◌, ◌++◌, length, take, drop, refl, sym, ap, subst, ◌∙◌, arith, length-append, length-drop}
 use Rattle.std.specs.Prelude.{Option, Some, None, Bool, true, false, ◌==◌, if◌then◌else◌}
 use Rattle.std.specs.List.{concat}
 use Rattle.std.proofs.lemmas.List.{append-nil, take-append-le, drop-append-le, take_at, drop_at}
@@ -8,8 +8,8 @@ use Rattle.acpi_base.specs.Bytes.{carried, field_at}
 use Rattle.acpi_base.specs.declared.walk.Sizes.{Sizes}
 use Rattle.acpi_base.specs.declared.walk.Sizes.TheVariants.{EachOf, ToldAt, BySource}
 use Rattle.acpi_base.specs.declared.walk.Walk.{Walk}
-use Rattle.acpi_base.specs.Walk.{place_offset, place_width, end_of, number_in, source_size, IsPiece, ArePieces, HasSizes, IsShort, IsSound, OneWalk, Walks}
-use Rattle.acpi_base.specs.Walk.{walks, find_walk, walk_of, named, WalksBy, OneListOfPieces}
+use Rattle.acpi_base.specs.Walk.{place_offset, place_width, end_of, number_in, source_size, IsPiece, ArePieces, HasSizes, IsSound, OneWalk, Walks}
+use Rattle.acpi_base.specs.Walk.{walks, find_row, walk_of, named, WalksBy, OneListOfPieces}
 
 -- a field in the front of a list
 pub field_front : (offset w : ℕ) (a b : List ℕ) → offset + w ≤ length a → field_at offset w (a ++ b) ≡ field_at offset w a
@@ -65,41 +65,28 @@ one_walk w bytes ps qs has a b = one_list w.sizes ps qs has a.each b.each (sym a
 
 -- ---- the walks of all signatures
 
-if_sound : (b : Bool) (x : Walk) (o : Option Walk) (w : Walk) → IsSound x → (o ≡ Some w → IsSound w) → (if b then Some x else o) ≡ Some w → IsSound w
-if_sound true x o w sound rest is = let same : x ≡ w = cc in rw (← same) sound
-if_sound false x o w sound rest is = rest is
+if_found : {W : Type 0} (P : W → Type 0) (b : Bool) (x : W) (o : Option W) (w : W) → P x → (o ≡ Some w → P w) → (if b then Some x else o) ≡ Some w → P w
+if_found P true x o w holds rest is = let same : x ≡ w = cc in subst P same holds
+if_found P false x o w holds rest is = rest is
 
-abbrev AllAreSound : List (List ℕ × Walk) → Type 0
-AllAreSound [] = Unit {0}
-AllAreSound (row ∷ rows) = IsSound row.1 × AllAreSound rows
+-- what holds of each row of a list
+abbrev pub HoldsOfRows : {W : Type 0} → (W → Type 0) → List (List ℕ × W) → Type 0
+HoldsOfRows P [] = Unit {0}
+HoldsOfRows P (row ∷ rows) = P row.1 × HoldsOfRows P rows
 
-found_is_sound : (s : ℕ) (rows : List (List ℕ × Walk)) (w : Walk) → AllAreSound rows → find_walk s rows ≡ Some w → IsSound w
-found_is_sound s [] w all is = absurd cc
-found_is_sound s (row ∷ rows) w all is = if_sound (s == named row.0) row.1 (find_walk s rows) w all.0 (found_is_sound s rows w all.1) is
+-- holds of the row that is found
+pub found_holds : {W : Type 0} (P : W → Type 0) (s : ℕ) (rows : List (List ℕ × W)) (w : W) → HoldsOfRows P rows → find_row s rows ≡ Some w → P w
+found_holds P s [] w all is = absurd cc
+found_holds P s (row ∷ rows) w all is = if_found P (s == named row.0) row.1 (find_row s rows) w all.0 (found_holds P s rows w all.1) is
 
-all_are_sound : AllAreSound walks
+all_are_sound : HoldsOfRows IsSound walks
 all_are_sound = search rules
 
 pub is_sound : (s : ℕ) (w : Walk) → walk_of s ≡ Some w → IsSound w
-is_sound s w is = found_is_sound s walks w all_are_sound is
-
--- no byte of a short table is where structures would begin
-ends_before : (start first size : ℕ) → first ≤ start → (size ≡ first) ⊎ (size ≡ start) → size ≤ start
-ends_before start first size within (inl here) = omega arith
-ends_before start first size within (inr here) = omega arith
-
--- so it has no structures
-none_in_short : (w : Walk) (bytes : List ℕ) (ps : List (List ℕ)) → IsSound w → IsShort w bytes → Walks w bytes ps → ps ≡ []
-none_in_short w bytes [] sound short walks = refl
-none_in_short w bytes (p ∷ ps) sound short walks =
-    let ends = ends_before w.start (end_of w.first) (length bytes) sound.told short.ends in
-    absurd (omega (arith, ends, ap length walks.joined, length-drop w.start bytes, length-append p (concat ps), piece_has_bytes w.sizes p sound.has walks.each.0))
+is_sound s w is = found_holds IsSound s walks w all_are_sound is
 
 pub one_by : (w : Walk) (bytes : List ℕ) (ps qs : List (List ℕ)) → IsSound w → WalksBy (Some w) bytes ps → WalksBy (Some w) bytes qs → ps ≡ qs
-one_by w bytes ps qs sound (inl a) (inl b) = one_walk w bytes ps qs sound.has a b
-one_by w bytes ps qs sound (inl a) (inr b) = none_in_short w bytes ps sound b.0 a ∙ sym b.1
-one_by w bytes ps qs sound (inr a) (inl b) = a.1 ∙ sym (none_in_short w bytes qs sound a.0 b)
-one_by w bytes ps qs sound (inr a) (inr b) = a.1 ∙ sym b.1
+one_by w bytes ps qs sound a b = one_walk w bytes ps qs sound.has a b
 
 pieces_by : (o : Option Walk) → ((w : Walk) → o ≡ Some w → IsSound w) → (bytes : List ℕ) (ps qs : List (List ℕ)) → WalksBy o bytes ps → WalksBy o bytes qs → ps ≡ qs
 pieces_by (Some w) sound bytes ps qs a b = one_by w bytes ps qs (sound w refl) a b

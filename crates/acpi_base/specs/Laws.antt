@@ -69,9 +69,9 @@ OverwrittenSumsToZero =
 abbrev pub AddedAtOnce : Type 0
 AddedAtOnce = (table a b : List ℕ) → 36 ≤ length table → added (added table a) b ≡ added table (a ++ b)
 
--- Added bytes are the last bytes of a table.
+-- Added bytes are the last bytes of a table. Those between its header and its end stay.
 abbrev pub AddedEnds : Type 0
-AddedEnds = (table bytes : List ℕ) → 36 ≤ length table → drop 36 (added table bytes) ≡ drop 36 table ++ bytes
+AddedEnds = (at : ℕ) (table bytes : List ℕ) → 36 ≤ at → at ≤ length table → drop at (added table bytes) ≡ drop at table ++ bytes
 
 -- After any list of calls, successful or not, a table has the bytes that these calls make.
 abbrev pub SdtsAreTheirCalls : Type 0

@@ -18,4 +18,6 @@ pub mod Kept
 pub mod Sdt
 pub mod SdtCalls
 pub mod Walk
+pub mod FurtherWalk
+pub mod Derived
 pub mod Laws

@@ -15,6 +15,10 @@ pub record Contents : Type 0 where
   pub bytes : List ℕ
   pub summed : ℕ
 
+-- the bytes are this many
+abbrev pub HasLength : ℕ → List ℕ → Type 0
+HasLength n bytes = length bytes ≡ n
+
 -- ---- the bytes after a call
 
 -- the bytes with their length at offset 4 and the right checksum

@@ -1,7 +1,8 @@
 -- Lists of calls that change an `Sdt`.
-use Rattle.std.specs.Prelude.{◌≡◌, ℕ, List, [], ◌∷◌, ◌++◌, Result, Ok, Err}
+use Rattle.std.specs.Prelude.{◌≡◌, ℕ, ◌+◌, ◌≤◌, List, [], ◌∷◌, ◌++◌, length, Result, Ok, Err}
 use Rattle.acpi_base.specs.declared.error.Error.{Error}
 use Rattle.acpi_base.specs.Sdt.{Contents, added, overwritten, Addition, Overwriting}
+use Rattle.acpi_base.specs.Table.{IsTrueTable}
 
 -- A call, and the table after it. `adds` stands for `append_slice`, `append` and the calls of the sink. `appends` is
 -- `append_object`, with the bytes that the object wrote: all of them, or a prefix if the call failed. `writes` stands for
@@ -53,3 +54,23 @@ contents (writes offset bytes next ∷ calls) = contents calls
 pub record IsSdtAfter (start : Contents) (calls : List SdtCall) (last : Contents) : Type 0 where
   pub is : last.bytes ≡ changed start.bytes calls
   pub additions : AreAdditions calls → last.bytes ≡ added start.bytes (contents calls)
+
+-- ---- calls that leave the header
+
+-- no call overwrites a byte of the header, and none passes the end of the table, which callers have to prove
+abbrev pub LeaveHeader : Contents → List SdtCall → Type 0
+LeaveHeader t [] = Unit {0}
+LeaveHeader t (adds bytes r next ∷ calls) = LeaveHeader next calls
+LeaveHeader t (appends bytes next ∷ calls) = LeaveHeader next calls
+LeaveHeader t (writes offset bytes next ∷ calls) =
+    (36 ≤ offset) × (offset + length bytes ≤ length t.bytes) × LeaveHeader next calls
+
+-- After such calls a valid table is the bytes that these calls make, and is valid: its length is right, and it sums to zero.
+pub record IsValidAfter (start : Contents) (calls : List SdtCall) (last : Contents) : Type 0 where
+  pub is : last.bytes ≡ changed start.bytes calls
+  pub valid : IsTrueTable last.bytes
+
+-- This holds for every list of calls that leads from a valid table to this one.
+pub record IsValidAfterItsCalls (last : Contents) : Type 0 where
+  pub holds : (start : Contents) (calls : List SdtCall) → IsTrueTable start.bytes → AreSdtCalls start calls
+      → LeaveHeader start calls → sdt_after start calls ≡ last → IsValidAfter start calls last

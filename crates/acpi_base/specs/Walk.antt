@@ -1,5 +1,5 @@
 -- How the structures of a table are found in its bytes.
-use Rattle.std.specs.Prelude.{◌≡◌, ℕ, ◌+◌, ◌≤◌, ◌⊎◌, ◌==◌, true, false, IsTrue, List, [], ◌∷◌, length, drop, codes}
+use Rattle.std.specs.Prelude.{◌≡◌, ℕ, ◌+◌, ◌≤◌, ◌==◌, List, [], ◌∷◌, length, drop, codes}
 use Rattle.std.specs.Prelude.{if◌then◌else◌, Option, Some, None}
 use Rattle.std.specs.List.{concat}
 use Rattle.acpi_base.specs.Bytes.{carried, field_at}
@@ -65,14 +65,6 @@ pub record Walks (w : Walk) (bytes : List ℕ) (pieces : List (List ℕ)) : Type
   pub counted : Tells w.count bytes (length pieces)
   pub started : Tells w.first bytes w.start
 
--- A table without structures that contains 0 as their number and as the offset of the first. It ends after that offset, or where
--- its structures would begin.
-pub record IsShort (w : Walk) (bytes : List ℕ) : Type 0 where
-  pub may : IsTrue w.short
-  pub ends : (length bytes ≡ end_of w.first) ⊎ (length bytes ≡ w.start)
-  pub none : number_in w.count bytes ≡ 0
-  pub no_first : number_in w.first bytes ≡ 0
-
 -- the offsets of the pieces, if the first is at this offset
 abbrev pub offsets_from : ℕ → List (List ℕ) → List ℕ
 offsets_from start [] = []
@@ -90,71 +82,60 @@ least (EachOf size) = size
 least (ToldAt place) = end_of place
 least BySource = 2
 
--- Each structure of a walk has bytes and contains the field of its type. The table's own fields end before the structures, and in
--- a table that can be short the number of structures stands before the offset of the first.
+-- Each structure of a walk has bytes and contains the field of its type. The table's own fields end before the structures.
 pub record IsSound (w : Walk) : Type 0 where
   pub has : HasSizes w.sizes
   pub kind : end_of w.kind ≤ least w.sizes
   pub count : end_of w.count ≤ w.start
   pub told : end_of w.first ≤ w.start
-  pub short : IsTrue w.short → end_of w.count ≤ end_of w.first
 
 -- A table has at most one list of pieces.
 abbrev pub OneWalk : Type 0
 OneWalk = (w : Walk) (bytes : List ℕ) (ps qs : List (List ℕ)) → HasSizes w.sizes → Walks w bytes ps → Walks w bytes qs → ps ≡ qs
 
--- ---- the tables that have structures
+-- ---- the tables of the Rust crate that have structures
 
 abbrev pub xsdt_walk : Walk
-xsdt_walk = record { start = 36; sizes = EachOf 8; kind = Nowhere; count = Nowhere; first = Nowhere; short = false }
+xsdt_walk = record { start = 36; sizes = EachOf 8; kind = Nowhere; count = Nowhere; first = Nowhere }
 
 abbrev pub mcfg_walk : Walk
-mcfg_walk = record { start = 44; sizes = EachOf 16; kind = Nowhere; count = Nowhere; first = Nowhere; short = false }
+mcfg_walk = record { start = 44; sizes = EachOf 16; kind = Nowhere; count = Nowhere; first = Nowhere }
 
 abbrev pub madt_walk : Walk
-madt_walk = record { start = 44; sizes = ToldAt (Byte 1); kind = Byte 0; count = Nowhere; first = Nowhere; short = false }
+madt_walk = record { start = 44; sizes = ToldAt (Byte 1); kind = Byte 0; count = Nowhere; first = Nowhere }
 
 abbrev pub hest_walk : Walk
-hest_walk = record { start = 40; sizes = BySource; kind = Word 0; count = DWord 36; first = Nowhere; short = false }
+hest_walk = record { start = 40; sizes = BySource; kind = Word 0; count = DWord 36; first = Nowhere }
 
 abbrev pub srat_walk : Walk
-srat_walk = record { start = 48; sizes = ToldAt (Byte 1); kind = Byte 0; count = Nowhere; first = Nowhere; short = false }
+srat_walk = record { start = 48; sizes = ToldAt (Byte 1); kind = Byte 0; count = Nowhere; first = Nowhere }
 
 abbrev pub cedt_walk : Walk
-cedt_walk = record { start = 36; sizes = ToldAt (Word 2); kind = Byte 0; count = Nowhere; first = Nowhere; short = false }
+cedt_walk = record { start = 36; sizes = ToldAt (Word 2); kind = Byte 0; count = Nowhere; first = Nowhere }
 
 abbrev pub pptt_walk : Walk
-pptt_walk = record { start = 36; sizes = ToldAt (Byte 1); kind = Byte 0; count = Nowhere; first = Nowhere; short = false }
+pptt_walk = record { start = 36; sizes = ToldAt (Byte 1); kind = Byte 0; count = Nowhere; first = Nowhere }
 
 abbrev pub rhct_walk : Walk
-rhct_walk = record { start = 56; sizes = ToldAt (Word 2); kind = Word 0; count = DWord 48; first = DWord 52; short = false }
+rhct_walk = record { start = 56; sizes = ToldAt (Word 2); kind = Word 0; count = DWord 48; first = DWord 52 }
 
 abbrev pub viot_walk : Walk
-viot_walk = record { start = 48; sizes = ToldAt (Word 2); kind = Byte 0; count = Word 36; first = Word 38; short = false }
+viot_walk = record { start = 48; sizes = ToldAt (Word 2); kind = Byte 0; count = Word 36; first = Word 38 }
 
 abbrev pub rimt_walk : Walk
-rimt_walk = record { start = 48; sizes = ToldAt (Word 2); kind = Byte 0; count = DWord 36; first = DWord 40; short = false }
+rimt_walk = record { start = 48; sizes = ToldAt (Word 2); kind = Byte 0; count = DWord 36; first = DWord 40 }
 
 abbrev pub rqsc_walk : Walk
-rqsc_walk = record { start = 40; sizes = ToldAt (Word 2); kind = Byte 0; count = DWord 36; first = Nowhere; short = false }
+rqsc_walk = record { start = 40; sizes = ToldAt (Word 2); kind = Byte 0; count = DWord 36; first = Nowhere }
 
 abbrev pub hmat_walk : Walk
-hmat_walk = record { start = 40; sizes = ToldAt (DWord 4); kind = Word 0; count = Nowhere; first = Nowhere; short = false }
-
-abbrev pub gtdt_walk : Walk
-gtdt_walk = record { start = 104; sizes = ToldAt (Word 1); kind = Byte 0; count = DWord 88; first = DWord 92; short = true }
-
-abbrev pub iort_walk : Walk
-iort_walk = record { start = 48; sizes = ToldAt (Word 1); kind = Byte 0; count = DWord 36; first = DWord 40; short = false }
-
-abbrev pub dbg2_walk : Walk
-dbg2_walk = record { start = 44; sizes = ToldAt (Word 1); kind = Nowhere; count = DWord 40; first = DWord 36; short = false }
+hmat_walk = record { start = 40; sizes = ToldAt (DWord 4); kind = Word 0; count = Nowhere; first = Nowhere }
 
 -- a signature as a number, lowest byte first
 abbrev pub named : List ℕ → ℕ
 named signature = carried signature
 
--- the walks of the tables that have structures, by their signatures
+-- the walks of these tables, by their signatures
 abbrev pub walks : List (List ℕ × Walk)
 walks =
     (codes "XSDT", xsdt_walk)
@@ -169,23 +150,20 @@ walks =
     ∷ (codes "RIMT", rimt_walk)
     ∷ (codes "RQSC", rqsc_walk)
     ∷ (codes "HMAT", hmat_walk)
-    ∷ (codes "GTDT", gtdt_walk)
-    ∷ (codes "IORT", iort_walk)
-    ∷ (codes "DBG2", dbg2_walk)
     ∷ []
 
--- the walk in the row of a signature
-abbrev pub find_walk : ℕ → List (List ℕ × Walk) → Option Walk
-find_walk s [] = None
-find_walk s (row ∷ rows) = if s == named row.0 then Some row.1 else find_walk s rows
+-- what is in the row of a signature
+abbrev pub find_row : {W : Type 0} → ℕ → List (List ℕ × W) → Option W
+find_row s [] = None
+find_row s (row ∷ rows) = if s == named row.0 then Some row.1 else find_row s rows
 
--- the walk of the tables of a signature, if they have structures
+-- the walk of the tables of a signature, if it is one of these
 abbrev pub walk_of : ℕ → Option Walk
-walk_of s = find_walk s walks
+walk_of s = find_row s walks
 
--- the pieces are found by the walk, or the table is short and has none; without a walk there are no pieces
+-- the pieces are found by the walk; without a walk there are no pieces
 abbrev pub WalksBy : Option Walk → List ℕ → List (List ℕ) → Type 0
-WalksBy (Some w) bytes pieces = Walks w bytes pieces ⊎ (IsShort w bytes × (pieces ≡ []))
+WalksBy (Some w) bytes pieces = Walks w bytes pieces
 WalksBy None bytes pieces = pieces ≡ []
 
 -- the pieces are the structures of a table, found by the walk of its signature

@@ -5,8 +5,11 @@ ghost use Rattle.acpi_base.specs.Laws.{WritesJoin, NothingChangesNothing, Fronts
 ghost use Rattle.acpi_base.specs.Laws.{ValueMakesZero, WordsAreBytes, TablesAreTrue, AddedIsTrue, OverwrittenSumsToZero};
 ghost use Rattle.acpi_base.specs.Laws.{AddedAtOnce, AddedEnds, SdtsAreTheirCalls};
 ghost use Rattle.acpi_base.specs.Walk.{OneWalk, OneListOfPieces};
+ghost use Rattle.acpi_base.specs.FurtherWalk.{OneListOfStructures, StructuresArePieces};
 
 use crate::object::Aml;
+
+pub use crate::derived::{defaults_are_these, equal_values_are_the_same};
 
 /// A sink that takes two lists of bytes in turn ends as one that takes both joined.
 pub fn writes_join()
@@ -91,4 +94,14 @@ pub fn at_most_one_walk()
 /// A table's bytes have at most one list of structures, found by the walk of its signature.
 pub fn at_most_one_list_of_pieces()
     ensures { OneListOfPieces }
+{}
+
+/// The bytes of any table, of the Rust crate or a further one, have at most one list of structures.
+pub fn at_most_one_list_of_structures()
+    ensures { OneListOfStructures }
+{}
+
+/// The structures of a table of the Rust crate are its pieces.
+pub fn structures_are_pieces()
+    ensures { StructuresArePieces }
 {}

@@ -6,8 +6,9 @@ ghost use Rattle.std.specs.Int.{to_le_bytes, w16, w32, w64};
 ghost use Rattle.acpi_base.specs.Bytes.{le, zeros};
 ghost use Rattle.acpi_base.specs.Object.{whole, whole_ends_well, Wrote, WriteRefused};
 ghost use Rattle.acpi_base.specs.Sink.{Took, Refused};
-ghost use Rattle.acpi_base.specs.Table.{with_checksum, table_of};
-ghost use Rattle.acpi_base.specs.Sdt.{Addition, Overwriting, AddedObject, sdt_of, sdt_takes_nothing, sdt_takes_beginning};
+ghost use Rattle.acpi_base.specs.Table.{with_checksum, table_of, IsTrueTable};
+ghost use Rattle.acpi_base.specs.Sdt.{Addition, HasLength, Overwriting, AddedObject, sdt_of, sdt_takes_nothing, sdt_takes_beginning};
+ghost use Rattle.acpi_base.specs.SdtCalls.{IsValidAfterItsCalls};
 
 use crate::error::{Error, R};
 use crate::header::{header, seal};
@@ -126,6 +127,8 @@ impl Sdt {
     ) -> R<Sdt>
         ensures ok { IfOk result (λ table. table.bytes ≡ table_of signature revision
             (record { id = oem_id; table_id = oem_table; revision = oem_revision }) (zeros (length - 36))) }
+        ensures valid { IfOk result (λ table. IsTrueTable table.bytes) }
+        ensures size { IfOk result (λ table. HasLength length table.bytes) }
         ensures long { OnOk result (36 ≤ length) }
         ensures err { IfErr result (λ e. e ≢ Error.Memory → (e ≡ Error.ShortTable) × (length < 36)) }
     {
@@ -265,4 +268,12 @@ fn write_into(aml: &dyn Aml, table: &mut Sdt) -> R<()>
     ensures err { IfErr result (λ e. WriteRefused e (object aml.now) (sdt_of table.old.bytes) (sdt_of table.new.bytes)) }
 {
     aml.to_aml_bytes(table)
+}
+
+/// A law: after any list of calls that leave the header, successful or not, a table that `Sdt::new` made is valid. It has the
+/// bytes that these calls make, contains its length and sums to zero.
+pub fn sdt_is_valid(table: &Sdt)
+    ensures { IsValidAfterItsCalls table.now }
+{
+    let _ = &table.bytes;
 }

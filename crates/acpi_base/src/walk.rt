@@ -1,8 +1,8 @@
 //! Walks: how the structures of a table are found.
 
 ghost use Rattle.std.specs.Prelude.{◌≡◌, ◌↔◌, ◌≤◌, length, IsTrue, IfSome};
-ghost use Rattle.acpi_base.specs.Walk.{source_size, named, find_walk, walk_of, number_in, place_offset, end_of};
-ghost use Rattle.acpi_base.specs.Walk.{Tells, IsShort, IsSound};
+ghost use Rattle.acpi_base.specs.Walk.{source_size, named, find_row, walk_of, number_in, place_offset, end_of};
+ghost use Rattle.acpi_base.specs.Walk.{Tells, IsSound};
 
 /// A field of one, two or four bytes at an offset, or no field.
 #[derive(Clone, Copy, Debug)]
@@ -28,7 +28,7 @@ pub enum Sizes {
 #[derive(Clone, Copy, Debug)]
 pub struct Walk {
     /// The offset of the first structure.
-    pub start: u8,
+    pub start: usize,
     /// The length of each structure.
     pub sizes: Sizes,
     /// The field of a structure that contains its type.
@@ -37,40 +37,35 @@ pub struct Walk {
     pub count: Place,
     /// The field of the table that contains the offset of the first structure.
     pub first: Place,
-    /// Whether a table without structures may contain 0 in these two fields, and end after `first`: a GTDT of revision 2 has 96
-    /// bytes.
-    pub short: bool,
 }
 
 use Place::{Byte, DWord, Nowhere, Word};
 use Sizes::{BySource, EachOf, ToldAt};
 
-// The walks of all tables that have structures, by signature.
+// The walks of the tables of the Rust crate that have structures, by signature.
 #[rattlefmt::skip]
-const WALKS: [([u8; 4], Walk); 15] = [
-    (*b"XSDT", Walk { start: 36, sizes: EachOf(8), kind: Nowhere, count: Nowhere, first: Nowhere, short: false }),
-    (*b"MCFG", Walk { start: 44, sizes: EachOf(16), kind: Nowhere, count: Nowhere, first: Nowhere, short: false }),
-    (*b"APIC", Walk { start: 44, sizes: ToldAt(Byte(1)), kind: Byte(0), count: Nowhere, first: Nowhere, short: false }),
-    (*b"HEST", Walk { start: 40, sizes: BySource, kind: Word(0), count: DWord(36), first: Nowhere, short: false }),
-    (*b"SRAT", Walk { start: 48, sizes: ToldAt(Byte(1)), kind: Byte(0), count: Nowhere, first: Nowhere, short: false }),
-    (*b"CEDT", Walk { start: 36, sizes: ToldAt(Word(2)), kind: Byte(0), count: Nowhere, first: Nowhere, short: false }),
-    (*b"PPTT", Walk { start: 36, sizes: ToldAt(Byte(1)), kind: Byte(0), count: Nowhere, first: Nowhere, short: false }),
-    (*b"RHCT", Walk { start: 56, sizes: ToldAt(Word(2)), kind: Word(0), count: DWord(48), first: DWord(52), short: false }),
-    (*b"VIOT", Walk { start: 48, sizes: ToldAt(Word(2)), kind: Byte(0), count: Word(36), first: Word(38), short: false }),
-    (*b"RIMT", Walk { start: 48, sizes: ToldAt(Word(2)), kind: Byte(0), count: DWord(36), first: DWord(40), short: false }),
-    (*b"RQSC", Walk { start: 40, sizes: ToldAt(Word(2)), kind: Byte(0), count: DWord(36), first: Nowhere, short: false }),
-    (*b"HMAT", Walk { start: 40, sizes: ToldAt(DWord(4)), kind: Word(0), count: Nowhere, first: Nowhere, short: false }),
-    (*b"GTDT", Walk { start: 104, sizes: ToldAt(Word(1)), kind: Byte(0), count: DWord(88), first: DWord(92), short: true }),
-    (*b"IORT", Walk { start: 48, sizes: ToldAt(Word(1)), kind: Byte(0), count: DWord(36), first: DWord(40), short: false }),
-    (*b"DBG2", Walk { start: 44, sizes: ToldAt(Word(1)), kind: Nowhere, count: DWord(40), first: DWord(36), short: false }),
+const WALKS: [([u8; 4], Walk); 12] = [
+    (*b"XSDT", Walk { start: 36, sizes: EachOf(8), kind: Nowhere, count: Nowhere, first: Nowhere }),
+    (*b"MCFG", Walk { start: 44, sizes: EachOf(16), kind: Nowhere, count: Nowhere, first: Nowhere }),
+    (*b"APIC", Walk { start: 44, sizes: ToldAt(Byte(1)), kind: Byte(0), count: Nowhere, first: Nowhere }),
+    (*b"HEST", Walk { start: 40, sizes: BySource, kind: Word(0), count: DWord(36), first: Nowhere }),
+    (*b"SRAT", Walk { start: 48, sizes: ToldAt(Byte(1)), kind: Byte(0), count: Nowhere, first: Nowhere }),
+    (*b"CEDT", Walk { start: 36, sizes: ToldAt(Word(2)), kind: Byte(0), count: Nowhere, first: Nowhere }),
+    (*b"PPTT", Walk { start: 36, sizes: ToldAt(Byte(1)), kind: Byte(0), count: Nowhere, first: Nowhere }),
+    (*b"RHCT", Walk { start: 56, sizes: ToldAt(Word(2)), kind: Word(0), count: DWord(48), first: DWord(52) }),
+    (*b"VIOT", Walk { start: 48, sizes: ToldAt(Word(2)), kind: Byte(0), count: Word(36), first: Word(38) }),
+    (*b"RIMT", Walk { start: 48, sizes: ToldAt(Word(2)), kind: Byte(0), count: DWord(36), first: DWord(40) }),
+    (*b"RQSC", Walk { start: 40, sizes: ToldAt(Word(2)), kind: Byte(0), count: DWord(36), first: Nowhere }),
+    (*b"HMAT", Walk { start: 40, sizes: ToldAt(DWord(4)), kind: Word(0), count: Nowhere, first: Nowhere }),
 ];
 
-/// The walk of the tables of a signature, if they have structures. The signature is a number, lowest byte first.
+/// The walk of the tables of a signature, if they are tables of the Rust crate that have structures. The signature is a number,
+/// lowest byte first.
 pub fn walk_of(signature: u32) -> Option<Walk>
     ensures walk { result ≡ walk_of signature }
     ensures sound { IfSome result IsSound }
 {
-    find_walk(signature, &WALKS)
+    find_row(signature, &WALKS)
 }
 
 // A signature as a number, lowest byte first.
@@ -80,9 +75,9 @@ fn number(signature: &[u8; 4]) -> u32
     u32::from_le_bytes(*signature)
 }
 
-// The walk in the row of a signature.
-fn find_walk(signature: u32, rows: &[([u8; 4], Walk)]) -> Option<Walk>
-    ensures { result ≡ find_walk signature rows.now }
+/// What is in the row of a signature.
+pub(crate) fn find_row<W: Copy>(signature: u32, rows: &[([u8; 4], W)]) -> Option<W>
+    ensures { result ≡ find_row signature rows.now }
 {
     for row in rows {
         if signature == number(&row.0) {
@@ -162,19 +157,5 @@ impl Place {
             Place::Nowhere => true,
             place => place.number(bytes) == number,
         }
-    }
-}
-
-impl Walk {
-    /// Whether these are the bytes of a table without structures that contains 0 as the offset of the first.
-    pub fn is_short(self, bytes: &[u8]) -> bool
-        requires { IsSound self }
-        ensures { IsTrue result ↔ IsShort self bytes.now }
-    {
-        let size = bytes.len();
-        self.short
-            && (size == self.first.end() || size == usize::from(self.start))
-            && self.count.number(bytes) == 0
-            && self.first.number(bytes) == 0
     }
 }

@@ -1,10 +1,9 @@
 -- The structures of a table.
 use Rattle.std.specs.Prelude.{◌≡◌, ◌⊎◌, ℕ, ◌-◌, ◌^◌, List, [], ◌∷◌, length, Option, Some, None}
 use Rattle.acpi_base.specs.Table.{IsTrueTable}
-use Rattle.acpi_base.specs.Walk.{ArePiecesOf}
+use Rattle.acpi_base.specs.FurtherWalk.{AreStructuresOf}
 use Rattle.acpi_base.specs.declared.walk.Place.{Place}
-use Rattle.acpi_read.specs.Pieces.{kind_in, offsets_of, IsPieceFault}
-use Rattle.acpi_read.specs.Report.{kind_of}
+use Rattle.acpi_read.specs.Pieces.{kind_in, structure_kind_of, structure_offsets_of, IsStructureFault}
 use Rattle.acpi_read.specs.Table.{IsFault}
 use Rattle.acpi_term.specs.declared.read_error.ReadError.{ReadError}
 use Rattle.acpi_c_run.specs.Refused.{by_read}
@@ -28,11 +27,11 @@ structures kind _ _ = []
 pub record AreStructures (bytes : List ℕ) (found : List Structure) : Type 0 where
   pub table : IsTrueTable bytes
   pub pieces : List (List ℕ)
-  pub walk : ArePiecesOf bytes pieces
-  pub are : found ≡ structures (kind_of bytes) (offsets_of bytes pieces) pieces
+  pub walk : AreStructuresOf bytes pieces
+  pub are : found ≡ structures (structure_kind_of bytes) (structure_offsets_of bytes pieces) pieces
 
 -- bytes aren't a table, or its structures aren't found
 pub record IsStructuresRefusal (bytes : List ℕ) (refused : Refused) : Type 0 where
   pub error : ReadError
   pub is : refused ≡ by_read error
-  pub why : IsFault error bytes ⊎ (IsTrueTable bytes × IsPieceFault error bytes)
+  pub why : IsFault error bytes ⊎ (IsTrueTable bytes × IsStructureFault error bytes)

@@ -2,8 +2,7 @@
 
 ghost use Rattle.std.specs.Prelude.{◌≡◌, ◌++◌, IfOk, IfErr, OnOk, map};
 ghost use Rattle.acpi_base.specs.Table.{IsTrueTable};
-ghost use Rattle.acpi_read.specs.Pieces.{kind_in};
-ghost use Rattle.acpi_read.specs.Report.{kind_of};
+ghost use Rattle.acpi_read.specs.Pieces.{kind_in, structure_kind_of};
 ghost use Rattle.acpi_c_run.specs.Results.{seen, IsOutcome, Gives};
 ghost use Rattle.acpi_c_run.specs.Refused.{by_memory};
 ghost use Rattle.acpi_c_run.specs.Structures.{kind_or_none, structure, structures, AreStructures, IsStructuresRefusal};
@@ -41,7 +40,7 @@ fn kind_or_none(kind: Option<usize>) -> usize
 
 // Returns a structure of a table.
 fn structure_of(table: &Table, piece: &Piece<'_>) -> Structure
-    ensures { result ≡ structure (kind_of table.now) piece.entry.now.offset piece.entry.now.bytes.now }
+    ensures { result ≡ structure (structure_kind_of table.now) piece.entry.now.offset piece.entry.now.bytes.now }
 {
     Structure {
         offset: piece.offset,
@@ -51,9 +50,9 @@ fn structure_of(table: &Table, piece: &Piece<'_>) -> Structure
 }
 
 // Returns the structures of a table that has these pieces.
-fn structures(alloc: Global, table: &Table, pieces: &[Piece<'_>]) -> Result<Vec<Structure>, Refused>
+fn structures_of(alloc: Global, table: &Table, pieces: &[Piece<'_>]) -> Result<Vec<Structure>, Refused>
     ensures ok { IfOk result (λ found. found.items
-        ≡ structures (kind_of table.now) (map (λ p. p.offset) pieces.now) (map (λ p. p.bytes.now) pieces.now)) }
+        ≡ structures (structure_kind_of table.now) (map (λ p. p.offset) pieces.now) (map (λ p. p.bytes.now) pieces.now)) }
     ensures err { IfErr result (λ refused. refused ≡ by_memory) }
 {
     let mut found = Vec::with_capacity(alloc, pieces.len())?;
@@ -68,8 +67,8 @@ fn found(alloc: Global, bytes: &[u8]) -> Result<Vec<Structure>, Refused>
     ensures { IsOutcome (AreStructures bytes.now) (IsStructuresRefusal bytes.now) (seen (λ found. found.items) result) }
 {
     let table = Table::check(bytes)?;
-    let pieces = table.pieces(alloc)?;
-    structures(alloc, &table, &pieces)
+    let pieces = table.structures(alloc)?;
+    structures_of(alloc, &table, &pieces)
 }
 
 /// Writes the structures of a table to `out`, in order: the offset, the type and the size of each. `size` is how many there are.

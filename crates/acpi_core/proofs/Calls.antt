@@ -1,5 +1,5 @@
 -- Any list of calls.
-use Rattle.std.proofs.Common.{◌≡◌, ℕ, List, [], ◌∷◌, ◌++◌, ◌≤◌, length, take, drop, refl, sym, ap, subst, ◌∙◌, append_assoc, arith}
+use Rattle.std.proofs.Common.{◌≡◌, ℕ, Bool, List, [], ◌∷◌, ◌++◌, ◌≤◌, length, take, drop, refl, sym, ap, subst, ◌∙◌, append_assoc, arith}
 use Rattle.std.specs.Prelude.{Ok, Err, None}
 use Rattle.std.proofs.lemmas.List.{append-nil, take_at, take-append-le, take-append-drop, length-take}
 use Rattle.acpi_base.specs.declared.walk.Walk.{Walk}
@@ -47,23 +47,23 @@ hold t (adds_at o (Ok at) next ∷ calls) is c =
 hold t (adds_at o (Err e) next ∷ calls) is c = hold next calls is c.1
 hold t (refused next ∷ calls) is c = hold next calls is c.1
 
-after : (w : Walk) (start : Counted) (calls : List Call) → start.table.structures ≡ [] → AreCalls start calls
-    → IsListing (table_after start calls).table → IsWalked w (table_after start calls).table
-    → IsAfter w start.table calls (table_after start calls).table
-after w start calls none c listing walked = record {
+after : (ported : Bool) (w : Walk) (start : Counted) (calls : List Call) → start.table.structures ≡ [] → AreCalls start calls
+    → IsListing (table_after start calls).table → IsWalked ported w (table_after start calls).table
+    → IsAfter ported w start.table calls (table_after start calls).table
+after ported w start calls none c listing walked = record {
   table = is start calls c;
   structures = ap (λ l. l.structures) (is start calls c) ∙ structures_of start.table (accepted calls) ∙ ap (λ s. s ++ accepted calls) none;
   walked = walked;
   handles = hold start calls listing c;
 }
 
-pub is_after_its_calls : (w : Walk) (first : Listing) (last : Counted) → first.structures ≡ [] → IsListing last.table → IsWalked w last.table
-    → IsAfterItsCalls w first last
-is_after_its_calls w first last none listing walked = record {
+pub is_after_its_calls : (ported : Bool) (w : Walk) (first : Listing) (last : Counted) → first.structures ≡ [] → IsListing last.table → IsWalked ported w last.table
+    → IsAfterItsCalls ported w first last
+is_after_its_calls ported w first last none listing walked = record {
   holds = λ start calls begins c ends.
-      subst (λ (l : Counted). IsAfter w first calls l.table) ends
-      (subst (λ (f : Listing). IsAfter w f calls (table_after start calls).table) begins
-      (after w start calls (ap (λ l. l.structures) begins ∙ none) c (rw ends listing) (rw ends walked)));
+      subst (λ (l : Counted). IsAfter ported w first calls l.table) ends
+      (subst (λ (f : Listing). IsAfter ported w f calls (table_after start calls).table) begins
+      (after ported w start calls (ap (λ l. l.structures) begins ∙ none) c (rw ends listing) (rw ends walked)));
 }
 
 -- what stands at the beginning of bytes that stand in others stands there too

@@ -115,8 +115,8 @@ number_told w n some (inr k) (inl e) = absurd (omega arith)
 number_told w n some (inr (inl e)) (inr small) = fits_le w n 2 e refl small
 number_told w n some (inr (inr e)) (inr small) = fits_le w n 4 e refl small
 
-pub walked : (t : Listing) (w : Walk) → IsListing t → IsWalkOf w t → ArePieces w.sizes t.structures → Walks w (bytes_of t) t.structures
-walked t w is walk each =
+pub walked : (t : Listing) (ported : Bool) (w : Walk) → IsListing t → IsWalkOf ported w t → ArePieces w.sizes t.structures → Walks w (bytes_of t) t.structures
+walked t ported w is walk each =
     let p = parts t is in
     let f = fixed_front t is in
     let n = le t.count_width (length t.structures) in
@@ -153,8 +153,8 @@ places start (s ∷ ss) zero h = omega arith
 places start (s ∷ ss) (suc i) h = omega (arith, places (start + length s) ss i (omega arith), length-append s (concat (take i ss)))
 
 pub the_walk : StructuresAreTheWalk
-the_walk t w is walk has each =
-    let walks = walked t w is walk each in
+the_walk t ported w is walk has each =
+    let walks = walked t ported w is walk each in
     (walks, λ pieces other. one_walk w (bytes_of t) pieces t.structures has other walks)
 
 -- ---- an accepted addition

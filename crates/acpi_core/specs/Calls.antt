@@ -1,5 +1,5 @@
 -- Lists of calls that add structures to a table.
-use Rattle.std.specs.Prelude.{◌≡◌, ℕ, List, [], ◌∷◌, Result, Ok, Err, IfOk, None}
+use Rattle.std.specs.Prelude.{◌≡◌, ℕ, Bool, List, [], ◌∷◌, Result, Ok, Err, IfOk, None}
 use Rattle.acpi_base.specs.declared.error.Error.{Error}
 use Rattle.acpi_base.specs.declared.walk.Walk.{Walk}
 use Rattle.acpi_base.specs.Object.{Object}
@@ -54,16 +54,16 @@ StandAtHandles bytes (refused next ∷ calls) = StandAtHandles bytes calls
 
 -- After the calls the table is the first one with the added structures. These are the one list that the walk finds in its bytes.
 -- At each offset that was returned stand the bytes of its structure.
-pub record IsAfter (w : Walk) (first : Listing) (calls : List Call) (last : Listing) : Type 0 where
+pub record IsAfter (ported : Bool) (w : Walk) (first : Listing) (calls : List Call) (last : Listing) : Type 0 where
   pub table : last ≡ with_all first (accepted calls)
   pub structures : last.structures ≡ accepted calls
-  pub walked : IsWalked w last
+  pub walked : IsWalked ported w last
   pub handles : StandAtHandles (bytes_of last) calls
 
 -- This holds for every list of calls that leads from the first table, which has no structures, to this one.
-pub record IsAfterItsCalls (w : Walk) (first : Listing) (last : Counted) : Type 0 where
+pub record IsAfterItsCalls (ported : Bool) (w : Walk) (first : Listing) (last : Counted) : Type 0 where
   pub holds : (start : Counted) (calls : List Call) → start.table ≡ first → AreCalls start calls → table_after start calls ≡ last
-      → IsAfter w first calls last.table
+      → IsAfter ported w first calls last.table
 
 -- ---- one call, and all later ones
 

@@ -1,5 +1,5 @@
 -- Laws about tables of structures, which hold for all calls.
-use Rattle.std.specs.Prelude.{◌≡◌, ℕ, ◌<◌, ◌≤◌, List, ◌++◌, length, drop, None, Result, IfOk}
+use Rattle.std.specs.Prelude.{◌≡◌, ℕ, ◌<◌, ◌≤◌, Bool, List, ◌++◌, length, drop, None, Result, IfOk}
 use Rattle.acpi_base.specs.declared.error.Error.{Error}
 use Rattle.acpi_base.specs.Object.{Object}
 use Rattle.acpi_base.specs.Table.{IsTrueTable}
@@ -39,7 +39,7 @@ StructuresStay = (old new : Listing) → IsLater old new → KeepsStructures old
 -- The structures, in order, are the one list that the walk finds, at their offsets.
 abbrev pub StructuresAreTheWalk : Type 0
 StructuresAreTheWalk =
-    (t : Listing) (w : Walk) → IsListing t → IsWalkOf w t → HasSizes w.sizes → ArePieces w.sizes t.structures
+    (t : Listing) (ported : Bool) (w : Walk) → IsListing t → IsWalkOf ported w t → HasSizes w.sizes → ArePieces w.sizes t.structures
     → Walks w (bytes_of t) t.structures × ((pieces : List (List ℕ)) → Walks w (bytes_of t) pieces → pieces ≡ t.structures)
 
 -- No two structures that have bytes have the same offset.

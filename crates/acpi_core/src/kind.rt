@@ -10,6 +10,9 @@ pub trait Kind {
     /// The walk by which its structures are found.
     ghost walk: { Walk };
 
+    /// Whether it is a kind of the Rust crate, whose structures `Table::pieces` finds. `Table::structures` finds those of all.
+    ghost ported: { Bool };
+
     /// The limit of a table's length in bytes: the length is below it.
     ghost limit: { ℕ };
 

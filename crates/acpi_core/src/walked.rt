@@ -35,7 +35,7 @@ impl<K: Kind, const N: usize> Model for Walked<K, N> {
 
     ghost view = { λ t. t.table };
 
-    ghost invariant = { λ t. Keeps K.walk K.limit K.closed t.table.table };
+    ghost invariant = { λ t. Keeps K.ported K.walk K.limit K.closed t.table.table };
 }
 
 impl<K: Kind, const N: usize> Aml for Walked<K, N> {
@@ -51,7 +51,7 @@ impl<K: Kind, const N: usize> Aml for Walked<K, N> {
 impl<K: Kind, const N: usize> Walked<K, N> {
     /// A table without structures, from its fixed fields.
     pub fn of(table: Table<N>) -> Walked<K, N>
-        requires walk { IsWalkOf K.walk table.table }
+        requires walk { IsWalkOf K.ported K.walk table.table }
         requires limit { table.table.limit ≡ K.limit }
         requires none { table.table.structures ≡ [] }
         ensures { result ≡ table.entry }
@@ -129,12 +129,12 @@ impl<K: Kind, const N: usize> Walked<K, N> {
 /// A law: after any calls the table is correct. If each structure has the length that the walk expects, as in a table of a
 /// closed kind, the structures, in order, are the one list that the walk finds.
 pub fn is_walked<K: Kind, const N: usize>(table: &Walked<K, N>)
-    ensures keeps { Keeps K.walk K.limit K.closed table.now.table }
+    ensures keeps { Keeps K.ported K.walk K.limit K.closed table.now.table }
     ensures is_true { IsTrueTable (bytes_of table.now.table) }
     ensures closed { IsTrue K.closed → ArePieces K.walk.sizes table.now.table.structures }
-    ensures walked { ArePieces K.walk.sizes table.now.table.structures → IsWalked K.walk table.now.table }
+    ensures walked { ArePieces K.walk.sizes table.now.table.structures → IsWalked K.ported K.walk table.now.table }
     ensures calls { ArePieces K.walk.sizes table.now.table.structures → (first : Listing) → first.structures ≡ []
-        → IsAfterItsCalls K.walk first table.now }
+        → IsAfterItsCalls K.ported K.walk first table.now }
     ensures nodes { HoldsNodes table.now.table }
 {
     let _ = &table.table;

@@ -1,3 +1,4 @@
 pub mod Headed
 pub mod Registers
 pub mod Tables
+pub mod Built

@@ -7,4 +7,5 @@ pub mod Class
 pub mod Tcpa
 pub mod Tpm2
 pub mod Fadt
+pub mod FadtCalls
 pub mod Laws

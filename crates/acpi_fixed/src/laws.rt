@@ -4,11 +4,14 @@ ghost use Rattle.std.specs.Prelude.{◌≡◌, ◌%◌, [], codes, length, sum};
 ghost use Rattle.acpi_base.specs.Table.{IsTrueTable};
 ghost use Rattle.acpi_base.specs.Walk.{ArePiecesOf};
 ghost use Rattle.acpi_fixed.specs.Fadt.{fadt_bytes};
+ghost use Rattle.acpi_fixed.specs.FadtCalls.{FadtsAreValid};
 ghost use Rattle.acpi_fixed.specs.Laws.{PointersSumToZero};
 ghost use Rattle.acpi_fixed.specs.Laws.{BertsAreTrue, SpcrsAreTrue, ClientsAreTrue, ServersAreTrue, Tpm2sAreTrue};
 
 use crate::fadt::FADTBuilder;
 use acpi_base::oem::Oem;
+
+pub use crate::derived::{defaults_are_these, equal_values_are_the_same};
 
 /// The first 20 bytes of an RSDP that `Rsdp::new` made sum to zero, and so do all 36.
 pub fn pointers_sum_to_zero()
@@ -32,4 +35,9 @@ pub fn fadt_is_true(fields: FADTBuilder)
     ensures zero { sum (fadt_bytes fields) % 256 ≡ 0 }
     ensures table { fields.length ≡ 276 → IsTrueTable (fadt_bytes fields) }
     ensures pieces { fields.signature ≡ codes "FACP" → ArePiecesOf (fadt_bytes fields) [] }
+{}
+
+/// After any list of calls of its builder a FADT is valid: 276 bytes, which contain their number and sum to zero.
+pub fn fadts_are_valid()
+    ensures { FadtsAreValid }
 {}

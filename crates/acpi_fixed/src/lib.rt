@@ -2,6 +2,7 @@
 #![tactic(auto)]
 
 pub mod bert;
+mod derived;
 pub mod facs;
 pub mod fadt;
 pub mod laws;

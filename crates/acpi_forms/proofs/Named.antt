@@ -1,6 +1,7 @@
 -- The form beside a signature has the names beside it.
 use Rattle.std.proofs.Common.{◌≡◌, ℕ, ◌==◌, true, false, Option, Result, Ok, Err, IfOk, List, [], ◌∷◌, map, refl, ap, ◌∙◌, subst, String, Global, string_bytes}
-use Rattle.acpi_base.specs.Walk.{named, walk_of}
+use Rattle.acpi_base.specs.Walk.{named}
+use Rattle.acpi_base.specs.FurtherWalk.{table_walk_of}
 use Rattle.acpi_base.specs.declared.error.Error.{Error}
 use Rattle.acpi_base.specs.declared.walk.Walk.{Walk}
 use Rattle.acpi_text.specs.Table.{table_text}
@@ -40,10 +41,10 @@ text_is names walk bytes form (Err e) is shown = tt
 
 -- a table's text by the form of its signature
 pub table_text_is : (s n : ℕ) (form : TableForm) (walk : Option Walk) (bytes shown : List ℕ) (result : Result (String Global) Error)
-    → s ≡ n → shown ≡ bytes → IsNamed form (names_of s) → walk ≡ walk_of s
+    → s ≡ n → shown ≡ bytes → IsNamed form (names_of s) → walk ≡ table_walk_of s
     → IfOk result (λ text. string_bytes text ≡ table_text form walk shown)
-    → IfOk result (λ text. IsTextOf (names_of n) (walk_of n) bytes (string_bytes text))
+    → IfOk result (λ text. IsTextOf (names_of n) (table_walk_of n) bytes (string_bytes text))
 table_text_is s n form walk bytes shown result same is named way text =
-    let P : List ℕ → Type 0 = λ l. IfOk result (λ made. string_bytes made ≡ table_text form (walk_of n) l) in
+    let P : List ℕ → Type 0 = λ l. IfOk result (λ made. string_bytes made ≡ table_text form (table_walk_of n) l) in
     let Q : Option Walk → Type 0 = λ w. IfOk result (λ made. string_bytes made ≡ table_text form w shown) in
-    text_is (names_of n) (walk_of n) bytes form result (subst (λ k. IsNamed form (names_of k)) same named) (subst P is (subst Q (way ∙ ap walk_of same) text))
+    text_is (names_of n) (table_walk_of n) bytes form result (subst (λ k. IsNamed form (names_of k)) same named) (subst P is (subst Q (way ∙ ap table_walk_of same) text))

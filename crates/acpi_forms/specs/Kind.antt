@@ -2,7 +2,7 @@
 use Rattle.std.specs.Prelude.{ℕ, nat_eq, List, if◌then◌else◌, codes, None}
 use Rattle.std.specs.List.{starts_with}
 use Rattle.acpi_base.specs.Bytes.{field_at}
-use Rattle.acpi_base.specs.Walk.{walk_of}
+use Rattle.acpi_base.specs.FurtherWalk.{table_walk_of}
 use Rattle.acpi_forms.specs.Named.{names_of, rsdp_names, facs_names}
 use Rattle.acpi_forms.specs.Shows.{IsTextOf}
 use Rattle.acpi_forms.specs.declared.kind.Kind.{Kind}
@@ -18,4 +18,4 @@ kind_of bytes =
 abbrev pub IsTextBy : Kind → List ℕ → List ℕ → Type 0
 IsTextBy Pointer bytes text = IsTextOf rsdp_names None bytes text
 IsTextBy Control bytes text = IsTextOf facs_names None bytes text
-IsTextBy Table bytes text = IsTextOf (names_of (field_at 0 4 bytes)) (walk_of (field_at 0 4 bytes)) bytes text
+IsTextBy Table bytes text = IsTextOf (names_of (field_at 0 4 bytes)) (table_walk_of (field_at 0 4 bytes)) bytes text

@@ -1,7 +1,8 @@
 -- What texts are made into.
 use Rattle.std.specs.Prelude.{◌≡◌, ℕ, ◌==◌, if◌then◌else◌, List, codes, Option, Some, None, Result, Ok, Err}
 use Rattle.acpi_base.specs.Bytes.{carried}
-use Rattle.acpi_base.specs.Walk.{named, walk_of}
+use Rattle.acpi_base.specs.Walk.{named}
+use Rattle.acpi_base.specs.FurtherWalk.{table_walk_of}
 use Rattle.acpi_base.specs.declared.walk.Walk.{Walk}
 use Rattle.acpi_make.specs.Gives.{Gives}
 use Rattle.acpi_make.specs.Made.{type_place, made, table_of}
@@ -34,7 +35,7 @@ shape_names Pointer signature = rsdp_names
 shape_names Control signature = facs_names
 
 abbrev pub shape_walk : Shape → ℕ → Option Walk
-shape_walk Table signature = walk_of signature
+shape_walk Table signature = table_walk_of signature
 shape_walk Pointer signature = None
 shape_walk Control signature = None
 

@@ -7,7 +7,8 @@ ghost use Rattle.acpi_forms.specs.Makes.{signature_text, IsTemplateOf};
 ghost use Rattle.acpi_forms.specs.Named.{IsNamed};
 
 use crate::form::{facs_form, form_of, rsdp_form};
-use acpi_base::walk::{Walk, walk_of};
+use acpi_base::further_walk::table_walk_of;
+use acpi_base::walk::Walk;
 use acpi_make::complete::Shape;
 use acpi_make::fault::MakeError;
 use acpi_make::item::Item;
@@ -45,7 +46,7 @@ fn shape_walk(shape: Shape, signature: u32) -> Option<Walk>
     ensures { result ≡ shape_walk shape signature }
 {
     match shape {
-        Shape::Table => walk_of(signature),
+        Shape::Table => table_walk_of(signature),
         Shape::Pointer => None,
         Shape::Control => None,
     }

@@ -2,7 +2,7 @@
 
 ghost use Rattle.std.specs.Prelude.{◌≡◌, None, IfOk, IfErr, string_bytes};
 ghost use Rattle.acpi_base.specs.Bytes.{field_at};
-ghost use Rattle.acpi_base.specs.Walk.{walk_of};
+ghost use Rattle.acpi_base.specs.FurtherWalk.{table_walk_of};
 ghost use Rattle.acpi_base.specs.declared.error.Error.TheVariants.{Memory};
 ghost use Rattle.acpi_forms.specs.Named.{names_of, rsdp_names, facs_names};
 ghost use Rattle.acpi_forms.specs.Shows.{IsTextOf};
@@ -11,7 +11,8 @@ ghost use Rattle.acpi_text.specs.Table.{table_text};
 
 use crate::form::{facs_form, form_of, rsdp_form};
 use acpi_base::error::R;
-use acpi_base::walk::{Walk, walk_of};
+use acpi_base::further_walk::table_walk_of;
+use acpi_base::walk::Walk;
 use acpi_read::pieces::signature_number;
 use acpi_read::table::Table;
 use acpi_text::form::TableForm;
@@ -30,7 +31,7 @@ fn text_by(alloc: Global, form: &TableForm, walk: Option<Walk>, bytes: &[u8]) ->
 /// Returns the text of a table: its name, a line for each field and each structure, and all other bytes in lines of sixteen.
 /// The text determines the table. The only error is Memory.
 pub fn show(alloc: Global, table: &Table) -> R<String>
-    ensures text { IfOk result (λ text. IsTextOf (names_of (field_at 0 4 table.now)) (walk_of (field_at 0 4 table.now))
+    ensures text { IfOk result (λ text. IsTextOf (names_of (field_at 0 4 table.now)) (table_walk_of (field_at 0 4 table.now))
         table.now (string_bytes text)) }
     ensures bytes { IfOk result (λ text. bytes_of (string_bytes text) ≡ table.now) }
     ensures err { IfErr result (λ e. e ≡ Memory) }
@@ -39,7 +40,7 @@ pub fn show(alloc: Global, table: &Table) -> R<String>
     text_by(
         alloc,
         &form_of(signature),
-        walk_of(signature),
+        table_walk_of(signature),
         table.bytes(),
     )
 }

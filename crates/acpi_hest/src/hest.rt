@@ -1,6 +1,6 @@
 //! HEST: the sources of hardware errors.
 
-ghost use Rattle.std.specs.Prelude.{◌≡◌, false, length};
+ghost use Rattle.std.specs.Prelude.{◌≡◌, false, true, length};
 ghost use Rattle.acpi_base.specs.Object.{whole, whole_ends_well};
 ghost use Rattle.acpi_base.specs.Table.{IsTrueTable};
 ghost use Rattle.acpi_base.specs.Walk.{hest_walk, ArePieces};
@@ -53,6 +53,8 @@ pub struct HestKind;
 
 impl Kind for HestKind {
     ghost walk = { hest_walk };
+
+    ghost ported = { true };
 
     ghost limit = { length_limit };
 
@@ -115,10 +117,10 @@ impl HEST {
 /// list that the walk finds.
 pub fn hest_is_walked(table: &HEST)
     ensures is_true { IsTrueTable (bytes_of table.now.table.table) }
-    ensures keeps { Keeps hest_walk length_limit false table.now.table.table }
-    ensures walked { ArePieces hest_walk.sizes table.now.table.table.structures → IsWalked hest_walk table.now.table.table }
+    ensures keeps { Keeps true hest_walk length_limit false table.now.table.table }
+    ensures walked { ArePieces hest_walk.sizes table.now.table.table.structures → IsWalked true hest_walk table.now.table.table }
     ensures calls { ArePieces hest_walk.sizes table.now.table.table.structures → (oem : Oem)
-        → IsAfterItsCalls hest_walk (hest oem) table.now.table }
+        → IsAfterItsCalls true hest_walk (hest oem) table.now.table }
 {
     is_walked(&table.table)
 }

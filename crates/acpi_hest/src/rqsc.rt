@@ -47,6 +47,8 @@ pub struct RqscKind;
 impl Kind for RqscKind {
     ghost walk = { rqsc_walk };
 
+    ghost ported = { true };
+
     ghost limit = { length_limit };
 
     ghost closed = { true };
@@ -98,9 +100,9 @@ impl RQSC {
 
 /// A law: after any calls the table is correct. Its controllers, in order, are the one list that the walk finds.
 pub fn rqsc_is_walked(table: &RQSC)
-    ensures keeps { Keeps rqsc_walk length_limit true table.now.table.table }
-    ensures walked { IsWalked rqsc_walk table.now.table.table }
-    ensures calls { (oem : Oem) → IsAfterItsCalls rqsc_walk (rqsc oem) table.now.table }
+    ensures keeps { Keeps true rqsc_walk length_limit true table.now.table.table }
+    ensures walked { IsWalked true rqsc_walk table.now.table.table }
+    ensures calls { (oem : Oem) → IsAfterItsCalls true rqsc_walk (rqsc oem) table.now.table }
 {
     is_walked(&table.table)
 }

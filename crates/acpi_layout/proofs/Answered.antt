@@ -38,7 +38,7 @@ end_own end fits e is = rw is refl
 module _ (base : ℕ) (oem : Oem) (facs : Option (List ℕ)) (dsdt : List ℕ) (fadt : FADTBuilder) (tables : List Object) where
   -- a refusal
   pub refused : (r : Result Image Error) (e : Error) → IsErrAnd r (λ y. y ≡ e) → (e ≢ Memory → image_end base oem facs dsdt fadt tables ≡ Some e) → Lays r base oem facs dsdt fadt tables
-  refused r e is cause = let p = err_from_is_err_and r is in rw (p.1, p.2) (record { ok = tt; accepted = tt; cause = cause })
+  refused r e is cause = let p = err_from_is_err_and r is in rw (p.1, p.2) (record { bytes = tt; rsdp = tt; accepted = tt; cause = cause })
 
   pub out_of_memory : (e : Error) → e ≡ Memory → e ≢ Memory → image_end base oem facs dsdt fadt tables ≡ Some e
   out_of_memory e is other = absurd (other is)
@@ -67,7 +67,7 @@ module _ (base : ℕ) (oem : Oem) (facs : Option (List ℕ)) (dsdt : List ℕ) (
       ∙ ap (λ x. Some x) (sym is.0)
 
   module _ (made : List ℕ) (is : made ≡ (with_pointer base oem (record { bytes = bytes; places = places' })).bytes) where
-    bytes_are : made ≡ (image base oem facs dsdt fadt (fronts (map f xs))).bytes
+    pub bytes_are : made ≡ (image base oem facs dsdt fadt (fronts (map f xs))).bytes
     bytes_are = is ∙ ap (λ l. (with_pointer base oem l).bytes) laid_is
 
     pub past_the_end : 2 ^ 64 < base + length made → image_end base oem facs dsdt fadt (map f xs) ≡ Some FieldWidth
@@ -81,10 +81,6 @@ module _ (base : ℕ) (oem : Oem) (facs : Option (List ℕ)) (dsdt : List ℕ) (
         end_is (all_of (map f xs)).end (has_place base p (length (map f xs))) all_is.are_whole
         (fits_is base (length p.bytes) (length (map f xs)) (omega (arith, low, ap length bytes_are)) (omega (arith, few, counted)))
 
-    pub shown_is : (rsdp : ℕ) → (base + length made ≤ 2 ^ 64 → rsdp ≡ (with_pointer base oem (record { bytes = bytes; places = places' })).rsdp) → base + length made ≤ 2 ^ 64
-        → record { bytes = made; rsdp = rsdp; places = places } ≡ image base oem facs dsdt fadt (fronts (map f xs))
-    shown_is rsdp at low =
-        let p = image base oem facs dsdt fadt (fronts (map f xs)) in
-        ap (λ b. record { bytes = b; rsdp = rsdp; places = places }) bytes_are
-        ∙ ap (λ r. record { bytes = p.bytes; rsdp = r; places = places }) (at low ∙ ap (λ l. (with_pointer base oem l).rsdp) laid_is)
-        ∙ ap (λ l. record { bytes = p.bytes; rsdp = p.rsdp; places = l }) (sym read' ∙ ap (λ (l : Laid). l.places) laid_is)
+    pub rsdp_is : (rsdp : ℕ) → (base + length made ≤ 2 ^ 64 → rsdp ≡ (with_pointer base oem (record { bytes = bytes; places = places' })).rsdp) → base + length made ≤ 2 ^ 64
+        → rsdp ≡ (image base oem facs dsdt fadt (fronts (map f xs))).rsdp
+    rsdp_is rsdp at low = at low ∙ ap (λ l. (with_pointer base oem l).rsdp) laid_is

@@ -27,57 +27,57 @@ same_control base bytes fadt (Some u) None u_is v_is = absurd (let one = u_is.0 
 same_control base bytes fadt (Some u) (Some v) u_is v_is = ap (λ x. Some x) (u_is.1.is ∙ sym v_is.1.is)
 
 module _ (bytes : List ℕ) (base rsdp : ℕ) (tables : List Located) (im : IsImage bytes base rsdp tables) (p : Located) (p_is : IsPointer base bytes rsdp p) where
-  same_pointer : im.pointer ≡ p
-  same_pointer = im.pointer_is.is ∙ sym p_is.is
+  same_pointer : im.found.pointer ≡ p
+  same_pointer = im.found.pointer_is.is ∙ sym p_is.is
 
-  pub xsdt_there : IsNamedTableAt base bytes (codes "XSDT") (field_at 24 8 (contents base bytes p)) im.xsdt
-  xsdt_there = subst (λ (t : Located). IsNamedTableAt base bytes (codes "XSDT") (field_at 24 8 (contents base bytes t)) im.xsdt) same_pointer im.xsdt_is
+  pub xsdt_there : IsNamedTableAt base bytes (codes "XSDT") (field_at 24 8 (contents base bytes p)) im.found.xsdt
+  xsdt_there = subst (λ (t : Located). IsNamedTableAt base bytes (codes "XSDT") (field_at 24 8 (contents base bytes t)) im.found.xsdt) same_pointer im.found.xsdt_is
 
   module _ (x : Located) (x_is : IsNamedTableAt base bytes (codes "XSDT") (field_at 24 8 (contents base bytes p)) x) where
-    same_xsdt : im.xsdt ≡ x
+    same_xsdt : im.found.xsdt ≡ x
     same_xsdt = xsdt_there.is_table.is ∙ sym x_is.is_table.is
 
-    pub entries_there : AreEntries base bytes x im.entries
-    entries_there = subst (λ (t : Located). AreEntries base bytes t im.entries) same_xsdt im.entries_are
+    pub entries_there : AreEntries base bytes x im.found.entries
+    entries_there = subst (λ (t : Located). AreEntries base bytes t im.found.entries) same_xsdt im.found.entries_are
 
     pub xsdt_correct : IsTrueTable (contents base bytes x)
     xsdt_correct = subst (λ (t : Located). IsTrueTable (contents base bytes t)) same_xsdt im.xsdt_is_correct
 
     module _ (es ys : List Located) (es_are : AreEntries base bytes x es) (read : ys ≡ es) where
-      same_length : length im.entries ≡ length es
+      same_length : length im.found.entries ≡ length es
       same_length = omega (arith, entries_there.counted, es_are.counted)
 
-      same_entries : im.entries ≡ ys
+      same_entries : im.found.entries ≡ ys
       same_entries =
-          ext_get_or none_yet im.entries es same_length
+          ext_get_or none_yet im.found.entries es same_length
           (λ i inside. (entries_there.each i none_yet inside).is ∙ sym (es_are.each i none_yet (omega (arith, same_length, inside))).is) ∙ sym read
 
-      pub fadt_there : IsOnlyFadt ys im.fadt
-      fadt_there = subst (λ (l : List Located). IsOnlyFadt l im.fadt) same_entries im.fadt_is
+      pub fadt_there : IsOnlyFadt ys im.found.fadt
+      fadt_there = subst (λ (l : List Located). IsOnlyFadt l im.found.fadt) same_entries im.found.fadt_is
 
       pub entries_correct : All (λ table. IsTrueTable (contents base bytes table)) ys
       entries_correct = subst (λ (l : List Located). All (λ table. IsTrueTable (contents base bytes table)) l) same_entries im.entries_are_correct
 
       module _ (f : Located) (f_is : IsOnlyFadt ys f) where
-        same_fadt : im.fadt ≡ f
+        same_fadt : im.found.fadt ≡ f
         same_fadt =
             let there = fadt_there in
-            let is : get_or ys there.index none_yet ≡ im.fadt = there.is none_yet in
+            let is : get_or ys there.index none_yet ≡ im.found.fadt = there.is none_yet in
             let at : there.index ≡ f_is.index = f_is.only there.index none_yet there.inside (ap (λ (t : Located). t.signature) is ∙ there.signature) in
             sym is ∙ ap (λ i. get_or ys i none_yet) at ∙ f_is.is none_yet
 
-        pub facs_there : IsControlOf base bytes (contents base bytes f) im.facs
-        facs_there = subst (λ (t : Located). IsControlOf base bytes (contents base bytes t) im.facs) same_fadt im.facs_is
+        pub facs_there : IsControlOf base bytes (contents base bytes f) im.found.facs
+        facs_there = subst (λ (t : Located). IsControlOf base bytes (contents base bytes t) im.found.facs) same_fadt im.found.facs_is
 
-        pub dsdt_there : IsNamedTableAt base bytes (codes "DSDT") (dsdt_address (contents base bytes f)) im.dsdt
-        dsdt_there = subst (λ (t : Located). IsNamedTableAt base bytes (codes "DSDT") (dsdt_address (contents base bytes t)) im.dsdt) same_fadt im.dsdt_is
+        pub dsdt_there : IsNamedTableAt base bytes (codes "DSDT") (dsdt_address (contents base bytes f)) im.found.dsdt
+        dsdt_there = subst (λ (t : Located). IsNamedTableAt base bytes (codes "DSDT") (dsdt_address (contents base bytes t)) im.found.dsdt) same_fadt im.found.dsdt_is
 
         module _ (a : Option Located) (d : Located) (a_is : IsControlOf base bytes (contents base bytes f) a)
             (d_is : IsNamedTableAt base bytes (codes "DSDT") (dsdt_address (contents base bytes f)) d) where
-          same_facs : im.facs ≡ a
-          same_facs = same_control base bytes (contents base bytes f) im.facs a facs_there a_is
+          same_facs : im.found.facs ≡ a
+          same_facs = same_control base bytes (contents base bytes f) im.found.facs a facs_there a_is
 
-          same_dsdt : im.dsdt ≡ d
+          same_dsdt : im.found.dsdt ≡ d
           same_dsdt = dsdt_there.is_table.is ∙ sym d_is.is_table.is
 
           pub dsdt_correct : IsTrueTable (contents base bytes d)
@@ -85,10 +85,10 @@ module _ (bytes : List ℕ) (base rsdp : ℕ) (tables : List Located) (im : IsIm
 
           same_tables : (ts found zs : List Located) → zs ≡ es → found ≡ p ∷ x ∷ (zs ++ (if_found a ++ (d ∷ []))) → ts ≡ found → tables ≡ ts
           same_tables ts found zs read' listed read'' =
-              im.listed ∙ ap (λ t. t ∷ im.xsdt ∷ (im.entries ++ (if_found im.facs ++ (im.dsdt ∷ [])))) same_pointer
-              ∙ ap (λ t. p ∷ t ∷ (im.entries ++ (if_found im.facs ++ (im.dsdt ∷ [])))) same_xsdt
-              ∙ ap (λ (l : List Located). p ∷ x ∷ (l ++ (if_found im.facs ++ (im.dsdt ∷ [])))) (same_entries ∙ read ∙ sym read')
-              ∙ ap (λ (t : Option Located). p ∷ x ∷ (zs ++ (if_found t ++ (im.dsdt ∷ [])))) same_facs ∙ ap (λ t. p ∷ x ∷ (zs ++ (if_found a ++ (t ∷ [])))) same_dsdt
+              im.listed ∙ ap (λ t. t ∷ im.found.xsdt ∷ (im.found.entries ++ (if_found im.found.facs ++ (im.found.dsdt ∷ [])))) same_pointer
+              ∙ ap (λ t. p ∷ t ∷ (im.found.entries ++ (if_found im.found.facs ++ (im.found.dsdt ∷ [])))) same_xsdt
+              ∙ ap (λ (l : List Located). p ∷ x ∷ (l ++ (if_found im.found.facs ++ (im.found.dsdt ∷ [])))) (same_entries ∙ read ∙ sym read')
+              ∙ ap (λ (t : Option Located). p ∷ x ∷ (zs ++ (if_found t ++ (im.found.dsdt ∷ [])))) same_facs ∙ ap (λ t. p ∷ x ∷ (zs ++ (if_found a ++ (t ∷ [])))) same_dsdt
               ∙ sym listed ∙ sym read''
 
           pub all_apart : (ts found zs : List Located) → zs ≡ es → found ≡ p ∷ x ∷ (zs ++ (if_found a ++ (d ∷ []))) → ts ≡ found → AreApart ts
@@ -96,5 +96,5 @@ module _ (bytes : List ℕ) (base rsdp : ℕ) (tables : List Located) (im : IsIm
 
 pub have_one_list : ImagesHaveOneList
 have_one_list bytes base rsdp t u im other =
-    same_tables bytes base rsdp t im other.pointer other.pointer_is other.xsdt other.xsdt_is other.entries other.entries other.entries_are refl
-    other.fadt other.fadt_is other.facs other.dsdt other.facs_is other.dsdt_is u u other.entries refl other.listed refl
+    same_tables bytes base rsdp t im other.found.pointer other.found.pointer_is other.found.xsdt other.found.xsdt_is other.found.entries other.found.entries other.found.entries_are refl
+    other.found.fadt other.found.fadt_is other.found.facs other.found.dsdt other.found.facs_is other.found.dsdt_is u u other.found.entries refl other.listed refl

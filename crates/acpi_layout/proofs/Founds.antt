@@ -1,5 +1,5 @@
 -- Facts about the tables of an image.
-use Rattle.std.proofs.Common.{◌≡◌, ℕ, ◌+◌, ◌-◌, ◌*◌, ◌/◌, ◌<◌, ◌≤◌, List, [], ◌∷◌, ◌++◌, length, get_or, take, drop, refl, sym, ap, ◌∙◌, arith, subst, add-one, zero, suc, below_more, codes}
+use Rattle.std.proofs.Common.{◌≡◌, ℕ, ◌+◌, ◌-◌, ◌*◌, ◌<◌, ◌≤◌, List, [], ◌∷◌, ◌++◌, length, get_or, take, drop, refl, sym, ap, ◌∙◌, arith, subst, add-one, zero, suc, below_more, codes}
 use Rattle.std.specs.Prelude.{Result, Ok, Err, OnErr, IfErr, IsErrAnd, true, false, Option, Some, None}
 use Rattle.std.specs.List.{All}
 use Rattle.std.proofs.lemmas.List.{take_rest, get_or_push, get_or_append_left, get_or-drop, length-drop}
@@ -50,11 +50,11 @@ module _ (xs : List Located) (i : ℕ) (d : Located) (inside : i < length xs) wh
 
 -- ---- the tables that an XSDT lists
 
-module _ (base : ℕ) (bytes whole : List ℕ) (xsdt : Located) (is : whole ≡ contents base bytes xsdt) (size : length whole ≡ xsdt.length) where
-  pub entry_refused : (i address : ℕ) → address ≡ field_at (36 + 8 * i) 8 whole → i < (length whole - 36) / 8
+module _ (base : ℕ) (bytes whole : List ℕ) (xsdt : Located) (is : whole ≡ contents base bytes xsdt) where
+  pub entry_refused : (count : ℕ) → xsdt.length ≡ 36 + 8 * count → (i address : ℕ) → address ≡ field_at (36 + 8 * i) 8 whole → i < count
       → ((table : Located) → IsTableAt base bytes address table → ⊥) → (entries : List Located) → AreEntries base bytes xsdt entries → ⊥
-  entry_refused i address from within none entries are =
-      let inside : i < length entries = omega (arith, are.counted, size, within) in
+  entry_refused count counted i address from within none entries are =
+      let inside : i < length entries = omega (arith, are.counted, counted, within) in
       let at : field_at (36 + 8 * i) 8 (contents base bytes xsdt) ≡ address = ap (λ (b : List ℕ). field_at (36 + 8 * i) 8 b) (sym is) ∙ sym from in
       none (get_or entries i none_yet) (subst (λ a. IsTableAt base bytes a (get_or entries i none_yet)) at (are.each i none_yet inside))
 
@@ -80,9 +80,9 @@ entries_next base bytes whole entries new i address table pushed size each from 
 
 -- ---- the FADT
 
-pub second_fadt : (xs : List Located) (i j : ℕ) (d e : Located) → i < j → j < length xs → (get_or xs i d).signature ≡ codes "FACP" → (get_or xs j e).signature ≡ codes "FACP"
+pub not_only : (xs : List Located) (i j : ℕ) (d e : Located) → i < j → j < length xs → (get_or xs i d).signature ≡ codes "FACP" → (get_or xs j e).signature ≡ codes "FACP"
     → (fadt : Located) → IsOnlyFadt xs fadt → ⊥
-second_fadt xs i j d e after inside first second fadt is = omega (arith, after, is.only i d (omega arith) first, is.only j e inside second)
+not_only xs i j d e after inside first second fadt is = omega (arith, after, is.only i d (omega arith) first, is.only j e inside second)
 
 only_here : (i at : ℕ) → (i < at → ⊥) → (at < i → ⊥) → i ≡ at
 only_here i at before after = omega arith

@@ -4,4 +4,7 @@ pub mod Standing
 pub mod Pointing
 pub mod Founds
 pub mod Followed
+pub mod There
+pub mod Listed
 pub mod ReadBack
+pub mod Faults

@@ -7,6 +7,7 @@ use Rattle.std.specs.List.{concat}
 use Rattle.acpi_base.specs.declared.oem.Oem.{Oem}
 use Rattle.acpi_base.specs.Bytes.{le, put, carried, complement, field_at}
 use Rattle.acpi_base.specs.Fields.{fields_joined}
+use Rattle.acpi_base.specs.Table.{IsTrueTable}
 use Rattle.acpi_base.proofs.Bytes.{carried_le, length_le}
 use Rattle.acpi_base.proofs.Ends.{drop_put}
 use Rattle.acpi_core.specs.Listing.{IsListing, bytes_of}
@@ -53,12 +54,15 @@ is_listing base oem places six eight fits = record {
   fits = omega (arith, size_listing base oem places, fits);
 }
 
+pub is_true_listing : (base : ℕ) (oem : Oem) (places : List ℕ) → length oem.id ≡ 6 → length oem.table_id ≡ 8 → 36 + 8 * length places < 2 ^ 32 → IsTrueTable (bytes_of (listing base oem places))
+is_true_listing base oem places six eight fits = (are_true (listing base oem places) (is_listing base oem places six eight fits)).0
+
 offset_is : (base : ℕ) (places : List ℕ) (i : ℕ) → i ≤ length places → length (concat (take i (map (λ place. le 8 (base + place)) places))) ≡ 8 * i
 offset_is base places zero h = refl
 offset_is base [] (suc i) h = absurd (omega (arith, h))
 offset_is base (p ∷ places) (suc i) h = omega (arith, offset_is base places i (omega (arith, h)))
 
-entry : (base : ℕ) (oem : Oem) (places : List ℕ) (i : ℕ) → IsListing (listing base oem places) → i < length places → base + get_or places i 0 < 2 ^ 64
+pub entry : (base : ℕ) (oem : Oem) (places : List ℕ) (i : ℕ) → IsListing (listing base oem places) → i < length places → base + get_or places i 0 < 2 ^ 64
     → field_at (36 + 8 * i) 8 (bytes_of (listing base oem places)) ≡ base + get_or places i 0
 entry base oem places i is inside small =
     let t = listing base oem places in
@@ -74,7 +78,7 @@ entry base oem places i is inside small =
 
 -- ---- the RSDP
 
-in_pointer : (id : List ℕ) (a : ℕ) → length id ≡ 6 → a < 2 ^ 64 → field_at 24 8 (rsdp_bytes (rsdp_for id a)) ≡ a
+pub in_pointer : (id : List ℕ) (a : ℕ) → length id ≡ 6 → a < 2 ^ 64 → field_at 24 8 (rsdp_bytes (rsdp_for id a)) ≡ a
 in_pointer id a six small =
     let past : 15 ≡ length id + 9 = omega (arith, six) in
     ap (λ n. carried (take 8 (drop n (drop 9 (rsdp_bytes (rsdp_for id a)))))) past
@@ -96,5 +100,5 @@ point base oem facs fadt laid six eight header fits xsdt dsdt =
       x_dsdt = number_in_fadt p 104 8 (base + length (control_bytes facs)) header (omega arith) refl dsdt;
       entries = λ i inside small. entry base oem laid.places i is inside small;
       xsdt = in_pointer oem.id (xsdt_address base laid) six xsdt;
-      xsdt_is_true = (are_true (listing base oem laid.places) is).0;
+      xsdt_is_true = is_true_listing base oem laid.places six eight fits;
     }

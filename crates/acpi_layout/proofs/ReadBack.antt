@@ -1,94 +1,31 @@
 -- Images are read back.
-use Rattle.std.proofs.Common.{◌≡◌, ◌≢◌, ℕ, zero, suc, ◌+◌, ◌-◌, ◌*◌, ◌/◌, ◌%◌, ◌^◌, ◌<◌, ◌≤◌, List, [], ◌∷◌, ◌++◌, length, map, take, drop, get_or, refl, sym, ap, subst, ◌∙◌, arith, append_assoc, length-append, take-take, inl, inr, codes}
+use Rattle.std.proofs.Common.{◌≡◌, ◌≢◌, ℕ, zero, suc, ◌+◌, ◌*◌, ◌/◌, ◌%◌, ◌^◌, ◌<◌, ◌≤◌, List, [], ◌∷◌, ◌++◌, length, map, take, get_or, refl, sym, ap, subst, ◌∙◌, arith, append_assoc, length-append, inl, inr, codes}
 use Rattle.std.specs.Prelude.{sum, bit_or, Bool, true, false, ◌==◌, ◌&&◌, if◌then◌else◌, Option, Some, None}
 use Rattle.std.specs.List.{All}
-use Rattle.std.proofs.Math.Seq.{drop-append-add}
-use Rattle.std.proofs.lemmas.List.{append-nil, length-replicate, take_at, get_or-map, length-map, drop-take}
+use Rattle.std.proofs.lemmas.List.{append-nil, take_at, get_or-map, length-map}
 use Rattle.std.proofs.lemmas.Bool.Decides.{nat_tests}
 use Rattle.std.proofs.lemmas.Nat.{or_shr}
 use Rattle.std.specs.Int.Bits.{or_step}
 use Rattle.std.proofs.lemmas.List.Elements.{All-append, All-map}
 use Rattle.acpi_base.specs.declared.oem.Oem.{Oem}
-use Rattle.acpi_base.specs.Bytes.{le, put, carried, complement, field_at, zeros}
+use Rattle.acpi_base.specs.Bytes.{le, put, carried, complement, field_at}
 use Rattle.acpi_base.specs.Fields.{fields_joined}
 use Rattle.acpi_base.specs.Table.{IsTrueTable}
-use Rattle.acpi_core.specs.Listing.{bytes_of, body_of}
-use Rattle.acpi_core.proofs.Offsets.{parts}
+use Rattle.acpi_core.specs.Listing.{bytes_of}
 use Rattle.acpi_fixed.specs.declared.fadt.FADTBuilder.{FADTBuilder}
 use Rattle.acpi_fixed.specs.Fadt.{fadt_bytes, builder_bytes, header_fields, fadt_fields}
 use Rattle.acpi_fixed.specs.Rsdp.{rsdp_bytes, rsdp_for}
-use Rattle.acpi_fixed.proofs.Tables.{pointers, true_fadt, length-fadt}
+use Rattle.acpi_fixed.proofs.Tables.{true_fadt, length-fadt}
 use Rattle.acpi_layout.specs.declared.located.Located.{Located}
-use Rattle.acpi_layout.specs.Addresses.{Lies, bytes_at}
+use Rattle.acpi_layout.specs.Addresses.{bytes_at}
 use Rattle.acpi_layout.specs.Image.{control_bytes, control_address, pointed_fadt, listing, tables_laid, image}
 use Rattle.acpi_layout.specs.Laws.{Standing, Stand, standing_at, standing_control, xsdt_address, Points}
-use Rattle.acpi_layout.specs.Found.{located, contents, IsTableAt, address_of, facs_address, dsdt_address, IsControlAt, is_reduced, has_no_control, IsControlOf, if_found, IsApart, AreApart, IsImage}
+use Rattle.acpi_layout.specs.Found.{located, contents, IsTableAt, address_of, facs_address, dsdt_address, IsControlAt, is_reduced, has_no_control, IsControlOf, if_found, IsApart, AreApart, Found, IsImage}
 use Rattle.acpi_layout.specs.ReadBack.{IsControl, AreTables, found_at, found_control, laid_tables, ImagesAreFound, ReducedIsTold}
-use Rattle.acpi_layout.proofs.Images.{size_listing}
 use Rattle.acpi_layout.proofs.Standing.{stand}
-use Rattle.acpi_layout.proofs.Pointing.{point, is_listing, flags_in_fadt}
-
--- ---- bytes that stand at an address
-
-record IsThere (base : ℕ) (total : List ℕ) (s : Standing) : Type 0 where
-  lies : Lies base total s.address (length s.bytes)
-  is : bytes_at base total s.address (length s.bytes) ≡ s.bytes
-
-abbrev AreThere : ℕ → List ℕ → List Standing → Type 0
-AreThere base total [] = Unit {0}
-AreThere base total (s ∷ more) = IsThere base total s × AreThere base total more
-
-are_there : (base : ℕ) (pre : List ℕ) (from : ℕ) (ss : List Standing) (rest total : List ℕ) → from ≡ base + length pre → total ≡ pre ++ rest → Stand from ss rest → AreThere base total ss
-are_there base pre from [] rest total at is h = tt
-are_there base pre from (s ∷ ss) rest total at is h =
-    let k = h.0 in
-    let more = h.1 in
-    let front = pre ++ zeros k in
-    let whole : total ≡ front ++ (s.bytes ++ more) = is ∙ ap (λ b. pre ++ b) h.3 ∙ sym (append_assoc pre (zeros k) (s.bytes ++ more)) in
-    let long : length front ≡ length pre + k = omega (arith, length-append pre (zeros k), length-replicate {A = ℕ} k 0) in
-    let size : length total ≡ length front + (length s.bytes + length more) =
-    omega (arith, ap length whole, length-append front (s.bytes ++ more), length-append s.bytes more) in
-    let far : s.address - base ≡ length front + 0 = omega (arith, long, h.2, at) in (
-      record {
-        lies = record { begins = omega (arith, h.2, at); ends = omega (arith, h.2, at, size, long) };
-        is = ap (λ n. take (length s.bytes) (drop n total)) far ∙ ap (λ b. take (length s.bytes) (drop (length front + 0) b)) whole
-            ∙ ap (λ b. take (length s.bytes) b) (drop-append-add front (s.bytes ++ more) 0) ∙ take_at s.bytes more (length s.bytes) refl;
-      },
-      are_there base (front ++ s.bytes) (s.address + length s.bytes) ss more total (omega (arith, h.2, at, long, length-append front s.bytes))
-          (whole ∙ sym (append_assoc front s.bytes more)) h.4,
-    )
-
-those_there : (base : ℕ) (total : List ℕ) (ms more : List Standing) → AreThere base total (ms ++ more) → AreThere base total ms × AreThere base total more
-those_there base total [] more h = (tt, h)
-those_there base total (s ∷ ms) more h = let r = those_there base total ms more h.1 in ((h.0, r.0), r.1)
-
-one_there : (base : ℕ) (total : List ℕ) (ms : List Standing) (i : ℕ) (e : Standing) → AreThere base total ms → i < length ms → IsThere base total (get_or ms i e)
-one_there base total [] i e h inside = absurd (omega (arith, inside))
-one_there base total (s ∷ ms) zero e h inside = h.0
-one_there base total (s ∷ ms) (suc i) e h inside = one_there base total ms i e h.1 (omega (arith, inside))
-
--- the same by its address, with all that a reader reads
-place_is : (base : ℕ) (total : List ℕ) (s : Standing) → IsThere base total s → found_at s ≡ located base total s.address (length s.bytes)
-place_is base total s there = ap (λ (b : List ℕ). record { address = s.address; length = length s.bytes; signature = take 4 b }) (sym there.is)
-
-header_kept : (m n : ℕ) (b : List ℕ) → 8 ≤ n → m + 8 ≡ n → take 4 (drop 4 (take n b)) ≡ take 4 (drop 4 b)
-header_kept m n b long is =
-    let n_is : n ≡ 4 + (m + 4) = omega (arith, is) in
-    ap (λ (k : ℕ). take 4 (drop 4 (take k b))) n_is ∙ ap (take 4) (drop-take 4 (m + 4) b) ∙ take-take 4 (m + 4) (drop 4 b) (omega arith)
-
-length_told : (n : ℕ) (b : List ℕ) → 36 ≤ n → field_at 4 4 (take 36 b) ≡ field_at 4 4 (take n b)
-length_told n b long = ap carried (header_kept 28 36 b (omega arith) refl ∙ sym (header_kept (n - 8) n b (omega (arith, long)) (omega (arith, long))))
-
-table_there : (base : ℕ) (total : List ℕ) (s : Standing) → IsThere base total s → IsTrueTable s.bytes → IsTableAt base total s.address (found_at s)
-table_there base total s there correct =
-    let told : field_at 4 4 (bytes_at base total s.address 36) ≡ length s.bytes =
-    length_told (length s.bytes) (drop (s.address - base) total) correct.header ∙ ap (λ b. field_at 4 4 b) there.is ∙ correct.tells in
-    record {
-      header = record { begins = there.lies.begins; ends = omega (arith, there.lies.ends, correct.header) };
-      is = place_is base total s there ∙ ap (located base total s.address) (sym told);
-      whole = there.lies;
-      has_header = correct.header;
-    }
+use Rattle.acpi_layout.proofs.Pointing.{point, flags_in_fadt}
+use Rattle.acpi_layout.proofs.There.{AreThere, one_there, place_is, table_there, all_there}
+use Rattle.acpi_layout.proofs.Listed.{xsdt_size, pointer_there, xsdt_there}
 
 -- ---- the list of the tables
 
@@ -240,32 +177,6 @@ fadt_named f is header =
     front_kept (complement (sum (put 9 (0 ∷ []) (builder_bytes f))) ∷ []) (builder_bytes f) (omega (arith, size_is f header))
     ∙ ap (take 4) (append_assoc f.signature _ _) ∙ take_at f.signature _ 4 (four_is f.signature is) ∙ is
 
--- ---- the XSDT
-
-module _ (base : ℕ) (oem : Oem) (places : List ℕ) (six : length oem.id ≡ 6) (eight : length oem.table_id ≡ 8) (fits : 36 + 8 * length places < 2 ^ 32) where
-  xsdt_size : length (bytes_of (listing base oem places)) ≡ 36 + 8 * length places
-  xsdt_size =
-      let t = listing base oem places in
-      let p = parts t (is_listing base oem places six eight fits) in
-      omega (arith, ap length p.is, length-append p.front (body_of t), p.long, size_listing base oem places)
-
-  xsdt_named : take 4 (bytes_of (listing base oem places)) ≡ codes "XSDT"
-  unfolding put
-  xsdt_named = refl
-
--- ---- the RSDP
-
-module _ (id : List ℕ) (a : ℕ) (six : length id ≡ 6) where
-  revision_is : field_at 15 1 (rsdp_bytes (rsdp_for id a)) ≡ 2
-  revision_is =
-      let past : 6 ≡ length id + 0 = omega (arith, six) in
-      ap (λ n. carried (take 1 (drop n (drop 9 (rsdp_bytes (rsdp_for id a)))))) past ∙ ap (λ b. carried (take 1 b)) (drop-append-add id _ 0) ∙ refl
-
-  size_told : field_at 20 4 (rsdp_bytes (rsdp_for id a)) ≡ 36
-  size_told =
-      let past : 11 ≡ length id + 5 = omega (arith, six) in
-      ap (λ n. carried (take 4 (drop n (drop 9 (rsdp_bytes (rsdp_for id a)))))) past ∙ ap (λ b. carried (take 4 b)) (drop-append-add id _ 5) ∙ refl
-
 -- ---- the entries
 
 row_at : (base : ℕ) (places : List ℕ) (tables : List (List ℕ)) (i : ℕ) (e : Standing) → length places ≡ length tables → i < length places
@@ -303,44 +214,35 @@ module _ (base : ℕ) (oem : Oem) (facs : Option (List ℕ)) (dsdt : List ℕ) (
       let p = pointed_fadt base facs fadt in
       let all = fadt_bytes p ∷ tables in
       let rows = standing_at base laid.places all in
-      let s = stand base oem facs dsdt fadt tables in
-      let control = standing_control base facs in
       let d : Standing = record { address = base + length (control_bytes facs); bytes = dsdt } in
       let x : Standing = record { address = xsdt_address base laid; bytes = bytes_of (listing base oem laid.places) } in
       let r : Standing = record { address = (image base oem facs dsdt fadt tables).rsdp; bytes = rsdp_bytes (rsdp_for oem.id (xsdt_address base laid)) } in
-      let after : List Standing = d ∷ (rows ++ (x ∷ r ∷ [])) in
-      let there = those_there base total control after (are_there base [] base (control ++ after) total total (omega arith) refl s.all) in
-      let d_there = there.1.0 in
-      let both = those_there base total rows (x ∷ r ∷ []) there.1.1 in
-      let x_there = both.1.0 in
-      let r_there = both.1.1.0 in
-      let fits : 36 + 8 * length laid.places < 2 ^ 32 = omega (arith, s.listed, few) in
+      let there = all_there base oem facs dsdt fadt tables in
+      let x_there = there.xsdt in
+      let fits : 36 + 8 * length laid.places < 2 ^ 32 = omega (arith, there.listed, few) in
       let x_size = xsdt_size base oem laid.places six eight fits in
       let x_low : xsdt_address base laid < 2 ^ 64 = omega (arith, x_there.lies.ends, x_size, low) in
-      let d_low : base + length (control_bytes facs) < 2 ^ 64 = omega (arith, d_there.lies.ends, are.dsdt_is_correct.header, low) in
+      let d_low : base + length (control_bytes facs) < 2 ^ 64 = omega (arith, there.block.lies.ends, are.dsdt_is_correct.header, low) in
       let pt : Points base oem facs fadt laid = point base oem facs fadt laid six eight are.fadt_header fits x_low d_low in
       let p_named : take 4 (fadt_bytes p) ≡ codes "FACP" = fadt_named p are.fadt_signature are.fadt_header in
       let p_true : IsTrueTable (fadt_bytes p) = true_fadt p (four_is fadt.signature are.fadt_signature) (size_is p are.fadt_header) are.fadt_length in
       let p_size : length (fadt_bytes p) ≡ 276 = length-fadt p (size_is p are.fadt_header) in
-      let same : length laid.places ≡ length all = omega (arith, s.listed) in
+      let same : length laid.places ≡ length all = omega (arith, there.listed) in
       let counted = rows_counted base laid.places all same in
       let true_at : (i : ℕ) → i < length all → IsTrueTable (get_or all i []) = λ i inside. all_true (fadt_bytes p) tables p_true are.are_correct i inside in
       let x_contents : contents base total (found_at x) ≡ x.bytes = x_there.is in
       let entry : (i : ℕ) → i < length laid.places → IsTableAt base total (base + get_or laid.places i 0) (found_at (get_or rows i no_row)) = λ i inside.
       let row = row_at base laid.places all i no_row same inside in
-      let here = one_there base total rows i no_row both.0 (omega (arith, counted, inside)) in
+      let here = one_there base total rows i no_row there.rows (omega (arith, counted, inside)) in
       let correct : IsTrueTable (get_or rows i no_row).bytes = subst (λ (w : Standing). IsTrueTable w.bytes) (sym row) (true_at i (omega (arith, same, inside))) in
       subst (λ n. IsTableAt base total n (found_at (get_or rows i no_row))) (ap (λ (w : Standing). w.address) row) (table_there base total (get_or rows i no_row) here correct) in
       let small : (i : ℕ) → i < length laid.places → base + get_or laid.places i 0 < 2 ^ 64 = λ i inside. let e = entry i inside in omega (arith, e.header.ends, low) in
       let first = get_or rows 0 no_row in
-      let some : 0 < length laid.places = omega (arith, s.listed) in
+      let some : 0 < length laid.places = omega (arith, there.listed) in
       let first_is = row_at base laid.places all 0 no_row same some in
       let first_bytes : first.bytes ≡ fadt_bytes p = ap (λ (w : Standing). w.bytes) first_is in
-      let first_there = one_there base total rows 0 no_row both.0 (omega (arith, counted, some)) in
+      let first_there = one_there base total rows 0 no_row there.rows (omega (arith, counted, some)) in
       let first_contents : contents base total (found_at first) ≡ fadt_bytes p = first_there.is ∙ first_bytes in
-      let ptr = pointers oem.id (xsdt_address base laid) six in
-      let r_bytes : bytes_at base total r.address 36 ≡ r.bytes = ap (λ n. bytes_at base total r.address n) (sym ptr.0) ∙ r_there.is in
-      let x_at : field_at 24 8 (contents base total (found_at r)) ≡ x.address = ap (λ b. field_at 24 8 b) r_there.is ∙ pt.xsdt in
       let f_at : facs_address (contents base total (found_at first)) ≡ control_address base facs =
       ap facs_address first_contents ∙ address_is (fadt_bytes p) 36 132 (control_address base facs) pt.firmware_ctrl pt.x_firmware_ctrl in
       let d_at : dsdt_address (contents base total (found_at first)) ≡ base + length (control_bytes facs) =
@@ -349,26 +251,15 @@ module _ (base : ℕ) (oem : Oem) (facs : Option (List ℕ)) (dsdt : List ℕ) (
       let mapped : (i : ℕ) → i < length (map found_at rows) → i < length rows = λ i inside. omega (arith, length-map rows found_at, inside) in
       let flags_at : is_reduced (field_at 112 4 (contents base total (found_at first))) ≡ is_reduced fadt.flags =
       ap (λ b. is_reduced (field_at 112 4 b)) first_contents ∙ ap is_reduced (flags_in_fadt p are.fadt_header) ∙ flags_told fadt.flags in
-      record {
+      let all_found : Found total base r.address = record {
         pointer = found_at r;
         xsdt = found_at x;
         entries = map found_at rows;
         fadt = found_at first;
         facs = found_control base facs fadt;
         dsdt = found_at d;
-        pointer_is = record {
-          whole = record { begins = r_there.lies.begins; ends = omega (arith, r_there.lies.ends, ptr.0) };
-          is = place_is base total r r_there ∙ ap (located base total r.address) ptr.0;
-          signature = ap (take 8) r_bytes;
-          checksum = ap (λ b. sum (take 20 b) % 256) r_bytes ∙ ptr.1;
-          revision = ap (λ b. field_at 15 1 b) r_bytes ∙ revision_is oem.id (xsdt_address base laid) six;
-          tells = ap (λ b. field_at 20 4 b) r_bytes ∙ size_told oem.id (xsdt_address base laid) six;
-          extended_checksum = ap (λ b. sum b % 256) r_bytes ∙ ptr.2;
-        };
-        xsdt_is = record {
-          is_table = subst (λ n. IsTableAt base total n (found_at x)) (sym x_at) (table_there base total x x_there pt.xsdt_is_true);
-          is_named = xsdt_named base oem laid.places six eight fits;
-        };
+        pointer_is = pointer_there base oem laid.places total x.address r.address six eight fits x_low x_there there.pointer;
+        xsdt_is = xsdt_there base oem laid.places total x.address r.address six eight fits x_low x_there there.pointer;
         entries_are = record {
           counted = omega (arith, x_size, counted, length-map rows found_at);
           each = λ i e inside.
@@ -391,20 +282,23 @@ module _ (base : ℕ) (oem : Oem) (facs : Option (List ℕ)) (dsdt : List ℕ) (
               other (sym (ap (λ (w : Standing). take 4 w.bytes) row) ∙ sym (ap (λ (t : Located). t.signature) is) ∙ named));
           has_addresses = omega (arith, ap length first_bytes, p_size);
         };
-        facs_is = control_found base total (contents base total (found_at first)) facs fadt are.control there.0 f_at flags_at;
+        facs_is = control_found base total (contents base total (found_at first)) facs fadt are.control there.control f_at flags_at;
         dsdt_is = record {
-          is_table = subst (λ n. IsTableAt base total n (found_at d)) (sym d_at) (table_there base total d d_there are.dsdt_is_correct);
+          is_table = subst (λ n. IsTableAt base total n (found_at d)) (sym d_at) (table_there base total d there.block are.dsdt_is_correct);
           is_named = are.dsdt_signature;
         };
+      } in
+      record {
+        found = all_found;
         listed = refl;
-        apart = control_apart base facs fadt d x r rows total s.all;
+        apart = control_apart base facs fadt d x r rows total (stand base oem facs dsdt fadt tables).all;
         xsdt_is_correct = subst IsTrueTable (sym x_there.is) pt.xsdt_is_true;
         entries_are_correct = All-map (λ (t : Located). IsTrueTable (contents base total t)) found_at rows (λ i e inside.
             let row = row_at base laid.places all i e same (placed i inside) in
-            let here = one_there base total rows i e both.0 inside in
+            let here = one_there base total rows i e there.rows inside in
             let correct : IsTrueTable (get_or rows i e).bytes = subst (λ (w : Standing). IsTrueTable w.bytes) (sym row) (true_at i (omega (arith, same, placed i inside))) in
             subst IsTrueTable (sym here.is) correct);
-        dsdt_is_correct = subst IsTrueTable (sym d_there.is) are.dsdt_is_correct;
+        dsdt_is_correct = subst IsTrueTable (sym there.block.is) are.dsdt_is_correct;
       }
 
 pub are_found : ImagesAreFound

@@ -31,7 +31,7 @@ standing_push base place (p ∷ places) [] table same = absurd (omega (arith, sa
 standing_push base place (p ∷ places) (t ∷ tables) table same =
     ap (λ more. record { address = base + p; bytes = t } ∷ more) (standing_push base place places tables table (omega (arith, same)))
 
-length-padded : (unit : ℕ) (bytes : List ℕ) → length (padded unit bytes) ≡ length bytes + gap unit (length bytes)
+pub length-padded : (unit : ℕ) (bytes : List ℕ) → length (padded unit bytes) ≡ length bytes + gap unit (length bytes)
 length-padded unit bytes = omega (arith, length-append bytes (zeros (gap unit (length bytes))), length-replicate {A = ℕ} (gap unit (length bytes)) 0)
 
 -- what is padded to a unit, and one more after it

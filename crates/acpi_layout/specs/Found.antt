@@ -1,6 +1,6 @@
 -- The tables that an operating system finds from the RSDP on (ACPI 6.5, 5.2.5 to 5.2.10).
 use Rattle.std.specs.Prelude.{◌≡◌, ℕ, ◌+◌, ◌*◌, ◌/◌, ◌%◌, ◌^◌, ◌<◌, ◌≤◌, List, [], ◌∷◌, ◌++◌, length, sum, take, codes}
-use Rattle.std.specs.Prelude.{slice_index_or, ◌⊎◌, ◌==◌, ◌&&◌, Bool, true, false, if◌then◌else◌, Option, Some, None}
+use Rattle.std.specs.Prelude.{slice_index, slice_index_or, ◌⊎◌, ◌==◌, ◌&&◌, Bool, true, false, if◌then◌else◌, Option, Some, None}
 use Rattle.std.specs.List.{All}
 use Rattle.acpi_base.specs.Bytes.{field_at}
 use Rattle.acpi_base.specs.Table.{IsTrueTable}
@@ -41,6 +41,18 @@ pub record IsNamedTableAt (base : ℕ) (bytes : List ℕ) (signature : List ℕ)
   pub is_table : IsTableAt base bytes address table
   pub is_named : table.signature ≡ signature
 
+-- The XSDT to which the RSDP at this address points.
+pub record IsXsdt (base : ℕ) (bytes : List ℕ) (rsdp : ℕ) (xsdt : Located) : Type 0 where
+  pub pointer : Located
+  pub pointer_is : IsPointer base bytes rsdp pointer
+  pub is : IsNamedTableAt base bytes (codes "XSDT") (field_at 24 8 (contents base bytes pointer)) xsdt
+
+-- The addresses that the XSDT lists, in order (5.2.8): after its header, it has 8 bytes for each.
+pub record AreAddresses (base : ℕ) (bytes : List ℕ) (xsdt : Located) (addresses : List ℕ) : Type 0 where
+  pub counted : xsdt.length ≡ 36 + 8 * length addresses
+  pub each : (i : ℕ) → i < length addresses
+      → slice_index addresses i ≡ field_at (36 + 8 * i) 8 (contents base bytes xsdt)
+
 -- The tables that the XSDT lists, in order (5.2.8): after its header, it has 8 bytes for the address of each.
 pub record AreEntries (base : ℕ) (bytes : List ℕ) (xsdt : Located) (entries : List Located) : Type 0 where
   pub counted : xsdt.length ≡ 36 + 8 * length entries
@@ -55,6 +67,14 @@ pub record IsOnlyFadt (tables : List Located) (fadt : Located) : Type 0 where
   pub signature : fadt.signature ≡ codes "FACP"
   pub only : (i : ℕ) (d : Located) → i < length tables → (slice_index_or tables i d).signature ≡ codes "FACP" → i ≡ index
   pub has_addresses : 148 ≤ fadt.length
+
+-- The FADT to which the RSDP at this address leads.
+pub record IsFadt (base : ℕ) (bytes : List ℕ) (rsdp : ℕ) (fadt : Located) : Type 0 where
+  pub xsdt : Located
+  pub entries : List Located
+  pub xsdt_is : IsXsdt base bytes rsdp xsdt
+  pub entries_are : AreEntries base bytes xsdt entries
+  pub is : IsOnlyFadt entries fadt
 
 -- The address that a FADT has in two fields (5.2.9): that of 64 bits if it isn't 0, and that of 32 bits otherwise.
 unfoldable pub address_of : List ℕ → ℕ → ℕ → ℕ
@@ -106,10 +126,9 @@ AreApart (table ∷ tables) = All (IsApart table) tables × AreApart tables
 
 -- ---- all of them
 
--- These bytes, from the address base on, are the image of these tables. The RSDP at the address rsdp points to the XSDT. Its
--- entries point to the FADT and the others. The FADT points to the FACS, or says that there is none, and to the DSDT. Each table
--- with the standard header has its length and sums to zero, and no two overlap, so none is listed twice.
-pub record IsImage (bytes : List ℕ) (base rsdp : ℕ) (tables : List Located) : Type 0 where
+-- What is found in these bytes, from the address base on. The RSDP at the address rsdp points to the XSDT. Its entries point to
+-- the FADT and the others. The FADT points to the FACS, or says that there is none, and to the DSDT.
+pub record Found (bytes : List ℕ) (base rsdp : ℕ) : Type 0 where
   pub pointer : Located
   pub xsdt : Located
   pub entries : List Located
@@ -122,13 +141,35 @@ pub record IsImage (bytes : List ℕ) (base rsdp : ℕ) (tables : List Located) 
   pub fadt_is : IsOnlyFadt entries fadt
   pub facs_is : IsControlOf base bytes (contents base bytes fadt) facs
   pub dsdt_is : IsNamedTableAt base bytes (codes "DSDT") (dsdt_address (contents base bytes fadt)) dsdt
-  pub listed : tables ≡ pointer ∷ xsdt ∷ (entries ++ (if_found facs ++ (dsdt ∷ [])))
+
+-- these tables, in the order in which they are found
+abbrev pub tables_of : {bytes : List ℕ} {base rsdp : ℕ} → Found bytes base rsdp → List Located
+tables_of found = found.pointer ∷ found.xsdt ∷ (found.entries ++ (if_found found.facs ++ (found.dsdt ∷ [])))
+
+-- These bytes are the image of these tables: they are found. Each with the standard header has its length and sums to zero, and
+-- no two overlap, so none is listed twice.
+pub record IsImage (bytes : List ℕ) (base rsdp : ℕ) (tables : List Located) : Type 0 where
+  pub found : Found bytes base rsdp
+  pub listed : tables ≡ tables_of found
   pub apart : AreApart tables
-  pub xsdt_is_correct : IsTrueTable (contents base bytes xsdt)
-  pub entries_are_correct : All (λ table. IsTrueTable (contents base bytes table)) entries
-  pub dsdt_is_correct : IsTrueTable (contents base bytes dsdt)
+  pub xsdt_is_correct : IsTrueTable (contents base bytes found.xsdt)
+  pub entries_are_correct : All (λ table. IsTrueTable (contents base bytes table)) found.entries
+  pub dsdt_is_correct : IsTrueTable (contents base bytes found.dsdt)
 
 -- The same bytes are the image of one list of tables at most, for one base and one address of the RSDP.
 abbrev pub ImagesHaveOneList : Type 0
 ImagesHaveOneList =
     (bytes : List ℕ) (base rsdp : ℕ) (t u : List Located) → IsImage bytes base rsdp t → IsImage bytes base rsdp u → t ≡ u
+
+-- ---- the addresses alone
+
+-- These addresses are those that the XSDT lists to which the RSDP at the address rsdp points. Nothing is said of what is there.
+pub record AreListed (base : ℕ) (bytes : List ℕ) (rsdp : ℕ) (addresses : List ℕ) : Type 0 where
+  pub xsdt : Located
+  pub xsdt_is : IsXsdt base bytes rsdp xsdt
+  pub addresses_are : AreAddresses base bytes xsdt addresses
+
+-- The same bytes list one list of addresses at most, for one base and one address of the RSDP.
+abbrev pub ImagesListOnce : Type 0
+ImagesListOnce =
+    (bytes : List ℕ) (base rsdp : ℕ) (a b : List ℕ) → AreListed base bytes rsdp a → AreListed base bytes rsdp b → a ≡ b

@@ -4,3 +4,5 @@ pub mod Laws
 pub mod Addresses
 pub mod Found
 pub mod ReadBack
+pub mod Fault
+pub mod FaultText

@@ -13,7 +13,7 @@ use Rattle.acpi_fixed.specs.Rsdp.{rsdp_bytes, rsdp_for}
 use Rattle.acpi_layout.specs.declared.located.Located.{Located}
 use Rattle.acpi_layout.specs.Image.{control_bytes, reduced, pointed_fadt, listing, tables_laid, image}
 use Rattle.acpi_layout.specs.Laws.{Standing, standing_at, xsdt_address}
-use Rattle.acpi_layout.specs.Found.{is_reduced, if_found, IsImage}
+use Rattle.acpi_layout.specs.Found.{is_reduced, if_found, IsImage, AreListed}
 
 -- a FACS of 64 bytes
 pub record IsFacs (facs : List ℕ) : Type 0 where
@@ -69,6 +69,16 @@ ImagesAreFound =
     → base + length (image base oem facs dsdt fadt tables).bytes ≤ 2 ^ 64 → 36 + 8 * (1 + length tables) < 2 ^ 32
     → IsImage (image base oem facs dsdt fadt tables).bytes base (image base oem facs dsdt fadt tables).rsdp
     (laid_tables base oem facs dsdt fadt tables)
+
+-- If there is space for the image, its XSDT lists the addresses at which the FADT and the tables are laid, in order, whatever the
+-- tables are. The ids have the widths of their fields.
+abbrev pub ImagesListTheirTables : Type 0
+ImagesListTheirTables =
+    (base : ℕ) (oem : Oem) (facs : Option (List ℕ)) (dsdt : List ℕ) (fadt : FADTBuilder) (tables : List (List ℕ))
+    → length oem.id ≡ 6 → length oem.table_id ≡ 8
+    → base + length (image base oem facs dsdt fadt tables).bytes ≤ 2 ^ 64 → 36 + 8 * (1 + length tables) < 2 ^ 32
+    → AreListed base (image base oem facs dsdt fadt tables).bytes (image base oem facs dsdt fadt tables).rsdp
+    (map (λ place. base + place) (image base oem facs dsdt fadt tables).places)
 
 -- The FADT that is laid without a FACS is that of a hardware-reduced machine.
 abbrev pub ReducedIsTold : Type 0

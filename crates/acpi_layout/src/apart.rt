@@ -1,8 +1,10 @@
 //! Tables that don't overlap.
 
-ghost use Rattle.std.specs.Prelude.{◌+◌, ◌≤◌, IsTrue, OnOk, OnErr, ◌↔◌};
-ghost use Rattle.std.specs.List.{All};
+ghost use Rattle.std.specs.Prelude.{◌≡◌, ◌+◌, ◌≤◌, IsTrue, OnOk, OnErr, IfErr, ◌↔◌};
+ghost use Rattle.std.specs.List.{All, Contains};
+ghost use Rattle.acpi_layout.specs.declared.located.Located.{Located};
 ghost use Rattle.acpi_layout.specs.Found.{IsApart, AreApart};
+ghost use Rattle.acpi_layout.specs.Fault.{IsOverlap};
 
 use crate::fault::ImageFault;
 use crate::located::Located;
@@ -18,6 +20,8 @@ fn ends_before(first: &Located, second: &Located) -> bool
 fn is_apart(table: Located, others: &[Located]) -> Result<(), ImageFault>
     ensures ok { OnOk result (All (IsApart table) others.now) }
     ensures err { OnErr result (¬ All (IsApart table) others.now) }
+    ensures fault { IfErr result (λ e. (other : Located) × Contains others.now other × ¬ IsApart table other
+        × (e ≡ ImageFault.Overlap table.address other.address)) }
 {
     for other in others {
         if !ends_before(&table, other) && !ends_before(other, &table) {
@@ -31,6 +35,7 @@ fn is_apart(table: Located, others: &[Located]) -> Result<(), ImageFault>
 pub(crate) fn are_apart(tables: &[Located]) -> Result<(), ImageFault>
     ensures ok { OnOk result (AreApart tables.now) }
     ensures err { OnErr result (¬ AreApart tables.now) }
+    ensures fault { IfErr result (IsOverlap tables.now) }
 {
     for i in 0..tables.len() {
         is_apart(tables[i], &tables[i + 1..])?;

@@ -4,6 +4,7 @@ ghost use Rattle.std.specs.Prelude.{◌≡◌, ◌≢◌, List, [], ◌∷◌, �
 ghost use Rattle.acpi_layout.specs.declared.fault.ImageFault.TheVariants.{Memory};
 ghost use Rattle.acpi_layout.specs.declared.located.Located.{Located};
 ghost use Rattle.acpi_layout.specs.Found.{if_found, IsImage};
+ghost use Rattle.acpi_layout.specs.Fault.{IsImageFault};
 
 use crate::apart::are_apart;
 use crate::fault::ImageFault;
@@ -53,6 +54,7 @@ pub fn check_image(
 ) -> Result<Vec<Located>, ImageFault>
     ensures ok { IfOk result (λ tables. IsImage bytes.now base rsdp tables.items) }
     ensures err { IfErr result (λ e. e ≢ Memory → (tables : List Located) → ¬ IsImage bytes.now base rsdp tables) }
+    ensures fault { IfErr result (λ e. e ≢ Memory → IsImageFault bytes.now base rsdp e) }
 {
     let pointer = pointer(bytes, base, rsdp)?;
     let xsdt = xsdt(bytes, base, pointer)?;

@@ -1,6 +1,7 @@
 //! Why bytes aren't an image.
 
-ghost use Rattle.std.specs.Prelude.{◌≡◌};
+ghost use Rattle.std.specs.Prelude.{◌≡◌, Some};
+ghost use Rattle.acpi_layout.specs.FaultText.{text_of};
 ghost use Rattle.acpi_layout.specs.declared.fault.ImageFault.TheVariants.{Memory};
 
 use std::alloc::{AllocError, AllocFailed};
@@ -35,29 +36,31 @@ pub enum ImageFault {
 
 /// The fault as text, for the user of a program.
 impl fmt::Display for ImageFault {
+    ghost output = { λ fault. Some (text_of fault) };
+
     fn fmt<W: fmt::Write>(&self, f: &mut fmt::Formatter<W>) -> fmt::Result {
         match self {
             ImageFault::Memory => write!(f, "out of memory"),
             ImageFault::Outside(address) => write!(
                 f,
-                "at {address:#x}: the table isn't in the image"
+                "at 0x{address:x}: the table isn't in the image"
             ),
-            ImageFault::Signature(address) => write!(f, "at {address:#x}: the signature is wrong"),
-            ImageFault::Length(address) => write!(f, "at {address:#x}: the length is wrong"),
-            ImageFault::Revision(address) => write!(f, "at {address:#x}: the revision isn't 2"),
-            ImageFault::Sum(address) => write!(f, "at {address:#x}: the bytes don't sum to zero"),
+            ImageFault::Signature(address) => write!(f, "at 0x{address:x}: the signature is wrong"),
+            ImageFault::Length(address) => write!(f, "at 0x{address:x}: the length is wrong"),
+            ImageFault::Revision(address) => write!(f, "at 0x{address:x}: the revision isn't 2"),
+            ImageFault::Sum(address) => write!(f, "at 0x{address:x}: the bytes don't sum to zero"),
             ImageFault::Entries(address) => {
                 write!(
                     f,
-                    "at {address:#x}: the XSDT doesn't end after a whole entry"
+                    "at 0x{address:x}: the XSDT doesn't end after a whole entry"
                 )
             }
-            ImageFault::NoFadt(address) => write!(f, "at {address:#x}: the XSDT lists no FADT"),
-            ImageFault::SecondFadt(address) => write!(f, "at {address:#x}: this is a second FADT"),
+            ImageFault::NoFadt(address) => write!(f, "at 0x{address:x}: the XSDT lists no FADT"),
+            ImageFault::SecondFadt(address) => write!(f, "at 0x{address:x}: this is a second FADT"),
             ImageFault::Overlap(first, second) => {
                 write!(
                     f,
-                    "at {first:#x}: the table overlaps the one at {second:#x}"
+                    "at 0x{first:x}: the table overlaps the one at 0x{second:x}"
                 )
             }
         }

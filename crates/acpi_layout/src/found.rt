@@ -1,14 +1,16 @@
 //! The tables of an image, each found by the address that another one contains.
 
-ghost use Rattle.std.specs.Prelude.{◌≡◌, ◌≢◌, ℕ, ◌+◌, ◌<◌, ◌≤◌, List, length, codes, slice_index_or, Option, IfSome, IfNone, IfOk, IfErr, OnOk, OnErr};
-ghost use Rattle.std.specs.List.{All};
+ghost use Rattle.std.specs.Prelude.{◌≡◌, ◌≢◌, ℕ, ◌+◌, ◌*◌, ◌<◌, ◌≤◌, false, List, length, codes, slice_index_or, Option, IfSome, IfNone, IfOk, IfErr, OnOk, OnErr};
+ghost use Rattle.std.specs.List.{All, Contains};
 ghost use Rattle.acpi_base.specs.Bytes.{field_at};
 ghost use Rattle.acpi_base.specs.Table.{IsTrueTable};
 ghost use Rattle.acpi_layout.specs.declared.fault.ImageFault.TheVariants.{Memory};
 ghost use Rattle.acpi_layout.specs.declared.located.Located.{Located};
 ghost use Rattle.acpi_layout.specs.Addresses.{Lies, bytes_at};
-ghost use Rattle.acpi_layout.specs.Found.{contents, IsTableAt, IsPointer, IsNamedTableAt, AreEntries, IsOnlyFadt, IsControlAt};
-ghost use Rattle.acpi_layout.specs.Found.{address_of, facs_address, dsdt_address, is_reduced, has_no_control, IsControlOf};
+ghost use Rattle.acpi_layout.specs.Found.{contents, IsTableAt, IsPointer, IsNamedTableAt, AreAddresses, AreEntries, IsOnlyFadt, IsControlAt};
+ghost use Rattle.acpi_layout.specs.Found.{address_of, facs_address, dsdt_address, is_reduced, has_no_control, IsControlOf, AreListed};
+ghost use Rattle.acpi_layout.specs.Fault.{IsTableFault, IsNamedTableFault, IsPointerFault, IsControlFault, HasPartOfEntry, IsEntriesFault};
+ghost use Rattle.acpi_layout.specs.Fault.{IsListFault, IsFadtFault};
 
 use crate::fault::ImageFault;
 use crate::located::Located;
@@ -22,6 +24,7 @@ fn part(bytes: &[u8], base: u64, address: u64, size: u32) -> Result<&[u8], Image
     ensures size { IfOk result (λ part. length part.now ≡ size) }
     ensures lies { OnOk result (Lies base bytes.now address size) }
     ensures err { OnErr result (¬ Lies base bytes.now address size) }
+    ensures fault { IfErr result (λ e. e ≡ ImageFault.Outside address) }
 {
     if address < base {
         return Err(ImageFault::Outside(address));
@@ -49,6 +52,7 @@ fn contents(bytes: &[u8], base: u64, table: Located) -> &[u8]
 fn table(bytes: &[u8], base: u64, address: u64) -> Result<Located, ImageFault>
     ensures ok { IfOk result (λ table. IsTableAt base bytes.now address table) }
     ensures err { OnErr result ((table : Located) → ¬ IsTableAt base bytes.now address table) }
+    ensures fault { IfErr result (IsTableFault base bytes.now address) }
 {
     let header = part(bytes, base, address, 36)?;
     let length = dword_at(header, 4);
@@ -73,6 +77,7 @@ fn named_table(
 ) -> Result<Located, ImageFault>
     ensures ok { IfOk result (λ table. IsNamedTableAt base bytes.now signature address table) }
     ensures err { OnErr result ((table : Located) → ¬ IsNamedTableAt base bytes.now signature address table) }
+    ensures fault { IfErr result (IsNamedTableFault base bytes.now signature address) }
 {
     let found = table(bytes, base, address)?;
     if found.signature != signature {
@@ -85,6 +90,7 @@ fn named_table(
 pub(crate) fn pointer(bytes: &[u8], base: u64, address: u64) -> Result<Located, ImageFault>
     ensures ok { IfOk result (λ rsdp. IsPointer base bytes.now address rsdp) }
     ensures err { OnErr result ((rsdp : Located) → ¬ IsPointer base bytes.now address rsdp) }
+    ensures fault { IfErr result (IsPointerFault base bytes.now address) }
 {
     let whole = part(bytes, base, address, 36)?;
     if whole[..8] != b"RSD PTR "[..] {
@@ -115,6 +121,8 @@ pub(crate) fn xsdt(bytes: &[u8], base: u64, pointer: Located) -> Result<Located,
         IsNamedTableAt base bytes.now (codes "XSDT") (field_at 24 8 (contents base bytes.now pointer)) xsdt) }
     ensures err { OnErr result ((xsdt : Located)
         → ¬ IsNamedTableAt base bytes.now (codes "XSDT") (field_at 24 8 (contents base bytes.now pointer)) xsdt) }
+    ensures fault { IfErr result
+        (IsNamedTableFault base bytes.now (codes "XSDT") (field_at 24 8 (contents base bytes.now pointer))) }
 {
     let address = qword_at(contents(bytes, base, pointer), 24);
     named_table(bytes, base, *b"XSDT", address)
@@ -158,6 +166,8 @@ pub(crate) fn dsdt(bytes: &[u8], base: u64, fadt: Located) -> Result<Located, Im
         IsNamedTableAt base bytes.now (codes "DSDT") (dsdt_address (contents base bytes.now fadt)) dsdt) }
     ensures err { OnErr result ((dsdt : Located)
         → ¬ IsNamedTableAt base bytes.now (codes "DSDT") (dsdt_address (contents base bytes.now fadt)) dsdt) }
+    ensures fault { IfErr result
+        (IsNamedTableFault base bytes.now (codes "DSDT") (dsdt_address (contents base bytes.now fadt))) }
 {
     let address = dsdt_address(contents(bytes, base, fadt));
     named_table(bytes, base, *b"DSDT", address)
@@ -182,6 +192,7 @@ fn has_no_control(fadt: &[u8]) -> bool
 fn control_at(bytes: &[u8], base: u64, address: u64) -> Result<Located, ImageFault>
     ensures ok { IfOk result (λ facs. IsControlAt base bytes.now address facs) }
     ensures err { OnErr result ((facs : Located) → ¬ IsControlAt base bytes.now address facs) }
+    ensures fault { IfErr result (IsControlFault base bytes.now address) }
 {
     let whole = part(bytes, base, address, 64)?;
     let signature = [whole[0], whole[1], whole[2], whole[3]];
@@ -204,6 +215,8 @@ pub(crate) fn control(bytes: &[u8], base: u64, fadt: Located) -> Result<Option<L
     requires within { 148 ≤ fadt.length }
     ensures ok { IfOk result (λ facs. IsControlOf base bytes.now (contents base bytes.now fadt) facs) }
     ensures err { OnErr result ((facs : Option Located) → ¬ IsControlOf base bytes.now (contents base bytes.now fadt) facs) }
+    ensures says { OnErr result (has_no_control (contents base bytes.now fadt) ≡ false) }
+    ensures fault { IfErr result (IsControlFault base bytes.now (facs_address (contents base bytes.now fadt))) }
 {
     let fields = contents(bytes, base, fadt);
     if has_no_control(fields) {
@@ -211,6 +224,53 @@ pub(crate) fn control(bytes: &[u8], base: u64, fadt: Located) -> Result<Option<L
     }
     let facs = control_at(bytes, base, facs_address(fields))?;
     Ok(Some(facs))
+}
+
+// The number of addresses in an XSDT.
+fn entry_count(xsdt: Located) -> Result<usize, ImageFault>
+    requires { 36 ≤ xsdt.length }
+    ensures ok { IfOk result (λ count. xsdt.length ≡ 36 + 8 * count) }
+    ensures err { OnErr result (HasPartOfEntry xsdt) }
+    ensures fault { IfErr result (λ e. e ≡ ImageFault.Entries xsdt.address) }
+{
+    let size = xsdt.length - 36;
+    if size % 8 != 0 {
+        return Err(ImageFault::Entries(xsdt.address));
+    }
+    Ok(size as usize / 8)
+}
+
+// The addresses that an XSDT lists.
+fn addresses(alloc: Global, bytes: &[u8], base: u64, xsdt: Located) -> Result<Vec<u64>, ImageFault>
+    requires lies { Lies base bytes.now xsdt.address xsdt.length }
+    requires within { 36 ≤ xsdt.length }
+    ensures ok { IfOk result (λ addresses. AreAddresses base bytes.now xsdt addresses.items) }
+    ensures err { IfErr result (λ e. e ≢ Memory → (addresses : List ℕ) → ¬ AreAddresses base bytes.now xsdt addresses) }
+    ensures fault { IfErr result (λ e. e ≢ Memory → HasPartOfEntry xsdt × (e ≡ ImageFault.Entries xsdt.address)) }
+{
+    let count = entry_count(xsdt)?;
+    let whole = contents(bytes, base, xsdt);
+    let mut addresses = Vec::new(alloc);
+    for i in 0..count {
+        addresses.push(qword_at(whole, 36 + 8 * i))?;
+    }
+    Ok(addresses)
+}
+
+// The addresses that the XSDT of the RSDP at an address lists.
+pub(crate) fn listed(
+    alloc: Global,
+    bytes: &[u8],
+    base: u64,
+    rsdp: u64,
+) -> Result<Vec<u64>, ImageFault>
+    ensures ok { IfOk result (λ addresses. AreListed base bytes.now rsdp addresses.items) }
+    ensures err { IfErr result (λ e. e ≢ Memory → (addresses : List ℕ) → ¬ AreListed base bytes.now rsdp addresses) }
+    ensures fault { IfErr result (λ e. e ≢ Memory → IsListFault bytes.now base rsdp e) }
+{
+    let pointer = pointer(bytes, base, rsdp)?;
+    let xsdt = xsdt(bytes, base, pointer)?;
+    addresses(alloc, bytes, base, xsdt)
 }
 
 // The tables that an XSDT lists.
@@ -224,12 +284,10 @@ pub(crate) fn entries(
     requires within { 36 ≤ xsdt.length }
     ensures ok { IfOk result (λ entries. AreEntries base bytes.now xsdt entries.items) }
     ensures err { IfErr result (λ e. e ≢ Memory → (entries : List Located) → ¬ AreEntries base bytes.now xsdt entries) }
+    ensures fault { IfErr result (λ e. e ≢ Memory → IsEntriesFault base bytes.now xsdt e) }
 {
+    let count = entry_count(xsdt)?;
     let whole = contents(bytes, base, xsdt);
-    if (xsdt.length - 36) % 8 != 0 {
-        return Err(ImageFault::Entries(xsdt.address));
-    }
-    let count = (whole.len() - 36) / 8;
     let mut entries = Vec::new(alloc);
     for i in 0..count {
         entries.push(table(bytes, base, qword_at(whole, 36 + 8 * i))?)?;
@@ -257,6 +315,7 @@ fn first_fadt(tables: &[Located]) -> Option<usize>
 pub(crate) fn only_fadt(xsdt: u64, tables: &[Located]) -> Result<Located, ImageFault>
     ensures ok { IfOk result (λ fadt. IsOnlyFadt tables.now fadt) }
     ensures err { OnErr result ((fadt : Located) → ¬ IsOnlyFadt tables.now fadt) }
+    ensures fault { IfErr result (IsFadtFault xsdt tables.now) }
 {
     let Some(index) = first_fadt(tables) else {
         return Err(ImageFault::NoFadt(xsdt));
@@ -278,6 +337,8 @@ pub(crate) fn are_correct(bytes: &[u8], base: u64, tables: &[Located]) -> Result
     requires { All (λ table. Lies base bytes.now table.address table.length) tables.now }
     ensures ok { OnOk result (All (λ table. IsTrueTable (contents base bytes.now table)) tables.now) }
     ensures err { OnErr result (¬ All (λ table. IsTrueTable (contents base bytes.now table)) tables.now) }
+    ensures fault { IfErr result (λ e. (table : Located) × Contains tables.now table
+        × ¬ IsTrueTable (contents base bytes.now table) × (e ≡ ImageFault.Sum table.address)) }
 {
     for table in tables {
         is_correct(bytes, base, *table)?;
@@ -290,6 +351,7 @@ pub(crate) fn is_correct(bytes: &[u8], base: u64, table: Located) -> Result<(), 
     requires { Lies base bytes.now table.address table.length }
     ensures ok { OnOk result (IsTrueTable (contents base bytes.now table)) }
     ensures err { OnErr result (¬ IsTrueTable (contents base bytes.now table)) }
+    ensures fault { IfErr result (λ e. e ≡ ImageFault.Sum table.address) }
 {
     if Table::check(contents(bytes, base, table)).is_err() {
         return Err(ImageFault::Sum(table.address));

@@ -1,8 +1,8 @@
 //! Laws over the definition of an image. Each function is a law: it does nothing, and ensures it.
 
-ghost use Rattle.acpi_layout.specs.Found.{ImagesHaveOneList};
+ghost use Rattle.acpi_layout.specs.Found.{ImagesHaveOneList, ImagesListOnce};
 ghost use Rattle.acpi_layout.specs.Laws.{ImagesStand, ImagesPoint, ImagesAreAligned, GapsAreLeast};
-ghost use Rattle.acpi_layout.specs.ReadBack.{ImagesAreFound, ReducedIsTold};
+ghost use Rattle.acpi_layout.specs.ReadBack.{ImagesAreFound, ImagesListTheirTables, ReducedIsTold};
 
 /// In an image each table's bytes stand at its address: the FACS if there is one, the DSDT, the FADT and the tables, the XSDT and
 /// the RSDP. No two overlap, and gaps are zero.
@@ -38,6 +38,14 @@ pub fn images_are_found()
 /// of the RSDP.
 pub fn images_have_one_list()
     ensures { ImagesHaveOneList }
+{}
+
+/// An image lists the addresses of the FADT and of the tables, in order, whatever the tables are. For one base and one address of
+/// the RSDP, the same bytes list at most one list of addresses. So `Image::addresses` returns where `lay` and `lay_reduced` put
+/// the tables.
+pub fn images_list_their_tables()
+    ensures listed { ImagesListTheirTables }
+    ensures once { ImagesListOnce }
 {}
 
 /// The FADT of `lay_reduced` has the flag HW_REDUCED_ACPI, so a reader looks for no FACS.

@@ -1,12 +1,16 @@
 //! The tables at their addresses.
 
-ghost use Rattle.std.specs.Prelude.{◌≡◌, ◌≢◌, ◌%◌, ◌+◌, ◌*◌, ◌<◌, ◌≤◌, ◌^◌, [], ◌∷◌, length, map, OnOk, IfOk, IfErr, None, Some};
+ghost use Rattle.std.specs.Prelude.{◌≡◌, ◌≢◌, ℕ, ◌%◌, ◌+◌, ◌*◌, ◌<◌, ◌≤◌, ◌^◌, List, [], ◌∷◌, length, map, OnOk, IfOk, IfErr, None, Some};
 ghost use Rattle.std.specs.Option.{option_map};
 ghost use Rattle.acpi_base.specs.Object.{Object};
 ghost use Rattle.acpi_fixed.specs.Facs.{facs_bytes};
 ghost use Rattle.acpi_layout.specs.Image.{control_bytes, control_address, reduced, tables_laid, listing, with_pointer};
+ghost use Rattle.acpi_layout.specs.Found.{AreListed};
+ghost use Rattle.acpi_layout.specs.Fault.{IsListFault};
 ghost use Rattle.acpi_layout.specs.Lays.{Lays};
 
+use crate::fault::ImageFault;
+use crate::found::listed;
 use crate::place::{address, begin, pad, place_all};
 use acpi_base::buffer::append_value;
 use acpi_base::error::{Error, R};
@@ -26,9 +30,21 @@ pub struct Image {
     pub bytes: Vec<u8>,
     /// The physical address of the RSDP (ACPI 6.5, 5.2.5), from which the other tables are found.
     pub rsdp: u64,
-    /// The offset in `bytes` of the FADT, and that of each table in order. The FACS is at offset 0, and the DSDT at 64, or at 0 if
-    /// there is no FACS.
-    pub places: Vec<u64>,
+}
+
+impl Image {
+    /// Returns the physical addresses that the XSDT of an image for `base` lists, in order: that of the FADT, and that of each
+    /// table. They are read from the bytes of the RSDP and of the XSDT to which it points. The tables themselves aren't read.
+    ///
+    /// The error is a fault of the RSDP or of the XSDT, as `check_image` returns it, or `Memory`.
+    pub fn addresses(&self, alloc: Global, base: u64) -> Result<Vec<u64>, ImageFault>
+        ensures ok { IfOk result (λ addresses. AreListed base self.now.bytes.items self.now.rsdp addresses.items) }
+        ensures err { IfErr result (λ e. e ≢ ImageFault.Memory → (addresses : List ℕ)
+            → ¬ AreListed base self.now.bytes.items self.now.rsdp addresses) }
+        ensures fault { IfErr result (λ e. e ≢ ImageFault.Memory → IsListFault self.now.bytes.items base self.now.rsdp e) }
+    {
+        listed(alloc, &self.bytes, base, self.rsdp)
+    }
 }
 
 // The FACS at base, if there is one. Returns its address, or 0.
@@ -125,11 +141,7 @@ fn lay_all(
     if bytes.len() as u64 - 1 > u64::MAX - base {
         return Err(Error::FieldWidth);
     }
-    Ok(Image {
-        bytes,
-        rsdp,
-        places,
-    })
+    Ok(Image { bytes, rsdp })
 }
 
 /// Lays the tables of a guest into one image, which is for the physical address `base`, a multiple of 64. The FACS is there, the

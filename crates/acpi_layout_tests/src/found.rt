@@ -2,6 +2,7 @@
 
 use crate::layout::{dsdt, image, mcfg};
 use acpi_tables::R;
+use acpi_tables::aml::{ONE, ZERO};
 use acpi_tables::layout::{Image, ImageFault, Located, check_image};
 use acpi_vectors::{agree, equal};
 use std::alloc::Global;
@@ -41,15 +42,20 @@ pub(crate) fn finds(
     equal(&check_image(alloc, bytes, base, rsdp)?.len(), &count)
 }
 
-// Fails unless an image at 0x1000 has these tables, of which the FADT and the next have these offsets.
+// Fails unless an image at 0x1000 lists these addresses.
+fn lists(alloc: Global, image: Image, wanted: &[u64]) -> Result<(), Fail> {
+    equal(&image.addresses(alloc, 0x1000)?.as_slice(), &wanted)
+}
+
+// Fails unless an image at 0x1000 has these tables, and lists the FADT and the next at these addresses.
 pub(crate) fn has_tables(
     alloc: Global,
     image: Image,
-    places: [u64; 2],
+    addresses: [u64; 2],
     wanted: &[Located],
 ) -> Result<(), Fail> {
     finds_all(alloc, (&image.bytes, 0x1000, image.rsdp), wanted)?;
-    equal(&image.places.as_slice(), &places.as_slice())
+    lists(alloc, image, &addresses)
 }
 
 #[test]
@@ -57,7 +63,7 @@ fn tables_in_order(rt: HostRuntime) -> Result<(), Fail> {
     has_tables(
         rt.alloc(),
         sample(rt.alloc())?,
-        [0x68, 0x180],
+        [0x1068, 0x1180],
         &[
             located(0x1200, 36, b"RSD "),
             located(0x11c0, 52, b"XSDT"),
@@ -83,6 +89,97 @@ fn overwritten(alloc: Global, made: &Image, at: usize, with: &[u8]) -> Result<Ve
     let mut bytes = Vec::from_slice(alloc, &made.bytes)?;
     overwrite(&mut bytes, at, with)?;
     Ok(bytes)
+}
+
+// Two objects of one byte each are listed, too, at 0x1180 and 0x1188.
+#[test]
+fn addresses_of_other_objects(rt: HostRuntime) -> Result<(), Fail> {
+    let made = image(rt.alloc(), 0x40, &dsdt(rt.alloc(), 36)?, &[&ONE, &ZERO])?;
+    lists(rt.alloc(), made, &[0x1068, 0x1180, 0x1188])
+}
+
+// An image of the caller: the bytes of another one, with these over those at an offset.
+fn changed(alloc: Global, made: &Image, at: usize, with: &[u8]) -> Result<Image, Fail> {
+    Ok(Image {
+        bytes: overwritten(alloc, made, at, with)?,
+        rsdp: made.rsdp,
+    })
+}
+
+// With these bytes at their offset, the image lists these addresses.
+fn lists_all(alloc: Global, made: &Image, rows: &[(usize, &[u8], &[u64])]) -> Result<(), Fail> {
+    for (at, with, wanted) in rows {
+        lists(alloc, changed(alloc, made, *at, *with)?, *wanted)?;
+    }
+    Ok(())
+}
+
+#[test]
+fn addresses_of_any_kind(rt: HostRuntime) -> Result<(), Fail> {
+    let alloc = rt.alloc();
+    lists_all(
+        alloc,
+        &sample(alloc)?,
+        &[
+            // entries: 2^64 - 1, 0, and the same twice
+            (
+                0x1e4,
+                b"\xff\xff\xff\xff\xff\xff\xff\xff",
+                &[u64::MAX, 0x1180],
+            ),
+            (0x1ec, b"\0\0", &[0x1068, 0]),
+            (0x1ec, b"\x68\x10", &[0x1068, 0x1068]),
+            // an XSDT of 36 and of 44 bytes, and a wrong sum of it
+            (0x1c4, b"\x24", &[]),
+            (0x1c4, b"\x2c", &[0x1068]),
+            (0x1d8, b"\xf0", &[0x1068, 0x1180]),
+            // the FADT without a signature, and the MCFG with a length that passes the end
+            (0x68, b"\0\0\0\0", &[0x1068, 0x1180]),
+            (0x184, b"\xa5", &[0x1068, 0x1180]),
+        ],
+    )
+}
+
+// Fails unless an image has this fault where its addresses are read.
+fn lists_nothing(alloc: Global, image: Image, base: u64, wanted: ImageFault) -> Result<(), Fail> {
+    match image.addresses(alloc, base) {
+        Err(fault) => equal(&fault, &wanted),
+        Ok(_) => Err(Fail::new("no fault")),
+    }
+}
+
+// With these bytes at their offset, the image has this fault where its addresses are read.
+fn lists_none(
+    alloc: Global,
+    made: &Image,
+    rows: &[(usize, &[u8], ImageFault)],
+) -> Result<(), Fail> {
+    for (at, with, wanted) in rows {
+        lists_nothing(alloc, changed(alloc, made, *at, *with)?, 0x1000, *wanted)?;
+    }
+    Ok(())
+}
+
+#[test]
+fn no_addresses(rt: HostRuntime) -> Result<(), Fail> {
+    let alloc = rt.alloc();
+    lists_none(
+        alloc,
+        &sample(alloc)?,
+        &[
+            (0x200, b"RSD PTR_", ImageFault::Signature(0x1200)),
+            (0x20f, b"\0", ImageFault::Revision(0x1200)),
+            (0x214, b"\x14", ImageFault::Length(0x1200)),
+            (0x208, b"\x27", ImageFault::Sum(0x1200)),
+            (0x221, b"\x01", ImageFault::Sum(0x1200)),
+            (0x1c0, b"RSDT", ImageFault::Signature(0x11c0)),
+            (0x1c4, b"\x23", ImageFault::Length(0x11c0)),
+            (0x1c4, b"\x65", ImageFault::Outside(0x11c0)),
+            (0x1c4, b"\x33", ImageFault::Entries(0x11c0)),
+            (0x1c4, b"\x35", ImageFault::Entries(0x11c0)),
+        ],
+    )?;
+    lists_nothing(alloc, sample(alloc)?, 0, ImageFault::Outside(0x1200))
 }
 
 // Fails unless bytes have this fault, where the RSDP is looked for at an address.

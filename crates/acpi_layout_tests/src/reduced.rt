@@ -60,7 +60,7 @@ fn tables_in_order(rt: HostRuntime) -> Result<(), Fail> {
     has_tables(
         rt.alloc(),
         sample(rt.alloc())?,
-        [0x28, 0x140],
+        [0x1028, 0x1140],
         &[
             located(0x11c0, 36, b"RSD "),
             located(0x1180, 52, b"XSDT"),

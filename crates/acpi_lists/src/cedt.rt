@@ -41,6 +41,8 @@ pub struct CedtKind;
 impl Kind for CedtKind {
     ghost walk = { cedt_walk };
 
+    ghost ported = { true };
+
     ghost limit = { length_limit };
 
     ghost closed = { true };
@@ -114,9 +116,9 @@ impl CEDT {
 
 /// A law: after any calls the table is correct. Its structures, in order, are the one list that the walk finds.
 pub fn cedt_is_walked(table: &CEDT)
-    ensures keeps { Keeps cedt_walk length_limit true table.now.table.table }
-    ensures walked { IsWalked cedt_walk table.now.table.table }
-    ensures calls { (oem : Oem) → IsAfterItsCalls cedt_walk (cedt oem) table.now.table }
+    ensures keeps { Keeps true cedt_walk length_limit true table.now.table.table }
+    ensures walked { IsWalked true cedt_walk table.now.table.table }
+    ensures calls { (oem : Oem) → IsAfterItsCalls true cedt_walk (cedt oem) table.now.table }
 {
     is_walked(&table.table)
 }

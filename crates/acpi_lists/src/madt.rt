@@ -1,7 +1,7 @@
 //! MADT: the interrupt controllers of a machine.
 
 ghost use Rattle.acpi_core.specs.Flat.{number_up_to};
-ghost use Rattle.std.specs.Prelude.{◌≡◌, false, length};
+ghost use Rattle.std.specs.Prelude.{◌≡◌, false, true, length};
 ghost use Rattle.acpi_base.specs.Fields.{AreRowsOf};
 ghost use Rattle.acpi_base.specs.Object.{whole, whole_ends_well};
 ghost use Rattle.acpi_base.specs.Table.{IsTrueTable};
@@ -87,6 +87,8 @@ pub struct MadtKind;
 
 impl Kind for MadtKind {
     ghost walk = { madt_walk };
+
+    ghost ported = { true };
 
     ghost limit = { length_limit };
 
@@ -188,10 +190,10 @@ pub fn madt_rows() -> &'static [Row]
 /// are the one list that the walk finds.
 pub fn madt_is_walked(table: &MADT)
     ensures is_true { IsTrueTable (bytes_of table.now.table.table) }
-    ensures keeps { Keeps madt_walk length_limit false table.now.table.table }
-    ensures walked { ArePieces madt_walk.sizes table.now.table.table.structures → IsWalked madt_walk table.now.table.table }
+    ensures keeps { Keeps true madt_walk length_limit false table.now.table.table }
+    ensures walked { ArePieces madt_walk.sizes table.now.table.table.structures → IsWalked true madt_walk table.now.table.table }
     ensures calls { ArePieces madt_walk.sizes table.now.table.table.structures → (oem : Oem) (controller : LocalInterruptController)
-        → IsAfterItsCalls madt_walk (madt oem controller) table.now.table }
+        → IsAfterItsCalls true madt_walk (madt oem controller) table.now.table }
 {
     is_walked(&table.table)
 }

@@ -34,6 +34,8 @@ pub struct McfgKind;
 impl Kind for McfgKind {
     ghost walk = { mcfg_walk };
 
+    ghost ported = { true };
+
     ghost limit = { length_limit };
 
     ghost closed = { true };
@@ -91,9 +93,9 @@ impl MCFG {
 
 /// A law: after any calls the table is correct. Its entries, in order, are the one list that the walk finds.
 pub fn mcfg_is_walked(table: &MCFG)
-    ensures keeps { Keeps mcfg_walk length_limit true table.now.table.table }
-    ensures walked { IsWalked mcfg_walk table.now.table.table }
-    ensures calls { (oem : Oem) → IsAfterItsCalls mcfg_walk (mcfg oem) table.now.table }
+    ensures keeps { Keeps true mcfg_walk length_limit true table.now.table.table }
+    ensures walked { IsWalked true mcfg_walk table.now.table.table }
+    ensures calls { (oem : Oem) → IsAfterItsCalls true mcfg_walk (mcfg oem) table.now.table }
 {
     is_walked(&table.table)
 }

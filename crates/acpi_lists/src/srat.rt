@@ -49,6 +49,8 @@ pub struct SratKind;
 impl Kind for SratKind {
     ghost walk = { srat_walk };
 
+    ghost ported = { true };
+
     ghost limit = { length_limit };
 
     ghost closed = { true };
@@ -149,9 +151,9 @@ impl SRAT {
 
 /// A law: after any calls the table is correct. Its structures, in order, are the one list that the walk finds.
 pub fn srat_is_walked(table: &SRAT)
-    ensures keeps { Keeps srat_walk length_limit true table.now.table.table }
-    ensures walked { IsWalked srat_walk table.now.table.table }
-    ensures calls { (oem : Oem) → IsAfterItsCalls srat_walk (srat oem) table.now.table }
+    ensures keeps { Keeps true srat_walk length_limit true table.now.table.table }
+    ensures walked { IsWalked true srat_walk table.now.table.table }
+    ensures calls { (oem : Oem) → IsAfterItsCalls true srat_walk (srat oem) table.now.table }
 {
     is_walked(&table.table)
 }

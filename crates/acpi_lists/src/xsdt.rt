@@ -35,6 +35,8 @@ pub struct XsdtKind;
 impl Kind for XsdtKind {
     ghost walk = { xsdt_walk };
 
+    ghost ported = { true };
+
     ghost limit = { length_limit };
 
     ghost closed = { true };
@@ -86,9 +88,9 @@ impl XSDT {
 
 /// A law: after any calls the table is correct. Its entries, in order, are the one list that the walk finds.
 pub fn xsdt_is_walked(table: &XSDT)
-    ensures keeps { Keeps xsdt_walk length_limit true table.now.table.table }
-    ensures walked { IsWalked xsdt_walk table.now.table.table }
-    ensures calls { (oem : Oem) → IsAfterItsCalls xsdt_walk (xsdt oem) table.now.table }
+    ensures keeps { Keeps true xsdt_walk length_limit true table.now.table.table }
+    ensures walked { IsWalked true xsdt_walk table.now.table.table }
+    ensures calls { (oem : Oem) → IsAfterItsCalls true xsdt_walk (xsdt oem) table.now.table }
 {
     is_walked(&table.table)
 }

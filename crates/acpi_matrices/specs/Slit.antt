@@ -117,15 +117,11 @@ all_set t [] = t
 all_set t (sets a b value (Ok done) next ∷ calls) = all_set (with_distance t a b value) calls
 all_set t (sets a b value (Err e) next ∷ calls) = all_set t calls
 
--- After the calls the table is the first one with the distances that the successful calls set, in order. The number of localities
--- is the same.
-pub record IsSlitAfter (start : Counted) (calls : List DistanceCall) : Type 0 where
-  pub table : (slit_after start calls).table ≡ all_set start.table calls
-  pub localities : (slit_after start calls).table.localities ≡ start.table.localities
-  pub matrix : IsMatrix start.table → IsMatrix (slit_after start calls).table
-
-abbrev pub SlitsAreTheirCalls : Type 0
-SlitsAreTheirCalls = (start : Counted) (calls : List DistanceCall) → AreDistanceCalls start calls → IsSlitAfter start calls
+-- For every list of calls that leads from a new table to this one, it is the new table with the distances that the successful
+-- calls set, in order.
+pub record IsSlitAfterItsCalls (last : Counted) : Type 0 where
+  pub holds : (oem : Oem) (localities : ℕ) (start : Counted) (calls : List DistanceCall) → start.table ≡ slit oem localities
+      → AreDistanceCalls start calls → slit_after start calls ≡ last → last.table ≡ all_set (slit oem localities) calls
 
 -- ---- in a table's bytes
 

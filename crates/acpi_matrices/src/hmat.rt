@@ -44,6 +44,8 @@ pub struct HmatKind;
 impl Kind for HmatKind {
     ghost walk = { hmat_walk };
 
+    ghost ported = { true };
+
     ghost limit = { length_limit };
 
     ghost closed = { true };
@@ -109,9 +111,9 @@ impl HMAT {
 
 /// A law: after any calls the table is correct. Its structures, in order, are the one list that the walk finds.
 pub fn hmat_is_walked(table: &HMAT)
-    ensures keeps { Keeps hmat_walk length_limit true table.now.table.table }
-    ensures walked { IsWalked hmat_walk table.now.table.table }
-    ensures calls { (oem : Oem) → IsAfterItsCalls hmat_walk (hmat oem) table.now.table }
+    ensures keeps { Keeps true hmat_walk length_limit true table.now.table.table }
+    ensures walked { IsWalked true hmat_walk table.now.table.table }
+    ensures calls { (oem : Oem) → IsAfterItsCalls true hmat_walk (hmat oem) table.now.table }
 {
     is_walked(&table.table)
 }

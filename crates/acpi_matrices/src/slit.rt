@@ -9,7 +9,7 @@ ghost use Rattle.acpi_base.specs.Table.{IsTrueTable};
 ghost use Rattle.acpi_base.specs.Walk.{ArePiecesOf};
 ghost use Rattle.acpi_matrices.specs.Slit.{slit, slit_fields, slit_bytes, place_of, cost_of};
 ghost use Rattle.acpi_matrices.specs.Slit.{SetsDistance, DistancesAreTrue, DistancesAreSet, IsSymmetric};
-ghost use Rattle.acpi_matrices.specs.Slit.{IsMatrix, SlitsAreTheirCalls};
+ghost use Rattle.acpi_matrices.specs.Slit.{IsMatrix, IsSlitAfterItsCalls};
 
 use acpi_base::error::{Error, R};
 use acpi_base::header::{header, seal};
@@ -177,26 +177,17 @@ pub fn slit_rows() -> &'static [Row]
     &SLIT_FIXED[1..]
 }
 
-/// A law: after any calls the table's bytes are a correct table. It has no structures.
-pub fn slit_is_true(table: &SLIT)
-    ensures is_true { IsTrueTable (slit_bytes table.now.table) }
+/// A law: after any list of calls, successful or not, a SLIT is a valid table without structures. It is the new table with the
+/// distances that the successful calls set. They are in its bytes from offset 44 on, and are symmetric.
+pub fn slit_is_valid(table: &SLIT)
+    ensures valid { IsTrueTable (slit_bytes table.now.table) }
     ensures pieces { ArePiecesOf (slit_bytes table.now.table) [] }
-{
-    let _ = &table.cells;
-}
-
-/// A law: after any calls the distances are in the table's bytes from offset 44 on, and they are symmetric.
-pub fn slit_is_symmetric(table: &SLIT)
-    ensures symmetric { IsSymmetric table.now.table }
     ensures matrix { IsMatrix table.now.table }
+    ensures symmetric { IsSymmetric table.now.table }
+    ensures calls { IsSlitAfterItsCalls table.now }
 {
     let _ = &table.cells;
 }
-
-/// A law: after any list of calls, successful or not, a SLIT is the first one with the distances that the successful calls set.
-pub fn slits_are_their_calls()
-    ensures { SlitsAreTheirCalls }
-{}
 
 /// A law: the bytes of a symmetric matrix of at most 65,535 localities are a correct table: 44 bytes, and one for each distance.
 pub fn distances_are_true()

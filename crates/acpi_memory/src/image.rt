@@ -42,7 +42,7 @@ fn reduced_image(alloc: Global, block: &Sdt, table: &MCFG) -> R<Image> {
     )
 }
 
-// Makes an image, and the list of its tables.
+// Makes an image, the list of its tables, and that of the addresses in its XSDT.
 fn whole(
     trial: &mut Trial,
     alloc: Global,
@@ -54,6 +54,7 @@ fn whole(
     trial.count(&image.bytes);
     let check = || Ok(check_image(alloc, &image.bytes, 0x1000, image.rsdp)?);
     trial.make(lent, check)?;
+    trial.make(lent, || Ok(image.addresses(alloc, 0x1000)?))?;
     Ok(())
 }
 
@@ -70,7 +71,8 @@ fn reduced(
     Ok(())
 }
 
-/// An image, which borrows the definition block and the tables, and the list of its tables. And an image without a FACS.
+/// An image, which borrows the definition block and the tables, the list of its tables, and that of the addresses in its XSDT. And
+/// an image without a FACS.
 pub fn images(trial: &mut Trial, alloc: Global) -> Result<(), Fault> {
     let block = trial.make(&0x1000u16, || Ok(Sdt::empty(alloc)?))?;
     let table = trial.make(&block, || Ok(mcfg(alloc)?))?;

@@ -1,5 +1,6 @@
 //! Makes every call that can grow a vector, and makes it again if it was refused memory. Then it prints how many bytes the calls
-//! made, and the sum of these bytes. The line is the same for each growth that is refused, if only one is.
+//! made, the sum of these bytes, and how many calls returned that memory ran out. The first two are the same for each growth that
+//! is refused, if only one is. The third is then 1, or 0 if a list was only to give back room.
 //!
 //! These bytes are counted, in this order:
 //!
@@ -10,10 +11,10 @@
 //! - the image, twice (`image`);
 //! - the reports of three lists of terms, an XSDT's report of its header, its whole report, and its two entries (`reading`).
 //!
-//! Both numbers follow from the layouts in `docs/FORMATS.md` and `docs/AML.md`, and from the values in these modules. For
-//! example, an XSDT of five entries 0x1234 has 36 + 5 * 8 = 76 bytes. Without the checksum their sum is 2524 for the header and 5
-//! * (0x34 + 0x12) = 350 for the entries. The checksum raises 2874 to the next multiple of 256, which is 3072. When a call is
-//! added here, the bytes that it makes are computed in this way and added to both numbers of `stdout`.
+//! The first two numbers follow from the layouts in `docs/FORMATS.md` and `docs/AML.md`, and from the values in these modules.
+//! For example, an XSDT of five entries 0x1234 has 36 + 5 * 8 = 76 bytes. Without the checksum their sum is 2524 for the header
+//! and 5 * (0x34 + 0x12) = 350 for the entries. The checksum raises 2874 to the next multiple of 256, which is 3072. When a call
+//! is added here, the bytes that it makes are computed in this way and added to these numbers of `stdout`.
 #![tactic(auto)]
 
 mod aml;
@@ -66,7 +67,11 @@ fn main(rt: HostRuntime) -> Result<(), Fault> {
     image::images(&mut trial, rt.alloc())?;
     reading::bytecode(&mut trial, rt.alloc())?;
     reading::tables(&mut trial, rt.alloc())?;
-    println!(rt; "{} bytes, sum {}", trial.tally.length, trial.tally.sum)?;
+    let tally = trial.tally;
+    println!(rt;
+        "{} bytes, sum {}, calls out of memory: {}",
+        tally.length, tally.sum, tally.refusals
+    )?;
     Ok(())
 }
 
@@ -135,7 +140,7 @@ fn make_objects(trial: &mut Trial, alloc: Global) -> Result<(), Fault> {
     )?;
     trial.all(
         &child,
-        operators::SHAPES,
+        operators::OPERATORS,
         |which: u8| operators::operator(alloc, &child, which),
     )
 }

@@ -24,11 +24,12 @@ pub trait Grows: Sized {
     fn grow(&mut self, alloc: Global, way: u8) -> R<()>;
 }
 
-/// The number of bytes that all calls made, and their sum.
+/// The number of bytes that all calls made, their sum, and the number of calls that returned that memory ran out.
 #[derive(Drop)]
 pub struct Tally {
     pub length: u64,
     pub sum: u64,
+    pub refusals: u64,
 }
 
 impl Tally {
@@ -37,6 +38,10 @@ impl Tally {
         for byte in bytes {
             self.sum = self.sum.wrapping_add(u64::from(*byte));
         }
+    }
+
+    fn refuse(&mut self) {
+        self.refusals = self.refusals.wrapping_add(1);
     }
 }
 
@@ -49,10 +54,13 @@ pub struct Trial {
 }
 
 // Asks for room, and asks again if it was refused.
-fn room(alloc: Global) -> R<Vec<u8>> {
+fn room(alloc: Global, tally: &mut Tally) -> R<Vec<u8>> {
     match Vec::with_capacity(alloc, ROOM) {
         Ok(room) => Ok(room),
-        Err(_) => Ok(Vec::with_capacity(alloc, ROOM)?),
+        Err(_) => {
+            tally.refuse();
+            Ok(Vec::with_capacity(alloc, ROOM)?)
+        }
     }
 }
 
@@ -69,10 +77,17 @@ fn compare(before: &[u8], after: &[u8]) -> Result<(), Fault>
 
 impl Trial {
     pub fn new(alloc: Global) -> R<Trial> {
+        let mut tally = Tally {
+            length: 0,
+            sum: 0,
+            refusals: 0,
+        };
+        let before = room(alloc, &mut tally)?;
+        let after = room(alloc, &mut tally)?;
         Ok(Trial {
-            tally: Tally { length: 0, sum: 0 },
-            before: room(alloc)?,
-            after: room(alloc)?,
+            tally,
+            before,
+            after,
         })
     }
 
@@ -93,7 +108,7 @@ impl Trial {
         self.before.clear();
         lent.to_aml_bytes(&mut self.before)?;
         match call() {
-            Err(Fault::Memory) => {}
+            Err(Fault::Memory) => self.tally.refuse(),
             other => return other,
         }
         self.after.clear();
@@ -116,7 +131,7 @@ impl Trial {
         self.before.clear();
         write(object, &mut self.before)?;
         match call(object) {
-            Err(Error::Memory) => {}
+            Err(Error::Memory) => self.tally.refuse(),
             other => return Ok(other?),
         }
         self.after.clear();

@@ -73,6 +73,19 @@ abbrev pub policy_number : WritePolicy → ℕ
 policy_number Writeback = 0
 policy_number Writethrough = 16
 
+-- a builder in which every field is zero
+abbrev pub no_cache : CacheNodeBuilder
+no_cache = record {
+  flags = 0;
+  next_level = 0;
+  size = 0;
+  sets = 0;
+  associativity = 0;
+  attributes = 0;
+  line_size = 0;
+  id = 0;
+}
+
 -- the node that a builder makes
 abbrev pub cache_of : CacheNodeBuilder → CacheNode
 cache_of b = record {

@@ -42,6 +42,8 @@ pub struct PpttKind;
 impl Kind for PpttKind {
     ghost walk = { pptt_walk };
 
+    ghost ported = { true };
+
     ghost limit = { length_limit };
 
     ghost closed = { true };
@@ -101,9 +103,9 @@ impl PPTT {
 
 /// A law: after any calls the table is correct. Its nodes, in order, are the one list that the walk finds.
 pub fn pptt_is_walked(table: &PPTT)
-    ensures keeps { Keeps pptt_walk length_limit true table.now.table.table }
-    ensures walked { IsWalked pptt_walk table.now.table.table }
-    ensures calls { (oem : Oem) → IsAfterItsCalls pptt_walk (pptt oem) table.now.table }
+    ensures keeps { Keeps true pptt_walk length_limit true table.now.table.table }
+    ensures walked { IsWalked true pptt_walk table.now.table.table }
+    ensures calls { (oem : Oem) → IsAfterItsCalls true pptt_walk (pptt oem) table.now.table }
     ensures nodes { NodesStand table.now.table.table }
 {
     is_walked(&table.table)

@@ -43,6 +43,8 @@ pub struct RhctKind;
 impl Kind for RhctKind {
     ghost walk = { rhct_walk };
 
+    ghost ported = { true };
+
     ghost limit = { length_limit };
 
     ghost closed = { true };
@@ -138,9 +140,9 @@ impl RHCT {
 
 /// A law: after any calls the table is correct. Its nodes, in order, are the one list that the walk finds.
 pub fn rhct_is_walked(table: &RHCT)
-    ensures keeps { Keeps rhct_walk length_limit true table.now.table.table }
-    ensures walked { IsWalked rhct_walk table.now.table.table }
-    ensures calls { (oem : Oem) (timebase_frequency : ℕ) → IsAfterItsCalls rhct_walk (rhct oem timebase_frequency) table.now.table }
+    ensures keeps { Keeps true rhct_walk length_limit true table.now.table.table }
+    ensures walked { IsWalked true rhct_walk table.now.table.table }
+    ensures calls { (oem : Oem) (timebase_frequency : ℕ) → IsAfterItsCalls true rhct_walk (rhct oem timebase_frequency) table.now.table }
     ensures nodes { NodesStand table.now.table.table }
 {
     is_walked(&table.table)

@@ -49,6 +49,8 @@ pub struct RimtKind;
 impl Kind for RimtKind {
     ghost walk = { rimt_walk };
 
+    ghost ported = { true };
+
     ghost limit = { length_limit };
 
     ghost closed = { true };
@@ -120,9 +122,9 @@ impl RIMT {
 
 /// A law: after any calls the table is correct. Its devices, in order, are the one list that the walk finds.
 pub fn rimt_is_walked(table: &RIMT)
-    ensures keeps { Keeps rimt_walk length_limit true table.now.table.table }
-    ensures walked { IsWalked rimt_walk table.now.table.table }
-    ensures calls { (oem : Oem) → IsAfterItsCalls rimt_walk (rimt oem) table.now.table }
+    ensures keeps { Keeps true rimt_walk length_limit true table.now.table.table }
+    ensures walked { IsWalked true rimt_walk table.now.table.table }
+    ensures calls { (oem : Oem) → IsAfterItsCalls true rimt_walk (rimt oem) table.now.table }
     ensures nodes { DevicesStand table.now.table.table }
 {
     is_walked(&table.table)

@@ -43,6 +43,8 @@ const OFFSET_LIMIT: usize = 1 << (8 * 2);
 impl Kind for ViotKind {
     ghost walk = { viot_walk };
 
+    ghost ported = { true };
+
     ghost limit = { field_limit 2 };
 
     ghost closed = { true };
@@ -126,9 +128,9 @@ impl VIOT {
 
 /// A law: after any calls the table is correct. Its nodes, in order, are the one list that the walk finds.
 pub fn viot_is_walked(table: &VIOT)
-    ensures keeps { Keeps viot_walk (field_limit 2) true table.now.table.table }
-    ensures walked { IsWalked viot_walk table.now.table.table }
-    ensures calls { (oem : Oem) → IsAfterItsCalls viot_walk (viot oem) table.now.table }
+    ensures keeps { Keeps true viot_walk (field_limit 2) true table.now.table.table }
+    ensures walked { IsWalked true viot_walk table.now.table.table }
+    ensures calls { (oem : Oem) → IsAfterItsCalls true viot_walk (viot oem) table.now.table }
     ensures nodes { NodesStand table.now.table.table }
 {
     is_walked(&table.table)

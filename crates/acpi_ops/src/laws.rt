@@ -10,6 +10,8 @@ use crate::operator::Operator;
 
 // ---- operators: if each operand spells a term, the operator spells its own term over these, in the order of its shape
 
+pub use crate::derived::equal_values_are_the_same;
+
 /// One operand: `Increment`, `Return` and the like.
 #[tactic(auto, using(crate::proofs::Meanings::operator_means))]
 pub fn single_means<O: Operator<1>>()

@@ -5,6 +5,7 @@ pub mod address_space;
 pub mod arithmetic;
 pub mod bitwise;
 pub mod comparison;
+mod derived;
 pub mod descriptor;
 pub mod laws;
 pub mod objects;

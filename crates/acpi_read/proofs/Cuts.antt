@@ -1,16 +1,19 @@
 -- Bytes that are cut into pieces.
-use Rattle.std.proofs.Common.{◌≡◌, ℕ, zero, suc, ◌+◌, ◌<◌, ◌≤◌, ◌==◌, List, [], ◌∷◌, ◌++◌, Bool, true, false, if◌then◌else◌, length, take, drop, get_or, map, refl, sym, ap, ◌∙◌, arith, append_assoc, length-append, length-drop, inl, inr}
-use Rattle.std.specs.Prelude.{Option, Some, None}
+use Rattle.std.proofs.Common.{◌≡◌, ℕ, zero, suc, ◌+◌, ◌<◌, ◌≤◌, ◌==◌, List, [], ◌∷◌, ◌++◌, Bool, true, false, if◌then◌else◌, length, take, drop, get_or, map, refl, sym, ap, subst, ◌∙◌, arith, append_assoc, length-append, length-drop, inl, inr}
+use Rattle.std.specs.Prelude.{Option, Some, None, Result, Ok, Err, IfErr}
 use Rattle.std.specs.List.{All, concat}
 use Rattle.std.proofs.lemmas.List.{append-nil, take-append-drop, length-take-le, drop-drop, map_push}
 use Rattle.acpi_base.specs.Bytes.{field_at}
-use Rattle.acpi_base.specs.Walk.{place_offset, place_width, end_of, number_in, source_size, least, IsPiece, ArePieces, HasSizes, IsShort, IsSound, offsets_from, Walks, WalksBy, Tells}
+use Rattle.acpi_base.specs.Walk.{place_offset, place_width, end_of, number_in, source_size, least, IsPiece, ArePieces, HasSizes, IsSound, offsets_from, walk_of, Walks, WalksBy, Tells}
+use Rattle.acpi_base.specs.FurtherWalk.{begin_of, walk_from, further_walk_of, Follows, HasNone, FollowsBy, AreFoundBy, either_walk}
+use Rattle.acpi_base.specs.declared.further_walk.FurtherWalk.{FurtherWalk}
 use Rattle.acpi_base.specs.declared.walk.Place.{Place}
 use Rattle.acpi_base.specs.declared.walk.Sizes.{Sizes}
 use Rattle.acpi_base.specs.declared.walk.Sizes.TheVariants.{EachOf, ToldAt, BySource}
 use Rattle.acpi_base.specs.declared.walk.Walk.{Walk}
 use Rattle.acpi_base.proofs.Walks.{field_front, piece_has_bytes, same_front, one_list, concat_push, pieces_push}
-use Rattle.acpi_read.specs.Pieces.{Refusal, no_memory, bad_structure, bad_count, unknown_source, another, IsFront, NoFront, IsFrontFault, AreCut, NoCut, IsCutFault}
+use Rattle.acpi_read.specs.Pieces.{Refusal, no_memory, bad_structure, bad_count, unknown_source, another, IsFront, NoFront, IsFrontFault, AreCut, NoCut, IsCutFault, IsFaultBy, NoWalk, NoneFollow, refusal_of, IsStructureFault}
+use Rattle.acpi_term.specs.declared.read_error.ReadError.{ReadError}
 
 -- ---- the first piece
 
@@ -174,13 +177,42 @@ pub reached_by : (o : Option Walk) (w : Walk) (bytes : List ℕ) → o ≡ Some 
 reached_by o w bytes is sound pieces walks = reached w bytes sound pieces (rw is at walks)
   where
     reached : (w : Walk) (bytes : List ℕ) → IsSound w → (pieces : List (List ℕ)) → WalksBy (Some w) bytes pieces → All (λ piece. end_of w.kind ≤ length piece) pieces
-    reached w bytes sound pieces (inl by) = each_reaches w.sizes (end_of w.kind) sound.kind pieces by.each
-    reached w bytes sound pieces (inr none) = rw none.1 (λ k d h. absurd (omega arith))
+    reached w bytes sound pieces by = each_reaches w.sizes (end_of w.kind) sound.kind pieces by.each
 
--- bytes that aren't those of a short table have no pieces where the walk finds none
-pub no_pieces : (w : Walk) (bytes : List ℕ) → (IsShort w bytes → ⊥) → ((pieces : List (List ℕ)) → Walks w bytes pieces → ⊥) → (pieces : List (List ℕ)) → WalksBy (Some w) bytes pieces → ⊥
-no_pieces w bytes long none pieces (inl walks) = none pieces walks
-no_pieces w bytes long none pieces (inr short) = long short.0
+-- ---- further tables
+
+-- where no structures follow
+pub none_from : (f : FurtherWalk) (bytes : List ℕ) (n : ℕ) → n ≡ begin_of f.walk bytes → (HasNone f bytes → ⊥) → NoWalk (walk_from n f.walk) bytes → NoneFollow f bytes
+none_from f bytes n is some none pieces (inl follows) = none pieces (rw is follows.walks)
+none_from f bytes n is some none pieces (inr empty) = some empty.0
+
+pub none_later : (f : FurtherWalk) (bytes : List ℕ) (n : ℕ) → n ≡ begin_of f.walk bytes → n < f.least → (HasNone f bytes → ⊥) → NoneFollow f bytes
+none_later f bytes n is early some pieces (inl follows) = omega (arith, follows.later, is, early)
+none_later f bytes n is early some pieces (inr empty) = some empty.0
+
+pub none_reaches : (f : FurtherWalk) (bytes : List ℕ) → length bytes < f.least → (HasNone f bytes → ⊥) → NoneFollow f bytes
+none_reaches f bytes short some pieces (inl follows) = omega (arith, follows.later, follows.walks.reaches, short)
+none_reaches f bytes short some pieces (inr empty) = some empty.0
+
+-- an error of the walk is one of the further table
+pub fault_from : (e : Refusal) (f : FurtherWalk) (n : ℕ) (bytes : List ℕ) (No Other : Type 0) → (No → Other) → IsFaultBy e (Some (walk_from n f.walk)) bytes No → IsFaultBy e (Some f.walk) bytes Other
+fault_from no_memory f n bytes No Other follow fault = tt
+fault_from (bad_structure offset) f n bytes No Other follow fault = (fault.0, follow fault.1)
+fault_from (bad_count offset) f n bytes No Other follow fault = (fault.0, fault.1, follow fault.2)
+fault_from (unknown_source offset) f n bytes No Other follow fault = (fault.0, follow fault.1, fault.2)
+fault_from another f n bytes No Other follow fault = absurd fault
+
+fault_by : (e : Refusal) (o : Option Walk) (p : Option FurtherWalk) (f : FurtherWalk) (bytes : List ℕ) → o ≡ None → p ≡ Some f
+    → IsFaultBy e (Some f.walk) bytes (NoneFollow f bytes) → IsFaultBy e (either_walk o p) bytes ((pieces : List (List ℕ)) → AreFoundBy o p bytes pieces → ⊥)
+fault_by e o p f bytes none some fault = rw (none, some) fault
+
+-- an error of a further table is one of its structures
+pub faults_further : {T : Type 0} (r : Result T ReadError) (s : ℕ) (f : FurtherWalk) (bytes table : List ℕ) → s ≡ field_at 0 4 table → walk_of s ≡ None → further_walk_of s ≡ Some f → bytes ≡ table
+    → IfErr r (λ e. IsFaultBy (refusal_of e) (Some f.walk) bytes (NoneFollow f bytes)) → IfErr r (λ e. IsStructureFault e table)
+faults_further (Ok x) s f bytes table told none some same fault = tt
+faults_further (Err e) s f bytes table told none some same fault =
+    fault_by (refusal_of e) (walk_of (field_at 0 4 table)) (further_walk_of (field_at 0 4 table)) f table (ap walk_of (sym told) ∙ none) (ap further_walk_of (sym told) ∙ some)
+    (subst (λ (b : List ℕ). IsFaultBy (refusal_of e) (Some f.walk) b (NoneFollow f b)) same fault)
 
 pub all_mapped : {P : Type 0} (f : P → List ℕ) (n : ℕ) (xs : List P) (i : ℕ) (d : P) → All (λ p. n ≤ length p) (map f xs) → i < length xs → n ≤ length (f (get_or xs i d))
 all_mapped f n [] i d all h = absurd (omega arith)

@@ -13,3 +13,4 @@ pub mod Lines
 pub mod Sizes
 pub mod Widths
 pub mod Cuts
+pub mod Blocks

@@ -2,8 +2,11 @@
 use Rattle.std.specs.Prelude.{◌≡◌, ℕ, ◌≤◌, ◌==◌, nat_le, if◌then◌else◌, List, [], ◌++◌, length, drop, take, Option, Some, None}
 use Rattle.std.specs.List.{concat}
 use Rattle.acpi_base.specs.Bytes.{field_at}
-use Rattle.acpi_base.specs.Walk.{source_size, place_offset, place_width, end_of, number_in, IsPiece, ArePieces, offsets_from, walk_of, WalksBy}
+use Rattle.acpi_base.specs.Walk.{source_size, place_offset, place_width, end_of, number_in, IsPiece, ArePieces, offsets_from, walk_of, Walks, WalksBy}
+use Rattle.acpi_base.specs.FurtherWalk.{begin_of, further_walk_of, table_walk_of, AreStructuresOf, FollowsBy}
+use Rattle.acpi_base.specs.declared.further_walk.FurtherWalk.{FurtherWalk}
 use Rattle.acpi_base.specs.declared.walk.Place.{Place}
+use Rattle.acpi_base.specs.declared.walk.Place.TheVariants.{Nowhere}
 use Rattle.acpi_base.specs.declared.walk.Sizes.{Sizes}
 use Rattle.acpi_base.specs.declared.walk.Sizes.TheVariants.{BySource}
 use Rattle.acpi_base.specs.declared.walk.Walk.{Walk}
@@ -69,15 +72,6 @@ IsCutFault (unknown_source offset) s start bytes = (offset ≤ length bytes) × 
     × IsUnknownSource s (drop offset bytes)
 IsCutFault _ s start bytes = ⊥
 
--- ---- the type of a piece
-
--- the number in the field with a piece's type, if there is such a field and the piece contains it
-abbrev pub kind_in : Place → List ℕ → Option ℕ
-kind_in place piece =
-    if place_width place == 0 then None
-    else (if nat_le (end_of place) (length piece) then Some (number_in place piece)
-    else None)
-
 -- ---- the pieces of a table
 
 -- the offsets of the pieces of a walk
@@ -92,15 +86,60 @@ offsets_of bytes pieces = offsets_by (walk_of (field_at 0 4 bytes)) pieces
 abbrev pub NoPiecesBy : Option Walk → List ℕ → Type 0
 NoPiecesBy w bytes = (pieces : List (List ℕ)) → WalksBy w bytes pieces → ⊥
 
--- Why a table has no pieces, unless memory ran out. A wrong number has the offset of its field. An unknown source is an error
--- only if the table has one, and its structures have the size of their type.
-abbrev pub IsFaultBy : Refusal → Option Walk → List ℕ → Type 0
-IsFaultBy no_memory w bytes = Unit {0}
-IsFaultBy (bad_structure offset) w bytes = (offset ≤ length bytes) × NoPiecesBy w bytes
-IsFaultBy (bad_count offset) (Some w) bytes = (offset ≡ place_offset w.count) × (offset ≤ length bytes) × NoPiecesBy (Some w) bytes
-IsFaultBy (unknown_source offset) (Some w) bytes = (offset ≤ length bytes) × NoPiecesBy (Some w) bytes
-    × IsUnknownSource w.sizes (drop offset bytes)
-IsFaultBy _ w bytes = ⊥
+abbrev pub NoWalk : Walk → List ℕ → Type 0
+NoWalk w bytes = (pieces : List (List ℕ)) → Walks w bytes pieces → ⊥
+
+abbrev pub NoneFollow : FurtherWalk → List ℕ → Type 0
+NoneFollow f bytes = (pieces : List (List ℕ)) → FollowsBy (Some f) bytes pieces → ⊥
+
+-- Why a table has no structures by a walk, unless memory ran out. `No` says that it has none. A wrong number has the offset
+-- of its field. An unknown source is an error only if the table has one, and its structures have the size of their type.
+abbrev pub IsFaultBy : Refusal → Option Walk → List ℕ → Type 0 → Type 0
+IsFaultBy no_memory w bytes No = Unit {0}
+IsFaultBy (bad_structure offset) w bytes No = (offset ≤ length bytes) × No
+IsFaultBy (bad_count offset) (Some w) bytes No = (offset ≡ place_offset w.count) × (offset ≤ length bytes) × No
+IsFaultBy (unknown_source offset) (Some w) bytes No = (offset ≤ length bytes) × No × IsUnknownSource w.sizes (drop offset bytes)
+IsFaultBy _ w bytes No = ⊥
 
 abbrev pub IsPieceFault : ReadError → List ℕ → Type 0
-IsPieceFault e bytes = IsFaultBy (refusal_of e) (walk_of (field_at 0 4 bytes)) bytes
+IsPieceFault e bytes =
+    IsFaultBy (refusal_of e) (walk_of (field_at 0 4 bytes)) bytes (NoPiecesBy (walk_of (field_at 0 4 bytes)) bytes)
+
+-- ---- the structures of a table, of the Rust crate or a further one
+
+-- the offset of the first structure
+abbrev pub first_in : Option Walk → Option FurtherWalk → List ℕ → ℕ
+first_in (Some w) f bytes = w.start
+first_in None (Some f) bytes = begin_of f.walk bytes
+first_in None None bytes = 0
+
+abbrev pub structure_offsets_of : List ℕ → List (List ℕ) → List ℕ
+structure_offsets_of bytes pieces =
+    offsets_from (first_in (walk_of (field_at 0 4 bytes)) (further_walk_of (field_at 0 4 bytes)) bytes) pieces
+
+abbrev pub NoStructures : List ℕ → Type 0
+NoStructures bytes = (pieces : List (List ℕ)) → AreStructuresOf bytes pieces → ⊥
+
+abbrev pub IsStructureFault : ReadError → List ℕ → Type 0
+IsStructureFault e bytes = IsFaultBy (refusal_of e) (table_walk_of (field_at 0 4 bytes)) bytes (NoStructures bytes)
+
+-- ---- the type of a piece
+
+-- the number in the field with a piece's type, if there is such a field and the piece contains it
+abbrev pub kind_in : Place → List ℕ → Option ℕ
+kind_in place piece =
+    if place_width place == 0 then None
+    else (if nat_le (end_of place) (length piece) then Some (number_in place piece)
+    else None)
+
+
+-- the field with the type of the structures of a walk
+abbrev pub kind_by : Option Walk → Place
+kind_by (Some w) = w.kind
+kind_by None = Nowhere
+
+abbrev pub kind_of : List ℕ → Place
+kind_of table = kind_by (walk_of (field_at 0 4 table))
+
+abbrev pub structure_kind_of : List ℕ → Place
+structure_kind_of table = kind_by (table_walk_of (field_at 0 4 table))

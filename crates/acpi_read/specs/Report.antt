@@ -1,13 +1,10 @@
 -- The report of a table.
 use Rattle.std.specs.Prelude.{◌≡◌, ℕ, List, [], ◌∷◌, ◌++◌, length, map, take, codes, slice_index}
-use Rattle.std.specs.Prelude.{nat_le, ◌==◌, ◌&&◌, if◌then◌else◌, Option, Some, None}
+use Rattle.std.specs.Prelude.{nat_le, ◌==◌, ◌&&◌, if◌then◌else◌}
 use Rattle.std.specs.Fmt.{decimal}
-use Rattle.acpi_base.specs.Bytes.{field_at}
-use Rattle.acpi_base.specs.Walk.{place_width, number_in, walk_of, ArePiecesOf}
+use Rattle.acpi_base.specs.Walk.{place_width, number_in, ArePiecesOf}
 use Rattle.acpi_base.specs.declared.walk.Place.{Place}
-use Rattle.acpi_base.specs.declared.walk.Place.TheVariants.{Nowhere}
-use Rattle.acpi_base.specs.declared.walk.Walk.{Walk}
-use Rattle.acpi_read.specs.Pieces.{offsets_of}
+use Rattle.acpi_read.specs.Pieces.{kind_of, offsets_of}
 
 -- a printable byte, or a question mark
 abbrev pub printable : ℕ → ℕ
@@ -30,14 +27,6 @@ piece_line kind offset piece = decimal offset ++ kind_text kind piece ++ codes "
 abbrev pub piece_lines : Place → List ℕ → List (List ℕ) → List ℕ
 piece_lines kind (offset ∷ offsets) (piece ∷ pieces) = piece_line kind offset piece ++ piece_lines kind offsets pieces
 piece_lines kind _ _ = []
-
--- the field of a walk's structures that contains their type
-abbrev pub kind_by : Option Walk → Place
-kind_by (Some w) = w.kind
-kind_by None = Nowhere
-
-abbrev pub kind_of : List ℕ → Place
-kind_of table = kind_by (walk_of (field_at 0 4 table))
 
 -- The text is a line for the table's header, and a line for each of its pieces.
 pub record ReportsTable (table text : List ℕ) : Type 0 where

@@ -3,12 +3,14 @@
 ghost use Rattle.std.specs.Prelude.{◌≡◌, ℕ, ◌+◌, ◌≤◌, List, length, take, drop, map, Some, IfOk, IfErr};
 ghost use Rattle.std.specs.List.{All};
 ghost use Rattle.acpi_base.specs.Bytes.{field_at};
-ghost use Rattle.acpi_base.specs.Walk.{end_of, HasSizes, IsSound, WalksBy, ArePiecesOf};
-ghost use Rattle.acpi_read.specs.Pieces.{kind_in, refusal_of, IsFront, IsFrontFault, AreCut, IsCutFault};
-ghost use Rattle.acpi_read.specs.Pieces.{offsets_by, offsets_of, IsFaultBy, IsPieceFault};
-ghost use Rattle.acpi_read.specs.Report.{kind_of};
+ghost use Rattle.acpi_base.specs.Walk.{end_of, offsets_from, HasSizes, IsSound, Walks, ArePiecesOf};
+ghost use Rattle.acpi_base.specs.FurtherWalk.{begin_of, AreStructuresOf, FollowsBy, IsSoundFurther};
+ghost use Rattle.acpi_read.specs.Pieces.{kind_in, kind_of, structure_kind_of, refusal_of, IsFront, IsFrontFault, AreCut, IsCutFault};
+ghost use Rattle.acpi_read.specs.Pieces.{offsets_of, structure_offsets_of, IsFaultBy, IsPieceFault, IsStructureFault};
+ghost use Rattle.acpi_read.specs.Pieces.{NoWalk, NoneFollow};
 
 use crate::table::Table;
+use acpi_base::further_walk::{FurtherWalk, further_walk_of, table_walk_of};
 use acpi_base::walk::{Place, Sizes, Walk, source_size, walk_of};
 use acpi_term::read_error::ReadError;
 use std::alloc::Global;
@@ -22,11 +24,11 @@ pub struct Piece<'a> {
 
 impl<'a> Piece<'a> {
     /// The structure's type. It is `None` if the structures of this table have no types, as the entries of an XSDT, or if the
-    /// bytes end before the type. The bytes that `Table::pieces` returns contain the type.
+    /// bytes end before the type. The bytes that `Table::structures` returns contain the type.
     pub fn kind(&self, table: &Table) -> Option<usize>
-        ensures { result ≡ kind_in (kind_of table.now) self.entry.now.bytes.now }
+        ensures { result ≡ kind_in (structure_kind_of table.now) self.entry.now.bytes.now }
     {
-        match kind_of(table) {
+        match structure_kind_of(table) {
             Place::Nowhere => None,
             place if place.end() <= self.bytes.len() => Some(place.number(self.bytes)),
             _ => None,
@@ -95,40 +97,56 @@ fn cut(alloc: Global, bytes: &[u8], start: usize, sizes: Sizes) -> Result<Vec<Pi
     Ok(pieces)
 }
 
-// The pieces of a table, found by its walk.
+// The pieces of a table that are found by a walk.
 fn walked(alloc: Global, bytes: &[u8], walk: Walk) -> Result<Vec<Piece<'_>>, ReadError>
     requires sound { IsSound walk }
-    ensures walk { IfOk result (λ v. WalksBy (Some walk) bytes.now (map (λ p. p.bytes.now) v.items)) }
-    ensures offsets { IfOk result (λ v. map (λ p. p.offset) v.items ≡ offsets_by (Some walk) (map (λ p. p.bytes.now) v.items)) }
-    ensures err { IfErr result (λ e. IsFaultBy (refusal_of e) (Some walk) bytes.now) }
+    ensures walk { IfOk result (λ v. Walks walk bytes.now (map (λ p. p.bytes.now) v.items)) }
+    ensures offsets { IfOk result (λ v. map (λ p. p.offset) v.items ≡ offsets_from walk.start (map (λ p. p.bytes.now) v.items)) }
+    ensures err { IfErr result (λ e. IsFaultBy (refusal_of e) (Some walk) bytes.now (NoWalk walk bytes.now)) }
 {
-    if walk.is_short(bytes) {
-        return Ok(Vec::new(alloc));
-    }
-    let start = usize::from(walk.start);
-    if bytes.len() < start {
+    if bytes.len() < walk.start {
         return Err(ReadError::Structure(bytes.len()));
     }
-    if !walk.first.tells(bytes, start) {
+    if !walk.first.tells(bytes, walk.start) {
         return Err(ReadError::Structure(walk.first.offset()));
     }
-    let pieces = cut(alloc, bytes, start, walk.sizes)?;
+    let pieces = cut(alloc, bytes, walk.start, walk.sizes)?;
     if !walk.count.tells(bytes, pieces.len()) {
         return Err(ReadError::Count(walk.count.offset()));
     }
     Ok(pieces)
 }
 
+// The structures of a further table, from the offset that it contains.
+fn followed(alloc: Global, bytes: &[u8], further: FurtherWalk) -> Result<Vec<Piece<'_>>, ReadError>
+    requires sound { IsSoundFurther further }
+    ensures walk { IfOk result (λ v. FollowsBy (Some further) bytes.now (map (λ p. p.bytes.now) v.items)) }
+    ensures offsets { IfOk result (λ v. map (λ p. p.offset) v.items
+        ≡ offsets_from (begin_of further.walk bytes.now) (map (λ p. p.bytes.now) v.items)) }
+    ensures err { IfErr result (λ e. IsFaultBy (refusal_of e) (Some further.walk) bytes.now (NoneFollow further bytes.now)) }
+{
+    if further.has_none(bytes) {
+        return Ok(Vec::new(alloc));
+    }
+    if bytes.len() < further.least {
+        return Err(ReadError::Structure(bytes.len()));
+    }
+    let begin = further.begin(bytes);
+    if begin < further.least {
+        return Err(ReadError::Structure(further.walk.first.offset()));
+    }
+    walked(alloc, bytes, further.walk_from(begin))
+}
+
 impl<'a> Table<'a> {
-    /// The table's structures, in order, each with its offset. The list is empty if the tables of this signature have no
-    /// structures, and for a GTDT of 96 or 104 bytes that contains 0 as the number of its platform timers and as the offset of the
-    /// first. The errors, with their offsets:
+    /// The structures of a table of the Rust crate, in order, each with its offset. The list is empty for every other table, and
+    /// for those without structures. The errors, with their offsets:
     ///
     /// - UnknownSource: an error source has a type other than 6 to 10. The offset is that of the source.
     /// - Structure: a structure is shorter than its type and length, or passes the end of the table. The offset is that of the
     ///   structure.
-    /// - Structure: the field with the offset of the first structure doesn't contain 56 (RHCT), 48 (VIOT, RIMT, IORT), 104 (GTDT)
-    ///   or 44 (DBG2). The offset is that of this field.
+    /// - Structure: the field with the offset of the first structure doesn't contain 56 (RHCT) or 48 (VIOT, RIMT). The offset is
+    ///   that of this field.
     /// - Structure: the table ends before its structures begin. The offset is the table's length.
     /// - Count: the table's number of structures is wrong. The offset is that of this field.
     pub fn pieces(&self, alloc: Global) -> Result<Vec<Piece<'a>>, ReadError>
@@ -141,15 +159,48 @@ impl<'a> Table<'a> {
             Some(walk) => walked(alloc, self.bytes(), walk),
         }
     }
+
+    /// The structures of any table whose structures are known, in order, each with its offset: those of `pieces`, and those of
+    /// GTDT, IORT and DBG2. The list is empty for other tables. It is empty, too, for a GTDT, IORT or DBG2 that ends after its
+    /// fixed fields, and contains 0 as the number of its structures and as the offset of the first. The errors are those of
+    /// `pieces`, and:
+    ///
+    /// - Structure: the field with the offset of the first structure contains an offset within the fixed fields. The offset is
+    ///   that of this field.
+    pub fn structures(&self, alloc: Global) -> Result<Vec<Piece<'a>>, ReadError>
+        ensures walk { IfOk result (λ v. AreStructuresOf self.now (map (λ p. p.bytes.now) v.items)) }
+        ensures offsets { IfOk result (λ v. map (λ p. p.offset) v.items
+            ≡ structure_offsets_of self.now (map (λ p. p.bytes.now) v.items)) }
+        ensures err { IfErr result (λ e. IsStructureFault e self.now) }
+    {
+        let signature = signature_number(self);
+        if let Some(walk) = walk_of(signature) {
+            return walked(alloc, self.bytes(), walk);
+        }
+        match further_walk_of(signature) {
+            None => Ok(Vec::new(alloc)),
+            Some(further) => followed(alloc, self.bytes(), further),
+        }
+    }
 }
 
-/// The field of a structure that contains its type, for the structures of a table.
+/// The field of a structure that contains its type, for the pieces of a table.
 pub fn kind_of(table: &Table) -> Place
     ensures kind { result ≡ kind_of table.now }
     ensures reached { (pieces : List (List ℕ)) → ArePiecesOf table.now pieces
         → All (λ piece. end_of result ≤ length piece) pieces }
 {
     match walk_of(signature_number(table)) {
+        Some(walk) => walk.kind,
+        None => Place::Nowhere,
+    }
+}
+
+// The field of a structure that contains its type, for the structures of any table.
+fn structure_kind_of(table: &Table) -> Place
+    ensures { result ≡ structure_kind_of table.now }
+{
+    match table_walk_of(signature_number(table)) {
         Some(walk) => walk.kind,
         None => Place::Nowhere,
     }

@@ -170,6 +170,11 @@
 //!     check_image(alloc, &image.bytes, 0x1c00_0000, image.rsdp)
 //! }
 //!
+//! // The addresses of the FADT and of the other tables alone, in order.
+//! fn addresses(alloc: Global, image: &Image) -> Result<Vec<u64>, ImageFault> {
+//!     image.addresses(alloc, 0x1c00_0000)
+//! }
+//!
 //! // read: the report of a table's bytes.
 //! fn report(alloc: Global, bytes: &[u8]) -> Result<String, ReadError> {
 //!     let table = Table::check(bytes)?;

@@ -8,6 +8,8 @@ ghost use Rattle.acpi_term.specs.Laws.{RowsMean, RowsOverMean, ObjectsMean, AtMo
 ghost use Rattle.acpi_term.specs.Laws.{NameTextsAreNames, TextsAreTheirParts, LengthsAreSpelled, FramesAreSpelled};
 ghost use Rattle.acpi_term.specs.Laws.{FramesAreLeast, FramesEndWithTheirContent, FieldLengthsAreLeast, NumbersAreLeast};
 
+pub use crate::derived::equal_values_are_the_same;
+
 /// If a row has no error, its bytes spell the row's term over the terms of its children.
 pub fn rows_mean()
     ensures { RowsMean }

@@ -2,6 +2,7 @@
 #![tactic(auto)]
 
 pub mod apart;
+mod derived;
 pub mod laws;
 pub mod mode;
 pub mod name_string;

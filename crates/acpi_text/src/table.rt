@@ -15,7 +15,7 @@ use std::alloc::{AllocError, Global};
 fn start_of(walk: &Walk, bytes: &[u8]) -> usize
     ensures { result ≡ start_of walk.now bytes.now }
 {
-    let least = usize::from(walk.start);
+    let least = walk.start;
     let start = number_at(walk.first, bytes);
     if start < least { least } else { start }
 }

@@ -3,8 +3,9 @@ use Rattle.std.proofs.Common.{◌≡◌, ℕ, ◌+◌, ◌<◌, ◌≤◌, List,
 use Rattle.std.specs.List.{concat}
 use Rattle.std.proofs.lemmas.List.{at_drop_more, at_drop_all}
 use Rattle.std.proofs.lemmas.List.Elements.{All-map}
-use Rattle.acpi_base.specs.Walk.{ArePiecesOf, offsets_from}
-use Rattle.acpi_read.specs.Pieces.{offsets_of}
+use Rattle.acpi_base.specs.Walk.{offsets_from}
+use Rattle.acpi_base.specs.FurtherWalk.{AreStructuresOf}
+use Rattle.acpi_read.specs.Pieces.{structure_offsets_of}
 use Rattle.acpi_vectors.specs.Expected.{ReadsBack}
 
 module _ {P : Type 0} (bytes : P → List ℕ) (offset : P → ℕ) (ps : List P) (i at : ℕ) where
@@ -30,13 +31,13 @@ module _ {P : Type 0} (bytes : P → List ℕ) (offset : P → ℕ) (ps : List P
       at_drop_all (λ (l : List P). offsets_from at (map bytes l)) ps i past ∙ sym (at_drop_all (map offset) ps i past)
 
 pub read_back : {P : Type 0} (bytes : P → List ℕ) (offset : P → ℕ) (ps qs : List P) (checked table structures : List ℕ) (start size : ℕ)
-    → qs ≡ ps → checked ≡ table → ArePiecesOf checked (map bytes ps) → map offset ps ≡ offsets_of checked (map bytes ps)
+    → qs ≡ ps → checked ≡ table → AreStructuresOf checked (map bytes ps) → map offset ps ≡ structure_offsets_of checked (map bytes ps)
     → All (λ p. length (bytes p) ≡ size) qs → offsets_from start (map bytes qs) ≡ map offset qs → concat (map bytes qs) ≡ structures
     → ReadsBack start size structures table
 read_back {P} bytes offset ps qs checked table structures start size same is found are sized placed joined = record {
   pieces = map bytes ps;
-  found = subst (λ (l : List ℕ). ArePiecesOf l (map bytes ps)) is found;
+  found = subst (λ (l : List ℕ). AreStructuresOf l (map bytes ps)) is found;
   sized = All-map (λ (piece : List ℕ). length piece ≡ size) bytes ps (subst (λ (l : List P). All (λ p. length (bytes p) ≡ size) l) same sized);
-  placed = subst (λ (l : List ℕ). offsets_of l (map bytes ps) ≡ map offset ps) is (sym are) ∙ ap (map offset) (sym same) ∙ sym placed ∙ ap (λ (l : List P). offsets_from start (map bytes l)) same;
+  placed = subst (λ (l : List ℕ). structure_offsets_of l (map bytes ps) ≡ map offset ps) is (sym are) ∙ ap (map offset) (sym same) ∙ sym placed ∙ ap (λ (l : List P). offsets_from start (map bytes l)) same;
   joined = ap (λ (l : List P). concat (map bytes l)) (sym same) ∙ joined;
 }

@@ -3,8 +3,9 @@ use Rattle.std.specs.Prelude.{◌≡◌, ℕ, ◌+◌, List, [], ◌∷◌, ◌+
 use Rattle.std.specs.List.{concat}
 use Rattle.acpi_base.specs.Bytes.{le}
 use Rattle.acpi_base.specs.Table.{with_checksum}
-use Rattle.acpi_base.specs.Walk.{ArePiecesOf, offsets_from}
-use Rattle.acpi_read.specs.Pieces.{offsets_of}
+use Rattle.acpi_base.specs.Walk.{offsets_from}
+use Rattle.acpi_base.specs.FurtherWalk.{AreStructuresOf}
+use Rattle.acpi_read.specs.Pieces.{structure_offsets_of}
 
 -- the bytes of the standard header from its OEM ID on (ACPI 6.5, 5.2.6, offset 10)
 abbrev pub makers : List ℕ
@@ -22,7 +23,7 @@ pub record AreAt (offset : ℕ) (wanted bytes : List ℕ) : Type 0 where
 -- The structures that the walk of a table finds have this size each, follow each other from an offset on, and are these bytes.
 pub record ReadsBack (start size : ℕ) (structures bytes : List ℕ) : Type 0 where
   pub pieces : List (List ℕ)
-  pub found : ArePiecesOf bytes pieces
+  pub found : AreStructuresOf bytes pieces
   pub sized : All (λ piece. length piece ≡ size) pieces
-  pub placed : offsets_of bytes pieces ≡ offsets_from start pieces
+  pub placed : structure_offsets_of bytes pieces ≡ offsets_from start pieces
   pub joined : concat pieces ≡ structures

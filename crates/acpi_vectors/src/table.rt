@@ -310,7 +310,7 @@ fn bytes_read_back(
     ensures read { OnOk result (ReadsBack start size structures.now bytes.now) }
 {
     let table = Table::check(bytes)?;
-    let pieces = table.pieces(alloc)?;
+    let pieces = table.structures(alloc)?;
     are_structures(alloc, &pieces, start, size, structures)?;
     Ok(())
 }

@@ -6,15 +6,15 @@ pub returns-clause-keeps : goal.returns-clause-keeps
 returns-clause-keeps g c = rw (← c.table.view_is) c.table.invariant
 
 pub returns-clause-is_true : goal.returns-clause-is_true
-returns-clause-is_true g c = rw (← c.table.view_is) (is_true g.K.Kind.walk g.K.Kind.limit g.K.Kind.closed _ c.table.invariant)
+returns-clause-is_true g c = rw (← c.table.view_is) (is_true g.K.Kind.ported g.K.Kind.walk g.K.Kind.limit g.K.Kind.closed _ c.table.invariant)
 
 pub returns-clause-walked : goal.returns-clause-walked
-returns-clause-walked g c = rw (← c.table.view_is) (is_walked g.K.Kind.walk g.K.Kind.limit g.K.Kind.closed _ c.table.invariant)
+returns-clause-walked g c = rw (← c.table.view_is) (is_walked g.K.Kind.ported g.K.Kind.walk g.K.Kind.limit g.K.Kind.closed _ c.table.invariant)
 
 pub returns-clause-calls : goal.returns-clause-calls
 returns-clause-calls g c = rw (← c.table.view_is) (λ pieces first none.
-    is_after_its_calls g.K.Kind.walk first _ none c.table.invariant.is
-    (is_walked g.K.Kind.walk g.K.Kind.limit g.K.Kind.closed _ c.table.invariant pieces))
+    is_after_its_calls g.K.Kind.ported g.K.Kind.walk first _ none c.table.invariant.is
+    (is_walked g.K.Kind.ported g.K.Kind.walk g.K.Kind.limit g.K.Kind.closed _ c.table.invariant pieces))
 
 pub returns-clause-nodes : goal.returns-clause-nodes
 returns-clause-nodes g c = rw (← c.table.view_is) (holds_nodes _ c.table.invariant.is)

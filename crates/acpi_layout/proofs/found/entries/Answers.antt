@@ -1,16 +1,26 @@
-use Rattle.std.proofs.Common.{◌≢◌, arith, List}
+use Rattle.std.proofs.Common.{◌≢◌, ℕ, ◌+◌, ◌*◌, arith, List, length, ap, ◌∙◌, subst}
 use Rattle.acpi_layout.specs.declared.fault.ImageFault.{ImageFault}
 use Rattle.acpi_layout.specs.declared.fault.ImageFault.TheVariants.{Memory}
 use Rattle.acpi_layout.specs.declared.located.Located.{Located}
+use Rattle.acpi_base.specs.Bytes.{field_at}
 use Rattle.acpi_layout.specs.Found.{AreEntries}
+use Rattle.acpi_layout.specs.Fault.{IsTableFault, IsEntriesFault, part_of_entry, entry_is_no_table}
+use Rattle.acpi_layout.proofs.Faults.{at_fault}
 use Rattle.acpi_layout.proofs.Founds.{at_exit, entry_refused, entries_next, entries_are}
 use Rattle.acpi_layout.proofs.found.entries.Goals as goal
 
+-- no list of tables is what the XSDT lists
+abbrev IsNone : ℕ → List ℕ → Located → ImageFault → Type 0
+IsNone base bytes xsdt e = e ≢ Memory → (entries : List Located) → AreEntries base bytes xsdt entries → ⊥
+
+pub returns-in_err-count-clause-err : goal.returns-in_err-count-clause-err
+returns-in_err-count-clause-err c =
+    at_exit _ (IsNone c.args.base c.args.bytes.now c.args.xsdt) _ c.from_residual.ensures.1 (λ other entries are. c.in_err-count.ensures.err (length entries) are.counted)
+
 pub returns-in_err-table-clause-err : goal.returns-in_err-table-clause-err
 returns-in_err-table-clause-err c =
-    let P : ImageFault → Type 0 = λ e. e ≢ Memory → (entries : List Located) → AreEntries c.args.base c.args.bytes.now c.args.xsdt entries → ⊥ in
-    at_exit _ P _ c.from_residual.ensures.1
-    (λ other. entry_refused _ _ _ _ c.contents-whole.ensures.is c.contents-whole.ensures.size _ _ c.qword_at.ensures c.loop-i-test.true c.in_err-table.ensures.err)
+    at_exit _ (IsNone c.args.base c.args.bytes.now c.args.xsdt) _ c.from_residual-in_err-table.ensures.1
+    (λ other. entry_refused _ _ _ _ c.contents-whole.ensures.is _ c.in_ok-count.ensures.ok _ _ c.qword_at.ensures c.loop-i-test.true c.in_err-table.ensures.err)
 
 pub loop-i-preserved : goal.loop-i-preserved
 loop-i-preserved c = record {
@@ -20,6 +30,20 @@ loop-i-preserved c = record {
 
 pub returns-clause-ok : goal.returns-clause-ok
 returns-clause-ok c =
-    entries_are _ _ _ _ c.contents-whole.ensures.is c.contents-whole.ensures.size _
-    (omega (arith, c.contents-whole.ensures.size, c.requires.within, c.if-xsdt-ne0.false, c.loop-i.invariant.counted, c.loop-i-test.false, c.loop-i.auto.i-end))
+    entries_are _ _ _ _ c.contents-whole.ensures.is _
+    (omega (arith, c.in_ok-count.ensures.ok, c.loop-i.invariant.counted, c.loop-i-test.false, c.loop-i.auto.i-end))
     (λ k d inside. c.loop-i.invariant.each k d (omega (arith, inside, c.loop-i.invariant.counted)))
+
+abbrev Faulty : ℕ → List ℕ → Located → ImageFault → Type 0
+Faulty base bytes xsdt e = e ≢ Memory → IsEntriesFault base bytes xsdt e
+
+pub returns-in_err-count-clause-fault : goal.returns-in_err-count-clause-fault
+returns-in_err-count-clause-fault c =
+    at_fault _ (Faulty c.args.base c.args.bytes.now c.args.xsdt) _ _ c.from_residual.ensures.1 c.in_err-count.ensures.fault (λ other. part_of_entry c.in_err-count.ensures.err)
+
+pub returns-in_err-table-clause-fault : goal.returns-in_err-table-clause-fault
+returns-in_err-table-clause-fault c =
+    at_exit _ (Faulty c.args.base c.args.bytes.now c.args.xsdt) _ c.from_residual-in_err-table.ensures.1
+    (λ other. entry_is_no_table c.loop-i.i (omega (arith, c.in_ok-count.ensures.ok, c.loop-i-test.true))
+    (subst (λ a. IsTableFault c.args.base c.args.bytes.now a c.in_err-table.field-0.0)
+    (c.qword_at.ensures ∙ ap (field_at (36 + 8 * c.loop-i.i) 8) c.contents-whole.ensures.is) c.in_err-table.ensures.fault))

@@ -13,5 +13,5 @@ pub returns : goal.returns
 returns c = λ arity header objects ts long spell end deep.
     let front = (all_of objects).front in
     let none : drop 36 header ≡ [] = ap (drop 36) (sym (append-nil header)) ∙ drop_at header [] 36 long in
-    let is : drop 36 (added header front) ≡ front = added_ends header front (omega (arith, long)) ∙ ap (λ l. l ++ front) none in
+    let is : drop 36 (added header front) ≡ front = added_ends 36 header front (omega arith) (omega (arith, long)) ∙ ap (λ l. l ++ front) none in
     spelled_are_read arity (drop 36 (added header front)) ts (subst (λ (b : List ℕ). Spells arity Term b ts) (sym is) (each arity Term objects ts spell end).0) deep

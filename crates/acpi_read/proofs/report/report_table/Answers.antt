@@ -1,7 +1,7 @@
 use Rattle.std.proofs.Common.{◌++◌, List, ℕ, map, ap, ◌∙◌, string_bytes}
 use Rattle.acpi_read.specs.declared.pieces.Piece.{Piece}
-use Rattle.acpi_read.specs.Pieces.{offsets_of}
-use Rattle.acpi_read.specs.Report.{piece_lines, kind_of}
+use Rattle.acpi_read.specs.Pieces.{kind_of, offsets_of}
+use Rattle.acpi_read.specs.Report.{piece_lines}
 use Rattle.acpi_read.proofs.report.report_table.Goals as goal
 
 pub returns-clause-ok : goal.returns-clause-ok

@@ -1,0 +1,92 @@
+-- Tables of structures beyond those of the Rust crate. Most contain the offset of their first structure.
+use Rattle.std.specs.Prelude.{◌≡◌, ◌↔◌, ℕ, ◌≤◌, ◌⊎◌, ◌==◌, List, [], ◌∷◌, length, codes}
+use Rattle.std.specs.Prelude.{if◌then◌else◌, Option, Some, None, IsSome}
+use Rattle.acpi_base.specs.Bytes.{field_at}
+use Rattle.acpi_base.specs.Walk.{place_width, end_of, number_in, Tells, Walks, IsSound, find_row, walk_of, ArePiecesOf}
+use Rattle.acpi_base.specs.declared.further_walk.FurtherWalk.{FurtherWalk}
+use Rattle.acpi_base.specs.declared.walk.Place.TheVariants.{Nowhere, Byte, Word, DWord}
+use Rattle.acpi_base.specs.declared.walk.Sizes.TheVariants.{ToldAt}
+use Rattle.acpi_base.specs.declared.walk.Walk.{Walk}
+
+abbrev pub gtdt_walk : Walk
+gtdt_walk = record { start = 104; sizes = ToldAt (Word 1); kind = Byte 0; count = DWord 88; first = DWord 92 }
+
+abbrev pub iort_walk : Walk
+iort_walk = record { start = 48; sizes = ToldAt (Word 1); kind = Byte 0; count = DWord 36; first = DWord 40 }
+
+abbrev pub dbg2_walk : Walk
+dbg2_walk = record { start = 44; sizes = ToldAt (Word 1); kind = Nowhere; count = DWord 40; first = DWord 36 }
+
+abbrev pub further_walks : List (List ℕ × FurtherWalk)
+further_walks =
+    (codes "GTDT", record { walk = gtdt_walk; least = 96 })
+    ∷ (codes "IORT", record { walk = iort_walk; least = 48 })
+    ∷ (codes "DBG2", record { walk = dbg2_walk; least = 44 })
+    ∷ []
+
+-- the walk of the further tables of a signature
+abbrev pub further_walk_of : ℕ → Option FurtherWalk
+further_walk_of s = find_row s further_walks
+
+-- where the structures of a further table begin: where its field says, or at the start of the walk if it has no such field
+abbrev pub begin_of : Walk → List ℕ → ℕ
+begin_of w bytes = if place_width w.first == 0 then w.start else number_in w.first bytes
+
+-- the walk from another start
+abbrev pub walk_from : ℕ → Walk → Walk
+walk_from start w = record w { start = start }
+
+-- The structures begin there, and not before the least offset.
+pub record Follows (f : FurtherWalk) (bytes : List ℕ) (pieces : List (List ℕ)) : Type 0 where
+  pub later : f.least ≤ begin_of f.walk bytes
+  pub walks : Walks (walk_from (begin_of f.walk bytes) f.walk) bytes pieces
+
+-- A table without structures that contains 0 as their number and as the offset of the first. It ends where the fixed part of the
+-- oldest or of the newest revision ends.
+pub record HasNone (f : FurtherWalk) (bytes : List ℕ) : Type 0 where
+  pub has : 1 ≤ place_width f.walk.first
+  pub ends : (length bytes ≡ f.least) ⊎ (length bytes ≡ f.walk.start)
+  pub none : Tells f.walk.count bytes 0
+  pub nowhere : number_in f.walk.first bytes ≡ 0
+
+-- The least offset isn't after the start of the walk, and the table's own fields end before it.
+pub record IsSoundFurther (f : FurtherWalk) : Type 0 where
+  pub walk : IsSound f.walk
+  pub least : f.least ≤ f.walk.start
+  pub count : end_of f.walk.count ≤ f.least
+  pub told : end_of f.walk.first ≤ f.least
+  pub some : 1 ≤ f.least
+
+-- the pieces are the structures of a further table, if it is one
+abbrev pub FollowsBy : Option FurtherWalk → List ℕ → List (List ℕ) → Type 0
+FollowsBy (Some f) bytes pieces = Follows f bytes pieces ⊎ (HasNone f bytes × (pieces ≡ []))
+FollowsBy None bytes pieces = pieces ≡ []
+
+-- the pieces are found by the walk of a table of the Rust crate, or else by that of a further table
+abbrev pub AreFoundBy : Option Walk → Option FurtherWalk → List ℕ → List (List ℕ) → Type 0
+AreFoundBy (Some w) f bytes pieces = Walks w bytes pieces
+AreFoundBy None f bytes pieces = FollowsBy f bytes pieces
+
+-- the pieces are the structures of any table
+abbrev pub AreStructuresOf : List ℕ → List (List ℕ) → Type 0
+AreStructuresOf bytes pieces = AreFoundBy (walk_of (field_at 0 4 bytes)) (further_walk_of (field_at 0 4 bytes)) bytes pieces
+
+-- Bytes have at most one list of structures.
+abbrev pub OneListOfStructures : Type 0
+OneListOfStructures =
+    (bytes : List ℕ) (ps qs : List (List ℕ)) → AreStructuresOf bytes ps → AreStructuresOf bytes qs → ps ≡ qs
+
+-- The structures of a table of the Rust crate are its pieces.
+abbrev pub StructuresArePieces : Type 0
+StructuresArePieces =
+    (bytes : List ℕ) → IsSome (walk_of (field_at 0 4 bytes))
+    → (pieces : List (List ℕ)) → AreStructuresOf bytes pieces ↔ ArePiecesOf bytes pieces
+
+-- the walk of the tables of a signature, in either list
+abbrev pub either_walk : Option Walk → Option FurtherWalk → Option Walk
+either_walk (Some w) f = Some w
+either_walk None (Some f) = Some f.walk
+either_walk None None = None
+
+abbrev pub table_walk_of : ℕ → Option Walk
+table_walk_of s = either_walk (walk_of s) (further_walk_of s)

@@ -1,0 +1,95 @@
+//! Walks of tables beyond those of the Rust crate.
+
+ghost use Rattle.std.specs.Prelude.{◌≡◌, ◌↔◌, ◌≤◌, length, IsTrue, IfSome};
+ghost use Rattle.acpi_base.specs.Walk.{IsSound};
+ghost use Rattle.acpi_base.specs.FurtherWalk.{begin_of, further_walk_of, table_walk_of, walk_from, HasNone, IsSoundFurther};
+
+use crate::walk::Place::{self, Byte, DWord, Nowhere, Word};
+use crate::walk::Sizes::ToldAt;
+use crate::walk::{Walk, find_row, walk_of};
+
+/// How the structures of a further table are found. If the walk has a field for the offset of the first, they begin there.
+#[derive(Clone, Copy, Debug)]
+pub struct FurtherWalk {
+    /// The walk of the newest revision.
+    pub walk: Walk,
+    /// The least offset of a structure: the size of the fixed part in the oldest revision. A GTDT of revision 2 has 96 bytes.
+    pub least: usize,
+}
+
+// The walks of the further tables that have structures, by signature.
+#[rattlefmt::skip]
+const FURTHER_WALKS: [([u8; 4], FurtherWalk); 3] = [
+    (*b"GTDT", FurtherWalk {
+        walk: Walk { start: 104, sizes: ToldAt(Word(1)), kind: Byte(0), count: DWord(88), first: DWord(92) },
+        least: 96,
+    }),
+    (*b"IORT", FurtherWalk {
+        walk: Walk { start: 48, sizes: ToldAt(Word(1)), kind: Byte(0), count: DWord(36), first: DWord(40) },
+        least: 48,
+    }),
+    (*b"DBG2", FurtherWalk {
+        walk: Walk { start: 44, sizes: ToldAt(Word(1)), kind: Nowhere, count: DWord(40), first: DWord(36) },
+        least: 44,
+    }),
+];
+
+/// The walk of the further tables of a signature, if they have structures. The signature is a number, lowest byte first.
+pub fn further_walk_of(signature: u32) -> Option<FurtherWalk>
+    ensures walk { result ≡ further_walk_of signature }
+    ensures sound { IfSome result IsSoundFurther }
+{
+    find_row(signature, &FURTHER_WALKS)
+}
+
+/// The walk of the tables of a signature, of the Rust crate or further ones, if they have structures.
+pub fn table_walk_of(signature: u32) -> Option<Walk>
+    ensures { result ≡ table_walk_of signature }
+{
+    match walk_of(signature) {
+        Some(walk) => Some(walk),
+        None => match further_walk_of(signature) {
+            Some(further) => Some(further.walk),
+            None => None,
+        },
+    }
+}
+
+impl FurtherWalk {
+    /// Where the structures of a table begin.
+    pub fn begin(self, bytes: &[u8]) -> usize
+        requires sound { IsSoundFurther self }
+        requires reached { self.least ≤ length bytes.now }
+        ensures { result ≡ begin_of self.walk bytes.now }
+    {
+        match self.walk.first {
+            Place::Nowhere => self.walk.start,
+            place => place.number(bytes),
+        }
+    }
+
+    /// Whether these are the bytes of a table without structures that contains 0 as the offset of the first.
+    pub fn has_none(self, bytes: &[u8]) -> bool
+        requires { IsSoundFurther self }
+        ensures { IsTrue result ↔ HasNone self bytes.now }
+    {
+        let size = bytes.len();
+        self.walk.first.end() > 0
+            && (size == self.least || size == self.walk.start)
+            && self.walk.count.tells(bytes, 0)
+            && self.walk.first.number(bytes) == 0
+    }
+
+    /// The walk from another start.
+    pub fn walk_from(self, start: usize) -> Walk
+        requires sound { IsSoundFurther self }
+        requires later { self.least ≤ start }
+        ensures walk { result ≡ walk_from start self.walk }
+        ensures sound { IsSound result }
+    {
+        Walk {
+            start,
+            ..self.walk
+        }
+    }
+}
