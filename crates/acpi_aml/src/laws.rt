@@ -5,10 +5,9 @@ ghost use Rattle.acpi_aml.specs.Laws.{FieldsMean, AllStatementsMean, CallsMean, 
 ghost use Rattle.acpi_aml.specs.Laws.{ConstantsMean, TextsMean, NamesMean, PathsMean, BuildersMean};
 ghost use Rattle.acpi_aml.specs.Laws.{VarPackagesMean, BuffersMean, BufferTermsMean, UuidMeans, EisaNameMeans};
 
+pub use crate::derived::equal_values_are_the_same;
 use crate::eisa::EISAName;
 use crate::uuid::Uuid;
-
-pub use crate::derived::equal_values_are_the_same;
 
 /// A builder to which elements were added writes the package of these elements.
 pub fn builders_make_packages()

@@ -87,9 +87,6 @@ impl FurtherWalk {
         ensures walk { result ≡ walk_from start self.walk }
         ensures sound { IsSound result }
     {
-        Walk {
-            start,
-            ..self.walk
-        }
+        Walk { start, ..self.walk }
     }
 }

@@ -7,9 +7,8 @@ ghost use Rattle.acpi_base.specs.Laws.{AddedAtOnce, AddedEnds, SdtsAreTheirCalls
 ghost use Rattle.acpi_base.specs.Walk.{OneWalk, OneListOfPieces};
 ghost use Rattle.acpi_base.specs.FurtherWalk.{OneListOfStructures, StructuresArePieces};
 
-use crate::object::Aml;
-
 pub use crate::derived::{defaults_are_these, equal_values_are_the_same};
+use crate::object::Aml;
 
 /// A sink that takes two lists of bytes in turn ends as one that takes both joined.
 pub fn writes_join()

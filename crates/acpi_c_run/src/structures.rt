@@ -50,7 +50,11 @@ fn structure_of(table: &Table, piece: &Piece<'_>) -> Structure
 }
 
 // Returns the structures of a table that has these pieces.
-fn structures_of(alloc: Global, table: &Table, pieces: &[Piece<'_>]) -> Result<Vec<Structure>, Refused>
+fn structures_of(
+    alloc: Global,
+    table: &Table,
+    pieces: &[Piece<'_>],
+) -> Result<Vec<Structure>, Refused>
     ensures ok { IfOk result (λ found. found.items
         ≡ structures (structure_kind_of table.now) (map (λ p. p.offset) pieces.now) (map (λ p. p.bytes.now) pieces.now)) }
     ensures err { IfErr result (λ refused. refused ≡ by_memory) }

@@ -8,10 +8,9 @@ ghost use Rattle.acpi_fixed.specs.FadtCalls.{FadtsAreValid};
 ghost use Rattle.acpi_fixed.specs.Laws.{PointersSumToZero};
 ghost use Rattle.acpi_fixed.specs.Laws.{BertsAreTrue, SpcrsAreTrue, ClientsAreTrue, ServersAreTrue, Tpm2sAreTrue};
 
+pub use crate::derived::{defaults_are_these, equal_values_are_the_same};
 use crate::fadt::FADTBuilder;
 use acpi_base::oem::Oem;
-
-pub use crate::derived::{defaults_are_these, equal_values_are_the_same};
 
 /// The first 20 bytes of an RSDP that `Rsdp::new` made sum to zero, and so do all 36.
 pub fn pointers_sum_to_zero()

@@ -2,8 +2,13 @@
 
 ghost use Rattle.acpi_base.specs.Derived.{IsEquality};
 
-use crate::cedt::{CxlVersion, InterleaveArithmetic, InterleaveGranularity, InterleaveWays, ProtocolType, WindowRestrictions};
-use crate::madt::{EnabledStatus, GicVersion, HartStatus, LocalInterruptController, Polarity, Trigger, TriggerMode};
+use crate::cedt::{
+    CxlVersion, InterleaveArithmetic, InterleaveGranularity, InterleaveWays, ProtocolType,
+    WindowRestrictions,
+};
+use crate::madt::{
+    EnabledStatus, GicVersion, HartStatus, LocalInterruptController, Polarity, Trigger, TriggerMode,
+};
 use crate::srat::Handle;
 
 /// Two values are equal if and only if they are the same.

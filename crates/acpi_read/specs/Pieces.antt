@@ -132,7 +132,6 @@ kind_in place piece =
     else (if nat_le (end_of place) (length piece) then Some (number_in place piece)
     else None)
 
-
 -- the field with the type of the structures of a walk
 abbrev pub kind_by : Option Walk → Place
 kind_by (Some w) = w.kind

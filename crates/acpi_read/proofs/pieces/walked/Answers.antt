@@ -10,5 +10,5 @@ returns-then-not-tells-2-clause-err c =
       c.offset-then-not-tells-2.ensures,
       omega (arith, c.if-bytes-walk.false, c.offset-then-not-tells-2.ensures, c.requires.sound.count),
       miscounted c.args.walk c.args.bytes.now (map (λ p. p.bytes.now) pieces) (map (λ p. p.offset) pieces) c.len.result c.requires.sound.has c.in_ok-pieces.ensures.ok
-      (number ∙ sym (length-map pieces (λ p. p.bytes.now))) (λ tells. let no : false ≡ true = sym c.if-not-tells-2.true ∙ c.tells-2.ensures.1 tells in absurd cc),
+          (number ∙ sym (length-map pieces (λ p. p.bytes.now))) (λ tells. let no : false ≡ true = sym c.if-not-tells-2.true ∙ c.tells-2.ensures.1 tells in absurd cc),
     )
