@@ -1,9 +1,9 @@
 #!/bin/sh
-# Further runs of the proved programs, which prove.sh makes after those of demo.sh. acpi_example writes images at the first address
-# and at the last one where there is room. acpitool makes a table of an edited template, and each table of the example of its own
-# text. It writes a table to standard output and into a pipe. All three programs have the tables of an Arm machine. Last, acpiread
-# reads a definition block, and is run on a file that ends early or never, on a wrong word, with little memory, and with output that
-# can't be written. The programs are those that prove.sh or `rt ci` left.
+# Further runs of the proved programs, which prove.sh makes after those of demo.sh. acpiread reads further tables. acpi_example writes
+# images at the first address and at the last one where there is room. acpitool makes a table of an edited template, and each table
+# of the example of its own text. It writes a table to standard output and into a pipe. All three programs have the tables of an Arm
+# machine. Last, acpiread reads a definition block, and is run on a file that ends early or never, on a wrong word, with little
+# memory, and with output that can't be written. The programs are those that prove.sh or `rt ci` left.
 set -eu
 cd "$(dirname "$0")/.."
 
@@ -28,6 +28,36 @@ reads() {
     echo "$lines"
     expect "$lines" "$2"
 }
+
+reads fadt 'FACP length 276 revision 6 sum 0'
+reads srat 'SRAT length 160 revision 1 sum 0
+48 type 0 size 16
+64 type 0 size 16
+80 type 1 size 40
+120 type 1 size 40'
+reads slit 'SLIT length 48 revision 1 sum 0'
+reads hmat 'HMAT length 232 revision 1 sum 0
+40 type 0 size 40
+80 type 0 size 40
+120 type 1 size 56
+176 type 1 size 56'
+reads pptt 'PPTT length 364 revision 3 sum 0
+36 type 1 size 28
+64 type 0 size 24
+88 type 1 size 28
+116 type 1 size 28
+144 type 1 size 28
+172 type 0 size 28
+200 type 1 size 28
+228 type 0 size 24
+252 type 1 size 28
+280 type 1 size 28
+308 type 1 size 28
+336 type 0 size 28'
+reads hest 'HEST length 152 revision 1 sum 0
+40 type 6 size 48
+88 type 9 size 64'
+reads bert 'BERT length 48 revision 1 sum 0'
 
 # Images at the first address and at the last one where there is room. The program checks each before it writes it.
 mkdir "$work/edge"
