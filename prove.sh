@@ -9,7 +9,7 @@ cd "$(dirname "$0")"
 case ${1-} in
 built) ;;
 '')
-    . ./crates.sh
+    . tools/crates.sh
     prove acpi_example acpiread acpitool
     ;;
 *) echo 'usage: sh prove.sh [built]' >&2 && exit 2 ;;

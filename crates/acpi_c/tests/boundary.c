@@ -1,5 +1,5 @@
 /* Calls every function of acpi.h at its limits. Buffers end where a page ends, and the next page can't be touched, so a byte that
-   is read or written past a buffer ends the program. c.sh makes names.h of the comments of acpi.h.
+   is read or written past a buffer ends the program. tools/c.sh makes names.h of the comments of acpi.h.
 
    boundary IMAGE BASE RSDP TABLE..
        names, empty input, buffers a byte too small, the image and the tables cut and changed, and random input. The files are

@@ -8,9 +8,9 @@
 # With `built`, the programs are those that `rt ci` left. Otherwise they are proved first. The first word that is a number is how
 # many random tables and texts there are.
 set -eu
-cd "$(dirname "$0")"
+cd "$(dirname "$0")/.."
 
-. ./crates.sh
+. tools/crates.sh
 
 count=10000
 for word in "$@"; do
@@ -21,5 +21,5 @@ for word in "$@"; do
     esac
 done
 [ -n "${built-}" ] || prove acpiread acpitool
-python3 -B cases.py crates "$work"
-python3 -B texts.py crates/acpitool/out/acpitool "$work" "$count"
+python3 -B tools/cases.py crates "$work"
+python3 -B tools/texts.py crates/acpitool/out/acpitool "$work" "$count"

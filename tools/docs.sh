@@ -4,7 +4,7 @@
 # `acpitool show`, and the declarations for C and Rust with the source of `acpi_c`. It says what differs, and then its status is
 # 1. It proves nothing and needs no built program.
 set -eu
-cd "$(dirname "$0")"
+cd "$(dirname "$0")/.."
 
 work=$(mktemp -d)
 trap 'rm -rf "$work"' EXIT
@@ -89,7 +89,7 @@ awk -v work="$work" -v stdout_of_acpitool=crates/acpitool/stdout -v stdout_of_ac
     }
 ' README.md >&2 || status=1
 
-python3 -B fields.py || status=1
-python3 -B c_header.py || status=1
+python3 -B tools/fields.py || status=1
+python3 -B tools/c_header.py || status=1
 
 exit "$status"
