@@ -1,8 +1,8 @@
 #!/bin/sh
 # Compares the documents with what the gate compiles and compares: the programs of README with the crates readme_table and
-# readme_image, its samples with the output that the programs are compared with, the fields in docs/FORMATS.md with the output of
-# `acpitool show`, and the declarations for C and Rust with the source of `acpi_c`. It says what differs, and then its status is
-# 1. It proves nothing and needs no built program.
+# readme_image, its samples with the output that the programs are compared with, the fields in docs/FIELDS.md with the output of
+# `acpitool show`, the declarations for C and Rust with the source of `acpi_c`, and the names that documents cite with those of the
+# sources. It says what differs, and then its status is 1. It proves nothing and needs no built program.
 set -eu
 cd "$(dirname "$0")/.."
 
@@ -91,5 +91,6 @@ awk -v work="$work" -v stdout_of_acpitool=crates/acpitool/stdout -v stdout_of_ac
 
 python3 -B tools/fields.py || status=1
 python3 -B tools/c_header.py || status=1
+python3 -B tools/cited.py || status=1
 
 exit "$status"

@@ -1,7 +1,7 @@
-"""Makes the section of docs/FORMATS.md that lists the fields which `acpitool show` shows by name.
+"""Makes the list in docs/FIELDS.md of the fields which `acpitool show` shows by name.
 
-    python3 -B tools/fields.py           compares the section with what it has to be; the status is 1 if they differ
-    python3 -B tools/fields.py renew     writes the section
+    python3 -B tools/fields.py           compares the list with what it has to be; the status is 1 if they differ
+    python3 -B tools/fields.py renew     writes the list
 
 The fields are those of crates/acpitool/stdout, which the gate compares with what the program prints. Each name of a table, of a
 structure and of a field in the sources has to be there, so that no field is left out. The sources also say which parts are as
@@ -15,7 +15,7 @@ import textwrap
 from shown import tables_of
 
 SHOWN = "crates/acpitool/stdout"
-DOCUMENT = "docs/FORMATS.md"
+DOCUMENT = "docs/FIELDS.md"
 BEGIN, END = "<!-- fields: tools/fields.py makes these lines -->\n", "<!-- end of fields -->\n"
 HEADER = ["Signature", "Length", "Revision", "Checksum", "OEM ID", "OEM Table ID", "OEM Revision", "Creator ID"]
 HEADER += ["Creator Revision"]
@@ -161,7 +161,7 @@ def kinds_of(tables):
 
 
 def section(kinds):
-    """Returns the lines of the section."""
+    """Returns the lines of the list."""
     out = []
     for name, (own, structures) in kinds.items():
         if name == "Unknown table":

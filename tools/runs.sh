@@ -104,7 +104,8 @@ wait
 cmp "$work/made" "$work/printed"
 [ -p "$work/pipe" ]
 
-# An Arm machine: what acpiread prints for its tables, and its image, which has no FACS.
+# An Arm machine: what acpiread prints for its tables, and its image, which has no FACS. acpiread knows the structures of the tables
+# of the Rust crate alone, and so none of GTDT, DBG2 and IORT.
 mkdir "$work/arm"
 expect "$(crates/acpi_example/out/acpi_example arm "$work/arm" 40000000)" 'base 0x40000000 RSDP 0x40000600'
 arm_reads() {
@@ -121,14 +122,10 @@ arm_reads madt 'APIC length 268 revision 1 sum 0
 248 type 15 size 20'
 arm_reads gtdt 'GTDT length 104 revision 3 sum 0'
 arm_reads spcr 'SPCR length 90 revision 4 sum 0'
-arm_reads dbg2 'DBG2 length 92 revision 0 sum 0
-44 entry size 48'
+arm_reads dbg2 'DBG2 length 92 revision 0 sum 0'
 arm_reads mcfg 'MCFG length 60 revision 1 sum 0
 44 entry size 16'
-arm_reads iort 'IORT length 216 revision 5 sum 0
-48 type 0 size 24
-72 type 4 size 88
-160 type 2 size 56'
+arm_reads iort 'IORT length 216 revision 5 sum 0'
 lines=$("$tool" image "$work/arm/image" 40000000) || true
 echo "$lines"
 expect "$lines" '0x40000600 RSD  length 36 revision 2

@@ -1,4 +1,4 @@
-"""Reads the text of `acpitool show` (docs/FORMATS.md, "The text of a table")."""
+"""Reads the text of `acpitool show` (docs/TEXTS.md, "The text of a table")."""
 import re
 
 
