@@ -15,9 +15,10 @@ known n text = record { number = n; words = text }
 abbrev pub facts : Fault → Facts
 facts fault.Memory = known 1 (codes "out of memory")
 facts fault.Buffer = known 2 (codes "the buffer is too small")
-facts fault.NoFault = known 3 (codes "no fault has this number")
+facts fault.UnknownNumber = known 3 (codes "no fault has this number")
 facts fault.Arities = known 4 (codes "a number of arguments isn't NAME=N, or a name has two")
 facts fault.Signature = known 5 (codes "a signature has four bytes of text")
+facts fault.Null = known 6 (codes "a pointer is NULL, and its size isn't 0")
 facts fault.ShortHeader = known 16 (codes "a table has at least the 36 bytes of the standard header")
 facts fault.TableLength = known 17 (codes "the length of a table isn't the number of its bytes")
 facts fault.Sum = known 18 (codes "the bytes of a table don't sum to zero")
@@ -64,7 +65,7 @@ words f = (facts f).words
 
 abbrev pub faults : List Fault
 faults =
-    fault.Memory ∷ fault.Buffer ∷ fault.NoFault ∷ fault.Arities ∷ fault.Signature ∷ fault.ShortHeader ∷
+    fault.Memory ∷ fault.Buffer ∷ fault.UnknownNumber ∷ fault.Arities ∷ fault.Signature ∷ fault.Null ∷ fault.ShortHeader ∷
     fault.TableLength ∷ fault.Sum ∷ fault.Structure ∷ fault.Count ∷ fault.UnknownSource ∷ fault.Truncated ∷
     fault.Opcode ∷ fault.PkgLength ∷ fault.Number ∷ fault.Flags ∷ fault.Text ∷ fault.TooDeep ∷
     fault.ImageOutside ∷ fault.ImageSignature ∷ fault.ImageLength ∷ fault.ImageRevision ∷ fault.ImageSum ∷ fault.ImageEntries ∷

@@ -9,9 +9,10 @@ ghost use Rattle.acpi_c_run.specs.Fault.{number_of, words, fault_of, words_of};
 pub enum Fault {
     Memory,
     Buffer,
-    NoFault,
+    UnknownNumber,
     Arities,
     Signature,
+    Null,
     ShortHeader,
     TableLength,
     Sum,
@@ -57,9 +58,10 @@ macro_rules! faults {
         look_up! { $wanted $subject;
             Memory 1 "out of memory"
             Buffer 2 "the buffer is too small"
-            NoFault 3 "no fault has this number"
+            UnknownNumber 3 "no fault has this number"
             Arities 4 "a number of arguments isn't NAME=N, or a name has two"
             Signature 5 "a signature has four bytes of text"
+            Null 6 "a pointer is NULL, and its size isn't 0"
             ShortHeader 16 "a table has at least the 36 bytes of the standard header"
             TableLength 17 "the length of a table isn't the number of its bytes"
             Sum 18 "the bytes of a table don't sum to zero"
