@@ -98,9 +98,18 @@ fn made_on_output(rt: HostRuntime) -> Result<(), Fail> {
 fn parts_are_kept(rt: HostRuntime) -> Result<(), Fail> {
     write(&rt, "lines", TEXT.as_bytes())?;
     write(&rt, "table.part", b"part")?;
-    let line = "table: table.part exists\n";
+    let line = "table: table.part exists; remove it if no other run is writing it\n";
     ends(&rt, &["make", "lines", "table"], 1, &[], &[line])?;
     has(&rt, "table.part", b"part")
+}
+
+// A table doesn't replace its text.
+#[test]
+fn texts_are_kept(rt: HostRuntime) -> Result<(), Fail> {
+    write(&rt, "same", TEXT.as_bytes())?;
+    let line = "same: the table would replace its text\n";
+    ends(&rt, &["make", "same", "same"], 1, &[], &[line])?;
+    has(&rt, "same", TEXT.as_bytes())
 }
 
 // A link stays a link, and the file that it names takes the table.
