@@ -66,21 +66,21 @@ enum hyssop_fault {
     HYSSOP_FAULT_IMAGE_NO_FADT = 54, /* the XSDT lists no FADT */
     HYSSOP_FAULT_IMAGE_SECOND_FADT = 55, /* the XSDT lists a second FADT */
     HYSSOP_FAULT_IMAGE_OVERLAP = 56, /* two tables overlap */
-    HYSSOP_FAULT_WANTS_LINE_FEED = 64, /* a line feed without a carriage return expected */
-    HYSSOP_FAULT_WANTS_PRINTING = 65, /* a character that prints expected */
-    HYSSOP_FAULT_WANTS_SPACE = 66, /* a space expected */
-    HYSSOP_FAULT_WANTS_VALUE = 67, /* a value expected */
-    HYSSOP_FAULT_WANTS_DIGIT = 68, /* a hexadecimal digit expected */
-    HYSSOP_FAULT_WANTS_SECOND_DIGIT = 69, /* the second digit of a byte expected */
-    HYSSOP_FAULT_WANTS_QUOTATION_MARK = 70, /* a quotation mark at the end of the text expected */
-    HYSSOP_FAULT_WANTS_QUESTION_MARK = 71, /* a second question mark expected */
-    HYSSOP_FAULT_WANTS_SLASH = 72, /* a second slash expected */
-    HYSSOP_FAULT_WANTS_BRACE = 73, /* a brace at the end of the names expected */
-    HYSSOP_FAULT_WANTS_FIELD = 74, /* bytes, or the name of a field before the colon, expected */
-    HYSSOP_FAULT_WANTS_NAME = 75, /* a name of a flag or a value of this field expected */
-    HYSSOP_FAULT_WANTS_NUMBER = 76, /* a decimal number that fits the field expected */
-    HYSSOP_FAULT_WANTS_LABEL = 77, /* the label of a structure expected */
-    HYSSOP_FAULT_WANTS_BYTES = 78 /* bytes expected, which nothing determines */
+    HYSSOP_FAULT_WANTS_LINE_FEED = 64, /* expected a line feed without a carriage return */
+    HYSSOP_FAULT_WANTS_PRINTING = 65, /* expected a character that prints */
+    HYSSOP_FAULT_WANTS_SPACE = 66, /* expected a space */
+    HYSSOP_FAULT_WANTS_VALUE = 67, /* expected a value */
+    HYSSOP_FAULT_WANTS_DIGIT = 68, /* expected a hexadecimal digit */
+    HYSSOP_FAULT_WANTS_SECOND_DIGIT = 69, /* expected the second digit of a byte */
+    HYSSOP_FAULT_WANTS_QUOTATION_MARK = 70, /* expected a quotation mark at the end of the text */
+    HYSSOP_FAULT_WANTS_QUESTION_MARK = 71, /* expected a second question mark */
+    HYSSOP_FAULT_WANTS_SLASH = 72, /* expected a second slash */
+    HYSSOP_FAULT_WANTS_BRACE = 73, /* expected a brace at the end of the names */
+    HYSSOP_FAULT_WANTS_FIELD = 74, /* expected bytes, or the name of a field before the colon */
+    HYSSOP_FAULT_WANTS_NAME = 75, /* expected a name of a flag or a value of this field */
+    HYSSOP_FAULT_WANTS_NUMBER = 76, /* expected a decimal number that fits the field */
+    HYSSOP_FAULT_WANTS_LABEL = 77, /* expected the label of a structure */
+    HYSSOP_FAULT_WANTS_BYTES = 78 /* expected bytes: nothing determines the question marks */
 };
 
 /* A structure of a table: its offset in the table, its type or HYSSOP_NO_KIND, and the number of its bytes. */

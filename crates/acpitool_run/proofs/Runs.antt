@@ -65,7 +65,6 @@ listed_kept file base o o' o'' e e' s kept (inl (bytes, inr not)) = inl (
   inr (record {
     fault = not.fault;
     cause = not.cause;
-    why = not.why;
     complained = not.complained;
     silent = keeps_kept o o' o'' not.silent kept;
     is = not.is;

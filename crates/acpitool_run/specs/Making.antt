@@ -3,6 +3,7 @@ use Rattle.std.specs.Prelude.{◌≡◌, ◌≢◌, ◌⊎◌, ℕ, List, [], �
 use Rattle.std.specs.Fmt.{decimal}
 use Rattle.std.specs.Io.KnownBytes.{Keeps, Appends}
 use Rattle.acpi_forms.specs.Makes.{IsMade}
+use Rattle.acpi_make.specs.Fault.{text_of}
 use Rattle.acpi_make.specs.declared.fault.Fault.{Fault}
 use Rattle.acpi_make.specs.declared.fault.MakeError.TheVariants as errors
 use Rattle.acpi_make.specs.declared.make.Made.{Made}
@@ -33,8 +34,7 @@ pub record MadeText (name text bytes : List ℕ) (err err' : Option (List ℕ)) 
 pub record NotMade (name text : List ℕ) (err err' : Option (List ℕ)) : Type 0 where
   pub fault : Fault
   pub is : IsMade text (Err (errors.Fault fault))
-  pub why : List ℕ
-  pub complained : Appends err err' (name ++ codes ": " ++ why ++ 10 ∷ [])
+  pub complained : Appends err err' (name ++ codes ": " ++ text_of (errors.Fault fault) ++ 10 ∷ [])
 
 -- the bytes of a table, if there are any
 abbrev pub MadeOrNot : List ℕ → List ℕ → Option (List ℕ) → Option (List ℕ) → Option (List ℕ) → Type 0

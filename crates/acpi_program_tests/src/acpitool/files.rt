@@ -67,7 +67,7 @@ fn not_made(rt: HostRuntime) -> Result<(), Fail> {
     let text = "  Signature: \"OEMX\"\n\n  Length: 0\n";
     write(&rt, "text", text.as_bytes())?;
     write(&rt, "kept", &TABLE)?;
-    let line = "text: line 3: the second digit of a byte expected\n";
+    let line = "text: line 3: expected the second digit of a byte\n";
     ends(&rt, &["make", "text", "kept"], 1, &[], &[line])?;
     has(&rt, "kept", &TABLE)
 }
