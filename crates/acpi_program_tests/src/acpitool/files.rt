@@ -1,6 +1,7 @@
 //! Files and folders that are shown, files that can't be read, and files that aren't written.
 
-use crate::acpitool::program::{TABLE, TEXT, ends, have_lines, owned, write};
+use crate::acpitool::program::{TABLE, TEXT, ends, have_lines, write};
+use crate::words::owned;
 use acpi_vectors::{equal, same};
 use acpitool_run::program::run;
 use std::fs;

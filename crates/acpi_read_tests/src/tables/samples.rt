@@ -1,4 +1,5 @@
-//! A table of each signature that has structures. `cases/tables.cases` has tables with the same structures, and their reports.
+//! A table of each signature that has structures. `cases/tables.cases` and `cases/structures.cases` have tables with the same
+//! structures, and their reports.
 
 use acpi_base::error::R;
 use acpi_vectors::table::table;
