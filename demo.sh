@@ -1,254 +1,117 @@
 #!/bin/sh
-# Has one program write tables, and two others read them. acpiread reads each table, one without its last byte, and one with its
-# AML. acpitool shows a table field by field, finds the tables of an image, and makes a table of a text. The same programs read
-# the tables of an Arm machine. Last, acpiread is run on a file that ends early or never, on a wrong word, with little memory, and
-# with output that can't be written. The programs are proved before they are built, with everything that they depend on. The first
-# run takes half an hour on four processors, and a later one seconds. With `built`, the programs are those that `rt ci` left, and
-# nothing is proved.
+# A first run. acpi_example writes the tables of a PC, acpiread reads three of them, and acpitool shows each as text, makes one from
+# its text again, and checks the image of all. What they print is compared with the files of tools/demo.
+#
+# `rt try` runs the programs: it compiles them, and proves nothing. It takes less than two minutes on two processors. With `built`,
+# the programs are those that prove.sh or `rt ci` left.
 set -eu
 cd "$(dirname "$0")"
 
-. ./crates.sh
+fail() {
+    echo "demo.sh: $1" >&2
+    exit 1
+}
 
-expect() {
-    if [ "$1" != "$2" ]; then
-        echo "expected: $2" >&2
-        exit 1
+case ${1-} in
+built) made=built ;;
+'') made=tried ;;
+*) fail 'usage: sh demo.sh [built]' ;;
+esac
+[ "$made" = built ] || command -v rt >/dev/null || fail 'rt is missing: README says what has to be on the path'
+
+# The files of this run stay for a look.
+files=$PWD/out/demo
+rm -rf "$files"
+mkdir -p "$files/tables" "$files/texts"
+work=$(mktemp -d)
+trap 'rm -rf "$work"' EXIT
+
+# Runs a program with words. `rt try` also has an interpreter, which can't run a program that reads words or files: here it stops at
+# its first step.
+run() {
+    program=$1
+    shift
+    if [ "$made" = built ]; then
+        "crates/$program/out/$program" "$@"
+    else
+        (cd "crates/$program" && rt try --steps 1 -- "$@") 2>"$work/log" || { cat "$work/log" >&2; fail "$program failed"; }
     fi
 }
 
-[ "${1-}" = built ] || prove acpi_example acpiread acpitool
-mkdir "$work/acpi"
-expect "$(crates/acpi_example/out/acpi_example "$work/acpi" 1c000000)" 'base 0x1c000000 RSDP 0x1c0007a0'
-read=crates/acpiread/out/acpiread
-tool=crates/acpitool/out/acpitool
-
-# A table that was written, and the lines that acpiread prints for it.
-reads() {
-    lines=$("$read" table "$work/acpi/$1") || true
-    echo "$lines"
-    expect "$lines" "$2"
+# Adds a run of a program to a folder of runs: its name, its file, and its words, in which {} is the file.
+add() {
+    folder=$1
+    name=$2
+    cp "$3" "$folder/$name"
+    shift 3
+    printf '%s\n' "$@" >"$folder/$name.args"
 }
 
-reads package 'DSDT length 41 revision 2 sum 0'
-reads fadt 'FACP length 276 revision 6 sum 0'
-reads madt 'APIC length 92 revision 1 sum 0
-44 type 0 size 8
-52 type 0 size 8
-60 type 1 size 12
-72 type 2 size 10
-82 type 2 size 10'
-reads mcfg 'MCFG length 60 revision 1 sum 0
-44 entry size 16'
-reads srat 'SRAT length 160 revision 1 sum 0
-48 type 0 size 16
-64 type 0 size 16
-80 type 1 size 40
-120 type 1 size 40'
-reads slit 'SLIT length 48 revision 1 sum 0'
-reads hmat 'HMAT length 232 revision 1 sum 0
-40 type 0 size 40
-80 type 0 size 40
-120 type 1 size 56
-176 type 1 size 56'
-reads pptt 'PPTT length 364 revision 3 sum 0
-36 type 1 size 28
-64 type 0 size 24
-88 type 1 size 28
-116 type 1 size 28
-144 type 1 size 28
-172 type 0 size 28
-200 type 1 size 28
-228 type 0 size 24
-252 type 1 size 28
-280 type 1 size 28
-308 type 1 size 28
-336 type 0 size 28'
-reads hest 'HEST length 152 revision 1 sum 0
-40 type 6 size 48
-88 type 9 size 64'
-reads bert 'BERT length 48 revision 1 sum 0'
-
-# A table field by field (PCI Firmware 3.3, 4.1.2), and the tables of the image, in the order in which an operating system finds
-# them.
-lines=$("$tool" show "$work/acpi/mcfg") || true
-echo "$lines"
-expect "$lines" 'PCI Express Memory Mapped Configuration Table (MCFG)
-  0 Signature                           : 4d 43 46 47  // "MCFG"
-  4 Length                              : 0000003c  // 60
-  8 Revision                            : 01
-  9 Checksum                            : ab  // 171
-  10 OEM ID                             : 46 4f 4f 42 41 52  // "FOOBAR"
-  16 OEM Table ID                       : 43 41 46 45 44 45 41 44  // "CAFEDEAD"
-  24 OEM Revision                       : deadbeef  // 3735928559
-  28 Creator ID                         : 52 56 41 54  // "RVAT"
-  32 Creator Revision                   : 00 00 00 01
-  36 Reserved                           : 00 00 00 00 00 00 00 00
-44 entry size 16 Configuration Space Base Address Allocation Structure
-  44 Base Address                       : 00000000b0000000  // 2952790016
-  52 Segment Group Number               : 0000
-  54 Start Bus Number                   : 00
-  55 End Bus Number                     : ff  // 255
-  56 Reserved                           : 00 00 00 00'
-lines=$("$tool" image "$work/acpi/image" 1c000000) || true
-echo "$lines"
-expect "$lines" '0x1c0007a0 RSD  length 36 revision 2
-0x1c000728 XSDT length 108 revision 1
-0x1c000180 FACP length 276 revision 6
-0x1c000298 APIC length 92 revision 1
-0x1c0002f8 MCFG length 60 revision 1
-0x1c000338 SRAT length 160 revision 1
-0x1c0003d8 SLIT length 48 revision 1
-0x1c000408 HMAT length 232 revision 1
-0x1c0004f0 PPTT length 364 revision 3
-0x1c000660 HEST length 152 revision 1
-0x1c0006f8 BERT length 48 revision 1
-0x1c000000 FACS length 64 revision 1
-0x1c000040 DSDT length 314 revision 2'
-
-# Images at the first address and at the last one where there is room. The program checks each before it writes it.
-mkdir "$work/edge"
-at_edge() {
-    expect "$(crates/acpi_example/out/acpi_example "$work/edge" "$1")" "base 0x$1 RSDP $2"
-    expect "$("$tool" image "$work/edge/image" "$1" | wc -l)" 13
+# Runs a program once for each run of a folder. Before the output of each is a line `== NAME`.
+run_all() {
+    program=$1
+    folder=$2
+    if [ "$made" = tried ]; then
+        (cd "crates/$program" && rt try --steps 1 --cases "$folder") 2>"$work/log" || { cat "$work/log" >&2; fail "$program failed"; }
+        return
+    fi
+    for words in "$folder"/*.args; do
+        file=${words%.args}
+        echo "== ${file##*/}"
+        set --
+        while read -r word; do
+            [ "$word" != '{}' ] || word=$file
+            set -- "$@" "$word"
+        done <"$words"
+        "crates/$program/out/$program" "$@" || fail "$program $* failed"
+    done
 }
 
-at_edge 0 0x7a0
-at_edge ffffffffffeef000 0xffffffffffeef7a0
+# Compares two files, and prints the first.
+expect() {
+    diff "$2" "$1" >&2 || fail "the lines after > were printed, and those after < expected"
+    cat "$1"
+}
 
-# A text is made into a table: the beginning of a template, with the first processor enabled. Its length, its checksum, and the
-# type and the length of its structure are worked out. Both programs read the table.
-"$tool" template APIC >"$work/template"
-sed -e '/^I.O APIC/,$d' -e 's/^  Revision: 00/  Revision: 05/' -e 's/^  APIC ID: 00/  APIC ID: #7/' \
-    -e '/^Processor/,$s/Flags: 00000000 .*/Flags: {Enabled}/' "$work/template" >"$work/text"
-cat "$work/text"
-expect "$("$tool" make "$work/text" "$work/acpi/made" 2>&1)" ''
-reads made 'APIC length 52 revision 5 sum 0
-44 type 0 size 8'
-lines=$("$tool" show "$work/acpi/made" | sed -n '/^44/,$p') || true
-echo "$lines"
-expect "$lines" '44 type 0 size 8 Processor Local APIC Structure
-  44 Type                               : 00
-  45 Length                             : 08
-  46 ACPI Processor UID                 : 00
-  47 APIC ID                            : 07
-  48 Flags                              : 00000001  // Enabled'
+if [ "$made" = tried ]; then
+    echo 'The programs are compiled and run without a proof (rt try). Each takes up to half a minute.'
+fi
 
-# Each table that was written is made of its own text again.
-for table in package fadt madt mcfg srat slit hmat pptt hest bert namespace; do
-    "$tool" show "$work/acpi/$table" >"$work/text"
-    expect "$table $("$tool" make "$work/text" "$work/made" 2>&1)" "$table "
-    cmp "$work/acpi/$table" "$work/made"
+echo
+echo '1. acpi_example writes the tables of a PC, and an image in which they have their addresses.'
+run acpi_example "$files/tables" 1c000000 >"$work/written"
+mv "$files/tables/image" "$files/image"
+expect "$work/written" tools/demo/written.txt
+
+echo
+echo '2. acpiread reads a table. It prints a line for the header, and one for each structure.'
+mkdir "$work/read"
+for table in madt mcfg package; do
+    add "$work/read" "$table" "$files/tables/$table" table '{}'
 done
+run_all acpiread "$work/read" >"$work/lines"
+expect "$work/lines" tools/demo/read.txt
 
-# A table goes to standard output, or into a pipe, which stays one.
-"$tool" make "$work/text" - >"$work/printed"
-cmp "$work/made" "$work/printed"
-mkfifo "$work/pipe"
-timeout 60 cat "$work/pipe" >"$work/printed" &
-"$tool" make "$work/text" "$work/pipe"
-wait
-cmp "$work/made" "$work/printed"
-[ -p "$work/pipe" ]
+echo
+echo '3. acpitool shows each table as text (here the MCFG), makes the MCFG from its text again, and finds and checks the tables of the image.'
+mkdir "$work/tool"
+add "$work/tool" show tools/demo/mcfg.txt show "$files/tables"
+add "$work/tool" make tools/demo/mcfg.txt make '{}' "$files/mcfg.made"
+add "$work/tool" image "$files/image" image '{}' 1c000000
+run_all acpitool "$work/tool" >"$work/lines"
+awk -v texts="$files/texts" -v tables="// $files/tables/" '
+    /^== / { to = texts "/" $2; next }
+    index($0, tables) == 1 { to = texts "/" substr($0, length(tables) + 1) }
+    { print >to }
+' "$work/lines"
+sed 1d "$files/texts/mcfg" >"$work/mcfg"
+expect "$work/mcfg" tools/demo/mcfg.txt
+cmp "$files/mcfg.made" "$files/tables/mcfg" || fail 'the table that was made of the text is another one'
+echo 'The table that is made of this text has the bytes of the MCFG. The image has these tables:'
+expect "$files/texts/image" tools/demo/image.txt
 
-# An Arm machine: what acpiread prints for its tables, and its image, which has no FACS.
-mkdir "$work/arm"
-expect "$(crates/acpi_example/out/acpi_example arm "$work/arm" 40000000)" 'base 0x40000000 RSDP 0x40000600'
-arm_reads() {
-    lines=$("$read" table "$work/arm/$1") || true
-    echo "$lines"
-    expect "$lines" "$2"
-}
-
-arm_reads madt 'APIC length 268 revision 1 sum 0
-44 type 12 size 24
-68 type 11 size 82
-150 type 11 size 82
-232 type 14 size 16
-248 type 15 size 20'
-arm_reads gtdt 'GTDT length 104 revision 3 sum 0'
-arm_reads spcr 'SPCR length 90 revision 4 sum 0'
-arm_reads dbg2 'DBG2 length 92 revision 0 sum 0
-44 entry size 48'
-arm_reads mcfg 'MCFG length 60 revision 1 sum 0
-44 entry size 16'
-arm_reads iort 'IORT length 216 revision 5 sum 0
-48 type 0 size 24
-72 type 4 size 88
-160 type 2 size 56'
-lines=$("$tool" image "$work/arm/image" 40000000) || true
-echo "$lines"
-expect "$lines" '0x40000600 RSD  length 36 revision 2
-0x40000598 XSDT length 92 revision 1
-0x40000130 FACP length 276 revision 6
-0x40000248 APIC length 268 revision 1
-0x40000358 GTDT length 104 revision 3
-0x400003c0 SPCR length 90 revision 4
-0x40000420 DBG2 length 92 revision 0
-0x40000480 MCFG length 60 revision 1
-0x400004c0 IORT length 216 revision 5
-0x40000000 DSDT length 298 revision 2'
-
-# A run of acpiread that prints no report: its status, its line, and its words.
-ends() {
-    wanted=$1
-    said=$2
-    shift 2
-    status=0
-    line=$("$read" "$@" 2>&1 >"$output") || status=$?
-    echo "$line"
-    expect "$line" "$said"
-    expect "status $status" "status $wanted"
-}
-
-output=/dev/null
-head -c 40 "$work/acpi/package" >"$work/cut"
-ends 1 'refused at 4: TableLength' table "$work/cut"
-
-lines=$("$read" dsdt "$work/acpi/namespace") || true
-echo "$lines"
-expect "$lines" 'DSDT length 314 revision 2 sum 0
-device _SB_.PCI0
-  define _HID
-    number 134926401
-  define _CID
-    number 51040321
-  define _SEG
-    number 0
-  define _UID
-    number 0
-  define _CRS
-    buffer data 880d00020c0000000000ff00000000014701f80cf80c0108880d00010c0300000000f70c0000f80c880d00010c030000000dffff000000f3871700000c0100000000000000c0ffffbffe000000000000c03e7900
-      number 84
-device _SB_.COM1
-  define _HID
-    number 17158209
-  define _CRS
-    buffer data 8906000301040000004701f803f80300087900
-      number 19
-  method _STA args 0 serialized 0
-    return
-      number 15
-device _SB_.C000
-  define _HID
-    text "ACPI0007"
-  define _UID
-    number 0
-device _SB_.C001
-  define _HID
-    text "ACPI0007"
-  define _UID
-    number 1
-define \_S5_
-  package 4
-    number 0
-    number 0
-    number 0
-    number 0'
-
-# A word that is no text, a file without an end, too little memory, and output that can't be written.
-ends 2 'usage: acpiread table FILE | aml FILE [NAME=N ..] | dsdt FILE [NAME=N ..]' table "$(printf 'table\377')"
-ends 1 'refused at 4: TableLength' table /dev/zero
-(ulimit -v 100000 && ends 1 'refused: Memory' aml /dev/zero)
-output=/dev/full
-ends 1 "the output can't be written" table "$work/acpi/package"
+echo
+echo 'All of this is as expected. The tables, their texts and the image are in out/demo.'
+if [ "$made" = tried ]; then
+    echo 'None of these programs was proved. `sh prove.sh` proves and builds them, and everything that they stand on.'
+fi

@@ -1,4 +1,4 @@
-//! Names the library. The variable HYSSOP is the folder with `libhyssop.a`, which `c.sh` writes.
+//! Names the library. The variable HYSSOP is the folder with `libhyssop.a`, which `tools/c.sh` writes.
 use std::path::Path;
 
 fn main() {

@@ -8,9 +8,9 @@
 # counted. Instructions don't depend on what else a machine does. The program and what it stands on are proved first: the first
 # run takes minutes, and a later one a minute. It needs valgrind.
 set -eu
-cd "$(dirname "$0")"
+cd "$(dirname "$0")/.."
 
-. ./crates.sh
+. tools/crates.sh
 
 command -v valgrind >/dev/null || { echo 'bench.sh: valgrind is missing' >&2; exit 1; }
 
@@ -41,7 +41,7 @@ made() {
 # Prints the figure of a workload, and compares it: its name, its instructions, how many things they were for, and what one is.
 figure() {
     each=$(($2 / $3))
-    before=$(sed -n "s/^$1 \([0-9]*\) .*/\1/p" bench.txt)
+    before=$(sed -n "s/^$1 \([0-9]*\) .*/\1/p" tools/bench.txt)
     before=${before:-$each}
     echo "$1: $each instructions for $4, before $before"
     echo "$1 $((each < before ? each : before)) $4" >>"$figures"
@@ -99,5 +99,5 @@ if [ "$(term deep)" -ge $((2 * $(term flat))) ]; then
     status=1
 fi
 
-[ "$status" != 0 ] || cp "$figures" bench.txt
+[ "$status" != 0 ] || cp "$figures" tools/bench.txt
 exit "$status"

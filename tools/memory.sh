@@ -12,9 +12,9 @@
 # - `collect` of the standard library asks for room for all words at once, and then for less. So a run of `acpiread` or `acpitool`
 #   may go on without one growth, when it takes its words.
 set -eu
-cd "$(dirname "$0")"
+cd "$(dirname "$0")/.."
 
-. ./crates.sh
+. tools/crates.sh
 
 # A header with the length and the checksum that stand before and behind the revision, and what follows (ACPI 6.5, 5.2.6).
 header() {
@@ -38,7 +38,7 @@ fi
 memory=$PWD/crates/acpi_memory/out/acpi_memory
 read=$PWD/crates/acpiread/out/acpiread
 tool=$PWD/crates/acpitool/out/acpitool
-cc -shared -fPIC -O1 -o "$work/memory.so" memory.c
+cc -shared -fPIC -O1 -o "$work/memory.so" tools/memory.c
 
 # Runs words with one growth refused, and keeps the status, what is written, and how many growths there were and were refused.
 refusing() {

@@ -8,9 +8,9 @@
 # With `built`, the programs are those that `rt ci` left. Otherwise they are proved first. The first word that is a number is how
 # many random tables and texts there are.
 set -eu
-cd "$(dirname "$0")"
+cd "$(dirname "$0")/.."
 
-. ./crates.sh
+. tools/crates.sh
 
 count=10000
 for word in "$@"; do
@@ -25,4 +25,4 @@ root=$PWD
 mkdir "$work/cases"
 cp crates/test_cases/data/*.cases "$work/cases"
 (cd "$work/cases" && "$root/crates/test_cases/out/test_cases")
-python3 -B texts.py crates/acpitool/out/acpitool "$work" "$count"
+python3 -B tools/texts.py crates/acpitool/out/acpitool "$work" "$count"

@@ -1,7 +1,7 @@
 """Makes the section of docs/FORMATS.md that lists the fields which `acpitool show` shows by name.
 
-    python3 -B fields.py           compares the section with what it has to be; the status is 1 if they differ
-    python3 -B fields.py renew     writes the section
+    python3 -B tools/fields.py           compares the section with what it has to be; the status is 1 if they differ
+    python3 -B tools/fields.py renew     writes the section
 
 The fields are those of crates/acpitool/stdout, which the gate compares with what the program prints. Each name of a table, of a
 structure and of a field in the sources has to be there, so that no field is left out. The sources also say which parts are as
@@ -16,7 +16,7 @@ from shown import tables_of
 
 SHOWN = "crates/acpitool/stdout"
 DOCUMENT = "docs/FORMATS.md"
-BEGIN, END = "<!-- fields: fields.py makes these lines -->\n", "<!-- end of fields -->\n"
+BEGIN, END = "<!-- fields: tools/fields.py makes these lines -->\n", "<!-- end of fields -->\n"
 HEADER = ["Signature", "Length", "Revision", "Checksum", "OEM ID", "OEM Table ID", "OEM Revision", "Creator ID"]
 HEADER += ["Creator Revision"]
 REGISTER = ["Address Space ID", "Register Bit Width", "Register Bit Offset", "Access Size", "Address"]
@@ -204,7 +204,7 @@ def main():
         with open(DOCUMENT, "w", encoding="utf-8") as file:
             file.write(wanted)
     elif text != wanted:
-        stop(f"the fields in {DOCUMENT} aren't those of {SHOWN}: `python3 -B fields.py renew` writes them")
+        stop(f"the fields in {DOCUMENT} aren't those of {SHOWN}: `python3 -B tools/fields.py renew` writes them")
 
 
 main()

@@ -1,7 +1,7 @@
 #!/bin/sh
 # Boots an unmodified Linux under QEMU from an image of tables, and prints what the kernel says of each. Not a part of the gate.
 #
-#     VMLINUZ=KERNEL sh boot.sh IMAGE [BASE [NODES PROCESSORS]]
+#     VMLINUZ=KERNEL sh tools/boot.sh IMAGE [BASE [NODES PROCESSORS]]
 #
 # The bytes of the image begin at the address BASE, in hexadecimal with or without 0x (1c000000 if none is named). The tables
 # are in the first MiB from there, and the 3 MiB after it are reserved for pages that tables point to. Its RSDP is the last one
@@ -24,7 +24,7 @@ fail() {
     exit 1
 }
 
-[ $# -ge 1 ] && [ $# -le 4 ] && [ $# -ne 3 ] || fail 'usage: VMLINUZ=KERNEL sh boot.sh IMAGE [BASE [NODES PROCESSORS]]'
+[ $# -ge 1 ] && [ $# -le 4 ] && [ $# -ne 3 ] || fail 'usage: VMLINUZ=KERNEL sh tools/boot.sh IMAGE [BASE [NODES PROCESSORS]]'
 image=$1
 base=${2:-1c000000}
 base=${base#0x}

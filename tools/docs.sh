@@ -4,7 +4,7 @@
 # `acpitool show`, and the declarations for C and Rust with the source of `acpi_c`. It says what differs, and then its status is
 # 1. It proves nothing and needs no built program.
 set -eu
-cd "$(dirname "$0")"
+cd "$(dirname "$0")/.."
 
 work=$(mktemp -d)
 trap 'rm -rf "$work"' EXIT
@@ -36,11 +36,11 @@ for crate in readme_table readme_image; do
 done
 [ ! -f "$work/program$((number + 1))" ] || differs "README.md has a program that no crate has"
 
-# What demo.sh prints: the line for the first crate that it proves, and the output that it expects, in its quotation marks.
+# What demo.sh and tools/runs.sh compare the output with: the files of tools/demo, in the order of their use, and what stands in
+# quotation marks.
 {
-    (. ./crates.sh && crates_below acpi_example acpiread acpitool) |
-        awk -F: 'NR == 1 { first = $1 } END { print "proving " first ", 1 of " NR }'
-    tr "'" '\n' <demo.sh
+    for part in written read mcfg image; do cat "tools/demo/$part.txt"; done
+    tr "'" '\n' <tools/runs.sh
 } >"$work/demo"
 
 # The samples of README: the lines after a `$`, in a block of lines that begin with four spaces. The lines of a sample have to
@@ -89,7 +89,7 @@ awk -v work="$work" -v stdout_of_acpitool=crates/acpitool/stdout -v stdout_of_ac
     }
 ' README.md >&2 || status=1
 
-python3 -B fields.py || status=1
-python3 -B c_header.py || status=1
+python3 -B tools/fields.py || status=1
+python3 -B tools/c_header.py || status=1
 
 exit "$status"

@@ -1,6 +1,6 @@
-# What demo.sh, c.sh, cases.sh, docs.sh, bench.sh, iasl.sh, limits.sh and memory.sh share: how crates of crates.txt are proved and
-# built. Sourced from the root. Crates that don't depend on each other are proved side by side: as many at a time as there are
-# processors, at most four, and 3 GB of free memory for each. JOBS says how many instead.
+# What prove.sh, c.sh, cases.sh, bench.sh, iasl.sh, limits.sh and memory.sh share: how crates of crates.txt are proved and built.
+# Sourced from the root. Crates that don't depend on each other are proved side by side: as many at a time as there are processors,
+# at most four, and 3 GB of free memory for each. JOBS says how many instead.
 
 work=$(mktemp -d)
 running=
@@ -93,6 +93,7 @@ begin() {
     *) set -- lib --jobs 1 ;;
     esac
     folder=$PWD/out/$crate
+    date +%s >"$work/$crate.begun"
     (
         begin_folder
         (cd "$folder/crates/$crate" && exec rt "$@" </dev/null >"$work/$crate.log" 2>&1) &
@@ -112,7 +113,7 @@ is_ready() {
     done
 }
 
-# Waits until a crate has ended, and shows what rt wrote if it failed.
+# Waits until a crate has ended, and prints its time and how many crates are left. If it failed, it shows what rt wrote.
 wait_for_one() {
     read -r ended failed <&3
     if [ "$failed" != 0 ]; then
@@ -126,6 +127,9 @@ wait_for_one() {
     done
     running=$still
     unproved=$(for crate in $unproved; do [ "$crate" = "$ended" ] || echo "$crate"; done | tr '\n' ' ')
+    begun=$(cat "$work/$ended.begun")
+    # shellcheck disable=SC2086
+    echo "$ended: $(($(date +%s) - begun)) s, $(echo $unproved | wc -w) of $count crates left"
 }
 
 # Proves and builds these programs and what they stand on.
@@ -134,7 +138,7 @@ prove() {
     unproved=$(sed 's/:.*//' "$work/crates" | tr '\n' ' ')
     count=$(wc -l <"$work/crates")
     most=$(lanes)
-    begun=0
+    echo "proving $count crates, $most side by side, each after those that it stands on"
     rm -f "$work/ends"
     mkfifo "$work/ends"
     exec 3<>"$work/ends"
@@ -143,8 +147,6 @@ prove() {
         while read -r line; do
             # shellcheck disable=SC2086
             if [ "$(echo $running | wc -w)" -lt "$most" ] && is_ready "$line"; then
-                begun=$((begun + 1))
-                echo "proving ${line%%:*}, $begun of $count"
                 begin "${line%%:*}"
             else
                 echo "$line" >>"$work/later"

@@ -6,9 +6,9 @@
 # that `rt ci` left. It leaves no static library, so acpi_c itself is proved once more. The library, with its functions in C and
 # its allocator, is then crates/acpi_c/out/c/libhyssop.a.
 set -eu
-cd "$(dirname "$0")"
+cd "$(dirname "$0")/.."
 
-. ./crates.sh
+. tools/crates.sh
 
 kit=$(dirname "$(rt doc)")
 
@@ -123,7 +123,7 @@ rm "$work/acpi/cut"
 "$work/boundary_sanitized" "$work/image" "${base#0x}" "${rsdp#0x}" "$work/acpi"/*
 
 # The same results with each growth refused once. A call that returns that memory ran out is made again.
-cc -shared -fPIC -O1 -o "$work/memory.so" memory.c
+cc -shared -fPIC -O1 -o "$work/memory.so" tools/memory.c
 refusing() {
     status=0
     rm -f "$work/growths"

@@ -22,7 +22,7 @@ fail() {
 }
 
 command -v iasl >/dev/null || fail "iasl isn't here: Debian has it in acpica-tools"
-[ $# -le 1 ] || fail 'usage: sh iasl.sh [FOLDER]'
+[ $# -le 1 ] || fail 'usage: sh tools/iasl.sh [FOLDER]'
 
 # The folder is the caller's, from where the caller is.
 if [ $# -eq 1 ]; then
@@ -31,8 +31,8 @@ if [ $# -eq 1 ]; then
     [ -n "$(ls -A "$tables")" ] || fail "$1: the folder is empty"
 fi
 
-cd "$(dirname "$0")"
-. ./crates.sh
+cd "$(dirname "$0")/.."
+. tools/crates.sh
 
 tool=crates/acpitool/out/acpitool
 if [ $# -eq 1 ]; then
@@ -63,7 +63,7 @@ disassemble() {
 # Compares the fields in a table's text with those that acpitool shows, and prints what differs.
 compare_fields() {
     "$tool" show "$1" >"$work/shown" || fail "$1: acpitool doesn't show it"
-    python3 -B iasl_fields.py "$work/shown" "$2" >"$work/compared" || { cat "$work/compared" >&2; fail "$1: its fields differ"; }
+    python3 -B tools/iasl_fields.py "$work/shown" "$2" >"$work/compared" || { cat "$work/compared" >&2; fail "$1: its fields differ"; }
     sed "s|^|${1##*/}: |" "$work/compared"
 }
 

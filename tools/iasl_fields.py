@@ -1,6 +1,6 @@
 """Compares the fields that `iasl -d` writes for a table with those that `acpitool show` prints.
 
-    python3 -B iasl_fields.py SHOWN DISASSEMBLED
+    python3 -B tools/iasl_fields.py SHOWN DISASSEMBLED
 
 Both texts have the offset, the width and the value of each field. Their names differ, so fields are compared by their offsets,
 and values by the bytes that they stand for: of a number lowest byte first, of text and of bytes in their order. It prints how

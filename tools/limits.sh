@@ -7,9 +7,9 @@
 # It takes 9 GiB of memory and six minutes, beside the proofs of the programs and of what they stand on, which come first. A file
 # is as long as the most bytes, but takes no room: it is a hole.
 set -eu
-cd "$(dirname "$0")"
+cd "$(dirname "$0")/.."
 
-. ./crates.sh
+. tools/crates.sh
 
 prove acpi_limits acpiread acpitool
 limits=crates/acpi_limits/out/acpi_limits
