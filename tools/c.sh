@@ -3,8 +3,8 @@
 # of acpi_example, and `boundary`, which goes to the limits of each function. In C both are built a second time with the address
 # and undefined behaviour sanitizers, and `boundary` is run once for each growth, with that one refused by memory.c. The library
 # and the example are proved before they are built, with everything that they stand on. With `built`, they stand on the crates
-# that `rt ci` left. It leaves no static library, so acpi_c itself is proved once more. The library, with its allocator, is then
-# in crates/acpi_c/out/c.
+# that `rt ci` left. It leaves no static library, so acpi_c itself is proved once more. The library, with its functions in C and
+# its allocator, is then crates/acpi_c/out/c/libhyssop.a.
 set -eu
 cd "$(dirname "$0")/.."
 
@@ -39,33 +39,44 @@ elif ! build_over_ci; then
     prove acpi_c
 fi
 
-# One archive with what the library calls for memory, which the kit has in C: malloc, realloc and free.
+# The words of each number, as the header's comments have them.
 source=$PWD/crates/acpi_c
+sed -n 's|^ *HYSSOP_[A-Z_]* = \([0-9]*\),* /\* \(.*\) \*/$|{\1, "\2"},|p' "$source/include/hyssop.h" >"$work/names.h"
+
+# One archive with the functions of the header, and with what the library calls for memory, which the kit has in C: malloc, realloc
+# and free.
 mkdir -p "$source/out/c" "$work/objects"
 (cd "$work/objects" && ar x "$kit/c/liblibc_c.a")
-cp "$source/out/libacpi_c.a" "$work/libacpi_c.a"
-ar rs "$work/libacpi_c.a" "$work/objects"/*.o
-mv "$work/libacpi_c.a" "$source/out/c/libacpi_c.a"
-
-# The words of each number, as the header's comments have them.
-sed -n 's|^ *ACPI_FAULT_[A-Z_]* = \([0-9]*\), /\* \(.*\) \*/$|{\1, "\2"},|p' "$source/include/acpi.h" >"$work/names.h"
+cc -std=c99 -pedantic -Wall -Wextra -Werror -O2 -fPIC -I "$source/include" -I "$work" -c -o "$work/objects/hyssop.o" \
+    "$source/c/hyssop.c"
+cp "$source/out/libacpi_c.a" "$work/libhyssop.a"
+ar rs "$work/libhyssop.a" "$work/objects"/*.o
+mv "$work/libhyssop.a" "$source/out/c/libhyssop.a"
 
 # Compiles a program of C: its source, its name, and further words for the compiler.
 compile() {
     from=$1
     to=$2
     shift 2
-    cc -std=c11 -Wall -Wextra -Werror -O1 -g -I "$source/include" -I "$work" "$@" -o "$to" "$source/$from" \
-        "$source/out/c/libacpi_c.a"
+    cc -std=c11 -Wall -Wextra -Werror -O1 -g -pthread -I "$source/include" -I "$source/c" "$@" -o "$to" "$source/$from" \
+        "$source/out/c/libhyssop.a"
 }
 
 compile examples/check.c "$work/check"
 compile examples/check.c "$work/check_sanitized" -fsanitize=address,undefined -fno-sanitize-recover=all
 compile tests/boundary.c "$work/boundary"
 compile tests/boundary.c "$work/boundary_sanitized" -fsanitize=address,undefined -fno-sanitize-recover=all
+
+# The header compiles without a warning in each edition of C and C++.
+for edition in c89 c99 c11 c17 c2x; do
+    cc -std=$edition -pedantic -Wall -Wextra -Werror -Wno-long-long -fsyntax-only -x c "$source/include/hyssop.h"
+done
 if command -v c++ >/dev/null; then
-    printf '#include "acpi.h"\nint main() { return acpi_version() == ACPI_VERSION ? 0 : 1; }\n' >"$work/plus.cc"
-    c++ -Wall -Wextra -Werror -I "$source/include" -o "$work/plus" "$work/plus.cc" "$source/out/c/libacpi_c.a"
+    for edition in c++11 c++14 c++17 c++20 c++2b; do
+        c++ -std=$edition -pedantic -Wall -Wextra -Werror -fsyntax-only -x c++ "$source/include/hyssop.h"
+    done
+    printf '#include "hyssop.h"\nint main() { return hyssop_version() == HYSSOP_VERSION ? 0 : 1; }\n' >"$work/plus.cc"
+    c++ -Wall -Wextra -Werror -I "$source/include" -o "$work/plus" "$work/plus.cc" "$source/out/c/libhyssop.a"
     "$work/plus"
 fi
 
@@ -102,7 +113,7 @@ checks() {
 checks "$work/check"
 checks "$work/check_sanitized"
 if command -v cargo >/dev/null; then
-    (cd "$source/examples/rust" && ACPI_C=$source/out/c CARGO_TARGET_DIR=$work/cargo cargo build --quiet --offline)
+    (cd "$source/examples/rust" && HYSSOP=$source/out/c CARGO_TARGET_DIR=$work/cargo cargo build --quiet --offline)
     checks "$work/cargo/debug/acpi_check"
 fi
 

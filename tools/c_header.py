@@ -1,21 +1,40 @@
 #!/usr/bin/env python3
-"""Compares what callers in C and Rust read with the source of acpi_c: the declarations of acpi.h and acpi.rs with the exports,
-their constants with the faults and the version, and the faults in docs/C.md. Prints what differs; then its status is 1."""
+"""Compares what callers in C and Rust read with the source of acpi_c. Prints what differs; then its status is 1.
+
+- c/exports.h with the exports of src/lib.rt;
+- include/hyssop.h and hyssop.rs with each other, and with the exports: each function has one, with parameters of the same names;
+- the structs, the version and the faults of both with the source, and the faults of docs/C.md."""
 import re
 import sys
 
 CRATE = "crates/acpi_c"
 RUN = "crates/acpi_c_run/src"
-# A type of an export: the parameters in C and in Rust that stand for it.
+# A type of an export: the parameters in C that stand for it.
 TYPES = {
-    "Global": ([], []),
-    "u32": (["uint32_t X"], ["X: u32"]),
-    "u64": (["uint64_t X"], ["X: u64"]),
-    "&mut u64": (["uint64_t *X"], ["X: *mut u64"]),
-    "&mut usize": (["size_t *X"], ["X: *mut usize"]),
-    "&[u8]": (["const void *X", "size_t X_size"], ["X: *const u8", "X_size: usize"]),
-    "&mut [u8]": (["void *X", "size_t X_size"], ["X: *mut u8", "X_size: usize"]),
-    "&mut [Structure]": (["struct acpi_structure *X", "size_t X_size"], ["X: *mut Structure", "X_size: usize"]),
+    "Global": [],
+    "u32": ["uint32_t X"],
+    "u64": ["uint64_t X"],
+    "&mut u64": ["uint64_t *X"],
+    "&mut usize": ["size_t *X"],
+    "&[u8]": ["const void *X", "size_t X_size"],
+    "&mut [u8]": ["void *X", "size_t X_size"],
+    "&mut [Structure]": ["struct hyssop_structure *X", "size_t X_size"],
+    "&mut [Note]": ["struct hyssop_note *X", "size_t X_size"],
+}
+# A type of hyssop.h, and that of hyssop.rs.
+RUST = {
+    "uint32_t": "u32",
+    "enum hyssop_fault": "u32",
+    "uint64_t": "u64",
+    "size_t": "usize",
+    "uint64_t *": "*mut u64",
+    "size_t *": "*mut usize",
+    "const void *": "*const u8",
+    "const char *": "*const u8",
+    "void *": "*mut u8",
+    "char *": "*mut u8",
+    "struct hyssop_structure *": "*mut Structure",
+    "struct hyssop_note *": "*mut Note",
 }
 status = 0
 
@@ -33,7 +52,13 @@ def read(path):
 
 def parameters(text):
     """The parameters between the brackets of a declaration."""
-    return [" ".join(it.split()) for it in text.split(",") if it.strip()]
+    return [" ".join(it.split()) for it in text.split(",") if it.strip() not in ("", "void")]
+
+
+def typed(parameter):
+    """The type and the name of a parameter in C."""
+    kind, name = re.fullmatch(r"(.*?)(\w+)", parameter).groups()
+    return kind.strip() if not kind.endswith("*") else kind, name
 
 
 def constant(name):
@@ -50,46 +75,61 @@ def compare(where, what, wanted, found):
             differs(f"{where} has the {what} `{it}`, which isn't in the source")
 
 
-exports = re.findall(r'pub extern "C" fn (\w+)\(([^)]*)\) -> u32', read(f"{CRATE}/src/lib.rt"))
-if read(f"{CRATE}/src/lib.rt").count("no_mangle") != len(exports):
+def declarations(text):
+    """The functions that a header declares: the result, the name and the parameters of each."""
+    plain = re.sub(r"/\*.*?\*/", "", text, flags=re.S)
+    found = re.findall(r"^(?:HYSSOP_RESULT )?([\w ]+?[ *])(\w+)\(([^)]*)\);", plain, re.M)
+    return [(result.strip(), name, parameters(given)) for result, name, given in found]
+
+
+source = read(f"{CRATE}/src/lib.rt")
+exports = re.findall(r'pub extern "C" fn (\w+)\(([^)]*)\) -> u32', source)
+if source.count("no_mangle") != len(exports):
     differs(f"{CRATE}/src/lib.rt has an export that isn't `pub extern \"C\" fn NAME(..) -> u32`")
-in_c, in_rust = [], []
+in_c = {}
 for name, given in exports:
     both = [(it.split(":")[0].strip(), TYPES[it.split(":", 1)[1].strip()]) for it in parameters(given)]
-    c = [one.replace("X", it) for it, types in both for one in types[0]]
-    rust = [one.replace("X", it) for it, types in both for one in types[1]]
-    in_c.append(f"uint32_t {name}({', '.join(c) or 'void'});")
-    in_rust.append(f"pub fn {name}({', '.join(rust)}) -> u32;")
+    in_c[name] = [one.replace("X", it) for it, types in both for one in types]
+found = declarations(read(f"{CRATE}/c/exports.h"))
+compare("exports.h", "declaration", [("uint32_t", name, given) for name, given in in_c.items()], found)
 
-header = read(f"{CRATE}/include/acpi.h")
-plain = re.sub(r"/\*.*?\*/", "", header, flags=re.S)
-found = re.findall(r"^(\w+ \w+)\(([^)]*)\);", plain, re.M)
-compare("acpi.h", "declaration", in_c, [f"{name}({', '.join(parameters(given))});" for name, given in found])
-rust = read(f"{CRATE}/acpi.rs")
-found = re.findall(r"(pub fn \w+)\(([^)]*)\) -> u32;", rust)
-compare("acpi.rs", "declaration", in_rust, [f"{name}({', '.join(parameters(given))}) -> u32;" for name, given in found])
+# What callers see. A function that writes structs counts them, and one without a proved function is that of the words.
+header, rust = read(f"{CRATE}/include/hyssop.h"), read(f"{CRATE}/hyssop.rs")
+public = declarations(header)
+wanted = [(name.replace("_export", ""), [typed(it)[1] for it in given]) for name, given in in_c.items() if "fault_name" not in name]
+wanted.append(("hyssop_fault_words", ["number"]))
+same = {"out_count": "out_size", "count": "size"}
+compare("hyssop.h", "function", wanted, [(name, [same.get(typed(it)[1], typed(it)[1]) for it in given]) for _, name, given in public])
+in_rust = [
+    f"pub fn {name}({', '.join(f'{it}: {RUST[kind]}' for kind, it in map(typed, given))}) -> "
+    + ("*const c_char" if result == "const char *" else RUST[result])
+    for result, name, given in public
+]
+found = re.findall(r"(pub fn \w+)\(([^)]*)\) -> ([^;]*);", rust)
+compare("hyssop.rs", "declaration", in_rust, [f"{name}({', '.join(parameters(given))}) -> {result}" for name, given, result in found])
 
-# The fields of a structure.
-fields = re.findall(r"pub (\w+): usize", re.search(r"pub struct Structure {(.*?)}", read(f"{RUN}/structures.rt"), re.S)[1])
-body = re.search(r"struct acpi_structure {(.*?)};", plain, re.S)[1]
-if re.findall(r"size_t (\w+);", body) != fields or body.count(";") != len(fields):
-    differs(f"the fields of `struct acpi_structure` in acpi.h aren't {fields}")
-if re.findall(r"pub (\w+): usize", re.search(r"pub struct Structure {(.*?)}", rust, re.S)[1]) != fields:
-    differs(f"the fields of `Structure` in acpi.rs aren't {fields}")
+# The fields of the structs.
+for name, file in (("Structure", "structures"), ("Note", "notes")):
+    fields = re.findall(r"pub (\w+): usize", re.search(rf"pub struct {name} {{(.*?)}}", read(f"{RUN}/{file}.rt"), re.S)[1])
+    body = re.search(rf"struct hyssop_{name.lower()} {{(.*?)}};", header, re.S)[1]
+    if re.findall(r"size_t (\w+);", body) != fields or body.count(";") != len(fields):
+        differs(f"the fields of `struct hyssop_{name.lower()}` in hyssop.h aren't {fields}")
+    if re.findall(r"pub (\w+): usize", re.search(rf"pub struct {name} {{(.*?)}}", rust, re.S)[1]) != fields:
+        differs(f"the fields of `{name}` in hyssop.rs aren't {fields}")
 
 # Faults: a name, a number and words.
 rows = re.findall(r'^ +([A-Z]\w+) (\d+) "(.*)"$', read(f"{RUN}/fault.rt"), re.M)
 wanted = [(constant(name), number, words) for name, number, words in rows]
-compare("acpi.h", "fault", wanted, re.findall(r"^ +ACPI_FAULT_(\w+) = (\d+), /\* (.*) \*/$", header, re.M))
+compare("hyssop.h", "fault", wanted, re.findall(r"^ +HYSSOP_FAULT_(\w+) = (\d+),? /\* (.*) \*/$", header, re.M))
 compare("docs/C.md", "fault", wanted, re.findall(r"^\| `(\w+)` \| (\d+) \| (.*?) \|", read("docs/C.md"), re.M))
 pairs = [(name, number) for name, number, _ in wanted]
-compare("acpi.rs", "fault", pairs, re.findall(r"^ +pub const (\w+): u32 = (\d+);$", rust, re.M))
+compare("hyssop.rs", "fault", pairs, re.findall(r"^ +pub const (\w+): u32 = (\d+);$", rust, re.M))
 
 version = re.search(r"pub fn version\(\)[^{]*{ [^}]*}\s*{\s*(\d+)\s*}", read(f"{RUN}/names.rt"))[1]
-if f"#define ACPI_VERSION {version}\n" not in header:
-    differs(f"ACPI_VERSION of acpi.h isn't {version}")
+if f"#define HYSSOP_VERSION {version}\n" not in header:
+    differs(f"HYSSOP_VERSION of hyssop.h isn't {version}")
 if f"pub const VERSION: u32 = {version};" not in rust:
-    differs(f"VERSION of acpi.rs isn't {version}")
+    differs(f"VERSION of hyssop.rs isn't {version}")
 if len(exports) < 9 or len(rows) < 40:
     differs("the source has fewer functions or faults than it had")
 sys.exit(status)

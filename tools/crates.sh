@@ -89,7 +89,7 @@ begin() {
     acpitool) set -- run --jobs 1 -- --version ;;
     acpi_bench) set -- run --jobs 1 -- xsdt=2 ;;
     acpi_limits) set -- run --jobs 1 -- VIOT ;;
-    acpi_memory) set -- run --jobs 1 ;;
+    acpi_memory | test_cases) set -- run --jobs 1 ;;
     *) set -- lib --jobs 1 ;;
     esac
     folder=$PWD/out/$crate

@@ -1,6 +1,6 @@
 /* Checks the tables in a folder and an image of tables, and makes a MADT from a text.
    check FOLDER IMAGE BASE RSDP, with the physical addresses of the image's first byte and of its RSDP in hexadecimal. */
-#include "acpi.h"
+#include "hyssop.h"
 #include <dirent.h>
 #include <stdio.h>
 #include <stdlib.h>
@@ -15,14 +15,13 @@ static const char text[] = "Signature: \"APIC\"\n  Signature: \"APIC\"\n  Length
                            "a processor\n  Type: 00\n  Length: ??\n  ACPI Processor UID: 00\n  APIC ID: 00\n  Flags: 00000001\n";
 
 /* Prints what a call returned, and returns whether that is a fault. */
-static int tell(const char *name, uint32_t number, const char *at, uint64_t place) {
-    char words[128];
-    size_t size = 0;
-    if (acpi_fault_name(number, words, sizeof words, &size) != 0)
-        size = 0;
-    printf("%s: %.*s", name, (int)size, words);
-    printf(number == 0 ? "\n" : "%s%llx\n", at, (unsigned long long)place);
-    return number != 0;
+static int tell(const char *name, enum hyssop_fault fault, const char *at, uint64_t place) {
+    printf("%s: %s", name, hyssop_fault_words(fault));
+    if (fault == HYSSOP_FINE)
+        printf("\n");
+    else
+        printf("%s%llx\n", at, (unsigned long long)place);
+    return fault != HYSSOP_FINE;
 }
 
 /* Reads a file into `bytes`, and returns how many there are. */
@@ -33,6 +32,10 @@ static size_t read_file(const char *path) {
         exit(2);
     }
     size_t size = fread(bytes, 1, sizeof bytes, file);
+    if (size == sizeof bytes) {
+        fprintf(stderr, "%s: larger than this example reads\n", path);
+        exit(2);
+    }
     fclose(file);
     return size;
 }
@@ -47,27 +50,30 @@ static int check_folder(const char *name) {
         if (entry->d_name[0] != '.') {
             snprintf(path, sizeof path, "%s/%s", name, entry->d_name);
             size_t size = read_file(path);
-            uint32_t number = acpi_check_table(bytes, size, &place);
-            faults += tell(entry->d_name, number, ", offset 0x", place);
+            enum hyssop_fault fault = hyssop_check_table(bytes, size, &place);
+            faults += tell(entry->d_name, fault, ", offset 0x", place);
         }
     return folder == NULL || closedir(folder) != 0 ? 1 : faults;
 }
 
 static int make_madt(void) {
     uint64_t line = 0;
-    size_t size = 0;
-    uint32_t number = acpi_make(text, sizeof text - 1, bytes, sizeof bytes, &size, &line);
-    int fault = tell("a MADT of a text", number, ", line 0x", line);
+    size_t size = 0, notes = 0;
+    enum hyssop_fault fault = hyssop_make(text, sizeof text - 1, bytes, sizeof bytes, &size, &line);
+    if (fault == HYSSOP_FINE)
+        fault = hyssop_make_notes(text, sizeof text - 1, NULL, 0, &notes, &line);
+    if (tell("a MADT of a text", fault, ", line 0x", line))
+        return 1;
     printf("its length is %zu, its checksum 0x%02x\n", size, bytes[9]);
-    return fault;
+    return 0;
 }
 
 int main(int count, char **words) {
-    if (count != 5 || acpi_version() != ACPI_VERSION)
+    if (count != 5 || hyssop_version() != HYSSOP_VERSION)
         return 2;
     int faults = check_folder(words[1]);
     size_t size = read_file(words[2]);
     uint64_t place = 0, base = strtoull(words[3], NULL, 16), rsdp = strtoull(words[4], NULL, 16);
-    faults += tell(words[2], acpi_check_image(bytes, size, base, rsdp, &place), ", address 0x", place);
+    faults += tell(words[2], hyssop_check_image(bytes, size, base, rsdp, &place), ", address 0x", place);
     return faults + make_madt() > 0;
 }

@@ -1,4 +1,5 @@
-//! Checks, texts and tables for callers in C and Rust. `include/acpi.h` declares these functions, and says what their callers owe.
+//! Checks, texts and tables for callers in C and Rust. They call the functions of `include/hyssop.h`, which says what callers owe.
+//! `c/hyssop.c` has those: each replaces NULL and calls the function here that has `export` in its name.
 #![tactic(auto)]
 
 ghost use Rattle.std.specs.Prelude.{◌≡◌};
@@ -8,6 +9,7 @@ ghost use Rattle.acpi_c_run.specs.Results.{Checks, Gives, GivesAnywhere};
 ghost use Rattle.acpi_c_run.specs.Image.{IsImageOfTables, IsImageRefusal};
 ghost use Rattle.acpi_c_run.specs.Make.{IsTableOf, IsMakeRefusal, IsTemplate, IsTemplateRefusal};
 ghost use Rattle.acpi_c_run.specs.Names.{version, IsName, IsNoName};
+ghost use Rattle.acpi_c_run.specs.Notes.{AreNotes};
 ghost use Rattle.acpi_c_run.specs.Show.{IsText, IsTextRefusal};
 ghost use Rattle.acpi_c_run.specs.Structures.{AreStructures, IsStructuresRefusal};
 ghost use Rattle.acpi_c_run.specs.Table.{IsTableRefusal};
@@ -16,6 +18,7 @@ use acpi_c_run::aml::check_aml;
 use acpi_c_run::image::check_image;
 use acpi_c_run::make::{make, template};
 use acpi_c_run::names::{fault_name, version};
+use acpi_c_run::notes::{Note, make_notes};
 use acpi_c_run::show::show;
 use acpi_c_run::structures::{Structure, table_structures};
 use acpi_c_run::table::check_table;
@@ -23,7 +26,7 @@ use std::alloc::Global;
 
 /// The version of these functions.
 #[unsafe(no_mangle)]
-pub extern "C" fn acpi_version() -> u32
+pub extern "C" fn hyssop_export_version() -> u32
     ensures { result ≡ version }
 {
     version()
@@ -31,7 +34,7 @@ pub extern "C" fn acpi_version() -> u32
 
 /// Writes the words of a number that another function returned.
 #[unsafe(no_mangle)]
-pub extern "C" fn acpi_fault_name(number: u32, out: &mut [u8], size: &mut usize) -> u32
+pub extern "C" fn hyssop_export_fault_name(number: u32, out: &mut [u8], size: &mut usize) -> u32
     ensures { GivesAnywhere (IsName number) (IsNoName number) out.old out.new result size.new }
 {
     fault_name(number, out, size)
@@ -39,7 +42,7 @@ pub extern "C" fn acpi_fault_name(number: u32, out: &mut [u8], size: &mut usize)
 
 /// Checks a table.
 #[unsafe(no_mangle)]
-pub extern "C" fn acpi_check_table(bytes: &[u8], place: &mut u64) -> u32
+pub extern "C" fn hyssop_export_check_table(bytes: &[u8], place: &mut u64) -> u32
     ensures { Checks (IsTrueTable bytes.now) (IsTableRefusal bytes.now) result place.new }
 {
     check_table(bytes, place)
@@ -47,7 +50,7 @@ pub extern "C" fn acpi_check_table(bytes: &[u8], place: &mut u64) -> u32
 
 /// Writes the structures of a table.
 #[unsafe(no_mangle)]
-pub extern "C" fn acpi_table_structures(
+pub extern "C" fn hyssop_export_table_structures(
     alloc: Global,
     bytes: &[u8],
     out: &mut [Structure],
@@ -61,7 +64,7 @@ pub extern "C" fn acpi_table_structures(
 
 /// Checks terms of AML.
 #[unsafe(no_mangle)]
-pub extern "C" fn acpi_check_aml(
+pub extern "C" fn hyssop_export_check_aml(
     alloc: Global,
     bytes: &[u8],
     arities: &[u8],
@@ -74,7 +77,7 @@ pub extern "C" fn acpi_check_aml(
 
 /// Checks the tables of an image.
 #[unsafe(no_mangle)]
-pub extern "C" fn acpi_check_image(
+pub extern "C" fn hyssop_export_check_image(
     alloc: Global,
     bytes: &[u8],
     base: u64,
@@ -88,7 +91,7 @@ pub extern "C" fn acpi_check_image(
 
 /// Writes the text of a table.
 #[unsafe(no_mangle)]
-pub extern "C" fn acpi_show(
+pub extern "C" fn hyssop_export_show(
     alloc: Global,
     bytes: &[u8],
     out: &mut [u8],
@@ -102,7 +105,7 @@ pub extern "C" fn acpi_show(
 
 /// Makes a text into a table.
 #[unsafe(no_mangle)]
-pub extern "C" fn acpi_make(
+pub extern "C" fn hyssop_export_make(
     alloc: Global,
     text: &[u8],
     out: &mut [u8],
@@ -114,9 +117,23 @@ pub extern "C" fn acpi_make(
     make(alloc, text, out, size, place)
 }
 
+/// Writes the numbers that a text states wrongly.
+#[unsafe(no_mangle)]
+pub extern "C" fn hyssop_export_make_notes(
+    alloc: Global,
+    text: &[u8],
+    out: &mut [Note],
+    size: &mut usize,
+    place: &mut u64,
+) -> u32
+    ensures { Gives (AreNotes text.now) (IsMakeRefusal text.now) out.old out.new result place.new size.new }
+{
+    make_notes(alloc, text, out, size, place)
+}
+
 /// Writes a text to begin a table of a signature with.
 #[unsafe(no_mangle)]
-pub extern "C" fn acpi_template(
+pub extern "C" fn hyssop_export_template(
     alloc: Global,
     signature: &[u8],
     out: &mut [u8],

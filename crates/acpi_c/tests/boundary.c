@@ -1,5 +1,5 @@
-/* Calls every function of acpi.h at its limits. Buffers end where a page ends, and the next page can't be touched, so a byte that
-   is read or written past a buffer ends the program. tools/c.sh makes names.h of the comments of acpi.h.
+/* Calls every function of hyssop.h at its limits. Buffers end where a page ends, and the next page can't be touched, so a byte that
+   is read or written past a buffer ends the program.
 
    boundary IMAGE BASE RSDP TABLE..
        names, empty input, buffers a byte too small, the image and the tables cut and changed, and random input. The files are
@@ -7,7 +7,9 @@
    boundary
        what each function returns for one input, with a call that memory.c refused made once more. */
 #define _DEFAULT_SOURCE
-#include "acpi.h"
+#include "hyssop.h"
+#include "exports.h"
+#include <pthread.h>
 #include <stdio.h>
 #include <stdlib.h>
 #include <string.h>
@@ -19,13 +21,6 @@
 #define RUNS 10000
 #define UNTOUCHED 0xa5
 #define UNTOLD 0xa5a5a5a5a5a5a5a5u
-
-static const struct {
-    uint32_t number;
-    const char *words;
-} names[] = {
-#include "names.h"
-};
 
 /* Ends the program where a condition doesn't hold. */
 #define want(condition) (void)((condition) || (fail(__LINE__, #condition), 0))
@@ -74,102 +69,207 @@ static size_t size;
 static uint32_t kept(uint32_t number, const uint8_t *out, size_t out_size, size_t unit) {
     if (number == 0)
         want(size <= out_size);
-    else if (number == ACPI_FAULT_BUFFER)
+    else if (number == HYSSOP_FAULT_BUFFER)
         want(size > out_size && is_blank(out, out_size * unit));
     else
         want(size == 0 && is_blank(out, out_size * unit));
-    want(place != UNTOLD && (place == 0 || (number != 0 && number != ACPI_FAULT_BUFFER)));
+    want(place != UNTOLD && (place == 0 || (number != 0 && number != HYSSOP_FAULT_BUFFER)));
     return number;
 }
 
 static uint32_t check_table(const void *bytes, size_t bytes_size) {
     place = UNTOLD;
-    return acpi_check_table(put(input, bytes, bytes_size), bytes_size, &place);
+    return hyssop_check_table(put(input, bytes, bytes_size), bytes_size, &place);
 }
 
 static uint32_t check_aml(const void *bytes, size_t bytes_size, const char *arities, size_t arities_size) {
     place = UNTOLD;
-    uint8_t *words = put(second, arities, arities_size);
-    return acpi_check_aml(put(input, bytes, bytes_size), bytes_size, words, arities_size, &place);
+    const char *words = (char *)put(second, arities, arities_size);
+    return hyssop_check_aml(put(input, bytes, bytes_size), bytes_size, words, arities_size, &place);
 }
 
 static uint32_t check_image(const void *bytes, size_t bytes_size, uint64_t base, uint64_t rsdp) {
     place = UNTOLD;
-    return acpi_check_image(put(input, bytes, bytes_size), bytes_size, base, rsdp, &place);
+    return hyssop_check_image(put(input, bytes, bytes_size), bytes_size, base, rsdp, &place);
 }
 
 static uint32_t structures(const void *bytes, size_t bytes_size, size_t out_size) {
-    uint8_t *out = blank(out_size * sizeof(struct acpi_structure));
-    struct acpi_structure *all = (struct acpi_structure *)(void *)out;
+    uint8_t *out = blank(out_size * sizeof(struct hyssop_structure));
+    struct hyssop_structure *all = (struct hyssop_structure *)(void *)out;
     place = UNTOLD;
-    uint32_t number = acpi_table_structures(put(input, bytes, bytes_size), bytes_size, all, out_size, &size, &place);
+    uint32_t number = hyssop_table_structures(put(input, bytes, bytes_size), bytes_size, all, out_size, &size, &place);
     return kept(number, out, out_size, sizeof *all);
 }
 
 static uint32_t show(const void *bytes, size_t bytes_size, size_t out_size) {
     uint8_t *out = blank(out_size);
     place = UNTOLD;
-    return kept(acpi_show(put(input, bytes, bytes_size), bytes_size, out, out_size, &size, &place), out, out_size, 1);
+    return kept(hyssop_show(put(input, bytes, bytes_size), bytes_size, (char *)out, out_size, &size, &place), out, out_size, 1);
 }
 
 static uint32_t make(const void *text, size_t text_size, size_t out_size) {
     uint8_t *out = blank(out_size);
     place = UNTOLD;
-    return kept(acpi_make(put(input, text, text_size), text_size, out, out_size, &size, &place), out, out_size, 1);
+    const char *given = (char *)put(input, text, text_size);
+    return kept(hyssop_make(given, text_size, out, out_size, &size, &place), out, out_size, 1);
 }
 
 static uint32_t template(const void *signature, size_t signature_size, size_t out_size) {
     uint8_t *out = blank(out_size);
     place = 0;
-    uint32_t number = acpi_template(put(input, signature, signature_size), signature_size, out, out_size, &size);
+    const char *given = (char *)put(input, signature, signature_size);
+    uint32_t number = hyssop_template(given, signature_size, (char *)out, out_size, &size);
     return kept(number, out, out_size, 1);
 }
 
-static uint32_t fault_name(uint32_t number, size_t out_size) {
-    uint8_t *out = blank(out_size);
-    place = 0;
-    return kept(acpi_fault_name(number, out, out_size, &size), out, out_size, 1);
+static uint32_t notes(const char *text, size_t text_size, size_t out_count) {
+    uint8_t *out = blank(out_count * sizeof(struct hyssop_note));
+    struct hyssop_note *all = (struct hyssop_note *)(void *)out;
+    place = UNTOLD;
+    uint32_t number = hyssop_make_notes((char *)put(input, text, text_size), text_size, all, out_count, &size, &place);
+    return kept(number, out, out_count, sizeof *all);
 }
 
 /* ---- names, empty input, and numbers of arguments */
 
+/* Each number has the words of the proved list, which ends without a zero, and every other number those of UNKNOWN_NUMBER. */
 static void try_names(void) {
-    size_t count = sizeof names / sizeof *names, known = 0;
-    for (uint32_t number = 1; number < 1000; number++) {
-        size_t at = 0;
-        while (at < count && names[at].number != number)
-            at++;
-        if (at == count) {
-            want(fault_name(number, 100) == ACPI_FAULT_NO_FAULT);
+    static char words[200];
+    size_t known = 0;
+    for (uint32_t number = 0; number < 1000; number++) {
+        const char *text = hyssop_fault_words(number);
+        uint32_t result = hyssop_export_fault_name(number, words, sizeof words, &size);
+        if (result == HYSSOP_FAULT_UNKNOWN_NUMBER) {
+            want(strcmp(text, "no fault has this number") == 0);
             continue;
         }
-        size_t length = strlen(names[at].words);
-        want(fault_name(number, length) == 0 && size == length);
-        want(memcmp(output.end - length, names[at].words, length) == 0);
-        want(fault_name(number, length - 1) == ACPI_FAULT_BUFFER && size == length);
+        want(result == 0 && strlen(text) == size && memcmp(words, text, size) == 0);
+        want(hyssop_export_fault_name(number, words, size - 1, &size) == HYSSOP_FAULT_BUFFER && size == strlen(text));
         known++;
     }
-    want(known == count && count > 40);
-    want(fault_name(0, 4) == 0 && size == 4 && memcmp(output.end - 4, "fine", 4) == 0);
-    want(fault_name(UINT32_MAX, 0) == ACPI_FAULT_NO_FAULT);
+    want(known > 40 && strcmp(hyssop_fault_words(0), "fine") == 0);
+    want(strcmp(hyssop_fault_words(UINT32_MAX), "no fault has this number") == 0);
+}
+
+/* Numbers that programs were built with: none of them changes. */
+static void try_numbers(void) {
+    want(HYSSOP_FINE == 0 && HYSSOP_FAULT_MEMORY == 1 && HYSSOP_FAULT_BUFFER == 2 && HYSSOP_FAULT_UNKNOWN_NUMBER == 3);
+    want(HYSSOP_FAULT_ARITIES == 4 && HYSSOP_FAULT_SIGNATURE == 5 && HYSSOP_FAULT_NULL == 6);
+    want(HYSSOP_FAULT_SHORT_HEADER == 16 && HYSSOP_FAULT_TABLE_LENGTH == 17 && HYSSOP_FAULT_SUM == 18);
+    want(HYSSOP_FAULT_STRUCTURE == 19 && HYSSOP_FAULT_COUNT == 20 && HYSSOP_FAULT_UNKNOWN_SOURCE == 21);
+    want(HYSSOP_FAULT_TRUNCATED == 32 && HYSSOP_FAULT_OPCODE == 33 && HYSSOP_FAULT_PKG_LENGTH == 34);
+    want(HYSSOP_FAULT_NUMBER == 35 && HYSSOP_FAULT_FLAGS == 36 && HYSSOP_FAULT_TEXT == 37 && HYSSOP_FAULT_TOO_DEEP == 38);
+    want(HYSSOP_FAULT_IMAGE_OUTSIDE == 48 && HYSSOP_FAULT_IMAGE_SIGNATURE == 49 && HYSSOP_FAULT_IMAGE_LENGTH == 50);
+    want(HYSSOP_FAULT_IMAGE_REVISION == 51 && HYSSOP_FAULT_IMAGE_SUM == 52 && HYSSOP_FAULT_IMAGE_ENTRIES == 53);
+    want(HYSSOP_FAULT_IMAGE_NO_FADT == 54 && HYSSOP_FAULT_IMAGE_SECOND_FADT == 55 && HYSSOP_FAULT_IMAGE_OVERLAP == 56);
+    want(HYSSOP_FAULT_WANTS_LINE_FEED == 64 && HYSSOP_FAULT_WANTS_PRINTING == 65 && HYSSOP_FAULT_WANTS_SPACE == 66);
+    want(HYSSOP_FAULT_WANTS_VALUE == 67 && HYSSOP_FAULT_WANTS_DIGIT == 68 && HYSSOP_FAULT_WANTS_SECOND_DIGIT == 69);
+    want(HYSSOP_FAULT_WANTS_QUOTATION_MARK == 70 && HYSSOP_FAULT_WANTS_QUESTION_MARK == 71);
+    want(HYSSOP_FAULT_WANTS_SLASH == 72 && HYSSOP_FAULT_WANTS_BRACE == 73 && HYSSOP_FAULT_WANTS_FIELD == 74);
+    want(HYSSOP_FAULT_WANTS_NAME == 75 && HYSSOP_FAULT_WANTS_NUMBER == 76 && HYSSOP_FAULT_WANTS_LABEL == 77);
+    want(HYSSOP_FAULT_WANTS_BYTES == 78);
+}
+
+/* NULL stands for no bytes and for results that aren't asked for. With a size it is a fault. */
+static void try_null(void) {
+    size_t found = 1;
+    uint64_t at = 1;
+    want(hyssop_check_table(NULL, 0, NULL) == HYSSOP_FAULT_SHORT_HEADER);
+    want(hyssop_check_table(NULL, 0, &at) == HYSSOP_FAULT_SHORT_HEADER && at == 0);
+    want(hyssop_check_table(NULL, 1, &at) == HYSSOP_FAULT_NULL && at == 0);
+    want(hyssop_check_table(NULL, 1, NULL) == HYSSOP_FAULT_NULL);
+    want(hyssop_table_structures(NULL, 0, NULL, 0, NULL, NULL) == HYSSOP_FAULT_SHORT_HEADER);
+    want(hyssop_table_structures("", 0, NULL, 1, &found, &at) == HYSSOP_FAULT_NULL && found == 0);
+    want(hyssop_table_structures(NULL, 1, NULL, 0, NULL, &at) == HYSSOP_FAULT_NULL);
+    want(hyssop_check_aml(NULL, 0, NULL, 0, NULL) == HYSSOP_FINE);
+    want(hyssop_check_aml(NULL, 1, NULL, 0, NULL) == HYSSOP_FAULT_NULL);
+    want(hyssop_check_aml(NULL, 0, NULL, 1, NULL) == HYSSOP_FAULT_NULL);
+    want(hyssop_check_image(NULL, 0, 0, 0, NULL) == HYSSOP_FAULT_IMAGE_OUTSIDE);
+    want(hyssop_check_image(NULL, 1, 0, 0, NULL) == HYSSOP_FAULT_NULL);
+    want(hyssop_show(NULL, 0, NULL, 0, NULL, NULL) == HYSSOP_FAULT_SHORT_HEADER);
+    want(hyssop_show(NULL, 1, NULL, 0, NULL, NULL) == HYSSOP_FAULT_NULL);
+    want(hyssop_show("", 0, NULL, 1, NULL, NULL) == HYSSOP_FAULT_NULL);
+    want(hyssop_make(NULL, 0, NULL, 0, NULL, NULL) == HYSSOP_FINE);
+    want(hyssop_make("  a: 01\n", 8, NULL, 0, &found, NULL) == HYSSOP_FAULT_BUFFER && found == 1);
+    want(hyssop_make("  a: 01\n", 8, NULL, 0, NULL, NULL) == HYSSOP_FAULT_BUFFER);
+    want(hyssop_make(NULL, 1, NULL, 0, &found, NULL) == HYSSOP_FAULT_NULL && found == 0);
+    want(hyssop_make("", 0, NULL, 1, NULL, NULL) == HYSSOP_FAULT_NULL);
+    want(hyssop_make_notes(NULL, 0, NULL, 0, NULL, NULL) == HYSSOP_FINE);
+    want(hyssop_make_notes(NULL, 1, NULL, 0, NULL, NULL) == HYSSOP_FAULT_NULL);
+    want(hyssop_make_notes("", 0, NULL, 1, NULL, NULL) == HYSSOP_FAULT_NULL);
+    want(hyssop_template(NULL, 0, NULL, 0, NULL) == HYSSOP_FAULT_SIGNATURE);
+    want(hyssop_template("APIC", 4, NULL, 0, NULL) == HYSSOP_FAULT_BUFFER);
+    want(hyssop_template(NULL, 4, NULL, 0, NULL) == HYSSOP_FAULT_NULL);
+    want(hyssop_template("APIC", 4, NULL, 1, NULL) == HYSSOP_FAULT_NULL);
+}
+
+/* A table of 36 bytes (ACPI 6.5, 5.2.6) whose length and checksum are stated wrongly: 37 in place of 36, and 1 in place of the
+   number that makes the sum zero. */
+static void try_notes(void) {
+    static const char text[] = "Table\n  Signature: \"OEM1\"\n  Length: 00000025\n  Revision: 01\n  Checksum: 01\n"
+                               "  OEM ID: \"FOOBAR\"\n  OEM Table ID: \"CAFEDEAD\"\n  OEM Revision: 00000001\n"
+                               "  Creator ID: \"RVAT\"\n  Creator Revision: 00000001\n";
+    size_t length = sizeof text - 1;
+    want(make(text, length, 36) == 0 && size == 36);
+    uint8_t sum = 0;
+    for (size_t i = 0; i < 36; i++)
+        sum = (uint8_t)(sum + (output.end - 36)[i]);
+    want(notes(text, length, 1) == HYSSOP_FAULT_BUFFER && size == 2);
+    want(notes(text, length, 2) == 0 && size == 2 && place == 0);
+    const struct hyssop_note *all = (const struct hyssop_note *)(const void *)(output.end - 2 * sizeof *all);
+    want(all[0].offset == 4 && all[0].width == 4 && all[0].value == 36);
+    want(all[1].offset == 9 && all[1].width == 1 && all[1].value == (uint8_t)(1 - sum));
+    want(notes("  a\tb", 6, 0) == HYSSOP_FAULT_WANTS_PRINTING && place == 1);
+}
+
+/* Packages that nest as deep as terms may (20.2.5.4), and one level deeper, with a stack of 512 KiB. */
+static size_t nested(uint8_t *bytes, size_t levels) {
+    size_t at = MOST;
+    for (size_t i = 0; i < levels; i++) {
+        /* The package's count of elements, its elements, and its length of two bytes, which counts itself. */
+        size_t content = MOST - at + 1 + 2;
+        at--;
+        bytes[at] = (uint8_t)(i > 0);
+        bytes[--at] = (uint8_t)(content >> 4);
+        bytes[--at] = (uint8_t)(0x40 | (content & 15));
+        bytes[--at] = 0x12;
+    }
+    memmove(bytes, bytes + at, MOST - at);
+    return MOST - at;
+}
+
+static void *read_nested(void *unused) {
+    static uint8_t bytes[MOST];
+    (void)unused;
+    want(check_aml(bytes, nested(bytes, 255), "", 0) == HYSSOP_FINE);
+    want(check_aml(bytes, nested(bytes, 256), "", 0) == HYSSOP_FAULT_TOO_DEEP);
+    return NULL;
+}
+
+static void try_stack(void) {
+    pthread_t thread;
+    pthread_attr_t small;
+    want(pthread_attr_init(&small) == 0 && pthread_attr_setstacksize(&small, 512 * 1024) == 0);
+    want(pthread_create(&thread, &small, read_nested, NULL) == 0 && pthread_join(thread, NULL) == 0);
+    want(pthread_attr_destroy(&small) == 0);
 }
 
 static void try_empty(void) {
-    want(check_table("", 0) == ACPI_FAULT_SHORT_HEADER && place == 0);
-    want(structures("", 0, 0) == ACPI_FAULT_SHORT_HEADER && place == 0);
-    want(show("", 0, 0) == ACPI_FAULT_SHORT_HEADER && place == 0);
+    want(check_table("", 0) == HYSSOP_FAULT_SHORT_HEADER && place == 0);
+    want(structures("", 0, 0) == HYSSOP_FAULT_SHORT_HEADER && place == 0);
+    want(show("", 0, 0) == HYSSOP_FAULT_SHORT_HEADER && place == 0);
     want(check_aml("", 0, "", 0) == 0 && place == 0);
-    want(check_image("", 0, 0, 0) == ACPI_FAULT_IMAGE_OUTSIDE && place == 0);
-    want(check_image("", 0, UINT64_MAX, UINT64_MAX) == ACPI_FAULT_IMAGE_OUTSIDE && place == UINT64_MAX);
-    want(template("", 0, 0) == ACPI_FAULT_SIGNATURE && template("APICX", 5, 0) == ACPI_FAULT_SIGNATURE);
-    want(template("\xff\xff\xff\xff", 4, 0) == ACPI_FAULT_SIGNATURE);
+    want(check_image("", 0, 0, 0) == HYSSOP_FAULT_IMAGE_OUTSIDE && place == 0);
+    want(check_image("", 0, UINT64_MAX, UINT64_MAX) == HYSSOP_FAULT_IMAGE_OUTSIDE && place == UINT64_MAX);
+    want(template("", 0, 0) == HYSSOP_FAULT_SIGNATURE && template("APICX", 5, 0) == HYSSOP_FAULT_SIGNATURE);
+    want(template("\xff\xff\xff\xff", 4, 0) == HYSSOP_FAULT_SIGNATURE);
     want(make("", 0, MOST) == 0 && size == 0);
 }
 
 static void try_template(void) {
-    want(template("APIC", 4, 0) == ACPI_FAULT_BUFFER);
+    want(template("APIC", 4, 0) == HYSSOP_FAULT_BUFFER);
     size_t length = size;
-    want(template("APIC", 4, length - 1) == ACPI_FAULT_BUFFER && size == length);
+    want(template("APIC", 4, length - 1) == HYSSOP_FAULT_BUFFER && size == length);
     want(template("APIC", 4, length) == 0 && size == length);
 }
 
@@ -177,12 +277,12 @@ static void try_arguments(void) {
     /* MTHD (One), where MTHD takes one argument (ACPI 6.5, 20.2.5). */
     static const uint8_t call[] = {'M', 'T', 'H', 'D', 1};
     want(check_aml(call, 5, "MTHD=1", 6) == 0 && check_aml(call, 5, "OTHR=7 MTHD=1", 13) == 0);
-    want(check_aml(call, 5, "MTHD=2", 6) == ACPI_FAULT_TRUNCATED);
+    want(check_aml(call, 5, "MTHD=2", 6) == HYSSOP_FAULT_TRUNCATED);
     static const char *wrong[] = {"MTHD", "MTHD=8", "MTHD=12", "mthd=1", "MTHD=1 MTHD=1", " MTHD=1", "MTHD=1  A___=1", "\xff=1"};
     for (size_t i = 0; i < sizeof wrong / sizeof *wrong; i++)
-        want(check_aml(call, 5, wrong[i], strlen(wrong[i])) == ACPI_FAULT_ARITIES && place == 0);
+        want(check_aml(call, 5, wrong[i], strlen(wrong[i])) == HYSSOP_FAULT_ARITIES && place == 0);
     /* An opcode that no term begins with, after a term of one byte. */
-    want(check_aml("\x01\xfe", 2, "", 0) == ACPI_FAULT_OPCODE && place == 1);
+    want(check_aml("\x01\xfe", 2, "", 0) == HYSSOP_FAULT_OPCODE && place == 1);
 }
 
 /* ---- tables */
@@ -198,22 +298,22 @@ static void seal(uint8_t *table, size_t count) {
 /* The text of a table makes the table again, and a buffer that is a byte smaller is too small for either. */
 static void try_texts(const uint8_t *table, size_t count) {
     static uint8_t text[MOST];
-    want(show(table, count, 0) == ACPI_FAULT_BUFFER);
+    want(show(table, count, 0) == HYSSOP_FAULT_BUFFER);
     size_t length = size;
-    want(show(table, count, length - 1) == ACPI_FAULT_BUFFER && size == length);
+    want(show(table, count, length - 1) == HYSSOP_FAULT_BUFFER && size == length);
     want(show(table, count, length) == 0 && size == length && place == 0);
     memcpy(text, output.end - length, length);
-    want(make(text, length, count - 1) == ACPI_FAULT_BUFFER && size == count);
+    want(make(text, length, count - 1) == HYSSOP_FAULT_BUFFER && size == count);
     want(make(text, length, count) == 0 && size == count && place == 0);
     want(memcmp(output.end - count, table, count) == 0);
 }
 
 static void try_structures(const uint8_t *table, size_t count) {
     uint32_t number = structures(table, count, count);
-    want(number != ACPI_FAULT_BUFFER);
+    want(number != HYSSOP_FAULT_BUFFER);
     size_t all = size;
     if (number == 0 && all > 0)
-        want(structures(table, count, all - 1) == ACPI_FAULT_BUFFER && size == all);
+        want(structures(table, count, all - 1) == HYSSOP_FAULT_BUFFER && size == all);
     if (number == 0)
         want(structures(table, count, all) == 0 && size == all);
 }
@@ -224,7 +324,7 @@ static void try_table(const uint8_t *table, size_t count) {
     try_texts(table, count);
     try_structures(table, count);
     for (size_t cut = 0; cut < count; cut++) {
-        want(check_table(table, cut) == (cut < 36 ? ACPI_FAULT_SHORT_HEADER : ACPI_FAULT_TABLE_LENGTH));
+        want(check_table(table, cut) == (cut < 36 ? HYSSOP_FAULT_SHORT_HEADER : HYSSOP_FAULT_TABLE_LENGTH));
         want(place == (cut < 36 ? cut : 4));
         want(show(table, cut, PLENTY) != 0 && structures(table, cut, 9) != 0);
     }
@@ -232,7 +332,7 @@ static void try_table(const uint8_t *table, size_t count) {
         int is_length = at >= 4 && at < 8;
         memcpy(changed, table, count);
         changed[at] ^= 0xff;
-        want(check_table(changed, count) == (is_length ? ACPI_FAULT_TABLE_LENGTH : ACPI_FAULT_SUM));
+        want(check_table(changed, count) == (is_length ? HYSSOP_FAULT_TABLE_LENGTH : HYSSOP_FAULT_SUM));
         want(place == (is_length ? 4 : 9));
         seal(changed, count);
         if (is_length || at == 9)
@@ -251,13 +351,13 @@ static void try_image(const uint8_t *image, size_t count, uint64_t base, uint64_
     want(check_image(image, count, base, rsdp) == 0 && place == 0);
     want(check_image(image, count, base, rsdp + 16) != 0 && check_image(image, count, base - 16, rsdp) != 0);
     for (size_t cut = 0; cut < rsdp - base + 36; cut++)
-        want(check_image(image, cut, base, rsdp) == ACPI_FAULT_IMAGE_OUTSIDE && place == rsdp);
+        want(check_image(image, cut, base, rsdp) == HYSSOP_FAULT_IMAGE_OUTSIDE && place == rsdp);
     /* Each byte of the RSDP is in a sum, or is compared (ACPI 6.5, 5.2.5.3). */
     for (size_t at = 0; at < count; at++) {
         memcpy(changed, image, count);
         changed[at] ^= 0xff;
         uint32_t number = check_image(changed, count, base, rsdp);
-        want(number == 0 || number >= ACPI_FAULT_IMAGE_OUTSIDE);
+        want(number == 0 || number >= HYSSOP_FAULT_IMAGE_OUTSIDE);
         want(at < rsdp - base || at >= rsdp - base + 36 || (number != 0 && place == rsdp));
     }
 }
@@ -314,7 +414,8 @@ static void try_random(const uint8_t *table, size_t count) {
         template(bytes, any(2) == 0 ? some : some < 4 ? some : 4, any(9000));
         some = vary(bytes, text, length);
         make(bytes, some, any(2) == 0 ? PLENTY : any(500));
-        fault_name((uint32_t)any(UINT32_MAX), any(60));
+        notes((const char *)bytes, some, any(3));
+        want(hyssop_fault_words((uint32_t)any(UINT32_MAX))[0] != 0);
     }
 }
 
@@ -324,8 +425,8 @@ static uint32_t refusals;
 
 /* Whether a call has to be made once more. */
 static int is_refused(uint32_t number) {
-    refusals += number == ACPI_FAULT_MEMORY;
-    return number == ACPI_FAULT_MEMORY && refusals == 1;
+    refusals += number == HYSSOP_FAULT_MEMORY;
+    return number == HYSSOP_FAULT_MEMORY && refusals == 1;
 }
 
 static void tell(const char *name, uint32_t number, size_t out_size) {
@@ -349,8 +450,8 @@ static void try_memory(void) {
     while (is_refused(number = show(table, count, MOST))) {}
     tell("show", number, MOST);
     while (is_refused(number = structures(table, count, 1000))) {}
-    size *= sizeof(struct acpi_structure);
-    tell("structures", number, 1000 * sizeof(struct acpi_structure));
+    size *= sizeof(struct hyssop_structure);
+    tell("structures", number, 1000 * sizeof(struct hyssop_structure));
     /* Name (A___, Package () {"ABC", MTHD ()}) (ACPI 6.5, 20.2.5) */
     static const uint8_t aml[] = "\x08" "A___" "\x12\x0b\x02\x0d" "ABC\0" "MTHD";
     while (is_refused(number = check_aml(aml, sizeof aml - 1, "MTHD=1 \\_SB_.PCI0=2", 19))) {}
@@ -374,8 +475,12 @@ int main(int count, char **files) {
         try_memory();
         return 0;
     }
-    want(count > 4 && acpi_version() == ACPI_VERSION);
+    want(count > 4 && hyssop_version() == HYSSOP_VERSION);
     try_names();
+    try_numbers();
+    try_null();
+    try_notes();
+    try_stack();
     try_empty();
     try_template();
     try_arguments();

@@ -1,7 +1,9 @@
--- What can be wrong, by numbers that stay.
+-- What can be wrong, by numbers that stay. The words of a fault of a text are those of `acpi_make`.
 use Rattle.std.specs.Prelude.{ℕ, ◌==◌, if◌then◌else◌, List, [], ◌∷◌, Option, Some, codes}
 use Rattle.std.specs.List.{find}
 use Rattle.std.specs.Option.{option_map}
+use Rattle.acpi_make.specs.Fault.{wanted_text}
+use Rattle.acpi_make.specs.declared.fault.Wanted.TheVariants as wanted
 use Rattle.acpi_c_run.specs.declared.fault.Fault.{Fault}
 use Rattle.acpi_c_run.specs.declared.fault.Fault.TheVariants as fault
 
@@ -15,9 +17,10 @@ known n text = record { number = n; words = text }
 abbrev pub facts : Fault → Facts
 facts fault.Memory = known 1 (codes "out of memory")
 facts fault.Buffer = known 2 (codes "the buffer is too small")
-facts fault.NoFault = known 3 (codes "no fault has this number")
+facts fault.UnknownNumber = known 3 (codes "no fault has this number")
 facts fault.Arities = known 4 (codes "a number of arguments isn't NAME=N, or a name has two")
 facts fault.Signature = known 5 (codes "a signature has four bytes of text")
+facts fault.Null = known 6 (codes "a pointer is NULL, and its size isn't 0")
 facts fault.ShortHeader = known 16 (codes "a table has at least the 36 bytes of the standard header")
 facts fault.TableLength = known 17 (codes "the length of a table isn't the number of its bytes")
 facts fault.Sum = known 18 (codes "the bytes of a table don't sum to zero")
@@ -40,21 +43,21 @@ facts fault.ImageEntries = known 53 (codes "the XSDT doesn't end after a whole e
 facts fault.ImageNoFadt = known 54 (codes "the XSDT lists no FADT")
 facts fault.ImageSecondFadt = known 55 (codes "the XSDT lists a second FADT")
 facts fault.ImageOverlap = known 56 (codes "two tables overlap")
-facts fault.WantsLineFeed = known 64 (codes "a line feed without a carriage return expected")
-facts fault.WantsPrinting = known 65 (codes "a character that prints expected")
-facts fault.WantsSpace = known 66 (codes "a space expected")
-facts fault.WantsValue = known 67 (codes "a value expected")
-facts fault.WantsDigit = known 68 (codes "a hexadecimal digit expected")
-facts fault.WantsSecondDigit = known 69 (codes "the second digit of a byte expected")
-facts fault.WantsQuotationMark = known 70 (codes "a quotation mark at the end of the text expected")
-facts fault.WantsQuestionMark = known 71 (codes "a second question mark expected")
-facts fault.WantsSlash = known 72 (codes "a second slash expected")
-facts fault.WantsBrace = known 73 (codes "a brace at the end of the names expected")
-facts fault.WantsField = known 74 (codes "bytes, or the name of a field before the colon, expected")
-facts fault.WantsName = known 75 (codes "a name of a flag or a value of this field expected")
-facts fault.WantsNumber = known 76 (codes "a decimal number that fits the field expected")
-facts fault.WantsLabel = known 77 (codes "the label of a structure expected")
-facts fault.WantsBytes = known 78 (codes "bytes expected, which nothing determines")
+facts fault.WantsLineFeed = known 64 (wanted_text wanted.LineFeed)
+facts fault.WantsPrinting = known 65 (wanted_text wanted.Printing)
+facts fault.WantsSpace = known 66 (wanted_text wanted.Space)
+facts fault.WantsValue = known 67 (wanted_text wanted.Value)
+facts fault.WantsDigit = known 68 (wanted_text wanted.Digit)
+facts fault.WantsSecondDigit = known 69 (wanted_text wanted.SecondDigit)
+facts fault.WantsQuotationMark = known 70 (wanted_text wanted.QuotationMark)
+facts fault.WantsQuestionMark = known 71 (wanted_text wanted.QuestionMark)
+facts fault.WantsSlash = known 72 (wanted_text wanted.Slash)
+facts fault.WantsBrace = known 73 (wanted_text wanted.Brace)
+facts fault.WantsField = known 74 (wanted_text wanted.Field)
+facts fault.WantsName = known 75 (wanted_text wanted.Name)
+facts fault.WantsNumber = known 76 (wanted_text wanted.Number)
+facts fault.WantsLabel = known 77 (wanted_text wanted.Label)
+facts fault.WantsBytes = known 78 (wanted_text wanted.Bytes)
 
 abbrev pub number_of : Fault → ℕ
 number_of f = (facts f).number
@@ -64,7 +67,7 @@ words f = (facts f).words
 
 abbrev pub faults : List Fault
 faults =
-    fault.Memory ∷ fault.Buffer ∷ fault.NoFault ∷ fault.Arities ∷ fault.Signature ∷ fault.ShortHeader ∷
+    fault.Memory ∷ fault.Buffer ∷ fault.UnknownNumber ∷ fault.Arities ∷ fault.Signature ∷ fault.Null ∷ fault.ShortHeader ∷
     fault.TableLength ∷ fault.Sum ∷ fault.Structure ∷ fault.Count ∷ fault.UnknownSource ∷ fault.Truncated ∷
     fault.Opcode ∷ fault.PkgLength ∷ fault.Number ∷ fault.Flags ∷ fault.Text ∷ fault.TooDeep ∷
     fault.ImageOutside ∷ fault.ImageSignature ∷ fault.ImageLength ∷ fault.ImageRevision ∷ fault.ImageSum ∷ fault.ImageEntries ∷

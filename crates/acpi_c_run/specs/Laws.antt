@@ -2,6 +2,8 @@
 use Rattle.std.specs.Prelude.{◌≡◌, ℕ, ◌≤◌, List, length, take, Some}
 use Rattle.acpi_base.specs.Table.{IsTrueTable}
 use Rattle.acpi_c_run.specs.Aml.{AreTerms, IsAmlRefusal}
+use Rattle.acpi_c_run.specs.Names.{IsName, IsNoName}
+use Rattle.acpi_c_run.specs.Notes.{AreNotes}
 use Rattle.acpi_c_run.specs.Results.{Checks, Gives}
 use Rattle.acpi_c_run.specs.Fault.{number_of, fault_of}
 use Rattle.acpi_c_run.specs.Image.{IsImageOfTables, IsImageRefusal}
@@ -49,11 +51,15 @@ pub record FineIsAllGiven : Type 0 where
   pub structures : (bytes : List ℕ) → FineIsGiven (AreStructures bytes) (IsStructuresRefusal bytes)
   pub texts : (bytes : List ℕ) → FineIsGiven (IsText bytes) (IsTextRefusal bytes)
   pub tables : (text : List ℕ) → FineIsGiven (IsTableOf text) (IsMakeRefusal text)
+  pub notes : (text : List ℕ) → FineIsGiven (AreNotes text) (IsMakeRefusal text)
   pub templates : (signature : List ℕ) → FineIsGiven (IsTemplate signature) (IsTemplateRefusal signature)
+  pub names : (number : ℕ) → FineIsGiven (IsName number) (IsNoName number)
 
 -- A call that returns the number of a fault has written nothing into the buffer.
 pub record FaultsWriteNothing : Type 0 where
   pub structures : (bytes : List ℕ) → FaultLeaves (AreStructures bytes) (IsStructuresRefusal bytes)
   pub texts : (bytes : List ℕ) → FaultLeaves (IsText bytes) (IsTextRefusal bytes)
   pub tables : (text : List ℕ) → FaultLeaves (IsTableOf text) (IsMakeRefusal text)
+  pub notes : (text : List ℕ) → FaultLeaves (AreNotes text) (IsMakeRefusal text)
   pub templates : (signature : List ℕ) → FaultLeaves (IsTemplate signature) (IsTemplateRefusal signature)
+  pub names : (number : ℕ) → FaultLeaves (IsName number) (IsNoName number)

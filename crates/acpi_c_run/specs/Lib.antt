@@ -7,5 +7,6 @@ pub mod Aml
 pub mod Image
 pub mod Show
 pub mod Make
+pub mod Notes
 pub mod Names
 pub mod Laws

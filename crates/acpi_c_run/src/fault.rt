@@ -9,9 +9,10 @@ ghost use Rattle.acpi_c_run.specs.Fault.{number_of, words, fault_of, words_of};
 pub enum Fault {
     Memory,
     Buffer,
-    NoFault,
+    UnknownNumber,
     Arities,
     Signature,
+    Null,
     ShortHeader,
     TableLength,
     Sum,
@@ -57,9 +58,10 @@ macro_rules! faults {
         look_up! { $wanted $subject;
             Memory 1 "out of memory"
             Buffer 2 "the buffer is too small"
-            NoFault 3 "no fault has this number"
+            UnknownNumber 3 "no fault has this number"
             Arities 4 "a number of arguments isn't NAME=N, or a name has two"
             Signature 5 "a signature has four bytes of text"
+            Null 6 "a pointer is NULL, and its size isn't 0"
             ShortHeader 16 "a table has at least the 36 bytes of the standard header"
             TableLength 17 "the length of a table isn't the number of its bytes"
             Sum 18 "the bytes of a table don't sum to zero"
@@ -82,21 +84,21 @@ macro_rules! faults {
             ImageNoFadt 54 "the XSDT lists no FADT"
             ImageSecondFadt 55 "the XSDT lists a second FADT"
             ImageOverlap 56 "two tables overlap"
-            WantsLineFeed 64 "a line feed without a carriage return expected"
-            WantsPrinting 65 "a character that prints expected"
-            WantsSpace 66 "a space expected"
-            WantsValue 67 "a value expected"
-            WantsDigit 68 "a hexadecimal digit expected"
-            WantsSecondDigit 69 "the second digit of a byte expected"
-            WantsQuotationMark 70 "a quotation mark at the end of the text expected"
-            WantsQuestionMark 71 "a second question mark expected"
-            WantsSlash 72 "a second slash expected"
-            WantsBrace 73 "a brace at the end of the names expected"
-            WantsField 74 "bytes, or the name of a field before the colon, expected"
-            WantsName 75 "a name of a flag or a value of this field expected"
-            WantsNumber 76 "a decimal number that fits the field expected"
-            WantsLabel 77 "the label of a structure expected"
-            WantsBytes 78 "bytes expected, which nothing determines"
+            WantsLineFeed 64 "expected a line feed without a carriage return"
+            WantsPrinting 65 "expected a character that prints"
+            WantsSpace 66 "expected a space"
+            WantsValue 67 "expected a value"
+            WantsDigit 68 "expected a hexadecimal digit"
+            WantsSecondDigit 69 "expected the second digit of a byte"
+            WantsQuotationMark 70 "expected a quotation mark at the end of the text"
+            WantsQuestionMark 71 "expected a second question mark"
+            WantsSlash 72 "expected a second slash"
+            WantsBrace 73 "expected a brace at the end of the names"
+            WantsField 74 "expected bytes, or the name of a field before the colon"
+            WantsName 75 "expected a name of a flag or a value of this field"
+            WantsNumber 76 "expected a decimal number that fits the field"
+            WantsLabel 77 "expected the label of a structure"
+            WantsBytes 78 "expected bytes: nothing determines the question marks"
         }
     };
 }

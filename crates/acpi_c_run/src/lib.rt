@@ -8,6 +8,7 @@ pub mod image;
 pub mod laws;
 pub mod make;
 pub mod names;
+pub mod notes;
 pub mod refused;
 pub mod show;
 pub mod structures;

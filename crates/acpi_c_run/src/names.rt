@@ -14,12 +14,12 @@ fn write_words(number: u32, out: &mut [u8], size: &mut usize, place: &mut u64) -
 {
     match words_of(number) {
         Some(words) => put(words.as_bytes(), out, size, place),
-        None => refuse(Refused::anywhere(Fault::NoFault), out, size, place),
+        None => refuse(Refused::anywhere(Fault::UnknownNumber), out, size, place),
     }
 }
 
 /// Writes the words of a number to `out`: those of its fault, or `fine` of 0. `size` is the number of their bytes. Returns 0, or the
-/// number of a fault: `NoFault` if no fault has the number, and `Buffer` if `out` has space for fewer bytes. Then nothing is written
+/// number of a fault: `UnknownNumber` if no fault has the number, and `Buffer` if `out` has space for fewer bytes. Then nothing is written
 /// to `out`. It takes no memory.
 pub fn fault_name(number: u32, out: &mut [u8], size: &mut usize) -> u32
     ensures { GivesAnywhere (IsName number) (IsNoName number) out.old out.new result size.new }
@@ -32,5 +32,5 @@ pub fn fault_name(number: u32, out: &mut [u8], size: &mut usize) -> u32
 pub fn version() -> u32
     ensures { result ≡ version }
 {
-    1
+    2
 }

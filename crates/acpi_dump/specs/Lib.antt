@@ -1,5 +1,6 @@
 pub mod Lines
 pub mod Line
+pub mod Fault
 pub mod Dump
 pub mod Written
 pub mod Laws

@@ -1,6 +1,7 @@
 //! Why a text isn't a dump.
 
-ghost use Rattle.std.specs.Prelude.{◌≡◌};
+ghost use Rattle.std.specs.Prelude.{◌≡◌, Some};
+ghost use Rattle.acpi_dump.specs.Fault.{text_of};
 ghost use Rattle.acpi_dump.specs.declared.fault.DumpFault.TheVariants.{Memory};
 
 use std::alloc::{AllocError, AllocFailed};
@@ -22,15 +23,19 @@ pub enum DumpFault {
 
 /// The fault as text, for the user of a program.
 impl fmt::Display for DumpFault {
+    ghost output = { λ fault. Some (text_of fault) };
+
     fn fmt<W: fmt::Write>(&self, f: &mut fmt::Formatter<W>) -> fmt::Result {
         match self {
             DumpFault::Memory => write!(f, "out of memory"),
-            DumpFault::Unknown(line) => write!(f, "line {line}: not a title or bytes"),
-            DumpFault::Untitled(line) => write!(f, "line {line}: bytes before any title"),
-            DumpFault::Offset(line, expected) => write!(
+            DumpFault::Unknown(line) => write!(f, "line {line}: expected a title or bytes"),
+            DumpFault::Untitled(line) => write!(
                 f,
-                "line {line}: offset {expected:#x} expected"
+                "line {line}: expected a title before the first bytes"
             ),
+            DumpFault::Offset(line, expected) => {
+                write!(f, "line {line}: expected offset 0x{expected:x}")
+            }
         }
     }
 }

@@ -1,4 +1,5 @@
 pub mod Gives
+pub mod Fault
 pub mod Item
 pub mod Text
 pub mod Entry

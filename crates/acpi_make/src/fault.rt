@@ -1,6 +1,7 @@
 //! What is wrong with a text.
 
-ghost use Rattle.std.specs.Prelude.{◌≡◌};
+ghost use Rattle.std.specs.Prelude.{◌≡◌, Some};
+ghost use Rattle.acpi_make.specs.Fault.{wanted_text, text_of};
 ghost use Rattle.acpi_make.specs.declared.fault.MakeError.TheVariants.{Memory};
 
 use std::alloc::{AllocError, AllocFailed};
@@ -57,36 +58,40 @@ pub enum MakeError {
 
 impl Wanted {
     /// What has to stand there, as text.
-    pub fn text(self) -> &'static str {
+    pub fn text(self) -> &'static str
+        ensures { result.now ≡ wanted_text self }
+    {
         match self {
-            Wanted::LineFeed => "a line feed without a carriage return",
-            Wanted::Printing => "a character that prints",
-            Wanted::Space => "a space",
-            Wanted::Value => "a value",
-            Wanted::Digit => "a hexadecimal digit",
-            Wanted::SecondDigit => "the second digit of a byte",
-            Wanted::QuotationMark => "a quotation mark at the end of the text",
-            Wanted::QuestionMark => "a second question mark",
-            Wanted::Slash => "a second slash",
-            Wanted::Brace => "a brace at the end of the names",
-            Wanted::Field => "bytes, or the name of a field before the colon",
-            Wanted::Name => "a name of a flag or a value of this field",
-            Wanted::Number => "a decimal number that fits the field",
-            Wanted::Label => "the label of a structure",
-            Wanted::Bytes => "bytes, which nothing determines",
+            Wanted::LineFeed => "expected a line feed without a carriage return",
+            Wanted::Printing => "expected a character that prints",
+            Wanted::Space => "expected a space",
+            Wanted::Value => "expected a value",
+            Wanted::Digit => "expected a hexadecimal digit",
+            Wanted::SecondDigit => "expected the second digit of a byte",
+            Wanted::QuotationMark => "expected a quotation mark at the end of the text",
+            Wanted::QuestionMark => "expected a second question mark",
+            Wanted::Slash => "expected a second slash",
+            Wanted::Brace => "expected a brace at the end of the names",
+            Wanted::Field => "expected bytes, or the name of a field before the colon",
+            Wanted::Name => "expected a name of a flag or a value of this field",
+            Wanted::Number => "expected a decimal number that fits the field",
+            Wanted::Label => "expected the label of a structure",
+            Wanted::Bytes => "expected bytes: nothing determines the question marks",
         }
     }
 }
 
 /// The fault as text, for the user of a program.
 impl fmt::Display for MakeError {
+    ghost output = { λ error. Some (text_of error) };
+
     fn fmt<W: fmt::Write>(&self, f: &mut fmt::Formatter<W>) -> fmt::Result {
         match *self {
             MakeError::Memory => write!(f, "out of memory"),
             MakeError::Fault(fault) => {
                 let line = fault.line;
                 let wanted = fault.wanted.text();
-                write!(f, "line {line}: {wanted} expected")
+                write!(f, "line {line}: {wanted}")
             }
         }
     }

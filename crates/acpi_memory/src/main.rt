@@ -9,7 +9,8 @@
 //! - the error data entry with five objects of three bytes, and the three clones (`errors`);
 //! - each object of `part`, `aml` and `operators`, once;
 //! - the image, twice (`image`);
-//! - the reports of three lists of terms, an XSDT's report of its header, its whole report, and its two entries (`reading`).
+//! - the reports of three lists of terms, an XSDT's report of its header, its whole report, and its two entries, and
+//!   the structure of a GTDT (`reading`).
 //!
 //! The first two numbers follow from the layouts in `docs/FORMATS.md` and `docs/AML.md`, and from the values in these modules.
 //! For example, an XSDT of five entries 0x1234 has 36 + 5 * 8 = 76 bytes. Without the checksum their sum is 2524 for the header
@@ -67,6 +68,7 @@ fn main(rt: HostRuntime) -> Result<(), Fault> {
     image::images(&mut trial, rt.alloc())?;
     reading::bytecode(&mut trial, rt.alloc())?;
     reading::tables(&mut trial, rt.alloc())?;
+    reading::further_table(&mut trial, rt.alloc())?;
     let tally = trial.tally;
     println!(rt;
         "{} bytes, sum {}, calls out of memory: {}",

@@ -2,6 +2,7 @@
 
 use crate::fault::Fault;
 use crate::trial::{Grows, Trial};
+use acpi_tables::gtdt::GTDT;
 use acpi_tables::read::{
     Arities, NameString, Table, Term, report_header, report_table, report_terms, terms, terms_of,
 };
@@ -61,6 +62,23 @@ pub fn tables(trial: &mut Trial, alloc: Global) -> Result<(), Fault> {
     let report = trial.make(&7u8, || Ok(report_table(alloc, &table)?))?;
     trial.count(report.as_bytes());
     for piece in &trial.make(&7u8, || Ok(table.pieces(alloc)?))? {
+        trial.count(piece.bytes);
+    }
+    Ok(())
+}
+
+// A table with one watchdog.
+fn gtdt(alloc: Global) -> R<Vec<u8>> {
+    let mut table = GTDT::empty(alloc)?;
+    table.grow(alloc, 1)?;
+    written(alloc, &table)
+}
+
+/// The structures of a table that `pieces` doesn't walk.
+pub fn further_table(trial: &mut Trial, alloc: Global) -> Result<(), Fault> {
+    let bytes = trial.make(&7u8, || Ok(gtdt(alloc)?))?;
+    let table = Table::check(&bytes)?;
+    for piece in &trial.make(&7u8, || Ok(table.structures(alloc)?))? {
         trial.count(piece.bytes);
     }
     Ok(())

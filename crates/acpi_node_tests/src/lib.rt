@@ -1,10 +1,15 @@
-//! Tests of tables of nodes, which refer to each other by offset, against bytes that were worked out by hand from the layouts.
+//! Tests of tables of nodes, which refer to each other by offset, of tables of matrices, and of those of Arm machines, against
+//! bytes that were worked out by hand from the layouts.
 #![tactic(auto)]
 
+#[cfg(test)]
+mod arm;
 #[cfg(test)]
 mod flags;
 #[cfg(test)]
 mod later_offsets;
+#[cfg(test)]
+mod matrices;
 #[cfg(test)]
 mod numbers;
 #[cfg(test)]

@@ -1,7 +1,11 @@
-//! Tests of what runs of the programs on one file can't show. Those are in `cases/acpiread.cases` and `cases/acpitool.cases`.
+//! Tests of what runs of the programs on given bytes can't show, as those of the files in `cases`, which `test_cases` makes.
 #![tactic(auto)]
 
 #[cfg(test)]
 mod acpiread;
 #[cfg(test)]
 mod acpitool;
+#[cfg(test)]
+mod library;
+#[cfg(test)]
+mod words;

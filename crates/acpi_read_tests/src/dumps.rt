@@ -23,7 +23,10 @@ fn untitled(rt: HostRuntime) -> Result<(), Fail> {
 #[test]
 fn faults(rt: HostRuntime) -> Result<(), Fail> {
     for (fault, line) in [
-        (DumpFault::Untitled(2), "line 2: bytes before any title"),
+        (
+            DumpFault::Untitled(2),
+            "line 2: expected a title before the first bytes",
+        ),
         (DumpFault::Memory, "out of memory"),
     ] {
         agree(&format!(in rt.alloc(); "{fault}")?, line)?;

@@ -133,6 +133,12 @@ fn replacements(rt: HostRuntime) -> Result<(), Fail> {
     Ok(())
 }
 
+#[test]
+fn many_terms(rt: HostRuntime) -> Result<(), Fail> {
+    let bytes = b"\x70\x01\x60".as_slice().repeat(rt.alloc(), 20_000)?;
+    equal(&read(rt.alloc(), &bytes)?.len(), &20_000)
+}
+
 fn are_equal(alloc: Global, first: &[u8], second: &[u8]) -> Result<bool, Fail> {
     Ok(read(alloc, first)? == read(alloc, second)?)
 }

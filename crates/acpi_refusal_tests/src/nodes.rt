@@ -116,10 +116,12 @@ fn viot(rt: HostRuntime) -> Result<(), Fail> {
 }
 
 fn iommu(alloc: Global) -> R<Iommu> {
-    let mut wires = Vec::new(alloc);
-    for number in 1..5u16 {
-        wires.push(InterruptWire::new(u32::from(number), true, false, number))?;
-    }
+    let wires = vec![in alloc;
+        InterruptWire::new(1, true, false, 1),
+        InterruptWire::new(2, false, true, 2),
+        InterruptWire::new(3, true, true, 3),
+        InterruptWire::new(4, false, false, 4),
+    ]?;
     let device = PciDevice::new(5, 6, 7, 7);
     Ok(Iommu::new(1, None, Some(device), Some(15), Some(wires)))
 }
@@ -132,24 +134,21 @@ fn mapping(iommu: IommuOffset) -> IdMapping {
     IdMapping::new(1, 2, 10, iommu, true, true, false)
 }
 
-// Adds an IOMMU, and makes this many equal mappings to it.
-fn mappings(alloc: Global, rimt: &mut RIMT, count: u16) -> R<Vec<IdMapping>> {
+// Adds an IOMMU, and makes two mappings to it.
+fn mappings(alloc: Global, rimt: &mut RIMT) -> R<Vec<IdMapping>> {
     let offset = rimt.add_iommu(iommu(alloc)?)?;
-    let mut mappings = Vec::new(alloc);
-    for _ in 0..count {
-        mappings.push(mapping(offset))?;
-    }
-    Ok(mappings)
+    let second = IdMapping::new(2, 3, 5, offset, false, false, true);
+    Ok(vec![in alloc; mapping(offset), second]?)
 }
 
 fn complex(alloc: Global, rimt: &mut RIMT) -> R<PcieRootComplex> {
-    let mappings = mappings(alloc, rimt, 2)?;
+    let mappings = mappings(alloc, rimt)?;
     Ok(PcieRootComplex::new(1, 1, true, true, Some(mappings)))
 }
 
 fn platform(alloc: Global, rimt: &mut RIMT) -> R<Platform> {
     let name = String::from_str(alloc, "\\_SB_.UART")?;
-    let mappings = mappings(alloc, rimt, 1)?;
+    let mappings = mappings(alloc, rimt)?;
     Ok(Platform::new(1, name, Some(mappings)))
 }
 
@@ -174,6 +173,6 @@ fn rimt(rt: HostRuntime) -> Result<(), Fail> {
     )?;
     starve_made(alloc, 64, iommu(alloc))?;
     starve_made(alloc, 56, complex(alloc, &mut empty_rimt(alloc)))?;
-    starve_made(alloc, 43, platform(alloc, &mut empty_rimt(alloc)))?;
+    starve_made(alloc, 63, platform(alloc, &mut empty_rimt(alloc)))?;
     starve_made(alloc, 168, made_rimt(alloc))
 }

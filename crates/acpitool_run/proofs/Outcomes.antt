@@ -6,6 +6,7 @@ use Rattle.acpiread_run.specs.Command.{stated}
 use Rattle.acpiread_run.specs.Fault.{line_of}
 use Rattle.acpiread_run.specs.declared.fault.Fault.{Fault}
 use Rattle.acpi_dump.specs.Dump.{is_dump, tables_of}
+use Rattle.acpi_dump.specs.Fault.{text_of}
 use Rattle.acpi_dump.specs.declared.fault.DumpFault.{DumpFault}
 use Rattle.acpitool_run.specs.Outcome.{Outcome, shown, refused, broken, unread, output, complaint, status, outputs, complaints, worst}
 use Rattle.acpitool_run.specs.Outcome.{heading, AreTrueOutcomes, AreNamed, HaveBytes, AreOfTables, AreOfDump, AreOfBytesBy, AreOfBytes}
@@ -120,17 +121,17 @@ one_refused stated out err err' several name bytes fault why is says wrote =
     }
 
 pub one_broken : (stated : List (List ℕ × ℕ)) (out err err' : Option (List ℕ)) (name dump why : List ℕ) (fault : DumpFault)
-    → tables_of dump ≡ Err fault → Appends err err' (name ++ codes ": " ++ why ++ 10 ∷ [])
+    → tables_of dump ≡ Err fault → why ≡ text_of fault → Appends err err' (name ++ codes ": " ++ why ++ 10 ∷ [])
     → PrintedAs stated (AreOfDump name dump) out out err err' 1
-one_broken stated out err err' name dump why fault is wrote =
+one_broken stated out err err' name dump why fault is says wrote =
     let P : List ℕ → Type 0 = λ l. Appends err err' l in
     record {
-      outcomes = broken name dump why ∷ [];
-      are = inr (why, refl);
+      outcomes = broken name dump fault ∷ [];
+      are = inr (fault, refl);
       printed = record {
-        are = ((fault, is), tt);
+        are = (is, tt);
         wrote = appends_none out;
-        complained = subst P (sym (append-nil (name ++ codes ": " ++ why ++ 10 ∷ []))) wrote;
+        complained = subst P (ap (λ (l : List ℕ). name ++ codes ": " ++ l ++ 10 ∷ []) says ∙ sym (append-nil (name ++ codes ": " ++ text_of fault ++ 10 ∷ []))) wrote;
         is = refl;
       };
     }

@@ -2,7 +2,7 @@
 use Rattle.std.proofs.Common.{ℕ, List, Option, Some, None, ◌∙◌, inl, inr}
 use Rattle.std.specs.Io.KnownBytes.{Keeps, Appends}
 use Rattle.acpitool_run.specs.Listing.{Listed, NotRead}
-use Rattle.acpitool_run.specs.Making.{IsWritten, Makes}
+use Rattle.acpitool_run.specs.Making.{IsWritten, MakesWord, Makes}
 use Rattle.acpitool_run.specs.Outcome.{Outcome, Printed}
 use Rattle.acpitool_run.specs.Program.{Ended, IsDone, IsShown}
 use Rattle.acpitool_run.specs.declared.command.Command.{Command}
@@ -65,7 +65,6 @@ listed_kept file base o o' o'' e e' s kept (inl (bytes, inr not)) = inl (
   inr (record {
     fault = not.fault;
     cause = not.cause;
-    why = not.why;
     complained = not.complained;
     silent = keeps_kept o o' o'' not.silent kept;
     is = not.is;
@@ -78,9 +77,9 @@ written_kept : (bytes file : List ℕ) (o o' o'' e e' : Option (List ℕ)) (s : 
 written_kept bytes file o o' o'' e e' s kept (inl out) = inl (out.0, appends_kept o o' o'' bytes out.1 kept, out.2)
 written_kept bytes file o o' o'' e e' s kept (inr other) = inr (other.0, keeps_kept o o' o'' other.1 kept, other.2)
 
-made_kept : (name file : List ℕ) (o o' o'' e e' : Option (List ℕ)) (s : ℕ) → Keeps o' o''
-    → Makes name file o o' e e' s → Makes name file o o'' e e' s
-made_kept name file o o' o'' e e' s kept (inl (text, inl made)) = inl (
+word_kept : (name file : List ℕ) (o o' o'' e e' : Option (List ℕ)) (s : ℕ) → Keeps o' o''
+    → MakesWord name file o o' e e' s → MakesWord name file o o'' e e' s
+word_kept name file o o' o'' e e' s kept (inl (text, inl made)) = inl (
   text,
   inl (record {
     bytes = made.bytes;
@@ -89,9 +88,20 @@ made_kept name file o o' o'' e e' s kept (inl (text, inl made)) = inl (
     wrote = written_kept made.bytes file o o' o'' made.between e' s kept made.wrote;
   }),
 )
-made_kept name file o o' o'' e e' s kept (inl (text, inr none)) =
+word_kept name file o o' o'' e e' s kept (inl (text, inr none)) =
     inl (text, inr (record { not = none.not; silent = keeps_kept o o' o'' none.silent kept; is = none.is }))
-made_kept name file o o' o'' e e' s kept (inr not) = inr (unread_kept name o o' o'' e e' s kept not)
+word_kept name file o o' o'' e e' s kept (inr not) = inr (unread_kept name o o' o'' e e' s kept not)
+
+made_kept : (name file : List ℕ) (o o' o'' e e' : Option (List ℕ)) (s : ℕ) → Keeps o' o''
+    → Makes name file o o' e e' s → Makes name file o o'' e e' s
+made_kept name file o o' o'' e e' s kept (inl its) = inl (record {
+  same = its.same;
+  other = its.other;
+  complained = its.complained;
+  silent = keeps_kept o o' o'' its.silent kept;
+  is = its.is;
+})
+made_kept name file o o' o'' e e' s kept (inr word) = inr (word_kept name file o o' o'' e e' s kept word)
 
 done_kept : (o o' o'' e e' : Option (List ℕ)) (s : ℕ) (command : Command) → Keeps o' o'' → IsDone command o o' e e' s → IsDone command o o'' e e' s
 done_kept o o' o'' e e' s Help kept done = (done.0, done.1, appends_kept o o' o'' _ done.2 kept, done.3)

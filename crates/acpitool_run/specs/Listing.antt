@@ -1,6 +1,8 @@
 -- What is printed of an image.
-use Rattle.std.specs.Prelude.{◌≡◌, ◌≢◌, ◌⊎◌, ℕ, ◌+◌, List, [], ◌∷◌, ◌++◌, Option, codes, slice_index}
+use Rattle.std.specs.Prelude.{◌≡◌, ◌≢◌, ◌⊎◌, ℕ, ◌+◌, ◌%◌, ◌^◌, List, [], ◌∷◌, ◌++◌, Option, codes, slice_index}
+use Rattle.std.specs.Fmt.{decimal}
 use Rattle.std.specs.Io.KnownBytes.{Keeps, Appends}
+use Rattle.acpi_layout.specs.FaultText.{wrong_at, text_of}
 use Rattle.acpi_layout.specs.declared.fault.ImageFault.TheVariants.{Memory}
 use Rattle.acpi_layout.specs.declared.located.Located.{Located}
 use Rattle.acpitool_run.specs.Image.{HasNoPointer, IsFirstPointer, IsFoundImage, table_lines}
@@ -14,6 +16,13 @@ IsNoImage base bytes (Old at revision) =
     HasNoPointer 36 bytes × IsFirstPointer 20 bytes at × (revision ≡ slice_index bytes (at + 15))
 IsNoImage base bytes (Wrong fault) = fault ≢ Memory → (tables : List Located) → ¬ IsFoundImage base bytes tables
 
+-- its text; the address of a pointer is one of 64 bits
+abbrev pub why : ℕ → NoImage → List ℕ
+why base NoPointer = codes "no RSDP at a multiple of 16 bytes"
+why base (Old at revision) =
+    wrong_at ((base + at) % 2 ^ 64) (codes "an RSDP of revision " ++ decimal revision ++ codes ", which has no XSDT")
+why base (Wrong fault) = text_of fault
+
 -- the bytes are an image, and a line for each of its tables was printed
 pub record ListedTables (base : ℕ) (bytes : List ℕ) (out out' err err' : Option (List ℕ)) (status : ℕ) : Type 0 where
   pub tables : List Located
@@ -26,8 +35,7 @@ pub record ListedTables (base : ℕ) (bytes : List ℕ) (out out' err err' : Opt
 pub record NotListed (file : List ℕ) (base : ℕ) (bytes : List ℕ) (out out' err err' : Option (List ℕ)) (status : ℕ) : Type 0 where
   pub fault : NoImage
   pub cause : IsNoImage base bytes fault
-  pub why : List ℕ
-  pub complained : Appends err err' (file ++ codes ": " ++ why ++ 10 ∷ [])
+  pub complained : Appends err err' (file ++ codes ": " ++ why base fault ++ 10 ∷ [])
   pub silent : Keeps out out'
   pub is : status ≡ 1
 

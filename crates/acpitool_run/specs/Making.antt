@@ -3,6 +3,7 @@ use Rattle.std.specs.Prelude.{◌≡◌, ◌≢◌, ◌⊎◌, ℕ, List, [], �
 use Rattle.std.specs.Fmt.{decimal}
 use Rattle.std.specs.Io.KnownBytes.{Keeps, Appends}
 use Rattle.acpi_forms.specs.Makes.{IsMade}
+use Rattle.acpi_make.specs.Fault.{text_of}
 use Rattle.acpi_make.specs.declared.fault.Fault.{Fault}
 use Rattle.acpi_make.specs.declared.fault.MakeError.TheVariants as errors
 use Rattle.acpi_make.specs.declared.make.Made.{Made}
@@ -33,8 +34,7 @@ pub record MadeText (name text bytes : List ℕ) (err err' : Option (List ℕ)) 
 pub record NotMade (name text : List ℕ) (err err' : Option (List ℕ)) : Type 0 where
   pub fault : Fault
   pub is : IsMade text (Err (errors.Fault fault))
-  pub why : List ℕ
-  pub complained : Appends err err' (name ++ codes ": " ++ why ++ 10 ∷ [])
+  pub complained : Appends err err' (name ++ codes ": " ++ text_of (errors.Fault fault) ++ 10 ∷ [])
 
 -- the bytes of a table, if there are any
 abbrev pub MadeOrNot : List ℕ → List ℕ → Option (List ℕ) → Option (List ℕ) → Option (List ℕ) → Type 0
@@ -77,7 +77,23 @@ abbrev pub MakesText : List ℕ → List ℕ → List ℕ
 MakesText name text file out out' err err' status =
     MadeFile name text file out out' err err' status ⊎ NoTable name text out out' err err' status
 
--- what comes of `make TEXT FILE`: the system says which text is in the file, or it can't be read and a line says why
+-- the system says which text is in a file, or it can't be read and a line says why
+abbrev pub MakesWord : List ℕ → List ℕ → Option (List ℕ) → Option (List ℕ) → Option (List ℕ) → Option (List ℕ) → ℕ → Type 0
+MakesWord name file out out' err err' status =
+    ((text : List ℕ) × MakesText name text file out out' err err' status) ⊎ NotRead name out out' err err' status
+
+abbrev pub same_line : List ℕ → List ℕ
+same_line name = name ++ codes ": the table would replace its text\n"
+
+-- the text and the table are to be one file, which isn't touched
+pub record IsItsText (name file : List ℕ) (out out' err err' : Option (List ℕ)) (status : ℕ) : Type 0 where
+  pub same : file ≡ name
+  pub other : file ≢ codes "-"
+  pub complained : Appends err err' (same_line name)
+  pub silent : Keeps out out'
+  pub is : status ≡ 1
+
+-- what comes of `make TEXT FILE`
 abbrev pub Makes : List ℕ → List ℕ → Option (List ℕ) → Option (List ℕ) → Option (List ℕ) → Option (List ℕ) → ℕ → Type 0
 Makes name file out out' err err' status =
-    ((text : List ℕ) × MakesText name text file out out' err err' status) ⊎ NotRead name out out' err err' status
+    IsItsText name file out out' err err' status ⊎ MakesWord name file out out' err err' status

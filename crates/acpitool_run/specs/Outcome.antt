@@ -2,6 +2,7 @@
 use Rattle.std.specs.Prelude.{◌≡◌, ◌≢◌, ◌⊎◌, ℕ, max, Bool, true, false, List, [], ◌∷◌, ◌++◌, Option, Ok, Err, codes}
 use Rattle.std.specs.Io.KnownBytes.{Appends}
 use Rattle.acpi_dump.specs.Dump.{is_dump, tables_of}
+use Rattle.acpi_dump.specs.Fault.{text_of}
 use Rattle.acpi_dump.specs.declared.fault.DumpFault.{DumpFault}
 use Rattle.acpi_text.specs.Comment.{comment}
 use Rattle.acpiread_run.specs.Fault.{line_of}
@@ -17,7 +18,7 @@ use Rattle.acpitool_run.specs.Text.{IsText, IsTextFault}
 pub data Outcome : Type 0 where
   shown : Bool → List ℕ → List ℕ → List ℕ → List ℕ → Outcome
   refused : List ℕ → List ℕ → Fault → Outcome
-  broken : List ℕ → List ℕ → List ℕ → Outcome
+  broken : List ℕ → List ℕ → DumpFault → Outcome
   unread : List ℕ → List ℕ → Outcome
 
 -- the lines before a text: its name as a comment, if it is one of several
@@ -29,28 +30,28 @@ heading false name = []
 abbrev pub output : Outcome → List ℕ
 output (shown several name bytes text after) = heading several name ++ text ++ after
 output (refused name bytes fault) = []
-output (broken name dump why) = []
+output (broken name dump fault) = []
 output (unread name why) = []
 
 -- a line on standard error
 abbrev pub complaint : Outcome → List ℕ
 complaint (shown several name bytes text after) = []
 complaint (refused name bytes fault) = name ++ codes ": " ++ line_of fault ++ 10 ∷ []
-complaint (broken name dump why) = name ++ codes ": " ++ why ++ 10 ∷ []
+complaint (broken name dump fault) = name ++ codes ": " ++ text_of fault ++ 10 ∷ []
 complaint (unread name why) = name ++ codes ": " ++ why ++ 10 ∷ []
 
 abbrev pub status : Outcome → ℕ
 status (shown several name bytes text after) = 0
 status (refused name bytes fault) = 1
-status (broken name dump why) = 1
+status (broken name dump fault) = 1
 status (unread name why) = 2
 
 -- The text shows the bytes, and a definition block's terms follow, in which names take the stated numbers of arguments. The fault
--- is one of the bytes, and a broken dump has no tables.
+-- is one of the bytes, or the first of a dump.
 abbrev pub IsTrueOutcome : List (List ℕ × ℕ) → Outcome → Type 0
 IsTrueOutcome stated (shown several name bytes text after) = IsText bytes text × IsAfter stated bytes after
 IsTrueOutcome stated (refused name bytes fault) = IsTextFault bytes fault
-IsTrueOutcome stated (broken name dump why) = (fault : DumpFault) × (tables_of dump ≡ Err fault)
+IsTrueOutcome stated (broken name dump fault) = tables_of dump ≡ Err fault
 IsTrueOutcome stated (unread name why) = Unit {0}
 
 -- ---- one after another
@@ -86,7 +87,7 @@ pub record Printed (stated : List (List ℕ × ℕ)) (outcomes : List Outcome)
 abbrev pub HasBytes : List ℕ → Outcome → Type 0
 HasBytes bytes (shown several name its text after) = its ≡ bytes
 HasBytes bytes (refused name its fault) = its ≡ bytes
-HasBytes bytes (broken name dump why) = ⊥
+HasBytes bytes (broken name dump fault) = ⊥
 HasBytes bytes (unread name why) = ⊥
 
 -- the outcomes are those of these tables, in order
@@ -99,7 +100,7 @@ HaveBytes _ _ = ⊥
 abbrev pub IsNamed : Bool → List ℕ → Outcome → Type 0
 IsNamed several name (shown headed its bytes text after) = (headed ≡ several) × (its ≡ name)
 IsNamed several name (refused its bytes fault) = its ≡ name
-IsNamed several name (broken its dump why) = its ≡ name
+IsNamed several name (broken its dump fault) = its ≡ name
 IsNamed several name (unread its why) = its ≡ name
 
 abbrev pub AreNamed : Bool → List ℕ → List Outcome → Type 0
@@ -115,7 +116,7 @@ pub record AreOfTables (several : Bool) (name : List ℕ) (tables : List (List �
 abbrev pub AreOfDump : List ℕ → List ℕ → List Outcome → Type 0
 AreOfDump name dump outcomes =
     ((tables : List (List ℕ)) × (tables_of dump ≡ Ok tables) × AreOfTables true name tables outcomes)
-    ⊎ ((why : List ℕ) × (outcomes ≡ broken name dump why ∷ []))
+    ⊎ ((fault : DumpFault) × (outcomes ≡ broken name dump fault ∷ []))
 
 -- other bytes have one outcome
 abbrev pub AreOfBytesBy : Bool → Bool → List ℕ → List ℕ → List Outcome → Type 0

@@ -26,9 +26,10 @@ hexadecimal; it is 0 if there is none. An RSDP of revision 0 or 1 has no XSDT, a
 
 make reads a text that show prints, changed or written by hand, and writes the bytes of its table to FILE.
 Question marks are worked out: the length, the checksum, and how long, how many and of which type structures
-are. Other numbers are written as they are, and a line says which would be right. As TEXT, - is standard input,
-and as FILE, standard output. A regular FILE is replaced as a whole by FILE.part, which may not be there before.
-A device, a pipe or a link stays what it is, and takes the bytes.
+are. Other numbers are written as they are; a line says of a length, a count or a checksum which would be
+right. As TEXT, - is standard input, and as FILE, standard output. TEXT and FILE may not be the same file. A
+regular FILE is replaced as a whole by FILE.part, which may not be there before. A device, a pipe or a link
+stays what it is, and takes the bytes.
 
 template prints such a text of a table: all fields with zeros, and one structure of each kind.
 

@@ -8,7 +8,7 @@ ghost use Rattle.acpi_layout.specs.Found.{IsImage};
 ghost use Rattle.acpi_layout.specs.declared.fault.ImageFault.TheVariants.{Memory};
 ghost use Rattle.acpi_layout.specs.declared.located.Located.{Located};
 ghost use Rattle.acpitool_run.specs.Image.{IsPointerAt, IsFirstPointer, HasNoPointer, IsFoundImage};
-ghost use Rattle.acpitool_run.specs.Listing.{IsNoImage};
+ghost use Rattle.acpitool_run.specs.Listing.{IsNoImage, why};
 ghost use Rattle.acpitool_run.specs.Image.{revision_offset, revision_of, table_line, table_lines};
 
 use crate::check::check_pointer;
@@ -197,7 +197,9 @@ pub fn find_tables(alloc: Global, base: u64, bytes: &[u8]) -> Result<Vec<Located
 }
 
 /// Returns why there is no image that begins at the physical address `base`, as text.
-pub fn why(alloc: Global, base: u64, fault: &NoImage) -> Result<String, AllocError> {
+pub fn why(alloc: Global, base: u64, fault: &NoImage) -> Result<String, AllocError>
+    ensures { IfOk result (λ text. string_bytes text ≡ why base fault.now) }
+{
     match fault {
         NoImage::NoPointer => format!(in alloc; "no RSDP at a multiple of 16 bytes"),
         NoImage::Old { at, revision } => {

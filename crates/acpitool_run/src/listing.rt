@@ -2,7 +2,7 @@
 
 ghost use Rattle.std.specs.Prelude.{◌≡◌, ℕ, List, [], ◌∷◌, ◌++◌, codes, IfOk, OnOk};
 ghost use Rattle.std.specs.Io.KnownBytes.{Appends};
-ghost use Rattle.acpitool_run.specs.Listing.{Listed, ListedBytes};
+ghost use Rattle.acpitool_run.specs.Listing.{why, Listed, ListedBytes};
 
 use crate::complaint::complain;
 use crate::files::read_file;
@@ -22,8 +22,8 @@ fn tell_no_image<E: Write>(
     err: &mut E,
 ) -> io::Result<u8>
     ensures is { IfOk result (λ status. status ≡ 1) }
-    ensures line { OnOk result ((why : List ℕ) × Appends (E.contents err.old) (E.contents err.new)
-        (file.now ++ codes ": " ++ why ++ 10 ∷ [])) }
+    ensures line { OnOk result (Appends (E.contents err.old) (E.contents err.new)
+        (file.now ++ codes ": " ++ why base fault.now ++ 10 ∷ [])) }
 {
     let why = why(alloc, base, fault)?;
     complain(alloc, file, &why, err)?;

@@ -3,7 +3,8 @@
 ghost use Rattle.std.specs.Prelude.{◌⊎◌, IfOk, OnOk, MatchResult};
 ghost use Rattle.std.specs.Option.{option_map};
 ghost use Rattle.std.specs.Io.KnownBytes.{Appends};
-ghost use Rattle.acpitool_run.specs.Making.{note, notes, MadeOrNot, Saved, NotSaved, IsWritten, MakesText, Makes};
+ghost use Rattle.acpitool_run.specs.Making.{note, notes, same_line, MadeOrNot, Saved, NotSaved};
+ghost use Rattle.acpitool_run.specs.Making.{IsWritten, MakesText, MakesWord, Makes};
 
 use crate::complaint::complain;
 use crate::files::{read_word, write_file};
@@ -64,7 +65,9 @@ pub fn make_text<E: Write>(
 // Returns why a file can't be written. Of all files only FILE.part has to be new.
 fn why_unwritten(alloc: Global, file: &str, error: &io::Error) -> Result<String, AllocError> {
     match error.kind() {
-        ErrorKind::AlreadyExists => format!(in alloc; "{file}.part exists"),
+        ErrorKind::AlreadyExists => {
+            format!(in alloc; "{file}.part exists; remove it if no other run is writing it")
+        }
         _ => format!(in alloc; "{error}"),
     }
 }
@@ -144,7 +147,35 @@ fn make_bytes<R: Files, O: Write, E: Write>(
     }
 }
 
-/// Makes the text in a file, or on standard input, into a table, and writes it to another file, or to standard output.
+// Makes the text in a file, or on standard input, into a table.
+fn make_word<R: Files + Input, O: Write, E: Write>(
+    rt: &R,
+    alloc: Global,
+    name: &str,
+    file: &str,
+    out: &mut O,
+    err: &mut E,
+) -> io::Result<u8>
+    ensures { IfOk result (λ status. MakesWord name.now file.now (O.contents out.old) (O.contents out.new)
+        (E.contents err.old) (E.contents err.new) status) }
+{
+    match read_word(rt, alloc, name) {
+        Ok(text) => make_bytes(rt, alloc, name, &text, file, out, err),
+        Err(error) => tell_unread(alloc, name, &error, err),
+    }
+}
+
+// Prints that a table would replace its text, and returns 1.
+fn tell_same<E: Write>(name: &str, err: &mut E) -> io::Result<u8>
+    ensures { IfOk result (λ status. (status ≡ 1)
+        × Appends (E.contents err.old) (E.contents err.new) (same_line name.now)) }
+{
+    writeln!(err, "{name}: the table would replace its text")?;
+    Ok(1)
+}
+
+/// Makes the text in a file, or on standard input, into a table, and writes it to another file, or to standard output. A table
+/// doesn't replace its text: two words for one file are refused if they are the same, and aren't `-`.
 pub fn make_file<R: Files + Input, O: Write, E: Write>(
     rt: &R,
     alloc: Global,
@@ -156,8 +187,8 @@ pub fn make_file<R: Files + Input, O: Write, E: Write>(
     ensures { IfOk result (λ status. Makes name.now file.now (O.contents out.old) (O.contents out.new)
         (E.contents err.old) (E.contents err.new) status) }
 {
-    match read_word(rt, alloc, name) {
-        Ok(text) => make_bytes(rt, alloc, name, &text, file, out, err),
-        Err(error) => tell_unread(alloc, name, &error, err),
+    if file == name && file != "-" {
+        return tell_same(name, err);
     }
+    make_word(rt, alloc, name, file, out, err)
 }

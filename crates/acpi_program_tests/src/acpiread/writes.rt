@@ -1,6 +1,7 @@
 //! Output that can't be written, words without a file that can be read, and the deepest terms.
 
 use crate::acpiread::DSDT;
+use crate::words::owned;
 use acpi_read::report::push_number;
 use acpi_vectors::{equal, same};
 use acpiread_run::program::{run, start};
@@ -68,14 +69,6 @@ fn ends(
     )?;
     same(&to_out.taken, out.as_bytes())?;
     same(&to_err.taken, err.as_bytes())
-}
-
-fn owned(rt: &impl AllocGlobal, words: &[&str]) -> io::Result<Vec<String>> {
-    let mut owned = Vec::new(rt.alloc());
-    for word in words {
-        owned.push(String::from_str(rt.alloc(), word)?)?;
-    }
-    Ok(owned)
 }
 
 // Fails unless a run prints these lines: a report for status 0, or else a fault. For each byte of the lines that can't be written,

@@ -1,6 +1,7 @@
 //! Files and folders that are shown, files that can't be read, and files that aren't written.
 
-use crate::acpitool::program::{TABLE, TEXT, ends, have_lines, owned, write};
+use crate::acpitool::program::{TABLE, TEXT, ends, have_lines, write};
+use crate::words::owned;
 use acpi_vectors::{equal, same};
 use acpitool_run::program::run;
 use std::fs;
@@ -67,7 +68,7 @@ fn not_made(rt: HostRuntime) -> Result<(), Fail> {
     let text = "  Signature: \"OEMX\"\n\n  Length: 0\n";
     write(&rt, "text", text.as_bytes())?;
     write(&rt, "kept", &TABLE)?;
-    let line = "text: line 3: the second digit of a byte expected\n";
+    let line = "text: line 3: expected the second digit of a byte\n";
     ends(&rt, &["make", "text", "kept"], 1, &[], &[line])?;
     has(&rt, "kept", &TABLE)
 }
@@ -98,9 +99,18 @@ fn made_on_output(rt: HostRuntime) -> Result<(), Fail> {
 fn parts_are_kept(rt: HostRuntime) -> Result<(), Fail> {
     write(&rt, "lines", TEXT.as_bytes())?;
     write(&rt, "table.part", b"part")?;
-    let line = "table: table.part exists\n";
+    let line = "table: table.part exists; remove it if no other run is writing it\n";
     ends(&rt, &["make", "lines", "table"], 1, &[], &[line])?;
     has(&rt, "table.part", b"part")
+}
+
+// A table doesn't replace its text.
+#[test]
+fn texts_are_kept(rt: HostRuntime) -> Result<(), Fail> {
+    write(&rt, "same", TEXT.as_bytes())?;
+    let line = "same: the table would replace its text\n";
+    ends(&rt, &["make", "same", "same"], 1, &[], &[line])?;
+    has(&rt, "same", TEXT.as_bytes())
 }
 
 // A link stays a link, and the file that it names takes the table.

@@ -1,9 +1,10 @@
 //! Runs of the program: the status and the printed texts. Tests run in a new folder, so their files have short names.
 
+use crate::words::owned;
 use acpi_vectors::{equal, same};
 use acpitool_run::program::run;
+use std::fs;
 use std::test::Fail;
-use std::{fs, io};
 
 /// A header without structures, of a signature that isn't known.
 pub const TABLE: [u8; 36] =
@@ -27,15 +28,6 @@ Unknown table
 pub fn write(rt: &HostRuntime, name: &str, bytes: &[u8]) -> Result<(), Fail> {
     fs::write(rt, name, bytes)?;
     Ok(())
-}
-
-/// The words in the type that a run takes.
-pub fn owned(rt: &HostRuntime, words: &[&str]) -> io::Result<Vec<String>> {
-    let mut owned = Vec::new(rt.alloc());
-    for word in words {
-        owned.push(String::from_str(rt.alloc(), word)?)?;
-    }
-    Ok(owned)
 }
 
 /// Fails unless a run on the words has this status and prints these texts, each in pieces.

@@ -1,6 +1,7 @@
 //! Output that can't be written.
 
-use crate::acpitool::program::{TABLE, TEXT, owned, write};
+use crate::acpitool::program::{TABLE, TEXT, write};
+use crate::words::owned;
 use acpi_vectors::equal;
 use acpitool_run::program::run;
 use std::io;

@@ -54,9 +54,23 @@ fn kind(signature: &[u8; 4], structure: &[u8]) -> Option<usize> {
     }
 }
 
+// Where the structures of a table begin: at a fixed offset, or where its field says.
+fn begin(sample: &Sample, bytes: &[u8]) -> usize {
+    if sample.has_pieces() {
+        return sample.start;
+    }
+    let first = sample.first;
+    word(bytes, first.wrapping_add(2), first.wrapping_add(3))
+        .wrapping_mul(0x1_0000)
+        .wrapping_add(word(bytes, first, first.wrapping_add(1)))
+}
+
 // Fails unless each structure has its length and its type, and they follow each other from the first on up to the table's end.
 fn are_joined(sample: &Sample, table: &Table, pieces: &[Piece<'_>]) -> Result<(), Fail> {
-    let mut at = sample.start;
+    let mut at = begin(sample, table.bytes());
+    if at == 0 {
+        return equal(&pieces.len(), &0);
+    }
     for piece in pieces {
         equal(&piece.offset, &at)?;
         equal(&piece.bytes.is_empty(), &false)?;
@@ -75,7 +89,7 @@ pub fn joined<'a>(
     table: &Table<'a>,
 ) -> Result<Option<Vec<Piece<'a>>>, Fail> {
     let bytes = table.bytes();
-    match table.pieces(alloc) {
+    match table.structures(alloc) {
         Ok(pieces) => {
             let signature = sample.signature;
             if bytes.starts_with(signature) {
@@ -93,18 +107,34 @@ pub fn joined<'a>(
     }
 }
 
+// Fails unless the report has a line for the header and one for each structure. If there are no pieces, it has the first line.
+fn are_reported(
+    alloc: Global,
+    sample: &Sample,
+    table: &Table,
+    found: Option<usize>,
+) -> Result<(), Fail> {
+    let report = report_table(alloc, table);
+    let lines = match found {
+        _ if !sample.has_pieces() && table.bytes().starts_with(sample.signature) => 1,
+        Some(count) => count.wrapping_add(1),
+        None => return equal(&report.is_err(), &true),
+    };
+    equal(&report?.lines().count(), &lines)
+}
+
 /// The number of structures, if bytes are a table and its structures can be found. They are its bytes from their offsets on, and
-/// the report has a line for each. If they can't be found, there is no report.
+/// the report has a line for each. If they can't be found, there is no report. The report of a table that `pieces` doesn't walk
+/// has one line.
 pub fn reported(alloc: Global, sample: &Sample, bytes: &[u8]) -> Result<Option<usize>, Fail> {
     let Ok(table) = Table::check(bytes) else {
         return Ok(None);
     };
-    let report = report_table(alloc, &table);
     let Some(pieces) = joined(alloc, sample, &table)? else {
-        equal(&report.is_err(), &true)?;
+        are_reported(alloc, sample, &table, None)?;
         return Ok(None);
     };
-    equal(&report?.lines().count(), &pieces.len().wrapping_add(1))?;
+    are_reported(alloc, sample, &table, Some(pieces.len()))?;
     for piece in &pieces {
         if piece.offset <= bytes.len() {
             let rest = &bytes[piece.offset..];

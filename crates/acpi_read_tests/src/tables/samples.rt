@@ -1,21 +1,29 @@
-//! A table of each signature that has structures. `cases/tables.cases` has tables with the same structures, and their reports.
+//! A table of each signature that has structures. `cases/tables.cases` and `cases/structures.cases` have tables with the same
+//! structures, and their reports.
 
 use acpi_base::error::R;
 use acpi_vectors::table::table;
 use std::alloc::Global;
 
-/// A table: its bytes after the header; the offset of the field with the number of its structures, or 0; the offsets of its first
-/// structure, of its fields and structures, and of its end.
+/// A table: its bytes after the header; the offset of the field with the number of its structures, or 0; the offset of the field
+/// with the offset of its first structure, if `pieces` doesn't walk the table, or 0; the offsets of its first structure, of its
+/// fields and structures, and of its end.
 #[derive(Clone, Copy)]
 pub struct Sample {
     pub signature: &'static [u8; 4],
     pub body: &'static [u8],
     pub count: usize,
+    pub first: usize,
     pub start: usize,
     pub seams: &'static [usize],
 }
 
 impl Sample {
+    /// Whether `pieces` walks the table. Otherwise only `structures` does.
+    pub fn has_pieces(&self) -> bool {
+        self.first == 0
+    }
+
     /// The whole table.
     pub fn bytes(&self, alloc: Global) -> R<Vec<u8>> {
         table(alloc, self.signature, 1, &[self.body])
@@ -32,6 +40,7 @@ pub fn nth(index: usize) -> Sample {
             signature: b"XSDT",
             body: b"\x11\x12\x13\x14\x15\x16\x17\x18\0\0\0\0\0\0\0\0",
             count: 0,
+            first: 0,
             start: 36,
             seams: &[36, 44, 52],
         },
@@ -40,6 +49,7 @@ pub fn nth(index: usize) -> Sample {
             body: b"\0\0\0\0\0\0\0\0\x11\x12\x13\x14\x15\x16\x17\x18\x21\x22\x31\x32\0\0\0\0\
 \xff\xff\xff\xff\xff\xff\xff\xff\xff\xff\xff\xff\0\0\0\0",
             count: 0,
+            first: 0,
             start: 44,
             seams: &[36, 44, 60, 76],
         },
@@ -48,6 +58,7 @@ pub fn nth(index: usize) -> Sample {
             signature: b"APIC",
             body: b"\0\0\xe0\xfe\0\0\0\0\x01\x0c\x05\0\0\0\xc0\xfe\x18\0\0\0\0\x08\x07\x06\x01\0\0\0\xfe\x02",
             count: 0,
+            first: 0,
             start: 44,
             seams: &[36, 44, 56, 64, 66],
         },
@@ -66,6 +77,7 @@ pub fn nth(index: usize) -> Sample {
 \x06\0\0\0\0\0\x02\0\x01\0\0\0\x02\0\0\0\0\0\0\0\0\0\0\0\x11\x12\0\0\
 \x21\x22\x23\x24\x25\x26\x27\x28\x29\x2a\x2b\x2c\x2d\x2e\x2f\x30\x31\x32\x33\x34",
             count: 36,
+            first: 0,
             start: 40,
             seams: &[36, 40, 96, 140, 204, 296, 344],
         },
@@ -76,6 +88,7 @@ pub fn nth(index: usize) -> Sample {
 \x21\x22\x23\x24\x25\x26\x27\x28\0\0\0\0\x05\0\0\0\0\0\0\0\0\0\0\0\
 \x07\x14\0\0\0\0\0\0\x42\x37\x58\xde\x01\0\0\0\x42\x37\x58\xde",
             count: 0,
+            first: 0,
             start: 48,
             seams: &[36, 48, 88, 108],
         },
@@ -86,6 +99,7 @@ pub fn nth(index: usize) -> Sample {
 \x03\0\x11\0\0\x01\xff\xfe\x01\xef\xcd\xab\x90\x78\x56\x34\x12\
 \x03\0\x10\0\0\x01\xff\xfe\x01\xef\xcd\xab\x90\x78\x56\x34",
             count: 0,
+            first: 0,
             start: 36,
             seams: &[36, 68, 85, 101],
         },
@@ -95,6 +109,7 @@ pub fn nth(index: usize) -> Sample {
             body: b"\x01\x1c\0\0\x41\0\0\0\0\0\0\0\0\x80\0\0\0\0\0\0\0\0\x40\0\0\0\0\0\
 \0\x18\0\0\x02\0\0\0\0\0\0\0\x05\0\0\0\x01\0\0\0\x24\0\0\0",
             count: 0,
+            first: 0,
             start: 36,
             seams: &[36, 64, 88],
         },
@@ -104,6 +119,7 @@ pub fn nth(index: usize) -> Sample {
             body: b"\0\0\0\0\x80\x96\x98\0\0\0\0\0\x03\0\0\0\x38\0\0\0\0\0\x10\0\x01\0\x07\0foobar\0\0\
 \x01\0\x0a\0\x01\0\0\x06\x05\x04\xff\xff\x14\0\x01\0\x02\0\x03\0\0\0\x38\0\0\0\x48\0\0\0",
             count: 48,
+            first: 0,
             start: 56,
             seams: &[36, 56, 72, 82, 102],
         },
@@ -113,6 +129,7 @@ pub fn nth(index: usize) -> Sample {
             body: b"\x02\0\x30\0\0\0\0\0\0\0\0\0\x03\0\x10\0\x01\x02\xf6\xfe\0\0\0\0\0\0\0\0\
 \x01\0\x18\0\x25\x03\0\0\x01\x02\x07\x08\x25\x03\xff\xff\x30\0\0\0\0\0\0\0",
             count: 36,
+            first: 0,
             start: 48,
             seams: &[36, 48, 64, 88],
         },
@@ -125,6 +142,7 @@ pub fn nth(index: usize) -> Sample {
 \x01\x01\x38\0\x01\0\x01\0\x03\0\0\0\x10\0\x02\0\
 \x01\0\0\0\x02\0\0\0\x0a\0\0\0\x30\0\0\0\x03\0\0\0\x02\0\0\0\x03\0\0\0\x05\0\0\0\x30\0\0\0\x04\0\0\0",
             count: 36,
+            first: 0,
             start: 48,
             seams: &[36, 48, 112, 168],
         },
@@ -135,6 +153,7 @@ pub fn nth(index: usize) -> Sample {
 \x01\0\x30\0\0\x40\0\x04\x21\x22\x23\x24\x25\x26\x27\x28\x01\x02\x03\x04\x05\x06\x07\x08\0\0\x01\0\
 \0\0\x14\0\0\0\0\0\x31\x32\x33\x34\0\0\0\0\0\0\0\0",
             count: 36,
+            first: 0,
             start: 40,
             seams: &[36, 40, 68, 116],
         },
@@ -145,6 +164,7 @@ pub fn nth(index: usize) -> Sample {
 \0\0\0\0\0\0\0\0\0\0\0\0\0\0\0\0\0\0\0\0\
 \x02\0\0\0\x22\0\0\0\x78\x56\x34\x12\0\0\0\0\x78\x56\x34\x12\xef\xcd\xab\x90\x23\x11\x40\0\0\0\x01\0\x11\x12",
             count: 0,
+            first: 0,
             start: 40,
             seams: &[36, 40, 80, 114],
         },
@@ -157,6 +177,7 @@ pub fn nth(index: usize) -> Sample {
 \0\0\0\0\0\0\0\0\0\0\0\0\0\0\0\0\0\0\0\0\0\0\0\0\0\0\0\0\0\0\0\0\0\0\0\0\0\0\0\0\
 \x01\x1c\0\0\x21\x22\x23\x24\x25\x26\x27\x28\x31\x32\x33\x34\x35\x36\x37\x38\x05\0\0\0\x01\0\0\0",
             count: 88,
+            first: 92,
             start: 104,
             seams: &[36, 104, 164, 192],
         },
@@ -167,6 +188,7 @@ pub fn nth(index: usize) -> Sample {
 \0\x28\0\x01\x02\0\x26\0\0\0\0\0\0\x80\x03\0\0\0\x16\0\x22\0\0\x20\0\x03\0\0\0\x09\0\0\0\0\0\x10\0\0.\0\
 \0\x18\0\0\x02\0\x16\0\0\0\0\0\0\x80\0\0\0\0\0\0\0\0.\0",
             count: 40,
+            first: 36,
             start: 44,
             seams: &[36, 44, 84, 108],
         },
@@ -178,6 +200,7 @@ pub fn nth(index: usize) -> Sample {
 \x05\x28\0\x02\x01\0\0\0\0\0\0\0\0\0\0\0\x11\x12\x13\x14\x15\x16\x17\x18\x21\0\0\0\x30\0\0\0\
 \x31\x32\x33\x34\x35\x36\x37\x38",
             count: 36,
+            first: 40,
             start: 48,
             seams: &[36, 48, 72, 112],
         },

@@ -84,7 +84,6 @@ const ENTRIES: Walk = Walk {
     kind: Place::Nowhere,
     count: Place::Nowhere,
     first: Place::Nowhere,
-    short: false,
 };
 
 // Parts of inner structures stand a level below their name, and offsets count from the beginning of the inner structure.

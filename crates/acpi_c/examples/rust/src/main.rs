@@ -1,9 +1,10 @@
 //! Checks the tables in a folder and an image of tables, and makes a MADT from a text, as `examples/check.c` does.
 //! acpi_check FOLDER IMAGE BASE RSDP, with the physical addresses of the image's first byte and of its RSDP in hexadecimal.
 
-#[path = "../../../acpi.rs"]
-mod acpi;
+#[path = "../../../hyssop.rs"]
+mod hyssop;
 
+use std::ffi::CStr;
 use std::{env, fs, io, process};
 
 /// A MADT (ACPI 6.5, 5.2.12) of one processor, without its length, its checksum and the length of its structure.
@@ -36,21 +37,19 @@ fn outcome<T>(number: u32, place: u64, fine: T) -> Result<T, Fault> {
 
 /// The words of the number of a fault.
 fn words(number: u32) -> String {
-    let mut out = [0; 128];
-    let mut size = 0;
-    unsafe { acpi::acpi_fault_name(number, out.as_mut_ptr(), out.len(), &mut size) };
-    String::from_utf8_lossy(&out[..size.min(out.len())]).into_owned()
+    let text = unsafe { CStr::from_ptr(hyssop::hyssop_fault_words(number)) };
+    text.to_string_lossy().into_owned()
 }
 
 fn check_table(bytes: &[u8]) -> Result<(), Fault> {
     let mut place = 0;
-    let number = unsafe { acpi::acpi_check_table(bytes.as_ptr(), bytes.len(), &mut place) };
+    let number = unsafe { hyssop::hyssop_check_table(bytes.as_ptr(), bytes.len(), &mut place) };
     outcome(number, place, ())
 }
 
 fn check_image(bytes: &[u8], base: u64, rsdp: u64) -> Result<(), Fault> {
     let mut place = 0;
-    let number = unsafe { acpi::acpi_check_image(bytes.as_ptr(), bytes.len(), base, rsdp, &mut place) };
+    let number = unsafe { hyssop::hyssop_check_image(bytes.as_ptr(), bytes.len(), base, rsdp, &mut place) };
     outcome(number, place, ())
 }
 
@@ -60,8 +59,9 @@ fn make(text: &str) -> Result<Vec<u8>, Fault> {
     loop {
         let (mut size, mut place) = (0, 0);
         let (out, room) = (table.as_mut_ptr(), table.len());
-        let number = unsafe { acpi::acpi_make(text.as_ptr(), text.len(), out, room, &mut size, &mut place) };
-        if number != acpi::fault::BUFFER {
+        let number = unsafe { hyssop::hyssop_make(text.as_ptr(), text.len(), out, room, &mut size, &mut place) };
+        if number != hyssop::fault::BUFFER {
+            table.truncate(size);
             return outcome(number, place, table);
         }
         table.resize(size, 0);
@@ -85,7 +85,7 @@ fn main() -> io::Result<()> {
     let [folder, image, base, rsdp] = &given[..] else {
         process::exit(2);
     };
-    if unsafe { acpi::acpi_version() } != acpi::VERSION {
+    if unsafe { hyssop::hyssop_version() } != hyssop::VERSION {
         process::exit(2);
     }
     let address = |text: &str| u64::from_str_radix(text, 16).map_err(io::Error::other);

@@ -6,5 +6,7 @@ returns c = record {
   structures = λ bytes. fault_leaves _ _;
   texts = λ bytes. fault_leaves _ _;
   tables = λ text. fault_leaves _ _;
+  notes = λ text. fault_leaves _ _;
   templates = λ signature. fault_leaves _ _;
+  names = λ number. fault_leaves _ _;
 }

@@ -6,5 +6,7 @@ returns c = record {
   structures = λ bytes. fine_is_given _ _;
   texts = λ bytes. fine_is_given _ _;
   tables = λ text. fine_is_given _ _;
+  notes = λ text. fine_is_given _ _;
   templates = λ signature. fine_is_given _ _;
+  names = λ number. fine_is_given _ _;
 }

@@ -1,6 +1,6 @@
 //! Matrices of a locality.
 
-use crate::hmat::{holds, locality, table};
+use crate::matrices::hmat::{holds, locality, table};
 use acpi_tables::hmat::SystemLocality;
 use acpi_tables::{Error, R};
 use acpi_vectors::{refuses, writes};

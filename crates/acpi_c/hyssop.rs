@@ -1,19 +1,26 @@
-//! Declarations of `libacpi_c.a` for Rust. `include/acpi.h` says what each function does, and what its caller owes.
+//! Declarations of `libhyssop.a` for Rust, of every edition from Rust 1.82 on. `include/hyssop.h` says what each function does, and
+//! what its caller owes.
 #![allow(dead_code)]
 
-/// `acpi_version()` returns this, if the library fits these declarations.
-pub const VERSION: u32 = 1;
+use std::ffi::c_char;
+
+/// `hyssop_version()` returns this, if the library fits these declarations.
+pub const VERSION: u32 = 2;
 
 /// The type of a structure, if the structures of its table have none.
 pub const NO_KIND: usize = usize::MAX;
+
+/// The result of a call that found no fault.
+pub const FINE: u32 = 0;
 
 /// The numbers of faults.
 pub mod fault {
     pub const MEMORY: u32 = 1;
     pub const BUFFER: u32 = 2;
-    pub const NO_FAULT: u32 = 3;
+    pub const UNKNOWN_NUMBER: u32 = 3;
     pub const ARITIES: u32 = 4;
     pub const SIGNATURE: u32 = 5;
+    pub const NULL: u32 = 6;
     pub const SHORT_HEADER: u32 = 16;
     pub const TABLE_LENGTH: u32 = 17;
     pub const SUM: u32 = 18;
@@ -62,33 +69,42 @@ pub struct Structure {
     pub size: usize,
 }
 
-extern "C" {
-    pub fn acpi_version() -> u32;
-    pub fn acpi_fault_name(number: u32, out: *mut u8, out_size: usize, size: *mut usize) -> u32;
-    pub fn acpi_check_table(bytes: *const u8, bytes_size: usize, place: *mut u64) -> u32;
-    pub fn acpi_table_structures(
+/// A number that a text states wrongly: the offset and the width of its field in bytes, and the number that would be right.
+#[repr(C)]
+#[derive(Clone, Copy, Debug, Default, PartialEq, Eq)]
+pub struct Note {
+    pub offset: usize,
+    pub width: usize,
+    pub value: usize,
+}
+
+unsafe extern "C" {
+    pub fn hyssop_version() -> u32;
+    pub fn hyssop_fault_words(number: u32) -> *const c_char;
+    pub fn hyssop_check_table(bytes: *const u8, bytes_size: usize, place: *mut u64) -> u32;
+    pub fn hyssop_table_structures(
         bytes: *const u8,
         bytes_size: usize,
         out: *mut Structure,
-        out_size: usize,
-        size: *mut usize,
+        out_count: usize,
+        count: *mut usize,
         place: *mut u64,
     ) -> u32;
-    pub fn acpi_check_aml(
+    pub fn hyssop_check_aml(
         bytes: *const u8,
         bytes_size: usize,
         arities: *const u8,
         arities_size: usize,
         place: *mut u64,
     ) -> u32;
-    pub fn acpi_check_image(
+    pub fn hyssop_check_image(
         bytes: *const u8,
         bytes_size: usize,
         base: u64,
         rsdp: u64,
         place: *mut u64,
     ) -> u32;
-    pub fn acpi_show(
+    pub fn hyssop_show(
         bytes: *const u8,
         bytes_size: usize,
         out: *mut u8,
@@ -96,7 +112,7 @@ extern "C" {
         size: *mut usize,
         place: *mut u64,
     ) -> u32;
-    pub fn acpi_make(
+    pub fn hyssop_make(
         text: *const u8,
         text_size: usize,
         out: *mut u8,
@@ -104,7 +120,15 @@ extern "C" {
         size: *mut usize,
         place: *mut u64,
     ) -> u32;
-    pub fn acpi_template(
+    pub fn hyssop_make_notes(
+        text: *const u8,
+        text_size: usize,
+        out: *mut Note,
+        out_count: usize,
+        count: *mut usize,
+        place: *mut u64,
+    ) -> u32;
+    pub fn hyssop_template(
         signature: *const u8,
         signature_size: usize,
         out: *mut u8,

@@ -1,7 +1,7 @@
 //! A matrix with more than 255 rows and columns, in a table of more than 65,535 bytes.
 
-use crate::hmat::{PROXIMITY, locality, proximity, table};
-use crate::localities::{Value, takes};
+use crate::matrices::hmat::{PROXIMITY, locality, proximity, table};
+use crate::matrices::localities::{Value, takes};
 use acpi_tables::R;
 use acpi_tables::hmat::{HMAT, SystemLocality};
 use acpi_vectors::table::{patched, stands};

@@ -1,6 +1,6 @@
 //! Memory side caches.
 
-use crate::hmat::table;
+use crate::matrices::hmat::table;
 use acpi_tables::hmat::{Associativity, CacheLevel, HMAT, MemorySideCache, WritePolicy};
 use acpi_tables::{Error, R};
 use acpi_vectors::table::many;
