@@ -63,6 +63,8 @@ copy_sources() {
 # on. So each crate is proved beside copies of those that it stands on, with links to their libraries, and its own work is moved
 # there and back.
 begin_folder() {
+    # A run that was killed left its folder.
+    end_folder
     mkdir -p "$folder/crates"
     : >"$folder/crates.txt"
     for below in $(crates_below "$crate" | sed 's/:.*//'); do
@@ -76,7 +78,7 @@ begin_folder() {
 }
 
 end_folder() {
-    [ ! -d "$folder/crates/$crate/out" ] || mv "$folder/crates/$crate/out" "crates/$crate"
+    [ ! -d "$folder/crates/$crate/out" ] || [ -d "crates/$crate/out" ] || mv "$folder/crates/$crate/out" "crates/$crate"
     rm -rf "$folder"
 }
 
