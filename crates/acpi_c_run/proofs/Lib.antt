@@ -1,4 +1,5 @@
 mod Spaces
 mod Found
+mod Noted
 mod Texts
 pub mod Numbers

@@ -1,6 +1,6 @@
 //! Texts that are made into tables.
 
-ghost use Rattle.std.specs.Prelude.{◌⊎◌, IfOk, OnOk, MatchResult};
+ghost use Rattle.std.specs.Prelude.{◌≡◌, ◌⊎◌, IfOk, OnOk, MatchResult};
 ghost use Rattle.std.specs.Option.{option_map};
 ghost use Rattle.std.specs.Io.KnownBytes.{Appends};
 ghost use Rattle.acpitool_run.specs.Making.{note, notes, same_line, MadeOrNot, Saved, NotSaved};
