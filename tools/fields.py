@@ -23,6 +23,8 @@ REGISTER = ["Address Space ID", "Register Bit Width", "Register Bit Offset", "Ac
 # Names of the sources that no line has. Lists begin right after the fields before them, so no bytes are before them. A device
 # handle is shown as one of its two kinds, and the header of a SLIT by the header's fields.
 IN_NO_TABLE = ("hest/status.rt", "hest/error_data.rt")
+# The forms of tables that are only read. FORMATS has a section of its own on them.
+FURTHER = "acpi_forms/src/further/"
 UNSEEN = ["Before the Interrupt Wires", "Before the Mappings", "Before the Timers", "Before the Addresses", "Before the Sizes"]
 UNSEEN += ["Before the Name", "Before the OEM Data", "Before the Context Interrupts", "Before the PMU Interrupts"]
 UNSEEN += ["Before the Descriptors", "Device Handle", "Header"]
@@ -37,22 +39,38 @@ def sources():
     """Returns the text of the forms, and that of the rows that they name. Error status blocks and their data are in no table."""
     rows = ["base", "fixed", "lists", "hest", "nodes", "matrices", "arm"]
     files = lambda crate: sorted(glob.glob(f"crates/{crate}/src/**/*.rt", recursive=True))
-    all_of = lambda crate: "".join(read(it) for it in files(crate) if not it.endswith(IN_NO_TABLE))
+    listed = lambda it: not it.endswith(IN_NO_TABLE) and FURTHER not in it
+    all_of = lambda crate: "".join(read(it) for it in files(crate) if listed(it))
     return all_of("acpi_forms"), "".join(all_of(f"acpi_{it}") for it in rows)
 
 
 FORMS, ROWS = sources()
 REPEATED = set(re.findall(r'(?:Part::(?:Numbers|Entries|Matrix)\(|Inner::Structures\(\s*\d+,)\s*"([^"]+)"', FORMS))
 SIZED = set(re.findall(r'Part::(?:Bytes|Until)\(\s*"([^"]+)"', FORMS))
-# The masks and names of flags: those of a row of flags, in the row or in a constant. Words of numbers that stand for one of
-# several things are no flags.
-LISTS = dict(re.findall(r"const (\w+): \[Word; \d+\] = \[(.*?)\];", ROWS, re.DOTALL))
-OF_FLAGS = re.findall(r'Row::Flags\(\s*"[^"]+",\s*\d+,\s*&(?:(\w+)|\[(.*?)\])', ROWS, re.DOTALL)
-WORDS = {
-    (int(mask.replace("_", ""), 0), name)
-    for list, own in OF_FLAGS
-    for mask, name in re.findall(r'Word\(\s*(\w+),\s*"([^"]+)"', own or LISTS[list])
-}
+# What the bits of each field with flags are, by the field's name: masks with names, numbers with words under a mask, and numbers
+# of their own. Several fields of a name can have different bits.
+LISTS = dict(re.findall(r"const (\w+): \[(?:Word|Bits); \d+\] = \[(.*?)\];", ROWS, re.DOTALL))
+OF_FLAGS = re.findall(r'Row::Flags\(\s*"([^"]+)",\s*\d+,\s*(?:&(\w+)|&\[((?:[^\[\]]|\[[^\]]*\])*)\])', ROWS)
+BIT = re.compile(r'Bits::(Flag|OneOf|Number)\(\s*(\w+),\s*(?:(\w+),\s*)?(?:"([^"]+)"|&\[(.*?)\])', re.DOTALL)
+WORD = re.compile(r'Word\(\s*(\w+),\s*"([^"]+)"')
+
+
+def number(text):
+    return int(text.replace("_", ""), 0)
+
+
+def bits_of(text):
+    """Returns the bits of a list of the sources: (kind, mask, lowest bit, name or words)."""
+    words = lambda list: [(number(value), name) for value, name in WORD.findall(list)]
+    return [
+        (kind, number(mask), number(lowest or "1"), name or words(list)) for kind, mask, lowest, name, list in BIT.findall(text)
+    ]
+
+
+OTHERS = set(re.findall(r'Row::(?!Flags)\w+\(\s*"([^"]+)"', FORMS + ROWS))
+BITS = {}
+for field, list_name, own in OF_FLAGS:
+    BITS.setdefault(field, []).append(bits_of(own or LISTS[list_name]))
 
 
 def stop(why):
@@ -88,21 +106,46 @@ class Field:
         if self.below:
             return f"{name} ({text_of(self.below)}){more}"
         width = "n" if self.is_sized else self.width
-        flags = ", ".join(joined(f"{mask:#x} {name}") for mask, name in self.flags)
+        flags = ", ".join(joined(f"{mask:#x} ") + name for mask, name in self.flags)
         return f"{name}:{width}{f' ({flags})' if flags else ''}{more}"
 
 
+def said(bits, value):
+    """Returns the comment of a value of bits."""
+    parts = []
+    for kind, mask, lowest, names in bits:
+        here = value & mask
+        if kind == "Number":
+            parts.append(f"{names} {here // lowest}")
+        elif kind == "Flag" and here:
+            parts.append(names)
+        elif kind == "OneOf" and here in dict(names):
+            parts.append(dict(names)[here])
+        else:
+            continue
+        value -= here
+    rest = value.to_bytes(8, "big").lstrip(b"\0").hex()
+    return " | ".join(parts + ([f"0x{rest}"] if rest else []))
+
+
 def flags_of(line):
-    """Returns the masks and names of a field's flags. In the data all flags with names are set, and their names are in the order
-    of their bits."""
-    names = line.comment.split(" | ")
-    value = line.numbers[0][0]
-    masks = [1 << bit for bit in range(64) if value >> bit & 1]
-    pairs = list(zip(masks, names))
-    is_flags = len(masks) == len(names) and all(it in WORDS for it in pairs)
-    if len(names) > 1 and not is_flags:
-        stop(f"{line.at} {line.name}: its flags aren't those of the sources")
-    return pairs if is_flags and (len(names) > 1 or "Flags" in line.name) else []
+    """Returns the masks of a field's bits with what they are. In the data all flags with names are set, so the field's row is the
+    one in the sources that has all these flags and says what the line's comment says."""
+    value = line.numbers[0][0] if line.numbers else 0
+    found = [it for it in BITS.get(line.name, []) if said(it, value) == line.comment]
+    if line.name in BITS and not found and line.name not in OTHERS:
+        stop(f"{line.at} {line.name}: its comment isn't what a row of the sources says")
+    whole = [it for it in found if all(value & mask for kind, mask, _, _ in it if kind == "Flag")]
+    if len({str(it) for it in whole}) > 1:
+        stop(f"{line.at} {line.name}: several rows of the sources say this of its value")
+    return [(mask, what(kind, names)) for kind, mask, _, names in whole[0]] if whole else []
+
+
+def what(kind, names):
+    """Returns what bits are: a name, or the numbers and words of what they stand for."""
+    if kind != "OneOf":
+        return joined(names)
+    return "(" + "; ".join(joined(f"{value:#x} {name}") for value, name in names) + ")"
 
 
 def fields_of(lines, base):

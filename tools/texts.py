@@ -9,6 +9,7 @@ import sys
 TOOL, WORK, COUNT = os.path.abspath(sys.argv[1]), sys.argv[2], int(sys.argv[3])
 TABLE, TEXT = os.path.join(WORK, "table"), os.path.join(WORK, "text")
 DATA, SHOWN = "crates/acpitool/data", "crates/acpitool/stdout"
+FURTHER = "crates/acpi_forms/specs/FurtherNames.antt"
 wrong = []
 
 
@@ -98,7 +99,9 @@ tables = samples()
 for table, text in tables:
     expect("a text of crates/acpitool/stdout", make(text)[0], table)
 
-for signature in sorted({table[:4] for table, _ in tables}):
+with open(FURTHER, encoding="utf-8") as file:
+    further = {name.encode() for name in re.findall(r'signature = codes "(.{4})"', file.read())}
+for signature in sorted({table[:4] for table, _ in tables} | further):
     template = run("template", signature.decode())
     expect(f"the template of {signature}", make(template.stdout)[1], "")
 

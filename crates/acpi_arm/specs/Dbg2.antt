@@ -3,7 +3,8 @@ use Rattle.std.specs.Prelude.{◌≡◌, ℕ, ◌+◌, List, [], ◌∷◌, ◌+
 use Rattle.std.specs.Prelude.{String, string_bytes}
 use Rattle.std.specs.declared.alloc.Global.{Global}
 use Rattle.acpi_base.specs.Bytes.{le}
-use Rattle.acpi_base.specs.Fields.{NamedField, byte, word, reserved, fields_joined}
+use Rattle.acpi_base.specs.Fields.{NamedField, byte, word, hex, preset, one_of, reserved, fields_joined}
+use Rattle.acpi_base.specs.Look.{means}
 use Rattle.acpi_base.specs.Gas.{gas_bytes}
 use Rattle.acpi_base.specs.Walk.{ArePieces}
 use Rattle.acpi_base.specs.FurtherWalk.{dbg2_walk}
@@ -92,19 +93,28 @@ oem_data_at d = name_at d + (length d.name + 1)
 abbrev pub device_size : Device → ℕ
 device_size d = oem_data_at d + length d.oem_data
 
+-- the words of Port Type
+abbrev pub port_words : List (ℕ × List ℕ)
+port_words =
+    means 0x8000 "Serial"
+    ∷ means 0x8001 "1394"
+    ∷ means 0x8002 "USB"
+    ∷ means 0x8003 "Net"
+    ∷ []
+
 abbrev pub device_head_fields : Device → List NamedField
 device_head_fields d =
-    byte "Revision" 0  -- 0
+    preset byte "Revision" 0  -- 0
     ∷ word "Length" (device_size d)  -- 1
     ∷ byte "NumberofGenericAddressRegisters" d.count  -- 3
     ∷ word "NamespaceStringLength" (length d.name + 1)  -- 4
     ∷ word "NamespaceStringOffset" (name_at d)  -- 6
     ∷ word "OemDataLength" (length d.oem_data)  -- 8
     ∷ word "OemDataOffset" (offset_if (length d.oem_data) (oem_data_at d))  -- 10
-    ∷ word "Port Type" (port_type d.port)  -- 12
-    ∷ word "Port Subtype" (port_subtype d.port)  -- 14
+    ∷ one_of port_words word "Port Type" (port_type d.port)  -- 12
+    ∷ hex word "Port Subtype" (port_subtype d.port)  -- 14
     ∷ reserved 2  -- 16
-    ∷ word "BaseAddressRegisterOffset" 22  -- 18
+    ∷ preset word "BaseAddressRegisterOffset" 22  -- 18
     ∷ word "AddressSizeOffset" (sizes_at d)  -- 20
     ∷ []
 

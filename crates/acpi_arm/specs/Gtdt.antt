@@ -1,6 +1,7 @@
 -- The Generic Timer Description Table (ACPI 6.5, 5.2.25).
 use Rattle.std.specs.Prelude.{ℕ, ◌+◌, List, [], ◌∷◌, ◌++◌, length, codes}
-use Rattle.acpi_base.specs.Fields.{NamedField, byte, word, dword, qword, reserved, fields_joined}
+use Rattle.acpi_base.specs.Fields.{NamedField, byte, word, dword, qword, hex, preset, flags, reserved, fields_joined}
+use Rattle.acpi_base.specs.Look.{Part, flag, choice, means}
 use Rattle.acpi_base.specs.declared.oem.Oem.{Oem}
 use Rattle.acpi_core.specs.Entries.{no_entries, with_entry}
 use Rattle.acpi_core.specs.Listing.{Listing, length_limit}
@@ -31,28 +32,36 @@ timers non_secure_el1 virtual_el1 = record {
   virtual_el2 = timer 0;
 }
 
+-- timer flags: Interrupt Mode in bit 0, Interrupt Polarity in bit 1
+abbrev pub timer_bits : List Part
+timer_bits =
+    choice 0x1 (means 0x0 "Level Triggered" ∷ means 0x1 "Edge Triggered" ∷ [])
+    ∷ choice 0x2 (means 0x0 "Active High" ∷ means 0x2 "Active Low" ∷ [])
+    ∷ flag 0x4 "Always-on"
+    ∷ []
+
 -- the fields between the header and the number of platform timers
 abbrev pub timers_fields : Timers → List NamedField
 timers_fields t =
-    qword "CntControlBase Physical Address" t.counter_control_base  -- 36
+    hex qword "CntControlBase Physical Address" t.counter_control_base  -- 36
     ∷ reserved 4  -- 44
     ∷ dword "Secure EL1 Timer GSIV" t.secure_el1.gsiv  -- 48
-    ∷ dword "Secure EL1 Timer Flags" t.secure_el1.flags  -- 52
+    ∷ flags timer_bits dword "Secure EL1 Timer Flags" t.secure_el1.flags  -- 52
     ∷ dword "Non-Secure EL1 Timer GSIV" t.non_secure_el1.gsiv  -- 56
-    ∷ dword "Non-Secure EL1 Timer Flags" t.non_secure_el1.flags  -- 60
+    ∷ flags timer_bits dword "Non-Secure EL1 Timer Flags" t.non_secure_el1.flags  -- 60
     ∷ dword "Virtual EL1 Timer GSIV" t.virtual_el1.gsiv  -- 64
-    ∷ dword "Virtual EL1 Timer Flags" t.virtual_el1.flags  -- 68
+    ∷ flags timer_bits dword "Virtual EL1 Timer Flags" t.virtual_el1.flags  -- 68
     ∷ dword "EL2 Timer GSIV" t.el2.gsiv  -- 72
-    ∷ dword "EL2 Timer Flags" t.el2.flags  -- 76
-    ∷ qword "CntReadBase Physical Address" t.counter_read_base  -- 80
+    ∷ flags timer_bits dword "EL2 Timer Flags" t.el2.flags  -- 76
+    ∷ hex qword "CntReadBase Physical Address" t.counter_read_base  -- 80
     ∷ []
 
 -- the fields after that number
 abbrev pub last_fields : Timers → List NamedField
 last_fields t =
-    dword "Platform Timer Offset" 104  -- 92
+    preset dword "Platform Timer Offset" 104  -- 92
     ∷ dword "Virtual EL2 Timer GSIV" t.virtual_el2.gsiv  -- 96
-    ∷ dword "Virtual EL2 Timer Flags" t.virtual_el2.flags  -- 100
+    ∷ flags timer_bits dword "Virtual EL2 Timer Flags" t.virtual_el2.flags  -- 100
     ∷ []
 
 -- a table without platform timers
@@ -83,17 +92,31 @@ gt_block_timer frame base = record {
   common_flags = 0;
 }
 
+-- GTx timer flags: Interrupt Mode in bit 0, Interrupt Polarity in bit 1
+abbrev pub block_timer_bits : List Part
+block_timer_bits =
+    choice 0x1 (means 0x0 "Level Triggered" ∷ means 0x1 "Edge Triggered" ∷ [])
+    ∷ choice 0x2 (means 0x0 "Active High" ∷ means 0x2 "Active Low" ∷ [])
+    ∷ []
+
+-- GTx Common Flags
+abbrev pub common_bits : List Part
+common_bits =
+    flag 0x1 "Secure"
+    ∷ flag 0x2 "Always-on"
+    ∷ []
+
 abbrev pub gt_block_timer_fields : GtBlockTimer → List NamedField
 gt_block_timer_fields t =
     byte "GT Frame Number" t.frame  -- 0
     ∷ reserved 3  -- 1
-    ∷ qword "GTx Physical Address (CntBaseX)" t.base  -- 4
-    ∷ qword "GTx Physical Address (CntEL0BaseX)" t.el0_base  -- 12
+    ∷ hex qword "GTx Physical Address (CntBaseX)" t.base  -- 4
+    ∷ hex qword "GTx Physical Address (CntEL0BaseX)" t.el0_base  -- 12
     ∷ dword "GTx Physical Timer GSIV" t.physical.gsiv  -- 20
-    ∷ dword "GTx Physical Timer Flags" t.physical.flags  -- 24
+    ∷ flags block_timer_bits dword "GTx Physical Timer Flags" t.physical.flags  -- 24
     ∷ dword "GTx Virtual Timer GSIV" t.virtual_timer.gsiv  -- 28
-    ∷ dword "GTx Virtual Timer Flags" t.virtual_timer.flags  -- 32
-    ∷ dword "GTx Common Flags" t.common_flags  -- 36
+    ∷ flags block_timer_bits dword "GTx Virtual Timer Flags" t.virtual_timer.flags  -- 32
+    ∷ flags common_bits dword "GTx Common Flags" t.common_flags  -- 36
     ∷ []
 
 abbrev pub gt_block_timer_bytes : GtBlockTimer → List ℕ
@@ -108,12 +131,12 @@ gt_block address t = with_timer (record { address = address; timers = no_entries
 
 abbrev pub gt_block_head_fields : GtBlock → List NamedField
 gt_block_head_fields b =
-    byte "Type" 0  -- 0
+    preset byte "Type" 0  -- 0
     ∷ word "Length" (20 + length b.timers.bytes)  -- 1
     ∷ reserved 1  -- 3
-    ∷ qword "GT Block Physical Address (CntCtlBase)" b.address  -- 4
+    ∷ hex qword "GT Block Physical Address (CntCtlBase)" b.address  -- 4
     ∷ dword "GT Block Timer Count" b.timers.count  -- 12
-    ∷ dword "GT Block Timer Offset" 20  -- 16
+    ∷ preset dword "GT Block Timer Offset" 20  -- 16
     ∷ []
 
 abbrev pub gt_block_head : GtBlock → List ℕ
@@ -132,15 +155,23 @@ generic_watchdog refresh control gsiv = record {
   flags = 0;
 }
 
+-- Watchdog Timer Flags: Interrupt Mode in bit 0, Interrupt Polarity in bit 1
+abbrev pub watchdog_bits : List Part
+watchdog_bits =
+    choice 0x1 (means 0x0 "Level Triggered" ∷ means 0x1 "Edge Triggered" ∷ [])
+    ∷ choice 0x2 (means 0x0 "Active High" ∷ means 0x2 "Active Low" ∷ [])
+    ∷ flag 0x4 "Secure"
+    ∷ []
+
 abbrev pub generic_watchdog_fields : GenericWatchdog → List NamedField
 generic_watchdog_fields w =
-    byte "Type" 1  -- 0
-    ∷ word "Length" 28  -- 1
+    preset byte "Type" 1  -- 0
+    ∷ preset word "Length" 28  -- 1
     ∷ reserved 1  -- 3
-    ∷ qword "RefreshFrame Physical Address" w.refresh_frame  -- 4
-    ∷ qword "WatchdogControlFrame Physical Address" w.control_frame  -- 12
+    ∷ hex qword "RefreshFrame Physical Address" w.refresh_frame  -- 4
+    ∷ hex qword "WatchdogControlFrame Physical Address" w.control_frame  -- 12
     ∷ dword "Watchdog Timer GSIV" w.gsiv  -- 20
-    ∷ dword "Watchdog Timer Flags" w.flags  -- 24
+    ∷ flags watchdog_bits dword "Watchdog Timer Flags" w.flags  -- 24
     ∷ []
 
 abbrev pub generic_watchdog_bytes : GenericWatchdog → List ℕ

@@ -1,7 +1,8 @@
 -- The I/O Remapping Table (Arm DEN0049E.d), its ID mappings and what its nodes share.
 use Rattle.std.specs.Prelude.{◌≡◌, ◌≢◌, ℕ, ◌<◌, List, [], ◌∷◌, ◌++◌, codes, Result, OnOk, OnErr, IfErr}
 use Rattle.acpi_base.specs.Bytes.{le, zeros}
-use Rattle.acpi_base.specs.Fields.{NamedField, dword, fields_joined}
+use Rattle.acpi_base.specs.Fields.{NamedField, dword, hex, reference, flags, fields_joined}
+use Rattle.acpi_base.specs.Look.{Part, flag}
 use Rattle.acpi_base.specs.declared.error.Error.{Error}
 use Rattle.acpi_base.specs.declared.error.Error.TheVariants.{Memory, FieldWidth}
 use Rattle.acpi_base.specs.declared.oem.Oem.{Oem}
@@ -49,13 +50,19 @@ id_mapping input_base more_ids output_base output = record {
   flags = 0;
 }
 
+-- Flags of a mapping
+abbrev pub id_mapping_bits : List Part
+id_mapping_bits =
+    flag 0x1 "Single Mapping"
+    ∷ []
+
 abbrev pub mapping_fields : IdMapping → List NamedField
 mapping_fields m =
-    dword "Input Base" m.input_base  -- 0
+    hex dword "Input Base" m.input_base  -- 0
     ∷ dword "Number of IDs" m.more_ids  -- 4: one less than their number
-    ∷ dword "Output Base" m.output_base  -- 8
-    ∷ dword "Output Reference" m.output  -- 12
-    ∷ dword "Flags" m.flags  -- 16
+    ∷ hex dword "Output Base" m.output_base  -- 8
+    ∷ reference dword "Output Reference" m.output  -- 12
+    ∷ flags id_mapping_bits dword "Flags" m.flags  -- 16
     ∷ []
 
 abbrev pub mapping_bytes : IdMapping → List ℕ
@@ -65,3 +72,19 @@ mapping_bytes m = fields_joined (mapping_fields m)
 
 abbrev pub memory_access : MemoryAccess
 memory_access = record { cache_coherent = 0; hints = 0; flags = 0 }
+
+-- Allocation Hints
+abbrev pub hint_bits : List Part
+hint_bits =
+    flag 0x1 "Transient"
+    ∷ flag 0x2 "Write Allocate"
+    ∷ flag 0x4 "Read Allocate"
+    ∷ flag 0x8 "Allocation Hints Override"
+    ∷ []
+
+-- Memory Access Flags
+abbrev pub access_bits : List Part
+access_bits =
+    flag 0x1 "Coherent Path to Memory"
+    ∷ flag 0x2 "Device Attributes Cacheable and Inner Shareable"
+    ∷ []

@@ -1,7 +1,9 @@
 -- The nodes of IORT but those of SMMUs (Arm DEN0049E.d).
 use Rattle.std.specs.Prelude.{ℕ, ◌+◌, ◌-◌, ◌*◌, ◌%◌, List, [], ◌∷◌, ◌++◌, length, String, string_bytes}
 use Rattle.std.specs.declared.alloc.Global.{Global}
-use Rattle.acpi_base.specs.Fields.{NamedField, byte, word, dword, qword, reserved, fields_joined}
+use Rattle.acpi_base.specs.Fields.{NamedField, byte, word, dword, qword, hex, preset}
+use Rattle.acpi_base.specs.Fields.{reference, flags, one_of, reserved, fields_joined}
+use Rattle.acpi_base.specs.Look.{Part, flag, choice, part, means}
 use Rattle.acpi_base.specs.Bytes.{zeros}
 use Rattle.acpi_core.specs.Entries.{no_entries}
 use Rattle.acpi_arm.specs.Offsets.{offset_if}
@@ -15,7 +17,7 @@ use Rattle.acpi_arm.specs.declared.iort.regions.AccessAttributes.{AccessAttribut
 use Rattle.acpi_arm.specs.declared.iort.regions.AccessAttributes.TheVariants as attributes
 use Rattle.acpi_arm.specs.declared.iort.regions.MemoryRange.{MemoryRange}
 use Rattle.acpi_arm.specs.declared.iort.regions.ReservedMemory.{ReservedMemory}
-use Rattle.acpi_arm.specs.Iort.{memory_access}
+use Rattle.acpi_arm.specs.Iort.{memory_access, hint_bits, access_bits}
 
 -- ---- ITS group
 
@@ -24,12 +26,12 @@ its_group = record { identifier = 0; services = no_entries }
 
 abbrev pub its_group_head_fields : ItsGroup → List NamedField
 its_group_head_fields g =
-    byte "Type" 0  -- 0
+    preset byte "Type" 0  -- 0
     ∷ word "Length" (20 + length g.services.bytes)  -- 1
-    ∷ byte "Revision" 1  -- 3
-    ∷ dword "Identifier" g.identifier  -- 4
-    ∷ dword "Number of ID Mappings" 0  -- 8
-    ∷ dword "Reference to ID Array" 0  -- 12
+    ∷ preset byte "Revision" 1  -- 3
+    ∷ hex dword "Identifier" g.identifier  -- 4
+    ∷ preset dword "Number of ID Mappings" 0  -- 8
+    ∷ preset dword "Reference to ID Array" 0  -- 12
     ∷ dword "Number of ITSs" g.services.count  -- 16
     ∷ []
 
@@ -62,19 +64,33 @@ component_start c = 29 + length (string_bytes c.name) + name_end (length (string
 abbrev pub component_size : NamedComponent → ℕ
 component_size c = component_start c + length c.mappings.bytes
 
+-- Node Flags: Substream Width in bits 5:1
+abbrev pub component_bits : List Part
+component_bits =
+    flag 0x01 "Stall Supported"
+    ∷ part 0x3e 0x02 "Substream Width"
+    ∷ []
+
+-- the words of Cache Coherent Attribute
+abbrev pub coherent_words : List (ℕ × List ℕ)
+coherent_words =
+    means 0 "Not Coherent"
+    ∷ means 1 "Fully Coherent"
+    ∷ []
+
 abbrev pub component_head_fields : NamedComponent → List NamedField
 component_head_fields c =
-    byte "Type" 1  -- 0
+    preset byte "Type" 1  -- 0
     ∷ word "Length" (component_size c)  -- 1
-    ∷ byte "Revision" 4  -- 3
-    ∷ dword "Identifier" c.identifier  -- 4
+    ∷ preset byte "Revision" 4  -- 3
+    ∷ hex dword "Identifier" c.identifier  -- 4
     ∷ dword "Number of ID Mappings" c.mappings.count  -- 8
     ∷ dword "Reference to ID Array" (offset_if c.mappings.count (component_start c))  -- 12
-    ∷ dword "Node Flags" c.flags  -- 16
-    ∷ dword "Cache Coherent Attribute" c.access.cache_coherent  -- 20
-    ∷ byte "Allocation Hints" c.access.hints  -- 24
+    ∷ flags component_bits dword "Node Flags" c.flags  -- 16
+    ∷ one_of coherent_words dword "Cache Coherent Attribute" c.access.cache_coherent  -- 20
+    ∷ flags hint_bits byte "Allocation Hints" c.access.hints  -- 24
     ∷ reserved 2  -- 25
-    ∷ byte "Memory Access Flags" c.access.flags  -- 27
+    ∷ flags access_bits byte "Memory Access Flags" c.access.flags  -- 27
     ∷ byte "Device Memory Address Size Limit" c.address_size_limit  -- 28
     ∷ []
 
@@ -98,19 +114,27 @@ root_complex segment = record {
   mappings = no_entries;
 }
 
+-- ATS Attribute
+abbrev pub ats_bits : List Part
+ats_bits =
+    flag 0x1 "ATS Supported"
+    ∷ flag 0x2 "PRI Supported"
+    ∷ flag 0x4 "PASID Forwarding Supported"
+    ∷ []
+
 abbrev pub root_complex_head_fields : RootComplex → List NamedField
 root_complex_head_fields c =
-    byte "Type" 2  -- 0
+    preset byte "Type" 2  -- 0
     ∷ word "Length" (36 + length c.mappings.bytes)  -- 1
-    ∷ byte "Revision" 3  -- 3
-    ∷ dword "Identifier" c.identifier  -- 4
+    ∷ preset byte "Revision" 3  -- 3
+    ∷ hex dword "Identifier" c.identifier  -- 4
     ∷ dword "Number of ID Mappings" c.mappings.count  -- 8
     ∷ dword "Reference to ID Array" (offset_if c.mappings.count 36)  -- 12
-    ∷ dword "Cache Coherent Attribute" c.access.cache_coherent  -- 16
-    ∷ byte "Allocation Hints" c.access.hints  -- 20
+    ∷ one_of coherent_words dword "Cache Coherent Attribute" c.access.cache_coherent  -- 16
+    ∷ flags hint_bits byte "Allocation Hints" c.access.hints  -- 20
     ∷ reserved 2  -- 21
-    ∷ byte "Memory Access Flags" c.access.flags  -- 23
-    ∷ dword "ATS Attribute" c.ats_attribute  -- 24
+    ∷ flags access_bits byte "Memory Access Flags" c.access.flags  -- 23
+    ∷ flags ats_bits dword "ATS Attribute" c.ats_attribute  -- 24
     ∷ dword "PCI Segment Number" c.segment  -- 28
     ∷ byte "Memory Address Size Limit" c.address_size_limit  -- 32
     ∷ reserved 3  -- 33
@@ -143,16 +167,16 @@ pmcg page_0 node = record {
 
 abbrev pub pmcg_head_fields : Pmcg → List NamedField
 pmcg_head_fields p =
-    byte "Type" 5  -- 0
+    preset byte "Type" 5  -- 0
     ∷ word "Length" (40 + length p.mappings.bytes)  -- 1
-    ∷ byte "Revision" 2  -- 3
-    ∷ dword "Identifier" p.identifier  -- 4
+    ∷ preset byte "Revision" 2  -- 3
+    ∷ hex dword "Identifier" p.identifier  -- 4
     ∷ dword "Number of ID Mappings" p.mappings.count  -- 8
     ∷ dword "Reference to ID Array" (offset_if p.mappings.count 40)  -- 12
-    ∷ qword "Page 0 Base Address" p.page_0  -- 16
+    ∷ hex qword "Page 0 Base Address" p.page_0  -- 16
     ∷ dword "Overflow Interrupt GSIV" p.overflow_gsiv  -- 24
-    ∷ dword "Node Reference" p.node  -- 28
-    ∷ qword "Page 1 Base Address" p.page_1  -- 32
+    ∷ reference dword "Node Reference" p.node  -- 28
+    ∷ hex qword "Page 1 Base Address" p.page_1  -- 32
     ∷ []
 
 abbrev pub pmcg_head : Pmcg → List ℕ
@@ -177,7 +201,7 @@ memory_range base size = record { base = base; size = size }
 
 abbrev pub range_fields : MemoryRange → List NamedField
 range_fields r =
-    qword "Physical Range Offset" r.base  -- 0
+    hex qword "Physical Range Offset" r.base  -- 0
     ∷ qword "Physical Range Length" r.size  -- 8
     ∷ reserved 4  -- 16
     ∷ []
@@ -196,15 +220,30 @@ reserved_memory access = record {
 abbrev pub reserved_memory_size : ReservedMemory → ℕ
 reserved_memory_size m = 28 + length m.ranges.bytes + length m.mappings.bytes
 
+-- Flags of reserved memory: Access Attributes in bits 9:2
+abbrev pub reserved_memory_bits : List Part
+reserved_memory_bits =
+    flag 0x001 "Remapping Permitted"
+    ∷ flag 0x002 "Privileged Access"
+    ∷ choice 0x3fc (
+    means 0x000 "Device-nGnRnE"
+    ∷ means 0x004 "Device-nGnRE"
+    ∷ means 0x008 "Device-nGRE"
+    ∷ means 0x00c "Device-GRE"
+    ∷ means 0x010 "Normal Inner Non-cacheable Outer Non-cacheable"
+    ∷ means 0x014 "Normal Inner Write-back Outer Write-back Inner Shareable"
+    ∷ [])
+    ∷ []
+
 abbrev pub reserved_memory_head_fields : ReservedMemory → List NamedField
 reserved_memory_head_fields m =
-    byte "Type" 6  -- 0
+    preset byte "Type" 6  -- 0
     ∷ word "Length" (reserved_memory_size m)  -- 1
-    ∷ byte "Revision" 3  -- 3
-    ∷ dword "Identifier" m.identifier  -- 4
+    ∷ preset byte "Revision" 3  -- 3
+    ∷ hex dword "Identifier" m.identifier  -- 4
     ∷ dword "Number of ID Mappings" m.mappings.count  -- 8
     ∷ dword "Reference to ID Array" (offset_if m.mappings.count (28 + length m.ranges.bytes))  -- 12
-    ∷ dword "Flags" m.flags  -- 16
+    ∷ flags reserved_memory_bits dword "Flags" m.flags  -- 16
     ∷ dword "Number of Memory Range Descriptors" m.ranges.count  -- 20
     ∷ dword "Reference to Memory Range Descriptors" (offset_if m.ranges.count 28)  -- 24
     ∷ []

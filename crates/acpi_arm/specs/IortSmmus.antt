@@ -1,6 +1,7 @@
 -- The nodes of SMMUs in IORT (Arm DEN0049E.d).
 use Rattle.std.specs.Prelude.{ℕ, ◌+◌, List, [], ◌∷◌, ◌++◌, length}
-use Rattle.acpi_base.specs.Fields.{NamedField, byte, word, dword, qword, reserved, fields_joined}
+use Rattle.acpi_base.specs.Fields.{NamedField, byte, word, dword, qword, hex, preset, flags, one_of, reserved, fields_joined}
+use Rattle.acpi_base.specs.Look.{Part, flag, choice, means}
 use Rattle.acpi_core.specs.Entries.{no_entries}
 use Rattle.acpi_arm.specs.Offsets.{offset_if}
 use Rattle.acpi_arm.specs.declared.iort.smmus.Httu.{Httu}
@@ -26,10 +27,16 @@ model_number models.CaviumThunderX = 5
 abbrev pub smmu_interrupt : ℕ → SmmuInterrupt
 smmu_interrupt gsiv = record { gsiv = gsiv; flags = 0 }
 
+-- Interrupt Flags
+abbrev pub gsiv_bits : List Part
+gsiv_bits =
+    choice 0x1 (means 0x0 "Level Triggered" ∷ means 0x1 "Edge Triggered" ∷ [])
+    ∷ []
+
 abbrev pub smmu_interrupt_fields : SmmuInterrupt → List NamedField
 smmu_interrupt_fields i =
     dword "GSIV" i.gsiv  -- 0
-    ∷ dword "Interrupt Flags" i.flags  -- 4
+    ∷ flags gsiv_bits dword "Interrupt Flags" i.flags  -- 4
     ∷ []
 
 abbrev pub smmu_interrupt_bytes : SmmuInterrupt → List ℕ
@@ -59,27 +66,45 @@ smmu_mappings_at s = monitors_at s + length s.monitors.bytes
 abbrev pub smmu_size : Smmu → ℕ
 smmu_size s = smmu_mappings_at s + length s.mappings.bytes
 
+-- the words of Model
+abbrev pub model_words : List (ℕ × List ℕ)
+model_words =
+    means 0 "Generic SMMUv1"
+    ∷ means 1 "Generic SMMUv2"
+    ∷ means 2 "Arm CoreLink MMU-400"
+    ∷ means 3 "Arm CoreLink MMU-500"
+    ∷ means 4 "Arm CoreLink MMU-401"
+    ∷ means 5 "Cavium ThunderX SMMUv2"
+    ∷ []
+
+-- Flags of an SMMUv1 or SMMUv2
+abbrev pub smmu_bits : List Part
+smmu_bits =
+    flag 0x1 "DVM Supported"
+    ∷ flag 0x2 "Coherent Page Table Walk"
+    ∷ []
+
 abbrev pub smmu_head_fields : Smmu → List NamedField
 smmu_head_fields s =
-    byte "Type" 3  -- 0
+    preset byte "Type" 3  -- 0
     ∷ word "Length" (smmu_size s)  -- 1
-    ∷ byte "Revision" 3  -- 3
-    ∷ dword "Identifier" s.identifier  -- 4
+    ∷ preset byte "Revision" 3  -- 3
+    ∷ hex dword "Identifier" s.identifier  -- 4
     ∷ dword "Number of ID Mappings" s.mappings.count  -- 8
     ∷ dword "Reference to ID Array" (offset_if s.mappings.count (smmu_mappings_at s))  -- 12
-    ∷ qword "Base Address" s.base  -- 16
+    ∷ hex qword "Base Address" s.base  -- 16
     ∷ qword "Span" s.span  -- 24
-    ∷ dword "Model" (model_number s.model)  -- 32
-    ∷ dword "Flags" s.flags  -- 36
-    ∷ dword "Reference to Global Interrupt Array" 60  -- 40
+    ∷ one_of model_words dword "Model" (model_number s.model)  -- 32
+    ∷ flags smmu_bits dword "Flags" s.flags  -- 36
+    ∷ preset dword "Reference to Global Interrupt Array" 60  -- 40
     ∷ dword "Number of Context Interrupts" s.contexts.count  -- 44
     ∷ dword "Reference to Context Interrupt Array" (offset_if s.contexts.count 76)  -- 48
     ∷ dword "Number of PMU Interrupts" s.monitors.count  -- 52
     ∷ dword "Reference to PMU Interrupt Array" (offset_if s.monitors.count (monitors_at s))  -- 56
     ∷ dword "SMMU_NSgIrpt GSIV" s.fault.gsiv  -- 60
-    ∷ dword "SMMU_NSgIrpt Interrupt Flags" s.fault.flags  -- 64
+    ∷ flags gsiv_bits dword "SMMU_NSgIrpt Interrupt Flags" s.fault.flags  -- 64
     ∷ dword "SMMU_NSgCfgIrpt GSIV" s.configuration_fault.gsiv  -- 68
-    ∷ dword "SMMU_NSgCfgIrpt Interrupt Flags" s.configuration_fault.flags  -- 72
+    ∷ flags gsiv_bits dword "SMMU_NSgCfgIrpt Interrupt Flags" s.configuration_fault.flags  -- 72
     ∷ []
 
 abbrev pub smmu_head : Smmu → List ℕ
@@ -117,19 +142,39 @@ smmu_v3 model base = record {
   mappings = no_entries;
 }
 
+-- Flags of an SMMUv3: HTTU Override in bits 2:1
+abbrev pub smmu_v3_bits : List Part
+smmu_v3_bits =
+    flag 0x01 "COHACC Override"
+    ∷ choice 0x06 (
+    means 0x02 "HTTU Override of the Access Flag"
+    ∷ means 0x04 "HTTU Override of the Access Flag and Dirty State"
+    ∷ [])
+    ∷ flag 0x08 "Proximity Domain Valid"
+    ∷ flag 0x10 "DeviceID Mapping Index Valid"
+    ∷ []
+
+-- the words of Model
+abbrev pub model_3_words : List (ℕ × List ℕ)
+model_3_words =
+    means 0 "Generic SMMUv3"
+    ∷ means 1 "HiSilicon Hi161x"
+    ∷ means 2 "Cavium CN99xx"
+    ∷ []
+
 abbrev pub smmu_v3_head_fields : SmmuV3 → List NamedField
 smmu_v3_head_fields s =
-    byte "Type" 4  -- 0
+    preset byte "Type" 4  -- 0
     ∷ word "Length" (68 + length s.mappings.bytes)  -- 1
-    ∷ byte "Revision" 4  -- 3
-    ∷ dword "Identifier" s.identifier  -- 4
+    ∷ preset byte "Revision" 4  -- 3
+    ∷ hex dword "Identifier" s.identifier  -- 4
     ∷ dword "Number of ID Mappings" s.mappings.count  -- 8
     ∷ dword "Reference to ID Array" (offset_if s.mappings.count 68)  -- 12
-    ∷ qword "Base Address" s.base  -- 16
-    ∷ dword "Flags" s.flags  -- 24
+    ∷ hex qword "Base Address" s.base  -- 16
+    ∷ flags smmu_v3_bits dword "Flags" s.flags  -- 24
     ∷ reserved 4  -- 28
-    ∷ qword "VATOS Address" s.vatos_address  -- 32
-    ∷ dword "Model" (model_3_number s.model)  -- 40
+    ∷ hex qword "VATOS Address" s.vatos_address  -- 32
+    ∷ one_of model_3_words dword "Model" (model_3_number s.model)  -- 40
     ∷ dword "Event GSIV" s.event_gsiv  -- 44
     ∷ dword "PRI GSIV" s.pri_gsiv  -- 48
     ∷ dword "GERR GSIV" s.gerr_gsiv  -- 52

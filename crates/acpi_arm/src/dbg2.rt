@@ -274,7 +274,7 @@ impl DebugDevice {
 
 /// The rows of a Debug Device Information structure before its registers.
 pub const DEBUG_DEVICE: [Row; 12] = [
-    Row::Number("Revision", 1),
+    Row::Preset("Revision", 1, 0),
     Row::Number("Length", 2),
     Row::Number("NumberofGenericAddressRegisters", 1),
     Row::Number("NamespaceStringLength", 2),
@@ -291,13 +291,13 @@ pub const DEBUG_DEVICE: [Row; 12] = [
             Word(0x8003, "Net"),
         ],
     ),
-    Row::Number("Port Subtype", 2),
+    Row::Hex("Port Subtype", 2),
     Row::Reserved(2),
-    Row::Number("BaseAddressRegisterOffset", 2),
+    Row::Preset("BaseAddressRegisterOffset", 2, 22),
     Row::Number("AddressSizeOffset", 2),
 ];
 
-/// The names and widths of the fields before a device's registers, in order.
+/// The rows of the fields before a device's registers, in order.
 pub fn debug_device_rows() -> &'static [Row]
     ensures { (d : Device) → AreRowsOf result.now (device_head_fields d) }
 {

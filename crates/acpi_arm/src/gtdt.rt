@@ -21,7 +21,7 @@ use acpi_base::error::{Error, R};
 use acpi_base::object::Aml;
 use acpi_base::oem::Oem;
 use acpi_base::parts::write_parts;
-use acpi_base::row::{Record, Row, Word, record_of_numbers, write_record};
+use acpi_base::row::{Bits, Record, Row, Word, record_of_numbers, write_record};
 use acpi_base::sink::AmlSink;
 use acpi_core::entries::Entries;
 use acpi_core::form::Form;
@@ -285,15 +285,18 @@ impl Timers {
     }
 }
 
-const TIMER_FLAGS: [Word; 3] = [
-    Word(1, "Edge Triggered"),
-    Word(2, "Active Low"),
-    Word(4, "Always-on"),
+const TIMER_FLAGS: [Bits; 3] = [
+    Bits::OneOf(
+        0x1,
+        &[Word(0x0, "Level Triggered"), Word(0x1, "Edge Triggered")],
+    ),
+    Bits::OneOf(0x2, &[Word(0x0, "Active High"), Word(0x2, "Active Low")]),
+    Bits::Flag(0x4, "Always-on"),
 ];
 
 /// The rows of a GTDT between its header and the number of its platform timers.
 pub const GTDT_FIXED: [Row; 11] = [
-    Row::Number("CntControlBase Physical Address", 8),
+    Row::Hex("CntControlBase Physical Address", 8),
     Row::Reserved(4),
     Row::Number("Secure EL1 Timer GSIV", 4),
     Row::Flags("Secure EL1 Timer Flags", 4, &TIMER_FLAGS),
@@ -303,24 +306,24 @@ pub const GTDT_FIXED: [Row; 11] = [
     Row::Flags("Virtual EL1 Timer Flags", 4, &TIMER_FLAGS),
     Row::Number("EL2 Timer GSIV", 4),
     Row::Flags("EL2 Timer Flags", 4, &TIMER_FLAGS),
-    Row::Number("CntReadBase Physical Address", 8),
+    Row::Hex("CntReadBase Physical Address", 8),
 ];
 
 /// The rows of a GTDT after the number of its platform timers.
 pub const GTDT_LAST: [Row; 3] = [
-    Row::Number("Platform Timer Offset", 4),
+    Row::Preset("Platform Timer Offset", 4, 104),
     Row::Number("Virtual EL2 Timer GSIV", 4),
     Row::Flags("Virtual EL2 Timer Flags", 4, &TIMER_FLAGS),
 ];
 
-/// The names and widths of the fields between the header and the number of platform timers, in order.
+/// The rows of the fields between the header and the number of platform timers, in order.
 pub fn gtdt_rows() -> &'static [Row]
     ensures { (t : Timers) → AreRowsOf result.now (timers_fields t) }
 {
     &GTDT_FIXED
 }
 
-/// The names and widths of the fields after that number, in order.
+/// The rows of the fields after that number, in order.
 pub fn gtdt_last_rows() -> &'static [Row]
     ensures { (t : Timers) → AreRowsOf result.now (last_fields t) }
 {
@@ -429,14 +432,20 @@ impl GtBlockTimer {
     }
 }
 
-const BLOCK_TIMER_FLAGS: [Word; 2] = [Word(1, "Edge Triggered"), Word(2, "Active Low")];
+const BLOCK_TIMER_FLAGS: [Bits; 2] = [
+    Bits::OneOf(
+        0x1,
+        &[Word(0x0, "Level Triggered"), Word(0x1, "Edge Triggered")],
+    ),
+    Bits::OneOf(0x2, &[Word(0x0, "Active High"), Word(0x2, "Active Low")]),
+];
 
 /// The rows of a GT Block Timer Structure.
 pub const GT_BLOCK_TIMER: [Row; 9] = [
     Row::Number("GT Frame Number", 1),
     Row::Reserved(3),
-    Row::Number("GTx Physical Address (CntBaseX)", 8),
-    Row::Number("GTx Physical Address (CntEL0BaseX)", 8),
+    Row::Hex("GTx Physical Address (CntBaseX)", 8),
+    Row::Hex("GTx Physical Address (CntEL0BaseX)", 8),
     Row::Number("GTx Physical Timer GSIV", 4),
     Row::Flags("GTx Physical Timer Flags", 4, &BLOCK_TIMER_FLAGS),
     Row::Number("GTx Virtual Timer GSIV", 4),
@@ -444,7 +453,7 @@ pub const GT_BLOCK_TIMER: [Row; 9] = [
     Row::Flags(
         "GTx Common Flags",
         4,
-        &[Word(1, "Secure"), Word(2, "Always-on")],
+        &[Bits::Flag(0x1, "Secure"), Bits::Flag(0x2, "Always-on")],
     ),
 ];
 
@@ -539,15 +548,15 @@ impl GtBlock {
 
 /// The rows of a GT Block Structure before its timers.
 pub const GT_BLOCK: [Row; 6] = [
-    Row::Number("Type", 1),
+    Row::Preset("Type", 1, 0),
     Row::Number("Length", 2),
     Row::Reserved(1),
-    Row::Number("GT Block Physical Address (CntCtlBase)", 8),
+    Row::Hex("GT Block Physical Address (CntCtlBase)", 8),
     Row::Number("GT Block Timer Count", 4),
-    Row::Number("GT Block Timer Offset", 4),
+    Row::Preset("GT Block Timer Offset", 4, 20),
 ];
 
-/// The names and widths of the fields before a block's timers, in order.
+/// The rows of the fields before a block's timers, in order.
 pub fn gt_block_rows() -> &'static [Row]
     ensures { (b : GtBlock) → AreRowsOf result.now (gt_block_head_fields b) }
 {
@@ -614,19 +623,22 @@ impl GenericWatchdog {
 
 /// The rows of an Arm Generic Watchdog Structure.
 pub const GENERIC_WATCHDOG: [Row; 7] = [
-    Row::Number("Type", 1),
-    Row::Number("Length", 2),
+    Row::Preset("Type", 1, 1),
+    Row::Preset("Length", 2, 28),
     Row::Reserved(1),
-    Row::Number("RefreshFrame Physical Address", 8),
-    Row::Number("WatchdogControlFrame Physical Address", 8),
+    Row::Hex("RefreshFrame Physical Address", 8),
+    Row::Hex("WatchdogControlFrame Physical Address", 8),
     Row::Number("Watchdog Timer GSIV", 4),
     Row::Flags(
         "Watchdog Timer Flags",
         4,
         &[
-            Word(1, "Edge Triggered"),
-            Word(2, "Active Low"),
-            Word(4, "Secure"),
+            Bits::OneOf(
+                0x1,
+                &[Word(0x0, "Level Triggered"), Word(0x1, "Edge Triggered")],
+            ),
+            Bits::OneOf(0x2, &[Word(0x0, "Active High"), Word(0x2, "Active Low")]),
+            Bits::Flag(0x4, "Secure"),
         ],
     ),
 ];

@@ -1,5 +1,5 @@
 -- Walks of further tables.
-use Rattle.std.proofs.Common.{rules, ◌≡◌, ℕ, ◌≤◌, ◌==◌, Bool, true, false, if◌then◌else◌, List, [], refl, sym, ap, subst, ◌∙◌, arith, inl, inr}
+use Rattle.std.proofs.Common.{rules, ◌≡◌, ℕ, ◌==◌, Bool, true, false, if◌then◌else◌, List, refl, sym, subst, ◌∙◌, arith, inl, inr}
 use Rattle.std.specs.Prelude.{◌↔◌, Option, Some, None, IsSome}
 use Rattle.std.proofs.lemmas.Bool.Decides.{nat_tests}
 use Rattle.acpi_base.specs.Bytes.{field_at}

@@ -8,7 +8,7 @@ use Rattle.acpi_base.specs.Bytes.{carried, field_at}
 use Rattle.acpi_base.specs.declared.walk.Sizes.{Sizes}
 use Rattle.acpi_base.specs.declared.walk.Sizes.TheVariants.{EachOf, ToldAt, BySource}
 use Rattle.acpi_base.specs.declared.walk.Walk.{Walk}
-use Rattle.acpi_base.specs.Walk.{place_offset, place_width, end_of, number_in, source_size, IsPiece, ArePieces, HasSizes, IsSound, OneWalk, Walks}
+use Rattle.acpi_base.specs.Walk.{place_offset, place_width, number_in, source_size, IsPiece, ArePieces, HasSizes, IsSound, OneWalk}
 use Rattle.acpi_base.specs.Walk.{walks, find_row, walk_of, named, WalksBy, OneListOfPieces}
 
 -- a field in the front of a list

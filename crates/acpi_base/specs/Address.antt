@@ -1,15 +1,16 @@
 -- Addresses of registers as plain fields (ACPI 6.5, 5.2.3.2, Generic Address Structure).
 use Rattle.std.specs.Prelude.{ℕ, List, [], ◌∷◌}
-use Rattle.acpi_base.specs.Fields.{NamedField, byte, qword, fields_joined}
+use Rattle.acpi_base.specs.Fields.{NamedField, byte, qword, hex, one_of, fields_joined}
+use Rattle.acpi_base.specs.Gas.{address_spaces, access_sizes}
 use Rattle.acpi_base.specs.declared.address.GenericAddress.{GenericAddress}
 
 abbrev pub address_fields : GenericAddress → List NamedField
 address_fields a =
-    byte "Address Space ID" a.address_space_id  -- 0
+    one_of address_spaces byte "Address Space ID" a.address_space_id  -- 0
     ∷ byte "Register Bit Width" a.register_bit_width  -- 1
     ∷ byte "Register Bit Offset" a.register_bit_offset  -- 2
-    ∷ byte "Access Size" a.access_size  -- 3
-    ∷ qword "Address" a.address  -- 4
+    ∷ one_of access_sizes byte "Access Size" a.access_size  -- 3
+    ∷ hex qword "Address" a.address  -- 4
     ∷ []
 
 abbrev pub address_bytes : GenericAddress → List ℕ

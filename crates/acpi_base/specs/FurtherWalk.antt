@@ -5,7 +5,7 @@ use Rattle.acpi_base.specs.Bytes.{field_at}
 use Rattle.acpi_base.specs.Walk.{place_width, end_of, number_in, Tells, Walks, IsSound, find_row, walk_of, ArePiecesOf}
 use Rattle.acpi_base.specs.declared.further_walk.FurtherWalk.{FurtherWalk}
 use Rattle.acpi_base.specs.declared.walk.Place.TheVariants.{Nowhere, Byte, Word, DWord}
-use Rattle.acpi_base.specs.declared.walk.Sizes.TheVariants.{ToldAt}
+use Rattle.acpi_base.specs.declared.walk.Sizes.TheVariants.{EachOf, ToldAt}
 use Rattle.acpi_base.specs.declared.walk.Walk.{Walk}
 
 abbrev pub gtdt_walk : Walk
@@ -17,11 +17,111 @@ iort_walk = record { start = 48; sizes = ToldAt (Word 1); kind = Byte 0; count =
 abbrev pub dbg2_walk : Walk
 dbg2_walk = record { start = 44; sizes = ToldAt (Word 1); kind = Nowhere; count = DWord 40; first = DWord 36 }
 
+abbrev pub rsdt_walk : Walk
+rsdt_walk = record { start = 36; sizes = EachOf 4; kind = Nowhere; count = Nowhere; first = Nowhere }
+
+abbrev pub fpdt_walk : Walk
+fpdt_walk = record { start = 36; sizes = ToldAt (Byte 2); kind = Word 0; count = Nowhere; first = Nowhere }
+
+abbrev pub slic_walk : Walk
+slic_walk = record { start = 36; sizes = ToldAt (DWord 4); kind = DWord 0; count = Nowhere; first = Nowhere }
+
+abbrev pub svkl_walk : Walk
+svkl_walk = record { start = 40; sizes = EachOf 16; kind = Nowhere; count = DWord 36; first = Nowhere }
+
+abbrev pub sdev_walk : Walk
+sdev_walk = record { start = 36; sizes = ToldAt (Word 2); kind = Byte 0; count = Nowhere; first = Nowhere }
+
+abbrev pub prmt_walk : Walk
+prmt_walk = record { start = 60; sizes = ToldAt (Word 2); kind = Nowhere; count = DWord 56; first = DWord 52 }
+
+abbrev pub erst_walk : Walk
+erst_walk = record { start = 48; sizes = EachOf 32; kind = Nowhere; count = DWord 44; first = Nowhere }
+
+abbrev pub einj_walk : Walk
+einj_walk = record { start = 48; sizes = EachOf 32; kind = Nowhere; count = DWord 44; first = Nowhere }
+
+abbrev pub cpep_walk : Walk
+cpep_walk = record { start = 44; sizes = ToldAt (Byte 1); kind = Byte 0; count = Nowhere; first = Nowhere }
+
+abbrev pub ras2_walk : Walk
+ras2_walk = record { start = 40; sizes = EachOf 8; kind = Nowhere; count = Word 38; first = Nowhere }
+
+abbrev pub aest_walk : Walk
+aest_walk = record { start = 36; sizes = ToldAt (Word 1); kind = Byte 0; count = Nowhere; first = Nowhere }
+
+abbrev pub phat_walk : Walk
+phat_walk = record { start = 36; sizes = ToldAt (Word 2); kind = Word 0; count = Nowhere; first = Nowhere }
+
+abbrev pub pdtt_walk : Walk
+pdtt_walk = record { start = 44; sizes = EachOf 2; kind = Nowhere; count = Byte 36; first = DWord 40 }
+
+abbrev pub wdat_walk : Walk
+wdat_walk = record { start = 68; sizes = EachOf 24; kind = Nowhere; count = DWord 64; first = Nowhere }
+
+abbrev pub dmar_walk : Walk
+dmar_walk = record { start = 48; sizes = ToldAt (Word 2); kind = Word 0; count = Nowhere; first = Nowhere }
+
+abbrev pub ivrs_walk : Walk
+ivrs_walk = record { start = 48; sizes = ToldAt (Word 2); kind = Byte 0; count = Nowhere; first = Nowhere }
+
+abbrev pub nfit_walk : Walk
+nfit_walk = record { start = 40; sizes = ToldAt (Word 2); kind = Word 0; count = Nowhere; first = Nowhere }
+
+abbrev pub pcct_walk : Walk
+pcct_walk = record { start = 48; sizes = ToldAt (Byte 1); kind = Byte 0; count = Nowhere; first = Nowhere }
+
+abbrev pub lpit_walk : Walk
+lpit_walk = record { start = 36; sizes = ToldAt (DWord 4); kind = DWord 0; count = Nowhere; first = Nowhere }
+
+abbrev pub msct_walk : Walk
+msct_walk = record { start = 56; sizes = ToldAt (Byte 1); kind = Nowhere; count = Nowhere; first = DWord 36 }
+
+abbrev pub pmtt_walk : Walk
+pmtt_walk = record { start = 40; sizes = ToldAt (Word 2); kind = Byte 0; count = Nowhere; first = Nowhere }
+
+abbrev pub mpam_walk : Walk
+mpam_walk = record { start = 36; sizes = ToldAt (Word 0); kind = Nowhere; count = Nowhere; first = Nowhere }
+
+abbrev pub apmt_walk : Walk
+apmt_walk = record { start = 36; sizes = ToldAt (Word 0); kind = Nowhere; count = Nowhere; first = Nowhere }
+
+abbrev pub csrt_walk : Walk
+csrt_walk = record { start = 36; sizes = ToldAt (DWord 0); kind = Nowhere; count = Nowhere; first = Nowhere }
+
+abbrev pub asf_walk : Walk
+asf_walk = record { start = 36; sizes = ToldAt (Word 2); kind = Byte 0; count = Nowhere; first = Nowhere }
+
 abbrev pub further_walks : List (List ℕ × FurtherWalk)
 further_walks =
     (codes "GTDT", record { walk = gtdt_walk; least = 96 })
     ∷ (codes "IORT", record { walk = iort_walk; least = 48 })
     ∷ (codes "DBG2", record { walk = dbg2_walk; least = 44 })
+    ∷ (codes "RSDT", record { walk = rsdt_walk; least = 36 })
+    ∷ (codes "FPDT", record { walk = fpdt_walk; least = 36 })
+    ∷ (codes "SLIC", record { walk = slic_walk; least = 36 })
+    ∷ (codes "SVKL", record { walk = svkl_walk; least = 40 })
+    ∷ (codes "SDEV", record { walk = sdev_walk; least = 36 })
+    ∷ (codes "PRMT", record { walk = prmt_walk; least = 60 })
+    ∷ (codes "ERST", record { walk = erst_walk; least = 48 })
+    ∷ (codes "EINJ", record { walk = einj_walk; least = 48 })
+    ∷ (codes "CPEP", record { walk = cpep_walk; least = 44 })
+    ∷ (codes "RAS2", record { walk = ras2_walk; least = 40 })
+    ∷ (codes "AEST", record { walk = aest_walk; least = 36 })
+    ∷ (codes "PHAT", record { walk = phat_walk; least = 36 })
+    ∷ (codes "PDTT", record { walk = pdtt_walk; least = 44 })
+    ∷ (codes "WDAT", record { walk = wdat_walk; least = 68 })
+    ∷ (codes "DMAR", record { walk = dmar_walk; least = 48 })
+    ∷ (codes "IVRS", record { walk = ivrs_walk; least = 48 })
+    ∷ (codes "NFIT", record { walk = nfit_walk; least = 40 })
+    ∷ (codes "PCCT", record { walk = pcct_walk; least = 48 })
+    ∷ (codes "LPIT", record { walk = lpit_walk; least = 36 })
+    ∷ (codes "MSCT", record { walk = msct_walk; least = 56 })
+    ∷ (codes "PMTT", record { walk = pmtt_walk; least = 40 })
+    ∷ (codes "MPAM", record { walk = mpam_walk; least = 36 })
+    ∷ (codes "APMT", record { walk = apmt_walk; least = 36 })
+    ∷ (codes "CSRT", record { walk = csrt_walk; least = 36 })
+    ∷ (codes "ASF!", record { walk = asf_walk; least = 36 })
     ∷ []
 
 -- the walk of the further tables of a signature

@@ -1,6 +1,9 @@
 -- Addresses of registers (ACPI 6.5, 5.2.3.2, Generic Address Structure).
 use Rattle.std.specs.Prelude.{ℕ, ◌+◌, ◌*◌, ◌^◌, List, [], ◌∷◌}
-use Rattle.acpi_base.specs.Fields.{NamedField, byte, qword, fields_joined}
+use Prim.Native.String.{String}
+use Rattle.acpi_base.specs.Fields.{NamedField, byte, qword, hex, one_of, bytes, fields_joined}
+use Rattle.acpi_base.specs.Look.{means}
+use Rattle.acpi_base.specs.Look as looks
 use Rattle.acpi_base.specs.declared.gas.GAS.{GAS}
 use Rattle.acpi_base.specs.declared.gas.AddressSpace.{AddressSpace}
 use Rattle.acpi_base.specs.declared.gas.AddressSpace.TheVariants as spaces
@@ -31,17 +34,49 @@ size_number sizes.WordAccess = 2
 size_number sizes.DwordAccess = 3
 size_number sizes.QwordAccess = 4
 
+-- the words of address spaces, as ASL has them (ACPI 6.5, 19.6.114, Region)
+abbrev pub address_spaces : List (ℕ × List ℕ)
+address_spaces =
+    means 0x00 "SystemMemory"
+    ∷ means 0x01 "SystemIO"
+    ∷ means 0x02 "PCI_Config"
+    ∷ means 0x03 "EmbeddedControl"
+    ∷ means 0x04 "SMBus"
+    ∷ means 0x05 "SystemCMOS"
+    ∷ means 0x06 "PciBarTarget"
+    ∷ means 0x07 "IPMI"
+    ∷ means 0x08 "GeneralPurposeIO"
+    ∷ means 0x09 "GenericSerialBus"
+    ∷ means 0x0a "PCC"
+    ∷ means 0x0b "PlatformRtMechanism"
+    ∷ means 0x7f "FFixedHW"
+    ∷ []
+
+-- the words of access sizes
+abbrev pub access_sizes : List (ℕ × List ℕ)
+access_sizes =
+    means 0 "Undefined"
+    ∷ means 1 "Byte Access"
+    ∷ means 2 "Word Access"
+    ∷ means 3 "DWord Access"
+    ∷ means 4 "QWord Access"
+    ∷ []
+
 abbrev pub gas_fields : GAS → List NamedField
 gas_fields g =
-    byte "Address Space ID" (space_number g.address_space_id)  -- 0
+    one_of address_spaces byte "Address Space ID" (space_number g.address_space_id)  -- 0
     ∷ byte "Register Bit Width" g.register_bit_width  -- 1
     ∷ byte "Register Bit Offset" g.register_bit_offset  -- 2
-    ∷ byte "Access Size" (size_number g.access_size)  -- 3
-    ∷ qword "Address" g.address  -- 4
+    ∷ one_of access_sizes byte "Access Size" (size_number g.access_size)  -- 3
+    ∷ hex qword "Address" g.address  -- 4
     ∷ []
 
 abbrev pub gas_bytes : GAS → List ℕ
 gas_bytes g = fields_joined (gas_fields g)
+
+-- a field that is the address of a register
+abbrev pub register : String → GAS → NamedField
+register name value = record (bytes name 12 (gas_bytes value)) { look = looks.register }
 
 -- a register of this many bits at an address
 abbrev pub gas : AddressSpace → ℕ → ℕ → AccessSize → ℕ → GAS

@@ -1,20 +1,20 @@
 -- The standard header of a table (ACPI 6.5, 5.2.6).
 use Rattle.std.specs.Prelude.{ℕ, List, [], ◌∷◌, codes}
-use Rattle.acpi_base.specs.Fields.{NamedField, byte, dword, bytes, fields_joined}
+use Rattle.acpi_base.specs.Fields.{NamedField, byte, dword, hex, text, fields_joined}
 use Rattle.acpi_base.specs.declared.oem.Oem.{Oem}
 
 -- the header of a table of this many bytes, with a checksum of 0
 abbrev pub header_fields : List ℕ → ℕ → ℕ → Oem → List NamedField
 header_fields signature size revision oem =
-    bytes "Signature" 4 signature  -- 0
+    text "Signature" 4 signature  -- 0
     ∷ dword "Length" size  -- 4
     ∷ byte "Revision" revision  -- 8
-    ∷ byte "Checksum" 0  -- 9
-    ∷ bytes "OEM ID" 6 oem.id  -- 10
-    ∷ bytes "OEM Table ID" 8 oem.table_id  -- 16
+    ∷ hex byte "Checksum" 0  -- 9
+    ∷ text "OEM ID" 6 oem.id  -- 10
+    ∷ text "OEM Table ID" 8 oem.table_id  -- 16
     ∷ dword "OEM Revision" oem.revision  -- 24
-    ∷ bytes "Creator ID" 4 (codes "RVAT")  -- 28
-    ∷ bytes "Creator Revision" 4 (0 ∷ 0 ∷ 0 ∷ 1 ∷ [])  -- 32
+    ∷ text "Creator ID" 4 (codes "RVAT")  -- 28
+    ∷ hex dword "Creator Revision" 0x01000000  -- 32
     ∷ []
 
 -- the 36 bytes of the header

@@ -8,8 +8,10 @@ pub mod Buffer
 pub mod Number
 pub mod Text
 pub mod Record
+pub mod Look
 pub mod Fields
 pub mod Gas
+pub mod Pci
 pub mod Address
 pub mod Sum
 pub mod Header

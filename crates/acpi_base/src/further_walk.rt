@@ -5,7 +5,7 @@ ghost use Rattle.acpi_base.specs.Walk.{IsSound};
 ghost use Rattle.acpi_base.specs.FurtherWalk.{begin_of, further_walk_of, table_walk_of, walk_from, HasNone, IsSoundFurther};
 
 use crate::walk::Place::{self, Byte, DWord, Nowhere, Word};
-use crate::walk::Sizes::ToldAt;
+use crate::walk::Sizes::{EachOf, ToldAt};
 use crate::walk::{Walk, find_row, walk_of};
 
 /// How the structures of a further table are found. If the walk has a field for the offset of the first, they begin there.
@@ -19,7 +19,7 @@ pub struct FurtherWalk {
 
 // The walks of the further tables that have structures, by signature.
 #[rattlefmt::skip]
-const FURTHER_WALKS: [([u8; 4], FurtherWalk); 3] = [
+const FURTHER_WALKS: [([u8; 4], FurtherWalk); 28] = [
     (*b"GTDT", FurtherWalk {
         walk: Walk { start: 104, sizes: ToldAt(Word(1)), kind: Byte(0), count: DWord(88), first: DWord(92) },
         least: 96,
@@ -31,6 +31,106 @@ const FURTHER_WALKS: [([u8; 4], FurtherWalk); 3] = [
     (*b"DBG2", FurtherWalk {
         walk: Walk { start: 44, sizes: ToldAt(Word(1)), kind: Nowhere, count: DWord(40), first: DWord(36) },
         least: 44,
+    }),
+    (*b"RSDT", FurtherWalk {
+        walk: Walk { start: 36, sizes: EachOf(4), kind: Nowhere, count: Nowhere, first: Nowhere },
+        least: 36,
+    }),
+    (*b"FPDT", FurtherWalk {
+        walk: Walk { start: 36, sizes: ToldAt(Byte(2)), kind: Word(0), count: Nowhere, first: Nowhere },
+        least: 36,
+    }),
+    (*b"SLIC", FurtherWalk {
+        walk: Walk { start: 36, sizes: ToldAt(DWord(4)), kind: DWord(0), count: Nowhere, first: Nowhere },
+        least: 36,
+    }),
+    (*b"SVKL", FurtherWalk {
+        walk: Walk { start: 40, sizes: EachOf(16), kind: Nowhere, count: DWord(36), first: Nowhere },
+        least: 40,
+    }),
+    (*b"SDEV", FurtherWalk {
+        walk: Walk { start: 36, sizes: ToldAt(Word(2)), kind: Byte(0), count: Nowhere, first: Nowhere },
+        least: 36,
+    }),
+    (*b"PRMT", FurtherWalk {
+        walk: Walk { start: 60, sizes: ToldAt(Word(2)), kind: Nowhere, count: DWord(56), first: DWord(52) },
+        least: 60,
+    }),
+    (*b"ERST", FurtherWalk {
+        walk: Walk { start: 48, sizes: EachOf(32), kind: Nowhere, count: DWord(44), first: Nowhere },
+        least: 48,
+    }),
+    (*b"EINJ", FurtherWalk {
+        walk: Walk { start: 48, sizes: EachOf(32), kind: Nowhere, count: DWord(44), first: Nowhere },
+        least: 48,
+    }),
+    (*b"CPEP", FurtherWalk {
+        walk: Walk { start: 44, sizes: ToldAt(Byte(1)), kind: Byte(0), count: Nowhere, first: Nowhere },
+        least: 44,
+    }),
+    (*b"RAS2", FurtherWalk {
+        walk: Walk { start: 40, sizes: EachOf(8), kind: Nowhere, count: Word(38), first: Nowhere },
+        least: 40,
+    }),
+    (*b"AEST", FurtherWalk {
+        walk: Walk { start: 36, sizes: ToldAt(Word(1)), kind: Byte(0), count: Nowhere, first: Nowhere },
+        least: 36,
+    }),
+    (*b"PHAT", FurtherWalk {
+        walk: Walk { start: 36, sizes: ToldAt(Word(2)), kind: Word(0), count: Nowhere, first: Nowhere },
+        least: 36,
+    }),
+    (*b"PDTT", FurtherWalk {
+        walk: Walk { start: 44, sizes: EachOf(2), kind: Nowhere, count: Byte(36), first: DWord(40) },
+        least: 44,
+    }),
+    (*b"WDAT", FurtherWalk {
+        walk: Walk { start: 68, sizes: EachOf(24), kind: Nowhere, count: DWord(64), first: Nowhere },
+        least: 68,
+    }),
+    (*b"DMAR", FurtherWalk {
+        walk: Walk { start: 48, sizes: ToldAt(Word(2)), kind: Word(0), count: Nowhere, first: Nowhere },
+        least: 48,
+    }),
+    (*b"IVRS", FurtherWalk {
+        walk: Walk { start: 48, sizes: ToldAt(Word(2)), kind: Byte(0), count: Nowhere, first: Nowhere },
+        least: 48,
+    }),
+    (*b"NFIT", FurtherWalk {
+        walk: Walk { start: 40, sizes: ToldAt(Word(2)), kind: Word(0), count: Nowhere, first: Nowhere },
+        least: 40,
+    }),
+    (*b"PCCT", FurtherWalk {
+        walk: Walk { start: 48, sizes: ToldAt(Byte(1)), kind: Byte(0), count: Nowhere, first: Nowhere },
+        least: 48,
+    }),
+    (*b"LPIT", FurtherWalk {
+        walk: Walk { start: 36, sizes: ToldAt(DWord(4)), kind: DWord(0), count: Nowhere, first: Nowhere },
+        least: 36,
+    }),
+    (*b"MSCT", FurtherWalk {
+        walk: Walk { start: 56, sizes: ToldAt(Byte(1)), kind: Nowhere, count: Nowhere, first: DWord(36) },
+        least: 56,
+    }),
+    (*b"PMTT", FurtherWalk {
+        walk: Walk { start: 40, sizes: ToldAt(Word(2)), kind: Byte(0), count: Nowhere, first: Nowhere },
+        least: 40,
+    }),
+    (*b"MPAM", FurtherWalk {
+        walk: Walk { start: 36, sizes: ToldAt(Word(0)), kind: Nowhere, count: Nowhere, first: Nowhere },
+        least: 36,
+    }),
+    (*b"APMT", FurtherWalk {
+        walk: Walk { start: 36, sizes: ToldAt(Word(0)), kind: Nowhere, count: Nowhere, first: Nowhere },
+        least: 36,
+    }),
+    (*b"CSRT", FurtherWalk {
+        walk: Walk { start: 36, sizes: ToldAt(DWord(0)), kind: Nowhere, count: Nowhere, first: Nowhere },
+        least: 36,
+    }),
+    (*b"ASF!", FurtherWalk {
+        walk: Walk { start: 36, sizes: ToldAt(Word(2)), kind: Byte(0), count: Nowhere, first: Nowhere },
+        least: 36,
     }),
 ];
 

@@ -116,8 +116,8 @@ impl GAS {
     }
 }
 
-// The names of address spaces.
-const ADDRESS_SPACES: [Word; 13] = [
+/// The words of address spaces.
+pub const ADDRESS_SPACES: [Word; 13] = [
     Word(0, "SystemMemory"),
     Word(1, "SystemIO"),
     Word(2, "PCI_Config"),
@@ -133,8 +133,8 @@ const ADDRESS_SPACES: [Word; 13] = [
     Word(127, "FFixedHW"),
 ];
 
-// The names of access sizes.
-const ACCESS_SIZES: [Word; 5] = [
+/// The words of access sizes.
+pub const ACCESS_SIZES: [Word; 5] = [
     Word(0, "Undefined"),
     Word(1, "Byte Access"),
     Word(2, "Word Access"),
@@ -148,7 +148,7 @@ pub const GENERIC_ADDRESS: [Row; 5] = [
     Row::Number("Register Bit Width", 1),
     Row::Number("Register Bit Offset", 1),
     Row::OneOf("Access Size", 1, &ACCESS_SIZES),
-    Row::Number("Address", 8),
+    Row::Hex("Address", 8),
 ];
 
 impl Record<12> for GAS {

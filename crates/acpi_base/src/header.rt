@@ -40,18 +40,18 @@ pub fn header(signature: [u8; 4], size: u32, revision: u8, oem: Oem) -> [u8; 36]
 
 /// The rows of the header.
 pub const HEADER: [Row; 9] = [
-    Row::Bytes("Signature", 4),
+    Row::Text("Signature", 4),
     Row::Number("Length", 4),
     Row::Number("Revision", 1),
-    Row::Number("Checksum", 1),
-    Row::Bytes("OEM ID", 6),
-    Row::Bytes("OEM Table ID", 8),
+    Row::Hex("Checksum", 1),
+    Row::Text("OEM ID", 6),
+    Row::Text("OEM Table ID", 8),
     Row::Number("OEM Revision", 4),
-    Row::Bytes("Creator ID", 4),
-    Row::Bytes("Creator Revision", 4),
+    Row::Text("Creator ID", 4),
+    Row::Hex("Creator Revision", 4),
 ];
 
-/// The names and widths of the header's fields, in order.
+/// The names and widths of the header's fields, and what their values are, in order.
 pub fn header_rows() -> &'static [Row]
     ensures { (signature : List ℕ) (size revision : ℕ) (oem : Oem)
         → AreRowsOf result.now (header_fields signature size revision oem) }

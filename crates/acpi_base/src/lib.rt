@@ -17,6 +17,7 @@ pub mod object;
 pub mod oem;
 pub mod parts;
 pub mod patch;
+pub mod pci;
 pub mod record;
 pub mod row;
 pub mod sdt;

@@ -1,6 +1,6 @@
 -- The Boot Error Record Table (ACPI 6.5, 18.3.1).
 use Rattle.std.specs.Prelude.{ℕ, List, [], ◌∷◌, codes}
-use Rattle.acpi_base.specs.Fields.{NamedField, dword, qword, fields_joined}
+use Rattle.acpi_base.specs.Fields.{NamedField, dword, qword, hex, fields_joined}
 use Rattle.acpi_base.specs.Table.{table_of}
 use Rattle.acpi_base.specs.declared.oem.Oem.{Oem}
 use Rattle.acpi_fixed.specs.declared.bert.BERT.{BERT}
@@ -9,7 +9,7 @@ use Rattle.acpi_fixed.specs.declared.bert.BERT.{BERT}
 abbrev pub bert_fields : BERT → List NamedField
 bert_fields t =
     dword "Boot Error Region Length" t.error_region_length  -- 36
-    ∷ qword "Boot Error Region" t.error_region_base  -- 40
+    ∷ hex qword "Boot Error Region" t.error_region_base  -- 40
     ∷ []
 
 abbrev pub bert_bytes : BERT → List ℕ

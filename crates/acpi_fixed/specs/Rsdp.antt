@@ -1,19 +1,19 @@
 -- The Root System Description Pointer (ACPI 6.5, 5.2.5.3).
 use Rattle.std.specs.Prelude.{ℕ, List, [], ◌∷◌, codes, take, sum}
 use Rattle.acpi_base.specs.Bytes.{complement}
-use Rattle.acpi_base.specs.Fields.{NamedField, byte, dword, qword, bytes, reserved, fields_joined}
+use Rattle.acpi_base.specs.Fields.{NamedField, byte, dword, qword, hex, text, reserved, fields_joined}
 use Rattle.acpi_fixed.specs.declared.rsdp.Rsdp.{Rsdp}
 
 abbrev pub rsdp_fields : Rsdp → List NamedField
 rsdp_fields r =
-    bytes "Signature" 8 r.signature  -- 0
-    ∷ byte "Checksum" r.checksum  -- 8
-    ∷ bytes "OEMID" 6 r.oem_id  -- 9
+    text "Signature" 8 r.signature  -- 0
+    ∷ hex byte "Checksum" r.checksum  -- 8
+    ∷ text "OEMID" 6 r.oem_id  -- 9
     ∷ byte "Revision" r.revision  -- 15
-    ∷ dword "RsdtAddress" 0  -- 16
+    ∷ hex dword "RsdtAddress" 0  -- 16
     ∷ dword "Length" r.length  -- 20
-    ∷ qword "XsdtAddress" r.xsdt_addr  -- 24
-    ∷ byte "Extended Checksum" r.extended_checksum  -- 32
+    ∷ hex qword "XsdtAddress" r.xsdt_addr  -- 24
+    ∷ hex byte "Extended Checksum" r.extended_checksum  -- 32
     ∷ reserved 3  -- 33
     ∷ []
 

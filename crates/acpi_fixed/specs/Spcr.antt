@@ -1,7 +1,8 @@
 -- The Serial Port Console Redirection table (Microsoft, SPCR revision 4).
 use Rattle.std.specs.Prelude.{ℕ, List, [], ◌∷◌, ◌++◌, codes, bit_or}
-use Rattle.acpi_base.specs.Fields.{NamedField, byte, word, dword, bytes, reserved, fields_joined}
-use Rattle.acpi_base.specs.Gas.{gas_bytes, no_register}
+use Rattle.acpi_base.specs.Fields.{NamedField, byte, word, dword, hex, preset, flags, one_of, text, reserved, fields_joined}
+use Rattle.acpi_base.specs.Look.{Part, flag, means}
+use Rattle.acpi_base.specs.Gas.{register, no_register}
 use Rattle.acpi_base.specs.Table.{table_of}
 use Rattle.acpi_base.specs.declared.gas.GAS.{GAS}
 use Rattle.acpi_base.specs.declared.oem.Oem.{Oem}
@@ -73,33 +74,108 @@ terminal_number terminals.Ansi = 3
 
 -- ---- the table
 
+-- the words of Interface Type
+abbrev pub interface_words : List (ℕ × List ℕ)
+interface_words =
+    means 0x00 "16550"
+    ∷ means 0x01 "16550 Subset"
+    ∷ means 0x02 "MAX311xE SPI"
+    ∷ means 0x03 "Arm PL011"
+    ∷ means 0x04 "MSM8x60"
+    ∷ means 0x05 "Nvidia 16550"
+    ∷ means 0x06 "TI OMAP"
+    ∷ means 0x08 "APM88xxxx"
+    ∷ means 0x09 "MSM8974"
+    ∷ means 0x0a "SAM5250"
+    ∷ means 0x0b "Intel USIF"
+    ∷ means 0x0c "i.MX 6"
+    ∷ means 0x0d "Arm SBSA Generic UART, 32-bit Accesses"
+    ∷ means 0x0e "Arm SBSA Generic UART"
+    ∷ means 0x0f "Arm DCC"
+    ∷ means 0x10 "BCM2835"
+    ∷ means 0x11 "SDM845, 1.8432 MHz"
+    ∷ means 0x12 "16550 with Generic Address"
+    ∷ means 0x13 "SDM845, 7.372 MHz"
+    ∷ means 0x14 "Intel LPSS"
+    ∷ means 0x15 "RISC-V SBI Console"
+    ∷ []
+
+-- Interrupt Type
+abbrev pub controller_bits : List Part
+controller_bits =
+    flag 0x01 "8259"
+    ∷ flag 0x02 "I/O APIC"
+    ∷ flag 0x04 "I/O SAPIC"
+    ∷ flag 0x08 "Arm GIC"
+    ∷ flag 0x10 "RISC-V PLIC or APLIC"
+    ∷ []
+
+-- the words of Configured Baud Rate
+abbrev pub rate_words : List (ℕ × List ℕ)
+rate_words =
+    means 0 "As Is"
+    ∷ means 3 "9600"
+    ∷ means 4 "19200"
+    ∷ means 6 "57600"
+    ∷ means 7 "115200"
+    ∷ []
+
+-- the word of Parity
+abbrev pub parity_words : List (ℕ × List ℕ)
+parity_words =
+    means 0 "No Parity"
+    ∷ []
+
+-- Flow Control
+abbrev pub flow_bits : List Part
+flow_bits =
+    flag 0x1 "DCD Required"
+    ∷ flag 0x2 "RTS/CTS"
+    ∷ flag 0x4 "XON/XOFF"
+    ∷ []
+
+-- the words of Terminal Type
+abbrev pub terminal_words : List (ℕ × List ℕ)
+terminal_words =
+    means 0 "VT100"
+    ∷ means 1 "Extended VT100"
+    ∷ means 2 "VT-UTF8"
+    ∷ means 3 "ANSI"
+    ∷ []
+
+-- PCI Flags
+abbrev pub pci_bits : List Part
+pci_bits =
+    flag 0x1 "PnP and Power Management"
+    ∷ []
+
 -- the fields after the header
 abbrev pub spcr_fields : SPCR → List NamedField
 spcr_fields t =
-    byte "Interface Type" (interface_number t.interface_type)  -- 36
+    one_of interface_words byte "Interface Type" (interface_number t.interface_type)  -- 36
     ∷ reserved 3  -- 37
-    ∷ bytes "Base Address" 12 (gas_bytes t.base_address)  -- 40
-    ∷ byte "Interrupt Type" t.interrupt_type  -- 52
+    ∷ register "Base Address" t.base_address  -- 40
+    ∷ flags controller_bits byte "Interrupt Type" t.interrupt_type  -- 52
     ∷ byte "IRQ" t.irq  -- 53
     ∷ dword "Global System Interrupt" t.gsi  -- 54
-    ∷ byte "Configured Baud Rate" (rate_number t.baud_rate)  -- 58
-    ∷ byte "Parity" t.parity  -- 59
+    ∷ one_of rate_words byte "Configured Baud Rate" (rate_number t.baud_rate)  -- 58
+    ∷ one_of parity_words byte "Parity" t.parity  -- 59
     ∷ byte "Stop Bits" t.stop_bits  -- 60
-    ∷ byte "Flow Control" t.flow_control  -- 61
-    ∷ byte "Terminal Type" (terminal_number t.terminal_type)  -- 62
+    ∷ flags flow_bits byte "Flow Control" t.flow_control  -- 61
+    ∷ one_of terminal_words byte "Terminal Type" (terminal_number t.terminal_type)  -- 62
     ∷ byte "Language" t.language  -- 63
-    ∷ word "PCI Device ID" t.pci_device_id  -- 64
-    ∷ word "PCI Vendor ID" t.pci_vendor_id  -- 66
+    ∷ hex word "PCI Device ID" t.pci_device_id  -- 64
+    ∷ hex word "PCI Vendor ID" t.pci_vendor_id  -- 66
     ∷ byte "PCI Bus Number" t.pci_bus  -- 68
     ∷ byte "PCI Device Number" t.pci_device  -- 69
     ∷ byte "PCI Function Number" t.pci_function  -- 70
-    ∷ dword "PCI Flags" t.pci_flags  -- 71
+    ∷ flags pci_bits dword "PCI Flags" t.pci_flags  -- 71
     ∷ byte "PCI Segment" t.pci_segment  -- 75
     ∷ dword "UART Clock Frequency" t.clock_frequency  -- 76
     ∷ dword "Precise Baud Rate" t.precise_baud_rate  -- 80
-    ∷ word "NamespaceStringLength" 2  -- 84
-    ∷ word "NamespaceStringOffset" 88  -- 86
-    ∷ bytes "NamespaceString" 2 (codes "." ++ 0 ∷ [])  -- 88: no device
+    ∷ preset word "NamespaceStringLength" 2  -- 84
+    ∷ preset word "NamespaceStringOffset" 88  -- 86
+    ∷ text "NamespaceString" 2 (codes "." ++ 0 ∷ [])  -- 88: no device
     ∷ []
 
 abbrev pub spcr_bytes : SPCR → List ℕ

@@ -1,11 +1,12 @@
 -- TCPA of clients and servers (TCG ACPI Specification, TPM 1.2).
 use Rattle.std.specs.Prelude.{ℕ, List, [], ◌∷◌, codes, bit_or}
-use Rattle.acpi_base.specs.Fields.{NamedField, byte, word, dword, qword, bytes, reserved, fields_joined}
-use Rattle.acpi_base.specs.Gas.{gas_bytes, no_register}
+use Rattle.acpi_base.specs.Fields.{NamedField, byte, word, dword, qword, hex, flags, one_of, bytes, reserved, fields_joined}
+use Rattle.acpi_base.specs.Look.{Part, flag}
+use Rattle.acpi_base.specs.Gas.{register, no_register}
 use Rattle.acpi_base.specs.Table.{table_of}
 use Rattle.acpi_base.specs.declared.gas.GAS.{GAS}
 use Rattle.acpi_base.specs.declared.oem.Oem.{Oem}
-use Rattle.acpi_fixed.specs.Class.{class_number}
+use Rattle.acpi_fixed.specs.Class.{class_number, class_words}
 use Rattle.acpi_fixed.specs.declared.tpm2.PlatformClass.TheVariants.{Client, Server}
 use Rattle.acpi_fixed.specs.declared.tpm2.TpmClient1_2.{TpmClient1_2}
 use Rattle.acpi_fixed.specs.declared.tpm2.TpmServer1_2.{TpmServer1_2}
@@ -15,9 +16,9 @@ use Rattle.acpi_fixed.specs.declared.tpm2.TpmServer1_2.{TpmServer1_2}
 -- the fields after the header
 abbrev pub client_fields : TpmClient1_2 → List NamedField
 client_fields t =
-    word "Platform Class" (class_number Client)  -- 36
+    one_of class_words word "Platform Class" (class_number Client)  -- 36
     ∷ dword "Log Area Minimum Length" t.log_area_min_len  -- 38
-    ∷ qword "Log Area Start Address" t.log_area_start_addr  -- 42
+    ∷ hex qword "Log Area Start Address" t.log_area_start_addr  -- 42
     ∷ []
 
 abbrev pub client_bytes : TpmClient1_2 → List ℕ
@@ -33,22 +34,39 @@ client_for oem min_len start_addr = record {
 
 -- ---- of a server
 
+-- Device Flags
+abbrev pub device_bits : List Part
+device_bits =
+    flag 0x1 "PCI Device"
+    ∷ flag 0x2 "Bus is PNP"
+    ∷ flag 0x4 "Configuration Address Valid"
+    ∷ []
+
+-- Interrupt Flags
+abbrev pub interrupt_bits : List Part
+interrupt_bits =
+    flag 0x1 "Edge Triggered"
+    ∷ flag 0x2 "Active Low"
+    ∷ flag 0x4 "SCI by GPE"
+    ∷ flag 0x8 "Global System Interrupt"
+    ∷ []
+
 -- the fields after the header
 abbrev pub server_fields : TpmServer1_2 → List NamedField
 server_fields t =
-    word "Platform Class" (class_number Server)  -- 36
+    one_of class_words word "Platform Class" (class_number Server)  -- 36
     ∷ reserved 2  -- 38
     ∷ qword "Log Area Minimum Length" t.log_area_min_len  -- 40
-    ∷ qword "Log Area Start Address" t.log_area_start_addr  -- 48
+    ∷ hex qword "Log Area Start Address" t.log_area_start_addr  -- 48
     ∷ bytes "Specification Revision" 2 (1 ∷ 2 ∷ [])  -- 56: 1.2
-    ∷ byte "Device Flags" t.device_flags  -- 58
-    ∷ byte "Interrupt Flags" t.interrupt_flags  -- 59
+    ∷ flags device_bits byte "Device Flags" t.device_flags  -- 58
+    ∷ flags interrupt_bits byte "Interrupt Flags" t.interrupt_flags  -- 59
     ∷ byte "GPE" t.gpe  -- 60
     ∷ reserved 3  -- 61
     ∷ dword "Global System Interrupt" t.gsi  -- 64
-    ∷ bytes "Base Address" 12 (gas_bytes t.base_addr)  -- 68
+    ∷ register "Base Address" t.base_addr  -- 68
     ∷ reserved 4  -- 80
-    ∷ bytes "Configuration Address" 12 (gas_bytes t.config_addr)  -- 84
+    ∷ register "Configuration Address" t.config_addr  -- 84
     ∷ byte "PCI Segment Group Number" t.pci_segment  -- 96
     ∷ byte "PCI Bus Number" t.pci_bus  -- 97
     ∷ byte "PCI Device Number" t.pci_device  -- 98

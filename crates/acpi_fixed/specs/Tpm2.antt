@@ -1,12 +1,13 @@
 -- TPM2 (TCG ACPI Specification, TPM 2.0).
 use Rattle.std.specs.Prelude.{◌≡◌, ℕ, List, [], ◌∷◌, codes, Option, Some, None, IsSome, Result, Ok, Err}
-use Rattle.acpi_base.specs.Fields.{NamedField, word, dword, qword, bytes, reserved, fields_joined}
+use Rattle.acpi_base.specs.Fields.{NamedField, word, dword, qword, hex, one_of, bytes, reserved, fields_joined}
+use Rattle.acpi_base.specs.Look.{means}
 use Rattle.acpi_base.specs.Bytes.{zeros}
 use Rattle.acpi_base.specs.Table.{table_of}
 use Rattle.acpi_base.specs.declared.error.Error.{Error}
 use Rattle.acpi_base.specs.declared.error.Error.TheVariants.{LogAreaSet}
 use Rattle.acpi_base.specs.declared.oem.Oem.{Oem}
-use Rattle.acpi_fixed.specs.Class.{class_number}
+use Rattle.acpi_fixed.specs.Class.{class_number, class_words}
 use Rattle.acpi_fixed.specs.declared.tpm2.PlatformClass.{PlatformClass}
 use Rattle.acpi_fixed.specs.declared.tpm2.StartMethod.{StartMethod}
 use Rattle.acpi_fixed.specs.declared.tpm2.StartMethod.TheVariants as methods
@@ -29,16 +30,28 @@ area_fields None = []
 area_fields (Some area) =
     bytes "Start Method Specific Parameters" 12 (zeros 12)  -- 52
     ∷ dword "Log Area Minimum Length" area.min_len  -- 64
-    ∷ qword "Log Area Start Address" area.base_addr  -- 68
+    ∷ hex qword "Log Area Start Address" area.base_addr  -- 68
+    ∷ []
+
+-- the words of Start Method
+abbrev pub method_words : List (ℕ × List ℕ)
+method_words =
+    means 1 "Vendor Specific Legacy Use"
+    ∷ means 2 "ACPI Start Method"
+    ∷ means 6 "Memory Mapped I/O"
+    ∷ means 7 "Command Response Buffer"
+    ∷ means 8 "Command Response Buffer with ACPI Start Method"
+    ∷ means 11 "Command Response Buffer with Arm SMC or HVC"
+    ∷ means 12 "FIFO over I2C"
     ∷ []
 
 -- the fields after the header
 abbrev pub tpm2_fields : Tpm2 → Option LogArea → List NamedField
 tpm2_fields t area =
-    word "Platform Class" (class_number t.platform_class)  -- 36
+    one_of class_words word "Platform Class" (class_number t.platform_class)  -- 36
     ∷ reserved 2  -- 38
-    ∷ qword "Address of CRB Control Area" t.crb_or_fifo_base  -- 40: or of the FIFO
-    ∷ dword "Start Method" (method_number t.start_method)  -- 48
+    ∷ hex qword "Address of CRB Control Area" t.crb_or_fifo_base  -- 40: or of the FIFO
+    ∷ one_of method_words dword "Start Method" (method_number t.start_method)  -- 48
     ∷ area_fields area
 
 abbrev pub tpm2_with : Tpm2 → Option LogArea → List ℕ

@@ -43,7 +43,7 @@ impl BERT {
 /// The rows of a BERT after its header.
 pub const BERT_ROWS: [Row; 2] = [
     Row::Number("Boot Error Region Length", 4),
-    Row::Number("Boot Error Region", 8),
+    Row::Hex("Boot Error Region", 8),
 ];
 
 /// The fields after the header.

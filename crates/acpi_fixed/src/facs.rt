@@ -6,7 +6,7 @@ ghost use Rattle.acpi_fixed.specs.Facs.{facs_at_first, facs_fields, facs_bytes};
 
 use acpi_base::error::R;
 use acpi_base::object::Aml;
-use acpi_base::row::{Record, Row, Value, Word, record_of, write_record};
+use acpi_base::row::{Bits, Record, Row, Value, record_of, write_record};
 use acpi_base::sink::AmlSink;
 
 /// The Firmware ACPI Control Structure (ACPI 6.5, 5.2.10): 64 bytes, without a checksum. Its fields are public, and are written
@@ -57,20 +57,27 @@ impl FACS {
 
 /// The rows of a FACS.
 pub const FACS_ROWS: [Row; 11] = [
-    Row::Bytes("Signature", 4),
+    Row::Text("Signature", 4),
     Row::Number("Length", 4),
-    Row::Number("Hardware Signature", 4),
-    Row::Number("Firmware Waking Vector", 4),
-    Row::Number("Global Lock", 4),
+    Row::Hex("Hardware Signature", 4),
+    Row::Hex("Firmware Waking Vector", 4),
+    Row::Flags(
+        "Global Lock",
+        4,
+        &[Bits::Flag(0x1, "Pending"), Bits::Flag(0x2, "Owned")],
+    ),
     Row::Flags(
         "Flags",
         4,
-        &[Word(1, "S4BIOS_F"), Word(2, "64BIT_WAKE_SUPPORTED_F")],
+        &[
+            Bits::Flag(0x1, "S4BIOS_F"),
+            Bits::Flag(0x2, "64BIT_WAKE_SUPPORTED_F"),
+        ],
     ),
-    Row::Number("X Firmware Waking Vector", 8),
+    Row::Hex("X Firmware Waking Vector", 8),
     Row::Number("Version", 1),
     Row::Reserved(3),
-    Row::Flags("OSPM Flags", 4, &[Word(1, "64BIT_WAKE_F")]),
+    Row::Flags("OSPM Flags", 4, &[Bits::Flag(0x1, "64BIT_WAKE_F")]),
     Row::Reserved(24),
 ];
 

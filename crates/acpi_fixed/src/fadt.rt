@@ -13,7 +13,7 @@ use acpi_base::error::R;
 use acpi_base::gas::GAS;
 use acpi_base::header::{CREATOR_ID, CREATOR_REVISION, HEADER};
 use acpi_base::object::Aml;
-use acpi_base::row::{Record, Row, Value, Word, record_of};
+use acpi_base::row::{Bits, Record, Row, Value, Word, record_of};
 use acpi_base::sink::AmlSink;
 use std::marker::Model;
 
@@ -320,7 +320,7 @@ impl FADTBuilder {
     }
 }
 
-/// The names and widths of the header's fields, in order.
+/// The rows of the header's fields, in order.
 pub fn fadt_header_rows() -> &'static [Row]
     ensures { (fields : FADTBuilder) → AreRowsOf result.now (header_fields fields) }
 {
@@ -341,66 +341,75 @@ const PROFILES: [Word; 9] = [
 ];
 
 // The names of the boot architecture flags of IA-PC (ACPI 6.5, 5.2.9.3).
-const IAPC_BOOT_ARCH: [Word; 6] = [
-    Word(0x1, "LEGACY_DEVICES"),
-    Word(0x2, "8042"),
-    Word(0x4, "VGA Not Present"),
-    Word(0x8, "MSI Not Supported"),
-    Word(0x10, "PCIe ASPM Controls"),
-    Word(0x20, "CMOS RTC Not Present"),
+const IAPC_BOOT_ARCH: [Bits; 6] = [
+    Bits::Flag(0x1, "LEGACY_DEVICES"),
+    Bits::Flag(0x2, "8042"),
+    Bits::Flag(0x4, "VGA Not Present"),
+    Bits::Flag(0x8, "MSI Not Supported"),
+    Bits::Flag(0x10, "PCIe ASPM Controls"),
+    Bits::Flag(0x20, "CMOS RTC Not Present"),
 ];
 
 // The names of the fixed feature flags (ACPI 6.5, 5.2.9).
-const FLAGS: [Word; 24] = [
-    Word(0x1, "WBINVD"),
-    Word(0x2, "WBINVD_FLUSH"),
-    Word(0x4, "PROC_C1"),
-    Word(0x8, "P_LVL2_UP"),
-    Word(0x10, "PWR_BUTTON"),
-    Word(0x20, "SLP_BUTTON"),
-    Word(0x40, "FIX_RTC"),
-    Word(0x80, "RTC_S4"),
-    Word(0x100, "TMR_VAL_EXT"),
-    Word(0x200, "DCK_CAP"),
-    Word(0x400, "RESET_REG_SUP"),
-    Word(0x800, "SEALED_CASE"),
-    Word(0x1000, "HEADLESS"),
-    Word(0x2000, "CPU_SW_SLP"),
-    Word(0x4000, "PCI_EXP_WAK"),
-    Word(0x8000, "USE_PLATFORM_CLOCK"),
-    Word(0x10000, "S4_RTC_STS_VALID"),
-    Word(0x20000, "REMOTE_POWER_ON_CAPABLE"),
-    Word(0x40000, "FORCE_APIC_CLUSTER_MODEL"),
-    Word(0x80000, "FORCE_APIC_PHYSICAL_DESTINATION_MODE"),
-    Word(0x100000, "HW_REDUCED_ACPI"),
-    Word(0x200000, "LOW_POWER_S0_IDLE_CAPABLE"),
-    Word(0x400000, "PERSISTENT_CPU_CACHES Not Persistent"),
-    Word(0x800000, "PERSISTENT_CPU_CACHES Persistent"),
+const FLAGS: [Bits; 23] = [
+    Bits::Flag(0x1, "WBINVD"),
+    Bits::Flag(0x2, "WBINVD_FLUSH"),
+    Bits::Flag(0x4, "PROC_C1"),
+    Bits::Flag(0x8, "P_LVL2_UP"),
+    Bits::Flag(0x10, "PWR_BUTTON"),
+    Bits::Flag(0x20, "SLP_BUTTON"),
+    Bits::Flag(0x40, "FIX_RTC"),
+    Bits::Flag(0x80, "RTC_S4"),
+    Bits::Flag(0x100, "TMR_VAL_EXT"),
+    Bits::Flag(0x200, "DCK_CAP"),
+    Bits::Flag(0x400, "RESET_REG_SUP"),
+    Bits::Flag(0x800, "SEALED_CASE"),
+    Bits::Flag(0x1000, "HEADLESS"),
+    Bits::Flag(0x2000, "CPU_SW_SLP"),
+    Bits::Flag(0x4000, "PCI_EXP_WAK"),
+    Bits::Flag(0x8000, "USE_PLATFORM_CLOCK"),
+    Bits::Flag(0x10000, "S4_RTC_STS_VALID"),
+    Bits::Flag(0x20000, "REMOTE_POWER_ON_CAPABLE"),
+    Bits::Flag(0x40000, "FORCE_APIC_CLUSTER_MODEL"),
+    Bits::Flag(0x80000, "FORCE_APIC_PHYSICAL_DESTINATION_MODE"),
+    Bits::Flag(0x100000, "HW_REDUCED_ACPI"),
+    Bits::Flag(0x200000, "LOW_POWER_S0_IDLE_CAPABLE"),
+    Bits::OneOf(
+        0xc00000,
+        &[
+            Word(0x0, "PERSISTENT_CPU_CACHES Not Reported"),
+            Word(0x400000, "PERSISTENT_CPU_CACHES Not Persistent"),
+            Word(0x800000, "PERSISTENT_CPU_CACHES Persistent"),
+        ],
+    ),
 ];
 
 // The names of the boot architecture flags of Arm (ACPI 6.5, 5.2.9.4).
-const ARM_BOOT_ARCH: [Word; 2] = [Word(0x1, "PSCI_COMPLIANT"), Word(0x2, "PSCI_USE_HVC")];
+const ARM_BOOT_ARCH: [Bits; 2] = [
+    Bits::Flag(0x1, "PSCI_COMPLIANT"),
+    Bits::Flag(0x2, "PSCI_USE_HVC"),
+];
 
 /// The rows of a FADT after its header.
 pub const FADT_ROWS: [Row; 55] = [
-    Row::Number("FIRMWARE_CTRL", 4),
-    Row::Number("DSDT", 4),
+    Row::Hex("FIRMWARE_CTRL", 4),
+    Row::Hex("DSDT", 4),
     Row::Reserved(1),
     Row::OneOf("Preferred_PM_Profile", 1, &PROFILES),
     Row::Number("SCI_INT", 2),
-    Row::Number("SMI_CMD", 4),
-    Row::Number("ACPI_ENABLE", 1),
-    Row::Number("ACPI_DISABLE", 1),
-    Row::Number("S4BIOS_REQ", 1),
-    Row::Number("PSTATE_CNT", 1),
-    Row::Number("PM1a_EVT_BLK", 4),
-    Row::Number("PM1b_EVT_BLK", 4),
-    Row::Number("PM1a_CNT_BLK", 4),
-    Row::Number("PM1b_CNT_BLK", 4),
-    Row::Number("PM2_CNT_BLK", 4),
-    Row::Number("PM_TMR_BLK", 4),
-    Row::Number("GPE0_BLK", 4),
-    Row::Number("GPE1_BLK", 4),
+    Row::Hex("SMI_CMD", 4),
+    Row::Hex("ACPI_ENABLE", 1),
+    Row::Hex("ACPI_DISABLE", 1),
+    Row::Hex("S4BIOS_REQ", 1),
+    Row::Hex("PSTATE_CNT", 1),
+    Row::Hex("PM1a_EVT_BLK", 4),
+    Row::Hex("PM1b_EVT_BLK", 4),
+    Row::Hex("PM1a_CNT_BLK", 4),
+    Row::Hex("PM1b_CNT_BLK", 4),
+    Row::Hex("PM2_CNT_BLK", 4),
+    Row::Hex("PM_TMR_BLK", 4),
+    Row::Hex("GPE0_BLK", 4),
+    Row::Hex("GPE1_BLK", 4),
     Row::Number("PM1_EVT_LEN", 1),
     Row::Number("PM1_CNT_LEN", 1),
     Row::Number("PM2_CNT_LEN", 1),
@@ -408,25 +417,32 @@ pub const FADT_ROWS: [Row; 55] = [
     Row::Number("GPE0_BLK_LEN", 1),
     Row::Number("GPE1_BLK_LEN", 1),
     Row::Number("GPE1_BASE", 1),
-    Row::Number("CST_CNT", 1),
+    Row::Hex("CST_CNT", 1),
     Row::Number("P_LVL2_LAT", 2),
     Row::Number("P_LVL3_LAT", 2),
     Row::Number("FLUSH_SIZE", 2),
     Row::Number("FLUSH_STRIDE", 2),
     Row::Number("DUTY_OFFSET", 1),
     Row::Number("DUTY_WIDTH", 1),
-    Row::Number("DAY_ALRM", 1),
-    Row::Number("MON_ALRM", 1),
-    Row::Number("CENTURY", 1),
+    Row::Hex("DAY_ALRM", 1),
+    Row::Hex("MON_ALRM", 1),
+    Row::Hex("CENTURY", 1),
     Row::Flags("IAPC_BOOT_ARCH", 2, &IAPC_BOOT_ARCH),
     Row::Reserved(1),
     Row::Flags("Flags", 4, &FLAGS),
     Row::Register("RESET_REG"),
-    Row::Number("RESET_VALUE", 1),
+    Row::Hex("RESET_VALUE", 1),
     Row::Flags("ARM_BOOT_ARCH", 2, &ARM_BOOT_ARCH),
-    Row::Number("FADT Minor Version", 1),
-    Row::Number("X_FIRMWARE_CTRL", 8),
-    Row::Number("X_DSDT", 8),
+    Row::Flags(
+        "FADT Minor Version",
+        1,
+        &[
+            Bits::Number(0xf, 0x1, "Minor Version"),
+            Bits::Number(0xf0, 0x10, "Errata"),
+        ],
+    ),
+    Row::Hex("X_FIRMWARE_CTRL", 8),
+    Row::Hex("X_DSDT", 8),
     Row::Register("X_PM1a_EVT_BLK"),
     Row::Register("X_PM1b_EVT_BLK"),
     Row::Register("X_PM1a_CNT_BLK"),
@@ -437,7 +453,7 @@ pub const FADT_ROWS: [Row; 55] = [
     Row::Register("X_GPE1_BLK"),
     Row::Register("SLEEP_CONTROL_REG"),
     Row::Register("SLEEP_STATUS_REG"),
-    Row::Number("Hypervisor Vendor Identity", 8),
+    Row::Hex("Hypervisor Vendor Identity", 8),
 ];
 
 /// The fields after the header.

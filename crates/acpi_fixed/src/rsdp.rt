@@ -68,14 +68,14 @@ impl Rsdp {
 
 /// The rows of an RSDP.
 pub const RSDP_ROWS: [Row; 9] = [
-    Row::Bytes("Signature", 8),
-    Row::Number("Checksum", 1),
-    Row::Bytes("OEMID", 6),
+    Row::Text("Signature", 8),
+    Row::Hex("Checksum", 1),
+    Row::Text("OEMID", 6),
     Row::Number("Revision", 1),
-    Row::Number("RsdtAddress", 4),
+    Row::Hex("RsdtAddress", 4),
     Row::Number("Length", 4),
-    Row::Number("XsdtAddress", 8),
-    Row::Number("Extended Checksum", 1),
+    Row::Hex("XsdtAddress", 8),
+    Row::Hex("Extended Checksum", 1),
     Row::Reserved(3),
 ];
 

@@ -13,7 +13,7 @@ use acpi_base::error::R;
 use acpi_base::gas::GAS;
 use acpi_base::object::Aml;
 use acpi_base::oem::Oem;
-use acpi_base::row::{Record, Row, Value, Word, record_of};
+use acpi_base::row::{Bits, Record, Row, Value, Word, record_of};
 use acpi_base::sink::AmlSink;
 use std::marker::PhantomData;
 
@@ -365,11 +365,11 @@ pub const SPCR_ROWS: [Row; 24] = [
         "Interrupt Type",
         1,
         &[
-            Word(1, "8259"),
-            Word(2, "I/O APIC"),
-            Word(4, "I/O SAPIC"),
-            Word(8, "Arm GIC"),
-            Word(16, "RISC-V PLIC or APLIC"),
+            Bits::Flag(0x1, "8259"),
+            Bits::Flag(0x2, "I/O APIC"),
+            Bits::Flag(0x4, "I/O SAPIC"),
+            Bits::Flag(0x8, "Arm GIC"),
+            Bits::Flag(0x10, "RISC-V PLIC or APLIC"),
         ],
     ),
     Row::Number("IRQ", 1),
@@ -391,9 +391,9 @@ pub const SPCR_ROWS: [Row; 24] = [
         "Flow Control",
         1,
         &[
-            Word(1, "DCD Required"),
-            Word(2, "RTS/CTS"),
-            Word(4, "XON/XOFF"),
+            Bits::Flag(0x1, "DCD Required"),
+            Bits::Flag(0x2, "RTS/CTS"),
+            Bits::Flag(0x4, "XON/XOFF"),
         ],
     ),
     Row::OneOf(
@@ -407,18 +407,22 @@ pub const SPCR_ROWS: [Row; 24] = [
         ],
     ),
     Row::Number("Language", 1),
-    Row::Number("PCI Device ID", 2),
-    Row::Number("PCI Vendor ID", 2),
+    Row::Hex("PCI Device ID", 2),
+    Row::Hex("PCI Vendor ID", 2),
     Row::Number("PCI Bus Number", 1),
     Row::Number("PCI Device Number", 1),
     Row::Number("PCI Function Number", 1),
-    Row::Flags("PCI Flags", 4, &[Word(1, "PnP and Power Management")]),
+    Row::Flags(
+        "PCI Flags",
+        4,
+        &[Bits::Flag(0x1, "PnP and Power Management")],
+    ),
     Row::Number("PCI Segment", 1),
     Row::Number("UART Clock Frequency", 4),
     Row::Number("Precise Baud Rate", 4),
-    Row::Number("NamespaceStringLength", 2),
-    Row::Number("NamespaceStringOffset", 2),
-    Row::Bytes("NamespaceString", 2),
+    Row::Preset("NamespaceStringLength", 2, 2),
+    Row::Preset("NamespaceStringOffset", 2, 88),
+    Row::Text("NamespaceString", 2),
 ];
 
 /// The fields after the header.

@@ -18,7 +18,7 @@ use acpi_base::error::{Error, R};
 use acpi_base::gas::GAS;
 use acpi_base::object::Aml;
 use acpi_base::oem::Oem;
-use acpi_base::row::{Record, Row, Value, Word, record_of, record_of_numbers};
+use acpi_base::row::{Bits, Record, Row, Value, Word, record_of, record_of_numbers};
 use acpi_base::sink::AmlSink;
 
 /// The kind of platform of a module (TCG ACPI Specification, offset 36 of TCPA and TPM2).
@@ -60,7 +60,7 @@ impl TpmClient1_2 {
 pub const TCPA_CLIENT: [Row; 3] = [
     Row::OneOf("Platform Class", 2, &[Word(0, "Client"), Word(1, "Server")]),
     Row::Number("Log Area Minimum Length", 4),
-    Row::Number("Log Area Start Address", 8),
+    Row::Hex("Log Area Start Address", 8),
 ];
 
 /// The fields after the header.
@@ -245,25 +245,25 @@ pub const TCPA_SERVER: [Row; 17] = [
     Row::OneOf("Platform Class", 2, &[Word(0, "Client"), Word(1, "Server")]),
     Row::Reserved(2),
     Row::Number("Log Area Minimum Length", 8),
-    Row::Number("Log Area Start Address", 8),
+    Row::Hex("Log Area Start Address", 8),
     Row::Bytes("Specification Revision", 2),
     Row::Flags(
         "Device Flags",
         1,
         &[
-            Word(1, "PCI Device"),
-            Word(2, "Bus is PNP"),
-            Word(4, "Configuration Address Valid"),
+            Bits::Flag(0x1, "PCI Device"),
+            Bits::Flag(0x2, "Bus is PNP"),
+            Bits::Flag(0x4, "Configuration Address Valid"),
         ],
     ),
     Row::Flags(
         "Interrupt Flags",
         1,
         &[
-            Word(1, "Edge Triggered"),
-            Word(2, "Active Low"),
-            Word(4, "SCI by GPE"),
-            Word(8, "Global System Interrupt"),
+            Bits::Flag(0x1, "Edge Triggered"),
+            Bits::Flag(0x2, "Active Low"),
+            Bits::Flag(0x4, "SCI by GPE"),
+            Bits::Flag(0x8, "Global System Interrupt"),
         ],
     ),
     Row::Number("GPE", 1),
@@ -390,7 +390,7 @@ impl Tpm2 {
 pub const TPM2_FIXED: [Row; 7] = [
     Row::OneOf("Platform Class", 2, &[Word(0, "Client"), Word(1, "Server")]),
     Row::Reserved(2),
-    Row::Number("Address of CRB Control Area", 8),
+    Row::Hex("Address of CRB Control Area", 8),
     Row::OneOf(
         "Start Method",
         4,
@@ -400,16 +400,16 @@ pub const TPM2_FIXED: [Row; 7] = [
             Word(6, "Memory Mapped I/O"),
             Word(7, "Command Response Buffer"),
             Word(8, "Command Response Buffer with ACPI Start Method"),
-            Word(11, "Command Response Buffer with Arm SMC"),
+            Word(11, "Command Response Buffer with Arm SMC or HVC"),
             Word(12, "FIFO over I2C"),
         ],
     ),
     Row::Bytes("Start Method Specific Parameters", 12),
     Row::Number("Log Area Minimum Length", 4),
-    Row::Number("Log Area Start Address", 8),
+    Row::Hex("Log Area Start Address", 8),
 ];
 
-/// The names and widths of the fields after the header, in order, of a table with a log area.
+/// The rows of the fields after the header, in order, of a table with a log area.
 pub fn tpm2_rows() -> &'static [Row]
     ensures { (table : Tpm2) (area : LogArea) → AreRowsOf result.now (tpm2_fields table (Some area)) }
 {

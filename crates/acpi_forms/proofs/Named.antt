@@ -6,7 +6,7 @@ use Rattle.acpi_base.specs.declared.error.Error.{Error}
 use Rattle.acpi_base.specs.declared.walk.Walk.{Walk}
 use Rattle.acpi_text.specs.Table.{table_text}
 use Rattle.acpi_text.specs.declared.form.TableForm.{TableForm}
-use Rattle.acpi_forms.specs.Named.{Named, IsNamed, kinds, find_form, find_named, tables, unknown, names_of}
+use Rattle.acpi_forms.specs.Named.{Named, IsNamed, kinds, find_form, find_named, names_of}
 use Rattle.acpi_forms.specs.Shows.{IsTextOf}
 
 -- the names that a form has beside a signature
@@ -23,13 +23,12 @@ found_is_named s (row ∷ rows) other none is =
       | false ↦ λ test. rw test (found_is_named s rows other none is)
     ] refl
 
--- the form that is found among forms which have the names of all tables
-pub form_is_named : (s : ℕ) (rows : List (List ℕ × TableForm)) (other form : TableForm)
-    → form ≡ find_form s rows other → IsNamed other unknown → map own_names rows ≡ tables → IsNamed form (names_of s)
-unfolding names_of
-form_is_named s rows other form found is are =
-    let P : List Named → Type 0 = λ l. IsNamed (find_form s rows other) (find_named s l unknown) in
-    let whole = subst P are (found_is_named s rows other unknown is) in
+-- the form that is found among forms which have these names
+pub form_is_named : (s : ℕ) (rows : List (List ℕ × TableForm)) (other form : TableForm) (names : List Named) (none : Named)
+    → form ≡ find_form s rows other → IsNamed other none → map own_names rows ≡ names → IsNamed form (find_named s names none)
+form_is_named s rows other form names none found is are =
+    let P : List Named → Type 0 = λ l. IsNamed (find_form s rows other) (find_named s l none) in
+    let whole = subst P are (found_is_named s rows other none is) in
     rw found whole
 
 -- a text by a form that has these names

@@ -1,3 +1,5 @@
+pub mod Name
+pub mod FurtherNames
 pub mod Named
 pub mod Shows
 pub mod Kind

@@ -1,22 +1,9 @@
 -- The names of tables and of their structures.
-use Rattle.std.specs.Prelude.{◌≡◌, ℕ, ◌==◌, List, [], ◌∷◌, map, codes, if◌then◌else◌}
+use Rattle.std.specs.Prelude.{ℕ, ◌==◌, List, [], ◌∷◌, codes, if◌then◌else◌}
 use Rattle.acpi_base.specs.Walk.{named}
-use Rattle.acpi_text.specs.declared.form.StructureForm.{StructureForm}
 use Rattle.acpi_text.specs.declared.form.TableForm.{TableForm}
-
--- a table's signature, its name, and the types of its structures with their names
-pub record Named : Type 0 where
-  pub signature : List ℕ
-  pub name : List ℕ
-  pub kinds : List (ℕ × List ℕ)
-
--- the types and the names of forms of structures
-abbrev pub kinds : List StructureForm → List (ℕ × List ℕ)
-kinds forms = map (λ form. (form.number, form.name.now)) forms
-
--- a form has this name, and its structures have theirs
-abbrev pub IsNamed : TableForm → Named → Type 0
-IsNamed form n = (form.name.now ≡ n.name) × (kinds form.structures.now ≡ n.kinds)
+use Rattle.acpi_forms.specs.FurtherNames.{boot_tables, security_tables, faults_tables, devices_tables}
+pub use Rattle.acpi_forms.specs.Name.{Named, kinds, IsNamed}
 
 -- the form beside a signature, or another form
 unfoldable pub find_form : ℕ → List (List ℕ × TableForm) → TableForm → TableForm
@@ -184,6 +171,9 @@ facs_names = record { signature = codes "FACS"; name = codes "Firmware ACPI Cont
 abbrev pub unknown : Named
 unknown = record { signature = []; name = codes "Unknown table"; kinds = [] }
 
--- the names of the tables of a signature, which is given as a number, lowest byte first
+-- The names of the tables of a signature, which is given as a number, lowest byte first. The tables after the first list are only
+-- read.
 unfoldable pub names_of : ℕ → Named
-names_of s = find_named s tables unknown
+names_of s =
+    find_named s tables (find_named s boot_tables (find_named s security_tables (find_named s faults_tables
+    (find_named s devices_tables unknown))))

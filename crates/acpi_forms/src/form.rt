@@ -6,6 +6,7 @@ ghost use Rattle.acpi_forms.specs.Named.{find_form, names_of, rsdp_names, facs_n
 
 use crate::arm::{DBG2, GTDT, IORT};
 use crate::fixed::{BERT, DSDT, FACS, FADT, RSDP, SPCR, SSDT, TCPA, TPM2, UNKNOWN};
+use crate::further::{BOOT_FORMS, DEVICES_FORMS, FAULTS_FORMS, SECURITY_FORMS};
 use crate::hest::{HEST, RQSC};
 use crate::lists::{CEDT, MADT, MCFG, SRAT, XSDT};
 use crate::matrices::{HMAT, SLIT};
@@ -66,7 +67,11 @@ fn find_form(signature: u32, rows: &[([u8; 4], TableForm)], other: TableForm) ->
 pub fn form_of(signature: u32) -> TableForm
     ensures { IsNamed result (names_of signature) }
 {
-    find_form(signature, &FORMS, UNKNOWN)
+    let devices = find_form(signature, &DEVICES_FORMS, UNKNOWN);
+    let faults = find_form(signature, &FAULTS_FORMS, devices);
+    let security = find_form(signature, &SECURITY_FORMS, faults);
+    let boot = find_form(signature, &BOOT_FORMS, security);
+    find_form(signature, &FORMS, boot)
 }
 
 /// Returns the form of a Root System Description Pointer (ACPI 6.5, 5.2.5.3), which has no standard header.

@@ -4,6 +4,7 @@
 pub mod arm;
 pub mod fixed;
 pub mod form;
+pub mod further;
 pub mod hest;
 pub mod kind;
 pub mod lists;

@@ -221,7 +221,7 @@ pub const SRAT: TableForm = TableForm {
     name: "System Resource Affinity Table (SRAT)",
     parts: &[
         Part::Fields(&HEADER),
-        Part::Fields(&[Row::Number("Table Revision", 4), Row::Reserved(8)]),
+        Part::Fields(&[Row::Preset("Table Revision", 4, 1), Row::Reserved(8)]),
     ],
     structures: &SRAT_STRUCTURES,
 };

@@ -1,10 +1,11 @@
 -- Generic Error Data Entries (ACPI 6.5, 18.3.2.7.1, in this project's profile: a section type of two bytes).
 use Rattle.std.specs.Prelude.{◌≡◌, ℕ, List, [], ◌∷◌, replicate}
-use Rattle.acpi_base.specs.Fields.{NamedField, byte, word, dword, bytes, fields_joined}
+use Rattle.acpi_base.specs.Fields.{NamedField, byte, word, dword, hex, flags, one_of, bytes, text, uuid, fields_joined}
+use Rattle.acpi_base.specs.Look.{Part, flag}
 use Rattle.acpi_base.specs.Object.{Object, whole, chain, all_of}
 use Rattle.acpi_hest.specs.declared.hest.error_data.GenericErrorData.{GenericErrorData}
 use Rattle.acpi_hest.specs.declared.hest.status.ErrorSeverity.{ErrorSeverity}
-use Rattle.acpi_hest.specs.Status.{severity_number}
+use Rattle.acpi_hest.specs.Status.{severity_number, severity_words}
 
 -- An entry of a severity. It has no data, and every other field is zero.
 pub record IsNewErrorData {X : Type 0} {P : X → Type 0} (severity : ErrorSeverity) (d : GenericErrorData X P) : Type 0 where
@@ -44,16 +45,37 @@ head_of d = record {
   timestamp = d.timestamp;
 }
 
+-- Validation Bits
+abbrev pub validation_bits : List Part
+validation_bits =
+    flag 0x1 "FRU Id Valid"
+    ∷ flag 0x2 "FRU Text Valid"
+    ∷ flag 0x4 "Timestamp Valid"
+    ∷ []
+
+-- Flags, those of a section descriptor (UEFI 2.10, N.2.2)
+abbrev pub section_bits : List Part
+section_bits =
+    flag 0x01 "Primary"
+    ∷ flag 0x02 "Containment Warning"
+    ∷ flag 0x04 "Reset"
+    ∷ flag 0x08 "Error Threshold Exceeded"
+    ∷ flag 0x10 "Resource Not Accessible"
+    ∷ flag 0x20 "Latent Error"
+    ∷ flag 0x40 "Propagated"
+    ∷ flag 0x80 "Overflow"
+    ∷ []
+
 abbrev pub error_head_fields : ErrorHead → List NamedField
 error_head_fields h =
-    word "Section Type" h.section_type  -- 0
-    ∷ dword "Error Severity" (severity_number h.severity)  -- 2
-    ∷ word "Revision" h.revision  -- 6
-    ∷ byte "Validation Bits" h.validation  -- 8
-    ∷ byte "Flags" h.flags  -- 9
+    hex word "Section Type" h.section_type  -- 0
+    ∷ one_of severity_words dword "Error Severity" (severity_number h.severity)  -- 2
+    ∷ hex word "Revision" h.revision  -- 6
+    ∷ flags validation_bits byte "Validation Bits" h.validation  -- 8
+    ∷ flags section_bits byte "Flags" h.flags  -- 9
     ∷ dword "Error Data Length" h.error_data_length  -- 10
-    ∷ bytes "FRU Id" 16 h.fru_id  -- 14
-    ∷ bytes "FRU Text" 20 h.fru_text  -- 30
+    ∷ uuid "FRU Id" h.fru_id  -- 14
+    ∷ text "FRU Text" 20 h.fru_text  -- 30
     ∷ bytes "Timestamp" 8 h.timestamp  -- 50
     ∷ []
 

@@ -1,12 +1,12 @@
 -- Generic hardware error sources (ACPI 6.5, 18.3.2.7 and 18.3.2.8).
 use Rattle.std.specs.Prelude.{ℕ, List, [], ◌∷◌, ◌++◌}
-use Rattle.acpi_base.specs.Fields.{NamedField, byte, word, dword, qword, bytes, fields_joined}
-use Rattle.acpi_base.specs.Gas.{gas_bytes, no_register}
+use Rattle.acpi_base.specs.Fields.{NamedField, byte, word, dword, qword, hex, one_of, bytes, fields_joined}
+use Rattle.acpi_base.specs.Gas.{register, no_register}
 use Rattle.acpi_hest.specs.declared.hest.generic.Acknowledged.{Acknowledged}
 use Rattle.acpi_hest.specs.declared.hest.generic.EnabledStatus.{EnabledStatus}
 use Rattle.acpi_hest.specs.declared.hest.generic.Generic.{Generic}
 use Rattle.acpi_hest.specs.declared.hest.generic.Unacknowledged.{Unacknowledged}
-use Rattle.acpi_hest.specs.Aer.{enabled_number}
+use Rattle.acpi_hest.specs.Aer.{enabled_number, enabled_words}
 use Rattle.acpi_hest.specs.Notification.{no_notification, notification_bytes}
 
 module _ {T : Type 0} {N : ℕ} where
@@ -28,14 +28,14 @@ module _ {T : Type 0} {N : ℕ} where
   abbrev pub generic_head_fields : ℕ → Generic T N → List NamedField
   generic_head_fields kind s =
       word "Type" kind  -- 0
-      ∷ word "Source Id" s.source_id  -- 2
-      ∷ word "Related Source Id" 0xffff  -- 4
-      ∷ byte "Flags" 0  -- 6
-      ∷ byte "Enabled" (enabled_number s.enabled)  -- 7
+      ∷ hex word "Source Id" s.source_id  -- 2
+      ∷ hex word "Related Source Id" 0xffff  -- 4
+      ∷ hex byte "Flags" 0  -- 6
+      ∷ one_of enabled_words byte "Enabled" (enabled_number s.enabled)  -- 7
       ∷ dword "Number of Records to Pre-allocate" s.num_records  -- 8
       ∷ dword "Max Sections Per Record" s.max_sections  -- 12
       ∷ dword "Max Raw Data Length" s.max_raw_length  -- 16
-      ∷ bytes "Error Status Address" 12 (gas_bytes s.error_status_address)  -- 20
+      ∷ register "Error Status Address" s.error_status_address  -- 20
       ∷ bytes "Notification Structure" 28 (notification_bytes s.notification)  -- 32
       ∷ dword "Error Status Block Length" s.error_status_block_len  -- 60
       ∷ []
@@ -59,7 +59,7 @@ zero_acknowledged = record { read_ack_register = no_register; read_ack_preserve 
 
 abbrev pub acknowledged_fields : Acknowledged → List NamedField
 acknowledged_fields t =
-    bytes "Read Ack Register" 12 (gas_bytes t.read_ack_register)  -- 64
-    ∷ qword "Read Ack Preserve" t.read_ack_preserve  -- 76
-    ∷ qword "Read Ack Write" t.read_ack_write  -- 84
+    register "Read Ack Register" t.read_ack_register  -- 64
+    ∷ hex qword "Read Ack Preserve" t.read_ack_preserve  -- 76
+    ∷ hex qword "Read Ack Write" t.read_ack_write  -- 84
     ∷ []

@@ -1,6 +1,7 @@
 -- Hardware Error Notification Structures (ACPI 6.5, 18.3.2.9).
 use Rattle.std.specs.Prelude.{ℕ, List, [], ◌∷◌}
-use Rattle.acpi_base.specs.Fields.{NamedField, byte, word, dword, fields_joined}
+use Rattle.acpi_base.specs.Fields.{NamedField, byte, word, dword, flags, one_of, fields_joined}
+use Rattle.acpi_base.specs.Look.{Part, flag, means}
 use Rattle.acpi_hest.specs.declared.hest.notification.NotificationStructure.{NotificationStructure}
 use Rattle.acpi_hest.specs.declared.hest.notification.NotificationType.{NotificationType}
 use Rattle.acpi_hest.specs.declared.hest.notification.NotificationType.TheVariants as types
@@ -41,11 +42,39 @@ notification kind length = record {
 abbrev pub no_notification : NotificationStructure
 no_notification = notification 0 0
 
+-- the words of Type
+abbrev pub notification_words : List (ℕ × List ℕ)
+notification_words =
+    means 0 "Polled"
+    ∷ means 1 "External Interrupt"
+    ∷ means 2 "Local Interrupt"
+    ∷ means 3 "SCI"
+    ∷ means 4 "NMI"
+    ∷ means 5 "CMCI"
+    ∷ means 6 "MCE"
+    ∷ means 7 "GPIO-Signal"
+    ∷ means 8 "ARMv8 SEA"
+    ∷ means 9 "ARMv8 SEI"
+    ∷ means 10 "External Interrupt - GSIV"
+    ∷ means 11 "Software Delegated Exception"
+    ∷ []
+
+-- Configuration Write Enable: which fields an operating system may change
+abbrev pub write_enable_bits : List Part
+write_enable_bits =
+    flag 0x01 "Type"
+    ∷ flag 0x02 "Poll Interval"
+    ∷ flag 0x04 "Switch To Polling Threshold Value"
+    ∷ flag 0x08 "Switch To Polling Threshold Window"
+    ∷ flag 0x10 "Error Threshold Value"
+    ∷ flag 0x20 "Error Threshold Window"
+    ∷ []
+
 abbrev pub notification_fields : NotificationStructure → List NamedField
 notification_fields n =
-    byte "Type" n.kind  -- 0
+    one_of notification_words byte "Type" n.kind  -- 0
     ∷ byte "Length" n.length  -- 1
-    ∷ word "Configuration Write Enable" n.conf_write_en  -- 2
+    ∷ flags write_enable_bits word "Configuration Write Enable" n.conf_write_en  -- 2
     ∷ dword "Poll Interval" n.poll_interval_ms  -- 4
     ∷ dword "Vector" n.vector  -- 8
     ∷ dword "Switch To Polling Threshold Value" n.polling_threshold_value  -- 12

@@ -1,6 +1,7 @@
 -- Resources of RQSC (this project's profile).
 use Rattle.std.specs.Prelude.{◌≡◌, ℕ, ◌+◌, List, [], ◌∷◌, ◌++◌, length}
-use Rattle.acpi_base.specs.Fields.{NamedField, byte, word, dword, qword, reserved, fields_joined}
+use Rattle.acpi_base.specs.Fields.{NamedField, byte, word, dword, qword, hex, flags, one_of, reserved, fields_joined}
+use Rattle.acpi_base.specs.Look.{Part, part, means}
 use Rattle.acpi_hest.specs.declared.rqsc.resource.ResourceType.{ResourceType}
 use Rattle.acpi_hest.specs.declared.rqsc.resource.ResourceType.TheVariants as types
 use Rattle.acpi_hest.specs.declared.rqsc.resource.CacheResource.{CacheResource}
@@ -18,7 +19,7 @@ cache_resource cache_id = record { cache_id = cache_id }
 
 abbrev pub cache_fields : CacheResource → List NamedField
 cache_fields r =
-    dword "Cache ID" r.cache_id  -- 0: that of PPTT
+    hex dword "Cache ID" r.cache_id  -- 0: that of PPTT
     ∷ reserved 8  -- 4
     ∷ []
 
@@ -43,8 +44,8 @@ acpi_resource hid uid = record { acpi_hardware_id = hid; acpi_unique_id = uid }
 
 abbrev pub acpi_fields : ACPIDeviceResource → List NamedField
 acpi_fields r =
-    qword "ACPI Hardware ID" r.acpi_hardware_id  -- 0: _HID
-    ∷ dword "ACPI Unique ID" r.acpi_unique_id  -- 8: _UID
+    hex qword "ACPI Hardware ID" r.acpi_hardware_id  -- 0: _HID
+    ∷ hex dword "ACPI Unique ID" r.acpi_unique_id  -- 8: _UID
     ∷ []
 
 abbrev pub acpi_bytes : ACPIDeviceResource → List ℕ
@@ -53,9 +54,18 @@ acpi_bytes r = fields_joined (acpi_fields r)
 abbrev pub pci_resource : ℕ → PCIDeviceResource
 pci_resource bdf = record { bdf = bdf }
 
+-- a segment in bits 31:16, a bus in bits 15:8, a device in bits 7:3, a function in bits 2:0
+abbrev pub segment_and_bdf_bits : List Part
+segment_and_bdf_bits =
+    part 0xffff0000 0x00010000 "Segment"
+    ∷ part 0x0000ff00 0x00000100 "Bus"
+    ∷ part 0x000000f8 0x00000008 "Device"
+    ∷ part 0x00000007 0x00000001 "Function"
+    ∷ []
+
 abbrev pub pci_fields : PCIDeviceResource → List NamedField
 pci_fields r =
-    dword "Segment and BDF" r.bdf  -- 0: segment, bus, device and function
+    flags segment_and_bdf_bits dword "Segment and BDF" r.bdf  -- 0: segment, bus, device and function
     ∷ reserved 8  -- 4
     ∷ []
 
@@ -97,14 +107,30 @@ type_number types.Memory = 1
 abbrev pub resource : ResourceType → ℕ → ResourceID → ResourceStructure
 resource kind flags id = record { kind = kind; flags = flags; id = id }
 
+-- the words of Resource Type
+abbrev pub resource_words : List (ℕ × List ℕ)
+resource_words =
+    means 0 "Cache"
+    ∷ means 1 "Memory"
+    ∷ []
+
+-- the words of Resource ID Type
+abbrev pub id_words : List (ℕ × List ℕ)
+id_words =
+    means 0 "Cache"
+    ∷ means 1 "Memory Affinity Structure"
+    ∷ means 2 "ACPI Device"
+    ∷ means 3 "PCI Device"
+    ∷ []
+
 abbrev pub resource_head_fields : ResourceStructure → List NamedField
 resource_head_fields r =
-    byte "Resource Type" (type_number r.kind)  -- 0
+    one_of resource_words byte "Resource Type" (type_number r.kind)  -- 0
     ∷ reserved 1  -- 1
     ∷ word "Length" (8 + length (payload r.id))  -- 2
-    ∷ word "Resource Flags" r.flags  -- 4
+    ∷ hex word "Resource Flags" r.flags  -- 4
     ∷ reserved 1  -- 6
-    ∷ byte "Resource ID Type" (id_number r.id)  -- 7
+    ∷ one_of id_words byte "Resource ID Type" (id_number r.id)  -- 7
     ∷ []
 
 abbrev pub resource_head : ResourceStructure → List ℕ

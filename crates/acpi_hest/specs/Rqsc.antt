@@ -1,7 +1,8 @@
 -- The RISC-V Quality of Service Controller table (this project's profile).
 use Rattle.std.specs.Prelude.{ℕ, ◌+◌, ◌*◌, ◌^◌, ◌≤◌, nat_lt, Bool, List, [], ◌∷◌, ◌++◌, length, codes}
-use Rattle.acpi_base.specs.Gas.{gas_bytes}
-use Rattle.acpi_base.specs.Fields.{NamedField, byte, word, dword, bytes, reserved, fields_joined}
+use Rattle.acpi_base.specs.Gas.{register}
+use Rattle.acpi_base.specs.Fields.{NamedField, byte, word, dword, hex, one_of, reserved, fields_joined}
+use Rattle.acpi_base.specs.Look.{means}
 use Rattle.acpi_base.specs.declared.gas.GAS.{GAS}
 use Rattle.acpi_base.specs.declared.oem.Oem.{Oem}
 use Rattle.acpi_core.specs.Listing.{Listing, length_limit}
@@ -53,15 +54,22 @@ controller kind register rcid_count mcid_count flags = record {
   resources = [];
 }
 
+-- the words of Controller Type
+abbrev pub controller_words : List (ℕ × List ℕ)
+controller_words =
+    means 0 "Capacity"
+    ∷ means 1 "Bandwidth"
+    ∷ []
+
 abbrev pub controller_head_fields : Controller → List NamedField
 controller_head_fields q =
-    byte "Controller Type" q.kind  -- 0
+    one_of controller_words byte "Controller Type" q.kind  -- 0
     ∷ reserved 1  -- 1
     ∷ word "Length" (28 + length q.resources)  -- 2
-    ∷ bytes "Register Interface Address" 12 (gas_bytes q.register)  -- 4
+    ∷ register "Register Interface Address" q.register  -- 4
     ∷ dword "RCID Count" q.rcid_count  -- 16
     ∷ dword "MCID Count" q.mcid_count  -- 20
-    ∷ word "Controller Flags" q.flags  -- 24
+    ∷ hex word "Controller Flags" q.flags  -- 24
     ∷ word "Number of Resources" q.count  -- 26
     ∷ []
 

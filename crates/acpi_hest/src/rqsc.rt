@@ -20,7 +20,7 @@ use acpi_base::error::{Error, R};
 use acpi_base::gas::GAS;
 use acpi_base::object::Aml;
 use acpi_base::oem::Oem;
-use acpi_base::row::{Row, Value, record_of};
+use acpi_base::row::{Row, Value, Word, record_of};
 use acpi_base::sink::AmlSink;
 use acpi_core::form::Form;
 use acpi_core::kind::Kind;
@@ -247,17 +247,21 @@ impl QoSController {
 
 /// The rows of a QoS controller before its resources.
 pub const CONTROLLER: [Row; 8] = [
-    Row::Number("Controller Type", 1),
+    Row::OneOf(
+        "Controller Type",
+        1,
+        &[Word(0, "Capacity"), Word(1, "Bandwidth")],
+    ),
     Row::Reserved(1),
     Row::Number("Length", 2),
     Row::Register("Register Interface Address"),
     Row::Number("RCID Count", 4),
     Row::Number("MCID Count", 4),
-    Row::Number("Controller Flags", 2),
+    Row::Hex("Controller Flags", 2),
     Row::Number("Number of Resources", 2),
 ];
 
-/// The names and widths of a controller's fields before its resources, in order.
+/// The rows of a controller's fields before its resources, in order.
 pub fn controller_rows() -> &'static [Row]
     ensures { (q : Controller) → AreRowsOf result.now (controller_head_fields q) }
 {

@@ -1,7 +1,9 @@
 -- The CXL Early Discovery Table (CXL 3.0, 9.17.1, in this project's profile).
 use Rattle.std.specs.Prelude.{◌≢◌, ℕ, ◌+◌, ◌*◌, ◌==◌, Bool, List, [], ◌∷◌, ◌++◌, length, codes, Some}
 use Rattle.acpi_base.specs.declared.error.Error.TheVariants.{Memory, Targets}
-use Rattle.acpi_base.specs.Fields.{NamedField, byte, word, dword, qword, reserved, fields_joined}
+use Rattle.acpi_base.specs.Fields.{NamedField, byte, word, dword, qword, hex, preset, flags, one_of, reserved, fields_joined}
+use Rattle.acpi_base.specs.Look.{Part, flag, means}
+use Rattle.acpi_base.specs.Pci.{bdf_bits}
 use Rattle.acpi_base.specs.Object.{Object, whole, provided, provided_ends_well}
 use Rattle.acpi_base.specs.declared.oem.Oem.{Oem}
 use Rattle.acpi_core.specs.Listing.{Listing, length_limit}
@@ -47,15 +49,22 @@ registers_of Cxl2 = 0x10000
 abbrev pub host_bridge : ℕ → CxlVersion → ℕ → CxlHostBridge
 host_bridge uid version base = record { uid = uid; version = version; base = base }
 
+-- the words of CXL Version
+abbrev pub version_words : List (ℕ × List ℕ)
+version_words =
+    means 0 "CXL 1.1"
+    ∷ means 1 "CXL 2.0"
+    ∷ []
+
 abbrev pub host_bridge_fields : CxlHostBridge → List NamedField
 host_bridge_fields b =
-    byte "Type" 0  -- 0
+    preset byte "Type" 0  -- 0
     ∷ reserved 1  -- 1
-    ∷ word "Record Length" 32  -- 2
-    ∷ dword "UID" b.uid  -- 4
-    ∷ dword "CXL Version" (version_number b.version)  -- 8
+    ∷ preset word "Record Length" 32  -- 2
+    ∷ hex dword "UID" b.uid  -- 4
+    ∷ one_of version_words dword "CXL Version" (version_number b.version)  -- 8
     ∷ reserved 4  -- 12
-    ∷ qword "Base" b.base  -- 16
+    ∷ hex qword "Base" b.base  -- 16
     ∷ qword "Length" (registers_of b.version)  -- 24
     ∷ []
 
@@ -122,20 +131,62 @@ window base size arithmetic granularity ways qtg_id = record {
   targets = [];
 }
 
+-- the words of Encoded Number of Interleave Ways
+abbrev pub ways_words : List (ℕ × List ℕ)
+ways_words =
+    means 0 "1 Way"
+    ∷ means 1 "2 Ways"
+    ∷ means 2 "4 Ways"
+    ∷ means 3 "8 Ways"
+    ∷ means 4 "16 Ways"
+    ∷ means 8 "3 Ways"
+    ∷ means 9 "6 Ways"
+    ∷ means 10 "12 Ways"
+    ∷ []
+
+-- the words of Interleave Arithmetic
+abbrev pub arithmetic_words : List (ℕ × List ℕ)
+arithmetic_words =
+    means 0 "Standard Modulo"
+    ∷ means 1 "Modulo with XOR"
+    ∷ []
+
+-- the words of Host Bridge Interleave Granularity
+abbrev pub granularity_words : List (ℕ × List ℕ)
+granularity_words =
+    means 0 "256 Bytes"
+    ∷ means 1 "512 Bytes"
+    ∷ means 2 "1 KiB"
+    ∷ means 3 "2 KiB"
+    ∷ means 4 "4 KiB"
+    ∷ means 5 "8 KiB"
+    ∷ means 6 "16 KiB"
+    ∷ []
+
+-- Window Restrictions
+abbrev pub restriction_bits : List Part
+restriction_bits =
+    flag 0x01 "CXL Type 2 Memory"
+    ∷ flag 0x02 "CXL Type 3 Memory"
+    ∷ flag 0x04 "Volatile"
+    ∷ flag 0x08 "Persistent"
+    ∷ flag 0x10 "Fixed Device Configuration"
+    ∷ []
+
 abbrev pub window_head_fields : Window → List NamedField
 window_head_fields w =
-    byte "Type" 1  -- 0
+    preset byte "Type" 1  -- 0
     ∷ reserved 1  -- 1
     ∷ word "Record Length" (36 + length w.targets)  -- 2
     ∷ reserved 4  -- 4
-    ∷ qword "Base HPA" w.base  -- 8
+    ∷ hex qword "Base HPA" w.base  -- 8
     ∷ qword "Window Size" w.size  -- 16
-    ∷ byte "Encoded Number of Interleave Ways" (ways_number w.ways)  -- 24
-    ∷ byte "Interleave Arithmetic" (arithmetic_number w.arithmetic)  -- 25
+    ∷ one_of ways_words byte "Encoded Number of Interleave Ways" (ways_number w.ways)  -- 24
+    ∷ one_of arithmetic_words byte "Interleave Arithmetic" (arithmetic_number w.arithmetic)  -- 25
     ∷ reserved 2  -- 26
-    ∷ dword "Host Bridge Interleave Granularity" (granularity_number w.granularity)  -- 28
-    ∷ word "Window Restrictions" w.restrictions  -- 32
-    ∷ word "QTG ID" w.qtg_id  -- 34
+    ∷ one_of granularity_words dword "Host Bridge Interleave Granularity" (granularity_number w.granularity)  -- 28
+    ∷ flags restriction_bits word "Window Restrictions" w.restrictions  -- 32
+    ∷ hex word "QTG ID" w.qtg_id  -- 34
     ∷ []
 
 abbrev pub window_head : Window → List ℕ
@@ -167,11 +218,11 @@ no_maps granularity = record { granularity = granularity; count = 0; maps = [] }
 
 abbrev pub maps_head_fields : XorMaps → List NamedField
 maps_head_fields x =
-    byte "Type" 2  -- 0
+    preset byte "Type" 2  -- 0
     ∷ reserved 1  -- 1
     ∷ word "Record Length" (8 + length x.maps)  -- 2
     ∷ reserved 2  -- 4
-    ∷ byte "Host Bridge Interleave Granularity" (granularity_number x.granularity)  -- 6
+    ∷ one_of granularity_words byte "Host Bridge Interleave Granularity" (granularity_number x.granularity)  -- 6
     ∷ byte "Number of Bitmap Entries" x.count  -- 7
     ∷ []
 
@@ -195,15 +246,22 @@ port_association segment bus device function protocol base = record {
   base = base;
 }
 
+-- the words of Protocol Type
+abbrev pub protocol_words : List (ℕ × List ℕ)
+protocol_words =
+    means 0 "CXL.io"
+    ∷ means 1 "CXL.cachemem"
+    ∷ []
+
 abbrev pub port_association_fields : PortAssociation → List NamedField
 port_association_fields p =
-    byte "Type" 3  -- 0
+    preset byte "Type" 3  -- 0
     ∷ reserved 1  -- 1
-    ∷ word "Record Length" 17  -- 2
+    ∷ preset word "Record Length" 17  -- 2
     ∷ word "RCEC Segment Number" p.segment  -- 4
-    ∷ word "RCEC BDF" p.bdf  -- 6
-    ∷ byte "Protocol Type" (protocol_number p.protocol)  -- 8
-    ∷ qword "Base Address" p.base  -- 9
+    ∷ flags bdf_bits word "RCEC BDF" p.bdf  -- 6
+    ∷ one_of protocol_words byte "Protocol Type" (protocol_number p.protocol)  -- 8
+    ∷ hex qword "Base Address" p.base  -- 9
     ∷ []
 
 abbrev pub port_association_bytes : PortAssociation → List ℕ

@@ -1,6 +1,7 @@
 -- The Multiple APIC Description Table (ACPI 6.5, 5.2.12).
 use Rattle.std.specs.Prelude.{◌≡◌, ℕ, true, false, List, [], ◌∷◌, length, codes, Result, Err, OnOk, OnErr}
-use Rattle.acpi_base.specs.Fields.{NamedField, dword, fields_joined}
+use Rattle.acpi_base.specs.Fields.{NamedField, dword, hex, flags, fields_joined}
+use Rattle.acpi_base.specs.Look.{Part, flag}
 use Rattle.acpi_base.specs.Object.{whole}
 use Rattle.acpi_base.specs.Walk.{IsPiece, madt_walk}
 use Rattle.acpi_base.specs.declared.error.Error.{Error}
@@ -39,10 +40,16 @@ abbrev pub controller_address : LocalInterruptController → ℕ
 controller_address Riscv = 0
 controller_address (Address address) = address
 
+-- Multiple APIC Flags
+abbrev pub madt_bits : List Part
+madt_bits =
+    flag 0x1 "PCAT_COMPAT"
+    ∷ []
+
 abbrev pub madt_fields : LocalInterruptController → List NamedField
 madt_fields controller =
-    dword "Local Interrupt Controller Address" (controller_address controller)  -- 36
-    ∷ dword "Flags" 0  -- 40
+    hex dword "Local Interrupt Controller Address" (controller_address controller)  -- 36
+    ∷ flags madt_bits dword "Flags" 0  -- 40
     ∷ []
 
 -- a table without structures

@@ -1,6 +1,7 @@
 -- Interrupt controllers of Arm in MADT (ACPI 6.5, 5.2.12).
 use Rattle.std.specs.Prelude.{ℕ, List, [], ◌∷◌, bit_or}
-use Rattle.acpi_base.specs.Fields.{NamedField, byte, word, dword, qword, reserved, fields_joined}
+use Rattle.acpi_base.specs.Fields.{NamedField, byte, word, dword, qword, hex, preset, flags, one_of, reserved, fields_joined}
+use Rattle.acpi_base.specs.Look.{Part, flag, means}
 use Rattle.acpi_lists.specs.declared.madt.EnabledStatus.{EnabledStatus}
 use Rattle.acpi_lists.specs.declared.madt.EnabledStatus.TheVariants.{Disabled, Enabled, DisabledOnlineCapable}
 use Rattle.acpi_lists.specs.declared.madt.arm.Trigger.{Trigger}
@@ -15,23 +16,32 @@ use Rattle.acpi_lists.specs.declared.madt.arm.GicIts.{GicIts}
 
 -- ---- GIC CPU Interface (5.2.12.14)
 
+-- GICC CPU Interface Flags
+abbrev pub gicc_bits : List Part
+gicc_bits =
+    flag 0x1 "Enabled"
+    ∷ flag 0x2 "Performance Interrupt Edge Triggered"
+    ∷ flag 0x4 "VGIC Maintenance Interrupt Edge Triggered"
+    ∷ flag 0x8 "Online Capable"
+    ∷ []
+
 abbrev pub gicc_fields : Gicc → List NamedField
 gicc_fields s =
-    byte "Type" 0x0b  -- 0
-    ∷ byte "Length" 82  -- 1
+    preset byte "Type" 0x0b  -- 0
+    ∷ preset byte "Length" 82  -- 1
     ∷ reserved 2  -- 2
     ∷ dword "CPU Interface Number" s.cpu_interface_number  -- 4
-    ∷ dword "ACPI Processor UID" s.acpi_processor_uid  -- 8
-    ∷ dword "Flags" s.flags  -- 12
+    ∷ hex dword "ACPI Processor UID" s.acpi_processor_uid  -- 8
+    ∷ flags gicc_bits dword "Flags" s.flags  -- 12
     ∷ dword "Parking Protocol Version" s.parking_protocol_version  -- 16
     ∷ dword "Performance Interrupt GSIV" s.performance_interrupt  -- 20
-    ∷ qword "Parked Address" s.parked_address  -- 24
-    ∷ qword "Physical Base Address" s.base_address  -- 32
-    ∷ qword "GICV" s.virtual_registers  -- 40
-    ∷ qword "GICH" s.control_block_registers  -- 48
+    ∷ hex qword "Parked Address" s.parked_address  -- 24
+    ∷ hex qword "Physical Base Address" s.base_address  -- 32
+    ∷ hex qword "GICV" s.virtual_registers  -- 40
+    ∷ hex qword "GICH" s.control_block_registers  -- 48
     ∷ dword "VGIC Maintenance Interrupt" s.maintenance_interrupt  -- 56
-    ∷ qword "GICR Base Address" s.redistributor_base  -- 60
-    ∷ qword "MPIDR" s.mpidr  -- 68
+    ∷ hex qword "GICR Base Address" s.redistributor_base  -- 60
+    ∷ hex qword "MPIDR" s.mpidr  -- 68
     ∷ byte "Processor Power Efficiency Class" s.power_efficiency_class  -- 76
     ∷ reserved 1  -- 77
     ∷ word "SPE Overflow Interrupt" s.overflow_interrupt  -- 78
@@ -90,15 +100,25 @@ version_number GICv2 = 0x02
 version_number GICv3 = 0x03
 version_number GICv4 = 0x04
 
+-- the words of GIC Version
+abbrev pub gic_version_words : List (ℕ × List ℕ)
+gic_version_words =
+    means 0 "Not Specified"
+    ∷ means 1 "GICv1"
+    ∷ means 2 "GICv2"
+    ∷ means 3 "GICv3"
+    ∷ means 4 "GICv4"
+    ∷ []
+
 abbrev pub gicd_fields : Gicd → List NamedField
 gicd_fields s =
-    byte "Type" 0x0c  -- 0
-    ∷ byte "Length" 24  -- 1
+    preset byte "Type" 0x0c  -- 0
+    ∷ preset byte "Length" 24  -- 1
     ∷ reserved 2  -- 2
-    ∷ dword "GIC ID" s.gic_id  -- 4
-    ∷ qword "Physical Base Address" s.base_addr  -- 8
-    ∷ dword "System Vector Base" 0  -- 16
-    ∷ byte "GIC Version" (version_number s.version)  -- 20
+    ∷ hex dword "GIC ID" s.gic_id  -- 4
+    ∷ hex qword "Physical Base Address" s.base_addr  -- 8
+    ∷ preset dword "System Vector Base" 0  -- 16
+    ∷ one_of gic_version_words byte "GIC Version" (version_number s.version)  -- 20
     ∷ reserved 3  -- 21
     ∷ []
 
@@ -114,14 +134,20 @@ gicd id address version = record {
 
 -- ---- GIC MSI Frame (5.2.12.16)
 
+-- GIC MSI Frame Flags
+abbrev pub msi_frame_bits : List Part
+msi_frame_bits =
+    flag 0x1 "SPI Count/Base Select"
+    ∷ []
+
 abbrev pub gic_msi_fields : GicMsi → List NamedField
 gic_msi_fields s =
-    byte "Type" 0x0d  -- 0
-    ∷ byte "Length" 24  -- 1
+    preset byte "Type" 0x0d  -- 0
+    ∷ preset byte "Length" 24  -- 1
     ∷ reserved 2  -- 2
-    ∷ dword "GIC MSI Frame ID" s.gic_msi_frame_id  -- 4
-    ∷ qword "Physical Base Address" s.base_addr  -- 8
-    ∷ dword "Flags" s.flags  -- 16
+    ∷ hex dword "GIC MSI Frame ID" s.gic_msi_frame_id  -- 4
+    ∷ hex qword "Physical Base Address" s.base_addr  -- 8
+    ∷ flags msi_frame_bits dword "Flags" s.flags  -- 16
     ∷ word "SPI Count" s.spi_count  -- 20
     ∷ word "SPI Base" s.spi_base  -- 22
     ∷ []
@@ -146,10 +172,10 @@ with_spis count base s = record s { spi_count = count; spi_base = base; flags = 
 
 abbrev pub gicr_fields : Gicr → List NamedField
 gicr_fields s =
-    byte "Type" 0x0e  -- 0
-    ∷ byte "Length" 16  -- 1
+    preset byte "Type" 0x0e  -- 0
+    ∷ preset byte "Length" 16  -- 1
     ∷ reserved 2  -- 2
-    ∷ qword "Discovery Range Base Address" s.discovery_range_base  -- 4
+    ∷ hex qword "Discovery Range Base Address" s.discovery_range_base  -- 4
     ∷ dword "Discovery Range Length" s.discovery_range_length  -- 12
     ∷ []
 
@@ -166,11 +192,11 @@ gicr address size = record {
 
 abbrev pub gic_its_fields : GicIts → List NamedField
 gic_its_fields s =
-    byte "Type" 0x0f  -- 0
-    ∷ byte "Length" 20  -- 1
+    preset byte "Type" 0x0f  -- 0
+    ∷ preset byte "Length" 20  -- 1
     ∷ reserved 2  -- 2
-    ∷ dword "GIC ITS ID" s.gic_its_id  -- 4
-    ∷ qword "Physical Base Address" s.base_addr  -- 8
+    ∷ hex dword "GIC ITS ID" s.gic_its_id  -- 4
+    ∷ hex qword "Physical Base Address" s.base_addr  -- 8
     ∷ reserved 4  -- 16
     ∷ []
 

@@ -1,6 +1,7 @@
 -- Interrupts of x86 in MADT that come to another input, or can't be masked (ACPI 6.5, 5.2.12).
 use Rattle.std.specs.Prelude.{ℕ, ◌+◌, ◌*◌, List, [], ◌∷◌}
-use Rattle.acpi_base.specs.Fields.{NamedField, byte, word, dword, reserved, fields_joined}
+use Rattle.acpi_base.specs.Fields.{NamedField, byte, word, dword, hex, preset, flags, one_of, reserved, fields_joined}
+use Rattle.acpi_base.specs.Look.{Part, choice, means}
 use Rattle.acpi_lists.specs.declared.madt.interrupts.Polarity.{Polarity}
 use Rattle.acpi_lists.specs.declared.madt.interrupts.Polarity.TheVariants as polarities
 use Rattle.acpi_lists.specs.declared.madt.interrupts.TriggerMode.{TriggerMode}
@@ -30,14 +31,27 @@ inti_flags polarity mode = polarity_number polarity + 4 * trigger_mode_number mo
 
 -- ---- Interrupt Source Override (5.2.12.5)
 
+-- the word of Bus
+abbrev pub bus_words : List (ℕ × List ℕ)
+bus_words =
+    means 0 "ISA"
+    ∷ []
+
+-- MPS INTI flags: Polarity in bits 1:0, Trigger Mode in bits 3:2
+abbrev pub inti_bits : List Part
+inti_bits =
+    choice 0x3 (means 0x0 "Conforms to Bus Polarity" ∷ means 0x1 "Active High" ∷ means 0x3 "Active Low" ∷ [])
+    ∷ choice 0xc (means 0x0 "Conforms to Bus Trigger Mode" ∷ means 0x4 "Edge Triggered" ∷ means 0xc "Level Triggered" ∷ [])
+    ∷ []
+
 abbrev pub source_override_fields : InterruptSourceOverride → List NamedField
 source_override_fields s =
-    byte "Type" 0x02  -- 0
-    ∷ byte "Length" 10  -- 1
-    ∷ byte "Bus" 0  -- 2: ISA
+    preset byte "Type" 0x02  -- 0
+    ∷ preset byte "Length" 10  -- 1
+    ∷ one_of bus_words byte "Bus" 0  -- 2: ISA
     ∷ byte "Source" s.source  -- 3
     ∷ dword "Global System Interrupt" s.global_system_interrupt  -- 4
-    ∷ word "Flags" (inti_flags s.polarity s.trigger_mode)  -- 8
+    ∷ flags inti_bits word "Flags" (inti_flags s.polarity s.trigger_mode)  -- 8
     ∷ []
 
 abbrev pub source_override_bytes : InterruptSourceOverride → List ℕ
@@ -55,9 +69,9 @@ source_override source interrupt = record {
 
 abbrev pub nmi_source_fields : NmiSource → List NamedField
 nmi_source_fields s =
-    byte "Type" 0x03  -- 0
-    ∷ byte "Length" 8  -- 1
-    ∷ word "Flags" (inti_flags s.polarity s.trigger_mode)  -- 2
+    preset byte "Type" 0x03  -- 0
+    ∷ preset byte "Length" 8  -- 1
+    ∷ flags inti_bits word "Flags" (inti_flags s.polarity s.trigger_mode)  -- 2
     ∷ dword "Global System Interrupt" s.global_system_interrupt  -- 4
     ∷ []
 
@@ -75,10 +89,10 @@ nmi_source interrupt = record {
 
 abbrev pub local_apic_nmi_fields : LocalApicNmi → List NamedField
 local_apic_nmi_fields s =
-    byte "Type" 0x04  -- 0
-    ∷ byte "Length" 6  -- 1
-    ∷ byte "ACPI Processor UID" s.processor_uid  -- 2
-    ∷ word "Flags" (inti_flags s.polarity s.trigger_mode)  -- 3
+    preset byte "Type" 0x04  -- 0
+    ∷ preset byte "Length" 6  -- 1
+    ∷ hex byte "ACPI Processor UID" s.processor_uid  -- 2
+    ∷ flags inti_bits word "Flags" (inti_flags s.polarity s.trigger_mode)  -- 3
     ∷ byte "Local APIC LINT#" s.local_apic_lint  -- 5
     ∷ []
 
@@ -97,10 +111,10 @@ local_apic_nmi uid lint = record {
 
 abbrev pub local_x2apic_nmi_fields : LocalX2ApicNmi → List NamedField
 local_x2apic_nmi_fields s =
-    byte "Type" 0x0a  -- 0
-    ∷ byte "Length" 12  -- 1
-    ∷ word "Flags" (inti_flags s.polarity s.trigger_mode)  -- 2
-    ∷ dword "ACPI Processor UID" s.processor_uid  -- 4
+    preset byte "Type" 0x0a  -- 0
+    ∷ preset byte "Length" 12  -- 1
+    ∷ flags inti_bits word "Flags" (inti_flags s.polarity s.trigger_mode)  -- 2
+    ∷ hex dword "ACPI Processor UID" s.processor_uid  -- 4
     ∷ byte "Local x2APIC LINT#" s.local_x2apic_lint  -- 8
     ∷ reserved 3  -- 9
     ∷ []

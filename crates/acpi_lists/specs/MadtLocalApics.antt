@@ -1,7 +1,7 @@
 -- Local APICs of x86 in MADT with addresses of 64 bits, and with ids of 32 bits (ACPI 6.5, 5.2.12).
 use Rattle.std.specs.Prelude.{ℕ, List, [], ◌∷◌}
-use Rattle.acpi_base.specs.Fields.{NamedField, byte, dword, qword, reserved, fields_joined}
-use Rattle.acpi_lists.specs.MadtX86.{local_apic_flags}
+use Rattle.acpi_base.specs.Fields.{NamedField, byte, dword, qword, hex, preset, flags, reserved, fields_joined}
+use Rattle.acpi_lists.specs.MadtX86.{local_apic_flags, local_apic_bits}
 use Rattle.acpi_lists.specs.declared.madt.EnabledStatus.{EnabledStatus}
 use Rattle.acpi_lists.specs.declared.madt.local_apics.LocalApicAddressOverride.{LocalApicAddressOverride}
 use Rattle.acpi_lists.specs.declared.madt.local_apics.ProcessorLocalX2Apic.{ProcessorLocalX2Apic}
@@ -10,10 +10,10 @@ use Rattle.acpi_lists.specs.declared.madt.local_apics.ProcessorLocalX2Apic.{Proc
 
 abbrev pub address_override_fields : LocalApicAddressOverride → List NamedField
 address_override_fields s =
-    byte "Type" 0x05  -- 0
-    ∷ byte "Length" 12  -- 1
+    preset byte "Type" 0x05  -- 0
+    ∷ preset byte "Length" 12  -- 1
     ∷ reserved 2  -- 2
-    ∷ qword "Local APIC Address" s.local_apic_address  -- 4
+    ∷ hex qword "Local APIC Address" s.local_apic_address  -- 4
     ∷ []
 
 abbrev pub address_override_bytes : LocalApicAddressOverride → List ℕ
@@ -27,12 +27,12 @@ address_override address = record { local_apic_address = address }
 -- the flags are those of a local APIC
 abbrev pub local_x2apic_fields : ProcessorLocalX2Apic → List NamedField
 local_x2apic_fields s =
-    byte "Type" 0x09  -- 0
-    ∷ byte "Length" 16  -- 1
+    preset byte "Type" 0x09  -- 0
+    ∷ preset byte "Length" 16  -- 1
     ∷ reserved 2  -- 2
-    ∷ dword "X2APIC ID" s.x2apic_id  -- 4
-    ∷ dword "Flags" (local_apic_flags s.status)  -- 8
-    ∷ dword "ACPI Processor UID" s.processor_uid  -- 12
+    ∷ hex dword "X2APIC ID" s.x2apic_id  -- 4
+    ∷ flags local_apic_bits dword "Flags" (local_apic_flags s.status)  -- 8
+    ∷ hex dword "ACPI Processor UID" s.processor_uid  -- 12
     ∷ []
 
 abbrev pub local_x2apic_bytes : ProcessorLocalX2Apic → List ℕ

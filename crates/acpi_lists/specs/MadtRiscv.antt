@@ -1,6 +1,7 @@
 -- Interrupt controllers of RISC-V in MADT.
 use Rattle.std.specs.Prelude.{ℕ, List, [], ◌∷◌}
-use Rattle.acpi_base.specs.Fields.{NamedField, byte, word, dword, qword, bytes, reserved, fields_joined}
+use Rattle.acpi_base.specs.Fields.{NamedField, byte, word, dword, qword, hex, preset, flags, bytes, reserved, fields_joined}
+use Rattle.acpi_base.specs.Look.{Part, flag}
 use Rattle.acpi_lists.specs.declared.madt.riscv.HartStatus.{HartStatus}
 use Rattle.acpi_lists.specs.declared.madt.riscv.HartStatus.TheVariants.{Disabled, Enabled, OnlineCapable}
 use Rattle.acpi_lists.specs.declared.madt.riscv.RINTC.{RINTC}
@@ -16,17 +17,24 @@ hart_flags Disabled = 0x0
 hart_flags Enabled = 0x1
 hart_flags OnlineCapable = 0x2
 
+-- RINTC Flags
+abbrev pub hart_bits : List Part
+hart_bits =
+    flag 0x1 "Enabled"
+    ∷ flag 0x2 "Online Capable"
+    ∷ []
+
 abbrev pub rintc_fields : RINTC → List NamedField
 rintc_fields s =
-    byte "Type" 0x18  -- 0
-    ∷ byte "Length" 36  -- 1
-    ∷ byte "Version" 1  -- 2
+    preset byte "Type" 0x18  -- 0
+    ∷ preset byte "Length" 36  -- 1
+    ∷ preset byte "Version" 1  -- 2
     ∷ reserved 1  -- 3
-    ∷ dword "Flags" (hart_flags s.hart_status)  -- 4
-    ∷ qword "Hart ID" s.hart_id  -- 8
-    ∷ dword "ACPI Processor UID" s.acpi_processor_uid  -- 16
-    ∷ dword "External Interrupt Controller ID" s.ext_int_ctrl_id  -- 20
-    ∷ qword "IMSIC Base Address" s.imsic_base_addr  -- 24
+    ∷ flags hart_bits dword "Flags" (hart_flags s.hart_status)  -- 4
+    ∷ hex qword "Hart ID" s.hart_id  -- 8
+    ∷ hex dword "ACPI Processor UID" s.acpi_processor_uid  -- 16
+    ∷ hex dword "External Interrupt Controller ID" s.ext_int_ctrl_id  -- 20
+    ∷ hex qword "IMSIC Base Address" s.imsic_base_addr  -- 24
     ∷ dword "IMSIC Size" s.imsic_size  -- 32
     ∷ []
 
@@ -47,10 +55,11 @@ rintc status hart uid controller imsic_address imsic_size = record {
 
 abbrev pub imsic_fields : IMSIC → List NamedField
 imsic_fields s =
-    byte "Type" 0x19  -- 0
-    ∷ byte "Length" 16  -- 1
-    ∷ byte "Version" 1  -- 2
-    ∷ reserved 5  -- 3
+    preset byte "Type" 0x19  -- 0
+    ∷ preset byte "Length" 16  -- 1
+    ∷ preset byte "Version" 1  -- 2
+    ∷ reserved 1  -- 3
+    ∷ hex dword "Flags" 0  -- 4
     ∷ word "Number of Supervisor Mode Interrupt Identities" s.num_supervisor_interrupt_identities  -- 8
     ∷ word "Number of Guest Mode Interrupt Identities" s.num_guest_interrupt_identities  -- 10
     ∷ byte "Guest Index Bits" s.guest_index_bits  -- 12
@@ -76,16 +85,16 @@ imsic supervisor guest guest_bits hart_bits group_bits group_shift = record {
 
 abbrev pub aplic_fields : APLIC → List NamedField
 aplic_fields s =
-    byte "Type" 0x1a  -- 0
-    ∷ byte "Length" 36  -- 1
-    ∷ byte "Version" 1  -- 2
-    ∷ byte "APLIC ID" s.aplic_id  -- 3
-    ∷ dword "Flags" 0  -- 4
+    preset byte "Type" 0x1a  -- 0
+    ∷ preset byte "Length" 36  -- 1
+    ∷ preset byte "Version" 1  -- 2
+    ∷ hex byte "APLIC ID" s.aplic_id  -- 3
+    ∷ hex dword "Flags" 0  -- 4
     ∷ bytes "Hardware ID" 8 s.hardware_id  -- 8
     ∷ word "Number of IDCs" s.number_of_idcs  -- 16
     ∷ word "Total External Interrupt Sources Supported" s.total_external_interrupt_sources  -- 18
     ∷ dword "Global System Interrupt Base" s.global_system_interrupt_base  -- 20
-    ∷ qword "APLIC Address" s.aplic_address  -- 24
+    ∷ hex qword "APLIC Address" s.aplic_address  -- 24
     ∷ dword "APLIC Size" s.aplic_size  -- 32
     ∷ []
 
@@ -107,16 +116,16 @@ aplic id hardware_id idcs gsi_base address size sources = record {
 
 abbrev pub plic_fields : PLIC → List NamedField
 plic_fields s =
-    byte "Type" 0x1b  -- 0
-    ∷ byte "Length" 36  -- 1
-    ∷ byte "Version" 1  -- 2
-    ∷ byte "PLIC ID" s.plic_id  -- 3
+    preset byte "Type" 0x1b  -- 0
+    ∷ preset byte "Length" 36  -- 1
+    ∷ preset byte "Version" 1  -- 2
+    ∷ hex byte "PLIC ID" s.plic_id  -- 3
     ∷ bytes "Hardware ID" 8 s.hardware_id  -- 4
     ∷ word "Total External Interrupt Sources Supported" s.total_external_interrupt_sources  -- 12
     ∷ word "Max Priority" s.max_priority  -- 14
-    ∷ dword "Flags" 0  -- 16
+    ∷ hex dword "Flags" 0  -- 16
     ∷ dword "PLIC Size" s.plic_size  -- 20
-    ∷ qword "PLIC Address" s.plic_address  -- 24
+    ∷ hex qword "PLIC Address" s.plic_address  -- 24
     ∷ dword "Global System Interrupt Base" s.global_system_interrupt_base  -- 32
     ∷ []
 

@@ -1,6 +1,7 @@
 -- Interrupt controllers of x86 in MADT (ACPI 6.5, 5.2.12).
 use Rattle.std.specs.Prelude.{ℕ, List, [], ◌∷◌}
-use Rattle.acpi_base.specs.Fields.{NamedField, byte, dword, reserved, fields_joined}
+use Rattle.acpi_base.specs.Fields.{NamedField, byte, dword, hex, preset, flags, reserved, fields_joined}
+use Rattle.acpi_base.specs.Look.{Part, flag}
 use Rattle.acpi_lists.specs.declared.madt.EnabledStatus.{EnabledStatus}
 use Rattle.acpi_lists.specs.declared.madt.EnabledStatus.TheVariants.{Disabled, Enabled, DisabledOnlineCapable}
 use Rattle.acpi_lists.specs.declared.madt.x86.ProcessorLocalApic.{ProcessorLocalApic}
@@ -14,13 +15,20 @@ local_apic_flags Disabled = 0x0
 local_apic_flags Enabled = 0x1
 local_apic_flags DisabledOnlineCapable = 0x2
 
+-- Local APIC Flags (5.2.12.2)
+abbrev pub local_apic_bits : List Part
+local_apic_bits =
+    flag 0x1 "Enabled"
+    ∷ flag 0x2 "Online Capable"
+    ∷ []
+
 abbrev pub processor_local_apic_fields : ProcessorLocalApic → List NamedField
 processor_local_apic_fields s =
-    byte "Type" 0x00  -- 0
-    ∷ byte "Length" 8  -- 1
-    ∷ byte "ACPI Processor UID" s.processor_uid  -- 2
-    ∷ byte "APIC ID" s.apic_id  -- 3
-    ∷ dword "Flags" (local_apic_flags s.status)  -- 4
+    preset byte "Type" 0x00  -- 0
+    ∷ preset byte "Length" 8  -- 1
+    ∷ hex byte "ACPI Processor UID" s.processor_uid  -- 2
+    ∷ hex byte "APIC ID" s.apic_id  -- 3
+    ∷ flags local_apic_bits dword "Flags" (local_apic_flags s.status)  -- 4
     ∷ []
 
 abbrev pub processor_local_apic_bytes : ProcessorLocalApic → List ℕ
@@ -37,11 +45,11 @@ processor_local_apic uid apic_id status = record {
 
 abbrev pub io_apic_fields : IoApic → List NamedField
 io_apic_fields s =
-    byte "Type" 0x01  -- 0
-    ∷ byte "Length" 12  -- 1
-    ∷ byte "I/O APIC ID" s.io_apic_id  -- 2
+    preset byte "Type" 0x01  -- 0
+    ∷ preset byte "Length" 12  -- 1
+    ∷ hex byte "I/O APIC ID" s.io_apic_id  -- 2
     ∷ reserved 1  -- 3
-    ∷ dword "I/O APIC Address" s.io_apic_addr  -- 4
+    ∷ hex dword "I/O APIC Address" s.io_apic_addr  -- 4
     ∷ dword "Global System Interrupt Base" s.gsi_base  -- 8
     ∷ []
 

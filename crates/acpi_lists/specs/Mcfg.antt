@@ -1,6 +1,6 @@
 -- The memory mapped configuration space of PCI (PCI Firmware Specification 3.3, 4.1.2).
 use Rattle.std.specs.Prelude.{ℕ, List, [], ◌∷◌, codes}
-use Rattle.acpi_base.specs.Fields.{NamedField, byte, word, qword, reserved, fields_joined}
+use Rattle.acpi_base.specs.Fields.{NamedField, byte, word, qword, hex, reserved, fields_joined}
 use Rattle.acpi_base.specs.Bytes.{zeros}
 use Rattle.acpi_base.specs.declared.oem.Oem.{Oem}
 use Rattle.acpi_core.specs.Listing.{Listing, length_limit}
@@ -21,8 +21,8 @@ mcfg oem = record {
 
 abbrev pub ecam_fields : Ecam → List NamedField
 ecam_fields e =
-    qword "Base Address" e.base_addr  -- 0
-    ∷ word "Segment Group Number" e.segment  -- 8
+    hex qword "Base Address" e.base_addr  -- 0
+    ∷ word "PCI Segment Group Number" e.segment  -- 8
     ∷ byte "Start Bus Number" e.start_bus  -- 10
     ∷ byte "End Bus Number" e.end_bus  -- 11
     ∷ reserved 4  -- 12

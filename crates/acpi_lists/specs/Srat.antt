@@ -2,7 +2,9 @@
 use Rattle.std.specs.Prelude.{◌≢◌, ℕ, ◌+◌, ◌*◌, ◌&&◌, nat_lt, Bool, true, List, [], ◌∷◌, ◌++◌, codes, Some}
 use Rattle.acpi_base.specs.declared.error.Error.TheVariants.{Memory, PciAddress}
 use Rattle.acpi_base.specs.Bytes.{le, zeros}
-use Rattle.acpi_base.specs.Fields.{NamedField, byte, word, dword, qword, bytes, reserved, fields_joined}
+use Rattle.acpi_base.specs.Fields.{NamedField, byte, word, dword, qword, hex, preset, flags}
+use Rattle.acpi_base.specs.Fields.{one_of, bytes, text, hex_of, reserved, fields_joined}
+use Rattle.acpi_base.specs.Look.{Part, flag, part, means}
 use Rattle.acpi_base.specs.Object.{Object, whole, provided, provided_ends_well}
 use Rattle.acpi_base.specs.declared.oem.Oem.{Oem}
 use Rattle.acpi_core.specs.Listing.{Listing, length_limit}
@@ -30,16 +32,24 @@ srat oem = record {
 abbrev pub memory_affinity : ℕ → ℕ → ℕ → MemoryAffinity
 memory_affinity domain base size = record { domain = domain; base = base; size = size; flags = 0 }
 
+-- Flags of a range of memory
+abbrev pub memory_bits : List Part
+memory_bits =
+    flag 0x1 "Enabled"
+    ∷ flag 0x2 "Hot Pluggable"
+    ∷ flag 0x4 "NonVolatile"
+    ∷ []
+
 abbrev pub memory_affinity_fields : MemoryAffinity → List NamedField
 memory_affinity_fields m =
-    byte "Type" 1  -- 0
-    ∷ byte "Length" 40  -- 1
+    preset byte "Type" 1  -- 0
+    ∷ preset byte "Length" 40  -- 1
     ∷ dword "Proximity Domain" m.domain  -- 2
     ∷ reserved 2  -- 6
-    ∷ qword "Base Address" m.base  -- 8
+    ∷ hex qword "Base Address" m.base  -- 8
     ∷ qword "Length" m.size  -- 16
     ∷ reserved 4  -- 24
-    ∷ dword "Flags" m.flags  -- 28
+    ∷ flags memory_bits dword "Flags" m.flags  -- 28
     ∷ reserved 8  -- 32
     ∷ []
 
@@ -51,16 +61,23 @@ memory_affinity_bytes m = fields_joined (memory_affinity_fields m)
 -- ACPI and PCI device handles: 16 bytes
 abbrev pub acpi_handle_fields : List ℕ → List ℕ → List NamedField
 acpi_handle_fields hid uid =
-    bytes "ACPI _HID" 8 hid  -- 0
-    ∷ bytes "ACPI _UID" 4 uid  -- 8
+    text "ACPI _HID" 8 hid  -- 0
+    ∷ hex_of "ACPI _UID" 4 uid  -- 8
     ∷ reserved 4  -- 12
+    ∷ []
+
+-- PCI Device and Function Number: the device in bits 7:3, the function in bits 2:0
+abbrev pub device_function_bits : List Part
+device_function_bits =
+    part 0xf8 0x08 "Device"
+    ∷ part 0x07 0x01 "Function"
     ∷ []
 
 abbrev pub pci_handle_fields : ℕ → ℕ → ℕ → ℕ → List NamedField
 pci_handle_fields segment bus device function =
     word "PCI Segment" segment  -- 0
     ∷ byte "PCI Bus Number" bus  -- 2
-    ∷ byte "PCI Device and Function Number" (device * 8 + function)  -- 3
+    ∷ flags device_function_bits byte "PCI Device and Function Number" (device * 8 + function)  -- 3
     ∷ reserved 12  -- 4
     ∷ []
 
@@ -87,15 +104,29 @@ handle_ends_well h = provided_ends_well (is_address h) PciAddress (handle_bytes 
 abbrev pub generic_initiator : ℕ → Handle → GenericInitiator
 generic_initiator domain handle = record { domain = domain; handle = handle; flags = 0 }
 
+-- the words of Device Handle Type
+abbrev pub handle_type_words : List (ℕ × List ℕ)
+handle_type_words =
+    means 0 "ACPI"
+    ∷ means 1 "PCI"
+    ∷ []
+
+-- Flags of an initiator
+abbrev pub initiator_bits : List Part
+initiator_bits =
+    flag 0x1 "Enabled"
+    ∷ flag 0x2 "Architectural Transactions"
+    ∷ []
+
 abbrev pub generic_initiator_fields : GenericInitiator → List NamedField
 generic_initiator_fields g =
-    byte "Type" 5  -- 0
-    ∷ byte "Length" 32  -- 1
+    preset byte "Type" 5  -- 0
+    ∷ preset byte "Length" 32  -- 1
     ∷ reserved 1  -- 2
-    ∷ byte "Device Handle Type" (handle_type g.handle)  -- 3
+    ∷ one_of handle_type_words byte "Device Handle Type" (handle_type g.handle)  -- 3
     ∷ dword "Proximity Domain" g.domain  -- 4
     ∷ bytes "Device Handle" 16 (handle_bytes g.handle)  -- 8
-    ∷ dword "Flags" g.flags  -- 24
+    ∷ flags initiator_bits dword "Flags" g.flags  -- 24
     ∷ reserved 4  -- 28
     ∷ []
 
@@ -113,14 +144,20 @@ generic_initiator_ends_well g = provided_ends_well (is_address g.handle) PciAddr
 abbrev pub rintc_affinity : List ℕ → ℕ → RintcAffinity
 rintc_affinity uid clock_domain = record { domain = 0; uid = uid; flags = 0; clock_domain = clock_domain }
 
+-- Flags of a hart
+abbrev pub rintc_bits : List Part
+rintc_bits =
+    flag 0x1 "Enabled"
+    ∷ []
+
 abbrev pub rintc_affinity_fields : RintcAffinity → List NamedField
 rintc_affinity_fields r =
-    byte "Type" 7  -- 0
-    ∷ byte "Length" 20  -- 1
+    preset byte "Type" 7  -- 0
+    ∷ preset byte "Length" 20  -- 1
     ∷ reserved 2  -- 2
     ∷ dword "Proximity Domain" r.domain  -- 4
-    ∷ bytes "ACPI Processor UID" 4 r.uid  -- 8
-    ∷ dword "Flags" r.flags  -- 12
+    ∷ hex_of "ACPI Processor UID" 4 r.uid  -- 8
+    ∷ flags rintc_bits dword "Flags" r.flags  -- 12
     ∷ dword "Clock Domain" r.clock_domain  -- 16
     ∷ []
 

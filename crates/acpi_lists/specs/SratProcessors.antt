@@ -1,7 +1,8 @@
 -- Processors of x86 and Arm, and interrupt translation services, in SRAT (ACPI 6.5, 5.2.16).
 use Rattle.std.specs.Prelude.{ℕ, ◌/◌, ◌%◌, List, [], ◌∷◌}
 use Rattle.acpi_base.specs.Bytes.{le}
-use Rattle.acpi_base.specs.Fields.{NamedField, byte, dword, bytes, reserved, fields_joined}
+use Rattle.acpi_base.specs.Fields.{NamedField, byte, dword, number_field, hex, preset, flags, reserved, fields_joined}
+use Rattle.acpi_base.specs.Look.{Part, flag}
 use Rattle.acpi_lists.specs.declared.srat.processors.ProcessorLocalApicAffinity.{ProcessorLocalApicAffinity}
 use Rattle.acpi_lists.specs.declared.srat.processors.ProcessorLocalX2ApicAffinity.{ProcessorLocalX2ApicAffinity}
 use Rattle.acpi_lists.specs.declared.srat.processors.GiccAffinity.{GiccAffinity}
@@ -12,16 +13,22 @@ use Rattle.acpi_lists.specs.declared.srat.processors.GicItsAffinity.{GicItsAffin
 abbrev pub apic_affinity : ℕ → ℕ → ProcessorLocalApicAffinity
 apic_affinity domain id = record { domain = domain; apic_id = id; flags = 0; local_sapic_eid = 0; clock_domain = 0 }
 
+-- Flags of a processor
+abbrev pub processor_bits : List Part
+processor_bits =
+    flag 0x1 "Enabled"
+    ∷ []
+
 -- Proximity Domain [7:0] and Proximity Domain [31:8]: a name contains no colon
 abbrev pub apic_affinity_fields : ProcessorLocalApicAffinity → List NamedField
 apic_affinity_fields p =
-    byte "Type" 0  -- 0
-    ∷ byte "Length" 16  -- 1
+    preset byte "Type" 0  -- 0
+    ∷ preset byte "Length" 16  -- 1
     ∷ byte "Proximity Domain [7-0]" (p.domain % 256)  -- 2
-    ∷ byte "APIC ID" p.apic_id  -- 3
-    ∷ dword "Flags" p.flags  -- 4
-    ∷ byte "Local SAPIC EID" p.local_sapic_eid  -- 8
-    ∷ bytes "Proximity Domain [31-8]" 3 (le 3 (p.domain / 256))  -- 9
+    ∷ hex byte "APIC ID" p.apic_id  -- 3
+    ∷ flags processor_bits dword "Flags" p.flags  -- 4
+    ∷ hex byte "Local SAPIC EID" p.local_sapic_eid  -- 8
+    ∷ number_field 3 "Proximity Domain [31-8]" (p.domain / 256)  -- 9
     ∷ dword "Clock Domain" p.clock_domain  -- 12
     ∷ []
 
@@ -35,12 +42,12 @@ x2apic_affinity domain id = record { domain = domain; x2apic_id = id; flags = 0;
 
 abbrev pub x2apic_affinity_fields : ProcessorLocalX2ApicAffinity → List NamedField
 x2apic_affinity_fields p =
-    byte "Type" 2  -- 0
-    ∷ byte "Length" 24  -- 1
+    preset byte "Type" 2  -- 0
+    ∷ preset byte "Length" 24  -- 1
     ∷ reserved 2  -- 2
     ∷ dword "Proximity Domain" p.domain  -- 4
-    ∷ dword "X2APIC ID" p.x2apic_id  -- 8
-    ∷ dword "Flags" p.flags  -- 12
+    ∷ hex dword "X2APIC ID" p.x2apic_id  -- 8
+    ∷ flags processor_bits dword "Flags" p.flags  -- 12
     ∷ dword "Clock Domain" p.clock_domain  -- 16
     ∷ reserved 4  -- 20
     ∷ []
@@ -55,11 +62,11 @@ gicc_affinity domain uid = record { domain = domain; processor_uid = uid; flags 
 
 abbrev pub gicc_affinity_fields : GiccAffinity → List NamedField
 gicc_affinity_fields p =
-    byte "Type" 3  -- 0
-    ∷ byte "Length" 18  -- 1
+    preset byte "Type" 3  -- 0
+    ∷ preset byte "Length" 18  -- 1
     ∷ dword "Proximity Domain" p.domain  -- 2
-    ∷ dword "ACPI Processor UID" p.processor_uid  -- 6
-    ∷ dword "Flags" p.flags  -- 10
+    ∷ hex dword "ACPI Processor UID" p.processor_uid  -- 6
+    ∷ flags processor_bits dword "Flags" p.flags  -- 10
     ∷ dword "Clock Domain" p.clock_domain  -- 14
     ∷ []
 
@@ -73,11 +80,11 @@ its_affinity domain id = record { domain = domain; its_id = id }
 
 abbrev pub its_affinity_fields : GicItsAffinity → List NamedField
 its_affinity_fields s =
-    byte "Type" 4  -- 0
-    ∷ byte "Length" 12  -- 1
+    preset byte "Type" 4  -- 0
+    ∷ preset byte "Length" 12  -- 1
     ∷ dword "Proximity Domain" s.domain  -- 2
     ∷ reserved 2  -- 6
-    ∷ dword "ITS ID" s.its_id  -- 8
+    ∷ hex dword "ITS ID" s.its_id  -- 8
     ∷ []
 
 abbrev pub its_affinity_bytes : GicItsAffinity → List ℕ

@@ -1,6 +1,6 @@
 -- The Extended System Description Table (ACPI 6.5, 5.2.8).
 use Rattle.std.specs.Prelude.{List, [], ◌∷◌, codes}
-use Rattle.acpi_base.specs.Fields.{NamedField, qword}
+use Rattle.acpi_base.specs.Fields.{NamedField, qword, hex}
 use Rattle.acpi_base.specs.declared.oem.Oem.{Oem}
 use Rattle.acpi_core.specs.Listing.{Listing, length_limit}
 use Rattle.acpi_lists.specs.declared.xsdt.Entry.{Entry}
@@ -20,4 +20,4 @@ xsdt oem = record {
 
 -- the physical address of a table
 abbrev pub entry_fields : Entry → List NamedField
-entry_fields e = qword "Entry" e.address ∷ []
+entry_fields e = hex qword "Entry" e.address ∷ []

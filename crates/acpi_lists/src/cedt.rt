@@ -19,7 +19,8 @@ use acpi_base::error::{Error, R};
 use acpi_base::object::Aml;
 use acpi_base::oem::Oem;
 use acpi_base::parts::write_parts;
-use acpi_base::row::{Record, Row, Word, record_of_numbers, write_record};
+use acpi_base::pci::BDF;
+use acpi_base::row::{Bits, Record, Row, Word, record_of_numbers, write_record};
 use acpi_base::sink::AmlSink;
 use acpi_core::entries::Entries;
 use acpi_core::form::Form;
@@ -164,13 +165,13 @@ impl CxlHostBridge {
 
 /// The rows of a CXL Host Bridge Structure.
 pub const CXL_HOST_BRIDGE: [Row; 8] = [
-    Row::Number("Type", 1),
+    Row::Preset("Type", 1, 0),
     Row::Reserved(1),
-    Row::Number("Record Length", 2),
-    Row::Number("UID", 4),
+    Row::Preset("Record Length", 2, 32),
+    Row::Hex("UID", 4),
     Row::OneOf("CXL Version", 4, &[Word(0, "CXL 1.1"), Word(1, "CXL 2.0")]),
     Row::Reserved(4),
-    Row::Number("Base", 8),
+    Row::Hex("Base", 8),
     Row::Number("Length", 8),
 ];
 
@@ -406,37 +407,61 @@ impl CxlFixedMemory {
     }
 }
 
+// The words of Host Bridge Interleave Granularity.
+const GRANULARITIES: [Word; 7] = [
+    Word(0, "256 Bytes"),
+    Word(1, "512 Bytes"),
+    Word(2, "1 KiB"),
+    Word(3, "2 KiB"),
+    Word(4, "4 KiB"),
+    Word(5, "8 KiB"),
+    Word(6, "16 KiB"),
+];
+
 /// The rows of a CXL Fixed Memory Window Structure before its targets.
 pub const FIXED_MEMORY: [Row; 12] = [
-    Row::Number("Type", 1),
+    Row::Preset("Type", 1, 1),
     Row::Reserved(1),
     Row::Number("Record Length", 2),
     Row::Reserved(4),
-    Row::Number("Base HPA", 8),
+    Row::Hex("Base HPA", 8),
     Row::Number("Window Size", 8),
-    Row::Number("Encoded Number of Interleave Ways", 1),
+    Row::OneOf(
+        "Encoded Number of Interleave Ways",
+        1,
+        &[
+            Word(0, "1 Way"),
+            Word(1, "2 Ways"),
+            Word(2, "4 Ways"),
+            Word(3, "8 Ways"),
+            Word(4, "16 Ways"),
+            Word(8, "3 Ways"),
+            Word(9, "6 Ways"),
+            Word(10, "12 Ways"),
+        ],
+    ),
     Row::OneOf(
         "Interleave Arithmetic",
         1,
         &[Word(0, "Standard Modulo"), Word(1, "Modulo with XOR")],
     ),
     Row::Reserved(2),
-    Row::Number("Host Bridge Interleave Granularity", 4),
+    Row::OneOf("Host Bridge Interleave Granularity", 4, &GRANULARITIES),
     Row::Flags(
         "Window Restrictions",
         2,
         &[
-            Word(1, "CXL Type 2 Memory"),
-            Word(2, "CXL Type 3 Memory"),
-            Word(4, "Volatile"),
-            Word(8, "Persistent"),
-            Word(16, "Fixed Device Configuration"),
+            Bits::Flag(0x1, "CXL Type 2 Memory"),
+            Bits::Flag(0x2, "CXL Type 3 Memory"),
+            Bits::Flag(0x4, "Volatile"),
+            Bits::Flag(0x8, "Persistent"),
+            Bits::Flag(0x10, "Fixed Device Configuration"),
         ],
     ),
-    Row::Number("QTG ID", 2),
+    Row::Hex("QTG ID", 2),
 ];
 
-/// The names and widths of a window's fields before its targets, in order.
+/// The rows of a window's fields before its targets, in order.
 pub fn fixed_memory_rows() -> &'static [Row]
     ensures { (w : Window) → AreRowsOf result.now (window_head_fields w) }
 {
@@ -521,15 +546,15 @@ impl XorInterleaveMath {
 
 /// The rows of a CXL XOR Interleave Math Structure before its maps.
 pub const XOR_MAPS: [Row; 6] = [
-    Row::Number("Type", 1),
+    Row::Preset("Type", 1, 2),
     Row::Reserved(1),
     Row::Number("Record Length", 2),
     Row::Reserved(2),
-    Row::Number("Host Bridge Interleave Granularity", 1),
+    Row::OneOf("Host Bridge Interleave Granularity", 1, &GRANULARITIES),
     Row::Number("Number of Bitmap Entries", 1),
 ];
 
-/// The names and widths of the fields before the maps, in order.
+/// The rows of the fields before the maps, in order.
 pub fn xor_maps_rows() -> &'static [Row]
     ensures { (x : XorMaps) → AreRowsOf result.now (maps_head_fields x) }
 {
@@ -588,13 +613,17 @@ impl PortAssociation {
 
 /// The rows of an RCEC Downstream Port Association Structure.
 pub const PORT_ASSOCIATION: [Row; 7] = [
-    Row::Number("Type", 1),
+    Row::Preset("Type", 1, 3),
     Row::Reserved(1),
-    Row::Number("Record Length", 2),
+    Row::Preset("Record Length", 2, 17),
     Row::Number("RCEC Segment Number", 2),
-    Row::Number("RCEC BDF", 2),
-    Row::Number("Protocol Type", 1),
-    Row::Number("Base Address", 8),
+    Row::Flags("RCEC BDF", 2, &BDF),
+    Row::OneOf(
+        "Protocol Type",
+        1,
+        &[Word(0, "CXL.io"), Word(1, "CXL.cachemem")],
+    ),
+    Row::Hex("Base Address", 8),
 ];
 
 impl Record<17> for PortAssociation {

@@ -24,7 +24,7 @@ mod x86;
 use acpi_base::error::{Error, R};
 use acpi_base::object::Aml;
 use acpi_base::oem::Oem;
-use acpi_base::row::{Row, Word, record_of_numbers};
+use acpi_base::row::{Bits, Row, record_of_numbers};
 use acpi_base::sink::AmlSink;
 use acpi_core::form::Form;
 use acpi_core::kind::Kind;
@@ -175,11 +175,11 @@ impl MADT {
 
 /// The rows of a MADT between its header and its structures.
 pub const MADT_FIXED: [Row; 2] = [
-    Row::Number("Local Interrupt Controller Address", 4),
-    Row::Flags("Flags", 4, &[Word(1, "PCAT_COMPAT")]),
+    Row::Hex("Local Interrupt Controller Address", 4),
+    Row::Flags("Flags", 4, &[Bits::Flag(0x1, "PCAT_COMPAT")]),
 ];
 
-/// The names and widths of the table's fixed fields, in order.
+/// The rows of the table's fixed fields, in order.
 pub fn madt_rows() -> &'static [Row]
     ensures { (controller : LocalInterruptController) → AreRowsOf result.now (madt_fields controller) }
 {

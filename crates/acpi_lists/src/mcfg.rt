@@ -111,8 +111,8 @@ pub struct Ecam {
 
 /// The rows of an entry of MCFG.
 pub const ECAM: [Row; 5] = [
-    Row::Number("Base Address", 8),
-    Row::Number("Segment Group Number", 2),
+    Row::Hex("Base Address", 8),
+    Row::Number("PCI Segment Group Number", 2),
     Row::Number("Start Bus Number", 1),
     Row::Number("End Bus Number", 1),
     Row::Reserved(4),

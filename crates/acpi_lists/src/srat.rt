@@ -24,7 +24,7 @@ mod processors;
 use acpi_base::error::{Error, R};
 use acpi_base::object::Aml;
 use acpi_base::oem::Oem;
-use acpi_base::row::{Record, Row, Value, Word, record_of, record_of_numbers, write_record};
+use acpi_base::row::{Bits, Record, Row, Value, Word, record_of, record_of_numbers, write_record};
 use acpi_base::sink::AmlSink;
 use acpi_core::form::Form;
 use acpi_core::kind::Kind;
@@ -214,20 +214,20 @@ impl MemoryAffinity {
 
 /// The rows of a Memory Affinity Structure.
 pub const MEMORY_AFFINITY: [Row; 9] = [
-    Row::Number("Type", 1),
-    Row::Number("Length", 1),
+    Row::Preset("Type", 1, 1),
+    Row::Preset("Length", 1, 40),
     Row::Number("Proximity Domain", 4),
     Row::Reserved(2),
-    Row::Number("Base Address", 8),
+    Row::Hex("Base Address", 8),
     Row::Number("Length", 8),
     Row::Reserved(4),
     Row::Flags(
         "Flags",
         4,
         &[
-            Word(1, "Enabled"),
-            Word(2, "Hot Pluggable"),
-            Word(4, "NonVolatile"),
+            Bits::Flag(0x1, "Enabled"),
+            Bits::Flag(0x2, "Hot Pluggable"),
+            Bits::Flag(0x4, "NonVolatile"),
         ],
     ),
     Row::Reserved(8),
@@ -358,8 +358,8 @@ fn acpi_handle(hid: [u8; 8], uid: [u8; 4]) -> [u8; 16]
 
 /// The rows of the handle of an ACPI device.
 pub const ACPI_HANDLE: [Row; 3] = [
-    Row::Bytes("ACPI _HID", 8),
-    Row::Bytes("ACPI _UID", 4),
+    Row::Text("ACPI _HID", 8),
+    Row::Hex("ACPI _UID", 4),
     Row::Reserved(4),
 ];
 
@@ -367,18 +367,25 @@ pub const ACPI_HANDLE: [Row; 3] = [
 pub const PCI_HANDLE: [Row; 4] = [
     Row::Number("PCI Segment", 2),
     Row::Number("PCI Bus Number", 1),
-    Row::Number("PCI Device and Function Number", 1),
+    Row::Flags(
+        "PCI Device and Function Number",
+        1,
+        &[
+            Bits::Number(0xf8, 0x8, "Device"),
+            Bits::Number(0x7, 0x1, "Function"),
+        ],
+    ),
     Row::Reserved(12),
 ];
 
-/// The names and widths of an ACPI device handle's fields, in order.
+/// The rows of an ACPI device handle's fields, in order.
 pub fn acpi_handle_rows() -> &'static [Row]
     ensures { (hid uid : List ℕ) → AreRowsOf result.now (acpi_handle_fields hid uid) }
 {
     &ACPI_HANDLE
 }
 
-/// The names and widths of a PCI device handle's fields, in order.
+/// The rows of a PCI device handle's fields, in order.
 pub fn pci_handle_rows() -> &'static [Row]
     ensures { (segment bus device function : ℕ) → AreRowsOf result.now (pci_handle_fields segment bus device function) }
 {
@@ -462,8 +469,8 @@ impl GenericInitiator {
 
 /// The rows of a Generic Initiator Affinity Structure.
 pub const GENERIC_INITIATOR: [Row; 8] = [
-    Row::Number("Type", 1),
-    Row::Number("Length", 1),
+    Row::Preset("Type", 1, 5),
+    Row::Preset("Length", 1, 32),
     Row::Reserved(1),
     Row::OneOf("Device Handle Type", 1, &[Word(0, "ACPI"), Word(1, "PCI")]),
     Row::Number("Proximity Domain", 4),
@@ -471,12 +478,15 @@ pub const GENERIC_INITIATOR: [Row; 8] = [
     Row::Flags(
         "Flags",
         4,
-        &[Word(1, "Enabled"), Word(2, "Architectural Transactions")],
+        &[
+            Bits::Flag(0x1, "Enabled"),
+            Bits::Flag(0x2, "Architectural Transactions"),
+        ],
     ),
     Row::Reserved(4),
 ];
 
-/// The names and widths of an initiator's fields, in order.
+/// The rows of an initiator's fields, in order.
 pub fn generic_initiator_rows() -> &'static [Row]
     ensures { (initiator : GenericInitiator) → AreRowsOf result.now (generic_initiator_fields initiator) }
 {
@@ -538,12 +548,12 @@ impl RintcAffinity {
 
 /// The rows of an RINTC Affinity Structure.
 pub const RINTC_AFFINITY: [Row; 7] = [
-    Row::Number("Type", 1),
-    Row::Number("Length", 1),
+    Row::Preset("Type", 1, 7),
+    Row::Preset("Length", 1, 20),
     Row::Reserved(2),
     Row::Number("Proximity Domain", 4),
-    Row::Bytes("ACPI Processor UID", 4),
-    Row::Flags("Flags", 4, &[Word(1, "Enabled")]),
+    Row::Hex("ACPI Processor UID", 4),
+    Row::Flags("Flags", 4, &[Bits::Flag(0x1, "Enabled")]),
     Row::Number("Clock Domain", 4),
 ];
 

@@ -102,7 +102,7 @@ pub struct Entry {
 }
 
 /// The rows of an entry of an XSDT.
-pub const XSDT_ENTRY: [Row; 1] = [Row::Number("Entry", 8)];
+pub const XSDT_ENTRY: [Row; 1] = [Row::Hex("Entry", 8)];
 
 impl Record<8> for Entry {
     ghost fields = { entry_fields };

@@ -8,7 +8,8 @@ use Rattle.acpi_text.proofs.Printed.{Plain, Quiet, quiet_is_plain, quiet_label}
 use Rattle.acpi_text.specs.Hex.{numbers_text}
 use Rattle.acpi_text.specs.Label.{prints, label}
 use Rattle.acpi_text.specs.Line.{spaces, margin, line, title}
-use Rattle.acpi_text.specs.Note.{Note, meaning}
+use Rattle.acpi_base.specs.Look.{Look}
+use Rattle.acpi_text.specs.Note.{meaning}
 use Rattle.acpi_make.proofs.Outcomes.{front_none, front_both}
 use Rattle.acpi_make.proofs.Leads.{Leads, leads_append, leads_decimal, printed}
 use Rattle.acpi_make.proofs.Reading.{Follows, space_follows, end_follows, numbers_follow}
@@ -149,7 +150,7 @@ comment_ends : (said : List ℕ) → Plain said → EndsLine (codes "  // " ++ s
 comment_ends said prints k more =
     space_follows k (32 ∷ 47 ∷ 47 ∷ 32 ∷ (said ++ 10 ∷ more)) (read (k + 1) Start [] more) (skipped_read k said more prints)
 
-meaning_ends : (note : Note) (w n : ℕ) (field : List ℕ) → AreBytes field → length field ≡ w * n → EndsLine (meaning note w n field)
+meaning_ends : (look : Look) (w n : ℕ) (field : List ℕ) → AreBytes field → length field ≡ w * n → EndsLine (meaning look w n field)
 meaning_ends = meaning_by EndsLine (λ k more. end_follows k more) comment_ends
 
 -- ---- whole lines
@@ -184,12 +185,12 @@ cells_of_bytes : (bytes : List ℕ) → cells_of (byte_items bytes) ≡ known_ce
 cells_of_bytes [] = refl
 cells_of_bytes (b ∷ bytes) = ap (λ l. Byte b ∷ l) (cells_of_bytes bytes)
 
-pub line_means : (depth offset : ℕ) (name : List ℕ) (note : Note) (w n : ℕ) (field : List ℕ) → offset < 2 ^ 64 → AreBytes field
-    → length field ≡ w * n → Means (line depth offset name note w n field) field
-line_means depth offset name note w n field small are size =
+pub line_means : (depth offset : ℕ) (name : List ℕ) (look : Look) (w n : ℕ) (field : List ℕ) → offset < 2 ^ 64 → AreBytes field
+    → length field ≡ w * n → Means (line depth offset name look w n field) field
+line_means depth offset name look w n field small are size =
     let front = margin depth offset name in
     let blank = spaces (40 - length front) in
-    let said = meaning note w n field in
+    let said = meaning look w n field in
     let after = said ++ 10 ∷ [] in
     let numbers = numbers_text w n field in
     let rest : List ℕ → List ℕ = λ more. numbers ++ (said ++ (10 ∷ more)) in
@@ -209,6 +210,6 @@ line_means depth offset name note w n field small are size =
           ∙ margin_read k depth offset name (blank ++ (58 ∷ rest more)) small
           ∙ blank_read k (from more) (40 - length front) (58 ∷ rest more)
           ∙ ap (with_front (one more)) (numbers_follow k w n field (said ++ (10 ∷ more)) (read (k + 1) Start [] more) are size
-          (meaning_ends note w n field are size k more)).ended
+          (meaning_ends look w n field are size k more)).ended
           ∙ front_both (one more) (byte_items field) (read (k + 1) Start [] more);
     }

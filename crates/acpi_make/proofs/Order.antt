@@ -114,12 +114,12 @@ value_ordered s line from to (Some kind) d next up is = chosen (is_reference val
     value = part_at from to s.text.now
 
     numbered : Result Drafted Fault
-    numbered = with_number line kind.width (wanted_for value) (value_of kind.note value) d
+    numbered = with_number line kind.width (wanted_for value) (value_of kind.look value) d
 
     chosen : (b : Bool) → cond b (Ok (with_reference line kind.width from to d)) numbered ≡ Ok next → Ordered next
     chosen true is =
         subst Ordered (let e : with_reference line kind.width from to d ≡ next = cc in e) (reference_ordered line kind.width from to d up)
-    chosen false is = number_ordered line kind.width (wanted_for value) (value_of kind.note value) d next up is
+    chosen false is = number_ordered line kind.width (wanted_for value) (value_of kind.look value) d next up is
 
 taken_ordered : (s : Source) (item : Item) (d next : Drafted) → Ordered d → taken s item d ≡ Ok next → Ordered next
 taken_ordered s (items.Cell cell) d next up is = subst Ordered (let e : with_cells (cell ∷ []) d ≡ next = cc in e) (cells_ordered _ d up)

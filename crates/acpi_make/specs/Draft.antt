@@ -125,7 +125,7 @@ abbrev pub with_value_of : Source → ℕ → ℕ → ℕ → Option Kind → Dr
 with_value_of s line from to None d = wants_in line wants.Field
 with_value_of s line from to (Some kind) d =
     if is_reference (part_at from to s.text.now) then Ok (with_reference line kind.width from to d)
-    else with_number line kind.width (wanted_for (part_at from to s.text.now)) (value_of kind.note (part_at from to s.text.now)) d
+    else with_number line kind.width (wanted_for (part_at from to s.text.now)) (value_of kind.look (part_at from to s.text.now)) d
 
 -- ---- the parts of a text
 

@@ -2,11 +2,12 @@
 use Rattle.std.specs.Prelude.{ℕ, ◌+◌, ◌^◌, nat_le, nat_lt, ◌&&◌, Bool, false, if◌then◌else◌, List, [], ◌∷◌, codes}
 use Rattle.std.specs.Prelude.{◌≡◌, Option, Some, None}
 use Rattle.std.specs.List.{flat_map, slice_range}
+use Rattle.acpi_base.specs.Fields.{row_name, row_width}
+use Rattle.acpi_base.specs.Gas.{address_spaces, access_sizes}
+use Rattle.acpi_base.specs.Look.{Look, look_of, row_look}
+use Rattle.acpi_base.specs.Look as looks
 use Rattle.acpi_base.specs.declared.row.Row.{Row}
-use Rattle.acpi_base.specs.declared.row.Row.TheVariants.{Number, Flags, OneOf, Bytes, Register, Reserved}
-use Rattle.acpi_text.specs.Note.{Note, plain, flags, one_of, words_of}
-use Rattle.acpi_text.specs.Register.{address_spaces, access_sizes}
-use Rattle.acpi_text.specs.Words.{note_of}
+use Rattle.acpi_base.specs.declared.row.Row.TheVariants.{Register}
 use Rattle.acpi_text.specs.declared.form.Choice.{Choice}
 use Rattle.acpi_text.specs.declared.form.Inner.{Inner}
 use Rattle.acpi_text.specs.declared.form.Inner.TheVariants.{Nothing, Structures}
@@ -17,46 +18,41 @@ use Rattle.acpi_make.specs.declared.entry.Field.{Field}
 use Rattle.acpi_make.specs.declared.entry.Search.{Search}
 use Rattle.acpi_make.specs.declared.entry.Search.TheVariants.{Found, Missing}
 
--- a kind of field: its width in bytes, and what its values mean
+-- a kind of field: its width in bytes, and what its value is
 pub record Kind : Type 0 where
   pub width : ℕ
-  pub note : Note
+  pub look : Look
 
 abbrev pub kind_of : Field → Kind
-kind_of field = record { width = field.width; note = note_of field.words }
+kind_of field = record { width = field.width; look = look_of field.look }
 
 -- a field that a form names
 pub record Entry : Type 0 where
   pub name : List ℕ
   pub kind : Kind
 
-abbrev pub entry : List ℕ → ℕ → Note → Entry
-entry name width note = record { name = name; kind = record { width = width; note = note } }
+abbrev pub entry : List ℕ → ℕ → Look → Entry
+entry name width look = record { name = name; kind = record { width = width; look = look } }
 
 -- ---- the fields of rows
 
 -- the fields of a register's address (ACPI 6.5, 5.2.3.2)
 abbrev pub register_entries : List Entry
 register_entries =
-    entry (codes "Address Space ID") 1 (one_of address_spaces)
-    ∷ entry (codes "Register Bit Width") 1 plain
-    ∷ entry (codes "Register Bit Offset") 1 plain
-    ∷ entry (codes "Access Size") 1 (one_of access_sizes)
-    ∷ entry (codes "Address") 8 plain
+    entry (codes "Address Space ID") 1 (looks.one_of address_spaces)
+    ∷ entry (codes "Register Bit Width") 1 looks.number
+    ∷ entry (codes "Register Bit Offset") 1 looks.number
+    ∷ entry (codes "Access Size") 1 (looks.one_of access_sizes)
+    ∷ entry (codes "Address") 8 looks.hex
     ∷ []
 
 -- the field of a row
 abbrev pub row_entry : Row → Entry
-row_entry (Number name w) = entry name.now w plain
-row_entry (Flags name w words) = entry name.now w (flags (words_of words.now))
-row_entry (OneOf name w words) = entry name.now w (one_of (words_of words.now))
-row_entry (Bytes name n) = entry name.now n plain
-row_entry (Register name) = entry name.now 12 plain
-row_entry (Reserved n) = entry (codes "Reserved") n plain
+row_entry row = entry (row_name row) (row_width row) (row_look row)
 
 -- a name over fields, which has no bytes
 abbrev pub title_entry : List ℕ → Entry
-title_entry name = entry name 0 plain
+title_entry name = entry name 0 looks.bytes
 
 -- the fields of a row: a register is a name over those of its address
 abbrev pub row_entries : Row → List Entry
@@ -80,8 +76,8 @@ part_entries (parts.Fields rows) = rows_entries rows.now
 part_entries (parts.Between rows from to) = rows_entries (slice_range rows.now from to)
 part_entries (parts.Group name rows) = titled_entries name.now rows.now
 part_entries (parts.Entries name count rows) = titled_entries name.now rows.now
-part_entries (parts.Numbers name w count) = entry name.now w plain ∷ []
-part_entries (parts.Matrix name w rows columns) = entry name.now w plain ∷ []
+part_entries (parts.Numbers name w count) = entry name.now w looks.number ∷ []
+part_entries (parts.Matrix name w rows columns) = entry name.now w looks.number ∷ []
 part_entries (parts.Bytes name count) = []
 part_entries (parts.Until name end) = []
 part_entries (parts.Chosen by choices) = flat_map choice_entries choices.now

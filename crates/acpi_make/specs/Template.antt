@@ -1,11 +1,15 @@
--- A text of a form with zeros, for a start.
-use Rattle.std.specs.Prelude.{ℕ, zero, suc, ◌+◌, ◌*◌, ◌^◌, ◌==◌, nat_lt, not, ◌&&◌, ◌||◌, Bool, false, if◌then◌else◌}
+-- A text of a form for a start.
+use Rattle.std.specs.Prelude.{ℕ, zero, suc, ◌+◌, ◌*◌, ◌^◌, ◌==◌, nat_lt, nat_le, not, ◌&&◌, ◌||◌, Bool, false, if◌then◌else◌}
 use Rattle.std.specs.Prelude.{List, [], ◌∷◌, ◌++◌, length, codes, Option, Some, None}
 use Rattle.std.specs.List.{flat_map, slice_range}
+use Rattle.acpi_base.specs.Bytes.{le}
 use Rattle.acpi_base.specs.Fields.{row_width}
+use Rattle.acpi_base.specs.Gas.{address_spaces, access_sizes}
+use Rattle.acpi_base.specs.Look.{Look, Part as Bits, one_flag, one_choice, one_number}
+use Rattle.acpi_base.specs.Look as looks
 use Rattle.acpi_base.specs.Walk.{place_offset, place_width}
 use Rattle.acpi_base.specs.declared.row.Row.{Row}
-use Rattle.acpi_base.specs.declared.row.Row.TheVariants.{Number, Flags, OneOf, Bytes, Register, Reserved}
+use Rattle.acpi_base.specs.declared.row.Row.TheVariants as rows
 use Rattle.acpi_base.specs.declared.walk.Place.{Place}
 use Rattle.acpi_base.specs.declared.walk.Sizes.{Sizes}
 use Rattle.acpi_base.specs.declared.walk.Sizes.TheVariants.{EachOf, ToldAt, BySource}
@@ -19,10 +23,9 @@ use Rattle.acpi_text.specs.declared.form.Part.{Part}
 use Rattle.acpi_text.specs.declared.form.Part.TheVariants as parts
 use Rattle.acpi_text.specs.declared.form.StructureForm.{StructureForm}
 use Rattle.acpi_text.specs.declared.form.TableForm.{TableForm}
+use Rattle.acpi_text.specs.Hex.{number_text}
 use Rattle.acpi_text.specs.Label.{label}
 use Rattle.acpi_text.specs.Line.{spaces}
-use Rattle.acpi_text.specs.Note.{Note, plain, flags, one_of}
-use Rattle.acpi_text.specs.Register.{address_spaces, access_sizes}
 use Rattle.acpi_make.specs.Complete.{length_own}
 use Rattle.acpi_make.specs.Entry.{row_entry}
 use Rattle.acpi_make.specs.declared.complete.Shape.{Shape}
@@ -39,21 +42,37 @@ abbrev pub times : ℕ → List ℕ → List ℕ
 times zero text = []
 times (suc n) text = text ++ times n text
 
--- names, each with a text before it
-abbrev pub joined : List ℕ → List (ℕ × List ℕ) → List ℕ
-joined between [] = []
-joined between (word ∷ words) = between ++ (label word.1 ++ joined between words)
+-- ---- hints
 
--- names in a comment, with a text between them
-abbrev pub names_hint : List ℕ → List (ℕ × List ℕ) → List ℕ
-names_hint between [] = []
-names_hint between (word ∷ words) = codes "  // " ++ (label word.1 ++ joined between words)
+-- more names, with semicolons between them
+abbrev pub more_names : List (ℕ × List ℕ) → List ℕ
+more_names [] = []
+more_names (word ∷ words) = codes "; " ++ (label word.1 ++ more_names words)
 
--- the names of flags, or of values
-abbrev pub hint : Note → List ℕ
-hint plain = []
-hint (flags words) = names_hint (codes " | ") words
-hint (one_of words) = names_hint (codes "; ") words
+abbrev pub names : List (ℕ × List ℕ) → List ℕ
+names [] = []
+names (word ∷ words) = label word.1 ++ more_names words
+
+-- what bits can be: the name of a flag or of a number, or the words
+abbrev pub part_names : Bits → List ℕ
+part_names (one_flag mask name) = label name
+part_names (one_choice mask words) = names words
+part_names (one_number mask lowest name) = label name
+
+-- more parts of a number, with bars between them
+abbrev pub more_parts : List Bits → List ℕ
+more_parts [] = []
+more_parts (part ∷ parts) = codes " | " ++ (part_names part ++ more_parts parts)
+
+abbrev pub all_parts : List Bits → List ℕ
+all_parts [] = []
+all_parts (part ∷ parts) = part_names part ++ more_parts parts
+
+-- what a value can be, in a comment
+abbrev pub hint : Look → List ℕ
+hint (looks.flags parts) = codes "  // " ++ all_parts parts
+hint (looks.one_of words) = codes "  // " ++ names words
+hint look = []
 
 -- ---- a field
 
@@ -62,13 +81,23 @@ pub record Known : Type 0 where
   pub signature : List ℕ
   pub own : List ℕ
 
+-- a number of at most eight bytes, or zeros
+abbrev pub preset_text : ℕ → ℕ → List ℕ
+preset_text w value = if nat_le w 8 then number_text (le w value) else times w (codes "00")
+
+-- the value of a row for a start: the right one, or zeros
 abbrev pub zeros : Row → List ℕ
-zeros (Number name w) = 32 ∷ times w (codes "00")
-zeros (Flags name w words) = 32 ∷ times w (codes "00")
-zeros (OneOf name w words) = 32 ∷ times w (codes "00")
-zeros (Bytes name n) = times n (codes " 00")
-zeros (Register name) = times 12 (codes " 00")
-zeros (Reserved n) = times n (codes " 00")
+zeros (rows.Number name w) = 32 ∷ times w (codes "00")
+zeros (rows.Hex name w) = 32 ∷ times w (codes "00")
+zeros (rows.Preset name w value) = 32 ∷ preset_text w value
+zeros (rows.Reference name w) = 32 ∷ times w (codes "00")
+zeros (rows.Flags name w bits) = 32 ∷ times w (codes "00")
+zeros (rows.OneOf name w words) = 32 ∷ times w (codes "00")
+zeros (rows.Bytes name n) = times n (codes " 00")
+zeros (rows.Text name n) = times n (codes " 00")
+zeros (rows.Uuid name) = times 16 (codes " 00")
+zeros (rows.Register name) = times 12 (codes " 00")
+zeros (rows.Reserved n) = times n (codes " 00")
 
 abbrev pub value_text : Known → ℕ → Row → List ℕ
 value_text known at row =
@@ -85,7 +114,7 @@ title_line depth name = spaces (2 * depth) ++ (codes "  " ++ (label name ++ 10 �
 -- the line of a row at an offset
 abbrev pub row_line : ℕ → Known → ℕ → Row → List ℕ
 row_line depth known at row =
-    field_line depth (row_entry row).name (value_text known at row ++ hint (row_entry row).kind.note)
+    field_line depth (row_entry row).name (value_text known at row ++ hint (row_entry row).kind.look)
 
 -- the offset after a field of w bytes; no field is at 2^32 or after it
 abbrev pub offset_after : ℕ → ℕ → ℕ
@@ -103,14 +132,14 @@ nothing_known = record { signature = []; own = [] }
 -- the fields of a register's address (ACPI 6.5, 5.2.3.2)
 abbrev pub address_lines : ℕ → List ℕ
 address_lines depth =
-    field_line depth (codes "Address Space ID") (codes " 00" ++ hint (one_of address_spaces))
+    field_line depth (codes "Address Space ID") (codes " 00" ++ hint (looks.one_of address_spaces))
     ++ (field_line depth (codes "Register Bit Width") (codes " 00" ++ [])
     ++ (field_line depth (codes "Register Bit Offset") (codes " 00" ++ [])
-    ++ (field_line depth (codes "Access Size") (codes " 00" ++ hint (one_of access_sizes))
+    ++ (field_line depth (codes "Access Size") (codes " 00" ++ hint (looks.one_of access_sizes))
     ++ (field_line depth (codes "Address") (codes " 0000000000000000" ++ []) ++ []))))
 
 abbrev pub row_lines : ℕ → Known → ℕ → Row → List ℕ
-row_lines depth known at (Register name) = title_line depth name.now ++ address_lines (depth + 1)
+row_lines depth known at (rows.Register name) = title_line depth name.now ++ address_lines (depth + 1)
 row_lines depth known at row = row_line depth known at row
 
 abbrev pub rows_lines : ℕ → Known → ℕ → List Row → List ℕ

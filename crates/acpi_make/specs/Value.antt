@@ -1,6 +1,7 @@
 -- Numbers by name and in decimal.
 use Rattle.std.specs.Prelude.{ℕ, zero, suc, ◌-◌, ◌==◌, if◌then◌else◌, bit_or, List, [], ◌∷◌, length, take, Option, Some, None, codes}
-use Rattle.acpi_text.specs.Note.{Note, plain, flags, one_of}
+use Rattle.acpi_base.specs.Look.{Look, Part, one_flag, one_choice, one_number}
+use Rattle.acpi_base.specs.Look as looks
 use Rattle.acpi_make.specs.Text.{after, decimal_of}
 use Rattle.acpi_make.specs.declared.value.Names.{Names}
 use Rattle.acpi_make.specs.declared.value.Names.TheVariants as names
@@ -31,6 +32,13 @@ abbrev pub front_name : List (ℕ × List ℕ) → List ℕ → Front
 front_name [] text = unnamed
 front_name (word ∷ words) text = or_front (name_then word.0 (after word.1 text)) (front_name words text)
 
+-- the front of a text of names of flags, and of words of other bits
+abbrev pub front_part : List Part → List ℕ → Front
+front_part [] text = unnamed
+front_part (one_flag mask name ∷ parts) text = or_front (name_then mask (after name text)) (front_part parts text)
+front_part (one_choice mask words ∷ parts) text = or_front (front_name words text) (front_part parts text)
+front_part (one_number mask lowest name ∷ parts) text = front_part parts text
+
 -- ---- flags
 
 abbrev pub and_more : Front → ℕ → (ℕ → List ℕ → Option ℕ) → Option ℕ
@@ -38,10 +46,10 @@ and_more unnamed all rest = None
 and_more (last n) all rest = Some (bit_or all n)
 and_more (more n text) all rest = rest (bit_or all n) text
 
--- these flags, and those of at most n names
-abbrev pub joined : ℕ → ℕ → List (ℕ × List ℕ) → List ℕ → Option ℕ
-joined zero all words text = None
-joined (suc n) all words text = and_more (front_name words text) all (λ all text. joined n all words text)
+-- these bits, and those of at most n names
+abbrev pub joined : ℕ → ℕ → List Part → List ℕ → Option ℕ
+joined zero all parts text = None
+joined (suc n) all parts text = and_more (front_part parts text) all (λ all text. joined n all parts text)
 
 -- ---- values
 
@@ -50,16 +58,16 @@ only unnamed = None
 only (last n) = Some n
 only (more n text) = None
 
--- the number of names: flags with bars between them, or one value
-abbrev pub names_value : Note → List ℕ → Option ℕ
-names_value plain text = None
-names_value (flags words) text = if length text == 0 then Some 0 else joined (length text) 0 words text
-names_value (one_of words) text = only (front_name words text)
+-- the number of names: flags and words with bars between them, or one value
+abbrev pub names_value : Look → List ℕ → Option ℕ
+names_value (looks.flags parts) text = if length text == 0 then Some 0 else joined (length text) 0 parts text
+names_value (looks.one_of words) text = only (front_name words text)
+names_value look text = None
 
 -- the number of a value: decimal digits after a number sign, or names between braces
-abbrev pub value_of : Note → List ℕ → Option ℕ
-value_of note [] = None
-value_of note (c ∷ text) = if c == 35 then decimal_of text else names_value note (take (length text - 1) text)
+abbrev pub value_of : Look → List ℕ → Option ℕ
+value_of look [] = None
+value_of look (c ∷ text) = if c == 35 then decimal_of text else names_value look (take (length text - 1) text)
 
 -- ---- what a call returns
 

@@ -232,7 +232,7 @@ impl Draft {
         if is_reference(value) {
             self.add_reference(field.width, line, from, to)
         } else {
-            let number = value_of(field.words, value);
+            let number = value_of(field.look, value);
             self.add_number(field.width, line, wanted_for(value), number)
         }
     }

@@ -2,23 +2,22 @@
 
 ghost use Rattle.std.specs.Prelude.{◌≡◌, [], ◌∷◌, ◌++◌};
 ghost use Rattle.std.specs.List.{flat_map};
-ghost use Rattle.acpi_text.specs.Note.{plain};
+ghost use Rattle.acpi_base.specs.Look as looks;
 ghost use Rattle.acpi_make.specs.Entry.{row_entry, register_entries, title_entry, row_entries, rows_entries, titled_entries};
 ghost use Rattle.acpi_make.specs.Entry.{choice_entries, part_entries, parts_entries, inner_entries};
 ghost use Rattle.acpi_make.specs.Entry.{entry, kind_of, is_line_of, next_number, find_entry, next_entry, IsSearch, found_of};
 
 use crate::text::{after, are_spaces};
 use acpi_base::gas::GENERIC_ADDRESS;
-use acpi_base::row::Row;
+use acpi_base::row::{Look, Row};
 use acpi_text::form::{Choice, Inner, Part};
-use acpi_text::note::Words;
 use acpi_text::part::between;
 
-/// A field that a form names: its width in bytes, and the names of its flags or values.
+/// A field that a form names: its width in bytes, and what its value is.
 #[derive(Clone, Copy, Debug)]
 pub struct Field {
     pub width: usize,
-    pub words: Words,
+    pub look: Look,
 }
 
 /// What a search for a field found: its number among the fields, or the number after those that were searched.
@@ -60,15 +59,8 @@ fn search_field(number: usize, least: usize, line: &[u8], name: &str, field: Fie
 pub fn row_field(row: &Row) -> (&'static str, Field)
     ensures { record { name = result.0.now; kind = kind_of result.1 } ≡ row_entry row.now }
 {
-    let (name, words, width) = match *row {
-        Row::Number(name, width) => (name, Words::None, width),
-        Row::Flags(name, width, words) => (name, Words::Flags(words), width),
-        Row::OneOf(name, width, words) => (name, Words::OneOf(words), width),
-        Row::Bytes(name, width) => (name, Words::None, width),
-        Row::Register(name) => (name, Words::None, 12),
-        Row::Reserved(width) => ("Reserved", Words::None, width),
-    };
-    (name, Field { width, words })
+    let (width, look) = (row.width(), row.look());
+    (row.name(), Field { width, look })
 }
 
 // Searches the field of a row that is no register.
@@ -104,8 +96,8 @@ fn search_address(number: usize, least: usize, line: &[u8]) -> Search
 fn search_title(number: usize, least: usize, line: &[u8], name: &str) -> Search
     ensures { IsSearch result number least line.now (title_entry name.now ∷ []) }
 {
-    let (width, words) = (0, Words::None);
-    search_field(number, least, line, name, Field { width, words })
+    let (width, look) = (0, Look::Bytes);
+    search_field(number, least, line, name, Field { width, look })
 }
 
 // Searches a register: its name, and the fields of its address.
@@ -124,10 +116,7 @@ fn search_row_entries(number: usize, least: usize, line: &[u8], row: &Row) -> Se
 {
     match *row {
         Row::Register(name) => search_register(number, least, line, name),
-        Row::Number(_, _) | Row::Flags(_, _, _) | Row::OneOf(_, _, _) => {
-            search_row(number, least, line, row)
-        }
-        Row::Bytes(_, _) | Row::Reserved(_) => search_row(number, least, line, row),
+        _ => search_row(number, least, line, row),
     }
 }
 
@@ -171,10 +160,10 @@ fn search_choices(number: usize, least: usize, line: &[u8], choices: &[Choice]) 
 
 // Searches a number of a list or of a matrix.
 fn search_number(number: usize, least: usize, line: &[u8], name: &str, width: usize) -> Search
-    ensures { IsSearch result number least line.now (entry name.now width plain ∷ []) }
+    ensures { IsSearch result number least line.now (entry name.now width looks.number ∷ []) }
 {
-    let words = Words::None;
-    search_field(number, least, line, name, Field { width, words })
+    let look = Look::Number;
+    search_field(number, least, line, name, Field { width, look })
 }
 
 // Searches the fields of a part.

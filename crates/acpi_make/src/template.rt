@@ -1,11 +1,11 @@
-//! A text of a form with zeros, for a start. A function whose name begins with `push` adds to a text.
+//! A text of a form for a start. A function whose name begins with `push` adds to a text.
 
 ghost use Rattle.std.specs.Prelude.{◌≡◌, ◌+◌, ◌*◌, ◌<◌, ◌∷◌, ◌++◌, OnOk, IfOk, string_bytes, codes};
+ghost use Rattle.acpi_base.specs.Look.{words_of, part_of, bits_of, look_of};
 ghost use Rattle.acpi_text.specs.Label.{label};
 ghost use Rattle.acpi_text.specs.Line.{spaces};
-ghost use Rattle.acpi_text.specs.Note.{words_of};
-ghost use Rattle.acpi_text.specs.Words.{note_of};
-ghost use Rattle.acpi_make.specs.Template.{is_among, times, joined, names_hint, hint, zeros, value_text};
+ghost use Rattle.acpi_make.specs.Template.{is_among, times, more_names, names, part_names, more_parts, all_parts, hint};
+ghost use Rattle.acpi_make.specs.Template.{preset_text, zeros, value_text};
 ghost use Rattle.acpi_make.specs.Template.{field_line, title_line, row_line, offset_after, plain_lines, address_lines};
 ghost use Rattle.acpi_make.specs.Template.{row_lines, rows_lines, rows_end, choice_lines, choice_end, part_lines, part_end};
 ghost use Rattle.acpi_make.specs.Template.{parts_lines, place_at, size_at, count_at, counts_at, inner_lines, structure_known};
@@ -15,10 +15,10 @@ ghost use Rattle.acpi_make.specs.TemplateKnown.{known_of};
 use crate::complete::{Shape, length_own};
 use crate::entry::row_field;
 use acpi_base::gas::GENERIC_ADDRESS;
-use acpi_base::row::{Row, Word};
+use acpi_base::row::{Bits, Look, Row, Word};
 use acpi_base::walk::{Place, Sizes, Walk};
 use acpi_text::form::{Choice, Count, Inner, Part, StructureForm, TableForm};
-use acpi_text::note::Words;
+use acpi_text::hex::push_bytes;
 use acpi_text::part::between;
 use acpi_text::space::{push_label, push_level};
 use std::alloc::{AllocError, Global};
@@ -47,37 +47,75 @@ fn push_times(count: usize, one: &str, text: &mut String) -> Result<(), AllocErr
     Ok(())
 }
 
-// Adds names, with a text before each.
-fn push_joined(between: &str, words: &[Word], text: &mut String) -> Result<(), AllocError>
-    ensures { OnOk result (string_bytes text.new ≡ string_bytes text.old ++ joined between.now (words_of words.now)) }
+// Adds names, with a semicolon before each.
+fn push_more_names(words: &[Word], text: &mut String) -> Result<(), AllocError>
+    ensures { OnOk result (string_bytes text.new ≡ string_bytes text.old ++ more_names (words_of words.now)) }
 {
     'words: for word in words {
-        text.push_str(between)?;
+        text.push_str("; ")?;
         push_label(word.1, text)?;
     }
     Ok(())
 }
 
-// Adds names in a comment, with a text between them.
-fn push_names(between: &str, words: &[Word], text: &mut String) -> Result<(), AllocError>
-    ensures { OnOk result (string_bytes text.new ≡ string_bytes text.old ++ names_hint between.now (words_of words.now)) }
+// Adds names, with semicolons between them.
+fn push_names(words: &[Word], text: &mut String) -> Result<(), AllocError>
+    ensures { OnOk result (string_bytes text.new ≡ string_bytes text.old ++ names (words_of words.now)) }
 {
     let Some((word, others)) = words.split_first() else {
         return Ok(());
     };
-    text.push_str("  // ")?;
     push_label(word.1, text)?;
-    push_joined(between, others, text)
+    push_more_names(others, text)
 }
 
-// Adds the names of flags, or of values.
-fn push_hint(words: Words, text: &mut String) -> Result<(), AllocError>
-    ensures { OnOk result (string_bytes text.new ≡ string_bytes text.old ++ hint (note_of words)) }
+// Adds what bits can be.
+fn push_part_names(part: &Bits, text: &mut String) -> Result<(), AllocError>
+    ensures { OnOk result (string_bytes text.new ≡ string_bytes text.old ++ part_names (part_of part.now)) }
 {
-    match words {
-        Words::None => Ok(()),
-        Words::Flags(words) => push_names(" | ", words, text),
-        Words::OneOf(words) => push_names("; ", words, text),
+    match *part {
+        Bits::Flag(_, name) => push_label(name, text),
+        Bits::OneOf(_, words) => push_names(words, text),
+        Bits::Number(_, _, name) => push_label(name, text),
+    }
+}
+
+// Adds what bits can be, with a bar before each.
+fn push_more_parts(parts: &[Bits], text: &mut String) -> Result<(), AllocError>
+    ensures { OnOk result (string_bytes text.new ≡ string_bytes text.old ++ more_parts (bits_of parts.now)) }
+{
+    'parts: for part in parts {
+        text.push_str(" | ")?;
+        push_part_names(part, text)?;
+    }
+    Ok(())
+}
+
+// Adds what bits can be, with bars between them.
+fn push_all_parts(parts: &[Bits], text: &mut String) -> Result<(), AllocError>
+    ensures { OnOk result (string_bytes text.new ≡ string_bytes text.old ++ all_parts (bits_of parts.now)) }
+{
+    let Some((part, others)) = parts.split_first() else {
+        return Ok(());
+    };
+    push_part_names(part, text)?;
+    push_more_parts(others, text)
+}
+
+// Adds what a value can be.
+fn push_hint(look: Look, text: &mut String) -> Result<(), AllocError>
+    ensures { OnOk result (string_bytes text.new ≡ string_bytes text.old ++ hint (look_of look)) }
+{
+    match look {
+        Look::Flags(parts) => {
+            text.push_str("  // ")?;
+            push_all_parts(parts, text)
+        }
+        Look::OneOf(words) => {
+            text.push_str("  // ")?;
+            push_names(words, text)
+        }
+        _ => Ok(()),
     }
 }
 
@@ -88,18 +126,40 @@ struct Known<'a> {
     own: &'a [usize],
 }
 
-// Adds the zeros of a row.
+// Adds a number of at most eight bytes, or else zeros.
+#[tactic(auto, using(acpi_base::proofs::Values::le_take))]
+fn push_preset(width: usize, value: u64, text: &mut String) -> Result<(), AllocError>
+    ensures { OnOk result (string_bytes text.new ≡ string_bytes text.old ++ preset_text width value) }
+{
+    if width <= 8 {
+        push_bytes(&value.to_le_bytes()[..width], text)
+    } else {
+        push_times(width, "00", text)
+    }
+}
+
+// Adds the value of a row for a start.
 fn push_zeros(row: &Row, text: &mut String) -> Result<(), AllocError>
     ensures { OnOk result (string_bytes text.new ≡ string_bytes text.old ++ zeros row.now) }
 {
     match *row {
-        Row::Number(_, width) | Row::Flags(_, width, _) | Row::OneOf(_, width, _) => {
+        Row::Preset(_, width, value) => {
+            text.push_str(" ")?;
+            push_preset(width, value, text)
+        }
+        Row::Number(_, width)
+        | Row::Hex(_, width)
+        | Row::Reference(_, width)
+        | Row::Flags(_, width, _)
+        | Row::OneOf(_, width, _) => {
             text.push_str(" ")?;
             push_times(width, "00", text)
         }
-        Row::Bytes(_, count) => push_times(count, " 00", text),
+        Row::Bytes(_, count) | Row::Text(_, count) | Row::Reserved(count) => {
+            push_times(count, " 00", text)
+        }
+        Row::Uuid(_) => push_times(16, " 00", text),
         Row::Register(_) => push_times(12, " 00", text),
-        Row::Reserved(count) => push_times(count, " 00", text),
     }
 }
 
@@ -151,7 +211,7 @@ fn push_row_line(
     push_name(depth, name, text)?;
     text.push_str(":")?;
     push_value(known, at, row, text)?;
-    push_hint(field.words, text)?;
+    push_hint(field.look, text)?;
     text.push_str("\n")
 }
 
@@ -213,10 +273,7 @@ fn push_row(
             push_title(depth, name, text)?;
             push_address(depth + 1, text)
         }
-        Row::Number(_, _) | Row::Flags(_, _, _) | Row::OneOf(_, _, _) => {
-            push_row_line(depth, known, at, row, text)
-        }
-        Row::Bytes(_, _) | Row::Reserved(_) => push_row_line(depth, known, at, row, text),
+        _ => push_row_line(depth, known, at, row, text),
     }
 }
 
@@ -528,9 +585,9 @@ fn table_own(
     Ok(own)
 }
 
-/// Returns a text of a form, for a start: a line for each field, with zeros, and one structure of each kind. The signature is there,
-/// question marks stand for the table's own numbers, and comments have the names of flags and values. The only error is that memory
-/// ran out.
+/// Returns a text of a form, for a start: a line for each field, with its one right value or zeros, and one structure of each
+/// kind. The signature is there, question marks stand for the table's own numbers, and comments have the names of flags and
+/// values. The only error is that memory ran out.
 pub fn template_of(
     alloc: Global,
     signature: &str,

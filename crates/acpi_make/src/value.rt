@@ -1,14 +1,12 @@
 //! Numbers by name and in decimal.
 
 ghost use Rattle.std.specs.Prelude.{◌≡◌, length};
-ghost use Rattle.acpi_text.specs.Note.{words_of};
-ghost use Rattle.acpi_text.specs.Words.{note_of};
+ghost use Rattle.acpi_base.specs.Look.{words_of, bits_of, look_of};
 ghost use Rattle.acpi_make.specs.Text.{after};
-ghost use Rattle.acpi_make.specs.Value.{front_name, front_of, name_then, joined, only, names_value, value_of};
+ghost use Rattle.acpi_make.specs.Value.{front_name, front_part, front_of, name_then, joined, only, names_value, value_of};
 
 use crate::text::{after, decimal_of};
-use acpi_base::row::Word;
-use acpi_text::note::Words;
+use acpi_base::row::{Bits, Look, Word};
 
 /// What names begin with.
 #[derive(Clone, Copy, Debug)]
@@ -50,16 +48,34 @@ fn front_name<'a>(words: &[Word], text: &'a [u8]) -> Names<'a>
     Names::Unnamed
 }
 
-// Returns flags with bars between their names.
-fn joined(words: &[Word], text: &[u8]) -> Option<u64>
-    ensures { result ≡ joined (length text.now) 0 (words_of words.now) text.now }
+// Returns what a text of names of bits begins with.
+fn front_part<'a>(parts: &[Bits], text: &'a [u8]) -> Names<'a>
+    ensures { front_of result ≡ front_part (bits_of parts.now) text.now }
+{
+    'parts: for part in parts {
+        let front = match *part {
+            Bits::Flag(mask, name) => name_then(mask, name, text),
+            Bits::OneOf(_, words) => front_name(words, text),
+            Bits::Number(_, _, _) => Names::Unnamed,
+        };
+        match front {
+            Names::Unnamed => {}
+            front => return front,
+        }
+    }
+    Names::Unnamed
+}
+
+// Returns bits with bars between their names.
+fn joined(parts: &[Bits], text: &[u8]) -> Option<u64>
+    ensures { result ≡ joined (length text.now) 0 (bits_of parts.now) text.now }
 {
     let mut all = 0;
     let mut rest = text;
     let mut left = text.len();
     'names: while left > 0 {
         left -= 1;
-        match front_name(words, rest) {
+        match front_part(parts, rest) {
             Names::Unnamed => return None,
             Names::Last(number) => return Some(all | number),
             Names::More(number, more) => {
@@ -83,24 +99,24 @@ fn one_of(words: &[Word], text: &[u8]) -> Option<u64>
 }
 
 // Returns the number of names.
-fn names_value(words: Words, text: &[u8]) -> Option<u64>
-    ensures { result ≡ names_value (note_of words) text.now }
+fn names_value(look: Look, text: &[u8]) -> Option<u64>
+    ensures { result ≡ names_value (look_of look) text.now }
 {
-    match words {
-        Words::None => None,
-        Words::Flags(_) if text.is_empty() => Some(0),
-        Words::Flags(words) => joined(words, text),
-        Words::OneOf(words) => one_of(words, text),
+    match look {
+        Look::Flags(_) if text.is_empty() => Some(0),
+        Look::Flags(parts) => joined(parts, text),
+        Look::OneOf(words) => one_of(words, text),
+        _ => None,
     }
 }
 
 /// Returns the number of a value: decimal digits after a number sign, or names between braces.
-pub fn value_of(words: Words, text: &[u8]) -> Option<u64>
-    ensures { result ≡ value_of (note_of words) text.now }
+pub fn value_of(look: Look, text: &[u8]) -> Option<u64>
+    ensures { result ≡ value_of (look_of look) text.now }
 {
     match text {
         [] => None,
         [b'#', digits @ ..] => decimal_of(digits),
-        [_, names @ ..] => names_value(words, &names[..names.len().saturating_sub(1)]),
+        [_, names @ ..] => names_value(look, &names[..names.len().saturating_sub(1)]),
     }
 }

@@ -1,6 +1,7 @@
 -- Memory Side Cache Information Structure (ACPI 6.5, 5.2.28.5).
 use Rattle.std.specs.Prelude.{ℕ, ◌+◌, ◌*◌, List, [], ◌∷◌, ◌++◌, length}
-use Rattle.acpi_base.specs.Fields.{NamedField, word, dword, qword, reserved, fields_joined}
+use Rattle.acpi_base.specs.Fields.{NamedField, word, dword, qword, preset, flags, reserved, fields_joined}
+use Rattle.acpi_base.specs.Look.{Part, choice, part, means}
 use Rattle.acpi_matrices.specs.declared.hmat.cache.CacheLevel.{CacheLevel}
 use Rattle.acpi_matrices.specs.declared.hmat.cache.CacheLevel.TheVariants as level
 use Rattle.acpi_matrices.specs.declared.hmat.cache.Associativity.{Associativity}
@@ -49,15 +50,33 @@ cache domain cache_size total this associativity policy line = record {
   handles = [];
 }
 
+-- Cache Attributes: levels in bits 7:0, Cache Associativity in 11:8, Write Policy in 15:12, Cache Line Size in 31:16
+abbrev pub side_cache_bits : List Part
+side_cache_bits =
+    part 0x0000000f 0x00000001 "Total Cache Levels"
+    ∷ part 0x000000f0 0x00000010 "Cache Level"
+    ∷ choice 0x00000f00 (
+    means 0x00000000 "Cache Associativity None"
+    ∷ means 0x00000100 "Direct Mapped"
+    ∷ means 0x00000200 "Complex Cache Indexing"
+    ∷ [])
+    ∷ choice 0x0000f000 (
+    means 0x00000000 "Write Policy None"
+    ∷ means 0x00001000 "Write Back"
+    ∷ means 0x00002000 "Write Through"
+    ∷ [])
+    ∷ part 0xffff0000 0x00010000 "Cache Line Size"
+    ∷ []
+
 abbrev pub cache_head_fields : SideCache → List NamedField
 cache_head_fields c =
-    word "Type" 2  -- 0
+    preset word "Type" 2  -- 0
     ∷ reserved 2  -- 2
     ∷ dword "Length" (32 + length c.handles)  -- 4
     ∷ dword "Proximity Domain for the Memory" c.domain  -- 8
     ∷ reserved 4  -- 12
     ∷ qword "Memory Side Cache Size" c.cache_size  -- 16
-    ∷ dword "Cache Attributes" c.attributes  -- 24
+    ∷ flags side_cache_bits dword "Cache Attributes" c.attributes  -- 24
     ∷ reserved 2  -- 28
     ∷ word "Number of SMBIOS Handles" c.count  -- 30
     ∷ []

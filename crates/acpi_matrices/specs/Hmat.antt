@@ -1,6 +1,7 @@
 -- The Heterogeneous Memory Attribute Table (ACPI 6.5, 5.2.28).
 use Rattle.std.specs.Prelude.{ℕ, List, [], ◌∷◌, codes}
-use Rattle.acpi_base.specs.Fields.{NamedField, word, dword, reserved, fields_joined}
+use Rattle.acpi_base.specs.Fields.{NamedField, word, dword, preset, flags, reserved, fields_joined}
+use Rattle.acpi_base.specs.Look.{Part, flag}
 use Rattle.acpi_base.specs.Bytes.{zeros}
 use Rattle.acpi_base.specs.declared.oem.Oem.{Oem}
 use Rattle.acpi_core.specs.Listing.{Listing, length_limit}
@@ -19,13 +20,19 @@ hmat oem = record {
   structures = [];
 }
 
+-- Flags of a proximity domain
+abbrev pub proximity_bits : List Part
+proximity_bits =
+    flag 0x1 "Attached Initiator Valid"
+    ∷ []
+
 -- Memory Proximity Domain Attributes Structure (5.2.28.3)
 abbrev pub proximity_fields : MemoryProximityDomain → List NamedField
 proximity_fields m =
-    word "Type" 0  -- 0
+    preset word "Type" 0  -- 0
     ∷ reserved 2  -- 2
-    ∷ dword "Length" 40  -- 4
-    ∷ word "Flags" 1  -- 8: the initiator's domain is valid
+    ∷ preset dword "Length" 40  -- 4
+    ∷ flags proximity_bits word "Flags" 1  -- 8: the initiator's domain is valid
     ∷ reserved 2  -- 10
     ∷ dword "Proximity Domain for the Attached Initiator" m.initiator  -- 12
     ∷ dword "Proximity Domain for the Memory" m.memory  -- 16

@@ -4,7 +4,8 @@ use Rattle.std.specs.Prelude.{Bool, true, false, List, [], length, replicate, Re
 use Rattle.acpi_base.specs.declared.error.Error.{Error}
 use Rattle.acpi_base.specs.declared.error.Error.TheVariants.{Index}
 use Rattle.acpi_base.specs.Bytes.{le, put, field_at, zeros}
-use Rattle.acpi_base.specs.Fields.{NamedField, byte, word, dword, qword, reserved, fields_joined}
+use Rattle.acpi_base.specs.Fields.{NamedField, byte, word, dword, qword, preset, flags, one_of, reserved, fields_joined}
+use Rattle.acpi_base.specs.Look.{Part, flag, choice, means}
 use Rattle.acpi_matrices.specs.declared.hmat.locality.DataType.{DataType}
 use Rattle.acpi_matrices.specs.declared.hmat.locality.DataType.TheVariants as types
 use Rattle.acpi_matrices.specs.declared.hmat.locality.MinTransferSize.{MinTransferSize}
@@ -77,14 +78,55 @@ pub record IsLocality (l : Locality) : Type 0 where
   pub lists : length l.lists ≡ lists_size l.initiators l.targets
   pub fits : locality_size l.initiators l.targets < 2 ^ 32
 
+-- Flags of a locality: the memory hierarchy in bits 3:0
+abbrev pub locality_bits : List Part
+locality_bits =
+    choice 0x0f (
+    means 0x00 "Memory"
+    ∷ means 0x01 "First Level Memory Side Cache"
+    ∷ means 0x02 "Second Level Memory Side Cache"
+    ∷ means 0x03 "Third Level Memory Side Cache"
+    ∷ [])
+    ∷ flag 0x10 "Minimum Transfer Size"
+    ∷ flag 0x20 "Non-sequential Transfers"
+    ∷ []
+
+-- the words of Data Type
+abbrev pub data_type_words : List (ℕ × List ℕ)
+data_type_words =
+    means 0 "Access Latency"
+    ∷ means 1 "Read Latency"
+    ∷ means 2 "Write Latency"
+    ∷ means 3 "Access Bandwidth"
+    ∷ means 4 "Read Bandwidth"
+    ∷ means 5 "Write Bandwidth"
+    ∷ []
+
+-- the words of MinTransferSize
+abbrev pub transfer_words : List (ℕ × List ℕ)
+transfer_words =
+    means 0 "Byte Aligned"
+    ∷ means 1 "64 Bytes"
+    ∷ means 2 "128 Bytes"
+    ∷ means 3 "256 Bytes"
+    ∷ means 4 "512 Bytes"
+    ∷ means 5 "1 KiB"
+    ∷ means 6 "2 KiB"
+    ∷ means 7 "4 KiB"
+    ∷ means 8 "8 KiB"
+    ∷ means 9 "16 KiB"
+    ∷ means 10 "32 KiB"
+    ∷ means 11 "64 KiB"
+    ∷ []
+
 abbrev pub locality_head_fields : Locality → List NamedField
 locality_head_fields l =
-    word "Type" 1  -- 0
+    preset word "Type" 1  -- 0
     ∷ reserved 2  -- 2
     ∷ dword "Length" (32 + length l.lists)  -- 4
-    ∷ byte "Flags" l.flags  -- 8
-    ∷ byte "Data Type" (data_type_number l.data_type)  -- 9
-    ∷ byte "MinTransferSize" (transfer_number l.transfer)  -- 10
+    ∷ flags locality_bits byte "Flags" l.flags  -- 8
+    ∷ one_of data_type_words byte "Data Type" (data_type_number l.data_type)  -- 9
+    ∷ one_of transfer_words byte "MinTransferSize" (transfer_number l.transfer)  -- 10
     ∷ reserved 1  -- 11
     ∷ dword "Number of Initiator Proximity Domains" l.initiators  -- 12
     ∷ dword "Number of Target Proximity Domains" l.targets  -- 16

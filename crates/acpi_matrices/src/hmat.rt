@@ -19,7 +19,7 @@ mod locality;
 use acpi_base::error::R;
 use acpi_base::object::Aml;
 use acpi_base::oem::Oem;
-use acpi_base::row::{Record, Row, Value, Word, record_of, write_record};
+use acpi_base::row::{Bits, Record, Row, Value, record_of, write_record};
 use acpi_base::sink::AmlSink;
 use acpi_core::form::Form;
 use acpi_core::kind::Kind;
@@ -154,10 +154,10 @@ impl MemoryProximityDomain {
 
 /// The rows of a Memory Proximity Domain Attributes Structure.
 pub const MEMORY_PROXIMITY_DOMAIN: [Row; 8] = [
-    Row::Number("Type", 2),
+    Row::Preset("Type", 2, 0),
     Row::Reserved(2),
-    Row::Number("Length", 4),
-    Row::Flags("Flags", 2, &[Word(1, "Attached Initiator Valid")]),
+    Row::Preset("Length", 4, 40),
+    Row::Flags("Flags", 2, &[Bits::Flag(0x1, "Attached Initiator Valid")]),
     Row::Reserved(2),
     Row::Number("Proximity Domain for the Attached Initiator", 4),
     Row::Number("Proximity Domain for the Memory", 4),

@@ -170,7 +170,7 @@ pub const SLIT_FIXED: [Row; 2] = [
     Row::Number("Number of System Localities", 8),
 ];
 
-/// The names and widths of the fields between the header and the distances, in order.
+/// The rows of the fields between the header and the distances, in order.
 pub fn slit_rows() -> &'static [Row]
     ensures { (localities : ℕ) → AreRowsOf result.now (slit_fields localities) }
 {

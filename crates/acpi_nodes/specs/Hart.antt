@@ -1,7 +1,7 @@
 -- Hart Info nodes (this project's profile).
 use Rattle.std.specs.Prelude.{ℕ, ◌+◌, List, [], ◌∷◌, ◌++◌, length}
 use Rattle.acpi_base.specs.Bytes.{le}
-use Rattle.acpi_base.specs.Fields.{NamedField, word, dword, fields_joined}
+use Rattle.acpi_base.specs.Fields.{NamedField, word, dword, hex, preset, fields_joined}
 use Rattle.acpi_core.specs.Entries.{no_entries, with_entry}
 use Rattle.acpi_nodes.specs.declared.rhct.HartInfoNode.{HartInfoNode}
 
@@ -15,11 +15,11 @@ with_offset h offset = record { uid = h.uid; offsets = with_entry h.offsets (le 
 
 abbrev pub hart_info_head_fields : HartInfoNode → List NamedField
 hart_info_head_fields h =
-    word "Type" 65535  -- 0
+    preset word "Type" 65535  -- 0
     ∷ word "Length" (12 + length h.offsets.bytes)  -- 2
-    ∷ word "Revision" 1  -- 4
+    ∷ preset word "Revision" 1  -- 4
     ∷ word "Number of offsets" h.offsets.count  -- 6
-    ∷ dword "ACPI Processor UID" h.uid  -- 8
+    ∷ hex dword "ACPI Processor UID" h.uid  -- 8
     ∷ []
 
 abbrev pub hart_info_head : HartInfoNode → List ℕ

@@ -1,7 +1,8 @@
 -- The Processor Properties Topology Table (ACPI 6.5, 5.2.30).
 use Rattle.std.specs.Prelude.{◌≡◌, ℕ, ◌+◌, ◌^◌, ◌<◌, List, [], ◌∷◌, ◌++◌, length, codes}
 use Rattle.acpi_base.specs.Bytes.{field_at}
-use Rattle.acpi_base.specs.Fields.{NamedField, byte, word, dword, reserved, fields_joined}
+use Rattle.acpi_base.specs.Fields.{NamedField, byte, word, dword, hex, preset, reference, flags, reserved, fields_joined}
+use Rattle.acpi_base.specs.Look.{Part, flag, choice, means}
 use Rattle.acpi_base.specs.declared.oem.Oem.{Oem}
 use Rattle.acpi_base.specs.Object.{whole}
 use Rattle.acpi_core.specs.Calls.{NodeStands}
@@ -37,14 +38,24 @@ pptt oem = record {
 abbrev pub processor : ℕ → ℕ → ProcessorNode
 processor parent id = record { flags = 0; parent = parent; acpi_processor_id = id; resources = no_resources }
 
+-- Processor Structure Flags
+abbrev pub processor_node_bits : List Part
+processor_node_bits =
+    flag 0x01 "Physical package"
+    ∷ flag 0x02 "ACPI Processor ID valid"
+    ∷ flag 0x04 "Processor is a Thread"
+    ∷ flag 0x08 "Node is a Leaf"
+    ∷ flag 0x10 "Identical Implementation"
+    ∷ []
+
 abbrev pub processor_head_fields : ProcessorNode → List NamedField
 processor_head_fields p =
-    byte "Type" 0  -- 0
+    preset byte "Type" 0  -- 0
     ∷ byte "Length" (20 + length p.resources.bytes)  -- 1
     ∷ reserved 2  -- 2
-    ∷ dword "Flags" p.flags  -- 4
-    ∷ dword "Parent" p.parent  -- 8
-    ∷ dword "ACPI Processor ID" p.acpi_processor_id  -- 12
+    ∷ flags processor_node_bits dword "Flags" p.flags  -- 4
+    ∷ reference dword "Parent" p.parent  -- 8
+    ∷ hex dword "ACPI Processor ID" p.acpi_processor_id  -- 12
     ∷ dword "Number of private resources" p.resources.count  -- 16
     ∷ []
 
@@ -99,19 +110,45 @@ cache_of b = record {
   id = b.id;
 }
 
+-- Cache Structure Flags
+abbrev pub cache_bits : List Part
+cache_bits =
+    flag 0x01 "Size valid"
+    ∷ flag 0x02 "Number of sets valid"
+    ∷ flag 0x04 "Associativity valid"
+    ∷ flag 0x08 "Allocation type valid"
+    ∷ flag 0x10 "Cache type valid"
+    ∷ flag 0x20 "Write policy valid"
+    ∷ flag 0x40 "Line size valid"
+    ∷ flag 0x80 "Cache ID valid"
+    ∷ []
+
+-- Attributes: Allocation type in bits 1:0, Cache type in bits 3:2, Write policy in bit 4
+abbrev pub cache_attribute_bits : List Part
+cache_attribute_bits =
+    choice 0x03 (
+    means 0x00 "Read Allocate"
+    ∷ means 0x01 "Write Allocate"
+    ∷ means 0x02 "Read and Write Allocate"
+    ∷ means 0x03 "Read and Write Allocate"
+    ∷ [])
+    ∷ choice 0x0c (means 0x00 "Data" ∷ means 0x04 "Instruction" ∷ means 0x08 "Unified" ∷ means 0x0c "Unified" ∷ [])
+    ∷ choice 0x10 (means 0x00 "Write Back" ∷ means 0x10 "Write Through" ∷ [])
+    ∷ []
+
 abbrev pub cache_fields : CacheNode → List NamedField
 cache_fields c =
-    byte "Type" 1  -- 0
-    ∷ byte "Length" 28  -- 1
+    preset byte "Type" 1  -- 0
+    ∷ preset byte "Length" 28  -- 1
     ∷ reserved 2  -- 2
-    ∷ dword "Flags" c.flags  -- 4
-    ∷ dword "Next Level of Cache" c.next_level  -- 8
+    ∷ flags cache_bits dword "Flags" c.flags  -- 4
+    ∷ reference dword "Next Level of Cache" c.next_level  -- 8
     ∷ dword "Size" c.size  -- 12
     ∷ dword "Number of sets" c.sets  -- 16
     ∷ byte "Associativity" c.associativity  -- 20
-    ∷ byte "Attributes" c.attributes  -- 21
+    ∷ flags cache_attribute_bits byte "Attributes" c.attributes  -- 21
     ∷ word "Line size" c.line_size  -- 22
-    ∷ dword "Cache ID" c.id  -- 24
+    ∷ hex dword "Cache ID" c.id  -- 24
     ∷ []
 
 abbrev pub cache_bytes : CacheNode → List ℕ

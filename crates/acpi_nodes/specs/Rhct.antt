@@ -2,7 +2,8 @@
 use Rattle.std.specs.Prelude.{◌≡◌, ◌≢◌, ℕ, ◌+◌, ◌%◌, ◌^◌, ◌<◌, nat_lt, Bool, List, [], ◌∷◌, ◌++◌, length, codes, Some}
 use Rattle.acpi_base.specs.declared.error.Error.TheVariants.{Memory, FieldWidth}
 use Rattle.acpi_base.specs.Bytes.{le, field_at, zeros}
-use Rattle.acpi_base.specs.Fields.{NamedField, byte, word, dword, qword, reserved, fields_joined}
+use Rattle.acpi_base.specs.Fields.{NamedField, byte, word, dword, qword, preset, flags, one_of, reserved, fields_joined}
+use Rattle.acpi_base.specs.Look.{Part, flag, means}
 use Rattle.acpi_base.specs.Object.{Object, whole, provided, provided_ends_well}
 use Rattle.acpi_base.specs.declared.oem.Oem.{Oem}
 use Rattle.acpi_core.specs.Calls.{NodeStands}
@@ -15,10 +16,16 @@ use Rattle.acpi_nodes.specs.declared.rhct.MmuNode.{MmuNode}
 use Rattle.acpi_nodes.specs.declared.rhct.VirtualAddressScheme.{VirtualAddressScheme}
 use Rattle.acpi_nodes.specs.declared.rhct.VirtualAddressScheme.TheVariants.{Sv39, Sv48, Sv57}
 
+-- Flags of the table
+abbrev pub rhct_bits : List Part
+rhct_bits =
+    flag 0x1 "Timer cannot wake the processor"
+    ∷ []
+
 -- the fields between the header and the number of nodes
 abbrev pub rhct_fields : ℕ → List NamedField
 rhct_fields timebase_frequency =
-    dword "Flags" 0  -- 36
+    flags rhct_bits dword "Flags" 0  -- 36
     ∷ qword "Time Base Frequency" timebase_frequency  -- 40
     ∷ []
 
@@ -48,9 +55,9 @@ is_isa_string text = nat_lt (length text) 65526
 -- for a text of this many bytes
 abbrev pub isa_string_head_fields : ℕ → List NamedField
 isa_string_head_fields n =
-    word "Type" 0  -- 0
+    preset word "Type" 0  -- 0
     ∷ word "Length" (8 + n + isa_string_end n)  -- 2
-    ∷ word "Revision" 1  -- 4
+    ∷ preset word "Revision" 1  -- 4
     ∷ word "ISA string length" (n + 1)  -- 6
     ∷ []
 
@@ -74,9 +81,9 @@ cmo cbom cbop cboz = record { cbom = cbom; cbop = cbop; cboz = cboz }
 
 abbrev pub cmo_fields : CmoNode → List NamedField
 cmo_fields c =
-    word "Type" 1  -- 0
-    ∷ word "Length" 10  -- 2
-    ∷ word "Revision" 1  -- 4
+    preset word "Type" 1  -- 0
+    ∷ preset word "Length" 10  -- 2
+    ∷ preset word "Revision" 1  -- 4
     ∷ reserved 1  -- 6
     ∷ byte "CBOM Block Size" c.cbom  -- 7
     ∷ byte "CBOP Block Size" c.cbop  -- 8
@@ -96,13 +103,21 @@ scheme_number Sv57 = 2
 abbrev pub mmu : VirtualAddressScheme → MmuNode
 mmu scheme = record { scheme = scheme_number scheme }
 
+-- the words of MMU Type
+abbrev pub scheme_words : List (ℕ × List ℕ)
+scheme_words =
+    means 0 "Sv39"
+    ∷ means 1 "Sv48"
+    ∷ means 2 "Sv57"
+    ∷ []
+
 abbrev pub mmu_fields : MmuNode → List NamedField
 mmu_fields m =
-    word "Type" 2  -- 0
-    ∷ word "Length" 8  -- 2
-    ∷ word "Revision" 1  -- 4
+    preset word "Type" 2  -- 0
+    ∷ preset word "Length" 8  -- 2
+    ∷ preset word "Revision" 1  -- 4
     ∷ reserved 1  -- 6
-    ∷ byte "MMU Type" m.scheme  -- 7
+    ∷ one_of scheme_words byte "MMU Type" m.scheme  -- 7
     ∷ []
 
 abbrev pub mmu_bytes : MmuNode → List ℕ

@@ -3,7 +3,9 @@ use Rattle.std.specs.Prelude.{◌≡◌, ℕ, ◌+◌, ◌*◌, ◌^◌, ◌<◌
 use Rattle.std.specs.Prelude.{String, string_bytes, Vec, unwrap_or, is_some, Option, Some, None}
 use Rattle.std.specs.declared.alloc.Global.{Global}
 use Rattle.acpi_base.specs.Bytes.{le, field_at, zeros}
-use Rattle.acpi_base.specs.Fields.{NamedField, byte, word, dword, qword, reserved, fields_joined}
+use Rattle.acpi_base.specs.Fields.{NamedField, byte, word, dword, qword, hex, preset, reference, flags, reserved, fields_joined}
+use Rattle.acpi_base.specs.Look.{Part, flag, choice, means}
+use Rattle.acpi_base.specs.Pci.{bdf_bits}
 use Rattle.acpi_base.specs.declared.oem.Oem.{Oem}
 use Rattle.acpi_core.specs.Calls.{NodeStands}
 use Rattle.acpi_core.specs.Listing.{Listing, length_limit}
@@ -44,11 +46,18 @@ interrupt_wire number level_trig polarity_high aplic_id = record {
   aplic_id = aplic_id;
 }
 
+-- Flags of an interrupt wire
+abbrev pub wire_bits : List Part
+wire_bits =
+    choice 0x1 (means 0x0 "Edge Triggered" ∷ means 0x1 "Level Triggered" ∷ [])
+    ∷ choice 0x2 (means 0x0 "Active Low" ∷ means 0x2 "Active High" ∷ [])
+    ∷ []
+
 abbrev pub wire_fields : InterruptWire → List NamedField
 wire_fields w =
     dword "Interrupt Number" w.number  -- 0
-    ∷ word "Flags" (bit w.level_trig 1 + bit w.polarity_high 2)  -- 4
-    ∷ word "APLIC ID" w.aplic_id  -- 6
+    ∷ flags wire_bits word "Flags" (bit w.level_trig 1 + bit w.polarity_high 2)  -- 4
+    ∷ hex word "APLIC ID" w.aplic_id  -- 6
     ∷ []
 
 abbrev pub wire_bytes : InterruptWire → List ℕ
@@ -68,20 +77,27 @@ abbrev pub bdf_of : Option PciDevice → ℕ
 bdf_of None = 0
 bdf_of (Some device) = device.bdf
 
+-- Flags of an IOMMU
+abbrev pub iommu_bits : List Part
+iommu_bits =
+    flag 0x1 "PCI Device"
+    ∷ flag 0x2 "Proximity Domain Valid"
+    ∷ []
+
 abbrev pub iommu_head_fields : Iommu → List NamedField
 iommu_head_fields i =
-    byte "Type" 0  -- 0
-    ∷ byte "Revision" 1  -- 1
+    preset byte "Type" 0  -- 0
+    ∷ preset byte "Revision" 1  -- 1
     ∷ word "Length" (32 + 8 * length (entries_of i.wires))  -- 2
-    ∷ word "ID" i.id  -- 4
-    ∷ word "Model" 0  -- 6
-    ∷ qword "Base Address" (unwrap_or i.base 0)  -- 8
-    ∷ dword "Flags" (bit (is_some i.device) 1 + bit (is_some i.domain) 2)  -- 16
+    ∷ hex word "ID" i.id  -- 4
+    ∷ preset word "Model" 0  -- 6
+    ∷ hex qword "Base Address" (unwrap_or i.base 0)  -- 8
+    ∷ flags iommu_bits dword "Flags" (bit (is_some i.device) 1 + bit (is_some i.domain) 2)  -- 16
     ∷ word "PCI Segment" (segment_of i.device)  -- 20
-    ∷ word "PCI BDF" (bdf_of i.device)  -- 22
+    ∷ flags bdf_bits word "PCI BDF" (bdf_of i.device)  -- 22
     ∷ dword "Proximity Domain" (unwrap_or i.domain 0)  -- 24
     ∷ word "Number of Interrupt Wires" (length (entries_of i.wires))  -- 28
-    ∷ word "Offset of Interrupt Wires" 32  -- 30
+    ∷ preset word "Offset of Interrupt Wires" 32  -- 30
     ∷ []
 
 abbrev pub iommu_head : Iommu → List ℕ
@@ -103,13 +119,21 @@ id_mapping src_id dst_id num_ids iommu ats pri rciep = record {
   rciep = rciep;
 }
 
+-- Flags of a mapping
+abbrev pub mapping_bits : List Part
+mapping_bits =
+    flag 0x1 "ATS Required"
+    ∷ flag 0x2 "PRI Required"
+    ∷ flag 0x4 "RCiEP"
+    ∷ []
+
 abbrev pub mapping_fields : IdMapping → List NamedField
 mapping_fields m =
-    dword "Source ID Base" m.src_id  -- 0
-    ∷ dword "Destination ID Base" m.dst_id  -- 4
+    hex dword "Source ID Base" m.src_id  -- 0
+    ∷ hex dword "Destination ID Base" m.dst_id  -- 4
     ∷ dword "Number of IDs" m.num_ids  -- 8
-    ∷ dword "Destination IOMMU Offset" m.iommu  -- 12
-    ∷ dword "Flags" (bit m.ats 1 + bit m.pri 2 + bit m.rciep 4)  -- 16
+    ∷ reference dword "Destination IOMMU Offset" m.iommu  -- 12
+    ∷ flags mapping_bits dword "Flags" (bit m.ats 1 + bit m.pri 2 + bit m.rciep 4)  -- 16
     ∷ []
 
 abbrev pub mapping_bytes : IdMapping → List ℕ
@@ -120,15 +144,22 @@ mapping_bytes m = fields_joined (mapping_fields m)
 abbrev pub root_complex : ℕ → ℕ → Bool → Bool → Option (Vec IdMapping Global) → PcieRootComplex
 root_complex id segment ats pri mappings = record { id = id; segment = segment; ats = ats; pri = pri; mappings = mappings }
 
+-- Flags of a root complex
+abbrev pub complex_bits : List Part
+complex_bits =
+    flag 0x1 "ATS Supported"
+    ∷ flag 0x2 "PRI Supported"
+    ∷ []
+
 abbrev pub root_complex_head_fields : PcieRootComplex → List NamedField
 root_complex_head_fields c =
-    byte "Type" 1  -- 0
-    ∷ byte "Revision" 1  -- 1
+    preset byte "Type" 1  -- 0
+    ∷ preset byte "Revision" 1  -- 1
     ∷ word "Length" (16 + 20 * length (entries_of c.mappings))  -- 2
-    ∷ word "ID" c.id  -- 4
+    ∷ hex word "ID" c.id  -- 4
     ∷ word "PCI Segment" c.segment  -- 6
-    ∷ dword "Flags" (bit c.ats 1 + bit c.pri 2)  -- 8
-    ∷ word "Offset of Mappings" 16  -- 12
+    ∷ flags complex_bits dword "Flags" (bit c.ats 1 + bit c.pri 2)  -- 8
+    ∷ preset word "Offset of Mappings" 16  -- 12
     ∷ word "Number of Mappings" (length (entries_of c.mappings))  -- 14
     ∷ []
 
@@ -149,10 +180,10 @@ mappings_at p = 13 + length (string_bytes p.name)
 
 abbrev pub platform_head_fields : Platform → List NamedField
 platform_head_fields p =
-    byte "Type" 2  -- 0
-    ∷ byte "Revision" 1  -- 1
+    preset byte "Type" 2  -- 0
+    ∷ preset byte "Revision" 1  -- 1
     ∷ word "Length" (mappings_at p + 20 * length (entries_of p.mappings))  -- 2
-    ∷ word "ID" p.id  -- 4
+    ∷ hex word "ID" p.id  -- 4
     ∷ reserved 2  -- 6
     ∷ word "Offset of Mappings" (mappings_at p)  -- 8
     ∷ word "Number of Mappings" (length (entries_of p.mappings))  -- 10

@@ -1,7 +1,8 @@
 -- The Virtual I/O Translation Table (ACPI 6.5, 5.2.32).
 use Rattle.std.specs.Prelude.{◌≡◌, ℕ, ◌^◌, ◌<◌, List, [], ◌∷◌, ◌++◌, codes}
 use Rattle.acpi_base.specs.Bytes.{le, field_at, zeros}
-use Rattle.acpi_base.specs.Fields.{NamedField, byte, word, dword, qword, reserved, fields_joined}
+use Rattle.acpi_base.specs.Fields.{NamedField, byte, word, dword, qword, hex, preset, reference, flags, reserved, fields_joined}
+use Rattle.acpi_base.specs.Pci.{bdf_bits}
 use Rattle.acpi_base.specs.declared.oem.Oem.{Oem}
 use Rattle.acpi_base.specs.Object.{whole}
 use Rattle.acpi_core.specs.Calls.{NodeStands}
@@ -34,15 +35,15 @@ pci_range first last output = record { first = first; last = last; output = outp
 
 abbrev pub pci_range_fields : PciRange → List NamedField
 pci_range_fields r =
-    byte "Type" 1  -- 0
+    preset byte "Type" 1  -- 0
     ∷ reserved 1  -- 1
-    ∷ word "Length" 24  -- 2
-    ∷ dword "Endpoint Start" r.first.bdf  -- 4
+    ∷ preset word "Length" 24  -- 2
+    ∷ hex dword "Endpoint Start" r.first.bdf  -- 4
     ∷ word "PCI Segment Start" r.first.segment  -- 8
     ∷ word "PCI Segment End" r.last.segment  -- 10
-    ∷ word "PCI BDF Start" r.first.bdf  -- 12
-    ∷ word "PCI BDF End" r.last.bdf  -- 14
-    ∷ word "Output Node" r.output  -- 16
+    ∷ flags bdf_bits word "PCI BDF Start" r.first.bdf  -- 12
+    ∷ flags bdf_bits word "PCI BDF End" r.last.bdf  -- 14
+    ∷ reference word "Output Node" r.output  -- 16
     ∷ reserved 6  -- 18
     ∷ []
 
@@ -56,12 +57,12 @@ mmio_endpoint endpoint base output = record { endpoint = endpoint; base = base; 
 
 abbrev pub mmio_endpoint_fields : MmioEndpoint → List NamedField
 mmio_endpoint_fields e =
-    byte "Type" 2  -- 0
+    preset byte "Type" 2  -- 0
     ∷ reserved 1  -- 1
-    ∷ word "Length" 24  -- 2
-    ∷ dword "Endpoint ID" e.endpoint  -- 4
-    ∷ qword "Base Address" e.base  -- 8
-    ∷ word "Output Node" e.output  -- 16
+    ∷ preset word "Length" 24  -- 2
+    ∷ hex dword "Endpoint ID" e.endpoint  -- 4
+    ∷ hex qword "Base Address" e.base  -- 8
+    ∷ reference word "Output Node" e.output  -- 16
     ∷ reserved 6  -- 18
     ∷ []
 
@@ -75,11 +76,11 @@ virtio_pci_iommu device = record { device = device }
 
 abbrev pub virtio_pci_iommu_fields : VirtIoPciIommu → List NamedField
 virtio_pci_iommu_fields i =
-    byte "Type" 3  -- 0
+    preset byte "Type" 3  -- 0
     ∷ reserved 1  -- 1
-    ∷ word "Length" 16  -- 2
+    ∷ preset word "Length" 16  -- 2
     ∷ word "PCI Segment" i.device.segment  -- 4
-    ∷ word "PCI BDF Number" i.device.bdf  -- 6
+    ∷ flags bdf_bits word "PCI BDF Number" i.device.bdf  -- 6
     ∷ reserved 8  -- 8
     ∷ []
 
@@ -93,11 +94,11 @@ virtio_mmio_iommu base = record { base = base }
 
 abbrev pub virtio_mmio_iommu_fields : VirtIoMmioIommu → List NamedField
 virtio_mmio_iommu_fields i =
-    byte "Type" 4  -- 0
+    preset byte "Type" 4  -- 0
     ∷ reserved 1  -- 1
-    ∷ word "Length" 16  -- 2
+    ∷ preset word "Length" 16  -- 2
     ∷ reserved 4  -- 4
-    ∷ qword "Base Address" i.base  -- 8
+    ∷ hex qword "Base Address" i.base  -- 8
     ∷ []
 
 abbrev pub virtio_mmio_iommu_bytes : VirtIoMmioIommu → List ℕ

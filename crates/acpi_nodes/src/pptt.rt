@@ -21,7 +21,7 @@ use acpi_base::error::{Error, R};
 use acpi_base::object::Aml;
 use acpi_base::oem::Oem;
 use acpi_base::parts::write_parts;
-use acpi_base::row::{Record, Row, Word, record_of_numbers, write_record};
+use acpi_base::row::{Bits, Record, Row, Word, record_of_numbers, write_record};
 use acpi_base::sink::AmlSink;
 use acpi_core::entries::Entries;
 use acpi_core::form::Form;
@@ -254,26 +254,26 @@ impl ProcessorNode {
 
 /// The rows of a Processor Hierarchy Node Structure before its private resources.
 pub const PROCESSOR_NODE: [Row; 7] = [
-    Row::Number("Type", 1),
+    Row::Preset("Type", 1, 0),
     Row::Number("Length", 1),
     Row::Reserved(2),
     Row::Flags(
         "Flags",
         4,
         &[
-            Word(1, "Physical package"),
-            Word(2, "ACPI Processor ID valid"),
-            Word(4, "Processor is a Thread"),
-            Word(8, "Node is a Leaf"),
-            Word(16, "Identical Implementation"),
+            Bits::Flag(0x1, "Physical package"),
+            Bits::Flag(0x2, "ACPI Processor ID valid"),
+            Bits::Flag(0x4, "Processor is a Thread"),
+            Bits::Flag(0x8, "Node is a Leaf"),
+            Bits::Flag(0x10, "Identical Implementation"),
         ],
     ),
-    Row::Number("Parent", 4),
-    Row::Number("ACPI Processor ID", 4),
+    Row::Reference("Parent", 4),
+    Row::Hex("ACPI Processor ID", 4),
     Row::Number("Number of private resources", 4),
 ];
 
-/// The names and widths of the fields before a processor's caches, in order.
+/// The rows of the fields before a processor's caches, in order.
 pub fn processor_rows() -> &'static [Row]
     ensures { (p : ProcessorNode) → AreRowsOf result.now (processor_head_fields p) }
 {
@@ -475,30 +475,57 @@ impl CacheNode {
 
 /// The rows of a Cache Type Structure.
 pub const CACHE_NODE: [Row; 11] = [
-    Row::Number("Type", 1),
-    Row::Number("Length", 1),
+    Row::Preset("Type", 1, 1),
+    Row::Preset("Length", 1, 28),
     Row::Reserved(2),
     Row::Flags(
         "Flags",
         4,
         &[
-            Word(1, "Size valid"),
-            Word(2, "Number of sets valid"),
-            Word(4, "Associativity valid"),
-            Word(8, "Allocation type valid"),
-            Word(16, "Cache type valid"),
-            Word(32, "Write policy valid"),
-            Word(64, "Line size valid"),
-            Word(128, "Cache ID valid"),
+            Bits::Flag(0x1, "Size valid"),
+            Bits::Flag(0x2, "Number of sets valid"),
+            Bits::Flag(0x4, "Associativity valid"),
+            Bits::Flag(0x8, "Allocation type valid"),
+            Bits::Flag(0x10, "Cache type valid"),
+            Bits::Flag(0x20, "Write policy valid"),
+            Bits::Flag(0x40, "Line size valid"),
+            Bits::Flag(0x80, "Cache ID valid"),
         ],
     ),
-    Row::Number("Next Level of Cache", 4),
+    Row::Reference("Next Level of Cache", 4),
     Row::Number("Size", 4),
     Row::Number("Number of sets", 4),
     Row::Number("Associativity", 1),
-    Row::Number("Attributes", 1),
+    Row::Flags(
+        "Attributes",
+        1,
+        &[
+            Bits::OneOf(
+                0x3,
+                &[
+                    Word(0x0, "Read Allocate"),
+                    Word(0x1, "Write Allocate"),
+                    Word(0x2, "Read and Write Allocate"),
+                    Word(0x3, "Read and Write Allocate"),
+                ],
+            ),
+            Bits::OneOf(
+                0xc,
+                &[
+                    Word(0x0, "Data"),
+                    Word(0x4, "Instruction"),
+                    Word(0x8, "Unified"),
+                    Word(0xc, "Unified"),
+                ],
+            ),
+            Bits::OneOf(
+                0x10,
+                &[Word(0x0, "Write Back"), Word(0x10, "Write Through")],
+            ),
+        ],
+    ),
     Row::Number("Line size", 2),
-    Row::Number("Cache ID", 4),
+    Row::Hex("Cache ID", 4),
 ];
 
 impl Record<28> for CacheNode {

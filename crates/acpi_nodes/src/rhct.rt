@@ -21,7 +21,7 @@ use acpi_base::error::{Error, R};
 use acpi_base::object::Aml;
 use acpi_base::oem::Oem;
 use acpi_base::parts::write_parts;
-use acpi_base::row::{Record, Row, Word, record_of_numbers, write_record};
+use acpi_base::row::{Bits, Record, Row, Word, record_of_numbers, write_record};
 use acpi_base::sink::AmlSink;
 use acpi_core::entries::Entries;
 use acpi_core::form::Form;
@@ -62,11 +62,15 @@ impl Aml for RHCT {
 
 /// The rows of an RHCT between its header and the number of its nodes.
 pub const RHCT_FIXED: [Row; 2] = [
-    Row::Flags("Flags", 4, &[Word(1, "Timer cannot wake the processor")]),
+    Row::Flags(
+        "Flags",
+        4,
+        &[Bits::Flag(0x1, "Timer cannot wake the processor")],
+    ),
     Row::Number("Time Base Frequency", 8),
 ];
 
-/// The names and widths of the fields between the header and the number of nodes, in order.
+/// The rows of the fields between the header and the number of nodes, in order.
 pub fn rhct_rows() -> &'static [Row]
     ensures { (timebase_frequency : ℕ) → AreRowsOf result.now (rhct_fields timebase_frequency) }
 {
@@ -237,13 +241,13 @@ fn isa_string_head(text: usize) -> [u8; 8]
 
 /// The rows of an ISA string node before its string.
 pub const ISA_STRING: [Row; 4] = [
-    Row::Number("Type", 2),
+    Row::Preset("Type", 2, 0),
     Row::Number("Length", 2),
-    Row::Number("Revision", 2),
+    Row::Preset("Revision", 2, 1),
     Row::Number("ISA string length", 2),
 ];
 
-/// The names and widths of the fields before a text, in order.
+/// The rows of the fields before a text, in order.
 pub fn isa_string_rows() -> &'static [Row]
     ensures { (text : ℕ) → AreRowsOf result.now (isa_string_head_fields text) }
 {
@@ -277,9 +281,9 @@ impl CmoNode {
 
 /// The rows of a CMO node.
 pub const CMO: [Row; 7] = [
-    Row::Number("Type", 2),
-    Row::Number("Length", 2),
-    Row::Number("Revision", 2),
+    Row::Preset("Type", 2, 1),
+    Row::Preset("Length", 2, 10),
+    Row::Preset("Revision", 2, 1),
     Row::Reserved(1),
     Row::Number("CBOM Block Size", 1),
     Row::Number("CBOP Block Size", 1),
@@ -346,9 +350,9 @@ impl MmuNode {
 
 /// The rows of an MMU node.
 pub const MMU: [Row; 5] = [
-    Row::Number("Type", 2),
-    Row::Number("Length", 2),
-    Row::Number("Revision", 2),
+    Row::Preset("Type", 2, 2),
+    Row::Preset("Length", 2, 8),
+    Row::Preset("Revision", 2, 1),
     Row::Reserved(1),
     Row::OneOf(
         "MMU Type",
@@ -438,14 +442,14 @@ impl HartInfoNode {
 
 /// The rows of a hart info node before its offsets.
 pub const HART_INFO: [Row; 5] = [
-    Row::Number("Type", 2),
+    Row::Preset("Type", 2, 65535),
     Row::Number("Length", 2),
-    Row::Number("Revision", 2),
+    Row::Preset("Revision", 2, 1),
     Row::Number("Number of offsets", 2),
-    Row::Number("ACPI Processor UID", 4),
+    Row::Hex("ACPI Processor UID", 4),
 ];
 
-/// The names and widths of the fields before a hart's offsets, in order.
+/// The rows of the fields before a hart's offsets, in order.
 pub fn hart_info_rows() -> &'static [Row]
     ensures { (h : HartInfoNode) → AreRowsOf result.now (hart_info_head_fields h) }
 {

@@ -27,7 +27,8 @@ pub use crate::pci::PciDevice;
 use acpi_base::error::R;
 use acpi_base::object::Aml;
 use acpi_base::oem::Oem;
-use acpi_base::row::{Record, Row, Word, record_of_numbers, write_record};
+use acpi_base::pci::BDF;
+use acpi_base::row::{Bits, Record, Row, Word, record_of_numbers, write_record};
 use acpi_base::sink::AmlSink;
 use acpi_core::form::Form;
 use acpi_core::kind::Kind;
@@ -181,9 +182,15 @@ pub const INTERRUPT_WIRE: [Row; 3] = [
     Row::Flags(
         "Flags",
         2,
-        &[Word(1, "Level Triggered"), Word(2, "Active High")],
+        &[
+            Bits::OneOf(
+                0x1,
+                &[Word(0x0, "Edge Triggered"), Word(0x1, "Level Triggered")],
+            ),
+            Bits::OneOf(0x2, &[Word(0x0, "Active Low"), Word(0x2, "Active High")]),
+        ],
     ),
-    Row::Number("APLIC ID", 2),
+    Row::Hex("APLIC ID", 2),
 ];
 
 impl Record<8> for InterruptWire {
@@ -283,25 +290,28 @@ impl Iommu {
 
 /// The rows of a RISC-V IOMMU node before its wires.
 pub const IOMMU: [Row; 12] = [
-    Row::Number("Type", 1),
-    Row::Number("Revision", 1),
+    Row::Preset("Type", 1, 0),
+    Row::Preset("Revision", 1, 1),
     Row::Number("Length", 2),
-    Row::Number("ID", 2),
-    Row::Number("Model", 2),
-    Row::Number("Base Address", 8),
+    Row::Hex("ID", 2),
+    Row::Preset("Model", 2, 0),
+    Row::Hex("Base Address", 8),
     Row::Flags(
         "Flags",
         4,
-        &[Word(1, "PCI Device"), Word(2, "Proximity Domain Valid")],
+        &[
+            Bits::Flag(0x1, "PCI Device"),
+            Bits::Flag(0x2, "Proximity Domain Valid"),
+        ],
     ),
     Row::Number("PCI Segment", 2),
-    Row::Number("PCI BDF", 2),
+    Row::Flags("PCI BDF", 2, &BDF),
     Row::Number("Proximity Domain", 4),
     Row::Number("Number of Interrupt Wires", 2),
-    Row::Number("Offset of Interrupt Wires", 2),
+    Row::Preset("Offset of Interrupt Wires", 2, 32),
 ];
 
-/// The names and widths of the fields before an IOMMU's interrupt wires, in order.
+/// The rows of the fields before an IOMMU's interrupt wires, in order.
 pub fn iommu_rows() -> &'static [Row]
     ensures { (i : Iommu) → AreRowsOf result.now (iommu_head_fields i) }
 {
@@ -361,17 +371,17 @@ impl IdMapping {
 
 /// The rows of an ID mapping.
 pub const ID_MAPPING: [Row; 5] = [
-    Row::Number("Source ID Base", 4),
-    Row::Number("Destination ID Base", 4),
+    Row::Hex("Source ID Base", 4),
+    Row::Hex("Destination ID Base", 4),
     Row::Number("Number of IDs", 4),
-    Row::Number("Destination IOMMU Offset", 4),
+    Row::Reference("Destination IOMMU Offset", 4),
     Row::Flags(
         "Flags",
         4,
         &[
-            Word(1, "ATS Required"),
-            Word(2, "PRI Required"),
-            Word(4, "RCiEP"),
+            Bits::Flag(0x1, "ATS Required"),
+            Bits::Flag(0x2, "PRI Required"),
+            Bits::Flag(0x4, "RCiEP"),
         ],
     ),
 ];
@@ -465,21 +475,24 @@ impl PcieRootComplex {
 
 /// The rows of a PCIe root complex node before its mappings.
 pub const ROOT_COMPLEX: [Row; 8] = [
-    Row::Number("Type", 1),
-    Row::Number("Revision", 1),
+    Row::Preset("Type", 1, 1),
+    Row::Preset("Revision", 1, 1),
     Row::Number("Length", 2),
-    Row::Number("ID", 2),
+    Row::Hex("ID", 2),
     Row::Number("PCI Segment", 2),
     Row::Flags(
         "Flags",
         4,
-        &[Word(1, "ATS Supported"), Word(2, "PRI Supported")],
+        &[
+            Bits::Flag(0x1, "ATS Supported"),
+            Bits::Flag(0x2, "PRI Supported"),
+        ],
     ),
-    Row::Number("Offset of Mappings", 2),
+    Row::Preset("Offset of Mappings", 2, 16),
     Row::Number("Number of Mappings", 2),
 ];
 
-/// The names and widths of the fields before a root complex's mappings, in order.
+/// The rows of the fields before a root complex's mappings, in order.
 pub fn root_complex_rows() -> &'static [Row]
     ensures { (c : PcieRootComplex) → AreRowsOf result.now (root_complex_head_fields c) }
 {
@@ -544,16 +557,16 @@ impl Platform {
 
 /// The rows of a platform device node before its name.
 pub const PLATFORM: [Row; 7] = [
-    Row::Number("Type", 1),
-    Row::Number("Revision", 1),
+    Row::Preset("Type", 1, 2),
+    Row::Preset("Revision", 1, 1),
     Row::Number("Length", 2),
-    Row::Number("ID", 2),
+    Row::Hex("ID", 2),
     Row::Reserved(2),
     Row::Number("Offset of Mappings", 2),
     Row::Number("Number of Mappings", 2),
 ];
 
-/// The names and widths of the fields before a device's name, in order.
+/// The rows of the fields before a device's name, in order.
 pub fn platform_rows() -> &'static [Row]
     ensures { (p : Platform) → AreRowsOf result.now (platform_head_fields p) }
 {

@@ -18,6 +18,7 @@ pub use crate::pci::PciDevice;
 use acpi_base::error::R;
 use acpi_base::object::Aml;
 use acpi_base::oem::Oem;
+use acpi_base::pci::BDF;
 use acpi_base::row::{Record, Row, record_of_numbers, write_record};
 use acpi_base::sink::AmlSink;
 use acpi_core::form::Form;
@@ -198,15 +199,15 @@ impl PciRange {
 
 /// The rows of a PCI range node.
 pub const PCI_RANGE: [Row; 10] = [
-    Row::Number("Type", 1),
+    Row::Preset("Type", 1, 1),
     Row::Reserved(1),
-    Row::Number("Length", 2),
-    Row::Number("Endpoint Start", 4),
+    Row::Preset("Length", 2, 24),
+    Row::Hex("Endpoint Start", 4),
     Row::Number("PCI Segment Start", 2),
     Row::Number("PCI Segment End", 2),
-    Row::Number("PCI BDF Start", 2),
-    Row::Number("PCI BDF End", 2),
-    Row::Number("Output Node", 2),
+    Row::Flags("PCI BDF Start", 2, &BDF),
+    Row::Flags("PCI BDF End", 2, &BDF),
+    Row::Reference("Output Node", 2),
     Row::Reserved(6),
 ];
 
@@ -273,12 +274,12 @@ impl MmioEndpoint {
 
 /// The rows of a single MMIO endpoint node.
 pub const MMIO_ENDPOINT: [Row; 7] = [
-    Row::Number("Type", 1),
+    Row::Preset("Type", 1, 2),
     Row::Reserved(1),
-    Row::Number("Length", 2),
-    Row::Number("Endpoint ID", 4),
-    Row::Number("Base Address", 8),
-    Row::Number("Output Node", 2),
+    Row::Preset("Length", 2, 24),
+    Row::Hex("Endpoint ID", 4),
+    Row::Hex("Base Address", 8),
+    Row::Reference("Output Node", 2),
     Row::Reserved(6),
 ];
 
@@ -332,11 +333,11 @@ impl VirtIoPciIommu {
 
 /// The rows of a virtio-iommu based on virtio-pci node.
 pub const VIRTIO_PCI_IOMMU: [Row; 6] = [
-    Row::Number("Type", 1),
+    Row::Preset("Type", 1, 3),
     Row::Reserved(1),
-    Row::Number("Length", 2),
+    Row::Preset("Length", 2, 16),
     Row::Number("PCI Segment", 2),
-    Row::Number("PCI BDF Number", 2),
+    Row::Flags("PCI BDF Number", 2, &BDF),
     Row::Reserved(8),
 ];
 
@@ -389,11 +390,11 @@ impl VirtIoMmioIommu {
 
 /// The rows of a virtio-iommu based on virtio-mmio node.
 pub const VIRTIO_MMIO_IOMMU: [Row; 5] = [
-    Row::Number("Type", 1),
+    Row::Preset("Type", 1, 4),
     Row::Reserved(1),
-    Row::Number("Length", 2),
+    Row::Preset("Length", 2, 16),
     Row::Reserved(4),
-    Row::Number("Base Address", 8),
+    Row::Hex("Base Address", 8),
 ];
 
 impl Record<16> for VirtIoMmioIommu {

@@ -8,9 +8,9 @@ ghost use Rattle.acpi_ops.specs.Descriptor.{bit, fixed_fields, fixed_bytes, port
 ghost use Rattle.acpi_ops.specs.Descriptor.{interrupt_flags, interrupt_fields, interrupt_bytes, register_fields, register_bytes};
 
 use acpi_base::error::R;
-use acpi_base::gas::GAS;
+use acpi_base::gas::{ACCESS_SIZES, ADDRESS_SPACES, GAS};
 use acpi_base::object::Aml;
-use acpi_base::row::{Row, record_of_numbers};
+use acpi_base::row::{Bits, Row, Word, record_of_numbers};
 use acpi_base::sink::AmlSink;
 use std::marker::{Model, PhantomData};
 
@@ -79,14 +79,18 @@ impl Descriptor<Memory32Kind, 12> {
 }
 
 const MEMORY_32_FIXED: [Row; 5] = [
-    Row::Number("32-Bit Fixed Memory Range Descriptor", 1),
-    Row::Number("Length", 2),
-    Row::Number("Information", 1),
-    Row::Number("Range Base Address", 4),
+    Row::Preset("32-Bit Fixed Memory Range Descriptor", 1, 0x86),
+    Row::Preset("Length", 2, 9),
+    Row::Flags(
+        "Information",
+        1,
+        &[Bits::OneOf(0x1, &[Word(0x0, "Read-only"), Word(0x1, "Read-write")])],
+    ),
+    Row::Hex("Range Base Address", 4),
     Row::Number("Range Length", 4),
 ];
 
-/// The names and widths of the fields of a descriptor of a range of memory, in order.
+/// The rows of the fields of a descriptor of a range of memory, in order.
 pub fn memory_32_fixed_rows() -> &'static [Row]
     ensures { (read_write : Bool) (base size : ℕ) → AreRowsOf result.now (fixed_fields read_write base size) }
 {
@@ -120,15 +124,19 @@ impl Descriptor<PortsKind, 8> {
 }
 
 const IO_PORTS: [Row; 6] = [
-    Row::Number("I/O Port Descriptor", 1),
-    Row::Number("Information", 1),
-    Row::Number("Range Minimum Base Address", 2),
-    Row::Number("Range Maximum Base Address", 2),
+    Row::Preset("I/O Port Descriptor", 1, 0x47),
+    Row::Flags(
+        "Information",
+        1,
+        &[Bits::OneOf(0x1, &[Word(0x0, "Decode 10"), Word(0x1, "Decode 16")])],
+    ),
+    Row::Hex("Range Minimum Base Address", 2),
+    Row::Hex("Range Maximum Base Address", 2),
     Row::Number("Base Alignment", 1),
     Row::Number("Range Length", 1),
 ];
 
-/// The names and widths of the fields of a descriptor of a range of ports, in order.
+/// The rows of the fields of a descriptor of a range of ports, in order.
 pub fn io_rows() -> &'static [Row]
     ensures { (min max alignment size : ℕ) → AreRowsOf result.now (port_fields min max alignment size) }
 {
@@ -161,14 +169,34 @@ impl Descriptor<InterruptKind, 9> {
 }
 
 const INTERRUPT: [Row; 5] = [
-    Row::Number("Extended Interrupt Descriptor", 1),
-    Row::Number("Length", 2),
-    Row::Number("Interrupt Vector Flags", 1),
-    Row::Number("Interrupt Table Length", 1),
+    Row::Preset("Extended Interrupt Descriptor", 1, 0x89),
+    Row::Preset("Length", 2, 6),
+    Row::Flags(
+        "Interrupt Vector Flags",
+        1,
+        &[
+            Bits::OneOf(0x1, &[Word(0x0, "Producer"), Word(0x1, "Consumer")]),
+            Bits::OneOf(
+                0x2,
+                &[Word(0x0, "Level Triggered"), Word(0x2, "Edge Triggered")],
+            ),
+            Bits::OneOf(0x4, &[Word(0x0, "Active High"), Word(0x4, "Active Low")]),
+            Bits::OneOf(
+                0x18,
+                &[
+                    Word(0x0, "Exclusive"),
+                    Word(0x8, "Shared"),
+                    Word(0x10, "Exclusive and Wake"),
+                    Word(0x18, "Shared and Wake"),
+                ],
+            ),
+        ],
+    ),
+    Row::Preset("Interrupt Table Length", 1, 1),
     Row::Number("Interrupt Number", 4),
 ];
 
-/// The names and widths of the fields of a descriptor of an interrupt, in order.
+/// The rows of the fields of a descriptor of an interrupt, in order.
 pub fn interrupt_rows() -> &'static [Row]
     ensures { (flags number : ℕ) → AreRowsOf result.now (interrupt_fields flags number) }
 {
@@ -202,16 +230,16 @@ impl Descriptor<RegisterKind, 15> {
 }
 
 const REGISTER: [Row; 7] = [
-    Row::Number("Generic Register Descriptor", 1),
-    Row::Number("Length", 2),
-    Row::Number("Address Space ID", 1),
+    Row::Preset("Generic Register Descriptor", 1, 0x82),
+    Row::Preset("Length", 2, 12),
+    Row::OneOf("Address Space ID", 1, &ADDRESS_SPACES),
     Row::Number("Register Bit Width", 1),
     Row::Number("Register Bit Offset", 1),
-    Row::Number("Access Size", 1),
-    Row::Number("Register Address", 8),
+    Row::OneOf("Access Size", 1, &ACCESS_SIZES),
+    Row::Hex("Register Address", 8),
 ];
 
-/// The names and widths of the fields of a descriptor of a register, in order.
+/// The rows of the fields of a descriptor of a register, in order.
 pub fn register_rows() -> &'static [Row]
     ensures { (gas : GAS) → AreRowsOf result.now (register_fields gas) }
 {

@@ -368,7 +368,7 @@ pub mod srat {
 
 /// The texts of tables, with a line for each field, and of definition blocks; tables that are made of texts.
 pub mod text {
-    pub use acpi_base::row::{Row, Word};
+    pub use acpi_base::row::{Bits, Look, Row, Word};
     pub use acpi_base::walk::{Place, Sizes, Walk};
     pub use acpi_forms::make::{make, template};
     pub use acpi_forms::show::{show, show_facs, show_rsdp};

@@ -20,7 +20,8 @@ use Rattle.acpi_text.specs.declared.form.TableForm.{TableForm}
 use Rattle.acpi_text.specs.Form.{number_at, parts_slots}
 use Rattle.acpi_text.specs.Label.{label}
 use Rattle.acpi_text.specs.Line.{line, title}
-use Rattle.acpi_text.specs.Note.{Note, plain}
+use Rattle.acpi_base.specs.Look.{Look}
+use Rattle.acpi_base.specs.Look as looks
 use Rattle.acpi_text.specs.Piece.{piece_and, pieces_up_to, pieces_text, parts_and_pieces}
 use Rattle.acpi_text.specs.Size.{front_size}
 use Rattle.acpi_text.specs.Slot.{Slot, heading, field, upto, unknown, nameless, nameless_lines, field_text, slots_text}
@@ -36,8 +37,8 @@ pub record Composes (R : List ℕ → List ℕ → Type 0) : Type 0 where
   pub append : (a b x y : List ℕ) → R a x → R b y → R (a ++ b) (x ++ y)
   pub empty : (text : List ℕ) → Quiet text → R (text ++ 10 ∷ []) []
   pub titles : (depth offset : ℕ) (name : List ℕ) → offset < 2 ^ 64 → R (title depth offset name) []
-  pub lines : (depth offset : ℕ) (name : List ℕ) (note : Note) (w n : ℕ) (bytes : List ℕ) → offset < 2 ^ 64 → AreBytes bytes
-      → length bytes ≡ w * n → R (line depth offset name note w n bytes) bytes
+  pub lines : (depth offset : ℕ) (name : List ℕ) (look : Look) (w n : ℕ) (bytes : List ℕ) → offset < 2 ^ 64 → AreBytes bytes
+      → length bytes ≡ w * n → R (line depth offset name look w n bytes) bytes
 
 -- ---- the line of a structure
 
@@ -92,7 +93,7 @@ module _ (R : List ℕ → List ℕ → Type 0) (r : Composes R) where
       let some : 0 < length bytes = omega (arith, count) in
       let front = take 16 bytes in
       parts_by _ 16 bytes (r.append _ _ front (drop 16 bytes)
-      (r.lines 0 at (codes "Bytes") plain 1 (length front) front (let s = small some in omega (arith, s)) (bytes_take 16 bytes are) (omega arith))
+      (r.lines 0 at (codes "Bytes") looks.bytes 1 (length front) front (let s = small some in omega (arith, s)) (bytes_take 16 bytes are) (omega arith))
       (nameless_by k (at + 16) (drop 16 bytes) (bytes_drop 16 bytes are)
       (λ more. let s = small some in omega (arith, s, more, length-drop 16 bytes))
       (omega (arith, count, length-drop 16 bytes))))
@@ -102,11 +103,11 @@ module _ (R : List ℕ → List ℕ → Type 0) (r : Composes R) where
 
   -- ---- bytes with names
 
-  field_by : (after : ℕ → List ℕ → List ℕ) (at depth : ℕ) (name : List ℕ) (note : Note) (w n : ℕ) (bytes : List ℕ) → AreBytes bytes
+  field_by : (after : ℕ → List ℕ → List ℕ) (at depth : ℕ) (name : List ℕ) (look : Look) (w n : ℕ) (bytes : List ℕ) → AreBytes bytes
       → at + length bytes < 2 ^ 64
       → ((k : ℕ) (rest : List ℕ) → AreBytes rest → k + length rest < 2 ^ 64 → R (after k rest) rest)
-      → R (field_text after at depth name note w n bytes) bytes
-  field_by after at depth name note w n bytes are small others =
+      → R (field_text after at depth name look w n bytes) bytes
+  field_by after at depth name look w n bytes are small others =
       chosen_by (length bytes == 0) [] _ bytes
       (λ none. none_by bytes (eqb-true (length bytes) 0 none))
       (λ some. chosen_by (nat_lt (length bytes) (w * n)) _ _ bytes
@@ -115,7 +116,7 @@ module _ (R : List ℕ → List ℕ → Type 0) (r : Composes R) where
       let size = w * n in
       let fits : size ≤ length bytes = ltb-false (length bytes) size long in
       parts_by _ size bytes (r.append _ _ (take size bytes) (drop size bytes)
-      (r.lines depth at name note w n (take size bytes) (omega (arith, small)) (bytes_take size bytes are) (length-take-le size bytes fits))
+      (r.lines depth at name look w n (take size bytes) (omega (arith, small)) (bytes_take size bytes are) (length-take-le size bytes fits))
       (others (at + size) (drop size bytes) (bytes_drop size bytes are) (omega (arith, small, fits, length-drop size bytes))))))
 
   pub slots_by : (at : ℕ) (slots : List Slot) (bytes : List ℕ) → AreBytes bytes → at + length bytes < 2 ^ 64
@@ -127,12 +128,12 @@ module _ (R : List ℕ → List ℕ → Type 0) (r : Composes R) where
       (λ none. none_by bytes (eqb-true (length bytes) 0 none))
       (λ some. r.append (title depth at name) (slots_text at slots bytes) [] bytes
       (r.titles depth at name (omega (arith, small))) (slots_by at slots bytes are small))
-  slots_by at (field depth name note w n ∷ slots) bytes are small =
-      field_by (λ k rest. slots_text k slots rest) at depth name note w n bytes are small (λ k rest each fits. slots_by k slots rest each fits)
+  slots_by at (field depth name look w n ∷ slots) bytes are small =
+      field_by (λ k rest. slots_text k slots rest) at depth name look w n bytes are small (λ k rest each fits. slots_by k slots rest each fits)
   slots_by at (upto depth name end ∷ slots) bytes are small =
       chosen_by (nat_le end at) _ _ bytes
       (λ before. slots_by at slots bytes are small)
-      (λ after. field_by (λ k rest. slots_text k slots rest) at depth name plain 1 (end - at) bytes are small
+      (λ after. field_by (λ k rest. slots_text k slots rest) at depth name looks.text 1 (end - at) bytes are small
       (λ k rest each fits. slots_by k slots rest each fits))
 
   -- ---- structures

@@ -2,6 +2,7 @@ pub mod Numbers
 pub mod Digits
 pub mod Offsets
 pub mod Printed
+pub mod Trims
 pub mod Meanings
 pub mod Reading
 pub mod Lines

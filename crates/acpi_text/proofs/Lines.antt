@@ -7,7 +7,8 @@ use Rattle.acpi_text.specs.Hex.{numbers_text}
 use Rattle.acpi_text.specs.Laws.{LinesHaveFields, TitlesAreEmpty}
 use Rattle.acpi_text.specs.Label.{label}
 use Rattle.acpi_text.specs.Line.{spaces, margin}
-use Rattle.acpi_text.specs.Note.{Note, meaning}
+use Rattle.acpi_base.specs.Look.{Look}
+use Rattle.acpi_text.specs.Note.{meaning}
 use Rattle.acpi_text.specs.Reading.{Has, at_start, in_name, in_comment, read}
 use Rattle.acpi_text.proofs.Meanings.{meaning_by}
 use Rattle.acpi_text.proofs.Printed.{Plain, Quiet, quiet_append, quiet_is_plain, plain_is_one_line, ends_no_line, quiet_label, quiet_decimal}
@@ -65,8 +66,8 @@ EndsNumbers text = (more : List ℕ) → Ends (text ++ (10 ∷ more)) (read at_s
 comment_ends : (said : List ℕ) → Plain said → EndsNumbers (codes "  // " ++ said)
 comment_ends said plain more number = ap (λ (l : List ℕ). number ++ l) (comment_read said (10 ∷ more) (plain_is_one_line said plain))
 
-pub meaning_ends : (note : Note) (w n : ℕ) (field : List ℕ) → AreBytes field → length field ≡ w * n
-    → EndsNumbers (meaning note w n field)
+pub meaning_ends : (look : Look) (w n : ℕ) (field : List ℕ) → AreBytes field → length field ≡ w * n
+    → EndsNumbers (meaning look w n field)
 meaning_ends = meaning_by EndsNumbers (λ more number. refl) comment_ends
 
 -- ---- whole lines
@@ -79,21 +80,21 @@ title_has depth offset name small = record {
 }
 
 pub line_has : LinesHaveFields
-line_has depth offset name note w n field small are size =
+line_has depth offset name look w n field small are size =
     let front = margin depth offset name in
     let blank = spaces (40 - length front) in
-    let after = meaning note w n field ++ 10 ∷ [] in
+    let after = meaning look w n field ++ 10 ∷ [] in
     let numbers = numbers_text w n field in
     record {
       reads = λ more.
-          let rest = numbers ++ (meaning note w n field ++ (10 ∷ more)) in
+          let rest = numbers ++ (meaning look w n field ++ (10 ∷ more)) in
           ap (read at_start) (
           append_assoc (front ++ blank) (58 ∷ (numbers ++ after)) more
           ∙ append_assoc front blank (58 ∷ ((numbers ++ after) ++ more))
           ∙ ap (λ (l : List ℕ). front ++ (blank ++ (58 ∷ l))) (
           append_assoc numbers after more
-          ∙ ap (λ (l : List ℕ). numbers ++ l) (append_assoc (meaning note w n field) (10 ∷ []) more)))
+          ∙ ap (λ (l : List ℕ). numbers ++ l) (append_assoc (meaning look w n field) (10 ∷ []) more)))
           ∙ margin_read depth offset name (blank ++ (58 ∷ rest)) small
           ∙ name_read blank (58 ∷ rest) (quiet_spaces (40 - length front))
-          ∙ numbers_read w n field (meaning note w n field ++ (10 ∷ more)) (read at_start more) are size (meaning_ends note w n field are size more) [];
+          ∙ numbers_read w n field (meaning look w n field ++ (10 ∷ more)) (read at_start more) are size (meaning_ends look w n field are size more) [];
     }

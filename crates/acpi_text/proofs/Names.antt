@@ -28,7 +28,9 @@ use Rattle.acpi_text.specs.Line.{spaces, margin, padded, line, title}
 use Rattle.acpi_text.specs.Names.{OneLine, WholeLines, Named, Names, Wanted, sized, until, unnamed, row_fields, rows_fields, times, choice_fields, part_fields}
 use Rattle.acpi_text.specs.Names.{field_and, fields_of, parts_fields, structure_and, structures_up_to, fields_and_structures, content_fields, structure_fields}
 use Rattle.acpi_text.specs.Names.{table_fields, LinesHaveNames, TextsHaveNames}
-use Rattle.acpi_text.specs.Note.{Note, plain, meaning}
+use Rattle.acpi_base.specs.Look.{Look}
+use Rattle.acpi_base.specs.Look as looks
+use Rattle.acpi_text.specs.Note.{meaning}
 use Rattle.acpi_text.specs.Piece.{piece_and, pieces_up_to, parts_and_pieces}
 use Rattle.acpi_text.specs.Reading.{at_start, in_number, read}
 use Rattle.acpi_text.specs.Size.{front_size}
@@ -65,14 +67,14 @@ numbers_line w (suc n) bytes are = (
 comment_line : (said : List ℕ) → Plain said → OneLine (codes "  // " ++ said)
 comment_line said prints = (refl, (refl, (refl, (refl, (refl, plain_is_one_line said prints)))))
 
-meaning_line : (note : Note) (w n : ℕ) (bytes : List ℕ) → AreBytes bytes → length bytes ≡ w * n → OneLine (meaning note w n bytes)
+meaning_line : (look : Look) (w n : ℕ) (bytes : List ℕ) → AreBytes bytes → length bytes ≡ w * n → OneLine (meaning look w n bytes)
 meaning_line = meaning_by OneLine tt comment_line
 
 pub line_named : LinesHaveNames
-line_named depth offset name note w n bytes are size =
+line_named depth offset name look w n bytes are size =
     let blank = 40 - length (margin depth offset name) in
     let numbers = numbers_text w n bytes in
-    let means = meaning note w n bytes in
+    let means = meaning look w n bytes in
     let rest = 58 ∷ (numbers ++ (means ++ 10 ∷ [])) in
     let dec = decimal offset in
     let named = label name in
@@ -87,10 +89,10 @@ line_named depth offset name note w n bytes are size =
           ∙ ap (λ (l : List ℕ). spaces (2 * depth + 2) ++ (dec ++ (32 ∷ (named ++ (spaces blank ++ (58 ∷ l)))))) (sym (append_assoc numbers means (10 ∷ [])))
           ∙ ap (λ (l : List ℕ). l ++ (dec ++ (32 ∷ (named ++ (spaces blank ++ (58 ∷ ((numbers ++ means) ++ 10 ∷ []))))))) (spaces_are (2 * depth + 2))
           ∙ ap (λ (l : List ℕ). replicate (2 * depth + 2) 32 ++ (dec ++ (32 ∷ (named ++ (l ++ (58 ∷ ((numbers ++ means) ++ 10 ∷ []))))))) (spaces_are blank);
-      ends = one_line_append numbers means (numbers_line w n bytes are) (meaning_line note w n bytes are size);
+      ends = one_line_append numbers means (numbers_line w n bytes are) (meaning_line look w n bytes are size);
       reads = λ more.
           ap (read (in_number [])) (append_assoc numbers means (10 ∷ more))
-          ∙ numbers_read w n bytes (means ++ (10 ∷ more)) (read at_start more) are size (meaning_ends note w n bytes are size more) [];
+          ∙ numbers_read w n bytes (means ++ (10 ∷ more)) (read at_start more) are size (meaning_ends look w n bytes are size more) [];
     }
 
 -- ---- whole lines
@@ -108,11 +110,11 @@ whole_append a (c ∷ b) one two = whole_after a (c ∷ b) two (omega arith)
 ended : (text : List ℕ) → WholeLines (text ++ 10 ∷ [])
 ended text = whole_after text (10 ∷ []) refl (omega arith)
 
-line_whole : (depth offset : ℕ) (name : List ℕ) (note : Note) (w n : ℕ) (bytes : List ℕ) → WholeLines (line depth offset name note w n bytes)
-line_whole depth offset name note w n bytes =
+line_whole : (depth offset : ℕ) (name : List ℕ) (look : Look) (w n : ℕ) (bytes : List ℕ) → WholeLines (line depth offset name look w n bytes)
+line_whole depth offset name look w n bytes =
     let front = padded 40 (margin depth offset name) in
     let numbers = numbers_text w n bytes in
-    let means = meaning note w n bytes in
+    let means = meaning look w n bytes in
     subst WholeLines
     (append_assoc front (58 ∷ (numbers ++ means)) (10 ∷ []) ∙ ap (λ (l : List ℕ). front ++ (58 ∷ l)) (append_assoc numbers means (10 ∷ [])))
     (ended (front ++ (58 ∷ (numbers ++ means))))
@@ -120,8 +122,8 @@ line_whole depth offset name note w n bytes =
 nameless_whole : (k at : ℕ) (bytes : List ℕ) → WholeLines (nameless_lines k at bytes)
 nameless_whole zero at bytes = tt
 nameless_whole (suc k) at bytes =
-    whole_append (line 0 at (codes "Bytes") plain 1 (length (take 16 bytes)) (take 16 bytes)) (nameless_lines k (at + 16) (drop 16 bytes))
-    (line_whole 0 at (codes "Bytes") plain 1 (length (take 16 bytes)) (take 16 bytes)) (nameless_whole k (at + 16) (drop 16 bytes))
+    whole_append (line 0 at (codes "Bytes") looks.bytes 1 (length (take 16 bytes)) (take 16 bytes)) (nameless_lines k (at + 16) (drop 16 bytes))
+    (line_whole 0 at (codes "Bytes") looks.bytes 1 (length (take 16 bytes)) (take 16 bytes)) (nameless_whole k (at + 16) (drop 16 bytes))
 
 -- ---- lines one after another
 
@@ -155,7 +157,7 @@ names_append (f ∷ fields) more a b (before, named, after, is, start, has, othe
 abbrev want : List Slot → List Wanted
 want [] = []
 want (heading depth name ∷ slots) = want slots
-want (field depth name note w n ∷ slots) = sized name (w * n) ∷ want slots
+want (field depth name look w n ∷ slots) = sized name (w * n) ∷ want slots
 want (upto depth name end ∷ slots) = until name end ∷ want slots
 want (unknown ∷ slots) = unnamed ∷ want slots
 
@@ -171,10 +173,10 @@ no_fields at (unnamed ∷ wanted) = refl
 
 module _ (fields : ℕ → List ℕ → List Named) (after : ℕ → List ℕ → List ℕ)
     (others : (k : ℕ) (rest : List ℕ) → AreBytes rest → Names (fields k rest) (after k rest)) where
-  field_named : (at depth : ℕ) (name : List ℕ) (note : Note) (w n : ℕ) (bytes : List ℕ) → AreBytes bytes
-      → Names (field_and fields at name (w * n) bytes) (field_text after at depth name note w n bytes)
-  field_named at depth name note w n [] are = tt
-  field_named at depth name note w n (b ∷ bytes) are =
+  field_named : (at depth : ℕ) (name : List ℕ) (look : Look) (w n : ℕ) (bytes : List ℕ) → AreBytes bytes
+      → Names (field_and fields at name (w * n) bytes) (field_text after at depth name look w n bytes)
+  field_named at depth name look w n [] are = tt
+  field_named at depth name look w n (b ∷ bytes) are =
       subst (λ none. Names (cond none [] (cond (nat_lt (length whole) (w * n)) [] named)) (cond none [] (cond (nat_lt (length whole) (w * n)) (nameless at whole) shown)))
       (sym (some_bytes whole (omega arith))) (chosen (nat_lt (length (b ∷ bytes)) (w * n)) refl)
     where
@@ -185,18 +187,18 @@ module _ (fields : ℕ → List ℕ → List Named) (after : ℕ → List ℕ �
       named = record { offset = at; name = name; bytes = take (w * n) whole } ∷ fields (at + w * n) (drop (w * n) whole)
 
       shown : List ℕ
-      shown = line depth at name note w n (take (w * n) whole) ++ after (at + w * n) (drop (w * n) whole)
+      shown = line depth at name look w n (take (w * n) whole) ++ after (at + w * n) (drop (w * n) whole)
 
       chosen : (short : Bool) → nat_lt (length (b ∷ bytes)) (w * n) ≡ short
           → Names (cond short [] named) (cond short (nameless at whole) shown)
       chosen true is = nameless_whole _ at whole
       chosen false is = (
         [],
-        line depth at name note w n (take (w * n) whole),
+        line depth at name look w n (take (w * n) whole),
         after (at + w * n) (drop (w * n) whole),
         refl,
         tt,
-        line_named depth at name note w n (take (w * n) whole) (bytes_take (w * n) whole are) (length-take-le (w * n) whole (ltb-false _ _ is)),
+        line_named depth at name look w n (take (w * n) whole) (bytes_take (w * n) whole are) (length-take-le (w * n) whole (ltb-false _ _ is)),
         others (at + w * n) (drop (w * n) whole) (bytes_drop (w * n) whole are),
       )
 
@@ -214,24 +216,24 @@ slots_named at (heading depth name ∷ slots) (b ∷ bytes) are =
     (sym (some_bytes (b ∷ bytes) (omega arith)))
     (names_after (fields_of at (want slots) (b ∷ bytes)) (title depth at name) (slots_text at slots (b ∷ bytes))
     (ended (margin depth at name)) (slots_named at slots (b ∷ bytes) are))
-slots_named at (field depth name note w n ∷ slots) bytes are =
+slots_named at (field depth name look w n ∷ slots) bytes are =
     field_named (λ k rest. fields_of k (want slots) rest) (λ k rest. slots_text k slots rest) (λ k rest fits. slots_named k slots rest fits)
-    at depth name note w n bytes are
+    at depth name look w n bytes are
 slots_named at (upto depth name end ∷ slots) bytes are =
     either_named (nat_le end at) (fields_of at (want slots) bytes) (field_and (λ k rest. fields_of k (want slots) rest) at name (end - at) bytes)
-    (slots_text at slots bytes) (field_text (λ k rest. slots_text k slots rest) at depth name plain 1 (end - at) bytes)
+    (slots_text at slots bytes) (field_text (λ k rest. slots_text k slots rest) at depth name looks.text 1 (end - at) bytes)
     (slots_named at slots bytes are)
-    (subst (λ size. Names (field_and (λ k rest. fields_of k (want slots) rest) at name size bytes) (field_text (λ k rest. slots_text k slots rest) at depth name plain 1 (end - at) bytes))
+    (subst (λ size. Names (field_and (λ k rest. fields_of k (want slots) rest) at name size bytes) (field_text (λ k rest. slots_text k slots rest) at depth name looks.text 1 (end - at) bytes))
     (let e : 1 * (end - at) ≡ end - at = omega arith in e)
     (field_named (λ k rest. fields_of k (want slots) rest) (λ k rest. slots_text k slots rest) (λ k rest fits. slots_named k slots rest fits)
-    at depth name plain 1 (end - at) bytes are))
+    at depth name looks.text 1 (end - at) bytes are))
 
 -- ---- forms
 
 want_append : (a b : List Slot) → want (a ++ b) ≡ want a ++ want b
 want_append [] b = refl
 want_append (heading depth name ∷ a) b = want_append a b
-want_append (field depth name note w n ∷ a) b = ap (λ l. sized name (w * n) ∷ l) (want_append a b)
+want_append (field depth name look w n ∷ a) b = ap (λ l. sized name (w * n) ∷ l) (want_append a b)
 want_append (upto depth name end ∷ a) b = ap (λ l. until name end ∷ l) (want_append a b)
 want_append (unknown ∷ a) b = ap (λ l. unnamed ∷ l) (want_append a b)
 
@@ -255,9 +257,14 @@ some_bytes_of name n = ap (λ k. sized name k ∷ []) (let e : 1 * n ≡ n = ome
 
 row_wanted : (depth : ℕ) (row : Row) → want (row_slots depth row) ≡ row_fields row
 row_wanted depth (rows.Number name w) = one_number name.now w
-row_wanted depth (rows.Flags name w words) = one_number name.now w
+row_wanted depth (rows.Hex name w) = one_number name.now w
+row_wanted depth (rows.Preset name w value) = one_number name.now w
+row_wanted depth (rows.Reference name w) = one_number name.now w
+row_wanted depth (rows.Flags name w bits) = one_number name.now w
 row_wanted depth (rows.OneOf name w words) = one_number name.now w
 row_wanted depth (rows.Bytes name n) = some_bytes_of name.now n
+row_wanted depth (rows.Text name n) = some_bytes_of name.now n
+row_wanted depth (rows.Uuid name) = refl
 row_wanted depth (rows.Register name) = refl
 row_wanted depth (rows.Reserved n) = some_bytes_of (codes "Reserved") n
 
@@ -280,9 +287,9 @@ part_wanted depth start whole (parts.Group name list) = rows_wanted (depth + 1) 
 part_wanted depth start whole (parts.Entries name count list) =
     repeated_wanted (count_of count whole) (group_slots depth name.now list.now) (rows_fields list.now) (rows_wanted (depth + 1) list.now)
 part_wanted depth start whole (parts.Numbers name w count) =
-    repeated_wanted (count_of count whole) (field depth name.now plain w 1 ∷ []) (sized name.now w ∷ []) (one_number name.now w)
+    repeated_wanted (count_of count whole) (field depth name.now looks.number w 1 ∷ []) (sized name.now w ∷ []) (one_number name.now w)
 part_wanted depth start whole (parts.Matrix name w list columns) =
-    matrix_wanted (number_at columns whole == 0) (number_at list whole) (field depth name.now plain w (number_at columns whole) ∷ [])
+    matrix_wanted (number_at columns whole == 0) (number_at list whole) (field depth name.now looks.number w (number_at columns whole) ∷ [])
     (sized name.now (w * number_at columns whole) ∷ []) refl
 part_wanted depth start whole (parts.Bytes name count) = some_bytes_of name.now (number_at count whole)
 part_wanted depth start whole (parts.Until name end) = refl

@@ -7,7 +7,8 @@ use Rattle.std.proofs.lemmas.Grind.{flat_map-append}
 use Rattle.std.proofs.lemmas.Bool.{ne_eqb, lt-ltb, le-ltb, le-leb, lt-leb, cases_lt}
 use Rattle.acpi_text.specs.Form.{repeated}
 use Rattle.acpi_text.specs.Line.{line, title}
-use Rattle.acpi_text.specs.Note.{Note, plain}
+use Rattle.acpi_base.specs.Look.{Look}
+use Rattle.acpi_base.specs.Look as looks
 use Rattle.acpi_text.specs.Slot.{Slot, heading, field, upto, unknown, nameless, slots_text, Showed}
 
 -- what a slice from an index on has
@@ -24,7 +25,7 @@ pub none_shown : (at : ℕ) (slots : List Slot) → slots_text at slots [] ≡ [
 none_shown at [] = refl
 none_shown at (unknown ∷ slots) = refl
 none_shown at (heading depth name ∷ slots) = refl
-none_shown at (field depth name note w n ∷ slots) = refl
+none_shown at (field depth name look w n ∷ slots) = refl
 none_shown at (upto depth name end ∷ slots) = none_chosen (nat_le end at) (slots_text at slots []) (none_shown at slots)
 
 nothing_left : (at k : ℕ) (slots others : List Slot) (bytes rest : List ℕ) → length bytes ≡ 0 → length rest ≡ 0
@@ -41,18 +42,18 @@ heading_shown : (at depth : ℕ) (name bytes : List ℕ) (slots : List Slot) →
 heading_shown at depth name bytes slots some =
     ap (λ b. cond b [] (title depth at name ++ slots_text at slots bytes)) (some_bytes bytes some)
 
-field_shown : (at depth : ℕ) (name : List ℕ) (note : Note) (w n : ℕ) (bytes : List ℕ) (slots : List Slot) → 0 < length bytes → w * n ≤ length bytes
-    → slots_text at (field depth name note w n ∷ slots) bytes
-    ≡ line depth at name note w n (take (w * n) bytes) ++ slots_text (at + w * n) slots (drop (w * n) bytes)
-field_shown at depth name note w n bytes slots some fits =
-    let whole = line depth at name note w n (take (w * n) bytes) ++ slots_text (at + w * n) slots (drop (w * n) bytes) in
+field_shown : (at depth : ℕ) (name : List ℕ) (look : Look) (w n : ℕ) (bytes : List ℕ) (slots : List Slot) → 0 < length bytes → w * n ≤ length bytes
+    → slots_text at (field depth name look w n ∷ slots) bytes
+    ≡ line depth at name look w n (take (w * n) bytes) ++ slots_text (at + w * n) slots (drop (w * n) bytes)
+field_shown at depth name look w n bytes slots some fits =
+    let whole = line depth at name look w n (take (w * n) bytes) ++ slots_text (at + w * n) slots (drop (w * n) bytes) in
     ap (λ b. cond b [] (cond (nat_lt (length bytes) (w * n)) (nameless at bytes) whole)) (some_bytes bytes some)
     ∙ ap (λ b. cond b (nameless at bytes) whole) (le-ltb (length bytes) (w * n) fits)
 
-short_shown : (at depth : ℕ) (name : List ℕ) (note : Note) (w n : ℕ) (bytes : List ℕ) (slots : List Slot) → 0 < length bytes → length bytes < w * n
-    → slots_text at (field depth name note w n ∷ slots) bytes ≡ nameless at bytes
-short_shown at depth name note w n bytes slots some short =
-    let whole = line depth at name note w n (take (w * n) bytes) ++ slots_text (at + w * n) slots (drop (w * n) bytes) in
+short_shown : (at depth : ℕ) (name : List ℕ) (look : Look) (w n : ℕ) (bytes : List ℕ) (slots : List Slot) → 0 < length bytes → length bytes < w * n
+    → slots_text at (field depth name look w n ∷ slots) bytes ≡ nameless at bytes
+short_shown at depth name look w n bytes slots some short =
+    let whole = line depth at name look w n (take (w * n) bytes) ++ slots_text (at + w * n) slots (drop (w * n) bytes) in
     ap (λ b. cond b [] (cond (nat_lt (length bytes) (w * n)) (nameless at bytes) whole)) (some_bytes bytes some)
     ∙ ap (λ b. cond b (nameless at bytes) whole) (lt-ltb (length bytes) (w * n) short)
 
@@ -75,27 +76,27 @@ showed_heading depth at name bytes old new some added = record {
       ∙ ap (λ k. new ++ slots_text k more bytes) (let e : at ≡ at + 0 = omega arith in e);
 }
 
-pub showed_field : (depth at : ℕ) (name : List ℕ) (note : Note) (w n size : ℕ) (bytes old new : List ℕ) → 0 < length bytes → size ≡ w * n
-    → size ≤ length bytes → new ≡ old ++ line depth at name note w n (take size bytes)
-    → Showed (field depth name note w n ∷ []) at bytes old new size
-showed_field depth at name note w n size bytes old new some is fits added = record {
+pub showed_field : (depth at : ℕ) (name : List ℕ) (look : Look) (w n size : ℕ) (bytes old new : List ℕ) → 0 < length bytes → size ≡ w * n
+    → size ≤ length bytes → new ≡ old ++ line depth at name look w n (take size bytes)
+    → Showed (field depth name look w n ∷ []) at bytes old new size
+showed_field depth at name look w n size bytes old new some is fits added = record {
   within = fits;
   lines = λ more.
-      let one = λ (k : ℕ). line depth at name note w n (take k bytes) in
-      ap (λ (l : List ℕ). old ++ l) (field_shown at depth name note w n bytes more some (omega (arith, is, fits)))
+      let one = λ (k : ℕ). line depth at name look w n (take k bytes) in
+      ap (λ (l : List ℕ). old ++ l) (field_shown at depth name look w n bytes more some (omega (arith, is, fits)))
       ∙ ap (λ k. old ++ (one k ++ slots_text (at + k) more (drop k bytes))) (sym is)
       ∙ sym (append_assoc old (one size) (slots_text (at + size) more (drop size bytes)))
       ∙ ap (λ (l : List ℕ). l ++ slots_text (at + size) more (drop size bytes)) (sym added);
 }
 
-pub showed_short : (depth at : ℕ) (name : List ℕ) (note : Note) (w n : ℕ) (bytes old new : List ℕ) → 0 < length bytes → length bytes < w * n
-    → new ≡ old ++ nameless at bytes → Showed (field depth name note w n ∷ []) at bytes old new (length bytes)
-showed_short depth at name note w n bytes old new some short added = record {
+pub showed_short : (depth at : ℕ) (name : List ℕ) (look : Look) (w n : ℕ) (bytes old new : List ℕ) → 0 < length bytes → length bytes < w * n
+    → new ≡ old ++ nameless at bytes → Showed (field depth name look w n ∷ []) at bytes old new (length bytes)
+showed_short depth at name look w n bytes old new some short added = record {
   within = omega arith;
   lines = λ more.
       let end = at + length bytes in
       let rest = drop (length bytes) bytes in
-      ap (λ (l : List ℕ). old ++ l) (short_shown at depth name note w n bytes more some short)
+      ap (λ (l : List ℕ). old ++ l) (short_shown at depth name look w n bytes more some short)
       ∙ sym added
       ∙ sym (append-nil new)
       ∙ ap (λ (l : List ℕ). new ++ l) (sym (ap (slots_text end more) (nil_from_length rest (omega (arith, length-drop (length bytes) bytes))) ∙ none_shown end more));
@@ -118,18 +119,18 @@ pub showed_nothing : (depth : ℕ) (name : List ℕ) (end at : ℕ) (bytes text 
 showed_nothing depth name end at bytes text before = record {
   within = omega arith;
   lines = λ more.
-      let field_lines = slots_text at (field depth name plain 1 (end - at) ∷ more) bytes in
+      let field_lines = slots_text at (field depth name looks.text 1 (end - at) ∷ more) bytes in
       ap (λ b. text ++ cond b (slots_text at more bytes) field_lines) (le-leb end at before)
       ∙ ap (λ k. text ++ slots_text k more bytes) (let e : at ≡ at + 0 = omega arith in e);
 }
 
 -- the bytes before the end were shown
 pub showed_upto : (depth : ℕ) (name : List ℕ) (end at : ℕ) (bytes old new : List ℕ) (n : ℕ) → at < end
-    → Showed (field depth name plain 1 (end - at) ∷ []) at bytes old new n → Showed (upto depth name end ∷ []) at bytes old new n
+    → Showed (field depth name looks.text 1 (end - at) ∷ []) at bytes old new n → Showed (upto depth name end ∷ []) at bytes old new n
 showed_upto depth name end at bytes old new n after one = record {
   within = one.within;
   lines = λ more.
-      let field_lines = slots_text at (field depth name plain 1 (end - at) ∷ more) bytes in
+      let field_lines = slots_text at (field depth name looks.text 1 (end - at) ∷ more) bytes in
       ap (λ b. old ++ cond b (slots_text at more bytes) field_lines) (lt-leb end at after)
       ∙ one.lines more;
 }

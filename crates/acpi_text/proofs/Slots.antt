@@ -4,14 +4,14 @@ use Rattle.std.proofs.Common.{List, ◌++◌, length, take, drop, codes, sym, ap
 use Rattle.std.proofs.lemmas.List.{length-drop, length-take-le, take_all, nil_from_length}
 use Rattle.std.proofs.lemmas.Bool.{lt-ltb, le-ltb, cases_lt}
 use Rattle.acpi_text.specs.Line.{line}
-use Rattle.acpi_text.specs.Note.{plain}
+use Rattle.acpi_base.specs.Look as looks
 use Rattle.acpi_text.specs.Slot.{nameless, nameless_lines}
 
 lines_left : (bytes : List ℕ) → 0 < length bytes → (length bytes + 15) / 16 ≡ suc ((length (drop 16 bytes) + 15) / 16)
 lines_left bytes some = omega (arith, length-drop 16 bytes)
 
 pub nameless_some : (at : ℕ) (bytes : List ℕ) → 0 < length bytes
-    → nameless at bytes ≡ line 0 at (codes "Bytes") plain 1 (length (take 16 bytes)) (take 16 bytes) ++ nameless (at + 16) (drop 16 bytes)
+    → nameless at bytes ≡ line 0 at (codes "Bytes") looks.bytes 1 (length (take 16 bytes)) (take 16 bytes) ++ nameless (at + 16) (drop 16 bytes)
 nameless_some at bytes some = ap (λ k. nameless_lines k at bytes) (lines_left bytes some)
 
 line_front : (rest : List ℕ) (k : ℕ) → length rest ≤ 16 → length rest ≤ k → take k rest ≡ take 16 rest
@@ -25,10 +25,10 @@ no_more at n k m rest one two =
 -- a line of sixteen bytes, or of those that are left, was written
 pub nameless_goes_on : (at size : ℕ) (rest front more old now new : List ℕ) → 0 < length rest
     → size ≡ cond (nat_lt (length rest) 16) (length rest) 16 → front ≡ take size rest → more ≡ drop size rest
-    → now ++ nameless at rest ≡ old → new ≡ now ++ line 0 at (codes "Bytes") plain 1 (length front) front
+    → now ++ nameless at rest ≡ old → new ≡ now ++ line 0 at (codes "Bytes") looks.bytes 1 (length front) front
     → new ++ nameless (at + length front) more ≡ old
 nameless_goes_on at size rest front more old now new some is one two before added =
-    let said = λ (f : List ℕ). line 0 at (codes "Bytes") plain 1 (length f) f in
+    let said = λ (f : List ℕ). line 0 at (codes "Bytes") looks.bytes 1 (length f) f in
     let by : (front ≡ take 16 rest) → (nameless (at + length front) more ≡ nameless (at + 16) (drop 16 rest)) → new ++ nameless (at + length front) more ≡ old =
     λ same others.
     ap (λ (l : List ℕ). new ++ l) others

@@ -1,7 +1,7 @@
 -- What structures consist of, as data, and the slots of their bytes.
 use Rattle.std.specs.Prelude.{ℕ, zero, suc, ◌+◌, ◌==◌, nat_le, if◌then◌else◌, List, [], ◌∷◌, ◌++◌, length}
 use Rattle.std.specs.List.{flat_map, slice_range}
-use Rattle.acpi_text.specs.Note.{plain}
+use Rattle.acpi_base.specs.Look as looks
 use Rattle.std.specs.Prelude.{Option, Some, None}
 use Rattle.acpi_base.specs.Walk.{end_of, number_in}
 use Rattle.acpi_base.specs.declared.walk.Place.{Place}
@@ -46,11 +46,11 @@ part_slots depth start whole (Fields rows) = flat_map (row_slots depth) rows.now
 part_slots depth start whole (Between rows from to) = flat_map (row_slots depth) (slice_range rows.now from to)
 part_slots depth start whole (Group name rows) = group_slots depth name.now rows.now
 part_slots depth start whole (Entries name count rows) = repeated (count_of count whole) (group_slots depth name.now rows.now)
-part_slots depth start whole (Numbers name w count) = repeated (count_of count whole) (field depth name.now plain w 1 ∷ [])
+part_slots depth start whole (Numbers name w count) = repeated (count_of count whole) (field depth name.now looks.number w 1 ∷ [])
 part_slots depth start whole (Matrix name w rows columns) =
     if number_at columns whole == 0 then []
-    else repeated (number_at rows whole) (field depth name.now plain w (number_at columns whole) ∷ [])
-part_slots depth start whole (Bytes name count) = field depth name.now plain 1 (number_at count whole) ∷ []
+    else repeated (number_at rows whole) (field depth name.now looks.number w (number_at columns whole) ∷ [])
+part_slots depth start whole (Bytes name count) = field depth name.now looks.text 1 (number_at count whole) ∷ []
 part_slots depth start whole (Until name end) = upto depth name.now (start + number_at end whole) ∷ []
 part_slots depth start whole (Chosen by choices) = choice_slots depth (find_choice (number_at by whole) choices.now)
 

@@ -3,7 +3,7 @@ use Rattle.std.specs.Prelude.{◌≡◌, ℕ, ◌+◌, ◌*◌, ◌^◌, ◌<◌
 use Rattle.acpi_base.specs.Bytes.{AreBytes}
 use Rattle.acpi_text.specs.Comment.{comment}
 use Rattle.acpi_text.specs.Line.{line, title}
-use Rattle.acpi_text.specs.Note.{Note}
+use Rattle.acpi_base.specs.Look.{Look}
 use Rattle.acpi_text.specs.Slot.{Slot, slots_text}
 use Rattle.acpi_text.specs.Reading.{Has, bytes_of}
 use Rattle.acpi_text.specs.Table.{table_text}
@@ -12,8 +12,8 @@ use Rattle.acpi_base.specs.declared.walk.Walk.{Walk}
 
 -- a field's line has the bytes of the field
 abbrev pub LinesHaveFields : Type 0
-LinesHaveFields = (depth offset : ℕ) (name : List ℕ) (note : Note) (w n : ℕ) (field : List ℕ)
-    → offset < 2 ^ 64 → AreBytes field → length field ≡ w * n → Has (line depth offset name note w n field) field
+LinesHaveFields = (depth offset : ℕ) (name : List ℕ) (look : Look) (w n : ℕ) (field : List ℕ)
+    → offset < 2 ^ 64 → AreBytes field → length field ≡ w * n → Has (line depth offset name look w n field) field
 
 -- a title has none
 abbrev pub TitlesAreEmpty : Type 0

@@ -2,10 +2,8 @@ pub mod Comment
 pub mod Hex
 pub mod Label
 pub mod Note
-pub mod Words
 pub mod Line
 pub mod Offset
-pub mod Register
 pub mod Slot
 pub mod Form
 pub mod Size

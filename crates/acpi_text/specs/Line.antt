@@ -3,7 +3,8 @@ use Rattle.std.specs.Prelude.{ℕ, zero, suc, ◌+◌, ◌-◌, ◌*◌, List, [
 use Rattle.std.specs.Fmt.{decimal}
 use Rattle.acpi_text.specs.Hex.{numbers_text}
 use Rattle.acpi_text.specs.Label.{label}
-use Rattle.acpi_text.specs.Note.{Note, meaning}
+use Rattle.acpi_base.specs.Look.{Look}
+use Rattle.acpi_text.specs.Note.{meaning}
 
 -- ---- columns
 
@@ -22,9 +23,9 @@ margin depth offset name = spaces (2 * depth + 2) ++ (decimal offset ++ 32 ∷ l
 -- ---- lines
 
 -- a field at an offset: its name, its n numbers of w bytes, and what they mean
-abbrev pub line : ℕ → ℕ → List ℕ → Note → ℕ → ℕ → List ℕ → List ℕ
-line depth offset name note w n field =
-    padded 40 (margin depth offset name) ++ (58 ∷ (numbers_text w n field ++ (meaning note w n field ++ 10 ∷ [])))
+abbrev pub line : ℕ → ℕ → List ℕ → Look → ℕ → ℕ → List ℕ → List ℕ
+line depth offset name look w n field =
+    padded 40 (margin depth offset name) ++ (58 ∷ (numbers_text w n field ++ (meaning look w n field ++ 10 ∷ [])))
 
 -- a name over the lines of a level
 abbrev pub title : ℕ → ℕ → List ℕ → List ℕ

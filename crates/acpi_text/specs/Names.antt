@@ -4,15 +4,16 @@ use Rattle.std.specs.Prelude.{List, [], ◌∷◌, ◌++◌, length, take, drop,
 use Rattle.std.specs.Fmt.{decimal}
 use Rattle.std.specs.List.{flat_map, slice_range}
 use Rattle.acpi_base.specs.Bytes.{AreBytes}
+use Rattle.acpi_base.specs.Fields.{row_name, row_width}
 use Rattle.acpi_base.specs.declared.row.Row.{Row}
-use Rattle.acpi_base.specs.declared.row.Row.TheVariants.{Number, Flags, OneOf, Bytes, Register, Reserved}
+use Rattle.acpi_base.specs.declared.row.Row.TheVariants as rows
 use Rattle.acpi_base.specs.declared.walk.Place.{Place}
 use Rattle.acpi_base.specs.declared.walk.Sizes.{Sizes}
 use Rattle.acpi_base.specs.declared.walk.Walk.{Walk}
 use Rattle.acpi_text.specs.Form.{number_at, count_of, find_choice}
 use Rattle.acpi_text.specs.Label.{label}
 use Rattle.acpi_text.specs.Line.{line}
-use Rattle.acpi_text.specs.Note.{Note}
+use Rattle.acpi_base.specs.Look.{Look}
 use Rattle.acpi_text.specs.Reading.{in_number, read, bytes_of}
 use Rattle.acpi_text.specs.Size.{front_size}
 use Rattle.acpi_text.specs.Structure.{find_form, form_parts, form_inner}
@@ -74,18 +75,14 @@ pub data Wanted : Type 0 where
 
 -- the fields of a row; a register has those of its address (ACPI 6.5, 5.2.3.2)
 abbrev pub row_fields : Row → List Wanted
-row_fields (Number name w) = sized name.now w ∷ []
-row_fields (Flags name w words) = sized name.now w ∷ []
-row_fields (OneOf name w words) = sized name.now w ∷ []
-row_fields (Bytes name n) = sized name.now n ∷ []
-row_fields (Register name) =
+row_fields (rows.Register name) =
     sized (codes "Address Space ID") 1
     ∷ sized (codes "Register Bit Width") 1
     ∷ sized (codes "Register Bit Offset") 1
     ∷ sized (codes "Access Size") 1
     ∷ sized (codes "Address") 8
     ∷ []
-row_fields (Reserved n) = sized (codes "Reserved") n ∷ []
+row_fields row = sized (row_name row) (row_width row) ∷ []
 
 abbrev pub rows_fields : List Row → List Wanted
 rows_fields rows = flat_map row_fields rows
@@ -183,9 +180,9 @@ AllStand table (one ∷ others) = Stands table one × AllStand table others
 
 -- A field's line has the field's offset, its name and its bytes.
 abbrev pub LinesHaveNames : Type 0
-LinesHaveNames = (depth offset : ℕ) (name : List ℕ) (note : Note) (w n : ℕ) (bytes : List ℕ)
+LinesHaveNames = (depth offset : ℕ) (name : List ℕ) (look : Look) (w n : ℕ) (bytes : List ℕ)
     → AreBytes bytes → length bytes ≡ w * n
-    → IsLineOf (record { offset = offset; name = name; bytes = bytes }) (line depth offset name note w n bytes)
+    → IsLineOf (record { offset = offset; name = name; bytes = bytes }) (line depth offset name look w n bytes)
 
 -- For any form, the text of a table has a line of each field of the form that the table has bytes for, in order.
 abbrev pub TextsHaveNames : Type 0

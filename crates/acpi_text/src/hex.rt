@@ -107,17 +107,24 @@ fn push_hex_byte(byte: u8, text: &mut String) -> Result<(), AllocError>
     Ok(())
 }
 
-// Adds a space and a number of any width, byte by byte.
-fn push_wide(bytes: &[u8], text: &mut String) -> Result<(), AllocError>
-    ensures { OnOk result (string_bytes text.new ≡ string_bytes text.old ++ 32 ∷ number_text bytes.now) }
+/// Adds the digits of a number, byte by byte.
+pub fn push_bytes(bytes: &[u8], text: &mut String) -> Result<(), AllocError>
+    ensures { OnOk result (string_bytes text.new ≡ string_bytes text.old ++ number_text bytes.now) }
 {
-    text.push_str(" ")?;
     let mut left = bytes.len();
     'digits: while left > 0 {
         left -= 1;
         push_hex_byte(bytes[left], text)?;
     }
     Ok(())
+}
+
+// Adds a space and a number of any width.
+fn push_wide(bytes: &[u8], text: &mut String) -> Result<(), AllocError>
+    ensures { OnOk result (string_bytes text.new ≡ string_bytes text.old ++ 32 ∷ number_text bytes.now) }
+{
+    text.push_str(" ")?;
+    push_bytes(bytes, text)
 }
 
 // Adds a space and a number of fewer than four bytes. The cases are apart from those of four bytes or more since two comparisons

@@ -4,7 +4,7 @@
 
 pub mod comment;
 pub mod form;
-mod hex;
+pub mod hex;
 mod inner;
 pub mod laws;
 mod line;

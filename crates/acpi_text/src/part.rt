@@ -3,14 +3,13 @@
 
 ghost use Rattle.std.specs.Prelude.{◌≡◌, ℕ, ◌+◌, ◌<◌, ◌≤◌, ◌^◌, [], ◌∷◌, ◌++◌, length, drop, OnOk, IfOk, string_bytes};
 ghost use Rattle.std.specs.List.{slice_range};
+ghost use Rattle.acpi_base.specs.Look as looks;
 ghost use Rattle.acpi_text.specs.Form.{number_at, count_of, repeated, group_slots, find_choice, choice_slots, part_slots, parts_slots};
-ghost use Rattle.acpi_text.specs.Note.{plain};
 ghost use Rattle.acpi_text.specs.Slot.{field, upto, slots_text, Showed};
 
 use crate::form::{Choice, Count, Part};
-use crate::note::Words;
 use crate::slot::{push_field, push_heading, push_nameless, push_rows};
-use acpi_base::row::Row;
+use acpi_base::row::{Look, Row};
 use acpi_base::walk::Place;
 use std::alloc::AllocError;
 
@@ -97,7 +96,7 @@ fn push_fields(
     text: &mut String,
 ) -> Result<usize, AllocError>
     requires { offset + length bytes.now < 2 ^ 64 }
-    ensures { IfOk result (λ n. Showed (repeated count (field depth name.now plain width columns ∷ []))
+    ensures { IfOk result (λ n. Showed (repeated count (field depth name.now looks.number width columns ∷ []))
         offset bytes.now (string_bytes text.old) (string_bytes text.new) n) }
 {
     let mut at = 0;
@@ -106,7 +105,7 @@ fn push_fields(
         at += push_field(
             depth,
             name,
-            Words::None,
+            Look::Number,
             width,
             columns,
             offset + at,
@@ -136,7 +135,7 @@ fn push_until(
     if end <= at {
         return Ok(0);
     }
-    push_field(depth, name, Words::None, 1, end - at, offset, bytes, text)
+    push_field(depth, name, Look::Text, 1, end - at, offset, bytes, text)
 }
 
 // Returns the choice with a number.
@@ -232,7 +231,7 @@ fn push_part(
         Part::Bytes(name, count) => push_field(
             depth,
             name,
-            Words::None,
+            Look::Text,
             1,
             number_at(count, whole),
             offset,

@@ -4,13 +4,13 @@
 ghost use Rattle.std.specs.Prelude.{◌≡◌, ℕ, ◌+◌, ◌*◌, ◌<◌, ◌≤◌, ◌^◌, ◌++◌, [], ◌∷◌, length, nat_lt, if◌then◌else◌};
 ghost use Rattle.std.specs.List.{flat_map};
 ghost use Rattle.std.specs.Prelude.{MatchOption, IfOk, OnOk, string_bytes};
+ghost use Rattle.acpi_base.specs.Look.{look_of};
 ghost use Rattle.acpi_text.specs.Slot.{field, heading, nameless, register_slots, row_slot, row_slots, Showed};
-ghost use Rattle.acpi_text.specs.Words.{note_of};
+ghost use Rattle.acpi_text.specs.Slot.{unit_width, unit_count};
 
 use crate::line::{push_line, push_title};
-use crate::note::Words;
 use acpi_base::gas::GENERIC_ADDRESS;
-use acpi_base::row::Row;
+use acpi_base::row::{Look, Row};
 use std::alloc::AllocError;
 
 // Returns how many bytes the next line without a name shows.
@@ -29,7 +29,7 @@ pub fn push_nameless(offset: usize, bytes: &[u8], text: &mut String) -> Result<(
     let mut rest = bytes;
     'lines: while !rest.is_empty() {
         let (front, more) = rest.split_at(line_size(rest.len()));
-        push_line(0, at, "Bytes", Words::None, 1, front.len(), front, text)?;
+        push_line(0, at, "Bytes", Look::Bytes, 1, front.len(), front, text)?;
         at += front.len();
         rest = more;
     }
@@ -67,7 +67,7 @@ fn size_within(width: usize, count: usize, left: usize) -> Option<usize>
 pub fn push_field(
     depth: u8,
     name: &str,
-    words: Words,
+    look: Look,
     width: usize,
     count: usize,
     offset: usize,
@@ -76,7 +76,7 @@ pub fn push_field(
 ) -> Result<usize, AllocError>
     requires { offset + length bytes.now < 2 ^ 64 }
     ensures { IfOk result
-        (λ n. Showed (field depth name.now (note_of words) width count ∷ []) offset bytes.now (string_bytes text.old) (string_bytes text.new) n) }
+        (λ n. Showed (field depth name.now (look_of look) width count ∷ []) offset bytes.now (string_bytes text.old) (string_bytes text.new) n) }
 {
     if bytes.is_empty() {
         return Ok(0);
@@ -87,7 +87,7 @@ pub fn push_field(
                 depth,
                 offset,
                 name,
-                words,
+                look,
                 width,
                 count,
                 &bytes[..size],
@@ -99,6 +99,24 @@ pub fn push_field(
             push_nameless(offset, bytes, text)?;
             Ok(bytes.len())
         }
+    }
+}
+
+// Returns the width of the numbers of a row, and how many there are.
+fn units(row: &Row) -> (usize, usize)
+    ensures width { result.0 ≡ unit_width row.now }
+    ensures count { result.1 ≡ unit_count row.now }
+{
+    match *row {
+        Row::Number(_, width)
+        | Row::Hex(_, width)
+        | Row::Preset(_, width, _)
+        | Row::Reference(_, width)
+        | Row::Flags(_, width, _)
+        | Row::OneOf(_, width, _) => (width, 1),
+        Row::Bytes(_, count) | Row::Text(_, count) | Row::Reserved(count) => (1, count),
+        Row::Uuid(_) => (1, 16),
+        Row::Register(_) => (1, 12),
     }
 }
 
@@ -115,15 +133,17 @@ fn push_row_field(
     ensures { IfOk result
         (λ n. Showed (row_slot depth row.now ∷ []) offset bytes.now (string_bytes text.old) (string_bytes text.new) n) }
 {
-    let (name, words, width, count) = match *row {
-        Row::Number(name, width) => (name, Words::None, width, 1),
-        Row::Flags(name, width, words) => (name, Words::Flags(words), width, 1),
-        Row::OneOf(name, width, words) => (name, Words::OneOf(words), width, 1),
-        Row::Bytes(name, count) => (name, Words::None, 1, count),
-        Row::Register(name) => (name, Words::None, 1, 12),
-        Row::Reserved(count) => ("Reserved", Words::None, 1, count),
-    };
-    push_field(depth, name, words, width, count, offset, bytes, text)
+    let (width, count) = units(row);
+    push_field(
+        depth,
+        row.name(),
+        row.look(),
+        width,
+        count,
+        offset,
+        bytes,
+        text,
+    )
 }
 
 // Adds the fields of rows, one after another, each in one line.
@@ -177,8 +197,7 @@ fn register_name(row: &Row) -> Option<&'static str>
 {
     match *row {
         Row::Register(name) => Some(name),
-        Row::Number(_, _) | Row::Flags(_, _, _) | Row::OneOf(_, _, _) => None,
-        Row::Bytes(_, _) | Row::Reserved(_) => None,
+        _ => None,
     }
 }
 

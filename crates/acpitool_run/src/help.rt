@@ -31,7 +31,7 @@ right. As TEXT, - is standard input, and as FILE, standard output. TEXT and FILE
 regular FILE is replaced as a whole by FILE.part, which may not be there before. A device, a pipe or a link
 stays what it is, and takes the bytes.
 
-template prints such a text of a table: all fields with zeros, and one structure of each kind.
+template prints such a text of a table: all fields, mostly with zeros, and one structure of each kind.
 
 The status is 0 if everything is shown or written, 1 if something isn't a table, an image or a text of a table,
 or output can't be written, and 2 if a file can't be read or the words are wrong.

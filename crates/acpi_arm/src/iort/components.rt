@@ -17,7 +17,7 @@ use crate::offsets::offset_if;
 use acpi_base::error::R;
 use acpi_base::object::Aml;
 use acpi_base::parts::write_parts;
-use acpi_base::row::{Record, Row, Word, record_of_numbers};
+use acpi_base::row::{Bits, Record, Row, Word, record_of_numbers};
 use acpi_base::sink::AmlSink;
 use acpi_core::entries::Entries;
 use acpi_core::told::told_size;
@@ -139,23 +139,33 @@ fn name_end(size: usize) -> usize
     4 - (size % 4 + 1) % 4
 }
 
+// The words of Cache Coherent Attribute.
+const COHERENT: [Word; 2] = [Word(0, "Not Coherent"), Word(1, "Fully Coherent")];
+
 /// The rows of a named component node before its name.
 pub const NAMED_COMPONENT: [Row; 12] = [
-    Row::Number("Type", 1),
+    Row::Preset("Type", 1, 1),
     Row::Number("Length", 2),
-    Row::Number("Revision", 1),
-    Row::Number("Identifier", 4),
+    Row::Preset("Revision", 1, 4),
+    Row::Hex("Identifier", 4),
     Row::Number("Number of ID Mappings", 4),
     Row::Number("Reference to ID Array", 4),
-    Row::Flags("Node Flags", 4, &[Word(1, "Stall Supported")]),
-    Row::Number("Cache Coherent Attribute", 4),
+    Row::Flags(
+        "Node Flags",
+        4,
+        &[
+            Bits::Flag(0x1, "Stall Supported"),
+            Bits::Number(0x3e, 0x2, "Substream Width"),
+        ],
+    ),
+    Row::OneOf("Cache Coherent Attribute", 4, &COHERENT),
     Row::Flags("Allocation Hints", 1, &HINTS),
     Row::Reserved(2),
     Row::Flags("Memory Access Flags", 1, &ACCESS_FLAGS),
     Row::Number("Device Memory Address Size Limit", 1),
 ];
 
-/// The names and widths of the fields before a component's name, in order.
+/// The rows of the fields before a component's name, in order.
 pub fn named_component_rows() -> &'static [Row]
     ensures { (c : NamedComponent) → AreRowsOf result.now (component_head_fields c) }
 {
@@ -297,13 +307,13 @@ impl RootComplex {
 
 /// The rows of a root complex node before its mappings.
 pub const ROOT_COMPLEX: [Row; 14] = [
-    Row::Number("Type", 1),
+    Row::Preset("Type", 1, 2),
     Row::Number("Length", 2),
-    Row::Number("Revision", 1),
-    Row::Number("Identifier", 4),
+    Row::Preset("Revision", 1, 3),
+    Row::Hex("Identifier", 4),
     Row::Number("Number of ID Mappings", 4),
     Row::Number("Reference to ID Array", 4),
-    Row::Number("Cache Coherent Attribute", 4),
+    Row::OneOf("Cache Coherent Attribute", 4, &COHERENT),
     Row::Flags("Allocation Hints", 1, &HINTS),
     Row::Reserved(2),
     Row::Flags("Memory Access Flags", 1, &ACCESS_FLAGS),
@@ -311,9 +321,9 @@ pub const ROOT_COMPLEX: [Row; 14] = [
         "ATS Attribute",
         4,
         &[
-            Word(1, "ATS Supported"),
-            Word(2, "PRI Supported"),
-            Word(4, "PASID Forwarding Supported"),
+            Bits::Flag(0x1, "ATS Supported"),
+            Bits::Flag(0x2, "PRI Supported"),
+            Bits::Flag(0x4, "PASID Forwarding Supported"),
         ],
     ),
     Row::Number("PCI Segment Number", 4),
@@ -321,7 +331,7 @@ pub const ROOT_COMPLEX: [Row; 14] = [
     Row::Reserved(3),
 ];
 
-/// The names and widths of the fields before a root complex's mappings, in order.
+/// The rows of the fields before a root complex's mappings, in order.
 pub fn root_complex_rows() -> &'static [Row]
     ensures { (c : RootComplex) → AreRowsOf result.now (root_complex_head_fields c) }
 {

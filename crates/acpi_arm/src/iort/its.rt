@@ -72,16 +72,16 @@ impl ItsGroup {
 
 /// The rows of an ITS group node before its ids.
 pub const ITS_GROUP: [Row; 7] = [
-    Row::Number("Type", 1),
+    Row::Preset("Type", 1, 0),
     Row::Number("Length", 2),
-    Row::Number("Revision", 1),
-    Row::Number("Identifier", 4),
-    Row::Number("Number of ID Mappings", 4),
-    Row::Number("Reference to ID Array", 4),
+    Row::Preset("Revision", 1, 1),
+    Row::Hex("Identifier", 4),
+    Row::Preset("Number of ID Mappings", 4, 0),
+    Row::Preset("Reference to ID Array", 4, 0),
     Row::Number("Number of ITSs", 4),
 ];
 
-/// The names and widths of the fields before a group's ids, in order.
+/// The rows of the fields before a group's ids, in order.
 pub fn its_group_rows() -> &'static [Row]
     ensures { (g : ItsGroup) → AreRowsOf result.now (its_group_head_fields g) }
 {

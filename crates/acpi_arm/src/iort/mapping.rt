@@ -7,7 +7,7 @@ ghost use Rattle.acpi_arm.specs.Iort.{output_offset, id_mapping, mapping_fields,
 use crate::iort::{ItsGroupHandle, SmmuHandle, SmmuV3Handle};
 use acpi_base::error::R;
 use acpi_base::object::Aml;
-use acpi_base::row::{Record, Row, Word, record_of_numbers, write_record};
+use acpi_base::row::{Bits, Record, Row, record_of_numbers, write_record};
 use acpi_base::sink::AmlSink;
 
 /// The node to which ids go.
@@ -70,11 +70,11 @@ impl IdMapping {
 
 /// The rows of an ID mapping.
 pub const ID_MAPPING: [Row; 5] = [
-    Row::Number("Input Base", 4),
+    Row::Hex("Input Base", 4),
     Row::Number("Number of IDs", 4),
-    Row::Number("Output Base", 4),
-    Row::Number("Output Reference", 4),
-    Row::Flags("Flags", 4, &[Word(1, "Single Mapping")]),
+    Row::Hex("Output Base", 4),
+    Row::Reference("Output Reference", 4),
+    Row::Flags("Flags", 4, &[Bits::Flag(0x1, "Single Mapping")]),
 ];
 
 impl Record<20> for IdMapping {
@@ -199,15 +199,15 @@ impl MemoryAccess {
 }
 
 /// The hints of a Memory Access Properties structure.
-pub(crate) const HINTS: [Word; 4] = [
-    Word(1, "Transient"),
-    Word(2, "Write Allocate"),
-    Word(4, "Read Allocate"),
-    Word(8, "Allocation Hints Override"),
+pub(crate) const HINTS: [Bits; 4] = [
+    Bits::Flag(0x1, "Transient"),
+    Bits::Flag(0x2, "Write Allocate"),
+    Bits::Flag(0x4, "Read Allocate"),
+    Bits::Flag(0x8, "Allocation Hints Override"),
 ];
 
 /// Its flags.
-pub(crate) const ACCESS_FLAGS: [Word; 2] = [
-    Word(1, "Coherent Path to Memory"),
-    Word(2, "Device Attributes Cacheable and Inner Shareable"),
+pub(crate) const ACCESS_FLAGS: [Bits; 2] = [
+    Bits::Flag(0x1, "Coherent Path to Memory"),
+    Bits::Flag(0x2, "Device Attributes Cacheable and Inner Shareable"),
 ];

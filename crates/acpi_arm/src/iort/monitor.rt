@@ -126,19 +126,19 @@ impl Pmcg {
 
 /// The rows of a PMCG node before its mapping.
 pub const PMCG: [Row; 10] = [
-    Row::Number("Type", 1),
+    Row::Preset("Type", 1, 5),
     Row::Number("Length", 2),
-    Row::Number("Revision", 1),
-    Row::Number("Identifier", 4),
+    Row::Preset("Revision", 1, 2),
+    Row::Hex("Identifier", 4),
     Row::Number("Number of ID Mappings", 4),
     Row::Number("Reference to ID Array", 4),
-    Row::Number("Page 0 Base Address", 8),
+    Row::Hex("Page 0 Base Address", 8),
     Row::Number("Overflow Interrupt GSIV", 4),
-    Row::Number("Node Reference", 4),
-    Row::Number("Page 1 Base Address", 8),
+    Row::Reference("Node Reference", 4),
+    Row::Hex("Page 1 Base Address", 8),
 ];
 
-/// The names and widths of the fields before a group's mapping, in order.
+/// The rows of the fields before a group's mapping, in order.
 pub fn pmcg_rows() -> &'static [Row]
     ensures { (p : Pmcg) → AreRowsOf result.now (pmcg_head_fields p) }
 {

@@ -16,7 +16,7 @@ use crate::offsets::offset_if;
 use acpi_base::error::R;
 use acpi_base::object::Aml;
 use acpi_base::parts::write_parts;
-use acpi_base::row::{Record, Row, Word, record_of_numbers, write_record};
+use acpi_base::row::{Bits, Record, Row, Word, record_of_numbers, write_record};
 use acpi_base::sink::AmlSink;
 use acpi_core::entries::Entries;
 use acpi_core::told::told_size;
@@ -61,7 +61,7 @@ impl MemoryRange {
 
 /// The rows of a Memory Range Descriptor.
 pub const MEMORY_RANGE: [Row; 3] = [
-    Row::Number("Physical Range Offset", 8),
+    Row::Hex("Physical Range Offset", 8),
     Row::Number("Physical Range Length", 8),
     Row::Reserved(4),
 ];
@@ -189,22 +189,39 @@ impl ReservedMemory {
 
 /// The rows of an RMR node before its ranges.
 pub const RESERVED_MEMORY: [Row; 9] = [
-    Row::Number("Type", 1),
+    Row::Preset("Type", 1, 6),
     Row::Number("Length", 2),
-    Row::Number("Revision", 1),
-    Row::Number("Identifier", 4),
+    Row::Preset("Revision", 1, 3),
+    Row::Hex("Identifier", 4),
     Row::Number("Number of ID Mappings", 4),
     Row::Number("Reference to ID Array", 4),
     Row::Flags(
         "Flags",
         4,
-        &[Word(1, "Remapping Permitted"), Word(2, "Privileged Access")],
+        &[
+            Bits::Flag(0x1, "Remapping Permitted"),
+            Bits::Flag(0x2, "Privileged Access"),
+            Bits::OneOf(
+                0x3fc,
+                &[
+                    Word(0x0, "Device-nGnRnE"),
+                    Word(0x4, "Device-nGnRE"),
+                    Word(0x8, "Device-nGRE"),
+                    Word(0xc, "Device-GRE"),
+                    Word(0x10, "Normal Inner Non-cacheable Outer Non-cacheable"),
+                    Word(
+                        0x14,
+                        "Normal Inner Write-back Outer Write-back Inner Shareable",
+                    ),
+                ],
+            ),
+        ],
     ),
     Row::Number("Number of Memory Range Descriptors", 4),
     Row::Number("Reference to Memory Range Descriptors", 4),
 ];
 
-/// The names and widths of the fields before a node's ranges, in order.
+/// The rows of the fields before a node's ranges, in order.
 pub fn reserved_memory_rows() -> &'static [Row]
     ensures { (m : ReservedMemory) → AreRowsOf result.now (reserved_memory_head_fields m) }
 {

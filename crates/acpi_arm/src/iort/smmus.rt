@@ -17,7 +17,7 @@ use crate::offsets::offset_if;
 use acpi_base::error::R;
 use acpi_base::object::Aml;
 use acpi_base::parts::write_parts;
-use acpi_base::row::{Record, Row, Word, record_of_numbers, write_record};
+use acpi_base::row::{Bits, Record, Row, Word, record_of_numbers, write_record};
 use acpi_base::sink::AmlSink;
 use acpi_core::entries::Entries;
 use acpi_core::told::told_size;
@@ -69,7 +69,10 @@ impl SmmuInterrupt {
     }
 }
 
-const INTERRUPT_FLAGS: [Word; 1] = [Word(1, "Edge Triggered")];
+const INTERRUPT_FLAGS: [Bits; 1] = [Bits::OneOf(
+    0x1,
+    &[Word(0x0, "Level Triggered"), Word(0x1, "Edge Triggered")],
+)];
 
 /// The rows of a context interrupt, and of a PMU interrupt.
 pub const SMMU_INTERRUPT: [Row; 2] = [
@@ -254,13 +257,13 @@ impl Smmu {
 
 /// The rows of an SMMUv1 or SMMUv2 node before its context interrupts.
 pub const SMMU: [Row; 19] = [
-    Row::Number("Type", 1),
+    Row::Preset("Type", 1, 3),
     Row::Number("Length", 2),
-    Row::Number("Revision", 1),
-    Row::Number("Identifier", 4),
+    Row::Preset("Revision", 1, 3),
+    Row::Hex("Identifier", 4),
     Row::Number("Number of ID Mappings", 4),
     Row::Number("Reference to ID Array", 4),
-    Row::Number("Base Address", 8),
+    Row::Hex("Base Address", 8),
     Row::Number("Span", 8),
     Row::OneOf(
         "Model",
@@ -278,11 +281,11 @@ pub const SMMU: [Row; 19] = [
         "Flags",
         4,
         &[
-            Word(1, "DVM Supported"),
-            Word(2, "Coherent Page Table Walk"),
+            Bits::Flag(0x1, "DVM Supported"),
+            Bits::Flag(0x2, "Coherent Page Table Walk"),
         ],
     ),
-    Row::Number("Reference to Global Interrupt Array", 4),
+    Row::Preset("Reference to Global Interrupt Array", 4, 60),
     Row::Number("Number of Context Interrupts", 4),
     Row::Number("Reference to Context Interrupt Array", 4),
     Row::Number("Number of PMU Interrupts", 4),
@@ -293,7 +296,7 @@ pub const SMMU: [Row; 19] = [
     Row::Flags("SMMU_NSgCfgIrpt Interrupt Flags", 4, &INTERRUPT_FLAGS),
 ];
 
-/// The names and widths of the fields before an SMMU's context interrupts, in order.
+/// The rows of the fields before an SMMU's context interrupts, in order.
 pub fn smmu_rows() -> &'static [Row]
     ensures { (s : Smmu) → AreRowsOf result.now (smmu_head_fields s) }
 {
@@ -508,26 +511,31 @@ impl SmmuV3 {
 
 /// The rows of an SMMUv3 node before its mappings.
 pub const SMMU_V3: [Row; 17] = [
-    Row::Number("Type", 1),
+    Row::Preset("Type", 1, 4),
     Row::Number("Length", 2),
-    Row::Number("Revision", 1),
-    Row::Number("Identifier", 4),
+    Row::Preset("Revision", 1, 4),
+    Row::Hex("Identifier", 4),
     Row::Number("Number of ID Mappings", 4),
     Row::Number("Reference to ID Array", 4),
-    Row::Number("Base Address", 8),
+    Row::Hex("Base Address", 8),
     Row::Flags(
         "Flags",
         4,
         &[
-            Word(1, "COHACC Override"),
-            Word(2, "HTTU Override of the Access Flag"),
-            Word(4, "HTTU Override of the Access Flag and Dirty State"),
-            Word(8, "Proximity Domain Valid"),
-            Word(16, "DeviceID Mapping Index Valid"),
+            Bits::Flag(0x1, "COHACC Override"),
+            Bits::OneOf(
+                0x6,
+                &[
+                    Word(0x2, "HTTU Override of the Access Flag"),
+                    Word(0x4, "HTTU Override of the Access Flag and Dirty State"),
+                ],
+            ),
+            Bits::Flag(0x8, "Proximity Domain Valid"),
+            Bits::Flag(0x10, "DeviceID Mapping Index Valid"),
         ],
     ),
     Row::Reserved(4),
-    Row::Number("VATOS Address", 8),
+    Row::Hex("VATOS Address", 8),
     Row::OneOf(
         "Model",
         4,
@@ -545,7 +553,7 @@ pub const SMMU_V3: [Row; 17] = [
     Row::Number("DeviceID Mapping Index", 4),
 ];
 
-/// The names and widths of the fields before an SMMU's mappings, in order.
+/// The rows of the fields before an SMMU's mappings, in order.
 pub fn smmu_v3_rows() -> &'static [Row]
     ensures { (s : SmmuV3) → AreRowsOf result.now (smmu_v3_head_fields s) }
 {

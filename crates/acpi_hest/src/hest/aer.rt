@@ -14,7 +14,7 @@ use crate::hest::tail::Tail;
 use crate::parts::write_record_behind;
 use acpi_base::error::R;
 use acpi_base::object::Aml;
-use acpi_base::row::{Record, Row, Word, record_of_numbers};
+use acpi_base::row::{Bits, Record, Row, Word, record_of_numbers};
 use acpi_base::sink::AmlSink;
 
 /// Whether firmware handles the errors of a source before the operating system does (ACPI 6.5, 18.3.2.4, Flags).
@@ -204,27 +204,41 @@ impl<T: Tail<N>, const N: usize> Aer<T, N> {
     }
 }
 
+// The words of Enabled.
+pub(crate) const ENABLED: [Word; 2] = [Word(0, "Disabled"), Word(1, "Enabled")];
+
 /// The rows of a PCI Express AER source that all kinds have.
 pub const AER: [Row; 16] = [
     Row::Number("Type", 2),
-    Row::Number("Source Id", 2),
+    Row::Hex("Source Id", 2),
     Row::Reserved(2),
-    Row::Flags("Flags", 1, &[Word(1, "FIRMWARE_FIRST"), Word(2, "GLOBAL")]),
-    Row::Number("Enabled", 1),
+    Row::Flags(
+        "Flags",
+        1,
+        &[Bits::Flag(0x1, "FIRMWARE_FIRST"), Bits::Flag(0x2, "GLOBAL")],
+    ),
+    Row::OneOf("Enabled", 1, &ENABLED),
     Row::Number("Number of Records to Pre-allocate", 4),
     Row::Number("Max Sections Per Record", 4),
-    Row::Number("Bus", 4),
+    Row::Flags(
+        "Bus",
+        4,
+        &[
+            Bits::Number(0xff, 0x1, "Bus"),
+            Bits::Number(0xffff00, 0x100, "Segment"),
+        ],
+    ),
     Row::Number("Device", 2),
     Row::Number("Function", 2),
-    Row::Number("Device Control", 2),
+    Row::Hex("Device Control", 2),
     Row::Reserved(2),
-    Row::Number("Uncorrectable Error Mask", 4),
-    Row::Number("Uncorrectable Error Severity", 4),
-    Row::Number("Correctable Error Mask", 4),
-    Row::Number("Advanced Error Capabilities and Control", 4),
+    Row::Hex("Uncorrectable Error Mask", 4),
+    Row::Hex("Uncorrectable Error Severity", 4),
+    Row::Hex("Correctable Error Mask", 4),
+    Row::Hex("Advanced Error Capabilities and Control", 4),
 ];
 
-/// The names and widths of the fields that all kinds have, in order.
+/// The rows of the fields that all kinds have, in order.
 pub fn aer_rows<T: Tail<N>, const N: usize>() -> &'static [Row]
     ensures { (s : Aer T N) → AreRowsOf result.now (aer_head_fields T.KIND s) }
 {
@@ -269,16 +283,16 @@ pub struct AerBridge {
 }
 
 /// The rows of the further fields of a root port.
-pub const AER_ROOT_PORT: [Row; 1] = [Row::Number("Root Error Command", 4)];
+pub const AER_ROOT_PORT: [Row; 1] = [Row::Hex("Root Error Command", 4)];
 
 /// The rows of the further fields of an endpoint: none.
 pub const AER_DEVICE: [Row; 0] = [];
 
 /// The rows of the further fields of a bridge.
 pub const AER_BRIDGE: [Row; 3] = [
-    Row::Number("Secondary Uncorrectable Error Mask", 4),
-    Row::Number("Secondary Uncorrectable Error Severity", 4),
-    Row::Number("Secondary Advanced Error Capabilities and Control", 4),
+    Row::Hex("Secondary Uncorrectable Error Mask", 4),
+    Row::Hex("Secondary Uncorrectable Error Severity", 4),
+    Row::Hex("Secondary Advanced Error Capabilities and Control", 4),
 ];
 
 impl Record<4> for AerRootPort {

@@ -7,10 +7,10 @@ ghost use Rattle.acpi_hest.specs.Counter.{counter_of, most_of_64_bits};
 ghost use Rattle.acpi_hest.specs.ErrorData.{IsNewErrorData, ErrorHead, error_head_fields, error_data_head, error_data_object};
 
 use crate::counter::Counter;
-use crate::hest::status::ErrorSeverity;
+use crate::hest::status::{ErrorSeverity, SEVERITIES};
 use acpi_base::error::{Error, R};
 use acpi_base::object::Aml;
-use acpi_base::row::{Row, Value, record_of};
+use acpi_base::row::{Bits, Row, Value, record_of};
 use acpi_base::sink::AmlSink;
 use std::alloc::Global;
 
@@ -119,18 +119,39 @@ impl GenericErrorData {
 
 /// The rows of a Generic Error Data Entry before its data.
 pub const ERROR_DATA: [Row; 9] = [
-    Row::Number("Section Type", 2),
-    Row::Number("Error Severity", 4),
-    Row::Number("Revision", 2),
-    Row::Number("Validation Bits", 1),
-    Row::Number("Flags", 1),
+    Row::Hex("Section Type", 2),
+    Row::OneOf("Error Severity", 4, &SEVERITIES),
+    Row::Hex("Revision", 2),
+    Row::Flags(
+        "Validation Bits",
+        1,
+        &[
+            Bits::Flag(0x1, "FRU Id Valid"),
+            Bits::Flag(0x2, "FRU Text Valid"),
+            Bits::Flag(0x4, "Timestamp Valid"),
+        ],
+    ),
+    Row::Flags(
+        "Flags",
+        1,
+        &[
+            Bits::Flag(0x1, "Primary"),
+            Bits::Flag(0x2, "Containment Warning"),
+            Bits::Flag(0x4, "Reset"),
+            Bits::Flag(0x8, "Error Threshold Exceeded"),
+            Bits::Flag(0x10, "Resource Not Accessible"),
+            Bits::Flag(0x20, "Latent Error"),
+            Bits::Flag(0x40, "Propagated"),
+            Bits::Flag(0x80, "Overflow"),
+        ],
+    ),
     Row::Number("Error Data Length", 4),
-    Row::Bytes("FRU Id", 16),
-    Row::Bytes("FRU Text", 20),
+    Row::Uuid("FRU Id"),
+    Row::Text("FRU Text", 20),
     Row::Bytes("Timestamp", 8),
 ];
 
-/// The names and widths of an entry's fields before its data, in order.
+/// The rows of an entry's fields before its data, in order.
 pub fn error_data_rows() -> &'static [Row]
     ensures { (head : ErrorHead) → AreRowsOf result.now (error_head_fields head) }
 {

@@ -9,6 +9,7 @@ ghost use Rattle.acpi_hest.specs.Generic.{zero_unacknowledged, zero_acknowledged
 ghost use Rattle.acpi_hest.specs.declared.hest.generic.Generic.{Generic};
 ghost use Rattle.acpi_hest.specs.Generic.{unacknowledged_fields, acknowledged_fields};
 
+use crate::hest::aer::ENABLED;
 use crate::hest::notification::NotificationStructure;
 use crate::hest::tail::Tail;
 use crate::parts::write_record_behind;
@@ -136,10 +137,10 @@ impl<T: Tail<N>, const N: usize> Generic<T, N> {
 /// The rows of a Generic Hardware Error Source that both versions have.
 pub const GENERIC: [Row; 11] = [
     Row::Number("Type", 2),
-    Row::Number("Source Id", 2),
-    Row::Number("Related Source Id", 2),
-    Row::Number("Flags", 1),
-    Row::Number("Enabled", 1),
+    Row::Hex("Source Id", 2),
+    Row::Hex("Related Source Id", 2),
+    Row::Hex("Flags", 1),
+    Row::OneOf("Enabled", 1, &ENABLED),
     Row::Number("Number of Records to Pre-allocate", 4),
     Row::Number("Max Sections Per Record", 4),
     Row::Number("Max Raw Data Length", 4),
@@ -148,7 +149,7 @@ pub const GENERIC: [Row; 11] = [
     Row::Number("Error Status Block Length", 4),
 ];
 
-/// The names and widths of the fields that both versions have, in order.
+/// The rows of the fields that both versions have, in order.
 pub fn generic_rows<T: Tail<N>, const N: usize>() -> &'static [Row]
     ensures { (s : Generic T N) → AreRowsOf result.now (generic_head_fields T.KIND s) }
 {
@@ -189,8 +190,8 @@ pub const UNACKNOWLEDGED: [Row; 0] = [];
 /// The rows of the further fields of version 2.
 pub const ACKNOWLEDGED: [Row; 3] = [
     Row::Register("Read Ack Register"),
-    Row::Number("Read Ack Preserve", 8),
-    Row::Number("Read Ack Write", 8),
+    Row::Hex("Read Ack Preserve", 8),
+    Row::Hex("Read Ack Write", 8),
 ];
 
 impl Record<0> for Unacknowledged {

@@ -7,7 +7,7 @@ ghost use Rattle.acpi_hest.specs.Notification.{notification_fields};
 
 use acpi_base::error::R;
 use acpi_base::object::Aml;
-use acpi_base::row::{Record, Row, Word, record_of_numbers, write_record};
+use acpi_base::row::{Bits, Record, Row, Word, record_of_numbers, write_record};
 use acpi_base::sink::AmlSink;
 
 /// The type of a notification (ACPI 6.5, 18.3.2.9, Type). The last four are those of RISC-V.
@@ -159,7 +159,18 @@ pub const NOTIFICATION: [Row; 9] = [
         ],
     ),
     Row::Number("Length", 1),
-    Row::Number("Configuration Write Enable", 2),
+    Row::Flags(
+        "Configuration Write Enable",
+        2,
+        &[
+            Bits::Flag(0x1, "Type"),
+            Bits::Flag(0x2, "Poll Interval"),
+            Bits::Flag(0x4, "Switch To Polling Threshold Value"),
+            Bits::Flag(0x8, "Switch To Polling Threshold Window"),
+            Bits::Flag(0x10, "Error Threshold Value"),
+            Bits::Flag(0x20, "Error Threshold Window"),
+        ],
+    ),
     Row::Number("Poll Interval", 4),
     Row::Number("Vector", 4),
     Row::Number("Switch To Polling Threshold Value", 4),

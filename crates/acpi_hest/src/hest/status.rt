@@ -7,7 +7,7 @@ ghost use Rattle.acpi_hest.specs.Status.{error_status_fields};
 
 use acpi_base::error::R;
 use acpi_base::object::Aml;
-use acpi_base::row::{Record, Row, record_of_numbers, write_record};
+use acpi_base::row::{Bits, Record, Row, Word, record_of_numbers, write_record};
 use acpi_base::sink::AmlSink;
 
 /// The severity of an error (ACPI 6.5, 18.3.2.7.1, Error Severity).
@@ -44,13 +44,31 @@ impl GenericErrorStatus {
     }
 }
 
+// The words of Error Severity.
+pub(crate) const SEVERITIES: [Word; 4] = [
+    Word(0, "Recoverable"),
+    Word(1, "Fatal"),
+    Word(2, "Corrected"),
+    Word(3, "None"),
+];
+
 /// The rows of a Generic Error Status Block before its data.
 pub const ERROR_STATUS: [Row; 5] = [
-    Row::Number("Block Status", 4),
+    Row::Flags(
+        "Block Status",
+        4,
+        &[
+            Bits::Flag(0x1, "Uncorrectable Error Valid"),
+            Bits::Flag(0x2, "Correctable Error Valid"),
+            Bits::Flag(0x4, "Multiple Uncorrectable Errors"),
+            Bits::Flag(0x8, "Multiple Correctable Errors"),
+            Bits::Number(0x3ff0, 0x10, "Error Data Entry Count"),
+        ],
+    ),
     Row::Number("Raw Data Offset", 4),
     Row::Number("Raw Data Length", 4),
     Row::Number("Data Length", 4),
-    Row::Number("Error Severity", 4),
+    Row::OneOf("Error Severity", 4, &SEVERITIES),
 ];
 
 impl Record<20> for GenericErrorStatus {

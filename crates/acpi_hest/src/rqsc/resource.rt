@@ -15,7 +15,7 @@ ghost use Rattle.acpi_hest.specs.Resource.{cache_fields, memory_fields, acpi_fie
 use crate::parts::{write_behind, write_record_behind};
 use acpi_base::error::{Error, R};
 use acpi_base::object::Aml;
-use acpi_base::row::{Record, Row, record_of_numbers, write_record};
+use acpi_base::row::{Bits, Record, Row, Word, record_of_numbers, write_record};
 use acpi_base::sink::AmlSink;
 
 /// The type of a resource (offset 0).
@@ -41,7 +41,7 @@ impl CacheResource {
 }
 
 /// The rows of the ID of a cache.
-pub const CACHE_RESOURCE: [Row; 2] = [Row::Number("Cache ID", 4), Row::Reserved(8)];
+pub const CACHE_RESOURCE: [Row; 2] = [Row::Hex("Cache ID", 4), Row::Reserved(8)];
 
 impl Record<12> for CacheResource {
     ghost fields = { cache_fields };
@@ -144,8 +144,8 @@ impl ACPIDeviceResource {
 
 /// The rows of the ID of an ACPI device.
 pub const ACPI_DEVICE_RESOURCE: [Row; 2] = [
-    Row::Number("ACPI Hardware ID", 8),
-    Row::Number("ACPI Unique ID", 4),
+    Row::Hex("ACPI Hardware ID", 8),
+    Row::Hex("ACPI Unique ID", 4),
 ];
 
 impl Record<12> for ACPIDeviceResource {
@@ -189,7 +189,19 @@ impl PCIDeviceResource {
 }
 
 /// The rows of the ID of a PCI device.
-pub const PCI_DEVICE_RESOURCE: [Row; 2] = [Row::Number("Segment and BDF", 4), Row::Reserved(8)];
+pub const PCI_DEVICE_RESOURCE: [Row; 2] = [
+    Row::Flags(
+        "Segment and BDF",
+        4,
+        &[
+            Bits::Number(0xffff0000, 0x10000, "Segment"),
+            Bits::Number(0xff00, 0x100, "Bus"),
+            Bits::Number(0xf8, 0x8, "Device"),
+            Bits::Number(0x7, 0x1, "Function"),
+        ],
+    ),
+    Row::Reserved(8),
+];
 
 impl Record<12> for PCIDeviceResource {
     ghost fields = { pci_fields };
@@ -359,15 +371,24 @@ impl ResourceStructure {
 
 /// The rows of a resource before its ID.
 pub const RESOURCE: [Row; 6] = [
-    Row::Number("Resource Type", 1),
+    Row::OneOf("Resource Type", 1, &[Word(0, "Cache"), Word(1, "Memory")]),
     Row::Reserved(1),
     Row::Number("Length", 2),
-    Row::Number("Resource Flags", 2),
+    Row::Hex("Resource Flags", 2),
     Row::Reserved(1),
-    Row::Number("Resource ID Type", 1),
+    Row::OneOf(
+        "Resource ID Type",
+        1,
+        &[
+            Word(0, "Cache"),
+            Word(1, "Memory Affinity Structure"),
+            Word(2, "ACPI Device"),
+            Word(3, "PCI Device"),
+        ],
+    ),
 ];
 
-/// The names and widths of a resource's fields before its id, in order.
+/// The rows of a resource's fields before its id, in order.
 pub fn resource_rows() -> &'static [Row]
     ensures { (r : ResourceStructure) → AreRowsOf result.now (resource_head_fields r) }
 {

@@ -10,7 +10,7 @@ ghost use Rattle.acpi_lists.specs.MadtArm.{gicr_fields, gic_its, gic_its_bytes, 
 use crate::madt::EnabledStatus;
 use acpi_base::error::R;
 use acpi_base::object::Aml;
-use acpi_base::row::{Record, Row, Word, record_of_numbers, write_record};
+use acpi_base::row::{Bits, Record, Row, Word, record_of_numbers, write_record};
 use acpi_base::sink::AmlSink;
 
 // Flags of a CPU interface (ACPI 6.5, 5.2.12.14, offset 12).
@@ -213,30 +213,30 @@ impl Gicc {
 
 /// The rows of a GIC CPU Interface (GICC) Structure.
 pub const GICC: [Row; 19] = [
-    Row::Number("Type", 1),
-    Row::Number("Length", 1),
+    Row::Preset("Type", 1, 0x0b),
+    Row::Preset("Length", 1, 82),
     Row::Reserved(2),
     Row::Number("CPU Interface Number", 4),
-    Row::Number("ACPI Processor UID", 4),
+    Row::Hex("ACPI Processor UID", 4),
     Row::Flags(
         "Flags",
         4,
         &[
-            Word(1, "Enabled"),
-            Word(2, "Performance Interrupt Edge Triggered"),
-            Word(4, "VGIC Maintenance Interrupt Edge Triggered"),
-            Word(8, "Online Capable"),
+            Bits::Flag(0x1, "Enabled"),
+            Bits::Flag(0x2, "Performance Interrupt Edge Triggered"),
+            Bits::Flag(0x4, "VGIC Maintenance Interrupt Edge Triggered"),
+            Bits::Flag(0x8, "Online Capable"),
         ],
     ),
     Row::Number("Parking Protocol Version", 4),
     Row::Number("Performance Interrupt GSIV", 4),
-    Row::Number("Parked Address", 8),
-    Row::Number("Physical Base Address", 8),
-    Row::Number("GICV", 8),
-    Row::Number("GICH", 8),
+    Row::Hex("Parked Address", 8),
+    Row::Hex("Physical Base Address", 8),
+    Row::Hex("GICV", 8),
+    Row::Hex("GICH", 8),
     Row::Number("VGIC Maintenance Interrupt", 4),
-    Row::Number("GICR Base Address", 8),
-    Row::Number("MPIDR", 8),
+    Row::Hex("GICR Base Address", 8),
+    Row::Hex("MPIDR", 8),
     Row::Number("Processor Power Efficiency Class", 1),
     Row::Reserved(1),
     Row::Number("SPE Overflow Interrupt", 2),
@@ -321,16 +321,17 @@ impl Gicd {
 
 /// The rows of a GIC Distributor (GICD) Structure.
 pub const GICD: [Row; 8] = [
-    Row::Number("Type", 1),
-    Row::Number("Length", 1),
+    Row::Preset("Type", 1, 0x0c),
+    Row::Preset("Length", 1, 24),
     Row::Reserved(2),
-    Row::Number("GIC ID", 4),
-    Row::Number("Physical Base Address", 8),
-    Row::Number("System Vector Base", 4),
+    Row::Hex("GIC ID", 4),
+    Row::Hex("Physical Base Address", 8),
+    Row::Preset("System Vector Base", 4, 0),
     Row::OneOf(
         "GIC Version",
         1,
         &[
+            Word(0, "Not Specified"),
             Word(1, "GICv1"),
             Word(2, "GICv2"),
             Word(3, "GICv3"),
@@ -429,12 +430,12 @@ impl GicMsi {
 
 /// The rows of a GIC MSI Frame Structure.
 pub const GIC_MSI: [Row; 8] = [
-    Row::Number("Type", 1),
-    Row::Number("Length", 1),
+    Row::Preset("Type", 1, 0x0d),
+    Row::Preset("Length", 1, 24),
     Row::Reserved(2),
-    Row::Number("GIC MSI Frame ID", 4),
-    Row::Number("Physical Base Address", 8),
-    Row::Flags("Flags", 4, &[Word(1, "SPI Count/Base Select")]),
+    Row::Hex("GIC MSI Frame ID", 4),
+    Row::Hex("Physical Base Address", 8),
+    Row::Flags("Flags", 4, &[Bits::Flag(0x1, "SPI Count/Base Select")]),
     Row::Number("SPI Count", 2),
     Row::Number("SPI Base", 2),
 ];
@@ -494,10 +495,10 @@ impl Gicr {
 
 /// The rows of a GIC Redistributor (GICR) Structure.
 pub const GICR: [Row; 5] = [
-    Row::Number("Type", 1),
-    Row::Number("Length", 1),
+    Row::Preset("Type", 1, 0x0e),
+    Row::Preset("Length", 1, 16),
     Row::Reserved(2),
-    Row::Number("Discovery Range Base Address", 8),
+    Row::Hex("Discovery Range Base Address", 8),
     Row::Number("Discovery Range Length", 4),
 ];
 
@@ -553,11 +554,11 @@ impl GicIts {
 
 /// The rows of a GIC Interrupt Translation Service (ITS) Structure.
 pub const GIC_ITS: [Row; 6] = [
-    Row::Number("Type", 1),
-    Row::Number("Length", 1),
+    Row::Preset("Type", 1, 0x0f),
+    Row::Preset("Length", 1, 20),
     Row::Reserved(2),
-    Row::Number("GIC ITS ID", 4),
-    Row::Number("Physical Base Address", 8),
+    Row::Hex("GIC ITS ID", 4),
+    Row::Hex("Physical Base Address", 8),
     Row::Reserved(4),
 ];
 

@@ -9,7 +9,7 @@ ghost use Rattle.acpi_lists.specs.MadtInterrupts.{local_x2apic_nmi, local_x2apic
 
 use acpi_base::error::R;
 use acpi_base::object::Aml;
-use acpi_base::row::{Record, Row, Word, record_of_numbers, write_record};
+use acpi_base::row::{Bits, Record, Row, Word, record_of_numbers, write_record};
 use acpi_base::sink::AmlSink;
 
 /// At which level an interrupt is active (ACPI 6.5, 5.2.12.5, MPS INTI flags, bits 0 and 1).
@@ -38,16 +38,23 @@ fn inti_flags(polarity: Polarity, trigger_mode: TriggerMode) -> u64
 }
 
 // The names of all MPS INTI flags without reserved values.
-const INTI_FLAGS: [Word; 9] = [
-    Word(0, "Conforms to Bus"),
-    Word(1, "Active High"),
-    Word(3, "Active Low"),
-    Word(4, "Edge Triggered"),
-    Word(5, "Active High, Edge Triggered"),
-    Word(7, "Active Low, Edge Triggered"),
-    Word(12, "Level Triggered"),
-    Word(13, "Active High, Level Triggered"),
-    Word(15, "Active Low, Level Triggered"),
+const INTI_FLAGS: [Bits; 2] = [
+    Bits::OneOf(
+        0x3,
+        &[
+            Word(0x0, "Conforms to Bus Polarity"),
+            Word(0x1, "Active High"),
+            Word(0x3, "Active Low"),
+        ],
+    ),
+    Bits::OneOf(
+        0xc,
+        &[
+            Word(0x0, "Conforms to Bus Trigger Mode"),
+            Word(0x4, "Edge Triggered"),
+            Word(0xc, "Level Triggered"),
+        ],
+    ),
 ];
 
 /// An interrupt of the ISA bus whose global system interrupt isn't its number on the bus, or whose polarity or trigger mode isn't
@@ -93,12 +100,12 @@ impl InterruptSourceOverride {
 
 /// The rows of an Interrupt Source Override Structure.
 pub const INTERRUPT_SOURCE_OVERRIDE: [Row; 6] = [
-    Row::Number("Type", 1),
-    Row::Number("Length", 1),
+    Row::Preset("Type", 1, 0x02),
+    Row::Preset("Length", 1, 10),
     Row::OneOf("Bus", 1, &[Word(0, "ISA")]),
     Row::Number("Source", 1),
     Row::Number("Global System Interrupt", 4),
-    Row::OneOf("Flags", 2, &INTI_FLAGS),
+    Row::Flags("Flags", 2, &INTI_FLAGS),
 ];
 
 impl Record<10> for InterruptSourceOverride {
@@ -172,9 +179,9 @@ impl NmiSource {
 
 /// The rows of a Non-Maskable Interrupt (NMI) Source Structure.
 pub const NMI_SOURCE: [Row; 4] = [
-    Row::Number("Type", 1),
-    Row::Number("Length", 1),
-    Row::OneOf("Flags", 2, &INTI_FLAGS),
+    Row::Preset("Type", 1, 0x03),
+    Row::Preset("Length", 1, 8),
+    Row::Flags("Flags", 2, &INTI_FLAGS),
     Row::Number("Global System Interrupt", 4),
 ];
 
@@ -257,10 +264,10 @@ impl LocalApicNmi {
 
 /// The rows of a Local APIC NMI Structure.
 pub const LOCAL_APIC_NMI: [Row; 5] = [
-    Row::Number("Type", 1),
-    Row::Number("Length", 1),
-    Row::Number("ACPI Processor UID", 1),
-    Row::OneOf("Flags", 2, &INTI_FLAGS),
+    Row::Preset("Type", 1, 0x04),
+    Row::Preset("Length", 1, 6),
+    Row::Hex("ACPI Processor UID", 1),
+    Row::Flags("Flags", 2, &INTI_FLAGS),
     Row::Number("Local APIC LINT#", 1),
 ];
 
@@ -344,10 +351,10 @@ impl LocalX2ApicNmi {
 
 /// The rows of a Local x2APIC NMI Structure.
 pub const LOCAL_X2APIC_NMI: [Row; 6] = [
-    Row::Number("Type", 1),
-    Row::Number("Length", 1),
-    Row::OneOf("Flags", 2, &INTI_FLAGS),
-    Row::Number("ACPI Processor UID", 4),
+    Row::Preset("Type", 1, 0x0a),
+    Row::Preset("Length", 1, 12),
+    Row::Flags("Flags", 2, &INTI_FLAGS),
+    Row::Hex("ACPI Processor UID", 4),
     Row::Number("Local x2APIC LINT#", 1),
     Row::Reserved(3),
 ];

@@ -8,7 +8,7 @@ ghost use Rattle.acpi_lists.specs.MadtLocalApics.{local_x2apic, local_x2apic_byt
 use crate::madt::EnabledStatus;
 use acpi_base::error::R;
 use acpi_base::object::Aml;
-use acpi_base::row::{Record, Row, Word, record_of_numbers, write_record};
+use acpi_base::row::{Bits, Record, Row, record_of_numbers, write_record};
 use acpi_base::sink::AmlSink;
 
 /// The physical address of the local APICs in 64 bits, which is used instead of that in the table's own field: 12 bytes (ACPI
@@ -29,10 +29,10 @@ impl LocalApicAddressOverride {
 
 /// The rows of a Local APIC Address Override Structure.
 pub const LOCAL_APIC_ADDRESS_OVERRIDE: [Row; 4] = [
-    Row::Number("Type", 1),
-    Row::Number("Length", 1),
+    Row::Preset("Type", 1, 0x05),
+    Row::Preset("Length", 1, 12),
     Row::Reserved(2),
-    Row::Number("Local APIC Address", 8),
+    Row::Hex("Local APIC Address", 8),
 ];
 
 impl Record<12> for LocalApicAddressOverride {
@@ -83,12 +83,19 @@ impl ProcessorLocalX2Apic {
 
 /// The rows of a Processor Local x2APIC Structure.
 pub const PROCESSOR_LOCAL_X2APIC: [Row; 6] = [
-    Row::Number("Type", 1),
-    Row::Number("Length", 1),
+    Row::Preset("Type", 1, 0x09),
+    Row::Preset("Length", 1, 16),
     Row::Reserved(2),
-    Row::Number("X2APIC ID", 4),
-    Row::Flags("Flags", 4, &[Word(1, "Enabled"), Word(2, "Online Capable")]),
-    Row::Number("ACPI Processor UID", 4),
+    Row::Hex("X2APIC ID", 4),
+    Row::Flags(
+        "Flags",
+        4,
+        &[
+            Bits::Flag(0x1, "Enabled"),
+            Bits::Flag(0x2, "Online Capable"),
+        ],
+    ),
+    Row::Hex("ACPI Processor UID", 4),
 ];
 
 impl Record<16> for ProcessorLocalX2Apic {

@@ -7,7 +7,7 @@ ghost use Rattle.acpi_lists.specs.MadtRiscv.{aplic_bytes, aplic_fields, plic, pl
 
 use acpi_base::error::R;
 use acpi_base::object::Aml;
-use acpi_base::row::{Record, Row, Value, Word, record_of, record_of_numbers, write_record};
+use acpi_base::row::{Bits, Record, Row, Value, record_of, record_of_numbers, write_record};
 use acpi_base::sink::AmlSink;
 
 /// Whether a hart is enabled, or can be brought online later (offset 4 of RINTC).
@@ -67,15 +67,22 @@ impl RINTC {
 
 /// The rows of a RISC-V INTC Structure.
 pub const RINTC_ROWS: [Row; 10] = [
-    Row::Number("Type", 1),
-    Row::Number("Length", 1),
-    Row::Number("Version", 1),
+    Row::Preset("Type", 1, 0x18),
+    Row::Preset("Length", 1, 36),
+    Row::Preset("Version", 1, 1),
     Row::Reserved(1),
-    Row::Flags("Flags", 4, &[Word(1, "Enabled"), Word(2, "Online Capable")]),
-    Row::Number("Hart ID", 8),
-    Row::Number("ACPI Processor UID", 4),
-    Row::Number("External Interrupt Controller ID", 4),
-    Row::Number("IMSIC Base Address", 8),
+    Row::Flags(
+        "Flags",
+        4,
+        &[
+            Bits::Flag(0x1, "Enabled"),
+            Bits::Flag(0x2, "Online Capable"),
+        ],
+    ),
+    Row::Hex("Hart ID", 8),
+    Row::Hex("ACPI Processor UID", 4),
+    Row::Hex("External Interrupt Controller ID", 4),
+    Row::Hex("IMSIC Base Address", 8),
     Row::Number("IMSIC Size", 4),
 ];
 
@@ -164,11 +171,12 @@ impl IMSIC {
 }
 
 /// The rows of an IMSIC Structure.
-pub const IMSIC_ROWS: [Row; 10] = [
-    Row::Number("Type", 1),
-    Row::Number("Length", 1),
-    Row::Number("Version", 1),
-    Row::Reserved(5),
+pub const IMSIC_ROWS: [Row; 11] = [
+    Row::Preset("Type", 1, 0x19),
+    Row::Preset("Length", 1, 16),
+    Row::Preset("Version", 1, 1),
+    Row::Reserved(1),
+    Row::Hex("Flags", 4),
     Row::Number("Number of Supervisor Mode Interrupt Identities", 2),
     Row::Number("Number of Guest Mode Interrupt Identities", 2),
     Row::Number("Guest Index Bits", 1),
@@ -191,6 +199,7 @@ impl Record<16> for IMSIC {
                 0x19,
                 16,
                 1,
+                0,
                 0,
                 u64::from(self.num_supervisor_interrupt_identities),
                 u64::from(self.num_guest_interrupt_identities),
@@ -265,16 +274,16 @@ impl APLIC {
 
 /// The rows of an APLIC Structure.
 pub const APLIC_ROWS: [Row; 11] = [
-    Row::Number("Type", 1),
-    Row::Number("Length", 1),
-    Row::Number("Version", 1),
-    Row::Number("APLIC ID", 1),
-    Row::Number("Flags", 4),
+    Row::Preset("Type", 1, 0x1a),
+    Row::Preset("Length", 1, 36),
+    Row::Preset("Version", 1, 1),
+    Row::Hex("APLIC ID", 1),
+    Row::Hex("Flags", 4),
     Row::Bytes("Hardware ID", 8),
     Row::Number("Number of IDCs", 2),
     Row::Number("Total External Interrupt Sources Supported", 2),
     Row::Number("Global System Interrupt Base", 4),
-    Row::Number("APLIC Address", 8),
+    Row::Hex("APLIC Address", 8),
     Row::Number("APLIC Size", 4),
 ];
 
@@ -367,16 +376,16 @@ impl PLIC {
 
 /// The rows of a PLIC Structure.
 pub const PLIC_ROWS: [Row; 11] = [
-    Row::Number("Type", 1),
-    Row::Number("Length", 1),
-    Row::Number("Version", 1),
-    Row::Number("PLIC ID", 1),
+    Row::Preset("Type", 1, 0x1b),
+    Row::Preset("Length", 1, 36),
+    Row::Preset("Version", 1, 1),
+    Row::Hex("PLIC ID", 1),
     Row::Bytes("Hardware ID", 8),
     Row::Number("Total External Interrupt Sources Supported", 2),
     Row::Number("Max Priority", 2),
-    Row::Number("Flags", 4),
+    Row::Hex("Flags", 4),
     Row::Number("PLIC Size", 4),
-    Row::Number("PLIC Address", 8),
+    Row::Hex("PLIC Address", 8),
     Row::Number("Global System Interrupt Base", 4),
 ];
 

@@ -8,7 +8,7 @@ ghost use Rattle.acpi_lists.specs.MadtX86.{processor_local_apic_fields, io_apic,
 use crate::madt::EnabledStatus;
 use acpi_base::error::R;
 use acpi_base::object::Aml;
-use acpi_base::row::{Record, Row, Word, record_of_numbers, write_record};
+use acpi_base::row::{Bits, Record, Row, record_of_numbers, write_record};
 use acpi_base::sink::AmlSink;
 
 /// A processor and its local APIC: 8 bytes (ACPI 6.5, 5.2.12.2).
@@ -34,11 +34,18 @@ impl ProcessorLocalApic {
 
 /// The rows of a Processor Local APIC Structure.
 pub const PROCESSOR_LOCAL_APIC: [Row; 5] = [
-    Row::Number("Type", 1),
-    Row::Number("Length", 1),
-    Row::Number("ACPI Processor UID", 1),
-    Row::Number("APIC ID", 1),
-    Row::Flags("Flags", 4, &[Word(1, "Enabled"), Word(2, "Online Capable")]),
+    Row::Preset("Type", 1, 0x00),
+    Row::Preset("Length", 1, 8),
+    Row::Hex("ACPI Processor UID", 1),
+    Row::Hex("APIC ID", 1),
+    Row::Flags(
+        "Flags",
+        4,
+        &[
+            Bits::Flag(0x1, "Enabled"),
+            Bits::Flag(0x2, "Online Capable"),
+        ],
+    ),
 ];
 
 impl Record<8> for ProcessorLocalApic {
@@ -96,11 +103,11 @@ impl IoApic {
 
 /// The rows of an I/O APIC Structure.
 pub const IO_APIC: [Row; 6] = [
-    Row::Number("Type", 1),
-    Row::Number("Length", 1),
-    Row::Number("I/O APIC ID", 1),
+    Row::Preset("Type", 1, 0x01),
+    Row::Preset("Length", 1, 12),
+    Row::Hex("I/O APIC ID", 1),
     Row::Reserved(1),
-    Row::Number("I/O APIC Address", 4),
+    Row::Hex("I/O APIC Address", 4),
     Row::Number("Global System Interrupt Base", 4),
 ];
 

@@ -9,7 +9,7 @@ ghost use Rattle.acpi_lists.specs.SratProcessors.{its_affinity, its_affinity_byt
 
 use acpi_base::error::R;
 use acpi_base::object::Aml;
-use acpi_base::row::{Record, Row, Word, record_of_numbers, write_record};
+use acpi_base::row::{Bits, Record, Row, record_of_numbers, write_record};
 use acpi_base::sink::AmlSink;
 
 /// A flag of a processor, which all of these structures have.
@@ -68,12 +68,12 @@ impl ProcessorLocalApicAffinity {
 
 /// The rows of a Processor Local APIC/SAPIC Affinity Structure.
 pub const PROCESSOR_LOCAL_APIC_AFFINITY: [Row; 8] = [
-    Row::Number("Type", 1),
-    Row::Number("Length", 1),
+    Row::Preset("Type", 1, 0),
+    Row::Preset("Length", 1, 16),
     Row::Number("Proximity Domain [7-0]", 1),
-    Row::Number("APIC ID", 1),
-    Row::Flags("Flags", 4, &[Word(1, "Enabled")]),
-    Row::Number("Local SAPIC EID", 1),
+    Row::Hex("APIC ID", 1),
+    Row::Flags("Flags", 4, &[Bits::Flag(0x1, "Enabled")]),
+    Row::Hex("Local SAPIC EID", 1),
     Row::Number("Proximity Domain [31-8]", 3),
     Row::Number("Clock Domain", 4),
 ];
@@ -154,12 +154,12 @@ impl ProcessorLocalX2ApicAffinity {
 
 /// The rows of a Processor Local x2APIC Affinity Structure.
 pub const PROCESSOR_LOCAL_X2APIC_AFFINITY: [Row; 8] = [
-    Row::Number("Type", 1),
-    Row::Number("Length", 1),
+    Row::Preset("Type", 1, 2),
+    Row::Preset("Length", 1, 24),
     Row::Reserved(2),
     Row::Number("Proximity Domain", 4),
-    Row::Number("X2APIC ID", 4),
-    Row::Flags("Flags", 4, &[Word(1, "Enabled")]),
+    Row::Hex("X2APIC ID", 4),
+    Row::Flags("Flags", 4, &[Bits::Flag(0x1, "Enabled")]),
     Row::Number("Clock Domain", 4),
     Row::Reserved(4),
 ];
@@ -241,11 +241,11 @@ impl GiccAffinity {
 
 /// The rows of a GICC Affinity Structure.
 pub const GICC_AFFINITY: [Row; 6] = [
-    Row::Number("Type", 1),
-    Row::Number("Length", 1),
+    Row::Preset("Type", 1, 3),
+    Row::Preset("Length", 1, 18),
     Row::Number("Proximity Domain", 4),
-    Row::Number("ACPI Processor UID", 4),
-    Row::Flags("Flags", 4, &[Word(1, "Enabled")]),
+    Row::Hex("ACPI Processor UID", 4),
+    Row::Flags("Flags", 4, &[Bits::Flag(0x1, "Enabled")]),
     Row::Number("Clock Domain", 4),
 ];
 
@@ -302,11 +302,11 @@ impl GicItsAffinity {
 
 /// The rows of a GIC Interrupt Translation Service (ITS) Affinity Structure.
 pub const GIC_ITS_AFFINITY: [Row; 5] = [
-    Row::Number("Type", 1),
-    Row::Number("Length", 1),
+    Row::Preset("Type", 1, 4),
+    Row::Preset("Length", 1, 12),
     Row::Number("Proximity Domain", 4),
     Row::Reserved(2),
-    Row::Number("ITS ID", 4),
+    Row::Hex("ITS ID", 4),
 ];
 
 impl Record<12> for GicItsAffinity {

@@ -9,7 +9,7 @@ ghost use Rattle.acpi_matrices.specs.Cache.{SideCache, cache, cache_head_fields,
 use acpi_base::error::{Error, R};
 use acpi_base::object::Aml;
 use acpi_base::parts::write_parts;
-use acpi_base::row::{Row, record_of_numbers};
+use acpi_base::row::{Bits, Row, Word, record_of_numbers};
 use acpi_base::sink::AmlSink;
 use acpi_core::entries::Entries;
 use std::alloc::Global;
@@ -135,18 +135,42 @@ impl MemorySideCache {
 
 /// The rows of a Memory Side Cache Information Structure before its handles.
 pub const SIDE_CACHE: [Row; 9] = [
-    Row::Number("Type", 2),
+    Row::Preset("Type", 2, 2),
     Row::Reserved(2),
     Row::Number("Length", 4),
     Row::Number("Proximity Domain for the Memory", 4),
     Row::Reserved(4),
     Row::Number("Memory Side Cache Size", 8),
-    Row::Number("Cache Attributes", 4),
+    Row::Flags(
+        "Cache Attributes",
+        4,
+        &[
+            Bits::Number(0xf, 0x1, "Total Cache Levels"),
+            Bits::Number(0xf0, 0x10, "Cache Level"),
+            Bits::OneOf(
+                0xf00,
+                &[
+                    Word(0x0, "Cache Associativity None"),
+                    Word(0x100, "Direct Mapped"),
+                    Word(0x200, "Complex Cache Indexing"),
+                ],
+            ),
+            Bits::OneOf(
+                0xf000,
+                &[
+                    Word(0x0, "Write Policy None"),
+                    Word(0x1000, "Write Back"),
+                    Word(0x2000, "Write Through"),
+                ],
+            ),
+            Bits::Number(0xffff0000, 0x10000, "Cache Line Size"),
+        ],
+    ),
     Row::Reserved(2),
     Row::Number("Number of SMBIOS Handles", 2),
 ];
 
-/// The names and widths of a cache's fields before its handles, in order.
+/// The rows of a cache's fields before its handles, in order.
 pub fn side_cache_rows() -> &'static [Row]
     ensures { (c : SideCache) → AreRowsOf result.now (cache_head_fields c) }
 {

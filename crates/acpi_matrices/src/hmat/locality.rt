@@ -12,7 +12,7 @@ use acpi_base::error::{Error, R};
 use acpi_base::object::Aml;
 use acpi_base::parts::write_parts;
 use acpi_base::patch::write_at;
-use acpi_base::row::{Row, Word, record_of_numbers};
+use acpi_base::row::{Bits, Row, Word, record_of_numbers};
 use acpi_base::sink::AmlSink;
 use std::alloc::Global;
 use std::marker::Model;
@@ -246,15 +246,24 @@ impl SystemLocality {
 
 /// The rows of a System Locality Latency and Bandwidth Information Structure before its lists.
 pub const SYSTEM_LOCALITY: [Row; 11] = [
-    Row::Number("Type", 2),
+    Row::Preset("Type", 2, 1),
     Row::Reserved(2),
     Row::Number("Length", 4),
     Row::Flags(
         "Flags",
         1,
         &[
-            Word(16, "Minimum Transfer Size"),
-            Word(32, "Non-sequential Transfers"),
+            Bits::OneOf(
+                0xf,
+                &[
+                    Word(0x0, "Memory"),
+                    Word(0x1, "First Level Memory Side Cache"),
+                    Word(0x2, "Second Level Memory Side Cache"),
+                    Word(0x3, "Third Level Memory Side Cache"),
+                ],
+            ),
+            Bits::Flag(0x10, "Minimum Transfer Size"),
+            Bits::Flag(0x20, "Non-sequential Transfers"),
         ],
     ),
     Row::OneOf(
@@ -269,7 +278,24 @@ pub const SYSTEM_LOCALITY: [Row; 11] = [
             Word(5, "Write Bandwidth"),
         ],
     ),
-    Row::Number("MinTransferSize", 1),
+    Row::OneOf(
+        "MinTransferSize",
+        1,
+        &[
+            Word(0, "Byte Aligned"),
+            Word(1, "64 Bytes"),
+            Word(2, "128 Bytes"),
+            Word(3, "256 Bytes"),
+            Word(4, "512 Bytes"),
+            Word(5, "1 KiB"),
+            Word(6, "2 KiB"),
+            Word(7, "4 KiB"),
+            Word(8, "8 KiB"),
+            Word(9, "16 KiB"),
+            Word(10, "32 KiB"),
+            Word(11, "64 KiB"),
+        ],
+    ),
     Row::Reserved(1),
     Row::Number("Number of Initiator Proximity Domains", 4),
     Row::Number("Number of Target Proximity Domains", 4),
@@ -277,7 +303,7 @@ pub const SYSTEM_LOCALITY: [Row; 11] = [
     Row::Number("Entry Base Unit", 8),
 ];
 
-/// The names and widths of a matrix's fields before its lists, in order.
+/// The rows of a matrix's fields before its lists, in order.
 pub fn system_locality_rows() -> &'static [Row]
     ensures { (l : Locality) → AreRowsOf result.now (locality_head_fields l) }
 {

@@ -16,12 +16,12 @@ Unknown table
   0 Signature                           : 4f 45 4d 58  // \"OEMX\"
   4 Length                              : 00000024  // 36
   8 Revision                            : 01
-  9 Checksum                            : 8d  // 141
+  9 Checksum                            : 8d
   10 OEM ID                             : 46 4f 4f 42 41 52  // \"FOOBAR\"
   16 OEM Table ID                       : 43 41 46 45 44 45 41 44  // \"CAFEDEAD\"
   24 OEM Revision                       : 00000001
   28 Creator ID                         : 52 56 41 54  // \"RVAT\"
-  32 Creator Revision                   : 00 00 00 01
+  32 Creator Revision                   : 01000000
 ";
 
 /// Writes a file.

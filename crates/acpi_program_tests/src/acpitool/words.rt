@@ -18,7 +18,7 @@ Unknown table
   OEM Table ID: 00 00 00 00 00 00 00 00
   OEM Revision: 00000000
   Creator ID: 00 00 00 00
-  Creator Revision: 00 00 00 00
+  Creator Revision: 00000000
 ";
 
 #[test]

@@ -1,16 +1,19 @@
 //! Texts by forms that no table has.
 
-use acpi_base::row::{Row, Word};
+use acpi_base::row::{Bits, Row, Word};
 use acpi_base::walk::{Place, Sizes, Walk};
 use acpi_text::form::{Count, Inner, Part, StructureForm, TableForm};
 use acpi_text::table::show_by;
 use acpi_vectors::agree;
 use std::test::Fail;
 
-const FLAGS: [Word; 3] = [
-    Word(0x01, "a\nb"),
-    Word(0x02, "c:d"),
-    Word(0x8000_0000, "Last"),
+const FLAGS: [Bits; 6] = [
+    Bits::Flag(0x01, "a\nb"),
+    Bits::Flag(0x02, "c:d"),
+    Bits::OneOf(0x0c, &[Word(0x04, "Four"), Word(0x08, "Eight")]),
+    Bits::Number(0xf0, 0x10, "Count"),
+    Bits::Number(0x100, 0, "None"),
+    Bits::Flag(0x8000_0000, "Last"),
 ];
 
 const LETTERS: [Row; 3] = [
@@ -37,21 +40,22 @@ const FORM: TableForm = TableForm {
 };
 
 // Names with the end of a line or a colon are question marks. There are no rows past the last, nor where the first index isn't
-// below the second. The number in a field that the bytes haven't is 0. A matrix has numbers of four bytes.
+// below the second. The number in a field that the bytes haven't is 0. A matrix has numbers of four bytes. A number of bits whose
+// lowest bit is 0 is 0. Bits of which nothing is said are at the end.
 #[test]
 fn names_and_places(rt: HostRuntime) -> Result<(), Fail> {
     let lines = "\
 ?
   0 ?                                   : 0a  // 10
-  1 Flags                               : 80000003  // ? | ? | Last
+  1 Flags                               : 8000067b  // ? | ? | Eight | Count 7 | None 0 | Last | 0x0600
   5 B                                   : 01
   6 B                                   : 02
   7 C                                   : 02
-  8 Text                                :  // \"\"
+  8 Text                                :
   8 Row                                 : 00000001 00000002
   16 Row                                : 80000000 0000000a
 ";
-    let bytes = b"\x0a\x03\0\0\x80\x01\x02\x02\
+    let bytes = b"\x0a\x7b\x06\0\x80\x01\x02\x02\
         \x01\0\0\0\x02\0\0\0\
         \0\0\0\x80\x0a\0\0\0";
     agree(&show_by(rt.alloc(), &FORM, None, bytes)?, lines)?;

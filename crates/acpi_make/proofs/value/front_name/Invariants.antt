@@ -1,5 +1,5 @@
 use Rattle.std.proofs.Common.{◌≡◌, drop}
-use Rattle.acpi_text.specs.Note.{words_of}
+use Rattle.acpi_base.specs.Look.{words_of}
 use Rattle.acpi_make.specs.Value.{front_name}
 use Rattle.acpi_make.proofs.value.front_name.Given as goal
 

@@ -1,5 +1,6 @@
 use Rattle.std.proofs.Common.{◌≡◌, drop}
-use Rattle.acpi_text.specs.Note.{find_word, words_of}
+use Rattle.acpi_base.specs.Look.{words_of}
+use Rattle.acpi_text.specs.Note.{find_word}
 use Rattle.acpi_text.proofs.note.find_word.Given as goal
 
 abbrev pub invariant-words : goal.invariant-words

@@ -1,6 +1,6 @@
 use Rattle.std.proofs.Common.{◌≡◌, ◌≤◌, ◌++◌, length, take, string_bytes}
 use Rattle.acpi_text.specs.Hex.{number_text}
-use Rattle.acpi_text.proofs.hex.push_wide.Given as goal
+use Rattle.acpi_text.proofs.hex.push_bytes.Given as goal
 
 abbrev pub invariant-digits : goal.invariant-digits
 invariant-digits l = record {

@@ -1,6 +1,6 @@
 use Rattle.std.proofs.Common.{arith}
 use Rattle.acpi_text.proofs.Numbers.{digits_go_on}
-use Rattle.acpi_text.proofs.hex.push_wide.Goals as goal
+use Rattle.acpi_text.proofs.hex.push_bytes.Goals as goal
 
 pub digits-preserved : goal.digits-preserved
 digits-preserved c = record {

@@ -1,0 +1,131 @@
+//! The forms of tables that are only read, by their signatures. A list is short enough for the toolchain to copy.
+
+pub mod aest;
+pub mod agdi;
+pub mod apmt;
+pub mod asf;
+pub mod bdat;
+pub mod bgrt;
+pub mod boot;
+pub mod ccel;
+pub mod cpep;
+pub mod csrt;
+pub mod dbgp;
+pub mod dmar;
+pub mod drtm;
+pub mod ecdt;
+pub mod einj;
+pub mod erst;
+pub mod fpdt;
+pub mod hpet;
+pub mod ibft;
+pub mod ivrs;
+pub mod lpit;
+pub mod mchi;
+pub mod mpam;
+pub mod mpst;
+pub mod msct;
+pub mod msdm;
+pub mod nfit;
+pub mod nhlt;
+pub mod pcct;
+pub mod pdtt;
+pub mod phat;
+pub mod pmtt;
+pub mod prmt;
+pub mod ras2;
+pub mod rasf;
+pub mod rgrt;
+pub mod rsdt;
+pub mod sbst;
+pub mod sdei;
+pub mod sdev;
+pub mod slic;
+pub mod spmi;
+pub mod stao;
+pub mod svkl;
+pub mod tdel;
+pub mod uefi;
+pub mod waet;
+pub mod wdat;
+pub mod wddt;
+pub mod wdrt;
+pub mod wpbt;
+pub mod wsmt;
+pub mod xenv;
+
+use acpi_text::form::TableForm;
+
+/// What a machine has when it boots.
+#[rattlefmt::skip]
+pub const BOOT_FORMS: [([u8; 4], TableForm); 16] = [
+    (*b"RSDT", rsdt::RSDT),
+    (*b"HPET", hpet::HPET),
+    (*b"WAET", waet::WAET),
+    (*b"BGRT", bgrt::BGRT),
+    (*b"BOOT", boot::BOOT),
+    (*b"DBGP", dbgp::DBGP),
+    (*b"ECDT", ecdt::ECDT),
+    (*b"UEFI", uefi::UEFI),
+    (*b"FPDT", fpdt::FPDT),
+    (*b"IBFT", ibft::IBFT),
+    (*b"iBFT", ibft::IBFT),
+    (*b"WPBT", wpbt::WPBT),
+    (*b"MSDM", msdm::MSDM),
+    (*b"SLIC", slic::SLIC),
+    (*b"RGRT", rgrt::RGRT),
+    (*b"BDAT", bdat::BDAT),
+];
+
+/// Protection, and code outside the operating system.
+#[rattlefmt::skip]
+pub const SECURITY_FORMS: [([u8; 4], TableForm); 9] = [
+    (*b"WSMT", wsmt::WSMT),
+    (*b"CCEL", ccel::CCEL),
+    (*b"TDEL", tdel::TDEL),
+    (*b"SVKL", svkl::SVKL),
+    (*b"SDEV", sdev::SDEV),
+    (*b"DRTM", drtm::DRTM),
+    (*b"XENV", xenv::XENV),
+    (*b"STAO", stao::STAO),
+    (*b"PRMT", prmt::PRMT),
+];
+
+/// Errors, watchdogs and diagnosis.
+#[rattlefmt::skip]
+pub const FAULTS_FORMS: [([u8; 4], TableForm); 13] = [
+    (*b"ERST", erst::ERST),
+    (*b"EINJ", einj::EINJ),
+    (*b"CPEP", cpep::CPEP),
+    (*b"RASF", rasf::RASF),
+    (*b"RAS2", ras2::RAS2),
+    (*b"AEST", aest::AEST),
+    (*b"PHAT", phat::PHAT),
+    (*b"PDTT", pdtt::PDTT),
+    (*b"AGDI", agdi::AGDI),
+    (*b"SDEI", sdei::SDEI),
+    (*b"WDAT", wdat::WDAT),
+    (*b"WDRT", wdrt::WDRT),
+    (*b"WDDT", wddt::WDDT),
+];
+
+/// Devices and memory.
+#[rattlefmt::skip]
+pub const DEVICES_FORMS: [([u8; 4], TableForm); 16] = [
+    (*b"DMAR", dmar::DMAR),
+    (*b"IVRS", ivrs::IVRS),
+    (*b"NFIT", nfit::NFIT),
+    (*b"PCCT", pcct::PCCT),
+    (*b"LPIT", lpit::LPIT),
+    (*b"MSCT", msct::MSCT),
+    (*b"MPST", mpst::MPST),
+    (*b"PMTT", pmtt::PMTT),
+    (*b"MPAM", mpam::MPAM),
+    (*b"APMT", apmt::APMT),
+    (*b"CSRT", csrt::CSRT),
+    (*b"NHLT", nhlt::NHLT),
+    (*b"SBST", sbst::SBST),
+    (*b"MCHI", mchi::MCHI),
+    (*b"SPMI", spmi::SPMI),
+    (*b"ASF!", asf::ASF),
+];
