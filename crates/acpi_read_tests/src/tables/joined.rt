@@ -81,7 +81,7 @@ fn are_joined(sample: &Sample, table: &Table, pieces: &[Piece<'_>]) -> Result<()
     equal(&at, &table.bytes().len())
 }
 
-/// The structures of a table, if they can be found. A table of another signature than the sample's has none. If they can't be
+/// The structures of a table, if they can be found. A table of another signature than the sample's has no pieces. If they can't be
 /// found, the offset of the fault is at most the number of bytes.
 pub fn joined<'a>(
     alloc: Global,
@@ -89,7 +89,12 @@ pub fn joined<'a>(
     table: &Table<'a>,
 ) -> Result<Option<Vec<Piece<'a>>>, Fail> {
     let bytes = table.bytes();
-    match table.structures(alloc) {
+    let found = if bytes.starts_with(sample.signature) {
+        table.structures(alloc)
+    } else {
+        table.pieces(alloc)
+    };
+    match found {
         Ok(pieces) => {
             let signature = sample.signature;
             if bytes.starts_with(signature) {
