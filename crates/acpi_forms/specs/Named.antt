@@ -171,9 +171,19 @@ facs_names = record { signature = codes "FACS"; name = codes "Firmware ACPI Cont
 abbrev pub unknown : Named
 unknown = record { signature = []; name = codes "Unknown table"; kinds = [] }
 
--- The names of the tables of a signature, which is given as a number, lowest byte first. The tables after the first list are only
--- read.
+-- the names of the tables of a signature that are only read, by the lists of these
+abbrev pub devices_names : ℕ → Named
+devices_names s = find_named s devices_tables unknown
+
+abbrev pub faults_names : ℕ → Named
+faults_names s = find_named s faults_tables (devices_names s)
+
+abbrev pub security_names : ℕ → Named
+security_names s = find_named s security_tables (faults_names s)
+
+abbrev pub boot_names : ℕ → Named
+boot_names s = find_named s boot_tables (security_names s)
+
+-- the names of the tables of a signature, which is given as a number, lowest byte first
 unfoldable pub names_of : ℕ → Named
-names_of s =
-    find_named s tables (find_named s boot_tables (find_named s security_tables (find_named s faults_tables
-    (find_named s devices_tables unknown))))
+names_of s = find_named s tables (boot_names s)

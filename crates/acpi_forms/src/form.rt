@@ -3,6 +3,7 @@
 ghost use Rattle.std.specs.Prelude.{◌≡◌};
 ghost use Rattle.acpi_base.specs.Walk.{named};
 ghost use Rattle.acpi_forms.specs.Named.{find_form, names_of, rsdp_names, facs_names, IsNamed};
+ghost use Rattle.acpi_forms.specs.Named.{boot_names, security_names, faults_names, devices_names};
 
 use crate::arm::{DBG2, GTDT, IORT};
 use crate::fixed::{BERT, DSDT, FACS, FADT, RSDP, SPCR, SSDT, TCPA, TPM2, UNKNOWN};
@@ -62,16 +63,37 @@ fn find_form(signature: u32, rows: &[([u8; 4], TableForm)], other: TableForm) ->
     other
 }
 
+// Each list of tables that are only read has a function of its own, since the proof goes through the whole list.
+fn devices_form(signature: u32) -> TableForm
+    ensures { IsNamed result (devices_names signature) }
+{
+    find_form(signature, &DEVICES_FORMS, UNKNOWN)
+}
+
+fn faults_form(signature: u32) -> TableForm
+    ensures { IsNamed result (faults_names signature) }
+{
+    find_form(signature, &FAULTS_FORMS, devices_form(signature))
+}
+
+fn security_form(signature: u32) -> TableForm
+    ensures { IsNamed result (security_names signature) }
+{
+    find_form(signature, &SECURITY_FORMS, faults_form(signature))
+}
+
+fn boot_form(signature: u32) -> TableForm
+    ensures { IsNamed result (boot_names signature) }
+{
+    find_form(signature, &BOOT_FORMS, security_form(signature))
+}
+
 /// Returns the form of the tables of a signature, which is given as a number, lowest byte first. A table of another signature
 /// has the form of a table that isn't known: its header.
 pub fn form_of(signature: u32) -> TableForm
     ensures { IsNamed result (names_of signature) }
 {
-    let devices = find_form(signature, &DEVICES_FORMS, UNKNOWN);
-    let faults = find_form(signature, &FAULTS_FORMS, devices);
-    let security = find_form(signature, &SECURITY_FORMS, faults);
-    let boot = find_form(signature, &BOOT_FORMS, security);
-    find_form(signature, &FORMS, boot)
+    find_form(signature, &FORMS, boot_form(signature))
 }
 
 /// Returns the form of a Root System Description Pointer (ACPI 6.5, 5.2.5.3), which has no standard header.
