@@ -89,14 +89,14 @@ pub fn joined<'a>(
     table: &Table<'a>,
 ) -> Result<Option<Vec<Piece<'a>>>, Fail> {
     let bytes = table.bytes();
-    let found = if bytes.starts_with(sample.signature) {
+    let signature = sample.signature;
+    let found = if bytes.starts_with(signature) {
         table.structures(alloc)
     } else {
         table.pieces(alloc)
     };
     match found {
         Ok(pieces) => {
-            let signature = sample.signature;
             if bytes.starts_with(signature) {
                 are_joined(sample, table, &pieces)?;
             } else {
@@ -120,8 +120,9 @@ fn are_reported(
     found: Option<usize>,
 ) -> Result<(), Fail> {
     let report = report_table(alloc, table);
+    let signature = sample.signature;
     let lines = match found {
-        _ if !sample.has_pieces() && table.bytes().starts_with(sample.signature) => 1,
+        _ if !sample.has_pieces() && table.bytes().starts_with(signature) => 1,
         Some(count) => count.wrapping_add(1),
         None => return equal(&report.is_err(), &true),
     };
