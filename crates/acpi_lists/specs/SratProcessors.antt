@@ -1,6 +1,5 @@
 -- Processors of x86 and Arm, and interrupt translation services, in SRAT (ACPI 6.5, 5.2.16).
 use Rattle.std.specs.Prelude.{ℕ, ◌/◌, ◌%◌, List, [], ◌∷◌}
-use Rattle.acpi_base.specs.Bytes.{le}
 use Rattle.acpi_base.specs.Fields.{NamedField, byte, dword, number_field, hex, preset, flags, reserved, fields_joined}
 use Rattle.acpi_base.specs.Look.{Part, flag}
 use Rattle.acpi_lists.specs.declared.srat.processors.ProcessorLocalApicAffinity.{ProcessorLocalApicAffinity}

@@ -14,7 +14,7 @@ use Rattle.acpi_base.specs.Look as looks
 use Rattle.acpi_base.proofs.Bytes.{bytes_le}
 use Rattle.acpi_text.specs.Hex.{number_text}
 use Rattle.acpi_text.specs.Label.{prints, all_print, label}
-use Rattle.acpi_text.specs.Note.{decimal_text, trimmed, find_word, word_text, said, without, rest_text, choice_text, bits_text}
+use Rattle.acpi_text.specs.Note.{decimal_text, trimmed, find_word, word_text, said, without, choice_text, bits_text}
 use Rattle.acpi_text.specs.Note.{number_meaning, quoted, meaning}
 use Rattle.acpi_text.proofs.Numbers.{narrow_carried}
 use Rattle.acpi_text.proofs.Printed.{Plain, plain_append, quiet_is_plain, plain_text, quiet_label, quiet_decimal}
