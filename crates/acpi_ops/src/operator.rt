@@ -5,7 +5,7 @@ ghost use Rattle.acpi_base.specs.Object.{whole, whole_ends_well, Builds};
 ghost use Rattle.acpi_term.specs.declared.op.Op.{Op};
 ghost use Rattle.acpi_term.specs.declared.op.Op.TheVariants.{LNot};
 ghost use Rattle.acpi_term.specs.Tree.{op};
-ghost use Rattle.acpi_term.specs.Operator.{operands};
+ghost use Rattle.acpi_term.specs.Operator.{IsKnown};
 ghost use Rattle.acpi_term.specs.Row.{row};
 
 use acpi_base::buffer::append_all;
@@ -21,10 +21,10 @@ use std::marker::{Model, PhantomData};
 pub trait Operator<const N: usize> {
     ghost OPERATOR: { Op };
 
-    /// The operator, whose opcode is written. Its number of operands is `N`.
+    /// The operator, whose opcode is written. It is one of this library, and its number of operands is `N`.
     const OPERATOR: Op;
 
-    ghost takes: { operands OPERATOR ≡ N };
+    ghost takes: { IsKnown OPERATOR N };
 }
 
 /// An operator's opcode, and its operands in the order of its shape.

@@ -7,6 +7,7 @@ use Rattle.acpi_base.specs.Sdt.{added}
 use Rattle.acpi_base.proofs.Lists.{joined_whole}
 use Rattle.acpi_base.proofs.Ends.{added_ends}
 use Rattle.acpi_term.specs.declared.mode.Mode.TheVariants.{Term}
+use Rattle.acpi_term.specs.Language.{written_grammar}
 use Rattle.acpi_term.specs.Spelling.{Spells, SpellEach}
 use Rattle.acpi_term.specs.Tree.{depth}
 use Rattle.acpi_term.proofs.Rows.{each, rows_mean}
@@ -30,7 +31,7 @@ blocks_mean_their_parts arity start parts long all whole deep =
     let none : drop (length start) start ≡ [] = ap (drop (length start)) (sym (append-nil start)) ∙ drop_at start [] (length start) refl in
     let is : bytes ≡ front = added_ends (length start) start front long (omega arith) ∙ ap (λ l. l ++ front) none in
     let spells : Spells arity Term bytes ts = subst (λ (b : List ℕ). Spells arity Term b ts) (sym is) (each arity Term (objects_of parts) ts (spell_each arity parts all whole) whole).0 in
-    let read = spelled_are_read arity bytes ts spells deep in
+    let read = spelled_are_read (written_grammar arity) bytes ts spells deep in
     record {
       are = record { spelled = spells; shallow = deep };
       only = read.0;

@@ -1,11 +1,13 @@
 -- The front of bytes that a name was read from, as it is cut off them.
-use Rattle.std.proofs.Common.{◌≡◌, ℕ, suc, ◌+◌, ◌-◌, ◌<◌, ◌≤◌, List, [], ◌∷◌, ◌++◌, length, take, drop, Option, Some, None, Result, Ok, Err, refl, sym, ap, ◌∙◌, append_assoc, arith}
-use Rattle.std.proofs.lemmas.Bool.{le-ltb}
+use Rattle.std.proofs.Common.{◌≡◌, ℕ, suc, false, ◌+◌, ◌-◌, ◌<◌, ◌≤◌, List, [], ◌∷◌, ◌++◌, length, take, drop, Option, Some, None, Result, Ok, Err, refl, sym, ap, subst, ◌∙◌, append_assoc, arith}
+use Rattle.std.proofs.lemmas.Bool.{le-ltb, ne_eqb}
 use Rattle.std.proofs.lemmas.List.{append-nil, take_at, drop_at, length-append}
 use Rattle.acpi_base.specs.Bytes.{AreBytes}
-use Rattle.acpi_term.specs.Name.{IsName}
-use Rattle.acpi_term.specs.Reading.{Fault, segment_at, segments_at, several_at, path_at, name_at}
-use Rattle.acpi_term.proofs.Names.{segment_takes, segments_takes, path_takes, name_takes, headed, two_parts, many_parts}
+use Rattle.acpi_base.proofs.Bytes.{bytes_after}
+use Rattle.acpi_term.specs.declared.language.Language.{Language}
+use Rattle.acpi_term.specs.Name.{IsNameString, begins_up}
+use Rattle.acpi_term.specs.Reading.{Fault, Bad, segment_at, segments_at, several_at, path_at, name_at, above_at, name_string_at, name_in}
+use Rattle.acpi_term.proofs.Names.{segment_takes, segments_takes, path_takes, headed, above_takes, name_in_takes, is_name_string, two_parts, many_parts}
 use Rattle.acpi_read.specs.Cause.{FailsBy}
 use Rattle.acpi_read.proofs.After.{after_front, whole, regrouped}
 
@@ -87,5 +89,65 @@ rooted_cut b more s rest fits is e =
     let parts = headed b 92 more s rest is (path_takes more s rest fits e).1 in
     cut_at_parts (b ∷ more) (92 ∷ s) rest (1 + length s) (name_at (b ∷ more)) parts (omega arith) (rw (is, e) refl)
 
-pub is_name : (bytes s rest : List ℕ) → AreBytes bytes → name_at bytes ≡ Ok (s, rest) → IsName s
-is_name bytes s rest fits e = (name_takes bytes s rest fits e).0
+pub is_name : (l : Language) (bytes s rest : List ℕ) → AreBytes bytes → name_in l bytes ≡ Ok (s, rest) → IsNameString s
+is_name l bytes s rest fits e = is_name_string l s (name_in_takes l bytes s rest fits e).0
+
+-- ---- names with `^`
+
+-- `^` was passed some times, and what is still to be read
+pub record AboveRead (bytes rest : List ℕ) : Type 0 where
+  pub front : List ℕ
+  pub parts : bytes ≡ front ++ rest
+  pub is : above_at bytes ≡ after_front front (above_at rest)
+
+pub above_begins : (bytes : List ℕ) → AboveRead bytes bytes
+above_begins bytes = record { front = []; parts = refl; is = whole (above_at bytes) }
+
+pub above_goes_on : (bytes rest after : List ℕ) → rest ≡ 94 ∷ after → AboveRead bytes rest → AboveRead bytes after
+unfolding above_at
+above_goes_on bytes rest after next so_far =
+    let one : above_at rest ≡ after_front (94 ∷ []) (above_at after) = rw next refl in
+    record {
+      front = so_far.front ++ 94 ∷ [];
+      parts = so_far.parts ∙ ap (λ (l : List ℕ). so_far.front ++ l) next ∙ sym (append_assoc so_far.front (94 ∷ []) after);
+      is = so_far.is ∙ ap (after_front so_far.front) one ∙ regrouped so_far.front (94 ∷ []) (above_at after);
+    }
+
+pub above_fails : (k : Option Fault) (bytes rest : List ℕ) → AboveRead bytes rest → FailsBy k (above_at rest) → FailsBy k (above_at bytes)
+above_fails None bytes rest so_far h = tt
+above_fails (Some f) bytes rest so_far h = so_far.is ∙ ap (after_front so_far.front) h
+
+pub above_shorter : (bytes rest : List ℕ) → AboveRead bytes rest → length rest ≤ length bytes
+above_shorter bytes rest so_far = omega (arith, ap length so_far.parts, length-append so_far.front rest)
+
+pub above_ends : (bytes rest s after : List ℕ) → AreBytes bytes → AboveRead bytes rest → above_at rest ≡ Ok (s, after) → CutAt (length bytes - length rest + length s) bytes (above_at bytes)
+above_ends bytes rest s after fits so_far e =
+    let f = so_far.front in
+    let left : AreBytes rest = bytes_after f rest (subst AreBytes so_far.parts fits) in
+    let parts : bytes ≡ (f ++ s) ++ after = so_far.parts ∙ ap (λ (l : List ℕ). f ++ l) (above_takes rest s after left e).1 ∙ sym (append_assoc f s after) in
+    let read : above_at bytes ≡ Ok (f ++ s, after) = so_far.is ∙ ap (after_front f) e in
+    let long : length bytes - length rest + length s ≡ length (f ++ s) = omega (arith, ap length so_far.parts, length-append f rest, length-append f s) in
+    cut_at_parts bytes (f ++ s) after (length bytes - length rest + length s) (above_at bytes) parts long read
+
+pub no_path : (bytes : List ℕ) → bytes ≡ [] → above_at bytes ≡ Err Bad
+unfolding above_at
+no_path bytes e = rw e refl
+
+pub null_here : (b : ℕ) (rest : List ℕ) → b ≡ 0 → above_at (b ∷ rest) ≡ Ok (0 ∷ [], rest)
+unfolding above_at
+null_here b rest none = rw none refl
+
+pub path_here : (b : ℕ) (rest : List ℕ) → (b ≡ 0 → ⊥) → begins_up (b ∷ rest) ≡ false → above_at (b ∷ rest) ≡ path_at (b ∷ rest)
+unfolding above_at
+path_here b rest some down = rw (ne_eqb b 0 some, down) refl
+
+pub upwards_cut : (more s rest : List ℕ) → AreBytes more → above_at more ≡ Ok (s, rest) → CutAt (1 + length s) (94 ∷ more) (name_string_at (94 ∷ more))
+unfolding name_string_at
+upwards_cut more s rest fits e =
+    let parts : 94 ∷ more ≡ (94 ∷ s) ++ rest = ap (λ (l : List ℕ). 94 ∷ l) (above_takes more s rest fits e).1 in
+    cut_at_parts (94 ∷ more) (94 ∷ s) rest (1 + length s) (name_string_at (94 ∷ more)) parts (omega arith) (rw e refl)
+
+pub upwards_fail : (k : Option Fault) (more : List ℕ) → FailsBy k (above_at more) → FailsBy k (name_string_at (94 ∷ more))
+unfolding name_string_at
+upwards_fail None more h = tt
+upwards_fail (Some f) more h = rw h refl

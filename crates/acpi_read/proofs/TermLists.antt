@@ -3,6 +3,7 @@ use Rattle.std.proofs.Common.{◌≡◌, ℕ, suc, ◌+◌, ◌-◌, ◌<◌, �
 use Rattle.acpi_base.specs.Bytes.{AreBytes}
 use Rattle.acpi_term.specs.declared.mode.Mode.{Mode}
 use Rattle.acpi_term.specs.declared.term.Term.{Term}
+use Rattle.acpi_term.specs.Language.{Grammar}
 use Rattle.acpi_term.specs.Tree.{Head, Terms, end, term}
 use Rattle.acpi_term.specs.Spelling.{next}
 use Rattle.acpi_term.specs.View.{view, views}
@@ -80,44 +81,44 @@ several_begin read m count bytes fits =
 pub all_begin : (read : Reader) (m : Mode) (bytes : List ℕ) → AreBytes bytes → AllRead read m bytes end m bytes
 all_begin read m bytes fits = record { rest_fits = fits; within = omega arith; bound = length bytes; enough = omega arith; is = all_whole (all_of read (length bytes) m bytes) }
 
-module _ (arity : List ℕ → ℕ) (d : ℕ) (m : Mode) where
+module _ (g : Grammar) (d : ℕ) (m : Mode) where
   abbrev reader : Reader
-  reader = term_at arity d
+  reader = term_at g d
 
   -- this many terms
 
-  module _ (count i : ℕ) (bytes : List ℕ) (front : Terms) (at : Mode) (rest : List ℕ) (so_far : SeveralRead (term_at arity d) m count i bytes front at rest) where
-    pub several_go_on : i < count → (h : Head) (w : ℕ) (c : Terms) (after : List ℕ) → term_at arity d at rest ≡ Ok (h, w, c, after) → SeveralRead (term_at arity d) m count (i + 1) bytes (and_one front h w c) (next at) after
+  module _ (count i : ℕ) (bytes : List ℕ) (front : Terms) (at : Mode) (rest : List ℕ) (so_far : SeveralRead (term_at g d) m count i bytes front at rest) where
+    pub several_go_on : i < count → (h : Head) (w : ℕ) (c : Terms) (after : List ℕ) → term_at g d at rest ≡ Ok (h, w, c, after) → SeveralRead (term_at g d) m count (i + 1) bytes (and_one front h w c) (next at) after
     unfolding counted
     several_go_on lt h w c after e =
         let k : count - i ≡ suc (count - (i + 1)) = omega arith in
-        let s = term_shrinks arity d at rest (h, w, c, after) so_far.rest_fits e in
+        let s = term_shrinks g d at rest (h, w, c, after) so_far.rest_fits e in
         let shorter : length after < length rest = s.less in
-        let one : counted (term_at arity d) (count - i) at rest ≡ after_front (term h w c end) (counted (term_at arity d) (count - (i + 1)) (next at) after) = rw (k, e) refl in
+        let one : counted (term_at g d) (count - i) at rest ≡ after_front (term h w c end) (counted (term_at g d) (count - (i + 1)) (next at) after) = rw (k, e) refl in
         record {
           rest_fits = s.fits;
           within = omega (arith, shorter, so_far.within);
-          is = so_far.is ∙ ap (after_front front) one ∙ regrouped front h w c (counted (term_at arity d) (count - (i + 1)) (next at) after);
+          is = so_far.is ∙ ap (after_front front) one ∙ regrouped front h w c (counted (term_at g d) (count - (i + 1)) (next at) after);
         }
 
-    pub several_fail : i < count → (k : Option Fault) → FailsBy k (term_at arity d at rest) → FailsBy k (counted (term_at arity d) count m bytes)
+    pub several_fail : i < count → (k : Option Fault) → FailsBy k (term_at g d at rest) → FailsBy k (counted (term_at g d) count m bytes)
     unfolding counted
     several_fail lt None h = tt
     several_fail lt (Some f) h =
         let n : count - i ≡ suc (count - (i + 1)) = omega arith in
-        let one : counted (term_at arity d) (count - i) at rest ≡ Err f = rw (n, h) refl in
+        let one : counted (term_at g d) (count - i) at rest ≡ Err f = rw (n, h) refl in
         so_far.is ∙ ap (after_front front) one
 
-    pub several_miss : i < count → rest ≡ [] → 0 < d → counted (term_at arity d) count m bytes ≡ Err Bad
+    pub several_miss : i < count → rest ≡ [] → 0 < d → counted (term_at g d) count m bytes ≡ Err Bad
     unfolding counted term_at open_at
     several_miss lt none some =
         let n : count - i ≡ suc (count - (i + 1)) = omega arith in
         let deeper : d ≡ suc (d - 1) = omega arith in
-        let failed : term_at arity d at [] ≡ Err Bad = ap (λ k. term_at arity k at []) deeper in
-        let one : counted (term_at arity d) (count - i) at rest ≡ Err Bad = rw (n, none, failed) refl in
+        let failed : term_at g d at [] ≡ Err Bad = ap (λ k. term_at g k at []) deeper in
+        let one : counted (term_at g d) (count - i) at rest ≡ Err Bad = rw (n, none, failed) refl in
         so_far.is ∙ ap (after_front front) one
 
-    pub several_end : count ≤ i → counted (term_at arity d) count m bytes ≡ Ok (front, rest)
+    pub several_end : count ≤ i → counted (term_at g d) count m bytes ≡ Ok (front, rest)
     unfolding counted
     several_end le =
         let n : count - i ≡ 0 = omega arith in
@@ -125,29 +126,29 @@ module _ (arity : List ℕ → ℕ) (d : ℕ) (m : Mode) where
 
   -- all terms
 
-  module _ (bytes : List ℕ) (front : Terms) (at : Mode) (rest : List ℕ) (so_far : AllRead (term_at arity d) m bytes front at rest) where
-    next_is : 0 < length rest → all_of (term_at arity d) (length bytes) m bytes ≡ all_after_front front (term_at arity d at rest >>= λ t. all_of (term_at arity d) (so_far.bound - 1) (next at) t.3 >>= λ others. Ok (term t.0 t.1 t.2 others))
-    next_is some = so_far.is ∙ ap (all_after_front front) (all_more (term_at arity d) so_far.bound at rest some so_far.enough)
+  module _ (bytes : List ℕ) (front : Terms) (at : Mode) (rest : List ℕ) (so_far : AllRead (term_at g d) m bytes front at rest) where
+    next_is : 0 < length rest → all_of (term_at g d) (length bytes) m bytes ≡ all_after_front front (term_at g d at rest >>= λ t. all_of (term_at g d) (so_far.bound - 1) (next at) t.3 >>= λ others. Ok (term t.0 t.1 t.2 others))
+    next_is some = so_far.is ∙ ap (all_after_front front) (all_more (term_at g d) so_far.bound at rest some so_far.enough)
 
-    pub all_go_on : 0 < length rest → (h : Head) (w : ℕ) (c : Terms) (after : List ℕ) → term_at arity d at rest ≡ Ok (h, w, c, after) → AllRead (term_at arity d) m bytes (and_one front h w c) (next at) after
+    pub all_go_on : 0 < length rest → (h : Head) (w : ℕ) (c : Terms) (after : List ℕ) → term_at g d at rest ≡ Ok (h, w, c, after) → AllRead (term_at g d) m bytes (and_one front h w c) (next at) after
     all_go_on some h w c after e =
-        let s = term_shrinks arity d at rest (h, w, c, after) so_far.rest_fits e in
+        let s = term_shrinks g d at rest (h, w, c, after) so_far.rest_fits e in
         let shorter : length after < length rest = s.less in
         record {
           rest_fits = s.fits;
           within = omega (arith, shorter, so_far.within);
           bound = so_far.bound - 1;
           enough = omega (arith, shorter, so_far.enough);
-          is = next_is some ∙ rw e (all_regrouped front h w c (all_of (term_at arity d) (so_far.bound - 1) (next at) after));
+          is = next_is some ∙ rw e (all_regrouped front h w c (all_of (term_at g d) (so_far.bound - 1) (next at) after));
         }
 
-    pub all_shrink : (h : Head) (w : ℕ) (c : Terms) (after : List ℕ) → term_at arity d at rest ≡ Ok (h, w, c, after) → length after < length rest
-    all_shrink h w c after e = (term_shrinks arity d at rest (h, w, c, after) so_far.rest_fits e).less
+    pub all_shrink : (h : Head) (w : ℕ) (c : Terms) (after : List ℕ) → term_at g d at rest ≡ Ok (h, w, c, after) → length after < length rest
+    all_shrink h w c after e = (term_shrinks g d at rest (h, w, c, after) so_far.rest_fits e).less
 
-    pub all_fail : 0 < length rest → (k : Option Fault) → FailsBy k (term_at arity d at rest) → FailsBy k (all_of (term_at arity d) (length bytes) m bytes)
+    pub all_fail : 0 < length rest → (k : Option Fault) → FailsBy k (term_at g d at rest) → FailsBy k (all_of (term_at g d) (length bytes) m bytes)
     all_fail some None h = tt
     all_fail some (Some f) h = next_is some ∙ rw h refl
 
-    pub all_end : rest ≡ [] → all_of (term_at arity d) (length bytes) m bytes ≡ Ok front
+    pub all_end : rest ≡ [] → all_of (term_at g d) (length bytes) m bytes ≡ Ok front
     unfolding all_of
     all_end none = so_far.is ∙ rw none (ap (λ (ts : Terms). Ok ts) (joins_end front))

@@ -4,11 +4,12 @@ use Rattle.std.specs.Prelude.{IfOk}
 use Rattle.std.proofs.lemmas.List.{length-append}
 use Rattle.acpi_base.specs.Bytes.{AreBytes}
 use Rattle.acpi_term.specs.declared.mode.Mode.{Mode}
+use Rattle.acpi_term.specs.Language.{Grammar}
 use Rattle.acpi_term.specs.Tree.{def_buffer, def_package}
 use Rattle.acpi_term.specs.Length.{length_bytes}
 use Rattle.acpi_term.specs.Row.{Layout, bare, framed, layout}
 use Rattle.acpi_term.specs.Spelling.{laid, spelled}
-use Rattle.acpi_term.specs.Reading.{Opened, follows, fills, packs, begins, least_of, open_at}
+use Rattle.acpi_term.specs.Reading.{Opened, follows, fills, packs, rooms, begins, least_of, open_at}
 use Rattle.acpi_term.proofs.Openings.{OpenTakes, open_takes}
 use Rattle.acpi_read.specs.declared.terms.cause.Cause.{Cause}
 use Rattle.acpi_read.specs.declared.terms.open.TermStart as code
@@ -31,18 +32,19 @@ laid_long (framed code before after) w inside = (framed_long code (length_bytes 
 parts_within : (bytes first after : List ℕ) (n : ℕ) → bytes ≡ first ++ after → n ≤ length first → n + length after ≤ length bytes
 parts_within bytes first after n is le = omega (arith, ap length is, length-append first after, le)
 
-module _ (arity : List ℕ → ℕ) (m : Mode) where
-  opened_within : (bytes : List ℕ) (o : Opened) → OpenTakes arity m bytes o → LiesWithin (length bytes) o
+module _ (g : Grammar) (m : Mode) where
+  opened_within : (bytes : List ℕ) (o : Opened) → OpenTakes g m bytes o → LiesWithin (length bytes) o
   opened_within bytes (follows h w n rest) t =
       let p = (t.1 [] rest refl (λ z. refl)).0 in
       omega (arith, parts_within bytes (spelled h w n []) rest 0 p (omega arith))
   opened_within bytes (fills h w inside after) t =
       parts_within bytes (spelled h w (least_of h) inside) after (length inside) (t.2 (least_of h) (omega arith)).0 (laid_long (layout h w (least_of h)) w inside)
   opened_within bytes (packs w n inside after) t = parts_within bytes (spelled def_package w n inside) after (length inside) t.2 (laid_long (layout def_package w n) w inside)
+  opened_within bytes (rooms w n inside after) t = parts_within bytes (spelled def_package w n inside) after (length inside) t.2.0 (laid_long (layout def_package w n) w inside)
   opened_within bytes (begins w content after) t =
       let p = (t.2 [] content refl).0 in
       parts_within bytes (spelled (def_buffer content) w 1 []) after (length content) p (framed_long (0x11 ∷ []) (length_bytes w (w + length content)) [] [] content).1
 
-  pub is_within : (bytes : List ℕ) (r : Result code.TermStart Cause) → AreBytes bytes → Gives seen r (open_at arity m bytes) → IfOk r (λ o. LiesWithin (length bytes) (seen o))
-  is_within bytes (Ok o) fits given = opened_within bytes (seen o) (open_takes arity m bytes (seen o) fits given)
+  pub is_within : (bytes : List ℕ) (r : Result code.TermStart Cause) → AreBytes bytes → Gives seen r (open_at g m bytes) → IfOk r (λ o. LiesWithin (length bytes) (seen o))
+  is_within bytes (Ok o) fits given = opened_within bytes (seen o) (open_takes g m bytes (seen o) fits given)
   is_within bytes (Err e) fits given = tt

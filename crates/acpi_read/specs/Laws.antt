@@ -5,16 +5,18 @@ use Rattle.acpi_base.specs.Sdt.{added}
 use Rattle.acpi_term.specs.declared.mode.Mode.TheVariants.{Term}
 use Rattle.acpi_term.specs.declared.read_error.ReadError.{ReadError}
 use Rattle.acpi_term.specs.declared.read_error.ReadError.TheVariants.{Memory}
+use Rattle.acpi_term.specs.declared.language.Language.TheVariants.{Written}
+use Rattle.acpi_term.specs.Language.{Grammar}
 use Rattle.acpi_term.specs.Row.{row, writer_width}
 use Rattle.acpi_term.specs.Tree.{Head, Terms, end, term, depth}
-use Rattle.acpi_term.specs.Spelling.{Takes, IsStandard, IsWritten, Spells, SpellEach, inner}
-use Rattle.acpi_read.specs.Terms.{AreRead, IsUnread}
+use Rattle.acpi_term.specs.Spelling.{Takes, IsStandard, IsWritten, SpellsIn, SpellEach, inner}
+use Rattle.acpi_read.specs.Terms.{AreRead, IsUnread, AreReadIn, IsUnreadIn}
 
--- If bytes spell terms that aren't nested too deep, these terms are what is read, and `Memory` is the only error.
+-- In each language, if bytes spell terms that aren't nested too deep, these terms are what is read, and `Memory` is the only error.
 abbrev pub SpelledTermsAreRead : Type 0
 SpelledTermsAreRead =
-    (arity : List ℕ → ℕ) (bytes : List ℕ) (ts : Terms) → Spells arity Term bytes ts → depth ts ≤ 255
-    → ((us : Terms) → AreRead arity bytes us → us ≡ ts) × ((e : ReadError) → IsUnread arity bytes e → e ≡ Memory)
+    (g : Grammar) (bytes : List ℕ) (ts : Terms) → SpellsIn g Term bytes ts → depth ts ≤ 255
+    → ((us : Terms) → AreReadIn g bytes us → us ≡ ts) × ((e : ReadError) → IsUnreadIn g bytes e → e ≡ Memory)
 
 -- Objects that spell a term each were added to a table without content. The terms that are read from the bytes after the header
 -- are those of the objects, if they aren't nested too deep.
@@ -43,7 +45,7 @@ objects_of parts = map object_of parts
 -- Names, texts and numbers are standard, a name has as many arguments as are stated for it, and each child spells its term.
 pub record IsWellFormed (arity : List ℕ → ℕ) (p : Part) : Type 0 where
   pub takes : Takes arity Term p.head (length p.children)
-  pub is_standard : IsStandard p.head
+  pub is_standard : IsStandard Written p.head
   pub written : IsWritten p.head
   pub spell : SpellEach arity (inner p.head) p.children p.terms
 

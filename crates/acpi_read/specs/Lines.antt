@@ -1,12 +1,17 @@
 -- The report of terms: a line for each, followed by its children, indented by two more spaces.
-use Rattle.std.specs.Prelude.{◌≡◌, ℕ, zero, suc, ◌+◌, ◌^◌, nat_lt, nat_le, ◌==◌, ◌&&◌, not}
+use Rattle.std.specs.Prelude.{◌≡◌, ◌⊎◌, ℕ, zero, suc, ◌+◌, ◌^◌, nat_lt, nat_le, ◌==◌, ◌&&◌, ◌||◌, not}
 use Rattle.std.specs.Prelude.{Bool, true, if◌then◌else◌, List, [], ◌∷◌, ◌++◌, length, map, codes}
 use Rattle.std.specs.Fmt.{decimal}
 use Rattle.acpi_base.specs.Digit.{hex_byte}
+use Rattle.acpi_term.specs.Name.{IsNameString, IsAbove}
 use Rattle.acpi_term.specs.Tree.{Entry, named, reserved, Head, number, ones, string, local, arg, call}
+use Rattle.acpi_term.specs.Name.{IsNameString, IsAbove}
 use Rattle.acpi_term.specs.Tree.{def_scope, def_device, def_method, def_power_res, def_field, def_op_region}
+use Rattle.acpi_term.specs.Name.{IsNameString, IsAbove}
 use Rattle.acpi_term.specs.Tree.{def_name, def_mutex, def_acquire, def_release, def_buffer, def_package}
+use Rattle.acpi_term.specs.Name.{IsNameString, IsAbove}
 use Rattle.acpi_term.specs.Tree.{def_var_package, def_if, def_while, def_else, op, Terms, end, term, count}
+use Rattle.acpi_term.specs.Tree.{def_external, def_leveled_method, def_processor, def_thermal_zone, def_roomy_package, def_index_field}
 use Rattle.acpi_term.specs.Length.{least_width}
 use Rattle.acpi_term.specs.Operator.{word}
 use Rattle.acpi_term.specs.Row.{entry_bits, entry_width, Layout, bare, framed, layout, writer_width}
@@ -38,15 +43,21 @@ abbrev pub tail : List ℕ → List ℕ
 tail [] = []
 tail (b ∷ rest) = rest
 
--- the segments of a path, without the prefix that counts them
+-- the segments of a path, without the prefix that counts them; a null path has none
 abbrev pub segments_of : List ℕ → List ℕ
 segments_of [] = []
-segments_of (b ∷ rest) = if b == 46 then rest else (if b == 47 then tail rest else b ∷ rest)
+segments_of (b ∷ rest) = if b == 46 || b == 0 then rest else (if b == 47 then tail rest else b ∷ rest)
+
+-- a name, or what stands in one after `^`
+abbrev pub IsShown : List ℕ → Type 0
+IsShown s = IsNameString s ⊎ IsAbove s
 
 -- the text of a name that these bytes spell (ACPI 6.5, 20.2.2)
 abbrev pub name_text : List ℕ → List ℕ
 name_text [] = []
-name_text (b ∷ rest) = if b == 92 then 92 ∷ dotted_segments (segments_of rest) else dotted_segments (segments_of (b ∷ rest))
+name_text (b ∷ rest) =
+    if b == 92 then 92 ∷ dotted_segments (segments_of rest)
+    else (if b == 94 then 94 ∷ name_text rest else dotted_segments (segments_of (b ∷ rest)))
 
 -- ---- widths
 
@@ -103,6 +114,18 @@ head_text def_if n = codes "if"
 head_text def_while n = codes "while"
 head_text def_else n = codes "else"
 head_text (op o) n = word o
+head_text (def_external name kind args) n = codes "external " ++ name_text name ++ codes " type " ++ decimal kind
+    ++ codes " args " ++ decimal args
+head_text (def_leveled_method name args serialized level) n =
+    codes "method " ++ name_text name ++ codes " args " ++ decimal args ++ codes " serialized "
+    ++ (if serialized then codes "1" else codes "0") ++ codes " level " ++ decimal level
+head_text (def_processor name id address size) n = codes "processor " ++ name_text name ++ codes " id " ++ decimal id
+    ++ codes " address " ++ decimal address ++ codes " length " ++ decimal size
+head_text (def_thermal_zone name) n = codes "thermalzone " ++ name_text name
+head_text (def_roomy_package room) n = codes "package " ++ decimal n ++ codes " of " ++ decimal room
+head_text (def_index_field index name access lock update entries) n =
+    codes "indexfield " ++ name_text index ++ (codes " data " ++ name_text name ++ codes " access " ++ decimal access)
+    ++ (codes " lock " ++ decimal lock ++ codes " update " ++ decimal update)
 
 -- the indentation of a line
 abbrev pub indent : ℕ → List ℕ
@@ -126,6 +149,7 @@ entry_lines d (e ∷ entries) = entry_line d e ++ entry_lines d entries
 -- the lines of a field's entries, which aren't terms
 abbrev pub own_lines : ℕ → Head → List ℕ
 own_lines d (def_field name access lock update entries) = entry_lines d entries
+own_lines d (def_index_field index name access lock update entries) = entry_lines d entries
 own_lines d _ = []
 
 -- the width of a term, if the report shows it

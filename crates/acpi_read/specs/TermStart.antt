@@ -1,13 +1,13 @@
 -- The heads of terms, without their place in memory.
 use Rattle.std.specs.Prelude.{◌≡◌, ℕ, ◌+◌, ◌≤◌, length}
 use Rattle.acpi_term.specs.Tree.{Head, call, def_scope, def_device, def_method, def_power_res, def_op_region}
-use Rattle.acpi_term.specs.Tree.{def_name, def_var_package, def_if, def_while, def_else, op, end}
+use Rattle.acpi_term.specs.Tree.{def_name, def_var_package, def_if, def_while, def_else, op, def_leveled_method, def_processor, def_thermal_zone, end}
 use Rattle.acpi_term.specs.Operator.{operands}
 use Rattle.acpi_term.specs.View.{view}
-use Rattle.acpi_term.specs.Reading.{Opened, follows, fills, packs, begins}
+use Rattle.acpi_term.specs.Reading.{Opened, follows, fills, packs, rooms, begins}
 use Rattle.acpi_read.specs.declared.terms.open.TermStart as code
 use Rattle.acpi_read.specs.declared.terms.open.TermStart.TheVariants.{Leaf, Call, Operator, Region, Define}
-use Rattle.acpi_read.specs.declared.terms.open.TermStart.TheVariants.{Block, FirstAndBlock, Package, Buffer}
+use Rattle.acpi_read.specs.declared.terms.open.TermStart.TheVariants.{Block, FirstAndBlock, Package, Rooms, Buffer}
 use Rattle.acpi_read.specs.declared.terms.open.Block as block
 use Rattle.acpi_read.specs.declared.terms.open.Block.TheVariants as blocks
 use Rattle.acpi_read.specs.declared.terms.open.FirstAndBlock as first_and_block
@@ -19,6 +19,9 @@ block_head (blocks.Device w name) = def_device name
 block_head (blocks.Method w name args serialized) = def_method name args serialized
 block_head (blocks.PowerResource w name level order) = def_power_res name level order
 block_head (blocks.Else w) = def_else
+block_head (blocks.LeveledMethod w name args serialized level) = def_leveled_method name args serialized level
+block_head (blocks.Processor w name id address size) = def_processor name id address size
+block_head (blocks.ThermalZone w name) = def_thermal_zone name
 
 abbrev pub block_width : block.Block → ℕ
 block_width (blocks.Scope w name) = w
@@ -26,6 +29,9 @@ block_width (blocks.Device w name) = w
 block_width (blocks.Method w name args serialized) = w
 block_width (blocks.PowerResource w name level order) = w
 block_width (blocks.Else w) = w
+block_width (blocks.LeveledMethod w name args serialized level) = w
+block_width (blocks.Processor w name id address size) = w
+block_width (blocks.ThermalZone w name) = w
 
 abbrev pub first_head : first_and_block.FirstAndBlock → Head
 first_head (firsts.VarPackage w) = def_var_package
@@ -46,6 +52,7 @@ seen (Define name rest) = follows (def_name name) 0 1 rest.now
 seen (Block f inside after) = fills (block_head f) (block_width f) inside.now after.now
 seen (FirstAndBlock f inside after) = fills (first_head f) (first_width f) inside.now after.now
 seen (Package w n inside after) = packs w n inside.now after.now
+seen (Rooms w n inside after) = rooms w n inside.now after.now
 seen (Buffer w content after) = begins w content.now after.now
 
 -- the bytes inside and after a head are a part of this many bytes
@@ -53,6 +60,7 @@ abbrev pub LiesWithin : ℕ → Opened → Type 0
 LiesWithin n (follows h w count rest) = length rest ≤ n
 LiesWithin n (fills h w inside after) = length inside + length after ≤ n
 LiesWithin n (packs w count inside after) = length inside + length after ≤ n
+LiesWithin n (rooms w count inside after) = length inside + length after ≤ n
 LiesWithin n (begins w content after) = length content + length after ≤ n
 
 -- a leaf has no children

@@ -158,7 +158,9 @@ fn push_own(depth: usize, kind: Kind<'_>, text: &mut String) -> Result<(), Alloc
     ensures { OnOk result (string_bytes text.new ≡ string_bytes text.old ++ own_lines depth (head_of kind.entry)) }
 {
     match kind {
-        Kind::Field(_, _, _, _, entries) => push_entries(depth, entries, text),
+        Kind::Field(_, _, _, _, entries) | Kind::IndexField(_, _, _, _, _, entries) => {
+            push_entries(depth, entries, text)
+        }
         _ => Ok(()),
     }
 }

@@ -10,18 +10,21 @@ mod text;
 ghost use Rattle.std.specs.Prelude.{◌≡◌, ◌+◌, ◌<◌, ◌≤◌, ◌++◌, ◌∷◌, [], length, IfOk, OnOk, IfErr, Some, None};
 ghost use Rattle.acpi_base.specs.Object.{IsOwnEnd};
 ghost use Rattle.acpi_term.specs.Arity.{arity};
+ghost use Rattle.acpi_term.specs.declared.language.Language.TheVariants.{Standard};
+ghost use Rattle.acpi_term.specs.Language.{grammar_of};
 ghost use Rattle.acpi_term.specs.Operator.{operands};
-ghost use Rattle.acpi_term.specs.Reading.{Bad, follows, fills, packs, begins, counted, all_of, close, term_at};
-ghost use Rattle.acpi_term.specs.Tree.{call, def_op_region, def_name, op};
+ghost use Rattle.acpi_term.specs.Reading.{Bad, follows, fills, packs, rooms, roomed, begins, counted, all_of, close, term_at};
+ghost use Rattle.acpi_term.specs.Tree.{call, def_op_region, def_name, def_package, def_roomy_package, op};
 ghost use Rattle.acpi_term.specs.View.{view, views};
 ghost use Rattle.acpi_read.specs.Cause.{Answers, IsPlaced, error_kind};
 ghost use Rattle.acpi_read.specs.TermStart.{seen, block_head, block_width, first_head, first_width, LiesWithin, IsAlone};
-ghost use Rattle.acpi_read.specs.Terms.{AreRead, IsUnread};
+ghost use Rattle.acpi_read.specs.Terms.{AreRead, IsUnread, AreReadIn, IsUnreadIn};
 
 use crate::terms::open::{Block, FirstAndBlock, TermStart, open};
 use acpi_base::buffer::append;
 use acpi_base::error::R;
 use acpi_base::object::Aml;
+use acpi_term::language::Language;
 use acpi_term::mode::Mode;
 use acpi_term::name_string::{Arities, NameString};
 use acpi_term::op::Op;
@@ -32,6 +35,7 @@ use acpi_term::term::{MAX_DEPTH, Term};
 #[cycle(read)]
 #[tactic(auto, unfolding(acpi_term::specs::Reading::term_at))]
 fn term<'a>(
+    language: Language,
     arities: &Arities,
     mode: Mode,
     bytes: &'a [u8],
@@ -40,7 +44,7 @@ fn term<'a>(
 ) -> Result<(Term, &'a [u8]), ReadError>
     requires { length bytes.now ≤ end }
     ensures gives { Answers (λ x. ((view x.0).0, (view x.0).1, (view x.0).2, x.1.now)) result
-        (term_at (arity arities.now) depth mode bytes.now) }
+        (term_at (grammar_of language (arity arities.now)) depth mode bytes.now) }
     ensures shorter { IfOk result (λ x. length x.1.now < length bytes.now) }
     ensures placed { IfErr result (IsPlaced end) }
 {
@@ -48,8 +52,8 @@ fn term<'a>(
     if depth == 0 {
         return Err(ReadError::TooDeep(offset));
     }
-    match open(arities, mode, bytes) {
-        Ok(opened) => close(arities, opened, offset, end, depth - 1),
+    match open(language, arities, mode, bytes) {
+        Ok(opened) => close(language, arities, opened, offset, end, depth - 1),
         Err(cause) => Err(cause.at(offset)),
     }
 }
@@ -59,6 +63,7 @@ fn term<'a>(
 #[cycle(read)]
 #[tactic(auto, unfolding(acpi_term::specs::Reading::close, acpi_term::specs::Reading::counted))]
 fn close<'a>(
+    language: Language,
     arities: &Arities,
     opened: TermStart<'a>,
     offset: usize,
@@ -69,27 +74,38 @@ fn close<'a>(
     requires alone { IsAlone opened }
     requires place { offset ≤ end }
     ensures gives { Answers (λ x. ((view x.0).0, (view x.0).1, (view x.0).2, x.1.now)) result
-        (close (term_at (arity arities.now) depth) (seen opened.entry)) }
+        (close (term_at (grammar_of language (arity arities.now)) depth) (seen opened.entry)) }
     ensures placed { IfErr result (IsPlaced end) }
 {
     match opened {
         TermStart::Leaf(leaf, rest) => Ok((leaf, rest)),
-        TermStart::Call(name, count, rest) => call(arities, name, count, rest, end, depth),
-        TermStart::Operator(op, rest) => operator(arities, op, rest, end, depth),
-        TermStart::Region(name, space, rest) => region(arities, name, space, rest, end, depth),
-        TermStart::Define(name, rest) => define(arities, name, rest, end, depth),
-        TermStart::Block(head, inside, after) => block(arities, head, inside, after, end, depth),
+        TermStart::Call(name, count, rest) => call(
+            language, arities, name, count, rest, end, depth,
+        ),
+        TermStart::Operator(op, rest) => operator(language, arities, op, rest, end, depth),
+        TermStart::Region(name, space, rest) => region(
+            language, arities, name, space, rest, end, depth,
+        ),
+        TermStart::Define(name, rest) => define(language, arities, name, rest, end, depth),
+        TermStart::Block(head, inside, after) => block(
+            language, arities, head, inside, after, end, depth,
+        ),
         TermStart::FirstAndBlock(start, inside, after) => {
             if inside.is_empty() {
                 return Err(ReadError::Truncated(offset));
             }
-            first_and_block(arities, start, inside, after, end, depth)
+            first_and_block(language, arities, start, inside, after, end, depth)
         }
         TermStart::Package(width, count, inside, after) => {
-            package(arities, width, count, inside, after, offset, end, depth)
+            package(
+                language, arities, width, count, inside, after, offset, end, depth,
+            )
         }
+        TermStart::Rooms(width, room, inside, after) => roomy(
+            language, arities, width, room, inside, after, offset, end, depth,
+        ),
         TermStart::Buffer(width, content, after) => {
-            buffer(arities, width, content, after, end, depth)
+            buffer(language, arities, width, content, after, end, depth)
         }
     }
 }
@@ -98,6 +114,7 @@ fn close<'a>(
 #[cycle(read)]
 #[tactic(auto, unfolding(acpi_term::specs::Reading::close, acpi_term::specs::Reading::counted))]
 fn call<'a>(
+    language: Language,
     arities: &Arities,
     name: NameString,
     count: u8,
@@ -107,10 +124,10 @@ fn call<'a>(
 ) -> Result<(Term, &'a [u8]), ReadError>
     requires within { length rest.now ≤ end }
     ensures gives { Answers (λ x. ((view x.0).0, (view x.0).1, (view x.0).2, x.1.now)) result
-        (close (term_at (arity arities.now) depth) (follows (call name) 0 count rest.now)) }
+        (close (term_at (grammar_of language (arity arities.now)) depth) (follows (call name) 0 count rest.now)) }
     ensures placed { IfErr result (IsPlaced end) }
 {
-    let (args, rest) = several(arities, Mode::Term, count, rest, end, depth)?;
+    let (args, rest) = several(language, arities, Mode::Term, count, rest, end, depth)?;
     Ok((Term::Call { name, args }, rest))
 }
 
@@ -118,6 +135,7 @@ fn call<'a>(
 #[cycle(read)]
 #[tactic(auto, unfolding(acpi_term::specs::Reading::close, acpi_term::specs::Reading::counted))]
 fn operator<'a>(
+    language: Language,
     arities: &Arities,
     code: Op,
     rest: &'a [u8],
@@ -126,10 +144,18 @@ fn operator<'a>(
 ) -> Result<(Term, &'a [u8]), ReadError>
     requires within { length rest.now ≤ end }
     ensures gives { Answers (λ x. ((view x.0).0, (view x.0).1, (view x.0).2, x.1.now)) result
-        (close (term_at (arity arities.now) depth) (follows (op code) 0 (operands code) rest.now)) }
+        (close (term_at (grammar_of language (arity arities.now)) depth) (follows (op code) 0 (operands code) rest.now)) }
     ensures placed { IfErr result (IsPlaced end) }
 {
-    let (operands, rest) = several(arities, Mode::Term, code.operands(), rest, end, depth)?;
+    let (operands, rest) = several(
+        language,
+        arities,
+        code.place(),
+        code.operands(),
+        rest,
+        end,
+        depth,
+    )?;
     Ok((Term::Op { op: code, operands }, rest))
 }
 
@@ -137,6 +163,7 @@ fn operator<'a>(
 #[cycle(read)]
 #[tactic(auto, unfolding(acpi_term::specs::Reading::close, acpi_term::specs::Reading::counted))]
 fn region<'a>(
+    language: Language,
     arities: &Arities,
     name: NameString,
     space: u8,
@@ -146,12 +173,12 @@ fn region<'a>(
 ) -> Result<(Term, &'a [u8]), ReadError>
     requires within { length rest.now ≤ end }
     ensures gives { Answers (λ x. ((view x.0).0, (view x.0).1, (view x.0).2, x.1.now)) result
-        (close (term_at (arity arities.now) depth) (follows (def_op_region name space) 0 2 rest.now)) }
+        (close (term_at (grammar_of language (arity arities.now)) depth) (follows (def_op_region name space) 0 2 rest.now)) }
     ensures placed { IfErr result (IsPlaced end) }
 {
     let alloc = arities.allocator();
-    let (offset, rest) = term(arities, Mode::Term, rest, end, depth)?;
-    let (length, rest) = term(arities, Mode::Term, rest, end, depth)?;
+    let (offset, rest) = term(language, arities, Mode::Term, rest, end, depth)?;
+    let (length, rest) = term(language, arities, Mode::Term, rest, end, depth)?;
     let offset = Box::new(alloc, offset)?;
     let length = Box::new(alloc, length)?;
     let region = Term::OpRegion {
@@ -167,6 +194,7 @@ fn region<'a>(
 #[cycle(read)]
 #[tactic(auto, unfolding(acpi_term::specs::Reading::close, acpi_term::specs::Reading::counted))]
 fn define<'a>(
+    language: Language,
     arities: &Arities,
     name: NameString,
     rest: &'a [u8],
@@ -175,10 +203,10 @@ fn define<'a>(
 ) -> Result<(Term, &'a [u8]), ReadError>
     requires within { length rest.now ≤ end }
     ensures gives { Answers (λ x. ((view x.0).0, (view x.0).1, (view x.0).2, x.1.now)) result
-        (close (term_at (arity arities.now) depth) (follows (def_name name) 0 1 rest.now)) }
+        (close (term_at (grammar_of language (arity arities.now)) depth) (follows (def_name name) 0 1 rest.now)) }
     ensures placed { IfErr result (IsPlaced end) }
 {
-    let (value, rest) = term(arities, Mode::Term, rest, end, depth)?;
+    let (value, rest) = term(language, arities, Mode::Term, rest, end, depth)?;
     let value = Box::new(arities.allocator(), value)?;
     Ok((Term::Name { name, value }, rest))
 }
@@ -187,6 +215,7 @@ fn define<'a>(
 #[cycle(read)]
 #[tactic(auto, unfolding(acpi_term::specs::Reading::close, acpi_term::specs::Reading::counted))]
 fn block<'a>(
+    language: Language,
     arities: &Arities,
     head: Block,
     inside: &[u8],
@@ -196,10 +225,17 @@ fn block<'a>(
 ) -> Result<(Term, &'a [u8]), ReadError>
     requires within { length inside.now + length after.now ≤ end }
     ensures gives { Answers (λ x. ((view x.0).0, (view x.0).1, (view x.0).2, x.1.now)) result
-        (close (term_at (arity arities.now) depth) (fills (block_head head) (block_width head) inside.now after.now)) }
+        (close (term_at (grammar_of language (arity arities.now)) depth) (fills (block_head head) (block_width head) inside.now after.now)) }
     ensures placed { IfErr result (IsPlaced end) }
 {
-    let children = all(arities, Mode::Term, inside, end - after.len(), depth)?;
+    let children = all(
+        language,
+        arities,
+        Mode::Term,
+        inside,
+        end - after.len(),
+        depth,
+    )?;
     Ok((head.with(children), after))
 }
 
@@ -207,6 +243,7 @@ fn block<'a>(
 #[cycle(read)]
 #[tactic(auto, unfolding(acpi_term::specs::Reading::close, acpi_term::specs::Reading::counted))]
 fn first_and_block<'a>(
+    language: Language,
     arities: &Arities,
     start: FirstAndBlock,
     inside: &[u8],
@@ -217,13 +254,13 @@ fn first_and_block<'a>(
     requires within { length inside.now + length after.now ≤ end }
     requires some { 0 < length inside.now }
     ensures gives { Answers (λ x. ((view x.0).0, (view x.0).1, (view x.0).2, x.1.now)) result
-        (close (term_at (arity arities.now) depth) (fills (first_head start) (first_width start) inside.now after.now)) }
+        (close (term_at (grammar_of language (arity arities.now)) depth) (fills (first_head start) (first_width start) inside.now after.now)) }
     ensures placed { IfErr result (IsPlaced end) }
 {
     let end = end - after.len();
     let mode = start.mode();
-    let (first, rest) = term(arities, mode, inside, end, depth)?;
-    let others = all(arities, mode.next(), rest, end, depth)?;
+    let (first, rest) = term(language, arities, mode, inside, end, depth)?;
+    let others = all(language, arities, mode.next(), rest, end, depth)?;
     let first = Box::new(arities.allocator(), first)?;
     Ok((start.with(first, others), after))
 }
@@ -232,6 +269,7 @@ fn first_and_block<'a>(
 #[cycle(read)]
 #[tactic(auto, unfolding(acpi_term::specs::Reading::close, acpi_term::specs::Reading::counted))]
 fn package<'a>(
+    language: Language,
     arities: &Arities,
     width: u8,
     count: u8,
@@ -244,21 +282,92 @@ fn package<'a>(
     requires within { length inside.now + length after.now ≤ end }
     requires place { offset ≤ end }
     ensures gives { Answers (λ x. ((view x.0).0, (view x.0).1, (view x.0).2, x.1.now)) result
-        (close (term_at (arity arities.now) depth) (packs width count inside.now after.now)) }
+        (close (term_at (grammar_of language (arity arities.now)) depth) (packs width count inside.now after.now)) }
     ensures placed { IfErr result (IsPlaced end) }
 {
     let end = end - after.len();
-    let (elements, rest) = several(arities, Mode::Element, count, inside, end, depth)?;
+    let (elements, rest) = several(language, arities, Mode::Element, count, inside, end, depth)?;
     if !rest.is_empty() {
         return Err(ReadError::Count(offset));
     }
     Ok((Term::Package { width, elements }, after))
 }
 
+fn exact(width: u8, elements: Vec<Term>) -> Term
+    ensures { view result ≡ (def_package, width, views elements.items) }
+{
+    Term::Package { width, elements }
+}
+
+fn with_room(width: u8, room: u8, elements: Vec<Term>) -> Term
+    ensures { view result ≡ (def_roomy_package room, width, views elements.items) }
+{
+    Term::RoomyPackage {
+        width,
+        room,
+        elements,
+    }
+}
+
+// A package with room for this many elements.
+#[tactic(auto, using(crate::proofs::Closings::roomed_full, crate::proofs::Closings::roomed_less, crate::proofs::Closings::roomed_more,))]
+fn roomed<'a>(
+    width: u8,
+    room: u8,
+    elements: Vec<Term>,
+    after: &'a [u8],
+    offset: usize,
+) -> Result<(Term, &'a [u8]), ReadError>
+    ensures gives { Answers (λ x. ((view x.0).0, (view x.0).1, (view x.0).2, x.1.now)) result
+        (roomed width room (views elements.items) after.now) }
+    ensures placed { IfErr result (IsPlaced offset) }
+{
+    let count = elements.len();
+    if count == usize::from(room) {
+        return Ok((exact(width, elements), after));
+    }
+    if count > usize::from(room) {
+        return Err(ReadError::Count(offset));
+    }
+    Ok((with_room(width, room, elements), after))
+}
+
+/// Reads all elements of a package that may have room for more.
+#[cycle(read)]
+#[tactic(auto, unfolding(acpi_term::specs::Reading::close, acpi_term::specs::Reading::counted))]
+fn roomy<'a>(
+    language: Language,
+    arities: &Arities,
+    width: u8,
+    room: u8,
+    inside: &[u8],
+    after: &'a [u8],
+    offset: usize,
+    end: usize,
+    depth: usize,
+) -> Result<(Term, &'a [u8]), ReadError>
+    requires within { length inside.now + length after.now ≤ end }
+    requires place { offset ≤ end }
+    ensures gives { Answers (λ x. ((view x.0).0, (view x.0).1, (view x.0).2, x.1.now)) result
+        (close (term_at (grammar_of language (arity arities.now)) depth) (rooms width room inside.now after.now)) }
+    ensures placed { IfErr result (IsPlaced end) }
+{
+    let elements = all(
+        language,
+        arities,
+        Mode::Element,
+        inside,
+        end - after.len(),
+        depth,
+    )?;
+    roomed(width, room, elements, after, offset)
+}
+
 /// Reads a buffer's size and its bytes.
 #[cycle(read)]
 #[tactic(auto, unfolding(acpi_term::specs::Reading::close, acpi_term::specs::Reading::counted))]
 fn buffer<'a>(
+    language: Language,
     arities: &Arities,
     width: u8,
     content: &[u8],
@@ -268,11 +377,18 @@ fn buffer<'a>(
 ) -> Result<(Term, &'a [u8]), ReadError>
     requires within { length content.now + length after.now ≤ end }
     ensures gives { Answers (λ x. ((view x.0).0, (view x.0).1, (view x.0).2, x.1.now)) result
-        (close (term_at (arity arities.now) depth) (begins width content.now after.now)) }
+        (close (term_at (grammar_of language (arity arities.now)) depth) (begins width content.now after.now)) }
     ensures placed { IfErr result (IsPlaced end) }
 {
     let alloc = arities.allocator();
-    let (size, bytes) = term(arities, Mode::Term, content, end - after.len(), depth)?;
+    let (size, bytes) = term(
+        language,
+        arities,
+        Mode::Term,
+        content,
+        end - after.len(),
+        depth,
+    )?;
     let bytes = Vec::from_slice(alloc, bytes)?;
     let size = Box::new(alloc, size)?;
     Ok((Term::Buffer { width, size, bytes }, after))
@@ -292,6 +408,7 @@ fn missing(mode: Mode, end: usize) -> ReadError
 /// Reads this many terms, and returns the bytes after them.
 #[cycle(read)]
 fn several<'a>(
+    language: Language,
     arities: &Arities,
     mode: Mode,
     count: u8,
@@ -301,7 +418,7 @@ fn several<'a>(
 ) -> Result<(Vec<Term>, &'a [u8]), ReadError>
     requires { length bytes.now ≤ end }
     ensures gives { Answers (λ x. (views x.0.items, x.1.now)) result
-        (counted (term_at (arity arities.now) depth) count mode bytes.now) }
+        (counted (term_at (grammar_of language (arity arities.now)) depth) count mode bytes.now) }
     ensures placed { IfErr result (IsPlaced end) }
 {
     let room = bytes.len().min(usize::from(count));
@@ -312,7 +429,7 @@ fn several<'a>(
         if rest.is_empty() && depth > 0 {
             return Err(missing(mode, end));
         }
-        let (term, after) = term(arities, at, rest, end, depth)?;
+        let (term, after) = term(language, arities, at, rest, end, depth)?;
         terms.push(term)?;
         rest = after;
         at = at.next();
@@ -335,6 +452,7 @@ fn keep(terms: &mut Vec<Term>, term: Term, is_last: bool) -> Result<(), ReadErro
 /// Reads all of the bytes as terms.
 #[cycle(read)]
 fn all(
+    language: Language,
     arities: &Arities,
     mode: Mode,
     bytes: &[u8],
@@ -343,14 +461,14 @@ fn all(
 ) -> Result<Vec<Term>, ReadError>
     requires { length bytes.now ≤ end }
     ensures gives { Answers (λ v. views v.items) result
-        (all_of (term_at (arity arities.now) depth) (length bytes.now) mode bytes.now) }
+        (all_of (term_at (grammar_of language (arity arities.now)) depth) (length bytes.now) mode bytes.now) }
     ensures placed { IfErr result (IsPlaced end) }
 {
     let mut terms = Vec::new(arities.allocator());
     let mut rest = bytes;
     let mut at = mode;
     'all: while !rest.is_empty() {
-        let (term, after) = term(arities, at, rest, end, depth)?;
+        let (term, after) = term(language, arities, at, rest, end, depth)?;
         keep(&mut terms, term, after.is_empty())?;
         rest = after;
         at = at.next();
@@ -366,7 +484,29 @@ pub fn terms(bytes: &[u8], arities: &Arities) -> Result<Vec<Term>, ReadError>
     ensures ok { IfOk result (λ v. AreRead (arity arities.now) bytes.now (views v.items)) }
     ensures err { IfErr result (IsUnread (arity arities.now) bytes.now) }
 {
-    all(arities, Mode::Term, bytes, bytes.len(), MAX_DEPTH)
+    all(
+        Language::Written,
+        arities,
+        Mode::Term,
+        bytes,
+        bytes.len(),
+        MAX_DEPTH,
+    )
+}
+
+/// The same in the language of the standard, with all terms and names that these definitions have.
+pub fn standard_terms(bytes: &[u8], arities: &Arities) -> Result<Vec<Term>, ReadError>
+    ensures ok { IfOk result (λ v. AreReadIn (grammar_of Standard (arity arities.now)) bytes.now (views v.items)) }
+    ensures err { IfErr result (IsUnreadIn (grammar_of Standard (arity arities.now)) bytes.now) }
+{
+    all(
+        Language::Standard,
+        arities,
+        Mode::Term,
+        bytes,
+        bytes.len(),
+        MAX_DEPTH,
+    )
 }
 
 /// The list of terms that an object writes. The error is the object's own, or that of `terms`.

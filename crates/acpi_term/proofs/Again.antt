@@ -1,7 +1,7 @@
 -- What is spelled is read, as far as the depth goes.
-use Rattle.std.proofs.Common.{◌≡◌, ℕ, zero, suc, ◌-◌, ◌<◌, ◌≤◌, max, Bool, true, false, cond, leb, ltb, List, [], ◌∷◌, ◌++◌, length, Result, Ok, Err, refl, sym, ap, subst, ◌∙◌, append_assoc, arith}
+use Rattle.std.proofs.Common.{◌≡◌, ℕ, zero, suc, ◌-◌, ◌<◌, ◌≤◌, max, Bool, true, false, cond, leb, ltb, eqb, List, [], ◌∷◌, ◌++◌, length, Result, Ok, Err, refl, sym, ap, subst, ◌∙◌, append_assoc, arith}
 use Rattle.std.specs.Prelude.{◌&&◌}
-use Rattle.std.proofs.lemmas.Bool.{le-ltb, le-leb, lt-leb}
+use Rattle.std.proofs.lemmas.Bool.{le-ltb, lt-ltb, ltb-true, le-leb, lt-leb, ne_eqb}
 use Rattle.std.proofs.lemmas.Bool.Decides.{nat_tests}
 use Rattle.std.proofs.lemmas.List.{append-nil, length-append}
 use Rattle.acpi_base.specs.Number.{number_bytes}
@@ -9,12 +9,14 @@ use Rattle.acpi_term.specs.declared.op.Op.{Op}
 use Rattle.acpi_term.specs.declared.op.Op.TheVariants.{CreateField}
 use Rattle.acpi_term.specs.declared.mode.Mode.{Mode}
 use Rattle.acpi_term.specs.declared.mode.Mode.TheVariants.{Term, Element}
-use Rattle.acpi_term.specs.Tree.{Head, number, call, def_scope, def_device, def_method, def_power_res, def_buffer, def_package, def_var_package, def_if, def_while, def_else, op, Terms, end, term, count, depth}
+use Rattle.acpi_term.specs.declared.language.Language.TheVariants.{Standard}
+use Rattle.acpi_term.specs.Language.{Grammar, has}
+use Rattle.acpi_term.specs.Tree.{Head, number, call, def_scope, def_device, def_method, def_power_res, def_buffer, def_package, def_var_package, def_if, def_while, def_else, op, def_external, def_leveled_method, def_processor, def_thermal_zone, def_roomy_package, def_index_field, Terms, end, term, count, depth}
 use Rattle.acpi_term.specs.Operator.{opcode}
 use Rattle.acpi_term.specs.Spelling.{spelled, spelling, inner, next, IsLegal, AreLegal}
-use Rattle.acpi_term.specs.Reading.{Fault, Deep, ◌>>=◌, least_of, assembled, follows, fills, Reader, counted, all_of, wants_no_more, close, term_at}
-use Rattle.acpi_term.proofs.Names.{name_some}
-use Rattle.acpi_term.proofs.Opens.{opened, open_again}
+use Rattle.acpi_term.specs.Reading.{Fault, Deep, ◌>>=◌, least_of, assembled, follows, fills, packs, rooms, roomed, Reader, counted, all_of, wants_no_more, close, term_at}
+use Rattle.acpi_term.proofs.Names.{name_in_some}
+use Rattle.acpi_term.proofs.Opens.{opened, open_again, owned}
 
 -- the terms are at most so deep
 abbrev pub within : Terms → ℕ → Bool
@@ -39,33 +41,53 @@ pub nothing_inside : (c : Terms) → count c ≡ 0 → spelling c ≡ []
 nothing_inside end e = refl
 nothing_inside (term h w c o) e = absurd (omega arith)
 
-module _ (arity : List ℕ → ℕ) where
+-- a package with room for its elements, and one with room for more
+roomed_all : (w : ℕ) (c : Terms) (rest : List ℕ) → roomed w (count c) c rest ≡ Ok (def_package, w, c, rest)
+roomed_all w c rest = let same : eqb (count c) (count c) ≡ true = grind (arith, nat_tests) in rw same refl
+
+roomed_less : (w n : ℕ) (c : Terms) (rest : List ℕ) → count c < n → roomed w n c rest ≡ Ok (def_roomy_package n, w, c, rest)
+roomed_less w n c rest lt =
+    let other : eqb (count c) n ≡ false = ne_eqb (count c) n (λ e. omega (arith, e, lt)) in
+    rw (other, lt-ltb (count c) n lt) refl
+
+module _ (g : Grammar) where
   abbrev pub CountedAgain : Terms → Type 0
-  CountedAgain ts = (d : ℕ) (m : Mode) (rest : List ℕ) → AreLegal arity m ts → counted (term_at arity d) (count ts) m (spelling ts ++ rest) ≡ guarded (within ts d) (ts, rest)
+  CountedAgain ts = (d : ℕ) (m : Mode) (rest : List ℕ) → AreLegal g m ts → counted (term_at g d) (count ts) m (spelling ts ++ rest) ≡ guarded (within ts d) (ts, rest)
 
   abbrev pub AllAgain : Terms → Type 0
-  AllAgain ts = (d : ℕ) (m : Mode) (n : ℕ) → length (spelling ts) ≤ n → AreLegal arity m ts → all_of (term_at arity d) n m (spelling ts) ≡ guarded (within ts d) ts
+  AllAgain ts = (d : ℕ) (m : Mode) (n : ℕ) → length (spelling ts) ≤ n → AreLegal g m ts → all_of (term_at g d) n m (spelling ts) ≡ guarded (within ts d) ts
 
   pub record Again (ts : Terms) : Type 0 where
     pub several : CountedAgain ts
     pub whole : AllAgain ts
 
   -- several, with nothing after them
-  several_only : (ts : Terms) → CountedAgain ts → (d : ℕ) (m : Mode) → AreLegal arity m ts → counted (term_at arity d) (count ts) m (spelling ts) ≡ guarded (within ts d) (ts, [])
-  several_only ts law d m f = ap (counted (term_at arity d) (count ts) m) (sym (append-nil (spelling ts))) ∙ law d m [] f
+  several_only : (ts : Terms) → CountedAgain ts → (d : ℕ) (m : Mode) → AreLegal g m ts → counted (term_at g d) (count ts) m (spelling ts) ≡ guarded (within ts d) (ts, [])
+  several_only ts law d m f = ap (counted (term_at g d) (count ts) m) (sym (append-nil (spelling ts))) ∙ law d m [] f
 
-  follows_closes : (h : Head) (w : ℕ) (c : Terms) → Again c → (d : ℕ) (rest : List ℕ) → AreLegal arity (inner h) c → close (term_at arity d) (follows h w (count c) (spelling c ++ rest)) ≡ guarded (within c d) (h, w, c, rest)
+  follows_closes : (h : Head) (w : ℕ) (c : Terms) → Again c → (d : ℕ) (rest : List ℕ) → AreLegal g (inner h) c → close (term_at g d) (follows h w (count c) (spelling c ++ rest)) ≡ guarded (within c d) (h, w, c, rest)
   unfolding close
   follows_closes h w c law d rest f = rw (law.several d (inner h) rest f) (guard_then (within c d) (c, rest) (λ x. Ok (h, w, x.0, x.1)) (h, w, c, rest) refl)
 
-  fills_closes : (h : Head) (w : ℕ) (c : Terms) → Again c → (d : ℕ) (rest : List ℕ) → least_of h ≤ count c → AreLegal arity (inner h) c → close (term_at arity d) (fills h w (spelling c) rest) ≡ guarded (within c d) (h, w, c, rest)
+  fills_closes : (h : Head) (w : ℕ) (c : Terms) → Again c → (d : ℕ) (rest : List ℕ) → least_of h ≤ count c → AreLegal g (inner h) c → close (term_at g d) (fills h w (spelling c) rest) ≡ guarded (within c d) (h, w, c, rest)
   unfolding close assembled
   fills_closes h w c law d rest enough f =
       let long : ltb (count c) (least_of h) ≡ false = le-ltb (count c) (least_of h) enough in
       rw (law.whole d (inner h) (length (spelling c)) (omega arith) f) (guard_then (within c d) c (λ x. assembled h w x >>= λ t. Ok (t.0, t.1, t.2, rest)) (h, w, c, rest) (rw long refl))
 
-  closes : (h : Head) (w : ℕ) (c : Terms) → Again c → (d : ℕ) (m : Mode) (rest : List ℕ) → IsLegal arity m h w (count c) (spelling c) → AreLegal arity (inner h) c
-      → close (term_at arity d) (opened h w (count c) (spelling c) rest) ≡ guarded (within c d) (h, w, c, rest)
+  rooms_close : (n : ℕ) (h : Head) (w : ℕ) (c : Terms) → Again c → (d : ℕ) (rest : List ℕ) → roomed w n c rest ≡ Ok (h, w, c, rest) → AreLegal g Element c → close (term_at g d) (rooms w n (spelling c) rest) ≡ guarded (within c d) (h, w, c, rest)
+  unfolding close
+  rooms_close n h w c law d rest is f =
+      rw (law.whole d Element (length (spelling c)) (omega arith) f) (guard_then (within c d) c (λ x. roomed w n x rest) (h, w, c, rest) is)
+
+  package_closes : (t : Bool) (w : ℕ) (c : Terms) → Again c → (d : ℕ) (rest : List ℕ) → AreLegal g Element c
+      → close (term_at g d) (cond t (rooms w (count c) (spelling c) rest) (packs w (count c) (spelling c) rest)) ≡ guarded (within c d) (def_package, w, c, rest)
+  unfolding close
+  package_closes true w c law d rest f = rooms_close (count c) def_package w c law d rest (roomed_all w c rest) f
+  package_closes false w c law d rest f = rw (several_only c law.several d Element f) (guard_then (within c d) (c, []) (λ x. wants_no_more (term_at g d) def_package w x.0 x.1 rest) (def_package, w, c, rest) refl)
+
+  closes : (h : Head) (w : ℕ) (c : Terms) → Again c → (d : ℕ) (m : Mode) (rest : List ℕ) → IsLegal g m h w (count c) (spelling c) → AreLegal g (inner h) c
+      → close (term_at g d) (opened g.language h w (count c) (spelling c) rest) ≡ guarded (within c d) (h, w, c, rest)
   unfolding close
   closes (def_scope name) w c law d m rest fh f = fills_closes (def_scope name) w c law d rest (omega arith) f
   closes (def_device name) w c law d m rest fh f = fills_closes (def_device name) w c law d rest (omega arith) f
@@ -75,26 +97,30 @@ module _ (arity : List ℕ → ℕ) where
   closes def_if w c law d m rest fh f = fills_closes def_if w c law d rest fh.takes f
   closes def_while w c law d m rest fh f = fills_closes def_while w c law d rest fh.takes f
   closes def_else w c law d m rest fh f = fills_closes def_else w c law d rest (omega arith) f
-  closes def_package w c law d m rest fh f = rw (several_only c law.several d Element f) (guard_then (within c d) (c, []) (λ x. wants_no_more (term_at arity d) def_package w x.0 x.1 rest) (def_package, w, c, rest) refl)
+  closes def_package w c law d m rest fh f = package_closes (has g.language Standard) w c law d rest f
+  closes (def_leveled_method name args serialized level) w c law d m rest fh f = fills_closes (def_leveled_method name args serialized level) w c law d rest (omega arith) f
+  closes (def_processor name id address size) w c law d m rest fh f = fills_closes (def_processor name id address size) w c law d rest (omega arith) f
+  closes (def_thermal_zone name) w c law d m rest fh f = fills_closes (def_thermal_zone name) w c law d rest (omega arith) f
+  closes (def_roomy_package room) w c law d m rest fh f = rooms_close room (def_roomy_package room) w c law d rest (roomed_less w room c rest (ltb-true (count c) room (owned _ _ fh.owns))) f
   closes (def_buffer bytes) w c law d m rest fh f =
       let n : count c ≡ 1 = fh.takes in
-      let r : counted (term_at arity d) 1 Term (spelling c ++ bytes) ≡ guarded (within c d) (c, bytes) = subst (λ k. counted (term_at arity d) k Term (spelling c ++ bytes) ≡ guarded (within c d) (c, bytes)) n (law.several d Term bytes f) in
+      let r : counted (term_at g d) 1 Term (spelling c ++ bytes) ≡ guarded (within c d) (c, bytes) = subst (λ k. counted (term_at g d) k Term (spelling c ++ bytes) ≡ guarded (within c d) (c, bytes)) n (law.several d Term bytes f) in
       rw r (guard_then (within c d) (c, bytes) (λ x. Ok (def_buffer x.1, w, x.0, rest)) (def_buffer bytes, w, c, rest) refl)
   closes h w c law d m rest fh f = follows_closes h w c law d rest f
 
   -- one term is read again
-  step : (h : Head) (w : ℕ) (c : Terms) → Again c → (d : ℕ) (m : Mode) (rest : List ℕ) → IsLegal arity m h w (count c) (spelling c) → AreLegal arity (inner h) c
-      → term_at arity (suc d) m (spelled h w (count c) (spelling c) ++ rest) ≡ guarded (within c d) (h, w, c, rest)
+  step : (h : Head) (w : ℕ) (c : Terms) → Again c → (d : ℕ) (m : Mode) (rest : List ℕ) → IsLegal g m h w (count c) (spelling c) → AreLegal g (inner h) c
+      → term_at g (suc d) m (spelled h w (count c) (spelling c) ++ rest) ≡ guarded (within c d) (h, w, c, rest)
   unfolding term_at
-  step h w c law d m rest fh f = rw (open_again arity m h w (count c) (spelling c) rest fh (nothing_inside c)) (closes h w c law d m rest fh f)
+  step h w c law d m rest fh f = rw (open_again g m h w (count c) (spelling c) rest fh (nothing_inside c)) (closes h w c law d m rest fh f)
 
   several_more : (h : Head) (w : ℕ) (c o : Terms) → Again c → CountedAgain o → CountedAgain (term h w c o)
   unfolding counted term_at
   several_more h w c o law others zero m rest f = refl
   several_more h w c o law others (suc d) m rest f =
-      ap (counted (term_at arity (suc d)) (suc (count o)) m) (append_assoc (spelled h w (count c) (spelling c)) (spelling o) rest)
+      ap (counted (term_at g (suc d)) (suc (count o)) m) (append_assoc (spelled h w (count c) (spelling c)) (spelling o) rest)
       ∙ rw (step h w c law d m (spelling o ++ rest) f.0 f.1)
-      (guards_then (within c d) (within o (suc d)) (h, w, c, spelling o ++ rest) (λ t. counted (term_at arity (suc d)) (count o) (next m) t.3) (o, rest) (λ t x. (term t.0 t.1 t.2 x.0, x.1)) (others (suc d) (next m) rest f.2))
+      (guards_then (within c d) (within o (suc d)) (h, w, c, spelling o ++ rest) (λ t. counted (term_at g (suc d)) (count o) (next m) t.3) (o, rest) (λ t x. (term t.0 t.1 t.2 x.0, x.1)) (others (suc d) (next m) rest f.2))
 
 -- ---- all of the bytes
 
@@ -115,36 +141,36 @@ all_more p n m [] some le = absurd (omega arith)
 all_more p zero m (b ∷ bytes) some le = absurd (omega arith)
 all_more p (suc n) m (b ∷ bytes) some le = rw (less n) refl
 
-module _ (arity : List ℕ → ℕ) where
+module _ (g : Grammar) where
   -- a term has at least a byte
-  pub head_some : (m : Mode) (h : Head) (w n : ℕ) (inside : List ℕ) → IsLegal arity m h w n inside → 0 < length (spelled h w n inside)
+  pub head_some : (m : Mode) (h : Head) (w n : ℕ) (inside : List ℕ) → IsLegal g m h w n inside → 0 < length (spelled h w n inside)
   head_some m (number v) w n inside f = number_some v w inside
-  head_some m (call name) w n inside f = omega (arith, length-append name inside, name_some name f.is_standard)
+  head_some m (call name) w n inside f = omega (arith, length-append name inside, name_in_some g.language name f.is_standard)
   head_some m (op o) w n inside f = opcode_some o inside
   head_some m h w n inside f = omega arith
 
   -- one term, and then the others, to the end
-  all_step : (h : Head) (w : ℕ) (c o : Terms) → Again arity c → AllAgain arity o → (d : ℕ) (m : Mode) (n : ℕ) → length (spelling o) ≤ n → AreLegal arity m (term h w c o)
-      → (term_at arity d m (spelling (term h w c o)) >>= λ t. all_of (term_at arity d) n (next m) t.3 >>= λ x. Ok (term t.0 t.1 t.2 x)) ≡ guarded (within (term h w c o) d) (term h w c o)
+  all_step : (h : Head) (w : ℕ) (c o : Terms) → Again g c → AllAgain g o → (d : ℕ) (m : Mode) (n : ℕ) → length (spelling o) ≤ n → AreLegal g m (term h w c o)
+      → (term_at g d m (spelling (term h w c o)) >>= λ t. all_of (term_at g d) n (next m) t.3 >>= λ x. Ok (term t.0 t.1 t.2 x)) ≡ guarded (within (term h w c o) d) (term h w c o)
   unfolding term_at
   all_step h w c o law others zero m n le f = refl
   all_step h w c o law others (suc d) m n le f =
-      rw (step arity h w c law d m (spelling o) f.0 f.1)
-      (guards_then (within c d) (within o (suc d)) (h, w, c, spelling o) (λ t. all_of (term_at arity (suc d)) n (next m) t.3) o (λ t x. term t.0 t.1 t.2 x) (others (suc d) (next m) n le f.2))
+      rw (step g h w c law d m (spelling o) f.0 f.1)
+      (guards_then (within c d) (within o (suc d)) (h, w, c, spelling o) (λ t. all_of (term_at g (suc d)) n (next m) t.3) o (λ t x. term t.0 t.1 t.2 x) (others (suc d) (next m) n le f.2))
 
-  all_one_more : (h : Head) (w : ℕ) (c o : Terms) → Again arity c → AllAgain arity o → AllAgain arity (term h w c o)
+  all_one_more : (h : Head) (w : ℕ) (c o : Terms) → Again g c → AllAgain g o → AllAgain g (term h w c o)
   all_one_more h w c o law others d m n le f =
       let some = head_some m h w (count c) (spelling c) f.0 in
       let len = length-append (spelled h w (count c) (spelling c)) (spelling o) in
-      all_more (term_at arity d) n m (spelling (term h w c o)) (omega (arith, some, len)) le
+      all_more (term_at g d) n m (spelling (term h w c o)) (omega (arith, some, len)) le
       ∙ all_step h w c o law others d m (n - 1) (omega (arith, some, len, le)) f
 
   -- what is spelled is read
-  pub again : (ts : Terms) → Again arity ts
+  pub again : (ts : Terms) → Again g ts
   unfolding counted all_of
   again end = record { several = λ d m rest f. refl; whole = λ d m n le f. refl }
   again (term h w c o) = record {
-    several = several_more arity h w c o (again c) (again o).several;
+    several = several_more g h w c o (again c) (again o).several;
     whole = all_one_more h w c o (again c) (again o).whole;
   }
 

@@ -21,6 +21,7 @@ use Rattle.acpi_term.specs.declared.term.Term.TheViews.{out-Term, roll-Term, rol
 use Rattle.acpi_term.specs.declared.term.Term.TheBlock.{the_members, the_family, the_depth, member-Term, seen-the_row-Term-0, shape-the_row-Term-0, hidden-the_row-Term-0, shown-the_row-Term-0}
 use Rattle.acpi_term.specs.contracts.term.TermPartialEq.TheImpl.{the_step}
 use Rattle.acpi_term.specs.contracts.term.TermPartialEq.TheImpl.Laws.{local}
+use Rattle.acpi_term.specs.Tree.{Head, number, ones, string, local as local_object, arg, call, def_scope, def_device, def_method, def_power_res, def_field, def_op_region, def_name, def_mutex, def_acquire, def_release, def_buffer, def_package, def_var_package, def_if, def_while, def_else, op, def_external, def_leveled_method, def_processor, def_thermal_zone, def_roomy_package, def_index_field}
 use Rattle.acpi_term.specs.View.{Parts, entry_view, view, views, view_step}
 
 -- ---- values
@@ -99,53 +100,169 @@ rows_same n below v v' e =
 seen : Term-F Term → Parts
 seen x = view_step (map-Term Term Parts view x)
 
-layer : (n : ℕ) → AreSame n → (x y : Term-F Term) → (seen x).0 ≡ (seen y).0 → (seen x).1 ≡ (seen y).1 → (seen x).2 ≡ (seen y).2 → same_at (suc n) (roll-Term x) (roll-Term y) ≡ true
-unfolding seen within out-Term denote.Hole.Carrier.out roll-Term denote.Hole.Carrier.roll
-layer n below (Term-F.Number v a) (Term-F.Number v' b) h w c = let e : v ≡ v' = cc in both _ _ (nat_same v v' e) (nat_same a b w)
-layer n below Term-F.Ones Term-F.Ones h w c = refl
-layer n below (Term-F.Text s) (Term-F.Text s') h w c = let e : string_bytes s ≡ string_bytes s' = cc in text_same s s' e
-layer n below (Term-F.Local k) (Term-F.Local k') h w c = let e : k ≡ k' = cc in nat_same k k' e
-layer n below (Term-F.Arg k) (Term-F.Arg k') h w c = let e : k ≡ k' = cc in nat_same k k' e
-layer n below (Term-F.Call name args) (Term-F.Call name' args') h w c = let e : name ≡ name' = cc in both _ _ (bytes_same name name' e) (rows_same n below args args' c)
-layer n below (Term-F.Scope a name body) (Term-F.Scope b name' body') h w c = let e : name ≡ name' = cc in both _ _ (nat_same a b w) (both _ _ (bytes_same name name' e) (rows_same n below body body' c))
-layer n below (Term-F.Device a name body) (Term-F.Device b name' body') h w c = let e : name ≡ name' = cc in both _ _ (nat_same a b w) (both _ _ (bytes_same name name' e) (rows_same n below body body' c))
-layer n below (Term-F.Method a name args serialized body) (Term-F.Method b name' args' serialized' body') h w c =
+-- which constructor a head is of, and which a value
+tag : Head → ℕ
+tag (number v) = 0
+tag ones = 1
+tag (string s) = 2
+tag (local_object k) = 3
+tag (arg k) = 4
+tag (call a) = 5
+tag (def_scope a) = 6
+tag (def_device a) = 7
+tag (def_method a b c) = 8
+tag (def_power_res a b c) = 9
+tag (def_field a b c d e) = 10
+tag (def_op_region a b) = 11
+tag (def_name a) = 12
+tag (def_mutex a b) = 13
+tag (def_acquire a b) = 14
+tag (def_release a) = 15
+tag (def_buffer a) = 16
+tag def_package = 17
+tag def_var_package = 18
+tag def_if = 19
+tag def_while = 20
+tag def_else = 21
+tag (op o) = 22
+tag (def_external a b c) = 23
+tag (def_leveled_method a b c d) = 24
+tag (def_processor a b c d) = 25
+tag (def_thermal_zone a) = 26
+tag (def_roomy_package a) = 27
+tag (def_index_field a b c d e f) = 28
+
+shape : Term-F Term → ℕ
+shape (Term-F.Number a b) = 0
+shape Term-F.Ones = 1
+shape (Term-F.Text a) = 2
+shape (Term-F.Local a) = 3
+shape (Term-F.Arg a) = 4
+shape (Term-F.Call a b) = 5
+shape (Term-F.Scope a b c) = 6
+shape (Term-F.Device a b c) = 7
+shape (Term-F.Method a b c d e) = 8
+shape (Term-F.PowerResource a b c d e) = 9
+shape (Term-F.Field a b c d e f) = 10
+shape (Term-F.OpRegion a b c d) = 11
+shape (Term-F.Name a b) = 12
+shape (Term-F.Mutex a b) = 13
+shape (Term-F.Acquire a b) = 14
+shape (Term-F.Release a) = 15
+shape (Term-F.Buffer a b c) = 16
+shape (Term-F.Package a b) = 17
+shape (Term-F.VarPackage a b c) = 18
+shape (Term-F.If a b c) = 19
+shape (Term-F.While a b c) = 20
+shape (Term-F.Else a b) = 21
+shape (Term-F.Op a b) = 22
+shape (Term-F.External a b c) = 23
+shape (Term-F.LeveledMethod a b c d e f) = 24
+shape (Term-F.Processor a b c d e f) = 25
+shape (Term-F.ThermalZone a b c) = 26
+shape (Term-F.RoomyPackage a b c) = 27
+shape (Term-F.IndexField a b c d e f g) = 28
+
+shape_is : (x : Term-F Term) → tag (seen x).0 ≡ shape x
+unfolding seen tag shape
+shape_is (Term-F.Number a b) = refl
+shape_is Term-F.Ones = refl
+shape_is (Term-F.Text a) = refl
+shape_is (Term-F.Local a) = refl
+shape_is (Term-F.Arg a) = refl
+shape_is (Term-F.Call a b) = refl
+shape_is (Term-F.Scope a b c) = refl
+shape_is (Term-F.Device a b c) = refl
+shape_is (Term-F.Method a b c d e) = refl
+shape_is (Term-F.PowerResource a b c d e) = refl
+shape_is (Term-F.Field a b c d e f) = refl
+shape_is (Term-F.OpRegion a b c d) = refl
+shape_is (Term-F.Name a b) = refl
+shape_is (Term-F.Mutex a b) = refl
+shape_is (Term-F.Acquire a b) = refl
+shape_is (Term-F.Release a) = refl
+shape_is (Term-F.Buffer a b c) = refl
+shape_is (Term-F.Package a b) = refl
+shape_is (Term-F.VarPackage a b c) = refl
+shape_is (Term-F.If a b c) = refl
+shape_is (Term-F.While a b c) = refl
+shape_is (Term-F.Else a b) = refl
+shape_is (Term-F.Op a b) = refl
+shape_is (Term-F.External a b c) = refl
+shape_is (Term-F.LeveledMethod a b c d e f) = refl
+shape_is (Term-F.Processor a b c d e f) = refl
+shape_is (Term-F.ThermalZone a b c) = refl
+shape_is (Term-F.RoomyPackage a b c) = refl
+shape_is (Term-F.IndexField a b c d e f g) = refl
+
+differ : (a b : ℕ) → eqb a b ≡ false → a ≡ b → ⊥
+differ a b other e = grind (arith, nat_tests)
+
+same_shape : (x y : Term-F Term) → (seen x).0 ≡ (seen y).0 → shape x ≡ shape y
+same_shape x y h = sym (shape_is x) ∙ ap tag h ∙ shape_is y
+
+layer : (n : ℕ) → AreSame n → (x y : Term-F Term) → shape x ≡ shape y → (seen x).0 ≡ (seen y).0 → (seen x).1 ≡ (seen y).1 → (seen x).2 ≡ (seen y).2 → same_at (suc n) (roll-Term x) (roll-Term y) ≡ true
+unfolding shape seen within out-Term denote.Hole.Carrier.out roll-Term denote.Hole.Carrier.roll
+layer n below (Term-F.Number v a) (Term-F.Number v' b) s h w c = let e : v ≡ v' = cc in both _ _ (nat_same v v' e) (nat_same a b w)
+layer n below Term-F.Ones Term-F.Ones s h w c = refl
+layer n below (Term-F.Text x) (Term-F.Text y) s h w c = let e : string_bytes x ≡ string_bytes y = cc in text_same x y e
+layer n below (Term-F.Local k) (Term-F.Local k') s h w c = let e : k ≡ k' = cc in nat_same k k' e
+layer n below (Term-F.Arg k) (Term-F.Arg k') s h w c = let e : k ≡ k' = cc in nat_same k k' e
+layer n below (Term-F.Call name args) (Term-F.Call name' args') s h w c = let e : name ≡ name' = cc in both _ _ (bytes_same name name' e) (rows_same n below args args' c)
+layer n below (Term-F.Scope a name body) (Term-F.Scope b name' body') s h w c = let e : name ≡ name' = cc in both _ _ (nat_same a b w) (both _ _ (bytes_same name name' e) (rows_same n below body body' c))
+layer n below (Term-F.Device a name body) (Term-F.Device b name' body') s h w c = let e : name ≡ name' = cc in both _ _ (nat_same a b w) (both _ _ (bytes_same name name' e) (rows_same n below body body' c))
+layer n below (Term-F.Method a name args serialized body) (Term-F.Method b name' args' serialized' body') s h w c =
     let e : name ≡ name' = cc in let f : args ≡ args' = cc in let g : serialized ≡ serialized' = cc in
     both _ _ (nat_same a b w) (both _ _ (bytes_same name name' e) (both _ _ (nat_same args args' f) (both _ _ (bool_same serialized serialized' g) (rows_same n below body body' c))))
-layer n below (Term-F.PowerResource a name level order body) (Term-F.PowerResource b name' level' order' body') h w c =
+layer n below (Term-F.PowerResource a name level order body) (Term-F.PowerResource b name' level' order' body') s h w c =
     let e : name ≡ name' = cc in let f : level ≡ level' = cc in let g : order ≡ order' = cc in
     both _ _ (nat_same a b w) (both _ _ (bytes_same name name' e) (both _ _ (nat_same level level' f) (both _ _ (nat_same order order' g) (rows_same n below body body' c))))
-layer n below (Term-F.Field a name access lock update entries) (Term-F.Field b name' access' lock' update' entries') h w c =
+layer n below (Term-F.Field a name access lock update entries) (Term-F.Field b name' access' lock' update' entries') s h w c =
     let e : name ≡ name' = cc in let f : access ≡ access' = cc in let g : lock ≡ lock' = cc in let k : update ≡ update' = cc in
     let l : map entry_view entries.items ≡ map entry_view entries'.items = cc in
     both _ _ (nat_same a b w)
     (both _ _ (bytes_same name name' e) (both _ _ (nat_same access access' f) (both _ _ (nat_same lock lock' g) (both _ _ (nat_same update update' k) (entries_same entries.items entries'.items l)))))
-layer n below (Term-F.OpRegion name space offset size) (Term-F.OpRegion name' space' offset' size') h w c =
+layer n below (Term-F.OpRegion name space offset size) (Term-F.OpRegion name' space' offset' size') s h w c =
     let e : name ≡ name' = cc in let f : space ≡ space' = cc in
-    let s : views (size.value ∷ []) ≡ views (size'.value ∷ []) = other_views offset.value offset'.value (size.value ∷ []) (size'.value ∷ []) c in
+    let z : views (size.value ∷ []) ≡ views (size'.value ∷ []) = other_views offset.value offset'.value (size.value ∷ []) (size'.value ∷ []) c in
     both _ _ (bytes_same name name' e) (both _ _ (nat_same space space' f)
-    (both _ _ (below offset.value offset'.value (first_view offset.value offset'.value (size.value ∷ []) (size'.value ∷ []) c)) (below size.value size'.value (first_view size.value size'.value [] [] s))))
-layer n below (Term-F.Name name value) (Term-F.Name name' value') h w c =
+    (both _ _ (below offset.value offset'.value (first_view offset.value offset'.value (size.value ∷ []) (size'.value ∷ []) c)) (below size.value size'.value (first_view size.value size'.value [] [] z))))
+layer n below (Term-F.Name name value) (Term-F.Name name' value') s h w c =
     let e : name ≡ name' = cc in both _ _ (bytes_same name name' e) (below value.value value'.value (first_view value.value value'.value [] [] c))
-layer n below (Term-F.Mutex name level) (Term-F.Mutex name' level') h w c = let e : name ≡ name' = cc in let f : level ≡ level' = cc in both _ _ (bytes_same name name' e) (nat_same level level' f)
-layer n below (Term-F.Acquire name timeout) (Term-F.Acquire name' timeout') h w c = let e : name ≡ name' = cc in let f : timeout ≡ timeout' = cc in both _ _ (bytes_same name name' e) (nat_same timeout timeout' f)
-layer n below (Term-F.Release name) (Term-F.Release name') h w c = let e : name ≡ name' = cc in bytes_same name name' e
-layer n below (Term-F.Buffer a size bytes) (Term-F.Buffer b size' bytes') h w c =
+layer n below (Term-F.Mutex name level) (Term-F.Mutex name' level') s h w c = let e : name ≡ name' = cc in let f : level ≡ level' = cc in both _ _ (bytes_same name name' e) (nat_same level level' f)
+layer n below (Term-F.Acquire name timeout) (Term-F.Acquire name' timeout') s h w c = let e : name ≡ name' = cc in let f : timeout ≡ timeout' = cc in both _ _ (bytes_same name name' e) (nat_same timeout timeout' f)
+layer n below (Term-F.Release name) (Term-F.Release name') s h w c = let e : name ≡ name' = cc in bytes_same name name' e
+layer n below (Term-F.Buffer a size bytes) (Term-F.Buffer b size' bytes') s h w c =
     let e : bytes.items ≡ bytes'.items = cc in
     both _ _ (nat_same a b w) (both _ _ (below size.value size'.value (first_view size.value size'.value [] [] c)) (bytes_same bytes.items bytes'.items e))
-layer n below (Term-F.Package a elements) (Term-F.Package b elements') h w c = both _ _ (nat_same a b w) (rows_same n below elements elements' c)
-layer n below (Term-F.VarPackage a size elements) (Term-F.VarPackage b size' elements') h w c =
+layer n below (Term-F.Package a elements) (Term-F.Package b elements') s h w c = both _ _ (nat_same a b w) (rows_same n below elements elements' c)
+layer n below (Term-F.VarPackage a size elements) (Term-F.VarPackage b size' elements') s h w c =
     both _ _ (nat_same a b w) (both _ _ (below size.value size'.value (first_view size.value size'.value elements.items elements'.items c))
     (rows_same n below elements elements' (other_views size.value size'.value elements.items elements'.items c)))
-layer n below (Term-F.If a predicate body) (Term-F.If b predicate' body') h w c =
+layer n below (Term-F.If a predicate body) (Term-F.If b predicate' body') s h w c =
     both _ _ (nat_same a b w) (both _ _ (below predicate.value predicate'.value (first_view predicate.value predicate'.value body.items body'.items c))
     (rows_same n below body body' (other_views predicate.value predicate'.value body.items body'.items c)))
-layer n below (Term-F.While a predicate body) (Term-F.While b predicate' body') h w c =
+layer n below (Term-F.While a predicate body) (Term-F.While b predicate' body') s h w c =
     both _ _ (nat_same a b w) (both _ _ (below predicate.value predicate'.value (first_view predicate.value predicate'.value body.items body'.items c))
     (rows_same n below body body' (other_views predicate.value predicate'.value body.items body'.items c)))
-layer n below (Term-F.Else a body) (Term-F.Else b body') h w c = both _ _ (nat_same a b w) (rows_same n below body body' c)
-layer n below (Term-F.Op o operands) (Term-F.Op o' operands') h w c = let e : o ≡ o' = cc in both _ _ (op_same o o' e) (rows_same n below operands operands' c)
-layer n below x y h w c = absurd cc
+layer n below (Term-F.Else a body) (Term-F.Else b body') s h w c = both _ _ (nat_same a b w) (rows_same n below body body' c)
+layer n below (Term-F.Op o operands) (Term-F.Op o' operands') s h w c = let e : o ≡ o' = cc in both _ _ (op_same o o' e) (rows_same n below operands operands' c)
+layer n below (Term-F.External name kind args) (Term-F.External name' kind' args') s h w c =
+    let e : name ≡ name' = cc in let f : kind ≡ kind' = cc in let g : args ≡ args' = cc in both _ _ (bytes_same name name' e) (both _ _ (nat_same kind kind' f) (nat_same args args' g))
+layer n below (Term-F.LeveledMethod a name args serialized level body) (Term-F.LeveledMethod b name' args' serialized' level' body') s h w c =
+    let e : name ≡ name' = cc in let f : args ≡ args' = cc in let g : serialized ≡ serialized' = cc in let k : level ≡ level' = cc in
+    both _ _ (nat_same a b w) (both _ _ (bytes_same name name' e) (both _ _ (nat_same args args' f) (both _ _ (bool_same serialized serialized' g) (both _ _ (nat_same level level' k) (rows_same n below body body' c)))))
+layer n below (Term-F.Processor a name id address size body) (Term-F.Processor b name' id' address' size' body') s h w c =
+    let e : name ≡ name' = cc in let f : id ≡ id' = cc in let g : address ≡ address' = cc in let k : size ≡ size' = cc in
+    both _ _ (nat_same a b w) (both _ _ (bytes_same name name' e) (both _ _ (nat_same id id' f) (both _ _ (nat_same address address' g) (both _ _ (nat_same size size' k) (rows_same n below body body' c)))))
+layer n below (Term-F.ThermalZone a name body) (Term-F.ThermalZone b name' body') s h w c = let e : name ≡ name' = cc in both _ _ (nat_same a b w) (both _ _ (bytes_same name name' e) (rows_same n below body body' c))
+layer n below (Term-F.RoomyPackage a room elements) (Term-F.RoomyPackage b room' elements') s h w c = let e : room ≡ room' = cc in both _ _ (nat_same a b w) (both _ _ (nat_same room room' e) (rows_same n below elements elements' c))
+layer n below (Term-F.IndexField a index name access lock update entries) (Term-F.IndexField b index' name' access' lock' update' entries') s h w c =
+    let d : index ≡ index' = cc in let e : name ≡ name' = cc in let f : access ≡ access' = cc in let g : lock ≡ lock' = cc in let k : update ≡ update' = cc in
+    let l : map entry_view entries.items ≡ map entry_view entries'.items = cc in
+    both _ _ (nat_same a b w) (both _ _ (bytes_same index index' d)
+    (both _ _ (bytes_same name name' e) (both _ _ (nat_same access access' f) (both _ _ (nat_same lock lock' g) (both _ _ (nat_same update update' k) (entries_same entries.items entries'.items l))))))
+layer n below x y s h w c = absurd (differ (shape x) (shape y) refl s)
 
 within_none : (t u : Term) → same_at zero t u ≡ true
 unfolding within
@@ -156,7 +273,7 @@ unfolding seen
 are_same zero t u e = within_none t u
 are_same (suc n) t u e =
     let f : seen (out-Term t) ≡ seen (out-Term u) = sym (fold_out-Term Parts view_step t) ∙ e ∙ fold_out-Term Parts view_step u in
-    let g = layer n (are_same n) (out-Term t) (out-Term u) (ap (λ (p : Parts). p.0) f) (ap (λ (p : Parts). p.1) f) (ap (λ (p : Parts). p.2) f) in
+    let g = layer n (are_same n) (out-Term t) (out-Term u) (same_shape (out-Term t) (out-Term u) (ap (λ (p : Parts). p.0) f)) (ap (λ (p : Parts). p.0) f) (ap (λ (p : Parts). p.1) f) (ap (λ (p : Parts). p.2) f) in
     subst (λ (x : Term). same_at (suc n) x u ≡ true) (roll-out-Term t) (subst (λ (y : Term). same_at (suc n) (roll-Term (out-Term t)) y ≡ true) (roll-out-Term u) g)
 
 -- ---- as code compares them

@@ -8,7 +8,7 @@ use Rattle.std.proofs.lemmas.Bool.Decides.{nat_tests}
 use Rattle.acpi_base.specs.declared.error.Error.{Error}
 use Rattle.acpi_base.specs.declared.error.Error.TheVariants.{NamePart, PathParts, Memory}
 use Rattle.acpi_base.specs.Object.{whole, ended, Built, IsOwnEnd}
-use Rattle.acpi_term.specs.Name.{is_lead, is_part, is_segment, AreSegments, no_more, one_more, IsPath, single, double, multiple, IsName, relative, rooted}
+use Rattle.acpi_term.specs.Name.{is_lead, is_part, is_segment, AreSegments, no_more, one_more, IsPath, single, double, multiple, IsName, relative, rooted, IsNameString, as_written}
 use Rattle.acpi_term.specs.PathText.{parts, is_standard, are_standard, are_fours, dotted, is_rooted, unrooted, lead, parts_end, path_spelling, path_of, is_name_text}
 use Rattle.acpi_term.proofs.PathTexts as paths
 use Rattle.acpi_term.proofs.Rows.{ended_none}
@@ -149,8 +149,8 @@ is_text text bytes h built =
 pub spelled_text : (text bytes : List ℕ) → Built (path_of text) bytes → bytes ≡ path_spelling text
 spelled_text text bytes built = built.is ∙ (ended_none (parts_end (parts (unrooted text))) (whole (path_spelling text)) built.is_whole).2
 
-pub is_name : (text bytes : List ℕ) → are_standard (parts (unrooted text)) ≡ true → Built (path_of text) bytes → IsName bytes
-is_name text bytes h built = rw (spelled_text text bytes built) (named text (is_text text bytes h built))
+pub is_name : (text bytes : List ℕ) → are_standard (parts (unrooted text)) ≡ true → Built (path_of text) bytes → IsNameString bytes
+is_name text bytes h built = rw (spelled_text text bytes built) (as_written (named text (is_text text bytes h built)))
 
 some_end : (t u : Bool) (b : List ℕ) (e : Error) → (ended (cond t (cond u None (Some PathParts)) (Some NamePart)) (whole b)).end ≡ Some e → (t && u) ≡ false
 some_end true true b e h = absurd cc

@@ -3,8 +3,10 @@ use Rattle.std.proofs.Common.{◌≡◌, ℕ, zero, suc, ◌<◌, true, false, l
 use Rattle.std.specs.Prelude.{◌&&◌}
 use Rattle.std.proofs.lemmas.Bool.{ltb-false, eqb-true, le-ltb, ne_eqb, and_parts}
 use Rattle.acpi_base.specs.Bytes.{AreBytes}
-use Rattle.acpi_term.specs.Name.{is_lead, is_part, is_segment, AreSegments, no_more, one_more, IsPath, single, double, multiple, IsName, relative, rooted}
-use Rattle.acpi_term.specs.Reading.{Bad, ◌>>=◌, segment_at, segments_at, several_at, path_at, name_at}
+use Rattle.acpi_term.specs.declared.language.Language.{Language}
+use Rattle.acpi_term.specs.declared.language.Language.TheVariants.{Written, Standard}
+use Rattle.acpi_term.specs.Name.{is_lead, is_part, is_segment, AreSegments, no_more, one_more, IsPath, single, double, multiple, IsName, relative, rooted, IsAbove, no_path, path_above, further_up, IsNameString, as_written, root_alone, upwards, IsNameIn}
+use Rattle.acpi_term.specs.Reading.{Bad, ◌>>=◌, segment_at, segments_at, several_at, path_at, name_at, above_at, root_at, name_string_at, name_in}
 use Rattle.acpi_term.proofs.Steps.{bind_ok, ok_is, chosen, passed, admitted}
 
 -- ---- segments
@@ -157,3 +159,115 @@ name_some s (relative (single (one_more h p))) = omega arith
 name_some s (relative (double p)) = omega arith
 name_some s (relative (multiple ge lt p)) = omega arith
 name_some s (rooted p) = omega arith
+
+-- ---- the names of the standard
+
+pub above_takes : (bytes s rest : List ℕ) → AreBytes bytes → above_at bytes ≡ Ok (s, rest) → IsAbove s × (bytes ≡ s ++ rest)
+unfolding above_at
+above_takes [] s rest fits e = absurd cc
+above_takes (b ∷ more) s rest fits e =
+    elim (chosen (eqb b 0) _ _ _ e) [
+      | inl w ↦
+          let same = ok_is {A = List ℕ × List ℕ} (0 ∷ [], more) (s, rest) w.1 in
+          subst (λ (p : List ℕ × List ℕ). IsAbove p.0 × (b ∷ more ≡ p.0 ++ p.1)) same (no_path, headed b 0 more [] more (eqb-true b 0 w.0) refl)
+      | inr v ↦ elim (chosen (eqb b 94) _ _ _ v.1) [
+        | inl w ↦
+            let x = bind_ok (above_at more) (λ s. Ok (94 ∷ s.0, s.1)) (s, rest) w.1 in
+            let p = above_takes more x.0.0 x.0.1 fits.1 x.1 in
+            let same = ok_is {A = List ℕ × List ℕ} (94 ∷ x.0.0, x.0.1) (s, rest) x.2 in
+            subst (λ (p : List ℕ × List ℕ). IsAbove p.0 × (b ∷ more ≡ p.0 ++ p.1)) same (further_up p.0, headed b 94 more x.0.0 x.0.1 (eqb-true b 94 w.0) p.1)
+        | inr w ↦ let x = path_takes (b ∷ more) s rest fits w.1 in (path_above x.0, x.1)
+      ]
+    ]
+
+root_takes : (b : ℕ) (more s rest : List ℕ) → b ≡ 92 → AreBytes (b ∷ more) → root_at more ≡ Ok (s, rest) → IsNameString s × (b ∷ more ≡ s ++ rest)
+unfolding root_at
+root_takes b [] s rest is fits e = absurd cc
+root_takes b (x ∷ more) s rest is fits e =
+    elim (chosen (eqb x 0) _ _ _ e) [
+      | inl w ↦
+          let same = ok_is {A = List ℕ × List ℕ} (92 ∷ 0 ∷ [], more) (s, rest) w.1 in
+          let all : b ∷ x ∷ more ≡ (92 ∷ 0 ∷ []) ++ more = rw (is, eqb-true x 0 w.0) refl in
+          subst (λ (p : List ℕ × List ℕ). IsNameString p.0 × (b ∷ x ∷ more ≡ p.0 ++ p.1)) same (root_alone, all)
+      | inr w ↦
+          let f : AreBytes (92 ∷ x ∷ more) = subst (λ (k : ℕ). AreBytes (k ∷ x ∷ more)) is fits in
+          let t = name_takes (92 ∷ x ∷ more) s rest f w.1 in
+          (as_written t.0, ap (λ (k : ℕ). k ∷ x ∷ more) is ∙ t.1)
+    ]
+
+name_string_takes : (bytes s rest : List ℕ) → AreBytes bytes → name_string_at bytes ≡ Ok (s, rest) → IsNameString s × (bytes ≡ s ++ rest)
+unfolding name_string_at
+name_string_takes [] s rest fits e = absurd cc
+name_string_takes (b ∷ more) s rest fits e =
+    elim (chosen (eqb b 94) _ _ _ e) [
+      | inl w ↦
+          let x = bind_ok (above_at more) (λ s. Ok (94 ∷ s.0, s.1)) (s, rest) w.1 in
+          let p = above_takes more x.0.0 x.0.1 fits.1 x.1 in
+          let same = ok_is {A = List ℕ × List ℕ} (94 ∷ x.0.0, x.0.1) (s, rest) x.2 in
+          subst (λ (p : List ℕ × List ℕ). IsNameString p.0 × (b ∷ more ≡ p.0 ++ p.1)) same (upwards p.0, headed b 94 more x.0.0 x.0.1 (eqb-true b 94 w.0) p.1)
+      | inr v ↦ elim (chosen (eqb b 92) _ _ _ v.1) [
+        | inl w ↦ root_takes b more s rest (eqb-true b 92 w.0) fits w.1
+        | inr w ↦ let t = name_takes (b ∷ more) s rest fits w.1 in (as_written t.0, t.1)
+      ]
+    ]
+
+not_null : (a b c d : ℕ) → is_segment a b c d ≡ true → eqb a 0 ≡ false
+not_null a b c d h = lead_not a 0 (lead_of a b c d h) refl
+
+not_up : (a b c d : ℕ) → is_segment a b c d ≡ true → eqb a 94 ≡ false
+not_up a b c d h = lead_not a 94 (lead_of a b c d h) refl
+
+above_path : (s rest : List ℕ) → IsPath s → above_at (s ++ rest) ≡ path_at (s ++ rest)
+unfolding above_at
+above_path s rest (single (one_more {a} {b} {c} {d} h no_more)) = rw (not_null a b c d h, not_up a b c d h) refl
+above_path s rest (double p) = refl
+above_path s rest (multiple ge lt p) = refl
+
+above_again : (s rest : List ℕ) → IsAbove s → above_at (s ++ rest) ≡ Ok (s, rest)
+unfolding above_at
+above_again s rest no_path = refl
+above_again s rest (path_above p) = above_path s rest p ∙ path_again s rest p
+above_again s rest (further_up {s = t} p) = rw (above_again t rest p) refl
+
+-- the path after a root isn't null
+root_path : (s rest : List ℕ) → IsPath s → root_at (s ++ rest) ≡ name_at (92 ∷ s ++ rest)
+unfolding root_at
+root_path s rest (single (one_more {a} {b} {c} {d} h no_more)) = rw (not_null a b c d h) refl
+root_path s rest (double p) = refl
+root_path s rest (multiple ge lt p) = refl
+
+unrooted_name : (s rest : List ℕ) → IsPath s → name_string_at (s ++ rest) ≡ name_at (s ++ rest)
+unfolding name_string_at
+unrooted_name s rest (single (one_more {a} {b} {c} {d} h no_more)) = rw (not_up a b c d h, not_root a b c d h) refl
+unrooted_name s rest (double p) = refl
+unrooted_name s rest (multiple ge lt p) = refl
+
+name_string_again : (s rest : List ℕ) → IsNameString s → name_string_at (s ++ rest) ≡ Ok (s, rest)
+unfolding name_string_at root_at
+name_string_again s rest (as_written (relative p)) = unrooted_name s rest p ∙ name_again s rest (relative p)
+name_string_again s rest (as_written (rooted {s = t} p)) = root_path t rest p ∙ name_again (92 ∷ t) rest (rooted p)
+name_string_again s rest root_alone = refl
+name_string_again s rest (upwards {s = t} p) = rw (above_again t rest p) refl
+
+name_string_some : (s : List ℕ) → IsNameString s → 0 < length s
+name_string_some s (as_written p) = name_some s p
+name_string_some s root_alone = omega arith
+name_string_some s (upwards p) = omega arith
+
+-- ---- the names of a language
+
+pub name_in_takes : (l : Language) (bytes s rest : List ℕ) → AreBytes bytes → name_in l bytes ≡ Ok (s, rest) → IsNameIn l s × (bytes ≡ s ++ rest)
+name_in_takes Written bytes s rest fits e = name_takes bytes s rest fits e
+name_in_takes Standard bytes s rest fits e = name_string_takes bytes s rest fits e
+
+pub name_in_again : (l : Language) (s rest : List ℕ) → IsNameIn l s → name_in l (s ++ rest) ≡ Ok (s, rest)
+name_in_again Written s rest p = name_again s rest p
+name_in_again Standard s rest p = name_string_again s rest p
+
+pub name_in_some : (l : Language) (s : List ℕ) → IsNameIn l s → 0 < length s
+name_in_some Written s p = name_some s p
+name_in_some Standard s p = name_string_some s p
+
+pub is_name_string : (l : Language) (s : List ℕ) → IsNameIn l s → IsNameString s
+is_name_string Written s p = as_written p
+is_name_string Standard s p = p

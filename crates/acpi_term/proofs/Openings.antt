@@ -1,23 +1,25 @@
 -- Heads: what is opened was spelled so.
 use Rattle.std.proofs.Common.{◌≡◌, ℕ, ◌+◌, ◌-◌, ◌/◌, ◌%◌, ◌^◌, ◌<◌, ◌≤◌, Bool, true, false, cond, ltb, eqb, List, [], ◌∷◌, ◌++◌, length, Option, Some, None, Result, Ok, Err, refl, sym, ap, subst, ◌∙◌, append_assoc, arith}
 use Rattle.std.specs.Prelude.{◌&&◌, nat_le}
-use Rattle.std.proofs.lemmas.Bool.{ltb-true, leb-true, eqb-true, le-leb, ne_eqb, and_parts}
+use Rattle.std.proofs.lemmas.Bool.{ltb-true, ltb-false, lt-ltb, leb-true, eqb-true, le-leb, ne_eqb, and_parts}
 use Rattle.std.proofs.lemmas.Bool.Decides.{nat_tests}
 use Rattle.std.proofs.lemmas.List.{append-nil}
 use Rattle.acpi_base.specs.Bytes.{AreBytes, le}
 use Rattle.acpi_base.specs.Number.{prefix, number_limit}
 use Rattle.acpi_term.specs.declared.op.Op.{Op}
 use Rattle.acpi_term.specs.declared.mode.Mode.{Mode}
-use Rattle.acpi_term.specs.Tree.{Entry, Head, number, ones, string, local, arg, call, def_scope, def_device, def_method, def_power_res, def_field, def_op_region, def_name, def_mutex, def_acquire, def_release, def_buffer, def_package, def_var_package, def_if, def_while, def_else, op}
-use Rattle.acpi_term.specs.Name.{IsName, IsText}
+use Rattle.acpi_term.specs.Tree.{Entry, Head, number, ones, string, local, arg, call, def_scope, def_device, def_method, def_power_res, def_field, def_op_region, def_name, def_mutex, def_acquire, def_release, def_buffer, def_package, def_var_package, def_if, def_while, def_else, op, def_external, def_leveled_method, def_processor, def_thermal_zone, def_roomy_package, def_index_field}
+use Rattle.acpi_term.specs.declared.language.Language.TheVariants.{Standard}
+use Rattle.acpi_term.specs.Name.{IsNameIn, IsText}
 use Rattle.acpi_term.specs.Length.{with_length, FrameFits}
-use Rattle.acpi_term.specs.Operator.{opcode, operands, op_of}
-use Rattle.acpi_term.specs.Row.{entries_bytes, field_flags, method_flags}
+use Rattle.acpi_term.specs.Language.{Grammar, has}
+use Rattle.acpi_term.specs.Operator.{opcode, operands, op_of, language_of}
+use Rattle.acpi_term.specs.Row.{entries_bytes, field_flags, method_flags, leveled_flags}
 use Rattle.acpi_term.specs.Spelling.{spelled, arguments, IsLegal}
 use Rattle.acpi_base.proofs.Bytes.{bytes_after}
-use Rattle.acpi_term.specs.Reading.{Fault, Bad, ◌>>=◌, name_at, frame_at, text_at, high_at, entries_at, begins_name, number_at, string_at, After, named_at, define_after, release_after, mutex_after, region_after, acquire_after, Inside, framed_at, scope_inside, device_inside, method_inside, power_inside, field_inside, plain_at, counted_frame, package_at, buffer_at, operator_at, extended_at, local_at, opcode_at, Opened, follows, fills, packs, begins, open_at, least_of}
+use Rattle.acpi_term.specs.Reading.{Fault, Bad, ◌>>=◌, name_in, frame_at, text_at, high_at, entries_at, begins_name, number_at, string_at, After, named_at, define_after, release_after, mutex_after, region_after, acquire_after, external_after, further, Inside, framed_at, scope_inside, device_inside, thermal_inside, method_inside, processor_end, processor_inside, index_flags, index_inside, power_inside, field_inside, plain_at, counted_frame, package_at, buffer_at, operator_at, extended_at, local_at, opcode_at, Opened, follows, fills, packs, rooms, begins, open_at, least_of}
 use Rattle.acpi_term.proofs.Steps.{bind_ok, ok_is, admitted}
-use Rattle.acpi_term.proofs.Names.{name_takes}
+use Rattle.acpi_term.proofs.Names.{name_in_takes}
 use Rattle.acpi_term.proofs.Texts.{text_takes}
 use Rattle.acpi_term.proofs.Frames.{IsHigh, high_takes, Framed, frame_takes}
 use Rattle.acpi_term.proofs.Entries.{AreEntries, entries_takes, entries_owned}
@@ -54,19 +56,26 @@ serialized_flags : (flags : ℕ) (t : Bool) → nat_le 8 flags ≡ t → flags <
 serialized_flags flags true h lt = let high : 8 ≤ flags = leb-true 8 flags h in omega arith
 serialized_flags flags false h lt = let low : flags < 8 = grind (arith, nat_tests) in omega arith
 
+leveled_back : (flags : ℕ) (t : Bool) → nat_le 8 (flags % 16) ≡ t → leveled_flags (flags % 8) t (flags / 16) ≡ flags
+leveled_back flags true h = let high : 8 ≤ flags % 16 = leb-true 8 (flags % 16) h in omega arith
+leveled_back flags false h = let low : flags % 16 < 8 = grind (arith, nat_tests) in omega arith
+
 -- the flags of a field are the three numbers
 flags_is : (b : ℕ) → field_flags (b % 16) (b / 16 % 2) (b / 32) ≡ b
 flags_is b = omega arith
 
-module _ (arity : List ℕ → ℕ) (m : Mode) where
+module _ (g : Grammar) (m : Mode) where
   -- what the bytes of an opened head are, whichever children and bytes after them follow
   abbrev pub OpenTakes : List ℕ → Opened → Type 0
   OpenTakes bytes (follows h w n rest) =
-      AreBytes rest × ((inside after : List ℕ) → rest ≡ inside ++ after → (n ≡ 0 → inside ≡ []) → (bytes ≡ spelled h w n inside ++ after) × IsLegal arity m h w n inside)
-  OpenTakes bytes (fills h w inside after) = AreBytes inside × AreBytes after × ((n : ℕ) → least_of h ≤ n → (bytes ≡ spelled h w n inside ++ after) × IsLegal arity m h w n inside)
-  OpenTakes bytes (packs w n inside after) = AreBytes inside × AreBytes after × (bytes ≡ spelled def_package w n inside ++ after) × IsLegal arity m def_package w n inside
+      AreBytes rest × ((inside after : List ℕ) → rest ≡ inside ++ after → (n ≡ 0 → inside ≡ []) → (bytes ≡ spelled h w n inside ++ after) × IsLegal g m h w n inside)
+  OpenTakes bytes (fills h w inside after) = AreBytes inside × AreBytes after × ((n : ℕ) → least_of h ≤ n → (bytes ≡ spelled h w n inside ++ after) × IsLegal g m h w n inside)
+  OpenTakes bytes (packs w n inside after) = AreBytes inside × AreBytes after × (bytes ≡ spelled def_package w n inside ++ after) × IsLegal g m def_package w n inside
+  OpenTakes bytes (rooms w n inside after) =
+      AreBytes inside × AreBytes after × ((bytes ≡ spelled def_package w n inside ++ after) × IsLegal g m def_package w n inside)
+      × ((k : ℕ) → k < n → (bytes ≡ spelled (def_roomy_package n) w k inside ++ after) × IsLegal g m (def_roomy_package n) w k inside)
   OpenTakes bytes (begins w content after) =
-      AreBytes content × AreBytes after × ((inside rest : List ℕ) → content ≡ inside ++ rest → (bytes ≡ spelled (def_buffer rest) w 1 inside ++ after) × IsLegal arity m (def_buffer rest) w 1 inside)
+      AreBytes content × AreBytes after × ((inside rest : List ℕ) → content ≡ inside ++ rest → (bytes ≡ spelled (def_buffer rest) w 1 inside ++ after) × IsLegal g m (def_buffer rest) w 1 inside)
 
   -- a reading that ended in o
   Reads : Result Opened Fault → List ℕ → Type 0
@@ -88,12 +97,19 @@ module _ (arity : List ℕ → ℕ) (m : Mode) where
   where_it_holds : (b : Bool) (x : Result Opened Fault) (bytes : List ℕ) → (b ≡ true → Reads x bytes) → Reads (cond b x (Err Bad)) bytes
   where_it_holds b x bytes f = either_way b x (Err Bad) bytes f (λ _. refused bytes)
 
+  -- a head that this library doesn't write
+  abbrev IsFurther : Type 0
+  IsFurther = has g.language Standard ≡ true
+
+  further_reads : (x : Result Opened Fault) (bytes : List ℕ) → (IsFurther → Reads x bytes) → Reads (further g.language x) bytes
+  further_reads x bytes f = where_it_holds (has g.language Standard) x bytes f
+
   -- ---- rows without a frame
 
   -- a head of width 0 that n children follow, after these bytes
   record IsBare (h : Head) (n : ℕ) (before : List ℕ) : Type 0 where
     row : (inside : List ℕ) → spelled h 0 n inside ≡ before ++ inside
-    fits : (inside : List ℕ) → IsLegal arity m h 0 n inside
+    fits : (inside : List ℕ) → IsLegal g m h 0 n inside
 
   bare_reads : (h : Head) (n : ℕ) (before rest bytes : List ℕ) → IsBare h n before → bytes ≡ before ++ rest → AreBytes rest → Reads (Ok (follows h 0 n rest)) bytes
   bare_reads h n before rest bytes row is fits =
@@ -130,12 +146,12 @@ module _ (arity : List ℕ → ℕ) (m : Mode) where
   arg_reads b k rest is few fits =
       bare_reads (arg k) 0 ((104 + k) ∷ []) rest (b ∷ rest) (record { row = λ inside. refl; fits = λ inside. record { takes = refl; is_standard = tt; owns = rw (le-leb k 6 few) refl; fits = refl } }) (one_byte b (104 + k) rest is) fits
 
-  op_reads : (o : Op) (rest bytes : List ℕ) → bytes ≡ opcode o ++ rest → AreBytes rest → Reads (Ok (follows (op o) 0 (operands o) rest)) bytes
-  op_reads o rest bytes is fits = bare_reads (op o) (operands o) (opcode o) rest bytes (record { row = λ inside. refl; fits = λ inside. record { takes = refl; is_standard = tt; owns = refl; fits = refl } }) is fits
+  op_reads : (o : Op) (rest bytes : List ℕ) → has g.language (language_of o) ≡ true → bytes ≡ opcode o ++ rest → AreBytes rest → Reads (Ok (follows (op o) 0 (operands o) rest)) bytes
+  op_reads o rest bytes within is fits = bare_reads (op o) (operands o) (opcode o) rest bytes (record { row = λ inside. refl; fits = λ inside. record { takes = refl; is_standard = within; owns = refl; fits = refl } }) is fits
 
-  operator_reads : (code : List ℕ) (found : Option Op) (rest bytes : List ℕ) → op_of code ≡ found → bytes ≡ code ++ rest → AreBytes rest → Reads (operator_at found rest) bytes
+  operator_reads : (code : List ℕ) (found : Option Op) (rest bytes : List ℕ) → op_of code ≡ found → bytes ≡ code ++ rest → AreBytes rest → Reads (operator_at g.language found rest) bytes
   operator_reads code None rest bytes found is fits = refused bytes
-  operator_reads code (Some o) rest bytes found is fits = op_reads o rest bytes (rw (op_is code o found) is) fits
+  operator_reads code (Some o) rest bytes found is fits = where_it_holds (has g.language (language_of o)) _ bytes (λ h. op_reads o rest bytes h (rw (op_is code o found) is) fits)
 
   string_is : (bytes s rest all : List ℕ) → all ≡ 13 ∷ bytes → AreBytes bytes → IsText s × (bytes ≡ s ++ 0 ∷ rest) → Reads (Ok (follows (string s) 0 0 rest)) all
   string_is bytes s rest all is fits t =
@@ -152,13 +168,13 @@ module _ (arity : List ℕ → ℕ) (m : Mode) where
 
   -- what follows a name that was read
   abbrev AfterReads : After → List ℕ → List ℕ → Type 0
-  AfterReads k rest bytes = (name tail : List ℕ) → IsName name → rest ≡ name ++ tail → AreBytes tail → Reads (k name tail) bytes
+  AfterReads k rest bytes = (name tail : List ℕ) → IsNameIn g.language name → rest ≡ name ++ tail → AreBytes tail → Reads (k name tail) bytes
 
-  named_reads : (k : After) (rest bytes : List ℕ) → AreBytes rest → AfterReads k rest bytes → Reads (named_at k rest) bytes
+  named_reads : (k : After) (rest bytes : List ℕ) → AreBytes rest → AfterReads k rest bytes → Reads (named_at g.language k rest) bytes
   unfolding Reads
   named_reads k rest bytes fits next o e =
-      let n = bind_ok (name_at rest) (λ n. k n.0 n.1) o e in
-      let t = name_takes rest n.0.0 n.0.1 fits n.1 in
+      let n = bind_ok (name_in g.language rest) (λ n. k n.0 n.1) o e in
+      let t = name_in_takes g.language rest n.0.0 n.0.1 fits n.1 in
       next n.0.0 n.0.1 t.0 t.1 (bytes_after n.0.0 n.0.1 (subst AreBytes t.1 fits)) o n.2
 
   define_reads : (rest bytes : List ℕ) → bytes ≡ (8 ∷ []) ++ rest → AfterReads define_after rest bytes
@@ -190,19 +206,27 @@ module _ (arity : List ℕ → ℕ) (m : Mode) where
       bare_reads (def_acquire name h.0.0) 0 (91 ∷ 35 ∷ name ++ le 2 h.0.0) h.0.1 bytes (record { row = λ inside. refl; fits = λ inside. record { takes = refl; is_standard = (p, t.below); owns = refl; fits = refl } })
       (is ∙ ap (λ (l : List ℕ). 91 ∷ 35 ∷ l) (grouped name (le 2 h.0.0) h.0.1 rest tail e t.parts)) t.fits o h.2
 
+  external_reads : (rest bytes : List ℕ) → IsFurther → bytes ≡ (21 ∷ []) ++ rest → AfterReads external_after rest bytes
+  external_reads rest bytes more is name [] p e fits = refused bytes
+  external_reads rest bytes more is name (kind ∷ []) p e fits = refused bytes
+  external_reads rest bytes more is name (kind ∷ args ∷ tail) p e fits =
+      bare_reads (def_external name kind args) 0 (21 ∷ name ++ kind ∷ args ∷ []) tail bytes
+      (record { row = λ inside. refl; fits = λ inside. record { takes = refl; is_standard = (more, p, fits.0, fits.1.0); owns = refl; fits = refl } })
+      (is ∙ ap (λ (l : List ℕ). 21 ∷ l) (e ∙ sym (append_assoc name (kind ∷ args ∷ []) tail))) fits.1.1
+
   -- ---- names in frames
 
   -- what follows a name in a frame that was read
   abbrev InsideReads : Inside → List ℕ → List ℕ → Type 0
-  InsideReads k rest bytes = (w : ℕ) (name tail content after : List ℕ) → Framed rest w content after → IsName name → content ≡ name ++ tail → AreBytes tail → Reads (k w name tail after) bytes
+  InsideReads k rest bytes = (w : ℕ) (name tail content after : List ℕ) → Framed rest w content after → IsNameIn g.language name → content ≡ name ++ tail → AreBytes tail → Reads (k w name tail after) bytes
 
-  framed_reads : (k : Inside) (rest bytes : List ℕ) → AreBytes rest → InsideReads k rest bytes → Reads (framed_at k rest) bytes
+  framed_reads : (k : Inside) (rest bytes : List ℕ) → AreBytes rest → InsideReads k rest bytes → Reads (framed_at g.language k rest) bytes
   unfolding Reads
   framed_reads k rest bytes fits next o e =
-      let f = bind_ok (frame_at rest) (λ f. name_at f.1 >>= λ n. k f.0 n.0 n.1 f.2) o e in
+      let f = bind_ok (frame_at rest) (λ f. name_in g.language f.1 >>= λ n. k f.0 n.0 n.1 f.2) o e in
       let t = frame_takes rest f.0 fits f.1 in
-      let n = bind_ok (name_at f.0.1) (λ n. k f.0.0 n.0 n.1 f.0.2) o f.2 in
-      let p = name_takes f.0.1 n.0.0 n.0.1 t.inside_fits n.1 in
+      let n = bind_ok (name_in g.language f.0.1) (λ n. k f.0.0 n.0 n.1 f.0.2) o f.2 in
+      let p = name_in_takes g.language f.0.1 n.0.0 n.0.1 t.inside_fits n.1 in
       next f.0.0 n.0.0 n.0.1 f.0.1 f.0.2 t p.0 p.1 (bytes_after n.0.0 n.0.1 (subst AreBytes p.1 t.inside_fits)) o n.2
 
   scope_reads : (rest bytes : List ℕ) → bytes ≡ (16 ∷ []) ++ rest → InsideReads scope_inside rest bytes
@@ -229,7 +253,7 @@ module _ (arity : List ℕ → ℕ) (m : Mode) where
         ),
       )
 
-  method_is : (rest bytes : List ℕ) (w : ℕ) (name inside content after : List ℕ) (args : ℕ) (serialized : Bool) → bytes ≡ (20 ∷ []) ++ rest → Framed rest w content after → IsName name → args ≤ 7
+  method_is : (rest bytes : List ℕ) (w : ℕ) (name inside content after : List ℕ) (args : ℕ) (serialized : Bool) → bytes ≡ (20 ∷ []) ++ rest → Framed rest w content after → IsNameIn g.language name → args ≤ 7
       → content ≡ (name ++ method_flags args serialized ∷ []) ++ inside → AreBytes inside → Reads (Ok (fills (def_method name args serialized) w inside after)) bytes
   method_is rest bytes w name inside content after args serialized is f p few e fits =
       let same = none_after (name ++ method_flags args serialized ∷ []) inside content e in
@@ -242,14 +266,68 @@ module _ (arity : List ℕ → ℕ) (m : Mode) where
         ),
       )
 
-  method_reads : (rest bytes : List ℕ) → bytes ≡ (20 ∷ []) ++ rest → InsideReads method_inside rest bytes
+  leveled_is : (rest bytes : List ℕ) (w : ℕ) (name inside content after : List ℕ) (args : ℕ) (serialized : Bool) (level : ℕ) → IsFurther → bytes ≡ (20 ∷ []) ++ rest → Framed rest w content after → IsNameIn g.language name → args ≤ 7
+      → 1 ≤ level → level ≤ 15 → content ≡ (name ++ leveled_flags args serialized level ∷ []) ++ inside → AreBytes inside → Reads (Ok (fills (def_leveled_method name args serialized level) w inside after)) bytes
+  leveled_is rest bytes w name inside content after args serialized level more is f p few low high e fits =
+      let same = none_after (name ++ leveled_flags args serialized level ∷ []) inside content e in
+      opens (fills (def_leveled_method name args serialized level) w inside after) bytes (
+        fits,
+        f.after_fits,
+        λ n enough. (
+          frame_parts (20 ∷ []) rest content _ after bytes w is f.parts same,
+          record { takes = tt; is_standard = (more, p, low, high); owns = rw (le-leb args 7 few) refl; fits = subst (FrameFits w) same f.fits },
+        ),
+      )
+
+  method_reads : (rest bytes : List ℕ) → bytes ≡ (20 ∷ []) ++ rest → InsideReads (method_inside g.language) rest bytes
   method_reads rest bytes is w name [] content after f p e fits = refused bytes
   method_reads rest bytes is w name (flags ∷ inside) content after f p e fits =
-      where_it_holds (ltb flags 16) _ bytes (λ h.
+      either_way (ltb flags 16) _ _ bytes (λ h.
       let lt : flags < 16 = ltb-true flags 16 h in
       let back : flags ≡ method_flags (flags % 8) (nat_le 8 flags) = sym (serialized_flags flags (nat_le 8 flags) refl lt) in
       method_is rest bytes w name inside content after (flags % 8) (nat_le 8 flags) is f p (omega arith)
       (grouped name (method_flags (flags % 8) (nat_le 8 flags) ∷ []) inside content (flags ∷ inside) e (ap (λ (x : ℕ). x ∷ inside) back)) fits.1)
+      (λ h. further_reads _ bytes (λ more.
+      let ge : 16 ≤ flags = ltb-false flags 16 h in
+      let top : flags < 256 = fits.0 in
+      let back : flags ≡ leveled_flags (flags % 8) (nat_le 8 (flags % 16)) (flags / 16) = sym (leveled_back flags (nat_le 8 (flags % 16)) refl) in
+      leveled_is rest bytes w name inside content after (flags % 8) (nat_le 8 (flags % 16)) (flags / 16) more is f p (omega arith) (omega arith) (omega arith)
+      (grouped name (leveled_flags (flags % 8) (nat_le 8 (flags % 16)) (flags / 16) ∷ []) inside content (flags ∷ inside) e (ap (λ (x : ℕ). x ∷ inside) back)) fits.1))
+
+  thermal_reads : (rest bytes : List ℕ) → IsFurther → bytes ≡ (91 ∷ 133 ∷ []) ++ rest → InsideReads thermal_inside rest bytes
+  thermal_reads rest bytes more is w name tail content after f p e fits =
+      let same = none_after name tail content e in
+      opens (fills (def_thermal_zone name) w tail after) bytes (
+        fits,
+        f.after_fits,
+        λ n enough. (
+          frame_parts (91 ∷ 133 ∷ []) rest content _ after bytes w is f.parts same,
+          record { takes = tt; is_standard = (more, p); owns = refl; fits = subst (FrameFits w) same f.fits },
+        ),
+      )
+
+  processor_is : (rest bytes : List ℕ) (w : ℕ) (name inside content after : List ℕ) (id address : ℕ) → IsFurther → bytes ≡ (91 ∷ 131 ∷ []) ++ rest → Framed rest w content after → IsNameIn g.language name
+      → id < 256 → address < 2 ^ 32 → content ≡ name ++ (id ∷ (le 4 address ++ inside)) → AreBytes inside → Reads (processor_end w name id address inside after) bytes
+  processor_is rest bytes w name [] content after id address more is f p low below e fits = refused bytes
+  processor_is rest bytes w name (size ∷ inside) content after id address more is f p low below e fits =
+      let mid = id ∷ (le 4 address ++ size ∷ []) in
+      let same = none_after (name ++ mid) inside content (grouped name mid inside content (id ∷ (le 4 address ++ size ∷ inside)) e (ap (λ (l : List ℕ). id ∷ l) (sym (append_assoc (le 4 address) (size ∷ []) inside)))) in
+      opens (fills (def_processor name id address size) w inside after) bytes (
+        fits.1,
+        f.after_fits,
+        λ n enough. (
+          frame_parts (91 ∷ 131 ∷ []) rest content _ after bytes w is f.parts same,
+          record { takes = tt; is_standard = (more, p, low, below, fits.0); owns = refl; fits = subst (FrameFits w) same f.fits },
+        ),
+      )
+
+  processor_reads : (rest bytes : List ℕ) → IsFurther → bytes ≡ (91 ∷ 131 ∷ []) ++ rest → InsideReads processor_inside rest bytes
+  unfolding Reads
+  processor_reads rest bytes more is w name [] content after f p e fits o r = absurd cc
+  processor_reads rest bytes more is w name (id ∷ tail) content after f p e fits o r =
+      let h = bind_ok (high_at 4 tail) (λ h. processor_end w name id h.0 h.1 after) o r in
+      let t = high_takes 4 tail h.0 fits.1 h.1 in
+      processor_is rest bytes w name h.0.1 content after id h.0.0 more is f p fits.0 t.below (e ∙ ap (λ (l : List ℕ). name ++ id ∷ l) t.parts) t.fits o h.2
 
   power_reads : (rest bytes : List ℕ) → bytes ≡ (91 ∷ 132 ∷ []) ++ rest → InsideReads power_inside rest bytes
   unfolding Reads
@@ -267,19 +345,19 @@ module _ (arity : List ℕ → ℕ) (m : Mode) where
         ),
       ) o h.2
 
-  field_is : (rest bytes : List ℕ) (w : ℕ) (name inside content after : List ℕ) (access lock update : ℕ) (entries : List Entry) → bytes ≡ (91 ∷ 129 ∷ []) ++ rest → Framed rest w content after → IsName name
+  field_is : (rest bytes : List ℕ) (w : ℕ) (name inside content after : List ℕ) (access lock update : ℕ) (entries : List Entry) → bytes ≡ (91 ∷ 129 ∷ []) ++ rest → Framed rest w content after → IsNameIn g.language name
       → access ≤ 5 → lock ≤ 1 → update ≤ 2 → content ≡ name ++ field_flags access lock update ∷ inside → AreEntries inside entries → OpenTakes bytes (follows (def_field name access lock update entries) w 0 after)
   field_is rest bytes w name inside content after access lock update entries is f p a l u e t =
       let before = name ++ field_flags access lock update ∷ entries_bytes entries in
       let same : content ≡ before ++ [] = e ∙ ap (λ (l : List ℕ). name ++ field_flags access lock update ∷ l) t.parts ∙ sym (append-nil before) in
       let parts : bytes ≡ ((91 ∷ 129 ∷ []) ++ with_length w (before ++ [])) ++ after = frame_parts (91 ∷ 129 ∷ []) rest content _ after bytes w is f.parts same in
       let fits : FrameFits w (before ++ []) = subst (FrameFits w) same f.fits in
-      let head : IsLegal arity m (def_field name access lock update entries) w 0 [] = record { takes = refl; is_standard = (p, a, l, u, t.standard); owns = entries_owned entries t.fits; fits = (t.fits, fits) } in (
+      let head : IsLegal g m (def_field name access lock update entries) w 0 [] = record { takes = refl; is_standard = (p, a, l, u, t.standard); owns = entries_owned entries t.fits; fits = (t.fits, fits) } in (
         f.after_fits,
         λ inner after_it split nothing.
             let none = nothing refl in
             let rest_is : after ≡ after_it = split ∙ ap (λ (l : List ℕ). l ++ after_it) none in
-            subst (λ (l : List ℕ). (bytes ≡ spelled (def_field name access lock update entries) w 0 l ++ after_it) × IsLegal arity m (def_field name access lock update entries) w 0 l) (sym none)
+            subst (λ (l : List ℕ). (bytes ≡ spelled (def_field name access lock update entries) w 0 l ++ after_it) × IsLegal g m (def_field name access lock update entries) w 0 l) (sym none)
             (parts ∙ ap (λ (l : List ℕ). ((91 ∷ 129 ∷ []) ++ with_length w (before ++ [])) ++ l) rest_is, head),
       )
 
@@ -296,12 +374,50 @@ module _ (arity : List ℕ → ℕ) (m : Mode) where
       opens (follows (def_field name (flags % 16) (flags / 16 % 2) (flags / 32) a.0) w 0 after) bytes
       (field_is rest bytes w name inside content after (flags % 16) (flags / 16 % 2) (flags / 32) a.0 is f p (omega arith) (omega arith) (omega arith) (e ∙ ap (λ (x : ℕ). name ++ x ∷ inside) (sym (flags_is flags))) t) o a.2
 
+  index_is : (rest bytes : List ℕ) (w : ℕ) (index name inside content after : List ℕ) (access lock update : ℕ) (entries : List Entry) → IsFurther → bytes ≡ (91 ∷ 134 ∷ []) ++ rest → Framed rest w content after
+      → IsNameIn g.language index → IsNameIn g.language name
+      → access ≤ 5 → lock ≤ 1 → update ≤ 2 → content ≡ index ++ (name ++ field_flags access lock update ∷ inside) → AreEntries inside entries → OpenTakes bytes (follows (def_index_field index name access lock update entries) w 0 after)
+  index_is rest bytes w index name inside content after access lock update entries more is f p q a l u e t =
+      let before = index ++ (name ++ field_flags access lock update ∷ entries_bytes entries) in
+      let same : content ≡ before ++ [] = e ∙ ap (λ (l : List ℕ). index ++ (name ++ field_flags access lock update ∷ l)) t.parts ∙ sym (append-nil before) in
+      let parts : bytes ≡ ((91 ∷ 134 ∷ []) ++ with_length w (before ++ [])) ++ after = frame_parts (91 ∷ 134 ∷ []) rest content _ after bytes w is f.parts same in
+      let fits : FrameFits w (before ++ []) = subst (FrameFits w) same f.fits in
+      let head : IsLegal g m (def_index_field index name access lock update entries) w 0 [] = record { takes = refl; is_standard = (more, p, q, a, l, u, t.standard); owns = entries_owned entries t.fits; fits = (t.fits, fits) } in (
+        f.after_fits,
+        λ inner after_it split nothing.
+            let none = nothing refl in
+            let rest_is : after ≡ after_it = split ∙ ap (λ (l : List ℕ). l ++ after_it) none in
+            subst (λ (l : List ℕ). (bytes ≡ spelled (def_index_field index name access lock update entries) w 0 l ++ after_it) × IsLegal g m (def_index_field index name access lock update entries) w 0 l) (sym none)
+            (parts ∙ ap (λ (l : List ℕ). ((91 ∷ 134 ∷ []) ++ with_length w (before ++ [])) ++ l) rest_is, head),
+      )
+
+  index_flagged : (rest bytes : List ℕ) (w : ℕ) (index name inside content after : List ℕ) → IsFurther → bytes ≡ (91 ∷ 134 ∷ []) ++ rest → Framed rest w content after → IsNameIn g.language index → IsNameIn g.language name
+      → content ≡ index ++ (name ++ inside) → AreBytes inside → Reads (index_flags w index name inside after) bytes
+  unfolding Reads
+  index_flagged rest bytes w index name [] content after more is f p q e fits o r = absurd cc
+  index_flagged rest bytes w index name (flags ∷ inside) content after more is f p q e fits o r =
+      let low = admitted (ltb (flags % 16) 6) Bad _ o r in
+      let high = admitted (ltb flags 96) Bad _ o low.1 in
+      let a = bind_ok (entries_at (length inside) inside) (λ e. Ok (follows (def_index_field index name (flags % 16) (flags / 16 % 2) (flags / 32) e) w 0 after)) o high.1 in
+      let t = entries_takes (length inside) inside a.0 fits.1 a.1 in
+      let small : flags % 16 < 6 = ltb-true _ 6 low.0 in
+      let top : flags < 96 = ltb-true _ 96 high.0 in
+      opens (follows (def_index_field index name (flags % 16) (flags / 16 % 2) (flags / 32) a.0) w 0 after) bytes
+      (index_is rest bytes w index name inside content after (flags % 16) (flags / 16 % 2) (flags / 32) a.0 more is f p q (omega arith) (omega arith) (omega arith) (e ∙ ap (λ (x : ℕ). index ++ (name ++ x ∷ inside)) (sym (flags_is flags))) t) o a.2
+
+  index_reads : (rest bytes : List ℕ) → IsFurther → bytes ≡ (91 ∷ 134 ∷ []) ++ rest → InsideReads (index_inside g.language) rest bytes
+  unfolding Reads
+  index_reads rest bytes more is w index tail content after f p e fits o r =
+      let n = bind_ok (name_in g.language tail) (λ n. index_flags w index n.0 n.1 after) o r in
+      let q = name_in_takes g.language tail n.0.0 n.0.1 fits n.1 in
+      index_flagged rest bytes w index n.0.0 n.0.1 content after more is f p q.0 (e ∙ ap (λ (l : List ℕ). index ++ l) q.1) (bytes_after n.0.0 n.0.1 (subst AreBytes q.1 fits)) o n.2
+
   -- ---- other frames
 
   -- a head whose row is its opcode and a frame
   record IsPlain (h : Head) (k : ℕ) : Type 0 where
     row : (w n : ℕ) (inside : List ℕ) → spelled h w n inside ≡ (k ∷ []) ++ with_length w (inside ++ [])
-    fits : (w n : ℕ) (inside : List ℕ) → least_of h ≤ n → FrameFits w (inside ++ []) → IsLegal arity m h w n inside
+    fits : (w n : ℕ) (inside : List ℕ) → least_of h ≤ n → FrameFits w (inside ++ []) → IsLegal g m h w n inside
 
   plain_reads : (h : Head) (k b : ℕ) (rest : List ℕ) → IsPlain h k → b ≡ k → AreBytes rest → Reads (plain_at h rest) (b ∷ rest)
   unfolding Reads
@@ -312,21 +428,29 @@ module _ (arity : List ℕ → ℕ) (m : Mode) where
       let parts : b ∷ rest ≡ ((k ∷ []) ++ with_length f.0.0 (f.0.1 ++ [])) ++ f.0.2 = frame_parts (k ∷ []) rest f.0.1 (f.0.1 ++ []) f.0.2 (b ∷ rest) f.0.0 (one_byte b k rest is) t.parts same in
       opens (fills h f.0.0 f.0.1 f.0.2) (b ∷ rest) (t.inside_fits, t.after_fits, λ n enough. (parts ∙ ap (λ (l : List ℕ). l ++ f.0.2) (sym (p.row f.0.0 n f.0.1)), p.fits f.0.0 n f.0.1 enough (subst (FrameFits f.0.0) same t.fits))) o f.2
 
-  package_is : (b w : ℕ) (rest content after : List ℕ) → b ≡ 18 → Framed rest w content after → Reads (counted_frame w content after) (b ∷ rest)
+  package_legal : (w n : ℕ) (rest inside after : List ℕ) → Framed rest w (n ∷ inside) after → IsLegal g m def_package w n inside
+  package_legal w n rest inside after f =
+      record { takes = tt; is_standard = tt; owns = rw (le-leb n 255 (omega (arith, f.inside_fits.0))) refl; fits = subst (FrameFits w) (none_after (n ∷ []) inside (n ∷ inside) refl) f.fits }
+
+  roomy_legal : (w n k : ℕ) (rest inside after : List ℕ) → IsFurther → Framed rest w (n ∷ inside) after → k < n → IsLegal g m (def_roomy_package n) w k inside
+  roomy_legal w n k rest inside after more f lt =
+      record { takes = tt; is_standard = (more, f.inside_fits.0); owns = rw (lt-ltb k n lt) refl; fits = subst (FrameFits w) (none_after (n ∷ []) inside (n ∷ inside) refl) f.fits }
+
+  package_parts : (b w n : ℕ) (rest inside after : List ℕ) → b ≡ 18 → Framed rest w (n ∷ inside) after → b ∷ rest ≡ ((18 ∷ []) ++ with_length w ((n ∷ []) ++ (inside ++ []))) ++ after
+  package_parts b w n rest inside after is f = frame_parts (18 ∷ []) rest (n ∷ inside) _ after (b ∷ rest) w (one_byte b 18 rest is) f.parts (none_after (n ∷ []) inside (n ∷ inside) refl)
+
+  package_is : (b w : ℕ) (rest content after : List ℕ) → b ≡ 18 → Framed rest w content after → Reads (counted_frame g.language w content after) (b ∷ rest)
   package_is b w rest [] after is f = refused (b ∷ rest)
   package_is b w rest (n ∷ inside) after is f =
-      let same = none_after (n ∷ []) inside (n ∷ inside) refl in
-      opens (packs w n inside after) (b ∷ rest) (
-        f.inside_fits.1,
-        f.after_fits,
-        frame_parts (18 ∷ []) rest (n ∷ inside) _ after (b ∷ rest) w (one_byte b 18 rest is) f.parts same,
-        record { takes = tt; is_standard = tt; owns = rw (le-leb n 255 (omega (arith, f.inside_fits.0))) refl; fits = subst (FrameFits w) same f.fits },
-      )
+      let parts = package_parts b w n rest inside after is f in
+      either_way (has g.language Standard) _ _ (b ∷ rest)
+      (λ more. opens (rooms w n inside after) (b ∷ rest) (f.inside_fits.1, f.after_fits, (parts, package_legal w n rest inside after f), λ k lt. (parts, roomy_legal w n k rest inside after more f lt)))
+      (λ _. opens (packs w n inside after) (b ∷ rest) (f.inside_fits.1, f.after_fits, parts, package_legal w n rest inside after f))
 
-  package_reads : (b : ℕ) (rest : List ℕ) → b ≡ 18 → AreBytes rest → Reads (package_at rest) (b ∷ rest)
+  package_reads : (b : ℕ) (rest : List ℕ) → b ≡ 18 → AreBytes rest → Reads (package_at g.language rest) (b ∷ rest)
   unfolding Reads
   package_reads b rest is fits o e =
-      let f = bind_ok (frame_at rest) (λ f. counted_frame f.0 f.1 f.2) o e in
+      let f = bind_ok (frame_at rest) (λ f. counted_frame g.language f.0 f.1 f.2) o e in
       package_is b f.0.0 rest f.0.1 f.0.2 is (frame_takes rest f.0 fits f.1) o f.2
 
   buffer_is : (b w : ℕ) (rest content after : List ℕ) → b ≡ 17 → Framed rest w content after → OpenTakes (b ∷ rest) (begins w content after)
@@ -347,7 +471,7 @@ module _ (arity : List ℕ → ℕ) (m : Mode) where
 
   -- ---- opcodes
 
-  extended_reads : (b : ℕ) (rest : List ℕ) → b ≡ 91 → AreBytes rest → Reads (extended_at rest) (b ∷ rest)
+  extended_reads : (b : ℕ) (rest : List ℕ) → b ≡ 91 → AreBytes rest → Reads (extended_at g.language rest) (b ∷ rest)
   extended_reads b [] is fits = refused (b ∷ [])
   extended_reads b (x ∷ rest) is fits =
       let all = b ∷ x ∷ rest in
@@ -358,10 +482,13 @@ module _ (arity : List ℕ → ℕ) (m : Mode) where
       (λ _. either_way (eqb x 128) _ _ all (λ h. named_reads region_after rest all fits.1 (region_reads rest all (two 128 h)))
       (λ _. either_way (eqb x 129) _ _ all (λ h. framed_reads field_inside rest all fits.1 (field_reads rest all (two 129 h)))
       (λ _. either_way (eqb x 130) _ _ all (λ h. framed_reads device_inside rest all fits.1 (device_reads rest all (two 130 h)))
+      (λ _. either_way (eqb x 131) _ _ all (λ h. further_reads _ all (λ more. framed_reads processor_inside rest all fits.1 (processor_reads rest all more (two 131 h))))
       (λ _. either_way (eqb x 132) _ _ all (λ h. framed_reads power_inside rest all fits.1 (power_reads rest all (two 132 h)))
-      (λ _. operator_reads (91 ∷ x ∷ []) (op_of (91 ∷ x ∷ [])) rest all refl (two_bytes b 91 x x rest is refl) fits.1)))))))
+      (λ _. either_way (eqb x 133) _ _ all (λ h. further_reads _ all (λ more. framed_reads thermal_inside rest all fits.1 (thermal_reads rest all more (two 133 h))))
+      (λ _. either_way (eqb x 134) _ _ all (λ h. further_reads _ all (λ more. framed_reads (index_inside g.language) rest all fits.1 (index_reads rest all more (two 134 h))))
+      (λ _. operator_reads (91 ∷ x ∷ []) (op_of (91 ∷ x ∷ [])) rest all refl (two_bytes b 91 x x rest is refl) fits.1))))))))))
 
-  local_or_op_reads : (b : ℕ) (rest : List ℕ) → AreBytes rest → Reads (local_at b rest) (b ∷ rest)
+  local_or_op_reads : (b : ℕ) (rest : List ℕ) → AreBytes rest → Reads (local_at g.language b rest) (b ∷ rest)
   local_or_op_reads b rest fits =
       either_way (nat_le 96 b && nat_le b 103) _ _ (b ∷ rest)
       (λ h. let p = and_parts (nat_le 96 b) (nat_le b 103) h in let low = leb-true 96 b p.0 in let high = leb-true b 103 p.1 in local_reads b (b - 96) rest (omega arith) (omega arith) fits)
@@ -381,7 +508,7 @@ module _ (arity : List ℕ → ℕ) (m : Mode) where
   otherwise_plain : IsPlain def_else 161
   otherwise_plain = record { row = λ w n inside. refl; fits = λ w n inside enough f. record { takes = tt; is_standard = tt; owns = refl; fits = f } }
 
-  opcode_reads : (b : ℕ) (rest : List ℕ) → AreBytes rest → Reads (opcode_at b rest) (b ∷ rest)
+  opcode_reads : (b : ℕ) (rest : List ℕ) → AreBytes rest → Reads (opcode_at g.language b rest) (b ∷ rest)
   opcode_reads b rest fits =
       let all = b ∷ rest in
       let first = λ (k : ℕ) (h : eqb b k ≡ true). one_byte b k rest (eqb-true b k h) in
@@ -396,25 +523,26 @@ module _ (arity : List ℕ → ℕ) (m : Mode) where
       (λ _. either_way (eqb b 17) _ _ all (λ h. buffer_reads b rest (eqb-true b 17 h) fits)
       (λ _. either_way (eqb b 18) _ _ all (λ h. package_reads b rest (eqb-true b 18 h) fits)
       (λ _. either_way (eqb b 19) _ _ all (λ h. plain_reads def_var_package 19 b rest varpack_plain (eqb-true b 19 h) fits)
-      (λ _. either_way (eqb b 20) _ _ all (λ h. framed_reads method_inside rest all fits (method_reads rest all (first 20 h)))
+      (λ _. either_way (eqb b 20) _ _ all (λ h. framed_reads (method_inside g.language) rest all fits (method_reads rest all (first 20 h)))
+      (λ _. either_way (eqb b 21) _ _ all (λ h. further_reads _ all (λ more. named_reads external_after rest all fits (external_reads rest all more (first 21 h))))
       (λ _. either_way (eqb b 91) _ _ all (λ h. extended_reads b rest (eqb-true b 91 h) fits)
       (λ _. either_way (eqb b 160) _ _ all (λ h. plain_reads def_if 160 b rest branch_plain (eqb-true b 160 h) fits)
       (λ _. either_way (eqb b 161) _ _ all (λ h. plain_reads def_else 161 b rest otherwise_plain (eqb-true b 161 h) fits)
       (λ _. either_way (eqb b 162) _ _ all (λ h. plain_reads def_while 162 b rest loop_plain (eqb-true b 162 h) fits)
       (λ _. either_way (eqb b 255) _ _ all (λ h. ones_reads b rest (eqb-true b 255 h) fits)
-      (λ _. local_or_op_reads b rest fits)))))))))))))))))
+      (λ _. local_or_op_reads b rest fits))))))))))))))))))
 
-  call_is : (bytes name rest : List ℕ) → AreBytes bytes → IsName name × (bytes ≡ name ++ rest) → Reads (Ok (follows (call name) 0 (arguments arity m name) rest)) bytes
+  call_is : (bytes name rest : List ℕ) → AreBytes bytes → IsNameIn g.language name × (bytes ≡ name ++ rest) → Reads (Ok (follows (call name) 0 (arguments g.arity m name) rest)) bytes
   call_is bytes name rest fits t =
-      bare_reads (call name) (arguments arity m name) name rest bytes (record { row = λ inside. refl; fits = λ inside. record { takes = refl; is_standard = t.0; owns = refl; fits = refl } }) t.1 (bytes_after name rest (subst AreBytes t.1 fits))
+      bare_reads (call name) (arguments g.arity m name) name rest bytes (record { row = λ inside. refl; fits = λ inside. record { takes = refl; is_standard = t.0; owns = refl; fits = refl } }) t.1 (bytes_after name rest (subst AreBytes t.1 fits))
 
-  call_reads : (bytes : List ℕ) → AreBytes bytes → Reads (name_at bytes >>= λ n. Ok (follows (call n.0) 0 (arguments arity m n.0) n.1)) bytes
+  call_reads : (bytes : List ℕ) → AreBytes bytes → Reads (name_in g.language bytes >>= λ n. Ok (follows (call n.0) 0 (arguments g.arity m n.0) n.1)) bytes
   unfolding Reads
   call_reads bytes fits o e =
-      let n = bind_ok (name_at bytes) (λ n. Ok (follows (call n.0) 0 (arguments arity m n.0) n.1)) o e in
-      call_is bytes n.0.0 n.0.1 fits (name_takes bytes n.0.0 n.0.1 fits n.1) o n.2
+      let n = bind_ok (name_in g.language bytes) (λ n. Ok (follows (call n.0) 0 (arguments g.arity m n.0) n.1)) o e in
+      call_is bytes n.0.0 n.0.1 fits (name_in_takes g.language bytes n.0.0 n.0.1 fits n.1) o n.2
 
-  pub open_takes : (bytes : List ℕ) (o : Opened) → AreBytes bytes → open_at arity m bytes ≡ Ok o → OpenTakes bytes o
+  pub open_takes : (bytes : List ℕ) (o : Opened) → AreBytes bytes → open_at g m bytes ≡ Ok o → OpenTakes bytes o
   unfolding open_at Reads
   open_takes [] o fits e = absurd cc
-  open_takes (b ∷ rest) o fits e = either_way (begins_name b) _ _ (b ∷ rest) (λ h. call_reads (b ∷ rest) fits) (λ h. opcode_reads b rest fits.1) o e
+  open_takes (b ∷ rest) o fits e = either_way (begins_name g.language b) _ _ (b ∷ rest) (λ h. call_reads (b ∷ rest) fits) (λ h. opcode_reads b rest fits.1) o e

@@ -1,7 +1,7 @@
 -- Heads: what is spelled so is opened.
-use Rattle.std.proofs.Common.{◌≡◌, ℕ, zero, suc, ◌+◌, ◌-◌, ◌*◌, ◌/◌, ◌%◌, ◌<◌, ◌≤◌, Bool, true, false, cond, ltb, List, [], ◌∷◌, ◌++◌, length, Some, None, Ok, refl, ap, subst, ◌∙◌, append_assoc, arith}
+use Rattle.std.proofs.Common.{◌≡◌, ℕ, zero, suc, ◌+◌, ◌-◌, ◌*◌, ◌/◌, ◌%◌, ◌<◌, ◌≤◌, Bool, true, false, cond, ltb, List, [], ◌∷◌, ◌++◌, length, Some, None, Result, Ok, Err, refl, sym, ap, subst, ◌∙◌, append_assoc, arith}
 use Rattle.std.specs.Prelude.{nat_le}
-use Rattle.std.proofs.lemmas.Bool.{leb-true, lt-ltb, le-leb, lt-leb}
+use Rattle.std.proofs.lemmas.Bool.{leb-true, lt-ltb, le-ltb, le-leb, lt-leb}
 use Rattle.std.proofs.lemmas.Bool.Decides.{nat_tests}
 use Rattle.std.proofs.lemmas.List.{append-nil}
 use Rattle.acpi_base.specs.declared.error.Error.{Error}
@@ -10,36 +10,58 @@ use Rattle.acpi_base.specs.Number.{number_limit, number_bytes}
 use Rattle.acpi_term.specs.declared.op.Op.{Op}
 use Rattle.acpi_term.specs.declared.op.Op.TheVariants.{CreateField}
 use Rattle.acpi_term.specs.declared.mode.Mode.{Mode}
-use Rattle.acpi_term.specs.Tree.{Entry, Head, number, ones, string, local, arg, call, def_scope, def_device, def_method, def_power_res, def_field, def_op_region, def_name, def_mutex, def_acquire, def_release, def_buffer, def_package, def_var_package, def_if, def_while, def_else, op}
-use Rattle.acpi_term.specs.Name.{is_segment, no_more, one_more, IsPath, single, double, multiple, IsName, relative, rooted}
+use Rattle.acpi_term.specs.Tree.{Entry, Head, number, ones, string, local, arg, call, def_scope, def_device, def_method, def_power_res, def_field, def_op_region, def_name, def_mutex, def_acquire, def_release, def_buffer, def_package, def_var_package, def_if, def_while, def_else, op, def_external, def_leveled_method, def_processor, def_thermal_zone, def_roomy_package, def_index_field}
+use Rattle.acpi_term.specs.Name.{is_segment, no_more, one_more, IsPath, single, double, multiple, IsName, relative, rooted, IsNameString, as_written, root_alone, upwards, IsNameIn}
 use Rattle.acpi_term.specs.Length.{with_length, FrameFits}
-use Rattle.acpi_term.specs.Operator.{opcode, operands}
-use Rattle.acpi_term.specs.Row.{entries_bytes, field_flags, method_flags}
+use Rattle.acpi_term.specs.declared.language.Language.{Language}
+use Rattle.acpi_term.specs.declared.language.Language.TheVariants.{Written, Standard}
+use Rattle.acpi_term.specs.Language.{Grammar, has}
+use Rattle.acpi_term.specs.Operator.{opcode, operands, language_of, op_of}
+use Rattle.acpi_term.specs.Row.{entries_bytes, field_flags, method_flags, leveled_flags}
 use Rattle.acpi_term.specs.Spelling.{spelled, arguments, AreNamed, EntriesFit, IsLegal}
-use Rattle.acpi_term.specs.Reading.{◌>>=◌, name_at, begins_name, After, named_at, define_after, release_after, mutex_after, region_after, acquire_after, Inside, framed_at, scope_inside, device_inside, method_inside, power_inside, field_inside, opcode_at, Opened, follows, fills, packs, begins, open_at}
-use Rattle.acpi_term.proofs.Names.{lead_of, name_again}
+use Rattle.acpi_term.specs.Reading.{◌>>=◌, Fault, Bad, name_in, begins_name, After, named_at, define_after, release_after, mutex_after, region_after, acquire_after, external_after, Inside, framed_at, scope_inside, device_inside, thermal_inside, method_inside, processor_inside, index_inside, power_inside, field_inside, opcode_at, Opened, follows, fills, packs, rooms, begins, open_at}
+use Rattle.acpi_term.proofs.Names.{lead_of, name_in_again}
 use Rattle.acpi_term.proofs.Texts.{text_again}
 use Rattle.acpi_term.proofs.Frames.{high_again, frame_again}
 use Rattle.acpi_term.proofs.Entries.{entries_again}
 
 -- a head with n children, whose spellings joined are the bytes inside, where it is opened
-abbrev pub opened : Head → ℕ → ℕ → List ℕ → List ℕ → Opened
-opened (def_scope name) w n inside after = fills (def_scope name) w inside after
-opened (def_device name) w n inside after = fills (def_device name) w inside after
-opened (def_method name args serialized) w n inside after = fills (def_method name args serialized) w inside after
-opened (def_power_res name level order) w n inside after = fills (def_power_res name level order) w inside after
-opened def_var_package w n inside after = fills def_var_package w inside after
-opened def_if w n inside after = fills def_if w inside after
-opened def_while w n inside after = fills def_while w inside after
-opened def_else w n inside after = fills def_else w inside after
-opened def_package w n inside after = packs w n inside after
-opened (def_buffer bytes) w n inside after = begins w (inside ++ bytes) after
-opened h w n inside after = follows h w n (inside ++ after)
+abbrev pub opened : Language → Head → ℕ → ℕ → List ℕ → List ℕ → Opened
+opened l (def_scope name) w n inside after = fills (def_scope name) w inside after
+opened l (def_device name) w n inside after = fills (def_device name) w inside after
+opened l (def_method name args serialized) w n inside after = fills (def_method name args serialized) w inside after
+opened l (def_power_res name level order) w n inside after = fills (def_power_res name level order) w inside after
+opened l def_var_package w n inside after = fills def_var_package w inside after
+opened l def_if w n inside after = fills def_if w inside after
+opened l def_while w n inside after = fills def_while w inside after
+opened l def_else w n inside after = fills def_else w inside after
+opened l def_package w n inside after = cond (has l Standard) (rooms w n inside after) (packs w n inside after)
+opened l (def_leveled_method name args serialized level) w n inside after = fills (def_leveled_method name args serialized level) w inside after
+opened l (def_processor name id address size) w n inside after = fills (def_processor name id address size) w inside after
+opened l (def_thermal_zone name) w n inside after = fills (def_thermal_zone name) w inside after
+opened l (def_roomy_package room) w n inside after = rooms w room inside after
+opened l (def_buffer bytes) w n inside after = begins w (inside ++ bytes) after
+opened l h w n inside after = follows h w n (inside ++ after)
 
 -- ---- parts
 
-lead_begins : (a b c d : ℕ) → is_segment a b c d ≡ true → begins_name a ≡ true
-lead_begins a b c d h = rw (lead_of a b c d h) refl
+lead_begins : (l : Language) (a b c d : ℕ) → is_segment a b c d ≡ true → begins_name l a ≡ true
+lead_begins l a b c d h = rw (lead_of a b c d h) refl
+
+path_begins : (l : Language) (s rest : List ℕ) → IsPath s → (b : ℕ) × (more : List ℕ) × (s ++ rest ≡ b ∷ more) × (begins_name l b ≡ true)
+path_begins l s rest (single (one_more {a} {b} {c} {d} h no_more)) = (a, b ∷ c ∷ d ∷ rest, refl, lead_begins l a b c d h)
+path_begins l s rest (double {s = t} p) = (46, t ++ rest, refl, refl)
+path_begins l s rest (multiple {n} {s = t} ge lt p) = (47, n ∷ t ++ rest, refl, refl)
+
+written_begins : (l : Language) (s rest : List ℕ) → IsName s → (b : ℕ) × (more : List ℕ) × (s ++ rest ≡ b ∷ more) × (begins_name l b ≡ true)
+written_begins l s rest (relative p) = path_begins l s rest p
+written_begins l s rest (rooted {s = t} p) = (92, t ++ rest, refl, refl)
+
+name_begins : (l : Language) (s rest : List ℕ) → IsNameIn l s → (b : ℕ) × (more : List ℕ) × (s ++ rest ≡ b ∷ more) × (begins_name l b ≡ true)
+name_begins Written s rest p = written_begins Written s rest p
+name_begins Standard s rest (as_written p) = written_begins Standard s rest p
+name_begins Standard s rest root_alone = (92, 0 ∷ rest, refl, refl)
+name_begins Standard s rest (upwards {s = t} p) = (94, t ++ rest, refl, refl)
 
 number_limit_few : (w : ℕ) → 9 ≤ w → number_limit w ≡ 0
 number_limit_few w ge = grind (arith, nat_tests)
@@ -52,28 +74,40 @@ owned false e h = absurd cc
 regroup : (a b c d : List ℕ) → ((a ++ b) ++ c) ++ d ≡ a ++ (b ++ (c ++ d))
 regroup a b c d = append_assoc (a ++ b) c d ∙ append_assoc a b (c ++ d)
 
-named_opens : (k : After) (name rest : List ℕ) → IsName name → named_at k (name ++ rest) ≡ k name rest
-named_opens k name rest p = rw (name_again name rest p) refl
+named_opens : (l : Language) (k : After) (name rest : List ℕ) → IsNameIn l name → named_at l k (name ++ rest) ≡ k name rest
+named_opens l k name rest p = rw (name_in_again l name rest p) refl
 
-framed_opens : (k : Inside) (w : ℕ) (name mid inside after : List ℕ) → IsName name → FrameFits w ((name ++ mid) ++ (inside ++ [])) → framed_at k (with_length w ((name ++ mid) ++ (inside ++ [])) ++ after) ≡ k w name (mid ++ inside) after
-framed_opens k w name mid inside after p fits =
-    rw (frame_again w ((name ++ mid) ++ (inside ++ [])) after fits, append_assoc name mid (inside ++ []), name_again name (mid ++ (inside ++ [])) p, append-nil inside) refl
+framed_opens : (l : Language) (k : Inside) (w : ℕ) (name mid inside after : List ℕ) → IsNameIn l name → FrameFits w ((name ++ mid) ++ (inside ++ [])) → framed_at l k (with_length w ((name ++ mid) ++ (inside ++ [])) ++ after) ≡ k w name (mid ++ inside) after
+framed_opens l k w name mid inside after p fits =
+    rw (frame_again w ((name ++ mid) ++ (inside ++ [])) after fits, append_assoc name mid (inside ++ []), name_in_again l name (mid ++ (inside ++ [])) p, append-nil inside) refl
 
-plainly_opens : (k : Inside) (w : ℕ) (name inside after : List ℕ) → IsName name → FrameFits w (name ++ (inside ++ [])) → framed_at k (with_length w (name ++ (inside ++ [])) ++ after) ≡ k w name inside after
-plainly_opens k w name inside after p fits = rw (frame_again w (name ++ (inside ++ [])) after fits, name_again name (inside ++ []) p, append-nil inside) refl
+plainly_opens : (l : Language) (k : Inside) (w : ℕ) (name inside after : List ℕ) → IsNameIn l name → FrameFits w (name ++ (inside ++ [])) → framed_at l k (with_length w (name ++ (inside ++ [])) ++ after) ≡ k w name inside after
+plainly_opens l k w name inside after p fits = rw (frame_again w (name ++ (inside ++ [])) after fits, name_in_again l name (inside ++ []) p, append-nil inside) refl
 
-method_opens : (w : ℕ) (name : List ℕ) (args : ℕ) (serialized : Bool) (inside after : List ℕ) → args ≤ 7 → method_inside w name (method_flags args serialized ∷ inside) after ≡ Ok (fills (def_method name args serialized) w inside after)
-method_opens w name args true inside after few =
+method_opens : (l : Language) (w : ℕ) (name : List ℕ) (args : ℕ) (serialized : Bool) (inside after : List ℕ) → args ≤ 7 → method_inside l w name (method_flags args serialized ∷ inside) after ≡ Ok (fills (def_method name args serialized) w inside after)
+method_opens l w name args true inside after few =
     let low : ltb (args + 8) 16 ≡ true = lt-ltb _ _ (omega arith) in
     let r : (args + 8) % 8 ≡ args = omega arith in
     let high : nat_le 8 (args + 8) ≡ true = le-leb 8 (args + 8) (omega arith) in
     rw (low, r, high) refl
-method_opens w name args false inside after few =
+method_opens l w name args false inside after few =
     let same : args + 0 ≡ args = omega arith in
     let low : ltb args 16 ≡ true = lt-ltb _ _ (omega arith) in
     let r : args % 8 ≡ args = omega arith in
     let high : nat_le 8 args ≡ false = lt-leb 8 args (omega arith) in
     rw (same, low, r, high) refl
+
+-- flags of any method with a level
+leveled_from : (l : Language) (w flags : ℕ) (name : List ℕ) (args : ℕ) (serialized : Bool) (level : ℕ) (inside after : List ℕ) → has l Standard ≡ true → ltb flags 16 ≡ false → flags % 8 ≡ args → nat_le 8 (flags % 16) ≡ serialized → flags / 16 ≡ level
+    → method_inside l w name (flags ∷ inside) after ≡ Ok (fills (def_leveled_method name args serialized level) w inside after)
+leveled_from l w flags name args serialized level inside after more high a s v = rw (high, more, a, s, v) refl
+
+leveled_opens : (l : Language) (w : ℕ) (name : List ℕ) (args : ℕ) (serialized : Bool) (level : ℕ) (inside after : List ℕ) → has l Standard ≡ true → args ≤ 7 → 1 ≤ level
+    → method_inside l w name (leveled_flags args serialized level ∷ inside) after ≡ Ok (fills (def_leveled_method name args serialized level) w inside after)
+leveled_opens l w name args true level inside after more few some =
+    leveled_from l w (leveled_flags args true level) name args true level inside after more (le-ltb (args + 8 + 16 * level) 16 (omega arith)) (omega arith) (le-leb 8 _ (omega arith)) (omega arith)
+leveled_opens l w name args false level inside after more few some =
+    leveled_from l w (leveled_flags args false level) name args false level inside after more (le-ltb (args + 0 + 16 * level) 16 (omega arith)) (omega arith) (lt-leb 8 _ (omega arith)) (omega arith)
 
 -- the flags of a field, taken apart again
 flags_low : (access lock update : ℕ) → access ≤ 5 → lock ≤ 1 → update ≤ 2
@@ -88,28 +122,33 @@ field_opens w name access lock update entries after a l u f g =
     let small : ltb access 6 ≡ true = lt-ltb access 6 (omega arith) in
     rw (below, p.1, p.2, p.3, small, entries_again entries (length (entries_bytes entries)) (omega arith) f g) refl
 
+index_opens : (l : Language) (w : ℕ) (index name : List ℕ) (access lock update : ℕ) (entries : List Entry) (after : List ℕ) → IsNameIn l name → access ≤ 5 → lock ≤ 1 → update ≤ 2 → AreNamed entries → EntriesFit entries
+    → index_inside l w index (name ++ field_flags access lock update ∷ entries_bytes entries) after ≡ Ok (follows (def_index_field index name access lock update entries) w 0 after)
+index_opens l w index name access lock update entries after q a k u f e =
+    let p = flags_low access lock update a k u in
+    let below : ltb (access + 16 * lock + 32 * update) 96 ≡ true = lt-ltb _ 96 p.0 in
+    let small : ltb access 6 ≡ true = lt-ltb access 6 (omega arith) in
+    rw (name_in_again l name (field_flags access lock update ∷ entries_bytes entries) q, below, p.1, p.2, p.3, small, entries_again entries (length (entries_bytes entries)) (omega arith) f e) refl
+
+package_choice : (t : Bool) (w n : ℕ) (inside after : List ℕ) → ◌≡◌ {A = Result Opened Fault} (cond t (Ok (rooms w n inside after)) (Ok (packs w n inside after))) (Ok (cond t (rooms w n inside after) (packs w n inside after)))
+package_choice true w n inside after = refl
+package_choice false w n inside after = refl
+
 -- ---- heads
 
-module _ (arity : List ℕ → ℕ) (m : Mode) where
-  path_opens : (s rest : List ℕ) → IsPath s → open_at arity m (s ++ rest) ≡ (name_at (s ++ rest) >>= λ n. Ok (follows (call n.0) 0 (arguments arity m n.0) n.1))
+module _ (g : Grammar) (m : Mode) where
+  call_opens : (s rest : List ℕ) → IsNameIn g.language s → open_at g m (s ++ rest) ≡ Ok (follows (call s) 0 (arguments g.arity m s) rest)
   unfolding open_at
-  path_opens s rest (single (one_more {a} {b} {c} {d} h no_more)) = rw (lead_begins a b c d h) refl
-  path_opens s rest (double p) = refl
-  path_opens s rest (multiple ge lt p) = refl
+  call_opens s rest p =
+      let x = name_begins g.language s rest p in
+      let again : name_in g.language (x.0 ∷ x.1) ≡ Ok (s, rest) = ap (name_in g.language) (sym x.2) ∙ name_in_again g.language s rest p in
+      ap (open_at g m) x.2 ∙ rw (x.3, again) refl
 
-  name_opens : (s rest : List ℕ) → IsName s → open_at arity m (s ++ rest) ≡ (name_at (s ++ rest) >>= λ n. Ok (follows (call n.0) 0 (arguments arity m n.0) n.1))
-  unfolding open_at
-  name_opens s rest (relative p) = path_opens s rest p
-  name_opens s rest (rooted p) = refl
-
-  call_opens : (s rest : List ℕ) → IsName s → open_at arity m (s ++ rest) ≡ Ok (follows (call s) 0 (arguments arity m s) rest)
-  call_opens s rest p = name_opens s rest p ∙ rw (name_again s rest p) refl
-
-  number_opens : (v w : ℕ) (rest : List ℕ) → v < number_limit w → open_at arity m (number_bytes v w ++ rest) ≡ Ok (follows (number v) w 0 rest)
+  number_opens : (v w : ℕ) (rest : List ℕ) → v < number_limit w → open_at g m (number_bytes v w ++ rest) ≡ Ok (follows (number v) w 0 rest)
   unfolding open_at
   number_opens v zero rest fits =
       let small : ltb v 2 ≡ true = lt-ltb v 2 fits in
-      let other : begins_name v ≡ false = grind (arith, nat_tests) in
+      let other : begins_name g.language v ≡ false = grind (arith, nat_tests) in
       rw (other, small) refl
   number_opens v (suc zero) rest fits = rw (high_again 1 v rest fits) refl
   number_opens v (suc (suc zero)) rest fits = rw (high_again 2 v rest fits) refl
@@ -122,64 +161,107 @@ module _ (arity : List ℕ → ℕ) (m : Mode) where
   number_opens v (suc (suc (suc (suc (suc (suc (suc (suc (suc w))))))))) rest fits =
       absurd (omega (arith, number_limit_few (suc (suc (suc (suc (suc (suc (suc (suc (suc w))))))))) (omega arith)))
 
-  local_opens : (k : ℕ) (rest : List ℕ) → k ≤ 7 → open_at arity m ((96 + k) ∷ rest) ≡ Ok (follows (local k) 0 0 rest)
+  local_opens : (k : ℕ) (rest : List ℕ) → k ≤ 7 → open_at g m ((96 + k) ∷ rest) ≡ Ok (follows (local k) 0 0 rest)
   unfolding open_at
   local_opens k rest few =
-      let other : begins_name (96 + k) ≡ false = grind (arith, nat_tests) in
+      let other : begins_name g.language (96 + k) ≡ false = grind (arith, nat_tests) in
       let back : 96 + k - 96 ≡ k = omega arith in
-      let at : opcode_at (96 + k) rest ≡ Ok (follows (local (96 + k - 96)) 0 0 rest) = grind (arith, nat_tests) in
+      let at : opcode_at g.language (96 + k) rest ≡ Ok (follows (local (96 + k - 96)) 0 0 rest) = grind (arith, nat_tests) in
       rw other (at ∙ rw back refl)
 
-  arg_opens : (k : ℕ) (rest : List ℕ) → k ≤ 6 → open_at arity m ((104 + k) ∷ rest) ≡ Ok (follows (arg k) 0 0 rest)
+  arg_opens : (k : ℕ) (rest : List ℕ) → k ≤ 6 → open_at g m ((104 + k) ∷ rest) ≡ Ok (follows (arg k) 0 0 rest)
   unfolding open_at
   arg_opens k rest few =
-      let other : begins_name (104 + k) ≡ false = grind (arith, nat_tests) in
+      let other : begins_name g.language (104 + k) ≡ false = grind (arith, nat_tests) in
       let back : 104 + k - 104 ≡ k = omega arith in
-      let at : opcode_at (104 + k) rest ≡ Ok (follows (arg (104 + k - 104)) 0 0 rest) = grind (arith, nat_tests) in
+      let at : opcode_at g.language (104 + k) rest ≡ Ok (follows (arg (104 + k - 104)) 0 0 rest) = grind (arith, nat_tests) in
       rw other (at ∙ rw back refl)
 
-  op_opens : (o : Op) (rest : List ℕ) → open_at arity m (opcode o ++ rest) ≡ Ok (follows (op o) 0 (operands o) rest)
-  unfolding open_at
+  op_opens : (o : Op) (rest : List ℕ) → open_at g m (opcode o ++ rest) ≡ cond (has g.language (language_of o)) (Ok (follows (op o) 0 (operands o) rest)) (Err Bad)
+  unfolding open_at op_of
   op_opens CreateField rest = refl
   op_opens o rest = refl
 
+  op_in_opens : (o : Op) (rest : List ℕ) → has g.language (language_of o) ≡ true → open_at g m (opcode o ++ rest) ≡ Ok (follows (op o) 0 (operands o) rest)
+  op_in_opens o rest within = op_opens o rest ∙ rw within refl
+
+  abbrev IsFurther : Type 0
+  IsFurther = has g.language Standard ≡ true
+
+  external_opens : (rest : List ℕ) → IsFurther → open_at g m (21 ∷ rest) ≡ named_at g.language external_after rest
+  unfolding open_at
+  external_opens rest more = rw more refl
+
+  processor_opens : (rest : List ℕ) → IsFurther → open_at g m (91 ∷ 131 ∷ rest) ≡ framed_at g.language processor_inside rest
+  unfolding open_at
+  processor_opens rest more = rw more refl
+
+  thermal_opens : (rest : List ℕ) → IsFurther → open_at g m (91 ∷ 133 ∷ rest) ≡ framed_at g.language thermal_inside rest
+  unfolding open_at
+  thermal_opens rest more = rw more refl
+
+  indexed_opens : (rest : List ℕ) → IsFurther → open_at g m (91 ∷ 134 ∷ rest) ≡ framed_at g.language (index_inside g.language) rest
+  unfolding open_at
+  indexed_opens rest more = rw more refl
+
   -- a head that fits is opened where it is spelled; where it has no children, nothing is inside
-  pub open_again : (h : Head) (w n : ℕ) (inside after : List ℕ) → IsLegal arity m h w n inside → (n ≡ 0 → inside ≡ []) → open_at arity m (spelled h w n inside ++ after) ≡ Ok (opened h w n inside after)
+  pub open_again : (h : Head) (w n : ℕ) (inside after : List ℕ) → IsLegal g m h w n inside → (n ≡ 0 → inside ≡ []) → open_at g m (spelled h w n inside ++ after) ≡ Ok (opened g.language h w n inside after)
   unfolding open_at
   open_again (number v) w n inside after f nothing = rw (append_assoc (number_bytes v w) inside after, f.takes) (number_opens v w (inside ++ after) f.fits)
   open_again ones w n inside after f nothing = rw (f.fits, f.takes) refl
   open_again (string s) w n inside after f nothing =
-      rw (f.fits, f.takes) (ap (λ (l : List ℕ). open_at arity m (13 ∷ l)) (regroup s (0 ∷ []) inside after) ∙ rw (text_again s (inside ++ after) f.is_standard) refl)
+      rw (f.fits, f.takes) (ap (λ (l : List ℕ). open_at g m (13 ∷ l)) (regroup s (0 ∷ []) inside after) ∙ rw (text_again s (inside ++ after) f.is_standard) refl)
   open_again (local k) w n inside after f nothing = rw (f.fits, f.takes) (local_opens k (inside ++ after) (leb-true k 7 (owned _ _ f.owns)))
   open_again (arg k) w n inside after f nothing = rw (f.fits, f.takes) (arg_opens k (inside ++ after) (leb-true k 6 (owned _ _ f.owns)))
   open_again (call name) w n inside after f nothing = rw (f.fits, append_assoc name inside after, f.takes) (call_opens name (inside ++ after) f.is_standard)
-  open_again (def_scope name) w n inside after f nothing = plainly_opens scope_inside w name inside after f.is_standard f.fits
-  open_again (def_device name) w n inside after f nothing = plainly_opens device_inside w name inside after f.is_standard f.fits
+  open_again (def_scope name) w n inside after f nothing = plainly_opens g.language scope_inside w name inside after f.is_standard f.fits
+  open_again (def_device name) w n inside after f nothing = plainly_opens g.language device_inside w name inside after f.is_standard f.fits
   open_again (def_method name args serialized) w n inside after f nothing =
-      framed_opens method_inside w name (method_flags args serialized ∷ []) inside after f.is_standard f.fits ∙ method_opens w name args serialized inside after (leb-true args 7 (owned _ _ f.owns))
+      framed_opens g.language (method_inside g.language) w name (method_flags args serialized ∷ []) inside after f.is_standard f.fits ∙ method_opens g.language w name args serialized inside after (leb-true args 7 (owned _ _ f.owns))
   open_again (def_power_res name level order) w n inside after f nothing =
-      framed_opens power_inside w name (level ∷ le 2 order) inside after f.is_standard.0 f.fits ∙ rw (high_again 2 order inside f.is_standard.2) refl
+      framed_opens g.language power_inside w name (level ∷ le 2 order) inside after f.is_standard.0 f.fits ∙ rw (high_again 2 order inside f.is_standard.2) refl
   open_again (def_field name access lock update entries) w n inside after f nothing =
       let mid = field_flags access lock update ∷ entries_bytes entries in
       let none : inside ≡ [] = nothing f.takes in
       let fits : FrameFits w ((name ++ mid) ++ []) = subst (λ (l : List ℕ). FrameFits w ((name ++ mid) ++ (l ++ []))) none f.fits.1 in
       rw (none, f.takes)
-      (framed_opens field_inside w name mid [] after f.is_standard.0 fits ∙ ap (λ (l : List ℕ). field_inside w name l after) (append-nil mid)
+      (framed_opens g.language field_inside w name mid [] after f.is_standard.0 fits ∙ ap (λ (l : List ℕ). field_inside w name l after) (append-nil mid)
       ∙ field_opens w name access lock update entries after f.is_standard.1 f.is_standard.2 f.is_standard.3 f.is_standard.4 f.fits.0)
   open_again (def_op_region name space) w n inside after f nothing =
-      rw (f.fits, f.takes) (ap (λ (l : List ℕ). open_at arity m (91 ∷ 128 ∷ l)) (regroup name (space ∷ []) inside after) ∙ named_opens region_after name (space ∷ (inside ++ after)) f.is_standard.0)
-  open_again (def_name name) w n inside after f nothing = rw (f.fits, f.takes) (ap (λ (l : List ℕ). open_at arity m (8 ∷ l)) (append_assoc name inside after) ∙ named_opens define_after name (inside ++ after) f.is_standard)
+      rw (f.fits, f.takes) (ap (λ (l : List ℕ). open_at g m (91 ∷ 128 ∷ l)) (regroup name (space ∷ []) inside after) ∙ named_opens g.language region_after name (space ∷ (inside ++ after)) f.is_standard.0)
+  open_again (def_name name) w n inside after f nothing = rw (f.fits, f.takes) (ap (λ (l : List ℕ). open_at g m (8 ∷ l)) (append_assoc name inside after) ∙ named_opens g.language define_after name (inside ++ after) f.is_standard)
   open_again (def_mutex name level) w n inside after f nothing =
-      rw (f.fits, f.takes) (ap (λ (l : List ℕ). open_at arity m (91 ∷ 1 ∷ l)) (regroup name (level ∷ []) inside after) ∙ named_opens mutex_after name (level ∷ (inside ++ after)) f.is_standard.0)
+      rw (f.fits, f.takes) (ap (λ (l : List ℕ). open_at g m (91 ∷ 1 ∷ l)) (regroup name (level ∷ []) inside after) ∙ named_opens g.language mutex_after name (level ∷ (inside ++ after)) f.is_standard.0)
   open_again (def_acquire name timeout) w n inside after f nothing =
       rw (f.fits, f.takes)
-      (ap (λ (l : List ℕ). open_at arity m (91 ∷ 35 ∷ l)) (regroup name (le 2 timeout) inside after) ∙ named_opens acquire_after name (le 2 timeout ++ (inside ++ after)) f.is_standard.0
+      (ap (λ (l : List ℕ). open_at g m (91 ∷ 35 ∷ l)) (regroup name (le 2 timeout) inside after) ∙ named_opens g.language acquire_after name (le 2 timeout ++ (inside ++ after)) f.is_standard.0
       ∙ rw (high_again 2 timeout (inside ++ after) f.is_standard.1) refl)
-  open_again (def_release name) w n inside after f nothing = rw (f.fits, f.takes) (ap (λ (l : List ℕ). open_at arity m (91 ∷ 39 ∷ l)) (append_assoc name inside after) ∙ named_opens release_after name (inside ++ after) f.is_standard)
+  open_again (def_release name) w n inside after f nothing = rw (f.fits, f.takes) (ap (λ (l : List ℕ). open_at g m (91 ∷ 39 ∷ l)) (append_assoc name inside after) ∙ named_opens g.language release_after name (inside ++ after) f.is_standard)
   open_again (def_buffer bytes) w n inside after f nothing = rw (frame_again w (inside ++ bytes) after f.fits) refl
-  open_again def_package w n inside after f nothing = rw (frame_again w (n ∷ (inside ++ [])) after f.fits, append-nil inside) refl
+  open_again def_package w n inside after f nothing = rw (frame_again w (n ∷ (inside ++ [])) after f.fits, append-nil inside) (package_choice (has g.language Standard) w n inside after)
+  open_again (def_external name kind args) w n inside after f nothing =
+      rw (f.fits, f.takes) (ap (λ (l : List ℕ). open_at g m (21 ∷ l)) (regroup name (kind ∷ args ∷ []) inside after) ∙ external_opens (name ++ (kind ∷ args ∷ (inside ++ after))) f.is_standard.0
+      ∙ named_opens g.language external_after name (kind ∷ args ∷ (inside ++ after)) f.is_standard.1)
+  open_again (def_leveled_method name args serialized level) w n inside after f nothing =
+      framed_opens g.language (method_inside g.language) w name (leveled_flags args serialized level ∷ []) inside after f.is_standard.1 f.fits
+      ∙ leveled_opens g.language w name args serialized level inside after f.is_standard.0 (leb-true args 7 (owned _ _ f.owns)) f.is_standard.2
+  open_again (def_processor name id address size) w n inside after f nothing =
+      let mid = id ∷ (le 4 address ++ size ∷ []) in
+      processor_opens (with_length w ((name ++ mid) ++ (inside ++ [])) ++ after) f.is_standard.0
+      ∙ framed_opens g.language processor_inside w name mid inside after f.is_standard.1 f.fits ∙ rw (high_again 4 address (size ∷ inside) f.is_standard.3) refl
+  open_again (def_thermal_zone name) w n inside after f nothing =
+      thermal_opens (with_length w (name ++ (inside ++ [])) ++ after) f.is_standard.0 ∙ plainly_opens g.language thermal_inside w name inside after f.is_standard.1 f.fits
+  open_again (def_roomy_package room) w n inside after f nothing = rw (frame_again w (room ∷ (inside ++ [])) after f.fits, append-nil inside, f.is_standard.0) refl
+  open_again (def_index_field index name access lock update entries) w n inside after f nothing =
+      let mid = name ++ field_flags access lock update ∷ entries_bytes entries in
+      let none : inside ≡ [] = nothing f.takes in
+      let fits : FrameFits w ((index ++ mid) ++ []) = subst (λ (l : List ℕ). FrameFits w ((index ++ mid) ++ (l ++ []))) none f.fits.1 in
+      rw (none, f.takes)
+      (indexed_opens (with_length w ((index ++ mid) ++ []) ++ after) f.is_standard.0
+      ∙ framed_opens g.language (index_inside g.language) w index mid [] after f.is_standard.1 fits ∙ ap (λ (l : List ℕ). index_inside g.language w index l after) (append-nil mid)
+      ∙ index_opens g.language w index name access lock update entries after f.is_standard.2 f.is_standard.3 f.is_standard.4 f.is_standard.5 f.is_standard.6 f.fits.0)
   open_again def_var_package w n inside after f nothing = rw (frame_again w (inside ++ []) after f.fits, append-nil inside) refl
   open_again def_if w n inside after f nothing = rw (frame_again w (inside ++ []) after f.fits, append-nil inside) refl
   open_again def_while w n inside after f nothing = rw (frame_again w (inside ++ []) after f.fits, append-nil inside) refl
   open_again def_else w n inside after f nothing = rw (frame_again w (inside ++ []) after f.fits, append-nil inside) refl
-  open_again (op o) w n inside after f nothing = rw (f.fits, append_assoc (opcode o) inside after, f.takes) (op_opens o (inside ++ after))
+  open_again (op o) w n inside after f nothing = rw (f.fits, append_assoc (opcode o) inside after, f.takes) (op_in_opens o (inside ++ after) f.is_standard)

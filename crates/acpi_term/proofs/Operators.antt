@@ -1,9 +1,11 @@
 -- Operators: what is read is written so.
-use Rattle.std.proofs.Common.{◌≡◌, ℕ, Bool, true, false, cond, List, [], ◌∷◌, Option, Some, refl}
+use Rattle.std.proofs.Common.{◌≡◌, ℕ, ◌≤◌, Bool, true, false, cond, List, [], ◌∷◌, length, Option, Some, None, refl, sym, ap, ◌∙◌, arith}
+use Rattle.std.specs.Prelude.{slice_index}
 use Rattle.std.specs.List.{find}
 use Rattle.std.specs.Str.{bytes_eq}
 use Rattle.std.proofs.lemmas.Slice.Eq.{bytes_eq-Decides}
 use Rattle.acpi_term.specs.declared.op.Op.{Op}
+use Rattle.acpi_term.specs.declared.op.Op.TheVariants.{CreateField}
 use Rattle.acpi_term.specs.Operator.{opcode, operators, op_of}
 
 module _ {X : Type 0} (p : X → Bool) where
@@ -16,4 +18,33 @@ module _ {X : Type 0} (p : X → Bool) where
   found_passes (x ∷ xs) y is = first_passes x y (find p xs) (p x) refl (found_passes xs y) is
 
 pub op_is : (code : List ℕ) (o : Op) → op_of code ≡ Some o → opcode o ≡ code
+unfolding op_of
 op_is code o is = (bytes_eq-Decides (opcode o) code).0 (found_passes (λ x. bytes_eq (opcode x) code) operators o is)
+
+-- ---- opcodes that no operator has
+
+code_short : (o : Op) → length (opcode o) ≤ 2
+code_short CreateField = omega arith
+code_short o = omega arith
+
+none_or : (code : List ℕ) (found : Option Op) → op_of code ≡ found → ((o : Op) → found ≡ Some o → ⊥) → None ≡ op_of code
+none_or code None is other = sym is
+none_or code (Some o) is other = absurd (other o refl)
+
+pub none_so_long : (code : List ℕ) → 3 ≤ length code → None ≡ op_of code
+none_so_long code long = none_or code (op_of code) refl (λ o is. omega (arith, code_short o, ap length (op_is code o is), long))
+
+pub none_empty : (code : List ℕ) → length code ≤ 0 → None ≡ op_of code
+unfolding op_of
+none_empty [] short = refl
+none_empty (b ∷ code) short = absurd (omega arith)
+
+lead_of_two : (o : Op) → length (opcode o) ≡ 2 → slice_index (opcode o) 0 ≡ 91
+lead_of_two CreateField two = refl
+lead_of_two o two = grind arith
+
+pub none_of_two : (code : List ℕ) → length code ≡ 2 → (slice_index code 0 ≡ 91 → ⊥) → None ≡ op_of code
+none_of_two code two other =
+    none_or code (op_of code) refl (λ o is.
+    let same : opcode o ≡ code = op_is code o is in
+    other (ap (λ (l : List ℕ). slice_index l 0) (sym same) ∙ lead_of_two o (ap length same ∙ two)))

@@ -9,10 +9,13 @@ use Rattle.acpi_base.specs.declared.error.Error.TheVariants.{Memory, PkgLength}
 use Rattle.acpi_base.specs.Object.{Object, whole, ended, all_of}
 use Rattle.acpi_base.proofs.Lists.{joined_whole, chain_whole}
 use Rattle.acpi_term.specs.declared.mode.Mode.{Mode}
-use Rattle.acpi_term.specs.Tree.{Entry, Head, number, def_field, Terms, end, term, count, one}
+use Rattle.acpi_term.specs.declared.language.Language.{Language}
+use Rattle.acpi_term.specs.declared.language.Language.TheVariants.{Written, Standard}
+use Rattle.acpi_term.specs.Language.{Grammar, written_grammar}
+use Rattle.acpi_term.specs.Tree.{Entry, Head, number, def_field, def_index_field, Terms, end, term, count, one}
 use Rattle.acpi_term.specs.Length.{limit, least_width, with_length, FrameFits}
 use Rattle.acpi_term.specs.Row.{entry_bits, entries_end, Layout, bare, framed, layout, own, own_width, frame_end, frame, around, row, layout_width, writer_width}
-use Rattle.acpi_term.specs.Spelling.{laid, spelled, spelling, inner, next, IsStandard, EntriesFit, HaveLeastWidths, LayoutFits, HeadFits, IsWritten, Takes, IsLegal, Spells, SpellEach}
+use Rattle.acpi_term.specs.Spelling.{laid, spelled, spelling, inner, next, IsStandard, EntriesFit, HaveLeastWidths, LayoutFits, HeadFits, IsWritten, Takes, IsLegal, Spells, SpellEach, SpellsIn, SpellEachIn}
 use Rattle.acpi_term.proofs.Lengths.{width_carries, width_holds, number_carries}
 
 pub ended_none : (e : Option Error) (o : Object) → (ended e o).end ≡ None → (e ≡ None) × (o.end ≡ None) × ((ended e o).front ≡ o.front)
@@ -54,10 +57,11 @@ entries_fit (e ∷ entries) least h =
     let small : entry_bits e < 2 ^ 28 = ltb-true (entry_bits e) (2 ^ 28) t.0 in
     (subst (λ (w : ℕ). entry_bits e < limit w) (sym least.0) (width_holds (entry_bits e) small), entries_fit entries least.1 t.1)
 
-written_fits : (h : Head) (n : ℕ) (inside : List ℕ) → IsStandard h → IsWritten h → own h n ≡ None → (around (layout h (own_width h) n) (whole inside)).end ≡ None → HeadFits h (writer_width h n inside) n inside
-written_fits (number v) n inside std written owns h = number_carries v std
-written_fits (def_field name access lock update entries) n inside std written owns h = (entries_fit entries written owns, fits_in (layout (def_field name access lock update entries) 0 n) inside h)
-written_fits head n inside std written owns h = fits_in (layout head (own_width head) n) inside h
+written_fits : (l : Language) (h : Head) (n : ℕ) (inside : List ℕ) → IsStandard l h → IsWritten h → own h n ≡ None → (around (layout h (own_width h) n) (whole inside)).end ≡ None → HeadFits h (writer_width h n inside) n inside
+written_fits l (number v) n inside std written owns h = number_carries v std
+written_fits l (def_field name access lock update entries) n inside std written owns h = (entries_fit entries written owns, fits_in (layout (def_field name access lock update entries) 0 n) inside h)
+written_fits l (def_index_field index name access lock update entries) n inside std written owns h = (entries_fit entries written owns, fits_in (layout (def_index_field index name access lock update entries) 0 n) inside h)
+written_fits l head n inside std written owns h = fits_in (layout head (own_width head) n) inside h
 
 same_layout : (h : Head) (n : ℕ) (inside : List ℕ) → layout h (own_width h) n ≡ layout h (writer_width h n inside) n
 same_layout (number v) n inside = refl
@@ -65,42 +69,55 @@ same_layout head n inside = refl
 
 -- ---- rows
 
-module _ (arity : List ℕ → ℕ) where
-  pub each : (m : Mode) (objects : List Object) (ts : Terms) → SpellEach arity m objects ts → (all_of objects).end ≡ None → Spells arity m (all_of objects).front ts × (count ts ≡ length objects)
-  each m [] end s h = ((tt, refl), refl)
-  each m [] (term k w c others) s h = absurd s
-  each m (o ∷ os) end s h = absurd s
-  each m (o ∷ os) (term k w c others) s h =
+module _ (g : Grammar) where
+  pub each_in : (m : Mode) (objects : List Object) (ts : Terms) → SpellEachIn g m objects ts → (all_of objects).end ≡ None → SpellsIn g m (all_of objects).front ts × (count ts ≡ length objects)
+  each_in m [] end s h = ((tt, refl), refl)
+  each_in m [] (term k w c others) s h = absurd s
+  each_in m (o ∷ os) end s h = absurd s
+  each_in m (o ∷ os) (term k w c others) s h =
       let both = joined_whole o.front o.wants_memory (all_of os) o.end h in
-      let rest = each (next m) os others s.1 both.1 in
+      let rest = each_in (next m) os others s.1 both.1 in
       let first : o.front ≡ spelled k w (count c) (spelling c) = s.0.1 ∙ append-nil (spelled k w (count c) (spelling c)) in
       rw (chain_whole o (all_of os) both.0)
       (((s.0.0.0, s.0.0.1, rest.0.0), ap (λ (l : List ℕ). l ++ (all_of os).front) first ∙ ap (λ (l : List ℕ). spelled k w (count c) (spelling c) ++ l) rest.0.1), omega (arith, rest.1))
 
-  over_means : (m : Mode) (h : Head) (n : ℕ) (bytes : List ℕ) (ts : Terms) → n ≡ count ts → Takes arity m h n → IsStandard h → IsWritten h → own h n ≡ None → Spells arity (inner h) bytes ts
-      → (around (layout h (own_width h) n) (whole bytes)).end ≡ None → Spells arity m (around (layout h (own_width h) n) (whole bytes)).front (one h (writer_width h n bytes) ts)
+  over_means : (m : Mode) (h : Head) (n : ℕ) (bytes : List ℕ) (ts : Terms) → n ≡ count ts → Takes g.arity m h n → IsStandard g.language h → IsWritten h → own h n ≡ None → SpellsIn g (inner h) bytes ts
+      → (around (layout h (own_width h) n) (whole bytes)).end ≡ None → SpellsIn g m (around (layout h (own_width h) n) (whole bytes)).front (one h (writer_width h n bytes) ts)
   over_means m h n bytes ts same takes std written owns spells h_whole =
       let w = writer_width h n bytes in
       let front : (around (layout h (own_width h) n) (whole bytes)).front ≡ spelled h w n bytes = laid_around (layout h (own_width h) n) (own_width h) bytes h_whole ∙ ap (λ (l : Layout). laid l w bytes) (same_layout h n bytes) in
-      let head : IsLegal arity m h w n bytes = record { takes = takes; is_standard = std; owns = owns; fits = written_fits h n bytes std written owns h_whole } in
-      let counted : IsLegal arity m h w (count ts) bytes = subst (λ (k : ℕ). IsLegal arity m h w k bytes) same head in (
-        (subst (λ (l : List ℕ). IsLegal arity m h w (count ts) l) spells.1 counted, spells.0, tt),
+      let head : IsLegal g m h w n bytes = record { takes = takes; is_standard = std; owns = owns; fits = written_fits g.language h n bytes std written owns h_whole } in
+      let counted : IsLegal g m h w (count ts) bytes = subst (λ (k : ℕ). IsLegal g m h w k bytes) same head in (
+        (subst (λ (l : List ℕ). IsLegal g m h w (count ts) l) spells.1 counted, spells.0, tt),
         front ∙ ap (λ (k : ℕ). spelled h w k bytes) same ∙ ap (spelled h w (count ts)) spells.1 ∙ sym (append-nil (spelled h w (count ts) (spelling ts))),
       )
 
-pub rows_over_mean : (arity : List ℕ → ℕ) (m : Mode) (h : Head) (bytes : List ℕ) (ts : Terms) → Takes arity m h (count ts) → IsStandard h → IsWritten h → own h (count ts) ≡ None → Spells arity (inner h) bytes ts
-    → (around (layout h (own_width h) (count ts)) (whole bytes)).end ≡ None → Spells arity m (around (layout h (own_width h) (count ts)) (whole bytes)).front (one h (writer_width h (count ts) bytes) ts)
-rows_over_mean arity m h bytes ts = over_means arity m h (count ts) bytes ts refl
+pub rows_over_mean_in : (g : Grammar) (m : Mode) (h : Head) (bytes : List ℕ) (ts : Terms) → Takes g.arity m h (count ts) → IsStandard g.language h → IsWritten h → own h (count ts) ≡ None → SpellsIn g (inner h) bytes ts
+    → (around (layout h (own_width h) (count ts)) (whole bytes)).end ≡ None → SpellsIn g m (around (layout h (own_width h) (count ts)) (whole bytes)).front (one h (writer_width h (count ts) bytes) ts)
+rows_over_mean_in g m h bytes ts = over_means g m h (count ts) bytes ts refl
 
-pub rows_mean : (arity : List ℕ → ℕ) (m : Mode) (h : Head) (objects : List Object) (ts : Terms) → Takes arity m h (length objects) → IsStandard h → IsWritten h → SpellEach arity (inner h) objects ts
-    → (row h objects).end ≡ None → Spells arity m (row h objects).front (one h (writer_width h (length objects) (all_of objects).front) ts)
-rows_mean arity m h objects ts takes std written spells h_whole =
+pub rows_mean_in : (g : Grammar) (m : Mode) (h : Head) (objects : List Object) (ts : Terms) → Takes g.arity m h (length objects) → IsStandard g.language h → IsWritten h → SpellEachIn g (inner h) objects ts
+    → (row h objects).end ≡ None → SpellsIn g m (row h objects).front (one h (writer_width h (length objects) (all_of objects).front) ts)
+rows_mean_in g m h objects ts takes std written spells h_whole =
     let l = layout h (own_width h) (length objects) in
     let a = ended_none (own h (length objects)) (around l (all_of objects)) h_whole in
     let b = around_whole l (all_of objects) a.1 in
-    let d = each arity (inner h) objects ts spells b.0 in
-    let e = over_means arity m h (length objects) (all_of objects).front ts (sym d.1) takes std written a.0 d.0 b.1 in
+    let d = each_in g (inner h) objects ts spells b.0 in
+    let e = over_means g m h (length objects) (all_of objects).front ts (sym d.1) takes std written a.0 d.0 b.1 in
     (e.0, a.2 ∙ b.2 ∙ e.1)
+
+-- ---- the same of what this library writes
+
+pub each : (arity : List ℕ → ℕ) (m : Mode) (objects : List Object) (ts : Terms) → SpellEach arity m objects ts → (all_of objects).end ≡ None → Spells arity m (all_of objects).front ts × (count ts ≡ length objects)
+each arity = each_in (written_grammar arity)
+
+pub rows_over_mean : (arity : List ℕ → ℕ) (m : Mode) (h : Head) (bytes : List ℕ) (ts : Terms) → Takes arity m h (count ts) → IsStandard Written h → IsWritten h → own h (count ts) ≡ None → Spells arity (inner h) bytes ts
+    → (around (layout h (own_width h) (count ts)) (whole bytes)).end ≡ None → Spells arity m (around (layout h (own_width h) (count ts)) (whole bytes)).front (one h (writer_width h (count ts) bytes) ts)
+rows_over_mean arity = rows_over_mean_in (written_grammar arity)
+
+pub rows_mean : (arity : List ℕ → ℕ) (m : Mode) (h : Head) (objects : List Object) (ts : Terms) → Takes arity m h (length objects) → IsStandard Written h → IsWritten h → SpellEach arity (inner h) objects ts
+    → (row h objects).end ≡ None → Spells arity m (row h objects).front (one h (writer_width h (length objects) (all_of objects).front) ts)
+rows_mean arity = rows_mean_in (written_grammar arity)
 
 -- ---- refusals
 

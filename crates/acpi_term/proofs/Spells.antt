@@ -8,7 +8,7 @@ use Rattle.acpi_term.specs.declared.term.Term.{Term}
 use Rattle.acpi_term.specs.declared.term.TermEntry.{TermEntry}
 use Rattle.acpi_term.specs.Length.{limit, with_length, FrameFits}
 use Rattle.acpi_term.specs.Row.{entry_bits, entry_width, entry_bytes, entries_bytes, Layout, bare, framed, code_of, before_of, after_of, field_flags, layout}
-use Rattle.acpi_term.specs.Tree.{Entry, Head, number, def_field, Terms, term, count}
+use Rattle.acpi_term.specs.Tree.{Entry, Head, number, def_field, def_index_field, Terms, term, count}
 use Rattle.acpi_term.specs.Spelling.{laid, spelled, spelling, EntriesFit, LayoutFits, HeadFits}
 use Rattle.acpi_term.specs.View.{Parts, entry_view, view, views, single, IsApart}
 use Rattle.acpi_term.proofs.Entries.{entries_owned}
@@ -167,11 +167,13 @@ laid_bare (framed code before after) w inside is = absurd cc
 bare_to : (h : Head) (w n : ℕ) (inside : List ℕ) → None ≡ code_of (layout h w n) → ValuesFit h w → BareFits h w → HeadFits h w n inside
 bare_to (number v) w n inside is values fits = values
 bare_to (def_field name access lock update entries) w n inside is values fits = absurd cc
+bare_to (def_index_field index name access lock update entries) w n inside is values fits = absurd cc
 bare_to h w n inside is values fits = bare_in (layout h w n) w inside is fits
 
 bare_from : (h : Head) (w n : ℕ) (inside : List ℕ) → None ≡ code_of (layout h w n) → HeadFits h w n inside → ValuesFit h w × BareFits h w
 bare_from (number v) w n inside is fits = (fits, tt)
 bare_from (def_field name access lock update entries) w n inside is fits = absurd cc
+bare_from (def_index_field index name access lock update entries) w n inside is fits = absurd cc
 bare_from h w n inside is fits = (tt, bare_out (layout h w n) w inside is fits)
 
 frame_in : (l : Layout) (w : ℕ) (inside code : List ℕ) → Some code ≡ code_of l → LayoutFits l w inside ↔ FrameFits w (before_of l ++ (inside ++ after_of l))
@@ -188,16 +190,19 @@ laid_frame (framed own before after) w inside code is = rw (some_is code own is)
 frame_to : (h : Head) (w n : ℕ) (inside code : List ℕ) → Some code ≡ code_of (layout h w n) → ValuesFit h w → LayoutFits (layout h w n) w inside → HeadFits h w n inside
 frame_to (number v) w n inside code is values fits = values
 frame_to (def_field name access lock update entries) w n inside code is values fits = (values, fits)
+frame_to (def_index_field index name access lock update entries) w n inside code is values fits = (values, fits)
 frame_to h w n inside code is values fits = fits
 
 frame_from : (h : Head) (w n : ℕ) (inside code : List ℕ) → Some code ≡ code_of (layout h w n) → HeadFits h w n inside → ValuesFit h w × LayoutFits (layout h w n) w inside
 frame_from (number v) w n inside code is fits = absurd cc
 frame_from (def_field name access lock update entries) w n inside code is fits = fits
+frame_from (def_index_field index name access lock update entries) w n inside code is fits = fits
 frame_from h w n inside code is fits = (tt, fits)
 
 values_of : (h : Head) (w n : ℕ) (inside : List ℕ) → HeadFits h w n inside → ValuesFit h w
 values_of (number v) w n inside fits = fits
 values_of (def_field name access lock update entries) w n inside fits = fits.0
+values_of (def_index_field index name access lock update entries) w n inside fits = fits.0
 values_of h w n inside fits = tt
 
 module _ (h : Head) (w n : ℕ) (inside : List ℕ) where
@@ -229,6 +234,14 @@ module _ (h : Head) (w n : ℕ) (inside : List ℕ) where
 
   pub own_unlaid : (e : Error) → OwnUnlaid e h w n → Unlaid e h w n inside
   own_unlaid e stop = record { cause = λ other c. stop.cause other (record { owns = c.owns; flags = c.flags; values = values_of h w n inside c.fits }) }
+
+pub index_laid : (index name old new : List ℕ) (access lock update flags w n : ℕ) (entries : List Entry) → flags ≡ field_flags access lock update → flags < 2 ^ 8 → old ≡ index ++ (name ++ flags ∷ []) → new ≡ old ++ entries_bytes entries → EntriesFit entries
+    → OwnLaid (def_index_field index name access lock update entries) w n new
+index_laid index name old new access lock update flags w n entries is small head made fits = record {
+  carried = record { owns = entries_owned entries fits; flags = rw (← is) small; values = fits };
+  is = made ∙ ap (λ (l : List ℕ). l ++ entries_bytes entries) head ∙ append_assoc index (name ++ flags ∷ []) (entries_bytes entries)
+      ∙ ap (λ (l : List ℕ). index ++ l) (append_assoc name (flags ∷ []) (entries_bytes entries) ∙ ap (λ (k : ℕ). name ++ k ∷ entries_bytes entries) is);
+}
 
 pub field_laid : (name old new : List ℕ) (access lock update flags w n : ℕ) (entries : List Entry) → flags ≡ field_flags access lock update → flags < 2 ^ 8 → old ≡ name ++ flags ∷ [] → new ≡ old ++ entries_bytes entries → EntriesFit entries
     → OwnLaid (def_field name access lock update entries) w n new

@@ -1,14 +1,15 @@
 -- What is read is spelled so.
-use Rattle.std.proofs.Common.{◌≡◌, ℕ, zero, suc, ◌<◌, ◌≤◌, ltb, List, [], ◌∷◌, ◌++◌, length, Ok, refl, sym, ap, subst, ◌∙◌, append_assoc, arith}
-use Rattle.std.proofs.lemmas.Bool.{ltb-false}
+use Rattle.std.proofs.Common.{◌≡◌, ℕ, zero, suc, ◌<◌, ◌≤◌, ltb, eqb, inl, inr, List, [], ◌∷◌, ◌++◌, length, Ok, refl, sym, ap, subst, ◌∙◌, append_assoc, arith}
+use Rattle.std.proofs.lemmas.Bool.{ltb-false, ltb-true, eqb-true}
 use Rattle.std.proofs.lemmas.List.{append-nil, length-append}
 use Rattle.acpi_base.specs.Bytes.{AreBytes}
 use Rattle.acpi_term.specs.declared.mode.Mode.{Mode}
 use Rattle.acpi_term.specs.declared.mode.Mode.TheVariants.{Term, Element}
-use Rattle.acpi_term.specs.Tree.{Head, def_package, def_buffer, Terms, end, term, count, depth}
+use Rattle.acpi_term.specs.Language.{Grammar}
+use Rattle.acpi_term.specs.Tree.{Head, def_package, def_roomy_package, def_buffer, Terms, end, term, count, depth}
 use Rattle.acpi_term.specs.Spelling.{spelled, spelling, inner, next, IsLegal, AreLegal}
-use Rattle.acpi_term.specs.Reading.{Bad, ◌>>=◌, least_of, One, assembled, Opened, follows, fills, packs, begins, open_at, Reader, counted, all_of, wants_no_more, close, term_at}
-use Rattle.acpi_term.proofs.Steps.{bind_ok, ok_is, passed}
+use Rattle.acpi_term.specs.Reading.{Bad, ◌>>=◌, least_of, One, assembled, Opened, follows, fills, packs, rooms, roomed, begins, open_at, Reader, counted, all_of, wants_no_more, close, term_at}
+use Rattle.acpi_term.proofs.Steps.{bind_ok, ok_is, passed, chosen, admitted}
 use Rattle.acpi_term.proofs.Openings.{OpenTakes, open_takes}
 use Rattle.acpi_term.proofs.Again.{head_some, nothing_inside}
 
@@ -19,25 +20,25 @@ Found = Head × ℕ × Terms × List ℕ
 found_is : (s t : One) (after : List ℕ) (x : Found) → s ≡ t → ◌≡◌ {A = Found} (t.0, t.1, t.2, after) x → ◌≡◌ {A = Found} (s.0, s.1, s.2, after) x
 found_is s t after x e f = ap (λ (t : One). (t.0, t.1, t.2, after)) e ∙ f
 
-module _ (arity : List ℕ → ℕ) where
+module _ (g : Grammar) where
   -- what the reading of one term, of several and of all took
   pub record OneTaken (d : ℕ) (m : Mode) (bytes : List ℕ) (x : Found) : Type 0 where
     pub parts : bytes ≡ spelled x.0 x.1 (count x.2) (spelling x.2) ++ x.3
-    pub head : IsLegal arity m x.0 x.1 (count x.2) (spelling x.2)
-    pub children : AreLegal arity (inner x.0) x.2
+    pub head : IsLegal g m x.0 x.1 (count x.2) (spelling x.2)
+    pub children : AreLegal g (inner x.0) x.2
     pub deep : depth x.2 < d
     pub rest_fits : AreBytes x.3
 
   pub record SeveralTaken (d n : ℕ) (m : Mode) (bytes : List ℕ) (x : Terms × List ℕ) : Type 0 where
     pub parts : bytes ≡ spelling x.0 ++ x.1
     pub number : count x.0 ≡ n
-    pub fits : AreLegal arity m x.0
+    pub fits : AreLegal g m x.0
     pub deep : depth x.0 ≤ d
     pub rest_fits : AreBytes x.1
 
   pub record AllTaken (d : ℕ) (m : Mode) (bytes : List ℕ) (ts : Terms) : Type 0 where
     pub parts : bytes ≡ spelling ts
-    pub fits : AreLegal arity m ts
+    pub fits : AreLegal g m ts
     pub deep : depth ts ≤ d
 
   -- a reader takes what it reads
@@ -86,31 +87,37 @@ module _ (arity : List ℕ → ℕ) where
     nothing_more h w ts [] after x e = (refl, ok_is {A = Found} (h, w, ts, after) x e)
     nothing_more h w ts (b ∷ rest) after x e = absurd cc
 
-    follows_takes : (h : Head) (w n : ℕ) (rest bytes : List ℕ) (m : Mode) (o : Terms × List ℕ) → OpenTakes arity m bytes (follows h w n rest) → SeveralTaken d n (inner h) rest o → OneTaken (suc d) m bytes (h, w, o.0, o.1)
+    follows_takes : (h : Head) (w n : ℕ) (rest bytes : List ℕ) (m : Mode) (o : Terms × List ℕ) → OpenTakes g m bytes (follows h w n rest) → SeveralTaken d n (inner h) rest o → OneTaken (suc d) m bytes (h, w, o.0, o.1)
     follows_takes h w n rest bytes m o t s =
         let f = t.1 (spelling o.0) o.1 s.parts (λ z. nothing_inside o.0 (s.number ∙ z)) in
-        let g = subst (λ (k : ℕ). (bytes ≡ spelled h w k (spelling o.0) ++ o.1) × IsLegal arity m h w k (spelling o.0)) (sym s.number) f in
+        let g = subst (λ (k : ℕ). (bytes ≡ spelled h w k (spelling o.0) ++ o.1) × IsLegal g m h w k (spelling o.0)) (sym s.number) f in
         record { parts = g.0; head = g.1; children = s.fits; deep = omega (arith, s.deep); rest_fits = s.rest_fits }
 
-    fills_takes : (h : Head) (w : ℕ) (inside after bytes : List ℕ) (m : Mode) (ts : Terms) → OpenTakes arity m bytes (fills h w inside after) → AllTaken d (inner h) inside ts → least_of h ≤ count ts → OneTaken (suc d) m bytes (h, w, ts, after)
+    fills_takes : (h : Head) (w : ℕ) (inside after bytes : List ℕ) (m : Mode) (ts : Terms) → OpenTakes g m bytes (fills h w inside after) → AllTaken d (inner h) inside ts → least_of h ≤ count ts → OneTaken (suc d) m bytes (h, w, ts, after)
     fills_takes h w inside after bytes m ts t s enough =
-        let g = subst (λ (l : List ℕ). (bytes ≡ spelled h w (count ts) l ++ after) × IsLegal arity m h w (count ts) l) s.parts (t.2 (count ts) enough) in
+        let g = subst (λ (l : List ℕ). (bytes ≡ spelled h w (count ts) l ++ after) × IsLegal g m h w (count ts) l) s.parts (t.2 (count ts) enough) in
         record { parts = g.0; head = g.1; children = s.fits; deep = omega (arith, s.deep); rest_fits = t.1 }
 
-    packs_takes : (w n : ℕ) (inside after bytes : List ℕ) (m : Mode) (o : Terms × List ℕ) → OpenTakes arity m bytes (packs w n inside after) → SeveralTaken d n Element inside o → o.1 ≡ [] → OneTaken (suc d) m bytes (def_package, w, o.0, after)
+    packs_takes : (w n : ℕ) (inside after bytes : List ℕ) (m : Mode) (o : Terms × List ℕ) → OpenTakes g m bytes (packs w n inside after) → SeveralTaken d n Element inside o → o.1 ≡ [] → OneTaken (suc d) m bytes (def_package, w, o.0, after)
     packs_takes w n inside after bytes m o t s ended =
         let is : inside ≡ spelling o.0 = s.parts ∙ ap (λ (l : List ℕ). spelling o.0 ++ l) ended ∙ append-nil (spelling o.0) in
-        let f = subst (λ (l : List ℕ). (bytes ≡ spelled def_package w n l ++ after) × IsLegal arity m def_package w n l) is (t.2, t.3) in
-        let g = subst (λ (k : ℕ). (bytes ≡ spelled def_package w k (spelling o.0) ++ after) × IsLegal arity m def_package w k (spelling o.0)) (sym s.number) f in
+        let f = subst (λ (l : List ℕ). (bytes ≡ spelled def_package w n l ++ after) × IsLegal g m def_package w n l) is (t.2, t.3) in
+        let g = subst (λ (k : ℕ). (bytes ≡ spelled def_package w k (spelling o.0) ++ after) × IsLegal g m def_package w k (spelling o.0)) (sym s.number) f in
         record { parts = g.0; head = g.1; children = s.fits; deep = omega (arith, s.deep); rest_fits = t.1 }
 
-    begins_takes : (w : ℕ) (content after bytes : List ℕ) (m : Mode) (o : Terms × List ℕ) → OpenTakes arity m bytes (begins w content after) → SeveralTaken d 1 Term content o → OneTaken (suc d) m bytes (def_buffer o.1, w, o.0, after)
+    rooms_takes : (h : Head) (w : ℕ) (inside after bytes : List ℕ) (m : Mode) (ts : Terms) → Element ≡ inner h → AreBytes after → AllTaken d Element inside ts
+        → (bytes ≡ spelled h w (count ts) inside ++ after) × IsLegal g m h w (count ts) inside → OneTaken (suc d) m bytes (h, w, ts, after)
+    rooms_takes h w inside after bytes m ts place after_fits s f =
+        let k = subst (λ (l : List ℕ). (bytes ≡ spelled h w (count ts) l ++ after) × IsLegal g m h w (count ts) l) s.parts f in
+        record { parts = k.0; head = k.1; children = subst (λ (x : Mode). AreLegal g x ts) place s.fits; deep = omega (arith, s.deep); rest_fits = after_fits }
+
+    begins_takes : (w : ℕ) (content after bytes : List ℕ) (m : Mode) (o : Terms × List ℕ) → OpenTakes g m bytes (begins w content after) → SeveralTaken d 1 Term content o → OneTaken (suc d) m bytes (def_buffer o.1, w, o.0, after)
     begins_takes w content after bytes m o t s =
         let f = t.2 (spelling o.0) o.1 s.parts in
-        let g = subst (λ (k : ℕ). (bytes ≡ spelled (def_buffer o.1) w k (spelling o.0) ++ after) × IsLegal arity m (def_buffer o.1) w k (spelling o.0)) (sym s.number) f in
+        let g = subst (λ (k : ℕ). (bytes ≡ spelled (def_buffer o.1) w k (spelling o.0) ++ after) × IsLegal g m (def_buffer o.1) w k (spelling o.0)) (sym s.number) f in
         record { parts = g.0; head = g.1; children = s.fits; deep = omega (arith, s.deep); rest_fits = t.1 }
 
-    close_takes : (o : Opened) (bytes : List ℕ) (m : Mode) (x : Found) → OpenTakes arity m bytes o → close p o ≡ Ok x → OneTaken (suc d) m bytes x
+    close_takes : (o : Opened) (bytes : List ℕ) (m : Mode) (x : Found) → OpenTakes g m bytes o → close p o ≡ Ok x → OneTaken (suc d) m bytes x
     unfolding close assembled
     close_takes (follows h w n rest) bytes m x t e =
         let a = bind_ok (counted p n (inner h) rest) (λ c. Ok (h, w, c.0, c.1)) x e in
@@ -124,31 +131,44 @@ module _ (arity : List ℕ → ℕ) where
         let a = bind_ok (counted p n Element inside) (λ c. wants_no_more p def_package w c.0 c.1 after) x e in
         let b = nothing_more def_package w a.0.0 a.0.1 after x a.2 in
         subst (OneTaken (suc d) m bytes) b.1 (packs_takes w n inside after bytes m a.0 t (counted_takes n Element inside a.0 t.0 a.1) b.0)
+    close_takes (rooms w n inside after) bytes m x t e =
+        let a = bind_ok (all_of p (length inside) Element inside) (λ c. roomed w n c after) x e in
+        let s = all_takes (length inside) Element inside a.0 t.0 a.1 in
+        elim (chosen (eqb (count a.0) n) _ _ _ a.2) [
+          | inl u ↦
+              let same : n ≡ count a.0 = sym (eqb-true (count a.0) n u.0) in
+              subst (OneTaken (suc d) m bytes) (ok_is {A = Found} (def_package, w, a.0, after) x u.1)
+              (rooms_takes def_package w inside after bytes m a.0 refl t.1 s (subst (λ (k : ℕ). (bytes ≡ spelled def_package w k inside ++ after) × IsLegal g m def_package w k inside) same t.2))
+          | inr v ↦
+              let u = admitted (ltb (count a.0) n) Bad _ x v.1 in
+              subst (OneTaken (suc d) m bytes) (ok_is {A = Found} (def_roomy_package n, w, a.0, after) x u.1)
+              (rooms_takes (def_roomy_package n) w inside after bytes m a.0 refl t.1 s (t.3 (count a.0) (ltb-true (count a.0) n u.0)))
+        ]
     close_takes (begins w content after) bytes m x t e =
         let a = bind_ok (counted p 1 Term content) (λ c. Ok (def_buffer c.1, w, c.0, after)) x e in
         subst (OneTaken (suc d) m bytes) (ok_is {A = Found} (def_buffer a.0.1, w, a.0.0, after) x a.2) (begins_takes w content after bytes m a.0 t (counted_takes 1 Term content a.0 t.0 a.1))
 
-  pub term_takes : (d : ℕ) → TakesOne (term_at arity d) d
+  pub term_takes : (d : ℕ) → TakesOne (term_at g d) d
   unfolding term_at
   term_takes zero = record { takes = λ m bytes x fits e. absurd cc }
   term_takes (suc d) = record {
     takes = λ m bytes x fits e.
-        let o = bind_ok (open_at arity m bytes) (close (term_at arity d)) x e in
-        close_takes (term_at arity d) d (term_takes d) o.0 bytes m x (open_takes arity m bytes o.0 fits o.1) o.2;
+        let o = bind_ok (open_at g m bytes) (close (term_at g d)) x e in
+        close_takes (term_at g d) d (term_takes d) o.0 bytes m x (open_takes g m bytes o.0 fits o.1) o.2;
   }
 
-  pub list_takes : (d n : ℕ) (m : Mode) (bytes : List ℕ) (ts : Terms) → AreBytes bytes → all_of (term_at arity d) n m bytes ≡ Ok ts → AllTaken d m bytes ts
-  list_takes d n m bytes ts fits e = all_takes (term_at arity d) d (term_takes d) n m bytes ts fits e
+  pub list_takes : (d n : ℕ) (m : Mode) (bytes : List ℕ) (ts : Terms) → AreBytes bytes → all_of (term_at g d) n m bytes ≡ Ok ts → AllTaken d m bytes ts
+  list_takes d n m bytes ts fits e = all_takes (term_at g d) d (term_takes d) n m bytes ts fits e
 
   -- a term takes at least a byte
   pub record Shrinks (bytes rest : List ℕ) : Type 0 where
     pub less : length rest < length bytes
     pub fits : AreBytes rest
 
-  pub term_shrinks : (d : ℕ) (m : Mode) (bytes : List ℕ) (x : Found) → AreBytes bytes → term_at arity d m bytes ≡ Ok x → Shrinks bytes x.3
+  pub term_shrinks : (d : ℕ) (m : Mode) (bytes : List ℕ) (x : Found) → AreBytes bytes → term_at g d m bytes ≡ Ok x → Shrinks bytes x.3
   term_shrinks d m bytes x fits e =
       let t = (term_takes d).takes m bytes x fits e in
       record {
-        less = omega (arith, ap length t.parts, length-append (spelled x.0 x.1 (count x.2) (spelling x.2)) x.3, head_some arity m x.0 x.1 (count x.2) (spelling x.2) t.head);
+        less = omega (arith, ap length t.parts, length-append (spelled x.0 x.1 (count x.2) (spelling x.2)) x.3, head_some g m x.0 x.1 (count x.2) (spelling x.2) t.head);
         fits = t.rest_fits;
       }

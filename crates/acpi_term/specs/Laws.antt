@@ -4,13 +4,15 @@ use Rattle.acpi_base.specs.Bytes.{AreBytes}
 use Rattle.acpi_base.specs.Number.{number_limit, number_bytes, number_width}
 use Rattle.acpi_base.specs.Object.{Object, whole, all_of}
 use Rattle.acpi_term.specs.declared.mode.Mode.{Mode}
+use Rattle.acpi_term.specs.declared.language.Language.TheVariants.{Written}
+use Rattle.acpi_term.specs.Language.{Grammar}
 use Rattle.acpi_term.specs.Tree.{Head, Terms, count, one}
 use Rattle.acpi_term.specs.Name.{IsName}
 use Rattle.acpi_term.specs.PathText.{parts, with_dots, AreDotless, is_name_text, path_spelling, path_of}
 use Rattle.acpi_term.specs.Length.{value, Frames, limit, length_bytes, with_length, FrameFits, least_width}
 use Rattle.acpi_term.specs.Row.{row, around, layout, own, own_width, writer_width}
-use Rattle.acpi_term.specs.Spelling.{Takes, IsStandard, IsWritten, SpellEach, Spells, inner}
-use Rattle.acpi_term.specs.Splits.{Splits}
+use Rattle.acpi_term.specs.Spelling.{Takes, IsStandard, IsWritten, SpellEach, Spells, SpellsIn, inner}
+use Rattle.acpi_term.specs.Splits.{SplitsIn}
 
 -- ---- rows
 
@@ -19,7 +21,7 @@ use Rattle.acpi_term.specs.Splits.{Splits}
 abbrev pub RowsMean : Type 0
 RowsMean =
     (arity : List ℕ → ℕ) (m : Mode) (h : Head) (objects : List Object) (ts : Terms)
-    → Takes arity m h (length objects) → IsStandard h → IsWritten h → SpellEach arity (inner h) objects ts
+    → Takes arity m h (length objects) → IsStandard Written h → IsWritten h → SpellEach arity (inner h) objects ts
     → (row h objects).end ≡ None
     → Spells arity m (row h objects).front (one h (writer_width h (length objects) (all_of objects).front) ts)
 
@@ -27,7 +29,7 @@ RowsMean =
 abbrev pub RowsOverMean : Type 0
 RowsOverMean =
     (arity : List ℕ → ℕ) (m : Mode) (h : Head) (bytes : List ℕ) (ts : Terms)
-    → Takes arity m h (count ts) → IsStandard h → IsWritten h → own h (count ts) ≡ None → Spells arity (inner h) bytes ts
+    → Takes arity m h (count ts) → IsStandard Written h → IsWritten h → own h (count ts) ≡ None → Spells arity (inner h) bytes ts
     → (around (layout h (own_width h) (count ts)) (whole bytes)).end ≡ None
     → Spells arity m (around (layout h (own_width h) (count ts)) (whole bytes)).front (one h (writer_width h (count ts) bytes) ts)
 
@@ -39,22 +41,22 @@ ObjectsMean =
 
 -- ---- unique reading
 
--- Bytes spell at most one list of terms, for each place of the first, and no other bytes spell this list.
+-- In each language bytes spell at most one list of terms, for each place of the first, and no other bytes spell this list.
 abbrev pub AtMostOneList : Type 0
 AtMostOneList =
-    ((arity : List ℕ → ℕ) (m : Mode) (bytes : List ℕ) (ts us : Terms) → Spells arity m bytes ts → Spells arity m bytes us
+    ((g : Grammar) (m : Mode) (bytes : List ℕ) (ts us : Terms) → SpellsIn g m bytes ts → SpellsIn g m bytes us
     → ts ≡ us)
-    × ((arity : List ℕ → ℕ) (m : Mode) (a b : List ℕ) (ts : Terms) → Spells arity m a ts → Spells arity m b ts → a ≡ b)
+    × ((g : Grammar) (m : Mode) (a b : List ℕ) (ts : Terms) → SpellsIn g m a ts → SpellsIn g m b ts → a ≡ b)
 
--- If two prefixes of the same bytes spell a term each, they are the same prefix and the same term.
+-- In each language, if two prefixes of the same bytes spell a term each, they are the same prefix and the same term.
 abbrev pub AtMostOneFront : Type 0
 AtMostOneFront =
-    (arity : List ℕ → ℕ) (m : Mode) (g h : Head) (v w : ℕ) (c d : Terms) (a b x y : List ℕ)
-    → Spells arity m a (one g v c) → Spells arity m b (one h w d) → a ++ x ≡ b ++ y → (a ≡ b) × (one g v c ≡ one h w d) × (x ≡ y)
+    (g : Grammar) (m : Mode) (a_head b_head : Head) (v w : ℕ) (c d : Terms) (a b x y : List ℕ)
+    → SpellsIn g m a (one a_head v c) → SpellsIn g m b (one b_head w d) → a ++ x ≡ b ++ y → (a ≡ b) × (one a_head v c ≡ one b_head w d) × (x ≡ y)
 
 -- The spelling as a function and as a relation on cut bytes are the same.
 abbrev pub SplitsAgree : Type 0
-SplitsAgree = (arity : List ℕ → ℕ) (m : Mode) (bytes : List ℕ) (ts : Terms) → Spells arity m bytes ts ↔ Splits arity m bytes ts
+SplitsAgree = (g : Grammar) (m : Mode) (bytes : List ℕ) (ts : Terms) → SpellsIn g m bytes ts ↔ SplitsIn g m bytes ts
 
 -- ---- names
 

@@ -1,5 +1,6 @@
 pub mod ReadError
 pub mod Held
+pub mod Language
 pub mod Name
 pub mod PathText
 pub mod Length

@@ -1,5 +1,7 @@
 -- Names, as the bytes that spell them (ACPI 6.5, 20.2.2, NameString).
-use Rattle.std.specs.Prelude.{◌≡◌, ℕ, zero, suc, ◌≤◌, ◌<◌, ◌==◌, ◌&&◌, ◌||◌, nat_le, Bool, true, List, [], ◌∷◌}
+use Rattle.std.specs.Prelude.{◌≡◌, ℕ, zero, suc, ◌≤◌, ◌<◌, ◌==◌, ◌&&◌, ◌||◌, nat_le, Bool, true, false, List, [], ◌∷◌}
+use Rattle.acpi_term.specs.declared.language.Language.{Language}
+use Rattle.acpi_term.specs.declared.language.Language.TheVariants.{Written, Standard}
 
 -- LeadNameChar: `A` to `Z` or `_`
 abbrev pub is_lead : ℕ → Bool
@@ -28,6 +30,28 @@ pub data IsPath : List ℕ → Type 0 where
 pub data IsName : List ℕ → Type 0 where
   relative : {s : List ℕ} → IsPath s → IsName s
   rooted : {s : List ℕ} → IsPath s → IsName (0x5c ∷ s)
+
+-- whether bytes begin with ParentPrefixChar
+abbrev pub begins_up : List ℕ → Bool
+begins_up [] = false
+begins_up (b ∷ rest) = b == 0x5e
+
+-- after ParentPrefixChar: NullName, a path, or the same again
+pub data IsAbove : List ℕ → Type 0 where
+  no_path : IsAbove (0x00 ∷ [])
+  path_above : {s : List ℕ} → IsPath s → IsAbove s
+  further_up : {s : List ℕ} → IsAbove s → IsAbove (0x5e ∷ s)
+
+-- NameString: a name that this library writes; RootChar and NullName; or ParentPrefixChar once or more before a path or NullName.
+pub data IsNameString : List ℕ → Type 0 where
+  as_written : {s : List ℕ} → IsName s → IsNameString s
+  root_alone : IsNameString (0x5c ∷ 0x00 ∷ [])
+  upwards : {s : List ℕ} → IsAbove s → IsNameString (0x5e ∷ s)
+
+-- the names of a language
+abbrev pub IsNameIn : Language → List ℕ → Type 0
+IsNameIn Written s = IsName s
+IsNameIn Standard s = IsNameString s
 
 -- AsciiCharList (ACPI 6.5, 20.2.3): bytes 01 to 7F
 abbrev pub IsText : List ℕ → Type 0

@@ -1,7 +1,11 @@
 -- Operators: the facts about each, and the operator of each opcode (ACPI 6.5, 20.2.5 and 20.3).
-use Rattle.std.specs.Prelude.{ℕ, List, [], ◌∷◌, Option, codes}
+use Rattle.std.specs.Prelude.{◌≡◌, ℕ, List, [], ◌∷◌, Option, codes}
 use Rattle.std.specs.List.{find}
 use Rattle.std.specs.Str.{bytes_eq}
+use Rattle.acpi_term.specs.declared.language.Language.{Language}
+use Rattle.acpi_term.specs.declared.language.Language.TheVariants.{Written, Standard}
+use Rattle.acpi_term.specs.declared.mode.Mode.{Mode}
+use Rattle.acpi_term.specs.declared.mode.Mode.TheVariants.{Term, Element, Count}
 use Rattle.acpi_term.specs.declared.op.Op.{Op}
 use Rattle.acpi_term.specs.declared.op.Op.TheVariants as op
 
@@ -11,9 +15,21 @@ pub record Facts : Type 0 where
   pub operands : ℕ
   -- its word in a report
   pub word : List ℕ
+  -- the least language that has it
+  pub language : Language
+  -- the place of its first operand
+  pub place : Mode
 
 abbrev pub known : List ℕ → ℕ → List ℕ → Facts
-known code count text = record { opcode = code; operands = count; word = text }
+known code count text = record { opcode = code; operands = count; word = text; language = Written; place = Term }
+
+-- an operator that this library doesn't write
+abbrev pub other : List ℕ → ℕ → List ℕ → Facts
+other code count text = record { opcode = code; operands = count; word = text; language = Standard; place = Term }
+
+-- the same, where the first operand has another place
+abbrev pub naming : List ℕ → ℕ → List ℕ → Mode → Facts
+naming code count text first = record { opcode = code; operands = count; word = text; language = Standard; place = first }
 
 abbrev pub facts : Op → Facts
 facts op.LNot = known (0x92 ∷ []) 1 (codes "lnot")
@@ -52,6 +68,37 @@ facts op.Store = known (0x70 ∷ []) 2 (codes "store")
 facts op.Notify = known (0x86 ∷ []) 2 (codes "notify")
 facts op.Mid = known (0x9e ∷ []) 4 (codes "mid")
 facts op.CreateField = known (0x5b ∷ 0x13 ∷ []) 4 (codes "createfield")
+facts op.Alias = naming (0x06 ∷ []) 2 (codes "alias") Element
+facts op.RefOf = naming (0x71 ∷ []) 1 (codes "refof") Element
+facts op.Divide = other (0x78 ∷ []) 4 (codes "divide")
+facts op.Not = other (0x80 ∷ []) 2 (codes "not")
+facts op.FindSetLeftBit = other (0x81 ∷ []) 2 (codes "findsetleftbit")
+facts op.FindSetRightBit = other (0x82 ∷ []) 2 (codes "findsetrightbit")
+facts op.CreateWordField = other (0x8b ∷ []) 3 (codes "createwordfield")
+facts op.CreateByteField = other (0x8c ∷ []) 3 (codes "createbytefield")
+facts op.CreateBitField = other (0x8d ∷ []) 3 (codes "createbitfield")
+facts op.ToDecimalString = other (0x97 ∷ []) 2 (codes "todecimalstring")
+facts op.ToHexString = other (0x98 ∷ []) 2 (codes "tohexstring")
+facts op.CopyObject = naming (0x9d ∷ []) 2 (codes "copyobject") Count
+facts op.Continue = other (0x9f ∷ []) 0 (codes "continue")
+facts op.Noop = other (0xa3 ∷ []) 0 (codes "noop")
+facts op.BreakPoint = other (0xcc ∷ []) 0 (codes "breakpoint")
+facts op.Event = naming (0x5b ∷ 0x02 ∷ []) 1 (codes "event") Element
+facts op.CondRefOf = naming (0x5b ∷ 0x12 ∷ []) 2 (codes "condrefof") Element
+facts op.LoadTable = other (0x5b ∷ 0x1f ∷ []) 6 (codes "loadtable")
+facts op.Load = naming (0x5b ∷ 0x20 ∷ []) 2 (codes "load") Element
+facts op.Stall = other (0x5b ∷ 0x21 ∷ []) 1 (codes "stall")
+facts op.Sleep = other (0x5b ∷ 0x22 ∷ []) 1 (codes "sleep")
+facts op.Signal = other (0x5b ∷ 0x24 ∷ []) 1 (codes "signal")
+facts op.Wait = other (0x5b ∷ 0x25 ∷ []) 2 (codes "wait")
+facts op.Reset = other (0x5b ∷ 0x26 ∷ []) 1 (codes "reset")
+facts op.FromBCD = other (0x5b ∷ 0x28 ∷ []) 2 (codes "frombcd")
+facts op.ToBCD = other (0x5b ∷ 0x29 ∷ []) 2 (codes "tobcd")
+facts op.Unload = other (0x5b ∷ 0x2a ∷ []) 1 (codes "unload")
+facts op.Revision = other (0x5b ∷ 0x30 ∷ []) 0 (codes "revision")
+facts op.Debug = other (0x5b ∷ 0x31 ∷ []) 0 (codes "debug")
+facts op.Timer = other (0x5b ∷ 0x33 ∷ []) 0 (codes "timer")
+facts op.DataRegion = other (0x5b ∷ 0x88 ∷ []) 4 (codes "dataregion")
 
 abbrev pub opcode : Op → List ℕ
 opcode o = (facts o).opcode
@@ -62,13 +109,27 @@ operands o = (facts o).operands
 abbrev pub word : Op → List ℕ
 word o = (facts o).word
 
+abbrev pub language_of : Op → Language
+language_of o = (facts o).language
+
+abbrev pub place : Op → Mode
+place o = (facts o).place
+
+-- this library writes the operator, with n operands in places of terms
+abbrev pub IsKnown : Op → ℕ → Type 0
+IsKnown o n = facts o ≡ known (opcode o) n (word o)
+
 abbrev pub operators : List Op
 operators =
     op.LNot ∷ op.LEqual ∷ op.LLess ∷ op.LGreater ∷ op.LAnd ∷ op.LOr ∷ op.Increment ∷ op.Decrement ∷ op.Break ∷ op.ObjectType ∷
     op.SizeOf ∷ op.Return ∷ op.DeRefOf ∷ op.Add ∷ op.Concat ∷ op.Subtract ∷ op.Multiply ∷ op.ShiftLeft ∷ op.ShiftRight ∷
     op.And ∷ op.Nand ∷ op.Or ∷ op.Nor ∷ op.Xor ∷ op.ConcatRes ∷ op.Mod ∷ op.Index ∷ op.ToString ∷ op.CreateDWordField ∷
-    op.CreateQWordField ∷ op.ToBuffer ∷ op.ToInteger ∷ op.Store ∷ op.Notify ∷ op.Mid ∷ op.CreateField ∷ []
+    op.CreateQWordField ∷ op.ToBuffer ∷ op.ToInteger ∷ op.Store ∷ op.Notify ∷ op.Mid ∷ op.CreateField ∷
+    op.Alias ∷ op.RefOf ∷ op.Divide ∷ op.Not ∷ op.FindSetLeftBit ∷ op.FindSetRightBit ∷ op.CreateWordField ∷
+    op.CreateByteField ∷ op.CreateBitField ∷ op.ToDecimalString ∷ op.ToHexString ∷ op.CopyObject ∷ op.Continue ∷ op.Noop ∷
+    op.BreakPoint ∷ op.Event ∷ op.CondRefOf ∷ op.LoadTable ∷ op.Load ∷ op.Stall ∷ op.Sleep ∷ op.Signal ∷ op.Wait ∷
+    op.Reset ∷ op.FromBCD ∷ op.ToBCD ∷ op.Unload ∷ op.Revision ∷ op.Debug ∷ op.Timer ∷ op.DataRegion ∷ []
 
 -- the operator of an opcode
-abbrev pub op_of : List ℕ → Option Op
+unfoldable pub op_of : List ℕ → Option Op
 op_of code = find (λ o. bytes_eq (opcode o) code) operators

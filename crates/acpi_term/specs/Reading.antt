@@ -10,8 +10,12 @@ use Rattle.acpi_term.specs.Tree.{Entry, named, reserved, Head, number, ones, str
 use Rattle.acpi_term.specs.Tree.{def_scope, def_device, def_method, def_power_res, def_field, def_op_region}
 use Rattle.acpi_term.specs.Tree.{def_name, def_mutex, def_acquire, def_release, def_buffer, def_package}
 use Rattle.acpi_term.specs.Tree.{def_var_package, def_if, def_while, def_else, op, Terms, end, term, count}
+use Rattle.acpi_term.specs.Tree.{def_external, def_leveled_method, def_processor, def_thermal_zone, def_roomy_package, def_index_field}
 use Rattle.acpi_term.specs.Name.{is_lead, is_segment}
-use Rattle.acpi_term.specs.Operator.{operands, op_of}
+use Rattle.acpi_term.specs.declared.language.Language.{Language}
+use Rattle.acpi_term.specs.declared.language.Language.TheVariants.{Written, Standard}
+use Rattle.acpi_term.specs.Language.{Grammar, is_standard, has}
+use Rattle.acpi_term.specs.Operator.{operands, op_of, language_of}
 use Rattle.acpi_term.specs.Spelling.{arguments, inner, next}
 
 -- nested deeper than allowed, or any other fault
@@ -47,6 +51,29 @@ path_at (b ∷ rest) =
 unfoldable pub name_at : List ℕ → Result (List ℕ × List ℕ) Fault
 name_at [] = Err Bad
 name_at (b ∷ rest) = if b == 0x5c then (path_at rest >>= λ s. Ok (0x5c ∷ s.0, s.1)) else path_at (b ∷ rest)
+
+-- after `^`
+unfoldable pub above_at : List ℕ → Result (List ℕ × List ℕ) Fault
+above_at [] = Err Bad
+above_at (b ∷ rest) =
+    if b == 0x00 then Ok (0x00 ∷ [], rest)
+    else (if b == 0x5e then (above_at rest >>= λ s. Ok (0x5e ∷ s.0, s.1)) else path_at (b ∷ rest))
+
+-- after `\`
+unfoldable pub root_at : List ℕ → Result (List ℕ × List ℕ) Fault
+root_at [] = Err Bad
+root_at (b ∷ rest) = if b == 0x00 then Ok (0x5c ∷ 0x00 ∷ [], rest) else name_at (0x5c ∷ b ∷ rest)
+
+unfoldable pub name_string_at : List ℕ → Result (List ℕ × List ℕ) Fault
+name_string_at [] = Err Bad
+name_string_at (b ∷ rest) =
+    if b == 0x5e then (above_at rest >>= λ s. Ok (0x5e ∷ s.0, s.1))
+    else (if b == 0x5c then root_at rest else name_at (b ∷ rest))
+
+-- a name of a language
+abbrev pub name_in : Language → List ℕ → Result (List ℕ × List ℕ) Fault
+name_in Written bytes = name_at bytes
+name_in Standard bytes = name_string_at bytes
 
 -- ---- frames
 
@@ -107,11 +134,13 @@ pub data Opened : Type 0 where
   fills : Head → ℕ → List ℕ → List ℕ → Opened
   -- a package's width, and n elements that are all bytes inside
   packs : ℕ → ℕ → List ℕ → List ℕ → Opened
+  -- a package's width, the number of elements for which it has room, and elements that are all bytes inside
+  rooms : ℕ → ℕ → List ℕ → List ℕ → Opened
   -- a buffer's width, and the bytes inside: a size, and the others
   begins : ℕ → List ℕ → List ℕ → Opened
 
-abbrev pub begins_name : ℕ → Bool
-begins_name b = is_lead b || b == 0x2e || b == 0x2f || b == 0x5c
+abbrev pub begins_name : Language → ℕ → Bool
+begins_name l b = is_lead b || b == 0x2e || b == 0x2f || b == 0x5c || (b == 0x5e && is_standard l)
 
 abbrev pub number_at : ℕ → List ℕ → Result Opened Fault
 number_at w bytes = high_at w bytes >>= λ h. Ok (follows (number h.0) w 0 h.1)
@@ -123,8 +152,8 @@ string_at bytes = text_at bytes >>= λ t. Ok (follows (string t.0) 0 0 t.1)
 abbrev pub After : Type 0
 After = List ℕ → List ℕ → Result Opened Fault
 
-abbrev pub named_at : After → List ℕ → Result Opened Fault
-named_at k bytes = name_at bytes >>= λ n. k n.0 n.1
+abbrev pub named_at : Language → After → List ℕ → Result Opened Fault
+named_at l k bytes = name_in l bytes >>= λ n. k n.0 n.1
 
 abbrev pub define_after : After
 define_after name rest = Ok (follows (def_name name) 0 1 rest)
@@ -143,12 +172,21 @@ region_after name (space ∷ rest) = Ok (follows (def_op_region name space) 0 2 
 abbrev pub acquire_after : After
 acquire_after name bytes = high_at 2 bytes >>= λ h. Ok (follows (def_acquire name h.0) 0 0 h.1)
 
+abbrev pub external_after : After
+external_after name [] = Err Bad
+external_after name (kind ∷ []) = Err Bad
+external_after name (kind ∷ args ∷ rest) = Ok (follows (def_external name kind args) 0 0 rest)
+
+-- what this library doesn't write
+abbrev pub further : Language → Result Opened Fault → Result Opened Fault
+further l read = if has l Standard then read else Err Bad
+
 -- reads on after a name in a frame, from the width, the name, the other bytes inside and the bytes after the frame
 abbrev pub Inside : Type 0
 Inside = ℕ → List ℕ → List ℕ → List ℕ → Result Opened Fault
 
-abbrev pub framed_at : Inside → List ℕ → Result Opened Fault
-framed_at k bytes = frame_at bytes >>= λ f. name_at f.1 >>= λ n. k f.0 n.0 n.1 f.2
+abbrev pub framed_at : Language → Inside → List ℕ → Result Opened Fault
+framed_at l k bytes = frame_at bytes >>= λ f. name_in l f.1 >>= λ n. k f.0 n.0 n.1 f.2
 
 abbrev pub scope_inside : Inside
 scope_inside w name inside after = Ok (fills (def_scope name) w inside after)
@@ -156,10 +194,22 @@ scope_inside w name inside after = Ok (fills (def_scope name) w inside after)
 abbrev pub device_inside : Inside
 device_inside w name inside after = Ok (fills (def_device name) w inside after)
 
-abbrev pub method_inside : Inside
-method_inside w name [] after = Err Bad
-method_inside w name (flags ∷ inside) after =
-    if nat_lt flags 16 then Ok (fills (def_method name (flags % 8) (nat_le 8 flags)) w inside after) else Err Bad
+abbrev pub thermal_inside : Inside
+thermal_inside w name inside after = Ok (fills (def_thermal_zone name) w inside after)
+
+abbrev pub method_inside : Language → Inside
+method_inside l w name [] after = Err Bad
+method_inside l w name (flags ∷ inside) after =
+    if nat_lt flags 16 then Ok (fills (def_method name (flags % 8) (nat_le 8 flags)) w inside after)
+    else further l (Ok (fills (def_leveled_method name (flags % 8) (nat_le 8 (flags % 16)) (flags / 16)) w inside after))
+
+abbrev pub processor_end : ℕ → List ℕ → ℕ → ℕ → List ℕ → List ℕ → Result Opened Fault
+processor_end w name id address [] after = Err Bad
+processor_end w name id address (size ∷ inside) after = Ok (fills (def_processor name id address size) w inside after)
+
+abbrev pub processor_inside : Inside
+processor_inside w name [] after = Err Bad
+processor_inside w name (id ∷ rest) after = high_at 4 rest >>= λ h. processor_end w name id h.0 h.1 after
 
 abbrev pub power_inside : Inside
 power_inside w name [] after = Err Bad
@@ -172,70 +222,84 @@ field_inside w name (b ∷ rest) after =
     entries_at (length rest) rest >>= λ e. Ok (follows (def_field name (b % 16) (b / 16 % 2) (b / 32) e) w 0 after))
     else Err Bad) else Err Bad
 
+abbrev pub index_flags : ℕ → List ℕ → List ℕ → List ℕ → List ℕ → Result Opened Fault
+index_flags w index name [] after = Err Bad
+index_flags w index name (b ∷ rest) after =
+    if nat_lt (b % 16) 6 then (if nat_lt b 96 then (
+    entries_at (length rest) rest >>= λ e. Ok (follows (def_index_field index name (b % 16) (b / 16 % 2) (b / 32) e) w 0 after))
+    else Err Bad) else Err Bad
+
+abbrev pub index_inside : Language → Inside
+index_inside l w index rest after = name_in l rest >>= λ n. index_flags w index n.0 n.1 after
+
 -- a frame whose content is children alone
 abbrev pub plain_at : Head → List ℕ → Result Opened Fault
 plain_at h bytes = frame_at bytes >>= λ f. Ok (fills h f.0 f.1 f.2)
 
-abbrev pub counted_frame : ℕ → List ℕ → List ℕ → Result Opened Fault
-counted_frame w [] after = Err Bad
-counted_frame w (n ∷ inside) after = Ok (packs w n inside after)
+abbrev pub counted_frame : Language → ℕ → List ℕ → List ℕ → Result Opened Fault
+counted_frame l w [] after = Err Bad
+counted_frame l w (n ∷ inside) after = if has l Standard then Ok (rooms w n inside after) else Ok (packs w n inside after)
 
-abbrev pub package_at : List ℕ → Result Opened Fault
-package_at bytes = frame_at bytes >>= λ f. counted_frame f.0 f.1 f.2
+abbrev pub package_at : Language → List ℕ → Result Opened Fault
+package_at l bytes = frame_at bytes >>= λ f. counted_frame l f.0 f.1 f.2
 
 abbrev pub buffer_at : List ℕ → Result Opened Fault
 buffer_at bytes = frame_at bytes >>= λ f. Ok (begins f.0 f.1 f.2)
 
-abbrev pub operator_at : Option Op → List ℕ → Result Opened Fault
-operator_at None rest = Err Bad
-operator_at (Some o) rest = Ok (follows (op o) 0 (operands o) rest)
+abbrev pub operator_at : Language → Option Op → List ℕ → Result Opened Fault
+operator_at l None rest = Err Bad
+operator_at l (Some o) rest = if has l (language_of o) then Ok (follows (op o) 0 (operands o) rest) else Err Bad
 
 -- the second byte of an opcode of two bytes
-abbrev pub extended_at : List ℕ → Result Opened Fault
-extended_at [] = Err Bad
-extended_at (b ∷ rest) =
-    if b == 0x01 then named_at mutex_after rest
-    else (if b == 0x23 then named_at acquire_after rest
-    else (if b == 0x27 then named_at release_after rest
-    else (if b == 0x80 then named_at region_after rest
-    else (if b == 0x81 then framed_at field_inside rest
-    else (if b == 0x82 then framed_at device_inside rest
-    else (if b == 0x84 then framed_at power_inside rest
-    else operator_at (op_of (0x5b ∷ b ∷ [])) rest))))))
+abbrev pub extended_at : Language → List ℕ → Result Opened Fault
+extended_at l [] = Err Bad
+extended_at l (b ∷ rest) =
+    if b == 0x01 then named_at l mutex_after rest
+    else (if b == 0x23 then named_at l acquire_after rest
+    else (if b == 0x27 then named_at l release_after rest
+    else (if b == 0x80 then named_at l region_after rest
+    else (if b == 0x81 then framed_at l field_inside rest
+    else (if b == 0x82 then framed_at l device_inside rest
+    else (if b == 0x83 then further l (framed_at l processor_inside rest)
+    else (if b == 0x84 then framed_at l power_inside rest
+    else (if b == 0x85 then further l (framed_at l thermal_inside rest)
+    else (if b == 0x86 then further l (framed_at l (index_inside l) rest)
+    else operator_at l (op_of (0x5b ∷ b ∷ [])) rest)))))))))
 
-abbrev pub local_at : ℕ → List ℕ → Result Opened Fault
-local_at b rest =
+abbrev pub local_at : Language → ℕ → List ℕ → Result Opened Fault
+local_at l b rest =
     if nat_le 0x60 b && nat_le b 0x67 then Ok (follows (local (b - 0x60)) 0 0 rest)
     else (if nat_le 0x68 b && nat_le b 0x6e then Ok (follows (arg (b - 0x68)) 0 0 rest)
-    else operator_at (op_of (b ∷ [])) rest)
+    else operator_at l (op_of (b ∷ [])) rest)
 
-abbrev pub opcode_at : ℕ → List ℕ → Result Opened Fault
-opcode_at b rest =
+abbrev pub opcode_at : Language → ℕ → List ℕ → Result Opened Fault
+opcode_at l b rest =
     if nat_lt b 2 then Ok (follows (number b) 0 0 rest)
-    else (if b == 0x08 then named_at define_after rest
+    else (if b == 0x08 then named_at l define_after rest
     else (if b == 0x0a then number_at 1 rest
     else (if b == 0x0b then number_at 2 rest
     else (if b == 0x0c then number_at 4 rest
     else (if b == 0x0d then string_at rest
     else (if b == 0x0e then number_at 8 rest
-    else (if b == 0x10 then framed_at scope_inside rest
+    else (if b == 0x10 then framed_at l scope_inside rest
     else (if b == 0x11 then buffer_at rest
-    else (if b == 0x12 then package_at rest
+    else (if b == 0x12 then package_at l rest
     else (if b == 0x13 then plain_at def_var_package rest
-    else (if b == 0x14 then framed_at method_inside rest
-    else (if b == 0x5b then extended_at rest
+    else (if b == 0x14 then framed_at l (method_inside l) rest
+    else (if b == 0x15 then further l (named_at l external_after rest)
+    else (if b == 0x5b then extended_at l rest
     else (if b == 0xa0 then plain_at def_if rest
     else (if b == 0xa1 then plain_at def_else rest
     else (if b == 0xa2 then plain_at def_while rest
     else (if b == 0xff then Ok (follows ones 0 0 rest)
-    else local_at b rest))))))))))))))))
+    else local_at l b rest)))))))))))))))))
 
-module _ (arity : List ℕ → ℕ) where
+module _ (g : Grammar) where
   unfoldable pub open_at : Mode → List ℕ → Result Opened Fault
   open_at m [] = Err Bad
   open_at m (b ∷ rest) =
-      if begins_name b then (name_at (b ∷ rest) >>= λ n. Ok (follows (call n.0) 0 (arguments arity m n.0) n.1))
-      else opcode_at b rest
+      if begins_name g.language b then (name_in g.language (b ∷ rest) >>= λ n. Ok (follows (call n.0) 0 (arguments g.arity m n.0) n.1))
+      else opcode_at g.language b rest
 
 -- ---- terms
 
@@ -258,6 +322,12 @@ assembled h w c = if nat_lt (count c) (least_of h) then Err Bad else Ok (h, w, c
 abbrev pub Reader : Type 0
 Reader = Mode → List ℕ → Result (Head × ℕ × Terms × List ℕ) Fault
 
+-- a package with room for n elements
+abbrev pub roomed : ℕ → ℕ → Terms → List ℕ → Result (Head × ℕ × Terms × List ℕ) Fault
+roomed w n c after =
+    if count c == n then Ok (def_package, w, c, after)
+    else (if nat_lt (count c) n then Ok (def_roomy_package n, w, c, after) else Err Bad)
+
 module _ (read : Reader) where
   unfoldable pub counted : ℕ → Mode → List ℕ → Result (Terms × List ℕ) Fault
   counted zero m bytes = Ok (end, bytes)
@@ -278,8 +348,9 @@ module _ (read : Reader) where
   close (fills h w inside after) =
       all_of (length inside) (inner h) inside >>= λ c. assembled h w c >>= λ t. Ok (t.0, t.1, t.2, after)
   close (packs w n inside after) = counted n Element inside >>= λ c. wants_no_more def_package w c.0 c.1 after
+  close (rooms w n inside after) = all_of (length inside) Element inside >>= λ c. roomed w n c after
   close (begins w inside after) = counted 1 Term inside >>= λ c. Ok (def_buffer c.1, w, c.0, after)
 
-unfoldable pub term_at : (List ℕ → ℕ) → ℕ → Reader
-term_at arity zero m bytes = Err Deep
-term_at arity (suc d) m bytes = open_at arity m bytes >>= close (term_at arity d)
+unfoldable pub term_at : Grammar → ℕ → Reader
+term_at g zero m bytes = Err Deep
+term_at g (suc d) m bytes = open_at g m bytes >>= close (term_at g d)

@@ -9,6 +9,7 @@ use Rattle.acpi_base.specs.Object.{Object, whole, all_of, ended}
 use Rattle.acpi_term.specs.Tree.{Entry, named, reserved, Head, number, ones, string, local, arg, call, def_scope, def_device}
 use Rattle.acpi_term.specs.Tree.{def_method, def_power_res, def_field, def_op_region, def_name, def_mutex, def_acquire}
 use Rattle.acpi_term.specs.Tree.{def_release, def_buffer, def_package, def_var_package, def_if, def_while, def_else, op}
+use Rattle.acpi_term.specs.Tree.{def_external, def_leveled_method, def_processor, def_thermal_zone, def_roomy_package, def_index_field}
 use Rattle.acpi_term.specs.Length.{least_width, length_bytes, with_length}
 use Rattle.acpi_term.specs.Operator.{opcode}
 
@@ -50,6 +51,10 @@ field_flags access lock update = access + 16 * lock + 32 * update
 -- MethodFlags: the number of arguments in bits 0 to 2, whether serialized in bit 3
 abbrev pub method_flags : ℕ → Bool → ℕ
 method_flags args serialized = args + (if serialized then 8 else 0)
+
+-- the same with a synchronization level in bits 4 to 7
+abbrev pub leveled_flags : ℕ → Bool → ℕ → ℕ
+leveled_flags args serialized level = method_flags args serialized + 16 * level
 
 -- ---- rows
 
@@ -100,6 +105,14 @@ layout def_if w n = framed (0xa0 ∷ []) [] []
 layout def_while w n = framed (0xa2 ∷ []) [] []
 layout def_else w n = framed (0xa1 ∷ []) [] []
 layout (op o) w n = bare (opcode o)
+layout (def_external name kind args) w n = bare (0x15 ∷ name ++ kind ∷ args ∷ [])
+layout (def_leveled_method name args serialized level) w n =
+    framed (0x14 ∷ []) (name ++ leveled_flags args serialized level ∷ []) []
+layout (def_processor name id address size) w n = framed (0x5b ∷ 0x83 ∷ []) (name ++ (id ∷ (le 4 address ++ size ∷ []))) []
+layout (def_thermal_zone name) w n = framed (0x5b ∷ 0x85 ∷ []) name []
+layout (def_roomy_package room) w n = framed (0x12 ∷ []) (room ∷ []) []
+layout (def_index_field index name access lock update entries) w n = framed (0x5b ∷ 0x86 ∷ []) (index ++ (name
+    ++ field_flags access lock update ∷ entries_bytes entries)) []
 
 -- the error of a head's own values, with n children
 abbrev pub own : Head → ℕ → Option Error
@@ -108,6 +121,9 @@ own (arg k) n = if nat_le k 6 then None else Some ArgNumber
 own (def_method name args serialized) n = if nat_le args 7 then None else Some MethodArgs
 own (def_field name access lock update entries) n = entries_end entries
 own def_package n = if nat_le n 255 then None else Some PackageElements
+own (def_leveled_method name args serialized level) n = if nat_le args 7 then None else Some MethodArgs
+own (def_roomy_package room) n = if nat_lt n room then None else Some PackageElements
+own (def_index_field index name access lock update entries) n = entries_end entries
 own _ n = None
 
 -- ---- rows that are written

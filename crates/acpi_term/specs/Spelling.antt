@@ -1,5 +1,5 @@
 -- The bytes that spell terms, and the terms that have a spelling (ACPI 6.5, 20.2).
-use Rattle.std.specs.Prelude.{◌≡◌, ℕ, ◌<◌, ◌≤◌, ◌^◌, List, [], ◌∷◌, ◌++◌, None}
+use Rattle.std.specs.Prelude.{◌≡◌, ℕ, ◌<◌, ◌≤◌, ◌^◌, List, [], ◌∷◌, ◌++◌, None, true}
 use Rattle.acpi_base.specs.Bytes.{AreBytes}
 use Rattle.acpi_base.specs.Number.{number_limit}
 use Rattle.acpi_base.specs.Object.{Object}
@@ -9,9 +9,13 @@ use Rattle.acpi_term.specs.Tree.{Entry, named, reserved, Head, number, string, c
 use Rattle.acpi_term.specs.Tree.{def_method, def_power_res, def_field, def_op_region, def_name, def_mutex}
 use Rattle.acpi_term.specs.Tree.{def_acquire, def_release, def_buffer, def_package, def_var_package}
 use Rattle.acpi_term.specs.Tree.{def_if, def_while, def_else, op, Terms, end, term, count, one}
-use Rattle.acpi_term.specs.Name.{AreSegments, IsName, IsText}
+use Rattle.acpi_term.specs.Tree.{def_external, def_leveled_method, def_processor, def_thermal_zone, def_roomy_package, def_index_field}
+use Rattle.acpi_term.specs.declared.language.Language.TheVariants.{Standard}
+use Rattle.acpi_term.specs.Name.{AreSegments, IsNameIn, IsText}
 use Rattle.acpi_term.specs.Length.{limit, least_width, with_length, FrameFits}
-use Rattle.acpi_term.specs.Operator.{operands}
+use Rattle.acpi_term.specs.declared.language.Language.{Language}
+use Rattle.acpi_term.specs.Language.{Grammar, has, written_grammar}
+use Rattle.acpi_term.specs.Operator.{operands, language_of, place}
 use Rattle.acpi_term.specs.Row.{entry_bits, entry_width, Layout, bare, framed, layout, own}
 
 -- ---- spellings
@@ -35,7 +39,9 @@ spelling (term h w children others) = spelled h w (count children) (spelling chi
 -- the place of a head's first child
 abbrev pub inner : Head → Mode
 inner def_package = Element
+inner (def_roomy_package room) = Element
 inner def_var_package = Count
+inner (op o) = place o
 inner _ = Term
 
 -- the place after it
@@ -54,23 +60,33 @@ abbrev pub AreNamed : List Entry → Type 0
 AreNamed [] = Unit {0}
 AreNamed (e ∷ entries) = EntryIsNamed e × AreNamed entries
 
--- Names, texts and data follow the standard, and numbers fit their fields.
-abbrev pub IsStandard : Head → Type 0
-IsStandard (number v) = v < 2 ^ 64
-IsStandard (string s) = IsText s
-IsStandard (call name) = IsName name
-IsStandard (def_scope name) = IsName name
-IsStandard (def_device name) = IsName name
-IsStandard (def_method name args serialized) = IsName name
-IsStandard (def_power_res name level order) = IsName name × (level < 2 ^ 8) × (order < 2 ^ 16)
-IsStandard (def_field name access lock update entries) = IsName name × (access ≤ 5) × (lock ≤ 1) × (update ≤ 2) × AreNamed entries
-IsStandard (def_op_region name space) = IsName name × (space < 2 ^ 8)
-IsStandard (def_name name) = IsName name
-IsStandard (def_mutex name level) = IsName name × (level < 2 ^ 8)
-IsStandard (def_acquire name timeout) = IsName name × (timeout < 2 ^ 16)
-IsStandard (def_release name) = IsName name
-IsStandard (def_buffer bytes) = AreBytes bytes
-IsStandard _ = Unit {0}
+-- The language has the head and its names, texts and data follow the standard, and numbers fit their fields.
+abbrev pub IsStandard : Language → Head → Type 0
+IsStandard l (number v) = v < 2 ^ 64
+IsStandard l (string s) = IsText s
+IsStandard l (call name) = IsNameIn l name
+IsStandard l (def_scope name) = IsNameIn l name
+IsStandard l (def_device name) = IsNameIn l name
+IsStandard l (def_method name args serialized) = IsNameIn l name
+IsStandard l (def_power_res name level order) = IsNameIn l name × (level < 2 ^ 8) × (order < 2 ^ 16)
+IsStandard l (def_field name access lock update entries) = IsNameIn l name × (access ≤ 5) × (lock ≤ 1) × (update ≤ 2) × AreNamed entries
+IsStandard l (def_op_region name space) = IsNameIn l name × (space < 2 ^ 8)
+IsStandard l (def_name name) = IsNameIn l name
+IsStandard l (def_mutex name level) = IsNameIn l name × (level < 2 ^ 8)
+IsStandard l (def_acquire name timeout) = IsNameIn l name × (timeout < 2 ^ 16)
+IsStandard l (def_release name) = IsNameIn l name
+IsStandard l (def_buffer bytes) = AreBytes bytes
+IsStandard l (op o) = has l (language_of o) ≡ true
+IsStandard l (def_external name kind args) = (has l Standard ≡ true) × IsNameIn l name × (kind < 2 ^ 8) × (args < 2 ^ 8)
+IsStandard l (def_leveled_method name args serialized level) = (has l Standard ≡ true) × IsNameIn l name × (1 ≤ level)
+    × (level ≤ 15)
+IsStandard l (def_processor name id address size) = (has l Standard ≡ true) × IsNameIn l name × (id < 2 ^ 8)
+    × (address < 2 ^ 32) × (size < 2 ^ 8)
+IsStandard l (def_thermal_zone name) = (has l Standard ≡ true) × IsNameIn l name
+IsStandard l (def_roomy_package room) = (has l Standard ≡ true) × (room < 2 ^ 8)
+IsStandard l (def_index_field index name access lock update entries) = (has l Standard ≡ true) × IsNameIn l index
+    × IsNameIn l name × (access ≤ 5) × (lock ≤ 1) × (update ≤ 2) × AreNamed entries
+IsStandard l _ = Unit {0}
 
 -- each entry's bits fit its width
 abbrev pub EntriesFit : List Entry → Type 0
@@ -91,11 +107,14 @@ abbrev pub HeadFits : Head → ℕ → ℕ → List ℕ → Type 0
 HeadFits (number v) w n inside = v < number_limit w
 HeadFits (def_field name access lock update entries) w n inside = EntriesFit entries
     × LayoutFits (layout (def_field name access lock update entries) w n) w inside
+HeadFits (def_index_field index name access lock update entries) w n inside = EntriesFit entries
+    × LayoutFits (layout (def_index_field index name access lock update entries) w n) w inside
 HeadFits h w n inside = LayoutFits (layout h w n) w inside
 
 -- the widths inside of a head are those that are written
 abbrev pub IsWritten : Head → Type 0
 IsWritten (def_field name access lock update entries) = HaveLeastWidths entries
+IsWritten (def_index_field index name access lock update entries) = HaveLeastWidths entries
 IsWritten _ = Unit {0}
 
 module _ (arity : List ℕ → ℕ) where
@@ -121,12 +140,17 @@ module _ (arity : List ℕ → ℕ) where
   Takes m def_while n = 1 ≤ n
   Takes m def_else n = Unit {0}
   Takes m (op o) n = n ≡ operands o
+  Takes m (def_leveled_method name args serialized level) n = Unit {0}
+  Takes m (def_processor name id address size) n = Unit {0}
+  Takes m (def_thermal_zone name) n = Unit {0}
+  Takes m (def_roomy_package room) n = Unit {0}
   Takes m _ n = n ≡ 0
 
+module _ (g : Grammar) where
   -- a head of this width may have n children, which are spelled by the bytes inside
   pub record IsLegal (m : Mode) (h : Head) (w n : ℕ) (inside : List ℕ) : Type 0 where
-    pub takes : Takes m h n
-    pub is_standard : IsStandard h
+    pub takes : Takes g.arity m h n
+    pub is_standard : IsStandard g.language h
     pub owns : own h n ≡ None
     pub fits : HeadFits h w n inside
 
@@ -136,14 +160,21 @@ module _ (arity : List ℕ → ℕ) where
   AreLegal m (term h w children others) = IsLegal m h w (count children) (spelling children) × AreLegal (inner h) children
       × AreLegal (next m) others
 
--- the bytes spell these terms, if the first stands in this place
-abbrev pub Spells : (List ℕ → ℕ) → Mode → List ℕ → Terms → Type 0
-Spells arity m bytes ts = AreLegal arity m ts × (bytes ≡ spelling ts)
+-- the bytes spell these terms of a language, if the first stands in this place
+abbrev pub SpellsIn : Grammar → Mode → List ℕ → Terms → Type 0
+SpellsIn g m bytes ts = AreLegal g m ts × (bytes ≡ spelling ts)
 
 -- each object spells a term, if the first stands in this place
+abbrev pub SpellEachIn : Grammar → Mode → List Object → Terms → Type 0
+SpellEachIn g m [] end = Unit {0}
+SpellEachIn g m (o ∷ objects) (term h w children others) = SpellsIn g m o.front (one h w children)
+    × SpellEachIn g (next m) objects others
+SpellEachIn g m [] (term h w children others) = ⊥
+SpellEachIn g m (o ∷ objects) end = ⊥
+
+-- the same in the language that this library writes
+abbrev pub Spells : (List ℕ → ℕ) → Mode → List ℕ → Terms → Type 0
+Spells arity m bytes ts = SpellsIn (written_grammar arity) m bytes ts
+
 abbrev pub SpellEach : (List ℕ → ℕ) → Mode → List Object → Terms → Type 0
-SpellEach arity m [] end = Unit {0}
-SpellEach arity m (o ∷ objects) (term h w children others) = Spells arity m o.front (one h w children)
-    × SpellEach arity (next m) objects others
-SpellEach arity m [] (term h w children others) = ⊥
-SpellEach arity m (o ∷ objects) end = ⊥
+SpellEach arity m objects ts = SpellEachIn (written_grammar arity) m objects ts

@@ -43,6 +43,17 @@ pub data Head : Type 0 where
   def_while : Head
   def_else : Head
   op : Op → Head
+  -- what this library doesn't write: a name that another block defines, its object type and number of arguments
+  def_external : List ℕ → ℕ → ℕ → Head
+  -- name, number of arguments, whether serialized, synchronization level
+  def_leveled_method : List ℕ → ℕ → Bool → ℕ → Head
+  -- name, processor's id, address and length of its registers
+  def_processor : List ℕ → ℕ → ℕ → ℕ → Head
+  def_thermal_zone : List ℕ → Head
+  -- a package with room for so many elements, which it doesn't have
+  def_roomy_package : ℕ → Head
+  -- name of the index, name of the data, access type, lock rule, update rule, entries
+  def_index_field : List ℕ → List ℕ → ℕ → ℕ → ℕ → List Entry → Head
 
 -- A list of terms: the first one's head, width and children, and the others. The width of a number is the number of its bytes
 -- after the prefix, or 0 for the bytes 00 and 01. The width of a term with a frame is that of its PkgLength, 1 to 4. Any other

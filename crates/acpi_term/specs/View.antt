@@ -4,6 +4,7 @@ use Rattle.acpi_term.specs.Tree.{Entry, named, reserved, Head, number, ones, str
 use Rattle.acpi_term.specs.Tree.{def_scope, def_device, def_method, def_power_res, def_field, def_op_region}
 use Rattle.acpi_term.specs.Tree.{def_name, def_mutex, def_acquire, def_release, def_buffer, def_package}
 use Rattle.acpi_term.specs.Tree.{def_var_package, def_if, def_while, def_else, op, Terms, end, term, one}
+use Rattle.acpi_term.specs.Tree.{def_external, def_leveled_method, def_processor, def_thermal_zone, def_roomy_package, def_index_field}
 use Rattle.acpi_term.specs.declared.term.TermEntry.{TermEntry}
 use Rattle.acpi_term.specs.declared.term.TermEntry.TheVariants.{Named, Reserved}
 use Rattle.acpi_term.specs.declared.term.Term.{Term}
@@ -49,6 +50,14 @@ view_step (Term-F.If width predicate body) = (def_if, width, listed (predicate.v
 view_step (Term-F.While width predicate body) = (def_while, width, listed (predicate.value ∷ body.items))
 view_step (Term-F.Else width body) = (def_else, width, listed body.items)
 view_step (Term-F.Op o operands) = (op o, 0, listed operands.items)
+view_step (Term-F.External name kind args) = (def_external name kind args, 0, end)
+view_step (Term-F.LeveledMethod width name args serialized level body) =
+    (def_leveled_method name args serialized level, width, listed body.items)
+view_step (Term-F.Processor width name id address size body) = (def_processor name id address size, width, listed body.items)
+view_step (Term-F.ThermalZone width name body) = (def_thermal_zone name, width, listed body.items)
+view_step (Term-F.RoomyPackage width room elements) = (def_roomy_package room, width, listed elements.items)
+view_step (Term-F.IndexField width index name access lock update entries) =
+    (def_index_field index name access lock update (map entry_view entries.items), width, end)
 
 -- the head, the width and the children of a term
 abbrev pub view : Term → Parts
@@ -87,6 +96,13 @@ head_of kinds.If = def_if
 head_of kinds.While = def_while
 head_of kinds.Else = def_else
 head_of (kinds.Op o) = op o
+head_of (kinds.External name kind args) = def_external name.now kind args
+head_of (kinds.LeveledMethod name args serialized level) = def_leveled_method name.now args serialized level
+head_of (kinds.Processor name id address size) = def_processor name.now id address size
+head_of (kinds.ThermalZone name) = def_thermal_zone name.now
+head_of (kinds.RoomyPackage room) = def_roomy_package room
+head_of (kinds.IndexField index name access lock update entries) =
+    def_index_field index.now name.now access lock update (map entry_view entries.now)
 
 -- a term taken apart: a head, a width, and its children in two lists
 pub record IsApart (t : Term) (h : Head) (w : ℕ) (first others : List Term) : Type 0 where

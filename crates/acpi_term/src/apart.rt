@@ -41,6 +41,17 @@ pub enum Kind<'a> {
     While,
     Else,
     Op(Op),
+    /// Name, object type, number of arguments.
+    External(&'a NameString, u8, u8),
+    /// Name, number of arguments, whether serialized, synchronization level.
+    LeveledMethod(&'a NameString, u8, bool, u8),
+    /// Name, id, address and length of its registers.
+    Processor(&'a NameString, u8, u32, u8),
+    ThermalZone(&'a NameString),
+    /// The number of elements for which it has room.
+    RoomyPackage(u8),
+    /// Name of the index, name of the data, access type, lock rule, update rule, entries.
+    IndexField(&'a NameString, &'a NameString, u8, u8, u8, &'a [TermEntry]),
 }
 
 /// The parts of a term. Its children are those of the first list and then those of the second.
@@ -133,6 +144,63 @@ pub fn parts_of(term: &Term) -> Parts<'_>
         } => apart(Kind::While, *width, from_ref(predicate), body),
         Term::Else { width, body } => apart(Kind::Else, *width, body, &[]),
         Term::Op { op, operands } => apart(Kind::Op(*op), 0, operands, &[]),
+        Term::External { name, kind, args } => apart(
+            Kind::External(name, *kind, *args),
+            0,
+            &[],
+            &[],
+        ),
+        Term::LeveledMethod {
+            width,
+            name,
+            args,
+            serialized,
+            level,
+            body,
+        } => apart(
+            Kind::LeveledMethod(name, *args, *serialized, *level),
+            *width,
+            body,
+            &[],
+        ),
+        Term::Processor {
+            width,
+            name,
+            id,
+            address,
+            size,
+            body,
+        } => apart(
+            Kind::Processor(name, *id, *address, *size),
+            *width,
+            body,
+            &[],
+        ),
+        Term::ThermalZone { width, name, body } => apart(
+            Kind::ThermalZone(name),
+            *width,
+            body,
+            &[],
+        ),
+        Term::RoomyPackage {
+            width,
+            room,
+            elements,
+        } => apart(Kind::RoomyPackage(*room), *width, elements, &[]),
+        Term::IndexField {
+            width,
+            index,
+            name,
+            access,
+            lock,
+            update,
+            entries,
+        } => apart(
+            Kind::IndexField(index, name, *access, *lock, *update, entries),
+            *width,
+            &[],
+            &[],
+        ),
     }
 }
 
@@ -168,6 +236,11 @@ pub fn frame_code(kind: Kind<'_>) -> Option<&'static [u8]>
         Kind::If => Some(&[0xa0]),
         Kind::While => Some(&[0xa2]),
         Kind::Else => Some(&[0xa1]),
+        Kind::LeveledMethod(..) => Some(&[0x14]),
+        Kind::Processor(..) => Some(&[0x5b, 0x83]),
+        Kind::ThermalZone(_) => Some(&[0x5b, 0x85]),
+        Kind::RoomyPackage(_) => Some(&[0x12]),
+        Kind::IndexField(..) => Some(&[0x5b, 0x86]),
         _ => None,
     }
 }

@@ -3,6 +3,7 @@
 
 pub mod apart;
 mod derived;
+pub mod language;
 pub mod laws;
 pub mod mode;
 pub mod name_string;

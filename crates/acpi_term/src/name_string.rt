@@ -4,7 +4,7 @@ ghost use Rattle.std.specs.Prelude.{◌≡◌, ◌≢◌, ℕ, List, true, false
 ghost use Rattle.std.specs.Cmp.Lexicographic.{pointwise};
 ghost use Rattle.std.specs.Bool.{nat_eq};
 ghost use Rattle.acpi_term.specs.Held.{held, Holds};
-ghost use Rattle.acpi_term.specs.Name.{IsName};
+ghost use Rattle.acpi_term.specs.Name.{IsNameString};
 ghost use Rattle.acpi_term.specs.PathText.{parts, are_standard, path_spelling, is_name_text};
 ghost use Rattle.acpi_term.specs.Arity.{is_stated, are_arities, arity, with_new};
 ghost use Rattle.acpi_term.specs.Spelling.{arguments};
@@ -37,7 +37,7 @@ impl Model for NameString {
 
     ghost view = { λ name. held name.spelling };
 
-    ghost invariant = { λ name. Holds name.spelling × IsName (held name.spelling) };
+    ghost invariant = { λ name. Holds name.spelling × IsNameString (held name.spelling) };
 }
 
 impl NameString {
@@ -63,7 +63,7 @@ impl NameString {
     /// The bytes that spell the name.
     pub fn as_bytes(&self) -> &[u8]
         ensures bytes { result.now ≡ self.now }
-        ensures name { IsName self.now }
+        ensures name { IsNameString self.now }
     {
         match &self.spelling {
             NameBytes::Few(count, bytes) => &bytes[..usize::from(*count)],
@@ -74,7 +74,7 @@ impl NameString {
 
 /// The name that these bytes spell.
 pub fn name_of(alloc: Global, spelling: &[u8]) -> Result<NameString, AllocError>
-    requires { IsName spelling.now }
+    requires { IsNameString spelling.now }
     ensures { IfOk result (λ name. name ≡ spelling.now) }
 {
     let spelling = hold(alloc, spelling)?;

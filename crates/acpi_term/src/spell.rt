@@ -1,9 +1,9 @@
 //! A simple writer of terms, for tests to compare with.
 
-ghost use Rattle.std.specs.Prelude.{◌≡◌, ◌≢◌, ◌<◌, ◌^◌, ◌++◌, OnOk, IfOk, IfErr, map};
+ghost use Rattle.std.specs.Prelude.{◌≡◌, ◌≢◌, ◌<◌, ◌≤◌, ◌^◌, ◌++◌, OnOk, IfOk, IfErr, map};
 ghost use Rattle.acpi_base.specs.Number.{number_limit, number_bytes};
 ghost use Rattle.acpi_term.specs.Length.{limit, with_length, FrameFits, StartsWithLength};
-ghost use Rattle.acpi_term.specs.Row.{entry_bits, entry_width, entry_bytes, entries_bytes, field_flags};
+ghost use Rattle.acpi_term.specs.Row.{entry_bits, entry_width, entry_bytes, entries_bytes, field_flags, leveled_flags};
 ghost use Rattle.acpi_term.specs.Spelling.{spelling, EntriesFit};
 ghost use Rattle.acpi_term.specs.View.{view, views, entry_view, single, head_of};
 ghost use Rattle.acpi_term.specs.Carried.{IsUnfit, AreCarried, Added, IsUncarried, BareFits, Laid, Unlaid, OwnLaid, OwnUnlaid};
@@ -126,6 +126,28 @@ fn own_bytes(alloc: Global, kind: Kind<'_>, width: u8, count: usize) -> R<Vec<u8
             Ok(Vec::new(alloc))
         }
         Kind::Op(op) => joined(alloc, op.code(), &[], &[]),
+        Kind::External(name, kind, args) => joined(alloc, &[0x15], name.as_bytes(), &[kind, args]),
+        Kind::LeveledMethod(name, args, serialized, level) => {
+            let flags = leveled_flags(args, serialized, level)?;
+            joined(alloc, name.as_bytes(), &[flags], &[])
+        }
+        Kind::Processor(name, id, address, size) => {
+            let [a, b, c, d] = address.to_le_bytes();
+            joined(alloc, name.as_bytes(), &[id, a, b, c, d, size], &[])
+        }
+        Kind::ThermalZone(name) => joined(alloc, name.as_bytes(), &[], &[]),
+        Kind::RoomyPackage(room) => {
+            if count >= usize::from(room) {
+                return Err(Error::PackageElements);
+            }
+            joined(alloc, &[room], &[], &[])
+        }
+        Kind::IndexField(index, name, access, lock, update, entries) => {
+            let flags = field_flags(access, lock, update)?;
+            let mut bytes = joined(alloc, index.as_bytes(), name.as_bytes(), &[flags])?;
+            spell_entries(entries, &mut bytes)?;
+            Ok(bytes)
+        }
     }
 }
 
@@ -209,6 +231,20 @@ fn number_in(alloc: Global, value: u64, width: u8) -> R<Vec<u8>>
         8 => Ok(Vec::from_slice(alloc, &[0x0e, a, b, c, d, e, f, g, h])?),
         _ => Err(Error::FieldWidth),
     }
+}
+
+fn leveled_flags(args: u8, serialized: bool, level: u8) -> R<u8>
+    ensures ok { IfOk result (λ flags. flags ≡ leveled_flags args serialized level) }
+    ensures few { OnOk result (args ≤ 7) }
+    ensures err { IfErr result (λ e. args ≤ 7 → leveled_flags args serialized level < 2 ^ 8 → ⊥) }
+{
+    if args > 7 {
+        return Err(Error::MethodArgs);
+    }
+    if level > 15 {
+        return Err(Error::FieldWidth);
+    }
+    Ok(args + if serialized { 8 } else { 0 } + 16 * level)
 }
 
 fn field_flags(access: u8, lock: u8, update: u8) -> R<u8>

@@ -118,4 +118,50 @@ pub enum Term {
         op: Op,
         operands: Vec<Term>,
     },
+    /// A name that another block defines: its object type, and how many arguments it takes. This library doesn't write it, nor
+    /// the terms below.
+    External {
+        name: NameString,
+        kind: u8,
+        args: u8,
+    },
+    /// A method with a synchronization level, from 1 to 15.
+    LeveledMethod {
+        width: u8,
+        name: NameString,
+        args: u8,
+        serialized: bool,
+        level: u8,
+        body: Vec<Term>,
+    },
+    /// The address and the length are those of the processor's registers.
+    Processor {
+        width: u8,
+        name: NameString,
+        id: u8,
+        address: u32,
+        size: u8,
+        body: Vec<Term>,
+    },
+    ThermalZone {
+        width: u8,
+        name: NameString,
+        body: Vec<Term>,
+    },
+    /// A package with room for more elements than it has.
+    RoomyPackage {
+        width: u8,
+        room: u8,
+        elements: Vec<Term>,
+    },
+    /// A field of the register `name`, whose index is written to the register `index`.
+    IndexField {
+        width: u8,
+        index: NameString,
+        name: NameString,
+        access: u8,
+        lock: u8,
+        update: u8,
+        entries: Vec<TermEntry>,
+    },
 }

@@ -5,7 +5,7 @@ use Rattle.std.specs.Int.{w32, swap_bytes}
 use Rattle.std.proofs.lemmas.Bool.{eqb-true, and_parts}
 use Rattle.std.proofs.lemmas.Bool.Decides.{nat_tests}
 use Rattle.acpi_term.specs.declared.mode.Mode.TheVariants.{Term}
-use Rattle.acpi_term.specs.Tree.{Head, number, ones, string, local, arg, call, def_scope, def_device, def_method, def_power_res, def_field, def_op_region, def_name, def_mutex, def_acquire, def_release, def_buffer, def_package, def_var_package, def_if, def_while, def_else, op, Terms, end, term}
+use Rattle.acpi_term.specs.Tree.{Head, number, ones, string, local, arg, call, def_scope, def_device, def_method, def_power_res, def_field, def_op_region, def_name, def_mutex, def_acquire, def_release, def_buffer, def_package, def_var_package, def_if, def_while, def_else, op, def_external, def_leveled_method, def_processor, def_thermal_zone, def_roomy_package, def_index_field, Terms, end, term}
 use Rattle.acpi_read.specs.Lines.{hex_bytes, lines}
 use Rattle.acpi_terms_text.specs.Eisa.{upper_digit, upper_byte, is_id, id_text, eisa_text}
 use Rattle.acpi_terms_text.specs.Uuid.{uuid_text}
@@ -135,6 +135,12 @@ note_line ids def_var_package w c = tt
 note_line ids def_if w c = tt
 note_line ids def_while w c = tt
 note_line ids def_else w c = tt
+note_line ids (def_external name kind args) w c = tt
+note_line ids (def_leveled_method name args serialized level) w c = tt
+note_line ids (def_processor name id address size) w c = tt
+note_line ids (def_thermal_zone name) w c = tt
+note_line ids (def_roomy_package room) w c = tt
+note_line ids (def_index_field index name access lock update entries) w c = tt
 note_line ids (op o) w c = tt
 
 -- each of a list is one line
@@ -173,6 +179,12 @@ entries_lines def_var_package = tt
 entries_lines def_if = tt
 entries_lines def_while = tt
 entries_lines def_else = tt
+entries_lines (def_external name kind args) = tt
+entries_lines (def_leveled_method name args serialized level) = tt
+entries_lines (def_processor name id address size) = tt
+entries_lines (def_thermal_zone name) = tt
+entries_lines (def_roomy_package room) = tt
+entries_lines (def_index_field index name access lock update entries) = no_lines (length entries)
 entries_lines (op o) = tt
 
 notes_lines : (ids : Bool) (ts : Terms) → AreOneLine (notes ids ts)
@@ -210,4 +222,4 @@ woven_kept : (ts : Terms) → HasLines (lines 0 ts) (woven (lines 0 ts) (notes f
 woven_kept ts = from_line [] (lines 0 ts) (notes false ts) tt (notes_lines false ts)
 
 pub lines_kept : LinesAreKept
-lines_kept arity bytes ts spelled = subst (λ (l : List ℕ). HasLines (lines 0 ts) l) (in_place arity Term ts spelled.0) (woven_kept ts)
+lines_kept g bytes ts spelled = subst (λ (l : List ℕ). HasLines (lines 0 ts) l) (in_place g Term ts spelled.0) (woven_kept ts)

@@ -1,5 +1,5 @@
 -- Each line of the report has the comment of its own term.
-use Rattle.std.proofs.Common.{◌≡◌, ◌≢◌, ℕ, zero, suc, ◌==◌, ◌&&◌, not, Bool, true, false, List, [], ◌∷◌, ◌++◌, length, map, refl, ap, sym, ◌∙◌, append_assoc, arith}
+use Rattle.std.proofs.Common.{◌≡◌, ◌≢◌, ℕ, zero, suc, ◌==◌, ◌&&◌, ◌||◌, not, Bool, true, false, List, [], ◌∷◌, ◌++◌, length, map, refl, ap, sym, ◌∙◌, append_assoc, arith}
 use Rattle.std.specs.Prelude.{codes, replicate, nat_le, if◌then◌else◌}
 use Rattle.std.specs.Fmt.{decimal}
 use Rattle.std.proofs.lemmas.List.{append-nil}
@@ -9,18 +9,22 @@ use Rattle.acpi_term.specs.declared.mode.Mode.{Mode}
 use Rattle.acpi_term.specs.declared.mode.Mode.TheVariants.{Term}
 use Rattle.acpi_term.specs.declared.op.Op.{Op}
 use Rattle.acpi_term.specs.declared.op.Op.TheVariants as op
-use Rattle.acpi_term.specs.Name.{is_lead, is_part, is_segment, AreSegments, no_more, one_more, IsPath, single, double, multiple, IsName, relative, rooted}
+use Rattle.acpi_term.specs.Name.{is_lead, is_part, is_segment, AreSegments, no_more, one_more, IsPath, single, double, multiple, IsName, relative, rooted, IsAbove, no_path, path_above, further_up, IsNameString, as_written, root_alone, upwards, IsNameIn}
+use Rattle.acpi_term.proofs.Names.{is_name_string}
+use Rattle.acpi_term.specs.declared.language.Language.{Language}
+use Rattle.acpi_term.specs.Language.{Grammar, grammar_of}
+use Rattle.acpi_term.specs.declared.language.Language.TheVariants.{Standard}
 use Rattle.acpi_term.specs.Operator.{word}
 use Rattle.acpi_term.specs.Row.{entry_width}
 use Rattle.acpi_term.specs.Spelling.{IsStandard, AreLegal, inner, next, spelling}
-use Rattle.acpi_term.specs.Tree.{Entry, named, reserved, Head, number, ones, string, local, arg, call, def_scope, def_device, def_method, def_power_res, def_field, def_op_region, def_name, def_mutex, def_acquire, def_release, def_buffer, def_package, def_var_package, def_if, def_while, def_else, op, Terms, end, term, count}
+use Rattle.acpi_term.specs.Tree.{Entry, named, reserved, Head, number, ones, string, local, arg, call, def_scope, def_device, def_method, def_power_res, def_field, def_op_region, def_name, def_mutex, def_acquire, def_release, def_buffer, def_package, def_var_package, def_if, def_while, def_else, op, def_external, def_leveled_method, def_processor, def_thermal_zone, def_roomy_package, def_index_field, Terms, end, term, count}
 use Rattle.acpi_base.specs.Digit.{hex_byte}
 use Rattle.acpi_read.specs.Lines.{quoted_byte, quoted_bytes, dotted_segments, tail, segments_of, name_text, width_suffix, is_chosen, is_entry_chosen, data_text, head_text, indent, line, entry_text, entry_line, entry_lines, own_lines, term_suffix, lines}
 use Rattle.acpi_read.specs.Report.{printable}
 use Rattle.acpi_terms_text.specs.Comment.{has_ids, note, comment, noted_lines, annotated, IsAnnotated}
 use Rattle.acpi_terms_text.specs.Woven.{entry_notes, notes, woven}
 use Rattle.acpi_terms_text.specs.Laws.{IsOneLine}
-use Rattle.acpi_read.specs.Terms.{AreRead}
+use Rattle.acpi_read.specs.Terms.{AreReadIn}
 use Rattle.acpi_terms_text.proofs.Single.{one_and, is_line, tested, bytes_line, decimal_line}
 use Rattle.acpi_terms_text.proofs.Woven.{woven_line}
 
@@ -65,7 +69,7 @@ choice_line false a b p q = q
 
 parts_line : (s : List ℕ) → IsOneLine s → IsOneLine (segments_of s)
 parts_line [] p = p
-parts_line (b ∷ s) p = choice_line (b == 46) s (if b == 47 then tail s else b ∷ s) p.1 (choice_line (b == 47) (tail s) (b ∷ s) (tail_line s p.1) p)
+parts_line (b ∷ s) p = choice_line (b == 46 || b == 0) s (if b == 47 then tail s else b ∷ s) p.1 (choice_line (b == 47) (tail s) (b ∷ s) (tail_line s p.1) p)
 
 path_line : (s : List ℕ) → IsPath s → IsOneLine (segments_of s)
 path_line s (single one) = parts_line s (segments_line 1 s one)
@@ -75,16 +79,30 @@ path_line s (multiple {n = n} {s = several} low high all) = segments_line n seve
 root_line : IsOneLine (92 ∷ [])
 root_line = tested (92 ∷ []) refl
 
+up_line : IsOneLine (94 ∷ [])
+up_line = tested (94 ∷ []) refl
+
 plain_line : (s : List ℕ) → IsOneLine s → IsOneLine (name_text s)
 plain_line [] p = p
 plain_line (b ∷ s) p =
-    choice_line (b == 92) (92 ∷ dotted_segments (segments_of s)) (dotted_segments (segments_of (b ∷ s))) (root_line.0, dotted_line (segments_of s) (parts_line s p.1)) (dotted_line (segments_of (b ∷ s)) (parts_line (b ∷ s) p))
+    choice_line (b == 92) (92 ∷ dotted_segments (segments_of s)) (if b == 94 then 94 ∷ name_text s else dotted_segments (segments_of (b ∷ s))) (root_line.0, dotted_line (segments_of s) (parts_line s p.1))
+    (choice_line (b == 94) (94 ∷ name_text s) (dotted_segments (segments_of (b ∷ s))) (up_line.0, plain_line s p.1) (dotted_line (segments_of (b ∷ s)) (parts_line (b ∷ s) p)))
 
-name_line : (name : List ℕ) → IsName name → IsOneLine (name_text name)
-name_line name (relative (single one)) = plain_line name (segments_line 1 name one)
-name_line name (relative (double {s = two} both)) = dotted_line two (segments_line 2 two both)
-name_line name (relative (multiple {n = n} {s = several} low high all)) = dotted_line several (segments_line n several all)
-name_line name (rooted {s = s} path) = (root_line.0, dotted_line (segments_of s) (path_line s path))
+path_text_line : (name : List ℕ) → IsPath name → IsOneLine (name_text name)
+path_text_line name (single one) = plain_line name (segments_line 1 name one)
+path_text_line name (double {s = two} both) = dotted_line two (segments_line 2 two both)
+path_text_line name (multiple {n = n} {s = several} low high all) = dotted_line several (segments_line n several all)
+
+above_line : (name : List ℕ) → IsAbove name → IsOneLine (name_text name)
+above_line name no_path = tt
+above_line name (path_above p) = path_text_line name p
+above_line name (further_up {s} p) = (up_line.0, above_line s p)
+
+string_line : (name : List ℕ) → IsNameString name → IsOneLine (name_text name)
+string_line name (as_written (relative p)) = path_text_line name p
+string_line name (as_written (rooted {s = s} path)) = (root_line.0, dotted_line (segments_of s) (path_line s path))
+string_line name root_alone = root_line
+string_line name (upwards {s} p) = (up_line.0, above_line s p)
 
 -- ---- words
 
@@ -94,8 +112,8 @@ and_decimal said n is = one_and said (decimal n) (tested said is) (decimal_line 
 then_decimal : (front said : List ℕ) (n : ℕ) → IsOneLine front → is_line said ≡ true → IsOneLine (front ++ said ++ decimal n)
 then_decimal front said n one is = one_and (front ++ said) (decimal n) (one_and front said one (tested said is)) (decimal_line n)
 
-alone_line : (said name : List ℕ) → is_line said ≡ true → IsName name → IsOneLine (said ++ name_text name)
-alone_line said name is std = one_and said (name_text name) (tested said is) (name_line name std)
+alone_line : (l : Language) (said name : List ℕ) → is_line said ≡ true → IsNameIn l name → IsOneLine (said ++ name_text name)
+alone_line l said name is std = one_and said (name_text name) (tested said is) (string_line name (is_name_string l name std))
 
 flag_line : (flag : Bool) → IsOneLine (if flag then codes "1" else codes "0")
 flag_line true = tested (codes "1") refl
@@ -162,31 +180,75 @@ word_line op.Store = refl
 word_line op.Notify = refl
 word_line op.Mid = refl
 word_line op.CreateField = refl
+word_line op.Alias = refl
+word_line op.RefOf = refl
+word_line op.Divide = refl
+word_line op.Not = refl
+word_line op.FindSetLeftBit = refl
+word_line op.FindSetRightBit = refl
+word_line op.CreateWordField = refl
+word_line op.CreateByteField = refl
+word_line op.CreateBitField = refl
+word_line op.ToDecimalString = refl
+word_line op.ToHexString = refl
+word_line op.CopyObject = refl
+word_line op.Continue = refl
+word_line op.Noop = refl
+word_line op.BreakPoint = refl
+word_line op.Event = refl
+word_line op.CondRefOf = refl
+word_line op.LoadTable = refl
+word_line op.Load = refl
+word_line op.Stall = refl
+word_line op.Sleep = refl
+word_line op.Signal = refl
+word_line op.Wait = refl
+word_line op.Reset = refl
+word_line op.FromBCD = refl
+word_line op.ToBCD = refl
+word_line op.Unload = refl
+word_line op.Revision = refl
+word_line op.Debug = refl
+word_line op.Timer = refl
+word_line op.DataRegion = refl
 
-head_line : (h : Head) (n : ℕ) → IsStandard h → IsOneLine (head_text h n)
-head_line (number v) n std = and_decimal (codes "number ") v refl
-head_line ones n std = tested (codes "ones") refl
-head_line (string s) n std = one_and (codes "text \"" ++ quoted_bytes s) (codes "\"") (one_and (codes "text \"") (quoted_bytes s) (tested (codes "text \"") refl) (quoted_line s)) (tested (codes "\"") refl)
-head_line (local k) n std = and_decimal (codes "local ") k refl
-head_line (arg k) n std = and_decimal (codes "arg ") k refl
-head_line (call name) n std = then_decimal (codes "name " ++ name_text name) (codes " args ") n (alone_line (codes "name ") name refl std) refl
-head_line (def_scope name) n std = alone_line (codes "scope ") name refl std
-head_line (def_device name) n std = alone_line (codes "device ") name refl std
-head_line (def_method name args serialized) n std = one_and (codes "method " ++ name_text name ++ codes " args " ++ decimal args ++ codes " serialized ") (if serialized then codes "1" else codes "0") (one_and (codes "method " ++ name_text name ++ codes " args " ++ decimal args) (codes " serialized ") (then_decimal (codes "method " ++ name_text name) (codes " args ") args (alone_line (codes "method ") name refl std) refl) (tested (codes " serialized ") refl)) (flag_line serialized)
-head_line (def_power_res name level order) n std = then_decimal (codes "power " ++ name_text name ++ codes " level " ++ decimal level) (codes " order ") order (then_decimal (codes "power " ++ name_text name) (codes " level ") level (alone_line (codes "power ") name refl std.0) refl) refl
-head_line (def_field name access lock update entries) n std = then_decimal (codes "field " ++ name_text name ++ codes " access " ++ decimal access ++ codes " lock " ++ decimal lock) (codes " update ") update (then_decimal (codes "field " ++ name_text name ++ codes " access " ++ decimal access) (codes " lock ") lock (then_decimal (codes "field " ++ name_text name) (codes " access ") access (alone_line (codes "field ") name refl std.0) refl) refl) refl
-head_line (def_op_region name space) n std = then_decimal (codes "region " ++ name_text name) (codes " space ") space (alone_line (codes "region ") name refl std.0) refl
-head_line (def_name name) n std = alone_line (codes "define ") name refl std
-head_line (def_mutex name level) n std = then_decimal (codes "mutex " ++ name_text name) (codes " level ") level (alone_line (codes "mutex ") name refl std.0) refl
-head_line (def_acquire name timeout) n std = then_decimal (codes "acquire " ++ name_text name) (codes " timeout ") timeout (alone_line (codes "acquire ") name refl std.0) refl
-head_line (def_release name) n std = alone_line (codes "release ") name refl std
-head_line (def_buffer bytes) n std = one_and (codes "buffer data") (data_text bytes) (tested (codes "buffer data") refl) (data_line bytes)
-head_line def_package n std = and_decimal (codes "package ") n refl
-head_line def_var_package n std = tested (codes "varpackage") refl
-head_line def_if n std = tested (codes "if") refl
-head_line def_while n std = tested (codes "while") refl
-head_line def_else n std = tested (codes "else") refl
-head_line (op o) n std = tested (word o) (word_line o)
+head_line : (l : Language) (h : Head) (n : ℕ) → IsStandard l h → IsOneLine (head_text h n)
+head_line l (number v) n std = and_decimal (codes "number ") v refl
+head_line l ones n std = tested (codes "ones") refl
+head_line l (string s) n std = one_and (codes "text \"" ++ quoted_bytes s) (codes "\"") (one_and (codes "text \"") (quoted_bytes s) (tested (codes "text \"") refl) (quoted_line s)) (tested (codes "\"") refl)
+head_line l (local k) n std = and_decimal (codes "local ") k refl
+head_line l (arg k) n std = and_decimal (codes "arg ") k refl
+head_line l (call name) n std = then_decimal (codes "name " ++ name_text name) (codes " args ") n (alone_line l (codes "name ") name refl std) refl
+head_line l (def_scope name) n std = alone_line l (codes "scope ") name refl std
+head_line l (def_device name) n std = alone_line l (codes "device ") name refl std
+head_line l (def_method name args serialized) n std = one_and (codes "method " ++ name_text name ++ codes " args " ++ decimal args ++ codes " serialized ") (if serialized then codes "1" else codes "0") (one_and (codes "method " ++ name_text name ++ codes " args " ++ decimal args) (codes " serialized ") (then_decimal (codes "method " ++ name_text name) (codes " args ") args (alone_line l (codes "method ") name refl std) refl) (tested (codes " serialized ") refl)) (flag_line serialized)
+head_line l (def_power_res name level order) n std = then_decimal (codes "power " ++ name_text name ++ codes " level " ++ decimal level) (codes " order ") order (then_decimal (codes "power " ++ name_text name) (codes " level ") level (alone_line l (codes "power ") name refl std.0) refl) refl
+head_line l (def_field name access lock update entries) n std = then_decimal (codes "field " ++ name_text name ++ codes " access " ++ decimal access ++ codes " lock " ++ decimal lock) (codes " update ") update (then_decimal (codes "field " ++ name_text name ++ codes " access " ++ decimal access) (codes " lock ") lock (then_decimal (codes "field " ++ name_text name) (codes " access ") access (alone_line l (codes "field ") name refl std.0) refl) refl) refl
+head_line l (def_op_region name space) n std = then_decimal (codes "region " ++ name_text name) (codes " space ") space (alone_line l (codes "region ") name refl std.0) refl
+head_line l (def_name name) n std = alone_line l (codes "define ") name refl std
+head_line l (def_mutex name level) n std = then_decimal (codes "mutex " ++ name_text name) (codes " level ") level (alone_line l (codes "mutex ") name refl std.0) refl
+head_line l (def_acquire name timeout) n std = then_decimal (codes "acquire " ++ name_text name) (codes " timeout ") timeout (alone_line l (codes "acquire ") name refl std.0) refl
+head_line l (def_release name) n std = alone_line l (codes "release ") name refl std
+head_line l (def_buffer bytes) n std = one_and (codes "buffer data") (data_text bytes) (tested (codes "buffer data") refl) (data_line bytes)
+head_line l def_package n std = and_decimal (codes "package ") n refl
+head_line l def_var_package n std = tested (codes "varpackage") refl
+head_line l def_if n std = tested (codes "if") refl
+head_line l def_while n std = tested (codes "while") refl
+head_line l def_else n std = tested (codes "else") refl
+head_line l (op o) n std = tested (word o) (word_line o)
+head_line l (def_external name kind args) n std = then_decimal (codes "external " ++ name_text name ++ codes " type " ++ decimal kind) (codes " args ") args (then_decimal (codes "external " ++ name_text name) (codes " type ") kind (alone_line l (codes "external ") name refl std.1) refl) refl
+head_line l (def_leveled_method name args serialized level) n std = then_decimal (codes "method " ++ name_text name ++ codes " args " ++ decimal args ++ codes " serialized " ++ (if serialized then codes "1" else codes "0")) (codes " level ") level (one_and (codes "method " ++ name_text name ++ codes " args " ++ decimal args ++ codes " serialized ") (if serialized then codes "1" else codes "0") (one_and (codes "method " ++ name_text name ++ codes " args " ++ decimal args) (codes " serialized ") (then_decimal (codes "method " ++ name_text name) (codes " args ") args (alone_line l (codes "method ") name refl std.1) refl) (tested (codes " serialized ") refl)) (flag_line serialized)) refl
+head_line l (def_processor name id address size) n std = then_decimal (codes "processor " ++ name_text name ++ codes " id " ++ decimal id ++ codes " address " ++ decimal address) (codes " length ") size (then_decimal (codes "processor " ++ name_text name ++ codes " id " ++ decimal id) (codes " address ") address (then_decimal (codes "processor " ++ name_text name) (codes " id ") id (alone_line l (codes "processor ") name refl std.1) refl) refl) refl
+head_line l (def_thermal_zone name) n std = alone_line l (codes "thermalzone ") name refl std.1
+head_line l (def_roomy_package room) n std = then_decimal (codes "package " ++ decimal n) (codes " of ") room (and_decimal (codes "package ") n refl) refl
+head_line l (def_index_field index name access lock update entries) n std =
+    let one = codes "indexfield " ++ name_text index in
+    let two = codes " data " ++ name_text name ++ codes " access " ++ decimal access in
+    let three = codes " lock " ++ decimal lock ++ codes " update " ++ decimal update in
+    let first = alone_line l (codes "indexfield ") index refl std.1 in
+    let second = then_decimal (codes " data " ++ name_text name) (codes " access ") access (alone_line l (codes " data ") name refl std.2) refl in
+    let third = then_decimal (codes " lock " ++ decimal lock) (codes " update ") update (and_decimal (codes " lock ") lock refl) refl in
+    one_and (one ++ two) three (one_and one two first second) third
 
 indent_line : (d : ℕ) → IsOneLine (indent d)
 indent_line zero = tt
@@ -257,9 +319,15 @@ own_placed d def_if rest ns = refl
 own_placed d def_while rest ns = refl
 own_placed d def_else rest ns = refl
 own_placed d (op o) rest ns = refl
+own_placed d (def_external name kind args) rest ns = refl
+own_placed d (def_leveled_method name args serialized level) rest ns = refl
+own_placed d (def_processor name id address size) rest ns = refl
+own_placed d (def_thermal_zone name) rest ns = refl
+own_placed d (def_roomy_package room) rest ns = refl
+own_placed d (def_index_field index name access lock update entries) rest ns = entries_placed d entries rest ns
 
-module _ (arity : List ℕ → ℕ) where
-  all_placed : (m : Mode) (ids : Bool) (d : ℕ) (ts : Terms) → AreLegal arity m ts → (rest : List ℕ) (ns : List (List ℕ))
+module _ (g : Grammar) where
+  all_placed : (m : Mode) (ids : Bool) (d : ℕ) (ts : Terms) → AreLegal g m ts → (rest : List ℕ) (ns : List (List ℕ))
       → woven (lines d ts ++ rest) (notes ids ts ++ ns) ≡ noted_lines ids d ts ++ woven rest ns
   all_placed m ids d end legal rest ns = refl
   all_placed m ids d (term h w c o) legal rest ns =
@@ -280,7 +348,7 @@ module _ (arity : List ℕ → ℕ) where
       let joined : first' ++ (own ++ (below' ++ (after' ++ woven rest ns))) ≡ (first' ++ own ++ below' ++ after') ++ woven rest ns = simp append_assoc in
       ap (λ (l : List ℕ). woven l (n ∷ ((entry_notes h ++ (inner_notes ++ after_notes)) ++ ns))) texts
       ∙ ap (λ (l : List (List ℕ)). woven (first ++ (own ++ (below ++ (after ++ rest)))) (n ∷ l)) lists
-      ∙ line_placed d said width (own ++ (below ++ (after ++ rest))) n (entry_notes h ++ (inner_notes ++ (after_notes ++ ns))) (head_line h (count c) legal.0.is_standard) (suffix_line (is_chosen h w (count c) (spelling c)) w)
+      ∙ line_placed d said width (own ++ (below ++ (after ++ rest))) n (entry_notes h ++ (inner_notes ++ (after_notes ++ ns))) (head_line g.language h (count c) legal.0.is_standard) (suffix_line (is_chosen h w (count c) (spelling c)) w)
       ∙ ap (λ (l : List ℕ). first' ++ l)
       (own_placed (suc d) h (below ++ (after ++ rest)) (inner_notes ++ (after_notes ++ ns))
       ∙ ap (λ (l : List ℕ). own ++ l)
@@ -288,7 +356,7 @@ module _ (arity : List ℕ → ℕ) where
       ∙ ap (λ (l : List ℕ). below' ++ l) (all_placed (next m) ids d o legal.2 rest ns)))
       ∙ joined
 
-  pub in_place : (m : Mode) (ts : Terms) → AreLegal arity m ts → woven (lines 0 ts) (notes false ts) ≡ annotated ts
+  pub in_place : (m : Mode) (ts : Terms) → AreLegal g m ts → woven (lines 0 ts) (notes false ts) ≡ annotated ts
   in_place m ts legal =
       ap (λ (l : List ℕ). woven l (notes false ts)) (sym (append-nil (lines 0 ts)))
       ∙ ap (λ (l : List (List ℕ)). woven (lines 0 ts ++ []) l) (sym (append-nil (notes false ts)))
@@ -296,10 +364,10 @@ module _ (arity : List ℕ → ℕ) where
       ∙ append-nil (annotated ts)
 
 -- The report of terms that were read, with its comments.
-pub is_annotated : (arity : List ℕ → ℕ) (bytes : List ℕ) (ts : Terms) (report text : List ℕ) (said : List (List ℕ)) → AreRead arity bytes ts
+pub is_annotated : (arity : List ℕ → ℕ) (bytes : List ℕ) (ts : Terms) (report text : List ℕ) (said : List (List ℕ)) → AreReadIn (grammar_of Standard arity) bytes ts
     → report ≡ lines 0 ts → said ≡ notes false ts → text ≡ woven report said → IsAnnotated arity bytes text
 is_annotated arity bytes ts report text said read p q r = record {
   terms = ts;
   read = read;
-  is = r ∙ ap (λ (l : List ℕ). woven l said) p ∙ ap (λ (l : List (List ℕ)). woven (lines 0 ts) l) q ∙ in_place arity Term ts read.spelled.0;
+  is = r ∙ ap (λ (l : List ℕ). woven l said) p ∙ ap (λ (l : List (List ℕ)). woven (lines 0 ts) l) q ∙ in_place (grammar_of Standard arity) Term ts read.spelled.0;
 }

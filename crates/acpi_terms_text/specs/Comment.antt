@@ -2,9 +2,11 @@
 use Rattle.std.specs.Prelude.{◌≡◌, ℕ, suc, ◌-◌, ◌^◌, nat_lt, ◌==◌, ◌&&◌, ◌||◌, Bool, false, if◌then◌else◌}
 use Rattle.std.specs.Prelude.{List, [], ◌∷◌, ◌++◌, length, drop, codes}
 use Rattle.std.specs.Str.{bytes_eq}
-use Rattle.acpi_term.specs.Tree.{Head, number, def_name, def_buffer, def_package, Terms, end, term, count}
+use Rattle.acpi_term.specs.declared.language.Language.TheVariants.{Standard}
+use Rattle.acpi_term.specs.Language.{grammar_of}
+use Rattle.acpi_term.specs.Tree.{Head, number, def_name, def_buffer, def_package, def_roomy_package, Terms, end, term, count}
 use Rattle.acpi_read.specs.Lines.{head_text, line, own_lines, term_suffix}
-use Rattle.acpi_read.specs.Terms.{AreRead}
+use Rattle.acpi_read.specs.Terms.{AreReadIn}
 use Rattle.acpi_terms_text.specs.Eisa.{eisa_text}
 use Rattle.acpi_terms_text.specs.Uuid.{uuid_text}
 use Rattle.acpi_terms_text.specs.Descriptor.{is_template, template_text}
@@ -23,6 +25,7 @@ is_id_name name = bytes_eq (last_segment name) (codes "_HID") || bytes_eq (last_
 abbrev pub has_ids : Bool → Head → Bool
 has_ids ids (def_name name) = is_id_name name
 has_ids ids def_package = ids
+has_ids ids (def_roomy_package room) = ids
 has_ids ids _ = false
 
 -- a resource template, or otherwise a UUID if there are 16 bytes
@@ -69,5 +72,5 @@ annotated ts = noted_lines false 0 ts
 -- The bytes spell these terms, and the text is their report with its comments.
 pub record IsAnnotated (arity : List ℕ → ℕ) (bytes text : List ℕ) : Type 0 where
   pub terms : Terms
-  pub read : AreRead arity bytes terms
+  pub read : AreReadIn (grammar_of Standard arity) bytes terms
   pub is : text ≡ annotated terms

@@ -1,7 +1,8 @@
 -- What laws say.
 use Rattle.std.specs.Prelude.{◌≡◌, ◌≢◌, ℕ, ◌^◌, ◌<◌, List, [], ◌∷◌, ◌++◌, Some, codes}
 use Rattle.acpi_term.specs.declared.mode.Mode.TheVariants.{Term}
-use Rattle.acpi_term.specs.Spelling.{Spells}
+use Rattle.acpi_term.specs.Spelling.{SpellsIn}
+use Rattle.acpi_term.specs.Language.{Grammar}
 use Rattle.acpi_term.specs.Tree.{Terms}
 use Rattle.acpi_aml.specs.Eisa.{eisa_value}
 use Rattle.acpi_aml.specs.Uuid.{IsUuid, uuid_bytes}
@@ -23,9 +24,9 @@ pub data HasLines : List ℕ → List ℕ → Type 0 where
   noted : (line note : List ℕ) {rest text : List ℕ} → IsOneLine line → IsOneLine note → HasLines rest text
       → HasLines (line ++ 10 ∷ rest) (line ++ (codes "  // " ++ (note ++ 10 ∷ text)))
 
--- The text of terms that bytes spell has the lines of their report.
+-- In each language, the text of terms that bytes spell has the lines of their report.
 abbrev pub LinesAreKept : Type 0
-LinesAreKept = (arity : List ℕ → ℕ) (bytes : List ℕ) (ts : Terms) → Spells arity Term bytes ts
+LinesAreKept = (g : Grammar) (bytes : List ℕ) (ts : Terms) → SpellsIn g Term bytes ts
     → HasLines (lines 0 ts) (annotated ts)
 
 -- Where a number is shown as an EISA id, this text is read as the number.

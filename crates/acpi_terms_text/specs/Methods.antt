@@ -1,10 +1,12 @@
 -- How many arguments the methods of a definition block take, by the names of calls.
 use Rattle.std.specs.Prelude.{◌≡◌, ℕ, ◌==◌, if◌then◌else◌, List, [], ◌∷◌, ◌++◌}
 use Rattle.acpi_term.specs.Arity.{arity, with_all}
+use Rattle.acpi_term.specs.declared.language.Language.TheVariants.{Standard}
+use Rattle.acpi_term.specs.Language.{grammar_of}
 use Rattle.acpi_term.specs.PathText.{is_rooted, unrooted, path_spelling, is_name_text}
-use Rattle.acpi_term.specs.Tree.{Head, def_scope, def_device, def_method, def_power_res, Terms, end, term}
+use Rattle.acpi_term.specs.Tree.{Head, def_scope, def_device, def_method, def_power_res, def_leveled_method, def_processor, def_thermal_zone, Terms, end, term}
 use Rattle.acpi_read.specs.Lines.{name_text}
-use Rattle.acpi_read.specs.Terms.{AreRead}
+use Rattle.acpi_read.specs.Terms.{AreReadIn}
 
 -- ---- paths as texts, without a root
 
@@ -22,6 +24,9 @@ inside scope (def_scope name) = opened scope name
 inside scope (def_device name) = opened scope name
 inside scope (def_method name args serialized) = opened scope name
 inside scope (def_power_res name level order) = opened scope name
+inside scope (def_leveled_method name args serialized level) = opened scope name
+inside scope (def_processor name id address size) = opened scope name
+inside scope (def_thermal_zone name) = opened scope name
 inside scope _ = scope
 
 -- ---- the names of a method
@@ -46,6 +51,7 @@ all_stated n (text ∷ texts) = stated n text ++ all_stated n texts
 -- the names of a head that is a method, each with the method's number of arguments (ACPI 6.5, 20.2.5.2, MethodFlags)
 abbrev pub own_stated : List ℕ → Head → List (List ℕ × ℕ)
 own_stated scope (def_method name args serialized) = all_stated args (calls (placed scope (name_text name)))
+own_stated scope (def_leveled_method name args serialized level) = all_stated args (calls (placed scope (name_text name)))
 own_stated scope _ = []
 
 -- the same of all methods of terms, in the order of the bytes
@@ -57,5 +63,5 @@ methods scope (term h w children others) = own_stated scope h ++ (methods (insid
 -- are several for a name, the first one holds.
 pub record AreOwn (stated : List (List ℕ × ℕ)) (bytes : List ℕ) (all : List (List ℕ × ℕ)) : Type 0 where
   pub terms : Terms
-  pub read : AreRead (arity stated) bytes terms
+  pub read : AreReadIn (grammar_of Standard (arity stated)) bytes terms
   pub is : all ≡ with_all stated (methods [] terms)

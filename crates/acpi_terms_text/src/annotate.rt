@@ -2,13 +2,15 @@
 
 ghost use Rattle.std.specs.Prelude.{◌≡◌, ℕ, List, ◌++◌, ◌∷◌, [], map, IfOk, IfErr, OnOk, string_bytes};
 ghost use Rattle.acpi_term.specs.Arity.{arity};
-ghost use Rattle.acpi_read.specs.Terms.{IsUnread};
+ghost use Rattle.acpi_term.specs.declared.language.Language.TheVariants.{Standard};
+ghost use Rattle.acpi_term.specs.Language.{grammar_of};
+ghost use Rattle.acpi_read.specs.Terms.{IsUnreadIn};
 ghost use Rattle.acpi_terms_text.specs.Comment.{comment, IsAnnotated};
 ghost use Rattle.acpi_terms_text.specs.Woven.{woven};
 
 use crate::note::add_notes;
 use acpi_read::report::report_terms;
-use acpi_read::terms::terms;
+use acpi_read::terms::standard_terms;
 use acpi_term::name_string::Arities;
 use acpi_term::read_error::ReadError;
 use std::alloc::{AllocError, Global};
@@ -50,19 +52,19 @@ fn push_woven(lines: &str, notes: &[String], text: &mut String) -> Result<(), Al
     Ok(())
 }
 
-/// The report of the terms that the bytes spell, if names take these numbers of arguments. Each line is that of
+/// The report of the terms that the bytes spell in the language of the standard, if names take these numbers of arguments. Each line is that of
 /// `acpi_read::report::report_terms`. A comment is after it, behind two spaces and `// `, in the lines of:
 ///
 /// - a number in four bytes that is an EISA id, as the value of `_HID` or `_CID`, or as an element of a package there;
 /// - a buffer that is a resource template: the names of its descriptors;
 /// - another buffer of 16 bytes: the text of the UUID.
 ///
-/// The errors are those of `acpi_read::terms::terms`.
+/// The errors are those of `acpi_read::terms::standard_terms`.
 pub fn annotated(alloc: Global, bytes: &[u8], arities: &Arities) -> Result<String, ReadError>
     ensures ok { IfOk result (λ text. IsAnnotated (arity arities.now) bytes.now (string_bytes text)) }
-    ensures err { IfErr result (IsUnread (arity arities.now) bytes.now) }
+    ensures err { IfErr result (IsUnreadIn (grammar_of Standard (arity arities.now)) bytes.now) }
 {
-    let terms = terms(bytes, arities)?;
+    let terms = standard_terms(bytes, arities)?;
     let lines = report_terms(alloc, &terms)?;
     let mut notes = Vec::new(alloc);
     add_notes(alloc, false, &terms, &mut notes)?;

@@ -6,12 +6,14 @@ ghost use Rattle.acpi_term.specs.Arity.{arity, with_all};
 ghost use Rattle.acpi_term.specs.PathText.{is_name_text};
 ghost use Rattle.acpi_term.specs.View.{head_of, view, views, single};
 ghost use Rattle.acpi_read.specs.Lines.{name_text};
-ghost use Rattle.acpi_read.specs.Terms.{IsUnread};
+ghost use Rattle.acpi_term.specs.declared.language.Language.TheVariants.{Standard};
+ghost use Rattle.acpi_term.specs.Language.{grammar_of};
+ghost use Rattle.acpi_read.specs.Terms.{IsUnreadIn};
 ghost use Rattle.acpi_terms_text.specs.Methods.{placed, opened, inside, after_dots, calls, stated, all_stated, own_stated};
 ghost use Rattle.acpi_terms_text.specs.Methods.{methods, AreOwn};
 
 use acpi_read::report::words::push_named;
-use acpi_read::terms::terms;
+use acpi_read::terms::standard_terms;
 use acpi_term::apart::{Kind, parts_of};
 use acpi_term::name_string::{Arities, NameString};
 use acpi_term::read_error::ReadError;
@@ -60,7 +62,10 @@ fn inside(alloc: Global, scope: &str, kind: Kind<'_>) -> Result<Option<String>, 
         Kind::Scope(name)
         | Kind::Device(name)
         | Kind::Method(name, ..)
-        | Kind::PowerResource(name, ..) => Ok(Some(opened(alloc, scope, name)?)),
+        | Kind::PowerResource(name, ..)
+        | Kind::LeveledMethod(name, ..)
+        | Kind::Processor(name, ..)
+        | Kind::ThermalZone(name) => Ok(Some(opened(alloc, scope, name)?)),
         _ => Ok(None),
     }
 }
@@ -115,7 +120,7 @@ fn add_own(alloc: Global, scope: &str, kind: Kind<'_>, all: &mut Arities) -> Res
     ensures { OnOk result (all.new ≡ with_all all.old (own_stated scope.now (head_of kind.entry))) }
 {
     match kind {
-        Kind::Method(name, args, _) => {
+        Kind::Method(name, args, _) | Kind::LeveledMethod(name, args, ..) => {
             let path = placed(alloc, scope, name)?;
             add_calls(alloc, path.as_str(), args, all)
         }
@@ -155,12 +160,13 @@ fn add_term(alloc: Global, scope: &String, term: &Term, all: &mut Arities) -> Re
 /// How many arguments names take in a definition block: the stated numbers, and those of the methods that the block itself
 /// defines. `bytes` are its terms, without the header. Each method adds its path from the root, and the path without the root
 /// from each of its segments on, as calls may name it. A name that is stated keeps its number, and a name of several methods has
-/// that of the first. The errors are those of `acpi_read::terms::terms` with the stated numbers.
+/// that of the first. The errors are those of `acpi_read::terms::standard_terms` with the stated
+/// numbers.
 pub fn own_arities(alloc: Global, bytes: &[u8], stated: &Arities) -> Result<Arities, ReadError>
     ensures ok { IfOk result (λ all. AreOwn stated.now bytes.now all) }
-    ensures err { IfErr result (IsUnread (arity stated.now) bytes.now) }
+    ensures err { IfErr result (IsUnreadIn (grammar_of Standard (arity stated.now)) bytes.now) }
 {
-    let terms = terms(bytes, stated)?;
+    let terms = standard_terms(bytes, stated)?;
     let mut all = stated.copy(alloc)?;
     let root = String::new(alloc);
     add_terms(alloc, &root, &terms, &mut all)?;

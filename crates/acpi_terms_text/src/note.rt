@@ -34,7 +34,7 @@ fn has_ids(ids: bool, kind: Kind<'_>) -> bool
 {
     match kind {
         Kind::Name(name) => is_id_name(name),
-        Kind::Package => ids,
+        Kind::Package | Kind::RoomyPackage(_) => ids,
         _ => false,
     }
 }
@@ -129,7 +129,9 @@ fn add_own(alloc: Global, kind: Kind<'_>, texts: &mut Vec<String>) -> Result<(),
         ++ entry_notes (head_of kind.entry)) }
 {
     match kind {
-        Kind::Field(_, _, _, _, entries) => add_entries(alloc, entries, texts),
+        Kind::Field(_, _, _, _, entries) | Kind::IndexField(_, _, _, _, _, entries) => {
+            add_entries(alloc, entries, texts)
+        }
         _ => Ok(()),
     }
 }

@@ -2,8 +2,10 @@
 use Rattle.std.specs.Prelude.{◌≡◌, ◌≢◌, ◌⊎◌, ℕ, nat_eq, nat_le, ◌&&◌, ◌||◌, Bool, true, false, List, [], ◌++◌, length, drop}
 use Rattle.std.specs.Prelude.{codes}
 use Rattle.std.specs.List.{starts_with}
-use Rattle.acpi_read.specs.Terms.{IsUnread}
+use Rattle.acpi_read.specs.Terms.{IsUnreadIn}
 use Rattle.acpi_term.specs.Arity.{arity}
+use Rattle.acpi_term.specs.declared.language.Language.TheVariants.{Standard}
+use Rattle.acpi_term.specs.Language.{grammar_of}
 use Rattle.acpi_term.specs.declared.read_error.ReadError.{ReadError}
 use Rattle.acpi_term.specs.declared.read_error.ReadError.TheVariants.{Memory}
 use Rattle.acpi_terms_text.specs.Comment.{IsAnnotated}
@@ -28,7 +30,7 @@ pub record IsReport (stated : List (List ℕ × ℕ)) (terms text : List ℕ) : 
 pub record IsNoReport (stated : List (List ℕ × ℕ)) (terms : List ℕ) (error : ReadError) : Type 0 where
   pub own : List (List ℕ × ℕ)
   pub methods : (own ≡ stated) ⊎ AreOwn stated terms own
-  pub unread : IsUnread (arity own) terms error
+  pub unread : IsUnreadIn (grammar_of Standard (arity own)) terms error
 
 -- the lines of a report
 abbrev pub report_lines : List ℕ → List ℕ

@@ -1,7 +1,9 @@
 //! The lines of terms. A function whose name begins with `push` adds to a text.
 
 ghost use Rattle.std.specs.Prelude.{◌≡◌, ◌++◌, [], OnOk, string_bytes, codes};
+ghost use Rattle.std.specs.Fmt.{decimal};
 ghost use Rattle.acpi_term.specs.Tree.{def_method, def_power_res, def_field};
+ghost use Rattle.acpi_term.specs.Tree.{def_external, def_leveled_method, def_processor, def_roomy_package, def_index_field};
 ghost use Rattle.acpi_term.specs.View.{head_of};
 ghost use Rattle.acpi_read.specs.Lines.{quoted_bytes, data_text, head_text};
 
@@ -59,6 +61,79 @@ fn push_field(
     push_number(" update ", u64::from(update), text)
 }
 
+#[tactic(auto, using(crate::proofs::Texts::after_two))]
+fn push_external(name: &NameString, kind: u8, args: u8, text: &mut String) -> Result<(), AllocError>
+    ensures { OnOk result (string_bytes text.new ≡ string_bytes text.old ++ head_text (def_external name.now kind args) 0) }
+{
+    push_numbered("external ", name, " type ", u64::from(kind), text)?;
+    push_number(" args ", u64::from(args), text)
+}
+
+#[tactic(auto, using(crate::proofs::Texts::after_two))]
+fn push_leveled(
+    name: &NameString,
+    args: u8,
+    serialized: bool,
+    level: u8,
+    text: &mut String,
+) -> Result<(), AllocError>
+    ensures { OnOk result (string_bytes text.new ≡ string_bytes text.old
+        ++ head_text (def_leveled_method name.now args serialized level) 0) }
+{
+    push_method(name, args, serialized, text)?;
+    push_number(" level ", u64::from(level), text)
+}
+
+#[tactic(auto, using(crate::proofs::Texts::after_two, crate::proofs::Texts::after_three))]
+fn push_processor(
+    name: &NameString,
+    id: u8,
+    address: u32,
+    size: u8,
+    text: &mut String,
+) -> Result<(), AllocError>
+    ensures { OnOk result (string_bytes text.new ≡ string_bytes text.old
+        ++ head_text (def_processor name.now id address size) 0) }
+{
+    push_numbered("processor ", name, " id ", u64::from(id), text)?;
+    push_number(" address ", u64::from(address), text)?;
+    push_number(" length ", u64::from(size), text)
+}
+
+#[tactic(auto, using(crate::proofs::Texts::after_two))]
+fn push_rules(lock: u8, update: u8, text: &mut String) -> Result<(), AllocError>
+    ensures { OnOk result (string_bytes text.new ≡ string_bytes text.old
+        ++ (codes " lock " ++ decimal lock ++ codes " update " ++ decimal update)) }
+{
+    push_number(" lock ", u64::from(lock), text)?;
+    push_number(" update ", u64::from(update), text)
+}
+
+#[tactic(auto, using(crate::proofs::Texts::after_three))]
+fn push_index_field(
+    index: &NameString,
+    name: &NameString,
+    access: u8,
+    lock: u8,
+    update: u8,
+    text: &mut String,
+) -> Result<(), AllocError>
+    ensures { OnOk result (string_bytes text.new ≡ string_bytes text.old
+        ++ head_text (def_index_field index.now name.now access lock update []) 0) }
+{
+    push_named("indexfield ", index, text)?;
+    push_numbered(" data ", name, " access ", u64::from(access), text)?;
+    push_rules(lock, update, text)
+}
+
+#[tactic(auto, using(crate::proofs::Texts::after_two))]
+fn push_room(count: usize, room: u8, text: &mut String) -> Result<(), AllocError>
+    ensures { OnOk result (string_bytes text.new ≡ string_bytes text.old ++ head_text (def_roomy_package room) count) }
+{
+    push_number("package ", count as u64, text)?;
+    push_number(" of ", u64::from(room), text)
+}
+
 fn push_data(bytes: &[u8], text: &mut String) -> Result<(), AllocError>
     ensures { OnOk result (string_bytes text.new ≡ string_bytes text.old ++ (codes "buffer data" ++ data_text bytes.now)) }
 {
@@ -108,5 +183,15 @@ pub fn push_head(kind: Kind<'_>, count: usize, text: &mut String) -> Result<(), 
         Kind::While => text.push_str("while"),
         Kind::Else => text.push_str("else"),
         Kind::Op(op) => text.push_str(op.word()),
+        Kind::External(name, kind, args) => push_external(name, kind, args, text),
+        Kind::LeveledMethod(name, args, serialized, level) => {
+            push_leveled(name, args, serialized, level, text)
+        }
+        Kind::Processor(name, id, address, size) => push_processor(name, id, address, size, text),
+        Kind::ThermalZone(name) => push_named("thermalzone ", name, text),
+        Kind::RoomyPackage(room) => push_room(count, room, text),
+        Kind::IndexField(index, name, access, lock, update, _) => {
+            push_index_field(index, name, access, lock, update, text)
+        }
     }
 }

@@ -72,10 +72,19 @@ fn own_size(kind: Kind<'_>, width: u8) -> u32
 {
     match kind {
         Kind::Number(value) => number_size(value, width),
-        Kind::Ones | Kind::Local(_) | Kind::Arg(_) | Kind::Package => 1,
+        Kind::Ones | Kind::Local(_) | Kind::Arg(_) | Kind::Package | Kind::RoomyPackage(_) => 1,
         Kind::Text(text) => sum(capped(text.len()), 2),
-        Kind::Call(name) | Kind::Scope(name) | Kind::Device(name) => name_size(name, 0),
-        Kind::Method(name, ..) | Kind::Name(name) => name_size(name, 1),
+        Kind::Call(name) | Kind::Scope(name) | Kind::Device(name) | Kind::ThermalZone(name) =>
+            name_size(name, 0),
+        Kind::Method(name, ..) | Kind::LeveledMethod(name, ..) | Kind::Name(name) => {
+            name_size(name, 1)
+        }
+        Kind::External(name, ..) => name_size(name, 3),
+        Kind::Processor(name, ..) => name_size(name, 6),
+        Kind::IndexField(index, name, _, _, _, entries) => sum(
+            name_size(index, 0),
+            sum(name_size(name, 1), entries_size(entries)),
+        ),
         Kind::PowerResource(name, ..) | Kind::OpRegion(name, _) | Kind::Mutex(name, _) => {
             name_size(name, 3)
         }

@@ -1,13 +1,16 @@
 //! Parts of lines. A function whose name begins with `push` adds to a text.
 
-ghost use Rattle.std.specs.Prelude.{◌≡◌, ◌<◌, ◌++◌, OnOk, string_bytes, codes, if◌then◌else◌};
+ghost use Rattle.std.specs.Prelude.{◌≡◌, ◌<◌, ◌++◌, OnOk, string_bytes, codes, if◌then◌else◌, false};
 ghost use Rattle.std.specs.Fmt.{decimal};
 ghost use Rattle.std.specs.Str.{IsAscii};
 ghost use Rattle.acpi_base.specs.Digit.{hex_digit, hex_byte};
 ghost use Rattle.acpi_read.specs.Lines.{hex_bytes, quoted_byte, quoted_bytes};
+ghost use Rattle.acpi_term.specs.Name.{begins_up};
+ghost use Rattle.acpi_read.specs.Lines.{IsShown};
 ghost use Rattle.acpi_read.specs.Lines.{dotted_segments, segments_of, name_text, indent};
 
 use acpi_term::name_string::NameString;
+use acpi_term::segment::{after_up, begins_up};
 use std::alloc::AllocError;
 
 fn hex_digit(n: u8) -> char
@@ -82,23 +85,25 @@ fn push_segments(segments: &[u8], text: &mut String) -> Result<(), AllocError>
     push_ascii(rest, text)
 }
 
-// The segments of a path, without the prefix that counts them.
+// The segments of a path, without the prefix that counts them. A null path has none.
 fn segments_of(path: &[u8]) -> &[u8]
     ensures { result.now ≡ segments_of path.now }
 {
     match path {
-        [0x2e, segments @ ..] => segments,
+        [0x2e | 0x00, segments @ ..] => segments,
         [0x2f, _, segments @ ..] => segments,
         [0x2f] => &[],
         _ => path,
     }
 }
 
+// Adds a name after all `^`.
 #[tactic(auto, using(crate::proofs::Dotted::rooted_ascii, crate::proofs::Dotted::relative_ascii, crate::proofs::Dotted::name_text_rooted, crate::proofs::Dotted::name_text_relative,))]
-fn push_name(name: &NameString, text: &mut String) -> Result<(), AllocError>
-    ensures { OnOk result (string_bytes text.new ≡ string_bytes text.old ++ name_text name.now) }
+fn push_path(bytes: &[u8], text: &mut String) -> Result<(), AllocError>
+    requires rest { IsShown bytes.now }
+    requires down { begins_up bytes.now ≡ false }
+    ensures { OnOk result (string_bytes text.new ≡ string_bytes text.old ++ name_text bytes.now) }
 {
-    let bytes = name.as_bytes();
     let Some((lead, rest)) = bytes.split_first() else {
         return Ok(());
     };
@@ -107,6 +112,17 @@ fn push_name(name: &NameString, text: &mut String) -> Result<(), AllocError>
     }
     text.push('\\')?;
     push_segments(segments_of(rest), text)
+}
+
+fn push_name(name: &NameString, text: &mut String) -> Result<(), AllocError>
+    ensures { OnOk result (string_bytes text.new ≡ string_bytes text.old ++ name_text name.now) }
+{
+    let mut rest = name.as_bytes();
+    'up: while begins_up(rest) {
+        text.push('^')?;
+        rest = after_up(rest);
+    }
+    push_path(rest, text)
 }
 
 /// Adds a word and a name.

@@ -1,19 +1,26 @@
 //! Names (ACPI 6.5, 20.2.2).
 
-ghost use Rattle.std.specs.Prelude.{◌≡◌};
+ghost use Rattle.std.specs.Prelude.{◌≡◌, true, false};
 ghost use Rattle.acpi_term.specs.Reading.{begins_name, segment_at, segments_at, path_at, name_at};
+ghost use Rattle.acpi_term.specs.Reading.{above_at, name_string_at, name_in};
+ghost use Rattle.acpi_term.specs.Name.{begins_up};
 ghost use Rattle.acpi_read.specs.Cause.{Gives};
 
 use crate::terms::cause::Cause;
+use acpi_term::language::Language;
 use acpi_term::name_string::{NameString, name_of};
-use acpi_term::segment::{is_lead, is_segment};
+use acpi_term::segment::{after_up, begins_up, is_lead, is_segment};
 use std::alloc::Global;
 
 /// Whether a name may begin with the byte.
-pub fn begins_name(byte: u8) -> bool
-    ensures { result ≡ begins_name byte }
+pub fn begins_name(language: Language, byte: u8) -> bool
+    ensures { result ≡ begins_name language byte }
 {
-    is_lead(byte) || byte == 0x2e || byte == 0x2f || byte == 0x5c
+    is_lead(byte)
+        || byte == 0x2e
+        || byte == 0x2f
+        || byte == 0x5c
+        || (byte == 0x5e && language.is_standard())
 }
 
 /// A standard segment, and the bytes after it.
@@ -82,11 +89,67 @@ fn spelled_name(bytes: &[u8]) -> Result<(&[u8], &[u8]), Cause>
     Ok(bytes.split_at(1 + text.len()))
 }
 
-/// The name at the front, and the bytes after it.
-pub fn name(alloc: Global, bytes: &[u8]) -> Result<(NameString, &[u8]), Cause>
-    ensures { Gives (λ x. (x.0, x.1.now)) result (name_at bytes.now) }
+// A path or a zero.
+#[tactic(auto, using(crate::proofs::Fronts::no_path, crate::proofs::Fronts::null_here, crate::proofs::Fronts::path_here,))]
+fn last(bytes: &[u8]) -> Result<(&[u8], &[u8]), Cause>
+    requires { begins_up bytes.now ≡ false }
+    ensures { Gives (λ x. (x.0.now, x.1.now)) result (above_at bytes.now) }
 {
-    let (spelling, rest) = spelled_name(bytes)?;
+    match bytes {
+        [] => Err(Cause::Truncated),
+        [0, ..] => Ok(bytes.split_at(1)),
+        _ => path(bytes),
+    }
+}
+
+// What stands after `^`: `^` any number of times, and a path or a zero.
+fn above(bytes: &[u8]) -> Result<(&[u8], &[u8]), Cause>
+    ensures { Gives (λ x. (x.0.now, x.1.now)) result (above_at bytes.now) }
+{
+    let mut rest = bytes;
+    'above: while begins_up(rest) {
+        rest = after_up(rest);
+    }
+    let (text, _) = last(rest)?;
+    Ok(bytes.split_at(bytes.len() - rest.len() + text.len()))
+}
+
+// A name that begins with `^`.
+fn upwards(bytes: &[u8]) -> Result<(&[u8], &[u8]), Cause>
+    requires { begins_up bytes.now ≡ true }
+    ensures { Gives (λ x. (x.0.now, x.1.now)) result (name_string_at bytes.now) }
+{
+    let (text, _) = above(after_up(bytes))?;
+    Ok(bytes.split_at(1 + text.len()))
+}
+
+#[tactic(auto, unfolding(acpi_term::specs::Reading::name_string_at, acpi_term::specs::Reading::root_at))]
+fn name_string(bytes: &[u8]) -> Result<(&[u8], &[u8]), Cause>
+    ensures { Gives (λ x. (x.0.now, x.1.now)) result (name_string_at bytes.now) }
+{
+    match bytes {
+        [] => Err(Cause::Truncated),
+        [0x5e, ..] => upwards(bytes),
+        [0x5c] => Err(Cause::Truncated),
+        [0x5c, 0, ..] => Ok(bytes.split_at(2)),
+        _ => spelled_name(bytes),
+    }
+}
+
+fn name_in(language: Language, bytes: &[u8]) -> Result<(&[u8], &[u8]), Cause>
+    ensures { Gives (λ x. (x.0.now, x.1.now)) result (name_in language bytes.now) }
+{
+    match language {
+        Language::Written => spelled_name(bytes),
+        Language::Standard => name_string(bytes),
+    }
+}
+
+/// The name at the front, and the bytes after it.
+pub fn name(language: Language, alloc: Global, bytes: &[u8]) -> Result<(NameString, &[u8]), Cause>
+    ensures { Gives (λ x. (x.0, x.1.now)) result (name_in language bytes.now) }
+{
+    let (spelling, rest) = name_in(language, bytes)?;
     let name = name_of(alloc, spelling)?;
     Ok((name, rest))
 }

@@ -1,14 +1,16 @@
 //! The heads of terms: the bytes before their children (ACPI 6.5, 20.2.3 and 20.2.5).
 
-ghost use Rattle.std.specs.Prelude.{◌≡◌, ◌≤◌, length, IfOk};
+ghost use Rattle.std.specs.Prelude.{◌≡◌, ◌≤◌, ◌/◌, ◌%◌, nat_le, length, IfOk, Ok};
 ghost use Rattle.acpi_term.specs.Arity.{arity};
+ghost use Rattle.acpi_term.specs.Language.{grammar_of};
 ghost use Rattle.acpi_term.specs.Operator.{op_of};
 ghost use Rattle.acpi_term.specs.Spelling.{inner, arguments};
-ghost use Rattle.acpi_term.specs.Tree.{term, number, def_var_package, def_if, def_while, def_else};
+ghost use Rattle.acpi_term.specs.Tree.{def_leveled_method, term, number, def_var_package, def_if, def_while, def_else};
 ghost use Rattle.acpi_term.specs.View.{views, view};
 ghost use Rattle.acpi_term.specs.Reading.{follows, number_at, string_at, named_at, define_after, mutex_after};
 ghost use Rattle.acpi_term.specs.Reading.{region_after, acquire_after, release_after, framed_at, scope_inside};
 ghost use Rattle.acpi_term.specs.Reading.{device_inside, method_inside, power_inside, field_inside, plain_at};
+ghost use Rattle.acpi_term.specs.Reading.{thermal_inside, processor_inside, index_flags, index_inside, external_after, further, fills};
 ghost use Rattle.acpi_term.specs.Reading.{package_at, buffer_at, operator_at, extended_at, local_at, opcode_at, open_at};
 ghost use Rattle.acpi_read.specs.Cause.{Gives};
 ghost use Rattle.acpi_read.specs.TermStart.{seen, block_head, block_width, first_head, first_width, LiesWithin, IsAlone};
@@ -18,6 +20,7 @@ use crate::terms::field::entries;
 use crate::terms::frame::{frame, number};
 use crate::terms::name::{begins_name, name};
 use crate::terms::text::text;
+use acpi_term::language::Language;
 use acpi_term::mode::Mode;
 use acpi_term::name_string::{Arities, NameString, arguments};
 use acpi_term::op::Op;
@@ -32,6 +35,11 @@ pub enum Block {
     Method(u8, NameString, u8, bool),
     PowerResource(u8, NameString, u8, u16),
     Else(u8),
+    /// Name, number of arguments, whether serialized, synchronization level.
+    LeveledMethod(u8, NameString, u8, bool, u8),
+    /// Name, id, address and length of its registers.
+    Processor(u8, NameString, u8, u32, u8),
+    ThermalZone(u8, NameString),
 }
 
 /// The same for a term whose first child is kept apart from the others.
@@ -74,6 +82,27 @@ impl Block {
             },
             Block::Else(width) => Term::Else {
                 width,
+                body: children,
+            },
+            Block::LeveledMethod(width, name, args, serialized, level) => Term::LeveledMethod {
+                width,
+                name,
+                args,
+                serialized,
+                level,
+                body: children,
+            },
+            Block::Processor(width, name, id, address, size) => Term::Processor {
+                width,
+                name,
+                id,
+                address,
+                size,
+                body: children,
+            },
+            Block::ThermalZone(width, name) => Term::ThermalZone {
+                width,
+                name,
                 body: children,
             },
         }
@@ -134,6 +163,8 @@ pub enum TermStart<'a> {
     FirstAndBlock(FirstAndBlock, &'a [u8], &'a [u8]),
     /// The width, the number of elements, the content after it, and the bytes after the frame.
     Package(u8, u8, &'a [u8], &'a [u8]),
+    /// The width, the number of elements for which there is room, the content after it, and the bytes after the frame.
+    Rooms(u8, u8, &'a [u8], &'a [u8]),
     /// The width, the content, and the bytes after the frame.
     Buffer(u8, &'a [u8], &'a [u8]),
 }
@@ -169,19 +200,19 @@ fn string(alloc: Global, bytes: &[u8]) -> Result<TermStart<'_>, Cause>
     Ok(TermStart::Leaf(Term::Text(text), rest))
 }
 
-fn define(alloc: Global, bytes: &[u8]) -> Result<TermStart<'_>, Cause>
-    ensures gives { Gives seen result (named_at define_after bytes.now) }
+fn define(language: Language, alloc: Global, bytes: &[u8]) -> Result<TermStart<'_>, Cause>
+    ensures gives { Gives seen result (named_at language define_after bytes.now) }
     ensures alone { IfOk result IsAlone }
 {
-    let (name, rest) = name(alloc, bytes)?;
+    let (name, rest) = name(language, alloc, bytes)?;
     Ok(TermStart::Define(name, rest))
 }
 
-fn mutex(alloc: Global, bytes: &[u8]) -> Result<TermStart<'_>, Cause>
-    ensures gives { Gives seen result (named_at mutex_after bytes.now) }
+fn mutex(language: Language, alloc: Global, bytes: &[u8]) -> Result<TermStart<'_>, Cause>
+    ensures gives { Gives seen result (named_at language mutex_after bytes.now) }
     ensures alone { IfOk result IsAlone }
 {
-    let (name, rest) = name(alloc, bytes)?;
+    let (name, rest) = name(language, alloc, bytes)?;
     let Some((level, rest)) = rest.split_first() else {
         return Err(Cause::Truncated);
     };
@@ -189,65 +220,65 @@ fn mutex(alloc: Global, bytes: &[u8]) -> Result<TermStart<'_>, Cause>
     Ok(TermStart::Leaf(Term::Mutex { name, level }, rest))
 }
 
-fn acquire(alloc: Global, bytes: &[u8]) -> Result<TermStart<'_>, Cause>
-    ensures gives { Gives seen result (named_at acquire_after bytes.now) }
+fn acquire(language: Language, alloc: Global, bytes: &[u8]) -> Result<TermStart<'_>, Cause>
+    ensures gives { Gives seen result (named_at language acquire_after bytes.now) }
     ensures alone { IfOk result IsAlone }
 {
-    let (name, rest) = name(alloc, bytes)?;
+    let (name, rest) = name(language, alloc, bytes)?;
     let (timeout, rest) = number(2, rest)?;
     let timeout = timeout as u16;
     Ok(TermStart::Leaf(Term::Acquire { name, timeout }, rest))
 }
 
-fn release(alloc: Global, bytes: &[u8]) -> Result<TermStart<'_>, Cause>
-    ensures gives { Gives seen result (named_at release_after bytes.now) }
+fn release(language: Language, alloc: Global, bytes: &[u8]) -> Result<TermStart<'_>, Cause>
+    ensures gives { Gives seen result (named_at language release_after bytes.now) }
     ensures alone { IfOk result IsAlone }
 {
-    let (name, rest) = name(alloc, bytes)?;
+    let (name, rest) = name(language, alloc, bytes)?;
     Ok(TermStart::Leaf(Term::Release { name }, rest))
 }
 
-fn region(alloc: Global, bytes: &[u8]) -> Result<TermStart<'_>, Cause>
-    ensures gives { Gives seen result (named_at region_after bytes.now) }
+fn region(language: Language, alloc: Global, bytes: &[u8]) -> Result<TermStart<'_>, Cause>
+    ensures gives { Gives seen result (named_at language region_after bytes.now) }
     ensures alone { IfOk result IsAlone }
 {
-    let (name, rest) = name(alloc, bytes)?;
+    let (name, rest) = name(language, alloc, bytes)?;
     let Some((space, rest)) = rest.split_first() else {
         return Err(Cause::Truncated);
     };
     Ok(TermStart::Region(name, *space, rest))
 }
 
-fn scope(alloc: Global, bytes: &[u8]) -> Result<TermStart<'_>, Cause>
-    ensures gives { Gives seen result (framed_at scope_inside bytes.now) }
+fn scope(language: Language, alloc: Global, bytes: &[u8]) -> Result<TermStart<'_>, Cause>
+    ensures gives { Gives seen result (framed_at language scope_inside bytes.now) }
     ensures alone { IfOk result IsAlone }
 {
     let (width, content, after) = frame(bytes)?;
-    let (name, inside) = name(alloc, content)?;
+    let (name, inside) = name(language, alloc, content)?;
     Ok(TermStart::Block(Block::Scope(width, name), inside, after))
 }
 
-fn device(alloc: Global, bytes: &[u8]) -> Result<TermStart<'_>, Cause>
-    ensures gives { Gives seen result (framed_at device_inside bytes.now) }
+fn device(language: Language, alloc: Global, bytes: &[u8]) -> Result<TermStart<'_>, Cause>
+    ensures gives { Gives seen result (framed_at language device_inside bytes.now) }
     ensures alone { IfOk result IsAlone }
 {
     let (width, content, after) = frame(bytes)?;
-    let (name, inside) = name(alloc, content)?;
+    let (name, inside) = name(language, alloc, content)?;
     Ok(TermStart::Block(Block::Device(width, name), inside, after))
 }
 
-fn method(alloc: Global, bytes: &[u8]) -> Result<TermStart<'_>, Cause>
-    ensures gives { Gives seen result (framed_at method_inside bytes.now) }
+fn method(language: Language, alloc: Global, bytes: &[u8]) -> Result<TermStart<'_>, Cause>
+    ensures gives { Gives seen result (framed_at language (method_inside language) bytes.now) }
     ensures alone { IfOk result IsAlone }
 {
     let (width, content, after) = frame(bytes)?;
-    let (name, inside) = name(alloc, content)?;
+    let (name, inside) = name(language, alloc, content)?;
     let Some((flags, inside)) = inside.split_first() else {
         return Err(Cause::Truncated);
     };
     let flags = *flags;
     if flags >= 16 {
-        return Err(Cause::Flags);
+        return leveled(language, width, name, flags, inside, after);
     }
     Ok(TermStart::Block(
         Block::Method(width, name, flags % 8, flags >= 8),
@@ -256,12 +287,97 @@ fn method(alloc: Global, bytes: &[u8]) -> Result<TermStart<'_>, Cause>
     ))
 }
 
-fn power_resource(alloc: Global, bytes: &[u8]) -> Result<TermStart<'_>, Cause>
-    ensures gives { Gives seen result (framed_at power_inside bytes.now) }
+// A method with a synchronization level.
+fn leveled<'a>(
+    language: Language,
+    width: u8,
+    name: NameString,
+    flags: u8,
+    inside: &'a [u8],
+    after: &'a [u8],
+) -> Result<TermStart<'a>, Cause>
+    ensures gives { Gives seen result (further language
+        (Ok (fills (def_leveled_method name (flags % 8) (nat_le 8 (flags % 16)) (flags / 16)) width inside.now after.now))) }
+    ensures alone { IfOk result IsAlone }
+{
+    if !language.is_standard() {
+        return Err(Cause::Flags);
+    }
+    Ok(TermStart::Block(
+        Block::LeveledMethod(width, name, flags % 8, flags % 16 >= 8, flags / 16),
+        inside,
+        after,
+    ))
+}
+
+fn external(language: Language, alloc: Global, bytes: &[u8]) -> Result<TermStart<'_>, Cause>
+    ensures gives { Gives seen result (further language (named_at language external_after bytes.now)) }
+    ensures alone { IfOk result IsAlone }
+{
+    if !language.is_standard() {
+        return Err(Cause::Opcode);
+    }
+    let (name, rest) = name(language, alloc, bytes)?;
+    let [kind, args, rest @ ..] = rest else {
+        return Err(Cause::Truncated);
+    };
+    let (kind, args) = (*kind, *args);
+    Ok(TermStart::Leaf(Term::External { name, kind, args }, rest))
+}
+
+fn thermal_zone(language: Language, alloc: Global, bytes: &[u8]) -> Result<TermStart<'_>, Cause>
+    ensures gives { Gives seen result (further language (framed_at language thermal_inside bytes.now)) }
+    ensures alone { IfOk result IsAlone }
+{
+    if !language.is_standard() {
+        return Err(Cause::Opcode);
+    }
+    let (width, content, after) = frame(bytes)?;
+    let (name, inside) = name(language, alloc, content)?;
+    Ok(TermStart::Block(Block::ThermalZone(width, name), inside, after))
+}
+
+fn registers<'a>(
+    width: u8,
+    name: NameString,
+    bytes: &'a [u8],
+    after: &'a [u8],
+) -> Result<TermStart<'a>, Cause>
+    ensures gives { Gives seen result (processor_inside width name bytes.now after.now) }
+    ensures alone { IfOk result IsAlone }
+{
+    let Some((id, rest)) = bytes.split_first() else {
+        return Err(Cause::Truncated);
+    };
+    let (address, rest) = number(4, rest)?;
+    let Some((size, inside)) = rest.split_first() else {
+        return Err(Cause::Truncated);
+    };
+    Ok(TermStart::Block(
+        Block::Processor(width, name, *id, address as u32, *size),
+        inside,
+        after,
+    ))
+}
+
+fn processor(language: Language, alloc: Global, bytes: &[u8]) -> Result<TermStart<'_>, Cause>
+    ensures gives { Gives seen result (further language (framed_at language processor_inside bytes.now)) }
+    ensures alone { IfOk result IsAlone }
+{
+    if !language.is_standard() {
+        return Err(Cause::Opcode);
+    }
+    let (width, content, after) = frame(bytes)?;
+    let (name, inside) = name(language, alloc, content)?;
+    registers(width, name, inside, after)
+}
+
+fn power_resource(language: Language, alloc: Global, bytes: &[u8]) -> Result<TermStart<'_>, Cause>
+    ensures gives { Gives seen result (framed_at language power_inside bytes.now) }
     ensures alone { IfOk result IsAlone }
 {
     let (width, content, after) = frame(bytes)?;
-    let (name, inside) = name(alloc, content)?;
+    let (name, inside) = name(language, alloc, content)?;
     let Some((level, inside)) = inside.split_first() else {
         return Err(Cause::Truncated);
     };
@@ -307,13 +423,62 @@ fn flagged<'a>(
     ))
 }
 
-fn field(alloc: Global, bytes: &[u8]) -> Result<TermStart<'_>, Cause>
-    ensures gives { Gives seen result (framed_at field_inside bytes.now) }
+fn field(language: Language, alloc: Global, bytes: &[u8]) -> Result<TermStart<'_>, Cause>
+    ensures gives { Gives seen result (framed_at language field_inside bytes.now) }
     ensures alone { IfOk result IsAlone }
 {
     let (width, content, after) = frame(bytes)?;
-    let (name, inside) = name(alloc, content)?;
+    let (name, inside) = name(language, alloc, content)?;
     flagged(alloc, width, name, inside, after)
+}
+
+fn indexed<'a>(
+    alloc: Global,
+    width: u8,
+    index: NameString,
+    name: NameString,
+    bytes: &[u8],
+    after: &'a [u8],
+) -> Result<TermStart<'a>, Cause>
+    ensures gives { Gives seen result (index_flags width index name bytes.now after.now) }
+    ensures alone { IfOk result IsAlone }
+{
+    let Some((flags, rest)) = bytes.split_first() else {
+        return Err(Cause::Truncated);
+    };
+    let flags = *flags;
+    if flags % 16 >= 6 {
+        return Err(Cause::Flags);
+    }
+    if flags >= 96 {
+        return Err(Cause::Flags);
+    }
+    let entries = entries(alloc, rest)?;
+    Ok(TermStart::Leaf(
+        Term::IndexField {
+            width,
+            index,
+            name,
+            access: flags % 16,
+            lock: flags / 16 % 2,
+            update: flags / 32,
+            entries,
+        },
+        after,
+    ))
+}
+
+fn index_field(language: Language, alloc: Global, bytes: &[u8]) -> Result<TermStart<'_>, Cause>
+    ensures gives { Gives seen result (further language (framed_at language (index_inside language) bytes.now)) }
+    ensures alone { IfOk result IsAlone }
+{
+    if !language.is_standard() {
+        return Err(Cause::Opcode);
+    }
+    let (width, content, after) = frame(bytes)?;
+    let (index, rest) = name(language, alloc, content)?;
+    let (name, inside) = name(language, alloc, rest)?;
+    indexed(alloc, width, index, name, inside, after)
 }
 
 fn otherwise(bytes: &[u8]) -> Result<TermStart<'_>, Cause>
@@ -348,14 +513,17 @@ fn var_package(bytes: &[u8]) -> Result<TermStart<'_>, Cause>
     Ok(TermStart::FirstAndBlock(FirstAndBlock::VarPackage(width), content, after))
 }
 
-fn package(bytes: &[u8]) -> Result<TermStart<'_>, Cause>
-    ensures gives { Gives seen result (package_at bytes.now) }
+fn package(language: Language, bytes: &[u8]) -> Result<TermStart<'_>, Cause>
+    ensures gives { Gives seen result (package_at language bytes.now) }
     ensures alone { IfOk result IsAlone }
 {
     let (width, content, after) = frame(bytes)?;
     let Some((count, inside)) = content.split_first() else {
         return Err(Cause::Truncated);
     };
+    if language.is_standard() {
+        return Ok(TermStart::Rooms(width, *count, inside, after));
+    }
     Ok(TermStart::Package(width, *count, inside, after))
 }
 
@@ -367,36 +535,39 @@ fn buffer(bytes: &[u8]) -> Result<TermStart<'_>, Cause>
     Ok(TermStart::Buffer(width, content, after))
 }
 
-fn operator<'a>(code: &[u8], rest: &'a [u8]) -> Result<TermStart<'a>, Cause>
-    ensures gives { Gives seen result (operator_at (op_of code.now) rest.now) }
+fn operator<'a>(language: Language, code: &[u8], rest: &'a [u8]) -> Result<TermStart<'a>, Cause>
+    ensures gives { Gives seen result (operator_at language (op_of code.now) rest.now) }
     ensures alone { IfOk result IsAlone }
 {
     match Op::from_code(code) {
-        None => Err(Cause::Opcode),
-        Some(op) => Ok(TermStart::Operator(op, rest)),
+        Some(op) if language.has(op.language()) => Ok(TermStart::Operator(op, rest)),
+        _ => Err(Cause::Opcode),
     }
 }
 
 /// Reads the head of a term after the byte 5B.
-fn extended(alloc: Global, bytes: &[u8]) -> Result<TermStart<'_>, Cause>
-    ensures gives { Gives seen result (extended_at bytes.now) }
+fn extended(language: Language, alloc: Global, bytes: &[u8]) -> Result<TermStart<'_>, Cause>
+    ensures gives { Gives seen result (extended_at language bytes.now) }
     ensures alone { IfOk result IsAlone }
 {
     match bytes {
         [] => Err(Cause::Truncated),
-        [0x01, rest @ ..] => mutex(alloc, rest),
-        [0x23, rest @ ..] => acquire(alloc, rest),
-        [0x27, rest @ ..] => release(alloc, rest),
-        [0x80, rest @ ..] => region(alloc, rest),
-        [0x81, rest @ ..] => field(alloc, rest),
-        [0x82, rest @ ..] => device(alloc, rest),
-        [0x84, rest @ ..] => power_resource(alloc, rest),
-        [byte, rest @ ..] => operator(&[0x5b, *byte], rest),
+        [0x01, rest @ ..] => mutex(language, alloc, rest),
+        [0x23, rest @ ..] => acquire(language, alloc, rest),
+        [0x27, rest @ ..] => release(language, alloc, rest),
+        [0x80, rest @ ..] => region(language, alloc, rest),
+        [0x81, rest @ ..] => field(language, alloc, rest),
+        [0x82, rest @ ..] => device(language, alloc, rest),
+        [0x83, rest @ ..] => processor(language, alloc, rest),
+        [0x84, rest @ ..] => power_resource(language, alloc, rest),
+        [0x85, rest @ ..] => thermal_zone(language, alloc, rest),
+        [0x86, rest @ ..] => index_field(language, alloc, rest),
+        [byte, rest @ ..] => operator(language, &[0x5b, *byte], rest),
     }
 }
 
-fn local_or_operator(byte: u8, rest: &[u8]) -> Result<TermStart<'_>, Cause>
-    ensures gives { Gives seen result (local_at byte rest.now) }
+fn local_or_operator(language: Language, byte: u8, rest: &[u8]) -> Result<TermStart<'_>, Cause>
+    ensures gives { Gives seen result (local_at language byte rest.now) }
     ensures alone { IfOk result IsAlone }
 {
     if byte >= 0x60 && byte <= 0x67 {
@@ -405,57 +576,68 @@ fn local_or_operator(byte: u8, rest: &[u8]) -> Result<TermStart<'_>, Cause>
     if byte >= 0x68 && byte <= 0x6e {
         return Ok(TermStart::Leaf(Term::Arg(byte - 0x68), rest));
     }
-    operator(&[byte], rest)
+    operator(language, &[byte], rest)
 }
 
-fn opcode(alloc: Global, byte: u8, rest: &[u8]) -> Result<TermStart<'_>, Cause>
-    ensures gives { Gives seen result (opcode_at byte rest.now) }
+fn opcode(language: Language, alloc: Global, byte: u8, rest: &[u8]) -> Result<TermStart<'_>, Cause>
+    ensures gives { Gives seen result (opcode_at language byte rest.now) }
     ensures alone { IfOk result IsAlone }
 {
     match byte {
         0x00 | 0x01 => Ok(small_number(byte, rest)),
-        0x08 => define(alloc, rest),
+        0x08 => define(language, alloc, rest),
         0x0a => wide_number(1, rest),
         0x0b => wide_number(2, rest),
         0x0c => wide_number(4, rest),
         0x0d => string(alloc, rest),
         0x0e => wide_number(8, rest),
-        0x10 => scope(alloc, rest),
+        0x10 => scope(language, alloc, rest),
         0x11 => buffer(rest),
-        0x12 => package(rest),
+        0x12 => package(language, rest),
         0x13 => var_package(rest),
-        0x14 => method(alloc, rest),
-        0x5b => extended(alloc, rest),
+        0x14 => method(language, alloc, rest),
+        0x15 => external(language, alloc, rest),
+        0x5b => extended(language, alloc, rest),
         0xa0 => branch(rest),
         0xa1 => otherwise(rest),
         0xa2 => repetition(rest),
         0xff => Ok(TermStart::Leaf(Term::Ones, rest)),
-        _ => local_or_operator(byte, rest),
+        _ => local_or_operator(language, byte, rest),
     }
 }
 
 #[tactic(auto, unfolding(acpi_term::specs::Reading::open_at))]
-fn open_head<'a>(arities: &Arities, mode: Mode, bytes: &'a [u8]) -> Result<TermStart<'a>, Cause>
-    ensures gives { Gives seen result (open_at (arity arities.now) mode bytes.now) }
+fn open_head<'a>(
+    language: Language,
+    arities: &Arities,
+    mode: Mode,
+    bytes: &'a [u8],
+) -> Result<TermStart<'a>, Cause>
+    ensures gives { Gives seen result (open_at (grammar_of language (arity arities.now)) mode bytes.now) }
     ensures alone { IfOk result IsAlone }
 {
     let alloc = arities.allocator();
     let Some((byte, rest)) = bytes.split_first() else {
         return Err(Cause::Truncated);
     };
-    if !begins_name(*byte) {
-        return opcode(alloc, *byte, rest);
+    if !begins_name(language, *byte) {
+        return opcode(language, alloc, *byte, rest);
     }
-    let (name, rest) = name(alloc, bytes)?;
+    let (name, rest) = name(language, alloc, bytes)?;
     let count = arguments(arities, mode, name.as_bytes());
     Ok(TermStart::Call(name, count, rest))
 }
 
 /// Reads the head of the term at the front. Its children are read from bytes within the given ones.
-pub fn open<'a>(arities: &Arities, mode: Mode, bytes: &'a [u8]) -> Result<TermStart<'a>, Cause>
-    ensures gives { Gives seen result (open_at (arity arities.now) mode bytes.now) }
+pub fn open<'a>(
+    language: Language,
+    arities: &Arities,
+    mode: Mode,
+    bytes: &'a [u8],
+) -> Result<TermStart<'a>, Cause>
+    ensures gives { Gives seen result (open_at (grammar_of language (arity arities.now)) mode bytes.now) }
     ensures alone { IfOk result IsAlone }
     ensures within { IfOk result (λ opened. LiesWithin (length bytes.now) (seen opened)) }
 {
-    open_head(arities, mode, bytes)
+    open_head(language, arities, mode, bytes)
 }

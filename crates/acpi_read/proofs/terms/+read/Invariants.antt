@@ -1,4 +1,5 @@
 use Rattle.std.proofs.Common.{◌+◌, ◌*◌, length}
+use Rattle.acpi_term.specs.Language.{grammar_of}
 use Rattle.acpi_term.specs.Arity.{arity}
 use Rattle.acpi_term.specs.View.{views}
 use Rattle.acpi_term.specs.Reading.{term_at}
@@ -38,14 +39,17 @@ decreases-first_and_block l = 4 * l.depth + 2
 abbrev pub decreases-package : goal.decreases-package
 decreases-package l = 4 * l.depth + 2
 
+abbrev pub decreases-roomy : goal.decreases-roomy
+decreases-roomy l = 4 * l.depth + 2
+
 abbrev pub decreases-buffer : goal.decreases-buffer
 decreases-buffer l = 4 * l.depth + 2
 
 abbrev pub invariant-all-all : goal.invariant-all-all
-invariant-all-all l = AllRead (term_at (arity l.arities) l.depth) l.fn.mode l.bytes (views l.terms.items) l.at l.rest
+invariant-all-all l = AllRead (term_at (grammar_of l.language (arity l.arities)) l.depth) l.fn.mode l.bytes (views l.terms.items) l.at l.rest
 
 abbrev pub decreases-all-all : goal.decreases-all-all
 decreases-all-all l = length l.rest
 
 abbrev pub invariant-several-several : goal.invariant-several-several
-invariant-several-several l = SeveralRead (term_at (arity l.arities) l.depth) l.fn.mode l.count l.counter l.bytes (views l.terms.items) l.at l.rest
+invariant-several-several l = SeveralRead (term_at (grammar_of l.language (arity l.arities)) l.depth) l.fn.mode l.count l.counter l.bytes (views l.terms.items) l.at l.rest

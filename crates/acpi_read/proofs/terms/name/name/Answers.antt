@@ -5,4 +5,4 @@ use Rattle.acpi_read.proofs.terms.name.name.Goals as goal
 
 pub name_of-requires : goal.name_of-requires
 name_of-requires c =
-    is_name c.args.bytes.now c.in_ok-spelling.spelling.now c.in_ok-spelling.rest.now (bytes_each c.args.bytes.now (λ i. omega (arith, c.type_inv.bytes i))) c.in_ok-spelling.ensures
+    is_name c.args.language c.args.bytes.now c.in_ok-spelling.spelling.now c.in_ok-spelling.rest.now (bytes_each c.args.bytes.now (λ i. omega (arith, c.type_inv.bytes i))) c.in_ok-spelling.ensures
