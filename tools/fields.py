@@ -28,8 +28,8 @@ FURTHER = "acpi_forms/src/further/"
 UNSEEN = ["Before the Interrupt Wires", "Before the Mappings", "Before the Timers", "Before the Addresses", "Before the Sizes"]
 UNSEEN += ["Before the Name", "Before the OEM Data", "Before the Context Interrupts", "Before the PMU Interrupts"]
 UNSEEN += ["Before the Descriptors", "Before the Namespace String", "Without PASID", "Device Handle", "Header"]
-# A structure that is only read: it is in cases/further.cases.
-UNSEEN += ["Generic Port Affinity Structure"]
+# Structures that are only read: they are in cases/further.cases.
+UNSEEN += ["Multiprocessor Wakeup Structure", "Generic Port Affinity Structure"]
 
 
 def read(path):

@@ -33,6 +33,7 @@ madt_kinds =
     ∷ (13, codes "GIC MSI Frame Structure")
     ∷ (14, codes "GIC Redistributor (GICR) Structure")
     ∷ (15, codes "GIC Interrupt Translation Service (ITS) Structure")
+    ∷ (16, codes "Multiprocessor Wakeup Structure")
     ∷ (24, codes "RISC-V INTC Structure")
     ∷ (25, codes "RISC-V IMSIC Structure")
     ∷ (26, codes "RISC-V APLIC Structure")
@@ -136,19 +137,19 @@ tables =
       kinds = [];
     }
     ∷ record { signature = codes "TPM2"; name = codes "Trusted Platform Module 2 Table (TPM2)"; kinds = [] }
-    ∷ []
-
--- tables that are lists of structures
-abbrev pub list_tables : List Named
-list_tables =
-    record {
+    ∷ record {
       signature = codes "MCFG";
       name = codes "PCI Express Memory Mapped Configuration Table (MCFG)";
       kinds = (0, codes "Configuration Space Base Address Allocation Structure") ∷ [];
     }
-    ∷ record { signature = codes "APIC"; name = codes "Multiple APIC Description Table (MADT)"; kinds = madt_kinds }
     ∷ record { signature = codes "SRAT"; name = codes "System Resource Affinity Table (SRAT)"; kinds = srat_kinds }
     ∷ record { signature = codes "CEDT"; name = codes "CXL Early Discovery Table (CEDT)"; kinds = cedt_kinds }
+    ∷ []
+
+-- the MADT
+abbrev pub madt_tables : List Named
+madt_tables =
+    record { signature = codes "APIC"; name = codes "Multiple APIC Description Table (MADT)"; kinds = madt_kinds }
     ∷ []
 
 -- tables of errors, of nodes and of matrices
@@ -215,9 +216,9 @@ arm_names s = find_named s arm_tables (boot_names s)
 abbrev pub node_names : ℕ → Named
 node_names s = find_named s node_tables (arm_names s)
 
-abbrev pub list_names : ℕ → Named
-list_names s = find_named s list_tables (node_names s)
+abbrev pub madt_names : ℕ → Named
+madt_names s = find_named s madt_tables (node_names s)
 
 -- the names of the tables of a signature, which is given as a number, lowest byte first
 unfoldable pub names_of : ℕ → Named
-names_of s = find_named s tables (list_names s)
+names_of s = find_named s tables (madt_names s)

@@ -4,7 +4,7 @@ ghost use Rattle.std.specs.Prelude.{◌≡◌};
 ghost use Rattle.acpi_base.specs.Walk.{named};
 ghost use Rattle.acpi_forms.specs.Named.{find_form, names_of, rsdp_names, facs_names, IsNamed};
 ghost use Rattle.acpi_forms.specs.Named.{boot_names, security_names, faults_names, devices_names};
-ghost use Rattle.acpi_forms.specs.Named.{list_names, node_names, arm_names};
+ghost use Rattle.acpi_forms.specs.Named.{madt_names, node_names, arm_names};
 
 use crate::arm::{DBG2, GTDT, IORT};
 use crate::fixed::{BERT, DSDT, FACS, FADT, RSDP, SPCR, SSDT, TCPA, TPM2, UNKNOWN};
@@ -15,9 +15,9 @@ use crate::matrices::{HMAT, SLIT};
 use crate::nodes::{PPTT, RHCT, RIMT, VIOT};
 use acpi_text::form::TableForm;
 
-// The forms of tables, by their signatures: of the XSDT and of tables of fixed size.
+// The forms of tables, by their signatures: of tables of fixed size, and of lists of structures.
 #[rattlefmt::skip]
-const FORMS: [([u8; 4], TableForm); 9] = [
+const FORMS: [([u8; 4], TableForm); 12] = [
     (*b"XSDT", XSDT),
     (*b"FACP", FADT),
     (*b"FACS", FACS),
@@ -27,15 +27,15 @@ const FORMS: [([u8; 4], TableForm); 9] = [
     (*b"SPCR", SPCR),
     (*b"TCPA", TCPA),
     (*b"TPM2", TPM2),
-];
-
-// Those of tables that are lists of structures.
-#[rattlefmt::skip]
-const LIST_FORMS: [([u8; 4], TableForm); 4] = [
     (*b"MCFG", MCFG),
-    (*b"APIC", MADT),
     (*b"SRAT", SRAT),
     (*b"CEDT", CEDT),
+];
+
+// That of the MADT, which has as many structures as the tables of a list together.
+#[rattlefmt::skip]
+const MADT_FORMS: [([u8; 4], TableForm); 1] = [
+    (*b"APIC", MADT),
 ];
 
 // Those of tables of errors, of nodes and of matrices.
@@ -117,10 +117,10 @@ fn node_form(signature: u32) -> TableForm
     find_form(signature, &NODE_FORMS, arm_form(signature))
 }
 
-fn list_form(signature: u32) -> TableForm
-    ensures { IsNamed result (list_names signature) }
+fn madt_form(signature: u32) -> TableForm
+    ensures { IsNamed result (madt_names signature) }
 {
-    find_form(signature, &LIST_FORMS, node_form(signature))
+    find_form(signature, &MADT_FORMS, node_form(signature))
 }
 
 /// Returns the form of the tables of a signature, which is given as a number, lowest byte first. A table of another signature
@@ -128,7 +128,7 @@ fn list_form(signature: u32) -> TableForm
 pub fn form_of(signature: u32) -> TableForm
     ensures { IsNamed result (names_of signature) }
 {
-    find_form(signature, &FORMS, list_form(signature))
+    find_form(signature, &FORMS, madt_form(signature))
 }
 
 /// Returns the form of a Root System Description Pointer (ACPI 6.5, 5.2.5.3), which has no standard header.

@@ -22,6 +22,7 @@ pub mod hpet;
 pub mod ibft;
 pub mod ivrs;
 pub mod lpit;
+pub mod madt;
 pub mod mchi;
 pub mod mpam;
 pub mod mpst;

@@ -1,5 +1,6 @@
 //! The forms of tables that are lists of structures.
 
+use crate::further::madt::WAKEUP_ROWS;
 use crate::further::srat::GENERIC_PORT_ROWS;
 use acpi_base::header::HEADER;
 use acpi_base::row::Row;
@@ -42,7 +43,7 @@ pub const MCFG: TableForm = TableForm {
     }],
 };
 
-const MADT_STRUCTURES: [StructureForm; 17] = [
+const MADT_STRUCTURES: [StructureForm; 18] = [
     StructureForm {
         number: 0,
         name: "Processor Local APIC Structure",
@@ -119,6 +120,12 @@ const MADT_STRUCTURES: [StructureForm; 17] = [
         number: 15,
         name: "GIC Interrupt Translation Service (ITS) Structure",
         parts: &[Part::Fields(&GIC_ITS)],
+        inner: &Inner::Nothing,
+    },
+    StructureForm {
+        number: 16,
+        name: "Multiprocessor Wakeup Structure",
+        parts: &[Part::Fields(&WAKEUP_ROWS)],
         inner: &Inner::Nothing,
     },
     StructureForm {

@@ -34,8 +34,8 @@ pub use arm::{
     GIC_ITS, GIC_MSI, GICC, GICD, GICR, GicIts, GicMsi, GicVersion, Gicc, Gicd, Gicr, Trigger,
 };
 pub use interrupts::{
-    INTERRUPT_SOURCE_OVERRIDE, INTI_FLAGS, InterruptSourceOverride, LOCAL_APIC_NMI,
-    LOCAL_X2APIC_NMI, LocalApicNmi, LocalX2ApicNmi, NMI_SOURCE, NmiSource, Polarity, TriggerMode,
+    INTERRUPT_SOURCE_OVERRIDE, InterruptSourceOverride, LOCAL_APIC_NMI, LOCAL_X2APIC_NMI,
+    LocalApicNmi, LocalX2ApicNmi, NMI_SOURCE, NmiSource, Polarity, TriggerMode,
 };
 pub use local_apics::{
     LOCAL_APIC_ADDRESS_OVERRIDE, LocalApicAddressOverride, PROCESSOR_LOCAL_X2APIC,

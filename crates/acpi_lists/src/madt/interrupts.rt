@@ -37,8 +37,8 @@ fn inti_flags(polarity: Polarity, trigger_mode: TriggerMode) -> u64
     polarity as u64 + 4 * (trigger_mode as u64)
 }
 
-/// The names of all MPS INTI flags without reserved values (ACPI 6.5, 5.2.12.5).
-pub const INTI_FLAGS: [Bits; 2] = [
+// The names of all MPS INTI flags without reserved values.
+const INTI_FLAGS: [Bits; 2] = [
     Bits::OneOf(
         0x3,
         &[
