@@ -21,13 +21,15 @@ HEADER = ["Signature", "Length", "Revision", "Checksum", "OEM ID", "OEM Table ID
 HEADER += ["Creator Revision"]
 REGISTER = ["Address Space ID", "Register Bit Width", "Register Bit Offset", "Access Size", "Address"]
 # Names of the sources that no line has. Lists begin right after the fields before them, so no bytes are before them. A device
-# handle is shown as one of its two kinds, and the header of a SLIT by the header's fields.
+# handle is shown as one of its two kinds, the header of a SLIT by the header's fields, and a root complex of IORT has revision 4.
 IN_NO_TABLE = ("hest/status.rt", "hest/error_data.rt")
 # The forms of tables that are only read. FORMATS has a section of its own on them.
 FURTHER = "acpi_forms/src/further/"
 UNSEEN = ["Before the Interrupt Wires", "Before the Mappings", "Before the Timers", "Before the Addresses", "Before the Sizes"]
 UNSEEN += ["Before the Name", "Before the OEM Data", "Before the Context Interrupts", "Before the PMU Interrupts"]
-UNSEEN += ["Before the Descriptors", "Device Handle", "Header"]
+UNSEEN += ["Before the Descriptors", "Before the Namespace String", "Without PASID", "Device Handle", "Header"]
+# Structures that are only read: they are in cases/further.cases.
+UNSEEN += ["Multiprocessor Wakeup Structure", "Generic Port Affinity Structure"]
 
 
 def read(path):

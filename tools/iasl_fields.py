@@ -30,10 +30,11 @@ EXPLAINED = [
     ("APIC", 27, 2, None, "iasl doesn't know the RISC-V PLIC structure of ACPI 6.6"),
     ("SRAT", 7, 2, None, "iasl doesn't know the RINTC affinity structure of ACPI 6.6"),
     ("PPTT", 1, 24, 28, "iasl doesn't know the cache id of ACPI 6.4"),
+    ("IORT", 2, 33, 40, "iasl doesn't know the PASID fields of IORT revision E.d"),
     ("IORT", 6, 16, None, "iasl doesn't know the reserved memory range of IORT revision E.d"),
     ("SPCR", None, 63, 64, "iasl gives the language the offset 76, which is that of the clock frequency"),
     ("SPCR", None, 76, 77, "iasl gives the language the offset 76, which is that of the clock frequency"),
-    ("SPCR", None, 80, 90, "iasl knows revision 2, which ends at offset 80"),
+    ("SPCR", None, 80, None, "iasl knows revision 2, which ends at offset 80"),
 ]
 
 FIELD = re.compile(r"\[[0-9A-F]+h (\d+) +(\d+)\] *(.*?) : (.*)")

@@ -125,18 +125,18 @@ arm_reads spcr 'SPCR length 90 revision 4 sum 0'
 arm_reads dbg2 'DBG2 length 92 revision 0 sum 0'
 arm_reads mcfg 'MCFG length 60 revision 1 sum 0
 44 entry size 16'
-arm_reads iort 'IORT length 216 revision 5 sum 0'
+arm_reads iort 'IORT length 220 revision 5 sum 0'
 lines=$("$tool" image "$work/arm/image" 40000000) || true
 echo "$lines"
 expect "$lines" '0x40000600 RSD  length 36 revision 2
-0x40000598 XSDT length 92 revision 1
+0x400005a0 XSDT length 92 revision 1
 0x40000130 FACP length 276 revision 6
 0x40000248 APIC length 268 revision 1
 0x40000358 GTDT length 104 revision 3
 0x400003c0 SPCR length 90 revision 4
 0x40000420 DBG2 length 92 revision 0
 0x40000480 MCFG length 60 revision 1
-0x400004c0 IORT length 216 revision 5
+0x400004c0 IORT length 220 revision 5
 0x40000000 DSDT length 298 revision 2'
 
 # A run of acpiread that prints no report: its status, its line, and its words.

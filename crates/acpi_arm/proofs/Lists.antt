@@ -189,7 +189,7 @@ nodes = record {
   component_mappings = component;
   root_complex_mappings = λ c few. record {
     counted = carried_le 4 c.mappings.count few;
-    stands = after_head (root_complex_head c) c.mappings.bytes c.mappings.count 36 refl (omega arith);
+    stands = after_head (root_complex_head c) c.mappings.bytes c.mappings.count 40 refl (omega arith);
   };
   contexts = λ s small few. contexts s few;
   monitors = monitors;

@@ -1,5 +1,5 @@
 -- The nodes of IORT but those of SMMUs (Arm DEN0049E.d).
-use Rattle.std.specs.Prelude.{ℕ, ◌+◌, ◌-◌, ◌*◌, ◌%◌, List, [], ◌∷◌, ◌++◌, length, String, string_bytes}
+use Rattle.std.specs.Prelude.{ℕ, ◌+◌, ◌-◌, ◌*◌, ◌%◌, List, [], ◌∷◌, ◌++◌, length, String, string_bytes, bit_or}
 use Rattle.std.specs.declared.alloc.Global.{Global}
 use Rattle.acpi_base.specs.Fields.{NamedField, byte, word, dword, qword, hex, preset}
 use Rattle.acpi_base.specs.Fields.{reference, flags, one_of, reserved, fields_joined}
@@ -47,6 +47,7 @@ abbrev pub named_component : String Global → NamedComponent
 named_component name = record {
   identifier = 0;
   flags = 0;
+  substream_width = 0;
   access = memory_access;
   address_size_limit = 0;
   name = name;
@@ -71,6 +72,9 @@ component_bits =
     ∷ part 0x3e 0x02 "Substream Width"
     ∷ []
 
+abbrev pub component_flags : NamedComponent → ℕ
+component_flags c = bit_or c.flags (2 * c.substream_width)
+
 -- the words of Cache Coherent Attribute
 abbrev pub coherent_words : List (ℕ × List ℕ)
 coherent_words =
@@ -86,7 +90,7 @@ component_head_fields c =
     ∷ hex dword "Identifier" c.identifier  -- 4
     ∷ dword "Number of ID Mappings" c.mappings.count  -- 8
     ∷ dword "Reference to ID Array" (offset_if c.mappings.count (component_start c))  -- 12
-    ∷ flags component_bits dword "Node Flags" c.flags  -- 16
+    ∷ flags component_bits dword "Node Flags" (component_flags c)  -- 16
     ∷ one_of coherent_words dword "Cache Coherent Attribute" c.access.cache_coherent  -- 20
     ∷ flags hint_bits byte "Allocation Hints" c.access.hints  -- 24
     ∷ reserved 2  -- 25
@@ -111,6 +115,8 @@ root_complex segment = record {
   ats_attribute = 0;
   segment = segment;
   address_size_limit = 0;
+  max_pasid_width = 0;
+  flags = 0;
   mappings = no_entries;
 }
 
@@ -122,14 +128,26 @@ ats_bits =
     ∷ flag 0x4 "PASID Forwarding Supported"
     ∷ []
 
+-- PASID Capabilities: Max PASID Width in bits 4:0
+abbrev pub pasid_bits : List Part
+pasid_bits =
+    part 0x1f 0x01 "Max PASID Width"
+    ∷ []
+
+-- Flags of a root complex
+abbrev pub root_complex_bits : List Part
+root_complex_bits =
+    flag 0x1 "PASID Supported"
+    ∷ []
+
 abbrev pub root_complex_head_fields : RootComplex → List NamedField
 root_complex_head_fields c =
     preset byte "Type" 2  -- 0
-    ∷ word "Length" (36 + length c.mappings.bytes)  -- 1
-    ∷ preset byte "Revision" 3  -- 3
+    ∷ word "Length" (40 + length c.mappings.bytes)  -- 1
+    ∷ preset byte "Revision" 4  -- 3
     ∷ hex dword "Identifier" c.identifier  -- 4
     ∷ dword "Number of ID Mappings" c.mappings.count  -- 8
-    ∷ dword "Reference to ID Array" (offset_if c.mappings.count 36)  -- 12
+    ∷ dword "Reference to ID Array" (offset_if c.mappings.count 40)  -- 12
     ∷ one_of coherent_words dword "Cache Coherent Attribute" c.access.cache_coherent  -- 16
     ∷ flags hint_bits byte "Allocation Hints" c.access.hints  -- 20
     ∷ reserved 2  -- 21
@@ -137,14 +155,16 @@ root_complex_head_fields c =
     ∷ flags ats_bits dword "ATS Attribute" c.ats_attribute  -- 24
     ∷ dword "PCI Segment Number" c.segment  -- 28
     ∷ byte "Memory Address Size Limit" c.address_size_limit  -- 32
-    ∷ reserved 3  -- 33
+    ∷ flags pasid_bits word "PASID Capabilities" c.max_pasid_width  -- 33
+    ∷ reserved 1  -- 35
+    ∷ flags root_complex_bits dword "Flags" c.flags  -- 36
     ∷ []
 
 abbrev pub root_complex_head : RootComplex → List ℕ
 root_complex_head c = fields_joined (root_complex_head_fields c)
 
 abbrev pub root_complex_bytes : RootComplex → List ℕ
-root_complex_bytes c = root_complex_head c ++ c.mappings.bytes  -- 36: ID mappings
+root_complex_bytes c = root_complex_head c ++ c.mappings.bytes  -- 40: ID mappings
 
 -- ---- Performance Monitoring Counter Group (PMCG)
 

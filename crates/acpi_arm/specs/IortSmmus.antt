@@ -1,5 +1,5 @@
 -- The nodes of SMMUs in IORT (Arm DEN0049E.d).
-use Rattle.std.specs.Prelude.{ℕ, ◌+◌, List, [], ◌∷◌, ◌++◌, length}
+use Rattle.std.specs.Prelude.{ℕ, ◌+◌, List, [], ◌∷◌, ◌++◌, length, bit_or}
 use Rattle.acpi_base.specs.Fields.{NamedField, byte, word, dword, qword, hex, preset, flags, one_of, reserved, fields_joined}
 use Rattle.acpi_base.specs.Look.{Part, flag, choice, means}
 use Rattle.acpi_core.specs.Entries.{no_entries}
@@ -131,6 +131,7 @@ smmu_v3 model base = record {
   identifier = 0;
   base = base;
   flags = 0;
+  httu = 0;
   vatos_address = 0;
   model = model;
   event_gsiv = 0;
@@ -171,7 +172,7 @@ smmu_v3_head_fields s =
     ∷ dword "Number of ID Mappings" s.mappings.count  -- 8
     ∷ dword "Reference to ID Array" (offset_if s.mappings.count 68)  -- 12
     ∷ hex qword "Base Address" s.base  -- 16
-    ∷ flags smmu_v3_bits dword "Flags" s.flags  -- 24
+    ∷ flags smmu_v3_bits dword "Flags" (bit_or s.flags s.httu)  -- 24
     ∷ reserved 4  -- 28
     ∷ hex qword "VATOS Address" s.vatos_address  -- 32
     ∷ one_of model_3_words dword "Model" (model_3_number s.model)  -- 40

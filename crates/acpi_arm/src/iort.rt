@@ -33,8 +33,8 @@ use acpi_core::kind::Kind;
 use acpi_core::table::Table;
 use acpi_core::walked::{Walked, is_walked};
 pub use components::{
-    NAMED_COMPONENT, NamedComponent, ROOT_COMPLEX, RootComplex, named_component_rows,
-    root_complex_rows,
+    NAMED_COMPONENT, NamedComponent, ROOT_COMPLEX, ROOT_COMPLEX_PASID, RootComplex,
+    named_component_rows, root_complex_rows,
 };
 pub use its::{ITS_GROUP, ItsGroup, its_group_rows};
 pub use mapping::{ID_MAPPING, IdMapping, MemoryAccess, Output};

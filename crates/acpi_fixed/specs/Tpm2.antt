@@ -41,7 +41,7 @@ method_words =
     ∷ means 6 "Memory Mapped I/O"
     ∷ means 7 "Command Response Buffer"
     ∷ means 8 "Command Response Buffer with ACPI Start Method"
-    ∷ means 11 "Command Response Buffer with Arm SMC or HVC"
+    ∷ means 11 "Command Response Buffer with Arm Secure Monitor or Hypervisor Call"
     ∷ means 12 "FIFO over I2C"
     ∷ []
 

@@ -400,7 +400,10 @@ pub const TPM2_FIXED: [Row; 7] = [
             Word(6, "Memory Mapped I/O"),
             Word(7, "Command Response Buffer"),
             Word(8, "Command Response Buffer with ACPI Start Method"),
-            Word(11, "Command Response Buffer with Arm SMC or HVC"),
+            Word(
+                11,
+                "Command Response Buffer with Arm Secure Monitor or Hypervisor Call",
+            ),
             Word(12, "FIFO over I2C"),
         ],
     ),

@@ -33,6 +33,7 @@ madt_kinds =
     ∷ (13, codes "GIC MSI Frame Structure")
     ∷ (14, codes "GIC Redistributor (GICR) Structure")
     ∷ (15, codes "GIC Interrupt Translation Service (ITS) Structure")
+    ∷ (16, codes "Multiprocessor Wakeup Structure")
     ∷ (24, codes "RISC-V INTC Structure")
     ∷ (25, codes "RISC-V IMSIC Structure")
     ∷ (26, codes "RISC-V APLIC Structure")
@@ -48,6 +49,7 @@ srat_kinds =
     ∷ (3, codes "GICC Affinity Structure")
     ∷ (4, codes "GIC Interrupt Translation Service (ITS) Affinity Structure")
     ∷ (5, codes "Generic Initiator Affinity Structure")
+    ∷ (6, codes "Generic Port Affinity Structure")
     ∷ (7, codes "RINTC Affinity Structure")
     ∷ []
 
@@ -123,7 +125,7 @@ iort_kinds =
 abbrev pub tables : List Named
 tables =
     record { signature = codes "XSDT"; name = codes "Extended System Description Table (XSDT)"; kinds = (0, codes "Entry") ∷ [] }
-    ∷ record { signature = codes "FACP"; name = codes "Fixed ACPI Description Table (FACP)"; kinds = [] }
+    ∷ record { signature = codes "FACP"; name = codes "Fixed ACPI Description Table (FADT)"; kinds = [] }
     ∷ record { signature = codes "FACS"; name = codes "Firmware ACPI Control Structure (FACS)"; kinds = [] }
     ∷ record { signature = codes "DSDT"; name = codes "Differentiated System Description Table (DSDT)"; kinds = [] }
     ∷ record { signature = codes "SSDT"; name = codes "Secondary System Description Table (SSDT)"; kinds = [] }
@@ -140,18 +142,41 @@ tables =
       name = codes "PCI Express Memory Mapped Configuration Table (MCFG)";
       kinds = (0, codes "Configuration Space Base Address Allocation Structure") ∷ [];
     }
-    ∷ record { signature = codes "APIC"; name = codes "Multiple APIC Description Table (APIC)"; kinds = madt_kinds }
     ∷ record { signature = codes "SRAT"; name = codes "System Resource Affinity Table (SRAT)"; kinds = srat_kinds }
     ∷ record { signature = codes "CEDT"; name = codes "CXL Early Discovery Table (CEDT)"; kinds = cedt_kinds }
-    ∷ record { signature = codes "HEST"; name = codes "Hardware Error Source Table (HEST)"; kinds = hest_kinds }
-    ∷ record { signature = codes "RQSC"; name = codes "RISC-V Quality of Service Controllers Table (RQSC)"; kinds = rqsc_kinds }
+    ∷ []
+
+-- the MADT
+abbrev pub madt_tables : List Named
+madt_tables =
+    record { signature = codes "APIC"; name = codes "Multiple APIC Description Table (MADT)"; kinds = madt_kinds }
+    ∷ []
+
+-- tables of errors, of nodes and of matrices
+abbrev pub node_tables : List Named
+node_tables =
+    record { signature = codes "HEST"; name = codes "Hardware Error Source Table (HEST)"; kinds = hest_kinds }
+    ∷ record {
+      signature = codes "RQSC";
+      name = codes "RISC-V Quality of Service Controllers Table (RQSC) (this project's profile)";
+      kinds = rqsc_kinds;
+    }
     ∷ record { signature = codes "PPTT"; name = codes "Processor Properties Topology Table (PPTT)"; kinds = pptt_kinds }
     ∷ record { signature = codes "RHCT"; name = codes "RISC-V Hart Capabilities Table (RHCT)"; kinds = rhct_kinds }
     ∷ record { signature = codes "VIOT"; name = codes "Virtual I/O Translation Table (VIOT)"; kinds = viot_kinds }
-    ∷ record { signature = codes "RIMT"; name = codes "RISC-V IO Mapping Table (RIMT)"; kinds = rimt_kinds }
+    ∷ record {
+      signature = codes "RIMT";
+      name = codes "RISC-V IO Mapping Table (RIMT) (this project's profile)";
+      kinds = rimt_kinds;
+    }
     ∷ record { signature = codes "HMAT"; name = codes "Heterogeneous Memory Attribute Table (HMAT)"; kinds = hmat_kinds }
     ∷ record { signature = codes "SLIT"; name = codes "System Locality Information Table (SLIT)"; kinds = [] }
-    ∷ record { signature = codes "GTDT"; name = codes "Generic Timer Description Table (GTDT)"; kinds = gtdt_kinds }
+    ∷ []
+
+-- tables of an Arm machine
+abbrev pub arm_tables : List Named
+arm_tables =
+    record { signature = codes "GTDT"; name = codes "Generic Timer Description Table (GTDT)"; kinds = gtdt_kinds }
     ∷ record {
       signature = codes "DBG2";
       name = codes "Debug Port Table 2 (DBG2)";
@@ -162,7 +187,7 @@ tables =
 
 -- the records that have no standard header (ACPI 6.5, 5.2.5.3 and 5.2.10)
 abbrev pub rsdp_names : Named
-rsdp_names = record { signature = codes "RSD PTR "; name = codes "Root System Description Pointer"; kinds = [] }
+rsdp_names = record { signature = codes "RSD PTR "; name = codes "Root System Description Pointer (RSDP)"; kinds = [] }
 
 abbrev pub facs_names : Named
 facs_names = record { signature = codes "FACS"; name = codes "Firmware ACPI Control Structure (FACS)"; kinds = [] }
@@ -184,6 +209,16 @@ security_names s = find_named s security_tables (faults_names s)
 abbrev pub boot_names : ℕ → Named
 boot_names s = find_named s boot_tables (security_names s)
 
+-- the names of the tables of a signature that are written, too, by the lists of these
+abbrev pub arm_names : ℕ → Named
+arm_names s = find_named s arm_tables (boot_names s)
+
+abbrev pub node_names : ℕ → Named
+node_names s = find_named s node_tables (arm_names s)
+
+abbrev pub madt_names : ℕ → Named
+madt_names s = find_named s madt_tables (node_names s)
+
 -- the names of the tables of a signature, which is given as a number, lowest byte first
 unfoldable pub names_of : ℕ → Named
-names_of s = find_named s tables (boot_names s)
+names_of s = find_named s tables (madt_names s)

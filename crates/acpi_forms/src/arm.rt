@@ -4,13 +4,13 @@ use acpi_arm::dbg2::DEBUG_DEVICE;
 use acpi_arm::gtdt::{GENERIC_WATCHDOG, GT_BLOCK, GT_BLOCK_TIMER, GTDT_FIXED, GTDT_LAST};
 use acpi_arm::iort::{
     ID_MAPPING, ITS_GROUP, MEMORY_RANGE, NAMED_COMPONENT, PMCG, RESERVED_MEMORY, ROOT_COMPLEX,
-    SMMU, SMMU_INTERRUPT, SMMU_V3,
+    ROOT_COMPLEX_PASID, SMMU, SMMU_INTERRUPT, SMMU_V3,
 };
 use acpi_base::gas::GENERIC_ADDRESS;
 use acpi_base::header::HEADER;
 use acpi_base::row::Row;
 use acpi_base::walk::Place;
-use acpi_text::form::{Count, Inner, Part, StructureForm, TableForm};
+use acpi_text::form::{Choice, Count, Inner, Part, StructureForm, TableForm};
 
 const GTDT_TIMERS: [StructureForm; 2] = [
     StructureForm {
@@ -79,6 +79,23 @@ pub const DBG2: TableForm = TableForm {
     }],
 };
 
+const NO_PASID: [Row; 1] = [Row::Reserved(3)];
+
+// The fields of a root complex from offset 33 on, by the offset of its mappings. Up to revision 3 of the node its mappings begin at
+// offset 36.
+const ROOT_COMPLEX_ENDS: [Choice; 2] = [
+    Choice {
+        number: 40,
+        name: "PASID",
+        rows: &ROOT_COMPLEX_PASID,
+    },
+    Choice {
+        number: 36,
+        name: "Without PASID",
+        rows: &NO_PASID,
+    },
+];
+
 const IORT_NODES: [StructureForm; 7] = [
     StructureForm {
         number: 0,
@@ -103,7 +120,8 @@ const IORT_NODES: [StructureForm; 7] = [
         number: 2,
         name: "Root Complex",
         parts: &[
-            Part::Fields(&ROOT_COMPLEX),
+            Part::Between(&ROOT_COMPLEX, 0, 13),
+            Part::Chosen(Place::DWord(12), &ROOT_COMPLEX_ENDS),
             Part::Until("Before the Mappings", Place::DWord(12)),
             Part::Entries("ID Mapping", Count::Field(Place::DWord(8)), &ID_MAPPING),
         ],

@@ -12,7 +12,7 @@ use acpi_text::form::{Choice, Part, TableForm};
 
 /// The Root System Description Pointer, which has no standard header (ACPI 6.5, 5.2.5.3).
 pub const RSDP: TableForm = TableForm {
-    name: "Root System Description Pointer",
+    name: "Root System Description Pointer (RSDP)",
     parts: &[Part::Fields(&RSDP_ROWS)],
     structures: &[],
 };
@@ -33,15 +33,20 @@ pub const BERT: TableForm = TableForm {
 
 /// The Fixed ACPI Description Table (ACPI 6.5, 5.2.9).
 pub const FADT: TableForm = TableForm {
-    name: "Fixed ACPI Description Table (FACP)",
+    name: "Fixed ACPI Description Table (FADT)",
     parts: &[Part::Fields(&HEADER), Part::Fields(&FADT_ROWS)],
     structures: &[],
 };
 
-/// The Serial Port Console Redirection Table (Microsoft).
+/// The Serial Port Console Redirection Table (Microsoft, revision 4).
 pub const SPCR: TableForm = TableForm {
     name: "Serial Port Console Redirection Table (SPCR)",
-    parts: &[Part::Fields(&HEADER), Part::Fields(&SPCR_ROWS)],
+    parts: &[
+        Part::Fields(&HEADER),
+        Part::Between(&SPCR_ROWS, 0, 23),
+        Part::Until("Before the Namespace String", Place::Word(86)),
+        Part::Bytes("NamespaceString", Place::Word(84)),
+    ],
     structures: &[],
 };
 

@@ -1,4 +1,5 @@
-//! The forms of tables that are only read, by their signatures. A list is short enough for the toolchain to copy.
+//! The forms of tables that are only read, by their signatures, and of such structures of other tables. A list is short enough for
+//! the toolchain to copy.
 
 pub mod aest;
 pub mod agdi;
@@ -21,6 +22,7 @@ pub mod hpet;
 pub mod ibft;
 pub mod ivrs;
 pub mod lpit;
+pub mod madt;
 pub mod mchi;
 pub mod mpam;
 pub mod mpst;
@@ -42,6 +44,7 @@ pub mod sdei;
 pub mod sdev;
 pub mod slic;
 pub mod spmi;
+pub mod srat;
 pub mod stao;
 pub mod svkl;
 pub mod tdel;

@@ -119,7 +119,7 @@ const CONTROLLERS: [StructureForm; 2] = [
 
 /// The RISC-V Quality of Service Controllers Table (this project's profile).
 pub const RQSC: TableForm = TableForm {
-    name: "RISC-V Quality of Service Controllers Table (RQSC)",
+    name: "RISC-V Quality of Service Controllers Table (RQSC) (this project's profile)",
     parts: &[
         Part::Fields(&HEADER),
         Part::Fields(&[Row::Number("Number of QoS Controllers", 4)]),

@@ -1,5 +1,7 @@
 //! The forms of tables that are lists of structures.
 
+use crate::further::madt::WAKEUP_ROWS;
+use crate::further::srat::GENERIC_PORT_ROWS;
 use acpi_base::header::HEADER;
 use acpi_base::row::Row;
 use acpi_base::walk::Place;
@@ -41,7 +43,7 @@ pub const MCFG: TableForm = TableForm {
     }],
 };
 
-const MADT_STRUCTURES: [StructureForm; 17] = [
+const MADT_STRUCTURES: [StructureForm; 18] = [
     StructureForm {
         number: 0,
         name: "Processor Local APIC Structure",
@@ -121,6 +123,12 @@ const MADT_STRUCTURES: [StructureForm; 17] = [
         inner: &Inner::Nothing,
     },
     StructureForm {
+        number: 16,
+        name: "Multiprocessor Wakeup Structure",
+        parts: &[Part::Fields(&WAKEUP_ROWS)],
+        inner: &Inner::Nothing,
+    },
+    StructureForm {
         number: 24,
         name: "RISC-V INTC Structure",
         parts: &[Part::Fields(&RINTC_ROWS)],
@@ -148,7 +156,7 @@ const MADT_STRUCTURES: [StructureForm; 17] = [
 
 /// The Multiple APIC Description Table (ACPI 6.5, 5.2.12).
 pub const MADT: TableForm = TableForm {
-    name: "Multiple APIC Description Table (APIC)",
+    name: "Multiple APIC Description Table (MADT)",
     parts: &[Part::Fields(&HEADER), Part::Fields(&MADT_FIXED)],
     structures: &MADT_STRUCTURES,
 };
@@ -167,7 +175,7 @@ const HANDLES: [Choice; 2] = [
     },
 ];
 
-const SRAT_STRUCTURES: [StructureForm; 7] = [
+const SRAT_STRUCTURES: [StructureForm; 8] = [
     StructureForm {
         number: 0,
         name: "Processor Local APIC/SAPIC Affinity Structure",
@@ -209,6 +217,16 @@ const SRAT_STRUCTURES: [StructureForm; 7] = [
         inner: &Inner::Nothing,
     },
     StructureForm {
+        number: 6,
+        name: "Generic Port Affinity Structure",
+        parts: &[
+            Part::Fields(&GENERIC_PORT_ROWS),
+            Part::Chosen(Place::Byte(3), &HANDLES),
+            Part::Between(&GENERIC_INITIATOR, 6, 8),
+        ],
+        inner: &Inner::Nothing,
+    },
+    StructureForm {
         number: 7,
         name: "RINTC Affinity Structure",
         parts: &[Part::Fields(&RINTC_AFFINITY)],
@@ -221,7 +239,7 @@ pub const SRAT: TableForm = TableForm {
     name: "System Resource Affinity Table (SRAT)",
     parts: &[
         Part::Fields(&HEADER),
-        Part::Fields(&[Row::Preset("Table Revision", 4, 1), Row::Reserved(8)]),
+        Part::Fields(&[Row::Preset("Reserved", 4, 1), Row::Reserved(8)]),
     ],
     structures: &SRAT_STRUCTURES,
 };

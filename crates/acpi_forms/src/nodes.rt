@@ -161,7 +161,7 @@ const RIMT_DEVICES: [StructureForm; 3] = [
 
 /// The RISC-V IO Mapping Table (this project's profile).
 pub const RIMT: TableForm = TableForm {
-    name: "RISC-V IO Mapping Table (RIMT)",
+    name: "RISC-V IO Mapping Table (RIMT) (this project's profile)",
     parts: &[
         Part::Fields(&HEADER),
         Part::Fields(&[

@@ -103,7 +103,7 @@ version_number GICv4 = 0x04
 -- the words of GIC Version
 abbrev pub gic_version_words : List (ℕ × List ℕ)
 gic_version_words =
-    means 0 "Not Specified"
+    means 0 "No GIC Version Specified"
     ∷ means 1 "GICv1"
     ∷ means 2 "GICv2"
     ∷ means 3 "GICv3"

@@ -32,6 +32,7 @@ const STALL_SUPPORTED: u32 = 1;
 pub struct NamedComponent {
     pub(crate) identifier: u32,
     flags: u32,
+    substream_width: u8,
     access: MemoryAccess,
     address_size_limit: u8,
     name: String,
@@ -47,6 +48,7 @@ impl NamedComponent {
         NamedComponent {
             identifier: 0,
             flags: 0,
+            substream_width: 0,
             access: MemoryAccess::new(),
             address_size_limit: 0,
             name,
@@ -62,13 +64,12 @@ impl NamedComponent {
         self
     }
 
-    /// Sets the number of bits of a substream id (bits 1 to 5 at offset 16). The caller proves that it is below 32. Bits that are
-    /// set already stay set.
+    /// Sets the number of bits of a substream id (bits 1 to 5 at offset 16). The caller proves that it is below 32.
     pub fn substream_width(mut self, bits: u8) -> NamedComponent
         requires bits { bits < 32 }
-        ensures { result ≡ record self { flags = bit_or self.flags (2 * bits) } }
+        ensures { result ≡ record self { substream_width = bits } }
     {
-        self.flags |= 2 * u32::from(bits);
+        self.substream_width = bits;
         self
     }
 
@@ -120,7 +121,7 @@ impl NamedComponent {
                 u64::from(self.identifier),
                 mappings as u64,
                 u64::from(offset_if(mappings, start)),
-                u64::from(self.flags),
+                u64::from(self.flags | 2 * u32::from(self.substream_width)),
                 u64::from(self.access.cache_coherent),
                 u64::from(self.access.hints),
                 0,
@@ -195,7 +196,10 @@ const PRI_SUPPORTED: u32 = 1 << 1;
 
 const PASID_FORWARDING: u32 = 1 << 2;
 
-/// A PCI root complex: 36 bytes, and 20 for each mapping.
+// A flag of a root complex.
+const PASID_SUPPORTED: u32 = 1;
+
+/// A PCI root complex: 40 bytes, and 20 for each mapping.
 #[derive(Drop)]
 pub struct RootComplex {
     pub(crate) identifier: u32,
@@ -203,6 +207,8 @@ pub struct RootComplex {
     ats_attribute: u32,
     segment: u32,
     address_size_limit: u8,
+    max_pasid_width: u8,
+    flags: u32,
     mappings: Entries<20, 3274>,
 }
 
@@ -218,6 +224,8 @@ impl RootComplex {
             ats_attribute: 0,
             segment,
             address_size_limit: 0,
+            max_pasid_width: 0,
+            flags: 0,
             mappings: Entries::new(alloc),
         }
     }
@@ -262,6 +270,17 @@ impl RootComplex {
         self
     }
 
+    /// Sets the greatest number of bits of a PASID (bits 0 to 4 at offset 33), and flag 1 (offset 36): it supports PASIDs. The
+    /// caller proves that the number is below 32.
+    pub fn pasid_supported(mut self, bits: u8) -> RootComplex
+        requires bits { bits < 32 }
+        ensures { result ≡ record self { max_pasid_width = bits; flags = bit_or self.flags 1 } }
+    {
+        self.max_pasid_width = bits;
+        self.flags |= PASID_SUPPORTED;
+        self
+    }
+
     /// The number of mappings (offset 8): at most 3,274.
     pub fn mapping_count(&self) -> usize
         ensures { result ≡ self.now.mappings.count }
@@ -279,7 +298,7 @@ impl RootComplex {
     }
 
     // The bytes of the node before its mappings.
-    fn head(&self) -> [u8; 36]
+    fn head(&self) -> [u8; 40]
         ensures { result ≡ root_complex_head self.now }
     {
         let mappings = self.mappings.len();
@@ -287,11 +306,11 @@ impl RootComplex {
             &ROOT_COMPLEX,
             &[
                 2,
-                36 + self.mappings.as_slice().len() as u64,
-                3,
+                40 + self.mappings.as_slice().len() as u64,
+                4,
                 u64::from(self.identifier),
                 mappings as u64,
-                u64::from(offset_if(mappings, 36)),
+                u64::from(offset_if(mappings, 40)),
                 u64::from(self.access.cache_coherent),
                 u64::from(self.access.hints),
                 0,
@@ -299,17 +318,30 @@ impl RootComplex {
                 u64::from(self.ats_attribute),
                 u64::from(self.segment),
                 u64::from(self.address_size_limit),
+                u64::from(self.max_pasid_width),
                 0,
+                u64::from(self.flags),
             ],
         )
     }
 }
 
+const PASID_CAPABILITIES: [Bits; 1] = [Bits::Number(0x1f, 0x1, "Max PASID Width")];
+
+const ROOT_COMPLEX_FLAGS: [Bits; 1] = [Bits::Flag(0x1, "PASID Supported")];
+
+/// The last rows of a root complex node before its mappings: from offset 33 on. Nodes of a revision below 4 don't have them.
+pub const ROOT_COMPLEX_PASID: [Row; 3] = [
+    Row::Flags("PASID Capabilities", 2, &PASID_CAPABILITIES),
+    Row::Reserved(1),
+    Row::Flags("Flags", 4, &ROOT_COMPLEX_FLAGS),
+];
+
 /// The rows of a root complex node before its mappings.
-pub const ROOT_COMPLEX: [Row; 14] = [
+pub const ROOT_COMPLEX: [Row; 16] = [
     Row::Preset("Type", 1, 2),
     Row::Number("Length", 2),
-    Row::Preset("Revision", 1, 3),
+    Row::Preset("Revision", 1, 4),
     Row::Hex("Identifier", 4),
     Row::Number("Number of ID Mappings", 4),
     Row::Number("Reference to ID Array", 4),
@@ -328,7 +360,9 @@ pub const ROOT_COMPLEX: [Row; 14] = [
     ),
     Row::Number("PCI Segment Number", 4),
     Row::Number("Memory Address Size Limit", 1),
-    Row::Reserved(3),
+    Row::Flags("PASID Capabilities", 2, &PASID_CAPABILITIES),
+    Row::Reserved(1),
+    Row::Flags("Flags", 4, &ROOT_COMPLEX_FLAGS),
 ];
 
 /// The rows of the fields before a root complex's mappings, in order.

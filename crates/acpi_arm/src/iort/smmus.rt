@@ -336,7 +336,7 @@ impl SmmuV3Model {
     }
 }
 
-/// What an SMMUv3 updates in page tables, as flags of HTTU Override (bits 1 and 2 at offset 24).
+/// What an SMMUv3 updates in page tables: HTTU Override (bits 1 and 2 at offset 24).
 #[derive(Clone, Copy, Debug)]
 pub enum Httu {
     AccessFlag = 2,
@@ -356,6 +356,7 @@ pub struct SmmuV3 {
     pub(crate) identifier: u32,
     base: u64,
     flags: u32,
+    httu: u32,
     vatos_address: u64,
     model: SmmuV3Model,
     event_gsiv: u32,
@@ -377,6 +378,7 @@ impl SmmuV3 {
             identifier: 0,
             base,
             flags: 0,
+            httu: 0,
             vatos_address: 0,
             model,
             event_gsiv: 0,
@@ -397,12 +399,11 @@ impl SmmuV3 {
         self
     }
 
-    /// Sets a flag of HTTU Override (offset 24): what the SMMU updates, whatever its register says. Flags that are set already stay
-    /// set.
+    /// Sets HTTU Override (bits 1 and 2 at offset 24): what the SMMU updates, whatever its register says.
     pub fn httu_override(mut self, httu: Httu) -> SmmuV3
-        ensures { result ≡ record self { flags = bit_or self.flags (httu_flags httu) } }
+        ensures { result ≡ record self { httu = httu_flags httu } }
     {
-        self.flags |= httu as u32;
+        self.httu = httu as u32;
         self
     }
 
@@ -494,7 +495,7 @@ impl SmmuV3 {
                 mappings as u64,
                 u64::from(offset_if(mappings, 68)),
                 self.base,
-                u64::from(self.flags),
+                u64::from(self.flags | self.httu),
                 0,
                 self.vatos_address,
                 self.model.number(),

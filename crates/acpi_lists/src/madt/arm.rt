@@ -331,7 +331,7 @@ pub const GICD: [Row; 8] = [
         "GIC Version",
         1,
         &[
-            Word(0, "Not Specified"),
+            Word(0, "No GIC Version Specified"),
             Word(1, "GICv1"),
             Word(2, "GICv2"),
             Word(3, "GICv3"),

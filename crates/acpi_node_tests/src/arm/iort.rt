@@ -101,7 +101,9 @@ fn accesses(alloc: Global, access: MemoryAccess, changes: &[(usize, u8)]) -> Res
 fn flags_of_components(rt: HostRuntime) -> Result<(), Fail> {
     let component = NamedComponent::new(rt.alloc(), String::new(rt.alloc()));
     let component = component.substream_width(31).stall_supported();
-    changed(rt.alloc(), &component, &COMPONENT, &[(16, 0x3f)])
+    changed(rt.alloc(), &component, &COMPONENT, &[(16, 0x3f)])?;
+    let component = component.substream_width(20);
+    changed(rt.alloc(), &component, &COMPONENT, &[(16, 0x29)])
 }
 
 #[test]
@@ -137,7 +139,8 @@ fn memory_accesses(rt: HostRuntime) -> Result<(), Fail> {
 }
 
 fn root(alloc: Global, node: RootComplex, changes: &[(usize, u8)]) -> Result<(), Fail> {
-    let plain = b"\x02\x24\0\x03\0\0\0\0\0\0\0\0\0\0\0\0\0\0\0\0\0\0\0\0\0\0\0\0\0\0\0\0\0\0\0\0";
+    let plain =
+        b"\x02\x28\0\x04\0\0\0\0\0\0\0\0\0\0\0\0\0\0\0\0\0\0\0\0\0\0\0\0\0\0\0\0\0\0\0\0\0\0\0\0";
     changed(alloc, &node, plain, changes)
 }
 
@@ -198,6 +201,22 @@ fn flags_of_root_complexes(rt: HostRuntime) -> Result<(), Fail> {
     )
 }
 
+// A second number replaces the first.
+#[test]
+fn pasids_of_root_complexes(rt: HostRuntime) -> Result<(), Fail> {
+    let alloc = rt.alloc();
+    root(
+        alloc,
+        plain_root(alloc).pasid_supported(31),
+        &[(33, 31), (36, 1)],
+    )?;
+    root(
+        alloc,
+        plain_root(alloc).pasid_supported(15).pasid_supported(16),
+        &[(33, 16), (36, 1)],
+    )
+}
+
 fn mapped_root(alloc: Global) -> R<RootComplex> {
     let mut mapped = RootComplex::new(alloc, 1);
     mapped.add_mapping(mapping(alloc)?)?;
@@ -212,7 +231,7 @@ fn mappings_of_a_root_complex(rt: HostRuntime) -> Result<(), Fail> {
     writes(
         rt.alloc(),
         &mapped,
-        b"\x02\x4c\0\x03\0\0\0\0\x02\0\0\0\x24\0\0\0\0\0\0\0\0\0\0\0\0\0\0\0\x01\0\0\0\0\0\0\0\
+        b"\x02\x50\0\x04\0\0\0\0\x02\0\0\0\x28\0\0\0\0\0\0\0\0\0\0\0\0\0\0\0\x01\0\0\0\0\0\0\0\0\0\0\0\
             \x01\x02\x03\x04\x05\x06\x07\x08\x09\x0a\x0b\x0c\x30\0\0\0\0\0\0\0\
             \x01\x02\x03\x04\x05\x06\x07\x08\x09\x0a\x0b\x0c\x30\0\0\0\x01\0\0\0",
     )
@@ -380,6 +399,13 @@ fn flags_of_smmus_v3(rt: HostRuntime) -> Result<(), Fail> {
     smmu_v3(rt.alloc(), all, &[(24, 13), (60, 5), (64, 6)])
 }
 
+// A second HTTU Override replaces the first.
+#[test]
+fn updates_of_smmus_v3(rt: HostRuntime) -> Result<(), Fail> {
+    let smmu = generic(rt.alloc()).httu_override(Httu::AccessFlagAndDirty);
+    smmu_v3(rt.alloc(), smmu.httu_override(Httu::AccessFlag), &[(24, 2)])
+}
+
 #[test]
 fn models_and_flags_of_smmus_v3(rt: HostRuntime) -> Result<(), Fail> {
     let alloc = rt.alloc();
@@ -536,7 +562,7 @@ fn all_nodes(alloc: Global) -> R<IORT> {
 #[test]
 fn nodes_refer_to_each_other(rt: HostRuntime) -> Result<(), Fail> {
     let table = all_nodes(rt.alloc())?;
-    equal(&(table.len(), table.count()), &(528, 10))?;
+    equal(&(table.len(), table.count()), &(532, 10))?;
     all_stand(
         rt.alloc(),
         &table,
@@ -544,20 +570,20 @@ fn nodes_refer_to_each_other(rt: HostRuntime) -> Result<(), Fail> {
             (36, b"\x0a\0\0\0\x30\0\0\0\0\0\0\0\0\x14\0\x01\0\0\0\0"),
             (68, b"\x03\x4c\0\x03\x01\0\0\0"),
             (144, b"\x04\x44\0\x04\x02\0\0\0"),
-            (212, b"\x02\x60\0\x03\x03\0\0\0\x03\0\0\0\x24\0\0\0"),
-            (260, b"\x30\0\0\0"),
-            (280, b"\x44\0\0\0"),
-            (300, b"\x90\0\0\0"),
-            (308, b"\x01\x20\0\x04\x04\0\0\0"),
-            (340, b"\x05\x28\0\x02\x05\0\0\0"),
-            (368, b"\x44\0\0\0"),
-            (380, b"\x05\x28\0\x02\x06\0\0\0"),
-            (408, b"\x90\0\0\0"),
-            (420, b"\x05\x28\0\x02\x07\0\0\0"),
-            (448, b"\xd4\0\0\0"),
-            (460, b"\x05\x28\0\x02\x08\0\0\0"),
-            (488, b"\x34\x01\0\0"),
-            (500, b"\x06\x1c\0\x03\x09\0\0\0"),
+            (212, b"\x02\x64\0\x04\x03\0\0\0\x03\0\0\0\x28\0\0\0"),
+            (264, b"\x30\0\0\0"),
+            (284, b"\x44\0\0\0"),
+            (304, b"\x90\0\0\0"),
+            (312, b"\x01\x20\0\x04\x04\0\0\0"),
+            (344, b"\x05\x28\0\x02\x05\0\0\0"),
+            (372, b"\x44\0\0\0"),
+            (384, b"\x05\x28\0\x02\x06\0\0\0"),
+            (412, b"\x90\0\0\0"),
+            (424, b"\x05\x28\0\x02\x07\0\0\0"),
+            (452, b"\xd4\0\0\0"),
+            (464, b"\x05\x28\0\x02\x08\0\0\0"),
+            (492, b"\x38\x01\0\0"),
+            (504, b"\x06\x1c\0\x03\x09\0\0\0"),
         ],
     )
 }
@@ -617,7 +643,7 @@ fn the_most_mappings_of_a_root_complex(rt: HostRuntime) -> Result<(), Fail> {
         root_complex.add_mapping(mapping)?;
     }
     refuses(root_complex.add_mapping(mapping), Error::FieldWidth)?;
-    sized(rt.alloc(), &root_complex, 65_516)
+    sized(rt.alloc(), &root_complex, 65_520)
 }
 
 // An SMMU with as many interrupts of contexts as it can have.

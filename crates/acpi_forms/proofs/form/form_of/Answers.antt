@@ -5,4 +5,4 @@ use Rattle.acpi_forms.proofs.form.form_of.Goals as goal
 
 pub returns : goal.returns
 unfolding names_of
-returns c = form_is_named c.args.signature _ _ c.find_form.result tables _ c.find_form.ensures c.boot_form.ensures refl
+returns c = form_is_named c.args.signature _ _ c.find_form.result tables _ c.find_form.ensures c.madt_form.ensures refl
