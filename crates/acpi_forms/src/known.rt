@@ -36,8 +36,8 @@ fn meant_by(name: [u8; 4]) -> Option<[u8; 4]>
     }
 }
 
-/// Returns the signature that a name means: that of the table which the standard calls so (MADT, FADT and RSDP), or the name itself
-/// in upper case if this is known.
+/// Returns the signature that a name means: that of the table which the standard calls so (MADT, FADT and RSDP), or the name
+/// itself in upper case if this is known.
 pub fn meant(name: &[u8]) -> Option<[u8; 4]>
     ensures { result ≡ meant name.now }
 {

@@ -27,8 +27,8 @@ notes name (one ∷ owns) = note name one ++ notes name owns
 abbrev pub held_line : List ℕ → List ℕ
 held_line name = name ++ codes ": not written: its numbers are wrong (--force writes it)\n"
 
--- The text is made into a table of these bytes, which is to be written. A line says of each number that isn't right which would be:
--- there is none, unless such a table is written by force.
+-- The text is made into a table of these bytes, which is to be written. A line says of each number that isn't right which would
+-- be: there is none, unless such a table is written by force.
 pub record MadeText (force : Bool) (name text bytes : List ℕ) (err err' : Option (List ℕ)) : Type 0 where
   pub made : Made
   pub is : IsMade text (Ok made)

@@ -15,7 +15,8 @@ use Rattle.acpitool_run.specs.Text.{IsText, IsTextFault}
 use Rattle.acpitool_run.specs.declared.fault.Fault.{Fault}
 
 -- What comes of a table or of a file that has a name:
--- - shown: the text of its bytes, after its name if it is one of several, and before further lines; its structures may have a fault;
+-- - shown: the text of its bytes, after its name if it is one of several, and before further lines, and a fault of its
+--   structures, if there is one;
 -- - refused: its bytes aren't what their signature says;
 -- - broken: it is a dump as text, with a line that can't be read;
 -- - unread: it can't be read, and the system says why.

@@ -5,8 +5,8 @@ ghost use Rattle.std.specs.List.{slice_get};
 ghost use Rattle.std.specs.Prelude.{MatchResult, MatchOption, IfOk, None, Some};
 ghost use Rattle.std.specs.List.{starts_with};
 ghost use Rattle.acpiread_run.specs.Command.{stated};
-ghost use Rattle.acpitool_run.specs.Command.{is_option, is_force, takes, first_option, forces, unforced, has, is_number, files_in};
-ghost use Rattle.acpitool_run.specs.Command.{first_unstated, IsMisstated};
+ghost use Rattle.acpitool_run.specs.Command.{is_option, is_force, takes, first_option, forces, unforced, has, is_number};
+ghost use Rattle.acpitool_run.specs.Command.{files_in, first_unstated, IsMisstated};
 ghost use Rattle.acpitool_run.specs.Command.{word_of, IsAddress, Asks, IsWrong};
 ghost use Rattle.acpitool_run.specs.declared.command.Verb.TheVariants as verbs;
 

@@ -58,8 +58,8 @@ fn tell_held<E: Write>(name: &str, owns: &[Own], err: &mut E) -> io::Result<()>
 }
 
 /// Makes a text into a table, and returns the table's bytes if they are to be written. A line on `err` says of each number that
-/// isn't right which would be, and then such a table is only written by force; or a line says why the text isn't made into a table.
-/// An error is that of `err`, or memory ran out.
+/// isn't right which would be: such a table is only written by force. Or a line says why the text isn't made into a table. An error
+/// is that of `err`, or memory ran out.
 pub fn make_text<E: Write>(
     alloc: Global,
     force: bool,

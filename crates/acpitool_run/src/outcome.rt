@@ -131,7 +131,8 @@ fn show_tables<O: Write, E: Write>(
     out: &mut O,
     err: &mut E,
 ) -> io::Result<u8>
-    ensures { IfOk result (λ status. PrintedAs stated.now (AreOfTables true (map (λ table. labelled name.now (titled table)) tables.now))
+    ensures { IfOk result (λ status. PrintedAs stated.now
+        (AreOfTables true (map (λ table. labelled name.now (titled table)) tables.now))
         (O.contents out.old) (O.contents out.new) (E.contents err.old) (E.contents err.new) status) }
 {
     let mut worst = 0;

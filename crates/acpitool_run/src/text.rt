@@ -26,7 +26,7 @@ fn made(text: R<String>) -> Result<String, Fault>
     }
 }
 
-/// Returns the text of a table, a pointer or a control structure. An error says what is wrong with the bytes, and at which offset.
+/// Returns the text of a table, a pointer or a control structure. An error says what is wrong with the bytes, and where.
 pub fn text_of(alloc: Global, bytes: &[u8]) -> Result<String, Fault>
     ensures ok { IfOk result (λ text. IsText bytes.now (string_bytes text)) }
     ensures err { IfErr result (IsTextFault bytes.now) }

@@ -5,7 +5,8 @@ use std::test::Fail;
 
 // What is printed after the line of a wrong word.
 const USAGE: &str = "\
-usage: acpitool show FILE .. [NAME=N ..] | image FILE [BASE] | make [--force] TEXT FILE | template SIGNATURE | --help | --version\n";
+usage: acpitool show FILE .. [NAME=N ..] | image FILE [BASE] | make [--force] TEXT FILE | template SIGNATURE | --help | --version
+";
 
 // The template of a definition block.
 const TEMPLATE: &str = "\
