@@ -100,7 +100,7 @@ is_whole_or_refused() {
 # acpitool says of which file it speaks, if it is at one.
 says_memory() {
     [ "$status" = 1 ] || [ "$status" = 2 ] || return 1
-    [ ! -s "$work/out" ] && grep -Eqx '.*: (out of memory|refused: Memory)' "$work/err"
+    [ ! -s "$work/out" ] && grep -Eqx '.*: out of memory' "$work/err"
 }
 
 is_whole_or_says_memory() {

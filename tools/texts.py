@@ -22,10 +22,10 @@ def run(*words):
 
 
 def make(text):
-    """The table of a text, or None, and what was printed about it."""
+    """The table of a text, which may have wrong numbers, or None, and what was printed about it."""
     with open(TEXT, "wb") as file:
         file.write(text)
-    done = run("make", TEXT, TABLE)
+    done = run("make", "--force", TEXT, TABLE)
     said = done.stderr.decode().replace(f"{TEXT}: ", "")
     if done.returncode:
         return None, said
@@ -34,11 +34,11 @@ def make(text):
 
 
 def show(table):
-    """The text of a table, or None if it isn't correct."""
+    """The text of a table, or None if it isn't correct. One whose structures can't be found has the status 1, and a text."""
     with open(TABLE, "wb") as file:
         file.write(table)
     done = run("show", TABLE)
-    return None if done.returncode else done.stdout
+    return done.stdout or None
 
 
 def read(path, mode="r"):

@@ -146,7 +146,7 @@ module _ (n : ℕ) (ds rest : List ℕ) (are : AreHex ds) (some : 0 < length ds)
 
   pub line_is : is_byte rest ≡ true → line_of whole ≡ bytes (digits_value 16 ds) (bytes_in 16 rest)
   line_is byte =
-      ap (λ (b : Bool). if b then blank else (if is_title whole then title else (if is_data whole then bytes (digits_value 16 (digits_of whole)) (bytes_in 16 (rest_of whole)) else other))) not_blank
+      ap (λ (b : Bool). if b then blank else (if is_title whole then title whole else (if is_data whole then bytes (digits_value 16 (digits_of whole)) (bytes_in 16 (rest_of whole)) else other))) not_blank
       ∙ ap (λ (b : Bool). if b then bytes (digits_value 16 (digits_of whole)) (bytes_in 16 (rest_of whole)) else other) (has_bytes byte)
       ∙ ap (λ (l : List ℕ). bytes (digits_value 16 l) (bytes_in 16 (rest_of whole))) its_digits
       ∙ ap (λ (l : List ℕ). bytes (digits_value 16 ds) (bytes_in 16 l)) its_rest

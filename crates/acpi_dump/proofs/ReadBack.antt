@@ -13,7 +13,7 @@ use Rattle.acpi_dump.proofs.Plain.{ArePlain, plain_both, plain_by, plain_name, u
 use Rattle.acpi_dump.proofs.Titles.{address, title_read}
 
 -- a line that is known
-read_line : (number : ℕ) (tables : List (List ℕ)) (line : List ℕ) (is : Line) (more : List (List ℕ)) → ArePlain line → line_of line ≡ is
+read_line : (number : ℕ) (tables : List (List ℕ × List ℕ)) (line : List ℕ) (is : Line) (more : List (List ℕ)) → ArePlain line → line_of line ≡ is
     → read number tables (line ∷ more) ≡ unless_fault (step number tables is) (λ next. read (number + 1) next more)
 read_line number tables line is more plain same =
     ap (λ (l : Line). unless_fault (step number tables l) (λ next. read (number + 1) next more)) (ap line_of (unstripped line plain) ∙ same)
@@ -22,26 +22,28 @@ small_part : (all : List ℕ) → All (λ b. b < 256) all → All (λ b. b < 256
 small_part all are = All-take (λ (n : ℕ). n < 256) 16 all are
 
 -- the first line of bytes
-line_added : (number offset : ℕ) (table : List ℕ) (done : List (List ℕ)) (b : ℕ) (bs : List ℕ) (more : List (List ℕ))
+line_added : (number offset : ℕ) (name table : List ℕ) (done : List (List ℕ × List ℕ)) (b : ℕ) (bs : List ℕ) (more : List (List ℕ))
     → All (λ b. b < 256) (b ∷ bs) → offset ≡ length table → offset < 2 ^ 64
-    → read number (table ∷ done) (bytes_line offset (take 16 (b ∷ bs)) ∷ more) ≡ read (number + 1) ((table ++ take 16 (b ∷ bs)) ∷ done) more
-line_added number offset table done b bs more are is small =
+    → read number ((name, table) ∷ done) (bytes_line offset (take 16 (b ∷ bs)) ∷ more)
+    ≡ read (number + 1) ((name, table ++ take 16 (b ∷ bs)) ∷ done) more
+line_added number offset name table done b bs more are is small =
     let part = take 16 (b ∷ bs) in
     let below = are_small part (small_part (b ∷ bs) are) in
-    read_line number (table ∷ done) (bytes_line offset part) (bytes offset part) more (plain_line offset part below)
+    read_line number ((name, table) ∷ done) (bytes_line offset part) (bytes offset part) more (plain_line offset part below)
     (line_read offset b (take 15 bs) below (omega (arith, length-take 15 bs)) small)
-    ∙ ap (λ (t : Bool). unless_fault (if t then Ok ((table ++ part) ∷ done) else Err (Offset number (length table))) (λ next. read (number + 1) next more))
+    ∙ ap (λ (t : Bool). unless_fault (if t then Ok ((name, table ++ part) ∷ done) else Err (Offset number (length table))) (λ next. read (number + 1) next more))
     (eq-eqb offset (length table) is)
 
-lines_added : (most offset number : ℕ) (table bs : List ℕ) (done more : List (List ℕ)) (result : Result (List (List ℕ)) DumpFault)
+lines_added : (most offset number : ℕ) (name table bs : List ℕ) (done : List (List ℕ × List ℕ)) (more : List (List ℕ))
+    (result : Result (List (List ℕ × List ℕ)) DumpFault)
     → All (λ b. b < 256) bs → length bs ≤ most → (1 ≤ length bs → offset ≡ length table) → length table + length bs < 2 ^ 64
-    → ((k : ℕ) → read k ((table ++ bs) ∷ done) more ≡ result) → read number (table ∷ done) (bytes_lines most offset bs ++ more) ≡ result
-lines_added zero offset number table [] done more result are few at fits go =
-    ap (λ (l : List ℕ). read number (l ∷ done) more) (sym (append-nil table)) ∙ go number
-lines_added zero offset number table (b ∷ bs) done more result are few at fits go = absurd (omega (arith, few))
-lines_added (suc most) offset number table [] done more result are few at fits go =
-    ap (λ (l : List ℕ). read number (l ∷ done) more) (sym (append-nil table)) ∙ go number
-lines_added (suc most) offset number table (b ∷ bs) done more result are few at fits go =
+    → ((k : ℕ) → read k ((name, table ++ bs) ∷ done) more ≡ result) → read number ((name, table) ∷ done) (bytes_lines most offset bs ++ more) ≡ result
+lines_added zero offset number name table [] done more result are few at fits go =
+    ap (λ (l : List ℕ). read number ((name, l) ∷ done) more) (sym (append-nil table)) ∙ go number
+lines_added zero offset number name table (b ∷ bs) done more result are few at fits go = absurd (omega (arith, few))
+lines_added (suc most) offset number name table [] done more result are few at fits go =
+    ap (λ (l : List ℕ). read number ((name, l) ∷ done) more) (sym (append-nil table)) ∙ go number
+lines_added (suc most) offset number name table (b ∷ bs) done more result are few at fits go =
     let all = b ∷ bs in
     let part = take 16 all in
     let rest = drop 16 all in
@@ -49,33 +51,38 @@ lines_added (suc most) offset number table (b ∷ bs) done more result are few a
     let size : length part ≡ min 16 (length all) = length-take 16 all in
     let left : length rest ≡ length all - 16 = length-drop 16 all in
     let grown : length (table ++ part) ≡ length table + length part = length-append table part in
-    line_added number offset table done b bs (bytes_lines most (offset + 16) rest ++ more) are here (omega (arith, here, fits))
-    ∙ lines_added most (offset + 16) (number + 1) (table ++ part) rest done more result (All-drop (λ (n : ℕ). n < 256) 16 all are)
+    line_added number offset name table done b bs (bytes_lines most (offset + 16) rest ++ more) are here (omega (arith, here, fits))
+    ∙ lines_added most (offset + 16) (number + 1) name (table ++ part) rest done more result (All-drop (λ (n : ℕ). n < 256) 16 all are)
     (omega (arith, left, few))
     (λ (some : 1 ≤ length rest). omega (arith, some, here, size, left, grown))
     (omega (arith, size, left, grown, fits))
-    (λ (k : ℕ). ap (λ (l : List ℕ). read k (l ∷ done) more) (append_assoc table part rest ∙ ap (λ (l : List ℕ). table ++ l) (take-append-drop 16 all)) ∙ go k)
+    (λ (k : ℕ). ap (λ (l : List ℕ). read k ((name, l) ∷ done) more) (append_assoc table part rest ∙ ap (λ (l : List ℕ). table ++ l) (take-append-drop 16 all)) ∙ go k)
 
-turned : (x : List ℕ) (done more : List (List ℕ)) → reverse (x ∷ done) ++ more ≡ reverse done ++ (x ∷ more)
+turned : (x : List ℕ × List ℕ) (done more : List (List ℕ × List ℕ)) → reverse (x ∷ done) ++ more ≡ reverse done ++ (x ∷ more)
 turned x done more =
-    ap (λ (l : List (List ℕ)). l ++ more) (reverse-append (x ∷ []) done) ∙ append_assoc (reverse done) (x ∷ []) more
+    ap (λ (l : List (List ℕ × List ℕ)). l ++ more) (reverse-append (x ∷ []) done) ∙ append_assoc (reverse done) (x ∷ []) more
 
 plain_title : (name : List ℕ) → ArePlain name → ArePlain (title_line name)
 plain_title name is = plain_both name address is (plain_by address refl)
 
-tables_read : (tables : List Named) → All IsDumped tables → (number : ℕ) (done : List (List ℕ))
-    → read number done (table_lines tables) ≡ Ok (reverse done ++ map (λ table. table.bytes) tables)
+-- what is read of a table
+abbrev read_of : Named → List ℕ × List ℕ
+read_of table = (title_line table.name, table.bytes)
+
+tables_read : (tables : List Named) → All IsDumped tables → (number : ℕ) (done : List (List ℕ × List ℕ))
+    → read number done (table_lines tables) ≡ Ok (reverse done ++ map read_of tables)
 tables_read [] are number done = ap Ok (sym (append-nil (reverse done)))
 tables_read (table ∷ tables) are number done =
     let is = All-head IsDumped table tables are in
     let others = tables_read tables (All-tail IsDumped table tables are) in
     let all = table.bytes in
-    let result : Result (List (List ℕ)) DumpFault = Ok (reverse done ++ map (λ table. table.bytes) (table ∷ tables)) in
-    read_line number done (title_line table.name) title (bytes_lines (length all) 0 all ++ ([] ∷ table_lines tables))
+    let name = title_line table.name in
+    let result : Result (List (List ℕ × List ℕ)) DumpFault = Ok (reverse done ++ map read_of (table ∷ tables)) in
+    read_line number done name (title name) (bytes_lines (length all) 0 all ++ ([] ∷ table_lines tables))
     (plain_title table.name (plain_name table.name is.one_line)) (title_read table.name is.begins)
-    ∙ lines_added (length all) 0 (number + 1) [] all done ([] ∷ table_lines tables) result is.are (omega arith) (λ (some : 1 ≤ length all). refl)
+    ∙ lines_added (length all) 0 (number + 1) name [] all done ([] ∷ table_lines tables) result is.are (omega arith) (λ (some : 1 ≤ length all). refl)
     (omega (arith, is.size))
-    (λ (k : ℕ). others (k + 1) (all ∷ done) ∙ ap Ok (turned all done (map (λ table. table.bytes) tables)))
+    (λ (k : ℕ). others (k + 1) ((name, all) ∷ done) ∙ ap Ok (turned (name, all) done (map read_of tables)))
 
 plain_lines : (most offset : ℕ) (bs : List ℕ) (more : List (List ℕ)) → All (λ b. b < 256) bs → AllPlain more
     → AllPlain (bytes_lines most offset bs ++ more)

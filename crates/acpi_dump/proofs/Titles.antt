@@ -34,5 +34,5 @@ not_blank name =
     ap is_blank (sym (append_assoc name (32 ∷ []) (codes "@ 0x0000000000000000")))
     ∙ not_all (λ c. c == 32 || c == 9) (name ++ (32 ∷ [])) 64 (codes " 0x0000000000000000") refl
 
-pub title_read : (name : List ℕ) → BeginsTitle name → line_of (title_line name) ≡ title
+pub title_read : (name : List ℕ) → BeginsTitle name → line_of (title_line name) ≡ title (title_line name)
 title_read name begins = rw (not_blank name, title_is name begins) refl

@@ -5,7 +5,7 @@ ghost use Rattle.std.specs.Char.{is_ascii_hexdigit};
 ghost use Rattle.std.specs.List.{AllPass};
 ghost use Rattle.std.specs.Str.Parse.{digits_value};
 ghost use Rattle.acpi_dump.specs.Line.{bytes_in};
-ghost use Rattle.acpi_dump.specs.Dump.{bytes, line_of, step, latest_first, IsStep, is_dump, tables_of};
+ghost use Rattle.acpi_dump.specs.Dump.{bytes, line_of, step, titled, latest_first, IsStep, is_dump, tables_of};
 ghost use Rattle.acpi_dump.specs.declared.fault.DumpFault.TheVariants.{Memory};
 
 use crate::digits::number;
@@ -14,8 +14,17 @@ use crate::line::{Parts, is_blank, is_title, parts_of, push_bytes};
 use crate::lines::{split_line, without_return};
 use std::alloc::Global;
 
+/// A table of a dump.
+#[derive(Debug, Drop)]
+pub struct Dumped {
+    /// The line before the table, without what ends it.
+    pub title: Vec<u8>,
+    /// The table's bytes.
+    pub bytes: Vec<u8>,
+}
+
 // Adds the bytes of a line to the last table, which is taken out of the list while it grows.
-fn add(line: usize, parts: Parts<'_>, tables: &mut Vec<Vec<u8>>) -> Result<(), DumpFault>
+fn add(line: usize, parts: Parts<'_>, tables: &mut Vec<Dumped>) -> Result<(), DumpFault>
     requires { AllPass is_ascii_hexdigit parts.digits.now }
     ensures { IsStep (step line (latest_first tables.old)
         (bytes (digits_value 16 parts.entry.digits.now) (bytes_in 16 parts.entry.rest.now))) (latest_first tables.new) result }
@@ -23,12 +32,12 @@ fn add(line: usize, parts: Parts<'_>, tables: &mut Vec<Vec<u8>>) -> Result<(), D
     let Some(mut table) = tables.pop() else {
         return Err(DumpFault::Untitled(line));
     };
-    let size = table.len();
+    let size = table.bytes.len();
     match number(parts.digits) {
         Some(offset) if offset == size => {}
         _ => return Err(DumpFault::Offset(line, size)),
     }
-    push_bytes(parts.rest, &mut table)?;
+    push_bytes(parts.rest, &mut table.bytes)?;
     tables.push(table)?;
     Ok(())
 }
@@ -38,7 +47,7 @@ fn read_line(
     alloc: Global,
     number: usize,
     line: &[u8],
-    tables: &mut Vec<Vec<u8>>,
+    tables: &mut Vec<Dumped>,
 ) -> Result<(), DumpFault>
     ensures { IsStep (step number (latest_first tables.old) (line_of line.now)) (latest_first tables.new) result }
 {
@@ -46,7 +55,10 @@ fn read_line(
         return Ok(());
     }
     if is_title(line) {
-        tables.push(Vec::new(alloc))?;
+        tables.push(Dumped {
+            title: Vec::from_slice(alloc, line)?,
+            bytes: Vec::new(alloc),
+        })?;
         return Ok(());
     }
     match parts_of(line) {
@@ -55,9 +67,9 @@ fn read_line(
     }
 }
 
-/// Returns the bytes of each table of a dump, in order, or what is wrong first.
-pub fn tables_of(alloc: Global, text: &[u8]) -> Result<Vec<Vec<u8>>, DumpFault>
-    ensures ok { IfOk result (λ tables. tables_of text.now ≡ Ok (map (λ table. table.items) tables.items)) }
+/// Returns the tables of a dump, in order, or what is wrong first.
+pub fn tables_of(alloc: Global, text: &[u8]) -> Result<Vec<Dumped>, DumpFault>
+    ensures ok { IfOk result (λ tables. tables_of text.now ≡ Ok (map titled tables.items)) }
     ensures err { IfErr result (λ fault. fault ≢ Memory → tables_of text.now ≡ Err fault) }
 {
     let mut tables = Vec::new(alloc);

@@ -1,4 +1,4 @@
-//! ACPI dumps as text: the hexadecimal lines of `acpidump`, read into the bytes of tables.
+//! ACPI dumps as text: the hexadecimal lines of `acpidump`, read into tables, each with its title and its bytes.
 
 #![tactic(auto)]
 
@@ -9,5 +9,5 @@ pub mod laws;
 mod line;
 mod lines;
 
-pub use dump::{is_dump, tables_of};
+pub use dump::{Dumped, is_dump, tables_of};
 pub use fault::DumpFault;

@@ -1,2 +1,3 @@
 mod Named
 pub mod Signatures
+mod Meant

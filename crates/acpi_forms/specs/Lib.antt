@@ -4,3 +4,5 @@ pub mod Named
 pub mod Shows
 pub mod Kind
 pub mod Makes
+pub mod Words
+pub mod Known

@@ -1,30 +1,12 @@
 -- Words ask for at most one command.
-use Rattle.std.proofs.Common.{◌≡◌, ℕ, List, [], Some, None, ◌∷◌, ◌++◌, length, map, refl, sym, ap, subst, ◌∙◌, inl, inr, arith, codes, string_bytes, String, Global}
+use Rattle.std.proofs.Common.{◌≡◌, ℕ, List, [], ◌∷◌, ◌++◌, length, map, refl, sym, ap, subst, ◌∙◌, inl, inr, arith, codes, string_bytes, String, Global}
 use Rattle.std.proofs.lemmas.List.{length-map}
+use Rattle.acpitool_run.proofs.Verbs.{heads, tails, no_version, no_first_help, no_help, asks_no_help}
 use Rattle.acpitool_run.proofs.Words.{apart}
-use Rattle.acpitool_run.specs.Command.{word_of, first_option, files_in, IsAddress, AreImage}
+use Rattle.acpitool_run.specs.Command.{files_in, forces, unforced, IsAddress, AreImage}
 use Rattle.acpitool_run.specs.Laws.{AskForOne}
 use Rattle.acpitool_run.specs.declared.command.Command.TheVariants.{Help, Version, Show, Image, Make, Template}
-use Rattle.acpitool_run.specs.declared.command.Verb.{Verb}
 use Rattle.acpitool_run.specs.declared.command.Verb.TheVariants as verbs
-
-heads : (words : List (List ℕ)) (a b : List ℕ) (x y : List (List ℕ)) → words ≡ a ∷ x → words ≡ b ∷ y → a ≡ b
-heads words a b x y one two = cc
-
-tails : (words : List (List ℕ)) (a b : List ℕ) (x y : List (List ℕ)) → words ≡ a ∷ x → words ≡ b ∷ y → x ≡ y
-tails words a b x y one two = cc
-
--- words after a command don't ask for the usage and have no option
-asks_help : (words : List (List ℕ)) (a b : List ℕ) (x y : List (List ℕ)) → words ≡ a ∷ x → words ≡ b ∷ y
-    → first_option x ≡ Some (codes "--help") → first_option y ≡ None → ⊥
-asks_help words a b x y one two help none =
-    let e : Some (codes "--help") ≡ None = sym help ∙ ap first_option (tails words a b x y one two) ∙ none in cc
-
-no_version : (verb : Verb) → word_of verb ≡ codes "--version" → ⊥
-no_version verbs.Show is = apart (codes "show") (codes "--version") is (λ same. absurd (omega (arith, same)))
-no_version verbs.Image is = apart (codes "image") (codes "--version") is (λ same. absurd (omega (arith, same)))
-no_version verbs.Make is = apart (codes "make") (codes "--version") is (λ same. absurd (omega (arith, same)))
-no_version verbs.Template is = apart (codes "template") (codes "--version") is (λ same. absurd (omega (arith, same)))
 
 -- lists with parts of the same length have the same parts
 same_parts : (a b d e : List (List ℕ)) → a ++ b ≡ d ++ e → length a ≡ length d → (a ≡ d) × (b ≡ e)
@@ -78,51 +60,54 @@ same_only a b is = cc
 
 pub ask_for_one : AskForOne
 ask_for_one words Help Help one two = tt
-ask_for_one words Help Version (inl one) two = absurd (apart (codes "--help") (codes "--version") (heads words _ _ _ _ one.1 two.1) (λ same. absurd (omega (arith, same))))
+ask_for_one words Help Version (inl one) two =
+    absurd (no_first_help (codes "--version") one.word one.asks (heads words _ _ _ _ two.1 one.is) (λ same. absurd (omega (arith, same))) (λ same. absurd (omega (arith, same))) (λ same. absurd (omega (arith, same))))
 ask_for_one words Help Version (inr one) two = absurd (no_version one.verb (heads words _ _ _ _ one.is two.1))
-ask_for_one words Help (Show d e) (inl one) two = absurd (apart (codes "--help") (codes "show") (heads words _ _ _ _ one.1 two.1.0) (λ same. absurd (omega (arith, same))))
-ask_for_one words Help (Show d e) (inr one) two = absurd (asks_help words _ _ _ _ one.is two.1.0 one.asks two.1.1)
-ask_for_one words Help (Image d e) (inl one) two = absurd (apart (codes "--help") (codes "image") (heads words _ _ _ _ one.1 two.1.0) (λ same. absurd (omega (arith, same))))
-ask_for_one words Help (Image d e) (inr one) two = absurd (asks_help words _ _ _ _ one.is two.1.0 one.asks two.1.1)
-ask_for_one words Help (Template d) (inl one) two = absurd (apart (codes "--help") (codes "template") (heads words _ _ _ _ one.1 two.1.0) (λ same. absurd (omega (arith, same))))
-ask_for_one words Help (Template d) (inr one) two = absurd (asks_help words _ _ _ _ one.is two.1.0 one.asks two.1.1)
-ask_for_one words Help (Make d e) (inl one) two = absurd (apart (codes "--help") (codes "make") (heads words _ _ _ _ one.1 two.1.0) (λ same. absurd (omega (arith, same))))
-ask_for_one words Help (Make d e) (inr one) two = absurd (asks_help words _ _ _ _ one.is two.1.0 one.asks two.1.1)
-ask_for_one words Version Help one (inl two) = absurd (apart (codes "--version") (codes "--help") (heads words _ _ _ _ one.1 two.1) (λ same. absurd (omega (arith, same))))
+ask_for_one words Help (Show d e) (inl one) two = absurd (no_help verbs.Show one.word one.asks (heads words _ _ _ _ two.1.0 one.is))
+ask_for_one words Help (Show d e) (inr one) two = absurd (asks_no_help words one verbs.Show two.0 two.1)
+ask_for_one words Help (Image d e) (inl one) two = absurd (no_help verbs.Image one.word one.asks (heads words _ _ _ _ two.1.0 one.is))
+ask_for_one words Help (Image d e) (inr one) two = absurd (asks_no_help words one verbs.Image two.0 two.1)
+ask_for_one words Help (Template d) (inl one) two = absurd (no_help verbs.Template one.word one.asks (heads words _ _ _ _ two.1.0 one.is))
+ask_for_one words Help (Template d) (inr one) two = absurd (asks_no_help words one verbs.Template two.0 two.1)
+ask_for_one words Help (Make d e f) (inl one) two = absurd (no_help verbs.Make one.word one.asks (heads words _ _ _ _ two.1.0 one.is))
+ask_for_one words Help (Make d e f) (inr one) two = absurd (asks_no_help words one verbs.Make two.0 two.1)
+ask_for_one words Version Help one (inl two) =
+    absurd (no_first_help (codes "--version") two.word two.asks (heads words _ _ _ _ one.1 two.is) (λ same. absurd (omega (arith, same))) (λ same. absurd (omega (arith, same))) (λ same. absurd (omega (arith, same))))
 ask_for_one words Version Help one (inr two) = absurd (no_version two.verb (heads words _ _ _ _ two.is one.1))
 ask_for_one words Version Version one two = tt
-ask_for_one words Version (Show d e) one two = absurd (apart (codes "--version") (codes "show") (heads words _ _ _ _ one.1 two.1.0) (λ same. absurd (omega (arith, same))))
-ask_for_one words Version (Image d e) one two = absurd (apart (codes "--version") (codes "image") (heads words _ _ _ _ one.1 two.1.0) (λ same. absurd (omega (arith, same))))
-ask_for_one words Version (Template d) one two = absurd (apart (codes "--version") (codes "template") (heads words _ _ _ _ one.1 two.1.0) (λ same. absurd (omega (arith, same))))
-ask_for_one words Version (Make d e) one two = absurd (apart (codes "--version") (codes "make") (heads words _ _ _ _ one.1 two.1.0) (λ same. absurd (omega (arith, same))))
-ask_for_one words (Show a b) Help one (inl two) = absurd (apart (codes "show") (codes "--help") (heads words _ _ _ _ one.1.0 two.1) (λ same. absurd (omega (arith, same))))
-ask_for_one words (Show a b) Help one (inr two) = absurd (asks_help words _ _ _ _ two.is one.1.0 two.asks one.1.1)
-ask_for_one words (Show a b) Version one two = absurd (apart (codes "show") (codes "--version") (heads words _ _ _ _ one.1.0 two.1) (λ same. absurd (omega (arith, same))))
+ask_for_one words Version (Show d e) one two = absurd (no_version verbs.Show (heads words _ _ _ _ two.1.0 one.1))
+ask_for_one words Version (Image d e) one two = absurd (no_version verbs.Image (heads words _ _ _ _ two.1.0 one.1))
+ask_for_one words Version (Template d) one two = absurd (no_version verbs.Template (heads words _ _ _ _ two.1.0 one.1))
+ask_for_one words Version (Make d e f) one two = absurd (no_version verbs.Make (heads words _ _ _ _ two.1.0 one.1))
+ask_for_one words (Show a b) Help one (inl two) = absurd (no_help verbs.Show two.word two.asks (heads words _ _ _ _ one.1.0 two.is))
+ask_for_one words (Show a b) Help one (inr two) = absurd (asks_no_help words two verbs.Show one.0 one.1)
+ask_for_one words (Show a b) Version one two = absurd (no_version verbs.Show (heads words _ _ _ _ one.1.0 two.1))
 ask_for_one words (Show a b) (Show d e) one two = same_files words _ _ _ _ _ _ one.1.0 two.1.0 one.2 two.2 one.3 two.3
 ask_for_one words (Show a b) (Image d e) one two = absurd (apart (codes "show") (codes "image") (heads words _ _ _ _ one.1.0 two.1.0) (λ same. absurd (omega (arith, same))))
 ask_for_one words (Show a b) (Template d) one two = absurd (apart (codes "show") (codes "template") (heads words _ _ _ _ one.1.0 two.1.0) (λ same. absurd (omega (arith, same))))
-ask_for_one words (Show a b) (Make d e) one two = absurd (apart (codes "show") (codes "make") (heads words _ _ _ _ one.1.0 two.1.0) (λ same. absurd (omega (arith, same))))
-ask_for_one words (Image a b) Help one (inl two) = absurd (apart (codes "image") (codes "--help") (heads words _ _ _ _ one.1.0 two.1) (λ same. absurd (omega (arith, same))))
-ask_for_one words (Image a b) Help one (inr two) = absurd (asks_help words _ _ _ _ two.is one.1.0 two.asks one.1.1)
-ask_for_one words (Image a b) Version one two = absurd (apart (codes "image") (codes "--version") (heads words _ _ _ _ one.1.0 two.1) (λ same. absurd (omega (arith, same))))
+ask_for_one words (Show a b) (Make d e f) one two = absurd (apart (codes "show") (codes "make") (heads words _ _ _ _ one.1.0 two.1.0) (λ same. absurd (omega (arith, same))))
+ask_for_one words (Image a b) Help one (inl two) = absurd (no_help verbs.Image two.word two.asks (heads words _ _ _ _ one.1.0 two.is))
+ask_for_one words (Image a b) Help one (inr two) = absurd (asks_no_help words two verbs.Image one.0 one.1)
+ask_for_one words (Image a b) Version one two = absurd (no_version verbs.Image (heads words _ _ _ _ one.1.0 two.1))
 ask_for_one words (Image a b) (Show d e) one two = absurd (apart (codes "image") (codes "show") (heads words _ _ _ _ one.1.0 two.1.0) (λ same. absurd (omega (arith, same))))
 ask_for_one words (Image a b) (Image d e) one two =
     same_images one.0 two.0 _ _ _ _ (tails words _ _ _ _ one.1.0 two.1.0) one.2 two.2
 ask_for_one words (Image a b) (Template d) one two = absurd (apart (codes "image") (codes "template") (heads words _ _ _ _ one.1.0 two.1.0) (λ same. absurd (omega (arith, same))))
-ask_for_one words (Image a b) (Make d e) one two = absurd (apart (codes "image") (codes "make") (heads words _ _ _ _ one.1.0 two.1.0) (λ same. absurd (omega (arith, same))))
-ask_for_one words (Template a) Help one (inl two) = absurd (apart (codes "template") (codes "--help") (heads words _ _ _ _ one.1.0 two.1) (λ same. absurd (omega (arith, same))))
-ask_for_one words (Template a) Help one (inr two) = absurd (asks_help words _ _ _ _ two.is one.1.0 two.asks one.1.1)
-ask_for_one words (Template a) Version one two = absurd (apart (codes "template") (codes "--version") (heads words _ _ _ _ one.1.0 two.1) (λ same. absurd (omega (arith, same))))
+ask_for_one words (Image a b) (Make d e f) one two = absurd (apart (codes "image") (codes "make") (heads words _ _ _ _ one.1.0 two.1.0) (λ same. absurd (omega (arith, same))))
+ask_for_one words (Template a) Help one (inl two) = absurd (no_help verbs.Template two.word two.asks (heads words _ _ _ _ one.1.0 two.is))
+ask_for_one words (Template a) Help one (inr two) = absurd (asks_no_help words two verbs.Template one.0 one.1)
+ask_for_one words (Template a) Version one two = absurd (no_version verbs.Template (heads words _ _ _ _ one.1.0 two.1))
 ask_for_one words (Template a) (Show d e) one two = absurd (apart (codes "template") (codes "show") (heads words _ _ _ _ one.1.0 two.1.0) (λ same. absurd (omega (arith, same))))
 ask_for_one words (Template a) (Image d e) one two = absurd (apart (codes "template") (codes "image") (heads words _ _ _ _ one.1.0 two.1.0) (λ same. absurd (omega (arith, same))))
 ask_for_one words (Template a) (Template d) one two =
     same_only _ _ (sym one.2 ∙ tails words _ _ _ _ one.1.0 two.1.0 ∙ two.2)
-ask_for_one words (Template a) (Make d e) one two = absurd (apart (codes "template") (codes "make") (heads words _ _ _ _ one.1.0 two.1.0) (λ same. absurd (omega (arith, same))))
-ask_for_one words (Make a b) Help one (inl two) = absurd (apart (codes "make") (codes "--help") (heads words _ _ _ _ one.1.0 two.1) (λ same. absurd (omega (arith, same))))
-ask_for_one words (Make a b) Help one (inr two) = absurd (asks_help words _ _ _ _ two.is one.1.0 two.asks one.1.1)
-ask_for_one words (Make a b) Version one two = absurd (apart (codes "make") (codes "--version") (heads words _ _ _ _ one.1.0 two.1) (λ same. absurd (omega (arith, same))))
-ask_for_one words (Make a b) (Show d e) one two = absurd (apart (codes "make") (codes "show") (heads words _ _ _ _ one.1.0 two.1.0) (λ same. absurd (omega (arith, same))))
-ask_for_one words (Make a b) (Image d e) one two = absurd (apart (codes "make") (codes "image") (heads words _ _ _ _ one.1.0 two.1.0) (λ same. absurd (omega (arith, same))))
-ask_for_one words (Make a b) (Template d) one two = absurd (apart (codes "make") (codes "template") (heads words _ _ _ _ one.1.0 two.1.0) (λ same. absurd (omega (arith, same))))
-ask_for_one words (Make a b) (Make d e) one two =
-    let e = sym one.2 ∙ tails words _ _ _ _ one.1.0 two.1.0 ∙ two.2 in (same_first _ _ _ _ e, same_second _ _ _ _ e)
+ask_for_one words (Template a) (Make d e f) one two = absurd (apart (codes "template") (codes "make") (heads words _ _ _ _ one.1.0 two.1.0) (λ same. absurd (omega (arith, same))))
+ask_for_one words (Make a b c) Help one (inl two) = absurd (no_help verbs.Make two.word two.asks (heads words _ _ _ _ one.1.0 two.is))
+ask_for_one words (Make a b c) Help one (inr two) = absurd (asks_no_help words two verbs.Make one.0 one.1)
+ask_for_one words (Make a b c) Version one two = absurd (no_version verbs.Make (heads words _ _ _ _ one.1.0 two.1))
+ask_for_one words (Make a b c) (Show d e) one two = absurd (apart (codes "make") (codes "show") (heads words _ _ _ _ one.1.0 two.1.0) (λ same. absurd (omega (arith, same))))
+ask_for_one words (Make a b c) (Image d e) one two = absurd (apart (codes "make") (codes "image") (heads words _ _ _ _ one.1.0 two.1.0) (λ same. absurd (omega (arith, same))))
+ask_for_one words (Make a b c) (Template d) one two = absurd (apart (codes "make") (codes "template") (heads words _ _ _ _ one.1.0 two.1.0) (λ same. absurd (omega (arith, same))))
+ask_for_one words (Make a b c) (Make d e f) one two =
+    let same : one.0 ≡ two.0 = tails words _ _ _ _ one.1.0 two.1.0 in
+    let e = sym one.3 ∙ ap unforced same ∙ two.3 in (one.2 ∙ ap forces same ∙ sym two.2, same_first _ _ _ _ e, same_second _ _ _ _ e)

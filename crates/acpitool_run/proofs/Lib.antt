@@ -4,6 +4,8 @@ mod Outcomes
 mod Pointers
 mod Runs
 mod Texts
+mod Unforced
+mod Verbs
 mod Whole
 mod Words
 mod Wrongs

@@ -3,18 +3,22 @@ use Rattle.std.proofs.Common.{◌≡◌, ℕ, max, List, [], ◌∷◌, ◌++◌
 use Rattle.std.proofs.lemmas.List.{append-nil, length-map}
 use Rattle.std.specs.Io.KnownBytes.{Keeps, Appends}
 use Rattle.acpiread_run.specs.Command.{stated}
-use Rattle.acpiread_run.specs.Fault.{line_of}
-use Rattle.acpiread_run.specs.declared.fault.Fault.{Fault}
-use Rattle.acpi_dump.specs.Dump.{is_dump, tables_of}
+use Rattle.std.proofs.lemmas.Simd.{map-map}
+use Rattle.acpi_dump.specs.Dump.{titled, is_dump, tables_of}
+use Rattle.acpi_dump.specs.declared.dump.Dumped.{Dumped}
 use Rattle.acpi_dump.specs.Fault.{text_of}
 use Rattle.acpi_dump.specs.declared.fault.DumpFault.{DumpFault}
 use Rattle.acpitool_run.specs.Outcome.{Outcome, shown, refused, broken, unread, output, complaint, status, outputs, complaints, worst}
-use Rattle.acpitool_run.specs.Outcome.{heading, AreTrueOutcomes, AreNamed, HaveBytes, AreOfTables, AreOfDump, AreOfBytesBy, AreOfBytes}
+use Rattle.acpitool_run.specs.Outcome.{heading, labelled, fault_line, fault_status, AreTrueOutcomes, AreEach, AreOfTables, AreOfDump, AreOfBytesBy, AreOfBytes}
 use Rattle.acpitool_run.specs.Outcome.{IsUnread, AreOfFile, AreGroups, joined, AreOfEach, AreOfWord, Printed, PrintedAs}
 use Rattle.acpitool_run.specs.Program.{IsShown, IsMisstatedAs, wrong_text}
 use Rattle.acpitool_run.specs.declared.command.Wrong.{Wrong}
+use Rattle.acpi_forms.specs.Kind.{kind_of}
+use Rattle.acpitool_run.specs.Fault.{line_of}
+use Rattle.acpitool_run.specs.Structures.{HasFault}
 use Rattle.acpitool_run.specs.Terms.{IsAfter}
 use Rattle.acpitool_run.specs.Text.{IsText, IsTextFault}
+use Rattle.acpitool_run.specs.declared.fault.Fault.{Fault}
 
 -- ---- bytes of writers
 
@@ -46,15 +50,12 @@ are_append : (stated : List (List ℕ × ℕ)) (a b : List Outcome) → AreTrueO
 are_append stated [] b one two = two
 are_append stated (o ∷ a) b one two = (one.0, are_append stated a b one.1 two)
 
-named_append : (several : Bool) (name : List ℕ) (a b : List Outcome) → AreNamed several name a → AreNamed several name b → AreNamed several name (a ++ b)
-named_append several name [] b one two = two
-named_append several name (o ∷ a) b one two = (one.0, named_append several name a b one.1 two)
-
-have_append : (xs ys : List (List ℕ)) (a b : List Outcome) → HaveBytes xs a → HaveBytes ys b → HaveBytes (xs ++ ys) (a ++ b)
-have_append [] ys [] b one two = two
-have_append [] ys (o ∷ a) b one two = absurd one
-have_append (x ∷ xs) ys [] b one two = absurd one
-have_append (x ∷ xs) ys (o ∷ a) b one two = (one.0, have_append xs ys a b one.1 two)
+tables_append : (several : Bool) (xs ys : List (List ℕ × List ℕ)) (a b : List Outcome)
+    → AreEach several xs a → AreEach several ys b → AreEach several (xs ++ ys) (a ++ b)
+tables_append several [] ys [] b one two = two
+tables_append several [] ys (o ∷ a) b one two = absurd one
+tables_append several (x ∷ xs) ys [] b one two = absurd one
+tables_append several (x ∷ xs) ys (o ∷ a) b one two = (one.0, one.1, tables_append several xs ys a b one.2 two)
 
 -- ---- what calls printed
 
@@ -86,32 +87,37 @@ as_these {stated} {P} {Q} {o} {o'} {e} {e'} {s} follows one =
 
 -- ---- one outcome
 
-pub one_shown : (stated : List (List ℕ × ℕ)) (out out' err : Option (List ℕ)) (several : Bool) (name before bytes text after : List ℕ)
-    → before ≡ heading several name → IsText bytes text → IsAfter stated bytes after → Appends out out' (before ++ text ++ after)
-    → PrintedAs stated (AreOfTables several name (bytes ∷ [])) out out' err err 0
-one_shown stated out out' err several name before bytes text after heads is follows wrote =
+most_of_one : (s : ℕ) → s ≡ max s 0
+most_of_one s = grind arith
+
+pub one_shown : (stated : List (List ℕ × ℕ)) (out out' err err' : Option (List ℕ)) (several : Bool) (name before bytes text after : List ℕ)
+    (fault : Option Fault) (s : ℕ) → before ≡ heading several name → IsText bytes text → IsAfter stated bytes after
+    → HasFault (kind_of bytes) bytes fault → Appends out out' (before ++ text ++ after) → Appends err err' (fault_line name fault)
+    → s ≡ fault_status fault → PrintedAs stated (AreOfTables several ((name, bytes) ∷ [])) out out' err err' s
+one_shown stated out out' err err' several name before bytes text after fault s heads is follows has wrote told same =
     let P : List ℕ → Type 0 = λ l. Appends out out' (l ++ text ++ after) in
     let Q : List ℕ → Type 0 = λ l. Appends out out' l in
+    let R : List ℕ → Type 0 = λ l. Appends err err' l in
     record {
-      outcomes = shown several name bytes text after ∷ [];
-      are = record { named = ((refl, refl), tt); have = (refl, tt) };
+      outcomes = shown several name bytes text after fault ∷ [];
+      are = record { each = ((refl, refl), refl, tt) };
       printed = record {
-        are = ((is, follows), tt);
+        are = ((is, follows, has), tt);
         wrote = subst Q (sym (append-nil (heading several name ++ text ++ after))) (subst P heads wrote);
-        complained = appends_none err;
-        is = refl;
+        complained = subst R (sym (append-nil (fault_line name fault))) told;
+        is = same ∙ most_of_one (fault_status fault);
       };
     }
 
 pub one_refused : (stated : List (List ℕ × ℕ)) (out err err' : Option (List ℕ)) (several : Bool) (name bytes : List ℕ) (fault : Fault) (why : List ℕ)
     → IsTextFault bytes fault → why ≡ line_of fault → Appends err err' (name ++ codes ": " ++ why ++ 10 ∷ [])
-    → PrintedAs stated (AreOfTables several name (bytes ∷ [])) out out err err' 1
+    → PrintedAs stated (AreOfTables several ((name, bytes) ∷ [])) out out err err' 1
 one_refused stated out err err' several name bytes fault why is says wrote =
     let P : List ℕ → Type 0 = λ l. Appends err err' l in
     let Q : List ℕ → Type 0 = λ l. Appends err err' (name ++ codes ": " ++ l ++ 10 ∷ []) in
     record {
       outcomes = refused name bytes fault ∷ [];
-      are = record { named = (refl, tt); have = (refl, tt) };
+      are = record { each = (refl, refl, tt) };
       printed = record {
         are = (is, tt);
         wrote = appends_none out;
@@ -153,37 +159,40 @@ one_unread stated out err err' name why s wrote is =
 
 -- ---- tables
 
-pub no_tables : (stated : List (List ℕ × ℕ)) (several : Bool) (name : List ℕ) (out err : Option (List ℕ))
-    → PrintedAs stated (AreOfTables several name []) out out err err 0
-no_tables stated several name out err =
-    record { outcomes = []; are = record { named = tt; have = tt }; printed = nothing stated out err }
+pub no_tables : (stated : List (List ℕ × ℕ)) (several : Bool) (out err : Option (List ℕ))
+    → PrintedAs stated (AreOfTables several []) out out err err 0
+no_tables stated several out err = record { outcomes = []; are = record { each = tt }; printed = nothing stated out err }
 
-pub tables_then : {stated : List (List ℕ × ℕ)} {several : Bool} {name : List ℕ} {xs ys : List (List ℕ)} {o o' o'' e e' e'' : Option (List ℕ)} {a b : ℕ}
-    → PrintedAs stated (AreOfTables several name xs) o o' e e' a → PrintedAs stated (AreOfTables several name ys) o' o'' e' e'' b
-    → PrintedAs stated (AreOfTables several name (xs ++ ys)) o o'' e e'' (max a b)
-tables_then {stated} {several} {name} {xs} {ys} one two = record {
+pub tables_then : {stated : List (List ℕ × ℕ)} {several : Bool} {xs ys : List (List ℕ × List ℕ)} {o o' o'' e e' e'' : Option (List ℕ)} {a b : ℕ}
+    → PrintedAs stated (AreOfTables several xs) o o' e e' a → PrintedAs stated (AreOfTables several ys) o' o'' e' e'' b
+    → PrintedAs stated (AreOfTables several (xs ++ ys)) o o'' e e'' (max a b)
+tables_then {stated} {several} {xs} {ys} one two = record {
   outcomes = one.outcomes ++ two.outcomes;
-  are = record {
-    named = named_append several name one.outcomes two.outcomes one.are.named two.are.named;
-    have = have_append xs ys one.outcomes two.outcomes one.are.have two.are.have;
-  };
+  are = record { each = tables_append several xs ys one.outcomes two.outcomes one.are.each two.are.each };
   printed = and_then one.printed two.printed;
 }
 
 -- of the same tables, with the same status
-pub same_tables : {stated : List (List ℕ × ℕ)} {several : Bool} {name : List ℕ} {xs ys : List (List ℕ)} {o o' e e' : Option (List ℕ)} {a b : ℕ}
-    → xs ≡ ys → a ≡ b → PrintedAs stated (AreOfTables several name xs) o o' e e' b
-    → PrintedAs stated (AreOfTables several name ys) o o' e e' a
-same_tables {stated} {several} {name} {xs} {ys} {o} {o'} {e} {e'} {a} {b} same is one =
-    let P : List (List ℕ) → Type 0 = λ l. PrintedAs stated (AreOfTables several name l) o o' e e' a in
-    let Q : ℕ → Type 0 = λ n. PrintedAs stated (AreOfTables several name xs) o o' e e' n in
+pub same_tables : {stated : List (List ℕ × ℕ)} {several : Bool} {xs ys : List (List ℕ × List ℕ)} {o o' e e' : Option (List ℕ)} {a b : ℕ}
+    → xs ≡ ys → a ≡ b → PrintedAs stated (AreOfTables several xs) o o' e e' b
+    → PrintedAs stated (AreOfTables several ys) o o' e e' a
+same_tables {stated} {several} {xs} {ys} {o} {o'} {e} {e'} {a} {b} same is one =
+    let P : List (List ℕ × List ℕ) → Type 0 = λ l. PrintedAs stated (AreOfTables several l) o o' e e' a in
+    let Q : ℕ → Type 0 = λ n. PrintedAs stated (AreOfTables several xs) o o' e e' n in
     subst P same (subst Q (sym is) one)
+
+-- the tables of a dump, each with its own name
+pub dump_tables : (name dump : List ℕ) (items : List Dumped) → tables_of dump ≡ Ok (map titled items) → (outcomes : List Outcome)
+    → AreOfTables true (map (λ table. labelled name (titled table)) items) outcomes → AreOfDump name dump outcomes
+dump_tables name dump items is outcomes are =
+    let P : List (List ℕ × List ℕ) → Type 0 = λ l. AreOfTables true l outcomes in
+    inl (map titled items, is, subst P (sym (map-map (labelled name) titled items)) are)
 
 -- ---- files
 
 -- a file that is a table
 pub table_bytes : (several : Bool) (name bytes : List ℕ) → is_dump bytes ≡ false → (outcomes : List Outcome)
-    → AreOfTables several name (bytes ∷ []) outcomes → AreOfBytes several name bytes outcomes
+    → AreOfTables several ((name, bytes) ∷ []) outcomes → AreOfBytes several name bytes outcomes
 table_bytes several name bytes plain outcomes are =
     let P : Bool → Type 0 = λ b. AreOfBytesBy b several name bytes outcomes in subst P (sym plain) are
 

@@ -1,9 +1,14 @@
 -- The first pointer of an image.
-use Rattle.std.proofs.Common.{◌≡◌, ℕ, ◌+◌, ◌%◌, ◌^◌, ◌<◌, List, length, inl, inr, arith, subst}
+use Rattle.std.proofs.Common.{◌≡◌, ◌≢◌, ◌∙◌, sym, ℕ, ◌+◌, ◌%◌, ◌^◌, ◌<◌, List, length, inl, inr, arith, subst}
 use Rattle.std.proofs.lemmas.Bool.{cases_lt}
 use Rattle.acpitool_run.specs.Image.{IsPointerAt, IsFirstPointer, HasNoPointer, IsFoundImage}
 use Rattle.acpi_layout.specs.Found.{IsImage}
+use Rattle.acpi_layout.specs.declared.fault.ImageFault.{ImageFault}
+use Rattle.acpi_layout.specs.declared.fault.ImageFault.TheVariants.{Memory, Outside}
 use Rattle.acpi_layout.specs.declared.located.Located.{Located}
+use Rattle.acpitool_run.specs.Listing.{IsWhyNone, IsNoImage}
+use Rattle.acpitool_run.specs.declared.image.NoImage.{NoImage}
+use Rattle.acpitool_run.specs.declared.image.NoImage.TheVariants.{NoPointer, Old, Away, Wrong}
 
 -- none is before this offset
 abbrev pub NoneBefore : ℕ → List ℕ → ℕ → Type 0
@@ -48,3 +53,16 @@ none_found base bytes at first none tables found =
     let P : ℕ → Type 0 = λ n. (base + n < 2 ^ 64) × IsImage bytes base (base + n) tables in
     let here = subst P (one_first 36 bytes found.at at found.first first) (found.fits, found.image) in
     none tables here.0 here.1
+
+outside_is_no_memory : (address : ℕ) (fault : ImageFault) → fault ≡ Outside address → fault ≢ Memory
+outside_is_no_memory address fault is memory = let e : Outside address ≡ Memory = sym is ∙ memory in cc
+
+-- why the first pointer leads to no tables is why there is no image
+pub why_no_image : (base : ℕ) (bytes : List ℕ) (at : ℕ) (fault : ImageFault) (why : NoImage) → IsFirstPointer 36 bytes at
+    → (fault ≢ Memory → (tables : List Located) → ¬ IsFoundImage base bytes tables) → IsWhyNone bytes at fault why
+    → IsNoImage base bytes why
+why_no_image base bytes at fault NoPointer first none is = absurd is
+why_no_image base bytes at fault (Old offset revision) first none is = absurd is
+why_no_image base bytes at fault (Away address) first none is =
+    record { at = at; first = first; is = is.1; none = none (outside_is_no_memory address fault is.0) }
+why_no_image base bytes at fault (Wrong other) first none is = λ not. none (λ memory. not (is ∙ memory))

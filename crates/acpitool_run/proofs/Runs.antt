@@ -1,10 +1,11 @@
 -- A flush after a run, which keeps what was printed.
-use Rattle.std.proofs.Common.{ℕ, List, Option, Some, None, ◌∙◌, inl, inr}
+use Rattle.std.proofs.Common.{ℕ, Bool, true, false, List, Option, Some, None, ◌∙◌, inl, inr}
 use Rattle.std.specs.Io.KnownBytes.{Keeps, Appends}
 use Rattle.acpitool_run.specs.Listing.{Listed, NotRead}
 use Rattle.acpitool_run.specs.Making.{IsWritten, MakesWord, Makes}
 use Rattle.acpitool_run.specs.Outcome.{Outcome, Printed}
-use Rattle.acpitool_run.specs.Program.{Ended, IsDone, IsShown}
+use Rattle.acpi_forms.specs.Known.{is_known}
+use Rattle.acpitool_run.specs.Program.{Ended, IsDone, IsShown, IsTemplated}
 use Rattle.acpitool_run.specs.declared.command.Command.{Command}
 use Rattle.acpitool_run.specs.declared.command.Command.TheVariants.{Help, Version, Show, Image, Make, Template}
 
@@ -77,9 +78,9 @@ written_kept : (bytes file : List ℕ) (o o' o'' e e' : Option (List ℕ)) (s : 
 written_kept bytes file o o' o'' e e' s kept (inl out) = inl (out.0, appends_kept o o' o'' bytes out.1 kept, out.2)
 written_kept bytes file o o' o'' e e' s kept (inr other) = inr (other.0, keeps_kept o o' o'' other.1 kept, other.2)
 
-word_kept : (name file : List ℕ) (o o' o'' e e' : Option (List ℕ)) (s : ℕ) → Keeps o' o''
-    → MakesWord name file o o' e e' s → MakesWord name file o o'' e e' s
-word_kept name file o o' o'' e e' s kept (inl (text, inl made)) = inl (
+word_kept : (force : Bool) (name file : List ℕ) (o o' o'' e e' : Option (List ℕ)) (s : ℕ) → Keeps o' o''
+    → MakesWord force name file o o' e e' s → MakesWord force name file o o'' e e' s
+word_kept force name file o o' o'' e e' s kept (inl (text, inl made)) = inl (
   text,
   inl (record {
     bytes = made.bytes;
@@ -88,28 +89,33 @@ word_kept name file o o' o'' e e' s kept (inl (text, inl made)) = inl (
     wrote = written_kept made.bytes file o o' o'' made.between e' s kept made.wrote;
   }),
 )
-word_kept name file o o' o'' e e' s kept (inl (text, inr none)) =
+word_kept force name file o o' o'' e e' s kept (inl (text, inr none)) =
     inl (text, inr (record { not = none.not; silent = keeps_kept o o' o'' none.silent kept; is = none.is }))
-word_kept name file o o' o'' e e' s kept (inr not) = inr (unread_kept name o o' o'' e e' s kept not)
+word_kept force name file o o' o'' e e' s kept (inr not) = inr (unread_kept name o o' o'' e e' s kept not)
 
-made_kept : (name file : List ℕ) (o o' o'' e e' : Option (List ℕ)) (s : ℕ) → Keeps o' o''
-    → Makes name file o o' e e' s → Makes name file o o'' e e' s
-made_kept name file o o' o'' e e' s kept (inl its) = inl (record {
+made_kept : (force : Bool) (name file : List ℕ) (o o' o'' e e' : Option (List ℕ)) (s : ℕ) → Keeps o' o''
+    → Makes force name file o o' e e' s → Makes force name file o o'' e e' s
+made_kept force name file o o' o'' e e' s kept (inl its) = inl (record {
   same = its.same;
   other = its.other;
   complained = its.complained;
   silent = keeps_kept o o' o'' its.silent kept;
   is = its.is;
 })
-made_kept name file o o' o'' e e' s kept (inr word) = inr (word_kept name file o o' o'' e e' s kept word)
+made_kept force name file o o' o'' e e' s kept (inr word) = inr (word_kept force name file o o' o'' e e' s kept word)
+
+templated_kept : (known : Bool) (signature : List ℕ) (o o' o'' e e' : Option (List ℕ)) (s : ℕ) → Keeps o' o''
+    → IsTemplated known signature o o' e e' s → IsTemplated known signature o o'' e e' s
+templated_kept true signature o o' o'' e e' s kept done = (done.0, done.1, appends_kept o o' o'' _ done.2 kept, done.3, done.4)
+templated_kept false signature o o' o'' e e' s kept done = (done.0, keeps_kept o o' o'' done.1 kept, done.2)
 
 done_kept : (o o' o'' e e' : Option (List ℕ)) (s : ℕ) (command : Command) → Keeps o' o'' → IsDone command o o' e e' s → IsDone command o o'' e e' s
 done_kept o o' o'' e e' s Help kept done = (done.0, done.1, appends_kept o o' o'' _ done.2 kept, done.3)
 done_kept o o' o'' e e' s Version kept done = (done.0, appends_kept o o' o'' _ done.1 kept, done.2)
 done_kept o o' o'' e e' s (Show files numbers) kept done = shown_kept _ _ o o' o'' e e' s kept done
 done_kept o o' o'' e e' s (Image file base) kept done = listed_kept file.now base o o' o'' e e' s kept done
-done_kept o o' o'' e e' s (Template signature) kept done = (done.0, done.1, appends_kept o o' o'' _ done.2 kept, done.3, done.4)
-done_kept o o' o'' e e' s (Make text file) kept done = made_kept text.now file.now o o' o'' e e' s kept done
+done_kept o o' o'' e e' s (Template signature) kept done = templated_kept (is_known signature.now) signature.now o o' o'' e e' s kept done
+done_kept o o' o'' e e' s (Make force text file) kept done = made_kept force text.now file.now o o' o'' e e' s kept done
 
 pub ended_kept : (words : List (List ℕ)) (o o' o'' e e' : Option (List ℕ)) (s : ℕ) → Keeps o' o'' → Ended words o o' e e' s → Ended words o o'' e e' s
 ended_kept words o o' o'' e e' s kept (inl done) =

@@ -1,7 +1,8 @@
 -- Words that are wrong ask for no command.
 use Rattle.std.proofs.Common.{◌≡◌, ◌≢◌, ◌⊎◌, ◌≤◌, ℕ, List, [], ◌∷◌, length, Some, None, refl, ap, subst, ◌∙◌, inl, inr, arith, codes}
-use Rattle.acpitool_run.proofs.Words.{apart}
-use Rattle.acpitool_run.specs.Command.{word_of, first_option, files_in, IsAddress, AreImage, Asks, IsNoCommand, IsExtra, IsWrong}
+use Rattle.acpitool_run.proofs.Verbs.{heads, tails, same_verb, no_version, no_help}
+use Rattle.acpitool_run.specs.Command.{word_of, first_option, files_in, unforced, IsAddress, AreImage, IsHelp, BeginsWithHelp, Asks, IsNoCommand}
+use Rattle.acpitool_run.specs.Command.{IsAfterBase, IsAfterFile, IsWrong}
 use Rattle.acpitool_run.specs.Laws.{WrongAskForNothing}
 use Rattle.acpitool_run.specs.declared.command.Command.{Command}
 use Rattle.acpitool_run.specs.declared.command.Command.TheVariants.{Help, Version, Show, Image, Make, Template}
@@ -17,18 +18,20 @@ use Rattle.acpitool_run.specs.declared.command.Wrong.TheVariants.{NoSignature, S
 abbrev IsTaken : Verb → List (List ℕ) → Type 0
 IsTaken verbs.Show more = 1 ≤ files_in more
 IsTaken verbs.Image more = (file : List ℕ) × (base : ℕ) × AreImage more file base
-IsTaken verbs.Make more = (text : List ℕ) × (file : List ℕ) × (more ≡ text ∷ file ∷ [])
+IsTaken verbs.Make more = (text : List ℕ) × (file : List ℕ) × (unforced more ≡ text ∷ file ∷ [])
 IsTaken verbs.Template more = (signature : List ℕ) × (more ≡ signature ∷ []) × (length signature ≡ 4)
 
 -- they ask for the usage, or are what the command takes
 abbrev Serves : Verb → List (List ℕ) → Type 0
-Serves verb more = (first_option more ≡ Some (codes "--help")) ⊎ ((first_option more ≡ None) × IsTaken verb more)
+Serves verb more =
+    ((option : List ℕ) × (first_option verb more ≡ Some option) × IsHelp option)
+    ⊎ ((first_option verb more ≡ None) × IsTaken verb more)
 
 -- they have another option, or aren't what the command takes
 abbrev Fails : Verb → List (List ℕ) → Type 0
 Fails verb more =
-    ((word : List ℕ) × (first_option more ≡ Some word) × (word ≢ codes "--help"))
-    ⊎ ((first_option more ≡ None) × ((taken : IsTaken verb more) → ⊥))
+    ((word : List ℕ) × (first_option verb more ≡ Some word) × (word ≢ codes "--help") × (word ≢ codes "-h"))
+    ⊎ ((first_option verb more ≡ None) × ((taken : IsTaken verb more) → ⊥))
 
 -- a command whose words serve, or fail
 record With (Are : Verb → List (List ℕ) → Type 0) (words : List (List ℕ)) : Type 0 where
@@ -37,35 +40,12 @@ record With (Are : Verb → List (List ℕ) → Type 0) (words : List (List ℕ)
   pub is : words ≡ word_of verb ∷ more
   pub are : Are verb more
 
-heads : (words : List (List ℕ)) (a b : List ℕ) (x y : List (List ℕ)) → words ≡ a ∷ x → words ≡ b ∷ y → a ≡ b
-heads words a b x y one two = cc
-
-tails : (words : List (List ℕ)) (a b : List ℕ) (x y : List (List ℕ)) → words ≡ a ∷ x → words ≡ b ∷ y → x ≡ y
-tails words a b x y one two = cc
-
 not_both : (verb : Verb) (more : List (List ℕ)) → Serves verb more → Fails verb more → ⊥
-not_both verb more (inl help) (inl other) = other.2 (cc)
-not_both verb more (inl help) (inr none) = cc (help, none.0)
+not_both verb more (inl help) (inl other) =
+    let same : other.0 ≡ help.0 = cc (help.1, other.1) in elim help.2 [ inl is ↦ other.2 (same ∙ is) | inr is ↦ other.3 (same ∙ is) ]
+not_both verb more (inl help) (inr none) = cc (help.1, none.0)
 not_both verb more (inr none) (inl other) = cc (none.0, other.1)
 not_both verb more (inr taken) (inr none) = none.1 taken.1
-
-same_verb : (a b : Verb) → word_of a ≡ word_of b → a ≡ b
-same_verb verbs.Show verbs.Show is = refl
-same_verb verbs.Show verbs.Image is = absurd (apart (codes "show") (codes "image") is (λ same. absurd (omega (arith, same))))
-same_verb verbs.Show verbs.Make is = absurd (apart (codes "show") (codes "make") is (λ same. absurd (omega (arith, same))))
-same_verb verbs.Show verbs.Template is = absurd (apart (codes "show") (codes "template") is (λ same. absurd (omega (arith, same))))
-same_verb verbs.Image verbs.Show is = absurd (apart (codes "image") (codes "show") is (λ same. absurd (omega (arith, same))))
-same_verb verbs.Image verbs.Image is = refl
-same_verb verbs.Image verbs.Make is = absurd (apart (codes "image") (codes "make") is (λ same. absurd (omega (arith, same))))
-same_verb verbs.Image verbs.Template is = absurd (apart (codes "image") (codes "template") is (λ same. absurd (omega (arith, same))))
-same_verb verbs.Make verbs.Show is = absurd (apart (codes "make") (codes "show") is (λ same. absurd (omega (arith, same))))
-same_verb verbs.Make verbs.Image is = absurd (apart (codes "make") (codes "image") is (λ same. absurd (omega (arith, same))))
-same_verb verbs.Make verbs.Make is = refl
-same_verb verbs.Make verbs.Template is = absurd (apart (codes "make") (codes "template") is (λ same. absurd (omega (arith, same))))
-same_verb verbs.Template verbs.Show is = absurd (apart (codes "template") (codes "show") is (λ same. absurd (omega (arith, same))))
-same_verb verbs.Template verbs.Image is = absurd (apart (codes "template") (codes "image") is (λ same. absurd (omega (arith, same))))
-same_verb verbs.Template verbs.Make is = absurd (apart (codes "template") (codes "make") is (λ same. absurd (omega (arith, same))))
-same_verb verbs.Template verbs.Template is = refl
 
 clash : (words : List (List ℕ)) → With Serves words → With Fails words → ⊥
 clash words one two =
@@ -80,21 +60,21 @@ clash words one two =
 -- the words are one that asks for something, or a command whose words serve
 abbrev Asked : List (List ℕ) → Type 0
 Asked words =
-    ((more : List (List ℕ)) × (words ≡ codes "--help" ∷ more))
+    BeginsWithHelp words
     ⊎ ((more : List (List ℕ)) × (words ≡ codes "--version" ∷ more))
     ⊎ With Serves words
 
 asked : (words : List (List ℕ)) (command : Command) → Asks words command → Asked words
 asked words Help (inl first) = inl first
-asked words Help (inr after) = inr (inr (record { verb = after.verb; more = after.more; is = after.is; are = inl after.asks }))
+asked words Help (inr after) = inr (inr (record { verb = after.verb; more = after.more; is = after.is; are = inl (after.option, after.first, after.asks) }))
 asked words Version first = inr (inl first)
 asked words (Show files numbers) all = inr (inr (record { verb = verbs.Show; more = all.0; is = all.1.0; are = inr (all.1.1, all.4) }))
 asked words (Image file base) all =
     inr (inr (record { verb = verbs.Image; more = all.0; is = all.1.0; are = inr (all.1.1, (file.now, base, all.2)) }))
 asked words (Template signature) all =
     inr (inr (record { verb = verbs.Template; more = all.0; is = all.1.0; are = inr (all.1.1, (signature.now, all.2, all.3)) }))
-asked words (Make text file) all =
-    inr (inr (record { verb = verbs.Make; more = all.0; is = all.1.0; are = inr (all.1.1, (text.now, file.now, all.2)) }))
+asked words (Make force text file) all =
+    inr (inr (record { verb = verbs.Make; more = all.0; is = all.1.0; are = inr (all.1.1, (text.now, file.now, all.3)) }))
 
 -- ---- wrong words
 
@@ -118,29 +98,26 @@ no_base more a word file base is not (inr two) =
     let same : two.0 ≡ word = cc (is, two.1) in
     not base (subst P same two.2)
 
-extra : (words : List (List ℕ)) (word : List ℕ) → IsExtra words word → With Fails words
-extra words word one = elim one.after [
-  | inl after ↦ record {
-    verb = verbs.Image;
-    more = one.more;
-    is = after.0;
-    are = inr (after.1, λ taken. no_third one.more one.others one.first one.second word taken.0 taken.1 one.is taken.2);
-  }
-  | inr after ↦ record {
-    verb = verbs.Make;
-    more = one.more;
-    is = after.0;
-    are = inr (after.1, λ taken. cc (one.is, taken.2));
-  }
-]
+after_base : (words : List (List ℕ)) (word : List ℕ) → IsAfterBase words word → With Fails words
+after_base words word one = record {
+  verb = verbs.Image;
+  more = one.more;
+  is = one.after.0;
+  are = inr (one.after.1, λ taken. no_third one.more one.others one.file one.base word taken.0 taken.1 one.is taken.2);
+}
+
+after_file : (words : List (List ℕ)) (word : List ℕ) → IsAfterFile words word → With Fails words
+after_file words word one =
+    record { verb = verbs.Make; more = one.more; is = one.after.0; are = inr (one.after.1, λ taken. cc (one.is, taken.2)) }
 
 wronged : (words : List (List ℕ)) (wrong : Wrong) → IsWrong words wrong → Wronged words
 wronged words NoCommand is = inl is
 wronged words (Unknown word) (inl none) = inr (inl (word.now, none))
 wronged words (Unknown word) (inr (inl option)) =
-    inr (inr (record { verb = option.verb; more = option.more; is = option.is; are = inl (word.now, option.first, option.no_help) }))
-wronged words (Unknown word) (inr (inr (inl third))) = inr (inr (extra words word.now third))
-wronged words (Unknown word) (inr (inr (inr second))) = inr (inr (record {
+    inr (inr (record { verb = option.verb; more = option.more; is = option.is; are = inl (word.now, option.first, option.no_help, option.no_short_help) }))
+wronged words (Unknown word) (inr (inr (inl third))) = inr (inr (after_base words word.now third))
+wronged words (Unknown word) (inr (inr (inr (inl third)))) = inr (inr (after_file words word.now third))
+wronged words (Unknown word) (inr (inr (inr (inr second)))) = inr (inr (record {
   verb = verbs.Template;
   more = second.more;
   is = second.after.0;
@@ -162,7 +139,8 @@ wronged words (Signature word) all = inr (inr (record {
   is = all.1.0;
   are = inr (all.1.1, λ taken. let same : word.now ≡ taken.0 = cc (all.2, taken.1) in all.3 (ap length same ∙ taken.2));
 }))
-wronged words NoText is = inr (inr (record { verb = verbs.Make; more = []; is = is; are = inr (refl, λ taken. cc (taken.2)) }))
+wronged words NoText all =
+    inr (inr (record { verb = verbs.Make; more = all.0; is = all.1.0; are = inr (all.1.1, λ taken. cc (all.2, taken.2)) }))
 wronged words NoTable all = inr (inr (record {
   verb = verbs.Make;
   more = all.0;
@@ -180,35 +158,30 @@ wronged words Twice none = absurd none
 
 -- ---- both
 
-no_help : (verb : Verb) → word_of verb ≡ codes "--help" → ⊥
-no_help verbs.Show is = apart (codes "show") (codes "--help") is (λ same. absurd (omega (arith, same)))
-no_help verbs.Image is = apart (codes "image") (codes "--help") is (λ same. absurd (omega (arith, same)))
-no_help verbs.Make is = apart (codes "make") (codes "--help") is (λ same. absurd (omega (arith, same)))
-no_help verbs.Template is = apart (codes "template") (codes "--help") is (λ same. absurd (omega (arith, same)))
-
-no_version : (verb : Verb) → word_of verb ≡ codes "--version" → ⊥
-no_version verbs.Show is = apart (codes "show") (codes "--version") is (λ same. absurd (omega (arith, same)))
-no_version verbs.Image is = apart (codes "image") (codes "--version") is (λ same. absurd (omega (arith, same)))
-no_version verbs.Make is = apart (codes "make") (codes "--version") is (λ same. absurd (omega (arith, same)))
-no_version verbs.Template is = apart (codes "template") (codes "--version") is (λ same. absurd (omega (arith, same)))
-
 is_command : (words : List (List ℕ)) (word : List ℕ) (verb : Verb) → IsNoCommand words word → word ≡ word_of verb → ⊥
 is_command words word verbs.Show none is = none.no_show is
 is_command words word verbs.Image none is = none.no_image is
 is_command words word verbs.Make none is = none.no_make is
 is_command words word verbs.Template none is = none.no_template is
 
+no_help_first : (words : List (List ℕ)) (word first : List ℕ) → IsNoCommand words word → IsHelp first ⊎ (first ≡ codes "help")
+    → word ≡ first → ⊥
+no_help_first words word first none (inl (inl is)) same = none.no_help (same ∙ is)
+no_help_first words word first none (inl (inr is)) same = none.no_short_help (same ∙ is)
+no_help_first words word first none (inr is) same = none.no_help_word (same ∙ is)
+
 no_words : (words : List (List ℕ)) (a : List ℕ) (x : List (List ℕ)) → words ≡ [] → words ≡ a ∷ x → ⊥
 no_words words a x none some = cc
 
 contradict : (words : List (List ℕ)) → Wronged words → Asked words → ⊥
-contradict words (inl is) (inl help) = no_words words _ _ is help.1
+contradict words (inl is) (inl help) = no_words words _ _ is help.is
 contradict words (inl is) (inr (inl version)) = no_words words _ _ is version.1
 contradict words (inl is) (inr (inr one)) = no_words words _ _ is one.is
-contradict words (inr (inl none)) (inl help) = none.1.no_help (heads words _ _ _ _ none.1.is help.1)
+contradict words (inr (inl none)) (inl help) =
+    no_help_first words none.0 help.word none.1 help.asks (heads words _ _ _ _ none.1.is help.is)
 contradict words (inr (inl none)) (inr (inl version)) = none.1.no_version (heads words _ _ _ _ none.1.is version.1)
 contradict words (inr (inl none)) (inr (inr one)) = is_command words none.0 one.verb none.1 (heads words _ _ _ _ none.1.is one.is)
-contradict words (inr (inr two)) (inl help) = no_help two.verb (heads words _ _ _ _ two.is help.1)
+contradict words (inr (inr two)) (inl help) = no_help two.verb help.word help.asks (heads words _ _ _ _ two.is help.is)
 contradict words (inr (inr two)) (inr (inl version)) = no_version two.verb (heads words _ _ _ _ two.is version.1)
 contradict words (inr (inr two)) (inr (inr one)) = clash words one two
 

@@ -3,6 +3,7 @@ use Rattle.std.specs.Prelude.{◌≡◌, ◌≢◌, ◌⊎◌, ℕ, suc, ◌^◌
 use Rattle.std.specs.Prelude.{if◌then◌else◌, List, [], ◌∷◌, ◌++◌, Option, Some, None, length, slice_index, map, string_bytes}
 use Rattle.std.specs.Prelude.{codes}
 use Rattle.std.specs.List.{starts_with}
+use Rattle.std.specs.Str.{bytes_eq}
 use Rattle.std.specs.Str.Parse.{IsNumeral, digits_value, without_leading_plus}
 use Rattle.acpiread_run.specs.Command.{stated_by, stated}
 use Rattle.acpitool_run.specs.declared.command.Command.{Command}
@@ -19,9 +20,29 @@ use Rattle.acpitool_run.specs.declared.command.Wrong.TheVariants.{NoSignature, S
 abbrev pub is_option : List ℕ → Bool
 is_option word = nat_lt 1 (length word) && slice_index word 0 == 45
 
-abbrev pub first_option : List (List ℕ) → Option (List ℕ)
-first_option [] = None
-first_option (word ∷ words) = if is_option word then Some word else first_option words
+-- the option of `make` that writes a table whose numbers are wrong
+abbrev pub is_force : List ℕ → Bool
+is_force word = bytes_eq word (codes "--force")
+
+-- whether a command takes an option
+abbrev pub takes : Verb → List ℕ → Bool
+takes verbs.Make word = is_force word
+takes verb word = false
+
+-- the first option after a command, but for those that it takes
+abbrev pub first_option : Verb → List (List ℕ) → Option (List ℕ)
+first_option verb [] = None
+first_option verb (word ∷ words) = if is_option word && not (takes verb word) then Some word else first_option verb words
+
+-- whether one of the words is `--force`
+abbrev pub forces : List (List ℕ) → Bool
+forces [] = false
+forces (word ∷ words) = is_force word || forces words
+
+-- the words without `--force`
+abbrev pub unforced : List (List ℕ) → List (List ℕ)
+unforced [] = []
+unforced (word ∷ words) = if is_force word then unforced words else word ∷ unforced words
 
 -- the word of a command
 abbrev pub word_of : Verb → List ℕ
@@ -30,16 +51,29 @@ word_of verbs.Image = codes "image"
 word_of verbs.Make = codes "make"
 word_of verbs.Template = codes "template"
 
--- words after a command that ask for how the program is used
+-- an option that asks for how the program is used
+abbrev pub IsHelp : List ℕ → Type 0
+IsHelp word = (word ≡ codes "--help") ⊎ (word ≡ codes "-h")
+
+-- a first word that asks for it
+pub record BeginsWithHelp (words : List (List ℕ)) : Type 0 where
+  pub word : List ℕ
+  pub more : List (List ℕ)
+  pub is : words ≡ word ∷ more
+  pub asks : IsHelp word ⊎ (word ≡ codes "help")
+
+-- words after a command that ask for it
 pub record AsksForHelp (words : List (List ℕ)) : Type 0 where
   pub verb : Verb
   pub more : List (List ℕ)
   pub is : words ≡ word_of verb ∷ more
-  pub asks : first_option more ≡ Some (codes "--help")
+  pub option : List ℕ
+  pub first : first_option verb more ≡ Some option
+  pub asks : IsHelp option
 
--- the words are a command and more, of which none is an option
+-- the words are a command and more, of which none is an option but those that it takes
 abbrev pub AreAfter : Verb → List (List ℕ) → List (List ℕ) → Type 0
-AreAfter verb words more = (words ≡ word_of verb ∷ more) × (first_option more ≡ None)
+AreAfter verb words more = (words ≡ word_of verb ∷ more) × (first_option verb more ≡ None)
 
 -- ---- numbers of arguments
 
@@ -90,7 +124,7 @@ AreImage more file base =
 
 -- the words ask for a command
 abbrev pub Asks : List (List ℕ) → Command → Type 0
-Asks words Help = ((more : List (List ℕ)) × (words ≡ codes "--help" ∷ more)) ⊎ AsksForHelp words
+Asks words Help = BeginsWithHelp words ⊎ AsksForHelp words
 Asks words Version = (more : List (List ℕ)) × (words ≡ codes "--version" ∷ more)
 Asks words (Show files numbers) =
     (more : List (List ℕ))
@@ -101,14 +135,16 @@ Asks words (Show files numbers) =
 Asks words (Image file base) = (more : List (List ℕ)) × AreAfter verbs.Image words more × AreImage more file.now base
 Asks words (Template signature) =
     (more : List (List ℕ)) × AreAfter verbs.Template words more × (more ≡ signature.now ∷ []) × (length signature.now ≡ 4)
-Asks words (Make text file) =
-    (more : List (List ℕ)) × AreAfter verbs.Make words more × (more ≡ text.now ∷ file.now ∷ [])
+Asks words (Make force text file) =
+    (more : List (List ℕ)) × AreAfter verbs.Make words more × (force ≡ forces more) × (unforced more ≡ text.now ∷ file.now ∷ [])
 
 -- the first word is no command
 pub record IsNoCommand (words : List (List ℕ)) (word : List ℕ) : Type 0 where
   pub more : List (List ℕ)
   pub is : words ≡ word ∷ more
   pub no_help : word ≢ codes "--help"
+  pub no_short_help : word ≢ codes "-h"
+  pub no_help_word : word ≢ codes "help"
   pub no_version : word ≢ codes "--version"
   pub no_show : word ≢ codes "show"
   pub no_image : word ≢ codes "image"
@@ -120,8 +156,9 @@ pub record IsNoOption (words : List (List ℕ)) (word : List ℕ) : Type 0 where
   pub verb : Verb
   pub more : List (List ℕ)
   pub is : words ≡ word_of verb ∷ more
-  pub first : first_option more ≡ Some word
+  pub first : first_option verb more ≡ Some word
   pub no_help : word ≢ codes "--help"
+  pub no_short_help : word ≢ codes "-h"
 
 -- a word after `template SIGNATURE`
 pub record IsAfterSignature (words : List (List ℕ)) (word : List ℕ) : Type 0 where
@@ -131,14 +168,23 @@ pub record IsAfterSignature (words : List (List ℕ)) (word : List ℕ) : Type 0
   pub others : List (List ℕ)
   pub is : more ≡ signature ∷ word ∷ others
 
--- a word after `image FILE BASE` or `make TEXT FILE`
-pub record IsExtra (words : List (List ℕ)) (word : List ℕ) : Type 0 where
+-- a word after `image FILE BASE`
+pub record IsAfterBase (words : List (List ℕ)) (word : List ℕ) : Type 0 where
   pub more : List (List ℕ)
-  pub after : AreAfter verbs.Image words more ⊎ AreAfter verbs.Make words more
-  pub first : List ℕ
-  pub second : List ℕ
+  pub after : AreAfter verbs.Image words more
+  pub file : List ℕ
+  pub base : List ℕ
   pub others : List (List ℕ)
-  pub is : more ≡ first ∷ second ∷ word ∷ others
+  pub is : more ≡ file ∷ base ∷ word ∷ others
+
+-- a word after `make TEXT FILE`
+pub record IsAfterFile (words : List (List ℕ)) (word : List ℕ) : Type 0 where
+  pub more : List (List ℕ)
+  pub after : AreAfter verbs.Make words more
+  pub text : List ℕ
+  pub file : List ℕ
+  pub others : List (List ℕ)
+  pub is : unforced more ≡ text ∷ file ∷ word ∷ others
 
 -- the word in the place of BASE isn't an address
 pub record IsNoBase (words : List (List ℕ)) (word : List ℕ) : Type 0 where
@@ -152,14 +198,15 @@ pub record IsNoBase (words : List (List ℕ)) (word : List ℕ) : Type 0 where
 abbrev pub IsWrong : List (List ℕ) → Wrong → Type 0
 IsWrong words NoCommand = words ≡ []
 IsWrong words (Unknown word) =
-    IsNoCommand words word.now ⊎ IsNoOption words word.now ⊎ IsExtra words word.now ⊎ IsAfterSignature words word.now
+    IsNoCommand words word.now ⊎ IsNoOption words word.now ⊎ IsAfterBase words word.now ⊎ IsAfterFile words word.now
+    ⊎ IsAfterSignature words word.now
 IsWrong words NoFile = (more : List (List ℕ)) × AreAfter verbs.Show words more × (files_in more ≡ 0)
 IsWrong words NoImage = words ≡ codes "image" ∷ []
 IsWrong words NoSignature = words ≡ codes "template" ∷ []
 IsWrong words (Signature word) =
     (more : List (List ℕ)) × AreAfter verbs.Template words more × (more ≡ word.now ∷ []) × (length word.now ≢ 4)
-IsWrong words NoText = words ≡ codes "make" ∷ []
-IsWrong words NoTable = (more : List (List ℕ)) × AreAfter verbs.Make words more × (length more ≡ 1)
+IsWrong words NoText = (more : List (List ℕ)) × AreAfter verbs.Make words more × (unforced more ≡ [])
+IsWrong words NoTable = (more : List (List ℕ)) × AreAfter verbs.Make words more × (length (unforced more) ≡ 1)
 IsWrong words (Base word) = IsNoBase words word.now
 IsWrong words (Number word) = ⊥
 IsWrong words Twice = ⊥

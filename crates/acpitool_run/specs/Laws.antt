@@ -14,7 +14,7 @@ IsSame (Show files numbers) (Show others more) =
     × (map (λ word. string_bytes word) numbers.now ≡ map (λ word. string_bytes word) more.now)
 IsSame (Image file base) (Image other from) = (file.now ≡ other.now) × (base ≡ from)
 IsSame (Template signature) (Template other) = signature.now ≡ other.now
-IsSame (Make text file) (Make other target) = (text.now ≡ other.now) × (file.now ≡ target.now)
+IsSame (Make force text file) (Make forced other target) = (force ≡ forced) × (text.now ≡ other.now) × (file.now ≡ target.now)
 IsSame _ _ = ⊥
 
 -- words ask for at most one command

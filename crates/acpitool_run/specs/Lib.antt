@@ -1,5 +1,7 @@
 pub mod Check
+pub mod Fault
 pub mod Text
+pub mod Structures
 pub mod Terms
 pub mod Command
 pub mod Image

@@ -1,5 +1,5 @@
 -- What is printed when a text is made into a table.
-use Rattle.std.specs.Prelude.{◌≡◌, ◌≢◌, ◌⊎◌, ℕ, List, [], ◌∷◌, ◌++◌, Option, Some, None, Ok, Err, codes}
+use Rattle.std.specs.Prelude.{◌≡◌, ◌≢◌, ◌⊎◌, ℕ, Bool, true, false, List, [], ◌∷◌, ◌++◌, Option, Some, None, Ok, Err, codes}
 use Rattle.std.specs.Fmt.{decimal}
 use Rattle.std.specs.Io.KnownBytes.{Keeps, Appends}
 use Rattle.acpi_forms.specs.Makes.{IsMade}
@@ -23,12 +23,26 @@ abbrev pub notes : List ℕ → List Own → List ℕ
 notes name [] = []
 notes name (one ∷ owns) = note name one ++ notes name owns
 
--- the text is made into a table of these bytes, and a line says of each number that isn't right
-pub record MadeText (name text bytes : List ℕ) (err err' : Option (List ℕ)) : Type 0 where
+-- the line after the notes of a table that isn't written
+abbrev pub held_line : List ℕ → List ℕ
+held_line name = name ++ codes ": not written: its numbers are wrong (--force writes it)\n"
+
+-- The text is made into a table of these bytes, which is to be written. A line says of each number that isn't right which would
+-- be: there is none, unless such a table is written by force.
+pub record MadeText (force : Bool) (name text bytes : List ℕ) (err err' : Option (List ℕ)) : Type 0 where
   pub made : Made
   pub is : IsMade text (Ok made)
   pub same : made.bytes.items ≡ bytes
+  pub right : (force ≡ true) ⊎ (made.untrue.items ≡ [])
   pub noted : Appends err err' (notes name made.untrue.items)
+
+-- the text is made into a table whose numbers are wrong, which isn't to be written, and lines say so
+pub record Held (force : Bool) (name text : List ℕ) (err err' : Option (List ℕ)) : Type 0 where
+  pub made : Made
+  pub is : IsMade text (Ok made)
+  pub wrong : made.untrue.items ≢ []
+  pub no_force : force ≡ false
+  pub noted : Appends err err' (notes name made.untrue.items ++ held_line name)
 
 -- the text isn't made into a table, and a line says why
 pub record NotMade (name text : List ℕ) (err err' : Option (List ℕ)) : Type 0 where
@@ -36,10 +50,10 @@ pub record NotMade (name text : List ℕ) (err err' : Option (List ℕ)) : Type 
   pub is : IsMade text (Err (errors.Fault fault))
   pub complained : Appends err err' (name ++ codes ": " ++ text_of (errors.Fault fault) ++ 10 ∷ [])
 
--- the bytes of a table, if there are any
-abbrev pub MadeOrNot : List ℕ → List ℕ → Option (List ℕ) → Option (List ℕ) → Option (List ℕ) → Type 0
-MadeOrNot name text (Some bytes) err err' = MadeText name text bytes err err'
-MadeOrNot name text None err err' = NotMade name text err err'
+-- the bytes of a table, if there are any to be written
+abbrev pub MadeOrNot : Bool → List ℕ → List ℕ → Option (List ℕ) → Option (List ℕ) → Option (List ℕ) → Type 0
+MadeOrNot force name text (Some bytes) err err' = MadeText force name text bytes err err'
+MadeOrNot force name text None err err' = Held force name text err err' ⊎ NotMade name text err err'
 
 -- a file was written
 pub record Saved (err err' : Option (List ℕ)) (status : ℕ) : Type 0 where
@@ -59,28 +73,28 @@ IsWritten bytes file out out' err err' status =
     ⊎ ((file ≢ codes "-") × Keeps out out' × (Saved err err' status ⊎ NotSaved file err err' status))
 
 -- the text is made into a table, and its bytes are written
-pub record MadeFile (name text file : List ℕ) (out out' err err' : Option (List ℕ)) (status : ℕ) : Type 0 where
+pub record MadeFile (force : Bool) (name text file : List ℕ) (out out' err err' : Option (List ℕ)) (status : ℕ) : Type 0 where
   pub bytes : List ℕ
   pub between : Option (List ℕ)
-  pub made : MadeText name text bytes err between
+  pub made : MadeText force name text bytes err between
   pub wrote : IsWritten bytes file out out' between err' status
 
--- the text isn't made into a table
-pub record NoTable (name text : List ℕ) (out out' err err' : Option (List ℕ)) (status : ℕ) : Type 0 where
-  pub not : NotMade name text err err'
+-- no table is written
+pub record NoTable (force : Bool) (name text : List ℕ) (out out' err err' : Option (List ℕ)) (status : ℕ) : Type 0 where
+  pub not : Held force name text err err' ⊎ NotMade name text err err'
   pub silent : Keeps out out'
   pub is : status ≡ 1
 
 -- what comes of a text
-abbrev pub MakesText : List ℕ → List ℕ → List ℕ
+abbrev pub MakesText : Bool → List ℕ → List ℕ → List ℕ
     → Option (List ℕ) → Option (List ℕ) → Option (List ℕ) → Option (List ℕ) → ℕ → Type 0
-MakesText name text file out out' err err' status =
-    MadeFile name text file out out' err err' status ⊎ NoTable name text out out' err err' status
+MakesText force name text file out out' err err' status =
+    MadeFile force name text file out out' err err' status ⊎ NoTable force name text out out' err err' status
 
 -- the system says which text is in a file, or it can't be read and a line says why
-abbrev pub MakesWord : List ℕ → List ℕ → Option (List ℕ) → Option (List ℕ) → Option (List ℕ) → Option (List ℕ) → ℕ → Type 0
-MakesWord name file out out' err err' status =
-    ((text : List ℕ) × MakesText name text file out out' err err' status) ⊎ NotRead name out out' err err' status
+abbrev pub MakesWord : Bool → List ℕ → List ℕ → Option (List ℕ) → Option (List ℕ) → Option (List ℕ) → Option (List ℕ) → ℕ → Type 0
+MakesWord force name file out out' err err' status =
+    ((text : List ℕ) × MakesText force name text file out out' err err' status) ⊎ NotRead name out out' err err' status
 
 abbrev pub same_line : List ℕ → List ℕ
 same_line name = name ++ codes ": the table would replace its text\n"
@@ -93,7 +107,7 @@ pub record IsItsText (name file : List ℕ) (out out' err err' : Option (List �
   pub silent : Keeps out out'
   pub is : status ≡ 1
 
--- what comes of `make TEXT FILE`
-abbrev pub Makes : List ℕ → List ℕ → Option (List ℕ) → Option (List ℕ) → Option (List ℕ) → Option (List ℕ) → ℕ → Type 0
-Makes name file out out' err err' status =
-    IsItsText name file out out' err err' status ⊎ MakesWord name file out out' err err' status
+-- what comes of `make TEXT FILE`, with `--force` or without it
+abbrev pub Makes : Bool → List ℕ → List ℕ → Option (List ℕ) → Option (List ℕ) → Option (List ℕ) → Option (List ℕ) → ℕ → Type 0
+Makes force name file out out' err err' status =
+    IsItsText name file out out' err err' status ⊎ MakesWord force name file out out' err err' status

@@ -1,22 +1,27 @@
 -- What a run prints.
-use Rattle.std.specs.Prelude.{◌≡◌, ◌≢◌, ◌⊎◌, ℕ, max, Bool, true, false, List, [], ◌∷◌, ◌++◌, Option, Ok, Err, codes}
+use Rattle.std.specs.Prelude.{◌≡◌, ◌≢◌, ◌⊎◌, ℕ, max, Bool, true, false, List, [], ◌∷◌, ◌++◌, Option, Some, None, Ok, Err, map}
+use Rattle.std.specs.Prelude.{codes}
 use Rattle.std.specs.Io.KnownBytes.{Appends}
 use Rattle.acpi_dump.specs.Dump.{is_dump, tables_of}
 use Rattle.acpi_dump.specs.Fault.{text_of}
 use Rattle.acpi_dump.specs.declared.fault.DumpFault.{DumpFault}
 use Rattle.acpi_text.specs.Comment.{comment}
-use Rattle.acpiread_run.specs.Fault.{line_of}
-use Rattle.acpiread_run.specs.declared.fault.Fault.{Fault}
+use Rattle.acpi_forms.specs.Kind.{kind_of}
+use Rattle.acpi_read.specs.Report.{printable}
+use Rattle.acpitool_run.specs.Fault.{line_of}
+use Rattle.acpitool_run.specs.Structures.{HasFault}
 use Rattle.acpitool_run.specs.Terms.{IsAfter}
 use Rattle.acpitool_run.specs.Text.{IsText, IsTextFault}
+use Rattle.acpitool_run.specs.declared.fault.Fault.{Fault}
 
 -- What comes of a table or of a file that has a name:
--- - shown: the text of its bytes, after its name if it is one of several, and before further lines;
+-- - shown: the text of its bytes, after its name if it is one of several, and before further lines, and a fault of its
+--   structures, if there is one;
 -- - refused: its bytes aren't what their signature says;
 -- - broken: it is a dump as text, with a line that can't be read;
 -- - unread: it can't be read, and the system says why.
 pub data Outcome : Type 0 where
-  shown : Bool → List ℕ → List ℕ → List ℕ → List ℕ → Outcome
+  shown : Bool → List ℕ → List ℕ → List ℕ → List ℕ → Option Fault → Outcome
   refused : List ℕ → List ℕ → Fault → Outcome
   broken : List ℕ → List ℕ → DumpFault → Outcome
   unread : List ℕ → List ℕ → Outcome
@@ -28,28 +33,38 @@ heading false name = []
 
 -- what goes to standard output
 abbrev pub output : Outcome → List ℕ
-output (shown several name bytes text after) = heading several name ++ text ++ after
+output (shown several name bytes text after fault) = heading several name ++ text ++ after
 output (refused name bytes fault) = []
 output (broken name dump fault) = []
 output (unread name why) = []
 
--- a line on standard error
+-- the line of a fault, if there is one
+abbrev pub fault_line : List ℕ → Option Fault → List ℕ
+fault_line name None = []
+fault_line name (Some fault) = name ++ codes ": " ++ line_of fault ++ 10 ∷ []
+
+-- what goes to standard error
 abbrev pub complaint : Outcome → List ℕ
-complaint (shown several name bytes text after) = []
-complaint (refused name bytes fault) = name ++ codes ": " ++ line_of fault ++ 10 ∷ []
+complaint (shown several name bytes text after fault) = fault_line name fault
+complaint (refused name bytes fault) = fault_line name (Some fault)
 complaint (broken name dump fault) = name ++ codes ": " ++ text_of fault ++ 10 ∷ []
 complaint (unread name why) = name ++ codes ": " ++ why ++ 10 ∷ []
 
+abbrev pub fault_status : Option Fault → ℕ
+fault_status None = 0
+fault_status (Some fault) = 1
+
 abbrev pub status : Outcome → ℕ
-status (shown several name bytes text after) = 0
+status (shown several name bytes text after fault) = fault_status fault
 status (refused name bytes fault) = 1
 status (broken name dump fault) = 1
 status (unread name why) = 2
 
 -- The text shows the bytes, and a definition block's terms follow, in which names take the stated numbers of arguments. The fault
--- is one of the bytes, or the first of a dump.
+-- is one of the structures or of the bytes, or the first of a dump.
 abbrev pub IsTrueOutcome : List (List ℕ × ℕ) → Outcome → Type 0
-IsTrueOutcome stated (shown several name bytes text after) = IsText bytes text × IsAfter stated bytes after
+IsTrueOutcome stated (shown several name bytes text after fault) =
+    IsText bytes text × IsAfter stated bytes after × HasFault (kind_of bytes) bytes fault
 IsTrueOutcome stated (refused name bytes fault) = IsTextFault bytes fault
 IsTrueOutcome stated (broken name dump fault) = tables_of dump ≡ Err fault
 IsTrueOutcome stated (unread name why) = Unit {0}
@@ -85,43 +100,46 @@ pub record Printed (stated : List (List ℕ × ℕ)) (outcomes : List Outcome)
 
 -- the outcome is that of these bytes
 abbrev pub HasBytes : List ℕ → Outcome → Type 0
-HasBytes bytes (shown several name its text after) = its ≡ bytes
+HasBytes bytes (shown several name its text after fault) = its ≡ bytes
 HasBytes bytes (refused name its fault) = its ≡ bytes
 HasBytes bytes (broken name dump fault) = ⊥
 HasBytes bytes (unread name why) = ⊥
 
--- the outcomes are those of these tables, in order
-abbrev pub HaveBytes : List (List ℕ) → List Outcome → Type 0
-HaveBytes [] [] = Unit {0}
-HaveBytes (table ∷ tables) (outcome ∷ more) = HasBytes table outcome × HaveBytes tables more
-HaveBytes _ _ = ⊥
-
 -- the outcome has this name, and is that of one of several or not
 abbrev pub IsNamed : Bool → List ℕ → Outcome → Type 0
-IsNamed several name (shown headed its bytes text after) = (headed ≡ several) × (its ≡ name)
+IsNamed several name (shown headed its bytes text after fault) = (headed ≡ several) × (its ≡ name)
 IsNamed several name (refused its bytes fault) = its ≡ name
 IsNamed several name (broken its dump fault) = its ≡ name
 IsNamed several name (unread its why) = its ≡ name
 
-abbrev pub AreNamed : Bool → List ℕ → List Outcome → Type 0
-AreNamed several name [] = Unit {0}
-AreNamed several name (outcome ∷ more) = IsNamed several name outcome × AreNamed several name more
+-- each outcome is that of its table, which is a name and bytes
+abbrev pub AreEach : Bool → List (List ℕ × List ℕ) → List Outcome → Type 0
+AreEach several [] [] = Unit {0}
+AreEach several (table ∷ tables) (outcome ∷ more) =
+    IsNamed several table.0 outcome × HasBytes table.1 outcome × AreEach several tables more
+AreEach several _ _ = ⊥
 
--- the outcomes of tables with a name
-pub record AreOfTables (several : Bool) (name : List ℕ) (tables : List (List ℕ)) (outcomes : List Outcome) : Type 0 where
-  pub named : AreNamed several name outcomes
-  pub have : HaveBytes tables outcomes
+-- the outcomes are those of these tables, in order
+pub record AreOfTables (several : Bool) (tables : List (List ℕ × List ℕ)) (outcomes : List Outcome) : Type 0 where
+  pub each : AreEach several tables outcomes
+
+-- the name of a table of a dump: that of the file, and the table's title, in which a question mark stands for what doesn't print
+abbrev pub label : List ℕ → List ℕ → List ℕ
+label name title = name ++ codes ": " ++ map printable title
+
+abbrev pub labelled : List ℕ → List ℕ × List ℕ → List ℕ × List ℕ
+labelled name table = (label name table.0, table.1)
 
 -- a dump has outcomes of its tables, each of which is one of several, or one that says what is wrong with it
 abbrev pub AreOfDump : List ℕ → List ℕ → List Outcome → Type 0
 AreOfDump name dump outcomes =
-    ((tables : List (List ℕ)) × (tables_of dump ≡ Ok tables) × AreOfTables true name tables outcomes)
+    ((tables : List (List ℕ × List ℕ)) × (tables_of dump ≡ Ok tables) × AreOfTables true (map (labelled name) tables) outcomes)
     ⊎ ((fault : DumpFault) × (outcomes ≡ broken name dump fault ∷ []))
 
 -- other bytes have one outcome
 abbrev pub AreOfBytesBy : Bool → Bool → List ℕ → List ℕ → List Outcome → Type 0
 AreOfBytesBy true several name bytes outcomes = AreOfDump name bytes outcomes
-AreOfBytesBy false several name bytes outcomes = AreOfTables several name (bytes ∷ []) outcomes
+AreOfBytesBy false several name bytes outcomes = AreOfTables several ((name, bytes) ∷ []) outcomes
 
 -- the outcomes of a file's bytes
 abbrev pub AreOfBytes : Bool → List ℕ → List ℕ → List Outcome → Type 0

@@ -1,8 +1,11 @@
 -- What a run of the program prints.
-use Rattle.std.specs.Prelude.{◌≡◌, ◌≢◌, ◌⊎◌, ℕ, nat_lt, List, ◌++◌, Option, Some, length, codes, map, string_bytes}
+use Rattle.std.specs.Prelude.{◌≡◌, ◌≢◌, ◌⊎◌, ℕ, nat_lt, Bool, true, false, List, [], ◌++◌, Option, Some, None, length, codes, map}
+use Rattle.std.specs.Prelude.{string_bytes, if◌then◌else◌}
+use Rattle.std.specs.Str.{bytes_eq}
 use Rattle.std.specs.Io.KnownBytes.{Keeps, Appends}
 use Rattle.std.specs.declared.io.ErrorKind.{ErrorKind}
 use Rattle.std.specs.declared.io.ErrorKind.TheVariants.{BrokenPipe}
+use Rattle.acpi_forms.specs.Known.{is_known, meant}
 use Rattle.acpi_forms.specs.Makes.{IsTemplateOf}
 use Rattle.acpiread_run.specs.Command.{stated}
 use Rattle.acpitool_run.specs.Command.{Asks, IsWrong, IsMisstated}
@@ -19,7 +22,9 @@ use Rattle.acpitool_run.specs.declared.command.Wrong.TheVariants.{NoSignature, S
 -- ---- how the program is used
 
 abbrev pub usage : List ℕ
-usage = codes "usage: acpitool show FILE .. [NAME=N ..] | image FILE [BASE] | make TEXT FILE | template SIGNATURE | --help | --version\n"
+usage =
+    codes "usage: acpitool show FILE .. [NAME=N ..] | image FILE [BASE] | make [--force] TEXT FILE | template SIGNATURE"
+    ++ codes " | --help | --version\n"
 
 abbrev pub version : List ℕ
 version = codes "acpitool 0.1.0\n"
@@ -68,6 +73,27 @@ abbrev pub IsShown : List (List ℕ) → List (List ℕ)
 IsShown files numbers out out' err err' status =
     AreShown files numbers out out' err err' status ⊎ NotStated numbers out out' err err' status
 
+-- ---- template
+
+-- a signature as a word for a shell: that of a pointer ends in a space
+abbrev pub as_word : List ℕ → List ℕ
+as_word signature = if bytes_eq signature (codes "RSD ") then codes "'RSD '" else signature
+
+-- the signature that was probably meant, if there is one
+abbrev pub suggestion : Option (List ℕ) → List ℕ
+suggestion (Some signature) = codes "; did you mean " ++ as_word signature ++ codes "?"
+suggestion None = []
+
+abbrev pub unknown_line : List ℕ → List ℕ
+unknown_line signature = codes "acpitool: no table has the signature " ++ signature ++ suggestion (meant signature) ++ codes "\n"
+
+-- a template of a signature that is known, or a line on one that isn't
+abbrev pub IsTemplated : Bool → List ℕ → Option (List ℕ) → Option (List ℕ) → Option (List ℕ) → Option (List ℕ) → ℕ → Type 0
+IsTemplated true signature out out' err err' status =
+    (text : List ℕ) × (status ≡ 0) × Appends out out' text × Keeps err err' × IsTemplateOf signature text
+IsTemplated false signature out out' err err' status =
+    (status ≡ 1) × Keeps out out' × Appends err err' (unknown_line signature)
+
 -- ---- all commands
 
 -- what a command prints: the usage and more, the version, or what comes of tables and files
@@ -78,8 +104,8 @@ IsDone (Show files numbers) out out' err err' status =
     IsShown (map (λ word. string_bytes word) files.now) (map (λ word. string_bytes word) numbers.now) out out' err err' status
 IsDone (Image file base) out out' err err' status = Listed file.now base out out' err err' status
 IsDone (Template signature) out out' err err' status =
-    (text : List ℕ) × (status ≡ 0) × Appends out out' text × Keeps err err' × IsTemplateOf signature.now text
-IsDone (Make text file) out out' err err' status = Makes text.now file.now out out' err err' status
+    IsTemplated (is_known signature.now) signature.now out out' err err' status
+IsDone (Make force text file) out out' err err' status = Makes force text.now file.now out out' err err' status
 
 -- a command that the words ask for was done
 pub record Done (words : List (List ℕ)) (out out' err err' : Option (List ℕ)) (status : ℕ) : Type 0 where

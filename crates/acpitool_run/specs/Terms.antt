@@ -1,6 +1,7 @@
 -- The terms of a definition block, in comments after its text.
 use Rattle.std.specs.Prelude.{◌≡◌, ◌≢◌, ◌⊎◌, ℕ, nat_eq, nat_le, ◌&&◌, ◌||◌, Bool, true, false, List, [], ◌++◌, length, drop}
-use Rattle.std.specs.Prelude.{codes}
+use Rattle.std.specs.Prelude.{Option, Some, None, codes}
+use Rattle.std.specs.Fmt.{decimal}
 use Rattle.std.specs.List.{starts_with}
 use Rattle.acpi_read.specs.Terms.{IsUnreadIn}
 use Rattle.acpi_term.specs.Arity.{arity}
@@ -11,8 +12,8 @@ use Rattle.acpi_term.specs.declared.read_error.ReadError.TheVariants.{Memory}
 use Rattle.acpi_terms_text.specs.Comment.{IsAnnotated}
 use Rattle.acpi_terms_text.specs.Methods.{AreOwn}
 use Rattle.acpi_text.specs.Comment.{comment}
-use Rattle.acpiread_run.specs.Fault.{line_of, IsRefusalAfter}
-use Rattle.acpiread_run.specs.declared.fault.Fault.{Fault}
+use Rattle.acpitool_run.specs.Fault.{IsFaultAfter}
+use Rattle.acpitool_run.specs.declared.fault.Fault.{Fault}
 
 -- whether terms follow the header, by the signature (ACPI 6.5, 5.2.11.1 and 5.2.11.2)
 abbrev pub has_terms : List ℕ → Bool
@@ -37,9 +38,13 @@ abbrev pub report_lines : List ℕ → List ℕ
 report_lines report =
     comment (codes "Calls take the stated numbers of arguments, or else those of the methods in this table.") ++ comment report
 
--- the line of an error
+-- the line of an error, with its offset if it has one
+abbrev pub unread_line : Option ℕ → List ℕ → List ℕ
+unread_line (Some offset) words = codes "terms can't be read" ++ (codes " at " ++ decimal offset) ++ codes ": " ++ words
+unread_line None words = codes "terms can't be read: " ++ words
+
 abbrev pub error_line : Fault → List ℕ
-error_line fault = comment (line_of fault)
+error_line fault = comment (unread_line fault.place fault.words.now)
 
 -- the text of a definition block is followed by the lines of its report
 pub record HasReport (stated : List (List ℕ × ℕ)) (bytes after : List ℕ) : Type 0 where
@@ -53,7 +58,7 @@ pub record HasError (stated : List (List ℕ × ℕ)) (bytes after : List ℕ) :
   pub no_memory : error ≢ Memory
   pub no_report : IsNoReport stated (drop 36 bytes) error
   pub fault : Fault
-  pub refusal : IsRefusalAfter 36 error fault
+  pub says : IsFaultAfter 36 error fault
   pub is : after ≡ error_line fault
 
 abbrev pub IsAfterBy : Bool → List (List ℕ × ℕ) → List ℕ → List ℕ → Type 0

@@ -6,9 +6,9 @@ use Rattle.acpi_forms.specs.declared.kind.Kind.{Kind}
 use Rattle.acpi_forms.specs.declared.kind.Kind.TheVariants.{Pointer, Control, Table}
 use Rattle.acpi_term.specs.declared.read_error.ReadError.{ReadError}
 use Rattle.acpi_term.specs.declared.read_error.ReadError.TheVariants.{Memory}
-use Rattle.acpiread_run.specs.Fault.{IsRefusal}
-use Rattle.acpiread_run.specs.declared.fault.Fault.{Fault}
 use Rattle.acpitool_run.specs.Check.{IsPointer, IsControl}
+use Rattle.acpitool_run.specs.Fault.{IsFaultOf}
+use Rattle.acpitool_run.specs.declared.fault.Fault.{Fault}
 
 -- bytes are what their signature says
 abbrev pub IsKind : Kind → List ℕ → Type 0
@@ -21,8 +21,8 @@ pub record IsText (bytes text : List ℕ) : Type 0 where
   pub kind : IsKind (kind_of bytes) bytes
   pub is : IsTextBy (kind_of bytes) bytes text
 
--- bytes aren't what their signature says, and a fault has an error, or memory ran out
+-- bytes aren't what their signature says, and a fault says why, or memory ran out
 pub record IsTextFault (bytes : List ℕ) (fault : Fault) : Type 0 where
   pub error : ReadError
-  pub refusal : IsRefusal error fault
+  pub says : IsFaultOf (kind_of bytes) error fault
   pub cause : error ≢ Memory → ¬ IsKind (kind_of bytes) bytes

@@ -1,11 +1,14 @@
 //! The words of the command line.
 
 ghost use Rattle.std.specs.Prelude.{◌≡◌, ℕ, ◌≤◌, length, nat_eq, if◌then◌else◌, List, ◌∷◌, map, drop, string_bytes, codes};
+ghost use Rattle.std.specs.List.{slice_get};
 ghost use Rattle.std.specs.Prelude.{MatchResult, MatchOption, IfOk, None, Some};
 ghost use Rattle.std.specs.List.{starts_with};
 ghost use Rattle.acpiread_run.specs.Command.{stated};
-ghost use Rattle.acpitool_run.specs.Command.{is_option, first_option, has, is_number, files_in, first_unstated, IsMisstated};
+ghost use Rattle.acpitool_run.specs.Command.{is_option, is_force, takes, first_option, forces, unforced, has, is_number};
+ghost use Rattle.acpitool_run.specs.Command.{files_in, first_unstated, IsMisstated};
 ghost use Rattle.acpitool_run.specs.Command.{word_of, IsAddress, Asks, IsWrong};
+ghost use Rattle.acpitool_run.specs.declared.command.Verb.TheVariants as verbs;
 
 use acpi_term::name_string::Arities;
 use acpiread_run::command::{arities, stated};
@@ -15,7 +18,7 @@ use std::alloc::{AllocError, Global};
 /// What the program is asked for.
 #[derive(Debug, Drop)]
 pub enum Command<'a> {
-    /// `--help`: how the program is used.
+    /// `--help`, `-h` or `help`: how the program is used.
     Help,
     /// `--version`: its version.
     Version,
@@ -24,8 +27,8 @@ pub enum Command<'a> {
     Show(&'a [String], &'a [String]),
     /// `image FILE [BASE]`: the tables of an image in a file, which begins at the physical address BASE in hexadecimal, or at 0.
     Image(&'a str, u64),
-    /// `make TEXT FILE`: the table of a text, which goes to a file.
-    Make(&'a str, &'a str),
+    /// `make [--force] TEXT FILE`: the table of a text, which goes to a file. `--force` is there or not.
+    Make(bool, &'a str, &'a str),
     /// `template SIGNATURE`: a text of a table of the signature, for a start.
     Template(&'a str),
 }
@@ -84,14 +87,60 @@ fn is_option(word: &[u8]) -> bool
     word.len() > 1 && word[0] == b'-'
 }
 
-// Returns the first option among words.
-fn first_option(words: &[String]) -> Option<&str>
-    ensures { MatchOption result (first_option (map (λ word. string_bytes word) words.now) ≡ None)
-        (λ word. first_option (map (λ word. string_bytes word) words.now) ≡ Some word.now) }
+// Returns whether a word is `--force`.
+fn is_force(word: &str) -> bool
+    ensures { result ≡ is_force word.now }
+{
+    word == "--force"
+}
+
+// Returns whether a command takes an option.
+fn takes(verb: Verb, word: &str) -> bool
+    ensures { result ≡ takes verb word.now }
+{
+    match verb {
+        Verb::Make => is_force(word),
+        Verb::Show | Verb::Image | Verb::Template => false,
+    }
+}
+
+// Returns the first option among words after a command, but for those that it takes.
+fn first_option(verb: Verb, words: &[String]) -> Option<&str>
+    ensures { MatchOption result (first_option verb (map (λ word. string_bytes word) words.now) ≡ None)
+        (λ word. first_option verb (map (λ word. string_bytes word) words.now) ≡ Some word.now) }
 {
     for word in words {
-        if is_option(word.as_bytes()) {
+        if is_option(word.as_bytes()) && !takes(verb, word.as_str()) {
             return Some(word.as_str());
+        }
+    }
+    None
+}
+
+// Returns whether one of the words is `--force`.
+fn forces(words: &[String]) -> bool
+    ensures { result ≡ forces (map (λ word. string_bytes word) words.now) }
+{
+    for word in words {
+        if is_force(word.as_str()) {
+            return true;
+        }
+    }
+    false
+}
+
+// Returns the word at an index among those that aren't `--force`.
+fn unforced(words: &[String], index: usize) -> Option<&str>
+    ensures { MatchOption result (slice_get (unforced (map (λ word. string_bytes word) words.now)) index ≡ None)
+        (λ word. slice_get (unforced (map (λ word. string_bytes word) words.now)) index ≡ Some word.now) }
+{
+    let mut left = index;
+    for word in words {
+        if !is_force(word.as_str()) {
+            if left == 0 {
+                return Some(word.as_str());
+            }
+            left -= 1;
         }
     }
     None
@@ -133,7 +182,7 @@ fn files_in(words: &[String]) -> usize
 
 // Returns what `show` and these words, which aren't options, ask for.
 fn show(words: &[String]) -> Result<Command<'_>, Wrong<'_>>
-    requires { first_option (map (λ word. string_bytes word) words.now) ≡ None }
+    requires { first_option verbs.Show (map (λ word. string_bytes word) words.now) ≡ None }
     ensures { (all : List (List ℕ)) → all ≡ codes "show" ∷ map (λ word. string_bytes word) words.now
         → MatchResult result (Asks all) (IsWrong all) }
 {
@@ -206,7 +255,7 @@ fn address_of(word: &str) -> Option<u64>
 
 // Returns what `image` and these words, which aren't options, ask for.
 fn image(words: &[String]) -> Result<Command<'_>, Wrong<'_>>
-    requires { first_option (map (λ word. string_bytes word) words.now) ≡ None }
+    requires { first_option verbs.Image (map (λ word. string_bytes word) words.now) ≡ None }
     ensures { (all : List (List ℕ)) → all ≡ codes "image" ∷ map (λ word. string_bytes word) words.now
         → MatchResult result (Asks all) (IsWrong all) }
 {
@@ -224,23 +273,27 @@ fn image(words: &[String]) -> Result<Command<'_>, Wrong<'_>>
     }
 }
 
-// Returns what `make` and these words, which aren't options, ask for.
+// Returns what `make` and these words, which aren't options but `--force`, ask for.
 fn make(words: &[String]) -> Result<Command<'_>, Wrong<'_>>
-    requires { first_option (map (λ word. string_bytes word) words.now) ≡ None }
+    requires { first_option verbs.Make (map (λ word. string_bytes word) words.now) ≡ None }
     ensures { (all : List (List ℕ)) → all ≡ codes "make" ∷ map (λ word. string_bytes word) words.now
         → MatchResult result (Asks all) (IsWrong all) }
 {
-    match words {
-        [] => Err(Wrong::NoText),
-        [_] => Err(Wrong::NoTable),
-        [text, file] => Ok(Command::Make(text.as_str(), file.as_str())),
-        [_, _, extra, ..] => Err(Wrong::Unknown(extra.as_str())),
+    let Some(text) = unforced(words, 0) else {
+        return Err(Wrong::NoText);
+    };
+    let Some(file) = unforced(words, 1) else {
+        return Err(Wrong::NoTable);
+    };
+    match unforced(words, 2) {
+        Some(extra) => Err(Wrong::Unknown(extra)),
+        None => Ok(Command::Make(forces(words), text, file)),
     }
 }
 
 // Returns what `template` and these words, which aren't options, ask for.
 fn template(words: &[String]) -> Result<Command<'_>, Wrong<'_>>
-    requires { first_option (map (λ word. string_bytes word) words.now) ≡ None }
+    requires { first_option verbs.Template (map (λ word. string_bytes word) words.now) ≡ None }
     ensures { (all : List (List ℕ)) → all ≡ codes "template" ∷ map (λ word. string_bytes word) words.now
         → MatchResult result (Asks all) (IsWrong all) }
 {
@@ -263,8 +316,9 @@ fn asked(verb: Verb, words: &[String]) -> Result<Command<'_>, Wrong<'_>>
     ensures { (all : List (List ℕ)) → all ≡ word_of verb ∷ map (λ word. string_bytes word) words.now
         → MatchResult result (Asks all) (IsWrong all) }
 {
-    match first_option(words) {
+    match first_option(verb, words) {
         Some("--help") => Ok(Command::Help),
+        Some("-h") => Ok(Command::Help),
         Some(word) => Err(Wrong::Unknown(word)),
         None => match verb {
             Verb::Show => show(words),
@@ -285,6 +339,8 @@ pub fn parse(words: &[String]) -> Result<Command<'_>, Wrong<'_>>
     };
     match word.as_str() {
         "--help" => Ok(Command::Help),
+        "-h" => Ok(Command::Help),
+        "help" => Ok(Command::Help),
         "--version" => Ok(Command::Version),
         "show" => asked(Verb::Show, rest),
         "image" => asked(Verb::Image, rest),

@@ -9,10 +9,10 @@ use std::io;
 use std::io::Write;
 
 const USAGE: &str = "\
-usage: acpitool show FILE .. [NAME=N ..] | image FILE [BASE] | make TEXT FILE | template SIGNATURE | --help | --version
+usage: acpitool show FILE .. [NAME=N ..] | image FILE [BASE] | make [--force] TEXT FILE | template SIGNATURE | --help | --version
 ";
 
-// What `--help` prints after the usage.
+// What `--help`, `-h` and `help` print after the usage.
 const HELP: &str = "
 show prints each table field by field: the offset, the name and the value of each field, and what the value
 means. The text has all bytes of the table. A FILE is a table, an RSDP, a FACS, a dump of tables as text (of
@@ -26,15 +26,17 @@ hexadecimal; it is 0 if there is none. An RSDP of revision 0 or 1 has no XSDT, a
 
 make reads a text that show prints, changed or written by hand, and writes the bytes of its table to FILE.
 Question marks are worked out: the length, the checksum, and how long, how many and of which type structures
-are. Other numbers are written as they are; a line says of a length, a count or a checksum which would be
-right. As TEXT, - is standard input, and as FILE, standard output. TEXT and FILE may not be the same file. A
-regular FILE is replaced as a whole by FILE.part, which may not be there before. A device, a pipe or a link
-stays what it is, and takes the bytes.
+are. Other numbers stay as they are. A line says of a wrong length, count or checksum which would be right, and
+the table isn't written; with --force it is. As TEXT, - is standard input, and as FILE, standard output. TEXT
+and FILE may not be the same file. A regular FILE is replaced as a whole by FILE.part, which may not be there
+before. A device, a pipe or a link stays what it is, and takes the bytes.
 
-template prints such a text of a table: all fields, mostly with zeros, and one structure of each kind.
+template prints such a text of a table: all fields, mostly with zeros, and one structure of each kind. It knows
+the signatures that show knows by name, such as APIC, the MADT's. That of the RSDP is 'RSD '.
 
 The status is 0 if everything is shown or written, 1 if something isn't a table, an image or a text of a table,
-or output can't be written, and 2 if a file can't be read or the words are wrong.
+its structures or numbers are wrong, no table has the signature, or output can't be written, and 2 if a file
+can't be read or the words are wrong.
 ";
 
 const VERSION: &str = "acpitool 0.1.0\n";

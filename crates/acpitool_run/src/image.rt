@@ -5,16 +5,19 @@ ghost use Rattle.std.specs.Prelude.{OnOk, string_bytes, codes, false, ◌++◌, 
 ghost use Rattle.std.specs.Fmt.{digits};
 ghost use Rattle.std.specs.Io.KnownBytes.{Appends};
 ghost use Rattle.acpi_layout.specs.Found.{IsImage};
-ghost use Rattle.acpi_layout.specs.declared.fault.ImageFault.TheVariants.{Memory};
+ghost use Rattle.acpi_base.specs.Bytes.{field_at};
+ghost use Rattle.acpi_layout.specs.FaultText.{text_of};
+ghost use Rattle.acpi_layout.specs.declared.fault.ImageFault.TheVariants.{Memory, Outside};
 ghost use Rattle.acpi_layout.specs.declared.located.Located.{Located};
 ghost use Rattle.acpitool_run.specs.Image.{IsPointerAt, IsFirstPointer, HasNoPointer, IsFoundImage};
-ghost use Rattle.acpitool_run.specs.Listing.{IsNoImage, why};
+ghost use Rattle.acpitool_run.specs.Listing.{IsWhyNone, IsNoImage, is_base_right, why};
 ghost use Rattle.acpitool_run.specs.Image.{revision_offset, revision_of, table_line, table_lines};
 
 use crate::check::check_pointer;
 use acpi_layout::check::check_image;
 use acpi_layout::fault::ImageFault;
 use acpi_layout::located::Located;
+use acpi_read::bytes::qword_at;
 use acpi_read::report::{push_number, push_shown};
 use std::alloc::{AllocError, Global};
 use std::io;
@@ -45,6 +48,8 @@ pub enum NoImage {
     NoPointer,
     /// The first one is at this offset, and has only the address of an RSDT.
     Old { at: usize, revision: u8 },
+    /// The XSDT isn't in the image at this address, which is that of the pointer.
+    Away(u64),
     /// What the pointer leads to is wrong.
     Wrong(ImageFault),
 }
@@ -182,6 +187,31 @@ fn no_pointer(bytes: &[u8]) -> NoImage
     }
 }
 
+// Returns the address of the XSDT in a pointer at an offset.
+fn xsdt_address(bytes: &[u8], at: usize) -> u64
+    requires { at + 36 ≤ length bytes.now }
+    ensures { result ≡ field_at (at + 24) 8 bytes.now }
+{
+    qword_at(bytes, at + 24)
+}
+
+// Returns why the pointer at an offset leads to no tables.
+fn why_none(bytes: &[u8], at: usize, fault: ImageFault) -> NoImage
+    requires { at + 36 ≤ length bytes.now }
+    ensures { IsWhyNone bytes.now at fault result }
+{
+    match fault {
+        ImageFault::Outside(address) => {
+            if address == xsdt_address(bytes, at) {
+                NoImage::Away(address)
+            } else {
+                NoImage::Wrong(fault)
+            }
+        }
+        fault => NoImage::Wrong(fault),
+    }
+}
+
 /// Returns the tables of an image that begins at the physical address `base`, from its first pointer on, or why there are none.
 pub fn find_tables(alloc: Global, base: u64, bytes: &[u8]) -> Result<Vec<Located>, NoImage>
     ensures ok { IfOk result (λ tables. IsFoundImage base bytes.now tables.items) }
@@ -192,8 +222,30 @@ pub fn find_tables(alloc: Global, base: u64, bytes: &[u8]) -> Result<Vec<Located
     };
     match tables_from(alloc, base, bytes, at) {
         Ok(tables) => Ok(tables),
-        Err(fault) => Err(NoImage::Wrong(fault)),
+        Err(fault) => Err(why_none(bytes, at, fault)),
     }
+}
+
+// Returns what is asked if the XSDT isn't in the image.
+fn is_base_right(alloc: Global, base: u64, address: u64) -> Result<String, AllocError>
+    ensures { IfOk result (λ text. string_bytes text ≡ is_base_right base address) }
+{
+    if base == 0 {
+        format!(in alloc; " (is BASE right? the RSDP points to 0x{address:x})")
+    } else {
+        Ok(String::new(alloc))
+    }
+}
+
+// Returns that the XSDT isn't in the image, as text.
+fn why_away(alloc: Global, base: u64, address: u64) -> Result<String, AllocError>
+    ensures { IfOk result (λ text. string_bytes text ≡ text_of (Outside address) ++ is_base_right base address) }
+{
+    let fault = ImageFault::Outside(address);
+    let mut text = format!(in alloc; "{fault}")?;
+    let more = is_base_right(alloc, base, address)?;
+    text.push_str(more.as_str())?;
+    Ok(text)
 }
 
 /// Returns why there is no image that begins at the physical address `base`, as text.
@@ -206,6 +258,7 @@ pub fn why(alloc: Global, base: u64, fault: &NoImage) -> Result<String, AllocErr
             let address = base.wrapping_add(*at as u64);
             format!(in alloc; "at 0x{address:x}: an RSDP of revision {revision}, which has no XSDT")
         }
+        NoImage::Away(address) => why_away(alloc, base, *address),
         NoImage::Wrong(fault) => format!(in alloc; "{fault}"),
     }
 }

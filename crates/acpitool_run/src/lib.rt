@@ -4,6 +4,7 @@
 pub mod check;
 pub mod command;
 pub mod complaint;
+pub mod fault;
 pub mod files;
 pub mod help;
 pub mod image;
@@ -13,5 +14,6 @@ pub mod making;
 pub mod outcome;
 pub mod program;
 pub mod show;
+pub mod structures;
 pub mod terms;
 pub mod text;

@@ -1,9 +1,10 @@
 //! Texts that are made into tables.
 
-ghost use Rattle.std.specs.Prelude.{◌≡◌, ◌⊎◌, IfOk, OnOk, MatchResult};
+ghost use Rattle.std.specs.Prelude.{◌≡◌, ◌≢◌, ◌⊎◌, ◌++◌, [], true, false, IfOk, OnOk, MatchResult};
+ghost use Rattle.std.specs.Bool.{MatchBool};
 ghost use Rattle.std.specs.Option.{option_map};
 ghost use Rattle.std.specs.Io.KnownBytes.{Appends};
-ghost use Rattle.acpitool_run.specs.Making.{note, notes, same_line, MadeOrNot, Saved, NotSaved};
+ghost use Rattle.acpitool_run.specs.Making.{note, notes, held_line, same_line, MadeOrNot, Saved, NotSaved};
 ghost use Rattle.acpitool_run.specs.Making.{IsWritten, MakesText, MakesWord, Makes};
 
 use crate::complaint::complain;
@@ -38,19 +39,43 @@ fn print_notes<E: Write>(name: &str, owns: &[Own], err: &mut E) -> io::Result<()
     Ok(())
 }
 
-/// Makes a text into a table, and returns the table's bytes. A line on `err` says of each number that isn't right which would be,
-/// or why the text isn't made into a table. An error is that of `err`, or memory ran out.
+// Returns whether a table isn't written, since a text states these numbers of it otherwise.
+fn is_held(force: bool, owns: &[Own]) -> bool
+    ensures { MatchBool result ((owns.now ≢ []) × (force ≡ false)) ((force ≡ true) ⊎ (owns.now ≡ [])) }
+{
+    !force && !owns.is_empty()
+}
+
+// Prints the numbers that a text states otherwise, and that its table isn't written.
+fn tell_held<E: Write>(name: &str, owns: &[Own], err: &mut E) -> io::Result<()>
+    ensures { OnOk result (Appends (E.contents err.old) (E.contents err.new) (notes name.now owns.now ++ held_line name.now)) }
+{
+    print_notes(name, owns, err)?;
+    writeln!(
+        err,
+        "{name}: not written: its numbers are wrong (--force writes it)"
+    )
+}
+
+/// Makes a text into a table, and returns the table's bytes if they are to be written. A line on `err` says of each number that
+/// isn't right which would be: such a table is only written by force. Or a line says why the text isn't made into a table. An error
+/// is that of `err`, or memory ran out.
 pub fn make_text<E: Write>(
     alloc: Global,
+    force: bool,
     name: &str,
     text: &[u8],
     err: &mut E,
 ) -> io::Result<Option<Vec<u8>>>
-    ensures { IfOk result (λ table. MadeOrNot name.now text.now (option_map (λ bytes. bytes.items) table)
+    ensures { IfOk result (λ table. MadeOrNot force name.now text.now (option_map (λ bytes. bytes.items) table)
         (E.contents err.old) (E.contents err.new)) }
 {
     match make(alloc, text) {
         Ok(made) => {
+            if is_held(force, &made.untrue) {
+                tell_held(name, &made.untrue, err)?;
+                return Ok(None);
+            }
             print_notes(name, &made.untrue, err)?;
             Ok(Some(made.bytes))
         }
@@ -128,20 +153,21 @@ fn write_table<R: Files, O: Write, E: Write>(
     }
 }
 
-// Makes a text into a table, and writes it.
+// Makes a text into a table, and writes it. A table whose numbers are wrong is only written by force.
 fn make_bytes<R: Files, O: Write, E: Write>(
     rt: &R,
     alloc: Global,
+    force: bool,
     name: &str,
     text: &[u8],
     file: &str,
     out: &mut O,
     err: &mut E,
 ) -> io::Result<u8>
-    ensures { IfOk result (λ status. MakesText name.now text.now file.now (O.contents out.old) (O.contents out.new)
+    ensures { IfOk result (λ status. MakesText force name.now text.now file.now (O.contents out.old) (O.contents out.new)
         (E.contents err.old) (E.contents err.new) status) }
 {
-    match make_text(alloc, name, text, err)? {
+    match make_text(alloc, force, name, text, err)? {
         Some(bytes) => write_table(rt, alloc, &bytes, file, out, err),
         None => Ok(1),
     }
@@ -151,16 +177,17 @@ fn make_bytes<R: Files, O: Write, E: Write>(
 fn make_word<R: Files + Input, O: Write, E: Write>(
     rt: &R,
     alloc: Global,
+    force: bool,
     name: &str,
     file: &str,
     out: &mut O,
     err: &mut E,
 ) -> io::Result<u8>
-    ensures { IfOk result (λ status. MakesWord name.now file.now (O.contents out.old) (O.contents out.new)
+    ensures { IfOk result (λ status. MakesWord force name.now file.now (O.contents out.old) (O.contents out.new)
         (E.contents err.old) (E.contents err.new) status) }
 {
     match read_word(rt, alloc, name) {
-        Ok(text) => make_bytes(rt, alloc, name, &text, file, out, err),
+        Ok(text) => make_bytes(rt, alloc, force, name, &text, file, out, err),
         Err(error) => tell_unread(alloc, name, &error, err),
     }
 }
@@ -175,20 +202,22 @@ fn tell_same<E: Write>(name: &str, err: &mut E) -> io::Result<u8>
 }
 
 /// Makes the text in a file, or on standard input, into a table, and writes it to another file, or to standard output. A table
-/// doesn't replace its text: two words for one file are refused if they are the same, and aren't `-`.
+/// whose numbers are wrong is only written by force. A table doesn't replace its text: two words for one file are refused if they
+/// are the same, and aren't `-`.
 pub fn make_file<R: Files + Input, O: Write, E: Write>(
     rt: &R,
     alloc: Global,
+    force: bool,
     name: &str,
     file: &str,
     out: &mut O,
     err: &mut E,
 ) -> io::Result<u8>
-    ensures { IfOk result (λ status. Makes name.now file.now (O.contents out.old) (O.contents out.new)
+    ensures { IfOk result (λ status. Makes force name.now file.now (O.contents out.old) (O.contents out.new)
         (E.contents err.old) (E.contents err.new) status) }
 {
     if file == name && file != "-" {
         return tell_same(name, err);
     }
-    make_word(rt, alloc, name, file, out, err)
+    make_word(rt, alloc, force, name, file, out, err)
 }

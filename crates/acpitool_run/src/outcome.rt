@@ -2,15 +2,18 @@
 
 ghost use Rattle.std.specs.Prelude.{◌≡◌, ℕ, List, [], ◌∷◌, ◌++◌, map, IfOk, OnOk, string_bytes, codes, true, max};
 ghost use Rattle.std.specs.Io.KnownBytes.{Appends};
-ghost use Rattle.acpi_dump.specs.Dump.{is_dump, tables_of};
-ghost use Rattle.acpitool_run.specs.Outcome.{heading, AreOfTables, AreOfDump, AreOfBytes, PrintedAs};
-ghost use Rattle.acpitool_run.specs.Text.{IsText, IsTextFault};
+ghost use Rattle.acpi_dump.specs.Dump.{titled, is_dump, tables_of};
+ghost use Rattle.acpitool_run.specs.Outcome.{heading, fault_line, fault_status, label, labelled};
+ghost use Rattle.acpitool_run.specs.Outcome.{AreOfTables, AreOfDump, AreOfBytes, PrintedAs};
 
 use crate::complaint::complain;
+use crate::fault::Fault;
+use crate::structures::structures_fault;
 use crate::terms::lines_after;
 use crate::text::text_of;
-use acpi_dump::dump::{is_dump, tables_of};
+use acpi_dump::dump::{Dumped, is_dump, tables_of};
 use acpi_dump::fault::DumpFault;
+use acpi_read::report::push_shown;
 use acpi_term::name_string::Arities;
 use acpi_text::comment::push_comment;
 use std::alloc::{AllocError, Global};
@@ -38,8 +41,27 @@ fn print_text<O: Write>(before: &str, text: &str, after: &str, out: &mut O) -> i
     out.write_all(after.as_bytes())
 }
 
-// Prints the text of a table, a pointer or a control structure on `out`, and the terms of a definition block after it, or prints
-// on `err` why it isn't shown. Returns 0 or 1.
+// Prints a fault, if there is one, and returns 1, or returns 0.
+fn tell_fault<E: Write>(
+    alloc: Global,
+    name: &str,
+    fault: &Option<Fault>,
+    err: &mut E,
+) -> io::Result<u8>
+    ensures is { IfOk result (λ status. status ≡ fault_status fault.now) }
+    ensures line { OnOk result (Appends (E.contents err.old) (E.contents err.new) (fault_line name.now fault.now)) }
+{
+    match fault {
+        Some(fault) => {
+            complain(alloc, name, fault, err)?;
+            Ok(1)
+        }
+        None => Ok(0),
+    }
+}
+
+// Prints the text of a table, a pointer or a control structure on `out`, and the terms of a definition block after it. Prints on
+// `err` what is wrong with its structures, or why it isn't shown. Returns 0 or 1.
 fn show_table<O: Write, E: Write>(
     alloc: Global,
     stated: &Arities,
@@ -49,15 +71,16 @@ fn show_table<O: Write, E: Write>(
     out: &mut O,
     err: &mut E,
 ) -> io::Result<u8>
-    ensures { IfOk result (λ status. PrintedAs stated.now (AreOfTables several name.now (bytes.now ∷ []))
+    ensures { IfOk result (λ status. PrintedAs stated.now (AreOfTables several ((name.now, bytes.now) ∷ []))
         (O.contents out.old) (O.contents out.new) (E.contents err.old) (E.contents err.new) status) }
 {
     match text_of(alloc, bytes) {
         Ok(text) => {
             let before = heading(alloc, name, several)?;
             let after = lines_after(alloc, stated, bytes)?;
+            let fault = structures_fault(alloc, bytes)?;
             print_text(before.as_str(), text.as_str(), after.as_str(), out)?;
-            Ok(0)
+            Ok(tell_fault(alloc, name, &fault, err)?)
         }
         Err(fault) => {
             complain(alloc, name, &fault, err)?;
@@ -73,21 +96,48 @@ pub fn worst_of(a: u8, b: u8) -> u8
     if a < b { b } else { a }
 }
 
-// Prints the texts of tables that have one name, and returns the greatest status.
+// Returns the name of a table of a dump: that of the file, and the table's title.
+fn label(alloc: Global, name: &str, title: &[u8]) -> Result<String, AllocError>
+    ensures { IfOk result (λ text. string_bytes text ≡ label name.now title.now) }
+{
+    let mut text = String::from_str(alloc, name)?;
+    text.push_str(": ")?;
+    push_shown(title, &mut text)?;
+    Ok(text)
+}
+
+// Prints the text of a table of a dump.
+fn show_dumped<O: Write, E: Write>(
+    alloc: Global,
+    stated: &Arities,
+    name: &str,
+    table: &Dumped,
+    out: &mut O,
+    err: &mut E,
+) -> io::Result<u8>
+    ensures { IfOk result (λ status. PrintedAs stated.now (AreOfTables true (labelled name.now (titled table.now) ∷ []))
+        (O.contents out.old) (O.contents out.new) (E.contents err.old) (E.contents err.new) status) }
+{
+    let label = label(alloc, name, &table.title)?;
+    Ok(show_table(alloc, stated, label.as_str(), &table.bytes, true, out, err)?)
+}
+
+// Prints the texts of the tables of a dump, and returns the greatest status.
 fn show_tables<O: Write, E: Write>(
     alloc: Global,
     stated: &Arities,
     name: &str,
-    tables: &[Vec<u8>],
+    tables: &[Dumped],
     out: &mut O,
     err: &mut E,
 ) -> io::Result<u8>
-    ensures { IfOk result (λ status. PrintedAs stated.now (AreOfTables true name.now (map (λ table. table.items) tables.now))
+    ensures { IfOk result (λ status. PrintedAs stated.now
+        (AreOfTables true (map (λ table. labelled name.now (titled table)) tables.now))
         (O.contents out.old) (O.contents out.new) (E.contents err.old) (E.contents err.new) status) }
 {
     let mut worst = 0;
     'tables: for table in tables {
-        let status = show_table(alloc, stated, name, table, true, out, err)?;
+        let status = show_dumped(alloc, stated, name, table, out, err)?;
         worst = worst_of(worst, status);
     }
     Ok(worst)
@@ -117,7 +167,7 @@ fn show_dump<O: Write, E: Write>(
 }
 
 /// Prints what is in a file: a table, a pointer, a control structure, or the tables of a dump as text. What can't be shown has a
-/// line on `err`. Returns 0 or 1.
+/// line on `err`, and so has a table whose structures can't be found. Returns 0 or 1.
 pub fn show_content<O: Write, E: Write>(
     alloc: Global,
     stated: &Arities,

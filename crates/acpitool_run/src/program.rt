@@ -1,16 +1,18 @@
 //! A run of the program.
 
-ghost use Rattle.std.specs.Prelude.{◌≡◌, ℕ, List, length, map, string_bytes, IfOk};
+ghost use Rattle.std.specs.Prelude.{◌≡◌, ℕ, List, length, map, string_bytes, IfOk, OnOk};
 ghost use Rattle.std.specs.IoError.{error_kind};
 ghost use Rattle.std.specs.Io.KnownBytes.{Appends};
+ghost use Rattle.acpi_forms.specs.Known.{is_known};
 ghost use Rattle.acpi_forms.specs.Makes.{IsTemplateOf};
-ghost use Rattle.acpitool_run.specs.Program.{Ended, IsLost, Started};
+ghost use Rattle.acpitool_run.specs.Program.{as_word, suggestion, unknown_line, IsTemplated, Ended, IsLost, Started};
 
 use crate::command::{Command, parse};
 use crate::help::{print_help, print_version, tell_wrong};
 use crate::listing::list_file;
 use crate::making::make_file;
 use crate::show::show_all;
+use acpi_forms::known::{is_known, meant};
 use acpi_forms::make::template;
 use std::alloc::Global;
 use std::io::{ErrorKind, Input, Write};
@@ -28,11 +30,65 @@ fn print_template<O: Write>(alloc: Global, signature: &str, out: &mut O) -> io::
     Ok(0)
 }
 
+// Returns a signature as a word for a shell.
+fn as_word(signature: &[u8; 4]) -> &[u8]
+    ensures { result.now ≡ as_word signature.now }
+{
+    match signature {
+        b"RSD " => b"'RSD '",
+        _ => signature,
+    }
+}
+
+// Prints the signature that was probably meant, if there is one.
+fn print_suggestion<E: Write>(signature: &Option<[u8; 4]>, err: &mut E) -> io::Result<()>
+    ensures { OnOk result (Appends (E.contents err.old) (E.contents err.new) (suggestion signature.now)) }
+{
+    match signature {
+        Some(signature) => {
+            err.write_all(b"; did you mean ")?;
+            err.write_all(as_word(signature))?;
+            err.write_all(b"?")?;
+            Ok(())
+        }
+        None => Ok(()),
+    }
+}
+
+// Prints that no table has a signature, and returns 1.
+fn tell_unknown<E: Write>(signature: &str, err: &mut E) -> io::Result<u8>
+    ensures { IfOk result (λ status. (status ≡ 1)
+        × Appends (E.contents err.old) (E.contents err.new) (unknown_line signature.now)) }
+{
+    write!(err, "acpitool: no table has the signature {signature}")?;
+    print_suggestion(&meant(signature.as_bytes()), err)?;
+    err.write_all(b"\n")?;
+    Ok(1)
+}
+
+// Prints a template of a signature of four bytes, or that no table has it.
+fn template_of<O: Write, E: Write>(
+    alloc: Global,
+    signature: &str,
+    out: &mut O,
+    err: &mut E,
+) -> io::Result<u8>
+    requires { length signature.now ≡ 4 }
+    ensures { IfOk result (λ status. IsTemplated (is_known signature.now) signature.now
+        (O.contents out.old) (O.contents out.new) (E.contents err.old) (E.contents err.new) status) }
+{
+    if is_known(signature.as_bytes()) {
+        return Ok(print_template(alloc, signature, out)?);
+    }
+    Ok(tell_unknown(signature, err)?)
+}
+
 /// Runs the program on the words after its name, and returns its exit status:
 ///
-/// - 0: everything that was asked for went to `out` or to a file, and nothing to `err` but notes on numbers of a text;
-/// - 1: something that was read isn't a table, an RSDP, a FACS, an image or a text of a table, or a table can't be written; `err`
-///   has a line for each;
+/// - 0: everything that was asked for went to `out` or to a file, and nothing to `err` but notes on numbers of a table that was
+///   written by force;
+/// - 1: something that was read isn't a table, an RSDP, a FACS, an image or a text of a table, the structures of a table can't be
+///   found, a table can't be written or its numbers are wrong, or no table has a signature; `err` has a line for each;
 /// - 2: a file can't be read, or words are wrong; `err` has a line for each file, or which word is wrong and the usage.
 ///
 /// What can be shown is shown, whatever the status is. An error is one of `out` or `err`, or memory ran out.
@@ -51,8 +107,8 @@ pub fn run<R: Files + Input + AllocGlobal + Clone + Drop, O: Write, E: Write>(
         Ok(Command::Version) => print_version(out),
         Ok(Command::Show(files, words)) => show_all(rt, alloc, files, words, out, err),
         Ok(Command::Image(file, base)) => list_file(rt, alloc, file, base, out, err),
-        Ok(Command::Template(signature)) => print_template(alloc, signature, out),
-        Ok(Command::Make(text, file)) => make_file(rt, alloc, text, file, out, err),
+        Ok(Command::Template(signature)) => template_of(alloc, signature, out, err),
+        Ok(Command::Make(force, text, file)) => make_file(rt, alloc, force, text, file, out, err),
         Err(wrong) => tell_wrong(&wrong, err),
     }
 }

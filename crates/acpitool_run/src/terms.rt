@@ -1,17 +1,18 @@
 //! The terms of a definition block, in comments after its text.
 
-ghost use Rattle.std.specs.Prelude.{◌≡◌, ◌≢◌, ◌+◌, ◌<◌, ◌≤◌, ◌^◌, ◌⊎◌, length, drop, IfOk, IfErr, IfSome, string_bytes};
+ghost use Rattle.std.specs.Prelude.{◌≡◌, ◌≢◌, ◌+◌, ◌<◌, ◌≤◌, ◌^◌, ◌⊎◌, length, drop, IfOk, IfErr, IfSome, Some, string_bytes};
 ghost use Rattle.acpi_term.specs.ReadError.{offset_of};
 ghost use Rattle.acpi_term.specs.declared.read_error.ReadError.TheVariants.{Memory};
-ghost use Rattle.acpitool_run.specs.Terms.{has_terms, report_lines, error_line, IsReport, IsNoReport, HasReport, HasError};
-ghost use Rattle.acpitool_run.specs.Terms.{IsAfter};
+ghost use Rattle.acpitool_run.specs.Terms.{has_terms, report_lines, unread_line, error_line, IsReport, IsNoReport, HasReport};
+ghost use Rattle.acpitool_run.specs.Terms.{HasError, IsAfter};
 
+use crate::fault::Fault;
+use acpi_read::report::push_number;
 use acpi_term::name_string::Arities;
 use acpi_term::read_error::ReadError;
 use acpi_terms_text::annotate::annotated;
 use acpi_terms_text::methods::own_arities;
 use acpi_text::comment::push_comment;
-use acpiread_run::fault::Fault;
 use std::alloc::{AllocError, Global};
 
 // The offset of the terms of a table: they follow its header.
@@ -47,11 +48,32 @@ fn report_lines(alloc: Global, report: &str) -> Result<String, AllocError>
     Ok(lines)
 }
 
+// Returns why terms can't be read, with an offset.
+fn unread_at(alloc: Global, offset: usize, words: &str) -> Result<String, AllocError>
+    ensures { IfOk result (λ line. string_bytes line ≡ unread_line (Some offset) words.now) }
+{
+    let mut line = String::from_str(alloc, "terms can't be read")?;
+    push_number(" at ", offset as u64, &mut line)?;
+    line.push_str(": ")?;
+    line.push_str(words)?;
+    Ok(line)
+}
+
+// Returns why terms can't be read.
+fn unread_line(alloc: Global, place: Option<usize>, words: &str) -> Result<String, AllocError>
+    ensures { IfOk result (λ line. string_bytes line ≡ unread_line place words.now) }
+{
+    match place {
+        Some(offset) => unread_at(alloc, offset, words),
+        None => format!(in alloc; "terms can't be read: {words}"),
+    }
+}
+
 // Returns the line of an error.
 fn error_line(alloc: Global, fault: &Fault) -> Result<String, AllocError>
     ensures { IfOk result (λ line. string_bytes line ≡ error_line fault.now) }
 {
-    let text = format!(in alloc; "{fault}")?;
+    let text = unread_line(alloc, fault.place, fault.words)?;
     let mut line = String::new(alloc);
     push_comment(text.as_str(), &mut line)?;
     Ok(line)

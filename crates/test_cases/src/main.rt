@@ -10,8 +10,9 @@
 //! ```
 //!
 //! - `table`, `aml` and `dsdt` are commands of `acpiread`, and `show`, `image`, `make` and `template` are commands of `acpitool`,
-//!   as are `--help` and `--version`. `template` and these two have no file. `structures` is a command of this program: it prints
-//!   a table's first line and its structures, also those of tables with a further walk, which `acpiread table` doesn't list.
+//!   as are `help`, `-h`, `--help` and `--version`. `template` and these four have no file. `structures` is a command of this
+//!   program: it prints a table's first line and its structures, also those of tables with a further walk, which `acpiread table`
+//!   doesn't list.
 //! - Bytes are hexadecimal in lower case, or text in quotation marks. `00*16` is 16 of them, and so it is with a text.
 //!   `<APIC 1>` is the standard header with this signature and this revision, and with the length and the checksum of all bytes.
 //!   Its other fields are those of `acpi_vectors`. `@9=07` sets the byte at offset 9 after that.

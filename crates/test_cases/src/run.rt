@@ -30,7 +30,7 @@ fn push(words: &mut Vec<String>, word: &str) -> io::Result<()> {
 // Adds the names of the files that a command takes.
 fn push_files(words: &mut Vec<String>, command: &str) -> io::Result<()> {
     match command {
-        "template" | "--help" | "--version" => Ok(()),
+        "template" | "help" | "-h" | "--help" | "--version" => Ok(()),
         "make" => {
             push(words, FILE)?;
             push(words, MADE)

@@ -32,7 +32,7 @@ fn folder(rt: HostRuntime) -> Result<(), Fail> {
     fs::create_dir(&rt, "folder")?;
     ends(&rt, &["show", "folder"], 0, &[], &[])?;
     write(&rt, "folder/c", &TABLE[..9])?;
-    let line = "folder/c: refused at 9: ShortHeader\n";
+    let line = "folder/c: at 9: a table has at least the 36 bytes of the standard header\n";
     ends(&rt, &["show", "folder"], 1, &[], &[line])
 }
 
@@ -54,7 +54,10 @@ fn several(rt: HostRuntime) -> Result<(), Fail> {
     write(&rt, "shown", &TABLE)?;
     let words = ["show", "/=1", "shown", "short", "shown"];
     let out = ["// shown\n", TEXT, "// shown\n", TEXT];
-    let err = [MISSING, "short: refused at 9: ShortHeader\n"];
+    let err = [
+        MISSING,
+        "short: at 9: a table has at least the 36 bytes of the standard header\n",
+    ];
     ends(&rt, &words, 2, &out, &err)
 }
 
@@ -71,6 +74,42 @@ fn not_made(rt: HostRuntime) -> Result<(), Fail> {
     let line = "text: line 3: expected the second digit of a byte\n";
     ends(&rt, &["make", "text", "kept"], 1, &[], &[line])?;
     has(&rt, "kept", &TABLE)
+}
+
+// A text of a table whose length is wrong.
+const WRONG: &str =
+    "  : \"OEMX\"\n  Length: 0000002c\n  : 01 85 \"FOOBAR\" \"CAFEDEAD\" 00000001 \"RVAT\" 01000000\n";
+
+// What is printed on its number, and that it isn't written.
+const NOTE: &str = "wrong: note: 36 would be right at offset 4\n";
+
+const HELD: &str = "wrong: not written: its numbers are wrong (--force writes it)\n";
+
+// A table whose numbers are wrong leaves the file as it is.
+#[test]
+fn held(rt: HostRuntime) -> Result<(), Fail> {
+    write(&rt, "wrong", WRONG.as_bytes())?;
+    write(&rt, "old", &TABLE)?;
+    ends(&rt, &["make", "wrong", "old"], 1, &[], &[NOTE, HELD])?;
+    ends(&rt, &["make", "wrong", "-"], 1, &[], &[NOTE, HELD])?;
+    has(&rt, "old", &TABLE)
+}
+
+// With `--force` it is written, wherever this word is.
+#[test]
+fn forced(rt: HostRuntime) -> Result<(), Fail> {
+    write(&rt, "wrong", WRONG.as_bytes())?;
+    for words in [
+        ["make", "--force", "wrong", "new"],
+        ["make", "wrong", "--force", "new"],
+        ["make", "wrong", "new", "--force"],
+    ] {
+        ends(&rt, &words, 0, &[], &[NOTE])?;
+        let bytes = fs::read(&rt, "new")?;
+        same(&bytes[..12], b"OEMX\x2c\x00\x00\x00\x01\x85FO")?;
+        fs::remove_file(&rt, "new")?;
+    }
+    Ok(())
 }
 
 // A table that can't be written has a line.

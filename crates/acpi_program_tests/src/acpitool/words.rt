@@ -5,12 +5,13 @@ use std::test::Fail;
 
 // What is printed after the line of a wrong word.
 const USAGE: &str = "\
-usage: acpitool show FILE .. [NAME=N ..] | image FILE [BASE] | make TEXT FILE | template SIGNATURE | --help | --version\n";
+usage: acpitool show FILE .. [NAME=N ..] | image FILE [BASE] | make [--force] TEXT FILE | template SIGNATURE | --help | --version
+";
 
-// The template of a signature that isn't known.
+// The template of a definition block.
 const TEMPLATE: &str = "\
-Unknown table
-  Signature: \"OEMX\"
+Secondary System Description Table (SSDT)
+  Signature: \"SSDT\"
   Length: ????????
   Revision: 00
   Checksum: ??
@@ -29,7 +30,9 @@ fn version(rt: HostRuntime) -> Result<(), Fail> {
 
 #[test]
 fn template(rt: HostRuntime) -> Result<(), Fail> {
-    ends(&rt, &["template", "OEMX"], 0, &[TEMPLATE], &[])
+    ends(&rt, &["template", "SSDT"], 0, &[TEMPLATE], &[])?;
+    let line = "acpitool: no table has the signature OEMX\n";
+    ends(&rt, &["template", "OEMX"], 1, &[], &[line])
 }
 
 #[test]
@@ -42,7 +45,7 @@ fn wrong_commands(rt: HostRuntime) -> Result<(), Fail> {
             (&[], "no command\n"),
             (&["shows", "x"], "unknown word shows\n"),
             (&["", "x"], "unknown word \n"),
-            (&["-h"], "unknown word -h\n"),
+            (&["-H"], "unknown word -H\n"),
             (&["show"], "no file to show\n"),
             (&["show", "MTHD=2"], "no file to show\n"),
             (&["image"], "no file with an image\n"),
@@ -61,6 +64,11 @@ fn wrong_makes(rt: HostRuntime) -> Result<(), Fail> {
             (&["make", "x"], "no file for the table\n"),
             (&["make", "x", "y", "z"], "unknown word z\n"),
             (&["make", "x", "--all"], "unknown word --all\n"),
+            (&["make", "--force"], "no text to make\n"),
+            (&["make", "--force", "x"], "no file for the table\n"),
+            (&["make", "x", "--force"], "no file for the table\n"),
+            (&["make", "x", "--force", "y", "z"], "unknown word z\n"),
+            (&["--force", "make"], "unknown word --force\n"),
         ],
     )
 }

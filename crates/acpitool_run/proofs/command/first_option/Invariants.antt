@@ -4,4 +4,5 @@ use Rattle.acpitool_run.proofs.command.first_option.Given as goal
 
 abbrev pub invariant-loop-word : goal.invariant-loop-word
 invariant-loop-word l =
-    first_option (map (λ word. string_bytes word) (drop l.word-index l.words)) ≡ first_option (map (λ word. string_bytes word) l.words)
+    first_option l.verb (map (λ word. string_bytes word) (drop l.word-index l.words))
+    ≡ first_option l.verb (map (λ word. string_bytes word) l.words)

@@ -9,9 +9,9 @@ returns-in-len3-up c = λ all is.
     c.as_str-in-len3-up.ensures.value c.extra-item.is c.in-len3-up.len_at_least in
     inr (inr (inl (record {
       more = map text c.args.words.now;
-      after = inl (is, c.requires);
-      first = third.0;
-      second = third.1;
+      after = (is, c.requires);
+      file = third.0;
+      base = third.1;
       others = third.2;
       is = third.3;
     })))

@@ -1,19 +1,39 @@
-use Rattle.std.proofs.Common.{map, drop, string_bytes, inl, sym, ◌∙◌}
+use Rattle.std.proofs.Common.{map, drop, string_bytes, refl, inl, inr, sym, ◌∙◌}
 use Rattle.acpitool_run.proofs.Words.{front_word, front_of_all}
 use Rattle.acpitool_run.proofs.command.parse.Goals as goal
 
 pub returns-in-text : goal.returns-in-text
-returns-in-text c = inl (
-  map (λ word. string_bytes word) (drop 1 c.args.words.now),
-  front_word (λ word. string_bytes word) c.args.words.now c.word-item.result _
-      (sym c.as_str.ensures.value ∙ c.in-text.is) c.word-item.is c.in-len1-up.len_at_least,
-)
+returns-in-text c = inl (record {
+  word = _;
+  more = map (λ word. string_bytes word) (drop 1 c.args.words.now);
+  is = front_word (λ word. string_bytes word) c.args.words.now c.word-item.result _
+      (sym c.as_str.ensures.value ∙ c.in-text.is) c.word-item.is c.in-len1-up.len_at_least;
+  asks = inl (inl refl);
+})
 
 pub returns-in-text-2 : goal.returns-in-text-2
-returns-in-text-2 c = (
+returns-in-text-2 c = inl (record {
+  word = _;
+  more = map (λ word. string_bytes word) (drop 1 c.args.words.now);
+  is = front_word (λ word. string_bytes word) c.args.words.now c.word-item.result _
+      (sym c.as_str.ensures.value ∙ c.in-text-2.is) c.word-item.is c.in-len1-up.len_at_least;
+  asks = inl (inr refl);
+})
+
+pub returns-in-help : goal.returns-in-help
+returns-in-help c = inl (record {
+  word = _;
+  more = map (λ word. string_bytes word) (drop 1 c.args.words.now);
+  is = front_word (λ word. string_bytes word) c.args.words.now c.word-item.result _
+      (sym c.as_str.ensures.value ∙ c.in-help.is) c.word-item.is c.in-len1-up.len_at_least;
+  asks = inr refl;
+})
+
+pub returns-in-text-3 : goal.returns-in-text-3
+returns-in-text-3 c = (
   map (λ word. string_bytes word) (drop 1 c.args.words.now),
   front_word (λ word. string_bytes word) c.args.words.now c.word-item.result _
-      (sym c.as_str.ensures.value ∙ c.in-text-2.is) c.word-item.is c.in-len1-up.len_at_least,
+      (sym c.as_str.ensures.value ∙ c.in-text-3.is) c.word-item.is c.in-len1-up.len_at_least,
 )
 
 pub returns-in-show : goal.returns-in-show

@@ -1,11 +1,11 @@
-use Rattle.std.proofs.Common.{List, rules, inl}
-use Rattle.acpitool_run.proofs.Outcomes.{as_these, one_broken}
-use Rattle.acpitool_run.specs.Outcome.{Outcome}
+use Rattle.std.proofs.Common.{List, rules}
+use Rattle.acpitool_run.proofs.Outcomes.{as_these, dump_tables, one_broken}
 use Rattle.acpitool_run.proofs.outcome.show_dump.Goals as goal
 
 pub returns-in_ok-show_tables-in-Ok : goal.returns-in_ok-show_tables-in-Ok
 returns-in_ok-show_tables-in-Ok g c =
-    as_these (λ (outcomes : List Outcome). λ are. inl (_, c.in-Ok.ensures.ok, are)) (rw c.deref.ensures.value at c.in_ok-show_tables-in-Ok.ensures)
+    as_these (dump_tables c.args.name.now c.args.dump.now c.in-Ok.tables.items c.in-Ok.ensures.ok)
+    (rw c.deref.ensures.value at c.in_ok-show_tables-in-Ok.ensures)
 
 pub returns-in_ok-complain-in-Err : goal.returns-in_ok-complain-in-Err
 returns-in_ok-complain-in-Err g c =

@@ -4,15 +4,16 @@ use Rattle.acpitool_run.specs.Text.{IsText}
 use Rattle.acpitool_run.proofs.Outcomes.{one_shown, one_refused}
 use Rattle.acpitool_run.proofs.outcome.show_table.Goals as goal
 
-pub returns-in_ok-print_text-in-Ok : goal.returns-in_ok-print_text-in-Ok
-returns-in_ok-print_text-in-Ok g c =
+pub returns-in_ok-tell_fault-in-Ok : goal.returns-in_ok-tell_fault-in-Ok
+returns-in_ok-tell_fault-in-Ok g c =
     let P : List ℕ → Type 0 = λ text. IsText c.args.bytes.now text in
     let Q : List ℕ → Type 0 = λ after. IsAfter c.args.stated.now c.args.bytes.now after in
-    one_shown _ _ _ _ c.args.several c.args.name.now _ c.args.bytes.now _ _
+    one_shown _ _ _ _ _ c.args.several c.args.name.now _ c.args.bytes.now _ _ _ _
     (c.as_str.ensures.value ∙ c.in_ok-before-in-Ok.ensures)
     (subst P (sym c.as_str-in-Ok.ensures.value) c.in-Ok.ensures.ok)
     (subst Q (sym c.as_str-in-Ok-2.ensures.value) c.in_ok-after-in-Ok.ensures)
-    c.in_ok-print_text-in-Ok.ensures
+    (rw c.in_ok-fault-in-Ok.fault-is at c.in_ok-fault-in-Ok.ensures)
+    c.in_ok-print_text-in-Ok.ensures c.in_ok-tell_fault-in-Ok.ensures.line c.in_ok-tell_fault-in-Ok.ensures.is
 
 pub returns-in_ok-complain-in-Err : goal.returns-in_ok-complain-in-Err
 returns-in_ok-complain-in-Err g c =

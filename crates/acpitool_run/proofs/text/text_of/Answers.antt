@@ -1,11 +1,12 @@
 use Rattle.acpitool_run.proofs.Texts.{memory_is_fault}
 use Rattle.acpitool_run.proofs.text.text_of.Goals as goal
 
-pub returns-in_ok-check_pointer-in-Pointer-clause-err : goal.returns-in_ok-check_pointer-in-Pointer-clause-err
-returns-in_ok-check_pointer-in-Pointer-clause-err c = memory_is_fault c.args.bytes.now c.made.result c.made.ensures.err
+pub returns-in-Ok-clause-err : goal.returns-in-Ok-clause-err
+returns-in-Ok-clause-err c = memory_is_fault c.args.bytes.now c.made.result c.made.ensures.err
 
-pub returns-in_ok-check_control-in-Control-clause-err : goal.returns-in_ok-check_control-in-Control-clause-err
-returns-in_ok-check_control-in-Control-clause-err c = memory_is_fault c.args.bytes.now c.made-in-Control.result c.made-in-Control.ensures.err
+pub returns-in-Ok-check_control-clause-err : goal.returns-in-Ok-check_control-clause-err
+returns-in-Ok-check_control-clause-err c =
+    memory_is_fault c.args.bytes.now c.made-in-Ok-check_control.result c.made-in-Ok-check_control.ensures.err
 
-pub returns-in_ok-table-in-Table-clause-err : goal.returns-in_ok-table-in-Table-clause-err
-returns-in_ok-table-in-Table-clause-err c = memory_is_fault c.args.bytes.now c.made-in-Table.result c.made-in-Table.ensures.err
+pub returns-in-Ok-check-clause-err : goal.returns-in-Ok-check-clause-err
+returns-in-Ok-check-clause-err c = memory_is_fault c.args.bytes.now c.made-in-Ok-check.result c.made-in-Ok-check.ensures.err

@@ -1,0 +1,39 @@
+//! What is wrong with the structures of a table.
+
+ghost use Rattle.std.specs.Prelude.{IfOk};
+ghost use Rattle.acpi_forms.specs.Kind.{kind_of};
+ghost use Rattle.acpitool_run.specs.Structures.{HasOrBroken, HasFault};
+ghost use Rattle.acpitool_run.specs.Text.{IsKind};
+
+use crate::fault::Fault;
+use acpi_forms::kind::{Kind, kind_of};
+use acpi_read::table::Table;
+use acpi_term::read_error::ReadError;
+use std::alloc::{AllocError, Global};
+
+// Returns what is wrong with the structures of a table, or none.
+fn table_fault(alloc: Global, table: &Table) -> Result<Option<Fault>, AllocError>
+    ensures { IfOk result (HasOrBroken table.now) }
+{
+    match table.structures(alloc) {
+        Ok(_) => Ok(None),
+        Err(ReadError::Memory) => Err(AllocError),
+        Err(error) => Ok(Some(Fault::of(Kind::Table, error))),
+    }
+}
+
+/// Returns what is wrong with the structures of a table, or none. A pointer and a control structure have no structures. The error
+/// is that memory ran out.
+pub fn structures_fault(alloc: Global, bytes: &[u8]) -> Result<Option<Fault>, AllocError>
+    requires { IsKind (kind_of bytes.now) bytes.now }
+    ensures { IfOk result (HasFault (kind_of bytes.now) bytes.now) }
+{
+    match kind_of(bytes) {
+        Kind::Pointer => Ok(None),
+        Kind::Control => Ok(None),
+        Kind::Table => match Table::check(bytes) {
+            Ok(table) => table_fault(alloc, &table),
+            Err(_) => Ok(None),
+        },
+    }
+}
