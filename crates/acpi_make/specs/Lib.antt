@@ -6,9 +6,12 @@ pub mod Entry
 pub mod Value
 pub mod Heading
 pub mod Fits
+pub mod Source
 pub mod Draft
 pub mod Own
 pub mod Complete
+pub mod Compare
+pub mod Short
 pub mod Notes
 pub mod Made
 pub mod Pieces

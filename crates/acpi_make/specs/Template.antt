@@ -114,7 +114,7 @@ title_line depth name = spaces (2 * depth) ++ (codes "  " ++ (label name ++ 10 �
 -- the line of a row at an offset
 abbrev pub row_line : ℕ → Known → ℕ → Row → List ℕ
 row_line depth known at row =
-    field_line depth (row_entry row).name (value_text known at row ++ hint (row_entry row).kind.look)
+    field_line depth (row_entry row).name (value_text known at row ++ hint (row_entry row).look)
 
 -- the offset after a field of w bytes; no field is at 2^32 or after it
 abbrev pub offset_after : ℕ → ℕ → ℕ

@@ -3,7 +3,8 @@
 ghost use Rattle.std.specs.Prelude.{◌≡◌, ◌≤◌, ◌++◌, OnOk, length};
 ghost use Rattle.acpi_make.specs.Gives.{Changes, with_front};
 ghost use Rattle.acpi_make.specs.Heading.{label_of};
-ghost use Rattle.acpi_make.specs.Own.{own_at, next_start, count_structures, size_own, sizes_own, walk_own};
+ghost use Rattle.acpi_make.specs.Source.{source_of};
+ghost use Rattle.acpi_make.specs.Own.{own_at, next_start, count_structures, size_own, sizes_own, first_own, walk_own, none_own};
 ghost use Rattle.acpi_make.specs.Own.{count_lines, next_line, find_line, count_own, part_own, parts_own};
 ghost use Rattle.acpi_make.specs.Own.{kind_own, structure_own, contents_own, table_own, has_label, find_label, reference_own, references_own};
 
@@ -47,8 +48,8 @@ fn push_at(
     Ok(())
 }
 
-// Returns the offset of the next structure, or that of the table's end.
-fn next_start(marks: &[Mark], total: usize) -> usize
+/// Returns the offset of the next structure, or that of the table's end.
+pub fn next_start(marks: &[Mark], total: usize) -> usize
     ensures { result ≡ next_start marks.now total }
 {
     'marks: for mark in marks {
@@ -68,7 +69,7 @@ fn count_structures(marks: &[Mark]) -> usize
         match *mark {
             Mark::Structure(_, _, _) => count += 1,
             Mark::Line(_, _, _) => {}
-            Mark::Reference(_, _, _, _, _) => {}
+            Mark::Reference(_, _, _, _) => {}
         }
     }
     count
@@ -101,13 +102,41 @@ fn push_sizes(
                 push_size(sizes, at, size, owns)?;
             }
             Mark::Line(_, _, _) => {}
-            Mark::Reference(_, _, _, _, _) => {}
+            Mark::Reference(_, _, _, _) => {}
         }
     }
     Ok(())
 }
 
-/// Adds the number of structures, the offset of the first, and their lengths.
+// Adds the offset of the first structure.
+fn push_first(
+    walk: &Walk,
+    marks: &[Mark],
+    total: usize,
+    owns: &mut Vec<Own>,
+) -> Result<(), AllocError>
+    ensures { OnOk result (owns.new.items ≡ owns.old.items ++ first_own walk.now marks.now total) }
+{
+    let first = next_start(marks, total);
+    push_at(0, first, walk.first, first, owns)
+}
+
+/// Adds the offset of the first structure where there is none.
+pub fn push_none(
+    walk: Option<Walk>,
+    marks: &[Mark],
+    total: usize,
+    owns: &mut Vec<Own>,
+) -> Result<(), AllocError>
+    ensures { OnOk result (owns.new.items ≡ owns.old.items ++ none_own walk marks.now total) }
+{
+    match walk {
+        Some(walk) if count_structures(marks) == 0 => push_first(&walk, marks, total, owns),
+        _ => Ok(()),
+    }
+}
+
+/// Adds the number of structures, the offset of the first, if there is one, and their lengths.
 pub fn push_walk(
     walk: Option<Walk>,
     marks: &[Mark],
@@ -120,8 +149,11 @@ pub fn push_walk(
         return Ok(());
     };
     let first = next_start(marks, total);
-    push_at(0, first, walk.count, count_structures(marks), owns)?;
-    push_at(0, first, walk.first, first, owns)?;
+    let count = count_structures(marks);
+    push_at(0, first, walk.count, count, owns)?;
+    if count != 0 {
+        push_first(&walk, marks, total, owns)?;
+    }
     push_sizes(walk.sizes, marks, total, owns)
 }
 
@@ -139,21 +171,21 @@ fn count_lines(text: &[u8], name: &str, marks: &[Mark]) -> usize
                     count += 1;
                 }
             }
-            Mark::Reference(_, _, _, _, _) => {}
+            Mark::Reference(_, _, _, _) => {}
         }
     }
     count
 }
 
-// Returns the offset of the next line, or that of the table's end.
-fn next_line(marks: &[Mark], total: usize) -> usize
+/// Returns the offset of the next line or structure, or that of the table's end.
+pub fn next_line(marks: &[Mark], total: usize) -> usize
     ensures { result ≡ next_line marks.now total }
 {
     'marks: for mark in marks {
         match *mark {
             Mark::Structure(at, _, _) => return at,
             Mark::Line(at, _, _) => return at,
-            Mark::Reference(_, _, _, _, _) => {}
+            Mark::Reference(_, _, _, _) => {}
         }
     }
     total
@@ -171,7 +203,7 @@ fn find_line(text: &[u8], name: &str, marks: &[Mark], total: usize) -> Option<(u
                     return Some((at, next_line(&marks[i + 1..], total)));
                 }
             }
-            Mark::Reference(_, _, _, _, _) => {}
+            Mark::Reference(_, _, _, _) => {}
         }
     }
     None
@@ -269,7 +301,7 @@ fn push_structure(
     to: usize,
     owns: &mut Vec<Own>,
 ) -> Result<(), AllocError>
-    ensures { OnOk result (owns.new.items ≡ owns.old.items ++ structure_own source.now cells.now marks.now total at from to) }
+    ensures { OnOk result (owns.new.items ≡ owns.old.items ++ structure_own (source_of source.now) cells.now marks.now total at from to) }
 {
     let bytes = if at < cells.len() { &cells[at..] } else { &[] };
     let heading = part_at(from, to, source.text);
@@ -287,7 +319,7 @@ fn push_contents(
     total: usize,
     owns: &mut Vec<Own>,
 ) -> Result<(), AllocError>
-    ensures { OnOk result (owns.new.items ≡ owns.old.items ++ contents_own source.now cells.now marks.now total) }
+    ensures { OnOk result (owns.new.items ≡ owns.old.items ++ contents_own (source_of source.now) cells.now marks.now total) }
 {
     'marks: for i in 0..marks.len() {
         match marks[i] {
@@ -295,7 +327,7 @@ fn push_contents(
                 push_structure(source, cells, &marks[i + 1..], total, at, from, to, owns)?;
             }
             Mark::Line(_, _, _) => {}
-            Mark::Reference(_, _, _, _, _) => {}
+            Mark::Reference(_, _, _, _) => {}
         }
     }
     Ok(())
@@ -308,7 +340,7 @@ pub fn push_table(
     marks: &[Mark],
     owns: &mut Vec<Own>,
 ) -> Result<(), AllocError>
-    ensures { OnOk result (owns.new.items ≡ owns.old.items ++ table_own source.now cells.now marks.now) }
+    ensures { OnOk result (owns.new.items ≡ owns.old.items ++ table_own (source_of source.now) cells.now marks.now) }
 {
     let total = cells.len();
     let first = next_start(marks, total);
@@ -341,7 +373,7 @@ fn find_label(text: &[u8], wanted: &[u8], marks: &[Mark]) -> Option<usize>
                 }
             }
             Mark::Line(_, _, _) => {}
-            Mark::Reference(_, _, _, _, _) => {}
+            Mark::Reference(_, _, _, _) => {}
         }
     }
     None
@@ -351,11 +383,11 @@ fn find_label(text: &[u8], wanted: &[u8], marks: &[Mark]) -> Option<usize>
 fn push_reference(
     at: usize,
     width: usize,
-    line: usize,
+    range: (usize, usize),
     offset: Option<usize>,
     owns: &mut Vec<Own>,
 ) -> Result<(), MakeError>
-    ensures { Changes result owns.new.items (with_front owns.old.items (reference_own at width line offset)) }
+    ensures { Changes result owns.new.items (with_front owns.old.items (reference_own at width range.0 range.1 offset)) }
 {
     match offset {
         Some(number) if fits(width, number) => {
@@ -367,8 +399,8 @@ fn push_reference(
             Ok(())
         }
         _ => {
-            let wanted = Wanted::Label;
-            Err(MakeError::Fault(Fault { line, wanted }))
+            let (from, to) = range;
+            Err(MakeError::Fault(Fault::new(from, to, Wanted::Label)))
         }
     }
 }
@@ -380,10 +412,10 @@ pub fn push_references(text: &[u8], marks: &[Mark], owns: &mut Vec<Own>) -> Resu
 {
     'marks: for mark in marks {
         match *mark {
-            Mark::Reference(at, width, line, from, to) => {
+            Mark::Reference(at, width, from, to) => {
                 let value = part_at(from, to, text);
                 let label = if value.is_empty() { value } else { &value[1..] };
-                push_reference(at, width, line, find_label(text, label, marks), owns)?;
+                push_reference(at, width, (from, to), find_label(text, label, marks), owns)?;
             }
             Mark::Structure(_, _, _) => {}
             Mark::Line(_, _, _) => {}

@@ -207,8 +207,8 @@ fn push_row_line(
 ) -> Result<(), AllocError>
     ensures { OnOk result (string_bytes text.new ≡ string_bytes text.old ++ row_line depth (known_of known.now) at row.now) }
 {
-    let (name, field) = row_field(row);
-    push_name(depth, name, text)?;
+    let field = row_field(row);
+    push_name(depth, field.name, text)?;
     text.push_str(":")?;
     push_value(known, at, row, text)?;
     push_hint(field.look, text)?;
