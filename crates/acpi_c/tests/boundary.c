@@ -221,7 +221,8 @@ static void try_notes(void) {
     const struct hyssop_note *all = (const struct hyssop_note *)(const void *)(output.end - 2 * sizeof *all);
     want(all[0].offset == 4 && all[0].width == 4 && all[0].value == 36);
     want(all[1].offset == 9 && all[1].width == 1 && all[1].value == (uint8_t)(1 - sum));
-    want(notes("  a\tb", 6, 0) == HYSSOP_FAULT_WANTS_PRINTING && place == 1);
+    want(notes("  a\001b", 5, 0) == HYSSOP_FAULT_WANTS_PRINTING && place == 1);
+    want(notes("  \t\r\n# none\n", 12, 0) == HYSSOP_FAULT_WANTS_TABLE && place == 3);
 }
 
 /* Packages that nest as deep as terms may (20.2.5.4), and one level deeper, with a stack of 512 KiB. */
