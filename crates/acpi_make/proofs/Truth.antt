@@ -97,7 +97,7 @@ length_completed shape owns cells bytes is =
     length_known (summed shape (all_filled owns cells)) bytes is ∙ length_summed shape (all_filled owns cells) ∙ length_all owns cells
 
 -- what comes of an outcome that nothing is wrong with
-unless_is : {A : Type 0} (wrong : Option Fault) (outcome : Result A Fault) (value : A) → unless wrong outcome ≡ Ok value → outcome ≡ Ok value
+pub unless_is : {A : Type 0} (wrong : Option Fault) (outcome : Result A Fault) (value : A) → unless wrong outcome ≡ Ok value → outcome ≡ Ok value
 unless_is None outcome value is = is
 unless_is (Some wrong) outcome value is = absurd cc
 

@@ -14,6 +14,7 @@ pub mod Compare
 pub mod Short
 pub mod Notes
 pub mod Made
+pub mod Lines
 pub mod Pieces
 pub mod Laws
 pub mod Signature
