@@ -121,19 +121,19 @@ told start n place bytes within inside hold wide =
     ap (λ k. field_at k (place_width place) bytes) (let e : place_offset place ≡ 0 + place_offset place = omega arith in e)
     ∙ place_holds 0 start place n bytes (omega arith) wide within (omega (arith, inside)) hold
 
--- the offset of the first structure, where there is one
-first_hold : (b : Bool) (bytes : List ℕ) (one others : List Own) → b ≡ false → AllHold bytes (cond b [] one ++ others) → AllHold bytes one
-first_hold true bytes one others is hold = absurd cc
-first_hold false bytes one others is hold = (hold_both bytes one others hold).0
+-- numbers that are there, where there are structures
+all_hold : (b : Bool) (bytes : List ℕ) (all others : List Own) → b ≡ false → AllHold bytes (cond b [] all ++ others) → AllHold bytes all
+all_hold true bytes all others is hold = absurd cc
+all_hold false bytes all others is hold = (hold_both bytes all others hold).0
 
-others_hold : (b : Bool) (bytes : List ℕ) (one others : List Own) → AllHold bytes (cond b [] one ++ others) → AllHold bytes others
-others_hold true bytes one others hold = hold
-others_hold false bytes one others hold = (hold_both bytes one others hold).1
+others_hold : (b : Bool) (bytes : List ℕ) (all others : List Own) → AllHold bytes (cond b [] all ++ others) → AllHold bytes others
+others_hold true bytes all others hold = hold
+others_hold false bytes all others hold = (hold_both bytes all others hold).1
 
 -- by whether there is a structure
-first_told : {T : Type 0} (count : ℕ) (b : Bool) → (count == 0) ≡ b → (count ≡ 0 → T) → ((count == 0) ≡ false → T) → T
-first_told count true is empty full = empty (eqb-true count 0 is)
-first_told count false is empty full = full is
+either_told : {T : Type 0} (count : ℕ) (b : Bool) → (count == 0) ≡ b → (count ≡ 0 → T) → ((count == 0) ≡ false → T) → T
+either_told count true is empty full = empty (eqb-true count 0 is)
+either_told count false is empty full = full is
 
 pub tables_walked : TablesAreWalked
 tables_walked walk s parts d table sound taken is none small first empty have =
@@ -144,17 +144,21 @@ tables_walked walk s parts d table sound taken is none small first empty have =
     let up : Ascending d.marks total = subst (Ascending d.marks) (sym done.size) (all_ordered s parts nothing_yet d tt taken) in
     let inside : walk.start ≤ total = subst (λ k. k ≤ total) first (start_within d.marks total up) in
     let count = count_structures d.marks in
-    let owns : ℕ → ℕ → List Own = λ k n. own_at 0 k walk.count count
-    ++ (cond (count == 0) [] (own_at 0 k walk.first k) ++ sizes_own walk.sizes d.marks n) in
+    let all : ℕ → List Own = λ k. own_at 0 k walk.count count ++ own_at 0 k walk.first k in
+    let owns : ℕ → ℕ → List Own = λ k n. cond (count == 0) [] (all k) ++ sizes_own walk.sizes d.marks n in
     let hold = subst (λ n. AllHold bytes (owns (next_start d.marks n) n)) (sym done.size) quiet.hold.1 in
     let starts = subst (λ k. AllHold bytes (owns k total)) first hold in
-    let one = hold_both bytes (own_at 0 walk.start walk.count count) _ starts in
+    let both : (count == 0) ≡ false → AllHold bytes (own_at 0 walk.start walk.count count) × AllHold bytes (own_at 0 walk.start walk.first walk.start)
+    = λ some. hold_both bytes (own_at 0 walk.start walk.count count) (own_at 0 walk.start walk.first walk.start)
+    (all_hold (count == 0) bytes (all walk.start) (sizes_own walk.sizes d.marks total) some starts) in
     record {
       reaches = inside;
       joined = ap (λ k. drop k bytes) (sym first) ∙ joined d.marks bytes up;
-      each = pieces_are walk.sizes d.marks bytes sound.has up small have (others_hold (count == 0) bytes _ _ one.1);
-      counted = λ wide. told walk.start count walk.count bytes sound.count inside one.0 wide ∙ counted d.marks bytes;
-      started = first_told count (count == 0) refl empty
-          (λ some. told walk.start walk.start walk.first bytes sound.told inside
-          (first_hold (count == 0) bytes (own_at 0 walk.start walk.first walk.start) _ some one.1));
+      each = pieces_are walk.sizes d.marks bytes sound.has up small have (others_hold (count == 0) bytes _ _ starts);
+      counted = λ wide. either_told count (count == 0) refl
+          (λ zero. (empty zero).0 wide ∙ sym zero)
+          (λ some. told walk.start count walk.count bytes sound.count inside (both some).0 wide)
+          ∙ counted d.marks bytes;
+      started = either_told count (count == 0) refl (λ zero. (empty zero).1)
+          (λ some. told walk.start walk.start walk.first bytes sound.told inside (both some).1);
     }

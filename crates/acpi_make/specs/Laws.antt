@@ -53,7 +53,7 @@ TablesAreTrue = (walk : Option Walk) (s : Source) (parts : List Item) (table : T
     → made shapes.Table walk s parts ≡ Ok table → table.untrue ≡ [] → 36 ≤ length table.bytes → IsTrueTable table.bytes
 
 -- A table that is made without a note is walked by the structures that the text lists, if the first of them begins where those of
--- the table do, and the text has the bytes of each. A table without structures has to have the offset of the first.
+-- the table do, and the text has the bytes of each. A table without structures has to say so, and to have the offset of the first.
 abbrev pub TablesAreWalked : Type 0
 TablesAreWalked = (walk : Walk) (s : Source) (parts : List Item) (d : Drafted) (table : Table)
     → IsSound walk
@@ -62,6 +62,6 @@ TablesAreWalked = (walk : Walk) (s : Source) (parts : List Item) (d : Drafted) (
     → table.untrue ≡ []
     → length table.bytes < 2 ^ 62
     → next_start d.marks (length table.bytes) ≡ walk.start
-    → (count_structures d.marks ≡ 0 → Tells walk.first table.bytes walk.start)
+    → (count_structures d.marks ≡ 0 → Tells walk.count table.bytes 0 × Tells walk.first table.bytes walk.start)
     → HaveBytesOf walk.sizes (pieces_of d.marks table.bytes)
     → Walks walk table.bytes (pieces_of d.marks table.bytes)
