@@ -43,7 +43,6 @@ pub mod fault {
     pub const IMAGE_NO_FADT: u32 = 54;
     pub const IMAGE_SECOND_FADT: u32 = 55;
     pub const IMAGE_OVERLAP: u32 = 56;
-    pub const WANTS_LINE_FEED: u32 = 64;
     pub const WANTS_PRINTING: u32 = 65;
     pub const WANTS_SPACE: u32 = 66;
     pub const WANTS_VALUE: u32 = 67;
@@ -58,6 +57,14 @@ pub mod fault {
     pub const WANTS_NUMBER: u32 = 76;
     pub const WANTS_LABEL: u32 = 77;
     pub const WANTS_BYTES: u32 = 78;
+    pub const WANTS_NEXT: u32 = 79;
+    pub const WANTS_NAMELESS: u32 = 80;
+    pub const WANTS_END: u32 = 81;
+    pub const WANTS_STRUCTURE: u32 = 82;
+    pub const WANTS_WIDTH: u32 = 83;
+    pub const WANTS_WHOLE: u32 = 84;
+    pub const WANTS_ONE_TABLE: u32 = 85;
+    pub const WANTS_TABLE: u32 = 86;
 }
 
 /// A structure of a table: its offset in the table, its type or `NO_KIND`, and the number of its bytes.

@@ -66,21 +66,28 @@ enum hyssop_fault {
     HYSSOP_FAULT_IMAGE_NO_FADT = 54, /* the XSDT lists no FADT */
     HYSSOP_FAULT_IMAGE_SECOND_FADT = 55, /* the XSDT lists a second FADT */
     HYSSOP_FAULT_IMAGE_OVERLAP = 56, /* two tables overlap */
-    HYSSOP_FAULT_WANTS_LINE_FEED = 64, /* expected a line feed without a carriage return */
     HYSSOP_FAULT_WANTS_PRINTING = 65, /* expected a character that prints */
     HYSSOP_FAULT_WANTS_SPACE = 66, /* expected a space */
     HYSSOP_FAULT_WANTS_VALUE = 67, /* expected a value */
     HYSSOP_FAULT_WANTS_DIGIT = 68, /* expected a hexadecimal digit */
-    HYSSOP_FAULT_WANTS_SECOND_DIGIT = 69, /* expected the second digit of a byte */
+    HYSSOP_FAULT_WANTS_SECOND_DIGIT = 69, /* expected the second digit of a byte (#5 and 0x5 are the number 5) */
     HYSSOP_FAULT_WANTS_QUOTATION_MARK = 70, /* expected a quotation mark at the end of the text */
     HYSSOP_FAULT_WANTS_QUESTION_MARK = 71, /* expected a second question mark */
     HYSSOP_FAULT_WANTS_SLASH = 72, /* expected a second slash */
     HYSSOP_FAULT_WANTS_BRACE = 73, /* expected a brace at the end of the names */
-    HYSSOP_FAULT_WANTS_FIELD = 74, /* expected bytes, or the name of a field before the colon */
-    HYSSOP_FAULT_WANTS_NAME = 75, /* expected a name of a flag or a value of this field */
-    HYSSOP_FAULT_WANTS_NUMBER = 76, /* expected a decimal number that fits the field */
+    HYSSOP_FAULT_WANTS_FIELD = 74, /* expected bytes, since the line has no field */
+    HYSSOP_FAULT_WANTS_NAME = 75, /* expected a name of a flag or a value of this field, with " | " between flags */
+    HYSSOP_FAULT_WANTS_NUMBER = 76, /* expected a number that fits the field */
     HYSSOP_FAULT_WANTS_LABEL = 77, /* expected the label of a structure */
-    HYSSOP_FAULT_WANTS_BYTES = 78 /* expected bytes: nothing determines the question marks */
+    HYSSOP_FAULT_WANTS_BYTES = 78, /* expected bytes, since nothing determines the question marks */
+    HYSSOP_FAULT_WANTS_NEXT = 79, /* expected another field or structure */
+    HYSSOP_FAULT_WANTS_NAMELESS = 80, /* expected Bytes, since no field of the form stands here */
+    HYSSOP_FAULT_WANTS_END = 81, /* expected the end of the table */
+    HYSSOP_FAULT_WANTS_STRUCTURE = 82, /* expected the name or the type of a structure of this table */
+    HYSSOP_FAULT_WANTS_WIDTH = 83, /* expected as many bytes as the field has */
+    HYSSOP_FAULT_WANTS_WHOLE = 84, /* expected all fields, since the length is left out */
+    HYSSOP_FAULT_WANTS_ONE_TABLE = 85, /* expected the end of the text, since a text is one table */
+    HYSSOP_FAULT_WANTS_TABLE = 86 /* expected a table, which begins with a signature */
 };
 
 /* A structure of a table: its offset in the table, its type or HYSSOP_NO_KIND, and the number of its bytes. */

@@ -162,12 +162,14 @@ static void try_numbers(void) {
     want(HYSSOP_FAULT_IMAGE_OUTSIDE == 48 && HYSSOP_FAULT_IMAGE_SIGNATURE == 49 && HYSSOP_FAULT_IMAGE_LENGTH == 50);
     want(HYSSOP_FAULT_IMAGE_REVISION == 51 && HYSSOP_FAULT_IMAGE_SUM == 52 && HYSSOP_FAULT_IMAGE_ENTRIES == 53);
     want(HYSSOP_FAULT_IMAGE_NO_FADT == 54 && HYSSOP_FAULT_IMAGE_SECOND_FADT == 55 && HYSSOP_FAULT_IMAGE_OVERLAP == 56);
-    want(HYSSOP_FAULT_WANTS_LINE_FEED == 64 && HYSSOP_FAULT_WANTS_PRINTING == 65 && HYSSOP_FAULT_WANTS_SPACE == 66);
+    want(HYSSOP_FAULT_WANTS_PRINTING == 65 && HYSSOP_FAULT_WANTS_SPACE == 66);
     want(HYSSOP_FAULT_WANTS_VALUE == 67 && HYSSOP_FAULT_WANTS_DIGIT == 68 && HYSSOP_FAULT_WANTS_SECOND_DIGIT == 69);
     want(HYSSOP_FAULT_WANTS_QUOTATION_MARK == 70 && HYSSOP_FAULT_WANTS_QUESTION_MARK == 71);
     want(HYSSOP_FAULT_WANTS_SLASH == 72 && HYSSOP_FAULT_WANTS_BRACE == 73 && HYSSOP_FAULT_WANTS_FIELD == 74);
     want(HYSSOP_FAULT_WANTS_NAME == 75 && HYSSOP_FAULT_WANTS_NUMBER == 76 && HYSSOP_FAULT_WANTS_LABEL == 77);
-    want(HYSSOP_FAULT_WANTS_BYTES == 78);
+    want(HYSSOP_FAULT_WANTS_BYTES == 78 && HYSSOP_FAULT_WANTS_NEXT == 79 && HYSSOP_FAULT_WANTS_NAMELESS == 80);
+    want(HYSSOP_FAULT_WANTS_END == 81 && HYSSOP_FAULT_WANTS_STRUCTURE == 82 && HYSSOP_FAULT_WANTS_WIDTH == 83);
+    want(HYSSOP_FAULT_WANTS_WHOLE == 84 && HYSSOP_FAULT_WANTS_ONE_TABLE == 85 && HYSSOP_FAULT_WANTS_TABLE == 86);
 }
 
 /* NULL stands for no bytes and for results that aren't asked for. With a size it is a fault. */
@@ -219,7 +221,8 @@ static void try_notes(void) {
     const struct hyssop_note *all = (const struct hyssop_note *)(const void *)(output.end - 2 * sizeof *all);
     want(all[0].offset == 4 && all[0].width == 4 && all[0].value == 36);
     want(all[1].offset == 9 && all[1].width == 1 && all[1].value == (uint8_t)(1 - sum));
-    want(notes("  a\tb", 6, 0) == HYSSOP_FAULT_WANTS_PRINTING && place == 1);
+    want(notes("  a\001b", 5, 0) == HYSSOP_FAULT_WANTS_PRINTING && place == 1);
+    want(notes("  \t\r\n# none\n", 12, 0) == HYSSOP_FAULT_WANTS_TABLE && place == 3);
 }
 
 /* Packages that nest as deep as terms may (20.2.5.4), and one level deeper, with a stack of 512 KiB. */

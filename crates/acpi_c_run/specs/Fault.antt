@@ -1,8 +1,9 @@
 -- What can be wrong, by numbers that stay. The words of a fault of a text are those of `acpi_make`.
-use Rattle.std.specs.Prelude.{ℕ, ◌==◌, if◌then◌else◌, List, [], ◌∷◌, Option, Some, codes}
+use Rattle.std.specs.Prelude.{ℕ, ◌==◌, if◌then◌else◌, List, [], ◌∷◌, ◌++◌, Option, Some, codes}
 use Rattle.std.specs.List.{find}
 use Rattle.std.specs.Option.{option_map}
-use Rattle.acpi_make.specs.Fault.{wanted_text}
+use Rattle.acpi_make.specs.Fault as texts
+use Rattle.acpi_make.specs.declared.fault.Wanted.{Wanted}
 use Rattle.acpi_make.specs.declared.fault.Wanted.TheVariants as wanted
 use Rattle.acpi_c_run.specs.declared.fault.Fault.{Fault}
 use Rattle.acpi_c_run.specs.declared.fault.Fault.TheVariants as fault
@@ -13,6 +14,9 @@ pub record Facts : Type 0 where
 
 abbrev pub known : ℕ → List ℕ → Facts
 known n text = record { number = n; words = text }
+
+abbrev pub expected : Wanted → List ℕ
+expected one = codes "expected " ++ texts.words one
 
 abbrev pub facts : Fault → Facts
 facts fault.Memory = known 1 (codes "out of memory")
@@ -43,21 +47,28 @@ facts fault.ImageEntries = known 53 (codes "the XSDT doesn't end after a whole e
 facts fault.ImageNoFadt = known 54 (codes "the XSDT lists no FADT")
 facts fault.ImageSecondFadt = known 55 (codes "the XSDT lists a second FADT")
 facts fault.ImageOverlap = known 56 (codes "two tables overlap")
-facts fault.WantsLineFeed = known 64 (wanted_text wanted.LineFeed)
-facts fault.WantsPrinting = known 65 (wanted_text wanted.Printing)
-facts fault.WantsSpace = known 66 (wanted_text wanted.Space)
-facts fault.WantsValue = known 67 (wanted_text wanted.Value)
-facts fault.WantsDigit = known 68 (wanted_text wanted.Digit)
-facts fault.WantsSecondDigit = known 69 (wanted_text wanted.SecondDigit)
-facts fault.WantsQuotationMark = known 70 (wanted_text wanted.QuotationMark)
-facts fault.WantsQuestionMark = known 71 (wanted_text wanted.QuestionMark)
-facts fault.WantsSlash = known 72 (wanted_text wanted.Slash)
-facts fault.WantsBrace = known 73 (wanted_text wanted.Brace)
-facts fault.WantsField = known 74 (wanted_text wanted.Field)
-facts fault.WantsName = known 75 (wanted_text wanted.Name)
-facts fault.WantsNumber = known 76 (wanted_text wanted.Number)
-facts fault.WantsLabel = known 77 (wanted_text wanted.Label)
-facts fault.WantsBytes = known 78 (wanted_text wanted.Bytes)
+facts fault.WantsPrinting = known 65 (expected wanted.Printing)
+facts fault.WantsSpace = known 66 (expected wanted.Space)
+facts fault.WantsValue = known 67 (expected wanted.Value)
+facts fault.WantsDigit = known 68 (expected wanted.Digit)
+facts fault.WantsSecondDigit = known 69 (expected wanted.SecondDigit)
+facts fault.WantsQuotationMark = known 70 (expected wanted.QuotationMark)
+facts fault.WantsQuestionMark = known 71 (expected wanted.QuestionMark)
+facts fault.WantsSlash = known 72 (expected wanted.Slash)
+facts fault.WantsBrace = known 73 (expected wanted.Brace)
+facts fault.WantsField = known 74 (expected wanted.Field)
+facts fault.WantsName = known 75 (expected wanted.Name)
+facts fault.WantsNumber = known 76 (expected wanted.Number)
+facts fault.WantsLabel = known 77 (expected wanted.Label)
+facts fault.WantsBytes = known 78 (expected wanted.Bytes)
+facts fault.WantsNext = known 79 (expected wanted.Next)
+facts fault.WantsNameless = known 80 (expected wanted.Nameless)
+facts fault.WantsEnd = known 81 (expected wanted.End)
+facts fault.WantsStructure = known 82 (expected wanted.Structure)
+facts fault.WantsWidth = known 83 (expected wanted.Width)
+facts fault.WantsWhole = known 84 (expected wanted.Whole)
+facts fault.WantsOneTable = known 85 (expected wanted.OneTable)
+facts fault.WantsTable = known 86 (expected wanted.Table)
 
 abbrev pub number_of : Fault → ℕ
 number_of f = (facts f).number
@@ -71,9 +82,11 @@ faults =
     fault.TableLength ∷ fault.Sum ∷ fault.Structure ∷ fault.Count ∷ fault.UnknownSource ∷ fault.Truncated ∷
     fault.Opcode ∷ fault.PkgLength ∷ fault.Number ∷ fault.Flags ∷ fault.Text ∷ fault.TooDeep ∷
     fault.ImageOutside ∷ fault.ImageSignature ∷ fault.ImageLength ∷ fault.ImageRevision ∷ fault.ImageSum ∷ fault.ImageEntries ∷
-    fault.ImageNoFadt ∷ fault.ImageSecondFadt ∷ fault.ImageOverlap ∷ fault.WantsLineFeed ∷ fault.WantsPrinting ∷ fault.WantsSpace ∷
+    fault.ImageNoFadt ∷ fault.ImageSecondFadt ∷ fault.ImageOverlap ∷ fault.WantsPrinting ∷ fault.WantsSpace ∷
     fault.WantsValue ∷ fault.WantsDigit ∷ fault.WantsSecondDigit ∷ fault.WantsQuotationMark ∷ fault.WantsQuestionMark ∷ fault.WantsSlash ∷
-    fault.WantsBrace ∷ fault.WantsField ∷ fault.WantsName ∷ fault.WantsNumber ∷ fault.WantsLabel ∷ fault.WantsBytes ∷ []
+    fault.WantsBrace ∷ fault.WantsField ∷ fault.WantsName ∷ fault.WantsNumber ∷ fault.WantsLabel ∷ fault.WantsBytes ∷ fault.WantsNext ∷
+    fault.WantsNameless ∷ fault.WantsEnd ∷ fault.WantsStructure ∷ fault.WantsWidth ∷ fault.WantsWhole ∷ fault.WantsOneTable ∷
+    fault.WantsTable ∷ []
 
 -- the fault of a number
 abbrev pub fault_of : ℕ → Option Fault

@@ -17,7 +17,7 @@ pub record IsTableOf (text bytes : List ℕ) : Type 0 where
 -- a text has this fault, or memory ran out
 pub record IsMakeRefusal (text : List ℕ) (refused : Refused) : Type 0 where
   pub error : MakeError
-  pub is : refused ≡ by_make error
+  pub is : refused ≡ by_make text error
   pub why : IsMade text (Err error)
 
 -- four bytes of UTF-8

@@ -1,7 +1,8 @@
 -- Why calls fail, and where.
-use Rattle.std.specs.Prelude.{ℕ, Option, Some, None}
+use Rattle.std.specs.Prelude.{ℕ, List, Option, Some, None}
 use Rattle.acpi_layout.specs.declared.fault.ImageFault.{ImageFault}
 use Rattle.acpi_layout.specs.declared.fault.ImageFault.TheVariants as images
+use Rattle.acpi_make.specs.Fault.{line_at}
 use Rattle.acpi_make.specs.declared.fault.MakeError.{MakeError}
 use Rattle.acpi_make.specs.declared.fault.MakeError.TheVariants as texts
 use Rattle.acpi_make.specs.declared.fault.Wanted.{Wanted}
@@ -77,7 +78,6 @@ by_image error = record { fault = fault_of_image error; place = place_of_image e
 -- ---- faults of texts
 
 abbrev pub fault_of_wanted : Wanted → Fault
-fault_of_wanted wanted.LineFeed = fault.WantsLineFeed
 fault_of_wanted wanted.Printing = fault.WantsPrinting
 fault_of_wanted wanted.Space = fault.WantsSpace
 fault_of_wanted wanted.Value = fault.WantsValue
@@ -92,7 +92,16 @@ fault_of_wanted wanted.Name = fault.WantsName
 fault_of_wanted wanted.Number = fault.WantsNumber
 fault_of_wanted wanted.Label = fault.WantsLabel
 fault_of_wanted wanted.Bytes = fault.WantsBytes
+fault_of_wanted wanted.Next = fault.WantsNext
+fault_of_wanted wanted.Nameless = fault.WantsNameless
+fault_of_wanted wanted.End = fault.WantsEnd
+fault_of_wanted wanted.Structure = fault.WantsStructure
+fault_of_wanted wanted.Width = fault.WantsWidth
+fault_of_wanted wanted.Whole = fault.WantsWhole
+fault_of_wanted wanted.OneTable = fault.WantsOneTable
+fault_of_wanted wanted.Table = fault.WantsTable
 
-abbrev pub by_make : MakeError → Refused
-by_make texts.Memory = by_memory
-by_make (texts.Fault wrong) = record { fault = fault_of_wanted wrong.wanted; place = wrong.line }
+-- with the line of the text
+abbrev pub by_make : List ℕ → MakeError → Refused
+by_make text texts.Memory = by_memory
+by_make text (texts.Fault wrong) = record { fault = fault_of_wanted wrong.wanted; place = line_at wrong.from text }

@@ -35,7 +35,6 @@ pub enum Fault {
     ImageNoFadt,
     ImageSecondFadt,
     ImageOverlap,
-    WantsLineFeed,
     WantsPrinting,
     WantsSpace,
     WantsValue,
@@ -50,6 +49,14 @@ pub enum Fault {
     WantsNumber,
     WantsLabel,
     WantsBytes,
+    WantsNext,
+    WantsNameless,
+    WantsEnd,
+    WantsStructure,
+    WantsWidth,
+    WantsWhole,
+    WantsOneTable,
+    WantsTable,
 }
 
 /// Every fault: its number and its words.
@@ -84,21 +91,28 @@ macro_rules! faults {
             ImageNoFadt 54 "the XSDT lists no FADT"
             ImageSecondFadt 55 "the XSDT lists a second FADT"
             ImageOverlap 56 "two tables overlap"
-            WantsLineFeed 64 "expected a line feed without a carriage return"
             WantsPrinting 65 "expected a character that prints"
             WantsSpace 66 "expected a space"
             WantsValue 67 "expected a value"
             WantsDigit 68 "expected a hexadecimal digit"
-            WantsSecondDigit 69 "expected the second digit of a byte"
+            WantsSecondDigit 69 "expected the second digit of a byte (#5 and 0x5 are the number 5)"
             WantsQuotationMark 70 "expected a quotation mark at the end of the text"
             WantsQuestionMark 71 "expected a second question mark"
             WantsSlash 72 "expected a second slash"
             WantsBrace 73 "expected a brace at the end of the names"
-            WantsField 74 "expected bytes, or the name of a field before the colon"
-            WantsName 75 "expected a name of a flag or a value of this field"
-            WantsNumber 76 "expected a decimal number that fits the field"
+            WantsField 74 "expected bytes, since the line has no field"
+            WantsName 75 "expected a name of a flag or a value of this field, with \" | \" between flags"
+            WantsNumber 76 "expected a number that fits the field"
             WantsLabel 77 "expected the label of a structure"
-            WantsBytes 78 "expected bytes: nothing determines the question marks"
+            WantsBytes 78 "expected bytes, since nothing determines the question marks"
+            WantsNext 79 "expected another field or structure"
+            WantsNameless 80 "expected Bytes, since no field of the form stands here"
+            WantsEnd 81 "expected the end of the table"
+            WantsStructure 82 "expected the name or the type of a structure of this table"
+            WantsWidth 83 "expected as many bytes as the field has"
+            WantsWhole 84 "expected all fields, since the length is left out"
+            WantsOneTable 85 "expected the end of the text, since a text is one table"
+            WantsTable 86 "expected a table, which begins with a signature"
         }
     };
 }

@@ -15,7 +15,7 @@ fn made(alloc: Global, text: &[u8]) -> Result<Vec<u8>, Refused>
 {
     match made_of(alloc, text) {
         Ok(made) => Ok(made.bytes),
-        Err(error) => Err(Refused::from(error)),
+        Err(error) => Err(Refused::of_text(error, text)),
     }
 }
 

@@ -49,8 +49,10 @@ fn notes_of(alloc: Global, owns: &[Own]) -> Result<Vec<Note>, Refused>
 fn noted(alloc: Global, text: &[u8]) -> Result<Vec<Note>, Refused>
     ensures { IsOutcome (AreNotes text.now) (IsMakeRefusal text.now) (seen (λ notes. notes.items) result) }
 {
-    let made = made_of(alloc, text)?;
-    notes_of(alloc, &made.untrue)
+    match made_of(alloc, text) {
+        Ok(made) => notes_of(alloc, &made.untrue),
+        Err(error) => Err(Refused::of_text(error, text)),
+    }
 }
 
 /// Writes the numbers that a text states wrongly to `out`: the offset of each field, its width and the right number. `size` is how

@@ -6,7 +6,7 @@ ghost use Rattle.acpi_c_run.specs.Refused.{by_memory, by_read, by_image, by_make
 
 use crate::fault::Fault;
 use acpi_layout::fault::ImageFault;
-use acpi_make::fault::{MakeError, Wanted};
+use acpi_make::fault::{MakeError, Wanted, find_position};
 use acpi_term::read_error::ReadError;
 use std::alloc::{AllocError, AllocFailed};
 
@@ -82,7 +82,6 @@ fn fault_of_wanted(wanted: Wanted) -> Fault
     ensures { result ≡ fault_of_wanted wanted }
 {
     match wanted {
-        Wanted::LineFeed => Fault::WantsLineFeed,
         Wanted::Printing => Fault::WantsPrinting,
         Wanted::Space => Fault::WantsSpace,
         Wanted::Value => Fault::WantsValue,
@@ -97,6 +96,14 @@ fn fault_of_wanted(wanted: Wanted) -> Fault
         Wanted::Number => Fault::WantsNumber,
         Wanted::Label => Fault::WantsLabel,
         Wanted::Bytes => Fault::WantsBytes,
+        Wanted::Next => Fault::WantsNext,
+        Wanted::Nameless => Fault::WantsNameless,
+        Wanted::End => Fault::WantsEnd,
+        Wanted::Structure => Fault::WantsStructure,
+        Wanted::Width => Fault::WantsWidth,
+        Wanted::Whole => Fault::WantsWhole,
+        Wanted::OneTable => Fault::WantsOneTable,
+        Wanted::Table => Fault::WantsTable,
     }
 }
 
@@ -106,6 +113,19 @@ impl Refused {
         ensures { result ≡ record { fault = fault; place = 0 } }
     {
         Refused { fault, place: 0 }
+    }
+
+    /// Why a text isn't made into a table. The place is the line, counted from 1.
+    pub fn of_text(error: MakeError, text: &[u8]) -> Refused
+        ensures { result ≡ by_make text.now error }
+    {
+        match error {
+            MakeError::Memory => Refused::anywhere(Fault::Memory),
+            MakeError::Fault(fault) => Refused {
+                fault: fault_of_wanted(fault.wanted),
+                place: find_position(fault.from, text).line as u64,
+            },
+        }
     }
 }
 
@@ -131,20 +151,6 @@ impl From<ImageFault> for Refused {
         Refused {
             fault: fault_of_image(error),
             place: place_of_image(error),
-        }
-    }
-}
-
-impl From<MakeError> for Refused {
-    ghost from_gives = { λ error refused. refused ≡ by_make error };
-
-    fn from(error: MakeError) -> Refused {
-        match error {
-            MakeError::Memory => Refused::anywhere(Fault::Memory),
-            MakeError::Fault(fault) => Refused {
-                fault: fault_of_wanted(fault.wanted),
-                place: fault.line as u64,
-            },
         }
     }
 }

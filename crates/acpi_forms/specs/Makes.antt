@@ -1,5 +1,5 @@
 -- What texts are made into.
-use Rattle.std.specs.Prelude.{◌≡◌, ℕ, ◌==◌, if◌then◌else◌, List, codes, Option, Some, None, Result, Ok, Err}
+use Rattle.std.specs.Prelude.{◌≡◌, ℕ, ◌==◌, not, Bool, true, false, if◌then◌else◌, List, length, codes, Option, Some, None, Result, Ok, Err}
 use Rattle.acpi_base.specs.Bytes.{carried}
 use Rattle.acpi_base.specs.Walk.{named}
 use Rattle.acpi_base.specs.FurtherWalk.{table_walk_of}
@@ -11,10 +11,12 @@ use Rattle.acpi_make.specs.Signature.{signature_of}
 use Rattle.acpi_make.specs.Template.{template_text}
 use Rattle.acpi_make.specs.declared.complete.Shape.{Shape}
 use Rattle.acpi_make.specs.declared.complete.Shape.TheVariants.{Table, Pointer, Control}
-use Rattle.acpi_make.specs.declared.draft.Source.{Source}
-use Rattle.acpi_make.specs.declared.fault.Fault.{Fault}
+use Rattle.acpi_make.specs.Fault.{Fault, fault}
+use Rattle.acpi_make.specs.Item.{cells_of}
+use Rattle.acpi_make.specs.Source.{Source}
 use Rattle.acpi_make.specs.declared.fault.MakeError.{MakeError}
 use Rattle.acpi_make.specs.declared.fault.MakeError.TheVariants as errors
+use Rattle.acpi_make.specs.declared.fault.Wanted.TheVariants as wanted
 use Rattle.acpi_make.specs.declared.item.Item.{Item}
 use Rattle.acpi_make.specs.declared.make.Made.{Made}
 use Rattle.acpi_text.specs.declared.form.TableForm.{TableForm}
@@ -52,21 +54,29 @@ pub record IsMadeBy (names : Named) (walk : Option Walk) (shape : Shape) (text :
   pub source : Source
   pub is_named : IsNamed source.form names
   pub kind : source.kind ≡ type_place walk
-  pub same : source.text.now ≡ text
+  pub same : source.text ≡ text
   pub gives : Gives table_of result (made shape walk source parts)
 
 abbrev pub IsMadeAs : ℕ → List ℕ → List Item → Result Made MakeError → Type 0
 IsMadeAs signature text parts result =
     IsMadeBy (shape_names (shape_of signature) signature) (shape_walk (shape_of signature) signature) (shape_of signature) text parts result
 
--- by the signature of the text; a text that isn't read has the fault of its reading
+abbrev pub IsRefused : Fault → Result Made MakeError → Type 0
+IsRefused wrong result = Gives {B = Made} (λ made. made) result (Err wrong)
+
+-- a text without bytes is no table
+abbrev pub IsMadeIf : Bool → List Item → List ℕ → Result Made MakeError → Type 0
+IsMadeIf true parts text result = IsMadeAs (signature_or_none (signature_of parts)) text parts result
+IsMadeIf false parts text result = IsRefused (fault 0 0 wanted.Table) result
+
+-- by the signature of the text; one that isn't read has the fault of its reading
 abbrev pub IsMadeOf : Result (List Item) Fault → List ℕ → Result Made MakeError → Type 0
-IsMadeOf (Ok parts) text result = IsMadeAs (signature_or_none (signature_of parts)) text parts result
-IsMadeOf (Err fault) text result = Gives {B = Made} (λ made. made) result (Err fault)
+IsMadeOf (Ok parts) text result = IsMadeIf (not (length (cells_of parts) == 0)) parts text result
+IsMadeOf (Err wrong) text result = IsRefused wrong result
 
 abbrev pub UnlessMemory : Result Made MakeError → Type 0 → Type 0
 UnlessMemory (Ok made) fact = fact
-UnlessMemory (Err (errors.Fault fault)) fact = fact
+UnlessMemory (Err (errors.Fault wrong)) fact = fact
 UnlessMemory (Err errors.Memory) fact = Unit {0}
 
 -- the table that a text is made into, unless memory ran out

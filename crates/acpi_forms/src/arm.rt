@@ -18,7 +18,7 @@ const GTDT_TIMERS: [StructureForm; 2] = [
         name: "GT Block Structure",
         parts: &[
             Part::Fields(&GT_BLOCK),
-            Part::Until("Before the Timers", Place::DWord(16)),
+            Part::Until("Bytes", Place::DWord(16)),
             Part::Entries(
                 "GT Block Timer Structure",
                 Count::Field(Place::DWord(12)),
@@ -62,17 +62,17 @@ pub const DBG2: TableForm = TableForm {
         name: "Debug Device Information Structure",
         parts: &[
             Part::Fields(&DEBUG_DEVICE),
-            Part::Until("Before the Addresses", Place::Word(18)),
+            Part::Until("Bytes", Place::Word(18)),
             Part::Entries(
                 "BaseAddressRegister",
                 Count::Field(Place::Byte(3)),
                 &GENERIC_ADDRESS,
             ),
-            Part::Until("Before the Sizes", Place::Word(20)),
+            Part::Until("Bytes", Place::Word(20)),
             Part::Numbers("AddressSize", 4, Count::Field(Place::Byte(3))),
-            Part::Until("Before the Name", Place::Word(6)),
+            Part::Until("Bytes", Place::Word(6)),
             Part::Bytes("NamespaceString", Place::Word(4)),
-            Part::Until("Before the OEM Data", Place::Word(10)),
+            Part::Until("Bytes", Place::Word(10)),
             Part::Bytes("OemData", Place::Word(8)),
         ],
         inner: &Inner::Nothing,
@@ -122,7 +122,7 @@ const IORT_NODES: [StructureForm; 7] = [
         parts: &[
             Part::Between(&ROOT_COMPLEX, 0, 13),
             Part::Chosen(Place::DWord(12), &ROOT_COMPLEX_ENDS),
-            Part::Until("Before the Mappings", Place::DWord(12)),
+            Part::Until("Bytes", Place::DWord(12)),
             Part::Entries("ID Mapping", Count::Field(Place::DWord(8)), &ID_MAPPING),
         ],
         inner: &Inner::Nothing,
@@ -132,19 +132,19 @@ const IORT_NODES: [StructureForm; 7] = [
         name: "SMMUv1 or SMMUv2",
         parts: &[
             Part::Fields(&SMMU),
-            Part::Until("Before the Context Interrupts", Place::DWord(48)),
+            Part::Until("Bytes", Place::DWord(48)),
             Part::Entries(
                 "Context Interrupt",
                 Count::Field(Place::DWord(44)),
                 &SMMU_INTERRUPT,
             ),
-            Part::Until("Before the PMU Interrupts", Place::DWord(56)),
+            Part::Until("Bytes", Place::DWord(56)),
             Part::Entries(
                 "PMU Interrupt",
                 Count::Field(Place::DWord(52)),
                 &SMMU_INTERRUPT,
             ),
-            Part::Until("Before the Mappings", Place::DWord(12)),
+            Part::Until("Bytes", Place::DWord(12)),
             Part::Entries("ID Mapping", Count::Field(Place::DWord(8)), &ID_MAPPING),
         ],
         inner: &Inner::Nothing,
@@ -154,7 +154,7 @@ const IORT_NODES: [StructureForm; 7] = [
         name: "SMMUv3",
         parts: &[
             Part::Fields(&SMMU_V3),
-            Part::Until("Before the Mappings", Place::DWord(12)),
+            Part::Until("Bytes", Place::DWord(12)),
             Part::Entries("ID Mapping", Count::Field(Place::DWord(8)), &ID_MAPPING),
         ],
         inner: &Inner::Nothing,
@@ -164,7 +164,7 @@ const IORT_NODES: [StructureForm; 7] = [
         name: "Performance Monitoring Counter Group (PMCG)",
         parts: &[
             Part::Fields(&PMCG),
-            Part::Until("Before the Mappings", Place::DWord(12)),
+            Part::Until("Bytes", Place::DWord(12)),
             Part::Entries("ID Mapping", Count::Field(Place::DWord(8)), &ID_MAPPING),
         ],
         inner: &Inner::Nothing,
@@ -174,13 +174,13 @@ const IORT_NODES: [StructureForm; 7] = [
         name: "Reserved Memory Range (RMR)",
         parts: &[
             Part::Fields(&RESERVED_MEMORY),
-            Part::Until("Before the Descriptors", Place::DWord(24)),
+            Part::Until("Bytes", Place::DWord(24)),
             Part::Entries(
                 "Memory Range Descriptor",
                 Count::Field(Place::DWord(20)),
                 &MEMORY_RANGE,
             ),
-            Part::Until("Before the Mappings", Place::DWord(12)),
+            Part::Until("Bytes", Place::DWord(12)),
             Part::Entries("ID Mapping", Count::Field(Place::DWord(8)), &ID_MAPPING),
         ],
         inner: &Inner::Nothing,

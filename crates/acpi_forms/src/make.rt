@@ -10,8 +10,8 @@ use crate::form::{facs_form, form_of, rsdp_form};
 use acpi_base::further_walk::table_walk_of;
 use acpi_base::walk::Walk;
 use acpi_make::complete::Shape;
-use acpi_make::fault::MakeError;
-use acpi_make::item::Item;
+use acpi_make::fault::{Fault, MakeError, Wanted};
+use acpi_make::item::{Item, has_bytes};
 use acpi_make::make::{Made, make_of};
 use acpi_make::read::read_text;
 use acpi_make::signature::signature_of;
@@ -63,11 +63,14 @@ fn make_as(alloc: Global, signature: u32, text: &[u8], items: &[Item]) -> Result
 }
 
 /// Returns the table that a text is made into: its bytes, and its own numbers that the text states otherwise. The form of the table
-/// is that of its signature. The error is that memory ran out, or what is wrong with the text, and in which line.
+/// is that of its signature. The error is that memory ran out, or what is wrong with the text, and where.
 pub fn make(alloc: Global, text: &[u8]) -> Result<Made, MakeError>
     ensures { IsMade text.now result }
 {
     let items = read_text(alloc, text)?;
+    if !has_bytes(&items) {
+        return Err(MakeError::Fault(Fault::new(0, 0, Wanted::Table)));
+    }
     match signature_of(&items) {
         Some(signature) => make_as(alloc, signature, text, &items),
         None => make_as(alloc, 0, text, &items),

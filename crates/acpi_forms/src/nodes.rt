@@ -128,7 +128,7 @@ const RIMT_DEVICES: [StructureForm; 3] = [
         name: "RISC-V IOMMU",
         parts: &[
             Part::Fields(&IOMMU),
-            Part::Until("Before the Interrupt Wires", Place::Word(30)),
+            Part::Until("Bytes", Place::Word(30)),
             Part::Entries(
                 "Interrupt Wire",
                 Count::Field(Place::Word(28)),
@@ -142,7 +142,7 @@ const RIMT_DEVICES: [StructureForm; 3] = [
         name: "PCIe Root Complex",
         parts: &[
             Part::Fields(&ROOT_COMPLEX),
-            Part::Until("Before the Mappings", Place::Word(12)),
+            Part::Until("Bytes", Place::Word(12)),
             Part::Entries("ID Mapping", Count::Field(Place::Word(14)), &ID_MAPPING),
         ],
         inner: &Inner::Nothing,

@@ -3,21 +3,23 @@ use Rattle.std.proofs.Common.{◌≡◌, ℕ, zero, suc, ◌<◌, ◌==◌, ◌&
 use Rattle.std.proofs.lemmas.Bool.{and_parts, eqb-true, cases_lt}
 use Rattle.acpi_base.specs.Digit.{digit_value, hex_digit}
 use Rattle.acpi_make.specs.Step.{is_control}
+use Rattle.acpi_make.specs.Text.{is_white}
 
 -- a character that prints
 pub record Prints (c : ℕ) : Type 0 where
   pub line : (c == 10) ≡ false
   pub control : is_control c ≡ false
 
--- a digit, which begins a value, and is neither a space nor a slash
+-- a digit, which begins a value, and is neither white space nor a slash
 pub record IsDigit (c n : ℕ) : Type 0 where
   pub prints : Prints c
-  pub space : (c == 32) ≡ false
+  pub white : is_white c ≡ false
   pub slash : (c == 47) ≡ false
   pub quotation : (c == 34) ≡ false
   pub question : (c == 63) ≡ false
   pub brace : (c == 123) ≡ false
   pub word : (c == 35 || c == 64) ≡ false
+  pub prefix : (c == 120 || c == 88) ≡ false
   pub value : digit_value c ≡ Some n
 
 abbrev is_some : Option ℕ → ℕ → Bool
@@ -25,10 +27,10 @@ is_some (Some m) n = m == n
 is_some None n = false
 
 abbrev is_mark : ℕ → Bool
-is_mark c = c == 34 || (c == 63 || (c == 123 || (c == 35 || c == 64)))
+is_mark c = c == 34 || (c == 63 || (c == 123 || ((c == 35 || c == 64) || (c == 120 || c == 88))))
 
 abbrev is_digit : ℕ → ℕ → Bool
-is_digit c n = not (c == 10) && not (is_control c) && not (c == 32) && not (c == 47) && not (is_mark c) && is_some (digit_value c) n
+is_digit c n = not (c == 10) && not (is_control c) && not (is_white c) && not (c == 47) && not (is_mark c) && is_some (digit_value c) n
 
 false_by : (b : Bool) → not b ≡ true → b ≡ false
 false_by true is = absurd cc
@@ -44,22 +46,24 @@ some_by None n is = absurd cc
 
 digit_by : (c n : ℕ) → is_digit c n ≡ true → IsDigit c n
 digit_by c n is =
-    let a = and_parts (not (c == 10) && not (is_control c) && not (c == 32) && not (c == 47) && not (is_mark c)) (is_some (digit_value c) n) is in
-    let b = and_parts (not (c == 10) && not (is_control c) && not (c == 32) && not (c == 47)) (not (is_mark c)) a.0 in
-    let d = and_parts (not (c == 10) && not (is_control c) && not (c == 32)) (not (c == 47)) b.0 in
-    let e = and_parts (not (c == 10) && not (is_control c)) (not (c == 32)) d.0 in
+    let a = and_parts (not (c == 10) && not (is_control c) && not (is_white c) && not (c == 47) && not (is_mark c)) (is_some (digit_value c) n) is in
+    let b = and_parts (not (c == 10) && not (is_control c) && not (is_white c) && not (c == 47)) (not (is_mark c)) a.0 in
+    let d = and_parts (not (c == 10) && not (is_control c) && not (is_white c)) (not (c == 47)) b.0 in
+    let e = and_parts (not (c == 10) && not (is_control c)) (not (is_white c)) d.0 in
     let f = and_parts (not (c == 10)) (not (is_control c)) e.0 in
-    let g = neither (c == 34) (c == 63 || (c == 123 || (c == 35 || c == 64))) b.1 in
-    let h = neither (c == 63) (c == 123 || (c == 35 || c == 64)) g.1 in
-    let k = neither (c == 123) (c == 35 || c == 64) h.1 in
+    let g = neither (c == 34) (c == 63 || (c == 123 || ((c == 35 || c == 64) || (c == 120 || c == 88)))) b.1 in
+    let h = neither (c == 63) (c == 123 || ((c == 35 || c == 64) || (c == 120 || c == 88))) g.1 in
+    let k = neither (c == 123) ((c == 35 || c == 64) || (c == 120 || c == 88)) h.1 in
+    let m = neither (c == 35 || c == 64) (c == 120 || c == 88) k.1 in
     record {
       prints = record { line = false_by (c == 10) f.0; control = false_by (is_control c) f.1 };
-      space = false_by (c == 32) e.1;
+      white = false_by (is_white c) e.1;
       slash = false_by (c == 47) d.1;
       quotation = false_by (c == 34) g.0;
       question = false_by (c == 63) h.0;
       brace = false_by (c == 123) k.0;
-      word = false_by (c == 35 || c == 64) k.1;
+      word = false_by (c == 35 || c == 64) m.0;
+      prefix = false_by (c == 120 || c == 88) m.1;
       value = some_by (digit_value c) n a.1;
     }
 

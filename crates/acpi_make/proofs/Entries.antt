@@ -2,12 +2,12 @@
 use Rattle.std.proofs.Common.{◌≡◌, ℕ, ◌+◌, ◌<◌, ◌≤◌, nat_le, ◌&&◌, Bool, true, false, cond, List, [], ◌∷◌, ◌++◌, length, drop, get_or, Option, Some, refl, sym, ap, ◌∙◌}
 use Rattle.std.specs.List.{flat_map}
 use Rattle.std.proofs.lemmas.List.{at_drop_more, drop_all}
-use Rattle.acpi_make.specs.Entry.{Kind, Entry, IsSearch, is_line_of, next_number, number_after, find_entry, or_else}
+use Rattle.acpi_make.specs.Entry.{Entry, IsSearch, is_of, next_number, number_after, find_entry, or_else}
 use Rattle.acpi_make.specs.declared.entry.Field.{Field}
 use Rattle.acpi_make.specs.declared.entry.Search.{Search}
 use Rattle.acpi_make.specs.declared.entry.Search.TheVariants.{Found, Missing}
 
-either : (b : Bool) (x : ℕ × Kind) (one two : Option (ℕ × Kind)) → cond b (Some x) (or_else one two) ≡ or_else (cond b (Some x) one) two
+either : (b : Bool) (x : ℕ × Entry) (one two : Option (ℕ × Entry)) → cond b (Some x) (or_else one two) ≡ or_else (cond b (Some x) one) two
 either true x one two = refl
 either false x one two = refl
 
@@ -16,8 +16,8 @@ pub find_append : (k least : ℕ) (line : List ℕ) (a b : List Entry)
     → find_entry k least line (a ++ b) ≡ or_else (find_entry k least line a) (find_entry (number_after k a) least line b)
 find_append k least line [] b = refl
 find_append k least line (one ∷ a) b =
-    ap (cond (nat_le least k && is_line_of one.name line) (Some (k, one.kind))) (find_append (next_number k) least line a b)
-    ∙ either (nat_le least k && is_line_of one.name line) (k, one.kind) (find_entry (next_number k) least line a)
+    ap (cond (nat_le least k && is_of line one) (Some (k, one))) (find_append (next_number k) least line a b)
+    ∙ either (nat_le least k && is_of line one) (k, one) (find_entry (next_number k) least line a)
     (find_entry (number_after (next_number k) a) least line b)
 
 after_append : (k : ℕ) (a b : List Entry) → number_after k (a ++ b) ≡ number_after (number_after k a) b
@@ -74,9 +74,9 @@ module _ (k least : ℕ) (line : List ℕ) (a b : List Entry) where
   both = find_append k least line a b
 
   -- what was found in the first list
-  pub first_found : (number : ℕ) (kind : Kind) → find_entry k least line a ≡ Some (number, kind)
-      → find_entry k least line (a ++ b) ≡ Some (number, kind)
-  first_found number kind found = both ∙ ap (λ first. or_else first (find_entry (number_after k a) least line b)) found
+  pub first_found : (number : ℕ) (field : Entry) → find_entry k least line a ≡ Some (number, field)
+      → find_entry k least line (a ++ b) ≡ Some (number, field)
+  first_found number field found = both ∙ ap (λ first. or_else first (find_entry (number_after k a) least line b)) found
 
   -- nothing was found there
   pub first_missing : (next : ℕ) → IsSearch (Missing next) k least line a → find_entry k least line (a ++ b) ≡ find_entry next least line b

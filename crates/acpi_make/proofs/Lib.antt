@@ -9,5 +9,6 @@ pub mod Numbers
 pub mod Fields
 pub mod Making
 pub mod Truth
+pub mod Compared
 pub mod Order
 pub mod Listed

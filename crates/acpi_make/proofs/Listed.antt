@@ -1,9 +1,9 @@
 -- Tables that are made without notes are walked by the structures that their texts list.
-use Rattle.std.proofs.Common.{◌≡◌, ℕ, zero, suc, ◌+◌, ◌-◌, ◌^◌, ◌<◌, ◌≤◌, nat_lt, nat_le, ◌&&◌, Bool, true, false, cond}
+use Rattle.std.proofs.Common.{◌≡◌, ℕ, zero, suc, ◌+◌, ◌-◌, ◌^◌, ◌<◌, ◌≤◌, ◌==◌, nat_lt, nat_le, ◌&&◌, Bool, true, false, cond}
 use Rattle.std.proofs.Common.{List, [], ◌∷◌, ◌++◌, length, take, drop, Some, refl, sym, ap, subst, ◌∙◌, arith}
 use Rattle.std.specs.List.{concat}
 use Rattle.std.proofs.Math.Seq.{drop-length}
-use Rattle.std.proofs.lemmas.Bool.{lt-ltb, le-leb}
+use Rattle.std.proofs.lemmas.Bool.{lt-ltb, le-leb, eqb-true}
 use Rattle.std.proofs.lemmas.List.{take-append-drop, drop-drop, drop-take, length-drop, length-take-le}
 use Rattle.acpi_base.specs.Bytes.{carried, field_at}
 use Rattle.acpi_base.specs.Walk.{place_offset, place_width, end_of, IsPiece, ArePieces, Tells, HasSizes}
@@ -36,13 +36,13 @@ joined (Structure at from to ∷ marks) bytes up =
     let next = next_start marks (length bytes) in
     sym (piece_joined at next bytes up.0) ∙ ap (λ l. take (next - at) (drop at bytes) ++ l) (joined marks bytes up.1)
 joined (Line at from to ∷ marks) bytes up = joined marks bytes up
-joined (Reference at w line from to ∷ marks) bytes up = joined marks bytes up
+joined (Reference at w from to ∷ marks) bytes up = joined marks bytes up
 
 counted : (marks : List Mark) (bytes : List ℕ) → count_structures marks ≡ length (pieces_of marks bytes)
 counted [] bytes = refl
 counted (Structure at from to ∷ marks) bytes = omega (arith, counted marks bytes)
 counted (Line at from to ∷ marks) bytes = counted marks bytes
-counted (Reference at w line from to ∷ marks) bytes = counted marks bytes
+counted (Reference at w from to ∷ marks) bytes = counted marks bytes
 
 -- ---- numbers at places
 
@@ -110,7 +110,7 @@ pieces_are sizes (Structure at from to ∷ marks) bytes sound up small have hold
       pieces_are sizes marks bytes sound up.1 small have.1 both.1,
     )
 pieces_are sizes (Line at from to ∷ marks) bytes sound up small have hold = pieces_are sizes marks bytes sound up small have hold
-pieces_are sizes (Reference at w line from to ∷ marks) bytes sound up small have hold = pieces_are sizes marks bytes sound up small have hold
+pieces_are sizes (Reference at w from to ∷ marks) bytes sound up small have hold = pieces_are sizes marks bytes sound up small have hold
 
 -- ---- whole tables
 
@@ -121,22 +121,44 @@ told start n place bytes within inside hold wide =
     ap (λ k. field_at k (place_width place) bytes) (let e : place_offset place ≡ 0 + place_offset place = omega arith in e)
     ∙ place_holds 0 start place n bytes (omega arith) wide within (omega (arith, inside)) hold
 
+-- numbers that are there, where there are structures
+all_hold : (b : Bool) (bytes : List ℕ) (all others : List Own) → b ≡ false → AllHold bytes (cond b [] all ++ others) → AllHold bytes all
+all_hold true bytes all others is hold = absurd cc
+all_hold false bytes all others is hold = (hold_both bytes all others hold).0
+
+others_hold : (b : Bool) (bytes : List ℕ) (all others : List Own) → AllHold bytes (cond b [] all ++ others) → AllHold bytes others
+others_hold true bytes all others hold = hold
+others_hold false bytes all others hold = (hold_both bytes all others hold).1
+
+-- by whether there is a structure
+either_told : {T : Type 0} (count : ℕ) (b : Bool) → (count == 0) ≡ b → (count ≡ 0 → T) → ((count == 0) ≡ false → T) → T
+either_told count true is empty full = empty (eqb-true count 0 is)
+either_told count false is empty full = full is
+
 pub tables_walked : TablesAreWalked
-tables_walked walk s parts d table sound taken is none small first have =
+tables_walked walk s parts d table sound taken is none small first empty have =
     let done = finished_is shapes.Table (Some walk) s d table is in
-    let quiet = quiet_is (Some walk) d table done none in
+    let quiet = quiet_is (Some walk) s d table done none in
     let bytes = table.bytes in
     let total = length bytes in
     let up : Ascending d.marks total = subst (Ascending d.marks) (sym done.size) (all_ordered s parts nothing_yet d tt taken) in
     let inside : walk.start ≤ total = subst (λ k. k ≤ total) first (start_within d.marks total up) in
-    let owns = subst (λ n. AllHold bytes (own_at 0 (next_start d.marks n) walk.count (count_structures d.marks) ++ (own_at 0 (next_start d.marks n) walk.first (next_start d.marks n) ++ sizes_own walk.sizes d.marks n))) (sym done.size) quiet.hold.1 in
-    let starts = subst (λ k. AllHold bytes (own_at 0 k walk.count (count_structures d.marks) ++ (own_at 0 k walk.first k ++ sizes_own walk.sizes d.marks total))) first owns in
-    let one = hold_both bytes (own_at 0 walk.start walk.count (count_structures d.marks)) _ starts in
-    let two = hold_both bytes (own_at 0 walk.start walk.first walk.start) (sizes_own walk.sizes d.marks total) one.1 in
+    let count = count_structures d.marks in
+    let all : ℕ → List Own = λ k. own_at 0 k walk.count count ++ own_at 0 k walk.first k in
+    let owns : ℕ → ℕ → List Own = λ k n. cond (count == 0) [] (all k) ++ sizes_own walk.sizes d.marks n in
+    let hold = subst (λ n. AllHold bytes (owns (next_start d.marks n) n)) (sym done.size) quiet.hold.1 in
+    let starts = subst (λ k. AllHold bytes (owns k total)) first hold in
+    let both : (count == 0) ≡ false → AllHold bytes (own_at 0 walk.start walk.count count) × AllHold bytes (own_at 0 walk.start walk.first walk.start)
+    = λ some. hold_both bytes (own_at 0 walk.start walk.count count) (own_at 0 walk.start walk.first walk.start)
+    (all_hold (count == 0) bytes (all walk.start) (sizes_own walk.sizes d.marks total) some starts) in
     record {
       reaches = inside;
       joined = ap (λ k. drop k bytes) (sym first) ∙ joined d.marks bytes up;
-      each = pieces_are walk.sizes d.marks bytes sound.has up small have two.1;
-      counted = λ wide. told walk.start (count_structures d.marks) walk.count bytes sound.count inside one.0 wide ∙ counted d.marks bytes;
-      started = told walk.start walk.start walk.first bytes sound.told inside two.0;
+      each = pieces_are walk.sizes d.marks bytes sound.has up small have (others_hold (count == 0) bytes _ _ starts);
+      counted = λ wide. either_told count (count == 0) refl
+          (λ zero. (empty zero).0 wide ∙ sym zero)
+          (λ some. told walk.start count walk.count bytes sound.count inside (both some).0 wide)
+          ∙ counted d.marks bytes;
+      started = either_told count (count == 0) refl (λ zero. (empty zero).1)
+          (λ some. told walk.start walk.start walk.first bytes sound.told inside (both some).1);
     }

@@ -1,32 +1,39 @@
 -- What texts of known bytes are made into.
-use Rattle.std.proofs.Common.{◌≡◌, ℕ, zero, suc, ◌+◌, ◌==◌, nat_lt, nat_le, ◌&&◌, Bool, true, false, cond}
-use Rattle.std.proofs.Common.{List, [], ◌∷◌, ◌++◌, length, take, drop, Option, Some, None, Result, Ok, refl, sym, ap, subst, ◌∙◌, append_assoc, arith}
-use Rattle.std.proofs.lemmas.Bool.{lt-leb}
+use Rattle.std.proofs.Common.{◌≡◌, ℕ, zero, suc, ◌+◌, ◌==◌, nat_lt, not, ◌&&◌, ◌||◌, Bool, true, false, cond, eq-eqb}
+use Rattle.std.proofs.Common.{List, [], ◌∷◌, ◌++◌, length, take, drop, Option, Some, None, Result, Ok, refl, sym, ap, ◌∙◌, append_assoc, arith}
 use Rattle.std.proofs.lemmas.List.{append-nil, take-append-drop}
+use Rattle.acpi_base.specs.Walk.{place_offset, place_width}
+use Rattle.acpi_base.specs.declared.walk.Place.{Place}
 use Rattle.acpi_base.specs.declared.walk.Walk.{Walk}
-use Rattle.acpi_make.specs.Complete.{left_front, written, filled, all_filled, summed_at, summed, known, completed}
-use Rattle.acpi_make.specs.Draft.{Drafted, nothing_yet, line_found, with_line, with_heading, with_cells, all_taken}
-use Rattle.acpi_make.specs.Entry.{Kind}
+use Rattle.acpi_make.specs.Compare.{heading_number, is_same_number, mark_at, is_reference, name_in, is_same_name, is_same, past}
+use Rattle.acpi_make.specs.Compare.{begins_same, has_no_name, is_empty, cover, wanted_for, differ, difference}
+use Rattle.acpi_make.specs.Complete.{are_left, written, filled, all_filled, summed_at, summed, length_own, known, completed}
+use Rattle.acpi_make.specs.Draft.{Drafted, nothing_yet, first_of, closed, opened, line_found, with_line, with_heading, with_cells, all_taken}
+use Rattle.acpi_make.specs.Entry.{Entry}
+use Rattle.acpi_make.specs.Fault.{Fault}
 use Rattle.acpi_make.specs.Fits.{fits}
 use Rattle.acpi_make.specs.Gives.{with_front, and_then}
 use Rattle.acpi_make.specs.Item.{known_cells, cells_of}
-use Rattle.acpi_make.specs.Laws.{HasBytes, IsMadeInto, TablesAreRead, TablesAreMade}
-use Rattle.acpi_make.specs.Made.{sizes_own, made_of, finished, made}
+use Rattle.acpi_make.specs.Laws.{made_text, HasBytes, IsMadeInto, TablesAreRead, TablesAreMade}
+use Rattle.acpi_make.specs.Made.{Table, sizes_own, made_of, unless, finished, or_doubt, made}
 use Rattle.acpi_make.specs.Meaning.{read}
-use Rattle.acpi_make.specs.Own.{table_own, references_own}
+use Rattle.acpi_make.specs.Own.{next_start, next_line, none_own, table_own, references_own}
+use Rattle.acpi_make.specs.Short.{any_left, size_place, short_structure, short_in, short_table, short}
+use Rattle.acpi_make.specs.Source.{Source}
+use Rattle.acpi_make.specs.Text.{part_at}
 use Rattle.acpi_make.specs.declared.complete.Shape.{Shape}
 use Rattle.acpi_make.specs.declared.complete.Shape.TheVariants as shapes
-use Rattle.acpi_text.specs.Table.{table_text}
 use Rattle.acpi_make.specs.declared.draft.Mark.{Mark}
 use Rattle.acpi_make.specs.declared.draft.Mark.TheVariants.{Structure, Line, Reference}
-use Rattle.acpi_make.specs.declared.draft.Source.{Source}
-use Rattle.acpi_make.specs.declared.fault.Fault.{Fault}
 use Rattle.acpi_make.specs.declared.item.Cell.{Cell}
 use Rattle.acpi_make.specs.declared.item.Cell.TheVariants.{Byte}
 use Rattle.acpi_make.specs.declared.item.Item.{Item}
 use Rattle.acpi_make.specs.declared.item.Item.TheVariants as items
 use Rattle.acpi_make.specs.declared.own.Own.{Own}
 use Rattle.acpi_make.specs.declared.state.State.TheVariants.{Start}
+use Rattle.acpi_text.specs.Table.{table_text}
+use Rattle.acpi_text.specs.declared.form.StructureForm.{StructureForm}
+use Rattle.acpi_text.specs.declared.form.TableForm.{TableForm}
 use Rattle.acpi_make.proofs.Tables.{tables_mean}
 
 -- ---- known bytes are kept
@@ -36,9 +43,9 @@ drop_known zero bytes = refl
 drop_known (suc n) [] = refl
 drop_known (suc n) (b ∷ bytes) = drop_known n bytes
 
-none_left : (bytes : List ℕ) → left_front (known_cells bytes) ≡ 0
-none_left [] = refl
-none_left (b ∷ bytes) = refl
+none_left : (w : ℕ) (bytes : List ℕ) → are_left (suc w) (known_cells bytes) ≡ false
+none_left w [] = refl
+none_left w (b ∷ bytes) = refl
 
 either_same : (b : Bool) (x y : List Cell) → x ≡ y → cond b x y ≡ y
 either_same true x y same = same
@@ -52,12 +59,12 @@ not_chosen false b c x y is = refl
 filled_known : (offset w n : ℕ) (bytes : List ℕ) → filled offset w n (known_cells bytes) ≡ known_cells bytes
 filled_known offset zero n bytes =
     let cells = known_cells bytes in
-    either_same (nat_lt offset (length cells) && nat_le 0 (left_front (drop offset cells)) && fits 0 n) (written offset 0 n cells) cells
+    either_same (nat_lt offset (length cells) && are_left 0 (drop offset cells) && fits 0 n) (written offset 0 n cells) cells
     (ap (λ k. take offset cells ++ drop k cells) (let e : offset + 0 ≡ offset = omega arith in e) ∙ take-append-drop offset cells)
 filled_known offset (suc w) n bytes =
     let cells = known_cells bytes in
-    not_chosen (nat_lt offset (length cells)) (nat_le (suc w) (left_front (drop offset cells))) (fits (suc w) n) _ _
-    (ap (λ k. nat_le (suc w) k) (ap left_front (drop_known offset bytes) ∙ none_left (drop offset bytes)) ∙ lt-leb (suc w) 0 (omega arith))
+    not_chosen (nat_lt offset (length cells)) (are_left (suc w) (drop offset cells)) (fits (suc w) n) _ _
+    (ap (are_left (suc w)) (drop_known offset bytes) ∙ none_left w (drop offset bytes))
 
 all_known : (owns : List Own) (bytes : List ℕ) → all_filled owns (known_cells bytes) ≡ known_cells bytes
 all_known [] bytes = refl
@@ -84,19 +91,19 @@ abbrev NoReference : List Mark → Type 0
 NoReference [] = Unit {0}
 NoReference (Structure at from to ∷ marks) = NoReference marks
 NoReference (Line at from to ∷ marks) = NoReference marks
-NoReference (Reference at w line from to ∷ marks) = ⊥
+NoReference (Reference at w from to ∷ marks) = ⊥
 
 nothing_referred : (text : List ℕ) (all marks : List Mark) → NoReference marks → references_own text all marks ≡ Ok []
 nothing_referred text all [] none = refl
 nothing_referred text all (Structure at from to ∷ marks) none = nothing_referred text all marks none
 nothing_referred text all (Line at from to ∷ marks) none = nothing_referred text all marks none
-nothing_referred text all (Reference at w line from to ∷ marks) none = absurd none
+nothing_referred text all (Reference at w from to ∷ marks) none = absurd none
 
 no_reference_more : (marks others : List Mark) → NoReference marks → NoReference others → NoReference (marks ++ others)
 no_reference_more [] others none more = more
 no_reference_more (Structure at from to ∷ marks) others none more = no_reference_more marks others none more
 no_reference_more (Line at from to ∷ marks) others none more = no_reference_more marks others none more
-no_reference_more (Reference at w line from to ∷ marks) others none more = absurd none
+no_reference_more (Reference at w from to ∷ marks) others none more = absurd none
 
 -- what parts with these bytes give after a table in the making
 record Given (outcome : Result Drafted Fault) (cells : List Cell) (bytes : List ℕ) : Type 0 where
@@ -110,16 +117,16 @@ record Kept (next d : Drafted) : Type 0 where
   same : next.cells ≡ d.cells
   none : NoReference d.marks → NoReference next.marks
 
-found_kept : (found : Option (ℕ × Kind)) (d : Drafted) → Kept (line_found found d) d
-found_kept (Some found) d = record { same = refl; none = λ none. none }
-found_kept None d = record { same = refl; none = λ none. none }
+found_kept : (found : Option (ℕ × Entry)) (doubt : Option Fault) (d : Drafted) → Kept (line_found found doubt d) d
+found_kept (Some found) doubt d = record { same = refl; none = λ none. none }
+found_kept None doubt d = record { same = refl; none = λ none. none }
 
 then_kept : (a b c : Drafted) → Kept a b → Kept b c → Kept a c
 then_kept a b c one two = record { same = one.same ∙ two.same; none = λ none. one.none (two.none none) }
 
 line_kept : (s : Source) (from to : ℕ) (d : Drafted) → Kept (with_line s from to d) d
 line_kept s from to d =
-    then_kept _ (record d { marks = d.marks ++ Line (length d.cells) from to ∷ [] }) d (found_kept _ _)
+    then_kept _ (opened from to (closed d)) d (found_kept _ _ _)
     (record { same = refl; none = λ none. no_reference_more d.marks (Line (length d.cells) from to ∷ []) none tt })
 
 heading_chosen : (b : Bool) (one two d : Drafted) → Kept one d → Kept two d → Kept (cond b one two) d
@@ -157,42 +164,158 @@ given s (items.Name from to ∷ parts) d bytes is none =
     let kept = line_kept s from to d in
     let rest = given s parts (with_line s from to d) bytes is (kept.none none) in
     record { next = rest.next; is = rest.is; same = rest.same ∙ ap (λ c. c ++ known_cells bytes) kept.same; none = rest.none }
-given s (items.Value line from to ∷ parts) d [] is none = absurd cc
-given s (items.Value line from to ∷ parts) d (b ∷ bytes) is none = absurd cc
+given s (items.Value from to ∷ parts) d [] is none = absurd cc
+given s (items.Value from to ∷ parts) d (b ∷ bytes) is none = absurd cc
+
+-- ---- texts whose bytes are all known
+
+any_known : (w : ℕ) (bytes : List ℕ) → any_left w (known_cells bytes) ≡ false
+any_known zero bytes = refl
+any_known (suc w) [] = refl
+any_known (suc w) (b ∷ bytes) = any_known w bytes
+
+-- no field leaves out a byte
+none_out : (w k : ℕ) (bytes : List ℕ) → any_left w (drop k (known_cells bytes)) ≡ false
+none_out w k bytes = ap (any_left w) (drop_known k bytes) ∙ any_known w (drop k bytes)
+
+unless_left : (a b : Bool) (wrong : Fault) → a ≡ false → cond (a && b) (Some wrong) None ≡ None
+unless_left true b wrong is = absurd cc
+unless_left false b wrong is = refl
+
+structure_whole : (place : Place) (bytes : List ℕ) (at size from to : ℕ) (form : Option StructureForm)
+    → short_structure place (known_cells bytes) at size from to form ≡ None
+structure_whole place bytes at size from to None = refl
+structure_whole place bytes at size from to (Some form) =
+    unless_left (any_left (place_width place) (drop (place_offset place) (drop at (known_cells bytes)))) _ _
+    (ap (λ cells. any_left (place_width place) (drop (place_offset place) cells)) (drop_known at bytes)
+    ∙ none_out (place_width place) (place_offset place) (drop at bytes))
+
+structures_whole : (s : Source) (place : Place) (bytes : List ℕ) (marks : List Mark) → short_in s place (known_cells bytes) marks ≡ None
+structures_whole s place bytes [] = refl
+structures_whole s place bytes (Structure at from to ∷ marks) =
+    ap (λ first. first_of first (short_in s place (known_cells bytes) marks)) (structure_whole place bytes at _ from to _)
+    ∙ structures_whole s place bytes marks
+structures_whole s place bytes (Line at from to ∷ marks) = structures_whole s place bytes marks
+structures_whole s place bytes (Reference at w from to ∷ marks) = structures_whole s place bytes marks
+
+all_whole : (shape : Shape) (walk : Option Walk) (s : Source) (d : Drafted) (bytes : List ℕ) → d.cells ≡ known_cells bytes
+    → short shape walk s d ≡ None
+all_whole shape walk s d bytes is =
+    ap (λ cells. first_of (short_table shape s cells (next_start d.marks (length cells))) (short_in s (size_place walk) cells d.marks)) is
+    ∙ ap (λ first. first_of first (short_in s (size_place walk) (known_cells bytes) d.marks))
+    (unless_left (any_left 4 (drop (length_own shape (length (known_cells bytes))).offset (known_cells bytes))) _ _
+    (none_out 4 (length_own shape (length (known_cells bytes))).offset bytes))
+    ∙ structures_whole s (size_place walk) bytes d.marks
+
+-- ---- a text and itself
+
+name_same : (name : List ℕ) → is_same_name name name ≡ true
+name_same [] = refl
+name_same (c ∷ name) = rw (eq-eqb c c refl) (name_same name)
+
+number_same : (number : Option ℕ) → is_same_number number number ≡ true
+number_same (Some n) = eq-eqb n n refl
+number_same None = refl
+
+-- no mark is a reference, and each says the same as itself
+mark_same : (s : Source) (one : Mark) → is_reference one ≡ false → is_same s s one one ≡ true
+mark_same s (Structure at from to) plain =
+    rw (eq-eqb at at refl, number_same (heading_number s.form.structures.now (part_at from to s.text))) refl
+mark_same s (Line at from to) plain = rw (eq-eqb at at refl, name_same (name_in s from to)) refl
+mark_same s (Reference at w from to) plain = absurd cc
+
+not_passed : (a b c : Bool) (x y : List Mark) → a ≡ false → b ≡ true → cond (a || (not b && c)) x y ≡ y
+not_passed true b c x y plain same = absurd cc
+not_passed false true c x y plain same = refl
+not_passed false false c x y plain same = absurd cc
+
+second_chosen : (a b : Bool) (x y z : Option Fault) → a ≡ false → b ≡ true → cond a x (cond b y z) ≡ y
+second_chosen true b x y z plain same = absurd cc
+second_chosen false true x y z plain same = refl
+second_chosen false false x y z plain same = absurd cc
+
+-- a line that stands in both
+one_passed : (s : Source) (size covered : ℕ) (one : Mark) (marks : List Mark) → is_reference one ≡ false
+    → differ s s size covered (one ∷ marks) (one ∷ marks) ≡ differ s s size (cover s one (next_line marks size) covered) marks marks
+one_passed s size covered one marks plain =
+    let end = next_line marks size in
+    let next = cover s one end covered in
+    let same = mark_same s one plain in
+    ap (λ rest. cond (is_reference one) (differ s s size covered marks (one ∷ marks))
+    (cond (begins_same s s one rest) (differ s s size next marks (drop 1 rest))
+    (cond (has_no_name s one || is_empty s one end) (differ s s size next marks rest)
+    (Some (wanted_for s one rest size)))))
+    (not_passed (is_reference one) (is_same s s one one) (nat_lt (mark_at one) covered) (past s s one covered marks) (one ∷ marks) plain same)
+    ∙ second_chosen (is_reference one) (is_same s s one one) _ _ _ plain same
+
+no_difference : (s : Source) (size covered : ℕ) (marks : List Mark) → NoReference marks → differ s s size covered marks marks ≡ None
+no_difference s size covered [] none = refl
+no_difference s size covered (Structure at from to ∷ marks) none =
+    one_passed s size covered (Structure at from to) marks refl
+    ∙ no_difference s size (cover s (Structure at from to) (next_line marks size) covered) marks none
+no_difference s size covered (Line at from to ∷ marks) none =
+    one_passed s size covered (Line at from to) marks refl
+    ∙ no_difference s size (cover s (Line at from to) (next_line marks size) covered) marks none
+no_difference s size covered (Reference at w from to ∷ marks) none = absurd none
 
 -- ---- whole texts
-
-finished_known : (shape : Shape) (walk : Option Walk) (s : Source) (d : Drafted) (bytes : List ℕ) → d.cells ≡ known_cells bytes
-    → NoReference d.marks → finished shape walk s d ≡ Ok (made_of shape walk d bytes)
-finished_known shape walk s d bytes is none =
-    let owns = sizes_own shape walk d ++ table_own s d.cells d.marks in
-    ap (λ found. and_then (and_then found (λ references. Ok (references ++ owns))) (λ all. and_then (completed shape all d.cells) (λ bytes. Ok (made_of shape walk d bytes))))
-    (nothing_referred s.text.now d.marks d.marks none)
-    ∙ ap (λ done. and_then done (λ bytes. Ok (made_of shape walk d bytes)))
-    (ap (completed shape owns) is ∙ completed_known shape owns bytes)
-
-made_known : (shape : Shape) (walk : Option Walk) (s : Source) (bytes : List ℕ) → HasBytes s.text.now bytes → IsMadeInto shape walk s bytes
-made_known shape walk s bytes has =
-    let all = given s has.parts nothing_yet bytes has.cells tt in
-    record {
-      table = made_of shape walk all.next bytes;
-      is =
-          ap (λ read. and_then read (λ parts. made shape walk s parts)) has.read
-          ∙ ap (λ taken. and_then taken (λ d. finished shape walk s d)) all.is
-          ∙ finished_known shape walk s all.next bytes all.same all.none;
-      same = refl;
-    }
 
 pub tables_read : TablesAreRead
 tables_read form walk bytes are small =
     let means = tables_mean form walk bytes are small in
-    let text = table_text form walk bytes in
     record {
-      parts = means.parts 1 [];
-      read = ap (read 1 Start []) (sym (append-nil text)) ∙ means.reads 1 [] ∙ ap Ok (append-nil (means.parts 1 []));
-      cells = means.cells 1 [];
+      parts = means.parts [];
+      read = ap (read Start []) (sym (append-nil (table_text form walk bytes))) ∙ means.reads [] ∙ ap Ok (append-nil (means.parts []));
+      cells = means.cells [];
     }
 
 pub tables_made : TablesAreMade
-tables_made form walk other shape s bytes are small is =
-    made_known shape other s bytes (subst (λ text. HasBytes text bytes) (sym is) (tables_read form walk bytes are small))
+tables_made form walk kind shape bytes are small = record { table = made_of shape owns bytes; is = is; same = refl }
+  where
+    s : Source
+    s = record { form = form; kind = kind; text = table_text form walk bytes }
+
+    has : HasBytes s.text bytes
+    has = tables_read form walk bytes are small
+
+    all : Given (all_taken s has.parts nothing_yet) [] bytes
+    all = given s has.parts nothing_yet bytes has.cells tt
+
+    d : Drafted
+    d = all.next
+
+    owns : List Own
+    owns = sizes_own shape walk d ++ table_own s d.cells d.marks
+
+    outcome : Option Fault → Result Table Fault
+    outcome wrong = unless wrong (Ok (made_of shape owns bytes))
+
+    same_lines : difference walk s d bytes ≡ Ok None
+    same_lines =
+        ap (λ read. and_then read (λ parts. and_then (all_taken s parts nothing_yet) (λ other. Ok (differ s s (length bytes) 0 d.marks other.marks))))
+        has.read
+        ∙ ap (λ taken. and_then taken (λ other. Ok (differ s s (length bytes) 0 d.marks other.marks))) all.is
+        ∙ ap Ok (no_difference s (length bytes) 0 d.marks all.none)
+
+    rest : List Own → Result Table Fault
+    rest found =
+        and_then (completed shape (found ++ none_own walk d.marks (length d.cells)) d.cells) (λ bytes.
+        and_then (difference walk s d bytes) (λ wrong. unless wrong (Ok (made_of shape found bytes))))
+
+    completes : completed shape (owns ++ none_own walk d.marks (length d.cells)) d.cells ≡ Ok bytes
+    completes = ap (completed shape (owns ++ none_own walk d.marks (length d.cells))) all.same
+        ∙ completed_known shape (owns ++ none_own walk d.marks (length d.cells)) bytes
+
+    finishes : finished shape walk s d ≡ Ok (made_of shape owns bytes)
+    finishes =
+        ap (λ found. and_then (and_then found (λ references. Ok (references ++ owns))) (λ found. unless (short shape walk s d) (rest found)))
+        (nothing_referred s.text d.marks d.marks all.none)
+        ∙ ap (λ wrong. unless wrong (rest owns)) (all_whole shape walk s d bytes all.same)
+        ∙ ap (λ done. and_then done (λ bytes. and_then (difference walk s d bytes) (λ wrong. unless wrong (Ok (made_of shape owns bytes))))) completes
+        ∙ ap (λ found. and_then found outcome) same_lines
+
+    is : made_text shape walk s ≡ Ok (made_of shape owns bytes)
+    is =
+        ap (λ read. and_then read (λ parts. made shape walk s parts)) has.read
+        ∙ ap (λ taken. and_then taken (λ d. or_doubt (closed d).doubt (finished shape walk s d))) all.is
+        ∙ ap (or_doubt (closed d).doubt) finishes

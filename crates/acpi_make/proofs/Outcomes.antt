@@ -1,7 +1,7 @@
 -- Outcomes with bytes before them.
 use Rattle.std.proofs.Common.{◌≡◌, List, [], ◌++◌, Result, Ok, Err, refl, ap, sym, append_assoc}
 use Rattle.acpi_make.specs.Gives.{with_front}
-use Rattle.acpi_make.specs.declared.fault.Fault.{Fault}
+use Rattle.acpi_make.specs.Fault.{Fault}
 
 pub front_none : {A : Type 0} → (outcome : Result (List A) Fault) → with_front [] outcome ≡ outcome
 front_none (Ok items) = refl

@@ -21,36 +21,28 @@ cells_append [] b = refl
 cells_append (items.Cell cell ∷ a) b = ap (λ l. cell ∷ l) (cells_append a b)
 cells_append (items.Heading from to ∷ a) b = cells_append a b
 cells_append (items.Name from to ∷ a) b = cells_append a b
-cells_append (items.Value line from to ∷ a) b = ap (λ l. Left line ∷ l) (cells_append a b)
+cells_append (items.Value from to ∷ a) b = ap (λ l. Left from ∷ l) (cells_append a b)
 
 means_append : (a b x y : List ℕ) → Means a x → Means b y → Means (a ++ b) (x ++ y)
 means_append a b x y one two = record {
-  count = one.count + two.count;
-  parts = λ k more. one.parts k (b ++ more) ++ two.parts (k + one.count) more;
-  cells = λ k more.
-      cells_append (one.parts k (b ++ more)) (two.parts (k + one.count) more)
-      ∙ ap (λ l. l ++ cells_of (two.parts (k + one.count) more)) (one.cells k (b ++ more))
-      ∙ ap (λ l. known_cells x ++ l) (two.cells (k + one.count) more)
+  parts = λ more. one.parts (b ++ more) ++ two.parts more;
+  cells = λ more.
+      cells_append (one.parts (b ++ more)) (two.parts more)
+      ∙ ap (λ l. l ++ cells_of (two.parts more)) (one.cells (b ++ more))
+      ∙ ap (λ l. known_cells x ++ l) (two.cells more)
       ∙ sym (map-append Byte x y);
-  reads = λ k more.
-      let rest = read (k + one.count + two.count) Start [] more in
-      let first = one.parts k (b ++ more) in
-      let second = two.parts (k + one.count) more in
-      ap (read k Start []) (append_assoc a b more)
-      ∙ one.reads k (b ++ more)
-      ∙ ap (with_front first) (two.reads (k + one.count) more)
-      ∙ front_both first second rest
-      ∙ ap (λ n. with_front (first ++ second) (read n Start [] more))
-      (let e : k + one.count + two.count ≡ k + (one.count + two.count) = omega arith in e);
+  reads = λ more.
+      ap (read Start []) (append_assoc a b more)
+      ∙ one.reads (b ++ more)
+      ∙ ap (with_front (one.parts (b ++ more))) (two.reads more)
+      ∙ front_both (one.parts (b ++ more)) (two.parts more) (read Start [] more);
 }
 
 means_nothing : Means [] []
 means_nothing = record {
-  count = 0;
-  parts = λ k more. [];
-  cells = λ k more. refl;
-  reads = λ k more.
-      ap (λ n. read n Start [] more) (let e : k ≡ k + 0 = omega arith in e) ∙ sym (front_none (read (k + 0) Start [] more));
+  parts = λ more. [];
+  cells = λ more. refl;
+  reads = λ more. sym (front_none (read Start [] more));
 }
 
 means_composes : Composes Means

@@ -1,6 +1,6 @@
 -- Tables that are made without notes are correct.
 use Rattle.std.proofs.Common.{◌≡◌, ℕ, zero, suc, ◌+◌, ◌/◌, ◌%◌, ◌<◌, ◌≤◌, ◌==◌, nat_lt, nat_le, ◌&&◌, not, Bool, true, false, cond}
-use Rattle.std.proofs.Common.{List, [], ◌∷◌, ◌++◌, length, take, drop, Option, Result, Ok, Err, refl, sym, ap, subst, ◌∙◌, arith, length-append}
+use Rattle.std.proofs.Common.{List, [], ◌∷◌, ◌++◌, length, take, drop, Option, Some, None, Result, Ok, Err, refl, sym, ap, subst, ◌∙◌, arith, length-append}
 use Rattle.std.specs.Prelude.{sum}
 use Rattle.std.proofs.Math.Seq.{take-length}
 use Rattle.std.proofs.lemmas.Bool.{lt-ltb, le-leb, eqb-true, leb-true, and_parts}
@@ -8,19 +8,21 @@ use Rattle.std.proofs.lemmas.List.{take-append-drop, drop-drop, length-drop, len
 use Rattle.acpi_base.proofs.Bytes.{length_le}
 use Rattle.acpi_base.specs.Bytes.{le, carried, field_at}
 use Rattle.acpi_base.specs.declared.walk.Walk.{Walk}
-use Rattle.acpi_make.specs.Complete.{left_front, written, filled, all_filled, summed, known, completed}
-use Rattle.acpi_make.specs.Draft.{Drafted, nothing_yet, all_taken}
+use Rattle.acpi_make.specs.Complete.{are_left, written, filled, all_filled, summed, known, completed}
+use Rattle.acpi_make.specs.Compare.{difference}
+use Rattle.acpi_make.specs.Draft.{Drafted, nothing_yet, closed, all_taken}
 use Rattle.acpi_make.specs.Fits.{fits}
 use Rattle.acpi_make.specs.Gives.{with_front, and_then}
 use Rattle.acpi_make.specs.Item.{known_cells}
 use Rattle.acpi_make.specs.Laws.{TablesAreTrue}
-use Rattle.acpi_make.specs.Made.{Table, sizes_own, made_of, numbers_own, finished}
+use Rattle.acpi_make.specs.Made.{Table, sizes_own, made_of, numbers_own, unless, finished, or_doubt}
 use Rattle.acpi_make.specs.Notes.{begins_with, is_untrue, untrue, untrue_sum, notes}
-use Rattle.acpi_make.specs.Own.{own}
+use Rattle.acpi_make.specs.Own.{own, none_own, table_own, references_own}
+use Rattle.acpi_make.specs.Short.{short}
 use Rattle.acpi_make.specs.declared.complete.Shape.{Shape}
 use Rattle.acpi_make.specs.declared.complete.Shape.TheVariants as shapes
-use Rattle.acpi_make.specs.declared.draft.Source.{Source}
-use Rattle.acpi_make.specs.declared.fault.Fault.{Fault}
+use Rattle.acpi_make.specs.Source.{Source}
+use Rattle.acpi_make.specs.Fault.{Fault}
 use Rattle.acpi_make.specs.declared.item.Cell.{Cell}
 use Rattle.acpi_make.specs.declared.item.Cell.TheVariants.{Byte, Left}
 use Rattle.acpi_make.specs.declared.own.Own.{Own}
@@ -48,15 +50,16 @@ front_is b (Err fault) bytes is = absurd cc
 
 length_known : (cells : List Cell) (bytes : List ℕ) → known cells ≡ Ok bytes → length bytes ≡ length cells
 length_known [] bytes is = let e : [] ≡ bytes = cc in ap length (sym e)
-length_known (Left line ∷ cells) bytes is = absurd cc
+length_known (Left place ∷ cells) bytes is = absurd cc
 length_known (Byte b ∷ cells) bytes is =
     let front = front_is b (known cells) bytes is in
     ap length (sym front.whole) ∙ ap suc (length_known cells front.rest front.is)
 
-left_within : (cells : List Cell) → left_front cells ≤ length cells
-left_within [] = omega arith
-left_within (Left line ∷ cells) = omega (arith, left_within cells)
-left_within (Byte b ∷ cells) = omega arith
+left_within : (w : ℕ) (cells : List Cell) → are_left w cells ≡ true → w ≤ length cells
+left_within zero cells are = omega arith
+left_within (suc w) [] are = absurd cc
+left_within (suc w) (Left place ∷ cells) are = omega (arith, left_within w cells are)
+left_within (suc w) (Byte b ∷ cells) are = absurd cc
 
 length_written : (offset w n : ℕ) (cells : List Cell) → w ≤ length (drop offset cells) → length (written offset w n cells) ≡ length cells
 length_written offset w n cells fits =
@@ -75,9 +78,8 @@ length_chosen false b c x y same = refl
 
 length_filled : (offset w n : ℕ) (cells : List Cell) → length (filled offset w n cells) ≡ length cells
 length_filled offset w n cells =
-    let left = left_front (drop offset cells) in
-    length_chosen (nat_lt offset (length cells)) (nat_le w left) (fits w n) _ _
-    (λ is. length_written offset w n cells (let e = leb-true w left is in omega (arith, e, left_within (drop offset cells))))
+    length_chosen (nat_lt offset (length cells)) (are_left w (drop offset cells)) (fits w n) _ _
+    (λ is. length_written offset w n cells (left_within w (drop offset cells) is))
 
 length_all : (owns : List Own) (cells : List Cell) → length (all_filled owns cells) ≡ length cells
 length_all [] cells = refl
@@ -94,19 +96,37 @@ length_completed : (shape : Shape) (owns : List Own) (cells : List Cell) (bytes 
 length_completed shape owns cells bytes is =
     length_known (summed shape (all_filled owns cells)) bytes is ∙ length_summed shape (all_filled owns cells) ∙ length_all owns cells
 
--- a table that is made has as many bytes as its text, and notes on them
-pub record IsFinished (shape : Shape) (walk : Option Walk) (d : Drafted) (table : Table) : Type 0 where
+-- what comes of an outcome that nothing is wrong with
+pub unless_is : {A : Type 0} (wrong : Option Fault) (outcome : Result A Fault) (value : A) → unless wrong outcome ≡ Ok value → outcome ≡ Ok value
+unless_is None outcome value is = is
+unless_is (Some wrong) outcome value is = absurd cc
+
+pub doubt_is : {A : Type 0} (doubt : Option Fault) (outcome : Result A Fault) (value : A) → or_doubt doubt outcome ≡ Ok value → outcome ≡ Ok value
+doubt_is doubt (Ok made) value is = is
+doubt_is doubt (Err wrong) value is = absurd cc
+
+-- a table that is made has as many bytes as its text, and notes on its own numbers
+pub record IsFinished (shape : Shape) (walk : Option Walk) (s : Source) (d : Drafted) (table : Table) : Type 0 where
+  pub references : List Own
   pub size : length table.bytes ≡ length d.cells
-  pub noted : table.untrue ≡ notes shape (sizes_own shape walk d) table.bytes
+  pub noted : table.untrue ≡ notes shape (references ++ (sizes_own shape walk d ++ table_own s d.cells d.marks)) table.bytes
 
 pub finished_is : (shape : Shape) (walk : Option Walk) (s : Source) (d : Drafted) (table : Table) → finished shape walk s d ≡ Ok table
-    → IsFinished shape walk d table
+    → IsFinished shape walk s d table
 finished_is shape walk s d table is =
     let one = then_is (numbers_own shape walk s d) _ table is in
-    let two = then_is (completed shape one.middle d.cells) _ table one.follows in
-    let same : made_of shape walk d two.middle ≡ table = cc in
-    subst (λ made. IsFinished shape walk d made) same
-    (record { size = length_completed shape one.middle d.cells two.middle two.is; noted = refl })
+    let referred = then_is (references_own s.text d.marks d.marks) _ one.middle one.is in
+    let owns : referred.middle ++ (sizes_own shape walk d ++ table_own s d.cells d.marks) ≡ one.middle = cc in
+    let whole = unless_is (short shape walk s d) _ table one.follows in
+    let two = then_is (completed shape (one.middle ++ none_own walk d.marks (length d.cells)) d.cells) _ table whole in
+    let three = then_is (difference walk s d two.middle) _ table two.follows in
+    let same : made_of shape one.middle two.middle ≡ table = let e = unless_is three.middle _ table three.follows in cc in
+    subst (λ made. IsFinished shape walk s d made) same
+    (record {
+      references = referred.middle;
+      size = length_completed shape (one.middle ++ none_own walk d.marks (length d.cells)) d.cells two.middle two.is;
+      noted = ap (λ owns. notes shape owns two.middle) (sym owns);
+    })
 
 -- ---- numbers without a note
 
@@ -174,18 +194,20 @@ pub record IsQuiet (walk : Option Walk) (d : Drafted) (bytes : List ℕ) : Type 
   pub hold : AllHold bytes (sizes_own shapes.Table walk d)
   pub sums : untrue_sum 9 (length bytes) bytes ≡ []
 
-pub quiet_is : (walk : Option Walk) (d : Drafted) (table : Table) → IsFinished shapes.Table walk d table → table.untrue ≡ []
+pub quiet_is : (walk : Option Walk) (s : Source) (d : Drafted) (table : Table) → IsFinished shapes.Table walk s d table → table.untrue ≡ []
     → IsQuiet walk d table.bytes
-quiet_is walk d table is none =
+quiet_is walk s d table is none =
     let sizes = sizes_own shapes.Table walk d in
-    let both = none_in (untrue sizes table.bytes) (untrue_sum 9 (length table.bytes) table.bytes) (sym is.noted ∙ none) in
-    record { hold = all_hold sizes table.bytes both.0; sums = both.1 }
+    let owns = is.references ++ (sizes ++ table_own s d.cells d.marks) in
+    let both = none_in (untrue owns table.bytes) (untrue_sum 9 (length table.bytes) table.bytes) (sym is.noted ∙ none) in
+    let rest = hold_both table.bytes is.references (sizes ++ table_own s d.cells d.marks) (all_hold owns table.bytes both.0) in
+    record { hold = (hold_both table.bytes sizes (table_own s d.cells d.marks) rest.1).0; sums = both.1 }
 
 pub tables_true : TablesAreTrue
 tables_true walk s parts table is none long =
     let one = then_is (all_taken s parts nothing_yet) _ table is in
-    let done = finished_is shapes.Table walk s one.middle table one.follows in
-    let quiet = quiet_is walk one.middle table done none in
+    let done = finished_is shapes.Table walk s one.middle table (doubt_is (closed one.middle).doubt _ table one.follows) in
+    let quiet = quiet_is walk s one.middle table done none in
     record {
       header = long;
       tells =

@@ -1,5 +1,5 @@
 -- What a text leaves to be worked out.
-use Rattle.std.specs.Prelude.{ℕ, ◌+◌, nat_lt, nat_le, ◌&&◌, if◌then◌else◌}
+use Rattle.std.specs.Prelude.{ℕ, zero, suc, ◌+◌, ◌-◌, nat_lt, ◌&&◌, Bool, true, false, if◌then◌else◌}
 use Rattle.std.specs.Prelude.{List, [], ◌∷◌, ◌++◌, length, take, drop, Result, Ok, Err}
 use Rattle.acpi_base.specs.Bytes.{le, complement}
 use Rattle.acpi_make.specs.Fits.{fits}
@@ -8,7 +8,7 @@ use Rattle.acpi_make.specs.Item.{known_cells}
 use Rattle.acpi_make.specs.Own.{own}
 use Rattle.acpi_make.specs.declared.complete.Shape.{Shape}
 use Rattle.acpi_make.specs.declared.complete.Shape.TheVariants.{Table, Pointer, Control}
-use Rattle.acpi_make.specs.declared.fault.Fault.{Fault}
+use Rattle.acpi_make.specs.Fault.{Fault, fault}
 use Rattle.acpi_make.specs.declared.fault.Wanted.TheVariants as wants
 use Rattle.acpi_make.specs.declared.item.Cell.{Cell}
 use Rattle.acpi_make.specs.declared.item.Cell.TheVariants.{Byte, Left}
@@ -16,11 +16,12 @@ use Rattle.acpi_make.specs.declared.own.Own.{Own}
 
 -- ---- fields
 
--- how many bytes stand before the first that is known
-abbrev pub left_front : List Cell → ℕ
-left_front [] = 0
-left_front (Left line ∷ cells) = 1 + left_front cells
-left_front (Byte b ∷ cells) = 0
+-- whether there are w bytes, and none of them is known
+abbrev pub are_left : ℕ → List Cell → Bool
+are_left zero cells = true
+are_left (suc w) [] = false
+are_left (suc w) (Left place ∷ cells) = are_left w cells
+are_left (suc w) (Byte b ∷ cells) = false
 
 -- a number over the w bytes at an offset
 abbrev pub written : ℕ → ℕ → ℕ → List Cell → List Cell
@@ -29,7 +30,7 @@ written offset w n cells = take offset cells ++ (known_cells (le w n) ++ drop (o
 -- a number in a field, if all bytes of the field are there, none of them is known, and the number fits
 abbrev pub filled : ℕ → ℕ → ℕ → List Cell → List Cell
 filled offset w n cells =
-    if nat_lt offset (length cells) && nat_le w (left_front (drop offset cells)) && fits w n
+    if nat_lt offset (length cells) && are_left w (drop offset cells) && fits w n
     then written offset w n cells
     else cells
 
@@ -42,7 +43,7 @@ all_filled (one ∷ owns) cells = all_filled owns (filled one.offset one.width o
 -- the sum of the bytes that are known
 abbrev pub known_sum : List Cell → ℕ
 known_sum [] = 0
-known_sum (Left line ∷ cells) = known_sum cells
+known_sum (Left place ∷ cells) = known_sum cells
 known_sum (Byte b ∷ cells) = b + known_sum cells
 
 -- the byte at an offset that makes the sum of the first n bytes zero, if it isn't known
@@ -63,11 +64,11 @@ length_own Control total = own 4 4 total
 
 -- ---- all bytes
 
--- all bytes, or the line that leaves out the first that isn't known
+-- all bytes, or the place of the first that isn't known
 abbrev pub known : List Cell → Result (List ℕ) Fault
 known [] = Ok []
 known (Byte b ∷ cells) = with_front (b ∷ []) (known cells)
-known (Left line ∷ cells) = Err (record { line = line; wanted = wants.Bytes })
+known (Left place ∷ cells) = Err (fault place (place - 2) wants.Bytes)
 
 -- the bytes with these numbers and the checksums worked out
 abbrev pub completed : Shape → List Own → List Cell → Result (List ℕ) Fault

@@ -1,25 +1,26 @@
--- A table in the making.
-use Rattle.std.specs.Prelude.{ℕ, ◌==◌, Bool, true, false, if◌then◌else◌}
-use Rattle.std.specs.Prelude.{List, [], ◌∷◌, ◌++◌, length, drop, replicate, Option, Some, None, Result, Ok, Err}
+-- A table in the making: the bytes of a text's parts, and marks where structures, lines and references begin.
+use Rattle.std.specs.Prelude.{ℕ, ◌-◌, ◌==◌, not, ◌&&◌, ◌||◌, Bool, true, false, if◌then◌else◌}
+use Rattle.std.specs.Prelude.{List, [], ◌∷◌, ◌++◌, length, drop, replicate, codes, Option, Some, None, Result, Ok, Err}
 use Rattle.acpi_base.specs.Bytes.{le}
 use Rattle.acpi_text.specs.Structure.{form_parts, form_inner}
 use Rattle.acpi_text.specs.declared.form.Inner.{Inner}
 use Rattle.acpi_text.specs.declared.form.Inner.TheVariants.{Nothing}
 use Rattle.acpi_text.specs.declared.form.Part.{Part}
 use Rattle.acpi_text.specs.declared.form.StructureForm.{StructureForm}
-use Rattle.acpi_make.specs.Entry.{Kind, kind_of, parts_entries, inner_entries, next_entry}
+use Rattle.acpi_make.specs.Entry.{Entry, entry_of, parts_entries, inner_entries, is_line_of, find_entry, next_entry, next_number}
+use Rattle.acpi_make.specs.Fault.{Fault, fault_of, fault, next, wide}
 use Rattle.acpi_make.specs.Fits.{fits}
 use Rattle.acpi_make.specs.Gives.{and_then}
 use Rattle.acpi_make.specs.Heading.{structure_form}
 use Rattle.acpi_make.specs.Item.{known_cells}
-use Rattle.acpi_make.specs.Text.{part_at, after_offset}
+use Rattle.acpi_make.specs.Source.{Source}
+use Rattle.acpi_make.specs.Text.{part_at, after_offset, are_white}
 use Rattle.acpi_make.specs.Value.{value_of}
 use Rattle.acpi_make.specs.declared.draft.Draft.{Draft}
-use Rattle.acpi_make.specs.declared.draft.Source.{Source}
 use Rattle.acpi_make.specs.declared.draft.Mark.{Mark}
 use Rattle.acpi_make.specs.declared.draft.Mark.TheVariants.{Structure, Line, Reference}
 use Rattle.acpi_make.specs.declared.entry.Field.{Field}
-use Rattle.acpi_make.specs.declared.fault.Fault.{Fault}
+use Rattle.acpi_make.specs.declared.fault.Fault as declared
 use Rattle.acpi_make.specs.declared.fault.Wanted.{Wanted}
 use Rattle.acpi_make.specs.declared.fault.Wanted.TheVariants as wants
 use Rattle.acpi_make.specs.declared.item.Cell.{Cell}
@@ -27,18 +28,25 @@ use Rattle.acpi_make.specs.declared.item.Cell.TheVariants.{Left}
 use Rattle.acpi_make.specs.declared.item.Item.{Item}
 use Rattle.acpi_make.specs.declared.item.Item.TheVariants as items
 
--- The bytes so far, the marks in them, and where the text is: in a structure, or in the table's fields before structures; the
--- offset at which that begins, the places of its heading, the number of its last field with a name, and the kind of the field whose
--- line it is.
+-- A table in the making.
 pub record Drafted : Type 0 where
+  -- the bytes so far, and the marks in them
   pub cells : List Cell
   pub marks : List Mark
+  -- whether the text is in a structure, the offset at which this begins, and the range of its heading
   pub inside : Bool
   pub start : ℕ
   pub from : ℕ
   pub to : ℕ
+  -- the number of the field after the last that had a name
   pub number : ℕ
-  pub kind : Option Kind
+  -- the field of the last line with a name, if the form has it, the offset at which this line begins, and the range of its name
+  pub field : Option Entry
+  pub line_at : ℕ
+  pub line_from : ℕ
+  pub line_to : ℕ
+  -- the first thing that isn't as the form has it
+  pub doubt : Option Fault
 
 abbrev pub nothing_yet : Drafted
 nothing_yet = record {
@@ -49,13 +57,17 @@ nothing_yet = record {
   from = 0;
   to = 0;
   number = 0;
-  kind = None;
+  field = None;
+  line_at = 0;
+  line_from = 0;
+  line_to = 0;
+  doubt = None;
 }
 
--- ---- the parts of what the text is in
+-- ---- the form of what the text is in
 
 abbrev pub here : Source → Drafted → Option StructureForm
-here s d = structure_form s.kind s.form.structures.now (part_at d.from d.to s.text.now) (drop d.start d.cells)
+here s d = structure_form s.kind s.form.structures.now (part_at d.from d.to s.text) (drop d.start d.cells)
 
 abbrev pub parts_here : Source → Drafted → List Part
 parts_here s d = if d.inside then form_parts (here s d) else s.form.parts.now
@@ -63,31 +75,87 @@ parts_here s d = if d.inside then form_parts (here s d) else s.form.parts.now
 abbrev pub inner_here : Source → Drafted → Inner
 inner_here s d = if d.inside then form_inner (here s d) else Nothing
 
+abbrev pub entries_here : Source → Drafted → List Entry
+entries_here s d = parts_entries (parts_here s d) ++ inner_entries (inner_here s d)
+
+abbrev pub is_none : Option StructureForm → Bool
+is_none None = true
+is_none (Some form) = false
+
+-- whether the text is in a structure that the table doesn't have
+abbrev pub is_strange : Source → Drafted → Bool
+is_strange s d = d.inside && is_none (here s d)
+
+-- ---- doubts
+
+-- the first doubt stays
+abbrev pub first_of : Option Fault → Option Fault → Option Fault
+first_of (Some doubt) other = Some doubt
+first_of None other = other
+
+abbrev pub doubted : Option Fault → Drafted → Drafted
+doubted other d = record d { doubt = first_of d.doubt other }
+
+-- a line whose field has another number of bytes
+abbrev pub size_doubt : Option Entry → ℕ → ℕ → ℕ → Option Fault
+size_doubt None size from to = None
+size_doubt (Some one) size from to =
+    if one.size == 0 || size == one.size then None else Some (wide from to one.name one.size size)
+
+-- a line ended
+abbrev pub closed : Drafted → Drafted
+closed d = doubted (size_doubt d.field (length d.cells - d.line_at) d.line_from d.line_to) d
+
+-- whether a line of this name has bytes without a name
+abbrev pub is_nameless : List ℕ → Bool
+is_nameless name = are_white name || is_line_of (codes "Bytes") name
+
+-- the field that has to stand where a line has another name
+abbrev pub unlike : ℕ → ℕ → Option (ℕ × Entry) → Fault
+unlike from to (Some found) = next from to found.1.name found.1.size
+unlike from to None = next from to [] 0
+
+-- a line of which the form has no field
+abbrev pub name_doubt : Source → Drafted → ℕ → ℕ → List ℕ → Option Fault
+name_doubt s d from to name =
+    if is_nameless name then None
+    else (if is_line_of (codes "Signature") name then Some (fault from to wants.OneTable)
+    else (if is_strange s d then Some (fault d.from d.to wants.Structure)
+    else Some (unlike from to (find_entry 0 d.number [] (entries_here s d)))))
+
 -- ---- names
 
--- the line of a field
-abbrev pub line_found : Option (ℕ × Kind) → Drafted → Drafted
-line_found (Some found) d = record d { number = found.0; kind = Some found.1 }
-line_found None d = record d { kind = None }
+-- the line of a field, or of none
+abbrev pub line_found : Option (ℕ × Entry) → Option Fault → Drafted → Drafted
+line_found (Some found) doubt d = record d { number = next_number found.0; field = Some found.1 }
+line_found None doubt d = record d { field = None; doubt = first_of d.doubt doubt }
+
+-- a line begins
+abbrev pub opened : ℕ → ℕ → Drafted → Drafted
+opened from to d = record d {
+  marks = d.marks ++ Line (length d.cells) from to ∷ [];
+  line_at = length d.cells;
+  line_from = from;
+  line_to = to;
+}
 
 abbrev pub with_line : Source → ℕ → ℕ → Drafted → Drafted
 with_line s from to d =
-    line_found
-    (next_entry d.number (after_offset (part_at from to s.text.now)) (parts_entries (parts_here s d) ++ inner_entries (inner_here s d)))
-    (record d { marks = d.marks ++ Line (length d.cells) from to ∷ [] })
+    let name = after_offset (part_at from to s.text) in
+    line_found (next_entry d.number name (entries_here s d)) (name_doubt s d from to name) (opened from to (closed d))
 
 -- a structure, or the name of a table before its first byte
 abbrev pub with_heading : ℕ → ℕ → Drafted → Drafted
 with_heading from to d =
     if length d.cells == 0 then d
-    else record d {
+    else record (closed d) {
       marks = d.marks ++ Structure (length d.cells) from to ∷ [];
       inside = true;
       start = length d.cells;
       from = from;
       to = to;
       number = 0;
-      kind = None;
+      field = None;
     }
 
 -- ---- values
@@ -95,37 +163,43 @@ with_heading from to d =
 abbrev pub with_cells : List Cell → Drafted → Drafted
 with_cells cells d = record d { cells = d.cells ++ cells }
 
-abbrev pub wants_in : ℕ → Wanted → Result Drafted Fault
-wants_in line wanted = Err (record { line = line; wanted = wanted })
+-- what is wrong with a value, or what was in doubt before
+abbrev pub or_fault : Option Fault → Fault → Fault
+or_fault (Some doubt) wrong = doubt
+or_fault None wrong = wrong
+
+abbrev pub wants_in : ℕ → ℕ → Wanted → Drafted → Result Drafted Fault
+wants_in from to wanted d = Err (or_fault d.doubt (fault from to wanted))
 
 -- a number of w bytes
-abbrev pub with_number : ℕ → ℕ → Wanted → Option ℕ → Drafted → Result Drafted Fault
-with_number line w wanted (Some n) d =
-    if fits w n then Ok (with_cells (known_cells (le w n)) d) else wants_in line wanted
-with_number line w wanted None d = wants_in line wanted
+abbrev pub with_number : ℕ → ℕ → ℕ → Wanted → Option ℕ → Drafted → Result Drafted Fault
+with_number from to w wanted (Some n) d =
+    if fits w n then Ok (with_cells (known_cells (le w n)) d) else wants_in from to wanted d
+with_number from to w wanted None d = wants_in from to wanted d
 
 -- what has to stand in place of a value that isn't one
 abbrev pub wanted_for : List ℕ → Wanted
 wanted_for [] = wants.Name
-wanted_for (c ∷ value) = if c == 35 then wants.Number else wants.Name
+wanted_for (c ∷ value) = if c == 123 then wants.Name else wants.Number
 
 abbrev pub is_reference : List ℕ → Bool
 is_reference [] = false
 is_reference (c ∷ value) = c == 64
 
 -- a reference: bytes that are worked out
-abbrev pub with_reference : ℕ → ℕ → ℕ → ℕ → Drafted → Drafted
-with_reference line w from to d =
+abbrev pub with_reference : ℕ → ℕ → ℕ → Drafted → Drafted
+with_reference w from to d =
     record d {
-      cells = d.cells ++ replicate w (Left line);
-      marks = d.marks ++ Reference (length d.cells) w line from to ∷ [];
+      cells = d.cells ++ replicate w (Left from);
+      marks = d.marks ++ Reference (length d.cells) w from to ∷ [];
     }
 
-abbrev pub with_value_of : Source → ℕ → ℕ → ℕ → Option Kind → Drafted → Result Drafted Fault
-with_value_of s line from to None d = wants_in line wants.Field
-with_value_of s line from to (Some kind) d =
-    if is_reference (part_at from to s.text.now) then Ok (with_reference line kind.width from to d)
-    else with_number line kind.width (wanted_for (part_at from to s.text.now)) (value_of kind.look (part_at from to s.text.now)) d
+abbrev pub with_value_of : Source → ℕ → ℕ → Option Entry → Drafted → Result Drafted Fault
+with_value_of s from to None d = wants_in from to wants.Field d
+with_value_of s from to (Some one) d =
+    if one.width == 0 then wants_in from to wants.Field d
+    else (if is_reference (part_at from to s.text) then Ok (with_reference one.width from to d)
+    else with_number from to one.width (wanted_for (part_at from to s.text)) (value_of one.look (part_at from to s.text)) d)
 
 -- ---- the parts of a text
 
@@ -133,7 +207,7 @@ abbrev pub taken : Source → Item → Drafted → Result Drafted Fault
 taken s (items.Cell cell) d = Ok (with_cells (cell ∷ []) d)
 taken s (items.Heading from to) d = Ok (with_heading from to d)
 taken s (items.Name from to) d = Ok (with_line s from to d)
-taken s (items.Value line from to) d = with_value_of s line from to d.kind d
+taken s (items.Value from to) d = with_value_of s from to d.field d
 
 abbrev pub all_taken : Source → List Item → Drafted → Result Drafted Fault
 all_taken s [] d = Ok d
@@ -141,9 +215,13 @@ all_taken s (item ∷ parts) d = and_then (taken s item d) (λ next. all_taken s
 
 -- ---- what a call does
 
-abbrev pub kind_in : Option Field → Option Kind
-kind_in (Some field) = Some (kind_of field)
-kind_in None = None
+abbrev pub field_in : Option Field → Option Entry
+field_in (Some field) = Some (entry_of field)
+field_in None = None
+
+abbrev pub fault_in : Option declared.Fault → Option Fault
+fault_in (Some wrong) = Some (fault_of wrong)
+fault_in None = None
 
 abbrev pub drafted : Draft → Drafted
 drafted d = record {
@@ -154,5 +232,9 @@ drafted d = record {
   from = d.from;
   to = d.to;
   number = d.number;
-  kind = kind_in d.field;
+  field = field_in d.field;
+  line_at = d.line_at;
+  line_from = d.line_from;
+  line_to = d.line_to;
+  doubt = fault_in d.doubt;
 }

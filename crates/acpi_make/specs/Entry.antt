@@ -1,6 +1,6 @@
 -- The fields that a form names.
-use Rattle.std.specs.Prelude.{ℕ, ◌+◌, ◌^◌, nat_le, nat_lt, ◌&&◌, Bool, false, if◌then◌else◌, List, [], ◌∷◌, codes}
-use Rattle.std.specs.Prelude.{◌≡◌, Option, Some, None}
+use Rattle.std.specs.Prelude.{◌≡◌, ℕ, ◌+◌, ◌^◌, ◌==◌, nat_le, nat_lt, ◌&&◌, ◌||◌, Bool, false, if◌then◌else◌}
+use Rattle.std.specs.Prelude.{List, [], ◌∷◌, ◌++◌, length, codes, Option, Some, None}
 use Rattle.std.specs.List.{flat_map, slice_range}
 use Rattle.acpi_base.specs.Fields.{row_name, row_width}
 use Rattle.acpi_base.specs.Gas.{address_spaces, access_sizes}
@@ -13,26 +13,31 @@ use Rattle.acpi_text.specs.declared.form.Inner.{Inner}
 use Rattle.acpi_text.specs.declared.form.Inner.TheVariants.{Nothing, Structures}
 use Rattle.acpi_text.specs.declared.form.Part.{Part}
 use Rattle.acpi_text.specs.declared.form.Part.TheVariants as parts
-use Rattle.acpi_make.specs.Text.{after, are_spaces}
+use Rattle.acpi_text.specs.declared.form.StructureForm.{StructureForm}
+use Rattle.acpi_text.specs.declared.form.TableForm.{TableForm}
+use Rattle.acpi_make.specs.Text.{after, are_white}
 use Rattle.acpi_make.specs.declared.entry.Field.{Field}
 use Rattle.acpi_make.specs.declared.entry.Search.{Search}
 use Rattle.acpi_make.specs.declared.entry.Search.TheVariants.{Found, Missing}
 
--- a kind of field: its width in bytes, and what its value is
-pub record Kind : Type 0 where
-  pub width : ℕ
-  pub look : Look
-
-abbrev pub kind_of : Field → Kind
-kind_of field = record { width = field.width; look = look_of field.look }
-
--- a field that a form names
+-- A field that a form names: its name, the width of a number in it, how many bytes a line of it has, and what its value is. A name
+-- over fields has no number, and the width 0. A line whose number of bytes depends on other fields has the size 0 here.
 pub record Entry : Type 0 where
   pub name : List ℕ
-  pub kind : Kind
+  pub width : ℕ
+  pub size : ℕ
+  pub look : Look
 
+abbrev pub entry_of : Field → Entry
+entry_of field = record { name = field.name.now; width = field.width; size = field.size; look = look_of field.look }
+
+-- a field of one number
 abbrev pub entry : List ℕ → ℕ → Look → Entry
-entry name width look = record { name = name; kind = record { width = width; look = look } }
+entry name width look = record { name = name; width = width; size = width; look = look }
+
+-- a field of any number of these
+abbrev pub open_entry : List ℕ → ℕ → Look → Entry
+open_entry name width look = record { name = name; width = width; size = 0; look = look }
 
 -- ---- the fields of rows
 
@@ -77,9 +82,9 @@ part_entries (parts.Between rows from to) = rows_entries (slice_range rows.now f
 part_entries (parts.Group name rows) = titled_entries name.now rows.now
 part_entries (parts.Entries name count rows) = titled_entries name.now rows.now
 part_entries (parts.Numbers name w count) = entry name.now w looks.number ∷ []
-part_entries (parts.Matrix name w rows columns) = entry name.now w looks.number ∷ []
-part_entries (parts.Bytes name count) = []
-part_entries (parts.Until name end) = []
+part_entries (parts.Matrix name w rows columns) = open_entry name.now w looks.number ∷ []
+part_entries (parts.Bytes name count) = open_entry name.now 1 looks.text ∷ []
+part_entries (parts.Until name end) = open_entry name.now 1 looks.text ∷ []
 part_entries (parts.Chosen by choices) = flat_map choice_entries choices.now
 
 abbrev pub parts_entries : List Part → List Entry
@@ -92,13 +97,17 @@ inner_entries (Structures start name sizes parts) = title_entry name.now ∷ par
 
 -- ---- a field by its name
 
-abbrev pub ends_in_spaces : Option (List ℕ) → Bool
-ends_in_spaces (Some rest) = are_spaces rest
-ends_in_spaces None = false
+abbrev pub ends_in_white : Option (List ℕ) → Bool
+ends_in_white (Some rest) = are_white rest
+ends_in_white None = false
 
--- whether a line has a name, and spaces after it
+-- whether a line has a name, and white space after it
 abbrev pub is_line_of : List ℕ → List ℕ → Bool
-is_line_of name line = ends_in_spaces (after name line)
+is_line_of name line = ends_in_white (after name line)
+
+-- whether a line is that of a field; an empty one may be that of any
+abbrev pub is_of : List ℕ → Entry → Bool
+is_of line one = length line == 0 || is_line_of one.name line
 
 -- The number of the field after one. No form has as many fields as the last number.
 abbrev pub next_number : ℕ → ℕ
@@ -110,27 +119,52 @@ number_after k [] = k
 number_after k (one ∷ entries) = number_after (next_number k) entries
 
 -- the first field of a line's name with this number or a higher one, where the first of the list has the number k
-abbrev pub find_entry : ℕ → ℕ → List ℕ → List Entry → Option (ℕ × Kind)
+abbrev pub find_entry : ℕ → ℕ → List ℕ → List Entry → Option (ℕ × Entry)
 find_entry k least line [] = None
 find_entry k least line (one ∷ entries) =
-    if nat_le least k && is_line_of one.name line then Some (k, one.kind) else find_entry (next_number k) least line entries
+    if nat_le least k && is_of line one then Some (k, one) else find_entry (next_number k) least line entries
 
 abbrev pub or_else : {A : Type 0} → Option A → Option A → Option A
 or_else (Some value) other = Some value
 or_else None other = other
 
 -- the next field of a line's name, from this one on, and then from the first on
-abbrev pub next_entry : ℕ → List ℕ → List Entry → Option (ℕ × Kind)
+abbrev pub next_entry : ℕ → List ℕ → List Entry → Option (ℕ × Entry)
 next_entry least line entries = or_else (find_entry 0 least line entries) (find_entry 0 0 line entries)
+
+-- ---- a field anywhere in a form
+
+-- the fields of a structure, and of those within it
+abbrev pub structure_entries : StructureForm → List Entry
+structure_entries form = parts_entries form.parts.now ++ inner_entries form.inner.now
+
+-- the first field of a line's name in structures
+abbrev pub find_inside : List ℕ → List StructureForm → Option (ℕ × Entry)
+find_inside line [] = None
+find_inside line (form ∷ forms) = or_else (next_entry 0 line (structure_entries form)) (find_inside line forms)
+
+-- the first field of a line's name in a table and its structures
+abbrev pub find_anywhere : List ℕ → TableForm → Option (ℕ × Entry)
+find_anywhere line form = or_else (next_entry 0 line (parts_entries form.parts.now ++ [])) (find_inside line form.structures.now)
+
+-- the name of the field that was found
+abbrev pub name_found : Option (ℕ × Entry) → List ℕ
+name_found (Some found) = found.1.name
+name_found None = []
+
+-- whether the field that was found is one of any number of bytes
+abbrev pub is_open : Option (ℕ × Entry) → Bool
+is_open (Some found) = found.1.size == 0 && found.1.width == 1
+is_open None = false
 
 -- ---- what a call finds
 
 -- the field that was found, or that there is none, and the number after the last
 abbrev pub IsSearch : Search → ℕ → ℕ → List ℕ → List Entry → Type 0
-IsSearch (Found number field) k least line entries = find_entry k least line entries ≡ Some (number, kind_of field)
+IsSearch (Found number field) k least line entries = find_entry k least line entries ≡ Some (number, entry_of field)
 IsSearch (Missing next) k least line entries =
     (next ≡ number_after k entries) × (find_entry k least line entries ≡ None)
 
-abbrev pub found_of : Option (ℕ × Field) → Option (ℕ × Kind)
-found_of (Some found) = Some (found.0, kind_of found.1)
+abbrev pub found_of : Option (ℕ × Field) → Option (ℕ × Entry)
+found_of (Some found) = Some (found.0, entry_of found.1)
 found_of None = None

@@ -6,16 +6,16 @@ use Rattle.acpi_base.specs.declared.walk.Place.{Place}
 use Rattle.acpi_text.specs.Structure.{find_form}
 use Rattle.acpi_text.specs.declared.form.StructureForm.{StructureForm}
 use Rattle.acpi_make.specs.Entry.{is_line_of}
-use Rattle.acpi_make.specs.Text.{after, digits_front, decimal_of, after_offset, if_some}
+use Rattle.acpi_make.specs.Text.{is_white, after, digits_front, decimal_of, after_offset, if_some}
 use Rattle.acpi_make.specs.declared.item.Cell.{Cell}
 use Rattle.acpi_make.specs.declared.item.Cell.TheVariants.{Byte, Left}
 
 -- ---- labels
 
--- how many characters stand before the first space
+-- how many characters stand before the first white space
 abbrev pub word_front : List ℕ → ℕ
 word_front [] = 0
-word_front (c ∷ text) = if c == 32 then 0 else 1 + word_front text
+word_front (c ∷ text) = if is_white c then 0 else 1 + word_front text
 
 -- the label with which a heading begins: what stands between an at sign and a space
 abbrev pub label_of : List ℕ → Option (List ℕ)
@@ -53,16 +53,16 @@ by_heading heading forms = by_words (after (codes "type ") (described heading)) 
 abbrev pub known_front : List Cell → ℕ
 known_front [] = 0
 known_front (Byte b ∷ cells) = 1 + known_front cells
-known_front (Left line ∷ cells) = 0
+known_front (Left place ∷ cells) = 0
 
 abbrev pub is_known : Cell → Bool
 is_known (Byte b) = true
-is_known (Left line) = false
+is_known (Left place) = false
 
 -- whether a byte is known, and is the lowest of a number
 abbrev pub is_lowest : Cell → ℕ → Bool
 is_lowest (Byte b) n = b == n % 256
-is_lowest (Left line) n = false
+is_lowest (Left place) n = false
 
 -- whether cells begin with w known bytes of this number, lowest first
 abbrev pub has_number : ℕ → ℕ → List Cell → Bool

@@ -19,4 +19,4 @@ cells_of [] = []
 cells_of (items.Cell cell ∷ parts) = cell ∷ cells_of parts
 cells_of (items.Heading from to ∷ parts) = cells_of parts
 cells_of (items.Name from to ∷ parts) = cells_of parts
-cells_of (items.Value line from to ∷ parts) = Left line ∷ cells_of parts
+cells_of (items.Value from to ∷ parts) = Left from ∷ cells_of parts

@@ -2,7 +2,8 @@
 use Rattle.std.specs.Prelude.{◌≡◌, ℕ, ◌^◌, ◌<◌, ◌≤◌, List, [], length, Option, Some, Result, Ok}
 use Rattle.acpi_base.specs.Bytes.{AreBytes}
 use Rattle.acpi_base.specs.Table.{IsTrueTable}
-use Rattle.acpi_base.specs.Walk.{Walks, IsSound}
+use Rattle.acpi_base.specs.Walk.{Walks, Tells, IsSound}
+use Rattle.acpi_base.specs.declared.walk.Place.{Place}
 use Rattle.acpi_base.specs.declared.walk.Walk.{Walk}
 use Rattle.acpi_text.specs.Table.{table_text}
 use Rattle.acpi_text.specs.declared.form.TableForm.{TableForm}
@@ -11,17 +12,17 @@ use Rattle.acpi_make.specs.Gives.{and_then}
 use Rattle.acpi_make.specs.Item.{known_cells, cells_of}
 use Rattle.acpi_make.specs.Made.{Table, made, finished}
 use Rattle.acpi_make.specs.Meaning.{parts_of}
-use Rattle.acpi_make.specs.Own.{next_start}
+use Rattle.acpi_make.specs.Own.{next_start, count_structures}
 use Rattle.acpi_make.specs.Pieces.{pieces_of, HaveBytesOf}
 use Rattle.acpi_make.specs.declared.complete.Shape.{Shape}
 use Rattle.acpi_make.specs.declared.complete.Shape.TheVariants as shapes
-use Rattle.acpi_make.specs.declared.draft.Source.{Source}
-use Rattle.acpi_make.specs.declared.fault.Fault.{Fault}
+use Rattle.acpi_make.specs.Fault.{Fault}
+use Rattle.acpi_make.specs.Source.{Source}
 use Rattle.acpi_make.specs.declared.item.Item.{Item}
 
 -- the table that a text is made into
 abbrev pub made_text : Shape → Option Walk → Source → Result Table Fault
-made_text shape walk s = and_then (parts_of s.text.now) (λ parts. made shape walk s parts)
+made_text shape walk s = and_then (parts_of s.text) (λ parts. made shape walk s parts)
 
 -- The text has these bytes, each of them known.
 pub record HasBytes (text bytes : List ℕ) : Type 0 where
@@ -40,10 +41,11 @@ pub record IsMadeInto (shape : Shape) (walk : Option Walk) (s : Source) (bytes :
   pub is : made_text shape walk s ≡ Ok table
   pub same : table.bytes ≡ bytes
 
--- The text of a table is made into the table, whatever the forms by which it is shown and made.
+-- The text of a table is made into the table, for every form.
 abbrev pub TablesAreMade : Type 0
-TablesAreMade = (form : TableForm) (walk other : Option Walk) (shape : Shape) (s : Source) (bytes : List ℕ)
-    → AreBytes bytes → length bytes < 2 ^ 64 → s.text.now ≡ table_text form walk bytes → IsMadeInto shape other s bytes
+TablesAreMade = (form : TableForm) (walk : Option Walk) (kind : Place) (shape : Shape) (bytes : List ℕ)
+    → AreBytes bytes → length bytes < 2 ^ 64
+    → IsMadeInto shape walk (record { form = form; kind = kind; text = table_text form walk bytes }) bytes
 
 -- A table of 36 bytes or more that is made without a note is correct: its length is right, and it sums to zero.
 abbrev pub TablesAreTrue : Type 0
@@ -51,7 +53,7 @@ TablesAreTrue = (walk : Option Walk) (s : Source) (parts : List Item) (table : T
     → made shapes.Table walk s parts ≡ Ok table → table.untrue ≡ [] → 36 ≤ length table.bytes → IsTrueTable table.bytes
 
 -- A table that is made without a note is walked by the structures that the text lists, if the first of them begins where those of
--- the table do, and the text has the bytes of each.
+-- the table do, and the text has the bytes of each. A table without structures has to say so, and to have the offset of the first.
 abbrev pub TablesAreWalked : Type 0
 TablesAreWalked = (walk : Walk) (s : Source) (parts : List Item) (d : Drafted) (table : Table)
     → IsSound walk
@@ -60,5 +62,6 @@ TablesAreWalked = (walk : Walk) (s : Source) (parts : List Item) (d : Drafted) (
     → table.untrue ≡ []
     → length table.bytes < 2 ^ 62
     → next_start d.marks (length table.bytes) ≡ walk.start
+    → (count_structures d.marks ≡ 0 → Tells walk.count table.bytes 0 × Tells walk.first table.bytes walk.start)
     → HaveBytesOf walk.sizes (pieces_of d.marks table.bytes)
     → Walks walk table.bytes (pieces_of d.marks table.bytes)

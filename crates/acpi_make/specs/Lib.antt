@@ -6,11 +6,15 @@ pub mod Entry
 pub mod Value
 pub mod Heading
 pub mod Fits
+pub mod Source
 pub mod Draft
 pub mod Own
 pub mod Complete
+pub mod Compare
+pub mod Short
 pub mod Notes
 pub mod Made
+pub mod Lines
 pub mod Pieces
 pub mod Laws
 pub mod Signature

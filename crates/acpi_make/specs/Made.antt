@@ -1,16 +1,18 @@
 -- The table that a text is made into.
-use Rattle.std.specs.Prelude.{List, ◌∷◌, ◌++◌, length, Option, Some, None, Result, Ok, ℕ}
+use Rattle.std.specs.Prelude.{List, ◌∷◌, ◌++◌, length, Option, Some, None, Result, Ok, Err, ℕ}
 use Rattle.acpi_base.specs.declared.walk.Place.{Place}
 use Rattle.acpi_base.specs.declared.walk.Place.TheVariants.{Nowhere}
 use Rattle.acpi_base.specs.declared.walk.Walk.{Walk}
 use Rattle.acpi_make.specs.Complete.{length_own, completed}
-use Rattle.acpi_make.specs.Draft.{Drafted, nothing_yet, all_taken}
+use Rattle.acpi_make.specs.Compare.{difference}
+use Rattle.acpi_make.specs.Draft.{Drafted, nothing_yet, closed, or_fault, all_taken}
+use Rattle.acpi_make.specs.Fault.{Fault}
 use Rattle.acpi_make.specs.Gives.{and_then}
 use Rattle.acpi_make.specs.Notes.{notes}
-use Rattle.acpi_make.specs.Own.{walk_own, table_own, references_own}
+use Rattle.acpi_make.specs.Own.{walk_own, none_own, table_own, references_own}
 use Rattle.acpi_make.specs.declared.complete.Shape.{Shape}
-use Rattle.acpi_make.specs.declared.draft.Source.{Source}
-use Rattle.acpi_make.specs.declared.fault.Fault.{Fault}
+use Rattle.acpi_make.specs.Short.{short}
+use Rattle.acpi_make.specs.Source.{Source}
 use Rattle.acpi_make.specs.declared.item.Item.{Item}
 use Rattle.acpi_make.specs.declared.make.Made.{Made}
 use Rattle.acpi_make.specs.declared.own.Own.{Own}
@@ -29,28 +31,40 @@ type_place None = Nowhere
 abbrev pub sizes_own : Shape → Option Walk → Drafted → List Own
 sizes_own shape walk d = length_own shape (length d.cells) ∷ walk_own walk d.marks (length d.cells)
 
-abbrev pub made_of : Shape → Option Walk → Drafted → List ℕ → Table
-made_of shape walk d bytes = record {
-  bytes = bytes;
-  untrue = notes shape (sizes_own shape walk d) bytes;
-}
+-- a table of these bytes, with notes on its own numbers
+abbrev pub made_of : Shape → List Own → List ℕ → Table
+made_of shape owns bytes = record { bytes = bytes; untrue = notes shape owns bytes }
 
 -- the offsets to which references refer, and then all numbers that a table has of itself
 abbrev pub numbers_own : Shape → Option Walk → Source → Drafted → Result (List Own) Fault
 numbers_own shape walk s d =
-    and_then (references_own s.text.now d.marks d.marks) (λ references.
+    and_then (references_own s.text d.marks d.marks) (λ references.
     Ok (references ++ (sizes_own shape walk d ++ table_own s d.cells d.marks)))
 
--- the table of a table in the making
+-- an outcome, unless something is wrong
+abbrev pub unless : {A : Type 0} → Option Fault → Result A Fault → Result A Fault
+unless (Some wrong) outcome = Err wrong
+unless None outcome = outcome
+
+-- The table of a table in the making: no structure whose length is left out lacks fields, and the text has the lines of the text that
+-- shows the table.
 abbrev pub finished : Shape → Option Walk → Source → Drafted → Result Table Fault
 finished shape walk s d =
     and_then (numbers_own shape walk s d) (λ owns.
-    and_then (completed shape owns d.cells) (λ bytes.
-    Ok (made_of shape walk d bytes)))
+    unless (short shape walk s d) (
+    and_then (completed shape (owns ++ none_own walk d.marks (length d.cells)) d.cells) (λ bytes.
+    and_then (difference walk s d bytes) (λ wrong.
+    unless wrong (Ok (made_of shape owns bytes))))))
+
+-- an outcome, in which what was in doubt before comes before other faults
+abbrev pub or_doubt : {A : Type 0} → Option Fault → Result A Fault → Result A Fault
+or_doubt doubt (Ok value) = Ok value
+or_doubt doubt (Err wrong) = Err (or_fault doubt wrong)
 
 -- the table that the parts of a text are made into
 abbrev pub made : Shape → Option Walk → Source → List Item → Result Table Fault
-made shape walk s parts = and_then (all_taken s parts nothing_yet) (λ d. finished shape walk s d)
+made shape walk s parts =
+    and_then (all_taken s parts nothing_yet) (λ d. or_doubt (closed d).doubt (finished shape walk s d))
 
 abbrev pub table_of : Made → Table
 table_of made = record { bytes = made.bytes.items; untrue = made.untrue.items }

@@ -13,7 +13,7 @@ pieces_of [] bytes = []
 pieces_of (Structure at from to ∷ marks) bytes =
     take (next_start marks (length bytes) - at) (drop at bytes) ∷ pieces_of marks bytes
 pieces_of (Line at from to ∷ marks) bytes = pieces_of marks bytes
-pieces_of (Reference at w line from to ∷ marks) bytes = pieces_of marks bytes
+pieces_of (Reference at w from to ∷ marks) bytes = pieces_of marks bytes
 
 -- The text has as many bytes of a structure as a structure of this walk has: all that structures of one size have, those that its
 -- type says, or at least its length field.

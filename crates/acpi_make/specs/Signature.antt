@@ -10,10 +10,10 @@ use Rattle.acpi_make.specs.declared.item.Item.TheVariants.{Cell, Heading, Name, 
 abbrev pub first_byte : List Item → Option (ℕ × List Item)
 first_byte [] = None
 first_byte (Cell (Byte b) ∷ items) = Some (b, items)
-first_byte (Cell (Left line) ∷ items) = None
+first_byte (Cell (Left place) ∷ items) = None
 first_byte (Heading from to ∷ items) = first_byte items
 first_byte (Name from to ∷ items) = first_byte items
-first_byte (Value line from to ∷ items) = None
+first_byte (Value from to ∷ items) = None
 
 -- the number of the first four bytes, lowest first
 abbrev pub signature_of : List Item → Option ℕ

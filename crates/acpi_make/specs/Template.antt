@@ -27,6 +27,7 @@ use Rattle.acpi_text.specs.Hex.{number_text}
 use Rattle.acpi_text.specs.Label.{label}
 use Rattle.acpi_text.specs.Line.{spaces}
 use Rattle.acpi_make.specs.Complete.{length_own}
+use Rattle.acpi_make.specs.Draft.{is_nameless}
 use Rattle.acpi_make.specs.Entry.{row_entry}
 use Rattle.acpi_make.specs.declared.complete.Shape.{Shape}
 use Rattle.acpi_make.specs.declared.complete.Shape.TheVariants as shapes
@@ -76,10 +77,12 @@ hint look = []
 
 -- ---- a field
 
--- What a template has in place of zeros: the signature at offset 0, and question marks at the offsets of a table's own numbers.
+-- What a template has in place of zeros: the signature at offset 0, question marks at the offsets of a table's own numbers, and 1 at
+-- those of the numbers of a matrix's rows and columns.
 pub record Known : Type 0 where
   pub signature : List ℕ
   pub own : List ℕ
+  pub ones : List ℕ
 
 -- a number of at most eight bytes, or zeros
 abbrev pub preset_text : ℕ → ℕ → List ℕ
@@ -99,11 +102,15 @@ zeros (rows.Uuid name) = times 16 (codes " 00")
 zeros (rows.Register name) = times 12 (codes " 00")
 zeros (rows.Reserved n) = times n (codes " 00")
 
+-- the value of a row that isn't worked out
+abbrev pub stated_text : Known → ℕ → Row → List ℕ
+stated_text known at row = if is_among at known.ones then 32 ∷ preset_text (row_width row) 1 else zeros row
+
 abbrev pub value_text : Known → ℕ → Row → List ℕ
 value_text known at row =
     if at == 0 && not (length known.signature == 0) then codes " \"" ++ (known.signature ++ codes "\"")
     else (if is_among at known.own then 32 ∷ times (row_width row) (codes "??")
-    else zeros row)
+    else stated_text known at row)
 
 abbrev pub field_line : ℕ → List ℕ → List ℕ → List ℕ
 field_line depth name value = spaces (2 * depth) ++ (codes "  " ++ (label name ++ (58 ∷ (value ++ 10 ∷ []))))
@@ -114,7 +121,7 @@ title_line depth name = spaces (2 * depth) ++ (codes "  " ++ (label name ++ 10 �
 -- the line of a row at an offset
 abbrev pub row_line : ℕ → Known → ℕ → Row → List ℕ
 row_line depth known at row =
-    field_line depth (row_entry row).name (value_text known at row ++ hint (row_entry row).kind.look)
+    field_line depth (row_entry row).name (value_text known at row ++ hint (row_entry row).look)
 
 -- the offset after a field of w bytes; no field is at 2^32 or after it
 abbrev pub offset_after : ℕ → ℕ → ℕ
@@ -127,7 +134,7 @@ plain_lines depth known at (row ∷ rows) =
     row_line depth known at row ++ plain_lines depth known (offset_after at (row_width row)) rows
 
 abbrev pub nothing_known : Known
-nothing_known = record { signature = []; own = [] }
+nothing_known = record { signature = []; own = []; ones = [] }
 
 -- the fields of a register's address (ACPI 6.5, 5.2.3.2)
 abbrev pub address_lines : ℕ → List ℕ
@@ -156,7 +163,8 @@ rows_end at (row ∷ rows) = rows_end (offset_after at (row_width row)) rows
 abbrev pub choice_lines : ℕ → Known → ℕ → List Choice → List ℕ
 choice_lines depth known at [] = []
 choice_lines depth known at (choice ∷ choices) =
-    title_line depth choice.name.now ++ rows_lines (depth + 1) known at choice.rows.now
+    if length choice.rows.now == 0 then []
+    else title_line depth choice.name.now ++ rows_lines (depth + 1) known at choice.rows.now
 
 abbrev pub choice_end : ℕ → List Choice → ℕ
 choice_end at [] = at
@@ -171,7 +179,8 @@ part_lines depth known at (parts.Entries name count rows) = title_line depth nam
 part_lines depth known at (parts.Numbers name w count) = field_line depth name.now (32 ∷ times w (codes "00"))
 part_lines depth known at (parts.Matrix name w rows columns) = field_line depth name.now (32 ∷ times w (codes "00"))
 part_lines depth known at (parts.Bytes name count) = field_line depth name.now (codes " \"\"")
-part_lines depth known at (parts.Until name end) = field_line depth name.now (codes " \"\"")
+part_lines depth known at (parts.Until name end) =
+    if is_nameless name.now then [] else field_line depth name.now (codes " \"\"")
 part_lines depth known at (parts.Chosen by choices) = choice_lines depth known at choices.now
 
 abbrev pub part_end : ℕ → Part → ℕ
@@ -217,16 +226,26 @@ count_at (parts.Chosen by choices) = []
 abbrev pub counts_at : List Part → List ℕ
 counts_at list = flat_map count_at list
 
+-- the offsets of the numbers of rows and columns
+abbrev pub sides_at : Part → List ℕ
+sides_at (parts.Matrix name w rows columns) = place_at rows ++ place_at columns
+sides_at part = []
+
+abbrev pub all_sides : List Part → List ℕ
+all_sides list = flat_map sides_at list
+
 -- ---- structures and tables
 
 abbrev pub inner_lines : Inner → List ℕ
 inner_lines Nothing = []
-inner_lines (Structures start name sizes list) = title_line 0 name.now ++ parts_lines 1 nothing_known 0 list.now
+inner_lines (Structures start name sizes list) =
+    title_line 0 name.now ++ parts_lines 1 (record { signature = []; own = size_at sizes; ones = [] }) 0 list.now
 
 abbrev pub structure_known : Walk → List Part → Known
 structure_known walk list = record {
   signature = [];
   own = place_at walk.kind ++ (size_at walk.sizes ++ counts_at list);
+  ones = all_sides list;
 }
 
 -- a structure's name and its parts
@@ -252,7 +271,11 @@ abbrev pub table_own : Shape → Option Walk → List Part → List ℕ
 table_own shape walk list = (length_own shape 0).offset ∷ (sums_at shape ++ (walk_at walk ++ counts_at list))
 
 abbrev pub table_known : List ℕ → Shape → Option Walk → List Part → Known
-table_known signature shape walk list = record { signature = signature; own = table_own shape walk list }
+table_known signature shape walk list = record {
+  signature = signature;
+  own = table_own shape walk list;
+  ones = all_sides list;
+}
 
 abbrev pub structures_text : Option Walk → List StructureForm → List ℕ
 structures_text (Some walk) forms = structures_lines walk forms

@@ -1,6 +1,11 @@
 -- Parts of texts.
-use Rattle.std.specs.Prelude.{ℕ, ◌+◌, ◌-◌, ◌*◌, ◌^◌, ◌==◌, nat_lt, nat_le, ◌&&◌, Bool, true, if◌then◌else◌}
+use Rattle.std.specs.Prelude.{ℕ, ◌+◌, ◌-◌, ◌*◌, ◌^◌, ◌==◌, nat_lt, nat_le, ◌&&◌, ◌||◌, Bool, true, if◌then◌else◌}
 use Rattle.std.specs.Prelude.{List, [], ◌∷◌, length, take, drop, Option, Some, None}
+use Rattle.acpi_base.specs.Digit.{digit_value}
+
+-- whether a character is white space: a space, a tab, or a carriage return
+abbrev pub is_white : ℕ → Bool
+is_white c = c == 32 || (c == 9 || c == 13)
 
 -- what follows from a value, if there is one
 abbrev pub if_some : {A B : Type 0} → Option A → (A → Option B) → Option B
@@ -17,9 +22,9 @@ after [] text = Some text
 after (c ∷ front) [] = None
 after (c ∷ front) (d ∷ text) = if c == d then after front text else None
 
-abbrev pub are_spaces : List ℕ → Bool
-are_spaces [] = true
-are_spaces (c ∷ text) = c == 32 && are_spaces text
+abbrev pub are_white : List ℕ → Bool
+are_white [] = true
+are_white (c ∷ text) = is_white c && are_white text
 
 -- ---- numbers in decimal
 
@@ -44,6 +49,23 @@ decimal_from n (c ∷ text) = if_some (more_digits n c) (λ m. decimal_from m te
 abbrev pub decimal_of : List ℕ → Option ℕ
 decimal_of [] = None
 decimal_of (c ∷ text) = decimal_from 0 (c ∷ text)
+
+-- ---- numbers in hexadecimal
+
+-- a number below 2^64 with a further digit
+abbrev pub more_hex : ℕ → ℕ → Option ℕ
+more_hex n c = if_some (digit_value c) (λ d. if nat_lt (n * 16 + d) (2 ^ 64) then Some (n * 16 + d) else None)
+
+abbrev pub hex_from : ℕ → List ℕ → Option ℕ
+hex_from n [] = Some n
+hex_from n (c ∷ text) = if_some (more_hex n c) (λ m. hex_from m text)
+
+-- the number of a text of digits, if it is below 2^64
+abbrev pub hex_of : List ℕ → Option ℕ
+hex_of [] = None
+hex_of (c ∷ text) = hex_from 0 (c ∷ text)
+
+-- ---- lines
 
 -- what stands after an offset and a space, or the text, if it begins with no digit
 abbrev pub after_offset : List ℕ → List ℕ

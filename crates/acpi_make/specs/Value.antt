@@ -1,8 +1,9 @@
 -- Numbers by name and in decimal.
-use Rattle.std.specs.Prelude.{ℕ, zero, suc, ◌-◌, ◌==◌, if◌then◌else◌, bit_or, List, [], ◌∷◌, length, take, Option, Some, None, codes}
+use Rattle.std.specs.Prelude.{ℕ, zero, suc, ◌-◌, ◌==◌, nat_lt, ◌&&◌, if◌then◌else◌, bit_or, List, [], ◌∷◌, length, take, drop}
+use Rattle.std.specs.Prelude.{Option, Some, None, codes}
 use Rattle.acpi_base.specs.Look.{Look, Part, one_flag, one_choice, one_number}
 use Rattle.acpi_base.specs.Look as looks
-use Rattle.acpi_make.specs.Text.{after, decimal_of}
+use Rattle.acpi_make.specs.Text.{after, decimal_of, hex_of}
 use Rattle.acpi_make.specs.declared.value.Names.{Names}
 use Rattle.acpi_make.specs.declared.value.Names.TheVariants as names
 
@@ -64,10 +65,13 @@ names_value (looks.flags parts) text = if length text == 0 then Some 0 else join
 names_value (looks.one_of words) text = only (front_name words text)
 names_value look text = None
 
--- the number of a value: decimal digits after a number sign, or names between braces
+-- the number of a value: decimal digits after a number sign, hexadecimal digits after `0x`, or names between braces
 abbrev pub value_of : Look → List ℕ → Option ℕ
 value_of look [] = None
-value_of look (c ∷ text) = if c == 35 then decimal_of text else names_value look (take (length text - 1) text)
+value_of look (c ∷ text) =
+    if c == 35 then decimal_of text
+    else (if c == 48 && nat_lt 0 (length text) then hex_of (drop 1 text)
+    else names_value look (take (length text - 1) text))
 
 -- ---- what a call returns
 

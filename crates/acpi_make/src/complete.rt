@@ -1,8 +1,8 @@
 //! What a text leaves to be worked out.
 
-ghost use Rattle.std.specs.Prelude.{◌≡◌, ◌+◌, ◌≤◌, length, take};
+ghost use Rattle.std.specs.Prelude.{◌≡◌, ◌+◌, ◌≤◌, true, length, take};
 ghost use Rattle.acpi_base.specs.Bytes.{complement};
-ghost use Rattle.acpi_make.specs.Complete.{left_front, written, filled, all_filled, known_sum, summed_at, summed, length_own};
+ghost use Rattle.acpi_make.specs.Complete.{are_left, written, filled, all_filled, known_sum, summed_at, summed, length_own};
 ghost use Rattle.acpi_make.specs.Complete.{known, completed};
 ghost use Rattle.acpi_make.specs.Gives.{Gives};
 
@@ -23,19 +23,21 @@ pub enum Shape {
     Control,
 }
 
-// Returns how many bytes stand before the first that is known.
-fn left_front(cells: &[Cell]) -> usize
-    ensures front { result ≡ left_front cells.now }
-    ensures within { result ≤ length cells.now }
+// Returns whether there are `width` bytes and none of them is known. It looks at no byte after them.
+fn are_left(width: usize, cells: &[Cell]) -> bool
+    ensures are { result ≡ are_left width cells.now }
+    ensures within { result ≡ true → width ≤ length cells.now }
 {
-    let mut front = 0;
-    'cells: for cell in cells {
-        match cell {
-            Cell::Left(_) => front += 1,
-            Cell::Byte(_) => return front,
+    let mut left = width;
+    let mut rest = cells;
+    'cells: while left > 0 {
+        match rest {
+            [Cell::Left(_), more @ ..] => rest = more,
+            _ => return false,
         }
+        left -= 1;
     }
-    front
+    true
 }
 
 // Writes a number over the bytes at an offset.
@@ -58,7 +60,7 @@ fn write(offset: usize, width: usize, number: usize, cells: &mut [Cell])
 fn fill(offset: usize, width: usize, number: usize, cells: &mut [Cell])
     ensures { cells.new ≡ filled offset width number cells.old }
 {
-    if offset < cells.len() && width <= left_front(&cells[offset..]) && fits(width, number) {
+    if offset < cells.len() && are_left(width, &cells[offset..]) && fits(width, number) {
         write(offset, width, number, cells);
     }
 }
@@ -143,9 +145,9 @@ fn known(alloc: Global, cells: &[Cell]) -> Result<Vec<u8>, MakeError>
     'cells: for cell in cells {
         match *cell {
             Cell::Byte(byte) => bytes.push(byte)?,
-            Cell::Left(line) => {
-                let wanted = Wanted::Bytes;
-                return Err(MakeError::Fault(Fault { line, wanted }));
+            Cell::Left(place) => {
+                let fault = Fault::new(place, place.saturating_sub(2), Wanted::Bytes);
+                return Err(MakeError::Fault(fault));
             }
         }
     }
@@ -153,15 +155,16 @@ fn known(alloc: Global, cells: &[Cell]) -> Result<Vec<u8>, MakeError>
 }
 
 /// Writes numbers into fields whose bytes aren't known, and the checksums, and returns all bytes. The error is that memory ran out,
-/// or the line that leaves out the first byte that isn't known after this.
+/// or the place of the first byte that isn't known after this.
 pub fn complete(
     alloc: Global,
     shape: Shape,
     owns: &[Own],
-    mut cells: Vec<Cell>,
+    stated: &[Cell],
 ) -> Result<Vec<u8>, MakeError>
-    ensures { Gives (λ bytes. bytes.items) result (completed shape owns.now cells.items) }
+    ensures { Gives (λ bytes. bytes.items) result (completed shape owns.now stated.now) }
 {
+    let mut cells = stated.to_vec(alloc)?;
     fill_all(owns, &mut cells);
     fill_sums(shape, &mut cells);
     known(alloc, &cells)

@@ -1,20 +1,23 @@
 //! A table in the making: the bytes of a text's parts, and marks where structures, lines and references begin.
 
-ghost use Rattle.std.specs.Prelude.{◌≡◌, ◌++◌, replicate, OnOk, Ok};
+ghost use Rattle.std.specs.Prelude.{◌≡◌, ◌-◌, [], ◌++◌, length, replicate, OnOk, Ok};
 ghost use Rattle.acpi_base.specs.Bytes.{le};
-ghost use Rattle.acpi_make.specs.Draft.{here, parts_here, inner_here, nothing_yet};
-ghost use Rattle.acpi_make.specs.Draft.{with_line, with_heading, with_number, wanted_for, is_reference, with_reference};
-ghost use Rattle.acpi_make.specs.Draft.{with_value_of, taken, all_taken, drafted};
+ghost use Rattle.acpi_make.specs.Draft.{here, parts_here, inner_here, is_strange, nothing_yet, size_doubt, closed, is_nameless};
+ghost use Rattle.acpi_make.specs.Draft.{unlike, name_doubt, opened, with_line, with_heading, or_fault, with_number, wanted_for};
+ghost use Rattle.acpi_make.specs.Draft.{is_reference, with_reference, with_value_of, taken, all_taken, drafted, field_in, fault_in, first_of, wants_in};
+ghost use Rattle.acpi_make.specs.Entry.{find_entry, found_of, parts_entries, inner_entries};
+ghost use Rattle.acpi_make.specs.Fault.{fault_of};
 ghost use Rattle.acpi_make.specs.Fits.{fits};
-ghost use Rattle.acpi_make.specs.Gives.{Gives, Changes};
+ghost use Rattle.acpi_make.specs.Gives.{Gives, Changes, Fails};
 ghost use Rattle.acpi_make.specs.Item.{known_cells};
+ghost use Rattle.acpi_make.specs.Source.{source_of};
 ghost use Rattle.acpi_make.specs.declared.item.Cell.TheVariants.{Left};
 
-use crate::entry::{Field, next_entry};
+use crate::entry::{Field, entry_from, is_line_of, next_entry, next_number};
 use crate::fault::{Fault, MakeError, Wanted};
 use crate::heading::structure_form;
 use crate::item::{Cell, Item};
-use crate::text::{after_offset, part_at};
+use crate::text::{after_offset, are_white, part_at};
 use crate::value::value_of;
 use acpi_base::walk::Place;
 use acpi_text::form::{Inner, Part, StructureForm, TableForm};
@@ -28,8 +31,8 @@ pub enum Mark {
     Structure(usize, usize, usize),
     /// A line with a name.
     Line(usize, usize, usize),
-    /// A reference to a structure: its width in bytes, its line, and its range.
-    Reference(usize, usize, usize, usize, usize),
+    /// A reference to a structure: its width in bytes, and its range.
+    Reference(usize, usize, usize, usize),
 }
 
 /// A table in the making.
@@ -41,14 +44,20 @@ pub struct Draft {
     pub marks: Vec<Mark>,
     /// Whether the text is in a structure, and not in the table's fields before structures.
     pub inside: bool,
-    /// The offset at which this structure begins, and the places of its heading.
+    /// The offset at which this structure begins, and the range of its heading.
     pub start: usize,
     pub from: usize,
     pub to: usize,
-    /// The number of the last field of the structure that had a name.
+    /// The number of the field after the last that had a name.
     pub number: usize,
-    /// The field whose line it is.
+    /// The field of the last line with a name, if the form has it.
     pub field: Option<Field>,
+    /// The offset at which this line begins, and the range of its name.
+    pub line_at: usize,
+    pub line_from: usize,
+    pub line_to: usize,
+    /// The first thing that isn't as the form has it. It is the fault of the text, if the text has one.
+    pub doubt: Option<Fault>,
 }
 
 /// What a text is read by: the form of the table, the place of a structure's type, and the text itself.
@@ -72,13 +81,20 @@ pub fn fits(width: usize, number: usize) -> bool
     rest == 0
 }
 
+/// Returns whether a line of this name has bytes without a name.
+pub fn is_nameless(name: &[u8]) -> bool
+    ensures { result ≡ is_nameless name.now }
+{
+    are_white(name) || is_line_of(b"Bytes", name)
+}
+
 // Returns what has to stand in place of a value that isn't one.
 fn wanted_for(value: &[u8]) -> Wanted
     ensures { result ≡ wanted_for value.now }
 {
     match value {
-        [b'#', ..] => Wanted::Number,
-        _ => Wanted::Name,
+        [b'{', ..] | [] => Wanted::Name,
+        _ => Wanted::Number,
     }
 }
 
@@ -88,6 +104,43 @@ fn is_reference(value: &[u8]) -> bool
     match value {
         [b'@', ..] => true,
         _ => false,
+    }
+}
+
+// Returns the doubt about a line whose field has another number of bytes.
+fn size_doubt(field: Option<Field>, found: usize, from: usize, to: usize) -> Option<Fault>
+    ensures { fault_in result ≡ size_doubt (field_in field) found from to }
+{
+    match field {
+        Some(field) if field.size != 0 && found != field.size => Some(Fault {
+            from,
+            to,
+            wanted: Wanted::Width,
+            name: field.name,
+            width: field.size,
+            found,
+        }),
+        _ => None,
+    }
+}
+
+// Returns the fault of a line in place of which another has to stand.
+fn unlike(from: usize, to: usize, wanted: Option<(usize, Field)>) -> Fault
+    ensures { fault_of result ≡ unlike from to (found_of wanted) }
+{
+    match wanted {
+        Some((_, field)) => Fault::next(from, to, field.name, field.size),
+        None => Fault::next(from, to, "", 0),
+    }
+}
+
+/// Returns the first of two doubts.
+pub fn first_of(doubt: Option<Fault>, other: Option<Fault>) -> Option<Fault>
+    ensures { fault_in result ≡ first_of (fault_in doubt) (fault_in other) }
+{
+    match doubt {
+        Some(doubt) => Some(doubt),
+        None => other,
     }
 }
 
@@ -105,13 +158,13 @@ fn push_number(width: usize, number: usize, cells: &mut Vec<Cell>) -> Result<(),
     Ok(())
 }
 
-// Adds bytes that a line leaves out.
-fn push_left(width: usize, line: usize, cells: &mut Vec<Cell>) -> Result<(), AllocError>
-    ensures { OnOk result (cells.new.items ≡ cells.old.items ++ replicate width (Left line)) }
+// Adds bytes that are left out at a place.
+fn push_left(width: usize, place: usize, cells: &mut Vec<Cell>) -> Result<(), AllocError>
+    ensures { OnOk result (cells.new.items ≡ cells.old.items ++ replicate width (Left place)) }
 {
     let mut left = width;
     'bytes: while left > 0 {
-        cells.push(Cell::Left(line))?;
+        cells.push(Cell::Left(place))?;
         left -= 1;
     }
     Ok(())
@@ -120,7 +173,7 @@ fn push_left(width: usize, line: usize, cells: &mut Vec<Cell>) -> Result<(), All
 impl Draft {
     // Returns the form of the structure that the text is in.
     fn here(&self, source: &Source) -> Option<StructureForm>
-        ensures { result ≡ here source.now (drafted self.now) }
+        ensures { result ≡ here (source_of source.now) (drafted self.now) }
     {
         let cells = if self.start < self.cells.len() {
             &self.cells[self.start..]
@@ -133,8 +186,8 @@ impl Draft {
 
     // Returns the parts of what the text is in, and what it contains after them.
     fn parts_here(&self, source: &Source) -> (&'static [Part], &'static Inner)
-        ensures parts { result.0.now ≡ parts_here source.now (drafted self.now) }
-        ensures inner { result.1.now ≡ inner_here source.now (drafted self.now) }
+        ensures parts { result.0.now ≡ parts_here (source_of source.now) (drafted self.now) }
+        ensures inner { result.1.now ≡ inner_here (source_of source.now) (drafted self.now) }
     {
         if self.inside {
             let form = self.here(source);
@@ -144,19 +197,81 @@ impl Draft {
         }
     }
 
+    // Returns whether the text is in a structure that the table doesn't have.
+    fn is_strange(&self, source: &Source) -> bool
+        ensures { result ≡ is_strange (source_of source.now) (drafted self.now) }
+    {
+        if !self.inside {
+            return false;
+        }
+        match self.here(source) {
+            Some(_) => false,
+            None => true,
+        }
+    }
+
+    // Returns the doubt about a line of which the form has no field.
+    fn name_doubt(&self, source: &Source, from: usize, to: usize, name: &[u8]) -> Option<Fault>
+        ensures { fault_in result ≡ name_doubt (source_of source.now) (drafted self.now) from to name.now }
+    {
+        if is_nameless(name) {
+            return None;
+        }
+        if is_line_of(b"Signature", name) {
+            return Some(Fault::new(from, to, Wanted::OneTable));
+        }
+        if self.is_strange(source) {
+            return Some(Fault::new(self.from, self.to, Wanted::Structure));
+        }
+        let (parts, inner) = self.parts_here(source);
+        Some(unlike(from, to, entry_from(self.number, parts, inner)))
+    }
+
+    /// Returns the first doubt, at the end of a line.
+    pub fn doubt_at_end(&self) -> Option<Fault>
+        ensures { fault_in result ≡ (closed (drafted self.now)).doubt }
+    {
+        let size = self.cells.len().saturating_sub(self.line_at);
+        first_of(
+            self.doubt,
+            size_doubt(self.field, size, self.line_from, self.line_to),
+        )
+    }
+
+    // Begins a line.
+    fn open(&mut self, from: usize, to: usize) -> Result<(), MakeError>
+        ensures { Changes result (drafted self.new) (Ok (opened from to (drafted self.old))) }
+    {
+        let at = self.cells.len();
+        self.marks.push(Mark::Line(at, from, to))?;
+        self.line_at = at;
+        self.line_from = from;
+        self.line_to = to;
+        Ok(())
+    }
+
     // Begins a line with a name.
     fn begin_line(&mut self, source: &Source, from: usize, to: usize) -> Result<(), MakeError>
-        ensures { Changes result (drafted self.new) (Ok (with_line source.now from to (drafted self.old))) }
+        ensures { Changes result (drafted self.new) (Ok (with_line (source_of source.now) from to (drafted self.old))) }
     {
         let (parts, inner) = self.parts_here(source);
         let name = after_offset(part_at(from, to, source.text));
-        self.marks.push(Mark::Line(self.cells.len(), from, to))?;
-        match next_entry(self.number, name, parts, inner) {
+        let found = next_entry(self.number, name, parts, inner);
+        let doubt = match found {
+            Some(_) => None,
+            None => self.name_doubt(source, from, to, name),
+        };
+        self.doubt = self.doubt_at_end();
+        self.open(from, to)?;
+        match found {
             Some((number, field)) => {
-                self.number = number;
+                self.number = next_number(number);
                 self.field = Some(field);
             }
-            None => self.field = None,
+            None => {
+                self.field = None;
+                self.doubt = first_of(self.doubt, doubt);
+            }
         }
         Ok(())
     }
@@ -167,6 +282,7 @@ impl Draft {
     {
         let start = self.cells.len();
         if start > 0 {
+            self.doubt = self.doubt_at_end();
             self.marks.push(Mark::Structure(start, from, to))?;
             self.inside = true;
             self.start = start;
@@ -178,19 +294,23 @@ impl Draft {
         Ok(())
     }
 
+    // Returns the fault of a value, or what was in doubt before.
+    fn refuse(&self, from: usize, to: usize, wanted: Wanted) -> MakeError
+        ensures { Fails result (wants_in from to wanted (drafted self.now)) }
+    {
+        match self.doubt {
+            Some(doubt) => MakeError::Fault(doubt),
+            None => MakeError::Fault(Fault::new(from, to, wanted)),
+        }
+    }
+
     // Adds a reference: bytes that are worked out.
-    fn add_reference(
-        &mut self,
-        width: usize,
-        line: usize,
-        from: usize,
-        to: usize,
-    ) -> Result<(), MakeError>
-        ensures { Changes result (drafted self.new) (Ok (with_reference line width from to (drafted self.old))) }
+    fn add_reference(&mut self, width: usize, from: usize, to: usize) -> Result<(), MakeError>
+        ensures { Changes result (drafted self.new) (Ok (with_reference width from to (drafted self.old))) }
     {
         self.marks
-            .push(Mark::Reference(self.cells.len(), width, line, from, to))?;
-        push_left(width, line, &mut self.cells)?;
+            .push(Mark::Reference(self.cells.len(), width, from, to))?;
+        push_left(width, from, &mut self.cells)?;
         Ok(())
     }
 
@@ -198,48 +318,45 @@ impl Draft {
     fn add_number(
         &mut self,
         width: usize,
-        line: usize,
+        from: usize,
+        to: usize,
         wanted: Wanted,
         number: Option<u64>,
     ) -> Result<(), MakeError>
-        ensures { Changes result (drafted self.new) (with_number line width wanted number (drafted self.old)) }
+        ensures { Changes result (drafted self.new) (with_number from to width wanted number (drafted self.old)) }
     {
         match number {
             Some(number) if fits(width, number as usize) => {
                 push_number(width, number as usize, &mut self.cells)?;
                 Ok(())
             }
-            _ => Err(MakeError::Fault(Fault { line, wanted })),
+            _ => Err(self.refuse(from, to, wanted)),
         }
     }
 
-    // Adds a value by name, by label or in decimal.
-    fn add_value(
-        &mut self,
-        source: &Source,
-        line: usize,
-        from: usize,
-        to: usize,
-    ) -> Result<(), MakeError>
+    // Adds a value that isn't its bytes.
+    fn add_value(&mut self, source: &Source, from: usize, to: usize) -> Result<(), MakeError>
         ensures { Changes result (drafted self.new)
-            (with_value_of source.now line from to (drafted self.old).kind (drafted self.old)) }
+            (with_value_of (source_of source.now) from to (drafted self.old).field (drafted self.old)) }
     {
         let Some(field) = self.field else {
-            let wanted = Wanted::Field;
-            return Err(MakeError::Fault(Fault { line, wanted }));
+            return Err(self.refuse(from, to, Wanted::Field));
         };
+        if field.width == 0 {
+            return Err(self.refuse(from, to, Wanted::Field));
+        }
         let value = part_at(from, to, source.text);
         if is_reference(value) {
-            self.add_reference(field.width, line, from, to)
+            self.add_reference(field.width, from, to)
         } else {
             let number = value_of(field.look, value);
-            self.add_number(field.width, line, wanted_for(value), number)
+            self.add_number(field.width, from, to, wanted_for(value), number)
         }
     }
 
     // Adds a part of a text.
     fn take(&mut self, source: &Source, item: &Item) -> Result<(), MakeError>
-        ensures { Changes result (drafted self.new) (taken source.now item.now (drafted self.old)) }
+        ensures { Changes result (drafted self.new) (taken (source_of source.now) item.now (drafted self.old)) }
     {
         match *item {
             Item::Cell(cell) => {
@@ -248,15 +365,15 @@ impl Draft {
             }
             Item::Heading(from, to) => self.begin_structure(from, to),
             Item::Name(from, to) => self.begin_line(source, from, to),
-            Item::Value(line, from, to) => self.add_value(source, line, from, to),
+            Item::Value(from, to) => self.add_value(source, from, to),
         }
     }
 }
 
 /// Returns the table in the making that the parts of a text give. The error is that memory ran out, or what is wrong with a value,
-/// and in which line.
+/// and where.
 pub fn draft_of(alloc: Global, source: &Source, items: &[Item]) -> Result<Draft, MakeError>
-    ensures { Gives drafted result (all_taken source.now items.now nothing_yet) }
+    ensures { Gives drafted result (all_taken (source_of source.now) items.now nothing_yet) }
 {
     let mut draft = Draft {
         cells: Vec::with_capacity(alloc, items.len())?,
@@ -267,6 +384,10 @@ pub fn draft_of(alloc: Global, source: &Source, items: &[Item]) -> Result<Draft,
         to: 0,
         number: 0,
         field: None,
+        line_at: 0,
+        line_from: 0,
+        line_to: 0,
+        doubt: None,
     };
     'items: for item in items {
         draft.take(source, item)?;

@@ -3,20 +3,27 @@
 ghost use Rattle.std.specs.Prelude.{◌≡◌, [], ◌∷◌, ◌++◌};
 ghost use Rattle.std.specs.List.{flat_map};
 ghost use Rattle.acpi_base.specs.Look as looks;
+ghost use Rattle.acpi_base.specs.Look.{look_of};
 ghost use Rattle.acpi_make.specs.Entry.{row_entry, register_entries, title_entry, row_entries, rows_entries, titled_entries};
 ghost use Rattle.acpi_make.specs.Entry.{choice_entries, part_entries, parts_entries, inner_entries};
-ghost use Rattle.acpi_make.specs.Entry.{entry, kind_of, is_line_of, next_number, find_entry, next_entry, IsSearch, found_of};
+ghost use Rattle.acpi_make.specs.Entry.{entry, open_entry, entry_of, is_line_of, is_of, next_number, find_entry, next_entry, IsSearch, found_of};
+ghost use Rattle.acpi_make.specs.Entry.{find_inside, find_anywhere};
 
-use crate::text::{after, are_spaces};
+use crate::text::{after, are_white};
 use acpi_base::gas::GENERIC_ADDRESS;
 use acpi_base::row::{Look, Row};
-use acpi_text::form::{Choice, Inner, Part};
+use acpi_text::form::{Choice, Inner, Part, StructureForm, TableForm};
 use acpi_text::part::between;
 
-/// A field that a form names: its width in bytes, and what its value is.
+/// A field that a form names.
 #[derive(Clone, Copy, Debug)]
 pub struct Field {
+    pub name: &'static str,
+    /// The width of a number in it, in bytes. A name over fields has the width 0.
     pub width: usize,
+    /// How many bytes a line of it has, or 0 if that depends on other fields.
+    pub size: usize,
+    /// What its value is.
     pub look: Look,
 }
 
@@ -27,48 +34,59 @@ pub enum Search {
     Missing(usize),
 }
 
-/// Returns whether a line has a name, and spaces after it.
+/// Returns whether a line has a name, and white space after it.
 pub fn is_line_of(name: &[u8], line: &[u8]) -> bool
     ensures { result ≡ is_line_of name.now line.now }
 {
     match after(name, line) {
-        Some(rest) => are_spaces(rest),
+        Some(rest) => are_white(rest),
         None => false,
     }
 }
 
-// Returns the number of the field after one.
-fn next_number(number: usize) -> usize
+/// Returns the number of the field after one.
+pub fn next_number(number: usize) -> usize
     ensures { result ≡ next_number number }
 {
     if number < 1 << 32 { number + 1 } else { number }
 }
 
-// Searches one field.
-fn search_field(number: usize, least: usize, line: &[u8], name: &str, field: Field) -> Search
-    ensures { IsSearch result number least line.now (record { name = name.now; kind = kind_of field } ∷ []) }
+// Returns whether a line is that of a field. An empty one may be that of any.
+fn is_of(line: &[u8], field: &Field) -> bool
+    ensures { result ≡ is_of line.now (entry_of field.now) }
 {
-    if least <= number && is_line_of(name.as_bytes(), line) {
+    line.is_empty() || is_line_of(field.name.as_bytes(), line)
+}
+
+// Searches one field.
+fn search_field(number: usize, least: usize, line: &[u8], field: Field) -> Search
+    ensures { IsSearch result number least line.now (entry_of field ∷ []) }
+{
+    if least <= number && is_of(line, &field) {
         Search::Found(number, field)
     } else {
         Search::Missing(next_number(number))
     }
 }
 
-/// Returns the name and the kind of the field of a row. The field of a register is 12 bytes.
-pub fn row_field(row: &Row) -> (&'static str, Field)
-    ensures { record { name = result.0.now; kind = kind_of result.1 } ≡ row_entry row.now }
+/// Returns the field of a row. That of a register is 12 bytes.
+pub fn row_field(row: &Row) -> Field
+    ensures { entry_of result ≡ row_entry row.now }
 {
-    let (width, look) = (row.width(), row.look());
-    (row.name(), Field { width, look })
+    let width = row.width();
+    Field {
+        name: row.name(),
+        width,
+        size: width,
+        look: row.look(),
+    }
 }
 
 // Searches the field of a row that is no register.
 fn search_row(number: usize, least: usize, line: &[u8], row: &Row) -> Search
     ensures { IsSearch result number least line.now (row_entry row.now ∷ []) }
 {
-    let (name, field) = row_field(row);
-    search_field(number, least, line, name, field)
+    search_field(number, least, line, row_field(row))
 }
 
 // Searches the fields of rows of which none is a register.
@@ -93,15 +111,20 @@ fn search_address(number: usize, least: usize, line: &[u8]) -> Search
 }
 
 // Searches a name over fields.
-fn search_title(number: usize, least: usize, line: &[u8], name: &str) -> Search
+fn search_title(number: usize, least: usize, line: &[u8], name: &'static str) -> Search
     ensures { IsSearch result number least line.now (title_entry name.now ∷ []) }
 {
-    let (width, look) = (0, Look::Bytes);
-    search_field(number, least, line, name, Field { width, look })
+    let field = Field {
+        name,
+        width: 0,
+        size: 0,
+        look: Look::Bytes,
+    };
+    search_field(number, least, line, field)
 }
 
 // Searches a register: its name, and the fields of its address.
-fn search_register(number: usize, least: usize, line: &[u8], name: &str) -> Search
+fn search_register(number: usize, least: usize, line: &[u8], name: &'static str) -> Search
     ensures { IsSearch result number least line.now (title_entry name.now ∷ register_entries) }
 {
     match search_title(number, least, line, name) {
@@ -135,7 +158,13 @@ fn search_rows(number: usize, least: usize, line: &[u8], rows: &[Row]) -> Search
 }
 
 // Searches a name, and the fields of the rows under it.
-fn search_titled(number: usize, least: usize, line: &[u8], name: &str, rows: &[Row]) -> Search
+fn search_titled(
+    number: usize,
+    least: usize,
+    line: &[u8],
+    name: &'static str,
+    rows: &[Row],
+) -> Search
     ensures { IsSearch result number least line.now (titled_entries name.now rows.now) }
 {
     match search_title(number, least, line, name) {
@@ -158,12 +187,43 @@ fn search_choices(number: usize, least: usize, line: &[u8], choices: &[Choice]) 
     Search::Missing(next)
 }
 
-// Searches a number of a list or of a matrix.
-fn search_number(number: usize, least: usize, line: &[u8], name: &str, width: usize) -> Search
+// Searches a number of a list.
+fn search_number(
+    number: usize,
+    least: usize,
+    line: &[u8],
+    name: &'static str,
+    width: usize,
+) -> Search
     ensures { IsSearch result number least line.now (entry name.now width looks.number ∷ []) }
 {
-    let look = Look::Number;
-    search_field(number, least, line, name, Field { width, look })
+    let field = Field {
+        name,
+        width,
+        size: width,
+        look: Look::Number,
+    };
+    search_field(number, least, line, field)
+}
+
+// Searches a line of any number of numbers.
+fn search_open(
+    number: usize,
+    least: usize,
+    line: &[u8],
+    name: &'static str,
+    width: usize,
+    look: Look,
+) -> Search
+    ensures { IsSearch result number least line.now (open_entry name.now width (look_of look) ∷ []) }
+{
+    let field = Field {
+        name,
+        width,
+        size: 0,
+        look,
+    };
+    search_field(number, least, line, field)
 }
 
 // Searches the fields of a part.
@@ -176,9 +236,11 @@ fn search_part(number: usize, least: usize, line: &[u8], part: &Part) -> Search
         Part::Group(name, rows) => search_titled(number, least, line, name, rows),
         Part::Entries(name, _, rows) => search_titled(number, least, line, name, rows),
         Part::Numbers(name, width, _) => search_number(number, least, line, name, width),
-        Part::Matrix(name, width, _, _) => search_number(number, least, line, name, width),
-        Part::Bytes(_, _) => Search::Missing(number),
-        Part::Until(_, _) => Search::Missing(number),
+        Part::Matrix(name, width, _, _) => {
+            search_open(number, least, line, name, width, Look::Number)
+        }
+        Part::Bytes(name, _) => search_open(number, least, line, name, 1, Look::Text),
+        Part::Until(name, _) => search_open(number, least, line, name, 1, Look::Text),
         Part::Chosen(_, choices) => search_choices(number, least, line, choices),
     }
 }
@@ -210,7 +272,7 @@ fn search_inner(number: usize, least: usize, line: &[u8], inner: &Inner) -> Sear
     }
 }
 
-// Searches the fields of parts, and those of structures within.
+// Searches the fields of parts, and those of structures within, from this number on.
 fn search_both(least: usize, line: &[u8], parts: &[Part], inner: &Inner) -> Option<(usize, Field)>
     ensures { found_of result ≡ find_entry 0 least line.now (parts_entries parts.now ++ inner_entries inner.now) }
 {
@@ -223,8 +285,8 @@ fn search_both(least: usize, line: &[u8], parts: &[Part], inner: &Inner) -> Opti
     }
 }
 
-/// Returns the number and the kind of the next field of a line's name, from this number on, and then from the first field on. The
-/// fields are those of parts, and those of structures within.
+/// Returns the next field of a line's name and its number, from this number on, and then from the first field on. The fields are
+/// those of parts, and those of structures within. An empty line may be that of any field.
 pub fn next_entry(
     least: usize,
     line: &[u8],
@@ -236,5 +298,34 @@ pub fn next_entry(
     match search_both(least, line, parts, inner) {
         Some(found) => Some(found),
         None => search_both(0, line, parts, inner),
+    }
+}
+
+/// Returns the first field with this number or a higher one.
+pub fn entry_from(least: usize, parts: &[Part], inner: &Inner) -> Option<(usize, Field)>
+    ensures { found_of result ≡ find_entry 0 least [] (parts_entries parts.now ++ inner_entries inner.now) }
+{
+    search_both(least, b"", parts, inner)
+}
+
+// Returns the first field of a line's name in structures.
+fn find_inside(line: &[u8], forms: &[StructureForm]) -> Option<(usize, Field)>
+    ensures { found_of result ≡ find_inside line.now forms.now }
+{
+    'forms: for form in forms {
+        if let Some(found) = next_entry(0, line, form.parts, form.inner) {
+            return Some(found);
+        }
+    }
+    None
+}
+
+/// Returns the first field of a line's name in a table and its structures.
+pub fn find_anywhere(line: &[u8], form: &TableForm) -> Option<(usize, Field)>
+    ensures { found_of result ≡ find_anywhere line.now form.now }
+{
+    match next_entry(0, line, form.parts, &Inner::Nothing) {
+        Some(found) => Some(found),
+        None => find_inside(line, form.structures),
     }
 }

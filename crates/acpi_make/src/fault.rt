@@ -1,24 +1,26 @@
 //! What is wrong with a text.
 
-ghost use Rattle.std.specs.Prelude.{◌≡◌, Some};
-ghost use Rattle.acpi_make.specs.Fault.{wanted_text, text_of};
+ghost use Rattle.std.specs.Prelude.{◌≡◌, true, IfOk, Some, string_bytes};
+ghost use Rattle.acpi_text.specs.Label.{all_print};
+ghost use Rattle.acpi_make.specs.Fault.{fault, next, whole, fault_of, line_at, column_at, words, wanted_text, found_text, explained};
+ghost use Rattle.acpi_make.specs.Fault.{without_end, quoted, part_text, error_text};
 ghost use Rattle.acpi_make.specs.declared.fault.MakeError.TheVariants.{Memory};
 
-use std::alloc::{AllocError, AllocFailed};
+use crate::text::{is_white, part_at};
+use acpi_text::note::{all_print, push_quoted};
+use std::alloc::{AllocError, AllocFailed, Global};
 use std::fmt;
 
 /// What has to stand where a text is wrong.
 #[derive(Clone, Copy, Debug, PartialEq, Eq)]
 pub enum Wanted {
-    /// A line feed alone: there is a carriage return.
-    LineFeed,
-    /// A character that prints: there is a tab or another control character.
+    /// A character that prints, or white space: there is a control character.
     Printing,
-    /// A space, after a colon or a value.
+    /// White space, after a colon or a value.
     Space,
     /// A value.
     Value,
-    /// A digit, or the end of the number.
+    /// A hexadecimal digit, or the end of the number.
     Digit,
     /// The second digit of a byte.
     SecondDigit,
@@ -30,23 +32,48 @@ pub enum Wanted {
     Slash,
     /// The brace that ends names.
     Brace,
-    /// The name of a field: the structure has no field of the line's name, so its value has to be bytes.
+    /// Bytes: the line has no field, so its value has to be its bytes.
     Field,
     /// Names of the field's flags, or the name of one of its values.
     Name,
-    /// A number in decimal that fits the field.
+    /// A number that fits the field.
     Number,
     /// The label of a structure, whose offset fits the field.
     Label,
     /// Bytes in place of question marks: nothing determines them.
     Bytes,
+    /// This field or structure, by its name.
+    Next,
+    /// A line of bytes: no field of the form stands here.
+    Nameless,
+    /// The end of the table.
+    End,
+    /// The name of a structure of this table, or its type.
+    Structure,
+    /// As many bytes as the field has.
+    Width,
+    /// All fields of a structure whose length is left out.
+    Whole,
+    /// The end of the text: a text is one table.
+    OneTable,
+    /// A table: the text has no bytes.
+    Table,
 }
 
-/// What is wanted in a line, which is counted from 1.
+/// What is wrong with a text, and where. A place is the number of characters from it to the text's end.
 #[derive(Clone, Copy, Debug, PartialEq, Eq)]
 pub struct Fault {
-    pub line: usize,
+    /// The range of what is wrong: the place of its first character, and the place after its last.
+    pub from: usize,
+    pub to: usize,
+    /// What has to stand there.
     pub wanted: Wanted,
+    /// The name of the field or the structure that has to stand there, or nothing.
+    pub name: &'static str,
+    /// The width of this field in bytes, or 0.
+    pub width: usize,
+    /// How many bytes the text has in place of this width.
+    pub found: usize,
 }
 
 /// Why a text isn't made into bytes.
@@ -56,42 +83,210 @@ pub enum MakeError {
     Fault(Fault),
 }
 
+/// A line and a column of a text, both counted from 1. A column is a number of bytes.
+#[derive(Clone, Copy, Debug, PartialEq, Eq)]
+pub struct Position {
+    pub line: usize,
+    pub column: usize,
+}
+
+/// Returns the line and the column of a place in a text.
+pub fn find_position(place: usize, text: &[u8]) -> Position
+    ensures line { result.line ≡ line_at place text.now }
+    ensures column { result.column ≡ column_at place text.now }
+{
+    let mut line = 1;
+    let mut column = 1;
+    let before = &text[..text.len().saturating_sub(place)];
+    'characters: for character in before {
+        if *character == b'\n' {
+            line += 1;
+            column = 1;
+        } else {
+            column += 1;
+        }
+    }
+    Position { line, column }
+}
+
 impl Wanted {
-    /// What has to stand there, as text.
+    /// What has to stand there, as text. Of a field or a structure it says this much.
     pub fn text(self) -> &'static str
-        ensures { result.now ≡ wanted_text self }
+        ensures { result.now ≡ words self }
     {
         match self {
-            Wanted::LineFeed => "expected a line feed without a carriage return",
-            Wanted::Printing => "expected a character that prints",
-            Wanted::Space => "expected a space",
-            Wanted::Value => "expected a value",
-            Wanted::Digit => "expected a hexadecimal digit",
-            Wanted::SecondDigit => "expected the second digit of a byte",
-            Wanted::QuotationMark => "expected a quotation mark at the end of the text",
-            Wanted::QuestionMark => "expected a second question mark",
-            Wanted::Slash => "expected a second slash",
-            Wanted::Brace => "expected a brace at the end of the names",
-            Wanted::Field => "expected bytes, or the name of a field before the colon",
-            Wanted::Name => "expected a name of a flag or a value of this field",
-            Wanted::Number => "expected a decimal number that fits the field",
-            Wanted::Label => "expected the label of a structure",
-            Wanted::Bytes => "expected bytes: nothing determines the question marks",
+            Wanted::Printing => "a character that prints",
+            Wanted::Space => "a space",
+            Wanted::Value => "a value",
+            Wanted::Digit => "a hexadecimal digit",
+            Wanted::SecondDigit => "the second digit of a byte (#5 and 0x5 are the number 5)",
+            Wanted::QuotationMark => "a quotation mark at the end of the text",
+            Wanted::QuestionMark => "a second question mark",
+            Wanted::Slash => "a second slash",
+            Wanted::Brace => "a brace at the end of the names",
+            Wanted::Field => "bytes, since the line has no field",
+            Wanted::Name => "a name of a flag or a value of this field, with \" | \" between flags",
+            Wanted::Number => "a number that fits the field",
+            Wanted::Label => "the label of a structure",
+            Wanted::Bytes => "bytes, since nothing determines the question marks",
+            Wanted::Next => "another field or structure",
+            Wanted::Nameless => "Bytes, since no field of the form stands here",
+            Wanted::End => "the end of the table",
+            Wanted::Structure => "the name or the type of a structure of this table",
+            Wanted::Width => "as many bytes as the field has",
+            Wanted::Whole => "all fields, since the length is left out",
+            Wanted::OneTable => "the end of the text, since a text is one table",
+            Wanted::Table => "a table, which begins with a signature",
         }
     }
 }
 
-/// The fault as text, for the user of a program.
+impl Fault {
+    /// A fault that concerns no field.
+    pub fn new(from: usize, to: usize, wanted: Wanted) -> Fault
+        ensures { fault_of result ≡ fault from to wanted }
+    {
+        Fault {
+            from,
+            to,
+            wanted,
+            name: "",
+            width: 0,
+            found: 0,
+        }
+    }
+
+    /// A fault in place of which a field or a structure has to stand.
+    pub fn next(from: usize, to: usize, name: &'static str, width: usize) -> Fault
+        ensures { fault_of result ≡ next from to name.now width }
+    {
+        Fault {
+            from,
+            to,
+            wanted: Wanted::Next,
+            name,
+            width,
+            found: 0,
+        }
+    }
+
+    /// A table or a structure that lacks fields, and whose length is left out.
+    pub fn whole(from: usize, to: usize, name: &'static str, found: usize) -> Fault
+        ensures { fault_of result ≡ whole from to name.now found }
+    {
+        Fault {
+            from,
+            to,
+            wanted: Wanted::Whole,
+            name,
+            width: 0,
+            found,
+        }
+    }
+
+    // Returns what has to stand there, as text.
+    fn wanted_text(&self, alloc: Global) -> Result<String, AllocError>
+        ensures { IfOk result (λ text. string_bytes text ≡ wanted_text (fault_of self.now)) }
+    {
+        let (name, width) = (self.name, self.width);
+        match self.wanted {
+            Wanted::Next if name.is_empty() => format!(in alloc; "another field or structure"),
+            Wanted::Next if width == 0 => format!(in alloc; "{name}"),
+            Wanted::Next if width == 1 => format!(in alloc; "{name} (1 byte)"),
+            Wanted::Next => format!(in alloc; "{name} ({width} bytes)"),
+            Wanted::Width if width == 1 => format!(in alloc; "1 byte of {name}"),
+            Wanted::Width => format!(in alloc; "{width} bytes of {name}"),
+            Wanted::Whole => format!(in alloc;
+                "all fields of {name}, since its length is left out"
+            ),
+            wanted => {
+                let words = wanted.text();
+                format!(in alloc; "{words}")
+            }
+        }
+    }
+
+    // Returns what stands there, as text.
+    fn found_text(&self, alloc: Global, text: &[u8]) -> Result<String, AllocError>
+        ensures { IfOk result (λ found. string_bytes found ≡ found_text (fault_of self.now) text.now) }
+    {
+        let part = without_end(part_at(self.from, self.to, text));
+        match self.wanted {
+            Wanted::Width => {
+                let found = self.found;
+                format!(in alloc; "{found}")
+            }
+            Wanted::Whole => {
+                let found = self.found;
+                format!(in alloc; "{found} bytes")
+            }
+            _ => part_text(alloc, self.from, part),
+        }
+    }
+
+    /// Returns what is wrong with a text, and where: the line, the column, what has to stand there, and what does.
+    pub fn explain(&self, alloc: Global, text: &[u8]) -> Result<String, AllocError>
+        ensures { IfOk result (λ why. string_bytes why ≡ explained (fault_of self.now) text.now) }
+    {
+        let Position { line, column } = find_position(self.from, text);
+        let wanted = self.wanted_text(alloc)?;
+        let found = self.found_text(alloc, text)?;
+        format!(in alloc; "line {line}, column {column}: expected {wanted}, found {found}")
+    }
+}
+
+// Returns a part of a text without the white space at its end.
+fn without_end(part: &[u8]) -> &[u8]
+    ensures { result.now ≡ without_end part.now }
+{
+    let mut end = 0;
+    'characters: for i in 0..part.len() {
+        if !is_white(part[i]) {
+            end = i + 1;
+        }
+    }
+    &part[..end]
+}
+
+// Returns a part of a text between quotation marks.
+fn quoted(alloc: Global, part: &[u8]) -> Result<String, AllocError>
+    requires { all_print part.now ≡ true }
+    ensures { IfOk result (λ text. string_bytes text ≡ quoted part.now) }
+{
+    let mut text = String::new(alloc);
+    push_quoted(part, &mut text)?;
+    Ok(text)
+}
+
+// Returns a part of a text that begins at a place, as a message shows it.
+fn part_text(alloc: Global, from: usize, part: &[u8]) -> Result<String, AllocError>
+    ensures { IfOk result (λ text. string_bytes text ≡ part_text from part.now) }
+{
+    if from == 0 {
+        return format!(in alloc; "the end of the text");
+    }
+    if part.is_empty() {
+        return format!(in alloc; "nothing");
+    }
+    if part[0] == b'\n' {
+        return format!(in alloc; "the end of the line");
+    }
+    if all_print(part) {
+        return quoted(alloc, part);
+    }
+    format!(in alloc; "characters that don't print")
+}
+
+/// What has to stand there, for the user of a program. `explain` says more.
 impl fmt::Display for MakeError {
-    ghost output = { λ error. Some (text_of error) };
+    ghost output = { λ error. Some (error_text error) };
 
     fn fmt<W: fmt::Write>(&self, f: &mut fmt::Formatter<W>) -> fmt::Result {
         match *self {
             MakeError::Memory => write!(f, "out of memory"),
             MakeError::Fault(fault) => {
-                let line = fault.line;
                 let wanted = fault.wanted.text();
-                write!(f, "line {line}: {wanted}")
+                write!(f, "expected {wanted}")
             }
         }
     }

@@ -7,19 +7,19 @@ ghost use Rattle.acpi_make.specs.Heading.{known_front, is_known, is_lowest, has_
 
 use crate::entry::is_line_of;
 use crate::item::Cell;
-use crate::text::{after, after_offset, decimal_of, digits_front};
+use crate::text::{after, after_offset, decimal_of, digits_front, is_white};
 use acpi_base::walk::Place;
 use acpi_text::form::StructureForm;
 use acpi_text::piece::find_form;
 
-// Returns how many characters stand before the first space.
+// Returns how many characters stand before the first white space.
 fn word_front(text: &[u8]) -> usize
     ensures is { result ≡ word_front text.now }
     ensures within { result ≤ length text.now }
 {
     let mut count = 0;
     'characters: for character in text {
-        if *character == b' ' {
+        if is_white(*character) {
             return count;
         }
         count += 1;
@@ -54,8 +54,15 @@ fn unlabelled(heading: &[u8]) -> &[u8]
     }
 }
 
-// Returns the form of a name.
-fn find_named(name: &[u8], forms: &[StructureForm]) -> Option<StructureForm>
+//// Returns a heading without its label and its offset.
+pub fn described(heading: &[u8]) -> &[u8]
+    ensures { result.now ≡ described heading.now }
+{
+    after_offset(unlabelled(heading))
+}
+
+/// Returns the form of a name.
+pub fn find_named(name: &[u8], forms: &[StructureForm]) -> Option<StructureForm>
     ensures { result ≡ find_named name.now forms.now }
 {
     'forms: for form in forms {
@@ -80,7 +87,7 @@ fn numbered(text: &[u8], forms: &[StructureForm]) -> Option<StructureForm>
 fn by_heading(heading: &[u8], forms: &[StructureForm]) -> Option<StructureForm>
     ensures { result ≡ by_heading heading.now forms.now }
 {
-    let words = after_offset(unlabelled(heading));
+    let words = described(heading);
     match after(b"type ", words) {
         Some(number) => numbered(number, forms),
         None => find_named(words, forms),

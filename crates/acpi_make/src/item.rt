@@ -1,11 +1,14 @@
 //! What a text consists of.
 
+ghost use Rattle.std.specs.Prelude.{◌≡◌, ◌==◌, not, length};
+ghost use Rattle.acpi_make.specs.Item.{cells_of};
+
 /// A byte of a table, as a text has it.
 #[derive(Clone, Copy, Debug, PartialEq, Eq)]
 pub enum Cell {
     /// A byte that the text states.
     Byte(u8),
-    /// A byte that is to be worked out, and the line that leaves it out.
+    /// A byte that is to be worked out, and the place of what stands for it in the text.
     Left(usize),
 }
 
@@ -15,10 +18,25 @@ pub enum Cell {
 pub enum Item {
     /// A byte.
     Cell(Cell),
-    /// A heading: a line that doesn't begin with a space, and is no comment.
+    /// A heading: a line that begins with neither white space nor a comment.
     Heading(usize, usize),
-    /// What stands before the colon of a line that begins with a space, or all of such a line without a colon.
+    /// What stands before the colon of a line that begins with white space, or all of such a line without a colon.
     Name(usize, usize),
-    /// A value by name, by label or in decimal: its line and its range.
-    Value(usize, usize, usize),
+    /// A value that isn't its bytes: a number with a sign or a prefix, names, or a label.
+    Value(usize, usize),
+}
+
+/// Returns whether a text has bytes.
+pub fn has_bytes(items: &[Item]) -> bool
+    ensures { result ≡ not (length (cells_of items.now) == 0) }
+{
+    'items: for item in items {
+        match *item {
+            Item::Cell(_) => return true,
+            Item::Value(_, _) => return true,
+            Item::Heading(_, _) => {}
+            Item::Name(_, _) => {}
+        }
+    }
+    false
 }

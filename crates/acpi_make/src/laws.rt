@@ -1,6 +1,7 @@
 //! Laws of texts, which cost nothing when they run.
 
 ghost use Rattle.acpi_make.specs.Laws.{TablesAreRead, TablesAreMade, TablesAreTrue, TablesAreWalked};
+ghost use Rattle.acpi_make.specs.Lines.{TextsAreShown};
 
 /// A law: the text of a table has the table's bytes, for every form.
 pub fn tables_are_read()
@@ -20,4 +21,10 @@ pub fn tables_are_true()
 /// A law: a table that is made without a note is walked by the structures that its text lists.
 pub fn tables_are_walked()
     ensures { TablesAreWalked }
+{}
+
+/// A law: the lines of a text that is made into a table are those of the text that shows the table. Each line with a name stands
+/// there at the same offset, and each line there stands in the text, or where the text has bytes without a name.
+pub fn texts_are_shown()
+    ensures { TextsAreShown }
 {}

@@ -2,6 +2,7 @@
 
 #![tactic(auto)]
 
+pub mod compare;
 pub mod complete;
 pub mod draft;
 pub mod entry;
@@ -13,6 +14,7 @@ pub mod make;
 pub mod notes;
 pub mod own;
 pub mod read;
+pub mod short;
 pub mod signature;
 pub mod state;
 mod step;

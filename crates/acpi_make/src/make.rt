@@ -1,16 +1,22 @@
 //! Tables from texts.
 
-ghost use Rattle.std.specs.Prelude.{◌≡◌, ◌++◌, IfOk, OnOk};
-ghost use Rattle.acpi_make.specs.Draft.{drafted};
+ghost use Rattle.std.specs.Prelude.{◌≡◌, ◌++◌, length, OnOk, Result};
+ghost use Rattle.acpi_make.specs.Complete.{completed};
+ghost use Rattle.acpi_make.specs.Draft.{drafted, fault_in};
+ghost use Rattle.acpi_make.specs.Own.{none_own};
+ghost use Rattle.acpi_make.specs.Fault as declared;
 ghost use Rattle.acpi_make.specs.Gives.{Gives};
-ghost use Rattle.acpi_make.specs.Made.{type_place, sizes_own, numbers_own, finished, made, table_of};
+ghost use Rattle.acpi_make.specs.Made.{Table, type_place, sizes_own, numbers_own, finished, or_doubt, made, table_of};
+ghost use Rattle.acpi_make.specs.Source.{source_of};
 
+use crate::compare::difference;
 use crate::complete::{Shape, complete, length_own};
 use crate::draft::{Draft, Source, draft_of};
-use crate::fault::MakeError;
+use crate::fault::{Fault, MakeError};
 use crate::item::Item;
 use crate::notes::notes;
-use crate::own::{Own, push_references, push_table, push_walk};
+use crate::own::{Own, push_none, push_references, push_table, push_walk};
+use crate::short::short;
 use acpi_base::walk::{Place, Walk};
 use acpi_text::form::TableForm;
 use std::alloc::{AllocError, Global};
@@ -48,20 +54,6 @@ fn push_sizes(
     push_walk(walk, &draft.marks, total, owns)
 }
 
-// Returns the length of a table, and what its walk says of its structures.
-fn sizes_own(
-    alloc: Global,
-    shape: Shape,
-    walk: Option<Walk>,
-    draft: &Draft,
-) -> Result<Vec<Own>, AllocError>
-    ensures { IfOk result (λ owns. owns.items ≡ sizes_own shape walk (drafted draft.now)) }
-{
-    let mut owns = Vec::new(alloc);
-    push_sizes(shape, walk, draft, &mut owns)?;
-    Ok(owns)
-}
-
 // Returns the offsets to which references refer, and then all numbers that a table has of itself.
 fn numbers_own(
     alloc: Global,
@@ -70,7 +62,7 @@ fn numbers_own(
     source: &Source,
     draft: &Draft,
 ) -> Result<Vec<Own>, MakeError>
-    ensures { Gives (λ owns. owns.items) result (numbers_own shape walk source.now (drafted draft.now)) }
+    ensures { Gives (λ owns. owns.items) result (numbers_own shape walk (source_of source.now) (drafted draft.now)) }
 {
     let mut owns = Vec::new(alloc);
     push_references(source.text, &draft.marks, &mut owns)?;
@@ -79,27 +71,61 @@ fn numbers_own(
     Ok(owns)
 }
 
-// Returns the table of a table in the making.
+// Returns the bytes of a table in the making, in which its own numbers were worked out.
+fn complete_all(
+    alloc: Global,
+    shape: Shape,
+    walk: Option<Walk>,
+    draft: &Draft,
+    owns: &[Own],
+) -> Result<Vec<u8>, MakeError>
+    ensures { Gives (λ bytes. bytes.items) result (completed shape
+        (owns.now ++ none_own walk (drafted draft.now).marks (length (drafted draft.now).cells)) (drafted draft.now).cells) }
+{
+    let mut all = owns.to_vec(alloc)?;
+    push_none(walk, &draft.marks, draft.cells.len(), &mut all)?;
+    complete(alloc, shape, &all, &draft.cells)
+}
+
+// Returns the table of a table in the making. Its text has the lines of the text that shows the table.
 fn finish(
     alloc: Global,
     shape: Shape,
     walk: Option<Walk>,
     source: &Source,
-    draft: Draft,
+    draft: &Draft,
 ) -> Result<Made, MakeError>
-    ensures { Gives table_of result (finished shape walk source.now (drafted draft)) }
+    ensures { Gives table_of result (finished shape walk (source_of source.now) (drafted draft.now)) }
 {
-    let sizes = sizes_own(alloc, shape, walk, &draft)?;
-    let owns = numbers_own(alloc, shape, walk, source, &draft)?;
-    let bytes = complete(alloc, shape, &owns, draft.cells)?;
-    let untrue = notes(alloc, shape, &sizes, &bytes)?;
+    let owns = numbers_own(alloc, shape, walk, source, draft)?;
+    if let Some(fault) = short(shape, walk, source, draft) {
+        return Err(MakeError::Fault(fault));
+    }
+    let bytes = complete_all(alloc, shape, walk, draft, &owns)?;
+    if let Some(fault) = difference(alloc, walk, source, draft, &bytes)? {
+        return Err(MakeError::Fault(fault));
+    }
+    let untrue = notes(alloc, shape, &owns, &bytes)?;
     Ok(Made { bytes, untrue })
+}
+
+// Returns an outcome, in which what was in doubt before comes before other faults.
+fn or_doubt(doubt: Option<Fault>, outcome: Result<Made, MakeError>) -> Result<Made, MakeError>
+    ensures { (meant : Result Table declared.Fault) → Gives table_of outcome meant → Gives table_of result (or_doubt (fault_in doubt) meant) }
+{
+    match outcome {
+        Err(MakeError::Fault(fault)) => match doubt {
+            Some(doubt) => Err(MakeError::Fault(doubt)),
+            None => Err(MakeError::Fault(fault)),
+        },
+        outcome => outcome,
+    }
 }
 
 /// Returns the table that the parts of a text are made into, by the form and the walk of its signature. What the text leaves out is
 /// worked out: the length, the checksum, the number of structures and the offset of the first, the length and the type of each
-/// structure, the numbers of what they contain, and references. The error is that memory ran out, or what is wrong, and in which
-/// line.
+/// structure, the numbers of what they contain, and references. The error is that memory ran out, or what is wrong, and where. A
+/// text whose lines aren't those of the text that shows the table is wrong.
 pub fn make_of(
     alloc: Global,
     form: TableForm,
@@ -109,7 +135,7 @@ pub fn make_of(
     items: &[Item],
 ) -> Result<Made, MakeError>
     ensures { Gives table_of result
-        (made shape walk (record { form = form; kind = type_place walk; text = text.entry }) items.now) }
+        (made shape walk (record { form = form; kind = type_place walk; text = text.now }) items.now) }
 {
     let source = Source {
         form,
@@ -117,5 +143,8 @@ pub fn make_of(
         text,
     };
     let draft = draft_of(alloc, &source, items)?;
-    finish(alloc, shape, walk, &source, draft)
+    or_doubt(
+        draft.doubt_at_end(),
+        finish(alloc, shape, walk, &source, &draft),
+    )
 }

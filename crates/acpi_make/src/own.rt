@@ -1,21 +1,25 @@
 //! The numbers that a table has of itself.
 
-ghost use Rattle.std.specs.Prelude.{◌≡◌, ◌≤◌, ◌++◌, OnOk, length};
+ghost use Rattle.std.specs.Prelude.{◌≡◌, ◌≤◌, ◌++◌, OnOk, length, if◌then◌else◌};
 ghost use Rattle.acpi_make.specs.Gives.{Changes, with_front};
 ghost use Rattle.acpi_make.specs.Heading.{label_of};
-ghost use Rattle.acpi_make.specs.Own.{own_at, next_start, count_structures, size_own, sizes_own, walk_own};
-ghost use Rattle.acpi_make.specs.Own.{count_lines, next_line, find_line, count_own, part_own, parts_own};
+ghost use Rattle.acpi_make.specs.Source.{source_of};
+ghost use Rattle.acpi_make.specs.Own.{own_at, next_start, count_structures, size_own, sizes_own, all_own, walk_own, none_own};
+ghost use Rattle.acpi_make.specs.Own.{count_lines, next_line, find_line, count_own, part_name, line_of, line_of_parts, gap_own, end_own};
+ghost use Rattle.acpi_make.specs.Own.{part_own, parts_own, next_named, named_sizes, inner_own};
+ghost use Rattle.acpi_make.specs.Draft.{is_nameless};
+ghost use Rattle.std.specs.Option.{option_map};
 ghost use Rattle.acpi_make.specs.Own.{kind_own, structure_own, contents_own, table_own, has_label, find_label, reference_own, references_own};
 
-use crate::draft::{Mark, Source, fits};
+use crate::draft::{Mark, Source, fits, is_nameless};
 use crate::entry::is_line_of;
 use crate::fault::{Fault, MakeError, Wanted};
 use crate::heading::{label_of, structure_form};
 use crate::item::Cell;
 use crate::text::{after, after_offset, part_at};
 use acpi_base::walk::{Place, Sizes, Walk};
-use acpi_text::form::{Count, Part, StructureForm};
-use acpi_text::piece::parts_of;
+use acpi_text::form::{Count, Inner, Part, StructureForm};
+use acpi_text::piece::{inner_of, parts_of};
 use std::alloc::AllocError;
 
 /// A number that a table has of itself, as its length: the offset of its field, the field's width in bytes, and the number.
@@ -47,8 +51,8 @@ fn push_at(
     Ok(())
 }
 
-// Returns the offset of the next structure, or that of the table's end.
-fn next_start(marks: &[Mark], total: usize) -> usize
+/// Returns the offset of the next structure, or that of the table's end.
+pub fn next_start(marks: &[Mark], total: usize) -> usize
     ensures { result ≡ next_start marks.now total }
 {
     'marks: for mark in marks {
@@ -68,7 +72,7 @@ fn count_structures(marks: &[Mark]) -> usize
         match *mark {
             Mark::Structure(_, _, _) => count += 1,
             Mark::Line(_, _, _) => {}
-            Mark::Reference(_, _, _, _, _) => {}
+            Mark::Reference(_, _, _, _) => {}
         }
     }
     count
@@ -101,13 +105,27 @@ fn push_sizes(
                 push_size(sizes, at, size, owns)?;
             }
             Mark::Line(_, _, _) => {}
-            Mark::Reference(_, _, _, _, _) => {}
+            Mark::Reference(_, _, _, _) => {}
         }
     }
     Ok(())
 }
 
-/// Adds the number of structures, the offset of the first, and their lengths.
+// Adds the number of structures, and the offset of the first.
+fn push_all(
+    walk: &Walk,
+    marks: &[Mark],
+    total: usize,
+    owns: &mut Vec<Own>,
+) -> Result<(), AllocError>
+    ensures { OnOk result (owns.new.items ≡ owns.old.items ++ all_own walk.now marks.now total) }
+{
+    let first = next_start(marks, total);
+    push_at(0, first, walk.count, count_structures(marks), owns)?;
+    push_at(0, first, walk.first, first, owns)
+}
+
+/// Adds the number of structures and the offset of the first, if there are structures, and their lengths.
 pub fn push_walk(
     walk: Option<Walk>,
     marks: &[Mark],
@@ -119,10 +137,25 @@ pub fn push_walk(
     let Some(walk) = walk else {
         return Ok(());
     };
-    let first = next_start(marks, total);
-    push_at(0, first, walk.count, count_structures(marks), owns)?;
-    push_at(0, first, walk.first, first, owns)?;
+    if count_structures(marks) != 0 {
+        push_all(&walk, marks, total, owns)?;
+    }
     push_sizes(walk.sizes, marks, total, owns)
+}
+
+/// Adds the number of structures and the offset of the first, if there are no structures.
+pub fn push_none(
+    walk: Option<Walk>,
+    marks: &[Mark],
+    total: usize,
+    owns: &mut Vec<Own>,
+) -> Result<(), AllocError>
+    ensures { OnOk result (owns.new.items ≡ owns.old.items ++ none_own walk marks.now total) }
+{
+    match walk {
+        Some(walk) if count_structures(marks) == 0 => push_all(&walk, marks, total, owns),
+        _ => Ok(()),
+    }
 }
 
 // Returns how many lines of a structure have a name, up to the next structure.
@@ -139,21 +172,21 @@ fn count_lines(text: &[u8], name: &str, marks: &[Mark]) -> usize
                     count += 1;
                 }
             }
-            Mark::Reference(_, _, _, _, _) => {}
+            Mark::Reference(_, _, _, _) => {}
         }
     }
     count
 }
 
-// Returns the offset of the next line, or that of the table's end.
-fn next_line(marks: &[Mark], total: usize) -> usize
+/// Returns the offset of the next line or structure, or that of the table's end.
+pub fn next_line(marks: &[Mark], total: usize) -> usize
     ensures { result ≡ next_line marks.now total }
 {
     'marks: for mark in marks {
         match *mark {
             Mark::Structure(at, _, _) => return at,
             Mark::Line(at, _, _) => return at,
-            Mark::Reference(_, _, _, _, _) => {}
+            Mark::Reference(_, _, _, _) => {}
         }
     }
     total
@@ -171,7 +204,7 @@ fn find_line(text: &[u8], name: &str, marks: &[Mark], total: usize) -> Option<(u
                     return Some((at, next_line(&marks[i + 1..], total)));
                 }
             }
-            Mark::Reference(_, _, _, _, _) => {}
+            Mark::Reference(_, _, _, _) => {}
         }
     }
     None
@@ -195,7 +228,76 @@ fn push_count(
     }
 }
 
-// Adds the number that a structure has of a part.
+// Returns the name of a part's lines.
+fn part_name(part: &Part) -> Option<&'static str>
+    ensures { option_map (λ name. name.now) result ≡ part_name part.now }
+{
+    match *part {
+        Part::Group(name, _)
+        | Part::Entries(name, _, _)
+        | Part::Numbers(name, _, _)
+        | Part::Matrix(name, _, _, _)
+        | Part::Bytes(name, _)
+        | Part::Until(name, _) => Some(name),
+        Part::Fields(_) | Part::Between(_, _, _) | Part::Chosen(_, _) => None,
+    }
+}
+
+// Returns the offsets at which the first line of a part begins and ends.
+fn line_of(text: &[u8], marks: &[Mark], total: usize, part: &Part) -> Option<(usize, usize)>
+    ensures { result ≡ line_of text.now marks.now total (part_name part.now) }
+{
+    match part_name(part) {
+        Some(name) if !is_nameless(name.as_bytes()) => find_line(text, name, marks, total),
+        _ => None,
+    }
+}
+
+// Returns those of the first of these parts that has a line.
+fn line_of_parts(
+    text: &[u8],
+    marks: &[Mark],
+    total: usize,
+    parts: &[Part],
+) -> Option<(usize, usize)>
+    ensures { result ≡ line_of_parts text.now marks.now total parts.now }
+{
+    'parts: for part in parts {
+        if let Some(found) = line_of(text, marks, total, part) {
+            return Some(found);
+        }
+    }
+    None
+}
+
+// Adds the offset at which bytes before a part end, or, if these have no name, that of the next part that the text has.
+fn push_end(
+    text: &[u8],
+    marks: &[Mark],
+    total: usize,
+    start: usize,
+    size: usize,
+    name: &str,
+    place: Place,
+    next: &[Part],
+    owns: &mut Vec<Own>,
+) -> Result<(), AllocError>
+    ensures { OnOk result (owns.new.items ≡ owns.old.items
+        ++ (if is_nameless name.now then gap_own start size place (line_of_parts text.now marks.now total next.now)
+        else end_own start size place (find_line text.now name.now marks.now total))) }
+{
+    let end = if is_nameless(name.as_bytes()) {
+        line_of_parts(text, marks, total, next).map(|found| found.0)
+    } else {
+        find_line(text, name, marks, total).map(|found| found.1)
+    };
+    match end {
+        Some(end) => push_at(start, size, place, end.saturating_sub(start), owns),
+        None => Ok(()),
+    }
+}
+
+// Adds the number that a structure has of a part. `next` is the parts after it.
 fn push_part(
     text: &[u8],
     marks: &[Mark],
@@ -203,9 +305,10 @@ fn push_part(
     start: usize,
     size: usize,
     part: &Part,
+    next: &[Part],
     owns: &mut Vec<Own>,
 ) -> Result<(), AllocError>
-    ensures { OnOk result (owns.new.items ≡ owns.old.items ++ part_own text.now marks.now total start size part.now) }
+    ensures { OnOk result (owns.new.items ≡ owns.old.items ++ part_own text.now marks.now total start size part.now next.now) }
 {
     match *part {
         Part::Entries(name, count, _) => push_count(text, marks, start, size, name, count, owns),
@@ -214,12 +317,14 @@ fn push_part(
             Some((from, to)) => push_at(start, size, place, to.saturating_sub(from), owns),
             None => Ok(()),
         },
-        Part::Until(name, place) => match find_line(text, name, marks, total) {
-            Some((_, to)) => push_at(start, size, place, to.saturating_sub(start), owns),
-            None => Ok(()),
-        },
-        Part::Fields(_) | Part::Between(_, _, _) | Part::Group(_, _) => Ok(()),
-        Part::Matrix(_, _, _, _) | Part::Chosen(_, _) => Ok(()),
+        Part::Until(name, place) => {
+            push_end(text, marks, total, start, size, name, place, next, owns)
+        }
+        Part::Matrix(name, _, rows, _) => {
+            push_at(start, size, rows, count_lines(text, name, marks), owns)
+        }
+        Part::Fields(_) | Part::Between(_, _, _) => Ok(()),
+        Part::Group(_, _) | Part::Chosen(_, _) => Ok(()),
     }
 }
 
@@ -235,10 +340,81 @@ fn push_parts(
 ) -> Result<(), AllocError>
     ensures { OnOk result (owns.new.items ≡ owns.old.items ++ parts_own text.now marks.now total start size parts.now) }
 {
-    'parts: for part in parts {
-        push_part(text, marks, total, start, size, part, owns)?;
+    'parts: for i in 0..parts.len() {
+        push_part(
+            text,
+            marks,
+            total,
+            start,
+            size,
+            &parts[i],
+            &parts[i + 1..],
+            owns,
+        )?;
     }
     Ok(())
+}
+
+// Returns the offset of the next line with a name, or of the next structure, or that of the table's end.
+fn next_named(text: &[u8], name: &str, marks: &[Mark], total: usize) -> usize
+    ensures { result ≡ next_named text.now name.now marks.now total }
+{
+    'marks: for mark in marks {
+        match *mark {
+            Mark::Structure(at, _, _) => return at,
+            Mark::Line(at, from, to) => {
+                if is_line_of(name.as_bytes(), after_offset(part_at(from, to, text))) {
+                    return at;
+                }
+            }
+            Mark::Reference(_, _, _, _) => {}
+        }
+    }
+    total
+}
+
+// Adds the lengths of structures within a structure, each of which begins with a line of this name.
+fn push_named_sizes(
+    text: &[u8],
+    name: &str,
+    sizes: Sizes,
+    marks: &[Mark],
+    total: usize,
+    owns: &mut Vec<Own>,
+) -> Result<(), AllocError>
+    ensures { OnOk result (owns.new.items ≡ owns.old.items ++ named_sizes text.now name.now sizes marks.now total) }
+{
+    'marks: for i in 0..marks.len() {
+        match marks[i] {
+            Mark::Structure(_, _, _) => return Ok(()),
+            Mark::Line(at, from, to) => {
+                if is_line_of(name.as_bytes(), after_offset(part_at(from, to, text))) {
+                    let next = next_named(text, name, &marks[i + 1..], total);
+                    push_size(sizes, at, next.saturating_sub(at), owns)?;
+                }
+            }
+            Mark::Reference(_, _, _, _) => {}
+        }
+    }
+    Ok(())
+}
+
+// Adds the lengths of structures within a structure.
+fn push_inner(
+    text: &[u8],
+    marks: &[Mark],
+    total: usize,
+    inner: &Inner,
+    owns: &mut Vec<Own>,
+) -> Result<(), AllocError>
+    ensures { OnOk result (owns.new.items ≡ owns.old.items ++ inner_own text.now marks.now total inner.now) }
+{
+    match *inner {
+        Inner::Nothing => Ok(()),
+        Inner::Structures(_, name, sizes, _) => {
+            push_named_sizes(text, name, sizes, marks, total, owns)
+        }
+    }
 }
 
 // Adds the type of a structure, by its form.
@@ -269,14 +445,15 @@ fn push_structure(
     to: usize,
     owns: &mut Vec<Own>,
 ) -> Result<(), AllocError>
-    ensures { OnOk result (owns.new.items ≡ owns.old.items ++ structure_own source.now cells.now marks.now total at from to) }
+    ensures { OnOk result (owns.new.items ≡ owns.old.items ++ structure_own (source_of source.now) cells.now marks.now total at from to) }
 {
     let bytes = if at < cells.len() { &cells[at..] } else { &[] };
     let heading = part_at(from, to, source.text);
     let form = structure_form(source.kind, source.form.structures, heading, bytes);
     let size = next_start(marks, total).saturating_sub(at);
     push_kind(source.kind, at, size, form, owns)?;
-    push_parts(source.text, marks, total, at, size, parts_of(form), owns)
+    push_parts(source.text, marks, total, at, size, parts_of(form), owns)?;
+    push_inner(source.text, marks, total, inner_of(form), owns)
 }
 
 // Adds the types of structures, and the numbers of what they contain.
@@ -287,7 +464,7 @@ fn push_contents(
     total: usize,
     owns: &mut Vec<Own>,
 ) -> Result<(), AllocError>
-    ensures { OnOk result (owns.new.items ≡ owns.old.items ++ contents_own source.now cells.now marks.now total) }
+    ensures { OnOk result (owns.new.items ≡ owns.old.items ++ contents_own (source_of source.now) cells.now marks.now total) }
 {
     'marks: for i in 0..marks.len() {
         match marks[i] {
@@ -295,7 +472,7 @@ fn push_contents(
                 push_structure(source, cells, &marks[i + 1..], total, at, from, to, owns)?;
             }
             Mark::Line(_, _, _) => {}
-            Mark::Reference(_, _, _, _, _) => {}
+            Mark::Reference(_, _, _, _) => {}
         }
     }
     Ok(())
@@ -308,7 +485,7 @@ pub fn push_table(
     marks: &[Mark],
     owns: &mut Vec<Own>,
 ) -> Result<(), AllocError>
-    ensures { OnOk result (owns.new.items ≡ owns.old.items ++ table_own source.now cells.now marks.now) }
+    ensures { OnOk result (owns.new.items ≡ owns.old.items ++ table_own (source_of source.now) cells.now marks.now) }
 {
     let total = cells.len();
     let first = next_start(marks, total);
@@ -341,7 +518,7 @@ fn find_label(text: &[u8], wanted: &[u8], marks: &[Mark]) -> Option<usize>
                 }
             }
             Mark::Line(_, _, _) => {}
-            Mark::Reference(_, _, _, _, _) => {}
+            Mark::Reference(_, _, _, _) => {}
         }
     }
     None
@@ -351,11 +528,11 @@ fn find_label(text: &[u8], wanted: &[u8], marks: &[Mark]) -> Option<usize>
 fn push_reference(
     at: usize,
     width: usize,
-    line: usize,
+    range: (usize, usize),
     offset: Option<usize>,
     owns: &mut Vec<Own>,
 ) -> Result<(), MakeError>
-    ensures { Changes result owns.new.items (with_front owns.old.items (reference_own at width line offset)) }
+    ensures { Changes result owns.new.items (with_front owns.old.items (reference_own at width range.0 range.1 offset)) }
 {
     match offset {
         Some(number) if fits(width, number) => {
@@ -367,8 +544,8 @@ fn push_reference(
             Ok(())
         }
         _ => {
-            let wanted = Wanted::Label;
-            Err(MakeError::Fault(Fault { line, wanted }))
+            let (from, to) = range;
+            Err(MakeError::Fault(Fault::new(from, to, Wanted::Label)))
         }
     }
 }
@@ -380,10 +557,10 @@ pub fn push_references(text: &[u8], marks: &[Mark], owns: &mut Vec<Own>) -> Resu
 {
     'marks: for mark in marks {
         match *mark {
-            Mark::Reference(at, width, line, from, to) => {
+            Mark::Reference(at, width, from, to) => {
                 let value = part_at(from, to, text);
                 let label = if value.is_empty() { value } else { &value[1..] };
-                push_reference(at, width, line, find_label(text, label, marks), owns)?;
+                push_reference(at, width, (from, to), find_label(text, label, marks), owns)?;
             }
             Mark::Structure(_, _, _) => {}
             Mark::Line(_, _, _) => {}

@@ -23,16 +23,16 @@ fn end_number(number: &mut Vec<u8>, items: &mut Vec<Item>) -> Result<(), AllocEr
     Ok(())
 }
 
-// Does a step, and returns the next state. The number has its lowest byte last.
+// Does a step at a place, and returns the next state. The number has its lowest byte last.
 #[inline(always)]
 fn act(
     done: Step,
-    line: usize,
+    here: usize,
     number: &mut Vec<u8>,
     items: &mut Vec<Item>,
 ) -> Result<State, MakeError>
     requires { GoesToHalf done }
-    ensures acts { Acts result line done number.old.items number.new.items items.old.items items.new.items }
+    ensures acts { Acts result here done number.old.items number.new.items items.old.items items.new.items }
     ensures half { IfOk result IsHalf }
 {
     match done {
@@ -49,28 +49,28 @@ fn act(
             items.push(item)?;
             Ok(state)
         }
-        Step::Wants(wanted) => Err(MakeError::Fault(Fault { line, wanted })),
+        Step::Wants(wanted) => {
+            let fault = Fault::new(here, here.saturating_sub(1), wanted);
+            Err(MakeError::Fault(fault))
+        }
     }
 }
 
 /// Returns the parts of a text: its bytes, its headings, the names of its lines, and values by name. The error is that memory ran
-/// out, or what is wrong, and in which line.
+/// out, or what is wrong, and where.
 pub fn read_text(alloc: Global, text: &[u8]) -> Result<Vec<Item>, MakeError>
     ensures { Gives (λ items. items.items) result (parts_of text.now) }
 {
-    let mut line = 1;
     let mut state = State::Start;
     let mut number = Vec::new(alloc);
     let mut items = Vec::new(alloc);
     let mut rest = text;
     'bytes: while let [byte, more @ ..] = rest {
-        let done = step(line, rest.len(), state, *byte);
-        state = act(done, line, &mut number, &mut items)?;
-        if *byte == b'\n' {
-            line += 1;
-        }
+        let here = rest.len();
+        let done = step(here, state, *byte);
+        state = act(done, here, &mut number, &mut items)?;
         rest = more;
     }
-    act(line_end(line, 0, state), line, &mut number, &mut items)?;
+    act(line_end(0, state), 0, &mut number, &mut items)?;
     Ok(items)
 }

@@ -13,7 +13,7 @@ fn first_byte(items: &[Item]) -> Option<(u8, &[Item])>
         match items[i] {
             Item::Cell(Cell::Byte(byte)) => return Some((byte, &items[i + 1..])),
             Item::Cell(Cell::Left(_)) => return None,
-            Item::Value(_, _, _) => return None,
+            Item::Value(_, _) => return None,
             Item::Heading(_, _) => {}
             Item::Name(_, _) => {}
         }

@@ -12,7 +12,7 @@ pub enum State {
     Slashed(usize),
     /// In a heading.
     Headed(usize),
-    /// After spaces that a line begins with.
+    /// After white space that a line begins with.
     Indented,
     /// After a slash there.
     NameSlashed(usize),
@@ -22,23 +22,23 @@ pub enum State {
     Skipped,
     /// After a colon or a value.
     Ended,
-    /// After a space there.
+    /// After white space there.
     Spaced,
     /// After the first slash of a comment.
     HalfComment,
     /// In a number, after a whole byte.
     Number,
-    /// In a number, after the first digit of a byte, which has this value.
-    Half(u8),
+    /// In a number, after the first digit of a byte: its value, and its place if it is the number's first digit, or otherwise 0.
+    Half(u8, usize),
     /// In a text between quotation marks.
     Quoted,
     /// After the first question mark of a byte.
-    HalfMark,
+    HalfMark(usize),
     /// After the second.
     Marked,
     /// In names between braces.
     Braced(usize),
-    /// In a label, or a number in decimal.
+    /// In a label, or in a number with a sign or a prefix.
     Worded(usize),
 }
 

@@ -1,6 +1,6 @@
 //! A text of a form for a start. A function whose name begins with `push` adds to a text.
 
-ghost use Rattle.std.specs.Prelude.{◌≡◌, ◌+◌, ◌*◌, ◌<◌, ◌∷◌, ◌++◌, OnOk, IfOk, string_bytes, codes};
+ghost use Rattle.std.specs.Prelude.{◌≡◌, ◌+◌, ◌*◌, ◌<◌, ◌∷◌, ◌++◌, OnOk, IfOk, string_bytes, codes, ℕ, MatchOption};
 ghost use Rattle.acpi_base.specs.Look.{words_of, part_of, bits_of, look_of};
 ghost use Rattle.acpi_text.specs.Label.{label};
 ghost use Rattle.acpi_text.specs.Line.{spaces};
@@ -10,9 +10,12 @@ ghost use Rattle.acpi_make.specs.Template.{field_line, title_line, row_line, off
 ghost use Rattle.acpi_make.specs.Template.{row_lines, rows_lines, rows_end, choice_lines, choice_end, part_lines, part_end};
 ghost use Rattle.acpi_make.specs.Template.{parts_lines, place_at, size_at, count_at, counts_at, inner_lines, structure_known};
 ghost use Rattle.acpi_make.specs.Template.{structure_lines, structures_text, sums_at, walk_at, table_own, template_text};
+ghost use Rattle.acpi_make.specs.Template.{stated_text, sides_at, all_sides};
+ghost use Rattle.acpi_make.specs.Template as template;
 ghost use Rattle.acpi_make.specs.TemplateKnown.{known_of};
 
 use crate::complete::{Shape, length_own};
+use crate::draft::is_nameless;
 use crate::entry::row_field;
 use acpi_base::gas::GENERIC_ADDRESS;
 use acpi_base::row::{Bits, Look, Row, Word};
@@ -119,11 +122,13 @@ fn push_hint(look: Look, text: &mut String) -> Result<(), AllocError>
     }
 }
 
-// What a template has in place of zeros: the signature at offset 0, and question marks at the offsets of a table's own numbers.
+// What a template has in place of zeros: the signature at offset 0, question marks at the offsets of a table's own numbers, and 1 at
+// those of the numbers of a matrix's rows and columns.
 #[derive(Clone, Copy, Debug)]
 struct Known<'a> {
     signature: &'a str,
     own: &'a [usize],
+    ones: &'a [usize],
 }
 
 // Adds a number of at most eight bytes, or else zeros.
@@ -163,6 +168,18 @@ fn push_zeros(row: &Row, text: &mut String) -> Result<(), AllocError>
     }
 }
 
+// Adds the value of a row that isn't worked out.
+fn push_stated(known: &Known, at: usize, row: &Row, text: &mut String) -> Result<(), AllocError>
+    ensures { OnOk result (string_bytes text.new ≡ string_bytes text.old ++ stated_text (known_of known.now) at row.now) }
+{
+    if is_among(at, known.ones) {
+        text.push_str(" ")?;
+        push_preset(row.width(), 1, text)
+    } else {
+        push_zeros(row, text)
+    }
+}
+
 // Adds the value of a row at an offset.
 fn push_value(known: &Known, at: usize, row: &Row, text: &mut String) -> Result<(), AllocError>
     ensures { OnOk result (string_bytes text.new ≡ string_bytes text.old ++ value_text (known_of known.now) at row.now) }
@@ -175,7 +192,7 @@ fn push_value(known: &Known, at: usize, row: &Row, text: &mut String) -> Result<
         text.push_str(" ")?;
         push_times(row.width(), "??", text)
     } else {
-        push_zeros(row, text)
+        push_stated(known, at, row, text)
     }
 }
 
@@ -207,8 +224,8 @@ fn push_row_line(
 ) -> Result<(), AllocError>
     ensures { OnOk result (string_bytes text.new ≡ string_bytes text.old ++ row_line depth (known_of known.now) at row.now) }
 {
-    let (name, field) = row_field(row);
-    push_name(depth, name, text)?;
+    let field = row_field(row);
+    push_name(depth, field.name, text)?;
     text.push_str(":")?;
     push_value(known, at, row, text)?;
     push_hint(field.look, text)?;
@@ -248,6 +265,7 @@ fn push_plain(
 const NOTHING: Known<'static> = Known {
     signature: "",
     own: &[],
+    ones: &[],
 };
 
 // Adds the fields of a register's address.
@@ -255,6 +273,18 @@ fn push_address(depth: u8, text: &mut String) -> Result<(), AllocError>
     ensures { OnOk result (string_bytes text.new ≡ string_bytes text.old ++ address_lines depth) }
 {
     push_plain(depth, &NOTHING, 1, &GENERIC_ADDRESS, text)
+}
+
+// Returns the name of a row that is a register.
+fn register_name(row: &Row) -> Option<&'static str>
+    ensures { (depth : ℕ) (known : template.Known) (at : ℕ)
+        → MatchOption result (row_lines depth known at row.now ≡ row_line depth known at row.now)
+        (λ name. row_lines depth known at row.now ≡ title_line depth name.now ++ address_lines (depth + 1)) }
+{
+    match *row {
+        Row::Register(name) => Some(name),
+        _ => None,
+    }
 }
 
 // Adds the lines of a row.
@@ -268,12 +298,12 @@ fn push_row(
     requires { depth < 255 }
     ensures { OnOk result (string_bytes text.new ≡ string_bytes text.old ++ row_lines depth (known_of known.now) at row.now) }
 {
-    match *row {
-        Row::Register(name) => {
+    match register_name(row) {
+        Some(name) => {
             push_title(depth, name, text)?;
             push_address(depth + 1, text)
         }
-        _ => push_row_line(depth, known, at, row, text),
+        None => push_row_line(depth, known, at, row, text),
     }
 }
 
@@ -336,8 +366,10 @@ fn push_choice(
     ensures { OnOk result (string_bytes text.new ≡ string_bytes text.old ++ choice_lines depth (known_of known.now) at choices.now) }
 {
     match choices.first() {
-        Some(choice) => push_group(depth, known, at, choice.name, choice.rows, text),
-        None => Ok(()),
+        Some(choice) if !choice.rows.is_empty() => {
+            push_group(depth, known, at, choice.name, choice.rows, text)
+        }
+        _ => Ok(()),
     }
 }
 
@@ -390,6 +422,7 @@ fn push_part(
         Part::Numbers(name, width, _) => push_number(depth, name, width, text),
         Part::Matrix(name, width, _, _) => push_number(depth, name, width, text),
         Part::Bytes(name, _) => push_empty(depth, name, text),
+        Part::Until(name, _) if is_nameless(name.as_bytes()) => Ok(()),
         Part::Until(name, _) => push_empty(depth, name, text),
         Part::Chosen(_, choices) => push_choice(depth, known, at, choices, text),
     }
@@ -476,15 +509,48 @@ fn push_counts(parts: &[Part], own: &mut Vec<usize>) -> Result<(), AllocError>
     Ok(())
 }
 
+// Adds the offsets of the numbers of rows and columns.
+fn push_sides(part: &Part, ones: &mut Vec<usize>) -> Result<(), AllocError>
+    ensures { OnOk result (ones.new.items ≡ ones.old.items ++ sides_at part.now) }
+{
+    match *part {
+        Part::Matrix(_, _, rows, columns) => {
+            push_place(rows, ones)?;
+            push_place(columns, ones)
+        }
+        Part::Fields(_) | Part::Between(_, _, _) | Part::Group(_, _) => Ok(()),
+        Part::Entries(_, _, _) | Part::Numbers(_, _, _) | Part::Bytes(_, _) => Ok(()),
+        Part::Until(_, _) | Part::Chosen(_, _) => Ok(()),
+    }
+}
+
+// Returns the offsets of the numbers of rows and columns.
+fn all_sides(alloc: Global, parts: &[Part]) -> Result<Vec<usize>, AllocError>
+    ensures { IfOk result (λ ones. ones.items ≡ all_sides parts.now) }
+{
+    let mut ones = Vec::new(alloc);
+    'parts: for part in parts {
+        push_sides(part, &mut ones)?;
+    }
+    Ok(ones)
+}
+
 // Adds the lines of structures within.
-fn push_inner(inner: &Inner, text: &mut String) -> Result<(), AllocError>
+fn push_inner(alloc: Global, inner: &Inner, text: &mut String) -> Result<(), AllocError>
     ensures { OnOk result (string_bytes text.new ≡ string_bytes text.old ++ inner_lines inner.now) }
 {
     match *inner {
         Inner::Nothing => Ok(()),
-        Inner::Structures(_, name, _, parts) => {
+        Inner::Structures(_, name, sizes, parts) => {
+            let mut own = Vec::new(alloc);
+            push_size(sizes, &mut own)?;
+            let known = Known {
+                signature: "",
+                own: &own,
+                ones: &[],
+            };
             push_title(0, name, text)?;
-            push_parts(1, &NOTHING, 0, parts, text)
+            push_parts(1, &known, 0, parts, text)
         }
     }
 }
@@ -510,14 +576,16 @@ fn push_structure(
     ensures { OnOk result (string_bytes text.new ≡ string_bytes text.old ++ structure_lines walk.now form.now) }
 {
     let own = structure_own(alloc, walk, form.parts)?;
+    let ones = all_sides(alloc, form.parts)?;
     let known = Known {
         signature: "",
         own: &own,
+        ones: &ones,
     };
     push_label(form.name, text)?;
     text.push_str("\n")?;
     push_parts(0, &known, 0, form.parts, text)?;
-    push_inner(form.inner, text)
+    push_inner(alloc, form.inner, text)
 }
 
 // Adds the lines of structures.
@@ -598,9 +666,11 @@ pub fn template_of(
     ensures { IfOk result (λ text. string_bytes text ≡ template_text signature.now shape form.now walk) }
 {
     let own = table_own(alloc, shape, walk, form.parts)?;
+    let ones = all_sides(alloc, form.parts)?;
     let known = Known {
         signature,
         own: &own,
+        ones: &ones,
     };
     let mut text = String::new(alloc);
     push_label(form.name, &mut text)?;

@@ -1,7 +1,18 @@
 //! Parts of texts.
 
 ghost use Rattle.std.specs.Prelude.{◌≡◌, ◌≤◌, length, None, Some, MatchOption};
-ghost use Rattle.acpi_make.specs.Text.{part_at, after, are_spaces, is_decimal, digits_front, more_digits, decimal_of, after_offset};
+ghost use Rattle.acpi_make.specs.Text.{is_white, part_at, after, are_white, is_decimal, digits_front, more_digits, decimal_of, after_offset};
+ghost use Rattle.acpi_make.specs.Text.{more_hex, hex_of};
+
+use acpi_base::digit::digit_value;
+
+/// Returns whether a character is white space: a space, a tab, or a carriage return.
+#[inline(always)]
+pub fn is_white(character: u8) -> bool
+    ensures { result ≡ is_white character }
+{
+    character == b' ' || character == b'\t' || character == b'\r'
+}
 
 /// Returns the part of a text between two places.
 pub fn part_at(from: usize, to: usize, text: &[u8]) -> &[u8]
@@ -34,12 +45,12 @@ pub fn after<'a>(front: &[u8], text: &'a [u8]) -> Option<&'a [u8]>
     Some(rest)
 }
 
-/// Returns whether a text has spaces alone.
-pub fn are_spaces(text: &[u8]) -> bool
-    ensures { result ≡ are_spaces text.now }
+/// Returns whether a text has white space alone.
+pub fn are_white(text: &[u8]) -> bool
+    ensures { result ≡ are_white text.now }
 {
     'characters: for character in text {
-        if *character != b' ' {
+        if !is_white(*character) {
             return false;
         }
     }
@@ -107,4 +118,30 @@ pub fn after_offset(text: &[u8]) -> &[u8]
     } else {
         &[]
     }
+}
+
+// Returns a number with a further hexadecimal digit.
+fn more_hex(number: u64, character: u8) -> Option<u64>
+    ensures { result ≡ more_hex number character }
+{
+    let digit = digit_value(character)?;
+    let high = number.checked_mul(16)?;
+    high.checked_add(u64::from(digit))
+}
+
+/// Returns the number of a text of hexadecimal digits, if it is below 2^64.
+pub fn hex_of(text: &[u8]) -> Option<u64>
+    ensures { result ≡ hex_of text.now }
+{
+    if text.is_empty() {
+        return None;
+    }
+    let mut number = 0;
+    'digits: for character in text {
+        match more_hex(number, *character) {
+            Some(more) => number = more,
+            None => return None,
+        }
+    }
+    Some(number)
 }

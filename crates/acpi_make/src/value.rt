@@ -5,7 +5,7 @@ ghost use Rattle.acpi_base.specs.Look.{words_of, bits_of, look_of};
 ghost use Rattle.acpi_make.specs.Text.{after};
 ghost use Rattle.acpi_make.specs.Value.{front_name, front_part, front_of, name_then, joined, only, names_value, value_of};
 
-use crate::text::{after, decimal_of};
+use crate::text::{after, decimal_of, hex_of};
 use acpi_base::row::{Bits, Look, Word};
 
 /// What names begin with.
@@ -110,13 +110,14 @@ fn names_value(look: Look, text: &[u8]) -> Option<u64>
     }
 }
 
-/// Returns the number of a value: decimal digits after a number sign, or names between braces.
+/// Returns the number of a value: decimal digits after a number sign, hexadecimal digits after `0x`, or names between braces.
 pub fn value_of(look: Look, text: &[u8]) -> Option<u64>
     ensures { result ≡ value_of (look_of look) text.now }
 {
     match text {
         [] => None,
         [b'#', digits @ ..] => decimal_of(digits),
+        [b'0', _, digits @ ..] => hex_of(digits),
         [_, names @ ..] => names_value(look, &names[..names.len().saturating_sub(1)]),
     }
 }

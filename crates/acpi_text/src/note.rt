@@ -22,8 +22,8 @@ fn prints(byte: u8) -> bool
     (0x20..=0x7e).contains(&byte)
 }
 
-// Returns whether all bytes print.
-fn all_print(bytes: &[u8]) -> bool
+/// Returns whether all bytes print.
+pub fn all_print(bytes: &[u8]) -> bool
     ensures { result ≡ all_print bytes.now }
 {
     'bytes: for byte in bytes {
@@ -94,13 +94,13 @@ fn trimmed(bytes: &[u8]) -> &[u8]
     &[]
 }
 
-// Adds bytes that all print, between quotation marks.
-fn push_quoted(bytes: &[u8], text: &mut String) -> Result<(), AllocError>
+/// Adds bytes that all print, between quotation marks.
+pub fn push_quoted(bytes: &[u8], text: &mut String) -> Result<(), AllocError>
     requires { all_print bytes.now ≡ true }
     ensures { OnOk result (string_bytes text.new ≡ string_bytes text.old
-        ++ (codes "  // \"" ++ (bytes.now ++ codes "\""))) }
+        ++ (codes "\"" ++ (bytes.now ++ codes "\""))) }
 {
-    text.push_str("  // \"")?;
+    text.push_str("\"")?;
     'bytes: for byte in bytes {
         text.push(*byte as char)?;
     }
@@ -112,6 +112,7 @@ fn push_text(characters: &[u8], text: &mut String) -> Result<(), AllocError>
     ensures { OnOk result (string_bytes text.new ≡ string_bytes text.old ++ quoted characters.now) }
 {
     if !characters.is_empty() && all_print(characters) {
+        text.push_str("  // ")?;
         push_quoted(characters, text)
     } else {
         Ok(())

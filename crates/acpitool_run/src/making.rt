@@ -80,8 +80,9 @@ pub fn make_text<E: Write>(
             Ok(Some(made.bytes))
         }
         Err(MakeError::Memory) => Err(io::Error::from(AllocError)),
-        Err(fault) => {
-            complain(alloc, name, &fault, err)?;
+        Err(MakeError::Fault(fault)) => {
+            let why = fault.explain(alloc, text)?;
+            complain(alloc, name, &why, err)?;
             Ok(None)
         }
     }

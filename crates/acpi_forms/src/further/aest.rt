@@ -117,7 +117,7 @@ const NODES: [StructureForm; 7] = [
         name: "Processor Error Node",
         parts: &[
             Part::Fields(&PROCESSOR),
-            Part::Until("Before the Node-specific Data", Place::DWord(4)),
+            Part::Until("Bytes", Place::DWord(4)),
             Part::Until("Node-specific Data", Place::DWord(8)),
             Part::Until("Node Interface", Place::DWord(12)),
             Part::Entries("Node Interrupt", Count::Field(Place::DWord(16)), &INTERRUPT),
@@ -129,7 +129,7 @@ const NODES: [StructureForm; 7] = [
         name: "Memory Error Node",
         parts: &[
             Part::Fields(&MEMORY),
-            Part::Until("Before the Node-specific Data", Place::DWord(4)),
+            Part::Until("Bytes", Place::DWord(4)),
             Part::Until("Node-specific Data", Place::DWord(8)),
             Part::Until("Node Interface", Place::DWord(12)),
             Part::Entries("Node Interrupt", Count::Field(Place::DWord(16)), &INTERRUPT),
@@ -141,7 +141,7 @@ const NODES: [StructureForm; 7] = [
         name: "SMMU Error Node",
         parts: &[
             Part::Fields(&SMMU),
-            Part::Until("Before the Node-specific Data", Place::DWord(4)),
+            Part::Until("Bytes", Place::DWord(4)),
             Part::Until("Node-specific Data", Place::DWord(8)),
             Part::Until("Node Interface", Place::DWord(12)),
             Part::Entries("Node Interrupt", Count::Field(Place::DWord(16)), &INTERRUPT),
@@ -153,7 +153,7 @@ const NODES: [StructureForm; 7] = [
         name: "Vendor-defined Error Node",
         parts: &[
             Part::Fields(&VENDOR),
-            Part::Until("Before the Node-specific Data", Place::DWord(4)),
+            Part::Until("Bytes", Place::DWord(4)),
             Part::Until("Node-specific Data", Place::DWord(8)),
             Part::Until("Node Interface", Place::DWord(12)),
             Part::Entries("Node Interrupt", Count::Field(Place::DWord(16)), &INTERRUPT),
@@ -165,7 +165,7 @@ const NODES: [StructureForm; 7] = [
         name: "GIC Error Node",
         parts: &[
             Part::Fields(&GIC),
-            Part::Until("Before the Node-specific Data", Place::DWord(4)),
+            Part::Until("Bytes", Place::DWord(4)),
             Part::Until("Node-specific Data", Place::DWord(8)),
             Part::Until("Node Interface", Place::DWord(12)),
             Part::Entries("Node Interrupt", Count::Field(Place::DWord(16)), &INTERRUPT),
@@ -177,7 +177,7 @@ const NODES: [StructureForm; 7] = [
         name: "PCIe Error Node",
         parts: &[
             Part::Fields(&PCIE),
-            Part::Until("Before the Node-specific Data", Place::DWord(4)),
+            Part::Until("Bytes", Place::DWord(4)),
             Part::Until("Node-specific Data", Place::DWord(8)),
             Part::Until("Node Interface", Place::DWord(12)),
             Part::Entries("Node Interrupt", Count::Field(Place::DWord(16)), &INTERRUPT),
@@ -189,7 +189,7 @@ const NODES: [StructureForm; 7] = [
         name: "Proxy Error Node",
         parts: &[
             Part::Fields(&PROXY),
-            Part::Until("Before the Node-specific Data", Place::DWord(4)),
+            Part::Until("Bytes", Place::DWord(4)),
             Part::Until("Node-specific Data", Place::DWord(8)),
             Part::Until("Node Interface", Place::DWord(12)),
             Part::Entries("Node Interrupt", Count::Field(Place::DWord(16)), &INTERRUPT),

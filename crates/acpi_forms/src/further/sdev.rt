@@ -71,9 +71,9 @@ const SECURE_DEVICES: [StructureForm; 2] = [
         parts: &[
             Part::Fields(&NAMESPACE_DEVICE),
             Part::Chosen(Place::Byte(1), &BY_FLAGS),
-            Part::Until("Before the Device Identifier", Place::Word(4)),
+            Part::Until("Bytes", Place::Word(4)),
             Part::Bytes("Device Identifier", Place::Word(6)),
-            Part::Until("Before the Vendor Specific Data", Place::Word(8)),
+            Part::Until("Bytes", Place::Word(8)),
             Part::Bytes("Vendor Specific Data", Place::Word(10)),
         ],
         inner: &Inner::Nothing,
@@ -83,9 +83,9 @@ const SECURE_DEVICES: [StructureForm; 2] = [
         name: "Secure PCIe Endpoint Device Structure",
         parts: &[
             Part::Fields(&PCIE_ENDPOINT),
-            Part::Until("Before the PCI Path", Place::Word(8)),
+            Part::Until("Bytes", Place::Word(8)),
             Part::Bytes("PCI Path", Place::Word(10)),
-            Part::Until("Before the Vendor Specific Data", Place::Word(12)),
+            Part::Until("Bytes", Place::Word(12)),
             Part::Bytes("Vendor Specific Data", Place::Word(14)),
         ],
         inner: &Inner::Nothing,

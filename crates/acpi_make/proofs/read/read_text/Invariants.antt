@@ -6,9 +6,8 @@ use Rattle.acpi_make.proofs.read.read_text.Given as goal
 
 abbrev pub invariant-bytes : goal.invariant-bytes
 invariant-bytes l = record {
-  lines : l.line + length l.rest ≤ length l.text + 1;
   half : IsHalf l.state;
-  means : with_front l.items.items (read l.line l.state (reverse l.number.items) l.rest) ≡ parts_of l.text;
+  means : with_front l.items.items (read l.state (reverse l.number.items) l.rest) ≡ parts_of l.text;
 }
 
 abbrev pub decreases-bytes : goal.decreases-bytes

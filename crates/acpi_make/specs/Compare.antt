@@ -1,0 +1,167 @@
+-- Whether the lines of a text are those of the text that shows its table.
+use Rattle.std.specs.Prelude.{ℕ, ◌-◌, ◌==◌, nat_lt, not, ◌&&◌, ◌||◌, Bool, true, false, if◌then◌else◌}
+use Rattle.std.specs.Prelude.{List, [], ◌∷◌, length, take, drop, codes, Option, Some, None, Result, Ok}
+use Rattle.acpi_base.specs.declared.walk.Walk.{Walk}
+use Rattle.acpi_text.specs.Structure.{find_form}
+use Rattle.acpi_text.specs.Table.{table_text}
+use Rattle.acpi_text.specs.declared.form.StructureForm.{StructureForm}
+use Rattle.acpi_make.specs.Draft.{Drafted, nothing_yet, is_nameless, all_taken}
+use Rattle.acpi_make.specs.Entry.{is_line_of, find_anywhere, name_found, is_open}
+use Rattle.acpi_make.specs.Fault.{Fault, fault, next}
+use Rattle.acpi_make.specs.Gives.{and_then}
+use Rattle.acpi_make.specs.Heading.{described, find_named}
+use Rattle.acpi_make.specs.Meaning.{parts_of}
+use Rattle.acpi_make.specs.Own.{next_line}
+use Rattle.acpi_make.specs.Source.{Source}
+use Rattle.acpi_make.specs.Text.{part_at, after, after_offset, digits_front, decimal_of, are_white}
+use Rattle.acpi_make.specs.declared.draft.Mark.{Mark}
+use Rattle.acpi_make.specs.declared.draft.Mark.TheVariants.{Structure, Line, Reference}
+use Rattle.acpi_make.specs.declared.fault.Wanted.TheVariants as wants
+
+-- ---- headings
+
+abbrev pub number_of : Option StructureForm → Option ℕ
+number_of (Some form) = Some form.number
+number_of None = None
+
+-- by the number after the word `type`, 0 after the word `entry`, or by the structure's name
+abbrev pub number_said : Option (List ℕ) → Option (List ℕ) → List ℕ → List StructureForm → Option ℕ
+number_said (Some text) entry words forms = decimal_of (take (digits_front text) text)
+number_said None (Some text) words forms = Some 0
+number_said None None words forms = number_of (find_named words forms)
+
+-- the type of which a heading says that its structure has it
+abbrev pub heading_number : List StructureForm → List ℕ → Option ℕ
+heading_number forms heading =
+    let words = described heading in
+    number_said (after (codes "type ") words) (after (codes "entry") words) words forms
+
+abbrev pub is_same_number : Option ℕ → Option ℕ → Bool
+is_same_number (Some n) (Some m) = n == m
+is_same_number (Some n) None = false
+is_same_number None (Some m) = false
+is_same_number None None = true
+
+-- ---- marks
+
+abbrev pub mark_at : Mark → ℕ
+mark_at (Structure at from to) = at
+mark_at (Line at from to) = at
+mark_at (Reference at w from to) = at
+
+abbrev pub is_reference : Mark → Bool
+is_reference (Structure at from to) = false
+is_reference (Line at from to) = false
+is_reference (Reference at w from to) = true
+
+-- the name of a line
+abbrev pub name_in : Source → ℕ → ℕ → List ℕ
+name_in s from to = after_offset (part_at from to s.text)
+
+-- whether two names are the same, but for white space at their ends
+abbrev pub is_same_name : List ℕ → List ℕ → Bool
+is_same_name [] other = are_white other
+is_same_name (c ∷ name) [] = are_white (c ∷ name)
+is_same_name (c ∷ name) (d ∷ other) = c == d && is_same_name name other
+
+-- whether marks of two texts say the same: structures of one type, or lines with one name, at one offset
+abbrev pub is_same : Source → Source → Mark → Mark → Bool
+is_same s t (Structure a from to) (Structure b since until) =
+    a == b
+    && is_same_number (heading_number s.form.structures.now (part_at from to s.text))
+    (heading_number t.form.structures.now (part_at since until t.text))
+is_same s t (Line a from to) (Line b since until) = a == b && is_same_name (name_in s from to) (name_in t since until)
+is_same s t (Structure a from to) (Line b since until) = false
+is_same s t (Structure a from to) (Reference b w since until) = false
+is_same s t (Line a from to) (Structure b since until) = false
+is_same s t (Line a from to) (Reference b w since until) = false
+is_same s t (Reference a w from to) other = false
+
+-- ---- the lines of two texts
+
+-- whether a mark is one of the lines that a line of bytes stands for: it says something else, and stands before the end of these bytes
+abbrev pub is_passed : Source → Source → Mark → ℕ → Mark → Bool
+is_passed s t one covered other = is_reference other || (not (is_same s t one other) && nat_lt (mark_at other) covered)
+
+-- the marks without those at the front that are passed
+abbrev pub past : Source → Source → Mark → ℕ → List Mark → List Mark
+past s t one covered [] = []
+past s t one covered (other ∷ others) =
+    if is_passed s t one covered other then past s t one covered others else other ∷ others
+
+-- the marks at an offset or after it
+abbrev pub rest_from : ℕ → List Mark → List Mark
+rest_from covered [] = []
+rest_from covered (other ∷ others) =
+    if is_reference other || nat_lt (mark_at other) covered then rest_from covered others else other ∷ others
+
+abbrev pub begins_same : Source → Source → Mark → List Mark → Bool
+begins_same s t one [] = false
+begins_same s t one (other ∷ others) = is_same s t one other
+
+-- whether a mark is a line of bytes without a name
+abbrev pub has_no_name : Source → Mark → Bool
+has_no_name s (Structure at from to) = false
+has_no_name s (Line at from to) = is_nameless (name_in s from to)
+has_no_name s (Reference at w from to) = false
+
+-- whether it is a line of no bytes, whose field may have none
+abbrev pub is_empty : Source → Mark → ℕ → Bool
+is_empty s (Structure at from to) end = false
+is_empty s (Line at from to) end = end == at && is_open (find_anywhere (name_in s from to) s.form)
+is_empty s (Reference at w from to) end = false
+
+-- the end of the bytes that lines of bytes without a name stand for
+abbrev pub cover : Source → Mark → ℕ → ℕ → ℕ
+cover s one end covered = if has_no_name s one then end else covered
+
+-- ---- what is wrong with a text whose lines are others
+
+abbrev pub name_of_form : Option StructureForm → List ℕ
+name_of_form (Some form) = form.name.now
+name_of_form None = []
+
+abbrev pub name_of_number : List StructureForm → Option ℕ → List ℕ
+name_of_number forms (Some n) = name_of_form (find_form n forms)
+name_of_number forms None = []
+
+-- what has to stand in a range of the text, by the marks of the other text, which ends at an offset
+abbrev pub wanted_at : Source → ℕ → ℕ → List Mark → ℕ → Fault
+wanted_at t from to [] end = fault from to wants.End
+wanted_at t from to (Structure at since until ∷ others) end =
+    next from to (name_of_number t.form.structures.now (heading_number t.form.structures.now (part_at since until t.text))) 0
+wanted_at t from to (Line at since until ∷ others) end =
+    if is_nameless (name_in t since until) then fault from to wants.Nameless
+    else next from to (name_found (find_anywhere (name_in t since until) t.form)) (next_line others end - at)
+wanted_at t from to (Reference at w since until ∷ others) end = fault from to wants.End
+
+abbrev pub wanted_for : Source → Mark → List Mark → ℕ → Fault
+wanted_for t (Structure at from to) others end = wanted_at t from to others end
+wanted_for t (Line at from to) others end = wanted_at t from to others end
+wanted_for t (Reference at w from to) others end = wanted_at t from to others end
+
+-- the end of a text, after which the other text has these marks
+abbrev pub wanted_after : Source → List Mark → ℕ → Option Fault
+wanted_after t [] end = None
+wanted_after t (other ∷ others) end = Some (wanted_at t 0 0 (other ∷ others) end)
+
+-- ---- all lines
+
+-- The first mark of a text that the other text doesn't have in its place. Both have tables of this size.
+abbrev pub differ : Source → Source → ℕ → ℕ → List Mark → List Mark → Option Fault
+differ s t size covered [] others = wanted_after t (rest_from covered others) size
+differ s t size covered (one ∷ marks) others =
+    let rest = past s t one covered others in
+    let end = next_line marks size in
+    if is_reference one then differ s t size covered marks others
+    else (if begins_same s t one rest then differ s t size (cover s one end covered) marks (drop 1 rest)
+    else (if has_no_name s one || is_empty s one end then differ s t size (cover s one end covered) marks rest
+    else Some (wanted_for t one rest size)))
+
+-- what is wrong with the lines of a text, if the text that shows its table has these parts
+abbrev pub difference : Option Walk → Source → Drafted → List ℕ → Result (Option Fault) Fault
+difference walk s d bytes =
+    let shown = record s { text = table_text s.form walk bytes } in
+    and_then (parts_of shown.text) (λ parts.
+    and_then (all_taken shown parts nothing_yet) (λ other.
+    Ok (differ s shown (length bytes) 0 d.marks other.marks)))

@@ -1,0 +1,105 @@
+-- Structures that lack fields, and whose length the text leaves out.
+use Rattle.std.specs.Prelude.{ℕ, zero, suc, ◌-◌, nat_le, not, ◌&&◌, Bool, true, false, if◌then◌else◌}
+use Rattle.std.specs.Prelude.{List, [], ◌∷◌, length, drop, Option, Some, None}
+use Rattle.std.specs.List.{slice_range}
+use Rattle.acpi_base.specs.Fields.{row_width}
+use Rattle.acpi_base.specs.Walk.{place_offset, place_width}
+use Rattle.acpi_base.specs.declared.row.Row.{Row}
+use Rattle.acpi_base.specs.declared.walk.Place.{Place}
+use Rattle.acpi_base.specs.declared.walk.Place.TheVariants.{Nowhere}
+use Rattle.acpi_base.specs.declared.walk.Sizes.{Sizes}
+use Rattle.acpi_base.specs.declared.walk.Sizes.TheVariants.{EachOf, ToldAt, BySource}
+use Rattle.acpi_base.specs.declared.walk.Walk.{Walk}
+use Rattle.acpi_text.specs.declared.form.Part.{Part}
+use Rattle.acpi_text.specs.declared.form.Part.TheVariants.{Fields, Between, Group}
+use Rattle.acpi_text.specs.declared.form.StructureForm.{StructureForm}
+use Rattle.acpi_make.specs.Complete.{length_own}
+use Rattle.acpi_make.specs.Draft.{Drafted, first_of}
+use Rattle.acpi_make.specs.Fault.{Fault, whole}
+use Rattle.acpi_make.specs.Heading.{structure_form}
+use Rattle.acpi_make.specs.Own.{next_start}
+use Rattle.acpi_make.specs.Source.{Source}
+use Rattle.acpi_make.specs.Text.{part_at}
+use Rattle.acpi_make.specs.declared.complete.Shape.{Shape}
+use Rattle.acpi_make.specs.declared.draft.Mark.{Mark}
+use Rattle.acpi_make.specs.declared.draft.Mark.TheVariants.{Structure, Line, Reference}
+use Rattle.acpi_make.specs.declared.short.Fit.{Fit}
+use Rattle.acpi_make.specs.declared.short.Fit.TheVariants.{Leaves, Lacks, Depends}
+use Rattle.acpi_make.specs.declared.item.Cell.{Cell}
+use Rattle.acpi_make.specs.declared.item.Cell.TheVariants.{Byte, Left}
+
+-- ---- room for fields
+
+-- how many of n bytes are left after the fields of these rows, if there are as many
+abbrev pub room : ℕ → List Row → Fit
+room n [] = Leaves n
+room n (row ∷ rows) = if nat_le (row_width row) n then room (n - row_width row) rows else Lacks
+
+-- those of a part, whose size may depend on other fields
+abbrev pub part_room : ℕ → Part → Fit
+part_room n (Fields rows) = room n rows.now
+part_room n (Between rows from to) = room n (slice_range rows.now from to)
+part_room n (Group name rows) = room n rows.now
+part_room n part = Depends
+
+abbrev pub room_then : Fit → (ℕ → Bool) → Bool
+room_then (Leaves n) others = others n
+room_then Lacks others = false
+room_then Depends others = true
+
+-- Whether n bytes have all fields at the front of these parts: those before the first part whose size depends on other fields.
+abbrev pub has_fields : ℕ → List Part → Bool
+has_fields n [] = true
+has_fields n (part ∷ parts) = room_then (part_room n part) (λ m. has_fields m parts)
+
+-- ---- lengths that are left out
+
+-- whether one of the first w bytes isn't known
+abbrev pub any_left : ℕ → List Cell → Bool
+any_left zero cells = false
+any_left (suc w) [] = false
+any_left (suc w) (Left place ∷ cells) = true
+any_left (suc w) (Byte b ∷ cells) = any_left w cells
+
+-- the place of the length of a structure
+abbrev pub place_of_size : Sizes → Place
+place_of_size (ToldAt place) = place
+place_of_size (EachOf size) = Nowhere
+place_of_size BySource = Nowhere
+
+abbrev pub size_place : Option Walk → Place
+size_place (Some walk) = place_of_size walk.sizes
+size_place None = Nowhere
+
+-- ---- what lacks fields
+
+-- a structure of this form and size at an offset, with the range of its heading
+abbrev pub short_structure : Place → List Cell → ℕ → ℕ → ℕ → ℕ → Option StructureForm → Option Fault
+short_structure place cells at size from to None = None
+short_structure place cells at size from to (Some form) =
+    if any_left (place_width place) (drop (place_offset place) (drop at cells)) && not (has_fields size form.parts.now)
+    then Some (whole from to form.name.now size)
+    else None
+
+-- the first structure that lacks fields
+abbrev pub short_in : Source → Place → List Cell → List Mark → Option Fault
+short_in s place cells [] = None
+short_in s place cells (Structure at from to ∷ marks) =
+    first_of
+    (short_structure place cells at (next_start marks (length cells) - at) from to
+    (structure_form s.kind s.form.structures.now (part_at from to s.text) (drop at cells)))
+    (short_in s place cells marks)
+short_in s place cells (Line at from to ∷ marks) = short_in s place cells marks
+short_in s place cells (Reference at w from to ∷ marks) = short_in s place cells marks
+
+-- the fields of a table before structures
+abbrev pub short_table : Shape → Source → List Cell → ℕ → Option Fault
+short_table shape s cells first =
+    if any_left 4 (drop (length_own shape (length cells)).offset cells) && not (has_fields first s.form.parts.now)
+    then Some (whole 0 0 s.form.name.now first)
+    else None
+
+-- the table, or the first of its structures that lacks fields
+abbrev pub short : Shape → Option Walk → Source → Drafted → Option Fault
+short shape walk s d =
+    first_of (short_table shape s d.cells (next_start d.marks (length d.cells))) (short_in s (size_place walk) d.cells d.marks)

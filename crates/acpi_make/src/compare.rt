@@ -1,0 +1,362 @@
+//! Whether the lines of a text are those of the text that shows its table. So a line stands where the form has its field, and has
+//! the bytes of that field.
+
+ghost use Rattle.std.specs.Prelude.{◌≡◌, List, ◌∷◌, Some, MatchResult};
+ghost use Rattle.acpi_make.specs.Compare.{heading_number, is_same_number, mark_at, is_reference, name_in, is_same_name, is_same};
+ghost use Rattle.acpi_make.specs.Compare.{is_passed, past, rest_from, begins_same, has_no_name, is_empty, cover};
+ghost use Rattle.acpi_make.specs.Compare.{name_of_number, wanted_at, wanted_for, wanted_after, differ, difference};
+ghost use Rattle.acpi_make.specs.Draft.{drafted, fault_in};
+ghost use Rattle.acpi_make.specs.Entry.{name_found, is_open, found_of};
+ghost use Rattle.acpi_make.specs.Fault.{fault_of};
+ghost use Rattle.acpi_make.specs.Gives.{Gives};
+ghost use Rattle.acpi_make.specs.Own.{next_line};
+ghost use Rattle.acpi_make.specs.Source.{source_of};
+ghost use Rattle.acpi_make.specs.declared.draft.Mark as mark;
+
+use crate::draft::{Draft, Mark, Source, draft_of, is_nameless};
+use crate::entry::{Field, find_anywhere};
+use crate::fault::{Fault, MakeError, Wanted};
+use crate::heading::{described, find_named};
+use crate::own::next_line;
+use crate::read::read_text;
+use crate::text::{after, after_offset, are_white, decimal_of, digits_front, part_at};
+use acpi_base::walk::Walk;
+use acpi_text::form::StructureForm;
+use acpi_text::piece::find_form;
+use acpi_text::table::show_by;
+use std::alloc::Global;
+
+// Returns the type of which a heading says that its structure has it: the number after the word `type`, 0 after the word `entry`,
+// or that of the structure's name.
+fn heading_number(forms: &[StructureForm], heading: &[u8]) -> Option<u64>
+    ensures { result ≡ heading_number forms.now heading.now }
+{
+    let words = described(heading);
+    if let Some(text) = after(b"type ", words) {
+        return decimal_of(&text[..digits_front(text)]);
+    }
+    if let Some(_) = after(b"entry", words) {
+        return Some(0);
+    }
+    match find_named(words, forms) {
+        Some(form) => Some(form.number as u64),
+        None => None,
+    }
+}
+
+fn is_same_number(number: Option<u64>, other: Option<u64>) -> bool
+    ensures { result ≡ is_same_number number other }
+{
+    match (number, other) {
+        (Some(number), Some(other)) => number == other,
+        (None, None) => true,
+        _ => false,
+    }
+}
+
+fn mark_at(mark: &Mark) -> usize
+    ensures { result ≡ mark_at mark.now }
+{
+    match *mark {
+        Mark::Structure(at, _, _) => at,
+        Mark::Line(at, _, _) => at,
+        Mark::Reference(at, _, _, _) => at,
+    }
+}
+
+fn is_reference(mark: &Mark) -> bool
+    ensures { result ≡ is_reference mark.now }
+{
+    match *mark {
+        Mark::Reference(_, _, _, _) => true,
+        Mark::Structure(_, _, _) => false,
+        Mark::Line(_, _, _) => false,
+    }
+}
+
+// Returns the name of a line.
+fn name_in<'a>(source: &Source<'a>, from: usize, to: usize) -> &'a [u8]
+    ensures { result.now ≡ name_in (source_of source.now) from to }
+{
+    after_offset(part_at(from, to, source.text))
+}
+
+// Returns whether two names are the same, but for white space at their ends.
+fn is_same_name(name: &[u8], other: &[u8]) -> bool
+    ensures { result ≡ is_same_name name.now other.now }
+{
+    let mut name_left = name;
+    let mut other_left = other;
+    'characters: while let [character, more @ ..] = name_left {
+        match other_left {
+            [wanted, others @ ..] if character == wanted => {
+                name_left = more;
+                other_left = others;
+            }
+            [] => return are_white(name_left),
+            _ => return false,
+        }
+    }
+    are_white(other_left)
+}
+
+// Returns whether marks of two texts say the same: structures of one type, or lines with one name, at one offset.
+fn is_same(source: &Source, shown: &Source, one: &Mark, other: &Mark) -> bool
+    ensures { result ≡ is_same (source_of source.now) (source_of shown.now) one.now other.now }
+{
+    match (*one, *other) {
+        (Mark::Structure(at, from, to), Mark::Structure(start, since, until)) => {
+            let heading = part_at(from, to, source.text);
+            let wanted = part_at(since, until, shown.text);
+            at == start
+                && is_same_number(
+                    heading_number(source.form.structures, heading),
+                    heading_number(shown.form.structures, wanted),
+                )
+        }
+        (Mark::Line(at, from, to), Mark::Line(start, since, until)) => {
+            at == start && is_same_name(name_in(source, from, to), name_in(shown, since, until))
+        }
+        _ => false,
+    }
+}
+
+// Returns whether a mark is one of the lines that a line of bytes stands for: it says something else, and stands before the end of
+// these bytes.
+fn is_passed(source: &Source, shown: &Source, one: &Mark, covered: usize, other: &Mark) -> bool
+    ensures { result ≡ is_passed (source_of source.now) (source_of shown.now) one.now covered other.now }
+{
+    is_reference(other) || (!is_same(source, shown, one, other) && mark_at(other) < covered)
+}
+
+// Returns the marks without those at the front that are passed.
+fn past<'a>(
+    source: &Source,
+    shown: &Source,
+    one: &Mark,
+    covered: usize,
+    others: &'a [Mark],
+) -> &'a [Mark]
+    ensures { result.now ≡ past (source_of source.now) (source_of shown.now) one.now covered others.now }
+{
+    let mut rest = others;
+    'marks: while let [other, more @ ..] = rest {
+        if !is_passed(source, shown, one, covered, other) {
+            return rest;
+        }
+        rest = more;
+    }
+    rest
+}
+
+// Returns the marks at an offset or after it.
+fn rest_from(covered: usize, others: &[Mark]) -> &[Mark]
+    ensures { result.now ≡ rest_from covered others.now }
+{
+    let mut rest = others;
+    'marks: while let [other, more @ ..] = rest {
+        if !is_reference(other) && mark_at(other) >= covered {
+            return rest;
+        }
+        rest = more;
+    }
+    rest
+}
+
+fn begins_same(source: &Source, shown: &Source, one: &Mark, others: &[Mark]) -> bool
+    ensures { result ≡ begins_same (source_of source.now) (source_of shown.now) one.now others.now }
+{
+    match others {
+        [other, ..] => is_same(source, shown, one, other),
+        [] => false,
+    }
+}
+
+// Returns whether a mark is a line of bytes without a name.
+fn has_no_name(source: &Source, mark: &Mark) -> bool
+    ensures { result ≡ has_no_name (source_of source.now) mark.now }
+{
+    match *mark {
+        Mark::Line(_, from, to) => is_nameless(name_in(source, from, to)),
+        Mark::Structure(_, _, _) => false,
+        Mark::Reference(_, _, _, _) => false,
+    }
+}
+
+// Returns whether a field that was found is one of any number of bytes.
+fn is_open(found: Option<(usize, Field)>) -> bool
+    ensures { result ≡ is_open (found_of found) }
+{
+    match found {
+        Some((_, field)) => field.size == 0 && field.width == 1,
+        None => false,
+    }
+}
+
+// Returns whether a mark is a line of no bytes, whose field may have none.
+fn is_empty(source: &Source, mark: &Mark, end: usize) -> bool
+    ensures { result ≡ is_empty (source_of source.now) mark.now end }
+{
+    match *mark {
+        Mark::Line(at, from, to) => {
+            end == at && is_open(find_anywhere(name_in(source, from, to), &source.form))
+        }
+        Mark::Structure(_, _, _) => false,
+        Mark::Reference(_, _, _, _) => false,
+    }
+}
+
+// Returns the end of the bytes that lines of bytes without a name stand for.
+fn cover(source: &Source, one: &Mark, end: usize, covered: usize) -> usize
+    ensures { result ≡ cover (source_of source.now) one.now end covered }
+{
+    if has_no_name(source, one) {
+        end
+    } else {
+        covered
+    }
+}
+
+// Returns the name of the structures of a type, or nothing.
+fn name_of_number(forms: &[StructureForm], number: Option<u64>) -> &'static str
+    ensures { result.now ≡ name_of_number forms.now number }
+{
+    match number {
+        Some(number) => match find_form(number as usize, forms) {
+            Some(form) => form.name,
+            None => "",
+        },
+        None => "",
+    }
+}
+
+// Returns the name of a field that was found, or nothing.
+fn name_found(found: Option<(usize, Field)>) -> &'static str
+    ensures { result.now ≡ name_found (found_of found) }
+{
+    match found {
+        Some((_, field)) => field.name,
+        None => "",
+    }
+}
+
+// Returns the fault of a range of the text, in whose place the marks of the other text have to stand.
+fn wanted_at(shown: &Source, from: usize, to: usize, others: &[Mark], end: usize) -> Fault
+    ensures { fault_of result ≡ wanted_at (source_of shown.now) from to others.now end }
+{
+    match others {
+        [Mark::Structure(_, since, until), ..] => {
+            let forms = shown.form.structures;
+            let number = heading_number(forms, part_at(*since, *until, shown.text));
+            Fault::next(from, to, name_of_number(forms, number), 0)
+        }
+        [Mark::Line(at, since, until), more @ ..] => {
+            let name = name_in(shown, *since, *until);
+            if is_nameless(name) {
+                return Fault::new(from, to, Wanted::Nameless);
+            }
+            let size = next_line(more, end).saturating_sub(*at);
+            Fault::next(from, to, name_found(find_anywhere(name, &shown.form)), size)
+        }
+        _ => Fault::new(from, to, Wanted::End),
+    }
+}
+
+fn wanted_for(shown: &Source, one: &Mark, others: &[Mark], end: usize) -> Fault
+    ensures { fault_of result ≡ wanted_for (source_of shown.now) one.now others.now end }
+{
+    match *one {
+        Mark::Structure(_, from, to) => wanted_at(shown, from, to, others, end),
+        Mark::Line(_, from, to) => wanted_at(shown, from, to, others, end),
+        Mark::Reference(_, _, from, to) => wanted_at(shown, from, to, others, end),
+    }
+}
+
+// Returns the fault of the end of a text, after which the other text has these marks.
+fn wanted_after(shown: &Source, others: &[Mark], end: usize) -> Option<Fault>
+    ensures { fault_in result ≡ wanted_after (source_of shown.now) others.now end }
+{
+    if others.is_empty() {
+        None
+    } else {
+        Some(wanted_at(shown, 0, 0, others, end))
+    }
+}
+
+// Compares a mark of a text with those of the other text, and returns what is left: the end of the bytes that lines of bytes stand
+// for, and the marks of the other text.
+fn compare<'a>(
+    source: &Source,
+    shown: &Source,
+    end: usize,
+    size: usize,
+    one: &Mark,
+    covered: usize,
+    others: &'a [Mark],
+) -> Result<(usize, &'a [Mark]), Fault>
+    ensures { (marks : List mark.Mark) → next_line marks size ≡ end
+        → MatchResult result
+        (λ left. differ (source_of source.now) (source_of shown.now) size covered (one.now ∷ marks) others.now
+        ≡ differ (source_of source.now) (source_of shown.now) size left.0 marks left.1.now)
+        (λ wrong. differ (source_of source.now) (source_of shown.now) size covered (one.now ∷ marks) others.now
+        ≡ Some (fault_of wrong)) }
+{
+    if is_reference(one) {
+        return Ok((covered, others));
+    }
+    let rest = past(source, shown, one, covered, others);
+    let next = cover(source, one, end, covered);
+    if begins_same(source, shown, one, rest) {
+        return Ok((next, &rest[1..]));
+    }
+    if has_no_name(source, one) || is_empty(source, one, end) {
+        return Ok((next, rest));
+    }
+    Err(wanted_for(shown, one, rest, size))
+}
+
+// Returns what is wrong with the first mark of a text that the other text doesn't have in its place. Both have tables of this size.
+fn differ(
+    source: &Source,
+    shown: &Source,
+    size: usize,
+    marks: &[Mark],
+    others: &[Mark],
+) -> Option<Fault>
+    ensures { fault_in result ≡ differ (source_of source.now) (source_of shown.now) size 0 marks.now others.now }
+{
+    let mut covered = 0;
+    let mut rest = others;
+    'marks: for i in 0..marks.len() {
+        let end = next_line(&marks[i + 1..], size);
+        match compare(source, shown, end, size, &marks[i], covered, rest) {
+            Ok((next, left)) => {
+                covered = next;
+                rest = left;
+            }
+            Err(fault) => return Some(fault),
+        }
+    }
+    wanted_after(shown, rest_from(covered, rest), size)
+}
+
+/// Returns what is wrong with the lines of a text, which was made into these bytes, if the text that shows them has other lines.
+pub fn difference(
+    alloc: Global,
+    walk: Option<Walk>,
+    source: &Source,
+    draft: &Draft,
+    bytes: &[u8],
+) -> Result<Option<Fault>, MakeError>
+    ensures { Gives fault_in result (difference walk (source_of source.now) (drafted draft.now) bytes.now) }
+{
+    let text = show_by(alloc, &source.form, walk, bytes)?;
+    let items = read_text(alloc, text.as_bytes())?;
+    let shown = Source {
+        form: source.form,
+        kind: source.kind,
+        text: text.as_bytes(),
+    };
+    let other = draft_of(alloc, &shown, &items)?;
+    Ok(differ(source, &shown, bytes.len(), &draft.marks, &other.marks))
+}

@@ -1,0 +1,189 @@
+//! Structures that lack fields, and whose length the text leaves out.
+
+ghost use Rattle.std.specs.Prelude.{◌≡◌, drop};
+ghost use Rattle.acpi_base.specs.Walk.{place_offset, place_width};
+ghost use Rattle.acpi_make.specs.Draft.{drafted, fault_in};
+ghost use Rattle.acpi_make.specs.Short.{room, part_room, has_fields, any_left, size_place};
+ghost use Rattle.acpi_make.specs.Short.{short_structure, short_in, short_table, short};
+ghost use Rattle.acpi_make.specs.Source.{source_of};
+
+use crate::complete::{Shape, length_own};
+use crate::draft::{Draft, Mark, Source, first_of};
+use crate::fault::Fault;
+use crate::heading::structure_form;
+use crate::item::Cell;
+use crate::own::next_start;
+use crate::text::part_at;
+use acpi_base::row::Row;
+use acpi_base::walk::{Place, Sizes, Walk};
+use acpi_text::form::{Part, StructureForm};
+use acpi_text::part::between;
+
+/// Whether bytes have all of some fields.
+#[derive(Clone, Copy)]
+pub enum Fit {
+    /// They have, and so many bytes are left.
+    Leaves(usize),
+    /// They lack some.
+    Lacks,
+    /// That depends on other fields.
+    Depends,
+}
+
+// Returns how many bytes are left after the fields of rows, if there are as many.
+fn room(size: usize, rows: &[Row]) -> Fit
+    ensures { result ≡ room size rows.now }
+{
+    let mut left = size;
+    'rows: for row in rows {
+        let width = row.width();
+        if width > left {
+            return Fit::Lacks;
+        }
+        left -= width;
+    }
+    Fit::Leaves(left)
+}
+
+// Returns how many bytes are left after the fields of a part.
+fn part_room(size: usize, part: &Part) -> Fit
+    ensures { result ≡ part_room size part.now }
+{
+    match *part {
+        Part::Fields(rows) => room(size, rows),
+        Part::Between(rows, from, to) => room(size, between(rows, from, to)),
+        Part::Group(_, rows) => room(size, rows),
+        Part::Entries(_, _, _)
+        | Part::Numbers(_, _, _)
+        | Part::Matrix(_, _, _, _)
+        | Part::Bytes(_, _)
+        | Part::Until(_, _)
+        | Part::Chosen(_, _) => Fit::Depends,
+    }
+}
+
+// Returns whether bytes have all fields at the front of parts: those before the first part whose size depends on other fields.
+fn has_fields(size: usize, parts: &[Part]) -> bool
+    ensures { result ≡ has_fields size parts.now }
+{
+    let mut left = size;
+    'parts: for part in parts {
+        match part_room(left, part) {
+            Fit::Leaves(rest) => left = rest,
+            Fit::Lacks => return false,
+            Fit::Depends => return true,
+        }
+    }
+    true
+}
+
+// Returns whether one of the first bytes isn't known.
+fn any_left(width: usize, cells: &[Cell]) -> bool
+    ensures { result ≡ any_left width cells.now }
+{
+    let mut left = width;
+    let mut rest = cells;
+    'cells: while left > 0 {
+        match rest {
+            [Cell::Byte(_), more @ ..] => rest = more,
+            [Cell::Left(_), ..] => return true,
+            [] => return false,
+        }
+        left -= 1;
+    }
+    false
+}
+
+// Returns the bytes from an offset on.
+fn from_offset(offset: usize, cells: &[Cell]) -> &[Cell]
+    ensures { result.now ≡ drop offset cells.now }
+{
+    if offset < cells.len() {
+        &cells[offset..]
+    } else {
+        &[]
+    }
+}
+
+// Returns the place of the length of a structure.
+fn size_place(walk: Option<Walk>) -> Place
+    ensures { result ≡ size_place walk }
+{
+    match walk {
+        Some(walk) => match walk.sizes {
+            Sizes::ToldAt(place) => place,
+            Sizes::EachOf(_) => Place::Nowhere,
+            Sizes::BySource => Place::Nowhere,
+        },
+        None => Place::Nowhere,
+    }
+}
+
+// Returns whether the text leaves out a byte of the field at a place of a structure.
+fn leaves_out(place: Place, at: usize, cells: &[Cell]) -> bool
+    ensures { result ≡ any_left (place_width place) (drop (place_offset place) (drop at cells.now)) }
+{
+    let (offset, end) = (place.offset(), place.end());
+    any_left(end - offset, from_offset(offset, from_offset(at, cells)))
+}
+
+// Returns the fault of a structure of this form and size, if it lacks fields.
+fn short_structure(
+    place: Place,
+    cells: &[Cell],
+    at: usize,
+    size: usize,
+    range: (usize, usize),
+    form: Option<StructureForm>,
+) -> Option<Fault>
+    ensures { fault_in result ≡ short_structure place cells.now at size range.0 range.1 form }
+{
+    match form {
+        Some(form) if leaves_out(place, at, cells) && !has_fields(size, form.parts) => {
+            let (from, to) = range;
+            Some(Fault::whole(from, to, form.name, size))
+        }
+        _ => None,
+    }
+}
+
+// Returns the fault of the first structure that lacks fields.
+fn short_in(source: &Source, place: Place, cells: &[Cell], marks: &[Mark]) -> Option<Fault>
+    ensures { fault_in result ≡ short_in (source_of source.now) place cells.now marks.now }
+{
+    'marks: for i in 0..marks.len() {
+        if let Mark::Structure(at, from, to) = marks[i] {
+            let size = next_start(&marks[i + 1..], cells.len()).saturating_sub(at);
+            let heading = part_at(from, to, source.text);
+            let forms = source.form.structures;
+            let form = structure_form(source.kind, forms, heading, from_offset(at, cells));
+            if let Some(fault) = short_structure(place, cells, at, size, (from, to), form) {
+                return Some(fault);
+            }
+        }
+    }
+    None
+}
+
+// Returns the fault of a table that lacks fields before its structures.
+fn short_table(shape: Shape, source: &Source, cells: &[Cell], first: usize) -> Option<Fault>
+    ensures { fault_in result ≡ short_table shape (source_of source.now) cells.now first }
+{
+    let offset = length_own(shape, cells.len()).offset;
+    if any_left(4, from_offset(offset, cells)) && !has_fields(first, source.form.parts) {
+        Some(Fault::whole(0, 0, source.form.name, first))
+    } else {
+        None
+    }
+}
+
+/// Returns the fault of a table, or of the first of its structures, that lacks fields, and whose length the text leaves out.
+pub fn short(shape: Shape, walk: Option<Walk>, source: &Source, draft: &Draft) -> Option<Fault>
+    ensures { fault_in result ≡ short shape walk (source_of source.now) (drafted draft.now) }
+{
+    let first = next_start(&draft.marks, draft.cells.len());
+    first_of(
+        short_table(shape, source, &draft.cells, first),
+        short_in(source, size_place(walk), &draft.cells, &draft.marks),
+    )
+}
