@@ -44,7 +44,7 @@ pub const SPCR: TableForm = TableForm {
     parts: &[
         Part::Fields(&HEADER),
         Part::Between(&SPCR_ROWS, 0, 23),
-        Part::Until("Before the Namespace String", Place::Word(86)),
+        Part::Until("Bytes", Place::Word(86)),
         Part::Bytes("NamespaceString", Place::Word(84)),
     ],
     structures: &[],

@@ -3,12 +3,15 @@ use Rattle.std.specs.Prelude.{◌≡◌, ◌≢◌, ◌⊎◌, ℕ, Bool, true, 
 use Rattle.std.specs.Fmt.{decimal}
 use Rattle.std.specs.Io.KnownBytes.{Keeps, Appends}
 use Rattle.acpi_forms.specs.Makes.{IsMade}
-use Rattle.acpi_make.specs.Fault.{text_of}
-use Rattle.acpi_make.specs.declared.fault.Fault.{Fault}
+use Rattle.acpi_make.specs.Fault.{fault_of, explained}
+use Rattle.acpi_make.specs.declared.fault.Fault as texts
 use Rattle.acpi_make.specs.declared.fault.MakeError.TheVariants as errors
 use Rattle.acpi_make.specs.declared.make.Made.{Made}
 use Rattle.acpi_make.specs.declared.own.Own.{Own}
 use Rattle.acpitool_run.specs.Listing.{NotRead}
+use Rattle.acpitool_run.specs.Outcome.{fault_line}
+use Rattle.acpitool_run.specs.Structures.{IsSoundOr}
+use Rattle.acpitool_run.specs.declared.fault.Fault.{Fault}
 
 -- a number that the text states otherwise, and the number that would be right
 abbrev pub note : List ℕ → Own → List ℕ
@@ -23,32 +26,45 @@ abbrev pub notes : List ℕ → List Own → List ℕ
 notes name [] = []
 notes name (one ∷ owns) = note name one ++ notes name owns
 
--- the line after the notes of a table that isn't written
+-- what is wrong with a table whose numbers are right
+abbrev pub IsChecked : List Own → List ℕ → Option Fault → Type 0
+IsChecked [] bytes fault = IsSoundOr bytes fault
+IsChecked (one ∷ owns) bytes fault = fault ≡ None
+
+-- the notes on a table, and what is wrong with it
+abbrev pub warnings : List ℕ → List Own → Option Fault → List ℕ
+warnings name owns fault = notes name owns ++ fault_line name fault
+
+-- the line after these of a table that isn't written
 abbrev pub held_line : List ℕ → List ℕ
-held_line name = name ++ codes ": not written: its numbers are wrong (--force writes it)\n"
+held_line name = name ++ codes ": not written (--force writes it)\n"
 
 -- The text is made into a table of these bytes, which is to be written. A line says of each number that isn't right which would
--- be: there is none, unless such a table is written by force.
+-- be, or what is wrong with the table: there is none, unless such a table is written by force.
 pub record MadeText (force : Bool) (name text bytes : List ℕ) (err err' : Option (List ℕ)) : Type 0 where
   pub made : Made
   pub is : IsMade text (Ok made)
   pub same : made.bytes.items ≡ bytes
-  pub right : (force ≡ true) ⊎ (made.untrue.items ≡ [])
-  pub noted : Appends err err' (notes name made.untrue.items)
+  pub fault : Option Fault
+  pub checked : IsChecked made.untrue.items made.bytes.items fault
+  pub right : (force ≡ true) ⊎ ((made.untrue.items ≡ []) × (fault ≡ None))
+  pub noted : Appends err err' (warnings name made.untrue.items fault)
 
--- the text is made into a table whose numbers are wrong, which isn't to be written, and lines say so
+-- the text is made into a table whose numbers are wrong, or that is wrong itself, which isn't to be written, and lines say so
 pub record Held (force : Bool) (name text : List ℕ) (err err' : Option (List ℕ)) : Type 0 where
   pub made : Made
   pub is : IsMade text (Ok made)
-  pub wrong : made.untrue.items ≢ []
+  pub fault : Option Fault
+  pub checked : IsChecked made.untrue.items made.bytes.items fault
+  pub wrong : (made.untrue.items ≢ []) ⊎ (fault ≢ None)
   pub no_force : force ≡ false
-  pub noted : Appends err err' (notes name made.untrue.items ++ held_line name)
+  pub noted : Appends err err' (warnings name made.untrue.items fault ++ held_line name)
 
 -- the text isn't made into a table, and a line says why
 pub record NotMade (name text : List ℕ) (err err' : Option (List ℕ)) : Type 0 where
-  pub fault : Fault
-  pub is : IsMade text (Err (errors.Fault fault))
-  pub complained : Appends err err' (name ++ codes ": " ++ text_of (errors.Fault fault) ++ 10 ∷ [])
+  pub wrong : texts.Fault
+  pub is : IsMade text (Err (errors.Fault wrong))
+  pub complained : Appends err err' (name ++ codes ": " ++ explained (fault_of wrong) text ++ 10 ∷ [])
 
 -- the bytes of a table, if there are any to be written
 abbrev pub MadeOrNot : Bool → List ℕ → List ℕ → Option (List ℕ) → Option (List ℕ) → Option (List ℕ) → Type 0

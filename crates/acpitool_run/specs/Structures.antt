@@ -1,5 +1,5 @@
 -- What is wrong with the structures of a table.
-use Rattle.std.specs.Prelude.{◌≡◌, ◌≢◌, ℕ, List, Option, Some, None}
+use Rattle.std.specs.Prelude.{◌≡◌, ◌≢◌, ◌⊎◌, ℕ, List, Option, Some, None}
 use Rattle.acpi_base.specs.FurtherWalk.{AreStructuresOf}
 use Rattle.acpi_forms.specs.declared.kind.Kind.{Kind}
 use Rattle.acpi_forms.specs.declared.kind.Kind.TheVariants.{Pointer, Control, Table}
@@ -7,6 +7,8 @@ use Rattle.acpi_read.specs.Pieces.{IsStructureFault}
 use Rattle.acpi_term.specs.declared.read_error.ReadError.{ReadError}
 use Rattle.acpi_term.specs.declared.read_error.ReadError.TheVariants.{Memory}
 use Rattle.acpitool_run.specs.Fault.{IsFaultOf}
+use Rattle.acpi_forms.specs.Kind.{kind_of}
+use Rattle.acpitool_run.specs.Text.{IsKind, IsTextFault}
 use Rattle.acpitool_run.specs.declared.fault.Fault.{Fault}
 
 -- the table has no structures by the walk of its signature, and a fault says why
@@ -26,3 +28,8 @@ abbrev pub HasFault : Kind → List ℕ → Option Fault → Type 0
 HasFault Pointer bytes found = found ≡ None
 HasFault Control bytes found = found ≡ None
 HasFault Table bytes found = HasOrBroken bytes found
+
+-- bytes are what their signature says, and a table has its structures; or a fault says what is wrong
+abbrev pub IsSoundOr : List ℕ → Option Fault → Type 0
+IsSoundOr bytes None = IsKind (kind_of bytes) bytes × HasFault (kind_of bytes) bytes None
+IsSoundOr bytes (Some fault) = IsTextFault bytes fault ⊎ HasFault (kind_of bytes) bytes (Some fault)

@@ -1,15 +1,17 @@
 //! Texts that are made into tables.
 
-ghost use Rattle.std.specs.Prelude.{◌≡◌, ◌≢◌, ◌⊎◌, ◌++◌, [], true, false, IfOk, OnOk, MatchResult};
+ghost use Rattle.std.specs.Prelude.{◌≡◌, ◌≢◌, ◌⊎◌, ◌++◌, [], true, false, None, IfOk, OnOk, MatchResult};
 ghost use Rattle.std.specs.Bool.{MatchBool};
 ghost use Rattle.std.specs.Option.{option_map};
 ghost use Rattle.std.specs.Io.KnownBytes.{Appends};
-ghost use Rattle.acpitool_run.specs.Making.{note, notes, held_line, same_line, MadeOrNot, Saved, NotSaved};
+ghost use Rattle.acpitool_run.specs.Making.{note, notes, IsChecked, warnings, held_line, same_line, MadeOrNot, Saved, NotSaved};
 ghost use Rattle.acpitool_run.specs.Making.{IsWritten, MakesText, MakesWord, Makes};
 
 use crate::complaint::complain;
+use crate::fault::Fault;
 use crate::files::{read_word, write_file};
-use crate::outcome::tell_unread;
+use crate::outcome::{tell_fault, tell_unread};
+use crate::structures::wrong_with;
 use acpi_forms::make::make;
 use acpi_make::fault::MakeError;
 use acpi_make::own::Own;
@@ -39,27 +41,57 @@ fn print_notes<E: Write>(name: &str, owns: &[Own], err: &mut E) -> io::Result<()
     Ok(())
 }
 
-// Returns whether a table isn't written, since a text states these numbers of it otherwise.
-fn is_held(force: bool, owns: &[Own]) -> bool
-    ensures { MatchBool result ((owns.now ≢ []) × (force ≡ false)) ((force ≡ true) ⊎ (owns.now ≡ [])) }
+// Returns what is wrong with a table whose numbers are right.
+fn check(alloc: Global, owns: &[Own], bytes: &[u8]) -> Result<Option<Fault>, AllocError>
+    ensures { IfOk result (IsChecked owns.now bytes.now) }
 {
-    !force && !owns.is_empty()
+    match owns {
+        [] => wrong_with(alloc, bytes),
+        _ => Ok(None),
+    }
 }
 
-// Prints the numbers that a text states otherwise, and that its table isn't written.
-fn tell_held<E: Write>(name: &str, owns: &[Own], err: &mut E) -> io::Result<()>
-    ensures { OnOk result (Appends (E.contents err.old) (E.contents err.new) (notes name.now owns.now ++ held_line name.now)) }
+// Prints the notes on a table, and what is wrong with it.
+fn warn<E: Write>(
+    alloc: Global,
+    name: &str,
+    owns: &[Own],
+    fault: &Option<Fault>,
+    err: &mut E,
+) -> io::Result<()>
+    ensures { OnOk result (Appends (E.contents err.old) (E.contents err.new) (warnings name.now owns.now fault.now)) }
 {
     print_notes(name, owns, err)?;
-    writeln!(
-        err,
-        "{name}: not written: its numbers are wrong (--force writes it)"
-    )
+    tell_fault(alloc, name, fault, err)?;
+    Ok(())
+}
+
+// Prints the notes on a table, what is wrong with it, and that it isn't written.
+fn tell_held<E: Write>(
+    alloc: Global,
+    name: &str,
+    owns: &[Own],
+    fault: &Option<Fault>,
+    err: &mut E,
+) -> io::Result<()>
+    ensures { OnOk result (Appends (E.contents err.old) (E.contents err.new)
+        (warnings name.now owns.now fault.now ++ held_line name.now)) }
+{
+    warn(alloc, name, owns, fault, err)?;
+    writeln!(err, "{name}: not written (--force writes it)")
+}
+
+// Returns whether a table isn't written.
+fn is_held(force: bool, owns: &[Own], fault: &Option<Fault>) -> bool
+    ensures { MatchBool result (((owns.now ≢ []) ⊎ (fault.now ≢ None)) × (force ≡ false))
+        ((force ≡ true) ⊎ ((owns.now ≡ []) × (fault.now ≡ None))) }
+{
+    !force && (!owns.is_empty() || fault.is_some())
 }
 
 /// Makes a text into a table, and returns the table's bytes if they are to be written. A line on `err` says of each number that
-/// isn't right which would be: such a table is only written by force. Or a line says why the text isn't made into a table. An error
-/// is that of `err`, or memory ran out.
+/// isn't right which would be, or else what is wrong with the table: such a table is only written by force. Or a line says why the
+/// text isn't made into a table. An error is that of `err`, or memory ran out.
 pub fn make_text<E: Write>(
     alloc: Global,
     force: bool,
@@ -72,16 +104,17 @@ pub fn make_text<E: Write>(
 {
     match make(alloc, text) {
         Ok(made) => {
-            if is_held(force, &made.untrue) {
-                tell_held(name, &made.untrue, err)?;
+            let fault = check(alloc, &made.untrue, &made.bytes)?;
+            if is_held(force, &made.untrue, &fault) {
+                tell_held(alloc, name, &made.untrue, &fault, err)?;
                 return Ok(None);
             }
-            print_notes(name, &made.untrue, err)?;
+            warn(alloc, name, &made.untrue, &fault, err)?;
             Ok(Some(made.bytes))
         }
         Err(MakeError::Memory) => Err(io::Error::from(AllocError)),
-        Err(MakeError::Fault(fault)) => {
-            let why = fault.explain(alloc, text)?;
+        Err(MakeError::Fault(wrong)) => {
+            let why = wrong.explain(alloc, text)?;
             complain(alloc, name, &why, err)?;
             Ok(None)
         }

@@ -41,8 +41,8 @@ fn print_text<O: Write>(before: &str, text: &str, after: &str, out: &mut O) -> i
     out.write_all(after.as_bytes())
 }
 
-// Prints a fault, if there is one, and returns 1, or returns 0.
-fn tell_fault<E: Write>(
+/// Prints a fault, if there is one, and returns 1, or returns 0.
+pub fn tell_fault<E: Write>(
     alloc: Global,
     name: &str,
     fault: &Option<Fault>,

@@ -2,9 +2,10 @@
 
 ghost use Rattle.std.specs.Prelude.{IfOk};
 ghost use Rattle.acpi_forms.specs.Kind.{kind_of};
-ghost use Rattle.acpitool_run.specs.Structures.{HasOrBroken, HasFault};
+ghost use Rattle.acpitool_run.specs.Structures.{HasOrBroken, HasFault, IsSoundOr};
 ghost use Rattle.acpitool_run.specs.Text.{IsKind};
 
+use crate::check::{check_control, check_pointer};
 use crate::fault::Fault;
 use acpi_forms::kind::{Kind, kind_of};
 use acpi_read::table::Table;
@@ -34,6 +35,27 @@ pub fn structures_fault(alloc: Global, bytes: &[u8]) -> Result<Option<Fault>, Al
         Kind::Table => match Table::check(bytes) {
             Ok(table) => table_fault(alloc, &table),
             Err(_) => Ok(None),
+        },
+    }
+}
+
+/// Returns what is wrong with bytes that were made, or none: they aren't what their signature says, or are a table whose
+/// structures can't be found. The error is that memory ran out.
+pub fn wrong_with(alloc: Global, bytes: &[u8]) -> Result<Option<Fault>, AllocError>
+    ensures { IfOk result (IsSoundOr bytes.now) }
+{
+    match kind_of(bytes) {
+        Kind::Pointer => match check_pointer(bytes) {
+            Ok(()) => Ok(None),
+            Err(error) => Ok(Some(Fault::of(Kind::Pointer, error))),
+        },
+        Kind::Control => match check_control(bytes) {
+            Ok(()) => Ok(None),
+            Err(error) => Ok(Some(Fault::of(Kind::Control, error))),
+        },
+        Kind::Table => match Table::check(bytes) {
+            Ok(table) => table_fault(alloc, &table),
+            Err(error) => Ok(Some(Fault::of(Kind::Table, error))),
         },
     }
 }

@@ -83,7 +83,7 @@ const WRONG: &str =
 // What is printed on its number, and that it isn't written.
 const NOTE: &str = "wrong: note: 36 would be right at offset 4\n";
 
-const HELD: &str = "wrong: not written: its numbers are wrong (--force writes it)\n";
+const HELD: &str = "wrong: not written (--force writes it)\n";
 
 // A table whose numbers are wrong leaves the file as it is.
 #[test]
