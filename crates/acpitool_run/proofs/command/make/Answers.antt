@@ -1,4 +1,4 @@
-use Rattle.std.proofs.Common.{List, ℕ, String, Global, map, string_bytes, inl, inr}
+use Rattle.std.proofs.Common.{map, string_bytes, inl, inr}
 use Rattle.acpitool_run.proofs.Unforced.{no_word, one_word, two_words, three_words}
 use Rattle.acpitool_run.proofs.command.make.Goals as goal
 

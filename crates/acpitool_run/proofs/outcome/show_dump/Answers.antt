@@ -1,4 +1,4 @@
-use Rattle.std.proofs.Common.{List, rules}
+use Rattle.std.proofs.Common.{rules}
 use Rattle.acpitool_run.proofs.Outcomes.{as_these, dump_tables, one_broken}
 use Rattle.acpitool_run.proofs.outcome.show_dump.Goals as goal
 
