@@ -71,12 +71,12 @@ enum hyssop_fault {
     HYSSOP_FAULT_WANTS_VALUE = 67, /* expected a value */
     HYSSOP_FAULT_WANTS_DIGIT = 68, /* expected a hexadecimal digit */
     HYSSOP_FAULT_WANTS_SECOND_DIGIT = 69, /* expected the second digit of a byte (#5 and 0x5 are the number 5) */
-    HYSSOP_FAULT_WANTS_QUOTATION_MARK = 70, /* expected a quotation mark at the end of the text */
+    HYSSOP_FAULT_WANTS_QUOTATION_MARK = 70, /* expected a quotation mark, or a character of ASCII that prints */
     HYSSOP_FAULT_WANTS_QUESTION_MARK = 71, /* expected a second question mark */
     HYSSOP_FAULT_WANTS_SLASH = 72, /* expected a second slash */
     HYSSOP_FAULT_WANTS_BRACE = 73, /* expected a brace at the end of the names */
     HYSSOP_FAULT_WANTS_FIELD = 74, /* expected bytes, since the line has no field */
-    HYSSOP_FAULT_WANTS_NAME = 75, /* expected a name of a flag or a value of this field, with " | " between flags */
+    HYSSOP_FAULT_WANTS_NAME = 75, /* expected a name of a flag or a value of this field; a bar between spaces stands between flags */
     HYSSOP_FAULT_WANTS_NUMBER = 76, /* expected a number that fits the field */
     HYSSOP_FAULT_WANTS_LABEL = 77, /* expected the label of a structure */
     HYSSOP_FAULT_WANTS_BYTES = 78, /* expected bytes, since nothing determines the question marks */
@@ -87,7 +87,8 @@ enum hyssop_fault {
     HYSSOP_FAULT_WANTS_WIDTH = 83, /* expected as many bytes as the field has */
     HYSSOP_FAULT_WANTS_WHOLE = 84, /* expected all fields, since the length is left out */
     HYSSOP_FAULT_WANTS_ONE_TABLE = 85, /* expected the end of the text, since a text is one table */
-    HYSSOP_FAULT_WANTS_TABLE = 86 /* expected a table, which begins with a signature */
+    HYSSOP_FAULT_WANTS_TABLE = 86, /* expected a table, whose fields stand in lines after white space */
+    HYSSOP_FAULT_WANTS_FIELD_OF = 87 /* expected a field */
 };
 
 /* A structure of a table: its offset in the table, its type or HYSSOP_NO_KIND, and the number of its bytes. */

@@ -69,6 +69,7 @@ facts fault.WantsWidth = known 83 (expected wanted.Width)
 facts fault.WantsWhole = known 84 (expected wanted.Whole)
 facts fault.WantsOneTable = known 85 (expected wanted.OneTable)
 facts fault.WantsTable = known 86 (expected wanted.Table)
+facts fault.WantsFieldOf = known 87 (expected wanted.FieldOf)
 
 abbrev pub number_of : Fault → ℕ
 number_of f = (facts f).number
@@ -86,7 +87,7 @@ faults =
     fault.WantsValue ∷ fault.WantsDigit ∷ fault.WantsSecondDigit ∷ fault.WantsQuotationMark ∷ fault.WantsQuestionMark ∷ fault.WantsSlash ∷
     fault.WantsBrace ∷ fault.WantsField ∷ fault.WantsName ∷ fault.WantsNumber ∷ fault.WantsLabel ∷ fault.WantsBytes ∷ fault.WantsNext ∷
     fault.WantsNameless ∷ fault.WantsEnd ∷ fault.WantsStructure ∷ fault.WantsWidth ∷ fault.WantsWhole ∷ fault.WantsOneTable ∷
-    fault.WantsTable ∷ []
+    fault.WantsTable ∷ fault.WantsFieldOf ∷ []
 
 -- the fault of a number
 abbrev pub fault_of : ℕ → Option Fault

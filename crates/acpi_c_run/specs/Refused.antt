@@ -100,6 +100,7 @@ fault_of_wanted wanted.Width = fault.WantsWidth
 fault_of_wanted wanted.Whole = fault.WantsWhole
 fault_of_wanted wanted.OneTable = fault.WantsOneTable
 fault_of_wanted wanted.Table = fault.WantsTable
+fault_of_wanted wanted.FieldOf = fault.WantsFieldOf
 
 -- with the line of the text
 abbrev pub by_make : List ℕ → MakeError → Refused

@@ -57,6 +57,7 @@ pub enum Fault {
     WantsWhole,
     WantsOneTable,
     WantsTable,
+    WantsFieldOf,
 }
 
 /// Every fault: its number and its words.
@@ -96,12 +97,12 @@ macro_rules! faults {
             WantsValue 67 "expected a value"
             WantsDigit 68 "expected a hexadecimal digit"
             WantsSecondDigit 69 "expected the second digit of a byte (#5 and 0x5 are the number 5)"
-            WantsQuotationMark 70 "expected a quotation mark at the end of the text"
+            WantsQuotationMark 70 "expected a quotation mark, or a character of ASCII that prints"
             WantsQuestionMark 71 "expected a second question mark"
             WantsSlash 72 "expected a second slash"
             WantsBrace 73 "expected a brace at the end of the names"
             WantsField 74 "expected bytes, since the line has no field"
-            WantsName 75 "expected a name of a flag or a value of this field, with \" | \" between flags"
+            WantsName 75 "expected a name of a flag or a value of this field; a bar between spaces stands between flags"
             WantsNumber 76 "expected a number that fits the field"
             WantsLabel 77 "expected the label of a structure"
             WantsBytes 78 "expected bytes, since nothing determines the question marks"
@@ -112,7 +113,8 @@ macro_rules! faults {
             WantsWidth 83 "expected as many bytes as the field has"
             WantsWhole 84 "expected all fields, since the length is left out"
             WantsOneTable 85 "expected the end of the text, since a text is one table"
-            WantsTable 86 "expected a table, which begins with a signature"
+            WantsTable 86 "expected a table, whose fields stand in lines after white space"
+            WantsFieldOf 87 "expected a field"
         }
     };
 }

@@ -104,6 +104,7 @@ fn fault_of_wanted(wanted: Wanted) -> Fault
         Wanted::Whole => Fault::WantsWhole,
         Wanted::OneTable => Fault::WantsOneTable,
         Wanted::Table => Fault::WantsTable,
+        Wanted::FieldOf => Fault::WantsFieldOf,
     }
 }
 

@@ -1,10 +1,11 @@
 -- Lines that don't differ are those of both texts.
-use Rattle.std.proofs.Common.{◌≡◌, ◌⊎◌, ℕ, ◌<◌, ◌==◌, nat_lt, not, ◌&&◌, ◌||◌, Bool, true, false, cond, inl, inr}
+use Rattle.std.proofs.Common.{◌≡◌, ◌⊎◌, ℕ, ◌<◌, ◌==◌, nat_le, nat_lt, not, ◌&&◌, ◌||◌, Bool, true, false, cond, inl, inr}
 use Rattle.std.proofs.Common.{List, [], ◌∷◌, ◌++◌, length, drop, Option, Some, None, Result, Ok, Err, refl, sym, ap, subst, ◌∙◌, arith}
-use Rattle.std.proofs.lemmas.Bool.{and_parts, ltb-true}
+use Rattle.std.proofs.lemmas.Bool.{and_parts, leb-true, ltb-true}
 use Rattle.acpi_base.specs.declared.walk.Walk.{Walk}
 use Rattle.acpi_text.specs.Table.{table_text}
-use Rattle.acpi_make.specs.Compare.{mark_at, is_reference, is_same, is_passed, past, rest_from, begins_same, has_no_name, is_empty}
+use Rattle.acpi_make.specs.Compare.{mark_at, is_reference, is_same, Range, no_bytes, is_within, is_passed, past, rest_after, begins_same}
+use Rattle.acpi_make.specs.Compare.{has_no_name, is_empty}
 use Rattle.acpi_make.specs.Compare.{cover, wanted_for, wanted_after, differ, difference}
 use Rattle.acpi_make.specs.Complete.{completed}
 use Rattle.acpi_make.specs.Draft.{Drafted, nothing_yet, closed, all_taken}
@@ -38,7 +39,7 @@ either false b is = inr is
 -- ---- the lines of the text
 
 module _ (s t : Source) where
-  among_past : (one other : Mark) (covered : ℕ) (others : List Mark) → IsAmong s t one (past s t other covered others) → IsAmong s t one others
+  among_past : (one other : Mark) (covered : Range) (others : List Mark) → IsAmong s t one (past s t other covered others) → IsAmong s t one others
   among_past one other covered [] is = is
   among_past one other covered (next ∷ others) is =
       chosen (is_passed s t other covered next) (λ among. among_past one other covered others among) is
@@ -68,7 +69,7 @@ module _ (s t : Source) where
       kept (inr (inl is)) = inr (inl is)
       kept (inr (inr is)) = inr (inr (more one is))
 
-  all_among : (size covered : ℕ) (marks others : List Mark) → differ s t size covered marks others ≡ None → AreAmong s t size marks others
+  all_among : (size : ℕ) (covered : Range) (marks others : List Mark) → differ s t size covered marks others ≡ None → AreAmong s t size marks others
   all_among size covered [] others is = tt
   all_among size covered (one ∷ marks) others is =
       chosen (λ k left among. all_among size k marks left among)
@@ -80,10 +81,10 @@ module _ (s t : Source) where
       end : ℕ
       end = next_line marks size
 
-      next : ℕ
+      next : Range
       next = cover s one end covered
 
-      chosen : ((k : ℕ) (left : List Mark) → differ s t size k marks left ≡ None → AreAmong s t size marks left)
+      chosen : ((k : Range) (left : List Mark) → differ s t size k marks left ≡ None → AreAmong s t size marks left)
           → (((is_reference one ≡ true) × (differ s t size covered marks others ≡ None))
           ⊎ (((begins_same s t one rest ≡ true) × (differ s t size next marks (drop 1 rest) ≡ None))
           ⊎ (((has_no_name s one || is_empty s one end) ≡ true) × (differ s t size next marks rest ≡ None))))
@@ -99,14 +100,18 @@ module _ (s t : Source) where
         are_more size marks rest others (λ other among. among_past other one covered others among) (again next rest left),
       )
 
+  none_within : (at : ℕ) → is_within at no_bytes ≡ true → ⊥
+  none_within at within =
+      let both = and_parts (nat_le 0 at) (nat_lt at 0) within in absurd (omega (arith, ltb-true at 0 both.1))
+
   -- ---- the lines of the other text
 
   -- what may be said of a line of the other text, where bytes without a name stand up to an offset
-  abbrev Known : ℕ → ℕ → List Mark → Mark → Type 0
+  abbrev Known : ℕ → Range → List Mark → Mark → Type 0
   Known size covered marks other =
-      (is_reference other ≡ true) ⊎ (IsSaid s t marks other ⊎ (IsCovered s size marks (mark_at other) ⊎ (mark_at other < covered)))
+      (is_reference other ≡ true) ⊎ (IsSaid s t marks other ⊎ (IsCovered s size marks (mark_at other) ⊎ (is_within (mark_at other) covered ≡ true)))
 
-  abbrev AllKnown : ℕ → ℕ → List Mark → List Mark → Type 0
+  abbrev AllKnown : ℕ → Range → List Mark → List Mark → Type 0
   AllKnown size covered marks [] = Unit {0}
   AllKnown size covered marks (other ∷ others) = Known size covered marks other × AllKnown size covered marks others
 
@@ -114,68 +119,72 @@ module _ (s t : Source) where
   none_after [] size is = refl
   none_after (other ∷ others) size is = absurd cc
 
-  all_before : (size covered : ℕ) (marks others : List Mark) → rest_from covered others ≡ [] → AllKnown size covered marks others
+  all_before : (size : ℕ) (covered : Range) (marks others : List Mark) → rest_after covered others ≡ [] → AllKnown size covered marks others
   all_before size covered marks [] is = tt
   all_before size covered marks (other ∷ others) is =
-      chosen (λ none. all_before size covered marks others none) (is_reference other) (nat_lt (mark_at other) covered) refl refl is
+      chosen (λ none. all_before size covered marks others none) (is_reference other) (is_within (mark_at other) covered) refl refl is
     where
-      chosen : (rest_from covered others ≡ [] → AllKnown size covered marks others) → (a b : Bool) → is_reference other ≡ a → nat_lt (mark_at other) covered ≡ b
-          → cond (a || b) (rest_from covered others) (other ∷ others) ≡ [] → AllKnown size covered marks (other ∷ others)
+      chosen : (rest_after covered others ≡ [] → AllKnown size covered marks others) → (a b : Bool) → is_reference other ≡ a → is_within (mark_at other) covered ≡ b
+          → cond (a || b) (rest_after covered others) (other ∷ others) ≡ [] → AllKnown size covered marks (other ∷ others)
       chosen again true b one two is = (inl one, again is)
-      chosen again false true one two is = (inr (inr (inr (ltb-true (mark_at other) covered two))), again is)
+      chosen again false true one two is = (inr (inr (inr two)), again is)
       chosen again false false one two is = absurd cc
 
   -- lines that are passed, and those after them
-  all_past : (size covered : ℕ) (one : Mark) (marks others : List Mark) → AllKnown size covered marks (past s t one covered others)
+  all_past : (size : ℕ) (covered : Range) (one : Mark) (marks others : List Mark) → AllKnown size covered marks (past s t one covered others)
       → AllKnown size covered marks others
   all_past size covered one marks [] are = tt
   all_past size covered one marks (other ∷ others) are =
       chosen (λ past. all_past size covered one marks others past) (is_reference other) (is_same s t one other)
-      (nat_lt (mark_at other) covered) refl refl are
+      (is_within (mark_at other) covered) refl refl are
     where
-      chosen : (AllKnown size covered marks (past s t one covered others) → AllKnown size covered marks others) → (a b c : Bool) → is_reference other ≡ a → nat_lt (mark_at other) covered ≡ c
+      chosen : (AllKnown size covered marks (past s t one covered others) → AllKnown size covered marks others) → (a b c : Bool) → is_reference other ≡ a → is_within (mark_at other) covered ≡ c
           → AllKnown size covered marks (cond (a || (not b && c)) (past s t one covered others) (other ∷ others))
           → AllKnown size covered marks (other ∷ others)
       chosen again true b c one' two are = (inl one', again are)
       chosen again false true c one' two are = are
-      chosen again false false true one' two are = (inr (inr (inr (ltb-true (mark_at other) covered two))), again are)
+      chosen again false false true one' two are = (inr (inr (inr two)), again are)
       chosen again false false false one' two are = are
 
   -- one line more in the text
-  known_more : (size covered : ℕ) (one : Mark) (marks : List Mark) (other : Mark)
+  known_more : (size : ℕ) (covered : Range) (one : Mark) (marks : List Mark) (other : Mark)
       → Known size (cover s one (next_line marks size) covered) marks other → Known size covered (one ∷ marks) other
   known_more size covered one marks other (inl is) = inl is
   known_more size covered one marks other (inr (inl is)) = inr (inl (inr is))
   known_more size covered one marks other (inr (inr (inl is))) = inr (inr (inl (inr is)))
-  known_more size covered one marks other (inr (inr (inr less))) = chosen (has_no_name s one) refl less
+  known_more size covered one marks other (inr (inr (inr within))) = chosen (has_no_name s one) refl within
     where
-      chosen : (b : Bool) → has_no_name s one ≡ b → mark_at other < cond b (next_line marks size) covered → Known size covered (one ∷ marks) other
-      chosen true is less = inr (inr (inl (inl (is, less))))
-      chosen false is less = inr (inr (inr less))
+      chosen : (b : Bool) → has_no_name s one ≡ b
+          → is_within (mark_at other) (cond b (record { start = mark_at one; end = next_line marks size }) covered) ≡ true
+          → Known size covered (one ∷ marks) other
+      chosen true is within =
+          let both = and_parts (nat_le (mark_at one) (mark_at other)) (nat_lt (mark_at other) (next_line marks size)) within in
+          inr (inr (inl (inl (is, leb-true (mark_at one) (mark_at other) both.0, ltb-true (mark_at other) (next_line marks size) both.1))))
+      chosen false is within = inr (inr (inr within))
 
-  all_more : (size covered : ℕ) (one : Mark) (marks others : List Mark)
+  all_more : (size : ℕ) (covered : Range) (one : Mark) (marks others : List Mark)
       → AllKnown size (cover s one (next_line marks size) covered) marks others → AllKnown size covered (one ∷ marks) others
   all_more size covered one marks [] are = tt
   all_more size covered one marks (other ∷ others) are = (known_more size covered one marks other are.0, all_more size covered one marks others are.1)
 
   -- a reference more
-  known_also : (size covered : ℕ) (one : Mark) (marks : List Mark) (other : Mark) → Known size covered marks other → Known size covered (one ∷ marks) other
+  known_also : (size : ℕ) (covered : Range) (one : Mark) (marks : List Mark) (other : Mark) → Known size covered marks other → Known size covered (one ∷ marks) other
   known_also size covered one marks other (inl is) = inl is
   known_also size covered one marks other (inr (inl is)) = inr (inl (inr is))
   known_also size covered one marks other (inr (inr (inl is))) = inr (inr (inl (inr is)))
   known_also size covered one marks other (inr (inr (inr less))) = inr (inr (inr less))
 
-  all_also : (size covered : ℕ) (one : Mark) (marks others : List Mark) → AllKnown size covered marks others → AllKnown size covered (one ∷ marks) others
+  all_also : (size : ℕ) (covered : Range) (one : Mark) (marks others : List Mark) → AllKnown size covered marks others → AllKnown size covered (one ∷ marks) others
   all_also size covered one marks [] are = tt
   all_also size covered one marks (other ∷ others) are = (known_also size covered one marks other are.0, all_also size covered one marks others are.1)
 
-  first_known : (size covered : ℕ) (one : Mark) (marks others : List Mark) → begins_same s t one others ≡ true
+  first_known : (size : ℕ) (covered : Range) (one : Mark) (marks others : List Mark) → begins_same s t one others ≡ true
       → AllKnown size covered (one ∷ marks) (drop 1 others) → AllKnown size covered (one ∷ marks) others
   first_known size covered one marks [] is are = absurd cc
   first_known size covered one marks (other ∷ others) is are = (inr (inl (inl is)), are)
 
-  all_known : (size covered : ℕ) (marks others : List Mark) → differ s t size covered marks others ≡ None → AllKnown size covered marks others
-  all_known size covered [] others is = all_before size covered [] others (none_after (rest_from covered others) size is)
+  all_known : (size : ℕ) (covered : Range) (marks others : List Mark) → differ s t size covered marks others ≡ None → AllKnown size covered marks others
+  all_known size covered [] others is = all_before size covered [] others (none_after (rest_after covered others) size is)
   all_known size covered (one ∷ marks) others is =
       chosen (λ k left known. all_known size k marks left known)
       (ways (is_reference one) (begins_same s t one rest) (has_no_name s one || is_empty s one end) _ _ _ _ is)
@@ -186,10 +195,10 @@ module _ (s t : Source) where
       end : ℕ
       end = next_line marks size
 
-      next : ℕ
+      next : Range
       next = cover s one end covered
 
-      chosen : ((k : ℕ) (left : List Mark) → differ s t size k marks left ≡ None → AllKnown size k marks left)
+      chosen : ((k : Range) (left : List Mark) → differ s t size k marks left ≡ None → AllKnown size k marks left)
           → (((is_reference one ≡ true) × (differ s t size covered marks others ≡ None))
           ⊎ (((begins_same s t one rest ≡ true) × (differ s t size next marks (drop 1 rest) ≡ None))
           ⊎ (((has_no_name s one || is_empty s one end) ≡ true) × (differ s t size next marks rest ≡ None))))
@@ -201,15 +210,15 @@ module _ (s t : Source) where
       chosen again (inr (inr (way, left))) =
           all_past size covered one (one ∷ marks) others (all_more size covered one marks rest (again next rest left))
 
-  all_said : (size : ℕ) (marks others : List Mark) → AllKnown size 0 marks others → AreSaid s t size marks others
+  all_said : (size : ℕ) (marks others : List Mark) → AllKnown size no_bytes marks others → AreSaid s t size marks others
   all_said size marks [] are = tt
   all_said size marks (other ∷ others) are = (one are.0, all_said size marks others are.1)
     where
-      one : Known size 0 marks other → ((is_reference other ≡ true) ⊎ (IsSaid s t marks other ⊎ IsCovered s size marks (mark_at other)))
+      one : Known size no_bytes marks other → ((is_reference other ≡ true) ⊎ (IsSaid s t marks other ⊎ IsCovered s size marks (mark_at other)))
       one (inl is) = inl is
       one (inr (inl is)) = inr (inl is)
       one (inr (inr (inl is))) = inr (inr is)
-      one (inr (inr (inr less))) = absurd (omega (arith, less))
+      one (inr (inr (inr within))) = absurd (none_within (mark_at other) within)
 
 -- ---- texts that are made
 
@@ -223,7 +232,7 @@ texts_shown_by walk s parts d table taken is =
     let shown = record s { text = table_text s.form walk table.bytes } in
     let one = then_is (parts_of shown.text) _ None is in
     let two = then_is (all_taken shown one.middle nothing_yet) _ None one.follows in
-    let none : differ s shown (length table.bytes) 0 d.marks two.middle.marks ≡ None = let e = two.follows in cc in
+    let none : differ s shown (length table.bytes) no_bytes d.marks two.middle.marks ≡ None = let e = two.follows in cc in
     record {
       shown = shown;
       shows = refl;
@@ -233,8 +242,8 @@ texts_shown_by walk s parts d table taken is =
       read = one.is;
       e = two.middle;
       also = two.is;
-      among = all_among s shown (length table.bytes) 0 d.marks two.middle.marks none;
-      said = all_said s shown (length table.bytes) d.marks two.middle.marks (all_known s shown (length table.bytes) 0 d.marks two.middle.marks none);
+      among = all_among s shown (length table.bytes) no_bytes d.marks two.middle.marks none;
+      said = all_said s shown (length table.bytes) d.marks two.middle.marks (all_known s shown (length table.bytes) no_bytes d.marks two.middle.marks none);
     }
 
 pub texts_shown : TextsAreShown

@@ -5,7 +5,7 @@ use Rattle.std.proofs.lemmas.List.{append-nil, take-append-drop}
 use Rattle.acpi_base.specs.Walk.{place_offset, place_width}
 use Rattle.acpi_base.specs.declared.walk.Place.{Place}
 use Rattle.acpi_base.specs.declared.walk.Walk.{Walk}
-use Rattle.acpi_make.specs.Compare.{heading_number, is_same_number, mark_at, is_reference, name_in, is_same_name, is_same, past}
+use Rattle.acpi_make.specs.Compare.{heading_number, is_same_number, mark_at, is_reference, name_in, is_same_name, is_same, Range, no_bytes, is_within, past}
 use Rattle.acpi_make.specs.Compare.{begins_same, has_no_name, is_empty, cover, wanted_for, differ, difference}
 use Rattle.acpi_make.specs.Complete.{are_left, written, filled, all_filled, summed_at, summed, length_own, known, completed}
 use Rattle.acpi_make.specs.Draft.{Drafted, nothing_yet, first_of, closed, opened, line_found, with_line, with_heading, with_cells, all_taken}
@@ -138,13 +138,13 @@ heading_kept from to d =
     heading_chosen (length d.cells == 0) d _ d (record { same = refl; none = λ none. none })
     (record { same = refl; none = λ none. no_reference_more d.marks (Structure (length d.cells) from to ∷ []) none tt })
 
-no_bytes : (cells : List Cell) (bytes : List ℕ) → [] ≡ known_cells bytes → cells ≡ cells ++ known_cells bytes
-no_bytes cells [] is = sym (append-nil cells)
-no_bytes cells (b ∷ bytes) is = absurd cc
+none_more : (cells : List Cell) (bytes : List ℕ) → [] ≡ known_cells bytes → cells ≡ cells ++ known_cells bytes
+none_more cells [] is = sym (append-nil cells)
+none_more cells (b ∷ bytes) is = absurd cc
 
 given : (s : Source) (parts : List Item) (d : Drafted) (bytes : List ℕ) → cells_of parts ≡ known_cells bytes → NoReference d.marks
     → Given (all_taken s parts d) d.cells bytes
-given s [] d bytes is none = record { next = d; is = refl; same = no_bytes d.cells bytes is; none = none }
+given s [] d bytes is none = record { next = d; is = refl; same = none_more d.cells bytes is; none = none }
 given s (items.Cell cell ∷ parts) d [] is none = absurd cc
 given s (items.Cell cell ∷ parts) d (b ∷ bytes) is none =
     let one : cell ≡ Byte b = cc in
@@ -235,7 +235,7 @@ second_chosen false true x y z plain same = refl
 second_chosen false false x y z plain same = absurd cc
 
 -- a line that stands in both
-one_passed : (s : Source) (size covered : ℕ) (one : Mark) (marks : List Mark) → is_reference one ≡ false
+one_passed : (s : Source) (size : ℕ) (covered : Range) (one : Mark) (marks : List Mark) → is_reference one ≡ false
     → differ s s size covered (one ∷ marks) (one ∷ marks) ≡ differ s s size (cover s one (next_line marks size) covered) marks marks
 one_passed s size covered one marks plain =
     let end = next_line marks size in
@@ -245,10 +245,10 @@ one_passed s size covered one marks plain =
     (cond (begins_same s s one rest) (differ s s size next marks (drop 1 rest))
     (cond (has_no_name s one || is_empty s one end) (differ s s size next marks rest)
     (Some (wanted_for s one rest size)))))
-    (not_passed (is_reference one) (is_same s s one one) (nat_lt (mark_at one) covered) (past s s one covered marks) (one ∷ marks) plain same)
+    (not_passed (is_reference one) (is_same s s one one) (is_within (mark_at one) covered) (past s s one covered marks) (one ∷ marks) plain same)
     ∙ second_chosen (is_reference one) (is_same s s one one) _ _ _ plain same
 
-no_difference : (s : Source) (size covered : ℕ) (marks : List Mark) → NoReference marks → differ s s size covered marks marks ≡ None
+no_difference : (s : Source) (size : ℕ) (covered : Range) (marks : List Mark) → NoReference marks → differ s s size covered marks marks ≡ None
 no_difference s size covered [] none = refl
 no_difference s size covered (Structure at from to ∷ marks) none =
     one_passed s size covered (Structure at from to) marks refl
@@ -292,10 +292,10 @@ tables_made form walk kind shape bytes are small = record { table = made_of shap
 
     same_lines : difference walk s d bytes ≡ Ok None
     same_lines =
-        ap (λ read. and_then read (λ parts. and_then (all_taken s parts nothing_yet) (λ other. Ok (differ s s (length bytes) 0 d.marks other.marks))))
+        ap (λ read. and_then read (λ parts. and_then (all_taken s parts nothing_yet) (λ other. Ok (differ s s (length bytes) no_bytes d.marks other.marks))))
         has.read
-        ∙ ap (λ taken. and_then taken (λ other. Ok (differ s s (length bytes) 0 d.marks other.marks))) all.is
-        ∙ ap Ok (no_difference s (length bytes) 0 d.marks all.none)
+        ∙ ap (λ taken. and_then taken (λ other. Ok (differ s s (length bytes) no_bytes d.marks other.marks))) all.is
+        ∙ ap Ok (no_difference s (length bytes) no_bytes d.marks all.none)
 
     rest : List Own → Result Table Fault
     rest found =

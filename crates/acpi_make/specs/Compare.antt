@@ -1,11 +1,11 @@
 -- Whether the lines of a text are those of the text that shows its table.
-use Rattle.std.specs.Prelude.{ℕ, ◌-◌, ◌==◌, nat_lt, not, ◌&&◌, ◌||◌, Bool, true, false, if◌then◌else◌}
+use Rattle.std.specs.Prelude.{ℕ, ◌-◌, ◌==◌, nat_le, nat_lt, not, ◌&&◌, ◌||◌, Bool, true, false, if◌then◌else◌}
 use Rattle.std.specs.Prelude.{List, [], ◌∷◌, length, take, drop, codes, Option, Some, None, Result, Ok}
 use Rattle.acpi_base.specs.declared.walk.Walk.{Walk}
 use Rattle.acpi_text.specs.Structure.{find_form}
 use Rattle.acpi_text.specs.Table.{table_text}
 use Rattle.acpi_text.specs.declared.form.StructureForm.{StructureForm}
-use Rattle.acpi_make.specs.Draft.{Drafted, nothing_yet, is_nameless, all_taken}
+use Rattle.acpi_make.specs.Draft.{Drafted, nothing_yet, is_nameless, name_of_form, all_taken}
 use Rattle.acpi_make.specs.Entry.{is_line_of, find_anywhere, name_found, is_open}
 use Rattle.acpi_make.specs.Fault.{Fault, fault, next}
 use Rattle.acpi_make.specs.Gives.{and_then}
@@ -62,7 +62,8 @@ name_in s from to = after_offset (part_at from to s.text)
 abbrev pub is_same_name : List ℕ → List ℕ → Bool
 is_same_name [] other = are_white other
 is_same_name (c ∷ name) [] = are_white (c ∷ name)
-is_same_name (c ∷ name) (d ∷ other) = c == d && is_same_name name other
+is_same_name (c ∷ name) (d ∷ other) =
+    if c == d then is_same_name name other else are_white (c ∷ name) && are_white (d ∷ other)
 
 -- whether marks of two texts say the same: structures of one type, or lines with one name, at one offset
 abbrev pub is_same : Source → Source → Mark → Mark → Bool
@@ -79,21 +80,32 @@ is_same s t (Reference a w from to) other = false
 
 -- ---- the lines of two texts
 
--- whether a mark is one of the lines that a line of bytes stands for: it says something else, and stands before the end of these bytes
-abbrev pub is_passed : Source → Source → Mark → ℕ → Mark → Bool
-is_passed s t one covered other = is_reference other || (not (is_same s t one other) && nat_lt (mark_at other) covered)
+-- The bytes for which a line without a name stands: from its offset to that of the next line.
+pub record Range : Type 0 where
+  pub start : ℕ
+  pub end : ℕ
+
+abbrev pub no_bytes : Range
+no_bytes = record { start = 0; end = 0 }
+
+abbrev pub is_within : ℕ → Range → Bool
+is_within at covered = nat_le covered.start at && nat_lt at covered.end
+
+-- whether a mark is one of the lines for which a line of bytes stands: it says something else, and stands within these bytes
+abbrev pub is_passed : Source → Source → Mark → Range → Mark → Bool
+is_passed s t one covered other = is_reference other || (not (is_same s t one other) && is_within (mark_at other) covered)
 
 -- the marks without those at the front that are passed
-abbrev pub past : Source → Source → Mark → ℕ → List Mark → List Mark
+abbrev pub past : Source → Source → Mark → Range → List Mark → List Mark
 past s t one covered [] = []
 past s t one covered (other ∷ others) =
     if is_passed s t one covered other then past s t one covered others else other ∷ others
 
--- the marks at an offset or after it
-abbrev pub rest_from : ℕ → List Mark → List Mark
-rest_from covered [] = []
-rest_from covered (other ∷ others) =
-    if is_reference other || nat_lt (mark_at other) covered then rest_from covered others else other ∷ others
+-- the marks after those within bytes for which a line stands
+abbrev pub rest_after : Range → List Mark → List Mark
+rest_after covered [] = []
+rest_after covered (other ∷ others) =
+    if is_reference other || is_within (mark_at other) covered then rest_after covered others else other ∷ others
 
 abbrev pub begins_same : Source → Source → Mark → List Mark → Bool
 begins_same s t one [] = false
@@ -111,15 +123,11 @@ is_empty s (Structure at from to) end = false
 is_empty s (Line at from to) end = end == at && is_open (find_anywhere (name_in s from to) s.form)
 is_empty s (Reference at w from to) end = false
 
--- the end of the bytes that lines of bytes without a name stand for
-abbrev pub cover : Source → Mark → ℕ → ℕ → ℕ
-cover s one end covered = if has_no_name s one then end else covered
+-- the bytes for which the last line without a name stands
+abbrev pub cover : Source → Mark → ℕ → Range → Range
+cover s one end covered = if has_no_name s one then record { start = mark_at one; end = end } else covered
 
 -- ---- what is wrong with a text whose lines are others
-
-abbrev pub name_of_form : Option StructureForm → List ℕ
-name_of_form (Some form) = form.name.now
-name_of_form None = []
 
 abbrev pub name_of_number : List StructureForm → Option ℕ → List ℕ
 name_of_number forms (Some n) = name_of_form (find_form n forms)
@@ -148,8 +156,8 @@ wanted_after t (other ∷ others) end = Some (wanted_at t 0 0 (other ∷ others)
 -- ---- all lines
 
 -- The first mark of a text that the other text doesn't have in its place. Both have tables of this size.
-abbrev pub differ : Source → Source → ℕ → ℕ → List Mark → List Mark → Option Fault
-differ s t size covered [] others = wanted_after t (rest_from covered others) size
+abbrev pub differ : Source → Source → ℕ → Range → List Mark → List Mark → Option Fault
+differ s t size covered [] others = wanted_after t (rest_after covered others) size
 differ s t size covered (one ∷ marks) others =
     let rest = past s t one covered others in
     let end = next_line marks size in
@@ -164,4 +172,4 @@ difference walk s d bytes =
     let shown = record s { text = table_text s.form walk bytes } in
     and_then (parts_of shown.text) (λ parts.
     and_then (all_taken shown parts nothing_yet) (λ other.
-    Ok (differ s shown (length bytes) 0 d.marks other.marks)))
+    Ok (differ s shown (length bytes) no_bytes d.marks other.marks)))

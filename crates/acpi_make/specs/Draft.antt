@@ -1,5 +1,5 @@
 -- A table in the making: the bytes of a text's parts, and marks where structures, lines and references begin.
-use Rattle.std.specs.Prelude.{ℕ, ◌-◌, ◌==◌, not, ◌&&◌, ◌||◌, Bool, true, false, if◌then◌else◌}
+use Rattle.std.specs.Prelude.{ℕ, ◌-◌, ◌==◌, nat_le, not, ◌&&◌, ◌||◌, Bool, true, false, if◌then◌else◌}
 use Rattle.std.specs.Prelude.{List, [], ◌∷◌, ◌++◌, length, drop, replicate, codes, Option, Some, None, Result, Ok, Err}
 use Rattle.acpi_base.specs.Bytes.{le}
 use Rattle.acpi_text.specs.Structure.{form_parts, form_inner}
@@ -8,7 +8,7 @@ use Rattle.acpi_text.specs.declared.form.Inner.TheVariants.{Nothing}
 use Rattle.acpi_text.specs.declared.form.Part.{Part}
 use Rattle.acpi_text.specs.declared.form.StructureForm.{StructureForm}
 use Rattle.acpi_make.specs.Entry.{Entry, entry_of, parts_entries, inner_entries, is_line_of, find_entry, next_entry, next_number}
-use Rattle.acpi_make.specs.Fault.{Fault, fault_of, fault, next, wide}
+use Rattle.acpi_make.specs.Fault.{Fault, fault_of, fault, next, wide, field_of}
 use Rattle.acpi_make.specs.Fits.{fits}
 use Rattle.acpi_make.specs.Gives.{and_then}
 use Rattle.acpi_make.specs.Heading.{structure_form}
@@ -38,8 +38,9 @@ pub record Drafted : Type 0 where
   pub start : ℕ
   pub from : ℕ
   pub to : ℕ
-  -- the number of the field after the last that had a name
+  -- the number of the field after the last that had a name, and whether bytes without a name came after it
   pub number : ℕ
+  pub loose : Bool
   -- the field of the last line with a name, if the form has it, the offset at which this line begins, and the range of its name
   pub field : Option Entry
   pub line_at : ℕ
@@ -57,6 +58,7 @@ nothing_yet = record {
   from = 0;
   to = 0;
   number = 0;
+  loose = false;
   field = None;
   line_at = 0;
   line_from = 0;
@@ -77,6 +79,10 @@ inner_here s d = if d.inside then form_inner (here s d) else Nothing
 
 abbrev pub entries_here : Source → Drafted → List Entry
 entries_here s d = parts_entries (parts_here s d) ++ inner_entries (inner_here s d)
+
+abbrev pub name_of_form : Option StructureForm → List ℕ
+name_of_form (Some form) = form.name.now
+name_of_form None = []
 
 abbrev pub is_none : Option StructureForm → Bool
 is_none None = true
@@ -111,9 +117,30 @@ abbrev pub is_nameless : List ℕ → Bool
 is_nameless name = are_white name || is_line_of (codes "Bytes") name
 
 -- the field that has to stand where a line has another name
-abbrev pub unlike : ℕ → ℕ → Option (ℕ × Entry) → Fault
-unlike from to (Some found) = next from to found.1.name found.1.size
-unlike from to None = next from to [] 0
+abbrev pub unlike : ℕ → ℕ → List ℕ → Option (ℕ × Entry) → Fault
+unlike from to form (Some found) = next from to found.1.name found.1.size
+unlike from to form None = field_of from to form
+
+-- the name of the form of what the text is in
+abbrev pub form_here : Source → Drafted → List ℕ
+form_here s d = if d.inside then name_of_form (here s d) else s.form.name.now
+
+-- the field that has to stand in a line; after bytes without a name it can be any
+abbrev pub expected : Source → Drafted → ℕ → ℕ → Fault
+expected s d from to =
+    if d.loose then field_of from to (form_here s d)
+    else unlike from to (form_here s d) (find_entry 0 d.number [] (entries_here s d))
+
+-- a field may be left out if its number of bytes can be any
+abbrev pub may_lack : Option (ℕ × Entry) → Bool
+may_lack (Some found) = found.1.size == 0 && not (found.1.width == 0)
+may_lack None = true
+
+-- a line of a field that comes too early: another has to stand there
+abbrev pub early_doubt : Source → Drafted → ℕ → ℕ → ℕ → Option Fault
+early_doubt s d from to k =
+    if nat_le k d.number || (d.loose || may_lack (find_entry 0 d.number [] (entries_here s d))) then None
+    else Some (expected s d from to)
 
 -- a line of which the form has no field
 abbrev pub name_doubt : Source → Drafted → ℕ → ℕ → List ℕ → Option Fault
@@ -121,14 +148,24 @@ name_doubt s d from to name =
     if is_nameless name then None
     else (if is_line_of (codes "Signature") name then Some (fault from to wants.OneTable)
     else (if is_strange s d then Some (fault d.from d.to wants.Structure)
-    else Some (unlike from to (find_entry 0 d.number [] (entries_here s d)))))
+    else Some (expected s d from to)))
 
 -- ---- names
 
--- the line of a field, or of none
+-- the line of a field, of bytes without a name, or of another name
 abbrev pub line_found : Option (ℕ × Entry) → Option Fault → Drafted → Drafted
-line_found (Some found) doubt d = record d { number = next_number found.0; field = Some found.1 }
-line_found None doubt d = record d { field = None; doubt = first_of d.doubt doubt }
+line_found (Some found) doubt d =
+    record d { number = next_number found.0; loose = false; field = Some found.1; doubt = first_of d.doubt doubt }
+line_found None doubt d = record d { loose = true; field = None; doubt = first_of d.doubt doubt }
+
+-- the field of a line's name
+abbrev pub named_field : Source → Drafted → List ℕ → Option (ℕ × Entry)
+named_field s d name = if is_nameless name then None else next_entry d.number name (entries_here s d)
+
+-- what is in doubt about a line of this field
+abbrev pub line_doubt : Source → Drafted → ℕ → ℕ → List ℕ → Option (ℕ × Entry) → Option Fault
+line_doubt s d from to name (Some found) = early_doubt s d from to found.0
+line_doubt s d from to name None = name_doubt s d from to name
 
 -- a line begins
 abbrev pub opened : ℕ → ℕ → Drafted → Drafted
@@ -142,7 +179,8 @@ opened from to d = record d {
 abbrev pub with_line : Source → ℕ → ℕ → Drafted → Drafted
 with_line s from to d =
     let name = after_offset (part_at from to s.text) in
-    line_found (next_entry d.number name (entries_here s d)) (name_doubt s d from to name) (opened from to (closed d))
+    let found = named_field s d name in
+    line_found found (line_doubt s d from to name found) (opened from to (closed d))
 
 -- a structure, or the name of a table before its first byte
 abbrev pub with_heading : ℕ → ℕ → Drafted → Drafted
@@ -155,6 +193,7 @@ with_heading from to d =
       from = from;
       to = to;
       number = 0;
+      loose = false;
       field = None;
     }
 
@@ -232,6 +271,7 @@ drafted d = record {
   from = d.from;
   to = d.to;
   number = d.number;
+  loose = d.loose;
   field = field_in d.field;
   line_at = d.line_at;
   line_from = d.line_from;

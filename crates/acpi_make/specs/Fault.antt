@@ -46,6 +46,10 @@ abbrev pub whole : ℕ → ℕ → List ℕ → ℕ → Fault
 whole from to name found =
     record { from = from; to = to; wanted = wanted.Whole; name = name; width = 0; found = found }
 
+-- a line in place of which a field of a form has to stand
+abbrev pub field_of : ℕ → ℕ → List ℕ → Fault
+field_of from to name = record { from = from; to = to; wanted = wanted.FieldOf; name = name; width = 0; found = 0 }
+
 -- ---- where it is
 
 -- what stands before a place
@@ -76,12 +80,12 @@ words wanted.Space = codes "a space"
 words wanted.Value = codes "a value"
 words wanted.Digit = codes "a hexadecimal digit"
 words wanted.SecondDigit = codes "the second digit of a byte (#5 and 0x5 are the number 5)"
-words wanted.QuotationMark = codes "a quotation mark at the end of the text"
+words wanted.QuotationMark = codes "a quotation mark, or a character of ASCII that prints"
 words wanted.QuestionMark = codes "a second question mark"
 words wanted.Slash = codes "a second slash"
 words wanted.Brace = codes "a brace at the end of the names"
 words wanted.Field = codes "bytes, since the line has no field"
-words wanted.Name = codes "a name of a flag or a value of this field, with \" | \" between flags"
+words wanted.Name = codes "a name of a flag or a value of this field; a bar between spaces stands between flags"
 words wanted.Number = codes "a number that fits the field"
 words wanted.Label = codes "the label of a structure"
 words wanted.Bytes = codes "bytes, since nothing determines the question marks"
@@ -90,9 +94,10 @@ words wanted.Nameless = codes "Bytes, since no field of the form stands here"
 words wanted.End = codes "the end of the table"
 words wanted.Structure = codes "the name or the type of a structure of this table"
 words wanted.Width = codes "as many bytes as the field has"
+words wanted.FieldOf = codes "a field"
 words wanted.Whole = codes "all fields, since the length is left out"
 words wanted.OneTable = codes "the end of the text, since a text is one table"
-words wanted.Table = codes "a table, which begins with a signature"
+words wanted.Table = codes "a table, whose fields stand in lines after white space"
 
 abbrev pub next_text : List ℕ → ℕ → List ℕ
 next_text name width =
@@ -108,6 +113,7 @@ width_text name width =
 abbrev pub text_of_wanted : Wanted → List ℕ → ℕ → List ℕ
 text_of_wanted wanted.Next name width = next_text name width
 text_of_wanted wanted.Width name width = width_text name width
+text_of_wanted wanted.FieldOf name width = codes "a field of " ++ name
 text_of_wanted wanted.Whole name width = codes "all fields of " ++ (name ++ codes ", since its length is left out")
 text_of_wanted wanted name width = words wanted
 
@@ -135,7 +141,7 @@ begins_line (c ∷ part) = c == 10
 abbrev pub part_text : ℕ → List ℕ → List ℕ
 part_text from part =
     if from == 0 then codes "the end of the text"
-    else (if length part == 0 then codes "nothing"
+    else (if length part == 0 then codes "white space"
     else (if begins_line part then codes "the end of the line"
     else (if all_print part then quoted part
     else codes "characters that don't print")))

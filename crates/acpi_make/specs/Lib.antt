@@ -11,6 +11,7 @@ pub mod Draft
 pub mod Own
 pub mod Complete
 pub mod Compare
+pub mod Range
 pub mod Short
 pub mod Notes
 pub mod Made

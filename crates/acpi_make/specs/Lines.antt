@@ -1,5 +1,5 @@
 -- What lines have in common that are those of two texts of one table.
-use Rattle.std.specs.Prelude.{◌≡◌, ◌⊎◌, ℕ, ◌<◌, ◌||◌, true, List, [], ◌∷◌, length, Option, Result, Ok}
+use Rattle.std.specs.Prelude.{◌≡◌, ◌⊎◌, ℕ, ◌<◌, ◌≤◌, ◌||◌, true, List, [], ◌∷◌, length, Option, Result, Ok}
 use Rattle.acpi_base.specs.declared.walk.Walk.{Walk}
 use Rattle.acpi_text.specs.Table.{table_text}
 use Rattle.acpi_make.specs.Compare.{mark_at, is_reference, is_same, has_no_name, is_empty}
@@ -30,12 +30,13 @@ abbrev pub IsSaid : Source → Source → List Mark → Mark → Type 0
 IsSaid s t [] other = ⊥
 IsSaid s t (one ∷ marks) other = (is_same s t one other ≡ true) ⊎ IsSaid s t marks other
 
--- a line of bytes without a name ends after an offset
+-- an offset is within the bytes of a line without a name
 abbrev pub IsCovered : Source → ℕ → List Mark → ℕ → Type 0
 IsCovered s size [] at = ⊥
-IsCovered s size (one ∷ marks) at = ((has_no_name s one ≡ true) × (at < next_line marks size)) ⊎ IsCovered s size marks at
+IsCovered s size (one ∷ marks) at =
+    ((has_no_name s one ≡ true) × (mark_at one ≤ at) × (at < next_line marks size)) ⊎ IsCovered s size marks at
 
--- Each line of the other text is said, or stands before the end of a line of bytes without a name.
+-- Each line of the other text is said, or stands within the bytes of a line without a name.
 abbrev pub AreSaid : Source → Source → ℕ → List Mark → List Mark → Type 0
 AreSaid s t size marks [] = Unit {0}
 AreSaid s t size marks (other ∷ others) =

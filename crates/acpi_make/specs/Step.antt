@@ -108,7 +108,9 @@ goes_on here Marked c =
     if c == 47 then Goes HalfComment
     else (if c == 63 then Goes (HalfMark here) else (if is_white c then Goes Spaced else Wants Space))
 goes_on here (Braced from) c = if c == 125 then Has (Value from (here - 1)) Ended else Goes (Braced from)
-goes_on here (Worded from) c = if is_white c then Has (Value from here) Spaced else Goes (Worded from)
+goes_on here (Worded from) c =
+    if c == 47 then Has (Value from here) HalfComment
+    else (if is_white c then Has (Value from here) Spaced else Goes (Worded from))
 
 -- what any character does
 abbrev pub step : ℕ → State → ℕ → Step

@@ -3,9 +3,10 @@
 
 ghost use Rattle.std.specs.Prelude.{◌≡◌, List, ◌∷◌, Some, MatchResult};
 ghost use Rattle.acpi_make.specs.Compare.{heading_number, is_same_number, mark_at, is_reference, name_in, is_same_name, is_same};
-ghost use Rattle.acpi_make.specs.Compare.{is_passed, past, rest_from, begins_same, has_no_name, is_empty, cover};
+ghost use Rattle.acpi_make.specs.Compare.{is_passed, no_bytes, is_within, past, rest_after, begins_same, has_no_name, is_empty, cover};
 ghost use Rattle.acpi_make.specs.Compare.{name_of_number, wanted_at, wanted_for, wanted_after, differ, difference};
 ghost use Rattle.acpi_make.specs.Draft.{drafted, fault_in};
+ghost use Rattle.acpi_make.specs.Range.{range_of};
 ghost use Rattle.acpi_make.specs.Entry.{name_found, is_open, found_of};
 ghost use Rattle.acpi_make.specs.Fault.{fault_of};
 ghost use Rattle.acpi_make.specs.Gives.{Gives};
@@ -93,8 +94,7 @@ fn is_same_name(name: &[u8], other: &[u8]) -> bool
                 name_left = more;
                 other_left = others;
             }
-            [] => return are_white(name_left),
-            _ => return false,
+            _ => return are_white(name_left) && are_white(other_left),
         }
     }
     are_white(other_left)
@@ -121,12 +121,27 @@ fn is_same(source: &Source, shown: &Source, one: &Mark, other: &Mark) -> bool
     }
 }
 
-// Returns whether a mark is one of the lines that a line of bytes stands for: it says something else, and stands before the end of
-// these bytes.
-fn is_passed(source: &Source, shown: &Source, one: &Mark, covered: usize, other: &Mark) -> bool
-    ensures { result ≡ is_passed (source_of source.now) (source_of shown.now) one.now covered other.now }
+/// The bytes for which a line without a name stands: from its offset to that of the next line.
+#[derive(Clone, Copy)]
+pub struct Range {
+    start: usize,
+    end: usize,
+}
+
+// Returns whether an offset is within bytes.
+fn is_within(at: usize, covered: Range) -> bool
+    ensures { result ≡ is_within at (range_of covered) }
 {
-    is_reference(other) || (!is_same(source, shown, one, other) && mark_at(other) < covered)
+    covered.start <= at && at < covered.end
+}
+
+// Returns whether a mark is one of the lines for which a line of bytes stands: it says something else, and stands within these
+// bytes.
+fn is_passed(source: &Source, shown: &Source, one: &Mark, covered: Range, other: &Mark) -> bool
+    ensures { result ≡ is_passed (source_of source.now) (source_of shown.now) one.now (range_of covered) other.now }
+{
+    is_reference(other)
+        || (!is_same(source, shown, one, other) && is_within(mark_at(other), covered))
 }
 
 // Returns the marks without those at the front that are passed.
@@ -134,10 +149,10 @@ fn past<'a>(
     source: &Source,
     shown: &Source,
     one: &Mark,
-    covered: usize,
+    covered: Range,
     others: &'a [Mark],
 ) -> &'a [Mark]
-    ensures { result.now ≡ past (source_of source.now) (source_of shown.now) one.now covered others.now }
+    ensures { result.now ≡ past (source_of source.now) (source_of shown.now) one.now (range_of covered) others.now }
 {
     let mut rest = others;
     'marks: while let [other, more @ ..] = rest {
@@ -149,13 +164,13 @@ fn past<'a>(
     rest
 }
 
-// Returns the marks at an offset or after it.
-fn rest_from(covered: usize, others: &[Mark]) -> &[Mark]
-    ensures { result.now ≡ rest_from covered others.now }
+// Returns the marks after those within bytes for which a line stands.
+fn rest_after(covered: Range, others: &[Mark]) -> &[Mark]
+    ensures { result.now ≡ rest_after (range_of covered) others.now }
 {
     let mut rest = others;
     'marks: while let [other, more @ ..] = rest {
-        if !is_reference(other) && mark_at(other) >= covered {
+        if !is_reference(other) && !is_within(mark_at(other), covered) {
             return rest;
         }
         rest = more;
@@ -206,12 +221,13 @@ fn is_empty(source: &Source, mark: &Mark, end: usize) -> bool
     }
 }
 
-// Returns the end of the bytes that lines of bytes without a name stand for.
-fn cover(source: &Source, one: &Mark, end: usize, covered: usize) -> usize
-    ensures { result ≡ cover (source_of source.now) one.now end covered }
+// Returns the bytes for which the last line without a name stands.
+fn cover(source: &Source, one: &Mark, end: usize, covered: Range) -> Range
+    ensures { range_of result ≡ cover (source_of source.now) one.now end (range_of covered) }
 {
     if has_no_name(source, one) {
-        end
+        let start = mark_at(one);
+        Range { start, end }
     } else {
         covered
     }
@@ -283,22 +299,22 @@ fn wanted_after(shown: &Source, others: &[Mark], end: usize) -> Option<Fault>
     }
 }
 
-// Compares a mark of a text with those of the other text, and returns what is left: the end of the bytes that lines of bytes stand
-// for, and the marks of the other text.
+// Compares a mark of a text with those of the other text, and returns what is left: the bytes for which the last line without a
+// name stands, and the marks of the other text.
 fn compare<'a>(
     source: &Source,
     shown: &Source,
     end: usize,
     size: usize,
     one: &Mark,
-    covered: usize,
+    covered: Range,
     others: &'a [Mark],
-) -> Result<(usize, &'a [Mark]), Fault>
+) -> Result<(Range, &'a [Mark]), Fault>
     ensures { (marks : List mark.Mark) → next_line marks size ≡ end
         → MatchResult result
-        (λ left. differ (source_of source.now) (source_of shown.now) size covered (one.now ∷ marks) others.now
-        ≡ differ (source_of source.now) (source_of shown.now) size left.0 marks left.1.now)
-        (λ wrong. differ (source_of source.now) (source_of shown.now) size covered (one.now ∷ marks) others.now
+        (λ left. differ (source_of source.now) (source_of shown.now) size (range_of covered) (one.now ∷ marks) others.now
+        ≡ differ (source_of source.now) (source_of shown.now) size (range_of left.0) marks left.1.now)
+        (λ wrong. differ (source_of source.now) (source_of shown.now) size (range_of covered) (one.now ∷ marks) others.now
         ≡ Some (fault_of wrong)) }
 {
     if is_reference(one) {
@@ -323,9 +339,9 @@ fn differ(
     marks: &[Mark],
     others: &[Mark],
 ) -> Option<Fault>
-    ensures { fault_in result ≡ differ (source_of source.now) (source_of shown.now) size 0 marks.now others.now }
+    ensures { fault_in result ≡ differ (source_of source.now) (source_of shown.now) size no_bytes marks.now others.now }
 {
-    let mut covered = 0;
+    let mut covered = Range { start: 0, end: 0 };
     let mut rest = others;
     'marks: for i in 0..marks.len() {
         let end = next_line(&marks[i + 1..], size);
@@ -337,7 +353,7 @@ fn differ(
             Err(fault) => return Some(fault),
         }
     }
-    wanted_after(shown, rest_from(covered, rest), size)
+    wanted_after(shown, rest_after(covered, rest), size)
 }
 
 /// Returns what is wrong with the lines of a text, which was made into these bytes, if the text that shows them has other lines.

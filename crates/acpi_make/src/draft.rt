@@ -2,6 +2,7 @@
 
 ghost use Rattle.std.specs.Prelude.{◌≡◌, ◌-◌, [], ◌++◌, length, replicate, OnOk, Ok};
 ghost use Rattle.acpi_base.specs.Bytes.{le};
+ghost use Rattle.acpi_make.specs.Draft.{form_here, expected, may_lack, early_doubt, line_found, named_field, line_doubt};
 ghost use Rattle.acpi_make.specs.Draft.{here, parts_here, inner_here, is_strange, nothing_yet, size_doubt, closed, is_nameless};
 ghost use Rattle.acpi_make.specs.Draft.{unlike, name_doubt, opened, with_line, with_heading, or_fault, with_number, wanted_for};
 ghost use Rattle.acpi_make.specs.Draft.{is_reference, with_reference, with_value_of, taken, all_taken, drafted, field_in, fault_in, first_of, wants_in};
@@ -48,8 +49,9 @@ pub struct Draft {
     pub start: usize,
     pub from: usize,
     pub to: usize,
-    /// The number of the field after the last that had a name.
+    /// The number of the field after the last that had a name, and whether bytes without a name came after it.
     pub number: usize,
+    pub loose: bool,
     /// The field of the last line with a name, if the form has it.
     pub field: Option<Field>,
     /// The offset at which this line begins, and the range of its name.
@@ -124,13 +126,23 @@ fn size_doubt(field: Option<Field>, found: usize, from: usize, to: usize) -> Opt
     }
 }
 
-// Returns the fault of a line in place of which another has to stand.
-fn unlike(from: usize, to: usize, wanted: Option<(usize, Field)>) -> Fault
-    ensures { fault_of result ≡ unlike from to (found_of wanted) }
+// Returns the fault of a line in place of which this field, or another of a form, has to stand.
+fn unlike(from: usize, to: usize, form: &'static str, wanted: Option<(usize, Field)>) -> Fault
+    ensures { fault_of result ≡ unlike from to form.now (found_of wanted) }
 {
     match wanted {
         Some((_, field)) => Fault::next(from, to, field.name, field.size),
-        None => Fault::next(from, to, "", 0),
+        None => Fault::field_of(from, to, form),
+    }
+}
+
+// Returns whether a field may be left out: its number of bytes can be any.
+fn may_lack(field: Option<(usize, Field)>) -> bool
+    ensures { result ≡ may_lack (found_of field) }
+{
+    match field {
+        Some((_, field)) => field.size == 0 && field.width != 0,
+        None => true,
     }
 }
 
@@ -210,6 +222,31 @@ impl Draft {
         }
     }
 
+    // Returns the name of the form of what the text is in.
+    fn form_here(&self, source: &Source) -> &'static str
+        ensures { result.now ≡ form_here (source_of source.now) (drafted self.now) }
+    {
+        if !self.inside {
+            return source.form.name;
+        }
+        match self.here(source) {
+            Some(form) => form.name,
+            None => "",
+        }
+    }
+
+    // Returns the fault of a line in place of which the next field has to stand.
+    fn expected(&self, source: &Source, from: usize, to: usize) -> Fault
+        ensures { fault_of result ≡ expected (source_of source.now) (drafted self.now) from to }
+    {
+        let form = self.form_here(source);
+        if self.loose {
+            return Fault::field_of(from, to, form);
+        }
+        let (parts, inner) = self.parts_here(source);
+        unlike(from, to, form, entry_from(self.number, parts, inner))
+    }
+
     // Returns the doubt about a line of which the form has no field.
     fn name_doubt(&self, source: &Source, from: usize, to: usize, name: &[u8]) -> Option<Fault>
         ensures { fault_in result ≡ name_doubt (source_of source.now) (drafted self.now) from to name.now }
@@ -223,8 +260,21 @@ impl Draft {
         if self.is_strange(source) {
             return Some(Fault::new(self.from, self.to, Wanted::Structure));
         }
+        Some(self.expected(source, from, to))
+    }
+
+    // Returns the doubt about a line of a field that comes too early.
+    fn early_doubt(&self, source: &Source, from: usize, to: usize, number: usize) -> Option<Fault>
+        ensures { fault_in result ≡ early_doubt (source_of source.now) (drafted self.now) from to number }
+    {
+        if number <= self.number || self.loose {
+            return None;
+        }
         let (parts, inner) = self.parts_here(source);
-        Some(unlike(from, to, entry_from(self.number, parts, inner)))
+        if may_lack(entry_from(self.number, parts, inner)) {
+            return None;
+        }
+        Some(self.expected(source, from, to))
     }
 
     /// Returns the first doubt, at the end of a line.
@@ -250,29 +300,62 @@ impl Draft {
         Ok(())
     }
 
+    // Returns the field of a line's name.
+    fn named_field(&self, source: &Source, name: &[u8]) -> Option<(usize, Field)>
+        ensures { found_of result ≡ named_field (source_of source.now) (drafted self.now) name.now }
+    {
+        if is_nameless(name) {
+            return None;
+        }
+        let (parts, inner) = self.parts_here(source);
+        next_entry(self.number, name, parts, inner)
+    }
+
+    // Returns what is in doubt about a line of this field.
+    fn line_doubt(
+        &self,
+        source: &Source,
+        from: usize,
+        to: usize,
+        name: &[u8],
+        found: Option<(usize, Field)>,
+    ) -> Option<Fault>
+        ensures { fault_in result ≡ line_doubt (source_of source.now) (drafted self.now) from to name.now (found_of found) }
+    {
+        match found {
+            Some((number, _)) => self.early_doubt(source, from, to, number),
+            None => self.name_doubt(source, from, to, name),
+        }
+    }
+
+    // Takes the field of a line, and what is in doubt about it.
+    fn set_field(&mut self, found: Option<(usize, Field)>, doubt: Option<Fault>)
+        ensures { drafted self.new ≡ line_found (found_of found) (fault_in doubt) (drafted self.old) }
+    {
+        self.doubt = first_of(self.doubt, doubt);
+        match found {
+            Some((number, field)) => {
+                self.number = next_number(number);
+                self.loose = false;
+                self.field = Some(field);
+            }
+            None => {
+                self.loose = true;
+                self.field = None;
+            }
+        }
+    }
+
     // Begins a line with a name.
     fn begin_line(&mut self, source: &Source, from: usize, to: usize) -> Result<(), MakeError>
         ensures { Changes result (drafted self.new) (Ok (with_line (source_of source.now) from to (drafted self.old))) }
     {
-        let (parts, inner) = self.parts_here(source);
         let name = after_offset(part_at(from, to, source.text));
-        let found = next_entry(self.number, name, parts, inner);
-        let doubt = match found {
-            Some(_) => None,
-            None => self.name_doubt(source, from, to, name),
-        };
+        let found = self.named_field(source, name);
+        let doubt = self.line_doubt(source, from, to, name, found);
         self.doubt = self.doubt_at_end();
         self.open(from, to)?;
-        match found {
-            Some((number, field)) => {
-                self.number = next_number(number);
-                self.field = Some(field);
-            }
-            None => {
-                self.field = None;
-                self.doubt = first_of(self.doubt, doubt);
-            }
-        }
+        self.set_field(found, doubt);
         Ok(())
     }
 
@@ -289,6 +372,7 @@ impl Draft {
             self.from = from;
             self.to = to;
             self.number = 0;
+            self.loose = false;
             self.field = None;
         }
         Ok(())
@@ -383,6 +467,7 @@ pub fn draft_of(alloc: Global, source: &Source, items: &[Item]) -> Result<Draft,
         from: 0,
         to: 0,
         number: 0,
+        loose: false,
         field: None,
         line_at: 0,
         line_from: 0,

@@ -2,7 +2,7 @@
 
 ghost use Rattle.std.specs.Prelude.{◌≡◌, true, IfOk, Some, string_bytes};
 ghost use Rattle.acpi_text.specs.Label.{all_print};
-ghost use Rattle.acpi_make.specs.Fault.{fault, next, whole, fault_of, line_at, column_at, words, wanted_text, found_text, explained};
+ghost use Rattle.acpi_make.specs.Fault.{fault, next, whole, field_of, fault_of, line_at, column_at, words, wanted_text, found_text, explained};
 ghost use Rattle.acpi_make.specs.Fault.{without_end, quoted, part_text, error_text};
 ghost use Rattle.acpi_make.specs.declared.fault.MakeError.TheVariants.{Memory};
 
@@ -52,6 +52,8 @@ pub enum Wanted {
     Structure,
     /// As many bytes as the field has.
     Width,
+    /// A field of a form.
+    FieldOf,
     /// All fields of a structure whose length is left out.
     Whole,
     /// The end of the text: a text is one table.
@@ -120,12 +122,14 @@ impl Wanted {
             Wanted::Value => "a value",
             Wanted::Digit => "a hexadecimal digit",
             Wanted::SecondDigit => "the second digit of a byte (#5 and 0x5 are the number 5)",
-            Wanted::QuotationMark => "a quotation mark at the end of the text",
+            Wanted::QuotationMark => "a quotation mark, or a character of ASCII that prints",
             Wanted::QuestionMark => "a second question mark",
             Wanted::Slash => "a second slash",
             Wanted::Brace => "a brace at the end of the names",
             Wanted::Field => "bytes, since the line has no field",
-            Wanted::Name => "a name of a flag or a value of this field, with \" | \" between flags",
+            Wanted::Name => {
+                "a name of a flag or a value of this field; a bar between spaces stands between flags"
+            }
             Wanted::Number => "a number that fits the field",
             Wanted::Label => "the label of a structure",
             Wanted::Bytes => "bytes, since nothing determines the question marks",
@@ -134,9 +138,10 @@ impl Wanted {
             Wanted::End => "the end of the table",
             Wanted::Structure => "the name or the type of a structure of this table",
             Wanted::Width => "as many bytes as the field has",
+            Wanted::FieldOf => "a field",
             Wanted::Whole => "all fields, since the length is left out",
             Wanted::OneTable => "the end of the text, since a text is one table",
-            Wanted::Table => "a table, which begins with a signature",
+            Wanted::Table => "a table, whose fields stand in lines after white space",
         }
     }
 }
@@ -170,6 +175,20 @@ impl Fault {
         }
     }
 
+    /// A line in place of which a field of a form has to stand.
+    pub fn field_of(from: usize, to: usize, name: &'static str) -> Fault
+        ensures { fault_of result ≡ field_of from to name.now }
+    {
+        Fault {
+            from,
+            to,
+            wanted: Wanted::FieldOf,
+            name,
+            width: 0,
+            found: 0,
+        }
+    }
+
     /// A table or a structure that lacks fields, and whose length is left out.
     pub fn whole(from: usize, to: usize, name: &'static str, found: usize) -> Fault
         ensures { fault_of result ≡ whole from to name.now found }
@@ -196,6 +215,7 @@ impl Fault {
             Wanted::Next => format!(in alloc; "{name} ({width} bytes)"),
             Wanted::Width if width == 1 => format!(in alloc; "1 byte of {name}"),
             Wanted::Width => format!(in alloc; "{width} bytes of {name}"),
+            Wanted::FieldOf => format!(in alloc; "a field of {name}"),
             Wanted::Whole => format!(in alloc;
                 "all fields of {name}, since its length is left out"
             ),
@@ -266,7 +286,7 @@ fn part_text(alloc: Global, from: usize, part: &[u8]) -> Result<String, AllocErr
         return format!(in alloc; "the end of the text");
     }
     if part.is_empty() {
-        return format!(in alloc; "nothing");
+        return format!(in alloc; "white space");
     }
     if part[0] == b'\n' {
         return format!(in alloc; "the end of the line");

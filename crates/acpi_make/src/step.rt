@@ -193,13 +193,11 @@ fn goes_on(here: usize, state: State, byte: u8) -> Step
             b'}' => Step::Has(Item::Value(from, here - 1), State::Ended),
             _ => Step::Goes(State::Braced(from)),
         },
-        State::Worded(from) => {
-            if is_white(byte) {
-                Step::Has(Item::Value(from, here), State::Spaced)
-            } else {
-                Step::Goes(State::Worded(from))
-            }
-        }
+        State::Worded(from) => match byte {
+            b'/' => Step::Has(Item::Value(from, here), State::HalfComment),
+            _ if is_white(byte) => Step::Has(Item::Value(from, here), State::Spaced),
+            _ => Step::Goes(State::Worded(from)),
+        },
     }
 }
 
