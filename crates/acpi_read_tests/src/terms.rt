@@ -1,7 +1,7 @@
 //! Terms of bytes that are changed, and of bytes that are compared.
 
 use acpi_read::report::report_terms;
-use acpi_read::terms::terms;
+use acpi_read::terms::{standard_terms, terms};
 use acpi_term::name_string::{Arities, NameString};
 use acpi_term::read_error::ReadError;
 use acpi_term::spell::spell;
@@ -38,6 +38,31 @@ fn limits(rt: HostRuntime) -> Result<(), Fail> {
         \x14\x06MTHD\x0f\x5b\x81\x06PRST\x55";
     let list = terms(bytes, &stated(rt.alloc(), 0)?)?;
     same(&spell(rt.alloc(), &list)?, bytes)
+}
+
+// What only the language of the standard has: names with `^` and the root alone, External, a method with a level, Processor,
+// ThermalZone, a package with room, IndexField and an operator. The spelling of the terms is the bytes.
+#[test]
+fn standard(rt: HostRuntime) -> Result<(), Fail> {
+    let alloc = rt.alloc();
+    let arities = stated(alloc, 0)?;
+    let parts = [
+        b"\x15\x5c\x2e_SB_PCI0\x06\x00".as_slice(),
+        b"\x10\x0b\x5c\x00\x08\x5e\x5eABCD\x00".as_slice(),
+        b"\x14\x06MTHD\xff".as_slice(),
+        b"\x5b\x83\x0bCPU0\xff\x01\x02\x03\x04\xfe".as_slice(),
+        b"\x5b\x85\x05TZ00".as_slice(),
+        b"\x12\x03\xff\x01".as_slice(),
+        b"\x5b\x86\x0fINDXDATA\x55REG0\x08".as_slice(),
+        b"\x5b\x12\x5eABCD\x60".as_slice(),
+    ];
+    let mut all = Vec::new(alloc);
+    for part in &parts {
+        equal(&terms(part, &arities).is_err(), &true)?;
+        all.extend_from_slice(part)?;
+    }
+    let list = standard_terms(&all, &arities)?;
+    same(&spell(alloc, &list)?, &all)
 }
 
 // A serial port: a device with an id and a template of an interrupt and a port.
