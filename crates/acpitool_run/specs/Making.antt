@@ -39,26 +39,39 @@ warnings name owns fault = notes name owns ++ fault_line name fault
 abbrev pub held_line : List ℕ → List ℕ
 held_line name = name ++ codes ": not written (--force writes it)\n"
 
--- The text is made into a table of these bytes, which is to be written. A line says of each number that isn't right which would
--- be, or what is wrong with the table: there is none, unless such a table is written by force.
+-- A made table is to be written. A line says of each number that isn't right which would be, or what is wrong with the table: there is
+-- none, unless such a table is written by force.
+pub record Passes (force : Bool) (name : List ℕ) (owns : List Own) (bytes : List ℕ) (err err' : Option (List ℕ)) : Type 0 where
+  pub fault : Option Fault
+  pub checked : IsChecked owns bytes fault
+  pub right : (force ≡ true) ⊎ ((owns ≡ []) × (fault ≡ None))
+  pub noted : Appends err err' (warnings name owns fault)
+
+-- A made table isn't to be written: its numbers are wrong, or it is wrong itself, and lines say so.
+pub record Stays (force : Bool) (name : List ℕ) (owns : List Own) (bytes : List ℕ) (err err' : Option (List ℕ)) : Type 0 where
+  pub fault : Option Fault
+  pub checked : IsChecked owns bytes fault
+  pub wrong : (owns ≢ []) ⊎ (fault ≢ None)
+  pub no_force : force ≡ false
+  pub noted : Appends err err' (warnings name owns fault ++ held_line name)
+
+-- whether it is to be written
+abbrev pub IsJudged : Bool → List ℕ → List Own → List ℕ → Option (List ℕ) → Option (List ℕ) → Bool → Type 0
+IsJudged force name owns bytes err err' true = Passes force name owns bytes err err'
+IsJudged force name owns bytes err err' false = Stays force name owns bytes err err'
+
+-- the text is made into a table of these bytes, which is to be written
 pub record MadeText (force : Bool) (name text bytes : List ℕ) (err err' : Option (List ℕ)) : Type 0 where
   pub made : Made
   pub is : IsMade text (Ok made)
   pub same : made.bytes.items ≡ bytes
-  pub fault : Option Fault
-  pub checked : IsChecked made.untrue.items made.bytes.items fault
-  pub right : (force ≡ true) ⊎ ((made.untrue.items ≡ []) × (fault ≡ None))
-  pub noted : Appends err err' (warnings name made.untrue.items fault)
+  pub judged : IsJudged force name made.untrue.items made.bytes.items err err' true
 
--- the text is made into a table whose numbers are wrong, or that is wrong itself, which isn't to be written, and lines say so
+-- the text is made into a table that isn't to be written
 pub record Held (force : Bool) (name text : List ℕ) (err err' : Option (List ℕ)) : Type 0 where
   pub made : Made
   pub is : IsMade text (Ok made)
-  pub fault : Option Fault
-  pub checked : IsChecked made.untrue.items made.bytes.items fault
-  pub wrong : (made.untrue.items ≢ []) ⊎ (fault ≢ None)
-  pub no_force : force ≡ false
-  pub noted : Appends err err' (warnings name made.untrue.items fault ++ held_line name)
+  pub judged : IsJudged force name made.untrue.items made.bytes.items err err' false
 
 -- the text isn't made into a table, and a line says why
 pub record NotMade (name text : List ℕ) (err err' : Option (List ℕ)) : Type 0 where

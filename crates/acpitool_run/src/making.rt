@@ -4,7 +4,7 @@ ghost use Rattle.std.specs.Prelude.{◌≡◌, ◌≢◌, ◌⊎◌, ◌++◌, [
 ghost use Rattle.std.specs.Bool.{MatchBool};
 ghost use Rattle.std.specs.Option.{option_map};
 ghost use Rattle.std.specs.Io.KnownBytes.{Appends};
-ghost use Rattle.acpitool_run.specs.Making.{note, notes, IsChecked, warnings, held_line, same_line, MadeOrNot, Saved, NotSaved};
+ghost use Rattle.acpitool_run.specs.Making.{note, notes, IsChecked, warnings, held_line, IsJudged, same_line, MadeOrNot, Saved, NotSaved};
 ghost use Rattle.acpitool_run.specs.Making.{IsWritten, MakesText, MakesWord, Makes};
 
 use crate::complaint::complain;
@@ -89,6 +89,27 @@ fn is_held(force: bool, owns: &[Own], fault: &Option<Fault>) -> bool
     !force && (!owns.is_empty() || fault.is_some())
 }
 
+// Prints the notes on a made table, or else what is wrong with it, and returns whether it is to be written: without force only if
+// there is nothing to print.
+fn judge<E: Write>(
+    alloc: Global,
+    force: bool,
+    name: &str,
+    owns: &[Own],
+    bytes: &[u8],
+    err: &mut E,
+) -> io::Result<bool>
+    ensures { IfOk result (IsJudged force name.now owns.now bytes.now (E.contents err.old) (E.contents err.new)) }
+{
+    let fault = check(alloc, owns, bytes)?;
+    if is_held(force, owns, &fault) {
+        tell_held(alloc, name, owns, &fault, err)?;
+        return Ok(false);
+    }
+    warn(alloc, name, owns, &fault, err)?;
+    Ok(true)
+}
+
 /// Makes a text into a table, and returns the table's bytes if they are to be written. A line on `err` says of each number that
 /// isn't right which would be, or else what is wrong with the table: such a table is only written by force. Or a line says why the
 /// text isn't made into a table. An error is that of `err`, or memory ran out.
@@ -104,13 +125,11 @@ pub fn make_text<E: Write>(
 {
     match make(alloc, text) {
         Ok(made) => {
-            let fault = check(alloc, &made.untrue, &made.bytes)?;
-            if is_held(force, &made.untrue, &fault) {
-                tell_held(alloc, name, &made.untrue, &fault, err)?;
-                return Ok(None);
+            if judge(alloc, force, name, &made.untrue, &made.bytes, err)? {
+                Ok(Some(made.bytes))
+            } else {
+                Ok(None)
             }
-            warn(alloc, name, &made.untrue, &fault, err)?;
-            Ok(Some(made.bytes))
         }
         Err(MakeError::Memory) => Err(io::Error::from(AllocError)),
         Err(MakeError::Fault(wrong)) => {
