@@ -1,5 +1,6 @@
 mod Blocks
 mod Commands
+mod Judged
 mod Outcomes
 mod Pointers
 mod Runs
