@@ -8,7 +8,7 @@ use Rattle.acpi_make.specs.Compare.{mark_at, is_reference, is_same, Range, no_by
 use Rattle.acpi_make.specs.Compare.{has_no_name, is_empty}
 use Rattle.acpi_make.specs.Compare.{cover, wanted_for, wanted_after, differ, difference}
 use Rattle.acpi_make.specs.Complete.{completed}
-use Rattle.acpi_make.specs.Draft.{Drafted, nothing_yet, closed, all_taken}
+use Rattle.acpi_make.specs.Draft.{Drafted, nothing_yet, doubt_of, all_taken}
 use Rattle.acpi_make.specs.Fault.{Fault}
 use Rattle.acpi_make.specs.Gives.{and_then}
 use Rattle.acpi_make.specs.Lines.{IsAmong, AreAmong, IsSaid, IsCovered, AreSaid, IsShown, TextsAreShown}
@@ -53,9 +53,9 @@ module _ (s t : Source) where
   among_drop one [] is = is
   among_drop one (other ∷ others) is = inr is
 
-  begins_among : (one : Mark) (others : List Mark) → begins_same s t one others ≡ true → IsAmong s t one others
-  begins_among one [] is = absurd cc
-  begins_among one (other ∷ others) is = inl is
+  begins_among : (size end : ℕ) (one : Mark) (others : List Mark) → begins_same s t size end one others ≡ true → IsAmong s t one others
+  begins_among size end one [] is = absurd cc
+  begins_among size end one (other ∷ others) is = inl (and_parts (is_same s t one other) (end == next_line others size) is).0
 
   -- lines among fewer lines
   are_more : (size : ℕ) (marks few all : List Mark) → ((one : Mark) → IsAmong s t one few → IsAmong s t one all)
@@ -73,7 +73,7 @@ module _ (s t : Source) where
   all_among size covered [] others is = tt
   all_among size covered (one ∷ marks) others is =
       chosen (λ k left among. all_among size k marks left among)
-      (ways (is_reference one) (begins_same s t one rest) (has_no_name s one || is_empty s one end) _ _ _ _ is)
+      (ways (is_reference one) (begins_same s t size end one rest) (has_no_name s one || is_empty s one end) _ _ _ _ is)
     where
       rest : List Mark
       rest = past s t one covered others
@@ -86,12 +86,12 @@ module _ (s t : Source) where
 
       chosen : ((k : Range) (left : List Mark) → differ s t size k marks left ≡ None → AreAmong s t size marks left)
           → (((is_reference one ≡ true) × (differ s t size covered marks others ≡ None))
-          ⊎ (((begins_same s t one rest ≡ true) × (differ s t size next marks (drop 1 rest) ≡ None))
+          ⊎ (((begins_same s t size end one rest ≡ true) × (differ s t size next marks (drop 1 rest) ≡ None))
           ⊎ (((has_no_name s one || is_empty s one end) ≡ true) × (differ s t size next marks rest ≡ None))))
           → AreAmong s t size (one ∷ marks) others
       chosen again (inl (way, left)) = (inl way, again covered others left)
       chosen again (inr (inl (way, left))) = (
-        inr (inr (among_past one one covered others (begins_among one rest way))),
+        inr (inr (among_past one one covered others (begins_among size end one rest way))),
         are_more size marks (drop 1 rest) others (λ other among. among_past other one covered others (among_drop other rest among))
             (again next (drop 1 rest) left),
       )
@@ -178,16 +178,17 @@ module _ (s t : Source) where
   all_also size covered one marks [] are = tt
   all_also size covered one marks (other ∷ others) are = (known_also size covered one marks other are.0, all_also size covered one marks others are.1)
 
-  first_known : (size : ℕ) (covered : Range) (one : Mark) (marks others : List Mark) → begins_same s t one others ≡ true
+  first_known : (size end : ℕ) (covered : Range) (one : Mark) (marks others : List Mark) → begins_same s t size end one others ≡ true
       → AllKnown size covered (one ∷ marks) (drop 1 others) → AllKnown size covered (one ∷ marks) others
-  first_known size covered one marks [] is are = absurd cc
-  first_known size covered one marks (other ∷ others) is are = (inr (inl (inl is)), are)
+  first_known size end covered one marks [] is are = absurd cc
+  first_known size end covered one marks (other ∷ others) is are =
+      (inr (inl (inl (and_parts (is_same s t one other) (end == next_line others size) is).0)), are)
 
   all_known : (size : ℕ) (covered : Range) (marks others : List Mark) → differ s t size covered marks others ≡ None → AllKnown size covered marks others
   all_known size covered [] others is = all_before size covered [] others (none_after (rest_after covered others) size is)
   all_known size covered (one ∷ marks) others is =
       chosen (λ k left known. all_known size k marks left known)
-      (ways (is_reference one) (begins_same s t one rest) (has_no_name s one || is_empty s one end) _ _ _ _ is)
+      (ways (is_reference one) (begins_same s t size end one rest) (has_no_name s one || is_empty s one end) _ _ _ _ is)
     where
       rest : List Mark
       rest = past s t one covered others
@@ -200,13 +201,13 @@ module _ (s t : Source) where
 
       chosen : ((k : Range) (left : List Mark) → differ s t size k marks left ≡ None → AllKnown size k marks left)
           → (((is_reference one ≡ true) × (differ s t size covered marks others ≡ None))
-          ⊎ (((begins_same s t one rest ≡ true) × (differ s t size next marks (drop 1 rest) ≡ None))
+          ⊎ (((begins_same s t size end one rest ≡ true) × (differ s t size next marks (drop 1 rest) ≡ None))
           ⊎ (((has_no_name s one || is_empty s one end) ≡ true) × (differ s t size next marks rest ≡ None))))
           → AllKnown size covered (one ∷ marks) others
       chosen again (inl (way, left)) = all_also size covered one marks others (again covered others left)
       chosen again (inr (inl (way, left))) =
           all_past size covered one (one ∷ marks) others
-          (first_known size covered one marks rest way (all_more size covered one marks (drop 1 rest) (again next (drop 1 rest) left)))
+          (first_known size end covered one marks rest way (all_more size covered one marks (drop 1 rest) (again next (drop 1 rest) left)))
       chosen again (inr (inr (way, left))) =
           all_past size covered one (one ∷ marks) others (all_more size covered one marks rest (again next rest left))
 
@@ -250,7 +251,7 @@ pub texts_shown : TextsAreShown
 texts_shown walk shape s parts table is =
     let one = then_is (all_taken s parts nothing_yet) _ table is in
     let d = one.middle in
-    let owns = then_is (numbers_own shape walk s d) _ table (doubt_is (closed d).doubt _ table one.follows) in
+    let owns = then_is (numbers_own shape walk s d) _ table (doubt_is (doubt_of d) _ table one.follows) in
     let whole = unless_is (short shape walk s d) _ table owns.follows in
     let two = then_is (completed shape (owns.middle ++ none_own walk d.marks (length d.cells)) d.cells) _ table whole in
     let three = then_is (difference walk s d two.middle) _ table two.follows in

@@ -8,7 +8,7 @@ use Rattle.acpi_base.specs.declared.walk.Walk.{Walk}
 use Rattle.acpi_make.specs.Compare.{heading_number, is_same_number, mark_at, is_reference, name_in, is_same_name, is_same, Range, no_bytes, is_within, past}
 use Rattle.acpi_make.specs.Compare.{begins_same, has_no_name, is_empty, cover, wanted_for, differ, difference}
 use Rattle.acpi_make.specs.Complete.{are_left, written, filled, all_filled, summed_at, summed, length_own, known, completed}
-use Rattle.acpi_make.specs.Draft.{Drafted, nothing_yet, first_of, closed, opened, line_found, with_line, with_heading, with_cells, all_taken}
+use Rattle.acpi_make.specs.Draft.{Drafted, nothing_yet, first_of, closed, doubt_of, opened, line_found, with_line, with_heading, with_cells, all_taken}
 use Rattle.acpi_make.specs.Entry.{Entry}
 use Rattle.acpi_make.specs.Fault.{Fault}
 use Rattle.acpi_make.specs.Fits.{fits}
@@ -234,6 +234,10 @@ second_chosen true b x y z plain same = absurd cc
 second_chosen false true x y z plain same = refl
 second_chosen false false x y z plain same = absurd cc
 
+both : (a b : Bool) → a ≡ true → b ≡ true → (a && b) ≡ true
+both true b one two = two
+both false b one two = absurd cc
+
 -- a line that stands in both
 one_passed : (s : Source) (size : ℕ) (covered : Range) (one : Mark) (marks : List Mark) → is_reference one ≡ false
     → differ s s size covered (one ∷ marks) (one ∷ marks) ≡ differ s s size (cover s one (next_line marks size) covered) marks marks
@@ -242,11 +246,11 @@ one_passed s size covered one marks plain =
     let next = cover s one end covered in
     let same = mark_same s one plain in
     ap (λ rest. cond (is_reference one) (differ s s size covered marks (one ∷ marks))
-    (cond (begins_same s s one rest) (differ s s size next marks (drop 1 rest))
+    (cond (begins_same s s size end one rest) (differ s s size next marks (drop 1 rest))
     (cond (has_no_name s one || is_empty s one end) (differ s s size next marks rest)
     (Some (wanted_for s one rest size)))))
     (not_passed (is_reference one) (is_same s s one one) (is_within (mark_at one) covered) (past s s one covered marks) (one ∷ marks) plain same)
-    ∙ second_chosen (is_reference one) (is_same s s one one) _ _ _ plain same
+    ∙ second_chosen (is_reference one) (is_same s s one one && end == end) _ _ _ plain (both (is_same s s one one) (end == end) same (eq-eqb end end refl))
 
 no_difference : (s : Source) (size : ℕ) (covered : Range) (marks : List Mark) → NoReference marks → differ s s size covered marks marks ≡ None
 no_difference s size covered [] none = refl
@@ -317,5 +321,5 @@ tables_made form walk kind shape bytes are small = record { table = made_of shap
     is : made_text shape walk s ≡ Ok (made_of shape owns bytes)
     is =
         ap (λ read. and_then read (λ parts. made shape walk s parts)) has.read
-        ∙ ap (λ taken. and_then taken (λ d. or_doubt (closed d).doubt (finished shape walk s d))) all.is
-        ∙ ap (or_doubt (closed d).doubt) finishes
+        ∙ ap (λ taken. and_then taken (λ d. or_doubt (doubt_of d) (finished shape walk s d))) all.is
+        ∙ ap (or_doubt (doubt_of d)) finishes

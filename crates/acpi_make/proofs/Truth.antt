@@ -10,7 +10,7 @@ use Rattle.acpi_base.specs.Bytes.{le, carried, field_at}
 use Rattle.acpi_base.specs.declared.walk.Walk.{Walk}
 use Rattle.acpi_make.specs.Complete.{are_left, written, filled, all_filled, summed, known, completed}
 use Rattle.acpi_make.specs.Compare.{difference}
-use Rattle.acpi_make.specs.Draft.{Drafted, nothing_yet, closed, all_taken}
+use Rattle.acpi_make.specs.Draft.{Drafted, nothing_yet, doubt_of, all_taken}
 use Rattle.acpi_make.specs.Fits.{fits}
 use Rattle.acpi_make.specs.Gives.{with_front, and_then}
 use Rattle.acpi_make.specs.Item.{known_cells}
@@ -206,7 +206,7 @@ quiet_is walk s d table is none =
 pub tables_true : TablesAreTrue
 tables_true walk s parts table is none long =
     let one = then_is (all_taken s parts nothing_yet) _ table is in
-    let done = finished_is shapes.Table walk s one.middle table (doubt_is (closed one.middle).doubt _ table one.follows) in
+    let done = finished_is shapes.Table walk s one.middle table (doubt_is (doubt_of one.middle) _ table one.follows) in
     let quiet = quiet_is walk s one.middle table done none in
     record {
       header = long;

@@ -107,9 +107,10 @@ rest_after covered [] = []
 rest_after covered (other ∷ others) =
     if is_reference other || is_within (mark_at other) covered then rest_after covered others else other ∷ others
 
-abbrev pub begins_same : Source → Source → Mark → List Mark → Bool
-begins_same s t one [] = false
-begins_same s t one (other ∷ others) = is_same s t one other
+-- whether a mark says the same as the first of others, and what it marks ends at the same offset
+abbrev pub begins_same : Source → Source → ℕ → ℕ → Mark → List Mark → Bool
+begins_same s t size end one [] = false
+begins_same s t size end one (other ∷ others) = is_same s t one other && end == next_line others size
 
 -- whether a mark is a line of bytes without a name
 abbrev pub has_no_name : Source → Mark → Bool
@@ -162,7 +163,7 @@ differ s t size covered (one ∷ marks) others =
     let rest = past s t one covered others in
     let end = next_line marks size in
     if is_reference one then differ s t size covered marks others
-    else (if begins_same s t one rest then differ s t size (cover s one end covered) marks (drop 1 rest)
+    else (if begins_same s t size end one rest then differ s t size (cover s one end covered) marks (drop 1 rest)
     else (if has_no_name s one || is_empty s one end then differ s t size (cover s one end covered) marks rest
     else Some (wanted_for t one rest size)))
 

@@ -46,8 +46,9 @@ pub record Drafted : Type 0 where
   pub line_at : ℕ
   pub line_from : ℕ
   pub line_to : ℕ
-  -- the first thing that isn't as the form has it
+  -- the first line that isn't as the form has it, and the first of a field that comes too early
   pub doubt : Option Fault
+  pub early : Option Fault
 
 abbrev pub nothing_yet : Drafted
 nothing_yet = record {
@@ -64,6 +65,7 @@ nothing_yet = record {
   line_from = 0;
   line_to = 0;
   doubt = None;
+  early = None;
 }
 
 -- ---- the form of what the text is in
@@ -112,6 +114,16 @@ size_doubt (Some one) size from to =
 abbrev pub closed : Drafted → Drafted
 closed d = doubted (size_doubt d.field (length d.cells - d.line_at) d.line_from d.line_to) d
 
+-- the first of two faults in the text
+abbrev pub earliest : Option Fault → Option Fault → Option Fault
+earliest (Some one) (Some other) = if nat_le other.from one.from then Some one else Some other
+earliest (Some one) None = Some one
+earliest None other = other
+
+-- what is in doubt at the end of the text
+abbrev pub doubt_of : Drafted → Option Fault
+doubt_of d = earliest (closed d).doubt d.early
+
 -- whether a line of this name has bytes without a name
 abbrev pub is_nameless : List ℕ → Bool
 is_nameless name = are_white name || is_line_of (codes "Bytes") name
@@ -155,7 +167,7 @@ name_doubt s d from to name =
 -- the line of a field, of bytes without a name, or of another name
 abbrev pub line_found : Option (ℕ × Entry) → Option Fault → Drafted → Drafted
 line_found (Some found) doubt d =
-    record d { number = next_number found.0; loose = false; field = Some found.1; doubt = first_of d.doubt doubt }
+    record d { number = next_number found.0; loose = false; field = Some found.1; early = first_of d.early doubt }
 line_found None doubt d = record d { loose = true; field = None; doubt = first_of d.doubt doubt }
 
 -- the field of a line's name
@@ -277,4 +289,5 @@ drafted d = record {
   line_from = d.line_from;
   line_to = d.line_to;
   doubt = fault_in d.doubt;
+  early = fault_in d.early;
 }

@@ -5,7 +5,7 @@ use Rattle.acpi_base.specs.declared.walk.Place.TheVariants.{Nowhere}
 use Rattle.acpi_base.specs.declared.walk.Walk.{Walk}
 use Rattle.acpi_make.specs.Complete.{length_own, completed}
 use Rattle.acpi_make.specs.Compare.{difference}
-use Rattle.acpi_make.specs.Draft.{Drafted, nothing_yet, closed, or_fault, all_taken}
+use Rattle.acpi_make.specs.Draft.{Drafted, nothing_yet, doubt_of, or_fault, all_taken}
 use Rattle.acpi_make.specs.Fault.{Fault}
 use Rattle.acpi_make.specs.Gives.{and_then}
 use Rattle.acpi_make.specs.Notes.{notes}
@@ -64,7 +64,7 @@ or_doubt doubt (Err wrong) = Err (or_fault doubt wrong)
 -- the table that the parts of a text are made into
 abbrev pub made : Shape → Option Walk → Source → List Item → Result Table Fault
 made shape walk s parts =
-    and_then (all_taken s parts nothing_yet) (λ d. or_doubt (closed d).doubt (finished shape walk s d))
+    and_then (all_taken s parts nothing_yet) (λ d. or_doubt (doubt_of d) (finished shape walk s d))
 
 abbrev pub table_of : Made → Table
 table_of made = record { bytes = made.bytes.items; untrue = made.untrue.items }

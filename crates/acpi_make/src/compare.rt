@@ -178,11 +178,19 @@ fn rest_after(covered: Range, others: &[Mark]) -> &[Mark]
     rest
 }
 
-fn begins_same(source: &Source, shown: &Source, one: &Mark, others: &[Mark]) -> bool
-    ensures { result ≡ begins_same (source_of source.now) (source_of shown.now) one.now others.now }
+// Returns whether a mark says the same as the first of others, and what it marks ends at the same offset.
+fn begins_same(
+    source: &Source,
+    shown: &Source,
+    size: usize,
+    end: usize,
+    one: &Mark,
+    others: &[Mark],
+) -> bool
+    ensures { result ≡ begins_same (source_of source.now) (source_of shown.now) size end one.now others.now }
 {
     match others {
-        [other, ..] => is_same(source, shown, one, other),
+        [other, more @ ..] => is_same(source, shown, one, other) && end == next_line(more, size),
         [] => false,
     }
 }
@@ -322,7 +330,7 @@ fn compare<'a>(
     }
     let rest = past(source, shown, one, covered, others);
     let next = cover(source, one, end, covered);
-    if begins_same(source, shown, one, rest) {
+    if begins_same(source, shown, size, end, one, rest) {
         return Ok((next, &rest[1..]));
     }
     if has_no_name(source, one) || is_empty(source, one, end) {

@@ -2,7 +2,7 @@
 
 ghost use Rattle.std.specs.Prelude.{◌≡◌, ◌-◌, [], ◌++◌, length, replicate, OnOk, Ok};
 ghost use Rattle.acpi_base.specs.Bytes.{le};
-ghost use Rattle.acpi_make.specs.Draft.{form_here, expected, may_lack, early_doubt, line_found, named_field, line_doubt};
+ghost use Rattle.acpi_make.specs.Draft.{earliest, doubt_of, form_here, expected, may_lack, early_doubt, line_found, named_field, line_doubt};
 ghost use Rattle.acpi_make.specs.Draft.{here, parts_here, inner_here, is_strange, nothing_yet, size_doubt, closed, is_nameless};
 ghost use Rattle.acpi_make.specs.Draft.{unlike, name_doubt, opened, with_line, with_heading, or_fault, with_number, wanted_for};
 ghost use Rattle.acpi_make.specs.Draft.{is_reference, with_reference, with_value_of, taken, all_taken, drafted, field_in, fault_in, first_of, wants_in};
@@ -58,8 +58,11 @@ pub struct Draft {
     pub line_at: usize,
     pub line_from: usize,
     pub line_to: usize,
-    /// The first thing that isn't as the form has it. It is the fault of the text, if the text has one.
+    /// The first line that isn't as the form has it. It is the fault of the text, if the text has one.
     pub doubt: Option<Fault>,
+    /// The first line of a field that comes too early. It is the fault of the text, if there is none before it, and all values can
+    /// be read.
+    pub early: Option<Fault>,
 }
 
 /// What a text is read by: the form of the table, the place of a structure's type, and the text itself.
@@ -153,6 +156,17 @@ pub fn first_of(doubt: Option<Fault>, other: Option<Fault>) -> Option<Fault>
     match doubt {
         Some(doubt) => Some(doubt),
         None => other,
+    }
+}
+
+// Returns the first of two faults in the text.
+fn earliest(one: Option<Fault>, other: Option<Fault>) -> Option<Fault>
+    ensures { fault_in result ≡ earliest (fault_in one) (fault_in other) }
+{
+    match (one, other) {
+        (Some(one), Some(other)) => Some(if other.from <= one.from { one } else { other }),
+        (Some(one), None) => Some(one),
+        (None, other) => other,
     }
 }
 
@@ -277,8 +291,15 @@ impl Draft {
         Some(self.expected(source, from, to))
     }
 
-    /// Returns the first doubt, at the end of a line.
-    pub fn doubt_at_end(&self) -> Option<Fault>
+    /// Returns what is in doubt at the end of the text.
+    pub fn doubt(&self) -> Option<Fault>
+        ensures { fault_in result ≡ doubt_of (drafted self.now) }
+    {
+        earliest(self.doubt_at_end(), self.early)
+    }
+
+    // Returns the first doubt, at the end of a line.
+    fn doubt_at_end(&self) -> Option<Fault>
         ensures { fault_in result ≡ (closed (drafted self.now)).doubt }
     {
         let size = self.cells.len().saturating_sub(self.line_at);
@@ -332,14 +353,15 @@ impl Draft {
     fn set_field(&mut self, found: Option<(usize, Field)>, doubt: Option<Fault>)
         ensures { drafted self.new ≡ line_found (found_of found) (fault_in doubt) (drafted self.old) }
     {
-        self.doubt = first_of(self.doubt, doubt);
         match found {
             Some((number, field)) => {
+                self.early = first_of(self.early, doubt);
                 self.number = next_number(number);
                 self.loose = false;
                 self.field = Some(field);
             }
             None => {
+                self.doubt = first_of(self.doubt, doubt);
                 self.loose = true;
                 self.field = None;
             }
@@ -473,6 +495,7 @@ pub fn draft_of(alloc: Global, source: &Source, items: &[Item]) -> Result<Draft,
         line_from: 0,
         line_to: 0,
         doubt: None,
+        early: None,
     };
     'items: for item in items {
         draft.take(source, item)?;

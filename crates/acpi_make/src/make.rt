@@ -143,8 +143,5 @@ pub fn make_of(
         text,
     };
     let draft = draft_of(alloc, &source, items)?;
-    or_doubt(
-        draft.doubt_at_end(),
-        finish(alloc, shape, walk, &source, &draft),
-    )
+    or_doubt(draft.doubt(), finish(alloc, shape, walk, &source, &draft))
 }

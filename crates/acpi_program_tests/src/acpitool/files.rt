@@ -71,7 +71,9 @@ fn not_made(rt: HostRuntime) -> Result<(), Fail> {
     let text = "  Signature: \"OEMX\"\n\n  Length: 0\n";
     write(&rt, "text", text.as_bytes())?;
     write(&rt, "kept", &TABLE)?;
-    let line = "text: line 3: expected the second digit of a byte\n";
+    let line =
+        "text: line 3, column 12: expected the second digit of a byte (#5 and 0x5 are the number 5), found the end of the \
+line\n";
     ends(&rt, &["make", "text", "kept"], 1, &[], &[line])?;
     has(&rt, "kept", &TABLE)
 }

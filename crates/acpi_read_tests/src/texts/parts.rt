@@ -5,7 +5,7 @@ use acpi_vectors::agree;
 use std::test::Fail;
 
 // Headings, names and values by name have two places: the number of characters from the first to the text's end, and from the
-// place after the last to the text's end. A byte that is left out has its line, and the bytes of a comment are none.
+// place after the last to the text's end. A byte that is left out has the first of these places, and a comment has no bytes.
 #[test]
 fn parts(rt: HostRuntime) -> Result<(), Fail> {
     let text = b"Name\n  4 A: {b} #12 @c ?? 07 // ??\n  d\n/e\n //f\n";
@@ -13,7 +13,7 @@ fn parts(rt: HostRuntime) -> Result<(), Fail> {
     let found = format!(in rt.alloc(); "{items:?}")?;
     agree(
         &found,
-        "[Heading(47, 43), Name(40, 37), Value(2, 35, 32), Value(2, 31, 28), Value(2, 27, 25), Cell(Left(2)), Cell(Byte(7)), \
+        "[Heading(47, 43), Name(40, 37), Value(35, 32), Value(31, 28), Value(27, 25), Cell(Left(24)), Cell(Byte(7)), \
 Name(10, 9), Heading(8, 6)]",
     )
 }
