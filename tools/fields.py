@@ -25,9 +25,7 @@ REGISTER = ["Address Space ID", "Register Bit Width", "Register Bit Offset", "Ac
 IN_NO_TABLE = ("hest/status.rt", "hest/error_data.rt")
 # The forms of tables that are only read. FORMATS has a section of its own on them.
 FURTHER = "acpi_forms/src/further/"
-UNSEEN = ["Before the Interrupt Wires", "Before the Mappings", "Before the Timers", "Before the Addresses", "Before the Sizes"]
-UNSEEN += ["Before the Name", "Before the OEM Data", "Before the Context Interrupts", "Before the PMU Interrupts"]
-UNSEEN += ["Before the Descriptors", "Before the Namespace String", "Without PASID", "Device Handle", "Header"]
+UNSEEN = ["Without PASID", "Device Handle", "Header"]
 # Structures that are only read: they are in cases/further.cases.
 UNSEEN += ["Multiprocessor Wakeup Structure", "Generic Port Affinity Structure"]
 
