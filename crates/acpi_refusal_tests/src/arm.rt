@@ -139,7 +139,7 @@ fn iort_devices(rt: HostRuntime) -> Result<(), Fail> {
     let group = empty_iort(alloc).add_its_group(group(alloc)?)?;
     starve(alloc, 20, &mapping(group))?;
     starve_made(alloc, 60, component(alloc, group))?;
-    starve_made(alloc, 56, complex(alloc, group))
+    starve_made(alloc, 60, complex(alloc, group))
 }
 
 #[test]
