@@ -97,21 +97,25 @@ fn held(rt: HostRuntime) -> Result<(), Fail> {
     has(&rt, "old", &TABLE)
 }
 
+// The bytes of this table, as the text states them.
+const FORCED: &[u8] = b"OEMX\x2c\0\0\0\x01\x85FOOBARCAFEDEAD\x01\0\0\0RVAT\0\0\0\x01";
+
 // With `--force` it is written, wherever this word is.
 #[test]
 fn forced(rt: HostRuntime) -> Result<(), Fail> {
     write(&rt, "wrong", WRONG.as_bytes())?;
-    for words in [
-        ["make", "--force", "wrong", "new"],
-        ["make", "wrong", "--force", "new"],
-        ["make", "wrong", "new", "--force"],
-    ] {
-        ends(&rt, &words, 0, &[], &[NOTE])?;
-        let bytes = fs::read(&rt, "new")?;
-        same(&bytes[..12], b"OEMX\x2c\x00\x00\x00\x01\x85FO")?;
-        fs::remove_file(&rt, "new")?;
-    }
-    Ok(())
+    ends(&rt, &["make", "--force", "wrong", "first"], 0, &[], &[NOTE])?;
+    has(&rt, "first", FORCED)?;
+    ends(
+        &rt,
+        &["make", "wrong", "--force", "second"],
+        0,
+        &[],
+        &[NOTE],
+    )?;
+    has(&rt, "second", FORCED)?;
+    ends(&rt, &["make", "wrong", "third", "--force"], 0, &[], &[NOTE])?;
+    has(&rt, "third", FORCED)
 }
 
 // A table that can't be written has a line.
