@@ -101,7 +101,8 @@ for table, text in tables:
 
 with open(FURTHER, encoding="utf-8") as file:
     further = {name.encode() for name in re.findall(r'signature = codes "(.{4})"', file.read())}
-for signature in sorted({table[:4] for table, _ in tables} | further):
+# OEMX is a signature that no table has, so there is no template of it.
+for signature in sorted({table[:4] for table, _ in tables} - {b"OEMX"} | further):
     template = run("template", signature.decode())
     expect(f"the template of {signature}", make(template.stdout)[1], "")
 

@@ -12,7 +12,8 @@ static const char text[] = "Signature: \"APIC\"\n  Signature: \"APIC\"\n  Length
                            "  OEM ID: \"FOOBAR\"\n  OEM Table ID: \"CAFEDEAD\"\n  OEM Revision: 00000001\n"
                            "  Creator ID: \"RVAT\"\n  Creator Revision: 00000001\n"
                            "  Local Interrupt Controller Address: fee00000\n  Flags: 00000001\n"
-                           "a processor\n  Type: 00\n  Length: ??\n  ACPI Processor UID: 00\n  APIC ID: 00\n  Flags: 00000001\n";
+                           "Processor Local APIC Structure\n  Type: 00\n  Length: ??\n  ACPI Processor UID: 00\n"
+                           "  APIC ID: 00\n  Flags: 00000001\n";
 
 /* Prints what a call returned, and returns whether that is a fault. */
 static int tell(const char *name, enum hyssop_fault fault, const char *at, uint64_t place) {

@@ -192,12 +192,12 @@ static void try_null(void) {
     want(hyssop_show(NULL, 0, NULL, 0, NULL, NULL) == HYSSOP_FAULT_SHORT_HEADER);
     want(hyssop_show(NULL, 1, NULL, 0, NULL, NULL) == HYSSOP_FAULT_NULL);
     want(hyssop_show("", 0, NULL, 1, NULL, NULL) == HYSSOP_FAULT_NULL);
-    want(hyssop_make(NULL, 0, NULL, 0, NULL, NULL) == HYSSOP_FINE);
-    want(hyssop_make("  a: 01\n", 8, NULL, 0, &found, NULL) == HYSSOP_FAULT_BUFFER && found == 1);
-    want(hyssop_make("  a: 01\n", 8, NULL, 0, NULL, NULL) == HYSSOP_FAULT_BUFFER);
+    want(hyssop_make(NULL, 0, NULL, 0, NULL, NULL) == HYSSOP_FAULT_WANTS_TABLE);
+    want(hyssop_make("  : 01 \n", 8, NULL, 0, &found, NULL) == HYSSOP_FAULT_BUFFER && found == 1);
+    want(hyssop_make("  : 01 \n", 8, NULL, 0, NULL, NULL) == HYSSOP_FAULT_BUFFER);
     want(hyssop_make(NULL, 1, NULL, 0, &found, NULL) == HYSSOP_FAULT_NULL && found == 0);
     want(hyssop_make("", 0, NULL, 1, NULL, NULL) == HYSSOP_FAULT_NULL);
-    want(hyssop_make_notes(NULL, 0, NULL, 0, NULL, NULL) == HYSSOP_FINE);
+    want(hyssop_make_notes(NULL, 0, NULL, 0, NULL, NULL) == HYSSOP_FAULT_WANTS_TABLE);
     want(hyssop_make_notes(NULL, 1, NULL, 0, NULL, NULL) == HYSSOP_FAULT_NULL);
     want(hyssop_make_notes("", 0, NULL, 1, NULL, NULL) == HYSSOP_FAULT_NULL);
     want(hyssop_template(NULL, 0, NULL, 0, NULL) == HYSSOP_FAULT_SIGNATURE);
@@ -267,7 +267,7 @@ static void try_empty(void) {
     want(check_image("", 0, UINT64_MAX, UINT64_MAX) == HYSSOP_FAULT_IMAGE_OUTSIDE && place == UINT64_MAX);
     want(template("", 0, 0) == HYSSOP_FAULT_SIGNATURE && template("APICX", 5, 0) == HYSSOP_FAULT_SIGNATURE);
     want(template("\xff\xff\xff\xff", 4, 0) == HYSSOP_FAULT_SIGNATURE);
-    want(make("", 0, MOST) == 0 && size == 0);
+    want(make("", 0, MOST) == HYSSOP_FAULT_WANTS_TABLE && size == 0 && place == 1);
 }
 
 static void try_template(void) {

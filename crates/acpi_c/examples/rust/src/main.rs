@@ -20,7 +20,7 @@ const TEXT: &str = "Signature: \"APIC\"
   Creator Revision: 00000001
   Local Interrupt Controller Address: fee00000
   Flags: 00000001
-a processor
+Processor Local APIC Structure
   Type: 00
   Length: ??
   ACPI Processor UID: 00
