@@ -70,6 +70,7 @@ facts fault.WantsWhole = known 84 (expected wanted.Whole)
 facts fault.WantsOneTable = known 85 (expected wanted.OneTable)
 facts fault.WantsTable = known 86 (expected wanted.Table)
 facts fault.WantsFieldOf = known 87 (expected wanted.FieldOf)
+facts fault.WantsRight = known 88 (expected wanted.Right)
 
 abbrev pub number_of : Fault → ℕ
 number_of f = (facts f).number
@@ -87,7 +88,7 @@ faults =
     fault.WantsValue ∷ fault.WantsDigit ∷ fault.WantsSecondDigit ∷ fault.WantsQuotationMark ∷ fault.WantsQuestionMark ∷ fault.WantsSlash ∷
     fault.WantsBrace ∷ fault.WantsField ∷ fault.WantsName ∷ fault.WantsNumber ∷ fault.WantsLabel ∷ fault.WantsBytes ∷ fault.WantsNext ∷
     fault.WantsNameless ∷ fault.WantsEnd ∷ fault.WantsStructure ∷ fault.WantsWidth ∷ fault.WantsWhole ∷ fault.WantsOneTable ∷
-    fault.WantsTable ∷ fault.WantsFieldOf ∷ []
+    fault.WantsTable ∷ fault.WantsFieldOf ∷ fault.WantsRight ∷ []
 
 -- the fault of a number
 abbrev pub fault_of : ℕ → Option Fault

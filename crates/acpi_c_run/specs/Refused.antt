@@ -101,6 +101,7 @@ fault_of_wanted wanted.Whole = fault.WantsWhole
 fault_of_wanted wanted.OneTable = fault.WantsOneTable
 fault_of_wanted wanted.Table = fault.WantsTable
 fault_of_wanted wanted.FieldOf = fault.WantsFieldOf
+fault_of_wanted wanted.Right = fault.WantsRight
 
 -- with the line of the text
 abbrev pub by_make : List ℕ → MakeError → Refused

@@ -58,6 +58,7 @@ pub enum Fault {
     WantsOneTable,
     WantsTable,
     WantsFieldOf,
+    WantsRight,
 }
 
 /// Every fault: its number and its words.
@@ -115,6 +116,7 @@ macro_rules! faults {
             WantsOneTable 85 "expected the end of the text, since a text is one table"
             WantsTable 86 "expected a table, whose fields stand in lines after white space"
             WantsFieldOf 87 "expected a field"
+            WantsRight 88 "expected another number"
         }
     };
 }

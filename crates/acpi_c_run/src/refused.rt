@@ -105,6 +105,7 @@ fn fault_of_wanted(wanted: Wanted) -> Fault
         Wanted::OneTable => Fault::WantsOneTable,
         Wanted::Table => Fault::WantsTable,
         Wanted::FieldOf => Fault::WantsFieldOf,
+        Wanted::Right => Fault::WantsRight,
     }
 }
 

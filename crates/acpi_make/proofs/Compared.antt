@@ -1,25 +1,25 @@
 -- Lines that don't differ are those of both texts.
-use Rattle.std.proofs.Common.{◌≡◌, ◌⊎◌, ℕ, ◌<◌, ◌==◌, nat_le, nat_lt, not, ◌&&◌, ◌||◌, Bool, true, false, cond, inl, inr}
-use Rattle.std.proofs.Common.{List, [], ◌∷◌, ◌++◌, length, drop, Option, Some, None, Result, Ok, Err, refl, sym, ap, subst, ◌∙◌, arith}
+use Rattle.std.proofs.Common.{◌≡◌, ◌⊎◌, ℕ, ◌==◌, nat_le, nat_lt, not, ◌&&◌, ◌||◌, Bool, true, false, cond, inl, inr}
+use Rattle.std.proofs.Common.{List, [], ◌∷◌, ◌++◌, length, drop, Option, Some, None, Result, Ok, refl, ap, subst, ◌∙◌, arith}
 use Rattle.std.proofs.lemmas.Bool.{and_parts, leb-true, ltb-true}
 use Rattle.acpi_base.specs.declared.walk.Walk.{Walk}
 use Rattle.acpi_text.specs.Table.{table_text}
+use Rattle.acpi_make.specs.Blamed.{blamed}
 use Rattle.acpi_make.specs.Compare.{mark_at, is_reference, is_same, Range, no_bytes, is_within, is_passed, past, rest_after, begins_same}
 use Rattle.acpi_make.specs.Compare.{has_no_name, is_empty}
-use Rattle.acpi_make.specs.Compare.{cover, wanted_for, wanted_after, differ, difference}
+use Rattle.acpi_make.specs.Compare.{cover, wanted_after, differ, difference}
 use Rattle.acpi_make.specs.Complete.{completed}
 use Rattle.acpi_make.specs.Draft.{Drafted, nothing_yet, doubt_of, all_taken}
 use Rattle.acpi_make.specs.Fault.{Fault}
-use Rattle.acpi_make.specs.Gives.{and_then}
 use Rattle.acpi_make.specs.Lines.{IsAmong, AreAmong, IsSaid, IsCovered, AreSaid, IsShown, TextsAreShown}
 use Rattle.acpi_make.specs.Made.{Table, made_of, numbers_own, unless}
 use Rattle.acpi_make.specs.Meaning.{parts_of}
 use Rattle.acpi_make.specs.Own.{next_line, none_own}
 use Rattle.acpi_make.specs.Short.{short}
 use Rattle.acpi_make.specs.Source.{Source}
-use Rattle.acpi_make.specs.declared.complete.Shape.{Shape}
 use Rattle.acpi_make.specs.declared.draft.Mark.{Mark}
 use Rattle.acpi_make.specs.declared.item.Item.{Item}
+use Rattle.acpi_make.specs.declared.own.Own.{Own}
 use Rattle.acpi_make.proofs.Truth.{then_is, unless_is, doubt_is}
 
 -- ---- which way a line went
@@ -223,9 +223,10 @@ module _ (s t : Source) where
 
 -- ---- texts that are made
 
-nothing_wrong : {A : Type 0} (wrong : Option Fault) (outcome : Result A Fault) (value : A) → unless wrong outcome ≡ Ok value → wrong ≡ None
-nothing_wrong None outcome value is = refl
-nothing_wrong (Some wrong) outcome value is = absurd cc
+nothing_wrong : {A : Type 0} (s : Source) (marks : List Mark) (owns : List Own) (bytes : List ℕ) (wrong : Option Fault) (outcome : Result A Fault)
+    (value : A) → unless (blamed s marks owns bytes wrong) outcome ≡ Ok value → wrong ≡ None
+nothing_wrong s marks owns bytes None outcome value is = refl
+nothing_wrong s marks owns bytes (Some wrong) outcome value is = absurd cc
 
 texts_shown_by : (walk : Option Walk) (s : Source) (parts : List Item) (d : Drafted) (table : Table) → all_taken s parts nothing_yet ≡ Ok d
     → difference walk s d table.bytes ≡ Ok None → IsShown walk s parts table
@@ -255,7 +256,7 @@ texts_shown walk shape s parts table is =
     let whole = unless_is (short shape walk s d) _ table owns.follows in
     let two = then_is (completed shape (owns.middle ++ none_own walk d.marks (length d.cells)) d.cells) _ table whole in
     let three = then_is (difference walk s d two.middle) _ table two.follows in
-    let none = nothing_wrong three.middle _ table three.follows in
-    let same : made_of shape owns.middle two.middle ≡ table = let e = unless_is three.middle _ table three.follows in cc in
+    let none = nothing_wrong s d.marks owns.middle two.middle three.middle _ table three.follows in
+    let same : made_of shape owns.middle two.middle ≡ table = let e = unless_is (blamed s d.marks owns.middle two.middle three.middle) _ table three.follows in cc in
     subst (λ made. IsShown walk s parts made) same
     (texts_shown_by walk s parts d (made_of shape owns.middle two.middle) one.is (three.is ∙ ap Ok none))

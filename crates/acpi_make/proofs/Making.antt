@@ -5,6 +5,7 @@ use Rattle.std.proofs.lemmas.List.{append-nil, take-append-drop}
 use Rattle.acpi_base.specs.Walk.{place_offset, place_width}
 use Rattle.acpi_base.specs.declared.walk.Place.{Place}
 use Rattle.acpi_base.specs.declared.walk.Walk.{Walk}
+use Rattle.acpi_make.specs.Blamed.{blamed}
 use Rattle.acpi_make.specs.Compare.{heading_number, is_same_number, mark_at, is_reference, name_in, is_same_name, is_same, Range, no_bytes, is_within, past}
 use Rattle.acpi_make.specs.Compare.{begins_same, has_no_name, is_empty, cover, wanted_for, differ, difference}
 use Rattle.acpi_make.specs.Complete.{are_left, written, filled, all_filled, summed_at, summed, length_own, known, completed}
@@ -14,7 +15,7 @@ use Rattle.acpi_make.specs.Fault.{Fault}
 use Rattle.acpi_make.specs.Fits.{fits}
 use Rattle.acpi_make.specs.Gives.{with_front, and_then}
 use Rattle.acpi_make.specs.Item.{known_cells, cells_of}
-use Rattle.acpi_make.specs.Laws.{made_text, HasBytes, IsMadeInto, TablesAreRead, TablesAreMade}
+use Rattle.acpi_make.specs.Laws.{made_text, HasBytes, TablesAreRead, TablesAreMade}
 use Rattle.acpi_make.specs.Made.{Table, sizes_own, made_of, unless, finished, or_doubt, made}
 use Rattle.acpi_make.specs.Meaning.{read}
 use Rattle.acpi_make.specs.Own.{next_start, next_line, none_own, table_own, references_own}
@@ -33,7 +34,6 @@ use Rattle.acpi_make.specs.declared.own.Own.{Own}
 use Rattle.acpi_make.specs.declared.state.State.TheVariants.{Start}
 use Rattle.acpi_text.specs.Table.{table_text}
 use Rattle.acpi_text.specs.declared.form.StructureForm.{StructureForm}
-use Rattle.acpi_text.specs.declared.form.TableForm.{TableForm}
 use Rattle.acpi_make.proofs.Tables.{tables_mean}
 
 -- ---- known bytes are kept
@@ -292,7 +292,7 @@ tables_made form walk kind shape bytes are small = record { table = made_of shap
     owns = sizes_own shape walk d ++ table_own s d.cells d.marks
 
     outcome : Option Fault → Result Table Fault
-    outcome wrong = unless wrong (Ok (made_of shape owns bytes))
+    outcome wrong = unless (blamed s d.marks owns bytes wrong) (Ok (made_of shape owns bytes))
 
     same_lines : difference walk s d bytes ≡ Ok None
     same_lines =
@@ -304,7 +304,7 @@ tables_made form walk kind shape bytes are small = record { table = made_of shap
     rest : List Own → Result Table Fault
     rest found =
         and_then (completed shape (found ++ none_own walk d.marks (length d.cells)) d.cells) (λ bytes.
-        and_then (difference walk s d bytes) (λ wrong. unless wrong (Ok (made_of shape found bytes))))
+        and_then (difference walk s d bytes) (λ wrong. unless (blamed s d.marks found bytes wrong) (Ok (made_of shape found bytes))))
 
     completes : completed shape (owns ++ none_own walk d.marks (length d.cells)) d.cells ≡ Ok bytes
     completes = ap (completed shape (owns ++ none_own walk d.marks (length d.cells))) all.same
@@ -315,7 +315,8 @@ tables_made form walk kind shape bytes are small = record { table = made_of shap
         ap (λ found. and_then (and_then found (λ references. Ok (references ++ owns))) (λ found. unless (short shape walk s d) (rest found)))
         (nothing_referred s.text d.marks d.marks all.none)
         ∙ ap (λ wrong. unless wrong (rest owns)) (all_whole shape walk s d bytes all.same)
-        ∙ ap (λ done. and_then done (λ bytes. and_then (difference walk s d bytes) (λ wrong. unless wrong (Ok (made_of shape owns bytes))))) completes
+        ∙ ap (λ done. and_then done (λ bytes.
+        and_then (difference walk s d bytes) (λ wrong. unless (blamed s d.marks owns bytes wrong) (Ok (made_of shape owns bytes))))) completes
         ∙ ap (λ found. and_then found outcome) same_lines
 
     is : made_text shape walk s ≡ Ok (made_of shape owns bytes)

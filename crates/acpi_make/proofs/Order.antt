@@ -1,6 +1,6 @@
 -- The marks of a text stand in the order of its bytes.
 use Rattle.std.proofs.Common.{◌≡◌, ℕ, ◌≤◌, ◌==◌, Bool, true, false, cond}
-use Rattle.std.proofs.Common.{List, [], ◌∷◌, ◌++◌, length, Option, Some, None, Result, Ok, Err, refl, subst, arith, length-append}
+use Rattle.std.proofs.Common.{List, [], ◌∷◌, ◌++◌, length, Option, Some, None, Result, Ok, refl, subst, arith, length-append}
 use Rattle.acpi_make.specs.Draft.{Drafted, all_taken, taken, closed, opened, line_found, with_line, with_heading, with_cells, with_number}
 use Rattle.acpi_make.specs.Draft.{with_reference, with_value_of, is_reference, wanted_for, wants_in}
 use Rattle.acpi_make.specs.Entry.{Entry}

@@ -3,11 +3,12 @@ use Rattle.std.proofs.Common.{◌≡◌, ℕ, zero, suc, ◌+◌, ◌/◌, ◌%�
 use Rattle.std.proofs.Common.{List, [], ◌∷◌, ◌++◌, length, take, drop, Option, Some, None, Result, Ok, Err, refl, sym, ap, subst, ◌∙◌, arith, length-append}
 use Rattle.std.specs.Prelude.{sum}
 use Rattle.std.proofs.Math.Seq.{take-length}
-use Rattle.std.proofs.lemmas.Bool.{lt-ltb, le-leb, eqb-true, leb-true, and_parts}
+use Rattle.std.proofs.lemmas.Bool.{lt-ltb, le-leb, eqb-true, and_parts}
 use Rattle.std.proofs.lemmas.List.{take-append-drop, drop-drop, length-drop, length-map}
 use Rattle.acpi_base.proofs.Bytes.{length_le}
 use Rattle.acpi_base.specs.Bytes.{le, carried, field_at}
 use Rattle.acpi_base.specs.declared.walk.Walk.{Walk}
+use Rattle.acpi_make.specs.Blamed.{blamed}
 use Rattle.acpi_make.specs.Complete.{are_left, written, filled, all_filled, summed, known, completed}
 use Rattle.acpi_make.specs.Compare.{difference}
 use Rattle.acpi_make.specs.Draft.{Drafted, nothing_yet, doubt_of, all_taken}
@@ -120,7 +121,7 @@ finished_is shape walk s d table is =
     let whole = unless_is (short shape walk s d) _ table one.follows in
     let two = then_is (completed shape (one.middle ++ none_own walk d.marks (length d.cells)) d.cells) _ table whole in
     let three = then_is (difference walk s d two.middle) _ table two.follows in
-    let same : made_of shape one.middle two.middle ≡ table = let e = unless_is three.middle _ table three.follows in cc in
+    let same : made_of shape one.middle two.middle ≡ table = let e = unless_is (blamed s d.marks one.middle two.middle three.middle) _ table three.follows in cc in
     subst (λ made. IsFinished shape walk s d made) same
     (record {
       references = referred.middle;

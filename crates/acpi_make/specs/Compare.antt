@@ -6,7 +6,7 @@ use Rattle.acpi_text.specs.Structure.{find_form}
 use Rattle.acpi_text.specs.Table.{table_text}
 use Rattle.acpi_text.specs.declared.form.StructureForm.{StructureForm}
 use Rattle.acpi_make.specs.Draft.{Drafted, nothing_yet, is_nameless, name_of_form, all_taken}
-use Rattle.acpi_make.specs.Entry.{is_line_of, find_anywhere, name_found, is_open}
+use Rattle.acpi_make.specs.Entry.{find_anywhere, name_found, is_open}
 use Rattle.acpi_make.specs.Fault.{Fault, fault, next}
 use Rattle.acpi_make.specs.Gives.{and_then}
 use Rattle.acpi_make.specs.Heading.{described, find_named}

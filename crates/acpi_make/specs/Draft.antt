@@ -13,6 +13,7 @@ use Rattle.acpi_make.specs.Fits.{fits}
 use Rattle.acpi_make.specs.Gives.{and_then}
 use Rattle.acpi_make.specs.Heading.{structure_form}
 use Rattle.acpi_make.specs.Item.{known_cells}
+use Rattle.acpi_make.specs.Right.{misnamed}
 use Rattle.acpi_make.specs.Source.{Source}
 use Rattle.acpi_make.specs.Text.{part_at, after_offset, are_white}
 use Rattle.acpi_make.specs.Value.{value_of}
@@ -137,11 +138,32 @@ unlike from to form None = field_of from to form
 abbrev pub form_here : Source → Drafted → List ℕ
 form_here s d = if d.inside then name_of_form (here s d) else s.form.name.now
 
+-- what is in doubt, or what is wrong
+abbrev pub or_fault : Option Fault → Fault → Fault
+or_fault (Some doubt) wrong = doubt
+or_fault None wrong = wrong
+
+-- the fault of the type of the structure that the text is in, if its heading is that of another
+abbrev pub misnamed_here : Source → Drafted → Option Fault
+misnamed_here s d =
+    if d.inside then misnamed s d.marks d.start (drop d.start d.cells) (part_at d.from d.to s.text) else None
+
 -- the field that has to stand in a line; after bytes without a name it can be any
-abbrev pub expected : Source → Drafted → ℕ → ℕ → Fault
-expected s d from to =
+abbrev pub field_expected : Source → Drafted → ℕ → ℕ → Fault
+field_expected s d from to =
     if d.loose then field_of from to (form_here s d)
     else unlike from to (form_here s d) (find_entry 0 d.number [] (entries_here s d))
+
+-- what is wrong with a line that isn't as the form has it: the type before it, the structure's name, or the line itself
+abbrev pub expected : Source → Drafted → ℕ → ℕ → Fault
+expected s d from to =
+    or_fault (misnamed_here s d)
+    (if is_strange s d then fault d.from d.to wants.Structure else field_expected s d from to)
+
+-- whether there is a doubt, after which no other counts
+abbrev pub is_doubted : Option Fault → Bool
+is_doubted (Some doubt) = true
+is_doubted None = false
 
 -- a field may be left out if its number of bytes can be any
 abbrev pub may_lack : Option (ℕ × Entry) → Bool
@@ -151,16 +173,15 @@ may_lack None = true
 -- a line of a field that comes too early: another has to stand there
 abbrev pub early_doubt : Source → Drafted → ℕ → ℕ → ℕ → Option Fault
 early_doubt s d from to k =
-    if nat_le k d.number || (d.loose || may_lack (find_entry 0 d.number [] (entries_here s d))) then None
+    if is_doubted d.early || (nat_le k d.number || (d.loose || may_lack (find_entry 0 d.number [] (entries_here s d)))) then None
     else Some (expected s d from to)
 
 -- a line of which the form has no field
 abbrev pub name_doubt : Source → Drafted → ℕ → ℕ → List ℕ → Option Fault
 name_doubt s d from to name =
-    if is_nameless name then None
+    if is_doubted d.doubt || is_nameless name then None
     else (if is_line_of (codes "Signature") name then Some (fault from to wants.OneTable)
-    else (if is_strange s d then Some (fault d.from d.to wants.Structure)
-    else Some (expected s d from to)))
+    else Some (expected s d from to))
 
 -- ---- names
 
@@ -213,11 +234,6 @@ with_heading from to d =
 
 abbrev pub with_cells : List Cell → Drafted → Drafted
 with_cells cells d = record d { cells = d.cells ++ cells }
-
--- what is wrong with a value, or what was in doubt before
-abbrev pub or_fault : Option Fault → Fault → Fault
-or_fault (Some doubt) wrong = doubt
-or_fault None wrong = wrong
 
 abbrev pub wants_in : ℕ → ℕ → Wanted → Drafted → Result Drafted Fault
 wants_in from to wanted d = Err (or_fault d.doubt (fault from to wanted))

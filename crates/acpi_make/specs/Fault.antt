@@ -1,5 +1,5 @@
 -- What is wrong with a text, and how it is said.
-use Rattle.std.specs.Prelude.{ℕ, ◌+◌, ◌-◌, ◌==◌, ◌&&◌, Bool, false, if◌then◌else◌, List, [], ◌∷◌, ◌++◌, length, take, codes}
+use Rattle.std.specs.Prelude.{ℕ, ◌+◌, ◌-◌, ◌==◌, Bool, false, if◌then◌else◌, List, [], ◌∷◌, ◌++◌, length, take, codes}
 use Rattle.std.specs.Fmt.{decimal}
 use Rattle.acpi_text.specs.Label.{all_print}
 use Rattle.acpi_make.specs.Text.{part_at, is_white}
@@ -45,6 +45,10 @@ wide from to name width found =
 abbrev pub whole : ℕ → ℕ → List ℕ → ℕ → Fault
 whole from to name found =
     record { from = from; to = to; wanted = wanted.Whole; name = name; width = 0; found = found }
+
+-- a field in which another number has to stand
+abbrev pub right : ℕ → ℕ → List ℕ → ℕ → Fault
+right from to name n = record { from = from; to = to; wanted = wanted.Right; name = name; width = n; found = 0 }
 
 -- a line in place of which a field of a form has to stand
 abbrev pub field_of : ℕ → ℕ → List ℕ → Fault
@@ -95,6 +99,7 @@ words wanted.End = codes "the end of the table"
 words wanted.Structure = codes "the name or the type of a structure of this table"
 words wanted.Width = codes "as many bytes as the field has"
 words wanted.FieldOf = codes "a field"
+words wanted.Right = codes "another number"
 words wanted.Whole = codes "all fields, since the length is left out"
 words wanted.OneTable = codes "the end of the text, since a text is one table"
 words wanted.Table = codes "a table, whose fields stand in lines after white space"
@@ -113,6 +118,7 @@ width_text name width =
 abbrev pub text_of_wanted : Wanted → List ℕ → ℕ → List ℕ
 text_of_wanted wanted.Next name width = next_text name width
 text_of_wanted wanted.Width name width = width_text name width
+text_of_wanted wanted.Right name width = decimal width ++ (codes " in " ++ name)
 text_of_wanted wanted.FieldOf name width = codes "a field of " ++ name
 text_of_wanted wanted.Whole name width = codes "all fields of " ++ (name ++ codes ", since its length is left out")
 text_of_wanted wanted name width = words wanted
@@ -148,6 +154,7 @@ part_text from part =
 
 abbrev pub text_of_found : Wanted → ℕ → ℕ → List ℕ → List ℕ
 text_of_found wanted.Width from found part = decimal found
+text_of_found wanted.Right from found part = codes "another number"
 text_of_found wanted.Whole from found part = decimal found ++ codes " bytes"
 text_of_found wanted from found part = part_text from part
 

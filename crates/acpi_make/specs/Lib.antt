@@ -7,6 +7,7 @@ pub mod Value
 pub mod Heading
 pub mod Fits
 pub mod Source
+pub mod Right
 pub mod Draft
 pub mod Own
 pub mod Complete
@@ -14,6 +15,7 @@ pub mod Compare
 pub mod Range
 pub mod Short
 pub mod Notes
+pub mod Blamed
 pub mod Made
 pub mod Lines
 pub mod Pieces

@@ -1,5 +1,5 @@
 -- What lines have in common that are those of two texts of one table.
-use Rattle.std.specs.Prelude.{◌≡◌, ◌⊎◌, ℕ, ◌<◌, ◌≤◌, ◌||◌, true, List, [], ◌∷◌, length, Option, Result, Ok}
+use Rattle.std.specs.Prelude.{◌≡◌, ◌⊎◌, ℕ, ◌<◌, ◌≤◌, ◌||◌, true, List, [], ◌∷◌, length, Option, Ok}
 use Rattle.acpi_base.specs.declared.walk.Walk.{Walk}
 use Rattle.acpi_text.specs.Table.{table_text}
 use Rattle.acpi_make.specs.Compare.{mark_at, is_reference, is_same, has_no_name, is_empty}

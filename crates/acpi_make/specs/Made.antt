@@ -3,6 +3,7 @@ use Rattle.std.specs.Prelude.{List, ◌∷◌, ◌++◌, length, Option, Some, N
 use Rattle.acpi_base.specs.declared.walk.Place.{Place}
 use Rattle.acpi_base.specs.declared.walk.Place.TheVariants.{Nowhere}
 use Rattle.acpi_base.specs.declared.walk.Walk.{Walk}
+use Rattle.acpi_make.specs.Blamed.{blamed}
 use Rattle.acpi_make.specs.Complete.{length_own, completed}
 use Rattle.acpi_make.specs.Compare.{difference}
 use Rattle.acpi_make.specs.Draft.{Drafted, nothing_yet, doubt_of, or_fault, all_taken}
@@ -47,14 +48,14 @@ unless (Some wrong) outcome = Err wrong
 unless None outcome = outcome
 
 -- The table of a table in the making: no structure whose length is left out lacks fields, and the text has the lines of the text that
--- shows the table.
+-- shows the table. Else a number that the text states may be the cause.
 abbrev pub finished : Shape → Option Walk → Source → Drafted → Result Table Fault
 finished shape walk s d =
     and_then (numbers_own shape walk s d) (λ owns.
     unless (short shape walk s d) (
     and_then (completed shape (owns ++ none_own walk d.marks (length d.cells)) d.cells) (λ bytes.
     and_then (difference walk s d bytes) (λ wrong.
-    unless wrong (Ok (made_of shape owns bytes))))))
+    unless (blamed s d.marks owns bytes wrong) (Ok (made_of shape owns bytes))))))
 
 -- an outcome, in which what was in doubt before comes before other faults
 abbrev pub or_doubt : {A : Type 0} → Option Fault → Result A Fault → Result A Fault

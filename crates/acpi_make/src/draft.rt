@@ -1,8 +1,8 @@
 //! A table in the making: the bytes of a text's parts, and marks where structures, lines and references begin.
 
-ghost use Rattle.std.specs.Prelude.{◌≡◌, ◌-◌, [], ◌++◌, length, replicate, OnOk, Ok};
+ghost use Rattle.std.specs.Prelude.{◌≡◌, ◌-◌, [], ◌++◌, length, drop, replicate, OnOk, Ok};
 ghost use Rattle.acpi_base.specs.Bytes.{le};
-ghost use Rattle.acpi_make.specs.Draft.{earliest, doubt_of, form_here, expected, may_lack, early_doubt, line_found, named_field, line_doubt};
+ghost use Rattle.acpi_make.specs.Draft.{earliest, doubt_of, form_here, misnamed_here, field_expected, is_doubted, expected, may_lack, early_doubt, line_found, named_field, line_doubt};
 ghost use Rattle.acpi_make.specs.Draft.{here, parts_here, inner_here, is_strange, nothing_yet, size_doubt, closed, is_nameless};
 ghost use Rattle.acpi_make.specs.Draft.{unlike, name_doubt, opened, with_line, with_heading, or_fault, with_number, wanted_for};
 ghost use Rattle.acpi_make.specs.Draft.{is_reference, with_reference, with_value_of, taken, all_taken, drafted, field_in, fault_in, first_of, wants_in};
@@ -18,6 +18,7 @@ use crate::entry::{Field, entry_from, is_line_of, next_entry, next_number};
 use crate::fault::{Fault, MakeError, Wanted};
 use crate::heading::structure_form;
 use crate::item::{Cell, Item};
+use crate::right::misnamed;
 use crate::text::{after_offset, are_white, part_at};
 use crate::value::value_of;
 use acpi_base::walk::Place;
@@ -159,6 +160,16 @@ pub fn first_of(doubt: Option<Fault>, other: Option<Fault>) -> Option<Fault>
     }
 }
 
+// Returns whether there is a doubt, after which no other counts.
+fn is_doubted(doubt: Option<Fault>) -> bool
+    ensures { result ≡ is_doubted (fault_in doubt) }
+{
+    match doubt {
+        Some(_) => true,
+        None => false,
+    }
+}
+
 // Returns the first of two faults in the text.
 fn earliest(one: Option<Fault>, other: Option<Fault>) -> Option<Fault>
     ensures { fault_in result ≡ earliest (fault_in one) (fault_in other) }
@@ -197,17 +208,28 @@ fn push_left(width: usize, place: usize, cells: &mut Vec<Cell>) -> Result<(), Al
 }
 
 impl Draft {
+    // Returns the bytes of the structure that the text is in.
+    fn cells_here(&self) -> &[Cell]
+        ensures { result.now ≡ drop self.now.start self.now.cells.items }
+    {
+        if self.start < self.cells.len() {
+            &self.cells[self.start..]
+        } else {
+            &[]
+        }
+    }
+
     // Returns the form of the structure that the text is in.
     fn here(&self, source: &Source) -> Option<StructureForm>
         ensures { result ≡ here (source_of source.now) (drafted self.now) }
     {
-        let cells = if self.start < self.cells.len() {
-            &self.cells[self.start..]
-        } else {
-            &[]
-        };
         let heading = part_at(self.from, self.to, source.text);
-        structure_form(source.kind, source.form.structures, heading, cells)
+        structure_form(
+            source.kind,
+            source.form.structures,
+            heading,
+            self.cells_here(),
+        )
     }
 
     // Returns the parts of what the text is in, and what it contains after them.
@@ -249,9 +271,20 @@ impl Draft {
         }
     }
 
+    // Returns the fault of the type of the structure that the text is in, if its heading is that of another.
+    fn misnamed_here(&self, source: &Source) -> Option<Fault>
+        ensures { fault_in result ≡ misnamed_here (source_of source.now) (drafted self.now) }
+    {
+        if !self.inside {
+            return None;
+        }
+        let heading = part_at(self.from, self.to, source.text);
+        misnamed(source, &self.marks, self.start, self.cells_here(), heading)
+    }
+
     // Returns the fault of a line in place of which the next field has to stand.
-    fn expected(&self, source: &Source, from: usize, to: usize) -> Fault
-        ensures { fault_of result ≡ expected (source_of source.now) (drafted self.now) from to }
+    fn field_expected(&self, source: &Source, from: usize, to: usize) -> Fault
+        ensures { fault_of result ≡ field_expected (source_of source.now) (drafted self.now) from to }
     {
         let form = self.form_here(source);
         if self.loose {
@@ -261,18 +294,28 @@ impl Draft {
         unlike(from, to, form, entry_from(self.number, parts, inner))
     }
 
+    // Returns what is wrong with a line that isn't as the form has it.
+    fn expected(&self, source: &Source, from: usize, to: usize) -> Fault
+        ensures { fault_of result ≡ expected (source_of source.now) (drafted self.now) from to }
+    {
+        if let Some(fault) = self.misnamed_here(source) {
+            return fault;
+        }
+        if self.is_strange(source) {
+            return Fault::new(self.from, self.to, Wanted::Structure);
+        }
+        self.field_expected(source, from, to)
+    }
+
     // Returns the doubt about a line of which the form has no field.
     fn name_doubt(&self, source: &Source, from: usize, to: usize, name: &[u8]) -> Option<Fault>
         ensures { fault_in result ≡ name_doubt (source_of source.now) (drafted self.now) from to name.now }
     {
-        if is_nameless(name) {
+        if is_doubted(self.doubt) || is_nameless(name) {
             return None;
         }
         if is_line_of(b"Signature", name) {
             return Some(Fault::new(from, to, Wanted::OneTable));
-        }
-        if self.is_strange(source) {
-            return Some(Fault::new(self.from, self.to, Wanted::Structure));
         }
         Some(self.expected(source, from, to))
     }
@@ -281,7 +324,7 @@ impl Draft {
     fn early_doubt(&self, source: &Source, from: usize, to: usize, number: usize) -> Option<Fault>
         ensures { fault_in result ≡ early_doubt (source_of source.now) (drafted self.now) from to number }
     {
-        if number <= self.number || self.loose {
+        if is_doubted(self.early) || number <= self.number || self.loose {
             return None;
         }
         let (parts, inner) = self.parts_here(source);

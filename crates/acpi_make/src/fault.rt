@@ -2,7 +2,7 @@
 
 ghost use Rattle.std.specs.Prelude.{◌≡◌, true, IfOk, Some, string_bytes};
 ghost use Rattle.acpi_text.specs.Label.{all_print};
-ghost use Rattle.acpi_make.specs.Fault.{fault, next, whole, field_of, fault_of, line_at, column_at, words, wanted_text, found_text, explained};
+ghost use Rattle.acpi_make.specs.Fault.{fault, next, whole, right, field_of, fault_of, line_at, column_at, words, wanted_text, found_text, explained};
 ghost use Rattle.acpi_make.specs.Fault.{without_end, quoted, part_text, error_text};
 ghost use Rattle.acpi_make.specs.declared.fault.MakeError.TheVariants.{Memory};
 
@@ -52,6 +52,8 @@ pub enum Wanted {
     Structure,
     /// As many bytes as the field has.
     Width,
+    /// Another number: the one that the field has to have.
+    Right,
     /// A field of a form.
     FieldOf,
     /// All fields of a structure whose length is left out.
@@ -72,7 +74,7 @@ pub struct Fault {
     pub wanted: Wanted,
     /// The name of the field or the structure that has to stand there, or nothing.
     pub name: &'static str,
-    /// The width of this field in bytes, or 0.
+    /// The width of this field in bytes, or the number that has to stand in it, or 0.
     pub width: usize,
     /// How many bytes the text has in place of this width.
     pub found: usize,
@@ -138,6 +140,7 @@ impl Wanted {
             Wanted::End => "the end of the table",
             Wanted::Structure => "the name or the type of a structure of this table",
             Wanted::Width => "as many bytes as the field has",
+            Wanted::Right => "another number",
             Wanted::FieldOf => "a field",
             Wanted::Whole => "all fields, since the length is left out",
             Wanted::OneTable => "the end of the text, since a text is one table",
@@ -189,6 +192,20 @@ impl Fault {
         }
     }
 
+    /// A field in which another number has to stand.
+    pub fn right(from: usize, to: usize, name: &'static str, number: usize) -> Fault
+        ensures { fault_of result ≡ right from to name.now number }
+    {
+        Fault {
+            from,
+            to,
+            wanted: Wanted::Right,
+            name,
+            width: number,
+            found: 0,
+        }
+    }
+
     /// A table or a structure that lacks fields, and whose length is left out.
     pub fn whole(from: usize, to: usize, name: &'static str, found: usize) -> Fault
         ensures { fault_of result ≡ whole from to name.now found }
@@ -215,6 +232,7 @@ impl Fault {
             Wanted::Next => format!(in alloc; "{name} ({width} bytes)"),
             Wanted::Width if width == 1 => format!(in alloc; "1 byte of {name}"),
             Wanted::Width => format!(in alloc; "{width} bytes of {name}"),
+            Wanted::Right => format!(in alloc; "{width} in {name}"),
             Wanted::FieldOf => format!(in alloc; "a field of {name}"),
             Wanted::Whole => format!(in alloc;
                 "all fields of {name}, since its length is left out"
@@ -240,6 +258,7 @@ impl Fault {
                 let found = self.found;
                 format!(in alloc; "{found} bytes")
             }
+            Wanted::Right => format!(in alloc; "another number"),
             _ => part_text(alloc, self.from, part),
         }
     }

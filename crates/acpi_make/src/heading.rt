@@ -54,7 +54,7 @@ fn unlabelled(heading: &[u8]) -> &[u8]
     }
 }
 
-//// Returns a heading without its label and its offset.
+/// Returns a heading without its label and its offset.
 pub fn described(heading: &[u8]) -> &[u8]
     ensures { result.now ≡ described heading.now }
 {
@@ -83,8 +83,8 @@ fn numbered(text: &[u8], forms: &[StructureForm]) -> Option<StructureForm>
     }
 }
 
-// Returns the form that a heading names, by its type or by its name.
-fn by_heading(heading: &[u8], forms: &[StructureForm]) -> Option<StructureForm>
+/// Returns the form that a heading names, by its type or by its name.
+pub fn by_heading(heading: &[u8], forms: &[StructureForm]) -> Option<StructureForm>
     ensures { result ≡ by_heading heading.now forms.now }
 {
     let words = described(heading);
@@ -104,8 +104,8 @@ fn is_known(cell: Cell) -> bool
     }
 }
 
-// Returns whether there are `width` bytes and all of them are known. It looks at no byte after them.
-fn are_known(width: usize, cells: &[Cell]) -> bool
+/// Returns whether there are `width` bytes and all of them are known. It looks at no byte after them.
+pub fn are_known(width: usize, cells: &[Cell]) -> bool
     ensures { result ≡ nat_le width (known_front cells.now) }
 {
     let mut left = width;

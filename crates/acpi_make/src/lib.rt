@@ -14,6 +14,7 @@ pub mod make;
 pub mod notes;
 pub mod own;
 pub mod read;
+pub mod right;
 pub mod short;
 pub mod signature;
 pub mod state;

@@ -16,6 +16,7 @@ use crate::fault::{Fault, MakeError};
 use crate::item::Item;
 use crate::notes::notes;
 use crate::own::{Own, push_none, push_references, push_table, push_walk};
+use crate::right::blamed;
 use crate::short::short;
 use acpi_base::walk::{Place, Walk};
 use acpi_text::form::TableForm;
@@ -102,7 +103,8 @@ fn finish(
         return Err(MakeError::Fault(fault));
     }
     let bytes = complete_all(alloc, shape, walk, draft, &owns)?;
-    if let Some(fault) = difference(alloc, walk, source, draft, &bytes)? {
+    let wrong = difference(alloc, walk, source, draft, &bytes)?;
+    if let Some(fault) = blamed(source, &draft.marks, &owns, &bytes, wrong) {
         return Err(MakeError::Fault(fault));
     }
     let untrue = notes(alloc, shape, &owns, &bytes)?;

@@ -28,8 +28,8 @@ fn begins_with(width: usize, number: usize, bytes: &[u8]) -> bool
     number_left == 0
 }
 
-// Returns whether all bytes of a number's field are there, and it is another number.
-fn is_untrue(own: &Own, bytes: &[u8]) -> bool
+/// Returns whether all bytes of a number's field are there, and it is another number.
+pub fn is_untrue(own: &Own, bytes: &[u8]) -> bool
     ensures { result ≡ is_untrue own.now bytes.now }
 {
     let field = if own.offset < bytes.len() {

@@ -1,4 +1,4 @@
-use Rattle.std.proofs.Common.{◌≡◌, ◌+◌, ◌≤◌, length, reverse}
+use Rattle.std.proofs.Common.{◌≡◌, length, reverse}
 use Rattle.acpi_make.specs.Gives.{with_front}
 use Rattle.acpi_make.specs.Meaning.{read, parts_of}
 use Rattle.acpi_make.specs.Step.{IsHalf}
