@@ -1,4 +1,5 @@
 pub mod Lengths
+pub mod ArityIndexes
 pub mod PathTexts
 pub mod NameTexts
 pub mod Rows

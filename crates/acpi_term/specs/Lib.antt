@@ -11,6 +11,7 @@ pub mod Spelling
 pub mod Splits
 pub mod Laws
 pub mod Arity
+pub mod ArityIndex
 pub mod View
 pub mod Carried
 pub mod Reading

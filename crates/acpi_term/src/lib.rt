@@ -2,6 +2,7 @@
 #![tactic(auto)]
 
 pub mod apart;
+mod arity_index;
 mod derived;
 pub mod language;
 pub mod laws;

@@ -7,10 +7,12 @@ ghost use Rattle.acpi_term.specs.Held.{held, Holds};
 ghost use Rattle.acpi_term.specs.Name.{IsNameString};
 ghost use Rattle.acpi_term.specs.PathText.{parts, are_standard, path_spelling, is_name_text};
 ghost use Rattle.acpi_term.specs.Arity.{is_stated, are_arities, arity, with_new};
+ghost use Rattle.acpi_term.specs.ArityIndex.{Indexes, IsIndexed};
 ghost use Rattle.acpi_term.specs.Spelling.{arguments};
 ghost use Rattle.std.specs.Cmp.{partial_equiv_from_equiv};
 ghost use Rattle.std.specs.Cmp.Lexicographic.{nat_list_eq_equiv};
 
+use crate::arity_index::ArityIndex;
 use crate::mode::Mode;
 use crate::path_text::{path_bytes, split_root};
 use crate::read_error::ReadError;
@@ -126,26 +128,34 @@ fn are_standard(text: &[u8]) -> bool
 }
 
 /// How many arguments each name takes. The bytes of AML don't contain this.
+///
+/// The first `add` makes an index of the names, and so does `copy`. With it, adding a name and looking one up compare as many names
+/// as the logarithm of their number. Without it, a look-up goes over all of them.
 #[derive(Debug, Drop)]
 pub struct Arities {
     counts: Vec<(NameString, u8)>,
+    index: Option<ArityIndex>,
 }
 
 impl Model for Arities {
     ghost Value = { List (List ℕ × ℕ) };
 
     ghost view = { λ arities. arities.counts.items };
+
+    ghost invariant = { λ arities. IsIndexed arities.index arities.counts.items };
 }
 
 impl Arities {
-    /// The argument counts of names. The error is `Arity` if a name is there twice, or a number is more than 7.
+    /// The argument counts of names. The error is `Arity` if a name is there twice, or a number is more than 7. It takes no memory,
+    /// and compares each name with those after it.
     pub fn new(counts: Vec<(NameString, u8)>) -> Result<Arities, ReadError>
         ensures ok { IfOk result (λ arities. arities ≡ counts.items) }
         ensures fit { OnOk result (are_arities counts.items ≡ true) }
         ensures err { IfErr result (λ e. (e ≡ ReadError.Arity) × (are_arities counts.items ≡ false)) }
     {
         if are_arities(&counts) {
-            Ok(Arities { counts })
+            let index = None;
+            Ok(Arities { counts, index })
         } else {
             Err(ReadError::Arity)
         }
@@ -155,12 +165,7 @@ impl Arities {
     pub fn count_of(&self, name: &[u8]) -> u8
         ensures { result ≡ arity self.now name.now }
     {
-        for (stated, count) in &self.counts {
-            if stated.as_bytes() == name {
-                return *count;
-            }
-        }
-        0
+        count_by(&self.index, &self.counts, name)
     }
 
     /// The same list once more, in memory of its own.
@@ -168,7 +173,8 @@ impl Arities {
         ensures { IfOk result (λ arities. arities ≡ self.now) }
     {
         let counts = copied(alloc, &self.counts)?;
-        let copy = Arities { counts };
+        let index = Some(ArityIndex::of(alloc, &counts)?);
+        let copy = Arities { counts, index };
         Ok(copy)
     }
 
@@ -176,11 +182,7 @@ impl Arities {
     pub fn add(&mut self, name: NameString, count: u8) -> Result<(), AllocError>
         ensures { OnOk result (self.new ≡ with_new self.old (name, count)) }
     {
-        if is_stated(&self.counts, name.as_bytes()) {
-            return Ok(());
-        }
-        self.counts.push((name, count))?;
-        Ok(())
+        add(&mut self.counts, &mut self.index, name, count)
     }
 
     /// The allocator of the list.
@@ -199,6 +201,57 @@ pub fn arguments(arities: &Arities, mode: Mode, name: &[u8]) -> u8
     }
 }
 
+// The index that there is, or a new one.
+fn indexed(
+    alloc: Global,
+    counts: &[(NameString, u8)],
+    index: Option<ArityIndex>,
+) -> Result<ArityIndex, AllocError>
+    requires { IsIndexed index counts.now }
+    ensures { IfOk result (λ index. Indexes index counts.now) }
+{
+    match index {
+        Some(index) => Ok(index),
+        None => ArityIndex::of(alloc, counts),
+    }
+}
+
+// Adds the number of a name to a list and its index, unless the list states it already.
+fn push_new(
+    counts: &mut Vec<(NameString, u8)>,
+    index: &mut ArityIndex,
+    name: NameString,
+    count: u8,
+) -> Result<(), AllocError>
+    requires { Indexes index.now counts.now.items }
+    ensures added { OnOk result (counts.new.items ≡ with_new counts.old.items (name, count)) }
+    ensures indexed { OnOk result (Indexes index.new counts.new.items) }
+{
+    if index.find(name.as_bytes()).is_some() {
+        return Ok(());
+    }
+    index.add(*counts.allocator(), name.as_bytes(), count)?;
+    counts.push((name, count))?;
+    Ok(())
+}
+
+// The same, where the index may have to be made. If memory runs out, the list is left without one.
+fn add(
+    counts: &mut Vec<(NameString, u8)>,
+    index: &mut Option<ArityIndex>,
+    name: NameString,
+    count: u8,
+) -> Result<(), AllocError>
+    requires { IsIndexed index.now counts.now.items }
+    ensures added { OnOk result (counts.new.items ≡ with_new counts.old.items (name, count)) }
+    ensures indexed { IsIndexed index.new counts.new.items }
+{
+    let mut all = indexed(*counts.allocator(), counts, index.take())?;
+    push_new(counts, &mut all, name, count)?;
+    *index = Some(all);
+    Ok(())
+}
+
 fn copied(alloc: Global, counts: &[(NameString, u8)]) -> Result<Vec<(NameString, u8)>, AllocError>
     ensures { IfOk result (λ copies. copies.items ≡ counts.now) }
 {
@@ -207,6 +260,28 @@ fn copied(alloc: Global, counts: &[(NameString, u8)]) -> Result<Vec<(NameString,
         copies.push((name_of(alloc, name.as_bytes())?, *count))?;
     }
     Ok(copies)
+}
+
+// How many arguments a name takes, by the index if there is one.
+fn count_by(index: &Option<ArityIndex>, counts: &[(NameString, u8)], name: &[u8]) -> u8
+    requires { IsIndexed index.now counts.now }
+    ensures { result ≡ arity counts.now name.now }
+{
+    match index {
+        Some(index) => index.find(name).unwrap_or(0),
+        None => count_of(counts, name),
+    }
+}
+
+fn count_of(counts: &[(NameString, u8)], name: &[u8]) -> u8
+    ensures { result ≡ arity counts.now name.now }
+{
+    for (stated, count) in counts {
+        if stated.as_bytes() == name {
+            return *count;
+        }
+    }
+    0
 }
 
 fn is_stated(counts: &[(NameString, u8)], name: &[u8]) -> bool
