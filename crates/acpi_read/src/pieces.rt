@@ -161,9 +161,9 @@ impl<'a> Table<'a> {
     }
 
     /// The structures of any table whose structures are known, in order, each with its offset: those of `pieces`, and those of the
-    /// tables with a further walk (`acpi_base::further_walk`). The list is empty for other tables. It is empty, too, for a GTDT,
-    /// IORT or DBG2 that ends after its fixed fields, and contains 0 as the number of its structures and as the offset of the
-    /// first. The errors are those of `pieces`, and:
+    /// tables with a further walk (`acpi_base::further_walk`). The list is empty for other tables. It is empty, too, for a table
+    /// with a further walk that ends after its fixed fields, and contains 0 as the offset of the first and, if it has the field, as
+    /// the number of its structures. The errors are those of `pieces`, and:
     ///
     /// - Structure: the field with the offset of the first structure contains an offset within the fixed fields. The offset is
     ///   that of this field.
