@@ -1,0 +1,4 @@
+use Rattle.acpi_asl.proofs.number.+digits.Given as goal
+
+abbrev pub decreases-push_digits : goal.decreases-push_digits
+decreases-push_digits l = l.width

@@ -1,0 +1,9 @@
+pub mod Number
+pub mod Eisa
+pub mod Name
+pub mod Word
+pub mod Place
+pub mod Opening
+pub mod Row
+pub mod Special
+pub mod Asl

@@ -1,0 +1,34 @@
+-- Names of ASL (ACPI 6.5, 19.2.2).
+use Rattle.std.specs.Prelude.{ℕ, ◌==◌, ◌&&◌, Bool, true, false, if◌then◌else◌, List, [], ◌∷◌, ◌++◌, codes}
+use Rattle.acpi_read.specs.Lines.{segments_of}
+use Rattle.acpi_read.specs.Report.{printable}
+
+-- The characters of a segment. ASL adds underscores to a segment of less than four characters, so those at its end are left out,
+-- but for the first character.
+abbrev pub fourth : ℕ → List ℕ
+fourth d = if d == 95 then [] else printable d ∷ []
+
+abbrev pub third : ℕ → ℕ → List ℕ
+third c d = if c == 95 && d == 95 then [] else printable c ∷ fourth d
+
+abbrev pub second : ℕ → ℕ → ℕ → List ℕ
+second b c d = if b == 95 && c == 95 && d == 95 then [] else printable b ∷ third c d
+
+unfoldable pub segment_text : ℕ → ℕ → ℕ → ℕ → List ℕ
+segment_text a b c d = printable a ∷ second b c d
+
+abbrev pub dot_text : Bool → List ℕ
+dot_text follows = if follows then codes "." else []
+
+-- segments with dots between them, and one before the first if it follows another
+abbrev pub segments_text : Bool → List ℕ → List ℕ
+segments_text follows (a ∷ b ∷ c ∷ d ∷ rest) =
+    dot_text follows ++ segment_text a b c d ++ segments_text true rest
+segments_text follows _ = []
+
+-- the text of a name that these bytes spell (ACPI 6.5, 20.2.2)
+abbrev pub asl_name : List ℕ → List ℕ
+asl_name [] = []
+asl_name (b ∷ rest) =
+    if b == 92 then 92 ∷ segments_text false (segments_of rest)
+    else (if b == 94 then 94 ∷ asl_name rest else segments_text false (segments_of (b ∷ rest)))

@@ -1,0 +1,59 @@
+-- Terms whose text isn't made of their children's.
+use Rattle.std.specs.Prelude.{ℕ, ◌&&◌, ◌||◌, not, Bool, true, false, if◌then◌else◌, List, [], ◌++◌}
+use Rattle.acpi_term.specs.Tree.{Head, number, def_if, def_external, Terms, end, term}
+use Rattle.acpi_asl.specs.declared.place.Place.{Place}
+use Rattle.acpi_asl.specs.Eisa.{is_eisa, eisa_text}
+use Rattle.acpi_asl.specs.Opening.{opening}
+use Rattle.acpi_asl.specs.Place.{is_left_out, is_null, new_line}
+
+-- ---- externals
+
+abbrev pub is_external : Head → Bool
+is_external (def_external name kind args) = true
+is_external _ = false
+
+abbrev pub are_external : Terms → Bool
+are_external end = true
+are_external (term h w children others) = is_external h && are_external others
+
+abbrev pub is_end : Terms → Bool
+is_end end = true
+is_end (term h w children others) = false
+
+-- the terms after the first
+abbrev pub after_first : Terms → Terms
+after_first end = end
+after_first (term h w children others) = others
+
+abbrev pub is_zero_first : Terms → Bool
+is_zero_first end = false
+is_zero_first (term h w children others) = is_null h w
+
+-- Whether a head with these children is the block in which a compiler writes External statements: `If (Zero)`, and these alone
+-- (ACPI 6.5, 19.6.44 and 20.2.5.2). It writes the block itself.
+abbrev pub is_external_block : Head → Terms → Bool
+is_external_block def_if children =
+    is_zero_first children && not (is_end (after_first children)) && are_external (after_first children)
+is_external_block _ children = false
+
+-- External statements at a depth, each on a line; the line of the first is begun
+abbrev pub externals_text : ℕ → Bool → Terms → List ℕ
+externals_text d first end = []
+externals_text d first (term h w children others) =
+    (if first then [] else new_line d) ++ opening true h w 0 d ++ externals_text d false others
+
+-- ---- all of them
+
+-- whether a head in this width is an id, in a place where numbers are
+abbrev pub is_id_number : Place → Head → ℕ → Bool
+is_id_number p (number v) w = p.ids && is_eisa w v
+is_id_number p _ w = false
+
+-- whether a term in a place is special
+abbrev pub is_special : Place → Head → ℕ → Terms → Bool
+is_special p h w children = is_left_out p h w || (is_id_number p h w || is_external_block h children)
+
+-- the text of a special term at its depth: none for a target that is left out
+abbrev pub special_text : Place → Head → ℕ → Terms → ℕ → List ℕ
+special_text p (number v) w children d = if is_left_out p (number v) w then [] else eisa_text v
+special_text p _ w children d = externals_text d true (after_first children)

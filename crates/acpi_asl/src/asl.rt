@@ -1,0 +1,171 @@
+//! Definition blocks as ASL.
+
+ghost use Rattle.std.specs.Prelude.{◌≡◌, ◌++◌, codes, ◌+◌, ◌≤◌, length, IfOk, OnOk, string_bytes};
+ghost use Rattle.std.specs.Fmt.{decimal};
+ghost use Rattle.acpi_base.specs.Bytes.{field_at};
+ghost use Rattle.acpi_term.specs.View.{head_of, view, views, single};
+ghost use Rattle.acpi_asl.specs.Asl.{whole, texts, AreWritten, zero_at, until_zero, header_text, block_line, asl_text};
+ghost use Rattle.acpi_asl.specs.Number.{hex};
+ghost use Rattle.acpi_asl.specs.Opening.{further};
+ghost use Rattle.acpi_asl.specs.Row.{rows};
+ghost use Rattle.acpi_asl.specs.Place.{closed};
+
+use crate::number::push_string;
+use crate::opening::{push_further_decimal, push_further_hex, push_opening};
+use crate::place::{
+    Body, Place, depth_in, is_left_out, is_statement, next, place_in, push_after, push_before,
+    push_closed, push_opened,
+};
+use crate::row::push_rows;
+use crate::special::{is_special, push_special};
+use acpi_read::bytes::dword_at;
+use acpi_term::apart::{Kind, parts_of};
+use acpi_term::term::Term;
+use std::alloc::{AllocError, Global};
+
+/// The terms of a block are statements.
+const STATEMENTS: Place = Place {
+    arguments: 0,
+    led: false,
+    targets: 0,
+    body: Body::Statements,
+    ids: false,
+};
+
+#[cycle(asl)]
+fn push_terms(
+    place: Place,
+    depth: usize,
+    terms: &[Term],
+    text: &mut String,
+) -> Result<Place, AllocError>
+    ensures { IfOk result
+        (λ left. AreWritten place depth (views terms.now) left (string_bytes text.old) (string_bytes text.new)) }
+{
+    let mut left = place;
+    for term in terms {
+        push_term(left, depth, term, text)?;
+        left = next(left);
+    }
+    Ok(left)
+}
+
+#[cycle(asl)]
+fn push_term(place: Place, depth: usize, term: &Term, text: &mut String) -> Result<(), AllocError>
+    ensures { OnOk result
+        (string_bytes text.new ≡ string_bytes text.old ++ texts place depth (single (view term.now))) }
+{
+    let parts = parts_of(term);
+    let left_out = is_left_out(place, parts.kind, parts.width);
+    let inner = depth_in(place, depth)?;
+    push_before(place, left_out, depth, inner, text)?;
+    push_whole(place, inner, term, text)?;
+    push_after(place, depth, text)?;
+    Ok(())
+}
+
+// Adds a term in a place, at its own depth.
+#[cycle(asl)]
+fn push_whole(place: Place, depth: usize, term: &Term, text: &mut String) -> Result<(), AllocError>
+    ensures { OnOk result
+        (string_bytes text.new ≡ string_bytes text.old ++ whole place depth (view term.now)) }
+{
+    let parts = parts_of(term);
+    if is_special(place, parts) {
+        return push_special(place, parts, depth, text);
+    }
+    let count = parts.first.len() + parts.others.len();
+    let inside = place_in(place, parts.kind, count);
+    push_opening(
+        is_statement(place),
+        parts.kind,
+        parts.width,
+        count,
+        depth,
+        text,
+    )?;
+    let left = push_terms(inside, depth, parts.first, text)?;
+    push_terms(left, depth, parts.others, text)?;
+    push_end(parts.kind, inside.body, depth, text)?;
+    Ok(())
+}
+
+// Adds the rows of a term and the end of its braces.
+fn push_end(kind: Kind<'_>, body: Body, depth: usize, text: &mut String) -> Result<(), AllocError>
+    ensures { OnOk result (string_bytes text.new ≡ string_bytes text.old ++ (rows (head_of kind.entry) depth ++ closed body depth)) }
+{
+    push_rows(kind, depth, text)?;
+    push_closed(body, depth, text)
+}
+
+// The number of characters up to the first zero.
+#[cycle(zero)]
+fn zero_at(bytes: &[u8]) -> usize
+    ensures is { result ≡ zero_at bytes.now }
+    ensures within { result ≤ length bytes.now }
+{
+    match bytes {
+        [] => 0,
+        [0, ..] => 0,
+        [_, rest @ ..] => 1 + zero_at(rest),
+    }
+}
+
+fn until_zero(bytes: &[u8]) -> &[u8]
+    ensures { result.now ≡ until_zero bytes.now }
+{
+    &bytes[..zero_at(bytes)]
+}
+
+#[tactic(auto, unfolding(crate::specs::Asl::header_text))]
+fn push_header_text(
+    header: &[u8],
+    offset: usize,
+    count: usize,
+    text: &mut String,
+) -> Result<(), AllocError>
+    requires { offset + count ≤ length header.now }
+    ensures { OnOk result (string_bytes text.new ≡ string_bytes text.old ++ further (header_text offset count header.now)) }
+{
+    text.push_str(", ")?;
+    push_string(until_zero(&header[offset..offset + count]), text)
+}
+
+// Adds the OEM's name, its name of the table, and its revision of the table.
+#[tactic(auto, using(acpi_read::proofs::Texts::after_three))]
+fn push_oem(header: &[u8], text: &mut String) -> Result<(), AllocError>
+    requires { 36 ≤ length header.now }
+    ensures { OnOk result (string_bytes text.new ≡ string_bytes text.old
+        ++ (further (header_text 10 6 header.now) ++ further (header_text 16 8 header.now) ++ further (hex 4 (field_at 24 4 header.now)))) }
+{
+    push_header_text(header, 10, 6, text)?;
+    push_header_text(header, 16, 8, text)?;
+    push_further_hex(4, u64::from(dword_at(header, 24)), text)
+}
+
+fn push_block_line(header: &[u8], text: &mut String) -> Result<(), AllocError>
+    requires { 36 ≤ length header.now }
+    ensures { OnOk result (string_bytes text.new ≡ string_bytes text.old ++ block_line header.now) }
+{
+    text.push_str("DefinitionBlock (\"\"")?;
+    push_header_text(header, 0, 4, text)?;
+    push_further_decimal(header[8], text)?;
+    push_oem(header, text)?;
+    text.push_str(")")?;
+    Ok(())
+}
+
+/// The definition block of a table as ASL, by its header, of which 36 bytes are read, and its terms.
+#[tactic(auto, using(crate::proofs::Pieces::after_five))]
+pub fn asl_of(alloc: Global, header: &[u8], terms: &[Term]) -> Result<String, AllocError>
+    requires { 36 ≤ length header.now }
+    ensures { IfOk result (λ text. string_bytes text ≡ asl_text header.now (views terms.now)) }
+{
+    let mut text = String::new(alloc);
+    push_block_line(header, &mut text)?;
+    push_opened(Body::Statements, 0, &mut text)?;
+    push_terms(STATEMENTS, 0, terms, &mut text)?;
+    push_closed(Body::Statements, 0, &mut text)?;
+    text.push_str("\n")?;
+    Ok(text)
+}

@@ -1,0 +1,71 @@
+//! EISA ids (ACPI 6.5, 19.3.4 and 19.6.37). A function whose name begins with `push` adds to a text.
+
+ghost use Rattle.std.specs.Prelude.{◌≡◌, ◌+◌, ◌<◌, ◌^◌, ◌++◌, true, codes, OnOk, string_bytes};
+ghost use Rattle.acpi_asl.specs.Eisa.{is_letter, is_id, is_eisa, letters, id_text, eisa_text};
+
+use crate::number::push_digits;
+use std::alloc::AllocError;
+
+fn is_letter(n: u32) -> bool
+    ensures { result ≡ is_letter n }
+{
+    (1..=26).contains(&n)
+}
+
+// Whether 32 bits are three letters and four digits.
+fn is_id(id: u32) -> bool
+    ensures { result ≡ is_id id }
+{
+    is_letter(id / 0x400_0000) && is_letter(id / 0x20_0000 % 32) && is_letter(id / 0x1_0000 % 32)
+}
+
+/// Whether a number in this many bytes is an id.
+pub fn is_eisa(width: u8, value: u64) -> bool
+    ensures { result ≡ is_eisa width value }
+{
+    width == 4 && value < 0x1_0000_0000 && is_id((value as u32).swap_bytes())
+}
+
+fn letter(n: u32) -> char
+    requires { is_letter n ≡ true }
+    ensures { result ≡ 64 + n }
+{
+    (64 + n) as u8 as char
+}
+
+// Adds the three letters.
+fn push_letters(id: u32, text: &mut String) -> Result<(), AllocError>
+    requires { is_id id ≡ true }
+    ensures { OnOk result (string_bytes text.new ≡ string_bytes text.old ++ letters id) }
+{
+    text.push(letter(id / 0x400_0000))?;
+    text.push(letter(id / 0x20_0000 % 32))?;
+    text.push(letter(id / 0x1_0000 % 32))
+}
+
+#[tactic(auto, unfolding(crate::specs::Eisa::id_text))]
+fn push_id(id: u32, text: &mut String) -> Result<(), AllocError>
+    requires { is_id id ≡ true }
+    ensures { OnOk result (string_bytes text.new ≡ string_bytes text.old ++ id_text id) }
+{
+    push_letters(id, text)?;
+    push_digits(2, u64::from(id), text)
+}
+
+#[tactic(auto, using(acpi_read::proofs::Texts::after_three))]
+fn push_macro(id: u32, text: &mut String) -> Result<(), AllocError>
+    requires { is_id id ≡ true }
+    ensures { OnOk result (string_bytes text.new ≡ string_bytes text.old ++ (codes "EisaId (\"" ++ id_text id ++ codes "\")")) }
+{
+    text.push_str("EisaId (\"")?;
+    push_id(id, text)?;
+    text.push_str("\")")
+}
+
+/// Adds a number in this many bytes that is an id.
+pub fn push_eisa(width: u8, value: u64, text: &mut String) -> Result<(), AllocError>
+    requires { is_eisa width value ≡ true }
+    ensures { OnOk result (string_bytes text.new ≡ string_bytes text.old ++ eisa_text value) }
+{
+    push_macro((value as u32).swap_bytes(), text)
+}

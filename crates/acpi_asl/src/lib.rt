@@ -1,0 +1,12 @@
+//! Definition blocks as ASL, the source language of ACPI (ACPI 6.5, chapter 19), which a compiler makes into their bytes.
+#![tactic(auto)]
+
+pub mod asl;
+mod eisa;
+mod name;
+mod number;
+mod opening;
+pub mod place;
+mod row;
+mod special;
+mod word;

@@ -1,0 +1,114 @@
+//! Names of ASL (ACPI 6.5, 19.2.2). A function whose name begins with `push` adds to a text.
+
+ghost use Rattle.std.specs.Prelude.{◌≡◌, ◌++◌, true, false, OnOk, string_bytes};
+ghost use Rattle.acpi_read.specs.Lines.{segments_of};
+ghost use Rattle.acpi_read.specs.Report.{printable};
+ghost use Rattle.acpi_asl.specs.Name.{fourth, third, second, dot_text, segment_text, segments_text, asl_name};
+
+use acpi_term::name_string::NameString;
+use std::alloc::AllocError;
+
+// A byte of a segment, or `?` if it isn't printable.
+fn shown(byte: u8) -> char
+    ensures { result ≡ printable byte }
+{
+    if (0x20..=0x7e).contains(&byte) {
+        byte as char
+    } else {
+        '?'
+    }
+}
+
+fn push_fourth(d: u8, text: &mut String) -> Result<(), AllocError>
+    ensures { OnOk result (string_bytes text.new ≡ string_bytes text.old ++ fourth d) }
+{
+    if d == b'_' {
+        return Ok(());
+    }
+    text.push(shown(d))
+}
+
+fn push_third(c: u8, d: u8, text: &mut String) -> Result<(), AllocError>
+    ensures { OnOk result (string_bytes text.new ≡ string_bytes text.old ++ third c d) }
+{
+    if c == b'_' && d == b'_' {
+        return Ok(());
+    }
+    text.push(shown(c))?;
+    push_fourth(d, text)
+}
+
+fn push_second(b: u8, c: u8, d: u8, text: &mut String) -> Result<(), AllocError>
+    ensures { OnOk result (string_bytes text.new ≡ string_bytes text.old ++ second b c d) }
+{
+    if b == b'_' && c == b'_' && d == b'_' {
+        return Ok(());
+    }
+    text.push(shown(b))?;
+    push_third(c, d, text)
+}
+
+#[tactic(auto, unfolding(crate::specs::Name::segment_text))]
+fn push_segment(a: u8, b: u8, c: u8, d: u8, text: &mut String) -> Result<(), AllocError>
+    ensures { OnOk result (string_bytes text.new ≡ string_bytes text.old ++ segment_text a b c d) }
+{
+    text.push(shown(a))?;
+    push_second(b, c, d, text)
+}
+
+fn dot(follows: bool) -> &'static str
+    ensures { result.now ≡ dot_text follows }
+{
+    if follows { "." } else { "" }
+}
+
+/// Adds segments, with a dot before the first if it follows another.
+#[cycle(segments)]
+pub fn push_segments(follows: bool, segments: &[u8], text: &mut String) -> Result<(), AllocError>
+    ensures { OnOk result (string_bytes text.new ≡ string_bytes text.old ++ segments_text follows segments.now) }
+{
+    let [a, b, c, d, rest @ ..] = segments else {
+        return Ok(());
+    };
+    text.push_str(dot(follows))?;
+    push_segment(*a, *b, *c, *d, text)?;
+    push_segments(true, rest, text)?;
+    Ok(())
+}
+
+// The segments of a path, without the prefix that counts them. A null path has none.
+fn segments_of(path: &[u8]) -> &[u8]
+    ensures { result.now ≡ segments_of path.now }
+{
+    match path {
+        [0x2e | 0x00, segments @ ..] => segments,
+        [0x2f, _, segments @ ..] => segments,
+        [0x2f] => &[],
+        _ => path,
+    }
+}
+
+#[cycle(name)]
+fn push_name_bytes(bytes: &[u8], text: &mut String) -> Result<(), AllocError>
+    ensures { OnOk result (string_bytes text.new ≡ string_bytes text.old ++ asl_name bytes.now) }
+{
+    match bytes {
+        [] => Ok(()),
+        [0x5c, rest @ ..] => {
+            text.push('\\')?;
+            push_segments(false, segments_of(rest), text)
+        }
+        [0x5e, rest @ ..] => {
+            text.push('^')?;
+            push_name_bytes(rest, text)
+        }
+        _ => push_segments(false, segments_of(bytes), text),
+    }
+}
+
+/// Adds a name.
+pub fn push_name(name: &NameString, text: &mut String) -> Result<(), AllocError>
+    ensures { OnOk result (string_bytes text.new ≡ string_bytes text.old ++ asl_name name.now) }
+{
+    push_name_bytes(name.as_bytes(), text)
+}

@@ -1,0 +1,122 @@
+//! Numbers and strings of ASL (ACPI 6.5, 19.2.4 and 19.3.2). A function whose name begins with `push` adds to a text.
+
+ghost use Rattle.std.specs.Prelude.{◌≡◌, ◌<◌, ◌++◌, ◌∷◌, [], OnOk, string_bytes};
+ghost use Rattle.std.specs.Fmt.{decimal};
+ghost use Rattle.acpi_asl.specs.Number.{upper_digit, upper_byte, digits_of, hex, number_text, least_bytes, short_hex};
+ghost use Rattle.acpi_asl.specs.Number.{string_byte, string_bytes_text, string_text};
+
+use std::alloc::AllocError;
+
+fn upper_digit(n: u8) -> char
+    requires { n < 16 }
+    ensures { result ≡ upper_digit n }
+{
+    let code = if n < 10 { 48 + n } else { 55 + n };
+    code as char
+}
+
+fn push_upper_byte(byte: u8, text: &mut String) -> Result<(), AllocError>
+    ensures { OnOk result (string_bytes text.new ≡ string_bytes text.old ++ upper_byte byte) }
+{
+    text.push(upper_digit(byte / 16))?;
+    text.push(upper_digit(byte % 16))
+}
+
+/// Adds the digits of the lowest bytes of a number.
+#[cycle(digits)]
+#[tactic(auto, unfolding(crate::specs::Number::digits_of))]
+pub fn push_digits(width: u8, value: u64, text: &mut String) -> Result<(), AllocError>
+    ensures { OnOk result (string_bytes text.new ≡ string_bytes text.old ++ digits_of width value) }
+{
+    if width == 0 {
+        return Ok(());
+    }
+    push_digits(width - 1, value / 256, text)?;
+    push_upper_byte((value % 256) as u8, text)
+}
+
+/// Adds the lowest bytes of a number.
+#[tactic(auto, using(acpi_read::proofs::Texts::after_two))]
+pub fn push_hex(width: u8, value: u64, text: &mut String) -> Result<(), AllocError>
+    ensures { OnOk result (string_bytes text.new ≡ string_bytes text.old ++ hex width value) }
+{
+    text.push_str("0x")?;
+    push_digits(width, value, text)
+}
+
+/// Adds a number with this many bytes after its prefix.
+pub fn push_number(value: u64, width: u8, text: &mut String) -> Result<(), AllocError>
+    ensures { OnOk result (string_bytes text.new ≡ string_bytes text.old ++ number_text value width) }
+{
+    match (width, value) {
+        (0, 0) => text.push_str("Zero"),
+        (0, 1) => text.push_str("One"),
+        (0, _) => push_hex(8, value, text),
+        _ => push_hex(width, value, text),
+    }
+}
+
+fn least_bytes(value: u64) -> u8
+    ensures { result ≡ least_bytes value }
+{
+    if value < 0x100 {
+        1
+    } else if value < 0x1_0000 {
+        2
+    } else if value < 0x1_0000_0000 {
+        4
+    } else {
+        8
+    }
+}
+
+/// Adds a number in as few bytes as it has.
+pub fn push_short_hex(value: u64, text: &mut String) -> Result<(), AllocError>
+    ensures { OnOk result (string_bytes text.new ≡ string_bytes text.old ++ short_hex value) }
+{
+    push_hex(least_bytes(value), value, text)
+}
+
+/// Adds a decimal number.
+pub fn push_decimal(n: u64, text: &mut String) -> Result<(), AllocError>
+    ensures { OnOk result (string_bytes text.new ≡ string_bytes text.old ++ decimal n) }
+{
+    write!(text, "{n}")
+}
+
+fn push_escaped(byte: u8, text: &mut String) -> Result<(), AllocError>
+    ensures { OnOk result (string_bytes text.new ≡ string_bytes text.old ++ 92 ∷ 120 ∷ upper_byte byte) }
+{
+    text.push_str("\\x")?;
+    push_upper_byte(byte, text)
+}
+
+fn push_string_byte(byte: u8, text: &mut String) -> Result<(), AllocError>
+    ensures { OnOk result (string_bytes text.new ≡ string_bytes text.old ++ string_byte byte) }
+{
+    match byte {
+        b'"' => text.push_str("\\\""),
+        b'\\' => text.push_str("\\\\"),
+        0x20..=0x7e => text.push(byte as char),
+        _ => push_escaped(byte, text),
+    }
+}
+
+fn push_string_bytes(bytes: &[u8], text: &mut String) -> Result<(), AllocError>
+    ensures { OnOk result (string_bytes text.new ≡ string_bytes text.old ++ string_bytes_text bytes.now) }
+{
+    for byte in bytes {
+        push_string_byte(*byte, text)?;
+    }
+    Ok(())
+}
+
+/// Adds a string between quotation marks.
+#[tactic(auto, using(acpi_read::proofs::Texts::after_three))]
+pub fn push_string(bytes: &[u8], text: &mut String) -> Result<(), AllocError>
+    ensures { OnOk result (string_bytes text.new ≡ string_bytes text.old ++ string_text bytes.now) }
+{
+    text.push_str("\"")?;
+    push_string_bytes(bytes, text)?;
+    text.push_str("\"")
+}

@@ -1,0 +1,235 @@
+//! The words of ASL (ACPI 6.5, 19.2 and 19.6).
+
+ghost use Rattle.std.specs.Prelude.{◌≡◌, ◌++◌, map, OnOk, string_bytes};
+ghost use Rattle.acpi_asl.specs.Word.{operator_word, word_in, or_number, serialize_word};
+ghost use Rattle.acpi_asl.specs.Word.{access_types, lock_rules, update_rules, region_spaces, object_types};
+ghost use Rattle.acpi_asl.specs.Word.{access_word, lock_word, update_word, space_word, object_word};
+
+use crate::number::push_hex;
+use acpi_term::op::Op;
+use std::alloc::AllocError;
+
+/// The word of an operator.
+pub fn operator_word(op: Op) -> &'static str
+    ensures { result.now ≡ operator_word op }
+{
+    match op {
+        Op::LNot => "LNot",
+        Op::LEqual => "LEqual",
+        Op::LLess => "LLess",
+        Op::LGreater => "LGreater",
+        Op::LAnd => "LAnd",
+        Op::LOr => "LOr",
+        Op::Increment => "Increment",
+        Op::Decrement => "Decrement",
+        Op::Break => "Break",
+        Op::ObjectType => "ObjectType",
+        Op::SizeOf => "SizeOf",
+        Op::Return => "Return",
+        Op::DeRefOf => "DerefOf",
+        Op::Add => "Add",
+        Op::Concat => "Concatenate",
+        Op::Subtract => "Subtract",
+        Op::Multiply => "Multiply",
+        Op::ShiftLeft => "ShiftLeft",
+        Op::ShiftRight => "ShiftRight",
+        Op::And => "And",
+        Op::Nand => "NAnd",
+        Op::Or => "Or",
+        Op::Nor => "NOr",
+        Op::Xor => "XOr",
+        Op::ConcatRes => "ConcatenateResTemplate",
+        Op::Mod => "Mod",
+        Op::Index => "Index",
+        Op::ToString => "ToString",
+        Op::CreateDWordField => "CreateDWordField",
+        Op::CreateQWordField => "CreateQWordField",
+        Op::ToBuffer => "ToBuffer",
+        Op::ToInteger => "ToInteger",
+        Op::Store => "Store",
+        Op::Notify => "Notify",
+        Op::Mid => "Mid",
+        Op::CreateField => "CreateField",
+        Op::Alias => "Alias",
+        Op::RefOf => "RefOf",
+        Op::Divide => "Divide",
+        Op::Not => "Not",
+        Op::FindSetLeftBit => "FindSetLeftBit",
+        Op::FindSetRightBit => "FindSetRightBit",
+        Op::CreateWordField => "CreateWordField",
+        Op::CreateByteField => "CreateByteField",
+        Op::CreateBitField => "CreateBitField",
+        Op::ToDecimalString => "ToDecimalString",
+        Op::ToHexString => "ToHexString",
+        Op::CopyObject => "CopyObject",
+        Op::Continue => "Continue",
+        Op::Noop => "Noop",
+        Op::BreakPoint => "BreakPoint",
+        Op::Event => "Event",
+        Op::CondRefOf => "CondRefOf",
+        Op::LoadTable => "LoadTable",
+        Op::Load => "Load",
+        Op::Stall => "Stall",
+        Op::Sleep => "Sleep",
+        Op::Signal => "Signal",
+        Op::Wait => "Wait",
+        Op::Reset => "Reset",
+        Op::FromBCD => "FromBCD",
+        Op::ToBCD => "ToBCD",
+        Op::Unload => "Unload",
+        Op::Revision => "Revision",
+        Op::Debug => "Debug",
+        Op::Timer => "Timer",
+        Op::DataRegion => "DataTableRegion",
+    }
+}
+
+/// Access types (ACPI 6.5, 19.2.7, AccessTypeKeyword).
+const ACCESS_TYPES: [(u8, &str); 6] = [
+    (0, "AnyAcc"),
+    (1, "ByteAcc"),
+    (2, "WordAcc"),
+    (3, "DWordAcc"),
+    (4, "QWordAcc"),
+    (5, "BufferAcc"),
+];
+
+/// Lock rules (LockRuleKeyword).
+const LOCK_RULES: [(u8, &str); 2] = [(0, "NoLock"), (1, "Lock")];
+
+/// Update rules (UpdateRuleKeyword).
+const UPDATE_RULES: [(u8, &str); 3] = [(0, "Preserve"), (1, "WriteAsOnes"), (2, "WriteAsZeros")];
+
+/// Address spaces (RegionSpaceKeyword).
+const REGION_SPACES: [(u8, &str); 12] = [
+    (0, "SystemMemory"),
+    (1, "SystemIO"),
+    (2, "PCI_Config"),
+    (3, "EmbeddedControl"),
+    (4, "SMBus"),
+    (5, "SystemCMOS"),
+    (6, "PciBarTarget"),
+    (7, "IPMI"),
+    (8, "GeneralPurposeIo"),
+    (9, "GenericSerialBus"),
+    (10, "PCC"),
+    (127, "FFixedHW"),
+];
+
+/// Object types (ObjectTypeKeyword).
+const OBJECT_TYPES: [(u8, &str); 16] = [
+    (0, "UnknownObj"),
+    (1, "IntObj"),
+    (2, "StrObj"),
+    (3, "BuffObj"),
+    (4, "PkgObj"),
+    (5, "FieldUnitObj"),
+    (6, "DeviceObj"),
+    (7, "EventObj"),
+    (8, "MethodObj"),
+    (9, "MutexObj"),
+    (10, "OpRegionObj"),
+    (11, "PowerResObj"),
+    (12, "ProcessorObj"),
+    (13, "ThermalZoneObj"),
+    (14, "BuffFieldObj"),
+    (15, "DDBHandleObj"),
+];
+
+// Returns the word in the first row with a number, or an empty one.
+fn word_in(rows: &[(u8, &'static str)], number: u8) -> &'static str
+    ensures { result.now ≡ word_in (map (λ row. (row.0, row.1.now)) rows.now) number }
+{
+    'rows: for row in rows {
+        if row.0 == number {
+            return row.1;
+        }
+    }
+    ""
+}
+
+// Adds a word, or the number if the word is empty.
+fn push_known(word: &str, number: u8, text: &mut String) -> Result<(), AllocError>
+    ensures { OnOk result (string_bytes text.new ≡ string_bytes text.old ++ or_number number word.now) }
+{
+    if word.is_empty() {
+        return push_hex(1, u64::from(number), text);
+    }
+    text.push_str(word)
+}
+
+fn access_word_in(number: u8) -> &'static str
+    ensures { result.now ≡ word_in access_types number }
+{
+    word_in(&ACCESS_TYPES, number)
+}
+
+/// Adds the word of one of the access types.
+pub fn push_access_word(number: u8, text: &mut String) -> Result<(), AllocError>
+    ensures { OnOk result (string_bytes text.new ≡ string_bytes text.old ++ access_word number) }
+{
+    push_known(access_word_in(number), number, text)
+}
+
+fn lock_word_in(number: u8) -> &'static str
+    ensures { result.now ≡ word_in lock_rules number }
+{
+    word_in(&LOCK_RULES, number)
+}
+
+/// Adds the word of one of the lock rules.
+pub fn push_lock_word(number: u8, text: &mut String) -> Result<(), AllocError>
+    ensures { OnOk result (string_bytes text.new ≡ string_bytes text.old ++ lock_word number) }
+{
+    push_known(lock_word_in(number), number, text)
+}
+
+fn update_word_in(number: u8) -> &'static str
+    ensures { result.now ≡ word_in update_rules number }
+{
+    word_in(&UPDATE_RULES, number)
+}
+
+/// Adds the word of one of the update rules.
+pub fn push_update_word(number: u8, text: &mut String) -> Result<(), AllocError>
+    ensures { OnOk result (string_bytes text.new ≡ string_bytes text.old ++ update_word number) }
+{
+    push_known(update_word_in(number), number, text)
+}
+
+fn space_word_in(number: u8) -> &'static str
+    ensures { result.now ≡ word_in region_spaces number }
+{
+    word_in(&REGION_SPACES, number)
+}
+
+/// Adds the word of one of the address spaces.
+pub fn push_space_word(number: u8, text: &mut String) -> Result<(), AllocError>
+    ensures { OnOk result (string_bytes text.new ≡ string_bytes text.old ++ space_word number) }
+{
+    push_known(space_word_in(number), number, text)
+}
+
+fn object_word_in(number: u8) -> &'static str
+    ensures { result.now ≡ word_in object_types number }
+{
+    word_in(&OBJECT_TYPES, number)
+}
+
+/// Adds the word of one of the object types.
+pub fn push_object_word(number: u8, text: &mut String) -> Result<(), AllocError>
+    ensures { OnOk result (string_bytes text.new ≡ string_bytes text.old ++ object_word number) }
+{
+    push_known(object_word_in(number), number, text)
+}
+
+/// The word of a method's serialization.
+pub fn serialize_word(serialized: bool) -> &'static str
+    ensures { result.now ≡ serialize_word serialized }
+{
+    if serialized {
+        "Serialized"
+    } else {
+        "NotSerialized"
+    }
+}
