@@ -1,10 +1,10 @@
--- How many arguments the methods of a definition block take, by the names of calls.
-use Rattle.std.specs.Prelude.{◌≡◌, ℕ, ◌==◌, if◌then◌else◌, List, [], ◌∷◌, ◌++◌}
+-- How many arguments methods take by a definition block, by the names of calls.
+use Rattle.std.specs.Prelude.{◌≡◌, ℕ, ◌==◌, nat_le, ◌&&◌, Bool, if◌then◌else◌, List, [], ◌∷◌, ◌++◌}
 use Rattle.acpi_term.specs.Arity.{arity, with_all}
 use Rattle.acpi_term.specs.declared.language.Language.TheVariants.{Standard}
 use Rattle.acpi_term.specs.Language.{grammar_of}
 use Rattle.acpi_term.specs.PathText.{is_rooted, unrooted, path_spelling, is_name_text}
-use Rattle.acpi_term.specs.Tree.{Head, def_scope, def_device, def_method, def_power_res, def_leveled_method, def_processor, def_thermal_zone, Terms, end, term}
+use Rattle.acpi_term.specs.Tree.{Head, def_scope, def_device, def_method, def_power_res, def_leveled_method, def_processor, def_thermal_zone, def_external, Terms, end, term}
 use Rattle.acpi_read.specs.Lines.{name_text}
 use Rattle.acpi_read.specs.Terms.{AreReadIn}
 
@@ -48,13 +48,20 @@ abbrev pub all_stated : ℕ → List (List ℕ) → List (List ℕ × ℕ)
 all_stated n [] = []
 all_stated n (text ∷ texts) = stated n text ++ all_stated n texts
 
--- the names of a head that is a method, each with the method's number of arguments (ACPI 6.5, 20.2.5.2, MethodFlags)
+-- whether an external object is a method, whose number of arguments is there (ACPI 6.5, 19.6.44 and 20.2.5.2, DefExternal)
+abbrev pub is_method : ℕ → ℕ → Bool
+is_method kind args = kind == 8 && nat_le args 7
+
+-- The names of a head that is a method, each with the method's number of arguments (ACPI 6.5, 20.2.5.2, MethodFlags), or of a method
+-- of another block.
 abbrev pub own_stated : List ℕ → Head → List (List ℕ × ℕ)
 own_stated scope (def_method name args serialized) = all_stated args (calls (placed scope (name_text name)))
 own_stated scope (def_leveled_method name args serialized level) = all_stated args (calls (placed scope (name_text name)))
+own_stated scope (def_external name kind args) =
+    if is_method kind args then all_stated args (calls (placed scope (name_text name))) else []
 own_stated scope _ = []
 
--- the same of all methods of terms, in the order of the bytes
+-- the same of all terms, in the order of the bytes
 abbrev pub methods : List ℕ → Terms → List (List ℕ × ℕ)
 methods scope end = []
 methods scope (term h w children others) = own_stated scope h ++ (methods (inside scope h) children ++ methods scope others)

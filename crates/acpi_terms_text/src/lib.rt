@@ -1,4 +1,4 @@
-//! Definition blocks as text: how many arguments their own methods take, and comments in the report of their terms.
+//! Definition blocks as text: how many arguments methods take by them, and comments in the report of their terms.
 #![tactic(auto)]
 
 pub mod annotate;

@@ -1,4 +1,4 @@
-//! How many arguments the methods of a definition block take.
+//! How many arguments methods take by a definition block.
 
 ghost use Rattle.std.specs.Prelude.{◌≡◌, ◌++◌, OnOk, IfOk, IfErr, string_bytes, [], unwrap_or};
 ghost use Rattle.std.specs.Option.{option_map};
@@ -9,7 +9,7 @@ ghost use Rattle.acpi_read.specs.Lines.{name_text};
 ghost use Rattle.acpi_term.specs.declared.language.Language.TheVariants.{Standard};
 ghost use Rattle.acpi_term.specs.Language.{grammar_of};
 ghost use Rattle.acpi_read.specs.Terms.{IsUnreadIn};
-ghost use Rattle.acpi_terms_text.specs.Methods.{placed, opened, inside, after_dots, calls, stated, all_stated, own_stated};
+ghost use Rattle.acpi_terms_text.specs.Methods.{placed, opened, inside, after_dots, calls, stated, all_stated, is_method, own_stated};
 ghost use Rattle.acpi_terms_text.specs.Methods.{methods, AreOwn};
 
 use acpi_read::report::words::push_named;
@@ -115,14 +115,37 @@ fn add_calls(alloc: Global, path: &str, args: u8, all: &mut Arities) -> Result<(
     add_after_dots(alloc, path, args, all)
 }
 
-// Adds the names of a term that is a method.
+// Returns whether an external object is a method, whose number of arguments is there.
+fn is_method(kind: u8, args: u8) -> bool
+    ensures { result ≡ is_method kind args }
+{
+    kind == 8 && args <= 7
+}
+
+// Adds a number of arguments for the names of a method in a scope.
+fn add_method(
+    alloc: Global,
+    scope: &str,
+    name: &NameString,
+    args: u8,
+    all: &mut Arities,
+) -> Result<(), AllocError>
+    ensures { OnOk result (all.new ≡ with_all all.old (all_stated args (calls (placed scope.now (name_text name.now))))) }
+{
+    let path = placed(alloc, scope, name)?;
+    add_calls(alloc, path.as_str(), args, all)
+}
+
+// Adds the names of a term that is a method, of this block or of another.
 fn add_own(alloc: Global, scope: &str, kind: Kind<'_>, all: &mut Arities) -> Result<(), AllocError>
     ensures { OnOk result (all.new ≡ with_all all.old (own_stated scope.now (head_of kind.entry))) }
 {
     match kind {
         Kind::Method(name, args, _) | Kind::LeveledMethod(name, args, ..) => {
-            let path = placed(alloc, scope, name)?;
-            add_calls(alloc, path.as_str(), args, all)
+            add_method(alloc, scope, name, args, all)
+        }
+        Kind::External(name, kind, args) if is_method(kind, args) => {
+            add_method(alloc, scope, name, args, all)
         }
         _ => Ok(()),
     }
@@ -158,8 +181,8 @@ fn add_term(alloc: Global, scope: &String, term: &Term, all: &mut Arities) -> Re
 }
 
 /// How many arguments names take in a definition block: the stated numbers, and those of the methods that the block itself
-/// defines. `bytes` are its terms, without the header. Each method adds its path from the root, and the path without the root
-/// from each of its segments on, as calls may name it. A name that is stated keeps its number, and a name of several methods has
+/// defines, or declares as external. `bytes` are its terms, without the header. Each method adds its path from the root, and the
+/// path without the root from each of its segments on, as calls may name it. A name that is stated keeps its number, and a name of several methods has
 /// that of the first. The errors are those of `acpi_read::terms::standard_terms` with the stated
 /// numbers.
 pub fn own_arities(alloc: Global, bytes: &[u8], stated: &Arities) -> Result<Arities, ReadError>
