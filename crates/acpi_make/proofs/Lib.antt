@@ -1,3 +1,4 @@
+pub mod Labels
 pub mod Outcomes
 pub mod Digits
 pub mod Reading

@@ -1,6 +1,10 @@
 -- The numbers that a table has of itself.
 use Rattle.std.specs.Prelude.{ℕ, ◌+◌, ◌-◌, ◌^◌, ◌==◌, nat_le, nat_lt, ◌&&◌, Bool, true, false, if◌then◌else◌, List, [], ◌∷◌, ◌++◌, length, drop}
-use Rattle.std.specs.Prelude.{Option, Some, None, Result, Ok, Err}
+use Rattle.std.specs.Prelude.{◌≡◌, Option, Some, None, Result, Ok, Err}
+use Rattle.std.specs.BTreeMap.{BTreeMap, get_by}
+use Rattle.std.specs.Cmp.Lexicographic.{slice_cmp}
+use Rattle.std.specs.Ordering.{nat_cmp}
+use denote.Ref.{Bor}
 use Rattle.acpi_base.specs.Walk.{place_offset, place_width, end_of}
 use Rattle.acpi_base.specs.declared.walk.Place.{Place}
 use Rattle.acpi_base.specs.declared.walk.Sizes.{Sizes}
@@ -236,6 +240,18 @@ find_label text wanted (Structure at from to ∷ marks) =
     if has_label wanted (label_of (part_at from to text)) then Some at else find_label text wanted marks
 find_label text wanted (Line at from to ∷ marks) = find_label text wanted marks
 find_label text wanted (Reference at w from to ∷ marks) = find_label text wanted marks
+
+-- the offset that a map has for a label
+abbrev pub labelled : BTreeMap (Bor (List ℕ)) ℕ → List ℕ → Option ℕ
+labelled labels wanted = get_by (λ label. slice_cmp nat_cmp wanted label.now) labels
+
+-- a map has for each label the offset of the first structure with it
+abbrev pub AreLabels : BTreeMap (Bor (List ℕ)) ℕ → List ℕ → List Mark → Type 0
+AreLabels labels text marks = (wanted : List ℕ) → labelled labels wanted ≡ find_label text wanted marks
+
+-- a map with a further offset under a label, if there is one
+abbrev pub PutsLabel : BTreeMap (Bor (List ℕ)) ℕ → BTreeMap (Bor (List ℕ)) ℕ → Option (List ℕ) → ℕ → Type 0
+PutsLabel old new label at = (wanted : List ℕ) → labelled new wanted ≡ (if has_label wanted label then Some at else labelled old wanted)
 
 abbrev pub reference_own : ℕ → ℕ → ℕ → ℕ → Option ℕ → Result (List Own) Fault
 reference_own at w from to (Some offset) =

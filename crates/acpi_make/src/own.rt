@@ -1,6 +1,6 @@
 //! The numbers that a table has of itself.
 
-ghost use Rattle.std.specs.Prelude.{◌≡◌, ◌≤◌, ◌++◌, OnOk, length, if◌then◌else◌};
+ghost use Rattle.std.specs.Prelude.{◌≡◌, ◌≤◌, ◌++◌, OnOk, IfOk, length, drop, if◌then◌else◌};
 ghost use Rattle.acpi_make.specs.Gives.{Changes, with_front};
 ghost use Rattle.acpi_make.specs.Heading.{label_of};
 ghost use Rattle.acpi_make.specs.Source.{source_of};
@@ -9,18 +9,21 @@ ghost use Rattle.acpi_make.specs.Own.{count_lines, next_line, find_line, count_o
 ghost use Rattle.acpi_make.specs.Own.{part_own, parts_own, next_named, named_sizes, inner_own};
 ghost use Rattle.acpi_make.specs.Draft.{is_nameless};
 ghost use Rattle.std.specs.Option.{option_map};
-ghost use Rattle.acpi_make.specs.Own.{kind_own, structure_own, contents_own, table_own, has_label, find_label, reference_own, references_own};
+ghost use Rattle.acpi_make.specs.Own.{kind_own, structure_own, contents_own, table_own, reference_own, references_own};
+ghost use Rattle.acpi_make.specs.Own.{AreLabels, PutsLabel, labelled};
+ghost use Rattle.acpi_make.specs.Text.{part_at};
 
 use crate::draft::{Mark, Source, fits, is_nameless};
 use crate::entry::is_line_of;
 use crate::fault::{Fault, MakeError, Wanted};
 use crate::heading::{label_of, structure_form};
 use crate::item::Cell;
-use crate::text::{after, after_offset, part_at};
+use crate::text::{after_offset, part_at};
 use acpi_base::walk::{Place, Sizes, Walk};
 use acpi_text::form::{Count, Inner, Part, StructureForm};
 use acpi_text::piece::{inner_of, parts_of};
-use std::alloc::AllocError;
+use std::alloc::{AllocError, Global};
+use std::collections::BTreeMap;
 
 /// A number that a table has of itself, as its length: the offset of its field, the field's width in bytes, and the number.
 #[derive(Clone, Copy, Debug, PartialEq, Eq)]
@@ -493,35 +496,51 @@ pub fn push_table(
     push_contents(source, cells, marks, total, owns)
 }
 
-// Returns whether a heading has a label.
-fn has_label(wanted: &[u8], heading: &[u8]) -> bool
-    ensures { result ≡ has_label wanted.now (label_of heading.now) }
+// Adds the offset of a structure under the label of its heading, if the heading has one, in place of another one of this label.
+fn put_label<'a>(
+    heading: &'a [u8],
+    at: usize,
+    labels: &mut BTreeMap<&'a [u8], usize>,
+) -> Result<(), AllocError>
+    ensures { OnOk result (PutsLabel labels.old labels.new (label_of heading.now) at) }
 {
     match label_of(heading) {
-        Some(label) => match after(wanted, label) {
-            Some(rest) => rest.is_empty(),
-            None => false,
-        },
-        None => false,
+        Some(label) => {
+            labels.insert(label, at)?;
+            Ok(())
+        }
+        None => Ok(()),
     }
 }
 
-// Returns the offset of the structure with a label.
-fn find_label(text: &[u8], wanted: &[u8], marks: &[Mark]) -> Option<usize>
-    ensures { result ≡ find_label text.now wanted.now marks.now }
+// Returns for each label the offset of the first structure with it. It begins with the last structure.
+fn labels_of<'a>(
+    alloc: Global,
+    text: &'a [u8],
+    marks: &[Mark],
+) -> Result<BTreeMap<&'a [u8], usize>, AllocError>
+    ensures { IfOk result (λ labels. AreLabels labels text.now marks.now) }
 {
-    'marks: for mark in marks {
-        match *mark {
-            Mark::Structure(at, from, to) => {
-                if has_label(wanted, part_at(from, to, text)) {
-                    return Some(at);
-                }
-            }
+    let mut labels = BTreeMap::new(alloc);
+    let mut left = marks.len();
+    'marks: while left > 0 {
+        left -= 1;
+        match marks[left] {
+            Mark::Structure(at, from, to) => put_label(part_at(from, to, text), at, &mut labels)?,
             Mark::Line(_, _, _) => {}
             Mark::Reference(_, _, _, _) => {}
         }
     }
-    None
+    Ok(labels)
+}
+
+// Returns the offset of the structure with the label that a reference has after its first character.
+fn find_label(text: &[u8], from: usize, to: usize, labels: &BTreeMap<&[u8], usize>) -> Option<usize>
+    ensures { result ≡ labelled labels.now (drop 1 (part_at from to text.now)) }
+{
+    let value = part_at(from, to, text);
+    let label = if value.is_empty() { value } else { &value[1..] };
+    labels.get(label).copied()
 }
 
 // Adds the offset of the structure to which a reference refers.
@@ -555,12 +574,12 @@ fn push_reference(
 pub fn push_references(text: &[u8], marks: &[Mark], owns: &mut Vec<Own>) -> Result<(), MakeError>
     ensures { Changes result owns.new.items (with_front owns.old.items (references_own text.now marks.now marks.now)) }
 {
+    let labels = labels_of(*owns.allocator(), text, marks)?;
     'marks: for mark in marks {
         match *mark {
             Mark::Reference(at, width, from, to) => {
-                let value = part_at(from, to, text);
-                let label = if value.is_empty() { value } else { &value[1..] };
-                push_reference(at, width, (from, to), find_label(text, label, marks), owns)?;
+                let offset = find_label(text, from, to, &labels);
+                push_reference(at, width, (from, to), offset, owns)?;
             }
             Mark::Structure(_, _, _) => {}
             Mark::Line(_, _, _) => {}
