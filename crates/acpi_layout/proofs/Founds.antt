@@ -1,13 +1,11 @@
 -- Facts about the tables of an image.
-use Rattle.std.proofs.Common.{◌≡◌, ℕ, ◌+◌, ◌-◌, ◌*◌, ◌<◌, ◌≤◌, List, [], ◌∷◌, ◌++◌, length, get_or, take, drop, refl, sym, ap, ◌∙◌, arith, subst, add-one, zero, suc, below_more, codes}
+use Rattle.std.proofs.Common.{◌≡◌, ℕ, ◌+◌, ◌-◌, ◌*◌, ◌<◌, ◌≤◌, List, [], ◌∷◌, ◌++◌, length, get_or, take, drop, refl, sym, ap, ◌∙◌, arith, subst, zero, suc, below_more, codes}
 use Rattle.std.specs.Prelude.{Result, Ok, Err, OnErr, IfErr, IsErrAnd, true, false, Option, Some, None}
-use Rattle.std.specs.List.{All}
 use Rattle.std.proofs.lemmas.List.{take_rest, get_or_push, get_or_append_left, get_or-drop, length-drop}
 use Rattle.std.proofs.lemmas.Result.{err_from_is_err_and}
-use Rattle.std.proofs.Math.Seq.{drop-cons}
 use Rattle.acpi_base.specs.Bytes.{field_at}
 use Rattle.acpi_layout.specs.declared.located.Located.{Located}
-use Rattle.acpi_layout.specs.Found.{contents, IsTableAt, AreEntries, IsOnlyFadt, facs_address, IsControlAt, has_no_control, IsControlOf, IsApart, AreApart}
+use Rattle.acpi_layout.specs.Found.{contents, IsTableAt, AreEntries, IsOnlyFadt, facs_address, IsControlAt, has_no_control, IsControlOf}
 
 -- ---- exits
 
@@ -30,23 +28,6 @@ same_at (x ∷ xs) (suc i) d e inside = same_at xs i d e (omega arith)
 
 pub signature_at : (xs : List Located) (i : ℕ) (e : Located) (s : List ℕ) → i < length xs → (get_or xs i e).signature ≡ s → (d : Located) → (get_or xs i d).signature ≡ s
 signature_at xs i e s inside is d = ap (λ (t : Located). t.signature) (same_at xs i d e inside) ∙ is
-
--- ---- no two overlap
-
-drop_is : (xs : List Located) (i : ℕ) (d : Located) → i < length xs → drop i xs ≡ get_or xs i d ∷ drop (i + 1) xs
-drop_is xs i d inside = drop-cons xs i d inside ∙ ap (λ n. get_or xs i d ∷ drop n xs) (sym (add-one i))
-
-module _ (xs : List Located) (i : ℕ) (d : Located) (inside : i < length xs) where
-  pub first_apart : AreApart (drop i xs) → All (IsApart (get_or xs i d)) (take (length xs - (i + 1)) (drop (i + 1) xs))
-  first_apart all = subst (λ (ys : List Located). All (IsApart (get_or xs i d)) ys) (sym (take_rest xs (i + 1))) (subst AreApart (drop_is xs i d inside) all).0
-
-  pub rest_apart : AreApart (drop i xs) → AreApart (drop (i + 1) xs)
-  rest_apart all = (subst AreApart (drop_is xs i d inside) all).1
-
-  pub both_apart : All (IsApart (get_or xs i d)) (take (length xs - (i + 1)) (drop (i + 1) xs)) → AreApart (drop (i + 1) xs) → AreApart (drop i xs)
-  both_apart first rest =
-      let all : All (IsApart (get_or xs i d)) (drop (i + 1) xs) = subst (λ (ys : List Located). All (IsApart (get_or xs i d)) ys) (take_rest xs (i + 1)) first in
-      subst AreApart (sym (drop_is xs i d inside)) (all, rest)
 
 -- ---- the tables that an XSDT lists
 

@@ -1,3 +1,4 @@
+pub mod Middles
 pub mod Images
 pub mod Answered
 pub mod Standing

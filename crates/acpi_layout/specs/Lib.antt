@@ -3,6 +3,7 @@ pub mod Lays
 pub mod Laws
 pub mod Addresses
 pub mod Found
+pub mod Apart
 pub mod ReadBack
 pub mod Fault
 pub mod FaultText

@@ -45,7 +45,8 @@ fn in_order(
 /// at any address.
 ///
 /// Returns the tables in the order in which they are found: the RSDP, the XSDT, its entries in order, the FACS if there is one,
-/// and the DSDT. The RSDP's address of an RSDT is not read. Each pair of tables is compared once, and no byte is copied.
+/// and the DSDT. The RSDP's address of an RSDT is not read. The tables are sorted to find those that overlap, so n tables take
+/// a time of n log n. No byte of a table is copied.
 pub fn check_image(
     alloc: Global,
     bytes: &[u8],
@@ -63,7 +64,7 @@ pub fn check_image(
     let facs = control(bytes, base, fadt)?;
     let dsdt = dsdt(bytes, base, fadt)?;
     let tables = in_order(alloc, pointer, xsdt, &entries, facs, dsdt)?;
-    are_apart(&tables)?;
+    are_apart(alloc, &tables)?;
     is_correct(bytes, base, xsdt)?;
     are_correct(bytes, base, &entries)?;
     is_correct(bytes, base, dsdt)?;

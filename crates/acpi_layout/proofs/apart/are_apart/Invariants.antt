@@ -1,9 +1,6 @@
-use Rattle.std.proofs.Common.{drop}
-use Rattle.acpi_layout.specs.Found.{AreApart}
+use Rattle.std.specs.List.{AllAdjacentBelow}
+use Rattle.acpi_layout.proofs.Middles.{Before}
 use Rattle.acpi_layout.proofs.apart.are_apart.Given as goal
 
-abbrev pub invariant-loop-i : goal.invariant-loop-i
-invariant-loop-i l = record {
-  rest : AreApart (drop l.i l.tables) → AreApart l.tables;
-  all : AreApart l.tables → AreApart (drop l.i l.tables);
-}
+abbrev pub invariant-all : goal.invariant-all
+invariant-all l = AllAdjacentBelow Before l.all.items l.i

@@ -60,7 +60,7 @@ pub returns-in_err-are_apart-clause-err : goal.returns-in_err-are_apart-clause-e
 returns-in_err-are_apart-clause-err c =
     at_exit _ (IsNone c.args.bytes.now c.args.base c.args.rsdp) _ c.from_residual-in_err-are_apart.ensures.1
     (λ other tables im.
-    c.in_err-are_apart.ensures.err
+    c.in_err-are_apart.ensures.err other
     (all_apart _ _ _ _ im _ c.in_ok-pointer.ensures.ok _ c.in_ok-xsdt.ensures.ok _ _ c.in_ok-entries.ensures.ok c.deref.ensures.value _ c.in_ok-fadt.ensures.ok _ _
     c.in_ok-facs.ensures.ok c.in_ok-dsdt.ensures.ok _ _ _ c.deref-2.ensures.value c.in_ok-tables.ensures.ok c.deref-3.ensures.value))
 
@@ -127,7 +127,7 @@ returns-in_err-are_apart-clause-fault c =
     let listed = listed_are _ _ _ _ _ c.in_ok-pointer.ensures.ok c.in_ok-xsdt.ensures.ok _ _ c.in_ok-entries.ensures.ok c.deref.ensures.value _ c.in_ok-fadt.ensures.ok
     _ _ c.in_ok-facs.ensures.ok c.in_ok-dsdt.ensures.ok _ _ _ c.deref-3.ensures.value c.in_ok-tables.ensures.ok c.deref-2.ensures.value in
     at_exit _ (Faulty c.args.bytes.now c.args.base c.args.rsdp) _ c.from_residual-in_err-are_apart.ensures.1
-    (λ other. image_has_overlap found (subst (λ l. IsOverlap l c.in_err-are_apart.field-0.0) listed c.in_err-are_apart.ensures.fault))
+    (λ other. image_has_overlap found (subst (λ l. IsOverlap l c.in_err-are_apart.field-0.0) listed (c.in_err-are_apart.ensures.fault other)))
 
 pub returns-in_err-is_correct-clause-fault : goal.returns-in_err-is_correct-clause-fault
 returns-in_err-is_correct-clause-fault c =
