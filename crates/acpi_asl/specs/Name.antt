@@ -1,5 +1,6 @@
 -- Names of ASL (ACPI 6.5, 19.2.2).
 use Rattle.std.specs.Prelude.{ℕ, ◌==◌, ◌&&◌, Bool, true, false, if◌then◌else◌, List, [], ◌∷◌, ◌++◌, codes}
+use Rattle.std.specs.Str.{bytes_eq}
 use Rattle.acpi_read.specs.Lines.{segments_of}
 use Rattle.acpi_read.specs.Report.{printable}
 
@@ -14,8 +15,24 @@ third c d = if c == 95 && d == 95 then [] else printable c ∷ fourth d
 abbrev pub second : ℕ → ℕ → ℕ → List ℕ
 second b c d = if b == 95 && c == 95 && d == 95 then [] else printable b ∷ third c d
 
+-- Segments that keep their underscores: without them they would be words of ASL (ACPI 6.5, 19.2.5 and 19.2.7).
+abbrev pub kept_segments : List (List ℕ)
+kept_segments =
+    codes "IF__" ∷ codes "OR__" ∷ codes "ADD_" ∷ codes "AND_" ∷ codes "LOR_" ∷ codes "MID_" ∷ codes "MOD_" ∷ codes "NOR_"
+    ∷ codes "NOT_" ∷ codes "ONE_" ∷ codes "PCC_" ∷ codes "XOR_" ∷ []
+
+abbrev pub is_among : List (List ℕ) → List ℕ → Bool
+is_among [] s = false
+is_among (word ∷ words) s = if bytes_eq s word then true else is_among words s
+
+unfoldable pub is_kept : ℕ → ℕ → ℕ → ℕ → Bool
+is_kept a b c d = is_among kept_segments (a ∷ b ∷ c ∷ d ∷ [])
+
+abbrev pub pair_text : ℕ → ℕ → List ℕ
+pair_text a b = printable a ∷ printable b ∷ []
+
 unfoldable pub segment_text : ℕ → ℕ → ℕ → ℕ → List ℕ
-segment_text a b c d = printable a ∷ second b c d
+segment_text a b c d = if is_kept a b c d then pair_text a b ++ pair_text c d else printable a ∷ second b c d
 
 abbrev pub dot_text : Bool → List ℕ
 dot_text follows = if follows then codes "." else []

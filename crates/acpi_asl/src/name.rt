@@ -1,9 +1,9 @@
 //! Names of ASL (ACPI 6.5, 19.2.2). A function whose name begins with `push` adds to a text.
 
-ghost use Rattle.std.specs.Prelude.{◌≡◌, ◌++◌, true, false, OnOk, string_bytes};
+ghost use Rattle.std.specs.Prelude.{◌≡◌, map, ◌++◌, true, false, OnOk, string_bytes};
 ghost use Rattle.acpi_read.specs.Lines.{segments_of};
 ghost use Rattle.acpi_read.specs.Report.{printable};
-ghost use Rattle.acpi_asl.specs.Name.{fourth, third, second, dot_text, segment_text, segments_text, asl_name};
+ghost use Rattle.acpi_asl.specs.Name.{fourth, third, second, is_among, is_kept, pair_text, dot_text, segment_text, segments_text, asl_name};
 
 use acpi_term::name_string::NameString;
 use std::alloc::AllocError;
@@ -48,10 +48,50 @@ fn push_second(b: u8, c: u8, d: u8, text: &mut String) -> Result<(), AllocError>
     push_third(c, d, text)
 }
 
+/// Segments that keep their underscores, since they would be words of ASL without them.
+const KEPT: [&str; 12] = [
+    "IF__", "OR__", "ADD_", "AND_", "LOR_", "MID_", "MOD_", "NOR_", "NOT_", "ONE_", "PCC_", "XOR_",
+];
+
+fn is_among(words: &[&str], segment: &[u8]) -> bool
+    ensures { result ≡ is_among (map (λ word. word.now) words.now) segment.now }
+{
+    'words: for word in words {
+        if segment == word.as_bytes() {
+            return true;
+        }
+    }
+    false
+}
+
+#[tactic(auto, unfolding(crate::specs::Name::is_kept))]
+fn is_kept(a: u8, b: u8, c: u8, d: u8) -> bool
+    ensures { result ≡ is_kept a b c d }
+{
+    is_among(&KEPT, &[a, b, c, d])
+}
+
+fn push_pair(a: u8, b: u8, text: &mut String) -> Result<(), AllocError>
+    ensures { OnOk result (string_bytes text.new ≡ string_bytes text.old ++ pair_text a b) }
+{
+    text.push(shown(a))?;
+    text.push(shown(b))
+}
+
+fn push_four(a: u8, b: u8, c: u8, d: u8, text: &mut String) -> Result<(), AllocError>
+    ensures { OnOk result (string_bytes text.new ≡ string_bytes text.old ++ (pair_text a b ++ pair_text c d)) }
+{
+    push_pair(a, b, text)?;
+    push_pair(c, d, text)
+}
+
 #[tactic(auto, unfolding(crate::specs::Name::segment_text))]
 fn push_segment(a: u8, b: u8, c: u8, d: u8, text: &mut String) -> Result<(), AllocError>
     ensures { OnOk result (string_bytes text.new ≡ string_bytes text.old ++ segment_text a b c d) }
 {
+    if is_kept(a, b, c, d) {
+        return push_four(a, b, c, d, text);
+    }
     text.push(shown(a))?;
     push_second(b, c, d, text)
 }
