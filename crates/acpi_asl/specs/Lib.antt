@@ -5,5 +5,7 @@ pub mod Word
 pub mod Place
 pub mod Opening
 pub mod Row
+pub mod Descriptor
+pub mod Template
 pub mod Special
 pub mod Asl

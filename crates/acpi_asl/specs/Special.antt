@@ -1,10 +1,12 @@
 -- Terms whose text isn't made of their children's.
-use Rattle.std.specs.Prelude.{ℕ, ◌&&◌, ◌||◌, not, Bool, true, false, if◌then◌else◌, List, [], ◌++◌}
-use Rattle.acpi_term.specs.Tree.{Head, number, def_if, def_external, Terms, end, term}
+use Rattle.std.specs.Prelude.{ℕ, ◌==◌, ◌&&◌, ◌||◌, not, Bool, true, false, if◌then◌else◌, List, [], ◌++◌, length}
+use Rattle.acpi_term.specs.Tree.{Head, number, def_buffer, def_if, def_external, Terms, end, term}
 use Rattle.acpi_asl.specs.declared.place.Place.{Place}
 use Rattle.acpi_asl.specs.Eisa.{is_eisa, eisa_text}
+use Rattle.acpi_asl.specs.Number.{least_bytes}
 use Rattle.acpi_asl.specs.Opening.{opening}
 use Rattle.acpi_asl.specs.Place.{is_left_out, is_null, new_line}
+use Rattle.acpi_asl.specs.Template.{is_template, template_text}
 
 -- ---- externals
 
@@ -42,6 +44,22 @@ externals_text d first end = []
 externals_text d first (term h w children others) =
     (if first then [] else new_line d) ++ opening true h w 0 d ++ externals_text d false others
 
+-- ---- resource templates
+
+-- whether a head is a number in its shortest form
+abbrev pub is_shortest : ℕ → Head → ℕ → Bool
+is_shortest n (number v) w = v == n && w == least_bytes n
+is_shortest n _ w = false
+
+abbrev pub has_size : ℕ → Terms → Bool
+has_size n end = false
+has_size n (term h w children others) = is_shortest n h w
+
+-- whether a head with these children is a buffer that a resource template makes: with the number of its bytes as its size
+abbrev pub is_template_buffer : Head → Terms → Bool
+is_template_buffer (def_buffer bytes) children = has_size (length bytes) children && is_template 0 bytes
+is_template_buffer _ children = false
+
 -- ---- all of them
 
 -- whether a head in this width is an id, in a place where numbers are
@@ -51,9 +69,11 @@ is_id_number p _ w = false
 
 -- whether a term in a place is special
 abbrev pub is_special : Place → Head → ℕ → Terms → Bool
-is_special p h w children = is_left_out p h w || (is_id_number p h w || is_external_block h children)
+is_special p h w children =
+    is_left_out p h w || is_id_number p h w || is_external_block h children || is_template_buffer h children
 
 -- the text of a special term at its depth: none for a target that is left out
 abbrev pub special_text : Place → Head → ℕ → Terms → ℕ → List ℕ
 special_text p (number v) w children d = if is_left_out p (number v) w then [] else eisa_text v
+special_text p (def_buffer bytes) w children d = template_text d bytes
 special_text p _ w children d = externals_text d true (after_first children)

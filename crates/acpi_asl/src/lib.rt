@@ -2,11 +2,14 @@
 #![tactic(auto)]
 
 pub mod asl;
+mod descriptor;
 mod eisa;
+mod item;
 mod name;
 mod number;
 mod opening;
 pub mod place;
 mod row;
 mod special;
+mod template;
 mod word;

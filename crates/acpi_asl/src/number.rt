@@ -15,7 +15,8 @@ fn upper_digit(n: u8) -> char
     code as char
 }
 
-fn push_upper_byte(byte: u8, text: &mut String) -> Result<(), AllocError>
+/// Adds the digits of a byte.
+pub fn push_upper_byte(byte: u8, text: &mut String) -> Result<(), AllocError>
     ensures { OnOk result (string_bytes text.new ≡ string_bytes text.old ++ upper_byte byte) }
 {
     text.push(upper_digit(byte / 16))?;
@@ -56,7 +57,8 @@ pub fn push_number(value: u64, width: u8, text: &mut String) -> Result<(), Alloc
     }
 }
 
-fn least_bytes(value: u64) -> u8
+/// The number of bytes of a number that stands alone.
+pub fn least_bytes(value: u64) -> u8
     ensures { result ≡ least_bytes value }
 {
     if value < 0x100 {

@@ -6,11 +6,13 @@ ghost use Rattle.acpi_asl.specs.Eisa.{is_eisa, eisa_text};
 ghost use Rattle.acpi_asl.specs.Opening.{opening};
 ghost use Rattle.acpi_asl.specs.Place.{is_null, new_line};
 ghost use Rattle.acpi_asl.specs.Special.{is_external, are_external, is_end, after_first, is_zero_first, is_external_block};
-ghost use Rattle.acpi_asl.specs.Special.{externals_text, is_id_number, is_special, special_text};
+ghost use Rattle.acpi_asl.specs.Special.{externals_text, is_shortest, has_size, is_template_buffer, is_id_number, is_special, special_text};
 
 use crate::eisa::{is_eisa, push_eisa};
+use crate::number::least_bytes;
 use crate::opening::push_opening;
 use crate::place::{Place, is_left_out, is_null, push_line};
+use crate::template::{is_template, push_template};
 use acpi_term::apart::{Kind, Parts, parts_of};
 use acpi_term::term::Term;
 use std::alloc::AllocError;
@@ -154,6 +156,43 @@ fn push_block(
     push_externals(depth, is_end(first), others, text)
 }
 
+fn is_shortest(n: usize, kind: Kind<'_>, width: u8) -> bool
+    ensures { result ≡ is_shortest n (head_of kind.entry) width }
+{
+    match kind {
+        Kind::Number(value) => value == n as u64 && width == least_bytes(n as u64),
+        _ => false,
+    }
+}
+
+fn has_this_size(n: usize, term: &Term) -> bool
+    ensures { result ≡ is_shortest n (view term.now).0 (view term.now).1 }
+{
+    let parts = parts_of(term);
+    is_shortest(n, parts.kind, parts.width)
+}
+
+// Whether the first of the terms in two lists is this number.
+fn has_size(n: usize, first: &[Term], others: &[Term]) -> bool
+    ensures { result ≡ has_size n (views (first.now ++ others.now)) }
+{
+    match (first, others) {
+        ([size, ..], _) => has_this_size(n, size),
+        ([], [size, ..]) => has_this_size(n, size),
+        ([], []) => false,
+    }
+}
+
+// Whether a term with the children in two lists is a buffer that a resource template makes.
+fn is_template_buffer(kind: Kind<'_>, first: &[Term], others: &[Term]) -> bool
+    ensures { result ≡ is_template_buffer (head_of kind.entry) (views (first.now ++ others.now)) }
+{
+    match kind {
+        Kind::Buffer(bytes) => has_size(bytes.len(), first, others) && is_template(bytes),
+        _ => false,
+    }
+}
+
 fn is_id_number(place: Place, kind: Kind<'_>, width: u8) -> bool
     ensures { result ≡ is_id_number place (head_of kind.entry) width }
 {
@@ -170,6 +209,7 @@ pub fn is_special(place: Place, parts: Parts<'_>) -> bool
     is_left_out(place, parts.kind, parts.width)
         || is_id_number(place, parts.kind, parts.width)
         || is_external_block(parts.kind, parts.first, parts.others)
+        || is_template_buffer(parts.kind, parts.first, parts.others)
 }
 
 fn push_special_number(
@@ -203,6 +243,7 @@ pub fn push_special(
             let left_out = is_left_out(place, parts.kind, parts.width);
             push_special_number(left_out, parts.width, value, text)
         }
+        Kind::Buffer(bytes) => push_template(depth, bytes, text),
         _ => {
             let (more, rest) = after_first(parts.first, parts.others);
             push_block(depth, more, rest, text)

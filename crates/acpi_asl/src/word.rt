@@ -101,7 +101,7 @@ const LOCK_RULES: [(u8, &str); 2] = [(0, "NoLock"), (1, "Lock")];
 const UPDATE_RULES: [(u8, &str); 3] = [(0, "Preserve"), (1, "WriteAsOnes"), (2, "WriteAsZeros")];
 
 /// Address spaces (RegionSpaceKeyword).
-const REGION_SPACES: [(u8, &str); 12] = [
+pub const REGION_SPACES: [(u8, &str); 12] = [
     (0, "SystemMemory"),
     (1, "SystemIO"),
     (2, "PCI_Config"),
@@ -136,8 +136,8 @@ const OBJECT_TYPES: [(u8, &str); 16] = [
     (15, "DDBHandleObj"),
 ];
 
-// Returns the word in the first row with a number, or an empty one.
-fn word_in(rows: &[(u8, &'static str)], number: u8) -> &'static str
+/// Returns the word in the first row with a number, or an empty one.
+pub fn word_in(rows: &[(u8, &'static str)], number: u8) -> &'static str
     ensures { result.now ≡ word_in (map (λ row. (row.0, row.1.now)) rows.now) number }
 {
     'rows: for row in rows {

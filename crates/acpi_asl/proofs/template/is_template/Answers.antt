@@ -1,0 +1,10 @@
+use Rattle.std.proofs.Common.{◌≡◌, ◌∷◌, rules}
+use Rattle.acpi_asl.proofs.Items.{test_goes_on}
+use Rattle.acpi_asl.proofs.template.is_template.Goals as goal
+
+pub items-preserved : goal.items-preserved
+items-preserved c =
+    let tag = c.in-Some.tag.now in
+    let more = c.in-Some.more.now in
+    let is : c.items.rest.now ≡ tag ∷ more = search rules in
+    test_goes_on c.args.bytes.now c.items.rest.now c.after_item-rest.result.now more tag _ _ is c.if-tag-eq121.false c.item_size-size.ensures c.begins_known.ensures (search rules) c.after_item-rest.ensures c.items.invariant

@@ -1,0 +1,167 @@
+-- Resource templates (ACPI 6.5, 6.4 and 19.6.114): buffers whose bytes are descriptors that have macros, and the end tag.
+use Rattle.std.specs.Prelude.{ℕ, zero, suc, ◌+◌, ◌-◌, ◌*◌, ◌/◌, ◌%◌, nat_lt, nat_le, ◌==◌, ◌&&◌, not, Bool, true, false}
+use Rattle.std.specs.Prelude.{if◌then◌else◌, Option, Some, None, List, [], ◌∷◌, ◌++◌, length, take, drop, slice_index_or, codes}
+use Rattle.std.specs.Fmt.{decimal}
+use Rattle.std.specs.Str.{bytes_eq}
+use Rattle.acpi_asl.specs.declared.descriptor.Bits.{Bits}
+use Rattle.acpi_asl.specs.declared.descriptor.Part.{Part}
+use Rattle.acpi_asl.specs.declared.descriptor.Part.TheVariants as parts
+use Rattle.acpi_asl.specs.declared.descriptor.Braces.{Braces}
+use Rattle.acpi_asl.specs.declared.descriptor.Braces.TheVariants as tails
+use Rattle.acpi_asl.specs.declared.descriptor.Descriptor.{Descriptor}
+use Rattle.acpi_asl.specs.Descriptor.{words, Row, facts, descriptors}
+use Rattle.acpi_asl.specs.Number.{upper_byte}
+use Rattle.acpi_asl.specs.Place.{new_line}
+use Rattle.acpi_asl.specs.Word.{word_in}
+
+-- ---- the arguments of a macro
+
+-- a byte without its lowest bits
+abbrev pub shifted : ℕ → ℕ → ℕ
+shifted b s =
+    if s == 0 then b
+    else (if s == 1 then b / 2
+    else (if s == 2 then b / 4
+    else (if s == 3 then b / 8
+    else (if s == 4 then b / 16
+    else (if s == 5 then b / 32
+    else (if s == 6 then b / 64 else b / 128))))))
+
+-- its lowest bits: 1 to 3, or else all
+abbrev pub lowest : ℕ → ℕ → ℕ
+lowest b k = if k == 1 then b % 2 else (if k == 2 then b % 4 else (if k == 3 then b % 8 else b))
+
+-- the number that bits of an item are
+abbrev pub value_of : List ℕ → Bits → ℕ
+value_of item x = lowest (shifted (slice_index_or item x.offset 0) x.shift) x.size
+
+-- the digits of the number of w bytes at an offset of an item, highest first
+unfoldable pub digits_at : ℕ → ℕ → List ℕ → List ℕ
+digits_at zero offset item = []
+digits_at (suc w) offset item = upper_byte (slice_index_or item (offset + w) 0) ++ digits_at w offset item
+
+abbrev pub part_text : List ℕ → Part → List ℕ
+part_text item (parts.Word x kind) = word_in (words kind) (value_of item x)
+part_text item (parts.Number offset w) = codes "0x" ++ digits_at w offset item
+part_text item parts.Blank = []
+
+-- the comma before an argument
+abbrev pub comma : Bool → List ℕ
+comma first = if first then [] else codes ", "
+
+abbrev pub parts_text : List ℕ → Bool → List Part → List ℕ
+parts_text item first [] = []
+parts_text item first (p ∷ ps) = (comma first ++ part_text item p) ++ parts_text item false ps
+
+-- ---- the list in braces
+
+-- the numbers of the bits that are set in a mask, for so many bits from bit i on
+abbrev pub channels : Bool → ℕ → ℕ → ℕ → List ℕ
+channels first i zero mask = []
+channels first i (suc k) mask =
+    (if mask % 2 == 1 then comma first ++ decimal i else []) ++ channels (first && not (mask % 2 == 1)) (i + 1) k (mask / 2)
+
+-- numbers of four bytes each
+abbrev pub dwords : Bool → List ℕ → List ℕ
+dwords first (a ∷ b ∷ c ∷ d ∷ rest) = (comma first ++ (codes "0x" ++ digits_at 4 0 (a ∷ b ∷ c ∷ d ∷ rest))) ++ dwords false rest
+dwords first _ = []
+
+abbrev pub list_text : Braces → List ℕ → List ℕ
+list_text tails.Absent item = []
+list_text tails.Irqs item = channels true 0 16 (slice_index_or item 1 0 + 256 * slice_index_or item 2 0)
+list_text tails.Channels item = channels true 0 8 (slice_index_or item 1 0)
+list_text tails.Numbers item = dwords true (drop 5 item)
+
+abbrev pub is_absent : Braces → Bool
+is_absent tails.Absent = true
+is_absent _ = false
+
+abbrev pub tail_text : Braces → List ℕ → List ℕ
+tail_text tail item = if is_absent tail then [] else codes " {" ++ list_text tail item ++ codes "}"
+
+-- ---- items
+
+abbrev pub row_text : Row → List ℕ → List ℕ
+row_text r item = r.macro ++ codes " (" ++ parts_text item true r.parts ++ codes ")" ++ tail_text r.tail item
+
+-- the number after the tag of a large item
+abbrev pub large_length : List ℕ → ℕ
+large_length (low ∷ high ∷ more) = low + 256 * high
+large_length _ = 0
+
+-- The size of the item at the front. The tag of a small item has bit 7 clear, and its bits 0 to 2 are the number of bytes after
+-- it.
+abbrev pub item_size : List ℕ → ℕ
+item_size [] = 0
+item_size (tag ∷ more) = if nat_lt tag 128 then 1 + tag % 8 else 3 + large_length more
+
+-- whether bits of an item are zero
+abbrev pub are_clear : List ℕ → List Bits → Bool
+are_clear item [] = true
+are_clear item (x ∷ rest) = value_of item x == 0 && are_clear item rest
+
+abbrev pub part_fits : List ℕ → Part → Bool
+part_fits item (parts.Word x kind) = not (length (word_in (words kind) (value_of item x)) == 0)
+part_fits item _ = true
+
+-- whether the bits of each word have one
+abbrev pub parts_fit : List ℕ → List Part → Bool
+parts_fit item [] = true
+parts_fit item (p ∷ ps) = part_fits item p && parts_fit item ps
+
+abbrev pub tail_fits : Braces → List ℕ → Bool
+tail_fits tails.Numbers item = length item == 5 + 4 * slice_index_or item 4 0 && not (slice_index_or item 4 0 == 0)
+tail_fits _ item = true
+
+-- whether an item is written by the macro of a row
+abbrev pub fits : Row → List ℕ → Bool
+fits r item =
+    bytes_eq (take (length r.start) item) r.start && are_clear item r.clear && parts_fit item r.parts && tail_fits r.tail item
+
+-- the first descriptor whose macro writes an item
+abbrev pub found_in : List Descriptor → List ℕ → Option Descriptor
+found_in [] item = None
+found_in (d ∷ ds) item = if fits (facts d) item then Some d else found_in ds item
+
+unfoldable pub found : List ℕ → Option Descriptor
+found item = if length item == item_size item then found_in descriptors item else None
+
+abbrev pub is_found : Option Descriptor → Bool
+is_found None = false
+is_found (Some d) = true
+
+abbrev pub found_text : Option Descriptor → List ℕ → List ℕ
+found_text None item = []
+found_text (Some d) item = row_text (facts d) item
+
+-- the item at the front
+abbrev pub item : List ℕ → List ℕ
+item bytes = take (item_size bytes) bytes
+
+-- ---- templates
+
+abbrev pub is_zero_alone : List ℕ → Bool
+is_zero_alone (b ∷ []) = b == 0
+is_zero_alone _ = false
+
+-- Whether bytes are items that are written by macros, and then the end tag (ACPI 6.5, 6.4.2.9) with the checksum 0. The first number
+-- says how many bytes at the front belong to an item that began before.
+abbrev pub is_template : ℕ → List ℕ → Bool
+is_template left [] = false
+is_template (suc left) (b ∷ bytes) = is_template left bytes
+is_template zero (b ∷ bytes) =
+    if b == 0x79 then is_zero_alone bytes
+    else (is_found (found (item (b ∷ bytes))) && is_template (item_size (b ∷ bytes) - 1) bytes)
+
+-- the macros of the items, each on a line at a depth
+abbrev pub items_text : ℕ → ℕ → List ℕ → List ℕ
+items_text d left [] = []
+items_text d (suc left) (b ∷ bytes) = items_text d left bytes
+items_text d zero (b ∷ bytes) =
+    if b == 0x79 then []
+    else (new_line d ++ found_text (found (item (b ∷ bytes))) (item (b ∷ bytes))) ++ items_text d (item_size (b ∷ bytes) - 1) bytes
+
+-- the template of these bytes at a depth
+abbrev pub template_text : ℕ → List ℕ → List ℕ
+template_text d bytes =
+    codes "ResourceTemplate ()" ++ (new_line d ++ codes "{") ++ items_text (suc d) 0 bytes ++ (new_line d ++ codes "}")
