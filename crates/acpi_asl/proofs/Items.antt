@@ -56,20 +56,21 @@ pub test_ends : (bytes rest more : List ℕ) (tag : ℕ) (last : Bool) → rest 
     → is_template 0 bytes ≡ is_template 0 rest → last ≡ is_template 0 bytes
 test_ends bytes rest more tag last is end last_is before = last_is ∙ sym (before ∙ ap (is_template 0) is ∙ rw end refl)
 
-text_step : (d tag : ℕ) (more : List ℕ) → (tag ≡ 0x79 → ⊥) → items_text d 0 (tag ∷ more) ≡ (new_line d ++ found_text (found (take (item_size (tag ∷ more)) (tag ∷ more))) (take (item_size (tag ∷ more)) (tag ∷ more))) ++ items_text d (item_size (tag ∷ more) - 1) more
+text_step : (d tag : ℕ) (more : List ℕ) → (tag ≡ 0x79 → ⊥) → items_text d 0 (tag ∷ more) ≡ (new_line d ++ found_text (found (take (item_size (tag ∷ more)) (tag ∷ more))) (length (tag ∷ more)) (take (item_size (tag ∷ more)) (tag ∷ more))) ++ items_text d (item_size (tag ∷ more) - 1) more
 text_step d tag more other = rw (ne_eqb tag 0x79 other) refl
 
 pub text_goes_on : (d : ℕ) (whole old rest after more new : List ℕ) (tag size : ℕ) → rest ≡ tag ∷ more → (tag ≡ 0x79 → ⊥) → size ≡ item_size (tag ∷ more)
-    → after ≡ drop size rest → new ≡ old ++ (new_line d ++ found_text (found (take size rest)) (take size rest))
+    → after ≡ drop size rest → new ≡ old ++ (new_line d ++ found_text (found (take size rest)) (length rest) (take size rest))
     → old ++ items_text d 0 rest ≡ whole → new ++ items_text d 0 after ≡ whole
 text_goes_on d whole old rest after more new tag size is other sized next added before =
-    let line : List ℕ = new_line d ++ found_text (found (take size rest)) (take size rest) in
+    let line : List ℕ = new_line d ++ found_text (found (take size rest)) (length rest) (take size rest) in
     let later : items_text d 0 after ≡ items_text d (item_size (tag ∷ more) - 1) more =
     ap (items_text d 0) (after_front rest after more tag size is sized next) ∙ sym (skip_text d (item_size (tag ∷ more) - 1) more)
     in
     let step : items_text d 0 rest ≡ line ++ items_text d 0 after =
     ap (items_text d 0) is ∙ text_step d tag more other
-    ∙ ap (λ (l : List ℕ). (new_line d ++ found_text (found l) l) ++ items_text d (item_size (tag ∷ more) - 1) more) (sym (here rest more tag size is sized))
+    ∙ ap (λ (l : List ℕ). (new_line d ++ found_text (found l) (length (tag ∷ more)) l) ++ items_text d (item_size (tag ∷ more) - 1) more) (sym (here rest more tag size is sized))
+    ∙ ap (λ (l : List ℕ). (new_line d ++ found_text (found (take size rest)) (length l) (take size rest)) ++ items_text d (item_size (tag ∷ more) - 1) more) (sym is)
     ∙ ap (λ (l : List ℕ). line ++ l) (sym later)
     in
     ap (λ (l : List ℕ). l ++ items_text d 0 after) added ∙ append_assoc old line (items_text d 0 after) ∙ ap (λ (l : List ℕ). old ++ l) (sym step) ∙ before

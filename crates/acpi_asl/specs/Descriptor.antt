@@ -70,7 +70,8 @@ facts items.Dma = row (0x2a ∷ []) (codes "DMA")
     (word 2 5 2 kinds.DmaType ∷ word 2 2 1 kinds.Master ∷ word 2 0 2 kinds.Transfer ∷ [])
     (bits 2 3 2 ∷ bits 2 7 8 ∷ []) tails.Channels
 facts items.Io = row (0x47 ∷ []) (codes "IO")
-    (word 1 0 1 kinds.Decode ∷ parts.Number 2 2 ∷ parts.Number 4 2 ∷ parts.Number 6 1 ∷ parts.Number 7 1 ∷ [])
+    (word 1 0 1 kinds.Decode ∷ parts.Number 2 2 ∷ parts.Number 4 2 ∷ parts.Number 6 1 ∷ parts.Number 7 1 ∷
+    parts.Tag 2 4 7 1 ∷ [])
     (bits 1 1 8 ∷ []) tails.Absent
 facts items.FixedIo = row (0x4b ∷ []) (codes "FixedIO")
     (parts.Number 1 2 ∷ parts.Number 3 1 ∷ [])
@@ -79,13 +80,15 @@ facts items.FixedDma = row (0x55 ∷ []) (codes "FixedDMA")
     (parts.Number 1 2 ∷ parts.Number 3 2 ∷ word 5 0 3 kinds.DmaWidth ∷ [])
     (bits 5 3 8 ∷ []) tails.Absent
 facts items.Memory24 = row (0x81 ∷ 0x9 ∷ 0x0 ∷ []) (codes "Memory24")
-    (word 3 0 1 kinds.Access ∷ parts.Number 4 2 ∷ parts.Number 6 2 ∷ parts.Number 8 2 ∷ parts.Number 10 2 ∷ [])
+    (word 3 0 1 kinds.Access ∷ parts.Number 4 2 ∷ parts.Number 6 2 ∷ parts.Number 8 2 ∷ parts.Number 10 2 ∷
+    parts.Tag 4 4 10 2 ∷ [])
     (bits 3 1 8 ∷ []) tails.Absent
 facts items.Register = row (0x82 ∷ 0xc ∷ 0x0 ∷ []) (codes "Register")
     (word 3 0 8 kinds.Space ∷ parts.Number 4 1 ∷ parts.Number 5 1 ∷ parts.Number 7 8 ∷ parts.Number 6 1 ∷ [])
     ([]) tails.Absent
 facts items.Memory32 = row (0x85 ∷ 0x11 ∷ 0x0 ∷ []) (codes "Memory32")
-    (word 3 0 1 kinds.Access ∷ parts.Number 4 4 ∷ parts.Number 8 4 ∷ parts.Number 12 4 ∷ parts.Number 16 4 ∷ [])
+    (word 3 0 1 kinds.Access ∷ parts.Number 4 4 ∷ parts.Number 8 4 ∷ parts.Number 12 4 ∷ parts.Number 16 4 ∷
+    parts.Tag 4 8 16 4 ∷ [])
     (bits 3 1 8 ∷ []) tails.Absent
 facts items.Memory32Fixed = row (0x86 ∷ 0x9 ∷ 0x0 ∷ []) (codes "Memory32Fixed")
     (word 3 0 1 kinds.Access ∷ parts.Number 4 4 ∷ parts.Number 8 4 ∷ [])
@@ -93,24 +96,25 @@ facts items.Memory32Fixed = row (0x86 ∷ 0x9 ∷ 0x0 ∷ []) (codes "Memory32Fi
 facts items.DwordMemory = row (0x87 ∷ 0x17 ∷ 0x0 ∷ 0x0 ∷ []) (codes "DWordMemory")
     (word 4 0 1 kinds.Usage ∷ word 4 1 1 kinds.Decoding ∷ word 4 2 1 kinds.Minimum ∷ word 4 3 1 kinds.Maximum ∷
     word 5 1 2 kinds.Caching ∷ word 5 0 1 kinds.Access ∷ parts.Number 6 4 ∷ parts.Number 10 4 ∷ parts.Number 14 4 ∷
-    parts.Number 18 4 ∷ parts.Number 22 4 ∷ parts.Blank ∷ parts.Blank ∷ parts.Blank ∷ word 5 3 2 kinds.Memory ∷
-    word 5 5 1 kinds.Translation ∷ [])
+    parts.Number 18 4 ∷ parts.Number 22 4 ∷ parts.Blank ∷ parts.Blank ∷ parts.Tag 6 12 22 4 ∷
+    word 5 3 2 kinds.Memory ∷ word 5 5 1 kinds.Translation ∷ [])
     (bits 4 4 8 ∷ bits 5 6 8 ∷ []) tails.Absent
 facts items.DwordIo = row (0x87 ∷ 0x17 ∷ 0x0 ∷ 0x1 ∷ []) (codes "DWordIO")
     (word 4 0 1 kinds.Usage ∷ word 4 2 1 kinds.Minimum ∷ word 4 3 1 kinds.Maximum ∷ word 4 1 1 kinds.Decoding ∷
     word 5 0 2 kinds.Ranges ∷ parts.Number 6 4 ∷ parts.Number 10 4 ∷ parts.Number 14 4 ∷ parts.Number 18 4 ∷
-    parts.Number 22 4 ∷ parts.Blank ∷ parts.Blank ∷ parts.Blank ∷ word 5 4 1 kinds.Translation ∷
+    parts.Number 22 4 ∷ parts.Blank ∷ parts.Blank ∷ parts.Tag 6 12 22 4 ∷ word 5 4 1 kinds.Translation ∷
     word 5 5 1 kinds.Density ∷ [])
     (bits 4 4 8 ∷ bits 5 2 2 ∷ bits 5 6 8 ∷ []) tails.Absent
 facts items.WordIo = row (0x88 ∷ 0xd ∷ 0x0 ∷ 0x1 ∷ []) (codes "WordIO")
     (word 4 0 1 kinds.Usage ∷ word 4 2 1 kinds.Minimum ∷ word 4 3 1 kinds.Maximum ∷ word 4 1 1 kinds.Decoding ∷
     word 5 0 2 kinds.Ranges ∷ parts.Number 6 2 ∷ parts.Number 8 2 ∷ parts.Number 10 2 ∷ parts.Number 12 2 ∷
-    parts.Number 14 2 ∷ parts.Blank ∷ parts.Blank ∷ parts.Blank ∷ word 5 4 1 kinds.Translation ∷
+    parts.Number 14 2 ∷ parts.Blank ∷ parts.Blank ∷ parts.Tag 6 6 14 2 ∷ word 5 4 1 kinds.Translation ∷
     word 5 5 1 kinds.Density ∷ [])
     (bits 4 4 8 ∷ bits 5 2 2 ∷ bits 5 6 8 ∷ []) tails.Absent
 facts items.WordBus = row (0x88 ∷ 0xd ∷ 0x0 ∷ 0x2 ∷ []) (codes "WordBusNumber")
     (word 4 0 1 kinds.Usage ∷ word 4 2 1 kinds.Minimum ∷ word 4 3 1 kinds.Maximum ∷ word 4 1 1 kinds.Decoding ∷
-    parts.Number 6 2 ∷ parts.Number 8 2 ∷ parts.Number 10 2 ∷ parts.Number 12 2 ∷ parts.Number 14 2 ∷ [])
+    parts.Number 6 2 ∷ parts.Number 8 2 ∷ parts.Number 10 2 ∷ parts.Number 12 2 ∷ parts.Number 14 2 ∷ parts.Blank ∷
+    parts.Blank ∷ parts.Tag 6 6 14 2 ∷ [])
     (bits 4 4 8 ∷ bits 5 0 8 ∷ []) tails.Absent
 facts items.Interrupt = row (0x89 ∷ []) (codes "Interrupt")
     (word 3 0 1 kinds.Usage ∷ word 3 1 1 kinds.Mode ∷ word 3 2 1 kinds.Polarity ∷ word 3 3 2 kinds.Sharing ∷
@@ -119,13 +123,13 @@ facts items.Interrupt = row (0x89 ∷ []) (codes "Interrupt")
 facts items.QwordMemory = row (0x8a ∷ 0x2b ∷ 0x0 ∷ 0x0 ∷ []) (codes "QWordMemory")
     (word 4 0 1 kinds.Usage ∷ word 4 1 1 kinds.Decoding ∷ word 4 2 1 kinds.Minimum ∷ word 4 3 1 kinds.Maximum ∷
     word 5 1 2 kinds.Caching ∷ word 5 0 1 kinds.Access ∷ parts.Number 6 8 ∷ parts.Number 14 8 ∷ parts.Number 22 8 ∷
-    parts.Number 30 8 ∷ parts.Number 38 8 ∷ parts.Blank ∷ parts.Blank ∷ parts.Blank ∷ word 5 3 2 kinds.Memory ∷
-    word 5 5 1 kinds.Translation ∷ [])
+    parts.Number 30 8 ∷ parts.Number 38 8 ∷ parts.Blank ∷ parts.Blank ∷ parts.Tag 6 24 38 8 ∷
+    word 5 3 2 kinds.Memory ∷ word 5 5 1 kinds.Translation ∷ [])
     (bits 4 4 8 ∷ bits 5 6 8 ∷ []) tails.Absent
 facts items.QwordIo = row (0x8a ∷ 0x2b ∷ 0x0 ∷ 0x1 ∷ []) (codes "QWordIO")
     (word 4 0 1 kinds.Usage ∷ word 4 2 1 kinds.Minimum ∷ word 4 3 1 kinds.Maximum ∷ word 4 1 1 kinds.Decoding ∷
     word 5 0 2 kinds.Ranges ∷ parts.Number 6 8 ∷ parts.Number 14 8 ∷ parts.Number 22 8 ∷ parts.Number 30 8 ∷
-    parts.Number 38 8 ∷ parts.Blank ∷ parts.Blank ∷ parts.Blank ∷ word 5 4 1 kinds.Translation ∷
+    parts.Number 38 8 ∷ parts.Blank ∷ parts.Blank ∷ parts.Tag 6 24 38 8 ∷ word 5 4 1 kinds.Translation ∷
     word 5 5 1 kinds.Density ∷ [])
     (bits 4 4 8 ∷ bits 5 2 2 ∷ bits 5 6 8 ∷ []) tails.Absent
 

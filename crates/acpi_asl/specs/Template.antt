@@ -10,7 +10,7 @@ use Rattle.acpi_asl.specs.declared.descriptor.Braces.{Braces}
 use Rattle.acpi_asl.specs.declared.descriptor.Braces.TheVariants as tails
 use Rattle.acpi_asl.specs.declared.descriptor.Descriptor.{Descriptor}
 use Rattle.acpi_asl.specs.Descriptor.{words, Row, facts, descriptors}
-use Rattle.acpi_asl.specs.Number.{upper_byte}
+use Rattle.acpi_asl.specs.Number.{upper_digit, upper_byte}
 use Rattle.acpi_asl.specs.Place.{new_line}
 use Rattle.acpi_asl.specs.Word.{word_in}
 
@@ -40,18 +40,30 @@ unfoldable pub digits_at : ℕ → ℕ → List ℕ → List ℕ
 digits_at zero offset item = []
 digits_at (suc w) offset item = upper_byte (slice_index_or item (offset + w) 0) ++ digits_at w offset item
 
-abbrev pub part_text : List ℕ → Part → List ℕ
-part_text item (parts.Word x kind) = word_in (words kind) (value_of item x)
-part_text item (parts.Number offset w) = codes "0x" ++ digits_at w offset item
-part_text item parts.Blank = []
+-- whether the k bytes at an offset are zero
+abbrev pub are_zero : List ℕ → ℕ → ℕ → Bool
+are_zero item offset zero = true
+are_zero item offset (suc k) = slice_index_or item (offset + k) 0 == 0 && are_zero item offset k
+
+-- A name of four characters, by how many bytes of the template begin with the item: so no two items of a template have the same.
+abbrev pub tag_text : ℕ → List ℕ
+tag_text n = 0x59 ∷ upper_digit (n / 256 % 16) ∷ upper_digit (n / 16 % 16) ∷ upper_digit (n % 16) ∷ []
+
+-- The n bytes of a template from the item on. A compiler accepts a range that is zero, which is set when the code runs, only if its
+-- descriptor has a name.
+abbrev pub part_text : List ℕ → ℕ → Part → List ℕ
+part_text item n (parts.Word x kind) = word_in (words kind) (value_of item x)
+part_text item n (parts.Number offset w) = codes "0x" ++ digits_at w offset item
+part_text item n parts.Blank = []
+part_text item n (parts.Tag a k b m) = if are_zero item a k && are_zero item b m then tag_text n else []
 
 -- the comma before an argument
 abbrev pub comma : Bool → List ℕ
 comma first = if first then [] else codes ", "
 
-abbrev pub parts_text : List ℕ → Bool → List Part → List ℕ
-parts_text item first [] = []
-parts_text item first (p ∷ ps) = (comma first ++ part_text item p) ++ parts_text item false ps
+abbrev pub parts_text : List ℕ → ℕ → Bool → List Part → List ℕ
+parts_text item n first [] = []
+parts_text item n first (p ∷ ps) = (comma first ++ part_text item n p) ++ parts_text item n false ps
 
 -- ---- the list in braces
 
@@ -81,8 +93,8 @@ tail_text tail item = if is_absent tail then [] else codes " {" ++ list_text tai
 
 -- ---- items
 
-abbrev pub row_text : Row → List ℕ → List ℕ
-row_text r item = r.macro ++ codes " (" ++ parts_text item true r.parts ++ codes ")" ++ tail_text r.tail item
+abbrev pub row_text : Row → ℕ → List ℕ → List ℕ
+row_text r n item = r.macro ++ codes " (" ++ parts_text item n true r.parts ++ codes ")" ++ tail_text r.tail item
 
 -- the number after the tag of a large item
 abbrev pub large_length : List ℕ → ℕ
@@ -130,9 +142,9 @@ abbrev pub is_found : Option Descriptor → Bool
 is_found None = false
 is_found (Some d) = true
 
-abbrev pub found_text : Option Descriptor → List ℕ → List ℕ
-found_text None item = []
-found_text (Some d) item = row_text (facts d) item
+abbrev pub found_text : Option Descriptor → ℕ → List ℕ → List ℕ
+found_text None n item = []
+found_text (Some d) n item = row_text (facts d) n item
 
 -- the item at the front
 abbrev pub item : List ℕ → List ℕ
@@ -159,7 +171,7 @@ items_text d left [] = []
 items_text d (suc left) (b ∷ bytes) = items_text d left bytes
 items_text d zero (b ∷ bytes) =
     if b == 0x79 then []
-    else (new_line d ++ found_text (found (item (b ∷ bytes))) (item (b ∷ bytes))) ++ items_text d (item_size (b ∷ bytes) - 1) bytes
+    else (new_line d ++ found_text (found (item (b ∷ bytes))) (length (b ∷ bytes)) (item (b ∷ bytes))) ++ items_text d (item_size (b ∷ bytes) - 1) bytes
 
 -- the template of these bytes at a depth
 abbrev pub template_text : ℕ → List ℕ → List ℕ

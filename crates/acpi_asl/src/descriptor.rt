@@ -48,6 +48,8 @@ pub enum Part {
     Number(u8, u8),
     /// An argument that is left out.
     Blank,
+    /// The descriptor's name, if the bytes in two ranges are zero: the offset of each, and how many there are.
+    Tag(u8, u8, u8, u8),
 }
 
 /// The list in braces.
@@ -233,12 +235,13 @@ const DMA_PARTS: [Part; 3] = [
 
 const DMA_CLEAR: [Bits; 2] = [bits!(2, 3, 2), bits!(2, 7, 8)];
 
-const IO_PARTS: [Part; 5] = [
+const IO_PARTS: [Part; 6] = [
     word!(1, 0, 1, Decode),
     Part::Number(2, 2),
     Part::Number(4, 2),
     Part::Number(6, 1),
     Part::Number(7, 1),
+    Part::Tag(2, 4, 7, 1),
 ];
 
 const IO_CLEAR: [Bits; 1] = [bits!(1, 1, 8)];
@@ -253,12 +256,13 @@ const FIXED_DMA_PARTS: [Part; 3] = [
 
 const FIXED_DMA_CLEAR: [Bits; 1] = [bits!(5, 3, 8)];
 
-const MEMORY24_PARTS: [Part; 5] = [
+const MEMORY24_PARTS: [Part; 6] = [
     word!(3, 0, 1, Access),
     Part::Number(4, 2),
     Part::Number(6, 2),
     Part::Number(8, 2),
     Part::Number(10, 2),
+    Part::Tag(4, 4, 10, 2),
 ];
 
 const MEMORY24_CLEAR: [Bits; 1] = [bits!(3, 1, 8)];
@@ -271,12 +275,13 @@ const REGISTER_PARTS: [Part; 5] = [
     Part::Number(6, 1),
 ];
 
-const MEMORY32_PARTS: [Part; 5] = [
+const MEMORY32_PARTS: [Part; 6] = [
     word!(3, 0, 1, Access),
     Part::Number(4, 4),
     Part::Number(8, 4),
     Part::Number(12, 4),
     Part::Number(16, 4),
+    Part::Tag(4, 8, 16, 4),
 ];
 
 const MEMORY32_CLEAR: [Bits; 1] = [bits!(3, 1, 8)];
@@ -303,7 +308,7 @@ const DWORD_MEMORY_PARTS: [Part; 16] = [
     Part::Number(22, 4),
     Part::Blank,
     Part::Blank,
-    Part::Blank,
+    Part::Tag(6, 12, 22, 4),
     word!(5, 3, 2, Memory),
     word!(5, 5, 1, Translation),
 ];
@@ -323,7 +328,7 @@ const DWORD_IO_PARTS: [Part; 15] = [
     Part::Number(22, 4),
     Part::Blank,
     Part::Blank,
-    Part::Blank,
+    Part::Tag(6, 12, 22, 4),
     word!(5, 4, 1, Translation),
     word!(5, 5, 1, Density),
 ];
@@ -343,14 +348,14 @@ const WORD_IO_PARTS: [Part; 15] = [
     Part::Number(14, 2),
     Part::Blank,
     Part::Blank,
-    Part::Blank,
+    Part::Tag(6, 6, 14, 2),
     word!(5, 4, 1, Translation),
     word!(5, 5, 1, Density),
 ];
 
 const WORD_IO_CLEAR: [Bits; 3] = [bits!(4, 4, 8), bits!(5, 2, 2), bits!(5, 6, 8)];
 
-const WORD_BUS_PARTS: [Part; 9] = [
+const WORD_BUS_PARTS: [Part; 12] = [
     word!(4, 0, 1, Usage),
     word!(4, 2, 1, Minimum),
     word!(4, 3, 1, Maximum),
@@ -360,6 +365,9 @@ const WORD_BUS_PARTS: [Part; 9] = [
     Part::Number(10, 2),
     Part::Number(12, 2),
     Part::Number(14, 2),
+    Part::Blank,
+    Part::Blank,
+    Part::Tag(6, 6, 14, 2),
 ];
 
 const WORD_BUS_CLEAR: [Bits; 2] = [bits!(4, 4, 8), bits!(5, 0, 8)];
@@ -390,7 +398,7 @@ const QWORD_MEMORY_PARTS: [Part; 16] = [
     Part::Number(38, 8),
     Part::Blank,
     Part::Blank,
-    Part::Blank,
+    Part::Tag(6, 24, 38, 8),
     word!(5, 3, 2, Memory),
     word!(5, 5, 1, Translation),
 ];
@@ -410,7 +418,7 @@ const QWORD_IO_PARTS: [Part; 15] = [
     Part::Number(38, 8),
     Part::Blank,
     Part::Blank,
-    Part::Blank,
+    Part::Tag(6, 24, 38, 8),
     word!(5, 4, 1, Translation),
     word!(5, 5, 1, Density),
 ];

@@ -6,7 +6,7 @@ ghost use Rattle.std.specs.Str.{bytes_eq};
 ghost use Rattle.std.specs.Fmt.{decimal};
 ghost use Rattle.acpi_asl.specs.Descriptor.{words, facts, descriptors};
 ghost use Rattle.acpi_asl.specs.Number.{upper_byte};
-ghost use Rattle.acpi_asl.specs.Template.{shifted, lowest, value_of, digits_at, part_text, comma, parts_text, channels, dwords};
+ghost use Rattle.acpi_asl.specs.Template.{shifted, lowest, value_of, digits_at, are_zero, tag_text, part_text, comma, parts_text, channels, dwords};
 ghost use Rattle.acpi_asl.specs.Template.{list_text, is_absent, tail_text, row_text, large_length, item_size, are_clear};
 ghost use Rattle.acpi_asl.specs.Template.{part_fits, parts_fit, tail_fits, fits, found_in, found, is_found, found_text};
 ghost use Rattle.acpi_asl.specs.Word.{word_in};
@@ -15,7 +15,7 @@ use crate::descriptor::{
     Bits, Braces, DESCRIPTORS, Descriptor, Part, WordKind, clear, macro_word, parts, start, tail,
     words,
 };
-use crate::number::{push_decimal, push_upper_byte};
+use crate::number::{push_decimal, push_upper_byte, upper_digit};
 use crate::word::word_in;
 use std::alloc::AllocError;
 
@@ -90,13 +90,43 @@ fn word_of(item: &[u8], bits: Bits, kind: WordKind) -> &'static str
     word_in(words(kind), value_of(item, bits))
 }
 
-fn push_part(item: &[u8], part: Part, text: &mut String) -> Result<(), AllocError>
-    ensures { OnOk result (string_bytes text.new ≡ string_bytes text.old ++ part_text item.now part) }
+#[cycle(zeros)]
+fn are_zero(item: &[u8], offset: u8, count: u8) -> bool
+    ensures { result ≡ are_zero item.now offset count }
+{
+    if count == 0 {
+        return true;
+    }
+    let last = usize::from(offset) + usize::from(count - 1);
+    byte_at(item, last) == 0 && are_zero(item, offset, count - 1)
+}
+
+fn push_tag(n: usize, text: &mut String) -> Result<(), AllocError>
+    ensures { OnOk result (string_bytes text.new ≡ string_bytes text.old ++ tag_text n) }
+{
+    text.push('Y')?;
+    text.push(upper_digit((n / 256 % 16) as u8))?;
+    text.push(upper_digit((n / 16 % 16) as u8))?;
+    text.push(upper_digit((n % 16) as u8))
+}
+
+fn push_if(is_null: bool, n: usize, text: &mut String) -> Result<(), AllocError>
+    ensures { OnOk result (string_bytes text.new ≡ string_bytes text.old ++ (if is_null then tag_text n else [])) }
+{
+    if is_null {
+        return push_tag(n, text);
+    }
+    Ok(())
+}
+
+fn push_part(item: &[u8], n: usize, part: Part, text: &mut String) -> Result<(), AllocError>
+    ensures { OnOk result (string_bytes text.new ≡ string_bytes text.old ++ part_text item.now n part) }
 {
     match part {
         Part::Word(bits, kind) => text.push_str(word_of(item, bits, kind)),
         Part::Number(offset, width) => push_number_at(width, offset, item, text),
         Part::Blank => Ok(()),
+        Part::Tag(a, k, b, m) => push_if(are_zero(item, a, k) && are_zero(item, b, m), n, text),
     }
 }
 
@@ -106,19 +136,25 @@ fn comma(first: bool) -> &'static str
     if first { "" } else { ", " }
 }
 
-fn push_next(item: &[u8], first: bool, part: Part, text: &mut String) -> Result<(), AllocError>
-    ensures { OnOk result (string_bytes text.new ≡ string_bytes text.old ++ (comma first ++ part_text item.now part)) }
+fn push_next(
+    item: &[u8],
+    n: usize,
+    first: bool,
+    part: Part,
+    text: &mut String,
+) -> Result<(), AllocError>
+    ensures { OnOk result (string_bytes text.new ≡ string_bytes text.old ++ (comma first ++ part_text item.now n part)) }
 {
     text.push_str(comma(first))?;
-    push_part(item, part, text)
+    push_part(item, n, part, text)
 }
 
-fn push_parts(item: &[u8], parts: &[Part], text: &mut String) -> Result<(), AllocError>
-    ensures { OnOk result (string_bytes text.new ≡ string_bytes text.old ++ parts_text item.now true parts.now) }
+fn push_parts(item: &[u8], n: usize, parts: &[Part], text: &mut String) -> Result<(), AllocError>
+    ensures { OnOk result (string_bytes text.new ≡ string_bytes text.old ++ parts_text item.now n true parts.now) }
 {
     let mut first = true;
     'parts: for part in parts {
-        push_next(item, first, *part, text)?;
+        push_next(item, n, first, *part, text)?;
         first = false;
     }
     Ok(())
@@ -210,12 +246,17 @@ fn push_tail(tail: Braces, item: &[u8], text: &mut String) -> Result<(), AllocEr
     text.push_str("}")
 }
 
-fn push_row(descriptor: Descriptor, item: &[u8], text: &mut String) -> Result<(), AllocError>
-    ensures { OnOk result (string_bytes text.new ≡ string_bytes text.old ++ row_text (facts descriptor) item.now) }
+fn push_row(
+    descriptor: Descriptor,
+    n: usize,
+    item: &[u8],
+    text: &mut String,
+) -> Result<(), AllocError>
+    ensures { OnOk result (string_bytes text.new ≡ string_bytes text.old ++ row_text (facts descriptor) n item.now) }
 {
     text.push_str(macro_word(descriptor))?;
     text.push_str(" (")?;
-    push_parts(item, parts(descriptor), text)?;
+    push_parts(item, n, parts(descriptor), text)?;
     text.push_str(")")?;
     push_tail(tail(descriptor), item, text)?;
     Ok(())
@@ -269,7 +310,7 @@ fn part_fits(item: &[u8], part: Part) -> bool
 {
     match part {
         Part::Word(bits, kind) => !word_of(item, bits, kind).is_empty(),
-        Part::Number(..) | Part::Blank => true,
+        Part::Number(..) | Part::Blank | Part::Tag(..) => true,
     }
 }
 
@@ -343,18 +384,23 @@ pub fn is_known(item: &[u8]) -> bool
     }
 }
 
-fn push_found(found: Option<Descriptor>, item: &[u8], text: &mut String) -> Result<(), AllocError>
-    ensures { OnOk result (string_bytes text.new ≡ string_bytes text.old ++ found_text found item.now) }
+fn push_found(
+    found: Option<Descriptor>,
+    n: usize,
+    item: &[u8],
+    text: &mut String,
+) -> Result<(), AllocError>
+    ensures { OnOk result (string_bytes text.new ≡ string_bytes text.old ++ found_text found n item.now) }
 {
     match found {
-        Some(descriptor) => push_row(descriptor, item, text),
+        Some(descriptor) => push_row(descriptor, n, item, text),
         None => Ok(()),
     }
 }
 
-/// Adds the macro of an item, if it has one.
-pub fn push_item(item: &[u8], text: &mut String) -> Result<(), AllocError>
-    ensures { OnOk result (string_bytes text.new ≡ string_bytes text.old ++ found_text (found item.now) item.now) }
+/// Adds the macro of an item, if it has one. From the item on the template has n bytes.
+pub fn push_item(item: &[u8], n: usize, text: &mut String) -> Result<(), AllocError>
+    ensures { OnOk result (string_bytes text.new ≡ string_bytes text.old ++ found_text (found item.now) n item.now) }
 {
-    push_found(found(item), item, text)
+    push_found(found(item), n, item, text)
 }

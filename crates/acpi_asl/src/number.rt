@@ -7,7 +7,8 @@ ghost use Rattle.acpi_asl.specs.Number.{string_byte, string_bytes_text, string_t
 
 use std::alloc::AllocError;
 
-fn upper_digit(n: u8) -> char
+/// The digit of a value.
+pub fn upper_digit(n: u8) -> char
     requires { n < 16 }
     ensures { result ≡ upper_digit n }
 {

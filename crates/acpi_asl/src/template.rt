@@ -1,6 +1,6 @@
 //! Resource templates. A function whose name begins with `push` adds to a text.
 
-ghost use Rattle.std.specs.Prelude.{◌≡◌, ◌++◌, ◌∷◌, suc, take, drop, codes, OnOk, string_bytes};
+ghost use Rattle.std.specs.Prelude.{◌≡◌, ◌++◌, ◌∷◌, suc, length, take, drop, codes, OnOk, string_bytes};
 ghost use Rattle.acpi_asl.specs.Place.{new_line};
 ghost use Rattle.acpi_asl.specs.Template.{item_size, found, is_found, found_text, is_zero_alone, is_template, items_text, template_text};
 
@@ -61,10 +61,10 @@ fn push_item_line(
     text: &mut String,
 ) -> Result<(), AllocError>
     ensures { OnOk result (string_bytes text.new ≡ string_bytes text.old
-        ++ (new_line depth ++ found_text (found (take size bytes.now)) (take size bytes.now))) }
+        ++ (new_line depth ++ found_text (found (take size bytes.now)) (length bytes.now) (take size bytes.now))) }
 {
     push_line(depth, text)?;
-    push_item(item(bytes, size), text)
+    push_item(item(bytes, size), bytes.len(), text)
 }
 
 fn push_items(depth: usize, bytes: &[u8], text: &mut String) -> Result<(), AllocError>
