@@ -1,6 +1,6 @@
 -- The names of tables that are only read, and of their structures.
 use Rattle.std.specs.Prelude.{ℕ, List, [], ◌∷◌, codes}
-use Rattle.acpi_forms.specs.Name.{Named}
+use Rattle.acpi_forms.specs.Name.{Named, one_kind, only_read}
 
 -- Firmware Performance Data Table (FPDT)
 abbrev pub fpdt_kinds : List (ℕ × List ℕ)
@@ -116,129 +116,75 @@ pmtt_kinds =
 -- what a machine has when it boots
 abbrev pub boot_tables : List Named
 boot_tables =
-    record { signature = codes "RSDT"; name = codes "Root System Description Table (RSDT)"; kinds = (0, codes "Entry") ∷ [] }
-    ∷ record { signature = codes "HPET"; name = codes "IA-PC High Precision Event Timer Table (HPET)"; kinds = [] }
-    ∷ record { signature = codes "WAET"; name = codes "Windows ACPI Emulated Devices Table (WAET)"; kinds = [] }
-    ∷ record { signature = codes "BGRT"; name = codes "Boot Graphics Resource Table (BGRT)"; kinds = [] }
-    ∷ record { signature = codes "BOOT"; name = codes "Simple Boot Flag Table (BOOT)"; kinds = [] }
-    ∷ record { signature = codes "DBGP"; name = codes "Debug Port Table (DBGP)"; kinds = [] }
-    ∷ record { signature = codes "ECDT"; name = codes "Embedded Controller Boot Resources Table (ECDT)"; kinds = [] }
-    ∷ record { signature = codes "UEFI"; name = codes "UEFI ACPI Data Table (UEFI)"; kinds = [] }
-    ∷ record { signature = codes "FPDT"; name = codes "Firmware Performance Data Table (FPDT)"; kinds = fpdt_kinds }
-    ∷ record { signature = codes "IBFT"; name = codes "iSCSI Boot Firmware Table (iBFT)"; kinds = [] }
-    ∷ record { signature = codes "iBFT"; name = codes "iSCSI Boot Firmware Table (iBFT)"; kinds = [] }
-    ∷ record { signature = codes "WPBT"; name = codes "Windows Platform Binary Table (WPBT)"; kinds = [] }
-    ∷ record { signature = codes "MSDM"; name = codes "Microsoft Data Management Table (MSDM)"; kinds = [] }
-    ∷ record { signature = codes "SLIC"; name = codes "Software Licensing Description Table (SLIC)"; kinds = slic_kinds }
-    ∷ record { signature = codes "RGRT"; name = codes "Regulatory Graphics Resource Table (RGRT)"; kinds = [] }
-    ∷ record { signature = codes "BDAT"; name = codes "BIOS Data ACPI Table (BDAT)"; kinds = [] }
+    only_read "RSDT" "Root System Description Table (RSDT)" (one_kind "Entry")
+    ∷ only_read "HPET" "IA-PC High Precision Event Timer Table (HPET)" []
+    ∷ only_read "WAET" "Windows ACPI Emulated Devices Table (WAET)" []
+    ∷ only_read "BGRT" "Boot Graphics Resource Table (BGRT)" []
+    ∷ only_read "BOOT" "Simple Boot Flag Table (BOOT)" []
+    ∷ only_read "DBGP" "Debug Port Table (DBGP)" []
+    ∷ only_read "ECDT" "Embedded Controller Boot Resources Table (ECDT)" []
+    ∷ only_read "UEFI" "UEFI ACPI Data Table (UEFI)" []
+    ∷ only_read "FPDT" "Firmware Performance Data Table (FPDT)" fpdt_kinds
+    ∷ only_read "IBFT" "iSCSI Boot Firmware Table (iBFT)" []
+    ∷ only_read "iBFT" "iSCSI Boot Firmware Table (iBFT)" []
+    ∷ only_read "WPBT" "Windows Platform Binary Table (WPBT)" []
+    ∷ only_read "MSDM" "Microsoft Data Management Table (MSDM)" []
+    ∷ only_read "SLIC" "Software Licensing Description Table (SLIC)" slic_kinds
+    ∷ only_read "RGRT" "Regulatory Graphics Resource Table (RGRT)" []
+    ∷ only_read "BDAT" "BIOS Data ACPI Table (BDAT)" []
     ∷ []
 
 -- protection, and code outside the operating system
 abbrev pub security_tables : List Named
 security_tables =
-    record { signature = codes "WSMT"; name = codes "Windows SMM Security Mitigations Table (WSMT)"; kinds = [] }
-    ∷ record { signature = codes "CCEL"; name = codes "CC Event Log Table (CCEL)"; kinds = [] }
-    ∷ record { signature = codes "TDEL"; name = codes "TD Event Log Table (TDEL)"; kinds = [] }
-    ∷ record {
-      signature = codes "SVKL";
-      name = codes "Storage Volume Key Location Table (SVKL)";
-      kinds = (0, codes "Key Structure") ∷ [];
-    }
-    ∷ record { signature = codes "SDEV"; name = codes "Secure Devices Table (SDEV)"; kinds = sdev_kinds }
-    ∷ record { signature = codes "DRTM"; name = codes "D-RTM Resources Table (DRTM)"; kinds = [] }
-    ∷ record { signature = codes "XENV"; name = codes "Xen Environment Table (XENV)"; kinds = [] }
-    ∷ record { signature = codes "STAO"; name = codes "Status Override Table (STAO)"; kinds = [] }
-    ∷ record {
-      signature = codes "PRMT";
-      name = codes "Platform Runtime Mechanism Table (PRMT)";
-      kinds = (0, codes "PRM Module Information Structure") ∷ [];
-    }
+    only_read "WSMT" "Windows SMM Security Mitigations Table (WSMT)" []
+    ∷ only_read "CCEL" "CC Event Log Table (CCEL)" []
+    ∷ only_read "TDEL" "TD Event Log Table (TDEL)" []
+    ∷ only_read "SVKL" "Storage Volume Key Location Table (SVKL)" (one_kind "Key Structure")
+    ∷ only_read "SDEV" "Secure Devices Table (SDEV)" sdev_kinds
+    ∷ only_read "DRTM" "D-RTM Resources Table (DRTM)" []
+    ∷ only_read "XENV" "Xen Environment Table (XENV)" []
+    ∷ only_read "STAO" "Status Override Table (STAO)" []
+    ∷ only_read "PRMT" "Platform Runtime Mechanism Table (PRMT)" (one_kind "PRM Module Information Structure")
     ∷ []
 
 -- errors, watchdogs and diagnosis
 abbrev pub faults_tables : List Named
 faults_tables =
-    record {
-      signature = codes "ERST";
-      name = codes "Error Record Serialization Table (ERST)";
-      kinds = (0, codes "Serialization Instruction Entry") ∷ [];
-    }
-    ∷ record {
-      signature = codes "EINJ";
-      name = codes "Error Injection Table (EINJ)";
-      kinds = (0, codes "Injection Instruction Entry") ∷ [];
-    }
-    ∷ record {
-      signature = codes "CPEP";
-      name = codes "Corrected Platform Error Polling Table (CPEP)";
-      kinds = (0, codes "Corrected Platform Error Polling Processor Structure") ∷ [];
-    }
-    ∷ record { signature = codes "RASF"; name = codes "ACPI RAS Feature Table (RASF)"; kinds = [] }
-    ∷ record {
-      signature = codes "RAS2";
-      name = codes "ACPI RAS2 Feature Table (RAS2)";
-      kinds = (0, codes "RAS2 PCC Descriptor") ∷ [];
-    }
-    ∷ record { signature = codes "AEST"; name = codes "Arm Error Source Table (AEST)"; kinds = aest_kinds }
-    ∷ record { signature = codes "PHAT"; name = codes "Platform Health Assessment Table (PHAT)"; kinds = phat_kinds }
-    ∷ record {
-      signature = codes "PDTT";
-      name = codes "Platform Debug Trigger Table (PDTT)";
-      kinds = (0, codes "Trigger Identifier") ∷ [];
-    }
-    ∷ record {
-      signature = codes "AGDI";
-      name = codes "Arm Generic Diagnostic Dump and Reset Interface Table (AGDI)";
-      kinds = [];
-    }
-    ∷ record { signature = codes "SDEI"; name = codes "Software Delegated Exceptions Interface Table (SDEI)"; kinds = [] }
-    ∷ record {
-      signature = codes "WDAT";
-      name = codes "Watchdog Action Table (WDAT)";
-      kinds = (0, codes "Watchdog Instruction Entry") ∷ [];
-    }
-    ∷ record { signature = codes "WDRT"; name = codes "Watchdog Resource Table (WDRT)"; kinds = [] }
-    ∷ record { signature = codes "WDDT"; name = codes "Watchdog Descriptor Table (WDDT)"; kinds = [] }
+    only_read "ERST" "Error Record Serialization Table (ERST)" (one_kind "Serialization Instruction Entry")
+    ∷ only_read "EINJ" "Error Injection Table (EINJ)" (one_kind "Injection Instruction Entry")
+    ∷ only_read "CPEP" "Corrected Platform Error Polling Table (CPEP)"
+    (one_kind "Corrected Platform Error Polling Processor Structure")
+    ∷ only_read "RASF" "ACPI RAS Feature Table (RASF)" []
+    ∷ only_read "RAS2" "ACPI RAS2 Feature Table (RAS2)" (one_kind "RAS2 PCC Descriptor")
+    ∷ only_read "AEST" "Arm Error Source Table (AEST)" aest_kinds
+    ∷ only_read "PHAT" "Platform Health Assessment Table (PHAT)" phat_kinds
+    ∷ only_read "PDTT" "Platform Debug Trigger Table (PDTT)" (one_kind "Trigger Identifier")
+    ∷ only_read "AGDI" "Arm Generic Diagnostic Dump and Reset Interface Table (AGDI)" []
+    ∷ only_read "SDEI" "Software Delegated Exceptions Interface Table (SDEI)" []
+    ∷ only_read "WDAT" "Watchdog Action Table (WDAT)" (one_kind "Watchdog Instruction Entry")
+    ∷ only_read "WDRT" "Watchdog Resource Table (WDRT)" []
+    ∷ only_read "WDDT" "Watchdog Descriptor Table (WDDT)" []
     ∷ []
 
 -- devices and memory
 abbrev pub devices_tables : List Named
 devices_tables =
-    record { signature = codes "DMAR"; name = codes "DMA Remapping Reporting Table (DMAR)"; kinds = dmar_kinds }
-    ∷ record { signature = codes "IVRS"; name = codes "I/O Virtualization Reporting Structure (IVRS)"; kinds = ivrs_kinds }
-    ∷ record { signature = codes "NFIT"; name = codes "NVDIMM Firmware Interface Table (NFIT)"; kinds = nfit_kinds }
-    ∷ record { signature = codes "PCCT"; name = codes "Platform Communications Channel Table (PCCT)"; kinds = pcct_kinds }
-    ∷ record {
-      signature = codes "LPIT";
-      name = codes "Low Power Idle Table (LPIT)";
-      kinds = (0, codes "Native C-State Instruction Structure") ∷ [];
-    }
-    ∷ record {
-      signature = codes "MSCT";
-      name = codes "Maximum System Characteristics Table (MSCT)";
-      kinds = (0, codes "Maximum Proximity Domain Information Structure") ∷ [];
-    }
-    ∷ record { signature = codes "MPST"; name = codes "Memory Power State Table (MPST)"; kinds = [] }
-    ∷ record { signature = codes "PMTT"; name = codes "Platform Memory Topology Table (PMTT)"; kinds = pmtt_kinds }
-    ∷ record {
-      signature = codes "MPAM";
-      name = codes "Memory System Resource Partitioning and Monitoring Table (MPAM)";
-      kinds = (0, codes "MPAM MSC Node") ∷ [];
-    }
-    ∷ record {
-      signature = codes "APMT";
-      name = codes "Arm Performance Monitoring Unit Table (APMT)";
-      kinds = (0, codes "Arm Performance Monitoring Unit Node") ∷ [];
-    }
-    ∷ record {
-      signature = codes "CSRT";
-      name = codes "Core System Resource Table (CSRT)";
-      kinds = (0, codes "Resource Group") ∷ [];
-    }
-    ∷ record { signature = codes "NHLT"; name = codes "Non-HD Audio Link Table (NHLT)"; kinds = [] }
-    ∷ record { signature = codes "SBST"; name = codes "Smart Battery Specification Table (SBST)"; kinds = [] }
-    ∷ record { signature = codes "MCHI"; name = codes "Management Controller Host Interface Table (MCHI)"; kinds = [] }
-    ∷ record { signature = codes "SPMI"; name = codes "Service Processor Management Interface Table (SPMI)"; kinds = [] }
-    ∷ record { signature = codes "ASF!"; name = codes "Alert Standard Format Table (ASF!)"; kinds = asf_kinds }
+    only_read "DMAR" "DMA Remapping Reporting Table (DMAR)" dmar_kinds
+    ∷ only_read "IVRS" "I/O Virtualization Reporting Structure (IVRS)" ivrs_kinds
+    ∷ only_read "NFIT" "NVDIMM Firmware Interface Table (NFIT)" nfit_kinds
+    ∷ only_read "PCCT" "Platform Communications Channel Table (PCCT)" pcct_kinds
+    ∷ only_read "LPIT" "Low Power Idle Table (LPIT)" (one_kind "Native C-State Instruction Structure")
+    ∷ only_read "MSCT" "Maximum System Characteristics Table (MSCT)"
+    (one_kind "Maximum Proximity Domain Information Structure")
+    ∷ only_read "MPST" "Memory Power State Table (MPST)" []
+    ∷ only_read "PMTT" "Platform Memory Topology Table (PMTT)" pmtt_kinds
+    ∷ only_read "MPAM" "Memory System Resource Partitioning and Monitoring Table (MPAM)" (one_kind "MPAM MSC Node")
+    ∷ only_read "APMT" "Arm Performance Monitoring Unit Table (APMT)" (one_kind "Arm Performance Monitoring Unit Node")
+    ∷ only_read "CSRT" "Core System Resource Table (CSRT)" (one_kind "Resource Group")
+    ∷ only_read "NHLT" "Non-HD Audio Link Table (NHLT)" []
+    ∷ only_read "SBST" "Smart Battery Specification Table (SBST)" []
+    ∷ only_read "MCHI" "Management Controller Host Interface Table (MCHI)" []
+    ∷ only_read "SPMI" "Service Processor Management Interface Table (SPMI)" []
+    ∷ only_read "ASF!" "Alert Standard Format Table (ASF!)" asf_kinds
     ∷ []

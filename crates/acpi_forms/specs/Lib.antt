@@ -1,3 +1,11 @@
+pub mod Rows
+pub mod FixedForms
+pub mod ListForms
+pub mod HestForms
+pub mod NodeForms
+pub mod MatrixForms
+pub mod ArmForms
+pub mod Written
 pub mod Name
 pub mod FurtherNames
 pub mod Named

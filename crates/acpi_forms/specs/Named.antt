@@ -3,6 +3,10 @@ use Rattle.std.specs.Prelude.{ℕ, ◌==◌, List, [], ◌∷◌, codes, if◌th
 use Rattle.acpi_base.specs.Walk.{named}
 use Rattle.acpi_text.specs.declared.form.TableForm.{TableForm}
 use Rattle.acpi_forms.specs.FurtherNames.{boot_tables, security_tables, faults_tables, devices_tables}
+use Rattle.acpi_forms.specs.Written.{the_bert, the_cedt, the_dbg2, the_facs, the_fadt, the_gtdt, the_header, the_hest}
+use Rattle.acpi_forms.specs.Written.{the_hmat, the_iort, the_madt, the_mcfg, the_pptt, the_rhct, the_rimt, the_rqsc}
+use Rattle.acpi_forms.specs.Written.{the_rsdp, the_slit, the_spcr, the_srat, the_tcpa, the_tpm2, the_viot, the_xsdt}
+use Rattle.acpi_forms.specs.Name.{named_as, one_kind}
 pub use Rattle.acpi_forms.specs.Name.{Named, kinds, IsNamed}
 
 -- the form beside a signature, or another form
@@ -15,7 +19,7 @@ abbrev pub find_named : ℕ → List Named → Named → Named
 find_named s [] other = other
 find_named s (n ∷ more) other = if s == named n.signature then n else find_named s more other
 
--- ---- the tables that have forms
+-- ---- the structures of tables that are written
 
 -- the structures of MADT (ACPI 6.5, 5.2.12)
 abbrev pub madt_kinds : List (ℕ × List ℕ)
@@ -122,103 +126,146 @@ iort_kinds =
     ∷ (6, codes "Reserved Memory Range (RMR)")
     ∷ []
 
+-- ---- tables that are written
+
+abbrev pub xsdt_names : Named
+xsdt_names = named_as the_xsdt "XSDT" "Extended System Description Table (XSDT)" (one_kind "Entry")
+
+abbrev pub fadt_names : Named
+fadt_names = named_as the_fadt "FACP" "Fixed ACPI Description Table (FADT)" []
+
+abbrev pub facs_names : Named
+facs_names = named_as the_facs "FACS" "Firmware ACPI Control Structure (FACS)" []
+
+abbrev pub dsdt_names : Named
+dsdt_names = named_as the_header "DSDT" "Differentiated System Description Table (DSDT)" []
+
+abbrev pub ssdt_names : Named
+ssdt_names = named_as the_header "SSDT" "Secondary System Description Table (SSDT)" []
+
+abbrev pub bert_names : Named
+bert_names = named_as the_bert "BERT" "Boot Error Record Table (BERT)" []
+
+abbrev pub spcr_names : Named
+spcr_names = named_as the_spcr "SPCR" "Serial Port Console Redirection Table (SPCR)" []
+
+abbrev pub tcpa_names : Named
+tcpa_names = named_as the_tcpa "TCPA" "Trusted Computing Platform Alliance Capabilities Table (TCPA)" []
+
+abbrev pub tpm2_names : Named
+tpm2_names = named_as the_tpm2 "TPM2" "Trusted Platform Module 2 Table (TPM2)" []
+
+abbrev pub mcfg_names : Named
+mcfg_names =
+    named_as the_mcfg "MCFG" "PCI Express Memory Mapped Configuration Table (MCFG)"
+    (one_kind "Configuration Space Base Address Allocation Structure")
+
+abbrev pub srat_names : Named
+srat_names = named_as the_srat "SRAT" "System Resource Affinity Table (SRAT)" srat_kinds
+
+abbrev pub cedt_names : Named
+cedt_names = named_as the_cedt "CEDT" "CXL Early Discovery Table (CEDT)" cedt_kinds
+
+abbrev pub madt_names : Named
+madt_names = named_as the_madt "APIC" "Multiple APIC Description Table (MADT)" madt_kinds
+
+abbrev pub hest_names : Named
+hest_names = named_as the_hest "HEST" "Hardware Error Source Table (HEST)" hest_kinds
+
+abbrev pub rqsc_names : Named
+rqsc_names = named_as the_rqsc "RQSC" "RISC-V Quality of Service Controllers Table (RQSC) (this project's profile)" rqsc_kinds
+
+abbrev pub pptt_names : Named
+pptt_names = named_as the_pptt "PPTT" "Processor Properties Topology Table (PPTT)" pptt_kinds
+
+abbrev pub rhct_names : Named
+rhct_names = named_as the_rhct "RHCT" "RISC-V Hart Capabilities Table (RHCT)" rhct_kinds
+
+abbrev pub viot_names : Named
+viot_names = named_as the_viot "VIOT" "Virtual I/O Translation Table (VIOT)" viot_kinds
+
+abbrev pub rimt_names : Named
+rimt_names = named_as the_rimt "RIMT" "RISC-V IO Mapping Table (RIMT) (this project's profile)" rimt_kinds
+
+abbrev pub hmat_names : Named
+hmat_names = named_as the_hmat "HMAT" "Heterogeneous Memory Attribute Table (HMAT)" hmat_kinds
+
+abbrev pub slit_names : Named
+slit_names = named_as the_slit "SLIT" "System Locality Information Table (SLIT)" []
+
+abbrev pub gtdt_names : Named
+gtdt_names = named_as the_gtdt "GTDT" "Generic Timer Description Table (GTDT)" gtdt_kinds
+
+abbrev pub dbg2_names : Named
+dbg2_names = named_as the_dbg2 "DBG2" "Debug Port Table 2 (DBG2)" (one_kind "Debug Device Information Structure")
+
+abbrev pub iort_names : Named
+iort_names = named_as the_iort "IORT" "IO Remapping Table (IORT)" iort_kinds
+
+abbrev pub rsdp_names : Named
+rsdp_names = named_as the_rsdp "RSD PTR " "Root System Description Pointer (RSDP)" []
+
+-- a table of another signature
+abbrev pub unknown : Named
+unknown = named_as the_header "" "Unknown table" []
+
+-- tables of fixed size, and of structures that don't name each other
 abbrev pub tables : List Named
 tables =
-    record { signature = codes "XSDT"; name = codes "Extended System Description Table (XSDT)"; kinds = (0, codes "Entry") ∷ [] }
-    ∷ record { signature = codes "FACP"; name = codes "Fixed ACPI Description Table (FADT)"; kinds = [] }
-    ∷ record { signature = codes "FACS"; name = codes "Firmware ACPI Control Structure (FACS)"; kinds = [] }
-    ∷ record { signature = codes "DSDT"; name = codes "Differentiated System Description Table (DSDT)"; kinds = [] }
-    ∷ record { signature = codes "SSDT"; name = codes "Secondary System Description Table (SSDT)"; kinds = [] }
-    ∷ record { signature = codes "BERT"; name = codes "Boot Error Record Table (BERT)"; kinds = [] }
-    ∷ record { signature = codes "SPCR"; name = codes "Serial Port Console Redirection Table (SPCR)"; kinds = [] }
-    ∷ record {
-      signature = codes "TCPA";
-      name = codes "Trusted Computing Platform Alliance Capabilities Table (TCPA)";
-      kinds = [];
-    }
-    ∷ record { signature = codes "TPM2"; name = codes "Trusted Platform Module 2 Table (TPM2)"; kinds = [] }
-    ∷ record {
-      signature = codes "MCFG";
-      name = codes "PCI Express Memory Mapped Configuration Table (MCFG)";
-      kinds = (0, codes "Configuration Space Base Address Allocation Structure") ∷ [];
-    }
-    ∷ record { signature = codes "SRAT"; name = codes "System Resource Affinity Table (SRAT)"; kinds = srat_kinds }
-    ∷ record { signature = codes "CEDT"; name = codes "CXL Early Discovery Table (CEDT)"; kinds = cedt_kinds }
-    ∷ []
-
--- the MADT
-abbrev pub madt_tables : List Named
-madt_tables =
-    record { signature = codes "APIC"; name = codes "Multiple APIC Description Table (MADT)"; kinds = madt_kinds }
+    xsdt_names
+    ∷ fadt_names
+    ∷ facs_names
+    ∷ dsdt_names
+    ∷ ssdt_names
+    ∷ bert_names
+    ∷ spcr_names
+    ∷ tcpa_names
+    ∷ tpm2_names
+    ∷ mcfg_names
+    ∷ madt_names
+    ∷ srat_names
+    ∷ cedt_names
     ∷ []
 
 -- tables of errors, of nodes and of matrices
 abbrev pub node_tables : List Named
 node_tables =
-    record { signature = codes "HEST"; name = codes "Hardware Error Source Table (HEST)"; kinds = hest_kinds }
-    ∷ record {
-      signature = codes "RQSC";
-      name = codes "RISC-V Quality of Service Controllers Table (RQSC) (this project's profile)";
-      kinds = rqsc_kinds;
-    }
-    ∷ record { signature = codes "PPTT"; name = codes "Processor Properties Topology Table (PPTT)"; kinds = pptt_kinds }
-    ∷ record { signature = codes "RHCT"; name = codes "RISC-V Hart Capabilities Table (RHCT)"; kinds = rhct_kinds }
-    ∷ record { signature = codes "VIOT"; name = codes "Virtual I/O Translation Table (VIOT)"; kinds = viot_kinds }
-    ∷ record {
-      signature = codes "RIMT";
-      name = codes "RISC-V IO Mapping Table (RIMT) (this project's profile)";
-      kinds = rimt_kinds;
-    }
-    ∷ record { signature = codes "HMAT"; name = codes "Heterogeneous Memory Attribute Table (HMAT)"; kinds = hmat_kinds }
-    ∷ record { signature = codes "SLIT"; name = codes "System Locality Information Table (SLIT)"; kinds = [] }
+    hest_names
+    ∷ rqsc_names
+    ∷ pptt_names
+    ∷ rhct_names
+    ∷ viot_names
+    ∷ rimt_names
+    ∷ hmat_names
+    ∷ slit_names
     ∷ []
 
 -- tables of an Arm machine
 abbrev pub arm_tables : List Named
-arm_tables =
-    record { signature = codes "GTDT"; name = codes "Generic Timer Description Table (GTDT)"; kinds = gtdt_kinds }
-    ∷ record {
-      signature = codes "DBG2";
-      name = codes "Debug Port Table 2 (DBG2)";
-      kinds = (0, codes "Debug Device Information Structure") ∷ [];
-    }
-    ∷ record { signature = codes "IORT"; name = codes "IO Remapping Table (IORT)"; kinds = iort_kinds }
-    ∷ []
+arm_tables = gtdt_names ∷ dbg2_names ∷ iort_names ∷ []
 
--- the records that have no standard header (ACPI 6.5, 5.2.5.3 and 5.2.10)
-abbrev pub rsdp_names : Named
-rsdp_names = record { signature = codes "RSD PTR "; name = codes "Root System Description Pointer (RSDP)"; kinds = [] }
-
-abbrev pub facs_names : Named
-facs_names = record { signature = codes "FACS"; name = codes "Firmware ACPI Control Structure (FACS)"; kinds = [] }
-
--- a table of another signature
-abbrev pub unknown : Named
-unknown = record { signature = []; name = codes "Unknown table"; kinds = [] }
+-- ---- the names of a signature
 
 -- the names of the tables of a signature that are only read, by the lists of these
-abbrev pub devices_names : ℕ → Named
-devices_names s = find_named s devices_tables unknown
+abbrev pub named_devices : ℕ → Named
+named_devices s = find_named s devices_tables unknown
 
-abbrev pub faults_names : ℕ → Named
-faults_names s = find_named s faults_tables (devices_names s)
+abbrev pub named_faults : ℕ → Named
+named_faults s = find_named s faults_tables (named_devices s)
 
-abbrev pub security_names : ℕ → Named
-security_names s = find_named s security_tables (faults_names s)
+abbrev pub named_security : ℕ → Named
+named_security s = find_named s security_tables (named_faults s)
 
-abbrev pub boot_names : ℕ → Named
-boot_names s = find_named s boot_tables (security_names s)
+abbrev pub named_boot : ℕ → Named
+named_boot s = find_named s boot_tables (named_security s)
 
 -- the names of the tables of a signature that are written, too, by the lists of these
-abbrev pub arm_names : ℕ → Named
-arm_names s = find_named s arm_tables (boot_names s)
+abbrev pub named_arm : ℕ → Named
+named_arm s = find_named s arm_tables (named_boot s)
 
-abbrev pub node_names : ℕ → Named
-node_names s = find_named s node_tables (arm_names s)
-
-abbrev pub madt_names : ℕ → Named
-madt_names s = find_named s madt_tables (node_names s)
+abbrev pub named_node : ℕ → Named
+named_node s = find_named s node_tables (named_arm s)
 
 -- the names of the tables of a signature, which is given as a number, lowest byte first
 unfoldable pub names_of : ℕ → Named
-names_of s = find_named s tables (madt_names s)
+names_of s = find_named s tables (named_node s)

@@ -1,5 +1,7 @@
 //! The forms of the tables of an Arm machine.
 
+ghost use Rattle.acpi_forms.specs.Named.{IsNamed, gtdt_names, dbg2_names, iort_names};
+
 use acpi_arm::dbg2::DEBUG_DEVICE;
 use acpi_arm::gtdt::{GENERIC_WATCHDOG, GT_BLOCK, GT_BLOCK_TIMER, GTDT_FIXED, GTDT_LAST};
 use acpi_arm::iort::{
@@ -35,8 +37,7 @@ const GTDT_TIMERS: [StructureForm; 2] = [
     },
 ];
 
-/// The Generic Timer Description Table (ACPI 6.5, 5.2.25).
-pub const GTDT: TableForm = TableForm {
+const GTDT: TableForm = TableForm {
     name: "Generic Timer Description Table (GTDT)",
     parts: &[
         Part::Fields(&HEADER),
@@ -47,8 +48,14 @@ pub const GTDT: TableForm = TableForm {
     structures: &GTDT_TIMERS,
 };
 
-/// The Debug Port Table 2 (Microsoft).
-pub const DBG2: TableForm = TableForm {
+/// Returns the form of the Generic Timer Description Table (ACPI 6.5, 5.2.25).
+pub fn gtdt_form() -> TableForm
+    ensures { IsNamed result gtdt_names }
+{
+    GTDT
+}
+
+const DBG2: TableForm = TableForm {
     name: "Debug Port Table 2 (DBG2)",
     parts: &[
         Part::Fields(&HEADER),
@@ -78,6 +85,13 @@ pub const DBG2: TableForm = TableForm {
         inner: &Inner::Nothing,
     }],
 };
+
+/// Returns the form of the Debug Port Table 2 (Microsoft).
+pub fn dbg2_form() -> TableForm
+    ensures { IsNamed result dbg2_names }
+{
+    DBG2
+}
 
 const NO_PASID: [Row; 1] = [Row::Reserved(3)];
 
@@ -187,8 +201,7 @@ const IORT_NODES: [StructureForm; 7] = [
     },
 ];
 
-/// The IO Remapping Table (Arm DEN0049E.d).
-pub const IORT: TableForm = TableForm {
+const IORT: TableForm = TableForm {
     name: "IO Remapping Table (IORT)",
     parts: &[
         Part::Fields(&HEADER),
@@ -200,3 +213,10 @@ pub const IORT: TableForm = TableForm {
     ],
     structures: &IORT_NODES,
 };
+
+/// Returns the form of the IO Remapping Table (Arm DEN0049E.d).
+pub fn iort_form() -> TableForm
+    ensures { IsNamed result iort_names }
+{
+    IORT
+}

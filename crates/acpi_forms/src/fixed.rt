@@ -1,5 +1,8 @@
 //! The forms of tables and records of fixed size.
 
+ghost use Rattle.acpi_forms.specs.Named.{IsNamed, rsdp_names, facs_names, bert_names, fadt_names};
+ghost use Rattle.acpi_forms.specs.Named.{spcr_names, tcpa_names, tpm2_names, dsdt_names, ssdt_names, unknown};
+
 use acpi_base::header::HEADER;
 use acpi_base::walk::Place;
 use acpi_fixed::bert::BERT_ROWS;
@@ -10,36 +13,59 @@ use acpi_fixed::spcr::SPCR_ROWS;
 use acpi_fixed::tpm2::{TCPA_CLIENT, TCPA_SERVER, TPM2_FIXED};
 use acpi_text::form::{Choice, Part, TableForm};
 
-/// The Root System Description Pointer, which has no standard header (ACPI 6.5, 5.2.5.3).
-pub const RSDP: TableForm = TableForm {
+const RSDP: TableForm = TableForm {
     name: "Root System Description Pointer (RSDP)",
     parts: &[Part::Fields(&RSDP_ROWS)],
     structures: &[],
 };
 
-/// The Firmware ACPI Control Structure, which has no standard header (ACPI 6.5, 5.2.10).
-pub const FACS: TableForm = TableForm {
+/// Returns the form of the Root System Description Pointer, which has no standard header (ACPI 6.5, 5.2.5.3).
+pub fn rsdp_form() -> TableForm
+    ensures { IsNamed result rsdp_names }
+{
+    RSDP
+}
+
+const FACS: TableForm = TableForm {
     name: "Firmware ACPI Control Structure (FACS)",
     parts: &[Part::Fields(&FACS_ROWS)],
     structures: &[],
 };
 
-/// The Boot Error Record Table (ACPI 6.5, 18.3.1).
-pub const BERT: TableForm = TableForm {
+/// Returns the form of the Firmware ACPI Control Structure, which has no standard header (ACPI 6.5, 5.2.10).
+pub fn facs_form() -> TableForm
+    ensures { IsNamed result facs_names }
+{
+    FACS
+}
+
+const BERT: TableForm = TableForm {
     name: "Boot Error Record Table (BERT)",
     parts: &[Part::Fields(&HEADER), Part::Fields(&BERT_ROWS)],
     structures: &[],
 };
 
-/// The Fixed ACPI Description Table (ACPI 6.5, 5.2.9).
-pub const FADT: TableForm = TableForm {
+/// Returns the form of the Boot Error Record Table (ACPI 6.5, 18.3.1).
+pub fn bert_form() -> TableForm
+    ensures { IsNamed result bert_names }
+{
+    BERT
+}
+
+const FADT: TableForm = TableForm {
     name: "Fixed ACPI Description Table (FADT)",
     parts: &[Part::Fields(&HEADER), Part::Fields(&FADT_ROWS)],
     structures: &[],
 };
 
-/// The Serial Port Console Redirection Table (Microsoft, revision 4).
-pub const SPCR: TableForm = TableForm {
+/// Returns the form of the Fixed ACPI Description Table (ACPI 6.5, 5.2.9).
+pub fn fadt_form() -> TableForm
+    ensures { IsNamed result fadt_names }
+{
+    FADT
+}
+
+const SPCR: TableForm = TableForm {
     name: "Serial Port Console Redirection Table (SPCR)",
     parts: &[
         Part::Fields(&HEADER),
@@ -49,6 +75,13 @@ pub const SPCR: TableForm = TableForm {
     ],
     structures: &[],
 };
+
+/// Returns the form of the Serial Port Console Redirection Table (Microsoft, revision 4).
+pub fn spcr_form() -> TableForm
+    ensures { IsNamed result spcr_names }
+{
+    SPCR
+}
 
 // A TCPA by its platform class (offset 36).
 const PLATFORM_CLASSES: [Choice; 2] = [
@@ -64,8 +97,7 @@ const PLATFORM_CLASSES: [Choice; 2] = [
     },
 ];
 
-/// The Trusted Computing Platform Alliance Capabilities Table, of a client or a server (TCG ACPI Specification 1.4, 7).
-pub const TCPA: TableForm = TableForm {
+const TCPA: TableForm = TableForm {
     name: "Trusted Computing Platform Alliance Capabilities Table (TCPA)",
     parts: &[
         Part::Fields(&HEADER),
@@ -74,30 +106,63 @@ pub const TCPA: TableForm = TableForm {
     structures: &[],
 };
 
-/// The Trusted Platform Module 2 Table (TCG ACPI Specification 1.4, 8).
-pub const TPM2: TableForm = TableForm {
+/// Returns the form of the Trusted Computing Platform Alliance Capabilities Table, of a client or a server (TCG ACPI Specification
+/// 1.4, 7).
+pub fn tcpa_form() -> TableForm
+    ensures { IsNamed result tcpa_names }
+{
+    TCPA
+}
+
+const TPM2: TableForm = TableForm {
     name: "Trusted Platform Module 2 Table (TPM2)",
     parts: &[Part::Fields(&HEADER), Part::Fields(&TPM2_FIXED)],
     structures: &[],
 };
 
-/// The Differentiated System Description Table, whose AML follows its header (ACPI 6.5, 5.2.11.1).
-pub const DSDT: TableForm = TableForm {
+/// Returns the form of the Trusted Platform Module 2 Table (TCG ACPI Specification 1.4, 8).
+pub fn tpm2_form() -> TableForm
+    ensures { IsNamed result tpm2_names }
+{
+    TPM2
+}
+
+const DSDT: TableForm = TableForm {
     name: "Differentiated System Description Table (DSDT)",
     parts: &[Part::Fields(&HEADER)],
     structures: &[],
 };
 
-/// A Secondary System Description Table, whose AML follows its header (ACPI 6.5, 5.2.11.2).
-pub const SSDT: TableForm = TableForm {
+/// Returns the form of the Differentiated System Description Table, whose AML follows its header (ACPI 6.5, 5.2.11.1).
+pub fn dsdt_form() -> TableForm
+    ensures { IsNamed result dsdt_names }
+{
+    DSDT
+}
+
+const SSDT: TableForm = TableForm {
     name: "Secondary System Description Table (SSDT)",
     parts: &[Part::Fields(&HEADER)],
     structures: &[],
 };
 
-/// A table of another signature: its header.
+/// Returns the form of a Secondary System Description Table, whose AML follows its header (ACPI 6.5, 5.2.11.2).
+pub fn ssdt_form() -> TableForm
+    ensures { IsNamed result ssdt_names }
+{
+    SSDT
+}
+
+/// The form of a table of another signature: its header.
 pub const UNKNOWN: TableForm = TableForm {
     name: "Unknown table",
     parts: &[Part::Fields(&HEADER)],
     structures: &[],
 };
+
+/// Returns that form.
+pub fn unknown_form() -> TableForm
+    ensures { IsNamed result unknown }
+{
+    UNKNOWN
+}

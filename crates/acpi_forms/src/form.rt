@@ -2,62 +2,21 @@
 
 ghost use Rattle.std.specs.Prelude.{◌≡◌};
 ghost use Rattle.acpi_base.specs.Walk.{named};
-ghost use Rattle.acpi_forms.specs.Named.{find_form, names_of, rsdp_names, facs_names, IsNamed};
-ghost use Rattle.acpi_forms.specs.Named.{boot_names, security_names, faults_names, devices_names};
-ghost use Rattle.acpi_forms.specs.Named.{madt_names, node_names, arm_names};
+ghost use Rattle.acpi_forms.specs.Named.{find_form, names_of, IsNamed};
+ghost use Rattle.acpi_forms.specs.Named.{named_boot, named_security, named_faults, named_devices};
+ghost use Rattle.acpi_forms.specs.Named.{named_node, named_arm};
 
-use crate::arm::{DBG2, GTDT, IORT};
-use crate::fixed::{BERT, DSDT, FACS, FADT, RSDP, SPCR, SSDT, TCPA, TPM2, UNKNOWN};
+use crate::arm::{dbg2_form, gtdt_form, iort_form};
+use crate::fixed::{
+    bert_form, dsdt_form, fadt_form, spcr_form, ssdt_form, tcpa_form, tpm2_form, unknown_form,
+};
+pub use crate::fixed::{facs_form, rsdp_form};
 use crate::further::{BOOT_FORMS, DEVICES_FORMS, FAULTS_FORMS, SECURITY_FORMS};
-use crate::hest::{HEST, RQSC};
-use crate::lists::{CEDT, MADT, MCFG, SRAT, XSDT};
-use crate::matrices::{HMAT, SLIT};
-use crate::nodes::{PPTT, RHCT, RIMT, VIOT};
+use crate::hest::{hest_form, rqsc_form};
+use crate::lists::{cedt_form, madt_form, mcfg_form, srat_form, xsdt_form};
+use crate::matrices::{hmat_form, slit_form};
+use crate::nodes::{pptt_form, rhct_form, rimt_form, viot_form};
 use acpi_text::form::TableForm;
-
-// The forms of tables, by their signatures: of tables of fixed size, and of lists of structures.
-#[rattlefmt::skip]
-const FORMS: [([u8; 4], TableForm); 12] = [
-    (*b"XSDT", XSDT),
-    (*b"FACP", FADT),
-    (*b"FACS", FACS),
-    (*b"DSDT", DSDT),
-    (*b"SSDT", SSDT),
-    (*b"BERT", BERT),
-    (*b"SPCR", SPCR),
-    (*b"TCPA", TCPA),
-    (*b"TPM2", TPM2),
-    (*b"MCFG", MCFG),
-    (*b"SRAT", SRAT),
-    (*b"CEDT", CEDT),
-];
-
-// That of the MADT, which has as many structures as the tables of a list together.
-#[rattlefmt::skip]
-const MADT_FORMS: [([u8; 4], TableForm); 1] = [
-    (*b"APIC", MADT),
-];
-
-// Those of tables of errors, of nodes and of matrices.
-#[rattlefmt::skip]
-const NODE_FORMS: [([u8; 4], TableForm); 8] = [
-    (*b"HEST", HEST),
-    (*b"RQSC", RQSC),
-    (*b"PPTT", PPTT),
-    (*b"RHCT", RHCT),
-    (*b"VIOT", VIOT),
-    (*b"RIMT", RIMT),
-    (*b"HMAT", HMAT),
-    (*b"SLIT", SLIT),
-];
-
-// Those of tables of an Arm machine.
-#[rattlefmt::skip]
-const ARM_FORMS: [([u8; 4], TableForm); 3] = [
-    (*b"GTDT", GTDT),
-    (*b"DBG2", DBG2),
-    (*b"IORT", IORT),
-];
 
 // A signature as a number, lowest byte first.
 fn number(signature: &[u8; 4]) -> u32
@@ -82,65 +41,80 @@ fn find_form(signature: u32, rows: &[([u8; 4], TableForm)], other: TableForm) ->
 // Each list has a function of its own, since the proof goes through the whole list. The first four are those of tables that are
 // only read.
 fn devices_form(signature: u32) -> TableForm
-    ensures { IsNamed result (devices_names signature) }
+    ensures { IsNamed result (named_devices signature) }
 {
-    find_form(signature, &DEVICES_FORMS, UNKNOWN)
+    find_form(signature, &DEVICES_FORMS, unknown_form())
 }
 
 fn faults_form(signature: u32) -> TableForm
-    ensures { IsNamed result (faults_names signature) }
+    ensures { IsNamed result (named_faults signature) }
 {
     find_form(signature, &FAULTS_FORMS, devices_form(signature))
 }
 
 fn security_form(signature: u32) -> TableForm
-    ensures { IsNamed result (security_names signature) }
+    ensures { IsNamed result (named_security signature) }
 {
     find_form(signature, &SECURITY_FORMS, faults_form(signature))
 }
 
 fn boot_form(signature: u32) -> TableForm
-    ensures { IsNamed result (boot_names signature) }
+    ensures { IsNamed result (named_boot signature) }
 {
     find_form(signature, &BOOT_FORMS, security_form(signature))
 }
 
+// Returns the form of a table of an Arm machine, or that of a table which is only read.
+#[rattlefmt::skip]
 fn arm_form(signature: u32) -> TableForm
-    ensures { IsNamed result (arm_names signature) }
+    ensures { IsNamed result (named_arm signature) }
 {
-    find_form(signature, &ARM_FORMS, boot_form(signature))
+    let other = boot_form(signature);
+    find_form(signature, &[
+        (*b"GTDT", gtdt_form()),
+        (*b"DBG2", dbg2_form()),
+        (*b"IORT", iort_form()),
+    ], other)
 }
 
+// Returns the form of a table of errors, of nodes or of matrices, or one of those above.
+#[rattlefmt::skip]
 fn node_form(signature: u32) -> TableForm
-    ensures { IsNamed result (node_names signature) }
+    ensures { IsNamed result (named_node signature) }
 {
-    find_form(signature, &NODE_FORMS, arm_form(signature))
-}
-
-fn madt_form(signature: u32) -> TableForm
-    ensures { IsNamed result (madt_names signature) }
-{
-    find_form(signature, &MADT_FORMS, node_form(signature))
+    let other = arm_form(signature);
+    find_form(signature, &[
+        (*b"HEST", hest_form()),
+        (*b"RQSC", rqsc_form()),
+        (*b"PPTT", pptt_form()),
+        (*b"RHCT", rhct_form()),
+        (*b"VIOT", viot_form()),
+        (*b"RIMT", rimt_form()),
+        (*b"HMAT", hmat_form()),
+        (*b"SLIT", slit_form()),
+    ], other)
 }
 
 /// Returns the form of the tables of a signature, which is given as a number, lowest byte first. A table of another signature
 /// has the form of a table that isn't known: its header.
+#[rattlefmt::skip]
 pub fn form_of(signature: u32) -> TableForm
     ensures { IsNamed result (names_of signature) }
 {
-    find_form(signature, &FORMS, madt_form(signature))
-}
-
-/// Returns the form of a Root System Description Pointer (ACPI 6.5, 5.2.5.3), which has no standard header.
-pub fn rsdp_form() -> TableForm
-    ensures { IsNamed result rsdp_names }
-{
-    RSDP
-}
-
-/// Returns the form of a Firmware ACPI Control Structure (ACPI 6.5, 5.2.10), which has no standard header.
-pub fn facs_form() -> TableForm
-    ensures { IsNamed result facs_names }
-{
-    FACS
+    let other = node_form(signature);
+    find_form(signature, &[
+        (*b"XSDT", xsdt_form()),
+        (*b"FACP", fadt_form()),
+        (*b"FACS", facs_form()),
+        (*b"DSDT", dsdt_form()),
+        (*b"SSDT", ssdt_form()),
+        (*b"BERT", bert_form()),
+        (*b"SPCR", spcr_form()),
+        (*b"TCPA", tcpa_form()),
+        (*b"TPM2", tpm2_form()),
+        (*b"MCFG", mcfg_form()),
+        (*b"APIC", madt_form()),
+        (*b"SRAT", srat_form()),
+        (*b"CEDT", cedt_form()),
+    ], other)
 }

@@ -1,5 +1,7 @@
 //! The forms of HEST and RQSC.
 
+ghost use Rattle.acpi_forms.specs.Named.{IsNamed, hest_names, rqsc_names};
+
 use acpi_base::header::HEADER;
 use acpi_base::row::Row;
 use acpi_base::walk::{Place, Sizes};
@@ -55,8 +57,7 @@ const SOURCES: [StructureForm; 5] = [
     },
 ];
 
-/// The Hardware Error Source Table (ACPI 6.5, 18.3.2).
-pub const HEST: TableForm = TableForm {
+const HEST: TableForm = TableForm {
     name: "Hardware Error Source Table (HEST)",
     parts: &[
         Part::Fields(&HEADER),
@@ -64,6 +65,13 @@ pub const HEST: TableForm = TableForm {
     ],
     structures: &SOURCES,
 };
+
+/// Returns the form of the Hardware Error Source Table (ACPI 6.5, 18.3.2).
+pub fn hest_form() -> TableForm
+    ensures { IsNamed result hest_names }
+{
+    HEST
+}
 
 // A resource by its identifier type (offset 7).
 const RESOURCE_IDS: [Choice; 4] = [
@@ -117,8 +125,7 @@ const CONTROLLERS: [StructureForm; 2] = [
     },
 ];
 
-/// The RISC-V Quality of Service Controllers Table (this project's profile).
-pub const RQSC: TableForm = TableForm {
+const RQSC: TableForm = TableForm {
     name: "RISC-V Quality of Service Controllers Table (RQSC) (this project's profile)",
     parts: &[
         Part::Fields(&HEADER),
@@ -126,3 +133,10 @@ pub const RQSC: TableForm = TableForm {
     ],
     structures: &CONTROLLERS,
 };
+
+/// Returns the form of the RISC-V Quality of Service Controllers Table (this project's profile).
+pub fn rqsc_form() -> TableForm
+    ensures { IsNamed result rqsc_names }
+{
+    RQSC
+}

@@ -1,5 +1,7 @@
 //! The forms of tables that are lists of structures.
 
+ghost use Rattle.acpi_forms.specs.Named.{IsNamed, xsdt_names, mcfg_names, madt_names, srat_names, cedt_names};
+
 use crate::further::madt::WAKEUP_ROWS;
 use crate::further::srat::GENERIC_PORT_ROWS;
 use acpi_base::header::HEADER;
@@ -19,8 +21,7 @@ use acpi_lists::srat::{
 use acpi_lists::xsdt::XSDT_ENTRY;
 use acpi_text::form::{Choice, Count, Inner, Part, StructureForm, TableForm};
 
-/// The Extended System Description Table (ACPI 6.5, 5.2.8).
-pub const XSDT: TableForm = TableForm {
+const XSDT: TableForm = TableForm {
     name: "Extended System Description Table (XSDT)",
     parts: &[Part::Fields(&HEADER)],
     structures: &[StructureForm {
@@ -31,8 +32,14 @@ pub const XSDT: TableForm = TableForm {
     }],
 };
 
-/// The PCI Express memory mapped configuration space base address description table (PCI Firmware 3.3, 4.1.2).
-pub const MCFG: TableForm = TableForm {
+/// Returns the form of the Extended System Description Table (ACPI 6.5, 5.2.8).
+pub fn xsdt_form() -> TableForm
+    ensures { IsNamed result xsdt_names }
+{
+    XSDT
+}
+
+const MCFG: TableForm = TableForm {
     name: "PCI Express Memory Mapped Configuration Table (MCFG)",
     parts: &[Part::Fields(&HEADER), Part::Fields(&[Row::Reserved(8)])],
     structures: &[StructureForm {
@@ -42,6 +49,14 @@ pub const MCFG: TableForm = TableForm {
         inner: &Inner::Nothing,
     }],
 };
+
+/// Returns the form of the PCI Express memory mapped configuration space base address description table (PCI Firmware 3.3,
+/// 4.1.2).
+pub fn mcfg_form() -> TableForm
+    ensures { IsNamed result mcfg_names }
+{
+    MCFG
+}
 
 const MADT_STRUCTURES: [StructureForm; 18] = [
     StructureForm {
@@ -154,12 +169,18 @@ const MADT_STRUCTURES: [StructureForm; 18] = [
     },
 ];
 
-/// The Multiple APIC Description Table (ACPI 6.5, 5.2.12).
-pub const MADT: TableForm = TableForm {
+const MADT: TableForm = TableForm {
     name: "Multiple APIC Description Table (MADT)",
     parts: &[Part::Fields(&HEADER), Part::Fields(&MADT_FIXED)],
     structures: &MADT_STRUCTURES,
 };
+
+/// Returns the form of the Multiple APIC Description Table (ACPI 6.5, 5.2.12).
+pub fn madt_form() -> TableForm
+    ensures { IsNamed result madt_names }
+{
+    MADT
+}
 
 // The handles of a device, by their type.
 const HANDLES: [Choice; 2] = [
@@ -234,8 +255,7 @@ const SRAT_STRUCTURES: [StructureForm; 8] = [
     },
 ];
 
-/// The System Resource Affinity Table (ACPI 6.5, 5.2.16).
-pub const SRAT: TableForm = TableForm {
+const SRAT: TableForm = TableForm {
     name: "System Resource Affinity Table (SRAT)",
     parts: &[
         Part::Fields(&HEADER),
@@ -243,6 +263,13 @@ pub const SRAT: TableForm = TableForm {
     ],
     structures: &SRAT_STRUCTURES,
 };
+
+/// Returns the form of the System Resource Affinity Table (ACPI 6.5, 5.2.16).
+pub fn srat_form() -> TableForm
+    ensures { IsNamed result srat_names }
+{
+    SRAT
+}
 
 const CEDT_STRUCTURES: [StructureForm; 4] = [
     StructureForm {
@@ -277,9 +304,15 @@ const CEDT_STRUCTURES: [StructureForm; 4] = [
     },
 ];
 
-/// The CXL Early Discovery Table (this project's profile).
-pub const CEDT: TableForm = TableForm {
+const CEDT: TableForm = TableForm {
     name: "CXL Early Discovery Table (CEDT)",
     parts: &[Part::Fields(&HEADER)],
     structures: &CEDT_STRUCTURES,
 };
+
+/// Returns the form of the CXL Early Discovery Table (this project's profile).
+pub fn cedt_form() -> TableForm
+    ensures { IsNamed result cedt_names }
+{
+    CEDT
+}

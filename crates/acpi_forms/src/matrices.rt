@@ -1,5 +1,7 @@
 //! The forms of HMAT and SLIT.
 
+ghost use Rattle.acpi_forms.specs.Named.{IsNamed, hmat_names, slit_names};
+
 use acpi_base::header::HEADER;
 use acpi_base::row::Row;
 use acpi_base::walk::Place;
@@ -45,15 +47,20 @@ const HMAT_STRUCTURES: [StructureForm; 3] = [
     },
 ];
 
-/// The Heterogeneous Memory Attribute Table (ACPI 6.5, 5.2.28).
-pub const HMAT: TableForm = TableForm {
+const HMAT: TableForm = TableForm {
     name: "Heterogeneous Memory Attribute Table (HMAT)",
     parts: &[Part::Fields(&HEADER), Part::Fields(&[Row::Reserved(4)])],
     structures: &HMAT_STRUCTURES,
 };
 
-/// The System Locality Information Table (ACPI 6.5, 5.2.17).
-pub const SLIT: TableForm = TableForm {
+/// Returns the form of the Heterogeneous Memory Attribute Table (ACPI 6.5, 5.2.28).
+pub fn hmat_form() -> TableForm
+    ensures { IsNamed result hmat_names }
+{
+    HMAT
+}
+
+const SLIT: TableForm = TableForm {
     name: "System Locality Information Table (SLIT)",
     parts: &[
         Part::Fields(&HEADER),
@@ -67,3 +74,10 @@ pub const SLIT: TableForm = TableForm {
     ],
     structures: &[],
 };
+
+/// Returns the form of the System Locality Information Table (ACPI 6.5, 5.2.17).
+pub fn slit_form() -> TableForm
+    ensures { IsNamed result slit_names }
+{
+    SLIT
+}

@@ -1,5 +1,7 @@
 //! The forms of tables whose nodes name each other.
 
+ghost use Rattle.acpi_forms.specs.Named.{IsNamed, pptt_names, rhct_names, viot_names, rimt_names};
+
 use acpi_base::header::HEADER;
 use acpi_base::row::Row;
 use acpi_base::walk::Place;
@@ -27,12 +29,18 @@ const PPTT_NODES: [StructureForm; 2] = [
     },
 ];
 
-/// The Processor Properties Topology Table (ACPI 6.5, 5.2.30).
-pub const PPTT: TableForm = TableForm {
+const PPTT: TableForm = TableForm {
     name: "Processor Properties Topology Table (PPTT)",
     parts: &[Part::Fields(&HEADER)],
     structures: &PPTT_NODES,
 };
+
+/// Returns the form of the Processor Properties Topology Table (ACPI 6.5, 5.2.30).
+pub fn pptt_form() -> TableForm
+    ensures { IsNamed result pptt_names }
+{
+    PPTT
+}
 
 const RHCT_NODES: [StructureForm; 4] = [
     StructureForm {
@@ -67,8 +75,7 @@ const RHCT_NODES: [StructureForm; 4] = [
     },
 ];
 
-/// The RISC-V Hart Capabilities Table (this project's profile).
-pub const RHCT: TableForm = TableForm {
+const RHCT: TableForm = TableForm {
     name: "RISC-V Hart Capabilities Table (RHCT)",
     parts: &[
         Part::Fields(&HEADER),
@@ -80,6 +87,13 @@ pub const RHCT: TableForm = TableForm {
     ],
     structures: &RHCT_NODES,
 };
+
+/// Returns the form of the RISC-V Hart Capabilities Table (this project's profile).
+pub fn rhct_form() -> TableForm
+    ensures { IsNamed result rhct_names }
+{
+    RHCT
+}
 
 const VIOT_NODES: [StructureForm; 4] = [
     StructureForm {
@@ -108,8 +122,7 @@ const VIOT_NODES: [StructureForm; 4] = [
     },
 ];
 
-/// The Virtual I/O Translation Table (ACPI 6.5, 5.2.32).
-pub const VIOT: TableForm = TableForm {
+const VIOT: TableForm = TableForm {
     name: "Virtual I/O Translation Table (VIOT)",
     parts: &[
         Part::Fields(&HEADER),
@@ -121,6 +134,13 @@ pub const VIOT: TableForm = TableForm {
     ],
     structures: &VIOT_NODES,
 };
+
+/// Returns the form of the Virtual I/O Translation Table (ACPI 6.5, 5.2.32).
+pub fn viot_form() -> TableForm
+    ensures { IsNamed result viot_names }
+{
+    VIOT
+}
 
 const RIMT_DEVICES: [StructureForm; 3] = [
     StructureForm {
@@ -159,8 +179,7 @@ const RIMT_DEVICES: [StructureForm; 3] = [
     },
 ];
 
-/// The RISC-V IO Mapping Table (this project's profile).
-pub const RIMT: TableForm = TableForm {
+const RIMT: TableForm = TableForm {
     name: "RISC-V IO Mapping Table (RIMT) (this project's profile)",
     parts: &[
         Part::Fields(&HEADER),
@@ -172,3 +191,10 @@ pub const RIMT: TableForm = TableForm {
     ],
     structures: &RIMT_DEVICES,
 };
+
+/// Returns the form of the RISC-V IO Mapping Table (this project's profile).
+pub fn rimt_form() -> TableForm
+    ensures { IsNamed result rimt_names }
+{
+    RIMT
+}

@@ -4,4 +4,17 @@ use Rattle.acpi_forms.proofs.Named.{form_is_named}
 use Rattle.acpi_forms.proofs.form.arm_form.Goals as goal
 
 pub returns : goal.returns
-returns c = form_is_named c.args.signature _ _ c.find_form.result arm_tables _ c.find_form.ensures c.boot_form.ensures refl
+returns c =
+    form_is_named c.args.signature _ arm_tables _ _ _ c.find_form.ensures (
+      refl,
+      c.gtdt_form.ensures,
+      (
+        refl,
+        c.dbg2_form.ensures,
+        (
+          refl,
+          c.iort_form.ensures,
+          (tt),
+        ),
+      ),
+    ) c.boot_form-other.ensures

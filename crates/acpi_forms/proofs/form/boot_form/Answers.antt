@@ -1,7 +1,7 @@
 use Rattle.std.proofs.Common.{refl}
 use Rattle.acpi_forms.specs.FurtherNames.{boot_tables}
-use Rattle.acpi_forms.proofs.Named.{form_is_named}
+use Rattle.acpi_forms.proofs.Named.{read_is_named}
 use Rattle.acpi_forms.proofs.form.boot_form.Goals as goal
 
 pub returns : goal.returns
-returns c = form_is_named c.args.signature _ _ c.find_form.result boot_tables _ c.find_form.ensures c.security_form.ensures refl
+returns c = read_is_named c.args.signature _ boot_tables _ _ _ c.find_form.ensures refl c.security_form.ensures
