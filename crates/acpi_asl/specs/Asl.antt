@@ -8,7 +8,8 @@ use Rattle.acpi_asl.specs.declared.place.Body.TheVariants.{Statements}
 use Rattle.acpi_asl.specs.declared.place.Place.{Place}
 use Rattle.acpi_asl.specs.Number.{hex, string_text}
 use Rattle.acpi_asl.specs.Opening.{further, opening}
-use Rattle.acpi_asl.specs.Place.{place, place_in, in_braces, next, place_after, is_statement, is_left_out, depth_in, before, after, opened, closed}
+use Rattle.acpi_asl.specs.Place.{place, place_in, in_braces, next, place_after, is_statement, is_left_out, depth_in}
+use Rattle.acpi_asl.specs.Place.{before, after, opened, closed}
 use Rattle.acpi_asl.specs.Row.{rows}
 use Rattle.acpi_asl.specs.Special.{is_special, special_text}
 
@@ -24,7 +25,8 @@ texts p d end = []
 texts p d (term h w children others) =
     before p (is_left_out p h w) d
     ++ (if is_special p h w children then special_text p h w children (depth_in p d)
-    else around (is_statement p) h w (count children) (depth_in p d) (texts (place_in p h (count children)) (depth_in p d) children))
+    else around (is_statement p) h w (count children) (depth_in p d)
+    (texts (place_in p h (count children)) (depth_in p d) children))
     ++ after p d
     ++ texts (next p) d others
 
@@ -59,7 +61,8 @@ header_text offset n header = string_text (until_zero (take n (drop offset heade
 abbrev pub block_line : List ℕ → List ℕ
 block_line header =
     codes "DefinitionBlock (\"\"" ++ further (header_text 0 4 header) ++ further (decimal (slice_index header 8))
-    ++ (further (header_text 10 6 header) ++ further (header_text 16 8 header) ++ further (hex 4 (field_at 24 4 header))) ++ codes ")"
+    ++ (further (header_text 10 6 header) ++ further (header_text 16 8 header) ++ further (hex 4 (field_at 24 4 header)))
+    ++ codes ")"
 
 -- the definition block of a header and terms
 abbrev pub asl_text : List ℕ → Terms → List ℕ

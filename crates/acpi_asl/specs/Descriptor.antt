@@ -1,5 +1,5 @@
--- The descriptors of resources, as data: what each begins with, its macro, and where the macro's arguments are in it (ACPI 6.5, 6.4
--- and 19.2.8).
+-- The descriptors of resources, as data: what each begins with, its macro, and where the macro's arguments are in it (ACPI 6.5,
+-- 6.4 and 19.2.8).
 use Rattle.std.specs.Prelude.{ℕ, List, [], ◌∷◌, codes}
 use Rattle.acpi_asl.specs.Word.{region_spaces}
 use Rattle.acpi_asl.specs.declared.descriptor.Bits.{Bits}
@@ -18,7 +18,8 @@ abbrev pub words : WordKind → List (ℕ × List ℕ)
 words kinds.Decode = (0, codes "Decode10") ∷ (1, codes "Decode16") ∷ []
 words kinds.Mode = (0, codes "Level") ∷ (1, codes "Edge") ∷ []
 words kinds.Polarity = (0, codes "ActiveHigh") ∷ (1, codes "ActiveLow") ∷ []
-words kinds.Sharing = (0, codes "Exclusive") ∷ (1, codes "Shared") ∷ (2, codes "ExclusiveAndWake") ∷ (3, codes "SharedAndWake") ∷ []
+words kinds.Sharing = (0, codes "Exclusive") ∷ (1, codes "Shared") ∷ (2, codes "ExclusiveAndWake")
+    ∷ (3, codes "SharedAndWake") ∷ []
 words kinds.DmaType = (0, codes "Compatibility") ∷ (1, codes "TypeA") ∷ (2, codes "TypeB") ∷ (3, codes "TypeF") ∷ []
 words kinds.Master = (0, codes "NotBusMaster") ∷ (1, codes "BusMaster") ∷ []
 words kinds.Transfer = (0, codes "Transfer8") ∷ (1, codes "Transfer8_16") ∷ (2, codes "Transfer16") ∷ []
@@ -29,7 +30,8 @@ words kinds.Usage = (0, codes "ResourceProducer") ∷ (1, codes "ResourceConsume
 words kinds.Decoding = (0, codes "PosDecode") ∷ (1, codes "SubDecode") ∷ []
 words kinds.Minimum = (0, codes "MinNotFixed") ∷ (1, codes "MinFixed") ∷ []
 words kinds.Maximum = (0, codes "MaxNotFixed") ∷ (1, codes "MaxFixed") ∷ []
-words kinds.Caching = (0, codes "NonCacheable") ∷ (1, codes "Cacheable") ∷ (2, codes "WriteCombining") ∷ (3, codes "Prefetchable") ∷ []
+words kinds.Caching = (0, codes "NonCacheable") ∷ (1, codes "Cacheable") ∷ (2, codes "WriteCombining")
+    ∷ (3, codes "Prefetchable") ∷ []
 words kinds.Ranges = (1, codes "NonISAOnlyRanges") ∷ (2, codes "ISAOnlyRanges") ∷ (3, codes "EntireRange") ∷ []
 words kinds.Memory = (0, codes "AddressRangeMemory") ∷ (1, codes "AddressRangeReserved")
     ∷ (2, codes "AddressRangeACPI") ∷ (3, codes "AddressRangeNVS") ∷ []

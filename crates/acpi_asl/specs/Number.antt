@@ -18,8 +18,8 @@ digits_of (suc w) v = digits_of w (v / 256) ++ upper_byte (v % 256)
 abbrev pub hex : ℕ → ℕ → List ℕ
 hex w v = codes "0x" ++ digits_of w v
 
--- A number of AML that has this many bytes after its prefix; Zero and One have none. The digits say how many bytes there are, also
--- where the number has a shorter form.
+-- A number of AML that has this many bytes after its prefix; Zero and One have none. The digits say how many bytes there are,
+-- also where the number has a shorter form.
 abbrev pub number_text : ℕ → ℕ → List ℕ
 number_text v w = if w == 0 then (if v == 0 then codes "Zero" else (if v == 1 then codes "One" else hex 8 v)) else hex w v
 

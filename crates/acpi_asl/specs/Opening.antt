@@ -4,7 +4,8 @@ use Rattle.std.specs.Fmt.{decimal}
 use Rattle.acpi_term.specs.Tree.{Head, number, ones, string, local, arg, call, def_scope, def_device}
 use Rattle.acpi_term.specs.Tree.{def_method, def_power_res, def_field, def_op_region, def_name, def_mutex, def_acquire}
 use Rattle.acpi_term.specs.Tree.{def_release, def_buffer, def_package, def_var_package, def_if, def_while, def_else, op}
-use Rattle.acpi_term.specs.Tree.{def_external, def_leveled_method, def_processor, def_thermal_zone, def_roomy_package, def_index_field}
+use Rattle.acpi_term.specs.Tree.{def_external, def_leveled_method, def_processor, def_thermal_zone, def_roomy_package}
+use Rattle.acpi_term.specs.Tree.{def_index_field}
 use Rattle.acpi_asl.specs.Number.{hex, number_text, short_hex, string_text}
 use Rattle.acpi_asl.specs.Name.{asl_name}
 use Rattle.acpi_asl.specs.Word.{operator_word, access_word, lock_word, update_word, space_word, object_word, serialize_word}
@@ -111,7 +112,9 @@ begun statement h n = if has_parentheses statement h n then codes " (" ++ own h 
 -- the end of parentheses without operands
 abbrev pub ended : Bool → Head → ℕ → ℕ → List ℕ
 ended statement h n d =
-    if (place h n).arguments == 0 then (if has_parentheses statement h n then codes ")" else []) ++ opened (place h n).body d else []
+    if (place h n).arguments == 0
+    then (if has_parentheses statement h n then codes ")" else []) ++ opened (place h n).body d
+    else []
 
 -- what stands before the children
 abbrev pub opening : Bool → Head → ℕ → ℕ → ℕ → List ℕ

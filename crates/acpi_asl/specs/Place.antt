@@ -1,5 +1,6 @@
 -- Where terms stand in the text of another: in its parentheses, or in its braces.
-use Rattle.std.specs.Prelude.{ℕ, zero, suc, ◌-◌, nat_le, ◌==◌, ◌&&◌, ◌||◌, not, Bool, true, false, if◌then◌else◌, List, [], ◌∷◌, ◌++◌, length, drop, codes}
+use Rattle.std.specs.Prelude.{ℕ, zero, suc, ◌-◌, nat_le, ◌==◌, ◌&&◌, ◌||◌, not, Bool, true, false, if◌then◌else◌, List}
+use Rattle.std.specs.Prelude.{[], ◌∷◌, ◌++◌, length, drop, codes}
 use Rattle.std.specs.Str.{bytes_eq}
 use Rattle.acpi_term.specs.declared.op.Op.{Op}
 use Rattle.acpi_term.specs.declared.op.Op.TheVariants as op

@@ -1,5 +1,6 @@
 -- The rows in braces: the entries of a field, and the bytes of a buffer.
-use Rattle.std.specs.Prelude.{ℕ, suc, ◌+◌, ◌/◌, ◌%◌, ◌==◌, ◌&&◌, not, Bool, true, false, if◌then◌else◌, List, [], ◌∷◌, ◌++◌, codes}
+use Rattle.std.specs.Prelude.{ℕ, suc, ◌+◌, ◌/◌, ◌%◌, ◌==◌, ◌&&◌, not, Bool, true, false, if◌then◌else◌, List, [], ◌∷◌}
+use Rattle.std.specs.Prelude.{◌++◌, codes}
 use Rattle.std.specs.Fmt.{decimal}
 use Rattle.acpi_term.specs.Tree.{Entry, named, reserved, Head, def_field, def_index_field, def_buffer}
 use Rattle.acpi_asl.specs.Number.{hex, short_hex}

@@ -1,5 +1,5 @@
 -- Resource templates (ACPI 6.5, 6.4 and 19.6.114): buffers whose bytes are descriptors that have macros, and the end tag.
-use Rattle.std.specs.Prelude.{ℕ, zero, suc, ◌+◌, ◌-◌, ◌*◌, ◌/◌, ◌%◌, nat_lt, nat_le, ◌==◌, ◌&&◌, not, Bool, true, false}
+use Rattle.std.specs.Prelude.{ℕ, zero, suc, ◌+◌, ◌-◌, ◌*◌, ◌/◌, ◌%◌, nat_lt, ◌==◌, ◌&&◌, not, Bool, true, false}
 use Rattle.std.specs.Prelude.{if◌then◌else◌, Option, Some, None, List, [], ◌∷◌, ◌++◌, length, take, drop, slice_index_or, codes}
 use Rattle.std.specs.Fmt.{decimal}
 use Rattle.std.specs.Str.{bytes_eq}
@@ -49,8 +49,8 @@ are_zero item offset (suc k) = slice_index_or item (offset + k) 0 == 0 && are_ze
 abbrev pub tag_text : ℕ → List ℕ
 tag_text n = 0x59 ∷ upper_digit (n / 256 % 16) ∷ upper_digit (n / 16 % 16) ∷ upper_digit (n % 16) ∷ []
 
--- The n bytes of a template from the item on. A compiler accepts a range that is zero, which is set when the code runs, only if its
--- descriptor has a name.
+-- The text of an argument, if a template has n bytes from the item on. A compiler accepts a range that is zero, which is set when
+-- the code runs, only if its descriptor has a name.
 abbrev pub part_text : List ℕ → ℕ → Part → List ℕ
 part_text item n (parts.Word x kind) = word_in (words kind) (value_of item x)
 part_text item n (parts.Number offset w) = codes "0x" ++ digits_at w offset item
@@ -156,8 +156,8 @@ abbrev pub is_zero_alone : List ℕ → Bool
 is_zero_alone (b ∷ []) = b == 0
 is_zero_alone _ = false
 
--- Whether bytes are items that are written by macros, and then the end tag (ACPI 6.5, 6.4.2.9) with the checksum 0. The first number
--- says how many bytes at the front belong to an item that began before.
+-- Whether bytes are items that are written by macros, and then the end tag (ACPI 6.5, 6.4.2.9) with the checksum 0. The first
+-- number says how many bytes at the front belong to an item that began before.
 abbrev pub is_template : ℕ → List ℕ → Bool
 is_template left [] = false
 is_template (suc left) (b ∷ bytes) = is_template left bytes
@@ -171,7 +171,8 @@ items_text d left [] = []
 items_text d (suc left) (b ∷ bytes) = items_text d left bytes
 items_text d zero (b ∷ bytes) =
     if b == 0x79 then []
-    else (new_line d ++ found_text (found (item (b ∷ bytes))) (length (b ∷ bytes)) (item (b ∷ bytes))) ++ items_text d (item_size (b ∷ bytes) - 1) bytes
+    else (new_line d ++ found_text (found (item (b ∷ bytes))) (length (b ∷ bytes)) (item (b ∷ bytes)))
+    ++ items_text d (item_size (b ∷ bytes) - 1) bytes
 
 -- the template of these bytes at a depth
 abbrev pub template_text : ℕ → List ℕ → List ℕ

@@ -92,7 +92,8 @@ fn push_whole(place: Place, depth: usize, term: &Term, text: &mut String) -> Res
 
 // Adds the rows of a term and the end of its braces.
 fn push_end(kind: Kind<'_>, body: Body, depth: usize, text: &mut String) -> Result<(), AllocError>
-    ensures { OnOk result (string_bytes text.new ≡ string_bytes text.old ++ (rows (head_of kind.entry) depth ++ closed body depth)) }
+    ensures { OnOk result (string_bytes text.new ≡ string_bytes text.old
+        ++ (rows (head_of kind.entry) depth ++ closed body depth)) }
 {
     push_rows(kind, depth, text)?;
     push_closed(body, depth, text)
@@ -136,7 +137,8 @@ fn push_header_text(
 fn push_oem(header: &[u8], text: &mut String) -> Result<(), AllocError>
     requires { 36 ≤ length header.now }
     ensures { OnOk result (string_bytes text.new ≡ string_bytes text.old
-        ++ (further (header_text 10 6 header.now) ++ further (header_text 16 8 header.now) ++ further (hex 4 (field_at 24 4 header.now)))) }
+        ++ (further (header_text 10 6 header.now) ++ further (header_text 16 8 header.now)
+        ++ further (hex 4 (field_at 24 4 header.now)))) }
 {
     push_header_text(header, 10, 6, text)?;
     push_header_text(header, 16, 8, text)?;

@@ -6,7 +6,8 @@ ghost use Rattle.std.specs.Str.{bytes_eq};
 ghost use Rattle.std.specs.Fmt.{decimal};
 ghost use Rattle.acpi_asl.specs.Descriptor.{words, facts, descriptors};
 ghost use Rattle.acpi_asl.specs.Number.{upper_byte};
-ghost use Rattle.acpi_asl.specs.Template.{shifted, lowest, value_of, digits_at, are_zero, tag_text, part_text, comma, parts_text, channels, dwords};
+ghost use Rattle.acpi_asl.specs.Template.{shifted, lowest, value_of, digits_at, are_zero, tag_text, part_text, comma};
+ghost use Rattle.acpi_asl.specs.Template.{parts_text, channels, dwords};
 ghost use Rattle.acpi_asl.specs.Template.{list_text, is_absent, tail_text, row_text, large_length, item_size, are_clear};
 ghost use Rattle.acpi_asl.specs.Template.{part_fits, parts_fit, tail_fits, fits, found_in, found, is_found, found_text};
 ghost use Rattle.acpi_asl.specs.Word.{word_in};
@@ -190,7 +191,8 @@ fn push_channels(
 }
 
 fn push_next_dword(first: bool, bytes: &[u8], text: &mut String) -> Result<(), AllocError>
-    ensures { OnOk result (string_bytes text.new ≡ string_bytes text.old ++ (comma first ++ (codes "0x" ++ digits_at 4 0 bytes.now))) }
+    ensures { OnOk result (string_bytes text.new ≡ string_bytes text.old
+        ++ (comma first ++ (codes "0x" ++ digits_at 4 0 bytes.now))) }
 {
     text.push_str(comma(first))?;
     push_number_at(4, 0, bytes, text)

@@ -3,7 +3,8 @@
 ghost use Rattle.std.specs.Prelude.{◌≡◌, map, ◌++◌, true, false, OnOk, string_bytes};
 ghost use Rattle.acpi_read.specs.Lines.{segments_of};
 ghost use Rattle.acpi_read.specs.Report.{printable};
-ghost use Rattle.acpi_asl.specs.Name.{fourth, third, second, is_among, is_kept, pair_text, dot_text, segment_text, segments_text, asl_name};
+ghost use Rattle.acpi_asl.specs.Name.{fourth, third, second, is_among, is_kept, pair_text, dot_text, segment_text};
+ghost use Rattle.acpi_asl.specs.Name.{segments_text, asl_name};
 
 use acpi_term::name_string::NameString;
 use std::alloc::AllocError;

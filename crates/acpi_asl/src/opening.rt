@@ -7,7 +7,8 @@ ghost use Rattle.acpi_term.specs.View.{head_of};
 ghost use Rattle.acpi_asl.specs.Name.{asl_name};
 ghost use Rattle.acpi_asl.specs.Number.{hex};
 ghost use Rattle.acpi_asl.specs.Place.{place, opened};
-ghost use Rattle.acpi_asl.specs.Opening.{head_word, further, field_own, method_own, parameter, first_parameter, more_parameters, parameters, own};
+ghost use Rattle.acpi_asl.specs.Opening.{head_word, further, field_own, method_own, parameter, first_parameter};
+ghost use Rattle.acpi_asl.specs.Opening.{more_parameters, parameters, own};
 ghost use Rattle.acpi_asl.specs.Opening.{has_parentheses, begun, ended, opening};
 ghost use Rattle.acpi_asl.specs.Word.{access_word, lock_word, update_word, space_word, object_word};
 
@@ -388,7 +389,8 @@ pub fn push_opening(
     depth: usize,
     text: &mut String,
 ) -> Result<(), AllocError>
-    ensures { OnOk result (string_bytes text.new ≡ string_bytes text.old ++ opening statement (head_of kind.entry) width count depth) }
+    ensures { OnOk result (string_bytes text.new ≡ string_bytes text.old
+        ++ opening statement (head_of kind.entry) width count depth) }
 {
     let parentheses = has_parentheses(statement, kind, count);
     let inside = place_of(kind, count);

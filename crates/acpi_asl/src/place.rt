@@ -2,7 +2,8 @@
 
 ghost use Rattle.std.specs.Prelude.{◌≡◌, ◌++◌, IfOk, OnOk, string_bytes};
 ghost use Rattle.acpi_term.specs.View.{head_of};
-ghost use Rattle.acpi_asl.specs.Place.{last_segment, is_id_name, has_ids, place_in, targets, place, next, has_braces, is_elements, is_statements, is_statement, is_null};
+ghost use Rattle.acpi_asl.specs.Place.{last_segment, is_id_name, has_ids, place_in, targets, place, next, has_braces};
+ghost use Rattle.acpi_asl.specs.Place.{is_elements, is_statements, is_statement, is_null};
 ghost use Rattle.acpi_asl.specs.Place.{is_left_out, spaces, new_line, depth_in, opened, closed, separator, before, after};
 
 use acpi_term::apart::Kind;

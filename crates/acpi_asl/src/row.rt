@@ -1,6 +1,8 @@
-//! The rows in braces: the entries of a field, and the bytes of a buffer. A function whose name begins with `push` adds to a text.
+//! The rows in braces: the entries of a field, and the bytes of a buffer. A function whose name begins with `push` adds to a
+//! text.
 
-ghost use Rattle.std.specs.Prelude.{◌≡◌, ◌++◌, ◌==◌, ◌&&◌, ◌%◌, ◌/◌, not, true, false, codes, if◌then◌else◌, map, OnOk, IfOk, string_bytes};
+ghost use Rattle.std.specs.Prelude.{◌≡◌, ◌++◌, ◌==◌, ◌&&◌, ◌%◌, ◌/◌, not, true, false, codes, if◌then◌else◌, map, OnOk};
+ghost use Rattle.std.specs.Prelude.{IfOk, string_bytes};
 ghost use Rattle.acpi_term.specs.View.{entry_view, head_of};
 ghost use Rattle.std.specs.Fmt.{decimal};
 ghost use Rattle.acpi_asl.specs.Name.{segments_text};

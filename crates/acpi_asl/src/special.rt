@@ -6,7 +6,8 @@ ghost use Rattle.acpi_asl.specs.Eisa.{is_eisa, eisa_text};
 ghost use Rattle.acpi_asl.specs.Opening.{opening};
 ghost use Rattle.acpi_asl.specs.Place.{is_null, new_line};
 ghost use Rattle.acpi_asl.specs.Special.{is_external, are_external, is_end, after_first, is_zero_first, is_external_block};
-ghost use Rattle.acpi_asl.specs.Special.{externals_text, is_shortest, has_size, is_template_buffer, is_id_number, is_special, special_text};
+ghost use Rattle.acpi_asl.specs.Special.{externals_text, is_shortest, has_size, is_template_buffer, is_id_number};
+ghost use Rattle.acpi_asl.specs.Special.{is_special, special_text};
 
 use crate::eisa::{is_eisa, push_eisa};
 use crate::number::least_bytes;
@@ -150,7 +151,8 @@ fn push_block(
     others: &[Term],
     text: &mut String,
 ) -> Result<(), AllocError>
-    ensures { OnOk result (string_bytes text.new ≡ string_bytes text.old ++ externals_text depth true (views (first.now ++ others.now))) }
+    ensures { OnOk result (string_bytes text.new ≡ string_bytes text.old
+        ++ externals_text depth true (views (first.now ++ others.now))) }
 {
     push_externals(depth, true, first, text)?;
     push_externals(depth, is_end(first), others, text)
@@ -204,7 +206,8 @@ fn is_id_number(place: Place, kind: Kind<'_>, width: u8) -> bool
 
 /// Whether a term in a place is special.
 pub fn is_special(place: Place, parts: Parts<'_>) -> bool
-    ensures { result ≡ is_special place (head_of parts.entry.kind) parts.entry.width (views (parts.entry.first.now ++ parts.entry.others.now)) }
+    ensures { result ≡ is_special place (head_of parts.entry.kind) parts.entry.width
+        (views (parts.entry.first.now ++ parts.entry.others.now)) }
 {
     is_left_out(place, parts.kind, parts.width)
         || is_id_number(place, parts.kind, parts.width)
@@ -236,7 +239,8 @@ pub fn push_special(
 ) -> Result<(), AllocError>
     requires { is_special place (head_of parts.kind) parts.width (views (parts.first.now ++ parts.others.now)) ≡ true }
     ensures { OnOk result (string_bytes text.new ≡ string_bytes text.old
-        ++ special_text place (head_of parts.entry.kind) parts.entry.width (views (parts.entry.first.now ++ parts.entry.others.now)) depth) }
+        ++ special_text place (head_of parts.entry.kind) parts.entry.width
+        (views (parts.entry.first.now ++ parts.entry.others.now)) depth) }
 {
     match parts.kind {
         Kind::Number(value) => {

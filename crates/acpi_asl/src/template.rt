@@ -2,7 +2,8 @@
 
 ghost use Rattle.std.specs.Prelude.{◌≡◌, ◌++◌, ◌∷◌, suc, length, take, drop, codes, OnOk, string_bytes};
 ghost use Rattle.acpi_asl.specs.Place.{new_line};
-ghost use Rattle.acpi_asl.specs.Template.{item_size, found, is_found, found_text, is_zero_alone, is_template, items_text, template_text};
+ghost use Rattle.acpi_asl.specs.Template.{item_size, found, is_found, found_text, is_zero_alone, is_template};
+ghost use Rattle.acpi_asl.specs.Template.{items_text, template_text};
 
 use crate::item::{is_known, item_size, push_item};
 use crate::place::push_line;
