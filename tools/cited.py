@@ -9,7 +9,9 @@ import sys
 
 DOCUMENTS = ["README.md", *sorted(glob.glob("docs/*.md")), "tools/README.md"]
 # Words of examples, of other programs, and of the Rust crate.
-OTHERS = set("Alias microvm no_std fwts vmm Nfit NfitKind nfit_is_walked ListTable PcieAer acpi_rsdp_addr dac8208d650f15bf".split())
+OTHERS = set("Alias microvm no_std fwts vmm ListTable PcieAer acpi_rsdp_addr dac8208d650f15bf".split())
+# The table of the recipe.
+OTHERS |= set("Nfit NfitKind nfit_is_walked IsNfit nfit_form nfit_names the_nfit".split())
 
 
 def read(path):
