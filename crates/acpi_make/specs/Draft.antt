@@ -1,5 +1,5 @@
 -- A table in the making: the bytes of a text's parts, and marks where structures, lines and references begin.
-use Rattle.std.specs.Prelude.{ℕ, ◌-◌, ◌==◌, nat_le, not, ◌&&◌, ◌||◌, Bool, true, false, if◌then◌else◌}
+use Rattle.std.specs.Prelude.{ℕ, ◌-◌, ◌==◌, nat_le, nat_lt, not, ◌&&◌, ◌||◌, Bool, true, false, if◌then◌else◌}
 use Rattle.std.specs.Prelude.{List, [], ◌∷◌, ◌++◌, length, drop, replicate, codes, Option, Some, None, Result, Ok, Err}
 use Rattle.acpi_base.specs.Bytes.{le}
 use Rattle.acpi_text.specs.Structure.{form_parts, form_inner}
@@ -115,9 +115,9 @@ size_doubt (Some one) size from to =
 abbrev pub closed : Drafted → Drafted
 closed d = doubted (size_doubt d.field (length d.cells - d.line_at) d.line_from d.line_to) d
 
--- the first of two faults in the text
+-- the first of two faults in the text; the second one, if both are at one place
 abbrev pub earliest : Option Fault → Option Fault → Option Fault
-earliest (Some one) (Some other) = if nat_le other.from one.from then Some one else Some other
+earliest (Some one) (Some other) = if nat_lt other.from one.from then Some one else Some other
 earliest (Some one) None = Some one
 earliest None other = other
 

@@ -170,12 +170,12 @@ fn is_doubted(doubt: Option<Fault>) -> bool
     }
 }
 
-// Returns the first of two faults in the text.
+// Returns the first of two faults in the text, or the second one, if both are at one place.
 fn earliest(one: Option<Fault>, other: Option<Fault>) -> Option<Fault>
     ensures { fault_in result ≡ earliest (fault_in one) (fault_in other) }
 {
     match (one, other) {
-        (Some(one), Some(other)) => Some(if other.from <= one.from { one } else { other }),
+        (Some(one), Some(other)) => Some(if other.from < one.from { one } else { other }),
         (Some(one), None) => Some(one),
         (None, other) => other,
     }
