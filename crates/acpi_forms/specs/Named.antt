@@ -80,7 +80,11 @@ rqsc_kinds = (0, codes "Capacity QoS Controller") ∷ (1, codes "Bandwidth QoS C
 
 -- the nodes of PPTT (ACPI 6.5, 5.2.30)
 abbrev pub pptt_kinds : List (ℕ × List ℕ)
-pptt_kinds = (0, codes "Processor Hierarchy Node Structure") ∷ (1, codes "Cache Type Structure") ∷ []
+pptt_kinds =
+    (0, codes "Processor Hierarchy Node Structure")
+    ∷ (1, codes "Cache Type Structure")
+    ∷ (2, codes "ID Structure")
+    ∷ []
 
 abbrev pub rhct_kinds : List (ℕ × List ℕ)
 rhct_kinds =

@@ -34,6 +34,7 @@ pub mod pcct;
 pub mod pdtt;
 pub mod phat;
 pub mod pmtt;
+pub mod pptt;
 pub mod prmt;
 pub mod ras2;
 pub mod rasf;

@@ -2,6 +2,7 @@
 
 ghost use Rattle.acpi_forms.specs.Named.{IsNamed, pptt_names, rhct_names, viot_names, rimt_names};
 
+use crate::further::pptt::PPTT_ID_ROWS;
 use acpi_base::header::HEADER;
 use acpi_base::row::Row;
 use acpi_base::walk::Place;
@@ -11,7 +12,7 @@ use acpi_nodes::rimt::{ID_MAPPING, INTERRUPT_WIRE, IOMMU, PLATFORM, ROOT_COMPLEX
 use acpi_nodes::viot::{MMIO_ENDPOINT, PCI_RANGE, VIRTIO_MMIO_IOMMU, VIRTIO_PCI_IOMMU};
 use acpi_text::form::{Count, Inner, Part, StructureForm, TableForm};
 
-const PPTT_NODES: [StructureForm; 2] = [
+const PPTT_NODES: [StructureForm; 3] = [
     StructureForm {
         number: 0,
         name: "Processor Hierarchy Node Structure",
@@ -25,6 +26,12 @@ const PPTT_NODES: [StructureForm; 2] = [
         number: 1,
         name: "Cache Type Structure",
         parts: &[Part::Fields(&CACHE_NODE)],
+        inner: &Inner::Nothing,
+    },
+    StructureForm {
+        number: 2,
+        name: "ID Structure",
+        parts: &[Part::Fields(&PPTT_ID_ROWS)],
         inner: &Inner::Nothing,
     },
 ];
