@@ -11,7 +11,8 @@ use Rattle.acpi_asl.specs.Name.{asl_name}
 use Rattle.acpi_asl.specs.Word.{operator_word, access_word, lock_word, update_word, space_word, object_word, serialize_word}
 use Rattle.acpi_asl.specs.Place.{place, opened}
 
--- the word of a head in this width
+-- The word of a head in this width. A compiler makes a VarPackage of a Package only if its number of elements isn't a number. So a
+-- comment says that it was one.
 abbrev pub head_word : Head → ℕ → List ℕ
 head_word (number v) w = number_text v w
 head_word ones w = codes "Ones"
@@ -31,7 +32,7 @@ head_word (def_acquire name timeout) w = codes "Acquire"
 head_word (def_release name) w = codes "Release"
 head_word (def_buffer bytes) w = codes "Buffer"
 head_word def_package w = codes "Package"
-head_word def_var_package w = codes "Package"
+head_word def_var_package w = codes "Package /* VarPackage */"
 head_word def_if w = codes "If"
 head_word def_while w = codes "While"
 head_word def_else w = codes "Else"
