@@ -45,7 +45,7 @@ fi
 compile() {
     rm -f "$work/made.aml"
     iasl -oa -p "$work/made" "$1" >"$work/log" 2>&1 || true
-    grep -A1 '^Error' "$work/log" >"$work/said" || true
+    grep '^Error' "$work/log" >"$work/said" || true
     [ -s "$work/made.aml" ] || iasl -oa -f -p "$work/made" "$1" >"$work/log" 2>&1 || true
     [ -s "$work/made.aml" ]
 }
@@ -66,7 +66,7 @@ while read -r table; do
         wrong=$((wrong + 1))
     elif ! compile "$work/block.dsl"; then
         echo "$name: refused by iasl"
-        cat "$work/said"
+        sed "s/^/$name: /" "$work/said"
         wrong=$((wrong + 1))
     else
         tail -c +37 "$table" >"$work/terms"
