@@ -3,6 +3,8 @@
 #![tactic(auto)]
 
 #[cfg(test)]
+mod asl;
+#[cfg(test)]
 mod dumps;
 #[cfg(test)]
 mod names;
