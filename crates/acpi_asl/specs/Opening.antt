@@ -11,8 +11,8 @@ use Rattle.acpi_asl.specs.Name.{asl_name}
 use Rattle.acpi_asl.specs.Word.{operator_word, access_word, lock_word, update_word, space_word, object_word, serialize_word}
 use Rattle.acpi_asl.specs.Place.{place, opened}
 
--- The word of a head in this width. A compiler makes a VarPackage of a Package only if its number of elements isn't a number. So a
--- comment says that it was one.
+-- The word of a head in this width. A compiler makes a VarPackage of a Package only if its number of elements isn't a number. So
+-- a comment says that it was one.
 abbrev pub head_word : Head → ℕ → List ℕ
 head_word (number v) w = number_text v w
 head_word ones w = codes "Ones"
