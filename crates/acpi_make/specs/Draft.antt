@@ -143,10 +143,16 @@ abbrev pub or_fault : Option Fault → Fault → Fault
 or_fault (Some doubt) wrong = doubt
 or_fault None wrong = wrong
 
--- the fault of the type of the structure that the text is in, if its heading is that of another
+-- whether there is a doubt, after which no other counts
+abbrev pub is_doubted : Option Fault → Bool
+is_doubted (Some doubt) = true
+is_doubted None = false
+
+-- The fault of the type of the structure that the text is in, if its heading is that of another. After a line that comes too early the
+-- type may be another field.
 abbrev pub misnamed_here : Source → Drafted → Option Fault
 misnamed_here s d =
-    if d.inside then misnamed s d.marks d.start (drop d.start d.cells) (part_at d.from d.to s.text) else None
+    if d.inside && not (is_doubted d.early) then misnamed s d.marks d.start (drop d.start d.cells) (part_at d.from d.to s.text) else None
 
 -- the field that has to stand in a line; after bytes without a name it can be any
 abbrev pub field_expected : Source → Drafted → ℕ → ℕ → Fault
@@ -159,11 +165,6 @@ abbrev pub expected : Source → Drafted → ℕ → ℕ → Fault
 expected s d from to =
     or_fault (misnamed_here s d)
     (if is_strange s d then fault d.from d.to wants.Structure else field_expected s d from to)
-
--- whether there is a doubt, after which no other counts
-abbrev pub is_doubted : Option Fault → Bool
-is_doubted (Some doubt) = true
-is_doubted None = false
 
 -- a field may be left out if its number of bytes can be any
 abbrev pub may_lack : Option (ℕ × Entry) → Bool

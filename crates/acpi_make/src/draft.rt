@@ -271,11 +271,12 @@ impl Draft {
         }
     }
 
-    // Returns the fault of the type of the structure that the text is in, if its heading is that of another.
+    // Returns the fault of the type of the structure that the text is in, if its heading is that of another. After a line that comes
+    // too early the type may be another field.
     fn misnamed_here(&self, source: &Source) -> Option<Fault>
         ensures { fault_in result ≡ misnamed_here (source_of source.now) (drafted self.now) }
     {
-        if !self.inside {
+        if !self.inside || is_doubted(self.early) {
             return None;
         }
         let heading = part_at(self.from, self.to, source.text);
