@@ -1,9 +1,9 @@
 #!/bin/sh
-# Compiles with ACPICA's iasl the ASL that `acpitool show` prints of definition blocks, and compares the terms of what iasl makes
-# with those of the block, byte for byte. It prints a line for each block. With files or folders as arguments, the blocks are the
-# DSDTs and SSDTs among them. Without any they are those of crates/acpitool/data and those that the example writes for both of its
-# machines. The programs and what they stand on are proved first. Not a part of the gate. The status is 1 if iasl refuses a text,
-# if the terms are others, or if there is no block.
+# Compiles with ACPICA's iasl the ASL that `acpitool disassemble` prints of definition blocks, and compares the terms of what
+# iasl makes with those of the block, byte for byte. It prints a line for each block. With files or folders as arguments, the
+# blocks are the DSDTs and SSDTs among them. Without any they are those of crates/acpitool/data and those that the example
+# writes for both of its machines. The programs and what they stand on are proved first. Not a part of the gate. The status is 1
+# if iasl refuses a text, if the terms are others, or if there is no block.
 #
 # iasl runs without its optimizations, which shorten names and numbers. The header isn't compared beyond the OEM's revision, since
 # iasl writes itself and its release there. It doesn't know where a block was made with more bytes than needed for a length or a
@@ -60,9 +60,8 @@ while read -r table; do
     esac
     name=${table##*/}
     count=$((count + 1))
-    "$tool" show "$table" | sed -n '/^DefinitionBlock/,/^}/p' >"$work/block.dsl"
-    if [ ! -s "$work/block.dsl" ]; then
-        echo "$name: no ASL"
+    if ! "$tool" disassemble "$table" >"$work/block.dsl" 2>"$work/said"; then
+        sed "s|^$table: |$name: no ASL: |" "$work/said"
         wrong=$((wrong + 1))
     elif ! compile "$work/block.dsl"; then
         echo "$name: refused by iasl"

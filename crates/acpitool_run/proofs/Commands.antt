@@ -5,7 +5,7 @@ use Rattle.acpitool_run.proofs.Verbs.{heads, tails, no_version, no_first_help, n
 use Rattle.acpitool_run.proofs.Words.{apart}
 use Rattle.acpitool_run.specs.Command.{files_in, forces, unforced, IsAddress, AreImage}
 use Rattle.acpitool_run.specs.Laws.{AskForOne}
-use Rattle.acpitool_run.specs.declared.command.Command.TheVariants.{Help, Version, Show, Image, Make, Template}
+use Rattle.acpitool_run.specs.declared.command.Command.TheVariants.{Help, Version, Show, Image, Make, Template, Disassemble}
 use Rattle.acpitool_run.specs.declared.command.Verb.TheVariants as verbs
 
 -- lists with parts of the same length have the same parts
@@ -55,6 +55,12 @@ same_first a b d e is = cc
 same_second : (a b d e : List ℕ) → a ∷ b ∷ [] ≡ d ∷ e ∷ [] → b ≡ e
 same_second a b d e is = cc
 
+same_head : (a b : List ℕ) (x y : List (List ℕ)) → a ∷ x ≡ b ∷ y → a ≡ b
+same_head a b x y is = cc
+
+same_rest : (a b : List ℕ) (x y : List (List ℕ)) → a ∷ x ≡ b ∷ y → x ≡ y
+same_rest a b x y is = cc
+
 same_only : (a b : List ℕ) → a ∷ [] ≡ b ∷ [] → a ≡ b
 same_only a b is = cc
 
@@ -71,6 +77,8 @@ ask_for_one words Help (Template d) (inl one) two = absurd (no_help verbs.Templa
 ask_for_one words Help (Template d) (inr one) two = absurd (asks_no_help words one verbs.Template two.0 two.1)
 ask_for_one words Help (Make d e f) (inl one) two = absurd (no_help verbs.Make one.word one.asks (heads words _ _ _ _ two.1.0 one.is))
 ask_for_one words Help (Make d e f) (inr one) two = absurd (asks_no_help words one verbs.Make two.0 two.1)
+ask_for_one words Help (Disassemble d e) (inl one) two = absurd (no_help verbs.Disassemble one.word one.asks (heads words _ _ _ _ two.1.0 one.is))
+ask_for_one words Help (Disassemble d e) (inr one) two = absurd (asks_no_help words one verbs.Disassemble two.0 two.1)
 ask_for_one words Version Help one (inl two) =
     absurd (no_first_help (codes "--version") two.word two.asks (heads words _ _ _ _ one.1 two.is) (λ same. absurd (omega (arith, same))) (λ same. absurd (omega (arith, same))) (λ same. absurd (omega (arith, same))))
 ask_for_one words Version Help one (inr two) = absurd (no_version two.verb (heads words _ _ _ _ two.is one.1))
@@ -79,6 +87,7 @@ ask_for_one words Version (Show d e) one two = absurd (no_version verbs.Show (he
 ask_for_one words Version (Image d e) one two = absurd (no_version verbs.Image (heads words _ _ _ _ two.1.0 one.1))
 ask_for_one words Version (Template d) one two = absurd (no_version verbs.Template (heads words _ _ _ _ two.1.0 one.1))
 ask_for_one words Version (Make d e f) one two = absurd (no_version verbs.Make (heads words _ _ _ _ two.1.0 one.1))
+ask_for_one words Version (Disassemble d e) one two = absurd (no_version verbs.Disassemble (heads words _ _ _ _ two.1.0 one.1))
 ask_for_one words (Show a b) Help one (inl two) = absurd (no_help verbs.Show two.word two.asks (heads words _ _ _ _ one.1.0 two.is))
 ask_for_one words (Show a b) Help one (inr two) = absurd (asks_no_help words two verbs.Show one.0 one.1)
 ask_for_one words (Show a b) Version one two = absurd (no_version verbs.Show (heads words _ _ _ _ one.1.0 two.1))
@@ -86,6 +95,7 @@ ask_for_one words (Show a b) (Show d e) one two = same_files words _ _ _ _ _ _ o
 ask_for_one words (Show a b) (Image d e) one two = absurd (apart (codes "show") (codes "image") (heads words _ _ _ _ one.1.0 two.1.0) (λ same. absurd (omega (arith, same))))
 ask_for_one words (Show a b) (Template d) one two = absurd (apart (codes "show") (codes "template") (heads words _ _ _ _ one.1.0 two.1.0) (λ same. absurd (omega (arith, same))))
 ask_for_one words (Show a b) (Make d e f) one two = absurd (apart (codes "show") (codes "make") (heads words _ _ _ _ one.1.0 two.1.0) (λ same. absurd (omega (arith, same))))
+ask_for_one words (Show a b) (Disassemble d e) one two = absurd (apart (codes "show") (codes "disassemble") (heads words _ _ _ _ one.1.0 two.1.0) (λ same. absurd (omega (arith, same))))
 ask_for_one words (Image a b) Help one (inl two) = absurd (no_help verbs.Image two.word two.asks (heads words _ _ _ _ one.1.0 two.is))
 ask_for_one words (Image a b) Help one (inr two) = absurd (asks_no_help words two verbs.Image one.0 one.1)
 ask_for_one words (Image a b) Version one two = absurd (no_version verbs.Image (heads words _ _ _ _ one.1.0 two.1))
@@ -94,6 +104,7 @@ ask_for_one words (Image a b) (Image d e) one two =
     same_images one.0 two.0 _ _ _ _ (tails words _ _ _ _ one.1.0 two.1.0) one.2 two.2
 ask_for_one words (Image a b) (Template d) one two = absurd (apart (codes "image") (codes "template") (heads words _ _ _ _ one.1.0 two.1.0) (λ same. absurd (omega (arith, same))))
 ask_for_one words (Image a b) (Make d e f) one two = absurd (apart (codes "image") (codes "make") (heads words _ _ _ _ one.1.0 two.1.0) (λ same. absurd (omega (arith, same))))
+ask_for_one words (Image a b) (Disassemble d e) one two = absurd (apart (codes "image") (codes "disassemble") (heads words _ _ _ _ one.1.0 two.1.0) (λ same. absurd (omega (arith, same))))
 ask_for_one words (Template a) Help one (inl two) = absurd (no_help verbs.Template two.word two.asks (heads words _ _ _ _ one.1.0 two.is))
 ask_for_one words (Template a) Help one (inr two) = absurd (asks_no_help words two verbs.Template one.0 one.1)
 ask_for_one words (Template a) Version one two = absurd (no_version verbs.Template (heads words _ _ _ _ one.1.0 two.1))
@@ -102,6 +113,7 @@ ask_for_one words (Template a) (Image d e) one two = absurd (apart (codes "templ
 ask_for_one words (Template a) (Template d) one two =
     same_only _ _ (sym one.2 ∙ tails words _ _ _ _ one.1.0 two.1.0 ∙ two.2)
 ask_for_one words (Template a) (Make d e f) one two = absurd (apart (codes "template") (codes "make") (heads words _ _ _ _ one.1.0 two.1.0) (λ same. absurd (omega (arith, same))))
+ask_for_one words (Template a) (Disassemble d e) one two = absurd (apart (codes "template") (codes "disassemble") (heads words _ _ _ _ one.1.0 two.1.0) (λ same. absurd (omega (arith, same))))
 ask_for_one words (Make a b c) Help one (inl two) = absurd (no_help verbs.Make two.word two.asks (heads words _ _ _ _ one.1.0 two.is))
 ask_for_one words (Make a b c) Help one (inr two) = absurd (asks_no_help words two verbs.Make one.0 one.1)
 ask_for_one words (Make a b c) Version one two = absurd (no_version verbs.Make (heads words _ _ _ _ one.1.0 two.1))
@@ -111,3 +123,13 @@ ask_for_one words (Make a b c) (Template d) one two = absurd (apart (codes "make
 ask_for_one words (Make a b c) (Make d e f) one two =
     let same : one.0 ≡ two.0 = tails words _ _ _ _ one.1.0 two.1.0 in
     let e = sym one.3 ∙ ap unforced same ∙ two.3 in (one.2 ∙ ap forces same ∙ sym two.2, same_first _ _ _ _ e, same_second _ _ _ _ e)
+ask_for_one words (Make a b c) (Disassemble d e) one two = absurd (apart (codes "make") (codes "disassemble") (heads words _ _ _ _ one.1.0 two.1.0) (λ same. absurd (omega (arith, same))))
+ask_for_one words (Disassemble a b) Help one (inl two) = absurd (no_help verbs.Disassemble two.word two.asks (heads words _ _ _ _ one.1.0 two.is))
+ask_for_one words (Disassemble a b) Help one (inr two) = absurd (asks_no_help words two verbs.Disassemble one.0 one.1)
+ask_for_one words (Disassemble a b) Version one two = absurd (no_version verbs.Disassemble (heads words _ _ _ _ one.1.0 two.1))
+ask_for_one words (Disassemble a b) (Show d e) one two = absurd (apart (codes "disassemble") (codes "show") (heads words _ _ _ _ one.1.0 two.1.0) (λ same. absurd (omega (arith, same))))
+ask_for_one words (Disassemble a b) (Image d e) one two = absurd (apart (codes "disassemble") (codes "image") (heads words _ _ _ _ one.1.0 two.1.0) (λ same. absurd (omega (arith, same))))
+ask_for_one words (Disassemble a b) (Template d) one two = absurd (apart (codes "disassemble") (codes "template") (heads words _ _ _ _ one.1.0 two.1.0) (λ same. absurd (omega (arith, same))))
+ask_for_one words (Disassemble a b) (Make d e f) one two = absurd (apart (codes "disassemble") (codes "make") (heads words _ _ _ _ one.1.0 two.1.0) (λ same. absurd (omega (arith, same))))
+ask_for_one words (Disassemble a b) (Disassemble d e) one two =
+    let same = sym one.2 ∙ tails words _ _ _ _ one.1.0 two.1.0 ∙ two.2 in (same_head _ _ _ _ same, same_rest _ _ _ _ same)

@@ -11,7 +11,7 @@ use Rattle.acpi_dump.specs.declared.fault.DumpFault.{DumpFault}
 use Rattle.acpitool_run.specs.Outcome.{Outcome, shown, refused, broken, unread, output, complaint, status, outputs, complaints, worst}
 use Rattle.acpitool_run.specs.Outcome.{heading, labelled, fault_line, fault_status, AreTrueOutcomes, AreEach, AreOfTables, AreOfDump, AreOfBytesBy, AreOfBytes}
 use Rattle.acpitool_run.specs.Outcome.{IsUnread, AreOfFile, AreGroups, joined, AreOfEach, AreOfWord, Printed, PrintedAs}
-use Rattle.acpitool_run.specs.Program.{IsShown, IsMisstatedAs, wrong_text}
+use Rattle.acpitool_run.specs.Program.{IsShown, NotStated, IsMisstatedAs, wrong_text}
 use Rattle.acpitool_run.specs.declared.command.Wrong.{Wrong}
 use Rattle.acpi_forms.specs.Kind.{kind_of}
 use Rattle.acpitool_run.specs.Fault.{line_of}
@@ -262,12 +262,11 @@ keeps_self : (a : Option (List ℕ)) → Keeps a a
 keeps_self None = tt
 keeps_self (Some xs) = refl
 
+pub unstated : (numbers : List (List ℕ)) (wrong : Wrong) (o e e' : Option (List ℕ)) (s : ℕ)
+    → (s ≡ 2) × Appends e e' (wrong_text wrong) → IsMisstatedAs numbers wrong → NotStated numbers o o e e' s
+unstated numbers wrong o e e' s said misstated =
+    record { wrong = wrong; is_wrong = misstated; is = said.0; complained = said.1; silent = keeps_self o }
+
 pub not_stated : (files numbers : List (List ℕ)) (wrong : Wrong) (o e e' : Option (List ℕ)) (s : ℕ)
     → (s ≡ 2) × Appends e e' (wrong_text wrong) → IsMisstatedAs numbers wrong → IsShown files numbers o o e e' s
-not_stated files numbers wrong o e e' s said misstated = inr (record {
-  wrong = wrong;
-  is_wrong = misstated;
-  is = said.0;
-  complained = said.1;
-  silent = keeps_self o;
-})
+not_stated files numbers wrong o e e' s said misstated = inr (unstated numbers wrong o e e' s said misstated)

@@ -1,13 +1,14 @@
 -- A flush after a run, which keeps what was printed.
 use Rattle.std.proofs.Common.{ℕ, Bool, true, false, List, Option, Some, None, ◌∙◌, inl, inr}
 use Rattle.std.specs.Io.KnownBytes.{Keeps, Appends}
+use Rattle.acpitool_run.specs.Disassembly.{DisassemblesFile}
 use Rattle.acpitool_run.specs.Listing.{Listed, NotRead}
 use Rattle.acpitool_run.specs.Making.{IsWritten, MakesWord, Makes}
 use Rattle.acpitool_run.specs.Outcome.{Outcome, Printed}
 use Rattle.acpi_forms.specs.Known.{is_known}
-use Rattle.acpitool_run.specs.Program.{Ended, IsDone, IsShown, IsTemplated}
+use Rattle.acpitool_run.specs.Program.{Ended, IsDone, IsShown, IsAslShown, NotStated, IsTemplated}
 use Rattle.acpitool_run.specs.declared.command.Command.{Command}
-use Rattle.acpitool_run.specs.declared.command.Command.TheVariants.{Help, Version, Show, Image, Make, Template}
+use Rattle.acpitool_run.specs.declared.command.Command.TheVariants.{Help, Version, Show, Image, Make, Template, Disassemble}
 
 appends_kept : (a b c : Option (List ℕ)) (x : List ℕ) → Appends a b x → Keeps b c → Appends a c x
 appends_kept None b c x one two = tt
@@ -26,6 +27,16 @@ printed_kept : (stated : List (List ℕ × ℕ)) (outcomes : List Outcome) (o o'
 printed_kept stated outcomes o o' o'' e e' s kept one =
     record { are = one.are; wrote = appends_kept o o' o'' _ one.wrote kept; complained = one.complained; is = one.is }
 
+unstated_kept : (numbers : List (List ℕ)) (o o' o'' e e' : Option (List ℕ)) (s : ℕ) → Keeps o' o''
+    → NotStated numbers o o' e e' s → NotStated numbers o o'' e e' s
+unstated_kept numbers o o' o'' e e' s kept not = record {
+  wrong = not.wrong;
+  is_wrong = not.is_wrong;
+  is = not.is;
+  complained = not.complained;
+  silent = keeps_kept o o' o'' not.silent kept;
+}
+
 shown_kept : (files numbers : List (List ℕ)) (o o' o'' e e' : Option (List ℕ)) (s : ℕ) → Keeps o' o''
     → IsShown files numbers o o' e e' s → IsShown files numbers o o'' e e' s
 shown_kept files numbers o o' o'' e e' s kept (inl all) = inl (record {
@@ -37,13 +48,7 @@ shown_kept files numbers o o' o'' e e' s kept (inl all) = inl (record {
     printed = printed_kept all.all all.printed.outcomes o o' o'' e e' s kept all.printed.printed;
   };
 })
-shown_kept files numbers o o' o'' e e' s kept (inr not) = inr (record {
-  wrong = not.wrong;
-  is_wrong = not.is_wrong;
-  is = not.is;
-  complained = not.complained;
-  silent = keeps_kept o o' o'' not.silent kept;
-})
+shown_kept files numbers o o' o'' e e' s kept (inr not) = inr (unstated_kept numbers o o' o'' e e' s kept not)
 
 unread_kept : (file : List ℕ) (o o' o'' e e' : Option (List ℕ)) (s : ℕ) → Keeps o' o'' → NotRead file o o' e e' s → NotRead file o o'' e e' s
 unread_kept file o o' o'' e e' s kept not =
@@ -72,6 +77,30 @@ listed_kept file base o o' o'' e e' s kept (inl (bytes, inr not)) = inl (
   }),
 )
 listed_kept file base o o' o'' e e' s kept (inr not) = inr (unread_kept file o o' o'' e e' s kept not)
+
+disassembled_kept : (stated : List (List ℕ × ℕ)) (file : List ℕ) (o o' o'' e e' : Option (List ℕ)) (s : ℕ) → Keeps o' o''
+    → DisassemblesFile stated file o o' e e' s → DisassemblesFile stated file o o'' e e' s
+disassembled_kept stated file o o' o'' e e' s kept (inl (bytes, inl all)) = inl (
+  bytes,
+  inl (record { text = all.text; asl = all.asl; wrote = appends_kept o o' o'' _ all.wrote kept; silent = all.silent; is = all.is }),
+)
+disassembled_kept stated file o o' o'' e e' s kept (inl (bytes, inr not)) = inl (
+  bytes,
+  inr (record {
+    fault = not.fault;
+    cause = not.cause;
+    complained = not.complained;
+    silent = keeps_kept o o' o'' not.silent kept;
+    is = not.is;
+  }),
+)
+disassembled_kept stated file o o' o'' e e' s kept (inr not) = inr (unread_kept file o o' o'' e e' s kept not)
+
+asl_kept : (file : List ℕ) (numbers : List (List ℕ)) (o o' o'' e e' : Option (List ℕ)) (s : ℕ) → Keeps o' o''
+    → IsAslShown file numbers o o' e e' s → IsAslShown file numbers o o'' e e' s
+asl_kept file numbers o o' o'' e e' s kept (inl all) =
+    inl (record { all = all.all; stated = all.stated; disassembles = disassembled_kept all.all file o o' o'' e e' s kept all.disassembles })
+asl_kept file numbers o o' o'' e e' s kept (inr not) = inr (unstated_kept numbers o o' o'' e e' s kept not)
 
 written_kept : (bytes file : List ℕ) (o o' o'' e e' : Option (List ℕ)) (s : ℕ) → Keeps o' o''
     → IsWritten bytes file o o' e e' s → IsWritten bytes file o o'' e e' s
@@ -115,6 +144,7 @@ done_kept o o' o'' e e' s Version kept done = (done.0, appends_kept o o' o'' _ d
 done_kept o o' o'' e e' s (Show files numbers) kept done = shown_kept _ _ o o' o'' e e' s kept done
 done_kept o o' o'' e e' s (Image file base) kept done = listed_kept file.now base o o' o'' e e' s kept done
 done_kept o o' o'' e e' s (Template signature) kept done = templated_kept (is_known signature.now) signature.now o o' o'' e e' s kept done
+done_kept o o' o'' e e' s (Disassemble file numbers) kept done = asl_kept file.now _ o o' o'' e e' s kept done
 done_kept o o' o'' e e' s (Make force text file) kept done = made_kept force text.now file.now o o' o'' e e' s kept done
 
 pub ended_kept : (words : List (List ℕ)) (o o' o'' e e' : Option (List ℕ)) (s : ℕ) → Keeps o' o'' → Ended words o o' e e' s → Ended words o o'' e e' s

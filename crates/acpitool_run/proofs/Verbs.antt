@@ -16,24 +16,34 @@ same_verb verbs.Show verbs.Show is = refl
 same_verb verbs.Show verbs.Image is = absurd (apart (codes "show") (codes "image") is (λ same. absurd (omega (arith, same))))
 same_verb verbs.Show verbs.Make is = absurd (apart (codes "show") (codes "make") is (λ same. absurd (omega (arith, same))))
 same_verb verbs.Show verbs.Template is = absurd (apart (codes "show") (codes "template") is (λ same. absurd (omega (arith, same))))
+same_verb verbs.Show verbs.Disassemble is = absurd (apart (codes "show") (codes "disassemble") is (λ same. absurd (omega (arith, same))))
 same_verb verbs.Image verbs.Show is = absurd (apart (codes "image") (codes "show") is (λ same. absurd (omega (arith, same))))
 same_verb verbs.Image verbs.Image is = refl
 same_verb verbs.Image verbs.Make is = absurd (apart (codes "image") (codes "make") is (λ same. absurd (omega (arith, same))))
 same_verb verbs.Image verbs.Template is = absurd (apart (codes "image") (codes "template") is (λ same. absurd (omega (arith, same))))
+same_verb verbs.Image verbs.Disassemble is = absurd (apart (codes "image") (codes "disassemble") is (λ same. absurd (omega (arith, same))))
 same_verb verbs.Make verbs.Show is = absurd (apart (codes "make") (codes "show") is (λ same. absurd (omega (arith, same))))
 same_verb verbs.Make verbs.Image is = absurd (apart (codes "make") (codes "image") is (λ same. absurd (omega (arith, same))))
 same_verb verbs.Make verbs.Make is = refl
 same_verb verbs.Make verbs.Template is = absurd (apart (codes "make") (codes "template") is (λ same. absurd (omega (arith, same))))
+same_verb verbs.Make verbs.Disassemble is = absurd (apart (codes "make") (codes "disassemble") is (λ same. absurd (omega (arith, same))))
 same_verb verbs.Template verbs.Show is = absurd (apart (codes "template") (codes "show") is (λ same. absurd (omega (arith, same))))
 same_verb verbs.Template verbs.Image is = absurd (apart (codes "template") (codes "image") is (λ same. absurd (omega (arith, same))))
 same_verb verbs.Template verbs.Make is = absurd (apart (codes "template") (codes "make") is (λ same. absurd (omega (arith, same))))
 same_verb verbs.Template verbs.Template is = refl
+same_verb verbs.Template verbs.Disassemble is = absurd (apart (codes "template") (codes "disassemble") is (λ same. absurd (omega (arith, same))))
+same_verb verbs.Disassemble verbs.Show is = absurd (apart (codes "disassemble") (codes "show") is (λ same. absurd (omega (arith, same))))
+same_verb verbs.Disassemble verbs.Image is = absurd (apart (codes "disassemble") (codes "image") is (λ same. absurd (omega (arith, same))))
+same_verb verbs.Disassemble verbs.Make is = absurd (apart (codes "disassemble") (codes "make") is (λ same. absurd (omega (arith, same))))
+same_verb verbs.Disassemble verbs.Template is = absurd (apart (codes "disassemble") (codes "template") is (λ same. absurd (omega (arith, same))))
+same_verb verbs.Disassemble verbs.Disassemble is = refl
 
 pub no_version : (verb : Verb) → word_of verb ≡ codes "--version" → ⊥
 no_version verbs.Show is = apart (codes "show") (codes "--version") is (λ same. absurd (omega (arith, same)))
 no_version verbs.Image is = apart (codes "image") (codes "--version") is (λ same. absurd (omega (arith, same)))
 no_version verbs.Make is = apart (codes "make") (codes "--version") is (λ same. absurd (omega (arith, same)))
 no_version verbs.Template is = apart (codes "template") (codes "--version") is (λ same. absurd (omega (arith, same)))
+no_version verbs.Disassemble is = apart (codes "disassemble") (codes "--version") is (λ same. absurd (omega (arith, same)))
 
 -- a word whose third byte is that of no first word that asks for the usage
 pub no_first_help : (v word : List ℕ) → IsHelp word ⊎ (word ≡ codes "help") → v ≡ word → get_or v 2 0 ≢ 104 → get_or v 2 0 ≢ 0
@@ -52,6 +62,8 @@ no_help verbs.Make word asks is =
     no_first_help (codes "make") word asks is (λ same. absurd (omega (arith, same))) (λ same. absurd (omega (arith, same))) (λ same. absurd (omega (arith, same)))
 no_help verbs.Template word asks is =
     no_first_help (codes "template") word asks is (λ same. absurd (omega (arith, same))) (λ same. absurd (omega (arith, same))) (λ same. absurd (omega (arith, same)))
+no_help verbs.Disassemble word asks is =
+    no_first_help (codes "disassemble") word asks is (λ same. absurd (omega (arith, same))) (λ same. absurd (omega (arith, same))) (λ same. absurd (omega (arith, same)))
 
 -- words after a command don't ask for the usage and have no option that it doesn't take
 pub asks_no_help : (words : List (List ℕ)) (help : AsksForHelp words) (verb : Verb) (more : List (List ℕ)) → AreAfter verb words more → ⊥

@@ -1,16 +1,16 @@
 -- Words that are wrong ask for no command.
-use Rattle.std.proofs.Common.{◌≡◌, ◌≢◌, ◌⊎◌, ◌≤◌, ℕ, List, [], ◌∷◌, length, Some, None, refl, ap, subst, ◌∙◌, inl, inr, arith, codes}
+use Rattle.std.proofs.Common.{◌≡◌, ◌≢◌, ◌⊎◌, ◌≤◌, ℕ, List, [], ◌∷◌, length, Some, None, refl, map, string_bytes, ap, subst, ◌∙◌, inl, inr, arith, codes}
 use Rattle.acpitool_run.proofs.Verbs.{heads, tails, same_verb, no_version, no_help}
 use Rattle.acpitool_run.specs.Command.{word_of, first_option, files_in, unforced, IsAddress, AreImage, IsHelp, BeginsWithHelp, Asks, IsNoCommand}
 use Rattle.acpitool_run.specs.Command.{IsAfterBase, IsAfterFile, IsWrong}
 use Rattle.acpitool_run.specs.Laws.{WrongAskForNothing}
 use Rattle.acpitool_run.specs.declared.command.Command.{Command}
-use Rattle.acpitool_run.specs.declared.command.Command.TheVariants.{Help, Version, Show, Image, Make, Template}
+use Rattle.acpitool_run.specs.declared.command.Command.TheVariants.{Help, Version, Show, Image, Make, Template, Disassemble}
 use Rattle.acpitool_run.specs.declared.command.Verb.{Verb}
 use Rattle.acpitool_run.specs.declared.command.Verb.TheVariants as verbs
 use Rattle.acpitool_run.specs.declared.command.Wrong.{Wrong}
 use Rattle.acpitool_run.specs.declared.command.Wrong.TheVariants.{NoCommand, Unknown, NoFile, NoImage, NoText, NoTable, Base, Number, Twice}
-use Rattle.acpitool_run.specs.declared.command.Wrong.TheVariants.{NoSignature, Signature}
+use Rattle.acpitool_run.specs.declared.command.Wrong.TheVariants.{NoSignature, Signature, NoBlock}
 
 -- ---- the words after a command
 
@@ -20,6 +20,7 @@ IsTaken verbs.Show more = 1 ≤ files_in more
 IsTaken verbs.Image more = (file : List ℕ) × (base : ℕ) × AreImage more file base
 IsTaken verbs.Make more = (text : List ℕ) × (file : List ℕ) × (unforced more ≡ text ∷ file ∷ [])
 IsTaken verbs.Template more = (signature : List ℕ) × (more ≡ signature ∷ []) × (length signature ≡ 4)
+IsTaken verbs.Disassemble more = (file : List ℕ) × (numbers : List (List ℕ)) × (more ≡ file ∷ numbers)
 
 -- they ask for the usage, or are what the command takes
 abbrev Serves : Verb → List (List ℕ) → Type 0
@@ -73,6 +74,8 @@ asked words (Image file base) all =
     inr (inr (record { verb = verbs.Image; more = all.0; is = all.1.0; are = inr (all.1.1, (file.now, base, all.2)) }))
 asked words (Template signature) all =
     inr (inr (record { verb = verbs.Template; more = all.0; is = all.1.0; are = inr (all.1.1, (signature.now, all.2, all.3)) }))
+asked words (Disassemble file numbers) all =
+    inr (inr (record { verb = verbs.Disassemble; more = all.0; is = all.1.0; are = inr (all.1.1, (file.now, map (λ word. string_bytes word) numbers.now, all.2)) }))
 asked words (Make force text file) all =
     inr (inr (record { verb = verbs.Make; more = all.0; is = all.1.0; are = inr (all.1.1, (text.now, file.now, all.3)) }))
 
@@ -133,6 +136,8 @@ wronged words NoImage is =
     inr (inr (record { verb = verbs.Image; more = []; is = is; are = inr (refl, λ taken. no_image taken.0 taken.1 taken.2) }))
 wronged words NoSignature is =
     inr (inr (record { verb = verbs.Template; more = []; is = is; are = inr (refl, λ taken. cc (taken.1)) }))
+wronged words NoBlock is =
+    inr (inr (record { verb = verbs.Disassemble; more = []; is = is; are = inr (refl, λ taken. cc (taken.2)) }))
 wronged words (Signature word) all = inr (inr (record {
   verb = verbs.Template;
   more = all.0;
@@ -163,6 +168,7 @@ is_command words word verbs.Show none is = none.no_show is
 is_command words word verbs.Image none is = none.no_image is
 is_command words word verbs.Make none is = none.no_make is
 is_command words word verbs.Template none is = none.no_template is
+is_command words word verbs.Disassemble none is = none.no_disassemble is
 
 no_help_first : (words : List (List ℕ)) (word first : List ℕ) → IsNoCommand words word → IsHelp first ⊎ (first ≡ codes "help")
     → word ≡ first → ⊥

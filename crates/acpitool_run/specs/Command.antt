@@ -7,14 +7,14 @@ use Rattle.std.specs.Str.{bytes_eq}
 use Rattle.std.specs.Str.Parse.{IsNumeral, digits_value, without_leading_plus}
 use Rattle.acpiread_run.specs.Command.{stated_by, stated}
 use Rattle.acpitool_run.specs.declared.command.Command.{Command}
-use Rattle.acpitool_run.specs.declared.command.Command.TheVariants.{Help, Version, Show, Image, Make, Template}
+use Rattle.acpitool_run.specs.declared.command.Command.TheVariants.{Help, Version, Show, Image, Make, Template, Disassemble}
 use Rattle.acpitool_run.specs.declared.command.Misstated.{Misstated}
 use Rattle.acpitool_run.specs.declared.command.Misstated.TheVariants as misstated
 use Rattle.acpitool_run.specs.declared.command.Verb.{Verb}
 use Rattle.acpitool_run.specs.declared.command.Verb.TheVariants as verbs
 use Rattle.acpitool_run.specs.declared.command.Wrong.{Wrong}
 use Rattle.acpitool_run.specs.declared.command.Wrong.TheVariants.{NoCommand, Unknown, NoFile, NoImage, NoText, NoTable, Base, Number, Twice}
-use Rattle.acpitool_run.specs.declared.command.Wrong.TheVariants.{NoSignature, Signature}
+use Rattle.acpitool_run.specs.declared.command.Wrong.TheVariants.{NoSignature, Signature, NoBlock}
 
 -- whether a word is an option: a dash and more
 abbrev pub is_option : List ℕ → Bool
@@ -50,6 +50,7 @@ word_of verbs.Show = codes "show"
 word_of verbs.Image = codes "image"
 word_of verbs.Make = codes "make"
 word_of verbs.Template = codes "template"
+word_of verbs.Disassemble = codes "disassemble"
 
 -- an option that asks for how the program is used
 abbrev pub IsHelp : List ℕ → Type 0
@@ -135,6 +136,8 @@ Asks words (Show files numbers) =
 Asks words (Image file base) = (more : List (List ℕ)) × AreAfter verbs.Image words more × AreImage more file.now base
 Asks words (Template signature) =
     (more : List (List ℕ)) × AreAfter verbs.Template words more × (more ≡ signature.now ∷ []) × (length signature.now ≡ 4)
+Asks words (Disassemble file numbers) =
+    (more : List (List ℕ)) × AreAfter verbs.Disassemble words more × (more ≡ file.now ∷ map (λ word. string_bytes word) numbers.now)
 Asks words (Make force text file) =
     (more : List (List ℕ)) × AreAfter verbs.Make words more × (force ≡ forces more) × (unforced more ≡ text.now ∷ file.now ∷ [])
 
@@ -150,6 +153,7 @@ pub record IsNoCommand (words : List (List ℕ)) (word : List ℕ) : Type 0 wher
   pub no_image : word ≢ codes "image"
   pub no_make : word ≢ codes "make"
   pub no_template : word ≢ codes "template"
+  pub no_disassemble : word ≢ codes "disassemble"
 
 -- a word after a command is an option that there isn't
 pub record IsNoOption (words : List (List ℕ)) (word : List ℕ) : Type 0 where
@@ -203,6 +207,7 @@ IsWrong words (Unknown word) =
 IsWrong words NoFile = (more : List (List ℕ)) × AreAfter verbs.Show words more × (files_in more ≡ 0)
 IsWrong words NoImage = words ≡ codes "image" ∷ []
 IsWrong words NoSignature = words ≡ codes "template" ∷ []
+IsWrong words NoBlock = words ≡ codes "disassemble" ∷ []
 IsWrong words (Signature word) =
     (more : List (List ℕ)) × AreAfter verbs.Template words more × (more ≡ word.now ∷ []) × (length word.now ≢ 4)
 IsWrong words NoText = (more : List (List ℕ)) × AreAfter verbs.Make words more × (unforced more ≡ [])

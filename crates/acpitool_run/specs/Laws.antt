@@ -2,7 +2,7 @@
 use Rattle.std.specs.Prelude.{◌≡◌, List, ℕ, map, string_bytes}
 use Rattle.acpitool_run.specs.Command.{Asks, IsWrong}
 use Rattle.acpitool_run.specs.declared.command.Command.{Command}
-use Rattle.acpitool_run.specs.declared.command.Command.TheVariants.{Help, Version, Show, Image, Make, Template}
+use Rattle.acpitool_run.specs.declared.command.Command.TheVariants.{Help, Version, Show, Image, Make, Template, Disassemble}
 use Rattle.acpitool_run.specs.declared.command.Wrong.{Wrong}
 
 -- the commands are one, with the same words
@@ -14,6 +14,8 @@ IsSame (Show files numbers) (Show others more) =
     × (map (λ word. string_bytes word) numbers.now ≡ map (λ word. string_bytes word) more.now)
 IsSame (Image file base) (Image other from) = (file.now ≡ other.now) × (base ≡ from)
 IsSame (Template signature) (Template other) = signature.now ≡ other.now
+IsSame (Disassemble file numbers) (Disassemble other more) =
+    (file.now ≡ other.now) × (map (λ word. string_bytes word) numbers.now ≡ map (λ word. string_bytes word) more.now)
 IsSame (Make force text file) (Make forced other target) = (force ≡ forced) × (text.now ≡ other.now) × (file.now ≡ target.now)
 IsSame _ _ = ⊥
 

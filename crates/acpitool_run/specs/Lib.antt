@@ -6,7 +6,9 @@ pub mod Terms
 pub mod Command
 pub mod Image
 pub mod Listing
+pub mod Hint
 pub mod Making
 pub mod Outcome
+pub mod Disassembly
 pub mod Program
 pub mod Laws

@@ -8,6 +8,7 @@ use Rattle.acpi_make.specs.declared.fault.Fault as texts
 use Rattle.acpi_make.specs.declared.fault.MakeError.TheVariants as errors
 use Rattle.acpi_make.specs.declared.make.Made.{Made}
 use Rattle.acpi_make.specs.declared.own.Own.{Own}
+use Rattle.acpitool_run.specs.Hint.{meant_in, hint}
 use Rattle.acpitool_run.specs.Listing.{NotRead}
 use Rattle.acpitool_run.specs.Outcome.{fault_line}
 use Rattle.acpitool_run.specs.Structures.{IsSoundOr}
@@ -73,11 +74,15 @@ pub record Held (force : Bool) (name text : List ℕ) (err err' : Option (List �
   pub is : IsMade text (Ok made)
   pub judged : IsJudged force name made.untrue.items made.bytes.items err err' false
 
+-- why a text isn't made into a table, and which signature was probably meant
+abbrev pub not_made : texts.Fault → List ℕ → List ℕ
+not_made wrong text = explained (fault_of wrong) text ++ hint (meant_in wrong.wanted text)
+
 -- the text isn't made into a table, and a line says why
 pub record NotMade (name text : List ℕ) (err err' : Option (List ℕ)) : Type 0 where
   pub wrong : texts.Fault
   pub is : IsMade text (Err (errors.Fault wrong))
-  pub complained : Appends err err' (name ++ codes ": " ++ explained (fault_of wrong) text ++ 10 ∷ [])
+  pub complained : Appends err err' (name ++ codes ": " ++ not_made wrong text ++ 10 ∷ [])
 
 -- the bytes of a table, if there are any to be written
 abbrev pub MadeOrNot : Bool → List ℕ → List ℕ → Option (List ℕ) → Option (List ℕ) → Option (List ℕ) → Type 0

@@ -9,22 +9,23 @@ use Rattle.acpi_forms.specs.Known.{is_known, meant}
 use Rattle.acpi_forms.specs.Makes.{IsTemplateOf}
 use Rattle.acpiread_run.specs.Command.{stated}
 use Rattle.acpitool_run.specs.Command.{Asks, IsWrong, IsMisstated}
+use Rattle.acpitool_run.specs.Disassembly.{DisassemblesFile}
 use Rattle.acpitool_run.specs.Listing.{Listed}
 use Rattle.acpitool_run.specs.Making.{Makes}
 use Rattle.acpitool_run.specs.Outcome.{AreOfEach, AreOfWord, PrintedAs}
 use Rattle.acpitool_run.specs.declared.command.Command.{Command}
-use Rattle.acpitool_run.specs.declared.command.Command.TheVariants.{Help, Version, Show, Image, Make, Template}
+use Rattle.acpitool_run.specs.declared.command.Command.TheVariants.{Help, Version, Show, Image, Make, Template, Disassemble}
 use Rattle.acpitool_run.specs.declared.command.Misstated.TheVariants as misstated
 use Rattle.acpitool_run.specs.declared.command.Wrong.{Wrong}
 use Rattle.acpitool_run.specs.declared.command.Wrong.TheVariants.{NoCommand, Unknown, NoFile, NoImage, NoText, NoTable, Base, Number, Twice}
-use Rattle.acpitool_run.specs.declared.command.Wrong.TheVariants.{NoSignature, Signature}
+use Rattle.acpitool_run.specs.declared.command.Wrong.TheVariants.{NoSignature, Signature, NoBlock}
 
 -- ---- how the program is used
 
 abbrev pub usage : List ℕ
 usage =
-    codes "usage: acpitool show FILE .. [NAME=N ..] | image FILE [BASE] | make [--force] TEXT FILE | template SIGNATURE"
-    ++ codes " | --help | --version\n"
+    codes "usage: acpitool show FILE .. [NAME=N ..] | disassemble FILE [NAME=N ..] | image FILE [BASE]"
+    ++ codes " | make [--force] TEXT FILE | template SIGNATURE | --help | --version\n"
 
 abbrev pub version : List ℕ
 version = codes "acpitool 0.1.0\n"
@@ -38,6 +39,7 @@ wrong_line NoImage = codes "acpitool: no file with an image\n"
 wrong_line NoText = codes "acpitool: no text to make\n"
 wrong_line NoTable = codes "acpitool: no file for the table\n"
 wrong_line NoSignature = codes "acpitool: no signature\n"
+wrong_line NoBlock = codes "acpitool: no file with a definition block\n"
 wrong_line (Signature word) = codes "acpitool: not a signature of four characters: " ++ word.now ++ codes "\n"
 wrong_line (Base word) = codes "acpitool: not an address in hexadecimal: " ++ word.now ++ codes "\n"
 wrong_line (Number word) = codes "acpitool: not NAME=N with N from 0 to 7: " ++ word.now ++ codes "\n"
@@ -73,6 +75,19 @@ abbrev pub IsShown : List (List ℕ) → List (List ℕ)
 IsShown files numbers out out' err err' status =
     AreShown files numbers out out' err err' status ⊎ NotStated numbers out out' err err' status
 
+-- ---- disassemble
+
+-- words state these numbers of arguments, and the file is disassembled
+pub record IsAslOf (file : List ℕ) (numbers : List (List ℕ)) (out out' err err' : Option (List ℕ)) (status : ℕ) : Type 0 where
+  pub all : List (List ℕ × ℕ)
+  pub stated : stated numbers ≡ Some all
+  pub disassembles : DisassemblesFile all file out out' err err' status
+
+abbrev pub IsAslShown : List ℕ → List (List ℕ)
+    → Option (List ℕ) → Option (List ℕ) → Option (List ℕ) → Option (List ℕ) → ℕ → Type 0
+IsAslShown file numbers out out' err err' status =
+    IsAslOf file numbers out out' err err' status ⊎ NotStated numbers out out' err err' status
+
 -- ---- template
 
 -- a signature as a word for a shell: that of a pointer ends in a space
@@ -105,6 +120,8 @@ IsDone (Show files numbers) out out' err err' status =
 IsDone (Image file base) out out' err err' status = Listed file.now base out out' err err' status
 IsDone (Template signature) out out' err err' status =
     IsTemplated (is_known signature.now) signature.now out out' err err' status
+IsDone (Disassemble file numbers) out out' err err' status =
+    IsAslShown file.now (map (λ word. string_bytes word) numbers.now) out out' err err' status
 IsDone (Make force text file) out out' err err' status = Makes force text.now file.now out out' err err' status
 
 -- a command that the words ask for was done

@@ -36,7 +36,7 @@ pub record IsNoReport (stated : List (List ℕ × ℕ)) (terms : List ℕ) (erro
 -- the lines of a report
 abbrev pub report_lines : List ℕ → List ℕ
 report_lines report =
-    comment (codes "Calls take the stated numbers of arguments, or else those of the methods in this table.") ++ comment report
+    comment (codes "Calls take the stated numbers of arguments, or else those that this table states.") ++ comment report
 
 -- the line of an error, with its offset if it has one
 abbrev pub unread_line : Option ℕ → List ℕ → List ℕ

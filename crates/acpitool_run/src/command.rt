@@ -31,6 +31,9 @@ pub enum Command<'a> {
     Make(bool, &'a str, &'a str),
     /// `template SIGNATURE`: a text of a table of the signature, for a start.
     Template(&'a str),
+    /// `disassemble FILE [NAME=N ..]`: the ASL of a definition block in a file, or on standard input where the word is `-`, and
+    /// the words that state numbers of arguments.
+    Disassemble(&'a str, &'a [String]),
 }
 
 /// A command that takes words.
@@ -40,6 +43,7 @@ pub enum Verb {
     Image,
     Make,
     Template,
+    Disassemble,
 }
 
 /// Why words ask for nothing.
@@ -59,6 +63,8 @@ pub enum Wrong<'a> {
     NoTable,
     /// `template` has no signature.
     NoSignature,
+    /// `disassemble` has no file.
+    NoBlock,
     /// The word isn't a signature of four bytes.
     Signature(&'a str),
     /// The word isn't an address in hexadecimal.
@@ -100,7 +106,7 @@ fn takes(verb: Verb, word: &str) -> bool
 {
     match verb {
         Verb::Make => is_force(word),
-        Verb::Show | Verb::Image | Verb::Template => false,
+        Verb::Show | Verb::Image | Verb::Template | Verb::Disassemble => false,
     }
 }
 
@@ -311,6 +317,18 @@ fn template(words: &[String]) -> Result<Command<'_>, Wrong<'_>>
     }
 }
 
+// Returns what `disassemble` and these words, which aren't options, ask for.
+fn disassemble(words: &[String]) -> Result<Command<'_>, Wrong<'_>>
+    requires { first_option verbs.Disassemble (map (λ word. string_bytes word) words.now) ≡ None }
+    ensures { (all : List (List ℕ)) → all ≡ codes "disassemble" ∷ map (λ word. string_bytes word) words.now
+        → MatchResult result (Asks all) (IsWrong all) }
+{
+    match words {
+        [] => Err(Wrong::NoBlock),
+        [file, numbers @ ..] => Ok(Command::Disassemble(file.as_str(), numbers)),
+    }
+}
+
 // Returns what a command and the words after it ask for.
 fn asked(verb: Verb, words: &[String]) -> Result<Command<'_>, Wrong<'_>>
     ensures { (all : List (List ℕ)) → all ≡ word_of verb ∷ map (λ word. string_bytes word) words.now
@@ -325,6 +343,7 @@ fn asked(verb: Verb, words: &[String]) -> Result<Command<'_>, Wrong<'_>>
             Verb::Image => image(words),
             Verb::Make => make(words),
             Verb::Template => template(words),
+            Verb::Disassemble => disassemble(words),
         },
     }
 }
@@ -346,6 +365,7 @@ pub fn parse(words: &[String]) -> Result<Command<'_>, Wrong<'_>>
         "image" => asked(Verb::Image, rest),
         "make" => asked(Verb::Make, rest),
         "template" => asked(Verb::Template, rest),
+        "disassemble" => asked(Verb::Disassemble, rest),
         word => Err(Wrong::Unknown(word)),
     }
 }

@@ -9,7 +9,8 @@ use std::io;
 use std::io::Write;
 
 const USAGE: &str = "\
-usage: acpitool show FILE .. [NAME=N ..] | image FILE [BASE] | make [--force] TEXT FILE | template SIGNATURE | --help | --version
+usage: acpitool show FILE .. [NAME=N ..] | disassemble FILE [NAME=N ..] | image FILE [BASE] \
+| make [--force] TEXT FILE | template SIGNATURE | --help | --version
 ";
 
 // What `--help`, `-h` and `help` print after the usage.
@@ -17,8 +18,11 @@ const HELP: &str = "
 show prints each table field by field: the offset, the name and the value of each field, and what the value
 means. The text has all bytes of the table. A FILE is a table, an RSDP, a FACS, a dump of tables as text (of
 acpidump), or a folder of such files; - is standard input. The terms of a DSDT or an SSDT follow as comments.
-NAME=N states how many arguments calls of NAME have. Calls of other names have as many as the method of this
-name in the table, or else none.
+NAME=N states how many arguments calls of NAME have. Calls of other names have as many as the table states for
+the method of this name, or else none.
+
+disassemble prints a DSDT or an SSDT as ASL, the language that compilers take. FILE is its table, or - for
+standard input.
 
 image finds the RSDP in a file with the bytes of a guest's memory, follows it to all tables, and checks them.
 It prints the address, signature, length and revision of each. BASE is the address of the first byte in
@@ -69,6 +73,7 @@ fn print_wrong<E: Write>(wrong: &Wrong<'_>, err: &mut E) -> io::Result<()>
         Wrong::NoImage => err.write_all(b"acpitool: no file with an image\n"),
         Wrong::NoText => err.write_all(b"acpitool: no text to make\n"),
         Wrong::NoSignature => err.write_all(b"acpitool: no signature\n"),
+        Wrong::NoBlock => err.write_all(b"acpitool: no file with a definition block\n"),
         Wrong::Signature(word) => {
             writeln!(err, "acpitool: not a signature of four characters: {word}")
         }

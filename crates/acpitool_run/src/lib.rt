@@ -4,9 +4,11 @@
 pub mod check;
 pub mod command;
 pub mod complaint;
+pub mod disassembly;
 pub mod fault;
 pub mod files;
 pub mod help;
+pub mod hint;
 pub mod image;
 pub mod laws;
 pub mod listing;

@@ -1,19 +1,20 @@
 //! Texts that are made into tables.
 
-ghost use Rattle.std.specs.Prelude.{◌≡◌, ◌≢◌, ◌⊎◌, ◌++◌, [], true, false, None, IfOk, OnOk, MatchResult};
+ghost use Rattle.std.specs.Prelude.{◌≡◌, ◌≢◌, ◌⊎◌, ◌++◌, [], true, false, None, IfOk, OnOk, MatchResult, string_bytes};
 ghost use Rattle.std.specs.Bool.{MatchBool};
 ghost use Rattle.std.specs.Option.{option_map};
 ghost use Rattle.std.specs.Io.KnownBytes.{Appends};
-ghost use Rattle.acpitool_run.specs.Making.{note, notes, IsChecked, warnings, held_line, IsJudged, same_line, MadeOrNot, Saved, NotSaved};
+ghost use Rattle.acpitool_run.specs.Making.{note, notes, IsChecked, warnings, held_line, IsJudged, same_line, not_made, MadeOrNot, Saved, NotSaved};
 ghost use Rattle.acpitool_run.specs.Making.{IsWritten, MakesText, MakesWord, Makes};
 
 use crate::complaint::complain;
 use crate::fault::Fault;
 use crate::files::{read_word, write_file};
+use crate::hint::{meant_in, push_hint};
 use crate::outcome::{tell_fault, tell_unread};
 use crate::structures::wrong_with;
 use acpi_forms::make::make;
-use acpi_make::fault::MakeError;
+use acpi_make::fault::{Fault as TextFault, MakeError};
 use acpi_make::own::Own;
 use std::alloc::{AllocError, Global};
 use std::io;
@@ -110,6 +111,16 @@ fn judge<E: Write>(
     Ok(true)
 }
 
+// Returns why a text isn't made into a table, and which signature was probably meant.
+fn why_not_made(alloc: Global, wrong: &TextFault, text: &[u8]) -> Result<String, AllocError>
+    ensures { IfOk result (λ why. string_bytes why ≡ not_made wrong.now text.now) }
+{
+    let mut why = wrong.explain(alloc, text)?;
+    let signature = meant_in(alloc, wrong.wanted, text)?;
+    push_hint(&signature, &mut why)?;
+    Ok(why)
+}
+
 /// Makes a text into a table, and returns the table's bytes if they are to be written. A line on `err` says of each number that
 /// isn't right which would be, or else what is wrong with the table: such a table is only written by force. Or a line says why the
 /// text isn't made into a table. An error is that of `err`, or memory ran out.
@@ -133,7 +144,7 @@ pub fn make_text<E: Write>(
         }
         Err(MakeError::Memory) => Err(io::Error::from(AllocError)),
         Err(MakeError::Fault(wrong)) => {
-            let why = wrong.explain(alloc, text)?;
+            let why = why_not_made(alloc, &wrong, text)?;
             complain(alloc, name, &why, err)?;
             Ok(None)
         }

@@ -8,6 +8,7 @@ ghost use Rattle.acpi_forms.specs.Makes.{IsTemplateOf};
 ghost use Rattle.acpitool_run.specs.Program.{as_word, suggestion, unknown_line, IsTemplated, Ended, IsLost, Started};
 
 use crate::command::{Command, parse};
+use crate::disassembly::disassemble;
 use crate::help::{print_help, print_version, tell_wrong};
 use crate::listing::list_file;
 use crate::making::make_file;
@@ -106,6 +107,7 @@ pub fn run<R: Files + Input + AllocGlobal + Clone + Drop, O: Write, E: Write>(
         Ok(Command::Help) => print_help(out),
         Ok(Command::Version) => print_version(out),
         Ok(Command::Show(files, words)) => show_all(rt, alloc, files, words, out, err),
+        Ok(Command::Disassemble(file, words)) => disassemble(rt, alloc, file, words, out, err),
         Ok(Command::Image(file, base)) => list_file(rt, alloc, file, base, out, err),
         Ok(Command::Template(signature)) => template_of(alloc, signature, out, err),
         Ok(Command::Make(force, text, file)) => make_file(rt, alloc, force, text, file, out, err),

@@ -15,11 +15,11 @@ use acpi_terms_text::methods::own_arities;
 use acpi_text::comment::push_comment;
 use std::alloc::{AllocError, Global};
 
-// The offset of the terms of a table: they follow its header.
-const BODY: usize = 36;
+/// The offset of the terms of a table: they follow its header.
+pub const BODY: usize = 36;
 
-// Returns whether terms follow the header of a table.
-fn has_terms(bytes: &[u8]) -> bool
+/// Returns whether terms follow the header of a table.
+pub fn has_terms(bytes: &[u8]) -> bool
     ensures { result ≡ has_terms bytes.now }
 {
     bytes.len() >= BODY && (bytes.starts_with(b"DSDT") || bytes.starts_with(b"SSDT"))
@@ -41,7 +41,7 @@ fn report_lines(alloc: Global, report: &str) -> Result<String, AllocError>
 {
     let mut lines = String::new(alloc);
     push_comment(
-        "Calls take the stated numbers of arguments, or else those of the methods in this table.",
+        "Calls take the stated numbers of arguments, or else those that this table states.",
         &mut lines,
     )?;
     push_comment(report, &mut lines)?;
@@ -93,7 +93,7 @@ fn block_lines(alloc: Global, stated: &Arities, bytes: &[u8]) -> Result<String, 
 }
 
 /// Returns what follows the text of a table: the report of a definition block's terms in comments, or why they can't be read.
-/// Calls take the stated numbers of arguments, or else those of the block's own methods. The error is that memory ran out.
+/// Calls take the stated numbers of arguments, or else those of the block's methods and external methods. The error is that memory ran out.
 pub fn lines_after(alloc: Global, stated: &Arities, bytes: &[u8]) -> Result<String, AllocError>
     ensures { IfOk result (λ after. IsAfter stated.now bytes.now (string_bytes after)) }
 {

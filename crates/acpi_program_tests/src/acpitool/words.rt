@@ -5,7 +5,8 @@ use std::test::Fail;
 
 // What is printed after the line of a wrong word.
 const USAGE: &str = "\
-usage: acpitool show FILE .. [NAME=N ..] | image FILE [BASE] | make [--force] TEXT FILE | template SIGNATURE | --help | --version
+usage: acpitool show FILE .. [NAME=N ..] | disassemble FILE [NAME=N ..] | image FILE [BASE] \
+| make [--force] TEXT FILE | template SIGNATURE | --help | --version
 ";
 
 // The template of a definition block.
@@ -49,6 +50,8 @@ fn wrong_commands(rt: HostRuntime) -> Result<(), Fail> {
             (&["show"], "no file to show\n"),
             (&["show", "MTHD=2"], "no file to show\n"),
             (&["image"], "no file with an image\n"),
+            (&["disassemble"], "no file with a definition block\n"),
+            (&["disassemble", "x", "y"], "not NAME=N with N from 0 to 7: y\n"),
         ],
     )
 }

@@ -14,3 +14,7 @@ returns-in-Make c = λ all is. c.make.ensures all
 pub returns-in-Template : goal.returns-in-Template
 returns-in-Template c = λ all is. c.template.ensures all
     (is ∙ ap (λ (verb : Verb). word_of verb ∷ map (λ word. string_bytes word) c.args.words.now) c.in-Template.is)
+
+pub returns-in-Disassemble : goal.returns-in-Disassemble
+returns-in-Disassemble c = λ all is. c.disassemble.ensures all
+    (is ∙ ap (λ (verb : Verb). word_of verb ∷ map (λ word. string_bytes word) c.args.words.now) c.in-Disassemble.is)

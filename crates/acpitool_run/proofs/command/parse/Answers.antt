@@ -55,3 +55,8 @@ pub returns-in-template : goal.returns-in-template
 returns-in-template c = c.asked-in-template.ensures _
     (front_of_all (λ word. string_bytes word) c.args.words.now c.word-item.result _
     (sym c.as_str.ensures.value ∙ c.in-template.is) c.word-item.is c.in-len1-up.len_at_least)
+
+pub returns-in-disassemble : goal.returns-in-disassemble
+returns-in-disassemble c = c.asked-in-disassemble.ensures _
+    (front_of_all (λ word. string_bytes word) c.args.words.now c.word-item.result _
+    (sym c.as_str.ensures.value ∙ c.in-disassemble.is) c.word-item.is c.in-len1-up.len_at_least)
