@@ -51,7 +51,10 @@ fn wrong_commands(rt: HostRuntime) -> Result<(), Fail> {
             (&["show", "MTHD=2"], "no file to show\n"),
             (&["image"], "no file with an image\n"),
             (&["disassemble"], "no file with a definition block\n"),
-            (&["disassemble", "x", "y"], "not NAME=N with N from 0 to 7: y\n"),
+            (
+                &["disassemble", "x", "y"],
+                "not NAME=N with N from 0 to 7: y\n",
+            ),
         ],
     )
 }
