@@ -1,12 +1,15 @@
 #!/bin/sh
-# Counts the instructions that each workload of acpi_bench takes, and compares them with those that bench.txt has. It ends with
-# status 1 where one takes more than a tenth more, or where the text of a term at depth 250 takes twice as many as at depth 1.
+# Counts the instructions that each workload of test_bench takes, and those of acpitool on inputs of many parts, and compares them
+# with those that bench.txt has. It ends with status 1 where
+# - one takes more than a tenth more;
+# - the text of a term at depth 250 takes twice as many as at depth 1;
+# - a part of a large input takes half as many again as a part of a small one.
 # bench.txt has a line for each workload: its name, its instructions, and what they are for. Figures that have fallen are written
 # into it.
 #
 # A workload is run at a size and at size 0, and the second count is taken from the first: so the start of the program isn't
-# counted. Instructions don't depend on what else a machine does. The program and what it stands on are proved first: the first
-# run takes minutes, and a later one a minute. It needs valgrind.
+# counted. Instructions don't depend on what else a machine does. The programs and what they stand on are proved first: the first
+# run takes minutes, and a later one a minute. It needs valgrind and Python.
 set -eu
 cd "$(dirname "$0")/.."
 
@@ -14,20 +17,21 @@ cd "$(dirname "$0")/.."
 
 command -v valgrind >/dev/null || { echo 'bench.sh: valgrind is missing' >&2; exit 1; }
 
-prove acpi_bench
-bench=crates/acpi_bench/out/acpi_bench
+prove test_bench acpitool
+bench=crates/test_bench/out/test_bench
+tool=crates/acpitool/out/acpitool
 figures=$work/figures
 status=0
 
-# The instructions of a run.
+# The instructions of a run of a program.
 instructions() {
-    valgrind --tool=callgrind --callgrind-out-file=/dev/null "$bench" "$1" 2>&1 | sed -n 's/.*Collected : //p'
+    valgrind --tool=callgrind --callgrind-out-file=/dev/null "$@" 2>&1 | sed -n 's/.*Collected : //p'
 }
 
 # The instructions that a workload of a size takes more than an empty one.
 more() {
-    none=$(instructions "$1=0")
-    all=$(instructions "$1=$2")
+    none=$(instructions "$bench" "$1=0")
+    all=$(instructions "$bench" "$1=$2")
     echo $((all - none))
 }
 
@@ -66,6 +70,30 @@ beyond() {
     figure "$1" $(($(more "$1" "$3") - $(more "$2" "$3"))) "$4" "$5"
 }
 
+# The instructions of a command of acpitool on an input of many.py with so many parts. The last words come after the input.
+on() {
+    command=$1 kind=$2 count=$3
+    shift 3
+    python3 -B tools/many.py "$kind" "$count" >"$work/$kind"
+    rm -f "$work/table"
+    instructions "$tool" "$command" "$work/$kind" "$@"
+}
+
+# A command of acpitool, the kind of its input, how many parts this has, and what one is. A part of it is compared with one of an
+# input with a tenth of the parts.
+many() {
+    command=$1 kind=$2 count=$3 what=$4
+    shift 4
+    few=$(on "$command" "$kind" $((count / 100)) "$@")
+    some=$(on "$command" "$kind" $((count / 10)) "$@")
+    all=$(on "$command" "$kind" "$count" "$@")
+    figure "$kind" $((all - some)) $((count - count / 10)) "$what"
+    if [ $(((all - some) / 10)) -gt $(((some - few) * 3 / 2)) ]; then
+        echo "too slow: $kind isn't linear, with $((some - few)) instructions for $((count / 10 - count / 100)) parts" >&2
+        status=1
+    fi
+}
+
 built xsdt 4096 'an entry of 8 bytes'
 built mcfg 4096 'an entry of 16 bytes'
 built madt 4096 'a structure of 36 bytes'
@@ -90,6 +118,11 @@ beyond show madt 28000 1008000 'a byte of a table of structures of 36 bytes that
 beyond make show 2000 "$(made show 2000)" 'a byte of text that is made into a table'
 built flat 20000 'a term at depth 1'
 built deep 20000 'a term at depth 250'
+
+many make marks 40000 'a structure whose length is made of question marks' "$work/table"
+many make references 20000 'a node that refers to another, which is made' "$work/table"
+many show methods 4000 'a method that is shown, and a call of it'
+many image image 20000 'a table of an image'
 
 term() {
     sed -n "s/^$1 \([0-9]*\) .*/\1/p" "$figures"

@@ -8,7 +8,7 @@ import re
 import sys
 
 CRATE = "crates/acpi_c"
-RUN = "crates/acpi_c_run/src"
+RUN = "crates/acpi_c_calls/src"
 # A type of an export: the parameters in C that stand for it.
 TYPES = {
     "Global": [],

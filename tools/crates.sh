@@ -89,9 +89,9 @@ begin() {
     acpi_example) mkdir -p "$work/first" && set -- run --jobs 1 -- "$work/first" 0 ;;
     acpiread) printf '\0' >"$work/zero" && set -- run --jobs 1 -- aml "$work/zero" ;;
     acpitool) set -- run --jobs 1 -- --version ;;
-    acpi_bench) set -- run --jobs 1 -- xsdt=2 ;;
-    acpi_limits) set -- run --jobs 1 -- VIOT ;;
-    acpi_memory | test_cases) set -- run --jobs 1 ;;
+    test_bench) set -- run --jobs 1 -- xsdt=2 ;;
+    test_limits) set -- run --jobs 1 -- VIOT ;;
+    test_memory | test_cases) set -- run --jobs 1 ;;
     *) set -- lib --jobs 1 ;;
     esac
     folder=$PWD/out/$crate

@@ -1,6 +1,6 @@
 #!/bin/sh
-# Compares the documents with what the gate compiles and compares: the programs of README with the crates readme_table and
-# readme_image, its samples with the output that the programs are compared with, the fields in docs/FIELDS.md with the output of
+# Compares the documents with what the gate compiles and compares: the programs of README with the crates test_readme_table and
+# test_readme_image, its samples with the output that the programs are compared with, the fields in docs/FIELDS.md with the output of
 # `acpitool show`, the declarations for C and Rust with the source of `acpi_c`, and the names that documents cite with those of the
 # sources. It says what differs, and then its status is 1. It proves nothing and needs no built program.
 set -eu
@@ -24,7 +24,7 @@ awk -v work="$work" '
 ' README.md
 
 number=0
-for crate in readme_table readme_image; do
+for crate in test_readme_table test_readme_image; do
     number=$((number + 1))
     main=crates/$crate/src/main.rt
     if [ ! -f "$work/program$number" ]; then
@@ -92,5 +92,6 @@ awk -v work="$work" -v stdout_of_acpitool=crates/acpitool/stdout -v stdout_of_ac
 python3 -B tools/fields.py || status=1
 python3 -B tools/c_header.py || status=1
 python3 -B tools/cited.py || status=1
+python3 -B tools/manual.py page >"$work/manual" || status=1
 
 exit "$status"

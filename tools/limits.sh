@@ -11,8 +11,8 @@ cd "$(dirname "$0")/.."
 
 . tools/crates.sh
 
-prove acpi_limits acpiread acpitool
-limits=crates/acpi_limits/out/acpi_limits
+prove test_limits acpiread acpitool
+limits=crates/test_limits/out/test_limits
 read=crates/acpiread/out/acpiread
 tool=crates/acpitool/out/acpitool
 

@@ -1,5 +1,5 @@
 #!/bin/sh
-# Runs programs once for each growth, with that one refused by memory.c. `acpi_memory` has to end as ever, since it makes each
+# Runs programs once for each growth, with that one refused by memory.c. `test_memory` has to end as ever, since it makes each
 # refused call once more, and has to say that as many calls returned that memory ran out as growths were refused. `acpiread` has
 # to print its whole report, or to end with status 1, `refused: Memory` and no report. `acpitool` has to print a whole text, or to
 # write a whole table, or to end with a line that says that memory ran out, and nothing else. All are proved before they are
@@ -33,9 +33,9 @@ device >"$work/aml"
 { header 'DSDT\126\0\0\0\002\107' && device; } >"$work/dsdt"
 
 if [ "${1-}" != built ]; then
-    prove acpi_memory acpiread acpitool
+    prove test_memory acpiread acpitool
 fi
-memory=$PWD/crates/acpi_memory/out/acpi_memory
+memory=$PWD/crates/test_memory/out/test_memory
 read=$PWD/crates/acpiread/out/acpiread
 tool=$PWD/crates/acpitool/out/acpitool
 cc -shared -fPIC -O1 -o "$work/memory.so" tools/memory.c
@@ -84,7 +84,7 @@ is_whole() {
     [ "$status" = 0 ] && cmp -s "$work/out" "$work/whole" && [ ! -s "$work/err" ]
 }
 
-# acpi_memory makes the refused call again, and says how many calls returned that memory ran out.
+# test_memory makes the refused call again, and says how many calls returned that memory ran out.
 is_made_again() {
     wanted=$(sed "s/memory: 0\$/memory: $refused/" "$work/whole")
     if [ "$status" != 0 ] || [ "$(cat "$work/out")" != "$wanted" ] || [ -s "$work/err" ]; then
@@ -112,7 +112,7 @@ is_made_or_says_memory() {
 }
 
 each is_made_again 0 "$memory"
-cmp "$work/whole" crates/acpi_memory/stdout
+cmp "$work/whole" crates/test_memory/stdout
 each is_whole_or_refused 1 "$read" table "$work/table"
 each is_whole_or_refused 1 "$read" aml "$work/aml"
 each is_whole_or_refused 1 "$read" dsdt "$work/dsdt"

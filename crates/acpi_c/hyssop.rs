@@ -66,7 +66,7 @@ pub mod fault {
     pub const WANTS_ONE_TABLE: u32 = 85;
     pub const WANTS_TABLE: u32 = 86;
     pub const WANTS_FIELD_OF: u32 = 87;
-    pub const WANTS_RIGHT: u32 = 88;
+    pub const WANTS_ANOTHER_NUMBER: u32 = 88;
 }
 
 /// A structure of a table: its offset in the table, its type or `NO_KIND`, and the number of its bytes.

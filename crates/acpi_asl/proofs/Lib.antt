@@ -2,3 +2,4 @@ pub mod Pieces
 pub mod Walks
 pub mod Externals
 pub mod Items
+pub mod Namespaces

@@ -9,3 +9,4 @@ pub mod Descriptor
 pub mod Template
 pub mod Special
 pub mod Asl
+pub mod Namespace

@@ -5,10 +5,11 @@ use Rattle.acpi_term.specs.Tree.{Head, number, ones, string, local, arg, call, d
 use Rattle.acpi_term.specs.Tree.{def_method, def_power_res, def_field, def_op_region, def_name, def_mutex, def_acquire}
 use Rattle.acpi_term.specs.Tree.{def_release, def_buffer, def_package, def_var_package, def_if, def_while, def_else, op}
 use Rattle.acpi_term.specs.Tree.{def_external, def_leveled_method, def_processor, def_thermal_zone, def_roomy_package}
-use Rattle.acpi_term.specs.Tree.{def_index_field}
+use Rattle.acpi_term.specs.Tree.{def_index_field, def_fatal, match_test}
 use Rattle.acpi_asl.specs.Number.{hex, number_text, short_hex, string_text}
 use Rattle.acpi_asl.specs.Name.{asl_name}
-use Rattle.acpi_asl.specs.Word.{operator_word, access_word, lock_word, update_word, space_word, object_word, serialize_word}
+use Rattle.acpi_asl.specs.Word.{operator_word, access_word, lock_word, update_word, space_word, object_word, match_word}
+use Rattle.acpi_asl.specs.Word.{serialize_word}
 use Rattle.acpi_asl.specs.Place.{place, opened}
 
 -- The word of a head in this width. A compiler makes a VarPackage of a Package only if its number of elements isn't a number. So
@@ -43,6 +44,8 @@ head_word (def_processor name id address size) w = codes "Processor"
 head_word (def_thermal_zone name) w = codes "ThermalZone"
 head_word (def_roomy_package room) w = codes "Package"
 head_word (def_index_field index name access lock update entries) w = codes "IndexField"
+head_word (def_fatal kind code) w = codes "Fatal"
+head_word (match_test k) w = match_word k
 
 -- a further argument
 abbrev pub further : List ℕ → List ℕ
@@ -92,6 +95,7 @@ own (def_processor name id address size) n =
 own (def_thermal_zone name) n = asl_name name
 own (def_roomy_package room) n = hex 1 room
 own (def_index_field index name access lock update entries) n = asl_name index ++ further (field_own name access lock update)
+own (def_fatal kind code) n = hex 1 kind ++ further (hex 4 code)
 own _ n = []
 
 -- Whether a head with n children has parentheses. A name that stands as a statement is a call, also without arguments.
@@ -104,6 +108,7 @@ has_parentheses statement (arg k) n = false
 has_parentheses statement (call name) n = statement || nat_lt 0 n
 has_parentheses statement def_else n = false
 has_parentheses statement (op o) n = nat_lt 0 n
+has_parentheses statement (match_test k) n = false
 has_parentheses statement _ n = true
 
 -- the parentheses up to the operands

@@ -8,6 +8,7 @@ use Rattle.acpi_term.specs.Tree.{Head, number, call, def_scope, def_device}
 use Rattle.acpi_term.specs.Tree.{def_method, def_power_res, def_field, def_op_region, def_name}
 use Rattle.acpi_term.specs.Tree.{def_buffer, def_package, def_var_package, def_if, def_while, def_else, op}
 use Rattle.acpi_term.specs.Tree.{def_leveled_method, def_processor, def_thermal_zone, def_roomy_package, def_index_field}
+use Rattle.acpi_term.specs.Tree.{def_fatal, match_test}
 use Rattle.acpi_term.specs.Tree.{Terms, end, term}
 use Rattle.acpi_asl.specs.declared.place.Body.{Body}
 use Rattle.acpi_asl.specs.declared.place.Body.TheVariants.{Absent, Statements, Elements, Rows}
@@ -46,15 +47,16 @@ targets _ = 0
 
 -- so many arguments, after others of the term itself or not, of which the last ones are targets; and what is in the braces
 abbrev pub in_place : ℕ → Bool → ℕ → Body → Place
-in_place n led last body = record { arguments = n; led = led; targets = last; body = body; ids = false }
+in_place n led last body = record { arguments = n; led = led; targets = last; body = body; ids = false; uuids = false }
 
 -- in the braces alone
 abbrev pub in_braces : Body → Place
 in_braces body = in_place 0 false 0 body
 
--- the same, where numbers are ids or not
-abbrev pub with_ids : Bool → Place → Place
-with_ids ids p = record { arguments = p.arguments; led = p.led; targets = p.targets; body = p.body; ids = ids }
+-- the same, where numbers are ids or not, and buffers of 16 bytes are UUIDs or not
+abbrev pub with_ids : Bool → Bool → Place → Place
+with_ids ids uuids p =
+    record { arguments = p.arguments; led = p.led; targets = p.targets; body = p.body; ids = ids; uuids = uuids }
 
 -- the last four bytes of a name
 abbrev pub last_segment : List ℕ → List ℕ
@@ -70,6 +72,12 @@ has_ids ids (def_name name) = is_id_name name
 has_ids ids def_package = ids
 has_ids ids (def_roomy_package room) = ids
 has_ids ids _ = false
+
+-- Whether a buffer of 16 bytes among a head's children is a UUID: if it is compared, as methods do with their first argument
+-- (ACPI 6.5, 6.2.11 and 9.1.1).
+abbrev pub has_uuids : Head → Bool
+has_uuids (op op.LEqual) = true
+has_uuids _ = false
 
 -- Where the n children of a head begin (ACPI 6.5, 19.2.3 to 19.2.5).
 abbrev pub place : Head → ℕ → Place
@@ -93,15 +101,18 @@ place (def_processor name id address size) n = in_braces Statements
 place (def_thermal_zone name) n = in_braces Statements
 place (def_roomy_package room) n = in_braces Elements
 place (def_index_field index name access lock update entries) n = in_braces Rows
+place (def_fatal kind code) n = in_place 1 true 0 Absent
+-- the operand of a test is followed by another argument of the Match
+place (match_test k) n = in_place 2 true 0 Absent
 place _ n = in_braces Absent
 
 -- the same, if the head stands in a place
 abbrev pub place_in : Place → Head → ℕ → Place
-place_in p h n = with_ids (has_ids p.ids h) (place h n)
+place_in p h n = with_ids (has_ids p.ids h) (has_uuids h) (place h n)
 
 -- the place after one term
 abbrev pub next : Place → Place
-next p = with_ids p.ids (in_place (p.arguments - 1) (not (p.arguments == 1)) p.targets p.body)
+next p = with_ids p.ids p.uuids (in_place (p.arguments - 1) (not (p.arguments == 1)) p.targets p.body)
 
 -- the place after terms
 abbrev pub place_after : Place → Terms → Place

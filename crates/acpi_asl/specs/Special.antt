@@ -1,5 +1,5 @@
 -- Terms whose text isn't made of their children's.
-use Rattle.std.specs.Prelude.{ℕ, ◌==◌, ◌&&◌, ◌||◌, not, Bool, true, false, if◌then◌else◌, List, [], ◌++◌, length}
+use Rattle.std.specs.Prelude.{ℕ, ◌==◌, ◌&&◌, ◌||◌, not, Bool, true, false, if◌then◌else◌, List, [], ◌++◌, length, codes}
 use Rattle.acpi_term.specs.Tree.{Head, number, def_buffer, def_if, def_external, Terms, end, term}
 use Rattle.acpi_asl.specs.declared.place.Place.{Place}
 use Rattle.acpi_asl.specs.Eisa.{is_eisa, eisa_text}
@@ -7,6 +7,7 @@ use Rattle.acpi_asl.specs.Number.{least_bytes}
 use Rattle.acpi_asl.specs.Opening.{opening}
 use Rattle.acpi_asl.specs.Place.{is_left_out, is_null, new_line}
 use Rattle.acpi_asl.specs.Template.{is_template, template_text}
+use Rattle.acpi_terms_text.specs.Uuid.{uuid_text}
 
 -- ---- externals
 
@@ -60,6 +61,17 @@ abbrev pub is_template_buffer : Head → Terms → Bool
 is_template_buffer (def_buffer bytes) children = has_size (length bytes) children && is_template 0 bytes
 is_template_buffer _ children = false
 
+-- ---- UUIDs
+
+-- Whether a head in a place is a buffer that ToUUID makes: with 16 bytes, and this number as its size.
+abbrev pub is_uuid : Place → Head → Terms → Bool
+is_uuid p (def_buffer bytes) children = p.uuids && length bytes == 16 && has_size 16 children
+is_uuid p _ children = false
+
+-- the term that a compiler makes into a buffer of these bytes (ACPI 6.5, 19.6.142)
+abbrev pub to_uuid : List ℕ → List ℕ
+to_uuid bytes = codes "ToUUID (\"" ++ uuid_text bytes ++ codes "\")"
+
 -- ---- all of them
 
 -- whether a head in this width is an id, in a place where numbers are
@@ -70,10 +82,12 @@ is_id_number p _ w = false
 -- whether a term in a place is special
 abbrev pub is_special : Place → Head → ℕ → Terms → Bool
 is_special p h w children =
-    is_left_out p h w || is_id_number p h w || is_external_block h children || is_template_buffer h children
+    is_left_out p h w || is_id_number p h w || is_external_block h children || is_uuid p h children
+    || is_template_buffer h children
 
 -- the text of a special term at its depth: none for a target that is left out
 abbrev pub special_text : Place → Head → ℕ → Terms → ℕ → List ℕ
 special_text p (number v) w children d = if is_left_out p (number v) w then [] else eisa_text v
-special_text p (def_buffer bytes) w children d = template_text d bytes
+special_text p (def_buffer bytes) w children d =
+    if is_uuid p (def_buffer bytes) children then to_uuid bytes else template_text d bytes
 special_text p _ w children d = externals_text d true (after_first children)

@@ -49,6 +49,7 @@ operator_word op.Divide = codes "Divide"
 operator_word op.Not = codes "Not"
 operator_word op.FindSetLeftBit = codes "FindSetLeftBit"
 operator_word op.FindSetRightBit = codes "FindSetRightBit"
+operator_word op.Match = codes "Match"
 operator_word op.CreateWordField = codes "CreateWordField"
 operator_word op.CreateByteField = codes "CreateByteField"
 operator_word op.CreateBitField = codes "CreateBitField"
@@ -151,6 +152,17 @@ object_types =
     ∷ (15, codes "DDBHandleObj")
     ∷ []
 
+-- the ways in which Match compares (MatchOpKeyword)
+abbrev pub match_operators : List (ℕ × List ℕ)
+match_operators =
+    (0, codes "MTR")
+    ∷ (1, codes "MEQ")
+    ∷ (2, codes "MLE")
+    ∷ (3, codes "MLT")
+    ∷ (4, codes "MGE")
+    ∷ (5, codes "MGT")
+    ∷ []
+
 abbrev pub access_word : ℕ → List ℕ
 access_word n = or_number n (word_in access_types n)
 
@@ -165,6 +177,9 @@ space_word n = or_number n (word_in region_spaces n)
 
 abbrev pub object_word : ℕ → List ℕ
 object_word n = or_number n (word_in object_types n)
+
+abbrev pub match_word : ℕ → List ℕ
+match_word n = or_number n (word_in match_operators n)
 
 -- SerializeRuleKeyword
 abbrev pub serialize_word : Bool → List ℕ

@@ -30,6 +30,7 @@ const STATEMENTS: Place = Place {
     targets: 0,
     body: Body::Statements,
     ids: false,
+    uuids: false,
 };
 
 #[cycle(asl)]

@@ -6,6 +6,7 @@ mod descriptor;
 mod eisa;
 mod item;
 mod name;
+pub mod namespace;
 mod number;
 mod opening;
 pub mod place;

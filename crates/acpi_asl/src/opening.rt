@@ -16,8 +16,8 @@ use crate::name::push_name;
 use crate::number::{push_decimal, push_hex, push_number, push_short_hex, push_string};
 use crate::place::{Place, place_of, push_opened};
 use crate::word::{
-    operator_word, push_access_word, push_lock_word, push_object_word, push_space_word,
-    push_update_word, serialize_word,
+    operator_word, push_access_word, push_lock_word, push_match_word, push_object_word,
+    push_space_word, push_update_word, serialize_word,
 };
 use acpi_term::apart::Kind;
 use acpi_term::name_string::NameString;
@@ -62,6 +62,8 @@ pub fn push_word(kind: Kind<'_>, width: u8, text: &mut String) -> Result<(), All
         Kind::Processor(..) => text.push_str("Processor"),
         Kind::ThermalZone(_) => text.push_str("ThermalZone"),
         Kind::IndexField(..) => text.push_str("IndexField"),
+        Kind::Fatal(..) => text.push_str("Fatal"),
+        Kind::MatchTest(code) => push_match_word(code, text),
     }
 }
 
@@ -287,6 +289,13 @@ fn push_external(name: &NameString, kind: u8, args: u8, text: &mut String) -> Re
     push_parameters(args, text)
 }
 
+fn push_fatal(kind: u8, code: u32, text: &mut String) -> Result<(), AllocError>
+    ensures { OnOk result (string_bytes text.new ≡ string_bytes text.old ++ (hex 1 kind ++ further (hex 4 code))) }
+{
+    push_hex(1, u64::from(kind), text)?;
+    push_further_hex(4, u64::from(code), text)
+}
+
 /// Adds the arguments that aren't operands, of a term with this many children.
 pub fn push_own(kind: Kind<'_>, count: usize, text: &mut String) -> Result<(), AllocError>
     ensures { OnOk result (string_bytes text.new ≡ string_bytes text.old ++ own (head_of kind.entry) count) }
@@ -315,6 +324,7 @@ pub fn push_own(kind: Kind<'_>, count: usize, text: &mut String) -> Result<(), A
         }
         Kind::Package => push_short_hex(count as u64, text),
         Kind::RoomyPackage(room) => push_hex(1, u64::from(room), text),
+        Kind::Fatal(kind, code) => push_fatal(kind, code, text),
         Kind::Number(_)
         | Kind::Ones
         | Kind::Text(_)
@@ -326,6 +336,7 @@ pub fn push_own(kind: Kind<'_>, count: usize, text: &mut String) -> Result<(), A
         | Kind::If
         | Kind::While
         | Kind::Else
+        | Kind::MatchTest(_)
         | Kind::Op(_) => Ok(()),
     }
 }
@@ -337,6 +348,7 @@ pub fn has_parentheses(statement: bool, kind: Kind<'_>, count: usize) -> bool
     match kind {
         Kind::Number(_) | Kind::Ones | Kind::Text(_) | Kind::Local(_) | Kind::Arg(_) | Kind::Else =>
             false,
+        Kind::MatchTest(_) => false,
         Kind::Call(_) => statement || count > 0,
         Kind::Op(_) => count > 0,
         _ => true,

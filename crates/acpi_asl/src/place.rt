@@ -2,7 +2,7 @@
 
 ghost use Rattle.std.specs.Prelude.{◌≡◌, ◌++◌, IfOk, OnOk, string_bytes};
 ghost use Rattle.acpi_term.specs.View.{head_of};
-ghost use Rattle.acpi_asl.specs.Place.{last_segment, is_id_name, has_ids, place_in, targets, place, next, has_braces};
+ghost use Rattle.acpi_asl.specs.Place.{last_segment, is_id_name, has_ids, has_uuids, place_in, targets, place, next, has_braces};
 ghost use Rattle.acpi_asl.specs.Place.{is_elements, is_statements, is_statement, is_null};
 ghost use Rattle.acpi_asl.specs.Place.{is_left_out, spaces, new_line, depth_in, opened, closed, separator, before, after};
 
@@ -34,6 +34,8 @@ pub struct Place {
     pub body: Body,
     /// Whether numbers are ids: the value of `_HID` or `_CID`, or an element of a package there.
     pub ids: bool,
+    /// Whether buffers of 16 bytes are UUIDs: the operands of a comparison.
+    pub uuids: bool,
 }
 
 /// How many of an operator's last operands are targets (ACPI 6.5, 19.2.5).
@@ -81,6 +83,7 @@ fn in_place(arguments: usize, led: bool, targets: usize, body: Body) -> Place
         targets,
         body,
         ids: false,
+        uuids: false,
     }
 }
 
@@ -91,7 +94,9 @@ pub fn place_of(kind: Kind<'_>, count: usize) -> Place
     match kind {
         Kind::Call(_) => in_place(count, false, 0, Body::Absent),
         Kind::Op(op) => in_place(count, false, targets(op), Body::Absent),
-        Kind::Name(_) => in_place(1, true, 0, Body::Absent),
+        Kind::Name(_) | Kind::Fatal(..) => in_place(1, true, 0, Body::Absent),
+        // The operand of a test is followed by another argument of the Match.
+        Kind::MatchTest(_) => in_place(2, true, 0, Body::Absent),
         Kind::OpRegion(..) => in_place(2, true, 0, Body::Absent),
         Kind::If | Kind::While => in_place(1, false, 0, Body::Statements),
         Kind::VarPackage => in_place(1, false, 0, Body::Elements),
@@ -133,6 +138,15 @@ fn has_ids(ids: bool, kind: Kind<'_>) -> bool
     }
 }
 
+fn has_uuids(kind: Kind<'_>) -> bool
+    ensures { result ≡ has_uuids (head_of kind.entry) }
+{
+    match kind {
+        Kind::Op(Op::LEqual) => true,
+        _ => false,
+    }
+}
+
 /// The same, if the term stands in a place.
 pub fn place_in(place: Place, kind: Kind<'_>, count: usize) -> Place
     ensures { result ≡ place_in place (head_of kind.entry) count }
@@ -144,6 +158,7 @@ pub fn place_in(place: Place, kind: Kind<'_>, count: usize) -> Place
         targets: inside.targets,
         body: inside.body,
         ids: has_ids(place.ids, kind),
+        uuids: has_uuids(kind),
     }
 }
 
@@ -157,6 +172,7 @@ pub fn next(place: Place) -> Place
         targets: place.targets,
         body: place.body,
         ids: place.ids,
+        uuids: place.uuids,
     }
 }
 
@@ -219,7 +235,8 @@ pub fn push_line(depth: usize, text: &mut String) -> Result<(), AllocError>
     push_spaces(depth, text)
 }
 
-fn push_spaces(depth: usize, text: &mut String) -> Result<(), AllocError>
+/// Adds the indentation of a line.
+pub fn push_spaces(depth: usize, text: &mut String) -> Result<(), AllocError>
     ensures { OnOk result (string_bytes text.new ≡ string_bytes text.old ++ spaces depth) }
 {
     'levels: for _level in 0..depth {

@@ -1,13 +1,15 @@
 //! Terms whose text isn't made of their children's. A function whose name begins with `push` adds to a text.
 
 ghost use Rattle.std.specs.Prelude.{◌≡◌, ◌++◌, ◌&&◌, [], not, true, false, if◌then◌else◌, OnOk, string_bytes};
+ghost use Rattle.acpi_term.specs.Tree.{def_buffer};
 ghost use Rattle.acpi_term.specs.View.{head_of, view, views};
 ghost use Rattle.acpi_asl.specs.Eisa.{is_eisa, eisa_text};
 ghost use Rattle.acpi_asl.specs.Opening.{opening};
 ghost use Rattle.acpi_asl.specs.Place.{is_null, new_line};
 ghost use Rattle.acpi_asl.specs.Special.{is_external, are_external, is_end, after_first, is_zero_first, is_external_block};
-ghost use Rattle.acpi_asl.specs.Special.{externals_text, is_shortest, has_size, is_template_buffer, is_id_number};
-ghost use Rattle.acpi_asl.specs.Special.{is_special, special_text};
+ghost use Rattle.acpi_asl.specs.Special.{externals_text, is_shortest, has_size, is_template_buffer, is_uuid, is_id_number};
+ghost use Rattle.acpi_asl.specs.Special.{to_uuid, is_special, special_text};
+ghost use Rattle.acpi_asl.specs.Template.{template_text};
 
 use crate::eisa::{is_eisa, push_eisa};
 use crate::number::least_bytes;
@@ -16,6 +18,7 @@ use crate::place::{Place, is_left_out, is_null, push_line};
 use crate::template::{is_template, push_template};
 use acpi_term::apart::{Kind, Parts, parts_of};
 use acpi_term::term::Term;
+use acpi_terms_text::uuid::push_uuid;
 use std::alloc::AllocError;
 
 fn is_external(kind: Kind<'_>) -> bool
@@ -195,6 +198,23 @@ fn is_template_buffer(kind: Kind<'_>, first: &[Term], others: &[Term]) -> bool
     }
 }
 
+// Whether a buffer of these bytes with the children in two lists is, in this place, one that ToUUID makes.
+fn is_uuid_buffer(place: Place, bytes: &[u8], first: &[Term], others: &[Term]) -> bool
+    ensures { result ≡ is_uuid place (def_buffer bytes.now) (views (first.now ++ others.now)) }
+{
+    place.uuids && bytes.len() == 16 && has_size(16, first, others)
+}
+
+// The same of a term.
+fn is_uuid(place: Place, kind: Kind<'_>, first: &[Term], others: &[Term]) -> bool
+    ensures { result ≡ is_uuid place (head_of kind.entry) (views (first.now ++ others.now)) }
+{
+    match kind {
+        Kind::Buffer(bytes) => is_uuid_buffer(place, bytes, first, others),
+        _ => false,
+    }
+}
+
 fn is_id_number(place: Place, kind: Kind<'_>, width: u8) -> bool
     ensures { result ≡ is_id_number place (head_of kind.entry) width }
 {
@@ -212,6 +232,7 @@ pub fn is_special(place: Place, parts: Parts<'_>) -> bool
     is_left_out(place, parts.kind, parts.width)
         || is_id_number(place, parts.kind, parts.width)
         || is_external_block(parts.kind, parts.first, parts.others)
+        || is_uuid(place, parts.kind, parts.first, parts.others)
         || is_template_buffer(parts.kind, parts.first, parts.others)
 }
 
@@ -228,6 +249,25 @@ fn push_special_number(
         return Ok(());
     }
     push_eisa(width, value, text)
+}
+
+#[tactic(auto, using(acpi_read::proofs::Texts::after_three))]
+fn push_to_uuid(bytes: &[u8], text: &mut String) -> Result<(), AllocError>
+    ensures { OnOk result (string_bytes text.new ≡ string_bytes text.old ++ to_uuid bytes.now) }
+{
+    text.push_str("ToUUID (\"")?;
+    push_uuid(bytes, text)?;
+    text.push_str("\")")
+}
+
+fn push_buffer(uuid: bool, depth: usize, bytes: &[u8], text: &mut String) -> Result<(), AllocError>
+    ensures { OnOk result (string_bytes text.new ≡ string_bytes text.old
+        ++ (if uuid then to_uuid bytes.now else template_text depth bytes.now)) }
+{
+    if uuid {
+        return push_to_uuid(bytes, text);
+    }
+    push_template(depth, bytes, text)
 }
 
 /// Adds the text of a special term at its depth.
@@ -247,7 +287,10 @@ pub fn push_special(
             let left_out = is_left_out(place, parts.kind, parts.width);
             push_special_number(left_out, parts.width, value, text)
         }
-        Kind::Buffer(bytes) => push_template(depth, bytes, text),
+        Kind::Buffer(bytes) => {
+            let uuid = is_uuid_buffer(place, bytes, parts.first, parts.others);
+            push_buffer(uuid, depth, bytes, text)
+        }
         _ => {
             let (more, rest) = after_first(parts.first, parts.others);
             push_block(depth, more, rest, text)

@@ -3,6 +3,7 @@
 ghost use Rattle.std.specs.Prelude.{◌≡◌, ◌++◌, map, OnOk, string_bytes};
 ghost use Rattle.acpi_asl.specs.Word.{operator_word, word_in, or_number, serialize_word};
 ghost use Rattle.acpi_asl.specs.Word.{access_types, lock_rules, update_rules, region_spaces, object_types};
+ghost use Rattle.acpi_asl.specs.Word.{match_operators, match_word};
 ghost use Rattle.acpi_asl.specs.Word.{access_word, lock_word, update_word, space_word, object_word};
 
 use crate::number::push_hex;
@@ -56,6 +57,7 @@ pub fn operator_word(op: Op) -> &'static str
         Op::Not => "Not",
         Op::FindSetLeftBit => "FindSetLeftBit",
         Op::FindSetRightBit => "FindSetRightBit",
+        Op::Match => "Match",
         Op::CreateWordField => "CreateWordField",
         Op::CreateByteField => "CreateByteField",
         Op::CreateBitField => "CreateBitField",
@@ -134,6 +136,16 @@ const OBJECT_TYPES: [(u8, &str); 16] = [
     (13, "ThermalZoneObj"),
     (14, "BuffFieldObj"),
     (15, "DDBHandleObj"),
+];
+
+/// The ways in which Match compares (MatchOpKeyword).
+const MATCH_OPERATORS: [(u8, &str); 6] = [
+    (0, "MTR"),
+    (1, "MEQ"),
+    (2, "MLE"),
+    (3, "MLT"),
+    (4, "MGE"),
+    (5, "MGT"),
 ];
 
 /// Returns the word in the first row with a number, or an empty one.
@@ -221,6 +233,19 @@ pub fn push_object_word(number: u8, text: &mut String) -> Result<(), AllocError>
     ensures { OnOk result (string_bytes text.new ≡ string_bytes text.old ++ object_word number) }
 {
     push_known(object_word_in(number), number, text)
+}
+
+fn match_word_in(number: u8) -> &'static str
+    ensures { result.now ≡ word_in match_operators number }
+{
+    word_in(&MATCH_OPERATORS, number)
+}
+
+/// Adds the word of one of the ways in which Match compares.
+pub fn push_match_word(number: u8, text: &mut String) -> Result<(), AllocError>
+    ensures { OnOk result (string_bytes text.new ≡ string_bytes text.old ++ match_word number) }
+{
+    push_known(match_word_in(number), number, text)
 }
 
 /// The word of a method's serialization.

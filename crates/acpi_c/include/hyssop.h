@@ -89,7 +89,7 @@ enum hyssop_fault {
     HYSSOP_FAULT_WANTS_ONE_TABLE = 85, /* expected the end of the text, since a text is one table */
     HYSSOP_FAULT_WANTS_TABLE = 86, /* expected a table, whose fields stand in lines after white space */
     HYSSOP_FAULT_WANTS_FIELD_OF = 87, /* expected a field */
-    HYSSOP_FAULT_WANTS_RIGHT = 88 /* expected another number */
+    HYSSOP_FAULT_WANTS_ANOTHER_NUMBER = 88 /* expected another number */
 };
 
 /* A structure of a table: its offset in the table, its type or HYSSOP_NO_KIND, and the number of its bytes. */

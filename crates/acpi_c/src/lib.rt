@@ -1,27 +1,27 @@
-//! Checks, texts and tables for callers in C and Rust. They call the functions of `include/hyssop.h`, which says what callers owe.
-//! `c/hyssop.c` has those: each replaces NULL and calls the function here that has `export` in its name.
+//! Checks, texts and tables for callers in C and Rust. They call the functions of `include/hyssop.h`, which says what callers
+//! owe. `c/hyssop.c` has those: each replaces NULL and calls the function here that has `export` in its name.
 #![tactic(auto)]
 
 ghost use Rattle.std.specs.Prelude.{◌≡◌};
 ghost use Rattle.acpi_base.specs.Table.{IsTrueTable};
-ghost use Rattle.acpi_c_run.specs.Aml.{AreTerms, IsAmlRefusal};
-ghost use Rattle.acpi_c_run.specs.Results.{Checks, Gives, GivesAnywhere};
-ghost use Rattle.acpi_c_run.specs.Image.{IsImageOfTables, IsImageRefusal};
-ghost use Rattle.acpi_c_run.specs.Make.{IsTableOf, IsMakeRefusal, IsTemplate, IsTemplateRefusal};
-ghost use Rattle.acpi_c_run.specs.Names.{version, IsName, IsNoName};
-ghost use Rattle.acpi_c_run.specs.Notes.{AreNotes};
-ghost use Rattle.acpi_c_run.specs.Show.{IsText, IsTextRefusal};
-ghost use Rattle.acpi_c_run.specs.Structures.{AreStructures, IsStructuresRefusal};
-ghost use Rattle.acpi_c_run.specs.Table.{IsTableRefusal};
+ghost use Rattle.acpi_c_calls.specs.Aml.{AreTerms, IsAmlRefusal};
+ghost use Rattle.acpi_c_calls.specs.Results.{Checks, Gives, GivesAnywhere};
+ghost use Rattle.acpi_c_calls.specs.Image.{IsImageOfTables, IsImageRefusal};
+ghost use Rattle.acpi_c_calls.specs.Make.{IsTableOf, IsMakeRefusal, IsTemplate, IsTemplateRefusal};
+ghost use Rattle.acpi_c_calls.specs.Names.{version, IsName, IsNoName};
+ghost use Rattle.acpi_c_calls.specs.Notes.{AreNotes};
+ghost use Rattle.acpi_c_calls.specs.Show.{IsText, IsTextRefusal};
+ghost use Rattle.acpi_c_calls.specs.Structures.{AreStructures, IsStructuresRefusal};
+ghost use Rattle.acpi_c_calls.specs.Table.{IsTableRefusal};
 
-use acpi_c_run::aml::check_aml;
-use acpi_c_run::image::check_image;
-use acpi_c_run::make::{make, template};
-use acpi_c_run::names::{fault_name, version};
-use acpi_c_run::notes::{Note, make_notes};
-use acpi_c_run::show::show;
-use acpi_c_run::structures::{Structure, table_structures};
-use acpi_c_run::table::check_table;
+use acpi_c_calls::aml::check_aml;
+use acpi_c_calls::image::check_image;
+use acpi_c_calls::make::{make, template};
+use acpi_c_calls::names::{fault_name, version};
+use acpi_c_calls::notes::{Note, make_notes};
+use acpi_c_calls::show::show;
+use acpi_c_calls::structures::{Structure, table_structures};
+use acpi_c_calls::table::check_table;
 use std::alloc::Global;
 
 /// The version of these functions.

@@ -170,7 +170,7 @@ static void try_numbers(void) {
     want(HYSSOP_FAULT_WANTS_BYTES == 78 && HYSSOP_FAULT_WANTS_NEXT == 79 && HYSSOP_FAULT_WANTS_NAMELESS == 80);
     want(HYSSOP_FAULT_WANTS_END == 81 && HYSSOP_FAULT_WANTS_STRUCTURE == 82 && HYSSOP_FAULT_WANTS_WIDTH == 83);
     want(HYSSOP_FAULT_WANTS_WHOLE == 84 && HYSSOP_FAULT_WANTS_ONE_TABLE == 85 && HYSSOP_FAULT_WANTS_TABLE == 86);
-    want(HYSSOP_FAULT_WANTS_FIELD_OF == 87 && HYSSOP_FAULT_WANTS_RIGHT == 88);
+    want(HYSSOP_FAULT_WANTS_FIELD_OF == 87 && HYSSOP_FAULT_WANTS_ANOTHER_NUMBER == 88);
 }
 
 /* NULL stands for no bytes and for results that aren't asked for. With a size it is a fault. */

@@ -1,9 +1,9 @@
 //! What a virtual machine monitor does: it builds the tables of a machine, lays them at their addresses and writes them to
 //! files. `acpi_example FOLDER BASE` writes each table to a file of the folder, and the image of all tables to `image`. The
-//! image is for the physical address BASE, a multiple of 64 in hexadecimal, and it is checked before it is written. The two pages
-//! for errors are in the 0x111000 bytes from BASE on. The program prints BASE and the RSDP's address. With `arm` before the folder
-//! the machine is an Arm one, without such pages.
-//! Status 0: every file was written. 1: a call was refused, and a line on standard error says which. 2: the words are wrong.
+//! image is for the physical address BASE, a multiple of 64 in hexadecimal, and it is checked before it is written. The two
+//! pages for errors are in the 0x111000 bytes from BASE on. The program prints BASE and the RSDP's address. With `arm` before
+//! the folder the machine is an Arm one, without such pages. Status 0: every file was written. 1: a call was refused, and a
+//! line on standard error says which. 2: the words are wrong.
 #![tactic(auto)]
 
 ghost use Rattle.std.specs.Prelude.{◌≡◌, ◌%◌, ◌+◌, ◌≤◌, ◌^◌, IfOk};

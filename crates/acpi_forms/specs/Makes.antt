@@ -1,5 +1,6 @@
 -- What texts are made into.
-use Rattle.std.specs.Prelude.{◌≡◌, ℕ, ◌==◌, not, Bool, true, false, if◌then◌else◌, List, length, codes, Option, Some, None, Result, Ok, Err}
+use Rattle.std.specs.Prelude.{◌≡◌, ℕ, ◌==◌, not, Bool, true, false, if◌then◌else◌, List, length, codes, Option, Some}
+use Rattle.std.specs.Prelude.{None, Result, Ok, Err}
 use Rattle.acpi_base.specs.Bytes.{carried}
 use Rattle.acpi_base.specs.Walk.{named}
 use Rattle.acpi_base.specs.FurtherWalk.{table_walk_of}
@@ -9,8 +10,8 @@ use Rattle.acpi_make.specs.Made.{type_place, made, table_of}
 use Rattle.acpi_make.specs.Meaning.{parts_of}
 use Rattle.acpi_make.specs.Signature.{signature_of}
 use Rattle.acpi_make.specs.Template.{template_text}
-use Rattle.acpi_make.specs.declared.complete.Shape.{Shape}
-use Rattle.acpi_make.specs.declared.complete.Shape.TheVariants.{Table, Pointer, Control}
+use Rattle.acpi_make.specs.declared.file_kind.FileKind.{FileKind}
+use Rattle.acpi_make.specs.declared.file_kind.FileKind.TheVariants.{Table, Rsdp, Facs}
 use Rattle.acpi_make.specs.Fault.{Fault, fault}
 use Rattle.acpi_make.specs.Item.{cells_of}
 use Rattle.acpi_make.specs.Source.{Source}
@@ -22,24 +23,24 @@ use Rattle.acpi_make.specs.declared.make.Made.{Made}
 use Rattle.acpi_text.specs.declared.form.TableForm.{TableForm}
 use Rattle.acpi_forms.specs.Named.{Named, IsNamed, names_of, rsdp_names, facs_names}
 
--- ---- the form, the walk and the shape of a signature
+-- ---- the form, the kind of file, the form and the walk of a signature
 
 -- a pointer (ACPI 6.5, 5.2.5.3), a control structure (5.2.10), or a table with the standard header (5.2.6)
-abbrev pub shape_of : ℕ → Shape
-shape_of signature =
-    if signature == named (codes "RSD ") then Pointer
-    else (if signature == named (codes "FACS") then Control
+abbrev pub file_kind_of : ℕ → FileKind
+file_kind_of signature =
+    if signature == named (codes "RSD ") then Rsdp
+    else (if signature == named (codes "FACS") then Facs
     else Table)
 
-abbrev pub shape_names : Shape → ℕ → Named
-shape_names Table signature = names_of signature
-shape_names Pointer signature = rsdp_names
-shape_names Control signature = facs_names
+abbrev pub names_by : FileKind → ℕ → Named
+names_by Table signature = names_of signature
+names_by Rsdp signature = rsdp_names
+names_by Facs signature = facs_names
 
-abbrev pub shape_walk : Shape → ℕ → Option Walk
-shape_walk Table signature = table_walk_of signature
-shape_walk Pointer signature = None
-shape_walk Control signature = None
+abbrev pub walk_by : FileKind → ℕ → Option Walk
+walk_by Table signature = table_walk_of signature
+walk_by Rsdp signature = None
+walk_by Facs signature = None
 
 -- a text whose signature isn't stated has that of no table
 abbrev pub signature_or_none : Option ℕ → ℕ
@@ -49,17 +50,18 @@ signature_or_none None = 0
 -- ---- what is made
 
 -- the table of a text, by a form that has these names
-pub record IsMadeBy (names : Named) (walk : Option Walk) (shape : Shape) (text : List ℕ) (parts : List Item)
+pub record IsMadeBy (names : Named) (walk : Option Walk) (file_kind : FileKind) (text : List ℕ) (parts : List Item)
     (result : Result Made MakeError) : Type 0 where
   pub source : Source
   pub is_named : IsNamed source.form names
   pub kind : source.kind ≡ type_place walk
   pub same : source.text ≡ text
-  pub gives : Gives table_of result (made shape walk source parts)
+  pub gives : Gives table_of result (made file_kind walk source parts)
 
 abbrev pub IsMadeAs : ℕ → List ℕ → List Item → Result Made MakeError → Type 0
 IsMadeAs signature text parts result =
-    IsMadeBy (shape_names (shape_of signature) signature) (shape_walk (shape_of signature) signature) (shape_of signature) text parts result
+    IsMadeBy (names_by (file_kind_of signature) signature) (walk_by (file_kind_of signature) signature)
+    (file_kind_of signature) text parts result
 
 abbrev pub IsRefused : Fault → Result Made MakeError → Type 0
 IsRefused wrong result = Gives {B = Made} (λ made. made) result (Err wrong)
@@ -86,14 +88,14 @@ IsMade text result = UnlessMemory result (IsMadeOf (parts_of text) text result)
 -- ---- templates
 
 -- the signature in a template: that of a pointer has eight bytes
-abbrev pub signature_text : Shape → List ℕ → List ℕ
+abbrev pub signature_text : FileKind → List ℕ → List ℕ
 signature_text Table signature = signature
-signature_text Pointer signature = codes "RSD PTR "
-signature_text Control signature = signature
+signature_text Rsdp signature = codes "RSD PTR "
+signature_text Facs signature = signature
 
 -- a template of a signature, by a form that has its names
 pub record IsTemplateOf (signature text : List ℕ) : Type 0 where
   pub form : TableForm
-  pub is_named : IsNamed form (shape_names (shape_of (carried signature)) (carried signature))
-  pub is : text ≡ template_text (signature_text (shape_of (carried signature)) signature) (shape_of (carried signature)) form
-      (shape_walk (shape_of (carried signature)) (carried signature))
+  pub is_named : IsNamed form (names_by (file_kind_of (carried signature)) (carried signature))
+  pub is : text ≡ template_text (signature_text (file_kind_of (carried signature)) signature)
+      (file_kind_of (carried signature)) form (walk_by (file_kind_of (carried signature)) (carried signature))

@@ -95,8 +95,8 @@ pub fn dbg2_form() -> TableForm
 
 const NO_PASID: [Row; 1] = [Row::Reserved(3)];
 
-// The fields of a root complex from offset 33 on, by the offset of its mappings. Up to revision 3 of the node its mappings begin at
-// offset 36.
+// The fields of a root complex from offset 33 on, by the offset of its mappings. Up to revision 3 of the node its mappings
+// begin at offset 36.
 const ROOT_COMPLEX_ENDS: [Choice; 2] = [
     Choice {
         number: 40,

@@ -106,8 +106,8 @@ const TCPA: TableForm = TableForm {
     structures: &[],
 };
 
-/// Returns the form of the Trusted Computing Platform Alliance Capabilities Table, of a client or a server (TCG ACPI Specification
-/// 1.4, 7).
+/// Returns the form of the Trusted Computing Platform Alliance Capabilities Table, of a client or a server (TCG ACPI
+/// Specification 1.4, 7).
 pub fn tcpa_form() -> TableForm
     ensures { IsNamed result tcpa_names }
 {

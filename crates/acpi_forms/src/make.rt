@@ -2,15 +2,15 @@
 
 ghost use Rattle.std.specs.Prelude.{◌≡◌, ◌≢◌, length, string_bytes, IfOk, MatchOption};
 ghost use Rattle.acpi_base.specs.Bytes.{carried};
-ghost use Rattle.acpi_forms.specs.Makes.{shape_of, shape_names, shape_walk, IsMadeAs, IsMade};
+ghost use Rattle.acpi_forms.specs.Makes.{file_kind_of, names_by, walk_by, IsMadeAs, IsMade};
 ghost use Rattle.acpi_forms.specs.Makes.{signature_text, IsTemplateOf};
 ghost use Rattle.acpi_forms.specs.Named.{IsNamed};
 
 use crate::form::{facs_form, form_of, rsdp_form};
 use acpi_base::further_walk::table_walk_of;
 use acpi_base::walk::Walk;
-use acpi_make::complete::Shape;
 use acpi_make::fault::{Fault, MakeError, Wanted};
+use acpi_make::file_kind::FileKind;
 use acpi_make::item::{Item, has_bytes};
 use acpi_make::make::{Made, make_of};
 use acpi_make::read::read_text;
@@ -20,35 +20,35 @@ use acpi_text::form::TableForm;
 use std::alloc::{AllocError, Global};
 
 // Returns what a signature is that of.
-fn shape_of(signature: u32) -> Shape
-    ensures { result ≡ shape_of signature }
+fn file_kind_of(signature: u32) -> FileKind
+    ensures { result ≡ file_kind_of signature }
 {
     if signature == u32::from_le_bytes(*b"RSD ") {
-        Shape::Pointer
+        FileKind::Rsdp
     } else if signature == u32::from_le_bytes(*b"FACS") {
-        Shape::Control
+        FileKind::Facs
     } else {
-        Shape::Table
+        FileKind::Table
     }
 }
 
-fn shape_form(shape: Shape, signature: u32) -> TableForm
-    ensures { IsNamed result (shape_names shape signature) }
+fn form_by(file_kind: FileKind, signature: u32) -> TableForm
+    ensures { IsNamed result (names_by file_kind signature) }
 {
-    match shape {
-        Shape::Table => form_of(signature),
-        Shape::Pointer => rsdp_form(),
-        Shape::Control => facs_form(),
+    match file_kind {
+        FileKind::Table => form_of(signature),
+        FileKind::Rsdp => rsdp_form(),
+        FileKind::Facs => facs_form(),
     }
 }
 
-fn shape_walk(shape: Shape, signature: u32) -> Option<Walk>
-    ensures { result ≡ shape_walk shape signature }
+fn walk_by(file_kind: FileKind, signature: u32) -> Option<Walk>
+    ensures { result ≡ walk_by file_kind signature }
 {
-    match shape {
-        Shape::Table => table_walk_of(signature),
-        Shape::Pointer => None,
-        Shape::Control => None,
+    match file_kind {
+        FileKind::Table => table_walk_of(signature),
+        FileKind::Rsdp => None,
+        FileKind::Facs => None,
     }
 }
 
@@ -56,14 +56,14 @@ fn shape_walk(shape: Shape, signature: u32) -> Option<Walk>
 fn make_as(alloc: Global, signature: u32, text: &[u8], items: &[Item]) -> Result<Made, MakeError>
     ensures { IsMadeAs signature text.now items.now result }
 {
-    let shape = shape_of(signature);
-    let form = shape_form(shape, signature);
-    let walk = shape_walk(shape, signature);
-    make_of(alloc, form, walk, shape, text, items)
+    let file_kind = file_kind_of(signature);
+    let form = form_by(file_kind, signature);
+    let walk = walk_by(file_kind, signature);
+    make_of(alloc, form, walk, file_kind, text, items)
 }
 
-/// Returns the table that a text is made into: its bytes, and its own numbers that the text states otherwise. The form of the table
-/// is that of its signature. The error is that memory ran out, or what is wrong with the text, and where.
+/// Returns the table that a text is made into: its bytes, and its own numbers that the text states otherwise. The form of the
+/// table is that of its signature. The error is that memory ran out, or what is wrong with the text, and where.
 pub fn make(alloc: Global, text: &[u8]) -> Result<Made, MakeError>
     ensures { IsMade text.now result }
 {
@@ -89,19 +89,19 @@ fn number_of(signature: &[u8]) -> Option<u32>
 }
 
 // Returns the signature in a template.
-fn signature_text(shape: Shape, signature: &str) -> &str
-    ensures { result.now ≡ signature_text shape signature.now }
+fn signature_text(file_kind: FileKind, signature: &str) -> &str
+    ensures { result.now ≡ signature_text file_kind signature.now }
 {
-    match shape {
-        Shape::Table => signature,
-        Shape::Pointer => "RSD PTR ",
-        Shape::Control => signature,
+    match file_kind {
+        FileKind::Table => signature,
+        FileKind::Rsdp => "RSD PTR ",
+        FileKind::Facs => signature,
     }
 }
 
-/// Returns a text of the table of a signature of four bytes, for a start: a line for each field, with zeros, and one structure of
-/// each kind. A signature that isn't known has the standard header. There is none of a text that hasn't four bytes. The only error
-/// is that memory ran out.
+/// Returns a text of the table of a signature of four bytes, for a start: a line for each field, with zeros, and one structure
+/// of each kind. A signature that isn't known has the standard header. There is none of a text that hasn't four bytes. The only
+/// error is that memory ran out.
 pub fn template(alloc: Global, signature: &str) -> Result<Option<String>, AllocError>
     ensures { IfOk result (λ found. MatchOption found (length signature.now ≢ 4)
         (λ text. IsTemplateOf signature.now (string_bytes text))) }
@@ -109,9 +109,9 @@ pub fn template(alloc: Global, signature: &str) -> Result<Option<String>, AllocE
     let Some(number) = number_of(signature.as_bytes()) else {
         return Ok(None);
     };
-    let shape = shape_of(number);
-    let form = shape_form(shape, number);
-    let walk = shape_walk(shape, number);
-    let first = signature_text(shape, signature);
-    Ok(Some(template_of(alloc, first, shape, &form, walk)?))
+    let file_kind = file_kind_of(number);
+    let form = form_by(file_kind, number);
+    let walk = walk_by(file_kind, number);
+    let first = signature_text(file_kind, signature);
+    Ok(Some(template_of(alloc, first, file_kind, &form, walk)?))
 }

@@ -1,9 +1,9 @@
 //! What is wrong with bytes that are read, in words.
 
 ghost use Rattle.std.specs.Prelude.{◌≡◌};
-ghost use Rattle.acpi_forms.specs.Words.{words, pointer_words, control_words, words_by};
+ghost use Rattle.acpi_forms.specs.Words.{words, rsdp_words, facs_words, words_by};
 
-use crate::kind::Kind;
+use acpi_make::file_kind::FileKind;
 use acpi_term::read_error::ReadError;
 
 /// Returns what is wrong with a table, its structures or its terms, in words. The offset isn't a part of them.
@@ -31,8 +31,8 @@ pub fn words(error: ReadError) -> &'static str
 }
 
 // Returns what is wrong with a pointer.
-fn pointer_words(error: ReadError) -> &'static str
-    ensures { result.now ≡ pointer_words error }
+fn rsdp_words(error: ReadError) -> &'static str
+    ensures { result.now ≡ rsdp_words error }
 {
     match error {
         ReadError::ShortHeader(_) => "an RSDP has 20 bytes, or at least 36 from revision 2 on",
@@ -43,8 +43,8 @@ fn pointer_words(error: ReadError) -> &'static str
 }
 
 // Returns what is wrong with a control structure.
-fn control_words(error: ReadError) -> &'static str
-    ensures { result.now ≡ control_words error }
+fn facs_words(error: ReadError) -> &'static str
+    ensures { result.now ≡ facs_words error }
 {
     match error {
         ReadError::ShortHeader(_) => "a FACS has at least 64 bytes",
@@ -55,12 +55,12 @@ fn control_words(error: ReadError) -> &'static str
 
 /// Returns what is wrong with bytes that are what their signature says, in words: those of `words`, or a pointer's or a control
 /// structure's own.
-pub fn words_by(kind: Kind, error: ReadError) -> &'static str
+pub fn words_by(kind: FileKind, error: ReadError) -> &'static str
     ensures { result.now ≡ words_by kind error }
 {
     match kind {
-        Kind::Pointer => pointer_words(error),
-        Kind::Control => control_words(error),
-        Kind::Table => words(error),
+        FileKind::Rsdp => rsdp_words(error),
+        FileKind::Facs => facs_words(error),
+        FileKind::Table => words(error),
     }
 }

@@ -17,8 +17,8 @@ fn ends_before(first: &Located, second: &Located) -> bool
     first.address <= second.address && first.length as u64 <= second.address - first.address
 }
 
-// Twice the address of the middle of a table. Of two tables that don't overlap, the one with the lower middle ends before the other
-// begins. Addresses alone don't say this of a table without bytes.
+// Twice the address of the middle of a table. Of two tables that don't overlap, the one with the lower middle ends before the
+// other begins. Addresses alone don't say this of a table without bytes.
 fn middle(table: &Located) -> u128
     ensures { result ≡ middle table.now }
 {
@@ -48,8 +48,8 @@ fn overlap(first: (Located, usize), second: (Located, usize)) -> ImageFault
     }
 }
 
-// No two of these tables overlap. Only neighbours in the order of middles are compared: if each ends before the next begins, it ends
-// before all that follow.
+// No two of these tables overlap. Only neighbours in the order of middles are compared: if each ends before the next begins, it
+// ends before all that follow.
 pub(crate) fn are_apart(alloc: Global, tables: &[Located]) -> Result<(), ImageFault>
     ensures ok { OnOk result (AreApart tables.now) }
     ensures err { IfErr result (λ e. e ≢ Memory → ¬ AreApart tables.now) }

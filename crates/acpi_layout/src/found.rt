@@ -1,15 +1,19 @@
 //! The tables of an image, each found by the address that another one contains.
 
-ghost use Rattle.std.specs.Prelude.{◌≡◌, ◌≢◌, ℕ, ◌+◌, ◌*◌, ◌<◌, ◌≤◌, false, List, length, codes, slice_index_or, Option, IfSome, IfNone, IfOk, IfErr, OnOk, OnErr};
+ghost use Rattle.std.specs.Prelude.{◌≡◌, ◌≢◌, ℕ, ◌+◌, ◌*◌, ◌<◌, ◌≤◌, false, List, length, codes, slice_index_or};
+ghost use Rattle.std.specs.Prelude.{Option, IfSome, IfNone, IfOk, IfErr, OnOk, OnErr};
 ghost use Rattle.std.specs.List.{All, Contains};
 ghost use Rattle.acpi_base.specs.Bytes.{field_at};
 ghost use Rattle.acpi_base.specs.Table.{IsTrueTable};
 ghost use Rattle.acpi_layout.specs.declared.fault.ImageFault.TheVariants.{Memory};
 ghost use Rattle.acpi_layout.specs.declared.located.Located.{Located};
 ghost use Rattle.acpi_layout.specs.Addresses.{Lies, bytes_at};
-ghost use Rattle.acpi_layout.specs.Found.{contents, IsTableAt, IsPointer, IsNamedTableAt, AreAddresses, AreEntries, IsOnlyFadt, IsControlAt};
-ghost use Rattle.acpi_layout.specs.Found.{address_of, facs_address, dsdt_address, is_reduced, has_no_control, IsControlOf, AreListed};
-ghost use Rattle.acpi_layout.specs.Fault.{IsTableFault, IsNamedTableFault, IsPointerFault, IsControlFault, HasPartOfEntry, IsEntriesFault};
+ghost use Rattle.acpi_layout.specs.Found.{contents, IsTableAt, IsPointer, IsNamedTableAt, AreAddresses, AreEntries};
+ghost use Rattle.acpi_layout.specs.Found.{IsOnlyFadt, IsControlAt};
+ghost use Rattle.acpi_layout.specs.Found.{address_of, facs_address, dsdt_address, is_reduced, has_no_control};
+ghost use Rattle.acpi_layout.specs.Found.{IsControlOf, AreListed};
+ghost use Rattle.acpi_layout.specs.Fault.{IsTableFault, IsNamedTableFault, IsPointerFault, IsControlFault};
+ghost use Rattle.acpi_layout.specs.Fault.{HasPartOfEntry, IsEntriesFault};
 ghost use Rattle.acpi_layout.specs.Fault.{IsListFault, IsFadtFault};
 
 use crate::fault::ImageFault;

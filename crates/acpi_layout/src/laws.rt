@@ -40,9 +40,9 @@ pub fn images_have_one_list()
     ensures { ImagesHaveOneList }
 {}
 
-/// An image lists the addresses of the FADT and of the tables, in order, whatever the tables are. For one base and one address of
-/// the RSDP, the same bytes list at most one list of addresses. So `Image::addresses` returns where `lay` and `lay_reduced` put
-/// the tables.
+/// An image lists the addresses of the FADT and of the tables, in order, also if the tables are not valid. For one base and one
+/// address of the RSDP, the same bytes list at most one list of addresses. So `Image::addresses` returns where `lay` and
+/// `lay_reduced` put the tables.
 pub fn images_list_their_tables()
     ensures listed { ImagesListTheirTables }
     ensures once { ImagesListOnce }

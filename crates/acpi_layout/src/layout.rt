@@ -1,6 +1,7 @@
 //! The tables at their addresses.
 
-ghost use Rattle.std.specs.Prelude.{◌≡◌, ◌≢◌, ℕ, ◌%◌, ◌+◌, ◌*◌, ◌<◌, ◌≤◌, ◌^◌, List, [], ◌∷◌, length, map, OnOk, IfOk, IfErr, None, Some};
+ghost use Rattle.std.specs.Prelude.{◌≡◌, ◌≢◌, ℕ, ◌%◌, ◌+◌, ◌*◌, ◌<◌, ◌≤◌, ◌^◌, List, [], ◌∷◌, length, map, OnOk, IfOk};
+ghost use Rattle.std.specs.Prelude.{IfErr, None, Some};
 ghost use Rattle.std.specs.Option.{option_map};
 ghost use Rattle.acpi_base.specs.Object.{Object};
 ghost use Rattle.acpi_fixed.specs.Facs.{facs_bytes};
@@ -23,7 +24,7 @@ use acpi_fixed::rsdp::Rsdp;
 use acpi_lists::xsdt::XSDT;
 use std::alloc::Global;
 
-/// The tables of a guest as they stand in its memory.
+/// The tables of a guest in its memory.
 #[derive(Drop)]
 pub struct Image {
     /// All bytes, from the base on.
@@ -130,7 +131,8 @@ fn lay_all(
     fadt: FADTBuilder,
     tables: Vec<&dyn Aml>,
 ) -> R<Image>
-    ensures { Lays result base oem (option_map facs_bytes facs) sdt.now.bytes fadt (map (λ table. object table.now) tables.entry.items) }
+    ensures { Lays result base oem (option_map facs_bytes facs) sdt.now.bytes fadt
+        (map (λ table. object table.now) tables.entry.items) }
 {
     let alloc = *tables.allocator();
     let mut bytes = Vec::new(alloc);
@@ -173,8 +175,8 @@ pub fn lay(
     lay_all(base, oem, Some(*facs), sdt, fadt, tables)
 }
 
-/// Lays the tables of a hardware-reduced machine, which needs no FACS (ACPI 6.5, 5.2.9), as `lay` does. The image has no FACS: the
-/// DSDT is at `base`. In the FADT the flag HW_REDUCED_ACPI is set, and X_FIRMWARE_CTRL is 0.
+/// Lays the tables of a hardware-reduced machine, which needs no FACS (ACPI 6.5, 5.2.9), as `lay` does. The image has no FACS:
+/// the DSDT is at `base`. In the FADT the flag HW_REDUCED_ACPI is set, and X_FIRMWARE_CTRL is 0.
 ///
 /// The errors are those of `lay`.
 pub fn lay_reduced(

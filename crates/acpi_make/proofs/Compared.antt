@@ -249,14 +249,14 @@ texts_shown_by walk s parts d table taken is =
     }
 
 pub texts_shown : TextsAreShown
-texts_shown walk shape s parts table is =
+texts_shown walk file_kind s parts table is =
     let one = then_is (all_taken s parts nothing_yet) _ table is in
     let d = one.middle in
-    let owns = then_is (numbers_own shape walk s d) _ table (doubt_is (doubt_of d) _ table one.follows) in
-    let whole = unless_is (short shape walk s d) _ table owns.follows in
-    let two = then_is (completed shape (owns.middle ++ none_own walk d.marks (length d.cells)) d.cells) _ table whole in
+    let owns = then_is (numbers_own file_kind walk s d) _ table (doubt_is (doubt_of d) _ table one.follows) in
+    let whole = unless_is (short file_kind walk s d) _ table owns.follows in
+    let two = then_is (completed file_kind (owns.middle ++ none_own walk d.marks (length d.cells)) d.cells) _ table whole in
     let three = then_is (difference walk s d two.middle) _ table two.follows in
     let none = nothing_wrong s d.marks owns.middle two.middle three.middle _ table three.follows in
-    let same : made_of shape owns.middle two.middle ≡ table = let e = unless_is (blamed s d.marks owns.middle two.middle three.middle) _ table three.follows in cc in
+    let same : made_of file_kind owns.middle two.middle ≡ table = let e = unless_is (blamed s d.marks owns.middle two.middle three.middle) _ table three.follows in cc in
     subst (λ made. IsShown walk s parts made) same
-    (texts_shown_by walk s parts d (made_of shape owns.middle two.middle) one.is (three.is ∙ ap Ok none))
+    (texts_shown_by walk s parts d (made_of file_kind owns.middle two.middle) one.is (three.is ∙ ap Ok none))

@@ -15,7 +15,7 @@ use Rattle.acpi_make.specs.Draft.{nothing_yet}
 use Rattle.acpi_make.specs.Laws.{TablesAreWalked}
 use Rattle.acpi_make.specs.Own.{own, own_at, next_start, count_structures, size_own, sizes_own}
 use Rattle.acpi_make.specs.Pieces.{pieces_of, HasBytesOf, HaveBytesOf}
-use Rattle.acpi_make.specs.declared.complete.Shape.TheVariants as shapes
+use Rattle.acpi_make.specs.declared.file_kind.FileKind.TheVariants as kinds
 use Rattle.acpi_make.specs.declared.draft.Mark.{Mark}
 use Rattle.acpi_make.specs.declared.draft.Mark.TheVariants.{Structure, Line, Reference}
 use Rattle.acpi_make.specs.declared.own.Own.{Own}
@@ -137,7 +137,7 @@ either_told count false is empty full = full is
 
 pub tables_walked : TablesAreWalked
 tables_walked walk s parts d table sound taken is none small first empty have =
-    let done = finished_is shapes.Table (Some walk) s d table is in
+    let done = finished_is kinds.Table (Some walk) s d table is in
     let quiet = quiet_is (Some walk) s d table done none in
     let bytes = table.bytes in
     let total = length bytes in

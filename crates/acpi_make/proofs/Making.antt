@@ -22,8 +22,8 @@ use Rattle.acpi_make.specs.Own.{next_start, next_line, none_own, table_own, refe
 use Rattle.acpi_make.specs.Short.{any_left, size_place, short_structure, short_in, short_table, short}
 use Rattle.acpi_make.specs.Source.{Source}
 use Rattle.acpi_make.specs.Text.{part_at}
-use Rattle.acpi_make.specs.declared.complete.Shape.{Shape}
-use Rattle.acpi_make.specs.declared.complete.Shape.TheVariants as shapes
+use Rattle.acpi_make.specs.declared.file_kind.FileKind.{FileKind}
+use Rattle.acpi_make.specs.declared.file_kind.FileKind.TheVariants as kinds
 use Rattle.acpi_make.specs.declared.draft.Mark.{Mark}
 use Rattle.acpi_make.specs.declared.draft.Mark.TheVariants.{Structure, Line, Reference}
 use Rattle.acpi_make.specs.declared.item.Cell.{Cell}
@@ -70,19 +70,19 @@ all_known : (owns : List Own) (bytes : List ℕ) → all_filled owns (known_cell
 all_known [] bytes = refl
 all_known (one ∷ owns) bytes = ap (all_filled owns) (filled_known one.offset one.width one.number bytes) ∙ all_known owns bytes
 
-summed_known : (shape : Shape) (bytes : List ℕ) → summed shape (known_cells bytes) ≡ known_cells bytes
-summed_known shapes.Table bytes = filled_known 9 1 _ bytes
-summed_known shapes.Pointer bytes =
+summed_known : (file_kind : FileKind) (bytes : List ℕ) → summed file_kind (known_cells bytes) ≡ known_cells bytes
+summed_known kinds.Table bytes = filled_known 9 1 _ bytes
+summed_known kinds.Rsdp bytes =
     ap (summed_at 32 (length (known_cells bytes))) (filled_known 8 1 _ bytes) ∙ filled_known 32 1 _ bytes
-summed_known shapes.Control bytes = refl
+summed_known kinds.Facs bytes = refl
 
 known_all : (bytes : List ℕ) → known (known_cells bytes) ≡ Ok bytes
 known_all [] = refl
 known_all (b ∷ bytes) = ap (with_front (b ∷ [])) (known_all bytes)
 
-completed_known : (shape : Shape) (owns : List Own) (bytes : List ℕ) → completed shape owns (known_cells bytes) ≡ Ok bytes
-completed_known shape owns bytes =
-    ap (λ cells. known (summed shape cells)) (all_known owns bytes) ∙ ap known (summed_known shape bytes) ∙ known_all bytes
+completed_known : (file_kind : FileKind) (owns : List Own) (bytes : List ℕ) → completed file_kind owns (known_cells bytes) ≡ Ok bytes
+completed_known file_kind owns bytes =
+    ap (λ cells. known (summed file_kind cells)) (all_known owns bytes) ∙ ap known (summed_known file_kind bytes) ∙ known_all bytes
 
 -- ---- parts without values by name
 
@@ -198,13 +198,13 @@ structures_whole s place bytes (Structure at from to ∷ marks) =
 structures_whole s place bytes (Line at from to ∷ marks) = structures_whole s place bytes marks
 structures_whole s place bytes (Reference at w from to ∷ marks) = structures_whole s place bytes marks
 
-all_whole : (shape : Shape) (walk : Option Walk) (s : Source) (d : Drafted) (bytes : List ℕ) → d.cells ≡ known_cells bytes
-    → short shape walk s d ≡ None
-all_whole shape walk s d bytes is =
-    ap (λ cells. first_of (short_table shape s cells (next_start d.marks (length cells))) (short_in s (size_place walk) cells d.marks)) is
+all_whole : (file_kind : FileKind) (walk : Option Walk) (s : Source) (d : Drafted) (bytes : List ℕ) → d.cells ≡ known_cells bytes
+    → short file_kind walk s d ≡ None
+all_whole file_kind walk s d bytes is =
+    ap (λ cells. first_of (short_table file_kind s cells (next_start d.marks (length cells))) (short_in s (size_place walk) cells d.marks)) is
     ∙ ap (λ first. first_of first (short_in s (size_place walk) (known_cells bytes) d.marks))
-    (unless_left (any_left 4 (drop (length_own shape (length (known_cells bytes))).offset (known_cells bytes))) _ _
-    (none_out 4 (length_own shape (length (known_cells bytes))).offset bytes))
+    (unless_left (any_left 4 (drop (length_own file_kind (length (known_cells bytes))).offset (known_cells bytes))) _ _
+    (none_out 4 (length_own file_kind (length (known_cells bytes))).offset bytes))
     ∙ structures_whole s (size_place walk) bytes d.marks
 
 -- ---- a text and itself
@@ -274,7 +274,7 @@ tables_read form walk bytes are small =
     }
 
 pub tables_made : TablesAreMade
-tables_made form walk kind shape bytes are small = record { table = made_of shape owns bytes; is = is; same = refl }
+tables_made form walk kind file_kind bytes are small = record { table = made_of file_kind owns bytes; is = is; same = refl }
   where
     s : Source
     s = record { form = form; kind = kind; text = table_text form walk bytes }
@@ -289,10 +289,10 @@ tables_made form walk kind shape bytes are small = record { table = made_of shap
     d = all.next
 
     owns : List Own
-    owns = sizes_own shape walk d ++ table_own s d.cells d.marks
+    owns = sizes_own file_kind walk d ++ table_own s d.cells d.marks
 
     outcome : Option Fault → Result Table Fault
-    outcome wrong = unless (blamed s d.marks owns bytes wrong) (Ok (made_of shape owns bytes))
+    outcome wrong = unless (blamed s d.marks owns bytes wrong) (Ok (made_of file_kind owns bytes))
 
     same_lines : difference walk s d bytes ≡ Ok None
     same_lines =
@@ -303,24 +303,24 @@ tables_made form walk kind shape bytes are small = record { table = made_of shap
 
     rest : List Own → Result Table Fault
     rest found =
-        and_then (completed shape (found ++ none_own walk d.marks (length d.cells)) d.cells) (λ bytes.
-        and_then (difference walk s d bytes) (λ wrong. unless (blamed s d.marks found bytes wrong) (Ok (made_of shape found bytes))))
+        and_then (completed file_kind (found ++ none_own walk d.marks (length d.cells)) d.cells) (λ bytes.
+        and_then (difference walk s d bytes) (λ wrong. unless (blamed s d.marks found bytes wrong) (Ok (made_of file_kind found bytes))))
 
-    completes : completed shape (owns ++ none_own walk d.marks (length d.cells)) d.cells ≡ Ok bytes
-    completes = ap (completed shape (owns ++ none_own walk d.marks (length d.cells))) all.same
-        ∙ completed_known shape (owns ++ none_own walk d.marks (length d.cells)) bytes
+    completes : completed file_kind (owns ++ none_own walk d.marks (length d.cells)) d.cells ≡ Ok bytes
+    completes = ap (completed file_kind (owns ++ none_own walk d.marks (length d.cells))) all.same
+        ∙ completed_known file_kind (owns ++ none_own walk d.marks (length d.cells)) bytes
 
-    finishes : finished shape walk s d ≡ Ok (made_of shape owns bytes)
+    finishes : finished file_kind walk s d ≡ Ok (made_of file_kind owns bytes)
     finishes =
-        ap (λ found. and_then (and_then found (λ references. Ok (references ++ owns))) (λ found. unless (short shape walk s d) (rest found)))
+        ap (λ found. and_then (and_then found (λ references. Ok (references ++ owns))) (λ found. unless (short file_kind walk s d) (rest found)))
         (nothing_referred s.text d.marks d.marks all.none)
-        ∙ ap (λ wrong. unless wrong (rest owns)) (all_whole shape walk s d bytes all.same)
+        ∙ ap (λ wrong. unless wrong (rest owns)) (all_whole file_kind walk s d bytes all.same)
         ∙ ap (λ done. and_then done (λ bytes.
-        and_then (difference walk s d bytes) (λ wrong. unless (blamed s d.marks owns bytes wrong) (Ok (made_of shape owns bytes))))) completes
+        and_then (difference walk s d bytes) (λ wrong. unless (blamed s d.marks owns bytes wrong) (Ok (made_of file_kind owns bytes))))) completes
         ∙ ap (λ found. and_then found outcome) same_lines
 
-    is : made_text shape walk s ≡ Ok (made_of shape owns bytes)
+    is : made_text file_kind walk s ≡ Ok (made_of file_kind owns bytes)
     is =
-        ap (λ read. and_then read (λ parts. made shape walk s parts)) has.read
-        ∙ ap (λ taken. and_then taken (λ d. or_doubt (doubt_of d) (finished shape walk s d))) all.is
+        ap (λ read. and_then read (λ parts. made file_kind walk s parts)) has.read
+        ∙ ap (λ taken. and_then taken (λ d. or_doubt (doubt_of d) (finished file_kind walk s d))) all.is
         ∙ ap (or_doubt (doubt_of d)) finishes

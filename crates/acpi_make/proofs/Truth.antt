@@ -20,8 +20,8 @@ use Rattle.acpi_make.specs.Made.{Table, sizes_own, made_of, numbers_own, unless,
 use Rattle.acpi_make.specs.Notes.{begins_with, is_untrue, untrue, untrue_sum, notes}
 use Rattle.acpi_make.specs.Own.{own, none_own, table_own, references_own}
 use Rattle.acpi_make.specs.Short.{short}
-use Rattle.acpi_make.specs.declared.complete.Shape.{Shape}
-use Rattle.acpi_make.specs.declared.complete.Shape.TheVariants as shapes
+use Rattle.acpi_make.specs.declared.file_kind.FileKind.{FileKind}
+use Rattle.acpi_make.specs.declared.file_kind.FileKind.TheVariants as kinds
 use Rattle.acpi_make.specs.Source.{Source}
 use Rattle.acpi_make.specs.Fault.{Fault}
 use Rattle.acpi_make.specs.declared.item.Cell.{Cell}
@@ -87,15 +87,15 @@ length_all [] cells = refl
 length_all (one ∷ owns) cells =
     length_all owns (filled one.offset one.width one.number cells) ∙ length_filled one.offset one.width one.number cells
 
-length_summed : (shape : Shape) (cells : List Cell) → length (summed shape cells) ≡ length cells
-length_summed shapes.Table cells = length_filled 9 1 _ cells
-length_summed shapes.Pointer cells = length_filled 32 1 _ _ ∙ length_filled 8 1 _ cells
-length_summed shapes.Control cells = refl
+length_summed : (file_kind : FileKind) (cells : List Cell) → length (summed file_kind cells) ≡ length cells
+length_summed kinds.Table cells = length_filled 9 1 _ cells
+length_summed kinds.Rsdp cells = length_filled 32 1 _ _ ∙ length_filled 8 1 _ cells
+length_summed kinds.Facs cells = refl
 
-length_completed : (shape : Shape) (owns : List Own) (cells : List Cell) (bytes : List ℕ) → completed shape owns cells ≡ Ok bytes
+length_completed : (file_kind : FileKind) (owns : List Own) (cells : List Cell) (bytes : List ℕ) → completed file_kind owns cells ≡ Ok bytes
     → length bytes ≡ length cells
-length_completed shape owns cells bytes is =
-    length_known (summed shape (all_filled owns cells)) bytes is ∙ length_summed shape (all_filled owns cells) ∙ length_all owns cells
+length_completed file_kind owns cells bytes is =
+    length_known (summed file_kind (all_filled owns cells)) bytes is ∙ length_summed file_kind (all_filled owns cells) ∙ length_all owns cells
 
 -- what comes of an outcome that nothing is wrong with
 pub unless_is : {A : Type 0} (wrong : Option Fault) (outcome : Result A Fault) (value : A) → unless wrong outcome ≡ Ok value → outcome ≡ Ok value
@@ -107,26 +107,26 @@ doubt_is doubt (Ok made) value is = is
 doubt_is doubt (Err wrong) value is = absurd cc
 
 -- a table that is made has as many bytes as its text, and notes on its own numbers
-pub record IsFinished (shape : Shape) (walk : Option Walk) (s : Source) (d : Drafted) (table : Table) : Type 0 where
+pub record IsFinished (file_kind : FileKind) (walk : Option Walk) (s : Source) (d : Drafted) (table : Table) : Type 0 where
   pub references : List Own
   pub size : length table.bytes ≡ length d.cells
-  pub noted : table.untrue ≡ notes shape (references ++ (sizes_own shape walk d ++ table_own s d.cells d.marks)) table.bytes
+  pub noted : table.untrue ≡ notes file_kind (references ++ (sizes_own file_kind walk d ++ table_own s d.cells d.marks)) table.bytes
 
-pub finished_is : (shape : Shape) (walk : Option Walk) (s : Source) (d : Drafted) (table : Table) → finished shape walk s d ≡ Ok table
-    → IsFinished shape walk s d table
-finished_is shape walk s d table is =
-    let one = then_is (numbers_own shape walk s d) _ table is in
+pub finished_is : (file_kind : FileKind) (walk : Option Walk) (s : Source) (d : Drafted) (table : Table) → finished file_kind walk s d ≡ Ok table
+    → IsFinished file_kind walk s d table
+finished_is file_kind walk s d table is =
+    let one = then_is (numbers_own file_kind walk s d) _ table is in
     let referred = then_is (references_own s.text d.marks d.marks) _ one.middle one.is in
-    let owns : referred.middle ++ (sizes_own shape walk d ++ table_own s d.cells d.marks) ≡ one.middle = cc in
-    let whole = unless_is (short shape walk s d) _ table one.follows in
-    let two = then_is (completed shape (one.middle ++ none_own walk d.marks (length d.cells)) d.cells) _ table whole in
+    let owns : referred.middle ++ (sizes_own file_kind walk d ++ table_own s d.cells d.marks) ≡ one.middle = cc in
+    let whole = unless_is (short file_kind walk s d) _ table one.follows in
+    let two = then_is (completed file_kind (one.middle ++ none_own walk d.marks (length d.cells)) d.cells) _ table whole in
     let three = then_is (difference walk s d two.middle) _ table two.follows in
-    let same : made_of shape one.middle two.middle ≡ table = let e = unless_is (blamed s d.marks one.middle two.middle three.middle) _ table three.follows in cc in
-    subst (λ made. IsFinished shape walk s d made) same
+    let same : made_of file_kind one.middle two.middle ≡ table = let e = unless_is (blamed s d.marks one.middle two.middle three.middle) _ table three.follows in cc in
+    subst (λ made. IsFinished file_kind walk s d made) same
     (record {
       references = referred.middle;
-      size = length_completed shape (one.middle ++ none_own walk d.marks (length d.cells)) d.cells two.middle two.is;
-      noted = ap (λ owns. notes shape owns two.middle) (sym owns);
+      size = length_completed file_kind (one.middle ++ none_own walk d.marks (length d.cells)) d.cells two.middle two.is;
+      noted = ap (λ owns. notes file_kind owns two.middle) (sym owns);
     })
 
 -- ---- numbers without a note
@@ -192,13 +192,13 @@ sum_right offset bytes within none =
 
 -- what a table without notes is
 pub record IsQuiet (walk : Option Walk) (d : Drafted) (bytes : List ℕ) : Type 0 where
-  pub hold : AllHold bytes (sizes_own shapes.Table walk d)
+  pub hold : AllHold bytes (sizes_own kinds.Table walk d)
   pub sums : untrue_sum 9 (length bytes) bytes ≡ []
 
-pub quiet_is : (walk : Option Walk) (s : Source) (d : Drafted) (table : Table) → IsFinished shapes.Table walk s d table → table.untrue ≡ []
+pub quiet_is : (walk : Option Walk) (s : Source) (d : Drafted) (table : Table) → IsFinished kinds.Table walk s d table → table.untrue ≡ []
     → IsQuiet walk d table.bytes
 quiet_is walk s d table is none =
-    let sizes = sizes_own shapes.Table walk d in
+    let sizes = sizes_own kinds.Table walk d in
     let owns = is.references ++ (sizes ++ table_own s d.cells d.marks) in
     let both = none_in (untrue owns table.bytes) (untrue_sum 9 (length table.bytes) table.bytes) (sym is.noted ∙ none) in
     let rest = hold_both table.bytes is.references (sizes ++ table_own s d.cells d.marks) (all_hold owns table.bytes both.0) in
@@ -207,7 +207,7 @@ quiet_is walk s d table is none =
 pub tables_true : TablesAreTrue
 tables_true walk s parts table is none long =
     let one = then_is (all_taken s parts nothing_yet) _ table is in
-    let done = finished_is shapes.Table walk s one.middle table (doubt_is (doubt_of one.middle) _ table one.follows) in
+    let done = finished_is kinds.Table walk s one.middle table (doubt_is (doubt_of one.middle) _ table one.follows) in
     let quiet = quiet_is walk s one.middle table done none in
     record {
       header = long;

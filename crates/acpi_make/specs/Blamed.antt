@@ -3,7 +3,7 @@ use Rattle.std.specs.Prelude.{ℕ, nat_le, ◌&&◌, if◌then◌else◌, List, 
 use Rattle.acpi_make.specs.Draft.{or_fault}
 use Rattle.acpi_make.specs.Fault.{Fault}
 use Rattle.acpi_make.specs.Notes.{is_untrue}
-use Rattle.acpi_make.specs.Right.{right_at}
+use Rattle.acpi_make.specs.Another.{another_at}
 use Rattle.acpi_make.specs.Source.{Source}
 use Rattle.acpi_make.specs.declared.draft.Mark.{Mark}
 use Rattle.acpi_make.specs.declared.own.Own.{Own}
@@ -15,11 +15,11 @@ first_untrue (one ∷ owns) bytes =
     if nat_le 36 one.offset && is_untrue one bytes then Some one else first_untrue owns bytes
 
 -- the fault of the line of a number
-abbrev pub right_own : Source → List Mark → Option Own → Option Fault
-right_own s marks (Some one) = right_at s marks one.offset one.number
-right_own s marks None = None
+abbrev pub another_own : Source → List Mark → Option Own → Option Fault
+another_own s marks (Some one) = another_at s marks one.offset one.number
+another_own s marks None = None
 
 -- What is wrong with a text whose lines are others: a number that isn't right, if there is one.
 abbrev pub blamed : Source → List Mark → List Own → List ℕ → Option Fault → Option Fault
-blamed s marks owns bytes (Some wrong) = Some (or_fault (right_own s marks (first_untrue owns bytes)) wrong)
+blamed s marks owns bytes (Some wrong) = Some (or_fault (another_own s marks (first_untrue owns bytes)) wrong)
 blamed s marks owns bytes None = None

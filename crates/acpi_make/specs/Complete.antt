@@ -6,8 +6,8 @@ use Rattle.acpi_make.specs.Fits.{fits}
 use Rattle.acpi_make.specs.Gives.{with_front}
 use Rattle.acpi_make.specs.Item.{known_cells}
 use Rattle.acpi_make.specs.Own.{own}
-use Rattle.acpi_make.specs.declared.complete.Shape.{Shape}
-use Rattle.acpi_make.specs.declared.complete.Shape.TheVariants.{Table, Pointer, Control}
+use Rattle.acpi_make.specs.declared.file_kind.FileKind.{FileKind}
+use Rattle.acpi_make.specs.declared.file_kind.FileKind.TheVariants.{Table, Rsdp, Facs}
 use Rattle.acpi_make.specs.Fault.{Fault, fault}
 use Rattle.acpi_make.specs.declared.fault.Wanted.TheVariants as wants
 use Rattle.acpi_make.specs.declared.item.Cell.{Cell}
@@ -51,16 +51,16 @@ abbrev pub summed_at : ℕ → ℕ → List Cell → List Cell
 summed_at offset n cells = filled offset 1 (complement (known_sum (take n cells))) cells
 
 -- The checksums: of a table (ACPI 6.5, 5.2.6), and of a pointer, for its first 20 bytes and for all (5.2.5.3).
-abbrev pub summed : Shape → List Cell → List Cell
+abbrev pub summed : FileKind → List Cell → List Cell
 summed Table cells = summed_at 9 (length cells) cells
-summed Pointer cells = summed_at 32 (length cells) (summed_at 8 20 cells)
-summed Control cells = cells
+summed Rsdp cells = summed_at 32 (length cells) (summed_at 8 20 cells)
+summed Facs cells = cells
 
 -- the length of all bytes: of a table (5.2.6), of a pointer (5.2.5.3), and of a control structure (5.2.10)
-abbrev pub length_own : Shape → ℕ → Own
+abbrev pub length_own : FileKind → ℕ → Own
 length_own Table total = own 4 4 total
-length_own Pointer total = own 20 4 total
-length_own Control total = own 4 4 total
+length_own Rsdp total = own 20 4 total
+length_own Facs total = own 4 4 total
 
 -- ---- all bytes
 
@@ -71,5 +71,5 @@ known (Byte b ∷ cells) = with_front (b ∷ []) (known cells)
 known (Left place ∷ cells) = Err (fault place (place - 2) wants.Bytes)
 
 -- the bytes with these numbers and the checksums worked out
-abbrev pub completed : Shape → List Own → List Cell → Result (List ℕ) Fault
-completed shape owns cells = known (summed shape (all_filled owns cells))
+abbrev pub completed : FileKind → List Own → List Cell → Result (List ℕ) Fault
+completed file_kind owns cells = known (summed file_kind (all_filled owns cells))

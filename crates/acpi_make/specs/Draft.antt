@@ -13,7 +13,7 @@ use Rattle.acpi_make.specs.Fits.{fits}
 use Rattle.acpi_make.specs.Gives.{and_then}
 use Rattle.acpi_make.specs.Heading.{structure_form}
 use Rattle.acpi_make.specs.Item.{known_cells}
-use Rattle.acpi_make.specs.Right.{misnamed}
+use Rattle.acpi_make.specs.Another.{misnamed}
 use Rattle.acpi_make.specs.Source.{Source}
 use Rattle.acpi_make.specs.Text.{part_at, after_offset, are_white}
 use Rattle.acpi_make.specs.Value.{value_of}
@@ -148,11 +148,13 @@ abbrev pub is_doubted : Option Fault → Bool
 is_doubted (Some doubt) = true
 is_doubted None = false
 
--- The fault of the type of the structure that the text is in, if its heading is that of another. After a line that comes too early the
--- type may be another field.
+-- The fault of the type of the structure that the text is in, if its heading is that of another. After a line that comes too
+-- early the type may be another field.
 abbrev pub misnamed_here : Source → Drafted → Option Fault
 misnamed_here s d =
-    if d.inside && not (is_doubted d.early) then misnamed s d.marks d.start (drop d.start d.cells) (part_at d.from d.to s.text) else None
+    if d.inside && not (is_doubted d.early)
+    then misnamed s d.marks d.start (drop d.start d.cells) (part_at d.from d.to s.text)
+    else None
 
 -- the field that has to stand in a line; after bytes without a name it can be any
 abbrev pub field_expected : Source → Drafted → ℕ → ℕ → Fault

@@ -20,8 +20,8 @@ use Rattle.acpi_make.specs.declared.entry.Field.{Field}
 use Rattle.acpi_make.specs.declared.entry.Search.{Search}
 use Rattle.acpi_make.specs.declared.entry.Search.TheVariants.{Found, Missing}
 
--- A field that a form names: its name, the width of a number in it, how many bytes a line of it has, and what its value is. A name
--- over fields has no number, and the width 0. A line whose number of bytes depends on other fields has the size 0 here.
+-- A field that a form names: its name, the width of a number in it, how many bytes a line of it has, and what its value is. A
+-- name over fields has no number, and the width 0. A line whose number of bytes depends on other fields has the size 0 here.
 pub record Entry : Type 0 where
   pub name : List ℕ
   pub width : ℕ

@@ -9,7 +9,8 @@ use Rattle.acpi_make.specs.declared.fault.MakeError.TheVariants as errors
 use Rattle.acpi_make.specs.declared.fault.Wanted.{Wanted}
 use Rattle.acpi_make.specs.declared.fault.Wanted.TheVariants as wanted
 
--- The range of what is wrong, what has to stand there, and of a field its name and its width, and how many bytes the text has for it.
+-- The range of what is wrong, what has to stand there, and of a field its name and its width, and how many bytes the text has
+-- for it.
 pub record Fault : Type 0 where
   pub from : ℕ
   pub to : ℕ
@@ -47,8 +48,8 @@ whole from to name found =
     record { from = from; to = to; wanted = wanted.Whole; name = name; width = 0; found = found }
 
 -- a field in which another number has to stand
-abbrev pub right : ℕ → ℕ → List ℕ → ℕ → Fault
-right from to name n = record { from = from; to = to; wanted = wanted.Right; name = name; width = n; found = 0 }
+abbrev pub another : ℕ → ℕ → List ℕ → ℕ → Fault
+another from to name n = record { from = from; to = to; wanted = wanted.AnotherNumber; name = name; width = n; found = 0 }
 
 -- a line in place of which a field of a form has to stand
 abbrev pub field_of : ℕ → ℕ → List ℕ → Fault
@@ -99,7 +100,7 @@ words wanted.End = codes "the end of the table"
 words wanted.Structure = codes "the name or the type of a structure of this table"
 words wanted.Width = codes "as many bytes as the field has"
 words wanted.FieldOf = codes "a field"
-words wanted.Right = codes "another number"
+words wanted.AnotherNumber = codes "another number"
 words wanted.Whole = codes "all fields, since the length is left out"
 words wanted.OneTable = codes "the end of the text, since a text is one table"
 words wanted.Table = codes "a table, whose fields stand in lines after white space"
@@ -118,7 +119,7 @@ width_text name width =
 abbrev pub text_of_wanted : Wanted → List ℕ → ℕ → List ℕ
 text_of_wanted wanted.Next name width = next_text name width
 text_of_wanted wanted.Width name width = width_text name width
-text_of_wanted wanted.Right name width = decimal width ++ (codes " in " ++ name)
+text_of_wanted wanted.AnotherNumber name width = decimal width ++ (codes " in " ++ name)
 text_of_wanted wanted.FieldOf name width = codes "a field of " ++ name
 text_of_wanted wanted.Whole name width = codes "all fields of " ++ (name ++ codes ", since its length is left out")
 text_of_wanted wanted name width = words wanted
@@ -154,7 +155,7 @@ part_text from part =
 
 abbrev pub text_of_found : Wanted → ℕ → ℕ → List ℕ → List ℕ
 text_of_found wanted.Width from found part = decimal found
-text_of_found wanted.Right from found part = codes "another number"
+text_of_found wanted.AnotherNumber from found part = codes "another number"
 text_of_found wanted.Whole from found part = decimal found ++ codes " bytes"
 text_of_found wanted from found part = part_text from part
 

@@ -7,7 +7,7 @@ pub mod Value
 pub mod Heading
 pub mod Fits
 pub mod Source
-pub mod Right
+pub mod Another
 pub mod Draft
 pub mod Own
 pub mod Complete

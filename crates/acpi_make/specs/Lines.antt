@@ -8,7 +8,7 @@ use Rattle.acpi_make.specs.Made.{Table, made}
 use Rattle.acpi_make.specs.Meaning.{parts_of}
 use Rattle.acpi_make.specs.Own.{next_line}
 use Rattle.acpi_make.specs.Source.{Source}
-use Rattle.acpi_make.specs.declared.complete.Shape.{Shape}
+use Rattle.acpi_make.specs.declared.file_kind.FileKind.{FileKind}
 use Rattle.acpi_make.specs.declared.draft.Mark.{Mark}
 use Rattle.acpi_make.specs.declared.item.Item.{Item}
 
@@ -17,8 +17,8 @@ abbrev pub IsAmong : Source → Source → Mark → List Mark → Type 0
 IsAmong s t one [] = ⊥
 IsAmong s t one (other ∷ others) = (is_same s t one other ≡ true) ⊎ IsAmong s t one others
 
--- Each line is among those of the other text. References are no lines. Lines of bytes without a name, and lines without bytes of a
--- field that may have none, may be other ones.
+-- Each line is among those of the other text. References are no lines. Lines of bytes without a name, and lines without bytes
+-- of a field that may have none, may be other ones.
 abbrev pub AreAmong : Source → Source → ℕ → List Mark → List Mark → Type 0
 AreAmong s t size [] others = Unit {0}
 AreAmong s t size (one ∷ marks) others =
@@ -57,5 +57,5 @@ pub record IsShown (walk : Option Walk) (s : Source) (parts : List Item) (table 
   pub said : AreSaid s shown (length table.bytes) d.marks e.marks
 
 abbrev pub TextsAreShown : Type 0
-TextsAreShown = (walk : Option Walk) (shape : Shape) (s : Source) (parts : List Item) (table : Table)
-    → made shape walk s parts ≡ Ok table → IsShown walk s parts table
+TextsAreShown = (walk : Option Walk) (file_kind : FileKind) (s : Source) (parts : List Item) (table : Table)
+    → made file_kind walk s parts ≡ Ok table → IsShown walk s parts table

@@ -11,7 +11,7 @@ use Rattle.acpi_make.specs.Fault.{Fault}
 use Rattle.acpi_make.specs.Gives.{and_then}
 use Rattle.acpi_make.specs.Notes.{notes}
 use Rattle.acpi_make.specs.Own.{walk_own, none_own, table_own, references_own}
-use Rattle.acpi_make.specs.declared.complete.Shape.{Shape}
+use Rattle.acpi_make.specs.declared.file_kind.FileKind.{FileKind}
 use Rattle.acpi_make.specs.Short.{short}
 use Rattle.acpi_make.specs.Source.{Source}
 use Rattle.acpi_make.specs.declared.item.Item.{Item}
@@ -29,33 +29,33 @@ type_place (Some walk) = walk.kind
 type_place None = Nowhere
 
 -- a table's length, and what its walk says of its structures
-abbrev pub sizes_own : Shape → Option Walk → Drafted → List Own
-sizes_own shape walk d = length_own shape (length d.cells) ∷ walk_own walk d.marks (length d.cells)
+abbrev pub sizes_own : FileKind → Option Walk → Drafted → List Own
+sizes_own file_kind walk d = length_own file_kind (length d.cells) ∷ walk_own walk d.marks (length d.cells)
 
 -- a table of these bytes, with notes on its own numbers
-abbrev pub made_of : Shape → List Own → List ℕ → Table
-made_of shape owns bytes = record { bytes = bytes; untrue = notes shape owns bytes }
+abbrev pub made_of : FileKind → List Own → List ℕ → Table
+made_of file_kind owns bytes = record { bytes = bytes; untrue = notes file_kind owns bytes }
 
 -- the offsets to which references refer, and then all numbers that a table has of itself
-abbrev pub numbers_own : Shape → Option Walk → Source → Drafted → Result (List Own) Fault
-numbers_own shape walk s d =
+abbrev pub numbers_own : FileKind → Option Walk → Source → Drafted → Result (List Own) Fault
+numbers_own file_kind walk s d =
     and_then (references_own s.text d.marks d.marks) (λ references.
-    Ok (references ++ (sizes_own shape walk d ++ table_own s d.cells d.marks)))
+    Ok (references ++ (sizes_own file_kind walk d ++ table_own s d.cells d.marks)))
 
 -- an outcome, unless something is wrong
 abbrev pub unless : {A : Type 0} → Option Fault → Result A Fault → Result A Fault
 unless (Some wrong) outcome = Err wrong
 unless None outcome = outcome
 
--- The table of a table in the making: no structure whose length is left out lacks fields, and the text has the lines of the text that
--- shows the table. Else a number that the text states may be the cause.
-abbrev pub finished : Shape → Option Walk → Source → Drafted → Result Table Fault
-finished shape walk s d =
-    and_then (numbers_own shape walk s d) (λ owns.
-    unless (short shape walk s d) (
-    and_then (completed shape (owns ++ none_own walk d.marks (length d.cells)) d.cells) (λ bytes.
+-- The table of a table in the making: no structure whose length is left out lacks fields, and the text has the lines of the
+-- text that shows the table. Else a number that the text states may be the cause.
+abbrev pub finished : FileKind → Option Walk → Source → Drafted → Result Table Fault
+finished file_kind walk s d =
+    and_then (numbers_own file_kind walk s d) (λ owns.
+    unless (short file_kind walk s d) (
+    and_then (completed file_kind (owns ++ none_own walk d.marks (length d.cells)) d.cells) (λ bytes.
     and_then (difference walk s d bytes) (λ wrong.
-    unless (blamed s d.marks owns bytes wrong) (Ok (made_of shape owns bytes))))))
+    unless (blamed s d.marks owns bytes wrong) (Ok (made_of file_kind owns bytes))))))
 
 -- an outcome, in which what was in doubt before comes before other faults
 abbrev pub or_doubt : {A : Type 0} → Option Fault → Result A Fault → Result A Fault
@@ -63,9 +63,9 @@ or_doubt doubt (Ok value) = Ok value
 or_doubt doubt (Err wrong) = Err (or_fault doubt wrong)
 
 -- the table that the parts of a text are made into
-abbrev pub made : Shape → Option Walk → Source → List Item → Result Table Fault
-made shape walk s parts =
-    and_then (all_taken s parts nothing_yet) (λ d. or_doubt (doubt_of d) (finished shape walk s d))
+abbrev pub made : FileKind → Option Walk → Source → List Item → Result Table Fault
+made file_kind walk s parts =
+    and_then (all_taken s parts nothing_yet) (λ d. or_doubt (doubt_of d) (finished file_kind walk s d))
 
 abbrev pub table_of : Made → Table
 table_of made = record { bytes = made.bytes.items; untrue = made.untrue.items }

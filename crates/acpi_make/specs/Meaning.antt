@@ -15,7 +15,8 @@ use Rattle.acpi_make.specs.declared.state.Step.TheVariants.{Goes, Adds, Ends, Ha
 abbrev pub Outcome : Type 0
 Outcome = Result (List Item) Fault
 
--- What a step does at a place, with the bytes of the number that is being read, lowest first, and what the rest of the text means.
+-- What a step does at a place, with the bytes of the number that is being read, lowest first, and what the rest of the text
+-- means.
 abbrev pub act : ℕ → Step → List ℕ → (State → List ℕ → Outcome) → Outcome
 act here (Goes state) number rest = rest state number
 act here (Adds byte) number rest = rest Number (byte ∷ number)

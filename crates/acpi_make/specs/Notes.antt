@@ -1,10 +1,11 @@
 -- The numbers of a table that aren't right.
-use Rattle.std.specs.Prelude.{ℕ, zero, suc, ◌+◌, ◌/◌, ◌%◌, ◌==◌, nat_lt, nat_le, ◌&&◌, not, Bool, false, if◌then◌else◌, sum, slice_index}
+use Rattle.std.specs.Prelude.{ℕ, zero, suc, ◌+◌, ◌/◌, ◌%◌, ◌==◌, nat_lt, nat_le, ◌&&◌, not, Bool, false, if◌then◌else◌}
+use Rattle.std.specs.Prelude.{sum, slice_index}
 use Rattle.std.specs.Prelude.{List, [], ◌∷◌, ◌++◌, length, take, drop}
 use Rattle.acpi_base.specs.Bytes.{complement}
 use Rattle.acpi_make.specs.Own.{own}
-use Rattle.acpi_make.specs.declared.complete.Shape.{Shape}
-use Rattle.acpi_make.specs.declared.complete.Shape.TheVariants.{Table, Pointer, Control}
+use Rattle.acpi_make.specs.declared.file_kind.FileKind.{FileKind}
+use Rattle.acpi_make.specs.declared.file_kind.FileKind.TheVariants.{Table, Rsdp, Facs}
 use Rattle.acpi_make.specs.declared.own.Own.{Own}
 
 -- whether bytes begin with w bytes of this number, lowest first
@@ -31,11 +32,11 @@ untrue_sum offset n bytes =
     else []
 
 -- The checksums: of a table (ACPI 6.5, 5.2.6), and of a pointer, for its first 20 bytes and for all (5.2.5.3).
-abbrev pub untrue_sums : Shape → List ℕ → List Own
+abbrev pub untrue_sums : FileKind → List ℕ → List Own
 untrue_sums Table bytes = untrue_sum 9 (length bytes) bytes
-untrue_sums Pointer bytes = untrue_sum 8 20 bytes ++ untrue_sum 32 (length bytes) bytes
-untrue_sums Control bytes = []
+untrue_sums Rsdp bytes = untrue_sum 8 20 bytes ++ untrue_sum 32 (length bytes) bytes
+untrue_sums Facs bytes = []
 
 -- the numbers that aren't in their fields, and the checksums that aren't right
-abbrev pub notes : Shape → List Own → List ℕ → List Own
-notes shape owns bytes = untrue owns bytes ++ untrue_sums shape bytes
+abbrev pub notes : FileKind → List Own → List ℕ → List Own
+notes file_kind owns bytes = untrue owns bytes ++ untrue_sums file_kind bytes

@@ -1,5 +1,6 @@
 -- The numbers that a table has of itself.
-use Rattle.std.specs.Prelude.{ℕ, ◌+◌, ◌-◌, ◌^◌, ◌==◌, nat_le, nat_lt, ◌&&◌, Bool, true, false, if◌then◌else◌, List, [], ◌∷◌, ◌++◌, length, drop}
+use Rattle.std.specs.Prelude.{ℕ, ◌+◌, ◌-◌, ◌^◌, ◌==◌, nat_le, nat_lt, ◌&&◌, Bool, true, false, if◌then◌else◌, List, []}
+use Rattle.std.specs.Prelude.{◌∷◌, ◌++◌, length, drop}
 use Rattle.std.specs.Prelude.{◌≡◌, Option, Some, None, Result, Ok, Err}
 use Rattle.std.specs.BTreeMap.{BTreeMap, get_by}
 use Rattle.std.specs.Cmp.Lexicographic.{slice_cmp}
@@ -67,7 +68,8 @@ size_own BySource start size = []
 -- the lengths of all structures
 abbrev pub sizes_own : Sizes → List Mark → ℕ → List Own
 sizes_own sizes [] total = []
-sizes_own sizes (Structure at from to ∷ marks) total = size_own sizes at (next_start marks total - at) ++ sizes_own sizes marks total
+sizes_own sizes (Structure at from to ∷ marks) total =
+    size_own sizes at (next_start marks total - at) ++ sizes_own sizes marks total
 sizes_own sizes (Line at from to ∷ marks) total = sizes_own sizes marks total
 sizes_own sizes (Reference at w from to ∷ marks) total = sizes_own sizes marks total
 
@@ -83,8 +85,8 @@ walk_own None marks total = []
 walk_own (Some walk) marks total =
     (if count_structures marks == 0 then [] else all_own walk marks total) ++ sizes_own walk.sizes marks total
 
--- These, if there are no structures. There is no note on them: a table may have another offset then, and it may have structures of
--- which the size isn't known.
+-- These, if there are no structures. There is no note on them: a table may have another offset then, and it may have structures
+-- of which the size isn't known.
 abbrev pub none_own : Option Walk → List Mark → ℕ → List Own
 none_own None marks total = []
 none_own (Some walk) marks total = if count_structures marks == 0 then all_own walk marks total else []
@@ -111,7 +113,9 @@ abbrev pub find_line : List ℕ → List ℕ → List Mark → ℕ → Option (�
 find_line text name [] total = None
 find_line text name (Structure at from to ∷ marks) total = None
 find_line text name (Line at from to ∷ marks) total =
-    if is_line_of name (after_offset (part_at from to text)) then Some (at, next_line marks total) else find_line text name marks total
+    if is_line_of name (after_offset (part_at from to text))
+    then Some (at, next_line marks total)
+    else find_line text name marks total
 find_line text name (Reference at w from to ∷ marks) total = find_line text name marks total
 
 abbrev pub count_own : List ℕ → List Mark → ℕ → ℕ → List ℕ → Count → List Own
@@ -153,8 +157,8 @@ abbrev pub gap_own : ℕ → ℕ → Place → Option (ℕ × ℕ) → List Own
 gap_own start size place (Some found) = own_at start size place (found.0 - start)
 gap_own start size place None = []
 
--- The number that a structure has of a part: of its entries, of its bytes, or of the bytes before its end. If these bytes have no name,
--- it is the offset of the next part that the text has.
+-- The number that a structure has of a part: of its entries, of its bytes, or of the bytes before its end. If these bytes have
+-- no name, it is the offset of the next part that the text has.
 abbrev pub part_own : List ℕ → List Mark → ℕ → ℕ → ℕ → Part → List Part → List Own
 part_own text marks total start size (Fields rows) next = []
 part_own text marks total start size (Between rows from to) next = []
@@ -251,7 +255,8 @@ AreLabels labels text marks = (wanted : List ℕ) → labelled labels wanted ≡
 
 -- a map with a further offset under a label, if there is one
 abbrev pub PutsLabel : BTreeMap (Bor (List ℕ)) ℕ → BTreeMap (Bor (List ℕ)) ℕ → Option (List ℕ) → ℕ → Type 0
-PutsLabel old new label at = (wanted : List ℕ) → labelled new wanted ≡ (if has_label wanted label then Some at else labelled old wanted)
+PutsLabel old new label at =
+    (wanted : List ℕ) → labelled new wanted ≡ (if has_label wanted label then Some at else labelled old wanted)
 
 abbrev pub reference_own : ℕ → ℕ → ℕ → ℕ → Option ℕ → Result (List Own) Fault
 reference_own at w from to (Some offset) =

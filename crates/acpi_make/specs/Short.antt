@@ -20,7 +20,7 @@ use Rattle.acpi_make.specs.Heading.{structure_form}
 use Rattle.acpi_make.specs.Own.{next_start}
 use Rattle.acpi_make.specs.Source.{Source}
 use Rattle.acpi_make.specs.Text.{part_at}
-use Rattle.acpi_make.specs.declared.complete.Shape.{Shape}
+use Rattle.acpi_make.specs.declared.file_kind.FileKind.{FileKind}
 use Rattle.acpi_make.specs.declared.draft.Mark.{Mark}
 use Rattle.acpi_make.specs.declared.draft.Mark.TheVariants.{Structure, Line, Reference}
 use Rattle.acpi_make.specs.declared.short.Fit.{Fit}
@@ -93,13 +93,15 @@ short_in s place cells (Line at from to ∷ marks) = short_in s place cells mark
 short_in s place cells (Reference at w from to ∷ marks) = short_in s place cells marks
 
 -- the fields of a table before structures
-abbrev pub short_table : Shape → Source → List Cell → ℕ → Option Fault
-short_table shape s cells first =
-    if any_left 4 (drop (length_own shape (length cells)).offset cells) && not (has_fields first s.form.parts.now)
+abbrev pub short_table : FileKind → Source → List Cell → ℕ → Option Fault
+short_table file_kind s cells first =
+    if any_left 4 (drop (length_own file_kind (length cells)).offset cells) && not (has_fields first s.form.parts.now)
     then Some (whole 0 0 s.form.name.now first)
     else None
 
 -- the table, or the first of its structures that lacks fields
-abbrev pub short : Shape → Option Walk → Source → Drafted → Option Fault
-short shape walk s d =
-    first_of (short_table shape s d.cells (next_start d.marks (length d.cells))) (short_in s (size_place walk) d.cells d.marks)
+abbrev pub short : FileKind → Option Walk → Source → Drafted → Option Fault
+short file_kind walk s d =
+    first_of
+    (short_table file_kind s d.cells (next_start d.marks (length d.cells)))
+    (short_in s (size_place walk) d.cells d.marks)

@@ -1,15 +1,18 @@
 -- What each character of a text does.
-use Rattle.std.specs.Prelude.{ℕ, ◌+◌, ◌-◌, ◌*◌, ◌<◌, ◌==◌, nat_lt, nat_le, ◌&&◌, ◌||◌, not, Bool, if◌then◌else◌, Option, Some, None}
+use Rattle.std.specs.Prelude.{ℕ, ◌+◌, ◌-◌, ◌*◌, ◌<◌, ◌==◌, nat_lt, nat_le, ◌&&◌, ◌||◌, not, Bool, if◌then◌else◌, Option}
+use Rattle.std.specs.Prelude.{Some, None}
 use Rattle.acpi_base.specs.Digit.{digit_value}
 use Rattle.acpi_make.specs.Text.{is_white}
 use Rattle.acpi_make.specs.declared.fault.Wanted.{Wanted}
-use Rattle.acpi_make.specs.declared.fault.Wanted.TheVariants.{Printing, Space, Digit, SecondDigit, QuotationMark, QuestionMark, Slash, Brace}
+use Rattle.acpi_make.specs.declared.fault.Wanted.TheVariants.{Printing, Space, Digit, SecondDigit, QuotationMark}
+use Rattle.acpi_make.specs.declared.fault.Wanted.TheVariants.{QuestionMark, Slash, Brace}
 use Rattle.acpi_make.specs.declared.fault.Wanted.TheVariants as wants
 use Rattle.acpi_make.specs.declared.item.Cell.TheVariants.{Byte, Left}
 use Rattle.acpi_make.specs.declared.item.Item.TheVariants.{Cell, Heading, Name, Value}
 use Rattle.acpi_make.specs.declared.state.State.{State}
 use Rattle.acpi_make.specs.declared.state.State.TheVariants.{Start, Slashed, Headed, Indented, NameSlashed, Named, Skipped}
-use Rattle.acpi_make.specs.declared.state.State.TheVariants.{Ended, Spaced, HalfComment, Number, Half, Quoted, HalfMark, Marked, Braced, Worded}
+use Rattle.acpi_make.specs.declared.state.State.TheVariants.{Ended, Spaced, HalfComment, Number, Half, Quoted, HalfMark}
+use Rattle.acpi_make.specs.declared.state.State.TheVariants.{Marked, Braced, Worded}
 use Rattle.acpi_make.specs.declared.state.Step.{Step}
 use Rattle.acpi_make.specs.declared.state.Step.TheVariants.{Goes, Adds, Ends, Has, Wants}
 

@@ -29,8 +29,8 @@ use Rattle.acpi_text.specs.Line.{spaces}
 use Rattle.acpi_make.specs.Complete.{length_own}
 use Rattle.acpi_make.specs.Draft.{is_nameless}
 use Rattle.acpi_make.specs.Entry.{row_entry}
-use Rattle.acpi_make.specs.declared.complete.Shape.{Shape}
-use Rattle.acpi_make.specs.declared.complete.Shape.TheVariants as shapes
+use Rattle.acpi_make.specs.declared.file_kind.FileKind.{FileKind}
+use Rattle.acpi_make.specs.declared.file_kind.FileKind.TheVariants as kinds
 
 -- ---- lists
 
@@ -77,8 +77,8 @@ hint look = []
 
 -- ---- a field
 
--- What a template has in place of zeros: the signature at offset 0, question marks at the offsets of a table's own numbers, and 1 at
--- those of the numbers of a matrix's rows and columns.
+-- What a template has in place of zeros: the signature at offset 0, question marks at the offsets of a table's own numbers, and
+-- 1 at those of the numbers of a matrix's rows and columns.
 pub record Known : Type 0 where
   pub signature : List ℕ
   pub own : List ℕ
@@ -175,7 +175,8 @@ abbrev pub part_lines : ℕ → Known → ℕ → Part → List ℕ
 part_lines depth known at (parts.Fields rows) = rows_lines depth known at rows.now
 part_lines depth known at (parts.Between rows from to) = rows_lines depth known at (slice_range rows.now from to)
 part_lines depth known at (parts.Group name rows) = title_line depth name.now ++ rows_lines (depth + 1) known at rows.now
-part_lines depth known at (parts.Entries name count rows) = title_line depth name.now ++ rows_lines (depth + 1) nothing_known at rows.now
+part_lines depth known at (parts.Entries name count rows) =
+    title_line depth name.now ++ rows_lines (depth + 1) nothing_known at rows.now
 part_lines depth known at (parts.Numbers name w count) = field_line depth name.now (32 ∷ times w (codes "00"))
 part_lines depth known at (parts.Matrix name w rows columns) = field_line depth name.now (32 ∷ times w (codes "00"))
 part_lines depth known at (parts.Bytes name count) = field_line depth name.now (codes " \"\"")
@@ -258,22 +259,22 @@ abbrev pub structures_lines : Walk → List StructureForm → List ℕ
 structures_lines walk forms = flat_map (structure_lines walk) forms
 
 -- the checksums
-abbrev pub sums_at : Shape → List ℕ
-sums_at shapes.Table = 9 ∷ []
-sums_at shapes.Pointer = 8 ∷ 32 ∷ []
-sums_at shapes.Control = []
+abbrev pub sums_at : FileKind → List ℕ
+sums_at kinds.Table = 9 ∷ []
+sums_at kinds.Rsdp = 8 ∷ 32 ∷ []
+sums_at kinds.Facs = []
 
 abbrev pub walk_at : Option Walk → List ℕ
 walk_at (Some walk) = place_at walk.count ++ place_at walk.first
 walk_at None = []
 
-abbrev pub table_own : Shape → Option Walk → List Part → List ℕ
-table_own shape walk list = (length_own shape 0).offset ∷ (sums_at shape ++ (walk_at walk ++ counts_at list))
+abbrev pub table_own : FileKind → Option Walk → List Part → List ℕ
+table_own file_kind walk list = (length_own file_kind 0).offset ∷ (sums_at file_kind ++ (walk_at walk ++ counts_at list))
 
-abbrev pub table_known : List ℕ → Shape → Option Walk → List Part → Known
-table_known signature shape walk list = record {
+abbrev pub table_known : List ℕ → FileKind → Option Walk → List Part → Known
+table_known signature file_kind walk list = record {
   signature = signature;
-  own = table_own shape walk list;
+  own = table_own file_kind walk list;
   ones = all_sides list;
 }
 
@@ -282,8 +283,8 @@ structures_text (Some walk) forms = structures_lines walk forms
 structures_text None forms = []
 
 -- a table's name, its parts, and one structure of each kind
-abbrev pub template_text : List ℕ → Shape → TableForm → Option Walk → List ℕ
-template_text signature shape form walk =
+abbrev pub template_text : List ℕ → FileKind → TableForm → Option Walk → List ℕ
+template_text signature file_kind form walk =
     label form.name.now
-    ++ (10 ∷ (parts_lines 0 (table_known signature shape walk form.parts.now) 0 form.parts.now
+    ++ (10 ∷ (parts_lines 0 (table_known signature file_kind walk form.parts.now) 0 form.parts.now
     ++ structures_text walk form.structures.now))

@@ -3,7 +3,8 @@
 
 ghost use Rattle.std.specs.Prelude.{◌≡◌, List, ◌∷◌, Some, MatchResult};
 ghost use Rattle.acpi_make.specs.Compare.{heading_number, is_same_number, mark_at, is_reference, name_in, is_same_name, is_same};
-ghost use Rattle.acpi_make.specs.Compare.{is_passed, no_bytes, is_within, past, rest_after, begins_same, has_no_name, is_empty, cover};
+ghost use Rattle.acpi_make.specs.Compare.{is_passed, no_bytes, is_within, past, rest_after, begins_same, has_no_name};
+ghost use Rattle.acpi_make.specs.Compare.{is_empty, cover};
 ghost use Rattle.acpi_make.specs.Compare.{name_of_number, wanted_at, wanted_for, wanted_after, differ, difference};
 ghost use Rattle.acpi_make.specs.Draft.{drafted, fault_in};
 ghost use Rattle.acpi_make.specs.Range.{range_of};
@@ -59,9 +60,9 @@ fn mark_at(mark: &Mark) -> usize
     ensures { result ≡ mark_at mark.now }
 {
     match *mark {
-        Mark::Structure(at, _, _) => at,
-        Mark::Line(at, _, _) => at,
-        Mark::Reference(at, _, _, _) => at,
+        Mark::Structure { at, .. } => at,
+        Mark::Line { at, .. } => at,
+        Mark::Reference { at, .. } => at,
     }
 }
 
@@ -69,9 +70,9 @@ fn is_reference(mark: &Mark) -> bool
     ensures { result ≡ is_reference mark.now }
 {
     match *mark {
-        Mark::Reference(_, _, _, _) => true,
-        Mark::Structure(_, _, _) => false,
-        Mark::Line(_, _, _) => false,
+        Mark::Reference { .. } => true,
+        Mark::Structure { .. } => false,
+        Mark::Line { .. } => false,
     }
 }
 
@@ -105,7 +106,14 @@ fn is_same(source: &Source, shown: &Source, one: &Mark, other: &Mark) -> bool
     ensures { result ≡ is_same (source_of source.now) (source_of shown.now) one.now other.now }
 {
     match (*one, *other) {
-        (Mark::Structure(at, from, to), Mark::Structure(start, since, until)) => {
+        (
+            Mark::Structure { at, from, to },
+            Mark::Structure {
+                at: start,
+                from: since,
+                to: until,
+            },
+        ) => {
             let heading = part_at(from, to, source.text);
             let wanted = part_at(since, until, shown.text);
             at == start
@@ -114,7 +122,14 @@ fn is_same(source: &Source, shown: &Source, one: &Mark, other: &Mark) -> bool
                     heading_number(shown.form.structures, wanted),
                 )
         }
-        (Mark::Line(at, from, to), Mark::Line(start, since, until)) => {
+        (
+            Mark::Line { at, from, to },
+            Mark::Line {
+                at: start,
+                from: since,
+                to: until,
+            },
+        ) => {
             at == start && is_same_name(name_in(source, from, to), name_in(shown, since, until))
         }
         _ => false,
@@ -200,9 +215,9 @@ fn has_no_name(source: &Source, mark: &Mark) -> bool
     ensures { result ≡ has_no_name (source_of source.now) mark.now }
 {
     match *mark {
-        Mark::Line(_, from, to) => is_nameless(name_in(source, from, to)),
-        Mark::Structure(_, _, _) => false,
-        Mark::Reference(_, _, _, _) => false,
+        Mark::Line { from, to, .. } => is_nameless(name_in(source, from, to)),
+        Mark::Structure { .. } => false,
+        Mark::Reference { .. } => false,
     }
 }
 
@@ -221,11 +236,11 @@ fn is_empty(source: &Source, mark: &Mark, end: usize) -> bool
     ensures { result ≡ is_empty (source_of source.now) mark.now end }
 {
     match *mark {
-        Mark::Line(at, from, to) => {
+        Mark::Line { at, from, to } => {
             end == at && is_open(find_anywhere(name_in(source, from, to), &source.form))
         }
-        Mark::Structure(_, _, _) => false,
-        Mark::Reference(_, _, _, _) => false,
+        Mark::Structure { .. } => false,
+        Mark::Reference { .. } => false,
     }
 }
 
@@ -269,12 +284,26 @@ fn wanted_at(shown: &Source, from: usize, to: usize, others: &[Mark], end: usize
     ensures { fault_of result ≡ wanted_at (source_of shown.now) from to others.now end }
 {
     match others {
-        [Mark::Structure(_, since, until), ..] => {
+        [
+            Mark::Structure {
+                from: since,
+                to: until,
+                ..
+            },
+            ..
+        ] => {
             let forms = shown.form.structures;
             let number = heading_number(forms, part_at(*since, *until, shown.text));
             Fault::next(from, to, name_of_number(forms, number), 0)
         }
-        [Mark::Line(at, since, until), more @ ..] => {
+        [
+            Mark::Line {
+                at,
+                from: since,
+                to: until,
+            },
+            more @ ..,
+        ] => {
             let name = name_in(shown, *since, *until);
             if is_nameless(name) {
                 return Fault::new(from, to, Wanted::Nameless);
@@ -290,9 +319,9 @@ fn wanted_for(shown: &Source, one: &Mark, others: &[Mark], end: usize) -> Fault
     ensures { fault_of result ≡ wanted_for (source_of shown.now) one.now others.now end }
 {
     match *one {
-        Mark::Structure(_, from, to) => wanted_at(shown, from, to, others, end),
-        Mark::Line(_, from, to) => wanted_at(shown, from, to, others, end),
-        Mark::Reference(_, _, from, to) => wanted_at(shown, from, to, others, end),
+        Mark::Structure { from, to, .. } => wanted_at(shown, from, to, others, end),
+        Mark::Line { from, to, .. } => wanted_at(shown, from, to, others, end),
+        Mark::Reference { from, to, .. } => wanted_at(shown, from, to, others, end),
     }
 }
 
@@ -339,7 +368,8 @@ fn compare<'a>(
     Err(wanted_for(shown, one, rest, size))
 }
 
-// Returns what is wrong with the first mark of a text that the other text doesn't have in its place. Both have tables of this size.
+// Returns what is wrong with the first mark of a text that the other text doesn't have in its place. Both have tables of this
+// size.
 fn differ(
     source: &Source,
     shown: &Source,

@@ -8,20 +8,10 @@ ghost use Rattle.acpi_make.specs.Gives.{Gives};
 
 use crate::draft::fits;
 use crate::fault::{Fault, MakeError, Wanted};
+use crate::file_kind::FileKind;
 use crate::item::Cell;
 use crate::own::Own;
 use std::alloc::Global;
-
-/// What bytes have a length and checksums.
-#[derive(Clone, Copy, Debug, PartialEq, Eq)]
-pub enum Shape {
-    /// A table with the standard header (ACPI 6.5, 5.2.6).
-    Table,
-    /// A Root System Description Pointer (ACPI 6.5, 5.2.5.3).
-    Pointer,
-    /// A Firmware ACPI Control Structure (ACPI 6.5, 5.2.10).
-    Control,
-}
 
 // Returns whether there are `width` bytes and none of them is known. It looks at no byte after them.
 fn are_left(width: usize, cells: &[Cell]) -> bool
@@ -107,28 +97,28 @@ fn fill_sum(offset: usize, count: usize, cells: &mut [Cell])
 }
 
 // Writes the checksums that aren't known.
-fn fill_sums(shape: Shape, cells: &mut [Cell])
-    ensures { cells.new ≡ summed shape cells.old }
+fn fill_sums(file_kind: FileKind, cells: &mut [Cell])
+    ensures { cells.new ≡ summed file_kind cells.old }
 {
-    match shape {
-        Shape::Table => fill_sum(9, cells.len(), cells),
-        Shape::Pointer => {
+    match file_kind {
+        FileKind::Table => fill_sum(9, cells.len(), cells),
+        FileKind::Rsdp => {
             let size = cells.len();
             fill_sum(8, 20, cells);
             fill_sum(32, size, cells);
         }
-        Shape::Control => {}
+        FileKind::Facs => {}
     }
 }
 
 /// Returns the length of all bytes.
-pub fn length_own(shape: Shape, total: usize) -> Own
-    ensures { result ≡ length_own shape total }
+pub fn length_own(file_kind: FileKind, total: usize) -> Own
+    ensures { result ≡ length_own file_kind total }
 {
-    let offset = match shape {
-        Shape::Table => 4,
-        Shape::Pointer => 20,
-        Shape::Control => 4,
+    let offset = match file_kind {
+        FileKind::Table => 4,
+        FileKind::Rsdp => 20,
+        FileKind::Facs => 4,
     };
     Own {
         offset,
@@ -154,18 +144,18 @@ fn known(alloc: Global, cells: &[Cell]) -> Result<Vec<u8>, MakeError>
     Ok(bytes)
 }
 
-/// Writes numbers into fields whose bytes aren't known, and the checksums, and returns all bytes. The error is that memory ran out,
-/// or the place of the first byte that isn't known after this.
+/// Writes numbers into fields whose bytes aren't known, and the checksums, and returns all bytes. The error is that memory ran
+/// out, or the place of the first byte that isn't known after this.
 pub fn complete(
     alloc: Global,
-    shape: Shape,
+    file_kind: FileKind,
     owns: &[Own],
     stated: &[Cell],
 ) -> Result<Vec<u8>, MakeError>
-    ensures { Gives (λ bytes. bytes.items) result (completed shape owns.now stated.now) }
+    ensures { Gives (λ bytes. bytes.items) result (completed file_kind owns.now stated.now) }
 {
     let mut cells = stated.to_vec(alloc)?;
     fill_all(owns, &mut cells);
-    fill_sums(shape, &mut cells);
+    fill_sums(file_kind, &mut cells);
     known(alloc, &cells)
 }

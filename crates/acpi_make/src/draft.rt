@@ -2,10 +2,12 @@
 
 ghost use Rattle.std.specs.Prelude.{◌≡◌, ◌-◌, [], ◌++◌, length, drop, replicate, OnOk, Ok};
 ghost use Rattle.acpi_base.specs.Bytes.{le};
-ghost use Rattle.acpi_make.specs.Draft.{earliest, doubt_of, form_here, misnamed_here, field_expected, is_doubted, expected, may_lack, early_doubt, line_found, named_field, line_doubt};
+ghost use Rattle.acpi_make.specs.Draft.{earliest, doubt_of, form_here, misnamed_here, field_expected, is_doubted};
+ghost use Rattle.acpi_make.specs.Draft.{expected, may_lack, early_doubt, line_found, named_field, line_doubt};
 ghost use Rattle.acpi_make.specs.Draft.{here, parts_here, inner_here, is_strange, nothing_yet, size_doubt, closed, is_nameless};
 ghost use Rattle.acpi_make.specs.Draft.{unlike, name_doubt, opened, with_line, with_heading, or_fault, with_number, wanted_for};
-ghost use Rattle.acpi_make.specs.Draft.{is_reference, with_reference, with_value_of, taken, all_taken, drafted, field_in, fault_in, first_of, wants_in};
+ghost use Rattle.acpi_make.specs.Draft.{is_reference, with_reference, with_value_of, taken, all_taken, drafted};
+ghost use Rattle.acpi_make.specs.Draft.{field_in, fault_in, first_of, wants_in};
 ghost use Rattle.acpi_make.specs.Entry.{find_entry, found_of, parts_entries, inner_entries};
 ghost use Rattle.acpi_make.specs.Fault.{fault_of};
 ghost use Rattle.acpi_make.specs.Fits.{fits};
@@ -14,11 +16,11 @@ ghost use Rattle.acpi_make.specs.Item.{known_cells};
 ghost use Rattle.acpi_make.specs.Source.{source_of};
 ghost use Rattle.acpi_make.specs.declared.item.Cell.TheVariants.{Left};
 
+use crate::another::misnamed;
 use crate::entry::{Field, entry_from, is_line_of, next_entry, next_number};
 use crate::fault::{Fault, MakeError, Wanted};
 use crate::heading::structure_form;
 use crate::item::{Cell, Item};
-use crate::right::misnamed;
 use crate::text::{after_offset, are_white, part_at};
 use crate::value::value_of;
 use acpi_base::walk::Place;
@@ -26,15 +28,28 @@ use acpi_text::form::{Inner, Part, StructureForm, TableForm};
 use acpi_text::piece::{inner_of, parts_of};
 use std::alloc::{AllocError, Global};
 
-/// Where something begins in a table: the number of bytes before it, and the range of its text.
+/// Where something begins in a table: `at` is the number of bytes before it, and `from` and `to` the range of its text.
 #[derive(Clone, Copy, Debug)]
 pub enum Mark {
     /// A structure, by its heading.
-    Structure(usize, usize, usize),
+    Structure {
+        at: usize,
+        from: usize,
+        to: usize,
+    },
     /// A line with a name.
-    Line(usize, usize, usize),
-    /// A reference to a structure: its width in bytes, and its range.
-    Reference(usize, usize, usize, usize),
+    Line {
+        at: usize,
+        from: usize,
+        to: usize,
+    },
+    /// A reference to a structure. `width` is the number of its bytes.
+    Reference {
+        at: usize,
+        width: usize,
+        from: usize,
+        to: usize,
+    },
 }
 
 /// A table in the making.
@@ -61,8 +76,8 @@ pub struct Draft {
     pub line_to: usize,
     /// The first line that isn't as the form has it. It is the fault of the text, if the text has one.
     pub doubt: Option<Fault>,
-    /// The first line of a field that comes too early. It is the fault of the text, if there is none before it, and all values can
-    /// be read.
+    /// The first line of a field that comes too early. It is the fault of the text, if there is none before it, and all values
+    /// can be read.
     pub early: Option<Fault>,
 }
 
@@ -74,7 +89,7 @@ pub struct Source<'a> {
     pub text: &'a [u8],
 }
 
-// Returns whether a number has at most so many bytes.
+// Returns whether a number has at most this many bytes.
 pub fn fits(width: usize, number: usize) -> bool
     ensures { result ≡ fits width number }
 {
@@ -271,8 +286,8 @@ impl Draft {
         }
     }
 
-    // Returns the fault of the type of the structure that the text is in, if its heading is that of another. After a line that comes
-    // too early the type may be another field.
+    // Returns the fault of the type of the structure that the text is in, if its heading is that of another. After a line that
+    // comes too early the type may be another field.
     fn misnamed_here(&self, source: &Source) -> Option<Fault>
         ensures { fault_in result ≡ misnamed_here (source_of source.now) (drafted self.now) }
     {
@@ -358,7 +373,7 @@ impl Draft {
         ensures { Changes result (drafted self.new) (Ok (opened from to (drafted self.old))) }
     {
         let at = self.cells.len();
-        self.marks.push(Mark::Line(at, from, to))?;
+        self.marks.push(Mark::Line { at, from, to })?;
         self.line_at = at;
         self.line_from = from;
         self.line_to = to;
@@ -432,7 +447,11 @@ impl Draft {
         let start = self.cells.len();
         if start > 0 {
             self.doubt = self.doubt_at_end();
-            self.marks.push(Mark::Structure(start, from, to))?;
+            self.marks.push(Mark::Structure {
+                at: start,
+                from,
+                to,
+            })?;
             self.inside = true;
             self.start = start;
             self.from = from;
@@ -458,8 +477,12 @@ impl Draft {
     fn add_reference(&mut self, width: usize, from: usize, to: usize) -> Result<(), MakeError>
         ensures { Changes result (drafted self.new) (Ok (with_reference width from to (drafted self.old))) }
     {
-        self.marks
-            .push(Mark::Reference(self.cells.len(), width, from, to))?;
+        self.marks.push(Mark::Reference {
+            at: self.cells.len(),
+            width,
+            from,
+            to,
+        })?;
         push_left(width, from, &mut self.cells)?;
         Ok(())
     }
@@ -520,8 +543,8 @@ impl Draft {
     }
 }
 
-/// Returns the table in the making that the parts of a text give. The error is that memory ran out, or what is wrong with a value,
-/// and where.
+/// Returns the table in the making that the parts of a text give. The error is that memory ran out, or what is wrong with a
+/// value, and where.
 pub fn draft_of(alloc: Global, source: &Source, items: &[Item]) -> Result<Draft, MakeError>
     ensures { Gives drafted result (all_taken (source_of source.now) items.now nothing_yet) }
 {

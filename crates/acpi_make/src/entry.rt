@@ -6,7 +6,8 @@ ghost use Rattle.acpi_base.specs.Look as looks;
 ghost use Rattle.acpi_base.specs.Look.{look_of};
 ghost use Rattle.acpi_make.specs.Entry.{row_entry, register_entries, title_entry, row_entries, rows_entries, titled_entries};
 ghost use Rattle.acpi_make.specs.Entry.{choice_entries, part_entries, parts_entries, inner_entries};
-ghost use Rattle.acpi_make.specs.Entry.{entry, open_entry, entry_of, is_line_of, is_of, next_number, find_entry, next_entry, IsSearch, found_of};
+ghost use Rattle.acpi_make.specs.Entry.{entry, open_entry, entry_of, is_line_of, is_of, next_number, find_entry};
+ghost use Rattle.acpi_make.specs.Entry.{next_entry, IsSearch, found_of};
 ghost use Rattle.acpi_make.specs.Entry.{find_inside, find_anywhere};
 
 use crate::text::{after, are_white};

@@ -2,7 +2,8 @@
 
 ghost use Rattle.std.specs.Prelude.{◌≡◌, true, IfOk, Some, string_bytes};
 ghost use Rattle.acpi_text.specs.Label.{all_print};
-ghost use Rattle.acpi_make.specs.Fault.{fault, next, whole, right, field_of, fault_of, line_at, column_at, words, wanted_text, found_text, explained};
+ghost use Rattle.acpi_make.specs.Fault.{fault, next, whole, another, field_of, fault_of, line_at, column_at, words};
+ghost use Rattle.acpi_make.specs.Fault.{wanted_text, found_text, explained};
 ghost use Rattle.acpi_make.specs.Fault.{without_end, quoted, part_text, error_text};
 ghost use Rattle.acpi_make.specs.declared.fault.MakeError.TheVariants.{Memory};
 
@@ -53,7 +54,7 @@ pub enum Wanted {
     /// As many bytes as the field has.
     Width,
     /// Another number: the one that the field has to have.
-    Right,
+    AnotherNumber,
     /// A field of a form.
     FieldOf,
     /// All fields of a structure whose length is left out.
@@ -140,7 +141,7 @@ impl Wanted {
             Wanted::End => "the end of the table",
             Wanted::Structure => "the name or the type of a structure of this table",
             Wanted::Width => "as many bytes as the field has",
-            Wanted::Right => "another number",
+            Wanted::AnotherNumber => "another number",
             Wanted::FieldOf => "a field",
             Wanted::Whole => "all fields, since the length is left out",
             Wanted::OneTable => "the end of the text, since a text is one table",
@@ -193,13 +194,13 @@ impl Fault {
     }
 
     /// A field in which another number has to stand.
-    pub fn right(from: usize, to: usize, name: &'static str, number: usize) -> Fault
-        ensures { fault_of result ≡ right from to name.now number }
+    pub fn another(from: usize, to: usize, name: &'static str, number: usize) -> Fault
+        ensures { fault_of result ≡ another from to name.now number }
     {
         Fault {
             from,
             to,
-            wanted: Wanted::Right,
+            wanted: Wanted::AnotherNumber,
             name,
             width: number,
             found: 0,
@@ -232,7 +233,7 @@ impl Fault {
             Wanted::Next => format!(in alloc; "{name} ({width} bytes)"),
             Wanted::Width if width == 1 => format!(in alloc; "1 byte of {name}"),
             Wanted::Width => format!(in alloc; "{width} bytes of {name}"),
-            Wanted::Right => format!(in alloc; "{width} in {name}"),
+            Wanted::AnotherNumber => format!(in alloc; "{width} in {name}"),
             Wanted::FieldOf => format!(in alloc; "a field of {name}"),
             Wanted::Whole => format!(in alloc;
                 "all fields of {name}, since its length is left out"
@@ -258,7 +259,7 @@ impl Fault {
                 let found = self.found;
                 format!(in alloc; "{found} bytes")
             }
-            Wanted::Right => format!(in alloc; "another number"),
+            Wanted::AnotherNumber => format!(in alloc; "another number"),
             _ => part_text(alloc, self.from, part),
         }
     }

@@ -166,8 +166,8 @@ fn by_bytes(width: usize, cells: &[Cell], forms: &[StructureForm]) -> Option<Str
     None
 }
 
-/// Returns the form of a structure whose type is at a place: by its type, if all bytes of the type are known, and otherwise by its
-/// heading.
+/// Returns the form of a structure whose type is at a place: by its type, if all bytes of the type are known, and otherwise by
+/// its heading.
 pub fn structure_form(
     kind: Place,
     forms: &[StructureForm],

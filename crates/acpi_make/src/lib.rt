@@ -2,11 +2,13 @@
 
 #![tactic(auto)]
 
+pub mod another;
 pub mod compare;
 pub mod complete;
 pub mod draft;
 pub mod entry;
 pub mod fault;
+pub mod file_kind;
 pub mod heading;
 pub mod item;
 pub mod laws;
@@ -14,7 +16,6 @@ pub mod make;
 pub mod notes;
 pub mod own;
 pub mod read;
-pub mod right;
 pub mod short;
 pub mod signature;
 pub mod state;

@@ -3,7 +3,7 @@
 ghost use Rattle.std.specs.Prelude.{◌≡◌, ◌%◌, ◌++◌, sum, OnOk, IfOk};
 ghost use Rattle.acpi_make.specs.Notes.{begins_with, is_untrue, untrue, untrue_sum, untrue_sums, notes};
 
-use crate::complete::Shape;
+use crate::file_kind::FileKind;
 use crate::own::Own;
 use std::alloc::{AllocError, Global};
 
@@ -93,29 +93,33 @@ fn push_untrue_sum(
 }
 
 // Adds the checksums that aren't right, with the bytes that would be.
-fn push_untrue_sums(shape: Shape, bytes: &[u8], list: &mut Vec<Own>) -> Result<(), AllocError>
-    ensures { OnOk result (list.new.items ≡ list.old.items ++ untrue_sums shape bytes.now) }
+fn push_untrue_sums(
+    file_kind: FileKind,
+    bytes: &[u8],
+    list: &mut Vec<Own>,
+) -> Result<(), AllocError>
+    ensures { OnOk result (list.new.items ≡ list.old.items ++ untrue_sums file_kind bytes.now) }
 {
-    match shape {
-        Shape::Table => push_untrue_sum(9, bytes.len(), bytes, list),
-        Shape::Pointer => {
+    match file_kind {
+        FileKind::Table => push_untrue_sum(9, bytes.len(), bytes, list),
+        FileKind::Rsdp => {
             push_untrue_sum(8, 20, bytes, list)?;
             push_untrue_sum(32, bytes.len(), bytes, list)
         }
-        Shape::Control => Ok(()),
+        FileKind::Facs => Ok(()),
     }
 }
 
 /// Returns the numbers that aren't in their fields, and the checksums that aren't right, with the bytes that would be.
 pub fn notes(
     alloc: Global,
-    shape: Shape,
+    file_kind: FileKind,
     owns: &[Own],
     bytes: &[u8],
 ) -> Result<Vec<Own>, AllocError>
-    ensures { IfOk result (λ list. list.items ≡ notes shape owns.now bytes.now) }
+    ensures { IfOk result (λ list. list.items ≡ notes file_kind owns.now bytes.now) }
 {
     let mut list = untrue(alloc, owns, bytes)?;
-    push_untrue_sums(shape, bytes, &mut list)?;
+    push_untrue_sums(file_kind, bytes, &mut list)?;
     Ok(list)
 }

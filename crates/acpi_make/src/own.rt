@@ -5,7 +5,8 @@ ghost use Rattle.acpi_make.specs.Gives.{Changes, with_front};
 ghost use Rattle.acpi_make.specs.Heading.{label_of};
 ghost use Rattle.acpi_make.specs.Source.{source_of};
 ghost use Rattle.acpi_make.specs.Own.{own_at, next_start, count_structures, size_own, sizes_own, all_own, walk_own, none_own};
-ghost use Rattle.acpi_make.specs.Own.{count_lines, next_line, find_line, count_own, part_name, line_of, line_of_parts, gap_own, end_own};
+ghost use Rattle.acpi_make.specs.Own.{count_lines, next_line, find_line, count_own, part_name, line_of, line_of_parts};
+ghost use Rattle.acpi_make.specs.Own.{gap_own, end_own};
 ghost use Rattle.acpi_make.specs.Own.{part_own, parts_own, next_named, named_sizes, inner_own};
 ghost use Rattle.acpi_make.specs.Draft.{is_nameless};
 ghost use Rattle.std.specs.Option.{option_map};
@@ -59,7 +60,7 @@ pub fn next_start(marks: &[Mark], total: usize) -> usize
     ensures { result ≡ next_start marks.now total }
 {
     'marks: for mark in marks {
-        if let Mark::Structure(at, _, _) = *mark {
+        if let Mark::Structure { at, .. } = *mark {
             return at;
         }
     }
@@ -73,9 +74,9 @@ fn count_structures(marks: &[Mark]) -> usize
     let mut count = 0;
     'marks: for mark in marks {
         match *mark {
-            Mark::Structure(_, _, _) => count += 1,
-            Mark::Line(_, _, _) => {}
-            Mark::Reference(_, _, _, _) => {}
+            Mark::Structure { .. } => count += 1,
+            Mark::Line { .. } => {}
+            Mark::Reference { .. } => {}
         }
     }
     count
@@ -103,12 +104,12 @@ fn push_sizes(
 {
     'marks: for i in 0..marks.len() {
         match marks[i] {
-            Mark::Structure(at, _, _) => {
+            Mark::Structure { at, .. } => {
                 let size = next_start(&marks[i + 1..], total).saturating_sub(at);
                 push_size(sizes, at, size, owns)?;
             }
-            Mark::Line(_, _, _) => {}
-            Mark::Reference(_, _, _, _) => {}
+            Mark::Line { .. } => {}
+            Mark::Reference { .. } => {}
         }
     }
     Ok(())
@@ -169,13 +170,13 @@ fn count_lines(text: &[u8], name: &str, marks: &[Mark]) -> usize
     let mut count = 0;
     'marks: for mark in marks {
         match *mark {
-            Mark::Structure(_, _, _) => return count,
-            Mark::Line(_, from, to) => {
+            Mark::Structure { .. } => return count,
+            Mark::Line { from, to, .. } => {
                 if is_line_of(name.as_bytes(), after_offset(part_at(from, to, text))) {
                     count += 1;
                 }
             }
-            Mark::Reference(_, _, _, _) => {}
+            Mark::Reference { .. } => {}
         }
     }
     count
@@ -187,9 +188,9 @@ pub fn next_line(marks: &[Mark], total: usize) -> usize
 {
     'marks: for mark in marks {
         match *mark {
-            Mark::Structure(at, _, _) => return at,
-            Mark::Line(at, _, _) => return at,
-            Mark::Reference(_, _, _, _) => {}
+            Mark::Structure { at, .. } => return at,
+            Mark::Line { at, .. } => return at,
+            Mark::Reference { .. } => {}
         }
     }
     total
@@ -201,13 +202,13 @@ fn find_line(text: &[u8], name: &str, marks: &[Mark], total: usize) -> Option<(u
 {
     'marks: for i in 0..marks.len() {
         match marks[i] {
-            Mark::Structure(_, _, _) => return None,
-            Mark::Line(at, from, to) => {
+            Mark::Structure { .. } => return None,
+            Mark::Line { at, from, to } => {
                 if is_line_of(name.as_bytes(), after_offset(part_at(from, to, text))) {
                     return Some((at, next_line(&marks[i + 1..], total)));
                 }
             }
-            Mark::Reference(_, _, _, _) => {}
+            Mark::Reference { .. } => {}
         }
     }
     None
@@ -364,13 +365,13 @@ fn next_named(text: &[u8], name: &str, marks: &[Mark], total: usize) -> usize
 {
     'marks: for mark in marks {
         match *mark {
-            Mark::Structure(at, _, _) => return at,
-            Mark::Line(at, from, to) => {
+            Mark::Structure { at, .. } => return at,
+            Mark::Line { at, from, to } => {
                 if is_line_of(name.as_bytes(), after_offset(part_at(from, to, text))) {
                     return at;
                 }
             }
-            Mark::Reference(_, _, _, _) => {}
+            Mark::Reference { .. } => {}
         }
     }
     total
@@ -389,14 +390,14 @@ fn push_named_sizes(
 {
     'marks: for i in 0..marks.len() {
         match marks[i] {
-            Mark::Structure(_, _, _) => return Ok(()),
-            Mark::Line(at, from, to) => {
+            Mark::Structure { .. } => return Ok(()),
+            Mark::Line { at, from, to } => {
                 if is_line_of(name.as_bytes(), after_offset(part_at(from, to, text))) {
                     let next = next_named(text, name, &marks[i + 1..], total);
                     push_size(sizes, at, next.saturating_sub(at), owns)?;
                 }
             }
-            Mark::Reference(_, _, _, _) => {}
+            Mark::Reference { .. } => {}
         }
     }
     Ok(())
@@ -448,7 +449,8 @@ fn push_structure(
     to: usize,
     owns: &mut Vec<Own>,
 ) -> Result<(), AllocError>
-    ensures { OnOk result (owns.new.items ≡ owns.old.items ++ structure_own (source_of source.now) cells.now marks.now total at from to) }
+    ensures { OnOk result (owns.new.items
+        ≡ owns.old.items ++ structure_own (source_of source.now) cells.now marks.now total at from to) }
 {
     let bytes = if at < cells.len() { &cells[at..] } else { &[] };
     let heading = part_at(from, to, source.text);
@@ -471,11 +473,11 @@ fn push_contents(
 {
     'marks: for i in 0..marks.len() {
         match marks[i] {
-            Mark::Structure(at, from, to) => {
+            Mark::Structure { at, from, to } => {
                 push_structure(source, cells, &marks[i + 1..], total, at, from, to, owns)?;
             }
-            Mark::Line(_, _, _) => {}
-            Mark::Reference(_, _, _, _) => {}
+            Mark::Line { .. } => {}
+            Mark::Reference { .. } => {}
         }
     }
     Ok(())
@@ -526,9 +528,13 @@ fn labels_of<'a>(
     'marks: while left > 0 {
         left -= 1;
         match marks[left] {
-            Mark::Structure(at, from, to) => put_label(part_at(from, to, text), at, &mut labels)?,
-            Mark::Line(_, _, _) => {}
-            Mark::Reference(_, _, _, _) => {}
+            Mark::Structure { at, from, to } => put_label(
+                part_at(from, to, text),
+                at,
+                &mut labels,
+            )?,
+            Mark::Line { .. } => {}
+            Mark::Reference { .. } => {}
         }
     }
     Ok(labels)
@@ -577,12 +583,17 @@ pub fn push_references(text: &[u8], marks: &[Mark], owns: &mut Vec<Own>) -> Resu
     let labels = labels_of(*owns.allocator(), text, marks)?;
     'marks: for mark in marks {
         match *mark {
-            Mark::Reference(at, width, from, to) => {
+            Mark::Reference {
+                at,
+                width,
+                from,
+                to,
+            } => {
                 let offset = find_label(text, from, to, &labels);
                 push_reference(at, width, (from, to), offset, owns)?;
             }
-            Mark::Structure(_, _, _) => {}
-            Mark::Line(_, _, _) => {}
+            Mark::Structure { .. } => {}
+            Mark::Line { .. } => {}
         }
     }
     Ok(())

@@ -7,9 +7,10 @@ ghost use Rattle.acpi_make.specs.Short.{room, part_room, has_fields, any_left, s
 ghost use Rattle.acpi_make.specs.Short.{short_structure, short_in, short_table, short};
 ghost use Rattle.acpi_make.specs.Source.{source_of};
 
-use crate::complete::{Shape, length_own};
+use crate::complete::length_own;
 use crate::draft::{Draft, Mark, Source, first_of};
 use crate::fault::Fault;
+use crate::file_kind::FileKind;
 use crate::heading::structure_form;
 use crate::item::Cell;
 use crate::own::next_start;
@@ -22,7 +23,7 @@ use acpi_text::part::between;
 /// Whether bytes have all of some fields.
 #[derive(Clone, Copy)]
 pub enum Fit {
-    /// They have, and so many bytes are left.
+    /// They have, and this many bytes are left.
     Leaves(usize),
     /// They lack some.
     Lacks,
@@ -152,7 +153,7 @@ fn short_in(source: &Source, place: Place, cells: &[Cell], marks: &[Mark]) -> Op
     ensures { fault_in result ≡ short_in (source_of source.now) place cells.now marks.now }
 {
     'marks: for i in 0..marks.len() {
-        if let Mark::Structure(at, from, to) = marks[i] {
+        if let Mark::Structure { at, from, to } = marks[i] {
             let size = next_start(&marks[i + 1..], cells.len()).saturating_sub(at);
             let heading = part_at(from, to, source.text);
             let forms = source.form.structures;
@@ -166,10 +167,10 @@ fn short_in(source: &Source, place: Place, cells: &[Cell], marks: &[Mark]) -> Op
 }
 
 // Returns the fault of a table that lacks fields before its structures.
-fn short_table(shape: Shape, source: &Source, cells: &[Cell], first: usize) -> Option<Fault>
-    ensures { fault_in result ≡ short_table shape (source_of source.now) cells.now first }
+fn short_table(file_kind: FileKind, source: &Source, cells: &[Cell], first: usize) -> Option<Fault>
+    ensures { fault_in result ≡ short_table file_kind (source_of source.now) cells.now first }
 {
-    let offset = length_own(shape, cells.len()).offset;
+    let offset = length_own(file_kind, cells.len()).offset;
     if any_left(4, from_offset(offset, cells)) && !has_fields(first, source.form.parts) {
         Some(Fault::whole(0, 0, source.form.name, first))
     } else {
@@ -178,12 +179,17 @@ fn short_table(shape: Shape, source: &Source, cells: &[Cell], first: usize) -> O
 }
 
 /// Returns the fault of a table, or of the first of its structures, that lacks fields, and whose length the text leaves out.
-pub fn short(shape: Shape, walk: Option<Walk>, source: &Source, draft: &Draft) -> Option<Fault>
-    ensures { fault_in result ≡ short shape walk (source_of source.now) (drafted draft.now) }
+pub fn short(
+    file_kind: FileKind,
+    walk: Option<Walk>,
+    source: &Source,
+    draft: &Draft,
+) -> Option<Fault>
+    ensures { fault_in result ≡ short file_kind walk (source_of source.now) (drafted draft.now) }
 {
     let first = next_start(&draft.marks, draft.cells.len());
     first_of(
-        short_table(shape, source, &draft.cells, first),
+        short_table(file_kind, source, &draft.cells, first),
         short_in(source, size_place(walk), &draft.cells, &draft.marks),
     )
 }

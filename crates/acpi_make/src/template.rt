@@ -14,9 +14,10 @@ ghost use Rattle.acpi_make.specs.Template.{stated_text, sides_at, all_sides};
 ghost use Rattle.acpi_make.specs.Template as template;
 ghost use Rattle.acpi_make.specs.TemplateKnown.{known_of};
 
-use crate::complete::{Shape, length_own};
+use crate::complete::length_own;
 use crate::draft::is_nameless;
 use crate::entry::row_field;
+use crate::file_kind::FileKind;
 use acpi_base::gas::GENERIC_ADDRESS;
 use acpi_base::row::{Bits, Look, Row, Word};
 use acpi_base::walk::{Place, Sizes, Walk};
@@ -122,8 +123,8 @@ fn push_hint(look: Look, text: &mut String) -> Result<(), AllocError>
     }
 }
 
-// What a template has in place of zeros: the signature at offset 0, question marks at the offsets of a table's own numbers, and 1 at
-// those of the numbers of a matrix's rows and columns.
+// What a template has in place of zeros: the signature at offset 0, question marks at the offsets of a table's own numbers, and
+// 1 at those of the numbers of a matrix's rows and columns.
 #[derive(Clone, Copy, Debug)]
 struct Known<'a> {
     signature: &'a str,
@@ -363,7 +364,8 @@ fn push_choice(
     text: &mut String,
 ) -> Result<(), AllocError>
     requires { depth < 254 }
-    ensures { OnOk result (string_bytes text.new ≡ string_bytes text.old ++ choice_lines depth (known_of known.now) at choices.now) }
+    ensures { OnOk result (string_bytes text.new
+        ≡ string_bytes text.old ++ choice_lines depth (known_of known.now) at choices.now) }
 {
     match choices.first() {
         Some(choice) if !choice.rows.is_empty() => {
@@ -607,20 +609,20 @@ fn push_structures(
 }
 
 // Adds the offsets of the checksums.
-fn push_sums(shape: Shape, own: &mut Vec<usize>) -> Result<(), AllocError>
-    ensures { OnOk result (own.new.items ≡ own.old.items ++ sums_at shape) }
+fn push_sums(file_kind: FileKind, own: &mut Vec<usize>) -> Result<(), AllocError>
+    ensures { OnOk result (own.new.items ≡ own.old.items ++ sums_at file_kind) }
 {
-    match shape {
-        Shape::Table => {
+    match file_kind {
+        FileKind::Table => {
             own.push(9)?;
             Ok(())
         }
-        Shape::Pointer => {
+        FileKind::Rsdp => {
             own.push(8)?;
             own.push(32)?;
             Ok(())
         }
-        Shape::Control => Ok(()),
+        FileKind::Facs => Ok(()),
     }
 }
 
@@ -639,15 +641,15 @@ fn push_walk(walk: Option<Walk>, own: &mut Vec<usize>) -> Result<(), AllocError>
 // Returns the offsets of a table's own numbers.
 fn table_own(
     alloc: Global,
-    shape: Shape,
+    file_kind: FileKind,
     walk: Option<Walk>,
     parts: &[Part],
 ) -> Result<Vec<usize>, AllocError>
-    ensures { IfOk result (λ own. own.items ≡ table_own shape walk parts.now) }
+    ensures { IfOk result (λ own. own.items ≡ table_own file_kind walk parts.now) }
 {
     let mut own = Vec::new(alloc);
-    own.push(length_own(shape, 0).offset)?;
-    push_sums(shape, &mut own)?;
+    own.push(length_own(file_kind, 0).offset)?;
+    push_sums(file_kind, &mut own)?;
     push_walk(walk, &mut own)?;
     push_counts(parts, &mut own)?;
     Ok(own)
@@ -659,13 +661,13 @@ fn table_own(
 pub fn template_of(
     alloc: Global,
     signature: &str,
-    shape: Shape,
+    file_kind: FileKind,
     form: &TableForm,
     walk: Option<Walk>,
 ) -> Result<String, AllocError>
-    ensures { IfOk result (λ text. string_bytes text ≡ template_text signature.now shape form.now walk) }
+    ensures { IfOk result (λ text. string_bytes text ≡ template_text signature.now file_kind form.now walk) }
 {
-    let own = table_own(alloc, shape, walk, form.parts)?;
+    let own = table_own(alloc, file_kind, walk, form.parts)?;
     let ones = all_sides(alloc, form.parts)?;
     let known = Known {
         signature,

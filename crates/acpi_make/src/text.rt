@@ -1,7 +1,8 @@
 //! Parts of texts.
 
 ghost use Rattle.std.specs.Prelude.{◌≡◌, ◌≤◌, length, None, Some, MatchOption};
-ghost use Rattle.acpi_make.specs.Text.{is_white, part_at, after, are_white, is_decimal, digits_front, more_digits, decimal_of, after_offset};
+ghost use Rattle.acpi_make.specs.Text.{is_white, part_at, after, are_white, is_decimal, digits_front, more_digits};
+ghost use Rattle.acpi_make.specs.Text.{decimal_of, after_offset};
 ghost use Rattle.acpi_make.specs.Text.{more_hex, hex_of};
 
 use acpi_base::digit::digit_value;

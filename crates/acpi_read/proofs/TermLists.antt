@@ -1,16 +1,26 @@
 -- Terms, read one after the other as a loop does.
-use Rattle.std.proofs.Common.{◌≡◌, ℕ, suc, ◌+◌, ◌-◌, ◌<◌, ◌≤◌, List, [], ◌∷◌, ◌++◌, length, Option, Some, None, Result, Ok, Err, refl, ap, ◌∙◌, arith}
+use Rattle.std.proofs.Common.{◌≡◌, ℕ, suc, ◌+◌, ◌-◌, ◌<◌, ◌≤◌, Bool, true, false, cond, List, [], ◌∷◌, ◌++◌, length, Option, Some, None, Result, Ok, Err, refl, ap, ◌∙◌, arith}
 use Rattle.acpi_base.specs.Bytes.{AreBytes}
 use Rattle.acpi_term.specs.declared.mode.Mode.{Mode}
 use Rattle.acpi_term.specs.declared.term.Term.{Term}
 use Rattle.acpi_term.specs.Language.{Grammar}
 use Rattle.acpi_term.specs.Tree.{Head, Terms, end, term}
-use Rattle.acpi_term.specs.Spelling.{next}
+use Rattle.acpi_term.specs.Spelling.{next, is_test}
 use Rattle.acpi_term.specs.View.{view, views}
-use Rattle.acpi_term.specs.Reading.{Fault, Bad, ◌>>=◌, open_at, Reader, counted, all_of, term_at}
+use Rattle.acpi_term.specs.Reading.{Fault, Bad, ◌>>=◌, Opened, head_at, open_at, Reader, counted, all_of, term_at}
 use Rattle.acpi_term.proofs.Again.{all_more}
 use Rattle.acpi_term.proofs.Taken.{term_shrinks}
 use Rattle.acpi_read.specs.Cause.{FailsBy}
+
+-- ---- no bytes
+
+either_bad : (b : Bool) → ◌≡◌ {A = Result Opened Fault} (cond b (Err Bad) (Err Bad)) (Err Bad)
+either_bad true = refl
+either_bad false = refl
+
+nothing_opens : (g : Grammar) (m : Mode) → open_at g m [] ≡ Err Bad
+unfolding open_at head_at
+nothing_opens g m = either_bad (is_test g.language m)
 
 -- ---- lists of terms
 
@@ -110,11 +120,11 @@ module _ (g : Grammar) (d : ℕ) (m : Mode) where
         so_far.is ∙ ap (after_front front) one
 
     pub several_miss : i < count → rest ≡ [] → 0 < d → counted (term_at g d) count m bytes ≡ Err Bad
-    unfolding counted term_at open_at
+    unfolding counted term_at
     several_miss lt none some =
         let n : count - i ≡ suc (count - (i + 1)) = omega arith in
         let deeper : d ≡ suc (d - 1) = omega arith in
-        let failed : term_at g d at [] ≡ Err Bad = ap (λ k. term_at g k at []) deeper in
+        let failed : term_at g d at [] ≡ Err Bad = ap (λ k. term_at g k at []) deeper ∙ rw (nothing_opens g at) refl in
         let one : counted (term_at g d) (count - i) at rest ≡ Err Bad = rw (n, none, failed) refl in
         so_far.is ∙ ap (after_front front) one
 

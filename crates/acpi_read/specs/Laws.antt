@@ -12,7 +12,8 @@ use Rattle.acpi_term.specs.Tree.{Head, Terms, end, term, depth}
 use Rattle.acpi_term.specs.Spelling.{Takes, IsStandard, IsWritten, SpellsIn, SpellEach, inner}
 use Rattle.acpi_read.specs.Terms.{AreRead, IsUnread, AreReadIn, IsUnreadIn}
 
--- In each language, if bytes spell terms that aren't nested too deep, these terms are what is read, and `Memory` is the only error.
+-- In each language, if bytes spell terms that aren't nested too deep, these terms are what is read, and `Memory` is the only
+-- error.
 abbrev pub SpelledTermsAreRead : Type 0
 SpelledTermsAreRead =
     (g : Grammar) (bytes : List ℕ) (ts : Terms) → SpellsIn g Term bytes ts → depth ts ≤ 255

@@ -11,7 +11,9 @@ use Rattle.acpi_term.specs.Name.{IsNameString, IsAbove}
 use Rattle.acpi_term.specs.Tree.{def_name, def_mutex, def_acquire, def_release, def_buffer, def_package}
 use Rattle.acpi_term.specs.Name.{IsNameString, IsAbove}
 use Rattle.acpi_term.specs.Tree.{def_var_package, def_if, def_while, def_else, op, Terms, end, term, count}
-use Rattle.acpi_term.specs.Tree.{def_external, def_leveled_method, def_processor, def_thermal_zone, def_roomy_package, def_index_field}
+use Rattle.acpi_term.specs.Tree.{def_external, def_leveled_method, def_processor, def_thermal_zone, def_roomy_package}
+use Rattle.acpi_term.specs.Tree.{def_index_field}
+use Rattle.acpi_term.specs.Tree.{def_fatal, match_test}
 use Rattle.acpi_term.specs.Length.{least_width}
 use Rattle.acpi_term.specs.Operator.{word}
 use Rattle.acpi_term.specs.Row.{entry_bits, entry_width, Layout, bare, framed, layout, writer_width}
@@ -126,6 +128,8 @@ head_text (def_roomy_package room) n = codes "package " ++ decimal n ++ codes " 
 head_text (def_index_field index name access lock update entries) n =
     codes "indexfield " ++ name_text index ++ (codes " data " ++ name_text name ++ codes " access " ++ decimal access)
     ++ (codes " lock " ++ decimal lock ++ codes " update " ++ decimal update)
+head_text (def_fatal kind code) n = codes "fatal type " ++ decimal kind ++ codes " code " ++ decimal code
+head_text (match_test k) n = codes "test " ++ decimal k
 
 -- the indentation of a line
 abbrev pub indent : ℕ → List ℕ

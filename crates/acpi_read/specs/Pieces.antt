@@ -2,7 +2,8 @@
 use Rattle.std.specs.Prelude.{◌≡◌, ℕ, ◌≤◌, ◌==◌, nat_le, if◌then◌else◌, List, [], ◌++◌, length, drop, take, Option, Some, None}
 use Rattle.std.specs.List.{concat}
 use Rattle.acpi_base.specs.Bytes.{field_at}
-use Rattle.acpi_base.specs.Walk.{source_size, place_offset, place_width, end_of, number_in, IsPiece, ArePieces, offsets_from, walk_of, Walks, WalksBy}
+use Rattle.acpi_base.specs.Walk.{source_size, place_offset, place_width, end_of, number_in, IsPiece, ArePieces}
+use Rattle.acpi_base.specs.Walk.{offsets_from, walk_of, Walks, WalksBy}
 use Rattle.acpi_base.specs.FurtherWalk.{begin_of, further_walk_of, table_walk_of, AreStructuresOf, FollowsBy}
 use Rattle.acpi_base.specs.declared.further_walk.FurtherWalk.{FurtherWalk}
 use Rattle.acpi_base.specs.declared.walk.Place.{Place}

@@ -1,12 +1,14 @@
 -- The heads of terms, without their place in memory.
 use Rattle.std.specs.Prelude.{◌≡◌, ℕ, ◌+◌, ◌≤◌, length}
 use Rattle.acpi_term.specs.Tree.{Head, call, def_scope, def_device, def_method, def_power_res, def_op_region}
-use Rattle.acpi_term.specs.Tree.{def_name, def_var_package, def_if, def_while, def_else, op, def_leveled_method, def_processor, def_thermal_zone, end}
+use Rattle.acpi_term.specs.Tree.{def_name, def_var_package, def_if, def_while, def_else, op, def_leveled_method}
+use Rattle.acpi_term.specs.Tree.{def_processor, def_thermal_zone, end}
+use Rattle.acpi_term.specs.Tree.{def_fatal, match_test}
 use Rattle.acpi_term.specs.Operator.{operands}
 use Rattle.acpi_term.specs.View.{view}
 use Rattle.acpi_term.specs.Reading.{Opened, follows, fills, packs, rooms, begins}
 use Rattle.acpi_read.specs.declared.terms.open.TermStart as code
-use Rattle.acpi_read.specs.declared.terms.open.TermStart.TheVariants.{Leaf, Call, Operator, Region, Define}
+use Rattle.acpi_read.specs.declared.terms.open.TermStart.TheVariants.{Leaf, Call, Operator, Region, Define, Fatal, Test}
 use Rattle.acpi_read.specs.declared.terms.open.TermStart.TheVariants.{Block, FirstAndBlock, Package, Rooms, Buffer}
 use Rattle.acpi_read.specs.declared.terms.open.Block as block
 use Rattle.acpi_read.specs.declared.terms.open.Block.TheVariants as blocks
@@ -49,6 +51,8 @@ seen (Call name n rest) = follows (call name) 0 n rest.now
 seen (Operator o rest) = follows (op o) 0 (operands o) rest.now
 seen (Region name space rest) = follows (def_op_region name space) 0 2 rest.now
 seen (Define name rest) = follows (def_name name) 0 1 rest.now
+seen (Fatal kind code rest) = follows (def_fatal kind code) 0 1 rest.now
+seen (Test k rest) = follows (match_test k) 0 1 rest.now
 seen (Block f inside after) = fills (block_head f) (block_width f) inside.now after.now
 seen (FirstAndBlock f inside after) = fills (first_head f) (first_width f) inside.now after.now
 seen (Package w n inside after) = packs w n inside.now after.now

@@ -5,7 +5,8 @@ ghost use Rattle.std.specs.List.{All};
 ghost use Rattle.acpi_base.specs.Bytes.{field_at};
 ghost use Rattle.acpi_base.specs.Walk.{end_of, offsets_from, HasSizes, IsSound, Walks, ArePiecesOf};
 ghost use Rattle.acpi_base.specs.FurtherWalk.{begin_of, AreStructuresOf, FollowsBy, IsSoundFurther};
-ghost use Rattle.acpi_read.specs.Pieces.{kind_in, kind_of, structure_kind_of, refusal_of, IsFront, IsFrontFault, AreCut, IsCutFault};
+ghost use Rattle.acpi_read.specs.Pieces.{kind_in, kind_of, structure_kind_of, refusal_of, IsFront, IsFrontFault};
+ghost use Rattle.acpi_read.specs.Pieces.{AreCut, IsCutFault};
 ghost use Rattle.acpi_read.specs.Pieces.{offsets_of, structure_offsets_of, IsFaultBy, IsPieceFault, IsStructureFault};
 ghost use Rattle.acpi_read.specs.Pieces.{NoWalk, NoneFollow};
 
@@ -160,10 +161,10 @@ impl<'a> Table<'a> {
         }
     }
 
-    /// The structures of any table whose structures are known, in order, each with its offset: those of `pieces`, and those of the
-    /// tables with a further walk (`acpi_base::further_walk`). The list is empty for other tables. It is empty, too, for a table
-    /// with a further walk that ends after its fixed fields, and contains 0 as the offset of the first and, if it has the field, as
-    /// the number of its structures. The errors are those of `pieces`, and:
+    /// The structures of any table whose structures are known, in order, each with its offset: those of `pieces`, and those of
+    /// the tables with a further walk (`acpi_base::further_walk`). The list is empty for other tables. It is empty, too, for a
+    /// table with a further walk that ends after its fixed fields, and contains 0 as the offset of the first and, if it has the
+    /// field, as the number of its structures. The errors are those of `pieces`, and:
     ///
     /// - Structure: the field with the offset of the first structure contains an offset within the fixed fields. The offset is
     ///   that of this field.

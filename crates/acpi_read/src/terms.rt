@@ -15,6 +15,7 @@ ghost use Rattle.acpi_term.specs.Language.{grammar_of};
 ghost use Rattle.acpi_term.specs.Operator.{operands};
 ghost use Rattle.acpi_term.specs.Reading.{Bad, follows, fills, packs, rooms, roomed, begins, counted, all_of, close, term_at};
 ghost use Rattle.acpi_term.specs.Tree.{call, def_op_region, def_name, def_package, def_roomy_package, op};
+ghost use Rattle.acpi_term.specs.Tree.{def_fatal, match_test};
 ghost use Rattle.acpi_term.specs.View.{view, views};
 ghost use Rattle.acpi_read.specs.Cause.{Answers, IsPlaced, error_kind};
 ghost use Rattle.acpi_read.specs.TermStart.{seen, block_head, block_width, first_head, first_width, LiesWithin, IsAlone};
@@ -87,6 +88,10 @@ fn close<'a>(
             language, arities, name, space, rest, end, depth,
         ),
         TermStart::Define(name, rest) => define(language, arities, name, rest, end, depth),
+        TermStart::Fatal(kind, code, rest) => fatal(
+            language, arities, kind, code, rest, end, depth,
+        ),
+        TermStart::Test(code, rest) => test(language, arities, code, rest, end, depth),
         TermStart::Block(head, inside, after) => block(
             language, arities, head, inside, after, end, depth,
         ),
@@ -209,6 +214,56 @@ fn define<'a>(
     let (value, rest) = term(language, arities, Mode::Term, rest, end, depth)?;
     let value = Box::new(arities.allocator(), value)?;
     Ok((Term::Name { name, value }, rest))
+}
+
+/// Reads the argument of a Fatal.
+#[cycle(read)]
+#[tactic(auto, unfolding(acpi_term::specs::Reading::close, acpi_term::specs::Reading::counted))]
+fn fatal<'a>(
+    language: Language,
+    arities: &Arities,
+    kind: u8,
+    code: u32,
+    rest: &'a [u8],
+    end: usize,
+    depth: usize,
+) -> Result<(Term, &'a [u8]), ReadError>
+    requires within { length rest.now ≤ end }
+    ensures gives { Answers (λ x. ((view x.0).0, (view x.0).1, (view x.0).2, x.1.now)) result
+        (close (term_at (grammar_of language (arity arities.now)) depth) (follows (def_fatal kind code) 0 1 rest.now)) }
+    ensures placed { IfErr result (IsPlaced end) }
+{
+    let (argument, rest) = term(language, arities, Mode::Term, rest, end, depth)?;
+    let argument = Box::new(arities.allocator(), argument)?;
+    Ok((
+        Term::Fatal {
+            kind,
+            code,
+            argument,
+        },
+        rest,
+    ))
+}
+
+/// Reads the operand of a test of a Match.
+#[cycle(read)]
+#[tactic(auto, unfolding(acpi_term::specs::Reading::close, acpi_term::specs::Reading::counted))]
+fn test<'a>(
+    language: Language,
+    arities: &Arities,
+    code: u8,
+    rest: &'a [u8],
+    end: usize,
+    depth: usize,
+) -> Result<(Term, &'a [u8]), ReadError>
+    requires within { length rest.now ≤ end }
+    ensures gives { Answers (λ x. ((view x.0).0, (view x.0).1, (view x.0).2, x.1.now)) result
+        (close (term_at (grammar_of language (arity arities.now)) depth) (follows (match_test code) 0 1 rest.now)) }
+    ensures placed { IfErr result (IsPlaced end) }
+{
+    let (operand, rest) = term(language, arities, Mode::Term, rest, end, depth)?;
+    let operand = Box::new(arities.allocator(), operand)?;
+    Ok((Term::MatchTest { code, operand }, rest))
 }
 
 /// Reads the children of a frame.
@@ -401,7 +456,7 @@ fn missing(mode: Mode, end: usize) -> ReadError
 {
     match mode {
         Mode::Element => ReadError::Count(end),
-        Mode::Term | Mode::Count => ReadError::Truncated(end),
+        _ => ReadError::Truncated(end),
     }
 }
 

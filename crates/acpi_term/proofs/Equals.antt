@@ -21,7 +21,7 @@ use Rattle.acpi_term.specs.declared.term.Term.TheViews.{out-Term, roll-Term, rol
 use Rattle.acpi_term.specs.declared.term.Term.TheBlock.{the_members, the_family, the_depth, member-Term, seen-the_row-Term-0, shape-the_row-Term-0, hidden-the_row-Term-0, shown-the_row-Term-0}
 use Rattle.acpi_term.specs.contracts.term.TermPartialEq.TheImpl.{the_step}
 use Rattle.acpi_term.specs.contracts.term.TermPartialEq.TheImpl.Laws.{local}
-use Rattle.acpi_term.specs.Tree.{Head, number, ones, string, local as local_object, arg, call, def_scope, def_device, def_method, def_power_res, def_field, def_op_region, def_name, def_mutex, def_acquire, def_release, def_buffer, def_package, def_var_package, def_if, def_while, def_else, op, def_external, def_leveled_method, def_processor, def_thermal_zone, def_roomy_package, def_index_field}
+use Rattle.acpi_term.specs.Tree.{Head, number, ones, string, local as local_object, arg, call, def_scope, def_device, def_method, def_power_res, def_field, def_op_region, def_name, def_mutex, def_acquire, def_release, def_buffer, def_package, def_var_package, def_if, def_while, def_else, op, def_external, def_leveled_method, def_processor, def_thermal_zone, def_roomy_package, def_index_field, def_fatal, match_test}
 use Rattle.acpi_term.specs.View.{Parts, entry_view, view, views, view_step}
 
 -- ---- values
@@ -131,6 +131,8 @@ tag (def_processor a b c d) = 25
 tag (def_thermal_zone a) = 26
 tag (def_roomy_package a) = 27
 tag (def_index_field a b c d e f) = 28
+tag (def_fatal a b) = 29
+tag (match_test a) = 30
 
 shape : Term-F Term → ℕ
 shape (Term-F.Number a b) = 0
@@ -162,6 +164,8 @@ shape (Term-F.Processor a b c d e f) = 25
 shape (Term-F.ThermalZone a b c) = 26
 shape (Term-F.RoomyPackage a b c) = 27
 shape (Term-F.IndexField a b c d e f g) = 28
+shape (Term-F.Fatal a b c) = 29
+shape (Term-F.MatchTest a b) = 30
 
 shape_is : (x : Term-F Term) → tag (seen x).0 ≡ shape x
 unfolding seen tag shape
@@ -194,6 +198,8 @@ shape_is (Term-F.Processor a b c d e f) = refl
 shape_is (Term-F.ThermalZone a b c) = refl
 shape_is (Term-F.RoomyPackage a b c) = refl
 shape_is (Term-F.IndexField a b c d e f g) = refl
+shape_is (Term-F.Fatal a b c) = refl
+shape_is (Term-F.MatchTest a b) = refl
 
 differ : (a b : ℕ) → eqb a b ≡ false → a ≡ b → ⊥
 differ a b other e = grind (arith, nat_tests)
@@ -262,6 +268,11 @@ layer n below (Term-F.IndexField a index name access lock update entries) (Term-
     let l : map entry_view entries.items ≡ map entry_view entries'.items = cc in
     both _ _ (nat_same a b w) (both _ _ (bytes_same index index' d)
     (both _ _ (bytes_same name name' e) (both _ _ (nat_same access access' f) (both _ _ (nat_same lock lock' g) (both _ _ (nat_same update update' k) (entries_same entries.items entries'.items l))))))
+layer n below (Term-F.Fatal kind code argument) (Term-F.Fatal kind' code' argument') s h w c =
+    let e : kind ≡ kind' = cc in let f : code ≡ code' = cc in
+    both _ _ (nat_same kind kind' e) (both _ _ (nat_same code code' f) (below argument.value argument'.value (first_view argument.value argument'.value [] [] c)))
+layer n below (Term-F.MatchTest code operand) (Term-F.MatchTest code' operand') s h w c =
+    let e : code ≡ code' = cc in both _ _ (nat_same code code' e) (below operand.value operand'.value (first_view operand.value operand'.value [] [] c))
 layer n below x y s h w c = absurd (differ (shape x) (shape y) refl s)
 
 within_none : (t u : Term) → same_at zero t u ≡ true

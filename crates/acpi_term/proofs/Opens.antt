@@ -10,7 +10,7 @@ use Rattle.acpi_base.specs.Number.{number_limit, number_bytes}
 use Rattle.acpi_term.specs.declared.op.Op.{Op}
 use Rattle.acpi_term.specs.declared.op.Op.TheVariants.{CreateField}
 use Rattle.acpi_term.specs.declared.mode.Mode.{Mode}
-use Rattle.acpi_term.specs.Tree.{Entry, Head, number, ones, string, local, arg, call, def_scope, def_device, def_method, def_power_res, def_field, def_op_region, def_name, def_mutex, def_acquire, def_release, def_buffer, def_package, def_var_package, def_if, def_while, def_else, op, def_external, def_leveled_method, def_processor, def_thermal_zone, def_roomy_package, def_index_field}
+use Rattle.acpi_term.specs.Tree.{Entry, Head, number, ones, string, local, arg, call, def_scope, def_device, def_method, def_power_res, def_field, def_op_region, def_name, def_mutex, def_acquire, def_release, def_buffer, def_package, def_var_package, def_if, def_while, def_else, op, def_external, def_leveled_method, def_processor, def_thermal_zone, def_roomy_package, def_index_field, def_fatal, match_test}
 use Rattle.acpi_term.specs.Name.{is_segment, no_more, one_more, IsPath, single, double, multiple, IsName, relative, rooted, IsNameString, as_written, root_alone, upwards, IsNameIn}
 use Rattle.acpi_term.specs.Length.{with_length, FrameFits}
 use Rattle.acpi_term.specs.declared.language.Language.{Language}
@@ -18,8 +18,8 @@ use Rattle.acpi_term.specs.declared.language.Language.TheVariants.{Written, Stan
 use Rattle.acpi_term.specs.Language.{Grammar, has}
 use Rattle.acpi_term.specs.Operator.{opcode, operands, language_of, op_of}
 use Rattle.acpi_term.specs.Row.{entries_bytes, field_flags, method_flags, leveled_flags}
-use Rattle.acpi_term.specs.Spelling.{spelled, arguments, AreNamed, EntriesFit, IsLegal}
-use Rattle.acpi_term.specs.Reading.{◌>>=◌, Fault, Bad, name_in, begins_name, After, named_at, define_after, release_after, mutex_after, region_after, acquire_after, external_after, Inside, framed_at, scope_inside, device_inside, thermal_inside, method_inside, processor_inside, index_inside, power_inside, field_inside, opcode_at, Opened, follows, fills, packs, rooms, begins, open_at}
+use Rattle.acpi_term.specs.Spelling.{spelled, arguments, is_test, AreNamed, EntriesFit, IsLegal}
+use Rattle.acpi_term.specs.Reading.{◌>>=◌, Fault, Bad, name_in, begins_name, After, named_at, define_after, release_after, mutex_after, region_after, acquire_after, external_after, Inside, framed_at, scope_inside, device_inside, thermal_inside, method_inside, processor_inside, index_inside, power_inside, field_inside, fatal_at, opcode_at, Opened, follows, fills, packs, rooms, begins, head_at, open_at}
 use Rattle.acpi_term.proofs.Names.{lead_of, name_in_again}
 use Rattle.acpi_term.proofs.Texts.{text_again}
 use Rattle.acpi_term.proofs.Frames.{high_again, frame_again}
@@ -137,15 +137,15 @@ package_choice false w n inside after = refl
 -- ---- heads
 
 module _ (g : Grammar) (m : Mode) where
-  call_opens : (s rest : List ℕ) → IsNameIn g.language s → open_at g m (s ++ rest) ≡ Ok (follows (call s) 0 (arguments g.arity m s) rest)
-  unfolding open_at
+  call_opens : (s rest : List ℕ) → IsNameIn g.language s → head_at g m (s ++ rest) ≡ Ok (follows (call s) 0 (arguments g.arity m s) rest)
+  unfolding head_at
   call_opens s rest p =
       let x = name_begins g.language s rest p in
       let again : name_in g.language (x.0 ∷ x.1) ≡ Ok (s, rest) = ap (name_in g.language) (sym x.2) ∙ name_in_again g.language s rest p in
-      ap (open_at g m) x.2 ∙ rw (x.3, again) refl
+      ap (head_at g m) x.2 ∙ rw (x.3, again) refl
 
-  number_opens : (v w : ℕ) (rest : List ℕ) → v < number_limit w → open_at g m (number_bytes v w ++ rest) ≡ Ok (follows (number v) w 0 rest)
-  unfolding open_at
+  number_opens : (v w : ℕ) (rest : List ℕ) → v < number_limit w → head_at g m (number_bytes v w ++ rest) ≡ Ok (follows (number v) w 0 rest)
+  unfolding head_at
   number_opens v zero rest fits =
       let small : ltb v 2 ≡ true = lt-ltb v 2 fits in
       let other : begins_name g.language v ≡ false = grind (arith, nat_tests) in
@@ -161,98 +161,102 @@ module _ (g : Grammar) (m : Mode) where
   number_opens v (suc (suc (suc (suc (suc (suc (suc (suc (suc w))))))))) rest fits =
       absurd (omega (arith, number_limit_few (suc (suc (suc (suc (suc (suc (suc (suc (suc w))))))))) (omega arith)))
 
-  local_opens : (k : ℕ) (rest : List ℕ) → k ≤ 7 → open_at g m ((96 + k) ∷ rest) ≡ Ok (follows (local k) 0 0 rest)
-  unfolding open_at
+  local_opens : (k : ℕ) (rest : List ℕ) → k ≤ 7 → head_at g m ((96 + k) ∷ rest) ≡ Ok (follows (local k) 0 0 rest)
+  unfolding head_at
   local_opens k rest few =
       let other : begins_name g.language (96 + k) ≡ false = grind (arith, nat_tests) in
       let back : 96 + k - 96 ≡ k = omega arith in
       let at : opcode_at g.language (96 + k) rest ≡ Ok (follows (local (96 + k - 96)) 0 0 rest) = grind (arith, nat_tests) in
       rw other (at ∙ rw back refl)
 
-  arg_opens : (k : ℕ) (rest : List ℕ) → k ≤ 6 → open_at g m ((104 + k) ∷ rest) ≡ Ok (follows (arg k) 0 0 rest)
-  unfolding open_at
+  arg_opens : (k : ℕ) (rest : List ℕ) → k ≤ 6 → head_at g m ((104 + k) ∷ rest) ≡ Ok (follows (arg k) 0 0 rest)
+  unfolding head_at
   arg_opens k rest few =
       let other : begins_name g.language (104 + k) ≡ false = grind (arith, nat_tests) in
       let back : 104 + k - 104 ≡ k = omega arith in
       let at : opcode_at g.language (104 + k) rest ≡ Ok (follows (arg (104 + k - 104)) 0 0 rest) = grind (arith, nat_tests) in
       rw other (at ∙ rw back refl)
 
-  op_opens : (o : Op) (rest : List ℕ) → open_at g m (opcode o ++ rest) ≡ cond (has g.language (language_of o)) (Ok (follows (op o) 0 (operands o) rest)) (Err Bad)
-  unfolding open_at op_of
+  op_opens : (o : Op) (rest : List ℕ) → head_at g m (opcode o ++ rest) ≡ cond (has g.language (language_of o)) (Ok (follows (op o) 0 (operands o) rest)) (Err Bad)
+  unfolding head_at op_of
   op_opens CreateField rest = refl
   op_opens o rest = refl
 
-  op_in_opens : (o : Op) (rest : List ℕ) → has g.language (language_of o) ≡ true → open_at g m (opcode o ++ rest) ≡ Ok (follows (op o) 0 (operands o) rest)
+  op_in_opens : (o : Op) (rest : List ℕ) → has g.language (language_of o) ≡ true → head_at g m (opcode o ++ rest) ≡ Ok (follows (op o) 0 (operands o) rest)
   op_in_opens o rest within = op_opens o rest ∙ rw within refl
 
   abbrev IsFurther : Type 0
   IsFurther = has g.language Standard ≡ true
 
-  external_opens : (rest : List ℕ) → IsFurther → open_at g m (21 ∷ rest) ≡ named_at g.language external_after rest
-  unfolding open_at
+  external_opens : (rest : List ℕ) → IsFurther → head_at g m (21 ∷ rest) ≡ named_at g.language external_after rest
+  unfolding head_at
   external_opens rest more = rw more refl
 
-  processor_opens : (rest : List ℕ) → IsFurther → open_at g m (91 ∷ 131 ∷ rest) ≡ framed_at g.language processor_inside rest
-  unfolding open_at
+  processor_opens : (rest : List ℕ) → IsFurther → head_at g m (91 ∷ 131 ∷ rest) ≡ framed_at g.language processor_inside rest
+  unfolding head_at
   processor_opens rest more = rw more refl
 
-  thermal_opens : (rest : List ℕ) → IsFurther → open_at g m (91 ∷ 133 ∷ rest) ≡ framed_at g.language thermal_inside rest
-  unfolding open_at
+  thermal_opens : (rest : List ℕ) → IsFurther → head_at g m (91 ∷ 133 ∷ rest) ≡ framed_at g.language thermal_inside rest
+  unfolding head_at
   thermal_opens rest more = rw more refl
 
-  indexed_opens : (rest : List ℕ) → IsFurther → open_at g m (91 ∷ 134 ∷ rest) ≡ framed_at g.language (index_inside g.language) rest
-  unfolding open_at
+  indexed_opens : (rest : List ℕ) → IsFurther → head_at g m (91 ∷ 134 ∷ rest) ≡ framed_at g.language (index_inside g.language) rest
+  unfolding head_at
   indexed_opens rest more = rw more refl
 
-  -- a head that fits is opened where it is spelled; where it has no children, nothing is inside
-  pub open_again : (h : Head) (w n : ℕ) (inside after : List ℕ) → IsLegal g m h w n inside → (n ≡ 0 → inside ≡ []) → open_at g m (spelled h w n inside ++ after) ≡ Ok (opened g.language h w n inside after)
-  unfolding open_at
-  open_again (number v) w n inside after f nothing = rw (append_assoc (number_bytes v w) inside after, f.takes) (number_opens v w (inside ++ after) f.fits)
-  open_again ones w n inside after f nothing = rw (f.fits, f.takes) refl
-  open_again (string s) w n inside after f nothing =
-      rw (f.fits, f.takes) (ap (λ (l : List ℕ). open_at g m (13 ∷ l)) (regroup s (0 ∷ []) inside after) ∙ rw (text_again s (inside ++ after) f.is_standard) refl)
-  open_again (local k) w n inside after f nothing = rw (f.fits, f.takes) (local_opens k (inside ++ after) (leb-true k 7 (owned _ _ f.owns)))
-  open_again (arg k) w n inside after f nothing = rw (f.fits, f.takes) (arg_opens k (inside ++ after) (leb-true k 6 (owned _ _ f.owns)))
-  open_again (call name) w n inside after f nothing = rw (f.fits, append_assoc name inside after, f.takes) (call_opens name (inside ++ after) f.is_standard)
-  open_again (def_scope name) w n inside after f nothing = plainly_opens g.language scope_inside w name inside after f.is_standard f.fits
-  open_again (def_device name) w n inside after f nothing = plainly_opens g.language device_inside w name inside after f.is_standard f.fits
-  open_again (def_method name args serialized) w n inside after f nothing =
+  fatal_opens : (rest : List ℕ) → IsFurther → head_at g m (91 ∷ 50 ∷ rest) ≡ fatal_at rest
+  unfolding head_at
+  fatal_opens rest more = rw more refl
+
+  -- a head that fits is opened where it is spelled, if no test stands there; where it has no children, nothing is inside
+  head_again : (h : Head) (w n : ℕ) (inside after : List ℕ) → IsLegal g m h w n inside → is_test g.language m ≡ false → (n ≡ 0 → inside ≡ []) → head_at g m (spelled h w n inside ++ after) ≡ Ok (opened g.language h w n inside after)
+  unfolding head_at
+  head_again (number v) w n inside after f plain nothing = rw (append_assoc (number_bytes v w) inside after, f.takes) (number_opens v w (inside ++ after) f.fits)
+  head_again ones w n inside after f plain nothing = rw (f.fits, f.takes) refl
+  head_again (string s) w n inside after f plain nothing =
+      rw (f.fits, f.takes) (ap (λ (l : List ℕ). head_at g m (13 ∷ l)) (regroup s (0 ∷ []) inside after) ∙ rw (text_again s (inside ++ after) f.is_standard) refl)
+  head_again (local k) w n inside after f plain nothing = rw (f.fits, f.takes) (local_opens k (inside ++ after) (leb-true k 7 (owned _ _ f.owns)))
+  head_again (arg k) w n inside after f plain nothing = rw (f.fits, f.takes) (arg_opens k (inside ++ after) (leb-true k 6 (owned _ _ f.owns)))
+  head_again (call name) w n inside after f plain nothing = rw (f.fits, append_assoc name inside after, f.takes) (call_opens name (inside ++ after) f.is_standard)
+  head_again (def_scope name) w n inside after f plain nothing = plainly_opens g.language scope_inside w name inside after f.is_standard f.fits
+  head_again (def_device name) w n inside after f plain nothing = plainly_opens g.language device_inside w name inside after f.is_standard f.fits
+  head_again (def_method name args serialized) w n inside after f plain nothing =
       framed_opens g.language (method_inside g.language) w name (method_flags args serialized ∷ []) inside after f.is_standard f.fits ∙ method_opens g.language w name args serialized inside after (leb-true args 7 (owned _ _ f.owns))
-  open_again (def_power_res name level order) w n inside after f nothing =
+  head_again (def_power_res name level order) w n inside after f plain nothing =
       framed_opens g.language power_inside w name (level ∷ le 2 order) inside after f.is_standard.0 f.fits ∙ rw (high_again 2 order inside f.is_standard.2) refl
-  open_again (def_field name access lock update entries) w n inside after f nothing =
+  head_again (def_field name access lock update entries) w n inside after f plain nothing =
       let mid = field_flags access lock update ∷ entries_bytes entries in
       let none : inside ≡ [] = nothing f.takes in
       let fits : FrameFits w ((name ++ mid) ++ []) = subst (λ (l : List ℕ). FrameFits w ((name ++ mid) ++ (l ++ []))) none f.fits.1 in
       rw (none, f.takes)
       (framed_opens g.language field_inside w name mid [] after f.is_standard.0 fits ∙ ap (λ (l : List ℕ). field_inside w name l after) (append-nil mid)
       ∙ field_opens w name access lock update entries after f.is_standard.1 f.is_standard.2 f.is_standard.3 f.is_standard.4 f.fits.0)
-  open_again (def_op_region name space) w n inside after f nothing =
-      rw (f.fits, f.takes) (ap (λ (l : List ℕ). open_at g m (91 ∷ 128 ∷ l)) (regroup name (space ∷ []) inside after) ∙ named_opens g.language region_after name (space ∷ (inside ++ after)) f.is_standard.0)
-  open_again (def_name name) w n inside after f nothing = rw (f.fits, f.takes) (ap (λ (l : List ℕ). open_at g m (8 ∷ l)) (append_assoc name inside after) ∙ named_opens g.language define_after name (inside ++ after) f.is_standard)
-  open_again (def_mutex name level) w n inside after f nothing =
-      rw (f.fits, f.takes) (ap (λ (l : List ℕ). open_at g m (91 ∷ 1 ∷ l)) (regroup name (level ∷ []) inside after) ∙ named_opens g.language mutex_after name (level ∷ (inside ++ after)) f.is_standard.0)
-  open_again (def_acquire name timeout) w n inside after f nothing =
+  head_again (def_op_region name space) w n inside after f plain nothing =
+      rw (f.fits, f.takes) (ap (λ (l : List ℕ). head_at g m (91 ∷ 128 ∷ l)) (regroup name (space ∷ []) inside after) ∙ named_opens g.language region_after name (space ∷ (inside ++ after)) f.is_standard.0)
+  head_again (def_name name) w n inside after f plain nothing = rw (f.fits, f.takes) (ap (λ (l : List ℕ). head_at g m (8 ∷ l)) (append_assoc name inside after) ∙ named_opens g.language define_after name (inside ++ after) f.is_standard)
+  head_again (def_mutex name level) w n inside after f plain nothing =
+      rw (f.fits, f.takes) (ap (λ (l : List ℕ). head_at g m (91 ∷ 1 ∷ l)) (regroup name (level ∷ []) inside after) ∙ named_opens g.language mutex_after name (level ∷ (inside ++ after)) f.is_standard.0)
+  head_again (def_acquire name timeout) w n inside after f plain nothing =
       rw (f.fits, f.takes)
-      (ap (λ (l : List ℕ). open_at g m (91 ∷ 35 ∷ l)) (regroup name (le 2 timeout) inside after) ∙ named_opens g.language acquire_after name (le 2 timeout ++ (inside ++ after)) f.is_standard.0
+      (ap (λ (l : List ℕ). head_at g m (91 ∷ 35 ∷ l)) (regroup name (le 2 timeout) inside after) ∙ named_opens g.language acquire_after name (le 2 timeout ++ (inside ++ after)) f.is_standard.0
       ∙ rw (high_again 2 timeout (inside ++ after) f.is_standard.1) refl)
-  open_again (def_release name) w n inside after f nothing = rw (f.fits, f.takes) (ap (λ (l : List ℕ). open_at g m (91 ∷ 39 ∷ l)) (append_assoc name inside after) ∙ named_opens g.language release_after name (inside ++ after) f.is_standard)
-  open_again (def_buffer bytes) w n inside after f nothing = rw (frame_again w (inside ++ bytes) after f.fits) refl
-  open_again def_package w n inside after f nothing = rw (frame_again w (n ∷ (inside ++ [])) after f.fits, append-nil inside) (package_choice (has g.language Standard) w n inside after)
-  open_again (def_external name kind args) w n inside after f nothing =
-      rw (f.fits, f.takes) (ap (λ (l : List ℕ). open_at g m (21 ∷ l)) (regroup name (kind ∷ args ∷ []) inside after) ∙ external_opens (name ++ (kind ∷ args ∷ (inside ++ after))) f.is_standard.0
+  head_again (def_release name) w n inside after f plain nothing = rw (f.fits, f.takes) (ap (λ (l : List ℕ). head_at g m (91 ∷ 39 ∷ l)) (append_assoc name inside after) ∙ named_opens g.language release_after name (inside ++ after) f.is_standard)
+  head_again (def_buffer bytes) w n inside after f plain nothing = rw (frame_again w (inside ++ bytes) after f.fits) refl
+  head_again def_package w n inside after f plain nothing = rw (frame_again w (n ∷ (inside ++ [])) after f.fits, append-nil inside) (package_choice (has g.language Standard) w n inside after)
+  head_again (def_external name kind args) w n inside after f plain nothing =
+      rw (f.fits, f.takes) (ap (λ (l : List ℕ). head_at g m (21 ∷ l)) (regroup name (kind ∷ args ∷ []) inside after) ∙ external_opens (name ++ (kind ∷ args ∷ (inside ++ after))) f.is_standard.0
       ∙ named_opens g.language external_after name (kind ∷ args ∷ (inside ++ after)) f.is_standard.1)
-  open_again (def_leveled_method name args serialized level) w n inside after f nothing =
+  head_again (def_leveled_method name args serialized level) w n inside after f plain nothing =
       framed_opens g.language (method_inside g.language) w name (leveled_flags args serialized level ∷ []) inside after f.is_standard.1 f.fits
       ∙ leveled_opens g.language w name args serialized level inside after f.is_standard.0 (leb-true args 7 (owned _ _ f.owns)) f.is_standard.2
-  open_again (def_processor name id address size) w n inside after f nothing =
+  head_again (def_processor name id address size) w n inside after f plain nothing =
       let mid = id ∷ (le 4 address ++ size ∷ []) in
       processor_opens (with_length w ((name ++ mid) ++ (inside ++ [])) ++ after) f.is_standard.0
       ∙ framed_opens g.language processor_inside w name mid inside after f.is_standard.1 f.fits ∙ rw (high_again 4 address (size ∷ inside) f.is_standard.3) refl
-  open_again (def_thermal_zone name) w n inside after f nothing =
+  head_again (def_thermal_zone name) w n inside after f plain nothing =
       thermal_opens (with_length w (name ++ (inside ++ [])) ++ after) f.is_standard.0 ∙ plainly_opens g.language thermal_inside w name inside after f.is_standard.1 f.fits
-  open_again (def_roomy_package room) w n inside after f nothing = rw (frame_again w (room ∷ (inside ++ [])) after f.fits, append-nil inside, f.is_standard.0) refl
-  open_again (def_index_field index name access lock update entries) w n inside after f nothing =
+  head_again (def_roomy_package room) w n inside after f plain nothing = rw (frame_again w (room ∷ (inside ++ [])) after f.fits, append-nil inside, f.is_standard.0) refl
+  head_again (def_index_field index name access lock update entries) w n inside after f plain nothing =
       let mid = name ++ field_flags access lock update ∷ entries_bytes entries in
       let none : inside ≡ [] = nothing f.takes in
       let fits : FrameFits w ((index ++ mid) ++ []) = subst (λ (l : List ℕ). FrameFits w ((index ++ mid) ++ (l ++ []))) none f.fits.1 in
@@ -260,8 +264,19 @@ module _ (g : Grammar) (m : Mode) where
       (indexed_opens (with_length w ((index ++ mid) ++ []) ++ after) f.is_standard.0
       ∙ framed_opens g.language (index_inside g.language) w index mid [] after f.is_standard.1 fits ∙ ap (λ (l : List ℕ). index_inside g.language w index l after) (append-nil mid)
       ∙ index_opens g.language w index name access lock update entries after f.is_standard.2 f.is_standard.3 f.is_standard.4 f.is_standard.5 f.is_standard.6 f.fits.0)
-  open_again def_var_package w n inside after f nothing = rw (frame_again w (inside ++ []) after f.fits, append-nil inside) refl
-  open_again def_if w n inside after f nothing = rw (frame_again w (inside ++ []) after f.fits, append-nil inside) refl
-  open_again def_while w n inside after f nothing = rw (frame_again w (inside ++ []) after f.fits, append-nil inside) refl
-  open_again def_else w n inside after f nothing = rw (frame_again w (inside ++ []) after f.fits, append-nil inside) refl
-  open_again (op o) w n inside after f nothing = rw (f.fits, append_assoc (opcode o) inside after, f.takes) (op_in_opens o (inside ++ after) f.is_standard)
+  head_again def_var_package w n inside after f plain nothing = rw (frame_again w (inside ++ []) after f.fits, append-nil inside) refl
+  head_again def_if w n inside after f plain nothing = rw (frame_again w (inside ++ []) after f.fits, append-nil inside) refl
+  head_again def_while w n inside after f plain nothing = rw (frame_again w (inside ++ []) after f.fits, append-nil inside) refl
+  head_again def_else w n inside after f plain nothing = rw (frame_again w (inside ++ []) after f.fits, append-nil inside) refl
+  head_again (op o) w n inside after f plain nothing = rw (f.fits, append_assoc (opcode o) inside after, f.takes) (op_in_opens o (inside ++ after) f.is_standard)
+  head_again (def_fatal kind code) w n inside after f plain nothing =
+      rw (f.fits, f.takes)
+      (ap (λ (l : List ℕ). head_at g m (91 ∷ 50 ∷ kind ∷ l)) (append_assoc (le 4 code) inside after) ∙ fatal_opens (kind ∷ (le 4 code ++ (inside ++ after))) f.is_standard.0
+      ∙ rw (high_again 4 code (inside ++ after) f.is_standard.2) refl)
+  head_again (match_test k) w n inside after f plain nothing = let clash : true ≡ false = sym f.stands ∙ plain in absurd cc
+
+  -- the same in every place
+  pub open_again : (h : Head) (w n : ℕ) (inside after : List ℕ) → IsLegal g m h w n inside → (n ≡ 0 → inside ≡ []) → open_at g m (spelled h w n inside ++ after) ≡ Ok (opened g.language h w n inside after)
+  unfolding open_at
+  open_again (match_test k) w n inside after f nothing = rw (f.stands, f.fits, f.takes, f.is_standard.0, le-leb k 5 f.is_standard.1) refl
+  open_again h w n inside after f nothing = rw f.stands (head_again h w n inside after f f.stands nothing)

@@ -52,7 +52,8 @@ AtMostOneList =
 abbrev pub AtMostOneFront : Type 0
 AtMostOneFront =
     (g : Grammar) (m : Mode) (a_head b_head : Head) (v w : ℕ) (c d : Terms) (a b x y : List ℕ)
-    → SpellsIn g m a (one a_head v c) → SpellsIn g m b (one b_head w d) → a ++ x ≡ b ++ y → (a ≡ b) × (one a_head v c ≡ one b_head w d) × (x ≡ y)
+    → SpellsIn g m a (one a_head v c) → SpellsIn g m b (one b_head w d) → a ++ x ≡ b ++ y
+    → (a ≡ b) × (one a_head v c ≡ one b_head w d) × (x ≡ y)
 
 -- The spelling as a function and as a relation on cut bytes are the same.
 abbrev pub SplitsAgree : Type 0

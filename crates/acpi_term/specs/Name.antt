@@ -1,5 +1,6 @@
 -- Names, as the bytes that spell them (ACPI 6.5, 20.2.2, NameString).
-use Rattle.std.specs.Prelude.{◌≡◌, ℕ, zero, suc, ◌≤◌, ◌<◌, ◌==◌, ◌&&◌, ◌||◌, nat_le, Bool, true, false, List, [], ◌∷◌}
+use Rattle.std.specs.Prelude.{◌≡◌, ℕ, zero, suc, ◌≤◌, ◌<◌, ◌==◌, ◌&&◌, ◌||◌, nat_le, Bool, true, false, if◌then◌else◌}
+use Rattle.std.specs.Prelude.{List, [], ◌∷◌}
 use Rattle.acpi_term.specs.declared.language.Language.{Language}
 use Rattle.acpi_term.specs.declared.language.Language.TheVariants.{Written, Standard}
 
@@ -35,6 +36,11 @@ pub data IsName : List ℕ → Type 0 where
 abbrev pub begins_up : List ℕ → Bool
 begins_up [] = false
 begins_up (b ∷ rest) = b == 0x5e
+
+-- a name without the ParentPrefixChars before it
+abbrev pub without_parents : List ℕ → List ℕ
+without_parents [] = []
+without_parents (b ∷ rest) = if b == 0x5e then without_parents rest else b ∷ rest
 
 -- after ParentPrefixChar: NullName, a path, or the same again
 pub data IsAbove : List ℕ → Type 0 where

@@ -5,7 +5,7 @@ use Rattle.std.specs.Str.{bytes_eq}
 use Rattle.acpi_term.specs.declared.language.Language.{Language}
 use Rattle.acpi_term.specs.declared.language.Language.TheVariants.{Written, Standard}
 use Rattle.acpi_term.specs.declared.mode.Mode.{Mode}
-use Rattle.acpi_term.specs.declared.mode.Mode.TheVariants.{Term, Element, Count}
+use Rattle.acpi_term.specs.declared.mode.Mode.TheVariants.{Term, Element, Count, Searched}
 use Rattle.acpi_term.specs.declared.op.Op.{Op}
 use Rattle.acpi_term.specs.declared.op.Op.TheVariants as op
 
@@ -74,6 +74,7 @@ facts op.Divide = other (0x78 ∷ []) 4 (codes "divide")
 facts op.Not = other (0x80 ∷ []) 2 (codes "not")
 facts op.FindSetLeftBit = other (0x81 ∷ []) 2 (codes "findsetleftbit")
 facts op.FindSetRightBit = other (0x82 ∷ []) 2 (codes "findsetrightbit")
+facts op.Match = naming (0x89 ∷ []) 4 (codes "match") Searched
 facts op.CreateWordField = other (0x8b ∷ []) 3 (codes "createwordfield")
 facts op.CreateByteField = other (0x8c ∷ []) 3 (codes "createbytefield")
 facts op.CreateBitField = other (0x8d ∷ []) 3 (codes "createbitfield")
@@ -125,8 +126,8 @@ operators =
     op.SizeOf ∷ op.Return ∷ op.DeRefOf ∷ op.Add ∷ op.Concat ∷ op.Subtract ∷ op.Multiply ∷ op.ShiftLeft ∷ op.ShiftRight ∷
     op.And ∷ op.Nand ∷ op.Or ∷ op.Nor ∷ op.Xor ∷ op.ConcatRes ∷ op.Mod ∷ op.Index ∷ op.ToString ∷ op.CreateDWordField ∷
     op.CreateQWordField ∷ op.ToBuffer ∷ op.ToInteger ∷ op.Store ∷ op.Notify ∷ op.Mid ∷ op.CreateField ∷
-    op.Alias ∷ op.RefOf ∷ op.Divide ∷ op.Not ∷ op.FindSetLeftBit ∷ op.FindSetRightBit ∷ op.CreateWordField ∷
-    op.CreateByteField ∷ op.CreateBitField ∷ op.ToDecimalString ∷ op.ToHexString ∷ op.CopyObject ∷ op.Continue ∷ op.Noop ∷
+    op.Alias ∷ op.RefOf ∷ op.Divide ∷ op.Not ∷ op.FindSetLeftBit ∷ op.FindSetRightBit ∷ op.Match ∷
+    op.CreateWordField ∷ op.CreateByteField ∷ op.CreateBitField ∷ op.ToDecimalString ∷ op.ToHexString ∷ op.CopyObject ∷ op.Continue ∷ op.Noop ∷
     op.BreakPoint ∷ op.Event ∷ op.CondRefOf ∷ op.LoadTable ∷ op.Load ∷ op.Stall ∷ op.Sleep ∷ op.Signal ∷ op.Wait ∷
     op.Reset ∷ op.FromBCD ∷ op.ToBCD ∷ op.Unload ∷ op.Revision ∷ op.Debug ∷ op.Timer ∷ op.DataRegion ∷ []
 

@@ -10,13 +10,15 @@ use Rattle.acpi_term.specs.Tree.{Entry, named, reserved, Head, number, ones, str
 use Rattle.acpi_term.specs.Tree.{def_scope, def_device, def_method, def_power_res, def_field, def_op_region}
 use Rattle.acpi_term.specs.Tree.{def_name, def_mutex, def_acquire, def_release, def_buffer, def_package}
 use Rattle.acpi_term.specs.Tree.{def_var_package, def_if, def_while, def_else, op, Terms, end, term, count}
-use Rattle.acpi_term.specs.Tree.{def_external, def_leveled_method, def_processor, def_thermal_zone, def_roomy_package, def_index_field}
+use Rattle.acpi_term.specs.Tree.{def_external, def_leveled_method, def_processor, def_thermal_zone, def_roomy_package}
+use Rattle.acpi_term.specs.Tree.{def_index_field}
+use Rattle.acpi_term.specs.Tree.{def_fatal, match_test}
 use Rattle.acpi_term.specs.Name.{is_lead, is_segment}
 use Rattle.acpi_term.specs.declared.language.Language.{Language}
 use Rattle.acpi_term.specs.declared.language.Language.TheVariants.{Written, Standard}
 use Rattle.acpi_term.specs.Language.{Grammar, is_standard, has}
 use Rattle.acpi_term.specs.Operator.{operands, op_of, language_of}
-use Rattle.acpi_term.specs.Spelling.{arguments, inner, next}
+use Rattle.acpi_term.specs.Spelling.{arguments, inner, next, is_test}
 
 -- nested deeper than allowed, or any other fault
 pub data Fault : Type 0 where
@@ -181,6 +183,10 @@ external_after name (kind ∷ args ∷ rest) = Ok (follows (def_external name ki
 abbrev pub further : Language → Result Opened Fault → Result Opened Fault
 further l read = if has l Standard then read else Err Bad
 
+abbrev pub fatal_at : List ℕ → Result Opened Fault
+fatal_at [] = Err Bad
+fatal_at (kind ∷ rest) = high_at 4 rest >>= λ h. Ok (follows (def_fatal kind h.0) 0 1 h.1)
+
 -- reads on after a name in a frame, from the width, the name, the other bytes inside and the bytes after the frame
 abbrev pub Inside : Type 0
 Inside = ℕ → List ℕ → List ℕ → List ℕ → Result Opened Fault
@@ -257,6 +263,7 @@ extended_at l (b ∷ rest) =
     if b == 0x01 then named_at l mutex_after rest
     else (if b == 0x23 then named_at l acquire_after rest
     else (if b == 0x27 then named_at l release_after rest
+    else (if b == 0x32 then further l (fatal_at rest)
     else (if b == 0x80 then named_at l region_after rest
     else (if b == 0x81 then framed_at l field_inside rest
     else (if b == 0x82 then framed_at l device_inside rest
@@ -264,7 +271,7 @@ extended_at l (b ∷ rest) =
     else (if b == 0x84 then framed_at l power_inside rest
     else (if b == 0x85 then further l (framed_at l thermal_inside rest)
     else (if b == 0x86 then further l (framed_at l (index_inside l) rest)
-    else operator_at l (op_of (0x5b ∷ b ∷ [])) rest)))))))))
+    else operator_at l (op_of (0x5b ∷ b ∷ [])) rest))))))))))
 
 abbrev pub local_at : Language → ℕ → List ℕ → Result Opened Fault
 local_at l b rest =
@@ -294,12 +301,21 @@ opcode_at l b rest =
     else (if b == 0xff then Ok (follows ones 0 0 rest)
     else local_at l b rest)))))))))))))))))
 
+-- a test of a Match
+abbrev pub test_at : Language → List ℕ → Result Opened Fault
+test_at l [] = Err Bad
+test_at l (k ∷ rest) = further l (if nat_le k 5 then Ok (follows (match_test k) 0 1 rest) else Err Bad)
+
 module _ (g : Grammar) where
-  unfoldable pub open_at : Mode → List ℕ → Result Opened Fault
-  open_at m [] = Err Bad
-  open_at m (b ∷ rest) =
+  -- where no test stands
+  unfoldable pub head_at : Mode → List ℕ → Result Opened Fault
+  head_at m [] = Err Bad
+  head_at m (b ∷ rest) =
       if begins_name g.language b then (name_in g.language (b ∷ rest) >>= λ n. Ok (follows (call n.0) 0 (arguments g.arity m n.0) n.1))
       else opcode_at g.language b rest
+
+  unfoldable pub open_at : Mode → List ℕ → Result Opened Fault
+  open_at m bytes = if is_test g.language m then test_at g.language bytes else head_at m bytes
 
 -- ---- terms
 

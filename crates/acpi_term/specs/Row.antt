@@ -9,7 +9,9 @@ use Rattle.acpi_base.specs.Object.{Object, whole, all_of, ended}
 use Rattle.acpi_term.specs.Tree.{Entry, named, reserved, Head, number, ones, string, local, arg, call, def_scope, def_device}
 use Rattle.acpi_term.specs.Tree.{def_method, def_power_res, def_field, def_op_region, def_name, def_mutex, def_acquire}
 use Rattle.acpi_term.specs.Tree.{def_release, def_buffer, def_package, def_var_package, def_if, def_while, def_else, op}
-use Rattle.acpi_term.specs.Tree.{def_external, def_leveled_method, def_processor, def_thermal_zone, def_roomy_package, def_index_field}
+use Rattle.acpi_term.specs.Tree.{def_external, def_leveled_method, def_processor, def_thermal_zone, def_roomy_package}
+use Rattle.acpi_term.specs.Tree.{def_index_field}
+use Rattle.acpi_term.specs.Tree.{def_fatal, match_test}
 use Rattle.acpi_term.specs.Length.{least_width, length_bytes, with_length}
 use Rattle.acpi_term.specs.Operator.{opcode}
 
@@ -113,6 +115,8 @@ layout (def_thermal_zone name) w n = framed (0x5b ∷ 0x85 ∷ []) name []
 layout (def_roomy_package room) w n = framed (0x12 ∷ []) (room ∷ []) []
 layout (def_index_field index name access lock update entries) w n = framed (0x5b ∷ 0x86 ∷ []) (index ++ (name
     ++ field_flags access lock update ∷ entries_bytes entries)) []
+layout (def_fatal kind code) w n = bare (0x5b ∷ 0x32 ∷ kind ∷ le 4 code)
+layout (match_test k) w n = bare (k ∷ [])
 
 -- the error of a head's own values, with n children
 abbrev pub own : Head → ℕ → Option Error

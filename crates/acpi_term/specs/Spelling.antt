@@ -1,17 +1,19 @@
 -- The bytes that spell terms, and the terms that have a spelling (ACPI 6.5, 20.2).
-use Rattle.std.specs.Prelude.{◌≡◌, ℕ, ◌<◌, ◌≤◌, ◌^◌, List, [], ◌∷◌, ◌++◌, None, true}
+use Rattle.std.specs.Prelude.{◌≡◌, ℕ, ◌<◌, ◌≤◌, ◌^◌, List, [], ◌∷◌, ◌++◌, None, Bool, true, false}
 use Rattle.acpi_base.specs.Bytes.{AreBytes}
 use Rattle.acpi_base.specs.Number.{number_limit}
 use Rattle.acpi_base.specs.Object.{Object}
 use Rattle.acpi_term.specs.declared.mode.Mode.{Mode}
-use Rattle.acpi_term.specs.declared.mode.Mode.TheVariants.{Term, Element, Count}
+use Rattle.acpi_term.specs.declared.mode.Mode.TheVariants.{Term, Element, Count, Searched, FirstTest, SecondTest}
 use Rattle.acpi_term.specs.Tree.{Entry, named, reserved, Head, number, string, call, def_scope, def_device}
 use Rattle.acpi_term.specs.Tree.{def_method, def_power_res, def_field, def_op_region, def_name, def_mutex}
 use Rattle.acpi_term.specs.Tree.{def_acquire, def_release, def_buffer, def_package, def_var_package}
 use Rattle.acpi_term.specs.Tree.{def_if, def_while, def_else, op, Terms, end, term, count, one}
-use Rattle.acpi_term.specs.Tree.{def_external, def_leveled_method, def_processor, def_thermal_zone, def_roomy_package, def_index_field}
-use Rattle.acpi_term.specs.declared.language.Language.TheVariants.{Standard}
-use Rattle.acpi_term.specs.Name.{AreSegments, IsNameIn, IsText}
+use Rattle.acpi_term.specs.Tree.{def_external, def_leveled_method, def_processor, def_thermal_zone, def_roomy_package}
+use Rattle.acpi_term.specs.Tree.{def_index_field}
+use Rattle.acpi_term.specs.Tree.{def_fatal, match_test}
+use Rattle.acpi_term.specs.declared.language.Language.TheVariants.{Written, Standard}
+use Rattle.acpi_term.specs.Name.{AreSegments, IsNameIn, IsText, without_parents}
 use Rattle.acpi_term.specs.Length.{limit, least_width, with_length, FrameFits}
 use Rattle.acpi_term.specs.declared.language.Language.{Language}
 use Rattle.acpi_term.specs.Language.{Grammar, has, written_grammar}
@@ -49,6 +51,21 @@ abbrev pub next : Mode → Mode
 next Term = Term
 next Element = Element
 next Count = Element
+next Searched = FirstTest
+next FirstTest = SecondTest
+next SecondTest = Term
+
+-- a test of a Match stands in this place of a language
+abbrev pub is_test : Language → Mode → Bool
+is_test Written m = false
+is_test Standard FirstTest = true
+is_test Standard SecondTest = true
+is_test Standard _ = false
+
+-- the head may stand in this place of a language: a test in the place of one, and any other head in the others
+abbrev pub Stands : Language → Mode → Head → Type 0
+Stands l m (match_test k) = is_test l m ≡ true
+Stands l m _ = is_test l m ≡ false
 
 -- ---- which terms have a spelling
 
@@ -69,7 +86,8 @@ IsStandard l (def_scope name) = IsNameIn l name
 IsStandard l (def_device name) = IsNameIn l name
 IsStandard l (def_method name args serialized) = IsNameIn l name
 IsStandard l (def_power_res name level order) = IsNameIn l name × (level < 2 ^ 8) × (order < 2 ^ 16)
-IsStandard l (def_field name access lock update entries) = IsNameIn l name × (access ≤ 5) × (lock ≤ 1) × (update ≤ 2) × AreNamed entries
+IsStandard l (def_field name access lock update entries) =
+    IsNameIn l name × (access ≤ 5) × (lock ≤ 1) × (update ≤ 2) × AreNamed entries
 IsStandard l (def_op_region name space) = IsNameIn l name × (space < 2 ^ 8)
 IsStandard l (def_name name) = IsNameIn l name
 IsStandard l (def_mutex name level) = IsNameIn l name × (level < 2 ^ 8)
@@ -86,6 +104,8 @@ IsStandard l (def_thermal_zone name) = (has l Standard ≡ true) × IsNameIn l n
 IsStandard l (def_roomy_package room) = (has l Standard ≡ true) × (room < 2 ^ 8)
 IsStandard l (def_index_field index name access lock update entries) = (has l Standard ≡ true) × IsNameIn l index
     × IsNameIn l name × (access ≤ 5) × (lock ≤ 1) × (update ≤ 2) × AreNamed entries
+IsStandard l (def_fatal kind code) = (has l Standard ≡ true) × (kind < 2 ^ 8) × (code < 2 ^ 32)
+IsStandard l (match_test k) = (has l Standard ≡ true) × (k ≤ 5)
 IsStandard l _ = Unit {0}
 
 -- each entry's bits fit its width
@@ -118,11 +138,14 @@ IsWritten (def_index_field index name access lock update entries) = HaveLeastWid
 IsWritten _ = Unit {0}
 
 module _ (arity : List ℕ → ℕ) where
-  -- how many arguments follow a name in this place
+  -- How many arguments follow a name in this place. The number of a name after `^` is that of the name without them.
   abbrev pub arguments : Mode → List ℕ → ℕ
-  arguments Term name = arity name
+  arguments Term name = arity (without_parents name)
   arguments Element name = 0
-  arguments Count name = arity name
+  arguments Count name = arity (without_parents name)
+  arguments Searched name = arity (without_parents name)
+  arguments FirstTest name = 0
+  arguments SecondTest name = 0
 
   -- the head may have n children
   abbrev pub Takes : Mode → Head → ℕ → Type 0
@@ -144,11 +167,14 @@ module _ (arity : List ℕ → ℕ) where
   Takes m (def_processor name id address size) n = Unit {0}
   Takes m (def_thermal_zone name) n = Unit {0}
   Takes m (def_roomy_package room) n = Unit {0}
+  Takes m (def_fatal kind code) n = n ≡ 1
+  Takes m (match_test k) n = n ≡ 1
   Takes m _ n = n ≡ 0
 
 module _ (g : Grammar) where
   -- a head of this width may have n children, which are spelled by the bytes inside
   pub record IsLegal (m : Mode) (h : Head) (w n : ℕ) (inside : List ℕ) : Type 0 where
+    pub stands : Stands g.language m h
     pub takes : Takes g.arity m h n
     pub is_standard : IsStandard g.language h
     pub owns : own h n ≡ None

@@ -54,6 +54,10 @@ pub data Head : Type 0 where
   def_roomy_package : ℕ → Head
   -- name of the index, name of the data, access type, lock rule, update rule, entries
   def_index_field : List ℕ → List ℕ → ℕ → ℕ → ℕ → List Entry → Head
+  -- type, code
+  def_fatal : ℕ → ℕ → Head
+  -- a test of a Match: a MatchOpcode, whose operand is the child
+  match_test : ℕ → Head
 
 -- A list of terms: the first one's head, width and children, and the others. The width of a number is the number of its bytes
 -- after the prefix, or 0 for the bytes 00 and 01. The width of a term with a frame is that of its PkgLength, 1 to 4. Any other

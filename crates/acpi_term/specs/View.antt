@@ -4,7 +4,9 @@ use Rattle.acpi_term.specs.Tree.{Entry, named, reserved, Head, number, ones, str
 use Rattle.acpi_term.specs.Tree.{def_scope, def_device, def_method, def_power_res, def_field, def_op_region}
 use Rattle.acpi_term.specs.Tree.{def_name, def_mutex, def_acquire, def_release, def_buffer, def_package}
 use Rattle.acpi_term.specs.Tree.{def_var_package, def_if, def_while, def_else, op, Terms, end, term, one}
-use Rattle.acpi_term.specs.Tree.{def_external, def_leveled_method, def_processor, def_thermal_zone, def_roomy_package, def_index_field}
+use Rattle.acpi_term.specs.Tree.{def_external, def_leveled_method, def_processor, def_thermal_zone, def_roomy_package}
+use Rattle.acpi_term.specs.Tree.{def_index_field}
+use Rattle.acpi_term.specs.Tree.{def_fatal, match_test}
 use Rattle.acpi_term.specs.declared.term.TermEntry.{TermEntry}
 use Rattle.acpi_term.specs.declared.term.TermEntry.TheVariants.{Named, Reserved}
 use Rattle.acpi_term.specs.declared.term.Term.{Term}
@@ -58,6 +60,8 @@ view_step (Term-F.ThermalZone width name body) = (def_thermal_zone name, width, 
 view_step (Term-F.RoomyPackage width room elements) = (def_roomy_package room, width, listed elements.items)
 view_step (Term-F.IndexField width index name access lock update entries) =
     (def_index_field index name access lock update (map entry_view entries.items), width, end)
+view_step (Term-F.Fatal kind code argument) = (def_fatal kind code, 0, listed (argument.value ∷ []))
+view_step (Term-F.MatchTest code operand) = (match_test code, 0, listed (operand.value ∷ []))
 
 -- the head, the width and the children of a term
 abbrev pub view : Term → Parts
@@ -103,6 +107,8 @@ head_of (kinds.ThermalZone name) = def_thermal_zone name.now
 head_of (kinds.RoomyPackage room) = def_roomy_package room
 head_of (kinds.IndexField index name access lock update entries) =
     def_index_field index.now name.now access lock update (map entry_view entries.now)
+head_of (kinds.Fatal kind code) = def_fatal kind code
+head_of (kinds.MatchTest code) = match_test code
 
 -- a term taken apart: a head, a width, and its children in two lists
 pub record IsApart (t : Term) (h : Head) (w : ℕ) (first others : List Term) : Type 0 where

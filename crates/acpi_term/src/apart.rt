@@ -52,6 +52,10 @@ pub enum Kind<'a> {
     RoomyPackage(u8),
     /// Name of the index, name of the data, access type, lock rule, update rule, entries.
     IndexField(&'a NameString, &'a NameString, u8, u8, u8, &'a [TermEntry]),
+    /// Type, code.
+    Fatal(u8, u32),
+    /// How elements are compared.
+    MatchTest(u8),
 }
 
 /// The parts of a term. Its children are those of the first list and then those of the second.
@@ -201,6 +205,17 @@ pub fn parts_of(term: &Term) -> Parts<'_>
             &[],
             &[],
         ),
+        Term::Fatal {
+            kind,
+            code,
+            argument,
+        } => apart(Kind::Fatal(*kind, *code), 0, from_ref(argument), &[]),
+        Term::MatchTest { code, operand } => apart(
+            Kind::MatchTest(*code),
+            0,
+            from_ref(operand),
+            &[],
+        ),
     }
 }
 
@@ -241,7 +256,10 @@ pub fn frame_code(kind: Kind<'_>) -> Option<&'static [u8]>
         Kind::ThermalZone(_) => Some(&[0x5b, 0x85]),
         Kind::RoomyPackage(_) => Some(&[0x12]),
         Kind::IndexField(..) => Some(&[0x5b, 0x86]),
-        _ => None,
+        Kind::Number(_) | Kind::Ones | Kind::Text(_) | Kind::Local(_) | Kind::Arg(_) => None,
+        Kind::Call(_) | Kind::OpRegion(..) | Kind::Name(_) | Kind::Mutex(..) => None,
+        Kind::Acquire(..) | Kind::Release(_) | Kind::Op(_) | Kind::External(..) => None,
+        Kind::Fatal(..) | Kind::MatchTest(_) => None,
     }
 }
 

@@ -7,7 +7,8 @@ use crate::name_string::NameString;
 use std::alloc::{AllocError, Global};
 use std::collections::BTreeMap;
 
-/// The number that a list states first for each of its names. A look-up takes as many comparisons as the logarithm of their count.
+/// The number that a list states first for each of its names. A look-up takes as many comparisons as the logarithm of their
+/// count.
 #[derive(Debug, Drop)]
 pub(crate) struct ArityIndex {
     numbers: BTreeMap<Vec<u8>, u8>,

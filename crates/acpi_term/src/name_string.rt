@@ -4,7 +4,7 @@ ghost use Rattle.std.specs.Prelude.{◌≡◌, ◌≢◌, ℕ, List, true, false
 ghost use Rattle.std.specs.Cmp.Lexicographic.{pointwise};
 ghost use Rattle.std.specs.Bool.{nat_eq};
 ghost use Rattle.acpi_term.specs.Held.{held, Holds};
-ghost use Rattle.acpi_term.specs.Name.{IsNameString};
+ghost use Rattle.acpi_term.specs.Name.{IsNameString, without_parents};
 ghost use Rattle.acpi_term.specs.PathText.{parts, are_standard, path_spelling, is_name_text};
 ghost use Rattle.acpi_term.specs.Arity.{is_stated, are_arities, arity, with_new};
 ghost use Rattle.acpi_term.specs.ArityIndex.{Indexes, IsIndexed};
@@ -129,8 +129,8 @@ fn are_standard(text: &[u8]) -> bool
 
 /// How many arguments each name takes. The bytes of AML don't contain this.
 ///
-/// The first `add` makes an index of the names, and so does `copy`. With it, adding a name and looking one up compare as many names
-/// as the logarithm of their number. Without it, a look-up goes over all of them.
+/// The first `add` makes an index of the names, and so does `copy`. With it, adding a name and looking one up compare as many
+/// names as the logarithm of their number. Without it, a look-up goes over all of them.
 #[derive(Debug, Drop)]
 pub struct Arities {
     counts: Vec<(NameString, u8)>,
@@ -146,8 +146,8 @@ impl Model for Arities {
 }
 
 impl Arities {
-    /// The argument counts of names. The error is `Arity` if a name is there twice, or a number is more than 7. It takes no memory,
-    /// and compares each name with those after it.
+    /// The argument counts of names. The error is `Arity` if a name is there twice, or a number is more than 7. It takes no
+    /// memory, and compares each name with those after it.
     pub fn new(counts: Vec<(NameString, u8)>) -> Result<Arities, ReadError>
         ensures ok { IfOk result (λ arities. arities ≡ counts.items) }
         ensures fit { OnOk result (are_arities counts.items ≡ true) }
@@ -191,13 +191,24 @@ impl Arities {
     }
 }
 
-/// How many arguments follow a name in this place.
+/// The bytes of a name without the ParentPrefixChars before it (ACPI 6.5, 20.2.2).
+pub fn without_parents(name: &[u8]) -> &[u8]
+    ensures { result.now ≡ without_parents name.now }
+{
+    let mut rest = name;
+    'parents: while let [0x5e, more @ ..] = rest {
+        rest = more;
+    }
+    rest
+}
+
+/// How many arguments follow a name in this place. The number of a name after `^` is that of the name without them.
 pub fn arguments(arities: &Arities, mode: Mode, name: &[u8]) -> u8
     ensures { result ≡ arguments (arity arities.now) mode name.now }
 {
     match mode {
-        Mode::Term | Mode::Count => arities.count_of(name),
-        Mode::Element => 0,
+        Mode::Term | Mode::Count | Mode::Searched => arities.count_of(without_parents(name)),
+        Mode::Element | Mode::FirstTest | Mode::SecondTest => 0,
     }
 }
 

@@ -51,6 +51,7 @@ pub enum Op {
     Not,
     FindSetLeftBit,
     FindSetRightBit,
+    Match,
     CreateWordField,
     CreateByteField,
     CreateBitField,
@@ -124,6 +125,7 @@ macro_rules! operators {
             Not 0x80 2 Standard Term "not"
             FindSetLeftBit 0x81 2 Standard Term "findsetleftbit"
             FindSetRightBit 0x82 2 Standard Term "findsetrightbit"
+            Match 0x89 4 Standard Searched "match"
             CreateWordField 0x8b 3 Standard Term "createwordfield"
             CreateByteField 0x8c 3 Standard Term "createbytefield"
             CreateBitField 0x8d 3 Standard Term "createbitfield"

@@ -8,8 +8,8 @@ ghost use Rattle.acpi_term.specs.ReadError.{name_of, offset_of, message_of};
 use std::alloc::{AllocError, AllocFailed};
 use std::fmt;
 
-/// Why bytes can't be read, with the offset of the fault. In AML it is that of the term's first byte. If there are several faults,
-/// any of them may be returned.
+/// Why bytes can't be read, with the offset of the fault. In AML it is that of the term's first byte. If there are several
+/// faults, any of them may be returned.
 #[derive(Clone, Copy, Debug, PartialEq)]
 pub enum ReadError {
     /// The allocator refused memory.

@@ -148,6 +148,8 @@ fn own_bytes(alloc: Global, kind: Kind<'_>, width: u8, count: usize) -> R<Vec<u8
             spell_entries(entries, &mut bytes)?;
             Ok(bytes)
         }
+        Kind::Fatal(kind, code) => joined(alloc, &[0x5b, 0x32], &[kind], &code.to_le_bytes()),
+        Kind::MatchTest(code) => joined(alloc, &[code], &[], &[]),
     }
 }
 

@@ -164,4 +164,15 @@ pub enum Term {
         update: u8,
         entries: Vec<TermEntry>,
     },
+    /// The type, the code and the argument are what the firmware's maker chose.
+    Fatal {
+        kind: u8,
+        code: u32,
+        argument: Box<Term>,
+    },
+    /// A test of a Match: how elements are compared with the operand, from 0 to 5 (MTR, MEQ, MLE, MLT, MGE and MGT).
+    MatchTest {
+        code: u8,
+        operand: Box<Term>,
+    },
 }

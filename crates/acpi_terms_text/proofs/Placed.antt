@@ -17,7 +17,7 @@ use Rattle.acpi_term.specs.declared.language.Language.TheVariants.{Standard}
 use Rattle.acpi_term.specs.Operator.{word}
 use Rattle.acpi_term.specs.Row.{entry_width}
 use Rattle.acpi_term.specs.Spelling.{IsStandard, AreLegal, inner, next, spelling}
-use Rattle.acpi_term.specs.Tree.{Entry, named, reserved, Head, number, ones, string, local, arg, call, def_scope, def_device, def_method, def_power_res, def_field, def_op_region, def_name, def_mutex, def_acquire, def_release, def_buffer, def_package, def_var_package, def_if, def_while, def_else, op, def_external, def_leveled_method, def_processor, def_thermal_zone, def_roomy_package, def_index_field, Terms, end, term, count}
+use Rattle.acpi_term.specs.Tree.{Entry, named, reserved, Head, number, ones, string, local, arg, call, def_scope, def_device, def_method, def_power_res, def_field, def_op_region, def_name, def_mutex, def_acquire, def_release, def_buffer, def_package, def_var_package, def_if, def_while, def_else, op, def_external, def_leveled_method, def_processor, def_thermal_zone, def_roomy_package, def_index_field, def_fatal, match_test, Terms, end, term, count}
 use Rattle.acpi_base.specs.Digit.{hex_byte}
 use Rattle.acpi_read.specs.Lines.{quoted_byte, quoted_bytes, dotted_segments, tail, segments_of, name_text, width_suffix, is_chosen, is_entry_chosen, data_text, head_text, indent, line, entry_text, entry_line, entry_lines, own_lines, term_suffix, lines}
 use Rattle.acpi_read.specs.Report.{printable}
@@ -186,6 +186,7 @@ word_line op.Divide = refl
 word_line op.Not = refl
 word_line op.FindSetLeftBit = refl
 word_line op.FindSetRightBit = refl
+word_line op.Match = refl
 word_line op.CreateWordField = refl
 word_line op.CreateByteField = refl
 word_line op.CreateBitField = refl
@@ -249,6 +250,8 @@ head_line l (def_index_field index name access lock update entries) n std =
     let second = then_decimal (codes " data " ++ name_text name) (codes " access ") access (alone_line l (codes " data ") name refl std.2) refl in
     let third = then_decimal (codes " lock " ++ decimal lock) (codes " update ") update (and_decimal (codes " lock ") lock refl) refl in
     one_and (one ++ two) three (one_and one two first second) third
+head_line l (def_fatal kind code) n std = then_decimal (codes "fatal type " ++ decimal kind) (codes " code ") code (and_decimal (codes "fatal type ") kind refl) refl
+head_line l (match_test k) n std = and_decimal (codes "test ") k refl
 
 indent_line : (d : ℕ) → IsOneLine (indent d)
 indent_line zero = tt
@@ -325,6 +328,8 @@ own_placed d (def_processor name id address size) rest ns = refl
 own_placed d (def_thermal_zone name) rest ns = refl
 own_placed d (def_roomy_package room) rest ns = refl
 own_placed d (def_index_field index name access lock update entries) rest ns = entries_placed d entries rest ns
+own_placed d (def_fatal kind code) rest ns = refl
+own_placed d (match_test k) rest ns = refl
 
 module _ (g : Grammar) where
   all_placed : (m : Mode) (ids : Bool) (d : ℕ) (ts : Terms) → AreLegal g m ts → (rest : List ℕ) (ns : List (List ℕ))

@@ -4,7 +4,8 @@ use Rattle.acpi_term.specs.Arity.{arity, with_all}
 use Rattle.acpi_term.specs.declared.language.Language.TheVariants.{Standard}
 use Rattle.acpi_term.specs.Language.{grammar_of}
 use Rattle.acpi_term.specs.PathText.{is_rooted, unrooted, path_spelling, is_name_text}
-use Rattle.acpi_term.specs.Tree.{Head, def_scope, def_device, def_method, def_power_res, def_leveled_method, def_processor, def_thermal_zone, def_external, Terms, end, term}
+use Rattle.acpi_term.specs.Tree.{Head, def_scope, def_device, def_method, def_power_res, def_leveled_method}
+use Rattle.acpi_term.specs.Tree.{def_processor, def_thermal_zone, def_external, Terms, end, term}
 use Rattle.acpi_read.specs.Lines.{name_text}
 use Rattle.acpi_read.specs.Terms.{AreReadIn}
 
@@ -52,8 +53,8 @@ all_stated n (text ∷ texts) = stated n text ++ all_stated n texts
 abbrev pub is_method : ℕ → ℕ → Bool
 is_method kind args = kind == 8 && nat_le args 7
 
--- The names of a head that is a method, each with the method's number of arguments (ACPI 6.5, 20.2.5.2, MethodFlags), or of a method
--- of another block.
+-- The names of a head that is a method, each with the method's number of arguments (ACPI 6.5, 20.2.5.2, MethodFlags), or of a
+-- method of another block.
 abbrev pub own_stated : List ℕ → Head → List (List ℕ × ℕ)
 own_stated scope (def_method name args serialized) = all_stated args (calls (placed scope (name_text name)))
 own_stated scope (def_leveled_method name args serialized level) = all_stated args (calls (placed scope (name_text name)))

@@ -52,8 +52,8 @@ fn push_woven(lines: &str, notes: &[String], text: &mut String) -> Result<(), Al
     Ok(())
 }
 
-/// The report of the terms that the bytes spell in the language of the standard, if names take these numbers of arguments. Each line is that of
-/// `acpi_read::report::report_terms`. A comment is after it, behind two spaces and `// `, in the lines of:
+/// The report of the terms that the bytes spell in the language of the standard, if names take these numbers of arguments. Each
+/// line is that of `acpi_read::report::report_terms`. A comment follows after two spaces and `// `, in the lines of:
 ///
 /// - a number in four bytes that is an EISA id, as the value of `_HID` or `_CID`, or as an element of a package there;
 /// - a buffer that is a resource template: the names of its descriptors;

@@ -7,4 +7,4 @@ mod eisa;
 pub mod laws;
 pub mod methods;
 mod note;
-mod uuid;
+pub mod uuid;

@@ -9,7 +9,8 @@ ghost use Rattle.acpi_read.specs.Lines.{name_text};
 ghost use Rattle.acpi_term.specs.declared.language.Language.TheVariants.{Standard};
 ghost use Rattle.acpi_term.specs.Language.{grammar_of};
 ghost use Rattle.acpi_read.specs.Terms.{IsUnreadIn};
-ghost use Rattle.acpi_terms_text.specs.Methods.{placed, opened, inside, after_dots, calls, stated, all_stated, is_method, own_stated};
+ghost use Rattle.acpi_terms_text.specs.Methods.{placed, opened, inside, after_dots, calls, stated, all_stated};
+ghost use Rattle.acpi_terms_text.specs.Methods.{is_method, own_stated};
 ghost use Rattle.acpi_terms_text.specs.Methods.{methods, AreOwn};
 
 use acpi_read::report::words::push_named;
@@ -181,9 +182,9 @@ fn add_term(alloc: Global, scope: &String, term: &Term, all: &mut Arities) -> Re
 }
 
 /// How many arguments names take in a definition block: the stated numbers, and those of the methods that the block itself
-/// defines, or declares as external. `bytes` are its terms, without the header. Each method adds its path from the root, and the
-/// path without the root from each of its segments on, as calls may name it. A name that is stated keeps its number, and a name of several methods has
-/// that of the first. The errors are those of `acpi_read::terms::standard_terms` with the stated
+/// defines, or declares as external. `bytes` are its terms, without the header. Each method adds its path from the root, and
+/// the path without the root from each of its segments on, as calls may name it. A name that is stated keeps its number, and a
+/// name of several methods has that of the first. The errors are those of `acpi_read::terms::standard_terms` with the stated
 /// numbers.
 pub fn own_arities(alloc: Global, bytes: &[u8], stated: &Arities) -> Result<Arities, ReadError>
     ensures ok { IfOk result (λ all. AreOwn stated.now bytes.now all) }

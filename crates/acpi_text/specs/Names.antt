@@ -57,8 +57,8 @@ pub record IsLineOf (one : Named) (text : List ℕ) : Type 0 where
   pub ends : OneLine said
   pub reads : (more : List ℕ) → read (in_number []) (said ++ (10 ∷ more)) ≡ one.bytes ++ bytes_of more
 
--- The text has a line for each of these fields, in this order. Each begins where a line begins. Other whole lines may stand before,
--- between and after them.
+-- The text has a line for each of these fields, in this order. Each begins where a line begins. Other whole lines may stand
+-- before, between and after them.
 abbrev pub Names : List Named → List ℕ → Type 0
 Names [] text = WholeLines text
 Names (one ∷ others) text =

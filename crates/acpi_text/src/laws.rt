@@ -1,6 +1,7 @@
 //! Laws of texts, which cost nothing when they run.
 
-ghost use Rattle.acpi_text.specs.Laws.{LinesHaveFields, TitlesAreEmpty, CommentsAreEmpty, TextsHaveBytes, TablesHaveBytes, TextsDetermineTables};
+ghost use Rattle.acpi_text.specs.Laws.{LinesHaveFields, TitlesAreEmpty, CommentsAreEmpty, TextsHaveBytes};
+ghost use Rattle.acpi_text.specs.Laws.{TablesHaveBytes, TextsDetermineTables};
 ghost use Rattle.acpi_text.specs.Names.{LinesHaveNames, TextsHaveNames, FieldsStand};
 
 /// A law: a field's line has the field's bytes, also if further lines follow.

@@ -5,14 +5,14 @@
 pub mod comment;
 pub mod form;
 pub mod hex;
-mod inner;
+pub mod inner;
 pub mod laws;
 mod line;
 pub mod note;
 mod offset;
 pub mod part;
 pub mod piece;
-mod size;
+pub mod size;
 mod slot;
 pub mod space;
 pub mod table;

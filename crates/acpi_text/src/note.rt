@@ -61,10 +61,10 @@ fn narrow_number(bytes: &[u8]) -> u64
     }
 }
 
-// Returns the number that bytes carry, lowest first.
+/// Returns the number that bytes carry, lowest first.
 #[rattlefmt::skip]
 #[inline(always)]
-fn number(bytes: &[u8]) -> u64
+pub fn number(bytes: &[u8]) -> u64
     requires { length bytes.now ≤ 8 }
     ensures { result ≡ carried bytes.now }
 {
@@ -80,8 +80,8 @@ fn number(bytes: &[u8]) -> u64
     }
 }
 
-// Returns bytes without the zeros at their end.
-fn trimmed(bytes: &[u8]) -> &[u8]
+/// Returns bytes without the zeros at their end.
+pub fn trimmed(bytes: &[u8]) -> &[u8]
     ensures { result.now ≡ trimmed bytes.now }
 {
     let mut end = bytes.len();
@@ -131,8 +131,8 @@ fn push_decimal(number: u64, text: &mut String) -> Result<(), AllocError>
     text.push_str(Buffer::new().format(number))
 }
 
-// Returns the name of a number.
-fn find_word(words: &[Word], number: u64) -> Option<&'static str>
+/// Returns the name of a number.
+pub fn find_word(words: &[Word], number: u64) -> Option<&'static str>
     ensures { option_map (λ name. name.now) result ≡ find_word (words_of words.now) number }
 {
     'words: for word in words {

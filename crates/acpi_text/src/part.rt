@@ -4,7 +4,8 @@
 ghost use Rattle.std.specs.Prelude.{◌≡◌, ℕ, ◌+◌, ◌<◌, ◌≤◌, ◌^◌, [], ◌∷◌, ◌++◌, length, drop, OnOk, IfOk, string_bytes};
 ghost use Rattle.std.specs.List.{slice_range};
 ghost use Rattle.acpi_base.specs.Look as looks;
-ghost use Rattle.acpi_text.specs.Form.{number_at, count_of, repeated, group_slots, find_choice, choice_slots, part_slots, parts_slots};
+ghost use Rattle.acpi_text.specs.Form.{number_at, count_of, repeated, group_slots, find_choice, choice_slots};
+ghost use Rattle.acpi_text.specs.Form.{part_slots, parts_slots};
 ghost use Rattle.acpi_text.specs.Slot.{field, upto, slots_text, Showed};
 
 use crate::form::{Choice, Count, Part};
@@ -24,8 +25,8 @@ pub fn number_at(place: Place, whole: &[u8]) -> usize
     }
 }
 
-// Returns how many entries a list has at most.
-fn count_of(count: Count, whole: &[u8]) -> usize
+/// Returns how many entries a list has at most.
+pub fn count_of(count: Count, whole: &[u8]) -> usize
     ensures { result ≡ count_of count whole.now }
 {
     match count {
@@ -138,8 +139,8 @@ fn push_until(
     push_field(depth, name, Look::Text, 1, end - at, offset, bytes, text)
 }
 
-// Returns the choice with a number.
-fn find_choice(number: usize, choices: &[Choice]) -> Option<Choice>
+/// Returns the choice with a number.
+pub fn find_choice(number: usize, choices: &[Choice]) -> Option<Choice>
     ensures { result ≡ find_choice number choices.now }
 {
     for choice in choices {
@@ -259,7 +260,8 @@ fn push_part(
     }
 }
 
-/// Adds the parts, at a level, of the structure that begins at the offset `start`, and then the bytes that are left, without names.
+/// Adds the parts, at a level, of the structure that begins at the offset `start`, and then the bytes that are left, without
+/// names.
 pub fn push_parts(
     depth: u8,
     parts: &[Part],

@@ -11,8 +11,8 @@ use crate::space::push_label;
 use acpi_base::walk::Walk;
 use std::alloc::{AllocError, Global};
 
-// Returns the offset at which the structures of a table begin.
-fn start_of(walk: &Walk, bytes: &[u8]) -> usize
+/// Returns the offset at which the structures of a table begin.
+pub fn start_of(walk: &Walk, bytes: &[u8]) -> usize
     ensures { result ≡ start_of walk.now bytes.now }
 {
     let least = walk.start;

@@ -1,7 +1,7 @@
 //! Reads ACPI tables and AML: `acpiread table FILE`, `acpiread aml FILE [NAME=N ..]` and `acpiread dsdt FILE [NAME=N ..]`.
 #![tactic(auto)]
 
-use acpiread_run::program::start;
+use acpiread_program::program::start;
 use std::process::ExitCode;
 
 fn main(rt: HostRuntime) -> ExitCode {

@@ -1,7 +1,7 @@
 //! Shows ACPI tables field by field: `acpitool show FILE ..`.
 #![tactic(auto)]
 
-use acpitool_run::program::start;
+use acpitool_program::program::start;
 use std::process::ExitCode;
 
 fn main(rt: HostRuntime) -> ExitCode {

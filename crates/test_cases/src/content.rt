@@ -1,10 +1,10 @@
 //! The bytes of a file, as they are written in a case.
 
 use crate::parts::{hex_byte, number, split_once, unreadable};
-use acpi_vectors::table::table;
 use std::alloc::Global;
 use std::io;
 use std::io::{Error, ErrorKind};
+use test_support::table::table;
 
 /// The signature and the revision of a standard header.
 #[derive(Clone, Copy)]

@@ -18,14 +18,14 @@ pub struct Found {
 fn call(rt: &HostRuntime, run: &Run, out: &mut Vec<u8>, err: &mut Vec<u8>) -> io::Result<u8> {
     match run.command() {
         "structures" => print_structures(rt.alloc(), &run.file, out, err),
-        "table" | "aml" | "dsdt" => acpiread_run::program::run(
+        "table" | "aml" | "dsdt" => acpiread_program::program::run(
             rt,
             rt.alloc(),
             &run.words,
             out,
             err,
         ),
-        _ => acpitool_run::program::run(rt, rt.alloc(), &run.words, out, err),
+        _ => acpitool_program::program::run(rt, rt.alloc(), &run.words, out, err),
     }
 }
 

@@ -9,13 +9,13 @@
 //! aml 5b 80 "PRST" 00 "MTHD" 01 00 ; MTHD=1
 //! ```
 //!
-//! - `table`, `aml` and `dsdt` are commands of `acpiread`, and `show`, `image`, `make` and `template` are commands of `acpitool`,
+//! - `table`, `aml` and `dsdt` are commands of `acpiread`. `show`, `check`, `image`, `make` and `template` are those of `acpitool`,
 //!   as are `help`, `-h`, `--help` and `--version`. `template` and these four have no file. `structures` is a command of this
 //!   program: it prints a table's first line and its structures, also those of tables with a further walk, which `acpiread table`
 //!   doesn't list.
 //! - Bytes are hexadecimal in lower case, or text in quotation marks. `00*16` is 16 of them, and so it is with a text.
 //!   `<APIC 1>` is the standard header with this signature and this revision, and with the length and the checksum of all bytes.
-//!   Its other fields are those of `acpi_vectors`. `@9=07` sets the byte at offset 9 after that.
+//!   Its other fields are those of `test_support`. `@9=07` sets the byte at offset 9 after that.
 //! - A line that begins with `+` goes on with the bytes. One that begins with `|` is a line of the file as text. One that begins
 //!   with a backslash is text, too, but with the escapes `\n`, `\r`, `\t` and `\x7f`, and without a line feed of its own.
 //! - A word in single quotation marks may have spaces, or be empty. `status=2` is no word, but the status that is wanted. Without
@@ -39,7 +39,7 @@ mod wanted;
 
 use crate::cases::run_file;
 use crate::run::FILE;
-use acpitool_run::files::files_in;
+use acpitool_program::files::files_in;
 use std::io::Write;
 use std::process::ExitCode;
 use std::{fs, io};

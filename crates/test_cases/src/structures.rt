@@ -4,7 +4,7 @@ use acpi_read::pieces::Piece;
 use acpi_read::report::report_header;
 use acpi_read::table::Table;
 use acpi_term::read_error::ReadError;
-use acpiread_run::fault::Fault;
+use acpiread_program::fault::Fault;
 use std::alloc::Global;
 use std::io;
 use std::io::Write;

@@ -19,7 +19,7 @@ const MCHI_ROWS: [Row; 12] = [
     Row::Hex("PCI Function Number", 1),
 ];
 
-/// The Management Controller Host Interface Table (DMTF DSP0256 1.0). What the numbers of its types mean isn't told here.
+/// The Management Controller Host Interface Table (DMTF DSP0256 1.0). The numbers of its types have no words here.
 pub const MCHI: TableForm = TableForm {
     name: "Management Controller Host Interface Table (MCHI)",
     parts: &[Part::Fields(&HEADER), Part::Fields(&MCHI_ROWS)],

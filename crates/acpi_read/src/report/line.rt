@@ -4,6 +4,7 @@ ghost use Rattle.std.specs.Prelude.{◌≡◌, ◌++◌, [], OnOk, string_bytes,
 ghost use Rattle.std.specs.Fmt.{decimal};
 ghost use Rattle.acpi_term.specs.Tree.{def_method, def_power_res, def_field};
 ghost use Rattle.acpi_term.specs.Tree.{def_external, def_leveled_method, def_processor, def_roomy_package, def_index_field};
+ghost use Rattle.acpi_term.specs.Tree.{def_fatal};
 ghost use Rattle.acpi_term.specs.View.{head_of};
 ghost use Rattle.acpi_read.specs.Lines.{quoted_bytes, data_text, head_text};
 
@@ -134,6 +135,14 @@ fn push_room(count: usize, room: u8, text: &mut String) -> Result<(), AllocError
     push_number(" of ", u64::from(room), text)
 }
 
+#[tactic(auto, using(crate::proofs::Texts::after_two))]
+fn push_fatal(kind: u8, code: u32, text: &mut String) -> Result<(), AllocError>
+    ensures { OnOk result (string_bytes text.new ≡ string_bytes text.old ++ head_text (def_fatal kind code) 0) }
+{
+    push_number("fatal type ", u64::from(kind), text)?;
+    push_number(" code ", u64::from(code), text)
+}
+
 fn push_data(bytes: &[u8], text: &mut String) -> Result<(), AllocError>
     ensures { OnOk result (string_bytes text.new ≡ string_bytes text.old ++ (codes "buffer data" ++ data_text bytes.now)) }
 {
@@ -193,5 +202,7 @@ pub fn push_head(kind: Kind<'_>, count: usize, text: &mut String) -> Result<(), 
         Kind::IndexField(index, name, access, lock, update, _) => {
             push_index_field(index, name, access, lock, update, text)
         }
+        Kind::Fatal(kind, code) => push_fatal(kind, code, text),
+        Kind::MatchTest(code) => push_number("test ", u64::from(code), text),
     }
 }

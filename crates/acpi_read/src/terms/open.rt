@@ -10,7 +10,9 @@ ghost use Rattle.acpi_term.specs.View.{views, view};
 ghost use Rattle.acpi_term.specs.Reading.{follows, number_at, string_at, named_at, define_after, mutex_after};
 ghost use Rattle.acpi_term.specs.Reading.{region_after, acquire_after, release_after, framed_at, scope_inside};
 ghost use Rattle.acpi_term.specs.Reading.{device_inside, method_inside, power_inside, field_inside, plain_at};
-ghost use Rattle.acpi_term.specs.Reading.{thermal_inside, processor_inside, index_flags, index_inside, external_after, further, fills};
+ghost use Rattle.acpi_term.specs.Reading.{thermal_inside, processor_inside, index_flags, index_inside, external_after};
+ghost use Rattle.acpi_term.specs.Reading.{further, fills};
+ghost use Rattle.acpi_term.specs.Reading.{fatal_at, test_at, head_at};
 ghost use Rattle.acpi_term.specs.Reading.{package_at, buffer_at, operator_at, extended_at, local_at, opcode_at, open_at};
 ghost use Rattle.acpi_read.specs.Cause.{Gives};
 ghost use Rattle.acpi_read.specs.TermStart.{seen, block_head, block_width, first_head, first_width, LiesWithin, IsAlone};
@@ -158,6 +160,10 @@ pub enum TermStart<'a> {
     Region(NameString, u8, &'a [u8]),
     /// The name of a value, and the bytes after it.
     Define(NameString, &'a [u8]),
+    /// A Fatal's type and code, and the bytes after these.
+    Fatal(u8, u32, &'a [u8]),
+    /// A MatchOpcode, and the bytes after it.
+    Test(u8, &'a [u8]),
     /// A frame, the content after its own values, and the bytes after the frame.
     Block(Block, &'a [u8], &'a [u8]),
     FirstAndBlock(FirstAndBlock, &'a [u8], &'a [u8]),
@@ -323,6 +329,36 @@ fn external(language: Language, alloc: Global, bytes: &[u8]) -> Result<TermStart
     };
     let (kind, args) = (*kind, *args);
     Ok(TermStart::Leaf(Term::External { name, kind, args }, rest))
+}
+
+fn fatal(language: Language, bytes: &[u8]) -> Result<TermStart<'_>, Cause>
+    ensures gives { Gives seen result (further language (fatal_at bytes.now)) }
+    ensures alone { IfOk result IsAlone }
+{
+    if !language.is_standard() {
+        return Err(Cause::Opcode);
+    }
+    let Some((kind, rest)) = bytes.split_first() else {
+        return Err(Cause::Truncated);
+    };
+    let (code, rest) = number(4, rest)?;
+    Ok(TermStart::Fatal(*kind, code as u32, rest))
+}
+
+fn test(language: Language, bytes: &[u8]) -> Result<TermStart<'_>, Cause>
+    ensures gives { Gives seen result (test_at language bytes.now) }
+    ensures alone { IfOk result IsAlone }
+{
+    let Some((code, rest)) = bytes.split_first() else {
+        return Err(Cause::Truncated);
+    };
+    if !language.is_standard() {
+        return Err(Cause::Opcode);
+    }
+    if *code > 5 {
+        return Err(Cause::Opcode);
+    }
+    Ok(TermStart::Test(*code, rest))
 }
 
 fn thermal_zone(language: Language, alloc: Global, bytes: &[u8]) -> Result<TermStart<'_>, Cause>
@@ -555,6 +591,7 @@ fn extended(language: Language, alloc: Global, bytes: &[u8]) -> Result<TermStart
         [0x01, rest @ ..] => mutex(language, alloc, rest),
         [0x23, rest @ ..] => acquire(language, alloc, rest),
         [0x27, rest @ ..] => release(language, alloc, rest),
+        [0x32, rest @ ..] => fatal(language, rest),
         [0x80, rest @ ..] => region(language, alloc, rest),
         [0x81, rest @ ..] => field(language, alloc, rest),
         [0x82, rest @ ..] => device(language, alloc, rest),
@@ -606,14 +643,15 @@ fn opcode(language: Language, alloc: Global, byte: u8, rest: &[u8]) -> Result<Te
     }
 }
 
-#[tactic(auto, unfolding(acpi_term::specs::Reading::open_at))]
+// Reads the head of a term where no test of a Match stands.
+#[tactic(auto, unfolding(acpi_term::specs::Reading::head_at))]
 fn open_head<'a>(
     language: Language,
     arities: &Arities,
     mode: Mode,
     bytes: &'a [u8],
 ) -> Result<TermStart<'a>, Cause>
-    ensures gives { Gives seen result (open_at (grammar_of language (arity arities.now)) mode bytes.now) }
+    ensures gives { Gives seen result (head_at (grammar_of language (arity arities.now)) mode bytes.now) }
     ensures alone { IfOk result IsAlone }
 {
     let alloc = arities.allocator();
@@ -628,6 +666,22 @@ fn open_head<'a>(
     Ok(TermStart::Call(name, count, rest))
 }
 
+#[tactic(auto, unfolding(acpi_term::specs::Reading::open_at))]
+fn open_placed<'a>(
+    language: Language,
+    arities: &Arities,
+    mode: Mode,
+    bytes: &'a [u8],
+) -> Result<TermStart<'a>, Cause>
+    ensures gives { Gives seen result (open_at (grammar_of language (arity arities.now)) mode bytes.now) }
+    ensures alone { IfOk result IsAlone }
+{
+    if mode.is_test(language) {
+        return test(language, bytes);
+    }
+    open_head(language, arities, mode, bytes)
+}
+
 /// Reads the head of the term at the front. Its children are read from bytes within the given ones.
 pub fn open<'a>(
     language: Language,
@@ -639,5 +693,5 @@ pub fn open<'a>(
     ensures alone { IfOk result IsAlone }
     ensures within { IfOk result (λ opened. LiesWithin (length bytes.now) (seen opened)) }
 {
-    open_head(language, arities, mode, bytes)
+    open_placed(language, arities, mode, bytes)
 }

@@ -30,6 +30,12 @@ decreases-region l = 4 * l.depth + 2
 abbrev pub decreases-define : goal.decreases-define
 decreases-define l = 4 * l.depth + 2
 
+abbrev pub decreases-fatal : goal.decreases-fatal
+decreases-fatal l = 4 * l.depth + 2
+
+abbrev pub decreases-test : goal.decreases-test
+decreases-test l = 4 * l.depth + 2
+
 abbrev pub decreases-block : goal.decreases-block
 decreases-block l = 4 * l.depth + 2
 

@@ -1,0 +1,35 @@
+use Rattle.std.proofs.Common.{rules, arith, ap}
+use Rattle.acpi_term.proofs.Depths.{first_shallow, others_shallow, element_shallow}
+use Rattle.acpi_term.specs.Tree.{depth}
+use Rattle.acpi_asl.proofs.Namespaces.{names_on, names_done, alone_written, around_written}
+use Rattle.acpi_asl.proofs.namespace.+names.Goals as goal
+
+pub push_names-push_term-requires : goal.push_names-push_term-requires
+push_names-push_term-requires t c =
+    let shallow = element_shallow c.args.terms.now c.terms.term-index c.term-item.result c.terms-test.true c.term-item.is in
+    (omega (arith, shallow, c.decreases), tt)
+
+pub push_names-terms-preserved : goal.push_names-terms-preserved
+push_names-terms-preserved t c =
+    names_on _ _ _ c.term-item.result _ _ _ c.terms.invariant c.terms-test.true c.term-item.is c.in_ok-push_term.ensures
+
+pub push_names-returns : goal.push_names-returns
+push_names-returns t c = names_done _ _ _ _ _ c.terms.invariant c.terms-test.false
+
+pub push_term-push_names-requires : goal.push_term-push_names-requires
+push_term-push_names-requires t c =
+    let p = c.parts_of-parts.result in
+    let shallow = first_shallow p.first.now p.others.now in
+    (omega (arith, shallow, ap depth c.parts_of-parts.ensures.children, c.decreases), tt)
+
+pub push_term-push_names-requires-2 : goal.push_term-push_names-requires-2
+push_term-push_names-requires-2 t c =
+    let p = c.parts_of-parts.result in
+    let shallow = others_shallow p.first.now p.others.now in
+    (omega (arith, shallow, ap depth c.parts_of-parts.ensures.children, c.decreases), tt)
+
+pub push_term-returns : goal.push_term-returns
+push_term-returns t c =
+    let p = c.parts_of-parts.result in
+    around_written c.args.depth c.args.term.now _ _ p.first.now p.others.now c.parts_of-parts.ensures _ c.has_inside.ensures _ c.in_ok-inner.ensures _ _ _ _
+    (search rules) c.in_ok-push_lines.ensures c.in_ok-push_names.ensures c.in_ok-push_names-2.ensures

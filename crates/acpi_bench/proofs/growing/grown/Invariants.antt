@@ -1,5 +1,0 @@
-use Rattle.std.proofs.Common.{◌≡◌, ◌*◌}
-use Rattle.acpi_bench.proofs.growing.grown.Given as goal
-
-abbrev pub invariant-fill : goal.invariant-fill
-invariant-fill g l = g.T.Growing.structures l.table ≡ g.T.Growing.each * l.number

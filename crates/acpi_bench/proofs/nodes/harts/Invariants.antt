@@ -1,5 +1,0 @@
-use Rattle.std.proofs.Common.{◌≡◌, ◌+◌, length}
-use Rattle.acpi_bench.proofs.nodes.harts.Given as goal
-
-abbrev pub invariant-fill : goal.invariant-fill
-invariant-fill l = length l.table.table.table.structures ≡ l.number + 2

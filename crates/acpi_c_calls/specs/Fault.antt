@@ -1,0 +1,100 @@
+-- What can be wrong, by numbers that stay. The words of a fault of a text are those of `acpi_make`.
+use Rattle.std.specs.Prelude.{ℕ, ◌==◌, if◌then◌else◌, List, [], ◌∷◌, ◌++◌, Option, Some, codes}
+use Rattle.std.specs.List.{find}
+use Rattle.std.specs.Option.{option_map}
+use Rattle.acpi_make.specs.Fault as texts
+use Rattle.acpi_make.specs.declared.fault.Wanted.{Wanted}
+use Rattle.acpi_make.specs.declared.fault.Wanted.TheVariants as wanted
+use Rattle.acpi_c_calls.specs.declared.fault.Fault.{Fault}
+use Rattle.acpi_c_calls.specs.declared.fault.Fault.TheVariants as fault
+
+pub record Facts : Type 0 where
+  pub number : ℕ
+  pub words : List ℕ
+
+abbrev pub known : ℕ → List ℕ → Facts
+known n text = record { number = n; words = text }
+
+abbrev pub expected : Wanted → List ℕ
+expected one = codes "expected " ++ texts.words one
+
+abbrev pub facts : Fault → Facts
+facts fault.Memory = known 1 (codes "out of memory")
+facts fault.Buffer = known 2 (codes "the buffer is too small")
+facts fault.UnknownNumber = known 3 (codes "no fault has this number")
+facts fault.Arities = known 4 (codes "a number of arguments isn't NAME=N, or a name has two")
+facts fault.Signature = known 5 (codes "a signature has four bytes of text")
+facts fault.Null = known 6 (codes "a pointer is NULL, and its size isn't 0")
+facts fault.ShortHeader = known 16 (codes "a table has at least the 36 bytes of the standard header")
+facts fault.TableLength = known 17 (codes "the length of a table isn't the number of its bytes")
+facts fault.Sum = known 18 (codes "the bytes of a table don't sum to zero")
+facts fault.Structure = known 19 (codes "a structure isn't as long as it says")
+facts fault.Count = known 20 (codes "a count isn't the number of what it counts")
+facts fault.UnknownSource = known 21 (codes "the size of an error source isn't known")
+facts fault.Truncated = known 32 (codes "the bytes end within a term")
+facts fault.Opcode = known 33 (codes "no term begins so")
+facts fault.PkgLength = known 34 (codes "a PkgLength doesn't fit what surrounds it")
+facts fault.Number = known 35 (codes "a number isn't in its shortest form")
+facts fault.Flags = known 36 (codes "flags have no meaning")
+facts fault.Text = known 37 (codes "a string has a byte past 7F")
+facts fault.TooDeep = known 38 (codes "terms nest too deep")
+facts fault.ImageOutside = known 48 (codes "a table isn't in the image with its whole length")
+facts fault.ImageSignature = known 49 (codes "the signature of a table is wrong")
+facts fault.ImageLength = known 50 (codes "the length of a table is wrong")
+facts fault.ImageRevision = known 51 (codes "the revision of the RSDP isn't 2")
+facts fault.ImageSum = known 52 (codes "the bytes of a table in the image don't sum to zero")
+facts fault.ImageEntries = known 53 (codes "the XSDT doesn't end after a whole entry")
+facts fault.ImageNoFadt = known 54 (codes "the XSDT lists no FADT")
+facts fault.ImageSecondFadt = known 55 (codes "the XSDT lists a second FADT")
+facts fault.ImageOverlap = known 56 (codes "two tables overlap")
+facts fault.WantsPrinting = known 65 (expected wanted.Printing)
+facts fault.WantsSpace = known 66 (expected wanted.Space)
+facts fault.WantsValue = known 67 (expected wanted.Value)
+facts fault.WantsDigit = known 68 (expected wanted.Digit)
+facts fault.WantsSecondDigit = known 69 (expected wanted.SecondDigit)
+facts fault.WantsQuotationMark = known 70 (expected wanted.QuotationMark)
+facts fault.WantsQuestionMark = known 71 (expected wanted.QuestionMark)
+facts fault.WantsSlash = known 72 (expected wanted.Slash)
+facts fault.WantsBrace = known 73 (expected wanted.Brace)
+facts fault.WantsField = known 74 (expected wanted.Field)
+facts fault.WantsName = known 75 (expected wanted.Name)
+facts fault.WantsNumber = known 76 (expected wanted.Number)
+facts fault.WantsLabel = known 77 (expected wanted.Label)
+facts fault.WantsBytes = known 78 (expected wanted.Bytes)
+facts fault.WantsNext = known 79 (expected wanted.Next)
+facts fault.WantsNameless = known 80 (expected wanted.Nameless)
+facts fault.WantsEnd = known 81 (expected wanted.End)
+facts fault.WantsStructure = known 82 (expected wanted.Structure)
+facts fault.WantsWidth = known 83 (expected wanted.Width)
+facts fault.WantsWhole = known 84 (expected wanted.Whole)
+facts fault.WantsOneTable = known 85 (expected wanted.OneTable)
+facts fault.WantsTable = known 86 (expected wanted.Table)
+facts fault.WantsFieldOf = known 87 (expected wanted.FieldOf)
+facts fault.WantsAnotherNumber = known 88 (expected wanted.AnotherNumber)
+
+abbrev pub number_of : Fault → ℕ
+number_of f = (facts f).number
+
+abbrev pub words : Fault → List ℕ
+words f = (facts f).words
+
+abbrev pub faults : List Fault
+faults =
+    fault.Memory ∷ fault.Buffer ∷ fault.UnknownNumber ∷ fault.Arities ∷ fault.Signature ∷ fault.Null ∷ fault.ShortHeader ∷
+    fault.TableLength ∷ fault.Sum ∷ fault.Structure ∷ fault.Count ∷ fault.UnknownSource ∷ fault.Truncated ∷
+    fault.Opcode ∷ fault.PkgLength ∷ fault.Number ∷ fault.Flags ∷ fault.Text ∷ fault.TooDeep ∷
+    fault.ImageOutside ∷ fault.ImageSignature ∷ fault.ImageLength ∷ fault.ImageRevision ∷ fault.ImageSum ∷ fault.ImageEntries ∷
+    fault.ImageNoFadt ∷ fault.ImageSecondFadt ∷ fault.ImageOverlap ∷ fault.WantsPrinting ∷ fault.WantsSpace ∷
+    fault.WantsValue ∷ fault.WantsDigit ∷ fault.WantsSecondDigit ∷ fault.WantsQuotationMark ∷ fault.WantsQuestionMark ∷
+    fault.WantsSlash ∷ fault.WantsBrace ∷ fault.WantsField ∷ fault.WantsName ∷ fault.WantsNumber ∷ fault.WantsLabel ∷
+    fault.WantsBytes ∷ fault.WantsNext ∷ fault.WantsNameless ∷ fault.WantsEnd ∷ fault.WantsStructure ∷
+    fault.WantsWidth ∷ fault.WantsWhole ∷ fault.WantsOneTable ∷ fault.WantsTable ∷ fault.WantsFieldOf ∷
+    fault.WantsAnotherNumber ∷ []
+
+-- the fault of a number
+abbrev pub fault_of : ℕ → Option Fault
+fault_of n = find (λ f. number_of f == n) faults
+
+-- the words of a number: those of its fault, and `fine` of 0
+abbrev pub words_of : ℕ → Option (List ℕ)
+words_of n = if n == 0 then Some (codes "fine") else option_map words (fault_of n)

@@ -1,0 +1,2 @@
+mod Readers
+mod Words

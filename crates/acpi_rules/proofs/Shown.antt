@@ -1,0 +1,207 @@
+-- The fields of a table are those of its text.
+use Rattle.std.proofs.Common.{◌≡◌, ℕ, zero, suc, ◌+◌, ◌-◌, ◌*◌, ◌==◌, nat_lt, nat_le, Bool, true, false, cond, List, [], ◌∷◌}
+use Rattle.std.proofs.Common.{◌++◌}
+use Rattle.std.proofs.Common.{length, take, drop, map, Option, Some, None, refl, sym, ap, ◌∙◌, append_assoc, arith}
+use Rattle.std.proofs.lemmas.Bool.{eqb-true}
+use Rattle.std.proofs.lemmas.List.{append-nil, map-append}
+use Rattle.std.specs.List.{flat_map, slice_range}
+use Rattle.acpi_base.specs.Look.{Look}
+use Rattle.acpi_base.specs.Look as looks
+use Rattle.acpi_base.specs.declared.row.Row.{Row}
+use Rattle.acpi_base.specs.declared.row.Row.TheVariants as rows
+use Rattle.acpi_base.specs.declared.walk.Sizes.{Sizes}
+use Rattle.acpi_text.specs.Form.{number_at, count_of, find_choice}
+use Rattle.acpi_text.specs.Names as names
+use Rattle.acpi_text.specs.Size.{front_size}
+use Rattle.acpi_text.specs.Structure.{find_form, form_parts, form_inner}
+use Rattle.acpi_text.specs.Table.{start_of}
+use Rattle.acpi_text.specs.declared.form.Choice.{Choice}
+use Rattle.acpi_text.specs.declared.form.Inner.{Inner}
+use Rattle.acpi_text.specs.declared.form.Inner.TheVariants.{Nothing, Structures}
+use Rattle.acpi_text.specs.declared.form.Part.{Part}
+use Rattle.acpi_text.specs.declared.form.Part.TheVariants as parts
+use Rattle.acpi_rules.proofs.Found.{all_none}
+use Rattle.acpi_rules.specs.Field.{Field, Wanted, sized, until, unnamed, row_wanted, rows_wanted, times, choice_wanted}
+use Rattle.acpi_rules.specs.Field.{part_wanted}
+use Rattle.acpi_rules.specs.Field.{Found, ended, after_field, after_all, from, parts_fields, Structure, structure_and}
+use Rattle.acpi_rules.specs.Field.{structures_up_to, structures_of, fields_and_structures, content_fields, structure_fields}
+use Rattle.acpi_rules.specs.Laws.{plain, FieldsAreShown}
+
+-- ---- what forms say
+
+forget : Wanted → names.Wanted
+forget (sized name look size) = names.sized name size
+forget (until name end) = names.until name end
+forget unnamed = names.unnamed
+
+row_same : (row : Row) → map forget (row_wanted row) ≡ names.row_fields row
+unfolding forget
+row_same (rows.Number name w) = refl
+row_same (rows.Hex name w) = refl
+row_same (rows.Preset name w value) = refl
+row_same (rows.Reference name w) = refl
+row_same (rows.Flags name w bits) = refl
+row_same (rows.OneOf name w words) = refl
+row_same (rows.Bytes name n) = refl
+row_same (rows.Text name n) = refl
+row_same (rows.Uuid name) = refl
+row_same (rows.Register name) = refl
+row_same (rows.Reserved n) = refl
+
+rows_same : (rows : List Row) → map forget (rows_wanted rows) ≡ names.rows_fields rows
+rows_same [] = refl
+rows_same (row ∷ rows) =
+    map-append forget (row_wanted row) (rows_wanted rows)
+    ∙ ap (λ l. l ++ map forget (rows_wanted rows)) (row_same row)
+    ∙ ap (λ l. names.row_fields row ++ l) (rows_same rows)
+
+times_same : (n : ℕ) (wanted : List Wanted) (fields : List names.Wanted) → map forget wanted ≡ fields
+    → map forget (times n wanted) ≡ names.times n fields
+times_same zero wanted fields same = refl
+times_same (suc n) wanted fields same =
+    map-append forget wanted (times n wanted)
+    ∙ ap (λ l. l ++ map forget (times n wanted)) same
+    ∙ ap (λ l. fields ++ l) (times_same n wanted fields same)
+
+choice_same : (choice : Option Choice) → map forget (choice_wanted choice) ≡ names.choice_fields choice
+unfolding forget
+choice_same (Some choice) = rows_same choice.rows.now
+choice_same None = refl
+
+lists_same : (b : Bool) (n : ℕ) (wanted : List Wanted) (fields : List names.Wanted) → map forget wanted ≡ fields
+    → map forget (cond b [] (times n wanted)) ≡ cond b [] (names.times n fields)
+lists_same true n wanted fields same = refl
+lists_same false n wanted fields same = times_same n wanted fields same
+
+part_same : (start : ℕ) (whole : List ℕ) (part : Part)
+    → map forget (part_wanted start whole part) ≡ names.part_fields start whole part
+unfolding forget
+part_same start whole (parts.Fields rows) = rows_same rows.now
+part_same start whole (parts.Between rows from to) = rows_same (slice_range rows.now from to)
+part_same start whole (parts.Group name rows) = rows_same rows.now
+part_same start whole (parts.Entries name count rows) = times_same (count_of count whole) (rows_wanted rows.now) _
+    (rows_same rows.now)
+part_same start whole (parts.Numbers name w count) =
+    times_same (count_of count whole) (sized name.now looks.number (w * 1) ∷ []) _
+    (ap (λ k. names.sized name.now k ∷ []) (let e : w * 1 ≡ w = omega arith in e))
+part_same start whole (parts.Matrix name w rows columns) =
+    lists_same (number_at columns whole == 0) (number_at rows whole) (sized name.now looks.number (w * number_at columns whole)
+    ∷ []) _ refl
+part_same start whole (parts.Bytes name count) = refl
+part_same start whole (parts.Until name end) = refl
+part_same start whole (parts.Chosen by choices) = choice_same (find_choice (number_at by whole) choices.now)
+
+parts_same : (start : ℕ) (whole : List ℕ) (parts : List Part)
+    → map forget (flat_map (part_wanted start whole) parts) ≡ flat_map (names.part_fields start whole) parts
+parts_same start whole [] = refl
+parts_same start whole (part ∷ more) =
+    map-append forget (part_wanted start whole part) (flat_map (part_wanted start whole) more)
+    ∙ ap (λ l. l ++ map forget (flat_map (part_wanted start whole) more)) (part_same start whole part)
+    ∙ ap (λ l. names.part_fields start whole part ++ l) (parts_same start whole more)
+
+-- ---- what is found
+
+-- the fields that are found after others
+abbrev Same : List Wanted → ℕ → List ℕ → List Field → Type 0
+Same wanted at bytes old =
+    map plain (after_all wanted (from at bytes old)).fields ≡ map plain old ++ names.fields_of at (map forget wanted) bytes
+
+none_found : (wanted : List Wanted) (at : ℕ) (bytes : List ℕ) (old : List Field) → length bytes ≡ 0
+    → map plain (after_all wanted (from at bytes old)).fields ≡ map plain old ++ []
+none_found wanted at bytes old none =
+    ap (λ f. map plain f.fields) (all_none wanted at bytes old none) ∙ sym (append-nil (map plain old))
+
+-- a field, and those after it
+field_same : (none short : Bool) (wanted : List Wanted) (name : List ℕ) (look : Look) (size at : ℕ) (bytes : List ℕ)
+    (old : List Field)
+    → (none ≡ true → length bytes ≡ 0)
+    → ((k : ℕ) (rest : List ℕ) (fields : List Field) → Same wanted k rest fields)
+    → let one : Field = record { offset = at; name = name; look = look; bytes = take size bytes } in
+    map plain (after_all wanted (cond none (from at bytes old) (cond short (ended (from at bytes old))
+    (from (at + size) (drop size bytes) (old ++ one ∷ []))))).fields
+    ≡ map plain old ++ cond none []
+    (cond short [] (plain one ∷ names.fields_of (at + size) (map forget wanted) (drop size bytes)))
+field_same true short wanted name look size at bytes old few others = none_found wanted at bytes old (few refl)
+field_same false true wanted name look size at bytes old few others = none_found wanted (at + length bytes) [] old refl
+field_same false false wanted name look size at bytes old few others =
+    let one : Field = record { offset = at; name = name; look = look; bytes = take size bytes } in
+    others (at + size) (drop size bytes) (old ++ one ∷ [])
+    ∙ ap (λ l. l ++ names.fields_of (at + size) (map forget wanted) (drop size bytes)) (map-append plain old (one ∷ []))
+    ∙ append_assoc (map plain old) (plain one ∷ []) (names.fields_of (at + size) (map forget wanted) (drop size bytes))
+
+until_same : (before : Bool) (wanted : List Wanted) (at : ℕ) (bytes : List ℕ) (old : List Field) (found : Found)
+    (fields : List names.Named)
+    → Same wanted at bytes old → map plain (after_all wanted found).fields ≡ map plain old ++ fields
+    → map plain (after_all wanted (cond before (from at bytes old) found)).fields
+    ≡ map plain old ++ cond before (names.fields_of at (map forget wanted) bytes) fields
+until_same true wanted at bytes old found fields one two = one
+until_same false wanted at bytes old found fields one two = two
+
+all_same : (wanted : List Wanted) (at : ℕ) (bytes : List ℕ) (old : List Field) → Same wanted at bytes old
+unfolding forget
+all_same [] at bytes old = sym (append-nil (map plain old))
+all_same (sized name look size ∷ wanted) at bytes old =
+    field_same (length bytes == 0) (nat_lt (length bytes) size) wanted name look size at bytes old
+    (λ is. eqb-true (length bytes) 0 is) (λ k rest fields. all_same wanted k rest fields)
+all_same (until name end ∷ wanted) at bytes old =
+    until_same (nat_le end at) wanted at bytes old (after_field name looks.text (end - at) (from at bytes old)) _
+    (all_same wanted at bytes old)
+    (field_same (length bytes == 0) (nat_lt (length bytes) (end - at)) wanted name looks.text (end - at) at bytes old
+    (λ is. eqb-true (length bytes) 0 is) (λ k rest fields. all_same wanted k rest fields))
+all_same (unnamed ∷ wanted) at bytes old = none_found wanted (at + length bytes) [] old refl
+
+parts_alike : (parts : List Part) (at : ℕ) (piece : List ℕ)
+    → map plain (parts_fields parts at piece) ≡ names.parts_fields at piece parts
+parts_alike parts at piece =
+    all_same (flat_map (part_wanted at piece) parts) at piece []
+    ∙ ap (λ l. names.fields_of at l piece) (parts_same at piece parts)
+
+-- ---- structures
+
+module _ (sizes : Sizes) (one : Structure → List Field) (other : ℕ → List ℕ → List names.Named)
+    (alike : (k : ℕ) (l : List ℕ) → map plain (one (record { offset = k; bytes = l })) ≡ other k l) where
+  front_alike : (front : Option ℕ) (others : ℕ → List ℕ → List Structure) (more : ℕ → List ℕ
+      → List names.Named) (at : ℕ) (bytes : List ℕ)
+      → ((k : ℕ) (l : List ℕ) → map plain (flat_map one (others k l)) ≡ more k l)
+      → map plain (flat_map one (structure_and front others at bytes)) ≡ names.structure_and front other more at bytes
+  front_alike (Some size) others more at bytes same =
+      map-append plain (one (record { offset = at; bytes = take size bytes }))
+      (flat_map one (others (at + size) (drop size bytes)))
+      ∙ ap (λ l. l ++ map plain (flat_map one (others (at + size) (drop size bytes)))) (alike at (take size bytes))
+      ∙ ap (λ l. other at (take size bytes) ++ l) (same (at + size) (drop size bytes))
+  front_alike None others more at bytes same = refl
+
+  structures_alike : (n at : ℕ) (bytes : List ℕ)
+      → map plain (flat_map one (structures_up_to n sizes at bytes)) ≡ names.structures_up_to n sizes other at bytes
+  structures_alike zero at bytes = refl
+  structures_alike (suc n) at bytes =
+      front_alike (front_size sizes bytes) (λ k rest. structures_up_to n sizes k rest)
+      (λ k rest. names.structures_up_to n sizes other k rest) at bytes
+      (λ k l. structures_alike n k l)
+
+  both_alike : (parts : List Part) (start at : ℕ) (bytes : List ℕ)
+      → map plain (fields_and_structures parts start sizes one at bytes)
+      ≡ names.fields_and_structures parts start sizes other at bytes
+  both_alike parts start at bytes =
+      let front = take start bytes in
+      let rest = drop start bytes in
+      map-append plain (parts_fields parts at front) (flat_map one (structures_of sizes (at + length front) rest))
+      ∙ ap (λ l. l ++ map plain (flat_map one (structures_of sizes (at + length front) rest))) (parts_alike parts at front)
+      ∙ ap (λ l. names.parts_fields at front parts ++ l) (structures_alike (length rest) (at + length front) rest)
+
+-- ---- tables
+
+content_alike : (parts : List Part) (inner : Inner) (at : ℕ) (piece : List ℕ)
+    → map plain (content_fields parts inner at piece) ≡ names.content_fields parts inner at piece
+content_alike parts Nothing at piece = parts_alike parts at piece
+content_alike parts (Structures start name sizes inner) at piece =
+    both_alike sizes (λ s. parts_fields inner.now s.offset s.bytes) (λ k one. names.parts_fields k one inner.now)
+    (λ k l. parts_alike inner.now k l) parts start at piece
+
+pub fields_are_shown : FieldsAreShown
+fields_are_shown form None bytes = parts_alike form.parts.now 0 bytes
+fields_are_shown form (Some walk) bytes =
+    both_alike walk.sizes (structure_fields walk.kind form.structures.now) (names.structure_fields walk.kind form.structures.now)
+    (λ k l.
+    let form_of = find_form (number_at walk.kind l) form.structures.now in content_alike (form_parts form_of)
+    (form_inner form_of) k l) form.parts.now (start_of walk bytes) 0 bytes

@@ -1,0 +1,6 @@
+pub mod Field
+pub mod Finding
+pub mod Rules
+pub mod Line
+pub mod Standard
+pub mod Laws

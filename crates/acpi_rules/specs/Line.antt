@@ -1,0 +1,76 @@
+-- What a finding says.
+use Rattle.std.specs.Prelude.{ℕ, ◌==◌, ◌||◌, Bool, false, if◌then◌else◌, List, [], ◌∷◌, ◌++◌, codes}
+use Rattle.std.specs.Fmt.{decimal}
+use Rattle.std.specs.Str.{bytes_eq}
+use Rattle.acpi_base.specs.Bytes.{le}
+use Rattle.acpi_text.specs.Hex.{number_text}
+use Rattle.acpi_text.specs.Label.{label}
+use Rattle.acpi_text.specs.Note.{trimmed}
+use Rattle.acpi_rules.specs.Finding.{Finding}
+use Rattle.acpi_rules.specs.declared.finding.Rule.{Rule}
+use Rattle.acpi_rules.specs.declared.finding.Rule.TheVariants.{ReservedBytes, ReservedBits, ReservedValue, StructureLength, Range}
+
+-- the tables that ACPI 6.5 defines; another standard defines each other table
+abbrev pub standard_tables : List (List ℕ)
+standard_tables =
+    codes "APIC" ∷ codes "BERT" ∷ codes "BGRT" ∷ codes "CCEL" ∷ codes "CPEP" ∷ codes "DSDT" ∷ codes "ECDT" ∷ codes "EINJ"
+    ∷ codes "ERST" ∷ codes "FACP" ∷ codes "FACS" ∷ codes "FPDT" ∷ codes "GTDT" ∷ codes "HEST" ∷ codes "HMAT" ∷ codes "MPST"
+    ∷ codes "MSCT" ∷ codes "NFIT" ∷ codes "PCCT" ∷ codes "PDTT" ∷ codes "PHAT" ∷ codes "PMTT" ∷ codes "PPTT" ∷ codes "RAS2"
+    ∷ codes "RASF" ∷ codes "RSD " ∷ codes "RSDT" ∷ codes "SBST" ∷ codes "SDEV" ∷ codes "SLIT" ∷ codes "SRAT" ∷ codes "SSDT"
+    ∷ codes "SVKL" ∷ codes "XSDT"
+    ∷ []
+
+abbrev pub contains : List (List ℕ) → List ℕ → Bool
+contains [] signature = false
+contains (one ∷ more) signature = bytes_eq one signature || contains more signature
+
+-- A rule that is broken is an error in a table that ACPI 6.5 defines. In others it is a warning, since newer revisions of their
+-- own standards give reserved bits and numbers a meaning.
+abbrev pub severity : List ℕ → List ℕ
+severity signature = if contains standard_tables signature then codes "error" else codes "warning"
+
+-- the name of a rule
+abbrev pub rule_name : Rule → List ℕ
+rule_name ReservedBytes = codes "reserved-bytes"
+rule_name ReservedBits = codes "reserved-bits"
+rule_name ReservedValue = codes "reserved-value"
+rule_name StructureLength = codes "structure-length"
+rule_name Range = codes "range"
+
+-- a number in hexadecimal: two digits for each byte, from the highest that isn't zero
+abbrev pub hex_text : ℕ → List ℕ
+hex_text n = codes "0x" ++ number_text (trimmed (le 8 n))
+
+-- a number that is reserved
+abbrev pub reserved_text : ℕ → List ℕ
+reserved_text n = codes ": " ++ decimal n ++ codes " is reserved"
+
+-- the only number that is allowed
+abbrev pub one_text : ℕ → List ℕ
+one_text n = codes " has to be " ++ decimal n
+
+-- the numbers that are allowed
+abbrev pub range_text : ℕ → ℕ → List ℕ
+range_text least most =
+    if least == most then one_text least
+    else codes " has to be from " ++ decimal least ++ codes " to " ++ decimal most
+
+-- what a finding says of the bytes of its field
+abbrev pub says : Rule → ℕ → ℕ → List ℕ
+says ReservedBytes number most = codes " isn't zero"
+says ReservedBits number most = codes " has the reserved bits " ++ hex_text number
+says ReservedValue number most = reserved_text number
+says StructureLength number most = one_text number
+says Range number most = range_text number most
+
+-- the field of a finding, and its bytes
+abbrev pub field_text : Finding → List ℕ
+field_text f = codes " at " ++ decimal f.offset ++ codes ": " ++ label f.name ++ codes ": 0x" ++ number_text f.bytes
+
+-- the section that has the rule of a finding, and the rule
+abbrev pub source_text : Finding → List ℕ
+source_text f = codes " (" ++ f.section ++ codes ") [" ++ rule_name f.rule ++ codes "]"
+
+-- a finding in a table of a signature
+abbrev pub finding_text : List ℕ → Finding → List ℕ
+finding_text signature f = severity signature ++ field_text f ++ says f.rule f.number f.most ++ source_text f

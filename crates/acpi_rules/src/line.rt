@@ -1,0 +1,163 @@
+//! What a finding says. A function whose name begins with `push` adds to a text.
+
+ghost use Rattle.std.specs.Prelude.{◌≡◌, ◌++◌, OnOk, string_bytes};
+ghost use Rattle.acpi_rules.specs.Finding.{noted};
+ghost use Rattle.acpi_rules.specs.Line.{standard_tables, contains, severity, rule_name, hex_text, one_text};
+ghost use Rattle.acpi_rules.specs.Line.{reserved_text, range_text};
+ghost use Rattle.acpi_rules.specs.Line.{says, field_text, source_text, finding_text};
+
+use crate::finding::{Finding, Rule};
+use acpi_text::hex::push_bytes;
+use acpi_text::note::trimmed;
+use acpi_text::space::push_label;
+use itoa::Buffer;
+use std::alloc::AllocError;
+
+// The tables that ACPI 6.5 defines.
+#[rattlefmt::skip]
+const STANDARD: [[u8; 4]; 34] = [
+    *b"APIC", *b"BERT", *b"BGRT", *b"CCEL", *b"CPEP", *b"DSDT", *b"ECDT", *b"EINJ",
+    *b"ERST", *b"FACP", *b"FACS", *b"FPDT", *b"GTDT", *b"HEST", *b"HMAT", *b"MPST",
+    *b"MSCT", *b"NFIT", *b"PCCT", *b"PDTT", *b"PHAT", *b"PMTT", *b"PPTT", *b"RAS2",
+    *b"RASF", *b"RSD ", *b"RSDT", *b"SBST", *b"SDEV", *b"SLIT", *b"SRAT", *b"SSDT",
+    *b"SVKL", *b"XSDT",
+];
+
+// Returns whether a signature is one of these.
+fn contains(signatures: &[[u8; 4]], signature: &[u8]) -> bool
+    ensures { result ≡ contains signatures.now signature.now }
+{
+    'signatures: for one in signatures {
+        if one.as_slice() == signature {
+            return true;
+        }
+    }
+    false
+}
+
+// Returns whether ACPI 6.5 defines the tables of a signature.
+fn is_standard(signature: &[u8]) -> bool
+    ensures { result ≡ contains standard_tables signature.now }
+{
+    contains(&STANDARD, signature)
+}
+
+// Returns how severe it is that a table of a signature breaks a rule.
+fn severity(signature: &[u8]) -> &'static str
+    ensures { result.now ≡ severity signature.now }
+{
+    if is_standard(signature) {
+        "error"
+    } else {
+        "warning"
+    }
+}
+
+impl Rule {
+    /// The name of the rule.
+    pub fn name(self) -> &'static str
+        ensures { result.now ≡ rule_name self }
+    {
+        match self {
+            Rule::ReservedBytes => "reserved-bytes",
+            Rule::ReservedBits => "reserved-bits",
+            Rule::ReservedValue => "reserved-value",
+            Rule::StructureLength => "structure-length",
+            Rule::Range => "range",
+        }
+    }
+}
+
+// Adds a number in hexadecimal.
+fn push_hex(number: u64, text: &mut String) -> Result<(), AllocError>
+    ensures { OnOk result (string_bytes text.new ≡ string_bytes text.old ++ hex_text number) }
+{
+    text.push_str("0x")?;
+    push_bytes(trimmed(&number.to_le_bytes()), text)
+}
+
+// Adds the only number that is allowed.
+fn push_one(number: u64, text: &mut String) -> Result<(), AllocError>
+    ensures { OnOk result (string_bytes text.new ≡ string_bytes text.old ++ one_text number) }
+{
+    text.push_str(" has to be ")?;
+    text.push_str(Buffer::new().format(number))
+}
+
+// Adds the numbers that are allowed.
+fn push_range(least: u64, most: u64, text: &mut String) -> Result<(), AllocError>
+    ensures { OnOk result (string_bytes text.new ≡ string_bytes text.old ++ range_text least most) }
+{
+    if least == most {
+        return push_one(least, text);
+    }
+    text.push_str(" has to be from ")?;
+    text.push_str(Buffer::new().format(least))?;
+    text.push_str(" to ")?;
+    text.push_str(Buffer::new().format(most))
+}
+
+// Adds that a number is reserved.
+fn push_reserved(number: u64, text: &mut String) -> Result<(), AllocError>
+    ensures { OnOk result (string_bytes text.new ≡ string_bytes text.old ++ reserved_text number) }
+{
+    text.push_str(": ")?;
+    text.push_str(Buffer::new().format(number))?;
+    text.push_str(" is reserved")
+}
+
+// Adds what a finding says of the bytes of its field.
+fn push_says(rule: Rule, number: u64, most: u64, text: &mut String) -> Result<(), AllocError>
+    ensures { OnOk result (string_bytes text.new ≡ string_bytes text.old ++ says rule number most) }
+{
+    match rule {
+        Rule::ReservedBytes => text.push_str(" isn't zero"),
+        Rule::ReservedBits => {
+            text.push_str(" has the reserved bits ")?;
+            push_hex(number, text)
+        }
+        Rule::ReservedValue => push_reserved(number, text),
+        Rule::StructureLength => push_one(number, text),
+        Rule::Range => push_range(number, most, text),
+    }
+}
+
+// Adds the field of a finding, and its bytes.
+fn push_field(finding: &Finding<'_>, text: &mut String) -> Result<(), AllocError>
+    ensures { OnOk result (string_bytes text.new ≡ string_bytes text.old ++ field_text (noted finding.now)) }
+{
+    text.push_str(" at ")?;
+    text.push_str(Buffer::new().format(finding.offset))?;
+    text.push_str(": ")?;
+    push_label(finding.name, text)?;
+    text.push_str(": 0x")?;
+    push_bytes(finding.bytes, text)
+}
+
+// Adds the section that has the rule of a finding, and the rule.
+fn push_source(finding: &Finding<'_>, text: &mut String) -> Result<(), AllocError>
+    ensures { OnOk result (string_bytes text.new ≡ string_bytes text.old ++ source_text (noted finding.now)) }
+{
+    text.push_str(" (")?;
+    text.push_str(finding.section)?;
+    text.push_str(") [")?;
+    text.push_str(finding.rule.name())?;
+    text.push_str("]")
+}
+
+/// Adds a finding in a table of a signature: how severe it is, the offset of the field, its name and its bytes in hexadecimal,
+/// the highest first, what is wrong with them, the section of the standard, and the name of the rule. The only error is that
+/// memory ran out.
+pub fn push_finding(
+    signature: &[u8],
+    finding: &Finding<'_>,
+    text: &mut String,
+) -> Result<(), AllocError>
+    ensures { OnOk result (string_bytes text.new
+        ≡ string_bytes text.old ++ finding_text signature.now (noted finding.now)) }
+{
+    text.push_str(severity(signature))?;
+    push_field(finding, text)?;
+    push_says(finding.rule, finding.number, finding.most, text)?;
+    push_source(finding, text)
+}

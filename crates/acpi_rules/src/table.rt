@@ -1,0 +1,133 @@
+//! The fields of a table by its form.
+
+ghost use Rattle.std.specs.Prelude.{◌≡◌, ◌+◌, ◌<◌, ◌^◌, ◌++◌, length, map, OnOk, IfOk, Some};
+ghost use Rattle.std.specs.List.{flat_map};
+ghost use Rattle.acpi_rules.specs.Field.{seen, parts_fields, content_fields, structure_fields, structures_of, table_fields};
+
+use crate::field::Field;
+use crate::part::push_parts;
+use acpi_base::walk::{Place, Sizes, Walk};
+use acpi_text::form::{Inner, Part, StructureForm, TableForm};
+use acpi_text::inner::split_within;
+use acpi_text::part::number_at;
+use acpi_text::piece::{find_form, inner_of, parts_of};
+use acpi_text::size::front_size;
+use acpi_text::table::start_of;
+use std::alloc::{AllocError, Global};
+
+// Adds the fields of structures that stand one after another, and all have the same parts.
+fn push_inners<'a>(
+    sizes: Sizes,
+    parts: &[Part],
+    start: usize,
+    bytes: &'a [u8],
+    fields: &mut Vec<Field<'a>>,
+) -> Result<(), AllocError>
+    requires { start + length bytes.now < 2 ^ 64 }
+    ensures { OnOk result (map seen fields.new.items ≡ map seen fields.old.items
+        ++ flat_map (λ s. parts_fields parts.now s.offset s.bytes) (structures_of sizes start bytes.now)) }
+{
+    let mut at = start;
+    let mut rest = bytes;
+    'inners: while let Some(size) = front_size(sizes, rest) {
+        let (piece, more) = rest.split_at(size);
+        push_parts(parts, at, piece, fields)?;
+        at += size;
+        rest = more;
+    }
+    Ok(())
+}
+
+// Adds the fields of a structure by its parts, and of the structures within it.
+fn push_content<'a>(
+    parts: &[Part],
+    inner: &Inner,
+    at: usize,
+    piece: &'a [u8],
+    fields: &mut Vec<Field<'a>>,
+) -> Result<(), AllocError>
+    requires { at + length piece.now < 2 ^ 64 }
+    ensures { OnOk result (map seen fields.new.items
+        ≡ map seen fields.old.items ++ content_fields parts.now inner.now at piece.now) }
+{
+    match *inner {
+        Inner::Nothing => push_parts(parts, at, piece, fields),
+        Inner::Structures(start, _, sizes, within) => {
+            let (front, rest) = split_within(start, piece);
+            push_parts(parts, at, front, fields)?;
+            push_inners(sizes, within, at + front.len(), rest, fields)
+        }
+    }
+}
+
+// Adds the fields of a structure by the form that has its type.
+fn push_structure<'a>(
+    kind: Place,
+    forms: &[StructureForm],
+    at: usize,
+    piece: &'a [u8],
+    fields: &mut Vec<Field<'a>>,
+) -> Result<(), AllocError>
+    requires { at + length piece.now < 2 ^ 64 }
+    ensures { OnOk result (map seen fields.new.items ≡ map seen fields.old.items
+        ++ structure_fields kind forms.now (record { offset = at; bytes = piece.now })) }
+{
+    let form = find_form(number_at(kind, piece), forms);
+    push_content(parts_of(form), inner_of(form), at, piece, fields)
+}
+
+// Adds the fields of structures that stand one after another, each by the form that has its type.
+fn push_structures<'a>(
+    walk: &Walk,
+    forms: &[StructureForm],
+    start: usize,
+    bytes: &'a [u8],
+    fields: &mut Vec<Field<'a>>,
+) -> Result<(), AllocError>
+    requires { start + length bytes.now < 2 ^ 64 }
+    ensures { OnOk result (map seen fields.new.items ≡ map seen fields.old.items
+        ++ flat_map (structure_fields walk.now.kind forms.now) (structures_of walk.now.sizes start bytes.now)) }
+{
+    let mut at = start;
+    let mut rest = bytes;
+    'structures: while let Some(size) = front_size(walk.sizes, rest) {
+        let (piece, more) = rest.split_at(size);
+        push_structure(walk.kind, forms, at, piece, fields)?;
+        at += size;
+        rest = more;
+    }
+    Ok(())
+}
+
+// Adds the fields of a table that has a walk.
+fn push_walked<'a>(
+    form: &TableForm,
+    walk: &Walk,
+    bytes: &'a [u8],
+    fields: &mut Vec<Field<'a>>,
+) -> Result<(), AllocError>
+    ensures { OnOk result (map seen fields.new.items
+        ≡ map seen fields.old.items ++ table_fields form.now (Some walk.now) bytes.now) }
+{
+    let (front, rest) = split_within(start_of(walk, bytes), bytes);
+    push_parts(form.parts, 0, front, fields)?;
+    push_structures(walk, form.structures, front.len(), rest, fields)
+}
+
+/// Returns the fields of a table by a form, and by a walk if the form has structures, in the order of their offsets. Bytes that
+/// the form has no name for aren't in a field. The only error is that memory ran out.
+pub fn fields_of<'a>(
+    alloc: Global,
+    form: &TableForm,
+    walk: Option<Walk>,
+    bytes: &'a [u8],
+) -> Result<Vec<Field<'a>>, AllocError>
+    ensures { IfOk result (λ fields. map seen fields.items ≡ table_fields form.now walk bytes.now) }
+{
+    let mut fields = Vec::new(alloc);
+    match walk {
+        Some(walk) => push_walked(form, &walk, bytes, &mut fields)?,
+        None => push_parts(form.parts, 0, bytes, &mut fields)?,
+    }
+    Ok(fields)
+}

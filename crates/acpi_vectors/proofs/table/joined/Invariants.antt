@@ -1,6 +1,0 @@
-use Rattle.std.proofs.Common.{◌≡◌, ◌++◌, drop}
-use Rattle.std.specs.List.{flat_map}
-use Rattle.acpi_vectors.proofs.table.joined.Given as goal
-
-abbrev pub invariant-loop-part : goal.invariant-loop-part
-invariant-loop-part l = l.bytes.items ++ flat_map (λ part. part.now) (drop l.part-index l.parts) ≡ flat_map (λ part. part.now) l.parts

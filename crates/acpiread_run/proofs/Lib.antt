@@ -1,3 +1,0 @@
-mod Faults
-mod Readers
-mod Stated

@@ -1,6 +1,0 @@
-use Rattle.std.proofs.Common.{◌≡◌, Some, map, take, string_bytes}
-use Rattle.acpiread_run.specs.Command.{all_stated}
-use Rattle.acpiread_run.proofs.command.arities.Given as goal
-
-abbrev pub invariant-loop-word : goal.invariant-loop-word
-invariant-loop-word l = all_stated (map (λ word. string_bytes word) (take l.word-index l.words)) ≡ Some l.entries.items

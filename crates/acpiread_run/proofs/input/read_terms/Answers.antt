@@ -1,7 +1,0 @@
-use Rattle.std.proofs.Common.{◌^◌}
-use Rattle.acpiread_run.proofs.Readers.{read}
-use Rattle.acpiread_run.proofs.input.read_terms.Goals as goal
-
-pub returns : goal.returns
-returns g c =
-    read g.I.Read.remaining c.args.input (2 ^ 32) c.take.result c.new-bytes.result.items c.read_to_end.new.buf.items c.take.ensures.inner c.take.ensures.limit c.new-bytes.ensures.items c.in_ok-read_to_end.ensures.bytes

@@ -1,0 +1,170 @@
+-- Words ask for at most one command.
+use Rattle.std.proofs.Common.{◌≡◌, ◌⊎◌, ℕ, false, List, [], ◌∷◌, ◌++◌, length, refl, sym, ap, subst, ◌∙◌, inl, inr, arith, codes, string_bytes}
+use Rattle.std.proofs.lemmas.List.{length-map}
+use Rattle.acpitool_program.proofs.Verbs.{heads, tails, same_verb, no_version, no_help, asks_no_help}
+use Rattle.acpitool_program.specs.Command.{files_in, forces, unforced, IsAddress, AreImage, AreUnpack, AreAfter, IsHelp, BeginsWithHelp, AsksForHelp, Asks}
+use Rattle.acpitool_program.specs.Laws.{Content, content, AskForOne}
+use Rattle.acpitool_program.specs.declared.command.Command.{Command}
+use Rattle.acpitool_program.specs.declared.command.Command.TheVariants.{Help, Version, Show, Check, Image, Make, Template}
+use Rattle.acpitool_program.specs.declared.command.Command.TheVariants.{Disassemble, Names, Unpack, Cpio}
+use Rattle.acpitool_program.specs.declared.command.Verb.{Verb}
+use Rattle.acpitool_program.specs.declared.command.Verb.TheVariants as verbs
+
+-- lists with parts of the same length have the same parts
+same_parts : (a b d e : List (List ℕ)) → a ++ b ≡ d ++ e → length a ≡ length d → (a ≡ d) × (b ≡ e)
+same_parts [] b [] e is long = (refl, is)
+same_parts [] b (y ∷ d) e is long = absurd (omega (arith, long))
+same_parts (x ∷ a) b [] e is long = absurd (omega (arith, long))
+same_parts (x ∷ a) b (y ∷ d) e is long =
+    let rest = same_parts a b d e (cc) (omega (arith, long)) in
+    let first : x ≡ y = cc in
+    (ap (λ z. z ∷ a) first ∙ ap (λ l. y ∷ l) rest.0, rest.1)
+
+same_addresses : (v w : List ℕ) (base from : ℕ) → v ≡ w → IsAddress v base → IsAddress w from → base ≡ from
+same_addresses v w base from same one two =
+    let P : List ℕ → Type 0 = λ l. IsAddress l base in
+    let here = subst P same one in
+    here.is ∙ sym two.is
+
+same_images : (m n : List (List ℕ)) (file other : List ℕ) (base from : ℕ) → m ≡ n → AreImage m file base → AreImage n other from
+    → (file ≡ other) × (base ≡ from)
+same_images m n file other base from same (inl x) (inl y) =
+    let e : file ∷ [] ≡ other ∷ [] = sym x.0 ∙ same ∙ y.0 in (cc, x.1 ∙ sym y.1)
+same_images m n file other base from same (inl x) (inr y) =
+    let e : file ∷ [] ≡ other ∷ y.0 ∷ [] = sym x.0 ∙ same ∙ y.1 in absurd (cc)
+same_images m n file other base from same (inr x) (inl y) =
+    let e : file ∷ x.0 ∷ [] ≡ other ∷ [] = sym x.1 ∙ same ∙ y.0 in absurd (cc)
+same_images m n file other base from same (inr x) (inr y) =
+    let e : file ∷ x.0 ∷ [] ≡ other ∷ y.0 ∷ [] = sym x.1 ∙ same ∙ y.1 in
+    (cc, same_addresses x.0 y.0 base from (cc) x.2 y.2)
+
+-- ---- what a command contains, by the words after its own
+
+abbrev IsOf : Verb → List (List ℕ) → Content → Type 0
+IsOf verbs.Show more k =
+    (files : List (List ℕ)) × (numbers : List (List ℕ)) × (more ≡ files ++ numbers) × (length files ≡ files_in more)
+    × (k ≡ (codes "show", files, numbers, 0, false))
+IsOf verbs.Check more k = k ≡ (codes "check", more, [], 0, false)
+IsOf verbs.Image more k = (file : List ℕ) × (base : ℕ) × AreImage more file base × (k ≡ (codes "image", file ∷ [], [], base, false))
+IsOf verbs.Make more k =
+    (text : List ℕ) × (file : List ℕ) × (unforced more ≡ text ∷ file ∷ []) × (k ≡ (codes "make", text ∷ file ∷ [], [], 0, forces more))
+IsOf verbs.Template more k = (signature : List ℕ) × (more ≡ signature ∷ []) × (k ≡ (codes "template", signature ∷ [], [], 0, false))
+IsOf verbs.Disassemble more k =
+    (file : List ℕ) × (numbers : List (List ℕ)) × (more ≡ file ∷ numbers) × (k ≡ (codes "disassemble", file ∷ [], numbers, 0, false))
+IsOf verbs.Names more k =
+    (file : List ℕ) × (numbers : List (List ℕ)) × (more ≡ file ∷ numbers) × (k ≡ (codes "names", file ∷ [], numbers, 0, false))
+IsOf verbs.Unpack more k =
+    (file : List ℕ) × (folder : List ℕ) × (base : ℕ) × AreUnpack more file folder base
+    × (k ≡ (codes "unpack", file ∷ folder ∷ [], [], base, false))
+IsOf verbs.Cpio more k =
+    (folder : List ℕ) × (file : List ℕ) × (more ≡ folder ∷ file ∷ []) × (k ≡ (codes "cpio", folder ∷ file ∷ [], [], 0, false))
+
+one_of : (verb : Verb) (more : List (List ℕ)) (k l : Content) → IsOf verb more k → IsOf verb more l → k ≡ l
+one_of verbs.Show more k l one two =
+    let parts = same_parts one.0 one.1 two.0 two.1 (sym one.2 ∙ two.2) (one.3 ∙ sym two.3) in
+    let files = parts.0 in
+    let numbers = parts.1 in
+    cc (one.4, two.4, files, numbers)
+one_of verbs.Check more k l one two = one ∙ sym two
+one_of verbs.Image more k l one two =
+    let same = same_images more more one.0 two.0 one.1 two.1 refl one.2 two.2 in
+    let file = same.0 in
+    let base = same.1 in
+    cc (one.3, two.3, file, base)
+one_of verbs.Make more k l one two = cc (one.2, one.3, two.2, two.3)
+one_of verbs.Template more k l one two = cc (one.1, one.2, two.1, two.2)
+one_of verbs.Disassemble more k l one two = cc (one.2, one.3, two.2, two.3)
+one_of verbs.Names more k l one two = cc (one.2, one.3, two.2, two.3)
+one_of verbs.Unpack more k l one two =
+    let are = one.3 in
+    let others = two.3 in
+    let file : one.0 ≡ two.0 = heads more _ _ _ _ are.1 others.1 in
+    let same = same_images are.0 others.0 one.1 two.1 one.2 two.2 (tails more _ _ _ _ are.1 others.1) are.2 others.2 in
+    let folder = same.0 in
+    let base = same.1 in
+    cc (one.4, two.4, file, folder, base)
+one_of verbs.Cpio more k l one two = cc (one.2, one.3, two.2, two.3)
+
+-- a command with the words after its own, and what it contains
+record Contains (words : List (List ℕ)) (k : Content) : Type 0 where
+  pub verb : Verb
+  pub more : List (List ℕ)
+  pub after : AreAfter verb words more
+  pub of : IsOf verb more k
+
+-- the words ask for the usage or the version, or are a command
+abbrev AreOf : List (List ℕ) → Content → Type 0
+AreOf words k =
+    ((k ≡ content Help) × (BeginsWithHelp words ⊎ AsksForHelp words))
+    ⊎ ((k ≡ content Version) × (more : List (List ℕ)) × (words ≡ codes "--version" ∷ more))
+    ⊎ Contains words k
+
+are_of : (words : List (List ℕ)) (command : Command) → Asks words command → AreOf words (content command)
+are_of words Help help = inl (refl, help)
+are_of words Version first = inr (inl (refl, first.0, first.1))
+are_of words (Show files numbers) all = inr (inr (record {
+  verb = verbs.Show;
+  more = all.0;
+  after = all.1;
+  of = (_, _, all.2, length-map files.now (λ word. string_bytes word) ∙ all.3, refl);
+}))
+are_of words (Check files) all = inr (inr (record {
+  verb = verbs.Check;
+  more = all.0;
+  after = all.1;
+  of = ap (λ l. (codes "check", l, [], 0, false)) (sym all.2);
+}))
+are_of words (Image file base) all = inr (inr (record { verb = verbs.Image; more = all.0; after = all.1; of = (_, _, all.2, refl) }))
+are_of words (Template signature) all =
+    inr (inr (record { verb = verbs.Template; more = all.0; after = all.1; of = (_, all.2, refl) }))
+are_of words (Disassemble file numbers) all =
+    inr (inr (record { verb = verbs.Disassemble; more = all.0; after = all.1; of = (_, _, all.2, refl) }))
+are_of words (Names file numbers) all =
+    inr (inr (record { verb = verbs.Names; more = all.0; after = all.1; of = (_, _, all.2, refl) }))
+are_of words (Unpack file folder base) all =
+    inr (inr (record { verb = verbs.Unpack; more = all.0; after = all.1; of = (_, _, _, all.2, refl) }))
+are_of words (Cpio folder file) all =
+    inr (inr (record { verb = verbs.Cpio; more = all.0; after = all.1; of = (_, _, all.2, refl) }))
+are_of words (Make force text file) all = inr (inr (record {
+  verb = verbs.Make;
+  more = all.0;
+  after = all.1;
+  of = (_, _, all.3, ap (λ f. (codes "make", text.now ∷ file.now ∷ [], [], 0, f)) all.2);
+}))
+
+-- ---- words have one of these
+
+help_apart : (word : List ℕ) → IsHelp word ⊎ (word ≡ codes "help") → word ≡ codes "--version" → ⊥
+help_apart word (inl (inl help)) same = let e : 6 ≡ 9 = ap length (sym help ∙ same) in cc
+help_apart word (inl (inr help)) same = let e : 2 ≡ 9 = ap length (sym help ∙ same) in cc
+help_apart word (inr help) same = let e : 4 ≡ 9 = ap length (sym help ∙ same) in cc
+
+no_version_help : (words : List (List ℕ)) → BeginsWithHelp words ⊎ AsksForHelp words → (more : List (List ℕ)) → words ≡ codes "--version" ∷ more → ⊥
+no_version_help words (inl first) more is = help_apart first.word first.asks (heads words _ _ _ _ first.is is)
+no_version_help words (inr after) more is = no_version after.verb (heads words _ _ _ _ after.is is)
+
+no_command_help : (words : List (List ℕ)) (k : Content) → BeginsWithHelp words ⊎ AsksForHelp words → Contains words k → ⊥
+no_command_help words k (inl first) one = no_help one.verb first.word first.asks (heads words _ _ _ _ one.after.0 first.is)
+no_command_help words k (inr after) one = asks_no_help words after one.verb one.more one.after
+
+both_contain : (words : List (List ℕ)) (k l : Content) → Contains words k → Contains words l → k ≡ l
+both_contain words k l one two =
+    let verb : one.verb ≡ two.verb = same_verb one.verb two.verb (heads words _ _ _ _ one.after.0 two.after.0) in
+    let more : one.more ≡ two.more = tails words _ _ _ _ one.after.0 two.after.0 in
+    let P : Verb → Type 0 = λ v. IsOf v one.more k in
+    let Q : List (List ℕ) → Type 0 = λ m. IsOf two.verb m k in
+    one_of two.verb two.more k l (subst Q more (subst P verb one.of)) two.of
+
+only_one : (words : List (List ℕ)) (k l : Content) → AreOf words k → AreOf words l → k ≡ l
+only_one words k l (inl one) (inl two) = one.0 ∙ sym two.0
+only_one words k l (inl one) (inr (inl two)) = absurd (no_version_help words one.1 two.1 two.2)
+only_one words k l (inl one) (inr (inr two)) = absurd (no_command_help words l one.1 two)
+only_one words k l (inr (inl one)) (inl two) = absurd (no_version_help words two.1 one.1 one.2)
+only_one words k l (inr (inl one)) (inr (inl two)) = one.0 ∙ sym two.0
+only_one words k l (inr (inl one)) (inr (inr two)) = absurd (no_version two.verb (heads words _ _ _ _ two.after.0 one.2))
+only_one words k l (inr (inr one)) (inl two) = absurd (no_command_help words k two.1 one)
+only_one words k l (inr (inr one)) (inr (inl two)) = absurd (no_version one.verb (heads words _ _ _ _ one.after.0 two.2))
+only_one words k l (inr (inr one)) (inr (inr two)) = both_contain words k l one two
+
+pub ask_for_one : AskForOne
+ask_for_one words one two first second = only_one words (content one) (content two) (are_of words one first) (are_of words two second)

@@ -1,0 +1,102 @@
+-- What unpacked tables and archives print, and a flush after it.
+use Rattle.std.proofs.Common.{ℕ, Bool, true, false, List, [], ◌∷◌, ◌++◌, Option, Some, None, ◌∙◌, inl, inr}
+use Rattle.std.specs.Io.KnownBytes.{Keeps, Appends}
+use Rattle.acpi_dump.specs.Dump.{is_dump}
+use Rattle.acpitool_program.specs.Archiving.{Archives}
+use Rattle.acpitool_program.specs.Listing.{NotRead}
+use Rattle.acpitool_program.specs.Making.{IsWritten}
+use Rattle.acpitool_program.specs.Unpacking.{NotMade, AreUnpacked, AreFiles, UnpacksDump, UnpacksImage, UnpacksBy, Unpacks}
+use Rattle.acpitool_program.proofs.Archives.{both_kept}
+
+appends_kept : (a b c : Option (List ℕ)) (x : List ℕ) → Appends a b x → Keeps b c → Appends a c x
+appends_kept None b c x one two = tt
+appends_kept (Some xs) None c x one two = absurd one
+appends_kept (Some xs) (Some ys) None x one two = absurd two
+appends_kept (Some xs) (Some ys) (Some zs) x one two = two ∙ one
+
+not_made_kept : (path : List ℕ) (o o' o'' e e' : Option (List ℕ)) (s : ℕ) → Keeps o' o'' → NotMade path o o' e e' s → NotMade path o o'' e e' s
+not_made_kept path o o' o'' e e' s kept not =
+    record { why = not.why; complained = not.complained; silent = both_kept o o' o'' not.silent kept; is = not.is }
+
+unread_kept : (file : List ℕ) (o o' o'' e e' : Option (List ℕ)) (s : ℕ) → Keeps o' o'' → NotRead file o o' e e' s → NotRead file o o'' e e' s
+unread_kept file o o' o'' e e' s kept not =
+    record { why = not.why; complained = not.complained; silent = both_kept o o' o'' not.silent kept; is = not.is }
+
+-- the last table is the one before the flush
+tables_kept : (folder : List ℕ) (earlier tables : List (List ℕ)) (o o' o'' e e' : Option (List ℕ)) (s : ℕ) → Keeps o' o''
+    → AreUnpacked folder earlier tables o o' e e' s → AreUnpacked folder earlier tables o o'' e e' s
+tables_kept folder earlier [] o o' o'' e e' s kept are = (both_kept o o' o'' are.0 kept, are.1, are.2)
+tables_kept folder earlier (table ∷ tables) o o' o'' e e' s kept are = record {
+  out = are.out;
+  err = are.err;
+  first = are.first;
+  rest = are.rest;
+  one = are.one;
+  others = tables_kept folder (earlier ++ table ∷ []) tables are.out o' o'' are.err e' are.rest kept are.others;
+  is = are.is;
+}
+
+files_kept : (folder : List ℕ) (tables : List (List ℕ)) (o o' o'' e e' : Option (List ℕ)) (s : ℕ) → Keeps o' o''
+    → AreFiles folder tables o o' e e' s → AreFiles folder tables o o'' e e' s
+files_kept folder tables o o' o'' e e' s kept (inl not) = inl (not_made_kept folder o o' o'' e e' s kept not)
+files_kept folder tables o o' o'' e e' s kept (inr are) = inr (tables_kept folder [] tables o o' o'' e e' s kept are)
+
+dump_kept : (name folder dump : List ℕ) (o o' o'' e e' : Option (List ℕ)) (s : ℕ) → Keeps o' o''
+    → UnpacksDump name folder dump o o' e e' s → UnpacksDump name folder dump o o'' e e' s
+dump_kept name folder dump o o' o'' e e' s kept (inl (tables, is, are)) = inl (tables, is, files_kept folder _ o o' o'' e e' s kept are)
+dump_kept name folder dump o o' o'' e e' s kept (inr broken) = inr (record {
+  fault = broken.fault;
+  cause = broken.cause;
+  complained = broken.complained;
+  silent = both_kept o o' o'' broken.silent kept;
+  is = broken.is;
+})
+
+image_kept : (name folder : List ℕ) (base : ℕ) (bytes : List ℕ) (o o' o'' e e' : Option (List ℕ)) (s : ℕ) → Keeps o' o''
+    → UnpacksImage name folder base bytes o o' e e' s → UnpacksImage name folder base bytes o o'' e e' s
+image_kept name folder base bytes o o' o'' e e' s kept (inl (tables, is, are)) = inl (tables, is, files_kept folder _ o o' o'' e e' s kept are)
+image_kept name folder base bytes o o' o'' e e' s kept (inr not) = inr (record {
+  fault = not.fault;
+  cause = not.cause;
+  complained = not.complained;
+  silent = both_kept o o' o'' not.silent kept;
+  is = not.is;
+})
+
+by_kept : (dump : Bool) (name folder : List ℕ) (base : ℕ) (bytes : List ℕ) (o o' o'' e e' : Option (List ℕ)) (s : ℕ) → Keeps o' o''
+    → UnpacksBy dump name folder base bytes o o' e e' s → UnpacksBy dump name folder base bytes o o'' e e' s
+by_kept true name folder base bytes o o' o'' e e' s kept done = dump_kept name folder bytes o o' o'' e e' s kept done
+by_kept false name folder base bytes o o' o'' e e' s kept done = image_kept name folder base bytes o o' o'' e e' s kept done
+
+pub unpacked_kept : (name folder : List ℕ) (base : ℕ) (o o' o'' e e' : Option (List ℕ)) (s : ℕ) → Keeps o' o''
+    → Unpacks name folder base o o' e e' s → Unpacks name folder base o o'' e e' s
+unpacked_kept name folder base o o' o'' e e' s kept (inl (bytes, done)) =
+    inl (bytes, by_kept (is_dump bytes) name folder base bytes o o' o'' e e' s kept done)
+unpacked_kept name folder base o o' o'' e e' s kept (inr not) = inr (unread_kept name o o' o'' e e' s kept not)
+
+written_kept : (bytes file : List ℕ) (o o' o'' e e' : Option (List ℕ)) (s : ℕ) → Keeps o' o''
+    → IsWritten bytes file o o' e e' s → IsWritten bytes file o o'' e e' s
+written_kept bytes file o o' o'' e e' s kept (inl out) = inl (out.0, appends_kept o o' o'' bytes out.1 kept, out.2)
+written_kept bytes file o o' o'' e e' s kept (inr other) = inr (other.0, both_kept o o' o'' other.1 kept, other.2)
+
+pub archived_kept : (folder file : List ℕ) (o o' o'' e e' : Option (List ℕ)) (s : ℕ) → Keeps o' o''
+    → Archives folder file o o' e e' s → Archives folder file o o'' e e' s
+archived_kept folder file o o' o'' e e' s kept (inl (paths, inl all)) = inl (
+  paths,
+  inl (record {
+    tables = all.tables;
+    are = all.are;
+    written = elim all.written [
+      | inl written ↦ inl (written_kept _ file o o' o'' e e' s kept written)
+      | inr not ↦ inr (record {
+        misfit = not.misfit;
+        first = not.first;
+        complained = not.complained;
+        silent = both_kept o o' o'' not.silent kept;
+        is = not.is;
+      })
+    ];
+  }),
+)
+archived_kept folder file o o' o'' e e' s kept (inl (paths, inr refused)) = inl (paths, inr (refused.0, both_kept o o' o'' refused.1 kept))
+archived_kept folder file o o' o'' e e' s kept (inr not) = inr (unread_kept folder o o' o'' e e' s kept not)

@@ -1,0 +1,16 @@
+mod Archives
+mod Blocks
+mod Commands
+mod Judged
+mod Kept
+mod Outcomes
+mod Paths
+mod Pointers
+mod Runs
+mod Texts
+mod Unforced
+mod Unpacked
+mod Verbs
+mod Whole
+mod Words
+mod Wrongs

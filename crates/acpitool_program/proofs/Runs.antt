@@ -1,0 +1,173 @@
+-- A flush after a run, which keeps what was printed.
+use Rattle.std.proofs.Common.{ℕ, Bool, true, false, List, Option, Some, None, ◌∙◌, inl, inr}
+use Rattle.std.specs.Io.KnownBytes.{Keeps, Appends}
+use Rattle.acpitool_program.proofs.Kept.{unpacked_kept, archived_kept}
+use Rattle.acpitool_program.specs.Disassembly.{DisassemblesFile}
+use Rattle.acpitool_program.specs.declared.disassembly.BlockText.{BlockText}
+use Rattle.acpitool_program.specs.declared.disassembly.BlockText.TheVariants as blocks
+use Rattle.acpitool_program.specs.Job.{Job, shows, checks}
+use Rattle.acpitool_program.specs.Listing.{Listed, NotRead}
+use Rattle.acpitool_program.specs.Making.{IsWritten, MakesWord, Makes}
+use Rattle.acpitool_program.specs.Outcome.{Outcome, Printed}
+use Rattle.acpi_forms.specs.Known.{is_known}
+use Rattle.acpitool_program.specs.Program.{Ended, IsDone, IsShown, AreChecked, IsBlockShown, NotStated, IsTemplated}
+use Rattle.acpitool_program.specs.declared.command.Command.{Command}
+use Rattle.acpitool_program.specs.declared.command.Command.TheVariants.{Help, Version, Show, Check, Image, Make, Template}
+use Rattle.acpitool_program.specs.declared.command.Command.TheVariants.{Disassemble, Names, Unpack, Cpio}
+
+appends_kept : (a b c : Option (List ℕ)) (x : List ℕ) → Appends a b x → Keeps b c → Appends a c x
+appends_kept None b c x one two = tt
+appends_kept (Some xs) None c x one two = absurd one
+appends_kept (Some xs) (Some ys) None x one two = absurd two
+appends_kept (Some xs) (Some ys) (Some zs) x one two = two ∙ one
+
+keeps_kept : (a b c : Option (List ℕ)) → Keeps a b → Keeps b c → Keeps a c
+keeps_kept None b c one two = tt
+keeps_kept (Some xs) None c one two = absurd one
+keeps_kept (Some xs) (Some ys) None one two = absurd two
+keeps_kept (Some xs) (Some ys) (Some zs) one two = two ∙ one
+
+printed_kept : (job : Job) (outcomes : List Outcome) (o o' o'' e e' : Option (List ℕ)) (s : ℕ) → Keeps o' o''
+    → Printed job outcomes o o' e e' s → Printed job outcomes o o'' e e' s
+printed_kept job outcomes o o' o'' e e' s kept one =
+    record { are = one.are; wrote = appends_kept o o' o'' _ one.wrote kept; complained = one.complained; is = one.is }
+
+unstated_kept : (numbers : List (List ℕ)) (o o' o'' e e' : Option (List ℕ)) (s : ℕ) → Keeps o' o''
+    → NotStated numbers o o' e e' s → NotStated numbers o o'' e e' s
+unstated_kept numbers o o' o'' e e' s kept not = record {
+  wrong = not.wrong;
+  is_wrong = not.is_wrong;
+  is = not.is;
+  complained = not.complained;
+  silent = keeps_kept o o' o'' not.silent kept;
+}
+
+shown_kept : (files numbers : List (List ℕ)) (o o' o'' e e' : Option (List ℕ)) (s : ℕ) → Keeps o' o''
+    → IsShown files numbers o o' e e' s → IsShown files numbers o o'' e e' s
+shown_kept files numbers o o' o'' e e' s kept (inl all) = inl (record {
+  all = all.all;
+  stated = all.stated;
+  printed = record {
+    outcomes = all.printed.outcomes;
+    are = all.printed.are;
+    printed = printed_kept (shows all.all) all.printed.outcomes o o' o'' e e' s kept all.printed.printed;
+  };
+})
+shown_kept files numbers o o' o'' e e' s kept (inr not) = inr (unstated_kept numbers o o' o'' e e' s kept not)
+
+checked_kept : (files : List (List ℕ)) (o o' o'' e e' : Option (List ℕ)) (s : ℕ) → Keeps o' o''
+    → AreChecked files o o' e e' s → AreChecked files o o'' e e' s
+checked_kept files o o' o'' e e' s kept all =
+    record { outcomes = all.outcomes; are = all.are; printed = printed_kept checks all.outcomes o o' o'' e e' s kept all.printed }
+
+unread_kept : (file : List ℕ) (o o' o'' e e' : Option (List ℕ)) (s : ℕ) → Keeps o' o'' → NotRead file o o' e e' s → NotRead file o o'' e e' s
+unread_kept file o o' o'' e e' s kept not =
+    record { why = not.why; complained = not.complained; silent = keeps_kept o o' o'' not.silent kept; is = not.is }
+
+listed_kept : (file : List ℕ) (base : ℕ) (o o' o'' e e' : Option (List ℕ)) (s : ℕ) → Keeps o' o''
+    → Listed file base o o' e e' s → Listed file base o o'' e e' s
+listed_kept file base o o' o'' e e' s kept (inl (bytes, inl all)) = inl (
+  bytes,
+  inl (record {
+    tables = all.tables;
+    found = all.found;
+    wrote = appends_kept o o' o'' _ all.wrote kept;
+    silent = all.silent;
+    is = all.is;
+  }),
+)
+listed_kept file base o o' o'' e e' s kept (inl (bytes, inr not)) = inl (
+  bytes,
+  inr (record {
+    fault = not.fault;
+    cause = not.cause;
+    complained = not.complained;
+    silent = keeps_kept o o' o'' not.silent kept;
+    is = not.is;
+  }),
+)
+listed_kept file base o o' o'' e e' s kept (inr not) = inr (unread_kept file o o' o'' e e' s kept not)
+
+disassembled_kept : (block : BlockText) (stated : List (List ℕ × ℕ)) (file : List ℕ) (o o' o'' e e' : Option (List ℕ)) (s : ℕ) → Keeps o' o''
+    → DisassemblesFile block stated file o o' e e' s → DisassemblesFile block stated file o o'' e e' s
+disassembled_kept block stated file o o' o'' e e' s kept (inl (bytes, inl all)) = inl (
+  bytes,
+  inl (record { text = all.text; of = all.of; wrote = appends_kept o o' o'' _ all.wrote kept; silent = all.silent; is = all.is }),
+)
+disassembled_kept block stated file o o' o'' e e' s kept (inl (bytes, inr not)) = inl (
+  bytes,
+  inr (record {
+    fault = not.fault;
+    cause = not.cause;
+    complained = not.complained;
+    silent = keeps_kept o o' o'' not.silent kept;
+    is = not.is;
+  }),
+)
+disassembled_kept block stated file o o' o'' e e' s kept (inr not) = inr (unread_kept file o o' o'' e e' s kept not)
+
+block_kept : (block : BlockText) (file : List ℕ) (numbers : List (List ℕ)) (o o' o'' e e' : Option (List ℕ)) (s : ℕ) → Keeps o' o''
+    → IsBlockShown block file numbers o o' e e' s → IsBlockShown block file numbers o o'' e e' s
+block_kept block file numbers o o' o'' e e' s kept (inl all) =
+    inl (record { all = all.all; stated = all.stated; disassembles = disassembled_kept block all.all file o o' o'' e e' s kept all.disassembles })
+block_kept block file numbers o o' o'' e e' s kept (inr not) = inr (unstated_kept numbers o o' o'' e e' s kept not)
+
+written_kept : (bytes file : List ℕ) (o o' o'' e e' : Option (List ℕ)) (s : ℕ) → Keeps o' o''
+    → IsWritten bytes file o o' e e' s → IsWritten bytes file o o'' e e' s
+written_kept bytes file o o' o'' e e' s kept (inl out) = inl (out.0, appends_kept o o' o'' bytes out.1 kept, out.2)
+written_kept bytes file o o' o'' e e' s kept (inr other) = inr (other.0, keeps_kept o o' o'' other.1 kept, other.2)
+
+word_kept : (force : Bool) (name file : List ℕ) (o o' o'' e e' : Option (List ℕ)) (s : ℕ) → Keeps o' o''
+    → MakesWord force name file o o' e e' s → MakesWord force name file o o'' e e' s
+word_kept force name file o o' o'' e e' s kept (inl (text, inl made)) = inl (
+  text,
+  inl (record {
+    bytes = made.bytes;
+    between = made.between;
+    made = made.made;
+    wrote = written_kept made.bytes file o o' o'' made.between e' s kept made.wrote;
+  }),
+)
+word_kept force name file o o' o'' e e' s kept (inl (text, inr none)) =
+    inl (text, inr (record { not = none.not; silent = keeps_kept o o' o'' none.silent kept; is = none.is }))
+word_kept force name file o o' o'' e e' s kept (inr not) = inr (unread_kept name o o' o'' e e' s kept not)
+
+made_kept : (force : Bool) (name file : List ℕ) (o o' o'' e e' : Option (List ℕ)) (s : ℕ) → Keeps o' o''
+    → Makes force name file o o' e e' s → Makes force name file o o'' e e' s
+made_kept force name file o o' o'' e e' s kept (inl its) = inl (record {
+  same = its.same;
+  other = its.other;
+  complained = its.complained;
+  silent = keeps_kept o o' o'' its.silent kept;
+  is = its.is;
+})
+made_kept force name file o o' o'' e e' s kept (inr word) = inr (word_kept force name file o o' o'' e e' s kept word)
+
+templated_kept : (known : Bool) (signature : List ℕ) (o o' o'' e e' : Option (List ℕ)) (s : ℕ) → Keeps o' o''
+    → IsTemplated known signature o o' e e' s → IsTemplated known signature o o'' e e' s
+templated_kept true signature o o' o'' e e' s kept done = (done.0, done.1, appends_kept o o' o'' _ done.2 kept, done.3, done.4)
+templated_kept false signature o o' o'' e e' s kept done = (done.0, keeps_kept o o' o'' done.1 kept, done.2)
+
+done_kept : (o o' o'' e e' : Option (List ℕ)) (s : ℕ) (command : Command) → Keeps o' o'' → IsDone command o o' e e' s → IsDone command o o'' e e' s
+done_kept o o' o'' e e' s Help kept done = (done.0, done.1, appends_kept o o' o'' _ done.2 kept, done.3)
+done_kept o o' o'' e e' s Version kept done = (done.0, appends_kept o o' o'' _ done.1 kept, done.2)
+done_kept o o' o'' e e' s (Show files numbers) kept done = shown_kept _ _ o o' o'' e e' s kept done
+done_kept o o' o'' e e' s (Check files) kept done = checked_kept _ o o' o'' e e' s kept done
+done_kept o o' o'' e e' s (Image file base) kept done = listed_kept file.now base o o' o'' e e' s kept done
+done_kept o o' o'' e e' s (Template signature) kept done = templated_kept (is_known signature.now) signature.now o o' o'' e e' s kept done
+done_kept o o' o'' e e' s (Disassemble file numbers) kept done = block_kept blocks.Asl file.now _ o o' o'' e e' s kept done
+done_kept o o' o'' e e' s (Names file numbers) kept done = block_kept blocks.Names file.now _ o o' o'' e e' s kept done
+done_kept o o' o'' e e' s (Unpack file folder base) kept done = unpacked_kept file.now folder.now base o o' o'' e e' s kept done
+done_kept o o' o'' e e' s (Cpio folder file) kept done = archived_kept folder.now file.now o o' o'' e e' s kept done
+done_kept o o' o'' e e' s (Make force text file) kept done = made_kept force text.now file.now o o' o'' e e' s kept done
+
+pub ended_kept : (words : List (List ℕ)) (o o' o'' e e' : Option (List ℕ)) (s : ℕ) → Keeps o' o'' → Ended words o o' e e' s → Ended words o o'' e e' s
+ended_kept words o o' o'' e e' s kept (inl done) =
+    inl (record { command = done.command; asked = done.asked; done = done_kept o o' o'' e e' s done.command kept done.done })
+ended_kept words o o' o'' e e' s kept (inr wrong) = inr (record {
+  wrong = wrong.wrong;
+  is_wrong = wrong.is_wrong;
+  is = wrong.is;
+  complained = wrong.complained;
+  silent = keeps_kept o o' o'' wrong.silent kept;
+})

@@ -1,0 +1,40 @@
+use Rattle.std.proofs.Common.{◌∷◌, map, string_bytes, ap, ◌∙◌}
+use Rattle.acpitool_program.specs.Command.{word_of}
+use Rattle.acpitool_program.specs.declared.command.Verb.{Verb}
+use Rattle.acpitool_program.proofs.command.asked.Goals as goal
+
+pub returns-in-Check : goal.returns-in-Check
+returns-in-Check c = λ all is. c.check.ensures all
+    (is ∙ ap (λ (verb : Verb). word_of verb ∷ map (λ word. string_bytes word) c.args.words.now) c.in-Check.is)
+
+pub returns-in-Image : goal.returns-in-Image
+returns-in-Image c = λ all is. c.image.ensures all
+    (is ∙ ap (λ (verb : Verb). word_of verb ∷ map (λ word. string_bytes word) c.args.words.now) c.in-Image.is)
+
+pub returns-in-Make : goal.returns-in-Make
+returns-in-Make c = λ all is. c.make.ensures all
+    (is ∙ ap (λ (verb : Verb). word_of verb ∷ map (λ word. string_bytes word) c.args.words.now) c.in-Make.is)
+
+pub returns-in-Template : goal.returns-in-Template
+returns-in-Template c = λ all is. c.template.ensures all
+    (is ∙ ap (λ (verb : Verb). word_of verb ∷ map (λ word. string_bytes word) c.args.words.now) c.in-Template.is)
+
+pub returns-in-Disassemble : goal.returns-in-Disassemble
+returns-in-Disassemble c = λ all is. c.disassemble.ensures all
+    (is ∙ ap (λ (verb : Verb). word_of verb ∷ map (λ word. string_bytes word) c.args.words.now) c.in-Disassemble.is)
+
+pub returns-in-Names : goal.returns-in-Names
+returns-in-Names c = λ all is. c.names.ensures all
+    (is ∙ ap (λ (verb : Verb). word_of verb ∷ map (λ word. string_bytes word) c.args.words.now) c.in-Names.is)
+
+pub returns-in-Show : goal.returns-in-Show
+returns-in-Show c = λ all is. c.show.ensures all
+    (is ∙ ap (λ (verb : Verb). word_of verb ∷ map (λ word. string_bytes word) c.args.words.now) c.in-Show.is)
+
+pub returns-in-Unpack : goal.returns-in-Unpack
+returns-in-Unpack c = λ all is. c.unpack.ensures all
+    (is ∙ ap (λ (verb : Verb). word_of verb ∷ map (λ word. string_bytes word) c.args.words.now) c.in-Unpack.is)
+
+pub returns-in-Cpio : goal.returns-in-Cpio
+returns-in-Cpio c = λ all is. c.cpio.ensures all
+    (is ∙ ap (λ (verb : Verb). word_of verb ∷ map (λ word. string_bytes word) c.args.words.now) c.in-Cpio.is)

@@ -1,0 +1,276 @@
+-- What words ask for.
+use Rattle.std.specs.Prelude.{◌≡◌, ◌≢◌, ◌⊎◌, ℕ, suc, ◌^◌, ◌<◌, ◌≤◌, ◌==◌, nat_eq, nat_lt, drop, not, ◌&&◌, ◌||◌, Bool, false}
+use Rattle.std.specs.Prelude.{if◌then◌else◌, List, [], ◌∷◌, ◌++◌, Option, Some, None, length, slice_index, map, string_bytes}
+use Rattle.std.specs.Prelude.{codes}
+use Rattle.std.specs.List.{starts_with}
+use Rattle.std.specs.Str.{bytes_eq}
+use Rattle.std.specs.Str.Parse.{IsNumeral, digits_value, without_leading_plus}
+use Rattle.acpi_input.specs.Stated.{stated_by, stated}
+use Rattle.acpitool_program.specs.declared.command.Command.{Command}
+use Rattle.acpitool_program.specs.declared.command.Command.TheVariants.{Help, Version, Show, Check, Image, Make, Template}
+use Rattle.acpitool_program.specs.declared.command.Command.TheVariants.{Disassemble, Names, Unpack, Cpio}
+use Rattle.acpitool_program.specs.declared.command.Misstated.{Misstated}
+use Rattle.acpitool_program.specs.declared.command.Misstated.TheVariants as misstated
+use Rattle.acpitool_program.specs.declared.command.Verb.{Verb}
+use Rattle.acpitool_program.specs.declared.command.Verb.TheVariants as verbs
+use Rattle.acpitool_program.specs.declared.command.Wrong.{Wrong}
+use Rattle.acpitool_program.specs.declared.command.Wrong.TheVariants.{NoCommand, Unknown, NoFile, NoFileToCheck, NoImage, NoText}
+use Rattle.acpitool_program.specs.declared.command.Wrong.TheVariants.{NoTable, Base, Number, Twice, NoSignature}
+use Rattle.acpitool_program.specs.declared.command.Wrong.TheVariants.{Signature, NoBlock}
+use Rattle.acpitool_program.specs.declared.command.Wrong.TheVariants.{NoPacked, NoFolder, NoTables, NoArchive}
+
+-- whether a word is an option: a dash and more
+abbrev pub is_option : List ℕ → Bool
+is_option word = nat_lt 1 (length word) && slice_index word 0 == 45
+
+-- the option of `make` that writes a table whose numbers are wrong
+abbrev pub is_force : List ℕ → Bool
+is_force word = bytes_eq word (codes "--force")
+
+-- whether a command takes an option
+abbrev pub takes : Verb → List ℕ → Bool
+takes verbs.Make word = is_force word
+takes verb word = false
+
+-- the first option after a command, but for those that it takes
+abbrev pub first_option : Verb → List (List ℕ) → Option (List ℕ)
+first_option verb [] = None
+first_option verb (word ∷ words) = if is_option word && not (takes verb word) then Some word else first_option verb words
+
+-- whether one of the words is `--force`
+abbrev pub forces : List (List ℕ) → Bool
+forces [] = false
+forces (word ∷ words) = is_force word || forces words
+
+-- the words without `--force`
+abbrev pub unforced : List (List ℕ) → List (List ℕ)
+unforced [] = []
+unforced (word ∷ words) = if is_force word then unforced words else word ∷ unforced words
+
+-- the word of a command
+abbrev pub word_of : Verb → List ℕ
+word_of verbs.Show = codes "show"
+word_of verbs.Check = codes "check"
+word_of verbs.Image = codes "image"
+word_of verbs.Make = codes "make"
+word_of verbs.Template = codes "template"
+word_of verbs.Disassemble = codes "disassemble"
+word_of verbs.Names = codes "names"
+word_of verbs.Unpack = codes "unpack"
+word_of verbs.Cpio = codes "cpio"
+
+-- an option that asks for how the program is used
+abbrev pub IsHelp : List ℕ → Type 0
+IsHelp word = (word ≡ codes "--help") ⊎ (word ≡ codes "-h")
+
+-- a first word that asks for it
+pub record BeginsWithHelp (words : List (List ℕ)) : Type 0 where
+  pub word : List ℕ
+  pub more : List (List ℕ)
+  pub is : words ≡ word ∷ more
+  pub asks : IsHelp word ⊎ (word ≡ codes "help")
+
+-- words after a command that ask for it
+pub record AsksForHelp (words : List (List ℕ)) : Type 0 where
+  pub verb : Verb
+  pub more : List (List ℕ)
+  pub is : words ≡ word_of verb ∷ more
+  pub option : List ℕ
+  pub first : first_option verb more ≡ Some option
+  pub asks : IsHelp option
+
+-- the words are a command and more, of which none is an option but those that it takes
+abbrev pub AreAfter : Verb → List (List ℕ) → List (List ℕ) → Type 0
+AreAfter verb words more = (words ≡ word_of verb ∷ more) × (first_option verb more ≡ None)
+
+-- ---- numbers of arguments
+
+abbrev pub has : ℕ → List ℕ → Bool
+has b [] = false
+has b (c ∷ word) = (c == b) || has b word
+
+-- whether a word states a number of arguments: it has an equals sign and no slash
+abbrev pub is_number : List ℕ → Bool
+is_number word = has 61 word && not (has 47 word)
+
+-- how many files there are: words before the first that states a number of arguments
+abbrev pub files_in : List (List ℕ) → ℕ
+files_in [] = 0
+files_in (word ∷ words) = if is_number word then 0 else suc (files_in words)
+
+abbrev pub unstated_by : Option (List ℕ × ℕ) → List ℕ → Option (List ℕ) → Option (List ℕ)
+unstated_by None word others = Some word
+unstated_by (Some number) word others = others
+
+-- the first word that isn't NAME=N with a digit from 0 to 7
+abbrev pub first_unstated : List (List ℕ) → Option (List ℕ)
+first_unstated [] = None
+first_unstated (word ∷ words) = unstated_by (stated_by word) word (first_unstated words)
+
+-- why words state no numbers of arguments
+abbrev pub IsMisstated : List (List ℕ) → Misstated → Type 0
+IsMisstated words (misstated.Word word) = first_unstated words ≡ Some word.now
+IsMisstated words misstated.Twice = (first_unstated words ≡ None) × (stated words ≡ None)
+IsMisstated words misstated.Memory = Unit {0}
+
+-- ---- an address
+
+-- the digits of an address: all of the word, or those after `0x`
+abbrev pub address_digits : List ℕ → List ℕ
+address_digits word = without_leading_plus (if starts_with nat_eq word (codes "0x") then drop 2 word else word)
+
+-- the word is this address in hexadecimal
+pub record IsAddress (word : List ℕ) (address : ℕ) : Type 0 where
+  pub numeral : IsNumeral 16 (address_digits word)
+  pub is : address ≡ digits_value 16 (address_digits word)
+  pub fits : address < 2 ^ 64
+
+-- FILE and FILE BASE after `image`; without a word for it the base is 0
+abbrev pub AreImage : List (List ℕ) → List ℕ → ℕ → Type 0
+AreImage more file base =
+    ((more ≡ file ∷ []) × (base ≡ 0)) ⊎ ((word : List ℕ) × (more ≡ file ∷ word ∷ []) × IsAddress word base)
+
+-- FILE FOLDER and FILE FOLDER BASE after `unpack`
+abbrev pub AreUnpack : List (List ℕ) → List ℕ → List ℕ → ℕ → Type 0
+AreUnpack more file folder base = (rest : List (List ℕ)) × (more ≡ file ∷ rest) × AreImage rest folder base
+
+-- the words ask for a command
+abbrev pub Asks : List (List ℕ) → Command → Type 0
+Asks words Help = BeginsWithHelp words ⊎ AsksForHelp words
+Asks words Version = (more : List (List ℕ)) × (words ≡ codes "--version" ∷ more)
+Asks words (Show files numbers) =
+    (more : List (List ℕ))
+    × AreAfter verbs.Show words more
+    × (more ≡ map (λ word. string_bytes word) files.now ++ map (λ word. string_bytes word) numbers.now)
+    × (length files.now ≡ files_in more)
+    × (1 ≤ files_in more)
+Asks words (Check files) =
+    (more : List (List ℕ))
+    × AreAfter verbs.Check words more
+    × (more ≡ map (λ word. string_bytes word) files.now)
+    × (1 ≤ length more)
+Asks words (Image file base) = (more : List (List ℕ)) × AreAfter verbs.Image words more × AreImage more file.now base
+Asks words (Template signature) =
+    (more : List (List ℕ)) × AreAfter verbs.Template words more × (more ≡ signature.now ∷ []) × (length signature.now ≡ 4)
+Asks words (Disassemble file numbers) =
+    (more : List (List ℕ)) × AreAfter verbs.Disassemble words more
+    × (more ≡ file.now ∷ map (λ word. string_bytes word) numbers.now)
+Asks words (Names file numbers) =
+    (more : List (List ℕ)) × AreAfter verbs.Names words more × (more ≡ file.now ∷ map (λ word. string_bytes word) numbers.now)
+Asks words (Unpack file folder base) =
+    (more : List (List ℕ)) × AreAfter verbs.Unpack words more × AreUnpack more file.now folder.now base
+Asks words (Cpio folder file) = (more : List (List ℕ)) × AreAfter verbs.Cpio words more × (more ≡ folder.now ∷ file.now ∷ [])
+Asks words (Make force text file) =
+    (more : List (List ℕ)) × AreAfter verbs.Make words more × (force ≡ forces more) × (unforced more ≡ text.now ∷ file.now ∷ [])
+
+-- the first word is no command
+pub record IsNoCommand (words : List (List ℕ)) (word : List ℕ) : Type 0 where
+  pub more : List (List ℕ)
+  pub is : words ≡ word ∷ more
+  pub no_help : word ≢ codes "--help"
+  pub no_short_help : word ≢ codes "-h"
+  pub no_help_word : word ≢ codes "help"
+  pub no_version : word ≢ codes "--version"
+  pub no_show : word ≢ codes "show"
+  pub no_check : word ≢ codes "check"
+  pub no_image : word ≢ codes "image"
+  pub no_make : word ≢ codes "make"
+  pub no_template : word ≢ codes "template"
+  pub no_disassemble : word ≢ codes "disassemble"
+  pub no_names : word ≢ codes "names"
+  pub no_unpack : word ≢ codes "unpack"
+  pub no_cpio : word ≢ codes "cpio"
+
+-- a word after a command is an option that there isn't
+pub record IsNoOption (words : List (List ℕ)) (word : List ℕ) : Type 0 where
+  pub verb : Verb
+  pub more : List (List ℕ)
+  pub is : words ≡ word_of verb ∷ more
+  pub first : first_option verb more ≡ Some word
+  pub no_help : word ≢ codes "--help"
+  pub no_short_help : word ≢ codes "-h"
+
+-- a word after `template SIGNATURE`
+pub record IsAfterSignature (words : List (List ℕ)) (word : List ℕ) : Type 0 where
+  pub more : List (List ℕ)
+  pub after : AreAfter verbs.Template words more
+  pub signature : List ℕ
+  pub others : List (List ℕ)
+  pub is : more ≡ signature ∷ word ∷ others
+
+-- a word after `image FILE BASE`
+pub record IsAfterBase (words : List (List ℕ)) (word : List ℕ) : Type 0 where
+  pub more : List (List ℕ)
+  pub after : AreAfter verbs.Image words more
+  pub file : List ℕ
+  pub base : List ℕ
+  pub others : List (List ℕ)
+  pub is : more ≡ file ∷ base ∷ word ∷ others
+
+-- a word after `make TEXT FILE`
+pub record IsAfterFile (words : List (List ℕ)) (word : List ℕ) : Type 0 where
+  pub more : List (List ℕ)
+  pub after : AreAfter verbs.Make words more
+  pub text : List ℕ
+  pub file : List ℕ
+  pub others : List (List ℕ)
+  pub is : unforced more ≡ text ∷ file ∷ word ∷ others
+
+-- a word after `unpack FILE FOLDER BASE`
+pub record IsAfterUnpacked (words : List (List ℕ)) (word : List ℕ) : Type 0 where
+  pub more : List (List ℕ)
+  pub after : AreAfter verbs.Unpack words more
+  pub file : List ℕ
+  pub folder : List ℕ
+  pub base : List ℕ
+  pub others : List (List ℕ)
+  pub is : more ≡ file ∷ folder ∷ base ∷ word ∷ others
+
+-- a word after `cpio FOLDER FILE`
+pub record IsAfterArchive (words : List (List ℕ)) (word : List ℕ) : Type 0 where
+  pub more : List (List ℕ)
+  pub after : AreAfter verbs.Cpio words more
+  pub folder : List ℕ
+  pub file : List ℕ
+  pub others : List (List ℕ)
+  pub is : more ≡ folder ∷ file ∷ word ∷ others
+
+-- the word in the place of BASE after `unpack` isn't an address
+pub record IsNoUnpackBase (words : List (List ℕ)) (word : List ℕ) : Type 0 where
+  pub more : List (List ℕ)
+  pub after : AreAfter verbs.Unpack words more
+  pub file : List ℕ
+  pub folder : List ℕ
+  pub is : more ≡ file ∷ folder ∷ word ∷ []
+  pub not : (base : ℕ) → ¬ IsAddress word base
+
+-- the word in the place of BASE isn't an address
+pub record IsNoBase (words : List (List ℕ)) (word : List ℕ) : Type 0 where
+  pub more : List (List ℕ)
+  pub after : AreAfter verbs.Image words more
+  pub file : List ℕ
+  pub is : more ≡ file ∷ word ∷ []
+  pub not : (base : ℕ) → ¬ IsAddress word base
+
+-- why words ask for nothing
+abbrev pub IsWrong : List (List ℕ) → Wrong → Type 0
+IsWrong words NoCommand = words ≡ []
+IsWrong words (Unknown word) =
+    IsNoCommand words word.now ⊎ IsNoOption words word.now ⊎ IsAfterBase words word.now ⊎ IsAfterFile words word.now
+    ⊎ IsAfterUnpacked words word.now ⊎ IsAfterArchive words word.now ⊎ IsAfterSignature words word.now
+IsWrong words NoFile = (more : List (List ℕ)) × AreAfter verbs.Show words more × (files_in more ≡ 0)
+IsWrong words NoFileToCheck = words ≡ codes "check" ∷ []
+IsWrong words NoImage = words ≡ codes "image" ∷ []
+IsWrong words NoSignature = words ≡ codes "template" ∷ []
+IsWrong words NoBlock = (words ≡ codes "disassemble" ∷ []) ⊎ (words ≡ codes "names" ∷ [])
+IsWrong words (Signature word) =
+    (more : List (List ℕ)) × AreAfter verbs.Template words more × (more ≡ word.now ∷ []) × (length word.now ≢ 4)
+IsWrong words NoText = (more : List (List ℕ)) × AreAfter verbs.Make words more × (unforced more ≡ [])
+IsWrong words NoTable = (more : List (List ℕ)) × AreAfter verbs.Make words more × (length (unforced more) ≡ 1)
+IsWrong words NoPacked = words ≡ codes "unpack" ∷ []
+IsWrong words NoFolder = (more : List (List ℕ)) × AreAfter verbs.Unpack words more × (length more ≡ 1)
+IsWrong words NoTables = words ≡ codes "cpio" ∷ []
+IsWrong words NoArchive = (more : List (List ℕ)) × AreAfter verbs.Cpio words more × (length more ≡ 1)
+IsWrong words (Base word) = IsNoBase words word.now ⊎ IsNoUnpackBase words word.now
+IsWrong words (Number word) = ⊥
+IsWrong words Twice = ⊥

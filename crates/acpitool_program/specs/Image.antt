@@ -1,0 +1,55 @@
+-- The tables of an image, and where its pointer is.
+use Rattle.std.specs.Prelude.{◌≡◌, ℕ, ◌+◌, ◌-◌, ◌%◌, ◌^◌, ◌<◌, ◌≤◌, nat_eq, IsTrue, false, if◌then◌else◌, List, [], ◌∷◌, ◌++◌}
+use Rattle.std.specs.Prelude.{length, map, take, drop, codes, slice_index_or}
+use Rattle.std.specs.Fmt.{decimal, digits}
+use Rattle.std.specs.List.{starts_with}
+use Rattle.std.specs.Str.{bytes_eq}
+use Rattle.acpi_layout.specs.Found.{IsImage}
+use Rattle.acpi_layout.specs.declared.located.Located.{Located}
+use Rattle.acpi_read.specs.Report.{printable}
+use Rattle.acpitool_program.specs.Check.{IsPointer}
+
+-- ---- the pointer
+
+-- A Root System Description Pointer of this size is at this offset, a multiple of 16 (ACPI 6.5, 5.2.5.1 and 5.2.5.3). With 36
+-- bytes it has the address of an XSDT; with 20, which are those of revision 0, only that of an RSDT.
+pub record IsPointerAt (size : ℕ) (bytes : List ℕ) (at : ℕ) : Type 0 where
+  pub aligned : at % 16 ≡ 0
+  pub whole : at + size ≤ length bytes
+  pub signature : IsTrue (starts_with nat_eq (take size (drop at bytes)) (codes "RSD PTR "))
+  pub pointer : IsPointer (take size (drop at bytes))
+
+-- the first pointer of this size is at this offset
+pub record IsFirstPointer (size : ℕ) (bytes : List ℕ) (at : ℕ) : Type 0 where
+  pub is : IsPointerAt size bytes at
+  pub first : (k : ℕ) → k < at → ¬ IsPointerAt size bytes k
+
+abbrev pub HasNoPointer : ℕ → List ℕ → Type 0
+HasNoPointer size bytes = (k : ℕ) → ¬ IsPointerAt size bytes k
+
+-- ---- lines
+
+-- the offset of a table's revision, by its signature (ACPI 6.5, 5.2.5.3, 5.2.10 and 5.2.6)
+abbrev pub revision_offset : List ℕ → ℕ
+revision_offset signature =
+    if bytes_eq signature (codes "RSD ") then 15 else (if bytes_eq signature (codes "FACS") then 32 else 8)
+
+abbrev pub revision_of : ℕ → List ℕ → Located → ℕ
+revision_of base bytes table = slice_index_or (drop (table.address - base) bytes) (revision_offset table.signature) 0
+
+-- a table's address, signature, length and revision
+abbrev pub table_line : ℕ → List ℕ → Located → List ℕ
+table_line base bytes table =
+    codes "0x" ++ digits 16 false table.address ++ codes " " ++ map printable table.signature
+    ++ codes " length " ++ decimal table.length ++ codes " revision " ++ decimal (revision_of base bytes table) ++ 10 ∷ []
+
+abbrev pub table_lines : ℕ → List ℕ → List Located → List ℕ
+table_lines base bytes [] = []
+table_lines base bytes (table ∷ tables) = table_line base bytes table ++ table_lines base bytes tables
+
+-- The bytes are an image from this base on, whose first pointer leads to these tables.
+pub record IsFoundImage (base : ℕ) (bytes : List ℕ) (tables : List Located) : Type 0 where
+  pub at : ℕ
+  pub first : IsFirstPointer 36 bytes at
+  pub fits : base + at < 2 ^ 64
+  pub image : IsImage bytes base (base + at) tables

@@ -1,0 +1,33 @@
+-- What laws say.
+use Rattle.std.specs.Prelude.{◌≡◌, ℕ, Bool, false, List, [], ◌∷◌, map, string_bytes, codes}
+use Rattle.acpitool_program.specs.Command.{Asks, IsWrong}
+use Rattle.acpitool_program.specs.declared.command.Command.{Command}
+use Rattle.acpitool_program.specs.declared.command.Command.TheVariants.{Help, Version, Show, Check, Image, Make, Template}
+use Rattle.acpitool_program.specs.declared.command.Command.TheVariants.{Disassemble, Names, Unpack, Cpio}
+use Rattle.acpitool_program.specs.declared.command.Wrong.{Wrong}
+
+-- what a command contains: its word, its files, folders or signature, the words that state numbers, an address, and `--force`
+abbrev pub Content : Type 0
+Content = List ℕ × List (List ℕ) × List (List ℕ) × ℕ × Bool
+
+abbrev pub content : Command → Content
+content Help = (codes "help", [], [], 0, false)
+content Version = (codes "--version", [], [], 0, false)
+content (Show files numbers) =
+    (codes "show", map (λ word. string_bytes word) files.now, map (λ word. string_bytes word) numbers.now, 0, false)
+content (Check files) = (codes "check", map (λ word. string_bytes word) files.now, [], 0, false)
+content (Image file base) = (codes "image", file.now ∷ [], [], base, false)
+content (Template signature) = (codes "template", signature.now ∷ [], [], 0, false)
+content (Disassemble file numbers) = (codes "disassemble", file.now ∷ [], map (λ word. string_bytes word) numbers.now, 0, false)
+content (Names file numbers) = (codes "names", file.now ∷ [], map (λ word. string_bytes word) numbers.now, 0, false)
+content (Make force text file) = (codes "make", text.now ∷ file.now ∷ [], [], 0, force)
+content (Unpack file folder base) = (codes "unpack", file.now ∷ folder.now ∷ [], [], base, false)
+content (Cpio folder file) = (codes "cpio", folder.now ∷ file.now ∷ [], [], 0, false)
+
+-- words ask for at most one command
+abbrev pub AskForOne : Type 0
+AskForOne = (words : List (List ℕ)) (one two : Command) → Asks words one → Asks words two → content one ≡ content two
+
+-- wrong words ask for no command
+abbrev pub WrongAskForNothing : Type 0
+WrongAskForNothing = (words : List (List ℕ)) (wrong : Wrong) (command : Command) → IsWrong words wrong → ¬ Asks words command

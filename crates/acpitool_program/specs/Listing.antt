@@ -1,0 +1,80 @@
+-- What is printed of an image.
+use Rattle.std.specs.Prelude.{◌≡◌, ◌≢◌, ◌⊎◌, ℕ, ◌+◌, ◌%◌, ◌^◌, ◌==◌, List, [], ◌∷◌, ◌++◌, Option, codes}
+use Rattle.std.specs.Prelude.{if◌then◌else◌, slice_index}
+use Rattle.std.specs.Fmt.{decimal}
+use Rattle.std.specs.Io.KnownBytes.{Keeps, Appends}
+use Rattle.acpi_base.specs.Bytes.{field_at}
+use Rattle.acpi_layout.specs.FaultText.{hexadecimal, wrong_at, text_of}
+use Rattle.acpi_layout.specs.declared.fault.ImageFault.{ImageFault}
+use Rattle.acpi_layout.specs.declared.fault.ImageFault.TheVariants.{Memory, Outside}
+use Rattle.acpi_layout.specs.declared.located.Located.{Located}
+use Rattle.acpitool_program.specs.Image.{HasNoPointer, IsFirstPointer, IsFoundImage, table_lines}
+use Rattle.acpitool_program.specs.declared.image.NoImage.{NoImage}
+use Rattle.acpitool_program.specs.declared.image.NoImage.TheVariants.{NoPointer, Old, Away, Wrong}
+
+-- the first pointer has this address of an XSDT (ACPI 6.5, 5.2.5.3), and leads to no tables
+pub record IsAway (base : ℕ) (bytes : List ℕ) (address : ℕ) : Type 0 where
+  pub at : ℕ
+  pub first : IsFirstPointer 36 bytes at
+  pub is : address ≡ field_at (at + 24) 8 bytes
+  pub none : (tables : List Located) → ¬ IsFoundImage base bytes tables
+
+-- why a pointer at an offset leads to no tables: because of the XSDT at its own address, or else of what the fault says
+abbrev pub IsWhyNone : List ℕ → ℕ → ImageFault → NoImage → Type 0
+IsWhyNone bytes at fault (Away address) = (fault ≡ Outside address) × (address ≡ field_at (at + 24) 8 bytes)
+IsWhyNone bytes at fault (Wrong other) = other ≡ fault
+IsWhyNone bytes at fault _ = ⊥
+
+-- why bytes aren't an image that begins at a base, unless memory ran out
+abbrev pub IsNoImage : ℕ → List ℕ → NoImage → Type 0
+IsNoImage base bytes NoPointer = HasNoPointer 36 bytes × HasNoPointer 20 bytes
+IsNoImage base bytes (Old at revision) =
+    HasNoPointer 36 bytes × IsFirstPointer 20 bytes at × (revision ≡ slice_index bytes (at + 15))
+IsNoImage base bytes (Away address) = IsAway base bytes address
+IsNoImage base bytes (Wrong fault) = fault ≢ Memory → (tables : List Located) → ¬ IsFoundImage base bytes tables
+
+-- what is asked if the XSDT isn't in the image, and the base is 0, as it is without a word for it
+abbrev pub is_base_right : ℕ → ℕ → List ℕ
+is_base_right base address =
+    if base == 0 then codes " (is BASE right? the RSDP points to " ++ hexadecimal address ++ codes ")" else []
+
+-- its text; the address of a pointer is one of 64 bits
+abbrev pub why : ℕ → NoImage → List ℕ
+why base NoPointer = codes "no RSDP at a multiple of 16 bytes"
+why base (Old at revision) =
+    wrong_at ((base + at) % 2 ^ 64) (codes "an RSDP of revision " ++ decimal revision ++ codes ", which has no XSDT")
+why base (Away address) = text_of (Outside address) ++ is_base_right base address
+why base (Wrong fault) = text_of fault
+
+-- the bytes are an image, and a line for each of its tables was printed
+pub record ListedTables (base : ℕ) (bytes : List ℕ) (out out' err err' : Option (List ℕ)) (status : ℕ) : Type 0 where
+  pub tables : List Located
+  pub found : IsFoundImage base bytes tables
+  pub wrote : Appends out out' (table_lines base bytes tables)
+  pub silent : Keeps err err'
+  pub is : status ≡ 0
+
+-- the bytes aren't an image, and a line says why
+pub record NotListed (file : List ℕ) (base : ℕ) (bytes : List ℕ) (out out' err err' : Option (List ℕ)) (status : ℕ) : Type 0 where
+  pub fault : NoImage
+  pub cause : IsNoImage base bytes fault
+  pub complained : Appends err err' (file ++ codes ": " ++ why base fault ++ 10 ∷ [])
+  pub silent : Keeps out out'
+  pub is : status ≡ 1
+
+-- what comes of the bytes of a file
+abbrev pub ListedBytes : List ℕ → ℕ → List ℕ → Option (List ℕ) → Option (List ℕ) → Option (List ℕ) → Option (List ℕ) → ℕ → Type 0
+ListedBytes file base bytes out out' err err' status =
+    ListedTables base bytes out out' err err' status ⊎ NotListed file base bytes out out' err err' status
+
+-- the file can't be read, and a line says why
+pub record NotRead (file : List ℕ) (out out' err err' : Option (List ℕ)) (status : ℕ) : Type 0 where
+  pub why : List ℕ
+  pub complained : Appends err err' (file ++ codes ": " ++ why ++ 10 ∷ [])
+  pub silent : Keeps out out'
+  pub is : status ≡ 2
+
+-- what comes of a file: the system says which bytes it has
+abbrev pub Listed : List ℕ → ℕ → Option (List ℕ) → Option (List ℕ) → Option (List ℕ) → Option (List ℕ) → ℕ → Type 0
+Listed file base out out' err err' status =
+    ((bytes : List ℕ) × ListedBytes file base bytes out out' err err' status) ⊎ NotRead file out out' err err' status

@@ -1,0 +1,210 @@
+-- What a run prints.
+use Rattle.std.specs.Prelude.{◌≡◌, ◌≢◌, ◌⊎◌, ℕ, max, Bool, true, false, List, [], ◌∷◌, ◌++◌, Option, Some, None, Ok, Err, map}
+use Rattle.std.specs.Prelude.{codes}
+use Rattle.std.specs.Io.KnownBytes.{Appends}
+use Rattle.acpi_dump.specs.Dump.{is_dump, tables_of}
+use Rattle.acpi_dump.specs.Fault.{text_of}
+use Rattle.acpi_dump.specs.declared.fault.DumpFault.{DumpFault}
+use Rattle.acpi_text.specs.Comment.{comment}
+use Rattle.acpi_forms.specs.Kind.{kind_of}
+use Rattle.acpi_read.specs.Report.{printable}
+use Rattle.acpi_rules.specs.Finding.{Finding}
+use Rattle.acpitool_program.specs.Checked.{AreFindings, finding_lines, finding_status}
+use Rattle.acpitool_program.specs.Fault.{line_of}
+use Rattle.acpitool_program.specs.Job.{Job, shows, checks}
+use Rattle.acpitool_program.specs.Structures.{HasFault}
+use Rattle.acpitool_program.specs.Terms.{IsAfter}
+use Rattle.acpitool_program.specs.Text.{IsText, IsTextFault}
+use Rattle.acpitool_program.specs.declared.fault.Fault.{Fault}
+
+-- What comes of a table or of a file that has a name:
+-- - shown: the text of its bytes, after its name if it is one of several, and before further lines, and a fault of its
+--   structures, if there is one;
+-- - checked: the rules that its bytes break, and a fault of its structures, if there is one;
+-- - refused: its bytes aren't what their signature says;
+-- - broken: it is a dump as text, with a line that can't be read;
+-- - unread: it can't be read, and the system says why.
+pub data Outcome : Type 0 where
+  shown : Bool → List ℕ → List ℕ → List ℕ → List ℕ → Option Fault → Outcome
+  checked : List ℕ → List ℕ → List Finding → Option Fault → Outcome
+  refused : List ℕ → List ℕ → Fault → Outcome
+  broken : List ℕ → List ℕ → DumpFault → Outcome
+  unread : List ℕ → List ℕ → Outcome
+
+-- the lines before a text: its name as a comment, if it is one of several
+abbrev pub heading : Bool → List ℕ → List ℕ
+heading true name = comment name
+heading false name = []
+
+-- what goes to standard output
+abbrev pub output : Outcome → List ℕ
+output (shown several name bytes text after fault) = heading several name ++ text ++ after
+output (checked name bytes findings fault) = finding_lines name bytes findings
+output (refused name bytes fault) = []
+output (broken name dump fault) = []
+output (unread name why) = []
+
+-- the line of a fault, if there is one
+abbrev pub fault_line : List ℕ → Option Fault → List ℕ
+fault_line name None = []
+fault_line name (Some fault) = name ++ codes ": " ++ line_of fault ++ 10 ∷ []
+
+-- what goes to standard error
+abbrev pub complaint : Outcome → List ℕ
+complaint (shown several name bytes text after fault) = fault_line name fault
+complaint (checked name bytes findings fault) = fault_line name fault
+complaint (refused name bytes fault) = fault_line name (Some fault)
+complaint (broken name dump fault) = name ++ codes ": " ++ text_of fault ++ 10 ∷ []
+complaint (unread name why) = name ++ codes ": " ++ why ++ 10 ∷ []
+
+abbrev pub fault_status : Option Fault → ℕ
+fault_status None = 0
+fault_status (Some fault) = 1
+
+abbrev pub status : Outcome → ℕ
+status (shown several name bytes text after fault) = fault_status fault
+status (checked name bytes findings fault) = max (finding_status findings) (fault_status fault)
+status (refused name bytes fault) = 1
+status (broken name dump fault) = 1
+status (unread name why) = 2
+
+-- The text shows the bytes, and a definition block's terms follow, in which names take the stated numbers of arguments.
+abbrev pub IsTextFor : Job → List ℕ → List ℕ → List ℕ → Type 0
+IsTextFor (shows stated) bytes text after = IsText bytes text × IsAfter stated bytes after
+IsTextFor checks bytes text after = ⊥
+
+-- These are the rules that the bytes break.
+abbrev pub AreFindingsFor : Job → List ℕ → List Finding → Type 0
+AreFindingsFor (shows stated) bytes found = ⊥
+AreFindingsFor checks bytes found = AreFindings bytes found
+
+-- A table is shown or checked, as it was asked for. The fault is one of the structures or of the bytes, or the first of a dump.
+abbrev pub IsTrueOutcome : Job → Outcome → Type 0
+IsTrueOutcome job (shown several name bytes text after fault) =
+    IsTextFor job bytes text after × HasFault (kind_of bytes) bytes fault
+IsTrueOutcome job (checked name bytes found fault) = AreFindingsFor job bytes found × HasFault (kind_of bytes) bytes fault
+IsTrueOutcome job (refused name bytes fault) = IsTextFault bytes fault
+IsTrueOutcome job (broken name dump fault) = tables_of dump ≡ Err fault
+IsTrueOutcome job (unread name why) = Unit {0}
+
+-- ---- one after another
+
+abbrev pub outputs : List Outcome → List ℕ
+outputs [] = []
+outputs (outcome ∷ more) = output outcome ++ outputs more
+
+abbrev pub complaints : List Outcome → List ℕ
+complaints [] = []
+complaints (outcome ∷ more) = complaint outcome ++ complaints more
+
+-- the greatest status, 0 if all are shown
+abbrev pub worst : List Outcome → ℕ
+worst [] = 0
+worst (outcome ∷ more) = max (status outcome) (worst more)
+
+abbrev pub AreTrueOutcomes : Job → List Outcome → Type 0
+AreTrueOutcomes job [] = Unit {0}
+AreTrueOutcomes job (outcome ∷ more) = IsTrueOutcome job outcome × AreTrueOutcomes job more
+
+-- these outcomes were printed in order, and the worst status was returned
+pub record Printed (job : Job) (outcomes : List Outcome)
+    (out out' err err' : Option (List ℕ)) (returned : ℕ) : Type 0 where
+  pub are : AreTrueOutcomes job outcomes
+  pub wrote : Appends out out' (outputs outcomes)
+  pub complained : Appends err err' (complaints outcomes)
+  pub is : returned ≡ worst outcomes
+
+-- ---- of which bytes
+
+-- the outcome is that of these bytes
+abbrev pub HasBytes : List ℕ → Outcome → Type 0
+HasBytes bytes (shown several name its text after fault) = its ≡ bytes
+HasBytes bytes (checked name its found fault) = its ≡ bytes
+HasBytes bytes (refused name its fault) = its ≡ bytes
+HasBytes bytes (broken name dump fault) = ⊥
+HasBytes bytes (unread name why) = ⊥
+
+-- the outcome has this name, and is that of one of several or not
+abbrev pub IsNamed : Bool → List ℕ → Outcome → Type 0
+IsNamed several name (shown headed its bytes text after fault) = (headed ≡ several) × (its ≡ name)
+IsNamed several name (checked its bytes found fault) = its ≡ name
+IsNamed several name (refused its bytes fault) = its ≡ name
+IsNamed several name (broken its dump fault) = its ≡ name
+IsNamed several name (unread its why) = its ≡ name
+
+-- each outcome is that of its table, which is a name and bytes
+abbrev pub AreEach : Bool → List (List ℕ × List ℕ) → List Outcome → Type 0
+AreEach several [] [] = Unit {0}
+AreEach several (table ∷ tables) (outcome ∷ more) =
+    IsNamed several table.0 outcome × HasBytes table.1 outcome × AreEach several tables more
+AreEach several _ _ = ⊥
+
+-- the outcomes are those of these tables, in order
+pub record AreOfTables (several : Bool) (tables : List (List ℕ × List ℕ)) (outcomes : List Outcome) : Type 0 where
+  pub each : AreEach several tables outcomes
+
+-- the name of a table of a dump: that of the file, and the table's title, in which a question mark stands for what doesn't print
+abbrev pub label : List ℕ → List ℕ → List ℕ
+label name title = name ++ codes ": " ++ map printable title
+
+abbrev pub labelled : List ℕ → List ℕ × List ℕ → List ℕ × List ℕ
+labelled name table = (label name table.0, table.1)
+
+-- a dump has outcomes of its tables, each of which is one of several, or one that says what is wrong with it
+abbrev pub AreOfDump : List ℕ → List ℕ → List Outcome → Type 0
+AreOfDump name dump outcomes =
+    ((tables : List (List ℕ × List ℕ)) × (tables_of dump ≡ Ok tables) × AreOfTables true (map (labelled name) tables) outcomes)
+    ⊎ ((fault : DumpFault) × (outcomes ≡ broken name dump fault ∷ []))
+
+-- other bytes have one outcome
+abbrev pub AreOfBytesBy : Bool → Bool → List ℕ → List ℕ → List Outcome → Type 0
+AreOfBytesBy true several name bytes outcomes = AreOfDump name bytes outcomes
+AreOfBytesBy false several name bytes outcomes = AreOfTables several ((name, bytes) ∷ []) outcomes
+
+-- the outcomes of a file's bytes
+abbrev pub AreOfBytes : Bool → List ℕ → List ℕ → List Outcome → Type 0
+AreOfBytes several name bytes outcomes = AreOfBytesBy (is_dump bytes) several name bytes outcomes
+
+-- ---- of which files
+
+-- the outcome of a file or a folder that can't be read
+abbrev pub IsUnread : List ℕ → List Outcome → Type 0
+IsUnread name outcomes = (why : List ℕ) × (outcomes ≡ unread name why ∷ [])
+
+-- the outcomes of a file: the system says which bytes it has
+abbrev pub AreOfFile : Bool → List ℕ → List Outcome → Type 0
+AreOfFile several name outcomes = ((bytes : List ℕ) × AreOfBytes several name bytes outcomes) ⊎ IsUnread name outcomes
+
+-- each word has a group of outcomes, in order
+abbrev pub AreGroups : (List ℕ → List Outcome → Type 0) → List (List ℕ) → List (List Outcome) → Type 0
+AreGroups Of [] [] = Unit {0}
+AreGroups Of (word ∷ words) (group ∷ groups) = Of word group × AreGroups Of words groups
+AreGroups Of _ _ = ⊥
+
+abbrev pub joined : List (List Outcome) → List Outcome
+joined [] = []
+joined (group ∷ groups) = group ++ joined groups
+
+-- the outcomes are those of each word, one after another
+pub record AreOfEach (Of : List ℕ → List Outcome → Type 0) (words : List (List ℕ)) (outcomes : List Outcome) : Type 0 where
+  pub groups : List (List Outcome)
+  pub each : AreGroups Of words groups
+  pub are : outcomes ≡ joined groups
+
+-- the outcomes of a folder: the system says which files it has
+abbrev pub AreOfFolder : List ℕ → List Outcome → Type 0
+AreOfFolder folder outcomes =
+    ((paths : List (List ℕ)) × AreOfEach (AreOfFile true) paths outcomes) ⊎ IsUnread folder outcomes
+
+-- the outcomes of a word: `-` is standard input, and any other word a file or a folder
+abbrev pub AreOfWord : Bool → List ℕ → List Outcome → Type 0
+AreOfWord several word outcomes = AreOfFile several word outcomes ⊎ ((word ≢ codes "-") × AreOfFolder word outcomes)
+
+-- ---- what calls print
+
+-- outcomes that are these were printed
+pub record PrintedAs (job : Job) (Are : List Outcome → Type 0)
+    (out out' err err' : Option (List ℕ)) (returned : ℕ) : Type 0 where
+  pub outcomes : List Outcome
+  pub are : Are outcomes
+  pub printed : Printed job outcomes out out' err err' returned

@@ -1,0 +1,180 @@
+-- What a run of the program prints.
+use Rattle.std.specs.Prelude.{◌≡◌, ◌≢◌, ◌⊎◌, ℕ, nat_lt, Bool, true, false, List, [], ◌++◌, Option, Some, None, length, codes, map}
+use Rattle.std.specs.Prelude.{string_bytes, if◌then◌else◌}
+use Rattle.std.specs.Str.{bytes_eq}
+use Rattle.std.specs.Io.KnownBytes.{Keeps, Appends}
+use Rattle.std.specs.declared.io.ErrorKind.{ErrorKind}
+use Rattle.std.specs.declared.io.ErrorKind.TheVariants.{BrokenPipe}
+use Rattle.acpi_forms.specs.Known.{is_known, meant}
+use Rattle.acpi_forms.specs.Makes.{IsTemplateOf}
+use Rattle.acpi_input.specs.Stated.{stated}
+use Rattle.acpitool_program.specs.Command.{Asks, IsWrong, IsMisstated}
+use Rattle.acpitool_program.specs.Archiving.{Archives}
+use Rattle.acpitool_program.specs.Disassembly.{DisassemblesFile}
+use Rattle.acpitool_program.specs.Job.{shows, checks}
+use Rattle.acpitool_program.specs.Listing.{Listed}
+use Rattle.acpitool_program.specs.Making.{Makes}
+use Rattle.acpitool_program.specs.Outcome.{AreOfEach, AreOfWord, PrintedAs}
+use Rattle.acpitool_program.specs.Unpacking.{Unpacks}
+use Rattle.acpitool_program.specs.declared.command.Command.{Command}
+use Rattle.acpitool_program.specs.declared.command.Command.TheVariants.{Help, Version, Show, Check, Image, Make, Template}
+use Rattle.acpitool_program.specs.declared.command.Command.TheVariants.{Disassemble, Names, Unpack, Cpio}
+use Rattle.acpitool_program.specs.declared.command.Misstated.TheVariants as misstated
+use Rattle.acpitool_program.specs.declared.disassembly.BlockText.{BlockText}
+use Rattle.acpitool_program.specs.declared.disassembly.BlockText.TheVariants as blocks
+use Rattle.acpitool_program.specs.declared.command.Wrong.{Wrong}
+use Rattle.acpitool_program.specs.declared.command.Wrong.TheVariants.{NoCommand, Unknown, NoFile, NoFileToCheck, NoImage, NoText}
+use Rattle.acpitool_program.specs.declared.command.Wrong.TheVariants.{NoTable, Base, Number, Twice, NoSignature}
+use Rattle.acpitool_program.specs.declared.command.Wrong.TheVariants.{Signature, NoBlock}
+use Rattle.acpitool_program.specs.declared.command.Wrong.TheVariants.{NoPacked, NoFolder, NoTables, NoArchive}
+
+-- ---- how the program is used
+
+abbrev pub usage : List ℕ
+usage =
+    codes "usage: acpitool show FILE .. [NAME=N ..] | check FILE .. | disassemble FILE [NAME=N ..] | names FILE [NAME=N ..]"
+    ++ codes " | image FILE [BASE] | make [--force] TEXT FILE | template SIGNATURE | unpack FILE FOLDER [BASE]"
+    ++ codes " | cpio FOLDER FILE | --help | --version\n"
+
+abbrev pub version : List ℕ
+version = codes "acpitool 0.1.0\n"
+
+-- which word is wrong
+abbrev pub wrong_line : Wrong → List ℕ
+wrong_line NoCommand = codes "acpitool: no command\n"
+wrong_line (Unknown word) = codes "acpitool: unknown word " ++ word.now ++ codes "\n"
+wrong_line NoFile = codes "acpitool: no file to show\n"
+wrong_line NoFileToCheck = codes "acpitool: no file to check\n"
+wrong_line NoImage = codes "acpitool: no file with an image\n"
+wrong_line NoText = codes "acpitool: no text to make\n"
+wrong_line NoTable = codes "acpitool: no file for the table\n"
+wrong_line NoSignature = codes "acpitool: no signature\n"
+wrong_line NoBlock = codes "acpitool: no file with a definition block\n"
+wrong_line NoPacked = codes "acpitool: no file to unpack\n"
+wrong_line NoFolder = codes "acpitool: no folder for the tables\n"
+wrong_line NoTables = codes "acpitool: no folder with tables\n"
+wrong_line NoArchive = codes "acpitool: no file for the archive\n"
+wrong_line (Signature word) = codes "acpitool: not a signature of four characters: " ++ word.now ++ codes "\n"
+wrong_line (Base word) = codes "acpitool: not an address in hexadecimal: " ++ word.now ++ codes "\n"
+wrong_line (Number word) = codes "acpitool: not NAME=N with N from 0 to 7: " ++ word.now ++ codes "\n"
+wrong_line Twice = codes "acpitool: two numbers of arguments for one name\n"
+
+abbrev pub wrong_text : Wrong → List ℕ
+wrong_text wrong = wrong_line wrong ++ usage
+
+-- ---- show
+
+-- words state these numbers of arguments, and each file has its outcomes, which are those of several if there are more files
+pub record AreShown (files numbers : List (List ℕ)) (out out' err err' : Option (List ℕ)) (status : ℕ) : Type 0 where
+  pub all : List (List ℕ × ℕ)
+  pub stated : stated numbers ≡ Some all
+  pub printed : PrintedAs (shows all) (AreOfEach (AreOfWord (nat_lt 1 (length files))) files) out out' err err' status
+
+-- which line says that words state no numbers
+abbrev pub IsMisstatedAs : List (List ℕ) → Wrong → Type 0
+IsMisstatedAs numbers (Number word) = IsMisstated numbers (misstated.Word word)
+IsMisstatedAs numbers Twice = IsMisstated numbers misstated.Twice
+IsMisstatedAs numbers _ = ⊥
+
+-- words state no numbers of arguments, and a line says why
+pub record NotStated (numbers : List (List ℕ)) (out out' err err' : Option (List ℕ)) (status : ℕ) : Type 0 where
+  pub wrong : Wrong
+  pub is_wrong : IsMisstatedAs numbers wrong
+  pub is : status ≡ 2
+  pub complained : Appends err err' (wrong_text wrong)
+  pub silent : Keeps out out'
+
+abbrev pub IsShown : List (List ℕ) → List (List ℕ)
+    → Option (List ℕ) → Option (List ℕ) → Option (List ℕ) → Option (List ℕ) → ℕ → Type 0
+IsShown files numbers out out' err err' status =
+    AreShown files numbers out out' err err' status ⊎ NotStated numbers out out' err err' status
+
+-- ---- check
+
+-- each file has its outcomes
+abbrev pub AreChecked : List (List ℕ) → Option (List ℕ) → Option (List ℕ) → Option (List ℕ) → Option (List ℕ) → ℕ → Type 0
+AreChecked files out out' err err' status =
+    PrintedAs checks (AreOfEach (AreOfWord (nat_lt 1 (length files))) files) out out' err err' status
+
+-- ---- disassemble and names
+
+-- words state these numbers of arguments, and the text of the file's definition block is printed
+pub record IsBlockOf (block : BlockText) (file : List ℕ) (numbers : List (List ℕ))
+    (out out' err err' : Option (List ℕ)) (status : ℕ) : Type 0 where
+  pub all : List (List ℕ × ℕ)
+  pub stated : stated numbers ≡ Some all
+  pub disassembles : DisassemblesFile block all file out out' err err' status
+
+abbrev pub IsBlockShown : BlockText → List ℕ → List (List ℕ)
+    → Option (List ℕ) → Option (List ℕ) → Option (List ℕ) → Option (List ℕ) → ℕ → Type 0
+IsBlockShown block file numbers out out' err err' status =
+    IsBlockOf block file numbers out out' err err' status ⊎ NotStated numbers out out' err err' status
+
+-- ---- template
+
+-- a signature as a word for a shell: that of a pointer ends in a space
+abbrev pub as_word : List ℕ → List ℕ
+as_word signature = if bytes_eq signature (codes "RSD ") then codes "'RSD '" else signature
+
+-- the signature that was probably meant, if there is one
+abbrev pub suggestion : Option (List ℕ) → List ℕ
+suggestion (Some signature) = codes "; did you mean " ++ as_word signature ++ codes "?"
+suggestion None = []
+
+abbrev pub unknown_line : List ℕ → List ℕ
+unknown_line signature = codes "acpitool: no table has the signature " ++ signature ++ suggestion (meant signature) ++ codes "\n"
+
+-- a template of a signature that is known, or a line on one that isn't
+abbrev pub IsTemplated : Bool → List ℕ → Option (List ℕ) → Option (List ℕ) → Option (List ℕ) → Option (List ℕ) → ℕ → Type 0
+IsTemplated true signature out out' err err' status =
+    (text : List ℕ) × (status ≡ 0) × Appends out out' text × Keeps err err' × IsTemplateOf signature text
+IsTemplated false signature out out' err err' status =
+    (status ≡ 1) × Keeps out out' × Appends err err' (unknown_line signature)
+
+-- ---- all commands
+
+-- what a command prints: the usage and more, the version, or what comes of tables and files
+abbrev pub IsDone : Command → Option (List ℕ) → Option (List ℕ) → Option (List ℕ) → Option (List ℕ) → ℕ → Type 0
+IsDone Help out out' err err' status = (more : List ℕ) × (status ≡ 0) × Appends out out' (usage ++ more) × Keeps err err'
+IsDone Version out out' err err' status = (status ≡ 0) × Appends out out' version × Keeps err err'
+IsDone (Show files numbers) out out' err err' status =
+    IsShown (map (λ word. string_bytes word) files.now) (map (λ word. string_bytes word) numbers.now) out out' err err' status
+IsDone (Check files) out out' err err' status = AreChecked (map (λ word. string_bytes word) files.now) out out' err err' status
+IsDone (Image file base) out out' err err' status = Listed file.now base out out' err err' status
+IsDone (Template signature) out out' err err' status =
+    IsTemplated (is_known signature.now) signature.now out out' err err' status
+IsDone (Disassemble file numbers) out out' err err' status =
+    IsBlockShown blocks.Asl file.now (map (λ word. string_bytes word) numbers.now) out out' err err' status
+IsDone (Names file numbers) out out' err err' status =
+    IsBlockShown blocks.Names file.now (map (λ word. string_bytes word) numbers.now) out out' err err' status
+IsDone (Unpack file folder base) out out' err err' status = Unpacks file.now folder.now base out out' err err' status
+IsDone (Cpio folder file) out out' err err' status = Archives folder.now file.now out out' err err' status
+IsDone (Make force text file) out out' err err' status = Makes force text.now file.now out out' err err' status
+
+-- a command that the words ask for was done
+pub record Done (words : List (List ℕ)) (out out' err err' : Option (List ℕ)) (status : ℕ) : Type 0 where
+  pub command : Command
+  pub asked : Asks words command
+  pub done : IsDone command out out' err err' status
+
+-- the words are wrong, and a line says which
+pub record Refused (words : List (List ℕ)) (out out' err err' : Option (List ℕ)) (status : ℕ) : Type 0 where
+  pub wrong : Wrong
+  pub is_wrong : IsWrong words wrong
+  pub is : status ≡ 2
+  pub complained : Appends err err' (wrong_text wrong)
+  pub silent : Keeps out out'
+
+abbrev pub Ended : List (List ℕ) → Option (List ℕ) → Option (List ℕ) → Option (List ℕ) → Option (List ℕ) → ℕ → Type 0
+Ended words out out' err err' status = Done words out out' err err' status ⊎ Refused words out out' err err' status
+
+-- ---- the process
+
+-- the status of an error of the output or of the words: 0 if the reader of the output went away, and 1 otherwise
+abbrev pub IsLost : ErrorKind → ℕ → Type 0
+IsLost kind status = ((kind ≡ BrokenPipe) × (status ≡ 0)) ⊎ ((kind ≢ BrokenPipe) × (status ≡ 1))
+
+-- the run ended as one on some words does, or it had an error
+abbrev pub Started : Option (List ℕ) → Option (List ℕ) → Option (List ℕ) → Option (List ℕ) → ℕ → Type 0
+Started out out' err err' status =
+    ((words : List (List ℕ)) × Ended words out out' err err' status) ⊎ ((kind : ErrorKind) × IsLost kind status)

@@ -1,0 +1,28 @@
+-- The text of a file's bytes.
+use Rattle.std.specs.Prelude.{◌≢◌, ℕ, List}
+use Rattle.acpi_base.specs.Table.{IsTrueTable}
+use Rattle.acpi_forms.specs.Kind.{kind_of, IsTextBy}
+use Rattle.acpi_make.specs.declared.file_kind.FileKind.{FileKind}
+use Rattle.acpi_make.specs.declared.file_kind.FileKind.TheVariants.{Rsdp, Facs, Table}
+use Rattle.acpi_term.specs.declared.read_error.ReadError.{ReadError}
+use Rattle.acpi_term.specs.declared.read_error.ReadError.TheVariants.{Memory}
+use Rattle.acpitool_program.specs.Check.{IsPointer, IsControl}
+use Rattle.acpitool_program.specs.Fault.{IsFaultOf}
+use Rattle.acpitool_program.specs.declared.fault.Fault.{Fault}
+
+-- bytes are what their signature says
+abbrev pub IsKind : FileKind → List ℕ → Type 0
+IsKind Rsdp bytes = IsPointer bytes
+IsKind Facs bytes = IsControl bytes
+IsKind Table bytes = IsTrueTable bytes
+
+-- bytes are what their signature says, and a text shows them
+pub record IsText (bytes text : List ℕ) : Type 0 where
+  pub kind : IsKind (kind_of bytes) bytes
+  pub is : IsTextBy (kind_of bytes) bytes text
+
+-- bytes aren't what their signature says, and a fault says why, or memory ran out
+pub record IsTextFault (bytes : List ℕ) (fault : Fault) : Type 0 where
+  pub error : ReadError
+  pub says : IsFaultOf (kind_of bytes) error fault
+  pub cause : error ≢ Memory → ¬ IsKind (kind_of bytes) bytes

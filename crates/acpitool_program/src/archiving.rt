@@ -1,0 +1,164 @@
+//! The archive from which Linux takes the tables of a folder.
+
+ghost use Rattle.std.specs.Prelude.{◌≡◌, ◌⊎◌, map, string_bytes, IfOk, MatchResult};
+ghost use Rattle.std.specs.Io.KnownBytes.{Keeps};
+ghost use Rattle.acpi_cpio.specs.Archive.{named, tables_archive};
+ghost use Rattle.acpitool_program.specs.Archiving.{name_of, IsTableIn, AreTablesIn, IsRefused, AreRefused, DontFit};
+ghost use Rattle.acpitool_program.specs.Archiving.{ArchivesFiles, Archives};
+ghost use Rattle.acpitool_program.specs.Making.{IsWritten};
+
+use crate::complaint::complain;
+use crate::fault::Fault;
+use crate::files::{files_in, read_file};
+use crate::making::write_table;
+use crate::outcome::tell_unread;
+use acpi_cpio::archive::{ArchivedFile, tables_archive};
+use acpi_cpio::fault::CpioFault;
+use acpi_make::file_kind::FileKind;
+use acpi_read::table::Table;
+use std::alloc::{AllocError, Global};
+use std::io;
+use std::io::Write;
+use std::rt::Files;
+
+// Returns what follows the last slash of a path.
+fn name_of(path: &[u8]) -> &[u8]
+    ensures { result.now ≡ name_of path.now }
+{
+    let mut start = path.len();
+    'steps: while start > 0 && path[start - 1] != b'/' {
+        start -= 1;
+    }
+    &path[start..]
+}
+
+// Returns the name and the bytes of a file that is a table.
+fn archived(alloc: Global, path: &str, bytes: Vec<u8>) -> Result<ArchivedFile, AllocError>
+    ensures { IfOk result (λ file. named file ≡ (name_of path.now, bytes.items)) }
+{
+    Ok(ArchivedFile {
+        name: Vec::from_slice(alloc, name_of(path.as_bytes()))?,
+        contents: bytes,
+    })
+}
+
+// Returns the table of a file that was read, or prints why it is none, and returns the status.
+fn table_of<E: Write>(
+    alloc: Global,
+    path: &str,
+    bytes: Vec<u8>,
+    err: &mut E,
+) -> io::Result<Result<ArchivedFile, u8>>
+    ensures { IfOk result (λ table. MatchResult table
+        (λ table. IsTableIn path.now (named table) × Keeps (E.contents err.old) (E.contents err.new))
+        (λ status. IsRefused path.now (E.contents err.old) (E.contents err.new) status)) }
+{
+    if let Err(error) = Table::check(&bytes) {
+        complain(alloc, path, &Fault::of(FileKind::Table, error), err)?;
+        return Ok(Err(1));
+    }
+    Ok(Ok(archived(alloc, path, bytes)?))
+}
+
+// Returns the table in a file, or prints why there is none, and returns the status.
+fn read_table<R: Files, E: Write>(
+    rt: &R,
+    alloc: Global,
+    path: &str,
+    err: &mut E,
+) -> io::Result<Result<ArchivedFile, u8>>
+    ensures { IfOk result (λ table. MatchResult table
+        (λ table. IsTableIn path.now (named table) × Keeps (E.contents err.old) (E.contents err.new))
+        (λ status. IsRefused path.now (E.contents err.old) (E.contents err.new) status)) }
+{
+    match read_file(rt, alloc, path) {
+        Ok(bytes) => table_of(alloc, path, bytes, err),
+        Err(error) => Ok(Err(tell_unread(alloc, path, &error, err)?)),
+    }
+}
+
+// Returns the tables in files, or prints why the first that isn't one is none, and returns the status.
+fn read_tables<R: Files, E: Write>(
+    rt: &R,
+    alloc: Global,
+    paths: &[String],
+    err: &mut E,
+) -> io::Result<Result<Vec<ArchivedFile>, u8>>
+    ensures { IfOk result (λ all. MatchResult all
+        (λ tables. AreTablesIn (map (λ path. string_bytes path) paths.now) (map named tables.items)
+        × Keeps (E.contents err.old) (E.contents err.new))
+        (λ status. AreRefused (map (λ path. string_bytes path) paths.now) (E.contents err.old) (E.contents err.new) status)) }
+{
+    let mut tables = Vec::new(alloc);
+    'paths: for path in paths {
+        match read_table(rt, alloc, path.as_str(), err)? {
+            Ok(table) => tables.push(table)?,
+            Err(status) => return Ok(Err(status)),
+        }
+    }
+    Ok(Ok(tables))
+}
+
+// Writes the archive of tables, or prints that they don't fit one.
+fn write_archive<R: Files, O: Write, E: Write>(
+    rt: &R,
+    alloc: Global,
+    tables: &[ArchivedFile],
+    file: &str,
+    out: &mut O,
+    err: &mut E,
+) -> io::Result<u8>
+    ensures { IfOk result (λ status.
+        IsWritten (tables_archive (map named tables.now)) file.now (O.contents out.old) (O.contents out.new)
+        (E.contents err.old) (E.contents err.new) status
+        ⊎ DontFit (map named tables.now) file.now (O.contents out.old) (O.contents out.new)
+        (E.contents err.old) (E.contents err.new) status) }
+{
+    match tables_archive(alloc, tables) {
+        Ok(archive) => Ok(write_table(rt, alloc, &archive, file, out, err)?),
+        Err(CpioFault::Memory) => Err(io::Error::from(AllocError)),
+        Err(CpioFault::TooLarge(index)) => {
+            complain(alloc, file, &CpioFault::TooLarge(index), err)?;
+            Ok(1)
+        }
+    }
+}
+
+// Writes the archive of the tables in files.
+fn archive_files<R: Files, O: Write, E: Write>(
+    rt: &R,
+    alloc: Global,
+    paths: &[String],
+    file: &str,
+    out: &mut O,
+    err: &mut E,
+) -> io::Result<u8>
+    ensures { IfOk result (λ status. ArchivesFiles (map (λ path. string_bytes path) paths.now) file.now
+        (O.contents out.old) (O.contents out.new) (E.contents err.old) (E.contents err.new) status) }
+{
+    match read_tables(rt, alloc, paths, err)? {
+        Ok(tables) => Ok(write_archive(rt, alloc, &tables, file, out, err)?),
+        Err(status) => Ok(status),
+    }
+}
+
+/// Writes the archive from which Linux takes the tables of a folder, in the order of their names, to a file, or to standard
+/// output if it is `-`. Each file of the folder has to be a table with the standard header: a line on `err` names the first
+/// that isn't one, and no archive is written. The status is 1 then or if the archive can't be written, and 2 if a file or the
+/// folder can't be read.
+pub fn archive_folder<R: Files + AllocGlobal + Clone + Drop, O: Write, E: Write>(
+    rt: &R,
+    alloc: Global,
+    folder: &str,
+    file: &str,
+    out: &mut O,
+    err: &mut E,
+) -> io::Result<u8>
+    ensures { IfOk result (λ status. Archives folder.now file.now (O.contents out.old) (O.contents out.new)
+        (E.contents err.old) (E.contents err.new) status) }
+{
+    match files_in(rt, alloc, folder) {
+        Ok(paths) => archive_files(rt, alloc, &paths, file, out, err),
+        Err(error) => tell_unread(alloc, folder, &error, err),
+    }
+}

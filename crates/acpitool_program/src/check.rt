@@ -1,0 +1,48 @@
+//! Which bytes are a Root System Description Pointer or a Firmware ACPI Control Structure.
+
+ghost use Rattle.std.specs.Prelude.{◌↔◌, IsOk};
+ghost use Rattle.acpitool_program.specs.Check.{IsPointer, IsControl};
+
+use acpi_read::bytes::{dword_at, sums_to_zero};
+use acpi_term::read_error::ReadError;
+
+/// Returns Ok if bytes are a Root System Description Pointer (ACPI 6.5, 5.2.5.3): 20 bytes of revision 0, or as many as the
+/// length at offset 20 says, of which the first 20 and all sum to zero. The errors: ShortHeader for fewer bytes than these,
+/// TableLength at 20 for another length, Sum at 8 and 32 for the sums.
+pub fn check_pointer(bytes: &[u8]) -> Result<(), ReadError>
+    ensures { IsOk result ↔ IsPointer bytes.now }
+{
+    if bytes.len() < 20 {
+        return Err(ReadError::ShortHeader(bytes.len()));
+    }
+    if !sums_to_zero(&bytes[..20]) {
+        return Err(ReadError::Sum(8));
+    }
+    if bytes[15] < 2 && bytes.len() == 20 {
+        return Ok(());
+    }
+    if bytes.len() < 36 {
+        return Err(ReadError::ShortHeader(bytes.len()));
+    }
+    if dword_at(bytes, 20) as usize != bytes.len() {
+        return Err(ReadError::TableLength(20));
+    }
+    if !sums_to_zero(bytes) {
+        return Err(ReadError::Sum(32));
+    }
+    Ok(())
+}
+
+/// Returns Ok if bytes are a Firmware ACPI Control Structure (ACPI 6.5, 5.2.10): at least 64 bytes, and as many as the length at
+/// offset 4 says. The errors: ShortHeader for fewer bytes, TableLength at 4 for another length.
+pub fn check_control(bytes: &[u8]) -> Result<(), ReadError>
+    ensures { IsOk result ↔ IsControl bytes.now }
+{
+    if bytes.len() < 64 {
+        return Err(ReadError::ShortHeader(bytes.len()));
+    }
+    if dword_at(bytes, 4) as usize != bytes.len() {
+        return Err(ReadError::TableLength(4));
+    }
+    Ok(())
+}

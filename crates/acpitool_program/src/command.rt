@@ -1,0 +1,462 @@
+//! The words of the command line.
+
+ghost use Rattle.std.specs.Prelude.{◌≡◌, ℕ, ◌≤◌, length, nat_eq, if◌then◌else◌, List, ◌∷◌, map, drop, string_bytes, codes};
+ghost use Rattle.std.specs.List.{slice_get};
+ghost use Rattle.std.specs.Prelude.{MatchResult, MatchOption, IfOk, None, Some};
+ghost use Rattle.std.specs.List.{starts_with};
+ghost use Rattle.acpi_input.specs.Stated.{stated};
+ghost use Rattle.acpitool_program.specs.Command.{is_option, is_force, takes, first_option, forces, unforced, has, is_number};
+ghost use Rattle.acpitool_program.specs.Command.{files_in, first_unstated, IsMisstated};
+ghost use Rattle.acpitool_program.specs.Command.{word_of, IsAddress, Asks, IsWrong};
+ghost use Rattle.acpitool_program.specs.declared.command.Verb.TheVariants as verbs;
+
+use acpi_input::stated::{Unstated, arities, stated};
+use acpi_term::name_string::Arities;
+use std::alloc::{AllocError, Global};
+
+/// What the program is asked for.
+#[derive(Debug, Drop)]
+pub enum Command<'a> {
+    /// `--help`, `-h` or `help`: how the program is used.
+    Help,
+    /// `--version`: its version.
+    Version,
+    /// `show FILE .. [NAME=N ..]`: the texts of tables in files, in folders, or on standard input where the word is `-`, and the
+    /// words that state numbers of arguments.
+    Show(&'a [String], &'a [String]),
+    /// `check FILE ..`: the rules that tables in files, in folders, or on standard input where the word is `-`, break.
+    Check(&'a [String]),
+    /// `image FILE [BASE]`: the tables of an image in a file, which begins at the physical address BASE in hexadecimal, or at 0.
+    Image(&'a str, u64),
+    /// `make [--force] TEXT FILE`: the table of a text, which goes to a file. `--force` is there or not.
+    Make(bool, &'a str, &'a str),
+    /// `template SIGNATURE`: a text of a table of the signature, for a start.
+    Template(&'a str),
+    /// `disassemble FILE [NAME=N ..]`: the ASL of a definition block in a file, or on standard input where the word is `-`, and
+    /// the words that state numbers of arguments.
+    Disassemble(&'a str, &'a [String]),
+    /// `names FILE [NAME=N ..]`: the objects that such a definition block makes, and the same words.
+    Names(&'a str, &'a [String]),
+    /// `unpack FILE FOLDER [BASE]`: each table of a dump, or of an image that begins at the physical address BASE in hexadecimal,
+    /// or at 0, to a file of a folder. The file with the dump or the image is standard input where the word is `-`.
+    Unpack(&'a str, &'a str, u64),
+    /// `cpio FOLDER FILE`: the archive from which Linux takes the tables of a folder, to a file, or to standard output where the
+    /// word is `-`.
+    Cpio(&'a str, &'a str),
+}
+
+/// A command that takes words.
+#[derive(Clone, Copy, Debug)]
+pub enum Verb {
+    Show,
+    Check,
+    Image,
+    Make,
+    Template,
+    Disassemble,
+    Names,
+    Unpack,
+    Cpio,
+}
+
+/// Why words ask for nothing.
+#[derive(Debug, Drop)]
+pub enum Wrong<'a> {
+    /// There is no word.
+    NoCommand,
+    /// The word isn't a command or an option.
+    Unknown(&'a str),
+    /// `show` has no file.
+    NoFile,
+    /// `check` has no file.
+    NoFileToCheck,
+    /// `image` has no file.
+    NoImage,
+    /// `make` has no text.
+    NoText,
+    /// `make` has no file for the table.
+    NoTable,
+    /// `template` has no signature.
+    NoSignature,
+    /// `disassemble` or `names` has no file.
+    NoBlock,
+    /// `unpack` has no file.
+    NoPacked,
+    /// `unpack` has no folder.
+    NoFolder,
+    /// `cpio` has no folder.
+    NoTables,
+    /// `cpio` has no file for the archive.
+    NoArchive,
+    /// The word isn't a signature of four bytes.
+    Signature(&'a str),
+    /// The word isn't an address in hexadecimal.
+    Base(&'a str),
+    /// The word isn't NAME=N with a digit from 0 to 7.
+    Number(&'a str),
+    /// Words state two numbers of arguments for one name.
+    Twice,
+}
+
+/// Why words state no numbers of arguments.
+#[derive(Debug, Drop)]
+pub enum Misstated<'a> {
+    /// The word isn't NAME=N with a digit from 0 to 7.
+    Word(&'a str),
+    /// A name is there twice.
+    Twice,
+    /// Memory ran out.
+    Memory,
+}
+
+// Returns whether a word is an option: a dash and more.
+fn is_option(word: &[u8]) -> bool
+    ensures { result ≡ is_option word.now }
+{
+    word.len() > 1 && word[0] == b'-'
+}
+
+// Returns whether a word is `--force`.
+fn is_force(word: &str) -> bool
+    ensures { result ≡ is_force word.now }
+{
+    word == "--force"
+}
+
+// Returns whether a command takes an option.
+fn takes(verb: Verb, word: &str) -> bool
+    ensures { result ≡ takes verb word.now }
+{
+    match verb {
+        Verb::Make => is_force(word),
+        Verb::Show | Verb::Check | Verb::Image | Verb::Template => false,
+        Verb::Disassemble | Verb::Names | Verb::Unpack | Verb::Cpio => false,
+    }
+}
+
+// Returns the first option among words after a command, but for those that it takes.
+fn first_option(verb: Verb, words: &[String]) -> Option<&str>
+    ensures { MatchOption result (first_option verb (map (λ word. string_bytes word) words.now) ≡ None)
+        (λ word. first_option verb (map (λ word. string_bytes word) words.now) ≡ Some word.now) }
+{
+    for word in words {
+        if is_option(word.as_bytes()) && !takes(verb, word.as_str()) {
+            return Some(word.as_str());
+        }
+    }
+    None
+}
+
+// Returns whether one of the words is `--force`.
+fn forces(words: &[String]) -> bool
+    ensures { result ≡ forces (map (λ word. string_bytes word) words.now) }
+{
+    for word in words {
+        if is_force(word.as_str()) {
+            return true;
+        }
+    }
+    false
+}
+
+// Returns the word at an index among those that aren't `--force`.
+fn unforced(words: &[String], index: usize) -> Option<&str>
+    ensures { MatchOption result (slice_get (unforced (map (λ word. string_bytes word) words.now)) index ≡ None)
+        (λ word. slice_get (unforced (map (λ word. string_bytes word) words.now)) index ≡ Some word.now) }
+{
+    let mut left = index;
+    for word in words {
+        if !is_force(word.as_str()) {
+            if left == 0 {
+                return Some(word.as_str());
+            }
+            left -= 1;
+        }
+    }
+    None
+}
+
+// Returns whether a word has a byte.
+fn has(byte: u8, word: &[u8]) -> bool
+    ensures { result ≡ has byte word.now }
+{
+    'bytes: for other in word {
+        if *other == byte {
+            return true;
+        }
+    }
+    false
+}
+
+// Returns whether a word states a number of arguments.
+fn is_number(word: &[u8]) -> bool
+    ensures { result ≡ is_number word.now }
+{
+    has(b'=', word) && !has(b'/', word)
+}
+
+// Returns how many words are files.
+fn files_in(words: &[String]) -> usize
+    ensures is { result ≡ files_in (map (λ word. string_bytes word) words.now) }
+    ensures within { result ≤ length words.now }
+{
+    let mut count = 0;
+    'words: for word in words {
+        if is_number(word.as_bytes()) {
+            return count;
+        }
+        count += 1;
+    }
+    count
+}
+
+// Returns what `show` and these words, which aren't options, ask for.
+fn show(words: &[String]) -> Result<Command<'_>, Wrong<'_>>
+    requires { first_option verbs.Show (map (λ word. string_bytes word) words.now) ≡ None }
+    ensures { (all : List (List ℕ)) → all ≡ codes "show" ∷ map (λ word. string_bytes word) words.now
+        → MatchResult result (Asks all) (IsWrong all) }
+{
+    let count = files_in(words);
+    if count == 0 {
+        return Err(Wrong::NoFile);
+    }
+    let (files, numbers) = words.split_at(count);
+    Ok(Command::Show(files, numbers))
+}
+
+// Returns what `check` and these words, which aren't options, ask for.
+fn check(words: &[String]) -> Result<Command<'_>, Wrong<'_>>
+    requires { first_option verbs.Check (map (λ word. string_bytes word) words.now) ≡ None }
+    ensures { (all : List (List ℕ)) → all ≡ codes "check" ∷ map (λ word. string_bytes word) words.now
+        → MatchResult result (Asks all) (IsWrong all) }
+{
+    if words.is_empty() {
+        return Err(Wrong::NoFileToCheck);
+    }
+    Ok(Command::Check(words))
+}
+
+// Returns the first word that isn't NAME=N.
+fn first_unstated(alloc: Global, words: &[String]) -> Result<Option<&str>, AllocError>
+    ensures { IfOk result (λ found. MatchOption found (first_unstated (map (λ word. string_bytes word) words.now) ≡ None)
+        (λ word. first_unstated (map (λ word. string_bytes word) words.now) ≡ Some word.now)) }
+{
+    'words: for word in words {
+        match stated(alloc, word.as_str()) {
+            Ok(_) => {}
+            Err(Unstated::Word) => return Ok(Some(word.as_str())),
+            Err(Unstated::Memory) => return Err(AllocError),
+        }
+    }
+    Ok(None)
+}
+
+// Returns why words state no numbers of arguments.
+fn why_misstated(alloc: Global, words: &[String]) -> Misstated<'_>
+    requires { stated (map (λ word. string_bytes word) words.now) ≡ None }
+    ensures { IsMisstated (map (λ word. string_bytes word) words.now) result }
+{
+    match first_unstated(alloc, words) {
+        Ok(Some(word)) => Misstated::Word(word),
+        Ok(None) => Misstated::Twice,
+        Err(_) => Misstated::Memory,
+    }
+}
+
+/// Returns the numbers of arguments that words state, each as NAME=N, or why they don't.
+pub fn numbers(alloc: Global, words: &[String]) -> Result<Arities, Misstated<'_>>
+    ensures { MatchResult result (λ numbers. stated (map (λ word. string_bytes word) words.now) ≡ Some numbers)
+        (IsMisstated (map (λ word. string_bytes word) words.now)) }
+{
+    match arities(alloc, words) {
+        Ok(arities) => Ok(arities),
+        Err(Unstated::Word) => Err(why_misstated(alloc, words)),
+        Err(Unstated::Memory) => Err(Misstated::Memory),
+    }
+}
+
+// Returns a word without the `0x` at its front.
+fn without_prefix(word: &str) -> &str
+    ensures { result.now ≡ (if starts_with nat_eq word.now (codes "0x") then drop 2 word.now else word.now) }
+{
+    match word.strip_prefix("0x") {
+        Some(digits) => digits,
+        None => word,
+    }
+}
+
+// Returns the address of a word.
+fn address_of(word: &str) -> Option<u64>
+    ensures { MatchOption result ((base : ℕ) → ¬ IsAddress word.now base) (IsAddress word.now) }
+{
+    match u64::from_str_radix(without_prefix(word), 16) {
+        Ok(address) => Some(address),
+        Err(_) => None,
+    }
+}
+
+// Returns what `image` and these words, which aren't options, ask for.
+fn image(words: &[String]) -> Result<Command<'_>, Wrong<'_>>
+    requires { first_option verbs.Image (map (λ word. string_bytes word) words.now) ≡ None }
+    ensures { (all : List (List ℕ)) → all ≡ codes "image" ∷ map (λ word. string_bytes word) words.now
+        → MatchResult result (Asks all) (IsWrong all) }
+{
+    match words {
+        [] => Err(Wrong::NoImage),
+        [file] => Ok(Command::Image(file.as_str(), 0)),
+        [file, base] => {
+            let word = base.as_str();
+            match address_of(word) {
+                Some(address) => Ok(Command::Image(file.as_str(), address)),
+                None => Err(Wrong::Base(word)),
+            }
+        }
+        [_, _, extra, ..] => Err(Wrong::Unknown(extra.as_str())),
+    }
+}
+
+// Returns what `make` and these words, which aren't options but `--force`, ask for.
+fn make(words: &[String]) -> Result<Command<'_>, Wrong<'_>>
+    requires { first_option verbs.Make (map (λ word. string_bytes word) words.now) ≡ None }
+    ensures { (all : List (List ℕ)) → all ≡ codes "make" ∷ map (λ word. string_bytes word) words.now
+        → MatchResult result (Asks all) (IsWrong all) }
+{
+    let Some(text) = unforced(words, 0) else {
+        return Err(Wrong::NoText);
+    };
+    let Some(file) = unforced(words, 1) else {
+        return Err(Wrong::NoTable);
+    };
+    match unforced(words, 2) {
+        Some(extra) => Err(Wrong::Unknown(extra)),
+        None => Ok(Command::Make(forces(words), text, file)),
+    }
+}
+
+// Returns what `template` and these words, which aren't options, ask for.
+fn template(words: &[String]) -> Result<Command<'_>, Wrong<'_>>
+    requires { first_option verbs.Template (map (λ word. string_bytes word) words.now) ≡ None }
+    ensures { (all : List (List ℕ)) → all ≡ codes "template" ∷ map (λ word. string_bytes word) words.now
+        → MatchResult result (Asks all) (IsWrong all) }
+{
+    match words {
+        [] => Err(Wrong::NoSignature),
+        [signature] => {
+            let word = signature.as_str();
+            if word.len() == 4 {
+                Ok(Command::Template(word))
+            } else {
+                Err(Wrong::Signature(word))
+            }
+        }
+        [_, extra, ..] => Err(Wrong::Unknown(extra.as_str())),
+    }
+}
+
+// Returns what `disassemble` and these words, which aren't options, ask for.
+fn disassemble(words: &[String]) -> Result<Command<'_>, Wrong<'_>>
+    requires { first_option verbs.Disassemble (map (λ word. string_bytes word) words.now) ≡ None }
+    ensures { (all : List (List ℕ)) → all ≡ codes "disassemble" ∷ map (λ word. string_bytes word) words.now
+        → MatchResult result (Asks all) (IsWrong all) }
+{
+    match words {
+        [] => Err(Wrong::NoBlock),
+        [file, numbers @ ..] => Ok(Command::Disassemble(file.as_str(), numbers)),
+    }
+}
+
+// Returns what `names` and these words, which aren't options, ask for.
+fn names(words: &[String]) -> Result<Command<'_>, Wrong<'_>>
+    requires { first_option verbs.Names (map (λ word. string_bytes word) words.now) ≡ None }
+    ensures { (all : List (List ℕ)) → all ≡ codes "names" ∷ map (λ word. string_bytes word) words.now
+        → MatchResult result (Asks all) (IsWrong all) }
+{
+    match words {
+        [] => Err(Wrong::NoBlock),
+        [file, numbers @ ..] => Ok(Command::Names(file.as_str(), numbers)),
+    }
+}
+
+// Returns what `unpack` and these words, which aren't options, ask for.
+fn unpack(words: &[String]) -> Result<Command<'_>, Wrong<'_>>
+    requires { first_option verbs.Unpack (map (λ word. string_bytes word) words.now) ≡ None }
+    ensures { (all : List (List ℕ)) → all ≡ codes "unpack" ∷ map (λ word. string_bytes word) words.now
+        → MatchResult result (Asks all) (IsWrong all) }
+{
+    match words {
+        [] => Err(Wrong::NoPacked),
+        [_] => Err(Wrong::NoFolder),
+        [file, folder] => Ok(Command::Unpack(file.as_str(), folder.as_str(), 0)),
+        [file, folder, base] => {
+            let word = base.as_str();
+            match address_of(word) {
+                Some(address) => Ok(Command::Unpack(file.as_str(), folder.as_str(), address)),
+                None => Err(Wrong::Base(word)),
+            }
+        }
+        [_, _, _, extra, ..] => Err(Wrong::Unknown(extra.as_str())),
+    }
+}
+
+// Returns what `cpio` and these words, which aren't options, ask for.
+fn cpio(words: &[String]) -> Result<Command<'_>, Wrong<'_>>
+    requires { first_option verbs.Cpio (map (λ word. string_bytes word) words.now) ≡ None }
+    ensures { (all : List (List ℕ)) → all ≡ codes "cpio" ∷ map (λ word. string_bytes word) words.now
+        → MatchResult result (Asks all) (IsWrong all) }
+{
+    match words {
+        [] => Err(Wrong::NoTables),
+        [_] => Err(Wrong::NoArchive),
+        [folder, file] => Ok(Command::Cpio(folder.as_str(), file.as_str())),
+        [_, _, extra, ..] => Err(Wrong::Unknown(extra.as_str())),
+    }
+}
+
+// Returns what a command and the words after it ask for.
+fn asked(verb: Verb, words: &[String]) -> Result<Command<'_>, Wrong<'_>>
+    ensures { (all : List (List ℕ)) → all ≡ word_of verb ∷ map (λ word. string_bytes word) words.now
+        → MatchResult result (Asks all) (IsWrong all) }
+{
+    match first_option(verb, words) {
+        Some("--help") => Ok(Command::Help),
+        Some("-h") => Ok(Command::Help),
+        Some(word) => Err(Wrong::Unknown(word)),
+        None => match verb {
+            Verb::Show => show(words),
+            Verb::Check => check(words),
+            Verb::Image => image(words),
+            Verb::Make => make(words),
+            Verb::Template => template(words),
+            Verb::Disassemble => disassemble(words),
+            Verb::Names => names(words),
+            Verb::Unpack => unpack(words),
+            Verb::Cpio => cpio(words),
+        },
+    }
+}
+
+/// Returns the command that words ask for, without the program's name, or which word is wrong.
+pub fn parse(words: &[String]) -> Result<Command<'_>, Wrong<'_>>
+    ensures { MatchResult result (Asks (map (λ word. string_bytes word) words.now))
+        (IsWrong (map (λ word. string_bytes word) words.now)) }
+{
+    let [word, rest @ ..] = words else {
+        return Err(Wrong::NoCommand);
+    };
+    match word.as_str() {
+        "--help" => Ok(Command::Help),
+        "-h" => Ok(Command::Help),
+        "help" => Ok(Command::Help),
+        "--version" => Ok(Command::Version),
+        "show" => asked(Verb::Show, rest),
+        "check" => asked(Verb::Check, rest),
+        "image" => asked(Verb::Image, rest),
+        "make" => asked(Verb::Make, rest),
+        "template" => asked(Verb::Template, rest),
+        "disassemble" => asked(Verb::Disassemble, rest),
+        "names" => asked(Verb::Names, rest),
+        "unpack" => asked(Verb::Unpack, rest),
+        "cpio" => asked(Verb::Cpio, rest),
+        word => Err(Wrong::Unknown(word)),
+    }
+}

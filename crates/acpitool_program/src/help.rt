@@ -1,0 +1,119 @@
+//! How the program is used, and which word is wrong.
+
+ghost use Rattle.std.specs.Prelude.{◌≡◌, ◌++◌, ℕ, List, IfOk, OnOk};
+ghost use Rattle.std.specs.Io.KnownBytes.{Appends};
+ghost use Rattle.acpitool_program.specs.Program.{usage, version, wrong_line, wrong_text};
+
+use crate::command::Wrong;
+use std::io;
+use std::io::Write;
+
+const USAGE: &str = "\
+usage: acpitool show FILE .. [NAME=N ..] | check FILE .. | disassemble FILE [NAME=N ..] | names FILE [NAME=N ..] \
+| image FILE [BASE] | make [--force] TEXT FILE | template SIGNATURE | unpack FILE FOLDER [BASE] \
+| cpio FOLDER FILE | --help | --version
+";
+
+// What `--help`, `-h` and `help` print after the usage.
+const HELP: &str = "
+show prints each table field by field: the offset, the name and the value of each field, and what the value
+means. The text has all bytes of the table. A FILE is a table, an RSDP, a FACS, a dump of tables as text (of
+acpidump), or a folder of such files; - is standard input. The terms of a DSDT or an SSDT follow as comments.
+NAME=N states how many arguments calls of NAME have. Calls of other names have as many as the table states for
+the method of this name, or else none.
+
+check prints a line for each rule of the standard that a table breaks: reserved bits and bytes that aren't zero,
+numbers that are reserved, and numbers outside their range. The line has the offset and the name of the field, its
+bytes, and the section of the standard. FILE is as for show. A rule that a table of another standard breaks is a
+warning, since newer revisions of that standard may allow it.
+
+disassemble prints a DSDT or an SSDT as ASL, the language that compilers take. FILE is its table, or - for
+standard input.
+
+names prints the objects that a DSDT or an SSDT makes when it is loaded, as a tree: the name of each, what it is,
+the number of a method's arguments, and a value that has space in the line, such as that of _HID. FILE is its
+table, or - for standard input.
+
+image finds the RSDP in a file with the bytes of a guest's memory, follows it to all tables, and checks them.
+It prints the address, signature, length and revision of each. BASE is the address of the first byte in
+hexadecimal; it is 0 if there is none. An RSDP of revision 0 or 1 has no XSDT, and isn't followed.
+
+make reads a text that show prints, changed or written by hand, and writes the bytes of its table to FILE.
+Question marks are worked out: the length, the checksum, and how long, how many and of which type structures
+are. Other numbers stay as they are. A line says of a wrong length, count or checksum which would be right, and
+the table isn't written; with --force it is. As TEXT, - is standard input, and as FILE, standard output. TEXT
+and FILE may not be the same file. A regular FILE is replaced as a whole by FILE.part, which may not be there
+before. A device, a pipe or a link stays what it is, and takes the bytes.
+
+template prints such a text of a table: all fields, mostly with zeros, and one structure of each kind. It knows
+the signatures that show knows by name, such as APIC, the MADT's. That of the RSDP is 'RSD '.
+
+unpack writes each table of an image, or of a dump of tables as text, to a file FOLDER/SIGNATURE.aml; further tables
+of a signature have a number, as SSDT1.aml. BASE is that of image, and FOLDER is made if it isn't there. A line says
+the path and the length of each file. A file that is there isn't replaced. As FILE, - is standard input.
+
+cpio writes the archive from which Linux takes tables in its initrd: the files of FOLDER in kernel/firmware/acpi, byte
+for byte as cpio -H newc makes it, with root as owner and the time 0. Each file has to be a table with the standard
+header. As FILE, - is standard output; a regular FILE is replaced as make does it.
+
+The status is 0 if everything is shown or written, 1 if something isn't a table, an image or a text of a table,
+its structures or numbers are wrong, a table breaks a rule, no table has the signature, or output can't be
+written, and 2 if a file can't be read or the words are wrong.
+";
+
+const VERSION: &str = "acpitool 0.1.0\n";
+
+/// Prints how the program is used, and returns 0.
+pub fn print_help<O: Write>(out: &mut O) -> io::Result<u8>
+    ensures { IfOk result (λ status. (more : List ℕ) × (status ≡ 0)
+        × Appends (O.contents out.old) (O.contents out.new) (usage ++ more)) }
+{
+    out.write_all(USAGE.as_bytes())?;
+    out.write_all(HELP.as_bytes())?;
+    Ok(0)
+}
+
+/// Prints the version, and returns 0.
+pub fn print_version<O: Write>(out: &mut O) -> io::Result<u8>
+    ensures { IfOk result (λ status. (status ≡ 0) × Appends (O.contents out.old) (O.contents out.new) version) }
+{
+    out.write_all(VERSION.as_bytes())?;
+    Ok(0)
+}
+
+// Prints which word is wrong.
+fn print_wrong<E: Write>(wrong: &Wrong<'_>, err: &mut E) -> io::Result<()>
+    ensures { OnOk result (Appends (E.contents err.old) (E.contents err.new) (wrong_line wrong.now)) }
+{
+    match wrong {
+        Wrong::NoCommand => err.write_all(b"acpitool: no command\n"),
+        Wrong::NoFile => err.write_all(b"acpitool: no file to show\n"),
+        Wrong::NoFileToCheck => err.write_all(b"acpitool: no file to check\n"),
+        Wrong::NoImage => err.write_all(b"acpitool: no file with an image\n"),
+        Wrong::NoText => err.write_all(b"acpitool: no text to make\n"),
+        Wrong::NoSignature => err.write_all(b"acpitool: no signature\n"),
+        Wrong::NoBlock => err.write_all(b"acpitool: no file with a definition block\n"),
+        Wrong::NoPacked => err.write_all(b"acpitool: no file to unpack\n"),
+        Wrong::NoFolder => err.write_all(b"acpitool: no folder for the tables\n"),
+        Wrong::NoTables => err.write_all(b"acpitool: no folder with tables\n"),
+        Wrong::NoArchive => err.write_all(b"acpitool: no file for the archive\n"),
+        Wrong::Signature(word) => {
+            writeln!(err, "acpitool: not a signature of four characters: {word}")
+        }
+        Wrong::NoTable => err.write_all(b"acpitool: no file for the table\n"),
+        Wrong::Base(word) => writeln!(err, "acpitool: not an address in hexadecimal: {word}"),
+        Wrong::Unknown(word) => writeln!(err, "acpitool: unknown word {word}"),
+        Wrong::Number(word) => writeln!(err, "acpitool: not NAME=N with N from 0 to 7: {word}"),
+        Wrong::Twice => err.write_all(b"acpitool: two numbers of arguments for one name\n"),
+    }
+}
+
+/// Prints which word is wrong and how the program is used, and returns 2.
+pub fn tell_wrong<E: Write>(wrong: &Wrong<'_>, err: &mut E) -> io::Result<u8>
+    ensures { IfOk result (λ status. (status ≡ 2)
+        × Appends (E.contents err.old) (E.contents err.new) (wrong_text wrong.now)) }
+{
+    print_wrong(wrong, err)?;
+    err.write_all(USAGE.as_bytes())?;
+    Ok(2)
+}

@@ -1,0 +1,264 @@
+//! The tables of an image, found from its pointer on.
+
+ghost use Rattle.std.specs.Prelude.{◌≡◌, ◌≢◌, ◌↔◌, ◌^◌, ◌<◌, ℕ, List, IfErr, ◌+◌, ◌-◌, ◌%◌, ◌≤◌, take, drop, IsTrue, IfOk};
+ghost use Rattle.std.specs.Prelude.{OnOk, string_bytes, codes, false, ◌++◌, MatchOption, length};
+ghost use Rattle.std.specs.Fmt.{digits};
+ghost use Rattle.std.specs.Io.KnownBytes.{Appends};
+ghost use Rattle.acpi_layout.specs.Found.{IsImage};
+ghost use Rattle.acpi_base.specs.Bytes.{field_at};
+ghost use Rattle.acpi_layout.specs.FaultText.{text_of};
+ghost use Rattle.acpi_layout.specs.declared.fault.ImageFault.TheVariants.{Memory, Outside};
+ghost use Rattle.acpi_layout.specs.declared.located.Located.{Located};
+ghost use Rattle.acpitool_program.specs.Image.{IsPointerAt, IsFirstPointer, HasNoPointer, IsFoundImage};
+ghost use Rattle.acpitool_program.specs.Listing.{IsWhyNone, IsNoImage, is_base_right, why};
+ghost use Rattle.acpitool_program.specs.Image.{revision_offset, revision_of, table_line, table_lines};
+
+use crate::check::check_pointer;
+use acpi_layout::check::check_image;
+use acpi_layout::fault::ImageFault;
+use acpi_layout::located::Located;
+use acpi_read::bytes::qword_at;
+use acpi_read::report::{push_number, push_shown};
+use std::alloc::{AllocError, Global};
+use std::io;
+use std::io::Write;
+
+// Returns the bytes that a pointer of a size at an offset has.
+fn pointer_at(bytes: &[u8], at: usize, size: usize) -> &[u8]
+    requires { at + size ≤ length bytes.now }
+    ensures { result.now ≡ take size (drop at bytes.now) }
+{
+    &bytes[at..at + size]
+}
+
+// Returns whether a pointer of a size is at an offset, which is a multiple of 16.
+fn is_pointer_at(bytes: &[u8], at: usize, size: usize) -> bool
+    requires whole { at + size ≤ length bytes.now }
+    requires aligned { at % 16 ≡ 0 }
+    ensures { IsTrue result ↔ IsPointerAt size bytes.now at }
+{
+    let pointer = pointer_at(bytes, at, size);
+    pointer.starts_with(b"RSD PTR ") && check_pointer(pointer).is_ok()
+}
+
+/// Why the tables of an image can't be listed.
+#[derive(Clone, Copy, Debug)]
+pub enum NoImage {
+    /// There is no Root System Description Pointer.
+    NoPointer,
+    /// The first one is at this offset, and has only the address of an RSDT.
+    Old { at: usize, revision: u8 },
+    /// The XSDT isn't in the image at this address, which is that of the pointer.
+    Away(u64),
+    /// What the pointer leads to is wrong.
+    Wrong(ImageFault),
+}
+
+/// Returns the offset of the first Root System Description Pointer of a size, at multiples of 16 (ACPI 6.5, 5.2.5.1).
+pub fn find_pointer(bytes: &[u8], size: usize) -> Option<usize>
+    requires { 0 < size }
+    ensures { MatchOption result (HasNoPointer size bytes.now) (IsFirstPointer size bytes.now) }
+{
+    let mut at = 0;
+    'steps: while at < bytes.len() && size <= bytes.len() - at {
+        if is_pointer_at(bytes, at, size) {
+            return Some(at);
+        }
+        at += 16;
+    }
+    None
+}
+
+// Returns the offset of a table's revision.
+fn revision_offset(signature: [u8; 4]) -> usize
+    ensures { result ≡ revision_offset signature }
+{
+    match &signature {
+        b"RSD " => 15,
+        b"FACS" => 32,
+        _ => 8,
+    }
+}
+
+// Returns the bytes from an address on, or none if it is after them.
+fn bytes_from(base: u64, bytes: &[u8], address: u64) -> &[u8]
+    ensures { result.now ≡ drop (address - base) bytes.now }
+{
+    let start = address.saturating_sub(base);
+    if start < bytes.len() as u64 {
+        &bytes[start as usize..]
+    } else {
+        &bytes[bytes.len()..]
+    }
+}
+
+fn revision_of(base: u64, bytes: &[u8], table: &Located) -> u8
+    ensures { result ≡ revision_of base bytes.now table.now }
+{
+    let bytes = bytes_from(base, bytes, table.address);
+    match bytes.get(revision_offset(table.signature)) {
+        Some(revision) => *revision,
+        None => 0,
+    }
+}
+
+// Returns an address in hexadecimal.
+fn address_text(alloc: Global, address: u64) -> Result<String, AllocError>
+    ensures { IfOk result (λ text. string_bytes text ≡ codes "0x" ++ digits 16 false address) }
+{
+    format!(in alloc; "0x{address:x}")
+}
+
+// Returns the line of a table: its address, signature, length and revision.
+fn line(alloc: Global, base: u64, bytes: &[u8], table: &Located) -> Result<String, AllocError>
+    ensures { IfOk result (λ text. string_bytes text ≡ table_line base bytes.now table.now) }
+{
+    let mut text = address_text(alloc, table.address)?;
+    text.push_str(" ")?;
+    push_shown(&table.signature, &mut text)?;
+    push_number(" length ", u64::from(table.length), &mut text)?;
+    let revision = revision_of(base, bytes, table);
+    push_number(" revision ", u64::from(revision), &mut text)?;
+    text.push_str("\n")?;
+    Ok(text)
+}
+
+// Prints the line of a table.
+fn print_table<O: Write>(
+    alloc: Global,
+    base: u64,
+    bytes: &[u8],
+    table: &Located,
+    out: &mut O,
+) -> io::Result<()>
+    ensures { OnOk result (Appends (O.contents out.old) (O.contents out.new) (table_line base bytes.now table.now)) }
+{
+    let text = line(alloc, base, bytes, table)?;
+    out.write_all(text.as_bytes())
+}
+
+/// Prints a line for each table: its address, signature, length and revision.
+pub fn print_tables<O: Write>(
+    alloc: Global,
+    base: u64,
+    bytes: &[u8],
+    tables: &[Located],
+    out: &mut O,
+) -> io::Result<()>
+    ensures { OnOk result (Appends (O.contents out.old) (O.contents out.new) (table_lines base bytes.now tables.now)) }
+{
+    'tables: for table in tables {
+        print_table(alloc, base, bytes, table, out)?;
+    }
+    Ok(())
+}
+
+// Returns the tables that a pointer at an offset leads to.
+fn tables_from(
+    alloc: Global,
+    base: u64,
+    bytes: &[u8],
+    at: usize,
+) -> Result<Vec<Located>, ImageFault>
+    ensures ok { IfOk result (λ tables. (base + at < 2 ^ 64) × IsImage bytes.now base (base + at) tables.items) }
+    ensures err { IfErr result (λ e. e ≢ Memory → (tables : List Located) → base + at < 2 ^ 64
+        → ¬ IsImage bytes.now base (base + at) tables) }
+{
+    match base.checked_add(at as u64) {
+        Some(address) => match check_image(alloc, bytes, base, address) {
+            Ok(tables) => Ok(tables),
+            Err(fault) => Err(fault),
+        },
+        None => Err(ImageFault::Outside(base)),
+    }
+}
+
+// Returns why bytes have no pointer to an XSDT.
+fn no_pointer(bytes: &[u8]) -> NoImage
+    requires { HasNoPointer 36 bytes.now }
+    ensures { (base : ℕ) → IsNoImage base bytes.now result }
+{
+    match find_pointer(bytes, 20) {
+        Some(at) => NoImage::Old {
+            at,
+            revision: bytes[at + 15],
+        },
+        None => NoImage::NoPointer,
+    }
+}
+
+// Returns the address of the XSDT in a pointer at an offset.
+fn xsdt_address(bytes: &[u8], at: usize) -> u64
+    requires { at + 36 ≤ length bytes.now }
+    ensures { result ≡ field_at (at + 24) 8 bytes.now }
+{
+    qword_at(bytes, at + 24)
+}
+
+// Returns why the pointer at an offset leads to no tables.
+fn why_none(bytes: &[u8], at: usize, fault: ImageFault) -> NoImage
+    requires { at + 36 ≤ length bytes.now }
+    ensures { IsWhyNone bytes.now at fault result }
+{
+    match fault {
+        ImageFault::Outside(address) => {
+            if address == xsdt_address(bytes, at) {
+                NoImage::Away(address)
+            } else {
+                NoImage::Wrong(fault)
+            }
+        }
+        fault => NoImage::Wrong(fault),
+    }
+}
+
+/// Returns the tables of an image that begins at the physical address `base`, from its first pointer on, or why there are none.
+pub fn find_tables(alloc: Global, base: u64, bytes: &[u8]) -> Result<Vec<Located>, NoImage>
+    ensures ok { IfOk result (λ tables. IsFoundImage base bytes.now tables.items) }
+    ensures err { IfErr result (IsNoImage base bytes.now) }
+{
+    let Some(at) = find_pointer(bytes, 36) else {
+        return Err(no_pointer(bytes));
+    };
+    match tables_from(alloc, base, bytes, at) {
+        Ok(tables) => Ok(tables),
+        Err(fault) => Err(why_none(bytes, at, fault)),
+    }
+}
+
+// Returns what is asked if the XSDT isn't in the image.
+fn is_base_right(alloc: Global, base: u64, address: u64) -> Result<String, AllocError>
+    ensures { IfOk result (λ text. string_bytes text ≡ is_base_right base address) }
+{
+    if base == 0 {
+        format!(in alloc; " (is BASE right? the RSDP points to 0x{address:x})")
+    } else {
+        Ok(String::new(alloc))
+    }
+}
+
+// Returns that the XSDT isn't in the image, as text.
+fn why_away(alloc: Global, base: u64, address: u64) -> Result<String, AllocError>
+    ensures { IfOk result (λ text. string_bytes text ≡ text_of (Outside address) ++ is_base_right base address) }
+{
+    let fault = ImageFault::Outside(address);
+    let mut text = format!(in alloc; "{fault}")?;
+    let more = is_base_right(alloc, base, address)?;
+    text.push_str(more.as_str())?;
+    Ok(text)
+}
+
+/// Returns why there is no image that begins at the physical address `base`, as text.
+pub fn why(alloc: Global, base: u64, fault: &NoImage) -> Result<String, AllocError>
+    ensures { IfOk result (λ text. string_bytes text ≡ why base fault.now) }
+{
+    match fault {
+        NoImage::NoPointer => format!(in alloc; "no RSDP at a multiple of 16 bytes"),
+        NoImage::Old { at, revision } => {
+            let address = base.wrapping_add(*at as u64);
+            format!(in alloc; "at 0x{address:x}: an RSDP of revision {revision}, which has no XSDT")
+        }
+        NoImage::Away(address) => why_away(alloc, base, *address),
+        NoImage::Wrong(fault) => format!(in alloc; "{fault}"),
+    }
+}

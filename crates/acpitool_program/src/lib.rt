@@ -1,0 +1,25 @@
+//! The program `acpitool` without its arguments and its exit.
+#![tactic(auto)]
+
+pub mod archiving;
+pub mod check;
+pub mod checked;
+pub mod command;
+pub mod complaint;
+pub mod disassembly;
+pub mod fault;
+pub mod files;
+pub mod help;
+pub mod hint;
+pub mod image;
+pub mod job;
+pub mod laws;
+pub mod listing;
+pub mod making;
+pub mod outcome;
+pub mod program;
+pub mod show;
+pub mod structures;
+pub mod terms;
+pub mod text;
+pub mod unpacking;

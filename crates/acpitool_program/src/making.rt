@@ -1,0 +1,288 @@
+//! Texts that are made into tables.
+
+ghost use Rattle.std.specs.Prelude.{◌≡◌, ◌≢◌, ◌⊎◌, ◌++◌, [], true, false, None, IfOk, OnOk, MatchResult, string_bytes};
+ghost use Rattle.std.specs.Bool.{MatchBool};
+ghost use Rattle.std.specs.Option.{option_map};
+ghost use Rattle.std.specs.Io.KnownBytes.{Appends};
+ghost use Rattle.acpitool_program.specs.Making.{note, notes, IsChecked, warnings, held_line, IsJudged, same_line};
+ghost use Rattle.acpitool_program.specs.Making.{not_made, MadeOrNot, Saved, NotSaved};
+ghost use Rattle.acpitool_program.specs.Making.{IsWritten, MakesText, MakesWord, Makes};
+
+use crate::complaint::complain;
+use crate::fault::Fault;
+use crate::files::{read_word, write_file};
+use crate::hint::{meant_in, push_hint};
+use crate::outcome::{tell_fault, tell_unread};
+use crate::structures::wrong_with;
+use acpi_forms::make::make;
+use acpi_make::fault::{Fault as TextFault, MakeError};
+use acpi_make::own::Own;
+use std::alloc::{AllocError, Global};
+use std::io;
+use std::io::{ErrorKind, Input, Write};
+use std::rt::Files;
+
+// Prints a number that a text states otherwise, and the number that would be right.
+fn print_note<E: Write>(name: &str, own: &Own, err: &mut E) -> io::Result<()>
+    ensures { OnOk result (Appends (E.contents err.old) (E.contents err.new) (note name.now own.now)) }
+{
+    let (offset, number) = (own.offset, own.number);
+    writeln!(
+        err,
+        "{name}: note: {number} would be right at offset {offset}"
+    )
+}
+
+// Prints the numbers that a text states otherwise.
+fn print_notes<E: Write>(name: &str, owns: &[Own], err: &mut E) -> io::Result<()>
+    ensures { OnOk result (Appends (E.contents err.old) (E.contents err.new) (notes name.now owns.now)) }
+{
+    'owns: for own in owns {
+        print_note(name, own, err)?;
+    }
+    Ok(())
+}
+
+// Returns what is wrong with a table whose numbers are right.
+fn check(alloc: Global, owns: &[Own], bytes: &[u8]) -> Result<Option<Fault>, AllocError>
+    ensures { IfOk result (IsChecked owns.now bytes.now) }
+{
+    match owns {
+        [] => wrong_with(alloc, bytes),
+        _ => Ok(None),
+    }
+}
+
+// Prints the notes on a table, and what is wrong with it.
+fn warn<E: Write>(
+    alloc: Global,
+    name: &str,
+    owns: &[Own],
+    fault: &Option<Fault>,
+    err: &mut E,
+) -> io::Result<()>
+    ensures { OnOk result (Appends (E.contents err.old) (E.contents err.new) (warnings name.now owns.now fault.now)) }
+{
+    print_notes(name, owns, err)?;
+    tell_fault(alloc, name, fault, err)?;
+    Ok(())
+}
+
+// Prints the notes on a table, what is wrong with it, and that it isn't written.
+fn tell_held<E: Write>(
+    alloc: Global,
+    name: &str,
+    owns: &[Own],
+    fault: &Option<Fault>,
+    err: &mut E,
+) -> io::Result<()>
+    ensures { OnOk result (Appends (E.contents err.old) (E.contents err.new)
+        (warnings name.now owns.now fault.now ++ held_line name.now)) }
+{
+    warn(alloc, name, owns, fault, err)?;
+    writeln!(err, "{name}: not written (--force writes it)")
+}
+
+// Returns whether a table isn't written.
+fn is_held(force: bool, owns: &[Own], fault: &Option<Fault>) -> bool
+    ensures { MatchBool result (((owns.now ≢ []) ⊎ (fault.now ≢ None)) × (force ≡ false))
+        ((force ≡ true) ⊎ ((owns.now ≡ []) × (fault.now ≡ None))) }
+{
+    !force && (!owns.is_empty() || fault.is_some())
+}
+
+// Prints the notes on a made table, or else what is wrong with it, and returns whether it is to be written: without force only if
+// there is nothing to print.
+fn judge<E: Write>(
+    alloc: Global,
+    force: bool,
+    name: &str,
+    owns: &[Own],
+    bytes: &[u8],
+    err: &mut E,
+) -> io::Result<bool>
+    ensures { IfOk result (IsJudged force name.now owns.now bytes.now (E.contents err.old) (E.contents err.new)) }
+{
+    let fault = check(alloc, owns, bytes)?;
+    if is_held(force, owns, &fault) {
+        tell_held(alloc, name, owns, &fault, err)?;
+        return Ok(false);
+    }
+    warn(alloc, name, owns, &fault, err)?;
+    Ok(true)
+}
+
+// Returns why a text isn't made into a table, and which signature was probably meant.
+fn why_not_made(alloc: Global, wrong: &TextFault, text: &[u8]) -> Result<String, AllocError>
+    ensures { IfOk result (λ why. string_bytes why ≡ not_made wrong.now text.now) }
+{
+    let mut why = wrong.explain(alloc, text)?;
+    let signature = meant_in(alloc, wrong.wanted, text)?;
+    push_hint(&signature, &mut why)?;
+    Ok(why)
+}
+
+/// Makes a text into a table, and returns the table's bytes if they are to be written. A line on `err` says of each number that
+/// isn't right which would be, or else what is wrong with the table: such a table is only written by force. Or a line says why
+/// the text isn't made into a table. An error is that of `err`, or memory ran out.
+pub fn make_text<E: Write>(
+    alloc: Global,
+    force: bool,
+    name: &str,
+    text: &[u8],
+    err: &mut E,
+) -> io::Result<Option<Vec<u8>>>
+    ensures { IfOk result (λ table. MadeOrNot force name.now text.now (option_map (λ bytes. bytes.items) table)
+        (E.contents err.old) (E.contents err.new)) }
+{
+    match make(alloc, text) {
+        Ok(made) => {
+            if judge(alloc, force, name, &made.untrue, &made.bytes, err)? {
+                Ok(Some(made.bytes))
+            } else {
+                Ok(None)
+            }
+        }
+        Err(MakeError::Memory) => Err(io::Error::from(AllocError)),
+        Err(MakeError::Fault(wrong)) => {
+            let why = why_not_made(alloc, &wrong, text)?;
+            complain(alloc, name, &why, err)?;
+            Ok(None)
+        }
+    }
+}
+
+// Returns why a file can't be written. Of all files only FILE.part has to be new.
+fn why_unwritten(alloc: Global, file: &str, error: &io::Error) -> Result<String, AllocError> {
+    match error.kind() {
+        ErrorKind::AlreadyExists => {
+            format!(in alloc; "{file}.part exists; remove it if no other run is writing it")
+        }
+        _ => format!(in alloc; "{error}"),
+    }
+}
+
+// Prints why a file can't be written, and returns 1, or returns 0 if it was written.
+fn tell_written<E: Write>(
+    alloc: Global,
+    file: &str,
+    written: io::Result<()>,
+    err: &mut E,
+) -> io::Result<u8>
+    ensures { IfOk result (λ status. MatchResult written
+        (λ _. Saved (E.contents err.old) (E.contents err.new) status)
+        (λ _. NotSaved file.now (E.contents err.old) (E.contents err.new) status)) }
+{
+    match written {
+        Ok(()) => Ok(0),
+        Err(error) => {
+            let why = why_unwritten(alloc, file, &error)?;
+            complain(alloc, file, &why, err)?;
+            Ok(1)
+        }
+    }
+}
+
+// Writes a table to a file, and returns 0, or prints why it can't be written, and returns 1.
+fn save<R: Files, E: Write>(
+    rt: &R,
+    alloc: Global,
+    bytes: &[u8],
+    file: &str,
+    err: &mut E,
+) -> io::Result<u8>
+    ensures { IfOk result (λ status. Saved (E.contents err.old) (E.contents err.new) status
+        ⊎ NotSaved file.now (E.contents err.old) (E.contents err.new) status) }
+{
+    tell_written(alloc, file, write_file(rt, alloc, file, bytes), err)
+}
+
+/// Writes a table to standard output if the file is `-`, and else to the file.
+pub fn write_table<R: Files, O: Write, E: Write>(
+    rt: &R,
+    alloc: Global,
+    bytes: &[u8],
+    file: &str,
+    out: &mut O,
+    err: &mut E,
+) -> io::Result<u8>
+    ensures { IfOk result (λ status. IsWritten bytes.now file.now (O.contents out.old) (O.contents out.new)
+        (E.contents err.old) (E.contents err.new) status) }
+{
+    match file {
+        "-" => {
+            out.write_all(bytes)?;
+            Ok(0)
+        }
+        file => save(rt, alloc, bytes, file, err),
+    }
+}
+
+// Makes a text into a table, and writes it. A table whose numbers are wrong is only written by force.
+fn make_bytes<R: Files, O: Write, E: Write>(
+    rt: &R,
+    alloc: Global,
+    force: bool,
+    name: &str,
+    text: &[u8],
+    file: &str,
+    out: &mut O,
+    err: &mut E,
+) -> io::Result<u8>
+    ensures { IfOk result (λ status. MakesText force name.now text.now file.now (O.contents out.old) (O.contents out.new)
+        (E.contents err.old) (E.contents err.new) status) }
+{
+    match make_text(alloc, force, name, text, err)? {
+        Some(bytes) => write_table(rt, alloc, &bytes, file, out, err),
+        None => Ok(1),
+    }
+}
+
+// Makes the text in a file, or on standard input, into a table.
+fn make_word<R: Files + Input, O: Write, E: Write>(
+    rt: &R,
+    alloc: Global,
+    force: bool,
+    name: &str,
+    file: &str,
+    out: &mut O,
+    err: &mut E,
+) -> io::Result<u8>
+    ensures { IfOk result (λ status. MakesWord force name.now file.now (O.contents out.old) (O.contents out.new)
+        (E.contents err.old) (E.contents err.new) status) }
+{
+    match read_word(rt, alloc, name) {
+        Ok(text) => make_bytes(rt, alloc, force, name, &text, file, out, err),
+        Err(error) => tell_unread(alloc, name, &error, err),
+    }
+}
+
+// Prints that a table would replace its text, and returns 1.
+fn tell_same<E: Write>(name: &str, err: &mut E) -> io::Result<u8>
+    ensures { IfOk result (λ status. (status ≡ 1)
+        × Appends (E.contents err.old) (E.contents err.new) (same_line name.now)) }
+{
+    writeln!(err, "{name}: the table would replace its text")?;
+    Ok(1)
+}
+
+/// Makes the text in a file, or on standard input, into a table, and writes it to another file, or to standard output. A table
+/// whose numbers are wrong is only written by force. A table doesn't replace its text: two words for one file are refused if they
+/// are the same, and aren't `-`.
+pub fn make_file<R: Files + Input, O: Write, E: Write>(
+    rt: &R,
+    alloc: Global,
+    force: bool,
+    name: &str,
+    file: &str,
+    out: &mut O,
+    err: &mut E,
+) -> io::Result<u8>
+    ensures { IfOk result (λ status. Makes force name.now file.now (O.contents out.old) (O.contents out.new)
+        (E.contents err.old) (E.contents err.new) status) }
+{
+    if file == name && file != "-" {
+        return tell_same(name, err);
+    }
+    make_word(rt, alloc, force, name, file, out, err)
+}

@@ -1,0 +1,252 @@
+//! What is printed of one table or one file.
+
+ghost use Rattle.std.specs.Prelude.{◌≡◌, ℕ, List, [], ◌∷◌, ◌++◌, map, IfOk, OnOk, string_bytes, codes, true, max};
+ghost use Rattle.std.specs.Io.KnownBytes.{Appends};
+ghost use Rattle.acpi_dump.specs.Dump.{titled, is_dump, tables_of};
+ghost use Rattle.acpitool_program.specs.Job.{shows, checks, asked};
+ghost use Rattle.acpitool_program.specs.Outcome.{heading, fault_line, fault_status, label, labelled};
+ghost use Rattle.acpitool_program.specs.Outcome.{AreOfTables, AreOfDump, AreOfBytes, PrintedAs};
+
+use crate::checked::{findings_of, lines_of, status_of};
+use crate::complaint::complain;
+use crate::fault::Fault;
+use crate::job::Job;
+use crate::structures::structures_fault;
+use crate::terms::lines_after;
+use crate::text::text_of;
+use acpi_dump::dump::{Dumped, is_dump, tables_of};
+use acpi_dump::fault::DumpFault;
+use acpi_read::report::push_shown;
+use acpi_term::name_string::Arities;
+use acpi_text::comment::push_comment;
+use std::alloc::{AllocError, Global};
+use std::io;
+use std::io::Write;
+
+// Returns the lines before a table's text: its name as a comment, if it is one of several.
+fn heading(alloc: Global, name: &str, several: bool) -> Result<String, AllocError>
+    ensures { IfOk result (λ before. string_bytes before ≡ heading several name.now) }
+{
+    let mut text = String::new(alloc);
+    if !several {
+        return Ok(text);
+    }
+    push_comment(name, &mut text)?;
+    Ok(text)
+}
+
+// Prints a table's text, and the lines before and after it.
+fn print_text<O: Write>(before: &str, text: &str, after: &str, out: &mut O) -> io::Result<()>
+    ensures { OnOk result (Appends (O.contents out.old) (O.contents out.new) (before.now ++ text.now ++ after.now)) }
+{
+    out.write_all(before.as_bytes())?;
+    out.write_all(text.as_bytes())?;
+    out.write_all(after.as_bytes())
+}
+
+/// Prints a fault, if there is one, and returns 1, or returns 0.
+pub fn tell_fault<E: Write>(
+    alloc: Global,
+    name: &str,
+    fault: &Option<Fault>,
+    err: &mut E,
+) -> io::Result<u8>
+    ensures is { IfOk result (λ status. status ≡ fault_status fault.now) }
+    ensures line { OnOk result (Appends (E.contents err.old) (E.contents err.new) (fault_line name.now fault.now)) }
+{
+    match fault {
+        Some(fault) => {
+            complain(alloc, name, fault, err)?;
+            Ok(1)
+        }
+        None => Ok(0),
+    }
+}
+
+// Prints the text of a table, a pointer or a control structure on `out`, and the terms of a definition block after it. Prints on
+// `err` what is wrong with its structures, or why it isn't shown. Returns 0 or 1.
+fn show_table<O: Write, E: Write>(
+    alloc: Global,
+    stated: &Arities,
+    name: &str,
+    bytes: &[u8],
+    several: bool,
+    out: &mut O,
+    err: &mut E,
+) -> io::Result<u8>
+    ensures { IfOk result (λ status. PrintedAs (shows stated.now) (AreOfTables several ((name.now, bytes.now) ∷ []))
+        (O.contents out.old) (O.contents out.new) (E.contents err.old) (E.contents err.new) status) }
+{
+    match text_of(alloc, bytes) {
+        Ok(text) => {
+            let before = heading(alloc, name, several)?;
+            let after = lines_after(alloc, stated, bytes)?;
+            let fault = structures_fault(alloc, bytes)?;
+            print_text(before.as_str(), text.as_str(), after.as_str(), out)?;
+            Ok(tell_fault(alloc, name, &fault, err)?)
+        }
+        Err(fault) => {
+            complain(alloc, name, &fault, err)?;
+            Ok(1)
+        }
+    }
+}
+
+// Prints a line on `out` for each rule that a table, a pointer or a control structure breaks. Prints on `err` what is wrong
+// with its structures, or why it isn't checked. Returns 0 or 1.
+fn check_table<O: Write, E: Write>(
+    alloc: Global,
+    name: &str,
+    bytes: &[u8],
+    several: bool,
+    out: &mut O,
+    err: &mut E,
+) -> io::Result<u8>
+    ensures { IfOk result (λ status. PrintedAs checks (AreOfTables several ((name.now, bytes.now) ∷ []))
+        (O.contents out.old) (O.contents out.new) (E.contents err.old) (E.contents err.new) status) }
+{
+    match findings_of(alloc, bytes) {
+        Ok(findings) => {
+            let lines = lines_of(alloc, name, bytes, &findings)?;
+            let fault = structures_fault(alloc, bytes)?;
+            out.write_all(lines.as_bytes())?;
+            let told = tell_fault(alloc, name, &fault, err)?;
+            Ok(worst_of(status_of(&findings), told))
+        }
+        Err(fault) => {
+            complain(alloc, name, &fault, err)?;
+            Ok(1)
+        }
+    }
+}
+
+// Prints the text of a table, or the rules that it breaks.
+fn print_table<O: Write, E: Write>(
+    alloc: Global,
+    job: &Job<'_>,
+    name: &str,
+    bytes: &[u8],
+    several: bool,
+    out: &mut O,
+    err: &mut E,
+) -> io::Result<u8>
+    ensures { IfOk result (λ status. PrintedAs (asked job.now) (AreOfTables several ((name.now, bytes.now) ∷ []))
+        (O.contents out.old) (O.contents out.new) (E.contents err.old) (E.contents err.new) status) }
+{
+    match *job {
+        Job::Shows(stated) => Ok(show_table(alloc, stated, name, bytes, several, out, err)?),
+        Job::Checks => Ok(check_table(alloc, name, bytes, several, out, err)?),
+    }
+}
+
+/// Returns the greater status.
+pub fn worst_of(a: u8, b: u8) -> u8
+    ensures { result ≡ max a b }
+{
+    if a < b { b } else { a }
+}
+
+// Returns the name of a table of a dump: that of the file, and the table's title.
+fn label(alloc: Global, name: &str, title: &[u8]) -> Result<String, AllocError>
+    ensures { IfOk result (λ text. string_bytes text ≡ label name.now title.now) }
+{
+    let mut text = String::from_str(alloc, name)?;
+    text.push_str(": ")?;
+    push_shown(title, &mut text)?;
+    Ok(text)
+}
+
+// Shows or checks a table of a dump.
+fn show_dumped<O: Write, E: Write>(
+    alloc: Global,
+    job: &Job<'_>,
+    name: &str,
+    table: &Dumped,
+    out: &mut O,
+    err: &mut E,
+) -> io::Result<u8>
+    ensures { IfOk result (λ status. PrintedAs (asked job.now) (AreOfTables true (labelled name.now (titled table.now) ∷ []))
+        (O.contents out.old) (O.contents out.new) (E.contents err.old) (E.contents err.new) status) }
+{
+    let label = label(alloc, name, &table.title)?;
+    Ok(print_table(alloc, job, label.as_str(), &table.bytes, true, out, err)?)
+}
+
+// Shows or checks the tables of a dump, and returns the greatest status.
+fn show_tables<O: Write, E: Write>(
+    alloc: Global,
+    job: &Job<'_>,
+    name: &str,
+    tables: &[Dumped],
+    out: &mut O,
+    err: &mut E,
+) -> io::Result<u8>
+    ensures { IfOk result (λ status. PrintedAs (asked job.now)
+        (AreOfTables true (map (λ table. labelled name.now (titled table)) tables.now))
+        (O.contents out.old) (O.contents out.new) (E.contents err.old) (E.contents err.new) status) }
+{
+    let mut worst = 0;
+    'tables: for table in tables {
+        let status = show_dumped(alloc, job, name, table, out, err)?;
+        worst = worst_of(worst, status);
+    }
+    Ok(worst)
+}
+
+// Shows or checks the tables of a dump, or prints which of its lines can't be read.
+fn show_dump<O: Write, E: Write>(
+    alloc: Global,
+    job: &Job<'_>,
+    name: &str,
+    dump: &[u8],
+    out: &mut O,
+    err: &mut E,
+) -> io::Result<u8>
+    requires { is_dump dump.now ≡ true }
+    ensures { IfOk result (λ status. PrintedAs (asked job.now) (AreOfDump name.now dump.now)
+        (O.contents out.old) (O.contents out.new) (E.contents err.old) (E.contents err.new) status) }
+{
+    match tables_of(alloc, dump) {
+        Ok(tables) => Ok(show_tables(alloc, job, name, &tables, out, err)?),
+        Err(DumpFault::Memory) => Err(io::Error::from(AllocError)),
+        Err(fault) => {
+            complain(alloc, name, &fault, err)?;
+            Ok(1)
+        }
+    }
+}
+
+/// Shows or checks what is in a file: a table, a pointer, a control structure, or the tables of a dump. What can't be shown has a
+/// line on `err`, and so has a table whose structures can't be found. Returns 0 or 1.
+pub fn show_content<O: Write, E: Write>(
+    alloc: Global,
+    job: &Job<'_>,
+    name: &str,
+    bytes: &[u8],
+    several: bool,
+    out: &mut O,
+    err: &mut E,
+) -> io::Result<u8>
+    ensures { IfOk result (λ status. PrintedAs (asked job.now) (AreOfBytes several name.now bytes.now)
+        (O.contents out.old) (O.contents out.new) (E.contents err.old) (E.contents err.new) status) }
+{
+    if is_dump(bytes) {
+        return Ok(show_dump(alloc, job, name, bytes, out, err)?);
+    }
+    Ok(print_table(alloc, job, name, bytes, several, out, err)?)
+}
+
+/// Prints why a file can't be read, and returns 2.
+pub fn tell_unread<E: Write>(
+    alloc: Global,
+    file: &str,
+    error: &io::Error,
+    err: &mut E,
+) -> io::Result<u8>
+    ensures is { IfOk result (λ status. status ≡ 2) }
+    ensures line { OnOk result ((why : List ℕ) × Appends (E.contents err.old) (E.contents err.new)
+        (file.now ++ codes ": " ++ why ++ 10 ∷ [])) }
+{
+    complain(alloc, file, error, err)?;
+    Ok(2)
+}

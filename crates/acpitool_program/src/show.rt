@@ -1,0 +1,161 @@
+//! Tables that are shown: of files, of folders, and of standard input.
+
+ghost use Rattle.std.specs.Prelude.{true, IfOk, IfErr, map, string_bytes};
+ghost use Rattle.acpitool_program.specs.Job.{asked};
+ghost use Rattle.acpitool_program.specs.Outcome.{IsUnread, AreOfBytes, AreOfFile, AreOfEach, AreOfFolder, AreOfWord, PrintedAs};
+ghost use Rattle.acpitool_program.specs.Program.{IsShown, AreChecked};
+
+use crate::command::{Misstated, Wrong, numbers};
+use crate::files::{files_in, is_folder, read_file, read_word};
+use crate::help::tell_wrong;
+use crate::job::Job;
+use crate::outcome::{show_content, tell_unread, worst_of};
+use std::alloc::{AllocError, Global};
+use std::io;
+use std::io::{Input, Write};
+use std::rt::Files;
+
+// Shows the bytes of a file, if it could be read.
+fn show_bytes<O: Write, E: Write>(
+    alloc: Global,
+    job: &Job<'_>,
+    name: &str,
+    read: io::Result<Vec<u8>>,
+    several: bool,
+    out: &mut O,
+    err: &mut E,
+) -> io::Result<u8>
+    ensures file { IfOk result (λ status. IfOk read (λ bytes. PrintedAs (asked job.now) (AreOfBytes several name.now bytes.items)
+        (O.contents out.old) (O.contents out.new) (E.contents err.old) (E.contents err.new) status)) }
+    ensures unread { IfOk result (λ status. IfErr read (λ _. PrintedAs (asked job.now) (IsUnread name.now)
+        (O.contents out.old) (O.contents out.new) (E.contents err.old) (E.contents err.new) status)) }
+    ensures any { IfOk result (λ status. PrintedAs (asked job.now) (AreOfFile several name.now)
+        (O.contents out.old) (O.contents out.new) (E.contents err.old) (E.contents err.new) status) }
+{
+    match read {
+        Ok(bytes) => Ok(show_content(alloc, job, name, &bytes, several, out, err)?),
+        Err(error) => Ok(tell_unread(alloc, name, &error, err)?),
+    }
+}
+
+// Shows files, one after another, and returns the greatest status.
+fn show_files<R: Files, O: Write, E: Write>(
+    rt: &R,
+    alloc: Global,
+    job: &Job<'_>,
+    paths: &[String],
+    out: &mut O,
+    err: &mut E,
+) -> io::Result<u8>
+    ensures { IfOk result (λ status. PrintedAs (asked job.now)
+        (AreOfEach (AreOfFile true) (map (λ path. string_bytes path) paths.now))
+        (O.contents out.old) (O.contents out.new) (E.contents err.old) (E.contents err.new) status) }
+{
+    let mut worst = 0;
+    for path in paths {
+        let name = path.as_str();
+        let read = read_file(rt, alloc, name);
+        let status = show_bytes(alloc, job, name, read, true, out, err)?;
+        worst = worst_of(worst, status);
+    }
+    Ok(worst)
+}
+
+// Shows the files of a folder.
+fn show_folder<R: Files + AllocGlobal + Clone + Drop, O: Write, E: Write>(
+    rt: &R,
+    alloc: Global,
+    job: &Job<'_>,
+    folder: &str,
+    out: &mut O,
+    err: &mut E,
+) -> io::Result<u8>
+    ensures { IfOk result (λ status. PrintedAs (asked job.now) (AreOfFolder folder.now)
+        (O.contents out.old) (O.contents out.new) (E.contents err.old) (E.contents err.new) status) }
+{
+    match files_in(rt, alloc, folder) {
+        Ok(paths) => Ok(show_files(rt, alloc, job, &paths, out, err)?),
+        Err(error) => Ok(tell_unread(alloc, folder, &error, err)?),
+    }
+}
+
+// Shows what a word of `show` names: a file, the files of a folder, or standard input.
+fn show_word<R: Files + Input + AllocGlobal + Clone + Drop, O: Write, E: Write>(
+    rt: &R,
+    alloc: Global,
+    job: &Job<'_>,
+    word: &str,
+    several: bool,
+    out: &mut O,
+    err: &mut E,
+) -> io::Result<u8>
+    ensures { IfOk result (λ status. PrintedAs (asked job.now) (AreOfWord several word.now)
+        (O.contents out.old) (O.contents out.new) (E.contents err.old) (E.contents err.new) status) }
+{
+    if is_folder(rt, word) {
+        return Ok(show_folder(rt, alloc, job, word, out, err)?);
+    }
+    let read = read_word(rt, alloc, word);
+    Ok(show_bytes(alloc, job, word, read, several, out, err)?)
+}
+
+// Shows what the files of `show` name, in order, and returns the greatest status.
+fn show_words<R: Files + Input + AllocGlobal + Clone + Drop, O: Write, E: Write>(
+    rt: &R,
+    alloc: Global,
+    job: &Job<'_>,
+    files: &[String],
+    several: bool,
+    out: &mut O,
+    err: &mut E,
+) -> io::Result<u8>
+    ensures { IfOk result (λ status. PrintedAs (asked job.now)
+        (AreOfEach (AreOfWord several) (map (λ file. string_bytes file) files.now))
+        (O.contents out.old) (O.contents out.new) (E.contents err.old) (E.contents err.new) status) }
+{
+    let mut worst = 0;
+    for word in files {
+        let status = show_word(rt, alloc, job, word.as_str(), several, out, err)?;
+        worst = worst_of(worst, status);
+    }
+    Ok(worst)
+}
+
+/// Shows what the files of `show` name, if the other words state numbers of arguments.
+pub fn show_all<R: Files + Input + AllocGlobal + Clone + Drop, O: Write, E: Write>(
+    rt: &R,
+    alloc: Global,
+    files: &[String],
+    words: &[String],
+    out: &mut O,
+    err: &mut E,
+) -> io::Result<u8>
+    ensures { IfOk result (λ status. IsShown
+        (map (λ word. string_bytes word) files.now) (map (λ word. string_bytes word) words.now)
+        (O.contents out.old) (O.contents out.new) (E.contents err.old) (E.contents err.new) status) }
+{
+    match numbers(alloc, words) {
+        Ok(stated) => {
+            let several = files.len() > 1;
+            Ok(show_words(rt, alloc, &Job::Shows(&stated), files, several, out, err)?)
+        }
+        Err(Misstated::Word(word)) => Ok(tell_wrong(&Wrong::Number(word), err)?),
+        Err(Misstated::Twice) => Ok(tell_wrong(&Wrong::Twice, err)?),
+        Err(Misstated::Memory) => Err(io::Error::from(AllocError)),
+    }
+}
+
+/// Checks what files name, and returns the greatest status.
+pub fn check_all<R: Files + Input + AllocGlobal + Clone + Drop, O: Write, E: Write>(
+    rt: &R,
+    alloc: Global,
+    files: &[String],
+    out: &mut O,
+    err: &mut E,
+) -> io::Result<u8>
+    ensures { IfOk result (λ status. AreChecked (map (λ word. string_bytes word) files.now)
+        (O.contents out.old) (O.contents out.new) (E.contents err.old) (E.contents err.new) status) }
+{
+    let several = files.len() > 1;
+    Ok(show_words(rt, alloc, &Job::Checks, files, several, out, err)?)
+}

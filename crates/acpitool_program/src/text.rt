@@ -1,0 +1,49 @@
+//! The text of a file's bytes.
+
+ghost use Rattle.std.specs.Prelude.{◌≡◌, string_bytes, IfOk, IfErr};
+ghost use Rattle.acpi_term.specs.declared.read_error.ReadError.TheVariants.{Memory};
+ghost use Rattle.acpi_make.specs.declared.file_kind.FileKind.TheVariants as kinds;
+ghost use Rattle.acpitool_program.specs.Fault.{IsFaultOf};
+ghost use Rattle.acpitool_program.specs.Text.{IsText, IsTextFault};
+
+use crate::check::{check_control, check_pointer};
+use crate::fault::Fault;
+use acpi_base::error::R;
+use acpi_forms::kind::kind_of;
+use acpi_forms::show::{show, show_facs, show_rsdp};
+use acpi_make::file_kind::FileKind;
+use acpi_read::table::Table;
+use acpi_term::read_error::ReadError;
+use std::alloc::Global;
+
+// Returns a text, or that memory ran out, which is the only error of a text.
+fn made(text: R<String>) -> Result<String, Fault>
+    ensures ok { IfOk result (λ made. text ≡ Ok made) }
+    ensures err { IfErr result (IsFaultOf kinds.Table Memory) }
+{
+    match text {
+        Ok(text) => Ok(text),
+        Err(_) => Err(Fault::of(FileKind::Table, ReadError::Memory)),
+    }
+}
+
+/// Returns the text of a table, a pointer or a control structure. An error says what is wrong with the bytes, and where.
+pub fn text_of(alloc: Global, bytes: &[u8]) -> Result<String, Fault>
+    ensures ok { IfOk result (λ text. IsText bytes.now (string_bytes text)) }
+    ensures err { IfErr result (IsTextFault bytes.now) }
+{
+    match kind_of(bytes) {
+        FileKind::Rsdp => match check_pointer(bytes) {
+            Ok(()) => made(show_rsdp(alloc, bytes)),
+            Err(error) => Err(Fault::of(FileKind::Rsdp, error)),
+        },
+        FileKind::Facs => match check_control(bytes) {
+            Ok(()) => made(show_facs(alloc, bytes)),
+            Err(error) => Err(Fault::of(FileKind::Facs, error)),
+        },
+        FileKind::Table => match Table::check(bytes) {
+            Ok(table) => made(show(alloc, &table)),
+            Err(error) => Err(Fault::of(FileKind::Table, error)),
+        },
+    }
+}

@@ -1,6 +1,0 @@
-use Rattle.std.proofs.Common.{◌≡◌, drop}
-use Rattle.acpitool_run.specs.Command.{has}
-use Rattle.acpitool_run.proofs.command.has.Given as goal
-
-abbrev pub invariant-bytes : goal.invariant-bytes
-invariant-bytes l = has l.byte (drop l.other-index l.word) ≡ has l.byte l.word

@@ -1,5 +1,0 @@
-use Rattle.acpitool_run.proofs.Commands.{ask_for_one}
-use Rattle.acpitool_run.proofs.laws.ask_for_one.Goals as goal
-
-pub returns : goal.returns
-returns c = ask_for_one

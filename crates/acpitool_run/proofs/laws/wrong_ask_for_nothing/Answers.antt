@@ -1,5 +1,0 @@
-use Rattle.acpitool_run.proofs.Wrongs.{wrong_ask_for_nothing}
-use Rattle.acpitool_run.proofs.laws.wrong_ask_for_nothing.Goals as goal
-
-pub returns : goal.returns
-returns c = wrong_ask_for_nothing

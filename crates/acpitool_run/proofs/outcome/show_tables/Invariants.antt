@@ -1,9 +1,0 @@
-use Rattle.std.proofs.Common.{true, take, map}
-use Rattle.acpi_dump.specs.Dump.{titled}
-use Rattle.acpitool_run.specs.Outcome.{labelled, AreOfTables, PrintedAs}
-use Rattle.acpitool_run.proofs.outcome.show_tables.Given as goal
-
-abbrev pub invariant-tables : goal.invariant-tables
-invariant-tables g l =
-    PrintedAs l.stated (AreOfTables true (map (λ table. labelled l.name (titled table)) (take l.table-index l.tables)))
-    (g.O.Write.contents l.initial.out) (g.O.Write.contents l.out) (g.E.Write.contents l.initial.err) (g.E.Write.contents l.err) l.worst

@@ -1,8 +1,0 @@
-use Rattle.std.proofs.Common.{take, map, string_bytes}
-use Rattle.acpitool_run.specs.Outcome.{AreOfWord, AreOfEach, PrintedAs}
-use Rattle.acpitool_run.proofs.show.show_words.Given as goal
-
-abbrev pub invariant-loop-word : goal.invariant-loop-word
-invariant-loop-word g l =
-    PrintedAs l.stated (AreOfEach (AreOfWord l.several) (map (λ word. string_bytes word) (take l.word-index l.files)))
-    (g.O.Write.contents l.initial.out) (g.O.Write.contents l.out) (g.E.Write.contents l.initial.err) (g.E.Write.contents l.err) l.worst

@@ -1,0 +1,148 @@
+//! Makes every call that can grow a vector, and makes it again if it was refused memory. Then it prints how many bytes the calls
+//! made, the sum of these bytes, and how many calls returned that memory ran out. The first two are the same for each growth that
+//! is refused, if only one is. The third is then 1, or 0 if a list was only to give back room.
+//!
+//! These bytes are counted, in this order:
+//!
+//! - each type of `fill_lists`, `fill_others` and `fill_arm`, once for each of its `WAYS`: `empty`, after five calls of `grow` in
+//!   this way. `grow` of MADT in way 1 adds one structure in all, since a MADT has one IMSIC at most;
+//! - the error data entry with five objects of three bytes, and the three clones (`errors`);
+//! - each object of `part`, `aml` and `operators`, once;
+//! - the image, twice (`image`);
+//! - the reports of three lists of terms, an XSDT's report of its header, its whole report, and its two entries, and
+//!   the structure of a GTDT (`reading`).
+//!
+//! The first two numbers follow from the layouts in `docs/FORMATS.md` and `docs/AML.md`, and from the values in these modules.
+//! For example, an XSDT of five entries 0x1234 has 36 + 5 * 8 = 76 bytes. Without the checksum their sum is 2524 for the header
+//! and 5 * (0x34 + 0x12) = 350 for the entries. The checksum raises 2874 to the next multiple of 256, which is 3072. When a call
+//! is added here, the bytes that it makes are computed in this way and added to these numbers of `stdout`.
+#![tactic(auto)]
+
+mod aml;
+mod arm;
+mod blocks;
+mod cxl;
+mod errors;
+mod fault;
+mod image;
+mod lists;
+mod matrices;
+mod nodes;
+mod operators;
+mod reading;
+mod trial;
+
+use crate::fault::Fault;
+use crate::trial::Trial;
+use acpi_tables::R;
+use acpi_tables::aml::PackageBuilder;
+use acpi_tables::cedt::{CEDT, XorInterleaveMath};
+use acpi_tables::dbg2::DBG2;
+use acpi_tables::gtdt::{GTDT, GtBlock};
+use acpi_tables::hest::HEST;
+use acpi_tables::hmat::{HMAT, MemorySideCache};
+use acpi_tables::iort::{
+    IORT, ItsGroup, NamedComponent, ReservedMemory, RootComplex, Smmu, SmmuV3,
+};
+use acpi_tables::madt::MADT;
+use acpi_tables::mcfg::MCFG;
+use acpi_tables::pptt::PPTT;
+use acpi_tables::rhct::RHCT;
+use acpi_tables::rimt::RIMT;
+use acpi_tables::rqsc::{QoSController, RQSC};
+use acpi_tables::sdt::Sdt;
+use acpi_tables::srat::SRAT;
+use acpi_tables::viot::VIOT;
+use acpi_tables::xsdt::XSDT;
+use std::alloc::Global;
+use test_support::written;
+
+fn main(rt: HostRuntime) -> Result<(), Fault> {
+    let mut trial = Trial::new(rt.alloc())?;
+    fill_lists(&mut trial, rt.alloc())?;
+    fill_others(&mut trial, rt.alloc())?;
+    fill_arm(&mut trial, rt.alloc())?;
+    errors::entry(&mut trial, rt.alloc())?;
+    errors::clones(&mut trial, rt.alloc())?;
+    make_objects(&mut trial, rt.alloc())?;
+    image::images(&mut trial, rt.alloc())?;
+    reading::bytecode(&mut trial, rt.alloc())?;
+    reading::tables(&mut trial, rt.alloc())?;
+    reading::further_table(&mut trial, rt.alloc())?;
+    let tally = trial.tally;
+    println!(rt;
+        "{} bytes, sum {}, calls out of memory: {}",
+        tally.length, tally.sum, tally.refusals
+    )?;
+    Ok(())
+}
+
+fn fill_lists(trial: &mut Trial, alloc: Global) -> Result<(), Fault> {
+    trial.fill::<XSDT>(alloc)?;
+    trial.fill::<MCFG>(alloc)?;
+    trial.fill::<MADT>(alloc)?;
+    trial.fill::<SRAT>(alloc)?;
+    trial.fill::<CEDT>(alloc)?;
+    trial.fill::<XorInterleaveMath>(alloc)?;
+    trial.fill::<HEST>(alloc)?;
+    trial.fill::<RQSC>(alloc)?;
+    trial.fill::<QoSController>(alloc)
+}
+
+fn fill_others(trial: &mut Trial, alloc: Global) -> Result<(), Fault> {
+    trial.fill::<PPTT>(alloc)?;
+    trial.fill::<RHCT>(alloc)?;
+    trial.fill::<VIOT>(alloc)?;
+    trial.fill::<RIMT>(alloc)?;
+    trial.fill::<HMAT>(alloc)?;
+    trial.fill::<MemorySideCache>(alloc)?;
+    trial.fill::<Sdt>(alloc)?;
+    trial.fill::<PackageBuilder>(alloc)
+}
+
+fn fill_arm(trial: &mut Trial, alloc: Global) -> Result<(), Fault> {
+    trial.fill::<GtBlock>(alloc)?;
+    trial.fill::<GTDT>(alloc)?;
+    trial.fill::<DBG2>(alloc)?;
+    trial.fill::<ItsGroup>(alloc)?;
+    trial.fill::<NamedComponent>(alloc)?;
+    trial.fill::<RootComplex>(alloc)?;
+    trial.fill::<Smmu>(alloc)?;
+    trial.fill::<SmmuV3>(alloc)?;
+    trial.fill::<ReservedMemory>(alloc)?;
+    trial.fill::<IORT>(alloc)
+}
+
+// Structures and tables that are made whole by one call.
+fn part(alloc: Global, which: u8) -> R<Vec<u8>> {
+    match which {
+        0 => written(alloc, &cxl::window(alloc)?),
+        1 => written(alloc, &matrices::latencies(alloc)?),
+        _ => written(alloc, &matrices::distances(alloc)?),
+    }
+}
+
+fn make_objects(trial: &mut Trial, alloc: Global) -> Result<(), Fault> {
+    let child = 0x0102_0304u32;
+    trial.all(&child, 3, |which: u8| part(alloc, which))?;
+    trial.all(
+        &child,
+        aml::NAMED,
+        |which: u8| aml::named(alloc, &child, which),
+    )?;
+    trial.all(
+        &child,
+        aml::FRAMED,
+        |which: u8| aml::framed(alloc, &child, which),
+    )?;
+    trial.all(
+        &child,
+        aml::DATA,
+        |which: u8| aml::data(alloc, &child, which),
+    )?;
+    trial.all(
+        &child,
+        operators::OPERATORS,
+        |which: u8| operators::operator(alloc, &child, which),
+    )
+}

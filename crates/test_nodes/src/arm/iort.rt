@@ -1,0 +1,717 @@
+//! IORT and its nodes.
+
+use acpi_base::error::{Error, R};
+use acpi_base::object::Aml;
+use acpi_tables::iort::{
+    AccessAttributes, Httu, IORT, IdMapping, ItsGroup, MemoryAccess, MemoryRange, Monitored,
+    NamedComponent, Output, Pmcg, ReservedMemory, RootComplex, Smmu, SmmuInterrupt, SmmuModel,
+    SmmuV3, SmmuV3Model,
+};
+use std::alloc::Global;
+use std::test::Fail;
+use test_support::table::all_stand;
+use test_support::{OEM, OEM_REVISION, OEM_TABLE, all, equal, refuses, sized, writes};
+
+fn table(alloc: Global) -> IORT {
+    IORT::new(alloc, OEM, OEM_TABLE, OEM_REVISION)
+}
+
+// A mapping to an ITS group that is the first node of a table.
+fn mapping(alloc: Global) -> R<IdMapping> {
+    let services = table(alloc).add_its_group(ItsGroup::new(alloc))?;
+    Ok(IdMapping::new(
+        0x0403_0201,
+        0x0807_0605,
+        0x0c0b_0a09,
+        Output::ItsGroup(services),
+    ))
+}
+
+const MAPPING: &[u8] = b"\x01\x02\x03\x04\x05\x06\x07\x08\x09\x0a\x0b\x0c\x30\0\0\0\0\0\0\0";
+
+#[test]
+fn mappings_and_ranges(rt: HostRuntime) -> Result<(), Fail> {
+    let alloc = rt.alloc();
+    let mapping = mapping(alloc)?;
+    let mut services = ItsGroup::new(alloc);
+    services.add_its(0x0403_0201)?;
+    services.add_its(0)?;
+    equal(&services.service_count(), &2)?;
+    all(
+        alloc,
+        &[
+            (&mapping, MAPPING),
+            (
+                &mapping.single().single(),
+                b"\x01\x02\x03\x04\x05\x06\x07\x08\x09\x0a\x0b\x0c\x30\0\0\0\x01\0\0\0",
+            ),
+            (
+                &MemoryRange::new(0x0807_0605_0403_0201, 0x1817_1615_1413_1211),
+                b"\x01\x02\x03\x04\x05\x06\x07\x08\x11\x12\x13\x14\x15\x16\x17\x18\0\0\0\0",
+            ),
+            (
+                &SmmuInterrupt::new(0x0403_0201),
+                b"\x01\x02\x03\x04\0\0\0\0",
+            ),
+            (
+                &SmmuInterrupt::new(0x0403_0201)
+                    .edge_triggered()
+                    .edge_triggered(),
+                b"\x01\x02\x03\x04\x01\0\0\0",
+            ),
+            (
+                &ItsGroup::new(alloc),
+                b"\0\x14\0\x01\0\0\0\0\0\0\0\0\0\0\0\0\0\0\0\0",
+            ),
+            (
+                &services,
+                b"\0\x1c\0\x01\0\0\0\0\0\0\0\0\0\0\0\0\x02\0\0\0\x01\x02\x03\x04\0\0\0\0",
+            ),
+        ],
+    )
+}
+
+// Fails unless an object writes these bytes, with those numbers at their offsets.
+fn changed(
+    alloc: Global,
+    aml: &dyn Aml,
+    plain: &[u8],
+    changes: &[(usize, u8)],
+) -> Result<(), Fail> {
+    let mut wanted = Vec::from_slice(alloc, plain)?;
+    for (at, number) in changes {
+        if *at < wanted.len() {
+            wanted[*at] = *number;
+        }
+    }
+    writes(alloc, aml, &wanted)
+}
+
+// A component without a name. Its flags are at offset 16, and its accesses at offset 20.
+const COMPONENT: [u8; 32] =
+    *b"\x01\x20\0\x04\0\0\0\0\0\0\0\0\0\0\0\0\0\0\0\0\0\0\0\0\0\0\0\0\0\0\0\0";
+
+fn accesses(alloc: Global, access: MemoryAccess, changes: &[(usize, u8)]) -> Result<(), Fail> {
+    let component = NamedComponent::new(alloc, String::new(alloc)).memory_access(access);
+    changed(alloc, &component, &COMPONENT, changes)
+}
+
+// Flags that are set again stay as they are.
+#[test]
+fn flags_of_components(rt: HostRuntime) -> Result<(), Fail> {
+    let component = NamedComponent::new(rt.alloc(), String::new(rt.alloc()));
+    let component = component.substream_width(31).stall_supported();
+    changed(rt.alloc(), &component, &COMPONENT, &[(16, 0x3f)])?;
+    let component = component.substream_width(20);
+    changed(rt.alloc(), &component, &COMPONENT, &[(16, 0x29)])
+}
+
+#[test]
+fn memory_accesses(rt: HostRuntime) -> Result<(), Fail> {
+    let access = MemoryAccess::new();
+    let hints = access
+        .transient()
+        .write_allocate()
+        .read_allocate()
+        .hints_override();
+    let full = hints
+        .cache_coherent()
+        .coherent_path()
+        .cacheable_attributes();
+    let again = full.write_allocate().read_allocate().hints_override();
+    let again = again.transient().cacheable_attributes().coherent_path();
+    let rows: [(MemoryAccess, &[(usize, u8)]); 10] = [
+        (access, &[]),
+        (access.cache_coherent(), &[(20, 1)]),
+        (access.transient(), &[(24, 1)]),
+        (access.write_allocate(), &[(24, 2)]),
+        (access.read_allocate(), &[(24, 4)]),
+        (access.hints_override(), &[(24, 8)]),
+        (access.coherent_path(), &[(27, 1)]),
+        (access.cacheable_attributes(), &[(27, 2)]),
+        (full, &[(20, 1), (24, 15), (27, 3)]),
+        (again, &[(20, 1), (24, 15), (27, 3)]),
+    ];
+    for (access, changes) in &rows {
+        accesses(rt.alloc(), *access, *changes)?;
+    }
+    Ok(())
+}
+
+fn root(alloc: Global, node: RootComplex, changes: &[(usize, u8)]) -> Result<(), Fail> {
+    let plain =
+        b"\x02\x28\0\x04\0\0\0\0\0\0\0\0\0\0\0\0\0\0\0\0\0\0\0\0\0\0\0\0\0\0\0\0\0\0\0\0\0\0\0\0";
+    changed(alloc, &node, plain, changes)
+}
+
+#[test]
+fn root_complexes(rt: HostRuntime) -> Result<(), Fail> {
+    let alloc = rt.alloc();
+    let access = MemoryAccess::new()
+        .cache_coherent()
+        .read_allocate()
+        .cacheable_attributes();
+    root(
+        alloc,
+        RootComplex::new(alloc, 0x0403_0201).memory_access(access),
+        &[
+            (16, 1),
+            (20, 4),
+            (23, 2),
+            (28, 1),
+            (29, 2),
+            (30, 3),
+            (31, 4),
+        ],
+    )
+}
+
+fn plain_root(alloc: Global) -> RootComplex {
+    RootComplex::new(alloc, 0)
+}
+
+#[test]
+fn flags_of_root_complexes(rt: HostRuntime) -> Result<(), Fail> {
+    let alloc = rt.alloc();
+    root(
+        alloc,
+        plain_root(alloc).ats_supported().address_size_limit(64),
+        &[(24, 1), (32, 64)],
+    )?;
+    root(alloc, plain_root(alloc).pri_supported(), &[(24, 2)])?;
+    root(alloc, plain_root(alloc).pasid_forwarding(), &[(24, 4)])?;
+    root(
+        alloc,
+        plain_root(alloc)
+            .ats_supported()
+            .pri_supported()
+            .pasid_forwarding(),
+        &[(24, 7)],
+    )?;
+    root(
+        alloc,
+        plain_root(alloc)
+            .ats_supported()
+            .pri_supported()
+            .pasid_forwarding()
+            .pri_supported()
+            .pasid_forwarding()
+            .ats_supported(),
+        &[(24, 7)],
+    )
+}
+
+// A second number replaces the first.
+#[test]
+fn pasids_of_root_complexes(rt: HostRuntime) -> Result<(), Fail> {
+    let alloc = rt.alloc();
+    root(
+        alloc,
+        plain_root(alloc).pasid_supported(31),
+        &[(33, 31), (36, 1)],
+    )?;
+    root(
+        alloc,
+        plain_root(alloc).pasid_supported(15).pasid_supported(16),
+        &[(33, 16), (36, 1)],
+    )
+}
+
+fn mapped_root(alloc: Global) -> R<RootComplex> {
+    let mut mapped = RootComplex::new(alloc, 1);
+    mapped.add_mapping(mapping(alloc)?)?;
+    mapped.add_mapping(mapping(alloc)?.single())?;
+    Ok(mapped)
+}
+
+#[test]
+fn mappings_of_a_root_complex(rt: HostRuntime) -> Result<(), Fail> {
+    let mapped = mapped_root(rt.alloc())?;
+    equal(&mapped.mapping_count(), &2)?;
+    writes(
+        rt.alloc(),
+        &mapped,
+        b"\x02\x50\0\x04\0\0\0\0\x02\0\0\0\x28\0\0\0\0\0\0\0\0\0\0\0\0\0\0\0\x01\0\0\0\0\0\0\0\0\0\0\0\
+            \x01\x02\x03\x04\x05\x06\x07\x08\x09\x0a\x0b\x0c\x30\0\0\0\0\0\0\0\
+            \x01\x02\x03\x04\x05\x06\x07\x08\x09\x0a\x0b\x0c\x30\0\0\0\x01\0\0\0",
+    )
+}
+
+fn named(alloc: Global, name: &str) -> R<NamedComponent> {
+    let component = NamedComponent::new(alloc, String::from_str(alloc, name)?);
+    let mut component = component
+        .stall_supported()
+        .substream_width(31)
+        .stall_supported()
+        .substream_width(31)
+        .address_size_limit(48);
+    component.add_mapping(mapping(alloc)?)?;
+    Ok(component)
+}
+
+// The bytes of such a component: those up to the name, the name and what is behind it, and the mapping.
+fn named_bytes(alloc: Global, [size, at]: [u8; 2], behind: &[u8]) -> R<Vec<u8>> {
+    let mut bytes = Vec::from_slice(alloc, &[1, size, 0, 4, 0, 0, 0, 0, 1, 0, 0, 0, at])?;
+    bytes.extend_from_slice(b"\0\0\0\x3f\0\0\0\0\0\0\0\0\0\0\0\x30")?;
+    bytes.extend_from_slice(behind)?;
+    bytes.extend_from_slice(MAPPING)?;
+    Ok(bytes)
+}
+
+// The name of a component and its zeros end at a multiple of 4.
+#[test]
+fn names_of_components(rt: HostRuntime) -> Result<(), Fail> {
+    let alloc = rt.alloc();
+    let rows: [(&str, [u8; 2], &[u8]); 5] = [
+        ("", [0x34, 0x20], b"\0\0\0"),
+        ("a", [0x34, 0x20], b"a\0\0"),
+        ("ab", [0x34, 0x20], b"ab\0"),
+        ("abc", [0x38, 0x24], b"abc\0\0\0\0"),
+        ("abcd", [0x38, 0x24], b"abcd\0\0\0"),
+    ];
+    for (name, sizes, behind) in &rows {
+        let component = named(alloc, *name)?;
+        equal(&component.mapping_count(), &1)?;
+        writes(alloc, &component, &named_bytes(alloc, *sizes, *behind)?)?;
+    }
+    Ok(())
+}
+
+fn fault() -> SmmuInterrupt {
+    SmmuInterrupt::new(0x2423_2221)
+}
+
+// An SMMU whose accesses to tables are coherent.
+#[rattlefmt::skip]
+const SMMU: [u8; 76] = *b"\x03\x4c\0\x03\0\0\0\0\0\0\0\0\0\0\0\0\x01\x02\x03\x04\x05\x06\x07\x08\
+            \x11\x12\x13\x14\x15\x16\x17\x18\0\0\0\0\x02\0\0\0\x3c\0\0\0\0\0\0\0\0\0\0\0\0\0\0\0\0\0\0\0\
+            \x21\x22\x23\x24\0\0\0\0\0\0\0\0\0\0\0\0";
+
+fn smmu(alloc: Global, model: SmmuModel) -> Smmu {
+    let (base, span) = (0x0807_0605_0403_0201, 0x1817_1615_1413_1211);
+    Smmu::new(alloc, model, base, span, fault())
+}
+
+#[test]
+fn flags_of_smmus(rt: HostRuntime) -> Result<(), Fail> {
+    let smmu = smmu(rt.alloc(), SmmuModel::GenericV1);
+    let both = smmu.coherent_walk().dvm_supported();
+    changed(rt.alloc(), &both, &SMMU, &[(36, 3)])
+}
+
+#[test]
+fn models_of_smmus(rt: HostRuntime) -> Result<(), Fail> {
+    let alloc = rt.alloc();
+    for (model, number) in [
+        (SmmuModel::GenericV1, 0),
+        (SmmuModel::GenericV2, 1),
+        (SmmuModel::CoreLinkMmu400, 2),
+        (SmmuModel::CoreLinkMmu500, 3),
+        (SmmuModel::CoreLinkMmu401, 4),
+        (SmmuModel::CaviumThunderX, 5),
+    ] {
+        let mut wanted = SMMU;
+        wanted[32] = number;
+        writes(alloc, &smmu(alloc, model).coherent_walk(), &wanted)?;
+    }
+    Ok(())
+}
+
+fn plain_smmu(alloc: Global) -> Smmu {
+    Smmu::new(alloc, SmmuModel::GenericV2, 0, 0, fault().edge_triggered())
+        .dvm_supported()
+        .coherent_walk()
+        .dvm_supported()
+        .coherent_walk()
+        .configuration_fault(SmmuInterrupt::new(0x3433_3231).edge_triggered())
+}
+
+// An SMMU with two interrupts of contexts, one of monitors, and a mapping.
+fn full_smmu(alloc: Global) -> R<Smmu> {
+    let mut smmu = plain_smmu(alloc);
+    smmu.add_context_interrupt(SmmuInterrupt::new(1))?;
+    smmu.add_context_interrupt(SmmuInterrupt::new(2).edge_triggered())?;
+    smmu.add_pmu_interrupt(SmmuInterrupt::new(3))?;
+    smmu.add_mapping(mapping(alloc)?)?;
+    Ok(smmu)
+}
+
+#[test]
+fn lists_of_an_smmu(rt: HostRuntime) -> Result<(), Fail> {
+    let smmu = full_smmu(rt.alloc())?;
+    let counts = (smmu.context_interrupt_count(), smmu.pmu_interrupt_count());
+    equal(&(counts, smmu.mapping_count()), &((2, 1), 1))?;
+    writes(
+        rt.alloc(),
+        &smmu,
+        b"\x03\x78\0\x03\0\0\0\0\x01\0\0\0\x64\0\0\0\0\0\0\0\0\0\0\0\0\0\0\0\0\0\0\0\x01\0\0\0\x03\0\0\0\
+            \x3c\0\0\0\x02\0\0\0\x4c\0\0\0\x01\0\0\0\x5c\0\0\0\
+            \x21\x22\x23\x24\x01\0\0\0\x31\x32\x33\x34\x01\0\0\0\
+            \x01\0\0\0\0\0\0\0\x02\0\0\0\x01\0\0\0\x03\0\0\0\0\0\0\0\
+            \x01\x02\x03\x04\x05\x06\x07\x08\x09\x0a\x0b\x0c\x30\0\0\0\0\0\0\0",
+    )
+}
+
+fn mapped_smmu_v3(alloc: Global) -> R<SmmuV3> {
+    let mut mapped = SmmuV3::new(alloc, SmmuV3Model::Generic, 0x0807_0605_0403_0201);
+    mapped.add_mapping(mapping(alloc)?)?;
+    Ok(mapped)
+}
+
+#[test]
+fn mappings_of_an_smmu_v3(rt: HostRuntime) -> Result<(), Fail> {
+    let mapped = mapped_smmu_v3(rt.alloc())?;
+    equal(&mapped.mapping_count(), &1)?;
+    writes(
+        rt.alloc(),
+        &mapped,
+        b"\x04\x58\0\x04\0\0\0\0\x01\0\0\0\x44\0\0\0\x01\x02\x03\x04\x05\x06\x07\x08\0\0\0\0\0\0\0\0\0\0\0\0\0\0\0\0\
+            \0\0\0\0\0\0\0\0\0\0\0\0\0\0\0\0\0\0\0\0\0\0\0\0\0\0\0\0\
+            \x01\x02\x03\x04\x05\x06\x07\x08\x09\x0a\x0b\x0c\x30\0\0\0\0\0\0\0",
+    )
+}
+
+fn smmu_v3(alloc: Global, smmu: SmmuV3, changes: &[(usize, u8)]) -> Result<(), Fail> {
+    let plain =
+        b"\x04\x44\0\x04\0\0\0\0\0\0\0\0\0\0\0\0\0\0\0\0\0\0\0\0\0\0\0\0\0\0\0\0\0\0\0\0\0\0\0\0\
+            \0\0\0\0\0\0\0\0\0\0\0\0\0\0\0\0\0\0\0\0\0\0\0\0\0\0\0\0";
+    changed(alloc, &smmu, plain, changes)
+}
+
+// An SMMUv3 whose registers are at the address 0.
+fn generic(alloc: Global) -> SmmuV3 {
+    SmmuV3::new(alloc, SmmuV3Model::Generic, 0)
+}
+
+fn flagged(smmu: SmmuV3) -> SmmuV3 {
+    smmu.cohacc_override()
+        .httu_override(Httu::AccessFlagAndDirty)
+        .proximity_domain(5)
+        .device_id_mapping(6)
+}
+
+// Flags that are set again stay as they are.
+#[test]
+fn flags_of_smmus_v3(rt: HostRuntime) -> Result<(), Fail> {
+    let all = flagged(flagged(generic(rt.alloc())));
+    smmu_v3(rt.alloc(), all, &[(24, 13), (60, 5), (64, 6)])?;
+    let all = flagged(generic(rt.alloc())).cohacc_override();
+    smmu_v3(rt.alloc(), all, &[(24, 13), (60, 5), (64, 6)])
+}
+
+// A second HTTU Override replaces the first.
+#[test]
+fn updates_of_smmus_v3(rt: HostRuntime) -> Result<(), Fail> {
+    let smmu = generic(rt.alloc()).httu_override(Httu::AccessFlagAndDirty);
+    smmu_v3(rt.alloc(), smmu.httu_override(Httu::AccessFlag), &[(24, 2)])
+}
+
+#[test]
+fn models_and_flags_of_smmus_v3(rt: HostRuntime) -> Result<(), Fail> {
+    let alloc = rt.alloc();
+    for (model, number) in [
+        (SmmuV3Model::HiSiliconHi161x, 1),
+        (SmmuV3Model::CaviumCn99xx, 2),
+    ] {
+        smmu_v3(alloc, SmmuV3::new(alloc, model, 0), &[(40, number)])?;
+    }
+    smmu_v3(alloc, generic(alloc).cohacc_override(), &[(24, 1)])?;
+    for (httu, number) in [(Httu::AccessFlag, 2), (Httu::AccessFlagAndDirty, 4)] {
+        smmu_v3(alloc, generic(alloc).httu_override(httu), &[(24, number)])?;
+    }
+    Ok(())
+}
+
+#[test]
+fn fields_of_smmus_v3(rt: HostRuntime) -> Result<(), Fail> {
+    let alloc = rt.alloc();
+    smmu_v3(alloc, generic(alloc).vatos_address(7), &[(32, 7)])?;
+    smmu_v3(
+        alloc,
+        generic(alloc).event_gsiv(1).pri_gsiv(2),
+        &[(44, 1), (48, 2)],
+    )?;
+    smmu_v3(
+        alloc,
+        generic(alloc).gerr_gsiv(3).sync_gsiv(4),
+        &[(52, 3), (56, 4)],
+    )?;
+    smmu_v3(
+        alloc,
+        generic(alloc).proximity_domain(5),
+        &[(24, 8), (60, 5)],
+    )?;
+    smmu_v3(alloc, generic(alloc).device_id_mapping(6), &[(64, 6)])
+}
+
+// Reserved memory without ranges.
+fn reserved(alloc: Global, memory: ReservedMemory, flags: u8) -> Result<(), Fail> {
+    let plain = b"\x06\x1c\0\x03\0\0\0\0\0\0\0\0\0\0\0\0\0\0\0\0\0\0\0\0\0\0\0\0";
+    changed(alloc, &memory, plain, &[(16, flags)])
+}
+
+#[test]
+fn attributes_of_reserved_memory(rt: HostRuntime) -> Result<(), Fail> {
+    let alloc = rt.alloc();
+    for (attributes, flags) in [
+        (AccessAttributes::DeviceNGnRnE, 0),
+        (AccessAttributes::DeviceNGnRE, 4),
+        (AccessAttributes::DeviceNGRE, 8),
+        (AccessAttributes::DeviceGRE, 12),
+        (AccessAttributes::NormalNonCacheable, 16),
+        (AccessAttributes::NormalWriteBack, 20),
+    ] {
+        reserved(alloc, ReservedMemory::new(alloc, attributes), flags)?;
+        let permitted = ReservedMemory::new(alloc, attributes).remapping_permitted();
+        reserved(alloc, permitted, flags | 1)?;
+        let privileged = ReservedMemory::new(alloc, attributes).privileged();
+        reserved(alloc, privileged.privileged(), flags | 2)?;
+        let both = ReservedMemory::new(alloc, attributes).remapping_permitted();
+        let both = both.privileged().remapping_permitted();
+        reserved(alloc, both, flags | 3)?;
+    }
+    Ok(())
+}
+
+fn full_memory(alloc: Global) -> R<ReservedMemory> {
+    let mut full = ReservedMemory::new(alloc, AccessAttributes::DeviceNGnRnE);
+    full.add_range(MemoryRange::new(0x1_0000, 0x2_0000))?;
+    full.add_range(MemoryRange::new(0x8_0000, 0x1_0000))?;
+    full.add_mapping(mapping(alloc)?)?;
+    Ok(full)
+}
+
+#[test]
+fn ranges_of_reserved_memory(rt: HostRuntime) -> Result<(), Fail> {
+    let full = full_memory(rt.alloc())?;
+    equal(&(full.range_count(), full.mapping_count()), &(2, 1))?;
+    writes(
+        rt.alloc(),
+        &full,
+        b"\x06\x58\0\x03\0\0\0\0\x01\0\0\0\x44\0\0\0\0\0\0\0\x02\0\0\0\x1c\0\0\0\
+            \0\0\x01\0\0\0\0\0\0\0\x02\0\0\0\0\0\0\0\0\0\
+            \0\0\x08\0\0\0\0\0\0\0\x01\0\0\0\0\0\0\0\0\0\
+            \x01\x02\x03\x04\x05\x06\x07\x08\x09\x0a\x0b\x0c\x30\0\0\0\0\0\0\0",
+    )
+}
+
+#[test]
+fn a_table_without_nodes(rt: HostRuntime) -> Result<(), Fail> {
+    all_stand(
+        rt.alloc(),
+        &table(rt.alloc()),
+        &[
+            (0, b"IORT\x30\0\0\0\x05"),
+            (36, b"\0\0\0\0\x30\0\0\0\0\0\0\0"),
+        ],
+    )
+}
+
+// Adds an ITS group, an SMMU and an SMMUv3, and returns what a mapping can refer to.
+fn add_outputs(alloc: Global, table: &mut IORT) -> R<[Output; 3]> {
+    let services = table.add_its_group(ItsGroup::new(alloc))?;
+    let smmu = Smmu::new(alloc, SmmuModel::GenericV2, 0, 0, SmmuInterrupt::new(0));
+    let smmu = table.add_smmu(smmu)?;
+    let smmu_v3 = table.add_smmu_v3(generic(alloc))?;
+    Ok([
+        Output::ItsGroup(services),
+        Output::Smmu(smmu),
+        Output::SmmuV3(smmu_v3),
+    ])
+}
+
+fn root_of(alloc: Global, outputs: &[Output]) -> R<RootComplex> {
+    let mut root_complex = RootComplex::new(alloc, 0);
+    for output in outputs {
+        root_complex.add_mapping(IdMapping::new(0, 0, 0, *output))?;
+    }
+    Ok(root_complex)
+}
+
+fn monitored(output: Output) -> Option<Monitored> {
+    match output {
+        Output::ItsGroup(_) => None,
+        Output::Smmu(smmu) => Some(Monitored::Smmu(smmu)),
+        Output::SmmuV3(smmu) => Some(Monitored::SmmuV3(smmu)),
+    }
+}
+
+// Adds a group of monitors of a node.
+fn monitor(alloc: Global, table: &mut IORT, node: Monitored) -> R<()> {
+    table.add_pmcg(Pmcg::new(alloc, 0, node))
+}
+
+// A node of each kind.
+fn all_nodes(alloc: Global) -> R<IORT> {
+    let mut table = table(alloc);
+    let outputs = add_outputs(alloc, &mut table)?;
+    let root_complex = table.add_root_complex(root_of(alloc, &outputs)?)?;
+    let component = table.add_named_component(NamedComponent::new(alloc, String::new(alloc)))?;
+    for output in outputs {
+        if let Some(node) = monitored(output) {
+            monitor(alloc, &mut table, node)?;
+        }
+    }
+    monitor(alloc, &mut table, Monitored::RootComplex(root_complex))?;
+    monitor(alloc, &mut table, Monitored::NamedComponent(component))?;
+    table.add_reserved_memory(ReservedMemory::new(alloc, AccessAttributes::DeviceNGnRnE))?;
+    Ok(table)
+}
+
+// Identifiers are indices, and references are offsets.
+#[test]
+fn nodes_refer_to_each_other(rt: HostRuntime) -> Result<(), Fail> {
+    let table = all_nodes(rt.alloc())?;
+    equal(&(table.len(), table.count()), &(532, 10))?;
+    all_stand(
+        rt.alloc(),
+        &table,
+        &[
+            (36, b"\x0a\0\0\0\x30\0\0\0\0\0\0\0\0\x14\0\x01\0\0\0\0"),
+            (68, b"\x03\x4c\0\x03\x01\0\0\0"),
+            (144, b"\x04\x44\0\x04\x02\0\0\0"),
+            (212, b"\x02\x64\0\x04\x03\0\0\0\x03\0\0\0\x28\0\0\0"),
+            (264, b"\x30\0\0\0"),
+            (284, b"\x44\0\0\0"),
+            (304, b"\x90\0\0\0"),
+            (312, b"\x01\x20\0\x04\x04\0\0\0"),
+            (344, b"\x05\x28\0\x02\x05\0\0\0"),
+            (372, b"\x44\0\0\0"),
+            (384, b"\x05\x28\0\x02\x06\0\0\0"),
+            (412, b"\x90\0\0\0"),
+            (424, b"\x05\x28\0\x02\x07\0\0\0"),
+            (452, b"\xd4\0\0\0"),
+            (464, b"\x05\x28\0\x02\x08\0\0\0"),
+            (492, b"\x38\x01\0\0"),
+            (504, b"\x06\x1c\0\x03\x09\0\0\0"),
+        ],
+    )
+}
+
+// A group of monitors of an SMMU that is the first node of a table.
+fn monitors(alloc: Global) -> R<Pmcg> {
+    let smmu = Smmu::new(alloc, SmmuModel::GenericV2, 0, 0, fault());
+    let smmu = table(alloc).add_smmu(smmu)?;
+    let monitor = Pmcg::new(alloc, 0x0807_0605_0403_0201, Monitored::Smmu(smmu));
+    let mut monitor = monitor
+        .overflow_gsiv(0x2423_2221)
+        .page_1(0x1817_1615_1413_1211);
+    monitor.add_mapping(mapping(alloc)?)?;
+    Ok(monitor)
+}
+
+#[test]
+fn a_group_of_monitors_has_one_mapping(rt: HostRuntime) -> Result<(), Fail> {
+    let mut monitor = monitors(rt.alloc())?;
+    refuses(monitor.add_mapping(mapping(rt.alloc())?), Error::FieldWidth)?;
+    equal(&monitor.mapping_count(), &1)?;
+    writes(
+        rt.alloc(),
+        &monitor,
+        b"\x05\x3c\0\x02\0\0\0\0\x01\0\0\0\x28\0\0\0\x01\x02\x03\x04\x05\x06\x07\x08\x21\x22\x23\x24\x30\0\0\0\
+            \x11\x12\x13\x14\x15\x16\x17\x18\x01\x02\x03\x04\x05\x06\x07\x08\x09\x0a\x0b\x0c\x30\0\0\0\0\0\0\0",
+    )
+}
+
+// Nodes of as many entries as they can have.
+#[test]
+fn the_most_services(rt: HostRuntime) -> Result<(), Fail> {
+    let mut services = ItsGroup::new(rt.alloc());
+    for _ in 0..16_378u16 {
+        services.add_its(0)?;
+    }
+    refuses(services.add_its(0), Error::FieldWidth)?;
+    sized(rt.alloc(), &services, 65_532)
+}
+
+#[test]
+fn the_most_mappings_of_an_smmu_v3(rt: HostRuntime) -> Result<(), Fail> {
+    let mapping = mapping(rt.alloc())?;
+    let mut smmu = generic(rt.alloc());
+    for _ in 0..3273u16 {
+        smmu.add_mapping(mapping)?;
+    }
+    refuses(smmu.add_mapping(mapping), Error::FieldWidth)?;
+    sized(rt.alloc(), &smmu, 65_528)
+}
+
+#[test]
+fn the_most_mappings_of_a_root_complex(rt: HostRuntime) -> Result<(), Fail> {
+    let mapping = mapping(rt.alloc())?;
+    let mut root_complex = RootComplex::new(rt.alloc(), 0);
+    for _ in 0..3274u16 {
+        root_complex.add_mapping(mapping)?;
+    }
+    refuses(root_complex.add_mapping(mapping), Error::FieldWidth)?;
+    sized(rt.alloc(), &root_complex, 65_520)
+}
+
+// An SMMU with as many interrupts of contexts as it can have.
+fn long_smmu(alloc: Global) -> R<Smmu> {
+    let mut smmu = Smmu::new(alloc, SmmuModel::GenericV1, 0, 0, fault());
+    for _ in 0..8182u16 {
+        smmu.add_context_interrupt(fault())?;
+    }
+    Ok(smmu)
+}
+
+// Nodes of several lists may have fewer entries than each list alone: of at most 65,535 bytes.
+#[test]
+fn the_longest_smmu(rt: HostRuntime) -> Result<(), Fail> {
+    let mut smmu = long_smmu(rt.alloc())?;
+    refuses(smmu.add_context_interrupt(fault()), Error::FieldWidth)?;
+    sized(rt.alloc(), &smmu, 65_532)?;
+    let _ = table(rt.alloc()).add_smmu(smmu)?;
+    let mut longer = long_smmu(rt.alloc())?;
+    longer.add_pmu_interrupt(fault())?;
+    refuses(table(rt.alloc()).add_smmu(longer), Error::FieldWidth)
+}
+
+// Reserved memory with as many ranges as it can have.
+fn long_memory(alloc: Global) -> R<ReservedMemory> {
+    let mut memory = ReservedMemory::new(alloc, AccessAttributes::DeviceNGnRnE);
+    for _ in 0..3275u16 {
+        memory.add_range(MemoryRange::new(0, 0))?;
+    }
+    Ok(memory)
+}
+
+#[test]
+fn the_longest_reserved_memory(rt: HostRuntime) -> Result<(), Fail> {
+    let mut memory = long_memory(rt.alloc())?;
+    refuses(memory.add_range(MemoryRange::new(0, 0)), Error::FieldWidth)?;
+    sized(rt.alloc(), &memory, 65_528)?;
+    table(rt.alloc()).add_reserved_memory(memory)?;
+    let mut longer = long_memory(rt.alloc())?;
+    longer.add_mapping(mapping(rt.alloc())?)?;
+    refuses(
+        table(rt.alloc()).add_reserved_memory(longer),
+        Error::FieldWidth,
+    )
+}
+
+// A component with this name and this many mappings.
+fn long_component(alloc: Global, name: &str, count: u16) -> R<NamedComponent> {
+    let mut component = NamedComponent::new(alloc, String::from_str(alloc, name)?);
+    let mapping = mapping(alloc)?;
+    for _ in 0..count {
+        component.add_mapping(mapping)?;
+    }
+    Ok(component)
+}
+
+#[test]
+fn the_longest_components(rt: HostRuntime) -> Result<(), Fail> {
+    let alloc = rt.alloc();
+    for (name, size) in [("ab", 65_512), ("abc", 65_516), ("abcdef", 65_516)] {
+        sized(alloc, &long_component(alloc, name, 3274)?, size)?;
+        let component = long_component(alloc, name, 3274)?;
+        let _ = table(alloc).add_named_component(component)?;
+    }
+    let mut component = long_component(alloc, "abcdefg", 3275)?;
+    refuses(component.add_mapping(mapping(alloc)?), Error::FieldWidth)?;
+    refuses(
+        table(alloc).add_named_component(component),
+        Error::FieldWidth,
+    )
+}

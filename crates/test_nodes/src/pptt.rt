@@ -1,0 +1,377 @@
+//! PPTT and its nodes.
+
+use acpi_base::error::{Error, R};
+use acpi_tables::pptt::{
+    AllocationType, CacheHandle, CacheNode, CacheNodeBuilder, CacheType, PPTT, ProcessorHandle,
+    ProcessorNode, WritePolicy,
+};
+use std::alloc::Global;
+use std::test::Fail;
+use test_support::table::many;
+use test_support::{OEM, OEM_REVISION, OEM_TABLE, equal, refuses, writes};
+
+pub(crate) fn table(alloc: Global) -> PPTT {
+    PPTT::new(alloc, OEM, OEM_TABLE, OEM_REVISION)
+}
+
+pub(crate) fn cache() -> CacheNodeBuilder {
+    CacheNodeBuilder::default()
+}
+
+pub(crate) fn processor(alloc: Global) -> ProcessorNode {
+    ProcessorNode::new(alloc, None, 0x0403_0201)
+}
+
+// Fails unless a table has these bytes.
+fn is(alloc: Global, table: PPTT, wanted: &[u8]) -> Result<(), Fail> {
+    writes(alloc, &table, wanted)
+}
+
+// Fails unless a table is its header and these nodes this many times.
+fn holds(alloc: Global, table: PPTT, nodes: &[u8], times: u32) -> Result<(), Fail> {
+    many(alloc, &table, b"PPTT", 3, &[], nodes, times)
+}
+
+#[test]
+fn a_table_without_nodes(rt: HostRuntime) -> Result<(), Fail> {
+    is(
+        rt.alloc(),
+        table(rt.alloc()),
+        b"PPTT\x24\0\0\0\x03\x45FOOBARCAFEDEAD\xef\xbe\xad\xdeRVAT\0\0\0\x01",
+    )
+}
+
+fn add_cache(table: &mut PPTT) -> R<CacheHandle> {
+    table.add_cache(cache().size(0x8000).line_size(64).to_node())
+}
+
+#[test]
+fn a_table_of_a_cache(rt: HostRuntime) -> Result<(), Fail> {
+    let mut table = table(rt.alloc());
+    add_cache(&mut table)?;
+    let node = b"\x01\x1c\0\0\x41\0\0\0\0\0\0\0\0\x80\0\0\0\0\0\0\0\0\x40\0\0\0\0\0";
+    holds(rt.alloc(), table, node, 1)
+}
+
+// A processor that refers to these caches.
+pub(crate) fn with_caches(mut node: ProcessorNode, caches: &[CacheHandle]) -> R<ProcessorNode> {
+    for cache in caches {
+        node = node.add_cache(cache)?;
+    }
+    Ok(node)
+}
+
+fn add_cache_and_processor(alloc: Global, table: &mut PPTT) -> R<ProcessorHandle> {
+    let cache = add_cache(table)?;
+    let node = ProcessorNode::new(alloc, None, 5).valid();
+    table.add_processor(with_caches(node, &[cache])?)
+}
+
+#[test]
+fn a_table_of_a_cache_and_a_processor(rt: HostRuntime) -> Result<(), Fail> {
+    let mut table = table(rt.alloc());
+    add_cache_and_processor(rt.alloc(), &mut table)?;
+    is(
+        rt.alloc(),
+        table,
+        b"PPTT\x58\0\0\0\x03\xafFOOBARCAFEDEAD\xef\xbe\xad\xdeRVAT\0\0\0\x01\
+            \x01\x1c\0\0\x41\0\0\0\0\0\0\0\0\x80\0\0\
+            \0\0\0\0\0\0\x40\0\0\0\0\0\
+            \0\x18\0\0\x02\0\0\0\0\0\0\0\x05\0\0\0\x01\0\0\0\x24\0\0\0",
+    )
+}
+
+fn first_cache(alloc: Global) -> R<CacheHandle> {
+    table(alloc).add_cache(cache().to_node())
+}
+
+fn resource_count(alloc: Global, caches: &[CacheHandle]) -> R<usize> {
+    let node = with_caches(ProcessorNode::new(alloc, None, 5), caches)?;
+    Ok(node.resource_count())
+}
+
+#[test]
+fn caches_of_a_processor_are_counted(rt: HostRuntime) -> Result<(), Fail> {
+    let cache = first_cache(rt.alloc())?;
+    let copy = cache;
+    equal(&resource_count(rt.alloc(), &[])?, &0)?;
+    equal(&resource_count(rt.alloc(), &[cache, copy])?, &2)
+}
+
+fn offsets_are_told(alloc: Global, table: &mut PPTT) -> Result<(), Fail> {
+    let cache = table.add_cache(cache().to_node())?;
+    let copy = cache;
+    let node = with_caches(ProcessorNode::new(alloc, None, 5), &[cache, copy])?;
+    let processor = table.add_processor(node)?;
+    let offsets = [cache.offset(), copy.offset(), processor.offset()];
+    equal(&offsets, &[36, 36, 64])
+}
+
+#[test]
+fn offsets_of_handles(rt: HostRuntime) -> Result<(), Fail> {
+    offsets_are_told(rt.alloc(), &mut table(rt.alloc()))
+}
+
+// Adds a package with a shared cache, a core below it with a private one, and a thread below that.
+fn add_thread(alloc: Global, table: &mut PPTT) -> R<ProcessorHandle> {
+    let shared = table.add_cache(cache().id(1).to_node())?;
+    let package = with_caches(processor(alloc).physical(), &[shared])?;
+    let package = table.add_processor(package)?;
+    let own = cache()
+        .next_level(&shared)
+        .cache_type(CacheType::Instruction);
+    let own = table.add_cache(own.to_node())?;
+    let core = ProcessorNode::new(alloc, Some(&package), 7).valid().leaf();
+    let core = table.add_processor(with_caches(core, &[own, shared])?)?;
+    table.add_processor(ProcessorNode::new(alloc, Some(&core), 8).thread())
+}
+
+#[test]
+fn handles(rt: HostRuntime) -> Result<(), Fail> {
+    let mut table = table(rt.alloc());
+    add_thread(rt.alloc(), &mut table)?;
+    let nodes = b"\x01\x1c\0\0\x80\0\0\0\0\0\0\0\0\0\0\0\0\0\0\0\0\0\0\0\x01\0\0\0\
+\0\x18\0\0\x01\0\0\0\0\0\0\0\x01\x02\x03\x04\x01\0\0\0\x24\0\0\0\
+\x01\x1c\0\0\x10\0\0\0\x24\0\0\0\0\0\0\0\0\0\0\0\0\x04\0\0\0\0\0\0\
+\0\x1c\0\0\x0a\0\0\0\x40\0\0\0\x07\0\0\0\x02\0\0\0\x58\0\0\0\x24\0\0\0\
+\0\x14\0\0\x04\0\0\0\x74\0\0\0\x08\0\0\0\0\0\0\0";
+    holds(rt.alloc(), table, nodes, 1)
+}
+
+// Fails unless a processor has these bytes.
+fn node(alloc: Global, node: ProcessorNode, wanted: &[u8]) -> Result<(), Fail> {
+    writes(alloc, &node, wanted)
+}
+
+// Fails unless a processor has these flags, at offset 4.
+pub(crate) fn flagged(alloc: Global, made: ProcessorNode, flags: u8) -> Result<(), Fail> {
+    let mut wanted = *b"\0\x14\0\0\0\0\0\0\0\0\0\0\x01\x02\x03\x04\0\0\0\0";
+    wanted[4] = flags;
+    node(alloc, made, &wanted)
+}
+
+#[test]
+fn flags_of_processors(rt: HostRuntime) -> Result<(), Fail> {
+    let alloc = rt.alloc();
+    flagged(alloc, processor(alloc), 0)?;
+    flagged(alloc, processor(alloc).physical(), 1)?;
+    flagged(alloc, processor(alloc).valid(), 2)?;
+    flagged(alloc, processor(alloc).thread(), 4)?;
+    flagged(alloc, processor(alloc).leaf(), 8)?;
+    flagged(alloc, processor(alloc).identical(), 16)?;
+    let all = processor(alloc).physical().valid().thread().leaf();
+    flagged(alloc, all.identical().leaf(), 31)
+}
+
+#[test]
+fn fields_of_a_processor(rt: HostRuntime) -> Result<(), Fail> {
+    let made = processor(rt.alloc()).valid();
+    let fields = (made.flags, made.parent, made.acpi_processor_id);
+    equal(&fields, &(2, 0, 0x0403_0201))
+}
+
+fn with_set_fields(alloc: Global) -> ProcessorNode {
+    let mut made = processor(alloc).valid();
+    made.flags = 0x1413_1211;
+    made.parent = 0x2423_2221;
+    made.acpi_processor_id = u32::MAX;
+    made
+}
+
+#[test]
+fn set_fields_of_a_processor(rt: HostRuntime) -> Result<(), Fail> {
+    node(
+        rt.alloc(),
+        with_set_fields(rt.alloc()),
+        b"\0\x14\0\0\x11\x12\x13\x14\x21\x22\x23\x24\xff\xff\xff\xff\0\0\0\0",
+    )
+}
+
+fn with_most_caches(alloc: Global, cache: CacheHandle) -> R<ProcessorNode> {
+    with_caches(ProcessorNode::new(alloc, None, 9), &[cache; 58])
+}
+
+fn most_caches() -> [u8; 252] {
+    let mut bytes = [0; 252];
+    bytes[..24].copy_from_slice(b"\0\xfc\0\0\0\0\0\0\0\0\0\0\x09\0\0\0\x3a\0\0\0\x24\0\0\0");
+    for n in 0..58usize {
+        bytes[20 + 4 * n] = 0x24;
+    }
+    bytes
+}
+
+// A processor with the most caches is added, and one with more can't be made.
+fn takes_most_caches(alloc: Global, table: &mut PPTT) -> Result<(), Fail> {
+    let cache = table.add_cache(cache().to_node())?;
+    node(alloc, with_most_caches(alloc, cache)?, &most_caches())?;
+    let more = with_most_caches(alloc, cache)?.add_cache(&cache);
+    refuses(more, Error::FieldWidth)?;
+    table.add_processor(with_most_caches(alloc, cache)?)?;
+    // the cache, and the processor before its 58 references
+    let fixed = b"\x01\x1c\0\0\0\0\0\0\0\0\0\0\0\0\0\0\0\0\0\0\0\0\0\0\0\0\0\0\
+\0\xfc\0\0\0\0\0\0\0\0\0\0\x09\0\0\0\x3a\0\0\0";
+    many(alloc, table, b"PPTT", 3, fixed, b"\x24\0\0\0", 58)
+}
+
+#[test]
+fn the_most_caches(rt: HostRuntime) -> Result<(), Fail> {
+    takes_most_caches(rt.alloc(), &mut table(rt.alloc()))
+}
+
+// Fails unless a cache writes these bytes.
+fn built(alloc: Global, cache: CacheNodeBuilder, wanted: &[u8; 28]) -> Result<(), Fail> {
+    writes(alloc, &cache.to_node(), wanted)
+}
+
+#[test]
+fn fields_of_caches(rt: HostRuntime) -> Result<(), Fail> {
+    let alloc = rt.alloc();
+    equal(&CacheNode::len(), &28)?;
+    built(
+        alloc,
+        cache(),
+        b"\x01\x1c\0\0\0\0\0\0\0\0\0\0\0\0\0\0\0\0\0\0\0\0\0\0\0\0\0\0",
+    )?;
+    built(
+        alloc,
+        cache().next_level(&first_cache(alloc)?),
+        b"\x01\x1c\0\0\0\0\0\0\x24\0\0\0\0\0\0\0\0\0\0\0\0\0\0\0\0\0\0\0",
+    )?;
+    built(
+        alloc,
+        cache().size(0x0403_0201),
+        b"\x01\x1c\0\0\x01\0\0\0\0\0\0\0\x01\x02\x03\x04\0\0\0\0\0\0\0\0\0\0\0\0",
+    )?;
+    built(
+        alloc,
+        cache().sets(0x0403_0201),
+        b"\x01\x1c\0\0\x02\0\0\0\0\0\0\0\0\0\0\0\x01\x02\x03\x04\0\0\0\0\0\0\0\0",
+    )?;
+    built(
+        alloc,
+        cache().associativity(0x51),
+        b"\x01\x1c\0\0\x04\0\0\0\0\0\0\0\0\0\0\0\0\0\0\0\x51\0\0\0\0\0\0\0",
+    )?;
+    built(
+        alloc,
+        cache().line_size(0x0201),
+        b"\x01\x1c\0\0\x40\0\0\0\0\0\0\0\0\0\0\0\0\0\0\0\0\0\x01\x02\0\0\0\0",
+    )?;
+    built(
+        alloc,
+        cache().id(0x0403_0201),
+        b"\x01\x1c\0\0\x80\0\0\0\0\0\0\0\0\0\0\0\0\0\0\0\0\0\0\0\x01\x02\x03\x04",
+    )
+}
+
+#[test]
+fn all_fields_of_a_cache(rt: HostRuntime) -> Result<(), Fail> {
+    let full = cache()
+        .next_level(&first_cache(rt.alloc())?)
+        .size(0x0403_0201)
+        .sets(0x1413_1211)
+        .associativity(0x21)
+        .allocation_type(AllocationType::Both)
+        .cache_type(CacheType::Unified)
+        .write_policy(WritePolicy::Writethrough)
+        .line_size(0x3231)
+        .id(0x4443_4241);
+    built(
+        rt.alloc(),
+        full,
+        b"\x01\x1c\0\0\xff\0\0\0\x24\0\0\0\x01\x02\x03\x04\x11\x12\x13\x14\x21\x1a\x31\x32\x41\x42\x43\x44",
+    )
+}
+
+#[test]
+fn highest_fields_of_a_cache(rt: HostRuntime) -> Result<(), Fail> {
+    let highest = cache()
+        .size(u32::MAX)
+        .sets(u32::MAX)
+        .associativity(u8::MAX)
+        .line_size(u16::MAX)
+        .id(u32::MAX);
+    built(
+        rt.alloc(),
+        highest.size(7),
+        b"\x01\x1c\0\0\xc7\0\0\0\0\0\0\0\x07\0\0\0\xff\xff\xff\xff\xff\0\xff\xff\xff\xff\xff\xff",
+    )
+}
+
+// Fails unless a cache has these flags and attributes, at offsets 4 and 21.
+fn described(
+    alloc: Global,
+    cache: CacheNodeBuilder,
+    flags: u8,
+    attributes: u8,
+) -> Result<(), Fail> {
+    let mut wanted = [0; 28];
+    wanted[0] = 1;
+    wanted[1] = 28;
+    wanted[4] = flags;
+    wanted[21] = attributes;
+    writes(alloc, &cache.to_node(), &wanted)
+}
+
+#[test]
+fn attributes(rt: HostRuntime) -> Result<(), Fail> {
+    for (kind, attributes) in [
+        (AllocationType::Read, 0),
+        (AllocationType::Write, 1),
+        (AllocationType::Both, 2),
+    ] {
+        described(rt.alloc(), cache().allocation_type(kind), 8, attributes)?;
+    }
+    for (kind, attributes) in [
+        (CacheType::Data, 0),
+        (CacheType::Instruction, 4),
+        (CacheType::Unified, 8),
+    ] {
+        described(rt.alloc(), cache().cache_type(kind), 16, attributes)?;
+    }
+    for (policy, attributes) in [(WritePolicy::Writeback, 0), (WritePolicy::Writethrough, 16)] {
+        described(rt.alloc(), cache().write_policy(policy), 32, attributes)?;
+    }
+    Ok(())
+}
+
+// Each call joins its attributes to those that are set.
+#[test]
+fn joined_attributes(rt: HostRuntime) -> Result<(), Fail> {
+    let joined = cache()
+        .write_policy(WritePolicy::Writethrough)
+        .cache_type(CacheType::Instruction)
+        .allocation_type(AllocationType::Write)
+        .allocation_type(AllocationType::Both)
+        .cache_type(CacheType::Data);
+    described(rt.alloc(), joined, 56, 23)
+}
+
+#[test]
+fn attributes_are_compared() -> Result<(), Fail> {
+    equal(&(AllocationType::Write != AllocationType::Both), &true)?;
+    equal(&(CacheType::Unified == CacheType::Unified), &true)?;
+    let differ = WritePolicy::Writeback != WritePolicy::Writethrough;
+    equal(&differ, &true)
+}
+
+#[test]
+fn many_processors(rt: HostRuntime) -> Result<(), Fail> {
+    let mut table = table(rt.alloc());
+    for _ in 0..256u16 {
+        table.add_processor(processor(rt.alloc()).leaf())?;
+    }
+    let node = b"\0\x14\0\0\x08\0\0\0\0\0\0\0\x01\x02\x03\x04\0\0\0\0";
+    holds(rt.alloc(), table, node, 256)
+}
+
+#[test]
+fn many_caches(rt: HostRuntime) -> Result<(), Fail> {
+    let mut table = table(rt.alloc());
+    let node = cache().id(3).to_node();
+    for _ in 0..256u16 {
+        table.add_cache(node)?;
+    }
+    let node = b"\x01\x1c\0\0\x80\0\0\0\0\0\0\0\0\0\0\0\0\0\0\0\0\0\0\0\x03\0\0\0";
+    holds(rt.alloc(), table, node, 256)
+}

@@ -1,0 +1,266 @@
+//! VIOT and its nodes.
+
+use acpi_base::error::{Error, R};
+use acpi_tables::viot::{
+    MmioEndpoint, PciDevice, PciRange, TranslationHandle, VIOT, VirtIoMmioIommu, VirtIoPciIommu,
+};
+use std::alloc::Global;
+use std::test::Fail;
+use test_support::table::{many, stands};
+use test_support::{OEM, OEM_REVISION, OEM_TABLE, equal, refuses, writes};
+
+// A virtual IOMMU at address 0.
+const MMIO_IOMMU: [u8; 16] = *b"\x04\0\x10\0\0\0\0\0\0\0\0\0\0\0\0\0";
+
+fn table(alloc: Global) -> VIOT {
+    VIOT::new(alloc, OEM, OEM_TABLE, OEM_REVISION)
+}
+
+fn range(handle: &TranslationHandle) -> PciRange {
+    let first = PciDevice::new(0x0201, 3, 4, 5);
+    PciRange::new(first, PciDevice::new(0x0807, 0xff, 31, 7), handle)
+}
+
+// Adds a virtual IOMMU at address 0.
+fn add_iommu(table: &mut VIOT) -> R<TranslationHandle> {
+    table.add_virtio_mmio_iommu(VirtIoMmioIommu::new(0))
+}
+
+// The handle of the first node of a table.
+fn first_handle(alloc: Global) -> R<TranslationHandle> {
+    add_iommu(&mut table(alloc))
+}
+
+fn offsets_are_told(table: &mut VIOT) -> Result<(), Fail> {
+    let first = add_iommu(table)?;
+    let second = add_iommu(table)?;
+    let copy = second;
+    let offsets = [first.offset(), second.offset(), copy.offset()];
+    equal(&offsets, &[48, 64, 64])
+}
+
+// The offsets of handles and of their copies.
+#[test]
+fn offsets(rt: HostRuntime) -> Result<(), Fail> {
+    offsets_are_told(&mut table(rt.alloc()))
+}
+
+// Fails unless a table has these bytes.
+fn is(alloc: Global, table: VIOT, wanted: &[u8]) -> Result<(), Fail> {
+    writes(alloc, &table, wanted)
+}
+
+#[test]
+fn a_table_without_nodes(rt: HostRuntime) -> Result<(), Fail> {
+    is(
+        rt.alloc(),
+        table(rt.alloc()),
+        b"VIOT\x30\0\0\0\x01\x11FOOBARCAFEDEAD\xef\xbe\xad\xdeRVAT\0\0\0\x01\0\0\x30\0\0\0\0\0\0\0\0\0",
+    )
+}
+
+fn add_each_kind(table: &mut VIOT) -> R<()> {
+    let device = PciDevice::new(0x0201, 0xfe, 30, 6);
+    let first = table.add_virtio_pci_iommu(VirtIoPciIommu::new(device))?;
+    table.add_pci_range(range(&first))?;
+    let second = table.add_virtio_mmio_iommu(VirtIoMmioIommu::new(0x1817_1615_1413_1211))?;
+    table.add_mmio_endpoint(MmioEndpoint::new(0x0403_0201, 0x2827_2625_2423_2221, &second))?;
+    table.add_pci_range(range(&second))
+}
+
+#[test]
+fn a_node_of_each_kind(rt: HostRuntime) -> Result<(), Fail> {
+    let mut table = table(rt.alloc());
+    add_each_kind(&mut table)?;
+    is(
+        rt.alloc(),
+        table,
+        b"VIOT\x98\0\0\0\x01\xc8FOOBARCAFEDEAD\xef\xbe\xad\xdeRVAT\0\0\0\x01\
+            \x05\0\x30\0\0\0\0\0\0\0\0\0\
+            \x03\0\x10\0\x01\x02\xf6\xfe\0\0\0\0\0\0\0\0\
+            \x01\0\x18\0\x25\x03\0\0\x01\x02\x07\x08\x25\x03\xff\xff\x30\0\0\0\0\0\0\0\
+            \x04\0\x10\0\0\0\0\0\x11\x12\x13\x14\x15\x16\x17\x18\
+            \x02\0\x18\0\x01\x02\x03\x04\x21\x22\x23\x24\x25\x26\x27\x28\x58\0\0\0\0\0\0\0\
+            \x01\0\x18\0\x25\x03\0\0\x01\x02\x07\x08\x25\x03\xff\xff\x58\0\0\0\0\0\0\0",
+    )
+}
+
+// Fails unless the IOMMU of a PCI device has the numbers of the device, at offset 4.
+fn pci_iommu(alloc: Global, device: PciDevice, numbers: [u8; 4]) -> Result<(), Fail> {
+    let mut wanted = *b"\x03\0\x10\0\0\0\0\0\0\0\0\0\0\0\0\0";
+    wanted[4..8].copy_from_slice(&numbers);
+    writes(alloc, &VirtIoPciIommu::new(device), &wanted)
+}
+
+#[test]
+fn pci_iommus(rt: HostRuntime) -> Result<(), Fail> {
+    let alloc = rt.alloc();
+    pci_iommu(alloc, PciDevice::new(0, 0, 0, 0), [0, 0, 0, 0])?;
+    let high = PciDevice::new(0xffff, 0xff, 31, 7);
+    pci_iommu(alloc, high, [0xff, 0xff, 0xff, 0xff])?;
+    pci_iommu(alloc, PciDevice::new(0, 0, 0, 7), [0, 0, 7, 0])?;
+    pci_iommu(alloc, PciDevice::new(0, 0, 1, 0), [0, 0, 8, 0])?;
+    pci_iommu(alloc, PciDevice::new(0, 0, 31, 0), [0, 0, 0xf8, 0])
+}
+
+fn mmio_iommu(alloc: Global, address: u64, wanted: &[u8; 16]) -> Result<(), Fail> {
+    writes(alloc, &VirtIoMmioIommu::new(address), wanted)
+}
+
+#[test]
+fn mmio_iommus(rt: HostRuntime) -> Result<(), Fail> {
+    mmio_iommu(rt.alloc(), 0, &MMIO_IOMMU)?;
+    mmio_iommu(
+        rt.alloc(),
+        u64::MAX,
+        b"\x04\0\x10\0\0\0\0\0\xff\xff\xff\xff\xff\xff\xff\xff",
+    )
+}
+
+fn endpoint(alloc: Global, made: MmioEndpoint, wanted: &[u8; 24]) -> Result<(), Fail> {
+    writes(alloc, &made, wanted)
+}
+
+#[test]
+fn mmio_endpoints(rt: HostRuntime) -> Result<(), Fail> {
+    let handle = first_handle(rt.alloc())?;
+    endpoint(
+        rt.alloc(),
+        MmioEndpoint::new(u32::MAX, u64::MAX, &handle),
+        b"\x02\0\x18\0\xff\xff\xff\xff\xff\xff\xff\xff\xff\xff\xff\xff\x30\0\0\0\0\0\0\0",
+    )?;
+    endpoint(
+        rt.alloc(),
+        MmioEndpoint::new(0, 0, &handle),
+        b"\x02\0\x18\0\0\0\0\0\0\0\0\0\0\0\0\0\x30\0\0\0\0\0\0\0",
+    )
+}
+
+fn pci_range(alloc: Global, made: PciRange, wanted: &[u8; 24]) -> Result<(), Fail> {
+    writes(alloc, &made, wanted)
+}
+
+// From the highest device to the lowest.
+fn reversed(handle: &TranslationHandle) -> PciRange {
+    let first = PciDevice::new(0xffff, 0xff, 31, 7);
+    PciRange::new(first, PciDevice::new(0, 0, 0, 0), handle)
+}
+
+#[test]
+fn pci_ranges(rt: HostRuntime) -> Result<(), Fail> {
+    let handle = first_handle(rt.alloc())?;
+    pci_range(
+        rt.alloc(),
+        reversed(&handle),
+        b"\x01\0\x18\0\xff\xff\0\0\xff\xff\0\0\xff\xff\0\0\x30\0\0\0\0\0\0\0",
+    )?;
+    pci_range(
+        rt.alloc(),
+        range(&handle),
+        b"\x01\0\x18\0\x25\x03\0\0\x01\x02\x07\x08\x25\x03\xff\xff\x30\0\0\0\0\0\0\0",
+    )
+}
+
+#[test]
+fn nodes_past_a_byte(rt: HostRuntime) -> Result<(), Fail> {
+    let mut table = table(rt.alloc());
+    for _ in 0..256u16 {
+        let _ = add_iommu(&mut table)?;
+    }
+    stands(
+        rt.alloc(),
+        &table,
+        0,
+        b"VIOT\x30\x10\0\0\x01\0FOOBARCAFEDEAD\xef\xbe\xad\xdeRVAT\0\0\0\x01\0\x01\x30\0\0\0\0\0\0\0\0\0",
+    )?;
+    let fixed = b"\0\x01\x30\0\0\0\0\0\0\0\0\0";
+    many(rt.alloc(), &table, b"VIOT", 1, fixed, &MMIO_IOMMU, 256)
+}
+
+// Fills a table with 4,092 IOMMUs, and fails unless an endpoint has the offset of each.
+fn fill(alloc: Global, table: &mut VIOT) -> Result<(), Fail> {
+    let mut wanted = *b"\x02\0\x18\0\0\0\0\0\0\0\0\0\0\0\0\0\0\0\0\0\0\0\0\0";
+    for i in 0..4092u16 {
+        let handle = add_iommu(table)?;
+        wanted[16..18].copy_from_slice(&(48 + 16 * i).to_le_bytes());
+        endpoint(alloc, MmioEndpoint::new(0, 0, &handle), &wanted)?;
+    }
+    Ok(())
+}
+
+fn is_full(alloc: Global, table: &VIOT) -> Result<(), Fail> {
+    stands(
+        alloc,
+        table,
+        0,
+        b"VIOT\xf0\xff\0\0\x01\x97FOOBARCAFEDEAD\xef\xbe\xad\xdeRVAT\0\0\0\x01\xfc\x0f\x30\0\0\0\0\0\0\0\0\0",
+    )?;
+    let fixed = b"\xfc\x0f\x30\0\0\0\0\0\0\0\0\0";
+    many(alloc, table, b"VIOT", 1, fixed, &MMIO_IOMMU, 4092)
+}
+
+// Fails unless a table refuses a node of each kind.
+fn refuses_all(table: &mut VIOT, handle: TranslationHandle) -> Result<(), Fail> {
+    refuses(add_iommu(table), Error::FieldWidth)?;
+    let iommu = VirtIoPciIommu::new(PciDevice::new(0, 0, 0, 0));
+    refuses(table.add_virtio_pci_iommu(iommu), Error::FieldWidth)?;
+    refuses(table.add_pci_range(range(&handle)), Error::FieldWidth)?;
+    let endpoint = MmioEndpoint::new(0, 0, &handle);
+    refuses(table.add_mmio_endpoint(endpoint), Error::FieldWidth)
+}
+
+#[test]
+fn a_full_table(rt: HostRuntime) -> Result<(), Fail> {
+    let handle = first_handle(rt.alloc())?;
+    let mut table = table(rt.alloc());
+    fill(rt.alloc(), &mut table)?;
+    is_full(rt.alloc(), &table)?;
+    refuses_all(&mut table, handle)?;
+    is_full(rt.alloc(), &table)
+}
+
+// Adds an IOMMU and 2,727 endpoints, which take 65,512 bytes.
+fn add_endpoints(table: &mut VIOT) -> R<TranslationHandle> {
+    let handle = add_iommu(table)?;
+    for _ in 0..2727u16 {
+        table.add_mmio_endpoint(MmioEndpoint::new(0, 0, &handle))?;
+    }
+    Ok(handle)
+}
+
+fn has_endpoints(alloc: Global, table: &VIOT) -> Result<(), Fail> {
+    let endpoint = b"\x02\0\x18\0\0\0\0\0\0\0\0\0\0\0\0\0\x30\0\0\0\0\0\0\0";
+    let mut fixed = [0; 28];
+    fixed[2] = 0x30;
+    fixed[12..28].copy_from_slice(&MMIO_IOMMU);
+    fixed[..2].copy_from_slice(&[0xa8, 0x0a]);
+    many(alloc, table, b"VIOT", 1, &fixed, endpoint, 2727)
+}
+
+// A node of 24 bytes would make such a table 65,536 bytes long, and is refused. One of 16 makes it 65,528 bytes long, and another
+// is refused.
+fn add_last(alloc: Global, table: &mut VIOT) -> Result<TranslationHandle, Fail> {
+    let handle = add_endpoints(table)?;
+    has_endpoints(alloc, table)?;
+    let endpoint = MmioEndpoint::new(0, 0, &handle);
+    refuses(table.add_mmio_endpoint(endpoint), Error::FieldWidth)?;
+    has_endpoints(alloc, table)?;
+    let last = add_iommu(table)?;
+    refuses(add_iommu(table), Error::FieldWidth)?;
+    Ok(last)
+}
+
+#[test]
+fn the_last_offset(rt: HostRuntime) -> Result<(), Fail> {
+    let last = add_last(rt.alloc(), &mut table(rt.alloc()))?;
+    endpoint(
+        rt.alloc(),
+        MmioEndpoint::new(0, 0, &last),
+        b"\x02\0\x18\0\0\0\0\0\0\0\0\0\0\0\0\0\xe8\xff\0\0\0\0\0\0",
+    )?;
+    pci_range(
+        rt.alloc(),
+        range(&last),
+        b"\x01\0\x18\0\x25\x03\0\0\x01\x02\x07\x08\x25\x03\xff\xff\xe8\xff\0\0\0\0\0\0",
+    )
+}

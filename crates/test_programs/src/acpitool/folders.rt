@@ -1,0 +1,88 @@
+//! Tables that are written to a folder, and archives of a folder.
+
+use crate::acpitool::program::{TABLE, ends, write};
+use std::fs;
+use std::test::Fail;
+use test_support::same;
+
+// A dump of two tables of one signature.
+const DUMP: &str = "\
+OEMX @ 0x0000000000000000
+    0000: 4F 45 4D 58 24 00 00 00 01 8D 46 4F 4F 42 41 52  OEMX$.....FOOBAR
+    0010: 43 41 46 45 44 45 41 44 01 00 00 00 52 56 41 54  CAFEDEAD....RVAT
+    0020: 00 00 00 01                                      ....
+
+OEMX @ 0x0000000000001000
+    0000: 4F 45 4D 58 24 00 00 00 01 8D 46 4F 4F 42 41 52  OEMX$.....FOOBAR
+    0010: 43 41 46 45 44 45 41 44 01 00 00 00 52 56 41 54  CAFEDEAD....RVAT
+    0020: 00 00 00 01                                      ....
+
+";
+
+// Each table of a dump is a file, the second of a signature with a number. The folder is made. Files that are there stay as they
+// are, and the others are written.
+#[test]
+fn unpacked(rt: HostRuntime) -> Result<(), Fail> {
+    write(&rt, "dump", DUMP.as_bytes())?;
+    let words = ["unpack", "dump", "tables"];
+    let lines = [
+        "tables/OEMX.aml length 36\n",
+        "tables/OEMX1.aml length 36\n",
+    ];
+    ends(&rt, &words, 0, &lines, &[])?;
+    same(&fs::read(&rt, "tables/OEMX.aml")?, &TABLE)?;
+    same(&fs::read(&rt, "tables/OEMX1.aml")?, &TABLE)?;
+    write(&rt, "tables/OEMX.aml", b"kept")?;
+    fs::remove_file(&rt, "tables/OEMX1.aml")?;
+    let there = "tables/OEMX.aml: the file is there, and stays as it is\n";
+    ends(&rt, &words, 1, &[lines[1]], &[there])?;
+    same(&fs::read(&rt, "tables/OEMX.aml")?, b"kept")?;
+    same(&fs::read(&rt, "tables/OEMX1.aml")?, &TABLE)
+}
+
+// A folder that can't be made has a line, and so have bytes that are neither a dump nor an image.
+#[test]
+fn not_unpacked(rt: HostRuntime) -> Result<(), Fail> {
+    write(&rt, "dump", DUMP.as_bytes())?;
+    let line = "dump/tables: Not a directory (os error 20)\n";
+    ends(&rt, &["unpack", "dump", "dump/tables"], 1, &[], &[line])?;
+    write(&rt, "table", &TABLE)?;
+    let line = "table: no RSDP at a multiple of 16 bytes\n";
+    ends(&rt, &["unpack", "table", "tables"], 1, &[], &[line])
+}
+
+// What GNU cpio makes of the folders and of a file with the bytes of `TABLE`, but for the zeros at the end.
+const PARTS: [&[u8]; 6] = [
+    b"07070100000000000041ED0000000000000000000000030000000000000000000000000000000000000000000000000000000700000000kernel\0\0\0\0",
+    b"07070100000001000041ED0000000000000000000000030000000000000000000000000000000000000000000000000000001000000000kernel/firmware\0\0\0",
+    b"07070100000002000041ED0000000000000000000000020000000000000000000000000000000000000000000000000000001500000000kernel/firmware/acpi\0\0",
+    b"07070100000003000081A40000000000000000000000010000000000000024000000000000000000000000000000000000001E00000000kernel/firmware/acpi/OEMX.aml\0",
+    &TABLE,
+    b"07070100000000000000000000000000000000000000010000000000000000000000000000000000000000000000000000000B00000000TRAILER!!!\0\0\0\0",
+];
+
+// The archive of a folder with one table.
+#[test]
+fn archived(rt: HostRuntime) -> Result<(), Fail> {
+    fs::create_dir(&rt, "tables")?;
+    write(&rt, "tables/OEMX.aml", &TABLE)?;
+    ends(&rt, &["cpio", "tables", "archive"], 0, &[], &[])?;
+    let mut wanted = Vec::new(rt.alloc());
+    for part in &PARTS {
+        wanted.extend_from_slice(*part)?;
+    }
+    wanted.resize(1024, 0)?;
+    same(&fs::read(&rt, "archive")?, &wanted)
+}
+
+// A file that is no table is named, and no archive is written.
+#[test]
+fn not_archived(rt: HostRuntime) -> Result<(), Fail> {
+    fs::create_dir(&rt, "tables")?;
+    write(&rt, "tables/OEMX.aml", &TABLE)?;
+    write(&rt, "tables/short", &TABLE[..9])?;
+    write(&rt, "archive", b"kept")?;
+    let line = "tables/short: at 9: a table has at least the 36 bytes of the standard header\n";
+    ends(&rt, &["cpio", "tables", "archive"], 1, &[], &[line])?;
+    same(&fs::read(&rt, "archive")?, b"kept")
+}

@@ -1,0 +1,110 @@
+//! Words without a file: those that ask for something, and those that are wrong.
+
+use crate::acpitool::program::{ends, have_lines};
+use std::test::Fail;
+
+// What is printed after the line of a wrong word.
+const USAGE: &str = "\
+usage: acpitool show FILE .. [NAME=N ..] | check FILE .. | disassemble FILE [NAME=N ..] | names FILE [NAME=N ..] \
+| image FILE [BASE] | make [--force] TEXT FILE | template SIGNATURE | unpack FILE FOLDER [BASE] \
+| cpio FOLDER FILE | --help | --version
+";
+
+// The template of a definition block.
+const TEMPLATE: &str = "\
+Secondary System Description Table (SSDT)
+  Signature: \"SSDT\"
+  Length: ????????
+  Revision: 00
+  Checksum: ??
+  OEM ID: 00 00 00 00 00 00
+  OEM Table ID: 00 00 00 00 00 00 00 00
+  OEM Revision: 00000000
+  Creator ID: 00 00 00 00
+  Creator Revision: 00000000
+";
+
+#[test]
+fn version(rt: HostRuntime) -> Result<(), Fail> {
+    ends(&rt, &["--version"], 0, &["acpitool 0.1.0\n"], &[])?;
+    ends(&rt, &["--version", "show"], 0, &["acpitool 0.1.0\n"], &[])
+}
+
+#[test]
+fn template(rt: HostRuntime) -> Result<(), Fail> {
+    ends(&rt, &["template", "SSDT"], 0, &[TEMPLATE], &[])?;
+    let line = "acpitool: no table has the signature OEMX\n";
+    ends(&rt, &["template", "OEMX"], 1, &[], &[line])
+}
+
+#[test]
+fn wrong_commands(rt: HostRuntime) -> Result<(), Fail> {
+    have_lines(
+        &rt,
+        "acpitool: ",
+        USAGE,
+        &[
+            (&[], "no command\n"),
+            (&["shows", "x"], "unknown word shows\n"),
+            (&["", "x"], "unknown word \n"),
+            (&["-H"], "unknown word -H\n"),
+            (&["show"], "no file to show\n"),
+            (&["show", "MTHD=2"], "no file to show\n"),
+            (&["check"], "no file to check\n"),
+            (&["image"], "no file with an image\n"),
+            (&["disassemble"], "no file with a definition block\n"),
+            (&["names"], "no file with a definition block\n"),
+            (&["unpack"], "no file to unpack\n"),
+            (&["unpack", "x"], "no folder for the tables\n"),
+            (
+                &["unpack", "x", "y", "z"],
+                "not an address in hexadecimal: z\n",
+            ),
+            (&["unpack", "x", "y", "0", "z"], "unknown word z\n"),
+            (&["cpio"], "no folder with tables\n"),
+            (&["cpio", "x"], "no file for the archive\n"),
+            (&["cpio", "x", "y", "z"], "unknown word z\n"),
+            (
+                &["disassemble", "x", "y"],
+                "not NAME=N with N from 0 to 7: y\n",
+            ),
+        ],
+    )
+}
+
+#[test]
+fn wrong_makes(rt: HostRuntime) -> Result<(), Fail> {
+    have_lines(
+        &rt,
+        "acpitool: ",
+        USAGE,
+        &[
+            (&["make"], "no text to make\n"),
+            (&["make", "x"], "no file for the table\n"),
+            (&["make", "x", "y", "z"], "unknown word z\n"),
+            (&["make", "x", "--all"], "unknown word --all\n"),
+            (&["make", "--force"], "no text to make\n"),
+            (&["make", "--force", "x"], "no file for the table\n"),
+            (&["make", "x", "--force"], "no file for the table\n"),
+            (&["make", "x", "--force", "y", "z"], "unknown word z\n"),
+            (&["--force", "make"], "unknown word --force\n"),
+        ],
+    )
+}
+
+#[test]
+fn wrong_templates(rt: HostRuntime) -> Result<(), Fail> {
+    have_lines(
+        &rt,
+        "acpitool: ",
+        USAGE,
+        &[
+            (&["template"], "no signature\n"),
+            (&["template", "APIC", "x"], "unknown word x\n"),
+            (
+                &["template", "MADT1"],
+                "not a signature of four characters: MADT1\n",
+            ),
+        ],
+    )
+}

@@ -1,0 +1,118 @@
+//! Texts by forms that no table has.
+
+use acpi_base::row::{Bits, Row, Word};
+use acpi_base::walk::{Place, Sizes, Walk};
+use acpi_text::form::{Count, Inner, Part, StructureForm, TableForm};
+use acpi_text::table::show_by;
+use std::test::Fail;
+use test_support::agree;
+
+const FLAGS: [Bits; 6] = [
+    Bits::Flag(0x01, "a\nb"),
+    Bits::Flag(0x02, "c:d"),
+    Bits::OneOf(0x0c, &[Word(0x04, "Four"), Word(0x08, "Eight")]),
+    Bits::Number(0xf0, 0x10, "Count"),
+    Bits::Number(0x100, 0, "None"),
+    Bits::Flag(0x8000_0000, "Last"),
+];
+
+const LETTERS: [Row; 3] = [
+    Row::Number("A", 1),
+    Row::Number("B", 1),
+    Row::Number("C", 1),
+];
+
+const FORM: TableForm = TableForm {
+    name: "a\nb",
+    parts: &[
+        Part::Fields(&[Row::Number("a:b", 1), Row::Flags("Flags", 4, &FLAGS)]),
+        Part::Between(&LETTERS, 1, 2),
+        Part::Between(&LETTERS, 2, 2),
+        Part::Between(&LETTERS, 2, 1),
+        Part::Between(&LETTERS, 3, 9),
+        Part::Between(&LETTERS, 1, 9),
+        Part::Until("None", Place::Byte(99)),
+        Part::Entries("None", Count::Field(Place::DWord(99)), &LETTERS),
+        Part::Bytes("Text", Place::Byte(99)),
+        Part::Matrix("Row", 4, Place::Byte(6), Place::Byte(7)),
+    ],
+    structures: &[],
+};
+
+// Names with the end of a line or a colon are question marks. There are no rows past the last, nor where the first index isn't
+// below the second. The number in a field that the bytes haven't is 0. A matrix has numbers of four bytes. A number of bits whose
+// lowest bit is 0 is 0. Bits of which nothing is said are at the end.
+#[test]
+fn names_and_places(rt: HostRuntime) -> Result<(), Fail> {
+    let lines = "\
+?
+  0 ?                                   : 0a  // 10
+  1 Flags                               : 8000067b  // ? | ? | Eight | Count 7 | None 0 | Last | 0x0600
+  5 B                                   : 01
+  6 B                                   : 02
+  7 C                                   : 02
+  8 Text                                :
+  8 Row                                 : 00000001 00000002
+  16 Row                                : 80000000 0000000a
+";
+    let bytes = b"\x0a\x7b\x06\0\x80\x01\x02\x02\
+        \x01\0\0\0\x02\0\0\0\
+        \0\0\0\x80\x0a\0\0\0";
+    agree(&show_by(rt.alloc(), &FORM, None, bytes)?, lines)?;
+    agree(&show_by(rt.alloc(), &FORM, None, b"")?, "?\n")
+}
+
+const INNER: TableForm = TableForm {
+    name: "Parts",
+    parts: &[],
+    structures: &[StructureForm {
+        number: 0,
+        name: "Outer",
+        parts: &[],
+        inner: &Inner::Structures(
+            2,
+            "Inner",
+            Sizes::EachOf(9),
+            &[
+                Part::Fields(&[Row::Number("Offset of End", 1), Row::Number("Columns", 1)]),
+                Part::Until("Before", Place::Byte(0)),
+                Part::Matrix("Row", 1, Place::Byte(1), Place::Byte(1)),
+            ],
+        ),
+    }],
+};
+
+const ENTRIES: Walk = Walk {
+    start: 0,
+    sizes: Sizes::EachOf(20),
+    kind: Place::Nowhere,
+    count: Place::Nowhere,
+    first: Place::Nowhere,
+};
+
+// Parts of inner structures stand a level below their name, and offsets count from the beginning of the inner structure.
+#[test]
+fn parts_within(rt: HostRuntime) -> Result<(), Fail> {
+    let lines = "\
+Parts
+0 entry size 20 Outer
+  0 Bytes                               : 61 0a
+  2 Inner
+    2 Offset of End                     : 04
+    3 Columns                           : 02
+    4 Before                            : 00 00
+    6 Row                               : 01 02
+    8 Row                               : 03 04
+  10 Bytes                              : 05
+  11 Inner
+    11 Offset of End                    : 02
+    12 Columns                          : 03
+    13 Row                              : 01 02 03
+    16 Row                              : 04 05 06
+  19 Bytes                              : 07
+";
+    let bytes = b"\x61\x0a\
+        \x04\x02\0\0\x01\x02\x03\x04\x05\
+        \x02\x03\x01\x02\x03\x04\x05\x06\x07";
+    agree(&show_by(rt.alloc(), &INNER, Some(ENTRIES), bytes)?, lines)
+}

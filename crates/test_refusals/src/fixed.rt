@@ -1,0 +1,59 @@
+//! Tables and records of fixed size.
+
+use crate::short::{starve, starve_all};
+use acpi_tables::bert::BERT;
+use acpi_tables::facs::FACS;
+use acpi_tables::fadt::FADTBuilder;
+use acpi_tables::gas::{AccessSize, AddressSpace, GAS};
+use acpi_tables::rsdp::Rsdp;
+use acpi_tables::spcr::SPCR;
+use acpi_tables::tpm2::{PlatformClass, StartMethod, Tpm2, TpmClient1_2, TpmServer1_2};
+use std::test::Fail;
+use test_support::{OEM, OEM_REVISION, OEM_TABLE};
+
+#[test]
+fn records(rt: HostRuntime) -> Result<(), Fail> {
+    let alloc = rt.alloc();
+    let register = GAS::new(
+        AddressSpace::SystemIo,
+        8,
+        3,
+        AccessSize::WordAccess,
+        0x0807_0605_0403_0201,
+    );
+    starve_all(
+        alloc,
+        &[
+            (12, &register),
+            (36, &Rsdp::new(OEM, 0x0807_0605_0403_0201)),
+            (64, &FACS::new()),
+            (
+                276,
+                &FADTBuilder::new(OEM, OEM_TABLE, OEM_REVISION).finalize(),
+            ),
+            (48, &BERT::new(OEM, OEM_TABLE, OEM_REVISION, 1, 2)),
+            (90, &SPCR::sbi(OEM, OEM_TABLE, OEM_REVISION)),
+            (50, &TpmClient1_2::new(OEM, OEM_TABLE, OEM_REVISION, 1, 2)),
+            (100, &TpmServer1_2::new(OEM, OEM_TABLE, OEM_REVISION)),
+        ],
+    )
+}
+
+fn tpm2_table() -> Tpm2 {
+    Tpm2::new(
+        OEM,
+        OEM_TABLE,
+        OEM_REVISION,
+        PlatformClass::Server,
+        1,
+        StartMethod::Crb,
+    )
+}
+
+#[test]
+fn tpm2(rt: HostRuntime) -> Result<(), Fail> {
+    let mut table = tpm2_table();
+    starve(rt.alloc(), 52, &table)?;
+    table.set_log_area(2, 3)?;
+    starve(rt.alloc(), 76, &table)
+}
