@@ -119,8 +119,8 @@ beyond make show 2000 "$(made show 2000)" 'a byte of text that is made into a ta
 built flat 20000 'a term at depth 1'
 built deep 20000 'a term at depth 250'
 
-many make marks 40000 'a structure whose length is made of question marks' "$work/table"
-many make references 20000 'a node that refers to another, which is made' "$work/table"
+many make marks 10000 'a structure whose length is made of question marks' "$work/table"
+many make references 10000 'a node that refers to another, which is made' "$work/table"
 many show methods 4000 'a method that is shown, and a call of it'
 many image image 20000 'a table of an image'
 
