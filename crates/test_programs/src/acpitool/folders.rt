@@ -24,31 +24,31 @@ OEMX @ 0x0000000000001000
 #[test]
 fn unpacked(rt: HostRuntime) -> Result<(), Fail> {
     write(&rt, "dump", DUMP.as_bytes())?;
-    let words = ["unpack", "dump", "tables"];
+    let words = ["unpack", "dump", "unpacked"];
     let lines = [
-        "tables/OEMX.aml length 36\n",
-        "tables/OEMX1.aml length 36\n",
+        "unpacked/OEMX.aml length 36\n",
+        "unpacked/OEMX1.aml length 36\n",
     ];
     ends(&rt, &words, 0, &lines, &[])?;
-    same(&fs::read(&rt, "tables/OEMX.aml")?, &TABLE)?;
-    same(&fs::read(&rt, "tables/OEMX1.aml")?, &TABLE)?;
-    write(&rt, "tables/OEMX.aml", b"kept")?;
-    fs::remove_file(&rt, "tables/OEMX1.aml")?;
-    let there = "tables/OEMX.aml: the file is there, and stays as it is\n";
+    same(&fs::read(&rt, "unpacked/OEMX.aml")?, &TABLE)?;
+    same(&fs::read(&rt, "unpacked/OEMX1.aml")?, &TABLE)?;
+    write(&rt, "unpacked/OEMX.aml", b"kept")?;
+    fs::remove_file(&rt, "unpacked/OEMX1.aml")?;
+    let there = "unpacked/OEMX.aml: the file is there, and stays as it is\n";
     ends(&rt, &words, 1, &[lines[1]], &[there])?;
-    same(&fs::read(&rt, "tables/OEMX.aml")?, b"kept")?;
-    same(&fs::read(&rt, "tables/OEMX1.aml")?, &TABLE)
+    same(&fs::read(&rt, "unpacked/OEMX.aml")?, b"kept")?;
+    same(&fs::read(&rt, "unpacked/OEMX1.aml")?, &TABLE)
 }
 
 // A folder that can't be made has a line, and so have bytes that are neither a dump nor an image.
 #[test]
 fn not_unpacked(rt: HostRuntime) -> Result<(), Fail> {
-    write(&rt, "dump", DUMP.as_bytes())?;
-    let line = "dump/tables: Not a directory (os error 20)\n";
-    ends(&rt, &["unpack", "dump", "dump/tables"], 1, &[], &[line])?;
-    write(&rt, "table", &TABLE)?;
-    let line = "table: no RSDP at a multiple of 16 bytes\n";
-    ends(&rt, &["unpack", "table", "tables"], 1, &[], &[line])
+    write(&rt, "other", DUMP.as_bytes())?;
+    let line = "other/tables: Not a directory (os error 20)\n";
+    ends(&rt, &["unpack", "other", "other/tables"], 1, &[], &[line])?;
+    write(&rt, "plain", &TABLE)?;
+    let line = "plain: no RSDP at a multiple of 16 bytes\n";
+    ends(&rt, &["unpack", "plain", "nowhere"], 1, &[], &[line])
 }
 
 // What GNU cpio makes of the folders and of a file with the bytes of `TABLE`, but for the zeros at the end.
@@ -64,9 +64,9 @@ const PARTS: [&[u8]; 6] = [
 // The archive of a folder with one table.
 #[test]
 fn archived(rt: HostRuntime) -> Result<(), Fail> {
-    fs::create_dir(&rt, "tables")?;
-    write(&rt, "tables/OEMX.aml", &TABLE)?;
-    ends(&rt, &["cpio", "tables", "archive"], 0, &[], &[])?;
+    fs::create_dir(&rt, "archived")?;
+    write(&rt, "archived/OEMX.aml", &TABLE)?;
+    ends(&rt, &["cpio", "archived", "archive"], 0, &[], &[])?;
     let mut wanted = Vec::new(rt.alloc());
     for part in &PARTS {
         wanted.extend_from_slice(*part)?;
@@ -78,11 +78,11 @@ fn archived(rt: HostRuntime) -> Result<(), Fail> {
 // A file that is no table is named, and no archive is written.
 #[test]
 fn not_archived(rt: HostRuntime) -> Result<(), Fail> {
-    fs::create_dir(&rt, "tables")?;
-    write(&rt, "tables/OEMX.aml", &TABLE)?;
-    write(&rt, "tables/short", &TABLE[..9])?;
-    write(&rt, "archive", b"kept")?;
-    let line = "tables/short: at 9: a table has at least the 36 bytes of the standard header\n";
-    ends(&rt, &["cpio", "tables", "archive"], 1, &[], &[line])?;
-    same(&fs::read(&rt, "archive")?, b"kept")
+    fs::create_dir(&rt, "mixed")?;
+    write(&rt, "mixed/OEMX.aml", &TABLE)?;
+    write(&rt, "mixed/short", &TABLE[..9])?;
+    write(&rt, "old_archive", b"kept")?;
+    let line = "mixed/short: at 9: a table has at least the 36 bytes of the standard header\n";
+    ends(&rt, &["cpio", "mixed", "old_archive"], 1, &[], &[line])?;
+    same(&fs::read(&rt, "old_archive")?, b"kept")
 }
