@@ -20,6 +20,7 @@ TYPES = {
     "&mut [u8]": ["void *X", "size_t X_size"],
     "&mut [Structure]": ["struct hyssop_structure *X", "size_t X_size"],
     "&mut [Note]": ["struct hyssop_note *X", "size_t X_size"],
+    "&mut [ImageTable]": ["struct hyssop_image_table *X", "size_t X_size"],
 }
 # A type of hyssop.h, and that of hyssop.rs.
 RUST = {
@@ -35,6 +36,7 @@ RUST = {
     "char *": "*mut u8",
     "struct hyssop_structure *": "*mut Structure",
     "struct hyssop_note *": "*mut Note",
+    "struct hyssop_image_table *": "*mut ImageTable",
 }
 status = 0
 
@@ -108,13 +110,15 @@ in_rust = [
 found = re.findall(r"(pub fn \w+)\(([^)]*)\) -> ([^;]*);", rust)
 compare("hyssop.rs", "declaration", in_rust, [f"{name}({', '.join(parameters(given))}) -> {result}" for name, given, result in found])
 
-# The fields of the structs.
-for name, file in (("Structure", "structures"), ("Note", "notes")):
-    fields = re.findall(r"pub (\w+): usize", re.search(rf"pub struct {name} {{(.*?)}}", read(f"{RUN}/{file}.rt"), re.S)[1])
-    body = re.search(rf"struct hyssop_{name.lower()} {{(.*?)}};", header, re.S)[1]
-    if re.findall(r"size_t (\w+);", body) != fields or body.count(";") != len(fields):
-        differs(f"the fields of `struct hyssop_{name.lower()}` in hyssop.h aren't {fields}")
-    if re.findall(r"pub (\w+): usize", re.search(rf"pub struct {name} {{(.*?)}}", rust, re.S)[1]) != fields:
+# The fields of the structs: a type of the source, and that of hyssop.h.
+C_FIELDS = {"usize": "size_t X;", "u64": "uint64_t X;", "u32": "uint32_t X;", "[u8; 4]": "uint8_t X[4];"}
+for name, file in (("Structure", "structures"), ("Note", "notes"), ("ImageTable", "image")):
+    fields = re.findall(r"pub (\w+): ([^,]*),", re.search(rf"pub struct {name} {{(.*?)\n}}", read(f"{RUN}/{file}.rt"), re.S)[1])
+    in_c = f"struct hyssop_{constant(name).lower()}"
+    body = re.search(rf"{in_c} {{\n(.*?)}};", header, re.S)[1]
+    if [line.strip() for line in body.splitlines()] != [C_FIELDS[kind].replace("X", it) for it, kind in fields]:
+        differs(f"the fields of `{in_c}` in hyssop.h aren't {fields}")
+    if re.findall(r"pub (\w+): ([^,]*),", re.search(rf"pub struct {name} {{(.*?)\n}}", rust, re.S)[1]) != fields:
         differs(f"the fields of `{name}` in hyssop.rs aren't {fields}")
 
 # Faults: a name, a number and words.

@@ -5,7 +5,7 @@
 use std::ffi::c_char;
 
 /// `hyssop_version()` returns this, if the library fits these declarations.
-pub const VERSION: u32 = 2;
+pub const VERSION: u32 = 3;
 
 /// The type of a structure, if the structures of its table have none.
 pub const NO_KIND: usize = usize::MAX;
@@ -27,6 +27,7 @@ pub mod fault {
     pub const STRUCTURE: u32 = 19;
     pub const COUNT: u32 = 20;
     pub const UNKNOWN_SOURCE: u32 = 21;
+    pub const NO_BLOCK: u32 = 22;
     pub const TRUNCATED: u32 = 32;
     pub const OPCODE: u32 = 33;
     pub const PKG_LENGTH: u32 = 34;
@@ -87,10 +88,21 @@ pub struct Note {
     pub value: usize,
 }
 
+/// A table of an image: the physical address of its first byte, the number of its bytes, and its first four bytes, which are its
+/// signature, and `RSD ` of an RSDP.
+#[repr(C)]
+#[derive(Clone, Copy, Debug, Default, PartialEq, Eq)]
+pub struct ImageTable {
+    pub address: u64,
+    pub length: u32,
+    pub signature: [u8; 4],
+}
+
 unsafe extern "C" {
     pub fn hyssop_version() -> u32;
     pub fn hyssop_fault_words(number: u32) -> *const c_char;
     pub fn hyssop_check_table(bytes: *const u8, bytes_size: usize, place: *mut u64) -> u32;
+    pub fn hyssop_seal(bytes: *mut u8, bytes_size: usize, place: *mut u64) -> u32;
     pub fn hyssop_table_structures(
         bytes: *const u8,
         bytes_size: usize,
@@ -106,11 +118,41 @@ unsafe extern "C" {
         arities_size: usize,
         place: *mut u64,
     ) -> u32;
+    pub fn hyssop_disassemble(
+        bytes: *const u8,
+        bytes_size: usize,
+        arities: *const u8,
+        arities_size: usize,
+        out: *mut u8,
+        out_size: usize,
+        size: *mut usize,
+        place: *mut u64,
+    ) -> u32;
+    pub fn hyssop_names(
+        bytes: *const u8,
+        bytes_size: usize,
+        arities: *const u8,
+        arities_size: usize,
+        out: *mut u8,
+        out_size: usize,
+        size: *mut usize,
+        place: *mut u64,
+    ) -> u32;
     pub fn hyssop_check_image(
         bytes: *const u8,
         bytes_size: usize,
         base: u64,
         rsdp: u64,
+        place: *mut u64,
+    ) -> u32;
+    pub fn hyssop_image_tables(
+        bytes: *const u8,
+        bytes_size: usize,
+        base: u64,
+        rsdp: u64,
+        out: *mut ImageTable,
+        out_count: usize,
+        count: *mut usize,
         place: *mut u64,
     ) -> u32;
     pub fn hyssop_show(

@@ -54,8 +54,8 @@ port_subtype (Net vendor) = vendor
 
 -- ---- Debug Device Information structure
 
--- A device: its port, the number of its registers, the bytes of their addresses and of their sizes, the bytes of its name, and the
--- OEM data.
+-- A device: its port, the number of its registers, the bytes of their addresses and of their sizes, the bytes of its name, and
+-- the OEM data.
 pub record Device : Type 0 where
   pub port : DebugPort
   pub count : ℕ

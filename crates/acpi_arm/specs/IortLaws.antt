@@ -28,8 +28,8 @@ pub record NodesTellKinds : Type 0 where
   pub monitors : (p : Pmcg) → StandIn (pmcg_bytes p) 0 (5 ∷ [])
   pub reserved : (m : ReservedMemory) → StandIn (reserved_memory_bytes m) 0 (6 ∷ [])
 
--- At the offset that an adder returned for a node, the bytes of a table have the node, and so its type. This holds after any later
--- calls.
+-- At the offset that an adder returned for a node, the bytes of a table have the node, and so its type. This holds after any
+-- later calls.
 pub record NodesStand (t : Listing) : Type 0 where
   pub its_groups : (g : ItsGroup) → NodeStands t (whole (its_group_bytes g)) (0 ∷ [])
   pub named_components : (c : NamedComponent) → NodeStands t (structure_of (component_bytes c)) (1 ∷ [])

@@ -30,7 +30,8 @@ TimersAreRead = (b : GtBlock) → b.timers.count < 2 ^ 32 → HasList (gt_block_
 pub record DevicesAreRead : Type 0 where
   pub addresses : (d : Device) → length (device_bytes d) < 2 ^ 16 → d.count < 2 ^ 8
       → HasList (device_bytes d) 3 1 d.count 18 2 d.addresses
-  pub sizes : (d : Device) → length (device_bytes d) < 2 ^ 16 → d.count < 2 ^ 8 → HasList (device_bytes d) 3 1 d.count 20 2 d.sizes
+  pub sizes : (d : Device) → length (device_bytes d) < 2 ^ 16 → d.count < 2 ^ 8
+      → HasList (device_bytes d) 3 1 d.count 20 2 d.sizes
   pub names : (d : Device) → length (device_bytes d) < 2 ^ 16
       → HasList (device_bytes d) 4 2 (length d.name + 1) 6 2 (d.name ++ 0 ∷ [])
   pub oem_data : (d : Device) → length (device_bytes d) < 2 ^ 16

@@ -72,8 +72,8 @@ impl DBG2 {
         }
     }
 
-    /// Adds a device. The error is `FieldWidth` if the device would have more than 65,535 bytes, or the table's length would reach
-    /// 2^32.
+    /// Adds a device. The error is `FieldWidth` if the device would have more than 65,535 bytes, or the table's length would
+    /// reach 2^32.
     pub fn add_device(&mut self, device: DebugDevice) -> R<()>
         ensures { Adds result self.old (structure_of (device_bytes device)) self.new }
     {

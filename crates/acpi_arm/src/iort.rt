@@ -137,8 +137,8 @@ impl IORT {
         Ok(Handle::at(self.table.add_object_at(&root_complex)?))
     }
 
-    /// Adds an SMMUv1 or SMMUv2, and returns its handle. The error is `FieldWidth` if the node would have more than 65,535 bytes, or
-    /// the table's length would reach 2^32.
+    /// Adds an SMMUv1 or SMMUv2, and returns its handle. The error is `FieldWidth` if the node would have more than 65,535 bytes,
+    /// or the table's length would reach 2^32.
     #[tactic(auto, using(crate::proofs::Iorts::smmu_piece))]
     pub fn add_smmu(&mut self, mut smmu: Smmu) -> R<SmmuHandle>
         ensures { AddsAt result self.old.table

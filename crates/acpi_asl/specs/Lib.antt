@@ -10,3 +10,4 @@ pub mod Template
 pub mod Special
 pub mod Asl
 pub mod Namespace
+pub mod Block

@@ -107,7 +107,7 @@ pub const DESCRIPTORS: [Descriptor; 17] = [
     Descriptor::QwordIo,
 ];
 
-/// Bits of the byte at an offset, from one on, and so many.
+/// Bits of the byte at an offset: the lowest of them, and how many there are.
 macro_rules! bits {
     ($offset:literal, $shift:literal, $size:literal) => {
         Bits {

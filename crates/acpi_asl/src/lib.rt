@@ -1,7 +1,8 @@
-//! Definition blocks as ASL, the source language of ACPI (ACPI 6.5, chapter 19), which a compiler makes into their bytes.
+//! Definition blocks as ASL, the source language of ACPI (ACPI 6.5, chapter 19), and the objects that they make.
 #![tactic(auto)]
 
 pub mod asl;
+pub mod block;
 mod descriptor;
 mod eisa;
 mod item;

@@ -7,7 +7,8 @@ ghost use Rattle.acpi_base.specs.Bytes.{le, zeros};
 ghost use Rattle.acpi_base.specs.Object.{whole, whole_ends_well, Wrote, WriteRefused};
 ghost use Rattle.acpi_base.specs.Sink.{Took, Refused};
 ghost use Rattle.acpi_base.specs.Table.{with_checksum, table_of, IsTrueTable};
-ghost use Rattle.acpi_base.specs.Sdt.{Addition, HasLength, Overwriting, AddedObject, sdt_of, sdt_takes_nothing, sdt_takes_beginning};
+ghost use Rattle.acpi_base.specs.Sdt.{Addition, HasLength, Overwriting, AddedObject};
+ghost use Rattle.acpi_base.specs.Sdt.{sdt_of, sdt_takes_nothing, sdt_takes_beginning};
 ghost use Rattle.acpi_base.specs.SdtCalls.{IsValidAfterItsCalls};
 
 use crate::error::{Error, R};

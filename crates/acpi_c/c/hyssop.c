@@ -8,6 +8,7 @@ static union {
     unsigned char bytes[1];
     struct hyssop_structure structure;
     struct hyssop_note note;
+    struct hyssop_image_table table;
 } nothing;
 
 /* Results that a caller doesn't ask for. */
@@ -70,6 +71,13 @@ enum hyssop_fault hyssop_check_table(const void *bytes, size_t bytes_size, uint6
     return (enum hyssop_fault)hyssop_export_check_table(input(bytes), bytes_size, place_or(place, &unwanted));
 }
 
+enum hyssop_fault hyssop_seal(void *bytes, size_t bytes_size, uint64_t *place) {
+    struct unwanted unwanted;
+    if (is_null(bytes, bytes_size))
+        return null(NULL, place);
+    return (enum hyssop_fault)hyssop_export_seal(output(bytes), bytes_size, place_or(place, &unwanted));
+}
+
 enum hyssop_fault hyssop_table_structures(const void *bytes, size_t bytes_size, struct hyssop_structure *out, size_t out_count,
                                           size_t *count, uint64_t *place) {
     struct unwanted unwanted;
@@ -88,11 +96,38 @@ enum hyssop_fault hyssop_check_aml(const void *bytes, size_t bytes_size, const c
                                                       place_or(place, &unwanted));
 }
 
+enum hyssop_fault hyssop_disassemble(const void *bytes, size_t bytes_size, const char *arities, size_t arities_size, char *out,
+                                     size_t out_size, size_t *size, uint64_t *place) {
+    struct unwanted unwanted;
+    if (is_null(bytes, bytes_size) || is_null(arities, arities_size) || is_null(out, out_size))
+        return null(size, place);
+    return (enum hyssop_fault)hyssop_export_disassemble(input(bytes), bytes_size, input(arities), arities_size, output(out),
+                                                        out_size, size_or(size, &unwanted), place_or(place, &unwanted));
+}
+
+enum hyssop_fault hyssop_names(const void *bytes, size_t bytes_size, const char *arities, size_t arities_size, char *out,
+                               size_t out_size, size_t *size, uint64_t *place) {
+    struct unwanted unwanted;
+    if (is_null(bytes, bytes_size) || is_null(arities, arities_size) || is_null(out, out_size))
+        return null(size, place);
+    return (enum hyssop_fault)hyssop_export_names(input(bytes), bytes_size, input(arities), arities_size, output(out), out_size,
+                                                  size_or(size, &unwanted), place_or(place, &unwanted));
+}
+
 enum hyssop_fault hyssop_check_image(const void *bytes, size_t bytes_size, uint64_t base, uint64_t rsdp, uint64_t *place) {
     struct unwanted unwanted;
     if (is_null(bytes, bytes_size))
         return null(NULL, place);
     return (enum hyssop_fault)hyssop_export_check_image(input(bytes), bytes_size, base, rsdp, place_or(place, &unwanted));
+}
+
+enum hyssop_fault hyssop_image_tables(const void *bytes, size_t bytes_size, uint64_t base, uint64_t rsdp,
+                                      struct hyssop_image_table *out, size_t out_count, size_t *count, uint64_t *place) {
+    struct unwanted unwanted;
+    if (is_null(bytes, bytes_size) || is_null(out, out_count))
+        return null(count, place);
+    return (enum hyssop_fault)hyssop_export_image_tables(input(bytes), bytes_size, base, rsdp, output(out), out_count,
+                                                         size_or(count, &unwanted), place_or(place, &unwanted));
 }
 
 enum hyssop_fault hyssop_show(const void *bytes, size_t bytes_size, char *out, size_t out_size, size_t *size, uint64_t *place) {

@@ -7,7 +7,8 @@
    - Memory that is written overlaps no other argument. During the call no other thread uses it, and none writes to what is read.
    - malloc, realloc and free are those of one allocator, and align a block as C says. No call is made from a signal handler, or
      from the forked child of a process with threads.
-   - The stack has 512 KiB for hyssop_check_aml, and 128 KiB for every other function.
+   - The stack has 512 KiB for hyssop_check_aml, 2 MiB for hyssop_disassemble and hyssop_names, and 128 KiB for every other
+     function.
 
    Nothing is kept between calls, and several threads may call at once. What is found is written to the front of `out`, and *size
    or *count is how much that is. Texts have no zero at their end. If it is more than fits, the result is HYSSOP_FAULT_BUFFER, and
@@ -31,7 +32,7 @@ extern "C" {
 #endif
 
 /* hyssop_version() returns this, if the library fits this header. It grows when a function or a fault changes. */
-#define HYSSOP_VERSION 2
+#define HYSSOP_VERSION 3
 
 /* The type of a structure, if the structures of its table have none. */
 #define HYSSOP_NO_KIND SIZE_MAX
@@ -50,6 +51,7 @@ enum hyssop_fault {
     HYSSOP_FAULT_STRUCTURE = 19, /* a structure isn't as long as it says */
     HYSSOP_FAULT_COUNT = 20, /* a count isn't the number of what it counts */
     HYSSOP_FAULT_UNKNOWN_SOURCE = 21, /* the size of an error source isn't known */
+    HYSSOP_FAULT_NO_BLOCK = 22, /* the signature isn't DSDT or SSDT, as that of a definition block is */
     HYSSOP_FAULT_TRUNCATED = 32, /* the bytes end within a term */
     HYSSOP_FAULT_OPCODE = 33, /* no term begins so */
     HYSSOP_FAULT_PKG_LENGTH = 34, /* a PkgLength doesn't fit what surrounds it */
@@ -106,6 +108,14 @@ struct hyssop_note {
     size_t value;
 };
 
+/* A table of an image: the physical address of its first byte, the number of its bytes, and its first four bytes, which are its
+   signature, and "RSD " of an RSDP. */
+struct hyssop_image_table {
+    uint64_t address;
+    uint32_t length;
+    uint8_t signature[4];
+};
+
 uint32_t hyssop_version(void);
 
 /* The words of a fault, with a zero at their end. They are constant. */
@@ -113,6 +123,9 @@ const char *hyssop_fault_words(uint32_t number);
 
 /* Checks a table: its header, its length and its sum (ACPI 6.5, 5.2.6). *place is an offset. It takes no memory. */
 HYSSOP_RESULT enum hyssop_fault hyssop_check_table(const void *bytes, size_t bytes_size, uint64_t *place);
+
+/* Sets the length and the checksum of a table: the length is bytes_size. *place is an offset. It takes no memory. */
+HYSSOP_RESULT enum hyssop_fault hyssop_seal(void *bytes, size_t bytes_size, uint64_t *place);
 
 /* Writes the structures of a table, in order. *place is an offset. */
 HYSSOP_RESULT enum hyssop_fault hyssop_table_structures(const void *bytes, size_t bytes_size, struct hyssop_structure *out,
@@ -123,10 +136,25 @@ HYSSOP_RESULT enum hyssop_fault hyssop_table_structures(const void *bytes, size_
 HYSSOP_RESULT enum hyssop_fault hyssop_check_aml(const void *bytes, size_t bytes_size, const char *arities, size_t arities_size,
                                                  uint64_t *place);
 
+/* Writes the ASL of a definition block, DSDT or SSDT (chapter 19). `arities` is as above. A name that isn't there has the number
+   of arguments that the block itself states. *place is an offset in `bytes`. */
+HYSSOP_RESULT enum hyssop_fault hyssop_disassemble(const void *bytes, size_t bytes_size, const char *arities, size_t arities_size,
+                                                   char *out, size_t out_size, size_t *size, uint64_t *place);
+
+/* Writes the objects that a definition block makes when it is loaded (5.3), as a tree of names. All else is as above. */
+HYSSOP_RESULT enum hyssop_fault hyssop_names(const void *bytes, size_t bytes_size, const char *arities, size_t arities_size,
+                                             char *out, size_t out_size, size_t *size, uint64_t *place);
+
 /* Checks the tables in a guest's memory from the RSDP on (5.2.5 to 5.2.10). The bytes begin at the physical address `base`, and
    the RSDP is at the address `rsdp`. *place is the address of a table. */
 HYSSOP_RESULT enum hyssop_fault hyssop_check_image(const void *bytes, size_t bytes_size, uint64_t base, uint64_t rsdp,
                                                    uint64_t *place);
+
+/* Writes the tables of such an image: the RSDP, the XSDT, its entries in order, the FACS if there is one, and the DSDT. *place is
+   the address of a table. */
+HYSSOP_RESULT enum hyssop_fault hyssop_image_tables(const void *bytes, size_t bytes_size, uint64_t base, uint64_t rsdp,
+                                                    struct hyssop_image_table *out, size_t out_count, size_t *count,
+                                                    uint64_t *place);
 
 /* Writes the text of a table, an RSDP or a FACS: a line for each field, by its name. *place is an offset. */
 HYSSOP_RESULT enum hyssop_fault hyssop_show(const void *bytes, size_t bytes_size, char *out, size_t out_size, size_t *size,

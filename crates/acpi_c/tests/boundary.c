@@ -93,6 +93,28 @@ static uint32_t check_image(const void *bytes, size_t bytes_size, uint64_t base,
     return hyssop_check_image(put(input, bytes, bytes_size), bytes_size, base, rsdp, &place);
 }
 
+static uint32_t image_tables(const void *bytes, size_t bytes_size, uint64_t base, uint64_t rsdp, size_t out_count) {
+    uint8_t *out = blank(out_count * sizeof(struct hyssop_image_table));
+    struct hyssop_image_table *all = (struct hyssop_image_table *)(void *)out;
+    place = UNTOLD;
+    uint32_t number = hyssop_image_tables(put(input, bytes, bytes_size), bytes_size, base, rsdp, all, out_count, &size, &place);
+    return kept(number, out, out_count, sizeof *all);
+}
+
+/* A function that writes a text of a definition block. */
+typedef enum hyssop_fault block_text(const void *bytes, size_t bytes_size, const char *arities, size_t arities_size, char *out,
+                                     size_t out_size, size_t *size, uint64_t *place);
+
+static uint32_t block(block_text *text, const void *bytes, size_t bytes_size, const char *arities, size_t arities_size,
+                      size_t out_size) {
+    uint8_t *out = blank(out_size);
+    const char *words = (char *)put(second, arities, arities_size);
+    place = UNTOLD;
+    uint32_t number =
+        text(put(input, bytes, bytes_size), bytes_size, words, arities_size, (char *)out, out_size, &size, &place);
+    return kept(number, out, out_size, 1);
+}
+
 static uint32_t structures(const void *bytes, size_t bytes_size, size_t out_size) {
     uint8_t *out = blank(out_size * sizeof(struct hyssop_structure));
     struct hyssop_structure *all = (struct hyssop_structure *)(void *)out;
@@ -157,6 +179,7 @@ static void try_numbers(void) {
     want(HYSSOP_FAULT_ARITIES == 4 && HYSSOP_FAULT_SIGNATURE == 5 && HYSSOP_FAULT_NULL == 6);
     want(HYSSOP_FAULT_SHORT_HEADER == 16 && HYSSOP_FAULT_TABLE_LENGTH == 17 && HYSSOP_FAULT_SUM == 18);
     want(HYSSOP_FAULT_STRUCTURE == 19 && HYSSOP_FAULT_COUNT == 20 && HYSSOP_FAULT_UNKNOWN_SOURCE == 21);
+    want(HYSSOP_FAULT_NO_BLOCK == 22);
     want(HYSSOP_FAULT_TRUNCATED == 32 && HYSSOP_FAULT_OPCODE == 33 && HYSSOP_FAULT_PKG_LENGTH == 34);
     want(HYSSOP_FAULT_NUMBER == 35 && HYSSOP_FAULT_FLAGS == 36 && HYSSOP_FAULT_TEXT == 37 && HYSSOP_FAULT_TOO_DEEP == 38);
     want(HYSSOP_FAULT_IMAGE_OUTSIDE == 48 && HYSSOP_FAULT_IMAGE_SIGNATURE == 49 && HYSSOP_FAULT_IMAGE_LENGTH == 50);
@@ -189,6 +212,19 @@ static void try_null(void) {
     want(hyssop_check_aml(NULL, 0, NULL, 1, NULL) == HYSSOP_FAULT_NULL);
     want(hyssop_check_image(NULL, 0, 0, 0, NULL) == HYSSOP_FAULT_IMAGE_OUTSIDE);
     want(hyssop_check_image(NULL, 1, 0, 0, NULL) == HYSSOP_FAULT_NULL);
+    want(hyssop_seal(NULL, 0, NULL) == HYSSOP_FAULT_SHORT_HEADER);
+    want(hyssop_seal(NULL, 36, &at) == HYSSOP_FAULT_NULL && at == 0);
+    want(hyssop_disassemble(NULL, 0, NULL, 0, NULL, 0, NULL, NULL) == HYSSOP_FAULT_SHORT_HEADER);
+    want(hyssop_disassemble(NULL, 1, NULL, 0, NULL, 0, NULL, NULL) == HYSSOP_FAULT_NULL);
+    want(hyssop_disassemble("", 0, NULL, 1, NULL, 0, NULL, NULL) == HYSSOP_FAULT_NULL);
+    want(hyssop_disassemble("", 0, "", 0, NULL, 1, NULL, NULL) == HYSSOP_FAULT_NULL);
+    want(hyssop_names(NULL, 0, NULL, 0, NULL, 0, NULL, NULL) == HYSSOP_FAULT_SHORT_HEADER);
+    want(hyssop_names(NULL, 1, NULL, 0, NULL, 0, NULL, NULL) == HYSSOP_FAULT_NULL);
+    want(hyssop_names("", 0, NULL, 1, NULL, 0, NULL, NULL) == HYSSOP_FAULT_NULL);
+    want(hyssop_names("", 0, "", 0, NULL, 1, NULL, NULL) == HYSSOP_FAULT_NULL);
+    want(hyssop_image_tables(NULL, 0, 0, 0, NULL, 0, NULL, NULL) == HYSSOP_FAULT_IMAGE_OUTSIDE);
+    want(hyssop_image_tables(NULL, 1, 0, 0, NULL, 0, NULL, NULL) == HYSSOP_FAULT_NULL);
+    want(hyssop_image_tables("", 0, 0, 0, NULL, 1, NULL, NULL) == HYSSOP_FAULT_NULL);
     want(hyssop_show(NULL, 0, NULL, 0, NULL, NULL) == HYSSOP_FAULT_SHORT_HEADER);
     want(hyssop_show(NULL, 1, NULL, 0, NULL, NULL) == HYSSOP_FAULT_NULL);
     want(hyssop_show("", 0, NULL, 1, NULL, NULL) == HYSSOP_FAULT_NULL);
@@ -226,6 +262,83 @@ static void try_notes(void) {
     want(notes("  \t\r\n# none\n", 12, 0) == HYSSOP_FAULT_WANTS_TABLE && place == 3);
 }
 
+/* The length and the checksum are set, and no other byte. */
+static void try_seal(void) {
+    uint8_t bytes[300];
+    for (size_t length = 0; length < sizeof bytes; length++) {
+        for (size_t i = 0; i < length; i++)
+            bytes[i] = (uint8_t)(i * 7 + length);
+        uint8_t *given = put(output, bytes, length);
+        place = UNTOLD;
+        uint32_t number = hyssop_seal(given, length, &place);
+        if (length < 36) {
+            want(number == HYSSOP_FAULT_SHORT_HEADER && place == length && memcmp(given, bytes, length) == 0);
+            continue;
+        }
+        want(number == 0 && place == 0 && check_table(given, length) == 0);
+        want(given[4] == (length & 255) && given[5] == length >> 8 && given[6] == 0 && given[7] == 0);
+        memcpy(bytes + 4, given + 4, 4);
+        bytes[9] = given[9];
+        want(memcmp(given, bytes, length) == 0);
+    }
+}
+
+/* ---- definition blocks */
+
+/* A table with these bytes after its header. */
+static size_t make_block(uint8_t *bytes, const char *signature, const void *terms, size_t count) {
+    static const char header[] = "DSDT\0\0\0\0\2\0" "FOOBAR" "CAFEDEAD" "\1\0\0\0" "RVAT" "\1\0\0";
+    memmove(bytes + 36, terms, count);
+    memcpy(bytes, header, 36);
+    memcpy(bytes, signature, 4);
+    want(hyssop_seal(bytes, 36 + count, &place) == 0);
+    return 36 + count;
+}
+
+static int is_text(const char *text, size_t out_size) {
+    return size == strlen(text) && memcmp(output.end - out_size, text, size) == 0;
+}
+
+/* Scope (\_SB) {Device (DEV0) {Name (_UID, One)}}, Method (MTHD, 1) {Return (Arg0)}, Store (MTHD (One), Local0) (20.2.5) */
+static const char block_terms[] = "\x10\x13\\_SB_" "\x5b\x82\x0b" "DEV0" "\x08" "_UID" "\x01"
+                                  "\x14\x08" "MTHD" "\x01\xa4\x68" "\x70" "MTHD" "\x01\x60";
+
+static void try_block(void) {
+    static const char asl[] = "DefinitionBlock (\"\", \"DSDT\", 2, \"FOOBAR\", \"CAFEDEAD\", 0x00000001)\n{\n"
+                              "    Scope (\\_SB)\n    {\n        Device (DEV0)\n        {\n            Name (_UID, One)\n        }\n    }\n"
+                              "    Method (MTHD, 1, NotSerialized)\n    {\n        Return (Arg0)\n    }\n"
+                              "    Store (MTHD (One), Local0)\n}\n";
+    static const char tree[] = "\\_SB Scope\n    DEV0 Device\n        _UID Name One\nMTHD Method, arguments: 1\n";
+    static const struct {
+        block_text *text;
+        const char *wanted;
+    } texts[] = {{hyssop_disassemble, asl}, {hyssop_names, tree}};
+    static uint8_t bytes[MOST];
+    size_t length = make_block(bytes, "DSDT", block_terms, sizeof block_terms - 1);
+    for (size_t i = 0; i < sizeof texts / sizeof *texts; i++) {
+        block_text *text = texts[i].text;
+        size_t all = strlen(texts[i].wanted);
+        want(block(text, bytes, length, "", 0, 0) == HYSSOP_FAULT_BUFFER && size == all);
+        want(block(text, bytes, length, "", 0, all - 1) == HYSSOP_FAULT_BUFFER && size == all);
+        want(block(text, bytes, length, "", 0, all) == 0 && place == 0 && is_text(texts[i].wanted, all));
+        /* A stated number of arguments comes before that of the block: here a target is missing at the end. */
+        want(block(text, bytes, length, "MTHD=2", 6, PLENTY) == HYSSOP_FAULT_TRUNCATED && place == length);
+        want(block(text, bytes, length, "MTHD", 4, PLENTY) == HYSSOP_FAULT_ARITIES && place == 0);
+        want(block(text, bytes, length - 1, "", 0, PLENTY) == HYSSOP_FAULT_TABLE_LENGTH && place == 4);
+        want(block(text, bytes, 35, "", 0, PLENTY) == HYSSOP_FAULT_SHORT_HEADER && place == 35);
+        bytes[9]++;
+        want(block(text, bytes, length, "", 0, PLENTY) == HYSSOP_FAULT_SUM && place == 9);
+        bytes[9]--;
+    }
+    length = make_block(bytes, "OEM1", block_terms, sizeof block_terms - 1);
+    want(block(hyssop_disassemble, bytes, length, "", 0, PLENTY) == HYSSOP_FAULT_NO_BLOCK && place == 0);
+    /* An opcode that no term begins with, after a term of one byte. */
+    length = make_block(bytes, "SSDT", "\x01\xfe", 2);
+    want(block(hyssop_names, bytes, length, "", 0, PLENTY) == HYSSOP_FAULT_OPCODE && place == 37);
+    length = make_block(bytes, "SSDT", "", 0);
+    want(block(hyssop_names, bytes, length, "", 0, 0) == 0 && size == 0 && place == 0);
+}
+
 /* Packages that nest as deep as terms may (20.2.5.4), and one level deeper, with a stack of 512 KiB. */
 static size_t nested(uint8_t *bytes, size_t levels) {
     size_t at = MOST;
@@ -250,12 +363,29 @@ static void *read_nested(void *unused) {
     return NULL;
 }
 
-static void try_stack(void) {
+/* The same in a definition block, with a stack of 2 MiB. */
+static void *show_nested(void *unused) {
+    static uint8_t terms[MOST], bytes[MOST + 36];
+    (void)unused;
+    size_t length = make_block(bytes, "DSDT", terms, nested(terms, 255));
+    want(block(hyssop_disassemble, bytes, length, "", 0, MOST) == HYSSOP_FINE);
+    want(block(hyssop_names, bytes, length, "", 0, MOST) == HYSSOP_FINE);
+    length = make_block(bytes, "DSDT", terms, nested(terms, 256));
+    want(block(hyssop_disassemble, bytes, length, "", 0, MOST) == HYSSOP_FAULT_TOO_DEEP);
+    return NULL;
+}
+
+static void with_stack(size_t bytes, void *(*run)(void *)) {
     pthread_t thread;
     pthread_attr_t small;
-    want(pthread_attr_init(&small) == 0 && pthread_attr_setstacksize(&small, 512 * 1024) == 0);
-    want(pthread_create(&thread, &small, read_nested, NULL) == 0 && pthread_join(thread, NULL) == 0);
+    want(pthread_attr_init(&small) == 0 && pthread_attr_setstacksize(&small, bytes) == 0);
+    want(pthread_create(&thread, &small, run, NULL) == 0 && pthread_join(thread, NULL) == 0);
     want(pthread_attr_destroy(&small) == 0);
+}
+
+static void try_stack(void) {
+    with_stack(512 * 1024, read_nested);
+    with_stack(2048 * 1024, show_nested);
 }
 
 static void try_empty(void) {
@@ -353,6 +483,18 @@ static void try_table(const uint8_t *table, size_t count) {
 static void try_image(const uint8_t *image, size_t count, uint64_t base, uint64_t rsdp) {
     static uint8_t changed[MOST];
     want(check_image(image, count, base, rsdp) == 0 && place == 0);
+    want(image_tables(image, count, base, rsdp, 0) == HYSSOP_FAULT_BUFFER && size > 4);
+    size_t tables = size;
+    want(image_tables(image, count, base, rsdp, tables - 1) == HYSSOP_FAULT_BUFFER && size == tables);
+    want(image_tables(image, count, base, rsdp, tables) == 0 && size == tables && place == 0);
+    const struct hyssop_image_table *all = (const struct hyssop_image_table *)(const void *)output.end - tables;
+    want(all[0].address == rsdp && all[0].length == 36 && memcmp(all[0].signature, "RSD ", 4) == 0);
+    want(memcmp(all[1].signature, "XSDT", 4) == 0 && memcmp(all[tables - 1].signature, "DSDT", 4) == 0);
+    for (size_t i = 0; i < tables; i++) {
+        want(all[i].address >= base && all[i].address - base + all[i].length <= count);
+        want(memcmp(image + (all[i].address - base), all[i].signature, 4) == 0);
+    }
+    want(image_tables(image, 1, base, rsdp, 1) == HYSSOP_FAULT_IMAGE_OUTSIDE && place == rsdp);
     want(check_image(image, count, base, rsdp + 16) != 0 && check_image(image, count, base - 16, rsdp) != 0);
     for (size_t cut = 0; cut < rsdp - base + 36; cut++)
         want(check_image(image, cut, base, rsdp) == HYSSOP_FAULT_IMAGE_OUTSIDE && place == rsdp);
@@ -410,6 +552,8 @@ static void try_random(const uint8_t *table, size_t count) {
         structures(bytes, some, any(20));
         show(bytes, some, any(2) == 0 ? PLENTY : any(4000));
         check_image(bytes, some, any(2) == 0 ? 0 : UINT64_MAX - any(400), any(400));
+        image_tables(bytes, some, any(2) == 0 ? 0 : UINT64_MAX - any(400), any(400), any(9));
+        block(any(2) == 0 ? hyssop_names : hyssop_disassemble, bytes, some, words, any(sizeof words), any(4000));
         check_aml(bytes, some, words, any(sizeof words));
         if (some >= 36)
             check_aml(bytes + 36, some - 36, "", 0);
@@ -460,6 +604,11 @@ static void try_memory(void) {
     static const uint8_t aml[] = "\x08" "A___" "\x12\x0b\x02\x0d" "ABC\0" "MTHD";
     while (is_refused(number = check_aml(aml, sizeof aml - 1, "MTHD=1 \\_SB_.PCI0=2", 19))) {}
     printf("aml %u\n", number);
+    count = make_block(table, "DSDT", block_terms, sizeof block_terms - 1);
+    while (is_refused(number = block(hyssop_disassemble, table, count, "MTHD=1", 6, MOST))) {}
+    tell("disassemble", number, MOST);
+    while (is_refused(number = block(hyssop_names, table, count, "", 0, MOST))) {}
+    tell("names", number, MOST);
 }
 
 static size_t read_file(const char *path, uint8_t *bytes) {
@@ -484,6 +633,8 @@ int main(int count, char **files) {
     try_numbers();
     try_null();
     try_notes();
+    try_seal();
+    try_block();
     try_stack();
     try_empty();
     try_template();

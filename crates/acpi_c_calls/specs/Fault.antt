@@ -1,7 +1,10 @@
--- What can be wrong, by numbers that stay. The words of a fault of a text are those of `acpi_make`.
+-- What can be wrong, by numbers that stay. The words of an error of reading are those of `acpi_term`, and the words of a fault
+-- of a text are those of `acpi_make`.
 use Rattle.std.specs.Prelude.{ℕ, ◌==◌, if◌then◌else◌, List, [], ◌∷◌, ◌++◌, Option, Some, codes}
 use Rattle.std.specs.List.{find}
 use Rattle.std.specs.Option.{option_map}
+use Rattle.acpi_term.specs.ReadError.{message_of}
+use Rattle.acpi_term.specs.declared.read_error.ReadError.TheVariants as errors
 use Rattle.acpi_make.specs.Fault as texts
 use Rattle.acpi_make.specs.declared.fault.Wanted.{Wanted}
 use Rattle.acpi_make.specs.declared.fault.Wanted.TheVariants as wanted
@@ -25,19 +28,20 @@ facts fault.UnknownNumber = known 3 (codes "no fault has this number")
 facts fault.Arities = known 4 (codes "a number of arguments isn't NAME=N, or a name has two")
 facts fault.Signature = known 5 (codes "a signature has four bytes of text")
 facts fault.Null = known 6 (codes "a pointer is NULL, and its size isn't 0")
-facts fault.ShortHeader = known 16 (codes "a table has at least the 36 bytes of the standard header")
-facts fault.TableLength = known 17 (codes "the length of a table isn't the number of its bytes")
-facts fault.Sum = known 18 (codes "the bytes of a table don't sum to zero")
-facts fault.Structure = known 19 (codes "a structure isn't as long as it says")
-facts fault.Count = known 20 (codes "a count isn't the number of what it counts")
-facts fault.UnknownSource = known 21 (codes "the size of an error source isn't known")
-facts fault.Truncated = known 32 (codes "the bytes end within a term")
-facts fault.Opcode = known 33 (codes "no term begins so")
-facts fault.PkgLength = known 34 (codes "a PkgLength doesn't fit what surrounds it")
-facts fault.Number = known 35 (codes "a number isn't in its shortest form")
-facts fault.Flags = known 36 (codes "flags have no meaning")
-facts fault.Text = known 37 (codes "a string has a byte past 7F")
-facts fault.TooDeep = known 38 (codes "terms nest too deep")
+facts fault.ShortHeader = known 16 (message_of (errors.ShortHeader 0))
+facts fault.TableLength = known 17 (message_of (errors.TableLength 0))
+facts fault.Sum = known 18 (message_of (errors.Sum 0))
+facts fault.Structure = known 19 (message_of (errors.Structure 0))
+facts fault.Count = known 20 (message_of (errors.Count 0))
+facts fault.UnknownSource = known 21 (message_of (errors.UnknownSource 0))
+facts fault.NoBlock = known 22 (codes "the signature isn't DSDT or SSDT, as that of a definition block is")
+facts fault.Truncated = known 32 (message_of (errors.Truncated 0))
+facts fault.Opcode = known 33 (message_of (errors.Opcode 0))
+facts fault.PkgLength = known 34 (message_of (errors.Length 0))
+facts fault.Number = known 35 (message_of (errors.Number 0))
+facts fault.Flags = known 36 (message_of (errors.Flags 0))
+facts fault.Text = known 37 (message_of (errors.Text 0))
+facts fault.TooDeep = known 38 (message_of (errors.TooDeep 0))
 facts fault.ImageOutside = known 48 (codes "a table isn't in the image with its whole length")
 facts fault.ImageSignature = known 49 (codes "the signature of a table is wrong")
 facts fault.ImageLength = known 50 (codes "the length of a table is wrong")
@@ -81,8 +85,8 @@ words f = (facts f).words
 abbrev pub faults : List Fault
 faults =
     fault.Memory ∷ fault.Buffer ∷ fault.UnknownNumber ∷ fault.Arities ∷ fault.Signature ∷ fault.Null ∷ fault.ShortHeader ∷
-    fault.TableLength ∷ fault.Sum ∷ fault.Structure ∷ fault.Count ∷ fault.UnknownSource ∷ fault.Truncated ∷
-    fault.Opcode ∷ fault.PkgLength ∷ fault.Number ∷ fault.Flags ∷ fault.Text ∷ fault.TooDeep ∷
+    fault.TableLength ∷ fault.Sum ∷ fault.Structure ∷ fault.Count ∷ fault.UnknownSource ∷ fault.NoBlock ∷
+    fault.Truncated ∷ fault.Opcode ∷ fault.PkgLength ∷ fault.Number ∷ fault.Flags ∷ fault.Text ∷ fault.TooDeep ∷
     fault.ImageOutside ∷ fault.ImageSignature ∷ fault.ImageLength ∷ fault.ImageRevision ∷ fault.ImageSum ∷ fault.ImageEntries ∷
     fault.ImageNoFadt ∷ fault.ImageSecondFadt ∷ fault.ImageOverlap ∷ fault.WantsPrinting ∷ fault.WantsSpace ∷
     fault.WantsValue ∷ fault.WantsDigit ∷ fault.WantsSecondDigit ∷ fault.WantsQuotationMark ∷ fault.WantsQuestionMark ∷

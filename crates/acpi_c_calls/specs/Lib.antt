@@ -4,9 +4,11 @@ pub mod Results
 pub mod Table
 pub mod Structures
 pub mod Aml
+pub mod Block
 pub mod Image
 pub mod Show
 pub mod Make
 pub mod Notes
 pub mod Names
+pub mod Seal
 pub mod Laws

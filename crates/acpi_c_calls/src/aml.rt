@@ -52,7 +52,7 @@ fn words(alloc: Global, text: &str) -> Result<Vec<String>, AllocError>
 }
 
 // Returns how many arguments names take by a text.
-fn stated(alloc: Global, text: &[u8]) -> Result<Arities, Refused>
+pub(crate) fn stated(alloc: Global, text: &[u8]) -> Result<Arities, Refused>
     ensures ok { IfOk result (AreStated text.now) }
     ensures err { IfErr result (AreNotStated text.now) }
 {

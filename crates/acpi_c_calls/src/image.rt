@@ -1,12 +1,27 @@
-//! Checks of images.
+//! Checks of images, and their tables.
 
-ghost use Rattle.acpi_c_calls.specs.Results.{IsOutcome, Checks};
-ghost use Rattle.acpi_c_calls.specs.Image.{IsImageOfTables, IsImageRefusal};
+ghost use Rattle.std.specs.Prelude.{◌≡◌, map, IfOk, IfErr};
+ghost use Rattle.acpi_c_calls.specs.Image.{image_table, IsImageOfTables, AreImageTables, IsImageRefusal};
+ghost use Rattle.acpi_c_calls.specs.Refused.{by_memory};
+ghost use Rattle.acpi_c_calls.specs.Results.{seen, IsOutcome, Checks, Gives};
 
-use crate::give::result_of;
+use crate::give::{give, result_of};
 use crate::refused::Refused;
 use acpi_layout::check::check_image as tables_of;
+use acpi_layout::located::Located;
 use std::alloc::Global;
+
+/// A table of an image.
+#[repr(C)]
+#[derive(Clone, Copy, Debug, PartialEq, Drop)]
+pub struct ImageTable {
+    /// The physical address of its first byte.
+    pub address: u64,
+    /// The number of its bytes.
+    pub length: u32,
+    /// Its first four bytes: the signature (ACPI 6.5, 5.2.6), and `RSD ` of an RSDP.
+    pub signature: [u8; 4],
+}
 
 // Checks that bytes are an image.
 fn checked(alloc: Global, bytes: &[u8], base: u64, rsdp: u64) -> Result<(), Refused>
@@ -25,4 +40,57 @@ pub fn check_image(alloc: Global, bytes: &[u8], base: u64, rsdp: u64, place: &mu
     ensures { Checks (IsImageOfTables bytes.now base rsdp) (IsImageRefusal bytes.now base rsdp) result place.new }
 {
     result_of(checked(alloc, bytes, base, rsdp), place)
+}
+
+// Returns a table of an image.
+fn image_table(table: &Located) -> ImageTable
+    ensures { result ≡ image_table table.now }
+{
+    ImageTable {
+        address: table.address,
+        length: table.length,
+        signature: table.signature,
+    }
+}
+
+// Returns the tables of an image.
+fn image_tables_of(alloc: Global, tables: &[Located]) -> Result<Vec<ImageTable>, Refused>
+    ensures ok { IfOk result (λ found. found.items ≡ map image_table tables.now) }
+    ensures err { IfErr result (λ refused. refused ≡ by_memory) }
+{
+    let mut found = Vec::with_capacity(alloc, tables.len())?;
+    'tables: for table in tables {
+        found.push(image_table(table))?;
+    }
+    Ok(found)
+}
+
+// Returns the tables of the image that bytes are.
+fn found(alloc: Global, bytes: &[u8], base: u64, rsdp: u64) -> Result<Vec<ImageTable>, Refused>
+    ensures { IsOutcome (AreImageTables bytes.now base rsdp) (IsImageRefusal bytes.now base rsdp)
+        (seen (λ found. found.items) result) }
+{
+    match tables_of(alloc, bytes, base, rsdp) {
+        Ok(tables) => image_tables_of(alloc, &tables),
+        Err(error) => Err(Refused::from(error)),
+    }
+}
+
+/// Writes the tables of an image to `out`, in the order in which they are found: the RSDP, the XSDT, its entries in order, the
+/// FACS if there is one, and the DSDT. The image is checked as by `check_image`. `size` is how many there are. Returns 0, or the
+/// number of a fault, and `place` is the address of the table where it is. If `out` has space for fewer, the fault is `Buffer`,
+/// and nothing is written to `out`. With any other fault `size` is 0.
+pub fn image_tables(
+    alloc: Global,
+    bytes: &[u8],
+    base: u64,
+    rsdp: u64,
+    out: &mut [ImageTable],
+    size: &mut usize,
+    place: &mut u64,
+) -> u32
+    ensures { Gives (AreImageTables bytes.now base rsdp) (IsImageRefusal bytes.now base rsdp) out.old out.new result place.new
+        size.new }
+{
+    give(found(alloc, bytes, base, rsdp), out, size, place)
 }

@@ -2,6 +2,7 @@
 #![tactic(auto)]
 
 pub mod aml;
+pub mod block;
 pub mod fault;
 pub mod give;
 pub mod image;
@@ -10,6 +11,7 @@ pub mod make;
 pub mod names;
 pub mod notes;
 pub mod refused;
+pub mod seal;
 pub mod show;
 pub mod structures;
 pub mod table;

@@ -1,9 +1,10 @@
 -- Tables as two lists of bytes: the fixed part, and all structures.
-use Rattle.std.specs.Prelude.{◌≡◌, ℕ, ◌+◌, ◌-◌, ◌*◌, ◌%◌, ◌^◌, ◌<◌, ◌==◌, ◌||◌, ◌&&◌, nat_lt, min, Bool, List, [], ◌∷◌, ◌++◌}
+use Rattle.std.specs.Prelude.{◌≡◌, ℕ, ◌+◌, ◌-◌, ◌*◌, ◌%◌, ◌^◌, ◌<◌, ◌==◌, ◌||◌, ◌&&◌, ◌⊎◌, nat_lt, min, Bool, List, [], ◌∷◌, ◌++◌}
 use Rattle.std.specs.Prelude.{length, sum}
 use Rattle.std.specs.List.{concat}
 use Rattle.acpi_base.specs.Bytes.{le, put}
 use Rattle.acpi_core.specs.Listing.{Listing, IsListing, bytes_of, start_of}
+use Rattle.acpi_core.specs.declared.count.Count.{Count}
 use Rattle.acpi_core.specs.declared.form.Form.{Form}
 
 -- a table without structures
@@ -34,6 +35,14 @@ pub record IsFlat (t : Listing) (fixed body : List ℕ) (running count count_at 
   pub same_limit : limit ≡ t.limit
   pub counted : count ≡ number_up_to (length t.structures)
   pub sums : running ≡ sum (put 9 (0 ∷ []) (fixed ++ body)) % 256
+
+-- the number of structures has no field, or one of 2 or 4 bytes
+abbrev pub HasWidth : ℕ → Type 0
+HasWidth w = (w ≡ 0) ⊎ ((w ≡ 2) ⊎ (w ≡ 4))
+
+-- the number fits its field, if it has one
+abbrev pub FitsField : Count → Type 0
+FitsField count = (count.width ≡ 0) ⊎ (count.number < 2 ^ (8 * count.width))
 
 -- whether the length and the number of structures fit their fields after one more structure of this many bytes
 abbrev pub has_space : ℕ → ℕ → ℕ → ℕ → ℕ → Bool

@@ -39,7 +39,8 @@ StructuresStay = (old new : Listing) → IsLater old new → KeepsStructures old
 -- The structures, in order, are the one list that the walk finds, at their offsets.
 abbrev pub StructuresAreTheWalk : Type 0
 StructuresAreTheWalk =
-    (t : Listing) (ported : Bool) (w : Walk) → IsListing t → IsWalkOf ported w t → HasSizes w.sizes → ArePieces w.sizes t.structures
+    (t : Listing) (ported : Bool) (w : Walk) → IsListing t → IsWalkOf ported w t → HasSizes w.sizes
+    → ArePieces w.sizes t.structures
     → Walks w (bytes_of t) t.structures × ((pieces : List (List ℕ)) → Walks w (bytes_of t) pieces → pieces ≡ t.structures)
 
 -- No two structures that have bytes have the same offset.

@@ -6,9 +6,10 @@ ghost use Rattle.acpi_core.specs.Listing.{IsListing, bytes_of, size_of};
 ghost use Rattle.acpi_core.specs.Flat.{new_listing, number_up_to};
 ghost use Rattle.acpi_core.specs.Addition.{Adds, AddsAt};
 
+use crate::count::Count;
 use crate::form::Form;
 use crate::listed::Listed;
-use crate::settle::{grown, settle};
+use crate::settle::settle;
 use crate::structure::Structure;
 use acpi_base::error::R;
 use acpi_base::header::{header, seal};
@@ -27,9 +28,7 @@ pub struct Table<const N: usize> {
     fixed: [u8; N],
     body: Vec<u8>,
     sum: Sum,
-    count: u32,
-    count_at: usize,
-    count_width: usize,
+    count: Count,
     limit: usize,
     listed: Listed,
 }
@@ -42,7 +41,8 @@ impl<const N: usize> Model for Table<N> {
 
     ghost view = { λ t. record { table = t.listed.table; summed = t.sum.summed } };
 
-    ghost invariant = { λ t. IsFlat t.listed.table t.fixed t.body.items t.sum.value t.count t.count_at t.count_width t.limit };
+    ghost invariant = { λ t. IsFlat t.listed.table t.fixed t.body.items t.sum.value t.count.number t.count.at t.count.width
+        t.limit };
 }
 
 /// A table writes its fixed part and then its structures.
@@ -75,9 +75,11 @@ impl<const N: usize> Table<N> {
             fixed,
             body: Vec::new(alloc),
             sum,
-            count: 0,
-            count_at: 36 + before.len(),
-            count_width: form.count_width,
+            count: Count {
+                number: 0,
+                at: 36 + before.len(),
+                width: form.count_width,
+            },
             limit: form.limit,
             listed: Listed::new(&form, before, after),
         }
@@ -89,24 +91,11 @@ impl<const N: usize> Table<N> {
     pub fn add(&mut self, structure: &[u8]) -> R<()>
         ensures { Adds result self.old (whole structure.now) self.new }
     {
-        let (size, count) = grown(
-            N + self.body.len(),
-            structure.len(),
-            self.limit,
-            self.count,
-            self.count_width,
-        )?;
+        let held = N + self.body.len();
+        let (size, number) = self.count.grown(held, structure.len(), self.limit)?;
         self.body.extend_from_slice(structure)?;
-        settle(
-            &mut self.fixed,
-            &mut self.sum,
-            self.count_at,
-            self.count_width,
-            size,
-            count,
-            structure,
-        );
-        self.count = count;
+        self.count.number = number;
+        settle(&mut self.fixed, &mut self.sum, size, &self.count, structure);
         self.listed = Listed::with(&self.listed, structure);
         Ok(())
     }
@@ -121,22 +110,20 @@ impl<const N: usize> Table<N> {
             return Err(refusal);
         }
         let added = self.body.len() - start;
-        match grown(N + start, added, self.limit, self.count, self.count_width) {
+        match self.count.grown(N + start, added, self.limit) {
             Err(refusal) => {
                 self.body.truncate(start);
                 Err(refusal)
             }
-            Ok((size, count)) => {
+            Ok((size, number)) => {
+                self.count.number = number;
                 settle(
                     &mut self.fixed,
                     &mut self.sum,
-                    self.count_at,
-                    self.count_width,
                     size,
-                    count,
+                    &self.count,
                     &self.body[start..],
                 );
-                self.count = count;
                 self.listed = Listed::with(&self.listed, &self.body[start..]);
                 Ok(())
             }
@@ -172,6 +159,6 @@ impl<const N: usize> Table<N> {
     pub fn count(&self) -> u32
         ensures { result ≡ number_up_to (length self.now.table.structures) }
     {
-        self.count
+        self.count.number
     }
 }

@@ -5,7 +5,8 @@ use Rattle.acpi_base.specs.Walk.{ArePiecesOf}
 use Rattle.acpi_fixed.specs.declared.fadt.FADTBuilder.{FADTBuilder}
 use Rattle.acpi_fixed.specs.declared.fadt.Flags.{Flags}
 use Rattle.acpi_fixed.specs.declared.fadt.PmProfile.{PmProfile}
-use Rattle.acpi_fixed.specs.Fadt.{fadt_at_first, fadt_bytes, with_dsdt, with_facs, with_commands, with_flag, with_profile, with_gpe_info}
+use Rattle.acpi_fixed.specs.Fadt.{fadt_at_first, fadt_bytes}
+use Rattle.acpi_fixed.specs.Fadt.{with_dsdt, with_facs, with_commands, with_flag, with_profile, with_gpe_info}
 
 -- a call, with its arguments
 pub data BuilderCall : Type 0 where

@@ -4,6 +4,7 @@ use Rattle.acpi_base.specs.Walk.{named}
 use Rattle.acpi_base.specs.FurtherWalk.{table_walk_of}
 use Rattle.acpi_base.specs.declared.error.Error.{Error}
 use Rattle.acpi_base.specs.declared.walk.Walk.{Walk}
+use Rattle.acpi_text.specs.Structure.{all_forms}
 use Rattle.acpi_text.specs.Table.{table_text}
 use Rattle.acpi_text.specs.declared.form.TableForm.{TableForm}
 use Rattle.acpi_forms.specs.Name.{Named, IsNamed, kinds}
@@ -47,7 +48,7 @@ form_is_named s rows names other form none found are is = rw found (found_is_nam
 
 -- the names that such a form has beside a signature
 abbrev pub own_names : List ℕ × TableForm → Named
-own_names row = record { signature = row.0; name = row.1.name.now; kinds = kinds row.1.structures.now; written = nothing }
+own_names row = record { signature = row.0; name = row.1.name.now; kinds = kinds (all_forms row.1); written = nothing }
 
 own_are_named : (rows : List (List ℕ × TableForm)) → AreNamed rows (map own_names rows)
 own_are_named [] = tt

@@ -4,6 +4,7 @@ use Prim.Native.String.{String}
 use Rattle.acpi_forms.specs.Written.{Written, nothing, HasFields}
 use Rattle.acpi_text.specs.declared.form.StructureForm.{StructureForm}
 use Rattle.acpi_text.specs.declared.form.TableForm.{TableForm}
+use Rattle.acpi_text.specs.Structure.{all_forms}
 
 -- a table's signature, its name, the types of its structures with their names, and what of it is written
 pub record Named : Type 0 where
@@ -36,5 +37,5 @@ kinds forms = map (λ form. (form.number, form.name.now)) forms
 -- A form has this name, its structures have theirs, and its fields are those that are written.
 pub record IsNamed (form : TableForm) (n : Named) : Type 0 where
   pub name : form.name.now ≡ n.name
-  pub structures : kinds form.structures.now ≡ n.kinds
+  pub structures : kinds (all_forms form) ≡ n.kinds
   pub fields : HasFields n.written form

@@ -21,7 +21,7 @@ find_named s (n ∷ more) other = if s == named n.signature then n else find_nam
 
 -- ---- the structures of tables that are written
 
--- the structures of MADT (ACPI 6.5, 5.2.12)
+-- the structures of MADT (ACPI 6.5, 5.2.12): those that are written, and those that are only read
 abbrev pub madt_kinds : List (ℕ × List ℕ)
 madt_kinds =
     (0, codes "Processor Local APIC Structure")
@@ -37,11 +37,24 @@ madt_kinds =
     ∷ (13, codes "GIC MSI Frame Structure")
     ∷ (14, codes "GIC Redistributor (GICR) Structure")
     ∷ (15, codes "GIC Interrupt Translation Service (ITS) Structure")
-    ∷ (16, codes "Multiprocessor Wakeup Structure")
     ∷ (24, codes "RISC-V INTC Structure")
     ∷ (25, codes "RISC-V IMSIC Structure")
     ∷ (26, codes "RISC-V APLIC Structure")
     ∷ (27, codes "RISC-V PLIC Structure")
+    ∷ (6, codes "I/O SAPIC Structure")
+    ∷ (7, codes "Processor Local SAPIC Structure")
+    ∷ (8, codes "Platform Interrupt Source Structure")
+    ∷ (16, codes "Multiprocessor Wakeup Structure")
+    ∷ (17, codes "Core Programmable Interrupt Controller (CORE PIC) Structure")
+    ∷ (18, codes "Legacy I/O Programmable Interrupt Controller (LIO PIC) Structure")
+    ∷ (19, codes "HyperTransport Programmable Interrupt Controller (HT PIC) Structure")
+    ∷ (20, codes "Extend I/O Programmable Interrupt Controller (EIO PIC) Structure")
+    ∷ (21, codes "MSI Programmable Interrupt Controller (MSI PIC) Structure")
+    ∷ (22, codes "Bridge I/O Programmable Interrupt Controller (BIO PIC) Structure")
+    ∷ (23, codes "Low Pin Count Programmable Interrupt Controller (LPC PIC) Structure")
+    ∷ (28, codes "GICv5 Interrupt Routing Service (IRS) Structure")
+    ∷ (29, codes "GICv5 Interrupt Translation Service (ITS) Structure")
+    ∷ (30, codes "GICv5 ITS Translate Frame Structure")
     ∷ []
 
 -- the structures of SRAT (ACPI 6.5, 5.2.16)

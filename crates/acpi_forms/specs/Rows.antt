@@ -10,7 +10,7 @@ use Rattle.acpi_base.specs.declared.oem.Oem.{Oem}
 use Rattle.acpi_base.specs.declared.row.Row.{Row}
 use Rattle.acpi_base.specs.declared.walk.Walk.{Walk}
 use Rattle.acpi_text.specs.Form.{find_choice}
-use Rattle.acpi_text.specs.Structure.{find_form, form_parts, form_inner}
+use Rattle.acpi_text.specs.Structure.{all_forms, find_form, form_parts, form_inner}
 use Rattle.acpi_text.specs.declared.form.Choice.{Choice}
 use Rattle.acpi_text.specs.declared.form.Inner.{Inner}
 use Rattle.acpi_text.specs.declared.form.Inner.TheVariants.{Nothing, Structures}
@@ -69,7 +69,7 @@ type_in walk fields = number_in walk.kind (fields_joined fields)
 abbrev pub StructureHasAt : ℕ → Walk → {T : Type 0} → (T → List NamedField) → TableForm → Type 0
 StructureHasAt chosen walk {T} fields form =
     (structure : T)
-    → AreRowsOf (rows_of chosen (form_parts (find_form (type_in walk (fields structure)) form.structures.now))) (fields structure)
+    → AreRowsOf (rows_of chosen (form_parts (find_form (type_in walk (fields structure)) (all_forms form)))) (fields structure)
 
 abbrev pub StructureHas : Walk → {T : Type 0} → (T → List NamedField) → TableForm → Type 0
 StructureHas walk fields form = StructureHasAt 0 walk fields form
@@ -77,10 +77,10 @@ StructureHas walk fields form = StructureHasAt 0 walk fields form
 -- any entry of a name, in structures of a type
 abbrev pub EntryHas : ℕ → String → {T : Type 0} → (T → List NamedField) → TableForm → Type 0
 EntryHas kind name {T} fields form =
-    (entry : T) → AreRowsOf (entry_rows (codes name) (form_parts (find_form kind form.structures.now))) (fields entry)
+    (entry : T) → AreRowsOf (entry_rows (codes name) (form_parts (find_form kind (all_forms form)))) (fields entry)
 
 -- any structure within structures of a type, where the field that chooses has this number
 abbrev pub InnerHasAt : ℕ → ℕ → {T : Type 0} → (T → List NamedField) → TableForm → Type 0
 InnerHasAt chosen kind {T} fields form =
     (structure : T)
-    → AreRowsOf (rows_of chosen (inner_parts (form_inner (find_form kind form.structures.now)))) (fields structure)
+    → AreRowsOf (rows_of chosen (inner_parts (form_inner (find_form kind (all_forms form))))) (fields structure)

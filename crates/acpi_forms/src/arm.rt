@@ -46,6 +46,7 @@ const GTDT: TableForm = TableForm {
         Part::Fields(&GTDT_LAST),
     ],
     structures: &GTDT_TIMERS,
+    further: &[],
 };
 
 /// Returns the form of the Generic Timer Description Table (ACPI 6.5, 5.2.25).
@@ -84,6 +85,7 @@ const DBG2: TableForm = TableForm {
         ],
         inner: &Inner::Nothing,
     }],
+    further: &[],
 };
 
 /// Returns the form of the Debug Port Table 2 (Microsoft).
@@ -212,6 +214,7 @@ const IORT: TableForm = TableForm {
         ]),
     ],
     structures: &IORT_NODES,
+    further: &[],
 };
 
 /// Returns the form of the IO Remapping Table (Arm DEN0049E.d).

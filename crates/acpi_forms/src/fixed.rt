@@ -17,6 +17,7 @@ const RSDP: TableForm = TableForm {
     name: "Root System Description Pointer (RSDP)",
     parts: &[Part::Fields(&RSDP_ROWS)],
     structures: &[],
+    further: &[],
 };
 
 /// Returns the form of the Root System Description Pointer, which has no standard header (ACPI 6.5, 5.2.5.3).
@@ -30,6 +31,7 @@ const FACS: TableForm = TableForm {
     name: "Firmware ACPI Control Structure (FACS)",
     parts: &[Part::Fields(&FACS_ROWS)],
     structures: &[],
+    further: &[],
 };
 
 /// Returns the form of the Firmware ACPI Control Structure, which has no standard header (ACPI 6.5, 5.2.10).
@@ -43,6 +45,7 @@ const BERT: TableForm = TableForm {
     name: "Boot Error Record Table (BERT)",
     parts: &[Part::Fields(&HEADER), Part::Fields(&BERT_ROWS)],
     structures: &[],
+    further: &[],
 };
 
 /// Returns the form of the Boot Error Record Table (ACPI 6.5, 18.3.1).
@@ -56,6 +59,7 @@ const FADT: TableForm = TableForm {
     name: "Fixed ACPI Description Table (FADT)",
     parts: &[Part::Fields(&HEADER), Part::Fields(&FADT_ROWS)],
     structures: &[],
+    further: &[],
 };
 
 /// Returns the form of the Fixed ACPI Description Table (ACPI 6.5, 5.2.9).
@@ -74,6 +78,7 @@ const SPCR: TableForm = TableForm {
         Part::Bytes("NamespaceString", Place::Word(84)),
     ],
     structures: &[],
+    further: &[],
 };
 
 /// Returns the form of the Serial Port Console Redirection Table (Microsoft, revision 4).
@@ -104,6 +109,7 @@ const TCPA: TableForm = TableForm {
         Part::Chosen(Place::Word(36), &PLATFORM_CLASSES),
     ],
     structures: &[],
+    further: &[],
 };
 
 /// Returns the form of the Trusted Computing Platform Alliance Capabilities Table, of a client or a server (TCG ACPI
@@ -118,6 +124,7 @@ const TPM2: TableForm = TableForm {
     name: "Trusted Platform Module 2 Table (TPM2)",
     parts: &[Part::Fields(&HEADER), Part::Fields(&TPM2_FIXED)],
     structures: &[],
+    further: &[],
 };
 
 /// Returns the form of the Trusted Platform Module 2 Table (TCG ACPI Specification 1.4, 8).
@@ -131,6 +138,7 @@ const DSDT: TableForm = TableForm {
     name: "Differentiated System Description Table (DSDT)",
     parts: &[Part::Fields(&HEADER)],
     structures: &[],
+    further: &[],
 };
 
 /// Returns the form of the Differentiated System Description Table, whose AML follows its header (ACPI 6.5, 5.2.11.1).
@@ -144,6 +152,7 @@ const SSDT: TableForm = TableForm {
     name: "Secondary System Description Table (SSDT)",
     parts: &[Part::Fields(&HEADER)],
     structures: &[],
+    further: &[],
 };
 
 /// Returns the form of a Secondary System Description Table, whose AML follows its header (ACPI 6.5, 5.2.11.2).
@@ -158,6 +167,7 @@ pub const UNKNOWN: TableForm = TableForm {
     name: "Unknown table",
     parts: &[Part::Fields(&HEADER)],
     structures: &[],
+    further: &[],
 };
 
 /// Returns that form.

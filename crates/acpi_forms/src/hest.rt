@@ -64,6 +64,7 @@ const HEST: TableForm = TableForm {
         Part::Fields(&[Row::Number("Error Source Count", 4)]),
     ],
     structures: &SOURCES,
+    further: &[],
 };
 
 /// Returns the form of the Hardware Error Source Table (ACPI 6.5, 18.3.2).
@@ -132,6 +133,7 @@ const RQSC: TableForm = TableForm {
         Part::Fields(&[Row::Number("Number of QoS Controllers", 4)]),
     ],
     structures: &CONTROLLERS,
+    further: &[],
 };
 
 /// Returns the form of the RISC-V Quality of Service Controllers Table (this project's profile).

@@ -2,7 +2,7 @@
 
 ghost use Rattle.acpi_forms.specs.Named.{IsNamed, xsdt_names, mcfg_names, madt_names, srat_names, cedt_names};
 
-use crate::further::madt::WAKEUP_ROWS;
+use crate::further::madt::MADT_FURTHER;
 use crate::further::srat::GENERIC_PORT_ROWS;
 use acpi_base::header::HEADER;
 use acpi_base::row::Row;
@@ -30,6 +30,7 @@ const XSDT: TableForm = TableForm {
         parts: &[Part::Fields(&XSDT_ENTRY)],
         inner: &Inner::Nothing,
     }],
+    further: &[],
 };
 
 /// Returns the form of the Extended System Description Table (ACPI 6.5, 5.2.8).
@@ -48,6 +49,7 @@ const MCFG: TableForm = TableForm {
         parts: &[Part::Fields(&ECAM)],
         inner: &Inner::Nothing,
     }],
+    further: &[],
 };
 
 /// Returns the form of the PCI Express memory mapped configuration space base address description table (PCI Firmware 3.3,
@@ -58,7 +60,7 @@ pub fn mcfg_form() -> TableForm
     MCFG
 }
 
-const MADT_STRUCTURES: [StructureForm; 18] = [
+const MADT_STRUCTURES: [StructureForm; 17] = [
     StructureForm {
         number: 0,
         name: "Processor Local APIC Structure",
@@ -138,12 +140,6 @@ const MADT_STRUCTURES: [StructureForm; 18] = [
         inner: &Inner::Nothing,
     },
     StructureForm {
-        number: 16,
-        name: "Multiprocessor Wakeup Structure",
-        parts: &[Part::Fields(&WAKEUP_ROWS)],
-        inner: &Inner::Nothing,
-    },
-    StructureForm {
         number: 24,
         name: "RISC-V INTC Structure",
         parts: &[Part::Fields(&RINTC_ROWS)],
@@ -173,6 +169,7 @@ const MADT: TableForm = TableForm {
     name: "Multiple APIC Description Table (MADT)",
     parts: &[Part::Fields(&HEADER), Part::Fields(&MADT_FIXED)],
     structures: &MADT_STRUCTURES,
+    further: &MADT_FURTHER,
 };
 
 /// Returns the form of the Multiple APIC Description Table (ACPI 6.5, 5.2.12).
@@ -262,6 +259,7 @@ const SRAT: TableForm = TableForm {
         Part::Fields(&[Row::Preset("Reserved", 4, 1), Row::Reserved(8)]),
     ],
     structures: &SRAT_STRUCTURES,
+    further: &[],
 };
 
 /// Returns the form of the System Resource Affinity Table (ACPI 6.5, 5.2.16).
@@ -308,6 +306,7 @@ const CEDT: TableForm = TableForm {
     name: "CXL Early Discovery Table (CEDT)",
     parts: &[Part::Fields(&HEADER)],
     structures: &CEDT_STRUCTURES,
+    further: &[],
 };
 
 /// Returns the form of the CXL Early Discovery Table (this project's profile).

@@ -51,6 +51,7 @@ const HMAT: TableForm = TableForm {
     name: "Heterogeneous Memory Attribute Table (HMAT)",
     parts: &[Part::Fields(&HEADER), Part::Fields(&[Row::Reserved(4)])],
     structures: &HMAT_STRUCTURES,
+    further: &[],
 };
 
 /// Returns the form of the Heterogeneous Memory Attribute Table (ACPI 6.5, 5.2.28).
@@ -73,6 +74,7 @@ const SLIT: TableForm = TableForm {
         ),
     ],
     structures: &[],
+    further: &[],
 };
 
 /// Returns the form of the System Locality Information Table (ACPI 6.5, 5.2.17).

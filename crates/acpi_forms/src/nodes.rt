@@ -40,6 +40,7 @@ const PPTT: TableForm = TableForm {
     name: "Processor Properties Topology Table (PPTT)",
     parts: &[Part::Fields(&HEADER)],
     structures: &PPTT_NODES,
+    further: &[],
 };
 
 /// Returns the form of the Processor Properties Topology Table (ACPI 6.5, 5.2.30).
@@ -93,6 +94,7 @@ const RHCT: TableForm = TableForm {
         ]),
     ],
     structures: &RHCT_NODES,
+    further: &[],
 };
 
 /// Returns the form of the RISC-V Hart Capabilities Table (this project's profile).
@@ -140,6 +142,7 @@ const VIOT: TableForm = TableForm {
         ]),
     ],
     structures: &VIOT_NODES,
+    further: &[],
 };
 
 /// Returns the form of the Virtual I/O Translation Table (ACPI 6.5, 5.2.32).
@@ -197,6 +200,7 @@ const RIMT: TableForm = TableForm {
         ]),
     ],
     structures: &RIMT_DEVICES,
+    further: &[],
 };
 
 /// Returns the form of the RISC-V IO Mapping Table (this project's profile).

@@ -1,6 +1,6 @@
 //! HEST: the sources of hardware errors.
 
-ghost use Rattle.std.specs.Prelude.{◌≡◌, false, true, length};
+ghost use Rattle.std.specs.Prelude.{◌≡◌, ℕ, false, true, length};
 ghost use Rattle.acpi_base.specs.Object.{whole, whole_ends_well};
 ghost use Rattle.acpi_base.specs.Table.{IsTrueTable};
 ghost use Rattle.acpi_base.specs.Walk.{hest_walk, ArePieces};
@@ -9,7 +9,7 @@ ghost use Rattle.acpi_core.specs.Addition.{Adds};
 ghost use Rattle.acpi_core.specs.Calls.{IsAfterItsCalls};
 ghost use Rattle.acpi_core.specs.Listing.{bytes_of, length_limit};
 ghost use Rattle.acpi_core.specs.Walk.{IsWalked, Keeps};
-ghost use Rattle.acpi_hest.specs.Hest.{hest};
+ghost use Rattle.acpi_hest.specs.Hest.{hest, hest_of};
 ghost use Rattle.acpi_hest.specs.Laws.{AreSources};
 
 mod aer;
@@ -76,8 +76,22 @@ impl HEST {
     pub fn new(alloc: Global, oem_id: [u8; 6], oem_table_id: [u8; 8], oem_revision: u32) -> HEST
         ensures { result.table.table ≡ hest (record { id = oem_id; table_id = oem_table_id; revision = oem_revision }) }
     {
+        HEST::of_revision(alloc, 1, oem_id, oem_table_id, oem_revision)
+    }
+
+    /// A table of a revision without error sources. Revision 2 is that of ACPI 6.5.
+    pub fn of_revision(
+        alloc: Global,
+        revision: u8,
+        oem_id: [u8; 6],
+        oem_table_id: [u8; 8],
+        oem_revision: u32,
+    ) -> HEST
+        ensures { result.table.table
+            ≡ hest_of revision (record { id = oem_id; table_id = oem_table_id; revision = oem_revision }) }
+    {
         let oem = Oem::new(oem_id, oem_table_id, oem_revision);
-        let form = Form::new(*b"HEST", 1, oem, 4);
+        let form = Form::new(*b"HEST", revision, oem, 4);
         HEST {
             table: Walked::of(Table::new(alloc, form, &[], &[])),
         }
@@ -119,8 +133,8 @@ pub fn hest_is_walked(table: &HEST)
     ensures is_true { IsTrueTable (bytes_of table.now.table.table) }
     ensures keeps { Keeps true hest_walk length_limit false table.now.table.table }
     ensures walked { ArePieces hest_walk.sizes table.now.table.table.structures → IsWalked true hest_walk table.now.table.table }
-    ensures calls { ArePieces hest_walk.sizes table.now.table.table.structures → (oem : Oem)
-        → IsAfterItsCalls true hest_walk (hest oem) table.now.table }
+    ensures calls { ArePieces hest_walk.sizes table.now.table.table.structures → (revision : ℕ) (oem : Oem)
+        → IsAfterItsCalls true hest_walk (hest_of revision oem) table.now.table }
 {
     is_walked(&table.table)
 }

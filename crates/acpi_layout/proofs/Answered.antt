@@ -17,13 +17,13 @@ pub places_counted : (tables : List (List ℕ)) (laid : Laid) → length (all_pl
 places_counted [] laid = omega arith
 places_counted (t ∷ tables) laid = omega (arith, places_counted tables (placed t laid), length-append laid.places (length (padded 8 laid.bytes) ∷ []))
 
-fits_is : (base size tables : ℕ) → base + size ≤ 2 ^ 64 → 36 + 8 * (1 + tables) < 2 ^ 32 → nat_lt (base + size) (2 ^ 64 + 1) && nat_lt (36 + 8 * (1 + tables)) (2 ^ 32) ≡ true
+pub fits_is : (base size tables : ℕ) → base + size ≤ 2 ^ 64 → 36 + 8 * (1 + tables) < 2 ^ 32 → nat_lt (base + size) (2 ^ 64 + 1) && nat_lt (36 + 8 * (1 + tables)) (2 ^ 32) ≡ true
 fits_is base size tables low few = grind (arith, nat_tests, low, few)
 
-past_is : (base size tables : ℕ) → 2 ^ 64 < base + size → nat_lt (base + size) (2 ^ 64 + 1) && nat_lt (36 + 8 * (1 + tables)) (2 ^ 32) ≡ false
+pub past_is : (base size tables : ℕ) → 2 ^ 64 < base + size → nat_lt (base + size) (2 ^ 64 + 1) && nat_lt (36 + 8 * (1 + tables)) (2 ^ 32) ≡ false
 past_is base size tables high = grind (arith, nat_tests, high)
 
-many_is : (base size tables : ℕ) → 2 ^ 32 ≤ 36 + 8 * (1 + tables) → nat_lt (base + size) (2 ^ 64 + 1) && nat_lt (36 + 8 * (1 + tables)) (2 ^ 32) ≡ false
+pub many_is : (base size tables : ℕ) → 2 ^ 32 ≤ 36 + 8 * (1 + tables) → nat_lt (base + size) (2 ^ 64 + 1) && nat_lt (36 + 8 * (1 + tables)) (2 ^ 32) ≡ false
 many_is base size tables many = grind (arith, nat_tests, many)
 
 end_is : (end : Option Error) (fits : Bool) → end ≡ None → fits ≡ true → end_or end fits ≡ None

@@ -9,3 +9,4 @@ pub mod There
 pub mod Listed
 pub mod ReadBack
 pub mod Faults
+pub mod FromFiles

@@ -7,3 +7,5 @@ pub mod Apart
 pub mod ReadBack
 pub mod Fault
 pub mod FaultText
+pub mod Files
+pub mod FilesText

@@ -178,7 +178,7 @@ pub(crate) fn dsdt(bytes: &[u8], base: u64, fadt: Located) -> Result<Located, Im
 }
 
 // Whether these are a FADT's Flags of a hardware-reduced machine: bit 20 is HW_REDUCED_ACPI.
-fn is_reduced(flags: u32) -> bool
+pub(crate) fn is_reduced(flags: u32) -> bool
     ensures { result ≡ is_reduced flags }
 {
     flags / 0x10_0000 % 2 == 1

@@ -103,7 +103,13 @@ fn list(alloc: Global, base: u64, oem: Oem, places: &[u64]) -> R<XSDT>
 }
 
 // The XSDT and the RSDP behind the tables. Where the RSDP is.
-fn finish(alloc: Global, base: u64, oem: Oem, bytes: &mut Vec<u8>, places: &[u64]) -> R<u64>
+pub(crate) fn finish(
+    alloc: Global,
+    base: u64,
+    oem: Oem,
+    bytes: &mut Vec<u8>,
+    places: &[u64],
+) -> R<u64>
     ensures ok { OnOk result (bytes.new.items
         ≡ (with_pointer base oem (record { bytes = bytes.old.items; places = places.now })).bytes) }
     ensures rsdp { IfOk result (λ rsdp. base + length bytes.new.items ≤ 2 ^ 64

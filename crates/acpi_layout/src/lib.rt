@@ -4,8 +4,10 @@
 mod apart;
 pub mod check;
 pub mod fault;
+pub mod files;
 mod found;
 pub mod laws;
+pub mod lay_fault;
 pub mod layout;
 pub mod located;
 mod place;

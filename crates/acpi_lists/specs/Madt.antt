@@ -46,24 +46,32 @@ madt_bits =
     flag 0x1 "PCAT_COMPAT"
     ∷ []
 
-abbrev pub madt_fields : LocalInterruptController → List NamedField
-madt_fields controller =
+abbrev pub madt_fields_of : LocalInterruptController → ℕ → List NamedField
+madt_fields_of controller bits =
     hex dword "Local Interrupt Controller Address" (controller_address controller)  -- 36
-    ∷ flags madt_bits dword "Flags" 0  -- 40
+    ∷ flags madt_bits dword "Flags" bits  -- 40
     ∷ []
 
--- a table without structures
-abbrev pub madt : Oem → LocalInterruptController → Listing
-madt oem controller = record {
+-- those of a table of `new`
+abbrev pub madt_fields : LocalInterruptController → List NamedField
+madt_fields controller = madt_fields_of controller 0
+
+-- a table of a revision without structures
+abbrev pub madt_of : ℕ → Oem → LocalInterruptController → ℕ → Listing
+madt_of revision oem controller bits = record {
   signature = codes "APIC";
-  revision = 1;
+  revision = revision;
   oem = oem;
-  before = fields_joined (madt_fields controller);
+  before = fields_joined (madt_fields_of controller bits);
   count_width = 0;
   after = [];
   limit = length_limit;
   structures = [];
 }
+
+-- that of `new`
+abbrev pub madt : Oem → LocalInterruptController → Listing
+madt oem controller = madt_of 1 oem controller 0
 
 -- The first IMSIC is added like any structure. A second one returns `ImsicSet`, and the table is unchanged.
 pub record AddsImsic (result : Result Unit Error) (old : MADT) (imsic : List ℕ) (new : MADT) : Type 0 where

@@ -14,11 +14,11 @@ use Rattle.acpi_lists.specs.declared.srat.MemoryAffinity.{MemoryAffinity}
 use Rattle.acpi_lists.specs.declared.srat.GenericInitiator.{GenericInitiator}
 use Rattle.acpi_lists.specs.declared.srat.RintcAffinity.{RintcAffinity}
 
--- a table without structures
-abbrev pub srat : Oem → Listing
-srat oem = record {
+-- a table of a revision without structures
+abbrev pub srat_of : ℕ → Oem → Listing
+srat_of revision oem = record {
   signature = codes "SRAT";
-  revision = 1;
+  revision = revision;
   oem = oem;
   before = le 4 1 ++ zeros 8;  -- 36: always 1; 40: reserved
   count_width = 0;
@@ -26,6 +26,10 @@ srat oem = record {
   limit = length_limit;
   structures = [];
 }
+
+-- that of the revision of `new`
+abbrev pub srat : Oem → Listing
+srat oem = srat_of 1 oem
 
 -- ---- Memory Affinity Structure (5.2.16.2)
 

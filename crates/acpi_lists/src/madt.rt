@@ -1,7 +1,7 @@
 //! MADT: the interrupt controllers of a machine.
 
 ghost use Rattle.acpi_core.specs.Flat.{number_up_to};
-ghost use Rattle.std.specs.Prelude.{◌≡◌, false, true, length};
+ghost use Rattle.std.specs.Prelude.{◌≡◌, ℕ, false, true, length};
 ghost use Rattle.acpi_base.specs.Fields.{AreRowsOf};
 ghost use Rattle.acpi_base.specs.Object.{whole, whole_ends_well};
 ghost use Rattle.acpi_base.specs.Table.{IsTrueTable};
@@ -11,7 +11,7 @@ ghost use Rattle.acpi_core.specs.Addition.{Adds};
 ghost use Rattle.acpi_core.specs.Calls.{IsAfterItsCalls};
 ghost use Rattle.acpi_core.specs.Listing.{bytes_of, length_limit};
 ghost use Rattle.acpi_core.specs.Walk.{IsWalked, Keeps};
-ghost use Rattle.acpi_lists.specs.Madt.{controller_address, madt_fields, madt, AddsImsic, StructuresTellTheirLength};
+ghost use Rattle.acpi_lists.specs.Madt.{controller_address, madt_fields_of, madt, madt_of, AddsImsic, StructuresTellTheirLength};
 ghost use Rattle.acpi_lists.specs.MadtRiscv.{imsic_bytes};
 ghost use Rattle.acpi_lists.specs.declared.madt.LocalInterruptController.{LocalInterruptController};
 
@@ -74,6 +74,9 @@ pub enum EnabledStatus {
     DisabledOnlineCapable = 2,
 }
 
+/// The flag of `MADT::of_revision` that says that the machine has two 8259 controllers (ACPI 6.5, 5.2.12).
+pub const PCAT_COMPAT: u32 = 1;
+
 /// The Multiple APIC Description Table (ACPI 6.5, 5.2.12). Its structures begin at offset 44. Each contains its type at offset 0
 /// and its length in bytes at offset 1.
 #[derive(Drop)]
@@ -119,9 +122,30 @@ impl MADT {
             ≡ madt (record { id = oem_id; table_id = oem_table_id; revision = oem_revision }) int }
         ensures imsic { result.has_imsic ≡ false }
     {
+        MADT::of_revision(alloc, 1, oem_id, oem_table_id, oem_revision, int, 0)
+    }
+
+    /// A table of a revision without structures, and with flags (offset 40): `PCAT_COMPAT` if the machine has two 8259
+    /// controllers. Revision 5 is that of ACPI 6.3, and 6 that of ACPI 6.5.
+    pub fn of_revision(
+        alloc: Global,
+        revision: u8,
+        oem_id: [u8; 6],
+        oem_table_id: [u8; 8],
+        oem_revision: u32,
+        int: LocalInterruptController,
+        flags: u32,
+    ) -> MADT
+        ensures table { result.table.table
+            ≡ madt_of revision (record { id = oem_id; table_id = oem_table_id; revision = oem_revision }) int flags }
+        ensures imsic { result.has_imsic ≡ false }
+    {
         let oem = Oem::new(oem_id, oem_table_id, oem_revision);
-        let form = Form::new(*b"APIC", 1, oem, 0);
-        let before: [u8; 8] = record_of_numbers(&MADT_FIXED, &[u64::from(int.address()), 0]);
+        let form = Form::new(*b"APIC", revision, oem, 0);
+        let before: [u8; 8] = record_of_numbers(
+            &MADT_FIXED,
+            &[u64::from(int.address()), u64::from(flags)],
+        );
         MADT {
             table: Walked::of(Table::new(alloc, form, &before, &[])),
             has_imsic: false,
@@ -181,7 +205,7 @@ pub const MADT_FIXED: [Row; 2] = [
 
 /// The rows of the table's fixed fields, in order.
 pub fn madt_rows() -> &'static [Row]
-    ensures { (controller : LocalInterruptController) → AreRowsOf result.now (madt_fields controller) }
+    ensures { (controller : LocalInterruptController) (bits : ℕ) → AreRowsOf result.now (madt_fields_of controller bits) }
 {
     &MADT_FIXED
 }
@@ -192,8 +216,9 @@ pub fn madt_is_walked(table: &MADT)
     ensures is_true { IsTrueTable (bytes_of table.now.table.table) }
     ensures keeps { Keeps true madt_walk length_limit false table.now.table.table }
     ensures walked { ArePieces madt_walk.sizes table.now.table.table.structures → IsWalked true madt_walk table.now.table.table }
-    ensures calls { ArePieces madt_walk.sizes table.now.table.table.structures → (oem : Oem) (controller : LocalInterruptController)
-        → IsAfterItsCalls true madt_walk (madt oem controller) table.now.table }
+    ensures calls { ArePieces madt_walk.sizes table.now.table.table.structures
+        → (revision : ℕ) (oem : Oem) (controller : LocalInterruptController) (bits : ℕ)
+        → IsAfterItsCalls true madt_walk (madt_of revision oem controller bits) table.now.table }
 {
     is_walked(&table.table)
 }

@@ -9,7 +9,7 @@ ghost use Rattle.acpi_core.specs.Addition.{Adds};
 ghost use Rattle.acpi_core.specs.Calls.{IsAfterItsCalls};
 ghost use Rattle.acpi_core.specs.Listing.{bytes_of, length_limit};
 ghost use Rattle.acpi_core.specs.Walk.{IsWalked, Keeps};
-ghost use Rattle.acpi_lists.specs.Srat.{srat, memory_affinity, memory_affinity_bytes, memory_affinity_fields};
+ghost use Rattle.acpi_lists.specs.Srat.{srat, srat_of, memory_affinity, memory_affinity_bytes, memory_affinity_fields};
 ghost use Rattle.acpi_lists.specs.Srat.{acpi_handle_fields, pci_handle_fields, handle_bytes, handle_object, handle_ends_well};
 ghost use Rattle.acpi_lists.specs.Srat.{handle_type, is_address};
 ghost use Rattle.acpi_lists.specs.Srat.{generic_initiator, generic_initiator_fields, generic_initiator_object};
@@ -71,8 +71,23 @@ impl SRAT {
     pub fn new(alloc: Global, oem_id: [u8; 6], oem_table_id: [u8; 8], oem_revision: u32) -> SRAT
         ensures { result.table.table ≡ srat (record { id = oem_id; table_id = oem_table_id; revision = oem_revision }) }
     {
+        SRAT::of_revision(alloc, 1, oem_id, oem_table_id, oem_revision)
+    }
+
+    /// A table of a revision without structures. From revision 2 on the proximity domain of a processor has 32 bits; revision 3
+    /// is that of ACPI 6.5.
+    pub fn of_revision(
+        alloc: Global,
+        revision: u8,
+        oem_id: [u8; 6],
+        oem_table_id: [u8; 8],
+        oem_revision: u32,
+    ) -> SRAT
+        ensures { result.table.table
+            ≡ srat_of revision (record { id = oem_id; table_id = oem_table_id; revision = oem_revision }) }
+    {
         let oem = Oem::new(oem_id, oem_table_id, oem_revision);
-        let form = Form::new(*b"SRAT", 1, oem, 0);
+        let form = Form::new(*b"SRAT", revision, oem, 0);
         SRAT {
             table: Walked::of(Table::new(alloc, form, &[1, 0, 0, 0, 0, 0, 0, 0, 0, 0, 0, 0], &[])),
         }
@@ -153,7 +168,7 @@ impl SRAT {
 pub fn srat_is_walked(table: &SRAT)
     ensures keeps { Keeps true srat_walk length_limit true table.now.table.table }
     ensures walked { IsWalked true srat_walk table.now.table.table }
-    ensures calls { (oem : Oem) → IsAfterItsCalls true srat_walk (srat oem) table.now.table }
+    ensures calls { (revision : ℕ) (oem : Oem) → IsAfterItsCalls true srat_walk (srat_of revision oem) table.now.table }
 {
     is_walked(&table.table)
 }

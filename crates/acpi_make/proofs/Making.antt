@@ -35,6 +35,7 @@ use Rattle.acpi_make.specs.declared.state.State.TheVariants.{Start}
 use Rattle.acpi_text.specs.Table.{table_text}
 use Rattle.acpi_text.specs.declared.form.StructureForm.{StructureForm}
 use Rattle.acpi_make.proofs.Tables.{tables_mean}
+use Rattle.acpi_text.specs.Structure.{all_forms}
 
 -- ---- known bytes are kept
 
@@ -220,7 +221,7 @@ number_same None = refl
 -- no mark is a reference, and each says the same as itself
 mark_same : (s : Source) (one : Mark) → is_reference one ≡ false → is_same s s one one ≡ true
 mark_same s (Structure at from to) plain =
-    rw (eq-eqb at at refl, number_same (heading_number s.form.structures.now (part_at from to s.text))) refl
+    rw (eq-eqb at at refl, number_same (heading_number (all_forms s.form) (part_at from to s.text))) refl
 mark_same s (Line at from to) plain = rw (eq-eqb at at refl, name_same (name_in s from to)) refl
 mark_same s (Reference at w from to) plain = absurd cc
 

@@ -12,6 +12,7 @@ use Rattle.acpi_make.specs.Text.{part_at, after_offset, are_white}
 use Rattle.acpi_make.specs.declared.draft.Mark.{Mark}
 use Rattle.acpi_make.specs.declared.draft.Mark.TheVariants.{Structure, Line, Reference}
 use Rattle.acpi_make.specs.declared.item.Cell.{Cell}
+use Rattle.acpi_text.specs.Structure.{all_forms}
 
 -- the range of the name of the last line that begins at an offset
 abbrev pub last_line : ℕ → Option (ℕ × ℕ) → List Mark → Option (ℕ × ℕ)
@@ -54,4 +55,4 @@ another_type s marks start cells None = None
 
 -- the fault of a structure that begins at an offset, and whose heading is that of another type
 abbrev pub misnamed : Source → List Mark → ℕ → List Cell → List ℕ → Option Fault
-misnamed s marks start cells heading = another_type s marks start cells (by_heading heading s.form.structures.now)
+misnamed s marks start cells heading = another_type s marks start cells (by_heading heading (all_forms s.form))

@@ -2,7 +2,7 @@
 use Rattle.std.specs.Prelude.{ℕ, ◌-◌, ◌==◌, nat_le, nat_lt, not, ◌&&◌, ◌||◌, Bool, true, false, if◌then◌else◌}
 use Rattle.std.specs.Prelude.{List, [], ◌∷◌, length, take, drop, codes, Option, Some, None, Result, Ok}
 use Rattle.acpi_base.specs.declared.walk.Walk.{Walk}
-use Rattle.acpi_text.specs.Structure.{find_form}
+use Rattle.acpi_text.specs.Structure.{all_forms, find_form}
 use Rattle.acpi_text.specs.Table.{table_text}
 use Rattle.acpi_text.specs.declared.form.StructureForm.{StructureForm}
 use Rattle.acpi_make.specs.Draft.{Drafted, nothing_yet, is_nameless, name_of_form, all_taken}
@@ -69,8 +69,8 @@ is_same_name (c ∷ name) (d ∷ other) =
 abbrev pub is_same : Source → Source → Mark → Mark → Bool
 is_same s t (Structure a from to) (Structure b since until) =
     a == b
-    && is_same_number (heading_number s.form.structures.now (part_at from to s.text))
-    (heading_number t.form.structures.now (part_at since until t.text))
+    && is_same_number (heading_number (all_forms s.form) (part_at from to s.text))
+    (heading_number (all_forms t.form) (part_at since until t.text))
 is_same s t (Line a from to) (Line b since until) = a == b && is_same_name (name_in s from to) (name_in t since until)
 is_same s t (Structure a from to) (Line b since until) = false
 is_same s t (Structure a from to) (Reference b w since until) = false
@@ -138,7 +138,7 @@ name_of_number forms None = []
 abbrev pub wanted_at : Source → ℕ → ℕ → List Mark → ℕ → Fault
 wanted_at t from to [] end = fault from to wants.End
 wanted_at t from to (Structure at since until ∷ others) end =
-    next from to (name_of_number t.form.structures.now (heading_number t.form.structures.now (part_at since until t.text))) 0
+    next from to (name_of_number (all_forms t.form) (heading_number (all_forms t.form) (part_at since until t.text))) 0
 wanted_at t from to (Line at since until ∷ others) end =
     if is_nameless (name_in t since until) then fault from to wants.Nameless
     else next from to (name_found (find_anywhere (name_in t since until) t.form)) (next_line others end - at)

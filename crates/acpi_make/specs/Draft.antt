@@ -2,7 +2,7 @@
 use Rattle.std.specs.Prelude.{ℕ, ◌-◌, ◌==◌, nat_le, nat_lt, not, ◌&&◌, ◌||◌, Bool, true, false, if◌then◌else◌}
 use Rattle.std.specs.Prelude.{List, [], ◌∷◌, ◌++◌, length, drop, replicate, codes, Option, Some, None, Result, Ok, Err}
 use Rattle.acpi_base.specs.Bytes.{le}
-use Rattle.acpi_text.specs.Structure.{form_parts, form_inner}
+use Rattle.acpi_text.specs.Structure.{all_forms, form_parts, form_inner}
 use Rattle.acpi_text.specs.declared.form.Inner.{Inner}
 use Rattle.acpi_text.specs.declared.form.Inner.TheVariants.{Nothing}
 use Rattle.acpi_text.specs.declared.form.Part.{Part}
@@ -72,7 +72,7 @@ nothing_yet = record {
 -- ---- the form of what the text is in
 
 abbrev pub here : Source → Drafted → Option StructureForm
-here s d = structure_form s.kind s.form.structures.now (part_at d.from d.to s.text) (drop d.start d.cells)
+here s d = structure_form s.kind (all_forms s.form) (part_at d.from d.to s.text) (drop d.start d.cells)
 
 abbrev pub parts_here : Source → Drafted → List Part
 parts_here s d = if d.inside then form_parts (here s d) else s.form.parts.now

@@ -19,6 +19,7 @@ use Rattle.acpi_make.specs.Text.{after, are_white}
 use Rattle.acpi_make.specs.declared.entry.Field.{Field}
 use Rattle.acpi_make.specs.declared.entry.Search.{Search}
 use Rattle.acpi_make.specs.declared.entry.Search.TheVariants.{Found, Missing}
+use Rattle.acpi_text.specs.Structure.{all_forms}
 
 -- A field that a form names: its name, the width of a number in it, how many bytes a line of it has, and what its value is. A
 -- name over fields has no number, and the width 0. A line whose number of bytes depends on other fields has the size 0 here.
@@ -145,7 +146,7 @@ find_inside line (form ∷ forms) = or_else (next_entry 0 line (structure_entrie
 
 -- the first field of a line's name in a table and its structures
 abbrev pub find_anywhere : List ℕ → TableForm → Option (ℕ × Entry)
-find_anywhere line form = or_else (next_entry 0 line (parts_entries form.parts.now ++ [])) (find_inside line form.structures.now)
+find_anywhere line form = or_else (next_entry 0 line (parts_entries form.parts.now ++ [])) (find_inside line (all_forms form))
 
 -- the name of the field that was found
 abbrev pub name_found : Option (ℕ × Entry) → List ℕ

@@ -11,7 +11,7 @@ use Rattle.acpi_base.specs.declared.walk.Place.{Place}
 use Rattle.acpi_base.specs.declared.walk.Sizes.{Sizes}
 use Rattle.acpi_base.specs.declared.walk.Sizes.TheVariants.{EachOf, ToldAt, BySource}
 use Rattle.acpi_base.specs.declared.walk.Walk.{Walk}
-use Rattle.acpi_text.specs.Structure.{form_parts, form_inner}
+use Rattle.acpi_text.specs.Structure.{all_forms, form_parts, form_inner}
 use Rattle.acpi_text.specs.declared.form.Count.{Count}
 use Rattle.acpi_text.specs.declared.form.Count.TheVariants.{Field, Rest}
 use Rattle.acpi_text.specs.declared.form.Inner.{Inner}
@@ -207,7 +207,7 @@ kind_own kind start size None = []
 -- the type of a structure, and the numbers of what it contains, with the marks after it
 unfoldable pub structure_own : Source → List Cell → List Mark → ℕ → ℕ → ℕ → ℕ → List Own
 structure_own s cells marks total at from to =
-    let form = structure_form s.kind s.form.structures.now (part_at from to s.text) (drop at cells) in
+    let form = structure_form s.kind (all_forms s.form) (part_at from to s.text) (drop at cells) in
     let size = next_start marks total - at in
     kind_own s.kind at size form
     ++ (parts_own s.text marks total at size (form_parts form) ++ inner_own s.text marks total (form_inner form))

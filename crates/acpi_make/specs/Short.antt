@@ -27,6 +27,7 @@ use Rattle.acpi_make.specs.declared.short.Fit.{Fit}
 use Rattle.acpi_make.specs.declared.short.Fit.TheVariants.{Leaves, Lacks, Depends}
 use Rattle.acpi_make.specs.declared.item.Cell.{Cell}
 use Rattle.acpi_make.specs.declared.item.Cell.TheVariants.{Byte, Left}
+use Rattle.acpi_text.specs.Structure.{all_forms}
 
 -- ---- room for fields
 
@@ -87,7 +88,7 @@ short_in s place cells [] = None
 short_in s place cells (Structure at from to ∷ marks) =
     first_of
     (short_structure place cells at (next_start marks (length cells) - at) from to
-    (structure_form s.kind s.form.structures.now (part_at from to s.text) (drop at cells)))
+    (structure_form s.kind (all_forms s.form) (part_at from to s.text) (drop at cells)))
     (short_in s place cells marks)
 short_in s place cells (Line at from to ∷ marks) = short_in s place cells marks
 short_in s place cells (Reference at w from to ∷ marks) = short_in s place cells marks

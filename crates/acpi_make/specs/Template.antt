@@ -31,6 +31,7 @@ use Rattle.acpi_make.specs.Draft.{is_nameless}
 use Rattle.acpi_make.specs.Entry.{row_entry}
 use Rattle.acpi_make.specs.declared.file_kind.FileKind.{FileKind}
 use Rattle.acpi_make.specs.declared.file_kind.FileKind.TheVariants as kinds
+use Rattle.acpi_text.specs.Structure.{all_forms}
 
 -- ---- lists
 
@@ -287,4 +288,4 @@ abbrev pub template_text : List ℕ → FileKind → TableForm → Option Walk �
 template_text signature file_kind form walk =
     label form.name.now
     ++ (10 ∷ (parts_lines 0 (table_known signature file_kind walk form.parts.now) 0 form.parts.now
-    ++ structures_text walk form.structures.now))
+    ++ structures_text walk (all_forms form)))

@@ -124,7 +124,7 @@ pub fn misnamed(
         marks,
         start,
         cells,
-        by_heading(heading, source.form.structures),
+        by_heading(heading, &source.form),
     )
 }
 

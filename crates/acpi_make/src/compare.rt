@@ -14,6 +14,7 @@ ghost use Rattle.acpi_make.specs.Gives.{Gives};
 ghost use Rattle.acpi_make.specs.Own.{next_line};
 ghost use Rattle.acpi_make.specs.Source.{source_of};
 ghost use Rattle.acpi_make.specs.declared.draft.Mark as mark;
+ghost use Rattle.acpi_text.specs.Structure.{all_forms};
 
 use crate::draft::{Draft, Mark, Source, draft_of, is_nameless};
 use crate::entry::{Field, find_anywhere};
@@ -23,15 +24,15 @@ use crate::own::next_line;
 use crate::read::read_text;
 use crate::text::{after, after_offset, are_white, decimal_of, digits_front, part_at};
 use acpi_base::walk::Walk;
-use acpi_text::form::StructureForm;
+use acpi_text::form::TableForm;
 use acpi_text::piece::find_form;
 use acpi_text::table::show_by;
 use std::alloc::Global;
 
 // Returns the type of which a heading says that its structure has it: the number after the word `type`, 0 after the word `entry`,
 // or that of the structure's name.
-fn heading_number(forms: &[StructureForm], heading: &[u8]) -> Option<u64>
-    ensures { result ≡ heading_number forms.now heading.now }
+fn heading_number(table: &TableForm, heading: &[u8]) -> Option<u64>
+    ensures { result ≡ heading_number (all_forms table.now) heading.now }
 {
     let words = described(heading);
     if let Some(text) = after(b"type ", words) {
@@ -40,7 +41,7 @@ fn heading_number(forms: &[StructureForm], heading: &[u8]) -> Option<u64>
     if let Some(_) = after(b"entry", words) {
         return Some(0);
     }
-    match find_named(words, forms) {
+    match find_named(words, table) {
         Some(form) => Some(form.number as u64),
         None => None,
     }
@@ -118,8 +119,8 @@ fn is_same(source: &Source, shown: &Source, one: &Mark, other: &Mark) -> bool
             let wanted = part_at(since, until, shown.text);
             at == start
                 && is_same_number(
-                    heading_number(source.form.structures, heading),
-                    heading_number(shown.form.structures, wanted),
+                    heading_number(&source.form, heading),
+                    heading_number(&shown.form, wanted),
                 )
         }
         (
@@ -257,11 +258,11 @@ fn cover(source: &Source, one: &Mark, end: usize, covered: Range) -> Range
 }
 
 // Returns the name of the structures of a type, or nothing.
-fn name_of_number(forms: &[StructureForm], number: Option<u64>) -> &'static str
-    ensures { result.now ≡ name_of_number forms.now number }
+fn name_of_number(table: &TableForm, number: Option<u64>) -> &'static str
+    ensures { result.now ≡ name_of_number (all_forms table.now) number }
 {
     match number {
-        Some(number) => match find_form(number as usize, forms) {
+        Some(number) => match find_form(number as usize, table) {
             Some(form) => form.name,
             None => "",
         },
@@ -292,9 +293,8 @@ fn wanted_at(shown: &Source, from: usize, to: usize, others: &[Mark], end: usize
             },
             ..
         ] => {
-            let forms = shown.form.structures;
-            let number = heading_number(forms, part_at(*since, *until, shown.text));
-            Fault::next(from, to, name_of_number(forms, number), 0)
+            let number = heading_number(&shown.form, part_at(*since, *until, shown.text));
+            Fault::next(from, to, name_of_number(&shown.form, number), 0)
         }
         [
             Mark::Line {

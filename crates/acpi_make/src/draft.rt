@@ -239,12 +239,7 @@ impl Draft {
         ensures { result ≡ here (source_of source.now) (drafted self.now) }
     {
         let heading = part_at(self.from, self.to, source.text);
-        structure_form(
-            source.kind,
-            source.form.structures,
-            heading,
-            self.cells_here(),
-        )
+        structure_form(source.kind, &source.form, heading, self.cells_here())
     }
 
     // Returns the parts of what the text is in, and what it contains after them.

@@ -9,6 +9,7 @@ ghost use Rattle.acpi_make.specs.Entry.{choice_entries, part_entries, parts_entr
 ghost use Rattle.acpi_make.specs.Entry.{entry, open_entry, entry_of, is_line_of, is_of, next_number, find_entry};
 ghost use Rattle.acpi_make.specs.Entry.{next_entry, IsSearch, found_of};
 ghost use Rattle.acpi_make.specs.Entry.{find_inside, find_anywhere};
+ghost use Rattle.acpi_text.specs.Structure.{all_forms};
 
 use crate::text::{after, are_white};
 use acpi_base::gas::GENERIC_ADDRESS;
@@ -309,11 +310,16 @@ pub fn entry_from(least: usize, parts: &[Part], inner: &Inner) -> Option<(usize,
     search_both(least, b"", parts, inner)
 }
 
-// Returns the first field of a line's name in structures.
-fn find_inside(line: &[u8], forms: &[StructureForm]) -> Option<(usize, Field)>
-    ensures { found_of result ≡ find_inside line.now forms.now }
+// Returns the first field of a line's name in the structures of a table.
+fn find_inside(line: &[u8], table: &TableForm) -> Option<(usize, Field)>
+    ensures { found_of result ≡ find_inside line.now (all_forms table.now) }
 {
-    'forms: for form in forms {
+    'structures: for form in table.structures {
+        if let Some(found) = next_entry(0, line, form.parts, form.inner) {
+            return Some(found);
+        }
+    }
+    'further: for form in table.further {
         if let Some(found) = next_entry(0, line, form.parts, form.inner) {
             return Some(found);
         }
@@ -327,6 +333,6 @@ pub fn find_anywhere(line: &[u8], form: &TableForm) -> Option<(usize, Field)>
 {
     match next_entry(0, line, form.parts, &Inner::Nothing) {
         Some(found) => Some(found),
-        None => find_inside(line, form.structures),
+        None => find_inside(line, form),
     }
 }

@@ -4,12 +4,13 @@ ghost use Rattle.std.specs.Prelude.{◌≡◌, ◌≤◌, nat_le, length, MatchO
 ghost use Rattle.acpi_base.specs.Walk.{place_width};
 ghost use Rattle.acpi_make.specs.Heading.{word_front, label_of, unlabelled, described, find_named, numbered, by_heading};
 ghost use Rattle.acpi_make.specs.Heading.{known_front, is_known, is_lowest, has_number, by_bytes, structure_form};
+ghost use Rattle.acpi_text.specs.Structure.{all_forms};
 
 use crate::entry::is_line_of;
 use crate::item::Cell;
 use crate::text::{after, after_offset, decimal_of, digits_front, is_white};
 use acpi_base::walk::Place;
-use acpi_text::form::StructureForm;
+use acpi_text::form::{StructureForm, TableForm};
 use acpi_text::piece::find_form;
 
 // Returns how many characters stand before the first white space.
@@ -62,10 +63,15 @@ pub fn described(heading: &[u8]) -> &[u8]
 }
 
 /// Returns the form of a name.
-pub fn find_named(name: &[u8], forms: &[StructureForm]) -> Option<StructureForm>
-    ensures { result ≡ find_named name.now forms.now }
+pub fn find_named(name: &[u8], table: &TableForm) -> Option<StructureForm>
+    ensures { result ≡ find_named name.now (all_forms table.now) }
 {
-    'forms: for form in forms {
+    'structures: for form in table.structures {
+        if is_line_of(form.name.as_bytes(), name) {
+            return Some(*form);
+        }
+    }
+    'further: for form in table.further {
         if is_line_of(form.name.as_bytes(), name) {
             return Some(*form);
         }
@@ -74,23 +80,23 @@ pub fn find_named(name: &[u8], forms: &[StructureForm]) -> Option<StructureForm>
 }
 
 // Returns the form of the number with which a text begins.
-fn numbered(text: &[u8], forms: &[StructureForm]) -> Option<StructureForm>
-    ensures { result ≡ numbered text.now forms.now }
+fn numbered(text: &[u8], table: &TableForm) -> Option<StructureForm>
+    ensures { result ≡ numbered text.now (all_forms table.now) }
 {
     match decimal_of(&text[..digits_front(text)]) {
-        Some(number) => find_form(number as usize, forms),
+        Some(number) => find_form(number as usize, table),
         None => None,
     }
 }
 
 /// Returns the form that a heading names, by its type or by its name.
-pub fn by_heading(heading: &[u8], forms: &[StructureForm]) -> Option<StructureForm>
-    ensures { result ≡ by_heading heading.now forms.now }
+pub fn by_heading(heading: &[u8], table: &TableForm) -> Option<StructureForm>
+    ensures { result ≡ by_heading heading.now (all_forms table.now) }
 {
     let words = described(heading);
     match after(b"type ", words) {
-        Some(number) => numbered(number, forms),
-        None => find_named(words, forms),
+        Some(number) => numbered(number, table),
+        None => find_named(words, table),
     }
 }
 
@@ -155,10 +161,15 @@ pub fn has_number(width: usize, number: usize, cells: &[Cell]) -> bool
 }
 
 // Returns the form whose number cells begin with.
-fn by_bytes(width: usize, cells: &[Cell], forms: &[StructureForm]) -> Option<StructureForm>
-    ensures { result ≡ by_bytes width cells.now forms.now }
+fn by_bytes(width: usize, cells: &[Cell], table: &TableForm) -> Option<StructureForm>
+    ensures { result ≡ by_bytes width cells.now (all_forms table.now) }
 {
-    'forms: for form in forms {
+    'structures: for form in table.structures {
+        if has_number(width, form.number, cells) {
+            return Some(*form);
+        }
+    }
+    'further: for form in table.further {
         if has_number(width, form.number, cells) {
             return Some(*form);
         }
@@ -170,11 +181,11 @@ fn by_bytes(width: usize, cells: &[Cell], forms: &[StructureForm]) -> Option<Str
 /// its heading.
 pub fn structure_form(
     kind: Place,
-    forms: &[StructureForm],
+    table: &TableForm,
     heading: &[u8],
     cells: &[Cell],
 ) -> Option<StructureForm>
-    ensures { result ≡ structure_form kind forms.now heading.now cells.now }
+    ensures { result ≡ structure_form kind (all_forms table.now) heading.now cells.now }
 {
     let (offset, end) = (kind.offset(), kind.end());
     let bytes = if offset < cells.len() {
@@ -184,8 +195,8 @@ pub fn structure_form(
     };
     let width = end - offset;
     if are_known(width, bytes) {
-        by_bytes(width, bytes, forms)
+        by_bytes(width, bytes, table)
     } else {
-        by_heading(heading, forms)
+        by_heading(heading, table)
     }
 }

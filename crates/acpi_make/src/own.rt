@@ -214,20 +214,44 @@ fn find_line(text: &[u8], name: &str, marks: &[Mark], total: usize) -> Option<(u
     None
 }
 
-// Adds the number of a structure's entries.
-fn push_count(
-    text: &[u8],
-    marks: &[Mark],
+/// Where a structure stands, or the table's own fields: the text, the marks after its heading, the size of the table, the offset
+/// of its first byte, and the number of its bytes.
+#[derive(Clone, Copy)]
+struct Extent<'a> {
+    text: &'a [u8],
+    marks: &'a [Mark],
+    total: usize,
     start: usize,
     size: usize,
+}
+
+// Adds a number at a place of a structure.
+fn push_within(
+    extent: &Extent<'_>,
+    place: Place,
+    number: usize,
+    owns: &mut Vec<Own>,
+) -> Result<(), AllocError>
+    ensures { OnOk result (owns.new.items ≡ owns.old.items ++ own_at extent.now.start extent.now.size place number) }
+{
+    push_at(extent.start, extent.size, place, number, owns)
+}
+
+// Adds the number of a structure's entries.
+fn push_count(
+    extent: &Extent<'_>,
     name: &str,
     count: Count,
     owns: &mut Vec<Own>,
 ) -> Result<(), AllocError>
-    ensures { OnOk result (owns.new.items ≡ owns.old.items ++ count_own text.now marks.now start size name.now count) }
+    ensures { OnOk result (owns.new.items ≡ owns.old.items
+        ++ count_own extent.now.text.now extent.now.marks.now extent.now.start extent.now.size name.now count) }
 {
     match count {
-        Count::Field(place) => push_at(start, size, place, count_lines(text, name, marks), owns),
+        Count::Field(place) => {
+            let number = count_lines(extent.text, name, extent.marks);
+            push_within(extent, place, number, owns)
+        }
         Count::Rest => Ok(()),
     }
 }
@@ -276,56 +300,57 @@ fn line_of_parts(
 
 // Adds the offset at which bytes before a part end, or, if these have no name, that of the next part that the text has.
 fn push_end(
-    text: &[u8],
-    marks: &[Mark],
-    total: usize,
-    start: usize,
-    size: usize,
+    extent: &Extent<'_>,
     name: &str,
     place: Place,
     next: &[Part],
     owns: &mut Vec<Own>,
 ) -> Result<(), AllocError>
     ensures { OnOk result (owns.new.items ≡ owns.old.items
-        ++ (if is_nameless name.now then gap_own start size place (line_of_parts text.now marks.now total next.now)
-        else end_own start size place (find_line text.now name.now marks.now total))) }
+        ++ (if is_nameless name.now then gap_own extent.now.start extent.now.size place
+        (line_of_parts extent.now.text.now extent.now.marks.now extent.now.total next.now)
+        else end_own extent.now.start extent.now.size place
+        (find_line extent.now.text.now name.now extent.now.marks.now extent.now.total))) }
 {
     let end = if is_nameless(name.as_bytes()) {
-        line_of_parts(text, marks, total, next).map(|found| found.0)
+        line_of_parts(extent.text, extent.marks, extent.total, next).map(|found| found.0)
     } else {
-        find_line(text, name, marks, total).map(|found| found.1)
+        find_line(extent.text, name, extent.marks, extent.total).map(|found| found.1)
     };
     match end {
-        Some(end) => push_at(start, size, place, end.saturating_sub(start), owns),
+        Some(end) => push_within(extent, place, end.saturating_sub(extent.start), owns),
         None => Ok(()),
     }
 }
 
 // Adds the number that a structure has of a part. `next` is the parts after it.
 fn push_part(
-    text: &[u8],
-    marks: &[Mark],
-    total: usize,
-    start: usize,
-    size: usize,
+    extent: &Extent<'_>,
     part: &Part,
     next: &[Part],
     owns: &mut Vec<Own>,
 ) -> Result<(), AllocError>
-    ensures { OnOk result (owns.new.items ≡ owns.old.items ++ part_own text.now marks.now total start size part.now next.now) }
+    ensures { OnOk result (owns.new.items ≡ owns.old.items
+        ++ part_own extent.now.text.now extent.now.marks.now extent.now.total extent.now.start extent.now.size
+        part.now next.now) }
 {
     match *part {
-        Part::Entries(name, count, _) => push_count(text, marks, start, size, name, count, owns),
-        Part::Numbers(name, _, count) => push_count(text, marks, start, size, name, count, owns),
-        Part::Bytes(name, place) => match find_line(text, name, marks, total) {
-            Some((from, to)) => push_at(start, size, place, to.saturating_sub(from), owns),
-            None => Ok(()),
-        },
-        Part::Until(name, place) => {
-            push_end(text, marks, total, start, size, name, place, next, owns)
+        Part::Entries(name, count, _) => push_count(extent, name, count, owns),
+        Part::Numbers(name, _, count) => push_count(extent, name, count, owns),
+        Part::Bytes(name, place) => {
+            match find_line(extent.text, name, extent.marks, extent.total) {
+                Some((from, to)) => push_within(extent, place, to.saturating_sub(from), owns),
+                None => Ok(()),
+            }
         }
+        Part::Until(name, place) => push_end(extent, name, place, next, owns),
         Part::Matrix(name, _, rows, _) => {
-            push_at(start, size, rows, count_lines(text, name, marks), owns)
+            push_within(
+                extent,
+                rows,
+                count_lines(extent.text, name, extent.marks),
+                owns,
+            )
         }
         Part::Fields(_) | Part::Between(_, _, _) => Ok(()),
         Part::Group(_, _) | Part::Chosen(_, _) => Ok(()),
@@ -333,28 +358,12 @@ fn push_part(
 }
 
 // Adds the numbers that a structure has of its parts.
-fn push_parts(
-    text: &[u8],
-    marks: &[Mark],
-    total: usize,
-    start: usize,
-    size: usize,
-    parts: &[Part],
-    owns: &mut Vec<Own>,
-) -> Result<(), AllocError>
-    ensures { OnOk result (owns.new.items ≡ owns.old.items ++ parts_own text.now marks.now total start size parts.now) }
+fn push_parts(extent: &Extent<'_>, parts: &[Part], owns: &mut Vec<Own>) -> Result<(), AllocError>
+    ensures { OnOk result (owns.new.items ≡ owns.old.items
+        ++ parts_own extent.now.text.now extent.now.marks.now extent.now.total extent.now.start extent.now.size parts.now) }
 {
     'parts: for i in 0..parts.len() {
-        push_part(
-            text,
-            marks,
-            total,
-            start,
-            size,
-            &parts[i],
-            &parts[i + 1..],
-            owns,
-        )?;
+        push_part(extent, &parts[i], &parts[i + 1..], owns)?;
     }
     Ok(())
 }
@@ -443,21 +452,28 @@ fn push_structure(
     source: &Source,
     cells: &[Cell],
     marks: &[Mark],
-    total: usize,
     at: usize,
     from: usize,
     to: usize,
     owns: &mut Vec<Own>,
 ) -> Result<(), AllocError>
     ensures { OnOk result (owns.new.items
-        ≡ owns.old.items ++ structure_own (source_of source.now) cells.now marks.now total at from to) }
+        ≡ owns.old.items ++ structure_own (source_of source.now) cells.now marks.now (length cells.now) at from to) }
 {
+    let total = cells.len();
     let bytes = if at < cells.len() { &cells[at..] } else { &[] };
     let heading = part_at(from, to, source.text);
-    let form = structure_form(source.kind, source.form.structures, heading, bytes);
+    let form = structure_form(source.kind, &source.form, heading, bytes);
     let size = next_start(marks, total).saturating_sub(at);
     push_kind(source.kind, at, size, form, owns)?;
-    push_parts(source.text, marks, total, at, size, parts_of(form), owns)?;
+    let extent = Extent {
+        text: source.text,
+        marks,
+        total,
+        start: at,
+        size,
+    };
+    push_parts(&extent, parts_of(form), owns)?;
     push_inner(source.text, marks, total, inner_of(form), owns)
 }
 
@@ -466,15 +482,15 @@ fn push_contents(
     source: &Source,
     cells: &[Cell],
     marks: &[Mark],
-    total: usize,
     owns: &mut Vec<Own>,
 ) -> Result<(), AllocError>
-    ensures { OnOk result (owns.new.items ≡ owns.old.items ++ contents_own (source_of source.now) cells.now marks.now total) }
+    ensures { OnOk result (owns.new.items
+        ≡ owns.old.items ++ contents_own (source_of source.now) cells.now marks.now (length cells.now)) }
 {
     'marks: for i in 0..marks.len() {
         match marks[i] {
             Mark::Structure { at, from, to } => {
-                push_structure(source, cells, &marks[i + 1..], total, at, from, to, owns)?;
+                push_structure(source, cells, &marks[i + 1..], at, from, to, owns)?;
             }
             Mark::Line { .. } => {}
             Mark::Reference { .. } => {}
@@ -494,8 +510,15 @@ pub fn push_table(
 {
     let total = cells.len();
     let first = next_start(marks, total);
-    push_parts(source.text, marks, total, 0, first, source.form.parts, owns)?;
-    push_contents(source, cells, marks, total, owns)
+    let fields = Extent {
+        text: source.text,
+        marks,
+        total,
+        start: 0,
+        size: first,
+    };
+    push_parts(&fields, source.form.parts, owns)?;
+    push_contents(source, cells, marks, owns)
 }
 
 // Adds the offset of a structure under the label of its heading, if the heading has one, in place of another one of this label.

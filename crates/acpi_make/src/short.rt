@@ -156,8 +156,8 @@ fn short_in(source: &Source, place: Place, cells: &[Cell], marks: &[Mark]) -> Op
         if let Mark::Structure { at, from, to } = marks[i] {
             let size = next_start(&marks[i + 1..], cells.len()).saturating_sub(at);
             let heading = part_at(from, to, source.text);
-            let forms = source.form.structures;
-            let form = structure_form(source.kind, forms, heading, from_offset(at, cells));
+            let bytes = from_offset(at, cells);
+            let form = structure_form(source.kind, &source.form, heading, bytes);
             if let Some(fault) = short_structure(place, cells, at, size, (from, to), form) {
                 return Some(fault);
             }

@@ -9,10 +9,12 @@ ghost use Rattle.acpi_make.specs.Template.{preset_text, zeros, value_text};
 ghost use Rattle.acpi_make.specs.Template.{field_line, title_line, row_line, offset_after, plain_lines, address_lines};
 ghost use Rattle.acpi_make.specs.Template.{row_lines, rows_lines, rows_end, choice_lines, choice_end, part_lines, part_end};
 ghost use Rattle.acpi_make.specs.Template.{parts_lines, place_at, size_at, count_at, counts_at, inner_lines, structure_known};
-ghost use Rattle.acpi_make.specs.Template.{structure_lines, structures_text, sums_at, walk_at, table_own, template_text};
+ghost use Rattle.acpi_make.specs.Template.{structure_lines, structures_lines, structures_text, sums_at, walk_at, table_own};
+ghost use Rattle.acpi_make.specs.Template.{template_text};
 ghost use Rattle.acpi_make.specs.Template.{stated_text, sides_at, all_sides};
 ghost use Rattle.acpi_make.specs.Template as template;
 ghost use Rattle.acpi_make.specs.TemplateKnown.{known_of};
+ghost use Rattle.acpi_text.specs.Structure.{all_forms};
 
 use crate::complete::length_own;
 use crate::draft::is_nameless;
@@ -591,21 +593,34 @@ fn push_structure(
 }
 
 // Adds the lines of structures.
-fn push_structures(
+fn push_list(
     alloc: Global,
-    walk: Option<Walk>,
+    walk: &Walk,
     forms: &[StructureForm],
     text: &mut String,
 ) -> Result<(), AllocError>
-    ensures { OnOk result (string_bytes text.new ≡ string_bytes text.old ++ structures_text walk forms.now) }
+    ensures { OnOk result (string_bytes text.new ≡ string_bytes text.old ++ structures_lines walk.now forms.now) }
+{
+    'forms: for form in forms {
+        push_structure(alloc, walk, form, text)?;
+    }
+    Ok(())
+}
+
+// Adds the lines of the structures of a table.
+fn push_structures(
+    alloc: Global,
+    walk: Option<Walk>,
+    table: &TableForm,
+    text: &mut String,
+) -> Result<(), AllocError>
+    ensures { OnOk result (string_bytes text.new ≡ string_bytes text.old ++ structures_text walk (all_forms table.now)) }
 {
     let Some(walk) = walk else {
         return Ok(());
     };
-    'forms: for form in forms {
-        push_structure(alloc, &walk, form, text)?;
-    }
-    Ok(())
+    push_list(alloc, &walk, table.structures, text)?;
+    push_list(alloc, &walk, table.further, text)
 }
 
 // Adds the offsets of the checksums.
@@ -678,6 +693,6 @@ pub fn template_of(
     push_label(form.name, &mut text)?;
     text.push_str("\n")?;
     push_parts(0, &known, 0, form.parts, &mut text)?;
-    push_structures(alloc, walk, form.structures, &mut text)?;
+    push_structures(alloc, walk, form, &mut text)?;
     Ok(text)
 }

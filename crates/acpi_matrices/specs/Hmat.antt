@@ -7,11 +7,11 @@ use Rattle.acpi_base.specs.declared.oem.Oem.{Oem}
 use Rattle.acpi_core.specs.Listing.{Listing, length_limit}
 use Rattle.acpi_matrices.specs.declared.hmat.MemoryProximityDomain.{MemoryProximityDomain}
 
--- a table without structures
-abbrev pub hmat : Oem → Listing
-hmat oem = record {
+-- a table of a revision without structures
+abbrev pub hmat_of : ℕ → Oem → Listing
+hmat_of revision oem = record {
   signature = codes "HMAT";
-  revision = 1;
+  revision = revision;
   oem = oem;
   before = zeros 4;  -- 36: reserved
   count_width = 0;
@@ -19,6 +19,10 @@ hmat oem = record {
   limit = length_limit;
   structures = [];
 }
+
+-- that of the revision of `new`
+abbrev pub hmat : Oem → Listing
+hmat oem = hmat_of 1 oem
 
 -- Flags of a proximity domain
 abbrev pub proximity_bits : List Part

@@ -1,6 +1,7 @@
 -- The System Locality Information Table (ACPI 6.5, 5.2.17).
 use Rattle.std.specs.Prelude.{◌≡◌, ℕ, ◌+◌, ◌-◌, ◌*◌, ◌%◌, ◌<◌, nat_lt, ◌&&◌, ◌==◌, if◌then◌else◌, ◌∷◌, ◌++◌}
-use Rattle.std.specs.Prelude.{Bool, true, false, List, [], codes, length, take, drop, sum, replicate, Result, Ok, Err, OnOk, OnErr, IfErr}
+use Rattle.std.specs.Prelude.{Bool, true, false, List, [], codes, length, take, drop, sum, replicate}
+use Rattle.std.specs.Prelude.{Result, Ok, Err, OnOk, OnErr, IfErr}
 use Rattle.acpi_base.specs.declared.error.Error.{Error}
 use Rattle.acpi_base.specs.declared.error.Error.TheVariants.{Index}
 use Rattle.acpi_base.specs.declared.oem.Oem.{Oem}

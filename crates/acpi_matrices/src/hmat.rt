@@ -1,6 +1,6 @@
 //! HMAT: the latency and bandwidth of memory, by initiator.
 
-ghost use Rattle.std.specs.Prelude.{◌≡◌, true, length};
+ghost use Rattle.std.specs.Prelude.{◌≡◌, ℕ, true, length};
 ghost use Rattle.acpi_base.specs.Object.{whole, whole_ends_well};
 ghost use Rattle.acpi_base.specs.Walk.{hmat_walk};
 ghost use Rattle.acpi_base.specs.declared.oem.Oem.{Oem};
@@ -8,7 +8,7 @@ ghost use Rattle.acpi_core.specs.Addition.{Adds};
 ghost use Rattle.acpi_core.specs.Calls.{IsAfterItsCalls};
 ghost use Rattle.acpi_core.specs.Listing.{bytes_of, length_limit};
 ghost use Rattle.acpi_core.specs.Walk.{IsWalked, Keeps};
-ghost use Rattle.acpi_matrices.specs.Hmat.{hmat, proximity_bytes};
+ghost use Rattle.acpi_matrices.specs.Hmat.{hmat, hmat_of, proximity_bytes};
 ghost use Rattle.acpi_matrices.specs.Locality.{locality_bytes, CellsAreSet, NewCellsAreUnreachable};
 ghost use Rattle.acpi_matrices.specs.Cache.{cache_bytes};
 ghost use Rattle.acpi_matrices.specs.Hmat.{proximity_fields};
@@ -66,8 +66,23 @@ impl HMAT {
     pub fn new(alloc: Global, oem_id: [u8; 6], oem_table_id: [u8; 8], oem_revision: u32) -> HMAT
         ensures { result.table.table ≡ hmat (record { id = oem_id; table_id = oem_table_id; revision = oem_revision }) }
     {
+        HMAT::of_revision(alloc, 1, oem_id, oem_table_id, oem_revision)
+    }
+
+    /// A table of a revision without structures. In revision 2 (ACPI 6.3 and later) the units of latencies and bandwidths are
+    /// picoseconds and MB/s (5.2.28.4). The caller's entries and base units have to be those of the revision.
+    pub fn of_revision(
+        alloc: Global,
+        revision: u8,
+        oem_id: [u8; 6],
+        oem_table_id: [u8; 8],
+        oem_revision: u32,
+    ) -> HMAT
+        ensures { result.table.table
+            ≡ hmat_of revision (record { id = oem_id; table_id = oem_table_id; revision = oem_revision }) }
+    {
         let oem = Oem::new(oem_id, oem_table_id, oem_revision);
-        let form = Form::new(*b"HMAT", 1, oem, 0);
+        let form = Form::new(*b"HMAT", revision, oem, 0);
         HMAT {
             table: Walked::of(Table::new(alloc, form, &[0; 4], &[])),
         }
@@ -113,7 +128,7 @@ impl HMAT {
 pub fn hmat_is_walked(table: &HMAT)
     ensures keeps { Keeps true hmat_walk length_limit true table.now.table.table }
     ensures walked { IsWalked true hmat_walk table.now.table.table }
-    ensures calls { (oem : Oem) → IsAfterItsCalls true hmat_walk (hmat oem) table.now.table }
+    ensures calls { (revision : ℕ) (oem : Oem) → IsAfterItsCalls true hmat_walk (hmat_of revision oem) table.now.table }
 {
     is_walked(&table.table)
 }

@@ -14,12 +14,12 @@ use Rattle.acpi_nodes.specs.declared.viot.MmioEndpoint.{MmioEndpoint}
 use Rattle.acpi_nodes.specs.declared.viot.VirtIoPciIommu.{VirtIoPciIommu}
 use Rattle.acpi_nodes.specs.declared.viot.VirtIoMmioIommu.{VirtIoMmioIommu}
 
--- A table without nodes. At offset 36: Node Count, of two bytes. References to nodes have two bytes, so the length is below
--- 65,536.
-abbrev pub viot : Oem → Listing
-viot oem = record {
+-- A table of a revision without nodes. At offset 36: Node Count, of two bytes. References to nodes have two bytes, so the length
+-- is below 65,536.
+abbrev pub viot_of : ℕ → Oem → Listing
+viot_of revision oem = record {
   signature = codes "VIOT";
-  revision = 1;
+  revision = revision;
   oem = oem;
   before = [];
   count_width = 2;
@@ -27,6 +27,10 @@ viot oem = record {
   limit = field_limit 2;
   structures = [];
 }
+
+-- that of the revision of `new`
+abbrev pub viot : Oem → Listing
+viot oem = viot_of 1 oem
 
 -- ---- PCI Range Node Structure
 

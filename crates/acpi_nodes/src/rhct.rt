@@ -146,7 +146,8 @@ impl RHCT {
 pub fn rhct_is_walked(table: &RHCT)
     ensures keeps { Keeps true rhct_walk length_limit true table.now.table.table }
     ensures walked { IsWalked true rhct_walk table.now.table.table }
-    ensures calls { (oem : Oem) (timebase_frequency : ℕ) → IsAfterItsCalls true rhct_walk (rhct oem timebase_frequency) table.now.table }
+    ensures calls { (oem : Oem) (timebase_frequency : ℕ)
+        → IsAfterItsCalls true rhct_walk (rhct oem timebase_frequency) table.now.table }
     ensures nodes { NodesStand table.now.table.table }
 {
     is_walked(&table.table)

@@ -1,6 +1,6 @@
 //! VIOT: virtual IOMMUs, and the devices that use them.
 
-ghost use Rattle.std.specs.Prelude.{◌≡◌, true, length};
+ghost use Rattle.std.specs.Prelude.{◌≡◌, ℕ, true, length};
 ghost use Rattle.acpi_base.specs.Object.{whole, whole_ends_well};
 ghost use Rattle.acpi_base.specs.Walk.{viot_walk};
 ghost use Rattle.acpi_base.specs.declared.oem.Oem.{Oem};
@@ -8,7 +8,7 @@ ghost use Rattle.acpi_core.specs.Addition.{Adds, AddsAt};
 ghost use Rattle.acpi_core.specs.Calls.{IsAfterItsCalls};
 ghost use Rattle.acpi_core.specs.Listing.{field_limit, bytes_of};
 ghost use Rattle.acpi_core.specs.Walk.{IsWalked, Keeps};
-ghost use Rattle.acpi_nodes.specs.Viot.{viot, pci_range, pci_range_bytes, mmio_endpoint, mmio_endpoint_bytes};
+ghost use Rattle.acpi_nodes.specs.Viot.{viot, viot_of, pci_range, pci_range_bytes, mmio_endpoint, mmio_endpoint_bytes};
 ghost use Rattle.acpi_nodes.specs.Viot.{NodesTellKinds, NodesStand, ReferencesAreRead};
 ghost use Rattle.acpi_nodes.specs.Viot.{virtio_pci_iommu, virtio_pci_iommu_bytes, virtio_mmio_iommu, virtio_mmio_iommu_bytes};
 ghost use Rattle.acpi_nodes.specs.Viot.{pci_range_fields, mmio_endpoint_fields, virtio_pci_iommu_fields};
@@ -66,10 +66,24 @@ impl VIOT {
     pub fn new(alloc: Global, oem_id: [u8; 6], oem_table_id: [u8; 8], oem_revision: u32) -> VIOT
         ensures { result.table.table ≡ viot (record { id = oem_id; table_id = oem_table_id; revision = oem_revision }) }
     {
+        VIOT::of_revision(alloc, 1, oem_id, oem_table_id, oem_revision)
+    }
+
+    /// A table of a revision without nodes.
+    pub fn of_revision(
+        alloc: Global,
+        revision: u8,
+        oem_id: [u8; 6],
+        oem_table_id: [u8; 8],
+        oem_revision: u32,
+    ) -> VIOT
+        ensures { result.table.table
+            ≡ viot_of revision (record { id = oem_id; table_id = oem_table_id; revision = oem_revision }) }
+    {
         let oem = Oem::new(oem_id, oem_table_id, oem_revision);
         let form = Form {
             limit: OFFSET_LIMIT,
-            ..Form::new(*b"VIOT", 1, oem, 2)
+            ..Form::new(*b"VIOT", revision, oem, 2)
         };
         VIOT {
             table: Walked::of(Table::new(alloc, form, &[], &[48, 0, 0, 0, 0, 0, 0, 0, 0, 0])),
@@ -131,7 +145,7 @@ impl VIOT {
 pub fn viot_is_walked(table: &VIOT)
     ensures keeps { Keeps true viot_walk (field_limit 2) true table.now.table.table }
     ensures walked { IsWalked true viot_walk table.now.table.table }
-    ensures calls { (oem : Oem) → IsAfterItsCalls true viot_walk (viot oem) table.now.table }
+    ensures calls { (revision : ℕ) (oem : Oem) → IsAfterItsCalls true viot_walk (viot_of revision oem) table.now.table }
     ensures nodes { NodesStand table.now.table.table }
 {
     is_walked(&table.table)

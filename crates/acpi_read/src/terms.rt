@@ -280,7 +280,8 @@ fn block<'a>(
 ) -> Result<(Term, &'a [u8]), ReadError>
     requires within { length inside.now + length after.now ≤ end }
     ensures gives { Answers (λ x. ((view x.0).0, (view x.0).1, (view x.0).2, x.1.now)) result
-        (close (term_at (grammar_of language (arity arities.now)) depth) (fills (block_head head) (block_width head) inside.now after.now)) }
+        (close (term_at (grammar_of language (arity arities.now)) depth)
+        (fills (block_head head) (block_width head) inside.now after.now)) }
     ensures placed { IfErr result (IsPlaced end) }
 {
     let children = all(
@@ -309,7 +310,8 @@ fn first_and_block<'a>(
     requires within { length inside.now + length after.now ≤ end }
     requires some { 0 < length inside.now }
     ensures gives { Answers (λ x. ((view x.0).0, (view x.0).1, (view x.0).2, x.1.now)) result
-        (close (term_at (grammar_of language (arity arities.now)) depth) (fills (first_head start) (first_width start) inside.now after.now)) }
+        (close (term_at (grammar_of language (arity arities.now)) depth)
+        (fills (first_head start) (first_width start) inside.now after.now)) }
     ensures placed { IfErr result (IsPlaced end) }
 {
     let end = end - after.len();

@@ -1,3 +1,4 @@
 mod Found
 mod Structures
 mod Shown
+mod Differences

@@ -13,7 +13,7 @@ use Rattle.acpi_base.specs.declared.walk.Sizes.{Sizes}
 use Rattle.acpi_text.specs.Form.{number_at, count_of, find_choice}
 use Rattle.acpi_text.specs.Names as names
 use Rattle.acpi_text.specs.Size.{front_size}
-use Rattle.acpi_text.specs.Structure.{find_form, form_parts, form_inner}
+use Rattle.acpi_text.specs.Structure.{all_forms, find_form, form_parts, form_inner}
 use Rattle.acpi_text.specs.Table.{start_of}
 use Rattle.acpi_text.specs.declared.form.Choice.{Choice}
 use Rattle.acpi_text.specs.declared.form.Inner.{Inner}
@@ -201,7 +201,7 @@ content_alike parts (Structures start name sizes inner) at piece =
 pub fields_are_shown : FieldsAreShown
 fields_are_shown form None bytes = parts_alike form.parts.now 0 bytes
 fields_are_shown form (Some walk) bytes =
-    both_alike walk.sizes (structure_fields walk.kind form.structures.now) (names.structure_fields walk.kind form.structures.now)
+    both_alike walk.sizes (structure_fields walk.kind (all_forms form)) (names.structure_fields walk.kind (all_forms form))
     (λ k l.
-    let form_of = find_form (number_at walk.kind l) form.structures.now in content_alike (form_parts form_of)
+    let form_of = find_form (number_at walk.kind l) (all_forms form) in content_alike (form_parts form_of)
     (form_inner form_of) k l) form.parts.now (start_of walk bytes) 0 bytes

@@ -13,7 +13,7 @@ use Rattle.acpi_base.specs.declared.walk.Sizes.{Sizes}
 use Rattle.acpi_base.specs.declared.walk.Walk.{Walk}
 use Rattle.acpi_text.specs.Form.{number_at, count_of, find_choice}
 use Rattle.acpi_text.specs.Size.{front_size}
-use Rattle.acpi_text.specs.Structure.{find_form, form_parts, form_inner}
+use Rattle.acpi_text.specs.Structure.{all_forms, find_form, form_parts, form_inner}
 use Rattle.acpi_text.specs.Table.{start_of}
 use Rattle.acpi_text.specs.declared.form.Choice.{Choice}
 use Rattle.acpi_text.specs.declared.form.Inner.{Inner}
@@ -178,7 +178,7 @@ structure_fields kind forms s =
 abbrev pub table_fields : TableForm → Option Walk → List ℕ → List Field
 table_fields form None bytes = parts_fields form.parts.now 0 bytes
 table_fields form (Some walk) bytes =
-    fields_and_structures form.parts.now (start_of walk bytes) walk.sizes (structure_fields walk.kind form.structures.now) 0 bytes
+    fields_and_structures form.parts.now (start_of walk bytes) walk.sizes (structure_fields walk.kind (all_forms form)) 0 bytes
 
 -- ---- what calls find
 

@@ -4,3 +4,4 @@ pub mod Rules
 pub mod Line
 pub mod Standard
 pub mod Laws
+pub mod Difference

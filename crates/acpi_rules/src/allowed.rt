@@ -1,4 +1,4 @@
-//! Numbers that the rules on every field allow beside those that a form has names for.
+//! Numbers that the rules on every field allow although a form has no names for them.
 
 ghost use Rattle.std.specs.Prelude.{◌≡◌, map};
 ghost use Rattle.acpi_rules.specs.Field.{seen};

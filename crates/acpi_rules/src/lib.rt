@@ -3,6 +3,7 @@
 #![tactic(auto)]
 
 pub mod allowed;
+pub mod difference;
 pub mod field;
 pub mod finding;
 pub mod laws;

@@ -294,8 +294,8 @@ fn check_field<'a>(
     check_limits(given, ranges, table, field, findings)
 }
 
-// Returns the first four bytes of a table, or fewer if there are fewer.
-fn signature_of(table: &[u8]) -> &[u8]
+/// Returns the first four bytes of a table, which are its signature, or fewer if there are fewer.
+pub fn signature_of(table: &[u8]) -> &[u8]
     ensures { result.now ≡ take 4 table.now }
 {
     if table.len() < 4 { table } else { &table[..4] }

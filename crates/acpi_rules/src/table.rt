@@ -3,11 +3,12 @@
 ghost use Rattle.std.specs.Prelude.{◌≡◌, ◌+◌, ◌<◌, ◌^◌, ◌++◌, length, map, OnOk, IfOk, Some};
 ghost use Rattle.std.specs.List.{flat_map};
 ghost use Rattle.acpi_rules.specs.Field.{seen, parts_fields, content_fields, structure_fields, structures_of, table_fields};
+ghost use Rattle.acpi_text.specs.Structure.{all_forms};
 
 use crate::field::Field;
 use crate::part::push_parts;
 use acpi_base::walk::{Place, Sizes, Walk};
-use acpi_text::form::{Inner, Part, StructureForm, TableForm};
+use acpi_text::form::{Inner, Part, TableForm};
 use acpi_text::inner::split_within;
 use acpi_text::part::number_at;
 use acpi_text::piece::{find_form, inner_of, parts_of};
@@ -63,36 +64,36 @@ fn push_content<'a>(
 // Adds the fields of a structure by the form that has its type.
 fn push_structure<'a>(
     kind: Place,
-    forms: &[StructureForm],
+    table: &TableForm,
     at: usize,
     piece: &'a [u8],
     fields: &mut Vec<Field<'a>>,
 ) -> Result<(), AllocError>
     requires { at + length piece.now < 2 ^ 64 }
     ensures { OnOk result (map seen fields.new.items ≡ map seen fields.old.items
-        ++ structure_fields kind forms.now (record { offset = at; bytes = piece.now })) }
+        ++ structure_fields kind (all_forms table.now) (record { offset = at; bytes = piece.now })) }
 {
-    let form = find_form(number_at(kind, piece), forms);
+    let form = find_form(number_at(kind, piece), table);
     push_content(parts_of(form), inner_of(form), at, piece, fields)
 }
 
 // Adds the fields of structures that stand one after another, each by the form that has its type.
 fn push_structures<'a>(
     walk: &Walk,
-    forms: &[StructureForm],
+    table: &TableForm,
     start: usize,
     bytes: &'a [u8],
     fields: &mut Vec<Field<'a>>,
 ) -> Result<(), AllocError>
     requires { start + length bytes.now < 2 ^ 64 }
     ensures { OnOk result (map seen fields.new.items ≡ map seen fields.old.items
-        ++ flat_map (structure_fields walk.now.kind forms.now) (structures_of walk.now.sizes start bytes.now)) }
+        ++ flat_map (structure_fields walk.now.kind (all_forms table.now)) (structures_of walk.now.sizes start bytes.now)) }
 {
     let mut at = start;
     let mut rest = bytes;
     'structures: while let Some(size) = front_size(walk.sizes, rest) {
         let (piece, more) = rest.split_at(size);
-        push_structure(walk.kind, forms, at, piece, fields)?;
+        push_structure(walk.kind, table, at, piece, fields)?;
         at += size;
         rest = more;
     }
@@ -111,7 +112,7 @@ fn push_walked<'a>(
 {
     let (front, rest) = split_within(start_of(walk, bytes), bytes);
     push_parts(form.parts, 0, front, fields)?;
-    push_structures(walk, form.structures, front.len(), rest, fields)
+    push_structures(walk, form, front.len(), rest, fields)
 }
 
 /// Returns the fields of a table by a form, and by a walk if the form has structures, in the order of their offsets. Bytes that

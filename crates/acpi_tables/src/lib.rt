@@ -281,6 +281,8 @@ pub mod iort {
 pub mod layout {
     pub use acpi_layout::check::check_image;
     pub use acpi_layout::fault::ImageFault;
+    pub use acpi_layout::files::lay_files;
+    pub use acpi_layout::lay_fault::LayFault;
     pub use acpi_layout::layout::{Image, lay, lay_reduced};
     pub use acpi_layout::located::Located;
 }
@@ -291,7 +293,7 @@ pub mod madt {
     pub use acpi_lists::madt::{
         APLIC, EnabledStatus, GicIts, GicMsi, GicVersion, Gicc, Gicd, Gicr, HartStatus, IMSIC,
         InterruptSourceOverride, IoApic, LocalApicAddressOverride, LocalApicNmi,
-        LocalInterruptController, LocalX2ApicNmi, MADT, NmiSource, PLIC, Polarity,
+        LocalInterruptController, LocalX2ApicNmi, MADT, NmiSource, PCAT_COMPAT, PLIC, Polarity,
         ProcessorLocalApic, ProcessorLocalX2Apic, RINTC, Trigger, TriggerMode,
     };
 }

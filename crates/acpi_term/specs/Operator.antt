@@ -127,9 +127,10 @@ operators =
     op.And ∷ op.Nand ∷ op.Or ∷ op.Nor ∷ op.Xor ∷ op.ConcatRes ∷ op.Mod ∷ op.Index ∷ op.ToString ∷ op.CreateDWordField ∷
     op.CreateQWordField ∷ op.ToBuffer ∷ op.ToInteger ∷ op.Store ∷ op.Notify ∷ op.Mid ∷ op.CreateField ∷
     op.Alias ∷ op.RefOf ∷ op.Divide ∷ op.Not ∷ op.FindSetLeftBit ∷ op.FindSetRightBit ∷ op.Match ∷
-    op.CreateWordField ∷ op.CreateByteField ∷ op.CreateBitField ∷ op.ToDecimalString ∷ op.ToHexString ∷ op.CopyObject ∷ op.Continue ∷ op.Noop ∷
-    op.BreakPoint ∷ op.Event ∷ op.CondRefOf ∷ op.LoadTable ∷ op.Load ∷ op.Stall ∷ op.Sleep ∷ op.Signal ∷ op.Wait ∷
-    op.Reset ∷ op.FromBCD ∷ op.ToBCD ∷ op.Unload ∷ op.Revision ∷ op.Debug ∷ op.Timer ∷ op.DataRegion ∷ []
+    op.CreateWordField ∷ op.CreateByteField ∷ op.CreateBitField ∷ op.ToDecimalString ∷ op.ToHexString ∷ op.CopyObject ∷
+    op.Continue ∷ op.Noop ∷ op.BreakPoint ∷ op.Event ∷ op.CondRefOf ∷ op.LoadTable ∷ op.Load ∷ op.Stall ∷ op.Sleep ∷
+    op.Signal ∷ op.Wait ∷ op.Reset ∷ op.FromBCD ∷ op.ToBCD ∷ op.Unload ∷ op.Revision ∷ op.Debug ∷ op.Timer ∷
+    op.DataRegion ∷ []
 
 -- the operator of an opcode
 unfoldable pub op_of : List ℕ → Option Op

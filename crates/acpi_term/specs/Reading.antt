@@ -311,7 +311,8 @@ module _ (g : Grammar) where
   unfoldable pub head_at : Mode → List ℕ → Result Opened Fault
   head_at m [] = Err Bad
   head_at m (b ∷ rest) =
-      if begins_name g.language b then (name_in g.language (b ∷ rest) >>= λ n. Ok (follows (call n.0) 0 (arguments g.arity m n.0) n.1))
+      if begins_name g.language b then (name_in g.language (b ∷ rest)
+      >>= λ n. Ok (follows (call n.0) 0 (arguments g.arity m n.0) n.1))
       else opcode_at g.language b rest
 
   unfoldable pub open_at : Mode → List ℕ → Result Opened Fault

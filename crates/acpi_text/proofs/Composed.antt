@@ -25,7 +25,7 @@ use Rattle.acpi_base.specs.Look as looks
 use Rattle.acpi_text.specs.Piece.{piece_and, pieces_up_to, pieces_text, parts_and_pieces}
 use Rattle.acpi_text.specs.Size.{front_size}
 use Rattle.acpi_text.specs.Slot.{Slot, heading, field, upto, unknown, nameless, nameless_lines, field_text, slots_text}
-use Rattle.acpi_text.specs.Structure.{find_form, form_name, form_parts, form_inner, inner_text, content_text, kind_text, piece_line, piece_text}
+use Rattle.acpi_text.specs.Structure.{all_forms, find_form, form_name, form_parts, form_inner, inner_text, content_text, kind_text, piece_line, piece_text}
 use Rattle.acpi_text.specs.Table.{start_of, body_text, table_text}
 use Rattle.acpi_text.proofs.Numbers.{narrow_carried}
 use Rattle.acpi_text.proofs.Pieces.{front_within}
@@ -212,7 +212,7 @@ module _ (R : List ℕ → List ℕ → Type 0) (r : Composes R) where
       → R (body_text form walk bytes) bytes
   body_by form None bytes are small = slots_by 0 (parts_slots 0 0 bytes form.parts.now) bytes are (omega (arith, small))
   body_by form (Some walk) bytes are small =
-      parts_and_pieces_by walk.sizes (piece_text walk.kind form.structures.now) (piece_by walk.kind form.structures.now)
+      parts_and_pieces_by walk.sizes (piece_text walk.kind (all_forms form)) (piece_by walk.kind (all_forms form))
       form.parts.now (start_of walk bytes) 0 bytes are (omega (arith, small))
 
   pub table_by : (form : TableForm) (walk : Option Walk) (bytes : List ℕ) → AreBytes bytes → length bytes < 2 ^ 64

@@ -35,7 +35,7 @@ use Rattle.acpi_text.specs.Piece.{piece_and, pieces_up_to, parts_and_pieces}
 use Rattle.acpi_text.specs.Reading.{at_start, in_number, read}
 use Rattle.acpi_text.specs.Size.{front_size}
 use Rattle.acpi_text.specs.Slot.{Slot, heading, field, upto, unknown, nameless_lines, nameless, field_text, slots_text, row_slots}
-use Rattle.acpi_text.specs.Structure.{find_form, form_name, form_parts, form_inner, inner_text, content_text, kind_text, piece_line, piece_text}
+use Rattle.acpi_text.specs.Structure.{all_forms, find_form, form_name, form_parts, form_inner, inner_text, content_text, kind_text, piece_line, piece_text}
 use Rattle.acpi_text.specs.Table.{start_of, body_text}
 use Rattle.acpi_text.proofs.Lines.{meaning_ends}
 use Rattle.acpi_text.proofs.Meanings.{meaning_by}
@@ -357,8 +357,8 @@ body_names : (form : TableForm) (walk : Option Walk) (bytes : List ℕ) → AreB
     → Names (table_fields form walk bytes) (body_text form walk bytes)
 body_names form None bytes are = parts_named 0 0 form.parts.now bytes are
 body_names form (Some walk) bytes are =
-    all_names walk.sizes (structure_fields walk.kind form.structures.now) (piece_text walk.kind form.structures.now)
-    (piece_names walk.kind form.structures.now) form.parts.now (start_of walk bytes) 0 bytes are
+    all_names walk.sizes (structure_fields walk.kind (all_forms form)) (piece_text walk.kind (all_forms form))
+    (piece_names walk.kind (all_forms form)) form.parts.now (start_of walk bytes) 0 bytes are
 
 pub tables_named : TextsHaveNames
 tables_named form walk bytes are small =

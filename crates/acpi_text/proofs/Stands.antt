@@ -15,7 +15,7 @@ use Rattle.acpi_text.specs.Form.{number_at}
 use Rattle.acpi_text.specs.Names.{Named, Wanted, sized, until, unnamed, part_fields, field_and, fields_of, parts_fields, structure_and, structures_up_to}
 use Rattle.acpi_text.specs.Names.{fields_and_structures, content_fields, structure_fields, Stands, AllStand, FieldsStand}
 use Rattle.acpi_text.specs.Size.{front_size}
-use Rattle.acpi_text.specs.Structure.{find_form, form_parts, form_inner}
+use Rattle.acpi_text.specs.Structure.{all_forms, find_form, form_parts, form_inner}
 use Rattle.acpi_text.specs.Table.{start_of}
 use Rattle.acpi_text.proofs.Pieces.{front_within}
 
@@ -121,5 +121,5 @@ module _ (table : List ℕ) where
 pub tables_stand : FieldsStand
 tables_stand form None bytes = parts_stand bytes form.parts.now 0 bytes ([], sym (append-nil bytes))
 tables_stand form (Some walk) bytes =
-    all_stand bytes walk.sizes (λ at piece. structure_fields walk.kind form.structures.now at piece) (structure_stands bytes walk.kind form.structures.now)
+    all_stand bytes walk.sizes (λ at piece. structure_fields walk.kind (all_forms form) at piece) (structure_stands bytes walk.kind (all_forms form))
     form.parts.now (start_of walk bytes) 0 bytes ([], sym (append-nil bytes))

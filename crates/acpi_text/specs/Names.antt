@@ -16,7 +16,7 @@ use Rattle.acpi_text.specs.Line.{line}
 use Rattle.acpi_base.specs.Look.{Look}
 use Rattle.acpi_text.specs.Reading.{in_number, read, bytes_of}
 use Rattle.acpi_text.specs.Size.{front_size}
-use Rattle.acpi_text.specs.Structure.{find_form, form_parts, form_inner}
+use Rattle.acpi_text.specs.Structure.{all_forms, find_form, form_parts, form_inner}
 use Rattle.acpi_text.specs.Table.{start_of, table_text}
 use Rattle.acpi_text.specs.declared.form.Choice.{Choice}
 use Rattle.acpi_text.specs.declared.form.Inner.{Inner}
@@ -164,7 +164,7 @@ structure_fields kind forms at piece =
 abbrev pub table_fields : TableForm → Option Walk → List ℕ → List Named
 table_fields form None bytes = parts_fields 0 bytes form.parts.now
 table_fields form (Some walk) bytes =
-    fields_and_structures form.parts.now (start_of walk bytes) walk.sizes (structure_fields walk.kind form.structures.now) 0 bytes
+    fields_and_structures form.parts.now (start_of walk bytes) walk.sizes (structure_fields walk.kind (all_forms form)) 0 bytes
 
 -- ---- where fields stand
 

@@ -6,7 +6,8 @@ use Rattle.acpi_base.specs.Gas.{address_spaces, access_sizes}
 use Rattle.acpi_base.specs.declared.row.Row.{Row}
 use Rattle.acpi_base.specs.declared.row.Row.TheVariants as rows
 use Rattle.acpi_text.specs.Line.{line, title}
-use Rattle.acpi_base.specs.Look.{Look, row_look}
+use Rattle.acpi_text.specs.declared.line.LineForm.{LineForm}
+use Rattle.acpi_base.specs.Look.{Look, row_look, look_of}
 use Rattle.acpi_base.specs.Look as looks
 
 -- What a line shows:
@@ -19,6 +20,10 @@ pub data Slot : Type 0 where
   field : ℕ → List ℕ → Look → ℕ → ℕ → Slot
   upto : ℕ → List ℕ → ℕ → Slot
   unknown : Slot
+
+-- the field of a line
+abbrev pub field_of : LineForm → Slot
+field_of form = field form.depth form.name.now (look_of form.look) form.width form.count
 
 -- ---- bytes without names
 

@@ -12,8 +12,13 @@ use Rattle.acpi_text.specs.declared.form.Inner.{Inner}
 use Rattle.acpi_text.specs.declared.form.Inner.TheVariants.{Nothing, Structures}
 use Rattle.acpi_text.specs.declared.form.Part.{Part}
 use Rattle.acpi_text.specs.declared.form.StructureForm.{StructureForm}
+use Rattle.acpi_text.specs.declared.form.TableForm.{TableForm}
 
 -- ---- its form
+
+-- the kinds of the structures of a table: both lists
+abbrev pub all_forms : TableForm → List StructureForm
+all_forms form = form.structures.now ++ form.further.now
 
 abbrev pub find_form : ℕ → List StructureForm → Option StructureForm
 find_form number [] = None

@@ -63,10 +63,13 @@ pub struct StructureForm {
     pub inner: &'static Inner,
 }
 
-/// A kind of table: its name in the standard, its parts before any structures, and the kinds of these.
+/// A kind of table: its name in the standard, its parts before any structures, and the kinds of these. The kinds are two lists,
+/// one after the other, since a list that is long is too much for one proof.
 #[derive(Clone, Copy, Debug)]
 pub struct TableForm {
     pub name: &'static str,
     pub parts: &'static [Part],
     pub structures: &'static [StructureForm],
+    /// The kinds that come after those.
+    pub further: &'static [StructureForm],
 }

@@ -10,24 +10,31 @@ use crate::space::{push_margin, push_padded};
 use acpi_base::row::Look;
 use std::alloc::AllocError;
 
-/// Adds the line of a field: its offset, its name, and its `count` numbers of `width` bytes.
+/// What the line of a field shows: its level, its name, and `count` numbers of `width` bytes, of which `look` says what they
+/// mean.
+#[derive(Clone, Copy, Debug)]
+pub struct LineForm<'a> {
+    pub depth: u8,
+    pub name: &'a str,
+    pub look: Look,
+    pub width: usize,
+    pub count: usize,
+}
+
+/// Adds the line of a field that begins at an offset.
 pub fn push_line(
-    depth: u8,
+    form: &LineForm<'_>,
     offset: usize,
-    name: &str,
-    look: Look,
-    width: usize,
-    count: usize,
     field: &[u8],
     text: &mut String,
 ) -> Result<(), AllocError>
-    requires { length field.now ≡ width * count }
+    requires { length field.now ≡ form.now.width * form.now.count }
     ensures { OnOk result (string_bytes text.new ≡ string_bytes text.old
-        ++ line depth offset name.now (look_of look) width count field.now) }
+        ++ line form.now.depth offset form.now.name.now (look_of form.now.look) form.now.width form.now.count field.now) }
 {
-    push_padded(depth, offset, name, text)?;
-    push_numbers(width, count, field, text)?;
-    push_meaning(look, width, count, field, text)?;
+    push_padded(form.depth, offset, form.name, text)?;
+    push_numbers(form.width, form.count, field, text)?;
+    push_meaning(form.look, form.width, form.count, field, text)?;
     text.push_str("\n")
 }
 

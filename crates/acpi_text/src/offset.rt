@@ -95,7 +95,21 @@ fn push_six_digits(n: usize, text: &mut String) -> Result<(), AllocError>
     ensures { OnOk result (string_bytes text.new ≡ string_bytes text.old ++ before_name n) }
 {
     let low = n % 10_000;
-    push_front(n, &[b' ', b' ', tens(n / 10_000), ones(n / 10_000), tens(low / 100), ones(low / 100), tens(low % 100), ones(low % 100), b' '], text)
+    push_front(
+        n,
+        &[
+            b' ',
+            b' ',
+            tens(n / 10_000),
+            ones(n / 10_000),
+            tens(low / 100),
+            ones(low / 100),
+            tens(low % 100),
+            ones(low % 100),
+            b' ',
+        ],
+        text,
+    )
 }
 
 // Adds two spaces, a number of any length, and a space.

@@ -6,9 +6,10 @@ ghost use Rattle.std.specs.List.{slice_range};
 ghost use Rattle.acpi_base.specs.Look as looks;
 ghost use Rattle.acpi_text.specs.Form.{number_at, count_of, repeated, group_slots, find_choice, choice_slots};
 ghost use Rattle.acpi_text.specs.Form.{part_slots, parts_slots};
-ghost use Rattle.acpi_text.specs.Slot.{field, upto, slots_text, Showed};
+ghost use Rattle.acpi_text.specs.Slot.{field, field_of, upto, slots_text, Showed};
 
 use crate::form::{Choice, Count, Part};
+use crate::line::LineForm;
 use crate::slot::{push_field, push_heading, push_nameless, push_rows};
 use acpi_base::row::{Look, Row};
 use acpi_base::walk::Place;
@@ -85,34 +86,48 @@ fn push_entries(
     Ok(at)
 }
 
-// Adds `count` fields of `columns` numbers, or fewer if the bytes end before.
+// Returns the form of a line of numbers.
+fn numbers_form(depth: u8, name: &str, width: usize, count: usize) -> LineForm<'_>
+    ensures { field_of result ≡ field depth name.now looks.number width count }
+{
+    LineForm {
+        depth,
+        name,
+        look: Look::Number,
+        width,
+        count,
+    }
+}
+
+// Returns the form of a line of bytes.
+fn bytes_form(depth: u8, name: &str, count: usize) -> LineForm<'_>
+    ensures { field_of result ≡ field depth name.now looks.text 1 count }
+{
+    LineForm {
+        depth,
+        name,
+        look: Look::Text,
+        width: 1,
+        count,
+    }
+}
+
+// Adds such a field `count` times, or fewer if the bytes end before.
 fn push_fields(
-    depth: u8,
-    name: &str,
-    width: usize,
-    columns: usize,
+    form: &LineForm<'_>,
     count: usize,
     offset: usize,
     bytes: &[u8],
     text: &mut String,
 ) -> Result<usize, AllocError>
     requires { offset + length bytes.now < 2 ^ 64 }
-    ensures { IfOk result (λ n. Showed (repeated count (field depth name.now looks.number width columns ∷ []))
-        offset bytes.now (string_bytes text.old) (string_bytes text.new) n) }
+    ensures { IfOk result (λ n. Showed (repeated count (field_of form.now ∷ [])) offset bytes.now
+        (string_bytes text.old) (string_bytes text.new) n) }
 {
     let mut at = 0;
     let mut done = 0;
     'fields: while done < count && at < bytes.len() {
-        at += push_field(
-            depth,
-            name,
-            Look::Number,
-            width,
-            columns,
-            offset + at,
-            &bytes[at..],
-            text,
-        )?;
+        at += push_field(form, offset + at, &bytes[at..], text)?;
         done += 1;
     }
     Ok(at)
@@ -131,12 +146,13 @@ fn push_until(
     requires { offset + length bytes.now < 2 ^ 64 }
     ensures { (start : ℕ) → offset ≡ start + at
         → IfOk result
-        (λ n. Showed (upto depth name.now (start + end) ∷ []) offset bytes.now (string_bytes text.old) (string_bytes text.new) n) }
+        (λ n. Showed (upto depth name.now (start + end) ∷ []) offset bytes.now
+        (string_bytes text.old) (string_bytes text.new) n) }
 {
     if end <= at {
         return Ok(0);
     }
-    push_field(depth, name, Look::Text, 1, end - at, offset, bytes, text)
+    push_field(&bytes_form(depth, name, end - at), offset, bytes, text)
 }
 
 /// Returns the choice with a number.
@@ -209,16 +225,8 @@ fn push_part(
             )
         }
         Part::Numbers(name, width, count) => {
-            push_fields(
-                depth,
-                name,
-                width,
-                1,
-                count_of(count, whole),
-                offset,
-                bytes,
-                text,
-            )
+            let form = numbers_form(depth, name, width, 1);
+            push_fields(&form, count_of(count, whole), offset, bytes, text)
         }
         Part::Matrix(name, width, rows, columns) => {
             let columns = number_at(columns, whole);
@@ -227,18 +235,13 @@ fn push_part(
             } else {
                 number_at(rows, whole)
             };
-            push_fields(depth, name, width, columns, rows, offset, bytes, text)
+            let form = numbers_form(depth, name, width, columns);
+            push_fields(&form, rows, offset, bytes, text)
         }
-        Part::Bytes(name, count) => push_field(
-            depth,
-            name,
-            Look::Text,
-            1,
-            number_at(count, whole),
-            offset,
-            bytes,
-            text,
-        ),
+        Part::Bytes(name, count) => {
+            let form = bytes_form(depth, name, number_at(count, whole));
+            push_field(&form, offset, bytes, text)
+        }
         Part::Until(name, end) => push_until(
             depth,
             name,

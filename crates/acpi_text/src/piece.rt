@@ -2,9 +2,10 @@
 
 ghost use Rattle.std.specs.Prelude.{◌≡◌, ◌+◌, ◌<◌, ◌^◌, ◌++◌, length, OnOk, string_bytes};
 ghost use Rattle.acpi_text.specs.Piece.{pieces_text};
-ghost use Rattle.acpi_text.specs.Structure.{find_form, form_name, form_parts, form_inner, kind_text, piece_line, piece_text};
+ghost use Rattle.acpi_text.specs.Structure.{all_forms, find_form, form_name, form_parts, form_inner};
+ghost use Rattle.acpi_text.specs.Structure.{kind_text, piece_line, piece_text};
 
-use crate::form::{Inner, Part, StructureForm};
+use crate::form::{Inner, Part, StructureForm, TableForm};
 use crate::inner::push_content;
 use crate::part::number_at;
 use crate::size::front_size;
@@ -14,11 +15,16 @@ use acpi_base::walk::{Place, Sizes};
 use itoa::Buffer;
 use std::alloc::AllocError;
 
-/// Returns the form with a number.
-pub fn find_form(number: usize, forms: &[StructureForm]) -> Option<StructureForm>
-    ensures { result ≡ find_form number forms.now }
+/// Returns the form of a table's structures with a number.
+pub fn find_form(number: usize, table: &TableForm) -> Option<StructureForm>
+    ensures { result ≡ find_form number (all_forms table.now) }
 {
-    for form in forms {
+    'structures: for form in table.structures {
+        if number == form.number {
+            return Some(*form);
+        }
+    }
+    'further: for form in table.further {
         if number == form.number {
             return Some(*form);
         }
@@ -93,15 +99,15 @@ fn push_piece_line(
 // Adds a structure's line, and those of what it contains.
 fn push_piece(
     kind: Place,
-    forms: &[StructureForm],
+    table: &TableForm,
     at: usize,
     piece: &[u8],
     text: &mut String,
 ) -> Result<(), AllocError>
     requires { at + length piece.now < 2 ^ 64 }
-    ensures { OnOk result (string_bytes text.new ≡ string_bytes text.old ++ piece_text kind forms.now at piece.now) }
+    ensures { OnOk result (string_bytes text.new ≡ string_bytes text.old ++ piece_text kind (all_forms table.now) at piece.now) }
 {
-    let form = find_form(number_at(kind, piece), forms);
+    let form = find_form(number_at(kind, piece), table);
     push_piece_line(kind, form, at, piece, text)?;
     push_content(parts_of(form), inner_of(form), at, piece, text)
 }
@@ -111,20 +117,20 @@ fn push_piece(
 pub fn push_pieces(
     sizes: Sizes,
     kind: Place,
-    forms: &[StructureForm],
+    table: &TableForm,
     start: usize,
     bytes: &[u8],
     text: &mut String,
 ) -> Result<(), AllocError>
     requires { start + length bytes.now < 2 ^ 64 }
     ensures { OnOk result (string_bytes text.new ≡ string_bytes text.old
-        ++ pieces_text sizes (piece_text kind forms.now) start bytes.now) }
+        ++ pieces_text sizes (piece_text kind (all_forms table.now)) start bytes.now) }
 {
     let mut at = start;
     let mut rest = bytes;
     'pieces: while let Some(size) = front_size(sizes, rest) {
         let (piece, more) = rest.split_at(size);
-        push_piece(kind, forms, at, piece, text)?;
+        push_piece(kind, table, at, piece, text)?;
         at += size;
         rest = more;
     }

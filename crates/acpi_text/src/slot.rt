@@ -5,10 +5,10 @@ ghost use Rattle.std.specs.Prelude.{◌≡◌, ℕ, ◌+◌, ◌*◌, ◌<◌, �
 ghost use Rattle.std.specs.List.{flat_map};
 ghost use Rattle.std.specs.Prelude.{MatchOption, IfOk, OnOk, string_bytes};
 ghost use Rattle.acpi_base.specs.Look.{look_of};
-ghost use Rattle.acpi_text.specs.Slot.{field, heading, nameless, register_slots, row_slot, row_slots, Showed};
+ghost use Rattle.acpi_text.specs.Slot.{field_of, heading, nameless, register_slots, row_slot, row_slots, Showed};
 ghost use Rattle.acpi_text.specs.Slot.{unit_width, unit_count};
 
-use crate::line::{push_line, push_title};
+use crate::line::{LineForm, push_line, push_title};
 use acpi_base::gas::GENERIC_ADDRESS;
 use acpi_base::row::{Look, Row};
 use std::alloc::AllocError;
@@ -29,7 +29,14 @@ pub fn push_nameless(offset: usize, bytes: &[u8], text: &mut String) -> Result<(
     let mut rest = bytes;
     'lines: while !rest.is_empty() {
         let (front, more) = rest.split_at(line_size(rest.len()));
-        push_line(0, at, "Bytes", Look::Bytes, 1, front.len(), front, text)?;
+        let form = LineForm {
+            depth: 0,
+            name: "Bytes",
+            look: Look::Bytes,
+            width: 1,
+            count: front.len(),
+        };
+        push_line(&form, at, front, text)?;
         at += front.len();
         rest = more;
     }
@@ -63,36 +70,23 @@ fn size_within(width: usize, count: usize, left: usize) -> Option<usize>
     }
 }
 
-/// Adds a field of `count` numbers of `width` bytes. If there are fewer bytes, it adds these without a name.
+/// Adds a field. If there are fewer bytes than it has, it adds these without a name.
 pub fn push_field(
-    depth: u8,
-    name: &str,
-    look: Look,
-    width: usize,
-    count: usize,
+    form: &LineForm<'_>,
     offset: usize,
     bytes: &[u8],
     text: &mut String,
 ) -> Result<usize, AllocError>
     requires { offset + length bytes.now < 2 ^ 64 }
     ensures { IfOk result
-        (λ n. Showed (field depth name.now (look_of look) width count ∷ []) offset bytes.now (string_bytes text.old) (string_bytes text.new) n) }
+        (λ n. Showed (field_of form.now ∷ []) offset bytes.now (string_bytes text.old) (string_bytes text.new) n) }
 {
     if bytes.is_empty() {
         return Ok(0);
     }
-    match size_within(width, count, bytes.len()) {
+    match size_within(form.width, form.count, bytes.len()) {
         Some(size) => {
-            push_line(
-                depth,
-                offset,
-                name,
-                look,
-                width,
-                count,
-                &bytes[..size],
-                text,
-            )?;
+            push_line(form, offset, &bytes[..size], text)?;
             Ok(size)
         }
         None => {
@@ -134,16 +128,14 @@ fn push_row_field(
         (λ n. Showed (row_slot depth row.now ∷ []) offset bytes.now (string_bytes text.old) (string_bytes text.new) n) }
 {
     let (width, count) = units(row);
-    push_field(
+    let form = LineForm {
         depth,
-        row.name(),
-        row.look(),
+        name: row.name(),
+        look: row.look(),
         width,
         count,
-        offset,
-        bytes,
-        text,
-    )
+    };
+    push_field(&form, offset, bytes, text)
 }
 
 // Adds the fields of rows, one after another, each in one line.

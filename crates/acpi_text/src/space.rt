@@ -75,7 +75,8 @@ pub fn push_padded(
     name: &str,
     text: &mut String,
 ) -> Result<(), AllocError>
-    ensures { OnOk result (string_bytes text.new ≡ string_bytes text.old ++ (padded 40 (margin depth offset name.now) ++ 58 ∷ [])) }
+    ensures { OnOk result (string_bytes text.new
+        ≡ string_bytes text.old ++ (padded 40 (margin depth offset name.now) ++ 58 ∷ [])) }
 {
     let start = text.len();
     push_margin(depth, offset, name, text)?;

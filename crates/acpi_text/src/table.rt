@@ -32,14 +32,7 @@ fn push_walked(
     let start = start_of(&walk, bytes);
     let (front, rest) = split_within(start, bytes);
     push_parts(0, form.parts, 0, front, text)?;
-    push_pieces(
-        walk.sizes,
-        walk.kind,
-        form.structures,
-        front.len(),
-        rest,
-        text,
-    )
+    push_pieces(walk.sizes, walk.kind, form, front.len(), rest, text)
 }
 
 /// Returns the text of a table: a line with its name, a line for each field, and, if there is a walk, a line for each structure

@@ -6,6 +6,7 @@ use Rattle.std.specs.Io.KnownBytes.{Keeps, Appends}
 use Rattle.acpi_cpio.specs.Archive.{tables_archive}
 use Rattle.acpitool_program.specs.Archiving.{name_of, IsTableIn, AreTablesIn, IsRefused, AreRefused, DontFit, ArchivesFiles}
 use Rattle.acpitool_program.specs.Making.{Saved, NotSaved, IsWritten}
+use Rattle.acpitool_program.proofs.Streams.{keeps_kept, keeps_then}
 use Rattle.acpitool_program.specs.Command.{has}
 
 or_true : (b : Bool) → (b || true) ≡ true
@@ -45,27 +46,10 @@ are_more [] (t ∷ tables) path table are one = absurd are
 are_more (p ∷ paths) [] path table are one = absurd are
 are_more (p ∷ paths) (t ∷ tables) path table are one = (are.0, are_more paths tables path table are.1 one)
 
-pub keeps_then : (a b c : Option (List ℕ)) (x : List ℕ) → Keeps a b → Appends b c x → Appends a c x
-keeps_then None b c x one two = tt
-keeps_then (Some xs) None c x one two = absurd one
-keeps_then (Some xs) (Some ys) None x one two = absurd two
-keeps_then (Some xs) (Some ys) (Some zs) x one two = two ∙ ap (λ l. l ++ x) one
-
-pub both_kept : (a b c : Option (List ℕ)) → Keeps a b → Keeps b c → Keeps a c
-both_kept None b c one two = tt
-both_kept (Some xs) None c one two = absurd one
-both_kept (Some xs) (Some ys) None one two = absurd two
-both_kept (Some xs) (Some ys) (Some zs) one two = two ∙ one
-
 -- a file that is refused after others
 pub refused_then : (path : List ℕ) (a b c : Option (List ℕ)) (status : ℕ) → Keeps a b → IsRefused path b c status → IsRefused path a c status
-refused_then path a b c status kept (inl none) = inl (record {
-  bytes = none.bytes;
-  fault = none.fault;
-  cause = none.cause;
-  complained = keeps_then a b c _ kept none.complained;
-  is = none.is;
-})
+refused_then path a b c status kept (inl (bytes, none)) =
+    inl (bytes, record { fault = none.fault; cause = none.cause; complained = keeps_then a b c _ kept none.complained; is = none.is })
 refused_then path a b c status kept (inr unread) =
     inr (record { why = unread.why; complained = keeps_then a b c _ kept unread.complained; is = unread.is })
 
@@ -104,7 +88,7 @@ pub written_as : (a b file : List ℕ) (o o' e e' : Option (List ℕ)) (status :
 written_as a b file o o' e e' status same written = subst (λ (l : List ℕ). IsWritten l file o o' e e' status) same written
 
 saved_then : (a b c : Option (List ℕ)) (status : ℕ) → Keeps a b → Saved b c status → Saved a c status
-saved_then a b c status kept one = record { silent = both_kept a b c kept one.silent; is = one.is }
+saved_then a b c status kept one = record { silent = keeps_kept a b c kept one.silent; is = one.is }
 
 not_saved_then : (file : List ℕ) (a b c : Option (List ℕ)) (status : ℕ) → Keeps a b → NotSaved file b c status → NotSaved file a c status
 not_saved_then file a b c status kept one =

@@ -6,26 +6,20 @@ use Rattle.acpitool_program.specs.Archiving.{Archives}
 use Rattle.acpitool_program.specs.Listing.{NotRead}
 use Rattle.acpitool_program.specs.Making.{IsWritten}
 use Rattle.acpitool_program.specs.Unpacking.{NotMade, AreUnpacked, AreFiles, UnpacksDump, UnpacksImage, UnpacksBy, Unpacks}
-use Rattle.acpitool_program.proofs.Archives.{both_kept}
-
-appends_kept : (a b c : Option (List ℕ)) (x : List ℕ) → Appends a b x → Keeps b c → Appends a c x
-appends_kept None b c x one two = tt
-appends_kept (Some xs) None c x one two = absurd one
-appends_kept (Some xs) (Some ys) None x one two = absurd two
-appends_kept (Some xs) (Some ys) (Some zs) x one two = two ∙ one
+use Rattle.acpitool_program.proofs.Streams.{keeps_kept, appends_kept}
 
 not_made_kept : (path : List ℕ) (o o' o'' e e' : Option (List ℕ)) (s : ℕ) → Keeps o' o'' → NotMade path o o' e e' s → NotMade path o o'' e e' s
 not_made_kept path o o' o'' e e' s kept not =
-    record { why = not.why; complained = not.complained; silent = both_kept o o' o'' not.silent kept; is = not.is }
+    record { why = not.why; complained = not.complained; silent = keeps_kept o o' o'' not.silent kept; is = not.is }
 
-unread_kept : (file : List ℕ) (o o' o'' e e' : Option (List ℕ)) (s : ℕ) → Keeps o' o'' → NotRead file o o' e e' s → NotRead file o o'' e e' s
+pub unread_kept : (file : List ℕ) (o o' o'' e e' : Option (List ℕ)) (s : ℕ) → Keeps o' o'' → NotRead file o o' e e' s → NotRead file o o'' e e' s
 unread_kept file o o' o'' e e' s kept not =
-    record { why = not.why; complained = not.complained; silent = both_kept o o' o'' not.silent kept; is = not.is }
+    record { why = not.why; complained = not.complained; silent = keeps_kept o o' o'' not.silent kept; is = not.is }
 
 -- the last table is the one before the flush
 tables_kept : (folder : List ℕ) (earlier tables : List (List ℕ)) (o o' o'' e e' : Option (List ℕ)) (s : ℕ) → Keeps o' o''
     → AreUnpacked folder earlier tables o o' e e' s → AreUnpacked folder earlier tables o o'' e e' s
-tables_kept folder earlier [] o o' o'' e e' s kept are = (both_kept o o' o'' are.0 kept, are.1, are.2)
+tables_kept folder earlier [] o o' o'' e e' s kept are = (keeps_kept o o' o'' are.0 kept, are.1, are.2)
 tables_kept folder earlier (table ∷ tables) o o' o'' e e' s kept are = record {
   out = are.out;
   err = are.err;
@@ -48,7 +42,7 @@ dump_kept name folder dump o o' o'' e e' s kept (inr broken) = inr (record {
   fault = broken.fault;
   cause = broken.cause;
   complained = broken.complained;
-  silent = both_kept o o' o'' broken.silent kept;
+  silent = keeps_kept o o' o'' broken.silent kept;
   is = broken.is;
 })
 
@@ -59,7 +53,7 @@ image_kept name folder base bytes o o' o'' e e' s kept (inr not) = inr (record {
   fault = not.fault;
   cause = not.cause;
   complained = not.complained;
-  silent = both_kept o o' o'' not.silent kept;
+  silent = keeps_kept o o' o'' not.silent kept;
   is = not.is;
 })
 
@@ -74,10 +68,10 @@ unpacked_kept name folder base o o' o'' e e' s kept (inl (bytes, done)) =
     inl (bytes, by_kept (is_dump bytes) name folder base bytes o o' o'' e e' s kept done)
 unpacked_kept name folder base o o' o'' e e' s kept (inr not) = inr (unread_kept name o o' o'' e e' s kept not)
 
-written_kept : (bytes file : List ℕ) (o o' o'' e e' : Option (List ℕ)) (s : ℕ) → Keeps o' o''
+pub written_kept : (bytes file : List ℕ) (o o' o'' e e' : Option (List ℕ)) (s : ℕ) → Keeps o' o''
     → IsWritten bytes file o o' e e' s → IsWritten bytes file o o'' e e' s
 written_kept bytes file o o' o'' e e' s kept (inl out) = inl (out.0, appends_kept o o' o'' bytes out.1 kept, out.2)
-written_kept bytes file o o' o'' e e' s kept (inr other) = inr (other.0, both_kept o o' o'' other.1 kept, other.2)
+written_kept bytes file o o' o'' e e' s kept (inr other) = inr (other.0, keeps_kept o o' o'' other.1 kept, other.2)
 
 pub archived_kept : (folder file : List ℕ) (o o' o'' e e' : Option (List ℕ)) (s : ℕ) → Keeps o' o''
     → Archives folder file o o' e e' s → Archives folder file o o'' e e' s
@@ -92,11 +86,11 @@ archived_kept folder file o o' o'' e e' s kept (inl (paths, inl all)) = inl (
         misfit = not.misfit;
         first = not.first;
         complained = not.complained;
-        silent = both_kept o o' o'' not.silent kept;
+        silent = keeps_kept o o' o'' not.silent kept;
         is = not.is;
       })
     ];
   }),
 )
-archived_kept folder file o o' o'' e e' s kept (inl (paths, inr refused)) = inl (paths, inr (refused.0, both_kept o o' o'' refused.1 kept))
+archived_kept folder file o o' o'' e e' s kept (inl (paths, inr refused)) = inl (paths, inr (refused.0, keeps_kept o o' o'' refused.1 kept))
 archived_kept folder file o o' o'' e e' s kept (inr not) = inr (unread_kept folder o o' o'' e e' s kept not)

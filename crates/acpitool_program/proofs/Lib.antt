@@ -7,6 +7,7 @@ mod Outcomes
 mod Paths
 mod Pointers
 mod Runs
+mod Streams
 mod Texts
 mod Unforced
 mod Unpacked

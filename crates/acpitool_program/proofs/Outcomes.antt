@@ -20,20 +20,9 @@ use Rattle.acpi_forms.specs.Kind.{kind_of}
 use Rattle.acpitool_program.specs.Fault.{line_of}
 use Rattle.acpitool_program.specs.Structures.{HasFault}
 use Rattle.acpitool_program.specs.Terms.{IsAfter}
+use Rattle.acpitool_program.proofs.Streams.{appends_none, appends_then}
 use Rattle.acpitool_program.specs.Text.{IsText, IsTextFault}
 use Rattle.acpitool_program.specs.declared.fault.Fault.{Fault}
-
--- ---- bytes of writers
-
-pub appends_none : (a : Option (List ℕ)) → Appends a a []
-appends_none None = tt
-appends_none (Some xs) = sym (append-nil xs)
-
-pub appends_then : (a b c : Option (List ℕ)) (x y : List ℕ) → Appends a b x → Appends b c y → Appends a c (x ++ y)
-appends_then None b c x y one two = tt
-appends_then (Some xs) None c x y one two = absurd one
-appends_then (Some xs) (Some ys) None x y one two = absurd two
-appends_then (Some xs) (Some ys) (Some zs) x y one two = two ∙ ap (λ l. l ++ y) one ∙ append_assoc xs x y
 
 -- ---- lists of outcomes
 

@@ -1,10 +1,11 @@
 -- A flush after a run, which keeps what was printed.
 use Rattle.std.proofs.Common.{ℕ, Bool, true, false, List, Option, Some, None, ◌∙◌, inl, inr}
 use Rattle.std.specs.Io.KnownBytes.{Keeps, Appends}
-use Rattle.acpitool_program.proofs.Kept.{unpacked_kept, archived_kept}
+use Rattle.acpitool_program.proofs.Kept.{unread_kept, unpacked_kept, written_kept, archived_kept}
+use Rattle.acpitool_program.proofs.Streams.{keeps_kept, appends_kept}
 use Rattle.acpitool_program.specs.Disassembly.{DisassemblesFile}
-use Rattle.acpitool_program.specs.declared.disassembly.BlockText.{BlockText}
-use Rattle.acpitool_program.specs.declared.disassembly.BlockText.TheVariants as blocks
+use Rattle.acpi_asl.specs.declared.block.BlockText.{BlockText}
+use Rattle.acpi_asl.specs.declared.block.BlockText.TheVariants as blocks
 use Rattle.acpitool_program.specs.Job.{Job, shows, checks}
 use Rattle.acpitool_program.specs.Listing.{Listed, NotRead}
 use Rattle.acpitool_program.specs.Making.{IsWritten, MakesWord, Makes}
@@ -14,18 +15,6 @@ use Rattle.acpitool_program.specs.Program.{Ended, IsDone, IsShown, AreChecked, I
 use Rattle.acpitool_program.specs.declared.command.Command.{Command}
 use Rattle.acpitool_program.specs.declared.command.Command.TheVariants.{Help, Version, Show, Check, Image, Make, Template}
 use Rattle.acpitool_program.specs.declared.command.Command.TheVariants.{Disassemble, Names, Unpack, Cpio}
-
-appends_kept : (a b c : Option (List ℕ)) (x : List ℕ) → Appends a b x → Keeps b c → Appends a c x
-appends_kept None b c x one two = tt
-appends_kept (Some xs) None c x one two = absurd one
-appends_kept (Some xs) (Some ys) None x one two = absurd two
-appends_kept (Some xs) (Some ys) (Some zs) x one two = two ∙ one
-
-keeps_kept : (a b c : Option (List ℕ)) → Keeps a b → Keeps b c → Keeps a c
-keeps_kept None b c one two = tt
-keeps_kept (Some xs) None c one two = absurd one
-keeps_kept (Some xs) (Some ys) None one two = absurd two
-keeps_kept (Some xs) (Some ys) (Some zs) one two = two ∙ one
 
 printed_kept : (job : Job) (outcomes : List Outcome) (o o' o'' e e' : Option (List ℕ)) (s : ℕ) → Keeps o' o''
     → Printed job outcomes o o' e e' s → Printed job outcomes o o'' e e' s
@@ -59,10 +48,6 @@ checked_kept : (files : List (List ℕ)) (o o' o'' e e' : Option (List ℕ)) (s 
     → AreChecked files o o' e e' s → AreChecked files o o'' e e' s
 checked_kept files o o' o'' e e' s kept all =
     record { outcomes = all.outcomes; are = all.are; printed = printed_kept checks all.outcomes o o' o'' e e' s kept all.printed }
-
-unread_kept : (file : List ℕ) (o o' o'' e e' : Option (List ℕ)) (s : ℕ) → Keeps o' o'' → NotRead file o o' e e' s → NotRead file o o'' e e' s
-unread_kept file o o' o'' e e' s kept not =
-    record { why = not.why; complained = not.complained; silent = keeps_kept o o' o'' not.silent kept; is = not.is }
 
 listed_kept : (file : List ℕ) (base : ℕ) (o o' o'' e e' : Option (List ℕ)) (s : ℕ) → Keeps o' o''
     → Listed file base o o' e e' s → Listed file base o o'' e e' s
@@ -111,11 +96,6 @@ block_kept : (block : BlockText) (file : List ℕ) (numbers : List (List ℕ)) (
 block_kept block file numbers o o' o'' e e' s kept (inl all) =
     inl (record { all = all.all; stated = all.stated; disassembles = disassembled_kept block all.all file o o' o'' e e' s kept all.disassembles })
 block_kept block file numbers o o' o'' e e' s kept (inr not) = inr (unstated_kept numbers o o' o'' e e' s kept not)
-
-written_kept : (bytes file : List ℕ) (o o' o'' e e' : Option (List ℕ)) (s : ℕ) → Keeps o' o''
-    → IsWritten bytes file o o' e e' s → IsWritten bytes file o o'' e e' s
-written_kept bytes file o o' o'' e e' s kept (inl out) = inl (out.0, appends_kept o o' o'' bytes out.1 kept, out.2)
-written_kept bytes file o o' o'' e e' s kept (inr other) = inr (other.0, keeps_kept o o' o'' other.1 kept, other.2)
 
 word_kept : (force : Bool) (name file : List ℕ) (o o' o'' e e' : Option (List ℕ)) (s : ℕ) → Keeps o' o''
     → MakesWord force name file o o' e e' s → MakesWord force name file o o'' e e' s

@@ -4,11 +4,8 @@ use Rattle.std.proofs.lemmas.List.{at_drop_more, drop_all, map_more}
 use Rattle.std.specs.Io.KnownBytes.{Keeps}
 use Rattle.acpi_dump.specs.Dump.{titled, tables_of}
 use Rattle.acpi_dump.specs.declared.dump.Dumped.{Dumped}
+use Rattle.acpitool_program.proofs.Streams.{keeps_self}
 use Rattle.acpitool_program.specs.Unpacking.{path_of, IsUnpacked, AreUnpacked, AreFiles, UnpacksDump}
-
-pub keeps_same : (a : Option (List ℕ)) → Keeps a a
-keeps_same None = tt
-keeps_same (Some xs) = refl
 
 module _ {X : Type 0} (f : X → List ℕ) (folder : List ℕ) (xs : List X) (o e : Option (List ℕ)) where
   -- what the tables from an index on come to, and all of them
@@ -41,7 +38,7 @@ module _ {X : Type 0} (f : X → List ℕ) (folder : List ℕ) (xs : List X) (o 
   all_done i out err worst past so_far =
       let none : map f (drop i xs) ≡ [] = ap (map f) (drop_all i xs past) in
       let Rest : List (List ℕ) → Type 0 = λ tables. AreUnpacked folder (map f (take i xs)) tables out out err err 0 in
-      let nothing : Rest [] = (keeps_same out, keeps_same err, refl) in
+      let nothing : Rest [] = (keeps_self out, keeps_self err, refl) in
       let same : max worst 0 ≡ worst = grind arith in
       subst (AreUnpacked folder [] (map f xs) o out e err) same (so_far out err 0 (subst Rest (sym none) nothing))
 

@@ -48,7 +48,3 @@ fourth_word f (a ∷ b ∷ []) x t has is some = absurd (omega (arith, some))
 fourth_word f (a ∷ b ∷ d ∷ []) x t has is some = absurd (omega (arith, some))
 fourth_word f (a ∷ b ∷ d ∷ y ∷ ys) x t has is some =
     (f a, f b, f d, map f ys, ap (λ z. f a ∷ f b ∷ f d ∷ z ∷ map f ys) (ap f (sym is) ∙ sym has))
-
--- words that differ in their third byte
-pub apart : (v w : List ℕ) → v ≡ w → get_or v 2 0 ≢ get_or w 2 0 → ⊥
-apart v w is other = other (ap (λ l. get_or l 2 0) is)

@@ -15,10 +15,14 @@ abbrev pub name_of : List ℕ → List ℕ
 name_of [] = []
 name_of (c ∷ path) = if has 47 (c ∷ path) then name_of path else c ∷ path
 
--- a file of this path is a table with the standard header: its name and its bytes
-pub record IsTableIn (path : List ℕ) (table : List ℕ × List ℕ) : Type 0 where
-  pub name : table.0 ≡ name_of path
-  pub is : IsTrueTable table.1
+-- the bytes of a file of this path are a table with the standard header: its name and its bytes
+pub record IsTableOf (path bytes : List ℕ) (table : List ℕ × List ℕ) : Type 0 where
+  pub are : table ≡ (name_of path, bytes)
+  pub is : IsTrueTable bytes
+
+-- a file of this path has these bytes
+abbrev pub IsTableIn : List ℕ → List ℕ × List ℕ → Type 0
+IsTableIn path table = (bytes : List ℕ) × IsTableOf path bytes table
 
 -- these are the tables of the files
 abbrev pub AreTablesIn : List (List ℕ) → List (List ℕ × List ℕ) → Type 0
@@ -26,9 +30,8 @@ AreTablesIn [] [] = Unit {0}
 AreTablesIn (path ∷ paths) (table ∷ tables) = IsTableIn path table × AreTablesIn paths tables
 AreTablesIn _ _ = ⊥
 
--- a file has no table, and a line says why
-pub record HasNoTable (path : List ℕ) (err err' : Option (List ℕ)) (status : ℕ) : Type 0 where
-  pub bytes : List ℕ
+-- the bytes of a file are no table, and a line says why
+pub record HasNoTable (path bytes : List ℕ) (err err' : Option (List ℕ)) (status : ℕ) : Type 0 where
   pub fault : Fault
   pub cause : IsNoTable bytes fault
   pub complained : Appends err err' (path ++ codes ": " ++ line_of fault ++ 10 ∷ [])
@@ -41,7 +44,7 @@ pub record CantBeRead (path : List ℕ) (err err' : Option (List ℕ)) (status :
   pub is : status ≡ 2
 
 abbrev pub IsRefused : List ℕ → Option (List ℕ) → Option (List ℕ) → ℕ → Type 0
-IsRefused path err err' status = HasNoTable path err err' status ⊎ CantBeRead path err err' status
+IsRefused path err err' status = ((bytes : List ℕ) × HasNoTable path bytes err err' status) ⊎ CantBeRead path err err' status
 
 -- one of the files is refused: the first, as no more of them is read
 pub record AreRefused (paths : List (List ℕ)) (err err' : Option (List ℕ)) (status : ℕ) : Type 0 where
@@ -54,7 +57,8 @@ pub record AreRefused (paths : List (List ℕ)) (err err' : Option (List ℕ)) (
   pub refused : IsRefused path err err' status
 
 -- the tables don't fit an archive, and a line says so
-pub record DontFit (tables : List (List ℕ × List ℕ)) (file : List ℕ) (out out' err err' : Option (List ℕ)) (status : ℕ) : Type 0 where
+pub record DontFit (tables : List (List ℕ × List ℕ)) (file : List ℕ)
+    (out out' err err' : Option (List ℕ)) (status : ℕ) : Type 0 where
   pub misfit : ℕ
   pub first : first_misfit 3 (map file_entry tables) ≡ Some misfit
   pub complained : Appends err err' (file ++ codes ": " ++ codes "too large for an archive" ++ 10 ∷ [])
@@ -68,7 +72,8 @@ pub record AreArchived (paths : List (List ℕ)) (file : List ℕ) (out out' err
   pub written : IsWritten (tables_archive tables) file out out' err err' status ⊎ DontFit tables file out out' err err' status
 
 -- what comes of the files of a folder
-abbrev pub ArchivesFiles : List (List ℕ) → List ℕ → Option (List ℕ) → Option (List ℕ) → Option (List ℕ) → Option (List ℕ) → ℕ → Type 0
+abbrev pub ArchivesFiles : List (List ℕ) → List ℕ
+    → Option (List ℕ) → Option (List ℕ) → Option (List ℕ) → Option (List ℕ) → ℕ → Type 0
 ArchivesFiles paths file out out' err err' status =
     AreArchived paths file out out' err err' status ⊎ (AreRefused paths err err' status × Keeps out out')
 

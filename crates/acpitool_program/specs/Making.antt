@@ -100,7 +100,7 @@ pub record NotSaved (file : List ℕ) (err err' : Option (List ℕ)) (status : �
   pub complained : Appends err err' (file ++ codes ": " ++ why ++ 10 ∷ [])
   pub is : status ≡ 1
 
--- Bytes go to standard output if the file is `-`, and else to the file, of which no contract can say what it has.
+-- Bytes go to standard output if the file is `-`, and otherwise to the file, of which no contract can say what it has.
 abbrev pub IsWritten : List ℕ → List ℕ → Option (List ℕ) → Option (List ℕ) → Option (List ℕ) → Option (List ℕ) → ℕ → Type 0
 IsWritten bytes file out out' err err' status =
     ((file ≡ codes "-") × Appends out out' bytes × Saved err err' status)

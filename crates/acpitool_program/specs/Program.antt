@@ -20,8 +20,8 @@ use Rattle.acpitool_program.specs.declared.command.Command.{Command}
 use Rattle.acpitool_program.specs.declared.command.Command.TheVariants.{Help, Version, Show, Check, Image, Make, Template}
 use Rattle.acpitool_program.specs.declared.command.Command.TheVariants.{Disassemble, Names, Unpack, Cpio}
 use Rattle.acpitool_program.specs.declared.command.Misstated.TheVariants as misstated
-use Rattle.acpitool_program.specs.declared.disassembly.BlockText.{BlockText}
-use Rattle.acpitool_program.specs.declared.disassembly.BlockText.TheVariants as blocks
+use Rattle.acpi_asl.specs.declared.block.BlockText.{BlockText}
+use Rattle.acpi_asl.specs.declared.block.BlockText.TheVariants as blocks
 use Rattle.acpitool_program.specs.declared.command.Wrong.{Wrong}
 use Rattle.acpitool_program.specs.declared.command.Wrong.TheVariants.{NoCommand, Unknown, NoFile, NoFileToCheck, NoImage, NoText}
 use Rattle.acpitool_program.specs.declared.command.Wrong.TheVariants.{NoTable, Base, Number, Twice, NoSignature}

@@ -1,12 +1,9 @@
 -- The terms of a definition block, in comments after its text.
-use Rattle.std.specs.Prelude.{◌≡◌, ◌≢◌, ◌⊎◌, ℕ, nat_eq, nat_le, ◌&&◌, ◌||◌, Bool, true, false, List, [], ◌++◌, length, drop}
+use Rattle.std.specs.Prelude.{◌≡◌, ◌≢◌, ◌⊎◌, ℕ, Bool, true, false, List, [], ◌++◌, drop}
 use Rattle.std.specs.Prelude.{Option, Some, None, codes}
 use Rattle.std.specs.Fmt.{decimal}
-use Rattle.std.specs.List.{starts_with}
-use Rattle.acpi_read.specs.Terms.{IsUnreadIn}
 use Rattle.acpi_term.specs.Arity.{arity}
-use Rattle.acpi_term.specs.declared.language.Language.TheVariants.{Standard}
-use Rattle.acpi_term.specs.Language.{grammar_of}
+use Rattle.acpi_asl.specs.Block.{has_terms, AreNoTerms}
 use Rattle.acpi_term.specs.declared.read_error.ReadError.{ReadError}
 use Rattle.acpi_term.specs.declared.read_error.ReadError.TheVariants.{Memory}
 use Rattle.acpi_terms_text.specs.Comment.{IsAnnotated}
@@ -15,23 +12,12 @@ use Rattle.acpi_text.specs.Comment.{comment}
 use Rattle.acpitool_program.specs.Fault.{IsFaultAfter}
 use Rattle.acpitool_program.specs.declared.fault.Fault.{Fault}
 
--- whether terms follow the header, by the signature (ACPI 6.5, 5.2.11.1 and 5.2.11.2)
-abbrev pub has_terms : List ℕ → Bool
-has_terms bytes =
-    nat_le 36 (length bytes) && (starts_with nat_eq bytes (codes "DSDT") || starts_with nat_eq bytes (codes "SSDT"))
-
 -- The text is the report of these terms with comments. Names take the stated numbers of arguments, or else those of the block's
 -- own methods.
 pub record IsReport (stated : List (List ℕ × ℕ)) (terms text : List ℕ) : Type 0 where
   pub own : List (List ℕ × ℕ)
   pub methods : AreOwn stated terms own
   pub annotated : IsAnnotated (arity own) terms text
-
--- why there is no report: the bytes aren't terms, with or without the block's own methods
-pub record IsNoReport (stated : List (List ℕ × ℕ)) (terms : List ℕ) (error : ReadError) : Type 0 where
-  pub own : List (List ℕ × ℕ)
-  pub methods : (own ≡ stated) ⊎ AreOwn stated terms own
-  pub unread : IsUnreadIn (grammar_of Standard (arity own)) terms error
 
 -- the lines of a report
 abbrev pub report_lines : List ℕ → List ℕ
@@ -56,7 +42,7 @@ pub record HasReport (stated : List (List ℕ × ℕ)) (bytes after : List ℕ) 
 pub record HasError (stated : List (List ℕ × ℕ)) (bytes after : List ℕ) : Type 0 where
   pub error : ReadError
   pub no_memory : error ≢ Memory
-  pub no_report : IsNoReport stated (drop 36 bytes) error
+  pub no_report : AreNoTerms stated (drop 36 bytes) error
   pub fault : Fault
   pub says : IsFaultAfter 36 error fault
   pub is : after ≡ error_line fault

@@ -17,7 +17,7 @@ use Rattle.acpitool_program.specs.Listing.{NotListed, NotRead}
 
 -- ---- names
 
--- a character of a signature as one of a name: a letter or a digit, and else an underscore
+-- a character of a signature as one of a name: a letter or a digit, and otherwise an underscore
 abbrev pub letter : ℕ → ℕ
 letter c = if is_ascii_alphanumeric c then c else 95
 
@@ -101,7 +101,8 @@ pub record BrokenDump (name dump : List ℕ) (out out' err err' : Option (List �
   pub silent : Keeps out out'
   pub is : status ≡ 1
 
-abbrev pub UnpacksDump : List ℕ → List ℕ → List ℕ → Option (List ℕ) → Option (List ℕ) → Option (List ℕ) → Option (List ℕ) → ℕ → Type 0
+abbrev pub UnpacksDump : List ℕ → List ℕ → List ℕ
+    → Option (List ℕ) → Option (List ℕ) → Option (List ℕ) → Option (List ℕ) → ℕ → Type 0
 UnpacksDump name folder dump out out' err err' status =
     ((tables : List (List ℕ × List ℕ)) × (tables_of dump ≡ Ok tables)
     × AreFiles folder (map (λ table. table.1) tables) out out' err err' status)

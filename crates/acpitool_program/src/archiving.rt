@@ -3,8 +3,8 @@
 ghost use Rattle.std.specs.Prelude.{◌≡◌, ◌⊎◌, map, string_bytes, IfOk, MatchResult};
 ghost use Rattle.std.specs.Io.KnownBytes.{Keeps};
 ghost use Rattle.acpi_cpio.specs.Archive.{named, tables_archive};
-ghost use Rattle.acpitool_program.specs.Archiving.{name_of, IsTableIn, AreTablesIn, IsRefused, AreRefused, DontFit};
-ghost use Rattle.acpitool_program.specs.Archiving.{ArchivesFiles, Archives};
+ghost use Rattle.acpitool_program.specs.Archiving.{name_of, IsTableOf, IsTableIn, AreTablesIn, HasNoTable};
+ghost use Rattle.acpitool_program.specs.Archiving.{IsRefused, AreRefused, DontFit, ArchivesFiles, Archives};
 ghost use Rattle.acpitool_program.specs.Making.{IsWritten};
 
 use crate::complaint::complain;
@@ -50,8 +50,8 @@ fn table_of<E: Write>(
     err: &mut E,
 ) -> io::Result<Result<ArchivedFile, u8>>
     ensures { IfOk result (λ table. MatchResult table
-        (λ table. IsTableIn path.now (named table) × Keeps (E.contents err.old) (E.contents err.new))
-        (λ status. IsRefused path.now (E.contents err.old) (E.contents err.new) status)) }
+        (λ table. IsTableOf path.now bytes.items (named table) × Keeps (E.contents err.old) (E.contents err.new))
+        (λ status. HasNoTable path.now bytes.items (E.contents err.old) (E.contents err.new) status)) }
 {
     if let Err(error) = Table::check(&bytes) {
         complain(alloc, path, &Fault::of(FileKind::Table, error), err)?;

@@ -23,6 +23,7 @@ use acpi_read::report::push_shown;
 use acpi_read::table::Table;
 use acpi_rules::finding::Finding;
 use acpi_rules::line::push_finding;
+use acpi_rules::rules::signature_of;
 use acpi_rules::standard::table_findings;
 use acpi_term::read_error::ReadError;
 use acpi_text::form::TableForm;
@@ -106,13 +107,6 @@ pub fn findings_of<'a>(alloc: Global, bytes: &'a [u8]) -> Result<Vec<Finding<'a>
             Err(error) => Err(Fault::of(FileKind::Table, error)),
         },
     }
-}
-
-// Returns the first four bytes, or fewer if there are fewer.
-fn signature_of(bytes: &[u8]) -> &[u8]
-    ensures { result.now ≡ take 4 bytes.now }
-{
-    if bytes.len() < 4 { bytes } else { &bytes[..4] }
 }
 
 // Adds the line of a finding.

@@ -1,12 +1,9 @@
 //! Definition blocks as ASL, and the objects that they make.
 
-ghost use Rattle.acpi_term.specs.View.{views};
-ghost use Rattle.std.specs.Prelude.{◌≡◌, ◌≤◌, length, drop, map, string_bytes, IfOk, IfErr, IfSome};
-ghost use Rattle.acpi_term.specs.ReadError.{offset_of};
-ghost use Rattle.acpitool_program.specs.Disassembly.{block_text, IsBlockText, HasNoTerms, IsNoText, IsDisassembled};
-ghost use Rattle.acpitool_program.specs.Disassembly.{DisassemblesFile};
+ghost use Rattle.std.specs.Prelude.{◌≡◌, ◌≤◌, length, map, string_bytes, IfOk, IfErr};
+ghost use Rattle.acpi_asl.specs.Block.{IsBlockText};
+ghost use Rattle.acpitool_program.specs.Disassembly.{HasNoTerms, IsNoText, IsDisassembled, DisassemblesFile};
 ghost use Rattle.acpitool_program.specs.Program.{IsBlockShown};
-ghost use Rattle.acpitool_program.specs.Terms.{IsNoReport};
 
 use crate::command::{Misstated, Wrong, numbers};
 use crate::complaint::complain;
@@ -14,29 +11,14 @@ use crate::fault::Fault;
 use crate::files::read_word;
 use crate::help::tell_wrong;
 use crate::outcome::tell_unread;
-use crate::terms::{BODY, has_terms};
-use acpi_asl::asl::asl_of;
-use acpi_asl::namespace::namespace_of;
+use acpi_asl::block::{BODY, BlockText, has_terms, text_of_block};
 use acpi_make::file_kind::FileKind;
 use acpi_read::table::Table;
-use acpi_read::terms::standard_terms;
 use acpi_term::name_string::Arities;
-use acpi_term::read_error::ReadError;
-use acpi_term::term::Term;
-use acpi_terms_text::methods::own_arities;
 use std::alloc::{AllocError, Global};
 use std::io;
 use std::io::{Input, Write};
 use std::rt::Files;
-
-/// What is printed of a definition block.
-#[derive(Clone, Copy, Debug)]
-pub enum BlockText {
-    /// Its ASL.
-    Asl,
-    /// The objects that it makes when it is loaded.
-    Names,
-}
 
 // What is wrong with a table that isn't a definition block.
 const NO_BLOCK: Fault = Fault {
@@ -44,53 +26,13 @@ const NO_BLOCK: Fault = Fault {
     words: "not the signature of a definition block, DSDT or SSDT",
 };
 
-// Returns the text of a header and terms.
-fn text_of_terms(
-    alloc: Global,
-    block: BlockText,
-    header: &[u8],
-    terms: &[Term],
-) -> Result<String, AllocError>
-    requires { 36 ≤ length header.now }
-    ensures { IfOk result (λ text. string_bytes text ≡ block_text block header.now (views terms.now)) }
-{
-    match block {
-        BlockText::Asl => asl_of(alloc, header, terms),
-        BlockText::Names => namespace_of(alloc, terms),
-    }
-}
-
-// Returns the text of a header and the terms that follow it.
-fn text_of_parts(
-    alloc: Global,
-    block: BlockText,
-    stated: &Arities,
-    header: &[u8],
-    body: &[u8],
-) -> Result<String, ReadError>
-    requires { 36 ≤ length header.now }
-    ensures ok { IfOk result (λ text. IsBlockText block stated.now header.now body.now (string_bytes text)) }
-    ensures err { IfErr result (IsNoReport stated.now body.now) }
-    ensures place { IfErr result (λ e. IfSome (offset_of e) (λ offset. offset ≤ length body.now)) }
-{
-    let own = own_arities(alloc, body, stated)?;
-    let terms = standard_terms(body, &own)?;
-    let text = text_of_terms(alloc, block, header, &terms)?;
-    Ok(text)
-}
-
 // Returns the text of a table with terms.
-fn text_of_block(
-    alloc: Global,
-    block: BlockText,
-    stated: &Arities,
-    bytes: &[u8],
-) -> Result<String, Fault>
+fn text_of(alloc: Global, block: BlockText, stated: &Arities, bytes: &[u8]) -> Result<String, Fault>
     requires { 36 ≤ length bytes.now }
-    ensures ok { IfOk result (λ text. IsBlockText block stated.now bytes.now (drop 36 bytes.now) (string_bytes text)) }
+    ensures ok { IfOk result (λ text. IsBlockText block stated.now bytes.now (string_bytes text)) }
     ensures err { IfErr result (HasNoTerms stated.now bytes.now) }
 {
-    match text_of_parts(alloc, block, stated, bytes, &bytes[BODY..]) {
+    match text_of_block(alloc, block, stated, bytes) {
         Ok(text) => Ok(text),
         Err(error) => Err(Fault::after(BODY, error)),
     }
@@ -103,7 +45,7 @@ fn disassembled(
     stated: &Arities,
     bytes: &[u8],
 ) -> Result<String, Fault>
-    ensures ok { IfOk result (λ text. IsBlockText block stated.now bytes.now (drop 36 bytes.now) (string_bytes text)) }
+    ensures ok { IfOk result (λ text. IsBlockText block stated.now bytes.now (string_bytes text)) }
     ensures err { IfErr result (IsNoText stated.now bytes.now) }
 {
     if let Err(error) = Table::check(bytes) {
@@ -112,7 +54,7 @@ fn disassembled(
     if !has_terms(bytes) {
         return Err(NO_BLOCK);
     }
-    text_of_block(alloc, block, stated, bytes)
+    text_of(alloc, block, stated, bytes)
 }
 
 // Prints the text of a definition block and returns 0, or prints what is wrong with the bytes and returns 1.

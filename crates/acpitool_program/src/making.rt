@@ -197,7 +197,7 @@ fn save<R: Files, E: Write>(
     tell_written(alloc, file, write_file(rt, alloc, file, bytes), err)
 }
 
-/// Writes a table to standard output if the file is `-`, and else to the file.
+/// Writes a table to standard output if the file is `-`, and otherwise to the file.
 pub fn write_table<R: Files, O: Write, E: Write>(
     rt: &R,
     alloc: Global,

@@ -9,12 +9,13 @@ ghost use Rattle.acpitool_program.specs.Program.{as_word, suggestion, unknown_li
 
 use crate::archiving::archive_folder;
 use crate::command::{Command, parse};
-use crate::disassembly::{BlockText, disassemble};
+use crate::disassembly::disassemble;
 use crate::help::{print_help, print_version, tell_wrong};
 use crate::listing::list_file;
 use crate::making::make_file;
 use crate::show::{check_all, show_all};
 use crate::unpacking::unpack;
+use acpi_asl::block::BlockText;
 use acpi_forms::known::{is_known, meant};
 use acpi_forms::make::template;
 use std::alloc::Global;
@@ -91,8 +92,8 @@ fn template_of<O: Write, E: Write>(
 /// - 0: everything that was asked for went to `out` or to a file, and nothing to `err` but notes on numbers of a table that was
 ///   written by force;
 /// - 1: something that was read isn't a table, an RSDP, a FACS, an image or a text of a table, the structures of a table can't be
-///   found, a table breaks a rule, a table can't be written or its numbers are wrong, or no table has a signature; `err` has a line
-///   for each;
+///   found, a table breaks a rule, a table can't be written or its numbers are wrong, or no table has a signature; `err` has a
+///   line for each;
 /// - 2: a file can't be read, or words are wrong; `err` has a line for each file, or which word is wrong and the usage.
 ///
 /// What can be shown is shown with each status. An error is one of `out` or `err`, or memory ran out.

@@ -3,10 +3,12 @@
 ghost use Rattle.std.specs.Prelude.{◌≡◌, ◌≢◌, ◌+◌, ◌<◌, ◌≤◌, ◌^◌, ◌⊎◌, length, drop, IfOk, IfErr, IfSome, Some, string_bytes};
 ghost use Rattle.acpi_term.specs.ReadError.{offset_of};
 ghost use Rattle.acpi_term.specs.declared.read_error.ReadError.TheVariants.{Memory};
-ghost use Rattle.acpitool_program.specs.Terms.{has_terms, report_lines, unread_line, error_line, IsReport, IsNoReport, HasReport};
+ghost use Rattle.acpitool_program.specs.Terms.{report_lines, unread_line, error_line, IsReport, HasReport};
 ghost use Rattle.acpitool_program.specs.Terms.{HasError, IsAfter};
+ghost use Rattle.acpi_asl.specs.Block.{AreNoTerms};
 
 use crate::fault::Fault;
+use acpi_asl::block::{BODY, has_terms};
 use acpi_read::report::push_number;
 use acpi_term::name_string::Arities;
 use acpi_term::read_error::ReadError;
@@ -15,20 +17,10 @@ use acpi_terms_text::methods::own_arities;
 use acpi_text::comment::push_comment;
 use std::alloc::{AllocError, Global};
 
-/// The offset of the terms of a table: they follow its header.
-pub const BODY: usize = 36;
-
-/// Returns whether terms follow the header of a table.
-pub fn has_terms(bytes: &[u8]) -> bool
-    ensures { result ≡ has_terms bytes.now }
-{
-    bytes.len() >= BODY && (bytes.starts_with(b"DSDT") || bytes.starts_with(b"SSDT"))
-}
-
 // Returns the report of terms with comments.
 fn report(alloc: Global, stated: &Arities, terms: &[u8]) -> Result<String, ReadError>
     ensures ok { IfOk result (λ text. IsReport stated.now terms.now (string_bytes text)) }
-    ensures err { IfErr result (IsNoReport stated.now terms.now) }
+    ensures err { IfErr result (AreNoTerms stated.now terms.now) }
     ensures place { IfErr result (λ e. IfSome (offset_of e) (λ offset. offset ≤ length terms.now)) }
 {
     let own = own_arities(alloc, terms, stated)?;

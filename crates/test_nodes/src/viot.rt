@@ -59,6 +59,16 @@ fn a_table_without_nodes(rt: HostRuntime) -> Result<(), Fail> {
     )
 }
 
+// A table of revision 0.
+#[test]
+fn revision_0(rt: HostRuntime) -> Result<(), Fail> {
+    is(
+        rt.alloc(),
+        VIOT::of_revision(rt.alloc(), 0, OEM, OEM_TABLE, OEM_REVISION),
+        b"VIOT\x30\0\0\0\0\x12FOOBARCAFEDEAD\xef\xbe\xad\xdeRVAT\0\0\0\x01\0\0\x30\0\0\0\0\0\0\0\0\0",
+    )
+}
+
 fn add_each_kind(table: &mut VIOT) -> R<()> {
     let device = PciDevice::new(0x0201, 0xfe, 30, 6);
     let first = table.add_virtio_pci_iommu(VirtIoPciIommu::new(device))?;

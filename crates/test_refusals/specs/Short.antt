@@ -17,12 +17,14 @@ is_seventh _ = false
 
 -- a sink that has some bytes, has room for this many more, and returns Sink(7) for others
 unfoldable pub short_of : List ℕ → ℕ → Meaning
-short_of held room = record { shows = λ more. held ++ more; takes = λ more. nat_le (length more) room; tells = is_seventh; wants_memory = true }
+short_of held room =
+    record { shows = λ more. held ++ more; takes = λ more. nat_le (length more) room; tells = is_seventh; wants_memory = true }
 
 pub short_takes_nothing : (held : List ℕ) (room : ℕ) → IsTrue ((short_of held room).takes [])
 unfolding short_of
 short_takes_nothing held room = grind (arith, nat_tests)
 
-pub short_takes_beginning : (held : List ℕ) (room : ℕ) (a b : List ℕ) → IsTrue ((short_of held room).takes (a ++ b)) → IsTrue ((short_of held room).takes a)
+pub short_takes_beginning : (held : List ℕ) (room : ℕ) (a b : List ℕ) → IsTrue ((short_of held room).takes (a ++ b))
+    → IsTrue ((short_of held room).takes a)
 unfolding short_of
 short_takes_beginning held room a b taken = grind (arith, nat_tests, length-append a b, taken)

@@ -53,6 +53,17 @@ fn sources(rt: HostRuntime) -> Result<(), Fail> {
     takes_many(rt.alloc(), &mut table(rt.alloc()))
 }
 
+// A table of revision 2.
+#[test]
+fn revision_2(rt: HostRuntime) -> Result<(), Fail> {
+    let table = HEST::of_revision(rt.alloc(), 2, OEM, OEM_TABLE, OEM_REVISION);
+    writes(
+        rt.alloc(),
+        &table,
+        b"HEST\x28\0\0\0\x02\x56FOOBARCAFEDEAD\xef\xbe\xad\xdeRVAT\0\0\0\x01\0\0\0\0",
+    )
+}
+
 // Adds a source, and fails unless the table is its header, its count and the bytes of all sources so far.
 fn adds<T: Aml + Drop>(
     alloc: Global,

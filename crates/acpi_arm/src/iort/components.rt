@@ -26,8 +26,8 @@ use std::alloc::Global;
 // A flag of a named component.
 const STALL_SUPPORTED: u32 = 1;
 
-/// A device of the namespace: 29 bytes, its name with a zero and zeros up to a multiple of 4 bytes, and 20 for each mapping. Writing
-/// it returns `FieldWidth` if it would have more than 65,535 bytes.
+/// A device of the namespace: 29 bytes, its name with a zero and zeros up to a multiple of 4 bytes, and 20 for each mapping.
+/// Writing it returns `FieldWidth` if it would have more than 65,535 bytes.
 #[derive(Drop)]
 pub struct NamedComponent {
     pub(crate) identifier: u32,
@@ -99,7 +99,8 @@ impl NamedComponent {
     /// Adds a mapping of the device's ids. The error is `FieldWidth` at mapping number 3,276. After an error the device is
     /// unchanged.
     pub fn add_mapping(&mut self, mapping: IdMapping) -> R<()>
-        ensures { Pushes result self.old (record self.old { mappings = with_entry self.old.mappings (mapping_bytes mapping) }) self.new
+        ensures { Pushes result self.old
+            (record self.old { mappings = with_entry self.old.mappings (mapping_bytes mapping) }) self.new
             self.old.mappings.count 3275 }
     {
         self.mappings.push(mapping.bytes())
@@ -213,8 +214,8 @@ pub struct RootComplex {
 }
 
 impl RootComplex {
-    /// The root complex of a PCI segment (offset 28), whose number MCFG has. Its identifier is 0 until it is added to a table, and
-    /// so are its other fields.
+    /// The root complex of a PCI segment (offset 28), whose number MCFG has. Its identifier is 0 until it is added to a table,
+    /// and so are its other fields.
     pub fn new(alloc: Global, segment: u32) -> RootComplex
         ensures { result ≡ root_complex segment }
     {
@@ -291,7 +292,8 @@ impl RootComplex {
     /// Adds a mapping of requester ids. The error is `FieldWidth` at mapping number 3,275. After an error the root complex is
     /// unchanged.
     pub fn add_mapping(&mut self, mapping: IdMapping) -> R<()>
-        ensures { Pushes result self.old (record self.old { mappings = with_entry self.old.mappings (mapping_bytes mapping) }) self.new
+        ensures { Pushes result self.old
+            (record self.old { mappings = with_entry self.old.mappings (mapping_bytes mapping) }) self.new
             self.old.mappings.count 3274 }
     {
         self.mappings.push(mapping.bytes())

@@ -42,8 +42,8 @@ impl ItsGroup {
         self.services.len()
     }
 
-    /// Adds the service with this id, which MADT has in its GIC ITS structure. The error is `FieldWidth` at service number 16,379.
-    /// After an error the group is unchanged.
+    /// Adds the service with this id, which MADT has in its GIC ITS structure. The error is `FieldWidth` at service number
+    /// 16,379. After an error the group is unchanged.
     pub fn add_its(&mut self, its_id: u32) -> R<()>
         ensures { Pushes result self.old (record self.old { services = with_entry self.old.services (le 4 its_id) }) self.new
             self.old.services.count 16378 }

@@ -45,8 +45,8 @@ pub struct IdMapping {
 }
 
 impl IdMapping {
-    /// Maps the ids from `input_base` on (offset 0) to those from `output_base` on (offset 8) at a node, whose offset in the table is
-    /// at 12. The range has `more_ids` ids after the first (offset 4: the number of ids less 1).
+    /// Maps the ids from `input_base` on (offset 0) to those from `output_base` on (offset 8) at a node, whose offset in the
+    /// table is at 12. The range has `more_ids` ids after the first (offset 4: the number of ids less 1).
     pub fn new(input_base: u32, more_ids: u32, output_base: u32, output: Output) -> IdMapping
         ensures { result ≡ id_mapping input_base more_ids output_base output }
     {

@@ -54,8 +54,8 @@ pub struct Pmcg {
 }
 
 impl Pmcg {
-    /// The group whose registers of page 0 begin at a physical address (offset 16). It counts events of a node, whose offset in the
-    /// table is at 28. Its identifier is 0 until it is added to a table, and so are its other fields.
+    /// The group whose registers of page 0 begin at a physical address (offset 16). It counts events of a node, whose offset in
+    /// the table is at 28. Its identifier is 0 until it is added to a table, and so are its other fields.
     pub fn new(alloc: Global, page_0: u64, node: Monitored) -> Pmcg
         ensures { result ≡ pmcg page_0 node }
     {
@@ -95,7 +95,8 @@ impl Pmcg {
     /// Adds the mapping of the group's interrupt. The error is `FieldWidth` at the second mapping. After an error the group is
     /// unchanged.
     pub fn add_mapping(&mut self, mapping: IdMapping) -> R<()>
-        ensures { Pushes result self.old (record self.old { mappings = with_entry self.old.mappings (mapping_bytes mapping) }) self.new
+        ensures { Pushes result self.old
+            (record self.old { mappings = with_entry self.old.mappings (mapping_bytes mapping) }) self.new
             self.old.mappings.count 1 }
     {
         self.mappings.push(mapping.bytes())

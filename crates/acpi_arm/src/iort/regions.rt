@@ -93,8 +93,8 @@ const REMAPPING_PERMITTED: u32 = 1;
 
 const PRIVILEGED: u32 = 1 << 1;
 
-/// Memory that is reserved for devices: 28 bytes, 20 for each range, and 20 for each mapping. Writing it returns `FieldWidth` if it
-/// would have more than 65,535 bytes.
+/// Memory that is reserved for devices: 28 bytes, 20 for each range, and 20 for each mapping. Writing it returns `FieldWidth` if
+/// it would have more than 65,535 bytes.
 #[derive(Drop)]
 pub struct ReservedMemory {
     pub(crate) identifier: u32,
@@ -157,7 +157,8 @@ impl ReservedMemory {
     /// Adds a mapping of a device's id at its SMMU. The error is `FieldWidth` at mapping number 3,276. After an error the node is
     /// unchanged.
     pub fn add_mapping(&mut self, mapping: IdMapping) -> R<()>
-        ensures { Pushes result self.old (record self.old { mappings = with_entry self.old.mappings (mapping_bytes mapping) }) self.new
+        ensures { Pushes result self.old
+            (record self.old { mappings = with_entry self.old.mappings (mapping_bytes mapping) }) self.new
             self.old.mappings.count 3275 }
     {
         self.mappings.push(mapping.bytes())

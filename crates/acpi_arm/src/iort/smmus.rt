@@ -110,8 +110,8 @@ const DVM_SUPPORTED: u32 = 1;
 
 const COHERENT_WALK: u32 = 1 << 1;
 
-/// An SMMUv1 or SMMUv2: 76 bytes, 8 for each context interrupt and each PMU interrupt, and 20 for each mapping. Writing it returns
-/// `FieldWidth` if it would have more than 65,535 bytes.
+/// An SMMUv1 or SMMUv2: 76 bytes, 8 for each context interrupt and each PMU interrupt, and 20 for each mapping. Writing it
+/// returns `FieldWidth` if it would have more than 65,535 bytes.
 #[derive(Drop)]
 pub struct Smmu {
     pub(crate) identifier: u32,
@@ -127,9 +127,9 @@ pub struct Smmu {
 }
 
 impl Smmu {
-    /// The SMMU of a model (offset 32), whose registers begin at a physical address (offset 16) and have `span` bytes (offset 24).
-    /// `fault` is the non-secure global fault interrupt SMMU_NSgIrpt (offset 60). The SMMU has no other interrupts. Its identifier is
-    /// 0 until it is added to a table.
+    /// The SMMU of a model (offset 32), whose registers begin at a physical address (offset 16) and have `span` bytes (offset
+    /// 24). `fault` is the non-secure global fault interrupt SMMU_NSgIrpt (offset 60). The SMMU has no other interrupts. Its
+    /// identifier is 0 until it is added to a table.
     pub fn new(alloc: Global, model: SmmuModel, base: u64, span: u64, fault: SmmuInterrupt) -> Smmu
         ensures { result ≡ smmu model base span fault }
     {
@@ -194,8 +194,8 @@ impl Smmu {
         self.monitors.len()
     }
 
-    /// Adds an interrupt of the performance monitor. The error is `FieldWidth` at interrupt number 8,183. After an error the SMMU is
-    /// unchanged.
+    /// Adds an interrupt of the performance monitor. The error is `FieldWidth` at interrupt number 8,183. After an error the SMMU
+    /// is unchanged.
     pub fn add_pmu_interrupt(&mut self, interrupt: SmmuInterrupt) -> R<()>
         ensures { Pushes result self.old
             (record self.old { monitors = with_entry self.old.monitors (smmu_interrupt_bytes interrupt) }) self.new
@@ -213,7 +213,8 @@ impl Smmu {
 
     /// Adds a mapping of stream ids. The error is `FieldWidth` at mapping number 3,273. After an error the SMMU is unchanged.
     pub fn add_mapping(&mut self, mapping: IdMapping) -> R<()>
-        ensures { Pushes result self.old (record self.old { mappings = with_entry self.old.mappings (mapping_bytes mapping) }) self.new
+        ensures { Pushes result self.old
+            (record self.old { mappings = with_entry self.old.mappings (mapping_bytes mapping) }) self.new
             self.old.mappings.count 3272 }
     {
         self.mappings.push(mapping.bytes())
@@ -474,7 +475,8 @@ impl SmmuV3 {
 
     /// Adds a mapping of stream ids. The error is `FieldWidth` at mapping number 3,274. After an error the SMMU is unchanged.
     pub fn add_mapping(&mut self, mapping: IdMapping) -> R<()>
-        ensures { Pushes result self.old (record self.old { mappings = with_entry self.old.mappings (mapping_bytes mapping) }) self.new
+        ensures { Pushes result self.old
+            (record self.old { mappings = with_entry self.old.mappings (mapping_bytes mapping) }) self.new
             self.old.mappings.count 3273 }
     {
         self.mappings.push(mapping.bytes())

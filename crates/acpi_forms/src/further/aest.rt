@@ -204,4 +204,5 @@ pub const AEST: TableForm = TableForm {
     name: "Arm Error Source Table (AEST)",
     parts: &[Part::Fields(&HEADER)],
     structures: &NODES,
+    further: &[],
 };

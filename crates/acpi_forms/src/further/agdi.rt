@@ -20,4 +20,5 @@ pub const AGDI: TableForm = TableForm {
     name: "Arm Generic Diagnostic Dump and Reset Interface Table (AGDI)",
     parts: &[Part::Fields(&HEADER), Part::Fields(&AGDI_ROWS)],
     structures: &[],
+    further: &[],
 };

@@ -51,4 +51,5 @@ pub const APMT: TableForm = TableForm {
         parts: &[Part::Fields(&NODE)],
         inner: &Inner::Nothing,
     }],
+    further: &[],
 };

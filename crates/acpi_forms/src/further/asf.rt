@@ -175,4 +175,5 @@ pub const ASF: TableForm = TableForm {
     name: "Alert Standard Format Table (ASF!)",
     parts: &[Part::Fields(&HEADER)],
     structures: &RECORDS,
+    further: &[],
 };

@@ -11,4 +11,5 @@ pub const BDAT: TableForm = TableForm {
     name: "BIOS Data ACPI Table (BDAT)",
     parts: &[Part::Fields(&HEADER), Part::Fields(&BDAT_ROWS)],
     structures: &[],
+    further: &[],
 };

@@ -33,4 +33,5 @@ pub const BGRT: TableForm = TableForm {
     name: "Boot Graphics Resource Table (BGRT)",
     parts: &[Part::Fields(&HEADER), Part::Fields(&BGRT_ROWS)],
     structures: &[],
+    further: &[],
 };

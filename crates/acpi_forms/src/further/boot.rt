@@ -11,4 +11,5 @@ pub const BOOT: TableForm = TableForm {
     name: "Simple Boot Flag Table (BOOT)",
     parts: &[Part::Fields(&HEADER), Part::Fields(&BOOT_ROWS)],
     structures: &[],
+    further: &[],
 };

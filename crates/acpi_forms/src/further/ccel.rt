@@ -19,4 +19,5 @@ pub const CCEL: TableForm = TableForm {
     name: "CC Event Log Table (CCEL)",
     parts: &[Part::Fields(&HEADER), Part::Fields(&CCEL_ROWS)],
     structures: &[],
+    further: &[],
 };

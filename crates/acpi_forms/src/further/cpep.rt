@@ -24,4 +24,5 @@ pub const CPEP: TableForm = TableForm {
         parts: &[Part::Fields(&PROCESSOR)],
         inner: &Inner::Nothing,
     }],
+    further: &[],
 };

@@ -30,4 +30,5 @@ pub const CSRT: TableForm = TableForm {
         ],
         inner: &Inner::Nothing,
     }],
+    further: &[],
 };

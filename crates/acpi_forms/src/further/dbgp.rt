@@ -17,4 +17,5 @@ pub const DBGP: TableForm = TableForm {
     name: "Debug Port Table (DBGP)",
     parts: &[Part::Fields(&HEADER), Part::Fields(&DBGP_ROWS)],
     structures: &[],
+    further: &[],
 };

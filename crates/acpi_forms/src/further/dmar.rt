@@ -178,4 +178,5 @@ pub const DMAR: TableForm = TableForm {
     name: "DMA Remapping Reporting Table (DMAR)",
     parts: &[Part::Fields(&HEADER), Part::Fields(&DMAR_FIXED)],
     structures: &REMAPPING_STRUCTURES,
+    further: &[],
 };

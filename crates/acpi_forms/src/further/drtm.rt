@@ -31,4 +31,5 @@ pub const DRTM: TableForm = TableForm {
         Part::Fields(&DRTM_LAST),
     ],
     structures: &[],
+    further: &[],
 };

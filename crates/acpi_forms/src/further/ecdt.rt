@@ -21,4 +21,5 @@ pub const ECDT: TableForm = TableForm {
         Part::Until("EC_ID", Place::DWord(4)),
     ],
     structures: &[],
+    further: &[],
 };

@@ -57,4 +57,5 @@ pub const EINJ: TableForm = TableForm {
         parts: &[Part::Fields(&ENTRY)],
         inner: &Inner::Nothing,
     }],
+    further: &[],
 };

@@ -73,4 +73,5 @@ pub const ERST: TableForm = TableForm {
         parts: &[Part::Fields(&ENTRY)],
         inner: &Inner::Nothing,
     }],
+    further: &[],
 };

@@ -40,4 +40,5 @@ pub const FPDT: TableForm = TableForm {
     name: "Firmware Performance Data Table (FPDT)",
     parts: &[Part::Fields(&HEADER)],
     structures: &FPDT_RECORDS,
+    further: &[],
 };

@@ -36,4 +36,5 @@ pub const HPET: TableForm = TableForm {
     name: "IA-PC High Precision Event Timer Table (HPET)",
     parts: &[Part::Fields(&HEADER), Part::Fields(&HPET_ROWS)],
     structures: &[],
+    further: &[],
 };

@@ -32,4 +32,5 @@ pub const IBFT: TableForm = TableForm {
         Part::Group("Control Structure", &CONTROL),
     ],
     structures: &[],
+    further: &[],
 };

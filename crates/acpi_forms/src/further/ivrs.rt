@@ -154,4 +154,5 @@ pub const IVRS: TableForm = TableForm {
     name: "I/O Virtualization Reporting Structure (IVRS)",
     parts: &[Part::Fields(&HEADER), Part::Fields(&IVRS_FIXED)],
     structures: &BLOCKS,
+    further: &[],
 };

@@ -32,4 +32,5 @@ pub const LPIT: TableForm = TableForm {
         parts: &[Part::Fields(&NATIVE_C_STATE)],
         inner: &Inner::Nothing,
     }],
+    further: &[],
 };

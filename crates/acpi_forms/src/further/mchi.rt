@@ -24,4 +24,5 @@ pub const MCHI: TableForm = TableForm {
     name: "Management Controller Host Interface Table (MCHI)",
     parts: &[Part::Fields(&HEADER), Part::Fields(&MCHI_ROWS)],
     structures: &[],
+    further: &[],
 };

@@ -38,4 +38,5 @@ pub const MPAM: TableForm = TableForm {
         parts: &[Part::Fields(&NODE)],
         inner: &Inner::Nothing,
     }],
+    further: &[],
 };

@@ -17,4 +17,5 @@ pub const MPST: TableForm = TableForm {
     name: "Memory Power State Table (MPST)",
     parts: &[Part::Fields(&HEADER), Part::Fields(&MPST_FIXED)],
     structures: &[],
+    further: &[],
 };

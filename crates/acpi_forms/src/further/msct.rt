@@ -30,4 +30,5 @@ pub const MSCT: TableForm = TableForm {
         parts: &[Part::Fields(&DOMAINS)],
         inner: &Inner::Nothing,
     }],
+    further: &[],
 };

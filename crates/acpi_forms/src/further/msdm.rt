@@ -23,4 +23,5 @@ pub const MSDM: TableForm = TableForm {
         Part::Bytes("Data", Place::DWord(52)),
     ],
     structures: &[],
+    further: &[],
 };

@@ -207,4 +207,5 @@ pub const NFIT: TableForm = TableForm {
     name: "NVDIMM Firmware Interface Table (NFIT)",
     parts: &[Part::Fields(&HEADER), Part::Fields(&NFIT_FIXED)],
     structures: &NFIT_STRUCTURES,
+    further: &[],
 };

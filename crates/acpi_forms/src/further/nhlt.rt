@@ -11,4 +11,5 @@ pub const NHLT: TableForm = TableForm {
     name: "Non-HD Audio Link Table (NHLT)",
     parts: &[Part::Fields(&HEADER), Part::Fields(&NHLT_FIXED)],
     structures: &[],
+    further: &[],
 };

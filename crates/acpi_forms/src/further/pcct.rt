@@ -178,4 +178,5 @@ pub const PCCT: TableForm = TableForm {
     name: "Platform Communications Channel Table (PCCT)",
     parts: &[Part::Fields(&HEADER), Part::Fields(&PCCT_FIXED)],
     structures: &SUBSPACES,
+    further: &[],
 };

@@ -33,4 +33,5 @@ pub const PDTT: TableForm = TableForm {
         parts: &[Part::Fields(&TRIGGER)],
         inner: &Inner::Nothing,
     }],
+    further: &[],
 };

@@ -67,4 +67,5 @@ pub const PHAT: TableForm = TableForm {
     name: "Platform Health Assessment Table (PHAT)",
     parts: &[Part::Fields(&HEADER)],
     structures: &RECORDS,
+    further: &[],
 };

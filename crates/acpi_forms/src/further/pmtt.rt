@@ -83,4 +83,5 @@ pub const PMTT: TableForm = TableForm {
     name: "Platform Memory Topology Table (PMTT)",
     parts: &[Part::Fields(&HEADER), Part::Fields(&PMTT_FIXED)],
     structures: &DEVICES,
+    further: &[],
 };

@@ -51,4 +51,5 @@ pub const PRMT: TableForm = TableForm {
         parts: &[Part::Fields(&MODULE)],
         inner: &HANDLERS,
     }],
+    further: &[],
 };

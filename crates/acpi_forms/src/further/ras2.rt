@@ -28,4 +28,5 @@ pub const RAS2: TableForm = TableForm {
         parts: &[Part::Fields(&DESCRIPTOR)],
         inner: &Inner::Nothing,
     }],
+    further: &[],
 };

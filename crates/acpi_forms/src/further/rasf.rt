@@ -11,4 +11,5 @@ pub const RASF: TableForm = TableForm {
     name: "ACPI RAS Feature Table (RASF)",
     parts: &[Part::Fields(&HEADER), Part::Fields(&RASF_ROWS)],
     structures: &[],
+    further: &[],
 };

@@ -17,4 +17,5 @@ pub const RGRT: TableForm = TableForm {
     name: "Regulatory Graphics Resource Table (RGRT)",
     parts: &[Part::Fields(&HEADER), Part::Fields(&RGRT_ROWS)],
     structures: &[],
+    further: &[],
 };

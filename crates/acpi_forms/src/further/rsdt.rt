@@ -16,4 +16,5 @@ pub const RSDT: TableForm = TableForm {
         parts: &[Part::Fields(&RSDT_ENTRY)],
         inner: &Inner::Nothing,
     }],
+    further: &[],
 };

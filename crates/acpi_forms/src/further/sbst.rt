@@ -15,4 +15,5 @@ pub const SBST: TableForm = TableForm {
     name: "Smart Battery Specification Table (SBST)",
     parts: &[Part::Fields(&HEADER), Part::Fields(&SBST_ROWS)],
     structures: &[],
+    further: &[],
 };

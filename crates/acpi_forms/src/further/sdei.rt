@@ -8,4 +8,5 @@ pub const SDEI: TableForm = TableForm {
     name: "Software Delegated Exceptions Interface Table (SDEI)",
     parts: &[Part::Fields(&HEADER)],
     structures: &[],
+    further: &[],
 };

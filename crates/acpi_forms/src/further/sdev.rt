@@ -97,4 +97,5 @@ pub const SDEV: TableForm = TableForm {
     name: "Secure Devices Table (SDEV)",
     parts: &[Part::Fields(&HEADER)],
     structures: &SECURE_DEVICES,
+    further: &[],
 };

@@ -50,4 +50,5 @@ pub const SLIC: TableForm = TableForm {
     name: "Software Licensing Description Table (SLIC)",
     parts: &[Part::Fields(&HEADER)],
     structures: &LICENSES,
+    further: &[],
 };

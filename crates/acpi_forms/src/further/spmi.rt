@@ -42,4 +42,5 @@ pub const SPMI: TableForm = TableForm {
     name: "Service Processor Management Interface Table (SPMI)",
     parts: &[Part::Fields(&HEADER), Part::Fields(&SPMI_ROWS)],
     structures: &[],
+    further: &[],
 };

@@ -19,4 +19,5 @@ pub const STAO: TableForm = TableForm {
         Part::Until("Name List", Place::DWord(4)),
     ],
     structures: &[],
+    further: &[],
 };

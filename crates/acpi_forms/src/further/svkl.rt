@@ -27,4 +27,5 @@ pub const SVKL: TableForm = TableForm {
         parts: &[Part::Fields(&KEY)],
         inner: &Inner::Nothing,
     }],
+    further: &[],
 };

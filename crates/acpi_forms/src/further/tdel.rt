@@ -15,4 +15,5 @@ pub const TDEL: TableForm = TableForm {
     name: "TD Event Log Table (TDEL)",
     parts: &[Part::Fields(&HEADER), Part::Fields(&TDEL_ROWS)],
     structures: &[],
+    further: &[],
 };

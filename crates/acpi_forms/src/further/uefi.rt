@@ -12,4 +12,5 @@ pub const UEFI: TableForm = TableForm {
     name: "UEFI ACPI Data Table (UEFI)",
     parts: &[Part::Fields(&HEADER), Part::Fields(&UEFI_ROWS)],
     structures: &[],
+    further: &[],
 };

@@ -16,4 +16,5 @@ pub const WAET: TableForm = TableForm {
     name: "Windows ACPI Emulated Devices Table (WAET)",
     parts: &[Part::Fields(&HEADER), Part::Fields(&WAET_ROWS)],
     structures: &[],
+    further: &[],
 };

@@ -72,4 +72,5 @@ pub const WDAT: TableForm = TableForm {
         parts: &[Part::Fields(&ENTRY)],
         inner: &Inner::Nothing,
     }],
+    further: &[],
 };

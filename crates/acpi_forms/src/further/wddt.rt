@@ -21,4 +21,5 @@ pub const WDDT: TableForm = TableForm {
     name: "Watchdog Descriptor Table (WDDT)",
     parts: &[Part::Fields(&HEADER), Part::Fields(&WDDT_ROWS)],
     structures: &[],
+    further: &[],
 };

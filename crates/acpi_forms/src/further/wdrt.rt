@@ -22,4 +22,5 @@ pub const WDRT: TableForm = TableForm {
     name: "Watchdog Resource Table (WDRT)",
     parts: &[Part::Fields(&HEADER), Part::Fields(&WDRT_ROWS)],
     structures: &[],
+    further: &[],
 };

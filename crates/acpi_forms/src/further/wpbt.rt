@@ -26,4 +26,5 @@ pub const WPBT: TableForm = TableForm {
         Part::Bytes("Command-line Arguments", Place::Word(50)),
     ],
     structures: &[],
+    further: &[],
 };

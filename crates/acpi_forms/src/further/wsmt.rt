@@ -17,4 +17,5 @@ pub const WSMT: TableForm = TableForm {
     name: "Windows SMM Security Mitigations Table (WSMT)",
     parts: &[Part::Fields(&HEADER), Part::Fields(&WSMT_ROWS)],
     structures: &[],
+    further: &[],
 };

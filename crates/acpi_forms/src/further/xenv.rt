@@ -22,4 +22,5 @@ pub const XENV: TableForm = TableForm {
     name: "Xen Environment Table (XENV)",
     parts: &[Part::Fields(&HEADER), Part::Fields(&XENV_ROWS)],
     structures: &[],
+    further: &[],
 };

@@ -46,7 +46,8 @@ impl PciDevice {
     }
 }
 
-/// An AER source (ACPI 6.5, 18.3.2.4 to 18.3.2.6): 44 bytes, and the fields of its kind. A new one isn't enabled, and its id is 0.
+/// An AER source (ACPI 6.5, 18.3.2.4 to 18.3.2.6): 44 bytes, and the fields of its kind. A new one isn't enabled, and its id is
+/// 0.
 #[derive(Clone, Copy, Debug)]
 pub struct Aer<T, const N: usize> {
     source_id: u16,

@@ -123,7 +123,8 @@ pub struct ProcessorLocalX2ApicAffinity {
 }
 
 impl ProcessorLocalX2ApicAffinity {
-    /// The processor in this proximity domain (offset 4) with this local x2APIC id (offset 8), without flags. Its clock domain is 0.
+    /// The processor in this proximity domain (offset 4) with this local x2APIC id (offset 8), without flags. Its clock domain is
+    /// 0.
     pub fn new(proximity_domain: u32, x2apic_id: u32) -> ProcessorLocalX2ApicAffinity
         ensures { result ≡ x2apic_affinity proximity_domain x2apic_id }
     {
@@ -209,8 +210,8 @@ pub struct GiccAffinity {
 }
 
 impl GiccAffinity {
-    /// The processor in this proximity domain (offset 2) with this unique id in the namespace (offset 6), without flags. Its clock
-    /// domain is 0.
+    /// The processor in this proximity domain (offset 2) with this unique id in the namespace (offset 6), without flags. Its
+    /// clock domain is 0.
     pub fn new(proximity_domain: u32, uid: u32) -> GiccAffinity
         ensures { result ≡ gicc_affinity proximity_domain uid }
     {

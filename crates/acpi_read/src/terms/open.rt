@@ -125,7 +125,11 @@ impl FirstAndBlock {
     /// The term with these children.
     pub fn with(self, first: Box<Term>, others: Vec<Term>) -> Term
         ensures { view result
-            ≡ (first_head self, first_width self, term (view first.value).0 (view first.value).1 (view first.value).2 (views others.items)) }
+            ≡ (
+              first_head self,
+              first_width self,
+              term (view first.value).0 (view first.value).1 (view first.value).2 (views others.items),
+            ) }
     {
         match self {
             FirstAndBlock::VarPackage(width) => Term::VarPackage {

@@ -35,6 +35,17 @@ fn no_structures(rt: HostRuntime) -> Result<(), Fail> {
     )
 }
 
+// A table of revision 2.
+#[test]
+fn revision_2(rt: HostRuntime) -> Result<(), Fail> {
+    let table = HMAT::of_revision(rt.alloc(), 2, OEM, OEM_TABLE, OEM_REVISION);
+    writes(
+        rt.alloc(),
+        &table,
+        b"HMAT\x28\0\0\0\x02\x60FOOBARCAFEDEAD\xef\xbe\xad\xdeRVAT\0\0\0\x01\0\0\0\0",
+    )
+}
+
 // Fails unless a table has these structures this many times.
 pub(crate) fn holds(alloc: Global, hmat: HMAT, structures: &[u8], times: u32) -> Result<(), Fail> {
     many(alloc, &hmat, b"HMAT", 1, &[0; 4], structures, times)

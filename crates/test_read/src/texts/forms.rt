@@ -37,6 +37,7 @@ const FORM: TableForm = TableForm {
         Part::Matrix("Row", 4, Place::Byte(6), Place::Byte(7)),
     ],
     structures: &[],
+    further: &[],
 };
 
 // Names with the end of a line or a colon are question marks. There are no rows past the last, nor where the first index isn't
@@ -80,6 +81,7 @@ const INNER: TableForm = TableForm {
             ],
         ),
     }],
+    further: &[],
 };
 
 const ENTRIES: Walk = Walk {

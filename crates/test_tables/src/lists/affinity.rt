@@ -38,6 +38,17 @@ fn srat(rt: HostRuntime) -> Result<(), Fail> {
     is_srat(rt.alloc(), &mut table(rt.alloc()))
 }
 
+// A table of revision 3.
+#[test]
+fn srat_of_revision_3(rt: HostRuntime) -> Result<(), Fail> {
+    let table = SRAT::of_revision(rt.alloc(), 3, OEM, OEM_TABLE, OEM_REVISION);
+    writes(
+        rt.alloc(),
+        &table,
+        b"SRAT\x30\0\0\0\x03\x46FOOBARCAFEDEAD\xef\xbe\xad\xdeRVAT\0\0\0\x01\x01\0\0\0\0\0\0\0\0\0\0\0",
+    )
+}
+
 fn has_flags(alloc: Global, memory: MemoryAffinity, flags: u8) -> Result<(), Fail> {
     let mut wanted = [0; 40];
     wanted[0] = 1;

@@ -4,7 +4,7 @@ use acpi_base::error::{Error, R};
 use acpi_base::object::Aml;
 use acpi_tables::madt::{
     APLIC, EnabledStatus, GicIts, GicMsi, GicVersion, Gicc, Gicd, Gicr, HartStatus, IMSIC, IoApic,
-    LocalInterruptController, MADT, PLIC, ProcessorLocalApic, RINTC, Trigger,
+    LocalInterruptController, MADT, PCAT_COMPAT, PLIC, ProcessorLocalApic, RINTC, Trigger,
 };
 use std::alloc::Global;
 use std::test::Fail;
@@ -81,6 +81,26 @@ fn takes_one(alloc: Global, x86: &mut MADT) -> Result<(), Fail> {
     let one =
         b"APIC\x34\0\0\0\x01\x7bFOOBARCAFEDEAD\xef\xbe\xad\xdeRVAT\0\0\0\x01\0\0\xe0\xfe\0\0\0\0\0\x08\0\0\x01\0\0\0";
     writes(alloc, x86, one)
+}
+
+// A table of revision 6 for a machine with two 8259 controllers.
+#[test]
+fn revision_6(rt: HostRuntime) -> Result<(), Fail> {
+    let local = LocalInterruptController::Address(0);
+    let table = MADT::of_revision(
+        rt.alloc(),
+        6,
+        OEM,
+        OEM_TABLE,
+        OEM_REVISION,
+        local,
+        PCAT_COMPAT,
+    );
+    writes(
+        rt.alloc(),
+        &table,
+        b"APIC\x2c\0\0\0\x06\x64FOOBARCAFEDEAD\xef\xbe\xad\xdeRVAT\0\0\0\x01\0\0\0\0\x01\0\0\0",
+    )
 }
 
 #[test]

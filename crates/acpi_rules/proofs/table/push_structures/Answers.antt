@@ -2,6 +2,7 @@ use Rattle.std.proofs.Common.{sym, ◌∙◌, arith}
 use Rattle.acpi_text.proofs.Pieces.{front_within}
 use Rattle.acpi_rules.specs.Field.{structure_fields}
 use Rattle.acpi_rules.proofs.Structures.{goes_on}
+use Rattle.acpi_text.specs.Structure.{all_forms}
 use Rattle.acpi_rules.proofs.table.push_structures.Goals as goal
 
 pub structures-preserved : goal.structures-preserved
@@ -10,7 +11,7 @@ structures-preserved c =
     ∙ c.in-Some.is) in
     record {
       fits = omega (arith, c.structures.invariant.fits, within.fits, c.split_at.ensures.back_len);
-      found = goes_on (c.args.walk.now.sizes) (structure_fields c.args.walk.now.kind c.args.forms.now) c.structures.at
+      found = goes_on (c.args.walk.now.sizes) (structure_fields c.args.walk.now.kind (all_forms c.args.table.now)) c.structures.at
           c.in-Some.size c.front_size.result c.structures.rest.now _ _ _ _ _ c.front_size.ensures c.in-Some.is
           c.split_at.ensures.front c.split_at.ensures.back c.structures.invariant.found c.in_ok-push_structure.ensures;
     }

@@ -7,5 +7,5 @@ returns-then-is_empty c = showed_none _ c.args.offset c.args.bytes.now _ (search
 
 pub returns-in_ok-push_nameless-in-None : goal.returns-in_ok-push_nameless-in-None
 returns-in_ok-push_nameless-in-None c =
-    showed_short c.args.depth c.args.offset c.args.name.now _ c.args.width c.args.count c.args.bytes.now _ _
+    showed_short c.args.form.now.depth c.args.offset c.args.form.now.name.now _ c.args.form.now.width c.args.form.now.count c.args.bytes.now _ _
     (search rules) c.in-None.ensures c.in_ok-push_nameless-in-None.ensures

@@ -1,6 +1,7 @@
 use Rattle.std.proofs.Common.{List, ℕ, String, Global, string_bytes}
 use Rattle.acpi_cpio.specs.Archive.{named}
-use Rattle.acpitool_program.proofs.Archives.{both_kept, table_then, refused_here}
+use Rattle.acpitool_program.proofs.Archives.{table_then, refused_here}
+use Rattle.acpitool_program.proofs.Streams.{keeps_kept}
 use Rattle.acpitool_program.proofs.archiving.read_tables.Goals as goal
 
 pub returns-in-Err : goal.returns-in-Err
@@ -16,5 +17,5 @@ paths-preserved g c =
     record {
       are = table_then text named c.args.paths.now c.paths.path-index c.path-item.result c.paths-test.true c.path-item.is c.paths.tables.items _
           c.in-Ok.table c.in_ok-push-in-Ok.ensures.items c.paths.invariant.are this.0;
-      kept = both_kept _ _ _ c.paths.invariant.kept this.1;
+      kept = keeps_kept _ _ _ c.paths.invariant.kept this.1;
     }

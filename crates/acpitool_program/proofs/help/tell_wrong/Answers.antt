@@ -1,5 +1,5 @@
 use Rattle.std.proofs.Common.{refl}
-use Rattle.acpitool_program.proofs.Outcomes.{appends_then}
+use Rattle.acpitool_program.proofs.Streams.{appends_then}
 use Rattle.acpitool_program.proofs.help.tell_wrong.Goals as goal
 
 pub returns : goal.returns

@@ -1,6 +1,6 @@
 use Rattle.std.proofs.Common.{◌++◌, ◌∙◌, sym, ap, append_assoc}
 use Rattle.std.proofs.lemmas.List.{at_drop_more}
-use Rattle.acpitool_program.proofs.Outcomes.{appends_then}
+use Rattle.acpitool_program.proofs.Streams.{appends_then}
 use Rattle.acpitool_program.specs.Image.{table_lines}
 use Rattle.acpitool_program.proofs.image.print_tables.Goals as goal
 

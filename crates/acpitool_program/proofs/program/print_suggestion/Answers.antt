@@ -1,4 +1,4 @@
-use Rattle.acpitool_program.proofs.Outcomes.{appends_then}
+use Rattle.acpitool_program.proofs.Streams.{appends_then}
 use Rattle.acpitool_program.proofs.program.print_suggestion.Goals as goal
 
 pub returns-in_ok-write_all-in-Some-3 : goal.returns-in_ok-write_all-in-Some-3

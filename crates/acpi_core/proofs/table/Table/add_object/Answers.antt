@@ -12,8 +12,8 @@ record Steps (g : _) (c : goal.After-self-in-Ok-2-1 g) : Type 0 where
   is_whole : (g.S.Structure.writes c.args.structure.now).end ≡ None
   items : c.append_to.new.bytes.items ≡ c.self.inside.body.items ++ (g.S.Structure.writes c.args.structure.now).front
   size : c.in-Ok.size ≡ length c.self.inside.fixed + length c.self.inside.body.items + length (g.S.Structure.writes c.args.structure.now).front
-  space : has_space (length c.self.inside.fixed + length c.self.inside.body.items) (length (g.S.Structure.writes c.args.structure.now).front) c.self.inside.limit c.self.inside.count c.self.inside.count_width ≡ true
-  settles : Settles c.self.inside.fixed c.self.inside.sum.value c.self.inside.count_at c.self.inside.count_width c.in-Ok.size c.in-Ok.count (g.S.Structure.writes c.args.structure.now).front c.settle.new.fixed c.settle.new.running.value
+  space : has_space (length c.self.inside.fixed + length c.self.inside.body.items) (length (g.S.Structure.writes c.args.structure.now).front) c.self.inside.limit c.self.inside.count.number c.self.inside.count.width ≡ true
+  settles : Settles c.self.inside.fixed c.self.inside.sum.value c.self.inside.count.at c.self.inside.count.width c.in-Ok.size c.in-Ok.number (g.S.Structure.writes c.args.structure.now).front c.settle.new.fixed c.settle.new.running.value
   counted : c.settle.new.running.summed ≡ c.self.inside.sum.summed + addition_cost c.self.inside.listed.table (length (g.S.Structure.writes c.args.structure.now).front)
   listed : c.with-self-inside.result.table ≡ with_structure c.self.inside.listed.table (g.S.Structure.writes c.args.structure.now).front
 
@@ -33,8 +33,8 @@ steps g c =
       is_whole = appended.is_whole;
       items = appended.joined;
       size = omega (arith, c.in-Ok.ensures.size, more, from);
-      space = sym (ap (λ n. has_space n (c.len.result - start) i.limit i.count i.count_width) from ∙ ap (λ n. has_space (length i.fixed + length i.body.items) n i.limit i.count i.count_width) more) ∙ c.in-Ok.ensures.ok;
-      settles = subst (λ (s : List ℕ). Settles i.fixed i.sum.value i.count_at i.count_width c.in-Ok.size c.in-Ok.count s c.settle.new.fixed c.settle.new.running.value) first c.settle.ensures.settles;
+      space = sym (ap (λ n. has_space n (c.len.result - start) i.limit i.count.number i.count.width) from ∙ ap (λ n. has_space (length i.fixed + length i.body.items) n i.limit i.count.number i.count.width) more) ∙ c.in-Ok.ensures.ok;
+      settles = subst (λ (s : List ℕ). Settles i.fixed i.sum.value i.count.at i.count.width c.in-Ok.size c.in-Ok.number s c.settle.new.fixed c.settle.new.running.value) first c.settle.ensures.settles;
       counted = omega (arith, c.settle.ensures.counted, ap length first, c.self.invariant.same_width);
       listed = c.with-self-inside.ensures ∙ ap (with_structure i.listed.table) second;
     }
@@ -43,7 +43,7 @@ pub invariant_of-self-in-Ok : goal.invariant_of-self-in-Ok
 invariant_of-self-in-Ok g c =
     let i = c.self.inside in
     let s = steps g c in
-    flat_added i.listed.table i.fixed i.body.items _ _ _ _ _ c.self.invariant (g.S.Structure.writes c.args.structure.now).front _ _ _ _ _ _ s.listed s.items s.size s.space c.in-Ok.ensures.count c.in-Ok.ensures.number s.settles
+    flat_added i.listed.table i.fixed i.body.items _ _ _ _ _ c.self.invariant (g.S.Structure.writes c.args.structure.now).front _ _ _ _ _ _ s.listed s.items s.size s.space c.in-Ok.ensures.fits c.in-Ok.ensures.number s.settles
 
 pub returns-in-Ok : goal.returns-in-Ok
 returns-in-Ok g c =

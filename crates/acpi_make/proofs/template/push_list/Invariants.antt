@@ -1,6 +1,6 @@
 use Rattle.std.proofs.Common.{◌≡◌, ◌++◌, string_bytes, drop}
 use Rattle.acpi_make.specs.Template.{structures_lines}
-use Rattle.acpi_make.proofs.template.push_structures.Given as goal
+use Rattle.acpi_make.proofs.template.push_list.Given as goal
 
 abbrev pub invariant-forms : goal.invariant-forms
 invariant-forms l =

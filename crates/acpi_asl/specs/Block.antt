@@ -1,0 +1,39 @@
+-- Definition blocks (ACPI 6.5, 5.2.11), and what is shown of one.
+use Rattle.std.specs.Prelude.{◌≡◌, ◌⊎◌, ℕ, nat_eq, nat_le, ◌&&◌, ◌||◌, Bool, List, length, drop, codes}
+use Rattle.std.specs.List.{starts_with}
+use Rattle.acpi_read.specs.Terms.{AreReadIn, IsUnreadIn}
+use Rattle.acpi_term.specs.Arity.{arity}
+use Rattle.acpi_term.specs.Language.{grammar_of}
+use Rattle.acpi_term.specs.Tree.{Terms}
+use Rattle.acpi_term.specs.declared.language.Language.TheVariants.{Standard}
+use Rattle.acpi_term.specs.declared.read_error.ReadError.{ReadError}
+use Rattle.acpi_terms_text.specs.Methods.{AreOwn}
+use Rattle.acpi_asl.specs.Asl.{asl_text}
+use Rattle.acpi_asl.specs.Namespace.{names}
+use Rattle.acpi_asl.specs.declared.block.BlockText.{BlockText}
+use Rattle.acpi_asl.specs.declared.block.BlockText.TheVariants.{Asl, Names}
+
+-- whether terms follow the header, by the signature (5.2.11.1 and 5.2.11.2)
+abbrev pub has_terms : List ℕ → Bool
+has_terms bytes =
+    nat_le 36 (length bytes) && (starts_with nat_eq bytes (codes "DSDT") || starts_with nat_eq bytes (codes "SSDT"))
+
+-- the text of a header and of the terms that follow it
+abbrev pub block_text : BlockText → List ℕ → Terms → List ℕ
+block_text Asl header terms = asl_text header terms
+block_text Names header terms = names 0 terms
+
+-- The text is that of a header and the terms that follow it. Names take the stated numbers of arguments, or else those of the
+-- block's own methods.
+pub record IsBlockText (block : BlockText) (stated : List (List ℕ × ℕ)) (bytes text : List ℕ) : Type 0 where
+  pub own : List (List ℕ × ℕ)
+  pub methods : AreOwn stated (drop 36 bytes) own
+  pub terms : Terms
+  pub read : AreReadIn (grammar_of Standard (arity own)) (drop 36 bytes) terms
+  pub is : text ≡ block_text block bytes terms
+
+-- why bytes aren't terms, with or without the block's own methods
+pub record AreNoTerms (stated : List (List ℕ × ℕ)) (body : List ℕ) (error : ReadError) : Type 0 where
+  pub own : List (List ℕ × ℕ)
+  pub methods : (own ≡ stated) ⊎ AreOwn stated body own
+  pub unread : IsUnreadIn (grammar_of Standard (arity own)) body error

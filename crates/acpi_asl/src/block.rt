@@ -1,0 +1,88 @@
+//! Definition blocks, and what is shown of one.
+
+ghost use Rattle.std.specs.Prelude.{◌≡◌, ◌+◌, ◌≤◌, length, drop, string_bytes, IfOk, IfErr, IfSome};
+ghost use Rattle.acpi_term.specs.ReadError.{offset_of};
+ghost use Rattle.acpi_term.specs.View.{views};
+ghost use Rattle.acpi_asl.specs.Block.{has_terms, block_text, IsBlockText, AreNoTerms};
+
+use crate::asl::asl_of;
+use crate::namespace::namespace_of;
+use acpi_read::terms::standard_terms;
+use acpi_term::name_string::Arities;
+use acpi_term::read_error::ReadError;
+use acpi_term::term::Term;
+use acpi_terms_text::methods::own_arities;
+use std::alloc::{AllocError, Global};
+
+/// The offset of the terms of a definition block: they follow its header (ACPI 6.5, 5.2.11.1).
+pub const BODY: usize = 36;
+
+/// What is shown of a definition block.
+#[derive(Clone, Copy, Debug)]
+pub enum BlockText {
+    /// Its ASL.
+    Asl,
+    /// The objects that it makes when it is loaded.
+    Names,
+}
+
+/// Returns whether terms follow the header of a table: its signature is DSDT or SSDT.
+pub fn has_terms(bytes: &[u8]) -> bool
+    ensures { result ≡ has_terms bytes.now }
+{
+    bytes.len() >= BODY && (bytes.starts_with(b"DSDT") || bytes.starts_with(b"SSDT"))
+}
+
+// Returns the text of a header and terms.
+fn text_of_terms(
+    alloc: Global,
+    block: BlockText,
+    header: &[u8],
+    terms: &[Term],
+) -> Result<String, AllocError>
+    requires { 36 ≤ length header.now }
+    ensures { IfOk result (λ text. string_bytes text ≡ block_text block header.now (views terms.now)) }
+{
+    match block {
+        BlockText::Asl => asl_of(alloc, header, terms),
+        BlockText::Names => namespace_of(alloc, terms),
+    }
+}
+
+// Returns the text of a header and the terms that follow it.
+fn text_of_body(
+    alloc: Global,
+    block: BlockText,
+    stated: &Arities,
+    header: &[u8],
+    body: &[u8],
+) -> Result<String, ReadError>
+    requires size { 36 ≤ length header.now }
+    requires terms { body.now ≡ drop 36 header.now }
+    ensures ok { IfOk result (λ text. IsBlockText block stated.now header.now (string_bytes text)) }
+    ensures err { IfErr result (AreNoTerms stated.now body.now) }
+    ensures place { IfErr result (λ e. IfSome (offset_of e) (λ offset. offset ≤ length body.now)) }
+{
+    let own = own_arities(alloc, body, stated)?;
+    let terms = standard_terms(body, &own)?;
+    let text = text_of_terms(alloc, block, header, &terms)?;
+    Ok(text)
+}
+
+/// Returns the text of a definition block. Its terms are read in the language of the standard. Names take the stated numbers of
+/// arguments, or else those of the block's own methods. The errors are those of `standard_terms`, with offsets from the first
+/// byte after the header.
+pub fn text_of_block(
+    alloc: Global,
+    block: BlockText,
+    stated: &Arities,
+    bytes: &[u8],
+) -> Result<String, ReadError>
+    requires { 36 ≤ length bytes.now }
+    ensures ok { IfOk result (λ text. IsBlockText block stated.now bytes.now (string_bytes text)) }
+    ensures err { IfErr result (AreNoTerms stated.now (drop 36 bytes.now)) }
+    ensures place { IfErr result (λ e. IfSome (offset_of e) (λ offset. 36 + offset ≤ length bytes.now)) }
+{
+    let (_, body) = bytes.split_at(BODY);
+    text_of_body(alloc, block, stated, bytes, body)
+}
