@@ -1,10 +1,10 @@
 #!/bin/sh
 # Builds the library for callers in C and Rust, and programs that call it: `check` in C and in Rust, on the tables and the image
-# of acpi_example, and `boundary`, which goes to the limits of each function. In C both are built a second time with the address
-# and undefined behaviour sanitizers, and `boundary` is run once for each growth, with that one refused by memory.c. The library
-# and the example are proved before they are built, with everything that they stand on. With `built`, they stand on the crates
-# that `rt ci` left. It leaves no static library, so acpi_c itself is proved once more. The library, with its functions in C and
-# its allocator, is then crates/acpi_c/out/c/libhyssop.a.
+# of acpi_example, `monitor`, which builds an image, and `boundary`, which goes to the limits of each function. In C all are built a
+# second time with the address and undefined behaviour sanitizers, and `boundary` is run once for each growth, with that one refused
+# by memory.c. Where Cargo is there, the tests of bindings/rust run, too. The library and the example are proved before they are
+# built, with everything that they stand on. With `built`, they stand on the crates that `rt ci` left. It leaves no static library, so
+# acpi_c itself is proved once more. The library, with its functions in C and its allocator, is then crates/acpi_c/out/c/libhyssop.a.
 set -eu
 cd "$(dirname "$0")/.."
 
@@ -64,6 +64,8 @@ compile() {
 
 compile examples/check.c "$work/check"
 compile examples/check.c "$work/check_sanitized" -fsanitize=address,undefined -fno-sanitize-recover=all
+compile examples/monitor.c "$work/monitor"
+compile examples/monitor.c "$work/monitor_sanitized" -fsanitize=address,undefined -fno-sanitize-recover=all
 compile tests/boundary.c "$work/boundary"
 compile tests/boundary.c "$work/boundary_sanitized" -fsanitize=address,undefined -fno-sanitize-recover=all
 
@@ -115,7 +117,24 @@ checks "$work/check_sanitized"
 if command -v cargo >/dev/null; then
     (cd "$source/examples/rust" && HYSSOP=$source/out/c CARGO_TARGET_DIR=$work/cargo cargo build --quiet --offline)
     checks "$work/cargo/debug/acpi_check"
+    (cd bindings/rust && HYSSOP=$source/out/c CARGO_TARGET_DIR=$work/cargo cargo test --quiet --offline) >"$work/told" || {
+        cat "$work/told" >&2
+        exit 1
+    }
+    (cd bindings/rust && HYSSOP=$source/out/c CARGO_TARGET_DIR=$work/cargo cargo run --quiet --offline --example namespace -- \
+        "$work/namespace")
+    cmp "$work/namespace" "$work/acpi/namespace"
+    echo 'hyssop-acpi: its tests pass, and it writes the namespace of acpi_example'
 fi
+
+# The image that a monitor builds, which `monitor` and `check` find correct.
+"$work/monitor" 40000 "$work/built" >"$work/told"
+"$work/monitor_sanitized" 40000 "$work/built_again" >"$work/told_again"
+cmp "$work/built" "$work/built_again"
+cmp "$work/told" "$work/told_again"
+mkdir "$work/none"
+"$work/check" "$work/none" "$work/built" 40000 "$(sed 's/.*RSDP at 0x//' "$work/told")" >/dev/null
+cat "$work/told"
 
 # To the limits of each function.
 rm "$work/acpi/cut"

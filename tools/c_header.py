@@ -3,7 +3,8 @@
 
 - c/exports.h with the exports of src/lib.rt;
 - include/hyssop.h and hyssop.rs with each other, and with the exports: each function has one, with parameters of the same names;
-- the structs, the version and the faults of both with the source, and the faults of docs/C.md."""
+- the structs, the version, the operators, the types of memory and the faults of both with the source, and the faults of
+  docs/C.md."""
 import re
 import sys
 
@@ -12,18 +13,26 @@ RUN = "crates/acpi_c_calls/src"
 # A type of an export: the parameters in C that stand for it.
 TYPES = {
     "Global": [],
+    "bool": ["bool X"],
+    "u8": ["uint8_t X"],
+    "u16": ["uint16_t X"],
     "u32": ["uint32_t X"],
     "u64": ["uint64_t X"],
     "&mut u64": ["uint64_t *X"],
     "&mut usize": ["size_t *X"],
     "&[u8]": ["const void *X", "size_t X_size"],
     "&mut [u8]": ["void *X", "size_t X_size"],
+    "&State": ["const struct hyssop_state *X"],
+    "&mut State": ["struct hyssop_state *X"],
     "&mut [Structure]": ["struct hyssop_structure *X", "size_t X_size"],
     "&mut [Note]": ["struct hyssop_note *X", "size_t X_size"],
     "&mut [ImageTable]": ["struct hyssop_image_table *X", "size_t X_size"],
 }
 # A type of hyssop.h, and that of hyssop.rs.
 RUST = {
+    "int": "c_int",
+    "uint8_t": "u8",
+    "uint16_t": "u16",
     "uint32_t": "u32",
     "enum hyssop_fault": "u32",
     "uint64_t": "u64",
@@ -34,6 +43,8 @@ RUST = {
     "const char *": "*const u8",
     "void *": "*mut u8",
     "char *": "*mut u8",
+    "struct hyssop_writer *": "*mut Writer",
+    "const struct hyssop_writer *": "*const Writer",
     "struct hyssop_structure *": "*mut Structure",
     "struct hyssop_note *": "*mut Note",
     "struct hyssop_image_table *": "*mut ImageTable",
@@ -95,31 +106,72 @@ for name, given in exports:
 found = declarations(read(f"{CRATE}/c/exports.h"))
 compare("exports.h", "declaration", [("uint32_t", name, given) for name, given in in_c.items()], found)
 
-# What callers see. A function that writes structs counts them, and one without a proved function is that of the words.
+
+def seen(given):
+    """The names of the parameters that callers see: a writer is its buffer and its state, and its texts end with a zero."""
+    names = [typed(it)[1] for it in given]
+    if "state" not in names:
+        return names
+    sizes = [f"{it}_size" for it in names if it != "content"]
+    return ["writer"] + [it for it in names if it not in ("bytes", "state") and it not in sizes]
+
+
+def in_rust(given):
+    """The parameters in Rust. A text without a size after it is a string of C."""
+    names = [typed(it)[1] for it in given]
+    types = [
+        "*const c_char" if kind == "const char *" and f"{it}_size" not in names else RUST[kind] for kind, it in map(typed, given)
+    ]
+    return ", ".join(f"{it}: {kind}" for it, kind in zip(names, types))
+
+
+# What callers see. A function that writes structs counts them, and that of the words has no proved function. A writer begins with
+# its buffer, and NULL has no function of its own.
 header, rust = read(f"{CRATE}/include/hyssop.h"), read(f"{CRATE}/hyssop.rs")
 public = declarations(header)
-wanted = [(name.replace("_export", ""), [typed(it)[1] for it in given]) for name, given in in_c.items() if "fault_name" not in name]
-wanted.append(("hyssop_fault_words", ["number"]))
+hidden = ("hyssop_export_fault_name", "hyssop_export_null", "hyssop_export_begin")
+wanted = [(name.replace("_export", ""), seen(given)) for name, given in in_c.items() if name not in hidden]
+wanted += [("hyssop_fault_words", ["number"]), ("hyssop_begin", ["writer", "bytes", "bytes_size"])]
 same = {"out_count": "out_size", "count": "size"}
 compare("hyssop.h", "function", wanted, [(name, [same.get(typed(it)[1], typed(it)[1]) for it in given]) for _, name, given in public])
-in_rust = [
-    f"pub fn {name}({', '.join(f'{it}: {RUST[kind]}' for kind, it in map(typed, given))}) -> "
-    + ("*const c_char" if result == "const char *" else RUST[result])
+declared = [
+    f"pub fn {name}({in_rust(given)}) -> " + ("*const c_char" if result == "const char *" else RUST[result])
     for result, name, given in public
 ]
 found = re.findall(r"(pub fn \w+)\(([^)]*)\) -> ([^;]*);", rust)
-compare("hyssop.rs", "declaration", in_rust, [f"{name}({', '.join(parameters(given))}) -> {result}" for name, given, result in found])
+compare("hyssop.rs", "declaration", declared, [f"{name}({', '.join(parameters(given))}) -> {result}" for name, given, result in found])
 
 # The fields of the structs: a type of the source, and that of hyssop.h.
-C_FIELDS = {"usize": "size_t X;", "u64": "uint64_t X;", "u32": "uint32_t X;", "[u8; 4]": "uint8_t X[4];"}
-for name, file in (("Structure", "structures"), ("Note", "notes"), ("ImageTable", "image")):
+C_FIELDS = {
+    "usize": "size_t X;",
+    "u64": "uint64_t X;",
+    "u32": "uint32_t X;",
+    "[u8; 4]": "uint8_t X[4];",
+    "[u32; 32]": "uint32_t X[HYSSOP_DEPTH];",
+    "[usize; 32]": "size_t X[HYSSOP_DEPTH];",
+}
+for name, file in (("Structure", "structures"), ("Note", "notes"), ("ImageTable", "image"), ("State", "state")):
     fields = re.findall(r"pub (\w+): ([^,]*),", re.search(rf"pub struct {name} {{(.*?)\n}}", read(f"{RUN}/{file}.rt"), re.S)[1])
     in_c = f"struct hyssop_{constant(name).lower()}"
     body = re.search(rf"{in_c} {{\n(.*?)}};", header, re.S)[1]
-    if [line.strip() for line in body.splitlines()] != [C_FIELDS[kind].replace("X", it) for it, kind in fields]:
+    if [re.sub(r" */\*.*\*/", "", line).strip() for line in body.splitlines()] != [C_FIELDS[kind].replace("X", it) for it, kind in fields]:
         differs(f"the fields of `{in_c}` in hyssop.h aren't {fields}")
     if re.findall(r"pub (\w+): ([^,]*),", re.search(rf"pub struct {name} {{(.*?)\n}}", rust, re.S)[1]) != fields:
         differs(f"the fields of `{name}` in hyssop.rs aren't {fields}")
+
+# A writer's depth, the operators by their opcodes, and the types of memory.
+depth = re.search(r"pub const DEPTH: usize = (\d+);", read(f"{RUN}/state.rt"))[1]
+if f"#define HYSSOP_DEPTH {depth}\n" not in header or f"pub const DEPTH: usize = {depth};" not in rust:
+    differs(f"HYSSOP_DEPTH or DEPTH isn't {depth}")
+rows = r"look_up! { \$wanted \$subject;(.*?)\n +;\n(.*?)\n +}\n"
+single, double = re.search(rows, read("crates/acpi_term/src/op.rt"), re.S).groups()
+wanted = [(name.upper(), f"0x{code}") for name, code in re.findall(r"^ +(\w+) 0x(\w\w) ", single, re.M)]
+wanted += [(name.upper(), f"0x5b{code}") for name, code in re.findall(r"^ +(\w+) 0x(\w\w) ", double, re.M)]
+compare("hyssop.h", "operator", wanted, re.findall(r"\bHYSSOP_OP_(\w+) = (\w+)", header))
+rows = re.findall(r"(\d) => Some\(AddressSpaceCacheable::(\w+)\)", read(f"{RUN}/resource.rt"))
+wanted = [(name.upper(), number) for number, name in rows]
+found = [(name.replace("_", ""), number) for name, number in re.findall(r"\bHYSSOP_MEMORY_(\w+) = (\d+)", header)]
+compare("hyssop.h", "type of memory", wanted, found)
 
 # Faults: a name, a number and words.
 rows = re.findall(r'^ +([A-Z]\w+) (\d+) "(.*)"$', read(f"{RUN}/fault.rt"), re.M)
@@ -134,6 +186,6 @@ if f"#define HYSSOP_VERSION {version}\n" not in header:
     differs(f"HYSSOP_VERSION of hyssop.h isn't {version}")
 if f"pub const VERSION: u32 = {version};" not in rust:
     differs(f"VERSION of hyssop.rs isn't {version}")
-if len(exports) < 9 or len(rows) < 40:
+if len(exports) < 40 or len(rows) < 70:
     differs("the source has fewer functions or faults than it had")
 sys.exit(status)

@@ -2,10 +2,10 @@
 //! what its caller owes.
 #![allow(dead_code)]
 
-use std::ffi::c_char;
+use std::ffi::{c_char, c_int};
 
 /// `hyssop_version()` returns this, if the library fits these declarations.
-pub const VERSION: u32 = 3;
+pub const VERSION: u32 = 4;
 
 /// The type of a structure, if the structures of its table have none.
 pub const NO_KIND: usize = usize::MAX;
@@ -44,6 +44,13 @@ pub mod fault {
     pub const IMAGE_NO_FADT: u32 = 54;
     pub const IMAGE_SECOND_FADT: u32 = 55;
     pub const IMAGE_OVERLAP: u32 = 56;
+    pub const LAY_BASE: u32 = 57;
+    pub const LAY_SECOND: u32 = 58;
+    pub const LAY_NO_FADT: u32 = 59;
+    pub const LAY_NO_DSDT: u32 = 60;
+    pub const LAY_NO_FACS: u32 = 61;
+    pub const LAY_SHORT_FADT: u32 = 62;
+    pub const LAY_NO_SPACE: u32 = 63;
     pub const WANTS_PRINTING: u32 = 65;
     pub const WANTS_SPACE: u32 = 66;
     pub const WANTS_VALUE: u32 = 67;
@@ -68,6 +75,22 @@ pub mod fault {
     pub const WANTS_TABLE: u32 = 86;
     pub const WANTS_FIELD_OF: u32 = 87;
     pub const WANTS_ANOTHER_NUMBER: u32 = 88;
+    pub const NAME_PART: u32 = 96;
+    pub const PATH_PARTS: u32 = 97;
+    pub const EISA_TEXT: u32 = 98;
+    pub const UUID_TEXT: u32 = 99;
+    pub const ARG_NUMBER: u32 = 100;
+    pub const LOCAL_NUMBER: u32 = 101;
+    pub const METHOD_ARGS: u32 = 102;
+    pub const OBJECT_LENGTH: u32 = 103;
+    pub const ADDRESS_RANGE: u32 = 104;
+    pub const UNKNOWN_CHOICE: u32 = 105;
+    pub const OEM_TEXT: u32 = 106;
+    pub const NONE_OPEN: u32 = 107;
+    pub const STILL_OPEN: u32 = 108;
+    pub const TOO_MANY_OPEN: u32 = 109;
+    pub const WRITER_STATE: u32 = 110;
+    pub const NOT_EMPTY: u32 = 111;
 }
 
 /// A structure of a table: its offset in the table, its type or `NO_KIND`, and the number of its bytes.
@@ -96,6 +119,30 @@ pub struct ImageTable {
     pub address: u64,
     pub length: u32,
     pub signature: [u8; 4],
+}
+
+/// How many objects of a writer may be open at a time.
+pub const DEPTH: usize = 32;
+
+/// What a writer keeps: how many bytes are written, how many objects are open, where the PkgLength of each goes, what closing it
+/// adds, and the first fault, or 0. Only calls change it.
+#[repr(C)]
+#[derive(Clone, Copy, Debug, Default, PartialEq, Eq)]
+pub struct State {
+    pub size: usize,
+    pub depth: usize,
+    pub marks: [usize; 32],
+    pub kinds: [u32; 32],
+    pub fault: u32,
+}
+
+/// A writer of AML and of tables: the caller's buffer, and what is written there.
+#[repr(C)]
+#[derive(Clone, Copy, Debug)]
+pub struct Writer {
+    pub bytes: *mut u8,
+    pub bytes_size: usize,
+    pub state: State,
 }
 
 unsafe extern "C" {
@@ -185,5 +232,91 @@ unsafe extern "C" {
         out: *mut u8,
         out_size: usize,
         size: *mut usize,
+    ) -> u32;
+    pub fn hyssop_begin(writer: *mut Writer, bytes: *mut u8, bytes_size: usize) -> u32;
+    pub fn hyssop_open_scope(writer: *mut Writer, path: *const c_char) -> u32;
+    pub fn hyssop_open_device(writer: *mut Writer, path: *const c_char) -> u32;
+    pub fn hyssop_open_thermal_zone(writer: *mut Writer, path: *const c_char) -> u32;
+    pub fn hyssop_open_power_resource(
+        writer: *mut Writer,
+        path: *const c_char,
+        level: u8,
+        order: u16,
+    ) -> u32;
+    pub fn hyssop_open_method(
+        writer: *mut Writer,
+        path: *const c_char,
+        arguments: u8,
+        serialized: c_int,
+    ) -> u32;
+    pub fn hyssop_open_package(writer: *mut Writer, elements: u8) -> u32;
+    pub fn hyssop_open_if(writer: *mut Writer) -> u32;
+    pub fn hyssop_open_else(writer: *mut Writer) -> u32;
+    pub fn hyssop_open_while(writer: *mut Writer) -> u32;
+    pub fn hyssop_open_buffer(writer: *mut Writer) -> u32;
+    pub fn hyssop_open_resources(writer: *mut Writer) -> u32;
+    pub fn hyssop_close(writer: *mut Writer) -> u32;
+    pub fn hyssop_name(writer: *mut Writer, path: *const c_char) -> u32;
+    pub fn hyssop_path(writer: *mut Writer, name: *const c_char) -> u32;
+    pub fn hyssop_integer(writer: *mut Writer, value: u64) -> u32;
+    pub fn hyssop_string(writer: *mut Writer, text: *const c_char) -> u32;
+    pub fn hyssop_eisa_id(writer: *mut Writer, id: *const c_char) -> u32;
+    pub fn hyssop_uuid(writer: *mut Writer, text: *const c_char) -> u32;
+    pub fn hyssop_argument(writer: *mut Writer, number: u8) -> u32;
+    pub fn hyssop_local(writer: *mut Writer, number: u8) -> u32;
+    pub fn hyssop_operator(writer: *mut Writer, code: u32) -> u32;
+    pub fn hyssop_bytes(writer: *mut Writer, content: *const u8, content_size: usize) -> u32;
+    pub fn hyssop_io(writer: *mut Writer, min: u16, max: u16, alignment: u8, length: u8) -> u32;
+    pub fn hyssop_interrupt(
+        writer: *mut Writer,
+        consumer: c_int,
+        edge_triggered: c_int,
+        active_low: c_int,
+        shared: c_int,
+        number: u32,
+    ) -> u32;
+    pub fn hyssop_memory32_fixed(
+        writer: *mut Writer,
+        read_write: c_int,
+        base: u32,
+        length: u32,
+    ) -> u32;
+    pub fn hyssop_bus_numbers(writer: *mut Writer, min: u16, max: u16) -> u32;
+    pub fn hyssop_io_range(writer: *mut Writer, min: u16, max: u16, translation: u16) -> u32;
+    pub fn hyssop_memory_range32(
+        writer: *mut Writer,
+        memory_type: u32,
+        read_write: c_int,
+        min: u32,
+        max: u32,
+        translation: u32,
+    ) -> u32;
+    pub fn hyssop_memory_range64(
+        writer: *mut Writer,
+        memory_type: u32,
+        read_write: c_int,
+        min: u64,
+        max: u64,
+        translation: u64,
+    ) -> u32;
+    pub fn hyssop_table(
+        writer: *mut Writer,
+        signature: *const c_char,
+        revision: u8,
+        oem_id: *const c_char,
+        oem_table_id: *const c_char,
+        oem_revision: u32,
+    ) -> u32;
+    pub fn hyssop_finish(writer: *const Writer, size: *mut usize, place: *mut u64) -> u32;
+    pub fn hyssop_finish_table(writer: *mut Writer, size: *mut usize, place: *mut u64) -> u32;
+    pub fn hyssop_lay(
+        tables: *const u8,
+        tables_size: usize,
+        base: u64,
+        out: *mut u8,
+        out_size: usize,
+        size: *mut usize,
+        rsdp: *mut u64,
+        place: *mut u64,
     ) -> u32;
 }

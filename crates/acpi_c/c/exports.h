@@ -3,6 +3,7 @@
 #define HYSSOP_EXPORTS_H
 
 #include "hyssop.h"
+#include <stdbool.h>
 
 uint32_t hyssop_export_version(void);
 uint32_t hyssop_export_fault_name(uint32_t number, void *out, size_t out_size, size_t *size);
@@ -23,5 +24,55 @@ uint32_t hyssop_export_make(const void *text, size_t text_size, void *out, size_
 uint32_t hyssop_export_make_notes(const void *text, size_t text_size, struct hyssop_note *out, size_t out_size, size_t *size,
                                   uint64_t *place);
 uint32_t hyssop_export_template(const void *signature, size_t signature_size, void *out, size_t out_size, size_t *size);
+uint32_t hyssop_export_begin(struct hyssop_state *state);
+uint32_t hyssop_export_null(struct hyssop_state *state);
+uint32_t hyssop_export_open_scope(void *bytes, size_t bytes_size, struct hyssop_state *state, const void *path, size_t path_size);
+uint32_t hyssop_export_open_device(void *bytes, size_t bytes_size, struct hyssop_state *state, const void *path,
+                                   size_t path_size);
+uint32_t hyssop_export_open_thermal_zone(void *bytes, size_t bytes_size, struct hyssop_state *state, const void *path,
+                                         size_t path_size);
+uint32_t hyssop_export_open_power_resource(void *bytes, size_t bytes_size, struct hyssop_state *state, const void *path,
+                                           size_t path_size, uint8_t level, uint16_t order);
+uint32_t hyssop_export_open_method(void *bytes, size_t bytes_size, struct hyssop_state *state, const void *path, size_t path_size,
+                                   uint8_t arguments, bool serialized);
+uint32_t hyssop_export_open_package(void *bytes, size_t bytes_size, struct hyssop_state *state, uint8_t elements);
+uint32_t hyssop_export_open_if(void *bytes, size_t bytes_size, struct hyssop_state *state);
+uint32_t hyssop_export_open_else(void *bytes, size_t bytes_size, struct hyssop_state *state);
+uint32_t hyssop_export_open_while(void *bytes, size_t bytes_size, struct hyssop_state *state);
+uint32_t hyssop_export_open_buffer(void *bytes, size_t bytes_size, struct hyssop_state *state);
+uint32_t hyssop_export_open_resources(void *bytes, size_t bytes_size, struct hyssop_state *state);
+uint32_t hyssop_export_close(void *bytes, size_t bytes_size, struct hyssop_state *state);
+uint32_t hyssop_export_name(void *bytes, size_t bytes_size, struct hyssop_state *state, const void *path, size_t path_size);
+uint32_t hyssop_export_path(void *bytes, size_t bytes_size, struct hyssop_state *state, const void *name, size_t name_size);
+uint32_t hyssop_export_integer(void *bytes, size_t bytes_size, struct hyssop_state *state, uint64_t value);
+uint32_t hyssop_export_string(void *bytes, size_t bytes_size, struct hyssop_state *state, const void *text, size_t text_size);
+uint32_t hyssop_export_eisa_id(void *bytes, size_t bytes_size, struct hyssop_state *state, const void *id, size_t id_size);
+uint32_t hyssop_export_uuid(void *bytes, size_t bytes_size, struct hyssop_state *state, const void *text, size_t text_size);
+uint32_t hyssop_export_argument(void *bytes, size_t bytes_size, struct hyssop_state *state, uint8_t number);
+uint32_t hyssop_export_local(void *bytes, size_t bytes_size, struct hyssop_state *state, uint8_t number);
+uint32_t hyssop_export_operator(void *bytes, size_t bytes_size, struct hyssop_state *state, uint32_t code);
+uint32_t hyssop_export_bytes(void *bytes, size_t bytes_size, struct hyssop_state *state, const void *content,
+                             size_t content_size);
+uint32_t hyssop_export_io(void *bytes, size_t bytes_size, struct hyssop_state *state, uint16_t min, uint16_t max,
+                          uint8_t alignment, uint8_t length);
+uint32_t hyssop_export_interrupt(void *bytes, size_t bytes_size, struct hyssop_state *state, bool consumer, bool edge_triggered,
+                                 bool active_low, bool shared, uint32_t number);
+uint32_t hyssop_export_memory32_fixed(void *bytes, size_t bytes_size, struct hyssop_state *state, bool read_write, uint32_t base,
+                                      uint32_t length);
+uint32_t hyssop_export_bus_numbers(void *bytes, size_t bytes_size, struct hyssop_state *state, uint16_t min, uint16_t max);
+uint32_t hyssop_export_io_range(void *bytes, size_t bytes_size, struct hyssop_state *state, uint16_t min, uint16_t max,
+                                uint16_t translation);
+uint32_t hyssop_export_memory_range32(void *bytes, size_t bytes_size, struct hyssop_state *state, uint32_t memory_type,
+                                      bool read_write, uint32_t min, uint32_t max, uint32_t translation);
+uint32_t hyssop_export_memory_range64(void *bytes, size_t bytes_size, struct hyssop_state *state, uint32_t memory_type,
+                                      bool read_write, uint64_t min, uint64_t max, uint64_t translation);
+uint32_t hyssop_export_table(void *bytes, size_t bytes_size, struct hyssop_state *state, const void *signature,
+                             size_t signature_size, uint8_t revision, const void *oem_id, size_t oem_id_size,
+                             const void *oem_table_id, size_t oem_table_id_size, uint32_t oem_revision);
+uint32_t hyssop_export_finish(const struct hyssop_state *state, size_t *size, uint64_t *place);
+uint32_t hyssop_export_finish_table(void *bytes, size_t bytes_size, const struct hyssop_state *state, size_t *size,
+                                    uint64_t *place);
+uint32_t hyssop_export_lay(const void *tables, size_t tables_size, uint64_t base, void *out, size_t out_size, size_t *size,
+                           uint64_t *rsdp, uint64_t *place);
 
 #endif

@@ -2,6 +2,7 @@
    function of exports.h. names.h has the words of the faults, which c.sh takes from the comments of hyssop.h. */
 #include "hyssop.h"
 #include "exports.h"
+#include <string.h>
 
 /* What is read or written in place of NULL: nothing, since its size is 0. */
 static union {
@@ -161,4 +162,250 @@ enum hyssop_fault hyssop_template(const char *signature, size_t signature_size, 
         return null(size, NULL);
     return (enum hyssop_fault)hyssop_export_template(input(signature), signature_size, output(out), out_size,
                                                      size_or(size, &unwanted));
+}
+
+/* ---- writers */
+
+static int is_unusable(const struct hyssop_writer *writer) {
+    return writer == NULL || is_null(writer->bytes, writer->bytes_size);
+}
+
+/* The fault of a NULL, which the writer keeps if there is one. */
+static enum hyssop_fault null_of(struct hyssop_writer *writer) {
+    return writer == NULL ? HYSSOP_FAULT_NULL : (enum hyssop_fault)hyssop_export_null(&writer->state);
+}
+
+enum hyssop_fault hyssop_begin(struct hyssop_writer *writer, void *bytes, size_t bytes_size) {
+    if (writer == NULL)
+        return HYSSOP_FAULT_NULL;
+    writer->bytes = bytes;
+    writer->bytes_size = bytes_size;
+    (void)hyssop_export_begin(&writer->state);
+    return is_unusable(writer) ? null_of(writer) : HYSSOP_FINE;
+}
+
+enum hyssop_fault hyssop_open_scope(struct hyssop_writer *writer, const char *path) {
+    if (is_unusable(writer) || path == NULL)
+        return null_of(writer);
+    return (enum hyssop_fault)hyssop_export_open_scope(output(writer->bytes), writer->bytes_size, &writer->state, path,
+                                                       strlen(path));
+}
+
+enum hyssop_fault hyssop_open_device(struct hyssop_writer *writer, const char *path) {
+    if (is_unusable(writer) || path == NULL)
+        return null_of(writer);
+    return (enum hyssop_fault)hyssop_export_open_device(output(writer->bytes), writer->bytes_size, &writer->state, path,
+                                                        strlen(path));
+}
+
+enum hyssop_fault hyssop_open_thermal_zone(struct hyssop_writer *writer, const char *path) {
+    if (is_unusable(writer) || path == NULL)
+        return null_of(writer);
+    return (enum hyssop_fault)hyssop_export_open_thermal_zone(output(writer->bytes), writer->bytes_size, &writer->state, path,
+                                                              strlen(path));
+}
+
+enum hyssop_fault hyssop_open_power_resource(struct hyssop_writer *writer, const char *path, uint8_t level, uint16_t order) {
+    if (is_unusable(writer) || path == NULL)
+        return null_of(writer);
+    return (enum hyssop_fault)hyssop_export_open_power_resource(output(writer->bytes), writer->bytes_size, &writer->state, path,
+                                                                strlen(path), level, order);
+}
+
+enum hyssop_fault hyssop_open_method(struct hyssop_writer *writer, const char *path, uint8_t arguments, int serialized) {
+    if (is_unusable(writer) || path == NULL)
+        return null_of(writer);
+    return (enum hyssop_fault)hyssop_export_open_method(output(writer->bytes), writer->bytes_size, &writer->state, path,
+                                                        strlen(path), arguments, serialized != 0);
+}
+
+enum hyssop_fault hyssop_open_package(struct hyssop_writer *writer, uint8_t elements) {
+    if (is_unusable(writer))
+        return null_of(writer);
+    return (enum hyssop_fault)hyssop_export_open_package(output(writer->bytes), writer->bytes_size, &writer->state, elements);
+}
+
+enum hyssop_fault hyssop_open_if(struct hyssop_writer *writer) {
+    if (is_unusable(writer))
+        return null_of(writer);
+    return (enum hyssop_fault)hyssop_export_open_if(output(writer->bytes), writer->bytes_size, &writer->state);
+}
+
+enum hyssop_fault hyssop_open_else(struct hyssop_writer *writer) {
+    if (is_unusable(writer))
+        return null_of(writer);
+    return (enum hyssop_fault)hyssop_export_open_else(output(writer->bytes), writer->bytes_size, &writer->state);
+}
+
+enum hyssop_fault hyssop_open_while(struct hyssop_writer *writer) {
+    if (is_unusable(writer))
+        return null_of(writer);
+    return (enum hyssop_fault)hyssop_export_open_while(output(writer->bytes), writer->bytes_size, &writer->state);
+}
+
+enum hyssop_fault hyssop_open_buffer(struct hyssop_writer *writer) {
+    if (is_unusable(writer))
+        return null_of(writer);
+    return (enum hyssop_fault)hyssop_export_open_buffer(output(writer->bytes), writer->bytes_size, &writer->state);
+}
+
+enum hyssop_fault hyssop_open_resources(struct hyssop_writer *writer) {
+    if (is_unusable(writer))
+        return null_of(writer);
+    return (enum hyssop_fault)hyssop_export_open_resources(output(writer->bytes), writer->bytes_size, &writer->state);
+}
+
+enum hyssop_fault hyssop_close(struct hyssop_writer *writer) {
+    if (is_unusable(writer))
+        return null_of(writer);
+    return (enum hyssop_fault)hyssop_export_close(output(writer->bytes), writer->bytes_size, &writer->state);
+}
+
+enum hyssop_fault hyssop_name(struct hyssop_writer *writer, const char *path) {
+    if (is_unusable(writer) || path == NULL)
+        return null_of(writer);
+    return (enum hyssop_fault)hyssop_export_name(output(writer->bytes), writer->bytes_size, &writer->state, path, strlen(path));
+}
+
+enum hyssop_fault hyssop_path(struct hyssop_writer *writer, const char *name) {
+    if (is_unusable(writer) || name == NULL)
+        return null_of(writer);
+    return (enum hyssop_fault)hyssop_export_path(output(writer->bytes), writer->bytes_size, &writer->state, name, strlen(name));
+}
+
+enum hyssop_fault hyssop_integer(struct hyssop_writer *writer, uint64_t value) {
+    if (is_unusable(writer))
+        return null_of(writer);
+    return (enum hyssop_fault)hyssop_export_integer(output(writer->bytes), writer->bytes_size, &writer->state, value);
+}
+
+enum hyssop_fault hyssop_string(struct hyssop_writer *writer, const char *text) {
+    if (is_unusable(writer) || text == NULL)
+        return null_of(writer);
+    return (enum hyssop_fault)hyssop_export_string(output(writer->bytes), writer->bytes_size, &writer->state, text, strlen(text));
+}
+
+enum hyssop_fault hyssop_eisa_id(struct hyssop_writer *writer, const char *id) {
+    if (is_unusable(writer) || id == NULL)
+        return null_of(writer);
+    return (enum hyssop_fault)hyssop_export_eisa_id(output(writer->bytes), writer->bytes_size, &writer->state, id, strlen(id));
+}
+
+enum hyssop_fault hyssop_uuid(struct hyssop_writer *writer, const char *text) {
+    if (is_unusable(writer) || text == NULL)
+        return null_of(writer);
+    return (enum hyssop_fault)hyssop_export_uuid(output(writer->bytes), writer->bytes_size, &writer->state, text, strlen(text));
+}
+
+enum hyssop_fault hyssop_argument(struct hyssop_writer *writer, uint8_t number) {
+    if (is_unusable(writer))
+        return null_of(writer);
+    return (enum hyssop_fault)hyssop_export_argument(output(writer->bytes), writer->bytes_size, &writer->state, number);
+}
+
+enum hyssop_fault hyssop_local(struct hyssop_writer *writer, uint8_t number) {
+    if (is_unusable(writer))
+        return null_of(writer);
+    return (enum hyssop_fault)hyssop_export_local(output(writer->bytes), writer->bytes_size, &writer->state, number);
+}
+
+enum hyssop_fault hyssop_operator(struct hyssop_writer *writer, uint32_t code) {
+    if (is_unusable(writer))
+        return null_of(writer);
+    return (enum hyssop_fault)hyssop_export_operator(output(writer->bytes), writer->bytes_size, &writer->state, code);
+}
+
+enum hyssop_fault hyssop_bytes(struct hyssop_writer *writer, const void *content, size_t content_size) {
+    if (is_unusable(writer) || is_null(content, content_size))
+        return null_of(writer);
+    return (enum hyssop_fault)hyssop_export_bytes(output(writer->bytes), writer->bytes_size, &writer->state, input(content),
+                                                  content_size);
+}
+
+enum hyssop_fault hyssop_io(struct hyssop_writer *writer, uint16_t min, uint16_t max, uint8_t alignment, uint8_t length) {
+    if (is_unusable(writer))
+        return null_of(writer);
+    return (enum hyssop_fault)hyssop_export_io(output(writer->bytes), writer->bytes_size, &writer->state, min, max, alignment,
+                                               length);
+}
+
+enum hyssop_fault hyssop_interrupt(struct hyssop_writer *writer, int consumer, int edge_triggered, int active_low, int shared,
+                                   uint32_t number) {
+    if (is_unusable(writer))
+        return null_of(writer);
+    return (enum hyssop_fault)hyssop_export_interrupt(output(writer->bytes), writer->bytes_size, &writer->state, consumer != 0,
+                                                      edge_triggered != 0, active_low != 0, shared != 0, number);
+}
+
+enum hyssop_fault hyssop_memory32_fixed(struct hyssop_writer *writer, int read_write, uint32_t base, uint32_t length) {
+    if (is_unusable(writer))
+        return null_of(writer);
+    return (enum hyssop_fault)hyssop_export_memory32_fixed(output(writer->bytes), writer->bytes_size, &writer->state,
+                                                           read_write != 0, base, length);
+}
+
+enum hyssop_fault hyssop_bus_numbers(struct hyssop_writer *writer, uint16_t min, uint16_t max) {
+    if (is_unusable(writer))
+        return null_of(writer);
+    return (enum hyssop_fault)hyssop_export_bus_numbers(output(writer->bytes), writer->bytes_size, &writer->state, min, max);
+}
+
+enum hyssop_fault hyssop_io_range(struct hyssop_writer *writer, uint16_t min, uint16_t max, uint16_t translation) {
+    if (is_unusable(writer))
+        return null_of(writer);
+    return (enum hyssop_fault)hyssop_export_io_range(output(writer->bytes), writer->bytes_size, &writer->state, min, max,
+                                                     translation);
+}
+
+enum hyssop_fault hyssop_memory_range32(struct hyssop_writer *writer, uint32_t memory_type, int read_write, uint32_t min,
+                                        uint32_t max, uint32_t translation) {
+    if (is_unusable(writer))
+        return null_of(writer);
+    return (enum hyssop_fault)hyssop_export_memory_range32(output(writer->bytes), writer->bytes_size, &writer->state, memory_type,
+                                                           read_write != 0, min, max, translation);
+}
+
+enum hyssop_fault hyssop_memory_range64(struct hyssop_writer *writer, uint32_t memory_type, int read_write, uint64_t min,
+                                        uint64_t max, uint64_t translation) {
+    if (is_unusable(writer))
+        return null_of(writer);
+    return (enum hyssop_fault)hyssop_export_memory_range64(output(writer->bytes), writer->bytes_size, &writer->state, memory_type,
+                                                           read_write != 0, min, max, translation);
+}
+
+enum hyssop_fault hyssop_table(struct hyssop_writer *writer, const char *signature, uint8_t revision, const char *oem_id,
+                               const char *oem_table_id, uint32_t oem_revision) {
+    if (is_unusable(writer) || signature == NULL || oem_id == NULL || oem_table_id == NULL)
+        return null_of(writer);
+    return (enum hyssop_fault)hyssop_export_table(output(writer->bytes), writer->bytes_size, &writer->state, signature,
+                                                  strlen(signature), revision, oem_id, strlen(oem_id), oem_table_id,
+                                                  strlen(oem_table_id), oem_revision);
+}
+
+enum hyssop_fault hyssop_finish(const struct hyssop_writer *writer, size_t *size, uint64_t *place) {
+    struct unwanted unwanted;
+    if (writer == NULL)
+        return null(size, place);
+    return (enum hyssop_fault)hyssop_export_finish(&writer->state, size_or(size, &unwanted), place_or(place, &unwanted));
+}
+
+enum hyssop_fault hyssop_finish_table(struct hyssop_writer *writer, size_t *size, uint64_t *place) {
+    struct unwanted unwanted;
+    if (is_unusable(writer))
+        return null(size, place);
+    return (enum hyssop_fault)hyssop_export_finish_table(output(writer->bytes), writer->bytes_size, &writer->state,
+                                                         size_or(size, &unwanted), place_or(place, &unwanted));
+}
+
+enum hyssop_fault hyssop_lay(const void *tables, size_t tables_size, uint64_t base, void *out, size_t out_size, size_t *size,
+                             uint64_t *rsdp, uint64_t *place) {
+    struct unwanted unwanted;
+    uint64_t nowhere;
+    if (is_null(tables, tables_size) || is_null(out, out_size)) {
+        if (rsdp != NULL)
+            *rsdp = 0;
+        return null(size, place);
+    }
+    return (enum hyssop_fault)hyssop_export_lay(input(tables), tables_size, base, output(out), out_size, size_or(size, &unwanted),
+                                                rsdp == NULL ? &nowhere : rsdp, place_or(place, &unwanted));
 }

@@ -32,7 +32,7 @@ extern "C" {
 #endif
 
 /* hyssop_version() returns this, if the library fits this header. It grows when a function or a fault changes. */
-#define HYSSOP_VERSION 3
+#define HYSSOP_VERSION 4
 
 /* The type of a structure, if the structures of its table have none. */
 #define HYSSOP_NO_KIND SIZE_MAX
@@ -68,6 +68,13 @@ enum hyssop_fault {
     HYSSOP_FAULT_IMAGE_NO_FADT = 54, /* the XSDT lists no FADT */
     HYSSOP_FAULT_IMAGE_SECOND_FADT = 55, /* the XSDT lists a second FADT */
     HYSSOP_FAULT_IMAGE_OVERLAP = 56, /* two tables overlap */
+    HYSSOP_FAULT_LAY_BASE = 57, /* the address of an image isn't a multiple of 64 */
+    HYSSOP_FAULT_LAY_SECOND = 58, /* a second table of this signature */
+    HYSSOP_FAULT_LAY_NO_FADT = 59, /* no table is a FADT */
+    HYSSOP_FAULT_LAY_NO_DSDT = 60, /* no table is a DSDT */
+    HYSSOP_FAULT_LAY_NO_FACS = 61, /* no table is a FACS, and the FADT doesn't have the flag HW_REDUCED_ACPI */
+    HYSSOP_FAULT_LAY_SHORT_FADT = 62, /* the FADT has no field X_DSDT */
+    HYSSOP_FAULT_LAY_NO_SPACE = 63, /* the tables end after the last address */
     HYSSOP_FAULT_WANTS_PRINTING = 65, /* expected a character that prints */
     HYSSOP_FAULT_WANTS_SPACE = 66, /* expected a space */
     HYSSOP_FAULT_WANTS_VALUE = 67, /* expected a value */
@@ -91,7 +98,23 @@ enum hyssop_fault {
     HYSSOP_FAULT_WANTS_ONE_TABLE = 85, /* expected the end of the text, since a text is one table */
     HYSSOP_FAULT_WANTS_TABLE = 86, /* expected a table, whose fields stand in lines after white space */
     HYSSOP_FAULT_WANTS_FIELD_OF = 87, /* expected a field */
-    HYSSOP_FAULT_WANTS_ANOTHER_NUMBER = 88 /* expected another number */
+    HYSSOP_FAULT_WANTS_ANOTHER_NUMBER = 88, /* expected another number */
+    HYSSOP_FAULT_NAME_PART = 96, /* a part of a path doesn't have four bytes */
+    HYSSOP_FAULT_PATH_PARTS = 97, /* a path has more than 255 parts */
+    HYSSOP_FAULT_EISA_TEXT = 98, /* an EISA id is three letters from A to Z and four hexadecimal digits */
+    HYSSOP_FAULT_UUID_TEXT = 99, /* a UUID is 8, 4, 4, 4 and 12 hexadecimal digits between dashes */
+    HYSSOP_FAULT_ARG_NUMBER = 100, /* the number of an argument is at most 6 */
+    HYSSOP_FAULT_LOCAL_NUMBER = 101, /* the number of a local variable is at most 7 */
+    HYSSOP_FAULT_METHOD_ARGS = 102, /* a method has at most 7 arguments */
+    HYSSOP_FAULT_OBJECT_LENGTH = 103, /* a PkgLength is less than 2^28 */
+    HYSSOP_FAULT_ADDRESS_RANGE = 104, /* an address range ends before it starts, or is all of its type */
+    HYSSOP_FAULT_UNKNOWN_CHOICE = 105, /* no operator and no memory type has this number */
+    HYSSOP_FAULT_OEM_TEXT = 106, /* an OEM ID has 6 bytes, and an OEM Table ID 8 */
+    HYSSOP_FAULT_NONE_OPEN = 107, /* no object is open */
+    HYSSOP_FAULT_STILL_OPEN = 108, /* an object is still open */
+    HYSSOP_FAULT_TOO_MANY_OPEN = 109, /* at most 32 objects are open at a time */
+    HYSSOP_FAULT_WRITER_STATE = 110, /* a writer isn't as its last call left it */
+    HYSSOP_FAULT_NOT_EMPTY = 111 /* a table begins in an empty writer */
 };
 
 /* A structure of a table: its offset in the table, its type or HYSSOP_NO_KIND, and the number of its bytes. */
@@ -114,6 +137,55 @@ struct hyssop_image_table {
     uint64_t address;
     uint32_t length;
     uint8_t signature[4];
+};
+
+/* How many objects of a writer may be open at a time. */
+#define HYSSOP_DEPTH 32
+
+/* What a writer keeps. Only calls change it. */
+struct hyssop_state {
+    size_t size; /* how many bytes are written */
+    size_t depth; /* how many objects are open */
+    size_t marks[HYSSOP_DEPTH]; /* where the PkgLength of each open object goes */
+    uint32_t kinds[HYSSOP_DEPTH]; /* what closing it adds: 0 is nothing, 1 a size, 2 a size and an end tag */
+    uint32_t fault; /* the first fault, or 0 */
+};
+
+/* A writer of AML and of tables: the caller's buffer, and what is written there. */
+struct hyssop_writer {
+    uint8_t *bytes;
+    size_t bytes_size;
+    struct hyssop_state state;
+};
+
+/* How a range of memory may be cached (ACPI 6.5, 6.4.3.5.5). */
+enum hyssop_memory_type {
+    HYSSOP_MEMORY_NOT_CACHEABLE = 0,
+    HYSSOP_MEMORY_CACHEABLE = 1,
+    HYSSOP_MEMORY_WRITE_COMBINING = 2,
+    HYSSOP_MEMORY_PREFETCHABLE = 3
+};
+
+/* The operators (20.2.5), by the names of ASL in upper case. The number is the opcode (20.3). Operands follow an operator in the
+   order of 20.2.5, and its target after them. The integer 0 is no target. LNotEqual, LLessEqual and LGreaterEqual are LNOT and
+   then LEQUAL, LGREATER and LLESS. */
+enum hyssop_op {
+    HYSSOP_OP_LNOT = 0x92, HYSSOP_OP_LEQUAL = 0x93, HYSSOP_OP_LLESS = 0x95, HYSSOP_OP_LGREATER = 0x94, HYSSOP_OP_LAND = 0x90,
+    HYSSOP_OP_LOR = 0x91, HYSSOP_OP_INCREMENT = 0x75, HYSSOP_OP_DECREMENT = 0x76, HYSSOP_OP_BREAK = 0xa5,
+    HYSSOP_OP_OBJECTTYPE = 0x8e, HYSSOP_OP_SIZEOF = 0x87, HYSSOP_OP_RETURN = 0xa4, HYSSOP_OP_DEREFOF = 0x83, HYSSOP_OP_ADD = 0x72,
+    HYSSOP_OP_CONCAT = 0x73, HYSSOP_OP_SUBTRACT = 0x74, HYSSOP_OP_MULTIPLY = 0x77, HYSSOP_OP_SHIFTLEFT = 0x79,
+    HYSSOP_OP_SHIFTRIGHT = 0x7a, HYSSOP_OP_AND = 0x7b, HYSSOP_OP_NAND = 0x7c, HYSSOP_OP_OR = 0x7d, HYSSOP_OP_NOR = 0x7e,
+    HYSSOP_OP_XOR = 0x7f, HYSSOP_OP_CONCATRES = 0x84, HYSSOP_OP_MOD = 0x85, HYSSOP_OP_INDEX = 0x88, HYSSOP_OP_TOSTRING = 0x9c,
+    HYSSOP_OP_CREATEDWORDFIELD = 0x8a, HYSSOP_OP_CREATEQWORDFIELD = 0x8f, HYSSOP_OP_TOBUFFER = 0x96, HYSSOP_OP_TOINTEGER = 0x99,
+    HYSSOP_OP_STORE = 0x70, HYSSOP_OP_NOTIFY = 0x86, HYSSOP_OP_MID = 0x9e, HYSSOP_OP_ALIAS = 0x06, HYSSOP_OP_REFOF = 0x71,
+    HYSSOP_OP_DIVIDE = 0x78, HYSSOP_OP_NOT = 0x80, HYSSOP_OP_FINDSETLEFTBIT = 0x81, HYSSOP_OP_FINDSETRIGHTBIT = 0x82,
+    HYSSOP_OP_MATCH = 0x89, HYSSOP_OP_CREATEWORDFIELD = 0x8b, HYSSOP_OP_CREATEBYTEFIELD = 0x8c, HYSSOP_OP_CREATEBITFIELD = 0x8d,
+    HYSSOP_OP_TODECIMALSTRING = 0x97, HYSSOP_OP_TOHEXSTRING = 0x98, HYSSOP_OP_COPYOBJECT = 0x9d, HYSSOP_OP_CONTINUE = 0x9f,
+    HYSSOP_OP_NOOP = 0xa3, HYSSOP_OP_BREAKPOINT = 0xcc, HYSSOP_OP_CREATEFIELD = 0x5b13, HYSSOP_OP_EVENT = 0x5b02,
+    HYSSOP_OP_CONDREFOF = 0x5b12, HYSSOP_OP_LOADTABLE = 0x5b1f, HYSSOP_OP_LOAD = 0x5b20, HYSSOP_OP_STALL = 0x5b21,
+    HYSSOP_OP_SLEEP = 0x5b22, HYSSOP_OP_SIGNAL = 0x5b24, HYSSOP_OP_WAIT = 0x5b25, HYSSOP_OP_RESET = 0x5b26,
+    HYSSOP_OP_FROMBCD = 0x5b28, HYSSOP_OP_TOBCD = 0x5b29, HYSSOP_OP_UNLOAD = 0x5b2a, HYSSOP_OP_REVISION = 0x5b30,
+    HYSSOP_OP_DEBUG = 0x5b31, HYSSOP_OP_TIMER = 0x5b33, HYSSOP_OP_DATAREGION = 0x5b88
 };
 
 uint32_t hyssop_version(void);
@@ -173,6 +245,122 @@ HYSSOP_RESULT enum hyssop_fault hyssop_make_notes(const char *text, size_t text_
 /* Writes a text of the table of a signature, to begin with. */
 HYSSOP_RESULT enum hyssop_fault hyssop_template(const char *signature, size_t signature_size, char *out, size_t out_size,
                                                 size_t *size);
+
+
+/* Begins a writer, which writes into the buffer from its front on. NULL is allowed with a size of 0. All further calls are made
+   with this writer, which nothing else changes. A call that has a fault changes nothing but the writer's fault, and returns it.
+   Every later call does nothing and returns this fault, so it is enough to look at what hyssop_finish returns. Texts end with a
+   zero. NULL in place of one is a fault of the writer. No call of a writer takes memory. */
+enum hyssop_fault hyssop_begin(struct hyssop_writer *writer, void *bytes, size_t bytes_size);
+
+/* Opens a scope: objects below a name (ACPI 6.5, 20.2.5.1, DefScope). */
+enum hyssop_fault hyssop_open_scope(struct hyssop_writer *writer, const char *path);
+
+/* Opens a device (20.2.5.2, DefDevice). */
+enum hyssop_fault hyssop_open_device(struct hyssop_writer *writer, const char *path);
+
+/* Opens a thermal zone (20.2.5.2, DefThermalZone). */
+enum hyssop_fault hyssop_open_thermal_zone(struct hyssop_writer *writer, const char *path);
+
+/* Opens a power resource (20.2.5.2, DefPowerRes), with the deepest sleep level in which it stays on, and its place in their
+   order. */
+enum hyssop_fault hyssop_open_power_resource(struct hyssop_writer *writer, const char *path, uint8_t level, uint16_t order);
+
+/* Opens a method of 0 to 7 arguments (20.2.5.2, DefMethod). */
+enum hyssop_fault hyssop_open_method(struct hyssop_writer *writer, const char *path, uint8_t arguments, int serialized);
+
+/* Opens a package, in which at most so many elements follow (20.2.5.4, DefPackage). */
+enum hyssop_fault hyssop_open_package(struct hyssop_writer *writer, uint8_t elements);
+
+/* Opens statements after a predicate, which is the first object (20.2.5.3, DefIfElse). */
+enum hyssop_fault hyssop_open_if(struct hyssop_writer *writer);
+
+/* Opens the statements for the other case, after those of an If (20.2.5.3, DefElse). */
+enum hyssop_fault hyssop_open_else(struct hyssop_writer *writer);
+
+/* Opens a loop, whose predicate is the first object (20.2.5.3, DefWhile). */
+enum hyssop_fault hyssop_open_while(struct hyssop_writer *writer);
+
+/* Opens a buffer, whose bytes follow (20.2.5.4, DefBuffer). Closing it writes their number before them. */
+enum hyssop_fault hyssop_open_buffer(struct hyssop_writer *writer);
+
+/* Opens a buffer of resource descriptors, which follow (6.4). Closing it writes the end tag, too. */
+enum hyssop_fault hyssop_open_resources(struct hyssop_writer *writer);
+
+/* Closes the object that was opened last: its PkgLength gets the least width (20.2.4). */
+enum hyssop_fault hyssop_close(struct hyssop_writer *writer);
+
+/* Gives a name to the object that follows (20.2.5.1, DefName). */
+enum hyssop_fault hyssop_name(struct hyssop_writer *writer, const char *path);
+
+/* Writes a name: an operand, or a call of a method, whose arguments follow (20.2.2, NameString). */
+enum hyssop_fault hyssop_path(struct hyssop_writer *writer, const char *name);
+
+/* Writes a number in its shortest form (20.2.3). */
+enum hyssop_fault hyssop_integer(struct hyssop_writer *writer, uint64_t value);
+
+/* Writes a string of ASCII (20.2.3). */
+enum hyssop_fault hyssop_string(struct hyssop_writer *writer, const char *text);
+
+/* Writes an EISA id, such as "PNP0A08", as a number (19.3.4). */
+enum hyssop_fault hyssop_eisa_id(struct hyssop_writer *writer, const char *id);
+
+/* Writes a UUID, of 36 characters, as a buffer (19.6.142). */
+enum hyssop_fault hyssop_uuid(struct hyssop_writer *writer, const char *text);
+
+/* Writes an argument of the method, from 0 to 6 (20.2.6.1). */
+enum hyssop_fault hyssop_argument(struct hyssop_writer *writer, uint8_t number);
+
+/* Writes a local variable of the method, from 0 to 7 (20.2.6.2). */
+enum hyssop_fault hyssop_local(struct hyssop_writer *writer, uint8_t number);
+
+/* Writes an operator, a HYSSOP_OP_.., whose operands follow (20.2.5). */
+enum hyssop_fault hyssop_operator(struct hyssop_writer *writer, uint32_t code);
+
+/* Writes bytes as they are. */
+enum hyssop_fault hyssop_bytes(struct hyssop_writer *writer, const void *content, size_t content_size);
+
+/* Writes a range of ports: its least and its greatest base, their alignment, and the number of ports (6.4.2.5). */
+enum hyssop_fault hyssop_io(struct hyssop_writer *writer, uint16_t min, uint16_t max, uint8_t alignment, uint8_t length);
+
+/* Writes an interrupt (6.4.3.6). */
+enum hyssop_fault hyssop_interrupt(struct hyssop_writer *writer, int consumer, int edge_triggered, int active_low, int shared,
+                                   uint32_t number);
+
+/* Writes a range of memory at a fixed address (6.4.3.4). */
+enum hyssop_fault hyssop_memory32_fixed(struct hyssop_writer *writer, int read_write, uint32_t base, uint32_t length);
+
+/* Writes a range of bus numbers, from its first to its last (6.4.3.5). */
+enum hyssop_fault hyssop_bus_numbers(struct hyssop_writer *writer, uint16_t min, uint16_t max);
+
+/* Writes a range of ports, from its first to its last, and what a bridge adds to them (6.4.3.5). */
+enum hyssop_fault hyssop_io_range(struct hyssop_writer *writer, uint16_t min, uint16_t max, uint16_t translation);
+
+/* Writes a range of memory below 2^32: how it is cached, a HYSSOP_MEMORY_.., its first and its last address, and what a bridge
+   adds to them (6.4.3.5). */
+enum hyssop_fault hyssop_memory_range32(struct hyssop_writer *writer, uint32_t memory_type, int read_write, uint32_t min,
+                                        uint32_t max, uint32_t translation);
+
+/* Writes a range of memory with addresses of 64 bits, as hyssop_memory_range32 does. */
+enum hyssop_fault hyssop_memory_range64(struct hyssop_writer *writer, uint32_t memory_type, int read_write, uint64_t min,
+                                        uint64_t max, uint64_t translation);
+
+/* Begins a table in an empty writer with its header (5.2.6). The signature has 4 bytes, the OEM ID 6 and the OEM Table ID 8. */
+enum hyssop_fault hyssop_table(struct hyssop_writer *writer, const char *signature, uint8_t revision, const char *oem_id,
+                               const char *oem_table_id, uint32_t oem_revision);
+
+/* Ends a writer: *size is the number of the bytes that are written. It returns the first fault, or HYSSOP_FAULT_STILL_OPEN if an
+   object is open. Then *size is 0, and *place is how many bytes were written before the fault. */
+HYSSOP_RESULT enum hyssop_fault hyssop_finish(const struct hyssop_writer *writer, size_t *size, uint64_t *place);
+
+/* Ends a writer that began with hyssop_table: the table gets its length and its checksum. All else is as for hyssop_finish. */
+HYSSOP_RESULT enum hyssop_fault hyssop_finish_table(struct hyssop_writer *writer, size_t *size, uint64_t *place);
+
+/* Lays tables into an image for the physical address `base`, a multiple of 64 (5.2.5 to 5.2.10). They lie one after another in
+   `tables`, each as long as its length says: the FADT, the DSDT, the FACS, and others. The image gets an XSDT and an RSDP, whose
+   address is *rsdp. *place is which table is wrong, counted from 0. */
+HYSSOP_RESULT enum hyssop_fault hyssop_lay(const void *tables, size_t tables_size, uint64_t base, void *out, size_t out_size,
+                                           size_t *size, uint64_t *rsdp, uint64_t *place);
 
 #ifdef __cplusplus
 }

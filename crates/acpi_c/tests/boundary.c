@@ -185,6 +185,9 @@ static void try_numbers(void) {
     want(HYSSOP_FAULT_IMAGE_OUTSIDE == 48 && HYSSOP_FAULT_IMAGE_SIGNATURE == 49 && HYSSOP_FAULT_IMAGE_LENGTH == 50);
     want(HYSSOP_FAULT_IMAGE_REVISION == 51 && HYSSOP_FAULT_IMAGE_SUM == 52 && HYSSOP_FAULT_IMAGE_ENTRIES == 53);
     want(HYSSOP_FAULT_IMAGE_NO_FADT == 54 && HYSSOP_FAULT_IMAGE_SECOND_FADT == 55 && HYSSOP_FAULT_IMAGE_OVERLAP == 56);
+    want(HYSSOP_FAULT_LAY_BASE == 57 && HYSSOP_FAULT_LAY_SECOND == 58 && HYSSOP_FAULT_LAY_NO_FADT == 59);
+    want(HYSSOP_FAULT_LAY_NO_DSDT == 60 && HYSSOP_FAULT_LAY_NO_FACS == 61 && HYSSOP_FAULT_LAY_SHORT_FADT == 62);
+    want(HYSSOP_FAULT_LAY_NO_SPACE == 63);
     want(HYSSOP_FAULT_WANTS_PRINTING == 65 && HYSSOP_FAULT_WANTS_SPACE == 66);
     want(HYSSOP_FAULT_WANTS_VALUE == 67 && HYSSOP_FAULT_WANTS_DIGIT == 68 && HYSSOP_FAULT_WANTS_SECOND_DIGIT == 69);
     want(HYSSOP_FAULT_WANTS_QUOTATION_MARK == 70 && HYSSOP_FAULT_WANTS_QUESTION_MARK == 71);
@@ -194,6 +197,12 @@ static void try_numbers(void) {
     want(HYSSOP_FAULT_WANTS_END == 81 && HYSSOP_FAULT_WANTS_STRUCTURE == 82 && HYSSOP_FAULT_WANTS_WIDTH == 83);
     want(HYSSOP_FAULT_WANTS_WHOLE == 84 && HYSSOP_FAULT_WANTS_ONE_TABLE == 85 && HYSSOP_FAULT_WANTS_TABLE == 86);
     want(HYSSOP_FAULT_WANTS_FIELD_OF == 87 && HYSSOP_FAULT_WANTS_ANOTHER_NUMBER == 88);
+    want(HYSSOP_FAULT_NAME_PART == 96 && HYSSOP_FAULT_PATH_PARTS == 97 && HYSSOP_FAULT_EISA_TEXT == 98);
+    want(HYSSOP_FAULT_UUID_TEXT == 99 && HYSSOP_FAULT_ARG_NUMBER == 100 && HYSSOP_FAULT_LOCAL_NUMBER == 101);
+    want(HYSSOP_FAULT_METHOD_ARGS == 102 && HYSSOP_FAULT_OBJECT_LENGTH == 103 && HYSSOP_FAULT_ADDRESS_RANGE == 104);
+    want(HYSSOP_FAULT_UNKNOWN_CHOICE == 105 && HYSSOP_FAULT_OEM_TEXT == 106 && HYSSOP_FAULT_NONE_OPEN == 107);
+    want(HYSSOP_FAULT_STILL_OPEN == 108 && HYSSOP_FAULT_TOO_MANY_OPEN == 109 && HYSSOP_FAULT_WRITER_STATE == 110);
+    want(HYSSOP_FAULT_NOT_EMPTY == 111);
 }
 
 /* NULL stands for no bytes and for results that aren't asked for. With a size it is a fault. */
@@ -567,6 +576,10 @@ static void try_random(const uint8_t *table, size_t count) {
     }
 }
 
+/* ---- writers */
+
+#include "writers.h"
+
 /* ---- refused memory */
 
 static uint32_t refusals;
@@ -609,6 +622,10 @@ static void try_memory(void) {
     tell("disassemble", number, MOST);
     while (is_refused(number = block(hyssop_names, table, count, "", 0, MOST))) {}
     tell("names", number, MOST);
+    uint64_t rsdp = 0;
+    build_tables(table);
+    while (is_refused(number = lay(table, all_tables, 0x40000, MOST, &rsdp))) {}
+    tell("lay", number, MOST);
 }
 
 static size_t read_file(const char *path, uint8_t *bytes) {
@@ -639,6 +656,7 @@ int main(int count, char **files) {
     try_empty();
     try_template();
     try_arguments();
+    try_writers();
     size_t length = read_file(files[1], bytes);
     try_image(bytes, length, strtoull(files[2], NULL, 16), strtoull(files[3], NULL, 16));
     for (int i = 4; i < count; i++) {

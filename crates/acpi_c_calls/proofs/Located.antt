@@ -1,5 +1,5 @@
 -- The tables of an image that was checked.
-use Rattle.std.proofs.Common.{◌≡◌, ◌≢◌, ℕ, List, Result, Ok, Err, IfOk, IfErr, map, refl}
+use Rattle.std.proofs.Common.{◌≡◌, ℕ, List, Result, Ok, Err, IfOk, IfErr, map, refl}
 use Rattle.acpi_layout.specs.Found.{IsImage}
 use Rattle.acpi_layout.specs.declared.fault.ImageFault.TheVariants.{Memory}
 use Rattle.acpi_layout.specs.declared.located.Located.{Located}

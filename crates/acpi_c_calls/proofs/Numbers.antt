@@ -12,7 +12,7 @@ use Rattle.acpi_c_calls.specs.declared.refused.Refused.{Refused}
 numbers : NumbersDiffer
 numbers f = search rules
 
-no_zero : (f : Fault) → 0 ≡ number_of f → ⊥
+pub no_zero : (f : Fault) → 0 ≡ number_of f → ⊥
 no_zero f is = let one = (numbers f).0 in absurd (omega (arith, one, is))
 
 fine_of : (fact : Type 0) (why : Refused → Type 0) (outcome : Result (Unit {0}) Refused) (place : ℕ)

@@ -1,8 +1,10 @@
--- What can be wrong, by numbers that stay. The words of an error of reading are those of `acpi_term`, and the words of a fault
--- of a text are those of `acpi_make`.
-use Rattle.std.specs.Prelude.{ℕ, ◌==◌, if◌then◌else◌, List, [], ◌∷◌, ◌++◌, Option, Some, codes}
+-- What can be wrong, by numbers that stay. The words of an error of reading are those of `acpi_term`, those of a fault of a text
+-- are those of `acpi_make`, and those of an error of writing are those of `acpi_base`.
+use Rattle.std.specs.Prelude.{ℕ, ◌==◌, if◌then◌else◌, List, [], ◌∷◌, ◌++◌, Option, Some, None, codes}
 use Rattle.std.specs.List.{find}
 use Rattle.std.specs.Option.{option_map}
+use Rattle.acpi_base.specs.Error.{text_of}
+use Rattle.acpi_base.specs.declared.error.Error.TheVariants as writing
 use Rattle.acpi_term.specs.ReadError.{message_of}
 use Rattle.acpi_term.specs.declared.read_error.ReadError.TheVariants as errors
 use Rattle.acpi_make.specs.Fault as texts
@@ -51,6 +53,13 @@ facts fault.ImageEntries = known 53 (codes "the XSDT doesn't end after a whole e
 facts fault.ImageNoFadt = known 54 (codes "the XSDT lists no FADT")
 facts fault.ImageSecondFadt = known 55 (codes "the XSDT lists a second FADT")
 facts fault.ImageOverlap = known 56 (codes "two tables overlap")
+facts fault.LayBase = known 57 (codes "the address of an image isn't a multiple of 64")
+facts fault.LaySecond = known 58 (codes "a second table of this signature")
+facts fault.LayNoFadt = known 59 (codes "no table is a FADT")
+facts fault.LayNoDsdt = known 60 (codes "no table is a DSDT")
+facts fault.LayNoFacs = known 61 (codes "no table is a FACS, and the FADT doesn't have the flag HW_REDUCED_ACPI")
+facts fault.LayShortFadt = known 62 (codes "the FADT has no field X_DSDT")
+facts fault.LayNoSpace = known 63 (codes "the tables end after the last address")
 facts fault.WantsPrinting = known 65 (expected wanted.Printing)
 facts fault.WantsSpace = known 66 (expected wanted.Space)
 facts fault.WantsValue = known 67 (expected wanted.Value)
@@ -75,6 +84,22 @@ facts fault.WantsOneTable = known 85 (expected wanted.OneTable)
 facts fault.WantsTable = known 86 (expected wanted.Table)
 facts fault.WantsFieldOf = known 87 (expected wanted.FieldOf)
 facts fault.WantsAnotherNumber = known 88 (expected wanted.AnotherNumber)
+facts fault.NamePart = known 96 (text_of writing.NamePart)
+facts fault.PathParts = known 97 (text_of writing.PathParts)
+facts fault.EisaText = known 98 (text_of writing.EisaText)
+facts fault.UuidText = known 99 (text_of writing.UuidText)
+facts fault.ArgNumber = known 100 (text_of writing.ArgNumber)
+facts fault.LocalNumber = known 101 (text_of writing.LocalNumber)
+facts fault.MethodArgs = known 102 (text_of writing.MethodArgs)
+facts fault.ObjectLength = known 103 (text_of writing.PkgLength)
+facts fault.AddressRange = known 104 (text_of writing.AddressRange)
+facts fault.UnknownChoice = known 105 (codes "no operator and no memory type has this number")
+facts fault.OemText = known 106 (codes "an OEM ID has 6 bytes, and an OEM Table ID 8")
+facts fault.NoneOpen = known 107 (codes "no object is open")
+facts fault.StillOpen = known 108 (codes "an object is still open")
+facts fault.TooManyOpen = known 109 (codes "at most 32 objects are open at a time")
+facts fault.WriterState = known 110 (codes "a writer isn't as its last call left it")
+facts fault.NotEmpty = known 111 (codes "a table begins in an empty writer")
 
 abbrev pub number_of : Fault → ℕ
 number_of f = (facts f).number
@@ -82,22 +107,37 @@ number_of f = (facts f).number
 abbrev pub words : Fault → List ℕ
 words f = (facts f).words
 
-abbrev pub faults : List Fault
-faults =
+-- those of tables, AML and images
+abbrev pub first_faults : List Fault
+first_faults =
     fault.Memory ∷ fault.Buffer ∷ fault.UnknownNumber ∷ fault.Arities ∷ fault.Signature ∷ fault.Null ∷ fault.ShortHeader ∷
-    fault.TableLength ∷ fault.Sum ∷ fault.Structure ∷ fault.Count ∷ fault.UnknownSource ∷ fault.NoBlock ∷
-    fault.Truncated ∷ fault.Opcode ∷ fault.PkgLength ∷ fault.Number ∷ fault.Flags ∷ fault.Text ∷ fault.TooDeep ∷
-    fault.ImageOutside ∷ fault.ImageSignature ∷ fault.ImageLength ∷ fault.ImageRevision ∷ fault.ImageSum ∷ fault.ImageEntries ∷
-    fault.ImageNoFadt ∷ fault.ImageSecondFadt ∷ fault.ImageOverlap ∷ fault.WantsPrinting ∷ fault.WantsSpace ∷
-    fault.WantsValue ∷ fault.WantsDigit ∷ fault.WantsSecondDigit ∷ fault.WantsQuotationMark ∷ fault.WantsQuestionMark ∷
-    fault.WantsSlash ∷ fault.WantsBrace ∷ fault.WantsField ∷ fault.WantsName ∷ fault.WantsNumber ∷ fault.WantsLabel ∷
-    fault.WantsBytes ∷ fault.WantsNext ∷ fault.WantsNameless ∷ fault.WantsEnd ∷ fault.WantsStructure ∷
-    fault.WantsWidth ∷ fault.WantsWhole ∷ fault.WantsOneTable ∷ fault.WantsTable ∷ fault.WantsFieldOf ∷
-    fault.WantsAnotherNumber ∷ []
+    fault.TableLength ∷ fault.Sum ∷ fault.Structure ∷ fault.Count ∷ fault.UnknownSource ∷ fault.NoBlock ∷ fault.Truncated ∷
+    fault.Opcode ∷ fault.PkgLength ∷ fault.Number ∷ fault.Flags ∷ fault.Text ∷ fault.TooDeep ∷ fault.ImageOutside ∷
+    fault.ImageSignature ∷ fault.ImageLength ∷ fault.ImageRevision ∷ fault.ImageSum ∷ fault.ImageEntries ∷ fault.ImageNoFadt ∷
+    fault.ImageSecondFadt ∷ fault.ImageOverlap ∷ fault.LayBase ∷ fault.LaySecond ∷ fault.LayNoFadt ∷ fault.LayNoDsdt ∷
+    fault.LayNoFacs ∷ fault.LayShortFadt ∷ fault.LayNoSpace ∷ []
+
+-- those of texts and writers
+abbrev pub later_faults : List Fault
+later_faults =
+    fault.WantsPrinting ∷ fault.WantsSpace ∷ fault.WantsValue ∷ fault.WantsDigit ∷ fault.WantsSecondDigit ∷
+    fault.WantsQuotationMark ∷ fault.WantsQuestionMark ∷ fault.WantsSlash ∷ fault.WantsBrace ∷ fault.WantsField ∷
+    fault.WantsName ∷ fault.WantsNumber ∷ fault.WantsLabel ∷ fault.WantsBytes ∷ fault.WantsNext ∷ fault.WantsNameless ∷
+    fault.WantsEnd ∷ fault.WantsStructure ∷ fault.WantsWidth ∷ fault.WantsWhole ∷ fault.WantsOneTable ∷ fault.WantsTable ∷
+    fault.WantsFieldOf ∷ fault.WantsAnotherNumber ∷ fault.NamePart ∷ fault.PathParts ∷ fault.EisaText ∷ fault.UuidText ∷
+    fault.ArgNumber ∷ fault.LocalNumber ∷ fault.MethodArgs ∷ fault.ObjectLength ∷ fault.AddressRange ∷ fault.UnknownChoice ∷
+    fault.OemText ∷ fault.NoneOpen ∷ fault.StillOpen ∷ fault.TooManyOpen ∷ fault.WriterState ∷ fault.NotEmpty ∷ []
+
+abbrev pub fault_among : List Fault → ℕ → Option Fault
+fault_among faults n = find (λ f. number_of f == n) faults
+
+abbrev pub or_else : Option Fault → Option Fault → Option Fault
+or_else (Some f) other = Some f
+or_else None other = other
 
 -- the fault of a number
 abbrev pub fault_of : ℕ → Option Fault
-fault_of n = find (λ f. number_of f == n) faults
+fault_of n = or_else (fault_among first_faults n) (fault_among later_faults n)
 
 -- the words of a number: those of its fault, and `fine` of 0
 abbrev pub words_of : ℕ → Option (List ℕ)

@@ -11,4 +11,13 @@ pub mod Make
 pub mod Notes
 pub mod Names
 pub mod Seal
+pub mod Writer
+pub mod Held
+pub mod Path
+pub mod Leaf
+pub mod Resource
+pub mod Finish
+pub mod Begin
+pub mod Nested
+pub mod Lay
 pub mod Laws

@@ -2,7 +2,7 @@
 
 ghost use Rattle.std.specs.Prelude.{◌≡◌};
 ghost use Rattle.std.specs.Option.{option_map};
-ghost use Rattle.acpi_c_calls.specs.Fault.{number_of, words, fault_of, words_of};
+ghost use Rattle.acpi_c_calls.specs.Fault.{number_of, words, first_faults, later_faults, fault_among, fault_of, words_of};
 
 /// What is wrong. A number is never given to another fault.
 #[derive(Clone, Copy, Debug, PartialEq, Eq)]
@@ -36,6 +36,13 @@ pub enum Fault {
     ImageNoFadt,
     ImageSecondFadt,
     ImageOverlap,
+    LayBase,
+    LaySecond,
+    LayNoFadt,
+    LayNoDsdt,
+    LayNoFacs,
+    LayShortFadt,
+    LayNoSpace,
     WantsPrinting,
     WantsSpace,
     WantsValue,
@@ -60,9 +67,25 @@ pub enum Fault {
     WantsTable,
     WantsFieldOf,
     WantsAnotherNumber,
+    NamePart,
+    PathParts,
+    EisaText,
+    UuidText,
+    ArgNumber,
+    LocalNumber,
+    MethodArgs,
+    ObjectLength,
+    AddressRange,
+    UnknownChoice,
+    OemText,
+    NoneOpen,
+    StillOpen,
+    TooManyOpen,
+    WriterState,
+    NotEmpty,
 }
 
-/// Every fault: its number and its words.
+/// Every fault: its number and its words. Those of texts and writers come after those of tables, AML and images.
 macro_rules! faults {
     ($wanted:ident of $subject:expr) => {
         look_up! { $wanted $subject;
@@ -95,6 +118,14 @@ macro_rules! faults {
             ImageNoFadt 54 "the XSDT lists no FADT"
             ImageSecondFadt 55 "the XSDT lists a second FADT"
             ImageOverlap 56 "two tables overlap"
+            LayBase 57 "the address of an image isn't a multiple of 64"
+            LaySecond 58 "a second table of this signature"
+            LayNoFadt 59 "no table is a FADT"
+            LayNoDsdt 60 "no table is a DSDT"
+            LayNoFacs 61 "no table is a FACS, and the FADT doesn't have the flag HW_REDUCED_ACPI"
+            LayShortFadt 62 "the FADT has no field X_DSDT"
+            LayNoSpace 63 "the tables end after the last address"
+            ;
             WantsPrinting 65 "expected a character that prints"
             WantsSpace 66 "expected a space"
             WantsValue 67 "expected a value"
@@ -119,25 +150,53 @@ macro_rules! faults {
             WantsTable 86 "expected a table, whose fields stand in lines after white space"
             WantsFieldOf 87 "expected a field"
             WantsAnotherNumber 88 "expected another number"
+            NamePart 96 "a part of a path doesn't have four bytes"
+            PathParts 97 "a path has more than 255 parts"
+            EisaText 98 "an EISA id is three letters from A to Z and four hexadecimal digits"
+            UuidText 99 "a UUID is 8, 4, 4, 4 and 12 hexadecimal digits between dashes"
+            ArgNumber 100 "the number of an argument is at most 6"
+            LocalNumber 101 "the number of a local variable is at most 7"
+            MethodArgs 102 "a method has at most 7 arguments"
+            ObjectLength 103 "a PkgLength is less than 2^28"
+            AddressRange 104 "an address range ends before it starts, or is all of its type"
+            UnknownChoice 105 "no operator and no memory type has this number"
+            OemText 106 "an OEM ID has 6 bytes, and an OEM Table ID 8"
+            NoneOpen 107 "no object is open"
+            StillOpen 108 "an object is still open"
+            TooManyOpen 109 "at most 32 objects are open at a time"
+            WriterState 110 "a writer isn't as its last call left it"
+            NotEmpty 111 "a table begins in an empty writer"
         }
     };
 }
 
 /// Selects a column of these rows.
 macro_rules! look_up {
-    (number $fault:expr; $($name:ident $number:literal $words:literal)*) => {
+    (number $fault:expr; $($name:ident $number:literal $words:literal)*
+        ; $($later:ident $value:literal $text:literal)*) => {
         match $fault {
             $(Fault::$name => $number,)*
+            $(Fault::$later => $value,)*
         }
     };
-    (words $fault:expr; $($name:ident $number:literal $words:literal)*) => {
+    (words $fault:expr; $($name:ident $number:literal $words:literal)*
+        ; $($later:ident $value:literal $text:literal)*) => {
         match $fault {
             $(Fault::$name => $words,)*
+            $(Fault::$later => $text,)*
         }
     };
-    (fault $number:expr; $($name:ident $value:literal $words:literal)*) => {
-        match $number {
-            $($value => Some(Fault::$name),)*
+    (first $found:expr; $($name:ident $number:literal $words:literal)*
+        ; $($later:ident $value:literal $text:literal)*) => {
+        match $found {
+            $($number => Some(Fault::$name),)*
+            _ => None,
+        }
+    };
+    (later $found:expr; $($name:ident $number:literal $words:literal)*
+        ; $($later:ident $value:literal $text:literal)*) => {
+        match $found {
+            $($value => Some(Fault::$later),)*
             _ => None,
         }
     };
@@ -162,7 +221,24 @@ impl Fault {
     pub fn of_number(number: u32) -> Option<Fault>
         ensures { result ≡ fault_of number }
     {
-        faults!(fault of number)
+        match Fault::first(number) {
+            Some(fault) => Some(fault),
+            None => Fault::later(number),
+        }
+    }
+
+    // The fault of a number, if it is one of tables, AML and images.
+    fn first(number: u32) -> Option<Fault>
+        ensures { result ≡ fault_among first_faults number }
+    {
+        faults!(first of number)
+    }
+
+    // The fault of a number, if it is one of texts and writers.
+    fn later(number: u32) -> Option<Fault>
+        ensures { result ≡ fault_among later_faults number }
+    {
+        faults!(later of number)
     }
 }
 

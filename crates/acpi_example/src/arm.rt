@@ -12,12 +12,13 @@ use crate::arm::platform::{
     timers,
 };
 use crate::oem::{OEM_ID, OEM_REVISION, OEM_TABLE_ID};
+use acpi_build::error::BuildError;
+use acpi_tables::Aml;
 use acpi_tables::layout::{Image, lay_reduced};
-use acpi_tables::{Aml, R};
 use std::alloc::Global;
 
 /// The image of the machine's tables, which has no FACS. It begins at a physical address that is a multiple of 64.
-pub fn reduced_image(alloc: Global, base: u64) -> R<Image>
+pub fn reduced_image(alloc: Global, base: u64) -> Result<Image, BuildError>
     requires unit { base % 64 ≡ 0 }
 {
     let namespace = namespace_block(alloc)?;
@@ -35,7 +36,7 @@ pub fn reduced_image(alloc: Global, base: u64) -> R<Image>
         &spaces,
         &remapping,
     ]?;
-    lay_reduced(
+    Ok(lay_reduced(
         base,
         OEM_ID,
         OEM_TABLE_ID,
@@ -43,5 +44,5 @@ pub fn reduced_image(alloc: Global, base: u64) -> R<Image>
         &namespace,
         no_fixed_hardware(),
         tables,
-    )
+    )?)
 }

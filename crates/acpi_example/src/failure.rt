@@ -2,6 +2,7 @@
 
 ghost use Rattle.std.specs.Prelude.{◌≡◌};
 
+use acpi_build::error::BuildError;
 use acpi_tables::Error as TableError;
 use acpi_tables::layout::ImageFault;
 use std::io;
@@ -39,6 +40,12 @@ pub enum Failure {
     Table {
         name: &'static str,
         error: TableError,
+    },
+    /// A definition block of this name, or the image, wasn't built.
+    #[error("{name}: {error}")]
+    Block {
+        name: &'static str,
+        error: BuildError,
     },
     /// The image has a fault.
     #[error("image: {0}")]

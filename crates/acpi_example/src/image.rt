@@ -9,13 +9,14 @@ use crate::namespace::namespace_block;
 use crate::oem::{OEM_ID, OEM_REVISION, OEM_TABLE_ID};
 use crate::platform::{affinities, configuration_space, interrupt_controllers};
 use crate::topology::topology;
+use acpi_build::error::BuildError;
+use acpi_tables::Aml;
 use acpi_tables::facs::FACS;
 use acpi_tables::layout::{Image, lay};
-use acpi_tables::{Aml, R};
 use std::alloc::Global;
 
 /// The image of the machine's tables. It begins at a physical address that is a multiple of 64.
-pub fn image(alloc: Global, base: u64) -> R<Image>
+pub fn image(alloc: Global, base: u64) -> Result<Image, BuildError>
     requires unit { base % 64 ≡ 0 }
     requires room { base + BYTES_FROM_BASE ≤ 2 ^ 64 }
 {
@@ -38,7 +39,7 @@ pub fn image(alloc: Global, base: u64) -> R<Image>
         &sources,
         &boot_errors,
     ]?;
-    lay(
+    Ok(lay(
         base,
         OEM_ID,
         OEM_TABLE_ID,
@@ -47,5 +48,5 @@ pub fn image(alloc: Global, base: u64) -> R<Image>
         &FACS::new(),
         fixed_hardware(),
         tables,
-    )
+    )?)
 }

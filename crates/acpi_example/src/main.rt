@@ -31,7 +31,9 @@ use crate::namespace::namespace_block;
 use crate::platform::{affinities, configuration_space, interrupt_controllers};
 use crate::table::package_block;
 use crate::topology::topology;
+use acpi_build::error::BuildError;
 use acpi_tables::layout::{Image, check_image};
+use acpi_tables::sdt::Sdt;
 use acpi_tables::{Aml, R};
 use std::alloc::Global;
 use std::io::Print;
@@ -133,7 +135,7 @@ fn existing(rt: &impl Files, folder: String) -> Result<String, Failure> {
 // Definition blocks, and the tables of processors and fixed hardware.
 fn save_machine(rt: &impl Files, alloc: Global, folder: &str) -> Result<(), Failure> {
     save(rt, alloc, folder, "package", package_block(alloc))?;
-    save(rt, alloc, folder, "namespace", namespace_block(alloc))?;
+    save_block(rt, alloc, folder, namespace_block(alloc))?;
     save(rt, alloc, folder, "fadt", Ok(fixed_hardware().finalize()))?;
     save(rt, alloc, folder, "madt", interrupt_controllers(alloc))?;
     save(rt, alloc, folder, "pptt", topology(alloc, PROCESSORS))
@@ -157,7 +159,7 @@ fn save_errors(rt: &impl Files, alloc: Global, folder: &str, base: u64) -> Resul
 
 // The definition block of an Arm machine, and the tables of its fixed hardware, interrupts and timers.
 fn save_arm_machine(rt: &impl Files, alloc: Global, folder: &str) -> Result<(), Failure> {
-    save(rt, alloc, folder, "namespace", arm_namespace_block(alloc))?;
+    save_block(rt, alloc, folder, arm_namespace_block(alloc))?;
     save(
         rt,
         alloc,
@@ -194,16 +196,28 @@ fn save<T: Aml + Drop>(
     write_file(rt, alloc, folder, name, &bytes)
 }
 
+// Writes the namespace to a file of the folder.
+fn save_block(
+    rt: &impl Files,
+    alloc: Global,
+    folder: &str,
+    made: Result<Sdt, BuildError>,
+) -> Result<(), Failure> {
+    let name = "namespace";
+    let table = made.map_err(|error| Failure::Block { name, error })?;
+    write_file(rt, alloc, folder, name, table.as_slice())
+}
+
 // Checks the image, writes it to a file of the folder, and prints the addresses of its first byte and of its RSDP.
 fn save_image(
     rt: &(impl Files + Print),
     alloc: Global,
     folder: &str,
     base: u64,
-    made: R<Image>,
+    made: Result<Image, BuildError>,
 ) -> Result<(), Failure> {
     let name = "image";
-    let image = made.map_err(|error| Failure::Table { name, error })?;
+    let image = made.map_err(|error| Failure::Block { name, error })?;
     check_image(alloc, &image.bytes, base, image.rsdp).map_err(Failure::Image)?;
     write_file(rt, alloc, folder, name, &image.bytes)?;
     println!(rt; "base {base:#x} RSDP {:#x}", image.rsdp).map_err(|error| Failure::System {

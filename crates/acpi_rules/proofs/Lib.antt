@@ -1,4 +1,5 @@
 mod Found
 mod Structures
+mod Entries
 mod Shown
 mod Differences

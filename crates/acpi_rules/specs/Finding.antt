@@ -3,8 +3,8 @@ use Rattle.std.specs.Prelude.{ℕ, List}
 use Rattle.acpi_rules.specs.declared.finding.Finding.{Finding as FindingData}
 use Rattle.acpi_rules.specs.declared.finding.Rule.{Rule}
 
--- The rule, the section of the standard that has it, the field's offset in the table, its name and its bytes, and the numbers of
--- which the rule speaks.
+-- The rule, the section of the standard that has it, the field's offset in the table, its name and its bytes, and the numbers and
+-- the other field of which the rule speaks.
 pub record Finding : Type 0 where
   pub rule : Rule
   pub section : List ℕ
@@ -13,6 +13,7 @@ pub record Finding : Type 0 where
   pub bytes : List ℕ
   pub number : ℕ
   pub most : ℕ
+  pub other : List ℕ
 
 abbrev pub noted : FindingData → Finding
 noted f = record {
@@ -23,4 +24,5 @@ noted f = record {
   bytes = f.bytes.now;
   number = f.number;
   most = f.most;
+  other = f.other.now;
 }

@@ -2,6 +2,14 @@ pub mod Field
 pub mod Finding
 pub mod Rules
 pub mod Line
+pub mod Demand
+pub mod Item
+pub mod Related
+pub mod Apart
+pub mod Order
+pub mod Matrix
+pub mod Reference
+pub mod Relation
 pub mod Standard
 pub mod Laws
 pub mod Difference

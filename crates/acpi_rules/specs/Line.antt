@@ -9,6 +9,8 @@ use Rattle.acpi_text.specs.Note.{trimmed}
 use Rattle.acpi_rules.specs.Finding.{Finding}
 use Rattle.acpi_rules.specs.declared.finding.Rule.{Rule}
 use Rattle.acpi_rules.specs.declared.finding.Rule.TheVariants.{ReservedBytes, ReservedBits, ReservedValue, StructureLength, Range}
+use Rattle.acpi_rules.specs.declared.finding.Rule.TheVariants.{Unique, Overlap, AtMost, NoOverflow, Count, Pair, Required, Reference}
+use Rattle.acpi_rules.specs.declared.finding.Rule.TheVariants.{Distance, Needs, Multiple}
 
 -- the tables that ACPI 6.5 defines; another standard defines each other table
 abbrev pub standard_tables : List (List ℕ)
@@ -36,6 +38,17 @@ rule_name ReservedBits = codes "reserved-bits"
 rule_name ReservedValue = codes "reserved-value"
 rule_name StructureLength = codes "structure-length"
 rule_name Range = codes "range"
+rule_name Unique = codes "unique"
+rule_name Overlap = codes "overlap"
+rule_name AtMost = codes "at-most"
+rule_name NoOverflow = codes "no-overflow"
+rule_name Count = codes "count"
+rule_name Pair = codes "pair"
+rule_name Required = codes "required"
+rule_name Needs = codes "needs"
+rule_name Multiple = codes "multiple"
+rule_name Reference = codes "reference"
+rule_name Distance = codes "distance"
 
 -- a number in hexadecimal: two digits for each byte, from the highest that isn't zero
 abbrev pub hex_text : ℕ → List ℕ
@@ -55,13 +68,32 @@ range_text least most =
     if least == most then one_text least
     else codes " has to be from " ++ decimal least ++ codes " to " ++ decimal most
 
+-- what a finding on two fields says of the bytes of its field
+abbrev pub pair_text : Rule → ℕ → ℕ → List ℕ → List ℕ
+pair_text Pair number most other = codes " isn't " ++ label other ++ codes ", which is " ++ decimal number
+pair_text Required number most other = codes " and " ++ label other ++ codes " are zero"
+pair_text Needs number most other = codes " needs " ++ label other ++ codes ", which is zero"
+pair_text AtMost number most other = codes " is above " ++ label other ++ codes ", which is " ++ decimal number
+pair_text NoOverflow number most other = codes " with " ++ label other ++ codes ", which is too long"
+pair_text rule number most other = range_text number most
+
+-- what a finding on several fields says of the bytes of its field
+abbrev pub relates_text : Rule → ℕ → ℕ → List ℕ → List ℕ
+relates_text Unique number most other = codes ": also at " ++ decimal number
+relates_text Overlap number most other =
+    codes " up to " ++ label other ++ codes ": also at " ++ decimal number
+relates_text Count number most other = codes " in " ++ decimal most ++ codes " bytes"
+relates_text Multiple number most other = codes " isn't n * " ++ decimal number
+relates_text Reference number most other = codes " isn't the " ++ label other ++ codes " of such a structure"
+relates_text rule number most other = pair_text rule number most other
+
 -- what a finding says of the bytes of its field
-abbrev pub says : Rule → ℕ → ℕ → List ℕ
-says ReservedBytes number most = codes " isn't zero"
-says ReservedBits number most = codes " has the reserved bits " ++ hex_text number
-says ReservedValue number most = reserved_text number
-says StructureLength number most = one_text number
-says Range number most = range_text number most
+abbrev pub says : Rule → ℕ → ℕ → List ℕ → List ℕ
+says ReservedBytes number most other = codes " isn't zero"
+says ReservedBits number most other = codes " has the reserved bits " ++ hex_text number
+says ReservedValue number most other = reserved_text number
+says StructureLength number most other = one_text number
+says rule number most other = relates_text rule number most other
 
 -- the field of a finding, and its bytes
 abbrev pub field_text : Finding → List ℕ
@@ -73,4 +105,4 @@ source_text f = codes " (" ++ f.section ++ codes ") [" ++ rule_name f.rule ++ co
 
 -- a finding in a table of a signature
 abbrev pub finding_text : List ℕ → Finding → List ℕ
-finding_text signature f = severity signature ++ field_text f ++ says f.rule f.number f.most ++ source_text f
+finding_text signature f = severity signature ++ field_text f ++ says f.rule f.number f.most f.other ++ source_text f

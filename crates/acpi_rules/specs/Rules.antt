@@ -59,6 +59,7 @@ breaks rule section number most field = record {
   bytes = field.bytes;
   number = number;
   most = most;
+  other = [];
 } ∷ []
 
 -- the sections on reserved bits, on reserved values, and on tables and their structures

@@ -1,11 +1,19 @@
 -- The numbers that the standard allows, and the findings of a table.
-use Rattle.std.specs.Prelude.{ℕ, List, [], ◌∷◌, Option, codes}
+use Rattle.std.specs.Prelude.{ℕ, List, [], ◌∷◌, ◌++◌, Option, codes}
 use Prim.Native.String.{String}
-use Rattle.acpi_base.specs.declared.walk.Place.TheVariants.{Nowhere, Byte, DWord}
+use Rattle.acpi_base.specs.declared.walk.Place.TheVariants.{Nowhere, Byte, Word, DWord}
 use Rattle.acpi_base.specs.declared.walk.Walk.{Walk}
+use Rattle.acpi_text.specs.declared.form.Count.TheVariants.{Field}
 use Rattle.acpi_text.specs.declared.form.TableForm.{TableForm}
+use Rattle.acpi_rules.specs.declared.demand.Of.{Of}
+use Rattle.acpi_rules.specs.declared.demand.Of.TheVariants.{Whole, Each, Kind, Entries}
+use Rattle.acpi_rules.specs.declared.demand.When.{When}
+use Rattle.acpi_rules.specs.declared.demand.When.TheVariants.{Always, Is, Not}
+use Rattle.acpi_rules.specs.Demand.{Spot, Demand, Relation, differs, apart, at_most, addresses, counts, agrees, needed, needs}
+use Rattle.acpi_rules.specs.Demand.{between, multiple, points, refers, distances}
 use Rattle.acpi_rules.specs.Field.{table_fields}
 use Rattle.acpi_rules.specs.Finding.{Finding}
+use Rattle.acpi_rules.specs.Relation.{relations_findings}
 use Rattle.acpi_rules.specs.Rules.{Allowed, Limit, fields_findings}
 
 abbrev pub allow : String → ℕ → String → ℕ → ℕ → Allowed
@@ -108,6 +116,268 @@ ranges =
     ∷ always "GTDT" 0 "GT Frame Number" 0 7 "ACPI 6.5, 5.2.25.1"
     ∷ []
 
--- the rules that a table breaks, by its form and its walk
+abbrev pub spot : ℕ → ℕ → String → Spot
+spot offset width name = record { offset = offset; width = width; name = codes name }
+
+abbrev pub rule : String → Of → When → Spot → Demand → String → Relation
+rule table of when spot demand section = record {
+  table = codes table;
+  among = record { of = of; when = when };
+  spot = spot;
+  demand = demand;
+  section = codes section;
+}
+
+-- ---- rules on several fields
+
+-- Numbers and addresses that no two structures of a MADT have.
+unfoldable pub numbered : List Relation
+numbered =
+    rule "APIC" (Kind 0) (Is (DWord 4) 1 1) (spot 2 1 "ACPI Processor UID") differs "ACPI 6.5, 5.2.12.2"
+    ∷ rule "APIC" (Kind 0) (Is (DWord 4) 1 1) (spot 3 1 "APIC ID") differs "ACPI 6.5, 5.2.12.2"
+    ∷ rule "APIC" (Kind 1) Always (spot 2 1 "I/O APIC ID") differs "ACPI 6.5, 5.2.12.3"
+    ∷ rule "APIC" (Kind 1) Always (spot 4 4 "I/O APIC Address") differs "ACPI 6.5, 5.2.12.3"
+    ∷ rule "APIC" (Kind 1) Always (spot 8 4 "Global System Interrupt Base") differs "ACPI 6.5, 5.2.12.3"
+    ∷ rule "APIC" (Kind 6) Always (spot 4 4 "Global System Interrupt Base") differs "ACPI 6.5, 5.2.12.9"
+    ∷ rule "APIC" (Kind 6) Always (spot 8 8 "I/O SAPIC Address") differs "ACPI 6.5, 5.2.12.9"
+    ∷ rule "APIC" (Kind 7) (Is (DWord 8) 1 1) (spot 3 2 "Local SAPIC ID") differs "ACPI 6.5, 5.2.12.10"
+    ∷ rule "APIC" (Kind 9) (Is (DWord 8) 1 1) (spot 4 4 "X2APIC ID") differs "ACPI 6.5, 5.2.12.12"
+    ∷ rule "APIC" (Kind 9) (Is (DWord 8) 1 1) (spot 12 4 "ACPI Processor UID") differs "ACPI 6.5, 5.2.12.12"
+    ∷ rule "APIC" (Kind 11) (Is (DWord 12) 1 1) (spot 8 4 "ACPI Processor UID") differs "ACPI 6.5, 5.2.12.14"
+    ∷ rule "APIC" (Kind 11) (Is (DWord 12) 1 1) (spot 68 8 "MPIDR") differs "ACPI 6.5, 5.2.12.14"
+    ∷ rule "APIC" (Kind 13) Always (spot 4 4 "GIC MSI Frame ID") differs "ACPI 6.5, 5.2.12.16"
+    ∷ rule "APIC" (Kind 15) Always (spot 4 4 "GIC ITS ID") differs "ACPI 6.5, 5.2.12.18"
+    ∷ rule "APIC" (Kind 17) (Is (DWord 11) 1 1) (spot 3 4 "ACPI Processor ID") differs "ACPI 6.5, 5.2.12.20"
+    ∷ rule "APIC" (Kind 17) (Is (DWord 11) 1 1) (spot 7 4 "Physical Processor ID") differs "ACPI 6.5, 5.2.12.20"
+    ∷ rule "APIC" (Kind 24) (Is (DWord 4) 1 1) (spot 8 8 "Hart ID") differs "ACPI 6.6, 5.2.12"
+    ∷ rule "APIC" (Kind 24) (Is (DWord 4) 1 1) (spot 16 4 "ACPI Processor UID") differs "ACPI 6.6, 5.2.12"
+    ∷ rule "APIC" (Kind 26) Always (spot 3 1 "APLIC ID") differs "ACPI 6.6, 5.2.12"
+    ∷ rule "APIC" (Kind 26) Always (spot 20 4 "Global System Interrupt Base") differs "ACPI 6.6, 5.2.12"
+    ∷ rule "APIC" (Kind 27) Always (spot 3 1 "PLIC ID") differs "ACPI 6.6, 5.2.12"
+    ∷ rule "APIC" (Kind 27) Always (spot 32 4 "Global System Interrupt Base") differs "ACPI 6.6, 5.2.12"
+    ∷ []
+
+-- Numbers and addresses that no two structures of another table have.
+unfoldable pub different : List Relation
+different =
+    rule "SRAT" (Kind 2) (Is (DWord 12) 1 1) (spot 8 4 "X2APIC ID") differs "ACPI 6.5, 5.2.16.3"
+    ∷ rule "SRAT" (Kind 3) (Is (DWord 10) 1 1) (spot 6 4 "ACPI Processor UID") differs "ACPI 6.5, 5.2.16.4"
+    ∷ rule "SRAT" (Kind 4) Always (spot 8 4 "ITS ID") differs "ACPI 6.5, 5.2.16.5"
+    ∷ rule "SRAT" (Kind 7) (Is (DWord 12) 1 1) (spot 8 4 "ACPI Processor UID") differs "ACPI 6.6, 5.2.16"
+    ∷ rule "PPTT" (Kind 0) (Is (DWord 4) 10 10) (spot 12 4 "ACPI Processor ID") differs "ACPI 6.5, 5.2.30.1"
+    ∷ rule "PPTT" (Kind 1) (Is (DWord 4) 128 128) (spot 24 4 "Cache ID") differs "ACPI 6.5, 5.2.30.2"
+    ∷ rule "HEST" Each Always (spot 2 2 "Source Id") differs "ACPI 6.5, 18.3.2"
+    ∷ rule "NFIT" (Kind 0) Always (spot 4 2 "SPA Range Structure Index") differs "ACPI 6.5, 5.2.26.2"
+    ∷ rule "NFIT" (Kind 2) Always (spot 4 2 "Interleave Structure Index") differs "ACPI 6.5, 5.2.26.4"
+    ∷ rule "NFIT" (Kind 4) Always (spot 4 2 "NVDIMM Control Region Structure Index") differs "ACPI 6.5, 5.2.26.6"
+    ∷ rule "RHCT" (Kind 65535) Always (spot 8 4 "ACPI Processor UID") differs "ACPI 6.6"
+    ∷ rule "CEDT" (Kind 0) Always (spot 4 4 "UID") differs "CXL 3.0, 9.17.1"
+    ∷ rule "XSDT" Each Always (spot 0 8 "Entry") differs "ACPI 6.5, 5.2.8"
+    ∷ rule "RSDT" Each Always (spot 0 4 "Entry") differs "ACPI 6.5, 5.2.7"
+    ∷ rule "IORT" Each (Not (DWord 4) 0xffffffff 0) (spot 4 4 "Identifier") differs "Arm DEN0049E.d"
+    ∷ rule "DMAR" (Kind 0) Always (spot 8 8 "Register Base Address") differs "VT-d 4.1, 8.3"
+    ∷ rule "LPIT" (Kind 0) Always (spot 8 2 "Unique ID") differs "Intel Low Power S0 Idle 1.1"
+    ∷ rule "APMT" Each Always (spot 4 4 "Identifier") differs "Arm DEN0117"
+    ∷ rule "MPAM" Each Always (spot 4 4 "Identifier") differs "Arm DEN0065"
+    ∷ []
+
+-- Ranges of a table that have nothing in common, or that end where they may.
+unfoldable pub ordered : List Relation
+ordered =
+    -- Buses of a segment.
+    rule "MCFG" Each Always (spot 10 1 "Start Bus Number")
+    (apart (spot 8 2 "PCI Segment Group Number") (spot 11 1 "End Bus Number")) "PCI Firmware 3.3, 4.1.2"
+    -- Numbers that aren't greater than others.
+    ∷ rule "MCFG" Each Always (spot 10 1 "Start Bus Number") (at_most (spot 11 1 "End Bus Number")) "PCI Firmware 3.3, 4.1.2"
+    ∷ rule "DMAR" (Kind 1) Always (spot 8 8 "Reserved Memory Region Base Address")
+    (at_most (spot 16 8 "Reserved Memory Region Limit Address")) "VT-d 4.1, 8.4"
+    ∷ rule "MSCT" Each Always (spot 2 4 "Proximity Domain Range (low)") (at_most (spot 6 4 "Proximity Domain Range (high)"))
+    "ACPI 6.5, 5.2.19"
+    ∷ rule "VIOT" (Kind 1) Always (spot 8 2 "PCI Segment Start") (at_most (spot 10 2 "PCI Segment End")) "ACPI 6.5, 5.2.32"
+    ∷ rule "VIOT" (Kind 1) Always (spot 12 2 "PCI BDF Start") (at_most (spot 14 2 "PCI BDF End")) "ACPI 6.5, 5.2.32"
+    ∷ rule "WDAT" Whole Always (spot 56 4 "Minimum Count") (at_most (spot 52 4 "Maximum Count"))
+    "Hardware Watchdog Timers Design Specification"
+    -- Ranges of addresses that end before 2^64.
+    ∷ rule "SRAT" (Kind 1) (Is (DWord 28) 1 1) (spot 8 8 "Base Address") (addresses (spot 16 8 "Length")) "ACPI 6.5, 5.2.16.2"
+    ∷ rule "NFIT" (Kind 0) Always (spot 32 8 "System Physical Address Range Base")
+    (addresses (spot 40 8 "System Physical Address Range Length")) "ACPI 6.5, 5.2.26.2"
+    ∷ rule "BERT" Whole Always (spot 40 8 "Boot Error Region") (addresses (spot 36 4 "Boot Error Region Length"))
+    "ACPI 6.5, 18.3.1"
+    ∷ rule "CCEL" Whole Always (spot 48 8 "Log Area Start Address") (addresses (spot 40 8 "Log Area Minimum Length"))
+    "ACPI 6.5, 5.2.34"
+    ∷ rule "PCCT" (Kind 0) Always (spot 8 8 "Base Address") (addresses (spot 16 8 "Memory Length")) "ACPI 6.5, 14.1.3"
+    ∷ rule "PCCT" (Kind 1) Always (spot 8 8 "Base Address") (addresses (spot 16 8 "Memory Length")) "ACPI 6.5, 14.1.4"
+    ∷ rule "PCCT" (Kind 2) Always (spot 8 8 "Base Address") (addresses (spot 16 8 "Memory Length")) "ACPI 6.5, 14.1.5"
+    ∷ rule "CEDT" (Kind 0) Always (spot 16 8 "Base") (addresses (spot 24 8 "Length")) "CXL 3.0, 9.17.1"
+    ∷ rule "CEDT" (Kind 1) Always (spot 8 8 "Base HPA") (addresses (spot 16 8 "Window Size")) "CXL 3.0, 9.17.1"
+    ∷ rule "IORT" (Kind 3) Always (spot 16 8 "Base Address") (addresses (spot 24 8 "Span")) "Arm DEN0049E.d"
+    ∷ rule "IORT" (Entries 6 (DWord 24) 28 (Field (DWord 20)) 20) Always (spot 0 8 "Physical Range Offset")
+    (addresses (spot 8 8 "Physical Range Length")) "Arm DEN0049E.d"
+    ∷ rule "IVRS" (Kind 32) Always (spot 16 8 "IVMD Start Address") (addresses (spot 24 8 "IVMD Memory Block Length"))
+    "AMD 48882, 5.2"
+    ∷ rule "IVRS" (Kind 33) Always (spot 16 8 "IVMD Start Address") (addresses (spot 24 8 "IVMD Memory Block Length"))
+    "AMD 48882, 5.2"
+    ∷ rule "IVRS" (Kind 34) Always (spot 16 8 "IVMD Start Address") (addresses (spot 24 8 "IVMD Memory Block Length"))
+    "AMD 48882, 5.2"
+    ∷ rule "TPM2" Whole Always (spot 68 8 "Log Area Start Address") (addresses (spot 64 4 "Log Area Minimum Length"))
+    "TCG ACPI Specification 1.4, 8"
+    ∷ []
+
+-- Structures that have as many entries as they say.
+unfoldable pub counted : List Relation
+counted =
+    rule "PPTT" (Kind 0) Always (spot 16 4 "Number of private resources") (counts 20 4) "ACPI 6.5, 5.2.30.1"
+    ∷ rule "HMAT" (Kind 1) Always (spot 12 4 "Number of Initiator Proximity Domains") (counts 32 4) "ACPI 6.5, 5.2.28.4"
+    ∷ rule "HMAT" (Kind 1) Always (spot 16 4 "Number of Target Proximity Domains") (counts 32 4) "ACPI 6.5, 5.2.28.4"
+    ∷ rule "HMAT" (Kind 2) Always (spot 30 2 "Number of SMBIOS Handles") (counts 32 2) "ACPI 6.5, 5.2.28.5"
+    ∷ rule "NFIT" (Kind 2) Always (spot 8 4 "Number of Lines Described") (counts 16 4) "ACPI 6.5, 5.2.26.4"
+    ∷ rule "NFIT" (Kind 6) Always (spot 8 2 "Number of Flush Hint Addresses") (counts 16 8) "ACPI 6.5, 5.2.26.8"
+    ∷ rule "GTDT" (Kind 0) Always (spot 12 4 "GT Block Timer Count") (counts 20 40) "ACPI 6.5, 5.2.25.1"
+    ∷ rule "RHCT" (Kind 0) Always (spot 6 2 "ISA string length") (counts 8 1) "ACPI 6.6"
+    ∷ rule "RHCT" (Kind 65535) Always (spot 6 2 "Number of offsets") (counts 12 4) "ACPI 6.6"
+    ∷ rule "CEDT" (Kind 2) Always (spot 7 1 "Number of Bitmap Entries") (counts 8 8) "CXL 3.0, 9.17.1"
+    ∷ rule "IORT" (Kind 0) Always (spot 16 4 "Number of ITSs") (counts 20 4) "Arm DEN0049E.d"
+    ∷ rule "IORT" Each Always (spot 8 4 "Number of ID Mappings") (counts 16 20) "Arm DEN0049E.d"
+    ∷ rule "IORT" (Kind 6) Always (spot 20 4 "Number of Memory Range Descriptors") (counts 28 20) "Arm DEN0049E.d"
+    ∷ rule "DBG2" Each Always (spot 3 1 "NumberofGenericAddressRegisters") (counts 22 12) "Microsoft DBG2"
+    ∷ rule "DBG2" Each Always (spot 4 2 "NamespaceStringLength") (counts 22 1) "Microsoft DBG2"
+    ∷ rule "DBG2" Each Always (spot 8 2 "OemDataLength") (counts 22 1) "Microsoft DBG2"
+    -- Distances (5.2.17).
+    ∷ rule "SLIT" Whole Always (spot 36 8 "Number of System Localities") (distances (spot 44 1 "Distances from a Locality"))
+    "ACPI 6.5, 5.2.17"
+    ∷ []
+
+-- Fields of a FADT that depend on each other.
+unfoldable pub paired : List Relation
+paired =
+    -- Two fields for one address: both say the same, unless one is zero. Those of register blocks are compared if both are in
+    -- System I/O space.
+    rule "FACP" Whole Always (spot 36 4 "FIRMWARE_CTRL") (agrees (spot 132 8 "X_FIRMWARE_CTRL")) "ACPI 6.5, 5.2.9"
+    ∷ rule "FACP" Whole Always (spot 40 4 "DSDT") (agrees (spot 140 8 "X_DSDT")) "ACPI 6.5, 5.2.9"
+    ∷ rule "FACP" Whole (Is (Byte 148) 255 1) (spot 56 4 "PM1a_EVT_BLK") (agrees (spot 152 8 "X_PM1a_EVT_BLK"))
+    "ACPI 6.5, 5.2.9"
+    ∷ rule "FACP" Whole (Is (Byte 160) 255 1) (spot 60 4 "PM1b_EVT_BLK") (agrees (spot 164 8 "X_PM1b_EVT_BLK"))
+    "ACPI 6.5, 5.2.9"
+    ∷ rule "FACP" Whole (Is (Byte 172) 255 1) (spot 64 4 "PM1a_CNT_BLK") (agrees (spot 176 8 "X_PM1a_CNT_BLK"))
+    "ACPI 6.5, 5.2.9"
+    ∷ rule "FACP" Whole (Is (Byte 184) 255 1) (spot 68 4 "PM1b_CNT_BLK") (agrees (spot 188 8 "X_PM1b_CNT_BLK"))
+    "ACPI 6.5, 5.2.9"
+    ∷ rule "FACP" Whole (Is (Byte 196) 255 1) (spot 72 4 "PM2_CNT_BLK") (agrees (spot 200 8 "X_PM2_CNT_BLK")) "ACPI 6.5, 5.2.9"
+    ∷ rule "FACP" Whole (Is (Byte 208) 255 1) (spot 76 4 "PM_TMR_BLK") (agrees (spot 212 8 "X_PM_TMR_BLK")) "ACPI 6.5, 5.2.9"
+    ∷ rule "FACP" Whole (Is (Byte 220) 255 1) (spot 80 4 "GPE0_BLK") (agrees (spot 224 8 "X_GPE0_BLK")) "ACPI 6.5, 5.2.9"
+    ∷ rule "FACP" Whole (Is (Byte 232) 255 1) (spot 84 4 "GPE1_BLK") (agrees (spot 236 8 "X_GPE1_BLK")) "ACPI 6.5, 5.2.9"
+    -- Fields that aren't zero, unless the flag HW_REDUCED_ACPI is set.
+    ∷ rule "FACP" Whole (Is (DWord 112) 0x100000 0) (spot 56 4 "PM1a_EVT_BLK") (needed (spot 152 8 "X_PM1a_EVT_BLK"))
+    "ACPI 6.5, 5.2.9"
+    ∷ rule "FACP" Whole (Is (DWord 112) 0x100000 0) (spot 64 4 "PM1a_CNT_BLK") (needed (spot 176 8 "X_PM1a_CNT_BLK"))
+    "ACPI 6.5, 5.2.9"
+    ∷ rule "FACP" Whole (Is (DWord 112) 0x100000 0) (spot 52 1 "ACPI_ENABLE") (needs (spot 48 4 "SMI_CMD")) "ACPI 6.5, 5.2.9"
+    ∷ rule "FACP" Whole (Is (DWord 112) 0x100000 0) (spot 53 1 "ACPI_DISABLE") (needs (spot 48 4 "SMI_CMD")) "ACPI 6.5, 5.2.9"
+    ∷ rule "FACP" Whole (Is (DWord 112) 0x100000 0) (spot 54 1 "S4BIOS_REQ") (needs (spot 48 4 "SMI_CMD")) "ACPI 6.5, 5.2.9"
+    ∷ rule "FACP" Whole (Is (DWord 112) 0x100000 0) (spot 55 1 "PSTATE_CNT") (needs (spot 48 4 "SMI_CMD")) "ACPI 6.5, 5.2.9"
+    ∷ rule "FACP" Whole (Is (DWord 112) 0x100000 0) (spot 95 1 "CST_CNT") (needs (spot 48 4 "SMI_CMD")) "ACPI 6.5, 5.2.9"
+    ∷ rule "FACP" Whole (Is (DWord 112) 0x100000 0) (spot 72 4 "PM2_CNT_BLK") (needs (spot 90 1 "PM2_CNT_LEN"))
+    "ACPI 6.5, 5.2.9"
+    ∷ rule "FACP" Whole (Is (DWord 112) 0x100000 0) (spot 76 4 "PM_TMR_BLK") (needs (spot 91 1 "PM_TMR_LEN")) "ACPI 6.5, 5.2.9"
+    ∷ []
+
+-- Fields that are multiples of numbers.
+unfoldable pub aligned : List Relation
+aligned =
+    rule "FACP" Whole Always (spot 36 4 "FIRMWARE_CTRL") (multiple 64) "ACPI 6.5, 5.2.10"
+    ∷ rule "FACP" Whole Always (spot 132 8 "X_FIRMWARE_CTRL") (multiple 64) "ACPI 6.5, 5.2.10"
+    ∷ rule "FACP" Whole (Is (DWord 112) 0x100000 0) (spot 92 1 "GPE0_BLK_LEN") (multiple 2) "ACPI 6.5, 5.2.9"
+    ∷ rule "FACP" Whole (Is (DWord 112) 0x100000 0) (spot 93 1 "GPE1_BLK_LEN") (multiple 2) "ACPI 6.5, 5.2.9"
+    ∷ rule "DMAR" (Kind 0) Always (spot 8 8 "Register Base Address") (multiple 4096) "VT-d 4.1, 8.3"
+    ∷ rule "DMAR" (Kind 1) Always (spot 8 8 "Reserved Memory Region Base Address") (multiple 4096) "VT-d 4.1, 8.4"
+    ∷ rule "CEDT" (Kind 1) Always (spot 8 8 "Base HPA") (multiple 0x10000000) "CXL 3.0, 9.17.1"
+    ∷ rule "CEDT" (Kind 1) Always (spot 16 8 "Window Size") (multiple 0x10000000) "CXL 3.0, 9.17.1"
+    ∷ rule "IORT" (Entries 6 (DWord 24) 28 (Field (DWord 20)) 20) Always (spot 0 8 "Physical Range Offset") (multiple 0x10000)
+    "Arm DEN0049E.d"
+    ∷ rule "IORT" (Entries 6 (DWord 24) 28 (Field (DWord 20)) 20) Always (spot 8 8 "Physical Range Length") (multiple 0x10000)
+    "Arm DEN0049E.d"
+    ∷ []
+
+-- Fields whose range depends on other fields, or on the type of a structure.
+unfoldable pub bounded : List Relation
+bounded =
+    rule "FACP" Whole (Is (DWord 112) 1024 1024) (spot 116 1 "Address Space ID") (between 0 2) "ACPI 6.5, 5.2.9"
+    ∷ rule "FACP" Whole (Is (DWord 112) 1024 1024) (spot 117 1 "Register Bit Width") (between 8 8) "ACPI 6.5, 5.2.9"
+    ∷ rule "FACP" Whole (Is (DWord 112) 1024 1024) (spot 118 1 "Register Bit Offset") (between 0 0) "ACPI 6.5, 5.2.9"
+    ∷ rule "FACP" Whole (Not (DWord 248) 0xffffffff 0) (spot 244 1 "Address Space ID") (between 0 2) "ACPI 6.5, 5.2.9"
+    ∷ rule "FACP" Whole (Not (DWord 248) 0xffffffff 0) (spot 245 1 "Register Bit Width") (between 8 8) "ACPI 6.5, 5.2.9"
+    ∷ rule "FACP" Whole (Not (DWord 248) 0xffffffff 0) (spot 246 1 "Register Bit Offset") (between 0 0) "ACPI 6.5, 5.2.9"
+    ∷ rule "ECDT" Whole Always (spot 36 1 "Address Space ID") (between 0 1) "ACPI 6.5, 5.2.15"
+    ∷ rule "ECDT" Whole Always (spot 48 1 "Address Space ID") (between 0 1) "ACPI 6.5, 5.2.15"
+    ∷ rule "HPET" Whole Always (spot 40 1 "Address Space ID") (between 0 1) "IA-PC HPET 1.0a, 3.2.4"
+    ∷ rule "BGRT" Whole Always (spot 36 2 "Version") (between 1 1) "ACPI 6.5, 5.2.23"
+    ∷ rule "APIC" (Kind 4) Always (spot 5 1 "Local APIC LINT#") (between 0 1) "ACPI 6.5, 5.2.12.7"
+    ∷ rule "APIC" (Kind 10) Always (spot 8 1 "Local x2APIC LINT#") (between 0 1) "ACPI 6.5, 5.2.12.13"
+    ∷ rule "PPTT" (Kind 1) (Is (DWord 4) 128 128) (spot 24 4 "Cache ID") (between 1 0xffffffff) "ACPI 6.5, 5.2.30.2"
+    ∷ rule "NFIT" (Kind 0) Always (spot 4 2 "SPA Range Structure Index") (between 1 65535) "ACPI 6.5, 5.2.26.2"
+    ∷ rule "NFIT" (Kind 2) Always (spot 4 2 "Interleave Structure Index") (between 1 65535) "ACPI 6.5, 5.2.26.4"
+    ∷ rule "NFIT" (Kind 4) Always (spot 4 2 "NVDIMM Control Region Structure Index") (between 1 65535) "ACPI 6.5, 5.2.26.6"
+    ∷ rule "NFIT" (Kind 5) Always (spot 4 2 "NVDIMM Control Region Structure Index") (between 1 65535) "ACPI 6.5, 5.2.26.7"
+    ∷ rule "PCCT" (Kind 0) Always (spot 16 8 "Memory Length") (between 9 0xffffffffffffffff) "ACPI 6.5, 14.1.3"
+    ∷ rule "PCCT" (Kind 1) Always (spot 16 8 "Memory Length") (between 9 0xffffffffffffffff) "ACPI 6.5, 14.1.4"
+    ∷ rule "PCCT" (Kind 2) Always (spot 16 8 "Memory Length") (between 9 0xffffffffffffffff) "ACPI 6.5, 14.1.5"
+    ∷ rule "CEDT" (Kind 0) (Is (DWord 8) 0xffffffff 0) (spot 24 8 "Length") (between 8192 8192) "CXL 3.0, 9.17.1"
+    ∷ rule "CEDT" (Kind 0) (Is (DWord 8) 0xffffffff 1) (spot 24 8 "Length") (between 0x10000 0x10000) "CXL 3.0, 9.17.1"
+    ∷ rule "TCPA" Whole (Is (Word 36) 65535 0) (spot 4 4 "Length") (between 50 50) "TCG ACPI Specification 1.4"
+    ∷ rule "TCPA" Whole (Is (Word 36) 65535 1) (spot 4 4 "Length") (between 100 100) "TCG ACPI Specification 1.4"
+    ∷ []
+
+-- Fields that are those of other structures of a table.
+unfoldable pub referred : List Relation
+referred =
+    -- Offsets of structures.
+    rule "PPTT" (Kind 0) Always (spot 8 4 "Parent") (points (0 ∷ [])) "ACPI 6.5, 5.2.30.1"
+    ∷ rule "PPTT" (Entries 0 Nowhere 20 (Field (DWord 16)) 4) Always (spot 0 4 "Private Resource") (points (1 ∷ 2 ∷ []))
+    "ACPI 6.5, 5.2.30.1"
+    ∷ rule "PPTT" (Kind 1) Always (spot 8 4 "Next Level of Cache") (points (1 ∷ [])) "ACPI 6.5, 5.2.30.2"
+    ∷ rule "RHCT" (Entries 65535 Nowhere 12 (Field (Word 6)) 4) Always (spot 0 4 "Offset") (points (0 ∷ 1 ∷ 2 ∷ [])) "ACPI 6.6"
+    ∷ rule "IORT" (Entries 1 (DWord 12) 16 (Field (DWord 8)) 20) Always (spot 12 4 "Output Reference")
+    (points (0 ∷ 3 ∷ 4 ∷ 7 ∷ [])) "Arm DEN0049E.d"
+    ∷ rule "IORT" (Entries 2 (DWord 12) 16 (Field (DWord 8)) 20) Always (spot 12 4 "Output Reference")
+    (points (0 ∷ 3 ∷ 4 ∷ 7 ∷ [])) "Arm DEN0049E.d"
+    ∷ rule "IORT" (Entries 3 (DWord 12) 16 (Field (DWord 8)) 20) Always (spot 12 4 "Output Reference")
+    (points (0 ∷ 3 ∷ 4 ∷ 7 ∷ [])) "Arm DEN0049E.d"
+    ∷ rule "IORT" (Entries 4 (DWord 12) 16 (Field (DWord 8)) 20) Always (spot 12 4 "Output Reference")
+    (points (0 ∷ 3 ∷ 4 ∷ 7 ∷ [])) "Arm DEN0049E.d"
+    ∷ rule "IORT" (Entries 5 (DWord 12) 16 (Field (DWord 8)) 20) Always (spot 12 4 "Output Reference")
+    (points (0 ∷ 3 ∷ 4 ∷ 7 ∷ [])) "Arm DEN0049E.d"
+    ∷ rule "IORT" (Entries 6 (DWord 12) 16 (Field (DWord 8)) 20) Always (spot 12 4 "Output Reference")
+    (points (0 ∷ 3 ∷ 4 ∷ 7 ∷ [])) "Arm DEN0049E.d"
+    ∷ rule "IORT" (Kind 5) Always (spot 28 4 "Node Reference") (points (0 ∷ 1 ∷ 2 ∷ 3 ∷ 4 ∷ 7 ∷ [])) "Arm DEN0049E.d"
+    ∷ rule "VIOT" (Kind 1) Always (spot 16 2 "Output Node") (points (3 ∷ 4 ∷ [])) "ACPI 6.5, 5.2.32"
+    ∷ rule "VIOT" (Kind 2) Always (spot 16 2 "Output Node") (points (3 ∷ 4 ∷ [])) "ACPI 6.5, 5.2.32"
+    -- Numbers of other structures.
+    ∷ rule "NFIT" (Kind 1) Always (spot 12 2 "SPA Range Structure Index") (refers 0 (spot 4 2 "SPA Range Structure Index"))
+    "ACPI 6.5, 5.2.26.3"
+    ∷ rule "NFIT" (Kind 1) Always (spot 14 2 "NVDIMM Control Region Structure Index")
+    (refers 4 (spot 4 2 "NVDIMM Control Region Structure Index")) "ACPI 6.5, 5.2.26.3"
+    ∷ rule "NFIT" (Kind 1) Always (spot 40 2 "Interleave Structure Index") (refers 2 (spot 4 2 "Interleave Structure Index"))
+    "ACPI 6.5, 5.2.26.3"
+    ∷ rule "NFIT" (Kind 5) Always (spot 4 2 "NVDIMM Control Region Structure Index")
+    (refers 4 (spot 4 2 "NVDIMM Control Region Structure Index")) "ACPI 6.5, 5.2.26.7"
+    ∷ []
+
+-- ---- all rules
+
+-- the rules on several fields that a table breaks, in the order of the rules
+abbrev pub standard_findings : Option Walk → List ℕ → List Finding
+standard_findings walk bytes =
+    relations_findings numbered walk bytes
+    ++ relations_findings different walk bytes
+    ++ relations_findings ordered walk bytes
+    ++ relations_findings counted walk bytes
+    ++ relations_findings paired walk bytes
+    ++ relations_findings aligned walk bytes
+    ++ relations_findings bounded walk bytes
+    ++ relations_findings referred walk bytes
+
+-- The rules that a table breaks, by its form and its walk: those on each of its fields, in the order of their offsets, and then
+-- those on several fields, in the order of the rules.
 abbrev pub table_findings : TableForm → Option Walk → List ℕ → List Finding
-table_findings form walk bytes = fields_findings allowed_numbers ranges bytes (table_fields form walk bytes)
+table_findings form walk bytes =
+    fields_findings allowed_numbers ranges bytes (table_fields form walk bytes) ++ standard_findings walk bytes

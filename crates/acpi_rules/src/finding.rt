@@ -13,6 +13,28 @@ pub enum Rule {
     StructureLength,
     /// A number is in a range: not below the one of the finding, and not above the other.
     Range,
+    /// No two parts of a table have the same number in a field. The number is the offset of the first of them.
+    Unique,
+    /// No two parts of a table have a number in common in their ranges. The number is the offset of the first of them.
+    Overlap,
+    /// A number isn't greater than that of another field. The number is the other field's.
+    AtMost,
+    /// A range of addresses ends before 2^64. The number is the length of the range.
+    NoOverflow,
+    /// As many entries as a number says stand in a part of a table. The other number is how many bytes the part has.
+    Count,
+    /// Two fields have the same number, unless one is zero. The number is the other field's.
+    Pair,
+    /// One of two fields isn't zero.
+    Required,
+    /// A field is zero, or another isn't.
+    Needs,
+    /// A number is a multiple of another. The number is the other one.
+    Multiple,
+    /// A number is the offset of a structure of a type, or that of a field of one.
+    Reference,
+    /// A distance is 10 from a locality to itself, and otherwise not below 10. The numbers are as those of a range.
+    Distance,
 }
 
 /// A rule that a field of a table breaks.
@@ -32,4 +54,6 @@ pub struct Finding<'a> {
     pub number: u64,
     /// The greatest number that is allowed, or 0 if the rule isn't on a range.
     pub most: u64,
+    /// The other field of which the rule speaks, or nothing if it speaks of one alone.
+    pub other: &'static str,
 }

@@ -3,13 +3,21 @@
 #![tactic(auto)]
 
 pub mod allowed;
+pub mod apart;
+pub mod demand;
 pub mod difference;
 pub mod field;
 pub mod finding;
+pub mod item;
 pub mod laws;
 pub mod limit;
 pub mod line;
+pub mod matrix;
+pub mod order;
 mod part;
+pub mod reference;
+pub mod related;
+pub mod relation;
 pub mod rules;
 pub mod standard;
 pub mod table;

@@ -3,7 +3,7 @@
 ghost use Rattle.std.specs.Prelude.{◌≡◌, ◌++◌, OnOk, string_bytes};
 ghost use Rattle.acpi_rules.specs.Finding.{noted};
 ghost use Rattle.acpi_rules.specs.Line.{standard_tables, contains, severity, rule_name, hex_text, one_text};
-ghost use Rattle.acpi_rules.specs.Line.{reserved_text, range_text};
+ghost use Rattle.acpi_rules.specs.Line.{reserved_text, range_text, pair_text, relates_text};
 ghost use Rattle.acpi_rules.specs.Line.{says, field_text, source_text, finding_text};
 
 use crate::finding::{Finding, Rule};
@@ -64,6 +64,17 @@ impl Rule {
             Rule::ReservedValue => "reserved-value",
             Rule::StructureLength => "structure-length",
             Rule::Range => "range",
+            Rule::Unique => "unique",
+            Rule::Overlap => "overlap",
+            Rule::AtMost => "at-most",
+            Rule::NoOverflow => "no-overflow",
+            Rule::Count => "count",
+            Rule::Pair => "pair",
+            Rule::Required => "required",
+            Rule::Needs => "needs",
+            Rule::Multiple => "multiple",
+            Rule::Reference => "reference",
+            Rule::Distance => "distance",
         }
     }
 }
@@ -106,9 +117,96 @@ fn push_reserved(number: u64, text: &mut String) -> Result<(), AllocError>
     text.push_str(" is reserved")
 }
 
+// Adds what a finding on two fields says of the bytes of its field.
+fn push_pair(
+    rule: Rule,
+    number: u64,
+    most: u64,
+    other: &str,
+    text: &mut String,
+) -> Result<(), AllocError>
+    ensures { OnOk result (string_bytes text.new ≡ string_bytes text.old ++ pair_text rule number most other.now) }
+{
+    match rule {
+        Rule::Pair => {
+            text.push_str(" isn't ")?;
+            push_label(other, text)?;
+            text.push_str(", which is ")?;
+            text.push_str(Buffer::new().format(number))
+        }
+        Rule::Required => {
+            text.push_str(" and ")?;
+            push_label(other, text)?;
+            text.push_str(" are zero")
+        }
+        Rule::Needs => {
+            text.push_str(" needs ")?;
+            push_label(other, text)?;
+            text.push_str(", which is zero")
+        }
+        Rule::AtMost => {
+            text.push_str(" is above ")?;
+            push_label(other, text)?;
+            text.push_str(", which is ")?;
+            text.push_str(Buffer::new().format(number))
+        }
+        Rule::NoOverflow => {
+            text.push_str(" with ")?;
+            push_label(other, text)?;
+            text.push_str(", which is too long")
+        }
+        _ => push_range(number, most, text),
+    }
+}
+
+// Adds what a finding on several fields says of the bytes of its field.
+fn push_relates(
+    rule: Rule,
+    number: u64,
+    most: u64,
+    other: &str,
+    text: &mut String,
+) -> Result<(), AllocError>
+    ensures { OnOk result (string_bytes text.new ≡ string_bytes text.old ++ relates_text rule number most other.now) }
+{
+    match rule {
+        Rule::Unique => {
+            text.push_str(": also at ")?;
+            text.push_str(Buffer::new().format(number))
+        }
+        Rule::Overlap => {
+            text.push_str(" up to ")?;
+            push_label(other, text)?;
+            text.push_str(": also at ")?;
+            text.push_str(Buffer::new().format(number))
+        }
+        Rule::Count => {
+            text.push_str(" in ")?;
+            text.push_str(Buffer::new().format(most))?;
+            text.push_str(" bytes")
+        }
+        Rule::Multiple => {
+            text.push_str(" isn't n * ")?;
+            text.push_str(Buffer::new().format(number))
+        }
+        Rule::Reference => {
+            text.push_str(" isn't the ")?;
+            push_label(other, text)?;
+            text.push_str(" of such a structure")
+        }
+        _ => push_pair(rule, number, most, other, text),
+    }
+}
+
 // Adds what a finding says of the bytes of its field.
-fn push_says(rule: Rule, number: u64, most: u64, text: &mut String) -> Result<(), AllocError>
-    ensures { OnOk result (string_bytes text.new ≡ string_bytes text.old ++ says rule number most) }
+fn push_says(
+    rule: Rule,
+    number: u64,
+    most: u64,
+    other: &str,
+    text: &mut String,
+) -> Result<(), AllocError>
+    ensures { OnOk result (string_bytes text.new ≡ string_bytes text.old ++ says rule number most other.now) }
 {
     match rule {
         Rule::ReservedBytes => text.push_str(" isn't zero"),
@@ -118,7 +216,7 @@ fn push_says(rule: Rule, number: u64, most: u64, text: &mut String) -> Result<()
         }
         Rule::ReservedValue => push_reserved(number, text),
         Rule::StructureLength => push_one(number, text),
-        Rule::Range => push_range(number, most, text),
+        _ => push_relates(rule, number, most, other, text),
     }
 }
 
@@ -158,6 +256,12 @@ pub fn push_finding(
 {
     text.push_str(severity(signature))?;
     push_field(finding, text)?;
-    push_says(finding.rule, finding.number, finding.most, text)?;
+    push_says(
+        finding.rule,
+        finding.number,
+        finding.most,
+        finding.other,
+        text,
+    )?;
     push_source(finding, text)
 }

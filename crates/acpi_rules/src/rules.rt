@@ -36,16 +36,22 @@ pub struct Given<'a> {
     pub signature: &'a [u8],
 }
 
-// Returns the number in the bytes of a field, of which it has eight at most.
-pub(crate) fn number_of(field: &Field<'_>) -> u64
-    ensures { result ≡ number_of (seen field.now) }
+// Returns the number in the first eight bytes, or in all if there are fewer.
+pub(crate) fn number_in_bytes(bytes: &[u8]) -> u64
+    ensures { result ≡ carried (take 8 bytes.now) }
 {
-    let bytes = field.bytes;
     if bytes.len() > 8 {
         number(&bytes[..8])
     } else {
         number(bytes)
     }
+}
+
+// Returns the number in the bytes of a field, of which it has eight at most.
+pub(crate) fn number_of(field: &Field<'_>) -> u64
+    ensures { result ≡ number_of (seen field.now) }
+{
+    number_in_bytes(field.bytes)
 }
 
 fn all_zero(bytes: &[u8]) -> bool
@@ -79,6 +85,7 @@ pub(crate) fn add<'a>(
         bytes: field.bytes,
         number,
         most,
+        other: "",
     })?;
     Ok(())
 }

@@ -1,8 +1,8 @@
 -- The tables of a folder's files.
-use Rattle.std.proofs.Common.{◌≡◌, ℕ, zero, suc, ◌-◌, ◌≤◌, ◌<◌, ◌==◌, ◌||◌, ◌⊎◌, Bool, true, false, if◌then◌else◌, List, [], ◌∷◌, ◌++◌, ◌+◌, Option, Some, None, length, take, drop, map, get_or, refl, sym, ap, subst, ◌∙◌, arith, inl, inr}
+use Rattle.std.proofs.Common.{◌≡◌, ℕ, zero, suc, ◌-◌, ◌≤◌, ◌<◌, ◌==◌, ◌||◌, ◌⊎◌, Bool, true, false, if◌then◌else◌, List, [], ◌∷◌, ◌++◌, ◌+◌, Option, length, take, drop, map, get_or, refl, sym, ap, subst, ◌∙◌, arith, inl, inr}
 use Rattle.std.proofs.lemmas.Bool.{eq-eqb}
 use Rattle.std.proofs.lemmas.List.{at_drop_more, map-append, map_more, take-append-drop}
-use Rattle.std.specs.Io.KnownBytes.{Keeps, Appends}
+use Rattle.std.specs.Io.KnownBytes.{Keeps}
 use Rattle.acpi_cpio.specs.Archive.{tables_archive}
 use Rattle.acpitool_program.specs.Archiving.{name_of, IsTableIn, AreTablesIn, IsRefused, AreRefused, DontFit, ArchivesFiles}
 use Rattle.acpitool_program.specs.Making.{Saved, NotSaved, IsWritten}
@@ -87,10 +87,10 @@ pub written_as : (a b file : List ℕ) (o o' e e' : Option (List ℕ)) (status :
     → IsWritten b file o o' e e' status
 written_as a b file o o' e e' status same written = subst (λ (l : List ℕ). IsWritten l file o o' e e' status) same written
 
-saved_then : (a b c : Option (List ℕ)) (status : ℕ) → Keeps a b → Saved b c status → Saved a c status
+pub saved_then : (a b c : Option (List ℕ)) (status : ℕ) → Keeps a b → Saved b c status → Saved a c status
 saved_then a b c status kept one = record { silent = keeps_kept a b c kept one.silent; is = one.is }
 
-not_saved_then : (file : List ℕ) (a b c : Option (List ℕ)) (status : ℕ) → Keeps a b → NotSaved file b c status → NotSaved file a c status
+pub not_saved_then : (file : List ℕ) (a b c : Option (List ℕ)) (status : ℕ) → Keeps a b → NotSaved file b c status → NotSaved file a c status
 not_saved_then file a b c status kept one =
     record { why = one.why; complained = keeps_then a b c _ kept one.complained; is = one.is }
 

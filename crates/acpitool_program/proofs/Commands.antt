@@ -2,11 +2,11 @@
 use Rattle.std.proofs.Common.{◌≡◌, ◌⊎◌, ℕ, false, List, [], ◌∷◌, ◌++◌, length, refl, sym, ap, subst, ◌∙◌, inl, inr, arith, codes, string_bytes}
 use Rattle.std.proofs.lemmas.List.{length-map}
 use Rattle.acpitool_program.proofs.Verbs.{heads, tails, same_verb, no_version, no_help, asks_no_help}
-use Rattle.acpitool_program.specs.Command.{files_in, forces, unforced, IsAddress, AreImage, AreUnpack, AreAfter, IsHelp, BeginsWithHelp, AsksForHelp, Asks}
+use Rattle.acpitool_program.specs.Command.{files_in, forces, unforced, IsAddress, AreImage, AreUnpack, AreLay, AreAfter, IsHelp, BeginsWithHelp, AsksForHelp, Asks}
 use Rattle.acpitool_program.specs.Laws.{Content, content, AskForOne}
 use Rattle.acpitool_program.specs.declared.command.Command.{Command}
 use Rattle.acpitool_program.specs.declared.command.Command.TheVariants.{Help, Version, Show, Check, Image, Make, Template}
-use Rattle.acpitool_program.specs.declared.command.Command.TheVariants.{Disassemble, Names, Unpack, Cpio}
+use Rattle.acpitool_program.specs.declared.command.Command.TheVariants.{Disassemble, Names, Unpack, Cpio, Lay, Diff}
 use Rattle.acpitool_program.specs.declared.command.Verb.{Verb}
 use Rattle.acpitool_program.specs.declared.command.Verb.TheVariants as verbs
 
@@ -58,6 +58,11 @@ IsOf verbs.Unpack more k =
     × (k ≡ (codes "unpack", file ∷ folder ∷ [], [], base, false))
 IsOf verbs.Cpio more k =
     (folder : List ℕ) × (file : List ℕ) × (more ≡ folder ∷ file ∷ []) × (k ≡ (codes "cpio", folder ∷ file ∷ [], [], 0, false))
+IsOf verbs.Lay more k =
+    (folder : List ℕ) × (file : List ℕ) × (base : ℕ) × AreLay more folder file base
+    × (k ≡ (codes "lay", folder ∷ file ∷ [], [], base, false))
+IsOf verbs.Diff more k =
+    (first : List ℕ) × (second : List ℕ) × (more ≡ first ∷ second ∷ []) × (k ≡ (codes "diff", first ∷ second ∷ [], [], 0, false))
 
 one_of : (verb : Verb) (more : List (List ℕ)) (k l : Content) → IsOf verb more k → IsOf verb more l → k ≡ l
 one_of verbs.Show more k l one two =
@@ -84,6 +89,15 @@ one_of verbs.Unpack more k l one two =
     let base = same.1 in
     cc (one.4, two.4, file, folder, base)
 one_of verbs.Cpio more k l one two = cc (one.2, one.3, two.2, two.3)
+one_of verbs.Lay more k l one two =
+    let these = one.3 in
+    let those = two.3 in
+    let word : these.0 ≡ those.0 = cc (these.1, those.1) in
+    let folder : one.0 ≡ two.0 = cc (these.1, those.1) in
+    let file : one.1 ≡ two.1 = cc (these.1, those.1) in
+    let base = same_addresses these.0 those.0 one.2 two.2 word these.2 those.2 in
+    cc (one.4, two.4, folder, file, base)
+one_of verbs.Diff more k l one two = cc (one.2, one.3, two.2, two.3)
 
 -- a command with the words after its own, and what it contains
 record Contains (words : List (List ℕ)) (k : Content) : Type 0 where
@@ -125,6 +139,10 @@ are_of words (Unpack file folder base) all =
     inr (inr (record { verb = verbs.Unpack; more = all.0; after = all.1; of = (_, _, _, all.2, refl) }))
 are_of words (Cpio folder file) all =
     inr (inr (record { verb = verbs.Cpio; more = all.0; after = all.1; of = (_, _, all.2, refl) }))
+are_of words (Lay folder file base) all =
+    inr (inr (record { verb = verbs.Lay; more = all.0; after = all.1; of = (_, _, _, all.2, refl) }))
+are_of words (Diff first second) all =
+    inr (inr (record { verb = verbs.Diff; more = all.0; after = all.1; of = (_, _, all.2, refl) }))
 are_of words (Make force text file) all = inr (inr (record {
   verb = verbs.Make;
   more = all.0;

@@ -1,8 +1,11 @@
--- What unpacked tables and archives print, and a flush after it.
-use Rattle.std.proofs.Common.{ℕ, Bool, true, false, List, [], ◌∷◌, ◌++◌, Option, Some, None, ◌∙◌, inl, inr}
-use Rattle.std.specs.Io.KnownBytes.{Keeps, Appends}
+-- What unpacked tables, archives, images and compared tables print, and a flush after it.
+use Rattle.std.proofs.Common.{ℕ, Bool, true, false, List, [], ◌∷◌, ◌++◌, Option, inl, inr}
+use Rattle.std.specs.Io.KnownBytes.{Keeps}
 use Rattle.acpi_dump.specs.Dump.{is_dump}
+use Rattle.acpi_layout.specs.declared.layout.Image.{Image}
 use Rattle.acpitool_program.specs.Archiving.{Archives}
+use Rattle.acpitool_program.specs.Comparing.{ComparesBytes, ComparesWith, Compares}
+use Rattle.acpitool_program.specs.Laying.{IsSavedTo, IsSaved, LaysFolder}
 use Rattle.acpitool_program.specs.Listing.{NotRead}
 use Rattle.acpitool_program.specs.Making.{IsWritten}
 use Rattle.acpitool_program.specs.Unpacking.{NotMade, AreUnpacked, AreFiles, UnpacksDump, UnpacksImage, UnpacksBy, Unpacks}
@@ -94,3 +97,59 @@ archived_kept folder file o o' o'' e e' s kept (inl (paths, inl all)) = inl (
 )
 archived_kept folder file o o' o'' e e' s kept (inl (paths, inr refused)) = inl (paths, inr (refused.0, keeps_kept o o' o'' refused.1 kept))
 archived_kept folder file o o' o'' e e' s kept (inr not) = inr (unread_kept folder o o' o'' e e' s kept not)
+
+saved_to_kept : (image : Image) (file : List ℕ) (o o' o'' e e' : Option (List ℕ)) (s : ℕ) → Keeps o' o''
+    → IsSavedTo image file o o' e e' s → IsSavedTo image file o o'' e e' s
+saved_to_kept image file o o' o'' e e' s kept (inl saved) = inl (appends_kept o o' o'' _ saved.0 kept, saved.1)
+saved_to_kept image file o o' o'' e e' s kept (inr not) = inr (keeps_kept o o' o'' not.0 kept, not.1)
+
+saved_kept : (image : Image) (file : List ℕ) (o o' o'' e e' : Option (List ℕ)) (s : ℕ) → Keeps o' o''
+    → IsSaved image file o o' e e' s → IsSaved image file o o'' e e' s
+saved_kept image file o o' o'' e e' s kept (inl out) = inl (out.0, appends_kept o o' o'' _ out.1 kept, out.2, out.3)
+saved_kept image file o o' o'' e e' s kept (inr other) = inr (other.0, saved_to_kept image file o o' o'' e e' s kept other.1)
+
+pub laid_kept : (folder file : List ℕ) (base : ℕ) (o o' o'' e e' : Option (List ℕ)) (s : ℕ) → Keeps o' o''
+    → LaysFolder folder file base o o' e e' s → LaysFolder folder file base o o'' e e' s
+laid_kept folder file base o o' o'' e e' s kept (inl out) = inl (record {
+  paths = out.paths;
+  image = out.image;
+  of = out.of;
+  saved = saved_kept out.image file o o' o'' e e' s kept out.saved;
+})
+laid_kept folder file base o o' o'' e e' s kept (inr none) = inr (none.0, keeps_kept o o' o'' none.1 kept)
+
+bytes_compared : (first a second b : List ℕ) (o o' o'' e e' : Option (List ℕ)) (s : ℕ) → Keeps o' o''
+    → ComparesBytes first a second b o o' e e' s → ComparesBytes first a second b o o'' e e' s
+bytes_compared first a second b o o' o'' e e' s kept (inl all) = inl (record {
+  first = all.first;
+  second = all.second;
+  text = all.text;
+  compared = all.compared;
+  wrote = appends_kept o o' o'' _ all.wrote kept;
+  silent = all.silent;
+  is = all.is;
+})
+bytes_compared first a second b o o' o'' e e' s kept (inr (inl not)) = inr (inl (record {
+  fault = not.fault;
+  cause = not.cause;
+  complained = not.complained;
+  silent = keeps_kept o o' o'' not.silent kept;
+  is = not.is;
+}))
+bytes_compared first a second b o o' o'' e e' s kept (inr (inr not)) = inr (inr (record {
+  fault = not.fault;
+  cause = not.cause;
+  complained = not.complained;
+  silent = keeps_kept o o' o'' not.silent kept;
+  is = not.is;
+}))
+
+with_compared : (first a second : List ℕ) (o o' o'' e e' : Option (List ℕ)) (s : ℕ) → Keeps o' o''
+    → ComparesWith first a second o o' e e' s → ComparesWith first a second o o'' e e' s
+with_compared first a second o o' o'' e e' s kept (inl (b, all)) = inl (b, bytes_compared first a second b o o' o'' e e' s kept all)
+with_compared first a second o o' o'' e e' s kept (inr not) = inr (unread_kept second o o' o'' e e' s kept not)
+
+pub compared_kept : (first second : List ℕ) (o o' o'' e e' : Option (List ℕ)) (s : ℕ) → Keeps o' o''
+    → Compares first second o o' e e' s → Compares first second o o'' e e' s
+compared_kept first second o o' o'' e e' s kept (inl (a, all)) = inl (a, with_compared first a second o o' o'' e e' s kept all)
+compared_kept first second o o' o'' e e' s kept (inr not) = inr (unread_kept first o o' o'' e e' s kept not)

@@ -3,6 +3,7 @@ mod Blocks
 mod Commands
 mod Judged
 mod Kept
+mod Layings
 mod Outcomes
 mod Paths
 mod Pointers

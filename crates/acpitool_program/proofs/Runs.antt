@@ -1,20 +1,20 @@
 -- A flush after a run, which keeps what was printed.
-use Rattle.std.proofs.Common.{ℕ, Bool, true, false, List, Option, Some, None, ◌∙◌, inl, inr}
-use Rattle.std.specs.Io.KnownBytes.{Keeps, Appends}
-use Rattle.acpitool_program.proofs.Kept.{unread_kept, unpacked_kept, written_kept, archived_kept}
+use Rattle.std.proofs.Common.{ℕ, Bool, true, false, List, Option, inl, inr}
+use Rattle.std.specs.Io.KnownBytes.{Keeps}
+use Rattle.acpitool_program.proofs.Kept.{unread_kept, unpacked_kept, written_kept, archived_kept, laid_kept, compared_kept}
 use Rattle.acpitool_program.proofs.Streams.{keeps_kept, appends_kept}
 use Rattle.acpitool_program.specs.Disassembly.{DisassemblesFile}
 use Rattle.acpi_asl.specs.declared.block.BlockText.{BlockText}
 use Rattle.acpi_asl.specs.declared.block.BlockText.TheVariants as blocks
 use Rattle.acpitool_program.specs.Job.{Job, shows, checks}
-use Rattle.acpitool_program.specs.Listing.{Listed, NotRead}
-use Rattle.acpitool_program.specs.Making.{IsWritten, MakesWord, Makes}
+use Rattle.acpitool_program.specs.Listing.{Listed}
+use Rattle.acpitool_program.specs.Making.{MakesWord, Makes}
 use Rattle.acpitool_program.specs.Outcome.{Outcome, Printed}
 use Rattle.acpi_forms.specs.Known.{is_known}
 use Rattle.acpitool_program.specs.Program.{Ended, IsDone, IsShown, AreChecked, IsBlockShown, NotStated, IsTemplated}
 use Rattle.acpitool_program.specs.declared.command.Command.{Command}
 use Rattle.acpitool_program.specs.declared.command.Command.TheVariants.{Help, Version, Show, Check, Image, Make, Template}
-use Rattle.acpitool_program.specs.declared.command.Command.TheVariants.{Disassemble, Names, Unpack, Cpio}
+use Rattle.acpitool_program.specs.declared.command.Command.TheVariants.{Disassemble, Names, Unpack, Cpio, Lay, Diff}
 
 printed_kept : (job : Job) (outcomes : List Outcome) (o o' o'' e e' : Option (List ℕ)) (s : ℕ) → Keeps o' o''
     → Printed job outcomes o o' e e' s → Printed job outcomes o o'' e e' s
@@ -139,6 +139,8 @@ done_kept o o' o'' e e' s (Disassemble file numbers) kept done = block_kept bloc
 done_kept o o' o'' e e' s (Names file numbers) kept done = block_kept blocks.Names file.now _ o o' o'' e e' s kept done
 done_kept o o' o'' e e' s (Unpack file folder base) kept done = unpacked_kept file.now folder.now base o o' o'' e e' s kept done
 done_kept o o' o'' e e' s (Cpio folder file) kept done = archived_kept folder.now file.now o o' o'' e e' s kept done
+done_kept o o' o'' e e' s (Lay folder file base) kept done = laid_kept folder.now file.now base o o' o'' e e' s kept done
+done_kept o o' o'' e e' s (Diff first second) kept done = compared_kept first.now second.now o o' o'' e e' s kept done
 done_kept o o' o'' e e' s (Make force text file) kept done = made_kept force text.now file.now o o' o'' e e' s kept done
 
 pub ended_kept : (words : List (List ℕ)) (o o' o'' e e' : Option (List ℕ)) (s : ℕ) → Keeps o' o'' → Ended words o o' e e' s → Ended words o o'' e e' s

@@ -1,7 +1,6 @@
 -- Tables that are written to files, one after another.
-use Rattle.std.proofs.Common.{◌≡◌, ℕ, ◌<◌, ◌≤◌, ◌+◌, max, List, [], ◌∷◌, ◌++◌, Option, Some, None, length, map, take, drop, get_or, refl, sym, ap, subst, ◌∙◌, arith, inl, Ok}
+use Rattle.std.proofs.Common.{◌≡◌, ℕ, ◌<◌, ◌≤◌, ◌+◌, max, List, [], ◌∷◌, ◌++◌, Option, length, map, take, drop, get_or, refl, sym, ap, subst, ◌∙◌, arith, inl, Ok}
 use Rattle.std.proofs.lemmas.List.{at_drop_more, drop_all, map_more}
-use Rattle.std.specs.Io.KnownBytes.{Keeps}
 use Rattle.acpi_dump.specs.Dump.{titled, tables_of}
 use Rattle.acpi_dump.specs.declared.dump.Dumped.{Dumped}
 use Rattle.acpitool_program.proofs.Streams.{keeps_self}

@@ -24,7 +24,9 @@ verb_of word =
     else (if bytes_eq word (codes "names") then Some verbs.Names
     else (if bytes_eq word (codes "unpack") then Some verbs.Unpack
     else (if bytes_eq word (codes "cpio") then Some verbs.Cpio
-    else None))))))))
+    else (if bytes_eq word (codes "lay") then Some verbs.Lay
+    else (if bytes_eq word (codes "diff") then Some verbs.Diff
+    else None))))))))))
 
 verb_is : (verb : Verb) → verb_of (word_of verb) ≡ Some verb
 verb_is verbs.Show = refl
@@ -36,6 +38,8 @@ verb_is verbs.Disassemble = refl
 verb_is verbs.Names = refl
 verb_is verbs.Unpack = refl
 verb_is verbs.Cpio = refl
+verb_is verbs.Lay = refl
+verb_is verbs.Diff = refl
 
 pub same_verb : (a b : Verb) → word_of a ≡ word_of b → a ≡ b
 same_verb a b is = let e : Some a ≡ Some b = sym (verb_is a) ∙ ap verb_of is ∙ verb_is b in cc

@@ -1,18 +1,19 @@
 -- Words that are wrong ask for no command.
 use Rattle.std.proofs.Common.{◌≡◌, ◌≢◌, ◌⊎◌, ◌≤◌, ℕ, List, [], ◌∷◌, length, Some, None, refl, map, string_bytes, ap, sym, subst, ◌∙◌, inl, inr, arith, codes}
 use Rattle.acpitool_program.proofs.Verbs.{heads, tails, same_verb, no_version, no_help}
-use Rattle.acpitool_program.specs.Command.{word_of, first_option, files_in, unforced, IsAddress, AreImage, AreUnpack, IsHelp, BeginsWithHelp, Asks, IsNoCommand}
-use Rattle.acpitool_program.specs.Command.{IsAfterBase, IsAfterFile, IsAfterUnpacked, IsNoUnpackBase, IsWrong}
+use Rattle.acpitool_program.specs.Command.{word_of, first_option, files_in, unforced, IsAddress, AreImage, AreUnpack, AreLay, IsHelp, BeginsWithHelp, Asks, IsNoCommand}
+use Rattle.acpitool_program.specs.Command.{IsAfterBase, IsAfterFile, IsAfterUnpacked, IsNoUnpackBase, IsAfterLaid, IsNoLayBase, IsWrong}
 use Rattle.acpitool_program.specs.Laws.{WrongAskForNothing}
 use Rattle.acpitool_program.specs.declared.command.Command.{Command}
 use Rattle.acpitool_program.specs.declared.command.Command.TheVariants.{Help, Version, Show, Check, Image, Make, Template}
-use Rattle.acpitool_program.specs.declared.command.Command.TheVariants.{Disassemble, Names, Unpack, Cpio}
+use Rattle.acpitool_program.specs.declared.command.Command.TheVariants.{Disassemble, Names, Unpack, Cpio, Lay, Diff}
 use Rattle.acpitool_program.specs.declared.command.Verb.{Verb}
 use Rattle.acpitool_program.specs.declared.command.Verb.TheVariants as verbs
 use Rattle.acpitool_program.specs.declared.command.Wrong.{Wrong}
 use Rattle.acpitool_program.specs.declared.command.Wrong.TheVariants.{NoCommand, Unknown, NoFile, NoFileToCheck, NoImage, NoText}
 use Rattle.acpitool_program.specs.declared.command.Wrong.TheVariants.{NoTable, Base, Number, Twice, NoSignature, Signature, NoBlock}
 use Rattle.acpitool_program.specs.declared.command.Wrong.TheVariants.{NoPacked, NoFolder, NoTables, NoArchive}
+use Rattle.acpitool_program.specs.declared.command.Wrong.TheVariants.{NoImageFile, NoBase, NoFirst, NoSecond}
 
 -- ---- the words after a command
 
@@ -27,6 +28,8 @@ IsTaken verbs.Disassemble more = (file : List ℕ) × (numbers : List (List ℕ)
 IsTaken verbs.Names more = (file : List ℕ) × (numbers : List (List ℕ)) × (more ≡ file ∷ numbers)
 IsTaken verbs.Unpack more = (file : List ℕ) × (folder : List ℕ) × (base : ℕ) × AreUnpack more file folder base
 IsTaken verbs.Cpio more = (folder : List ℕ) × (file : List ℕ) × (more ≡ folder ∷ file ∷ [])
+IsTaken verbs.Lay more = (folder : List ℕ) × (file : List ℕ) × (base : ℕ) × AreLay more folder file base
+IsTaken verbs.Diff more = (first : List ℕ) × (second : List ℕ) × (more ≡ first ∷ second ∷ [])
 
 -- they ask for the usage, or are what the command takes
 abbrev Serves : Verb → List (List ℕ) → Type 0
@@ -89,6 +92,10 @@ asked words (Unpack file folder base) all =
     inr (inr (record { verb = verbs.Unpack; more = all.0; is = all.1.0; are = inr (all.1.1, (file.now, folder.now, base, all.2)) }))
 asked words (Cpio folder file) all =
     inr (inr (record { verb = verbs.Cpio; more = all.0; is = all.1.0; are = inr (all.1.1, (folder.now, file.now, all.2)) }))
+asked words (Lay folder file base) all =
+    inr (inr (record { verb = verbs.Lay; more = all.0; is = all.1.0; are = inr (all.1.1, (folder.now, file.now, base, all.2)) }))
+asked words (Diff first second) all =
+    inr (inr (record { verb = verbs.Diff; more = all.0; is = all.1.0; are = inr (all.1.1, (first.now, second.now, all.2)) }))
 asked words (Make force text file) all =
     inr (inr (record { verb = verbs.Make; more = all.0; is = all.1.0; are = inr (all.1.1, (text.now, file.now, all.3)) }))
 
@@ -161,6 +168,33 @@ only_file : (more : List (List ℕ)) → length more ≡ 1 → (file folder : Li
 only_file more one file folder base taken =
     let size : length (file ∷ taken.0) ≡ 1 = sym (ap length taken.1) ∙ one in no_rest taken.0 (omega (arith, size)) folder base taken.2
 
+after_laid : (words : List (List ℕ)) (word : List ℕ) → IsAfterLaid words word → With Fails words
+after_laid words word one = record {
+  verb = verbs.Lay;
+  more = one.more;
+  is = one.after.0;
+  are = inr (one.after.1, λ taken. cc (one.is, taken.3.1));
+}
+
+no_lay_base : (words : List (List ℕ)) (word : List ℕ) → IsNoLayBase words word → With Fails words
+no_lay_base words word one = record {
+  verb = verbs.Lay;
+  more = one.more;
+  is = one.after.0;
+  are = inr (
+    one.after.1,
+    λ taken.
+        let are = taken.3 in
+        let P : List ℕ → Type 0 = λ l. IsAddress l taken.2 in
+        let same : are.0 ≡ word = cc (one.is, are.1) in
+        one.not taken.2 (subst P same are.2),
+  );
+}
+
+-- so many words, which `lay` doesn't take
+few_laid : (more : List (List ℕ)) → length more ≤ 2 → (folder file : List ℕ) (base : ℕ) → AreLay more folder file base → ⊥
+few_laid more few folder file base taken = let three = ap length taken.1 in absurd (omega (arith, few, three))
+
 after_file : (words : List (List ℕ)) (word : List ℕ) → IsAfterFile words word → With Fails words
 after_file words word one =
     record { verb = verbs.Make; more = one.more; is = one.after.0; are = inr (one.after.1, λ taken. cc (one.is, taken.2)) }
@@ -179,7 +213,14 @@ wronged words (Unknown word) (inr (inr (inr (inr (inr (inl third)))))) = inr (in
   is = third.after.0;
   are = inr (third.after.1, λ taken. cc (third.is, taken.2));
 }))
-wronged words (Unknown word) (inr (inr (inr (inr (inr (inr second)))))) = inr (inr (record {
+wronged words (Unknown word) (inr (inr (inr (inr (inr (inr (inl fourth))))))) = inr (inr (after_laid words word.now fourth))
+wronged words (Unknown word) (inr (inr (inr (inr (inr (inr (inr (inl third)))))))) = inr (inr (record {
+  verb = verbs.Diff;
+  more = third.more;
+  is = third.after.0;
+  are = inr (third.after.1, λ taken. cc (third.is, taken.2));
+}))
+wronged words (Unknown word) (inr (inr (inr (inr (inr (inr (inr (inr second)))))))) = inr (inr (record {
   verb = verbs.Template;
   more = second.more;
   is = second.after.0;
@@ -219,8 +260,30 @@ wronged words NoPacked is =
     inr (inr (record { verb = verbs.Unpack; more = []; is = is; are = inr (refl, λ taken. cc (taken.3.1)) }))
 wronged words NoFolder all =
     inr (inr (record { verb = verbs.Unpack; more = all.0; is = all.1.0; are = inr (all.1.1, λ taken. only_file all.0 all.2 taken.0 taken.1 taken.2 taken.3) }))
-wronged words NoTables is =
+wronged words NoTables (inl is) =
     inr (inr (record { verb = verbs.Cpio; more = []; is = is; are = inr (refl, λ taken. cc (taken.2)) }))
+wronged words NoTables (inr is) =
+    inr (inr (record { verb = verbs.Lay; more = []; is = is; are = inr (refl, λ taken. cc (taken.3.1)) }))
+wronged words NoImageFile all = inr (inr (record {
+  verb = verbs.Lay;
+  more = all.0;
+  is = all.1.0;
+  are = inr (all.1.1, λ taken. let one = all.2 in few_laid all.0 (omega (arith, one)) taken.0 taken.1 taken.2 taken.3);
+}))
+wronged words NoBase all = inr (inr (record {
+  verb = verbs.Lay;
+  more = all.0;
+  is = all.1.0;
+  are = inr (all.1.1, λ taken. let two = all.2 in few_laid all.0 (omega (arith, two)) taken.0 taken.1 taken.2 taken.3);
+}))
+wronged words NoFirst is =
+    inr (inr (record { verb = verbs.Diff; more = []; is = is; are = inr (refl, λ taken. cc (taken.2)) }))
+wronged words NoSecond all = inr (inr (record {
+  verb = verbs.Diff;
+  more = all.0;
+  is = all.1.0;
+  are = inr (all.1.1, λ taken. let one = all.2 in let two = ap length taken.2 in omega (arith, one, two));
+}))
 wronged words NoArchive all = inr (inr (record {
   verb = verbs.Cpio;
   more = all.0;
@@ -233,7 +296,8 @@ wronged words (Base word) (inl one) = inr (inr (record {
   is = one.after.0;
   are = inr (one.after.1, λ taken. no_base one.more one.file word.now taken.0 taken.1 one.is one.not taken.2);
 }))
-wronged words (Base word) (inr one) = inr (inr (no_unpack_base words word.now one))
+wronged words (Base word) (inr (inl one)) = inr (inr (no_unpack_base words word.now one))
+wronged words (Base word) (inr (inr one)) = inr (inr (no_lay_base words word.now one))
 wronged words (Number word) none = absurd none
 wronged words Twice none = absurd none
 
@@ -249,6 +313,8 @@ is_command words word verbs.Disassemble none is = none.no_disassemble is
 is_command words word verbs.Names none is = none.no_names is
 is_command words word verbs.Unpack none is = none.no_unpack is
 is_command words word verbs.Cpio none is = none.no_cpio is
+is_command words word verbs.Lay none is = none.no_lay is
+is_command words word verbs.Diff none is = none.no_diff is
 
 no_help_first : (words : List (List ℕ)) (word first : List ℕ) → IsNoCommand words word → IsHelp first ⊎ (first ≡ codes "help")
     → word ≡ first → ⊥

@@ -8,7 +8,7 @@ use Rattle.std.specs.Str.Parse.{IsNumeral, digits_value, without_leading_plus}
 use Rattle.acpi_input.specs.Stated.{stated_by, stated}
 use Rattle.acpitool_program.specs.declared.command.Command.{Command}
 use Rattle.acpitool_program.specs.declared.command.Command.TheVariants.{Help, Version, Show, Check, Image, Make, Template}
-use Rattle.acpitool_program.specs.declared.command.Command.TheVariants.{Disassemble, Names, Unpack, Cpio}
+use Rattle.acpitool_program.specs.declared.command.Command.TheVariants.{Disassemble, Names, Unpack, Cpio, Lay, Diff}
 use Rattle.acpitool_program.specs.declared.command.Misstated.{Misstated}
 use Rattle.acpitool_program.specs.declared.command.Misstated.TheVariants as misstated
 use Rattle.acpitool_program.specs.declared.command.Verb.{Verb}
@@ -18,6 +18,7 @@ use Rattle.acpitool_program.specs.declared.command.Wrong.TheVariants.{NoCommand,
 use Rattle.acpitool_program.specs.declared.command.Wrong.TheVariants.{NoTable, Base, Number, Twice, NoSignature}
 use Rattle.acpitool_program.specs.declared.command.Wrong.TheVariants.{Signature, NoBlock}
 use Rattle.acpitool_program.specs.declared.command.Wrong.TheVariants.{NoPacked, NoFolder, NoTables, NoArchive}
+use Rattle.acpitool_program.specs.declared.command.Wrong.TheVariants.{NoImageFile, NoBase, NoFirst, NoSecond}
 
 -- whether a word is an option: a dash and more
 abbrev pub is_option : List ℕ → Bool
@@ -58,6 +59,8 @@ word_of verbs.Disassemble = codes "disassemble"
 word_of verbs.Names = codes "names"
 word_of verbs.Unpack = codes "unpack"
 word_of verbs.Cpio = codes "cpio"
+word_of verbs.Lay = codes "lay"
+word_of verbs.Diff = codes "diff"
 
 -- an option that asks for how the program is used
 abbrev pub IsHelp : List ℕ → Type 0
@@ -134,6 +137,10 @@ AreImage more file base =
 abbrev pub AreUnpack : List (List ℕ) → List ℕ → List ℕ → ℕ → Type 0
 AreUnpack more file folder base = (rest : List (List ℕ)) × (more ≡ file ∷ rest) × AreImage rest folder base
 
+-- FOLDER FILE BASE after `lay`
+abbrev pub AreLay : List (List ℕ) → List ℕ → List ℕ → ℕ → Type 0
+AreLay more folder file base = (word : List ℕ) × (more ≡ folder ∷ file ∷ word ∷ []) × IsAddress word base
+
 -- the words ask for a command
 abbrev pub Asks : List (List ℕ) → Command → Type 0
 Asks words Help = BeginsWithHelp words ⊎ AsksForHelp words
@@ -160,6 +167,10 @@ Asks words (Names file numbers) =
 Asks words (Unpack file folder base) =
     (more : List (List ℕ)) × AreAfter verbs.Unpack words more × AreUnpack more file.now folder.now base
 Asks words (Cpio folder file) = (more : List (List ℕ)) × AreAfter verbs.Cpio words more × (more ≡ folder.now ∷ file.now ∷ [])
+Asks words (Lay folder file base) =
+    (more : List (List ℕ)) × AreAfter verbs.Lay words more × AreLay more folder.now file.now base
+Asks words (Diff first second) =
+    (more : List (List ℕ)) × AreAfter verbs.Diff words more × (more ≡ first.now ∷ second.now ∷ [])
 Asks words (Make force text file) =
     (more : List (List ℕ)) × AreAfter verbs.Make words more × (force ≡ forces more) × (unforced more ≡ text.now ∷ file.now ∷ [])
 
@@ -180,6 +191,8 @@ pub record IsNoCommand (words : List (List ℕ)) (word : List ℕ) : Type 0 wher
   pub no_names : word ≢ codes "names"
   pub no_unpack : word ≢ codes "unpack"
   pub no_cpio : word ≢ codes "cpio"
+  pub no_lay : word ≢ codes "lay"
+  pub no_diff : word ≢ codes "diff"
 
 -- a word after a command is an option that there isn't
 pub record IsNoOption (words : List (List ℕ)) (word : List ℕ) : Type 0 where
@@ -235,6 +248,34 @@ pub record IsAfterArchive (words : List (List ℕ)) (word : List ℕ) : Type 0 w
   pub others : List (List ℕ)
   pub is : more ≡ folder ∷ file ∷ word ∷ others
 
+-- a word after `lay FOLDER FILE BASE`
+pub record IsAfterLaid (words : List (List ℕ)) (word : List ℕ) : Type 0 where
+  pub more : List (List ℕ)
+  pub after : AreAfter verbs.Lay words more
+  pub folder : List ℕ
+  pub file : List ℕ
+  pub base : List ℕ
+  pub others : List (List ℕ)
+  pub is : more ≡ folder ∷ file ∷ base ∷ word ∷ others
+
+-- a word after `diff FILE FILE`
+pub record IsAfterCompared (words : List (List ℕ)) (word : List ℕ) : Type 0 where
+  pub more : List (List ℕ)
+  pub after : AreAfter verbs.Diff words more
+  pub first : List ℕ
+  pub second : List ℕ
+  pub others : List (List ℕ)
+  pub is : more ≡ first ∷ second ∷ word ∷ others
+
+-- the word in the place of BASE after `lay` isn't an address
+pub record IsNoLayBase (words : List (List ℕ)) (word : List ℕ) : Type 0 where
+  pub more : List (List ℕ)
+  pub after : AreAfter verbs.Lay words more
+  pub folder : List ℕ
+  pub file : List ℕ
+  pub is : more ≡ folder ∷ file ∷ word ∷ []
+  pub not : (base : ℕ) → ¬ IsAddress word base
+
 -- the word in the place of BASE after `unpack` isn't an address
 pub record IsNoUnpackBase (words : List (List ℕ)) (word : List ℕ) : Type 0 where
   pub more : List (List ℕ)
@@ -257,7 +298,8 @@ abbrev pub IsWrong : List (List ℕ) → Wrong → Type 0
 IsWrong words NoCommand = words ≡ []
 IsWrong words (Unknown word) =
     IsNoCommand words word.now ⊎ IsNoOption words word.now ⊎ IsAfterBase words word.now ⊎ IsAfterFile words word.now
-    ⊎ IsAfterUnpacked words word.now ⊎ IsAfterArchive words word.now ⊎ IsAfterSignature words word.now
+    ⊎ IsAfterUnpacked words word.now ⊎ IsAfterArchive words word.now ⊎ IsAfterLaid words word.now
+    ⊎ IsAfterCompared words word.now ⊎ IsAfterSignature words word.now
 IsWrong words NoFile = (more : List (List ℕ)) × AreAfter verbs.Show words more × (files_in more ≡ 0)
 IsWrong words NoFileToCheck = words ≡ codes "check" ∷ []
 IsWrong words NoImage = words ≡ codes "image" ∷ []
@@ -269,8 +311,12 @@ IsWrong words NoText = (more : List (List ℕ)) × AreAfter verbs.Make words mor
 IsWrong words NoTable = (more : List (List ℕ)) × AreAfter verbs.Make words more × (length (unforced more) ≡ 1)
 IsWrong words NoPacked = words ≡ codes "unpack" ∷ []
 IsWrong words NoFolder = (more : List (List ℕ)) × AreAfter verbs.Unpack words more × (length more ≡ 1)
-IsWrong words NoTables = words ≡ codes "cpio" ∷ []
+IsWrong words NoTables = (words ≡ codes "cpio" ∷ []) ⊎ (words ≡ codes "lay" ∷ [])
 IsWrong words NoArchive = (more : List (List ℕ)) × AreAfter verbs.Cpio words more × (length more ≡ 1)
-IsWrong words (Base word) = IsNoBase words word.now ⊎ IsNoUnpackBase words word.now
+IsWrong words NoImageFile = (more : List (List ℕ)) × AreAfter verbs.Lay words more × (length more ≡ 1)
+IsWrong words NoBase = (more : List (List ℕ)) × AreAfter verbs.Lay words more × (length more ≡ 2)
+IsWrong words NoFirst = words ≡ codes "diff" ∷ []
+IsWrong words NoSecond = (more : List (List ℕ)) × AreAfter verbs.Diff words more × (length more ≡ 1)
+IsWrong words (Base word) = IsNoBase words word.now ⊎ IsNoUnpackBase words word.now ⊎ IsNoLayBase words word.now
 IsWrong words (Number word) = ⊥
 IsWrong words Twice = ⊥

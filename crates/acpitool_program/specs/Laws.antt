@@ -3,7 +3,7 @@ use Rattle.std.specs.Prelude.{◌≡◌, ℕ, Bool, false, List, [], ◌∷◌, 
 use Rattle.acpitool_program.specs.Command.{Asks, IsWrong}
 use Rattle.acpitool_program.specs.declared.command.Command.{Command}
 use Rattle.acpitool_program.specs.declared.command.Command.TheVariants.{Help, Version, Show, Check, Image, Make, Template}
-use Rattle.acpitool_program.specs.declared.command.Command.TheVariants.{Disassemble, Names, Unpack, Cpio}
+use Rattle.acpitool_program.specs.declared.command.Command.TheVariants.{Disassemble, Names, Unpack, Cpio, Lay, Diff}
 use Rattle.acpitool_program.specs.declared.command.Wrong.{Wrong}
 
 -- what a command contains: its word, its files, folders or signature, the words that state numbers, an address, and `--force`
@@ -23,6 +23,8 @@ content (Names file numbers) = (codes "names", file.now ∷ [], map (λ word. st
 content (Make force text file) = (codes "make", text.now ∷ file.now ∷ [], [], 0, force)
 content (Unpack file folder base) = (codes "unpack", file.now ∷ folder.now ∷ [], [], base, false)
 content (Cpio folder file) = (codes "cpio", folder.now ∷ file.now ∷ [], [], 0, false)
+content (Lay folder file base) = (codes "lay", folder.now ∷ file.now ∷ [], [], base, false)
+content (Diff first second) = (codes "diff", first.now ∷ second.now ∷ [], [], 0, false)
 
 -- words ask for at most one command
 abbrev pub AskForOne : Type 0

@@ -12,6 +12,8 @@ pub mod Job
 pub mod Checked
 pub mod Unpacking
 pub mod Archiving
+pub mod Laying
+pub mod Comparing
 pub mod Outcome
 pub mod Disassembly
 pub mod Program

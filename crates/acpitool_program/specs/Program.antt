@@ -10,15 +10,17 @@ use Rattle.acpi_forms.specs.Makes.{IsTemplateOf}
 use Rattle.acpi_input.specs.Stated.{stated}
 use Rattle.acpitool_program.specs.Command.{Asks, IsWrong, IsMisstated}
 use Rattle.acpitool_program.specs.Archiving.{Archives}
+use Rattle.acpitool_program.specs.Comparing.{Compares}
 use Rattle.acpitool_program.specs.Disassembly.{DisassemblesFile}
 use Rattle.acpitool_program.specs.Job.{shows, checks}
+use Rattle.acpitool_program.specs.Laying.{LaysFolder}
 use Rattle.acpitool_program.specs.Listing.{Listed}
 use Rattle.acpitool_program.specs.Making.{Makes}
 use Rattle.acpitool_program.specs.Outcome.{AreOfEach, AreOfWord, PrintedAs}
 use Rattle.acpitool_program.specs.Unpacking.{Unpacks}
 use Rattle.acpitool_program.specs.declared.command.Command.{Command}
 use Rattle.acpitool_program.specs.declared.command.Command.TheVariants.{Help, Version, Show, Check, Image, Make, Template}
-use Rattle.acpitool_program.specs.declared.command.Command.TheVariants.{Disassemble, Names, Unpack, Cpio}
+use Rattle.acpitool_program.specs.declared.command.Command.TheVariants.{Disassemble, Names, Unpack, Cpio, Lay, Diff}
 use Rattle.acpitool_program.specs.declared.command.Misstated.TheVariants as misstated
 use Rattle.acpi_asl.specs.declared.block.BlockText.{BlockText}
 use Rattle.acpi_asl.specs.declared.block.BlockText.TheVariants as blocks
@@ -27,14 +29,15 @@ use Rattle.acpitool_program.specs.declared.command.Wrong.TheVariants.{NoCommand,
 use Rattle.acpitool_program.specs.declared.command.Wrong.TheVariants.{NoTable, Base, Number, Twice, NoSignature}
 use Rattle.acpitool_program.specs.declared.command.Wrong.TheVariants.{Signature, NoBlock}
 use Rattle.acpitool_program.specs.declared.command.Wrong.TheVariants.{NoPacked, NoFolder, NoTables, NoArchive}
+use Rattle.acpitool_program.specs.declared.command.Wrong.TheVariants.{NoImageFile, NoBase, NoFirst, NoSecond}
 
 -- ---- how the program is used
 
 abbrev pub usage : List ℕ
 usage =
-    codes "usage: acpitool show FILE .. [NAME=N ..] | check FILE .. | disassemble FILE [NAME=N ..] | names FILE [NAME=N ..]"
-    ++ codes " | image FILE [BASE] | make [--force] TEXT FILE | template SIGNATURE | unpack FILE FOLDER [BASE]"
-    ++ codes " | cpio FOLDER FILE | --help | --version\n"
+    codes "usage: acpitool show FILE .. [NAME=N ..] | check FILE .. | diff FILE FILE | disassemble FILE [NAME=N ..]"
+    ++ codes " | names FILE [NAME=N ..] | image FILE [BASE] | make [--force] TEXT FILE | template SIGNATURE"
+    ++ codes " | unpack FILE FOLDER [BASE] | cpio FOLDER FILE | lay FOLDER FILE BASE | --help | --version\n"
 
 abbrev pub version : List ℕ
 version = codes "acpitool 0.1.0\n"
@@ -54,6 +57,10 @@ wrong_line NoPacked = codes "acpitool: no file to unpack\n"
 wrong_line NoFolder = codes "acpitool: no folder for the tables\n"
 wrong_line NoTables = codes "acpitool: no folder with tables\n"
 wrong_line NoArchive = codes "acpitool: no file for the archive\n"
+wrong_line NoImageFile = codes "acpitool: no file for the image\n"
+wrong_line NoBase = codes "acpitool: no address for the image\n"
+wrong_line NoFirst = codes "acpitool: no files to compare\n"
+wrong_line NoSecond = codes "acpitool: no second file to compare\n"
 wrong_line (Signature word) = codes "acpitool: not a signature of four characters: " ++ word.now ++ codes "\n"
 wrong_line (Base word) = codes "acpitool: not an address in hexadecimal: " ++ word.now ++ codes "\n"
 wrong_line (Number word) = codes "acpitool: not NAME=N with N from 0 to 7: " ++ word.now ++ codes "\n"
@@ -149,6 +156,8 @@ IsDone (Names file numbers) out out' err err' status =
     IsBlockShown blocks.Names file.now (map (λ word. string_bytes word) numbers.now) out out' err err' status
 IsDone (Unpack file folder base) out out' err err' status = Unpacks file.now folder.now base out out' err err' status
 IsDone (Cpio folder file) out out' err err' status = Archives folder.now file.now out out' err err' status
+IsDone (Lay folder file base) out out' err err' status = LaysFolder folder.now file.now base out out' err err' status
+IsDone (Diff first second) out out' err err' status = Compares first.now second.now out out' err err' status
 IsDone (Make force text file) out out' err err' status = Makes force text.now file.now out out' err err' status
 
 -- a command that the words ask for was done

@@ -43,6 +43,11 @@ pub enum Command<'a> {
     /// `cpio FOLDER FILE`: the archive from which Linux takes the tables of a folder, to a file, or to standard output where the
     /// word is `-`.
     Cpio(&'a str, &'a str),
+    /// `lay FOLDER FILE BASE`: the image of the tables of a folder, which begins at the physical address BASE in hexadecimal, to
+    /// a file, or to standard output where the word is `-`.
+    Lay(&'a str, &'a str, u64),
+    /// `diff FILE FILE`: the fields in which the tables in two files differ, or on standard input where a word is `-`.
+    Diff(&'a str, &'a str),
 }
 
 /// A command that takes words.
@@ -57,6 +62,8 @@ pub enum Verb {
     Names,
     Unpack,
     Cpio,
+    Lay,
+    Diff,
 }
 
 /// Why words ask for nothing.
@@ -84,10 +91,18 @@ pub enum Wrong<'a> {
     NoPacked,
     /// `unpack` has no folder.
     NoFolder,
-    /// `cpio` has no folder.
+    /// `cpio` or `lay` has no folder.
     NoTables,
     /// `cpio` has no file for the archive.
     NoArchive,
+    /// `lay` has no file for the image.
+    NoImageFile,
+    /// `lay` has no address.
+    NoBase,
+    /// `diff` has no file.
+    NoFirst,
+    /// `diff` has no second file.
+    NoSecond,
     /// The word isn't a signature of four bytes.
     Signature(&'a str),
     /// The word isn't an address in hexadecimal.
@@ -131,6 +146,7 @@ fn takes(verb: Verb, word: &str) -> bool
         Verb::Make => is_force(word),
         Verb::Show | Verb::Check | Verb::Image | Verb::Template => false,
         Verb::Disassemble | Verb::Names | Verb::Unpack | Verb::Cpio => false,
+        Verb::Lay | Verb::Diff => false,
     }
 }
 
@@ -412,6 +428,41 @@ fn cpio(words: &[String]) -> Result<Command<'_>, Wrong<'_>>
     }
 }
 
+// Returns what `lay` and these words, which aren't options, ask for.
+fn lay(words: &[String]) -> Result<Command<'_>, Wrong<'_>>
+    requires { first_option verbs.Lay (map (λ word. string_bytes word) words.now) ≡ None }
+    ensures { (all : List (List ℕ)) → all ≡ codes "lay" ∷ map (λ word. string_bytes word) words.now
+        → MatchResult result (Asks all) (IsWrong all) }
+{
+    match words {
+        [] => Err(Wrong::NoTables),
+        [_] => Err(Wrong::NoImageFile),
+        [_, _] => Err(Wrong::NoBase),
+        [folder, file, base] => {
+            let word = base.as_str();
+            match address_of(word) {
+                Some(address) => Ok(Command::Lay(folder.as_str(), file.as_str(), address)),
+                None => Err(Wrong::Base(word)),
+            }
+        }
+        [_, _, _, extra, ..] => Err(Wrong::Unknown(extra.as_str())),
+    }
+}
+
+// Returns what `diff` and these words, which aren't options, ask for.
+fn diff(words: &[String]) -> Result<Command<'_>, Wrong<'_>>
+    requires { first_option verbs.Diff (map (λ word. string_bytes word) words.now) ≡ None }
+    ensures { (all : List (List ℕ)) → all ≡ codes "diff" ∷ map (λ word. string_bytes word) words.now
+        → MatchResult result (Asks all) (IsWrong all) }
+{
+    match words {
+        [] => Err(Wrong::NoFirst),
+        [_] => Err(Wrong::NoSecond),
+        [first, second] => Ok(Command::Diff(first.as_str(), second.as_str())),
+        [_, _, extra, ..] => Err(Wrong::Unknown(extra.as_str())),
+    }
+}
+
 // Returns what a command and the words after it ask for.
 fn asked(verb: Verb, words: &[String]) -> Result<Command<'_>, Wrong<'_>>
     ensures { (all : List (List ℕ)) → all ≡ word_of verb ∷ map (λ word. string_bytes word) words.now
@@ -431,6 +482,8 @@ fn asked(verb: Verb, words: &[String]) -> Result<Command<'_>, Wrong<'_>>
             Verb::Names => names(words),
             Verb::Unpack => unpack(words),
             Verb::Cpio => cpio(words),
+            Verb::Lay => lay(words),
+            Verb::Diff => diff(words),
         },
     }
 }
@@ -457,6 +510,8 @@ pub fn parse(words: &[String]) -> Result<Command<'_>, Wrong<'_>>
         "names" => asked(Verb::Names, rest),
         "unpack" => asked(Verb::Unpack, rest),
         "cpio" => asked(Verb::Cpio, rest),
+        "lay" => asked(Verb::Lay, rest),
+        "diff" => asked(Verb::Diff, rest),
         word => Err(Wrong::Unknown(word)),
     }
 }

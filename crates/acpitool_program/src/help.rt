@@ -9,9 +9,9 @@ use std::io;
 use std::io::Write;
 
 const USAGE: &str = "\
-usage: acpitool show FILE .. [NAME=N ..] | check FILE .. | disassemble FILE [NAME=N ..] | names FILE [NAME=N ..] \
-| image FILE [BASE] | make [--force] TEXT FILE | template SIGNATURE | unpack FILE FOLDER [BASE] \
-| cpio FOLDER FILE | --help | --version
+usage: acpitool show FILE .. [NAME=N ..] | check FILE .. | diff FILE FILE | disassemble FILE [NAME=N ..] \
+| names FILE [NAME=N ..] | image FILE [BASE] | make [--force] TEXT FILE | template SIGNATURE \
+| unpack FILE FOLDER [BASE] | cpio FOLDER FILE | lay FOLDER FILE BASE | --help | --version
 ";
 
 // What `--help`, `-h` and `help` print after the usage.
@@ -26,6 +26,11 @@ check prints a line for each rule of the standard that a table breaks: reserved 
 numbers that are reserved, and numbers outside their range. The line has the offset and the name of the field, its
 bytes, and the section of the standard. FILE is as for show. A rule that a table of another standard breaks is a
 warning, since newer revisions of that standard may allow it.
+
+diff prints a line for each field in which two tables differ: its offset and its name, and its bytes in the first and
+in the second table in hexadecimal, the highest first, or none. Fields are compared in their order and not by their
+offsets, so a structure that only one table has doesn't shift those after it. A line says if only bytes without a name
+differ, or if the tables have different signatures. A FILE is a table, an RSDP or a FACS; - is standard input.
 
 disassemble prints a DSDT or an SSDT as ASL, the language that compilers take. FILE is its table, or - for
 standard input.
@@ -56,9 +61,16 @@ cpio writes the archive from which Linux takes tables in its initrd: the files o
 for byte as cpio -H newc makes it, with root as owner and the time 0. Each file has to be a table with the standard
 header. As FILE, - is standard output; a regular FILE is replaced as make does it.
 
+lay writes the image of the tables of FOLDER for the physical address BASE in hexadecimal, a multiple of 0x40. Each file
+has to be a table, an RSDP or a FACS. One is the FADT, one the DSDT, and one the FACS, which may be missing if the FADT
+has the flag HW_REDUCED_ACPI. The image has an RSDP and an XSDT of its own, so those of FOLDER aren't laid, nor is an
+RSDT. Of the tables only the FADT is changed: it points to the FACS and the DSDT. Tables are laid in the order of their
+files' names. A line has the address of the RSDP. As FILE, - is standard output, and the line goes to standard error; a
+regular FILE is replaced as make does it, unless it is one of the tables.
+
 The status is 0 if everything is shown or written, 1 if something isn't a table, an image or a text of a table,
-its structures or numbers are wrong, a table breaks a rule, no table has the signature, or output can't be
-written, and 2 if a file can't be read or the words are wrong.
+its structures or numbers are wrong, a table breaks a rule, two tables differ, tables have no image, no table has
+the signature, or output can't be written, and 2 if a file can't be read or the words are wrong.
 ";
 
 const VERSION: &str = "acpitool 0.1.0\n";
@@ -97,6 +109,10 @@ fn print_wrong<E: Write>(wrong: &Wrong<'_>, err: &mut E) -> io::Result<()>
         Wrong::NoFolder => err.write_all(b"acpitool: no folder for the tables\n"),
         Wrong::NoTables => err.write_all(b"acpitool: no folder with tables\n"),
         Wrong::NoArchive => err.write_all(b"acpitool: no file for the archive\n"),
+        Wrong::NoImageFile => err.write_all(b"acpitool: no file for the image\n"),
+        Wrong::NoBase => err.write_all(b"acpitool: no address for the image\n"),
+        Wrong::NoFirst => err.write_all(b"acpitool: no files to compare\n"),
+        Wrong::NoSecond => err.write_all(b"acpitool: no second file to compare\n"),
         Wrong::Signature(word) => {
             writeln!(err, "acpitool: not a signature of four characters: {word}")
         }

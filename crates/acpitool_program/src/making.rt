@@ -183,8 +183,8 @@ fn tell_written<E: Write>(
     }
 }
 
-// Writes a table to a file, and returns 0, or prints why it can't be written, and returns 1.
-fn save<R: Files, E: Write>(
+/// Writes bytes to a file, and returns 0, or prints why it can't be written, and returns 1.
+pub fn save<R: Files, E: Write>(
     rt: &R,
     alloc: Global,
     bytes: &[u8],

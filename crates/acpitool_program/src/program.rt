@@ -9,8 +9,10 @@ ghost use Rattle.acpitool_program.specs.Program.{as_word, suggestion, unknown_li
 
 use crate::archiving::archive_folder;
 use crate::command::{Command, parse};
+use crate::comparing::compare_files;
 use crate::disassembly::disassemble;
 use crate::help::{print_help, print_version, tell_wrong};
+use crate::laying::lay_folder;
 use crate::listing::list_file;
 use crate::making::make_file;
 use crate::show::{check_all, show_all};
@@ -90,10 +92,10 @@ fn template_of<O: Write, E: Write>(
 /// Runs the program on the words after its name, and returns its exit status:
 ///
 /// - 0: everything that was asked for went to `out` or to a file, and nothing to `err` but notes on numbers of a table that was
-///   written by force;
+///   written by force, or where the RSDP of an image on `out` is;
 /// - 1: something that was read isn't a table, an RSDP, a FACS, an image or a text of a table, the structures of a table can't be
-///   found, a table breaks a rule, a table can't be written or its numbers are wrong, or no table has a signature; `err` has a
-///   line for each;
+///   found, a table breaks a rule, two tables differ, tables have no image, a table can't be written or its numbers are wrong,
+///   or no table has a signature; `err` has a line for each, or `out` for a rule or a difference;
 /// - 2: a file can't be read, or words are wrong; `err` has a line for each file, or which word is wrong and the usage.
 ///
 /// What can be shown is shown with each status. An error is one of `out` or `err`, or memory ran out.
@@ -122,6 +124,8 @@ pub fn run<R: Files + Input + AllocGlobal + Clone + Drop, O: Write, E: Write>(
         Ok(Command::Template(signature)) => template_of(alloc, signature, out, err),
         Ok(Command::Unpack(file, folder, base)) => unpack(rt, alloc, file, folder, base, out, err),
         Ok(Command::Cpio(folder, file)) => archive_folder(rt, alloc, folder, file, out, err),
+        Ok(Command::Lay(folder, file, base)) => lay_folder(rt, alloc, folder, file, base, out, err),
+        Ok(Command::Diff(first, second)) => compare_files(rt, alloc, first, second, out, err),
         Ok(Command::Make(force, text, file)) => make_file(rt, alloc, force, text, file, out, err),
         Err(wrong) => tell_wrong(&wrong, err),
     }

@@ -1,10 +1,11 @@
 //! The text of a file's bytes.
 
-ghost use Rattle.std.specs.Prelude.{◌≡◌, string_bytes, IfOk, IfErr};
+ghost use Rattle.std.specs.Prelude.{◌≡◌, string_bytes, IfOk, IfErr, OnOk};
+ghost use Rattle.acpi_forms.specs.Kind.{kind_of};
 ghost use Rattle.acpi_term.specs.declared.read_error.ReadError.TheVariants.{Memory};
 ghost use Rattle.acpi_make.specs.declared.file_kind.FileKind.TheVariants as kinds;
 ghost use Rattle.acpitool_program.specs.Fault.{IsFaultOf};
-ghost use Rattle.acpitool_program.specs.Text.{IsText, IsTextFault};
+ghost use Rattle.acpitool_program.specs.Text.{IsKind, IsText, IsTextFault};
 
 use crate::check::{check_control, check_pointer};
 use crate::fault::Fault;
@@ -24,6 +25,28 @@ fn made(text: R<String>) -> Result<String, Fault>
     match text {
         Ok(text) => Ok(text),
         Err(_) => Err(Fault::of(FileKind::Table, ReadError::Memory)),
+    }
+}
+
+/// Returns Ok if bytes are what their signature says: a table, a pointer or a control structure. An error says what is wrong with
+/// the bytes, and where.
+pub fn check_kind(bytes: &[u8]) -> Result<(), Fault>
+    ensures ok { OnOk result (IsKind (kind_of bytes.now) bytes.now) }
+    ensures err { IfErr result (IsTextFault bytes.now) }
+{
+    match kind_of(bytes) {
+        FileKind::Rsdp => match check_pointer(bytes) {
+            Ok(()) => Ok(()),
+            Err(error) => Err(Fault::of(FileKind::Rsdp, error)),
+        },
+        FileKind::Facs => match check_control(bytes) {
+            Ok(()) => Ok(()),
+            Err(error) => Err(Fault::of(FileKind::Facs, error)),
+        },
+        FileKind::Table => match Table::check(bytes) {
+            Ok(_) => Ok(()),
+            Err(error) => Err(Fault::of(FileKind::Table, error)),
+        },
     }
 }
 

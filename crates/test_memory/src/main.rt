@@ -7,7 +7,7 @@
 //! - each type of `fill_lists`, `fill_others` and `fill_arm`, once for each of its `WAYS`: `empty`, after five calls of `grow` in
 //!   this way. `grow` of MADT in way 1 adds one structure in all, since a MADT has one IMSIC at most;
 //! - the error data entry with five objects of three bytes, and the three clones (`errors`);
-//! - each object of `part`, `aml` and `operators`, once;
+//! - each object of `part`, `aml`, `operators` and `built`, once;
 //! - the image, twice (`image`);
 //! - the reports of three lists of terms, an XSDT's report of its header, its whole report, and its two entries, and
 //!   the structure of a GTDT (`reading`).
@@ -21,6 +21,7 @@
 mod aml;
 mod arm;
 mod blocks;
+mod built;
 mod cxl;
 mod errors;
 mod fault;
@@ -144,5 +145,10 @@ fn make_objects(trial: &mut Trial, alloc: Global) -> Result<(), Fault> {
         &child,
         operators::OPERATORS,
         |which: u8| operators::operator(alloc, &child, which),
+    )?;
+    trial.all(
+        &child,
+        built::BUILT,
+        |which: u8| built::built(alloc, &child, which),
     )
 }

@@ -1,16 +1,25 @@
 #![tactic(auto)]
 
-use acpi_tables::aml::{ONE, Package, ZERO};
-use acpi_tables::sdt::{Sdt, append_object};
-use acpi_tables::{Aml, R};
+use acpi_build::block::Block;
+use acpi_build::eisa_id::EisaId;
+use acpi_build::error::BuildError;
+use acpi_tables::aml::{IO, Interrupt};
+use acpi_tables::sdt::Sdt;
 use std::alloc::Global;
 use std::process::ExitCode;
 use std::{fs, io};
 
-fn definition_block(alloc: Global) -> R<Sdt> {
+fn definition_block(alloc: Global) -> Result<Sdt, BuildError> {
+    let mut block = Block::new(alloc);
+    block.device("\\_SB_.COM1");
+    block.name("_HID", &EisaId("PNP0501"));
+    block.resources("_CRS");
+    block.add(&Interrupt::new(true, true, false, false, 4));
+    block.add(&IO::new(0x3f8, 0x3f8, 0, 8));
+    block.end();
+    block.end();
     let mut table = Sdt::new(alloc, *b"DSDT", 36, 2, *b"FOOBAR", *b"CAFEDEAD", 1)?;
-    let package = Package::new(vec![in alloc; &ZERO as &dyn Aml, &ONE]?)?;
-    append_object(&package, &mut table)?;
+    table.append_slice(&block.finish()?)?;
     Ok(table)
 }
 

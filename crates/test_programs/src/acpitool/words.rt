@@ -5,9 +5,9 @@ use std::test::Fail;
 
 // What is printed after the line of a wrong word.
 const USAGE: &str = "\
-usage: acpitool show FILE .. [NAME=N ..] | check FILE .. | disassemble FILE [NAME=N ..] | names FILE [NAME=N ..] \
-| image FILE [BASE] | make [--force] TEXT FILE | template SIGNATURE | unpack FILE FOLDER [BASE] \
-| cpio FOLDER FILE | --help | --version
+usage: acpitool show FILE .. [NAME=N ..] | check FILE .. | diff FILE FILE | disassemble FILE [NAME=N ..] \
+| names FILE [NAME=N ..] | image FILE [BASE] | make [--force] TEXT FILE | template SIGNATURE \
+| unpack FILE FOLDER [BASE] | cpio FOLDER FILE | lay FOLDER FILE BASE | --help | --version
 ";
 
 // The template of a definition block.
@@ -68,6 +68,28 @@ fn wrong_commands(rt: HostRuntime) -> Result<(), Fail> {
                 &["disassemble", "x", "y"],
                 "not NAME=N with N from 0 to 7: y\n",
             ),
+        ],
+    )
+}
+
+#[test]
+fn wrong_images(rt: HostRuntime) -> Result<(), Fail> {
+    have_lines(
+        &rt,
+        "acpitool: ",
+        USAGE,
+        &[
+            (&["lay"], "no folder with tables\n"),
+            (&["lay", "x"], "no file for the image\n"),
+            (&["lay", "x", "y"], "no address for the image\n"),
+            (
+                &["lay", "x", "y", "z"],
+                "not an address in hexadecimal: z\n",
+            ),
+            (&["lay", "x", "y", "0", "z"], "unknown word z\n"),
+            (&["diff"], "no files to compare\n"),
+            (&["diff", "x"], "no second file to compare\n"),
+            (&["diff", "x", "y", "z"], "unknown word z\n"),
         ],
     )
 }

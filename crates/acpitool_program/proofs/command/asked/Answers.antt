@@ -38,3 +38,11 @@ returns-in-Unpack c = λ all is. c.unpack.ensures all
 pub returns-in-Cpio : goal.returns-in-Cpio
 returns-in-Cpio c = λ all is. c.cpio.ensures all
     (is ∙ ap (λ (verb : Verb). word_of verb ∷ map (λ word. string_bytes word) c.args.words.now) c.in-Cpio.is)
+
+pub returns-in-Lay : goal.returns-in-Lay
+returns-in-Lay c = λ all is. c.lay.ensures all
+    (is ∙ ap (λ (verb : Verb). word_of verb ∷ map (λ word. string_bytes word) c.args.words.now) c.in-Lay.is)
+
+pub returns-in-Diff : goal.returns-in-Diff
+returns-in-Diff c = λ all is. c.diff.ensures all
+    (is ∙ ap (λ (verb : Verb). word_of verb ∷ map (λ word. string_bytes word) c.args.words.now) c.in-Diff.is)

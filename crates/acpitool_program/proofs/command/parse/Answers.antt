@@ -80,3 +80,13 @@ pub returns-in-cpio : goal.returns-in-cpio
 returns-in-cpio c = c.asked-in-cpio.ensures _
     (front_of_all (λ word. string_bytes word) c.args.words.now c.word-item.result _
     (sym c.as_str.ensures.value ∙ c.in-cpio.is) c.word-item.is c.in-len1-up.len_at_least)
+
+pub returns-in-lay : goal.returns-in-lay
+returns-in-lay c = c.asked-in-lay.ensures _
+    (front_of_all (λ word. string_bytes word) c.args.words.now c.word-item.result _
+    (sym c.as_str.ensures.value ∙ c.in-lay.is) c.word-item.is c.in-len1-up.len_at_least)
+
+pub returns-in-diff : goal.returns-in-diff
+returns-in-diff c = c.asked-in-diff.ensures _
+    (front_of_all (λ word. string_bytes word) c.args.words.now c.word-item.result _
+    (sym c.as_str.ensures.value ∙ c.in-diff.is) c.word-item.is c.in-len1-up.len_at_least)

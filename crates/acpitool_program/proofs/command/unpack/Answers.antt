@@ -7,14 +7,14 @@ returns-in-None c = λ all is.
     let text : String Global → List ℕ = λ word. string_bytes word in
     let third = three_are text c.args.words.now c.base-item.result c.as_str-word.result.now c.as_str-word.ensures.value c.base-item.is
     c.in-len3.len_at_least c.in-len3.len_below in
-    inr (record {
+    inr (inl (record {
       more = map text c.args.words.now;
       after = (is, c.requires);
       file = third.0;
       folder = third.1;
       is = third.2;
       not = c.in-None.ensures;
-    })
+    }))
 
 pub returns-in-len4-up : goal.returns-in-len4-up
 returns-in-len4-up c = λ all is.

@@ -1,0 +1,59 @@
+//! Images of tables.
+
+use crate::{Error, ImageTable, filled};
+use hyssop_acpi_sys as sys;
+
+/// An image of tables.
+#[derive(Clone, Debug, PartialEq, Eq)]
+pub struct Image {
+    /// Its bytes.
+    pub bytes: Vec<u8>,
+    /// The physical address of its RSDP.
+    pub rsdp: u64,
+}
+
+/// Checks the tables in a guest's memory from the RSDP on (ACPI 6.5, 5.2.5 to 5.2.10). The bytes begin at the physical address
+/// `base`, and the RSDP is at the address `rsdp`. The place of an error is an address.
+pub fn check_image(bytes: &[u8], base: u64, rsdp: u64) -> Result<(), Error> {
+    let mut place = 0;
+    let number =
+        unsafe { sys::hyssop_check_image(bytes.as_ptr(), bytes.len(), base, rsdp, &mut place) };
+    Error::of(number, place)
+}
+
+/// Returns the tables of such an image: the RSDP, the XSDT, its entries in order, the FACS if there is one, and the DSDT. The
+/// place of an error is an address.
+pub fn image_tables(bytes: &[u8], base: u64, rsdp: u64) -> Result<Vec<ImageTable>, Error> {
+    filled(|out, room, count, place| unsafe {
+        sys::hyssop_image_tables(
+            bytes.as_ptr(),
+            bytes.len(),
+            base,
+            rsdp,
+            out,
+            room,
+            count,
+            place,
+        )
+    })
+}
+
+/// Lays tables into an image for the physical address `base`, a multiple of 64: the FADT, the DSDT, the FACS, and others. The
+/// image gets an XSDT and an RSDP. The place of an error is which table is wrong, counted from 0.
+pub fn lay(tables: &[&[u8]], base: u64) -> Result<Image, Error> {
+    let tables = tables.concat();
+    let mut rsdp = 0;
+    let bytes = filled(|out, room, size, place| unsafe {
+        sys::hyssop_lay(
+            tables.as_ptr(),
+            tables.len(),
+            base,
+            out,
+            room,
+            size,
+            &mut rsdp,
+            place,
+        )
+    })?;
+    Ok(Image { bytes, rsdp })
+}

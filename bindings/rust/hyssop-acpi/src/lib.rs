@@ -1,0 +1,46 @@
+//! ACPI tables and AML by a library that is proved: checks of tables, AML and images, texts of tables, and a writer of AML and of
+//! tables. The work is done by `libhyssop.a`; this crate has no logic but the caller's buffers, which grow as far as they have to.
+//!
+//! ```
+//! use hyssop_acpi::{Writer, check_table};
+//!
+//! let mut dsdt = Writer::table("DSDT", 2, "FOOBAR", "CAFEDEAD", 1);
+//! dsdt.device("\\_SB_.COM1", |port| {
+//!     port.name("_HID").eisa_id("PNP0501");
+//!     port.name("_CRS").resources(|list| {
+//!         list.interrupt(true, true, false, false, 4).io(0x3f8, 0x3f8, 1, 8);
+//!     });
+//! });
+//! let dsdt = dsdt.finish()?;
+//! check_table(&dsdt)?;
+//! # Ok::<(), hyssop_acpi::Error>(())
+//! ```
+
+mod error;
+mod image;
+mod table;
+mod text;
+mod writer;
+
+pub use error::Error;
+pub use hyssop_acpi_sys::{ImageTable, NO_KIND, Note, Structure, fault};
+pub use image::{Image, check_image, image_tables, lay};
+pub use table::{check_aml, check_table, disassemble, names, seal, structures};
+pub use text::{make, notes, show, template};
+pub use writer::{MemoryType, Op, Writer};
+
+// Calls a function that fills a buffer, with a larger one as long as there are more values than it has space for.
+fn filled<T: Clone + Default>(
+    mut call: impl FnMut(*mut T, usize, &mut usize, &mut u64) -> u32,
+) -> Result<Vec<T>, Error> {
+    let mut found = Vec::new();
+    loop {
+        let (mut count, mut place) = (0, 0);
+        let number = call(found.as_mut_ptr(), found.len(), &mut count, &mut place);
+        if number != fault::BUFFER {
+            found.truncate(count);
+            return Error::of(number, place).map(|()| found);
+        }
+        found.resize(count, T::default());
+    }
+}

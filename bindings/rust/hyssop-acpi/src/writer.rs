@@ -1,0 +1,443 @@
+//! A writer of AML and of tables.
+
+use crate::Error;
+use hyssop_acpi_sys as sys;
+use std::ffi::{CString, c_char};
+use sys::fault;
+
+/// How a range of memory may be cached (ACPI 6.5, 6.4.3.5.5).
+#[repr(u32)]
+#[derive(Clone, Copy, Debug, PartialEq, Eq)]
+pub enum MemoryType {
+    NotCacheable = 0,
+    Cacheable = 1,
+    WriteCombining = 2,
+    Prefetchable = 3,
+}
+
+/// The operators (ACPI 6.5, 20.2.5), by their names in ASL. The number is the opcode (20.3).
+#[repr(u32)]
+#[derive(Clone, Copy, Debug, PartialEq, Eq)]
+pub enum Op {
+    LNot = 0x92,
+    LEqual = 0x93,
+    LLess = 0x95,
+    LGreater = 0x94,
+    LAnd = 0x90,
+    LOr = 0x91,
+    Increment = 0x75,
+    Decrement = 0x76,
+    Break = 0xa5,
+    ObjectType = 0x8e,
+    SizeOf = 0x87,
+    Return = 0xa4,
+    DerefOf = 0x83,
+    Add = 0x72,
+    Concatenate = 0x73,
+    Subtract = 0x74,
+    Multiply = 0x77,
+    ShiftLeft = 0x79,
+    ShiftRight = 0x7a,
+    And = 0x7b,
+    Nand = 0x7c,
+    Or = 0x7d,
+    Nor = 0x7e,
+    Xor = 0x7f,
+    ConcatenateResTemplate = 0x84,
+    Mod = 0x85,
+    Index = 0x88,
+    ToString = 0x9c,
+    CreateDWordField = 0x8a,
+    CreateQWordField = 0x8f,
+    ToBuffer = 0x96,
+    ToInteger = 0x99,
+    Store = 0x70,
+    Notify = 0x86,
+    Mid = 0x9e,
+    Alias = 0x06,
+    RefOf = 0x71,
+    Divide = 0x78,
+    Not = 0x80,
+    FindSetLeftBit = 0x81,
+    FindSetRightBit = 0x82,
+    Match = 0x89,
+    CreateWordField = 0x8b,
+    CreateByteField = 0x8c,
+    CreateBitField = 0x8d,
+    ToDecimalString = 0x97,
+    ToHexString = 0x98,
+    CopyObject = 0x9d,
+    Continue = 0x9f,
+    Noop = 0xa3,
+    BreakPoint = 0xcc,
+    CreateField = 0x5b13,
+    Event = 0x5b02,
+    CondRefOf = 0x5b12,
+    LoadTable = 0x5b1f,
+    Load = 0x5b20,
+    Stall = 0x5b21,
+    Sleep = 0x5b22,
+    Signal = 0x5b24,
+    Wait = 0x5b25,
+    Reset = 0x5b26,
+    FromBCD = 0x5b28,
+    ToBCD = 0x5b29,
+    Unload = 0x5b2a,
+    Revision = 0x5b30,
+    Debug = 0x5b31,
+    Timer = 0x5b33,
+    DataRegion = 0x5b88,
+}
+
+/// A writer of AML (ACPI 6.5, 20), or of a table. Its bytes grow as far as they have to. No call returns a `Result`: the writer
+/// keeps its first error, later calls do nothing, and `finish` returns it. A call that opens an object takes what is written
+/// inside of it, so each object is closed.
+#[derive(Debug)]
+pub struct Writer {
+    bytes: Vec<u8>,
+    state: sys::State,
+    is_table: bool,
+}
+
+impl Default for Writer {
+    fn default() -> Writer {
+        Writer::new()
+    }
+}
+
+impl Writer {
+    /// A writer of terms of AML.
+    pub fn new() -> Writer {
+        Writer {
+            bytes: Vec::new(),
+            state: sys::State::default(),
+            is_table: false,
+        }
+    }
+
+    /// A writer that begins with the header of a table (ACPI 6.5, 5.2.6). The signature has 4 bytes, the OEM ID 6 and the OEM
+    /// Table ID 8.
+    pub fn table(
+        signature: &str,
+        revision: u8,
+        oem_id: &str,
+        oem_table_id: &str,
+        oem_revision: u32,
+    ) -> Writer {
+        let mut writer = Writer::new();
+        writer.is_table = true;
+        writer.with_text(signature, |writer, signature| {
+            writer.with_text(oem_id, |writer, oem_id| {
+                writer.with_text(oem_table_id, |writer, oem_table_id| {
+                    writer.call(|inner| unsafe {
+                        sys::hyssop_table(
+                            inner,
+                            signature,
+                            revision,
+                            oem_id,
+                            oem_table_id,
+                            oem_revision,
+                        )
+                    });
+                });
+            });
+        });
+        writer
+    }
+
+    // Makes a call, and makes it again with a larger buffer as long as there isn't space.
+    fn call(&mut self, call: impl Fn(*mut sys::Writer) -> u32) -> &mut Writer {
+        loop {
+            let mut inner = sys::Writer {
+                bytes: self.bytes.as_mut_ptr(),
+                bytes_size: self.bytes.len(),
+                state: self.state,
+            };
+            let number = call(&mut inner);
+            if number != fault::BUFFER {
+                self.state = inner.state;
+                return self;
+            }
+            let size = (2 * self.bytes.len()).max(256);
+            self.bytes.resize(size, 0);
+        }
+    }
+
+    // Makes a call with a text that ends with a zero. A text with a zero inside is the fault `TEXT`.
+    fn with_text(
+        &mut self,
+        text: &str,
+        call: impl FnOnce(&mut Writer, *const c_char),
+    ) -> &mut Writer {
+        match CString::new(text) {
+            Ok(text) => call(self, text.as_ptr()),
+            Err(_) if self.state.fault == sys::FINE => self.state.fault = fault::TEXT,
+            Err(_) => {}
+        }
+        self
+    }
+
+    // Opens an object, has its content written, and closes it.
+    fn opened(&mut self, inside: impl FnOnce(&mut Writer)) -> &mut Writer {
+        inside(self);
+        self.call(|inner| unsafe { sys::hyssop_close(inner) })
+    }
+
+    /// A scope: objects below a name (ACPI 6.5, 20.2.5.1, DefScope).
+    pub fn scope(&mut self, path: &str, inside: impl FnOnce(&mut Writer)) -> &mut Writer {
+        self.with_text(path, |writer, path| {
+            writer.call(|inner| unsafe { sys::hyssop_open_scope(inner, path) });
+        });
+        self.opened(inside)
+    }
+
+    /// A device (ACPI 6.5, 20.2.5.2, DefDevice).
+    pub fn device(&mut self, path: &str, inside: impl FnOnce(&mut Writer)) -> &mut Writer {
+        self.with_text(path, |writer, path| {
+            writer.call(|inner| unsafe { sys::hyssop_open_device(inner, path) });
+        });
+        self.opened(inside)
+    }
+
+    /// A thermal zone (ACPI 6.5, 20.2.5.2, DefThermalZone).
+    pub fn thermal_zone(&mut self, path: &str, inside: impl FnOnce(&mut Writer)) -> &mut Writer {
+        self.with_text(path, |writer, path| {
+            writer.call(|inner| unsafe { sys::hyssop_open_thermal_zone(inner, path) });
+        });
+        self.opened(inside)
+    }
+
+    /// A power resource (ACPI 6.5, 20.2.5.2, DefPowerRes), with the deepest sleep level in which it stays on, and its place in
+    /// their order.
+    pub fn power_resource(
+        &mut self,
+        path: &str,
+        level: u8,
+        order: u16,
+        inside: impl FnOnce(&mut Writer),
+    ) -> &mut Writer {
+        self.with_text(path, |writer, path| {
+            writer.call(|inner| unsafe {
+                sys::hyssop_open_power_resource(inner, path, level, order)
+            });
+        });
+        self.opened(inside)
+    }
+
+    /// A method of 0 to 7 arguments (ACPI 6.5, 20.2.5.2, DefMethod).
+    pub fn method(
+        &mut self,
+        path: &str,
+        arguments: u8,
+        serialized: bool,
+        inside: impl FnOnce(&mut Writer),
+    ) -> &mut Writer {
+        self.with_text(path, |writer, path| {
+            writer.call(|inner| unsafe {
+                sys::hyssop_open_method(inner, path, arguments, serialized.into())
+            });
+        });
+        self.opened(inside)
+    }
+
+    /// A package, in which at most so many elements are written (ACPI 6.5, 20.2.5.4, DefPackage).
+    pub fn package(&mut self, elements: u8, inside: impl FnOnce(&mut Writer)) -> &mut Writer {
+        self.call(|inner| unsafe { sys::hyssop_open_package(inner, elements) });
+        self.opened(inside)
+    }
+
+    /// Statements after a predicate, which is the first object (ACPI 6.5, 20.2.5.3, DefIfElse).
+    pub fn if_true(&mut self, inside: impl FnOnce(&mut Writer)) -> &mut Writer {
+        self.call(|inner| unsafe { sys::hyssop_open_if(inner) });
+        self.opened(inside)
+    }
+
+    /// The statements for the other case, after those of `if_true` (ACPI 6.5, 20.2.5.3, DefElse).
+    pub fn otherwise(&mut self, inside: impl FnOnce(&mut Writer)) -> &mut Writer {
+        self.call(|inner| unsafe { sys::hyssop_open_else(inner) });
+        self.opened(inside)
+    }
+
+    /// A loop, whose predicate is the first object (ACPI 6.5, 20.2.5.3, DefWhile).
+    pub fn while_true(&mut self, inside: impl FnOnce(&mut Writer)) -> &mut Writer {
+        self.call(|inner| unsafe { sys::hyssop_open_while(inner) });
+        self.opened(inside)
+    }
+
+    /// A buffer, whose bytes are written inside (ACPI 6.5, 20.2.5.4, DefBuffer).
+    pub fn buffer(&mut self, inside: impl FnOnce(&mut Writer)) -> &mut Writer {
+        self.call(|inner| unsafe { sys::hyssop_open_buffer(inner) });
+        self.opened(inside)
+    }
+
+    /// A buffer of resource descriptors, which are written inside (ACPI 6.5, 6.4). It gets the end tag.
+    pub fn resources(&mut self, inside: impl FnOnce(&mut Writer)) -> &mut Writer {
+        self.call(|inner| unsafe { sys::hyssop_open_resources(inner) });
+        self.opened(inside)
+    }
+
+    /// A name for the object that follows (ACPI 6.5, 20.2.5.1, DefName).
+    pub fn name(&mut self, path: &str) -> &mut Writer {
+        self.with_text(path, |writer, path| {
+            writer.call(|inner| unsafe { sys::hyssop_name(inner, path) });
+        })
+    }
+
+    /// A name: an operand, or a call of a method, whose arguments follow (ACPI 6.5, 20.2.2, NameString).
+    pub fn path(&mut self, path: &str) -> &mut Writer {
+        self.with_text(path, |writer, path| {
+            writer.call(|inner| unsafe { sys::hyssop_path(inner, path) });
+        })
+    }
+
+    /// A number in its shortest form (ACPI 6.5, 20.2.3).
+    pub fn integer(&mut self, value: u64) -> &mut Writer {
+        self.call(|inner| unsafe { sys::hyssop_integer(inner, value) })
+    }
+
+    /// A string of ASCII (ACPI 6.5, 20.2.3).
+    pub fn string(&mut self, text: &str) -> &mut Writer {
+        self.with_text(text, |writer, text| {
+            writer.call(|inner| unsafe { sys::hyssop_string(inner, text) });
+        })
+    }
+
+    /// An EISA id, such as "PNP0A08", as a number (ACPI 6.5, 19.3.4).
+    pub fn eisa_id(&mut self, id: &str) -> &mut Writer {
+        self.with_text(id, |writer, id| {
+            writer.call(|inner| unsafe { sys::hyssop_eisa_id(inner, id) });
+        })
+    }
+
+    /// A UUID, of 36 characters, as a buffer (ACPI 6.5, 19.6.142).
+    pub fn uuid(&mut self, uuid: &str) -> &mut Writer {
+        self.with_text(uuid, |writer, uuid| {
+            writer.call(|inner| unsafe { sys::hyssop_uuid(inner, uuid) });
+        })
+    }
+
+    /// An argument of the method, from 0 to 6 (ACPI 6.5, 20.2.6.1).
+    pub fn argument(&mut self, number: u8) -> &mut Writer {
+        self.call(|inner| unsafe { sys::hyssop_argument(inner, number) })
+    }
+
+    /// A local variable of the method, from 0 to 7 (ACPI 6.5, 20.2.6.2).
+    pub fn local(&mut self, number: u8) -> &mut Writer {
+        self.call(|inner| unsafe { sys::hyssop_local(inner, number) })
+    }
+
+    /// An operator, whose operands follow, and its target after them (ACPI 6.5, 20.2.5). The integer 0 is no target.
+    pub fn operator(&mut self, op: Op) -> &mut Writer {
+        self.call(|inner| unsafe { sys::hyssop_operator(inner, op as u32) })
+    }
+
+    /// Bytes as they are.
+    pub fn bytes(&mut self, bytes: &[u8]) -> &mut Writer {
+        self.call(|inner| unsafe { sys::hyssop_bytes(inner, bytes.as_ptr(), bytes.len()) })
+    }
+
+    /// A range of ports: its least and its greatest base, their alignment, and the number of ports (ACPI 6.5, 6.4.2.5).
+    pub fn io(&mut self, min: u16, max: u16, alignment: u8, length: u8) -> &mut Writer {
+        self.call(|inner| unsafe { sys::hyssop_io(inner, min, max, alignment, length) })
+    }
+
+    /// An interrupt (ACPI 6.5, 6.4.3.6).
+    pub fn interrupt(
+        &mut self,
+        consumer: bool,
+        edge_triggered: bool,
+        active_low: bool,
+        shared: bool,
+        number: u32,
+    ) -> &mut Writer {
+        self.call(|inner| unsafe {
+            sys::hyssop_interrupt(
+                inner,
+                consumer.into(),
+                edge_triggered.into(),
+                active_low.into(),
+                shared.into(),
+                number,
+            )
+        })
+    }
+
+    /// A range of memory at a fixed address (ACPI 6.5, 6.4.3.4).
+    pub fn memory32_fixed(&mut self, read_write: bool, base: u32, length: u32) -> &mut Writer {
+        self.call(|inner| unsafe {
+            sys::hyssop_memory32_fixed(inner, read_write.into(), base, length)
+        })
+    }
+
+    /// A range of bus numbers, from its first to its last (ACPI 6.5, 6.4.3.5).
+    pub fn bus_numbers(&mut self, min: u16, max: u16) -> &mut Writer {
+        self.call(|inner| unsafe { sys::hyssop_bus_numbers(inner, min, max) })
+    }
+
+    /// A range of ports, from its first to its last, and what a bridge adds to them (ACPI 6.5, 6.4.3.5).
+    pub fn io_range(&mut self, min: u16, max: u16, translation: u16) -> &mut Writer {
+        self.call(|inner| unsafe { sys::hyssop_io_range(inner, min, max, translation) })
+    }
+
+    /// A range of memory below 2^32: how it is cached, its first and its last address, and what a bridge adds to them (ACPI 6.5,
+    /// 6.4.3.5).
+    pub fn memory_range32(
+        &mut self,
+        memory_type: MemoryType,
+        read_write: bool,
+        min: u32,
+        max: u32,
+        translation: u32,
+    ) -> &mut Writer {
+        self.call(|inner| unsafe {
+            sys::hyssop_memory_range32(
+                inner,
+                memory_type as u32,
+                read_write.into(),
+                min,
+                max,
+                translation,
+            )
+        })
+    }
+
+    /// A range of memory with addresses of 64 bits, as `memory_range32`.
+    pub fn memory_range64(
+        &mut self,
+        memory_type: MemoryType,
+        read_write: bool,
+        min: u64,
+        max: u64,
+        translation: u64,
+    ) -> &mut Writer {
+        self.call(|inner| unsafe {
+            sys::hyssop_memory_range64(
+                inner,
+                memory_type as u32,
+                read_write.into(),
+                min,
+                max,
+                translation,
+            )
+        })
+    }
+
+    /// The bytes that are written, or the first error, whose place is how many bytes were written before it. A table gets its
+    /// length and its checksum.
+    pub fn finish(mut self) -> Result<Vec<u8>, Error> {
+        let (mut size, mut place) = (0, 0);
+        let mut inner = sys::Writer {
+            bytes: self.bytes.as_mut_ptr(),
+            bytes_size: self.bytes.len(),
+            state: self.state,
+        };
+        let number = if self.is_table {
+            unsafe { sys::hyssop_finish_table(&mut inner, &mut size, &mut place) }
+        } else {
+            unsafe { sys::hyssop_finish(&inner, &mut size, &mut place) }
+        };
+        Error::of(number, place)?;
+        self.bytes.truncate(size);
+        Ok(self.bytes)
+    }
+}

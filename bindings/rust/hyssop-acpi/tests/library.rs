@@ -1,0 +1,180 @@
+//! The safe functions over `libhyssop.a`. The expected bytes were worked out by hand from ACPI 6.5.
+
+use hyssop_acpi::*;
+
+const OEM: (&str, &str) = ("FOOBAR", "CAFEDEAD");
+
+fn aml(write: impl FnOnce(&mut Writer)) -> Result<Vec<u8>, Error> {
+    let mut writer = Writer::new();
+    write(&mut writer);
+    writer.finish()
+}
+
+#[test]
+fn nested_objects() {
+    let bytes = aml(|w| {
+        w.scope("_SB_", |w| {
+            w.device("COM1", |w| {
+                w.name("_HID").eisa_id("PNP0501").name("_UID").integer(1);
+                w.method("_STA", 0, false, |w| {
+                    w.operator(Op::Return).integer(15);
+                });
+            });
+        });
+    });
+    let wanted = b"\x10\x26_SB_\x5b\x82\x1fCOM1\x08_HID\x0c\x41\xd0\x05\x01\x08_UID\x01\x14\x09_STA\0\xa4\x0a\x0f";
+    assert_eq!(bytes.as_deref(), Ok(&wanted[..]));
+}
+
+#[test]
+fn statements_and_packages() {
+    let bytes = aml(|w| {
+        w.if_true(|w| {
+            w.operator(Op::LEqual).argument(0).local(1);
+            w.operator(Op::Store).path("X___").path("Y___");
+        });
+        w.otherwise(|_| {});
+        w.while_true(|w| {
+            w.integer(1).operator(Op::Break);
+        });
+        w.package(2, |w| {
+            w.string("AB").buffer(|w| {
+                w.bytes(&[7, 8]);
+            });
+        });
+    });
+    let wanted = b"\xa0\x0d\x93\x68\x61\x70X___Y___\xa1\x01\xa2\x03\x01\xa5\x12\x0c\x02\x0dAB\0\x11\x05\x0a\x02\x07\x08";
+    assert_eq!(bytes.as_deref(), Ok(&wanted[..]));
+}
+
+#[test]
+fn resources() {
+    let bytes = aml(|w| {
+        w.resources(|w| {
+            w.io(0x3f8, 0x3f8, 1, 8)
+                .interrupt(true, true, false, false, 4)
+                .memory32_fixed(true, 0x1000, 0x20);
+        });
+    });
+    let wanted = b"\x11\x22\x0a\x1f\x47\x01\xf8\x03\xf8\x03\x01\x08\x89\x06\0\x03\x01\x04\0\0\0\x86\x09\0\x01\0\x10\0\0\x20\0\0\0\x79\0";
+    assert_eq!(bytes.as_deref(), Ok(&wanted[..]));
+}
+
+// Longer than any first buffer: a text of 65,536 bytes in a PkgLength of three bytes.
+#[test]
+fn long_contents() {
+    let text = "A".repeat(65_536);
+    let bytes = aml(|w| {
+        w.scope("_SB_", |w| {
+            w.string(&text);
+        });
+    })
+    .unwrap();
+    assert_eq!(bytes.len(), 65_536 + 10);
+    assert_eq!(&bytes[..9], b"\x10\x89\x00\x10_SB_\x0d");
+}
+
+#[test]
+fn errors_of_a_writer() {
+    let fault_of = |write: fn(&mut Writer)| aml(write).map_err(|error| error.fault);
+    assert_eq!(
+        fault_of(|w| {
+            w.name("ABC");
+        }),
+        Err(fault::NAME_PART)
+    );
+    assert_eq!(
+        fault_of(|w| {
+            w.eisa_id("PNP");
+        }),
+        Err(fault::EISA_TEXT)
+    );
+    assert_eq!(
+        fault_of(|w| {
+            w.method("MTHD", 8, false, |_| {});
+        }),
+        Err(fault::METHOD_ARGS)
+    );
+    assert_eq!(
+        fault_of(|w| {
+            w.string("A\0B");
+        }),
+        Err(fault::TEXT)
+    );
+    assert_eq!(
+        fault_of(|w| {
+            w.argument(7).local(8);
+        }),
+        Err(fault::ARG_NUMBER)
+    );
+}
+
+fn madt() -> Vec<u8> {
+    let mut madt = Writer::table("APIC", 5, OEM.0, OEM.1, 1);
+    madt.bytes(&0xfee0_0000u32.to_le_bytes())
+        .bytes(&[1, 0, 0, 0]);
+    madt.bytes(&[0, 8, 0, 0, 1, 0, 0, 0]);
+    madt.finish().unwrap()
+}
+
+#[test]
+fn tables() {
+    let table = madt();
+    assert_eq!(table.len(), 52);
+    assert_eq!(check_table(&table), Ok(()));
+    assert_eq!(
+        structures(&table),
+        Ok(vec![Structure {
+            offset: 44,
+            kind: 0,
+            size: 8
+        }])
+    );
+    let text = show(&table).unwrap();
+    assert!(text.contains("Processor Local APIC"));
+    assert_eq!(make(&text), Ok(table.clone()));
+    assert_eq!(notes(&text), Ok(vec![]));
+    let mut cut = table[..51].to_vec();
+    let error = check_table(&cut).unwrap_err();
+    assert_eq!(
+        error.to_string(),
+        "at 4: the length of a table isn't the number of its bytes"
+    );
+    assert_eq!(seal(&mut cut), Ok(()));
+    assert_eq!(check_table(&cut), Ok(()));
+    assert!(template("APIC").unwrap().contains("Flags"));
+}
+
+#[test]
+fn definition_blocks() {
+    let mut dsdt = Writer::table("DSDT", 2, OEM.0, OEM.1, 1);
+    dsdt.device("\\_SB_.COM1", |w| {
+        w.name("_UID").integer(3);
+    });
+    let dsdt = dsdt.finish().unwrap();
+    assert_eq!(check_aml(&dsdt[36..], ""), Ok(()));
+    assert!(
+        disassemble(&dsdt, "")
+            .unwrap()
+            .contains("Name (_UID, 0x03)")
+    );
+    assert!(names(&dsdt, "").unwrap().contains("COM1"));
+}
+
+#[test]
+fn images() {
+    let fadt = {
+        let mut fadt = Writer::table("FACP", 6, OEM.0, OEM.1, 1);
+        let mut body = [0; 240];
+        body[112 - 36 + 2] = 0x10; // HW_REDUCED_ACPI, bit 20 of the flags at offset 112
+        fadt.bytes(&body);
+        fadt.finish().unwrap()
+    };
+    let dsdt = Writer::table("DSDT", 2, OEM.0, OEM.1, 1).finish().unwrap();
+    let image = lay(&[&fadt, &dsdt, &madt()], 0x4_0000).unwrap();
+    assert_eq!(check_image(&image.bytes, 0x4_0000, image.rsdp), Ok(()));
+    let tables = image_tables(&image.bytes, 0x4_0000, image.rsdp).unwrap();
+    let signatures: Vec<_> = tables.iter().map(|table| &table.signature).collect();
+    assert_eq!(signatures, [b"RSD ", b"XSDT", b"FACP", b"APIC", b"DSDT"]);
+    assert!(lay(&[&fadt], 0x4_0000).is_err());
+}

@@ -1,0 +1,43 @@
+-- Address spaces of a bridge, by numbers (ACPI 6.5, 6.4.3.5).
+use Rattle.std.specs.Prelude.{ℕ, ◌+◌, ◌*◌, ◌==◌, if◌then◌else◌, Bool, List, Option, Some, None, Result, Err}
+use Rattle.acpi_base.specs.Object.{Object}
+use Rattle.acpi_ops.specs.AddressSpace.{cacheable_number}
+use Rattle.acpi_ops.specs.Descriptor.{bit}
+use Rattle.acpi_ops.specs.declared.address_space.AddressSpace.{AddressSpace}
+use Rattle.acpi_ops.specs.declared.address_space.AddressSpaceCacheable.{AddressSpaceCacheable}
+use Rattle.acpi_ops.specs.declared.address_space.AddressSpaceCacheable.TheVariants as cacheable
+use Rattle.acpi_c_calls.specs.Writer.{piece_of}
+use Rattle.acpi_c_calls.specs.declared.fault.Fault.{Fault}
+use Rattle.acpi_c_calls.specs.declared.fault.Fault.TheVariants.{UnknownChoice}
+
+abbrev pub bus_numbers : ℕ → ℕ → AddressSpace ℕ
+bus_numbers min max = record { kind = 2; flags = 0; min = min; max = max; translation = None }
+
+abbrev pub io_range : ℕ → ℕ → ℕ → AddressSpace ℕ
+io_range min max translation = record { kind = 1; flags = 3; min = min; max = max; translation = Some translation }
+
+abbrev pub memory_range : AddressSpaceCacheable → Bool → ℕ → ℕ → ℕ → AddressSpace ℕ
+memory_range cached read_write min max translation = record {
+  kind = 0;
+  flags = 2 * cacheable_number cached + bit read_write 1;
+  min = min;
+  max = max;
+  translation = Some translation;
+}
+
+-- how memory may be cached, by its number
+abbrev pub memory_type : ℕ → Option AddressSpaceCacheable
+memory_type n =
+    if n == 0 then Some cacheable.NotCacheable
+    else (if n == 1 then Some cacheable.Cacheable
+    else (if n == 2 then Some cacheable.WriteCombining
+    else (if n == 3 then Some cacheable.PreFetchable
+    else None)))
+
+abbrev pub piece_if : {A : Type 0} → (A → Object) → Option A → Result (List ℕ) Fault
+piece_if object (Some value) = piece_of (object value)
+piece_if object None = Err UnknownChoice
+
+-- a range of memory of a type, if there is one with this number
+abbrev pub memory_piece : ℕ → (AddressSpaceCacheable → Object) → Result (List ℕ) Fault
+memory_piece n object = piece_if object (memory_type n)

@@ -1,0 +1,172 @@
+//! Resource descriptors (ACPI 6.5, 6.4).
+
+ghost use Rattle.std.specs.Prelude.{◌≡◌};
+ghost use Rattle.acpi_ops.specs.AddressSpace.{word_space, dword_space, qword_space};
+ghost use Rattle.acpi_ops.specs.Descriptor.{port_bytes, fixed_bytes, interrupt_bytes, interrupt_flags};
+ghost use Rattle.acpi_c_calls.specs.Resource.{bus_numbers, io_range, memory_range, memory_type, memory_piece};
+ghost use Rattle.acpi_c_calls.specs.Writer.{Does, adds, adds_bytes, piece_of};
+
+use crate::fault::Fault;
+use crate::put::{fail, put_object};
+use crate::state::State;
+use acpi_ops::address_space::{AddressSpace, AddressSpaceCacheable};
+use acpi_ops::descriptor::{IO, Interrupt, Memory32Fixed};
+
+/// Writes a range of ports with 16-bit decoding (ACPI 6.5, 6.4.2.5): its least and its greatest base, the alignment of the base,
+/// and the number of ports.
+pub fn io(bytes: &mut [u8], state: &mut State, min: u16, max: u16, alignment: u8, length: u8) -> u32
+    ensures { Does (adds_bytes (port_bytes min max alignment length)) bytes.old state.old bytes.new state.new result }
+{
+    if state.fault != 0 {
+        return state.fault;
+    }
+    put_object(bytes, state, &IO::new(min, max, alignment, length))
+}
+
+/// Writes an interrupt (ACPI 6.5, 6.4.3.6).
+pub fn interrupt(
+    bytes: &mut [u8],
+    state: &mut State,
+    consumer: bool,
+    edge_triggered: bool,
+    active_low: bool,
+    shared: bool,
+    number: u32,
+) -> u32
+    ensures { Does (adds_bytes (interrupt_bytes (interrupt_flags consumer edge_triggered active_low shared) number))
+        bytes.old state.old bytes.new state.new result }
+{
+    if state.fault != 0 {
+        return state.fault;
+    }
+    put_object(
+        bytes,
+        state,
+        &Interrupt::new(consumer, edge_triggered, active_low, shared, number),
+    )
+}
+
+/// Writes a range of memory at a fixed address (ACPI 6.5, 6.4.3.4): its first address, and its size in bytes.
+pub fn memory32_fixed(
+    bytes: &mut [u8],
+    state: &mut State,
+    read_write: bool,
+    base: u32,
+    length: u32,
+) -> u32
+    ensures { Does (adds_bytes (fixed_bytes read_write base length)) bytes.old state.old bytes.new state.new result }
+{
+    if state.fault != 0 {
+        return state.fault;
+    }
+    put_object(bytes, state, &Memory32Fixed::new(read_write, base, length))
+}
+
+/// Writes a range of bus numbers, from its first to its last (ACPI 6.5, 6.4.3.5.3). The fault is `AddressRange` if its end is
+/// before its start, or if it has all numbers of 16 bits.
+#[tactic(auto, using(crate::proofs::Pieces::space_few, crate::proofs::Pieces::space_dry))]
+pub fn bus_numbers(bytes: &mut [u8], state: &mut State, min: u16, max: u16) -> u32
+    ensures { Does (adds (piece_of (word_space (bus_numbers min max)))) bytes.old state.old bytes.new state.new result }
+{
+    if state.fault != 0 {
+        return state.fault;
+    }
+    put_object(bytes, state, &AddressSpace::<u16>::new_bus_number(min, max))
+}
+
+/// Writes a range of ports, from its first to its last, and what is added to a port to get the one on the other side of a bridge
+/// (ACPI 6.5, 6.4.3.5.3). The fault is `AddressRange` if its end is before its start, or if it has all ports of 16 bits.
+#[tactic(auto, using(crate::proofs::Pieces::space_few, crate::proofs::Pieces::space_dry))]
+pub fn io_range(bytes: &mut [u8], state: &mut State, min: u16, max: u16, translation: u16) -> u32
+    ensures { Does (adds (piece_of (word_space (io_range min max translation))))
+        bytes.old state.old bytes.new state.new result }
+{
+    if state.fault != 0 {
+        return state.fault;
+    }
+    put_object(
+        bytes,
+        state,
+        &AddressSpace::<u16>::new_io(min, max, Some(translation)),
+    )
+}
+
+// How memory may be cached, by its number.
+fn memory_type(number: u32) -> Option<AddressSpaceCacheable>
+    ensures { result ≡ memory_type number }
+{
+    match number {
+        0 => Some(AddressSpaceCacheable::NotCacheable),
+        1 => Some(AddressSpaceCacheable::Cacheable),
+        2 => Some(AddressSpaceCacheable::WriteCombining),
+        3 => Some(AddressSpaceCacheable::PreFetchable),
+        _ => None,
+    }
+}
+
+/// Writes a range of memory with addresses of 32 bits, from its first to its last, and what is added to an address to get the one
+/// on the other side of a bridge (ACPI 6.5, 6.4.3.5.2). `memory_type` is from 0 to 3: not cacheable, cacheable, write combining,
+/// prefetchable. The fault is `UnknownChoice` for another one, and `AddressRange` if the end is before the start, or if the range
+/// has all addresses of 32 bits.
+#[tactic(auto, using(crate::proofs::Pieces::space_few, crate::proofs::Pieces::space_dry))]
+pub fn memory_range32(
+    bytes: &mut [u8],
+    state: &mut State,
+    cached: u32,
+    read_write: bool,
+    min: u32,
+    max: u32,
+    translation: u32,
+) -> u32
+    ensures { Does (adds (memory_piece cached (λ cacheable. dword_space (memory_range cacheable read_write min max translation))))
+        bytes.old state.old bytes.new state.new result }
+{
+    if state.fault != 0 {
+        return state.fault;
+    }
+    match memory_type(cached) {
+        Some(cached) => {
+            let range = AddressSpace::<u32>::new_memory(
+                cached,
+                read_write,
+                min,
+                max,
+                Some(translation),
+            );
+            put_object(bytes, state, &range)
+        }
+        None => fail(bytes, state, Fault::UnknownChoice),
+    }
+}
+
+/// Writes a range of memory with addresses of 64 bits (ACPI 6.5, 6.4.3.5.1). All else is as for `memory_range32`.
+#[tactic(auto, using(crate::proofs::Pieces::space_few, crate::proofs::Pieces::space_dry))]
+pub fn memory_range64(
+    bytes: &mut [u8],
+    state: &mut State,
+    cached: u32,
+    read_write: bool,
+    min: u64,
+    max: u64,
+    translation: u64,
+) -> u32
+    ensures { Does (adds (memory_piece cached (λ cacheable. qword_space (memory_range cacheable read_write min max translation))))
+        bytes.old state.old bytes.new state.new result }
+{
+    if state.fault != 0 {
+        return state.fault;
+    }
+    match memory_type(cached) {
+        Some(cached) => {
+            let range = AddressSpace::<u64>::new_memory(
+                cached,
+                read_write,
+                min,
+                max,
+                Some(translation),
+            );
+            put_object(bytes, state, &range)
+        }
+        None => fail(bytes, state, Fault::UnknownChoice),
+    }
+}

@@ -1,0 +1,18 @@
+use Rattle.std.proofs.Common.{sym, ◌∙◌, arith}
+use Rattle.acpi_text.proofs.Pieces.{front_within}
+use Rattle.acpi_rules.specs.Demand.{spot_by}
+use Rattle.acpi_rules.specs.Item.{structure_items}
+use Rattle.acpi_rules.proofs.Structures.{goes_on}
+use Rattle.acpi_rules.proofs.item.push_structures.Goals as goal
+
+pub structures-preserved : goal.structures-preserved
+structures-preserved c =
+    let within = front_within (c.args.walk.now.sizes) c.in-Some.size c.structures.rest.now (sym c.front_size.ensures
+    ∙ c.in-Some.is) in
+    record {
+      fits = omega (arith, c.structures.invariant.fits, within.fits, c.split_at.ensures.back_len);
+      found = goes_on (c.args.walk.now.sizes)
+          (structure_items c.args.among.now.of c.args.among.now (spot_by c.args.spot.now) c.args.walk.now.kind) c.structures.at
+          c.in-Some.size c.front_size.result c.structures.rest.now _ _ _ _ _ c.front_size.ensures c.in-Some.is
+          c.split_at.ensures.front c.split_at.ensures.back c.structures.invariant.found c.in_ok-push_structure.ensures;
+    }

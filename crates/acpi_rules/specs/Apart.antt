@@ -1,0 +1,40 @@
+-- The rules on two parts of a table that have something in common: `unique`, and `overlap`.
+use Rattle.std.specs.Prelude.{ℕ, nat_le, ◌&&◌, Bool, false, if◌then◌else◌, List, [], ◌∷◌, ◌++◌, Option, Some, None}
+use Rattle.std.specs.Str.{bytes_eq}
+use Rattle.acpi_rules.specs.Demand.{Spot, Demand, differs, apart}
+use Rattle.acpi_rules.specs.Finding.{Finding}
+use Rattle.acpi_rules.specs.Item.{Item, bytes_in, number_in}
+use Rattle.acpi_rules.specs.Related.{relates}
+use Rattle.acpi_rules.specs.Rules.{number_of}
+use Rattle.acpi_rules.specs.declared.finding.Rule.TheVariants.{Unique, Overlap}
+
+-- two parts have the same bytes in a field, and ranges that have a number in common
+abbrev pub overlap : Spot → Spot → Item → Item → Bool
+overlap group last a b =
+    bytes_eq (bytes_in group a.bytes) (bytes_in group b.bytes)
+    && nat_le (number_of a.field) (number_in last b.bytes)
+    && nat_le (number_of b.field) (number_in last a.bytes)
+
+-- whether two parts break a demand
+abbrev pub clash : Demand → Item → Item → Bool
+clash differs a b = bytes_eq a.field.bytes b.field.bytes
+clash (apart group last) a b = overlap group last a b
+clash demand a b = false
+
+-- the offset of the field of the first part with which one clashes
+abbrev pub first_clash : Demand → Item → List Item → Option ℕ
+first_clash demand one [] = None
+first_clash demand one (item ∷ items) = if clash demand one item then Some item.field.offset else first_clash demand one items
+
+-- A part clashes with one at an offset.
+abbrev pub clash_findings : Demand → List ℕ → Item → Option ℕ → List Finding
+clash_findings differs section item (Some at) = relates Unique section at 0 [] item.field
+clash_findings (apart group last) section item (Some at) = relates Overlap section at 0 last.name item.field
+clash_findings demand section item before = []
+
+-- No part clashes with one before it: the parts before, and those that come.
+abbrev pub apart_findings : Demand → List ℕ → List Item → List Item → List Finding
+apart_findings demand section before [] = []
+apart_findings demand section before (item ∷ items) =
+    clash_findings demand section item (first_clash demand item before)
+    ++ apart_findings demand section (before ++ item ∷ []) items

@@ -1,0 +1,66 @@
+-- The rules on numbers of one part of a table: `at-most`, `no-overflow`, `count`, `pair`, `required`, `needs`, `range` and `multiple`.
+use Rattle.std.specs.Prelude.{ℕ, ◌+◌, ◌-◌, ◌*◌, ◌%◌, ◌^◌, ◌==◌, nat_le, nat_lt, ◌&&◌, ◌||◌, not, if◌then◌else◌, List, [], length}
+use Rattle.acpi_rules.specs.Demand.{Spot, Demand, at_most, addresses, counts, agrees, needed, needs, between, multiple}
+use Rattle.acpi_rules.specs.Finding.{Finding}
+use Rattle.acpi_rules.specs.Item.{Item, has, number_in}
+use Rattle.acpi_rules.specs.Related.{relates}
+use Rattle.acpi_rules.specs.Rules.{number_of}
+use Rattle.acpi_rules.specs.declared.finding.Rule.TheVariants.{AtMost, NoOverflow, Count, Pair, Required, Needs, Range, Multiple}
+
+-- A number isn't greater than that of another field.
+abbrev pub order_findings : List ℕ → Spot → Item → List Finding
+order_findings section other item =
+    if not (has other item.bytes) || nat_le (number_of item.field) (number_in other item.bytes) then []
+    else relates AtMost section (number_in other item.bytes) 0 other.name item.field
+
+-- The last address of a range is below 2^64.
+abbrev pub address_findings : List ℕ → Spot → Item → List Finding
+address_findings section size item =
+    if nat_lt (number_of item.field + (number_in size item.bytes - 1)) (2 ^ 64) then []
+    else relates NoOverflow section (number_in size item.bytes) 0 size.name item.field
+
+-- Entries of a size, as many as a number says, stand between an offset and the end of a part.
+abbrev pub count_findings : List ℕ → ℕ → ℕ → Item → List Finding
+count_findings section start size item =
+    if nat_le (start + size * number_of item.field) (length item.bytes) then []
+    else relates Count section 0 (length item.bytes) [] item.field
+
+-- Two numbers are the same, unless one is zero.
+abbrev pub pair_findings : List ℕ → Spot → Item → List Finding
+pair_findings section other item =
+    if (number_of item.field == 0) || (number_in other item.bytes == 0) || (number_of item.field == number_in other item.bytes)
+    then [] else relates Pair section (number_in other item.bytes) 0 other.name item.field
+
+-- One of two numbers isn't zero.
+abbrev pub needed_findings : List ℕ → Spot → Item → List Finding
+needed_findings section other item =
+    if (number_of item.field == 0) && (number_in other item.bytes == 0)
+    then relates Required section 0 0 other.name item.field else []
+
+-- A number is zero, or another isn't.
+abbrev pub needs_findings : List ℕ → Spot → Item → List Finding
+needs_findings section other item =
+    if (number_of item.field == 0) || not (number_in other item.bytes == 0) then []
+    else relates Needs section 0 0 other.name item.field
+
+-- A number is from one to another.
+abbrev pub between_findings : List ℕ → ℕ → ℕ → Item → List Finding
+between_findings section from to item =
+    if nat_le from (number_of item.field) && nat_le (number_of item.field) to then []
+    else relates Range section from to [] item.field
+
+-- A number is a multiple of another.
+abbrev pub multiple_findings : List ℕ → ℕ → Item → List Finding
+multiple_findings section unit item =
+    if number_of item.field % unit == 0 then [] else relates Multiple section unit 0 [] item.field
+
+abbrev pub number_findings : Demand → List ℕ → Item → List Finding
+number_findings (at_most other) section item = order_findings section other item
+number_findings (addresses size) section item = address_findings section size item
+number_findings (counts start size) section item = count_findings section start size item
+number_findings (agrees other) section item = pair_findings section other item
+number_findings (needed other) section item = needed_findings section other item
+number_findings (needs other) section item = needs_findings section other item
+number_findings (between from to) section item = between_findings section from to item
+number_findings (multiple unit) section item = multiple_findings section unit item
+number_findings demand section item = []

@@ -1,0 +1,109 @@
+//! The rules on two parts of a table that have something in common.
+
+ghost use Rattle.std.specs.Prelude.{◌≡◌, ◌++◌, [], map, OnOk};
+ghost use Rattle.acpi_rules.specs.Apart.{overlap, clash, first_clash, clash_findings, apart_findings};
+ghost use Rattle.acpi_rules.specs.Demand.{spot_by, demand_by};
+ghost use Rattle.acpi_rules.specs.Finding.{noted};
+ghost use Rattle.acpi_rules.specs.Item.{item_by};
+
+use crate::demand::{Demand, Spot};
+use crate::finding::{Finding, Rule};
+use crate::item::{Item, bytes_in, number_in};
+use crate::related::{Said, add_related};
+use crate::rules::number_of;
+use std::alloc::AllocError;
+
+// Returns whether two parts have the same bytes in a field, and ranges that have a number in common.
+fn overlap(group: &Spot, last: &Spot, a: &Item<'_>, b: &Item<'_>) -> bool
+    ensures { result ≡ overlap (spot_by group.now) (spot_by last.now) (item_by a.now) (item_by b.now) }
+{
+    bytes_in(group, a.bytes) == bytes_in(group, b.bytes)
+        && number_of(&a.field) <= number_in(last, b.bytes)
+        && number_of(&b.field) <= number_in(last, a.bytes)
+}
+
+// Returns whether two parts break a demand.
+fn clash(demand: &Demand, a: &Item<'_>, b: &Item<'_>) -> bool
+    ensures { result ≡ clash (demand_by demand.now) (item_by a.now) (item_by b.now) }
+{
+    match *demand {
+        Demand::Differs => a.field.bytes == b.field.bytes,
+        Demand::Apart(group, last) => overlap(&group, &last, a, b),
+        Demand::AtMost(_)
+        | Demand::Addresses(_)
+        | Demand::Counts(_, _)
+        | Demand::Agrees(_)
+        | Demand::Needed(_)
+        | Demand::Needs(_)
+        | Demand::Between(_, _)
+        | Demand::Multiple(_)
+        | Demand::Points(_)
+        | Demand::Refers(_, _)
+        | Demand::Distances(_) => false,
+    }
+}
+
+// Returns the offset of the field of the first part with which one clashes.
+fn first_clash(demand: &Demand, one: &Item<'_>, items: &[Item<'_>]) -> Option<usize>
+    ensures { result ≡ first_clash (demand_by demand.now) (item_by one.now) (map item_by items.now) }
+{
+    'items: for item in items {
+        if clash(demand, one, item) {
+            return Some(item.field.offset);
+        }
+    }
+    None
+}
+
+// Adds that a part clashes with one at an offset.
+fn check_clash<'a>(
+    demand: &Demand,
+    section: &'static str,
+    item: &Item<'a>,
+    before: Option<usize>,
+    findings: &mut Vec<Finding<'a>>,
+) -> Result<(), AllocError>
+    ensures { OnOk result (map noted findings.new.items ≡ map noted findings.old.items
+        ++ clash_findings (demand_by demand.now) section.now (item_by item.now) before) }
+{
+    match (*demand, before) {
+        (Demand::Differs, Some(at)) => {
+            let said = Said {
+                section,
+                number: at as u64,
+                most: 0,
+                other: "",
+            };
+            add_related(Rule::Unique, &said, &item.field, findings)
+        }
+        (Demand::Apart(_, last), Some(at)) => {
+            let said = Said {
+                section,
+                number: at as u64,
+                most: 0,
+                other: last.name,
+            };
+            add_related(Rule::Overlap, &said, &item.field, findings)
+        }
+        _ => Ok(()),
+    }
+}
+
+/// Adds the parts that clash with one before them.
+pub fn check_apart<'a>(
+    demand: &Demand,
+    section: &'static str,
+    items: &[Item<'a>],
+    findings: &mut Vec<Finding<'a>>,
+) -> Result<(), AllocError>
+    ensures { OnOk result (map noted findings.new.items ≡ map noted findings.old.items
+        ++ apart_findings (demand_by demand.now) section.now [] (map item_by items.now)) }
+{
+    let mut at = 0;
+    'items: while at < items.len() {
+        let before = first_clash(demand, &items[at], &items[..at]);
+        check_clash(demand, section, &items[at], before, findings)?;
+        at += 1;
+    }
+    Ok(())
+}

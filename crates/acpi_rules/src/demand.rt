@@ -1,0 +1,96 @@
+//! What rules on several fields of a table demand, as data.
+
+use acpi_base::walk::Place;
+use acpi_text::form::Count;
+
+/// A field of a part of a table.
+#[derive(Clone, Copy, Debug)]
+pub struct Spot {
+    /// The offset of the field from the first byte of the part.
+    pub offset: u16,
+    /// Its width in bytes.
+    pub width: u16,
+    /// Its name.
+    pub name: &'static str,
+}
+
+/// Parts of a table.
+#[derive(Clone, Copy, Debug)]
+pub enum Of {
+    /// The whole table.
+    Whole,
+    /// Each of its structures.
+    Each,
+    /// The structures of a type.
+    Kind(usize),
+    /// The entries of structures of a type: the type, the field that has the offset of the first entry, the least that this can be,
+    /// how many there are, and how many bytes each has.
+    Entries(usize, Place, u8, Count, u8),
+}
+
+/// Which parts of a table count.
+#[derive(Clone, Copy, Debug)]
+pub enum When {
+    /// All.
+    Always,
+    /// Those in which the bits of a mask, in the number at a place, are a number.
+    Is(Place, usize, usize),
+    /// Those in which they aren't this number.
+    Not(Place, usize, usize),
+}
+
+/// Some parts of a table.
+#[derive(Clone, Copy, Debug)]
+pub struct Among {
+    /// The parts.
+    pub of: Of,
+    /// Which of them count.
+    pub when: When,
+}
+
+/// What a rule demands of a field in each of some parts of a table.
+#[derive(Clone, Copy, Debug)]
+pub enum Demand {
+    /// No two of the parts have the same bytes in the field.
+    Differs,
+    /// The numbers from the field to the second of these have none in common with those of another part that has the same bytes
+    /// in the first.
+    Apart(Spot, Spot),
+    /// The field isn't greater than this one.
+    AtMost(Spot),
+    /// A range that begins at the field, and is as long as this one says, ends before 2^64.
+    Addresses(Spot),
+    /// As many entries as the field says stand between this offset and the part's end. The second number is an entry's size.
+    Counts(usize, usize),
+    /// The field has the number of this one, unless one of them is zero.
+    Agrees(Spot),
+    /// The field isn't zero, or this one isn't.
+    Needed(Spot),
+    /// The field is zero, or this one isn't.
+    Needs(Spot),
+    /// The field is from one number to another.
+    Between(u64, u64),
+    /// The field is a multiple of this number.
+    Multiple(u64),
+    /// The field is zero, or the offset of a structure of one of these types.
+    Points(&'static [usize]),
+    /// The field is zero, or the number in this one of a structure of this type.
+    Refers(usize, Spot),
+    /// The field is the number of localities, whose distances begin at this one (ACPI 6.5, 5.2.17).
+    Distances(Spot),
+}
+
+/// A rule on several fields of a table.
+#[derive(Clone, Copy, Debug)]
+pub struct Relation {
+    /// The signature of the tables.
+    pub table: &'static str,
+    /// The parts of which the rule speaks.
+    pub among: Among,
+    /// The field of which it speaks in each of them. Parts without this field don't count.
+    pub spot: Spot,
+    /// What it demands of the field.
+    pub demand: Demand,
+    /// The section of ACPI 6.5 that has the rule, or the name of another standard.
+    pub section: &'static str,
+}

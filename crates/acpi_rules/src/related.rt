@@ -1,0 +1,42 @@
+//! Findings on several fields of a table.
+
+ghost use Rattle.std.specs.Prelude.{◌≡◌, ◌++◌, map, OnOk};
+ghost use Rattle.acpi_rules.specs.Field.{seen};
+ghost use Rattle.acpi_rules.specs.Finding.{noted};
+ghost use Rattle.acpi_rules.specs.Related.{relates};
+
+use crate::field::Field;
+use crate::finding::{Finding, Rule};
+use std::alloc::AllocError;
+
+/// What a rule on several fields says of one: its section, numbers, and the name of another field.
+#[derive(Clone, Copy, Debug)]
+pub struct Said {
+    pub section: &'static str,
+    pub number: u64,
+    pub most: u64,
+    pub other: &'static str,
+}
+
+/// Adds that a field breaks a rule.
+pub fn add_related<'a>(
+    rule: Rule,
+    said: &Said,
+    field: &Field<'a>,
+    findings: &mut Vec<Finding<'a>>,
+) -> Result<(), AllocError>
+    ensures { OnOk result (map noted findings.new.items ≡ map noted findings.old.items
+        ++ relates rule said.now.section.now said.now.number said.now.most said.now.other.now (seen field.now)) }
+{
+    findings.push(Finding {
+        rule,
+        section: said.section,
+        offset: field.offset,
+        name: field.name,
+        bytes: field.bytes,
+        number: said.number,
+        most: said.most,
+        other: said.other,
+    })?;
+    Ok(())
+}

@@ -1,0 +1,99 @@
+//! The rules on several fields of a table. A function whose name begins with `check` adds to findings.
+
+ghost use Rattle.std.specs.Prelude.{◌≡◌, ◌++◌, map, OnOk};
+ghost use Rattle.std.specs.List.{flat_map};
+ghost use Rattle.acpi_rules.specs.Demand.{spot_by, demand_by, relation_by};
+ghost use Rattle.acpi_rules.specs.Finding.{noted};
+ghost use Rattle.acpi_rules.specs.Item.{item_by, items};
+ghost use Rattle.acpi_rules.specs.Reference.{targets};
+ghost use Rattle.acpi_rules.specs.Relation.{demand_findings, relation_findings, relations_findings};
+
+use crate::apart::check_apart;
+use crate::demand::{Demand, Relation};
+use crate::finding::Finding;
+use crate::item::{Item, items_of};
+use crate::matrix::check_matrices;
+use crate::order::check_each;
+use crate::reference::{check_references, targets_of};
+use crate::rules::signature_of;
+use acpi_base::walk::Walk;
+use std::alloc::{AllocError, Global};
+
+// Adds what parts of a table break of a demand, where these numbers are allowed beside zero.
+fn check_demand<'a>(
+    demand: &Demand,
+    section: &'static str,
+    numbers: &[u64],
+    items: &[Item<'a>],
+    findings: &mut Vec<Finding<'a>>,
+) -> Result<(), AllocError>
+    ensures { OnOk result (map noted findings.new.items ≡ map noted findings.old.items
+        ++ demand_findings (demand_by demand.now) section.now numbers.now (map item_by items.now)) }
+{
+    match *demand {
+        Demand::Differs | Demand::Apart(_, _) => check_apart(demand, section, items, findings),
+        Demand::Points(_) | Demand::Refers(_, _) => {
+            check_references(demand, section, numbers, items, findings)
+        }
+        Demand::Distances(first) => check_matrices(section, &first, items, findings),
+        Demand::AtMost(_)
+        | Demand::Addresses(_)
+        | Demand::Counts(_, _)
+        | Demand::Agrees(_)
+        | Demand::Needed(_)
+        | Demand::Needs(_)
+        | Demand::Between(_, _)
+        | Demand::Multiple(_) => check_each(demand, section, items, findings),
+    }
+}
+
+// Adds what a table of the signature of a rule breaks of it.
+fn check_table<'a>(
+    alloc: Global,
+    row: &Relation,
+    walk: Option<Walk>,
+    table: &'a [u8],
+    findings: &mut Vec<Finding<'a>>,
+) -> Result<(), AllocError>
+    ensures { OnOk result (map noted findings.new.items ≡ map noted findings.old.items
+        ++ demand_findings (demand_by row.now.demand) row.now.section.now (targets (demand_by row.now.demand) walk table.now)
+        (items row.now.among (spot_by row.now.spot) walk table.now)) }
+{
+    let numbers = targets_of(alloc, &row.demand, walk, table)?;
+    let items = items_of(alloc, &row.among, &row.spot, walk, table)?;
+    check_demand(&row.demand, row.section, &numbers, &items, findings)
+}
+
+// Adds what a table breaks of a rule.
+fn check_relation<'a>(
+    alloc: Global,
+    row: &Relation,
+    walk: Option<Walk>,
+    table: &'a [u8],
+    findings: &mut Vec<Finding<'a>>,
+) -> Result<(), AllocError>
+    ensures { OnOk result (map noted findings.new.items ≡ map noted findings.old.items
+        ++ relation_findings walk table.now (relation_by row.now)) }
+{
+    if row.table.as_bytes() == signature_of(table) {
+        return check_table(alloc, row, walk, table, findings);
+    }
+    Ok(())
+}
+
+/// Adds what a table breaks of rules, in the order of the rules. The only error is that memory ran out.
+pub fn check_relations<'a>(
+    alloc: Global,
+    rows: &[Relation],
+    walk: Option<Walk>,
+    table: &'a [u8],
+    findings: &mut Vec<Finding<'a>>,
+) -> Result<(), AllocError>
+    ensures { OnOk result (map noted findings.new.items ≡ map noted findings.old.items
+        ++ relations_findings (map relation_by rows.now) walk table.now) }
+{
+    'rows: for row in rows {
+        check_relation(alloc, row, walk, table, findings)?;
+    }
+    Ok(())
+}

@@ -1,0 +1,114 @@
+-- The image of a folder's files.
+use Rattle.std.proofs.Common.{◌≡◌, ℕ, ◌<◌, List, [], ◌∷◌, ◌++◌, ◌+◌, Option, length, take, drop, map, get_or, sym, ap, subst, ◌∙◌, inl, inr, Result, Ok, Err, MatchResult}
+use Rattle.std.proofs.lemmas.List.{at_drop_more, map-append, map_more, take-append-drop}
+use Rattle.std.specs.Io.KnownBytes.{Keeps}
+use Rattle.acpi_forms.specs.Kind.{kind_of}
+use Rattle.acpi_layout.specs.Files.{IsLaid}
+use Rattle.acpi_layout.specs.declared.layout.Image.{Image}
+use Rattle.acpi_layout.specs.declared.located.Located.{Located}
+use Rattle.acpitool_program.proofs.Archives.{saved_then, not_saved_then}
+use Rattle.acpitool_program.proofs.Streams.{keeps_kept, keeps_then}
+use Rattle.acpitool_program.specs.Image.{IsFoundImage}
+use Rattle.acpitool_program.specs.Laying.{AreFiles, IsRefused, IsMisread, IsNotFound, HaveNoneLaid, IsNotLaid, IsFoundOf, IsImageOf}
+use Rattle.acpitool_program.specs.Laying.{IsSavedTo, IsSaved, IsLaidOut}
+use Rattle.acpitool_program.specs.Text.{IsKind}
+
+-- ---- files
+
+-- one more file
+are_more : (paths files : List (List ℕ)) (path file : List ℕ) → AreFiles paths files → IsKind (kind_of file) file
+    → AreFiles (paths ++ path ∷ []) (files ++ file ∷ [])
+are_more [] [] path file are one = (one, tt)
+are_more [] (x ∷ files) path file are one = absurd are
+are_more (p ∷ paths) [] path file are one = absurd are
+are_more (p ∷ paths) (x ∷ files) path file are one = (are.0, are_more paths files path file are.1 one)
+
+-- a file that is refused after others
+refused_then : (path : List ℕ) (a b c : Option (List ℕ)) (status : ℕ) → Keeps a b → IsRefused path b c status → IsRefused path a c status
+refused_then path a b c status kept (inl (bytes, none)) =
+    inl (bytes, record { fault = none.fault; cause = none.cause; complained = keeps_then a b c _ kept none.complained; is = none.is })
+refused_then path a b c status kept (inr unread) =
+    inr (record { why = unread.why; complained = keeps_then a b c _ kept unread.complained; is = unread.is })
+
+module _ {X Y : Type 0} (f : X → List ℕ) (g : Y → List ℕ) (paths : List X) (i : ℕ) (x : X) (inside : i < length paths)
+    (is : x ≡ get_or paths i x) where
+  pub file_then : (files : List Y) (more : List Y) (file : Y) → more ≡ files ++ file ∷ [] → AreFiles (map f (take i paths)) (map g files)
+      → IsKind (kind_of (g file)) (g file) → AreFiles (map f (take (i + 1) paths)) (map g more)
+  file_then files more file grown are one =
+      let front : map f (take (i + 1) paths) ≡ map f (take i paths) ++ f x ∷ []
+      = map_more f paths i x inside ∙ ap (λ (y : X). map f (take i paths) ++ f y ∷ []) (sym is) in
+      let all : map g more ≡ map g files ++ g file ∷ [] = ap (map g) grown ∙ map-append g files (file ∷ []) in
+      let P : List (List ℕ) → Type 0 = λ l. AreFiles l (map g more) in
+      let Q : List (List ℕ) → Type 0 = λ l. AreFiles (map f (take i paths) ++ f x ∷ []) l in
+      subst P (sym front) (subst Q (sym all) (are_more (map f (take i paths)) (map g files) (f x) (g file) are one))
+
+  pub misread_here : (files : List Y) (a b c : Option (List ℕ)) (status : ℕ) → AreFiles (map f (take i paths)) (map g files) → Keeps a b
+      → IsRefused (f x) b c status → IsMisread (map f paths) a c status
+  misread_here files a b c status are kept one = record {
+    before = map f (take i paths);
+    files = map g files;
+    path = f x;
+    after = map f (drop (i + 1) paths);
+    are =
+        ap (map f) (sym (take-append-drop i paths))
+        ∙ map-append f (take i paths) (drop i paths)
+        ∙ ap (λ l. map f (take i paths) ++ l) (at_drop_more (map f) paths i x inside
+        ∙ ap (λ (y : X). f y ∷ map f (drop (i + 1) paths)) (sym is));
+    fine = are;
+    refused = refused_then (f x) a b c status kept one;
+  }
+
+-- ---- the image
+
+-- what was laid, and what came of looking for its tables
+pub found_then : (folder file : List ℕ) (base : ℕ) (paths files : List (List ℕ)) (image : Image) (found : Result Image ℕ)
+    (e e' : Option (List ℕ)) → IsLaid base files image
+    → MatchResult found (λ same. (same ≡ image) × ((tables : List Located) × IsFoundImage base image.bytes.items tables) × Keeps e e')
+    (λ status. IsNotFound file base image.bytes.items e e' status)
+    → MatchResult found (λ i. IsFoundOf base files i × Keeps e e') (λ status. HaveNoneLaid folder file base paths files e e' status)
+found_then folder file base paths files image (Ok same) e e' laid found =
+    let P : Image → Type 0 = λ i. IsFoundOf base files i in
+    let this : P image = record { laid = laid; tables = found.1.0; found = found.1.1 } in
+    (subst P (sym found.0) this, found.2)
+found_then folder file base paths files image (Err status) e e' laid not = inr (image, laid, not)
+
+none_then : (folder file : List ℕ) (base : ℕ) (paths files : List (List ℕ)) (a b c : Option (List ℕ)) (status : ℕ) → Keeps a b
+    → HaveNoneLaid folder file base paths files b c status → HaveNoneLaid folder file base paths files a c status
+none_then folder file base paths files a b c status kept (inl not) = inl (record {
+  fault = not.fault;
+  no_memory = not.no_memory;
+  cause = not.cause;
+  complained = keeps_then a b c _ kept not.complained;
+  is = not.is;
+})
+none_then folder file base paths files a b c status kept (inr (image, laid, not)) = inr (
+  image,
+  laid,
+  record { fault = not.fault; cause = not.cause; complained = keeps_then a b c _ kept not.complained; is = not.is },
+)
+
+-- what was read, and what came of laying it
+pub laid_then : (folder file : List ℕ) (base : ℕ) (paths files : List (List ℕ)) (found : Result Image ℕ) (a b c : Option (List ℕ))
+    → AreFiles paths files × Keeps a b
+    → MatchResult found (λ i. IsFoundOf base files i × Keeps b c) (λ status. HaveNoneLaid folder file base paths files b c status)
+    → MatchResult found (λ i. IsImageOf base paths i × Keeps a c) (λ status. IsNotLaid folder file base paths a c status)
+laid_then folder file base paths files (Ok image) a b c read found = ((files, read.0, found.0), keeps_kept a b c read.1 found.1)
+laid_then folder file base paths files (Err status) a b c read not =
+    inr (inr (record { files = files; are = read.0; cause = none_then folder file base paths files a b c status read.1 not }))
+
+saved_to_then : (image : Image) (file : List ℕ) (o o' a b c : Option (List ℕ)) (status : ℕ) → Keeps a b
+    → IsSavedTo image file o o' b c status → IsSavedTo image file o o' a c status
+saved_to_then image file o o' a b c status kept (inl saved) = inl (saved.0, saved_then a b c status kept saved.1)
+saved_to_then image file o o' a b c status kept (inr not) = inr (not.0, not_saved_then file a b c status kept not.1)
+
+image_saved_then : (image : Image) (file : List ℕ) (o o' a b c : Option (List ℕ)) (status : ℕ) → Keeps a b
+    → IsSaved image file o o' b c status → IsSaved image file o o' a c status
+image_saved_then image file o o' a b c status kept (inl out) = inl (out.0, out.1, keeps_then a b c _ kept out.2, out.3)
+image_saved_then image file o o' a b c status kept (inr other) = inr (other.0, saved_to_then image file o o' a b c status kept other.1)
+
+-- what was laid, and what came of writing it
+pub written_out : (image : Image) (file : List ℕ) (base : ℕ) (o o' a b c : Option (List ℕ)) (status : ℕ)
+    → ((paths : List (List ℕ)) × IsImageOf base paths image) × Keeps a b → IsSaved image file o o' b c status
+    → IsLaidOut file base o o' a c status
+written_out image file base o o' a b c status laid saved =
+    record { paths = laid.0.0; image = image; of = laid.0.1; saved = image_saved_then image file o o' a b c status laid.1 saved }

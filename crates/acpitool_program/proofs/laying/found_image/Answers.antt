@@ -1,0 +1,9 @@
+use Rattle.acpitool_program.proofs.laying.found_image.Goals as goal
+
+pub returns-in_ok-tell_no_image-in-Err : goal.returns-in_ok-tell_no_image-in-Err
+returns-in_ok-tell_no_image-in-Err g c = record {
+  fault = c.in-Err.fault;
+  cause = rw c.deref.ensures.value at c.in-Err.ensures.err;
+  complained = c.in_ok-tell_no_image-in-Err.ensures.line;
+  is = c.in_ok-tell_no_image-in-Err.ensures.is;
+}

@@ -1,0 +1,108 @@
+-- The fields in which the tables in two files differ.
+use Rattle.std.specs.Prelude.{◌≡◌, ◌≢◌, ◌⊎◌, ℕ, List, [], ◌∷◌, ◌++◌, map, take, Option, None, codes}
+use Rattle.std.specs.Io.KnownBytes.{Keeps, Appends}
+use Rattle.acpi_base.specs.Bytes.{field_at}
+use Rattle.acpi_base.specs.FurtherWalk.{table_walk_of}
+use Rattle.acpi_base.specs.declared.walk.Walk.{Walk}
+use Rattle.acpi_forms.specs.Kind.{kind_of}
+use Rattle.acpi_forms.specs.Named.{Named, IsNamed, names_of, rsdp_names, facs_names}
+use Rattle.acpi_make.specs.declared.file_kind.FileKind.{FileKind}
+use Rattle.acpi_make.specs.declared.file_kind.FileKind.TheVariants.{Rsdp, Facs, Table}
+use Rattle.acpi_read.specs.Report.{printable}
+use Rattle.acpi_rules.specs.Difference.{AreLines}
+use Rattle.acpi_rules.specs.Field.{Field, table_fields}
+use Rattle.acpi_text.specs.declared.form.TableForm.{TableForm}
+use Rattle.acpitool_program.specs.Fault.{line_of}
+use Rattle.acpitool_program.specs.Listing.{NotRead}
+use Rattle.acpitool_program.specs.Text.{IsKind, IsTextFault}
+use Rattle.acpitool_program.specs.declared.fault.Fault.{Fault}
+
+-- ---- the fields of one table
+
+-- the fields of bytes by a form that has these names
+pub record AreByForm (names : Named) (walk : Option Walk) (bytes : List ℕ) (fields : List Field) : Type 0 where
+  pub form : TableForm
+  pub is_named : IsNamed form names
+  pub are : fields ≡ table_fields form walk bytes
+
+-- the fields of bytes of a kind
+abbrev pub AreFieldsBy : FileKind → List ℕ → List Field → Type 0
+AreFieldsBy Rsdp bytes fields = AreByForm rsdp_names None bytes fields
+AreFieldsBy Facs bytes fields = AreByForm facs_names None bytes fields
+AreFieldsBy Table bytes fields = AreByForm (names_of (field_at 0 4 bytes)) (table_walk_of (field_at 0 4 bytes)) bytes fields
+
+abbrev pub AreFields : List ℕ → List Field → Type 0
+AreFields bytes fields = AreFieldsBy (kind_of bytes) bytes fields
+
+-- ---- two tables
+
+-- the line of tables with different signatures, in which a question mark stands for what doesn't print
+abbrev pub signatures_line : List ℕ → List ℕ → List ℕ
+signatures_line a b =
+    codes "the signatures differ: " ++ map printable (take 4 a) ++ codes ", " ++ map printable (take 4 b) ++ 10 ∷ []
+
+-- the lines of the fields of tables that differ, or one line if no field does
+abbrev pub or_nameless : List ℕ → List ℕ
+or_nameless [] = codes "bytes without a name differ\n"
+or_nameless (c ∷ lines) = c ∷ lines
+
+-- the lines of two tables whose fields are these
+pub record AreDifferences (a b text : List ℕ) : Type 0 where
+  pub first : List Field
+  pub second : List Field
+  pub lines : List ℕ
+  pub has_first : AreFields a first
+  pub has_second : AreFields b second
+  pub differ : AreLines first second lines
+  pub is : text ≡ or_nameless lines
+
+-- What is printed of two tables: nothing if they are the same, and only then. Otherwise it is a line on their signatures if these
+-- differ, or else the lines of their fields.
+abbrev pub IsComparison : List ℕ → List ℕ → List ℕ → Type 0
+IsComparison a b text =
+    ((a ≡ b) × (text ≡ []))
+    ⊎ ((a ≢ b) × (take 4 a ≢ take 4 b) × (text ≡ signatures_line a b))
+    ⊎ ((a ≢ b) × (take 4 a ≡ take 4 b) × AreDifferences a b text)
+
+-- 0 if nothing is printed, and 1 otherwise
+abbrev pub comparison_status : List ℕ → ℕ
+comparison_status [] = 0
+comparison_status (c ∷ text) = 1
+
+-- ---- two files
+
+-- both files are what their signatures say, and were compared
+pub record AreCompared (a b : List ℕ) (out out' err err' : Option (List ℕ)) (status : ℕ) : Type 0 where
+  pub first : IsKind (kind_of a) a
+  pub second : IsKind (kind_of b) b
+  pub text : List ℕ
+  pub compared : IsComparison a b text
+  pub wrote : Appends out out' text
+  pub silent : Keeps err err'
+  pub is : status ≡ comparison_status text
+
+-- a file isn't what its signature says, and a line says why
+pub record NotCompared (name bytes : List ℕ) (out out' err err' : Option (List ℕ)) (status : ℕ) : Type 0 where
+  pub fault : Fault
+  pub cause : IsTextFault bytes fault
+  pub complained : Appends err err' (name ++ codes ": " ++ line_of fault ++ 10 ∷ [])
+  pub silent : Keeps out out'
+  pub is : status ≡ 1
+
+-- what comes of the bytes of two files
+abbrev pub ComparesBytes : List ℕ → List ℕ → List ℕ → List ℕ
+    → Option (List ℕ) → Option (List ℕ) → Option (List ℕ) → Option (List ℕ) → ℕ → Type 0
+ComparesBytes first a second b out out' err err' status =
+    AreCompared a b out out' err err' status ⊎ NotCompared first a out out' err err' status
+    ⊎ NotCompared second b out out' err err' status
+
+-- what comes of bytes and a second file: the system says which bytes it has
+abbrev pub ComparesWith : List ℕ → List ℕ → List ℕ
+    → Option (List ℕ) → Option (List ℕ) → Option (List ℕ) → Option (List ℕ) → ℕ → Type 0
+ComparesWith first a second out out' err err' status =
+    ((b : List ℕ) × ComparesBytes first a second b out out' err err' status) ⊎ NotRead second out out' err err' status
+
+-- what comes of `diff FILE FILE`
+abbrev pub Compares : List ℕ → List ℕ → Option (List ℕ) → Option (List ℕ) → Option (List ℕ) → Option (List ℕ) → ℕ → Type 0
+Compares first second out out' err err' status =
+    ((a : List ℕ) × ComparesWith first a second out out' err err' status) ⊎ NotRead first out out' err err' status

@@ -1,0 +1,159 @@
+-- The image of the tables of a folder.
+use Rattle.std.specs.Prelude.{◌≡◌, ◌≢◌, ◌⊎◌, ℕ, List, [], ◌∷◌, ◌++◌, Bool, true, false, ◌||◌, Option, Some, None, codes}
+use Rattle.std.specs.List.{slice_get}
+use Rattle.std.specs.Str.{bytes_eq}
+use Rattle.std.specs.Io.KnownBytes.{Keeps, Appends}
+use Rattle.acpi_forms.specs.Kind.{kind_of}
+use Rattle.acpi_layout.specs.FaultText.{hexadecimal}
+use Rattle.acpi_layout.specs.Files.{IsLaid, IsLayFault}
+use Rattle.acpi_layout.specs.FilesText.{text_of}
+use Rattle.acpi_layout.specs.declared.lay_fault.LayFault.{LayFault}
+use Rattle.acpi_layout.specs.declared.lay_fault.LayFault.TheVariants.{Memory, Second}
+use Rattle.acpi_layout.specs.declared.layout.Image.{Image}
+use Rattle.acpi_layout.specs.declared.located.Located.{Located}
+use Rattle.acpitool_program.specs.Archiving.{CantBeRead}
+use Rattle.acpitool_program.specs.Fault.{line_of}
+use Rattle.acpitool_program.specs.Image.{IsFoundImage}
+use Rattle.acpitool_program.specs.Listing.{IsNoImage, why}
+use Rattle.acpitool_program.specs.Making.{Saved, NotSaved}
+use Rattle.acpitool_program.specs.Text.{IsKind, IsTextFault}
+use Rattle.acpitool_program.specs.declared.fault.Fault.{Fault}
+use Rattle.acpitool_program.specs.declared.image.NoImage.{NoImage}
+
+-- ---- files
+
+-- these are the bytes of the files, each of which is what its signature says: a table, an RSDP or a FACS
+abbrev pub AreFiles : List (List ℕ) → List (List ℕ) → Type 0
+AreFiles [] [] = Unit {0}
+AreFiles (path ∷ paths) (file ∷ files) = IsKind (kind_of file) file × AreFiles paths files
+AreFiles _ _ = ⊥
+
+-- the bytes of a file aren't what their signature says, and a line says why
+pub record IsNoFile (path bytes : List ℕ) (err err' : Option (List ℕ)) (status : ℕ) : Type 0 where
+  pub fault : Fault
+  pub cause : IsTextFault bytes fault
+  pub complained : Appends err err' (path ++ codes ": " ++ line_of fault ++ 10 ∷ [])
+  pub is : status ≡ 1
+
+-- a file isn't laid: it can't be read, or isn't what its signature says
+abbrev pub IsRefused : List ℕ → Option (List ℕ) → Option (List ℕ) → ℕ → Type 0
+IsRefused path err err' status = ((bytes : List ℕ) × IsNoFile path bytes err err' status) ⊎ CantBeRead path err err' status
+
+-- one of the files is refused: the first, as no more of them is read
+pub record IsMisread (paths : List (List ℕ)) (err err' : Option (List ℕ)) (status : ℕ) : Type 0 where
+  pub before : List (List ℕ)
+  pub files : List (List ℕ)
+  pub path : List ℕ
+  pub after : List (List ℕ)
+  pub are : paths ≡ before ++ path ∷ after
+  pub fine : AreFiles before files
+  pub refused : IsRefused path err err' status
+
+-- whether one of the paths is this one
+abbrev pub has_path : List ℕ → List (List ℕ) → Bool
+has_path file [] = false
+has_path file (path ∷ paths) = bytes_eq path file || has_path file paths
+
+abbrev pub replaced_line : List ℕ → List ℕ
+replaced_line file = file ++ codes ": the image would replace a table\n"
+
+-- the image is to be one of the files, which isn't touched
+pub record WouldReplace (paths : List (List ℕ)) (file : List ℕ) (err err' : Option (List ℕ)) (status : ℕ) : Type 0 where
+  pub has : has_path file paths ≡ true
+  pub complained : Appends err err' (replaced_line file)
+  pub is : status ≡ 1
+
+-- ---- why files have no image
+
+-- the path, or the folder if there is none
+abbrev pub or_folder : List ℕ → Option (List ℕ) → List ℕ
+or_folder folder (Some path) = path
+or_folder folder None = folder
+
+-- what a fault is said of: the file that is a second one of its signature, or else the folder
+abbrev pub blamed : List ℕ → List (List ℕ) → LayFault → List ℕ
+blamed folder paths (Second index) = or_folder folder (slice_get paths index)
+blamed folder paths fault = folder
+
+-- the files can't be laid, and a line says why
+pub record AreNotLaid (folder : List ℕ) (base : ℕ) (paths files : List (List ℕ))
+    (err err' : Option (List ℕ)) (status : ℕ) : Type 0 where
+  pub fault : LayFault
+  pub no_memory : fault ≢ Memory
+  pub cause : IsLayFault base files fault
+  pub complained : Appends err err' (blamed folder paths fault ++ codes ": " ++ text_of fault ++ 10 ∷ [])
+  pub is : status ≡ 1
+
+-- the bytes aren't an image whose tables are found, and a line says why
+pub record IsNotFound (file : List ℕ) (base : ℕ) (bytes : List ℕ) (err err' : Option (List ℕ)) (status : ℕ) : Type 0 where
+  pub fault : NoImage
+  pub cause : IsNoImage base bytes fault
+  pub complained : Appends err err' (file ++ codes ": " ++ why base fault ++ 10 ∷ [])
+  pub is : status ≡ 1
+
+-- the files can't be laid, or the tables of their image aren't found
+abbrev pub HaveNoneLaid : List ℕ → List ℕ → ℕ → List (List ℕ) → List (List ℕ) → Option (List ℕ) → Option (List ℕ) → ℕ → Type 0
+HaveNoneLaid folder file base paths files err err' status =
+    AreNotLaid folder base paths files err err' status
+    ⊎ ((image : Image) × IsLaid base files image × IsNotFound file base image.bytes.items err err' status)
+
+-- the files have no image
+pub record HaveNoImage (folder file : List ℕ) (base : ℕ) (paths : List (List ℕ))
+    (err err' : Option (List ℕ)) (status : ℕ) : Type 0 where
+  pub files : List (List ℕ)
+  pub are : AreFiles paths files
+  pub cause : HaveNoneLaid folder file base paths files err err' status
+
+-- no image is written
+abbrev pub IsNotLaid : List ℕ → List ℕ → ℕ → List (List ℕ) → Option (List ℕ) → Option (List ℕ) → ℕ → Type 0
+IsNotLaid folder file base paths err err' status =
+    WouldReplace paths file err err' status ⊎ IsMisread paths err err' status
+    ⊎ HaveNoImage folder file base paths err err' status
+
+-- ---- the image
+
+-- the image of files, whose tables are found
+pub record IsFoundOf (base : ℕ) (files : List (List ℕ)) (image : Image) : Type 0 where
+  pub laid : IsLaid base files image
+  pub tables : List Located
+  pub found : IsFoundImage base image.bytes.items tables
+
+-- the files of these paths have this image
+abbrev pub IsImageOf : ℕ → List (List ℕ) → Image → Type 0
+IsImageOf base paths image = (files : List (List ℕ)) × AreFiles paths files × IsFoundOf base files image
+
+-- the line with the address of the image's RSDP
+abbrev pub rsdp_line : ℕ → List ℕ
+rsdp_line address = codes "RSDP at " ++ hexadecimal address ++ 10 ∷ []
+
+-- the image went to a file, of which no contract can say what it has, and the line of its RSDP to standard output; or it can't be
+-- written
+abbrev pub IsSavedTo : Image → List ℕ → Option (List ℕ) → Option (List ℕ) → Option (List ℕ) → Option (List ℕ) → ℕ → Type 0
+IsSavedTo image file out out' err err' status =
+    (Appends out out' (rsdp_line image.rsdp) × Saved err err' status) ⊎ (Keeps out out' × NotSaved file err err' status)
+
+-- An image goes to standard output if the file is `-`, and then the line of its RSDP to standard error.
+abbrev pub IsSaved : Image → List ℕ → Option (List ℕ) → Option (List ℕ) → Option (List ℕ) → Option (List ℕ) → ℕ → Type 0
+IsSaved image file out out' err err' status =
+    ((file ≡ codes "-") × Appends out out' image.bytes.items × Appends err err' (rsdp_line image.rsdp) × (status ≡ 0))
+    ⊎ ((file ≢ codes "-") × IsSavedTo image file out out' err err' status)
+
+-- ---- a folder
+
+-- why a folder has no image: the system says which files it has
+abbrev pub HasNoImage : List ℕ → List ℕ → ℕ → Option (List ℕ) → Option (List ℕ) → ℕ → Type 0
+HasNoImage folder file base err err' status =
+    ((paths : List (List ℕ)) × IsNotLaid folder file base paths err err' status) ⊎ CantBeRead folder err err' status
+
+-- the image of a folder, whose files the system names, is written to a file
+pub record IsLaidOut (file : List ℕ) (base : ℕ) (out out' err err' : Option (List ℕ)) (status : ℕ) : Type 0 where
+  pub paths : List (List ℕ)
+  pub image : Image
+  pub of : IsImageOf base paths image
+  pub saved : IsSaved image file out out' err err' status
+
+-- what comes of `lay FOLDER FILE BASE`
+abbrev pub LaysFolder : List ℕ → List ℕ → ℕ
+    → Option (List ℕ) → Option (List ℕ) → Option (List ℕ) → Option (List ℕ) → ℕ → Type 0
+LaysFolder folder file base out out' err err' status =
+    IsLaidOut file base out out' err err' status ⊎ (HasNoImage folder file base err err' status × Keeps out out')

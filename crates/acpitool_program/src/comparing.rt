@@ -1,0 +1,236 @@
+//! The fields in which the tables in two files differ.
+
+ghost use Rattle.std.specs.Prelude.{◌≡◌, ◌≤◌, ℕ, List, [], ◌∷◌, ◌++◌, codes, length, map, None, IfOk, OnOk, string_bytes};
+ghost use Rattle.std.specs.Io.KnownBytes.{Appends};
+ghost use Rattle.acpi_base.specs.Bytes.{field_at};
+ghost use Rattle.acpi_base.specs.FurtherWalk.{table_walk_of};
+ghost use Rattle.acpi_forms.specs.Kind.{kind_of};
+ghost use Rattle.acpi_forms.specs.Named.{Named, IsNamed, names_of, rsdp_names, facs_names};
+ghost use Rattle.acpi_rules.specs.Field.{seen};
+ghost use Rattle.acpitool_program.specs.Comparing.{AreByForm, AreFields, signatures_line, or_nameless, AreDifferences};
+ghost use Rattle.acpitool_program.specs.Comparing.{IsComparison, comparison_status, ComparesBytes};
+ghost use Rattle.acpitool_program.specs.Comparing.{ComparesWith, Compares};
+ghost use Rattle.acpitool_program.specs.Fault.{line_of};
+ghost use Rattle.acpitool_program.specs.Text.{IsKind};
+
+use crate::complaint::complain;
+use crate::fault::Fault;
+use crate::files::read_word;
+use crate::outcome::tell_unread;
+use crate::text::check_kind;
+use acpi_base::further_walk::table_walk_of;
+use acpi_base::walk::Walk;
+use acpi_forms::form::{facs_form, form_of, rsdp_form};
+use acpi_forms::kind::kind_of;
+use acpi_make::file_kind::FileKind;
+use acpi_read::bytes::dword_at;
+use acpi_read::report::push_shown;
+use acpi_rules::difference::differences_of;
+use acpi_rules::field::Field;
+use acpi_rules::rules::signature_of;
+use acpi_rules::table::fields_of;
+use acpi_text::form::TableForm;
+use std::alloc::{AllocError, Global};
+use std::io;
+use std::io::{Input, Write};
+use std::rt::Files;
+
+// Returns the fields of bytes by a form.
+fn by_form<'a>(
+    alloc: Global,
+    form: &TableForm,
+    walk: Option<Walk>,
+    bytes: &'a [u8],
+) -> Result<Vec<Field<'a>>, AllocError>
+    ensures { (names : Named) → IsNamed form.now names
+        → IfOk result (λ fields. AreByForm names walk bytes.now (map seen fields.items)) }
+{
+    let fields = fields_of(alloc, form, walk, bytes)?;
+    Ok(fields)
+}
+
+// Returns the fields of a pointer.
+fn pointer_fields<'a>(alloc: Global, bytes: &'a [u8]) -> Result<Vec<Field<'a>>, AllocError>
+    ensures { IfOk result (λ fields. AreByForm rsdp_names None bytes.now (map seen fields.items)) }
+{
+    by_form(alloc, &rsdp_form(), None, bytes)
+}
+
+// Returns the fields of a control structure.
+fn control_fields<'a>(alloc: Global, bytes: &'a [u8]) -> Result<Vec<Field<'a>>, AllocError>
+    ensures { IfOk result (λ fields. AreByForm facs_names None bytes.now (map seen fields.items)) }
+{
+    by_form(alloc, &facs_form(), None, bytes)
+}
+
+// Returns the fields of a table of a signature.
+fn signature_fields<'a>(
+    alloc: Global,
+    signature: u32,
+    bytes: &'a [u8],
+) -> Result<Vec<Field<'a>>, AllocError>
+    ensures { IfOk result (λ fields. AreByForm (names_of signature) (table_walk_of signature) bytes.now (map seen fields.items)) }
+{
+    by_form(alloc, &form_of(signature), table_walk_of(signature), bytes)
+}
+
+// Returns the fields of a table.
+fn table_fields<'a>(alloc: Global, bytes: &'a [u8]) -> Result<Vec<Field<'a>>, AllocError>
+    requires { 4 ≤ length bytes.now }
+    ensures { IfOk result (λ fields. AreByForm (names_of (field_at 0 4 bytes.now)) (table_walk_of (field_at 0 4 bytes.now))
+        bytes.now (map seen fields.items)) }
+{
+    signature_fields(alloc, dword_at(bytes, 0), bytes)
+}
+
+// Returns the fields of a table, a pointer or a control structure.
+fn fields_in<'a>(alloc: Global, bytes: &'a [u8]) -> Result<Vec<Field<'a>>, AllocError>
+    requires { IsKind (kind_of bytes.now) bytes.now }
+    ensures { IfOk result (λ fields. AreFields bytes.now (map seen fields.items)) }
+{
+    match kind_of(bytes) {
+        FileKind::Rsdp => pointer_fields(alloc, bytes),
+        FileKind::Facs => control_fields(alloc, bytes),
+        FileKind::Table => table_fields(alloc, bytes),
+    }
+}
+
+// Returns the line of tables with different signatures.
+fn signatures_line(alloc: Global, a: &[u8], b: &[u8]) -> Result<String, AllocError>
+    ensures { IfOk result (λ text. string_bytes text ≡ signatures_line a.now b.now) }
+{
+    let mut text = String::from_str(alloc, "the signatures differ: ")?;
+    push_shown(signature_of(a), &mut text)?;
+    text.push_str(", ")?;
+    push_shown(signature_of(b), &mut text)?;
+    text.push_str("\n")?;
+    Ok(text)
+}
+
+// Returns the lines of the fields of tables that differ, or one line if no field does.
+fn or_nameless(alloc: Global, lines: String) -> Result<String, AllocError>
+    ensures { IfOk result (λ text. string_bytes text ≡ or_nameless (string_bytes lines)) }
+{
+    if lines.is_empty() {
+        return String::from_str(alloc, "bytes without a name differ\n");
+    }
+    Ok(lines)
+}
+
+// Returns the lines of the fields in which two tables differ.
+fn differences(alloc: Global, a: &[u8], b: &[u8]) -> Result<String, AllocError>
+    requires first { IsKind (kind_of a.now) a.now }
+    requires second { IsKind (kind_of b.now) b.now }
+    ensures { IfOk result (λ text. AreDifferences a.now b.now (string_bytes text)) }
+{
+    let first = fields_in(alloc, a)?;
+    let second = fields_in(alloc, b)?;
+    let lines = differences_of(alloc, &first, &second)?;
+    or_nameless(alloc, lines)
+}
+
+// Returns what is printed of two tables.
+fn comparison(alloc: Global, a: &[u8], b: &[u8]) -> Result<String, AllocError>
+    requires first { IsKind (kind_of a.now) a.now }
+    requires second { IsKind (kind_of b.now) b.now }
+    ensures { IfOk result (λ text. IsComparison a.now b.now (string_bytes text)) }
+{
+    if a == b {
+        return Ok(String::new(alloc));
+    }
+    if signature_of(a) != signature_of(b) {
+        return signatures_line(alloc, a, b);
+    }
+    differences(alloc, a, b)
+}
+
+// Returns 0 if nothing is printed, and 1 otherwise.
+fn status_of(text: &str) -> u8
+    ensures { result ≡ comparison_status text.now }
+{
+    if text.is_empty() { 0 } else { 1 }
+}
+
+// Prints in which fields two tables differ, and returns the status.
+fn print_comparison<O: Write>(alloc: Global, a: &[u8], b: &[u8], out: &mut O) -> io::Result<u8>
+    requires first { IsKind (kind_of a.now) a.now }
+    requires second { IsKind (kind_of b.now) b.now }
+    ensures { IfOk result (λ status. (text : List ℕ) × IsComparison a.now b.now text
+        × Appends (O.contents out.old) (O.contents out.new) text × (status ≡ comparison_status text)) }
+{
+    let text = comparison(alloc, a, b)?;
+    out.write_all(text.as_bytes())?;
+    Ok(status_of(text.as_str()))
+}
+
+// Prints why a file isn't what its signature says, and returns 1.
+fn tell_refused<E: Write>(alloc: Global, name: &str, fault: &Fault, err: &mut E) -> io::Result<u8>
+    ensures is { IfOk result (λ status. status ≡ 1) }
+    ensures line { OnOk result (Appends (E.contents err.old) (E.contents err.new)
+        (name.now ++ codes ": " ++ line_of fault.now ++ 10 ∷ [])) }
+{
+    complain(alloc, name, fault, err)?;
+    Ok(1)
+}
+
+// Compares the bytes of two files, or prints what is wrong with the first that isn't what its signature says.
+fn compare_bytes<O: Write, E: Write>(
+    alloc: Global,
+    first: &str,
+    a: &[u8],
+    second: &str,
+    b: &[u8],
+    out: &mut O,
+    err: &mut E,
+) -> io::Result<u8>
+    ensures { IfOk result (λ status. ComparesBytes first.now a.now second.now b.now (O.contents out.old) (O.contents out.new)
+        (E.contents err.old) (E.contents err.new) status) }
+{
+    if let Err(fault) = check_kind(a) {
+        return tell_refused(alloc, first, &fault, err);
+    }
+    if let Err(fault) = check_kind(b) {
+        return tell_refused(alloc, second, &fault, err);
+    }
+    Ok(print_comparison(alloc, a, b, out)?)
+}
+
+// Compares bytes with those of a file, or of standard input.
+fn compare_with<R: Files + Input, O: Write, E: Write>(
+    rt: &R,
+    alloc: Global,
+    first: &str,
+    a: &[u8],
+    second: &str,
+    out: &mut O,
+    err: &mut E,
+) -> io::Result<u8>
+    ensures { IfOk result (λ status. ComparesWith first.now a.now second.now (O.contents out.old) (O.contents out.new)
+        (E.contents err.old) (E.contents err.new) status) }
+{
+    match read_word(rt, alloc, second) {
+        Ok(b) => compare_bytes(alloc, first, a, second, &b, out, err),
+        Err(error) => tell_unread(alloc, second, &error, err),
+    }
+}
+
+/// Prints a line for each field in which the tables in two files differ, or on standard input where the word is `-`: by the form
+/// of their signature, and by their structures. A line says if only bytes that the form has no name for differ, or if the
+/// signatures do. The status is 0 if the files have the same bytes, and then nothing is printed; 1 if they differ, or if one
+/// isn't a table, an RSDP or a FACS by its signature, which a line on `err` says; and 2 if a file can't be read.
+pub fn compare_files<R: Files + Input, O: Write, E: Write>(
+    rt: &R,
+    alloc: Global,
+    first: &str,
+    second: &str,
+    out: &mut O,
+    err: &mut E,
+) -> io::Result<u8>
+    ensures { IfOk result (λ status. Compares first.now second.now (O.contents out.old) (O.contents out.new)
+        (E.contents err.old) (E.contents err.new) status) }
+{
+    match read_word(rt, alloc, first) {
+        Ok(a) => compare_with(rt, alloc, first, &a, second, out, err),
+        Err(error) => tell_unread(alloc, first, &error, err),
+    }
+}

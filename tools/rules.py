@@ -1,0 +1,206 @@
+"""Makes the list in docs/RULES.md of the rules that `acpitool check` has for single tables.
+
+    python3 -B tools/rules.py            compares the list with what it has to be; the status is 1 if they differ
+    python3 -B tools/rules.py renew      writes the list
+
+The rules are the rows of crates/acpi_rules/src/standard.rt. Each name of a field has to be in the sources of the forms. Where
+docs/FIELDS.md has the structure of a rule, its field has to be there with the same offset and width.
+"""
+import glob
+import re
+import sys
+import textwrap
+
+SOURCE = "crates/acpi_rules/src/standard.rt"
+DOCUMENT = "docs/RULES.md"
+FIELDS = "docs/FIELDS.md"
+BEGIN, END = "<!-- rules: tools/rules.py makes these lines -->\n", "<!-- end of rules -->\n"
+NAMES = {"Differs": "unique", "Apart": "overlap", "AtMost": "at-most", "Addresses": "no-overflow", "Counts": "count"}
+NAMES.update({"Agrees": "pair", "Needed": "required", "Needs": "needs", "Between": "range", "Multiple": "multiple"})
+NAMES.update({"Points": "reference", "Refers": "reference", "Distances": "distance"})
+
+
+def stop(why):
+    sys.exit(f"rules.py: {why}")
+
+
+def read(path):
+    with open(path, encoding="utf-8") as file:
+        return file.read()
+
+
+def number(text):
+    return int(text.replace("_", ""), 0)
+
+
+def split_outside(text):
+    """Returns the parts of a list between commas that aren't within brackets or quotation marks."""
+    parts, depth, quoted, last = [], 0, False, 0
+    for at, one in enumerate(text):
+        quoted ^= one == '"'
+        if not quoted:
+            depth += (one in "([{") - (one in ")]}")
+            if one == "," and depth == 0:
+                parts.append(text[last:at].strip())
+                last = at + 1
+    return [it for it in [*parts, text[last:].strip()] if it]
+
+
+def call(text):
+    """Returns the name of what looks like a call, and its arguments."""
+    name, _, rest = text.partition("(")
+    return name.rstrip("!"), split_outside(rest.rstrip()[:-1]) if rest else []
+
+
+def spot(text):
+    """Returns the offset, the width and the name of a field."""
+    offset, width, name = call(text)[1]
+    return int(offset), int(width), name.strip('"')
+
+
+def place(text):
+    """Returns the offset of a place, or nothing if it is nowhere."""
+    kind, arguments = call(text)
+    return arguments[0] if arguments else None
+
+
+def bits(kind, where_text, mask, value):
+    """Returns what the bits of a mask have to be."""
+    at, mask, value = place(where_text), number(mask), number(value)
+    whole = mask in (0xFF, 0xFFFF, 0xFFFF_FFFF)
+    be = ("is" if whole else "are") + ("" if kind == "Is" else "n't")
+    if whole:
+        return f", if the number at {at} {be} {value}"
+    return f", if the bits {mask:#x} at {at} {be} {value:#x}"
+
+
+def condition(text):
+    kind, arguments = call(text)
+    return "" if kind == "Always" else bits(kind, *arguments)
+
+
+def where(text):
+    """Returns the parts of a table of which a rule speaks."""
+    kind, arguments = call(text)
+    if kind == "Whole":
+        return ""
+    if kind == "Each":
+        return "each structure, "
+    if kind == "Kind":
+        return f"type {arguments[0]}, "
+    size = arguments[4]
+    start = place(arguments[1])
+    begin = f"the offset at {start}" if start else arguments[2]
+    return f"type {arguments[0]}, entries of {size} bytes from {begin} on, "
+
+
+def between(least, most):
+    if least == most:
+        return f"is {least}"
+    return f"is at least {least}" if most in (2**32 - 1, 2**64 - 1) else f"is from {least} to {most}"
+
+
+def types(numbers):
+    return f"type {', '.join(numbers[:-1])} or {numbers[-1]}" if len(numbers) > 1 else f"type {numbers[0]}"
+
+
+def demand(text):
+    """Returns what a rule demands of its field."""
+    kind, arguments = call(text)
+    if kind == "Differs":
+        return "differs in all of them"
+    if kind == "Apart":
+        return f"the numbers up to {spot(arguments[1])[2]} aren't those of another with the same {spot(arguments[0])[2]}"
+    if kind == "AtMost":
+        return f"isn't greater than {spot(arguments[0])[2]}"
+    if kind == "Addresses":
+        return f"ends before 2^64 with {spot(arguments[0])[2]}"
+    if kind == "Counts":
+        return f"counts what has {arguments[1]} bytes each after offset {arguments[0]}, and there are as many bytes"
+    if kind == "Agrees":
+        return f"is {spot(arguments[0])[2]}, unless one of them is zero"
+    if kind == "Needed":
+        return f"isn't zero, or {spot(arguments[0])[2]} isn't"
+    if kind == "Needs":
+        return f"is zero, or {spot(arguments[0])[2]} isn't"
+    if kind == "Between":
+        return between(number(arguments[0]), number(arguments[1]))
+    if kind == "Multiple":
+        return f"is a multiple of {number(arguments[0])}"
+    if kind == "Points":
+        return f"is zero, or the offset of a structure of {types(arguments[0].strip('&[]').split(', '))}"
+    if kind == "Refers":
+        return f"is zero, or {spot(arguments[1])[2]} of a structure of type {arguments[0]}"
+    if kind == "Distances":
+        return "is the number of localities: the distance from each to itself is 10, and each other one is at least 10"
+    stop(f"{SOURCE} has a demand that isn't known: {kind}")
+
+
+def relations(text):
+    """Returns the rules on several fields: (table, rule, field, what is allowed, section), and where each field stands."""
+    for body in re.findall(r"^    rule!\((.*(?:\n        .*)*)\),$", text, re.MULTILINE):
+        table, of, when, field, wanted, section = split_outside(re.sub(r"\s+", " ", body))
+        offset, width, name = spot(field)
+        yield (table.strip('"'), NAMES[call(wanted)[0]], f"{where(of)}{offset} {name}{condition(when)}", demand(wanted),
+               section.strip('"')), (of, offset, width, name)
+
+
+def limits(text):
+    """Returns the ranges of fields in the same form."""
+    row = r'Limit \{\s*table: "(.*?)", offset: (\d+), name: "(.*?)", from: (\w+), to: (\w+),\s*'
+    row += r'place: (.*?), mask: (\w+), is: (\w+), section: "(.*?)",'
+    for table, offset, name, least, most, at, mask, value, section in re.findall(row, text):
+        when = "" if at.endswith("Nowhere") else bits("Is", at.replace("Place::", ""), mask, value)
+        field = f"{offset} {name}" if offset != "0" else name
+        yield table, "range", field + when, between(number(least), number(most)), section
+
+
+def check_fields(found):
+    """Stops if the forms don't have the name of a field, or if it isn't where docs/FIELDS.md has it."""
+    forms = "".join(read(it) for it in glob.glob("crates/acpi_[a-z]*/src/**/*.rt", recursive=True) if "acpi_rules" not in it)
+    known = set(re.findall(r'(?:Row|Part)::\w+\(\s*"([^"]+)"', forms))
+    lost = sorted({name for _, (_, _, _, name) in found} - known)
+    if lost:
+        stop(f"the forms don't have these names of {SOURCE}: {', '.join(lost)}")
+    parts = re.split(r"^\*\*.*\(([A-Z0-9]+)\).*\*\*$", read(FIELDS), flags=re.MULTILINE)
+    names = {"MADT": "APIC", "FADT": "FACP"}
+    shown = {names.get(name, name): re.sub(r"\s+", " ", text) for name, text in zip(parts[1::2], parts[2::2])}
+    for (table, *_), (of, offset, width, name) in found:
+        kind, arguments = call(of)
+        heading = {"Whole": "after the header", "Each": "entry"}.get(kind) or f"type {arguments[0]},"
+        items = [it for it in shown.get(table, "").split(" - ") if it.startswith(heading)]
+        wanted = f"{offset} {name}:{width}"
+        if items and kind in ("Kind", "Each") and not any(re.search(r"\b" + re.escape(wanted) + r"\b", it) for it in items):
+            stop(f"{FIELDS} has no field `{wanted}` in {table}, {heading.strip(',')}")
+
+
+def main():
+    text = read(SOURCE)
+    found = list(relations(text))
+    rows = [*limits(text), *(it for it, _ in found)]
+    if len(rows) != text.count("Limit {\n") + text.count("    rule!("):
+        stop(f"{SOURCE} has rows that can't be read")
+    check_fields(found)
+    tables = {}
+    for table, *row in rows:
+        tables.setdefault(table, []).append(row)
+    out = []
+    for table in sorted(tables):
+        out += ["", f"**{table}**", ""]
+        for rule, field, allowed, section in tables[table]:
+            line = f"- `{rule}` of {field}: {allowed} ({section})"
+            out.append(textwrap.fill(line, 130, subsequent_indent="  ", break_long_words=False, break_on_hyphens=False))
+    document = read(DOCUMENT)
+    if document.count(BEGIN) != 1 or document.count(END) != 1:
+        stop(f"{DOCUMENT} has to have the lines {BEGIN.strip()} and {END.strip()} once")
+    before, after = document.split(BEGIN)[0], document.split(END)[1]
+    listed = "\n".join(out[1:]) + "\n"
+    wanted = f"{before}{BEGIN}{listed}{END}{after}"
+    if sys.argv[1:] == ["renew"]:
+        with open(DOCUMENT, "w", encoding="utf-8") as file:
+            file.write(wanted)
+    elif document != wanted:
+        stop(f"the rules in {DOCUMENT} aren't those of {SOURCE}: `python3 -B tools/rules.py renew` writes them")
+
+
+main()
