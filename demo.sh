@@ -38,6 +38,11 @@ run() {
     fi
 }
 
+# Whether there is memory for two compilations at a time. One takes up to 1 GB.
+has_room() {
+    awk '/^MemAvailable:/ { available = $2 } END { exit (available < 3000000) }' /proc/meminfo 2>/dev/null
+}
+
 # Adds a run of a program to a folder of runs: its name, its file, and its words, in which {} is the file.
 add() {
     folder=$1
@@ -52,7 +57,8 @@ run_all() {
     program=$1
     folder=$2
     if [ "$made" = tried ]; then
-        (cd "crates/$program" && rt try --steps 1 --cases "$folder") 2>"$work/log" || { cat "$work/log" >&2; fail "$program failed"; }
+        (cd "crates/$program" && rt try --steps 1 --cases "$folder") 2>"$work/$program.log" ||
+            { cat "$work/$program.log" >&2; fail "$program failed"; }
         return
     fi
     for words in "$folder"/*.args; do
@@ -83,27 +89,37 @@ run acpi_example "$files/tables" 1c000000 >"$work/written"
 mv "$files/tables/image" "$files/image"
 expect "$work/written" tools/demo/written.txt
 
-echo
-echo '2. acpiread reads a table. It prints a line for the header, and one for each structure.'
-mkdir "$work/read"
+mkdir "$work/read" "$work/tool"
 for table in madt mcfg package; do
     add "$work/read" "$table" "$files/tables/$table" table '{}'
 done
+add "$work/tool" show tools/demo/mcfg.txt show "$files/tables"
+add "$work/tool" make tools/demo/mcfg.txt make '{}' "$files/mcfg.made"
+add "$work/tool" image "$files/image" image '{}' 1c000000
+# Where there is room, acpitool runs while acpiread does.
+tool=
+if [ "$made" = tried ] && has_room; then
+    run_all acpitool "$work/tool" >"$work/shown" &
+    tool=$!
+fi
+
+echo
+echo '2. acpiread reads a table. It prints a line for the header, and one for each structure.'
 run_all acpiread "$work/read" >"$work/lines"
 expect "$work/lines" tools/demo/read.txt
 
 echo
 echo '3. acpitool shows each table as text (here the MCFG), makes the MCFG from its text again, and finds and checks the tables of the image.'
-mkdir "$work/tool"
-add "$work/tool" show tools/demo/mcfg.txt show "$files/tables"
-add "$work/tool" make tools/demo/mcfg.txt make '{}' "$files/mcfg.made"
-add "$work/tool" image "$files/image" image '{}' 1c000000
-run_all acpitool "$work/tool" >"$work/lines"
+if [ -n "$tool" ]; then
+    wait "$tool" || fail 'acpitool failed'
+else
+    run_all acpitool "$work/tool" >"$work/shown"
+fi
 awk -v texts="$files/texts" -v tables="// $files/tables/" '
     /^== / { to = texts "/" $2; next }
     index($0, tables) == 1 { to = texts "/" substr($0, length(tables) + 1) }
     { print >to }
-' "$work/lines"
+' "$work/shown"
 sed 1d "$files/texts/mcfg" >"$work/mcfg"
 expect "$work/mcfg" tools/demo/mcfg.txt
 cmp "$files/mcfg.made" "$files/tables/mcfg" || fail 'the table that was made of the text is another one'

@@ -70,7 +70,7 @@ beyond() {
     figure "$1" $(($(more "$1" "$3") - $(more "$2" "$3"))) "$4" "$5"
 }
 
-# The instructions of a command of acpitool on an input of many.py with so many parts. The last words come after the input.
+# The instructions of a command of acpitool on an input of many.py with this many parts. The last words come after the input.
 on() {
     command=$1 kind=$2 count=$3
     shift 3

@@ -5,7 +5,7 @@
 #
 # The bytes of the image begin at the address BASE, in hexadecimal with or without 0x (1c000000 if none is named). The tables
 # are in the first MiB from there, and the 3 MiB after it are reserved for pages that tables point to. Its RSDP is the last one
-# in it. The machine is a q35 with 512 MiB and PROCESSORS processors, each in a package of its own. Linux has to find NODES nodes
+# in it. The machine is a q35 with 512 MiB and PROCESSORS processors, one in each package. Linux has to find NODES nodes
 # of memory and each table of the image once, and each processor in its domain, if there is an SRAT. NODES and PROCESSORS are 2
 # if they aren't named, as in the example's image. The kernel finds no disk and stops there, which is no fault. The status is 1
 # if the kernel didn't take the RSDP or a table, found another number of nodes or processors or a processor without a domain,

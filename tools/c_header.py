@@ -1,10 +1,11 @@
 #!/usr/bin/env python3
 """Compares what callers in C and Rust read with the source of acpi_c. Prints what differs; then its status is 1.
 
-- c/exports.h with the exports of src/lib.rt;
+- c/exports.h with the exports of src;
 - include/hyssop.h and hyssop.rs with each other, and with the exports: each function has one, with parameters of the same names;
-- the structs, the version, the operators, the types of memory and the faults of both with the source, and the faults of
-  docs/C.md."""
+- the structs, the version, the operators, the types of memory, what regions and fields may be and the faults of both with the
+  source, and the faults of docs/C.md."""
+import glob
 import re
 import sys
 
@@ -95,10 +96,10 @@ def declarations(text):
     return [(result.strip(), name, parameters(given)) for result, name, given in found]
 
 
-source = read(f"{CRATE}/src/lib.rt")
+source = "".join(read(it) for it in sorted(glob.glob(f"{CRATE}/src/*.rt")))
 exports = re.findall(r'pub extern "C" fn (\w+)\(([^)]*)\) -> u32', source)
 if source.count("no_mangle") != len(exports):
-    differs(f"{CRATE}/src/lib.rt has an export that isn't `pub extern \"C\" fn NAME(..) -> u32`")
+    differs(f"{CRATE}/src has an export that isn't `pub extern \"C\" fn NAME(..) -> u32`")
 in_c = {}
 for name, given in exports:
     both = [(it.split(":")[0].strip(), TYPES[it.split(":", 1)[1].strip()]) for it in parameters(given)]
@@ -126,7 +127,7 @@ def in_rust(given):
 
 
 # What callers see. A function that writes structs counts them, and that of the words has no proved function. A writer begins with
-# its buffer, and NULL has no function of its own.
+# its buffer, and NULL has no function.
 header, rust = read(f"{CRATE}/include/hyssop.h"), read(f"{CRATE}/hyssop.rs")
 public = declarations(header)
 hidden = ("hyssop_export_fault_name", "hyssop_export_null", "hyssop_export_begin")
@@ -159,7 +160,7 @@ for name, file in (("Structure", "structures"), ("Note", "notes"), ("ImageTable"
     if re.findall(r"pub (\w+): ([^,]*),", re.search(rf"pub struct {name} {{(.*?)\n}}", rust, re.S)[1]) != fields:
         differs(f"the fields of `{name}` in hyssop.rs aren't {fields}")
 
-# A writer's depth, the operators by their opcodes, and the types of memory.
+# A writer's depth, the operators by their opcodes, the types of memory, and what regions and fields may be.
 depth = re.search(r"pub const DEPTH: usize = (\d+);", read(f"{RUN}/state.rt"))[1]
 if f"#define HYSSOP_DEPTH {depth}\n" not in header or f"pub const DEPTH: usize = {depth};" not in rust:
     differs(f"HYSSOP_DEPTH or DEPTH isn't {depth}")
@@ -172,6 +173,12 @@ rows = re.findall(r"(\d) => Some\(AddressSpaceCacheable::(\w+)\)", read(f"{RUN}/
 wanted = [(name.upper(), number) for number, name in rows]
 found = [(name.replace("_", ""), number) for name, number in re.findall(r"\bHYSSOP_MEMORY_(\w+) = (\d+)", header)]
 compare("hyssop.h", "type of memory", wanted, found)
+enums = (("SPACE", "region", "OpRegionSpace"), ("ACCESS", "field", "FieldAccessType"), ("UPDATE", "field", "FieldUpdateRule"))
+for prefix, file, kind in enums:
+    variants = re.search(rf"pub enum {kind} {{(.*?)}}", read(f"crates/acpi_aml/src/{file}.rt"), re.S)[1]
+    wanted = [(name.upper(), str(number)) for number, name in enumerate(re.findall(r"(\w+),", variants))]
+    found = [(name.replace("_", ""), number) for name, number in re.findall(rf"\bHYSSOP_{prefix}_(\w+) = (\d+)", header)]
+    compare("hyssop.h", f"value of {kind}", wanted, found)
 
 # Faults: a name, a number and words.
 rows = re.findall(r'^ +([A-Z]\w+) (\d+) "(.*)"$', read(f"{RUN}/fault.rt"), re.M)

@@ -17,7 +17,7 @@ differs() {
     status=1
 }
 
-# The programs of README: each block of Rust that has a `fn main`, in a file of its own.
+# The programs of README: each block of Rust that has a `fn main`, in another file.
 awk -v work="$work" '
     /^```/ && inside { if (has_main) printf "%s", block >(work "/program" ++count); inside = 0; next }
     /^```rust$/ { inside = 1; block = ""; has_main = 0; next }

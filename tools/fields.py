@@ -23,7 +23,7 @@ REGISTER = ["Address Space ID", "Register Bit Width", "Register Bit Offset", "Ac
 # Names of the sources that no line has. Lists begin right after the fields before them, so no bytes are before them. A device
 # handle is shown as one of its two kinds, the header of a SLIT by the header's fields, and a root complex of IORT has revision 4.
 IN_NO_TABLE = ("hest/status.rt", "hest/error_data.rt")
-# The forms of tables that are only read. FORMATS has a section of its own on them.
+# The forms of tables that are only read. FIELDS has a section on them.
 FURTHER = "acpi_forms/src/further/"
 UNSEEN = ["Without PASID", "Device Handle", "Header"]
 # Structures that are only read: they are in cases/further.cases.

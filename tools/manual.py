@@ -35,8 +35,8 @@ def page(forms, paragraphs, version):
     yield ".SH COMMANDS"
     *described, status = paragraphs
     for paragraph in described:
-        command, _, rest = paragraph.partition(" ")
-        if command not in commands:
+        command, rest = re.fullmatch(r"(\S+(?: --\S+)?) (.*)", paragraph, re.S).groups()
+        if command.split()[0] not in commands:
             sys.exit(f"manual.py: a paragraph of the help begins with no command: {paragraph[:40]}")
         yield f".TP\n.B {escaped(command)}\n{escaped(rest)}"
     missing = commands - {paragraph.split()[0] for paragraph in described} - {"--help", "--version"}
@@ -48,7 +48,7 @@ def page(forms, paragraphs, version):
 
 def completions(forms):
     """Completes the first word by the commands and options, and further words by files."""
-    words = " ".join(form.split()[0] for form in forms)
+    words = " ".join(dict.fromkeys(form.split()[0] for form in forms))
     yield "_acpitool() {"
     yield '    if [ "$COMP_CWORD" = 1 ]; then'
     yield f"        COMPREPLY=($(compgen -W '{words}' -- \"${{COMP_WORDS[1]}}\"))"

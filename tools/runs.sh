@@ -87,7 +87,7 @@ expect "$lines" '44 type 0 size 8 Processor Local APIC Structure
   47 APIC ID                            : 07
   48 Flags                              : 00000001  // Enabled'
 
-# Each table that was written is made of its own text again.
+# Each table that was written is made of its text again.
 for table in package fadt madt mcfg srat slit hmat pptt hest bert namespace; do
     "$tool" show "$work/acpi/$table" >"$work/text"
     expect "$table $("$tool" make "$work/text" "$work/made" 2>&1)" "$table "

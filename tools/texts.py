@@ -14,7 +14,7 @@ wrong = []
 
 
 def run(*words):
-    """Runs acpitool. A signal or a status above 2 is an error of its own."""
+    """Runs acpitool. A signal or a status above 2 is another error."""
     done = subprocess.run([TOOL, *words], capture_output=True, check=False)
     if done.returncode not in (0, 1, 2):
         wrong.append(f"acpitool {' '.join(words)} ended with {done.returncode}")

@@ -5,7 +5,7 @@
 use std::ffi::{c_char, c_int};
 
 /// `hyssop_version()` returns this, if the library fits these declarations.
-pub const VERSION: u32 = 4;
+pub const VERSION: u32 = 5;
 
 /// The type of a structure, if the structures of its table have none.
 pub const NO_KIND: usize = usize::MAX;
@@ -210,6 +210,14 @@ unsafe extern "C" {
         size: *mut usize,
         place: *mut u64,
     ) -> u32;
+    pub fn hyssop_findings(
+        bytes: *const u8,
+        bytes_size: usize,
+        out: *mut u8,
+        out_size: usize,
+        size: *mut usize,
+        place: *mut u64,
+    ) -> u32;
     pub fn hyssop_make(
         text: *const u8,
         text_size: usize,
@@ -243,6 +251,13 @@ unsafe extern "C" {
         level: u8,
         order: u16,
     ) -> u32;
+    pub fn hyssop_open_processor(
+        writer: *mut Writer,
+        path: *const c_char,
+        id: u8,
+        address: u32,
+        size: u8,
+    ) -> u32;
     pub fn hyssop_open_method(
         writer: *mut Writer,
         path: *const c_char,
@@ -255,8 +270,37 @@ unsafe extern "C" {
     pub fn hyssop_open_while(writer: *mut Writer) -> u32;
     pub fn hyssop_open_buffer(writer: *mut Writer) -> u32;
     pub fn hyssop_open_resources(writer: *mut Writer) -> u32;
+    pub fn hyssop_open_field(
+        writer: *mut Writer,
+        region: *const c_char,
+        access: u32,
+        lock: c_int,
+        update: u32,
+    ) -> u32;
+    pub fn hyssop_open_index_field(
+        writer: *mut Writer,
+        index_name: *const c_char,
+        data_name: *const c_char,
+        access: u32,
+        lock: c_int,
+        update: u32,
+    ) -> u32;
     pub fn hyssop_close(writer: *mut Writer) -> u32;
     pub fn hyssop_name(writer: *mut Writer, path: *const c_char) -> u32;
+    pub fn hyssop_field_unit(writer: *mut Writer, name: *const c_char, bits: u32) -> u32;
+    pub fn hyssop_field_gap(writer: *mut Writer, bits: u32) -> u32;
+    pub fn hyssop_region(writer: *mut Writer, path: *const c_char, space: u8) -> u32;
+    pub fn hyssop_mutex(writer: *mut Writer, path: *const c_char, sync_level: u8) -> u32;
+    pub fn hyssop_acquire(writer: *mut Writer, mutex: *const c_char, timeout: u16) -> u32;
+    pub fn hyssop_release(writer: *mut Writer, mutex: *const c_char) -> u32;
+    pub fn hyssop_event(writer: *mut Writer, path: *const c_char) -> u32;
+    pub fn hyssop_alias(writer: *mut Writer, source: *const c_char, name: *const c_char) -> u32;
+    pub fn hyssop_external(
+        writer: *mut Writer,
+        path: *const c_char,
+        kind: u8,
+        arguments: u8,
+    ) -> u32;
     pub fn hyssop_path(writer: *mut Writer, name: *const c_char) -> u32;
     pub fn hyssop_integer(writer: *mut Writer, value: u64) -> u32;
     pub fn hyssop_string(writer: *mut Writer, text: *const c_char) -> u32;

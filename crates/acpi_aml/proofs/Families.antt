@@ -8,7 +8,8 @@ use Rattle.acpi_term.specs.Name.{IsName}
 use Rattle.acpi_term.specs.PathText.{is_name_text, path_spelling, path_of}
 use Rattle.acpi_term.specs.Tree.{arg, local, call, def_scope, def_device, def_method, def_power_res, def_op_region, def_name, def_mutex, def_acquire, def_release, def_package, def_if, def_while, def_else, Terms, end, one}
 use Rattle.acpi_term.specs.Row.{row}
-use Rattle.acpi_term.specs.Spelling.{AreNamed, HaveLeastWidths, SpellEach, Spells, arguments}
+use Rattle.acpi_term.specs.declared.language.Language.TheVariants.{Written}
+use Rattle.acpi_term.specs.Spelling.{AreStandardEntries, HaveLeastWidths, SpellEach, Spells, arguments}
 use Rattle.acpi_term.specs.Template.{buffer_of_bytes, template_bytes, template}
 use Rattle.acpi_term.proofs.Rows.{rows_mean, ended_none}
 use Rattle.acpi_term.proofs.NameTexts.{named_path}
@@ -81,7 +82,7 @@ least_widths [] = tt
 least_widths (Named name bits ∷ entries) = (refl, least_widths entries)
 least_widths (Reserved bits ∷ entries) = (refl, least_widths entries)
 
-pub fields_mean : (arity : List ℕ → ℕ) (path : List ℕ) (a : FieldAccessType) (l : FieldLockRule) (u : FieldUpdateRule) (entries : List FieldEntry) → IsName path → AreNamed (entries_of entries) → RowMeans arity (field_head path a l u entries) []
+pub fields_mean : (arity : List ℕ → ℕ) (path : List ℕ) (a : FieldAccessType) (l : FieldLockRule) (u : FieldUpdateRule) (entries : List FieldEntry) → IsName path → AreStandardEntries Written (entries_of entries) → RowMeans arity (field_head path a l u entries) []
 fields_mean arity path a l u entries p named ts spells m =
     rows_mean arity m (field_head path a l u entries) [] ts refl (p, access_small a, lock_small l, update_small u, named) (least_widths entries) spells
 

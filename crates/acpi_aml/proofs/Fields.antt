@@ -5,7 +5,7 @@ use Rattle.std.proofs.lemmas.List.{take_more, take-append-drop, map-append, appe
 use Rattle.acpi_base.specs.declared.error.Error.{Error}
 use Rattle.acpi_base.specs.declared.error.Error.TheVariants.{PkgLength}
 use Rattle.acpi_term.specs.Tree.{Entry}
-use Rattle.acpi_term.specs.Row.{entry_bits, entry_bytes, entries_bytes, entries_end}
+use Rattle.acpi_term.specs.Row.{entry_length, entry_bytes, entries_bytes, entries_end}
 use Rattle.acpi_aml.specs.declared.field.FieldEntry.{FieldEntry}
 use Rattle.acpi_aml.specs.Field.{entry_of, entries_of}
 
@@ -21,7 +21,7 @@ first_fits false rest h = absurd cc
 entries_end-append : (a b : List Entry) → entries_end a ≡ None → entries_end (a ++ b) ≡ entries_end b
 entries_end-append [] b h = refl
 entries_end-append (e ∷ a) b h =
-    let f = first_fits (nat_lt (entry_bits e) (2 ^ 28)) (entries_end a) h in
+    let f = first_fits (nat_lt (entry_length e) (2 ^ 28)) (entries_end a) h in
     rw f.0 (entries_end-append a b f.1)
 
 -- what ends one entry ends all that begin with it
@@ -53,4 +53,4 @@ module _ (xs : List FieldEntry) (i : ℕ) (d : FieldEntry) (inside : i < length 
   pub ends_here : (e : Error) → entries_end (entries_of (take i xs)) ≡ None → entries_end (entry_of x ∷ []) ≡ Some e → entries_end (entries_of xs) ≡ Some e
   ends_here e before here =
       rw parted (entries_end-append (entries_of (take i xs)) (entry_of x ∷ entries_of (drop (i + 1) xs)) before
-      ∙ first_ends (nat_lt (entry_bits (entry_of x)) (2 ^ 28)) (entries_end (entries_of (drop (i + 1) xs))) e here)
+      ∙ first_ends (nat_lt (entry_length (entry_of x)) (2 ^ 28)) (entries_end (entries_of (drop (i + 1) xs))) e here)

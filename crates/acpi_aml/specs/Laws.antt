@@ -12,7 +12,8 @@ use Rattle.acpi_term.specs.Tree.{number, ones, string, arg, local, call, def_sco
 use Rattle.acpi_term.specs.Tree.{def_power_res, def_op_region, def_name, def_mutex, def_acquire, def_release, def_buffer}
 use Rattle.acpi_term.specs.Tree.{def_package, def_var_package, def_if, def_while, def_else, Terms, end, count, one}
 use Rattle.acpi_term.specs.Row.{row, around, layout, writer_width}
-use Rattle.acpi_term.specs.Spelling.{AreNamed, SpellEach, Spells, arguments}
+use Rattle.acpi_term.specs.declared.language.Language.TheVariants.{Written}
+use Rattle.acpi_term.specs.Spelling.{AreStandardEntries, SpellEach, Spells, arguments}
 use Rattle.acpi_term.specs.Template.{buffer_of_bytes, template_bytes, template}
 use Rattle.acpi_aml.specs.declared.field.FieldAccessType.{FieldAccessType}
 use Rattle.acpi_aml.specs.declared.field.FieldLockRule.{FieldLockRule}
@@ -65,7 +66,8 @@ abbrev pub FieldsMean : Type 0
 FieldsMean =
     (arity : List ℕ → ℕ) (path : List ℕ) (access : FieldAccessType) (lock : FieldLockRule) (update : FieldUpdateRule)
     (entries : List FieldEntry)
-    → IsName path → AreNamed (entries_of entries) → RowMeans arity (field_head path access lock update entries) []
+    → IsName path → AreStandardEntries Written (entries_of entries)
+    → RowMeans arity (field_head path access lock update entries) []
 
 -- statements and lists
 pub record StatementsMean (arity : List ℕ → ℕ) : Type 0 where

@@ -4,9 +4,9 @@ use Rattle.std.specs.Prelude.{Result, Ok, Err, None, Some}
 use Rattle.std.specs.List.{concat}
 use Rattle.std.proofs.lemmas.List.{append-nil, drop_at}
 use Rattle.acpi_base.specs.Bytes.{le, carried, field_at}
-use Rattle.acpi_base.specs.Walk.{IsPiece, ArePieces, Walks, walk_of}
+use Rattle.acpi_base.specs.Walk.{IsPiece, ArePieces, Walks}
 use Rattle.acpi_base.specs.declared.further_walk.FurtherWalk.{FurtherWalk}
-use Rattle.acpi_base.specs.FurtherWalk.{dbg2_walk, further_walk_of, FollowsBy, AreStructuresOf, IsSoundFurther}
+use Rattle.acpi_base.specs.FurtherWalk.{dbg2_walk, full_walk_of, further_walk_of, FollowsBy, AreStructuresOf, IsSoundFurther}
 use Rattle.acpi_base.specs.declared.error.Error.{Error}
 use Rattle.acpi_base.specs.declared.oem.Oem.{Oem}
 use Rattle.acpi_base.specs.declared.walk.Place.TheVariants.{Word}
@@ -107,7 +107,7 @@ listed_is_walked oem devices is each =
     let f : FurtherWalk = record { walk = dbg2_walk; least = 44 } in
     let sound : IsSoundFurther f = search rules in
     let follows : FollowsBy (Some f) (bytes_of t) devices = inl (walks_follow f (bytes_of t) devices sound (walks oem devices is each)) in
-    let none : walk_of (field_at 0 4 (bytes_of t)) ≡ None = ap walk_of (signature_told t is) in
+    let none : full_walk_of (field_at 0 4 (bytes_of t)) ≡ None = ap full_walk_of (signature_told t is) in
     let by : further_walk_of (field_at 0 4 (bytes_of t)) ≡ Some f = ap further_walk_of (signature_told t is) in
     let found : AreStructuresOf (bytes_of t) devices = rw (none, by) follows in
     record {

@@ -1,4 +1,4 @@
-//! The tables of an Arm machine, beside those that every machine has.
+//! The tables that only Arm machines have.
 #![tactic(auto)]
 
 pub mod dbg2;

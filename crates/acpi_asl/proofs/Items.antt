@@ -6,7 +6,7 @@ use Rattle.std.proofs.lemmas.List.{take_rest}
 use Rattle.acpi_read.proofs.Texts.{after_two}
 use Rattle.acpi_asl.specs.Number.{upper_byte}
 use Rattle.acpi_asl.specs.Place.{new_line}
-use Rattle.acpi_asl.specs.Template.{comma, digits_at, dwords, item_size, found, is_found, found_text, is_zero_alone, is_template, items_text}
+use Rattle.acpi_asl.specs.Template.{comma, digits_at, dwords, pins, item_size, found, is_found, found_text, is_zero_alone, is_template, items_text}
 
 skip_test : (k : ℕ) (bytes : List ℕ) → is_template k bytes ≡ is_template 0 (drop k bytes)
 skip_test zero bytes = refl
@@ -92,6 +92,15 @@ parts_step first (a ∷ b ∷ c ∷ d ∷ rest) some = refl
 pub dwords_step : (first : Bool) (s : List ℕ) → 4 ≤ length s → dwords first s ≡ (comma first ++ (codes "0x" ++ digits_at 4 0 s)) ++ dwords false (take (length s - 4) (drop 4 s))
 dwords_step first s some =
     parts_step first s some ∙ ap (λ (l : List ℕ). (comma first ++ (codes "0x" ++ digits_at 4 0 s)) ++ dwords false l) (sym (take_rest s 4))
+
+pins_cut : (first : Bool) (s : List ℕ) → 2 ≤ length s → pins first s ≡ (comma first ++ (codes "0x" ++ digits_at 2 0 s)) ++ pins false (drop 2 s)
+pins_cut first [] some = absurd (omega (arith, some))
+pins_cut first (a ∷ []) some = absurd (omega (arith, some))
+pins_cut first (a ∷ b ∷ rest) some = refl
+
+pub pins_step : (first : Bool) (s : List ℕ) → 2 ≤ length s → pins first s ≡ (comma first ++ (codes "0x" ++ digits_at 2 0 s)) ++ pins false (take (length s - 2) (drop 2 s))
+pins_step first s some =
+    pins_cut first s some ∙ ap (λ (l : List ℕ). (comma first ++ (codes "0x" ++ digits_at 2 0 s)) ++ pins false l) (sym (take_rest s 2))
 
 -- ---- digits
 

@@ -52,7 +52,7 @@ zero_at (b ∷ bytes) = if b == 0 then 0 else 1 + zero_at bytes
 abbrev pub until_zero : List ℕ → List ℕ
 until_zero bytes = take (zero_at bytes) bytes
 
--- so many characters of a header at an offset
+-- this many characters of a header at an offset
 unfoldable pub header_text : ℕ → ℕ → List ℕ → List ℕ
 header_text offset n header = string_text (until_zero (take n (drop offset header)))
 

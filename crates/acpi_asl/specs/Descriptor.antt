@@ -38,10 +38,14 @@ words kinds.Memory = (0, codes "AddressRangeMemory") ∷ (1, codes "AddressRange
 words kinds.Translation = (0, codes "TypeStatic") ∷ (1, codes "TypeTranslation") ∷ []
 words kinds.Density = (0, codes "DenseTranslation") ∷ (1, codes "SparseTranslation") ∷ []
 words kinds.Space = region_spaces
+words kinds.Levels = (0, codes "ActiveHigh") ∷ (1, codes "ActiveLow") ∷ (2, codes "ActiveBoth") ∷ []
+words kinds.PinConfig = (0, codes "PullDefault") ∷ (1, codes "PullUp") ∷ (2, codes "PullDown") ∷ (3, codes "PullNone") ∷ []
+words kinds.Restriction = (0, codes "IoRestrictionNone") ∷ (1, codes "IoRestrictionInputOnly")
+    ∷ (2, codes "IoRestrictionOutputOnly") ∷ (3, codes "IoRestrictionNoneAndPreserve") ∷ []
 
 -- ---- rows
 
--- bits of the byte at an offset, from one on, and so many; 8 for all that follow
+-- bits of the byte at an offset, from one on, and how many; 8 for all that follow
 abbrev pub bits : ℕ → ℕ → ℕ → Bits
 bits offset shift size = record { offset = offset; shift = shift; size = size }
 
@@ -134,9 +138,17 @@ facts items.QwordIo = row (0x8a ∷ 0x2b ∷ 0x0 ∷ 0x1 ∷ []) (codes "QWordIO
     parts.Number 38 8 ∷ parts.Blank ∷ parts.Blank ∷ parts.Tag 6 24 38 8 ∷ word 5 4 1 kinds.Translation ∷
     word 5 5 1 kinds.Density ∷ [])
     (bits 4 4 8 ∷ bits 5 2 2 ∷ bits 5 6 8 ∷ []) tails.Absent
+facts items.GpioInt = row (0x8c ∷ []) (codes "GpioInt")
+    (word 7 0 1 kinds.Mode ∷ word 7 1 2 kinds.Levels ∷ word 7 3 2 kinds.Sharing ∷ word 9 0 8 kinds.PinConfig ∷
+    parts.Number 12 2 ∷ parts.Source ∷ parts.Number 16 1 ∷ word 5 0 1 kinds.Usage ∷ parts.Blank ∷ parts.Blank ∷ [])
+    (bits 5 1 8 ∷ bits 6 0 8 ∷ bits 7 5 8 ∷ bits 8 0 8 ∷ bits 10 0 8 ∷ bits 11 0 8 ∷ []) (tails.Pins 0)
+facts items.GpioIo = row (0x8c ∷ []) (codes "GpioIo")
+    (word 7 3 2 kinds.Sharing ∷ word 9 0 8 kinds.PinConfig ∷ parts.Number 12 2 ∷ parts.Number 10 2 ∷
+    word 7 0 2 kinds.Restriction ∷ parts.Source ∷ parts.Number 16 1 ∷ word 5 0 1 kinds.Usage ∷ parts.Blank ∷ parts.Blank ∷ [])
+    (bits 5 1 8 ∷ bits 6 0 8 ∷ bits 7 2 1 ∷ bits 7 5 8 ∷ bits 8 0 8 ∷ []) (tails.Pins 1)
 
 abbrev pub descriptors : List Descriptor
 descriptors =
     items.IrqNoFlags ∷ items.Irq ∷ items.Dma ∷ items.Io ∷ items.FixedIo ∷ items.FixedDma ∷ items.Memory24 ∷
     items.Register ∷ items.Memory32 ∷ items.Memory32Fixed ∷ items.DwordMemory ∷ items.DwordIo ∷ items.WordIo ∷
-    items.WordBus ∷ items.Interrupt ∷ items.QwordMemory ∷ items.QwordIo ∷ []
+    items.WordBus ∷ items.Interrupt ∷ items.QwordMemory ∷ items.QwordIo ∷ items.GpioInt ∷ items.GpioIo ∷ []

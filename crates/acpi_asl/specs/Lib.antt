@@ -4,9 +4,10 @@ pub mod Name
 pub mod Word
 pub mod Place
 pub mod Opening
-pub mod Row
 pub mod Descriptor
 pub mod Template
+pub mod Connection
+pub mod Row
 pub mod Special
 pub mod Asl
 pub mod Namespace

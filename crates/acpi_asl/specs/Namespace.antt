@@ -3,10 +3,12 @@ use Rattle.std.specs.Prelude.{ℕ, ◌+◌, ◌&&◌, ◌||◌, Bool, true, fals
 use Rattle.std.specs.Prelude.{None, codes}
 use Rattle.std.specs.Fmt.{decimal}
 use Rattle.std.specs.Str.{bytes_eq}
-use Rattle.acpi_term.specs.Tree.{Entry, named, reserved, Head, number, string, call, def_scope, def_device, def_method}
+use Rattle.acpi_term.specs.Tree.{Entry, named, reserved, access_as, extended_access_as, connection, connection_buffer}
+use Rattle.acpi_term.specs.Tree.{Head, number, string, call, def_scope, def_device, def_method}
 use Rattle.acpi_term.specs.Tree.{def_power_res, def_field, def_op_region, def_name, def_mutex, def_buffer, def_package}
 use Rattle.acpi_term.specs.Tree.{def_var_package, def_if, def_while, def_else, op, def_external, def_leveled_method}
-use Rattle.acpi_term.specs.Tree.{def_processor, def_thermal_zone, def_roomy_package, def_index_field, Terms, end, term}
+use Rattle.acpi_term.specs.Tree.{def_processor, def_thermal_zone, def_roomy_package, def_index_field, def_bank_field}
+use Rattle.acpi_term.specs.Tree.{Terms, end, term}
 use Rattle.acpi_term.specs.declared.op.Op.{Op}
 use Rattle.acpi_term.specs.declared.op.Op.TheVariants as ops
 use Rattle.acpi_asl.specs.Eisa.{is_eisa, eisa_text}
@@ -24,6 +26,10 @@ fields_lines d [] = []
 fields_lines d (named name bits w ∷ entries) =
     object_line d (segments_text false name) (codes "Field") ++ fields_lines d entries
 fields_lines d (reserved bits w ∷ entries) = fields_lines d entries
+fields_lines d (access_as access attribute ∷ entries) = fields_lines d entries
+fields_lines d (extended_access_as access attribute size ∷ entries) = fields_lines d entries
+fields_lines d (connection name ∷ entries) = fields_lines d entries
+fields_lines d (connection_buffer w size v bytes ∷ entries) = fields_lines d entries
 
 -- ---- the value of a name
 
@@ -90,6 +96,7 @@ lines_of d (def_name name) children = object_line d (asl_name name) (codes "Name
 lines_of d (def_op_region name space) children = object_line d (asl_name name) (codes "OperationRegion")
 lines_of d (def_field name access lock update entries) children = fields_lines d entries
 lines_of d (def_index_field index name access lock update entries) children = fields_lines d entries
+lines_of d (def_bank_field name bank access lock update entries) children = fields_lines d entries
 lines_of d (def_mutex name level) children = object_line d (asl_name name) (codes "Mutex")
 lines_of d (def_external name kind args) children = object_line d (asl_name name) (codes "External")
 lines_of d (op o) children = made_line d (made_by o) (last_name None children)

@@ -5,11 +5,12 @@ use Rattle.acpi_term.specs.Tree.{Head, number, ones, string, local, arg, call, d
 use Rattle.acpi_term.specs.Tree.{def_method, def_power_res, def_field, def_op_region, def_name, def_mutex, def_acquire}
 use Rattle.acpi_term.specs.Tree.{def_release, def_buffer, def_package, def_var_package, def_if, def_while, def_else, op}
 use Rattle.acpi_term.specs.Tree.{def_external, def_leveled_method, def_processor, def_thermal_zone, def_roomy_package}
-use Rattle.acpi_term.specs.Tree.{def_index_field, def_fatal, match_test}
+use Rattle.acpi_term.specs.Tree.{def_index_field, def_bank_field, def_fatal, match_test}
 use Rattle.acpi_asl.specs.Number.{hex, number_text, short_hex, string_text}
 use Rattle.acpi_asl.specs.Name.{asl_name}
-use Rattle.acpi_asl.specs.Word.{operator_word, access_word, lock_word, update_word, space_word, object_word, match_word}
-use Rattle.acpi_asl.specs.Word.{serialize_word}
+use Rattle.acpi_asl.specs.declared.word.Keyword.TheVariants.{AccessType, LockRule, UpdateRule}
+use Rattle.acpi_asl.specs.declared.word.Keyword.TheVariants.{RegionSpace, ObjectType, MatchOperator}
+use Rattle.acpi_asl.specs.Word.{operator_word, keyword_text, serialize_word}
 use Rattle.acpi_asl.specs.Place.{place, opened}
 
 -- The word of a head in this width. A compiler makes a VarPackage of a Package only if its number of elements isn't a number. So
@@ -44,16 +45,23 @@ head_word (def_processor name id address size) w = codes "Processor"
 head_word (def_thermal_zone name) w = codes "ThermalZone"
 head_word (def_roomy_package room) w = codes "Package"
 head_word (def_index_field index name access lock update entries) w = codes "IndexField"
+head_word (def_bank_field name bank access lock update entries) w = codes "BankField"
 head_word (def_fatal kind code) w = codes "Fatal"
-head_word (match_test k) w = match_word k
+head_word (match_test k) w = keyword_text MatchOperator k
 
 -- a further argument
 abbrev pub further : List ℕ → List ℕ
 further text = codes ", " ++ text
 
+-- how a field is accessed
+abbrev pub field_rules : ℕ → ℕ → ℕ → List ℕ
+field_rules access lock update =
+    further (keyword_text AccessType access)
+    ++ further (keyword_text LockRule lock)
+    ++ further (keyword_text UpdateRule update)
+
 abbrev pub field_own : List ℕ → ℕ → ℕ → ℕ → List ℕ
-field_own name access lock update =
-    asl_name name ++ further (access_word access) ++ further (lock_word lock) ++ further (update_word update)
+field_own name access lock update = asl_name name ++ field_rules access lock update
 
 abbrev pub method_own : List ℕ → ℕ → Bool → List ℕ
 method_own name args serialized = asl_name name ++ further (decimal args) ++ further (serialize_word serialized)
@@ -65,7 +73,7 @@ parameter = codes ", UnknownObj"
 unfoldable pub first_parameter : List ℕ
 first_parameter = codes ", {UnknownObj"
 
--- so many parameters after the first
+-- this many parameters after the first
 abbrev pub more_parameters : ℕ → List ℕ
 more_parameters zero = []
 more_parameters (suc n) = parameter ++ more_parameters n
@@ -82,19 +90,20 @@ own (def_device name) n = asl_name name
 own (def_method name args serialized) n = method_own name args serialized
 own (def_power_res name level order) n = asl_name name ++ further (hex 1 level) ++ further (hex 2 order)
 own (def_field name access lock update entries) n = field_own name access lock update
-own (def_op_region name space) n = asl_name name ++ further (space_word space)
+own (def_op_region name space) n = asl_name name ++ further (keyword_text RegionSpace space)
 own (def_name name) n = asl_name name
 own (def_mutex name level) n = asl_name name ++ further (hex 1 level)
 own (def_acquire name timeout) n = asl_name name ++ further (hex 2 timeout)
 own (def_release name) n = asl_name name
 own def_package n = short_hex n
-own (def_external name kind args) n = asl_name name ++ further (object_word kind) ++ parameters args
+own (def_external name kind args) n = asl_name name ++ further (keyword_text ObjectType kind) ++ parameters args
 own (def_leveled_method name args serialized level) n = method_own name args serialized ++ further (decimal level)
 own (def_processor name id address size) n =
     asl_name name ++ further (hex 1 id) ++ further (hex 4 address) ++ further (hex 1 size)
 own (def_thermal_zone name) n = asl_name name
 own (def_roomy_package room) n = hex 1 room
 own (def_index_field index name access lock update entries) n = asl_name index ++ further (field_own name access lock update)
+own (def_bank_field name bank access lock update entries) n = asl_name name ++ further (asl_name bank)
 own (def_fatal kind code) n = hex 1 kind ++ further (hex 4 code)
 own _ n = []
 

@@ -8,6 +8,7 @@ use Rattle.acpi_term.specs.Tree.{Head, number, call, def_scope, def_device}
 use Rattle.acpi_term.specs.Tree.{def_method, def_power_res, def_field, def_op_region, def_name}
 use Rattle.acpi_term.specs.Tree.{def_buffer, def_package, def_var_package, def_if, def_while, def_else, op}
 use Rattle.acpi_term.specs.Tree.{def_leveled_method, def_processor, def_thermal_zone, def_roomy_package, def_index_field}
+use Rattle.acpi_term.specs.Tree.{def_bank_field}
 use Rattle.acpi_term.specs.Tree.{def_fatal, match_test}
 use Rattle.acpi_term.specs.Tree.{Terms, end, term}
 use Rattle.acpi_asl.specs.declared.place.Body.{Body}
@@ -45,7 +46,7 @@ targets op.FromBCD = 1
 targets op.ToBCD = 1
 targets _ = 0
 
--- so many arguments, after others of the term itself or not, of which the last ones are targets; and what is in the braces
+-- this many arguments, after others of the term itself or not, of which the last ones are targets; and what is in the braces
 abbrev pub in_place : ℕ → Bool → ℕ → Body → Place
 in_place n led last body = record { arguments = n; led = led; targets = last; body = body; ids = false; uuids = false }
 
@@ -102,7 +103,8 @@ place (def_thermal_zone name) n = in_braces Statements
 place (def_roomy_package room) n = in_braces Elements
 place (def_index_field index name access lock update entries) n = in_braces Rows
 place (def_fatal kind code) n = in_place 1 true 0 Absent
--- the operand of a test is followed by another argument of the Match
+-- The value of a BankField is followed by other arguments, and the operand of a test by another argument of the Match.
+place (def_bank_field name bank access lock update entries) n = in_place 2 true 0 Absent
 place (match_test k) n = in_place 2 true 0 Absent
 place _ n = in_braces Absent
 

@@ -10,7 +10,7 @@ use Rattle.acpi_asl.specs.declared.descriptor.Braces.{Braces}
 use Rattle.acpi_asl.specs.declared.descriptor.Braces.TheVariants as tails
 use Rattle.acpi_asl.specs.declared.descriptor.Descriptor.{Descriptor}
 use Rattle.acpi_asl.specs.Descriptor.{words, Row, facts, descriptors}
-use Rattle.acpi_asl.specs.Number.{upper_digit, upper_byte}
+use Rattle.acpi_asl.specs.Number.{upper_digit, upper_byte, string_text}
 use Rattle.acpi_asl.specs.Place.{new_line}
 use Rattle.acpi_asl.specs.Word.{word_in}
 
@@ -45,6 +45,41 @@ abbrev pub are_zero : List ℕ → ℕ → ℕ → Bool
 are_zero item offset zero = true
 are_zero item offset (suc k) = slice_index_or item (offset + k) 0 == 0 && are_zero item offset k
 
+abbrev pub is_empty : List ℕ → Bool
+is_empty [] = true
+is_empty (b ∷ rest) = false
+
+-- ---- GPIO connections (ACPI 6.5, 6.4.3.8.1)
+
+-- the number of two bytes at an offset
+abbrev pub word_at : List ℕ → ℕ → ℕ
+word_at item offset = slice_index_or item offset 0 + 256 * slice_index_or item (offset + 1) 0
+
+-- the bytes of the pins, from the byte at 23 to the controller's name
+abbrev pub pins_of : List ℕ → List ℕ
+pins_of item = take (word_at item 17 - 23) (drop 23 item)
+
+-- the controller's name and a zero
+abbrev pub source_of : List ℕ → List ℕ
+source_of item = drop (word_at item 17) item
+
+-- characters, and a zero at the end
+abbrev pub ends_in_zero : List ℕ → Bool
+ends_in_zero [] = false
+ends_in_zero (b ∷ rest) = if b == 0 then is_empty rest else ends_in_zero rest
+
+-- these characters
+abbrev pub up_to_zero : List ℕ → List ℕ
+up_to_zero [] = []
+up_to_zero (b ∷ rest) = if b == 0 then [] else b ∷ up_to_zero rest
+
+-- Whether an item is a connection of this type, as a macro makes it: revision 1, at least one pin, and nothing between the pins,
+-- the name and the end, where the maker's data would begin.
+abbrev pub is_connection : ℕ → List ℕ → Bool
+is_connection kind item =
+    slice_index_or item 3 0 == 1 && slice_index_or item 4 0 == kind && word_at item 14 == 23 && word_at item 19 == length item
+    && word_at item 21 == 0 && nat_lt 23 (word_at item 17) && word_at item 17 % 2 == 1 && ends_in_zero (source_of item)
+
 -- A name of four characters, by how many bytes of the template begin with the item: so no two items of a template have the same.
 abbrev pub tag_text : ℕ → List ℕ
 tag_text n = 0x59 ∷ upper_digit (n / 256 % 16) ∷ upper_digit (n / 16 % 16) ∷ upper_digit (n % 16) ∷ []
@@ -55,6 +90,7 @@ abbrev pub part_text : List ℕ → ℕ → Part → List ℕ
 part_text item n (parts.Word x kind) = word_in (words kind) (value_of item x)
 part_text item n (parts.Number offset w) = codes "0x" ++ digits_at w offset item
 part_text item n parts.Blank = []
+part_text item n parts.Source = string_text (up_to_zero (source_of item))
 part_text item n (parts.Tag a k b m) = if are_zero item a k && are_zero item b m then tag_text n else []
 
 -- the comma before an argument
@@ -67,7 +103,7 @@ parts_text item n first (p ∷ ps) = (comma first ++ part_text item n p) ++ part
 
 -- ---- the list in braces
 
--- the numbers of the bits that are set in a mask, for so many bits from bit i on
+-- the numbers of the bits that are set in a mask, for this many bits from bit i on
 abbrev pub channels : Bool → ℕ → ℕ → ℕ → List ℕ
 channels first i zero mask = []
 channels first i (suc k) mask =
@@ -78,11 +114,17 @@ abbrev pub dwords : Bool → List ℕ → List ℕ
 dwords first (a ∷ b ∷ c ∷ d ∷ rest) = (comma first ++ (codes "0x" ++ digits_at 4 0 (a ∷ b ∷ c ∷ d ∷ rest))) ++ dwords false rest
 dwords first _ = []
 
+-- numbers of two bytes each
+abbrev pub pins : Bool → List ℕ → List ℕ
+pins first (a ∷ b ∷ rest) = (comma first ++ (codes "0x" ++ digits_at 2 0 (a ∷ b ∷ rest))) ++ pins false rest
+pins first _ = []
+
 abbrev pub list_text : Braces → List ℕ → List ℕ
 list_text tails.Absent item = []
 list_text tails.Irqs item = channels true 0 16 (slice_index_or item 1 0 + 256 * slice_index_or item 2 0)
 list_text tails.Channels item = channels true 0 8 (slice_index_or item 1 0)
 list_text tails.Numbers item = dwords true (drop 5 item)
+list_text (tails.Pins kind) item = pins true (pins_of item)
 
 abbrev pub is_absent : Braces → Bool
 is_absent tails.Absent = true
@@ -123,6 +165,7 @@ parts_fit item (p ∷ ps) = part_fits item p && parts_fit item ps
 
 abbrev pub tail_fits : Braces → List ℕ → Bool
 tail_fits tails.Numbers item = length item == 5 + 4 * slice_index_or item 4 0 && not (slice_index_or item 4 0 == 0)
+tail_fits (tails.Pins kind) item = is_connection kind item
 tail_fits _ item = true
 
 -- whether an item is written by the macro of a row

@@ -3,6 +3,9 @@ use Rattle.std.specs.Prelude.{ℕ, ◌==◌, Bool, if◌then◌else◌, List, []
 use Rattle.acpi_term.specs.declared.op.Op.{Op}
 use Rattle.acpi_term.specs.declared.op.Op.TheVariants as op
 use Rattle.acpi_asl.specs.Number.{hex}
+use Rattle.acpi_asl.specs.declared.word.Keyword.{Keyword}
+use Rattle.acpi_asl.specs.declared.word.Keyword.TheVariants.{AccessType, AccessAttribute, ExtendedAttribute, LockRule}
+use Rattle.acpi_asl.specs.declared.word.Keyword.TheVariants.{UpdateRule, RegionSpace, ObjectType, MatchOperator}
 
 -- ---- operators (ACPI 6.5, 19.2.5)
 
@@ -99,6 +102,26 @@ access_types =
     ∷ (5, codes "BufferAcc")
     ∷ []
 
+-- access attributes (AccessAttribKeyword)
+abbrev pub access_attributes : List (ℕ × List ℕ)
+access_attributes =
+    (2, codes "AttribQuick")
+    ∷ (4, codes "AttribSendReceive")
+    ∷ (6, codes "AttribByte")
+    ∷ (8, codes "AttribWord")
+    ∷ (10, codes "AttribBlock")
+    ∷ (12, codes "AttribProcessCall")
+    ∷ (13, codes "AttribBlockProcessCall")
+    ∷ []
+
+-- those with a length (ExtendedAttribKeyword)
+abbrev pub extended_attributes : List (ℕ × List ℕ)
+extended_attributes =
+    (11, codes "AttribBytes")
+    ∷ (14, codes "AttribRawBytes")
+    ∷ (15, codes "AttribRawProcessBytes")
+    ∷ []
+
 -- lock rules (LockRuleKeyword)
 abbrev pub lock_rules : List (ℕ × List ℕ)
 lock_rules =
@@ -163,23 +186,19 @@ match_operators =
     ∷ (5, codes "MGT")
     ∷ []
 
-abbrev pub access_word : ℕ → List ℕ
-access_word n = or_number n (word_in access_types n)
+abbrev pub words_of : Keyword → List (ℕ × List ℕ)
+words_of AccessType = access_types
+words_of AccessAttribute = access_attributes
+words_of ExtendedAttribute = extended_attributes
+words_of LockRule = lock_rules
+words_of UpdateRule = update_rules
+words_of RegionSpace = region_spaces
+words_of ObjectType = object_types
+words_of MatchOperator = match_operators
 
-abbrev pub lock_word : ℕ → List ℕ
-lock_word n = or_number n (word_in lock_rules n)
-
-abbrev pub update_word : ℕ → List ℕ
-update_word n = or_number n (word_in update_rules n)
-
-abbrev pub space_word : ℕ → List ℕ
-space_word n = or_number n (word_in region_spaces n)
-
-abbrev pub object_word : ℕ → List ℕ
-object_word n = or_number n (word_in object_types n)
-
-abbrev pub match_word : ℕ → List ℕ
-match_word n = or_number n (word_in match_operators n)
+-- the word of a number, or the number if there is none
+abbrev pub keyword_text : Keyword → ℕ → List ℕ
+keyword_text keyword n = or_number n (word_in (words_of keyword) n)
 
 -- SerializeRuleKeyword
 abbrev pub serialize_word : Bool → List ℕ

@@ -28,6 +28,9 @@ pub enum WordKind {
     Translation,
     Density,
     Space,
+    Levels,
+    PinConfig,
+    Restriction,
 }
 
 /// Bits of the byte at an offset.
@@ -50,6 +53,8 @@ pub enum Part {
     Blank,
     /// The descriptor's name, if the bytes in two ranges are zero: the offset of each, and how many there are.
     Tag(u8, u8, u8, u8),
+    /// The name of a GPIO connection's controller, from the offset that the bytes at 17 are up to the zero at the end.
+    Source,
 }
 
 /// The list in braces.
@@ -62,6 +67,8 @@ pub enum Braces {
     Channels,
     /// The numbers from the byte at 5 on, of four bytes each. The byte at 4 says how many there are.
     Numbers,
+    /// The pins of a GPIO connection of a type: the numbers from the byte at 23 to the name of its controller, of two bytes each.
+    Pins(u8),
 }
 
 /// The descriptors that have macros here.
@@ -84,10 +91,12 @@ pub enum Descriptor {
     Interrupt,
     QwordMemory,
     QwordIo,
+    GpioInt,
+    GpioIo,
 }
 
 /// All of them.
-pub const DESCRIPTORS: [Descriptor; 17] = [
+pub const DESCRIPTORS: [Descriptor; 19] = [
     Descriptor::IrqNoFlags,
     Descriptor::Irq,
     Descriptor::Dma,
@@ -105,6 +114,8 @@ pub const DESCRIPTORS: [Descriptor; 17] = [
     Descriptor::Interrupt,
     Descriptor::QwordMemory,
     Descriptor::QwordIo,
+    Descriptor::GpioInt,
+    Descriptor::GpioIo,
 ];
 
 /// Bits of the byte at an offset: the lowest of them, and how many there are.
@@ -192,6 +203,22 @@ const TRANSLATION_WORDS: [(u8, &str); 2] = [(0, "TypeStatic"), (1, "TypeTranslat
 
 const DENSITY_WORDS: [(u8, &str); 2] = [(0, "DenseTranslation"), (1, "SparseTranslation")];
 
+const LEVELS_WORDS: [(u8, &str); 3] = [(0, "ActiveHigh"), (1, "ActiveLow"), (2, "ActiveBoth")];
+
+const PIN_CONFIG_WORDS: [(u8, &str); 4] = [
+    (0, "PullDefault"),
+    (1, "PullUp"),
+    (2, "PullDown"),
+    (3, "PullNone"),
+];
+
+const RESTRICTION_WORDS: [(u8, &str); 4] = [
+    (0, "IoRestrictionNone"),
+    (1, "IoRestrictionInputOnly"),
+    (2, "IoRestrictionOutputOnly"),
+    (3, "IoRestrictionNoneAndPreserve"),
+];
+
 /// The words of a kind, each with the number that its bits are.
 pub fn words(kind: WordKind) -> &'static [(u8, &'static str)]
     ensures { map (λ row. (row.0, row.1.now)) result.now ≡ words kind }
@@ -216,6 +243,9 @@ pub fn words(kind: WordKind) -> &'static [(u8, &'static str)]
         WordKind::Translation => &TRANSLATION_WORDS,
         WordKind::Density => &DENSITY_WORDS,
         WordKind::Space => &REGION_SPACES,
+        WordKind::Levels => &LEVELS_WORDS,
+        WordKind::PinConfig => &PIN_CONFIG_WORDS,
+        WordKind::Restriction => &RESTRICTION_WORDS,
     }
 }
 
@@ -265,7 +295,7 @@ const MEMORY24_PARTS: [Part; 6] = [
     Part::Tag(4, 4, 10, 2),
 ];
 
-const MEMORY24_CLEAR: [Bits; 1] = [bits!(3, 1, 8)];
+const MEMORY_CLEAR: [Bits; 1] = [bits!(3, 1, 8)];
 
 const REGISTER_PARTS: [Part; 5] = [
     word!(3, 0, 8, Space),
@@ -284,76 +314,72 @@ const MEMORY32_PARTS: [Part; 6] = [
     Part::Tag(4, 8, 16, 4),
 ];
 
-const MEMORY32_CLEAR: [Bits; 1] = [bits!(3, 1, 8)];
-
 const MEMORY32_FIXED_PARTS: [Part; 3] = [
     word!(3, 0, 1, Access),
     Part::Number(4, 4),
     Part::Number(8, 4),
 ];
 
-const MEMORY32_FIXED_CLEAR: [Bits; 1] = [bits!(3, 1, 8)];
+/// The arguments of an address space of memory, whose numbers have this width.
+macro_rules! memory_parts {
+    ($width:literal) => {
+        [
+            word!(4, 0, 1, Usage),
+            word!(4, 1, 1, Decoding),
+            word!(4, 2, 1, Minimum),
+            word!(4, 3, 1, Maximum),
+            word!(5, 1, 2, Caching),
+            word!(5, 0, 1, Access),
+            Part::Number(6, $width),
+            Part::Number(6 + $width, $width),
+            Part::Number(6 + 2 * $width, $width),
+            Part::Number(6 + 3 * $width, $width),
+            Part::Number(6 + 4 * $width, $width),
+            Part::Blank,
+            Part::Blank,
+            Part::Tag(6, 3 * $width, 6 + 4 * $width, $width),
+            word!(5, 3, 2, Memory),
+            word!(5, 5, 1, Translation),
+        ]
+    };
+}
 
-const DWORD_MEMORY_PARTS: [Part; 16] = [
-    word!(4, 0, 1, Usage),
-    word!(4, 1, 1, Decoding),
-    word!(4, 2, 1, Minimum),
-    word!(4, 3, 1, Maximum),
-    word!(5, 1, 2, Caching),
-    word!(5, 0, 1, Access),
-    Part::Number(6, 4),
-    Part::Number(10, 4),
-    Part::Number(14, 4),
-    Part::Number(18, 4),
-    Part::Number(22, 4),
-    Part::Blank,
-    Part::Blank,
-    Part::Tag(6, 12, 22, 4),
-    word!(5, 3, 2, Memory),
-    word!(5, 5, 1, Translation),
-];
+/// The arguments of an address space of ports, whose numbers have this width.
+macro_rules! io_parts {
+    ($width:literal) => {
+        [
+            word!(4, 0, 1, Usage),
+            word!(4, 2, 1, Minimum),
+            word!(4, 3, 1, Maximum),
+            word!(4, 1, 1, Decoding),
+            word!(5, 0, 2, Ranges),
+            Part::Number(6, $width),
+            Part::Number(6 + $width, $width),
+            Part::Number(6 + 2 * $width, $width),
+            Part::Number(6 + 3 * $width, $width),
+            Part::Number(6 + 4 * $width, $width),
+            Part::Blank,
+            Part::Blank,
+            Part::Tag(6, 3 * $width, 6 + 4 * $width, $width),
+            word!(5, 4, 1, Translation),
+            word!(5, 5, 1, Density),
+        ]
+    };
+}
 
-const DWORD_MEMORY_CLEAR: [Bits; 2] = [bits!(4, 4, 8), bits!(5, 6, 8)];
+const DWORD_MEMORY_PARTS: [Part; 16] = memory_parts!(4);
 
-const DWORD_IO_PARTS: [Part; 15] = [
-    word!(4, 0, 1, Usage),
-    word!(4, 2, 1, Minimum),
-    word!(4, 3, 1, Maximum),
-    word!(4, 1, 1, Decoding),
-    word!(5, 0, 2, Ranges),
-    Part::Number(6, 4),
-    Part::Number(10, 4),
-    Part::Number(14, 4),
-    Part::Number(18, 4),
-    Part::Number(22, 4),
-    Part::Blank,
-    Part::Blank,
-    Part::Tag(6, 12, 22, 4),
-    word!(5, 4, 1, Translation),
-    word!(5, 5, 1, Density),
-];
+const QWORD_MEMORY_PARTS: [Part; 16] = memory_parts!(8);
 
-const DWORD_IO_CLEAR: [Bits; 3] = [bits!(4, 4, 8), bits!(5, 2, 2), bits!(5, 6, 8)];
+const MEMORY_SPACE_CLEAR: [Bits; 2] = [bits!(4, 4, 8), bits!(5, 6, 8)];
 
-const WORD_IO_PARTS: [Part; 15] = [
-    word!(4, 0, 1, Usage),
-    word!(4, 2, 1, Minimum),
-    word!(4, 3, 1, Maximum),
-    word!(4, 1, 1, Decoding),
-    word!(5, 0, 2, Ranges),
-    Part::Number(6, 2),
-    Part::Number(8, 2),
-    Part::Number(10, 2),
-    Part::Number(12, 2),
-    Part::Number(14, 2),
-    Part::Blank,
-    Part::Blank,
-    Part::Tag(6, 6, 14, 2),
-    word!(5, 4, 1, Translation),
-    word!(5, 5, 1, Density),
-];
+const WORD_IO_PARTS: [Part; 15] = io_parts!(2);
 
-const WORD_IO_CLEAR: [Bits; 3] = [bits!(4, 4, 8), bits!(5, 2, 2), bits!(5, 6, 8)];
+const DWORD_IO_PARTS: [Part; 15] = io_parts!(4);
+
+const QWORD_IO_PARTS: [Part; 15] = io_parts!(8);
+
+const IO_SPACE_CLEAR: [Bits; 3] = [bits!(4, 4, 8), bits!(5, 2, 2), bits!(5, 6, 8)];
 
 const WORD_BUS_PARTS: [Part; 12] = [
     word!(4, 0, 1, Usage),
@@ -384,46 +410,48 @@ const INTERRUPT_PARTS: [Part; 7] = [
 
 const INTERRUPT_CLEAR: [Bits; 1] = [bits!(3, 5, 8)];
 
-const QWORD_MEMORY_PARTS: [Part; 16] = [
-    word!(4, 0, 1, Usage),
-    word!(4, 1, 1, Decoding),
-    word!(4, 2, 1, Minimum),
-    word!(4, 3, 1, Maximum),
-    word!(5, 1, 2, Caching),
-    word!(5, 0, 1, Access),
-    Part::Number(6, 8),
-    Part::Number(14, 8),
-    Part::Number(22, 8),
-    Part::Number(30, 8),
-    Part::Number(38, 8),
+const GPIO_INT_PARTS: [Part; 10] = [
+    word!(7, 0, 1, Mode),
+    word!(7, 1, 2, Levels),
+    word!(7, 3, 2, Sharing),
+    word!(9, 0, 8, PinConfig),
+    Part::Number(12, 2),
+    Part::Source,
+    Part::Number(16, 1),
+    word!(5, 0, 1, Usage),
     Part::Blank,
     Part::Blank,
-    Part::Tag(6, 24, 38, 8),
-    word!(5, 3, 2, Memory),
-    word!(5, 5, 1, Translation),
 ];
 
-const QWORD_MEMORY_CLEAR: [Bits; 2] = [bits!(4, 4, 8), bits!(5, 6, 8)];
-
-const QWORD_IO_PARTS: [Part; 15] = [
-    word!(4, 0, 1, Usage),
-    word!(4, 2, 1, Minimum),
-    word!(4, 3, 1, Maximum),
-    word!(4, 1, 1, Decoding),
-    word!(5, 0, 2, Ranges),
-    Part::Number(6, 8),
-    Part::Number(14, 8),
-    Part::Number(22, 8),
-    Part::Number(30, 8),
-    Part::Number(38, 8),
-    Part::Blank,
-    Part::Blank,
-    Part::Tag(6, 24, 38, 8),
-    word!(5, 4, 1, Translation),
-    word!(5, 5, 1, Density),
+const GPIO_INT_CLEAR: [Bits; 6] = [
+    bits!(5, 1, 8),
+    bits!(6, 0, 8),
+    bits!(7, 5, 8),
+    bits!(8, 0, 8),
+    bits!(10, 0, 8),
+    bits!(11, 0, 8),
 ];
 
-const QWORD_IO_CLEAR: [Bits; 3] = [bits!(4, 4, 8), bits!(5, 2, 2), bits!(5, 6, 8)];
+const GPIO_IO_PARTS: [Part; 10] = [
+    word!(7, 3, 2, Sharing),
+    word!(9, 0, 8, PinConfig),
+    Part::Number(12, 2),
+    Part::Number(10, 2),
+    word!(7, 0, 2, Restriction),
+    Part::Source,
+    Part::Number(16, 1),
+    word!(5, 0, 1, Usage),
+    Part::Blank,
+    Part::Blank,
+];
+
+const GPIO_IO_CLEAR: [Bits; 5] = [
+    bits!(5, 1, 8),
+    bits!(6, 0, 8),
+    bits!(7, 2, 1),
+    bits!(7, 5, 8),
+    bits!(8, 0, 8),
+];
 
 /// The bytes at the front of a descriptor.
 pub fn start(descriptor: Descriptor) -> &'static [u8]
@@ -447,6 +475,8 @@ pub fn start(descriptor: Descriptor) -> &'static [u8]
         Descriptor::Interrupt => &[0x89],
         Descriptor::QwordMemory => &[0x8a, 0x2b, 0x0, 0x0],
         Descriptor::QwordIo => &[0x8a, 0x2b, 0x0, 0x1],
+        Descriptor::GpioInt => &[0x8c],
+        Descriptor::GpioIo => &[0x8c],
     }
 }
 
@@ -472,6 +502,8 @@ pub fn macro_word(descriptor: Descriptor) -> &'static str
         Descriptor::Interrupt => "Interrupt",
         Descriptor::QwordMemory => "QWordMemory",
         Descriptor::QwordIo => "QWordIO",
+        Descriptor::GpioInt => "GpioInt",
+        Descriptor::GpioIo => "GpioIo",
     }
 }
 
@@ -497,6 +529,8 @@ pub fn parts(descriptor: Descriptor) -> &'static [Part]
         Descriptor::Interrupt => &INTERRUPT_PARTS,
         Descriptor::QwordMemory => &QWORD_MEMORY_PARTS,
         Descriptor::QwordIo => &QWORD_IO_PARTS,
+        Descriptor::GpioInt => &GPIO_INT_PARTS,
+        Descriptor::GpioIo => &GPIO_IO_PARTS,
     }
 }
 
@@ -511,17 +545,19 @@ pub fn clear(descriptor: Descriptor) -> &'static [Bits]
         Descriptor::Io => &IO_CLEAR,
         Descriptor::FixedIo => &[],
         Descriptor::FixedDma => &FIXED_DMA_CLEAR,
-        Descriptor::Memory24 => &MEMORY24_CLEAR,
+        Descriptor::Memory24 => &MEMORY_CLEAR,
         Descriptor::Register => &[],
-        Descriptor::Memory32 => &MEMORY32_CLEAR,
-        Descriptor::Memory32Fixed => &MEMORY32_FIXED_CLEAR,
-        Descriptor::DwordMemory => &DWORD_MEMORY_CLEAR,
-        Descriptor::DwordIo => &DWORD_IO_CLEAR,
-        Descriptor::WordIo => &WORD_IO_CLEAR,
+        Descriptor::Memory32 => &MEMORY_CLEAR,
+        Descriptor::Memory32Fixed => &MEMORY_CLEAR,
+        Descriptor::DwordMemory => &MEMORY_SPACE_CLEAR,
+        Descriptor::DwordIo => &IO_SPACE_CLEAR,
+        Descriptor::WordIo => &IO_SPACE_CLEAR,
         Descriptor::WordBus => &WORD_BUS_CLEAR,
         Descriptor::Interrupt => &INTERRUPT_CLEAR,
-        Descriptor::QwordMemory => &QWORD_MEMORY_CLEAR,
-        Descriptor::QwordIo => &QWORD_IO_CLEAR,
+        Descriptor::QwordMemory => &MEMORY_SPACE_CLEAR,
+        Descriptor::QwordIo => &IO_SPACE_CLEAR,
+        Descriptor::GpioInt => &GPIO_INT_CLEAR,
+        Descriptor::GpioIo => &GPIO_IO_CLEAR,
     }
 }
 
@@ -547,5 +583,7 @@ pub fn tail(descriptor: Descriptor) -> Braces
         Descriptor::Interrupt => Braces::Numbers,
         Descriptor::QwordMemory => Braces::Absent,
         Descriptor::QwordIo => Braces::Absent,
+        Descriptor::GpioInt => Braces::Pins(0),
+        Descriptor::GpioIo => Braces::Pins(1),
     }
 }

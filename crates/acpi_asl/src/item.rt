@@ -7,7 +7,8 @@ ghost use Rattle.std.specs.Fmt.{decimal};
 ghost use Rattle.acpi_asl.specs.Descriptor.{words, facts, descriptors};
 ghost use Rattle.acpi_asl.specs.Number.{upper_byte};
 ghost use Rattle.acpi_asl.specs.Template.{shifted, lowest, value_of, digits_at, are_zero, tag_text, part_text, comma};
-ghost use Rattle.acpi_asl.specs.Template.{parts_text, channels, dwords};
+ghost use Rattle.acpi_asl.specs.Template.{parts_text, channels, dwords, pins, word_at, pins_of, source_of};
+ghost use Rattle.acpi_asl.specs.Template.{ends_in_zero, up_to_zero, is_connection};
 ghost use Rattle.acpi_asl.specs.Template.{list_text, is_absent, tail_text, row_text, large_length, item_size, are_clear};
 ghost use Rattle.acpi_asl.specs.Template.{part_fits, parts_fit, tail_fits, fits, found_in, found, is_found, found_text};
 ghost use Rattle.acpi_asl.specs.Word.{word_in};
@@ -16,7 +17,7 @@ use crate::descriptor::{
     Bits, Braces, DESCRIPTORS, Descriptor, Part, WordKind, clear, macro_word, parts, start, tail,
     words,
 };
-use crate::number::{push_decimal, push_upper_byte, upper_digit};
+use crate::number::{push_decimal, push_string, push_upper_byte, upper_digit};
 use crate::word::word_in;
 use std::alloc::AllocError;
 
@@ -84,6 +85,75 @@ fn push_number_at(width: u8, offset: u8, item: &[u8], text: &mut String) -> Resu
     push_digits_at(width, offset, item, text)
 }
 
+fn word_at(item: &[u8], offset: usize) -> u16
+    requires { offset ≤ 65535 }
+    ensures { result ≡ word_at item.now offset }
+{
+    u16::from(byte_at(item, offset)) + 256 * u16::from(byte_at(item, offset + 1))
+}
+
+// The bytes of a GPIO connection's pins.
+fn pins_of(item: &[u8]) -> &[u8]
+    ensures { result.now ≡ pins_of item.now }
+{
+    let rest = &item[item.len().min(23)..];
+    let size = usize::from(word_at(item, 17)).saturating_sub(23);
+    &rest[..size.min(rest.len())]
+}
+
+// The name of its controller, and a zero.
+fn source_of(item: &[u8]) -> &[u8]
+    ensures { result.now ≡ source_of item.now }
+{
+    let offset = usize::from(word_at(item, 17));
+    &item[offset.min(item.len())..]
+}
+
+fn ends_in_zero(bytes: &[u8]) -> bool
+    ensures { result ≡ ends_in_zero bytes.now }
+{
+    let mut rest = bytes;
+    'bytes: while let Some((byte, more)) = rest.split_first() {
+        if *byte == 0 {
+            return more.is_empty();
+        }
+        rest = more;
+    }
+    false
+}
+
+#[cycle(zero)]
+fn count_to_zero(bytes: &[u8]) -> usize
+    ensures is { take result bytes.now ≡ up_to_zero bytes.now }
+    ensures within { result ≤ length bytes.now }
+{
+    match bytes {
+        [] => 0,
+        [0, ..] => 0,
+        [_, rest @ ..] => 1 + count_to_zero(rest),
+    }
+}
+
+fn up_to_zero(bytes: &[u8]) -> &[u8]
+    ensures { result.now ≡ up_to_zero bytes.now }
+{
+    &bytes[..count_to_zero(bytes)]
+}
+
+// Whether an item is a GPIO connection of this type, as a macro makes it.
+fn is_connection(kind: u8, item: &[u8]) -> bool
+    ensures { result ≡ is_connection kind item.now }
+{
+    byte_at(item, 3) == 1
+        && byte_at(item, 4) == kind
+        && word_at(item, 14) == 23
+        && usize::from(word_at(item, 19)) == item.len()
+        && word_at(item, 21) == 0
+        && word_at(item, 17) > 23
+        && word_at(item, 17) % 2 == 1
+        && ends_in_zero(source_of(item))
+}
+
 // The word of bits, or an empty one.
 fn word_of(item: &[u8], bits: Bits, kind: WordKind) -> &'static str
     ensures { result.now ≡ word_in (words kind) (value_of item.now bits) }
@@ -127,11 +197,13 @@ fn push_part(item: &[u8], n: usize, part: Part, text: &mut String) -> Result<(),
         Part::Word(bits, kind) => text.push_str(word_of(item, bits, kind)),
         Part::Number(offset, width) => push_number_at(width, offset, item, text),
         Part::Blank => Ok(()),
+        Part::Source => push_string(up_to_zero(source_of(item)), text),
         Part::Tag(a, k, b, m) => push_if(are_zero(item, a, k) && are_zero(item, b, m), n, text),
     }
 }
 
-fn comma(first: bool) -> &'static str
+/// The comma before an argument.
+pub fn comma(first: bool) -> &'static str
     ensures { result.now ≡ comma first }
 {
     if first { "" } else { ", " }
@@ -210,6 +282,26 @@ fn push_dwords(first: bool, bytes: &[u8], text: &mut String) -> Result<(), Alloc
     Ok(())
 }
 
+fn push_next_pin(first: bool, bytes: &[u8], text: &mut String) -> Result<(), AllocError>
+    ensures { OnOk result (string_bytes text.new ≡ string_bytes text.old
+        ++ (comma first ++ (codes "0x" ++ digits_at 2 0 bytes.now))) }
+{
+    text.push_str(comma(first))?;
+    push_number_at(2, 0, bytes, text)
+}
+
+#[cycle(pins)]
+fn push_pins(first: bool, bytes: &[u8], text: &mut String) -> Result<(), AllocError>
+    ensures { OnOk result (string_bytes text.new ≡ string_bytes text.old ++ pins first bytes.now) }
+{
+    let [_, _, rest @ ..] = bytes else {
+        return Ok(());
+    };
+    push_next_pin(first, bytes, text)?;
+    push_pins(false, rest, text)?;
+    Ok(())
+}
+
 fn irqs(item: &[u8]) -> u16
     ensures { result ≡ slice_index_or item.now 1 0 + 256 * slice_index_or item.now 2 0 }
 {
@@ -224,6 +316,7 @@ fn push_list(tail: Braces, item: &[u8], text: &mut String) -> Result<(), AllocEr
         Braces::Irqs => push_channels(true, 0, 16, irqs(item), text),
         Braces::Channels => push_channels(true, 0, 8, u16::from(byte_at(item, 1)), text),
         Braces::Numbers => push_dwords(true, &item[item.len().min(5)..], text),
+        Braces::Pins(_) => push_pins(true, pins_of(item), text),
     }
 }
 
@@ -312,7 +405,7 @@ fn part_fits(item: &[u8], part: Part) -> bool
 {
     match part {
         Part::Word(bits, kind) => !word_of(item, bits, kind).is_empty(),
-        Part::Number(..) | Part::Blank | Part::Tag(..) => true,
+        Part::Number(..) | Part::Blank | Part::Tag(..) | Part::Source => true,
     }
 }
 
@@ -335,6 +428,7 @@ fn tail_fits(tail: Braces, item: &[u8]) -> bool
             let count = byte_at(item, 4);
             item.len() == 5 + 4 * usize::from(count) && count != 0
         }
+        Braces::Pins(kind) => is_connection(kind, item),
         Braces::Absent | Braces::Irqs | Braces::Channels => true,
     }
 }

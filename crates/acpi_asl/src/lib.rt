@@ -3,6 +3,7 @@
 
 pub mod asl;
 pub mod block;
+mod connection;
 mod descriptor;
 mod eisa;
 mod item;

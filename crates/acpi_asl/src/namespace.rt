@@ -79,7 +79,11 @@ fn push_entry(depth: usize, entry: &TermEntry, text: &mut String) -> Result<(), 
 {
     match entry {
         TermEntry::Named(name, _, _) => push_field(depth, name, text),
-        TermEntry::Reserved(_, _) => Ok(()),
+        TermEntry::Reserved(..)
+        | TermEntry::AccessAs(..)
+        | TermEntry::ExtendedAccessAs(..)
+        | TermEntry::Connection(_)
+        | TermEntry::ConnectionBuffer { .. } => Ok(()),
     }
 }
 
@@ -303,7 +307,9 @@ fn push_lines(
         Kind::Name(name) => push_named_value(depth, name, first, others, text),
         Kind::OpRegion(name, _) => push_object(depth, name, "OperationRegion", text),
         Kind::Field(_, _, _, _, entries) => push_fields(depth, entries, text),
-        Kind::IndexField(_, _, _, _, _, entries) => push_fields(depth, entries, text),
+        Kind::IndexField(_, _, _, _, _, entries) | Kind::BankField(_, _, _, _, _, entries) => {
+            push_fields(depth, entries, text)
+        }
         Kind::Mutex(name, _) => push_object(depth, name, "Mutex", text),
         Kind::External(name, _, _) => push_object(depth, name, "External", text),
         Kind::Op(op) => push_made(depth, made_by(op), last_operand(first, others), text),

@@ -7,18 +7,16 @@ ghost use Rattle.acpi_term.specs.View.{head_of};
 ghost use Rattle.acpi_asl.specs.Name.{asl_name};
 ghost use Rattle.acpi_asl.specs.Number.{hex};
 ghost use Rattle.acpi_asl.specs.Place.{place, opened};
-ghost use Rattle.acpi_asl.specs.Opening.{head_word, further, field_own, method_own, parameter, first_parameter};
+ghost use Rattle.acpi_asl.specs.Opening.{head_word, further, field_rules, field_own, method_own, parameter, first_parameter};
 ghost use Rattle.acpi_asl.specs.Opening.{more_parameters, parameters, own};
 ghost use Rattle.acpi_asl.specs.Opening.{has_parentheses, begun, ended, opening};
-ghost use Rattle.acpi_asl.specs.Word.{access_word, lock_word, update_word, space_word, object_word};
+ghost use Rattle.acpi_asl.specs.declared.word.Keyword.TheVariants.{RegionSpace, ObjectType};
+ghost use Rattle.acpi_asl.specs.Word.{keyword_text};
 
 use crate::name::push_name;
 use crate::number::{push_decimal, push_hex, push_number, push_short_hex, push_string};
 use crate::place::{Place, place_of, push_opened};
-use crate::word::{
-    operator_word, push_access_word, push_lock_word, push_match_word, push_object_word,
-    push_space_word, push_update_word, serialize_word,
-};
+use crate::word::{Keyword, operator_word, push_keyword, serialize_word};
 use acpi_term::apart::Kind;
 use acpi_term::name_string::NameString;
 use std::alloc::AllocError;
@@ -62,8 +60,9 @@ pub fn push_word(kind: Kind<'_>, width: u8, text: &mut String) -> Result<(), All
         Kind::Processor(..) => text.push_str("Processor"),
         Kind::ThermalZone(_) => text.push_str("ThermalZone"),
         Kind::IndexField(..) => text.push_str("IndexField"),
+        Kind::BankField(..) => text.push_str("BankField"),
         Kind::Fatal(..) => text.push_str("Fatal"),
-        Kind::MatchTest(code) => push_match_word(code, text),
+        Kind::MatchTest(code) => push_keyword(Keyword::MatchOperator, code, text),
     }
 }
 
@@ -90,42 +89,22 @@ pub fn push_further_decimal(value: u8, text: &mut String) -> Result<(), AllocErr
     push_decimal(u64::from(value), text)
 }
 
-fn push_space(space: u8, text: &mut String) -> Result<(), AllocError>
-    ensures { OnOk result (string_bytes text.new ≡ string_bytes text.old ++ further (space_word space)) }
+fn push_further_keyword(keyword: Keyword, number: u8, text: &mut String) -> Result<(), AllocError>
+    ensures { OnOk result (string_bytes text.new ≡ string_bytes text.old ++ further (keyword_text keyword number)) }
 {
     text.push_str(", ")?;
-    push_space_word(space, text)
+    push_keyword(keyword, number, text)
 }
 
-fn push_object(kind: u8, text: &mut String) -> Result<(), AllocError>
-    ensures { OnOk result (string_bytes text.new ≡ string_bytes text.old ++ further (object_word kind)) }
+#[tactic(auto, using(acpi_read::proofs::Texts::after_three))]
+fn push_field_rules(access: u8, lock: u8, update: u8, text: &mut String) -> Result<(), AllocError>
+    ensures { OnOk result (string_bytes text.new ≡ string_bytes text.old ++ field_rules access lock update) }
 {
-    text.push_str(", ")?;
-    push_object_word(kind, text)
+    push_further_keyword(Keyword::AccessType, access, text)?;
+    push_further_keyword(Keyword::LockRule, lock, text)?;
+    push_further_keyword(Keyword::UpdateRule, update, text)
 }
 
-fn push_access(access: u8, text: &mut String) -> Result<(), AllocError>
-    ensures { OnOk result (string_bytes text.new ≡ string_bytes text.old ++ further (access_word access)) }
-{
-    text.push_str(", ")?;
-    push_access_word(access, text)
-}
-
-fn push_lock(lock: u8, text: &mut String) -> Result<(), AllocError>
-    ensures { OnOk result (string_bytes text.new ≡ string_bytes text.old ++ further (lock_word lock)) }
-{
-    text.push_str(", ")?;
-    push_lock_word(lock, text)
-}
-
-fn push_update(update: u8, text: &mut String) -> Result<(), AllocError>
-    ensures { OnOk result (string_bytes text.new ≡ string_bytes text.old ++ further (update_word update)) }
-{
-    text.push_str(", ")?;
-    push_update_word(update, text)
-}
-
-#[tactic(auto, using(acpi_read::proofs::Texts::after_four))]
 fn push_field(
     name: &NameString,
     access: u8,
@@ -136,9 +115,7 @@ fn push_field(
     ensures { OnOk result (string_bytes text.new ≡ string_bytes text.old ++ field_own name.now access lock update) }
 {
     push_name(name, text)?;
-    push_access(access, text)?;
-    push_lock(lock, text)?;
-    push_update(update, text)
+    push_field_rules(access, lock, update, text)
 }
 
 fn push_further_field(
@@ -235,10 +212,11 @@ fn push_processor(
 }
 
 fn push_region(name: &NameString, space: u8, text: &mut String) -> Result<(), AllocError>
-    ensures { OnOk result (string_bytes text.new ≡ string_bytes text.old ++ (asl_name name.now ++ further (space_word space))) }
+    ensures { OnOk result (string_bytes text.new ≡ string_bytes text.old
+        ++ (asl_name name.now ++ further (keyword_text RegionSpace space))) }
 {
     push_name(name, text)?;
-    push_space(space, text)
+    push_further_keyword(Keyword::RegionSpace, space, text)
 }
 
 #[tactic(auto, unfolding(crate::specs::Opening::parameter))]
@@ -282,11 +260,37 @@ fn push_parameters(n: u8, text: &mut String) -> Result<(), AllocError>
 #[tactic(auto, using(acpi_read::proofs::Texts::after_three))]
 fn push_external(name: &NameString, kind: u8, args: u8, text: &mut String) -> Result<(), AllocError>
     ensures { OnOk result (string_bytes text.new ≡ string_bytes text.old
-        ++ (asl_name name.now ++ further (object_word kind) ++ parameters args)) }
+        ++ (asl_name name.now ++ further (keyword_text ObjectType kind) ++ parameters args)) }
 {
     push_name(name, text)?;
-    push_object(kind, text)?;
+    push_further_keyword(Keyword::ObjectType, kind, text)?;
     push_parameters(args, text)
+}
+
+fn push_further_name(name: &NameString, text: &mut String) -> Result<(), AllocError>
+    ensures { OnOk result (string_bytes text.new ≡ string_bytes text.old ++ further (asl_name name.now)) }
+{
+    text.push_str(", ")?;
+    push_name(name, text)
+}
+
+fn push_bank_field(
+    name: &NameString,
+    bank: &NameString,
+    text: &mut String,
+) -> Result<(), AllocError>
+    ensures { OnOk result (string_bytes text.new ≡ string_bytes text.old ++ (asl_name name.now ++ further (asl_name bank.now))) }
+{
+    push_name(name, text)?;
+    push_further_name(bank, text)
+}
+
+/// Adds the last arguments of a BankField.
+pub fn push_rules(access: u8, lock: u8, update: u8, text: &mut String) -> Result<(), AllocError>
+    ensures { OnOk result (string_bytes text.new ≡ string_bytes text.old ++ (field_rules access lock update ++ codes ")")) }
+{
+    push_field_rules(access, lock, update, text)?;
+    text.push_str(")")
 }
 
 fn push_fatal(kind: u8, code: u32, text: &mut String) -> Result<(), AllocError>
@@ -315,6 +319,7 @@ pub fn push_own(kind: Kind<'_>, count: usize, text: &mut String) -> Result<(), A
         Kind::IndexField(index, name, access, lock, update, _) => {
             push_index_field(index, name, access, lock, update, text)
         }
+        Kind::BankField(name, bank, ..) => push_bank_field(name, bank, text),
         Kind::OpRegion(name, space) => push_region(name, space, text),
         Kind::Mutex(name, level) => push_numbered(name, 1, u64::from(level), text),
         Kind::Acquire(name, timeout) => push_numbered(name, 2, u64::from(timeout), text),

@@ -95,8 +95,8 @@ pub fn place_of(kind: Kind<'_>, count: usize) -> Place
         Kind::Call(_) => in_place(count, false, 0, Body::Absent),
         Kind::Op(op) => in_place(count, false, targets(op), Body::Absent),
         Kind::Name(_) | Kind::Fatal(..) => in_place(1, true, 0, Body::Absent),
-        // The operand of a test is followed by another argument of the Match.
-        Kind::MatchTest(_) => in_place(2, true, 0, Body::Absent),
+        // The value of a BankField is followed by other arguments, and the operand of a test by another argument of the Match.
+        Kind::BankField(..) | Kind::MatchTest(_) => in_place(2, true, 0, Body::Absent),
         Kind::OpRegion(..) => in_place(2, true, 0, Body::Absent),
         Kind::If | Kind::While => in_place(1, false, 0, Body::Statements),
         Kind::VarPackage => in_place(1, false, 0, Body::Elements),

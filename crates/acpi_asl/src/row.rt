@@ -2,17 +2,21 @@
 //! text.
 
 ghost use Rattle.std.specs.Prelude.{◌≡◌, ◌++◌, ◌==◌, ◌&&◌, ◌%◌, ◌/◌, not, true, false, codes, if◌then◌else◌, map, OnOk};
-ghost use Rattle.std.specs.Prelude.{IfOk, string_bytes};
+ghost use Rattle.std.specs.Prelude.{IfOk, suc, string_bytes};
 ghost use Rattle.acpi_term.specs.View.{entry_view, head_of};
 ghost use Rattle.std.specs.Fmt.{decimal};
 ghost use Rattle.acpi_asl.specs.Name.{segments_text};
 ghost use Rattle.acpi_asl.specs.Number.{hex, short_hex};
 ghost use Rattle.acpi_asl.specs.Place.{new_line};
-ghost use Rattle.acpi_asl.specs.Row.{bit_after, entry_text, row_comma, entries_text, byte_lead, bytes_text, rows};
+ghost use Rattle.acpi_asl.specs.Row.{bit_after, entry_text, row_comma, entries_text, byte_lead, bytes_text, bank_rows, rows};
 
+use crate::connection::{
+    push_access, push_connection, push_connection_buffer, push_extended_access,
+};
 use crate::name::push_segments;
 use crate::number::{push_decimal, push_hex, push_short_hex};
-use crate::place::push_line;
+use crate::opening::push_rules;
+use crate::place::{Body, push_closed, push_line, push_opened};
 use acpi_term::apart::Kind;
 use acpi_term::term::TermEntry;
 use std::alloc::AllocError;
@@ -21,9 +25,13 @@ use std::alloc::AllocError;
 fn bit_after(at: u64, entry: &TermEntry) -> Result<u64, AllocError>
     ensures { IfOk result (λ after. after ≡ bit_after at (entry_view entry.now)) }
 {
-    let (TermEntry::Named(_, bits, _) | TermEntry::Reserved(bits, _)) = entry;
-    // No memory has room for so many entries.
-    at.checked_add(u64::from(*bits)).ok_or(AllocError)
+    match entry {
+        // No memory has room for this many entries.
+        TermEntry::Named(_, bits, _) | TermEntry::Reserved(bits, _) => {
+            at.checked_add(u64::from(*bits)).ok_or(AllocError)
+        }
+        _ => Ok(at),
+    }
 }
 
 fn push_named(name: &[u8], bits: u32, text: &mut String) -> Result<(), AllocError>
@@ -64,6 +72,17 @@ fn push_entry(at: u64, after: u64, entry: &TermEntry, text: &mut String) -> Resu
     match entry {
         TermEntry::Named(name, bits, _) => push_named(name, *bits, text),
         TermEntry::Reserved(bits, _) => push_reserved(*bits, after, text),
+        TermEntry::AccessAs(access, attribute) => push_access(*access, *attribute, text),
+        TermEntry::ExtendedAccessAs(access, attribute, size) => {
+            push_extended_access(*access, *attribute, *size, text)
+        }
+        TermEntry::Connection(name) => push_connection(name, text),
+        TermEntry::ConnectionBuffer {
+            size,
+            size_width,
+            bytes,
+            ..
+        } => push_connection_buffer(*size, *size_width, bytes, text),
     }
 }
 
@@ -134,6 +153,27 @@ fn push_bytes(depth: usize, bytes: &[u8], text: &mut String) -> Result<(), Alloc
     Ok(())
 }
 
+// Adds the arguments of a BankField after its value, and its rows.
+#[tactic(auto, using(acpi_read::proofs::Texts::after_four))]
+fn push_bank_rows(
+    access: u8,
+    lock: u8,
+    update: u8,
+    entries: &[TermEntry],
+    depth: usize,
+    inner: usize,
+    text: &mut String,
+) -> Result<(), AllocError>
+    requires { inner ≡ suc depth }
+    ensures { OnOk result (string_bytes text.new ≡ string_bytes text.old
+        ++ bank_rows access lock update (map entry_view entries.now) depth) }
+{
+    push_rules(access, lock, update, text)?;
+    push_opened(Body::Rows, depth, text)?;
+    push_entries(inner, entries, text)?;
+    push_closed(Body::Rows, depth, text)
+}
+
 /// Adds the rows of a term at this depth.
 pub fn push_rows(kind: Kind<'_>, depth: usize, text: &mut String) -> Result<(), AllocError>
     ensures { OnOk result (string_bytes text.new ≡ string_bytes text.old ++ rows (head_of kind.entry) depth) }
@@ -146,6 +186,9 @@ pub fn push_rows(kind: Kind<'_>, depth: usize, text: &mut String) -> Result<(), 
         Kind::Field(_, _, _, _, entries) | Kind::IndexField(_, _, _, _, _, entries) => {
             push_entries(inner, entries, text)
         }
+        Kind::BankField(_, _, access, lock, update, entries) => push_bank_rows(
+            access, lock, update, entries, depth, inner, text,
+        ),
         Kind::Buffer(bytes) => push_bytes(inner, bytes, text),
         _ => Ok(()),
     }

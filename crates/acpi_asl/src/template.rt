@@ -54,7 +54,7 @@ pub fn is_template(bytes: &[u8]) -> bool
     false
 }
 
-// Adds the item at the front, on a line of its own.
+// Adds the item at the front, on a new line.
 fn push_item_line(
     depth: usize,
     bytes: &[u8],

@@ -1,10 +1,7 @@
 //! The words of ASL (ACPI 6.5, 19.2 and 19.6).
 
 ghost use Rattle.std.specs.Prelude.{◌≡◌, ◌++◌, map, OnOk, string_bytes};
-ghost use Rattle.acpi_asl.specs.Word.{operator_word, word_in, or_number, serialize_word};
-ghost use Rattle.acpi_asl.specs.Word.{access_types, lock_rules, update_rules, region_spaces, object_types};
-ghost use Rattle.acpi_asl.specs.Word.{match_operators, match_word};
-ghost use Rattle.acpi_asl.specs.Word.{access_word, lock_word, update_word, space_word, object_word};
+ghost use Rattle.acpi_asl.specs.Word.{operator_word, word_in, words_of, keyword_text, serialize_word};
 
 use crate::number::push_hex;
 use acpi_term::op::Op;
@@ -86,7 +83,20 @@ pub fn operator_word(op: Op) -> &'static str
     }
 }
 
-/// Access types (ACPI 6.5, 19.2.7, AccessTypeKeyword).
+/// The kinds of words that stand for numbers (ACPI 6.5, 19.2.7).
+#[derive(Clone, Copy)]
+pub enum Keyword {
+    AccessType,
+    AccessAttribute,
+    ExtendedAttribute,
+    LockRule,
+    UpdateRule,
+    RegionSpace,
+    ObjectType,
+    MatchOperator,
+}
+
+/// Access types (AccessTypeKeyword).
 const ACCESS_TYPES: [(u8, &str); 6] = [
     (0, "AnyAcc"),
     (1, "ByteAcc"),
@@ -94,6 +104,24 @@ const ACCESS_TYPES: [(u8, &str); 6] = [
     (3, "DWordAcc"),
     (4, "QWordAcc"),
     (5, "BufferAcc"),
+];
+
+/// Access attributes (AccessAttribKeyword).
+const ACCESS_ATTRIBUTES: [(u8, &str); 7] = [
+    (2, "AttribQuick"),
+    (4, "AttribSendReceive"),
+    (6, "AttribByte"),
+    (8, "AttribWord"),
+    (10, "AttribBlock"),
+    (12, "AttribProcessCall"),
+    (13, "AttribBlockProcessCall"),
+];
+
+/// Those with a length (ExtendedAttribKeyword).
+const EXTENDED_ATTRIBUTES: [(u8, &str); 3] = [
+    (11, "AttribBytes"),
+    (14, "AttribRawBytes"),
+    (15, "AttribRawProcessBytes"),
 ];
 
 /// Lock rules (LockRuleKeyword).
@@ -160,92 +188,30 @@ pub fn word_in(rows: &[(u8, &'static str)], number: u8) -> &'static str
     ""
 }
 
-// Adds a word, or the number if the word is empty.
-fn push_known(word: &str, number: u8, text: &mut String) -> Result<(), AllocError>
-    ensures { OnOk result (string_bytes text.new ≡ string_bytes text.old ++ or_number number word.now) }
+fn rows_of(keyword: Keyword) -> &'static [(u8, &'static str)]
+    ensures { map (λ row. (row.0, row.1.now)) result.now ≡ words_of keyword }
 {
+    match keyword {
+        Keyword::AccessType => &ACCESS_TYPES,
+        Keyword::AccessAttribute => &ACCESS_ATTRIBUTES,
+        Keyword::ExtendedAttribute => &EXTENDED_ATTRIBUTES,
+        Keyword::LockRule => &LOCK_RULES,
+        Keyword::UpdateRule => &UPDATE_RULES,
+        Keyword::RegionSpace => &REGION_SPACES,
+        Keyword::ObjectType => &OBJECT_TYPES,
+        Keyword::MatchOperator => &MATCH_OPERATORS,
+    }
+}
+
+/// Adds the word of a number, or the number if there is none.
+pub fn push_keyword(keyword: Keyword, number: u8, text: &mut String) -> Result<(), AllocError>
+    ensures { OnOk result (string_bytes text.new ≡ string_bytes text.old ++ keyword_text keyword number) }
+{
+    let word = word_in(rows_of(keyword), number);
     if word.is_empty() {
         return push_hex(1, u64::from(number), text);
     }
     text.push_str(word)
-}
-
-fn access_word_in(number: u8) -> &'static str
-    ensures { result.now ≡ word_in access_types number }
-{
-    word_in(&ACCESS_TYPES, number)
-}
-
-/// Adds the word of one of the access types.
-pub fn push_access_word(number: u8, text: &mut String) -> Result<(), AllocError>
-    ensures { OnOk result (string_bytes text.new ≡ string_bytes text.old ++ access_word number) }
-{
-    push_known(access_word_in(number), number, text)
-}
-
-fn lock_word_in(number: u8) -> &'static str
-    ensures { result.now ≡ word_in lock_rules number }
-{
-    word_in(&LOCK_RULES, number)
-}
-
-/// Adds the word of one of the lock rules.
-pub fn push_lock_word(number: u8, text: &mut String) -> Result<(), AllocError>
-    ensures { OnOk result (string_bytes text.new ≡ string_bytes text.old ++ lock_word number) }
-{
-    push_known(lock_word_in(number), number, text)
-}
-
-fn update_word_in(number: u8) -> &'static str
-    ensures { result.now ≡ word_in update_rules number }
-{
-    word_in(&UPDATE_RULES, number)
-}
-
-/// Adds the word of one of the update rules.
-pub fn push_update_word(number: u8, text: &mut String) -> Result<(), AllocError>
-    ensures { OnOk result (string_bytes text.new ≡ string_bytes text.old ++ update_word number) }
-{
-    push_known(update_word_in(number), number, text)
-}
-
-fn space_word_in(number: u8) -> &'static str
-    ensures { result.now ≡ word_in region_spaces number }
-{
-    word_in(&REGION_SPACES, number)
-}
-
-/// Adds the word of one of the address spaces.
-pub fn push_space_word(number: u8, text: &mut String) -> Result<(), AllocError>
-    ensures { OnOk result (string_bytes text.new ≡ string_bytes text.old ++ space_word number) }
-{
-    push_known(space_word_in(number), number, text)
-}
-
-fn object_word_in(number: u8) -> &'static str
-    ensures { result.now ≡ word_in object_types number }
-{
-    word_in(&OBJECT_TYPES, number)
-}
-
-/// Adds the word of one of the object types.
-pub fn push_object_word(number: u8, text: &mut String) -> Result<(), AllocError>
-    ensures { OnOk result (string_bytes text.new ≡ string_bytes text.old ++ object_word number) }
-{
-    push_known(object_word_in(number), number, text)
-}
-
-fn match_word_in(number: u8) -> &'static str
-    ensures { result.now ≡ word_in match_operators number }
-{
-    word_in(&MATCH_OPERATORS, number)
-}
-
-/// Adds the word of one of the ways in which Match compares.
-pub fn push_match_word(number: u8, text: &mut String) -> Result<(), AllocError>
-    ensures { OnOk result (string_bytes text.new ≡ string_bytes text.old ++ match_word number) }
-{
-    push_known(match_word_in(number), number, text)
 }
 
 /// The word of a method's serialization.

@@ -2,10 +2,12 @@
 use Rattle.std.specs.Prelude.{◌≡◌, ◌↔◌, ℕ, ◌≤◌, ◌⊎◌, ◌==◌, List, [], ◌∷◌, length, codes}
 use Rattle.std.specs.Prelude.{if◌then◌else◌, Option, Some, None, IsSome}
 use Rattle.acpi_base.specs.Bytes.{field_at}
-use Rattle.acpi_base.specs.Walk.{place_width, end_of, number_in, Tells, Walks, IsSound, find_row, walk_of, ArePiecesOf}
+use Rattle.acpi_base.specs.Walk.{place_width, end_of, number_in, Tells, Walks, IsSound, ArePieces, ArePiecesOf}
+use Rattle.acpi_base.specs.Walk.{named, find_row, walk_of, hest_walk}
 use Rattle.acpi_base.specs.declared.further_walk.FurtherWalk.{FurtherWalk}
 use Rattle.acpi_base.specs.declared.walk.Place.TheVariants.{Nowhere, Byte, Word, DWord}
-use Rattle.acpi_base.specs.declared.walk.Sizes.TheVariants.{EachOf, ToldAt}
+use Rattle.acpi_base.specs.declared.walk.Sizes.TheVariants.{EachOf, ToldAt, ByType}
+use Rattle.acpi_base.specs.declared.walk.Types.TheVariants.{AllSources}
 use Rattle.acpi_base.specs.declared.walk.Walk.{Walk}
 
 abbrev pub gtdt_walk : Walk
@@ -92,6 +94,18 @@ csrt_walk = record { start = 36; sizes = ToldAt (DWord 0); kind = Nowhere; count
 abbrev pub asf_walk : Walk
 asf_walk = record { start = 36; sizes = ToldAt (Word 2); kind = Byte 0; count = Nowhere; first = Nowhere }
 
+abbrev pub aspt_walk : Walk
+aspt_walk = record { start = 40; sizes = ToldAt (Word 2); kind = Word 0; count = DWord 36; first = Nowhere }
+
+abbrev pub iovt_walk : Walk
+iovt_walk = record { start = 48; sizes = ToldAt (Word 2); kind = Word 0; count = Word 36; first = Word 38 }
+
+abbrev pub mrrm_walk : Walk
+mrrm_walk = record { start = 64; sizes = ToldAt (Word 2); kind = Word 0; count = Nowhere; first = Nowhere }
+
+abbrev pub swft_walk : Walk
+swft_walk = record { start = 36; sizes = ToldAt (DWord 8); kind = Nowhere; count = Nowhere; first = Nowhere }
+
 abbrev pub further_walks : List (List ℕ × FurtherWalk)
 further_walks =
     (codes "GTDT", record { walk = gtdt_walk; least = 96 })
@@ -122,7 +136,18 @@ further_walks =
     ∷ (codes "APMT", record { walk = apmt_walk; least = 36 })
     ∷ (codes "CSRT", record { walk = csrt_walk; least = 36 })
     ∷ (codes "ASF!", record { walk = asf_walk; least = 36 })
+    ∷ (codes "ASPT", record { walk = aspt_walk; least = 40 })
+    ∷ (codes "IOVT", record { walk = iovt_walk; least = 48 })
+    ∷ (codes "MRRM", record { walk = mrrm_walk; least = 64 })
+    ∷ (codes "SWFT", record { walk = swft_walk; least = 36 })
     ∷ []
+
+abbrev pub full_hest_walk : Walk
+full_hest_walk = record hest_walk { sizes = ByType (Word 0) AllSources }
+
+-- the walk of a table of the Rust crate, with the structures that the crate doesn't write
+abbrev pub full_walk_of : ℕ → Option Walk
+full_walk_of s = if s == named (codes "HEST") then Some full_hest_walk else walk_of s
 
 -- the walk of the further tables of a signature
 abbrev pub further_walk_of : ℕ → Option FurtherWalk
@@ -169,18 +194,24 @@ AreFoundBy None f bytes pieces = FollowsBy f bytes pieces
 
 -- the pieces are the structures of any table
 abbrev pub AreStructuresOf : List ℕ → List (List ℕ) → Type 0
-AreStructuresOf bytes pieces = AreFoundBy (walk_of (field_at 0 4 bytes)) (further_walk_of (field_at 0 4 bytes)) bytes pieces
+AreStructuresOf bytes pieces = AreFoundBy (full_walk_of (field_at 0 4 bytes)) (further_walk_of (field_at 0 4 bytes)) bytes pieces
 
 -- Bytes have at most one list of structures.
 abbrev pub OneListOfStructures : Type 0
 OneListOfStructures =
     (bytes : List ℕ) (ps qs : List (List ℕ)) → AreStructuresOf bytes ps → AreStructuresOf bytes qs → ps ≡ qs
 
--- The structures of a table of the Rust crate are its pieces.
+-- The structures of a table of the Rust crate are its pieces, unless it is a HEST.
 abbrev pub StructuresArePieces : Type 0
 StructuresArePieces =
-    (bytes : List ℕ) → IsSome (walk_of (field_at 0 4 bytes))
+    (bytes : List ℕ) → IsSome (walk_of (field_at 0 4 bytes)) → (field_at 0 4 bytes ≡ named (codes "HEST") → ⊥)
     → (pieces : List (List ℕ)) → AreStructuresOf bytes pieces ↔ ArePiecesOf bytes pieces
+
+-- The pieces of a HEST are its structures, if each of these is one that the Rust crate writes.
+abbrev pub SourcesArePieces : Type 0
+SourcesArePieces =
+    (bytes : List ℕ) → field_at 0 4 bytes ≡ named (codes "HEST")
+    → (pieces : List (List ℕ)) → ArePiecesOf bytes pieces ↔ (AreStructuresOf bytes pieces × ArePieces hest_walk.sizes pieces)
 
 -- the walk of the tables of a signature, in either list
 abbrev pub either_walk : Option Walk → Option FurtherWalk → Option Walk
@@ -189,4 +220,4 @@ either_walk None (Some f) = Some f.walk
 either_walk None None = None
 
 abbrev pub table_walk_of : ℕ → Option Walk
-table_walk_of s = either_walk (walk_of s) (further_walk_of s)
+table_walk_of s = either_walk (full_walk_of s) (further_walk_of s)

@@ -2,11 +2,12 @@
 
 ghost use Rattle.std.specs.Prelude.{◌≡◌, ◌↔◌, ◌≤◌, length, IsTrue, IfSome};
 ghost use Rattle.acpi_base.specs.Walk.{IsSound};
-ghost use Rattle.acpi_base.specs.FurtherWalk.{begin_of, further_walk_of, table_walk_of, walk_from, HasNone, IsSoundFurther};
+ghost use Rattle.acpi_base.specs.FurtherWalk.{begin_of, full_walk_of, further_walk_of, table_walk_of, walk_from};
+ghost use Rattle.acpi_base.specs.FurtherWalk.{HasNone, IsSoundFurther};
 
 use crate::walk::Place::{self, Byte, DWord, Nowhere, Word};
-use crate::walk::Sizes::{EachOf, ToldAt};
-use crate::walk::{Walk, find_row, walk_of};
+use crate::walk::Sizes::{ByType, EachOf, ToldAt};
+use crate::walk::{Types, Walk, find_row, walk_of};
 
 /// How the structures of a further table are found. If the walk has a field for the offset of the first, they begin there.
 #[derive(Clone, Copy, Debug)]
@@ -19,7 +20,7 @@ pub struct FurtherWalk {
 
 // The walks of the further tables that have structures, by signature.
 #[rattlefmt::skip]
-const FURTHER_WALKS: [([u8; 4], FurtherWalk); 28] = [
+const FURTHER_WALKS: [([u8; 4], FurtherWalk); 32] = [
     (*b"GTDT", FurtherWalk {
         walk: Walk { start: 104, sizes: ToldAt(Word(1)), kind: Byte(0), count: DWord(88), first: DWord(92) },
         least: 96,
@@ -132,7 +133,45 @@ const FURTHER_WALKS: [([u8; 4], FurtherWalk); 28] = [
         walk: Walk { start: 36, sizes: ToldAt(Word(2)), kind: Byte(0), count: Nowhere, first: Nowhere },
         least: 36,
     }),
+    (*b"ASPT", FurtherWalk {
+        walk: Walk { start: 40, sizes: ToldAt(Word(2)), kind: Word(0), count: DWord(36), first: Nowhere },
+        least: 40,
+    }),
+    (*b"IOVT", FurtherWalk {
+        walk: Walk { start: 48, sizes: ToldAt(Word(2)), kind: Word(0), count: Word(36), first: Word(38) },
+        least: 48,
+    }),
+    (*b"MRRM", FurtherWalk {
+        walk: Walk { start: 64, sizes: ToldAt(Word(2)), kind: Word(0), count: Nowhere, first: Nowhere },
+        least: 64,
+    }),
+    (*b"SWFT", FurtherWalk {
+        walk: Walk { start: 36, sizes: ToldAt(DWord(8)), kind: Nowhere, count: Nowhere, first: Nowhere },
+        least: 36,
+    }),
 ];
+
+// HEST with all error sources.
+const FULL_HEST: Walk = Walk {
+    start: 40,
+    sizes: ByType(Word(0), Types::AllSources),
+    kind: Word(0),
+    count: DWord(36),
+    first: Nowhere,
+};
+
+/// The walk of the tables of a signature, if they are tables of the Rust crate that have structures, with the structures that the
+/// crate doesn't write. Only the HEST has such ones that its own walk doesn't find. The signature is a number, lowest byte first.
+pub fn full_walk_of(signature: u32) -> Option<Walk>
+    ensures walk { result ≡ full_walk_of signature }
+    ensures sound { IfSome result IsSound }
+{
+    if signature == u32::from_le_bytes(*b"HEST") {
+        Some(FULL_HEST)
+    } else {
+        walk_of(signature)
+    }
+}
 
 /// The walk of the further tables of a signature, if they have structures. The signature is a number, lowest byte first.
 pub fn further_walk_of(signature: u32) -> Option<FurtherWalk>
@@ -146,7 +185,7 @@ pub fn further_walk_of(signature: u32) -> Option<FurtherWalk>
 pub fn table_walk_of(signature: u32) -> Option<Walk>
     ensures { result ≡ table_walk_of signature }
 {
-    match walk_of(signature) {
+    match full_walk_of(signature) {
         Some(walk) => Some(walk),
         None => match further_walk_of(signature) {
             Some(further) => Some(further.walk),

@@ -5,7 +5,7 @@ ghost use Rattle.acpi_base.specs.Laws.{WritesJoin, NothingChangesNothing, Fronts
 ghost use Rattle.acpi_base.specs.Laws.{ValueMakesZero, WordsAreBytes, TablesAreTrue, AddedIsTrue, OverwrittenSumsToZero};
 ghost use Rattle.acpi_base.specs.Laws.{AddedAtOnce, AddedEnds, SdtsAreTheirCalls};
 ghost use Rattle.acpi_base.specs.Walk.{OneWalk, OneListOfPieces};
-ghost use Rattle.acpi_base.specs.FurtherWalk.{OneListOfStructures, StructuresArePieces};
+ghost use Rattle.acpi_base.specs.FurtherWalk.{OneListOfStructures, StructuresArePieces, SourcesArePieces};
 
 pub use crate::derived::{defaults_are_these, equal_values_are_the_same};
 use crate::object::Aml;
@@ -100,7 +100,9 @@ pub fn at_most_one_list_of_structures()
     ensures { OneListOfStructures }
 {}
 
-/// The structures of a table of the Rust crate are its pieces.
+/// The structures of a table of the Rust crate are its pieces. In a HEST this holds if the crate writes each of its error
+/// sources.
 pub fn structures_are_pieces()
-    ensures { StructuresArePieces }
+    ensures others { StructuresArePieces }
+    ensures sources { SourcesArePieces }
 {}

@@ -89,7 +89,7 @@ within (Elements n) bytes = n ∷ bytes
 within Descriptors bytes = number (length (template_bytes bytes)) ++ template_bytes bytes
 
 abbrev pub closed_into : List Level → Writing → Block
-closed_into [] w = Err errors.NothingOpen
+closed_into [] w = Err errors.NoneOpen
 closed_into (level ∷ outer) w = with_object (frame [] (within w.level.content (drop w.level.start w.bytes))) (record {
   bytes = take w.level.start w.bytes;
   level = level;

@@ -7,5 +7,5 @@ use Rattle.acpi_build.specs.declared.error.BuildError.TheVariants as errors
 abbrev pub text_of : BuildError → List ℕ
 text_of (errors.Object e) = base.text_of e
 text_of errors.Operands = codes "an operator has another number of operands"
-text_of errors.NothingOpen = codes "no object is open"
+text_of errors.NoneOpen = codes "no object is open"
 text_of errors.StillOpen = codes "an object is still open"

@@ -4,8 +4,8 @@ ghost use Rattle.std.specs.Prelude.{◌≡◌, [], ◌∷◌, map, Ok};
 ghost use Rattle.acpi_term.specs.declared.op.Op.TheVariants.{Return};
 ghost use Rattle.acpi_term.specs.Tree.{op};
 ghost use Rattle.acpi_term.specs.Row.{row};
-ghost use Rattle.acpi_build.specs.Block.{empty, with_object, with_name, with_call, with_scope, with_device, with_power_resource, with_method};
-ghost use Rattle.acpi_build.specs.Block.{with_external, with_operator, with_thermal_zone, with_processor};
+ghost use Rattle.acpi_build.specs.Block.{empty, with_object, with_name, with_call, with_scope, with_device, with_method};
+ghost use Rattle.acpi_build.specs.Block.{with_external, with_operator, with_power_resource, with_thermal_zone, with_processor};
 ghost use Rattle.acpi_build.specs.Block.{with_package, with_named_package, with_resources, with_if, with_while, with_else};
 ghost use Rattle.acpi_build.specs.Block.{closed, finished_block, kept, out_of_memory, seen};
 ghost use Rattle.acpi_build.specs.Block.{with_region, with_field, with_mutex, with_acquire, with_release};
@@ -22,8 +22,8 @@ use std::alloc::Global;
 use std::marker::Model;
 
 /// Terms that are written call by call (ACPI 6.5, 20.2.5). A call that begins an object is followed by calls for what is in it,
-/// and then by `end`. No call returns an error: the block keeps the first one, the calls after it do nothing, and `finish` returns
-/// it.
+/// and then by `end`. No call returns an error: the block keeps the first one, the calls after it do nothing, and `finish`
+/// returns it.
 #[derive(Drop)]
 pub struct Block {
     writer: Writer,
@@ -91,8 +91,8 @@ impl Block {
         }
     }
 
-    /// Declares an object of another block: its type (ACPI 6.5, 19.6.46), and the number of arguments if it is a method (20.2.5.1,
-    /// DefExternal). Its errors are those of `name`.
+    /// Declares an object of another block (ACPI 6.5, 20.2.5.1, DefExternal): its type (19.6.46), and the number of arguments if
+    /// it is a method. Its errors are those of `name`.
     pub fn external(&mut self, path: &str, kind: u8, args: u8)
         ensures { Does out_of_memory (with_external path.now kind args) self.old self.new }
     {
@@ -102,8 +102,8 @@ impl Block {
         }
     }
 
-    /// Adds a region of an address space (ACPI 6.5, 20.2.5.2, DefOpRegion). Offset and length are in bytes. Its errors are those of
-    /// `name`, and then that of the offset or of the length.
+    /// Adds a region of an address space (ACPI 6.5, 20.2.5.2, DefOpRegion). Offset and length are in bytes. Its errors are those
+    /// of `name`, and then that of the offset or of the length.
     pub fn region(&mut self, path: &str, space: OpRegionSpace, offset: &dyn Aml, length: &dyn Aml)
         ensures { Does out_of_memory (with_region path.now space (object offset.now) (object length.now)) self.old self.new }
     {
@@ -113,8 +113,8 @@ impl Block {
         }
     }
 
-    /// Adds names for bits of a region (ACPI 6.5, 20.2.5.2, DefField). Its errors are those of `name`, and `PkgLength` if an entry
-    /// has 2^28 bits or more.
+    /// Adds names for bits of a region (ACPI 6.5, 20.2.5.2, DefField). Its errors are those of `name`, and `PkgLength` if an
+    /// entry has 2^28 bits or more.
     pub fn field(
         &mut self,
         path: &str,
@@ -162,8 +162,8 @@ impl Block {
         }
     }
 
-    /// Adds an operator and its operands, in the order of their bytes (ACPI 6.5, 20.2.5). The error is `Operands` if it has another
-    /// number of operands; otherwise it is that of the first operand that fails.
+    /// Adds an operator and its operands, in the order of their bytes (ACPI 6.5, 20.2.5). The error is `Operands` if it has
+    /// another number of operands; otherwise it is that of the first operand that fails.
     pub fn operate(&mut self, operator: Op, operands: &[&dyn Aml])
         ensures { Does out_of_memory (with_operator operator (map (λ a. object a.now) operands.now)) self.old self.new }
     {
@@ -224,8 +224,8 @@ impl Block {
         }
     }
 
-    /// Begins a power resource (ACPI 6.5, 20.2.5.2, DefPowerRes). `level` is the deepest sleep level in which it has to stay on, and
-    /// `order` its place in the order of power resources. Its errors are those of `scope`.
+    /// Begins a power resource (ACPI 6.5, 20.2.5.2, DefPowerRes). `level` is the deepest sleep level in which it has to stay on,
+    /// and `order` its place in the order of power resources. Its errors are those of `scope`.
     pub fn power_resource(&mut self, path: &str, level: u8, order: u16)
         ensures { Does out_of_memory (with_power_resource path.now level order) self.old self.new }
     {
@@ -246,8 +246,8 @@ impl Block {
         }
     }
 
-    /// Begins a package, as an object of its own (ACPI 6.5, 20.2.5.4, DefPackage). Each object that is added is an element, and their
-    /// number is written at the end. There are at most 255.
+    /// Begins a package without a name (ACPI 6.5, 20.2.5.4, DefPackage). Each object that is added is an element, and their number
+    /// is written at the end. There are at most 255.
     pub fn package(&mut self)
         ensures { Does out_of_memory (λ w. Ok (with_package w)) self.old self.new }
     {
@@ -267,8 +267,8 @@ impl Block {
         }
     }
 
-    /// Begins a buffer of resource descriptors that has a name, such as `_CRS` (ACPI 6.5, 6.4 and 19.6.120). The end tag is written
-    /// at the end, and its checksum is 0, which means that it isn't checked. The errors are those of `scope`.
+    /// Begins a buffer of resource descriptors that has a name, such as `_CRS` (ACPI 6.5, 6.4 and 19.6.120). The end tag is
+    /// written at the end, and its checksum is 0, which means that it isn't checked. The errors are those of `scope`.
     pub fn resources(&mut self, path: &str)
         ensures { Does out_of_memory (with_resources path.now) self.old self.new }
     {
@@ -309,7 +309,7 @@ impl Block {
         }
     }
 
-    /// Ends the object that was begun last. The error is `NothingOpen` if there is none, `PkgLength` from 2^28 bytes on, or
+    /// Ends the object that was begun last. The error is `NoneOpen` if there is none, `PkgLength` from 2^28 bytes on, or
     /// `PackageElements` if it is the 256th element of a package.
     pub fn end(&mut self)
         ensures { Does out_of_memory closed self.old self.new }

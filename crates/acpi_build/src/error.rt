@@ -17,7 +17,7 @@ pub enum BuildError {
     /// An operator has another number of operands.
     Operands,
     /// A call of `end` has no open object.
-    NothingOpen,
+    NoneOpen,
     /// An object is still open at the end.
     StillOpen,
 }
@@ -30,7 +30,7 @@ impl fmt::Display for BuildError {
         match self {
             BuildError::Object(error) => write!(f, "{error}"),
             BuildError::Operands => write!(f, "an operator has another number of operands"),
-            BuildError::NothingOpen => write!(f, "no object is open"),
+            BuildError::NoneOpen => write!(f, "no object is open"),
             BuildError::StillOpen => write!(f, "an object is still open"),
         }
     }

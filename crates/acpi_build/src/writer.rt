@@ -3,8 +3,8 @@
 ghost use Rattle.std.specs.Prelude.{◌≡◌, ◌≤◌, ◌++◌, [], ◌∷◌, length, take, drop, map, Ok, OnOk, IfErr};
 ghost use Rattle.acpi_base.specs.Object.{whole, Appended, IsOwnEnd};
 ghost use Rattle.acpi_term.specs.Row.{frame};
-ghost use Rattle.acpi_build.specs.Block.{empty, within, with_object, with_name, with_call, with_method, with_power_resource, opened, closed};
-ghost use Rattle.acpi_build.specs.Block.{with_region, with_field, with_mutex, with_acquire, with_release};
+ghost use Rattle.acpi_build.specs.Block.{empty, within, with_object, with_name, with_call, with_method, opened, closed};
+ghost use Rattle.acpi_build.specs.Block.{with_power_resource, with_region, with_field, with_mutex, with_acquire, with_release};
 ghost use Rattle.acpi_build.specs.Block.{with_external, with_operator, with_processor, at_path, finished, seen, IsStep};
 ghost use Rattle.acpi_build.specs.declared.level.Content.TheVariants as Content;
 
@@ -340,7 +340,7 @@ impl Writer {
         ensures { IsStep (closed self.old) self.new result }
     {
         let Some(outer) = self.outer.pop() else {
-            return Err(BuildError::NothingOpen);
+            return Err(BuildError::NoneOpen);
         };
         let level = self.level;
         self.level = outer.counted()?;

@@ -20,6 +20,7 @@ uint32_t hyssop_export_check_image(const void *bytes, size_t bytes_size, uint64_
 uint32_t hyssop_export_image_tables(const void *bytes, size_t bytes_size, uint64_t base, uint64_t rsdp,
                                     struct hyssop_image_table *out, size_t out_size, size_t *size, uint64_t *place);
 uint32_t hyssop_export_show(const void *bytes, size_t bytes_size, void *out, size_t out_size, size_t *size, uint64_t *place);
+uint32_t hyssop_export_findings(const void *bytes, size_t bytes_size, void *out, size_t out_size, size_t *size, uint64_t *place);
 uint32_t hyssop_export_make(const void *text, size_t text_size, void *out, size_t out_size, size_t *size, uint64_t *place);
 uint32_t hyssop_export_make_notes(const void *text, size_t text_size, struct hyssop_note *out, size_t out_size, size_t *size,
                                   uint64_t *place);
@@ -33,6 +34,8 @@ uint32_t hyssop_export_open_thermal_zone(void *bytes, size_t bytes_size, struct 
                                          size_t path_size);
 uint32_t hyssop_export_open_power_resource(void *bytes, size_t bytes_size, struct hyssop_state *state, const void *path,
                                            size_t path_size, uint8_t level, uint16_t order);
+uint32_t hyssop_export_open_processor(void *bytes, size_t bytes_size, struct hyssop_state *state, const void *path,
+                                      size_t path_size, uint8_t id, uint32_t address, uint8_t size);
 uint32_t hyssop_export_open_method(void *bytes, size_t bytes_size, struct hyssop_state *state, const void *path, size_t path_size,
                                    uint8_t arguments, bool serialized);
 uint32_t hyssop_export_open_package(void *bytes, size_t bytes_size, struct hyssop_state *state, uint8_t elements);
@@ -41,8 +44,28 @@ uint32_t hyssop_export_open_else(void *bytes, size_t bytes_size, struct hyssop_s
 uint32_t hyssop_export_open_while(void *bytes, size_t bytes_size, struct hyssop_state *state);
 uint32_t hyssop_export_open_buffer(void *bytes, size_t bytes_size, struct hyssop_state *state);
 uint32_t hyssop_export_open_resources(void *bytes, size_t bytes_size, struct hyssop_state *state);
+uint32_t hyssop_export_open_field(void *bytes, size_t bytes_size, struct hyssop_state *state, const void *region,
+                                  size_t region_size, uint32_t access, bool lock, uint32_t update);
+uint32_t hyssop_export_open_index_field(void *bytes, size_t bytes_size, struct hyssop_state *state, const void *index_name,
+                                        size_t index_name_size, const void *data_name, size_t data_name_size, uint32_t access,
+                                        bool lock, uint32_t update);
 uint32_t hyssop_export_close(void *bytes, size_t bytes_size, struct hyssop_state *state);
 uint32_t hyssop_export_name(void *bytes, size_t bytes_size, struct hyssop_state *state, const void *path, size_t path_size);
+uint32_t hyssop_export_field_unit(void *bytes, size_t bytes_size, struct hyssop_state *state, const void *name, size_t name_size,
+                                  uint32_t bits);
+uint32_t hyssop_export_field_gap(void *bytes, size_t bytes_size, struct hyssop_state *state, uint32_t bits);
+uint32_t hyssop_export_region(void *bytes, size_t bytes_size, struct hyssop_state *state, const void *path, size_t path_size,
+                              uint8_t space);
+uint32_t hyssop_export_mutex(void *bytes, size_t bytes_size, struct hyssop_state *state, const void *path, size_t path_size,
+                             uint8_t sync_level);
+uint32_t hyssop_export_acquire(void *bytes, size_t bytes_size, struct hyssop_state *state, const void *mutex, size_t mutex_size,
+                               uint16_t timeout);
+uint32_t hyssop_export_release(void *bytes, size_t bytes_size, struct hyssop_state *state, const void *mutex, size_t mutex_size);
+uint32_t hyssop_export_event(void *bytes, size_t bytes_size, struct hyssop_state *state, const void *path, size_t path_size);
+uint32_t hyssop_export_alias(void *bytes, size_t bytes_size, struct hyssop_state *state, const void *source, size_t source_size,
+                             const void *name, size_t name_size);
+uint32_t hyssop_export_external(void *bytes, size_t bytes_size, struct hyssop_state *state, const void *path, size_t path_size,
+                                uint8_t kind, uint8_t arguments);
 uint32_t hyssop_export_path(void *bytes, size_t bytes_size, struct hyssop_state *state, const void *name, size_t name_size);
 uint32_t hyssop_export_integer(void *bytes, size_t bytes_size, struct hyssop_state *state, uint64_t value);
 uint32_t hyssop_export_string(void *bytes, size_t bytes_size, struct hyssop_state *state, const void *text, size_t text_size);

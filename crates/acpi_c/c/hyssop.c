@@ -139,6 +139,15 @@ enum hyssop_fault hyssop_show(const void *bytes, size_t bytes_size, char *out, s
                                                  place_or(place, &unwanted));
 }
 
+enum hyssop_fault hyssop_findings(const void *bytes, size_t bytes_size, char *out, size_t out_size, size_t *size,
+                                  uint64_t *place) {
+    struct unwanted unwanted;
+    if (is_null(bytes, bytes_size) || is_null(out, out_size))
+        return null(size, place);
+    return (enum hyssop_fault)hyssop_export_findings(input(bytes), bytes_size, output(out), out_size, size_or(size, &unwanted),
+                                                     place_or(place, &unwanted));
+}
+
 enum hyssop_fault hyssop_make(const char *text, size_t text_size, void *out, size_t out_size, size_t *size, uint64_t *place) {
     struct unwanted unwanted;
     if (is_null(text, text_size) || is_null(out, out_size))
@@ -212,6 +221,14 @@ enum hyssop_fault hyssop_open_power_resource(struct hyssop_writer *writer, const
                                                                 strlen(path), level, order);
 }
 
+enum hyssop_fault hyssop_open_processor(struct hyssop_writer *writer, const char *path, uint8_t id, uint32_t address,
+                                        uint8_t size) {
+    if (is_unusable(writer) || path == NULL)
+        return null_of(writer);
+    return (enum hyssop_fault)hyssop_export_open_processor(output(writer->bytes), writer->bytes_size, &writer->state, path,
+                                                           strlen(path), id, address, size);
+}
+
 enum hyssop_fault hyssop_open_method(struct hyssop_writer *writer, const char *path, uint8_t arguments, int serialized) {
     if (is_unusable(writer) || path == NULL)
         return null_of(writer);
@@ -255,6 +272,23 @@ enum hyssop_fault hyssop_open_resources(struct hyssop_writer *writer) {
     return (enum hyssop_fault)hyssop_export_open_resources(output(writer->bytes), writer->bytes_size, &writer->state);
 }
 
+enum hyssop_fault hyssop_open_field(struct hyssop_writer *writer, const char *region, uint32_t access, int lock,
+                                    uint32_t update) {
+    if (is_unusable(writer) || region == NULL)
+        return null_of(writer);
+    return (enum hyssop_fault)hyssop_export_open_field(output(writer->bytes), writer->bytes_size, &writer->state, region,
+                                                       strlen(region), access, lock != 0, update);
+}
+
+enum hyssop_fault hyssop_open_index_field(struct hyssop_writer *writer, const char *index_name, const char *data_name,
+                                          uint32_t access, int lock, uint32_t update) {
+    if (is_unusable(writer) || index_name == NULL || data_name == NULL)
+        return null_of(writer);
+    return (enum hyssop_fault)hyssop_export_open_index_field(output(writer->bytes), writer->bytes_size, &writer->state,
+                                                             index_name, strlen(index_name), data_name, strlen(data_name),
+                                                             access, lock != 0, update);
+}
+
 enum hyssop_fault hyssop_close(struct hyssop_writer *writer) {
     if (is_unusable(writer))
         return null_of(writer);
@@ -265,6 +299,67 @@ enum hyssop_fault hyssop_name(struct hyssop_writer *writer, const char *path) {
     if (is_unusable(writer) || path == NULL)
         return null_of(writer);
     return (enum hyssop_fault)hyssop_export_name(output(writer->bytes), writer->bytes_size, &writer->state, path, strlen(path));
+}
+
+enum hyssop_fault hyssop_field_unit(struct hyssop_writer *writer, const char *name, uint32_t bits) {
+    if (is_unusable(writer) || name == NULL)
+        return null_of(writer);
+    return (enum hyssop_fault)hyssop_export_field_unit(output(writer->bytes), writer->bytes_size, &writer->state, name,
+                                                       strlen(name), bits);
+}
+
+enum hyssop_fault hyssop_field_gap(struct hyssop_writer *writer, uint32_t bits) {
+    if (is_unusable(writer))
+        return null_of(writer);
+    return (enum hyssop_fault)hyssop_export_field_gap(output(writer->bytes), writer->bytes_size, &writer->state, bits);
+}
+
+enum hyssop_fault hyssop_region(struct hyssop_writer *writer, const char *path, uint8_t space) {
+    if (is_unusable(writer) || path == NULL)
+        return null_of(writer);
+    return (enum hyssop_fault)hyssop_export_region(output(writer->bytes), writer->bytes_size, &writer->state, path, strlen(path),
+                                                   space);
+}
+
+enum hyssop_fault hyssop_mutex(struct hyssop_writer *writer, const char *path, uint8_t sync_level) {
+    if (is_unusable(writer) || path == NULL)
+        return null_of(writer);
+    return (enum hyssop_fault)hyssop_export_mutex(output(writer->bytes), writer->bytes_size, &writer->state, path, strlen(path),
+                                                  sync_level);
+}
+
+enum hyssop_fault hyssop_acquire(struct hyssop_writer *writer, const char *mutex, uint16_t timeout) {
+    if (is_unusable(writer) || mutex == NULL)
+        return null_of(writer);
+    return (enum hyssop_fault)hyssop_export_acquire(output(writer->bytes), writer->bytes_size, &writer->state, mutex,
+                                                    strlen(mutex), timeout);
+}
+
+enum hyssop_fault hyssop_release(struct hyssop_writer *writer, const char *mutex) {
+    if (is_unusable(writer) || mutex == NULL)
+        return null_of(writer);
+    return (enum hyssop_fault)hyssop_export_release(output(writer->bytes), writer->bytes_size, &writer->state, mutex,
+                                                    strlen(mutex));
+}
+
+enum hyssop_fault hyssop_event(struct hyssop_writer *writer, const char *path) {
+    if (is_unusable(writer) || path == NULL)
+        return null_of(writer);
+    return (enum hyssop_fault)hyssop_export_event(output(writer->bytes), writer->bytes_size, &writer->state, path, strlen(path));
+}
+
+enum hyssop_fault hyssop_alias(struct hyssop_writer *writer, const char *source, const char *name) {
+    if (is_unusable(writer) || source == NULL || name == NULL)
+        return null_of(writer);
+    return (enum hyssop_fault)hyssop_export_alias(output(writer->bytes), writer->bytes_size, &writer->state, source,
+                                                  strlen(source), name, strlen(name));
+}
+
+enum hyssop_fault hyssop_external(struct hyssop_writer *writer, const char *path, uint8_t kind, uint8_t arguments) {
+    if (is_unusable(writer) || path == NULL)
+        return null_of(writer);
+    return (enum hyssop_fault)hyssop_export_external(output(writer->bytes), writer->bytes_size, &writer->state, path,
+                                                     strlen(path), kind, arguments);
 }
 
 enum hyssop_fault hyssop_path(struct hyssop_writer *writer, const char *name) {

@@ -9,6 +9,7 @@
 #define SCI_INTERRUPT 9
 #define SERIAL_PORT 0x3f8
 #define SERIAL_INTERRUPT 4
+#define PROCESSOR_PORT 0x620
 
 static uint8_t tables[1 << 16], image[1 << 17];
 static size_t tables_size;
@@ -74,7 +75,17 @@ static void add_serial_port(struct hyssop_writer *writer) {
     hyssop_close(writer);
 }
 
-/* A processor, whose method _STA says whether its bit is set in a mask. */
+/* The register of the monitor in which each processor has a bit. */
+static void add_mask(struct hyssop_writer *writer) {
+    hyssop_region(writer, "REGS", HYSSOP_SPACE_SYSTEM_IO);
+    hyssop_integer(writer, PROCESSOR_PORT);
+    hyssop_integer(writer, 4);
+    hyssop_open_field(writer, "REGS", HYSSOP_ACCESS_DWORD, 0, HYSSOP_UPDATE_PRESERVE);
+    hyssop_field_unit(writer, "MASK", 32);
+    hyssop_close(writer);
+}
+
+/* A processor, whose method _STA says whether its bit is set in the mask. */
 static void add_processor(struct hyssop_writer *writer, unsigned number) {
     char name[5];
     snprintf(name, sizeof name, "C%03X", number & 0xfff);
@@ -104,8 +115,7 @@ static void make_dsdt(void) {
     size_t start = tables_size;
     begin(&writer, "DSDT", 2);
     hyssop_open_scope(&writer, "\\_SB_");
-    hyssop_name(&writer, "MASK");
-    hyssop_integer(&writer, (1u << PROCESSORS) - 1);
+    add_mask(&writer);
     add_bridge(&writer);
     add_serial_port(&writer);
     for (unsigned i = 0; i < PROCESSORS; i++)

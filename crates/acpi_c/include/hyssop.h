@@ -32,7 +32,7 @@ extern "C" {
 #endif
 
 /* hyssop_version() returns this, if the library fits this header. It grows when a function or a fault changes. */
-#define HYSSOP_VERSION 4
+#define HYSSOP_VERSION 5
 
 /* The type of a structure, if the structures of its table have none. */
 #define HYSSOP_NO_KIND SIZE_MAX
@@ -166,6 +166,37 @@ enum hyssop_memory_type {
     HYSSOP_MEMORY_PREFETCHABLE = 3
 };
 
+/* The address spaces of regions (20.2.5.2, RegionSpace). From 0x80 on they are those of an OEM. */
+enum hyssop_space {
+    HYSSOP_SPACE_SYSTEM_MEMORY = 0,
+    HYSSOP_SPACE_SYSTEM_IO = 1,
+    HYSSOP_SPACE_PCI_CONFIG = 2,
+    HYSSOP_SPACE_EMBEDDED_CONTROL = 3,
+    HYSSOP_SPACE_SMBUS = 4,
+    HYSSOP_SPACE_SYSTEM_CMOS = 5,
+    HYSSOP_SPACE_PCI_BAR_TARGET = 6,
+    HYSSOP_SPACE_IPMI = 7,
+    HYSSOP_SPACE_GENERAL_PURPOSE_IO = 8,
+    HYSSOP_SPACE_GENERIC_SERIAL_BUS = 9
+};
+
+/* The width of the accesses to a field (20.2.5.2, AccessType). */
+enum hyssop_access {
+    HYSSOP_ACCESS_ANY = 0,
+    HYSSOP_ACCESS_BYTE = 1,
+    HYSSOP_ACCESS_WORD = 2,
+    HYSSOP_ACCESS_DWORD = 3,
+    HYSSOP_ACCESS_QWORD = 4,
+    HYSSOP_ACCESS_BUFFER = 5
+};
+
+/* What an access to a field writes to the bits that don't belong to it (20.2.5.2, UpdateRule). */
+enum hyssop_update {
+    HYSSOP_UPDATE_PRESERVE = 0,
+    HYSSOP_UPDATE_WRITE_AS_ONES = 1,
+    HYSSOP_UPDATE_WRITE_AS_ZEROES = 2
+};
+
 /* The operators (20.2.5), by the names of ASL in upper case. The number is the opcode (20.3). Operands follow an operator in the
    order of 20.2.5, and its target after them. The integer 0 is no target. LNotEqual, LLessEqual and LGreaterEqual are LNOT and
    then LEQUAL, LGREATER and LLESS. */
@@ -232,8 +263,13 @@ HYSSOP_RESULT enum hyssop_fault hyssop_image_tables(const void *bytes, size_t by
 HYSSOP_RESULT enum hyssop_fault hyssop_show(const void *bytes, size_t bytes_size, char *out, size_t out_size, size_t *size,
                                             uint64_t *place);
 
-/* Writes the table of such a text. What the text leaves out is worked out, such as its length and checksum. *place is a line,
-   counted from 1. */
+/* Writes the rules of the standard that a table breaks, or an RSDP or a FACS: a line for each, as acpitool check prints them
+   after the name of a file. A table that breaks none has no line. *place is an offset. */
+HYSSOP_RESULT enum hyssop_fault hyssop_findings(const void *bytes, size_t bytes_size, char *out, size_t out_size, size_t *size,
+                                                uint64_t *place);
+
+/* Writes the table of a text that hyssop_show wrote, or one like it. What the text leaves out is worked out, such as its length
+   and checksum. *place is a line, counted from 1. */
 HYSSOP_RESULT enum hyssop_fault hyssop_make(const char *text, size_t text_size, void *out, size_t out_size, size_t *size,
                                             uint64_t *place);
 
@@ -266,6 +302,11 @@ enum hyssop_fault hyssop_open_thermal_zone(struct hyssop_writer *writer, const c
    order. */
 enum hyssop_fault hyssop_open_power_resource(struct hyssop_writer *writer, const char *path, uint8_t level, uint16_t order);
 
+/* Opens a processor (20.2.5.2, DefProcessor): its id in the MADT, and the address and the length of its register block. The
+   standard has a device with the id ACPI0007 in place of it. */
+enum hyssop_fault hyssop_open_processor(struct hyssop_writer *writer, const char *path, uint8_t id, uint32_t address,
+                                        uint8_t size);
+
 /* Opens a method of 0 to 7 arguments (20.2.5.2, DefMethod). */
 enum hyssop_fault hyssop_open_method(struct hyssop_writer *writer, const char *path, uint8_t arguments, int serialized);
 
@@ -287,11 +328,49 @@ enum hyssop_fault hyssop_open_buffer(struct hyssop_writer *writer);
 /* Opens a buffer of resource descriptors, which follow (6.4). Closing it writes the end tag, too. */
 enum hyssop_fault hyssop_open_resources(struct hyssop_writer *writer);
 
+/* Opens a field of a region, whose units and gaps follow (20.2.5.2, DefField): a HYSSOP_ACCESS_.., whether an access takes the
+   global lock, and a HYSSOP_UPDATE_.. */
+enum hyssop_fault hyssop_open_field(struct hyssop_writer *writer, const char *region, uint32_t access, int lock,
+                                    uint32_t update);
+
+/* Opens a field that is reached by an index (20.2.5.2, DefIndexField): the field to which an index is written, and that of
+   the data. All else is as for hyssop_open_field. */
+enum hyssop_fault hyssop_open_index_field(struct hyssop_writer *writer, const char *index_name, const char *data_name,
+                                          uint32_t access, int lock, uint32_t update);
+
 /* Closes the object that was opened last: its PkgLength gets the least width (20.2.4). */
 enum hyssop_fault hyssop_close(struct hyssop_writer *writer);
 
 /* Gives a name to the object that follows (20.2.5.1, DefName). */
 enum hyssop_fault hyssop_name(struct hyssop_writer *writer, const char *path);
+
+/* Writes a name of four characters for the next bits of the open field (20.2.5.2, NamedField). */
+enum hyssop_fault hyssop_field_unit(struct hyssop_writer *writer, const char *name, uint32_t bits);
+
+/* Leaves out the next bits of the open field (20.2.5.2, ReservedField). */
+enum hyssop_fault hyssop_field_gap(struct hyssop_writer *writer, uint32_t bits);
+
+/* Begins a region of an address space, a HYSSOP_SPACE_.. (20.2.5.2, DefOpRegion). Its offset and its length in bytes follow: two
+   numbers, or other terms. */
+enum hyssop_fault hyssop_region(struct hyssop_writer *writer, const char *path, uint8_t space);
+
+/* Writes a mutex, with its sync level from 0 to 15 (20.2.5.2, DefMutex). */
+enum hyssop_fault hyssop_mutex(struct hyssop_writer *writer, const char *path, uint8_t sync_level);
+
+/* Acquires a mutex, within so many milliseconds; 0xffff has no limit (20.2.5.4, DefAcquire). */
+enum hyssop_fault hyssop_acquire(struct hyssop_writer *writer, const char *mutex, uint16_t timeout);
+
+/* Releases a mutex (20.2.5.3, DefRelease). */
+enum hyssop_fault hyssop_release(struct hyssop_writer *writer, const char *mutex);
+
+/* Writes an event (20.2.5.2, DefEvent). */
+enum hyssop_fault hyssop_event(struct hyssop_writer *writer, const char *path);
+
+/* Gives the object `source` a second name (20.2.5.1, DefAlias). */
+enum hyssop_fault hyssop_alias(struct hyssop_writer *writer, const char *source, const char *name);
+
+/* Declares an object of another block (20.2.5.1, DefExternal): its type (19.6.46), and how many arguments it has as a method. */
+enum hyssop_fault hyssop_external(struct hyssop_writer *writer, const char *path, uint8_t kind, uint8_t arguments);
 
 /* Writes a name: an operand, or a call of a method, whose arguments follow (20.2.2, NameString). */
 enum hyssop_fault hyssop_path(struct hyssop_writer *writer, const char *name);

@@ -129,6 +129,13 @@ static uint32_t show(const void *bytes, size_t bytes_size, size_t out_size) {
     return kept(hyssop_show(put(input, bytes, bytes_size), bytes_size, (char *)out, out_size, &size, &place), out, out_size, 1);
 }
 
+static uint32_t findings(const void *bytes, size_t bytes_size, size_t out_size) {
+    uint8_t *out = blank(out_size);
+    place = UNTOLD;
+    uint32_t number = hyssop_findings(put(input, bytes, bytes_size), bytes_size, (char *)out, out_size, &size, &place);
+    return kept(number, out, out_size, 1);
+}
+
 static uint32_t make(const void *text, size_t text_size, size_t out_size) {
     uint8_t *out = blank(out_size);
     place = UNTOLD;
@@ -237,6 +244,9 @@ static void try_null(void) {
     want(hyssop_show(NULL, 0, NULL, 0, NULL, NULL) == HYSSOP_FAULT_SHORT_HEADER);
     want(hyssop_show(NULL, 1, NULL, 0, NULL, NULL) == HYSSOP_FAULT_NULL);
     want(hyssop_show("", 0, NULL, 1, NULL, NULL) == HYSSOP_FAULT_NULL);
+    want(hyssop_findings(NULL, 0, NULL, 0, NULL, NULL) == HYSSOP_FAULT_SHORT_HEADER);
+    want(hyssop_findings(NULL, 1, NULL, 0, NULL, NULL) == HYSSOP_FAULT_NULL);
+    want(hyssop_findings("", 0, NULL, 1, &found, &at) == HYSSOP_FAULT_NULL && found == 0 && at == 0);
     want(hyssop_make(NULL, 0, NULL, 0, NULL, NULL) == HYSSOP_FAULT_WANTS_TABLE);
     want(hyssop_make("  : 01 \n", 8, NULL, 0, &found, NULL) == HYSSOP_FAULT_BUFFER && found == 1);
     want(hyssop_make("  : 01 \n", 8, NULL, 0, NULL, NULL) == HYSSOP_FAULT_BUFFER);
@@ -306,6 +316,22 @@ static size_t make_block(uint8_t *bytes, const char *signature, const void *term
 
 static int is_text(const char *text, size_t out_size) {
     return size == strlen(text) && memcmp(output.end - out_size, text, size) == 0;
+}
+
+/* A MADT whose local APIC has no reserved bit, and one that has bit 2 of its Flags set (5.2.12.2). */
+static void try_findings(void) {
+    static const char wanted[] =
+        "APIC: error at 48: Flags: 0x00000005 has the reserved bits 0x04 (ACPI 6.5, 5.2.1.1) [reserved-bits]\n";
+    static uint8_t controllers[] = {0, 0, 0xe0, 0xfe, 1, 0, 0, 0, 0, 8, 0, 0, 1, 0, 0, 0}, bytes[PLENTY];
+    size_t length = make_block(bytes, "APIC", controllers, sizeof controllers), all = sizeof wanted - 1;
+    want(findings(bytes, length, 0) == 0 && size == 0);
+    controllers[12] = 5;
+    make_block(bytes, "APIC", controllers, sizeof controllers);
+    want(findings(bytes, length, all - 1) == HYSSOP_FAULT_BUFFER && size == all);
+    want(findings(bytes, length, all) == 0 && is_text(wanted, all));
+    want(findings(bytes, length - 1, PLENTY) == HYSSOP_FAULT_TABLE_LENGTH && place == 4);
+    bytes[9]++;
+    want(findings(bytes, length, PLENTY) == HYSSOP_FAULT_SUM && place == 9);
 }
 
 /* Scope (\_SB) {Device (DEV0) {Name (_UID, One)}}, Method (MTHD, 1) {Return (Arg0)}, Store (MTHD (One), Local0) (20.2.5) */
@@ -560,6 +586,7 @@ static void try_random(const uint8_t *table, size_t count) {
         check_table(bytes, some);
         structures(bytes, some, any(20));
         show(bytes, some, any(2) == 0 ? PLENTY : any(4000));
+        findings(bytes, some, any(2) == 0 ? PLENTY : any(400));
         check_image(bytes, some, any(2) == 0 ? 0 : UINT64_MAX - any(400), any(400));
         image_tables(bytes, some, any(2) == 0 ? 0 : UINT64_MAX - any(400), any(400), any(9));
         block(any(2) == 0 ? hyssop_names : hyssop_disassemble, bytes, some, words, any(sizeof words), any(4000));
@@ -610,6 +637,8 @@ static void try_memory(void) {
     memcpy(table, output.end - MOST, count);
     while (is_refused(number = show(table, count, MOST))) {}
     tell("show", number, MOST);
+    while (is_refused(number = findings(table, count, MOST))) {}
+    tell("findings", number, MOST);
     while (is_refused(number = structures(table, count, 1000))) {}
     size *= sizeof(struct hyssop_structure);
     tell("structures", number, 1000 * sizeof(struct hyssop_structure));
@@ -652,6 +681,7 @@ int main(int count, char **files) {
     try_notes();
     try_seal();
     try_block();
+    try_findings();
     try_stack();
     try_empty();
     try_template();

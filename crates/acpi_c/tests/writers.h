@@ -8,6 +8,8 @@
     X(zone, hyssop_open_thermal_zone(w, "\\A___.B___.C___"), "\x5b\x85\\\x2f\x03" "A___B___C___", \
       "\x5b\x85\x10\\\x2f\x03" "A___B___C___") \
     X(power, hyssop_open_power_resource(w, "PWR0", 5, 0x1234), "\x5b\x84PWR0\x05\x34\x12", "\x5b\x84\x08PWR0\x05\x34\x12") \
+    X(processor, hyssop_open_processor(w, "CPU0", 1, 0x12345678, 6), "\x5b\x83" "CPU0\x01\x78\x56\x34\x12\x06", \
+      "\x5b\x83\x0b" "CPU0\x01\x78\x56\x34\x12\x06") \
     X(method, hyssop_open_method(w, "MTHD", 7, 0), "\x14MTHD\x07", "\x14\x06MTHD\x07") \
     X(serialized, hyssop_open_method(w, "MTHD", 1, 2), "\x14MTHD\x09", "\x14\x06MTHD\x09") \
     X(package, hyssop_open_package(w, 255), "\x12\xff", "\x12\x02\xff") \
@@ -16,6 +18,25 @@
     X(while, hyssop_open_while(w), "\xa2", "\xa2\x01") \
     X(buffer, hyssop_open_buffer(w), "\x11", "\x11\x02\0") \
     X(resources, hyssop_open_resources(w), "\x11", "\x11\x05\x0a\x02\x79\0") \
+    X(field, hyssop_open_field(w, "GPIO", HYSSOP_ACCESS_DWORD, 0, HYSSOP_UPDATE_PRESERVE), "\x5b\x81GPIO\x03", \
+      "\x5b\x81\x06GPIO\x03") \
+    X(locked, hyssop_open_field(w, "\\GPIO", HYSSOP_ACCESS_BUFFER, 2, HYSSOP_UPDATE_WRITE_AS_ZEROES), "\x5b\x81\\GPIO\x55", \
+      "\x5b\x81\x07\\GPIO\x55") \
+    X(index_field, hyssop_open_index_field(w, "IDX_", "\\DAT_", HYSSOP_ACCESS_BYTE, 1, HYSSOP_UPDATE_WRITE_AS_ONES), \
+      "\x5b\x86IDX_\\DAT_\x31", "\x5b\x86\x0bIDX_\\DAT_\x31") \
+    X(unit, hyssop_field_unit(w, "BIT0", 1), "BIT0\x01", "") \
+    X(two_bytes, hyssop_field_unit(w, "DATA", 64), "DATA\x40\x04", "") \
+    X(most_bits, hyssop_field_unit(w, "MOST", 0xfffffff), "MOST\xcf\xff\xff\xff", "") \
+    X(gap, hyssop_field_gap(w, 7), "\0\x07", "") \
+    X(three_bytes, hyssop_field_gap(w, 4096), "\0\x80\0\x01", "") \
+    X(region, hyssop_region(w, "\\GPIO", HYSSOP_SPACE_SYSTEM_IO), "\x5b\x80\\GPIO\x01", "") \
+    X(oem_region, hyssop_region(w, "A___.REG0", 0xff), "\x5b\x80\x2e" "A___REG0\xff", "") \
+    X(mutex, hyssop_mutex(w, "MTX_", 15), "\x5b\x01MTX_\x0f", "") \
+    X(acquire, hyssop_acquire(w, "MTX_", 0x1234), "\x5b\x23MTX_\x34\x12", "") \
+    X(release, hyssop_release(w, "MTX_"), "\x5b\x27MTX_", "") \
+    X(event, hyssop_event(w, "\\EVT_"), "\x5b\x02\\EVT_", "") \
+    X(alias, hyssop_alias(w, "\\_SB_.PCI0", "PCI1"), "\x06\\\x2e_SB_PCI0PCI1", "") \
+    X(external, hyssop_external(w, "\\_SB_.FUNC", 8, 2), "\x15\\\x2e_SB_FUNC\x08\x02", "") \
     X(name, hyssop_name(w, "_HID"), "\x08_HID", "") \
     X(path, hyssop_path(w, "\\_SB_.PCI0"), "\\\x2e_SB_PCI0", "") \
     X(zero, hyssop_integer(w, 0), "\0", "") \
@@ -144,16 +165,47 @@ static void try_refused(void) {
         REFUSED(HYSSOP_FAULT_NAME_PART, hyssop_open_thermal_zone(w, parts[i]));
         REFUSED(HYSSOP_FAULT_NAME_PART, hyssop_open_power_resource(w, parts[i], 0, 0));
         REFUSED(HYSSOP_FAULT_NAME_PART, hyssop_open_method(w, parts[i], 8, 0));
+        REFUSED(HYSSOP_FAULT_NAME_PART, hyssop_open_processor(w, parts[i], 0, 0, 0));
+        REFUSED(HYSSOP_FAULT_NAME_PART, hyssop_open_field(w, parts[i], 6, 0, 3));
+        REFUSED(HYSSOP_FAULT_NAME_PART, hyssop_open_index_field(w, parts[i], "DATA", 6, 0, 3));
+        REFUSED(HYSSOP_FAULT_NAME_PART, hyssop_open_index_field(w, "IDX_", parts[i], 6, 0, 3));
+        REFUSED(HYSSOP_FAULT_NAME_PART, hyssop_region(w, parts[i], 0));
+        REFUSED(HYSSOP_FAULT_NAME_PART, hyssop_mutex(w, parts[i], 0));
+        REFUSED(HYSSOP_FAULT_NAME_PART, hyssop_acquire(w, parts[i], 0));
+        REFUSED(HYSSOP_FAULT_NAME_PART, hyssop_release(w, parts[i]));
+        REFUSED(HYSSOP_FAULT_NAME_PART, hyssop_event(w, parts[i]));
+        REFUSED(HYSSOP_FAULT_NAME_PART, hyssop_alias(w, parts[i], "ABCD"));
+        REFUSED(HYSSOP_FAULT_NAME_PART, hyssop_alias(w, "ABCD", parts[i]));
+        REFUSED(HYSSOP_FAULT_NAME_PART, hyssop_external(w, parts[i], 0, 0));
         REFUSED(HYSSOP_FAULT_NAME_PART, hyssop_name(w, parts[i]));
         REFUSED(HYSSOP_FAULT_NAME_PART, hyssop_path(w, parts[i]));
     }
     REFUSED(HYSSOP_FAULT_PATH_PARTS, hyssop_path(w, many));
+    REFUSED(HYSSOP_FAULT_PATH_PARTS, hyssop_open_index_field(w, many, "ABC", 0, 0, 0));
+    REFUSED(HYSSOP_FAULT_PATH_PARTS, hyssop_open_index_field(w, "IDX_", many, 6, 0, 0));
+    REFUSED(HYSSOP_FAULT_PATH_PARTS, hyssop_alias(w, many, "ABC"));
+    REFUSED(HYSSOP_FAULT_PATH_PARTS, hyssop_alias(w, "ABCD", many));
     many[sizeof many - 2] = '.';
     REFUSED(HYSSOP_FAULT_NAME_PART, hyssop_path(w, many));
     struct hyssop_writer longest = begin(PLENTY);
     many[sizeof many - 6] = 0;
     want(hyssop_path(&longest, many) == 0 && longest.state.size == 2 + 4 * 255);
     want(memcmp(longest.bytes, "\x2f\xff" "A___A", 7) == 0);
+    longest = begin(PLENTY);
+    want(hyssop_open_index_field(&longest, many, many, 5, 1, 2) == 0 && longest.state.size == 2 + 2 * (2 + 4 * 255) + 1);
+    want(memcmp(longest.bytes, "\x5b\x86\x2f\xff" "A___A", 9) == 0 && longest.bytes[longest.state.size - 1] == 0x55);
+    want(memcmp(longest.bytes + 4 * 255, "A___\x2f\xff" "A___A", 11) == 0);
+    REFUSED(HYSSOP_FAULT_FLAGS, hyssop_open_field(w, "ABCD", 6, 0, 0));
+    REFUSED(HYSSOP_FAULT_FLAGS, hyssop_open_field(w, "ABCD", UINT32_MAX, 1, 2));
+    REFUSED(HYSSOP_FAULT_FLAGS, hyssop_open_field(w, "ABCD", 5, 0, 3));
+    REFUSED(HYSSOP_FAULT_FLAGS, hyssop_open_index_field(w, "ABCD", "ABCD", 256, 0, 0));
+    REFUSED(HYSSOP_FAULT_FLAGS, hyssop_open_index_field(w, "ABCD", "ABCD", 0, 0, UINT32_MAX));
+    static const char *const units[] = {"", "ABC", "ABCDE", "\\ABCD", "ABCD.EFGH"};
+    for (size_t i = 0; i < sizeof units / sizeof *units; i++)
+        REFUSED(HYSSOP_FAULT_NAME_PART, hyssop_field_unit(w, units[i], 1 << 28));
+    REFUSED(HYSSOP_FAULT_OBJECT_LENGTH, hyssop_field_unit(w, "ABCD", 1 << 28));
+    REFUSED(HYSSOP_FAULT_OBJECT_LENGTH, hyssop_field_unit(w, "ABCD", UINT32_MAX));
+    REFUSED(HYSSOP_FAULT_OBJECT_LENGTH, hyssop_field_gap(w, 1 << 28));
     REFUSED(HYSSOP_FAULT_METHOD_ARGS, hyssop_open_method(w, "MTHD", 8, 0));
     REFUSED(HYSSOP_FAULT_METHOD_ARGS, hyssop_open_method(w, "MTHD", 255, 1));
     REFUSED(HYSSOP_FAULT_ARG_NUMBER, hyssop_argument(w, 7));
@@ -184,6 +236,19 @@ static void try_refused(void) {
     REFUSED(HYSSOP_FAULT_NULL, hyssop_open_thermal_zone(w, NULL));
     REFUSED(HYSSOP_FAULT_NULL, hyssop_open_power_resource(w, NULL, 0, 0));
     REFUSED(HYSSOP_FAULT_NULL, hyssop_open_method(w, NULL, 0, 0));
+    REFUSED(HYSSOP_FAULT_NULL, hyssop_open_processor(w, NULL, 0, 0, 0));
+    REFUSED(HYSSOP_FAULT_NULL, hyssop_open_field(w, NULL, 0, 0, 0));
+    REFUSED(HYSSOP_FAULT_NULL, hyssop_open_index_field(w, NULL, "ABCD", 0, 0, 0));
+    REFUSED(HYSSOP_FAULT_NULL, hyssop_open_index_field(w, "ABCD", NULL, 0, 0, 0));
+    REFUSED(HYSSOP_FAULT_NULL, hyssop_field_unit(w, NULL, 0));
+    REFUSED(HYSSOP_FAULT_NULL, hyssop_region(w, NULL, 0));
+    REFUSED(HYSSOP_FAULT_NULL, hyssop_mutex(w, NULL, 0));
+    REFUSED(HYSSOP_FAULT_NULL, hyssop_acquire(w, NULL, 0));
+    REFUSED(HYSSOP_FAULT_NULL, hyssop_release(w, NULL));
+    REFUSED(HYSSOP_FAULT_NULL, hyssop_event(w, NULL));
+    REFUSED(HYSSOP_FAULT_NULL, hyssop_alias(w, NULL, "ABCD"));
+    REFUSED(HYSSOP_FAULT_NULL, hyssop_alias(w, "ABCD", NULL));
+    REFUSED(HYSSOP_FAULT_NULL, hyssop_external(w, NULL, 0, 0));
     REFUSED(HYSSOP_FAULT_NULL, hyssop_name(w, NULL));
     REFUSED(HYSSOP_FAULT_NULL, hyssop_path(w, NULL));
     REFUSED(HYSSOP_FAULT_NULL, hyssop_string(w, NULL));
@@ -238,6 +303,27 @@ static void try_nested(void) {
     for (size_t i = HYSSOP_DEPTH; i > 0; i--)
         want(hyssop_close(&writer) == 0 && writer.state.depth == i - 1);
     want(finish(&writer) == 0 && size == 2 * HYSSOP_DEPTH && hyssop_close(&writer) == HYSSOP_FAULT_NONE_OPEN);
+}
+
+/* OperationRegion (GPIO, SystemIO, 0x600, 8) Field (GPIO, ByteAcc, NoLock, Preserve) {, 4, BIT4, 1, , 3, WIDE, 16} and
+   Mutex (MTX_, 0) (20.2.5.2). */
+static void try_fields(void) {
+    static const char wanted[] =
+        "\x5b\x80GPIO\x01\x0b\0\x06\x0a\x08\x5b\x81\x14GPIO\x01\0\x04" "BIT4\x01\0\x03WIDE\x10\x5b\x01MTX_";
+    struct hyssop_writer writer = begin(sizeof wanted);
+    hyssop_region(&writer, "GPIO", HYSSOP_SPACE_SYSTEM_IO);
+    hyssop_integer(&writer, 0x600);
+    hyssop_integer(&writer, 8);
+    hyssop_open_field(&writer, "GPIO", HYSSOP_ACCESS_BYTE, 0, HYSSOP_UPDATE_PRESERVE);
+    hyssop_field_gap(&writer, 4);
+    hyssop_field_unit(&writer, "BIT4", 1);
+    hyssop_field_gap(&writer, 3);
+    hyssop_field_unit(&writer, "WIDE", 16);
+    hyssop_close(&writer);
+    hyssop_mutex(&writer, "MTX_", 0);
+    want(finish(&writer) == 0 && size == sizeof wanted && memcmp(writer.bytes, wanted, sizeof wanted) == 0);
+    place = UNTOLD;
+    want(hyssop_check_aml(writer.bytes, sizeof wanted, NULL, 0, &place) == 0 && place == 0);
 }
 
 /* The least and the greatest content of each width of a PkgLength, which counts itself (20.2.4). */
@@ -426,6 +512,7 @@ static void try_writers(void) {
         try_call(&calls[i]);
     try_refused();
     try_nested();
+    try_fields();
     try_widths();
     try_states();
     try_random_calls();

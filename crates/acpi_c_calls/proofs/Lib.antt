@@ -2,6 +2,7 @@ mod Spaces
 mod Found
 mod Noted
 mod Texts
+mod Ruled
 mod BlockTexts
 mod Located
 mod Seals
@@ -10,6 +11,7 @@ mod Helds
 mod Closings
 mod Layings
 mod Paths
+mod Operators
 mod Pieces
 mod Nested
 pub mod Numbers

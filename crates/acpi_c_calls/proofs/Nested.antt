@@ -14,10 +14,11 @@ use Rattle.acpi_base.specs.declared.error.Error.{Error}
 use Rattle.acpi_term.specs.Length.{least_width, length_bytes, with_length}
 use Rattle.acpi_base.specs.Number.{number}
 use Rattle.acpi_base.specs.Object.{whole, ended}
-use Rattle.acpi_term.specs.Row.{Layout, framed, layout, own, frame_end, frame, around}
+use Rattle.acpi_term.specs.Row.{Layout, framed, layout, own, frame_end, frame, around, field_flags, entry_bytes, entries_bytes, entries_end}
+use Rattle.acpi_term.specs.Tree.{def_field, def_index_field}
 use Rattle.acpi_term.specs.Template.{end_tag}
-use Rattle.acpi_c_calls.specs.Writer.{Written, IsDone, IsTried, opens, opens_own, size_before, tag_after, inside, content_from, closes_to, closes_frame, closes_inside, closes_at, closes}
-use Rattle.acpi_c_calls.specs.Nested.{HasPlaces, FineIsDone, Wrote, WroteObject, Leads, PieceIsWritten, PiecesAreJoined, ClosedIsWritten, RowIsWritten, BufferIsWritten, TemplateIsWritten, TableIsSealed}
+use Rattle.acpi_c_calls.specs.Writer.{Written, IsDone, IsTried, or_fault, adds, adds_bytes, opens, opens_own, size_before, tag_after, inside, content_from, closes_to, closes_frame, closes_inside, closes_at, closes}
+use Rattle.acpi_c_calls.specs.Nested.{HasPlaces, FineIsDone, Wrote, WroteObject, Leads, PieceIsWritten, PiecesAreJoined, ClosedIsWritten, RowIsWritten, BufferIsWritten, TemplateIsWritten, EntryIsWritten, FieldIsWritten, IndexFieldIsWritten, TableIsSealed}
 use Rattle.acpi_c_calls.specs.declared.fault.Fault.{Fault}
 use Rattle.acpi_c_calls.specs.declared.state.State.{State}
 use Rattle.acpi_c_calls.proofs.Joins.{put_two}
@@ -260,6 +261,47 @@ template_is_written content old opened filled new places leads wrote ends =
     ap (λ (n : ℕ). number n ++ (content ++ end_tag)) (sym (length-append content end_tag))
     ∙ ap (λ (l : List ℕ). l ++ (content ++ end_tag)) (sym (append-nil (number (length (content ++ end_tag))))) in
     subst (λ (c : List ℕ). WroteObject old (frame (17 ∷ []) c) new) same it
+
+-- ---- fields
+
+entry_ok : (e : Option Error) (bytes : List ℕ) (old new : Written) → adds (or_fault bytes e) old.bytes old.state ≡ Ok new
+    → (e ≡ None) × (adds_bytes bytes old.bytes old.state ≡ Ok new)
+entry_ok None bytes old new is = (refl, is)
+entry_ok (Some e) bytes old new is = absurd cc
+
+pub entry_is_written : EntryIsWritten
+entry_is_written entry old new leads =
+    let both = entry_ok (entries_end (entry ∷ [])) (entry_bytes entry) old new leads in
+    (both.0, piece_is_written (entry_bytes entry) old new both.1)
+
+with_entries : (code bef entries all : List ℕ) (e : Option Error) (old new : Written) → e ≡ None → bef ++ entries ≡ all
+    → WroteObject old (frame code (bef ++ (entries ++ []))) new → WroteObject old (ended e (frame code (all ++ []))) new
+with_entries code bef entries all e old new none is wrote =
+    let same : bef ++ (entries ++ []) ≡ all ++ [] = ap (λ (l : List ℕ). bef ++ l) (append-nil entries) ∙ is ∙ sym (append-nil all) in
+    let it : WroteObject old (frame code (all ++ [])) new = subst (λ (c : List ℕ). WroteObject old (frame code c) new) same wrote in
+    subst (λ (e : Option Error). WroteObject old (ended e (frame code (all ++ []))) new) (sym none) it
+
+pub field_is_written : FieldIsWritten
+field_is_written name access lock update entries old opened filled new places none leads wrote ends =
+    let flags = field_flags access lock update in
+    let content = entries_bytes entries in
+    let code : List ℕ = 91 ∷ 129 ∷ [] in
+    let bef : List ℕ = name ++ flags ∷ [] in
+    let it : WroteObject old (frame code (bef ++ (content ++ []))) new =
+    row_is_written (def_field name access lock update []) 0 code bef content old opened filled new places refl leads wrote ends in
+    with_entries code bef content (name ++ flags ∷ content) (entries_end entries) old new none (append_assoc name (flags ∷ []) content) it
+
+pub index_field_is_written : IndexFieldIsWritten
+index_field_is_written index name access lock update entries old opened filled new places none leads wrote ends =
+    let flags = field_flags access lock update in
+    let content = entries_bytes entries in
+    let code : List ℕ = 91 ∷ 134 ∷ [] in
+    let bef : List ℕ = index ++ (name ++ flags ∷ []) in
+    let it : WroteObject old (frame code (bef ++ (content ++ []))) new =
+    row_is_written (def_index_field index name access lock update []) 0 code bef content old opened filled new places refl leads wrote ends in
+    let same : bef ++ content ≡ index ++ (name ++ flags ∷ content) =
+    append_assoc index (name ++ flags ∷ []) content ∙ ap (λ (l : List ℕ). index ++ l) (append_assoc name (flags ∷ []) content) in
+    with_entries code bef content (index ++ (name ++ flags ∷ content)) (entries_end entries) old new none same it
 
 -- ---- tables
 

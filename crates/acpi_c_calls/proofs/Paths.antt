@@ -1,12 +1,16 @@
 -- Paths that are held.
-use Rattle.std.proofs.Common.{◌≡◌, ℕ, ◌*◌, ◌<◌, ◌≤◌, Bool, true, false, cond, eqb, List, [], ◌∷◌, ◌++◌, Ok, length, take, refl, sym, ap, ◌∙◌, arith, append_assoc, length-append}
+use Rattle.std.proofs.Common.{◌≡◌, ℕ, ◌*◌, ◌<◌, ◌≤◌, Bool, true, false, cond, eqb, List, [], ◌∷◌, ◌++◌, Option, Some, None, Result, Ok, length, take, refl, sym, ap, ◌∙◌, arith, append_assoc, length-append}
 use Rattle.std.specs.Prelude.{nat_le}
 use Rattle.std.specs.List.{concat}
 use Rattle.std.proofs.lemmas.Bool.{and_parts, eqb-true}
 use Rattle.std.proofs.lemmas.Bool.Decides.{nat_tests}
 use Rattle.std.proofs.lemmas.List.{append-nil, take_all}
-use Rattle.acpi_term.specs.PathText.{parts, are_fours, is_rooted, root, unrooted, lead, path_spelling, path_of}
+use Rattle.acpi_base.specs.Object.{whole, ended}
+use Rattle.acpi_base.specs.declared.error.Error.{Error}
+use Rattle.acpi_base.specs.declared.error.Error.TheVariants.{NamePart, PathParts}
+use Rattle.acpi_term.specs.PathText.{parts, are_fours, is_rooted, root, unrooted, lead, parts_end, path_spelling, path_of}
 use Rattle.acpi_c_calls.specs.Writer.{piece_of}
+use Rattle.acpi_c_calls.specs.declared.fault.Fault.{Fault}
 use Rattle.acpi_c_calls.proofs.Helds.{take_again}
 
 concat_fours : (ps : List (List ℕ)) → are_fours ps ≡ true → length (concat ps) ≡ 4 * length ps
@@ -55,3 +59,30 @@ path_held text one two new n first second short third count few fours =
     omega (arith, length-append r (lead n ++ segments), length-append (lead n) segments, root_few (is_rooted text), lead_few n, concat_fours ps fours, count, few) in
     let s4 : new ≡ path_spelling text = s3 ∙ take_all 1024 (r ++ (lead n ++ segments)) size ∙ ap (λ (m : ℕ). r ++ (lead m ++ segments)) count in
     ap (λ (l : List ℕ). Ok l) s4 ∙ whole_path text fours (omega (arith, count, few))
+
+-- ---- paths have at most 1023 bytes
+
+held_is : (e : Option Error) (bytes held : List ℕ) → ◌≡◌ {A = Result (List ℕ) Fault} (Ok held) (piece_of (ended e (whole bytes)))
+    → (e ≡ None) × (held ≡ bytes)
+held_is None bytes held is = (refl, cc)
+held_is (Some e) bytes held is = absurd cc
+
+none_is : (fours few : Bool) → ◌≡◌ {A = Option Error} (cond fours (cond few None (Some PathParts)) (Some NamePart)) None
+    → (fours ≡ true) × (few ≡ true)
+none_is true true is = (refl, refl)
+none_is true false is = absurd cc
+none_is false few is = absurd cc
+
+pub path_few : (text held : List ℕ) → ◌≡◌ {A = Result (List ℕ) Fault} (Ok held) (piece_of (path_of text)) → length held ≤ 1023
+path_few text held is =
+    let ps = parts (unrooted text) in
+    let r = root text in
+    let both = held_is (parts_end ps) (path_spelling text) held is in
+    let those = none_is (are_fours ps) (nat_le (length ps) 255) both.0 in
+    let count : length ps ≤ 255 = let few = those.1 in grind (arith, nat_tests, few) in
+    let size : length held ≡ length (path_spelling text) = ap length both.1 in
+    omega (arith, size, length-append r (lead (length ps) ++ concat ps), length-append (lead (length ps)) (concat ps), root_few (is_rooted text), lead_few (length ps), concat_fours ps those.0, count)
+
+-- one byte more is held after a path
+pub flag_held : (held : List ℕ) (flag : ℕ) → length held ≤ 1023 → take 1024 (held ++ flag ∷ []) ≡ held ++ flag ∷ []
+flag_held held flag few = take_all 1024 (held ++ flag ∷ []) (omega (arith, few, length-append held (flag ∷ [])))

@@ -9,6 +9,7 @@ use Rattle.acpi_c_calls.specs.Fault.{number_of, fault_of}
 use Rattle.acpi_c_calls.specs.Image.{IsImageOfTables, IsImageRefusal}
 use Rattle.acpi_c_calls.specs.Make.{IsTableOf, IsMakeRefusal, IsTemplate, IsTemplateRefusal}
 use Rattle.acpi_c_calls.specs.Show.{IsText, IsTextRefusal}
+use Rattle.acpi_c_calls.specs.Findings.{AreFindings}
 use Rattle.acpi_c_calls.specs.Structures.{AreStructures, IsStructuresRefusal}
 use Rattle.acpi_c_calls.specs.Table.{IsTableRefusal}
 use Rattle.acpi_c_calls.specs.declared.fault.Fault.{Fault}
@@ -51,6 +52,7 @@ pub record ChecksAreFine : Type 0 where
 pub record FineIsAllGiven : Type 0 where
   pub structures : (bytes : List ℕ) → FineIsGiven (AreStructures bytes) (IsStructuresRefusal bytes)
   pub texts : (bytes : List ℕ) → FineIsGiven (IsText bytes) (IsTextRefusal bytes)
+  pub findings : (bytes : List ℕ) → FineIsGiven (AreFindings bytes) (IsTextRefusal bytes)
   pub tables : (text : List ℕ) → FineIsGiven (IsTableOf text) (IsMakeRefusal text)
   pub notes : (text : List ℕ) → FineIsGiven (AreNotes text) (IsMakeRefusal text)
   pub templates : (signature : List ℕ) → FineIsGiven (IsTemplate signature) (IsTemplateRefusal signature)
@@ -60,6 +62,7 @@ pub record FineIsAllGiven : Type 0 where
 pub record FaultsWriteNothing : Type 0 where
   pub structures : (bytes : List ℕ) → FaultLeaves (AreStructures bytes) (IsStructuresRefusal bytes)
   pub texts : (bytes : List ℕ) → FaultLeaves (IsText bytes) (IsTextRefusal bytes)
+  pub findings : (bytes : List ℕ) → FaultLeaves (AreFindings bytes) (IsTextRefusal bytes)
   pub tables : (text : List ℕ) → FaultLeaves (IsTableOf text) (IsMakeRefusal text)
   pub notes : (text : List ℕ) → FaultLeaves (AreNotes text) (IsMakeRefusal text)
   pub templates : (signature : List ℕ) → FaultLeaves (IsTemplate signature) (IsTemplateRefusal signature)

@@ -7,6 +7,7 @@ pub mod Aml
 pub mod Block
 pub mod Image
 pub mod Show
+pub mod Findings
 pub mod Make
 pub mod Notes
 pub mod Names
@@ -15,6 +16,7 @@ pub mod Writer
 pub mod Held
 pub mod Path
 pub mod Leaf
+pub mod Field
 pub mod Resource
 pub mod Finish
 pub mod Begin

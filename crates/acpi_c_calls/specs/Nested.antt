@@ -1,15 +1,16 @@
 -- What calls of a writer write, one after another and inside one another.
-use Rattle.std.specs.Prelude.{◌≡◌, ℕ, ◌+◌, ◌≤◌, List, [], ◌++◌, length, take, None, Result, Ok}
+use Rattle.std.specs.Prelude.{◌≡◌, ℕ, ◌+◌, ◌≤◌, List, [], ◌∷◌, ◌++◌, length, take, None, Result, Ok}
 use Rattle.acpi_base.specs.Bytes.{put}
 use Rattle.acpi_base.specs.Header.{header}
 use Rattle.acpi_base.specs.Object.{Object, whole}
 use Rattle.acpi_base.specs.Sdt.{sealed}
 use Rattle.acpi_base.specs.Table.{table_of}
 use Rattle.acpi_base.specs.declared.oem.Oem.{Oem}
-use Rattle.acpi_term.specs.Row.{framed, layout, frame, around}
+use Rattle.acpi_term.specs.Row.{framed, layout, frame, around, row, entry_bytes, entries_bytes, entries_end}
 use Rattle.acpi_term.specs.Template.{template_bytes, buffer_of_bytes}
-use Rattle.acpi_term.specs.Tree.{Head, def_buffer}
-use Rattle.acpi_c_calls.specs.Writer.{Written, Does, adds_bytes, opens, opens_row, inside, closes}
+use Rattle.acpi_term.specs.Tree.{Entry, Head, def_buffer, def_field, def_index_field}
+use Rattle.acpi_c_calls.specs.Field.{entry_piece}
+use Rattle.acpi_c_calls.specs.Writer.{Written, Does, adds, adds_bytes, opens, opens_row, inside, closes}
 use Rattle.acpi_c_calls.specs.declared.fault.Fault.{Fault}
 use Rattle.acpi_c_calls.specs.declared.state.State.{State}
 
@@ -51,8 +52,8 @@ abbrev pub PiecesAreJoined : Type 0
 PiecesAreJoined =
     (first second : List ℕ) (old mid new : Written) → Wrote old first mid → Wrote mid second new → Wrote old (first ++ second) new
 
--- An object that is opened, filled and closed is written as one piece: its opcode, and a frame of the bytes before its content and
--- of this content.
+-- An object that is opened, filled and closed is written as one piece: its opcode, and a frame of the bytes before its content
+-- and of this content.
 abbrev pub ClosedIsWritten : Type 0
 ClosedIsWritten =
     (kind : ℕ) (code before content : List ℕ) (old opened filled new : Written) → HasPlaces old
@@ -78,6 +79,28 @@ TemplateIsWritten =
     (content : List ℕ) (old opened filled new : Written) → HasPlaces old → Leads (opens_row 2 (def_buffer []) 0) old opened
     → Wrote opened content filled → Leads closes filled new → WroteObject old (buffer_of_bytes (template_bytes content)) new
 
+-- A call that writes an entry of a field has written its bytes. It has less than 2^28 bits.
+abbrev pub EntryIsWritten : Type 0
+EntryIsWritten =
+    (entry : Entry) (old new : Written) → Leads (adds (entry_piece entry)) old new
+    → (entries_end (entry ∷ []) ≡ None) × Wrote old (entry_bytes entry) new
+
+-- A field that is opened, filled with entries of less than 2^28 bits and closed is the row of these entries.
+abbrev pub FieldIsWritten : Type 0
+FieldIsWritten =
+    (name : List ℕ) (access lock update : ℕ) (entries : List Entry) (old opened filled new : Written) → HasPlaces old
+    → entries_end entries ≡ None → Leads (opens_row 0 (def_field name access lock update []) 0) old opened
+    → Wrote opened (entries_bytes entries) filled → Leads closes filled new
+    → WroteObject old (row (def_field name access lock update entries) []) new
+
+-- the same of a field that is reached by an index
+abbrev pub IndexFieldIsWritten : Type 0
+IndexFieldIsWritten =
+    (index name : List ℕ) (access lock update : ℕ) (entries : List Entry) (old opened filled new : Written) → HasPlaces old
+    → entries_end entries ≡ None → Leads (opens_row 0 (def_index_field index name access lock update []) 0) old opened
+    → Wrote opened (entries_bytes entries) filled → Leads closes filled new
+    → WroteObject old (row (def_index_field index name access lock update entries) []) new
+
 -- A header and a body whose length and checksum are set are the table of this body.
 abbrev pub TableIsSealed : Type 0
 TableIsSealed =
@@ -92,4 +115,7 @@ pub record WritersNest : Type 0 where
   pub rows : RowIsWritten
   pub buffers : BufferIsWritten
   pub templates : TemplateIsWritten
+  pub entries : EntryIsWritten
+  pub fields : FieldIsWritten
+  pub index_fields : IndexFieldIsWritten
   pub tables : TableIsSealed

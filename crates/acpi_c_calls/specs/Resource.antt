@@ -1,7 +1,7 @@
 -- Address spaces of a bridge, by numbers (ACPI 6.5, 6.4.3.5).
 use Rattle.std.specs.Prelude.{ℕ, ◌+◌, ◌*◌, ◌==◌, if◌then◌else◌, Bool, List, Option, Some, None, Result, Err}
 use Rattle.acpi_base.specs.Object.{Object}
-use Rattle.acpi_ops.specs.AddressSpace.{cacheable_number}
+use Rattle.acpi_ops.specs.AddressSpace.{cacheable_number, fixed_range}
 use Rattle.acpi_ops.specs.Descriptor.{bit}
 use Rattle.acpi_ops.specs.declared.address_space.AddressSpace.{AddressSpace}
 use Rattle.acpi_ops.specs.declared.address_space.AddressSpaceCacheable.{AddressSpaceCacheable}
@@ -11,19 +11,14 @@ use Rattle.acpi_c_calls.specs.declared.fault.Fault.{Fault}
 use Rattle.acpi_c_calls.specs.declared.fault.Fault.TheVariants.{UnknownChoice}
 
 abbrev pub bus_numbers : ℕ → ℕ → AddressSpace ℕ
-bus_numbers min max = record { kind = 2; flags = 0; min = min; max = max; translation = None }
+bus_numbers min max = fixed_range 2 0 min max None
 
 abbrev pub io_range : ℕ → ℕ → ℕ → AddressSpace ℕ
-io_range min max translation = record { kind = 1; flags = 3; min = min; max = max; translation = Some translation }
+io_range min max translation = fixed_range 1 3 min max (Some translation)
 
 abbrev pub memory_range : AddressSpaceCacheable → Bool → ℕ → ℕ → ℕ → AddressSpace ℕ
-memory_range cached read_write min max translation = record {
-  kind = 0;
-  flags = 2 * cacheable_number cached + bit read_write 1;
-  min = min;
-  max = max;
-  translation = Some translation;
-}
+memory_range cached read_write min max translation =
+    fixed_range 0 (2 * cacheable_number cached + bit read_write 1) min max (Some translation)
 
 -- how memory may be cached, by its number
 abbrev pub memory_type : ℕ → Option AddressSpaceCacheable

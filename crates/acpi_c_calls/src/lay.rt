@@ -90,7 +90,7 @@ fn laid(alloc: Global, base: u64, bytes: &[u8]) -> Result<Image, Refused>
 
 /// Lays tables into one image for the physical address `base`, a multiple of 64. They lie one after another in `tables`, each as
 /// long as the number at its offset 4 says (ACPI 6.5, 5.2.6), also a FACS. One is the DSDT, one the FADT, and one the FACS, which
-/// may be missing on a hardware-reduced machine. The image has an XSDT and an RSDP of its own. It is written to `out`, `size` is
+/// may be missing on a hardware-reduced machine. The image gets a new XSDT and a new RSDP. It is written to `out`, `size` is
 /// the number of its bytes, and `rsdp` the address of its RSDP.
 ///
 /// Returns 0, or the number of a fault. With `TableLength` and `LaySecond` `place` is which table it is, counted from 0. If `out`

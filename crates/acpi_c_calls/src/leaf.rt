@@ -1,4 +1,4 @@
-//! Objects without content of their own, and bytes.
+//! Objects that contain no others, and bytes.
 
 ghost use Rattle.std.specs.Prelude.{◌≡◌, [], Ok, Err};
 ghost use Rattle.acpi_base.specs.Number.{number};

@@ -2,7 +2,7 @@
 
 ghost use Rattle.std.specs.Prelude.{◌++◌, []};
 ghost use Rattle.acpi_term.specs.PathText.{path_of};
-ghost use Rattle.acpi_term.specs.Tree.{def_scope, def_device, def_thermal_zone, def_power_res, def_method};
+ghost use Rattle.acpi_term.specs.Tree.{def_scope, def_device, def_thermal_zone, def_power_res, def_processor, def_method};
 ghost use Rattle.acpi_term.specs.Tree.{def_if, def_else, def_while, def_buffer, def_package};
 ghost use Rattle.acpi_c_calls.specs.Writer.{IsDone, Does, opens, opens_row, opens_named, piece_of};
 
@@ -13,7 +13,7 @@ use crate::put::{fail, have_space, write_three};
 use crate::state::{DEPTH, State};
 
 // Writes an opcode and the bytes after it, and keeps the place between them.
-fn open(
+pub(crate) fn open(
     bytes: &mut [u8],
     state: &mut State,
     kind: u32,
@@ -104,6 +104,36 @@ pub fn open_power_resource(
             &[0x5b, 0x84],
             name.bytes(),
             &[level, low, high],
+        ),
+        Err(fault) => fail(bytes, state, fault),
+    }
+}
+
+/// Opens a processor (ACPI 6.5, 20.2.5.2, DefProcessor): its id in the MADT, and the address and the length of its register
+/// block. The standard has a device with the id ACPI0007 in place of it.
+pub fn open_processor(
+    bytes: &mut [u8],
+    state: &mut State,
+    path: &[u8],
+    id: u8,
+    address: u32,
+    size: u8,
+) -> u32
+    ensures { Does (opens_named (λ name. def_processor name id address size) (piece_of (path_of path.now)))
+        bytes.old state.old bytes.new state.new result }
+{
+    if state.fault != 0 {
+        return state.fault;
+    }
+    let [a, b, c, d] = address.to_le_bytes();
+    match hold_path(path) {
+        Ok(name) => open(
+            bytes,
+            state,
+            0,
+            &[0x5b, 0x83],
+            name.bytes(),
+            &[id, a, b, c, d, size],
         ),
         Err(fault) => fail(bytes, state, fault),
     }

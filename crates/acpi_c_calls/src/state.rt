@@ -3,7 +3,7 @@
 /// How many objects may be open at a time.
 pub const DEPTH: usize = 32;
 
-/// What a writer keeps beside the caller's buffer. Any values are allowed: calls check what they rely on.
+/// What a writer keeps, besides the caller's buffer. Any values are allowed: calls check what they rely on.
 #[repr(C)]
 #[derive(Clone, Copy, Debug, PartialEq, Drop)]
 pub struct State {

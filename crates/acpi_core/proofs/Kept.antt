@@ -6,14 +6,14 @@ use Rattle.acpi_base.specs.Sink.{Meaning}
 use Rattle.acpi_base.specs.Table.{IsTrueTable}
 use Rattle.acpi_base.specs.Object.{Object, whole, Wrote, WriteRefused}
 use Rattle.acpi_base.specs.Walk.{IsPiece, ArePieces, IsSound, Walks, walk_of, named}
-use Rattle.acpi_base.specs.FurtherWalk.{further_walk_of, either_walk, FollowsBy, AreStructuresOf}
+use Rattle.acpi_base.specs.FurtherWalk.{full_walk_of, further_walk_of, either_walk, FollowsBy, AreStructuresOf}
 use Rattle.acpi_base.specs.declared.further_walk.FurtherWalk.{FurtherWalk}
 use Rattle.acpi_base.specs.declared.walk.Sizes.{Sizes}
 use Rattle.acpi_base.specs.declared.walk.Walk.{Walk}
 use Rattle.acpi_base.specs.Bytes.{field_at}
 use Rattle.std.specs.List.{concat}
 use Rattle.acpi_base.proofs.Walks.{pieces_push, is_sound, one_list_of_pieces}
-use Rattle.acpi_base.proofs.FurtherWalks.{is_sound_further, walks_follow, one_list_of_structures}
+use Rattle.acpi_base.proofs.FurtherWalks.{full_is_none, is_sound_further, walks_follow, one_list_of_structures}
 use Rattle.acpi_core.specs.Listing.{Listing, IsListing, bytes_of, with_structure}
 use Rattle.acpi_core.specs.Addition.{Counted, Adds, refusal_of}
 use Rattle.acpi_core.specs.Walk.{IsWalkFor, AreFoundIn, IsWalkOf, Keeps, IsWalked}
@@ -78,7 +78,7 @@ further_by s None None w found none is = absurd cc
 further_by s None (Some f) w found none is = record { further = f; found = found; is = cc }
 
 is_further : (s : ℕ) (w : Walk) → IsWalkFor false s w → IsFurther s w
-is_further s w for = further_by s (walk_of s) (further_walk_of s) w refl for.0 for.1
+is_further s w for = further_by s (full_walk_of s) (further_walk_of s) w refl (full_is_none s for.0) for.1
 
 pub sound_for : (ported : Bool) (s : ℕ) (w : Walk) → IsWalkFor ported s w → IsSound w
 sound_for true s w for = is_sound s w for
@@ -90,7 +90,7 @@ found_further : (s : ℕ) (w : Walk) (bytes : List ℕ) (ps : List (List ℕ)) �
 found_further s w bytes ps told for walks =
     let f = is_further s w for in
     let follows : FollowsBy (Some f.further) bytes ps = inl (walks_follow f.further bytes ps (is_sound_further s f.further f.found) (rw f.is walks)) in
-    rw (ap walk_of told ∙ for.0, ap further_walk_of told ∙ f.found) follows
+    rw (ap full_walk_of told ∙ full_is_none s for.0, ap further_walk_of told ∙ f.found) follows
 
 -- what the walk of its signature finds in a table
 found_in : (ported : Bool) (s : ℕ) (w : Walk) (bytes : List ℕ) (ps : List (List ℕ)) → field_at 0 4 bytes ≡ s → IsWalkFor ported s w → Walks w bytes ps → AreFoundIn ported bytes ps

@@ -25,7 +25,8 @@ impl Count {
         requires size { (size < limit) × (limit ≤ 2 ^ 32) }
         requires width { HasWidth self.now.width }
         ensures size { IfOk result (λ r. r.0 ≡ size + more) }
-        ensures fits { IfOk result (λ r. (self.now.width ≡ 0) ⊎ ((r.1 ≡ self.now.number + 1) × (r.1 < 2 ^ (8 * self.now.width)))) }
+        ensures fits { IfOk result
+            (λ r. (self.now.width ≡ 0) ⊎ ((r.1 ≡ self.now.number + 1) × (r.1 < 2 ^ (8 * self.now.width)))) }
         ensures number { IfOk result (λ r. r.1 ≡ number_up_to (self.now.number + 1)) }
         ensures ok { OnOk result (has_space size more limit self.now.number self.now.width ≡ true) }
         ensures err { IfErr result (λ e. (e ≡ Error.FieldWidth)

@@ -1,4 +1,4 @@
--- The form beside a signature has the names and the fields beside it.
+-- The form in the row of a signature has the names and the fields of the same row.
 use Rattle.std.proofs.Common.{◌≡◌, ℕ, ◌==◌, true, false, Option, Result, Ok, Err, IfOk, List, [], ◌∷◌, map, if◌then◌else◌, refl, ap, ◌∙◌, subst, String, Global, string_bytes}
 use Rattle.acpi_base.specs.Walk.{named}
 use Rattle.acpi_base.specs.FurtherWalk.{table_walk_of}

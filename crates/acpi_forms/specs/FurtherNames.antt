@@ -32,6 +32,14 @@ ivrs_kinds =
     ∷ (34, codes "I/O Virtualization Memory Definition (IVMD) for a Range of Peripherals")
     ∷ []
 
+-- AMD Secure Processor Table (ASPT)
+abbrev pub aspt_kinds : List (ℕ × List ℕ)
+aspt_kinds =
+    (0, codes "ASP Global Registers Structure")
+    ∷ (1, codes "SEV Mailbox Registers Structure")
+    ∷ (2, codes "ACPI Mailbox Registers Structure")
+    ∷ []
+
 -- NVDIMM Firmware Interface Table (NFIT)
 abbrev pub nfit_kinds : List (ℕ × List ℕ)
 nfit_kinds =
@@ -146,6 +154,7 @@ security_tables =
     ∷ only_read "XENV" "Xen Environment Table (XENV)" []
     ∷ only_read "STAO" "Status Override Table (STAO)" []
     ∷ only_read "PRMT" "Platform Runtime Mechanism Table (PRMT)" (one_kind "PRM Module Information Structure")
+    ∷ only_read "ASPT" "AMD Secure Processor Table (ASPT)" aspt_kinds
     ∷ []
 
 -- errors, watchdogs and diagnosis
@@ -167,12 +176,26 @@ faults_tables =
     ∷ only_read "WDDT" "Watchdog Descriptor Table (WDDT)" []
     ∷ []
 
--- devices and memory
+-- devices
 abbrev pub devices_tables : List Named
 devices_tables =
     only_read "DMAR" "DMA Remapping Reporting Table (DMAR)" dmar_kinds
     ∷ only_read "IVRS" "I/O Virtualization Reporting Structure (IVRS)" ivrs_kinds
-    ∷ only_read "NFIT" "NVDIMM Firmware Interface Table (NFIT)" nfit_kinds
+    ∷ only_read "IOVT" "I/O Virtualization Table (IOVT)" (one_kind "IOMMU Structure")
+    ∷ only_read "APMT" "Arm Performance Monitoring Unit Table (APMT)" (one_kind "Arm Performance Monitoring Unit Node")
+    ∷ only_read "CSRT" "Core System Resource Table (CSRT)" (one_kind "Resource Group")
+    ∷ only_read "NHLT" "Non-HD Audio Link Table (NHLT)" []
+    ∷ only_read "SWFT" "SoundWire File Table (SWFT)" (one_kind "SoundWire File")
+    ∷ only_read "SBST" "Smart Battery Specification Table (SBST)" []
+    ∷ only_read "MCHI" "Management Controller Host Interface Table (MCHI)" []
+    ∷ only_read "SPMI" "Service Processor Management Interface Table (SPMI)" []
+    ∷ only_read "ASF!" "Alert Standard Format Table (ASF!)" asf_kinds
+    ∷ []
+
+-- memory, power and performance
+abbrev pub memory_tables : List Named
+memory_tables =
+    only_read "NFIT" "NVDIMM Firmware Interface Table (NFIT)" nfit_kinds
     ∷ only_read "PCCT" "Platform Communications Channel Table (PCCT)" pcct_kinds
     ∷ only_read "LPIT" "Low Power Idle Table (LPIT)" (one_kind "Native C-State Instruction Structure")
     ∷ only_read "MSCT" "Maximum System Characteristics Table (MSCT)"
@@ -180,11 +203,5 @@ devices_tables =
     ∷ only_read "MPST" "Memory Power State Table (MPST)" []
     ∷ only_read "PMTT" "Platform Memory Topology Table (PMTT)" pmtt_kinds
     ∷ only_read "MPAM" "Memory System Resource Partitioning and Monitoring Table (MPAM)" (one_kind "MPAM MSC Node")
-    ∷ only_read "APMT" "Arm Performance Monitoring Unit Table (APMT)" (one_kind "Arm Performance Monitoring Unit Node")
-    ∷ only_read "CSRT" "Core System Resource Table (CSRT)" (one_kind "Resource Group")
-    ∷ only_read "NHLT" "Non-HD Audio Link Table (NHLT)" []
-    ∷ only_read "SBST" "Smart Battery Specification Table (SBST)" []
-    ∷ only_read "MCHI" "Management Controller Host Interface Table (MCHI)" []
-    ∷ only_read "SPMI" "Service Processor Management Interface Table (SPMI)" []
-    ∷ only_read "ASF!" "Alert Standard Format Table (ASF!)" asf_kinds
+    ∷ only_read "MRRM" "Memory Range and Region Mapping Structure (MRRM)" (one_kind "Memory Range Entry")
     ∷ []

@@ -1,4 +1,4 @@
--- Which signatures have a form of their own, and which signature is meant by a name that is none.
+-- Which signatures have a form, and which signature is meant by a name that is none.
 use Rattle.std.specs.Prelude.{ℕ, ◌==◌, ◌&&◌, ◌||◌, not, Bool, if◌then◌else◌, List, length, map, Option, Some, None, codes}
 use Rattle.std.specs.Char.{to_ascii_uppercase}
 use Rattle.std.specs.Str.{bytes_eq}

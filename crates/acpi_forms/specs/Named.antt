@@ -2,19 +2,19 @@
 use Rattle.std.specs.Prelude.{ℕ, ◌==◌, List, [], ◌∷◌, codes, if◌then◌else◌}
 use Rattle.acpi_base.specs.Walk.{named}
 use Rattle.acpi_text.specs.declared.form.TableForm.{TableForm}
-use Rattle.acpi_forms.specs.FurtherNames.{boot_tables, security_tables, faults_tables, devices_tables}
+use Rattle.acpi_forms.specs.FurtherNames.{boot_tables, security_tables, faults_tables, devices_tables, memory_tables}
 use Rattle.acpi_forms.specs.Written.{the_bert, the_cedt, the_dbg2, the_facs, the_fadt, the_gtdt, the_header, the_hest}
 use Rattle.acpi_forms.specs.Written.{the_hmat, the_iort, the_madt, the_mcfg, the_pptt, the_rhct, the_rimt, the_rqsc}
 use Rattle.acpi_forms.specs.Written.{the_rsdp, the_slit, the_spcr, the_srat, the_tcpa, the_tpm2, the_viot, the_xsdt}
 use Rattle.acpi_forms.specs.Name.{named_as, one_kind}
 pub use Rattle.acpi_forms.specs.Name.{Named, kinds, IsNamed}
 
--- the form beside a signature, or another form
+-- the form in the row of a signature, or another form
 unfoldable pub find_form : ℕ → List (List ℕ × TableForm) → TableForm → TableForm
 find_form s [] other = other
 find_form s (row ∷ rows) other = if s == named row.0 then row.1 else find_form s rows other
 
--- the names beside a signature, or other names
+-- the names in the row of a signature, or other names
 abbrev pub find_named : ℕ → List Named → Named → Named
 find_named s [] other = other
 find_named s (n ∷ more) other = if s == named n.signature then n else find_named s more other
@@ -86,6 +86,10 @@ hest_kinds =
     ∷ (8, codes "PCI Express/PCI-X Bridge AER Structure")
     ∷ (9, codes "Generic Hardware Error Source Structure")
     ∷ (10, codes "Generic Hardware Error Source version 2 Structure")
+    ∷ (0, codes "IA-32 Architecture Machine Check Exception Structure")
+    ∷ (1, codes "IA-32 Architecture Corrected Machine Check Structure")
+    ∷ (2, codes "IA-32 Architecture Non-Maskable Interrupt Structure")
+    ∷ (11, codes "IA-32 Architecture Deferred Machine Check Structure")
     ∷ []
 
 abbrev pub rqsc_kinds : List (ℕ × List ℕ)
@@ -264,8 +268,11 @@ arm_tables = gtdt_names ∷ dbg2_names ∷ iort_names ∷ []
 -- ---- the names of a signature
 
 -- the names of the tables of a signature that are only read, by the lists of these
+abbrev pub named_memory : ℕ → Named
+named_memory s = find_named s memory_tables unknown
+
 abbrev pub named_devices : ℕ → Named
-named_devices s = find_named s devices_tables unknown
+named_devices s = find_named s devices_tables (named_memory s)
 
 abbrev pub named_faults : ℕ → Named
 named_faults s = find_named s faults_tables (named_devices s)

@@ -3,7 +3,7 @@
 ghost use Rattle.std.specs.Prelude.{◌≡◌};
 ghost use Rattle.acpi_base.specs.Walk.{named};
 ghost use Rattle.acpi_forms.specs.Named.{find_form, names_of, IsNamed};
-ghost use Rattle.acpi_forms.specs.Named.{named_boot, named_security, named_faults, named_devices};
+ghost use Rattle.acpi_forms.specs.Named.{named_boot, named_security, named_faults, named_devices, named_memory};
 ghost use Rattle.acpi_forms.specs.Named.{named_node, named_arm};
 
 use crate::arm::{dbg2_form, gtdt_form, iort_form};
@@ -11,7 +11,7 @@ use crate::fixed::{
     bert_form, dsdt_form, fadt_form, spcr_form, ssdt_form, tcpa_form, tpm2_form, unknown_form,
 };
 pub use crate::fixed::{facs_form, rsdp_form};
-use crate::further::{BOOT_FORMS, DEVICES_FORMS, FAULTS_FORMS, SECURITY_FORMS};
+use crate::further::{BOOT_FORMS, DEVICES_FORMS, FAULTS_FORMS, MEMORY_FORMS, SECURITY_FORMS};
 use crate::hest::{hest_form, rqsc_form};
 use crate::lists::{cedt_form, madt_form, mcfg_form, srat_form, xsdt_form};
 use crate::matrices::{hmat_form, slit_form};
@@ -25,7 +25,7 @@ fn number(signature: &[u8; 4]) -> u32
     u32::from_le_bytes(*signature)
 }
 
-// Returns the form beside a signature, or another form.
+// Returns the form in the row of a signature, or another form.
 #[tactic(auto, unfolding(crate::specs::Named::find_form))]
 fn find_form(signature: u32, rows: &[([u8; 4], TableForm)], other: TableForm) -> TableForm
     ensures { result ≡ find_form signature rows.now other }
@@ -38,12 +38,18 @@ fn find_form(signature: u32, rows: &[([u8; 4], TableForm)], other: TableForm) ->
     other
 }
 
-// Each list has a function of its own, since the proof goes through the whole list. The first four are those of tables that are
+// There is a function for each list, since the proof goes through the whole list. The first five are those of tables that are
 // only read.
+fn memory_form(signature: u32) -> TableForm
+    ensures { IsNamed result (named_memory signature) }
+{
+    find_form(signature, &MEMORY_FORMS, unknown_form())
+}
+
 fn devices_form(signature: u32) -> TableForm
     ensures { IsNamed result (named_devices signature) }
 {
-    find_form(signature, &DEVICES_FORMS, unknown_form())
+    find_form(signature, &DEVICES_FORMS, memory_form(signature))
 }
 
 fn faults_form(signature: u32) -> TableForm

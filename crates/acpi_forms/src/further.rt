@@ -5,6 +5,7 @@ pub mod aest;
 pub mod agdi;
 pub mod apmt;
 pub mod asf;
+pub mod aspt;
 pub mod bdat;
 pub mod bgrt;
 pub mod boot;
@@ -18,14 +19,17 @@ pub mod ecdt;
 pub mod einj;
 pub mod erst;
 pub mod fpdt;
+pub mod hest;
 pub mod hpet;
 pub mod ibft;
+pub mod iovt;
 pub mod ivrs;
 pub mod lpit;
 pub mod madt;
 pub mod mchi;
 pub mod mpam;
 pub mod mpst;
+pub mod mrrm;
 pub mod msct;
 pub mod msdm;
 pub mod nfit;
@@ -48,6 +52,7 @@ pub mod spmi;
 pub mod srat;
 pub mod stao;
 pub mod svkl;
+pub mod swft;
 pub mod tdel;
 pub mod uefi;
 pub mod waet;
@@ -83,7 +88,7 @@ pub const BOOT_FORMS: [([u8; 4], TableForm); 16] = [
 
 /// Protection, and code outside the operating system.
 #[rattlefmt::skip]
-pub const SECURITY_FORMS: [([u8; 4], TableForm); 9] = [
+pub const SECURITY_FORMS: [([u8; 4], TableForm); 10] = [
     (*b"WSMT", wsmt::WSMT),
     (*b"CCEL", ccel::CCEL),
     (*b"TDEL", tdel::TDEL),
@@ -93,6 +98,7 @@ pub const SECURITY_FORMS: [([u8; 4], TableForm); 9] = [
     (*b"XENV", xenv::XENV),
     (*b"STAO", stao::STAO),
     (*b"PRMT", prmt::PRMT),
+    (*b"ASPT", aspt::ASPT),
 ];
 
 /// Errors, watchdogs and diagnosis.
@@ -113,11 +119,25 @@ pub const FAULTS_FORMS: [([u8; 4], TableForm); 13] = [
     (*b"WDDT", wddt::WDDT),
 ];
 
-/// Devices and memory.
+/// Devices.
 #[rattlefmt::skip]
-pub const DEVICES_FORMS: [([u8; 4], TableForm); 16] = [
+pub const DEVICES_FORMS: [([u8; 4], TableForm); 11] = [
     (*b"DMAR", dmar::DMAR),
     (*b"IVRS", ivrs::IVRS),
+    (*b"IOVT", iovt::IOVT),
+    (*b"APMT", apmt::APMT),
+    (*b"CSRT", csrt::CSRT),
+    (*b"NHLT", nhlt::NHLT),
+    (*b"SWFT", swft::SWFT),
+    (*b"SBST", sbst::SBST),
+    (*b"MCHI", mchi::MCHI),
+    (*b"SPMI", spmi::SPMI),
+    (*b"ASF!", asf::ASF),
+];
+
+/// Memory, power and performance.
+#[rattlefmt::skip]
+pub const MEMORY_FORMS: [([u8; 4], TableForm); 8] = [
     (*b"NFIT", nfit::NFIT),
     (*b"PCCT", pcct::PCCT),
     (*b"LPIT", lpit::LPIT),
@@ -125,11 +145,5 @@ pub const DEVICES_FORMS: [([u8; 4], TableForm); 16] = [
     (*b"MPST", mpst::MPST),
     (*b"PMTT", pmtt::PMTT),
     (*b"MPAM", mpam::MPAM),
-    (*b"APMT", apmt::APMT),
-    (*b"CSRT", csrt::CSRT),
-    (*b"NHLT", nhlt::NHLT),
-    (*b"SBST", sbst::SBST),
-    (*b"MCHI", mchi::MCHI),
-    (*b"SPMI", spmi::SPMI),
-    (*b"ASF!", asf::ASF),
+    (*b"MRRM", mrrm::MRRM),
 ];

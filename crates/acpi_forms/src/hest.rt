@@ -2,6 +2,7 @@
 
 ghost use Rattle.acpi_forms.specs.Named.{IsNamed, hest_names, rqsc_names};
 
+use crate::further::hest::HEST_FURTHER;
 use acpi_base::header::HEADER;
 use acpi_base::row::Row;
 use acpi_base::walk::{Place, Sizes};
@@ -64,7 +65,7 @@ const HEST: TableForm = TableForm {
         Part::Fields(&[Row::Number("Error Source Count", 4)]),
     ],
     structures: &SOURCES,
-    further: &[],
+    further: &HEST_FURTHER,
 };
 
 /// Returns the form of the Hardware Error Source Table (ACPI 6.5, 18.3.2).

@@ -1,4 +1,4 @@
-//! Which signatures have a form of their own, and which signature is meant by a name that is none.
+//! Which signatures have a form, and which signature is meant by a name that is none.
 
 ghost use Rattle.std.specs.Prelude.{◌≡◌};
 ghost use Rattle.acpi_forms.specs.Known.{has_form, is_known, meant_by, meant};
@@ -6,14 +6,14 @@ ghost use Rattle.acpi_forms.specs.Known.{has_form, is_known, meant_by, meant};
 use crate::fixed::UNKNOWN;
 use crate::form::form_of;
 
-// Returns whether a signature, as a number, has a form of its own.
+// Returns whether a signature, as a number, has a form.
 fn has_form(signature: u32) -> bool
     ensures { result ≡ has_form signature }
 {
     signature == u32::from_le_bytes(*b"RSD ") || form_of(signature).name != UNKNOWN.name
 }
 
-/// Returns whether a text is a signature that has a form of its own. A pointer's is `RSD `, as in the text of a table. The tables
+/// Returns whether a text is a signature that has a form. A pointer's is `RSD `, as in the text of a table. The tables
 /// of other signatures are shown and made by their header alone.
 pub fn is_known(signature: &[u8]) -> bool
     ensures { result ≡ is_known signature.now }

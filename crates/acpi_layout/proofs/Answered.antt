@@ -1,4 +1,4 @@
--- What laying answers.
+-- What laying returns.
 use Rattle.std.proofs.Common.{◌≡◌, ◌≢◌, ℕ, ◌+◌, ◌*◌, ◌^◌, ◌<◌, ◌≤◌, List, [], ◌∷◌, length, map, nat_lt, Bool, true, false, Some, None, refl, sym, ap, ◌∙◌, arith, length-append}
 use Rattle.std.specs.Prelude.{◌&&◌, Result, IsErrAnd, Option}
 use Rattle.std.proofs.lemmas.List.{length-map}

@@ -1,4 +1,4 @@
--- What laying tables answers.
+-- What laying tables returns.
 use Rattle.std.specs.Prelude.{◌≡◌, ◌≢◌, ℕ, List, Option, None, Some, Result, IfOk, IfErr, OnOk}
 use Rattle.acpi_base.specs.declared.error.Error.{Error}
 use Rattle.acpi_base.specs.declared.error.Error.TheVariants.{Memory}

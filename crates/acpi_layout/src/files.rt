@@ -37,7 +37,7 @@ fn only<'a>(signature: &[u8; 4], files: &'a [Vec<u8>]) -> Result<Option<&'a [u8]
     Ok(found)
 }
 
-// Returns whether a file is a table that the XSDT lists beside the FADT.
+// Returns whether a file is a table that the XSDT lists besides the FADT.
 fn is_other(file: &[u8]) -> bool
     ensures { result ≡ is_other file.now }
 {

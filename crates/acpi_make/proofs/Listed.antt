@@ -10,7 +10,7 @@ use Rattle.acpi_base.specs.Walk.{place_offset, place_width, end_of, IsPiece, Are
 use Rattle.acpi_base.specs.declared.walk.Place.{Place}
 use Rattle.acpi_base.specs.declared.walk.Place.TheVariants.{Nowhere, Byte, Word, DWord}
 use Rattle.acpi_base.specs.declared.walk.Sizes.{Sizes}
-use Rattle.acpi_base.specs.declared.walk.Sizes.TheVariants.{EachOf, ToldAt, BySource}
+use Rattle.acpi_base.specs.declared.walk.Sizes.TheVariants.{EachOf, ToldAt, ByType}
 use Rattle.acpi_make.specs.Draft.{nothing_yet}
 use Rattle.acpi_make.specs.Laws.{TablesAreWalked}
 use Rattle.acpi_make.specs.Own.{own, own_at, next_start, count_structures, size_own, sizes_own}
@@ -89,7 +89,7 @@ piece_is : (sizes : Sizes) (at next : ℕ) (bytes : List ℕ) → HasSizes sizes
     → HasBytesOf sizes (take (next - at) (drop at bytes)) → AllHold bytes (size_own sizes at (next - at))
     → IsPiece sizes (take (next - at) (drop at bytes))
 piece_is (EachOf size) at next bytes sound up within small has hold = has
-piece_is BySource at next bytes sound up within small has hold = has
+piece_is (ByType kind types) at next bytes sound up within small has hold = has
 piece_is (ToldAt place) at next bytes sound up within small has hold =
     let size = next - at in
     let long = length-take-le size (drop at bytes) (omega (arith, up, within, length-drop at bytes)) in

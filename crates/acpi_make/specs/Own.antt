@@ -9,7 +9,7 @@ use denote.Ref.{Bor}
 use Rattle.acpi_base.specs.Walk.{place_offset, place_width, end_of}
 use Rattle.acpi_base.specs.declared.walk.Place.{Place}
 use Rattle.acpi_base.specs.declared.walk.Sizes.{Sizes}
-use Rattle.acpi_base.specs.declared.walk.Sizes.TheVariants.{EachOf, ToldAt, BySource}
+use Rattle.acpi_base.specs.declared.walk.Sizes.TheVariants.{EachOf, ToldAt, ByType}
 use Rattle.acpi_base.specs.declared.walk.Walk.{Walk}
 use Rattle.acpi_text.specs.Structure.{all_forms, form_parts, form_inner}
 use Rattle.acpi_text.specs.declared.form.Count.{Count}
@@ -63,7 +63,7 @@ count_structures (Reference at w from to ∷ marks) = count_structures marks
 abbrev pub size_own : Sizes → ℕ → ℕ → List Own
 size_own (EachOf n) start size = []
 size_own (ToldAt place) start size = own_at start size place size
-size_own BySource start size = []
+size_own (ByType kind types) start size = []
 
 -- the lengths of all structures
 abbrev pub sizes_own : Sizes → List Mark → ℕ → List Own

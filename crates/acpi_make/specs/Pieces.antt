@@ -2,7 +2,7 @@
 use Rattle.std.specs.Prelude.{◌≡◌, ℕ, ◌-◌, ◌≤◌, List, [], ◌∷◌, length, take, drop}
 use Rattle.acpi_base.specs.Walk.{end_of, IsPiece}
 use Rattle.acpi_base.specs.declared.walk.Sizes.{Sizes}
-use Rattle.acpi_base.specs.declared.walk.Sizes.TheVariants.{EachOf, ToldAt, BySource}
+use Rattle.acpi_base.specs.declared.walk.Sizes.TheVariants.{EachOf, ToldAt, ByType}
 use Rattle.acpi_make.specs.Own.{next_start}
 use Rattle.acpi_make.specs.declared.draft.Mark.{Mark}
 use Rattle.acpi_make.specs.declared.draft.Mark.TheVariants.{Structure, Line, Reference}
@@ -20,7 +20,7 @@ pieces_of (Reference at w from to ∷ marks) bytes = pieces_of marks bytes
 abbrev pub HasBytesOf : Sizes → List ℕ → Type 0
 HasBytesOf (EachOf size) piece = length piece ≡ size
 HasBytesOf (ToldAt place) piece = end_of place ≤ length piece
-HasBytesOf BySource piece = IsPiece BySource piece
+HasBytesOf (ByType kind types) piece = IsPiece (ByType kind types) piece
 
 abbrev pub HaveBytesOf : Sizes → List (List ℕ) → Type 0
 HaveBytesOf sizes [] = Unit {0}

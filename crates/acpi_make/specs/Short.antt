@@ -8,7 +8,7 @@ use Rattle.acpi_base.specs.declared.row.Row.{Row}
 use Rattle.acpi_base.specs.declared.walk.Place.{Place}
 use Rattle.acpi_base.specs.declared.walk.Place.TheVariants.{Nowhere}
 use Rattle.acpi_base.specs.declared.walk.Sizes.{Sizes}
-use Rattle.acpi_base.specs.declared.walk.Sizes.TheVariants.{EachOf, ToldAt, BySource}
+use Rattle.acpi_base.specs.declared.walk.Sizes.TheVariants.{EachOf, ToldAt, ByType}
 use Rattle.acpi_base.specs.declared.walk.Walk.{Walk}
 use Rattle.acpi_text.specs.declared.form.Part.{Part}
 use Rattle.acpi_text.specs.declared.form.Part.TheVariants.{Fields, Between, Group}
@@ -66,7 +66,7 @@ any_left (suc w) (Byte b ∷ cells) = any_left w cells
 abbrev pub place_of_size : Sizes → Place
 place_of_size (ToldAt place) = place
 place_of_size (EachOf size) = Nowhere
-place_of_size BySource = Nowhere
+place_of_size (ByType kind types) = Nowhere
 
 abbrev pub size_place : Option Walk → Place
 size_place (Some walk) = place_of_size walk.sizes

@@ -12,7 +12,7 @@ use Rattle.acpi_base.specs.declared.row.Row.{Row}
 use Rattle.acpi_base.specs.declared.row.Row.TheVariants as rows
 use Rattle.acpi_base.specs.declared.walk.Place.{Place}
 use Rattle.acpi_base.specs.declared.walk.Sizes.{Sizes}
-use Rattle.acpi_base.specs.declared.walk.Sizes.TheVariants.{EachOf, ToldAt, BySource}
+use Rattle.acpi_base.specs.declared.walk.Sizes.TheVariants.{EachOf, ToldAt, ByType}
 use Rattle.acpi_base.specs.declared.walk.Walk.{Walk}
 use Rattle.acpi_text.specs.declared.form.Choice.{Choice}
 use Rattle.acpi_text.specs.declared.form.Count.{Count}
@@ -208,7 +208,7 @@ place_at place = if place_width place == 0 then [] else place_offset place ∷ [
 abbrev pub size_at : Sizes → List ℕ
 size_at (EachOf n) = []
 size_at (ToldAt place) = place_at place
-size_at BySource = []
+size_at (ByType kind types) = []
 
 abbrev pub counted_at : Count → List ℕ
 counted_at (Field place) = place_at place

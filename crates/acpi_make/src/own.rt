@@ -89,7 +89,7 @@ fn push_size(sizes: Sizes, start: usize, size: usize, owns: &mut Vec<Own>) -> Re
     match sizes {
         Sizes::ToldAt(place) => push_at(start, size, place, size, owns),
         Sizes::EachOf(_) => Ok(()),
-        Sizes::BySource => Ok(()),
+        Sizes::ByType(_, _) => Ok(()),
     }
 }
 

@@ -114,7 +114,7 @@ fn size_place(walk: Option<Walk>) -> Place
         Some(walk) => match walk.sizes {
             Sizes::ToldAt(place) => place,
             Sizes::EachOf(_) => Place::Nowhere,
-            Sizes::BySource => Place::Nowhere,
+            Sizes::ByType(_, _) => Place::Nowhere,
         },
         None => Place::Nowhere,
     }

@@ -484,7 +484,7 @@ fn push_size(sizes: Sizes, own: &mut Vec<usize>) -> Result<(), AllocError>
     match sizes {
         Sizes::ToldAt(place) => push_place(place, own),
         Sizes::EachOf(_) => Ok(()),
-        Sizes::BySource => Ok(()),
+        Sizes::ByType(_, _) => Ok(()),
     }
 }
 

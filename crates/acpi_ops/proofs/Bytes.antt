@@ -1,14 +1,29 @@
 -- Descriptors are bytes.
-use Rattle.std.proofs.Common.{ℕ, ◌+◌, ◌*◌, ◌-◌, ◌<◌, List, [], ◌∷◌, Bool, true, false, lit<}
-use Rattle.acpi_base.specs.declared.error.Error.TheVariants.{AddressRange}
+use Rattle.std.proofs.Common.{ℕ, ◌+◌, ◌*◌, ◌-◌, ◌<◌, List, [], ◌∷◌, ◌++◌, length, Bool, true, false, Some, None, lit<, arith}
+use Rattle.std.specs.Prelude.{Option}
+use Rattle.std.specs.List.{flat_map}
+use Rattle.acpi_base.specs.declared.error.Error.TheVariants.{AddressRange, FieldWidth}
 use Rattle.acpi_base.specs.Bytes.{AreBytes, le}
 use Rattle.acpi_base.specs.Fields.{NamedField, fields_joined}
 use Rattle.acpi_base.specs.Gas.{space_number, size_number}
 use Rattle.acpi_base.specs.Object.{whole, provided}
 use Rattle.acpi_base.proofs.Bytes.{bytes_both, bytes_le}
 use Rattle.acpi_ops.specs.declared.address_space.AddressSpace.{AddressSpace}
-use Rattle.acpi_ops.specs.AddressSpace.{byte, word, record_of, or_zero, is_range, space_bytes}
-use Rattle.acpi_ops.specs.Descriptor.{bit, fixed_fields, port_fields, interrupt_fields, register_fields}
+use Rattle.acpi_ops.specs.declared.address_space.FixedEnd.{FixedEnd}
+use Rattle.acpi_ops.specs.declared.address_space.FixedEnd.TheVariants as ends
+use Rattle.acpi_ops.specs.declared.address_space.Movable.{Movable}
+use Rattle.acpi_ops.specs.AddressSpace.{byte, word, record_of, or_zero, end_flags, fixed_flags, granularity_in, size_of}
+use Rattle.acpi_ops.specs.AddressSpace.{is_range, space_bytes}
+use Rattle.acpi_ops.specs.Descriptor.{bit, vector_flags, fixed_fields, port_fields, interrupt_fields, register_fields}
+use Rattle.acpi_ops.specs.declared.gpio.Settings.{Settings}
+use Rattle.acpi_ops.specs.declared.serial.Bus.{Bus}
+use Rattle.acpi_ops.specs.Gpio.{config_number, source_at, vendor_at, gpio_head_fields, pins_bytes, gpio_bytes}
+use Rattle.acpi_ops.specs.Interrupts.{interrupts_head_fields, numbers_bytes, interrupts_bytes}
+use Rattle.acpi_ops.specs.Memory.{memory_24_fields, memory_32_fields}
+use Rattle.acpi_ops.specs.Serial.{general_flags, length_after, serial_head_fields, serial_bytes}
+use Rattle.acpi_ops.specs.Vendor.{vendor_short_fields, vendor_long_fields}
+use Rattle.acpi_ops.specs.Small.{irq_fields, irq_no_flags_fields, dma_fields, fixed_port_fields, fixed_dma_fields, width_number}
+use Rattle.acpi_ops.specs.Small.{start_dependent_fields, start_dependent_no_priority_fields, end_dependent_fields}
 use Rattle.acpi_ops.specs.Laws.{DescriptorsAreBytes}
 
 -- fields of bytes
@@ -24,10 +39,27 @@ tested : (test : Bool) (bytes : List ℕ) → AreBytes bytes → AreBytes (provi
 tested true bytes is = is
 tested false bytes is = tt
 
+-- the general flags are small
+end_few : (e : FixedEnd) → end_flags e < 16
+end_few ends.Neither = lit< tt
+end_few ends.Min = lit< tt
+end_few ends.Max = lit< tt
+
+fixed_few : (m : Option (Movable ℕ)) → fixed_flags (λ n. n) m < 16
+fixed_few (Some m) = end_few m.fixed
+fixed_few None = lit< tt
+
+bit_few : (set : Bool) → bit set 2 < 3
+bit_few true = lit< tt
+bit_few false = lit< tt
+
+general_is_byte : (set : Bool) (m : Option (Movable ℕ)) → bit set 2 + fixed_flags (λ n. n) m < 256
+general_is_byte set m = omega (arith, bit_few set, fixed_few m)
+
 space_is_bytes : (tag w : ℕ) (a : AddressSpace ℕ) → tag < 256 → a.kind < 256 → a.flags < 256 → AreBytes (space_bytes (λ n. n) tag w a)
 space_is_bytes tag w a p q r =
-    joined (byte tag ∷ word (3 + 5 * w) ∷ byte a.kind ∷ byte 0x0c ∷ byte a.flags ∷ le w 0 ∷ le w a.min ∷ le w a.max ∷ le w (or_zero (λ n. n) a.translation) ∷ le w (a.max - a.min + 1) ∷ [])
-    ((p, tt), (bytes_le 2 (3 + 5 * w), ((q, tt), ((lit< tt, tt), ((r, tt), (bytes_le w 0, (bytes_le w a.min, (bytes_le w a.max, (bytes_le w (or_zero (λ n. n) a.translation), (bytes_le w (a.max - a.min + 1), tt))))))))))
+    joined (byte tag ∷ word (3 + 5 * w) ∷ byte a.kind ∷ byte (bit a.subtractive 2 + fixed_flags (λ n. n) a.movable) ∷ byte a.flags ∷ le w (granularity_in (λ n. n) a.movable) ∷ le w a.min ∷ le w a.max ∷ le w (or_zero (λ n. n) a.translation) ∷ le w (size_of (λ n. n) a) ∷ [])
+    ((p, tt), (bytes_le 2 (3 + 5 * w), ((q, tt), ((general_is_byte a.subtractive a.movable, tt), ((r, tt), (bytes_le w (granularity_in (λ n. n) a.movable), (bytes_le w a.min, (bytes_le w a.max, (bytes_le w (or_zero (λ n. n) a.translation), (bytes_le w (size_of (λ n. n) a), tt))))))))))
 
 abbrev AreNamed : List NamedField → Type 0
 AreNamed [] = Unit {0}
@@ -37,14 +69,119 @@ named : (fields : List NamedField) → AreNamed fields → AreBytes (fields_join
 named [] are = tt
 named (field ∷ fields) are = bytes_both field.bytes (fields_joined fields) are.0 (named fields are.1)
 
+-- ---- descriptors of any length
+
+provided_bytes : (test : Bool) (bytes : List ℕ) → AreBytes bytes → AreBytes (provided test FieldWidth (whole bytes)).front
+provided_bytes true bytes is = is
+provided_bytes false bytes is = tt
+
+lists : {X : Type 0} (f : X → List ℕ) (xs : List X) → ((x : X) → AreBytes (f x)) → AreBytes (flat_map f xs)
+lists f [] each = tt
+lists f (x ∷ xs) each = bytes_both (f x) (flat_map f xs) (each x) (lists f xs each)
+
+several : (flags : ℕ) (numbers : List ℕ) → AreBytes (interrupts_bytes flags numbers)
+several flags numbers =
+    bytes_both (fields_joined (interrupts_head_fields flags (length numbers))) (numbers_bytes numbers)
+    (named (interrupts_head_fields flags (length numbers)) (bytes_le 1 0x89, (bytes_le 2 (2 + 4 * length numbers), (bytes_le 1 flags, (bytes_le 1 (length numbers), tt)))))
+    (lists (λ n. le 4 n) numbers (λ n. bytes_le 4 n))
+
+short : (content : List ℕ) → AreBytes content → AreBytes (fields_joined (vendor_short_fields content))
+short content are = named (vendor_short_fields content) (bytes_le 1 (0x70 + length content), (are, tt))
+
+long : (content : List ℕ) → AreBytes content → AreBytes (fields_joined (vendor_long_fields content))
+long content are = named (vendor_long_fields content) (bytes_le 1 0x84, (bytes_le 2 (length content), (are, tt)))
+
+pins_are : (s : Settings) (pins source vendor : List ℕ) → AreBytes source → AreBytes vendor → AreBytes (gpio_bytes s pins source vendor)
+pins_are s pins source vendor p q =
+    let n = length pins in let k = length source in let m = length vendor in
+    bytes_both (fields_joined (gpio_head_fields s n k m)) (pins_bytes pins ++ (source ++ (0 ∷ vendor)))
+    (named (gpio_head_fields s n k m) (
+      bytes_le 1 0x8c,
+      (
+        bytes_le 2 (vendor_at n k + m - 3),
+        (
+          bytes_le 1 1,
+          (
+            bytes_le 1 s.connection,
+            (
+              bytes_le 2 (bit s.consumer 1),
+              (
+                bytes_le 2 s.flags,
+                (
+                  bytes_le 1 (config_number s.pin_config),
+                  (
+                    bytes_le 2 s.drive_strength,
+                    (
+                      bytes_le 2 s.debounce_timeout,
+                      (bytes_le 2 23, (bytes_le 1 0, (bytes_le 2 (source_at n), (bytes_le 2 (vendor_at n k), (bytes_le 2 m, tt))))),
+                    ),
+                  ),
+                ),
+              ),
+            ),
+          ),
+        ),
+      ),
+    ))
+    (bytes_both (pins_bytes pins) (source ++ (0 ∷ vendor)) (lists (λ n. le 2 n) pins (λ n. bytes_le 2 n))
+    (bytes_both source (0 ∷ vendor) p (lit< tt, q)))
+
+bus_are : (b : Bus) (own vendor source : List ℕ) → AreBytes own → AreBytes vendor → AreBytes source → AreBytes (serial_bytes b own vendor source)
+bus_are b own vendor source p q r =
+    let n = length own + length vendor in let k = length source in
+    bytes_both (fields_joined (serial_head_fields b n k)) (own ++ (vendor ++ (source ++ 0 ∷ [])))
+    (named (serial_head_fields b n k) (
+      bytes_le 1 0x8e,
+      (
+        bytes_le 2 (length_after n k),
+        (
+          bytes_le 1 2,
+          (
+            bytes_le 1 0,
+            (
+              bytes_le 1 b.bus,
+              (bytes_le 1 (general_flags b.general), (bytes_le 2 b.specific, (bytes_le 1 1, (bytes_le 2 n, tt)))),
+            ),
+          ),
+        ),
+      ),
+    ))
+    (bytes_both own (vendor ++ (source ++ 0 ∷ [])) p
+    (bytes_both vendor (source ++ 0 ∷ []) q (bytes_both source (0 ∷ []) r (lit< tt, tt))))
+
+-- ---- all of them
+
 pub descriptors_are_bytes : DescriptorsAreBytes
 descriptors_are_bytes = record {
   fixed = λ read_write base size. named (fixed_fields read_write base size)
       (bytes_le 1 0x86, (bytes_le 2 9, (bytes_le 1 (bit read_write 1), (bytes_le 4 base, (bytes_le 4 size, tt)))));
-  port = λ min max alignment size _ _. named (port_fields min max alignment size)
+  memory_24 = λ read_write min max alignment size. named (memory_24_fields read_write min max alignment size)
+      (bytes_le 1 0x81, (bytes_le 2 9, (bytes_le 1 (bit read_write 1), (bytes_le 2 min, (bytes_le 2 max, (bytes_le 2 alignment, (bytes_le 2 size, tt)))))));
+  memory_32 = λ read_write min max alignment size. named (memory_32_fields read_write min max alignment size)
+      (bytes_le 1 0x85, (bytes_le 2 17, (bytes_le 1 (bit read_write 1), (bytes_le 4 min, (bytes_le 4 max, (bytes_le 4 alignment, (bytes_le 4 size, tt)))))));
+  irq = λ mask information. named (irq_fields mask information)
+      (bytes_le 1 0x23, (bytes_le 2 mask, (bytes_le 1 information, tt)));
+  irq_no_flags = λ mask. named (irq_no_flags_fields mask)
+      (bytes_le 1 0x22, (bytes_le 2 mask, tt));
+  dma = λ channels information. named (dma_fields channels information)
+      (bytes_le 1 0x2a, (bytes_le 1 channels, (bytes_le 1 information, tt)));
+  start_dependent = λ priority. named (start_dependent_fields priority)
+      (bytes_le 1 0x31, (bytes_le 1 priority, tt));
+  start_dependent_no_priority = named start_dependent_no_priority_fields
+      (bytes_le 1 0x30, tt);
+  end_dependent = named end_dependent_fields
+      (bytes_le 1 0x38, tt);
+  port = λ min max alignment size _ _. named (port_fields 1 min max alignment size)
       (bytes_le 1 0x47, (bytes_le 1 1, (bytes_le 2 min, (bytes_le 2 max, (bytes_le 1 alignment, (bytes_le 1 size, tt))))));
+  port_10 = λ min max alignment size. named (port_fields 0 min max alignment size)
+      (bytes_le 1 0x47, (bytes_le 1 0, (bytes_le 2 min, (bytes_le 2 max, (bytes_le 1 alignment, (bytes_le 1 size, tt))))));
+  fixed_port = λ base size. named (fixed_port_fields base size)
+      (bytes_le 1 0x4b, (bytes_le 2 base, (bytes_le 1 size, tt)));
+  fixed_dma = λ request_line channel width. named (fixed_dma_fields request_line channel width)
+      (bytes_le 1 0x55, (bytes_le 2 request_line, (bytes_le 2 channel, (bytes_le 1 (width_number width), tt))));
   interrupt = λ flags number _. named (interrupt_fields flags number)
       (bytes_le 1 0x89, (bytes_le 2 6, (bytes_le 1 flags, (bytes_le 1 1, (bytes_le 4 number, tt)))));
+  several = λ f numbers. provided_bytes _ (interrupts_bytes (vector_flags f) numbers) (several (vector_flags f) numbers);
   register = λ gas _ _. named (register_fields gas) (
     bytes_le 1 0x82,
     (
@@ -59,4 +196,8 @@ descriptors_are_bytes = record {
     ),
   );
   space = λ tag w a p q r. tested (is_range (λ n. n) w a) (space_bytes (λ n. n) tag w a) (space_is_bytes tag w a p q r);
+  short = λ content p. provided_bytes _ (fields_joined (vendor_short_fields content)) (short content p);
+  long = λ content p. provided_bytes _ (fields_joined (vendor_long_fields content)) (long content p);
+  pins = λ s pins source vendor p q. provided_bytes _ (gpio_bytes s pins source vendor) (pins_are s pins source vendor p q);
+  bus = λ b own vendor source p q r. provided_bytes _ (serial_bytes b own vendor source) (bus_are b own vendor source p q r);
 }

@@ -1,3 +1,4 @@
+pub mod Built
 pub mod Bytes
 pub mod Items
 pub mod Meanings

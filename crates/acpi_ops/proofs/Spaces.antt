@@ -1,5 +1,5 @@
 -- Address spaces: their size, and when they are refused.
-use Rattle.std.proofs.Common.{◌≡◌, ℕ, ◌+◌, ◌*◌, ◌-◌, List, [], ◌++◌, length, Bool, true, false, Some, refl, sym, ap, ◌∙◌, arith}
+use Rattle.std.proofs.Common.{◌≡◌, ℕ, ◌+◌, ◌*◌, List, [], ◌++◌, length, Bool, true, false, Some, refl, sym, ap, ◌∙◌, arith}
 use Rattle.std.proofs.lemmas.List.{length-append}
 use Rattle.acpi_base.specs.declared.error.Error.{Error}
 use Rattle.acpi_base.specs.declared.error.Error.TheVariants.{AddressRange}
@@ -9,7 +9,7 @@ use Rattle.acpi_base.specs.Object.{whole, provided, WriteRefused}
 use Rattle.acpi_base.proofs.Objects.{refused_unprovided, provided_front}
 use Rattle.acpi_base.proofs.Bytes.{length_le}
 use Rattle.acpi_ops.specs.declared.address_space.AddressSpace.{AddressSpace}
-use Rattle.acpi_ops.specs.AddressSpace.{or_zero, is_range, space_bytes, space}
+use Rattle.acpi_ops.specs.AddressSpace.{or_zero, granularity_in, size_of, is_range, space_bytes, space}
 
 tested : (test : Bool) (bytes : List ℕ) (e : Error) → (provided test AddressRange (whole bytes)).end ≡ Some e → test ≡ false
 tested true bytes e h = absurd cc
@@ -34,7 +34,7 @@ numbers w a b c d e =
 module _ {T : Type 0} (number : T → ℕ) (tag w : ℕ) (a : AddressSpace T) where
   pub space_length : (fields : List ℕ) → fields ≡ space_bytes number tag w a → length fields ≡ 6 + 5 * w
   space_length fields is =
-      let n = numbers w 0 (number a.min) (number a.max) (or_zero number a.translation) (number a.max - number a.min + 1) in
+      let n = numbers w (granularity_in number a.movable) (number a.min) (number a.max) (or_zero number a.translation) (size_of number a) in
       ap length is ∙ omega (arith, n)
 
   pub space_refused : (e : Error) (m : Meaning) → e ≡ AddressRange → (space number tag w a).end ≡ Some e → WriteRefused e (space number tag w a) m m

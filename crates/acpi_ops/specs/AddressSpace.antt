@@ -1,11 +1,16 @@
 -- Address spaces (ACPI 6.5, 6.4.3.5).
-use Rattle.std.specs.Prelude.{◌≢◌, ℕ, ◌+◌, ◌-◌, ◌*◌, ◌^◌, nat_le, nat_lt, ◌&&◌, Bool, List, [], ◌∷◌, ◌++◌, Option, Some, None}
+use Rattle.std.specs.Prelude.{◌≢◌, ℕ, ◌+◌, ◌-◌, ◌*◌, ◌^◌, nat_le, nat_lt, ◌&&◌, Bool, false, List, [], ◌∷◌, ◌++◌}
+use Rattle.std.specs.Prelude.{Option, Some, None}
 use Rattle.acpi_base.specs.declared.error.Error.TheVariants.{Memory, AddressRange}
 use Rattle.acpi_base.specs.Bytes.{le}
 use Rattle.acpi_base.specs.Object.{Object, whole, provided, provided_ends_well}
+use Rattle.acpi_ops.specs.Descriptor.{bit}
 use Rattle.acpi_ops.specs.declared.address_space.AddressSpace.{AddressSpace}
 use Rattle.acpi_ops.specs.declared.address_space.AddressSpaceCacheable.{AddressSpaceCacheable}
 use Rattle.acpi_ops.specs.declared.address_space.AddressSpaceCacheable.TheVariants as cacheable
+use Rattle.acpi_ops.specs.declared.address_space.FixedEnd.{FixedEnd}
+use Rattle.acpi_ops.specs.declared.address_space.FixedEnd.TheVariants as ends
+use Rattle.acpi_ops.specs.declared.address_space.Movable.{Movable}
 
 -- fields of one byte and of two, lowest byte first
 abbrev pub byte : ℕ → List ℕ
@@ -26,28 +31,63 @@ cacheable_number cacheable.Cacheable = 1
 cacheable_number cacheable.WriteCombining = 2
 cacheable_number cacheable.PreFetchable = 3
 
+-- General Flags: Min Address Fixed at bit 2, and Max Address Fixed at bit 3
+abbrev pub end_flags : FixedEnd → ℕ
+end_flags ends.Neither = 0x00
+end_flags ends.Min = 0x04
+end_flags ends.Max = 0x08
+
+-- a range whose ends are both fixed
+abbrev pub fixed_range : {T : Type 0} → ℕ → ℕ → T → T → Option T → AddressSpace T
+fixed_range kind flags min max translation = record {
+  kind = kind;
+  flags = flags;
+  subtractive = false;
+  min = min;
+  max = max;
+  translation = translation;
+  movable = None;
+}
+
 module _ {T : Type 0} (number : T → ℕ) where
   abbrev pub or_zero : Option T → ℕ
   or_zero (Some v) = number v
   or_zero None = 0
 
+  -- which ends are fixed, as General Flags
+  abbrev pub fixed_flags : Option (Movable T) → ℕ
+  fixed_flags (Some m) = end_flags m.fixed
+  fixed_flags None = 0x0c
+
+  abbrev pub granularity_in : Option (Movable T) → ℕ
+  granularity_in (Some m) = number m.granularity
+  granularity_in None = 0
+
+  -- the size of a range, or all from its least address to its greatest
+  abbrev pub size_in : Option (Movable T) → ℕ → ℕ
+  size_in (Some m) all = or_zero m.length
+  size_in None all = all
+
+  abbrev pub size_of : AddressSpace T → ℕ
+  size_of a = size_in a.movable (number a.max - number a.min + 1)
+
   -- the range isn't empty, and its size fits w bytes
   abbrev pub is_range : ℕ → AddressSpace T → Bool
-  is_range w a = nat_le (number a.min) (number a.max) && nat_lt (number a.max - number a.min + 1) (2 ^ (8 * w))
+  is_range w a = nat_le (number a.min) (number a.max) && nat_lt (size_of a) (2 ^ (8 * w))
 
-  -- A descriptor with this first byte, whose addresses have w bytes. Both ends of the range are fixed, and it has no granularity.
+  -- a descriptor with this first byte, whose addresses have w bytes
   abbrev pub space_bytes : ℕ → ℕ → AddressSpace T → List ℕ
   space_bytes tag w a = record_of
       (byte tag  -- 0
       ∷ word (3 + 5 * w)  -- 1: Length
       ∷ byte a.kind  -- 3: Resource Type
-      ∷ byte 0x0c  -- 4: General Flags, Max Address Fixed and Min Address Fixed
+      ∷ byte (bit a.subtractive 0x02 + fixed_flags a.movable)  -- 4: General Flags, Decode Type and which ends are fixed
       ∷ byte a.flags  -- 5: Type Specific Flags
-      ∷ le w 0  -- 6: Address Space Granularity
+      ∷ le w (granularity_in a.movable)  -- 6: Address Space Granularity
       ∷ le w (number a.min)  -- 6 + w: Address Range Minimum
       ∷ le w (number a.max)  -- 6 + 2 w: Address Range Maximum
       ∷ le w (or_zero a.translation)  -- 6 + 3 w: Address Translation Offset
-      ∷ le w (number a.max - number a.min + 1)  -- 6 + 4 w: Address Length
+      ∷ le w (size_of a)  -- 6 + 4 w: Address Length
       ∷ [])
 
   abbrev pub space : ℕ → ℕ → AddressSpace T → Object

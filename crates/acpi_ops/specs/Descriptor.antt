@@ -4,6 +4,7 @@ use Rattle.acpi_base.specs.Fields.{NamedField, byte, word, dword, qword, hex, pr
 use Rattle.acpi_base.specs.Look.{Part, choice, means}
 use Rattle.acpi_base.specs.Gas.{space_number, size_number, address_spaces, access_sizes}
 use Rattle.acpi_base.specs.declared.gas.GAS.{GAS}
+use Rattle.acpi_ops.specs.declared.descriptor.InterruptFlags.{InterruptFlags}
 
 -- a bit of a field of flags, or 0
 abbrev pub bit : Bool → ℕ → ℕ
@@ -34,24 +35,33 @@ decode_bits =
     choice 0x1 (means 0x0 "Decode 10" ∷ means 0x1 "Decode 16" ∷ [])
     ∷ []
 
--- I/O Port Descriptor (6.4.2.5), with 16-bit decoding
-abbrev pub port_fields : ℕ → ℕ → ℕ → ℕ → List NamedField
-port_fields min max alignment size =
+-- I/O Port Descriptor (6.4.2.5)
+abbrev pub port_fields : ℕ → ℕ → ℕ → ℕ → ℕ → List NamedField
+port_fields decode min max alignment size =
     preset byte "I/O Port Descriptor" 0x47  -- 0
-    ∷ flags decode_bits byte "Information" 1  -- 1: Decode 16
+    ∷ flags decode_bits byte "Information" decode  -- 1
     ∷ hex word "Range Minimum Base Address" min  -- 2
     ∷ hex word "Range Maximum Base Address" max  -- 4
     ∷ byte "Base Alignment" alignment  -- 6
     ∷ byte "Range Length" size  -- 7
     ∷ []
 
+-- with 16-bit decoding
 abbrev pub port_bytes : ℕ → ℕ → ℕ → ℕ → List ℕ
-port_bytes min max alignment size = fields_joined (port_fields min max alignment size)
+port_bytes min max alignment size = fields_joined (port_fields 1 min max alignment size)
+
+-- with 10-bit decoding
+abbrev pub port_10_bytes : ℕ → ℕ → ℕ → ℕ → List ℕ
+port_10_bytes min max alignment size = fields_joined (port_fields 0 min max alignment size)
 
 -- Interrupt Vector Flags: Consumer, Mode, Polarity, Sharing
 abbrev pub interrupt_flags : Bool → Bool → Bool → Bool → ℕ
 interrupt_flags consumer edge_triggered active_low shared =
     bit consumer 1 + bit edge_triggered 2 + bit active_low 4 + bit shared 8
+
+-- the same, and Wake Capability
+abbrev pub vector_flags : InterruptFlags → ℕ
+vector_flags f = interrupt_flags f.consumer f.edge_triggered f.active_low f.shared + bit f.wake 16
 
 -- Interrupt Vector Flags: Consumer, Mode, Polarity and Sharing
 abbrev pub vector_bits : List Part

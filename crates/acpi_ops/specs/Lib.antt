@@ -1,4 +1,10 @@
 pub mod AddressSpace
 pub mod Descriptor
+pub mod Gpio
+pub mod Interrupts
 pub mod Item
 pub mod Laws
+pub mod Memory
+pub mod Serial
+pub mod Small
+pub mod Vendor

@@ -1,11 +1,12 @@
 //! Address spaces: ranges of memory, of ports and of bus numbers.
 
-ghost use Rattle.std.specs.Prelude.{◌≡◌, ℕ, ◌+◌, ◌-◌, ◌*◌, ◌^◌, ◌<◌, length, true, refl, OnOk, IfOk, IfErr, None, Some};
+ghost use Rattle.std.specs.Prelude.{◌≡◌, ℕ, ◌+◌, ◌*◌, ◌^◌, ◌<◌, length, true, refl, OnOk, IfOk, IfErr, None, Some};
 ghost use Rattle.acpi_base.specs.Bytes.{le};
 ghost use Rattle.acpi_base.specs.Record.{field_bytes, fields_bytes};
 ghost use Rattle.acpi_base.specs.Sink.{Took, Refused};
 ghost use Rattle.acpi_ops.specs.Descriptor.{bit};
-ghost use Rattle.acpi_ops.specs.AddressSpace.{cacheable_number, is_range, space_bytes, space, space_ends_well};
+ghost use Rattle.acpi_ops.specs.AddressSpace.{cacheable_number, end_flags, fixed_range, or_zero, fixed_flags, granularity_in};
+ghost use Rattle.acpi_ops.specs.AddressSpace.{size_of, is_range, space_bytes, space, space_ends_well};
 
 use crate::descriptor::bit;
 use acpi_base::error::{Error, R};
@@ -171,16 +172,34 @@ pub enum AddressSpaceCacheable {
 #[deprecated = "misspelled: use AddressSpaceCacheable"]
 pub type AddressSpaceCachable = AddressSpaceCacheable;
 
-/// A range of addresses of 16, 32 or 64 bits (ACPI 6.5, 6.4.3.5, Address Space Resource Descriptors) with both ends fixed.
-/// Writing it returns `AddressRange` if its end is before its start, or if its size doesn't fit its type. Only the range of all
-/// addresses has such a size.
+/// An end of a range that is fixed, where one may move (ACPI 6.5, 6.4.3.5, General Flags).
+#[derive(Copy, Clone, Debug, PartialEq)]
+pub enum FixedEnd {
+    Neither = 0x00,
+    Min = 0x04,
+    Max = 0x08,
+}
+
+/// A range that may move between its least and its greatest address.
+#[derive(Copy, Clone)]
+struct Movable<T> {
+    fixed: FixedEnd,
+    length: Option<T>,
+    granularity: T,
+}
+
+/// A range of addresses of 16, 32 or 64 bits (ACPI 6.5, 6.4.3.5, Address Space Resource Descriptors). Both of its ends are fixed,
+/// unless it is `movable` or `resizable`. Writing it returns `AddressRange` if its end is before its start, or if both ends are
+/// fixed and its size doesn't fit its type. Only the range of all addresses has such a size.
 #[derive(Drop)]
 pub struct AddressSpace<T> {
     kind: u8,
     flags: u8,
+    subtractive: bool,
     min: T,
     max: T,
     translation: Option<T>,
+    movable: Option<Movable<T>>,
 }
 
 impl<T: Address> AddressSpace<T> {
@@ -193,85 +212,149 @@ impl<T: Address> AddressSpace<T> {
         max: T,
         translation: Option<T>,
     ) -> AddressSpace<T>
-        ensures { result ≡ record {
-          kind = 0;
-          flags = 2 * cacheable_number cacheable + bit read_write 1;
-          min = min;
-          max = max;
-          translation = translation;
-        } }
+        ensures { result ≡ fixed_range 0 (2 * cacheable_number cacheable + bit read_write 1) min max translation }
     {
-        AddressSpace {
-            kind: 0,
-            flags: 2 * (cacheable as u8) + bit(read_write, 1),
-            min,
-            max,
-            translation,
-        }
+        let flags = 2 * (cacheable as u8) + bit(read_write, 1);
+        fixed_range(0, flags, min, max, translation)
     }
 
     /// A range of ports, from its first to its last, all of which are decoded (ACPI 6.5, 6.4.3.5.5, I/O flags). `translation` is
     /// added to an address to get the one on the other side of a bridge, or nothing if it is `None`.
     pub fn new_io(min: T, max: T, translation: Option<T>) -> AddressSpace<T>
-        ensures { result ≡ record { kind = 1; flags = 3; min = min; max = max; translation = translation } }
+        ensures { result ≡ fixed_range 1 3 min max translation }
     {
-        AddressSpace {
-            kind: 1,
-            flags: 3,
-            min,
-            max,
-            translation,
-        }
+        fixed_range(1, 3, min, max, translation)
     }
 
     /// A range of bus numbers, from its first to its last.
     pub fn new_bus_number(min: T, max: T) -> AddressSpace<T>
-        ensures { result ≡ record { kind = 2; flags = 0; min = min; max = max; translation = None } }
+        ensures { result ≡ fixed_range 2 0 min max None }
+    {
+        fixed_range(2, 0, min, max, None)
+    }
+
+    /// The same range, which a bridge decodes if no other device does (ACPI 6.5, 6.4.3.5, Decode Type). The flag is bit 1 of the
+    /// byte at offset 4 of the descriptor.
+    pub fn subtractive(self) -> AddressSpace<T>
+        ensures { result ≡ record self { subtractive = true } }
     {
         AddressSpace {
-            kind: 2,
-            flags: 0,
-            min,
-            max,
-            translation: None,
+            subtractive: true,
+            ..self
+        }
+    }
+
+    /// A range of `length` addresses anywhere from `min` to `max`: neither end is fixed. By the standard `granularity + 1` is a
+    /// power of two, and the first address and the length are multiples of it. The granularity is at offset 6 of the descriptor.
+    pub fn movable(self, length: T, granularity: T) -> AddressSpace<T>
+        ensures { result ≡ record self
+            { movable = Some (record { fixed = FixedEnd.Neither; length = Some length; granularity = granularity }) } }
+    {
+        self.with(FixedEnd::Neither, Some(length), granularity)
+    }
+
+    /// A range of any length from `min` to `max`, of which one end is fixed or neither. The length is 0 in the descriptor. By the
+    /// standard `granularity + 1` is a power of two, and the size is a multiple of it. The granularity is at offset 6.
+    pub fn resizable(self, fixed: FixedEnd, granularity: T) -> AddressSpace<T>
+        ensures { result ≡ record self { movable = Some (record { fixed = fixed; length = None; granularity = granularity }) } }
+    {
+        self.with(fixed, None, granularity)
+    }
+
+    fn with(self, fixed: FixedEnd, length: Option<T>, granularity: T) -> AddressSpace<T>
+        ensures { result ≡ record self
+            { movable = Some (record { fixed = fixed; length = length; granularity = granularity }) } }
+    {
+        AddressSpace {
+            movable: Some(Movable {
+                fixed,
+                length,
+                granularity,
+            }),
+            ..self
         }
     }
 }
 
+fn fixed_range<T: Address>(
+    kind: u8,
+    flags: u8,
+    min: T,
+    max: T,
+    translation: Option<T>,
+) -> AddressSpace<T>
+    ensures { result ≡ fixed_range kind flags min max translation }
+{
+    AddressSpace {
+        kind,
+        flags,
+        subtractive: false,
+        min,
+        max,
+        translation,
+        movable: None,
+    }
+}
+
+// The number of an address, or 0.
+fn or_zero<T: Address>(address: Option<T>) -> u64
+    ensures value { result ≡ or_zero T.number address }
+    ensures within { result < T.LAST + 1 }
+{
+    match address {
+        Some(address) => address.number(),
+        None => 0,
+    }
+}
+
 impl<T: Address> AddressSpace<T> {
-    // The number of addresses in the range.
+    // The value of the field Address Length.
     fn size(&self) -> R<u64>
         ensures ok { IfOk result
-            (λ size. (is_range T.number T.WIDTH self.now ≡ true) × (size ≡ T.number self.now.max - T.number self.now.min + 1)) }
+            (λ size. (is_range T.number T.WIDTH self.now ≡ true) × (size ≡ size_of T.number self.now)) }
         ensures err { IfErr result (λ e. (e ≡ Error.AddressRange) × ((space T.number T.TAG T.WIDTH self.now).end ≡ Some e)) }
     {
         let (min, max) = (self.min.number(), self.max.number());
-        if max < min || max - min == T::LAST {
+        if max < min {
             return Err(Error::AddressRange);
         }
-        Ok(max - min + 1)
+        match self.movable {
+            Some(movable) => Ok(or_zero(movable.length)),
+            None if max - min == T::LAST => Err(Error::AddressRange),
+            None => Ok(max - min + 1),
+        }
+    }
+
+    // Which ends are fixed, as General Flags, and the granularity.
+    fn ends(&self) -> (u8, u64)
+        ensures flags { result.0 ≡ fixed_flags T.number self.now.movable }
+        ensures granularity { result.1 ≡ granularity_in T.number self.now.movable }
+        ensures small { result.0 < 0x10 }
+        ensures within { result.1 < T.LAST + 1 }
+    {
+        match self.movable {
+            Some(movable) => (movable.fixed as u8, movable.granularity.number()),
+            None => (0x0c, 0),
+        }
     }
 
     // The fields of the range's descriptor.
     fn fields(&self, size: u64) -> [Field<'static>; 10]
         requires within { size < T.LAST + 1 }
-        requires is { size ≡ T.number self.now.max - T.number self.now.min + 1 }
+        requires is { size ≡ size_of T.number self.now }
         ensures { fields_bytes result ≡ space_bytes T.number T.TAG T.WIDTH self.now }
     {
-        let translation = match self.translation {
-            Some(offset) => offset.number(),
-            None => 0,
-        };
+        let (fixed, granularity) = self.ends();
         [
             Field::Byte(T::TAG),
             Field::Word(T::LENGTH),
             Field::Byte(self.kind),
-            Field::Byte(0x0c),
+            Field::Byte(bit(self.subtractive, 0x02) + fixed),
             Field::Byte(self.flags),
-            T::field(0),
+            T::field(granularity),
             T::field(self.min.number()),
             T::field(self.max.number()),
-            T::field(translation),
+            T::field(or_zero(self.translation)),
             T::field(size),
         ]
     }

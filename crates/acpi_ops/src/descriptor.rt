@@ -4,8 +4,9 @@ ghost use Rattle.std.specs.Prelude.{◌≡◌, ◌≤◌, ℕ, Bool, List, lengt
 ghost use Rattle.acpi_base.specs.Fields.{AreRowsOf, are_numbers, numbers_joined};
 ghost use Rattle.acpi_base.specs.Object.{whole, whole_ends_well};
 ghost use Rattle.acpi_base.specs.declared.gas.GAS.{GAS};
-ghost use Rattle.acpi_ops.specs.Descriptor.{bit, fixed_fields, fixed_bytes, port_fields, port_bytes};
-ghost use Rattle.acpi_ops.specs.Descriptor.{interrupt_flags, interrupt_fields, interrupt_bytes, register_fields, register_bytes};
+ghost use Rattle.acpi_ops.specs.Descriptor.{bit, fixed_fields, fixed_bytes, port_fields, port_bytes, port_10_bytes};
+ghost use Rattle.acpi_ops.specs.Descriptor.{interrupt_flags, vector_flags, interrupt_fields, interrupt_bytes};
+ghost use Rattle.acpi_ops.specs.Descriptor.{register_fields, register_bytes};
 
 use acpi_base::error::R;
 use acpi_base::gas::{ACCESS_SIZES, ADDRESS_SPACES, GAS};
@@ -40,7 +41,7 @@ impl<Kind, const N: usize> Aml for Descriptor<Kind, N> {
 
 impl<Kind, const N: usize> Descriptor<Kind, N> {
     // A descriptor of numbers, each as wide as its row.
-    fn of(rows: &[Row], numbers: &[u64]) -> Descriptor<Kind, N>
+    pub(crate) fn of(rows: &[Row], numbers: &[u64]) -> Descriptor<Kind, N>
         requires count { length rows.now ≡ length numbers.now }
         requires numbers { IsTrue (are_numbers rows.now) }
         requires size { length (numbers_joined rows.now numbers.now) ≡ N }
@@ -81,14 +82,16 @@ impl Descriptor<Memory32Kind, 12> {
 const MEMORY_32_FIXED: [Row; 5] = [
     Row::Preset("32-Bit Fixed Memory Range Descriptor", 1, 0x86),
     Row::Preset("Length", 2, 9),
-    Row::Flags(
-        "Information",
-        1,
-        &[Bits::OneOf(0x1, &[Word(0x0, "Read-only"), Word(0x1, "Read-write")])],
-    ),
+    Row::Flags("Information", 1, &WRITE_BITS),
     Row::Hex("Range Base Address", 4),
     Row::Number("Range Length", 4),
 ];
+
+/// The bits of the information of a range of memory: its write status.
+pub(crate) const WRITE_BITS: [Bits; 1] = [Bits::OneOf(
+    0x1,
+    &[Word(0x0, "Read-only"), Word(0x1, "Read-write")],
+)];
 
 /// The rows of the fields of a descriptor of a range of memory, in order.
 pub fn memory_32_fixed_rows() -> &'static [Row]
@@ -121,6 +124,23 @@ impl Descriptor<PortsKind, 8> {
             ],
         )
     }
+
+    /// Ports with 10-bit decoding: devices decode bits 0 to 9 of an address. The offsets are those of `new`.
+    pub fn new_decode_10(min: u16, max: u16, alignment: u8, length: u8) -> Descriptor<PortsKind, 8>
+        ensures { result ≡ port_10_bytes min max alignment length }
+    {
+        Descriptor::of(
+            &IO_PORTS,
+            &[
+                0x47,
+                0,
+                u64::from(min),
+                u64::from(max),
+                u64::from(alignment),
+                u64::from(length),
+            ],
+        )
+    }
 }
 
 const IO_PORTS: [Row; 6] = [
@@ -138,7 +158,7 @@ const IO_PORTS: [Row; 6] = [
 
 /// The rows of the fields of a descriptor of a range of ports, in order.
 pub fn io_rows() -> &'static [Row]
-    ensures { (min max alignment size : ℕ) → AreRowsOf result.now (port_fields min max alignment size) }
+    ensures { (decode min max alignment size : ℕ) → AreRowsOf result.now (port_fields decode min max alignment size) }
 {
     &IO_PORTS
 }
@@ -160,40 +180,79 @@ impl Descriptor<InterruptKind, 9> {
     ) -> Descriptor<InterruptKind, 9>
         ensures { result ≡ interrupt_bytes (interrupt_flags consumer edge_triggered active_low shared) number }
     {
-        let flags = bit(consumer, 1) + bit(edge_triggered, 2) + bit(active_low, 4) + bit(shared, 8);
+        Interrupt::of_flags(
+            InterruptFlags {
+                consumer,
+                edge_triggered,
+                active_low,
+                shared,
+                wake: false,
+            },
+            number,
+        )
+    }
+
+    /// An interrupt with these flags, which may wake the system, too.
+    pub fn of_flags(flags: InterruptFlags, number: u32) -> Descriptor<InterruptKind, 9>
+        ensures { result ≡ interrupt_bytes (vector_flags flags) number }
+    {
         Descriptor::of(
             &INTERRUPT,
-            &[0x89, 6, u64::from(flags), 1, u64::from(number)],
+            &[0x89, 6, u64::from(flags.byte()), 1, u64::from(number)],
         )
+    }
+}
+
+/// The flags of an interrupt (ACPI 6.5, 6.4.3.6, Interrupt Vector Flags), from bit 0 on in this order.
+#[derive(Copy, Clone, Debug, PartialEq)]
+pub struct InterruptFlags {
+    /// The device uses the interrupt, and doesn't provide it for others.
+    pub consumer: bool,
+    pub edge_triggered: bool,
+    pub active_low: bool,
+    pub shared: bool,
+    /// The interrupt can wake the system.
+    pub wake: bool,
+}
+
+impl InterruptFlags {
+    // The flags as a byte.
+    pub(crate) fn byte(self) -> u8
+        ensures value { result ≡ vector_flags self }
+    {
+        bit(self.consumer, 0x01)
+            + bit(self.edge_triggered, 0x02)
+            + bit(self.active_low, 0x04)
+            + bit(self.shared, 0x08)
+            + bit(self.wake, 0x10)
     }
 }
 
 const INTERRUPT: [Row; 5] = [
     Row::Preset("Extended Interrupt Descriptor", 1, 0x89),
     Row::Preset("Length", 2, 6),
-    Row::Flags(
-        "Interrupt Vector Flags",
-        1,
-        &[
-            Bits::OneOf(0x1, &[Word(0x0, "Producer"), Word(0x1, "Consumer")]),
-            Bits::OneOf(
-                0x2,
-                &[Word(0x0, "Level Triggered"), Word(0x2, "Edge Triggered")],
-            ),
-            Bits::OneOf(0x4, &[Word(0x0, "Active High"), Word(0x4, "Active Low")]),
-            Bits::OneOf(
-                0x18,
-                &[
-                    Word(0x0, "Exclusive"),
-                    Word(0x8, "Shared"),
-                    Word(0x10, "Exclusive and Wake"),
-                    Word(0x18, "Shared and Wake"),
-                ],
-            ),
-        ],
-    ),
+    Row::Flags("Interrupt Vector Flags", 1, &VECTOR_BITS),
     Row::Preset("Interrupt Table Length", 1, 1),
     Row::Number("Interrupt Number", 4),
+];
+
+/// The bits of the flags of an interrupt.
+pub(crate) const VECTOR_BITS: [Bits; 4] = [
+    Bits::OneOf(0x1, &[Word(0x0, "Producer"), Word(0x1, "Consumer")]),
+    Bits::OneOf(
+        0x2,
+        &[Word(0x0, "Level Triggered"), Word(0x2, "Edge Triggered")],
+    ),
+    Bits::OneOf(0x4, &[Word(0x0, "Active High"), Word(0x4, "Active Low")]),
+    Bits::OneOf(
+        0x18,
+        &[
+            Word(0x0, "Exclusive"),
+            Word(0x8, "Shared"),
+            Word(0x10, "Exclusive and Wake"),
+            Word(0x18, "Shared and Wake"),
+        ],
+    ),
 ];
 
 /// The rows of the fields of a descriptor of an interrupt, in order.

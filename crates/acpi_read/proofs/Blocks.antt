@@ -1,19 +1,16 @@
 -- Definition blocks of well-formed parts.
-use Rattle.std.proofs.Common.{◌≡◌, ℕ, ◌≤◌, List, [], ◌∷◌, ◌++◌, length, drop, refl, sym, ap, subst, ◌∙◌, arith}
+use Rattle.std.proofs.Common.{◌≡◌, ℕ, List, [], ◌∷◌, ◌++◌, length, drop, refl, sym, ap, subst, ◌∙◌, arith}
 use Rattle.std.specs.Prelude.{None}
 use Rattle.std.proofs.lemmas.List.{append-nil, drop_at}
-use Rattle.acpi_base.specs.Object.{Object, all_of}
+use Rattle.acpi_base.specs.Object.{all_of}
 use Rattle.acpi_base.specs.Sdt.{added}
 use Rattle.acpi_base.proofs.Lists.{joined_whole}
 use Rattle.acpi_base.proofs.Ends.{added_ends}
 use Rattle.acpi_term.specs.declared.mode.Mode.TheVariants.{Term}
 use Rattle.acpi_term.specs.Language.{written_grammar}
 use Rattle.acpi_term.specs.Spelling.{Spells, SpellEach}
-use Rattle.acpi_term.specs.Tree.{depth}
 use Rattle.acpi_term.proofs.Rows.{each, rows_mean}
-use Rattle.acpi_term.proofs.Unique.{one_list}
-use Rattle.acpi_read.specs.Laws.{Part, object_of, objects_of, AreWellFormed, meaning, AreTheOnlyTerms, BlocksMeanTheirParts}
-use Rattle.acpi_read.specs.Terms.{AreRead}
+use Rattle.acpi_read.specs.Laws.{Part, object_of, objects_of, AreWellFormed, meaning, BlocksMeanTheirParts}
 use Rattle.acpi_read.proofs.Refusals.{spelled_are_read}
 
 spell_each : (arity : List ℕ → ℕ) (parts : List Part) → AreWellFormed arity parts → (all_of (objects_of parts)).end ≡ None → SpellEach arity Term (objects_of parts) (meaning parts)

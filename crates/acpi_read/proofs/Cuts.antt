@@ -1,23 +1,24 @@
 -- Bytes that are cut into pieces.
-use Rattle.std.proofs.Common.{◌≡◌, ℕ, zero, suc, ◌+◌, ◌<◌, ◌≤◌, ◌==◌, List, [], ◌∷◌, ◌++◌, Bool, true, false, if◌then◌else◌, length, take, drop, get_or, map, refl, sym, ap, subst, ◌∙◌, arith, append_assoc, length-append, length-drop, inl, inr}
+use Rattle.std.proofs.Common.{◌≡◌, ℕ, zero, suc, ◌+◌, ◌<◌, ◌≤◌, List, [], ◌∷◌, ◌++◌, length, take, drop, get_or, map, refl, sym, ap, subst, ◌∙◌, arith, append_assoc, length-append, length-drop, inl, inr}
 use Rattle.std.specs.Prelude.{Option, Some, None, Result, Ok, Err, IfErr}
 use Rattle.std.specs.List.{All, concat}
 use Rattle.std.proofs.lemmas.List.{append-nil, take-append-drop, length-take-le, drop-drop, map_push}
 use Rattle.acpi_base.specs.Bytes.{field_at}
-use Rattle.acpi_base.specs.Walk.{place_offset, place_width, end_of, number_in, source_size, least, IsPiece, ArePieces, HasSizes, IsSound, offsets_from, walk_of, Walks, WalksBy, Tells}
-use Rattle.acpi_base.specs.FurtherWalk.{begin_of, walk_from, further_walk_of, Follows, HasNone, FollowsBy, AreFoundBy, either_walk}
+use Rattle.acpi_base.specs.Walk.{place_offset, place_width, end_of, number_in, type_size, rows_of, least, IsPiece, ArePieces, HasSizes, IsSound, offsets_from, Walks, WalksBy, Tells}
+use Rattle.acpi_base.specs.FurtherWalk.{begin_of, full_walk_of, walk_from, further_walk_of, HasNone, AreFoundBy, either_walk}
 use Rattle.acpi_base.specs.declared.further_walk.FurtherWalk.{FurtherWalk}
 use Rattle.acpi_base.specs.declared.walk.Place.{Place}
 use Rattle.acpi_base.specs.declared.walk.Sizes.{Sizes}
-use Rattle.acpi_base.specs.declared.walk.Sizes.TheVariants.{EachOf, ToldAt, BySource}
+use Rattle.acpi_base.specs.declared.walk.Sizes.TheVariants.{EachOf, ToldAt, ByType}
+use Rattle.acpi_base.specs.declared.walk.Types.{Types}
 use Rattle.acpi_base.specs.declared.walk.Walk.{Walk}
-use Rattle.acpi_base.proofs.Walks.{field_front, piece_has_bytes, same_front, one_list, concat_push, pieces_push}
+use Rattle.acpi_base.proofs.Walks.{field_front, piece_has_bytes, same_front, one_list, concat_push, pieces_push, type_longer, type_shorter, type_reached}
 use Rattle.acpi_read.specs.Pieces.{Refusal, no_memory, bad_structure, bad_count, unknown_source, another, IsFront, NoFront, IsFrontFault, AreCut, NoCut, IsCutFault, IsFaultBy, NoWalk, NoneFollow, refusal_of, IsStructureFault}
 use Rattle.acpi_term.specs.declared.read_error.ReadError.{ReadError}
 
 -- ---- the first piece
 
--- what a field of a list's beginning tells
+-- the number in a field at a list's beginning
 field_taken : (o w n : ℕ) (rest : List ℕ) → o + w ≤ n → n ≤ length rest → field_at o w (take n rest) ≡ field_at o w rest
 field_taken o w n rest reaches fits =
     sym (field_front o w (take n rest) (drop n rest) (omega (arith, reaches, length-take-le n rest fits))) ∙ ap (field_at o w) (take-append-drop n rest)
@@ -36,23 +37,17 @@ front_told place n rest reaches fits is =
 same_value : (m n : ℕ) → Some m ≡ Some n → m ≡ n
 same_value m n is = cc
 
-one_size : (b : Bool) (m n : ℕ) (o : Option ℕ) → 2 ≤ m → (o ≡ Some n → 2 ≤ n) → (if b then Some m else o) ≡ Some n → 2 ≤ n
-one_size true m n o low rest is = omega (arith, low, same_value m n is)
-one_size false m n o low rest is = rest is
-
--- every source has more bytes than its type
-source_has : (kind n : ℕ) → source_size kind ≡ Some n → 2 ≤ n
-source_has kind n is =
-    one_size (kind == 6) 48 n _ (omega arith) (one_size (kind == 7) 44 n _ (omega arith) (one_size (kind == 8) 56 n _ (omega arith)
-    (one_size (kind == 9) 64 n _ (omega arith) (one_size (kind == 10) 92 n _ (omega arith) (λ none. absurd cc))))) is
-
-pub front_source : (n : ℕ) (rest : List ℕ) → n ≤ length rest → source_size (field_at 0 2 rest) ≡ Some n → IsFront BySource n rest
-front_source n rest fits is =
+pub front_typed : (kind : Place) (types : Types) (n : ℕ) (rest : List ℕ) → n ≤ length rest → type_size kind (rows_of types) rest ≡ Some n
+    → IsFront (ByType kind types) n rest
+front_typed kind types n rest fits is =
     let size = length-take-le n rest fits in
-    let low = source_has (field_at 0 2 rest) n is in
-    record { fits = fits; piece = (omega (arith, size, low), ap source_size (field_taken 0 2 n rest low fits) ∙ is ∙ ap Some (sym size)) }
+    let whole : type_size kind (rows_of types) (take n rest ++ drop n rest) ≡ Some n = ap (type_size kind (rows_of types)) (take-append-drop n rest) ∙ is in
+    record { fits = fits; piece = type_shorter kind (rows_of types) (take n rest) (drop n rest) n (omega (arith, size)) whole ∙ ap Some (sym size) }
 
 -- ---- no piece at the front
+
+pub same_no_front : (s t : Sizes) (rest : List ℕ) → s ≡ t → NoFront t rest → NoFront s rest
+same_no_front s t rest same none = rw same none
 
 -- a piece at the front doesn't pass the bytes
 within : (p q rest : List ℕ) → p ++ q ≡ rest → length p ≤ length rest
@@ -61,7 +56,7 @@ within p q rest is = omega (arith, ap length is, length-append p q)
 pub none_each : (n : ℕ) (rest : List ℕ) → length rest < n → NoFront (EachOf n) rest
 none_each n rest short p q is piece = omega (arith, within p q rest is, piece, short)
 
--- what a piece at the front tells is its length
+-- the number in a piece at the front is its length
 told_length : (place : Place) (p q rest : List ℕ) → p ++ q ≡ rest → IsPiece (ToldAt place) p → number_in place rest ≡ length p
 told_length place p q rest is piece = ap (number_in place) (sym is) ∙ field_front (place_offset place) (place_width place) p q piece.0 ∙ piece.1
 
@@ -74,19 +69,19 @@ none_short place n rest told short p q is piece = omega (arith, piece.0, told_le
 pub none_long : (place : Place) (n : ℕ) (rest : List ℕ) → n ≡ number_in place rest → length rest < n → NoFront (ToldAt place) rest
 none_long place n rest told long p q is piece = omega (arith, within p q rest is, told_length place p q rest is piece, told, long)
 
-pub none_typed : (rest : List ℕ) → length rest < 2 → NoFront BySource rest
-none_typed rest short p q is piece = omega (arith, within p q rest is, piece.0, short)
+-- the length that a type decides is that of a piece at the front
+typed_length : (kind : Place) (types : Types) (p q rest : List ℕ) → p ++ q ≡ rest → IsPiece (ByType kind types) p
+    → type_size kind (rows_of types) rest ≡ Some (length p)
+typed_length kind types p q rest is piece =
+    ap (type_size kind (rows_of types)) (sym is) ∙ type_longer kind (rows_of types) p q (length p) piece
 
--- the size of a source's type is its length
-source_length : (p q rest : List ℕ) → p ++ q ≡ rest → IsPiece BySource p → source_size (field_at 0 2 rest) ≡ Some (length p)
-source_length p q rest is piece = ap source_size (ap (field_at 0 2) (sym is) ∙ field_front 0 2 p q (omega (arith, piece.0))) ∙ piece.1
+pub none_typed : (kind : Place) (types : Types) (rest : List ℕ) → type_size kind (rows_of types) rest ≡ None → NoFront (ByType kind types) rest
+none_typed kind types rest none p q is piece = let no : None ≡ Some (length p) = sym none ∙ typed_length kind types p q rest is piece in absurd cc
 
-pub none_known : (rest : List ℕ) → source_size (field_at 0 2 rest) ≡ None → NoFront BySource rest
-none_known rest none p q is piece = let no : None ≡ Some (length p) = sym none ∙ source_length p q rest is piece in absurd cc
-
-pub none_sized : (n : ℕ) (rest : List ℕ) → source_size (field_at 0 2 rest) ≡ Some n → length rest < n → NoFront BySource rest
-none_sized n rest sized long p q is piece =
-    let same = same_value n (length p) (sym sized ∙ source_length p q rest is piece) in omega (arith, within p q rest is, same, long)
+pub none_sized : (kind : Place) (types : Types) (n : ℕ) (rest : List ℕ) → type_size kind (rows_of types) rest ≡ Some n → length rest < n
+    → NoFront (ByType kind types) rest
+none_sized kind types n rest sized long p q is piece =
+    let same = same_value n (length p) (sym sized ∙ typed_length kind types p q rest is piece) in omega (arith, within p q rest is, same, long)
 
 -- ---- all pieces
 
@@ -166,7 +161,7 @@ miscounted w bytes pieces offsets n has cut is fails others walks =
 least_reached : (s : Sizes) (p : List ℕ) → IsPiece s p → least s ≤ length p
 least_reached (EachOf n) p is = omega (arith, is)
 least_reached (ToldAt place) p is = is.0
-least_reached BySource p is = is.0
+least_reached (ByType kind types) p is = type_reached kind (rows_of types) p (length p) is
 
 each_reaches : (s : Sizes) (n : ℕ) → n ≤ least s → (ps : List (List ℕ)) → ArePieces s ps → All (λ p. n ≤ length p) ps
 each_reaches s n low [] all k d h = absurd (omega arith)
@@ -207,11 +202,11 @@ fault_by : (e : Refusal) (o : Option Walk) (p : Option FurtherWalk) (f : Further
 fault_by e o p f bytes none some fault = rw (none, some) fault
 
 -- an error of a further table is one of its structures
-pub faults_further : {T : Type 0} (r : Result T ReadError) (s : ℕ) (f : FurtherWalk) (bytes table : List ℕ) → s ≡ field_at 0 4 table → walk_of s ≡ None → further_walk_of s ≡ Some f → bytes ≡ table
+pub faults_further : {T : Type 0} (r : Result T ReadError) (s : ℕ) (f : FurtherWalk) (bytes table : List ℕ) → s ≡ field_at 0 4 table → full_walk_of s ≡ None → further_walk_of s ≡ Some f → bytes ≡ table
     → IfErr r (λ e. IsFaultBy (refusal_of e) (Some f.walk) bytes (NoneFollow f bytes)) → IfErr r (λ e. IsStructureFault e table)
 faults_further (Ok x) s f bytes table told none some same fault = tt
 faults_further (Err e) s f bytes table told none some same fault =
-    fault_by (refusal_of e) (walk_of (field_at 0 4 table)) (further_walk_of (field_at 0 4 table)) f table (ap walk_of (sym told) ∙ none) (ap further_walk_of (sym told) ∙ some)
+    fault_by (refusal_of e) (full_walk_of (field_at 0 4 table)) (further_walk_of (field_at 0 4 table)) f table (ap full_walk_of (sym told) ∙ none) (ap further_walk_of (sym told) ∙ some)
     (subst (λ (b : List ℕ). IsFaultBy (refusal_of e) (Some f.walk) b (NoneFollow f b)) same fault)
 
 pub all_mapped : {P : Type 0} (f : P → List ℕ) (n : ℕ) (xs : List P) (i : ℕ) (d : P) → All (λ p. n ≤ length p) (map f xs) → i < length xs → n ≤ length (f (get_or xs i d))

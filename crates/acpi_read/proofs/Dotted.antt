@@ -7,7 +7,7 @@ use Rattle.std.proofs.lemmas.List.Elements.{All-cons, All-nil, All-tail, All-res
 use Rattle.std.proofs.lemmas.Bool.{and_parts, ne_eqb}
 use Rattle.std.proofs.lemmas.Bool.Decides.{nat_tests}
 use Rattle.std.proofs.lemmas.Str.Ascii.{IsAscii-from_all}
-use Rattle.acpi_term.specs.Name.{is_lead, is_part, is_segment, AreSegments, no_more, one_more, IsPath, single, double, multiple, IsName, relative, rooted, begins_up, IsAbove, no_path, path_above, further_up, IsNameString, as_written, root_alone, upwards}
+use Rattle.acpi_term.specs.Name.{is_lead, is_part, is_segment, AreSegments, no_more, one_more, IsPath, single, double, multiple, IsName, relative, rooted, begins_up, IsAbove, no_path, path_above, further_up, as_written, root_alone, upwards}
 use Rattle.acpi_term.proofs.Names.{lead_of}
 use Rattle.acpi_read.specs.Lines.{dotted_segments, tail, segments_of, name_text, IsShown}
 

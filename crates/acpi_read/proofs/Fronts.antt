@@ -11,7 +11,7 @@ use Rattle.acpi_term.proofs.Names.{segment_takes, segments_takes, path_takes, he
 use Rattle.acpi_read.specs.Cause.{FailsBy}
 use Rattle.acpi_read.proofs.After.{after_front, whole, regrouped}
 
--- this many bytes can be cut off, and what a reading answers is these and the others
+-- this many bytes can be cut off, and a reading returns these and the others
 pub record CutAt (n : ℕ) (bytes : List ℕ) (read : Result (List ℕ × List ℕ) Fault) : Type 0 where
   pub within : n ≤ length bytes
   pub is : read ≡ Ok (take n bytes, drop n bytes)

@@ -8,9 +8,9 @@ use Rattle.acpi_base.proofs.Bytes.{length_le}
 use Rattle.acpi_term.proofs.Lengths.{length_long}
 use Rattle.acpi_term.specs.declared.term.Term.{Term}
 use Rattle.acpi_term.specs.Length.{length_bytes, with_length}
-use Rattle.acpi_term.specs.Row.{Layout, bare, framed, layout}
+use Rattle.acpi_term.specs.Row.{Layout, bare, framed, layout, connected, entry_bytes}
 use Rattle.acpi_term.specs.Spelling.{laid, spelling}
-use Rattle.acpi_term.specs.Tree.{Head, Terms, count}
+use Rattle.acpi_term.specs.Tree.{connection_buffer, Head, Terms, count}
 use Rattle.acpi_term.specs.View.{view, views, single, IsApart}
 use Rattle.acpi_read.specs.Size.{capped, own_size, frame_size, content_size, content_sizes, AreSized}
 use Rattle.acpi_read.proofs.Texts.{dropped, past}
@@ -31,6 +31,11 @@ length_length (suc (suc k)) v = ap length (length_long k v) ∙ ap suc (length_l
 
 pub named_size : (name : List ℕ) (w bits : ℕ) → length (name ++ length_bytes w bits) ≡ length name + max w 1
 named_size name w bits = length-append name (length_bytes w bits) ∙ ap (λ (n : ℕ). length name + n) (length_length w bits)
+
+pub connection_size : (w size v : ℕ) (bytes : List ℕ) → length (entry_bytes (connection_buffer w size v bytes)) ≡ (2 + max w 1) + length (connected size v bytes)
+connection_size w size v bytes =
+    let content = connected size v bytes in
+    omega (arith, length-append (length_bytes w (w + length content)) content, length_length w (w + length content))
 
 -- ---- loops that add up to a limit
 

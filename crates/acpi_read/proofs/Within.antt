@@ -9,7 +9,7 @@ use Rattle.acpi_term.specs.Tree.{def_buffer, def_package}
 use Rattle.acpi_term.specs.Length.{length_bytes}
 use Rattle.acpi_term.specs.Row.{Layout, bare, framed, layout}
 use Rattle.acpi_term.specs.Spelling.{laid, spelled}
-use Rattle.acpi_term.specs.Reading.{Opened, follows, fills, packs, rooms, begins, least_of, open_at}
+use Rattle.acpi_term.specs.Reading.{Opened, follows, fills, packs, rooms, begins, banks, least_of, open_at}
 use Rattle.acpi_term.proofs.Openings.{OpenTakes, open_takes}
 use Rattle.acpi_read.specs.declared.terms.cause.Cause.{Cause}
 use Rattle.acpi_read.specs.declared.terms.open.TermStart as code
@@ -44,6 +44,7 @@ module _ (g : Grammar) (m : Mode) where
   opened_within bytes (begins w content after) t =
       let p = (t.2 [] content refl).0 in
       parts_within bytes (spelled (def_buffer content) w 1 []) after (length content) p (framed_long (0x11 ∷ []) (length_bytes w (w + length content)) [] [] content).1
+  opened_within bytes (banks w name bank content after) t = t.3
 
   pub is_within : (bytes : List ℕ) (r : Result code.TermStart Cause) → AreBytes bytes → Gives seen r (open_at g m bytes) → IfOk r (λ o. LiesWithin (length bytes) (seen o))
   is_within bytes (Ok o) fits given = opened_within bytes (seen o) (open_takes g m bytes (seen o) fits given)

@@ -1,5 +1,6 @@
 pub mod Table
 pub mod Cause
+pub mod TermReader
 pub mod TermStart
 pub mod Terms
 pub mod Pieces

@@ -3,20 +3,19 @@ use Rattle.std.specs.Prelude.{◌≡◌, ◌⊎◌, ℕ, zero, suc, ◌+◌, ◌
 use Rattle.std.specs.Prelude.{Bool, true, if◌then◌else◌, List, [], ◌∷◌, ◌++◌, length, map, codes}
 use Rattle.std.specs.Fmt.{decimal}
 use Rattle.acpi_base.specs.Digit.{hex_byte}
+use Rattle.acpi_base.specs.Number.{number_width}
 use Rattle.acpi_term.specs.Name.{IsNameString, IsAbove}
-use Rattle.acpi_term.specs.Tree.{Entry, named, reserved, Head, number, ones, string, local, arg, call}
-use Rattle.acpi_term.specs.Name.{IsNameString, IsAbove}
+use Rattle.acpi_term.specs.Tree.{Entry, named, reserved, access_as, extended_access_as, connection, connection_buffer}
+use Rattle.acpi_term.specs.Tree.{Head, number, ones, string, local, arg, call}
 use Rattle.acpi_term.specs.Tree.{def_scope, def_device, def_method, def_power_res, def_field, def_op_region}
-use Rattle.acpi_term.specs.Name.{IsNameString, IsAbove}
 use Rattle.acpi_term.specs.Tree.{def_name, def_mutex, def_acquire, def_release, def_buffer, def_package}
-use Rattle.acpi_term.specs.Name.{IsNameString, IsAbove}
 use Rattle.acpi_term.specs.Tree.{def_var_package, def_if, def_while, def_else, op, Terms, end, term, count}
 use Rattle.acpi_term.specs.Tree.{def_external, def_leveled_method, def_processor, def_thermal_zone, def_roomy_package}
-use Rattle.acpi_term.specs.Tree.{def_index_field}
+use Rattle.acpi_term.specs.Tree.{def_index_field, def_bank_field}
 use Rattle.acpi_term.specs.Tree.{def_fatal, match_test}
 use Rattle.acpi_term.specs.Length.{least_width}
 use Rattle.acpi_term.specs.Operator.{word}
-use Rattle.acpi_term.specs.Row.{entry_bits, entry_width, Layout, bare, framed, layout, writer_width}
+use Rattle.acpi_term.specs.Row.{entry_length, entry_width, Layout, bare, framed, layout, writer_width}
 use Rattle.acpi_term.specs.Spelling.{spelling}
 use Rattle.acpi_read.specs.Report.{printable}
 use Rattle.acpi_read.specs.Size.{content_sizes}
@@ -77,7 +76,7 @@ abbrev pub is_chosen : Head → ℕ → ℕ → List ℕ → Bool
 is_chosen h w n inside = w == writer_width h n inside && is_writable (layout h w n) inside
 
 abbrev pub is_entry_chosen : Entry → Bool
-is_entry_chosen e = entry_width e == least_width (entry_bits e) && nat_lt (entry_bits e) (2 ^ 28)
+is_entry_chosen e = entry_width e == least_width (entry_length e) && nat_lt (entry_length e) (2 ^ 28)
 
 -- ---- lines
 
@@ -128,6 +127,9 @@ head_text (def_roomy_package room) n = codes "package " ++ decimal n ++ codes " 
 head_text (def_index_field index name access lock update entries) n =
     codes "indexfield " ++ name_text index ++ (codes " data " ++ name_text name ++ codes " access " ++ decimal access)
     ++ (codes " lock " ++ decimal lock ++ codes " update " ++ decimal update)
+head_text (def_bank_field name bank access lock update entries) n =
+    codes "bankfield " ++ name_text name ++ (codes " bank " ++ name_text bank ++ codes " access " ++ decimal access)
+    ++ (codes " lock " ++ decimal lock ++ codes " update " ++ decimal update)
 head_text (def_fatal kind code) n = codes "fatal type " ++ decimal kind ++ codes " code " ++ decimal code
 head_text (match_test k) n = codes "test " ++ decimal k
 
@@ -139,9 +141,17 @@ indent (suc d) = 32 ∷ 32 ∷ indent d
 abbrev pub line : ℕ → List ℕ → List ℕ → List ℕ
 line d said width = indent d ++ said ++ width ++ 10 ∷ []
 
+abbrev pub access_words : ℕ → ℕ → List ℕ
+access_words access attribute = (codes "access type " ++ decimal access) ++ (codes " attribute " ++ decimal attribute)
+
 abbrev pub entry_text : Entry → List ℕ
 entry_text (named name bits w) = codes "entry " ++ map printable name ++ codes " bits " ++ decimal bits
 entry_text (reserved bits w) = codes "reserved bits " ++ decimal bits
+entry_text (access_as access attribute) = access_words access attribute
+entry_text (extended_access_as access attribute size) = access_words access attribute ++ (codes " length " ++ decimal size)
+entry_text (connection name) = codes "connection " ++ name_text name
+entry_text (connection_buffer w size v bytes) =
+    codes "connection size " ++ decimal size ++ width_suffix (v == number_width size) v ++ (codes " data" ++ data_text bytes)
 
 abbrev pub entry_line : ℕ → Entry → List ℕ
 entry_line d e = line d (entry_text e) (width_suffix (is_entry_chosen e) (entry_width e))
@@ -154,6 +164,7 @@ entry_lines d (e ∷ entries) = entry_line d e ++ entry_lines d entries
 abbrev pub own_lines : ℕ → Head → List ℕ
 own_lines d (def_field name access lock update entries) = entry_lines d entries
 own_lines d (def_index_field index name access lock update entries) = entry_lines d entries
+own_lines d (def_bank_field name bank access lock update entries) = entry_lines d entries
 own_lines d _ = []
 
 -- the width of a term, if the report shows it

@@ -2,14 +2,14 @@
 use Rattle.std.specs.Prelude.{◌≡◌, ℕ, ◌≤◌, ◌==◌, nat_le, if◌then◌else◌, List, [], ◌++◌, length, drop, take, Option, Some, None}
 use Rattle.std.specs.List.{concat}
 use Rattle.acpi_base.specs.Bytes.{field_at}
-use Rattle.acpi_base.specs.Walk.{source_size, place_offset, place_width, end_of, number_in, IsPiece, ArePieces}
+use Rattle.acpi_base.specs.Walk.{find_size, rows_of, place_offset, place_width, end_of, number_in, IsPiece, ArePieces}
 use Rattle.acpi_base.specs.Walk.{offsets_from, walk_of, Walks, WalksBy}
-use Rattle.acpi_base.specs.FurtherWalk.{begin_of, further_walk_of, table_walk_of, AreStructuresOf, FollowsBy}
+use Rattle.acpi_base.specs.FurtherWalk.{begin_of, full_walk_of, further_walk_of, table_walk_of, AreStructuresOf, FollowsBy}
 use Rattle.acpi_base.specs.declared.further_walk.FurtherWalk.{FurtherWalk}
 use Rattle.acpi_base.specs.declared.walk.Place.{Place}
 use Rattle.acpi_base.specs.declared.walk.Place.TheVariants.{Nowhere}
 use Rattle.acpi_base.specs.declared.walk.Sizes.{Sizes}
-use Rattle.acpi_base.specs.declared.walk.Sizes.TheVariants.{BySource}
+use Rattle.acpi_base.specs.declared.walk.Sizes.TheVariants.{ByType}
 use Rattle.acpi_base.specs.declared.walk.Walk.{Walk}
 use Rattle.acpi_term.specs.declared.read_error.ReadError.{ReadError}
 use Rattle.acpi_term.specs.declared.read_error.ReadError.TheVariants as errors
@@ -42,11 +42,10 @@ pub record IsFront (s : Sizes) (n : ℕ) (rest : List ℕ) : Type 0 where
 abbrev pub NoFront : Sizes → List ℕ → Type 0
 NoFront s rest = (p q : List ℕ) → p ++ q ≡ rest → IsPiece s p → ⊥
 
--- an error source whose type has no size
-pub record IsUnknownSource (s : Sizes) (rest : List ℕ) : Type 0 where
-  pub by : s ≡ BySource
-  pub told : 2 ≤ length rest
-  pub unknown : source_size (field_at 0 2 rest) ≡ None
+-- a structure whose type decides its length, and whose type isn't known
+abbrev pub IsUnknownSource : Sizes → List ℕ → Type 0
+IsUnknownSource (ByType kind types) rest = (end_of kind ≤ length rest) × (find_size (number_in kind rest) (rows_of types) ≡ None)
+IsUnknownSource _ rest = ⊥
 
 -- why no piece is at the front of bytes that stand at an offset
 abbrev pub IsFrontFault : Refusal → Sizes → ℕ → List ℕ → Type 0
@@ -116,7 +115,7 @@ first_in None None bytes = 0
 
 abbrev pub structure_offsets_of : List ℕ → List (List ℕ) → List ℕ
 structure_offsets_of bytes pieces =
-    offsets_from (first_in (walk_of (field_at 0 4 bytes)) (further_walk_of (field_at 0 4 bytes)) bytes) pieces
+    offsets_from (first_in (full_walk_of (field_at 0 4 bytes)) (further_walk_of (field_at 0 4 bytes)) bytes) pieces
 
 abbrev pub NoStructures : List ℕ → Type 0
 NoStructures bytes = (pieces : List (List ℕ)) → AreStructuresOf bytes pieces → ⊥

@@ -6,10 +6,10 @@ use Rattle.acpi_term.specs.Tree.{def_processor, def_thermal_zone, end}
 use Rattle.acpi_term.specs.Tree.{def_fatal, match_test}
 use Rattle.acpi_term.specs.Operator.{operands}
 use Rattle.acpi_term.specs.View.{view}
-use Rattle.acpi_term.specs.Reading.{Opened, follows, fills, packs, rooms, begins}
+use Rattle.acpi_term.specs.Reading.{Opened, follows, fills, packs, rooms, begins, banks}
 use Rattle.acpi_read.specs.declared.terms.open.TermStart as code
 use Rattle.acpi_read.specs.declared.terms.open.TermStart.TheVariants.{Leaf, Call, Operator, Region, Define, Fatal, Test}
-use Rattle.acpi_read.specs.declared.terms.open.TermStart.TheVariants.{Block, FirstAndBlock, Package, Rooms, Buffer}
+use Rattle.acpi_read.specs.declared.terms.open.TermStart.TheVariants.{Block, FirstAndBlock, Package, Rooms, Buffer, Bank}
 use Rattle.acpi_read.specs.declared.terms.open.Block as block
 use Rattle.acpi_read.specs.declared.terms.open.Block.TheVariants as blocks
 use Rattle.acpi_read.specs.declared.terms.open.FirstAndBlock as first_and_block
@@ -58,6 +58,7 @@ seen (FirstAndBlock f inside after) = fills (first_head f) (first_width f) insid
 seen (Package w n inside after) = packs w n inside.now after.now
 seen (Rooms w n inside after) = rooms w n inside.now after.now
 seen (Buffer w content after) = begins w content.now after.now
+seen (Bank start content after) = banks start.width start.name start.bank content.now after.now
 
 -- the bytes inside and after a head are a part of this many bytes
 abbrev pub LiesWithin : ℕ → Opened → Type 0
@@ -66,6 +67,7 @@ LiesWithin n (fills h w inside after) = length inside + length after ≤ n
 LiesWithin n (packs w count inside after) = length inside + length after ≤ n
 LiesWithin n (rooms w count inside after) = length inside + length after ≤ n
 LiesWithin n (begins w content after) = length content + length after ≤ n
+LiesWithin n (banks w name bank content after) = length content + length after ≤ n
 
 -- a leaf has no children
 abbrev pub IsAlone : code.TermStart → Type 0

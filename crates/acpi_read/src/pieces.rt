@@ -1,9 +1,10 @@
 //! The structures of a table, found by their lengths.
 
-ghost use Rattle.std.specs.Prelude.{◌≡◌, ℕ, ◌+◌, ◌≤◌, List, length, take, drop, map, Some, IfOk, IfErr};
+ghost use Rattle.std.specs.Prelude.{◌≡◌, ℕ, ◌+◌, ◌≤◌, List, length, take, drop, map, Some, None, IfOk, IfErr};
 ghost use Rattle.std.specs.List.{All};
 ghost use Rattle.acpi_base.specs.Bytes.{field_at};
-ghost use Rattle.acpi_base.specs.Walk.{end_of, offsets_from, HasSizes, IsSound, Walks, ArePiecesOf};
+ghost use Rattle.acpi_base.specs.Walk.{end_of, rows_of, type_size, offsets_from, HasSizes, IsSound, Walks, ArePiecesOf};
+ghost use Rattle.acpi_base.specs.declared.walk.Sizes.TheVariants.{ByType};
 ghost use Rattle.acpi_base.specs.FurtherWalk.{begin_of, AreStructuresOf, FollowsBy, IsSoundFurther};
 ghost use Rattle.acpi_read.specs.Pieces.{kind_in, kind_of, structure_kind_of, refusal_of, IsFront, IsFrontFault};
 ghost use Rattle.acpi_read.specs.Pieces.{AreCut, IsCutFault};
@@ -11,8 +12,8 @@ ghost use Rattle.acpi_read.specs.Pieces.{offsets_of, structure_offsets_of, IsFau
 ghost use Rattle.acpi_read.specs.Pieces.{NoWalk, NoneFollow};
 
 use crate::table::Table;
-use acpi_base::further_walk::{FurtherWalk, further_walk_of, table_walk_of};
-use acpi_base::walk::{Place, Sizes, Walk, source_size, walk_of};
+use acpi_base::further_walk::{FurtherWalk, full_walk_of, further_walk_of, table_walk_of};
+use acpi_base::walk::{Place, Sizes, Types, Walk, walk_of};
 use acpi_term::read_error::ReadError;
 use std::alloc::Global;
 
@@ -37,6 +38,18 @@ impl<'a> Piece<'a> {
     }
 }
 
+// Why the type of a structure decides no length.
+fn type_fault(rest: &[u8], kind: Place, types: Types, at: usize) -> ReadError
+    requires { type_size kind (rows_of types) rest.now ≡ None }
+    ensures { IsFrontFault (refusal_of result) (ByType kind types) at rest.now }
+{
+    if rest.len() >= kind.end() && types.find(kind.number(rest)).is_none() {
+        ReadError::UnknownSource(at)
+    } else {
+        ReadError::Structure(at)
+    }
+}
+
 // The length of the piece at the front of bytes, which stand at an offset of the table.
 fn front_size(rest: &[u8], sizes: Sizes, at: usize) -> Result<usize, ReadError>
     ensures ok { IfOk result (λ n. IsFront sizes n rest.now) }
@@ -54,15 +67,10 @@ fn front_size(rest: &[u8], sizes: Sizes, at: usize) -> Result<usize, ReadError>
             }
             size
         }
-        Sizes::BySource => {
-            if rest.len() < 2 {
-                return Err(ReadError::Structure(at));
-            }
-            let Some(size) = source_size(Place::Word(0).number(rest)) else {
-                return Err(ReadError::UnknownSource(at));
-            };
-            size
-        }
+        Sizes::ByType(kind, types) => match types.size(kind, rest) {
+            Some(size) => size,
+            None => return Err(type_fault(rest, kind, types, at)),
+        },
     };
     if size > rest.len() {
         return Err(ReadError::Structure(at));
@@ -161,11 +169,13 @@ impl<'a> Table<'a> {
         }
     }
 
-    /// The structures of any table whose structures are known, in order, each with its offset: those of `pieces`, and those of
-    /// the tables with a further walk (`acpi_base::further_walk`). The list is empty for other tables. It is empty, too, for a
-    /// table with a further walk that ends after its fixed fields, and contains 0 as the offset of the first and, if it has the
-    /// field, as the number of its structures. The errors are those of `pieces`, and:
+    /// The structures of any table whose structures are known, in order, each with its offset: those of `pieces`, in a HEST every
+    /// error source of the standard (types 0 to 2 and 6 to 11), and those of the tables with a further walk
+    /// (`acpi_base::further_walk`). The list is empty for other tables. It is also empty for a table with a further walk that ends
+    /// after its fixed fields and contains 0 as the offset of the first and, if it has the field, as the number of its structures.
+    /// The errors are those of `pieces`, and:
     ///
+    /// - UnknownSource: an error source has a type that isn't in the standard. The offset is that of the source.
     /// - Structure: the field with the offset of the first structure contains an offset within the fixed fields. The offset is
     ///   that of this field.
     pub fn structures(&self, alloc: Global) -> Result<Vec<Piece<'a>>, ReadError>
@@ -175,7 +185,7 @@ impl<'a> Table<'a> {
         ensures err { IfErr result (λ e. IsStructureFault e self.now) }
     {
         let signature = signature_number(self);
-        if let Some(walk) = walk_of(signature) {
+        if let Some(walk) = full_walk_of(signature) {
             return walked(alloc, self.bytes(), walk);
         }
         match further_walk_of(signature) {

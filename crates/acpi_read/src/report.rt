@@ -1,30 +1,31 @@
 //! Reports of tables and terms as text.
 
+mod entry;
 mod line;
 mod piece;
 mod size;
 mod width;
 pub mod words;
 
-ghost use Rattle.std.specs.Prelude.{◌≡◌, ◌++◌, IfErr, IfOk, OnOk, codes, map, string_bytes};
-ghost use Rattle.std.specs.Fmt.{decimal};
-ghost use Rattle.acpi_term.specs.View.{entry_view, head_of, view, views, single};
+ghost use Rattle.std.specs.Prelude.{◌≡◌, ◌++◌, IfErr, IfOk, OnOk, map, string_bytes};
+ghost use Rattle.acpi_term.specs.View.{head_of, view, views, single};
 ghost use Rattle.acpi_read.specs.Report.{header_line, printable, ReportsTable};
 ghost use Rattle.acpi_read.specs.Pieces.{IsPieceFault};
-ghost use Rattle.acpi_read.specs.Lines.{head_text, line, entry_text, entry_line, entry_lines, own_lines, lines, AreReported};
+ghost use Rattle.acpi_read.specs.Lines.{head_text, line, own_lines, lines, AreReported};
 ghost use Rattle.acpi_read.specs.Size.{width_words, HasSizes};
 
 use crate::pieces::kind_of;
+use crate::report::entry::push_entries;
 use crate::report::line::push_head;
 use crate::report::piece::push_pieces;
 use crate::report::size::content_sizes;
-use crate::report::width::{push_width, shown_entry_width, shown_width};
+use crate::report::width::{push_width, shown_width};
 use crate::report::words::push_indent;
 pub use crate::report::words::push_number;
 use crate::table::Table;
 use acpi_term::apart::{Kind, parts_of};
 use acpi_term::read_error::ReadError;
-use acpi_term::term::{Term, TermEntry};
+use acpi_term::term::Term;
 use std::alloc::{AllocError, Global};
 
 // A byte of a signature or of a segment, or `?` if it isn't printable.
@@ -158,50 +159,11 @@ fn push_own(depth: usize, kind: Kind<'_>, text: &mut String) -> Result<(), Alloc
     ensures { OnOk result (string_bytes text.new ≡ string_bytes text.old ++ own_lines depth (head_of kind.entry)) }
 {
     match kind {
-        Kind::Field(_, _, _, _, entries) | Kind::IndexField(_, _, _, _, _, entries) => {
-            push_entries(depth, entries, text)
-        }
+        Kind::Field(_, _, _, _, entries)
+        | Kind::IndexField(_, _, _, _, _, entries)
+        | Kind::BankField(_, _, _, _, _, entries) => push_entries(depth, entries, text),
         _ => Ok(()),
     }
-}
-
-fn push_entries(depth: usize, entries: &[TermEntry], text: &mut String) -> Result<(), AllocError>
-    ensures { OnOk result (string_bytes text.new ≡ string_bytes text.old ++ entry_lines depth (map entry_view entries.now)) }
-{
-    for entry in entries {
-        push_entry(depth, entry, text)?;
-    }
-    Ok(())
-}
-
-#[tactic(auto, using(crate::proofs::Texts::after_four))]
-fn push_entry(depth: usize, entry: &TermEntry, text: &mut String) -> Result<(), AllocError>
-    ensures { OnOk result (string_bytes text.new ≡ string_bytes text.old ++ entry_line depth (entry_view entry.now)) }
-{
-    push_indent(depth, text)?;
-    push_bits(entry, text)?;
-    let (TermEntry::Named(_, bits, width) | TermEntry::Reserved(bits, width)) = entry;
-    push_width(shown_entry_width(*bits, *width), text)?;
-    text.push_str("\n")
-}
-
-fn push_bits(entry: &TermEntry, text: &mut String) -> Result<(), AllocError>
-    ensures { OnOk result (string_bytes text.new ≡ string_bytes text.old ++ entry_text (entry_view entry.now)) }
-{
-    match entry {
-        TermEntry::Named(name, bits, _) => push_named_bits(name, *bits, text),
-        TermEntry::Reserved(bits, _) => push_number("reserved bits ", u64::from(*bits), text),
-    }
-}
-
-#[tactic(auto, using(crate::proofs::Texts::after_three))]
-fn push_named_bits(name: &[u8], bits: u32, text: &mut String) -> Result<(), AllocError>
-    ensures { OnOk result (string_bytes text.new ≡ string_bytes text.old
-        ++ (codes "entry " ++ map printable name.now ++ codes " bits " ++ decimal bits)) }
-{
-    text.push_str("entry ")?;
-    push_shown(name, text)?;
-    push_number(" bits ", u64::from(bits), text)
 }
 
 /// Adds the bytes of a signature or of a segment to a text, each as `?` if it isn't printable.

@@ -7,21 +7,25 @@ mod name;
 mod open;
 mod text;
 
-ghost use Rattle.std.specs.Prelude.{◌≡◌, ◌+◌, ◌<◌, ◌≤◌, ◌++◌, ◌∷◌, [], length, IfOk, OnOk, IfErr, Some, None};
+ghost use Rattle.std.specs.Prelude.{◌≡◌, ◌+◌, ◌-◌, ◌<◌, ◌≤◌, ◌++◌, ◌∷◌, [], length, IfOk, OnOk, IfErr, Some, None};
 ghost use Rattle.acpi_base.specs.Object.{IsOwnEnd};
 ghost use Rattle.acpi_term.specs.Arity.{arity};
 ghost use Rattle.acpi_term.specs.declared.language.Language.TheVariants.{Standard};
 ghost use Rattle.acpi_term.specs.Language.{grammar_of};
 ghost use Rattle.acpi_term.specs.Operator.{operands};
-ghost use Rattle.acpi_term.specs.Reading.{Bad, follows, fills, packs, rooms, roomed, begins, counted, all_of, close, term_at};
+ghost use Rattle.acpi_term.specs.Reading.{Bad, follows, fills, packs, rooms, roomed, begins, banks, banked};
+ghost use Rattle.acpi_term.specs.Reading.{counted, all_of, close, term_at};
 ghost use Rattle.acpi_term.specs.Tree.{call, def_op_region, def_name, def_package, def_roomy_package, op};
 ghost use Rattle.acpi_term.specs.Tree.{def_fatal, match_test};
-ghost use Rattle.acpi_term.specs.View.{view, views};
-ghost use Rattle.acpi_read.specs.Cause.{Answers, IsPlaced, error_kind};
+ghost use Rattle.acpi_term.specs.View.{view, views, single};
+ghost use Rattle.acpi_read.specs.Cause.{Answers, Gives, IsPlaced, error_kind};
+ghost use Rattle.acpi_read.specs.TermReader.{reads};
 ghost use Rattle.acpi_read.specs.TermStart.{seen, block_head, block_width, first_head, first_width, LiesWithin, IsAlone};
 ghost use Rattle.acpi_read.specs.Terms.{AreRead, IsUnread, AreReadIn, IsUnreadIn};
 
-use crate::terms::open::{Block, FirstAndBlock, TermStart, open};
+use crate::terms::cause::Cause;
+use crate::terms::field::entries;
+use crate::terms::open::{BankStart, Block, FirstAndBlock, TermStart, open};
 use acpi_base::buffer::append;
 use acpi_base::error::R;
 use acpi_base::object::Aml;
@@ -31,86 +35,109 @@ use acpi_term::name_string::{Arities, NameString};
 use acpi_term::op::Op;
 use acpi_term::read_error::ReadError;
 use acpi_term::term::{MAX_DEPTH, Term};
+use std::alloc::Global;
 
-/// Reads one term, at most this deep, and returns the bytes after it. The bytes end `end` bytes after the first byte of all.
+/// How terms are read.
+#[derive(Clone, Copy)]
+struct TermReader<'a> {
+    language: Language,
+    /// How many arguments names take.
+    arities: &'a Arities,
+    /// How deep a term may be.
+    depth: usize,
+}
+
+impl<'a> TermReader<'a> {
+    // The reader of a list of terms.
+    fn new(language: Language, arities: &'a Arities) -> TermReader<'a>
+        ensures { reads result ≡ term_at (grammar_of language (arity arities.now)) MAX_DEPTH }
+    {
+        TermReader {
+            language,
+            arities,
+            depth: MAX_DEPTH,
+        }
+    }
+
+    // The reader of the terms within a term.
+    fn within(&self) -> TermReader<'a>
+        requires { 0 < self.now.depth }
+        ensures { result ≡ record self.now { depth = self.now.depth - 1 } }
+    {
+        TermReader {
+            language: self.language,
+            arities: self.arities,
+            depth: self.depth - 1,
+        }
+    }
+}
+
+/// Reads one term, and returns the bytes after it. The bytes end `end` bytes after the first byte of all.
 #[cycle(read)]
 #[tactic(auto, unfolding(acpi_term::specs::Reading::term_at))]
 fn term<'a>(
-    language: Language,
-    arities: &Arities,
+    reader: &TermReader,
     mode: Mode,
     bytes: &'a [u8],
     end: usize,
-    depth: usize,
 ) -> Result<(Term, &'a [u8]), ReadError>
     requires { length bytes.now ≤ end }
     ensures gives { Answers (λ x. ((view x.0).0, (view x.0).1, (view x.0).2, x.1.now)) result
-        (term_at (grammar_of language (arity arities.now)) depth mode bytes.now) }
+        (reads reader.now mode bytes.now) }
     ensures shorter { IfOk result (λ x. length x.1.now < length bytes.now) }
     ensures placed { IfErr result (IsPlaced end) }
 {
     let offset = end - bytes.len();
-    if depth == 0 {
+    if reader.depth == 0 {
         return Err(ReadError::TooDeep(offset));
     }
-    match open(language, arities, mode, bytes) {
-        Ok(opened) => close(language, arities, opened, offset, end, depth - 1),
+    match open(reader.language, reader.arities, mode, bytes) {
+        Ok(opened) => close(&reader.within(), opened, offset, end),
         Err(cause) => Err(cause.at(offset)),
     }
 }
 
-/// Reads the children of a head that was opened at an offset, at most this deep, and returns the term. Each kind of term with
+/// Reads the children of a head that was opened at an offset, and returns the term. Each kind of term with
 /// children has a function of its own: Rattle clears all locals of a function on entry, so one large function would be slow.
 #[cycle(read)]
 #[tactic(auto, unfolding(acpi_term::specs::Reading::close, acpi_term::specs::Reading::counted))]
 fn close<'a>(
-    language: Language,
-    arities: &Arities,
+    reader: &TermReader,
     opened: TermStart<'a>,
     offset: usize,
     end: usize,
-    depth: usize,
 ) -> Result<(Term, &'a [u8]), ReadError>
     requires within { LiesWithin end (seen opened) }
     requires alone { IsAlone opened }
     requires place { offset ≤ end }
     ensures gives { Answers (λ x. ((view x.0).0, (view x.0).1, (view x.0).2, x.1.now)) result
-        (close (term_at (grammar_of language (arity arities.now)) depth) (seen opened.entry)) }
+        (close (reads reader.now) (seen opened.entry)) }
     ensures placed { IfErr result (IsPlaced end) }
 {
     match opened {
         TermStart::Leaf(leaf, rest) => Ok((leaf, rest)),
-        TermStart::Call(name, count, rest) => call(
-            language, arities, name, count, rest, end, depth,
-        ),
-        TermStart::Operator(op, rest) => operator(language, arities, op, rest, end, depth),
-        TermStart::Region(name, space, rest) => region(
-            language, arities, name, space, rest, end, depth,
-        ),
-        TermStart::Define(name, rest) => define(language, arities, name, rest, end, depth),
-        TermStart::Fatal(kind, code, rest) => fatal(
-            language, arities, kind, code, rest, end, depth,
-        ),
-        TermStart::Test(code, rest) => test(language, arities, code, rest, end, depth),
-        TermStart::Block(head, inside, after) => block(
-            language, arities, head, inside, after, end, depth,
-        ),
+        TermStart::Call(name, count, rest) => call(reader, name, count, rest, end),
+        TermStart::Operator(op, rest) => operator(reader, op, rest, end),
+        TermStart::Region(name, space, rest) => region(reader, name, space, rest, end),
+        TermStart::Define(name, rest) => define(reader, name, rest, end),
+        TermStart::Fatal(kind, code, rest) => fatal(reader, kind, code, rest, end),
+        TermStart::Test(code, rest) => test(reader, code, rest, end),
+        TermStart::Block(head, inside, after) => block(reader, head, inside, after, end),
         TermStart::FirstAndBlock(start, inside, after) => {
             if inside.is_empty() {
                 return Err(ReadError::Truncated(offset));
             }
-            first_and_block(language, arities, start, inside, after, end, depth)
+            first_and_block(reader, start, inside, after, end)
         }
         TermStart::Package(width, count, inside, after) => {
-            package(
-                language, arities, width, count, inside, after, offset, end, depth,
-            )
+            package(reader, width, count, inside, after, offset, end)
         }
         TermStart::Rooms(width, room, inside, after) => roomy(
-            language, arities, width, room, inside, after, offset, end, depth,
+            reader, width, room, inside, after, offset, end,
         ),
-        TermStart::Buffer(width, content, after) => {
-            buffer(language, arities, width, content, after, end, depth)
+        TermStart::Buffer(width, content, after) => { buffer(reader, width, content, after, end) }
+        TermStart::Bank(start, inside, after) => {
+            bank_field(reader, start, inside, after, offset, end)
         }
     }
 }
@@ -119,20 +146,18 @@ fn close<'a>(
 #[cycle(read)]
 #[tactic(auto, unfolding(acpi_term::specs::Reading::close, acpi_term::specs::Reading::counted))]
 fn call<'a>(
-    language: Language,
-    arities: &Arities,
+    reader: &TermReader,
     name: NameString,
     count: u8,
     rest: &'a [u8],
     end: usize,
-    depth: usize,
 ) -> Result<(Term, &'a [u8]), ReadError>
     requires within { length rest.now ≤ end }
     ensures gives { Answers (λ x. ((view x.0).0, (view x.0).1, (view x.0).2, x.1.now)) result
-        (close (term_at (grammar_of language (arity arities.now)) depth) (follows (call name) 0 count rest.now)) }
+        (close (reads reader.now) (follows (call name) 0 count rest.now)) }
     ensures placed { IfErr result (IsPlaced end) }
 {
-    let (args, rest) = several(language, arities, Mode::Term, count, rest, end, depth)?;
+    let (args, rest) = several(reader, Mode::Term, count, rest, end)?;
     Ok((Term::Call { name, args }, rest))
 }
 
@@ -140,27 +165,17 @@ fn call<'a>(
 #[cycle(read)]
 #[tactic(auto, unfolding(acpi_term::specs::Reading::close, acpi_term::specs::Reading::counted))]
 fn operator<'a>(
-    language: Language,
-    arities: &Arities,
+    reader: &TermReader,
     code: Op,
     rest: &'a [u8],
     end: usize,
-    depth: usize,
 ) -> Result<(Term, &'a [u8]), ReadError>
     requires within { length rest.now ≤ end }
     ensures gives { Answers (λ x. ((view x.0).0, (view x.0).1, (view x.0).2, x.1.now)) result
-        (close (term_at (grammar_of language (arity arities.now)) depth) (follows (op code) 0 (operands code) rest.now)) }
+        (close (reads reader.now) (follows (op code) 0 (operands code) rest.now)) }
     ensures placed { IfErr result (IsPlaced end) }
 {
-    let (operands, rest) = several(
-        language,
-        arities,
-        code.place(),
-        code.operands(),
-        rest,
-        end,
-        depth,
-    )?;
+    let (operands, rest) = several(reader, code.place(), code.operands(), rest, end)?;
     Ok((Term::Op { op: code, operands }, rest))
 }
 
@@ -168,22 +183,20 @@ fn operator<'a>(
 #[cycle(read)]
 #[tactic(auto, unfolding(acpi_term::specs::Reading::close, acpi_term::specs::Reading::counted))]
 fn region<'a>(
-    language: Language,
-    arities: &Arities,
+    reader: &TermReader,
     name: NameString,
     space: u8,
     rest: &'a [u8],
     end: usize,
-    depth: usize,
 ) -> Result<(Term, &'a [u8]), ReadError>
     requires within { length rest.now ≤ end }
     ensures gives { Answers (λ x. ((view x.0).0, (view x.0).1, (view x.0).2, x.1.now)) result
-        (close (term_at (grammar_of language (arity arities.now)) depth) (follows (def_op_region name space) 0 2 rest.now)) }
+        (close (reads reader.now) (follows (def_op_region name space) 0 2 rest.now)) }
     ensures placed { IfErr result (IsPlaced end) }
 {
-    let alloc = arities.allocator();
-    let (offset, rest) = term(language, arities, Mode::Term, rest, end, depth)?;
-    let (length, rest) = term(language, arities, Mode::Term, rest, end, depth)?;
+    let alloc = reader.arities.allocator();
+    let (offset, rest) = term(reader, Mode::Term, rest, end)?;
+    let (length, rest) = term(reader, Mode::Term, rest, end)?;
     let offset = Box::new(alloc, offset)?;
     let length = Box::new(alloc, length)?;
     let region = Term::OpRegion {
@@ -199,20 +212,18 @@ fn region<'a>(
 #[cycle(read)]
 #[tactic(auto, unfolding(acpi_term::specs::Reading::close, acpi_term::specs::Reading::counted))]
 fn define<'a>(
-    language: Language,
-    arities: &Arities,
+    reader: &TermReader,
     name: NameString,
     rest: &'a [u8],
     end: usize,
-    depth: usize,
 ) -> Result<(Term, &'a [u8]), ReadError>
     requires within { length rest.now ≤ end }
     ensures gives { Answers (λ x. ((view x.0).0, (view x.0).1, (view x.0).2, x.1.now)) result
-        (close (term_at (grammar_of language (arity arities.now)) depth) (follows (def_name name) 0 1 rest.now)) }
+        (close (reads reader.now) (follows (def_name name) 0 1 rest.now)) }
     ensures placed { IfErr result (IsPlaced end) }
 {
-    let (value, rest) = term(language, arities, Mode::Term, rest, end, depth)?;
-    let value = Box::new(arities.allocator(), value)?;
+    let (value, rest) = term(reader, Mode::Term, rest, end)?;
+    let value = Box::new(reader.arities.allocator(), value)?;
     Ok((Term::Name { name, value }, rest))
 }
 
@@ -220,21 +231,19 @@ fn define<'a>(
 #[cycle(read)]
 #[tactic(auto, unfolding(acpi_term::specs::Reading::close, acpi_term::specs::Reading::counted))]
 fn fatal<'a>(
-    language: Language,
-    arities: &Arities,
+    reader: &TermReader,
     kind: u8,
     code: u32,
     rest: &'a [u8],
     end: usize,
-    depth: usize,
 ) -> Result<(Term, &'a [u8]), ReadError>
     requires within { length rest.now ≤ end }
     ensures gives { Answers (λ x. ((view x.0).0, (view x.0).1, (view x.0).2, x.1.now)) result
-        (close (term_at (grammar_of language (arity arities.now)) depth) (follows (def_fatal kind code) 0 1 rest.now)) }
+        (close (reads reader.now) (follows (def_fatal kind code) 0 1 rest.now)) }
     ensures placed { IfErr result (IsPlaced end) }
 {
-    let (argument, rest) = term(language, arities, Mode::Term, rest, end, depth)?;
-    let argument = Box::new(arities.allocator(), argument)?;
+    let (argument, rest) = term(reader, Mode::Term, rest, end)?;
+    let argument = Box::new(reader.arities.allocator(), argument)?;
     Ok((
         Term::Fatal {
             kind,
@@ -249,20 +258,18 @@ fn fatal<'a>(
 #[cycle(read)]
 #[tactic(auto, unfolding(acpi_term::specs::Reading::close, acpi_term::specs::Reading::counted))]
 fn test<'a>(
-    language: Language,
-    arities: &Arities,
+    reader: &TermReader,
     code: u8,
     rest: &'a [u8],
     end: usize,
-    depth: usize,
 ) -> Result<(Term, &'a [u8]), ReadError>
     requires within { length rest.now ≤ end }
     ensures gives { Answers (λ x. ((view x.0).0, (view x.0).1, (view x.0).2, x.1.now)) result
-        (close (term_at (grammar_of language (arity arities.now)) depth) (follows (match_test code) 0 1 rest.now)) }
+        (close (reads reader.now) (follows (match_test code) 0 1 rest.now)) }
     ensures placed { IfErr result (IsPlaced end) }
 {
-    let (operand, rest) = term(language, arities, Mode::Term, rest, end, depth)?;
-    let operand = Box::new(arities.allocator(), operand)?;
+    let (operand, rest) = term(reader, Mode::Term, rest, end)?;
+    let operand = Box::new(reader.arities.allocator(), operand)?;
     Ok((Term::MatchTest { code, operand }, rest))
 }
 
@@ -270,28 +277,19 @@ fn test<'a>(
 #[cycle(read)]
 #[tactic(auto, unfolding(acpi_term::specs::Reading::close, acpi_term::specs::Reading::counted))]
 fn block<'a>(
-    language: Language,
-    arities: &Arities,
+    reader: &TermReader,
     head: Block,
     inside: &[u8],
     after: &'a [u8],
     end: usize,
-    depth: usize,
 ) -> Result<(Term, &'a [u8]), ReadError>
     requires within { length inside.now + length after.now ≤ end }
     ensures gives { Answers (λ x. ((view x.0).0, (view x.0).1, (view x.0).2, x.1.now)) result
-        (close (term_at (grammar_of language (arity arities.now)) depth)
+        (close (reads reader.now)
         (fills (block_head head) (block_width head) inside.now after.now)) }
     ensures placed { IfErr result (IsPlaced end) }
 {
-    let children = all(
-        language,
-        arities,
-        Mode::Term,
-        inside,
-        end - after.len(),
-        depth,
-    )?;
+    let children = all(reader, Mode::Term, inside, end - after.len())?;
     Ok((head.with(children), after))
 }
 
@@ -299,26 +297,24 @@ fn block<'a>(
 #[cycle(read)]
 #[tactic(auto, unfolding(acpi_term::specs::Reading::close, acpi_term::specs::Reading::counted))]
 fn first_and_block<'a>(
-    language: Language,
-    arities: &Arities,
+    reader: &TermReader,
     start: FirstAndBlock,
     inside: &[u8],
     after: &'a [u8],
     end: usize,
-    depth: usize,
 ) -> Result<(Term, &'a [u8]), ReadError>
     requires within { length inside.now + length after.now ≤ end }
     requires some { 0 < length inside.now }
     ensures gives { Answers (λ x. ((view x.0).0, (view x.0).1, (view x.0).2, x.1.now)) result
-        (close (term_at (grammar_of language (arity arities.now)) depth)
+        (close (reads reader.now)
         (fills (first_head start) (first_width start) inside.now after.now)) }
     ensures placed { IfErr result (IsPlaced end) }
 {
     let end = end - after.len();
     let mode = start.mode();
-    let (first, rest) = term(language, arities, mode, inside, end, depth)?;
-    let others = all(language, arities, mode.next(), rest, end, depth)?;
-    let first = Box::new(arities.allocator(), first)?;
+    let (first, rest) = term(reader, mode, inside, end)?;
+    let others = all(reader, mode.next(), rest, end)?;
+    let first = Box::new(reader.arities.allocator(), first)?;
     Ok((start.with(first, others), after))
 }
 
@@ -326,24 +322,22 @@ fn first_and_block<'a>(
 #[cycle(read)]
 #[tactic(auto, unfolding(acpi_term::specs::Reading::close, acpi_term::specs::Reading::counted))]
 fn package<'a>(
-    language: Language,
-    arities: &Arities,
+    reader: &TermReader,
     width: u8,
     count: u8,
     inside: &[u8],
     after: &'a [u8],
     offset: usize,
     end: usize,
-    depth: usize,
 ) -> Result<(Term, &'a [u8]), ReadError>
     requires within { length inside.now + length after.now ≤ end }
     requires place { offset ≤ end }
     ensures gives { Answers (λ x. ((view x.0).0, (view x.0).1, (view x.0).2, x.1.now)) result
-        (close (term_at (grammar_of language (arity arities.now)) depth) (packs width count inside.now after.now)) }
+        (close (reads reader.now) (packs width count inside.now after.now)) }
     ensures placed { IfErr result (IsPlaced end) }
 {
     let end = end - after.len();
-    let (elements, rest) = several(language, arities, Mode::Element, count, inside, end, depth)?;
+    let (elements, rest) = several(reader, Mode::Element, count, inside, end)?;
     if !rest.is_empty() {
         return Err(ReadError::Count(offset));
     }
@@ -393,30 +387,21 @@ fn roomed<'a>(
 #[cycle(read)]
 #[tactic(auto, unfolding(acpi_term::specs::Reading::close, acpi_term::specs::Reading::counted))]
 fn roomy<'a>(
-    language: Language,
-    arities: &Arities,
+    reader: &TermReader,
     width: u8,
     room: u8,
     inside: &[u8],
     after: &'a [u8],
     offset: usize,
     end: usize,
-    depth: usize,
 ) -> Result<(Term, &'a [u8]), ReadError>
     requires within { length inside.now + length after.now ≤ end }
     requires place { offset ≤ end }
     ensures gives { Answers (λ x. ((view x.0).0, (view x.0).1, (view x.0).2, x.1.now)) result
-        (close (term_at (grammar_of language (arity arities.now)) depth) (rooms width room inside.now after.now)) }
+        (close (reads reader.now) (rooms width room inside.now after.now)) }
     ensures placed { IfErr result (IsPlaced end) }
 {
-    let elements = all(
-        language,
-        arities,
-        Mode::Element,
-        inside,
-        end - after.len(),
-        depth,
-    )?;
+    let elements = all(reader, Mode::Element, inside, end - after.len())?;
     roomed(width, room, elements, after, offset)
 }
 
@@ -424,31 +409,86 @@ fn roomy<'a>(
 #[cycle(read)]
 #[tactic(auto, unfolding(acpi_term::specs::Reading::close, acpi_term::specs::Reading::counted))]
 fn buffer<'a>(
-    language: Language,
-    arities: &Arities,
+    reader: &TermReader,
     width: u8,
     content: &[u8],
     after: &'a [u8],
     end: usize,
-    depth: usize,
 ) -> Result<(Term, &'a [u8]), ReadError>
     requires within { length content.now + length after.now ≤ end }
     ensures gives { Answers (λ x. ((view x.0).0, (view x.0).1, (view x.0).2, x.1.now)) result
-        (close (term_at (grammar_of language (arity arities.now)) depth) (begins width content.now after.now)) }
+        (close (reads reader.now) (begins width content.now after.now)) }
     ensures placed { IfErr result (IsPlaced end) }
 {
-    let alloc = arities.allocator();
-    let (size, bytes) = term(
-        language,
-        arities,
-        Mode::Term,
-        content,
-        end - after.len(),
-        depth,
-    )?;
+    let alloc = reader.arities.allocator();
+    let (size, bytes) = term(reader, Mode::Term, content, end - after.len())?;
     let bytes = Vec::from_slice(alloc, bytes)?;
     let size = Box::new(alloc, size)?;
     Ok((Term::Buffer { width, size, bytes }, after))
+}
+
+// A BankField over its value, from the bytes after the value.
+#[tactic(auto, unfolding(acpi_term::specs::Reading::banked))]
+fn banked<'a>(
+    alloc: Global,
+    start: BankStart,
+    value: Box<Term>,
+    bytes: &[u8],
+    after: &'a [u8],
+) -> Result<(Term, &'a [u8]), Cause>
+    ensures { Gives (λ x. ((view x.0).0, (view x.0).1, (view x.0).2, x.1.now)) result
+        (banked start.width start.name start.bank (single (view value.value)) bytes.now after.now) }
+{
+    let Some((flags, rest)) = bytes.split_first() else {
+        return Err(Cause::Truncated);
+    };
+    let flags = *flags;
+    if flags % 16 >= 6 {
+        return Err(Cause::Flags);
+    }
+    if flags >= 96 {
+        return Err(Cause::Flags);
+    }
+    let entries = entries(Language::Standard, alloc, rest)?;
+    Ok((
+        Term::BankField {
+            width: start.width,
+            name: start.name,
+            bank: start.bank,
+            value,
+            access: flags % 16,
+            lock: flags / 16 % 2,
+            update: flags / 32,
+            entries,
+        },
+        after,
+    ))
+}
+
+/// Reads the value and the entries of a BankField.
+#[cycle(read)]
+#[tactic(auto, unfolding(acpi_term::specs::Reading::close, acpi_term::specs::Reading::counted))]
+fn bank_field<'a>(
+    reader: &TermReader,
+    start: BankStart,
+    inside: &[u8],
+    after: &'a [u8],
+    offset: usize,
+    end: usize,
+) -> Result<(Term, &'a [u8]), ReadError>
+    requires within { length inside.now + length after.now ≤ end }
+    requires place { offset ≤ end }
+    ensures gives { Answers (λ x. ((view x.0).0, (view x.0).1, (view x.0).2, x.1.now)) result
+        (close (reads reader.now) (banks start.width start.name start.bank inside.now after.now)) }
+    ensures placed { IfErr result (IsPlaced end) }
+{
+    let alloc = reader.arities.allocator();
+    let (value, rest) = term(reader, Mode::Term, inside, end - after.len())?;
+    let value = Box::new(alloc, value)?;
+    match banked(alloc, start, value, rest, after) {
+        Ok(field) => Ok(field),
+        Err(cause) => Err(cause.at(offset)),
+    }
 }
 
 /// The error for bytes that end before a counted term: `Count` for an element of a package, `Truncated` otherwise.
@@ -465,28 +505,26 @@ fn missing(mode: Mode, end: usize) -> ReadError
 /// Reads this many terms, and returns the bytes after them.
 #[cycle(read)]
 fn several<'a>(
-    language: Language,
-    arities: &Arities,
+    reader: &TermReader,
     mode: Mode,
     count: u8,
     bytes: &'a [u8],
     end: usize,
-    depth: usize,
 ) -> Result<(Vec<Term>, &'a [u8]), ReadError>
     requires { length bytes.now ≤ end }
     ensures gives { Answers (λ x. (views x.0.items, x.1.now)) result
-        (counted (term_at (grammar_of language (arity arities.now)) depth) count mode bytes.now) }
+        (counted (reads reader.now) count mode bytes.now) }
     ensures placed { IfErr result (IsPlaced end) }
 {
     let room = bytes.len().min(usize::from(count));
-    let mut terms = Vec::with_capacity(arities.allocator(), room)?;
+    let mut terms = Vec::with_capacity(reader.arities.allocator(), room)?;
     let mut rest = bytes;
     let mut at = mode;
     'several: for _ in 0..count {
-        if rest.is_empty() && depth > 0 {
+        if rest.is_empty() && reader.depth > 0 {
             return Err(missing(mode, end));
         }
-        let (term, after) = term(language, arities, at, rest, end, depth)?;
+        let (term, after) = term(reader, at, rest, end)?;
         terms.push(term)?;
         rest = after;
         at = at.next();
@@ -508,24 +546,17 @@ fn keep(terms: &mut Vec<Term>, term: Term, is_last: bool) -> Result<(), ReadErro
 
 /// Reads all of the bytes as terms.
 #[cycle(read)]
-fn all(
-    language: Language,
-    arities: &Arities,
-    mode: Mode,
-    bytes: &[u8],
-    end: usize,
-    depth: usize,
-) -> Result<Vec<Term>, ReadError>
+fn all(reader: &TermReader, mode: Mode, bytes: &[u8], end: usize) -> Result<Vec<Term>, ReadError>
     requires { length bytes.now ≤ end }
     ensures gives { Answers (λ v. views v.items) result
-        (all_of (term_at (grammar_of language (arity arities.now)) depth) (length bytes.now) mode bytes.now) }
+        (all_of (reads reader.now) (length bytes.now) mode bytes.now) }
     ensures placed { IfErr result (IsPlaced end) }
 {
-    let mut terms = Vec::new(arities.allocator());
+    let mut terms = Vec::new(reader.arities.allocator());
     let mut rest = bytes;
     let mut at = mode;
     'all: while !rest.is_empty() {
-        let (term, after) = term(language, arities, at, rest, end, depth)?;
+        let (term, after) = term(reader, at, rest, end)?;
         keep(&mut terms, term, after.is_empty())?;
         rest = after;
         at = at.next();
@@ -541,14 +572,8 @@ pub fn terms(bytes: &[u8], arities: &Arities) -> Result<Vec<Term>, ReadError>
     ensures ok { IfOk result (λ v. AreRead (arity arities.now) bytes.now (views v.items)) }
     ensures err { IfErr result (IsUnread (arity arities.now) bytes.now) }
 {
-    all(
-        Language::Written,
-        arities,
-        Mode::Term,
-        bytes,
-        bytes.len(),
-        MAX_DEPTH,
-    )
+    let reader = TermReader::new(Language::Written, arities);
+    all(&reader, Mode::Term, bytes, bytes.len())
 }
 
 /// The same in the language of the standard, with all terms and names that these definitions have.
@@ -556,14 +581,8 @@ pub fn standard_terms(bytes: &[u8], arities: &Arities) -> Result<Vec<Term>, Read
     ensures ok { IfOk result (λ v. AreReadIn (grammar_of Standard (arity arities.now)) bytes.now (views v.items)) }
     ensures err { IfErr result (IsUnreadIn (grammar_of Standard (arity arities.now)) bytes.now) }
 {
-    all(
-        Language::Standard,
-        arities,
-        Mode::Term,
-        bytes,
-        bytes.len(),
-        MAX_DEPTH,
-    )
+    let reader = TermReader::new(Language::Standard, arities);
+    all(&reader, Mode::Term, bytes, bytes.len())
 }
 
 /// The list of terms that an object writes. The error is the object's own, or that of `terms`.

@@ -26,16 +26,16 @@ ended_none at bytes fields none =
     ap (λ k. from k [] fields) (let e : at + length bytes ≡ at = omega (arith, none) in e)
     ∙ ap (λ l. from at l fields) (sym (nil_from_length bytes none))
 
-field_none : (name : List ℕ) (look : Look) (size at : ℕ) (bytes : List ℕ) (fields : List Field) → length bytes ≡ 0
-    → after_field name look size (from at bytes fields) ≡ from at bytes fields
-field_none name look size at bytes fields none =
+field_none : (name : List ℕ) (look : Look) (width size at : ℕ) (bytes : List ℕ) (fields : List Field) → length bytes ≡ 0
+    → after_field name look width size (from at bytes fields) ≡ from at bytes fields
+field_none name look width size at bytes fields none =
     let found = from at bytes fields in
     let more : Found = if nat_lt (length bytes) size then ended found else
     record {
       at = at + size;
       rest = drop size bytes;
       fields = fields
-          ++ record { offset = at; name = name; look = look; bytes = take size bytes } ∷ [];
+          ++ record { offset = at; name = name; look = look; width = width; bytes = take size bytes } ∷ [];
     } in
     ap (λ n. cond (n == 0) found more) none
 
@@ -45,10 +45,10 @@ either_none false x y is = is
 
 one_none : (wanted : Wanted) (at : ℕ) (bytes : List ℕ) (fields : List Field) → length bytes ≡ 0
     → after wanted (from at bytes fields) ≡ from at bytes fields
-one_none (sized name look size) at bytes fields none = field_none name look size at bytes fields none
+one_none (sized name look width size) at bytes fields none = field_none name look width size at bytes fields none
 one_none (until name end) at bytes fields none =
-    either_none (nat_le end at) (after_field name looks.text (end - at) (from at bytes fields)) (from at bytes fields)
-    (field_none name looks.text (end - at) at bytes fields none)
+    either_none (nat_le end at) (after_field name looks.text 1 (end - at) (from at bytes fields)) (from at bytes fields)
+    (field_none name looks.text 1 (end - at) at bytes fields none)
 one_none unnamed at bytes fields none = ended_none at bytes fields none
 
 pub all_none : (wanted : List Wanted) (at : ℕ) (bytes : List ℕ) (fields : List Field) → length bytes ≡ 0
@@ -81,11 +81,11 @@ reached_none wanted at bytes fields none = record {
 }
 
 -- a field was found
-pub reached_field : (name : List ℕ) (look : Look) (size at : ℕ) (bytes : List ℕ) (old new : List Field) → 0 < length bytes
+pub reached_field : (name : List ℕ) (look : Look) (width size at : ℕ) (bytes : List ℕ) (old new : List Field) → 0 < length bytes
     → size ≤ length bytes
-    → new ≡ old ++ record { offset = at; name = name; look = look; bytes = take size bytes } ∷ []
-    → Reached (sized name look size ∷ []) at bytes old new size
-reached_field name look size at bytes old new some fits added = record {
+    → new ≡ old ++ record { offset = at; name = name; look = look; width = width; bytes = take size bytes } ∷ []
+    → Reached (sized name look width size ∷ []) at bytes old new size
+reached_field name look width size at bytes old new some fits added = record {
   within = fits;
   found =
       let found = from at bytes old in
@@ -93,7 +93,7 @@ reached_field name look size at bytes old new some fits added = record {
         at = at + size;
         rest = drop size bytes;
         fields = old
-            ++ record { offset = at; name = name; look = look; bytes = take size bytes } ∷ [];
+            ++ record { offset = at; name = name; look = look; width = width; bytes = take size bytes } ∷ [];
       } in
       ap (λ b. cond b found (cond (nat_lt (length bytes) size) (ended found) more)) (some_bytes bytes some)
       ∙ ap (λ b. cond b (ended found) more) (le-ltb (length bytes) size fits)
@@ -101,9 +101,9 @@ reached_field name look size at bytes old new some fits added = record {
 }
 
 -- there are fewer bytes than the field has, or none
-pub reached_short : (name : List ℕ) (look : Look) (size at : ℕ) (bytes : List ℕ) (fields : List Field) → length bytes < size
-    → Reached (sized name look size ∷ []) at bytes fields fields (length bytes)
-reached_short name look size at bytes fields short = record {
+pub reached_short : (name : List ℕ) (look : Look) (width size at : ℕ) (bytes : List ℕ) (fields : List Field) → length bytes < size
+    → Reached (sized name look width size ∷ []) at bytes fields fields (length bytes)
+reached_short name look width size at bytes fields short = record {
   within = omega arith;
   found =
       let found = from at bytes fields in
@@ -111,7 +111,7 @@ reached_short name look size at bytes fields short = record {
         at = at + size;
         rest = drop size bytes;
         fields = fields
-            ++ record { offset = at; name = name; look = look; bytes = take size bytes } ∷ [];
+            ++ record { offset = at; name = name; look = look; width = width; bytes = take size bytes } ∷ [];
       } in
       elim (cases_lt 0 (length bytes)) [
         | inl some ↦
@@ -120,18 +120,18 @@ reached_short name look size at bytes fields short = record {
             ∙ ended_is at bytes fields
         | inr few ↦
             let none : length bytes ≡ 0 = omega (arith, few) in
-            field_none name look size at bytes fields none
+            field_none name look width size at bytes fields none
             ∙ sym (ended_none at bytes fields none)
             ∙ ended_is at bytes fields
       ];
 }
 
 -- no byte is left for a field of any size
-pub reached_empty : (name : List ℕ) (look : Look) (size at : ℕ) (bytes : List ℕ) (fields : List Field) → length bytes ≡ 0
-    → Reached (sized name look size ∷ []) at bytes fields fields (length bytes)
-reached_empty name look size at bytes fields none =
-    subst (λ k. Reached (sized name look size ∷ []) at bytes fields fields k) (sym none)
-    (reached_none (sized name look size ∷ []) at bytes fields none)
+pub reached_empty : (name : List ℕ) (look : Look) (width size at : ℕ) (bytes : List ℕ) (fields : List Field) → length bytes ≡ 0
+    → Reached (sized name look width size ∷ []) at bytes fields fields (length bytes)
+reached_empty name look width size at bytes fields none =
+    subst (λ k. Reached (sized name look width size ∷ []) at bytes fields fields k) (sym none)
+    (reached_none (sized name look width size ∷ []) at bytes fields none)
 
 -- nothing is known of the bytes
 pub reached_unnamed : (at : ℕ) (bytes : List ℕ) (fields : List Field)
@@ -145,18 +145,18 @@ reached_before name end at bytes fields before = record {
   within = omega arith;
   found =
       let found = from at bytes fields in
-      ap (λ b. cond b found (after_field name looks.text (end - at) found)) (le-leb end at before)
+      ap (λ b. cond b found (after_field name looks.text 1 (end - at) found)) (le-leb end at before)
       ∙ ap (λ k. from k bytes fields) (let e : at ≡ at + 0 = omega arith in e);
 }
 
 -- the bytes before the end are a field
 pub reached_until : (name : List ℕ) (end at : ℕ) (bytes : List ℕ) (old new : List Field) (n : ℕ) → at < end
-    → Reached (sized name looks.text (end - at) ∷ []) at bytes old new n → Reached (until name end ∷ []) at bytes old new n
+    → Reached (sized name looks.text 1 (end - at) ∷ []) at bytes old new n → Reached (until name end ∷ []) at bytes old new n
 reached_until name end at bytes old new n before one = record {
   within = one.within;
   found =
       let found = from at bytes old in
-      ap (λ b. cond b found (after_field name looks.text (end - at) found)) (lt-leb end at before)
+      ap (λ b. cond b found (after_field name looks.text 1 (end - at) found)) (lt-leb end at before)
       ∙ one.found;
 }
 
@@ -264,10 +264,10 @@ picked : (f : Found → Found) (b : Bool) (x y : Found) → f (cond b x y) ≡ c
 picked f true x y = refl
 picked f false x y = refl
 
-field_kept : (old : List Field) (name : List ℕ) (look : Look) (size : ℕ) (found : Found)
-    → after_field name look size (with_old old found) ≡ with_old old (after_field name look size found)
-field_kept old name look size found =
-    let one : Field = record { offset = found.at; name = name; look = look; bytes = take size found.rest } in
+field_kept : (old : List Field) (name : List ℕ) (look : Look) (width size : ℕ) (found : Found)
+    → after_field name look width size (with_old old found) ≡ with_old old (after_field name look width size found)
+field_kept old name look width size found =
+    let one : Field = record { offset = found.at; name = name; look = look; width = width; bytes = take size found.rest } in
     let none = length found.rest == 0 in
     let short = nat_lt (length found.rest) size in
     let more : Found = from (found.at + size) (drop size found.rest) (found.fields ++ one ∷ []) in
@@ -279,10 +279,10 @@ field_kept old name look size found =
 
 one_kept : (old : List Field) (wanted : Wanted) (found : Found)
     → after wanted (with_old old found) ≡ with_old old (after wanted found)
-one_kept old (sized name look size) found = field_kept old name look size found
+one_kept old (sized name look width size) found = field_kept old name look width size found
 one_kept old (until name end) found =
-    ap (λ f. cond (nat_le end found.at) (with_old old found) f) (field_kept old name looks.text (end - found.at) found)
-    ∙ sym (picked (with_old old) (nat_le end found.at) found (after_field name looks.text (end - found.at) found))
+    ap (λ f. cond (nat_le end found.at) (with_old old found) f) (field_kept old name looks.text 1 (end - found.at) found)
+    ∙ sym (picked (with_old old) (nat_le end found.at) found (after_field name looks.text 1 (end - found.at) found))
 one_kept old unnamed found = refl
 
 all_kept : (old : List Field) (wanted : List Wanted) (found : Found)

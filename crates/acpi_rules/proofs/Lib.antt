@@ -1,5 +1,5 @@
 mod Found
-mod Structures
+pub mod Structures
 mod Entries
 mod Shown
 mod Differences

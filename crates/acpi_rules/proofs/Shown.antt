@@ -30,7 +30,7 @@ use Rattle.acpi_rules.specs.Laws.{plain, FieldsAreShown}
 -- ---- what forms say
 
 forget : Wanted → names.Wanted
-forget (sized name look size) = names.sized name size
+forget (sized name look width size) = names.sized name size
 forget (until name end) = names.until name end
 forget unnamed = names.unnamed
 
@@ -82,10 +82,10 @@ part_same start whole (parts.Group name rows) = rows_same rows.now
 part_same start whole (parts.Entries name count rows) = times_same (count_of count whole) (rows_wanted rows.now) _
     (rows_same rows.now)
 part_same start whole (parts.Numbers name w count) =
-    times_same (count_of count whole) (sized name.now looks.number (w * 1) ∷ []) _
+    times_same (count_of count whole) (sized name.now looks.number w (w * 1) ∷ []) _
     (ap (λ k. names.sized name.now k ∷ []) (let e : w * 1 ≡ w = omega arith in e))
 part_same start whole (parts.Matrix name w rows columns) =
-    lists_same (number_at columns whole == 0) (number_at rows whole) (sized name.now looks.number (w * number_at columns whole)
+    lists_same (number_at columns whole == 0) (number_at rows whole) (sized name.now looks.number w (w * number_at columns whole)
     ∷ []) _ refl
 part_same start whole (parts.Bytes name count) = refl
 part_same start whole (parts.Until name end) = refl
@@ -112,19 +112,19 @@ none_found wanted at bytes old none =
     ap (λ f. map plain f.fields) (all_none wanted at bytes old none) ∙ sym (append-nil (map plain old))
 
 -- a field, and those after it
-field_same : (none short : Bool) (wanted : List Wanted) (name : List ℕ) (look : Look) (size at : ℕ) (bytes : List ℕ)
+field_same : (none short : Bool) (wanted : List Wanted) (name : List ℕ) (look : Look) (width size at : ℕ) (bytes : List ℕ)
     (old : List Field)
     → (none ≡ true → length bytes ≡ 0)
     → ((k : ℕ) (rest : List ℕ) (fields : List Field) → Same wanted k rest fields)
-    → let one : Field = record { offset = at; name = name; look = look; bytes = take size bytes } in
+    → let one : Field = record { offset = at; name = name; look = look; width = width; bytes = take size bytes } in
     map plain (after_all wanted (cond none (from at bytes old) (cond short (ended (from at bytes old))
     (from (at + size) (drop size bytes) (old ++ one ∷ []))))).fields
     ≡ map plain old ++ cond none []
     (cond short [] (plain one ∷ names.fields_of (at + size) (map forget wanted) (drop size bytes)))
-field_same true short wanted name look size at bytes old few others = none_found wanted at bytes old (few refl)
-field_same false true wanted name look size at bytes old few others = none_found wanted (at + length bytes) [] old refl
-field_same false false wanted name look size at bytes old few others =
-    let one : Field = record { offset = at; name = name; look = look; bytes = take size bytes } in
+field_same true short wanted name look width size at bytes old few others = none_found wanted at bytes old (few refl)
+field_same false true wanted name look width size at bytes old few others = none_found wanted (at + length bytes) [] old refl
+field_same false false wanted name look width size at bytes old few others =
+    let one : Field = record { offset = at; name = name; look = look; width = width; bytes = take size bytes } in
     others (at + size) (drop size bytes) (old ++ one ∷ [])
     ∙ ap (λ l. l ++ names.fields_of (at + size) (map forget wanted) (drop size bytes)) (map-append plain old (one ∷ []))
     ∙ append_assoc (map plain old) (plain one ∷ []) (names.fields_of (at + size) (map forget wanted) (drop size bytes))
@@ -140,13 +140,13 @@ until_same false wanted at bytes old found fields one two = two
 all_same : (wanted : List Wanted) (at : ℕ) (bytes : List ℕ) (old : List Field) → Same wanted at bytes old
 unfolding forget
 all_same [] at bytes old = sym (append-nil (map plain old))
-all_same (sized name look size ∷ wanted) at bytes old =
-    field_same (length bytes == 0) (nat_lt (length bytes) size) wanted name look size at bytes old
+all_same (sized name look width size ∷ wanted) at bytes old =
+    field_same (length bytes == 0) (nat_lt (length bytes) size) wanted name look width size at bytes old
     (λ is. eqb-true (length bytes) 0 is) (λ k rest fields. all_same wanted k rest fields)
 all_same (until name end ∷ wanted) at bytes old =
-    until_same (nat_le end at) wanted at bytes old (after_field name looks.text (end - at) (from at bytes old)) _
+    until_same (nat_le end at) wanted at bytes old (after_field name looks.text 1 (end - at) (from at bytes old)) _
     (all_same wanted at bytes old)
-    (field_same (length bytes == 0) (nat_lt (length bytes) (end - at)) wanted name looks.text (end - at) at bytes old
+    (field_same (length bytes == 0) (nat_lt (length bytes) (end - at)) wanted name looks.text 1 (end - at) at bytes old
     (λ is. eqb-true (length bytes) 0 is) (λ k rest fields. all_same wanted k rest fields))
 all_same (unnamed ∷ wanted) at bytes old = none_found wanted (at + length bytes) [] old refl
 

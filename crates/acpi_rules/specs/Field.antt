@@ -27,40 +27,41 @@ use Rattle.acpi_rules.specs.declared.field.Field.{Field as FieldData}
 
 -- ---- a field
 
--- a field of a table: its offset, its name, what its value is, and its bytes
+-- a field of a table: its offset, its name, what its value is, the width of each of its numbers, and its bytes
 pub record Field : Type 0 where
   pub offset : ℕ
   pub name : List ℕ
   pub look : Look
+  pub width : ℕ
   pub bytes : List ℕ
 
 abbrev pub seen : FieldData → Field
-seen f = record { offset = f.offset; name = f.name.now; look = look_of f.look; bytes = f.bytes.now }
+seen f = record { offset = f.offset; name = f.name.now; look = look_of f.look; width = f.width; bytes = f.bytes.now }
 
 -- ---- what a form says
 
 -- What a form says of the next bytes:
--- - sized: they are a field of this name, whose value is this, and of this many bytes;
+-- - sized: they are a field of this name, whose value is this, of numbers of this width, and of this many bytes;
 -- - until: they are a field of this name up to an offset, if any stand before it;
 -- - unnamed: nothing is known of them, nor of those after them.
 pub data Wanted : Type 0 where
-  sized : List ℕ → Look → ℕ → Wanted
+  sized : List ℕ → Look → ℕ → ℕ → Wanted
   until : List ℕ → ℕ → Wanted
   unnamed : Wanted
 
 -- the fields of a register's address (ACPI 6.5, 5.2.3.2)
 abbrev pub register_wanted : List Wanted
 register_wanted =
-    sized (codes "Address Space ID") (looks.one_of address_spaces) 1
-    ∷ sized (codes "Register Bit Width") looks.number 1
-    ∷ sized (codes "Register Bit Offset") looks.number 1
-    ∷ sized (codes "Access Size") (looks.one_of access_sizes) 1
-    ∷ sized (codes "Address") looks.hex 8
+    sized (codes "Address Space ID") (looks.one_of address_spaces) 1 1
+    ∷ sized (codes "Register Bit Width") looks.number 1 1
+    ∷ sized (codes "Register Bit Offset") looks.number 1 1
+    ∷ sized (codes "Access Size") (looks.one_of access_sizes) 1 1
+    ∷ sized (codes "Address") looks.hex 8 8
     ∷ []
 
 -- the field of a row
 abbrev pub plain_wanted : Row → List Wanted
-plain_wanted row = sized (row_name row) (row_look row) (row_width row) ∷ []
+plain_wanted row = sized (row_name row) (row_look row) (row_width row) (row_width row) ∷ []
 
 -- the fields of a row: a register has those of its address
 abbrev pub row_wanted : Row → List Wanted
@@ -84,11 +85,11 @@ part_wanted start whole (Fields rows) = rows_wanted rows.now
 part_wanted start whole (Between rows from to) = rows_wanted (slice_range rows.now from to)
 part_wanted start whole (Group name rows) = rows_wanted rows.now
 part_wanted start whole (Entries name count rows) = times (count_of count whole) (rows_wanted rows.now)
-part_wanted start whole (Numbers name w count) = times (count_of count whole) (sized name.now looks.number (w * 1) ∷ [])
+part_wanted start whole (Numbers name w count) = times (count_of count whole) (sized name.now looks.number w (w * 1) ∷ [])
 part_wanted start whole (Matrix name w rows columns) =
     if number_at columns whole == 0 then []
-    else times (number_at rows whole) (sized name.now looks.number (w * number_at columns whole) ∷ [])
-part_wanted start whole (parts.Bytes name count) = sized name.now looks.text (number_at count whole) ∷ []
+    else times (number_at rows whole) (sized name.now looks.number w (w * number_at columns whole) ∷ [])
+part_wanted start whole (parts.Bytes name count) = sized name.now looks.text 1 (number_at count whole) ∷ []
 part_wanted start whole (Until name end) = until name.now (start + number_at end whole) ∷ []
 part_wanted start whole (Chosen by choices) = choice_wanted (find_choice (number_at by whole) choices.now)
 
@@ -105,19 +106,20 @@ abbrev pub ended : Found → Found
 ended found = record { at = found.at + length found.rest; rest = []; fields = found.fields }
 
 -- The next bytes are a field, if there are as many as it has. If there are fewer, none of them is in a field.
-abbrev pub after_field : List ℕ → Look → ℕ → Found → Found
-after_field name look size found =
+abbrev pub after_field : List ℕ → Look → ℕ → ℕ → Found → Found
+after_field name look width size found =
     if length found.rest == 0 then found
     else (if nat_lt (length found.rest) size then ended found
     else record {
       at = found.at + size;
       rest = drop size found.rest;
-      fields = found.fields ++ record { offset = found.at; name = name; look = look; bytes = take size found.rest } ∷ [];
+      fields = found.fields
+          ++ record { offset = found.at; name = name; look = look; width = width; bytes = take size found.rest } ∷ [];
     })
 
 abbrev pub after : Wanted → Found → Found
-after (sized name look size) found = after_field name look size found
-after (until name end) found = if nat_le end found.at then found else after_field name looks.text (end - found.at) found
+after (sized name look width size) found = after_field name look width size found
+after (until name end) found = if nat_le end found.at then found else after_field name looks.text 1 (end - found.at) found
 after unnamed found = ended found
 
 abbrev pub after_all : List Wanted → Found → Found

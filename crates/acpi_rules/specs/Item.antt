@@ -37,6 +37,7 @@ field_in spot at bytes = record {
   offset = at + spot.offset;
   name = spot.name;
   look = looks.number;
+  width = spot.width;
   bytes = bytes_in spot bytes;
 }
 

@@ -9,8 +9,8 @@ use Rattle.acpi_text.specs.Note.{trimmed}
 use Rattle.acpi_rules.specs.Finding.{Finding}
 use Rattle.acpi_rules.specs.declared.finding.Rule.{Rule}
 use Rattle.acpi_rules.specs.declared.finding.Rule.TheVariants.{ReservedBytes, ReservedBits, ReservedValue, StructureLength, Range}
-use Rattle.acpi_rules.specs.declared.finding.Rule.TheVariants.{Unique, Overlap, AtMost, NoOverflow, Count, Pair, Required, Reference}
-use Rattle.acpi_rules.specs.declared.finding.Rule.TheVariants.{Distance, Needs, Multiple}
+use Rattle.acpi_rules.specs.declared.finding.Rule.TheVariants.{Unique, Overlap, AtMost, NoOverflow, Count, Pair, Required}
+use Rattle.acpi_rules.specs.declared.finding.Rule.TheVariants.{Reference, Distance, Needs, Multiple}
 
 -- the tables that ACPI 6.5 defines; another standard defines each other table
 abbrev pub standard_tables : List (List ℕ)

@@ -11,7 +11,7 @@ use Rattle.acpi_rules.specs.declared.finding.Rule.TheVariants.{Count, Distance}
 
 -- the distance at an offset
 abbrev pub distance_at : List ℕ → ℕ → ℕ → Field
-distance_at name at distance = record { offset = at; name = name; look = looks.number; bytes = distance ∷ [] }
+distance_at name at distance = record { offset = at; name = name; look = looks.number; width = 1; bytes = distance ∷ [] }
 
 -- The distance from a locality to itself is 10. Each other one isn't below 10.
 abbrev pub distance_findings : List ℕ → Field → ℕ → ℕ → List Finding

@@ -1,4 +1,5 @@
--- The rules on numbers of one part of a table: `at-most`, `no-overflow`, `count`, `pair`, `required`, `needs`, `range` and `multiple`.
+-- The rules on numbers of one part of a table: `at-most`, `no-overflow`, `count`, `pair`, `required`, `needs`, `range` and
+-- `multiple`.
 use Rattle.std.specs.Prelude.{ℕ, ◌+◌, ◌-◌, ◌*◌, ◌%◌, ◌^◌, ◌==◌, nat_le, nat_lt, ◌&&◌, ◌||◌, not, if◌then◌else◌, List, [], length}
 use Rattle.acpi_rules.specs.Demand.{Spot, Demand, at_most, addresses, counts, agrees, needed, needs, between, multiple}
 use Rattle.acpi_rules.specs.Finding.{Finding}

@@ -24,7 +24,7 @@ start_spot = record { offset = 0; width = 0; name = codes "offset" }
 abbrev pub starts : Option Walk → List ℕ → ℕ → List ℕ
 starts walk bytes kind = map (λ item. item.field.offset) (items (of_kind kind) start_spot walk bytes)
 
--- the numbers that a demand allows beside zero
+-- the numbers that a demand allows besides zero
 abbrev pub targets : Demand → Option Walk → List ℕ → List ℕ
 targets (points types) walk bytes = flat_map (starts walk bytes) types
 targets (refers kind spot) walk bytes = map (λ item. number_of item.field) (items (of_kind kind) spot walk bytes)

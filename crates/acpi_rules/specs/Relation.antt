@@ -11,7 +11,7 @@ use Rattle.acpi_rules.specs.Matrix.{matrix_findings}
 use Rattle.acpi_rules.specs.Order.{number_findings}
 use Rattle.acpi_rules.specs.Reference.{targets, target_name, reference_findings}
 
--- what parts of a table break of a demand, where these numbers are allowed beside zero
+-- what parts of a table break of a demand, where these numbers are allowed besides zero
 abbrev pub demand_findings : Demand → List ℕ → List ℕ → List Item → List Finding
 demand_findings differs section numbers parts = apart_findings differs section [] parts
 demand_findings (apart group last) section numbers parts = apart_findings (apart group last) section [] parts

@@ -23,8 +23,8 @@ pub enum Of {
     Each,
     /// The structures of a type.
     Kind(usize),
-    /// The entries of structures of a type: the type, the field that has the offset of the first entry, the least that this can be,
-    /// how many there are, and how many bytes each has.
+    /// The entries of structures of a type: the type, the field that has the offset of the first entry, the least that this can
+    /// be, how many there are, and how many bytes each has.
     Entries(usize, Place, u8, Count, u8),
 }
 

@@ -19,20 +19,23 @@ pub struct Field<'a> {
     pub name: &'static str,
     /// What its value is.
     pub look: Look,
+    /// The width of each of its numbers in bytes. It has one number, or a list of them.
+    pub width: usize,
     /// Its bytes, which are borrowed.
     pub bytes: &'a [u8],
 }
 
-/// Adds a field of `size` bytes. If there are fewer bytes, none of them is in a field.
+/// Adds a field of `size` bytes, of which each number has `width`. If there are fewer bytes, none of them is in a field.
 pub fn push_field<'a>(
     name: &'static str,
     look: Look,
+    width: usize,
     size: usize,
     at: usize,
     bytes: &'a [u8],
     fields: &mut Vec<Field<'a>>,
 ) -> Result<usize, AllocError>
-    ensures { IfOk result (λ n. Reached (sized name.now (look_of look) size ∷ []) at bytes.now
+    ensures { IfOk result (λ n. Reached (sized name.now (look_of look) width size ∷ []) at bytes.now
         (map seen fields.old.items) (map seen fields.new.items) n) }
 {
     if bytes.is_empty() || size > bytes.len() {
@@ -42,6 +45,7 @@ pub fn push_field<'a>(
         offset: at,
         name,
         look,
+        width,
         bytes: &bytes[..size],
     })?;
     Ok(size)
@@ -56,11 +60,11 @@ pub fn push_numbers<'a>(
     bytes: &'a [u8],
     fields: &mut Vec<Field<'a>>,
 ) -> Result<usize, AllocError>
-    ensures { IfOk result (λ n. Reached (sized name.now looks.number (width * count) ∷ []) at bytes.now
+    ensures { IfOk result (λ n. Reached (sized name.now looks.number width (width * count) ∷ []) at bytes.now
         (map seen fields.old.items) (map seen fields.new.items) n) }
 {
     match width.checked_mul(count) {
-        Some(size) => push_field(name, Look::Number, size, at, bytes, fields),
+        Some(size) => push_field(name, Look::Number, width, size, at, bytes, fields),
         None => Ok(bytes.len()),
     }
 }
@@ -75,7 +79,8 @@ fn push_plain<'a>(
     ensures { IfOk result (λ n. Reached (plain_wanted row.now) at bytes.now
         (map seen fields.old.items) (map seen fields.new.items) n) }
 {
-    push_field(row.name(), row.look(), row.width(), at, bytes, fields)
+    let width = row.width();
+    push_field(row.name(), row.look(), width, width, at, bytes, fields)
 }
 
 // Adds the fields of rows, of which each has one.

@@ -5,7 +5,8 @@ ghost use Rattle.std.specs.List.{flat_map};
 ghost use Rattle.acpi_base.specs.Bytes.{carried};
 ghost use Rattle.acpi_rules.specs.Demand.{spot_by};
 ghost use Rattle.acpi_rules.specs.Field.{seen, structures_of};
-ghost use Rattle.acpi_rules.specs.Item.{has, bytes_in, number_in, field_in, item_by, counts_when, part_items, entries, first_entry};
+ghost use Rattle.acpi_rules.specs.Item.{has, bytes_in, number_in, field_in, item_by, counts_when};
+ghost use Rattle.acpi_rules.specs.Item.{part_items, entries, first_entry};
 ghost use Rattle.acpi_rules.specs.Item.{structure_items, structures_by, items};
 
 use crate::demand::{Among, Of, Spot, When};
@@ -76,6 +77,7 @@ fn field_in<'a>(spot: &Spot, at: usize, bytes: &'a [u8]) -> Field<'a>
         offset: at + usize::from(spot.offset),
         name: spot.name,
         look: Look::Number,
+        width: usize::from(spot.width),
         bytes: bytes_in(spot, bytes),
     }
 }

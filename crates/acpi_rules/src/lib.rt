@@ -14,7 +14,7 @@ pub mod limit;
 pub mod line;
 pub mod matrix;
 pub mod order;
-mod part;
+pub mod part;
 pub mod reference;
 pub mod related;
 pub mod relation;

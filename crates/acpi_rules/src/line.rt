@@ -42,8 +42,8 @@ fn is_standard(signature: &[u8]) -> bool
     contains(&STANDARD, signature)
 }
 
-// Returns how severe it is that a table of a signature breaks a rule.
-fn severity(signature: &[u8]) -> &'static str
+/// Returns how severe it is that a table of a signature breaks a rule: `error` or `warning`.
+pub fn severity(signature: &[u8]) -> &'static str
     ensures { result.now ≡ severity signature.now }
 {
     if is_standard(signature) {

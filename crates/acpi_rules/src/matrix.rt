@@ -81,6 +81,7 @@ fn check_distances<'a>(
             offset: at,
             name,
             look: Look::Number,
+            width: 1,
             bytes: one,
         };
         check_distance(section, &field, others, one[0], findings)?;

@@ -44,7 +44,7 @@ fn push_lists<'a>(
     fields: &mut Vec<Field<'a>>,
 ) -> Result<usize, AllocError>
     requires { at + length bytes.now < 2 ^ 64 }
-    ensures { IfOk result (λ n. Reached (times count (sized name.now looks.number (width * columns) ∷ [])) at bytes.now
+    ensures { IfOk result (λ n. Reached (times count (sized name.now looks.number width (width * columns) ∷ [])) at bytes.now
         (map seen fields.old.items) (map seen fields.new.items) n) }
 {
     let mut read = 0;
@@ -71,7 +71,7 @@ fn push_until<'a>(
     if end <= read {
         return Ok(0);
     }
-    push_field(name, Look::Text, end - read, at, bytes, fields)
+    push_field(name, Look::Text, 1, end - read, at, bytes, fields)
 }
 
 // Adds the fields of a choice. Without a choice no byte that is left is in a field.
@@ -125,7 +125,15 @@ fn push_part<'a>(
             push_lists(name, width, columns, rows, at, bytes, fields)
         }
         Part::Bytes(name, count) => {
-            push_field(name, Look::Text, number_at(count, whole), at, bytes, fields)
+            push_field(
+                name,
+                Look::Text,
+                1,
+                number_at(count, whole),
+                at,
+                bytes,
+                fields,
+            )
         }
         Part::Until(name, end) => push_until(name, number_at(end, whole), read, at, bytes, fields),
         Part::Chosen(by, choices) => {

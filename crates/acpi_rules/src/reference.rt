@@ -99,7 +99,7 @@ fn push_referred(
     push_numbers(&items, numbers)
 }
 
-/// Returns the numbers that a demand allows beside zero.
+/// Returns the numbers that a demand allows, besides zero.
 pub fn targets_of(
     alloc: Global,
     demand: &Demand,

@@ -19,7 +19,7 @@ use crate::rules::signature_of;
 use acpi_base::walk::Walk;
 use std::alloc::{AllocError, Global};
 
-// Adds what parts of a table break of a demand, where these numbers are allowed beside zero.
+// Adds what parts of a table break of a demand, where these numbers are allowed besides zero.
 fn check_demand<'a>(
     demand: &Demand,
     section: &'static str,

@@ -579,8 +579,8 @@ fn findings_of<'a>(
     fields_findings(alloc, &ALLOWED, &RANGES, bytes, fields)
 }
 
-/// Returns the rules that a table breaks, by its form and its walk: those on each of its fields, in the order of the offsets of the
-/// fields, and then those on several fields, in the order of the rules. The only error is that memory ran out.
+/// Returns the rules that a table breaks, by its form and its walk: those on each of its fields, in the order of the offsets of
+/// the fields, and then those on several fields, in the order of the rules. The only error is that memory ran out.
 pub fn table_findings<'a>(
     alloc: Global,
     form: &TableForm,

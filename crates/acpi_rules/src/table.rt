@@ -61,8 +61,8 @@ fn push_content<'a>(
     }
 }
 
-// Adds the fields of a structure by the form that has its type.
-fn push_structure<'a>(
+/// Adds the fields of a structure by the form that has its type, and of the structures within it.
+pub fn push_structure<'a>(
     kind: Place,
     table: &TableForm,
     at: usize,

@@ -1,5 +1,5 @@
 -- What is spelled is read, as far as the depth goes.
-use Rattle.std.proofs.Common.{◌≡◌, ℕ, zero, suc, ◌-◌, ◌<◌, ◌≤◌, max, Bool, true, false, cond, leb, ltb, eqb, List, [], ◌∷◌, ◌++◌, length, Result, Ok, Err, refl, sym, ap, subst, ◌∙◌, append_assoc, arith}
+use Rattle.std.proofs.Common.{◌≡◌, ℕ, zero, suc, ◌+◌, ◌-◌, ◌*◌, ◌<◌, ◌≤◌, max, Bool, true, false, cond, leb, ltb, eqb, List, [], ◌∷◌, ◌++◌, length, Result, Ok, Err, refl, sym, ap, subst, ◌∙◌, append_assoc, arith}
 use Rattle.std.specs.Prelude.{◌&&◌}
 use Rattle.std.proofs.lemmas.Bool.{le-ltb, lt-ltb, ltb-true, le-leb, lt-leb, ne_eqb}
 use Rattle.std.proofs.lemmas.Bool.Decides.{nat_tests}
@@ -11,12 +11,15 @@ use Rattle.acpi_term.specs.declared.mode.Mode.{Mode}
 use Rattle.acpi_term.specs.declared.mode.Mode.TheVariants.{Term, Element}
 use Rattle.acpi_term.specs.declared.language.Language.TheVariants.{Standard}
 use Rattle.acpi_term.specs.Language.{Grammar, has}
-use Rattle.acpi_term.specs.Tree.{Head, number, call, def_scope, def_device, def_method, def_power_res, def_buffer, def_package, def_var_package, def_if, def_while, def_else, op, def_external, def_leveled_method, def_processor, def_thermal_zone, def_roomy_package, def_index_field, Terms, end, term, count, depth}
+use Rattle.acpi_term.specs.Tree.{Entry, Head, number, call, def_scope, def_device, def_method, def_power_res, def_buffer, def_package, def_var_package, def_if, def_while, def_else, op, def_leveled_method, def_processor, def_thermal_zone, def_roomy_package, def_bank_field, Terms, end, term, count, depth}
 use Rattle.acpi_term.specs.Operator.{opcode}
-use Rattle.acpi_term.specs.Spelling.{spelled, spelling, inner, next, IsLegal, AreLegal}
-use Rattle.acpi_term.specs.Reading.{Fault, Deep, ◌>>=◌, least_of, assembled, follows, fills, packs, rooms, roomed, Reader, counted, all_of, wants_no_more, close, term_at}
+use Rattle.acpi_term.specs.Row.{entries_bytes, field_flags}
+use Rattle.acpi_term.specs.Spelling.{spelled, spelling, inner, next, AreStandardEntries, EntriesFit, IsLegal, AreLegal}
+use Rattle.acpi_term.specs.Reading.{Fault, Deep, ◌>>=◌, least_of, assembled, follows, fills, packs, rooms, roomed, banked, Reader, counted, all_of, wants_no_more, close, term_at}
 use Rattle.acpi_term.proofs.Names.{name_in_some}
-use Rattle.acpi_term.proofs.Opens.{opened, open_again, owned}
+use Rattle.acpi_term.proofs.Entries.{entries_again}
+use Rattle.acpi_term.proofs.Opens.{opened, open_again, owned, flags_low}
+use Rattle.acpi_term.proofs.Openings.{is_further}
 
 -- the terms are at most so deep
 abbrev pub within : Terms → ℕ → Bool
@@ -49,6 +52,16 @@ roomed_less : (w n : ℕ) (c : Terms) (rest : List ℕ) → count c < n → room
 roomed_less w n c rest lt =
     let other : eqb (count c) n ≡ false = ne_eqb (count c) n (λ e. omega (arith, e, lt)) in
     rw (other, lt-ltb (count c) n lt) refl
+
+-- a BankField after its value
+banked_again : (w : ℕ) (name bank : List ℕ) (access lock update : ℕ) (entries : List Entry) (c : Terms) (after : List ℕ) → access ≤ 5 → lock ≤ 1 → update ≤ 2 → AreStandardEntries Standard entries → EntriesFit entries
+    → banked w name bank c (field_flags access lock update ∷ entries_bytes entries) after ≡ Ok (def_bank_field name bank access lock update entries, w, c, after)
+unfolding banked
+banked_again w name bank access lock update entries c after a k u f e =
+    let p = flags_low access lock update a k u in
+    let below : ltb (access + 16 * lock + 32 * update) 96 ≡ true = lt-ltb _ 96 p.0 in
+    let small : ltb access 6 ≡ true = lt-ltb access 6 (omega arith) in
+    rw (below, p.1, p.2, p.3, small, entries_again Standard entries (length (entries_bytes entries)) (omega arith) f e) refl
 
 module _ (g : Grammar) where
   abbrev pub CountedAgain : Terms → Type 0
@@ -106,6 +119,13 @@ module _ (g : Grammar) where
       let n : count c ≡ 1 = fh.takes in
       let r : counted (term_at g d) 1 Term (spelling c ++ bytes) ≡ guarded (within c d) (c, bytes) = subst (λ k. counted (term_at g d) k Term (spelling c ++ bytes) ≡ guarded (within c d) (c, bytes)) n (law.several d Term bytes f) in
       rw r (guard_then (within c d) (c, bytes) (λ x. Ok (def_buffer x.1, w, x.0, rest)) (def_buffer bytes, w, c, rest) refl)
+  closes (def_bank_field name bank access lock update entries) w c law d m rest fh f =
+      let n : count c ≡ 1 = fh.takes in
+      let tail = field_flags access lock update ∷ entries_bytes entries in
+      let r : counted (term_at g d) 1 Term (spelling c ++ tail) ≡ guarded (within c d) (c, tail) = subst (λ k. counted (term_at g d) k Term (spelling c ++ tail) ≡ guarded (within c d) (c, tail)) n (law.several d Term tail f) in
+      let s = fh.is_standard in
+      let standard = subst (λ l. AreStandardEntries l entries) (is_further g.language s.0) s.6 in
+      rw r (guard_then (within c d) (c, tail) (λ x. banked w name bank x.0 x.1 rest) (def_bank_field name bank access lock update entries, w, c, rest) (banked_again w name bank access lock update entries c rest s.3 s.4 s.5 standard fh.fits.0))
   closes h w c law d m rest fh f = follows_closes h w c law d rest f
 
   -- one term is read again

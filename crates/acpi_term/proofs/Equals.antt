@@ -12,7 +12,7 @@ use Rattle.acpi_term.specs.declared.op.Op.{Op}
 use Rattle.acpi_term.specs.declared.op.Op.TheVariants.{LNot}
 use Rattle.acpi_term.specs.contracts.op.Op.{the_type}
 use Rattle.acpi_term.specs.declared.term.TermEntry.{TermEntry}
-use Rattle.acpi_term.specs.declared.term.TermEntry.TheVariants.{Named, Reserved}
+use Rattle.acpi_term.specs.declared.term.TermEntry.TheVariants.{Named, Reserved, AccessAs, ExtendedAccessAs, Connection, ConnectionBuffer}
 use Rattle.acpi_term.specs.contracts.term.TermEntryPartialEq.TheImpl.{eq-value}
 use Rattle.acpi_term.specs.declared.term.Term.{Term}
 use Rattle.acpi_term.specs.declared.term.Term.TheOpen.{Term-F}
@@ -21,7 +21,7 @@ use Rattle.acpi_term.specs.declared.term.Term.TheViews.{out-Term, roll-Term, rol
 use Rattle.acpi_term.specs.declared.term.Term.TheBlock.{the_members, the_family, the_depth, member-Term, seen-the_row-Term-0, shape-the_row-Term-0, hidden-the_row-Term-0, shown-the_row-Term-0}
 use Rattle.acpi_term.specs.contracts.term.TermPartialEq.TheImpl.{the_step}
 use Rattle.acpi_term.specs.contracts.term.TermPartialEq.TheImpl.Laws.{local}
-use Rattle.acpi_term.specs.Tree.{Head, number, ones, string, local as local_object, arg, call, def_scope, def_device, def_method, def_power_res, def_field, def_op_region, def_name, def_mutex, def_acquire, def_release, def_buffer, def_package, def_var_package, def_if, def_while, def_else, op, def_external, def_leveled_method, def_processor, def_thermal_zone, def_roomy_package, def_index_field, def_fatal, match_test}
+use Rattle.acpi_term.specs.Tree.{Head, number, ones, string, local as local_object, arg, call, def_scope, def_device, def_method, def_power_res, def_field, def_op_region, def_name, def_mutex, def_acquire, def_release, def_buffer, def_package, def_var_package, def_if, def_while, def_else, op, def_external, def_leveled_method, def_processor, def_thermal_zone, def_roomy_package, def_index_field, def_bank_field, def_fatal, match_test}
 use Rattle.acpi_term.specs.View.{Parts, entry_view, view, views, view_step}
 
 -- ---- values
@@ -61,6 +61,14 @@ entry_same (Named name bits w) (Named name' bits' w') e =
     let a : name ≡ name' = cc in let b : bits ≡ bits' = cc in let c : w ≡ w' = cc in
     both _ _ (bytes_same name name' a) (both _ _ (nat_same bits bits' b) (nat_same w w' c))
 entry_same (Reserved bits w) (Reserved bits' w') e = let b : bits ≡ bits' = cc in let c : w ≡ w' = cc in both _ _ (nat_same bits bits' b) (nat_same w w' c)
+entry_same (AccessAs access attribute) (AccessAs access' attribute') e = let a : access ≡ access' = cc in let b : attribute ≡ attribute' = cc in both _ _ (nat_same access access' a) (nat_same attribute attribute' b)
+entry_same (ExtendedAccessAs access attribute size) (ExtendedAccessAs access' attribute' size') e =
+    let a : access ≡ access' = cc in let b : attribute ≡ attribute' = cc in let c : size ≡ size' = cc in
+    both _ _ (nat_same access access' a) (both _ _ (nat_same attribute attribute' b) (nat_same size size' c))
+entry_same (Connection name) (Connection name') e = let a : name ≡ name' = cc in bytes_same name name' a
+entry_same (ConnectionBuffer w size v bytes) (ConnectionBuffer w' size' v' bytes') e =
+    let a : w ≡ w' = cc in let b : size ≡ size' = cc in let c : v ≡ v' = cc in let d : bytes.items ≡ bytes'.items = cc in
+    both _ _ (nat_same w w' a) (both _ _ (nat_same size size' b) (both _ _ (nat_same v v' c) (bytes_same bytes.items bytes'.items d)))
 entry_same x y e = absurd cc
 
 entries_same : (xs ys : List TermEntry) → map entry_view xs ≡ map entry_view ys → pointwise eq-value.it xs ys ≡ true
@@ -133,6 +141,7 @@ tag (def_roomy_package a) = 27
 tag (def_index_field a b c d e f) = 28
 tag (def_fatal a b) = 29
 tag (match_test a) = 30
+tag (def_bank_field a b c d e f) = 31
 
 shape : Term-F Term → ℕ
 shape (Term-F.Number a b) = 0
@@ -166,6 +175,7 @@ shape (Term-F.RoomyPackage a b c) = 27
 shape (Term-F.IndexField a b c d e f g) = 28
 shape (Term-F.Fatal a b c) = 29
 shape (Term-F.MatchTest a b) = 30
+shape (Term-F.BankField a b c d e f g h) = 31
 
 shape_is : (x : Term-F Term) → tag (seen x).0 ≡ shape x
 unfolding seen tag shape
@@ -200,6 +210,7 @@ shape_is (Term-F.RoomyPackage a b c) = refl
 shape_is (Term-F.IndexField a b c d e f g) = refl
 shape_is (Term-F.Fatal a b c) = refl
 shape_is (Term-F.MatchTest a b) = refl
+shape_is (Term-F.BankField a b c d e f g h) = refl
 
 differ : (a b : ℕ) → eqb a b ≡ false → a ≡ b → ⊥
 differ a b other e = grind (arith, nat_tests)
@@ -273,6 +284,11 @@ layer n below (Term-F.Fatal kind code argument) (Term-F.Fatal kind' code' argume
     both _ _ (nat_same kind kind' e) (both _ _ (nat_same code code' f) (below argument.value argument'.value (first_view argument.value argument'.value [] [] c)))
 layer n below (Term-F.MatchTest code operand) (Term-F.MatchTest code' operand') s h w c =
     let e : code ≡ code' = cc in both _ _ (nat_same code code' e) (below operand.value operand'.value (first_view operand.value operand'.value [] [] c))
+layer n below (Term-F.BankField a name bank value access lock update entries) (Term-F.BankField b name' bank' value' access' lock' update' entries') s h w c =
+    let d : name ≡ name' = cc in let e : bank ≡ bank' = cc in let f : access ≡ access' = cc in let g : lock ≡ lock' = cc in let k : update ≡ update' = cc in
+    let l : map entry_view entries.items ≡ map entry_view entries'.items = cc in
+    both _ _ (nat_same a b w) (both _ _ (bytes_same name name' d)
+    (both _ _ (bytes_same bank bank' e) (both _ _ (below value.value value'.value (first_view value.value value'.value [] [] c)) (both _ _ (nat_same access access' f) (both _ _ (nat_same lock lock' g) (both _ _ (nat_same update update' k) (entries_same entries.items entries'.items l)))))))
 layer n below x y s h w c = absurd (differ (shape x) (shape y) refl s)
 
 within_none : (t u : Term) → same_at zero t u ≡ true

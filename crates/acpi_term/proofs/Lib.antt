@@ -8,6 +8,8 @@ pub mod Steps
 pub mod Texts
 pub mod Names
 pub mod Frames
+pub mod Constants
+pub mod Beginnings
 pub mod Entries
 pub mod Operators
 pub mod Opens

@@ -3,21 +3,22 @@ use Rattle.std.proofs.Common.{◌≡◌, ℕ, ◌+◌, ◌-◌, ◌/◌, ◌%◌
 use Rattle.std.specs.Prelude.{◌&&◌, nat_le}
 use Rattle.std.proofs.lemmas.Bool.{ltb-true, ltb-false, lt-ltb, leb-true, eqb-true, le-leb, ne_eqb, and_parts}
 use Rattle.std.proofs.lemmas.Bool.Decides.{nat_tests}
-use Rattle.std.proofs.lemmas.List.{append-nil}
+use Rattle.std.proofs.lemmas.List.{append-nil, length-append}
 use Rattle.acpi_base.specs.Bytes.{AreBytes, le}
 use Rattle.acpi_base.specs.Number.{prefix, number_limit}
 use Rattle.acpi_term.specs.declared.op.Op.{Op}
 use Rattle.acpi_term.specs.declared.mode.Mode.{Mode}
-use Rattle.acpi_term.specs.Tree.{Entry, Head, number, ones, string, local, arg, call, def_scope, def_device, def_method, def_power_res, def_field, def_op_region, def_name, def_mutex, def_acquire, def_release, def_buffer, def_package, def_var_package, def_if, def_while, def_else, op, def_external, def_leveled_method, def_processor, def_thermal_zone, def_roomy_package, def_index_field, def_fatal, match_test}
-use Rattle.acpi_term.specs.declared.language.Language.TheVariants.{Standard}
+use Rattle.acpi_term.specs.Tree.{Entry, Head, number, ones, string, local, arg, call, def_scope, def_device, def_method, def_power_res, def_field, def_op_region, def_name, def_mutex, def_acquire, def_release, def_buffer, def_package, def_var_package, def_if, def_while, def_else, op, def_external, def_leveled_method, def_processor, def_thermal_zone, def_roomy_package, def_index_field, def_bank_field, def_fatal, match_test}
+use Rattle.acpi_term.specs.declared.language.Language.{Language}
+use Rattle.acpi_term.specs.declared.language.Language.TheVariants.{Written, Standard}
 use Rattle.acpi_term.specs.Name.{IsNameIn, IsText}
-use Rattle.acpi_term.specs.Length.{with_length, FrameFits}
+use Rattle.acpi_term.specs.Length.{length_bytes, with_length, FrameFits}
 use Rattle.acpi_term.specs.Language.{Grammar, has}
 use Rattle.acpi_term.specs.Operator.{opcode, operands, op_of, language_of}
 use Rattle.acpi_term.specs.Row.{entries_bytes, field_flags, method_flags, leveled_flags}
-use Rattle.acpi_term.specs.Spelling.{spelled, is_test, arguments, IsLegal}
+use Rattle.acpi_term.specs.Spelling.{spelled, is_test, arguments, AreStandardEntries, EntriesFit, IsLegal}
 use Rattle.acpi_base.proofs.Bytes.{bytes_after}
-use Rattle.acpi_term.specs.Reading.{Fault, Bad, ◌>>=◌, name_in, frame_at, text_at, high_at, entries_at, begins_name, number_at, string_at, After, named_at, define_after, release_after, mutex_after, region_after, acquire_after, external_after, further, Inside, framed_at, scope_inside, device_inside, thermal_inside, method_inside, processor_end, processor_inside, index_flags, index_inside, power_inside, field_inside, plain_at, counted_frame, package_at, buffer_at, operator_at, extended_at, local_at, opcode_at, fatal_at, test_at, Opened, follows, fills, packs, rooms, begins, head_at, open_at, least_of}
+use Rattle.acpi_term.specs.Reading.{Fault, Bad, ◌>>=◌, name_in, frame_at, text_at, high_at, entries_at, begins_name, number_at, string_at, After, named_at, define_after, release_after, mutex_after, region_after, acquire_after, external_after, further, Inside, framed_at, scope_inside, device_inside, thermal_inside, method_inside, processor_end, processor_inside, index_flags, index_inside, bank_inside, power_inside, field_inside, plain_at, counted_frame, package_at, buffer_at, operator_at, extended_at, local_at, opcode_at, fatal_at, test_at, Opened, follows, fills, packs, rooms, begins, banks, head_at, open_at, least_of}
 use Rattle.acpi_term.proofs.Steps.{bind_ok, ok_is, admitted}
 use Rattle.acpi_term.proofs.Names.{name_in_takes}
 use Rattle.acpi_term.proofs.Texts.{text_takes}
@@ -61,8 +62,13 @@ leveled_back flags true h = let high : 8 ≤ flags % 16 = leb-true 8 (flags % 16
 leveled_back flags false h = let low : flags % 16 < 8 = grind (arith, nat_tests) in omega arith
 
 -- the flags of a field are the three numbers
-flags_is : (b : ℕ) → field_flags (b % 16) (b / 16 % 2) (b / 32) ≡ b
+pub flags_is : (b : ℕ) → field_flags (b % 16) (b / 16 % 2) (b / 32) ≡ b
 flags_is b = omega arith
+
+-- a language that has what the standard has is the standard's
+pub is_further : (l : Language) → has l Standard ≡ true → l ≡ Standard
+is_further Written more = absurd cc
+is_further Standard more = refl
 
 module _ (g : Grammar) (m : Mode) where
   -- what the bytes of an opened head are, whichever children and bytes after them follow
@@ -76,6 +82,10 @@ module _ (g : Grammar) (m : Mode) where
       × ((k : ℕ) → k < n → (bytes ≡ spelled (def_roomy_package n) w k inside ++ after) × IsLegal g m (def_roomy_package n) w k inside)
   OpenTakes bytes (begins w content after) =
       AreBytes content × AreBytes after × ((inside rest : List ℕ) → content ≡ inside ++ rest → (bytes ≡ spelled (def_buffer rest) w 1 inside ++ after) × IsLegal g m (def_buffer rest) w 1 inside)
+  OpenTakes bytes (banks w name bank content after) =
+      AreBytes content × AreBytes after × (g.language ≡ Standard) × (length content + length after ≤ length bytes)
+      × ((inside : List ℕ) (access lock update : ℕ) (entries : List Entry) → access ≤ 5 → lock ≤ 1 → update ≤ 2 → AreStandardEntries g.language entries → EntriesFit entries → content ≡ inside ++ field_flags access lock update ∷ entries_bytes entries
+      → (bytes ≡ spelled (def_bank_field name bank access lock update entries) w 1 inside ++ after) × IsLegal g m (def_bank_field name bank access lock update entries) w 1 inside)
 
   -- a reading that ended in o
   Reads : Result Opened Fault → List ℕ → Type 0
@@ -357,7 +367,7 @@ module _ (g : Grammar) (m : Mode) where
         ) o h.2
 
     field_is : (rest bytes : List ℕ) (w : ℕ) (name inside content after : List ℕ) (access lock update : ℕ) (entries : List Entry) → bytes ≡ (91 ∷ 129 ∷ []) ++ rest → Framed rest w content after → IsNameIn g.language name
-        → access ≤ 5 → lock ≤ 1 → update ≤ 2 → content ≡ name ++ field_flags access lock update ∷ inside → AreEntries inside entries → OpenTakes bytes (follows (def_field name access lock update entries) w 0 after)
+        → access ≤ 5 → lock ≤ 1 → update ≤ 2 → content ≡ name ++ field_flags access lock update ∷ inside → AreEntries g.language inside entries → OpenTakes bytes (follows (def_field name access lock update entries) w 0 after)
     field_is rest bytes w name inside content after access lock update entries is f p a l u e t =
         let before = name ++ field_flags access lock update ∷ entries_bytes entries in
         let same : content ≡ before ++ [] = e ∙ ap (λ (l : List ℕ). name ++ field_flags access lock update ∷ l) t.parts ∙ sym (append-nil before) in
@@ -372,14 +382,14 @@ module _ (g : Grammar) (m : Mode) where
               (parts ∙ ap (λ (l : List ℕ). ((91 ∷ 129 ∷ []) ++ with_length w (before ++ [])) ++ l) rest_is, head),
         )
 
-    field_reads : (rest bytes : List ℕ) → bytes ≡ (91 ∷ 129 ∷ []) ++ rest → InsideReads field_inside rest bytes
+    field_reads : (rest bytes : List ℕ) → bytes ≡ (91 ∷ 129 ∷ []) ++ rest → InsideReads (field_inside g.language) rest bytes
     unfolding Reads
     field_reads rest bytes is w name [] content after f p e fits o r = absurd cc
     field_reads rest bytes is w name (flags ∷ inside) content after f p e fits o r =
         let low = admitted (ltb (flags % 16) 6) Bad _ o r in
         let high = admitted (ltb flags 96) Bad _ o low.1 in
-        let a = bind_ok (entries_at (length inside) inside) (λ e. Ok (follows (def_field name (flags % 16) (flags / 16 % 2) (flags / 32) e) w 0 after)) o high.1 in
-        let t = entries_takes (length inside) inside a.0 fits.1 a.1 in
+        let a = bind_ok (entries_at g.language (length inside) inside) (λ e. Ok (follows (def_field name (flags % 16) (flags / 16 % 2) (flags / 32) e) w 0 after)) o high.1 in
+        let t = entries_takes g.language (length inside) inside a.0 fits.1 a.1 in
         let small : flags % 16 < 6 = ltb-true _ 6 low.0 in
         let top : flags < 96 = ltb-true _ 96 high.0 in
         opens (follows (def_field name (flags % 16) (flags / 16 % 2) (flags / 32) a.0) w 0 after) bytes
@@ -387,7 +397,7 @@ module _ (g : Grammar) (m : Mode) where
 
     index_is : (rest bytes : List ℕ) (w : ℕ) (index name inside content after : List ℕ) (access lock update : ℕ) (entries : List Entry) → IsFurther → bytes ≡ (91 ∷ 134 ∷ []) ++ rest → Framed rest w content after
         → IsNameIn g.language index → IsNameIn g.language name
-        → access ≤ 5 → lock ≤ 1 → update ≤ 2 → content ≡ index ++ (name ++ field_flags access lock update ∷ inside) → AreEntries inside entries → OpenTakes bytes (follows (def_index_field index name access lock update entries) w 0 after)
+        → access ≤ 5 → lock ≤ 1 → update ≤ 2 → content ≡ index ++ (name ++ field_flags access lock update ∷ inside) → AreEntries g.language inside entries → OpenTakes bytes (follows (def_index_field index name access lock update entries) w 0 after)
     index_is rest bytes w index name inside content after access lock update entries more is f p q a l u e t =
         let before = index ++ (name ++ field_flags access lock update ∷ entries_bytes entries) in
         let same : content ≡ before ++ [] = e ∙ ap (λ (l : List ℕ). index ++ (name ++ field_flags access lock update ∷ l)) t.parts ∙ sym (append-nil before) in
@@ -403,14 +413,14 @@ module _ (g : Grammar) (m : Mode) where
         )
 
     index_flagged : (rest bytes : List ℕ) (w : ℕ) (index name inside content after : List ℕ) → IsFurther → bytes ≡ (91 ∷ 134 ∷ []) ++ rest → Framed rest w content after → IsNameIn g.language index → IsNameIn g.language name
-        → content ≡ index ++ (name ++ inside) → AreBytes inside → Reads (index_flags w index name inside after) bytes
+        → content ≡ index ++ (name ++ inside) → AreBytes inside → Reads (index_flags g.language w index name inside after) bytes
     unfolding Reads
     index_flagged rest bytes w index name [] content after more is f p q e fits o r = absurd cc
     index_flagged rest bytes w index name (flags ∷ inside) content after more is f p q e fits o r =
         let low = admitted (ltb (flags % 16) 6) Bad _ o r in
         let high = admitted (ltb flags 96) Bad _ o low.1 in
-        let a = bind_ok (entries_at (length inside) inside) (λ e. Ok (follows (def_index_field index name (flags % 16) (flags / 16 % 2) (flags / 32) e) w 0 after)) o high.1 in
-        let t = entries_takes (length inside) inside a.0 fits.1 a.1 in
+        let a = bind_ok (entries_at g.language (length inside) inside) (λ e. Ok (follows (def_index_field index name (flags % 16) (flags / 16 % 2) (flags / 32) e) w 0 after)) o high.1 in
+        let t = entries_takes g.language (length inside) inside a.0 fits.1 a.1 in
         let small : flags % 16 < 6 = ltb-true _ 6 low.0 in
         let top : flags < 96 = ltb-true _ 96 high.0 in
         opens (follows (def_index_field index name (flags % 16) (flags / 16 % 2) (flags / 32) a.0) w 0 after) bytes
@@ -419,9 +429,36 @@ module _ (g : Grammar) (m : Mode) where
     index_reads : (rest bytes : List ℕ) → IsFurther → bytes ≡ (91 ∷ 134 ∷ []) ++ rest → InsideReads (index_inside g.language) rest bytes
     unfolding Reads
     index_reads rest bytes more is w index tail content after f p e fits o r =
-        let n = bind_ok (name_in g.language tail) (λ n. index_flags w index n.0 n.1 after) o r in
+        let n = bind_ok (name_in g.language tail) (λ n. index_flags g.language w index n.0 n.1 after) o r in
         let q = name_in_takes g.language tail n.0.0 n.0.1 fits n.1 in
         index_flagged rest bytes w index n.0.0 n.0.1 content after more is f p q.0 (e ∙ ap (λ (l : List ℕ). index ++ l) q.1) (bytes_after n.0.0 n.0.1 (subst AreBytes q.1 fits)) o n.2
+
+    framed_within : (code rest name bank inside content after bytes : List ℕ) (w : ℕ) → bytes ≡ code ++ rest → Framed rest w content after → content ≡ name ++ (bank ++ inside) → length inside + length after ≤ length bytes
+    framed_within code rest name bank inside content after bytes w is f e =
+        omega (arith, ap length is, length-append code rest, ap length f.parts, length-append (with_length w content) after, length-append (length_bytes w (w + length content)) content, ap length e, length-append name (bank ++ inside), length-append bank inside)
+
+    bank_is : (rest bytes : List ℕ) (w : ℕ) (name bank inside content after : List ℕ) → IsFurther → bytes ≡ (91 ∷ 135 ∷ []) ++ rest → Framed rest w content after → IsNameIn g.language name → IsNameIn g.language bank
+        → content ≡ name ++ (bank ++ inside) → AreBytes inside → OpenTakes bytes (banks w name bank inside after)
+    bank_is rest bytes w name bank inside content after more is f p q e fits = (
+      fits,
+      f.after_fits,
+      is_further g.language more,
+      framed_within (91 ∷ 135 ∷ []) rest name bank inside content after bytes w is f e,
+      λ children access lock update entries a l u standard carried split.
+          let mid = name ++ bank in
+          let tail = field_flags access lock update ∷ entries_bytes entries in
+          let same : content ≡ mid ++ (children ++ tail) = e ∙ sym (append_assoc name bank inside) ∙ ap (λ (l : List ℕ). mid ++ l) split in (
+            frame_parts (91 ∷ 135 ∷ []) rest content _ after bytes w is f.parts same,
+            record { stands = plain; takes = refl; is_standard = (more, p, q, a, l, u, standard); owns = entries_owned entries carried; fits = (carried, subst (FrameFits w) same f.fits) },
+          ),
+    )
+
+    bank_reads : (rest bytes : List ℕ) → IsFurther → bytes ≡ (91 ∷ 135 ∷ []) ++ rest → InsideReads (bank_inside g.language) rest bytes
+    unfolding Reads
+    bank_reads rest bytes more is w name tail content after f p e fits o r =
+        let n = bind_ok (name_in g.language tail) (λ n. Ok (banks w name n.0 n.1 after)) o r in
+        let q = name_in_takes g.language tail n.0.0 n.0.1 fits n.1 in
+        opens (banks w name n.0.0 n.0.1 after) bytes (bank_is rest bytes w name n.0.0 n.0.1 content after more is f p q.0 (e ∙ ap (λ (l : List ℕ). name ++ l) q.1) (bytes_after n.0.0 n.0.1 (subst AreBytes q.1 fits))) o n.2
 
     -- ---- other frames
 
@@ -492,13 +529,14 @@ module _ (g : Grammar) (m : Mode) where
         (λ _. either_way (eqb x 39) _ _ all (λ h. named_reads release_after rest all fits.1 (release_reads rest all (two 39 h)))
         (λ _. either_way (eqb x 50) _ _ all (λ h. further_reads _ all (λ more. fatal_reads rest all more (two 50 h) fits.1))
         (λ _. either_way (eqb x 128) _ _ all (λ h. named_reads region_after rest all fits.1 (region_reads rest all (two 128 h)))
-        (λ _. either_way (eqb x 129) _ _ all (λ h. framed_reads field_inside rest all fits.1 (field_reads rest all (two 129 h)))
+        (λ _. either_way (eqb x 129) _ _ all (λ h. framed_reads (field_inside g.language) rest all fits.1 (field_reads rest all (two 129 h)))
         (λ _. either_way (eqb x 130) _ _ all (λ h. framed_reads device_inside rest all fits.1 (device_reads rest all (two 130 h)))
         (λ _. either_way (eqb x 131) _ _ all (λ h. further_reads _ all (λ more. framed_reads processor_inside rest all fits.1 (processor_reads rest all more (two 131 h))))
         (λ _. either_way (eqb x 132) _ _ all (λ h. framed_reads power_inside rest all fits.1 (power_reads rest all (two 132 h)))
         (λ _. either_way (eqb x 133) _ _ all (λ h. further_reads _ all (λ more. framed_reads thermal_inside rest all fits.1 (thermal_reads rest all more (two 133 h))))
         (λ _. either_way (eqb x 134) _ _ all (λ h. further_reads _ all (λ more. framed_reads (index_inside g.language) rest all fits.1 (index_reads rest all more (two 134 h))))
-        (λ _. operator_reads (91 ∷ x ∷ []) (op_of (91 ∷ x ∷ [])) rest all refl (two_bytes b 91 x x rest is refl) fits.1)))))))))))
+        (λ _. either_way (eqb x 135) _ _ all (λ h. further_reads _ all (λ more. framed_reads (bank_inside g.language) rest all fits.1 (bank_reads rest all more (two 135 h))))
+        (λ _. operator_reads (91 ∷ x ∷ []) (op_of (91 ∷ x ∷ [])) rest all refl (two_bytes b 91 x x rest is refl) fits.1))))))))))))
 
     local_or_op_reads : (b : ℕ) (rest : List ℕ) → AreBytes rest → Reads (local_at g.language b rest) (b ∷ rest)
     local_or_op_reads b rest fits =

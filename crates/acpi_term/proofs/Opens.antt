@@ -10,19 +10,21 @@ use Rattle.acpi_base.specs.Number.{number_limit, number_bytes}
 use Rattle.acpi_term.specs.declared.op.Op.{Op}
 use Rattle.acpi_term.specs.declared.op.Op.TheVariants.{CreateField}
 use Rattle.acpi_term.specs.declared.mode.Mode.{Mode}
-use Rattle.acpi_term.specs.Tree.{Entry, Head, number, ones, string, local, arg, call, def_scope, def_device, def_method, def_power_res, def_field, def_op_region, def_name, def_mutex, def_acquire, def_release, def_buffer, def_package, def_var_package, def_if, def_while, def_else, op, def_external, def_leveled_method, def_processor, def_thermal_zone, def_roomy_package, def_index_field, def_fatal, match_test}
-use Rattle.acpi_term.specs.Name.{is_segment, no_more, one_more, IsPath, single, double, multiple, IsName, relative, rooted, IsNameString, as_written, root_alone, upwards, IsNameIn}
+use Rattle.acpi_term.specs.Tree.{Entry, Head, number, ones, string, local, arg, call, def_scope, def_device, def_method, def_power_res, def_field, def_op_region, def_name, def_mutex, def_acquire, def_release, def_buffer, def_package, def_var_package, def_if, def_while, def_else, op, def_external, def_leveled_method, def_processor, def_thermal_zone, def_roomy_package, def_index_field, def_bank_field, def_fatal, match_test}
+use Rattle.acpi_term.specs.Name.{IsNameIn}
 use Rattle.acpi_term.specs.Length.{with_length, FrameFits}
 use Rattle.acpi_term.specs.declared.language.Language.{Language}
-use Rattle.acpi_term.specs.declared.language.Language.TheVariants.{Written, Standard}
+use Rattle.acpi_term.specs.declared.language.Language.TheVariants.{Standard}
 use Rattle.acpi_term.specs.Language.{Grammar, has}
 use Rattle.acpi_term.specs.Operator.{opcode, operands, language_of, op_of}
 use Rattle.acpi_term.specs.Row.{entries_bytes, field_flags, method_flags, leveled_flags}
-use Rattle.acpi_term.specs.Spelling.{spelled, arguments, is_test, AreNamed, EntriesFit, IsLegal}
-use Rattle.acpi_term.specs.Reading.{◌>>=◌, Fault, Bad, name_in, begins_name, After, named_at, define_after, release_after, mutex_after, region_after, acquire_after, external_after, Inside, framed_at, scope_inside, device_inside, thermal_inside, method_inside, processor_inside, index_inside, power_inside, field_inside, fatal_at, opcode_at, Opened, follows, fills, packs, rooms, begins, head_at, open_at}
-use Rattle.acpi_term.proofs.Names.{lead_of, name_in_again}
+use Rattle.acpi_term.specs.Spelling.{spelled, arguments, is_test, AreStandardEntries, EntriesFit, IsLegal}
+use Rattle.acpi_term.specs.Reading.{Fault, Bad, name_in, begins_name, After, named_at, define_after, release_after, mutex_after, region_after, acquire_after, external_after, Inside, framed_at, scope_inside, device_inside, thermal_inside, method_inside, processor_inside, index_inside, bank_inside, power_inside, field_inside, fatal_at, opcode_at, Opened, follows, fills, packs, rooms, begins, banks, head_at, open_at}
+use Rattle.acpi_term.proofs.Names.{name_in_again}
+use Rattle.acpi_term.proofs.Beginnings.{name_begins}
 use Rattle.acpi_term.proofs.Texts.{text_again}
 use Rattle.acpi_term.proofs.Frames.{high_again, frame_again}
+use Rattle.acpi_term.proofs.Constants.{number_limit_few}
 use Rattle.acpi_term.proofs.Entries.{entries_again}
 
 -- a head with n children, whose spellings joined are the bytes inside, where it is opened
@@ -41,30 +43,10 @@ opened l (def_processor name id address size) w n inside after = fills (def_proc
 opened l (def_thermal_zone name) w n inside after = fills (def_thermal_zone name) w inside after
 opened l (def_roomy_package room) w n inside after = rooms w room inside after
 opened l (def_buffer bytes) w n inside after = begins w (inside ++ bytes) after
+opened l (def_bank_field name bank access lock update entries) w n inside after = banks w name bank (inside ++ field_flags access lock update ∷ entries_bytes entries) after
 opened l h w n inside after = follows h w n (inside ++ after)
 
 -- ---- parts
-
-lead_begins : (l : Language) (a b c d : ℕ) → is_segment a b c d ≡ true → begins_name l a ≡ true
-lead_begins l a b c d h = rw (lead_of a b c d h) refl
-
-path_begins : (l : Language) (s rest : List ℕ) → IsPath s → (b : ℕ) × (more : List ℕ) × (s ++ rest ≡ b ∷ more) × (begins_name l b ≡ true)
-path_begins l s rest (single (one_more {a} {b} {c} {d} h no_more)) = (a, b ∷ c ∷ d ∷ rest, refl, lead_begins l a b c d h)
-path_begins l s rest (double {s = t} p) = (46, t ++ rest, refl, refl)
-path_begins l s rest (multiple {n} {s = t} ge lt p) = (47, n ∷ t ++ rest, refl, refl)
-
-written_begins : (l : Language) (s rest : List ℕ) → IsName s → (b : ℕ) × (more : List ℕ) × (s ++ rest ≡ b ∷ more) × (begins_name l b ≡ true)
-written_begins l s rest (relative p) = path_begins l s rest p
-written_begins l s rest (rooted {s = t} p) = (92, t ++ rest, refl, refl)
-
-name_begins : (l : Language) (s rest : List ℕ) → IsNameIn l s → (b : ℕ) × (more : List ℕ) × (s ++ rest ≡ b ∷ more) × (begins_name l b ≡ true)
-name_begins Written s rest p = written_begins Written s rest p
-name_begins Standard s rest (as_written p) = written_begins Standard s rest p
-name_begins Standard s rest root_alone = (92, 0 ∷ rest, refl, refl)
-name_begins Standard s rest (upwards {s = t} p) = (94, t ++ rest, refl, refl)
-
-number_limit_few : (w : ℕ) → 9 ≤ w → number_limit w ≡ 0
-number_limit_few w ge = grind (arith, nat_tests)
 
 -- a value of a head's own that isn't refused
 pub owned : (t : Bool) (e : Error) → cond t None (Some e) ≡ None → t ≡ true
@@ -110,25 +92,25 @@ leveled_opens l w name args false level inside after more few some =
     leveled_from l w (leveled_flags args false level) name args false level inside after more (le-ltb (args + 0 + 16 * level) 16 (omega arith)) (omega arith) (lt-leb 8 _ (omega arith)) (omega arith)
 
 -- the flags of a field, taken apart again
-flags_low : (access lock update : ℕ) → access ≤ 5 → lock ≤ 1 → update ≤ 2
+pub flags_low : (access lock update : ℕ) → access ≤ 5 → lock ≤ 1 → update ≤ 2
     → (field_flags access lock update < 96) × (field_flags access lock update % 16 ≡ access) × (field_flags access lock update / 16 % 2 ≡ lock) × (field_flags access lock update / 32 ≡ update)
 flags_low access lock update a l u = (omega arith, omega arith, omega arith, omega arith)
 
-field_opens : (w : ℕ) (name : List ℕ) (access lock update : ℕ) (entries : List Entry) (after : List ℕ) → access ≤ 5 → lock ≤ 1 → update ≤ 2 → AreNamed entries → EntriesFit entries
-    → field_inside w name (field_flags access lock update ∷ entries_bytes entries) after ≡ Ok (follows (def_field name access lock update entries) w 0 after)
-field_opens w name access lock update entries after a l u f g =
-    let p = flags_low access lock update a l u in
+field_opens : (l : Language) (w : ℕ) (name : List ℕ) (access lock update : ℕ) (entries : List Entry) (after : List ℕ) → access ≤ 5 → lock ≤ 1 → update ≤ 2 → AreStandardEntries l entries → EntriesFit entries
+    → field_inside l w name (field_flags access lock update ∷ entries_bytes entries) after ≡ Ok (follows (def_field name access lock update entries) w 0 after)
+field_opens l w name access lock update entries after a k u f g =
+    let p = flags_low access lock update a k u in
     let below : ltb (access + 16 * lock + 32 * update) 96 ≡ true = lt-ltb _ 96 p.0 in
     let small : ltb access 6 ≡ true = lt-ltb access 6 (omega arith) in
-    rw (below, p.1, p.2, p.3, small, entries_again entries (length (entries_bytes entries)) (omega arith) f g) refl
+    rw (below, p.1, p.2, p.3, small, entries_again l entries (length (entries_bytes entries)) (omega arith) f g) refl
 
-index_opens : (l : Language) (w : ℕ) (index name : List ℕ) (access lock update : ℕ) (entries : List Entry) (after : List ℕ) → IsNameIn l name → access ≤ 5 → lock ≤ 1 → update ≤ 2 → AreNamed entries → EntriesFit entries
+index_opens : (l : Language) (w : ℕ) (index name : List ℕ) (access lock update : ℕ) (entries : List Entry) (after : List ℕ) → IsNameIn l name → access ≤ 5 → lock ≤ 1 → update ≤ 2 → AreStandardEntries l entries → EntriesFit entries
     → index_inside l w index (name ++ field_flags access lock update ∷ entries_bytes entries) after ≡ Ok (follows (def_index_field index name access lock update entries) w 0 after)
 index_opens l w index name access lock update entries after q a k u f e =
     let p = flags_low access lock update a k u in
     let below : ltb (access + 16 * lock + 32 * update) 96 ≡ true = lt-ltb _ 96 p.0 in
     let small : ltb access 6 ≡ true = lt-ltb access 6 (omega arith) in
-    rw (name_in_again l name (field_flags access lock update ∷ entries_bytes entries) q, below, p.1, p.2, p.3, small, entries_again entries (length (entries_bytes entries)) (omega arith) f e) refl
+    rw (name_in_again l name (field_flags access lock update ∷ entries_bytes entries) q, below, p.1, p.2, p.3, small, entries_again l entries (length (entries_bytes entries)) (omega arith) f e) refl
 
 package_choice : (t : Bool) (w n : ℕ) (inside after : List ℕ) → ◌≡◌ {A = Result Opened Fault} (cond t (Ok (rooms w n inside after)) (Ok (packs w n inside after))) (Ok (cond t (rooms w n inside after) (packs w n inside after)))
 package_choice true w n inside after = refl
@@ -204,6 +186,10 @@ module _ (g : Grammar) (m : Mode) where
   unfolding head_at
   indexed_opens rest more = rw more refl
 
+  banked_opens : (rest : List ℕ) → IsFurther → head_at g m (91 ∷ 135 ∷ rest) ≡ framed_at g.language (bank_inside g.language) rest
+  unfolding head_at
+  banked_opens rest more = rw more refl
+
   fatal_opens : (rest : List ℕ) → IsFurther → head_at g m (91 ∷ 50 ∷ rest) ≡ fatal_at rest
   unfolding head_at
   fatal_opens rest more = rw more refl
@@ -229,8 +215,8 @@ module _ (g : Grammar) (m : Mode) where
       let none : inside ≡ [] = nothing f.takes in
       let fits : FrameFits w ((name ++ mid) ++ []) = subst (λ (l : List ℕ). FrameFits w ((name ++ mid) ++ (l ++ []))) none f.fits.1 in
       rw (none, f.takes)
-      (framed_opens g.language field_inside w name mid [] after f.is_standard.0 fits ∙ ap (λ (l : List ℕ). field_inside w name l after) (append-nil mid)
-      ∙ field_opens w name access lock update entries after f.is_standard.1 f.is_standard.2 f.is_standard.3 f.is_standard.4 f.fits.0)
+      (framed_opens g.language (field_inside g.language) w name mid [] after f.is_standard.0 fits ∙ ap (λ (l : List ℕ). field_inside g.language w name l after) (append-nil mid)
+      ∙ field_opens g.language w name access lock update entries after f.is_standard.1 f.is_standard.2 f.is_standard.3 f.is_standard.4 f.fits.0)
   head_again (def_op_region name space) w n inside after f plain nothing =
       rw (f.fits, f.takes) (ap (λ (l : List ℕ). head_at g m (91 ∷ 128 ∷ l)) (regroup name (space ∷ []) inside after) ∙ named_opens g.language region_after name (space ∷ (inside ++ after)) f.is_standard.0)
   head_again (def_name name) w n inside after f plain nothing = rw (f.fits, f.takes) (ap (λ (l : List ℕ). head_at g m (8 ∷ l)) (append_assoc name inside after) ∙ named_opens g.language define_after name (inside ++ after) f.is_standard)
@@ -264,6 +250,11 @@ module _ (g : Grammar) (m : Mode) where
       (indexed_opens (with_length w ((index ++ mid) ++ []) ++ after) f.is_standard.0
       ∙ framed_opens g.language (index_inside g.language) w index mid [] after f.is_standard.1 fits ∙ ap (λ (l : List ℕ). index_inside g.language w index l after) (append-nil mid)
       ∙ index_opens g.language w index name access lock update entries after f.is_standard.2 f.is_standard.3 f.is_standard.4 f.is_standard.5 f.is_standard.6 f.fits.0)
+  head_again (def_bank_field name bank access lock update entries) w n inside after f plain nothing =
+      let tail = field_flags access lock update ∷ entries_bytes entries in
+      let content = (name ++ bank) ++ (inside ++ tail) in
+      banked_opens (with_length w content ++ after) f.is_standard.0
+      ∙ rw (frame_again w content after f.fits.1, append_assoc name bank (inside ++ tail), name_in_again g.language name (bank ++ (inside ++ tail)) f.is_standard.1, name_in_again g.language bank (inside ++ tail) f.is_standard.2) refl
   head_again def_var_package w n inside after f plain nothing = rw (frame_again w (inside ++ []) after f.fits, append-nil inside) refl
   head_again def_if w n inside after f plain nothing = rw (frame_again w (inside ++ []) after f.fits, append-nil inside) refl
   head_again def_while w n inside after f plain nothing = rw (frame_again w (inside ++ []) after f.fits, append-nil inside) refl

@@ -10,12 +10,12 @@ use Rattle.acpi_base.specs.Object.{Object, whole, ended, all_of}
 use Rattle.acpi_base.proofs.Lists.{joined_whole, chain_whole}
 use Rattle.acpi_term.specs.declared.mode.Mode.{Mode}
 use Rattle.acpi_term.specs.declared.language.Language.{Language}
-use Rattle.acpi_term.specs.declared.language.Language.TheVariants.{Written, Standard}
+use Rattle.acpi_term.specs.declared.language.Language.TheVariants.{Written}
 use Rattle.acpi_term.specs.Language.{Grammar, written_grammar}
-use Rattle.acpi_term.specs.Tree.{Entry, Head, number, def_field, def_index_field, match_test, Terms, end, term, count, one}
+use Rattle.acpi_term.specs.Tree.{Entry, named, reserved, access_as, extended_access_as, connection, connection_buffer, Head, number, def_field, def_index_field, def_bank_field, match_test, Terms, end, term, count, one}
 use Rattle.acpi_term.specs.Length.{limit, least_width, with_length, FrameFits}
-use Rattle.acpi_term.specs.Row.{entry_bits, entries_end, Layout, bare, framed, layout, own, own_width, frame_end, frame, around, row, layout_width, writer_width}
-use Rattle.acpi_term.specs.Spelling.{laid, spelled, spelling, inner, next, Stands, IsStandard, EntriesFit, HaveLeastWidths, LayoutFits, HeadFits, IsWritten, Takes, IsLegal, Spells, SpellEach, SpellsIn, SpellEachIn}
+use Rattle.acpi_term.specs.Row.{entry_length, entries_end, Layout, bare, framed, layout, own, own_width, frame_end, frame, around, row, layout_width, writer_width}
+use Rattle.acpi_term.specs.Spelling.{laid, spelled, spelling, inner, next, Stands, IsStandard, EntryFits, EntriesFit, HasLeastWidth, HaveLeastWidths, LayoutFits, HeadFits, IsWritten, Takes, IsLegal, Spells, SpellEach, SpellsIn, SpellEachIn}
 use Rattle.acpi_term.proofs.Lengths.{width_carries, width_holds, number_carries}
 
 pub ended_none : (e : Option Error) (o : Object) → (ended e o).end ≡ None → (e ≡ None) × (o.end ≡ None) × ((ended e o).front ≡ o.front)
@@ -46,6 +46,14 @@ pub around_whole : (l : Layout) (o : Object) → (around l o).end ≡ None → (
 around_whole (bare before) o h = ended_none o.end (whole (before ++ o.front)) h
 around_whole (framed code before after) o h = ended_none o.end (frame code (before ++ (o.front ++ after))) h
 
+entry_fits_it : (e : Entry) → HasLeastWidth e → entry_length e < 2 ^ 28 → EntryFits e
+entry_fits_it (named name bits w) least small = subst (λ (w : ℕ). bits < limit w) (sym least) (width_holds bits small)
+entry_fits_it (reserved bits w) least small = subst (λ (w : ℕ). bits < limit w) (sym least) (width_holds bits small)
+entry_fits_it (access_as access attribute) least small = least
+entry_fits_it (extended_access_as access attribute size) least small = least
+entry_fits_it (connection name) least small = least
+entry_fits_it (connection_buffer w size v bytes) least small = least
+
 entry_fits : (t : Bool) (rest : Option Error) → cond t rest (Some PkgLength) ≡ None → (t ≡ true) × (rest ≡ None)
 entry_fits true rest h = (refl, h)
 entry_fits false rest h = absurd cc
@@ -53,14 +61,14 @@ entry_fits false rest h = absurd cc
 pub entries_fit : (entries : List Entry) → HaveLeastWidths entries → entries_end entries ≡ None → EntriesFit entries
 entries_fit [] least h = tt
 entries_fit (e ∷ entries) least h =
-    let t = entry_fits (nat_lt (entry_bits e) (2 ^ 28)) (entries_end entries) h in
-    let small : entry_bits e < 2 ^ 28 = ltb-true (entry_bits e) (2 ^ 28) t.0 in
-    (subst (λ (w : ℕ). entry_bits e < limit w) (sym least.0) (width_holds (entry_bits e) small), entries_fit entries least.1 t.1)
+    let t = entry_fits (nat_lt (entry_length e) (2 ^ 28)) (entries_end entries) h in
+    (entry_fits_it e least.0 (ltb-true (entry_length e) (2 ^ 28) t.0), entries_fit entries least.1 t.1)
 
 written_fits : (l : Language) (h : Head) (n : ℕ) (inside : List ℕ) → IsStandard l h → IsWritten h → own h n ≡ None → (around (layout h (own_width h) n) (whole inside)).end ≡ None → HeadFits h (writer_width h n inside) n inside
 written_fits l (number v) n inside std written owns h = number_carries v std
 written_fits l (def_field name access lock update entries) n inside std written owns h = (entries_fit entries written owns, fits_in (layout (def_field name access lock update entries) 0 n) inside h)
 written_fits l (def_index_field index name access lock update entries) n inside std written owns h = (entries_fit entries written owns, fits_in (layout (def_index_field index name access lock update entries) 0 n) inside h)
+written_fits l (def_bank_field name bank access lock update entries) n inside std written owns h = (entries_fit entries written owns, fits_in (layout (def_bank_field name bank access lock update entries) 0 n) inside h)
 written_fits l head n inside std written owns h = fits_in (layout head (own_width head) n) inside h
 
 same_layout : (h : Head) (n : ℕ) (inside : List ℕ) → layout h (own_width h) n ≡ layout h (writer_width h n inside) n

@@ -6,13 +6,13 @@ use Rattle.acpi_base.specs.declared.error.Error.{Error}
 use Rattle.acpi_base.specs.declared.error.Error.TheVariants.{Memory}
 use Rattle.acpi_term.specs.declared.term.Term.{Term}
 use Rattle.acpi_term.specs.declared.term.TermEntry.{TermEntry}
-use Rattle.acpi_term.specs.Length.{limit, with_length, FrameFits}
-use Rattle.acpi_term.specs.Row.{entry_bits, entry_width, entry_bytes, entries_bytes, Layout, bare, framed, code_of, before_of, after_of, field_flags, layout}
-use Rattle.acpi_term.specs.Tree.{Entry, Head, number, def_field, def_index_field, Terms, term, count}
-use Rattle.acpi_term.specs.Spelling.{laid, spelled, spelling, EntriesFit, LayoutFits, HeadFits}
+use Rattle.acpi_term.specs.Length.{with_length, FrameFits}
+use Rattle.acpi_term.specs.Row.{entry_bytes, entries_bytes, Layout, bare, framed, code_of, before_of, after_of, field_flags, layout}
+use Rattle.acpi_term.specs.Tree.{Entry, Head, number, def_field, def_index_field, def_bank_field, Terms, term, count}
+use Rattle.acpi_term.specs.Spelling.{laid, spelled, spelling, EntryFits, EntriesFit, LayoutFits, HeadFits}
 use Rattle.acpi_term.specs.View.{Parts, entry_view, view, views, single, IsApart}
 use Rattle.acpi_term.proofs.Entries.{entries_owned}
-use Rattle.acpi_term.specs.Carried.{IsUnfit, AreCarried, Added, IsUncarried, ValuesFit, BareFits, Laid, Unlaid, OwnLaid, OwnUnlaid}
+use Rattle.acpi_term.specs.Carried.{IsUnfit, AreCarried, Added, IsUncarried, FlagsFit, ValuesFit, BareFits, Laid, Unlaid, OwnLaid, OwnUnlaid}
 
 dropped : {X : Type 0} (xs : List X) (i : ℕ) (x : X) → i < length xs → x ≡ get_or xs i x → drop i xs ≡ x ∷ drop (i + 1) xs
 dropped xs i x inside is = drop-cons xs i x inside ∙ rw (add-one, ← is) refl
@@ -32,7 +32,7 @@ pub entries_start : (entries : List TermEntry) (old : List ℕ) → EntriesGo en
 entries_start entries old = record { parts = refl; back = λ f. f; on = λ f. f }
 
 module _ (entries : List TermEntry) (i : ℕ) (old now : List ℕ) (g : EntriesGo entries i old now) where
-  pub entries_go_on : (e : TermEntry) (new : List ℕ) → i < length entries → e ≡ get_or entries i e → new ≡ now ++ entry_bytes (entry_view e) → entry_bits (entry_view e) < limit (entry_width (entry_view e)) → EntriesGo entries (i + 1) old new
+  pub entries_go_on : (e : TermEntry) (new : List ℕ) → i < length entries → e ≡ get_or entries i e → new ≡ now ++ entry_bytes (entry_view e) → EntryFits (entry_view e) → EntriesGo entries (i + 1) old new
   entries_go_on e new inside is added fits =
       let d = dropped entries i e inside is in
       record {
@@ -168,12 +168,14 @@ bare_to : (h : Head) (w n : ℕ) (inside : List ℕ) → None ≡ code_of (layou
 bare_to (number v) w n inside is values fits = values
 bare_to (def_field name access lock update entries) w n inside is values fits = absurd cc
 bare_to (def_index_field index name access lock update entries) w n inside is values fits = absurd cc
+bare_to (def_bank_field name bank access lock update entries) w n inside is values fits = absurd cc
 bare_to h w n inside is values fits = bare_in (layout h w n) w inside is fits
 
 bare_from : (h : Head) (w n : ℕ) (inside : List ℕ) → None ≡ code_of (layout h w n) → HeadFits h w n inside → ValuesFit h w × BareFits h w
 bare_from (number v) w n inside is fits = (fits, tt)
 bare_from (def_field name access lock update entries) w n inside is fits = absurd cc
 bare_from (def_index_field index name access lock update entries) w n inside is fits = absurd cc
+bare_from (def_bank_field name bank access lock update entries) w n inside is fits = absurd cc
 bare_from h w n inside is fits = (tt, bare_out (layout h w n) w inside is fits)
 
 frame_in : (l : Layout) (w : ℕ) (inside code : List ℕ) → Some code ≡ code_of l → LayoutFits l w inside ↔ FrameFits w (before_of l ++ (inside ++ after_of l))
@@ -191,18 +193,21 @@ frame_to : (h : Head) (w n : ℕ) (inside code : List ℕ) → Some code ≡ cod
 frame_to (number v) w n inside code is values fits = values
 frame_to (def_field name access lock update entries) w n inside code is values fits = (values, fits)
 frame_to (def_index_field index name access lock update entries) w n inside code is values fits = (values, fits)
+frame_to (def_bank_field name bank access lock update entries) w n inside code is values fits = (values, fits)
 frame_to h w n inside code is values fits = fits
 
 frame_from : (h : Head) (w n : ℕ) (inside code : List ℕ) → Some code ≡ code_of (layout h w n) → HeadFits h w n inside → ValuesFit h w × LayoutFits (layout h w n) w inside
 frame_from (number v) w n inside code is fits = absurd cc
 frame_from (def_field name access lock update entries) w n inside code is fits = fits
 frame_from (def_index_field index name access lock update entries) w n inside code is fits = fits
+frame_from (def_bank_field name bank access lock update entries) w n inside code is fits = fits
 frame_from h w n inside code is fits = (tt, fits)
 
 values_of : (h : Head) (w n : ℕ) (inside : List ℕ) → HeadFits h w n inside → ValuesFit h w
 values_of (number v) w n inside fits = fits
 values_of (def_field name access lock update entries) w n inside fits = fits.0
 values_of (def_index_field index name access lock update entries) w n inside fits = fits.0
+values_of (def_bank_field name bank access lock update entries) w n inside fits = fits.0
 values_of h w n inside fits = tt
 
 module _ (h : Head) (w n : ℕ) (inside : List ℕ) where
@@ -232,6 +237,9 @@ module _ (h : Head) (w n : ℕ) (inside : List ℕ) where
         stop other (subst (FrameFits w) (sym same) ((frame_in (layout h w n) w inside code is).0 (frame_from h w n inside code is c.fits).1));
   }
 
+  pub after_unlaid : (e : Error) → (e ≢ Memory → FlagsFit h → ValuesFit h w → ⊥) → Unlaid e h w n inside
+  after_unlaid e stop = record { cause = λ other c. stop other c.flags (values_of h w n inside c.fits) }
+
   pub own_unlaid : (e : Error) → OwnUnlaid e h w n → Unlaid e h w n inside
   own_unlaid e stop = record { cause = λ other c. stop.cause other (record { owns = c.owns; flags = c.flags; values = values_of h w n inside c.fits }) }
 
@@ -248,4 +256,10 @@ pub field_laid : (name old new : List ℕ) (access lock update flags w n : ℕ) 
 field_laid name old new access lock update flags w n entries is small head made fits = record {
   carried = record { owns = entries_owned entries fits; flags = rw (← is) small; values = fits };
   is = made ∙ ap (λ (l : List ℕ). l ++ entries_bytes entries) head ∙ append_assoc name (flags ∷ []) (entries_bytes entries) ∙ ap (λ (k : ℕ). name ++ k ∷ entries_bytes entries) is;
+}
+
+pub bank_laid : (name bank bytes : List ℕ) (access lock update w n : ℕ) (entries : List Entry) → field_flags access lock update < 2 ^ 8 → EntriesFit entries → bytes ≡ name ++ (bank ++ []) → OwnLaid (def_bank_field name bank access lock update entries) w n bytes
+bank_laid name bank bytes access lock update w n entries small fits made = record {
+  carried = record { owns = entries_owned entries fits; flags = small; values = fits };
+  is = made ∙ ap (λ (l : List ℕ). name ++ l) (append-nil bank);
 }

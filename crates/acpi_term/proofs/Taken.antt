@@ -1,16 +1,19 @@
 -- What is read is spelled so.
-use Rattle.std.proofs.Common.{◌≡◌, ℕ, zero, suc, ◌<◌, ◌≤◌, ltb, eqb, inl, inr, List, [], ◌∷◌, ◌++◌, length, Ok, refl, sym, ap, subst, ◌∙◌, append_assoc, arith}
+use Rattle.std.proofs.Common.{◌≡◌, ℕ, zero, suc, ◌/◌, ◌%◌, ◌<◌, ◌≤◌, ltb, eqb, inl, inr, List, [], ◌∷◌, ◌++◌, length, Ok, refl, sym, ap, subst, ◌∙◌, append_assoc, arith}
 use Rattle.std.proofs.lemmas.Bool.{ltb-false, ltb-true, eqb-true}
 use Rattle.std.proofs.lemmas.List.{append-nil, length-append}
 use Rattle.acpi_base.specs.Bytes.{AreBytes}
 use Rattle.acpi_term.specs.declared.mode.Mode.{Mode}
 use Rattle.acpi_term.specs.declared.mode.Mode.TheVariants.{Term, Element}
+use Rattle.acpi_term.specs.declared.language.Language.TheVariants.{Standard}
 use Rattle.acpi_term.specs.Language.{Grammar}
-use Rattle.acpi_term.specs.Tree.{Head, def_package, def_roomy_package, def_buffer, Terms, end, term, count, depth}
-use Rattle.acpi_term.specs.Spelling.{spelled, spelling, inner, next, IsLegal, AreLegal}
-use Rattle.acpi_term.specs.Reading.{Bad, ◌>>=◌, least_of, One, assembled, Opened, follows, fills, packs, rooms, roomed, begins, open_at, Reader, counted, all_of, wants_no_more, close, term_at}
+use Rattle.acpi_term.specs.Tree.{Head, def_package, def_roomy_package, def_bank_field, def_buffer, Terms, end, term, count, depth}
+use Rattle.acpi_term.specs.Row.{field_flags}
+use Rattle.acpi_term.specs.Spelling.{spelled, spelling, inner, next, AreStandardEntries, IsLegal, AreLegal}
+use Rattle.acpi_term.specs.Reading.{Bad, ◌>>=◌, least_of, One, assembled, Opened, follows, fills, packs, rooms, roomed, banks, banked, begins, open_at, Reader, entries_at, counted, all_of, wants_no_more, close, term_at}
 use Rattle.acpi_term.proofs.Steps.{bind_ok, ok_is, passed, chosen, admitted}
-use Rattle.acpi_term.proofs.Openings.{OpenTakes, open_takes}
+use Rattle.acpi_term.proofs.Entries.{entries_takes}
+use Rattle.acpi_term.proofs.Openings.{OpenTakes, open_takes, flags_is}
 use Rattle.acpi_term.proofs.Again.{head_some, nothing_inside}
 
 -- a head, its width, its children and the bytes after it
@@ -117,6 +120,25 @@ module _ (g : Grammar) where
         let g = subst (λ (k : ℕ). (bytes ≡ spelled (def_buffer o.1) w k (spelling o.0) ++ after) × IsLegal g m (def_buffer o.1) w k (spelling o.0)) (sym s.number) f in
         record { parts = g.0; head = g.1; children = s.fits; deep = omega (arith, s.deep); rest_fits = t.1 }
 
+    banks_takes : (w : ℕ) (name bank content after bytes : List ℕ) (m : Mode) (c : Terms) (rest : List ℕ) (x : Found) → OpenTakes g m bytes (banks w name bank content after) → SeveralTaken d 1 Term content (c, rest)
+        → banked w name bank c rest after ≡ Ok x → OneTaken (suc d) m bytes x
+    unfolding banked
+    banks_takes w name bank content after bytes m c [] x t s e = absurd cc
+    banks_takes w name bank content after bytes m c (flags ∷ inside) x t s e =
+        let low = admitted (ltb (flags % 16) 6) Bad _ x e in
+        let high = admitted (ltb flags 96) Bad _ x low.1 in
+        let a = bind_ok (entries_at Standard (length inside) inside) (λ e. Ok (def_bank_field name bank (flags % 16) (flags / 16 % 2) (flags / 32) e, w, c, after)) x high.1 in
+        let entries = a.0 in
+        let k = entries_takes Standard (length inside) inside entries s.rest_fits.1 a.1 in
+        let small : flags % 16 < 6 = ltb-true _ 6 low.0 in
+        let top : flags < 96 = ltb-true _ 96 high.0 in
+        let split = s.parts ∙ ap (λ (x : ℕ). spelling c ++ x ∷ inside) (sym (flags_is flags)) ∙ ap (λ (l : List ℕ). spelling c ++ field_flags (flags % 16) (flags / 16 % 2) (flags / 32) ∷ l) k.parts in
+        let standard = subst (λ l. AreStandardEntries l entries) (sym t.2) k.standard in
+        let h = def_bank_field name bank (flags % 16) (flags / 16 % 2) (flags / 32) entries in
+        let f = t.4 (spelling c) (flags % 16) (flags / 16 % 2) (flags / 32) entries (omega arith) (omega arith) (omega arith) standard k.fits split in
+        let r = subst (λ (k : ℕ). (bytes ≡ spelled h w k (spelling c) ++ after) × IsLegal g m h w k (spelling c)) (sym s.number) f in
+        subst (OneTaken (suc d) m bytes) (ok_is {A = Found} (h, w, c, after) x a.2) (record { parts = r.0; head = r.1; children = s.fits; deep = omega (arith, s.deep); rest_fits = t.1 })
+
     close_takes : (o : Opened) (bytes : List ℕ) (m : Mode) (x : Found) → OpenTakes g m bytes o → close p o ≡ Ok x → OneTaken (suc d) m bytes x
     unfolding close assembled
     close_takes (follows h w n rest) bytes m x t e =
@@ -144,6 +166,9 @@ module _ (g : Grammar) where
               subst (OneTaken (suc d) m bytes) (ok_is {A = Found} (def_roomy_package n, w, a.0, after) x u.1)
               (rooms_takes (def_roomy_package n) w inside after bytes m a.0 refl t.1 s (t.3 (count a.0) (ltb-true (count a.0) n u.0)))
         ]
+    close_takes (banks w name bank content after) bytes m x t e =
+        let a = bind_ok (counted p 1 Term content) (λ c. banked w name bank c.0 c.1 after) x e in
+        banks_takes w name bank content after bytes m a.0.0 a.0.1 x t (counted_takes 1 Term content a.0 t.0 a.1) a.2
     close_takes (begins w content after) bytes m x t e =
         let a = bind_ok (counted p 1 Term content) (λ c. Ok (def_buffer c.1, w, c.0, after)) x e in
         subst (OneTaken (suc d) m bytes) (ok_is {A = Found} (def_buffer a.0.1, w, a.0.0, after) x a.2) (begins_takes w content after bytes m a.0 t (counted_takes 1 Term content a.0 t.0 a.1))

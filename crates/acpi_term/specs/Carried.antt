@@ -3,17 +3,18 @@ use Rattle.std.specs.Prelude.{◌≡◌, ◌≢◌, ℕ, ◌^◌, ◌<◌, List,
 use Rattle.acpi_base.specs.declared.error.Error.{Error}
 use Rattle.acpi_base.specs.declared.error.Error.TheVariants.{Memory}
 use Rattle.acpi_base.specs.Number.{number_limit}
-use Rattle.acpi_term.specs.Tree.{Head, number, def_field, def_leveled_method, def_index_field, Terms, end, term, count}
+use Rattle.acpi_term.specs.Tree.{Head, number, def_field, def_leveled_method, def_index_field, def_bank_field}
+use Rattle.acpi_term.specs.Tree.{Terms, end, term, count}
 use Rattle.acpi_term.specs.declared.term.TermEntry.{TermEntry}
-use Rattle.acpi_term.specs.Length.{limit}
-use Rattle.acpi_term.specs.Row.{entry_bits, entry_width, field_flags, leveled_flags, layout, before_of, own}
-use Rattle.acpi_term.specs.Spelling.{spelled, spelling, EntriesFit, HeadFits}
+use Rattle.acpi_term.specs.Row.{field_flags, leveled_flags, layout, before_of, own}
+use Rattle.acpi_term.specs.Spelling.{spelled, spelling, EntryFits, EntriesFit, HeadFits}
 use Rattle.acpi_term.specs.View.{entry_view}
 
 abbrev pub FlagsFit : Head → Type 0
 FlagsFit (def_field name access lock update entries) = field_flags access lock update < 2 ^ 8
 FlagsFit (def_leveled_method name args serialized level) = leveled_flags args serialized level < 2 ^ 8
 FlagsFit (def_index_field index name access lock update entries) = field_flags access lock update < 2 ^ 8
+FlagsFit (def_bank_field name bank access lock update entries) = field_flags access lock update < 2 ^ 8
 FlagsFit _ = Unit {0}
 
 -- a number fits its width, and so do the entries of a field
@@ -21,6 +22,7 @@ abbrev pub ValuesFit : Head → ℕ → Type 0
 ValuesFit (number v) w = v < number_limit w
 ValuesFit (def_field name access lock update entries) w = EntriesFit entries
 ValuesFit (def_index_field index name access lock update entries) w = EntriesFit entries
+ValuesFit (def_bank_field name bank access lock update entries) w = EntriesFit entries
 ValuesFit _ w = Unit {0}
 
 -- a head of this width with n children, which are spelled by the bytes inside
@@ -34,9 +36,9 @@ AreCarried end = Unit {0}
 AreCarried (term h w children others) = IsCarried h w (count children) (spelling children) × AreCarried children
     × AreCarried others
 
--- An error other than `Memory`: the entry's bits don't fit its width.
+-- An error other than `Memory`: the entry doesn't fit its width.
 pub record IsUnfit (e : Error) (entry : TermEntry) : Type 0 where
-  pub cause : e ≢ Memory → entry_bits (entry_view entry) < limit (entry_width (entry_view entry)) → ⊥
+  pub cause : e ≢ Memory → EntryFits (entry_view entry) → ⊥
 
 -- the spelling of terms whose values fit was added to a list
 pub record Added (ts : Terms) (old new : List ℕ) : Type 0 where

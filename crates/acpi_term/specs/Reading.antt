@@ -6,12 +6,13 @@ use Rattle.std.specs.Prelude.{if◌then◌else◌, List, [], ◌∷◌, ◌++◌
 use Rattle.acpi_term.specs.declared.op.Op.{Op}
 use Rattle.acpi_term.specs.declared.mode.Mode.{Mode}
 use Rattle.acpi_term.specs.declared.mode.Mode.TheVariants.{Term, Element}
-use Rattle.acpi_term.specs.Tree.{Entry, named, reserved, Head, number, ones, string, local, arg, call}
+use Rattle.acpi_term.specs.Tree.{Entry, named, reserved, access_as, extended_access_as, connection, connection_buffer}
+use Rattle.acpi_term.specs.Tree.{Head, number, ones, string, local, arg, call}
 use Rattle.acpi_term.specs.Tree.{def_scope, def_device, def_method, def_power_res, def_field, def_op_region}
 use Rattle.acpi_term.specs.Tree.{def_name, def_mutex, def_acquire, def_release, def_buffer, def_package}
 use Rattle.acpi_term.specs.Tree.{def_var_package, def_if, def_while, def_else, op, Terms, end, term, count}
 use Rattle.acpi_term.specs.Tree.{def_external, def_leveled_method, def_processor, def_thermal_zone, def_roomy_package}
-use Rattle.acpi_term.specs.Tree.{def_index_field}
+use Rattle.acpi_term.specs.Tree.{def_index_field, def_bank_field}
 use Rattle.acpi_term.specs.Tree.{def_fatal, match_test}
 use Rattle.acpi_term.specs.Name.{is_lead, is_segment}
 use Rattle.acpi_term.specs.declared.language.Language.{Language}
@@ -105,17 +106,52 @@ frame_at bytes = length_at bytes >>= λ l. sized_at l.0 l.1 l.2
 
 -- ---- fields
 
-unfoldable pub entry_at : List ℕ → Result (Entry × List ℕ) Fault
-entry_at [] = Err Bad
-entry_at (b ∷ rest) =
-    if b == 0x00 then (length_at rest >>= λ l. Ok (reserved l.1 l.0, l.2))
-    else (segment_at (b ∷ rest) >>= λ s. length_at s.1 >>= λ l. Ok (named s.0 l.1 l.0, l.2))
+-- what this library doesn't write
+abbrev pub further : {A : Type 0} → Language → Result A Fault → Result A Fault
+further l read = if has l Standard then read else Err Bad
+
+abbrev pub constant_in : ℕ → List ℕ → Result (ℕ × ℕ × List ℕ) Fault
+constant_in w bytes = high_at w bytes >>= λ h. Ok (h.0, w, h.1)
+
+-- a number in any width: its value, its width and the bytes after it
+unfoldable pub constant_at : List ℕ → Result (ℕ × ℕ × List ℕ) Fault
+constant_at [] = Err Bad
+constant_at (b ∷ rest) =
+    if nat_lt b 2 then Ok (b, 0, rest)
+    else (if b == 0x0a then constant_in 1 rest
+    else (if b == 0x0b then constant_in 2 rest
+    else (if b == 0x0c then constant_in 4 rest
+    else (if b == 0x0e then constant_in 8 rest
+    else Err Bad))))
+
+abbrev pub access_at : List ℕ → Result (Entry × List ℕ) Fault
+access_at (access ∷ attribute ∷ rest) = Ok (access_as access attribute, rest)
+access_at _ = Err Bad
+
+abbrev pub extended_access_at : List ℕ → Result (Entry × List ℕ) Fault
+extended_access_at (access ∷ attribute ∷ size ∷ rest) = Ok (extended_access_as access attribute size, rest)
+extended_access_at _ = Err Bad
+
+unfoldable pub connection_at : Language → List ℕ → Result (Entry × List ℕ) Fault
+connection_at l [] = Err Bad
+connection_at l (b ∷ rest) =
+    if b == 0x11 then (frame_at rest >>= λ f. constant_at f.1 >>= λ c. Ok (connection_buffer f.0 c.0 c.1 c.2, f.2))
+    else (name_in l (b ∷ rest) >>= λ n. Ok (connection n.0, n.1))
+
+unfoldable pub entry_at : Language → List ℕ → Result (Entry × List ℕ) Fault
+entry_at l [] = Err Bad
+entry_at l (b ∷ rest) =
+    if b == 0x00 then (length_at rest >>= λ s. Ok (reserved s.1 s.0, s.2))
+    else (if b == 0x01 then further l (access_at rest)
+    else (if b == 0x02 then further l (connection_at l rest)
+    else (if b == 0x03 then further l (extended_access_at rest)
+    else (segment_at (b ∷ rest) >>= λ s. length_at s.1 >>= λ n. Ok (named s.0 n.1 n.0, n.2)))))
 
 -- the entries of all n bytes or fewer
-unfoldable pub entries_at : ℕ → List ℕ → Result (List Entry) Fault
-entries_at n [] = Ok []
-entries_at zero (b ∷ bytes) = Err Bad
-entries_at (suc n) (b ∷ bytes) = entry_at (b ∷ bytes) >>= λ e. entries_at n e.1 >>= λ others. Ok (e.0 ∷ others)
+unfoldable pub entries_at : Language → ℕ → List ℕ → Result (List Entry) Fault
+entries_at l n [] = Ok []
+entries_at l zero (b ∷ bytes) = Err Bad
+entries_at l (suc n) (b ∷ bytes) = entry_at l (b ∷ bytes) >>= λ e. entries_at l n e.1 >>= λ others. Ok (e.0 ∷ others)
 
 -- ---- texts
 
@@ -140,6 +176,8 @@ pub data Opened : Type 0 where
   rooms : ℕ → ℕ → List ℕ → List ℕ → Opened
   -- a buffer's width, and the bytes inside: a size, and the others
   begins : ℕ → List ℕ → List ℕ → Opened
+  -- the width of a BankField, its names, and the bytes inside: a value, and the others
+  banks : ℕ → List ℕ → List ℕ → List ℕ → List ℕ → Opened
 
 abbrev pub begins_name : Language → ℕ → Bool
 begins_name l b = is_lead b || b == 0x2e || b == 0x2f || b == 0x5c || (b == 0x5e && is_standard l)
@@ -179,10 +217,6 @@ external_after name [] = Err Bad
 external_after name (kind ∷ []) = Err Bad
 external_after name (kind ∷ args ∷ rest) = Ok (follows (def_external name kind args) 0 0 rest)
 
--- what this library doesn't write
-abbrev pub further : Language → Result Opened Fault → Result Opened Fault
-further l read = if has l Standard then read else Err Bad
-
 abbrev pub fatal_at : List ℕ → Result Opened Fault
 fatal_at [] = Err Bad
 fatal_at (kind ∷ rest) = high_at 4 rest >>= λ h. Ok (follows (def_fatal kind h.0) 0 1 h.1)
@@ -221,22 +255,25 @@ abbrev pub power_inside : Inside
 power_inside w name [] after = Err Bad
 power_inside w name (level ∷ rest) after = high_at 2 rest >>= λ h. Ok (fills (def_power_res name level h.0) w h.1 after)
 
-abbrev pub field_inside : Inside
-field_inside w name [] after = Err Bad
-field_inside w name (b ∷ rest) after =
+abbrev pub field_inside : Language → Inside
+field_inside l w name [] after = Err Bad
+field_inside l w name (b ∷ rest) after =
     if nat_lt (b % 16) 6 then (if nat_lt b 96 then (
-    entries_at (length rest) rest >>= λ e. Ok (follows (def_field name (b % 16) (b / 16 % 2) (b / 32) e) w 0 after))
+    entries_at l (length rest) rest >>= λ e. Ok (follows (def_field name (b % 16) (b / 16 % 2) (b / 32) e) w 0 after))
     else Err Bad) else Err Bad
 
-abbrev pub index_flags : ℕ → List ℕ → List ℕ → List ℕ → List ℕ → Result Opened Fault
-index_flags w index name [] after = Err Bad
-index_flags w index name (b ∷ rest) after =
+abbrev pub index_flags : Language → ℕ → List ℕ → List ℕ → List ℕ → List ℕ → Result Opened Fault
+index_flags l w index name [] after = Err Bad
+index_flags l w index name (b ∷ rest) after =
     if nat_lt (b % 16) 6 then (if nat_lt b 96 then (
-    entries_at (length rest) rest >>= λ e. Ok (follows (def_index_field index name (b % 16) (b / 16 % 2) (b / 32) e) w 0 after))
+    entries_at l (length rest) rest >>= λ e. Ok (follows (def_index_field index name (b % 16) (b / 16 % 2) (b / 32) e) w 0 after))
     else Err Bad) else Err Bad
 
 abbrev pub index_inside : Language → Inside
-index_inside l w index rest after = name_in l rest >>= λ n. index_flags w index n.0 n.1 after
+index_inside l w index rest after = name_in l rest >>= λ n. index_flags l w index n.0 n.1 after
+
+abbrev pub bank_inside : Language → Inside
+bank_inside l w name rest after = name_in l rest >>= λ n. Ok (banks w name n.0 n.1 after)
 
 -- a frame whose content is children alone
 abbrev pub plain_at : Head → List ℕ → Result Opened Fault
@@ -265,13 +302,14 @@ extended_at l (b ∷ rest) =
     else (if b == 0x27 then named_at l release_after rest
     else (if b == 0x32 then further l (fatal_at rest)
     else (if b == 0x80 then named_at l region_after rest
-    else (if b == 0x81 then framed_at l field_inside rest
+    else (if b == 0x81 then framed_at l (field_inside l) rest
     else (if b == 0x82 then framed_at l device_inside rest
     else (if b == 0x83 then further l (framed_at l processor_inside rest)
     else (if b == 0x84 then framed_at l power_inside rest
     else (if b == 0x85 then further l (framed_at l thermal_inside rest)
     else (if b == 0x86 then further l (framed_at l (index_inside l) rest)
-    else operator_at l (op_of (0x5b ∷ b ∷ [])) rest))))))))))
+    else (if b == 0x87 then further l (framed_at l (bank_inside l) rest)
+    else operator_at l (op_of (0x5b ∷ b ∷ [])) rest)))))))))))
 
 abbrev pub local_at : Language → ℕ → List ℕ → Result Opened Fault
 local_at l b rest =
@@ -345,6 +383,15 @@ roomed w n c after =
     if count c == n then Ok (def_package, w, c, after)
     else (if nat_lt (count c) n then Ok (def_roomy_package n, w, c, after) else Err Bad)
 
+-- a BankField over its value, from the bytes after the value; only the standard has it
+unfoldable pub banked : ℕ → List ℕ → List ℕ → Terms → List ℕ → List ℕ → Result (Head × ℕ × Terms × List ℕ) Fault
+banked w name bank c [] after = Err Bad
+banked w name bank c (b ∷ rest) after =
+    if nat_lt (b % 16) 6 then (if nat_lt b 96 then (
+    entries_at Standard (length rest) rest
+    >>= λ e. Ok (def_bank_field name bank (b % 16) (b / 16 % 2) (b / 32) e, w, c, after))
+    else Err Bad) else Err Bad
+
 module _ (read : Reader) where
   unfoldable pub counted : ℕ → Mode → List ℕ → Result (Terms × List ℕ) Fault
   counted zero m bytes = Ok (end, bytes)
@@ -366,6 +413,7 @@ module _ (read : Reader) where
       all_of (length inside) (inner h) inside >>= λ c. assembled h w c >>= λ t. Ok (t.0, t.1, t.2, after)
   close (packs w n inside after) = counted n Element inside >>= λ c. wants_no_more def_package w c.0 c.1 after
   close (rooms w n inside after) = all_of (length inside) Element inside >>= λ c. roomed w n c after
+  close (banks w name bank inside after) = counted 1 Term inside >>= λ c. banked w name bank c.0 c.1 after
   close (begins w inside after) = counted 1 Term inside >>= λ c. Ok (def_buffer c.1, w, c.0, after)
 
 unfoldable pub term_at : Grammar → ℕ → Reader

@@ -6,38 +6,58 @@ use Rattle.acpi_base.specs.declared.error.Error.TheVariants.{ArgNumber, LocalNum
 use Rattle.acpi_base.specs.Bytes.{le}
 use Rattle.acpi_base.specs.Number.{number_bytes, number_width}
 use Rattle.acpi_base.specs.Object.{Object, whole, all_of, ended}
-use Rattle.acpi_term.specs.Tree.{Entry, named, reserved, Head, number, ones, string, local, arg, call, def_scope, def_device}
+use Rattle.acpi_term.specs.Tree.{Entry, named, reserved, access_as, extended_access_as, connection, connection_buffer}
+use Rattle.acpi_term.specs.Tree.{Head, number, ones, string, local, arg, call, def_scope, def_device}
 use Rattle.acpi_term.specs.Tree.{def_method, def_power_res, def_field, def_op_region, def_name, def_mutex, def_acquire}
 use Rattle.acpi_term.specs.Tree.{def_release, def_buffer, def_package, def_var_package, def_if, def_while, def_else, op}
 use Rattle.acpi_term.specs.Tree.{def_external, def_leveled_method, def_processor, def_thermal_zone, def_roomy_package}
-use Rattle.acpi_term.specs.Tree.{def_index_field}
+use Rattle.acpi_term.specs.Tree.{def_index_field, def_bank_field}
 use Rattle.acpi_term.specs.Tree.{def_fatal, match_test}
 use Rattle.acpi_term.specs.Length.{least_width, length_bytes, with_length}
 use Rattle.acpi_term.specs.Operator.{opcode}
 
 -- ---- fields (ACPI 6.5, 20.2.5.2)
 
--- NamedField: the name's four bytes and a length; ReservedField: 00 and a length. The length doesn't count itself.
+-- BufferData of a connection, after its length: BufferSize, a number, and ByteList
+abbrev pub connected : ℕ → ℕ → List ℕ → List ℕ
+connected size v bytes = number_bytes size v ++ bytes
+
+-- NamedField: the name's four bytes and a length; ReservedField: 00 and a length. The length doesn't count itself. AccessField:
+-- 01 and two bytes. ConnectField: 02, and a name or a buffer. ExtendedAccessField: 03 and three bytes.
 abbrev pub entry_bytes : Entry → List ℕ
 entry_bytes (named name bits w) = name ++ length_bytes w bits
 entry_bytes (reserved bits w) = 0x00 ∷ length_bytes w bits
+entry_bytes (access_as access attribute) = 0x01 ∷ access ∷ attribute ∷ []
+entry_bytes (extended_access_as access attribute size) = 0x03 ∷ access ∷ attribute ∷ size ∷ []
+entry_bytes (connection name) = 0x02 ∷ name
+entry_bytes (connection_buffer w size v bytes) = 0x02 ∷ 0x11 ∷ with_length w (connected size v bytes)
 
 abbrev pub entries_bytes : List Entry → List ℕ
 entries_bytes [] = []
 entries_bytes (e ∷ entries) = entry_bytes e ++ entries_bytes entries
 
-abbrev pub entry_bits : Entry → ℕ
-entry_bits (named name bits w) = bits
-entry_bits (reserved bits w) = bits
+-- What an entry's length counts besides itself: bits of a field, or bytes of a buffer. It is 0 for an entry without a length.
+abbrev pub entry_length : Entry → ℕ
+entry_length (named name bits w) = bits
+entry_length (reserved bits w) = bits
+entry_length (access_as access attribute) = 0
+entry_length (extended_access_as access attribute size) = 0
+entry_length (connection name) = 0
+entry_length (connection_buffer w size v bytes) = length (connected size v bytes)
 
+-- in how many bytes it is written; for an entry without a length, the least number
 abbrev pub entry_width : Entry → ℕ
 entry_width (named name bits w) = w
 entry_width (reserved bits w) = w
+entry_width (access_as access attribute) = 1
+entry_width (extended_access_as access attribute size) = 1
+entry_width (connection name) = 1
+entry_width (connection_buffer w size v bytes) = w
 
 -- `PkgLength` if an entry has 2^28 bits or more
 abbrev pub entries_end : List Entry → Option Error
 entries_end [] = None
-entries_end (e ∷ entries) = if nat_lt (entry_bits e) (2 ^ 28) then entries_end entries else Some PkgLength
+entries_end (e ∷ entries) = if nat_lt (entry_length e) (2 ^ 28) then entries_end entries else Some PkgLength
 
 -- an entry whose length has the width that is written
 abbrev pub named_entry : List ℕ → ℕ → Entry
@@ -115,6 +135,8 @@ layout (def_thermal_zone name) w n = framed (0x5b ∷ 0x85 ∷ []) name []
 layout (def_roomy_package room) w n = framed (0x12 ∷ []) (room ∷ []) []
 layout (def_index_field index name access lock update entries) w n = framed (0x5b ∷ 0x86 ∷ []) (index ++ (name
     ++ field_flags access lock update ∷ entries_bytes entries)) []
+layout (def_bank_field name bank access lock update entries) w n = framed (0x5b ∷ 0x87 ∷ []) (name ++ bank)
+    (field_flags access lock update ∷ entries_bytes entries)
 layout (def_fatal kind code) w n = bare (0x5b ∷ 0x32 ∷ kind ∷ le 4 code)
 layout (match_test k) w n = bare (k ∷ [])
 
@@ -128,6 +150,7 @@ own def_package n = if nat_le n 255 then None else Some PackageElements
 own (def_leveled_method name args serialized level) n = if nat_le args 7 then None else Some MethodArgs
 own (def_roomy_package room) n = if nat_lt n room then None else Some PackageElements
 own (def_index_field index name access lock update entries) n = entries_end entries
+own (def_bank_field name bank access lock update entries) n = entries_end entries
 own _ n = None
 
 -- ---- rows that are written

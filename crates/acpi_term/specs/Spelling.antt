@@ -5,12 +5,13 @@ use Rattle.acpi_base.specs.Number.{number_limit}
 use Rattle.acpi_base.specs.Object.{Object}
 use Rattle.acpi_term.specs.declared.mode.Mode.{Mode}
 use Rattle.acpi_term.specs.declared.mode.Mode.TheVariants.{Term, Element, Count, Searched, FirstTest, SecondTest}
-use Rattle.acpi_term.specs.Tree.{Entry, named, reserved, Head, number, string, call, def_scope, def_device}
+use Rattle.acpi_term.specs.Tree.{Entry, named, reserved, access_as, extended_access_as, connection, connection_buffer}
+use Rattle.acpi_term.specs.Tree.{Head, number, string, call, def_scope, def_device}
 use Rattle.acpi_term.specs.Tree.{def_method, def_power_res, def_field, def_op_region, def_name, def_mutex}
 use Rattle.acpi_term.specs.Tree.{def_acquire, def_release, def_buffer, def_package, def_var_package}
 use Rattle.acpi_term.specs.Tree.{def_if, def_while, def_else, op, Terms, end, term, count, one}
 use Rattle.acpi_term.specs.Tree.{def_external, def_leveled_method, def_processor, def_thermal_zone, def_roomy_package}
-use Rattle.acpi_term.specs.Tree.{def_index_field}
+use Rattle.acpi_term.specs.Tree.{def_index_field, def_bank_field}
 use Rattle.acpi_term.specs.Tree.{def_fatal, match_test}
 use Rattle.acpi_term.specs.declared.language.Language.TheVariants.{Written, Standard}
 use Rattle.acpi_term.specs.Name.{AreSegments, IsNameIn, IsText, without_parents}
@@ -18,7 +19,7 @@ use Rattle.acpi_term.specs.Length.{limit, least_width, with_length, FrameFits}
 use Rattle.acpi_term.specs.declared.language.Language.{Language}
 use Rattle.acpi_term.specs.Language.{Grammar, has, written_grammar}
 use Rattle.acpi_term.specs.Operator.{operands, language_of, place}
-use Rattle.acpi_term.specs.Row.{entry_bits, entry_width, Layout, bare, framed, layout, own}
+use Rattle.acpi_term.specs.Row.{connected, Layout, bare, framed, layout, own}
 
 -- ---- spellings
 
@@ -69,13 +70,19 @@ Stands l m _ = is_test l m ≡ false
 
 -- ---- which terms have a spelling
 
-abbrev pub EntryIsNamed : Entry → Type 0
-EntryIsNamed (named name bits w) = AreSegments 1 name
-EntryIsNamed (reserved bits w) = Unit {0}
+-- the language has the entry and its name, and numbers fit their bytes
+abbrev pub EntryIsStandard : Language → Entry → Type 0
+EntryIsStandard l (named name bits w) = AreSegments 1 name
+EntryIsStandard l (reserved bits w) = Unit {0}
+EntryIsStandard l (access_as access attribute) = (has l Standard ≡ true) × (access < 2 ^ 8) × (attribute < 2 ^ 8)
+EntryIsStandard l (extended_access_as access attribute size) = (has l Standard ≡ true) × (access < 2 ^ 8) × (attribute < 2 ^ 8)
+    × (size < 2 ^ 8)
+EntryIsStandard l (connection name) = (has l Standard ≡ true) × IsNameIn l name
+EntryIsStandard l (connection_buffer w size v bytes) = (has l Standard ≡ true) × (size < 2 ^ 64) × AreBytes bytes
 
-abbrev pub AreNamed : List Entry → Type 0
-AreNamed [] = Unit {0}
-AreNamed (e ∷ entries) = EntryIsNamed e × AreNamed entries
+abbrev pub AreStandardEntries : Language → List Entry → Type 0
+AreStandardEntries l [] = Unit {0}
+AreStandardEntries l (e ∷ entries) = EntryIsStandard l e × AreStandardEntries l entries
 
 -- The language has the head and its names, texts and data follow the standard, and numbers fit their fields.
 abbrev pub IsStandard : Language → Head → Type 0
@@ -87,7 +94,7 @@ IsStandard l (def_device name) = IsNameIn l name
 IsStandard l (def_method name args serialized) = IsNameIn l name
 IsStandard l (def_power_res name level order) = IsNameIn l name × (level < 2 ^ 8) × (order < 2 ^ 16)
 IsStandard l (def_field name access lock update entries) =
-    IsNameIn l name × (access ≤ 5) × (lock ≤ 1) × (update ≤ 2) × AreNamed entries
+    IsNameIn l name × (access ≤ 5) × (lock ≤ 1) × (update ≤ 2) × AreStandardEntries l entries
 IsStandard l (def_op_region name space) = IsNameIn l name × (space < 2 ^ 8)
 IsStandard l (def_name name) = IsNameIn l name
 IsStandard l (def_mutex name level) = IsNameIn l name × (level < 2 ^ 8)
@@ -103,20 +110,33 @@ IsStandard l (def_processor name id address size) = (has l Standard ≡ true) ×
 IsStandard l (def_thermal_zone name) = (has l Standard ≡ true) × IsNameIn l name
 IsStandard l (def_roomy_package room) = (has l Standard ≡ true) × (room < 2 ^ 8)
 IsStandard l (def_index_field index name access lock update entries) = (has l Standard ≡ true) × IsNameIn l index
-    × IsNameIn l name × (access ≤ 5) × (lock ≤ 1) × (update ≤ 2) × AreNamed entries
+    × IsNameIn l name × (access ≤ 5) × (lock ≤ 1) × (update ≤ 2) × AreStandardEntries l entries
+IsStandard l (def_bank_field name bank access lock update entries) = (has l Standard ≡ true) × IsNameIn l name
+    × IsNameIn l bank × (access ≤ 5) × (lock ≤ 1) × (update ≤ 2) × AreStandardEntries l entries
 IsStandard l (def_fatal kind code) = (has l Standard ≡ true) × (kind < 2 ^ 8) × (code < 2 ^ 32)
 IsStandard l (match_test k) = (has l Standard ≡ true) × (k ≤ 5)
 IsStandard l _ = Unit {0}
 
--- each entry's bits fit its width
+-- An entry's bits fit its width. A buffer's size fits its own width, and the buffer's length counts itself and the content.
+abbrev pub EntryFits : Entry → Type 0
+EntryFits (named name bits w) = bits < limit w
+EntryFits (reserved bits w) = bits < limit w
+EntryFits (connection_buffer w size v bytes) = (size < number_limit v) × FrameFits w (connected size v bytes)
+EntryFits _ = Unit {0}
+
 abbrev pub EntriesFit : List Entry → Type 0
 EntriesFit [] = Unit {0}
-EntriesFit (e ∷ entries) = (entry_bits e < limit (entry_width e)) × EntriesFit entries
+EntriesFit (e ∷ entries) = EntryFits e × EntriesFit entries
 
--- each entry has the width that is written
+-- An entry of bits has the width that is written. The others, which this library doesn't write, have any that fits.
+abbrev pub HasLeastWidth : Entry → Type 0
+HasLeastWidth (named name bits w) = w ≡ least_width bits
+HasLeastWidth (reserved bits w) = w ≡ least_width bits
+HasLeastWidth e = EntryFits e
+
 abbrev pub HaveLeastWidths : List Entry → Type 0
 HaveLeastWidths [] = Unit {0}
-HaveLeastWidths (e ∷ entries) = (entry_width e ≡ least_width (entry_bits e)) × HaveLeastWidths entries
+HaveLeastWidths (e ∷ entries) = HasLeastWidth e × HaveLeastWidths entries
 
 abbrev pub LayoutFits : Layout → ℕ → List ℕ → Type 0
 LayoutFits (bare before) w inside = w ≡ 0
@@ -129,12 +149,15 @@ HeadFits (def_field name access lock update entries) w n inside = EntriesFit ent
     × LayoutFits (layout (def_field name access lock update entries) w n) w inside
 HeadFits (def_index_field index name access lock update entries) w n inside = EntriesFit entries
     × LayoutFits (layout (def_index_field index name access lock update entries) w n) w inside
+HeadFits (def_bank_field name bank access lock update entries) w n inside = EntriesFit entries
+    × LayoutFits (layout (def_bank_field name bank access lock update entries) w n) w inside
 HeadFits h w n inside = LayoutFits (layout h w n) w inside
 
 -- the widths inside of a head are those that are written
 abbrev pub IsWritten : Head → Type 0
 IsWritten (def_field name access lock update entries) = HaveLeastWidths entries
 IsWritten (def_index_field index name access lock update entries) = HaveLeastWidths entries
+IsWritten (def_bank_field name bank access lock update entries) = HaveLeastWidths entries
 IsWritten _ = Unit {0}
 
 module _ (arity : List ℕ → ℕ) where
@@ -167,6 +190,7 @@ module _ (arity : List ℕ → ℕ) where
   Takes m (def_processor name id address size) n = Unit {0}
   Takes m (def_thermal_zone name) n = Unit {0}
   Takes m (def_roomy_package room) n = Unit {0}
+  Takes m (def_bank_field name bank access lock update entries) n = n ≡ 1
   Takes m (def_fatal kind code) n = n ≡ 1
   Takes m (match_test k) n = n ≡ 1
   Takes m _ n = n ≡ 0

@@ -2,12 +2,20 @@
 use Rattle.std.specs.Prelude.{ℕ, suc, max, List, Bool}
 use Rattle.acpi_term.specs.declared.op.Op.{Op}
 
--- An entry of a field: its bits, and in how many bytes that number is written.
+-- An entry of a field (ACPI 6.5, 20.2.5.2). The width of a number of bits is in how many bytes it is written.
 pub data Entry : Type 0 where
   -- name, bits, width
   named : List ℕ → ℕ → ℕ → Entry
   -- bits, width
   reserved : ℕ → ℕ → Entry
+  -- AccessType, AccessAttrib
+  access_as : ℕ → ℕ → Entry
+  -- AccessType, ExtendedAccessAttrib, AccessLength
+  extended_access_as : ℕ → ℕ → ℕ → Entry
+  -- the name of a connection
+  connection : List ℕ → Entry
+  -- a connection's buffer: the width of its PkgLength, its size, the width of this number, and the bytes after it
+  connection_buffer : ℕ → ℕ → ℕ → List ℕ → Entry
 
 -- What a term is, without its width and its children. A name is given by the bytes that spell it.
 pub data Head : Type 0 where
@@ -54,6 +62,8 @@ pub data Head : Type 0 where
   def_roomy_package : ℕ → Head
   -- name of the index, name of the data, access type, lock rule, update rule, entries
   def_index_field : List ℕ → List ℕ → ℕ → ℕ → ℕ → List Entry → Head
+  -- name of the region, name of the bank's field, access type, lock rule, update rule, entries
+  def_bank_field : List ℕ → List ℕ → ℕ → ℕ → ℕ → List Entry → Head
   -- type, code
   def_fatal : ℕ → ℕ → Head
   -- a test of a Match: a MatchOpcode, whose operand is the child

@@ -1,14 +1,16 @@
 -- The terms that the code's values stand for.
 use Rattle.std.specs.Prelude.{◌≡◌, ℕ, List, [], ◌∷◌, ◌++◌, map, string_bytes}
-use Rattle.acpi_term.specs.Tree.{Entry, named, reserved, Head, number, ones, string, local, arg, call}
+use Rattle.acpi_term.specs.Tree.{Entry, named, reserved, access_as, extended_access_as, connection, connection_buffer}
+use Rattle.acpi_term.specs.Tree.{Head, number, ones, string, local, arg, call}
 use Rattle.acpi_term.specs.Tree.{def_scope, def_device, def_method, def_power_res, def_field, def_op_region}
 use Rattle.acpi_term.specs.Tree.{def_name, def_mutex, def_acquire, def_release, def_buffer, def_package}
 use Rattle.acpi_term.specs.Tree.{def_var_package, def_if, def_while, def_else, op, Terms, end, term, one}
 use Rattle.acpi_term.specs.Tree.{def_external, def_leveled_method, def_processor, def_thermal_zone, def_roomy_package}
-use Rattle.acpi_term.specs.Tree.{def_index_field}
+use Rattle.acpi_term.specs.Tree.{def_index_field, def_bank_field}
 use Rattle.acpi_term.specs.Tree.{def_fatal, match_test}
 use Rattle.acpi_term.specs.declared.term.TermEntry.{TermEntry}
-use Rattle.acpi_term.specs.declared.term.TermEntry.TheVariants.{Named, Reserved}
+use Rattle.acpi_term.specs.declared.term.TermEntry.TheVariants.{Named, Reserved, AccessAs, ExtendedAccessAs}
+use Rattle.acpi_term.specs.declared.term.TermEntry.TheVariants.{Connection, ConnectionBuffer}
 use Rattle.acpi_term.specs.declared.term.Term.{Term}
 use Rattle.acpi_term.specs.declared.apart.Kind.{Kind}
 use Rattle.acpi_term.specs.declared.apart.Kind.TheVariants as kinds
@@ -26,6 +28,10 @@ listed (t ∷ ts) = term t.0 t.1 t.2 (listed ts)
 abbrev pub entry_view : TermEntry → Entry
 entry_view (Named name bits width) = named name bits width
 entry_view (Reserved bits width) = reserved bits width
+entry_view (AccessAs access attribute) = access_as access attribute
+entry_view (ExtendedAccessAs access attribute size) = extended_access_as access attribute size
+entry_view (Connection name) = connection name
+entry_view (ConnectionBuffer width size size_width bytes) = connection_buffer width size size_width bytes.items
 
 abbrev pub view_step : Term-F Parts → Parts
 view_step (Term-F.Number value width) = (number value, width, end)
@@ -60,6 +66,8 @@ view_step (Term-F.ThermalZone width name body) = (def_thermal_zone name, width, 
 view_step (Term-F.RoomyPackage width room elements) = (def_roomy_package room, width, listed elements.items)
 view_step (Term-F.IndexField width index name access lock update entries) =
     (def_index_field index name access lock update (map entry_view entries.items), width, end)
+view_step (Term-F.BankField width name bank value access lock update entries) =
+    (def_bank_field name bank access lock update (map entry_view entries.items), width, listed (value.value ∷ []))
 view_step (Term-F.Fatal kind code argument) = (def_fatal kind code, 0, listed (argument.value ∷ []))
 view_step (Term-F.MatchTest code operand) = (match_test code, 0, listed (operand.value ∷ []))
 
@@ -107,6 +115,8 @@ head_of (kinds.ThermalZone name) = def_thermal_zone name.now
 head_of (kinds.RoomyPackage room) = def_roomy_package room
 head_of (kinds.IndexField index name access lock update entries) =
     def_index_field index.now name.now access lock update (map entry_view entries.now)
+head_of (kinds.BankField name bank access lock update entries) =
+    def_bank_field name.now bank.now access lock update (map entry_view entries.now)
 head_of (kinds.Fatal kind code) = def_fatal kind code
 head_of (kinds.MatchTest code) = match_test code
 

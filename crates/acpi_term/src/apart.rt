@@ -2,7 +2,7 @@
 
 ghost use Rattle.std.specs.Prelude.{◌≡◌, ℕ};
 ghost use Rattle.std.specs.Option.{option_map};
-ghost use Rattle.acpi_term.specs.Row.{code_of, after_of, layout};
+ghost use Rattle.acpi_term.specs.Row.{code_of, layout};
 ghost use Rattle.acpi_term.specs.View.{head_of, IsApart};
 
 use crate::name_string::NameString;
@@ -52,6 +52,8 @@ pub enum Kind<'a> {
     RoomyPackage(u8),
     /// Name of the index, name of the data, access type, lock rule, update rule, entries.
     IndexField(&'a NameString, &'a NameString, u8, u8, u8, &'a [TermEntry]),
+    /// Name of the region, name of the bank's field, access type, lock rule, update rule, entries.
+    BankField(&'a NameString, &'a NameString, u8, u8, u8, &'a [TermEntry]),
     /// Type, code.
     Fatal(u8, u32),
     /// How elements are compared.
@@ -205,6 +207,21 @@ pub fn parts_of(term: &Term) -> Parts<'_>
             &[],
             &[],
         ),
+        Term::BankField {
+            width,
+            name,
+            bank,
+            value,
+            access,
+            lock,
+            update,
+            entries,
+        } => apart(
+            Kind::BankField(name, bank, *access, *lock, *update, entries),
+            *width,
+            from_ref(value),
+            &[],
+        ),
         Term::Fatal {
             kind,
             code,
@@ -256,19 +273,10 @@ pub fn frame_code(kind: Kind<'_>) -> Option<&'static [u8]>
         Kind::ThermalZone(_) => Some(&[0x5b, 0x85]),
         Kind::RoomyPackage(_) => Some(&[0x12]),
         Kind::IndexField(..) => Some(&[0x5b, 0x86]),
+        Kind::BankField(..) => Some(&[0x5b, 0x87]),
         Kind::Number(_) | Kind::Ones | Kind::Text(_) | Kind::Local(_) | Kind::Arg(_) => None,
         Kind::Call(_) | Kind::OpRegion(..) | Kind::Name(_) | Kind::Mutex(..) => None,
         Kind::Acquire(..) | Kind::Release(_) | Kind::Op(_) | Kind::External(..) => None,
         Kind::Fatal(..) | Kind::MatchTest(_) => None,
-    }
-}
-
-/// The bytes after the children in a frame: those of a buffer.
-pub fn bytes_after(kind: Kind<'_>) -> &[u8]
-    ensures { (w n : ℕ) → result.now ≡ after_of (layout (head_of kind.entry) w n) }
-{
-    match kind {
-        Kind::Buffer(bytes) => bytes,
-        _ => &[],
     }
 }

@@ -1,14 +1,15 @@
 //! A simple writer of terms, for tests to compare with.
 
-ghost use Rattle.std.specs.Prelude.{◌≡◌, ◌≢◌, ◌<◌, ◌≤◌, ◌^◌, ◌++◌, OnOk, IfOk, IfErr, map};
+ghost use Rattle.std.specs.Prelude.{◌≡◌, ◌≢◌, ℕ, ◌<◌, ◌≤◌, ◌^◌, ◌∷◌, ◌++◌, OnOk, IfOk, IfErr, map};
 ghost use Rattle.acpi_base.specs.Number.{number_limit, number_bytes};
-ghost use Rattle.acpi_term.specs.Length.{limit, with_length, FrameFits, StartsWithLength};
-ghost use Rattle.acpi_term.specs.Row.{entry_bits, entry_width, entry_bytes, entries_bytes, field_flags, leveled_flags};
-ghost use Rattle.acpi_term.specs.Spelling.{spelling, EntriesFit};
+ghost use Rattle.acpi_term.specs.Length.{limit, length_bytes, with_length, FrameFits, StartsWithLength};
+ghost use Rattle.acpi_term.specs.Row.{entry_bytes, entries_bytes, field_flags, leveled_flags, after_of, layout};
+ghost use Rattle.acpi_term.specs.Spelling.{spelling, EntryFits, EntriesFit};
 ghost use Rattle.acpi_term.specs.View.{view, views, entry_view, single, head_of};
-ghost use Rattle.acpi_term.specs.Carried.{IsUnfit, AreCarried, Added, IsUncarried, BareFits, Laid, Unlaid, OwnLaid, OwnUnlaid};
+ghost use Rattle.acpi_term.specs.Carried.{IsUnfit, AreCarried, Added, IsUncarried, BareFits, Laid, Unlaid};
+ghost use Rattle.acpi_term.specs.Carried.{OwnLaid, OwnUnlaid, FlagsFit, ValuesFit};
 
-use crate::apart::{Kind, bytes_after, frame_code, parts_of};
+use crate::apart::{Kind, frame_code, parts_of};
 use crate::row::length_bytes;
 use crate::term::{Term, TermEntry};
 use acpi_base::error::{Error, R};
@@ -52,14 +53,17 @@ fn spell_term(alloc: Global, term: &Term, bytes: &mut Vec<u8>) -> R<()>
 }
 
 /// The bytes of a term around those of its children.
-#[tactic(auto, using(crate::proofs::Spells::bare_laid, crate::proofs::Spells::bare_unlaid, crate::proofs::Spells::frame_laid, crate::proofs::Spells::frame_unlaid, crate::proofs::Spells::own_unlaid,))]
+#[tactic(auto, using(crate::proofs::Spells::bare_laid, crate::proofs::Spells::bare_unlaid, crate::proofs::Spells::frame_laid, crate::proofs::Spells::frame_unlaid, crate::proofs::Spells::own_unlaid, crate::proofs::Spells::after_unlaid,))]
 fn lay(alloc: Global, kind: Kind<'_>, width: u8, count: usize, inside: &[u8]) -> R<Vec<u8>>
     ensures ok { IfOk result (λ v. Laid (head_of kind.entry) width count inside.now v.items) }
     ensures err { IfErr result (λ e. Unlaid e (head_of kind.entry) width count inside.now) }
 {
     let before = own_bytes(alloc, kind, width, count)?;
     match frame_code(kind) {
-        Some(code) => frame_in(alloc, code, width, &before, inside, bytes_after(kind)),
+        Some(code) => {
+            let after = bytes_after(alloc, kind)?;
+            frame_in(alloc, code, width, &before, inside, &after)
+        }
         None => bare_in(alloc, kind, width, &before, inside),
     }
 }
@@ -101,7 +105,7 @@ fn own_bytes(alloc: Global, kind: Kind<'_>, width: u8, count: usize) -> R<Vec<u8
         Kind::Field(name, access, lock, update, entries) => {
             let flags = field_flags(access, lock, update)?;
             let mut bytes = joined(alloc, name.as_bytes(), &[flags], &[])?;
-            spell_entries(entries, &mut bytes)?;
+            spell_entries(alloc, entries, &mut bytes)?;
             Ok(bytes)
         }
         Kind::OpRegion(name, space) => joined(alloc, &[0x5b, 0x80], name.as_bytes(), &[space]),
@@ -145,12 +149,46 @@ fn own_bytes(alloc: Global, kind: Kind<'_>, width: u8, count: usize) -> R<Vec<u8
         Kind::IndexField(index, name, access, lock, update, entries) => {
             let flags = field_flags(access, lock, update)?;
             let mut bytes = joined(alloc, index.as_bytes(), name.as_bytes(), &[flags])?;
-            spell_entries(entries, &mut bytes)?;
+            spell_entries(alloc, entries, &mut bytes)?;
             Ok(bytes)
+        }
+        Kind::BankField(name, bank, access, lock, update, entries) => {
+            flagged(alloc, access, lock, update, entries)?;
+            let names = joined(alloc, name.as_bytes(), bank.as_bytes(), &[])?;
+            Ok(names)
         }
         Kind::Fatal(kind, code) => joined(alloc, &[0x5b, 0x32], &[kind], &code.to_le_bytes()),
         Kind::MatchTest(code) => joined(alloc, &[code], &[], &[]),
     }
+}
+
+/// The bytes after a term's children in a frame: those of a buffer, and the flags and the entries of a BankField.
+fn bytes_after(alloc: Global, kind: Kind<'_>) -> R<Vec<u8>>
+    ensures ok { IfOk result (λ v. (w n : ℕ) → v.items ≡ after_of (layout (head_of kind.entry) w n)) }
+    ensures err { IfErr result (λ e. (w : ℕ) → e ≢ Error.Memory → FlagsFit (head_of kind.entry)
+        → ValuesFit (head_of kind.entry) w → ⊥) }
+{
+    match kind {
+        Kind::Buffer(bytes) => joined(alloc, bytes, &[], &[]),
+        Kind::BankField(_, _, access, lock, update, entries) => {
+            flagged(alloc, access, lock, update, entries)
+        }
+        _ => Ok(Vec::new(alloc)),
+    }
+}
+
+/// FieldFlags and FieldList (ACPI 6.5, 20.2.5.2).
+fn flagged(alloc: Global, access: u8, lock: u8, update: u8, entries: &[TermEntry]) -> R<Vec<u8>>
+    ensures ok { IfOk result (λ v. v.items ≡ field_flags access lock update ∷ entries_bytes (map entry_view entries.now)) }
+    ensures flags { OnOk result (field_flags access lock update < 2 ^ 8) }
+    ensures fits { OnOk result (EntriesFit (map entry_view entries.now)) }
+    ensures err { IfErr result (λ e. e ≢ Error.Memory → field_flags access lock update < 2 ^ 8
+        → EntriesFit (map entry_view entries.now) → ⊥) }
+{
+    let flags = field_flags(access, lock, update)?;
+    let mut bytes = joined(alloc, &[flags], &[], &[])?;
+    spell_entries(alloc, entries, &mut bytes)?;
+    Ok(bytes)
 }
 
 /// Three lists of bytes, in order.
@@ -260,33 +298,63 @@ fn field_flags(access: u8, lock: u8, update: u8) -> R<u8>
     Ok(flags)
 }
 
-fn spell_entries(entries: &[TermEntry], bytes: &mut Vec<u8>) -> R<()>
+fn spell_entries(alloc: Global, entries: &[TermEntry], bytes: &mut Vec<u8>) -> R<()>
     ensures ok { OnOk result (bytes.new.items ≡ bytes.old.items ++ entries_bytes (map entry_view entries.now)) }
     ensures fits { OnOk result (EntriesFit (map entry_view entries.now)) }
     ensures err { IfErr result (λ e. e ≢ Error.Memory → EntriesFit (map entry_view entries.now) → ⊥) }
 {
     for entry in entries {
-        spell_entry(entry, bytes)?;
+        spell_entry(alloc, entry, bytes)?;
     }
     Ok(())
 }
 
-fn spell_entry(entry: &TermEntry, bytes: &mut Vec<u8>) -> R<()>
+fn spell_entry(alloc: Global, entry: &TermEntry, bytes: &mut Vec<u8>) -> R<()>
     ensures ok { OnOk result (bytes.new.items ≡ bytes.old.items ++ entry_bytes (entry_view entry.now)) }
-    ensures fits { OnOk result (entry_bits (entry_view entry.now) < limit (entry_width (entry_view entry.now))) }
+    ensures fits { OnOk result (EntryFits (entry_view entry.now)) }
     ensures err { IfErr result (λ e. IsUnfit e entry.now) }
 {
-    let (bits, width) = match entry {
-        TermEntry::Named(name, bits, width) => {
-            bytes.extend_from_slice(name)?;
-            (*bits, *width)
-        }
-        TermEntry::Reserved(bits, width) => {
-            bytes.push(0)?;
-            (*bits, *width)
-        }
-    };
-    let length = length_in(width, bits)?;
-    bytes.extend_from_slice(&length[..usize::from(width)])?;
+    let own = entry_in(alloc, entry)?;
+    bytes.extend_from_slice(&own)?;
     Ok(())
+}
+
+fn entry_in(alloc: Global, entry: &TermEntry) -> R<Vec<u8>>
+    ensures ok { IfOk result (λ v. v.items ≡ entry_bytes (entry_view entry.now)) }
+    ensures fits { OnOk result (EntryFits (entry_view entry.now)) }
+    ensures err { IfErr result (λ e. IsUnfit e entry.now) }
+{
+    match entry {
+        TermEntry::Named(name, bits, width) => bits_in(alloc, name, *bits, *width),
+        TermEntry::Reserved(bits, width) => bits_in(alloc, &[0x00], *bits, *width),
+        TermEntry::AccessAs(access, attribute) => joined(
+            alloc,
+            &[0x01, *access, *attribute],
+            &[],
+            &[],
+        ),
+        TermEntry::ExtendedAccessAs(access, attribute, size) => {
+            joined(alloc, &[0x03, *access, *attribute, *size], &[], &[])
+        }
+        TermEntry::Connection(name) => joined(alloc, &[0x02], name.as_bytes(), &[]),
+        TermEntry::ConnectionBuffer {
+            width,
+            size,
+            size_width,
+            bytes,
+        } => {
+            let number = number_in(alloc, *size, *size_width)?;
+            frame_in(alloc, &[0x02, 0x11], *width, &number, bytes, &[])
+        }
+    }
+}
+
+/// These bytes, and a number of bits as a length of a given width.
+fn bits_in(alloc: Global, before: &[u8], bits: u32, width: u8) -> R<Vec<u8>>
+    ensures ok { IfOk result (λ v. v.items ≡ before.now ++ length_bytes width bits) }
+    ensures fits { OnOk result (bits < limit width) }
+    ensures err { IfErr result (λ e. e ≢ Error.Memory → bits < limit width → ⊥) }
+{
+    let length = length_in(width, bits)?;
+    joined(alloc, before, &length[..usize::from(width)], &[])
 }

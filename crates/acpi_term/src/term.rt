@@ -6,13 +6,27 @@ use crate::op::Op;
 /// The reader reads terms that are nested at most this deep.
 pub const MAX_DEPTH: usize = 255;
 
-/// An entry of a field (ACPI 6.5, 20.2.5.2): how many bits it has, and in how many bytes that number is written, 1 to 4.
+/// An entry of a field (ACPI 6.5, 20.2.5.2). The width of a number of bits is in how many bytes it is written, 1 to 4.
 #[derive(Debug, Drop, PartialEq)]
 pub enum TermEntry {
     /// The name's segment, the bits and the width.
     Named([u8; 4], u32, u8),
     /// The bits and the width.
     Reserved(u32, u8),
+    /// AccessField, which says how the fields after it are accessed: AccessType and AccessAttrib. This library doesn't write it,
+    /// nor the entries below.
+    AccessAs(u8, u8),
+    /// ExtendedAccessField: AccessType, ExtendedAccessAttrib and AccessLength.
+    ExtendedAccessAs(u8, u8, u8),
+    /// ConnectField with the name of the connection that the fields after it use.
+    Connection(NameString),
+    /// ConnectField with a buffer, whose size is a number. The number of bytes after the size may differ from the size.
+    ConnectionBuffer {
+        width: u8,
+        size: u64,
+        size_width: u8,
+        bytes: Vec<u8>,
+    },
 }
 
 /// A term (ACPI 6.5, 20.2.3 and 20.2.5). The width of a term with a frame is the width of its PkgLength, from 1 to 4 bytes.
@@ -159,6 +173,17 @@ pub enum Term {
         width: u8,
         index: NameString,
         name: NameString,
+        access: u8,
+        lock: u8,
+        update: u8,
+        entries: Vec<TermEntry>,
+    },
+    /// A field of the region `name`, of the bank that the `value` in the field `bank` selects.
+    BankField {
+        width: u8,
+        name: NameString,
+        bank: NameString,
+        value: Box<Term>,
         access: u8,
         lock: u8,
         update: u8,

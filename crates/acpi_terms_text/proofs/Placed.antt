@@ -1,4 +1,4 @@
--- Each line of the report has the comment of its own term.
+-- Each line of the report has the comment of its term.
 use Rattle.std.proofs.Common.{◌≡◌, ◌≢◌, ℕ, zero, suc, ◌==◌, ◌&&◌, ◌||◌, not, Bool, true, false, List, [], ◌∷◌, ◌++◌, length, map, refl, ap, sym, ◌∙◌, append_assoc, arith}
 use Rattle.std.specs.Prelude.{codes, replicate, nat_le, if◌then◌else◌}
 use Rattle.std.specs.Fmt.{decimal}
@@ -9,17 +9,18 @@ use Rattle.acpi_term.specs.declared.mode.Mode.{Mode}
 use Rattle.acpi_term.specs.declared.mode.Mode.TheVariants.{Term}
 use Rattle.acpi_term.specs.declared.op.Op.{Op}
 use Rattle.acpi_term.specs.declared.op.Op.TheVariants as op
-use Rattle.acpi_term.specs.Name.{is_lead, is_part, is_segment, AreSegments, no_more, one_more, IsPath, single, double, multiple, IsName, relative, rooted, IsAbove, no_path, path_above, further_up, IsNameString, as_written, root_alone, upwards, IsNameIn}
+use Rattle.acpi_term.specs.Name.{is_lead, is_part, is_segment, AreSegments, no_more, one_more, IsPath, single, double, multiple, relative, rooted, IsAbove, no_path, path_above, further_up, IsNameString, as_written, root_alone, upwards, IsNameIn}
 use Rattle.acpi_term.proofs.Names.{is_name_string}
 use Rattle.acpi_term.specs.declared.language.Language.{Language}
 use Rattle.acpi_term.specs.Language.{Grammar, grammar_of}
 use Rattle.acpi_term.specs.declared.language.Language.TheVariants.{Standard}
 use Rattle.acpi_term.specs.Operator.{word}
 use Rattle.acpi_term.specs.Row.{entry_width}
-use Rattle.acpi_term.specs.Spelling.{IsStandard, AreLegal, inner, next, spelling}
-use Rattle.acpi_term.specs.Tree.{Entry, named, reserved, Head, number, ones, string, local, arg, call, def_scope, def_device, def_method, def_power_res, def_field, def_op_region, def_name, def_mutex, def_acquire, def_release, def_buffer, def_package, def_var_package, def_if, def_while, def_else, op, def_external, def_leveled_method, def_processor, def_thermal_zone, def_roomy_package, def_index_field, def_fatal, match_test, Terms, end, term, count}
+use Rattle.acpi_term.specs.Spelling.{IsStandard, EntryIsStandard, AreStandardEntries, AreLegal, inner, next, spelling}
+use Rattle.acpi_term.specs.Tree.{Entry, named, reserved, access_as, extended_access_as, connection, connection_buffer, Head, number, ones, string, local, arg, call, def_scope, def_device, def_method, def_power_res, def_field, def_op_region, def_name, def_mutex, def_acquire, def_release, def_buffer, def_package, def_var_package, def_if, def_while, def_else, op, def_external, def_leveled_method, def_processor, def_thermal_zone, def_roomy_package, def_index_field, def_bank_field, def_fatal, match_test, Terms, end, term, count}
 use Rattle.acpi_base.specs.Digit.{hex_byte}
-use Rattle.acpi_read.specs.Lines.{quoted_byte, quoted_bytes, dotted_segments, tail, segments_of, name_text, width_suffix, is_chosen, is_entry_chosen, data_text, head_text, indent, line, entry_text, entry_line, entry_lines, own_lines, term_suffix, lines}
+use Rattle.acpi_base.specs.Number.{number_width}
+use Rattle.acpi_read.specs.Lines.{quoted_byte, quoted_bytes, dotted_segments, tail, segments_of, name_text, width_suffix, is_chosen, is_entry_chosen, data_text, head_text, indent, line, access_words, entry_text, entry_line, entry_lines, own_lines, term_suffix, lines}
 use Rattle.acpi_read.specs.Report.{printable}
 use Rattle.acpi_terms_text.specs.Comment.{has_ids, note, comment, noted_lines, annotated, IsAnnotated}
 use Rattle.acpi_terms_text.specs.Woven.{entry_notes, notes, woven}
@@ -250,6 +251,14 @@ head_line l (def_index_field index name access lock update entries) n std =
     let second = then_decimal (codes " data " ++ name_text name) (codes " access ") access (alone_line l (codes " data ") name refl std.2) refl in
     let third = then_decimal (codes " lock " ++ decimal lock) (codes " update ") update (and_decimal (codes " lock ") lock refl) refl in
     one_and (one ++ two) three (one_and one two first second) third
+head_line l (def_bank_field name bank access lock update entries) n std =
+    let one = codes "bankfield " ++ name_text name in
+    let two = codes " bank " ++ name_text bank ++ codes " access " ++ decimal access in
+    let three = codes " lock " ++ decimal lock ++ codes " update " ++ decimal update in
+    let first = alone_line l (codes "bankfield ") name refl std.1 in
+    let second = then_decimal (codes " bank " ++ name_text bank) (codes " access ") access (alone_line l (codes " bank ") bank refl std.2) refl in
+    let third = then_decimal (codes " lock " ++ decimal lock) (codes " update ") update (and_decimal (codes " lock ") lock refl) refl in
+    one_and (one ++ two) three (one_and one two first second) third
 head_line l (def_fatal kind code) n std = then_decimal (codes "fatal type " ++ decimal kind) (codes " code ") code (and_decimal (codes "fatal type ") kind refl) refl
 head_line l (match_test k) n std = and_decimal (codes "test ") k refl
 
@@ -268,9 +277,21 @@ all_shown : (name : List ℕ) → IsOneLine (map printable name)
 all_shown [] = tt
 all_shown (b ∷ name) = (shown_line b, all_shown name)
 
-bits_line : (e : Entry) → IsOneLine (entry_text e)
-bits_line (named name bits w) = then_decimal (codes "entry " ++ map printable name) (codes " bits ") bits (one_and (codes "entry ") (map printable name) (tested (codes "entry ") refl) (all_shown name)) refl
-bits_line (reserved bits w) = and_decimal (codes "reserved bits ") bits refl
+access_line : (access attribute : ℕ) → IsOneLine (access_words access attribute)
+access_line access attribute = one_and (codes "access type " ++ decimal access) (codes " attribute " ++ decimal attribute) (and_decimal (codes "access type ") access refl) (and_decimal (codes " attribute ") attribute refl)
+
+said_line : (l : Language) (e : Entry) → EntryIsStandard l e → IsOneLine (entry_text e)
+said_line l (named name bits w) std = then_decimal (codes "entry " ++ map printable name) (codes " bits ") bits (one_and (codes "entry ") (map printable name) (tested (codes "entry ") refl) (all_shown name)) refl
+said_line l (reserved bits w) std = and_decimal (codes "reserved bits ") bits refl
+said_line l (access_as access attribute) std = access_line access attribute
+said_line l (extended_access_as access attribute size) std =
+    one_and (access_words access attribute) (codes " length " ++ decimal size) (access_line access attribute) (and_decimal (codes " length ") size refl)
+said_line l (connection name) std = alone_line l (codes "connection ") name refl std.1
+said_line l (connection_buffer w size v bytes) std =
+    let wide = width_suffix (v == number_width size) v in
+    one_and (codes "connection size " ++ decimal size ++ wide) (codes " data" ++ data_text bytes)
+    (one_and (codes "connection size " ++ decimal size) wide (and_decimal (codes "connection size ") size refl) (suffix_line (v == number_width size) v))
+    (one_and (codes " data") (data_text bytes) (tested (codes " data") refl) (data_line bytes))
 
 -- ---- lines
 
@@ -283,53 +304,54 @@ line_placed d said width rest n ns one two =
     let joined : front ++ (comment n ++ (10 ∷ woven rest ns)) ≡ line d said (width ++ comment n) ++ woven rest ns = simp append_assoc in
     ap (λ (l : List ℕ). woven l (n ∷ ns)) cut ∙ woven_line front rest n ns single ∙ joined
 
-entry_placed : (d : ℕ) (e : Entry) (rest : List ℕ) (ns : List (List ℕ)) → woven (entry_line d e ++ rest) ([] ∷ ns) ≡ entry_line d e ++ woven rest ns
-entry_placed d e rest ns =
+entry_placed : (l : Language) (d : ℕ) (e : Entry) (rest : List ℕ) (ns : List (List ℕ)) → EntryIsStandard l e → woven (entry_line d e ++ rest) ([] ∷ ns) ≡ entry_line d e ++ woven rest ns
+entry_placed l d e rest ns std =
     let width = width_suffix (is_entry_chosen e) (entry_width e) in
-    line_placed d (entry_text e) width rest [] ns (bits_line e) (suffix_line (is_entry_chosen e) (entry_width e))
+    line_placed d (entry_text e) width rest [] ns (said_line l e std) (suffix_line (is_entry_chosen e) (entry_width e))
     ∙ ap (λ (l : List ℕ). line d (entry_text e) l ++ woven rest ns) (append-nil width)
 
-entries_placed : (d : ℕ) (entries : List Entry) (rest : List ℕ) (ns : List (List ℕ))
+entries_placed : (l : Language) (d : ℕ) (entries : List Entry) (rest : List ℕ) (ns : List (List ℕ)) → AreStandardEntries l entries
     → woven (entry_lines d entries ++ rest) (replicate (length entries) [] ++ ns) ≡ entry_lines d entries ++ woven rest ns
-entries_placed d [] rest ns = refl
-entries_placed d (e ∷ entries) rest ns =
+entries_placed l d [] rest ns std = refl
+entries_placed l d (e ∷ entries) rest ns std =
     ap (λ (l : List ℕ). woven l ([] ∷ (replicate (length entries) [] ++ ns))) (append_assoc (entry_line d e) (entry_lines d entries) rest)
-    ∙ entry_placed d e (entry_lines d entries ++ rest) (replicate (length entries) [] ++ ns)
-    ∙ ap (λ (l : List ℕ). entry_line d e ++ l) (entries_placed d entries rest ns)
+    ∙ entry_placed l d e (entry_lines d entries ++ rest) (replicate (length entries) [] ++ ns) std.0
+    ∙ ap (λ (l : List ℕ). entry_line d e ++ l) (entries_placed l d entries rest ns std.1)
     ∙ sym (append_assoc (entry_line d e) (entry_lines d entries) (woven rest ns))
 
-own_placed : (d : ℕ) (h : Head) (rest : List ℕ) (ns : List (List ℕ)) → woven (own_lines d h ++ rest) (entry_notes h ++ ns) ≡ own_lines d h ++ woven rest ns
-own_placed d (number v) rest ns = refl
-own_placed d ones rest ns = refl
-own_placed d (string s) rest ns = refl
-own_placed d (local k) rest ns = refl
-own_placed d (arg k) rest ns = refl
-own_placed d (call name) rest ns = refl
-own_placed d (def_scope name) rest ns = refl
-own_placed d (def_device name) rest ns = refl
-own_placed d (def_method name args serialized) rest ns = refl
-own_placed d (def_power_res name level order) rest ns = refl
-own_placed d (def_field name access lock update entries) rest ns = entries_placed d entries rest ns
-own_placed d (def_op_region name space) rest ns = refl
-own_placed d (def_name name) rest ns = refl
-own_placed d (def_mutex name level) rest ns = refl
-own_placed d (def_acquire name timeout) rest ns = refl
-own_placed d (def_release name) rest ns = refl
-own_placed d (def_buffer bytes) rest ns = refl
-own_placed d def_package rest ns = refl
-own_placed d def_var_package rest ns = refl
-own_placed d def_if rest ns = refl
-own_placed d def_while rest ns = refl
-own_placed d def_else rest ns = refl
-own_placed d (op o) rest ns = refl
-own_placed d (def_external name kind args) rest ns = refl
-own_placed d (def_leveled_method name args serialized level) rest ns = refl
-own_placed d (def_processor name id address size) rest ns = refl
-own_placed d (def_thermal_zone name) rest ns = refl
-own_placed d (def_roomy_package room) rest ns = refl
-own_placed d (def_index_field index name access lock update entries) rest ns = entries_placed d entries rest ns
-own_placed d (def_fatal kind code) rest ns = refl
-own_placed d (match_test k) rest ns = refl
+own_placed : (l : Language) (d : ℕ) (h : Head) (rest : List ℕ) (ns : List (List ℕ)) → IsStandard l h → woven (own_lines d h ++ rest) (entry_notes h ++ ns) ≡ own_lines d h ++ woven rest ns
+own_placed l d (number v) rest ns std = refl
+own_placed l d ones rest ns std = refl
+own_placed l d (string s) rest ns std = refl
+own_placed l d (local k) rest ns std = refl
+own_placed l d (arg k) rest ns std = refl
+own_placed l d (call name) rest ns std = refl
+own_placed l d (def_scope name) rest ns std = refl
+own_placed l d (def_device name) rest ns std = refl
+own_placed l d (def_method name args serialized) rest ns std = refl
+own_placed l d (def_power_res name level order) rest ns std = refl
+own_placed l d (def_field name access lock update entries) rest ns std = entries_placed l d entries rest ns std.4
+own_placed l d (def_op_region name space) rest ns std = refl
+own_placed l d (def_name name) rest ns std = refl
+own_placed l d (def_mutex name level) rest ns std = refl
+own_placed l d (def_acquire name timeout) rest ns std = refl
+own_placed l d (def_release name) rest ns std = refl
+own_placed l d (def_buffer bytes) rest ns std = refl
+own_placed l d def_package rest ns std = refl
+own_placed l d def_var_package rest ns std = refl
+own_placed l d def_if rest ns std = refl
+own_placed l d def_while rest ns std = refl
+own_placed l d def_else rest ns std = refl
+own_placed l d (op o) rest ns std = refl
+own_placed l d (def_external name kind args) rest ns std = refl
+own_placed l d (def_leveled_method name args serialized level) rest ns std = refl
+own_placed l d (def_processor name id address size) rest ns std = refl
+own_placed l d (def_thermal_zone name) rest ns std = refl
+own_placed l d (def_roomy_package room) rest ns std = refl
+own_placed l d (def_index_field index name access lock update entries) rest ns std = entries_placed l d entries rest ns std.6
+own_placed l d (def_bank_field name bank access lock update entries) rest ns std = entries_placed l d entries rest ns std.6
+own_placed l d (def_fatal kind code) rest ns std = refl
+own_placed l d (match_test k) rest ns std = refl
 
 module _ (g : Grammar) where
   all_placed : (m : Mode) (ids : Bool) (d : ℕ) (ts : Terms) → AreLegal g m ts → (rest : List ℕ) (ns : List (List ℕ))
@@ -355,7 +377,7 @@ module _ (g : Grammar) where
       ∙ ap (λ (l : List (List ℕ)). woven (first ++ (own ++ (below ++ (after ++ rest)))) (n ∷ l)) lists
       ∙ line_placed d said width (own ++ (below ++ (after ++ rest))) n (entry_notes h ++ (inner_notes ++ (after_notes ++ ns))) (head_line g.language h (count c) legal.0.is_standard) (suffix_line (is_chosen h w (count c) (spelling c)) w)
       ∙ ap (λ (l : List ℕ). first' ++ l)
-      (own_placed (suc d) h (below ++ (after ++ rest)) (inner_notes ++ (after_notes ++ ns))
+      (own_placed g.language (suc d) h (below ++ (after ++ rest)) (inner_notes ++ (after_notes ++ ns)) legal.0.is_standard
       ∙ ap (λ (l : List ℕ). own ++ l)
       (all_placed (inner h) (has_ids ids h) (suc d) c legal.1 (after ++ rest) (after_notes ++ ns)
       ∙ ap (λ (l : List ℕ). below' ++ l) (all_placed (next m) ids d o legal.2 rest ns)))

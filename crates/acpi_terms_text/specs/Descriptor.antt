@@ -75,7 +75,7 @@ abbrev pub space_name : List ℕ → List ℕ
 space_name (tag ∷ low ∷ high ∷ n ∷ more) = or_space (name_in space_names n)
 space_name _ = codes "Space"
 
--- the rest of the name of an item of so many bytes at the front
+-- the rest of the name of an item of this many bytes at the front
 abbrev pub name_end : ℕ → ℕ → List ℕ → List ℕ
 name_end tag size bytes = if is_space (item_type tag) then space_name (take size bytes) else []
 

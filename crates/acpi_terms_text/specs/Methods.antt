@@ -11,7 +11,7 @@ use Rattle.acpi_read.specs.Terms.{AreReadIn}
 
 -- ---- paths as texts, without a root
 
--- the path of a name in a scope: from the root if the name has one, and else after the scope's path and a dot (ACPI 6.5, 5.3)
+-- the path of a name in a scope: from the root if the name has one, and otherwise after the scope's path and a dot (ACPI 6.5, 5.3)
 abbrev pub placed : List ℕ → List ℕ → List ℕ
 placed scope text = if is_rooted text then unrooted text else scope ++ text
 

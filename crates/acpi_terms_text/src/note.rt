@@ -129,9 +129,9 @@ fn add_own(alloc: Global, kind: Kind<'_>, texts: &mut Vec<String>) -> Result<(),
         ++ entry_notes (head_of kind.entry)) }
 {
     match kind {
-        Kind::Field(_, _, _, _, entries) | Kind::IndexField(_, _, _, _, _, entries) => {
-            add_entries(alloc, entries, texts)
-        }
+        Kind::Field(_, _, _, _, entries)
+        | Kind::IndexField(_, _, _, _, _, entries)
+        | Kind::BankField(_, _, _, _, _, entries) => add_entries(alloc, entries, texts),
         _ => Ok(()),
     }
 }

@@ -3,13 +3,12 @@ use Rattle.std.proofs.Common.{◌≡◌, ℕ, zero, suc, ◌+◌, ◌-◌, ◌�
 use Rattle.std.proofs.Common.{Option, Some, None, refl, sym, ap, ◌∙◌, append_assoc, arith}
 use Rattle.std.proofs.lemmas.List.{length-drop}
 use Rattle.std.proofs.lemmas.Bool.{and_parts, leb-true}
-use Rattle.acpi_base.specs.Walk.{source_size, end_of}
-use Rattle.acpi_base.specs.Bytes.{field_at}
+use Rattle.acpi_base.specs.Walk.{end_of, rows_of, type_size}
 use Rattle.acpi_base.specs.declared.walk.Sizes.{Sizes}
-use Rattle.acpi_base.specs.declared.walk.Sizes.TheVariants.{EachOf, ToldAt, BySource}
+use Rattle.acpi_base.specs.declared.walk.Sizes.TheVariants.{EachOf, ToldAt, ByType}
 use Rattle.acpi_text.specs.Form.{number_at}
 use Rattle.acpi_text.specs.Piece.{piece_and, pieces_up_to, pieces_text}
-use Rattle.acpi_text.specs.Size.{size_from, size_by, front_size}
+use Rattle.acpi_text.specs.Size.{size_from, size_told, front_size}
 use Rattle.acpi_text.specs.Slot.{nameless}
 
 -- ---- sizes
@@ -34,18 +33,14 @@ size_within least n size bytes is =
       fits = omega (arith, leb-true n (length bytes) parts.1, chosen.1);
     }
 
-source_within : (known : Option ℕ) (size : ℕ) (bytes : List ℕ) → size_by known bytes ≡ Some size → IsWithin size bytes
-source_within (Some n) size bytes is = size_within 0 n size bytes is
-source_within None size bytes is = absurd cc
-
-source_chosen : (b : Bool) (known : Option ℕ) (size : ℕ) (bytes : List ℕ) → cond b (size_by known bytes) None ≡ Some size → IsWithin size bytes
-source_chosen true known size bytes is = source_within known size bytes is
-source_chosen false known size bytes is = absurd cc
+told_within : (told : Option ℕ) (size : ℕ) (bytes : List ℕ) → size_told told bytes ≡ Some size → IsWithin size bytes
+told_within (Some n) size bytes is = size_within 0 n size bytes is
+told_within None size bytes is = absurd cc
 
 pub front_within : (sizes : Sizes) (size : ℕ) (bytes : List ℕ) → front_size sizes bytes ≡ Some size → IsWithin size bytes
 front_within (EachOf n) size bytes is = size_within 0 n size bytes is
 front_within (ToldAt place) size bytes is = size_within (end_of place) (number_at place bytes) size bytes is
-front_within BySource size bytes is = source_chosen (nat_le 2 (length bytes)) (source_size (field_at 0 2 bytes)) size bytes is
+front_within (ByType kind types) size bytes is = told_within (type_size kind (rows_of types) bytes) size bytes is
 
 -- ---- more structures than there are bytes
 

@@ -1,11 +1,10 @@
 //! How long a structure is.
 
 ghost use Rattle.std.specs.Prelude.{◌≡◌};
-ghost use Rattle.acpi_base.specs.declared.walk.Sizes.TheVariants.{BySource};
 ghost use Rattle.acpi_text.specs.Size.{size_from, front_size};
 
 use crate::part::number_at;
-use acpi_base::walk::{Place, Sizes, source_size};
+use acpi_base::walk::Sizes;
 
 // Returns a size if it is at least `least`, isn't zero, and there are as many bytes.
 fn size_from(least: usize, size: usize, bytes: &[u8]) -> Option<usize>
@@ -25,19 +24,9 @@ pub fn front_size(sizes: Sizes, bytes: &[u8]) -> Option<usize>
     match sizes {
         Sizes::EachOf(size) => size_from(0, usize::from(size), bytes),
         Sizes::ToldAt(place) => size_from(place.end(), number_at(place, bytes), bytes),
-        Sizes::BySource => source_front(bytes),
-    }
-}
-
-// Returns the size of the error source with which bytes begin.
-fn source_front(bytes: &[u8]) -> Option<usize>
-    ensures { result ≡ front_size BySource bytes.now }
-{
-    if bytes.len() < 2 {
-        return None;
-    }
-    match source_size(Place::Word(0).number(bytes)) {
-        Some(size) => size_from(0, size, bytes),
-        None => None,
+        Sizes::ByType(kind, types) => match types.size(kind, bytes) {
+            Some(size) => size_from(0, size, bytes),
+            None => None,
+        },
     }
 }

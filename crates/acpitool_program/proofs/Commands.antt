@@ -1,12 +1,12 @@
 -- Words ask for at most one command.
-use Rattle.std.proofs.Common.{◌≡◌, ◌⊎◌, ℕ, false, List, [], ◌∷◌, ◌++◌, length, refl, sym, ap, subst, ◌∙◌, inl, inr, arith, codes, string_bytes}
+use Rattle.std.proofs.Common.{◌≡◌, ◌⊎◌, ℕ, Bool, true, false, map, List, [], ◌∷◌, ◌++◌, length, refl, sym, ap, subst, ◌∙◌, inl, inr, arith, codes, string_bytes}
 use Rattle.std.proofs.lemmas.List.{length-map}
 use Rattle.acpitool_program.proofs.Verbs.{heads, tails, same_verb, no_version, no_help, asks_no_help}
-use Rattle.acpitool_program.specs.Command.{files_in, forces, unforced, IsAddress, AreImage, AreUnpack, AreLay, AreAfter, IsHelp, BeginsWithHelp, AsksForHelp, Asks}
-use Rattle.acpitool_program.specs.Laws.{Content, content, AskForOne}
+use Rattle.acpitool_program.specs.Command.{begins_with_json, begins_with_bare, after_option, files_in, forces, unforced, IsAddress, AreImage, AreUnpack, AreLay, AreAfter, IsHelp, BeginsWithHelp, AsksForHelp, Asks}
+use Rattle.acpitool_program.specs.Laws.{Content, option_if, content, AskForOne}
 use Rattle.acpitool_program.specs.declared.command.Command.{Command}
 use Rattle.acpitool_program.specs.declared.command.Command.TheVariants.{Help, Version, Show, Check, Image, Make, Template}
-use Rattle.acpitool_program.specs.declared.command.Command.TheVariants.{Disassemble, Names, Unpack, Cpio, Lay, Diff}
+use Rattle.acpitool_program.specs.declared.command.Command.TheVariants.{Disassemble, Names, Unpack, Cpio, Lay, Diff, Json}
 use Rattle.acpitool_program.specs.declared.command.Verb.{Verb}
 use Rattle.acpitool_program.specs.declared.command.Verb.TheVariants as verbs
 
@@ -42,37 +42,46 @@ same_images m n file other base from same (inr x) (inr y) =
 
 abbrev IsOf : Verb → List (List ℕ) → Content → Type 0
 IsOf verbs.Show more k =
-    (files : List (List ℕ)) × (numbers : List (List ℕ)) × (more ≡ files ++ numbers) × (length files ≡ files_in more)
-    × (k ≡ (codes "show", files, numbers, 0, false))
-IsOf verbs.Check more k = k ≡ (codes "check", more, [], 0, false)
-IsOf verbs.Image more k = (file : List ℕ) × (base : ℕ) × AreImage more file base × (k ≡ (codes "image", file ∷ [], [], base, false))
+    ((begins_with_json more ≡ false) × (files : List (List ℕ)) × (numbers : List (List ℕ))
+    × (after_option verbs.Show more ≡ files ++ numbers) × (length files ≡ files_in (after_option verbs.Show more))
+    × (k ≡ (codes "show", files, numbers, 0, option_if (begins_with_bare more) (codes "--no-offsets"))))
+    ⊎ ((begins_with_json more ≡ true) × (k ≡ (codes "show", after_option verbs.Show more, [], 0, codes "--json")))
+IsOf verbs.Check more k =
+    k ≡ (codes "check", after_option verbs.Check more, [], 0, option_if (begins_with_json more) (codes "--json"))
+IsOf verbs.Image more k =
+    (file : List ℕ) × (base : ℕ) × AreImage (after_option verbs.Image more) file base
+    × (k ≡ (codes "image", file ∷ [], [], base, option_if (begins_with_json more) (codes "--json")))
 IsOf verbs.Make more k =
-    (text : List ℕ) × (file : List ℕ) × (unforced more ≡ text ∷ file ∷ []) × (k ≡ (codes "make", text ∷ file ∷ [], [], 0, forces more))
-IsOf verbs.Template more k = (signature : List ℕ) × (more ≡ signature ∷ []) × (k ≡ (codes "template", signature ∷ [], [], 0, false))
+    (text : List ℕ) × (file : List ℕ) × (unforced more ≡ text ∷ file ∷ []) × (k ≡ (codes "make", text ∷ file ∷ [], [], 0, option_if (forces more) (codes "--force")))
+IsOf verbs.Template more k = (signature : List ℕ) × (more ≡ signature ∷ []) × (k ≡ (codes "template", signature ∷ [], [], 0, []))
 IsOf verbs.Disassemble more k =
-    (file : List ℕ) × (numbers : List (List ℕ)) × (more ≡ file ∷ numbers) × (k ≡ (codes "disassemble", file ∷ [], numbers, 0, false))
+    (file : List ℕ) × (numbers : List (List ℕ)) × (more ≡ file ∷ numbers) × (k ≡ (codes "disassemble", file ∷ [], numbers, 0, []))
 IsOf verbs.Names more k =
-    (file : List ℕ) × (numbers : List (List ℕ)) × (more ≡ file ∷ numbers) × (k ≡ (codes "names", file ∷ [], numbers, 0, false))
+    (file : List ℕ) × (numbers : List (List ℕ)) × (more ≡ file ∷ numbers) × (k ≡ (codes "names", file ∷ [], numbers, 0, []))
 IsOf verbs.Unpack more k =
     (file : List ℕ) × (folder : List ℕ) × (base : ℕ) × AreUnpack more file folder base
-    × (k ≡ (codes "unpack", file ∷ folder ∷ [], [], base, false))
+    × (k ≡ (codes "unpack", file ∷ folder ∷ [], [], base, []))
 IsOf verbs.Cpio more k =
-    (folder : List ℕ) × (file : List ℕ) × (more ≡ folder ∷ file ∷ []) × (k ≡ (codes "cpio", folder ∷ file ∷ [], [], 0, false))
+    (folder : List ℕ) × (file : List ℕ) × (more ≡ folder ∷ file ∷ []) × (k ≡ (codes "cpio", folder ∷ file ∷ [], [], 0, []))
 IsOf verbs.Lay more k =
     (folder : List ℕ) × (file : List ℕ) × (base : ℕ) × AreLay more folder file base
-    × (k ≡ (codes "lay", folder ∷ file ∷ [], [], base, false))
+    × (k ≡ (codes "lay", folder ∷ file ∷ [], [], base, []))
 IsOf verbs.Diff more k =
-    (first : List ℕ) × (second : List ℕ) × (more ≡ first ∷ second ∷ []) × (k ≡ (codes "diff", first ∷ second ∷ [], [], 0, false))
+    (first : List ℕ) × (second : List ℕ) × (more ≡ first ∷ second ∷ []) × (k ≡ (codes "diff", first ∷ second ∷ [], [], 0, []))
 
 one_of : (verb : Verb) (more : List (List ℕ)) (k l : Content) → IsOf verb more k → IsOf verb more l → k ≡ l
-one_of verbs.Show more k l one two =
-    let parts = same_parts one.0 one.1 two.0 two.1 (sym one.2 ∙ two.2) (one.3 ∙ sym two.3) in
+one_of verbs.Show more k l (inl one) (inl two) =
+    let parts = same_parts one.1 one.2 two.1 two.2 (sym one.3 ∙ two.3) (one.4 ∙ sym two.4) in
     let files = parts.0 in
     let numbers = parts.1 in
-    cc (one.4, two.4, files, numbers)
+    cc (one.5, two.5, files, numbers)
+one_of verbs.Show more k l (inl one) (inr two) = let e : false ≡ true = sym one.0 ∙ two.0 in absurd (cc)
+one_of verbs.Show more k l (inr one) (inl two) = let e : true ≡ false = sym one.0 ∙ two.0 in absurd (cc)
+one_of verbs.Show more k l (inr one) (inr two) = one.1 ∙ sym two.1
 one_of verbs.Check more k l one two = one ∙ sym two
 one_of verbs.Image more k l one two =
-    let same = same_images more more one.0 two.0 one.1 two.1 refl one.2 two.2 in
+    let all = after_option verbs.Image more in
+    let same = same_images all all one.0 two.0 one.1 two.1 refl one.2 two.2 in
     let file = same.0 in
     let base = same.1 in
     cc (one.3, two.3, file, base)
@@ -116,19 +125,51 @@ AreOf words k =
 are_of : (words : List (List ℕ)) (command : Command) → Asks words command → AreOf words (content command)
 are_of words Help help = inl (refl, help)
 are_of words Version first = inr (inl (refl, first.0, first.1))
-are_of words (Show files numbers) all = inr (inr (record {
+are_of words (Show bare files numbers) all = inr (inr (record {
   verb = verbs.Show;
   more = all.0;
   after = all.1;
-  of = (_, _, all.2, length-map files.now (λ word. string_bytes word) ∙ all.3, refl);
+  of = inl (
+    all.2,
+    map (λ word. string_bytes word) files.now,
+    map (λ word. string_bytes word) numbers.now,
+    all.4,
+    length-map files.now (λ word. string_bytes word) ∙ all.5,
+    ap
+        (λ (b : Bool). (
+          codes "show",
+          map (λ word. string_bytes word) files.now,
+          map (λ word. string_bytes word) numbers.now,
+          0,
+          option_if b (codes "--no-offsets"),
+        ))
+        all.3,
+  );
 }))
-are_of words (Check files) all = inr (inr (record {
+are_of words (Json files) all = inr (inr (record {
+  verb = verbs.Show;
+  more = all.0;
+  after = all.1;
+  of = inr (all.2, ap (λ l. (codes "show", l, [], 0, codes "--json")) (sym all.3));
+}))
+are_of words (Check json files) all = inr (inr (record {
   verb = verbs.Check;
   more = all.0;
   after = all.1;
-  of = ap (λ l. (codes "check", l, [], 0, false)) (sym all.2);
+  of = ap (λ l. (codes "check", l, [], 0, option_if json (codes "--json"))) (sym all.3)
+      ∙ ap (λ (b : Bool). (codes "check", after_option verbs.Check all.0, [], 0, option_if b (codes "--json"))) all.2;
 }))
-are_of words (Image file base) all = inr (inr (record { verb = verbs.Image; more = all.0; after = all.1; of = (_, _, all.2, refl) }))
+are_of words (Image json file base) all = inr (inr (record {
+  verb = verbs.Image;
+  more = all.0;
+  after = all.1;
+  of = (
+    file.now,
+    base,
+    all.3,
+    ap (λ (b : Bool). (codes "image", file.now ∷ [], [], base, option_if b (codes "--json"))) all.2,
+  );
+}))
 are_of words (Template signature) all =
     inr (inr (record { verb = verbs.Template; more = all.0; after = all.1; of = (_, all.2, refl) }))
 are_of words (Disassemble file numbers) all =
@@ -147,7 +188,7 @@ are_of words (Make force text file) all = inr (inr (record {
   verb = verbs.Make;
   more = all.0;
   after = all.1;
-  of = (_, _, all.3, ap (λ f. (codes "make", text.now ∷ file.now ∷ [], [], 0, f)) all.2);
+  of = (_, _, all.3, ap (λ (f : Bool). (codes "make", text.now ∷ file.now ∷ [], [], 0, option_if f (codes "--force"))) all.2);
 }))
 
 -- ---- words have one of these

@@ -8,6 +8,7 @@ mod Outcomes
 mod Paths
 mod Pointers
 mod Runs
+mod Spaces
 mod Streams
 mod Texts
 mod Unforced

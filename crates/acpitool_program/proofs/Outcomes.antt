@@ -1,27 +1,27 @@
 -- Outcomes one after another.
-use Rattle.std.proofs.Common.{◌≡◌, ℕ, max, List, [], ◌∷◌, ◌++◌, Option, Some, None, refl, sym, ap, subst, ◌∙◌, append_assoc, arith, codes, inl, inr, Bool, true, false, Result, Ok, Err, IfErr, nat_lt, length, map, String, Global, string_bytes}
-use Rattle.std.proofs.lemmas.List.{append-nil, length-map}
+use Rattle.std.proofs.Common.{◌≡◌, ℕ, max, List, [], ◌∷◌, ◌++◌, Option, Some, None, refl, sym, ap, subst, ◌∙◌, append_assoc, arith, codes, inl, inr, Bool, true, false, Result, Ok, Err, IfErr, map}
+use Rattle.std.proofs.lemmas.List.{append-nil}
 use Rattle.std.specs.Io.KnownBytes.{Keeps, Appends}
-use Rattle.acpi_input.specs.Stated.{stated}
 use Rattle.std.proofs.lemmas.Simd.{map-map}
 use Rattle.acpi_dump.specs.Dump.{titled, is_dump, tables_of}
 use Rattle.acpi_dump.specs.declared.dump.Dumped.{Dumped}
 use Rattle.acpi_dump.specs.Fault.{text_of}
 use Rattle.acpi_dump.specs.declared.fault.DumpFault.{DumpFault}
 use Rattle.acpi_rules.specs.Finding.{Finding}
-use Rattle.acpitool_program.specs.Checked.{AreFindings, finding_lines, finding_status}
-use Rattle.acpitool_program.specs.Job.{Job, shows, checks}
-use Rattle.acpitool_program.specs.Outcome.{Outcome, shown, checked, refused, broken, unread, output, complaint, status, outputs, complaints, worst}
+use Rattle.acpitool_program.specs.Checked.{AreFindings, printed_findings, finding_status}
+use Rattle.acpitool_program.specs.Job.{Job, shows, checks, lists}
+use Rattle.acpitool_program.specs.Object.{IsObject}
+use Rattle.acpitool_program.specs.Outcome.{Outcome, shown, checked, listed, refused, broken, unread, output, complaint, status, outputs, complaints, worst}
 use Rattle.acpitool_program.specs.Outcome.{heading, labelled, fault_line, fault_status, AreTrueOutcomes, AreEach, AreOfTables, AreOfDump, AreOfBytesBy, AreOfBytes}
-use Rattle.acpitool_program.specs.Outcome.{IsUnread, AreOfFile, AreGroups, joined, AreOfEach, AreOfWord, Printed, PrintedAs}
-use Rattle.acpitool_program.specs.Program.{AreChecked, IsShown, NotStated, IsMisstatedAs, wrong_text}
+use Rattle.acpitool_program.specs.Outcome.{IsUnread, AreOfFile, AreGroups, joined, AreOfEach, Printed, PrintedAs}
+use Rattle.acpitool_program.specs.Program.{IsShown, NotStated, IsMisstatedAs, wrong_text}
 use Rattle.acpitool_program.specs.declared.command.Wrong.{Wrong}
 use Rattle.acpi_forms.specs.Kind.{kind_of}
 use Rattle.acpitool_program.specs.Fault.{line_of}
 use Rattle.acpitool_program.specs.Structures.{HasFault}
 use Rattle.acpitool_program.specs.Terms.{IsAfter}
 use Rattle.acpitool_program.proofs.Streams.{appends_none, appends_then}
-use Rattle.acpitool_program.specs.Text.{IsText, IsTextFault}
+use Rattle.acpitool_program.specs.Text.{IsTextAs, IsTextFault}
 use Rattle.acpitool_program.specs.declared.fault.Fault.{Fault}
 
 -- ---- lists of outcomes
@@ -82,11 +82,11 @@ as_these {job} {P} {Q} {o} {o'} {e} {e'} {s} follows one =
 most_of_one : (s : ℕ) → s ≡ max s 0
 most_of_one s = grind arith
 
-pub one_shown : (stated : List (List ℕ × ℕ)) (out out' err err' : Option (List ℕ)) (several : Bool) (name before bytes text after : List ℕ)
-    (fault : Option Fault) (s : ℕ) → before ≡ heading several name → IsText bytes text → IsAfter stated bytes after
+pub one_shown : (bare : Bool) (stated : List (List ℕ × ℕ)) (out out' err err' : Option (List ℕ)) (several : Bool) (name before bytes text after : List ℕ)
+    (fault : Option Fault) (s : ℕ) → before ≡ heading several name → IsTextAs bare bytes text → IsAfter stated bytes after
     → HasFault (kind_of bytes) bytes fault → Appends out out' (before ++ text ++ after) → Appends err err' (fault_line name fault)
-    → s ≡ fault_status fault → PrintedAs (shows stated) (AreOfTables several ((name, bytes) ∷ [])) out out' err err' s
-one_shown stated out out' err err' several name before bytes text after fault s heads is follows has wrote told same =
+    → s ≡ fault_status fault → PrintedAs (shows bare stated) (AreOfTables several ((name, bytes) ∷ [])) out out' err err' s
+one_shown bare stated out out' err err' several name before bytes text after fault s heads is follows has wrote told same =
     let P : List ℕ → Type 0 = λ l. Appends out out' (l ++ text ++ after) in
     let Q : List ℕ → Type 0 = λ l. Appends out out' l in
     let R : List ℕ → Type 0 = λ l. Appends err err' l in
@@ -101,21 +101,39 @@ one_shown stated out out' err err' several name before bytes text after fault s 
       };
     }
 
-pub one_checked : (out out' err err' : Option (List ℕ)) (several : Bool) (name bytes lines : List ℕ) (found : List Finding)
-    (fault : Option Fault) (s : ℕ) → AreFindings bytes found → lines ≡ finding_lines name bytes found
+pub one_checked : (json : Bool) (out out' err err' : Option (List ℕ)) (several : Bool) (name bytes lines : List ℕ) (found : List Finding)
+    (fault : Option Fault) (s : ℕ) → AreFindings bytes found → lines ≡ printed_findings json name bytes found
     → HasFault (kind_of bytes) bytes fault → Appends out out' lines → Appends err err' (fault_line name fault)
-    → s ≡ max (finding_status found) (fault_status fault) → PrintedAs checks (AreOfTables several ((name, bytes) ∷ [])) out out' err err' s
-one_checked out out' err err' several name bytes lines found fault s are is has wrote told same =
+    → s ≡ max (finding_status found) (fault_status fault) → PrintedAs (checks json) (AreOfTables several ((name, bytes) ∷ [])) out out' err err' s
+one_checked json out out' err err' several name bytes lines found fault s are is has wrote told same =
     let Q : List ℕ → Type 0 = λ l. Appends out out' l in
     let R : List ℕ → Type 0 = λ l. Appends err err' l in
     record {
-      outcomes = checked name bytes found fault ∷ [];
+      outcomes = checked json name bytes found fault ∷ [];
       are = record { each = (refl, refl, tt) };
       printed = record {
-        are = ((are, has), tt);
-        wrote = subst Q (is ∙ sym (append-nil (finding_lines name bytes found))) wrote;
+        are = (((refl, are), has), tt);
+        wrote = subst Q (is ∙ sym (append-nil (printed_findings json name bytes found))) wrote;
         complained = subst R (sym (append-nil (fault_line name fault))) told;
         is = same ∙ most_of_one (max (finding_status found) (fault_status fault));
+      };
+    }
+
+pub one_listed : (out out' err err' : Option (List ℕ)) (several : Bool) (name bytes object line : List ℕ) (fault : Option Fault) (s : ℕ)
+    → IsObject name bytes object → line ≡ object ++ 10 ∷ [] → HasFault (kind_of bytes) bytes fault → Appends out out' line
+    → Appends err err' (fault_line name fault) → s ≡ fault_status fault
+    → PrintedAs lists (AreOfTables several ((name, bytes) ∷ [])) out out' err err' s
+one_listed out out' err err' several name bytes object line fault s is said has wrote told same =
+    let Q : List ℕ → Type 0 = λ l. Appends out out' l in
+    let R : List ℕ → Type 0 = λ l. Appends err err' l in
+    record {
+      outcomes = listed name bytes object fault ∷ [];
+      are = record { each = (refl, refl, tt) };
+      printed = record {
+        are = ((is, has), tt);
+        wrote = subst Q (said ∙ sym (append-nil (object ++ 10 ∷ []))) wrote;
+        complained = subst R (sym (append-nil (fault_line name fault))) told;
+        is = same ∙ most_of_one (fault_status fault);
       };
     }
 
@@ -256,25 +274,6 @@ word_then {job} Of words all word {o} {o'} {o''} {e} {e'} {e''} {a} {b} {s} same
       printed = same_status is (and_then one.printed two.printed);
     }
 
--- the files of `show`, which are several if there are more than one
-pub all_shown : (files : List (String Global)) (numbers : List (List ℕ)) (all : List (List ℕ × ℕ)) (several : Bool)
-    (o o' e e' : Option (List ℕ)) (s : ℕ) → several ≡ nat_lt 1 (length files) → stated numbers ≡ Some all
-    → PrintedAs (shows all) (AreOfEach (AreOfWord several) (map (λ word. string_bytes word) files)) o o' e e' s
-    → IsShown (map (λ word. string_bytes word) files) numbers o o' e e' s
-all_shown files numbers all several o o' e e' s are is one =
-    let text : String Global → List ℕ = λ word. string_bytes word in
-    let P : Bool → Type 0 = λ b. PrintedAs (shows all) (AreOfEach (AreOfWord b) (map text files)) o o' e e' s in
-    inl (record { all = all; stated = is; printed = subst P (are ∙ ap (nat_lt 1) (sym (length-map files text))) one })
-
--- the same of `check`
-pub all_checked : (files : List (String Global)) (several : Bool) (o o' e e' : Option (List ℕ)) (s : ℕ) → several ≡ nat_lt 1 (length files)
-    → PrintedAs checks (AreOfEach (AreOfWord several) (map (λ word. string_bytes word) files)) o o' e e' s
-    → AreChecked (map (λ word. string_bytes word) files) o o' e e' s
-all_checked files several o o' e e' s are one =
-    let text : String Global → List ℕ = λ word. string_bytes word in
-    let P : Bool → Type 0 = λ b. PrintedAs checks (AreOfEach (AreOfWord b) (map text files)) o o' e e' s in
-    subst P (are ∙ ap (nat_lt 1) (sym (length-map files text))) one
-
 -- ---- a run
 
 keeps_self : (a : Option (List ℕ)) → Keeps a a
@@ -286,6 +285,6 @@ pub unstated : (numbers : List (List ℕ)) (wrong : Wrong) (o e e' : Option (Lis
 unstated numbers wrong o e e' s said misstated =
     record { wrong = wrong; is_wrong = misstated; is = said.0; complained = said.1; silent = keeps_self o }
 
-pub not_stated : (files numbers : List (List ℕ)) (wrong : Wrong) (o e e' : Option (List ℕ)) (s : ℕ)
-    → (s ≡ 2) × Appends e e' (wrong_text wrong) → IsMisstatedAs numbers wrong → IsShown files numbers o o e e' s
-not_stated files numbers wrong o e e' s said misstated = inr (unstated numbers wrong o e e' s said misstated)
+pub not_stated : (bare : Bool) (files numbers : List (List ℕ)) (wrong : Wrong) (o e e' : Option (List ℕ)) (s : ℕ)
+    → (s ≡ 2) × Appends e e' (wrong_text wrong) → IsMisstatedAs numbers wrong → IsShown bare files numbers o o e e' s
+not_stated bare files numbers wrong o e e' s said misstated = inr (unstated numbers wrong o e e' s said misstated)

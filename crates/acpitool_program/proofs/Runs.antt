@@ -6,15 +6,15 @@ use Rattle.acpitool_program.proofs.Streams.{keeps_kept, appends_kept}
 use Rattle.acpitool_program.specs.Disassembly.{DisassemblesFile}
 use Rattle.acpi_asl.specs.declared.block.BlockText.{BlockText}
 use Rattle.acpi_asl.specs.declared.block.BlockText.TheVariants as blocks
-use Rattle.acpitool_program.specs.Job.{Job, shows, checks}
+use Rattle.acpitool_program.specs.Job.{Job, shows, checks, lists}
 use Rattle.acpitool_program.specs.Listing.{Listed}
 use Rattle.acpitool_program.specs.Making.{MakesWord, Makes}
 use Rattle.acpitool_program.specs.Outcome.{Outcome, Printed}
 use Rattle.acpi_forms.specs.Known.{is_known}
-use Rattle.acpitool_program.specs.Program.{Ended, IsDone, IsShown, AreChecked, IsBlockShown, NotStated, IsTemplated}
+use Rattle.acpitool_program.specs.Program.{Ended, IsDone, IsShown, AreListed, AreChecked, IsBlockShown, NotStated, IsTemplated}
 use Rattle.acpitool_program.specs.declared.command.Command.{Command}
 use Rattle.acpitool_program.specs.declared.command.Command.TheVariants.{Help, Version, Show, Check, Image, Make, Template}
-use Rattle.acpitool_program.specs.declared.command.Command.TheVariants.{Disassemble, Names, Unpack, Cpio, Lay, Diff}
+use Rattle.acpitool_program.specs.declared.command.Command.TheVariants.{Disassemble, Names, Unpack, Cpio, Lay, Diff, Json}
 
 printed_kept : (job : Job) (outcomes : List Outcome) (o o' o'' e e' : Option (List ℕ)) (s : ℕ) → Keeps o' o''
     → Printed job outcomes o o' e e' s → Printed job outcomes o o'' e e' s
@@ -31,27 +31,36 @@ unstated_kept numbers o o' o'' e e' s kept not = record {
   silent = keeps_kept o o' o'' not.silent kept;
 }
 
-shown_kept : (files numbers : List (List ℕ)) (o o' o'' e e' : Option (List ℕ)) (s : ℕ) → Keeps o' o''
-    → IsShown files numbers o o' e e' s → IsShown files numbers o o'' e e' s
-shown_kept files numbers o o' o'' e e' s kept (inl all) = inl (record {
+shown_kept : (bare : Bool) (files numbers : List (List ℕ)) (o o' o'' e e' : Option (List ℕ)) (s : ℕ) → Keeps o' o''
+    → IsShown bare files numbers o o' e e' s → IsShown bare files numbers o o'' e e' s
+shown_kept bare files numbers o o' o'' e e' s kept (inl all) = inl (record {
   all = all.all;
   stated = all.stated;
   printed = record {
     outcomes = all.printed.outcomes;
     are = all.printed.are;
-    printed = printed_kept (shows all.all) all.printed.outcomes o o' o'' e e' s kept all.printed.printed;
+    printed = printed_kept (shows bare all.all) all.printed.outcomes o o' o'' e e' s kept all.printed.printed;
   };
 })
-shown_kept files numbers o o' o'' e e' s kept (inr not) = inr (unstated_kept numbers o o' o'' e e' s kept not)
+shown_kept bare files numbers o o' o'' e e' s kept (inr not) = inr (unstated_kept numbers o o' o'' e e' s kept not)
 
-checked_kept : (files : List (List ℕ)) (o o' o'' e e' : Option (List ℕ)) (s : ℕ) → Keeps o' o''
-    → AreChecked files o o' e e' s → AreChecked files o o'' e e' s
-checked_kept files o o' o'' e e' s kept all =
-    record { outcomes = all.outcomes; are = all.are; printed = printed_kept checks all.outcomes o o' o'' e e' s kept all.printed }
+json_kept : (job : Job) (files : List (List ℕ)) (o o' o'' e e' : Option (List ℕ)) (s : ℕ) → Keeps o' o''
+    → AreListed job files o o' e e' s → AreListed job files o o'' e e' s
+json_kept job files o o' o'' e e' s kept all =
+    record { lines = all.lines; listed = all.listed; wrote = appends_kept o o' o'' _ all.wrote kept }
 
-listed_kept : (file : List ℕ) (base : ℕ) (o o' o'' e e' : Option (List ℕ)) (s : ℕ) → Keeps o' o''
-    → Listed file base o o' e e' s → Listed file base o o'' e e' s
-listed_kept file base o o' o'' e e' s kept (inl (bytes, inl all)) = inl (
+checked_kept : (json : Bool) (files : List (List ℕ)) (o o' o'' e e' : Option (List ℕ)) (s : ℕ) → Keeps o' o''
+    → AreChecked json files o o' e e' s → AreChecked json files o o'' e e' s
+checked_kept true files o o' o'' e e' s kept all = json_kept (checks true) files o o' o'' e e' s kept all
+checked_kept false files o o' o'' e e' s kept all = record {
+  outcomes = all.outcomes;
+  are = all.are;
+  printed = printed_kept (checks false) all.outcomes o o' o'' e e' s kept all.printed;
+}
+
+listed_kept : (json : Bool) (file : List ℕ) (base : ℕ) (o o' o'' e e' : Option (List ℕ)) (s : ℕ) → Keeps o' o''
+    → Listed json file base o o' e e' s → Listed json file base o o'' e e' s
+listed_kept json file base o o' o'' e e' s kept (inl (bytes, inl all)) = inl (
   bytes,
   inl (record {
     tables = all.tables;
@@ -61,7 +70,7 @@ listed_kept file base o o' o'' e e' s kept (inl (bytes, inl all)) = inl (
     is = all.is;
   }),
 )
-listed_kept file base o o' o'' e e' s kept (inl (bytes, inr not)) = inl (
+listed_kept json file base o o' o'' e e' s kept (inl (bytes, inr not)) = inl (
   bytes,
   inr (record {
     fault = not.fault;
@@ -71,7 +80,7 @@ listed_kept file base o o' o'' e e' s kept (inl (bytes, inr not)) = inl (
     is = not.is;
   }),
 )
-listed_kept file base o o' o'' e e' s kept (inr not) = inr (unread_kept file o o' o'' e e' s kept not)
+listed_kept json file base o o' o'' e e' s kept (inr not) = inr (unread_kept file o o' o'' e e' s kept not)
 
 disassembled_kept : (block : BlockText) (stated : List (List ℕ × ℕ)) (file : List ℕ) (o o' o'' e e' : Option (List ℕ)) (s : ℕ) → Keeps o' o''
     → DisassemblesFile block stated file o o' e e' s → DisassemblesFile block stated file o o'' e e' s
@@ -131,9 +140,10 @@ templated_kept false signature o o' o'' e e' s kept done = (done.0, keeps_kept o
 done_kept : (o o' o'' e e' : Option (List ℕ)) (s : ℕ) (command : Command) → Keeps o' o'' → IsDone command o o' e e' s → IsDone command o o'' e e' s
 done_kept o o' o'' e e' s Help kept done = (done.0, done.1, appends_kept o o' o'' _ done.2 kept, done.3)
 done_kept o o' o'' e e' s Version kept done = (done.0, appends_kept o o' o'' _ done.1 kept, done.2)
-done_kept o o' o'' e e' s (Show files numbers) kept done = shown_kept _ _ o o' o'' e e' s kept done
-done_kept o o' o'' e e' s (Check files) kept done = checked_kept _ o o' o'' e e' s kept done
-done_kept o o' o'' e e' s (Image file base) kept done = listed_kept file.now base o o' o'' e e' s kept done
+done_kept o o' o'' e e' s (Show bare files numbers) kept done = shown_kept bare _ _ o o' o'' e e' s kept done
+done_kept o o' o'' e e' s (Json files) kept done = json_kept lists _ o o' o'' e e' s kept done
+done_kept o o' o'' e e' s (Check json files) kept done = checked_kept json _ o o' o'' e e' s kept done
+done_kept o o' o'' e e' s (Image json file base) kept done = listed_kept json file.now base o o' o'' e e' s kept done
 done_kept o o' o'' e e' s (Template signature) kept done = templated_kept (is_known signature.now) signature.now o o' o'' e e' s kept done
 done_kept o o' o'' e e' s (Disassemble file numbers) kept done = block_kept blocks.Asl file.now _ o o' o'' e e' s kept done
 done_kept o o' o'' e e' s (Names file numbers) kept done = block_kept blocks.Names file.now _ o o' o'' e e' s kept done

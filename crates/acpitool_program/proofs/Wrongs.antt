@@ -1,16 +1,16 @@
 -- Words that are wrong ask for no command.
 use Rattle.std.proofs.Common.{◌≡◌, ◌≢◌, ◌⊎◌, ◌≤◌, ℕ, List, [], ◌∷◌, length, Some, None, refl, map, string_bytes, ap, sym, subst, ◌∙◌, inl, inr, arith, codes}
 use Rattle.acpitool_program.proofs.Verbs.{heads, tails, same_verb, no_version, no_help}
-use Rattle.acpitool_program.specs.Command.{word_of, first_option, files_in, unforced, IsAddress, AreImage, AreUnpack, AreLay, IsHelp, BeginsWithHelp, Asks, IsNoCommand}
+use Rattle.acpitool_program.specs.Command.{word_of, first_option, after_option, files_after, unforced, IsAddress, AreImage, AreUnpack, AreLay, IsHelp, BeginsWithHelp, Asks, IsNoCommand}
 use Rattle.acpitool_program.specs.Command.{IsAfterBase, IsAfterFile, IsAfterUnpacked, IsNoUnpackBase, IsAfterLaid, IsNoLayBase, IsWrong}
 use Rattle.acpitool_program.specs.Laws.{WrongAskForNothing}
 use Rattle.acpitool_program.specs.declared.command.Command.{Command}
 use Rattle.acpitool_program.specs.declared.command.Command.TheVariants.{Help, Version, Show, Check, Image, Make, Template}
-use Rattle.acpitool_program.specs.declared.command.Command.TheVariants.{Disassemble, Names, Unpack, Cpio, Lay, Diff}
+use Rattle.acpitool_program.specs.declared.command.Command.TheVariants.{Disassemble, Names, Unpack, Cpio, Lay, Diff, Json}
 use Rattle.acpitool_program.specs.declared.command.Verb.{Verb}
 use Rattle.acpitool_program.specs.declared.command.Verb.TheVariants as verbs
 use Rattle.acpitool_program.specs.declared.command.Wrong.{Wrong}
-use Rattle.acpitool_program.specs.declared.command.Wrong.TheVariants.{NoCommand, Unknown, NoFile, NoFileToCheck, NoImage, NoText}
+use Rattle.acpitool_program.specs.declared.command.Wrong.TheVariants.{NoCommand, Unknown, Placed, NoFile, NoFileToCheck, NoImage, NoText}
 use Rattle.acpitool_program.specs.declared.command.Wrong.TheVariants.{NoTable, Base, Number, Twice, NoSignature, Signature, NoBlock}
 use Rattle.acpitool_program.specs.declared.command.Wrong.TheVariants.{NoPacked, NoFolder, NoTables, NoArchive}
 use Rattle.acpitool_program.specs.declared.command.Wrong.TheVariants.{NoImageFile, NoBase, NoFirst, NoSecond}
@@ -19,9 +19,9 @@ use Rattle.acpitool_program.specs.declared.command.Wrong.TheVariants.{NoImageFil
 
 -- they are what the command takes
 abbrev IsTaken : Verb → List (List ℕ) → Type 0
-IsTaken verbs.Show more = 1 ≤ files_in more
-IsTaken verbs.Check more = 1 ≤ length more
-IsTaken verbs.Image more = (file : List ℕ) × (base : ℕ) × AreImage more file base
+IsTaken verbs.Show more = 1 ≤ files_after more
+IsTaken verbs.Check more = 1 ≤ length (after_option verbs.Check more)
+IsTaken verbs.Image more = (file : List ℕ) × (base : ℕ) × AreImage (after_option verbs.Image more) file base
 IsTaken verbs.Make more = (text : List ℕ) × (file : List ℕ) × (unforced more ≡ text ∷ file ∷ [])
 IsTaken verbs.Template more = (signature : List ℕ) × (more ≡ signature ∷ []) × (length signature ≡ 4)
 IsTaken verbs.Disassemble more = (file : List ℕ) × (numbers : List (List ℕ)) × (more ≡ file ∷ numbers)
@@ -78,10 +78,11 @@ asked : (words : List (List ℕ)) (command : Command) → Asks words command →
 asked words Help (inl first) = inl first
 asked words Help (inr after) = inr (inr (record { verb = after.verb; more = after.more; is = after.is; are = inl (after.option, after.first, after.asks) }))
 asked words Version first = inr (inl first)
-asked words (Show files numbers) all = inr (inr (record { verb = verbs.Show; more = all.0; is = all.1.0; are = inr (all.1.1, all.4) }))
-asked words (Check files) all = inr (inr (record { verb = verbs.Check; more = all.0; is = all.1.0; are = inr (all.1.1, all.3) }))
-asked words (Image file base) all =
-    inr (inr (record { verb = verbs.Image; more = all.0; is = all.1.0; are = inr (all.1.1, (file.now, base, all.2)) }))
+asked words (Show bare files numbers) all = inr (inr (record { verb = verbs.Show; more = all.0; is = all.1.0; are = inr (all.1.1, all.6) }))
+asked words (Json files) all = inr (inr (record { verb = verbs.Show; more = all.0; is = all.1.0; are = inr (all.1.1, all.4) }))
+asked words (Check json files) all = inr (inr (record { verb = verbs.Check; more = all.0; is = all.1.0; are = inr (all.1.1, all.4) }))
+asked words (Image json file base) all =
+    inr (inr (record { verb = verbs.Image; more = all.0; is = all.1.0; are = inr (all.1.1, (file.now, base, all.3)) }))
 asked words (Template signature) all =
     inr (inr (record { verb = verbs.Template; more = all.0; is = all.1.0; are = inr (all.1.1, (signature.now, all.2, all.3)) }))
 asked words (Disassemble file numbers) all =
@@ -105,10 +106,6 @@ asked words (Make force text file) all =
 abbrev Wronged : List (List ℕ) → Type 0
 Wronged words = (words ≡ []) ⊎ ((word : List ℕ) × IsNoCommand words word) ⊎ With Fails words
 
-no_image : (file : List ℕ) (base : ℕ) → AreImage [] file base → ⊥
-no_image file base (inl one) = cc (one.0)
-no_image file base (inr two) = cc (two.1)
-
 no_third : (more others : List (List ℕ)) (a b d file : List ℕ) (base : ℕ) → more ≡ a ∷ b ∷ d ∷ others → AreImage more file base → ⊥
 no_third more others a b d file base is (inl one) = cc (is, one.0)
 no_third more others a b d file base is (inr two) = cc (is, two.1)
@@ -126,7 +123,7 @@ after_base words word one = record {
   verb = verbs.Image;
   more = one.more;
   is = one.after.0;
-  are = inr (one.after.1, λ taken. no_third one.more one.others one.file one.base word taken.0 taken.1 one.is taken.2);
+  are = inr (one.after.1, λ taken. no_third (after_option verbs.Image one.more) one.others one.file one.base word taken.0 taken.1 one.is taken.2);
 }
 
 -- a list of one word less, which `unpack` takes as its folder and base
@@ -226,16 +223,26 @@ wronged words (Unknown word) (inr (inr (inr (inr (inr (inr (inr (inr second)))))
   is = second.after.0;
   are = inr (second.after.1, λ taken. cc (second.is, taken.1));
 }))
+wronged words (Placed word) option =
+    inr (inr (record { verb = option.verb; more = option.more; is = option.is; are = inl (word.now, option.first, option.no_help, option.no_short_help) }))
 wronged words NoFile all = inr (inr (record {
   verb = verbs.Show;
   more = all.0;
   is = all.1.0;
   are = inr (all.1.1, λ taken. let none = all.2 in omega (arith, none, taken));
 }))
-wronged words NoFileToCheck is =
-    inr (inr (record { verb = verbs.Check; more = []; is = is; are = inr (refl, λ taken. absurd (omega (arith, taken))) }))
-wronged words NoImage is =
-    inr (inr (record { verb = verbs.Image; more = []; is = is; are = inr (refl, λ taken. no_image taken.0 taken.1 taken.2) }))
+wronged words NoFileToCheck all = inr (inr (record {
+  verb = verbs.Check;
+  more = all.0;
+  is = all.1.0;
+  are = inr (all.1.1, λ taken. let none = all.2 in omega (arith, none, taken));
+}))
+wronged words NoImage all = inr (inr (record {
+  verb = verbs.Image;
+  more = all.0;
+  is = all.1.0;
+  are = inr (all.1.1, λ taken. no_rest (after_option verbs.Image all.0) all.2 taken.0 taken.1 taken.2);
+}))
 wronged words NoSignature is =
     inr (inr (record { verb = verbs.Template; more = []; is = is; are = inr (refl, λ taken. cc (taken.1)) }))
 wronged words NoBlock (inl is) =
@@ -294,7 +301,7 @@ wronged words (Base word) (inl one) = inr (inr (record {
   verb = verbs.Image;
   more = one.more;
   is = one.after.0;
-  are = inr (one.after.1, λ taken. no_base one.more one.file word.now taken.0 taken.1 one.is one.not taken.2);
+  are = inr (one.after.1, λ taken. no_base (after_option verbs.Image one.more) one.file word.now taken.0 taken.1 one.is one.not taken.2);
 }))
 wronged words (Base word) (inr (inl one)) = inr (inr (no_unpack_base words word.now one))
 wronged words (Base word) (inr (inr one)) = inr (inr (no_lay_base words word.now one))

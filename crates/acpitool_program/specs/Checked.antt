@@ -1,5 +1,5 @@
 -- What is printed of a table that is checked.
-use Rattle.std.specs.Prelude.{◌≡◌, ℕ, List, [], ◌∷◌, ◌++◌, map, take, Option, None, codes}
+use Rattle.std.specs.Prelude.{◌≡◌, ℕ, Bool, true, false, List, [], ◌∷◌, ◌++◌, map, take, Option, None, codes}
 use Rattle.std.specs.List.{flat_map}
 use Rattle.acpi_base.specs.Bytes.{field_at}
 use Rattle.acpi_base.specs.FurtherWalk.{table_walk_of}
@@ -13,6 +13,7 @@ use Rattle.acpi_rules.specs.Finding.{Finding}
 use Rattle.acpi_rules.specs.Line.{finding_text}
 use Rattle.acpi_rules.specs.Standard.{table_findings}
 use Rattle.acpi_text.specs.declared.form.TableForm.{TableForm}
+use Rattle.acpi_json.specs.Finding.{finding as object}
 use Rattle.acpitool_program.specs.Text.{IsKind}
 
 -- the findings of bytes by a form that has these names
@@ -41,6 +42,19 @@ finding_line name signature finding =
 -- the lines of the findings of bytes
 abbrev pub finding_lines : List ℕ → List ℕ → List Finding → List ℕ
 finding_lines name bytes findings = flat_map (finding_line name (take 4 bytes)) findings
+
+-- the object of a finding, in a line
+unfoldable pub object_line : List ℕ → List ℕ → Finding → List ℕ
+object_line name signature finding = object name signature finding ++ 10 ∷ []
+
+-- the objects of the findings of bytes
+abbrev pub finding_objects : List ℕ → List ℕ → List Finding → List ℕ
+finding_objects name bytes findings = flat_map (object_line name (take 4 bytes)) findings
+
+-- what is printed of findings: objects, or lines
+abbrev pub printed_findings : Bool → List ℕ → List ℕ → List Finding → List ℕ
+printed_findings true name bytes findings = finding_objects name bytes findings
+printed_findings false name bytes findings = finding_lines name bytes findings
 
 -- 0 if there are no findings, and 1 otherwise
 abbrev pub finding_status : List Finding → ℕ

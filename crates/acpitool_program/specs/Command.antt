@@ -1,5 +1,6 @@
 -- What words ask for.
-use Rattle.std.specs.Prelude.{◌≡◌, ◌≢◌, ◌⊎◌, ℕ, suc, ◌^◌, ◌<◌, ◌≤◌, ◌==◌, nat_eq, nat_lt, drop, not, ◌&&◌, ◌||◌, Bool, false}
+use Rattle.std.specs.Prelude.{◌≡◌, ◌≢◌, ◌⊎◌, ℕ, suc, ◌^◌, ◌<◌, ◌≤◌, ◌==◌, nat_eq, nat_lt, drop, not, ◌&&◌, ◌||◌}
+use Rattle.std.specs.Prelude.{Bool, true, false}
 use Rattle.std.specs.Prelude.{if◌then◌else◌, List, [], ◌∷◌, ◌++◌, Option, Some, None, length, slice_index, map, string_bytes}
 use Rattle.std.specs.Prelude.{codes}
 use Rattle.std.specs.List.{starts_with}
@@ -8,14 +9,14 @@ use Rattle.std.specs.Str.Parse.{IsNumeral, digits_value, without_leading_plus}
 use Rattle.acpi_input.specs.Stated.{stated_by, stated}
 use Rattle.acpitool_program.specs.declared.command.Command.{Command}
 use Rattle.acpitool_program.specs.declared.command.Command.TheVariants.{Help, Version, Show, Check, Image, Make, Template}
-use Rattle.acpitool_program.specs.declared.command.Command.TheVariants.{Disassemble, Names, Unpack, Cpio, Lay, Diff}
+use Rattle.acpitool_program.specs.declared.command.Command.TheVariants.{Disassemble, Names, Unpack, Cpio, Lay, Diff, Json}
 use Rattle.acpitool_program.specs.declared.command.Misstated.{Misstated}
 use Rattle.acpitool_program.specs.declared.command.Misstated.TheVariants as misstated
 use Rattle.acpitool_program.specs.declared.command.Verb.{Verb}
 use Rattle.acpitool_program.specs.declared.command.Verb.TheVariants as verbs
 use Rattle.acpitool_program.specs.declared.command.Wrong.{Wrong}
-use Rattle.acpitool_program.specs.declared.command.Wrong.TheVariants.{NoCommand, Unknown, NoFile, NoFileToCheck, NoImage, NoText}
-use Rattle.acpitool_program.specs.declared.command.Wrong.TheVariants.{NoTable, Base, Number, Twice, NoSignature}
+use Rattle.acpitool_program.specs.declared.command.Wrong.TheVariants.{NoCommand, Unknown, Placed, NoFile, NoFileToCheck}
+use Rattle.acpitool_program.specs.declared.command.Wrong.TheVariants.{NoImage, NoText, NoTable, Base, Number, Twice, NoSignature}
 use Rattle.acpitool_program.specs.declared.command.Wrong.TheVariants.{Signature, NoBlock}
 use Rattle.acpitool_program.specs.declared.command.Wrong.TheVariants.{NoPacked, NoFolder, NoTables, NoArchive}
 use Rattle.acpitool_program.specs.declared.command.Wrong.TheVariants.{NoImageFile, NoBase, NoFirst, NoSecond}
@@ -33,10 +34,47 @@ abbrev pub takes : Verb → List ℕ → Bool
 takes verbs.Make word = is_force word
 takes verb word = false
 
+-- the option that asks for JSON
+abbrev pub is_json : List ℕ → Bool
+is_json word = bytes_eq word (codes "--json")
+
+-- the option of `show` that asks for texts without offsets
+abbrev pub is_bare : List ℕ → Bool
+is_bare word = bytes_eq word (codes "--no-offsets")
+
+-- whether a command takes an option right after its own word
+abbrev pub leads : Verb → List ℕ → Bool
+leads verbs.Show word = is_json word || is_bare word
+leads verbs.Check word = is_json word
+leads verbs.Image word = is_json word
+leads verb word = false
+
+-- whether the first word after a command is one of these
+abbrev pub begins_with_json : List (List ℕ) → Bool
+begins_with_json [] = false
+begins_with_json (word ∷ words) = is_json word
+
+abbrev pub begins_with_bare : List (List ℕ) → Bool
+begins_with_bare [] = false
+begins_with_bare (word ∷ words) = is_bare word
+
+abbrev pub begins_with_option : Verb → List (List ℕ) → Bool
+begins_with_option verb [] = false
+begins_with_option verb (word ∷ words) = leads verb word
+
+-- the words after it, or all words
+abbrev pub after_option : Verb → List (List ℕ) → List (List ℕ)
+after_option verb [] = []
+after_option verb (word ∷ words) = if leads verb word then words else word ∷ words
+
+-- the first option among words, but for those that a command takes
+abbrev pub option_in : Verb → List (List ℕ) → Option (List ℕ)
+option_in verb [] = None
+option_in verb (word ∷ words) = if is_option word && not (takes verb word) then Some word else option_in verb words
+
 -- the first option after a command, but for those that it takes
 abbrev pub first_option : Verb → List (List ℕ) → Option (List ℕ)
-first_option verb [] = None
-first_option verb (word ∷ words) = if is_option word && not (takes verb word) then Some word else first_option verb words
+first_option verb words = option_in verb (after_option verb words)
 
 -- whether one of the words is `--force`
 abbrev pub forces : List (List ℕ) → Bool
@@ -101,6 +139,11 @@ abbrev pub files_in : List (List ℕ) → ℕ
 files_in [] = 0
 files_in (word ∷ words) = if is_number word then 0 else suc (files_in words)
 
+-- how many files there are after `show`: after `--json` each word is one
+abbrev pub files_after : List (List ℕ) → ℕ
+files_after words =
+    if begins_with_json words then length (after_option verbs.Show words) else files_in (after_option verbs.Show words)
+
 abbrev pub unstated_by : Option (List ℕ × ℕ) → List ℕ → Option (List ℕ) → Option (List ℕ)
 unstated_by None word others = Some word
 unstated_by (Some number) word others = others
@@ -145,18 +188,32 @@ AreLay more folder file base = (word : List ℕ) × (more ≡ folder ∷ file �
 abbrev pub Asks : List (List ℕ) → Command → Type 0
 Asks words Help = BeginsWithHelp words ⊎ AsksForHelp words
 Asks words Version = (more : List (List ℕ)) × (words ≡ codes "--version" ∷ more)
-Asks words (Show files numbers) =
+Asks words (Show bare files numbers) =
     (more : List (List ℕ))
     × AreAfter verbs.Show words more
-    × (more ≡ map (λ word. string_bytes word) files.now ++ map (λ word. string_bytes word) numbers.now)
-    × (length files.now ≡ files_in more)
-    × (1 ≤ files_in more)
-Asks words (Check files) =
+    × (begins_with_json more ≡ false)
+    × (bare ≡ begins_with_bare more)
+    × (after_option verbs.Show more
+    ≡ map (λ word. string_bytes word) files.now ++ map (λ word. string_bytes word) numbers.now)
+    × (length files.now ≡ files_in (after_option verbs.Show more))
+    × (1 ≤ files_after more)
+Asks words (Json files) =
+    (more : List (List ℕ))
+    × AreAfter verbs.Show words more
+    × (begins_with_json more ≡ true)
+    × (after_option verbs.Show more ≡ map (λ word. string_bytes word) files.now)
+    × (1 ≤ files_after more)
+Asks words (Check json files) =
     (more : List (List ℕ))
     × AreAfter verbs.Check words more
-    × (more ≡ map (λ word. string_bytes word) files.now)
-    × (1 ≤ length more)
-Asks words (Image file base) = (more : List (List ℕ)) × AreAfter verbs.Image words more × AreImage more file.now base
+    × (json ≡ begins_with_json more)
+    × (after_option verbs.Check more ≡ map (λ word. string_bytes word) files.now)
+    × (1 ≤ length (after_option verbs.Check more))
+Asks words (Image json file base) =
+    (more : List (List ℕ))
+    × AreAfter verbs.Image words more
+    × (json ≡ begins_with_json more)
+    × AreImage (after_option verbs.Image more) file.now base
 Asks words (Template signature) =
     (more : List (List ℕ)) × AreAfter verbs.Template words more × (more ≡ signature.now ∷ []) × (length signature.now ≡ 4)
 Asks words (Disassemble file numbers) =
@@ -194,14 +251,15 @@ pub record IsNoCommand (words : List (List ℕ)) (word : List ℕ) : Type 0 wher
   pub no_lay : word ≢ codes "lay"
   pub no_diff : word ≢ codes "diff"
 
--- a word after a command is an option that there isn't
-pub record IsNoOption (words : List (List ℕ)) (word : List ℕ) : Type 0 where
+-- A word after a command is an option that there isn't, or one that the command takes, but only right after its own word.
+pub record IsNoOption (leading : Bool) (words : List (List ℕ)) (word : List ℕ) : Type 0 where
   pub verb : Verb
   pub more : List (List ℕ)
   pub is : words ≡ word_of verb ∷ more
   pub first : first_option verb more ≡ Some word
   pub no_help : word ≢ codes "--help"
   pub no_short_help : word ≢ codes "-h"
+  pub leads : leads verb word ≡ leading
 
 -- a word after `template SIGNATURE`
 pub record IsAfterSignature (words : List (List ℕ)) (word : List ℕ) : Type 0 where
@@ -218,7 +276,7 @@ pub record IsAfterBase (words : List (List ℕ)) (word : List ℕ) : Type 0 wher
   pub file : List ℕ
   pub base : List ℕ
   pub others : List (List ℕ)
-  pub is : more ≡ file ∷ base ∷ word ∷ others
+  pub is : after_option verbs.Image more ≡ file ∷ base ∷ word ∷ others
 
 -- a word after `make TEXT FILE`
 pub record IsAfterFile (words : List (List ℕ)) (word : List ℕ) : Type 0 where
@@ -290,19 +348,22 @@ pub record IsNoBase (words : List (List ℕ)) (word : List ℕ) : Type 0 where
   pub more : List (List ℕ)
   pub after : AreAfter verbs.Image words more
   pub file : List ℕ
-  pub is : more ≡ file ∷ word ∷ []
+  pub is : after_option verbs.Image more ≡ file ∷ word ∷ []
   pub not : (base : ℕ) → ¬ IsAddress word base
 
 -- why words ask for nothing
 abbrev pub IsWrong : List (List ℕ) → Wrong → Type 0
 IsWrong words NoCommand = words ≡ []
 IsWrong words (Unknown word) =
-    IsNoCommand words word.now ⊎ IsNoOption words word.now ⊎ IsAfterBase words word.now ⊎ IsAfterFile words word.now
+    IsNoCommand words word.now ⊎ IsNoOption false words word.now ⊎ IsAfterBase words word.now ⊎ IsAfterFile words word.now
     ⊎ IsAfterUnpacked words word.now ⊎ IsAfterArchive words word.now ⊎ IsAfterLaid words word.now
     ⊎ IsAfterCompared words word.now ⊎ IsAfterSignature words word.now
-IsWrong words NoFile = (more : List (List ℕ)) × AreAfter verbs.Show words more × (files_in more ≡ 0)
-IsWrong words NoFileToCheck = words ≡ codes "check" ∷ []
-IsWrong words NoImage = words ≡ codes "image" ∷ []
+IsWrong words (Placed word) = IsNoOption true words word.now
+IsWrong words NoFile = (more : List (List ℕ)) × AreAfter verbs.Show words more × (files_after more ≡ 0)
+IsWrong words NoFileToCheck =
+    (more : List (List ℕ)) × AreAfter verbs.Check words more × (length (after_option verbs.Check more) ≡ 0)
+IsWrong words NoImage =
+    (more : List (List ℕ)) × AreAfter verbs.Image words more × (length (after_option verbs.Image more) ≡ 0)
 IsWrong words NoSignature = words ≡ codes "template" ∷ []
 IsWrong words NoBlock = (words ≡ codes "disassemble" ∷ []) ⊎ (words ≡ codes "names" ∷ [])
 IsWrong words (Signature word) =

@@ -1,9 +1,13 @@
 -- The tables of an image, and where its pointer is.
-use Rattle.std.specs.Prelude.{◌≡◌, ℕ, ◌+◌, ◌-◌, ◌%◌, ◌^◌, ◌<◌, ◌≤◌, nat_eq, IsTrue, false, if◌then◌else◌, List, [], ◌∷◌, ◌++◌}
+use Rattle.std.specs.Prelude.{◌≡◌, ℕ, ◌+◌, ◌-◌, ◌%◌, ◌^◌, ◌<◌, ◌≤◌, nat_eq, IsTrue, Bool, true, false, if◌then◌else◌}
+use Rattle.std.specs.Prelude.{List, [], ◌∷◌, ◌++◌}
 use Rattle.std.specs.Prelude.{length, map, take, drop, codes, slice_index_or}
 use Rattle.std.specs.Fmt.{decimal, digits}
 use Rattle.std.specs.List.{starts_with}
 use Rattle.std.specs.Str.{bytes_eq}
+use Rattle.acpi_json.specs.Array.{array}
+use Rattle.acpi_json.specs.Finding.{member}
+use Rattle.acpi_json.specs.Text.{string}
 use Rattle.acpi_layout.specs.Found.{IsImage}
 use Rattle.acpi_layout.specs.declared.located.Located.{Located}
 use Rattle.acpi_read.specs.Report.{printable}
@@ -46,6 +50,37 @@ table_line base bytes table =
 abbrev pub table_lines : ℕ → List ℕ → List Located → List ℕ
 table_lines base bytes [] = []
 table_lines base bytes (table ∷ tables) = table_line base bytes table ++ table_lines base bytes tables
+
+-- the members of its object
+unfoldable pub address_member : ℕ → List ℕ
+address_member address = member (codes "{\"address\":") address
+
+unfoldable pub signature_member : List ℕ → List ℕ
+signature_member signature = codes ",\"signature\":" ++ string signature
+
+unfoldable pub length_member : ℕ → List ℕ
+length_member size = codes ",\"length\":" ++ decimal size
+
+unfoldable pub revision_member : ℕ → List ℕ
+revision_member revision = codes ",\"revision\":" ++ decimal revision
+
+-- its object, in a line
+unfoldable pub table_object : ℕ → List ℕ → Located → List ℕ
+table_object base bytes table =
+    address_member table.address
+    ++ signature_member table.signature
+    ++ length_member table.length
+    ++ revision_member (revision_of base bytes table)
+    ++ codes "}\n"
+
+abbrev pub table_objects : ℕ → List ℕ → List Located → List ℕ
+table_objects base bytes [] = []
+table_objects base bytes (table ∷ tables) = table_object base bytes table ++ table_objects base bytes tables
+
+-- what is printed of tables: the array of their objects, or their lines
+abbrev pub tables_text : Bool → ℕ → List ℕ → List Located → List ℕ
+tables_text true base bytes tables = array (table_objects base bytes tables)
+tables_text false base bytes tables = table_lines base bytes tables
 
 -- The bytes are an image from this base on, whose first pointer leads to these tables.
 pub record IsFoundImage (base : ℕ) (bytes : List ℕ) (tables : List Located) : Type 0 where

@@ -1,30 +1,43 @@
 -- What laws say.
-use Rattle.std.specs.Prelude.{◌≡◌, ℕ, Bool, false, List, [], ◌∷◌, map, string_bytes, codes}
+use Rattle.std.specs.Prelude.{◌≡◌, ℕ, Bool, true, false, List, [], ◌∷◌, map, string_bytes, codes}
 use Rattle.acpitool_program.specs.Command.{Asks, IsWrong}
 use Rattle.acpitool_program.specs.declared.command.Command.{Command}
 use Rattle.acpitool_program.specs.declared.command.Command.TheVariants.{Help, Version, Show, Check, Image, Make, Template}
-use Rattle.acpitool_program.specs.declared.command.Command.TheVariants.{Disassemble, Names, Unpack, Cpio, Lay, Diff}
+use Rattle.acpitool_program.specs.declared.command.Command.TheVariants.{Disassemble, Names, Unpack, Cpio, Lay, Diff, Json}
 use Rattle.acpitool_program.specs.declared.command.Wrong.{Wrong}
 
--- what a command contains: its word, its files, folders or signature, the words that state numbers, an address, and `--force`
+-- what a command contains: its word, its files, folders or signature, the words that state numbers, an address, and its option
+-- or nothing
 abbrev pub Content : Type 0
-Content = List ℕ × List (List ℕ) × List (List ℕ) × ℕ × Bool
+Content = List ℕ × List (List ℕ) × List (List ℕ) × ℕ × List ℕ
+
+-- an option, if it is there
+abbrev pub option_if : Bool → List ℕ → List ℕ
+option_if true option = option
+option_if false option = []
 
 abbrev pub content : Command → Content
-content Help = (codes "help", [], [], 0, false)
-content Version = (codes "--version", [], [], 0, false)
-content (Show files numbers) =
-    (codes "show", map (λ word. string_bytes word) files.now, map (λ word. string_bytes word) numbers.now, 0, false)
-content (Check files) = (codes "check", map (λ word. string_bytes word) files.now, [], 0, false)
-content (Image file base) = (codes "image", file.now ∷ [], [], base, false)
-content (Template signature) = (codes "template", signature.now ∷ [], [], 0, false)
-content (Disassemble file numbers) = (codes "disassemble", file.now ∷ [], map (λ word. string_bytes word) numbers.now, 0, false)
-content (Names file numbers) = (codes "names", file.now ∷ [], map (λ word. string_bytes word) numbers.now, 0, false)
-content (Make force text file) = (codes "make", text.now ∷ file.now ∷ [], [], 0, force)
-content (Unpack file folder base) = (codes "unpack", file.now ∷ folder.now ∷ [], [], base, false)
-content (Cpio folder file) = (codes "cpio", folder.now ∷ file.now ∷ [], [], 0, false)
-content (Lay folder file base) = (codes "lay", folder.now ∷ file.now ∷ [], [], base, false)
-content (Diff first second) = (codes "diff", first.now ∷ second.now ∷ [], [], 0, false)
+content Help = (codes "help", [], [], 0, [])
+content Version = (codes "--version", [], [], 0, [])
+content (Show bare files numbers) = (
+  codes "show",
+  map (λ word. string_bytes word) files.now,
+  map (λ word. string_bytes word) numbers.now,
+  0,
+  option_if bare (codes "--no-offsets"),
+)
+content (Json files) = (codes "show", map (λ word. string_bytes word) files.now, [], 0, codes "--json")
+content (Check json files) =
+    (codes "check", map (λ word. string_bytes word) files.now, [], 0, option_if json (codes "--json"))
+content (Image json file base) = (codes "image", file.now ∷ [], [], base, option_if json (codes "--json"))
+content (Template signature) = (codes "template", signature.now ∷ [], [], 0, [])
+content (Disassemble file numbers) = (codes "disassemble", file.now ∷ [], map (λ word. string_bytes word) numbers.now, 0, [])
+content (Names file numbers) = (codes "names", file.now ∷ [], map (λ word. string_bytes word) numbers.now, 0, [])
+content (Make force text file) = (codes "make", text.now ∷ file.now ∷ [], [], 0, option_if force (codes "--force"))
+content (Unpack file folder base) = (codes "unpack", file.now ∷ folder.now ∷ [], [], base, [])
+content (Cpio folder file) = (codes "cpio", folder.now ∷ file.now ∷ [], [], 0, [])
+content (Lay folder file base) = (codes "lay", folder.now ∷ file.now ∷ [], [], base, [])
+content (Diff first second) = (codes "diff", first.now ∷ second.now ∷ [], [], 0, [])
 
 -- words ask for at most one command
 abbrev pub AskForOne : Type 0

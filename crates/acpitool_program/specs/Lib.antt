@@ -1,5 +1,6 @@
 pub mod Check
 pub mod Fault
+pub mod Offsets
 pub mod Text
 pub mod Structures
 pub mod Terms
@@ -10,6 +11,7 @@ pub mod Hint
 pub mod Making
 pub mod Job
 pub mod Checked
+pub mod Object
 pub mod Unpacking
 pub mod Archiving
 pub mod Laying

@@ -1,5 +1,5 @@
 -- What is printed of an image.
-use Rattle.std.specs.Prelude.{◌≡◌, ◌≢◌, ◌⊎◌, ℕ, ◌+◌, ◌%◌, ◌^◌, ◌==◌, List, [], ◌∷◌, ◌++◌, Option, codes}
+use Rattle.std.specs.Prelude.{◌≡◌, ◌≢◌, ◌⊎◌, ℕ, ◌+◌, ◌%◌, ◌^◌, ◌==◌, Bool, List, [], ◌∷◌, ◌++◌, Option, codes}
 use Rattle.std.specs.Prelude.{if◌then◌else◌, slice_index}
 use Rattle.std.specs.Fmt.{decimal}
 use Rattle.std.specs.Io.KnownBytes.{Keeps, Appends}
@@ -8,7 +8,7 @@ use Rattle.acpi_layout.specs.FaultText.{hexadecimal, wrong_at, text_of}
 use Rattle.acpi_layout.specs.declared.fault.ImageFault.{ImageFault}
 use Rattle.acpi_layout.specs.declared.fault.ImageFault.TheVariants.{Memory, Outside}
 use Rattle.acpi_layout.specs.declared.located.Located.{Located}
-use Rattle.acpitool_program.specs.Image.{HasNoPointer, IsFirstPointer, IsFoundImage, table_lines}
+use Rattle.acpitool_program.specs.Image.{HasNoPointer, IsFirstPointer, IsFoundImage, tables_text}
 use Rattle.acpitool_program.specs.declared.image.NoImage.{NoImage}
 use Rattle.acpitool_program.specs.declared.image.NoImage.TheVariants.{NoPointer, Old, Away, Wrong}
 
@@ -46,11 +46,11 @@ why base (Old at revision) =
 why base (Away address) = text_of (Outside address) ++ is_base_right base address
 why base (Wrong fault) = text_of fault
 
--- the bytes are an image, and a line for each of its tables was printed
-pub record ListedTables (base : ℕ) (bytes : List ℕ) (out out' err err' : Option (List ℕ)) (status : ℕ) : Type 0 where
+-- the bytes are an image, and its tables were printed: as JSON, or a line for each
+pub record ListedTables (json : Bool) (base : ℕ) (bytes : List ℕ) (out out' err err' : Option (List ℕ)) (status : ℕ) : Type 0 where
   pub tables : List Located
   pub found : IsFoundImage base bytes tables
-  pub wrote : Appends out out' (table_lines base bytes tables)
+  pub wrote : Appends out out' (tables_text json base bytes tables)
   pub silent : Keeps err err'
   pub is : status ≡ 0
 
@@ -63,9 +63,9 @@ pub record NotListed (file : List ℕ) (base : ℕ) (bytes : List ℕ) (out out'
   pub is : status ≡ 1
 
 -- what comes of the bytes of a file
-abbrev pub ListedBytes : List ℕ → ℕ → List ℕ → Option (List ℕ) → Option (List ℕ) → Option (List ℕ) → Option (List ℕ) → ℕ → Type 0
-ListedBytes file base bytes out out' err err' status =
-    ListedTables base bytes out out' err err' status ⊎ NotListed file base bytes out out' err err' status
+abbrev pub ListedBytes : Bool → List ℕ → ℕ → List ℕ → Option (List ℕ) → Option (List ℕ) → Option (List ℕ) → Option (List ℕ) → ℕ → Type 0
+ListedBytes json file base bytes out out' err err' status =
+    ListedTables json base bytes out out' err err' status ⊎ NotListed file base bytes out out' err err' status
 
 -- the file can't be read, and a line says why
 pub record NotRead (file : List ℕ) (out out' err err' : Option (List ℕ)) (status : ℕ) : Type 0 where
@@ -75,6 +75,6 @@ pub record NotRead (file : List ℕ) (out out' err err' : Option (List ℕ)) (st
   pub is : status ≡ 2
 
 -- what comes of a file: the system says which bytes it has
-abbrev pub Listed : List ℕ → ℕ → Option (List ℕ) → Option (List ℕ) → Option (List ℕ) → Option (List ℕ) → ℕ → Type 0
-Listed file base out out' err err' status =
-    ((bytes : List ℕ) × ListedBytes file base bytes out out' err err' status) ⊎ NotRead file out out' err err' status
+abbrev pub Listed : Bool → List ℕ → ℕ → Option (List ℕ) → Option (List ℕ) → Option (List ℕ) → Option (List ℕ) → ℕ → Type 0
+Listed json file base out out' err err' status =
+    ((bytes : List ℕ) × ListedBytes json file base bytes out out' err err' status) ⊎ NotRead file out out' err err' status

@@ -9,24 +9,27 @@ use Rattle.acpi_text.specs.Comment.{comment}
 use Rattle.acpi_forms.specs.Kind.{kind_of}
 use Rattle.acpi_read.specs.Report.{printable}
 use Rattle.acpi_rules.specs.Finding.{Finding}
-use Rattle.acpitool_program.specs.Checked.{AreFindings, finding_lines, finding_status}
+use Rattle.acpitool_program.specs.Checked.{AreFindings, printed_findings, finding_status}
 use Rattle.acpitool_program.specs.Fault.{line_of}
-use Rattle.acpitool_program.specs.Job.{Job, shows, checks}
+use Rattle.acpitool_program.specs.Job.{Job, shows, checks, lists}
+use Rattle.acpitool_program.specs.Object.{IsObject}
 use Rattle.acpitool_program.specs.Structures.{HasFault}
 use Rattle.acpitool_program.specs.Terms.{IsAfter}
-use Rattle.acpitool_program.specs.Text.{IsText, IsTextFault}
+use Rattle.acpitool_program.specs.Text.{IsTextAs, IsTextFault}
 use Rattle.acpitool_program.specs.declared.fault.Fault.{Fault}
 
 -- What comes of a table or of a file that has a name:
 -- - shown: the text of its bytes, after its name if it is one of several, and before further lines, and a fault of its
 --   structures, if there is one;
--- - checked: the rules that its bytes break, and a fault of its structures, if there is one;
+-- - checked: the rules that its bytes break, as JSON or as text, and a fault of its structures, if there is one;
+-- - listed: the object of its bytes, which has a line, and a fault of its structures, if there is one;
 -- - refused: its bytes aren't what their signature says;
 -- - broken: it is a dump as text, with a line that can't be read;
 -- - unread: it can't be read, and the system says why.
 pub data Outcome : Type 0 where
   shown : Bool → List ℕ → List ℕ → List ℕ → List ℕ → Option Fault → Outcome
-  checked : List ℕ → List ℕ → List Finding → Option Fault → Outcome
+  checked : Bool → List ℕ → List ℕ → List Finding → Option Fault → Outcome
+  listed : List ℕ → List ℕ → List ℕ → Option Fault → Outcome
   refused : List ℕ → List ℕ → Fault → Outcome
   broken : List ℕ → List ℕ → DumpFault → Outcome
   unread : List ℕ → List ℕ → Outcome
@@ -39,7 +42,8 @@ heading false name = []
 -- what goes to standard output
 abbrev pub output : Outcome → List ℕ
 output (shown several name bytes text after fault) = heading several name ++ text ++ after
-output (checked name bytes findings fault) = finding_lines name bytes findings
+output (checked json name bytes findings fault) = printed_findings json name bytes findings
+output (listed name bytes object fault) = object ++ 10 ∷ []
 output (refused name bytes fault) = []
 output (broken name dump fault) = []
 output (unread name why) = []
@@ -52,7 +56,8 @@ fault_line name (Some fault) = name ++ codes ": " ++ line_of fault ++ 10 ∷ []
 -- what goes to standard error
 abbrev pub complaint : Outcome → List ℕ
 complaint (shown several name bytes text after fault) = fault_line name fault
-complaint (checked name bytes findings fault) = fault_line name fault
+complaint (checked json name bytes findings fault) = fault_line name fault
+complaint (listed name bytes object fault) = fault_line name fault
 complaint (refused name bytes fault) = fault_line name (Some fault)
 complaint (broken name dump fault) = name ++ codes ": " ++ text_of fault ++ 10 ∷ []
 complaint (unread name why) = name ++ codes ": " ++ why ++ 10 ∷ []
@@ -63,26 +68,39 @@ fault_status (Some fault) = 1
 
 abbrev pub status : Outcome → ℕ
 status (shown several name bytes text after fault) = fault_status fault
-status (checked name bytes findings fault) = max (finding_status findings) (fault_status fault)
+status (checked json name bytes findings fault) = max (finding_status findings) (fault_status fault)
+status (listed name bytes object fault) = fault_status fault
 status (refused name bytes fault) = 1
 status (broken name dump fault) = 1
 status (unread name why) = 2
 
--- The text shows the bytes, and a definition block's terms follow, in which names take the stated numbers of arguments.
+-- The text shows the bytes, with or without the offsets of its lines, and a definition block's terms follow, in which names take
+-- the stated numbers of arguments.
 abbrev pub IsTextFor : Job → List ℕ → List ℕ → List ℕ → Type 0
-IsTextFor (shows stated) bytes text after = IsText bytes text × IsAfter stated bytes after
-IsTextFor checks bytes text after = ⊥
+IsTextFor (shows bare stated) bytes text after = IsTextAs bare bytes text × IsAfter stated bytes after
+IsTextFor (checks json) bytes text after = ⊥
+IsTextFor lists bytes text after = ⊥
 
--- These are the rules that the bytes break.
-abbrev pub AreFindingsFor : Job → List ℕ → List Finding → Type 0
-AreFindingsFor (shows stated) bytes found = ⊥
-AreFindingsFor checks bytes found = AreFindings bytes found
+-- These are the rules that the bytes break, and they are printed as it was asked for.
+abbrev pub AreFindingsFor : Job → Bool → List ℕ → List Finding → Type 0
+AreFindingsFor (shows bare stated) json bytes found = ⊥
+AreFindingsFor (checks asked) json bytes found = (json ≡ asked) × AreFindings bytes found
+AreFindingsFor lists json bytes found = ⊥
 
--- A table is shown or checked, as it was asked for. The fault is one of the structures or of the bytes, or the first of a dump.
+-- This is the object of the bytes in a file of this name.
+abbrev pub IsObjectFor : Job → List ℕ → List ℕ → List ℕ → Type 0
+IsObjectFor (shows bare stated) name bytes object = ⊥
+IsObjectFor (checks json) name bytes object = ⊥
+IsObjectFor lists name bytes object = IsObject name bytes object
+
+-- A table is shown, checked or listed, as it was asked for. The fault is one of the structures or of the bytes, or the first of
+-- a dump.
 abbrev pub IsTrueOutcome : Job → Outcome → Type 0
 IsTrueOutcome job (shown several name bytes text after fault) =
     IsTextFor job bytes text after × HasFault (kind_of bytes) bytes fault
-IsTrueOutcome job (checked name bytes found fault) = AreFindingsFor job bytes found × HasFault (kind_of bytes) bytes fault
+IsTrueOutcome job (checked json name bytes found fault) =
+    AreFindingsFor job json bytes found × HasFault (kind_of bytes) bytes fault
+IsTrueOutcome job (listed name bytes object fault) = IsObjectFor job name bytes object × HasFault (kind_of bytes) bytes fault
 IsTrueOutcome job (refused name bytes fault) = IsTextFault bytes fault
 IsTrueOutcome job (broken name dump fault) = tables_of dump ≡ Err fault
 IsTrueOutcome job (unread name why) = Unit {0}
@@ -119,7 +137,8 @@ pub record Printed (job : Job) (outcomes : List Outcome)
 -- the outcome is that of these bytes
 abbrev pub HasBytes : List ℕ → Outcome → Type 0
 HasBytes bytes (shown several name its text after fault) = its ≡ bytes
-HasBytes bytes (checked name its found fault) = its ≡ bytes
+HasBytes bytes (checked json name its found fault) = its ≡ bytes
+HasBytes bytes (listed name its object fault) = its ≡ bytes
 HasBytes bytes (refused name its fault) = its ≡ bytes
 HasBytes bytes (broken name dump fault) = ⊥
 HasBytes bytes (unread name why) = ⊥
@@ -127,7 +146,8 @@ HasBytes bytes (unread name why) = ⊥
 -- the outcome has this name, and is that of one of several or not
 abbrev pub IsNamed : Bool → List ℕ → Outcome → Type 0
 IsNamed several name (shown headed its bytes text after fault) = (headed ≡ several) × (its ≡ name)
-IsNamed several name (checked its bytes found fault) = its ≡ name
+IsNamed several name (checked json its bytes found fault) = its ≡ name
+IsNamed several name (listed its bytes object fault) = its ≡ name
 IsNamed several name (refused its bytes fault) = its ≡ name
 IsNamed several name (broken its dump fault) = its ≡ name
 IsNamed several name (unread its why) = its ≡ name

@@ -12,7 +12,8 @@ use Rattle.acpitool_program.specs.Command.{Asks, IsWrong, IsMisstated}
 use Rattle.acpitool_program.specs.Archiving.{Archives}
 use Rattle.acpitool_program.specs.Comparing.{Compares}
 use Rattle.acpitool_program.specs.Disassembly.{DisassemblesFile}
-use Rattle.acpitool_program.specs.Job.{shows, checks}
+use Rattle.acpi_json.specs.Array.{array}
+use Rattle.acpitool_program.specs.Job.{Job, shows, checks, lists}
 use Rattle.acpitool_program.specs.Laying.{LaysFolder}
 use Rattle.acpitool_program.specs.Listing.{Listed}
 use Rattle.acpitool_program.specs.Making.{Makes}
@@ -20,13 +21,13 @@ use Rattle.acpitool_program.specs.Outcome.{AreOfEach, AreOfWord, PrintedAs}
 use Rattle.acpitool_program.specs.Unpacking.{Unpacks}
 use Rattle.acpitool_program.specs.declared.command.Command.{Command}
 use Rattle.acpitool_program.specs.declared.command.Command.TheVariants.{Help, Version, Show, Check, Image, Make, Template}
-use Rattle.acpitool_program.specs.declared.command.Command.TheVariants.{Disassemble, Names, Unpack, Cpio, Lay, Diff}
+use Rattle.acpitool_program.specs.declared.command.Command.TheVariants.{Disassemble, Names, Unpack, Cpio, Lay, Diff, Json}
 use Rattle.acpitool_program.specs.declared.command.Misstated.TheVariants as misstated
 use Rattle.acpi_asl.specs.declared.block.BlockText.{BlockText}
 use Rattle.acpi_asl.specs.declared.block.BlockText.TheVariants as blocks
 use Rattle.acpitool_program.specs.declared.command.Wrong.{Wrong}
-use Rattle.acpitool_program.specs.declared.command.Wrong.TheVariants.{NoCommand, Unknown, NoFile, NoFileToCheck, NoImage, NoText}
-use Rattle.acpitool_program.specs.declared.command.Wrong.TheVariants.{NoTable, Base, Number, Twice, NoSignature}
+use Rattle.acpitool_program.specs.declared.command.Wrong.TheVariants.{NoCommand, Unknown, Placed, NoFile, NoFileToCheck}
+use Rattle.acpitool_program.specs.declared.command.Wrong.TheVariants.{NoImage, NoText, NoTable, Base, Number, Twice, NoSignature}
 use Rattle.acpitool_program.specs.declared.command.Wrong.TheVariants.{Signature, NoBlock}
 use Rattle.acpitool_program.specs.declared.command.Wrong.TheVariants.{NoPacked, NoFolder, NoTables, NoArchive}
 use Rattle.acpitool_program.specs.declared.command.Wrong.TheVariants.{NoImageFile, NoBase, NoFirst, NoSecond}
@@ -35,8 +36,10 @@ use Rattle.acpitool_program.specs.declared.command.Wrong.TheVariants.{NoImageFil
 
 abbrev pub usage : List ℕ
 usage =
-    codes "usage: acpitool show FILE .. [NAME=N ..] | check FILE .. | diff FILE FILE | disassemble FILE [NAME=N ..]"
-    ++ codes " | names FILE [NAME=N ..] | image FILE [BASE] | make [--force] TEXT FILE | template SIGNATURE"
+    codes "usage: acpitool show [--no-offsets] FILE .. [NAME=N ..] | show --json FILE .. | check [--json] FILE .."
+    ++ codes " | diff FILE FILE"
+    ++ codes " | disassemble FILE [NAME=N ..] | names FILE [NAME=N ..] | image [--json] FILE [BASE]"
+    ++ codes " | make [--force] TEXT FILE | template SIGNATURE"
     ++ codes " | unpack FILE FOLDER [BASE] | cpio FOLDER FILE | lay FOLDER FILE BASE | --help | --version\n"
 
 abbrev pub version : List ℕ
@@ -46,6 +49,7 @@ version = codes "acpitool 0.1.0\n"
 abbrev pub wrong_line : Wrong → List ℕ
 wrong_line NoCommand = codes "acpitool: no command\n"
 wrong_line (Unknown word) = codes "acpitool: unknown word " ++ word.now ++ codes "\n"
+wrong_line (Placed word) = codes "acpitool: at most one option, right after the command: " ++ word.now ++ codes "\n"
 wrong_line NoFile = codes "acpitool: no file to show\n"
 wrong_line NoFileToCheck = codes "acpitool: no file to check\n"
 wrong_line NoImage = codes "acpitool: no file with an image\n"
@@ -71,11 +75,13 @@ wrong_text wrong = wrong_line wrong ++ usage
 
 -- ---- show
 
--- words state these numbers of arguments, and each file has its outcomes, which are those of several if there are more files
-pub record AreShown (files numbers : List (List ℕ)) (out out' err err' : Option (List ℕ)) (status : ℕ) : Type 0 where
+-- Words state these numbers of arguments, and each file has its outcomes, which are those of several if there are more files. The
+-- lines of texts have no offsets if this is asked for.
+pub record AreShown (bare : Bool) (files numbers : List (List ℕ))
+    (out out' err err' : Option (List ℕ)) (status : ℕ) : Type 0 where
   pub all : List (List ℕ × ℕ)
   pub stated : stated numbers ≡ Some all
-  pub printed : PrintedAs (shows all) (AreOfEach (AreOfWord (nat_lt 1 (length files))) files) out out' err err' status
+  pub printed : PrintedAs (shows bare all) (AreOfEach (AreOfWord (nat_lt 1 (length files))) files) out out' err err' status
 
 -- which line says that words state no numbers
 abbrev pub IsMisstatedAs : List (List ℕ) → Wrong → Type 0
@@ -91,17 +97,27 @@ pub record NotStated (numbers : List (List ℕ)) (out out' err err' : Option (Li
   pub complained : Appends err err' (wrong_text wrong)
   pub silent : Keeps out out'
 
-abbrev pub IsShown : List (List ℕ) → List (List ℕ)
+abbrev pub IsShown : Bool → List (List ℕ) → List (List ℕ)
     → Option (List ℕ) → Option (List ℕ) → Option (List ℕ) → Option (List ℕ) → ℕ → Type 0
-IsShown files numbers out out' err err' status =
-    AreShown files numbers out out' err err' status ⊎ NotStated numbers out out' err err' status
+IsShown bare files numbers out out' err err' status =
+    AreShown bare files numbers out out' err err' status ⊎ NotStated numbers out out' err err' status
+
+-- ---- JSON
+
+-- each file has its outcomes, whose objects are printed as an array
+pub record AreListed (job : Job) (files : List (List ℕ)) (out out' err err' : Option (List ℕ)) (status : ℕ) : Type 0 where
+  pub lines : List ℕ
+  pub listed : PrintedAs job (AreOfEach (AreOfWord (nat_lt 1 (length files))) files) (Some []) (Some lines) err err' status
+  pub wrote : Appends out out' (array lines)
 
 -- ---- check
 
--- each file has its outcomes
-abbrev pub AreChecked : List (List ℕ) → Option (List ℕ) → Option (List ℕ) → Option (List ℕ) → Option (List ℕ) → ℕ → Type 0
-AreChecked files out out' err err' status =
-    PrintedAs checks (AreOfEach (AreOfWord (nat_lt 1 (length files))) files) out out' err err' status
+-- each file has its outcomes, whose objects are printed as an array if JSON is asked for
+abbrev pub AreChecked : Bool → List (List ℕ)
+    → Option (List ℕ) → Option (List ℕ) → Option (List ℕ) → Option (List ℕ) → ℕ → Type 0
+AreChecked true files out out' err err' status = AreListed (checks true) files out out' err err' status
+AreChecked false files out out' err err' status =
+    PrintedAs (checks false) (AreOfEach (AreOfWord (nat_lt 1 (length files))) files) out out' err err' status
 
 -- ---- disassemble and names
 
@@ -144,10 +160,14 @@ IsTemplated false signature out out' err err' status =
 abbrev pub IsDone : Command → Option (List ℕ) → Option (List ℕ) → Option (List ℕ) → Option (List ℕ) → ℕ → Type 0
 IsDone Help out out' err err' status = (more : List ℕ) × (status ≡ 0) × Appends out out' (usage ++ more) × Keeps err err'
 IsDone Version out out' err err' status = (status ≡ 0) × Appends out out' version × Keeps err err'
-IsDone (Show files numbers) out out' err err' status =
-    IsShown (map (λ word. string_bytes word) files.now) (map (λ word. string_bytes word) numbers.now) out out' err err' status
-IsDone (Check files) out out' err err' status = AreChecked (map (λ word. string_bytes word) files.now) out out' err err' status
-IsDone (Image file base) out out' err err' status = Listed file.now base out out' err err' status
+IsDone (Show bare files numbers) out out' err err' status =
+    IsShown bare (map (λ word. string_bytes word) files.now) (map (λ word. string_bytes word) numbers.now)
+    out out' err err' status
+IsDone (Json files) out out' err err' status =
+    AreListed lists (map (λ word. string_bytes word) files.now) out out' err err' status
+IsDone (Check json files) out out' err err' status =
+    AreChecked json (map (λ word. string_bytes word) files.now) out out' err err' status
+IsDone (Image json file base) out out' err err' status = Listed json file.now base out out' err err' status
 IsDone (Template signature) out out' err err' status =
     IsTemplated (is_known signature.now) signature.now out out' err err' status
 IsDone (Disassemble file numbers) out out' err err' status =

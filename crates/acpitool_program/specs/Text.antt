@@ -1,5 +1,5 @@
 -- The text of a file's bytes.
-use Rattle.std.specs.Prelude.{◌≢◌, ℕ, List}
+use Rattle.std.specs.Prelude.{◌≡◌, ◌≢◌, ℕ, Bool, true, false, List, []}
 use Rattle.acpi_base.specs.Table.{IsTrueTable}
 use Rattle.acpi_forms.specs.Kind.{kind_of, IsTextBy}
 use Rattle.acpi_make.specs.declared.file_kind.FileKind.{FileKind}
@@ -8,6 +8,7 @@ use Rattle.acpi_term.specs.declared.read_error.ReadError.{ReadError}
 use Rattle.acpi_term.specs.declared.read_error.ReadError.TheVariants.{Memory}
 use Rattle.acpitool_program.specs.Check.{IsPointer, IsControl}
 use Rattle.acpitool_program.specs.Fault.{IsFaultOf}
+use Rattle.acpitool_program.specs.Offsets.{without_offsets}
 use Rattle.acpitool_program.specs.declared.fault.Fault.{Fault}
 
 -- bytes are what their signature says
@@ -20,6 +21,11 @@ IsKind Table bytes = IsTrueTable bytes
 pub record IsText (bytes text : List ℕ) : Type 0 where
   pub kind : IsKind (kind_of bytes) bytes
   pub is : IsTextBy (kind_of bytes) bytes text
+
+-- the text, with or without the offsets of its lines
+abbrev pub IsTextAs : Bool → List ℕ → List ℕ → Type 0
+IsTextAs false bytes text = IsText bytes text
+IsTextAs true bytes text = (whole : List ℕ) × IsText bytes whole × (text ≡ without_offsets [] whole)
 
 -- bytes aren't what their signature says, and a fault says why, or memory ran out
 pub record IsTextFault (bytes : List ℕ) (fault : Fault) : Type 0 where

@@ -6,6 +6,7 @@ ghost use Rattle.acpi_base.specs.FurtherWalk.{table_walk_of};
 ghost use Rattle.acpi_forms.specs.Named.{Named, IsNamed, names_of, rsdp_names, facs_names};
 ghost use Rattle.acpi_rules.specs.Finding.{noted};
 ghost use Rattle.acpitool_program.specs.Checked.{AreByForm, AreFindings, finding_line, finding_lines, finding_status};
+ghost use Rattle.acpitool_program.specs.Checked.{object_line, finding_objects, printed_findings};
 ghost use Rattle.acpi_term.specs.declared.read_error.ReadError.TheVariants.{Memory};
 ghost use Rattle.acpi_make.specs.declared.file_kind.FileKind.TheVariants as kinds;
 ghost use Rattle.acpitool_program.specs.Fault.{IsFaultOf};
@@ -17,6 +18,7 @@ use acpi_base::further_walk::table_walk_of;
 use acpi_base::walk::Walk;
 use acpi_forms::form::{facs_form, form_of, rsdp_form};
 use acpi_forms::kind::kind_of;
+use acpi_json::finding::push_finding as push_finding_object;
 use acpi_make::file_kind::FileKind;
 use acpi_read::pieces::signature_number;
 use acpi_read::report::push_shown;
@@ -127,8 +129,8 @@ fn push_line(
     text.push_str("\n")
 }
 
-/// Returns the lines of the findings of bytes in a file of this name.
-pub fn lines_of(
+// Returns the lines of the findings of bytes in a file of this name.
+fn lines_of(
     alloc: Global,
     name: &str,
     bytes: &[u8],
@@ -142,6 +144,55 @@ pub fn lines_of(
         push_line(name, signature, finding, &mut text)?;
     }
     Ok(text)
+}
+
+// Adds the object of a finding, and the end of its line.
+#[tactic(auto, unfolding(crate::specs::Checked::object_line))]
+fn push_object(
+    name: &str,
+    signature: &[u8],
+    finding: &Finding<'_>,
+    text: &mut Vec<u8>,
+) -> Result<(), AllocError>
+    ensures { OnOk result (text.new.items ≡ text.old.items ++ object_line name.now signature.now (noted finding.now)) }
+{
+    push_finding_object(name, signature, finding, text)?;
+    text.push(b'\n')?;
+    Ok(())
+}
+
+// Returns the objects of the findings of bytes in a file of this name, each in a line.
+fn objects_of(
+    alloc: Global,
+    name: &str,
+    bytes: &[u8],
+    findings: &[Finding<'_>],
+) -> Result<Vec<u8>, AllocError>
+    ensures { IfOk result (λ text. text.items ≡ finding_objects name.now bytes.now (map noted findings.now)) }
+{
+    let signature = signature_of(bytes);
+    let mut text = Vec::new(alloc);
+    'findings: for finding in findings {
+        push_object(name, signature, finding, &mut text)?;
+    }
+    Ok(text)
+}
+
+/// Returns what is printed of the findings of bytes in a file of this name: objects of JSON, or lines.
+pub fn printed_of(
+    alloc: Global,
+    json: bool,
+    name: &str,
+    bytes: &[u8],
+    findings: &[Finding<'_>],
+) -> Result<Vec<u8>, AllocError>
+    ensures { IfOk result (λ text. text.items ≡ printed_findings json name.now bytes.now (map noted findings.now)) }
+{
+    if json {
+        return objects_of(alloc, name, bytes, findings);
+    }
+    let lines = lines_of(alloc, name, bytes, findings)?;
+    Ok(lines.into_bytes())
 }
 
 /// Returns 0 if there are no findings, and 1 otherwise.

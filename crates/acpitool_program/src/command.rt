@@ -5,7 +5,9 @@ ghost use Rattle.std.specs.List.{slice_get};
 ghost use Rattle.std.specs.Prelude.{MatchResult, MatchOption, IfOk, None, Some};
 ghost use Rattle.std.specs.List.{starts_with};
 ghost use Rattle.acpi_input.specs.Stated.{stated};
-ghost use Rattle.acpitool_program.specs.Command.{is_option, is_force, takes, first_option, forces, unforced, has, is_number};
+ghost use Rattle.acpitool_program.specs.Command.{is_option, is_force, is_json, is_bare, leads, begins_with_json};
+ghost use Rattle.acpitool_program.specs.Command.{begins_with_bare, begins_with_option, after_option, takes, option_in};
+ghost use Rattle.acpitool_program.specs.Command.{first_option, forces, unforced, has, is_number};
 ghost use Rattle.acpitool_program.specs.Command.{files_in, first_unstated, IsMisstated};
 ghost use Rattle.acpitool_program.specs.Command.{word_of, IsAddress, Asks, IsWrong};
 ghost use Rattle.acpitool_program.specs.declared.command.Verb.TheVariants as verbs;
@@ -21,13 +23,17 @@ pub enum Command<'a> {
     Help,
     /// `--version`: its version.
     Version,
-    /// `show FILE .. [NAME=N ..]`: the texts of tables in files, in folders, or on standard input where the word is `-`, and the
-    /// words that state numbers of arguments.
-    Show(&'a [String], &'a [String]),
-    /// `check FILE ..`: the rules that tables in files, in folders, or on standard input where the word is `-`, break.
-    Check(&'a [String]),
-    /// `image FILE [BASE]`: the tables of an image in a file, which begins at the physical address BASE in hexadecimal, or at 0.
-    Image(&'a str, u64),
+    /// `show [--no-offsets] FILE .. [NAME=N ..]`: the texts of tables in files, in folders, or on standard input where the word
+    /// is `-`, and the words that state numbers of arguments. `--no-offsets` is there or not.
+    Show(bool, &'a [String], &'a [String]),
+    /// `show --json FILE ..`: these tables as JSON.
+    Json(&'a [String]),
+    /// `check [--json] FILE ..`: the rules that tables in files, in folders, or on standard input where the word is `-`, break.
+    /// `--json` is there or not.
+    Check(bool, &'a [String]),
+    /// `image [--json] FILE [BASE]`: the tables of an image in a file, which begins at the physical address BASE in hexadecimal,
+    /// or at 0. `--json` is there or not.
+    Image(bool, &'a str, u64),
     /// `make [--force] TEXT FILE`: the table of a text, which goes to a file. `--force` is there or not.
     Make(bool, &'a str, &'a str),
     /// `template SIGNATURE`: a text of a table of the signature, for a start.
@@ -73,6 +79,8 @@ pub enum Wrong<'a> {
     NoCommand,
     /// The word isn't a command or an option.
     Unknown(&'a str),
+    /// The word is an option that doesn't stand right after its command, or not alone.
+    Placed(&'a str),
     /// `show` has no file.
     NoFile,
     /// `check` has no file.
@@ -150,10 +158,77 @@ fn takes(verb: Verb, word: &str) -> bool
     }
 }
 
-// Returns the first option among words after a command, but for those that it takes.
-fn first_option(verb: Verb, words: &[String]) -> Option<&str>
-    ensures { MatchOption result (first_option verb (map (λ word. string_bytes word) words.now) ≡ None)
-        (λ word. first_option verb (map (λ word. string_bytes word) words.now) ≡ Some word.now) }
+// Returns whether a word is `--json`.
+fn is_json(word: &str) -> bool
+    ensures { result ≡ is_json word.now }
+{
+    word == "--json"
+}
+
+// Returns whether a word is `--no-offsets`.
+fn is_bare(word: &str) -> bool
+    ensures { result ≡ is_bare word.now }
+{
+    word == "--no-offsets"
+}
+
+// Returns whether the first word is `--json`.
+fn begins_with_json(words: &[String]) -> bool
+    ensures { result ≡ begins_with_json (map (λ word. string_bytes word) words.now) }
+{
+    match words {
+        [] => false,
+        [word, ..] => is_json(word.as_str()),
+    }
+}
+
+// Returns whether the first word is `--no-offsets`.
+fn begins_with_bare(words: &[String]) -> bool
+    ensures { result ≡ begins_with_bare (map (λ word. string_bytes word) words.now) }
+{
+    match words {
+        [] => false,
+        [word, ..] => is_bare(word.as_str()),
+    }
+}
+
+// Returns whether a word is an option that a command takes right after its own word.
+fn leads(verb: Verb, word: &str) -> bool
+    ensures { result ≡ leads verb word.now }
+{
+    match verb {
+        Verb::Show => is_json(word) || is_bare(word),
+        Verb::Check | Verb::Image => is_json(word),
+        Verb::Make | Verb::Template | Verb::Disassemble => false,
+        Verb::Names | Verb::Unpack | Verb::Cpio | Verb::Lay | Verb::Diff => false,
+    }
+}
+
+// Returns whether the first word is such an option.
+fn begins_with_option(verb: Verb, words: &[String]) -> bool
+    ensures { result ≡ begins_with_option verb (map (λ word. string_bytes word) words.now) }
+{
+    match words {
+        [] => false,
+        [word, ..] => leads(verb, word.as_str()),
+    }
+}
+
+// Returns the words after such an option, or all words if the first isn't one.
+fn after_option(verb: Verb, words: &[String]) -> &[String]
+    ensures { map (λ word. string_bytes word) result.now ≡ after_option verb (map (λ word. string_bytes word) words.now) }
+{
+    if begins_with_option(verb, words) {
+        &words[1..]
+    } else {
+        words
+    }
+}
+
+// Returns the first option among words, but for those that a command takes.
+fn option_in(verb: Verb, words: &[String]) -> Option<&str>
+    ensures { MatchOption result (option_in verb (map (λ word. string_bytes word) words.now) ≡ None)
+        (λ word. option_in verb (map (λ word. string_bytes word) words.now) ≡ Some word.now) }
 {
     for word in words {
         if is_option(word.as_bytes()) && !takes(verb, word.as_str()) {
@@ -161,6 +236,14 @@ fn first_option(verb: Verb, words: &[String]) -> Option<&str>
         }
     }
     None
+}
+
+// Returns the first option among words after a command, but for those that it takes.
+fn first_option(verb: Verb, words: &[String]) -> Option<&str>
+    ensures { MatchOption result (first_option verb (map (λ word. string_bytes word) words.now) ≡ None)
+        (λ word. first_option verb (map (λ word. string_bytes word) words.now) ≡ Some word.now) }
+{
+    option_in(verb, after_option(verb, words))
 }
 
 // Returns whether one of the words is `--force`.
@@ -232,12 +315,19 @@ fn show(words: &[String]) -> Result<Command<'_>, Wrong<'_>>
     ensures { (all : List (List ℕ)) → all ≡ codes "show" ∷ map (λ word. string_bytes word) words.now
         → MatchResult result (Asks all) (IsWrong all) }
 {
-    let count = files_in(words);
+    let rest = after_option(Verb::Show, words);
+    if begins_with_json(words) {
+        if rest.is_empty() {
+            return Err(Wrong::NoFile);
+        }
+        return Ok(Command::Json(rest));
+    }
+    let count = files_in(rest);
     if count == 0 {
         return Err(Wrong::NoFile);
     }
-    let (files, numbers) = words.split_at(count);
-    Ok(Command::Show(files, numbers))
+    let (files, numbers) = rest.split_at(count);
+    Ok(Command::Show(begins_with_bare(words), files, numbers))
 }
 
 // Returns what `check` and these words, which aren't options, ask for.
@@ -246,10 +336,11 @@ fn check(words: &[String]) -> Result<Command<'_>, Wrong<'_>>
     ensures { (all : List (List ℕ)) → all ≡ codes "check" ∷ map (λ word. string_bytes word) words.now
         → MatchResult result (Asks all) (IsWrong all) }
 {
-    if words.is_empty() {
+    let files = after_option(Verb::Check, words);
+    if files.is_empty() {
         return Err(Wrong::NoFileToCheck);
     }
-    Ok(Command::Check(words))
+    Ok(Command::Check(begins_with_json(words), files))
 }
 
 // Returns the first word that isn't NAME=N.
@@ -317,13 +408,14 @@ fn image(words: &[String]) -> Result<Command<'_>, Wrong<'_>>
     ensures { (all : List (List ℕ)) → all ≡ codes "image" ∷ map (λ word. string_bytes word) words.now
         → MatchResult result (Asks all) (IsWrong all) }
 {
-    match words {
+    let json = begins_with_json(words);
+    match after_option(Verb::Image, words) {
         [] => Err(Wrong::NoImage),
-        [file] => Ok(Command::Image(file.as_str(), 0)),
+        [file] => Ok(Command::Image(json, file.as_str(), 0)),
         [file, base] => {
             let word = base.as_str();
             match address_of(word) {
-                Some(address) => Ok(Command::Image(file.as_str(), address)),
+                Some(address) => Ok(Command::Image(json, file.as_str(), address)),
                 None => Err(Wrong::Base(word)),
             }
         }
@@ -471,6 +563,7 @@ fn asked(verb: Verb, words: &[String]) -> Result<Command<'_>, Wrong<'_>>
     match first_option(verb, words) {
         Some("--help") => Ok(Command::Help),
         Some("-h") => Ok(Command::Help),
+        Some(word) if leads(verb, word) => Err(Wrong::Placed(word)),
         Some(word) => Err(Wrong::Unknown(word)),
         None => match verb {
             Verb::Show => show(words),

@@ -9,9 +9,9 @@ use std::io;
 use std::io::Write;
 
 const USAGE: &str = "\
-usage: acpitool show FILE .. [NAME=N ..] | check FILE .. | diff FILE FILE | disassemble FILE [NAME=N ..] \
-| names FILE [NAME=N ..] | image FILE [BASE] | make [--force] TEXT FILE | template SIGNATURE \
-| unpack FILE FOLDER [BASE] | cpio FOLDER FILE | lay FOLDER FILE BASE | --help | --version
+usage: acpitool show [--no-offsets] FILE .. [NAME=N ..] | show --json FILE .. | check [--json] FILE .. | diff FILE FILE \
+| disassemble FILE [NAME=N ..] | names FILE [NAME=N ..] | image [--json] FILE [BASE] | make [--force] TEXT FILE \
+| template SIGNATURE | unpack FILE FOLDER [BASE] | cpio FOLDER FILE | lay FOLDER FILE BASE | --help | --version
 ";
 
 // What `--help`, `-h` and `help` print after the usage.
@@ -20,12 +20,18 @@ show prints each table field by field: the offset, the name and the value of eac
 means. The text has all bytes of the table. A FILE is a table, an RSDP, a FACS, a dump of tables as text (of
 acpidump), or a folder of such files; - is standard input. The terms of a DSDT or an SSDT follow as comments.
 NAME=N states how many arguments calls of NAME have. Calls of other names have as many as the table states for
-the method of this name, or else none.
+the method of this name, or else none. With --no-offsets right after it, show leaves out the offsets at the front of
+lines, so that a text diff of two tables has only what differs. make reads such a text, too.
+
+show --json prints the same tables as one array of JSON for scripts: an object for each, with its signature, its
+length, its fields by offset, name and value, its structures with their fields, and all of its bytes. A number above
+2^53 is a string in hexadecimal, and so are bytes.
 
 check prints a line for each rule of the standard that a table breaks: reserved bits and bytes that aren't zero,
 numbers that are reserved, and numbers outside their range. The line has the offset and the name of the field, its
 bytes, and the section of the standard. FILE is as for show. A rule that a table of another standard breaks is a
-warning, since newer revisions of that standard may allow it.
+warning, since newer revisions of that standard may allow it. check --json prints an array of JSON with an object for
+each such rule.
 
 diff prints a line for each field in which two tables differ: its offset and its name, and its bytes in the first and
 in the second table in hexadecimal, the highest first, or none. Fields are compared in their order and not by their
@@ -42,6 +48,7 @@ table, or - for standard input.
 image finds the RSDP in a file with the bytes of a guest's memory, follows it to all tables, and checks them.
 It prints the address, signature, length and revision of each. BASE is the address of the first byte in
 hexadecimal; it is 0 if there is none. An RSDP of revision 0 or 1 has no XSDT, and isn't followed.
+image --json prints an array of JSON with an object for each table.
 
 make reads a text that show prints, changed or written by hand, and writes the bytes of its table to FILE.
 Question marks are worked out: the length, the checksum, and how long, how many and of which type structures
@@ -99,6 +106,12 @@ fn print_wrong<E: Write>(wrong: &Wrong<'_>, err: &mut E) -> io::Result<()>
 {
     match wrong {
         Wrong::NoCommand => err.write_all(b"acpitool: no command\n"),
+        Wrong::Placed(word) => {
+            writeln!(
+                err,
+                "acpitool: at most one option, right after the command: {word}"
+            )
+        }
         Wrong::NoFile => err.write_all(b"acpitool: no file to show\n"),
         Wrong::NoFileToCheck => err.write_all(b"acpitool: no file to check\n"),
         Wrong::NoImage => err.write_all(b"acpitool: no file with an image\n"),

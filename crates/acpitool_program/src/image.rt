@@ -3,6 +3,7 @@
 ghost use Rattle.std.specs.Prelude.{◌≡◌, ◌≢◌, ◌↔◌, ◌^◌, ◌<◌, ℕ, List, IfErr, ◌+◌, ◌-◌, ◌%◌, ◌≤◌, take, drop, IsTrue, IfOk};
 ghost use Rattle.std.specs.Prelude.{OnOk, string_bytes, codes, false, ◌++◌, MatchOption, length};
 ghost use Rattle.std.specs.Fmt.{digits};
+ghost use Rattle.acpi_json.specs.Array.{array};
 ghost use Rattle.std.specs.Io.KnownBytes.{Appends};
 ghost use Rattle.acpi_layout.specs.Found.{IsImage};
 ghost use Rattle.acpi_base.specs.Bytes.{field_at};
@@ -12,8 +13,14 @@ ghost use Rattle.acpi_layout.specs.declared.located.Located.{Located};
 ghost use Rattle.acpitool_program.specs.Image.{IsPointerAt, IsFirstPointer, HasNoPointer, IsFoundImage};
 ghost use Rattle.acpitool_program.specs.Listing.{IsWhyNone, IsNoImage, is_base_right, why};
 ghost use Rattle.acpitool_program.specs.Image.{revision_offset, revision_of, table_line, table_lines};
+ghost use Rattle.acpitool_program.specs.Image.{address_member, signature_member, length_member, revision_member};
+ghost use Rattle.acpitool_program.specs.Image.{table_object, table_objects, tables_text};
 
 use crate::check::check_pointer;
+use acpi_json::array::array_of;
+use acpi_json::finding::push_member;
+use acpi_json::number::push_decimal;
+use acpi_json::string::push_string;
 use acpi_layout::check::check_image;
 use acpi_layout::fault::ImageFault;
 use acpi_layout::located::Located;
@@ -137,8 +144,8 @@ fn print_table<O: Write>(
     out.write_all(text.as_bytes())
 }
 
-/// Prints a line for each table: its address, signature, length and revision.
-pub fn print_tables<O: Write>(
+// Prints a line for each table: its address, signature, length and revision.
+fn print_lines<O: Write>(
     alloc: Global,
     base: u64,
     bytes: &[u8],
@@ -151,6 +158,106 @@ pub fn print_tables<O: Write>(
         print_table(alloc, base, bytes, table, out)?;
     }
     Ok(())
+}
+
+// Adds the member with the address of a table.
+#[tactic(auto, unfolding(crate::specs::Image::address_member))]
+fn push_address(address: u64, text: &mut Vec<u8>) -> Result<(), AllocError>
+    ensures { OnOk result (text.new.items ≡ text.old.items ++ address_member address) }
+{
+    push_member(b"{\"address\":", address, text)
+}
+
+// Adds the one with its signature.
+#[tactic(auto, unfolding(crate::specs::Image::signature_member))]
+fn push_signature(signature: &[u8], text: &mut Vec<u8>) -> Result<(), AllocError>
+    ensures { OnOk result (text.new.items ≡ text.old.items ++ signature_member signature.now) }
+{
+    text.extend_from_slice(b",\"signature\":")?;
+    push_string(signature, text)
+}
+
+// Adds the one with its length.
+#[tactic(auto, unfolding(crate::specs::Image::length_member))]
+fn push_length(length: u32, text: &mut Vec<u8>) -> Result<(), AllocError>
+    ensures { OnOk result (text.new.items ≡ text.old.items ++ length_member length) }
+{
+    text.extend_from_slice(b",\"length\":")?;
+    push_decimal(u64::from(length), text)
+}
+
+// Adds the one with its revision.
+#[tactic(auto, unfolding(crate::specs::Image::revision_member))]
+fn push_revision(revision: u8, text: &mut Vec<u8>) -> Result<(), AllocError>
+    ensures { OnOk result (text.new.items ≡ text.old.items ++ revision_member revision) }
+{
+    text.extend_from_slice(b",\"revision\":")?;
+    push_decimal(u64::from(revision), text)
+}
+
+// Adds the object of a table, in a line: its address, signature, length and revision.
+#[tactic(auto, unfolding(crate::specs::Image::table_object))]
+fn push_object(
+    base: u64,
+    bytes: &[u8],
+    table: &Located,
+    text: &mut Vec<u8>,
+) -> Result<(), AllocError>
+    ensures { OnOk result (text.new.items ≡ text.old.items ++ table_object base bytes.now table.now) }
+{
+    push_address(table.address, text)?;
+    push_signature(&table.signature, text)?;
+    push_length(table.length, text)?;
+    push_revision(revision_of(base, bytes, table), text)?;
+    text.extend_from_slice(b"}\n")
+}
+
+// Returns the objects of tables, each in a line.
+fn objects_of(
+    alloc: Global,
+    base: u64,
+    bytes: &[u8],
+    tables: &[Located],
+) -> Result<Vec<u8>, AllocError>
+    ensures { IfOk result (λ text. text.items ≡ table_objects base bytes.now tables.now) }
+{
+    let mut text = Vec::new(alloc);
+    'tables: for table in tables {
+        push_object(base, bytes, table, &mut text)?;
+    }
+    Ok(text)
+}
+
+// Prints the array of the objects of tables.
+fn print_array<O: Write>(
+    alloc: Global,
+    base: u64,
+    bytes: &[u8],
+    tables: &[Located],
+    out: &mut O,
+) -> io::Result<()>
+    ensures { OnOk result (Appends (O.contents out.old) (O.contents out.new) (array (table_objects base bytes.now tables.now))) }
+{
+    let objects = objects_of(alloc, base, bytes, tables)?;
+    let array = array_of(alloc, &objects)?;
+    out.write_all(&array)
+}
+
+/// Prints the address, the signature, the length and the revision of each table: an array of JSON, or a line for each.
+pub fn print_tables<O: Write>(
+    alloc: Global,
+    json: bool,
+    base: u64,
+    bytes: &[u8],
+    tables: &[Located],
+    out: &mut O,
+) -> io::Result<()>
+    ensures { OnOk result (Appends (O.contents out.old) (O.contents out.new) (tables_text json base bytes.now tables.now)) }
+{
+    if json {
+        return print_array(alloc, base, bytes, tables, out);
+    }
+    print_lines(alloc, base, bytes, tables, out)
 }
 
 // Returns the tables that a pointer at an offset leads to.

@@ -18,6 +18,8 @@ pub mod laws;
 pub mod laying;
 pub mod listing;
 pub mod making;
+pub mod object;
+pub mod offsets;
 pub mod outcome;
 pub mod program;
 pub mod show;

@@ -33,38 +33,40 @@ pub fn tell_no_image<E: Write>(
 // Lists the tables of an image.
 fn list_tables<O: Write, E: Write>(
     alloc: Global,
+    json: bool,
     file: &str,
     base: u64,
     bytes: &[u8],
     out: &mut O,
     err: &mut E,
 ) -> io::Result<u8>
-    ensures { IfOk result (λ status. ListedBytes file.now base bytes.now (O.contents out.old) (O.contents out.new)
+    ensures { IfOk result (λ status. ListedBytes json file.now base bytes.now (O.contents out.old) (O.contents out.new)
         (E.contents err.old) (E.contents err.new) status) }
 {
     match find_tables(alloc, base, bytes) {
         Ok(tables) => {
-            print_tables(alloc, base, bytes, &tables, out)?;
+            print_tables(alloc, json, base, bytes, &tables, out)?;
             Ok(0)
         }
         Err(fault) => tell_no_image(alloc, file, base, &fault, err),
     }
 }
 
-/// Lists the tables of the image in a file.
+/// Lists the tables of the image in a file, as an array of JSON or a line for each.
 pub fn list_file<R: Files, O: Write, E: Write>(
     rt: &R,
     alloc: Global,
+    json: bool,
     file: &str,
     base: u64,
     out: &mut O,
     err: &mut E,
 ) -> io::Result<u8>
-    ensures { IfOk result (λ status. Listed file.now base (O.contents out.old) (O.contents out.new)
+    ensures { IfOk result (λ status. Listed json file.now base (O.contents out.old) (O.contents out.new)
         (E.contents err.old) (E.contents err.new) status) }
 {
     match read_file(rt, alloc, file) {
-        Ok(bytes) => list_tables(alloc, file, base, &bytes, out, err),
+        Ok(bytes) => list_tables(alloc, json, file, base, &bytes, out, err),
         Err(error) => tell_unread(alloc, file, &error, err),
     }
 }

@@ -22,6 +22,17 @@ use std::io;
 use std::io::{ErrorKind, Input, Write};
 use std::rt::Files;
 
+// What is made.
+#[derive(Clone, Copy)]
+struct Making<'a> {
+    // Whether a table whose numbers are wrong is written.
+    force: bool,
+    // The name of the text.
+    name: &'a str,
+    // The file for the table.
+    file: &'a str,
+}
+
 // Prints a number that a text states otherwise, and the number that would be right.
 fn print_note<E: Write>(name: &str, own: &Own, err: &mut E) -> io::Result<()>
     ensures { OnOk result (Appends (E.contents err.old) (E.contents err.new) (note name.now own.now)) }
@@ -222,18 +233,16 @@ pub fn write_table<R: Files, O: Write, E: Write>(
 fn make_bytes<R: Files, O: Write, E: Write>(
     rt: &R,
     alloc: Global,
-    force: bool,
-    name: &str,
+    making: &Making<'_>,
     text: &[u8],
-    file: &str,
     out: &mut O,
     err: &mut E,
 ) -> io::Result<u8>
-    ensures { IfOk result (λ status. MakesText force name.now text.now file.now (O.contents out.old) (O.contents out.new)
-        (E.contents err.old) (E.contents err.new) status) }
+    ensures { IfOk result (λ status. MakesText making.now.force making.now.name.now text.now making.now.file.now
+        (O.contents out.old) (O.contents out.new) (E.contents err.old) (E.contents err.new) status) }
 {
-    match make_text(alloc, force, name, text, err)? {
-        Some(bytes) => write_table(rt, alloc, &bytes, file, out, err),
+    match make_text(alloc, making.force, making.name, text, err)? {
+        Some(bytes) => write_table(rt, alloc, &bytes, making.file, out, err),
         None => Ok(1),
     }
 }
@@ -252,7 +261,10 @@ fn make_word<R: Files + Input, O: Write, E: Write>(
         (E.contents err.old) (E.contents err.new) status) }
 {
     match read_word(rt, alloc, name) {
-        Ok(text) => make_bytes(rt, alloc, force, name, &text, file, out, err),
+        Ok(text) => {
+            let making = Making { force, name, file };
+            make_bytes(rt, alloc, &making, &text, out, err)
+        }
         Err(error) => tell_unread(alloc, name, &error, err),
     }
 }

@@ -3,21 +3,21 @@
 ghost use Rattle.std.specs.Prelude.{◌≡◌, ℕ, List, [], ◌∷◌, ◌++◌, map, IfOk, OnOk, string_bytes, codes, true, max};
 ghost use Rattle.std.specs.Io.KnownBytes.{Appends};
 ghost use Rattle.acpi_dump.specs.Dump.{titled, is_dump, tables_of};
-ghost use Rattle.acpitool_program.specs.Job.{shows, checks, asked};
+ghost use Rattle.acpitool_program.specs.Job.{shows, checks, lists, asked};
 ghost use Rattle.acpitool_program.specs.Outcome.{heading, fault_line, fault_status, label, labelled};
 ghost use Rattle.acpitool_program.specs.Outcome.{AreOfTables, AreOfDump, AreOfBytes, PrintedAs};
 
-use crate::checked::{findings_of, lines_of, status_of};
+use crate::checked::{findings_of, printed_of, status_of};
 use crate::complaint::complain;
 use crate::fault::Fault;
-use crate::job::Job;
+use crate::job::{Job, Showing};
+use crate::object::object_of;
 use crate::structures::structures_fault;
 use crate::terms::lines_after;
-use crate::text::text_of;
+use crate::text::text_as;
 use acpi_dump::dump::{Dumped, is_dump, tables_of};
 use acpi_dump::fault::DumpFault;
 use acpi_read::report::push_shown;
-use acpi_term::name_string::Arities;
 use acpi_text::comment::push_comment;
 use std::alloc::{AllocError, Global};
 use std::io;
@@ -36,11 +36,11 @@ fn heading(alloc: Global, name: &str, several: bool) -> Result<String, AllocErro
 }
 
 // Prints a table's text, and the lines before and after it.
-fn print_text<O: Write>(before: &str, text: &str, after: &str, out: &mut O) -> io::Result<()>
+fn print_text<O: Write>(before: &str, text: &[u8], after: &str, out: &mut O) -> io::Result<()>
     ensures { OnOk result (Appends (O.contents out.old) (O.contents out.new) (before.now ++ text.now ++ after.now)) }
 {
     out.write_all(before.as_bytes())?;
-    out.write_all(text.as_bytes())?;
+    out.write_all(text)?;
     out.write_all(after.as_bytes())
 }
 
@@ -67,22 +67,23 @@ pub fn tell_fault<E: Write>(
 // `err` what is wrong with its structures, or why it isn't shown. Returns 0 or 1.
 fn show_table<O: Write, E: Write>(
     alloc: Global,
-    stated: &Arities,
+    showing: &Showing<'_>,
     name: &str,
     bytes: &[u8],
     several: bool,
     out: &mut O,
     err: &mut E,
 ) -> io::Result<u8>
-    ensures { IfOk result (λ status. PrintedAs (shows stated.now) (AreOfTables several ((name.now, bytes.now) ∷ []))
+    ensures { IfOk result (λ status. PrintedAs (shows showing.now.bare showing.now.stated.now)
+        (AreOfTables several ((name.now, bytes.now) ∷ []))
         (O.contents out.old) (O.contents out.new) (E.contents err.old) (E.contents err.new) status) }
 {
-    match text_of(alloc, bytes) {
+    match text_as(alloc, showing.bare, bytes) {
         Ok(text) => {
             let before = heading(alloc, name, several)?;
-            let after = lines_after(alloc, stated, bytes)?;
+            let after = lines_after(alloc, showing.stated, bytes)?;
             let fault = structures_fault(alloc, bytes)?;
-            print_text(before.as_str(), text.as_str(), after.as_str(), out)?;
+            print_text(before.as_str(), &text, after.as_str(), out)?;
             Ok(tell_fault(alloc, name, &fault, err)?)
         }
         Err(fault) => {
@@ -92,24 +93,25 @@ fn show_table<O: Write, E: Write>(
     }
 }
 
-// Prints a line on `out` for each rule that a table, a pointer or a control structure breaks. Prints on `err` what is wrong
-// with its structures, or why it isn't checked. Returns 0 or 1.
+// Prints a line on `out` for each rule that a table, a pointer or a control structure breaks, or an object in a line. Prints on
+// `err` what is wrong with its structures, or why it isn't checked. Returns 0 or 1.
 fn check_table<O: Write, E: Write>(
     alloc: Global,
+    json: bool,
     name: &str,
     bytes: &[u8],
     several: bool,
     out: &mut O,
     err: &mut E,
 ) -> io::Result<u8>
-    ensures { IfOk result (λ status. PrintedAs checks (AreOfTables several ((name.now, bytes.now) ∷ []))
+    ensures { IfOk result (λ status. PrintedAs (checks json) (AreOfTables several ((name.now, bytes.now) ∷ []))
         (O.contents out.old) (O.contents out.new) (E.contents err.old) (E.contents err.new) status) }
 {
     match findings_of(alloc, bytes) {
         Ok(findings) => {
-            let lines = lines_of(alloc, name, bytes, &findings)?;
+            let lines = printed_of(alloc, json, name, bytes, &findings)?;
             let fault = structures_fault(alloc, bytes)?;
-            out.write_all(lines.as_bytes())?;
+            out.write_all(&lines)?;
             let told = tell_fault(alloc, name, &fault, err)?;
             Ok(worst_of(status_of(&findings), told))
         }
@@ -120,7 +122,34 @@ fn check_table<O: Write, E: Write>(
     }
 }
 
-// Prints the text of a table, or the rules that it breaks.
+// Prints the object of a table, a pointer or a control structure on `out` in a line. Prints on `err` what is wrong with its
+// structures, or why it isn't listed. Returns 0 or 1.
+fn list_table<O: Write, E: Write>(
+    alloc: Global,
+    name: &str,
+    bytes: &[u8],
+    several: bool,
+    out: &mut O,
+    err: &mut E,
+) -> io::Result<u8>
+    ensures { IfOk result (λ status. PrintedAs lists (AreOfTables several ((name.now, bytes.now) ∷ []))
+        (O.contents out.old) (O.contents out.new) (E.contents err.old) (E.contents err.new) status) }
+{
+    match object_of(alloc, name, bytes) {
+        Ok(mut object) => {
+            let fault = structures_fault(alloc, bytes)?;
+            object.push(b'\n')?;
+            out.write_all(&object)?;
+            Ok(tell_fault(alloc, name, &fault, err)?)
+        }
+        Err(fault) => {
+            complain(alloc, name, &fault, err)?;
+            Ok(1)
+        }
+    }
+}
+
+// Prints the text or the object of a table, or the rules that it breaks.
 fn print_table<O: Write, E: Write>(
     alloc: Global,
     job: &Job<'_>,
@@ -134,8 +163,9 @@ fn print_table<O: Write, E: Write>(
         (O.contents out.old) (O.contents out.new) (E.contents err.old) (E.contents err.new) status) }
 {
     match *job {
-        Job::Shows(stated) => Ok(show_table(alloc, stated, name, bytes, several, out, err)?),
-        Job::Checks => Ok(check_table(alloc, name, bytes, several, out, err)?),
+        Job::Shows(showing) => Ok(show_table(alloc, showing, name, bytes, several, out, err)?),
+        Job::Checks(json) => Ok(check_table(alloc, json, name, bytes, several, out, err)?),
+        Job::Lists => Ok(list_table(alloc, name, bytes, several, out, err)?),
     }
 }
 
@@ -156,7 +186,7 @@ fn label(alloc: Global, name: &str, title: &[u8]) -> Result<String, AllocError>
     Ok(text)
 }
 
-// Shows or checks a table of a dump.
+// Shows, checks or lists a table of a dump.
 fn show_dumped<O: Write, E: Write>(
     alloc: Global,
     job: &Job<'_>,
@@ -172,7 +202,7 @@ fn show_dumped<O: Write, E: Write>(
     Ok(print_table(alloc, job, label.as_str(), &table.bytes, true, out, err)?)
 }
 
-// Shows or checks the tables of a dump, and returns the greatest status.
+// Shows, checks or lists the tables of a dump, and returns the greatest status.
 fn show_tables<O: Write, E: Write>(
     alloc: Global,
     job: &Job<'_>,
@@ -193,7 +223,7 @@ fn show_tables<O: Write, E: Write>(
     Ok(worst)
 }
 
-// Shows or checks the tables of a dump, or prints which of its lines can't be read.
+// Shows, checks or lists the tables of a dump, or prints which of its lines can't be read.
 fn show_dump<O: Write, E: Write>(
     alloc: Global,
     job: &Job<'_>,
@@ -216,8 +246,8 @@ fn show_dump<O: Write, E: Write>(
     }
 }
 
-/// Shows or checks what is in a file: a table, a pointer, a control structure, or the tables of a dump. What can't be shown has a
-/// line on `err`, and so has a table whose structures can't be found. Returns 0 or 1.
+/// Shows, checks or lists what is in a file: a table, a pointer, a control structure, or the tables of a dump. What can't be
+/// shown has a line on `err`, and so has a table whose structures can't be found. Returns 0 or 1.
 pub fn show_content<O: Write, E: Write>(
     alloc: Global,
     job: &Job<'_>,

@@ -12,10 +12,11 @@ use crate::command::{Command, parse};
 use crate::comparing::compare_files;
 use crate::disassembly::disassemble;
 use crate::help::{print_help, print_version, tell_wrong};
+use crate::job::Job;
 use crate::laying::lay_folder;
 use crate::listing::list_file;
 use crate::making::make_file;
-use crate::show::{check_all, show_all};
+use crate::show::{check_all, list_all, show_all};
 use crate::unpacking::unpack;
 use acpi_asl::block::BlockText;
 use acpi_forms::known::{is_known, meant};
@@ -112,15 +113,18 @@ pub fn run<R: Files + Input + AllocGlobal + Clone + Drop, O: Write, E: Write>(
     match parse(words) {
         Ok(Command::Help) => print_help(out),
         Ok(Command::Version) => print_version(out),
-        Ok(Command::Show(files, words)) => show_all(rt, alloc, files, words, out, err),
+        Ok(Command::Show(bare, files, words)) => {
+            show_all(rt, alloc, bare, files, words, out, err)
+        }
         Ok(Command::Disassemble(file, words)) => {
             disassemble(rt, alloc, BlockText::Asl, file, words, out, err)
         }
         Ok(Command::Names(file, words)) => {
             disassemble(rt, alloc, BlockText::Names, file, words, out, err)
         }
-        Ok(Command::Check(files)) => check_all(rt, alloc, files, out, err),
-        Ok(Command::Image(file, base)) => list_file(rt, alloc, file, base, out, err),
+        Ok(Command::Json(files)) => list_all(rt, alloc, &Job::Lists, files, out, err),
+        Ok(Command::Check(json, files)) => check_all(rt, alloc, json, files, out, err),
+        Ok(Command::Image(json, file, base)) => list_file(rt, alloc, json, file, base, out, err),
         Ok(Command::Template(signature)) => template_of(alloc, signature, out, err),
         Ok(Command::Unpack(file, folder, base)) => unpack(rt, alloc, file, folder, base, out, err),
         Ok(Command::Cpio(folder, file)) => archive_folder(rt, alloc, folder, file, out, err),

@@ -3,13 +3,14 @@
 ghost use Rattle.std.specs.Prelude.{true, IfOk, IfErr, map, string_bytes};
 ghost use Rattle.acpitool_program.specs.Job.{asked};
 ghost use Rattle.acpitool_program.specs.Outcome.{IsUnread, AreOfBytes, AreOfFile, AreOfEach, AreOfFolder, AreOfWord, PrintedAs};
-ghost use Rattle.acpitool_program.specs.Program.{IsShown, AreChecked};
+ghost use Rattle.acpitool_program.specs.Program.{IsShown, AreListed, AreChecked};
 
 use crate::command::{Misstated, Wrong, numbers};
 use crate::files::{files_in, is_folder, read_file, read_word};
 use crate::help::tell_wrong;
-use crate::job::Job;
+use crate::job::{Job, Showing};
 use crate::outcome::{show_content, tell_unread, worst_of};
+use acpi_json::array::array_of;
 use std::alloc::{AllocError, Global};
 use std::io;
 use std::io::{Input, Write};
@@ -121,23 +122,28 @@ fn show_words<R: Files + Input + AllocGlobal + Clone + Drop, O: Write, E: Write>
     Ok(worst)
 }
 
-/// Shows what the files of `show` name, if the other words state numbers of arguments.
+/// Shows what the files of `show` name, if the other words state numbers of arguments. Texts may be without offsets.
 pub fn show_all<R: Files + Input + AllocGlobal + Clone + Drop, O: Write, E: Write>(
     rt: &R,
     alloc: Global,
+    bare: bool,
     files: &[String],
     words: &[String],
     out: &mut O,
     err: &mut E,
 ) -> io::Result<u8>
-    ensures { IfOk result (λ status. IsShown
+    ensures { IfOk result (λ status. IsShown bare
         (map (λ word. string_bytes word) files.now) (map (λ word. string_bytes word) words.now)
         (O.contents out.old) (O.contents out.new) (E.contents err.old) (E.contents err.new) status) }
 {
     match numbers(alloc, words) {
         Ok(stated) => {
+            let showing = Showing {
+                bare,
+                stated: &stated,
+            };
             let several = files.len() > 1;
-            Ok(show_words(rt, alloc, &Job::Shows(&stated), files, several, out, err)?)
+            Ok(show_words(rt, alloc, &Job::Shows(&showing), files, several, out, err)?)
         }
         Err(Misstated::Word(word)) => Ok(tell_wrong(&Wrong::Number(word), err)?),
         Err(Misstated::Twice) => Ok(tell_wrong(&Wrong::Twice, err)?),
@@ -145,17 +151,41 @@ pub fn show_all<R: Files + Input + AllocGlobal + Clone + Drop, O: Write, E: Writ
     }
 }
 
-/// Checks what files name, and returns the greatest status.
-pub fn check_all<R: Files + Input + AllocGlobal + Clone + Drop, O: Write, E: Write>(
+/// Prints what comes of files as an array of JSON, and returns the greatest status.
+pub fn list_all<R: Files + Input + AllocGlobal + Clone + Drop, O: Write, E: Write>(
     rt: &R,
     alloc: Global,
+    job: &Job<'_>,
     files: &[String],
     out: &mut O,
     err: &mut E,
 ) -> io::Result<u8>
-    ensures { IfOk result (λ status. AreChecked (map (λ word. string_bytes word) files.now)
+    ensures { IfOk result (λ status. AreListed (asked job.now) (map (λ word. string_bytes word) files.now)
         (O.contents out.old) (O.contents out.new) (E.contents err.old) (E.contents err.new) status) }
 {
     let several = files.len() > 1;
-    Ok(show_words(rt, alloc, &Job::Checks, files, several, out, err)?)
+    let mut lines = Vec::new(alloc);
+    let status = show_words(rt, alloc, job, files, several, &mut lines, err)?;
+    let array = array_of(alloc, &lines)?;
+    out.write_all(&array)?;
+    Ok(status)
+}
+
+/// Checks what files name, prints what is found as an array of JSON or as lines, and returns the greatest status.
+pub fn check_all<R: Files + Input + AllocGlobal + Clone + Drop, O: Write, E: Write>(
+    rt: &R,
+    alloc: Global,
+    json: bool,
+    files: &[String],
+    out: &mut O,
+    err: &mut E,
+) -> io::Result<u8>
+    ensures { IfOk result (λ status. AreChecked json (map (λ word. string_bytes word) files.now)
+        (O.contents out.old) (O.contents out.new) (E.contents err.old) (E.contents err.new) status) }
+{
+    if json {
+        return Ok(list_all(rt, alloc, &Job::Checks(true), files, out, err)?);
+    }
+    let several = files.len() > 1;
+    Ok(show_words(rt, alloc, &Job::Checks(false), files, several, out, err)?)
 }

@@ -24,6 +24,17 @@ use std::io::{ErrorKind, Input, Write};
 use std::rt::Files;
 use std::{fs, io};
 
+// What is unpacked, and where its tables go.
+#[derive(Clone, Copy)]
+struct Source<'a> {
+    // The name of the file with the image or the dump.
+    name: &'a str,
+    // The folder for the files of the tables.
+    folder: &'a str,
+    // The physical address at which an image begins.
+    base: u64,
+}
+
 // Returns a byte of a signature as a letter of a name.
 fn letter(byte: u8) -> u8
     ensures { result ≡ letter byte }
@@ -292,22 +303,20 @@ fn located<'a>(
 fn unpack_image<R: Files, O: Write, E: Write>(
     rt: &R,
     alloc: Global,
-    name: &str,
-    folder: &str,
-    base: u64,
+    source: &Source<'_>,
     bytes: &[u8],
     out: &mut O,
     err: &mut E,
 ) -> io::Result<u8>
-    ensures { IfOk result (λ status. UnpacksImage name.now folder.now base bytes.now (O.contents out.old) (O.contents out.new)
-        (E.contents err.old) (E.contents err.new) status) }
+    ensures { IfOk result (λ status. UnpacksImage source.now.name.now source.now.folder.now source.now.base bytes.now
+        (O.contents out.old) (O.contents out.new) (E.contents err.old) (E.contents err.new) status) }
 {
-    match find_tables(alloc, base, bytes) {
+    match find_tables(alloc, source.base, bytes) {
         Ok(tables) => {
-            let all = located(alloc, base, bytes, &tables)?;
-            unpack_to(rt, alloc, folder, &all, out, err)
+            let all = located(alloc, source.base, bytes, &tables)?;
+            unpack_to(rt, alloc, source.folder, &all, out, err)
         }
-        Err(fault) => tell_no_image(alloc, name, base, &fault, err),
+        Err(fault) => tell_no_image(alloc, source.name, source.base, &fault, err),
     }
 }
 
@@ -315,20 +324,18 @@ fn unpack_image<R: Files, O: Write, E: Write>(
 fn unpack_bytes<R: Files, O: Write, E: Write>(
     rt: &R,
     alloc: Global,
-    name: &str,
-    folder: &str,
-    base: u64,
+    source: &Source<'_>,
     bytes: &[u8],
     out: &mut O,
     err: &mut E,
 ) -> io::Result<u8>
-    ensures { IfOk result (λ status. UnpacksBy (is_dump bytes.now) name.now folder.now base bytes.now
-        (O.contents out.old) (O.contents out.new) (E.contents err.old) (E.contents err.new) status) }
+    ensures { IfOk result (λ status. UnpacksBy (is_dump bytes.now) source.now.name.now source.now.folder.now source.now.base
+        bytes.now (O.contents out.old) (O.contents out.new) (E.contents err.old) (E.contents err.new) status) }
 {
     if is_dump(bytes) {
-        return unpack_dump(rt, alloc, name, folder, bytes, out, err);
+        return unpack_dump(rt, alloc, source.name, source.folder, bytes, out, err);
     }
-    unpack_image(rt, alloc, name, folder, base, bytes, out, err)
+    unpack_image(rt, alloc, source, bytes, out, err)
 }
 
 /// Writes each table of the dump or the image in a file, or on standard input, to a new file of a folder, which is made if it
@@ -349,7 +356,10 @@ pub fn unpack<R: Files + Input, O: Write, E: Write>(
         (E.contents err.old) (E.contents err.new) status) }
 {
     match read_word(rt, alloc, name) {
-        Ok(bytes) => unpack_bytes(rt, alloc, name, folder, base, &bytes, out, err),
+        Ok(bytes) => {
+            let source = Source { name, folder, base };
+            unpack_bytes(rt, alloc, &source, &bytes, out, err)
+        }
         Err(error) => tell_unread(alloc, name, &error, err),
     }
 }

@@ -35,7 +35,7 @@ fn buffers(rt: HostRuntime) -> Result<(), Fail> {
     )
 }
 
-// Fails unless a buffer of so many bytes 0xab is these bytes, and then its own.
+// Fails unless a buffer of this many bytes 0xab is these bytes, and then its own.
 fn begins(alloc: Global, size: usize, start: &[u8]) -> Result<(), Fail> {
     let content = vec![in alloc; 0xabu8; size]?;
     let mut wanted = Vec::from_slice(alloc, start)?;

@@ -153,7 +153,7 @@ fn reserved(alloc: Global, bits: usize) -> R<Field> {
     field(alloc, "PRST", BYTES, &[FieldEntry::Reserved(bits)])
 }
 
-// Fails unless a field of so many reserved bits has these bytes after its flags.
+// Fails unless a field of this many reserved bits has these bytes after its flags.
 fn reserves(alloc: Global, bits: usize, end: &[u8]) -> Result<(), Fail> {
     let field = reserved(alloc, bits)?;
     let bytes = written(alloc, &field)?;

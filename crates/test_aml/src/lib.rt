@@ -7,6 +7,10 @@ mod blocks;
 #[cfg(test)]
 mod buffers;
 #[cfg(test)]
+mod connections;
+#[cfg(test)]
+mod descriptors;
+#[cfg(test)]
 mod errors;
 #[cfg(test)]
 mod fields;

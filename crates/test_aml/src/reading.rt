@@ -20,13 +20,13 @@ fn call(alloc: Global) -> R<MethodCall> {
     MethodCall::new(Path::new(alloc, "MTHD")?, arguments)
 }
 
-// Fails unless an object means the terms of these lines, if a name takes so many arguments.
+// Fails unless an object means the terms of these lines, if a name takes this many arguments.
 fn means(alloc: Global, aml: &dyn Aml, name: &str, count: u8, lines: &str) -> Result<(), Fail> {
     let terms = terms_of(aml, &stated(alloc, name, count)?)??;
     agree(&report_terms(alloc, &terms)?, lines)
 }
 
-// Fails unless an object means no terms, if MTHD takes so many arguments.
+// Fails unless an object means no terms, if MTHD takes this many arguments.
 fn means_none(alloc: Global, aml: &dyn Aml, count: u8) -> Result<(), Fail> {
     equal(
         &terms_of(aml, &stated(alloc, "MTHD", count)?)?.is_err(),

@@ -1,7 +1,7 @@
 //! Address spaces, byte for byte, alone and in templates.
 
 use super::make::{named, template};
-use acpi_tables::aml::{AddressSpace, AddressSpaceCacheable, Name, ResourceTemplate};
+use acpi_tables::aml::{AddressSpace, AddressSpaceCacheable, FixedEnd, Name, ResourceTemplate};
 use acpi_tables::{Aml, Error, R};
 use std::alloc::Global;
 use std::test::Fail;
@@ -158,6 +158,89 @@ fn memory_types(rt: HostRuntime) -> Result<(), Fail> {
     Ok(())
 }
 
+fn ports() -> AddressSpace<u16> {
+    AddressSpace::new_io(0, 0xffff, None)
+}
+
+// A range that may move has its own length, or 0. Only its ends are compared.
+#[test]
+fn ranges_that_move(rt: HostRuntime) -> Result<(), Fail> {
+    let memory = AddressSpace::new_memory(
+        AddressSpaceCacheable::Cacheable,
+        true,
+        0x1000_0000u32,
+        0x1fff_ffff,
+        Some(0x0403_0201),
+    );
+    let large = AddressSpace::new_bus_number(1u64, u64::MAX).movable(
+        u64::MAX,
+        0x0807_0605_0403_0201,
+    );
+    all(
+        rt.alloc(),
+        &[
+            (
+                &ports().subtractive().movable(1, 0),
+                &[
+                    0x88, 0x0d, 0x00, 0x01, 0x02, 0x03, 0x00, 0x00, 0x00, 0x00, 0xff, 0xff, 0x00,
+                    0x00, 0x01, 0x00,
+                ],
+            ),
+            (
+                &ports().movable(0xffff, 0x0102).subtractive().subtractive(),
+                &[
+                    0x88, 0x0d, 0x00, 0x01, 0x02, 0x03, 0x02, 0x01, 0x00, 0x00, 0xff, 0xff, 0x00,
+                    0x00, 0xff, 0xff,
+                ],
+            ),
+            (
+                &ports().resizable(FixedEnd::Neither, 0xffff),
+                &[
+                    0x88, 0x0d, 0x00, 0x01, 0x00, 0x03, 0xff, 0xff, 0x00, 0x00, 0xff, 0xff, 0x00,
+                    0x00, 0x00, 0x00,
+                ],
+            ),
+            (
+                &ports().resizable(FixedEnd::Min, 0),
+                &[
+                    0x88, 0x0d, 0x00, 0x01, 0x04, 0x03, 0x00, 0x00, 0x00, 0x00, 0xff, 0xff, 0x00,
+                    0x00, 0x00, 0x00,
+                ],
+            ),
+            (
+                &ports().movable(5, 1).resizable(FixedEnd::Max, 7),
+                &[
+                    0x88, 0x0d, 0x00, 0x01, 0x08, 0x03, 0x07, 0x00, 0x00, 0x00, 0xff, 0xff, 0x00,
+                    0x00, 0x00, 0x00,
+                ],
+            ),
+            (
+                &AddressSpace::new_bus_number(1u16, 2).subtractive(),
+                &[
+                    0x88, 0x0d, 0x00, 0x02, 0x0e, 0x00, 0x00, 0x00, 0x01, 0x00, 0x02, 0x00, 0x00,
+                    0x00, 0x02, 0x00,
+                ],
+            ),
+            (
+                &memory.movable(0x0010_0000, 0x000f_ffff),
+                &[
+                    0x87, 0x17, 0x00, 0x00, 0x00, 0x03, 0xff, 0xff, 0x0f, 0x00, 0x00, 0x00, 0x00,
+                    0x10, 0xff, 0xff, 0xff, 0x1f, 0x01, 0x02, 0x03, 0x04, 0x00, 0x00, 0x10, 0x00,
+                ],
+            ),
+            (
+                &large,
+                &[
+                    0x8a, 0x2b, 0x00, 0x02, 0x00, 0x00, 0x01, 0x02, 0x03, 0x04, 0x05, 0x06, 0x07,
+                    0x08, 0x01, 0x00, 0x00, 0x00, 0x00, 0x00, 0x00, 0x00, 0xff, 0xff, 0xff, 0xff,
+                    0xff, 0xff, 0xff, 0xff, 0x00, 0x00, 0x00, 0x00, 0x00, 0x00, 0x00, 0x00, 0xff,
+                    0xff, 0xff, 0xff, 0xff, 0xff, 0xff, 0xff,
+                ],
+            ),
+        ],
+    )
+}
+
 // Fails unless a range returns an error, and writes nothing.
 fn has_no_length(alloc: Global, range: &dyn Aml) -> Result<(), Fail> {
     let mut bytes = Vec::new(alloc);
@@ -169,6 +252,9 @@ fn has_no_length(alloc: Global, range: &dyn Aml) -> Result<(), Fail> {
 fn ranges_without_a_length(rt: HostRuntime) -> Result<(), Fail> {
     let alloc = rt.alloc();
     has_no_length(alloc, &AddressSpace::new_io(5u16, 4, None))?;
+    has_no_length(alloc, &AddressSpace::new_io(5u16, 4, None).movable(1, 0))?;
+    let resizable = AddressSpace::new_io(u32::MAX, 0, None).resizable(FixedEnd::Min, 0);
+    has_no_length(alloc, &resizable)?;
     has_no_length(alloc, &AddressSpace::new_io(0u16, u16::MAX, None))?;
     has_no_length(alloc, &AddressSpace::new_io(0u32, u32::MAX, None))?;
     has_no_length(alloc, &AddressSpace::new_io(0u64, u64::MAX, None))

@@ -100,7 +100,7 @@ fn operands(rt: HostRuntime) -> Result<(), Fail> {
 fn ends(rt: HostRuntime) -> Result<(), Fail> {
     let mut block = Block::new(rt.alloc());
     block.end();
-    fails(block, BuildError::NothingOpen)?;
+    fails(block, BuildError::NoneOpen)?;
     let mut block = Block::new(rt.alloc());
     block.scope("_SB_");
     fails(block, BuildError::StillOpen)?;
@@ -108,7 +108,7 @@ fn ends(rt: HostRuntime) -> Result<(), Fail> {
     block.scope("_SB_");
     block.end();
     block.end();
-    fails(block, BuildError::NothingOpen)
+    fails(block, BuildError::NoneOpen)
 }
 
 // Adds this many zeros to a package.
@@ -147,7 +147,7 @@ fn texts(rt: HostRuntime) -> Result<(), Fail> {
             BuildError::Operands,
             "an operator has another number of operands",
         ),
-        (BuildError::NothingOpen, "no object is open"),
+        (BuildError::NoneOpen, "no object is open"),
         (BuildError::StillOpen, "an object is still open"),
     ] {
         agree(&format!(in rt.alloc(); "{error}")?, text)?;

@@ -27,6 +27,23 @@ fn push(words: &mut Vec<String>, word: &str) -> io::Result<()> {
     Ok(())
 }
 
+// Adds a command and its option.
+fn push_both(words: &mut Vec<String>, command: &str, option: &str) -> io::Result<()> {
+    push(words, command)?;
+    push(words, option)
+}
+
+// Adds the words for which a command of a case stands.
+fn push_command(words: &mut Vec<String>, command: &str) -> io::Result<()> {
+    match command {
+        "json" => push_both(words, "show", "--json"),
+        "bare" => push_both(words, "show", "--no-offsets"),
+        "findings" => push_both(words, "check", "--json"),
+        "listing" => push_both(words, "image", "--json"),
+        _ => push(words, command),
+    }
+}
+
 // Adds the names of the files that a command takes.
 fn push_files(words: &mut Vec<String>, command: &str) -> io::Result<()> {
     match command {
@@ -121,7 +138,7 @@ fn file_of(alloc: Global, mut content: Content, more: &[Line<'_>]) -> io::Result
 pub fn read_run(alloc: Global, first: &[u8], more: &[Line<'_>]) -> io::Result<Run> {
     let (command, after) = split_command(first)?;
     let mut words = Vec::new(alloc);
-    push(&mut words, command)?;
+    push_command(&mut words, command)?;
     push_files(&mut words, command)?;
     let mut content = Content::new(alloc);
     let status = read_first(after, &mut content, &mut words)?;

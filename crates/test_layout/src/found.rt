@@ -364,55 +364,55 @@ fn second_sum(rt: HostRuntime) -> Result<(), Fail> {
     finds(rt.alloc(), (&bytes, 0x1000, image.rsdp), 6)
 }
 
-fn tells(alloc: Global, fault: ImageFault, wanted: &str) -> Result<(), Fail> {
+fn says(alloc: Global, fault: ImageFault, wanted: &str) -> Result<(), Fail> {
     agree(&format!(in alloc; "{fault}")?, wanted)
 }
 
 #[test]
 fn texts(rt: HostRuntime) -> Result<(), Fail> {
     let alloc = rt.alloc();
-    tells(alloc, ImageFault::Memory, "out of memory")?;
-    tells(
+    says(alloc, ImageFault::Memory, "out of memory")?;
+    says(
         alloc,
         ImageFault::Outside(0x1c00_0040),
         "at 0x1c000040: the table isn't in the image",
     )?;
-    tells(
+    says(
         alloc,
         ImageFault::Signature(0),
         "at 0x0: the signature is wrong",
     )?;
-    tells(
+    says(
         alloc,
         ImageFault::Length(0xa0),
         "at 0xa0: the length is wrong",
     )?;
-    tells(
+    says(
         alloc,
         ImageFault::Revision(0xa0),
         "at 0xa0: the revision isn't 2",
     )?;
-    tells(
+    says(
         alloc,
         ImageFault::Sum(0xa0),
         "at 0xa0: the bytes don't sum to zero",
     )?;
-    tells(
+    says(
         alloc,
         ImageFault::Entries(0xa0),
         "at 0xa0: the XSDT doesn't end after a whole entry",
     )?;
-    tells(
+    says(
         alloc,
         ImageFault::NoFadt(0xa0),
         "at 0xa0: the XSDT lists no FADT",
     )?;
-    tells(
+    says(
         alloc,
         ImageFault::SecondFadt(0xa0),
         "at 0xa0: this is a second FADT",
     )?;
-    tells(
+    says(
         alloc,
         ImageFault::Overlap(0xa0, u64::MAX),
         "at 0xa0: the table overlaps the one at 0xffffffffffffffff",

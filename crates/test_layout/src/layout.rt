@@ -164,7 +164,7 @@ fn part(bytes: &[u8], offset: u64, size: u64) -> &[u8] {
     bytes.get(at..at.wrapping_add(size as usize)).unwrap_or(&[])
 }
 
-// The signature and the bytes of the table at an offset, as long as it tells.
+// The signature and the bytes of the table at an offset, as long as its length field says.
 fn table_at(bytes: &[u8], offset: u64) -> Result<([u8; 4], &[u8]), Fail> {
     let size = number(bytes, offset.wrapping_add(4), 4);
     let table = Table::check(part(bytes, offset, size))?;

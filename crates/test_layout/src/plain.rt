@@ -97,7 +97,7 @@ fn add_control(bytes: &[u8], fadt: &[u8], found: &mut Vec<(u64, u64)>) -> R<bool
     Ok(at(bytes, address, 64).starts_with(b"FACS\x40\0\0\0"))
 }
 
-// Adds the tables to which an FADT points, and tells whether they are right.
+// Adds the tables to which an FADT points, and returns whether they are right.
 fn add_pointed(bytes: &[u8], fadt: &[u8], found: &mut Vec<(u64, u64)>) -> R<bool> {
     if fadt.len() < 148 || !add_control(bytes, fadt, found)? {
         return Ok(false);
@@ -119,7 +119,7 @@ fn overlap(found: &[(u64, u64)]) -> bool {
     false
 }
 
-// Adds all tables of an image, and tells whether the bytes are one.
+// Adds all tables of an image, and returns whether the bytes are one.
 fn add_all(bytes: &[u8], rsdp: u64, found: &mut Vec<(u64, u64)>) -> R<bool> {
     let Some(xsdt) = listed(bytes, rsdp) else {
         return Ok(false);
@@ -151,7 +151,7 @@ fn are_same(found: &[Located], wanted: &[(u64, u64)]) -> Result<(), Fail> {
     Ok(())
 }
 
-// Tells whether bytes are an image, and fails unless the plain check says the same.
+// Returns whether bytes are an image, and fails unless the plain check says the same.
 pub(crate) fn is_image(alloc: Global, bytes: &[u8], rsdp: u64) -> Result<bool, Fail> {
     let wanted = plain(alloc, bytes, rsdp)?;
     match check_image(alloc, bytes, BASE, rsdp) {

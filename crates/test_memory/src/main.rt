@@ -7,7 +7,7 @@
 //! - each type of `fill_lists`, `fill_others` and `fill_arm`, once for each of its `WAYS`: `empty`, after five calls of `grow` in
 //!   this way. `grow` of MADT in way 1 adds one structure in all, since a MADT has one IMSIC at most;
 //! - the error data entry with five objects of three bytes, and the three clones (`errors`);
-//! - each object of `part`, `aml`, `operators` and `built`, once;
+//! - each object of `part`, `aml`, `descriptors`, `operators` and `built`, once;
 //! - the image, twice (`image`);
 //! - the reports of three lists of terms, an XSDT's report of its header, its whole report, and its two entries, and
 //!   the structure of a GTDT (`reading`).
@@ -23,6 +23,7 @@ mod arm;
 mod blocks;
 mod built;
 mod cxl;
+mod descriptors;
 mod errors;
 mod fault;
 mod image;
@@ -140,6 +141,11 @@ fn make_objects(trial: &mut Trial, alloc: Global) -> Result<(), Fault> {
         &child,
         aml::DATA,
         |which: u8| aml::data(alloc, &child, which),
+    )?;
+    trial.all(
+        &child,
+        descriptors::DESCRIPTORS,
+        |which: u8| descriptors::descriptor(alloc, which),
     )?;
     trial.all(
         &child,

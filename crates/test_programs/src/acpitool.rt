@@ -4,6 +4,7 @@
 mod compared;
 mod files;
 mod folders;
+mod json;
 mod laid;
 mod program;
 mod words;

@@ -17,7 +17,7 @@ const BLOCK: &[u8] =
     T\x0a\xa0\x12\x93h\x0cxV4\x12\xa4EXTMhri\xff\x00\xa1\x1dxh\x0b\x00\x01\x00`p`BYTE\x5c/\x03_SB_CO\
     M1NEXT\xa4\x00\x14\x06NEXT\x00";
 
-/// A statement that moves to a block of its own, fields with gaps, a package, a buffer, a template, an id, a name that would be a
+/// A statement that moves to a new block, fields with gaps, a package, a buffer, a template, an id, a name that would be a
 /// word, calls with and without arguments, and a target that is left out.
 const TEXT: &str = "DefinitionBlock (\"\", \"DSDT\", 2, \"OEMID\", \"OEMTABLE\", 0x00000001)
 {

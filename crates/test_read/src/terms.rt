@@ -41,7 +41,8 @@ fn limits(rt: HostRuntime) -> Result<(), Fail> {
 }
 
 // What only the language of the standard has: names with `^` and the root alone, External, a method with a level, Processor,
-// ThermalZone, a package with room, IndexField and an operator. The spelling of the terms is the bytes.
+// ThermalZone, a package with room, IndexField, BankField, connections and access of fields, and an operator. The spelling of the
+// terms is the bytes.
 #[test]
 fn standard(rt: HostRuntime) -> Result<(), Fail> {
     let alloc = rt.alloc();
@@ -54,6 +55,11 @@ fn standard(rt: HostRuntime) -> Result<(), Fail> {
         b"\x5b\x85\x05TZ00".as_slice(),
         b"\x12\x03\xff\x01".as_slice(),
         b"\x5b\x86\x0fINDXDATA\x55REG0\x08".as_slice(),
+        b"\x5b\x87\x13REGNBNKR\x0a\x02\x01\x00\x20BFLD\x08".as_slice(),
+        b"\x5b\x81\x0bSBUS\x05\x02CONN".as_slice(),
+        b"\x5b\x81\x09SBUS\x05\x01\x05\x06".as_slice(),
+        b"\x5b\x86\x0eINDXDATA\x55\x03\x05\x0b\x10".as_slice(),
+        b"\x5b\x81\x0fGPOR\x01\x02\x11\x47\x00\x0b\x02\x00\x79\x00".as_slice(),
         b"\x5b\x12\x5eABCD\x60".as_slice(),
     ];
     let mut all = Vec::new(alloc);

@@ -15,7 +15,7 @@ use std::test::Fail;
 use test_support::table::{is_sized, reads_back};
 use test_support::{OEM, OEM_REVISION, OEM_TABLE};
 
-// Fails unless a table of so many bytes and structures has this number of them, of this size each from an offset on, and is read
+// Fails unless a table of this many bytes has this number of structures, of this size each from an offset on, and is read
 // back into them.
 fn is_read(
     alloc: Global,

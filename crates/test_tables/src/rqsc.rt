@@ -297,14 +297,14 @@ fn each_kind(rt: HostRuntime) -> Result<(), Fail> {
     takes_each_kind(rt.alloc(), &mut table(rt.alloc()))
 }
 
-// Fails unless an object writes these bytes, and then the byte 0x5a so many times.
+// Fails unless an object writes these bytes, and then the byte 0x5a this many times.
 fn ends_in(alloc: Global, made: &dyn Aml, first: &[u8], size: usize) -> Result<(), Fail> {
     let mut wanted = Vec::from_slice(alloc, first)?;
     wanted.extend_from_slice(&vec![in alloc; 0x5a; size]?)?;
     writes(alloc, made, &wanted)
 }
 
-// Fails unless a controller refuses a resource of so many bytes, and keeps its length.
+// Fails unless a controller refuses a resource of this many bytes, and keeps its length.
 fn has_no_room(alloc: Global, full: &mut QoSController, bytes: &[u8]) -> Result<(), Fail> {
     let size = full.len();
     let longer = vendors(alloc, bytes)?;

@@ -26,8 +26,8 @@ pub use error::Error;
 pub use hyssop_acpi_sys::{ImageTable, NO_KIND, Note, Structure, fault};
 pub use image::{Image, check_image, image_tables, lay};
 pub use table::{check_aml, check_table, disassemble, names, seal, structures};
-pub use text::{make, notes, show, template};
-pub use writer::{MemoryType, Op, Writer};
+pub use text::{findings, make, notes, show, template};
+pub use writer::{Access, MemoryType, Op, RegionSpace, Update, Writer};
 
 // Calls a function that fills a buffer, with a larger one as long as there are more values than it has space for.
 fn filled<T: Clone + Default>(

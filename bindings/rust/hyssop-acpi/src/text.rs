@@ -16,8 +16,17 @@ pub fn show(bytes: &[u8]) -> Result<String, Error> {
     Ok(text_of(text))
 }
 
-/// Returns the table of such a text. What the text leaves out is worked out, such as its length and checksum. The place of an
-/// error is a line.
+/// Returns the rules of the standard that a table breaks, or an RSDP or a FACS: a line for each, and no line if it breaks none.
+/// The place of an error is an offset.
+pub fn findings(bytes: &[u8]) -> Result<String, Error> {
+    let text = filled(|out, room, size, place| unsafe {
+        sys::hyssop_findings(bytes.as_ptr(), bytes.len(), out, room, size, place)
+    })?;
+    Ok(text_of(text))
+}
+
+/// Returns the table of a text that `show` returned, or one like it. What the text leaves out is worked out, such as its length
+/// and checksum. The place of an error is a line.
 pub fn make(text: &str) -> Result<Vec<u8>, Error> {
     filled(|out, room, size, place| unsafe {
         sys::hyssop_make(text.as_ptr(), text.len(), out, room, size, place)

@@ -15,6 +15,43 @@ pub enum MemoryType {
     Prefetchable = 3,
 }
 
+/// The address spaces of regions (ACPI 6.5, 20.2.5.2, RegionSpace).
+#[repr(u8)]
+#[derive(Clone, Copy, Debug, PartialEq, Eq)]
+pub enum RegionSpace {
+    SystemMemory = 0,
+    SystemIo = 1,
+    PciConfig = 2,
+    EmbeddedControl = 3,
+    SmBus = 4,
+    SystemCmos = 5,
+    PciBarTarget = 6,
+    Ipmi = 7,
+    GeneralPurposeIo = 8,
+    GenericSerialBus = 9,
+}
+
+/// The width of the accesses to a field (ACPI 6.5, 20.2.5.2, AccessType).
+#[repr(u32)]
+#[derive(Clone, Copy, Debug, PartialEq, Eq)]
+pub enum Access {
+    Any = 0,
+    Byte = 1,
+    Word = 2,
+    DWord = 3,
+    QWord = 4,
+    Buffer = 5,
+}
+
+/// What an access to a field writes to the bits that don't belong to it (ACPI 6.5, 20.2.5.2, UpdateRule).
+#[repr(u32)]
+#[derive(Clone, Copy, Debug, PartialEq, Eq)]
+pub enum Update {
+    Preserve = 0,
+    WriteAsOnes = 1,
+    WriteAsZeroes = 2,
+}
+
 /// The operators (ACPI 6.5, 20.2.5), by their names in ASL. The number is the opcode (20.3).
 #[repr(u32)]
 #[derive(Clone, Copy, Debug, PartialEq, Eq)]
@@ -224,6 +261,24 @@ impl Writer {
         self.opened(inside)
     }
 
+    /// A processor (ACPI 6.5, 20.2.5.2, DefProcessor): its id in the MADT, and the address and the length of its register block.
+    /// The standard has a device with the id ACPI0007 in place of it.
+    pub fn processor(
+        &mut self,
+        path: &str,
+        id: u8,
+        address: u32,
+        size: u8,
+        inside: impl FnOnce(&mut Writer),
+    ) -> &mut Writer {
+        self.with_text(path, |writer, path| {
+            writer.call(|inner| unsafe {
+                sys::hyssop_open_processor(inner, path, id, address, size)
+            });
+        });
+        self.opened(inside)
+    }
+
     /// A method of 0 to 7 arguments (ACPI 6.5, 20.2.5.2, DefMethod).
     pub fn method(
         &mut self,
@@ -240,7 +295,7 @@ impl Writer {
         self.opened(inside)
     }
 
-    /// A package, in which at most so many elements are written (ACPI 6.5, 20.2.5.4, DefPackage).
+    /// A package, in which at most this many elements are written (ACPI 6.5, 20.2.5.4, DefPackage).
     pub fn package(&mut self, elements: u8, inside: impl FnOnce(&mut Writer)) -> &mut Writer {
         self.call(|inner| unsafe { sys::hyssop_open_package(inner, elements) });
         self.opened(inside)
@@ -274,6 +329,117 @@ impl Writer {
     pub fn resources(&mut self, inside: impl FnOnce(&mut Writer)) -> &mut Writer {
         self.call(|inner| unsafe { sys::hyssop_open_resources(inner) });
         self.opened(inside)
+    }
+
+    /// A field of a region, whose units and gaps are written inside (ACPI 6.5, 20.2.5.2, DefField). `lock` says whether an access
+    /// takes the global lock.
+    pub fn field(
+        &mut self,
+        region: &str,
+        access: Access,
+        lock: bool,
+        update: Update,
+        inside: impl FnOnce(&mut Writer),
+    ) -> &mut Writer {
+        self.with_text(region, |writer, region| {
+            writer.call(|inner| unsafe {
+                sys::hyssop_open_field(inner, region, access as u32, lock.into(), update as u32)
+            });
+        });
+        self.opened(inside)
+    }
+
+    /// A field that is reached by an index (ACPI 6.5, 20.2.5.2, DefIndexField): the field to which an index is written, and that
+    /// of the data. All else is as for `field`.
+    pub fn index_field(
+        &mut self,
+        index: &str,
+        data: &str,
+        access: Access,
+        lock: bool,
+        update: Update,
+        inside: impl FnOnce(&mut Writer),
+    ) -> &mut Writer {
+        self.with_text(index, |writer, index| {
+            writer.with_text(data, |writer, data| {
+                writer.call(|inner| unsafe {
+                    sys::hyssop_open_index_field(
+                        inner,
+                        index,
+                        data,
+                        access as u32,
+                        lock.into(),
+                        update as u32,
+                    )
+                });
+            });
+        });
+        self.opened(inside)
+    }
+
+    /// A name of four characters for the next bits of a field (ACPI 6.5, 20.2.5.2, NamedField).
+    pub fn unit(&mut self, name: &str, bits: u32) -> &mut Writer {
+        self.with_text(name, |writer, name| {
+            writer.call(|inner| unsafe { sys::hyssop_field_unit(inner, name, bits) });
+        })
+    }
+
+    /// Leaves out the next bits of a field (ACPI 6.5, 20.2.5.2, ReservedField).
+    pub fn gap(&mut self, bits: u32) -> &mut Writer {
+        self.call(|inner| unsafe { sys::hyssop_field_gap(inner, bits) })
+    }
+
+    /// The beginning of a region (ACPI 6.5, 20.2.5.2, DefOpRegion). Its offset and its length in bytes follow, which are two
+    /// numbers or other terms.
+    pub fn region(&mut self, path: &str, space: RegionSpace) -> &mut Writer {
+        self.with_text(path, |writer, path| {
+            writer.call(|inner| unsafe { sys::hyssop_region(inner, path, space as u8) });
+        })
+    }
+
+    /// A mutex, with its sync level from 0 to 15 (ACPI 6.5, 20.2.5.2, DefMutex).
+    pub fn mutex(&mut self, path: &str, sync_level: u8) -> &mut Writer {
+        self.with_text(path, |writer, path| {
+            writer.call(|inner| unsafe { sys::hyssop_mutex(inner, path, sync_level) });
+        })
+    }
+
+    /// Acquires a mutex, within so many milliseconds; 0xffff has no limit (ACPI 6.5, 20.2.5.4, DefAcquire).
+    pub fn acquire(&mut self, mutex: &str, timeout: u16) -> &mut Writer {
+        self.with_text(mutex, |writer, mutex| {
+            writer.call(|inner| unsafe { sys::hyssop_acquire(inner, mutex, timeout) });
+        })
+    }
+
+    /// Releases a mutex (ACPI 6.5, 20.2.5.3, DefRelease).
+    pub fn release(&mut self, mutex: &str) -> &mut Writer {
+        self.with_text(mutex, |writer, mutex| {
+            writer.call(|inner| unsafe { sys::hyssop_release(inner, mutex) });
+        })
+    }
+
+    /// An event (ACPI 6.5, 20.2.5.2, DefEvent).
+    pub fn event(&mut self, path: &str) -> &mut Writer {
+        self.with_text(path, |writer, path| {
+            writer.call(|inner| unsafe { sys::hyssop_event(inner, path) });
+        })
+    }
+
+    /// A second name for the object `source` (ACPI 6.5, 20.2.5.1, DefAlias).
+    pub fn alias(&mut self, source: &str, name: &str) -> &mut Writer {
+        self.with_text(source, |writer, source| {
+            writer.with_text(name, |writer, name| {
+                writer.call(|inner| unsafe { sys::hyssop_alias(inner, source, name) });
+            });
+        })
+    }
+
+    /// Declares an object of another block (ACPI 6.5, 20.2.5.1, DefExternal): its type (19.6.46), and how many arguments it has
+    /// as a method.
+    pub fn external(&mut self, path: &str, kind: u8, arguments: u8) -> &mut Writer {
+        self.with_text(path, |writer, path| {
+            writer.call(|inner| unsafe { sys::hyssop_external(inner, path, kind, arguments) });
+        })
     }
 
     /// A name for the object that follows (ACPI 6.5, 20.2.5.1, DefName).

@@ -60,6 +60,43 @@ fn resources() {
     assert_eq!(bytes.as_deref(), Ok(&wanted[..]));
 }
 
+#[test]
+fn regions_and_fields() {
+    let bytes = aml(|w| {
+        w.region("GPIO", RegionSpace::SystemIo)
+            .integer(0x600)
+            .integer(8);
+        w.field("GPIO", Access::Byte, false, Update::Preserve, |w| {
+            w.gap(4).unit("BIT4", 1);
+        });
+        w.index_field(
+            "IDX_",
+            "DAT_",
+            Access::Word,
+            true,
+            Update::WriteAsOnes,
+            |w| {
+                w.unit("WIDE", 64);
+            },
+        );
+    });
+    let wanted = b"\x5b\x80GPIO\x01\x0b\0\x06\x0a\x08\x5b\x81\x0dGPIO\x01\0\x04BIT4\x01\x5b\x86\x10IDX_DAT_\x32WIDE\x40\x04";
+    assert_eq!(bytes.as_deref(), Ok(&wanted[..]));
+}
+
+#[test]
+fn other_named_objects() {
+    let bytes = aml(|w| {
+        w.external("FUNC", 8, 2).alias("FUNC", "CALL").event("EVT_");
+        w.mutex("MTX_", 1).acquire("MTX_", 0xffff).release("MTX_");
+        w.processor("CPU0", 1, 0x810, 6, |_| {});
+    });
+    let wanted =
+        b"\x15FUNC\x08\x02\x06FUNCCALL\x5b\x02EVT_\x5b\x01MTX_\x01\x5b\x23MTX_\xff\xff\x5b\x27MTX_\
+        \x5b\x83\x0bCPU0\x01\x10\x08\0\0\x06";
+    assert_eq!(bytes.as_deref(), Ok(&wanted[..]));
+}
+
 // Longer than any first buffer: a text of 65,536 bytes in a PkgLength of three bytes.
 #[test]
 fn long_contents() {
@@ -107,6 +144,18 @@ fn errors_of_a_writer() {
         }),
         Err(fault::ARG_NUMBER)
     );
+    assert_eq!(
+        fault_of(|w| {
+            w.unit("ABC", 1);
+        }),
+        Err(fault::NAME_PART)
+    );
+    assert_eq!(
+        fault_of(|w| {
+            w.gap(1 << 28);
+        }),
+        Err(fault::OBJECT_LENGTH)
+    );
 }
 
 fn madt() -> Vec<u8> {
@@ -134,6 +183,7 @@ fn tables() {
     assert!(text.contains("Processor Local APIC"));
     assert_eq!(make(&text), Ok(table.clone()));
     assert_eq!(notes(&text), Ok(vec![]));
+    assert_eq!(findings(&table).as_deref(), Ok(""));
     let mut cut = table[..51].to_vec();
     let error = check_table(&cut).unwrap_err();
     assert_eq!(

@@ -392,7 +392,7 @@ impl SmmuV3 {
         }
     }
 
-    /// Sets flag 1 (offset 24): the SMMU's accesses are coherent, whatever its register says.
+    /// Sets flag 1 (offset 24): the SMMU's accesses are coherent. Its register is ignored.
     pub fn cohacc_override(mut self) -> SmmuV3
         ensures { result ≡ record self { flags = bit_or self.flags 1 } }
     {
@@ -400,7 +400,7 @@ impl SmmuV3 {
         self
     }
 
-    /// Sets HTTU Override (bits 1 and 2 at offset 24): what the SMMU updates, whatever its register says.
+    /// Sets HTTU Override (bits 1 and 2 at offset 24): what the SMMU updates. Its register is ignored.
     pub fn httu_override(mut self, httu: Httu) -> SmmuV3
         ensures { result ≡ record self { httu = httu_flags httu } }
     {

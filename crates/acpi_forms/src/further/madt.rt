@@ -1,5 +1,5 @@
-//! Structures of the Multiple APIC Description Table that no library call writes: those of SAPICs, of LoongArch, of GICv5, and the
-//! mailbox by which processors wake up.
+//! Structures of the Multiple APIC Description Table that no library call writes: those of SAPICs, of LoongArch, of GICv5, and
+//! the mailbox by which processors wake up.
 
 use acpi_base::row::{Bits, Row, Word};
 use acpi_base::walk::Place;

@@ -4,7 +4,7 @@ ghost use Rattle.std.specs.Prelude.{◌≡◌, ◌++◌, [], OnOk, string_bytes,
 ghost use Rattle.std.specs.Fmt.{decimal};
 ghost use Rattle.acpi_term.specs.Tree.{def_method, def_power_res, def_field};
 ghost use Rattle.acpi_term.specs.Tree.{def_external, def_leveled_method, def_processor, def_roomy_package, def_index_field};
-ghost use Rattle.acpi_term.specs.Tree.{def_fatal};
+ghost use Rattle.acpi_term.specs.Tree.{def_fatal, def_bank_field};
 ghost use Rattle.acpi_term.specs.View.{head_of};
 ghost use Rattle.acpi_read.specs.Lines.{quoted_bytes, data_text, head_text};
 
@@ -127,6 +127,23 @@ fn push_index_field(
     push_rules(lock, update, text)
 }
 
+#[tactic(auto, using(crate::proofs::Texts::after_three))]
+fn push_bank_field(
+    name: &NameString,
+    bank: &NameString,
+    access: u8,
+    lock: u8,
+    update: u8,
+    text: &mut String,
+) -> Result<(), AllocError>
+    ensures { OnOk result (string_bytes text.new ≡ string_bytes text.old
+        ++ head_text (def_bank_field name.now bank.now access lock update []) 0) }
+{
+    push_named("bankfield ", name, text)?;
+    push_numbered(" bank ", bank, " access ", u64::from(access), text)?;
+    push_rules(lock, update, text)
+}
+
 #[tactic(auto, using(crate::proofs::Texts::after_two))]
 fn push_room(count: usize, room: u8, text: &mut String) -> Result<(), AllocError>
     ensures { OnOk result (string_bytes text.new ≡ string_bytes text.old ++ head_text (def_roomy_package room) count) }
@@ -143,10 +160,11 @@ fn push_fatal(kind: u8, code: u32, text: &mut String) -> Result<(), AllocError>
     push_number(" code ", u64::from(code), text)
 }
 
-fn push_data(bytes: &[u8], text: &mut String) -> Result<(), AllocError>
-    ensures { OnOk result (string_bytes text.new ≡ string_bytes text.old ++ (codes "buffer data" ++ data_text bytes.now)) }
+/// Adds a word, and the digits of bytes after a space.
+pub fn push_bytes(word: &str, bytes: &[u8], text: &mut String) -> Result<(), AllocError>
+    ensures { OnOk result (string_bytes text.new ≡ string_bytes text.old ++ (word.now ++ data_text bytes.now)) }
 {
-    text.push_str("buffer data")?;
+    text.push_str(word)?;
     if !bytes.is_empty() {
         text.push(' ')?;
         push_hex(bytes, text)?;
@@ -185,7 +203,7 @@ pub fn push_head(kind: Kind<'_>, count: usize, text: &mut String) -> Result<(), 
             push_numbered("acquire ", name, " timeout ", u64::from(timeout), text)
         }
         Kind::Release(name) => push_named("release ", name, text),
-        Kind::Buffer(bytes) => push_data(bytes, text),
+        Kind::Buffer(bytes) => push_bytes("buffer data", bytes, text),
         Kind::Package => push_number("package ", count as u64, text),
         Kind::VarPackage => text.push_str("varpackage"),
         Kind::If => text.push_str("if"),
@@ -201,6 +219,9 @@ pub fn push_head(kind: Kind<'_>, count: usize, text: &mut String) -> Result<(), 
         Kind::RoomyPackage(room) => push_room(count, room, text),
         Kind::IndexField(index, name, access, lock, update, _) => {
             push_index_field(index, name, access, lock, update, text)
+        }
+        Kind::BankField(name, bank, access, lock, update, _) => {
+            push_bank_field(name, bank, access, lock, update, text)
         }
         Kind::Fatal(kind, code) => push_fatal(kind, code, text),
         Kind::MatchTest(code) => push_number("test ", u64::from(code), text),

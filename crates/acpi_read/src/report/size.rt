@@ -2,7 +2,8 @@
 
 ghost use Rattle.std.specs.Prelude.{◌≡◌, ℕ, ◌+◌, length, map, max, IfOk};
 ghost use Rattle.acpi_base.specs.Number.{number_bytes};
-ghost use Rattle.acpi_term.specs.Row.{entry_bytes, entries_bytes, layout};
+ghost use Rattle.acpi_term.specs.Row.{connected, entry_bytes, entries_bytes, layout};
+ghost use Rattle.acpi_term.specs.Tree.{connection_buffer};
 ghost use Rattle.acpi_term.specs.View.{view, views, single, entry_view, head_of};
 ghost use Rattle.acpi_read.specs.Size.{capped, own_size, frame_size, content_sizes, AreSized};
 
@@ -46,6 +47,25 @@ fn named_size(name: &[u8], width: u8) -> u32
     sum(capped(name.len()), u32::from(width.max(1)))
 }
 
+/// The number of bytes of a connection's buffer after its length.
+#[tactic(auto, using(crate::proofs::Sizes::length_number, crate::proofs::Sizes::size_after))]
+pub fn buffer_size(size: u64, size_width: u8, bytes: &[u8]) -> u32
+    ensures { result ≡ capped (length (connected size size_width bytes.now)) }
+{
+    sum(number_size(size, size_width), capped(bytes.len()))
+}
+
+// The number of bytes of an entry with a connection's buffer, whose length has this width.
+#[tactic(auto, using(crate::proofs::Sizes::connection_size))]
+fn connection_size(width: u8, size: u64, size_width: u8, bytes: &[u8]) -> u32
+    ensures { result ≡ capped (length (entry_bytes (connection_buffer width size size_width bytes.now))) }
+{
+    sum(
+        2 + u32::from(width.max(1)),
+        buffer_size(size, size_width, bytes),
+    )
+}
+
 #[tactic(auto, using(crate::proofs::Sizes::length_length, crate::proofs::Sizes::named_size))]
 fn entry_size(entry: &TermEntry) -> u32
     ensures { result ≡ capped (length (entry_bytes (entry_view entry.now))) }
@@ -53,6 +73,15 @@ fn entry_size(entry: &TermEntry) -> u32
     match entry {
         TermEntry::Named(name, _, width) => named_size(name, *width),
         TermEntry::Reserved(_, width) => 1 + u32::from((*width).max(1)),
+        TermEntry::AccessAs(..) => 3,
+        TermEntry::ExtendedAccessAs(..) => 4,
+        TermEntry::Connection(name) => name_size(name, 1),
+        TermEntry::ConnectionBuffer {
+            width,
+            size,
+            size_width,
+            bytes,
+        } => connection_size(*width, *size, *size_width, bytes),
     }
 }
 
@@ -83,7 +112,8 @@ fn own_size(kind: Kind<'_>, width: u8) -> u32
         }
         Kind::External(name, ..) => name_size(name, 3),
         Kind::Processor(name, ..) => name_size(name, 6),
-        Kind::IndexField(index, name, _, _, _, entries) => sum(
+        Kind::BankField(index, name, _, _, _, entries)
+        | Kind::IndexField(index, name, _, _, _, entries) => sum(
             name_size(index, 0),
             sum(name_size(name, 1), entries_size(entries)),
         ),

@@ -71,7 +71,14 @@ pub fn shown_width(kind: Kind<'_>, width: u8, size: u32) -> Option<u8>
     unless(is_chosen(kind, width, size), width)
 }
 
-/// The width of a field entry of this many bits, if the report shows it.
+/// The width of a number, if the report shows it.
+pub fn shown_number_width(value: u64, width: u8) -> Option<u8>
+    ensures { width_words result ≡ width_suffix (width == number_width value) width }
+{
+    unless(width == number_width(value), width)
+}
+
+/// The width of the length of a field entry, which counts this many bits or bytes, if the report shows it.
 pub fn shown_entry_width(bits: u32, width: u8) -> Option<u8>
     ensures { width_words result ≡ width_suffix (width == least_width bits && nat_lt bits (2 ^ 28)) width }
 {

@@ -10,7 +10,8 @@ ghost use Rattle.acpi_term.specs.View.{views, view};
 ghost use Rattle.acpi_term.specs.Reading.{follows, number_at, string_at, named_at, define_after, mutex_after};
 ghost use Rattle.acpi_term.specs.Reading.{region_after, acquire_after, release_after, framed_at, scope_inside};
 ghost use Rattle.acpi_term.specs.Reading.{device_inside, method_inside, power_inside, field_inside, plain_at};
-ghost use Rattle.acpi_term.specs.Reading.{thermal_inside, processor_inside, index_flags, index_inside, external_after};
+ghost use Rattle.acpi_term.specs.Reading.{thermal_inside, processor_inside, index_flags, index_inside, bank_inside};
+ghost use Rattle.acpi_term.specs.Reading.{external_after};
 ghost use Rattle.acpi_term.specs.Reading.{further, fills};
 ghost use Rattle.acpi_term.specs.Reading.{fatal_at, test_at, head_at};
 ghost use Rattle.acpi_term.specs.Reading.{package_at, buffer_at, operator_at, extended_at, local_at, opcode_at, open_at};
@@ -151,6 +152,14 @@ impl FirstAndBlock {
     }
 }
 
+/// A BankField before its value: the width of its length, the region, and the register that chooses the bank.
+#[derive(Drop)]
+pub struct BankStart {
+    pub width: u8,
+    pub name: NameString,
+    pub bank: NameString,
+}
+
 /// The head of a term, and the bytes from which its children are read.
 #[derive(Drop)]
 pub enum TermStart<'a> {
@@ -177,6 +186,8 @@ pub enum TermStart<'a> {
     Rooms(u8, u8, &'a [u8], &'a [u8]),
     /// The width, the content, and the bytes after the frame.
     Buffer(u8, &'a [u8], &'a [u8]),
+    /// A BankField, the content after its names, and the bytes after the frame.
+    Bank(BankStart, &'a [u8], &'a [u8]),
 }
 
 /// A number that is its opcode alone.
@@ -430,13 +441,14 @@ fn power_resource(language: Language, alloc: Global, bytes: &[u8]) -> Result<Ter
 }
 
 fn flagged<'a>(
+    language: Language,
     alloc: Global,
     width: u8,
     name: NameString,
     bytes: &[u8],
     after: &'a [u8],
 ) -> Result<TermStart<'a>, Cause>
-    ensures gives { Gives seen result (field_inside width name bytes.now after.now) }
+    ensures gives { Gives seen result (field_inside language width name bytes.now after.now) }
     ensures alone { IfOk result IsAlone }
 {
     let Some((flags, rest)) = bytes.split_first() else {
@@ -449,7 +461,7 @@ fn flagged<'a>(
     if flags >= 96 {
         return Err(Cause::Flags);
     }
-    let entries = entries(alloc, rest)?;
+    let entries = entries(language, alloc, rest)?;
     Ok(TermStart::Leaf(
         Term::Field {
             width,
@@ -464,15 +476,16 @@ fn flagged<'a>(
 }
 
 fn field(language: Language, alloc: Global, bytes: &[u8]) -> Result<TermStart<'_>, Cause>
-    ensures gives { Gives seen result (framed_at language field_inside bytes.now) }
+    ensures gives { Gives seen result (framed_at language (field_inside language) bytes.now) }
     ensures alone { IfOk result IsAlone }
 {
     let (width, content, after) = frame(bytes)?;
     let (name, inside) = name(language, alloc, content)?;
-    flagged(alloc, width, name, inside, after)
+    flagged(language, alloc, width, name, inside, after)
 }
 
 fn indexed<'a>(
+    language: Language,
     alloc: Global,
     width: u8,
     index: NameString,
@@ -480,7 +493,7 @@ fn indexed<'a>(
     bytes: &[u8],
     after: &'a [u8],
 ) -> Result<TermStart<'a>, Cause>
-    ensures gives { Gives seen result (index_flags width index name bytes.now after.now) }
+    ensures gives { Gives seen result (index_flags language width index name bytes.now after.now) }
     ensures alone { IfOk result IsAlone }
 {
     let Some((flags, rest)) = bytes.split_first() else {
@@ -493,7 +506,7 @@ fn indexed<'a>(
     if flags >= 96 {
         return Err(Cause::Flags);
     }
-    let entries = entries(alloc, rest)?;
+    let entries = entries(language, alloc, rest)?;
     Ok(TermStart::Leaf(
         Term::IndexField {
             width,
@@ -518,7 +531,25 @@ fn index_field(language: Language, alloc: Global, bytes: &[u8]) -> Result<TermSt
     let (width, content, after) = frame(bytes)?;
     let (index, rest) = name(language, alloc, content)?;
     let (name, inside) = name(language, alloc, rest)?;
-    indexed(alloc, width, index, name, inside, after)
+    indexed(language, alloc, width, index, name, inside, after)
+}
+
+fn bank_field(language: Language, alloc: Global, bytes: &[u8]) -> Result<TermStart<'_>, Cause>
+    ensures gives { Gives seen result (further language (framed_at language (bank_inside language) bytes.now)) }
+    ensures alone { IfOk result IsAlone }
+{
+    if !language.is_standard() {
+        return Err(Cause::Opcode);
+    }
+    let (width, content, after) = frame(bytes)?;
+    let (region, rest) = name(language, alloc, content)?;
+    let (bank, inside) = name(language, alloc, rest)?;
+    let start = BankStart {
+        width,
+        name: region,
+        bank,
+    };
+    Ok(TermStart::Bank(start, inside, after))
 }
 
 fn otherwise(bytes: &[u8]) -> Result<TermStart<'_>, Cause>
@@ -603,6 +634,7 @@ fn extended(language: Language, alloc: Global, bytes: &[u8]) -> Result<TermStart
         [0x84, rest @ ..] => power_resource(language, alloc, rest),
         [0x85, rest @ ..] => thermal_zone(language, alloc, rest),
         [0x86, rest @ ..] => index_field(language, alloc, rest),
+        [0x87, rest @ ..] => bank_field(language, alloc, rest),
         [byte, rest @ ..] => operator(language, &[0x5b, *byte], rest),
     }
 }

@@ -5,9 +5,9 @@ use std::test::Fail;
 
 // What is printed after the line of a wrong word.
 const USAGE: &str = "\
-usage: acpitool show FILE .. [NAME=N ..] | check FILE .. | diff FILE FILE | disassemble FILE [NAME=N ..] \
-| names FILE [NAME=N ..] | image FILE [BASE] | make [--force] TEXT FILE | template SIGNATURE \
-| unpack FILE FOLDER [BASE] | cpio FOLDER FILE | lay FOLDER FILE BASE | --help | --version
+usage: acpitool show [--no-offsets] FILE .. [NAME=N ..] | show --json FILE .. | check [--json] FILE .. | diff FILE FILE \
+| disassemble FILE [NAME=N ..] | names FILE [NAME=N ..] | image [--json] FILE [BASE] | make [--force] TEXT FILE \
+| template SIGNATURE | unpack FILE FOLDER [BASE] | cpio FOLDER FILE | lay FOLDER FILE BASE | --help | --version
 ";
 
 // The template of a definition block.
@@ -50,8 +50,19 @@ fn wrong_commands(rt: HostRuntime) -> Result<(), Fail> {
             (&["-H"], "unknown word -H\n"),
             (&["show"], "no file to show\n"),
             (&["show", "MTHD=2"], "no file to show\n"),
+            (&["show", "--json"], "no file to show\n"),
+            (&["show", "--no-offsets"], "no file to show\n"),
+            (&["show", "--no-offsets", "MTHD=2"], "no file to show\n"),
+            (&["show", "--no-offset", "x"], "unknown word --no-offset\n"),
+            (
+                &["check", "--no-offsets", "x"],
+                "unknown word --no-offsets\n",
+            ),
+            (&["check", "--json"], "no file to check\n"),
+            (&["diff", "--json", "x"], "unknown word --json\n"),
             (&["check"], "no file to check\n"),
             (&["image"], "no file with an image\n"),
+            (&["image", "--json"], "no file with an image\n"),
             (&["disassemble"], "no file with a definition block\n"),
             (&["names"], "no file with a definition block\n"),
             (&["unpack"], "no file to unpack\n"),
@@ -68,6 +79,25 @@ fn wrong_commands(rt: HostRuntime) -> Result<(), Fail> {
                 &["disassemble", "x", "y"],
                 "not NAME=N with N from 0 to 7: y\n",
             ),
+        ],
+    )
+}
+
+// An option that stands right after its command is the only one.
+#[test]
+fn wrong_places(rt: HostRuntime) -> Result<(), Fail> {
+    have_lines(
+        &rt,
+        "acpitool: at most one option, right after the command: ",
+        USAGE,
+        &[
+            (&["show", "x", "--json"], "--json\n"),
+            (&["show", "x", "--no-offsets"], "--no-offsets\n"),
+            (&["show", "--json", "--json"], "--json\n"),
+            (&["show", "--json", "--no-offsets", "x"], "--no-offsets\n"),
+            (&["show", "--no-offsets", "--json", "x"], "--json\n"),
+            (&["check", "x", "--json"], "--json\n"),
+            (&["image", "x", "--json"], "--json\n"),
         ],
     )
 }

@@ -30,7 +30,7 @@ fn error_data(rt: HostRuntime) -> Result<(), Fail> {
     takes_a_number(rt.alloc(), &mut entry(rt.alloc()))
 }
 
-// Fails unless an entry has so many bytes of data after one object and after another.
+// Fails unless an entry has this many bytes of data after one object and after another.
 fn counts_its_data(alloc: Global, entry: &mut GenericErrorData) -> Result<(), Fail> {
     equal(&entry.data_size()?, &0)?;
     entry.add_data(Box::new(alloc, 0x0102_0304u32)?)?;

@@ -1,7 +1,7 @@
 use Rattle.std.proofs.Common.{rules, arith, ap}
 use Rattle.acpi_term.proofs.Depths.{first_shallow, others_shallow, element_shallow}
 use Rattle.acpi_term.specs.Tree.{depth}
-use Rattle.acpi_asl.proofs.Namespaces.{names_on, names_done, alone_written, around_written}
+use Rattle.acpi_asl.proofs.Namespaces.{names_on, names_done, around_written}
 use Rattle.acpi_asl.proofs.namespace.+names.Goals as goal
 
 pub push_names-push_term-requires : goal.push_names-push_term-requires

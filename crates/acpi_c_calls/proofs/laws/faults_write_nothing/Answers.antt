@@ -5,6 +5,7 @@ pub returns : goal.returns
 returns c = record {
   structures = λ bytes. fault_leaves _ _;
   texts = λ bytes. fault_leaves _ _;
+  findings = λ bytes. fault_leaves _ _;
   tables = λ text. fault_leaves _ _;
   notes = λ text. fault_leaves _ _;
   templates = λ signature. fault_leaves _ _;

@@ -5,6 +5,7 @@ pub returns : goal.returns
 returns c = record {
   structures = λ bytes. fine_is_given _ _;
   texts = λ bytes. fine_is_given _ _;
+  findings = λ bytes. fine_is_given _ _;
   tables = λ text. fine_is_given _ _;
   notes = λ text. fine_is_given _ _;
   templates = λ signature. fine_is_given _ _;

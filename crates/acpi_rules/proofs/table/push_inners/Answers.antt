@@ -13,3 +13,11 @@ inners-preserved c =
           c.front_size.result c.inners.rest.now _ _ _ _ _ c.front_size.ensures c.in-Some.is c.split_at.ensures.front
           c.split_at.ensures.back c.inners.invariant.found c.in_ok-push_parts.ensures;
     }
+
+pub split_at-requires : goal.split_at-requires
+split_at-requires c = (front_within (c.args.sizes) c.in-Some.size c.inners.rest.now (sym c.front_size.ensures ∙ c.in-Some.is)).fits
+
+pub inners-smaller : goal.inners-smaller
+inners-smaller c =
+    let within = front_within (c.args.sizes) c.in-Some.size c.inners.rest.now (sym c.front_size.ensures ∙ c.in-Some.is) in
+    omega (arith, within.some, within.fits, c.split_at.ensures.back_len)

@@ -15,3 +15,11 @@ structures-preserved c =
           c.in-Some.size c.front_size.result c.structures.rest.now _ _ _ _ _ c.front_size.ensures c.in-Some.is
           c.split_at.ensures.front c.split_at.ensures.back c.structures.invariant.found c.in_ok-push_structure.ensures;
     }
+
+pub split_at-requires : goal.split_at-requires
+split_at-requires c = (front_within (c.args.walk.now.sizes) c.in-Some.size c.structures.rest.now (sym c.front_size.ensures ∙ c.in-Some.is)).fits
+
+pub structures-smaller : goal.structures-smaller
+structures-smaller c =
+    let within = front_within (c.args.walk.now.sizes) c.in-Some.size c.structures.rest.now (sym c.front_size.ensures ∙ c.in-Some.is) in
+    omega (arith, within.some, within.fits, c.split_at.ensures.back_len)

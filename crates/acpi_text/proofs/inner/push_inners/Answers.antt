@@ -10,3 +10,11 @@ inners-preserved c =
       fits = omega (arith, c.inners.invariant.fits, within.fits, c.split_at.ensures.back_len);
       parts = piece_goes_on c.args.sizes (inner_text c.args.name.now c.args.parts.now) c.inners.at c.in-Some.size c.front_size.result c.inners.rest.now _ _ _ _ _ c.front_size.ensures c.in-Some.is c.split_at.ensures.front c.split_at.ensures.back c.inners.invariant.parts c.in_ok-push_inner.ensures;
     }
+
+pub split_at-requires : goal.split_at-requires
+split_at-requires c = (front_within c.args.sizes c.in-Some.size c.inners.rest.now (sym c.front_size.ensures ∙ c.in-Some.is)).fits
+
+pub inners-smaller : goal.inners-smaller
+inners-smaller c =
+    let within = front_within c.args.sizes c.in-Some.size c.inners.rest.now (sym c.front_size.ensures ∙ c.in-Some.is) in
+    omega (arith, within.some, within.fits, c.split_at.ensures.back_len)
