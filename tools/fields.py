@@ -45,7 +45,8 @@ def sources():
 
 
 FORMS, ROWS = sources()
-REPEATED = set(re.findall(r'(?:Part::(?:Numbers|Entries|Matrix)\(|Inner::Structures\(\s*\d+,)\s*"([^"]+)"', FORMS))
+REPEATED = set(re.findall(r'Part::(?:Numbers|Entries|Matrix)\(\s*"([^"]+)"', FORMS))
+REPEATED |= set(re.findall(r'InnerForm \{\s*number: \d+,\s*name: "([^"]+)"', FORMS))
 SIZED = set(re.findall(r'Part::(?:Bytes|Until)\(\s*"([^"]+)"', FORMS))
 # What the bits of each field with flags are, by the field's name: masks with names, numbers with words under a mask, and numbers
 # of their own. Several fields of a name can have different bits.

@@ -1,10 +1,10 @@
-"""Makes the list in docs/RULES.md of the rules that `acpitool check` has for single tables.
+"""Makes the lists in docs/RULES.md of the rules that `acpitool check` has: those on single tables, and those on several.
 
-    python3 -B tools/rules.py            compares the list with what it has to be; the status is 1 if they differ
-    python3 -B tools/rules.py renew      writes the list
+    python3 -B tools/rules.py            compares the lists with what they have to be; the status is 1 if they differ
+    python3 -B tools/rules.py renew      writes the lists
 
-The rules are the rows of crates/acpi_rules/src/standard.rt. Each name of a field has to be in the sources of the forms. Where
-docs/FIELDS.md has the structure of a rule, its field has to be there with the same offset and width.
+The rules are the rows of crates/acpi_rules/src/standard.rt and machine.rt. Each name of a field has to be in the sources of the
+forms. Where docs/FIELDS.md has the structure of a rule, its field has to be there with the same offset and width.
 """
 import glob
 import re
@@ -12,9 +12,12 @@ import sys
 import textwrap
 
 SOURCE = "crates/acpi_rules/src/standard.rt"
+MACHINE = "crates/acpi_rules/src/machine.rt"
 DOCUMENT = "docs/RULES.md"
 FIELDS = "docs/FIELDS.md"
 BEGIN, END = "<!-- rules: tools/rules.py makes these lines -->\n", "<!-- end of rules -->\n"
+BEGIN_SEVERAL = "<!-- rules on several tables: tools/rules.py makes these lines -->\n"
+END_SEVERAL = "<!-- end of rules on several tables -->\n"
 NAMES = {"Differs": "unique", "Apart": "overlap", "AtMost": "at-most", "Addresses": "no-overflow", "Counts": "count"}
 NAMES.update({"Agrees": "pair", "Needed": "required", "Needs": "needs", "Between": "range", "Multiple": "multiple"})
 NAMES.update({"Points": "reference", "Refers": "reference", "Distances": "distance"})
@@ -145,6 +148,55 @@ def relations(text):
                section.strip('"')), (of, offset, width, name)
 
 
+def column(text):
+    """Returns the table of a column, the numbers of which it consists, and where their fields stand."""
+    kind, arguments = call(text)
+    if kind not in ("column", "wide"):
+        stop(f"{MACHINE} has numbers that can't be read: {text}")
+    table, of, when, low = arguments[:4]
+    found = [(of, *spot(it)) for it in arguments[3:]]
+    offset, _, name = spot(low)
+    above = "".join(f" with {at} {it} above it" for _, at, _, it in found[1:])
+    return table.strip('"'), f"{where(of)}{offset} {name}{above}{condition(when)}", found
+
+
+def columns(text):
+    """Returns the columns that have names: (name, list of columns)."""
+    for name, body in re.findall(r"^const (\w+): \[Column; \d+\] = \[\n(.*?)^\];$", text, re.MULTILINE | re.DOTALL):
+        yield name, [column(it) for it in split_outside(re.sub(r"\s+", " ", body))]
+    for name, body in re.findall(r"^const (\w+): Column = (.*?);$", text, re.MULTILINE | re.DOTALL):
+        yield name, [column(re.sub(r"\s+", " ", body))]
+
+
+def links(text):
+    """Returns the rules on several tables in the form of those on several fields, and all fields of which they speak."""
+    named = dict(columns(text))
+    for body in re.findall(r"^    link!\((.*(?:\n        .*)*)\),$", text, re.MULTILINE):
+        own, wanted, other, section = split_outside(re.sub(r"\s+", " ", body))
+        table, field, found = column(own)
+        kind, arguments = call(wanted)
+        others = named[arguments[0].strip("&")]
+        tables = {it for it, _, _ in others}
+        if len(tables) != 1 or not other.strip('"').endswith(f" of {min(tables)}"):
+            stop(f"{MACHINE}: {other} isn't of the table whose numbers are allowed")
+        allowed = {
+            "OneOf": f"is one of `{arguments[0].strip('&')}`",
+            "Below": f"is below {others[0][1]} of {min(tables)}",
+            "Index": f"is below the number of structures of {min(tables)}",
+        }[kind]
+        fields = [(table, it) for it in found] + [(there, it) for there, _, those in others for it in those]
+        yield (table, "defined" if kind == "OneOf" else "below", field, allowed, section.strip('"')), fields
+
+
+def lists(text):
+    """Returns a line for each list of numbers that are allowed."""
+    for name, found in columns(text):
+        if f"OneOf(&{name})" in text:
+            numbers = "; ".join(it for _, it, _ in found)
+            line = f"- `{name}` of {found[0][0]}: {numbers}"
+            yield textwrap.fill(line, 130, subsequent_indent="  ", break_long_words=False, break_on_hyphens=False) + "\n"
+
+
 def limits(text):
     """Returns the ranges of fields in the same form."""
     row = r'Limit \{\s*table: "(.*?)", offset: (\d+), name: "(.*?)", from: (\w+), to: (\w+),\s*'
@@ -161,7 +213,7 @@ def check_fields(found):
     known = set(re.findall(r'(?:Row|Part)::\w+\(\s*"([^"]+)"', forms))
     lost = sorted({name for _, (_, _, _, name) in found} - known)
     if lost:
-        stop(f"the forms don't have these names of {SOURCE}: {', '.join(lost)}")
+        stop(f"the forms don't have these names of {SOURCE} or {MACHINE}: {', '.join(lost)}")
     parts = re.split(r"^\*\*.*\(([A-Z0-9]+)\).*\*\*$", read(FIELDS), flags=re.MULTILINE)
     names = {"MADT": "APIC", "FADT": "FACP"}
     shown = {names.get(name, name): re.sub(r"\s+", " ", text) for name, text in zip(parts[1::2], parts[2::2])}
@@ -174,13 +226,8 @@ def check_fields(found):
             stop(f"{FIELDS} has no field `{wanted}` in {table}, {heading.strip(',')}")
 
 
-def main():
-    text = read(SOURCE)
-    found = list(relations(text))
-    rows = [*limits(text), *(it for it, _ in found)]
-    if len(rows) != text.count("Limit {\n") + text.count("    rule!("):
-        stop(f"{SOURCE} has rows that can't be read")
-    check_fields(found)
+def listed(rows):
+    """Returns the lines of rules: those of each table below its signature."""
     tables = {}
     for table, *row in rows:
         tables.setdefault(table, []).append(row)
@@ -190,17 +237,32 @@ def main():
         for rule, field, allowed, section in tables[table]:
             line = f"- `{rule}` of {field}: {allowed} ({section})"
             out.append(textwrap.fill(line, 130, subsequent_indent="  ", break_long_words=False, break_on_hyphens=False))
+    return "\n".join(out[1:]) + "\n"
+
+
+def replaced(document, begin, end, lines):
+    """Returns a document with these lines between two others."""
+    if document.count(begin) != 1 or document.count(end) != 1:
+        stop(f"{DOCUMENT} has to have the lines {begin.strip()} and {end.strip()} once")
+    return document.split(begin)[0] + begin + lines + end + document.split(end)[1]
+
+
+def main():
+    text, machine = read(SOURCE), read(MACHINE)
+    found, several = list(relations(text)), list(links(machine))
+    rows = [*limits(text), *(it for it, _ in found)]
+    if len(rows) != text.count("Limit {\n") + text.count("    rule!(") or len(several) != machine.count("    link!("):
+        stop(f"{SOURCE} or {MACHINE} has rows that can't be read")
+    check_fields(found + [((table,), field) for _, fields in several for table, field in fields])
     document = read(DOCUMENT)
-    if document.count(BEGIN) != 1 or document.count(END) != 1:
-        stop(f"{DOCUMENT} has to have the lines {BEGIN.strip()} and {END.strip()} once")
-    before, after = document.split(BEGIN)[0], document.split(END)[1]
-    listed = "\n".join(out[1:]) + "\n"
-    wanted = f"{before}{BEGIN}{listed}{END}{after}"
+    wanted = replaced(document, BEGIN, END, listed(rows))
+    numbers = "".join(lists(machine)) + "\n"
+    wanted = replaced(wanted, BEGIN_SEVERAL, END_SEVERAL, numbers + listed(it for it, _ in several))
     if sys.argv[1:] == ["renew"]:
         with open(DOCUMENT, "w", encoding="utf-8") as file:
             file.write(wanted)
     elif document != wanted:
-        stop(f"the rules in {DOCUMENT} aren't those of {SOURCE}: `python3 -B tools/rules.py renew` writes them")
+        stop(f"the rules in {DOCUMENT} aren't those of {SOURCE} and {MACHINE}: `python3 -B tools/rules.py renew` writes them")
 
 
 main()

@@ -13,10 +13,17 @@ use Rattle.acpi_asl.specs.Namespace.{names}
 use Rattle.acpi_asl.specs.declared.block.BlockText.{BlockText}
 use Rattle.acpi_asl.specs.declared.block.BlockText.TheVariants.{Asl, Names}
 
--- whether terms follow the header, by the signature (5.2.11.1 and 5.2.11.2)
+-- whether bytes begin with the signature of a definition block (5.2.11.1 to 5.2.11.3); an OSDT replaces one
+abbrev pub begins_block : List ℕ → Bool
+begins_block bytes =
+    starts_with nat_eq bytes (codes "DSDT")
+    || starts_with nat_eq bytes (codes "SSDT")
+    || starts_with nat_eq bytes (codes "PSDT")
+    || starts_with nat_eq bytes (codes "OSDT")
+
+-- whether terms follow the header
 abbrev pub has_terms : List ℕ → Bool
-has_terms bytes =
-    nat_le 36 (length bytes) && (starts_with nat_eq bytes (codes "DSDT") || starts_with nat_eq bytes (codes "SSDT"))
+has_terms bytes = nat_le 36 (length bytes) && begins_block bytes
 
 -- the text of a header and of the terms that follow it
 abbrev pub block_text : BlockText → List ℕ → Terms → List ℕ

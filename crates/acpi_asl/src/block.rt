@@ -3,7 +3,7 @@
 ghost use Rattle.std.specs.Prelude.{◌≡◌, ◌+◌, ◌≤◌, length, drop, string_bytes, IfOk, IfErr, IfSome};
 ghost use Rattle.acpi_term.specs.ReadError.{offset_of};
 ghost use Rattle.acpi_term.specs.View.{views};
-ghost use Rattle.acpi_asl.specs.Block.{has_terms, block_text, IsBlockText, AreNoTerms};
+ghost use Rattle.acpi_asl.specs.Block.{begins_block, has_terms, block_text, IsBlockText, AreNoTerms};
 
 use crate::asl::asl_of;
 use crate::namespace::namespace_of;
@@ -26,11 +26,21 @@ pub enum BlockText {
     Names,
 }
 
-/// Returns whether terms follow the header of a table: its signature is DSDT or SSDT.
+// Returns whether bytes begin with the signature of a definition block.
+fn begins_block(bytes: &[u8]) -> bool
+    ensures { result ≡ begins_block bytes.now }
+{
+    bytes.starts_with(b"DSDT")
+        || bytes.starts_with(b"SSDT")
+        || bytes.starts_with(b"PSDT")
+        || bytes.starts_with(b"OSDT")
+}
+
+/// Returns whether terms follow the header of a table: its signature is DSDT, SSDT, PSDT or OSDT.
 pub fn has_terms(bytes: &[u8]) -> bool
     ensures { result ≡ has_terms bytes.now }
 {
-    bytes.len() >= BODY && (bytes.starts_with(b"DSDT") || bytes.starts_with(b"SSDT"))
+    bytes.len() >= BODY && begins_block(bytes)
 }
 
 // Returns the text of a header and terms.

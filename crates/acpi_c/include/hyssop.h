@@ -51,7 +51,7 @@ enum hyssop_fault {
     HYSSOP_FAULT_STRUCTURE = 19, /* a structure isn't as long as it says */
     HYSSOP_FAULT_COUNT = 20, /* a count isn't the number of what it counts */
     HYSSOP_FAULT_UNKNOWN_SOURCE = 21, /* the size of an error source isn't known */
-    HYSSOP_FAULT_NO_BLOCK = 22, /* the signature isn't DSDT or SSDT, as that of a definition block is */
+    HYSSOP_FAULT_NO_BLOCK = 22, /* the signature isn't that of a definition block */
     HYSSOP_FAULT_TRUNCATED = 32, /* the bytes end within a term */
     HYSSOP_FAULT_OPCODE = 33, /* no term begins so */
     HYSSOP_FAULT_PKG_LENGTH = 34, /* a PkgLength doesn't fit what surrounds it */
@@ -239,7 +239,7 @@ HYSSOP_RESULT enum hyssop_fault hyssop_table_structures(const void *bytes, size_
 HYSSOP_RESULT enum hyssop_fault hyssop_check_aml(const void *bytes, size_t bytes_size, const char *arities, size_t arities_size,
                                                  uint64_t *place);
 
-/* Writes the ASL of a definition block, DSDT or SSDT (chapter 19). `arities` is as above. A name that isn't there has the number
+/* Writes the ASL of a definition block (chapter 19). `arities` is as above. A name that isn't there has the number
    of arguments that the block itself states. *place is an offset in `bytes`. */
 HYSSOP_RESULT enum hyssop_fault hyssop_disassemble(const void *bytes, size_t bytes_size, const char *arities, size_t arities_size,
                                                    char *out, size_t out_size, size_t *size, uint64_t *place);

@@ -4,7 +4,7 @@ ghost use Rattle.acpi_base.specs.Number.{number};
 ghost use Rattle.acpi_ops.specs.AddressSpace.{word_space, dword_space, qword_space};
 ghost use Rattle.acpi_ops.specs.Descriptor.{port_bytes, fixed_bytes, interrupt_bytes, interrupt_flags};
 ghost use Rattle.acpi_c_calls.specs.Resource.{bus_numbers, io_range, memory_range, memory_piece};
-ghost use Rattle.acpi_c_calls.specs.Writer.{Does, adds, adds_bytes, piece_of};
+ghost use Rattle.acpi_c_calls.specs.Writer.{Writes, adds, adds_bytes, piece_of};
 
 use acpi_c_calls::resource::{
     bus_numbers, interrupt, io, io_range, memory_range32, memory_range64, memory32_fixed,
@@ -21,7 +21,7 @@ pub extern "C" fn hyssop_export_io(
     alignment: u8,
     length: u8,
 ) -> u32
-    ensures { Does (adds_bytes (port_bytes min max alignment length)) bytes.old state.old bytes.new state.new result }
+    ensures { Writes (adds_bytes (port_bytes min max alignment length)) bytes.old state.old bytes.new state.new result }
 {
     io(bytes, state, min, max, alignment, length)
 }
@@ -37,7 +37,7 @@ pub extern "C" fn hyssop_export_interrupt(
     shared: bool,
     number: u32,
 ) -> u32
-    ensures { Does (adds_bytes (interrupt_bytes (interrupt_flags consumer edge_triggered active_low shared) number))
+    ensures { Writes (adds_bytes (interrupt_bytes (interrupt_flags consumer edge_triggered active_low shared) number))
         bytes.old state.old bytes.new state.new result }
 {
     interrupt(
@@ -60,7 +60,7 @@ pub extern "C" fn hyssop_export_memory32_fixed(
     base: u32,
     length: u32,
 ) -> u32
-    ensures { Does (adds_bytes (fixed_bytes read_write base length)) bytes.old state.old bytes.new state.new result }
+    ensures { Writes (adds_bytes (fixed_bytes read_write base length)) bytes.old state.old bytes.new state.new result }
 {
     memory32_fixed(bytes, state, read_write, base, length)
 }
@@ -73,7 +73,7 @@ pub extern "C" fn hyssop_export_bus_numbers(
     min: u16,
     max: u16,
 ) -> u32
-    ensures { Does (adds (piece_of (word_space (bus_numbers min max)))) bytes.old state.old bytes.new state.new result }
+    ensures { Writes (adds (piece_of (word_space (bus_numbers min max)))) bytes.old state.old bytes.new state.new result }
 {
     bus_numbers(bytes, state, min, max)
 }
@@ -87,7 +87,7 @@ pub extern "C" fn hyssop_export_io_range(
     max: u16,
     translation: u16,
 ) -> u32
-    ensures { Does (adds (piece_of (word_space (io_range min max translation)))) bytes.old state.old bytes.new state.new result }
+    ensures { Writes (adds (piece_of (word_space (io_range min max translation)))) bytes.old state.old bytes.new state.new result }
 {
     io_range(bytes, state, min, max, translation)
 }
@@ -103,7 +103,7 @@ pub extern "C" fn hyssop_export_memory_range32(
     max: u32,
     translation: u32,
 ) -> u32
-    ensures { Does (adds (memory_piece memory_type (λ cacheable. dword_space
+    ensures { Writes (adds (memory_piece memory_type (λ cacheable. dword_space
         (memory_range cacheable read_write min max translation)))) bytes.old state.old bytes.new state.new result }
 {
     memory_range32(bytes, state, memory_type, read_write, min, max, translation)
@@ -120,7 +120,7 @@ pub extern "C" fn hyssop_export_memory_range64(
     max: u64,
     translation: u64,
 ) -> u32
-    ensures { Does (adds (memory_piece memory_type (λ cacheable. qword_space
+    ensures { Writes (adds (memory_piece memory_type (λ cacheable. qword_space
         (memory_range cacheable read_write min max translation)))) bytes.old state.old bytes.new state.new result }
 {
     memory_range64(bytes, state, memory_type, read_write, min, max, translation)

@@ -7,7 +7,7 @@ ghost use Rattle.acpi_term.specs.Tree.{def_if, def_else, def_while, def_buffer, 
 ghost use Rattle.acpi_term.specs.Tree.{def_index_field};
 ghost use Rattle.acpi_c_calls.specs.Field.{lock_rule, opens_field, opens_index_field};
 ghost use Rattle.acpi_c_calls.specs.Finish.{begun, Nulls};
-ghost use Rattle.acpi_c_calls.specs.Writer.{Does, opens_named, opens_row, closes, piece_of};
+ghost use Rattle.acpi_c_calls.specs.Writer.{Writes, opens_named, opens_row, closes, piece_of};
 
 use acpi_c_calls::close::close;
 use acpi_c_calls::field::{open_field, open_index_field};
@@ -38,7 +38,7 @@ pub extern "C" fn hyssop_export_null(state: &mut State) -> u32
 /// Opens a scope.
 #[unsafe(no_mangle)]
 pub extern "C" fn hyssop_export_open_scope(bytes: &mut [u8], state: &mut State, path: &[u8]) -> u32
-    ensures { Does (opens_named (λ name. def_scope name) (piece_of (path_of path.now)))
+    ensures { Writes (opens_named (λ name. def_scope name) (piece_of (path_of path.now)))
         bytes.old state.old bytes.new state.new result }
 {
     open_scope(bytes, state, path)
@@ -47,7 +47,7 @@ pub extern "C" fn hyssop_export_open_scope(bytes: &mut [u8], state: &mut State, 
 /// Opens a device.
 #[unsafe(no_mangle)]
 pub extern "C" fn hyssop_export_open_device(bytes: &mut [u8], state: &mut State, path: &[u8]) -> u32
-    ensures { Does (opens_named (λ name. def_device name) (piece_of (path_of path.now)))
+    ensures { Writes (opens_named (λ name. def_device name) (piece_of (path_of path.now)))
         bytes.old state.old bytes.new state.new result }
 {
     open_device(bytes, state, path)
@@ -60,7 +60,7 @@ pub extern "C" fn hyssop_export_open_thermal_zone(
     state: &mut State,
     path: &[u8],
 ) -> u32
-    ensures { Does (opens_named (λ name. def_thermal_zone name) (piece_of (path_of path.now)))
+    ensures { Writes (opens_named (λ name. def_thermal_zone name) (piece_of (path_of path.now)))
         bytes.old state.old bytes.new state.new result }
 {
     open_thermal_zone(bytes, state, path)
@@ -75,7 +75,7 @@ pub extern "C" fn hyssop_export_open_power_resource(
     level: u8,
     order: u16,
 ) -> u32
-    ensures { Does (opens_named (λ name. def_power_res name level order) (piece_of (path_of path.now)))
+    ensures { Writes (opens_named (λ name. def_power_res name level order) (piece_of (path_of path.now)))
         bytes.old state.old bytes.new state.new result }
 {
     open_power_resource(bytes, state, path, level, order)
@@ -91,7 +91,7 @@ pub extern "C" fn hyssop_export_open_processor(
     address: u32,
     size: u8,
 ) -> u32
-    ensures { Does (opens_named (λ name. def_processor name id address size) (piece_of (path_of path.now)))
+    ensures { Writes (opens_named (λ name. def_processor name id address size) (piece_of (path_of path.now)))
         bytes.old state.old bytes.new state.new result }
 {
     open_processor(bytes, state, path, id, address, size)
@@ -106,7 +106,7 @@ pub extern "C" fn hyssop_export_open_method(
     arguments: u8,
     serialized: bool,
 ) -> u32
-    ensures { Does (opens_named (λ name. def_method name arguments serialized) (piece_of (path_of path.now)))
+    ensures { Writes (opens_named (λ name. def_method name arguments serialized) (piece_of (path_of path.now)))
         bytes.old state.old bytes.new state.new result }
 {
     open_method(bytes, state, path, arguments, serialized)
@@ -119,7 +119,7 @@ pub extern "C" fn hyssop_export_open_package(
     state: &mut State,
     elements: u8,
 ) -> u32
-    ensures { Does (opens_row 0 def_package elements) bytes.old state.old bytes.new state.new result }
+    ensures { Writes (opens_row 0 def_package elements) bytes.old state.old bytes.new state.new result }
 {
     open_package(bytes, state, elements)
 }
@@ -127,7 +127,7 @@ pub extern "C" fn hyssop_export_open_package(
 /// Opens statements.
 #[unsafe(no_mangle)]
 pub extern "C" fn hyssop_export_open_if(bytes: &mut [u8], state: &mut State) -> u32
-    ensures { Does (opens_row 0 def_if 0) bytes.old state.old bytes.new state.new result }
+    ensures { Writes (opens_row 0 def_if 0) bytes.old state.old bytes.new state.new result }
 {
     open_if(bytes, state)
 }
@@ -135,7 +135,7 @@ pub extern "C" fn hyssop_export_open_if(bytes: &mut [u8], state: &mut State) -> 
 /// Opens the statements.
 #[unsafe(no_mangle)]
 pub extern "C" fn hyssop_export_open_else(bytes: &mut [u8], state: &mut State) -> u32
-    ensures { Does (opens_row 0 def_else 0) bytes.old state.old bytes.new state.new result }
+    ensures { Writes (opens_row 0 def_else 0) bytes.old state.old bytes.new state.new result }
 {
     open_else(bytes, state)
 }
@@ -143,7 +143,7 @@ pub extern "C" fn hyssop_export_open_else(bytes: &mut [u8], state: &mut State) -
 /// Opens a loop.
 #[unsafe(no_mangle)]
 pub extern "C" fn hyssop_export_open_while(bytes: &mut [u8], state: &mut State) -> u32
-    ensures { Does (opens_row 0 def_while 0) bytes.old state.old bytes.new state.new result }
+    ensures { Writes (opens_row 0 def_while 0) bytes.old state.old bytes.new state.new result }
 {
     open_while(bytes, state)
 }
@@ -151,7 +151,7 @@ pub extern "C" fn hyssop_export_open_while(bytes: &mut [u8], state: &mut State) 
 /// Opens a buffer.
 #[unsafe(no_mangle)]
 pub extern "C" fn hyssop_export_open_buffer(bytes: &mut [u8], state: &mut State) -> u32
-    ensures { Does (opens_row 1 (def_buffer []) 0) bytes.old state.old bytes.new state.new result }
+    ensures { Writes (opens_row 1 (def_buffer []) 0) bytes.old state.old bytes.new state.new result }
 {
     open_buffer(bytes, state)
 }
@@ -159,7 +159,7 @@ pub extern "C" fn hyssop_export_open_buffer(bytes: &mut [u8], state: &mut State)
 /// Opens a buffer of resource descriptors.
 #[unsafe(no_mangle)]
 pub extern "C" fn hyssop_export_open_resources(bytes: &mut [u8], state: &mut State) -> u32
-    ensures { Does (opens_row 2 (def_buffer []) 0) bytes.old state.old bytes.new state.new result }
+    ensures { Writes (opens_row 2 (def_buffer []) 0) bytes.old state.old bytes.new state.new result }
 {
     open_resources(bytes, state)
 }
@@ -174,7 +174,7 @@ pub extern "C" fn hyssop_export_open_field(
     lock: bool,
     update: u32,
 ) -> u32
-    ensures { Does (opens_field access update (λ name. def_field name access (lock_rule lock) update [])
+    ensures { Writes (opens_field access update (λ name. def_field name access (lock_rule lock) update [])
         (piece_of (path_of region.now))) bytes.old state.old bytes.new state.new result }
 {
     open_field(bytes, state, region, access, lock, update)
@@ -191,7 +191,7 @@ pub extern "C" fn hyssop_export_open_index_field(
     lock: bool,
     update: u32,
 ) -> u32
-    ensures { Does (opens_index_field access update
+    ensures { Writes (opens_index_field access update
         (λ index name. def_index_field index name access (lock_rule lock) update [])
         (piece_of (path_of index_name.now)) (piece_of (path_of data_name.now))) bytes.old state.old bytes.new state.new result }
 {
@@ -201,7 +201,7 @@ pub extern "C" fn hyssop_export_open_index_field(
 /// Closes the object that was opened last.
 #[unsafe(no_mangle)]
 pub extern "C" fn hyssop_export_close(bytes: &mut [u8], state: &mut State) -> u32
-    ensures { Does closes bytes.old state.old bytes.new state.new result }
+    ensures { Writes closes bytes.old state.old bytes.new state.new result }
 {
     close(bytes, state)
 }

@@ -4,7 +4,7 @@ ghost use Rattle.acpi_c_calls.specs.Begin.{begins_table, Ends};
 ghost use Rattle.acpi_c_calls.specs.Finish.{Finishes};
 ghost use Rattle.acpi_c_calls.specs.Results.{Gives};
 ghost use Rattle.acpi_c_calls.specs.Lay.{IsImageFor, IsLayRefusal};
-ghost use Rattle.acpi_c_calls.specs.Writer.{Does};
+ghost use Rattle.acpi_c_calls.specs.Writer.{Writes};
 
 use acpi_c_calls::begin::{finish_table, table};
 use acpi_c_calls::finish::finish;
@@ -23,7 +23,7 @@ pub extern "C" fn hyssop_export_table(
     oem_table_id: &[u8],
     oem_revision: u32,
 ) -> u32
-    ensures { Does (begins_table signature.now revision oem_id.now oem_table_id.now oem_revision)
+    ensures { Writes (begins_table signature.now revision oem_id.now oem_table_id.now oem_revision)
         bytes.old state.old bytes.new state.new result }
 {
     table(

@@ -9,7 +9,7 @@ use Rattle.acpi_term.specs.Row.{row}
 use Rattle.acpi_term.specs.Tree.{op}
 use Rattle.acpi_term.specs.declared.op.Op.{Op}
 use Rattle.acpi_term.specs.declared.op.Op.TheVariants.{Alias, Event}
-use Rattle.acpi_c_calls.specs.Writer.{IsDone, Does, adds, piece_of}
+use Rattle.acpi_c_calls.specs.Writer.{IsDone, Writes, adds, piece_of}
 use Rattle.acpi_c_calls.specs.declared.fault.Fault.{Fault}
 use Rattle.acpi_c_calls.specs.declared.state.State.{State}
 
@@ -81,5 +81,5 @@ module _ (source name : List ℕ) where
 
 -- a call that writes a piece with this fault
 pub fails : (piece : Piece) (f : Fault) (old new : List ℕ) (before after : State) (number : ℕ) → before.fault ≡ 0 → piece ≡ Err f
-    → IsDone (Err f) old before new after number → Does (adds piece) old before new after number
+    → IsDone (Err f) old before new after number → Writes (adds piece) old before new after number
 fails piece f old new before after number none is done = rw (none, is) done

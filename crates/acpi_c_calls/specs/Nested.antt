@@ -10,7 +10,7 @@ use Rattle.acpi_term.specs.Row.{framed, layout, frame, around, row, entry_bytes,
 use Rattle.acpi_term.specs.Template.{template_bytes, buffer_of_bytes}
 use Rattle.acpi_term.specs.Tree.{Entry, Head, def_buffer, def_field, def_index_field}
 use Rattle.acpi_c_calls.specs.Field.{entry_piece}
-use Rattle.acpi_c_calls.specs.Writer.{Written, Does, adds, adds_bytes, opens, opens_row, inside, closes}
+use Rattle.acpi_c_calls.specs.Writer.{Written, Writes, adds, adds_bytes, opens, opens_row, inside, closes}
 use Rattle.acpi_c_calls.specs.declared.fault.Fault.{Fault}
 use Rattle.acpi_c_calls.specs.declared.state.State.{State}
 
@@ -40,7 +40,7 @@ Leads call old new = call old.bytes old.state ≡ Ok new
 -- A call that returns 0 was done: there was no fault before, and it leads from the old buffer and state to the new ones.
 abbrev pub FineIsDone : Type 0
 FineIsDone =
-    (call : List ℕ → State → Result Written Fault) (old new : Written) → Does call old.bytes old.state new.bytes new.state 0
+    (call : List ℕ → State → Result Written Fault) (old new : Written) → Writes call old.bytes old.state new.bytes new.state 0
     → (old.state.fault ≡ 0) × Leads call old new
 
 -- A call that writes bytes has written these.

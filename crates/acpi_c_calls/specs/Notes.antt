@@ -2,7 +2,7 @@
 use Rattle.std.specs.Prelude.{◌≡◌, ℕ, List, map, Ok}
 use Rattle.acpi_forms.specs.Makes.{IsMade}
 use Rattle.acpi_make.specs.declared.make.Made.{Made}
-use Rattle.acpi_make.specs.declared.own.Own.{Own}
+use Rattle.acpi_make.specs.declared.extent.Own.{Own}
 use Rattle.acpi_c_calls.specs.declared.notes.Note.{Note}
 
 abbrev pub note : Own → Note

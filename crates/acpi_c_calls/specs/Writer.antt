@@ -34,8 +34,8 @@ IsTried true outcome old before new after number = IsDone outcome old before new
 IsTried false outcome old before new after number = (number ≡ before.fault) × (new ≡ old) × (after ≡ before)
 
 -- The old buffer and state, the new ones, and the returned number, of a call that does this if there was no fault before.
-abbrev pub Does : (List ℕ → State → Result Written Fault) → List ℕ → State → List ℕ → State → ℕ → Type 0
-Does call old before new after number = IsTried (nat_eq before.fault 0) (call old before) old before new after number
+abbrev pub Writes : (List ℕ → State → Result Written Fault) → List ℕ → State → List ℕ → State → ℕ → Type 0
+Writes call old before new after number = IsTried (nat_eq before.fault 0) (call old before) old before new after number
 
 -- ---- errors of objects
 

@@ -4,7 +4,7 @@ ghost use Rattle.std.specs.Prelude.{◌≡◌, ◌≢◌, length, IfSome, IfNone
 ghost use Rattle.acpi_base.specs.Header.{header};
 ghost use Rattle.acpi_base.specs.declared.oem.Oem.{Oem};
 ghost use Rattle.acpi_c_calls.specs.Begin.{begins_table, Ends};
-ghost use Rattle.acpi_c_calls.specs.Writer.{Does};
+ghost use Rattle.acpi_c_calls.specs.Writer.{Writes};
 
 use crate::fault::Fault;
 use crate::finish::finish;
@@ -39,7 +39,7 @@ pub fn table(
     oem_table_id: &[u8],
     oem_revision: u32,
 ) -> u32
-    ensures { Does (begins_table signature.now revision oem_id.now oem_table_id.now oem_revision)
+    ensures { Writes (begins_table signature.now revision oem_id.now oem_table_id.now oem_revision)
         bytes.old state.old bytes.new state.new result }
 {
     if state.fault != 0 {

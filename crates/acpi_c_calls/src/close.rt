@@ -3,7 +3,7 @@
 ghost use Rattle.std.specs.Prelude.{◌≡◌, ◌≤◌, ◌<◌, ◌^◌, ◌+◌, ◌-◌, ◌++◌, length, take, drop};
 ghost use Rattle.acpi_base.specs.Bytes.{put};
 ghost use Rattle.acpi_base.specs.Number.{number};
-ghost use Rattle.acpi_c_calls.specs.Writer.{IsDone, Does, size_before, tag_after, content_from, closes, closes_at, closes_inside};
+ghost use Rattle.acpi_c_calls.specs.Writer.{IsDone, Writes, size_before, tag_after, content_from, closes, closes_at, closes_inside};
 
 use crate::fault::Fault;
 use crate::held::{Held, fault_of, hold};
@@ -107,7 +107,7 @@ fn close_at(bytes: &mut [u8], state: &mut State, start: usize, kind: u32) -> u32
 /// the number of its bytes before them, and resource descriptors get the end tag after them, too. The fault is `NoneOpen` if no
 /// object is open, `ObjectLength` if the PkgLength would reach 2^28, and `Buffer` if there is too little space.
 pub fn close(bytes: &mut [u8], state: &mut State) -> u32
-    ensures { Does closes bytes.old state.old bytes.new state.new result }
+    ensures { Writes closes bytes.old state.old bytes.new state.new result }
 {
     if state.fault != 0 {
         return state.fault;

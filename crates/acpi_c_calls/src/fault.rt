@@ -101,7 +101,7 @@ macro_rules! faults {
             Structure 19 "a structure isn't as long as it says"
             Count 20 "a count isn't the number of what it counts"
             UnknownSource 21 "the size of an error source isn't known"
-            NoBlock 22 "the signature isn't DSDT or SSDT, as that of a definition block is"
+            NoBlock 22 "the signature isn't that of a definition block"
             Truncated 32 "the bytes end within a term"
             Opcode 33 "no term begins so"
             PkgLength 34 "a PkgLength doesn't fit what surrounds it"

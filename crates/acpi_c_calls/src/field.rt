@@ -8,7 +8,7 @@ ghost use Rattle.acpi_term.specs.PathText.{path_of};
 ghost use Rattle.acpi_term.specs.Row.{field_flags};
 ghost use Rattle.acpi_term.specs.Tree.{def_field, def_index_field};
 ghost use Rattle.acpi_c_calls.specs.Field.{lock_rule, are_flags, opens_field, opens_index_field, unit_piece, gap_piece};
-ghost use Rattle.acpi_c_calls.specs.Writer.{IsDone, Does, adds, or_fault, piece_of};
+ghost use Rattle.acpi_c_calls.specs.Writer.{IsDone, Writes, adds, or_fault, piece_of};
 
 use crate::fault::Fault;
 use crate::held::{Held, fault_of};
@@ -60,7 +60,7 @@ pub fn open_field(
     lock: bool,
     update: u32,
 ) -> u32
-    ensures { Does (opens_field access update (λ name. def_field name access (lock_rule lock) update [])
+    ensures { Writes (opens_field access update (λ name. def_field name access (lock_rule lock) update [])
         (piece_of (path_of region.now))) bytes.old state.old bytes.new state.new result }
 {
     if state.fault != 0 {
@@ -107,7 +107,7 @@ pub fn open_index_field(
     lock: bool,
     update: u32,
 ) -> u32
-    ensures { Does (opens_index_field access update
+    ensures { Writes (opens_index_field access update
         (λ index name. def_index_field index name access (lock_rule lock) update [])
         (piece_of (path_of index_name.now)) (piece_of (path_of data_name.now))) bytes.old state.old bytes.new state.new result }
 {
@@ -142,7 +142,7 @@ fn put_bits(bytes: &mut [u8], state: &mut State, before: &[u8], bits: u32) -> u3
 /// Writes a name for the next bits of the open field (ACPI 6.5, 20.2.5.2, NamedField). The fault is `NamePart` if the name
 /// doesn't have four bytes, and `ObjectLength` from 2^28 bits on.
 pub fn field_unit(bytes: &mut [u8], state: &mut State, name: &[u8], bits: u32) -> u32
-    ensures { Does (adds (unit_piece name.now bits)) bytes.old state.old bytes.new state.new result }
+    ensures { Writes (adds (unit_piece name.now bits)) bytes.old state.old bytes.new state.new result }
 {
     if state.fault != 0 {
         return state.fault;
@@ -155,7 +155,7 @@ pub fn field_unit(bytes: &mut [u8], state: &mut State, name: &[u8], bits: u32) -
 
 /// Leaves out the next bits of the open field (ACPI 6.5, 20.2.5.2, ReservedField). The fault is `ObjectLength` from 2^28 bits on.
 pub fn field_gap(bytes: &mut [u8], state: &mut State, bits: u32) -> u32
-    ensures { Does (adds (gap_piece bits)) bytes.old state.old bytes.new state.new result }
+    ensures { Writes (adds (gap_piece bits)) bytes.old state.old bytes.new state.new result }
 {
     if state.fault != 0 {
         return state.fault;

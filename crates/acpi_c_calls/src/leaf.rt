@@ -6,7 +6,7 @@ ghost use Rattle.acpi_term.specs.PathText.{path_of};
 ghost use Rattle.acpi_term.specs.Row.{row};
 ghost use Rattle.acpi_term.specs.Tree.{def_name, arg, local};
 ghost use Rattle.acpi_c_calls.specs.Leaf.{is_ascii, string_piece, eisa_piece, uuid_piece, operator_of, operator_piece};
-ghost use Rattle.acpi_c_calls.specs.Writer.{Does, adds, adds_bytes, adds_named, piece_of};
+ghost use Rattle.acpi_c_calls.specs.Writer.{Writes, adds, adds_bytes, adds_named, piece_of};
 
 use crate::fault::Fault;
 use crate::path::hold_path;
@@ -19,7 +19,7 @@ use acpi_term::op::Op;
 
 /// Writes a number in its shortest form (ACPI 6.5, 20.2.3, ComputationalData).
 pub fn integer(bytes: &mut [u8], state: &mut State, value: u64) -> u32
-    ensures { Does (adds_bytes (number value)) bytes.old state.old bytes.new state.new result }
+    ensures { Writes (adds_bytes (number value)) bytes.old state.old bytes.new state.new result }
 {
     if state.fault != 0 {
         return state.fault;
@@ -29,7 +29,7 @@ pub fn integer(bytes: &mut [u8], state: &mut State, value: u64) -> u32
 
 /// Writes bytes as they are.
 pub fn bytes(bytes: &mut [u8], state: &mut State, content: &[u8]) -> u32
-    ensures { Does (adds_bytes content.now) bytes.old state.old bytes.new state.new result }
+    ensures { Writes (adds_bytes content.now) bytes.old state.old bytes.new state.new result }
 {
     if state.fault != 0 {
         return state.fault;
@@ -40,7 +40,7 @@ pub fn bytes(bytes: &mut [u8], state: &mut State, content: &[u8]) -> u32
 /// Writes a path of names, as an operand or as a call of a method (ACPI 6.5, 20.2.2, NameString). The fault is `NamePart` if a
 /// part isn't four bytes long, and `PathParts` if there are more than 255.
 pub fn path(bytes: &mut [u8], state: &mut State, name: &[u8]) -> u32
-    ensures { Does (adds (piece_of (path_of name.now))) bytes.old state.old bytes.new state.new result }
+    ensures { Writes (adds (piece_of (path_of name.now))) bytes.old state.old bytes.new state.new result }
 {
     if state.fault != 0 {
         return state.fault;
@@ -53,7 +53,7 @@ pub fn path(bytes: &mut [u8], state: &mut State, name: &[u8]) -> u32
 
 /// Writes the beginning of an object with a name, which follows (ACPI 6.5, 20.2.5.1, DefName). The faults are those of `path`.
 pub fn name(bytes: &mut [u8], state: &mut State, path: &[u8]) -> u32
-    ensures { Does (adds_named (λ name. def_name name) (piece_of (path_of path.now)))
+    ensures { Writes (adds_named (λ name. def_name name) (piece_of (path_of path.now)))
         bytes.old state.old bytes.new state.new result }
 {
     if state.fault != 0 {
@@ -67,7 +67,7 @@ pub fn name(bytes: &mut [u8], state: &mut State, path: &[u8]) -> u32
 
 /// Writes an argument of the method, by its number (ACPI 6.5, 20.2.6.1). The fault is `ArgNumber` if it is more than 6.
 pub fn argument(bytes: &mut [u8], state: &mut State, number: u8) -> u32
-    ensures { Does (adds (piece_of (row (arg number) []))) bytes.old state.old bytes.new state.new result }
+    ensures { Writes (adds (piece_of (row (arg number) []))) bytes.old state.old bytes.new state.new result }
 {
     if state.fault != 0 {
         return state.fault;
@@ -77,7 +77,7 @@ pub fn argument(bytes: &mut [u8], state: &mut State, number: u8) -> u32
 
 /// Writes a local variable of the method, by its number (ACPI 6.5, 20.2.6.2). The fault is `LocalNumber` if it is more than 7.
 pub fn local(bytes: &mut [u8], state: &mut State, number: u8) -> u32
-    ensures { Does (adds (piece_of (row (local number) []))) bytes.old state.old bytes.new state.new result }
+    ensures { Writes (adds (piece_of (row (local number) []))) bytes.old state.old bytes.new state.new result }
 {
     if state.fault != 0 {
         return state.fault;
@@ -99,7 +99,7 @@ fn is_ascii(bytes: &[u8]) -> bool
 
 /// Writes a string (ACPI 6.5, 20.2.3, String). The fault is `Text` if a byte isn't one of ASCII.
 pub fn string(bytes: &mut [u8], state: &mut State, text: &[u8]) -> u32
-    ensures { Does (adds (string_piece text.now)) bytes.old state.old bytes.new state.new result }
+    ensures { Writes (adds (string_piece text.now)) bytes.old state.old bytes.new state.new result }
 {
     if state.fault != 0 {
         return state.fault;
@@ -114,7 +114,7 @@ pub fn string(bytes: &mut [u8], state: &mut State, text: &[u8]) -> u32
 /// other text.
 #[tactic(auto, using(crate::proofs::Pieces::number_few, crate::proofs::Pieces::is_text, crate::proofs::Pieces::is_no_text))]
 pub fn eisa_id(bytes: &mut [u8], state: &mut State, id: &[u8]) -> u32
-    ensures { Does (adds (eisa_piece id.now)) bytes.old state.old bytes.new state.new result }
+    ensures { Writes (adds (eisa_piece id.now)) bytes.old state.old bytes.new state.new result }
 {
     if state.fault != 0 {
         return state.fault;
@@ -132,7 +132,7 @@ pub fn eisa_id(bytes: &mut [u8], state: &mut State, id: &[u8]) -> u32
 /// `UuidText` for any other text.
 #[tactic(auto, using(crate::proofs::Pieces::uuid_few, crate::proofs::Pieces::uuid_dry, crate::proofs::Pieces::is_text, crate::proofs::Pieces::is_no_text))]
 pub fn uuid(bytes: &mut [u8], state: &mut State, text: &[u8]) -> u32
-    ensures { Does (adds (uuid_piece text.now)) bytes.old state.old bytes.new state.new result }
+    ensures { Writes (adds (uuid_piece text.now)) bytes.old state.old bytes.new state.new result }
 {
     if state.fault != 0 {
         return state.fault;
@@ -160,7 +160,7 @@ fn operator_of(code: u32) -> Option<Op>
 /// Writes an operator (ACPI 6.5, 20.2.5 and 20.3), whose operands follow. `code` is its opcode, with the byte after 5B in the
 /// lower byte. The fault is `UnknownChoice` if no operator has this opcode.
 pub fn operator(bytes: &mut [u8], state: &mut State, code: u32) -> u32
-    ensures { Does (adds (operator_piece code)) bytes.old state.old bytes.new state.new result }
+    ensures { Writes (adds (operator_piece code)) bytes.old state.old bytes.new state.new result }
 {
     if state.fault != 0 {
         return state.fault;

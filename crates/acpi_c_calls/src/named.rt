@@ -5,7 +5,7 @@ ghost use Rattle.acpi_term.specs.PathText.{path_of};
 ghost use Rattle.acpi_term.specs.Row.{row};
 ghost use Rattle.acpi_term.specs.Tree.{def_op_region, def_mutex, def_acquire, def_release, def_external, op};
 ghost use Rattle.acpi_term.specs.declared.op.Op.TheVariants.{Alias, Event};
-ghost use Rattle.acpi_c_calls.specs.Writer.{Does, adds, adds_named, piece_of};
+ghost use Rattle.acpi_c_calls.specs.Writer.{Writes, adds, adds_named, piece_of};
 
 use crate::path::hold_path;
 use crate::put::{fail, put};
@@ -14,7 +14,7 @@ use crate::state::State;
 /// Writes the beginning of a region of an address space (ACPI 6.5, 20.2.5.2, DefOpRegion). Its offset and its length in bytes
 /// follow, which are two numbers or other terms. The faults are those of `path`.
 pub fn region(bytes: &mut [u8], state: &mut State, path: &[u8], space: u8) -> u32
-    ensures { Does (adds_named (λ name. def_op_region name space) (piece_of (path_of path.now)))
+    ensures { Writes (adds_named (λ name. def_op_region name space) (piece_of (path_of path.now)))
         bytes.old state.old bytes.new state.new result }
 {
     if state.fault != 0 {
@@ -28,7 +28,7 @@ pub fn region(bytes: &mut [u8], state: &mut State, path: &[u8], space: u8) -> u3
 
 /// Writes a mutex and its sync level (ACPI 6.5, 20.2.5.2, DefMutex). The faults are those of `path`.
 pub fn mutex(bytes: &mut [u8], state: &mut State, path: &[u8], sync_level: u8) -> u32
-    ensures { Does (adds_named (λ name. def_mutex name sync_level) (piece_of (path_of path.now)))
+    ensures { Writes (adds_named (λ name. def_mutex name sync_level) (piece_of (path_of path.now)))
         bytes.old state.old bytes.new state.new result }
 {
     if state.fault != 0 {
@@ -43,7 +43,7 @@ pub fn mutex(bytes: &mut [u8], state: &mut State, path: &[u8], sync_level: u8) -
 /// Acquires a mutex, with a timeout in milliseconds; 0xffff waits without a limit (ACPI 6.5, 20.2.5.4, DefAcquire). The faults
 /// are those of `path`.
 pub fn acquire(bytes: &mut [u8], state: &mut State, mutex: &[u8], timeout: u16) -> u32
-    ensures { Does (adds_named (λ name. def_acquire name timeout) (piece_of (path_of mutex.now)))
+    ensures { Writes (adds_named (λ name. def_acquire name timeout) (piece_of (path_of mutex.now)))
         bytes.old state.old bytes.new state.new result }
 {
     if state.fault != 0 {
@@ -63,7 +63,7 @@ pub fn acquire(bytes: &mut [u8], state: &mut State, mutex: &[u8], timeout: u16) 
 
 /// Releases a mutex (ACPI 6.5, 20.2.5.3, DefRelease). The faults are those of `path`.
 pub fn release(bytes: &mut [u8], state: &mut State, mutex: &[u8]) -> u32
-    ensures { Does (adds_named (λ name. def_release name) (piece_of (path_of mutex.now)))
+    ensures { Writes (adds_named (λ name. def_release name) (piece_of (path_of mutex.now)))
         bytes.old state.old bytes.new state.new result }
 {
     if state.fault != 0 {
@@ -78,7 +78,7 @@ pub fn release(bytes: &mut [u8], state: &mut State, mutex: &[u8]) -> u32
 /// Declares an object of another block (ACPI 6.5, 20.2.5.1, DefExternal): its type (19.6.46), and the number of arguments if it
 /// is a method. The faults are those of `path`.
 pub fn external(bytes: &mut [u8], state: &mut State, path: &[u8], kind: u8, arguments: u8) -> u32
-    ensures { Does (adds_named (λ name. def_external name kind arguments) (piece_of (path_of path.now)))
+    ensures { Writes (adds_named (λ name. def_external name kind arguments) (piece_of (path_of path.now)))
         bytes.old state.old bytes.new state.new result }
 {
     if state.fault != 0 {
@@ -93,7 +93,7 @@ pub fn external(bytes: &mut [u8], state: &mut State, path: &[u8], kind: u8, argu
 /// Writes an event (ACPI 6.5, 20.2.5.2, DefEvent). The faults are those of `path`.
 #[tactic(auto, using(crate::proofs::Operators::of_name, crate::proofs::Operators::of_no_name))]
 pub fn event(bytes: &mut [u8], state: &mut State, path: &[u8]) -> u32
-    ensures { Does (adds (piece_of (row (op Event) (path_of path.now ∷ []))))
+    ensures { Writes (adds (piece_of (row (op Event) (path_of path.now ∷ []))))
         bytes.old state.old bytes.new state.new result }
 {
     if state.fault != 0 {
@@ -109,7 +109,7 @@ pub fn event(bytes: &mut [u8], state: &mut State, path: &[u8]) -> u32
 /// of the first, and then of the second.
 #[tactic(auto, using(crate::proofs::Operators::of_names, crate::proofs::Operators::of_no_first, crate::proofs::Operators::of_no_second))]
 pub fn alias(bytes: &mut [u8], state: &mut State, source: &[u8], name: &[u8]) -> u32
-    ensures { Does (adds (piece_of (row (op Alias) (path_of source.now ∷ path_of name.now ∷ []))))
+    ensures { Writes (adds (piece_of (row (op Alias) (path_of source.now ∷ path_of name.now ∷ []))))
         bytes.old state.old bytes.new state.new result }
 {
     if state.fault != 0 {

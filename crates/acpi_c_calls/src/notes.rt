@@ -9,7 +9,7 @@ ghost use Rattle.acpi_c_calls.specs.Notes.{note, AreNotes};
 use crate::give::give;
 use crate::refused::Refused;
 use acpi_forms::make::make as made_of;
-use acpi_make::own::Own;
+use acpi_make::extent::Own;
 use std::alloc::Global;
 
 /// A number of a table that a text states wrongly, such as a length, a count or a checksum.

@@ -4,7 +4,7 @@ ghost use Rattle.std.specs.Prelude.{◌++◌, []};
 ghost use Rattle.acpi_term.specs.PathText.{path_of};
 ghost use Rattle.acpi_term.specs.Tree.{def_scope, def_device, def_thermal_zone, def_power_res, def_processor, def_method};
 ghost use Rattle.acpi_term.specs.Tree.{def_if, def_else, def_while, def_buffer, def_package};
-ghost use Rattle.acpi_c_calls.specs.Writer.{IsDone, Does, opens, opens_row, opens_named, piece_of};
+ghost use Rattle.acpi_c_calls.specs.Writer.{IsDone, Writes, opens, opens_row, opens_named, piece_of};
 
 use crate::fault::Fault;
 use crate::held::Held;
@@ -40,7 +40,7 @@ pub(crate) fn open(
 
 /// Opens a scope: objects below a name (ACPI 6.5, 20.2.5.1, DefScope).
 pub fn open_scope(bytes: &mut [u8], state: &mut State, path: &[u8]) -> u32
-    ensures { Does (opens_named (λ name. def_scope name) (piece_of (path_of path.now)))
+    ensures { Writes (opens_named (λ name. def_scope name) (piece_of (path_of path.now)))
         bytes.old state.old bytes.new state.new result }
 {
     if state.fault != 0 {
@@ -54,7 +54,7 @@ pub fn open_scope(bytes: &mut [u8], state: &mut State, path: &[u8]) -> u32
 
 /// Opens a device (ACPI 6.5, 20.2.5.2, DefDevice).
 pub fn open_device(bytes: &mut [u8], state: &mut State, path: &[u8]) -> u32
-    ensures { Does (opens_named (λ name. def_device name) (piece_of (path_of path.now)))
+    ensures { Writes (opens_named (λ name. def_device name) (piece_of (path_of path.now)))
         bytes.old state.old bytes.new state.new result }
 {
     if state.fault != 0 {
@@ -68,7 +68,7 @@ pub fn open_device(bytes: &mut [u8], state: &mut State, path: &[u8]) -> u32
 
 /// Opens a thermal zone (ACPI 6.5, 20.2.5.2, DefThermalZone).
 pub fn open_thermal_zone(bytes: &mut [u8], state: &mut State, path: &[u8]) -> u32
-    ensures { Does (opens_named (λ name. def_thermal_zone name) (piece_of (path_of path.now)))
+    ensures { Writes (opens_named (λ name. def_thermal_zone name) (piece_of (path_of path.now)))
         bytes.old state.old bytes.new state.new result }
 {
     if state.fault != 0 {
@@ -89,7 +89,7 @@ pub fn open_power_resource(
     level: u8,
     order: u16,
 ) -> u32
-    ensures { Does (opens_named (λ name. def_power_res name level order) (piece_of (path_of path.now)))
+    ensures { Writes (opens_named (λ name. def_power_res name level order) (piece_of (path_of path.now)))
         bytes.old state.old bytes.new state.new result }
 {
     if state.fault != 0 {
@@ -119,7 +119,7 @@ pub fn open_processor(
     address: u32,
     size: u8,
 ) -> u32
-    ensures { Does (opens_named (λ name. def_processor name id address size) (piece_of (path_of path.now)))
+    ensures { Writes (opens_named (λ name. def_processor name id address size) (piece_of (path_of path.now)))
         bytes.old state.old bytes.new state.new result }
 {
     if state.fault != 0 {
@@ -147,7 +147,7 @@ pub fn open_method(
     arguments: u8,
     serialized: bool,
 ) -> u32
-    ensures { Does (opens_named (λ name. def_method name arguments serialized) (piece_of (path_of path.now)))
+    ensures { Writes (opens_named (λ name. def_method name arguments serialized) (piece_of (path_of path.now)))
         bytes.old state.old bytes.new state.new result }
 {
     if state.fault != 0 {
@@ -177,9 +177,9 @@ fn open_flagged(
     open(bytes, state, 0, &[0x14], name.bytes(), &[flags])
 }
 
-/// Opens a package of this number of elements (ACPI 6.5, 20.2.5.4, DefPackage). At most so many follow.
+/// Opens a package of this number of elements (ACPI 6.5, 20.2.5.4, DefPackage). At most this many follow.
 pub fn open_package(bytes: &mut [u8], state: &mut State, elements: u8) -> u32
-    ensures { Does (opens_row 0 def_package elements) bytes.old state.old bytes.new state.new result }
+    ensures { Writes (opens_row 0 def_package elements) bytes.old state.old bytes.new state.new result }
 {
     if state.fault != 0 {
         return state.fault;
@@ -189,7 +189,7 @@ pub fn open_package(bytes: &mut [u8], state: &mut State, elements: u8) -> u32
 
 /// Opens statements that are run if a predicate is true, which is the first object (ACPI 6.5, 20.2.5.3, DefIfElse).
 pub fn open_if(bytes: &mut [u8], state: &mut State) -> u32
-    ensures { Does (opens_row 0 def_if 0) bytes.old state.old bytes.new state.new result }
+    ensures { Writes (opens_row 0 def_if 0) bytes.old state.old bytes.new state.new result }
 {
     if state.fault != 0 {
         return state.fault;
@@ -199,7 +199,7 @@ pub fn open_if(bytes: &mut [u8], state: &mut State) -> u32
 
 /// Opens statements that are run if the predicate of the `If` before is false (ACPI 6.5, 20.2.5.3, DefElse).
 pub fn open_else(bytes: &mut [u8], state: &mut State) -> u32
-    ensures { Does (opens_row 0 def_else 0) bytes.old state.old bytes.new state.new result }
+    ensures { Writes (opens_row 0 def_else 0) bytes.old state.old bytes.new state.new result }
 {
     if state.fault != 0 {
         return state.fault;
@@ -209,7 +209,7 @@ pub fn open_else(bytes: &mut [u8], state: &mut State) -> u32
 
 /// Opens statements that are run as long as a predicate is true, which is the first object (ACPI 6.5, 20.2.5.3, DefWhile).
 pub fn open_while(bytes: &mut [u8], state: &mut State) -> u32
-    ensures { Does (opens_row 0 def_while 0) bytes.old state.old bytes.new state.new result }
+    ensures { Writes (opens_row 0 def_while 0) bytes.old state.old bytes.new state.new result }
 {
     if state.fault != 0 {
         return state.fault;
@@ -219,7 +219,7 @@ pub fn open_while(bytes: &mut [u8], state: &mut State) -> u32
 
 /// Opens a buffer, whose bytes follow (ACPI 6.5, 20.2.5.4, DefBuffer). It gets their number when it is closed.
 pub fn open_buffer(bytes: &mut [u8], state: &mut State) -> u32
-    ensures { Does (opens_row 1 (def_buffer []) 0) bytes.old state.old bytes.new state.new result }
+    ensures { Writes (opens_row 1 (def_buffer []) 0) bytes.old state.old bytes.new state.new result }
 {
     if state.fault != 0 {
         return state.fault;
@@ -230,7 +230,7 @@ pub fn open_buffer(bytes: &mut [u8], state: &mut State) -> u32
 /// Opens a buffer of resource descriptors, which follow (ACPI 6.5, 6.4). It gets the end tag and the number of its bytes when it
 /// is closed.
 pub fn open_resources(bytes: &mut [u8], state: &mut State) -> u32
-    ensures { Does (opens_row 2 (def_buffer []) 0) bytes.old state.old bytes.new state.new result }
+    ensures { Writes (opens_row 2 (def_buffer []) 0) bytes.old state.old bytes.new state.new result }
 {
     if state.fault != 0 {
         return state.fault;

@@ -4,7 +4,7 @@ ghost use Rattle.std.specs.Prelude.{◌≡◌};
 ghost use Rattle.acpi_ops.specs.AddressSpace.{word_space, dword_space, qword_space};
 ghost use Rattle.acpi_ops.specs.Descriptor.{port_bytes, fixed_bytes, interrupt_bytes, interrupt_flags};
 ghost use Rattle.acpi_c_calls.specs.Resource.{bus_numbers, io_range, memory_range, memory_type, memory_piece};
-ghost use Rattle.acpi_c_calls.specs.Writer.{Does, adds, adds_bytes, piece_of};
+ghost use Rattle.acpi_c_calls.specs.Writer.{Writes, adds, adds_bytes, piece_of};
 
 use crate::fault::Fault;
 use crate::put::{fail, put_object};
@@ -15,7 +15,7 @@ use acpi_ops::descriptor::{IO, Interrupt, Memory32Fixed};
 /// Writes a range of ports with 16-bit decoding (ACPI 6.5, 6.4.2.5): its least and its greatest base, the alignment of the base,
 /// and the number of ports.
 pub fn io(bytes: &mut [u8], state: &mut State, min: u16, max: u16, alignment: u8, length: u8) -> u32
-    ensures { Does (adds_bytes (port_bytes min max alignment length)) bytes.old state.old bytes.new state.new result }
+    ensures { Writes (adds_bytes (port_bytes min max alignment length)) bytes.old state.old bytes.new state.new result }
 {
     if state.fault != 0 {
         return state.fault;
@@ -33,7 +33,7 @@ pub fn interrupt(
     shared: bool,
     number: u32,
 ) -> u32
-    ensures { Does (adds_bytes (interrupt_bytes (interrupt_flags consumer edge_triggered active_low shared) number))
+    ensures { Writes (adds_bytes (interrupt_bytes (interrupt_flags consumer edge_triggered active_low shared) number))
         bytes.old state.old bytes.new state.new result }
 {
     if state.fault != 0 {
@@ -54,7 +54,7 @@ pub fn memory32_fixed(
     base: u32,
     length: u32,
 ) -> u32
-    ensures { Does (adds_bytes (fixed_bytes read_write base length)) bytes.old state.old bytes.new state.new result }
+    ensures { Writes (adds_bytes (fixed_bytes read_write base length)) bytes.old state.old bytes.new state.new result }
 {
     if state.fault != 0 {
         return state.fault;
@@ -66,7 +66,7 @@ pub fn memory32_fixed(
 /// before its start, or if it has all numbers of 16 bits.
 #[tactic(auto, using(crate::proofs::Pieces::space_few, crate::proofs::Pieces::space_dry))]
 pub fn bus_numbers(bytes: &mut [u8], state: &mut State, min: u16, max: u16) -> u32
-    ensures { Does (adds (piece_of (word_space (bus_numbers min max)))) bytes.old state.old bytes.new state.new result }
+    ensures { Writes (adds (piece_of (word_space (bus_numbers min max)))) bytes.old state.old bytes.new state.new result }
 {
     if state.fault != 0 {
         return state.fault;
@@ -78,7 +78,7 @@ pub fn bus_numbers(bytes: &mut [u8], state: &mut State, min: u16, max: u16) -> u
 /// (ACPI 6.5, 6.4.3.5.3). The fault is `AddressRange` if its end is before its start, or if it has all ports of 16 bits.
 #[tactic(auto, using(crate::proofs::Pieces::space_few, crate::proofs::Pieces::space_dry))]
 pub fn io_range(bytes: &mut [u8], state: &mut State, min: u16, max: u16, translation: u16) -> u32
-    ensures { Does (adds (piece_of (word_space (io_range min max translation))))
+    ensures { Writes (adds (piece_of (word_space (io_range min max translation))))
         bytes.old state.old bytes.new state.new result }
 {
     if state.fault != 0 {
@@ -118,7 +118,7 @@ pub fn memory_range32(
     max: u32,
     translation: u32,
 ) -> u32
-    ensures { Does (adds (memory_piece cached (λ cacheable. dword_space (memory_range cacheable read_write min max translation))))
+    ensures { Writes (adds (memory_piece cached (λ cacheable. dword_space (memory_range cacheable read_write min max translation))))
         bytes.old state.old bytes.new state.new result }
 {
     if state.fault != 0 {
@@ -150,7 +150,7 @@ pub fn memory_range64(
     max: u64,
     translation: u64,
 ) -> u32
-    ensures { Does (adds (memory_piece cached (λ cacheable. qword_space (memory_range cacheable read_write min max translation))))
+    ensures { Writes (adds (memory_piece cached (λ cacheable. qword_space (memory_range cacheable read_write min max translation))))
         bytes.old state.old bytes.new state.new result }
 {
     if state.fault != 0 {

@@ -57,7 +57,7 @@ fn add_package(alloc: Global, table: &mut PPTT, number: u8) -> R<()>
     add_core(alloc, table, &package, number)
 }
 
-/// Packages of one core each. Caches aren't shared between packages, so each package can be in a domain of its own.
+/// Packages of one core each. Caches aren't shared between packages, so each package can be in another domain.
 pub fn topology(alloc: Global, packages: u8) -> R<PPTT>
     ensures { IfOk result (λ pptt. length pptt.table.table.structures ≡ 6 * packages) }
 {

@@ -4,15 +4,23 @@ use Rattle.acpi_base.specs.Table.{IsTrueTable}
 use Rattle.acpi_base.specs.Walk.{ArePiecesOf}
 use Rattle.acpi_base.specs.declared.oem.Oem.{Oem}
 use Rattle.acpi_fixed.specs.declared.bert.BERT.{BERT}
+use Rattle.acpi_fixed.specs.declared.bgrt.BGRT.{BGRT}
+use Rattle.acpi_fixed.specs.declared.hpet.HPET.{HPET}
 use Rattle.acpi_fixed.specs.declared.spcr.SPCR.{SPCR}
 use Rattle.acpi_fixed.specs.declared.tpm2.TpmClient1_2.{TpmClient1_2}
 use Rattle.acpi_fixed.specs.declared.tpm2.TpmServer1_2.{TpmServer1_2}
 use Rattle.acpi_fixed.specs.declared.tpm2.Tpm2.{Tpm2}
+use Rattle.acpi_fixed.specs.declared.waet.WAET.{WAET}
+use Rattle.acpi_fixed.specs.declared.wsmt.WSMT.{WSMT}
 use Rattle.acpi_fixed.specs.Bert.{bert_bytes}
+use Rattle.acpi_fixed.specs.Bgrt.{bgrt_bytes}
+use Rattle.acpi_fixed.specs.Hpet.{hpet_bytes}
 use Rattle.acpi_fixed.specs.Rsdp.{rsdp_bytes, rsdp_for}
 use Rattle.acpi_fixed.specs.Spcr.{spcr_bytes}
 use Rattle.acpi_fixed.specs.Tcpa.{client_bytes, server_bytes}
 use Rattle.acpi_fixed.specs.Tpm2.{tpm2_bytes, tpm2_size}
+use Rattle.acpi_fixed.specs.Waet.{waet_bytes}
+use Rattle.acpi_fixed.specs.Wsmt.{wsmt_bytes}
 
 -- the first 20 bytes of a new pointer sum to zero, and so do all 36
 abbrev pub PointersSumToZero : Type 0
@@ -48,3 +56,23 @@ abbrev pub Tpm2sAreTrue : Oem → Type 0
 Tpm2sAreTrue oem =
     (t : Tpm2) → t.oem ≡ oem
     → IsTrueTable (tpm2_bytes t) × (length (tpm2_bytes t) ≡ tpm2_size t.log_area) × ArePiecesOf (tpm2_bytes t) []
+
+abbrev pub HpetsAreTrue : Oem → Type 0
+HpetsAreTrue oem =
+    (t : HPET) → t.oem ≡ oem
+    → IsTrueTable (hpet_bytes t) × (length (hpet_bytes t) ≡ 56) × ArePiecesOf (hpet_bytes t) []
+
+abbrev pub WaetsAreTrue : Oem → Type 0
+WaetsAreTrue oem =
+    (t : WAET) → t.oem ≡ oem
+    → IsTrueTable (waet_bytes t) × (length (waet_bytes t) ≡ 40) × ArePiecesOf (waet_bytes t) []
+
+abbrev pub BgrtsAreTrue : Oem → Type 0
+BgrtsAreTrue oem =
+    (t : BGRT) → t.oem ≡ oem
+    → IsTrueTable (bgrt_bytes t) × (length (bgrt_bytes t) ≡ 56) × ArePiecesOf (bgrt_bytes t) []
+
+abbrev pub WsmtsAreTrue : Oem → Type 0
+WsmtsAreTrue oem =
+    (t : WSMT) → t.oem ≡ oem
+    → IsTrueTable (wsmt_bytes t) × (length (wsmt_bytes t) ≡ 40) × ArePiecesOf (wsmt_bytes t) []

@@ -6,6 +6,10 @@ pub mod Spcr
 pub mod Class
 pub mod Tcpa
 pub mod Tpm2
+pub mod Hpet
+pub mod Waet
+pub mod Bgrt
+pub mod Wsmt
 pub mod Fadt
 pub mod FadtCalls
 pub mod Laws

@@ -3,7 +3,9 @@
 ghost use Rattle.acpi_base.specs.Derived.{IsDefault, IsEquality};
 ghost use Rattle.acpi_fixed.specs.Fadt.{no_fields};
 
+use crate::bgrt::Orientation;
 use crate::fadt::{FADTBuilder, Flags, PmProfile};
+use crate::hpet::{EventTimerBlockId, PageProtection};
 use crate::spcr::{BaudRate, FlowControl, InterfaceType, InterruptController, TerminalType};
 use crate::tpm2::{PlatformClass, StartMethod};
 
@@ -18,6 +20,9 @@ pub fn equal_values_are_the_same()
     ensures baud_rate { IsEquality ⟦<BaudRate as PartialEq>⟧.eq }
     ensures flow_control { IsEquality ⟦<FlowControl as PartialEq>⟧.eq }
     ensures terminal_type { IsEquality ⟦<TerminalType as PartialEq>⟧.eq }
+    ensures block_id { IsEquality ⟦<EventTimerBlockId as PartialEq>⟧.eq }
+    ensures page_protection { IsEquality ⟦<PageProtection as PartialEq>⟧.eq }
+    ensures orientation { IsEquality ⟦<Orientation as PartialEq>⟧.eq }
 {}
 
 /// The default of each type.

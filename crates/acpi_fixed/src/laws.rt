@@ -7,6 +7,7 @@ ghost use Rattle.acpi_fixed.specs.Fadt.{fadt_bytes};
 ghost use Rattle.acpi_fixed.specs.FadtCalls.{FadtsAreValid};
 ghost use Rattle.acpi_fixed.specs.Laws.{PointersSumToZero};
 ghost use Rattle.acpi_fixed.specs.Laws.{BertsAreTrue, SpcrsAreTrue, ClientsAreTrue, ServersAreTrue, Tpm2sAreTrue};
+ghost use Rattle.acpi_fixed.specs.Laws.{HpetsAreTrue, WaetsAreTrue, BgrtsAreTrue, WsmtsAreTrue};
 
 pub use crate::derived::{defaults_are_these, equal_values_are_the_same};
 use crate::fadt::FADTBuilder;
@@ -17,14 +18,18 @@ pub fn pointers_sum_to_zero()
     ensures { PointersSumToZero }
 {}
 
-/// Every BERT, SPCR, TCPA and TPM2 of a maker contains its length and sums to zero, after any setters. These tables have no
-/// structures.
+/// Every BERT, SPCR, TCPA, TPM2, HPET, WAET, BGRT and WSMT of a maker contains its length and sums to zero, after any setters.
+/// These tables have no structures.
 pub fn tables_are_true(oem: Oem)
     ensures bert { BertsAreTrue oem }
     ensures spcr { SpcrsAreTrue oem }
     ensures client { ClientsAreTrue oem }
     ensures server { ServersAreTrue oem }
     ensures tpm2 { Tpm2sAreTrue oem }
+    ensures hpet { HpetsAreTrue oem }
+    ensures waet { WaetsAreTrue oem }
+    ensures bgrt { BgrtsAreTrue oem }
+    ensures wsmt { WsmtsAreTrue oem }
 {}
 
 /// Every FADT has 276 bytes and sums to zero. It contains its length, unless the caller changed the length that

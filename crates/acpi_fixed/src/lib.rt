@@ -2,11 +2,15 @@
 #![tactic(auto)]
 
 pub mod bert;
+pub mod bgrt;
 mod derived;
 pub mod facs;
 pub mod fadt;
+pub mod hpet;
 pub mod laws;
 pub mod rsdp;
 mod sealed;
 pub mod spcr;
 pub mod tpm2;
+pub mod waet;
+pub mod wsmt;

@@ -2,12 +2,16 @@
 use Rattle.std.specs.Prelude.{[], Some, take}
 use Rattle.acpi_base.specs.Fields.{AreRowsOf}
 use Rattle.acpi_fixed.specs.Bert.{bert_fields}
+use Rattle.acpi_fixed.specs.Bgrt.{bgrt_fields}
 use Rattle.acpi_fixed.specs.Facs.{facs_fields}
 use Rattle.acpi_fixed.specs.Fadt.{fadt_fields}
+use Rattle.acpi_fixed.specs.Hpet.{hpet_fields}
 use Rattle.acpi_fixed.specs.Rsdp.{rsdp_fields}
 use Rattle.acpi_fixed.specs.Spcr.{spcr_fields}
 use Rattle.acpi_fixed.specs.Tcpa.{client_fields, server_fields}
 use Rattle.acpi_fixed.specs.Tpm2.{tpm2_fields}
+use Rattle.acpi_fixed.specs.Waet.{waet_fields}
+use Rattle.acpi_fixed.specs.Wsmt.{wsmt_fields}
 use Rattle.acpi_fixed.specs.declared.facs.FACS.{FACS}
 use Rattle.acpi_fixed.specs.declared.rsdp.Rsdp.{Rsdp}
 use Rattle.acpi_fixed.specs.declared.tpm2.LogArea.{LogArea}
@@ -43,3 +47,15 @@ IsTcpa form = TableHasAt 0 client_fields form × TableHasAt 1 server_fields form
 -- with a log area; a table without one ends before it
 abbrev pub IsTpm2 : TableForm → Type 0
 IsTpm2 form = TableHas {T = Tpm2 × LogArea} (λ t. tpm2_fields t.0 (Some t.1)) form
+
+abbrev pub IsHpet : TableForm → Type 0
+IsHpet form = TableHas hpet_fields form
+
+abbrev pub IsWaet : TableForm → Type 0
+IsWaet form = TableHas waet_fields form
+
+abbrev pub IsBgrt : TableForm → Type 0
+IsBgrt form = TableHas bgrt_fields form
+
+abbrev pub IsWsmt : TableForm → Type 0
+IsWsmt form = TableHas wsmt_fields form

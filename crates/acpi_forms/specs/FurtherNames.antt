@@ -125,9 +125,8 @@ pmtt_kinds =
 abbrev pub boot_tables : List Named
 boot_tables =
     only_read "RSDT" "Root System Description Table (RSDT)" (one_kind "Entry")
-    ∷ only_read "HPET" "IA-PC High Precision Event Timer Table (HPET)" []
-    ∷ only_read "WAET" "Windows ACPI Emulated Devices Table (WAET)" []
-    ∷ only_read "BGRT" "Boot Graphics Resource Table (BGRT)" []
+    ∷ only_read "PSDT" "Persistent System Description Table (PSDT)" []
+    ∷ only_read "OSDT" "Override System Description Table (OSDT)" []
     ∷ only_read "BOOT" "Simple Boot Flag Table (BOOT)" []
     ∷ only_read "DBGP" "Debug Port Table (DBGP)" []
     ∷ only_read "ECDT" "Embedded Controller Boot Resources Table (ECDT)" []
@@ -145,8 +144,7 @@ boot_tables =
 -- protection, and code outside the operating system
 abbrev pub security_tables : List Named
 security_tables =
-    only_read "WSMT" "Windows SMM Security Mitigations Table (WSMT)" []
-    ∷ only_read "CCEL" "CC Event Log Table (CCEL)" []
+    only_read "CCEL" "CC Event Log Table (CCEL)" []
     ∷ only_read "TDEL" "TD Event Log Table (TDEL)" []
     ∷ only_read "SVKL" "Storage Volume Key Location Table (SVKL)" (one_kind "Key Structure")
     ∷ only_read "SDEV" "Secure Devices Table (SDEV)" sdev_kinds
@@ -155,6 +153,7 @@ security_tables =
     ∷ only_read "STAO" "Status Override Table (STAO)" []
     ∷ only_read "PRMT" "Platform Runtime Mechanism Table (PRMT)" (one_kind "PRM Module Information Structure")
     ∷ only_read "ASPT" "AMD Secure Processor Table (ASPT)" aspt_kinds
+    ∷ only_read "DTPR" "DMA TXT Protected Range Table (DTPR)" []
     ∷ []
 
 -- errors, watchdogs and diagnosis

@@ -6,6 +6,7 @@ use Rattle.acpi_forms.specs.FurtherNames.{boot_tables, security_tables, faults_t
 use Rattle.acpi_forms.specs.Written.{the_bert, the_cedt, the_dbg2, the_facs, the_fadt, the_gtdt, the_header, the_hest}
 use Rattle.acpi_forms.specs.Written.{the_hmat, the_iort, the_madt, the_mcfg, the_pptt, the_rhct, the_rimt, the_rqsc}
 use Rattle.acpi_forms.specs.Written.{the_rsdp, the_slit, the_spcr, the_srat, the_tcpa, the_tpm2, the_viot, the_xsdt}
+use Rattle.acpi_forms.specs.Written.{the_hpet, the_waet, the_bgrt, the_wsmt}
 use Rattle.acpi_forms.specs.Name.{named_as, one_kind}
 pub use Rattle.acpi_forms.specs.Name.{Named, kinds, IsNamed}
 
@@ -145,6 +146,7 @@ iort_kinds =
     ∷ (4, codes "SMMUv3")
     ∷ (5, codes "Performance Monitoring Counter Group (PMCG)")
     ∷ (6, codes "Reserved Memory Range (RMR)")
+    ∷ (7, codes "Interrupt Wire Bridge (IWB)")
     ∷ []
 
 -- ---- tables that are written
@@ -223,6 +225,18 @@ dbg2_names = named_as the_dbg2 "DBG2" "Debug Port Table 2 (DBG2)" (one_kind "Deb
 abbrev pub iort_names : Named
 iort_names = named_as the_iort "IORT" "IO Remapping Table (IORT)" iort_kinds
 
+abbrev pub hpet_names : Named
+hpet_names = named_as the_hpet "HPET" "IA-PC High Precision Event Timer Table (HPET)" []
+
+abbrev pub waet_names : Named
+waet_names = named_as the_waet "WAET" "Windows ACPI Emulated Devices Table (WAET)" []
+
+abbrev pub bgrt_names : Named
+bgrt_names = named_as the_bgrt "BGRT" "Boot Graphics Resource Table (BGRT)" []
+
+abbrev pub wsmt_names : Named
+wsmt_names = named_as the_wsmt "WSMT" "Windows SMM Security Mitigations Table (WSMT)" []
+
 abbrev pub rsdp_names : Named
 rsdp_names = named_as the_rsdp "RSD PTR " "Root System Description Pointer (RSDP)" []
 
@@ -265,6 +279,10 @@ node_tables =
 abbrev pub arm_tables : List Named
 arm_tables = gtdt_names ∷ dbg2_names ∷ iort_names ∷ []
 
+-- tables for the timers, the firmware and the devices of a PC
+abbrev pub pc_tables : List Named
+pc_tables = hpet_names ∷ waet_names ∷ bgrt_names ∷ wsmt_names ∷ []
+
 -- ---- the names of a signature
 
 -- the names of the tables of a signature that are only read, by the lists of these
@@ -284,8 +302,11 @@ abbrev pub named_boot : ℕ → Named
 named_boot s = find_named s boot_tables (named_security s)
 
 -- the names of the tables of a signature that are written, too, by the lists of these
+abbrev pub named_pc : ℕ → Named
+named_pc s = find_named s pc_tables (named_boot s)
+
 abbrev pub named_arm : ℕ → Named
-named_arm s = find_named s arm_tables (named_boot s)
+named_arm s = find_named s arm_tables (named_pc s)
 
 abbrev pub named_node : ℕ → Named
 named_node s = find_named s node_tables (named_arm s)

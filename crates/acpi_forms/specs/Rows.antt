@@ -13,7 +13,7 @@ use Rattle.acpi_text.specs.Form.{find_choice}
 use Rattle.acpi_text.specs.Structure.{all_forms, find_form, form_parts, form_inner}
 use Rattle.acpi_text.specs.declared.form.Choice.{Choice}
 use Rattle.acpi_text.specs.declared.form.Inner.{Inner}
-use Rattle.acpi_text.specs.declared.form.Inner.TheVariants.{Nothing, Structures}
+use Rattle.acpi_text.specs.declared.form.Inner.TheVariants.{Nothing, Lists}
 use Rattle.acpi_text.specs.declared.form.Part.{Part}
 use Rattle.acpi_text.specs.declared.form.Part.TheVariants.{Fields, Between, Group, Entries, Numbers, Matrix, Bytes, Until, Chosen}
 use Rattle.acpi_text.specs.declared.form.TableForm.{TableForm}
@@ -48,7 +48,7 @@ entry_rows wanted (part ∷ parts) = entry_rows wanted parts
 -- the parts of structures within a structure
 abbrev pub inner_parts : Inner → List Part
 inner_parts Nothing = []
-inner_parts (Structures start name sizes parts) = parts.now
+inner_parts (Lists start lists) = flat_map (λ list. flat_map (λ form. form.parts.now) list.forms.now) lists.now
 
 -- ---- the fields of what is written
 

@@ -1,5 +1,6 @@
 -- Which tables library calls write, and the fields of their forms.
 use Rattle.acpi_forms.specs.FixedForms.{IsRsdp, IsFacs, IsHeader, IsBert, IsFadt, IsSpcr, IsTcpa, IsTpm2}
+use Rattle.acpi_forms.specs.FixedForms.{IsHpet, IsWaet, IsBgrt, IsWsmt}
 use Rattle.acpi_forms.specs.ListForms.{IsXsdt, IsMcfg, IsMadt, IsSrat, IsCedt}
 use Rattle.acpi_forms.specs.HestForms.{IsHest, IsRqsc}
 use Rattle.acpi_forms.specs.NodeForms.{IsPptt, IsRhct, IsViot, IsRimt}
@@ -34,6 +35,10 @@ pub data Written : Type 0 where
   the_gtdt : Written
   the_dbg2 : Written
   the_iort : Written
+  the_hpet : Written
+  the_waet : Written
+  the_bgrt : Written
+  the_wsmt : Written
 
 -- a form has the fields that are written
 abbrev pub HasFields : Written → TableForm → Type 0
@@ -62,3 +67,7 @@ HasFields the_slit form = IsSlit form
 HasFields the_gtdt form = IsGtdt form
 HasFields the_dbg2 form = IsDbg2 form
 HasFields the_iort form = IsIort form
+HasFields the_hpet form = IsHpet form
+HasFields the_waet form = IsWaet form
+HasFields the_bgrt form = IsBgrt form
+HasFields the_wsmt form = IsWsmt form

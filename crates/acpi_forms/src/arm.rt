@@ -2,6 +2,7 @@
 
 ghost use Rattle.acpi_forms.specs.Named.{IsNamed, gtdt_names, dbg2_names, iort_names};
 
+use crate::further::iort::IORT_FURTHER;
 use acpi_arm::dbg2::DEBUG_DEVICE;
 use acpi_arm::gtdt::{GENERIC_WATCHDOG, GT_BLOCK, GT_BLOCK_TIMER, GTDT_FIXED, GTDT_LAST};
 use acpi_arm::iort::{
@@ -47,6 +48,7 @@ const GTDT: TableForm = TableForm {
     ],
     structures: &GTDT_TIMERS,
     further: &[],
+    inner: &Inner::Nothing,
 };
 
 /// Returns the form of the Generic Timer Description Table (ACPI 6.5, 5.2.25).
@@ -86,6 +88,7 @@ const DBG2: TableForm = TableForm {
         inner: &Inner::Nothing,
     }],
     further: &[],
+    inner: &Inner::Nothing,
 };
 
 /// Returns the form of the Debug Port Table 2 (Microsoft).
@@ -214,7 +217,8 @@ const IORT: TableForm = TableForm {
         ]),
     ],
     structures: &IORT_NODES,
-    further: &[],
+    further: &IORT_FURTHER,
+    inner: &Inner::Nothing,
 };
 
 /// Returns the form of the IO Remapping Table (Arm DEN0049E.d).

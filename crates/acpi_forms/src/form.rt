@@ -4,11 +4,12 @@ ghost use Rattle.std.specs.Prelude.{◌≡◌};
 ghost use Rattle.acpi_base.specs.Walk.{named};
 ghost use Rattle.acpi_forms.specs.Named.{find_form, names_of, IsNamed};
 ghost use Rattle.acpi_forms.specs.Named.{named_boot, named_security, named_faults, named_devices, named_memory};
-ghost use Rattle.acpi_forms.specs.Named.{named_node, named_arm};
+ghost use Rattle.acpi_forms.specs.Named.{named_node, named_arm, named_pc};
 
 use crate::arm::{dbg2_form, gtdt_form, iort_form};
 use crate::fixed::{
-    bert_form, dsdt_form, fadt_form, spcr_form, ssdt_form, tcpa_form, tpm2_form, unknown_form,
+    bert_form, bgrt_form, dsdt_form, fadt_form, hpet_form, spcr_form, ssdt_form, tcpa_form,
+    tpm2_form, unknown_form, waet_form, wsmt_form,
 };
 pub use crate::fixed::{facs_form, rsdp_form};
 use crate::further::{BOOT_FORMS, DEVICES_FORMS, FAULTS_FORMS, MEMORY_FORMS, SECURITY_FORMS};
@@ -70,12 +71,26 @@ fn boot_form(signature: u32) -> TableForm
     find_form(signature, &BOOT_FORMS, security_form(signature))
 }
 
-// Returns the form of a table of an Arm machine, or that of a table which is only read.
+// Returns the form of a table for the timers, the firmware and the devices of a PC, or that of a table which is only read.
+#[rattlefmt::skip]
+fn pc_form(signature: u32) -> TableForm
+    ensures { IsNamed result (named_pc signature) }
+{
+    let other = boot_form(signature);
+    find_form(signature, &[
+        (*b"HPET", hpet_form()),
+        (*b"WAET", waet_form()),
+        (*b"BGRT", bgrt_form()),
+        (*b"WSMT", wsmt_form()),
+    ], other)
+}
+
+// Returns the form of a table of an Arm machine, or one of those above.
 #[rattlefmt::skip]
 fn arm_form(signature: u32) -> TableForm
     ensures { IsNamed result (named_arm signature) }
 {
-    let other = boot_form(signature);
+    let other = pc_form(signature);
     find_form(signature, &[
         (*b"GTDT", gtdt_form()),
         (*b"DBG2", dbg2_form()),

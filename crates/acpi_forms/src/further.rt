@@ -7,7 +7,7 @@ pub mod apmt;
 pub mod asf;
 pub mod aspt;
 pub mod bdat;
-pub mod bgrt;
+pub mod blocks;
 pub mod boot;
 pub mod ccel;
 pub mod cpep;
@@ -15,13 +15,14 @@ pub mod csrt;
 pub mod dbgp;
 pub mod dmar;
 pub mod drtm;
+pub mod dtpr;
 pub mod ecdt;
 pub mod einj;
 pub mod erst;
 pub mod fpdt;
 pub mod hest;
-pub mod hpet;
 pub mod ibft;
+pub mod iort;
 pub mod iovt;
 pub mod ivrs;
 pub mod lpit;
@@ -55,23 +56,20 @@ pub mod svkl;
 pub mod swft;
 pub mod tdel;
 pub mod uefi;
-pub mod waet;
 pub mod wdat;
 pub mod wddt;
 pub mod wdrt;
 pub mod wpbt;
-pub mod wsmt;
 pub mod xenv;
 
 use acpi_text::form::TableForm;
 
 /// What a machine has when it boots.
 #[rattlefmt::skip]
-pub const BOOT_FORMS: [([u8; 4], TableForm); 16] = [
+pub const BOOT_FORMS: [([u8; 4], TableForm); 15] = [
     (*b"RSDT", rsdt::RSDT),
-    (*b"HPET", hpet::HPET),
-    (*b"WAET", waet::WAET),
-    (*b"BGRT", bgrt::BGRT),
+    (*b"PSDT", blocks::PSDT),
+    (*b"OSDT", blocks::OSDT),
     (*b"BOOT", boot::BOOT),
     (*b"DBGP", dbgp::DBGP),
     (*b"ECDT", ecdt::ECDT),
@@ -89,7 +87,6 @@ pub const BOOT_FORMS: [([u8; 4], TableForm); 16] = [
 /// Protection, and code outside the operating system.
 #[rattlefmt::skip]
 pub const SECURITY_FORMS: [([u8; 4], TableForm); 10] = [
-    (*b"WSMT", wsmt::WSMT),
     (*b"CCEL", ccel::CCEL),
     (*b"TDEL", tdel::TDEL),
     (*b"SVKL", svkl::SVKL),
@@ -99,6 +96,7 @@ pub const SECURITY_FORMS: [([u8; 4], TableForm); 10] = [
     (*b"STAO", stao::STAO),
     (*b"PRMT", prmt::PRMT),
     (*b"ASPT", aspt::ASPT),
+    (*b"DTPR", dtpr::DTPR),
 ];
 
 /// Errors, watchdogs and diagnosis.

@@ -13,7 +13,9 @@ use acpi_hest::rqsc::{
     ACPI_DEVICE_RESOURCE, CACHE_RESOURCE, CONTROLLER, MEMORY_RESOURCE, PCI_DEVICE_RESOURCE,
     RESOURCE,
 };
-use acpi_text::form::{Choice, Inner, Part, StructureForm, TableForm};
+use acpi_text::form::{
+    Choice, Count, Inner, InnerForm, InnerList, InnerSize, Part, Start, StructureForm, TableForm,
+};
 
 // The notification structure is a field of a generic source, after nine others.
 const SOURCES: [StructureForm; 5] = [
@@ -66,6 +68,7 @@ const HEST: TableForm = TableForm {
     ],
     structures: &SOURCES,
     further: &HEST_FURTHER,
+    inner: &Inner::Nothing,
 };
 
 /// Returns the form of the Hardware Error Source Table (ACPI 6.5, 18.3.2).
@@ -105,11 +108,18 @@ const RESOURCE_PARTS: [Part; 2] = [
 ];
 
 // The resources of a controller. Each contains its length.
-const RESOURCES: Inner = Inner::Structures(
-    28,
-    "Resource Structure",
-    Sizes::ToldAt(Place::Word(2)),
-    &RESOURCE_PARTS,
+const RESOURCES: Inner = Inner::Lists(
+    Start::At(28),
+    &[InnerList {
+        count: Count::Rest,
+        kind: Place::Nowhere,
+        forms: &[InnerForm {
+            number: 0,
+            name: "Resource Structure",
+            size: InnerSize::Walked(Sizes::ToldAt(Place::Word(2))),
+            parts: &RESOURCE_PARTS,
+        }],
+    }],
 );
 
 const CONTROLLERS: [StructureForm; 2] = [
@@ -135,6 +145,7 @@ const RQSC: TableForm = TableForm {
     ],
     structures: &CONTROLLERS,
     further: &[],
+    inner: &Inner::Nothing,
 };
 
 /// Returns the form of the RISC-V Quality of Service Controllers Table (this project's profile).

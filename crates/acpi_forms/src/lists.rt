@@ -31,6 +31,7 @@ const XSDT: TableForm = TableForm {
         inner: &Inner::Nothing,
     }],
     further: &[],
+    inner: &Inner::Nothing,
 };
 
 /// Returns the form of the Extended System Description Table (ACPI 6.5, 5.2.8).
@@ -50,6 +51,7 @@ const MCFG: TableForm = TableForm {
         inner: &Inner::Nothing,
     }],
     further: &[],
+    inner: &Inner::Nothing,
 };
 
 /// Returns the form of the PCI Express memory mapped configuration space base address description table (PCI Firmware 3.3,
@@ -170,6 +172,7 @@ const MADT: TableForm = TableForm {
     parts: &[Part::Fields(&HEADER), Part::Fields(&MADT_FIXED)],
     structures: &MADT_STRUCTURES,
     further: &MADT_FURTHER,
+    inner: &Inner::Nothing,
 };
 
 /// Returns the form of the Multiple APIC Description Table (ACPI 6.5, 5.2.12).
@@ -260,6 +263,7 @@ const SRAT: TableForm = TableForm {
     ],
     structures: &SRAT_STRUCTURES,
     further: &[],
+    inner: &Inner::Nothing,
 };
 
 /// Returns the form of the System Resource Affinity Table (ACPI 6.5, 5.2.16).
@@ -307,6 +311,7 @@ const CEDT: TableForm = TableForm {
     parts: &[Part::Fields(&HEADER)],
     structures: &CEDT_STRUCTURES,
     further: &[],
+    inner: &Inner::Nothing,
 };
 
 /// Returns the form of the CXL Early Discovery Table (this project's profile).

@@ -52,6 +52,7 @@ const HMAT: TableForm = TableForm {
     parts: &[Part::Fields(&HEADER), Part::Fields(&[Row::Reserved(4)])],
     structures: &HMAT_STRUCTURES,
     further: &[],
+    inner: &Inner::Nothing,
 };
 
 /// Returns the form of the Heterogeneous Memory Attribute Table (ACPI 6.5, 5.2.28).
@@ -75,6 +76,7 @@ const SLIT: TableForm = TableForm {
     ],
     structures: &[],
     further: &[],
+    inner: &Inner::Nothing,
 };
 
 /// Returns the form of the System Locality Information Table (ACPI 6.5, 5.2.17).

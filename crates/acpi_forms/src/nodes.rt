@@ -41,6 +41,7 @@ const PPTT: TableForm = TableForm {
     parts: &[Part::Fields(&HEADER)],
     structures: &PPTT_NODES,
     further: &[],
+    inner: &Inner::Nothing,
 };
 
 /// Returns the form of the Processor Properties Topology Table (ACPI 6.5, 5.2.30).
@@ -95,6 +96,7 @@ const RHCT: TableForm = TableForm {
     ],
     structures: &RHCT_NODES,
     further: &[],
+    inner: &Inner::Nothing,
 };
 
 /// Returns the form of the RISC-V Hart Capabilities Table (this project's profile).
@@ -143,6 +145,7 @@ const VIOT: TableForm = TableForm {
     ],
     structures: &VIOT_NODES,
     further: &[],
+    inner: &Inner::Nothing,
 };
 
 /// Returns the form of the Virtual I/O Translation Table (ACPI 6.5, 5.2.32).
@@ -201,6 +204,7 @@ const RIMT: TableForm = TableForm {
     ],
     structures: &RIMT_DEVICES,
     further: &[],
+    inner: &Inner::Nothing,
 };
 
 /// Returns the form of the RISC-V IO Mapping Table (this project's profile).

@@ -5,7 +5,7 @@ use Rattle.acpi_base.specs.declared.walk.Sizes.{Sizes}
 use Rattle.acpi_json.specs.Table.{structure, elements, fields_member, structures_member, parts_members}
 use Rattle.acpi_json.specs.Text.{separator}
 use Rattle.acpi_rules.proofs.Structures.{one_more}
-use Rattle.acpi_rules.specs.Field.{structures_of}
+use Rattle.acpi_rules.specs.Field.{structures_of, parts_fields}
 use Rattle.acpi_text.specs.Size.{front_size}
 use Rattle.acpi_text.specs.Table.{start_of}
 use Rattle.acpi_text.specs.declared.form.TableForm.{TableForm}
@@ -35,12 +35,12 @@ module _ (kind : Place) (forms : List StructureForm) (sizes : Sizes) where
 -- the fields before structures were added, and these
 pub members_added : (form : TableForm) (walk : Walk) (start : ℕ) (bytes front others old now new : List ℕ)
     → start ≡ start_of walk bytes → front ≡ take start bytes → others ≡ drop start bytes
-    → now ≡ old ++ fields_member form.parts.now front → new ≡ now ++ structures_member walk form (length front) others
+    → now ≡ old ++ fields_member (parts_fields form.parts.now 0 front) → new ≡ now ++ structures_member walk form (length front) others
     → new ≡ old ++ parts_members form (Some walk) bytes
 members_added form walk start bytes front others old now new begins one two first second =
     let one_is : front ≡ take (start_of walk bytes) bytes = one ∙ ap (λ k. take k bytes) begins in
     let two_is : others ≡ drop (start_of walk bytes) bytes = two ∙ ap (λ k. drop k bytes) begins in
-    let F : List ℕ → List ℕ = λ f. fields_member form.parts.now f in
+    let F : List ℕ → List ℕ = λ f. fields_member (parts_fields form.parts.now 0 f) in
     let S : List ℕ → List ℕ → List ℕ = λ f o. structures_member walk form (length f) o in
     second
     ∙ ap (λ (l : List ℕ). l ++ S front others) first

@@ -7,11 +7,10 @@ use Rattle.acpi_base.specs.declared.walk.Place.{Place}
 use Rattle.acpi_base.specs.declared.walk.Walk.{Walk}
 use Rattle.acpi_json.specs.Field.{fields_list}
 use Rattle.acpi_json.specs.Text.{separator, string, text_string, digits_string}
-use Rattle.acpi_rules.specs.Field.{Structure, structures_of, parts_fields, structure_fields}
+use Rattle.acpi_rules.specs.Field.{Field, Structure, structures_of, parts_fields, content_fields, structure_fields}
 use Rattle.acpi_text.specs.Form.{number_at}
 use Rattle.acpi_text.specs.Structure.{all_forms, find_form}
 use Rattle.acpi_text.specs.Table.{start_of}
-use Rattle.acpi_text.specs.declared.form.Part.{Part}
 use Rattle.acpi_text.specs.declared.form.StructureForm.{StructureForm}
 use Rattle.acpi_text.specs.declared.form.TableForm.{TableForm}
 
@@ -47,21 +46,23 @@ structures_list kind forms structures = codes "[" ++ elements kind forms true st
 
 -- ---- tables
 
--- the member with the fields of the table's parts
-abbrev pub fields_member : List Part → List ℕ → List ℕ
-fields_member parts bytes = codes ",\"fields\":" ++ fields_list (parts_fields parts 0 bytes)
+-- the member with fields
+abbrev pub fields_member : List Field → List ℕ
+fields_member fields = codes ",\"fields\":" ++ fields_list fields
 
 -- the member with the structures that stand one after another from an offset on
 abbrev pub structures_member : Walk → TableForm → ℕ → List ℕ → List ℕ
 structures_member walk form start bytes =
     codes ",\"structures\":" ++ structures_list walk.kind (all_forms form) (structures_of walk.sizes start bytes)
 
--- the members with the fields before the structures, and with these
+-- The members with the fields before the structures, and with these. Without a walk all fields are the table's.
 abbrev pub parts_members : TableForm → Option Walk → List ℕ → List ℕ
-parts_members form None bytes = fields_member form.parts.now bytes ++ codes ",\"structures\":[]"
+parts_members form None bytes =
+    fields_member (content_fields form.parts.now form.inner.now 0 bytes) ++ codes ",\"structures\":[]"
 parts_members form (Some walk) bytes =
     let front = take (start_of walk bytes) bytes in
-    fields_member form.parts.now front ++ structures_member walk form (length front) (drop (start_of walk bytes) bytes)
+    fields_member (parts_fields form.parts.now 0 front)
+    ++ structures_member walk form (length front) (drop (start_of walk bytes) bytes)
 
 -- The object of a table in a file of this name: the name, the signature, the length, the name of the form, the fields, the
 -- structures, and all bytes.

@@ -1,10 +1,10 @@
 //! A table as an object. A function whose name begins with `push` adds to a text.
 
-ghost use Rattle.std.specs.Prelude.{◌≡◌, ◌+◌, ◌<◌, ◌^◌, ◌++◌, length, true, Some, IfOk, OnOk};
+ghost use Rattle.std.specs.Prelude.{◌≡◌, ◌+◌, ◌<◌, ◌^◌, ◌++◌, length, map, true, Some, IfOk, OnOk};
 ghost use Rattle.acpi_json.specs.Table.{type_value, name_value, structure, elements, structures_list};
 ghost use Rattle.acpi_json.specs.Table.{fields_member, structures_member, parts_members};
 ghost use Rattle.acpi_json.specs.Table.{table as object};
-ghost use Rattle.acpi_rules.specs.Field.{structures_of, structure_fields};
+ghost use Rattle.acpi_rules.specs.Field.{seen, parts_fields, content_fields, structures_of, structure_fields};
 ghost use Rattle.acpi_json.specs.Field.{fields_list};
 ghost use Rattle.acpi_text.specs.Structure.{all_forms};
 
@@ -12,9 +12,10 @@ use crate::field::push_fields;
 use crate::number::push_size;
 use crate::string::{push_digits_string, push_separator, push_string, push_text_string};
 use acpi_base::walk::{Place, Walk};
+use acpi_rules::field::Field;
 use acpi_rules::part::push_parts;
 use acpi_rules::rules::signature_of;
-use acpi_rules::table::push_structure as push_structure_fields;
+use acpi_rules::table::{push_content, push_structure as push_structure_fields};
 use acpi_text::form::{Part, StructureForm, TableForm};
 use acpi_text::inner::split_within;
 use acpi_text::part::number_at;
@@ -149,19 +150,41 @@ fn push_structures_member(
     push_structures_list(alloc, walk, table, start, bytes, text)
 }
 
+// Adds the member with fields.
+fn push_fields_member(fields: &[Field<'_>], text: &mut Vec<u8>) -> Result<(), AllocError>
+    ensures { OnOk result (text.new.items ≡ text.old.items ++ fields_member (map seen fields.now)) }
+{
+    text.extend_from_slice(b",\"fields\":")?;
+    push_fields(fields, text)
+}
+
 // Adds the member with the fields of parts.
-fn push_fields_member(
+fn push_parts_member(
     alloc: Global,
     parts: &[Part],
     bytes: &[u8],
     text: &mut Vec<u8>,
 ) -> Result<(), AllocError>
-    ensures { OnOk result (text.new.items ≡ text.old.items ++ fields_member parts.now bytes.now) }
+    ensures { OnOk result (text.new.items ≡ text.old.items ++ fields_member (parts_fields parts.now 0 bytes.now)) }
 {
     let mut fields = Vec::new(alloc);
     push_parts(parts, 0, bytes, &mut fields)?;
-    text.extend_from_slice(b",\"fields\":")?;
-    push_fields(&fields, text)
+    push_fields_member(&fields, text)
+}
+
+// Adds the member with the fields of a table that has no walk.
+fn push_content_member(
+    alloc: Global,
+    form: &TableForm,
+    bytes: &[u8],
+    text: &mut Vec<u8>,
+) -> Result<(), AllocError>
+    ensures { OnOk result (text.new.items
+        ≡ text.old.items ++ fields_member (content_fields form.now.parts.now form.now.inner.now 0 bytes.now)) }
+{
+    let mut fields = Vec::new(alloc);
+    push_content(form.parts, form.inner, 0, bytes, &mut fields)?;
+    push_fields_member(&fields, text)
 }
 
 // Adds the members with the fields and the structures of a table that has a walk.
@@ -175,7 +198,7 @@ fn push_walked(
     ensures { OnOk result (text.new.items ≡ text.old.items ++ parts_members form.now (Some walk.now) bytes.now) }
 {
     let (front, others) = split_within(start_of(walk, bytes), bytes);
-    push_fields_member(alloc, form.parts, front, text)?;
+    push_parts_member(alloc, form.parts, front, text)?;
     push_structures_member(alloc, walk, form, front.len(), others, text)?;
     Ok(())
 }
@@ -193,7 +216,7 @@ fn push_members(
     match walk {
         Some(walk) => push_walked(alloc, form, &walk, bytes, text),
         None => {
-            push_fields_member(alloc, form.parts, bytes, text)?;
+            push_content_member(alloc, form, bytes, text)?;
             text.extend_from_slice(b",\"structures\":[]")
         }
     }

@@ -19,7 +19,7 @@ use Rattle.acpi_make.specs.Short.{short}
 use Rattle.acpi_make.specs.Source.{Source}
 use Rattle.acpi_make.specs.declared.draft.Mark.{Mark}
 use Rattle.acpi_make.specs.declared.item.Item.{Item}
-use Rattle.acpi_make.specs.declared.own.Own.{Own}
+use Rattle.acpi_make.specs.declared.extent.Own.{Own}
 use Rattle.acpi_make.proofs.Truth.{then_is, unless_is, doubt_is}
 
 -- ---- which way a line went

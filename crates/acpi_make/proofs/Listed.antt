@@ -13,12 +13,13 @@ use Rattle.acpi_base.specs.declared.walk.Sizes.{Sizes}
 use Rattle.acpi_base.specs.declared.walk.Sizes.TheVariants.{EachOf, ToldAt, ByType}
 use Rattle.acpi_make.specs.Draft.{nothing_yet}
 use Rattle.acpi_make.specs.Laws.{TablesAreWalked}
-use Rattle.acpi_make.specs.Own.{own, own_at, next_start, count_structures, size_own, sizes_own}
+use Rattle.acpi_make.specs.Extent.{own, own_at, size_own}
+use Rattle.acpi_make.specs.Own.{next_start, count_structures, sizes_own}
 use Rattle.acpi_make.specs.Pieces.{pieces_of, HasBytesOf, HaveBytesOf}
 use Rattle.acpi_make.specs.declared.file_kind.FileKind.TheVariants as kinds
 use Rattle.acpi_make.specs.declared.draft.Mark.{Mark}
 use Rattle.acpi_make.specs.declared.draft.Mark.TheVariants.{Structure, Line, Reference}
-use Rattle.acpi_make.specs.declared.own.Own.{Own}
+use Rattle.acpi_make.specs.declared.extent.Own.{Own}
 use Rattle.acpi_make.proofs.Truth.{AllHold, hold_both, holds, finished_is, quiet_is}
 use Rattle.acpi_make.proofs.Order.{Ascending, start_within, all_ordered}
 

@@ -30,7 +30,7 @@ use Rattle.acpi_make.specs.declared.item.Cell.{Cell}
 use Rattle.acpi_make.specs.declared.item.Cell.TheVariants.{Byte}
 use Rattle.acpi_make.specs.declared.item.Item.{Item}
 use Rattle.acpi_make.specs.declared.item.Item.TheVariants as items
-use Rattle.acpi_make.specs.declared.own.Own.{Own}
+use Rattle.acpi_make.specs.declared.extent.Own.{Own}
 use Rattle.acpi_make.specs.declared.state.State.TheVariants.{Start}
 use Rattle.acpi_text.specs.Table.{table_text}
 use Rattle.acpi_text.specs.declared.form.StructureForm.{StructureForm}

@@ -18,7 +18,8 @@ use Rattle.acpi_make.specs.Item.{known_cells}
 use Rattle.acpi_make.specs.Laws.{TablesAreTrue}
 use Rattle.acpi_make.specs.Made.{Table, sizes_own, made_of, numbers_own, unless, finished, or_doubt}
 use Rattle.acpi_make.specs.Notes.{begins_with, is_untrue, untrue, untrue_sum, notes}
-use Rattle.acpi_make.specs.Own.{own, none_own, table_own, references_own}
+use Rattle.acpi_make.specs.Extent.{own}
+use Rattle.acpi_make.specs.Own.{none_own, table_own, references_own}
 use Rattle.acpi_make.specs.Short.{short}
 use Rattle.acpi_make.specs.declared.file_kind.FileKind.{FileKind}
 use Rattle.acpi_make.specs.declared.file_kind.FileKind.TheVariants as kinds
@@ -26,7 +27,7 @@ use Rattle.acpi_make.specs.Source.{Source}
 use Rattle.acpi_make.specs.Fault.{Fault}
 use Rattle.acpi_make.specs.declared.item.Cell.{Cell}
 use Rattle.acpi_make.specs.declared.item.Cell.TheVariants.{Byte, Left}
-use Rattle.acpi_make.specs.declared.own.Own.{Own}
+use Rattle.acpi_make.specs.declared.extent.Own.{Own}
 
 -- ---- as many bytes as cells
 

@@ -6,7 +6,7 @@ use Rattle.acpi_make.specs.Notes.{is_untrue}
 use Rattle.acpi_make.specs.Another.{another_at}
 use Rattle.acpi_make.specs.Source.{Source}
 use Rattle.acpi_make.specs.declared.draft.Mark.{Mark}
-use Rattle.acpi_make.specs.declared.own.Own.{Own}
+use Rattle.acpi_make.specs.declared.extent.Own.{Own}
 
 -- The first number that isn't in its field. The standard header's fields have no lines after them by which a table is shown.
 abbrev pub first_untrue : List Own → List ℕ → Option Own

@@ -5,14 +5,14 @@ use Rattle.acpi_base.specs.Bytes.{le, complement}
 use Rattle.acpi_make.specs.Fits.{fits}
 use Rattle.acpi_make.specs.Gives.{with_front}
 use Rattle.acpi_make.specs.Item.{known_cells}
-use Rattle.acpi_make.specs.Own.{own}
+use Rattle.acpi_make.specs.Extent.{own}
 use Rattle.acpi_make.specs.declared.file_kind.FileKind.{FileKind}
 use Rattle.acpi_make.specs.declared.file_kind.FileKind.TheVariants.{Table, Rsdp, Facs}
 use Rattle.acpi_make.specs.Fault.{Fault, fault}
 use Rattle.acpi_make.specs.declared.fault.Wanted.TheVariants as wants
 use Rattle.acpi_make.specs.declared.item.Cell.{Cell}
 use Rattle.acpi_make.specs.declared.item.Cell.TheVariants.{Byte, Left}
-use Rattle.acpi_make.specs.declared.own.Own.{Own}
+use Rattle.acpi_make.specs.declared.extent.Own.{Own}
 
 -- ---- fields
 

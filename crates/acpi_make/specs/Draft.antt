@@ -78,7 +78,7 @@ abbrev pub parts_here : Source → Drafted → List Part
 parts_here s d = if d.inside then form_parts (here s d) else s.form.parts.now
 
 abbrev pub inner_here : Source → Drafted → Inner
-inner_here s d = if d.inside then form_inner (here s d) else Nothing
+inner_here s d = if d.inside then form_inner (here s d) else s.form.inner.now
 
 abbrev pub entries_here : Source → Drafted → List Entry
 entries_here s d = parts_entries (parts_here s d) ++ inner_entries (inner_here s d)

@@ -10,7 +10,9 @@ use Rattle.acpi_base.specs.declared.row.Row.{Row}
 use Rattle.acpi_base.specs.declared.row.Row.TheVariants.{Register}
 use Rattle.acpi_text.specs.declared.form.Choice.{Choice}
 use Rattle.acpi_text.specs.declared.form.Inner.{Inner}
-use Rattle.acpi_text.specs.declared.form.Inner.TheVariants.{Nothing, Structures}
+use Rattle.acpi_text.specs.declared.form.Inner.TheVariants.{Nothing, Lists}
+use Rattle.acpi_text.specs.declared.form.InnerForm.{InnerForm}
+use Rattle.acpi_text.specs.declared.form.InnerList.{InnerList}
 use Rattle.acpi_text.specs.declared.form.Part.{Part}
 use Rattle.acpi_text.specs.declared.form.Part.TheVariants as parts
 use Rattle.acpi_text.specs.declared.form.StructureForm.{StructureForm}
@@ -91,10 +93,16 @@ part_entries (parts.Chosen by choices) = flat_map choice_entries choices.now
 abbrev pub parts_entries : List Part → List Entry
 parts_entries list = flat_map part_entries list
 
--- the fields of structures within, under their name
+-- the fields of structures within, under the name of each
+abbrev pub inner_form_entries : InnerForm → List Entry
+inner_form_entries form = title_entry form.name.now ∷ parts_entries form.parts.now
+
+abbrev pub inner_list_entries : InnerList → List Entry
+inner_list_entries list = flat_map inner_form_entries list.forms.now
+
 abbrev pub inner_entries : Inner → List Entry
 inner_entries Nothing = []
-inner_entries (Structures start name sizes parts) = title_entry name.now ∷ parts_entries parts.now
+inner_entries (Lists start lists) = flat_map inner_list_entries lists.now
 
 -- ---- a field by its name
 
@@ -146,7 +154,8 @@ find_inside line (form ∷ forms) = or_else (next_entry 0 line (structure_entrie
 
 -- the first field of a line's name in a table and its structures
 abbrev pub find_anywhere : List ℕ → TableForm → Option (ℕ × Entry)
-find_anywhere line form = or_else (next_entry 0 line (parts_entries form.parts.now ++ [])) (find_inside line (all_forms form))
+find_anywhere line form =
+    or_else (next_entry 0 line (parts_entries form.parts.now ++ inner_entries form.inner.now)) (find_inside line (all_forms form))
 
 -- the name of the field that was found
 abbrev pub name_found : Option (ℕ × Entry) → List ℕ

@@ -9,6 +9,8 @@ pub mod Fits
 pub mod Source
 pub mod Another
 pub mod Draft
+pub mod Extent
+pub mod Inner
 pub mod Own
 pub mod Complete
 pub mod Compare

@@ -16,7 +16,7 @@ use Rattle.acpi_make.specs.Short.{short}
 use Rattle.acpi_make.specs.Source.{Source}
 use Rattle.acpi_make.specs.declared.item.Item.{Item}
 use Rattle.acpi_make.specs.declared.make.Made.{Made}
-use Rattle.acpi_make.specs.declared.own.Own.{Own}
+use Rattle.acpi_make.specs.declared.extent.Own.{Own}
 
 -- the bytes of a table, and the numbers of itself that aren't in them
 pub record Table : Type 0 where

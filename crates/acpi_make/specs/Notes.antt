@@ -3,10 +3,10 @@ use Rattle.std.specs.Prelude.{ℕ, zero, suc, ◌+◌, ◌/◌, ◌%◌, ◌==�
 use Rattle.std.specs.Prelude.{sum, slice_index}
 use Rattle.std.specs.Prelude.{List, [], ◌∷◌, ◌++◌, length, take, drop}
 use Rattle.acpi_base.specs.Bytes.{complement}
-use Rattle.acpi_make.specs.Own.{own}
+use Rattle.acpi_make.specs.Extent.{own}
 use Rattle.acpi_make.specs.declared.file_kind.FileKind.{FileKind}
 use Rattle.acpi_make.specs.declared.file_kind.FileKind.TheVariants.{Table, Rsdp, Facs}
-use Rattle.acpi_make.specs.declared.own.Own.{Own}
+use Rattle.acpi_make.specs.declared.extent.Own.{Own}
 
 -- whether bytes begin with w bytes of this number, lowest first
 abbrev pub begins_with : ℕ → ℕ → List ℕ → Bool

@@ -6,16 +6,12 @@ use Rattle.std.specs.BTreeMap.{BTreeMap, get_by}
 use Rattle.std.specs.Cmp.Lexicographic.{slice_cmp}
 use Rattle.std.specs.Ordering.{nat_cmp}
 use denote.Ref.{Bor}
-use Rattle.acpi_base.specs.Walk.{place_offset, place_width, end_of}
 use Rattle.acpi_base.specs.declared.walk.Place.{Place}
 use Rattle.acpi_base.specs.declared.walk.Sizes.{Sizes}
-use Rattle.acpi_base.specs.declared.walk.Sizes.TheVariants.{EachOf, ToldAt, ByType}
 use Rattle.acpi_base.specs.declared.walk.Walk.{Walk}
 use Rattle.acpi_text.specs.Structure.{all_forms, form_parts, form_inner}
 use Rattle.acpi_text.specs.declared.form.Count.{Count}
-use Rattle.acpi_text.specs.declared.form.Count.TheVariants.{Field, Rest}
-use Rattle.acpi_text.specs.declared.form.Inner.{Inner}
-use Rattle.acpi_text.specs.declared.form.Inner.TheVariants.{Nothing, Structures}
+use Rattle.acpi_text.specs.declared.form.Count.TheVariants.{Field, Rest, Once}
 use Rattle.acpi_text.specs.declared.form.Part.{Part}
 use Rattle.acpi_text.specs.declared.form.Part.TheVariants.{Fields, Between, Group, Entries, Numbers, Matrix, Bytes, Until, Chosen}
 use Rattle.acpi_text.specs.declared.form.StructureForm.{StructureForm}
@@ -31,18 +27,9 @@ use Rattle.acpi_make.specs.Source.{Source}
 use Rattle.acpi_make.specs.Fault.{Fault, fault}
 use Rattle.acpi_make.specs.declared.fault.Wanted.TheVariants.{Label}
 use Rattle.acpi_make.specs.declared.item.Cell.{Cell}
-use Rattle.acpi_make.specs.declared.own.Own.{Own}
-
--- a number of w bytes at an offset
-abbrev pub own : ℕ → ℕ → ℕ → Own
-own offset w n = record { offset = offset; width = w; number = n }
-
--- A number at a place of a structure of this size, if the structure has the place. No structure begins at 2^62 or after it.
-abbrev pub own_at : ℕ → ℕ → Place → ℕ → List Own
-own_at start size place n =
-    if nat_lt start (2 ^ 62) && nat_le 1 (place_width place) && nat_le (end_of place) size
-    then own (start + place_offset place) (place_width place) n ∷ []
-    else []
+use Rattle.acpi_make.specs.declared.extent.Own.{Own}
+use Rattle.acpi_make.specs.Extent.{own, own_at, size_own}
+use Rattle.acpi_make.specs.Inner.{inner_own}
 
 -- ---- structures
 
@@ -58,12 +45,6 @@ count_structures [] = 0
 count_structures (Structure at from to ∷ marks) = 1 + count_structures marks
 count_structures (Line at from to ∷ marks) = count_structures marks
 count_structures (Reference at w from to ∷ marks) = count_structures marks
-
--- the length of a structure, if it has a field for it
-abbrev pub size_own : Sizes → ℕ → ℕ → List Own
-size_own (EachOf n) start size = []
-size_own (ToldAt place) start size = own_at start size place size
-size_own (ByType kind types) start size = []
 
 -- the lengths of all structures
 abbrev pub sizes_own : Sizes → List Mark → ℕ → List Own
@@ -121,6 +102,7 @@ find_line text name (Reference at w from to ∷ marks) total = find_line text na
 abbrev pub count_own : List ℕ → List Mark → ℕ → ℕ → List ℕ → Count → List Own
 count_own text marks start size name (Field place) = own_at start size place (count_lines text name marks)
 count_own text marks start size name Rest = []
+count_own text marks start size name Once = []
 
 abbrev pub length_own : ℕ → ℕ → Place → Option (ℕ × ℕ) → List Own
 length_own start size place (Some found) = own_at start size place (found.1 - found.0)
@@ -177,28 +159,6 @@ parts_own text marks total start size [] = []
 parts_own text marks total start size (part ∷ parts) =
     part_own text marks total start size part parts ++ parts_own text marks total start size parts
 
--- the offset of the next line with a name, or of the next structure, or that of the table's end
-abbrev pub next_named : List ℕ → List ℕ → List Mark → ℕ → ℕ
-next_named text name [] total = total
-next_named text name (Structure at from to ∷ marks) total = at
-next_named text name (Line at from to ∷ marks) total =
-    if is_line_of name (after_offset (part_at from to text)) then at else next_named text name marks total
-next_named text name (Reference at w from to ∷ marks) total = next_named text name marks total
-
--- the lengths of structures within a structure, each of which begins with a line of this name
-abbrev pub named_sizes : List ℕ → List ℕ → Sizes → List Mark → ℕ → List Own
-named_sizes text name sizes [] total = []
-named_sizes text name sizes (Structure at from to ∷ marks) total = []
-named_sizes text name sizes (Line at from to ∷ marks) total =
-    if is_line_of name (after_offset (part_at from to text))
-    then size_own sizes at (next_named text name marks total - at) ++ named_sizes text name sizes marks total
-    else named_sizes text name sizes marks total
-named_sizes text name sizes (Reference at w from to ∷ marks) total = named_sizes text name sizes marks total
-
-abbrev pub inner_own : List ℕ → List Mark → ℕ → Inner → List Own
-inner_own text marks total Nothing = []
-inner_own text marks total (Structures start name sizes parts) = named_sizes text name.now sizes marks total
-
 -- the type of a structure, by its form
 abbrev pub kind_own : Place → ℕ → ℕ → Option StructureForm → List Own
 kind_own kind start size (Some form) = own_at start size kind form.number
@@ -210,7 +170,7 @@ structure_own s cells marks total at from to =
     let form = structure_form s.kind (all_forms s.form) (part_at from to s.text) (drop at cells) in
     let size = next_start marks total - at in
     kind_own s.kind at size form
-    ++ (parts_own s.text marks total at size (form_parts form) ++ inner_own s.text marks total (form_inner form))
+    ++ (parts_own s.text marks total at size (form_parts form) ++ inner_own s.text marks total at size (form_inner form))
 
 -- the types of structures, and the numbers of what they contain
 abbrev pub contents_own : Source → List Cell → List Mark → ℕ → List Own
@@ -223,8 +183,10 @@ contents_own s cells (Reference at w from to ∷ marks) total = contents_own s c
 -- the numbers of what a table contains
 abbrev pub table_own : Source → List Cell → List Mark → List Own
 table_own s cells marks =
-    parts_own s.text marks (length cells) 0 (next_start marks (length cells)) s.form.parts.now
-    ++ contents_own s cells marks (length cells)
+    let total = length cells in
+    let size = next_start marks total in
+    parts_own s.text marks total 0 size s.form.parts.now
+    ++ (inner_own s.text marks total 0 size s.form.inner.now ++ contents_own s cells marks total)
 
 -- ---- references
 

@@ -16,9 +16,13 @@ use Rattle.acpi_base.specs.declared.walk.Sizes.TheVariants.{EachOf, ToldAt, ByTy
 use Rattle.acpi_base.specs.declared.walk.Walk.{Walk}
 use Rattle.acpi_text.specs.declared.form.Choice.{Choice}
 use Rattle.acpi_text.specs.declared.form.Count.{Count}
-use Rattle.acpi_text.specs.declared.form.Count.TheVariants.{Field, Rest}
+use Rattle.acpi_text.specs.declared.form.Count.TheVariants.{Field, Rest, Once}
 use Rattle.acpi_text.specs.declared.form.Inner.{Inner}
-use Rattle.acpi_text.specs.declared.form.Inner.TheVariants.{Nothing, Structures}
+use Rattle.acpi_text.specs.declared.form.Inner.TheVariants.{Nothing, Lists}
+use Rattle.acpi_text.specs.declared.form.InnerForm.{InnerForm}
+use Rattle.acpi_text.specs.declared.form.InnerList.{InnerList}
+use Rattle.acpi_text.specs.declared.form.InnerSize.{InnerSize}
+use Rattle.acpi_text.specs.declared.form.InnerSize.TheVariants as sizes
 use Rattle.acpi_text.specs.declared.form.Part.{Part}
 use Rattle.acpi_text.specs.declared.form.Part.TheVariants as parts
 use Rattle.acpi_text.specs.declared.form.StructureForm.{StructureForm}
@@ -213,6 +217,7 @@ size_at (ByType kind types) = []
 abbrev pub counted_at : Count → List ℕ
 counted_at (Field place) = place_at place
 counted_at Rest = []
+counted_at Once = []
 
 abbrev pub count_at : Part → List ℕ
 count_at (parts.Fields rows) = []
@@ -238,15 +243,43 @@ all_sides list = flat_map sides_at list
 
 -- ---- structures and tables
 
+-- the offset of the number that a structure within another has of its size
+abbrev pub inner_size_at : InnerSize → List ℕ
+inner_size_at (sizes.Walked told) = size_at told
+inner_size_at (sizes.Counted n count each) = place_at count
+inner_size_at sizes.Rest = []
+
+-- a structure within another: its name and its parts
+abbrev pub inner_form_lines : InnerForm → List ℕ
+inner_form_lines form =
+    title_line 0 form.name.now
+    ++ parts_lines 1 (record { signature = []; own = inner_size_at form.size; ones = [] }) 0 form.parts.now
+
+abbrev pub inner_forms_lines : List InnerForm → List ℕ
+inner_forms_lines forms = flat_map inner_form_lines forms
+
+abbrev pub inner_list_lines : InnerList → List ℕ
+inner_list_lines list = inner_forms_lines list.forms.now
+
+abbrev pub inner_lists_lines : List InnerList → List ℕ
+inner_lists_lines lists = flat_map inner_list_lines lists
+
 abbrev pub inner_lines : Inner → List ℕ
 inner_lines Nothing = []
-inner_lines (Structures start name sizes list) =
-    title_line 0 name.now ++ parts_lines 1 (record { signature = []; own = size_at sizes; ones = [] }) 0 list.now
+inner_lines (Lists start lists) = inner_lists_lines lists.now
 
-abbrev pub structure_known : Walk → List Part → Known
-structure_known walk list = record {
+-- the offsets of the numbers that the outer structure has of those within it
+abbrev pub lists_counts_at : List InnerList → List ℕ
+lists_counts_at lists = flat_map (λ list. counted_at list.count) lists
+
+abbrev pub inner_counts_at : Inner → List ℕ
+inner_counts_at Nothing = []
+inner_counts_at (Lists start lists) = lists_counts_at lists.now
+
+abbrev pub structure_known : Walk → List Part → Inner → Known
+structure_known walk list inner = record {
   signature = [];
-  own = place_at walk.kind ++ (size_at walk.sizes ++ counts_at list);
+  own = place_at walk.kind ++ (size_at walk.sizes ++ (counts_at list ++ inner_counts_at inner));
   ones = all_sides list;
 }
 
@@ -254,7 +287,7 @@ structure_known walk list = record {
 abbrev pub structure_lines : Walk → StructureForm → List ℕ
 structure_lines walk form =
     label form.name.now
-    ++ (10 ∷ (parts_lines 0 (structure_known walk form.parts.now) 0 form.parts.now ++ inner_lines form.inner.now))
+    ++ (10 ∷ (parts_lines 0 (structure_known walk form.parts.now form.inner.now) 0 form.parts.now ++ inner_lines form.inner.now))
 
 abbrev pub structures_lines : Walk → List StructureForm → List ℕ
 structures_lines walk forms = flat_map (structure_lines walk) forms
@@ -269,23 +302,26 @@ abbrev pub walk_at : Option Walk → List ℕ
 walk_at (Some walk) = place_at walk.count ++ place_at walk.first
 walk_at None = []
 
-abbrev pub table_own : FileKind → Option Walk → List Part → List ℕ
-table_own file_kind walk list = (length_own file_kind 0).offset ∷ (sums_at file_kind ++ (walk_at walk ++ counts_at list))
+abbrev pub table_own : FileKind → Option Walk → TableForm → List ℕ
+table_own file_kind walk form =
+    (length_own file_kind 0).offset
+    ∷ (sums_at file_kind ++ (walk_at walk ++ (counts_at form.parts.now ++ inner_counts_at form.inner.now)))
 
-abbrev pub table_known : List ℕ → FileKind → Option Walk → List Part → Known
-table_known signature file_kind walk list = record {
+abbrev pub table_known : List ℕ → FileKind → Option Walk → TableForm → Known
+table_known signature file_kind walk form = record {
   signature = signature;
-  own = table_own file_kind walk list;
-  ones = all_sides list;
+  own = table_own file_kind walk form;
+  ones = all_sides form.parts.now;
 }
 
-abbrev pub structures_text : Option Walk → List StructureForm → List ℕ
-structures_text (Some walk) forms = structures_lines walk forms
-structures_text None forms = []
+-- one structure of each kind; without a walk, the structures that the form has
+abbrev pub structures_text : Option Walk → TableForm → List ℕ
+structures_text (Some walk) form = structures_lines walk (all_forms form)
+structures_text None form = inner_lines form.inner.now
 
 -- a table's name, its parts, and one structure of each kind
 abbrev pub template_text : List ℕ → FileKind → TableForm → Option Walk → List ℕ
 template_text signature file_kind form walk =
     label form.name.now
-    ++ (10 ∷ (parts_lines 0 (table_known signature file_kind walk form.parts.now) 0 form.parts.now
-    ++ structures_text walk (all_forms form)))
+    ++ (10 ∷ (parts_lines 0 (table_known signature file_kind walk form) 0 form.parts.now
+    ++ structures_text walk form))

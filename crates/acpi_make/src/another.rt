@@ -10,11 +10,11 @@ ghost use Rattle.acpi_make.specs.Source.{source_of};
 
 use crate::draft::{Mark, Source};
 use crate::entry::{Field, find_anywhere};
+use crate::extent::Own;
 use crate::fault::Fault;
 use crate::heading::{are_known, by_heading, has_number};
 use crate::item::Cell;
 use crate::notes::is_untrue;
-use crate::own::Own;
 use crate::text::{after_offset, are_white, part_at};
 use acpi_base::walk::Place;
 use acpi_text::form::StructureForm;

@@ -7,10 +7,10 @@ ghost use Rattle.acpi_make.specs.Complete.{known, completed};
 ghost use Rattle.acpi_make.specs.Gives.{Gives};
 
 use crate::draft::fits;
+use crate::extent::Own;
 use crate::fault::{Fault, MakeError, Wanted};
 use crate::file_kind::FileKind;
 use crate::item::Cell;
-use crate::own::Own;
 use std::alloc::Global;
 
 // Returns whether there are `width` bytes and none of them is known. It looks at no byte after them.

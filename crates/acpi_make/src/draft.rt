@@ -251,7 +251,7 @@ impl Draft {
             let form = self.here(source);
             (parts_of(form), inner_of(form))
         } else {
-            (source.form.parts, &Inner::Nothing)
+            (source.form.parts, source.form.inner)
         }
     }
 

@@ -5,7 +5,8 @@ ghost use Rattle.std.specs.List.{flat_map};
 ghost use Rattle.acpi_base.specs.Look as looks;
 ghost use Rattle.acpi_base.specs.Look.{look_of};
 ghost use Rattle.acpi_make.specs.Entry.{row_entry, register_entries, title_entry, row_entries, rows_entries, titled_entries};
-ghost use Rattle.acpi_make.specs.Entry.{choice_entries, part_entries, parts_entries, inner_entries};
+ghost use Rattle.acpi_make.specs.Entry.{choice_entries, part_entries, parts_entries};
+ghost use Rattle.acpi_make.specs.Entry.{inner_form_entries, inner_list_entries, inner_entries};
 ghost use Rattle.acpi_make.specs.Entry.{entry, open_entry, entry_of, is_line_of, is_of, next_number, find_entry};
 ghost use Rattle.acpi_make.specs.Entry.{next_entry, IsSearch, found_of};
 ghost use Rattle.acpi_make.specs.Entry.{find_inside, find_anywhere};
@@ -14,7 +15,7 @@ ghost use Rattle.acpi_text.specs.Structure.{all_forms};
 use crate::text::{after, are_white};
 use acpi_base::gas::GENERIC_ADDRESS;
 use acpi_base::row::{Look, Row};
-use acpi_text::form::{Choice, Inner, Part, StructureForm, TableForm};
+use acpi_text::form::{Choice, Inner, InnerForm, InnerList, Part, TableForm};
 use acpi_text::part::between;
 
 /// A field that a form names.
@@ -261,16 +262,51 @@ fn search_parts(number: usize, least: usize, line: &[u8], parts: &[Part]) -> Sea
     Search::Missing(next)
 }
 
-// Searches the fields of structures within, under their name.
+// Searches the fields of a structure within another, under its name.
+fn search_inner_form(number: usize, least: usize, line: &[u8], form: &InnerForm) -> Search
+    ensures { IsSearch result number least line.now (inner_form_entries form.now) }
+{
+    match search_title(number, least, line, form.name) {
+        Search::Found(at, field) => Search::Found(at, field),
+        Search::Missing(next) => search_parts(next, least, line, form.parts),
+    }
+}
+
+// Searches the fields of the structures of a list.
+fn search_inner_list(number: usize, least: usize, line: &[u8], list: &InnerList) -> Search
+    ensures { IsSearch result number least line.now (inner_list_entries list.now) }
+{
+    let mut next = number;
+    'forms: for form in list.forms {
+        match search_inner_form(next, least, line, form) {
+            Search::Found(at, field) => return Search::Found(at, field),
+            Search::Missing(after) => next = after,
+        }
+    }
+    Search::Missing(next)
+}
+
+// Searches the fields of the structures of lists.
+fn search_inner_lists(number: usize, least: usize, line: &[u8], lists: &[InnerList]) -> Search
+    ensures { IsSearch result number least line.now (flat_map inner_list_entries lists.now) }
+{
+    let mut next = number;
+    'lists: for list in lists {
+        match search_inner_list(next, least, line, list) {
+            Search::Found(at, field) => return Search::Found(at, field),
+            Search::Missing(after) => next = after,
+        }
+    }
+    Search::Missing(next)
+}
+
+// Searches the fields of structures within, under the name of each.
 fn search_inner(number: usize, least: usize, line: &[u8], inner: &Inner) -> Search
     ensures { IsSearch result number least line.now (inner_entries inner.now) }
 {
     match *inner {
         Inner::Nothing => Search::Missing(number),
-        Inner::Structures(_, name, _, parts) => match search_title(number, least, line, name) {
-            Search::Found(at, field) => Search::Found(at, field),
-            Search::Missing(next) => search_parts(next, least, line, parts),
-        },
+        Inner::Lists(_, lists) => search_inner_lists(number, least, line, lists),
     }
 }
 
@@ -331,7 +367,7 @@ fn find_inside(line: &[u8], table: &TableForm) -> Option<(usize, Field)>
 pub fn find_anywhere(line: &[u8], form: &TableForm) -> Option<(usize, Field)>
     ensures { found_of result ≡ find_anywhere line.now form.now }
 {
-    match next_entry(0, line, form.parts, &Inner::Nothing) {
+    match next_entry(0, line, form.parts, form.inner) {
         Some(found) => Some(found),
         None => find_inside(line, form),
     }

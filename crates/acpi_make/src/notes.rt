@@ -3,8 +3,8 @@
 ghost use Rattle.std.specs.Prelude.{◌≡◌, ◌%◌, ◌++◌, sum, OnOk, IfOk};
 ghost use Rattle.acpi_make.specs.Notes.{begins_with, is_untrue, untrue, untrue_sum, untrue_sums, notes};
 
+use crate::extent::Own;
 use crate::file_kind::FileKind;
-use crate::own::Own;
 use std::alloc::{AllocError, Global};
 
 // Returns whether bytes begin with `width` bytes of this number, lowest first.

@@ -1,13 +1,14 @@
 //! The numbers that a table has of itself.
 
 ghost use Rattle.std.specs.Prelude.{◌≡◌, ◌≤◌, ◌++◌, OnOk, IfOk, length, drop, if◌then◌else◌};
+ghost use Rattle.acpi_make.specs.Extent.{own_at};
 ghost use Rattle.acpi_make.specs.Gives.{Changes, with_front};
 ghost use Rattle.acpi_make.specs.Heading.{label_of};
 ghost use Rattle.acpi_make.specs.Source.{source_of};
-ghost use Rattle.acpi_make.specs.Own.{own_at, next_start, count_structures, size_own, sizes_own, all_own, walk_own, none_own};
+ghost use Rattle.acpi_make.specs.Own.{next_start, count_structures, sizes_own, all_own, walk_own, none_own};
 ghost use Rattle.acpi_make.specs.Own.{count_lines, next_line, find_line, count_own, part_name, line_of, line_of_parts};
 ghost use Rattle.acpi_make.specs.Own.{gap_own, end_own};
-ghost use Rattle.acpi_make.specs.Own.{part_own, parts_own, next_named, named_sizes, inner_own};
+ghost use Rattle.acpi_make.specs.Own.{part_own, parts_own};
 ghost use Rattle.acpi_make.specs.Draft.{is_nameless};
 ghost use Rattle.std.specs.Option.{option_map};
 ghost use Rattle.acpi_make.specs.Own.{kind_own, structure_own, contents_own, table_own, reference_own, references_own};
@@ -16,44 +17,17 @@ ghost use Rattle.acpi_make.specs.Text.{part_at};
 
 use crate::draft::{Mark, Source, fits, is_nameless};
 use crate::entry::is_line_of;
+use crate::extent::{Extent, Own, push_at, push_size, push_within};
 use crate::fault::{Fault, MakeError, Wanted};
 use crate::heading::{label_of, structure_form};
+use crate::inner::push_inner;
 use crate::item::Cell;
 use crate::text::{after_offset, part_at};
 use acpi_base::walk::{Place, Sizes, Walk};
-use acpi_text::form::{Count, Inner, Part, StructureForm};
+use acpi_text::form::{Count, Part, StructureForm};
 use acpi_text::piece::{inner_of, parts_of};
 use std::alloc::{AllocError, Global};
 use std::collections::BTreeMap;
-
-/// A number that a table has of itself, as its length: the offset of its field, the field's width in bytes, and the number.
-#[derive(Clone, Copy, Debug, PartialEq, Eq)]
-pub struct Own {
-    pub offset: usize,
-    pub width: usize,
-    pub number: usize,
-}
-
-// Adds a number at a place of a structure of this size, if the structure has the place.
-fn push_at(
-    start: usize,
-    size: usize,
-    place: Place,
-    number: usize,
-    owns: &mut Vec<Own>,
-) -> Result<(), AllocError>
-    ensures { OnOk result (owns.new.items ≡ owns.old.items ++ own_at start size place number) }
-{
-    let (offset, end) = (place.offset(), place.end());
-    if start < 1 << 62 && offset < end && end <= size {
-        owns.push(Own {
-            offset: start + offset,
-            width: end - offset,
-            number,
-        })?;
-    }
-    Ok(())
-}
 
 /// Returns the offset of the next structure, or that of the table's end.
 pub fn next_start(marks: &[Mark], total: usize) -> usize
@@ -80,17 +54,6 @@ fn count_structures(marks: &[Mark]) -> usize
         }
     }
     count
-}
-
-// Adds the length of a structure, if it has a field for it.
-fn push_size(sizes: Sizes, start: usize, size: usize, owns: &mut Vec<Own>) -> Result<(), AllocError>
-    ensures { OnOk result (owns.new.items ≡ owns.old.items ++ size_own sizes start size) }
-{
-    match sizes {
-        Sizes::ToldAt(place) => push_at(start, size, place, size, owns),
-        Sizes::EachOf(_) => Ok(()),
-        Sizes::ByType(_, _) => Ok(()),
-    }
 }
 
 // Adds the lengths of all structures.
@@ -214,29 +177,6 @@ fn find_line(text: &[u8], name: &str, marks: &[Mark], total: usize) -> Option<(u
     None
 }
 
-/// Where a structure stands, or the table's own fields: the text, the marks after its heading, the size of the table, the offset
-/// of its first byte, and the number of its bytes.
-#[derive(Clone, Copy)]
-struct Extent<'a> {
-    text: &'a [u8],
-    marks: &'a [Mark],
-    total: usize,
-    start: usize,
-    size: usize,
-}
-
-// Adds a number at a place of a structure.
-fn push_within(
-    extent: &Extent<'_>,
-    place: Place,
-    number: usize,
-    owns: &mut Vec<Own>,
-) -> Result<(), AllocError>
-    ensures { OnOk result (owns.new.items ≡ owns.old.items ++ own_at extent.now.start extent.now.size place number) }
-{
-    push_at(extent.start, extent.size, place, number, owns)
-}
-
 // Adds the number of a structure's entries.
 fn push_count(
     extent: &Extent<'_>,
@@ -252,7 +192,7 @@ fn push_count(
             let number = count_lines(extent.text, name, extent.marks);
             push_within(extent, place, number, owns)
         }
-        Count::Rest => Ok(()),
+        Count::Rest | Count::Once => Ok(()),
     }
 }
 
@@ -368,68 +308,6 @@ fn push_parts(extent: &Extent<'_>, parts: &[Part], owns: &mut Vec<Own>) -> Resul
     Ok(())
 }
 
-// Returns the offset of the next line with a name, or of the next structure, or that of the table's end.
-fn next_named(text: &[u8], name: &str, marks: &[Mark], total: usize) -> usize
-    ensures { result ≡ next_named text.now name.now marks.now total }
-{
-    'marks: for mark in marks {
-        match *mark {
-            Mark::Structure { at, .. } => return at,
-            Mark::Line { at, from, to } => {
-                if is_line_of(name.as_bytes(), after_offset(part_at(from, to, text))) {
-                    return at;
-                }
-            }
-            Mark::Reference { .. } => {}
-        }
-    }
-    total
-}
-
-// Adds the lengths of structures within a structure, each of which begins with a line of this name.
-fn push_named_sizes(
-    text: &[u8],
-    name: &str,
-    sizes: Sizes,
-    marks: &[Mark],
-    total: usize,
-    owns: &mut Vec<Own>,
-) -> Result<(), AllocError>
-    ensures { OnOk result (owns.new.items ≡ owns.old.items ++ named_sizes text.now name.now sizes marks.now total) }
-{
-    'marks: for i in 0..marks.len() {
-        match marks[i] {
-            Mark::Structure { .. } => return Ok(()),
-            Mark::Line { at, from, to } => {
-                if is_line_of(name.as_bytes(), after_offset(part_at(from, to, text))) {
-                    let next = next_named(text, name, &marks[i + 1..], total);
-                    push_size(sizes, at, next.saturating_sub(at), owns)?;
-                }
-            }
-            Mark::Reference { .. } => {}
-        }
-    }
-    Ok(())
-}
-
-// Adds the lengths of structures within a structure.
-fn push_inner(
-    text: &[u8],
-    marks: &[Mark],
-    total: usize,
-    inner: &Inner,
-    owns: &mut Vec<Own>,
-) -> Result<(), AllocError>
-    ensures { OnOk result (owns.new.items ≡ owns.old.items ++ inner_own text.now marks.now total inner.now) }
-{
-    match *inner {
-        Inner::Nothing => Ok(()),
-        Inner::Structures(_, name, sizes, _) => {
-            push_named_sizes(text, name, sizes, marks, total, owns)
-        }
-    }
-}
-
 // Adds the type of a structure, by its form.
 fn push_kind(
     kind: Place,
@@ -474,7 +352,7 @@ fn push_structure(
         size,
     };
     push_parts(&extent, parts_of(form), owns)?;
-    push_inner(source.text, marks, total, inner_of(form), owns)
+    push_inner(&extent, inner_of(form), owns)
 }
 
 // Adds the types of structures, and the numbers of what they contain.
@@ -518,6 +396,7 @@ pub fn push_table(
         size: first,
     };
     push_parts(&fields, source.form.parts, owns)?;
+    push_inner(&fields, source.form.inner, owns)?;
     push_contents(source, cells, marks, owns)
 }
 

@@ -8,7 +8,9 @@ ghost use Rattle.acpi_make.specs.Template.{is_among, times, more_names, names, p
 ghost use Rattle.acpi_make.specs.Template.{preset_text, zeros, value_text};
 ghost use Rattle.acpi_make.specs.Template.{field_line, title_line, row_line, offset_after, plain_lines, address_lines};
 ghost use Rattle.acpi_make.specs.Template.{row_lines, rows_lines, rows_end, choice_lines, choice_end, part_lines, part_end};
-ghost use Rattle.acpi_make.specs.Template.{parts_lines, place_at, size_at, count_at, counts_at, inner_lines, structure_known};
+ghost use Rattle.acpi_make.specs.Template.{parts_lines, place_at, size_at, counted_at, count_at, counts_at};
+ghost use Rattle.acpi_make.specs.Template.{inner_size_at, inner_form_lines, inner_forms_lines, inner_lists_lines, inner_lines};
+ghost use Rattle.acpi_make.specs.Template.{lists_counts_at, inner_counts_at, structure_known};
 ghost use Rattle.acpi_make.specs.Template.{structure_lines, structures_lines, structures_text, sums_at, walk_at, table_own};
 ghost use Rattle.acpi_make.specs.Template.{template_text};
 ghost use Rattle.acpi_make.specs.Template.{stated_text, sides_at, all_sides};
@@ -23,7 +25,9 @@ use crate::file_kind::FileKind;
 use acpi_base::gas::GENERIC_ADDRESS;
 use acpi_base::row::{Bits, Look, Row, Word};
 use acpi_base::walk::{Place, Sizes, Walk};
-use acpi_text::form::{Choice, Count, Inner, Part, StructureForm, TableForm};
+use acpi_text::form::{
+    Choice, Count, Inner, InnerForm, InnerList, InnerSize, Part, StructureForm, TableForm,
+};
 use acpi_text::hex::push_bytes;
 use acpi_text::part::between;
 use acpi_text::space::{push_label, push_level};
@@ -488,15 +492,22 @@ fn push_size(sizes: Sizes, own: &mut Vec<usize>) -> Result<(), AllocError>
     }
 }
 
+fn push_counted(count: Count, own: &mut Vec<usize>) -> Result<(), AllocError>
+    ensures { OnOk result (own.new.items ≡ own.old.items ++ counted_at count) }
+{
+    match count {
+        Count::Field(place) => push_place(place, own),
+        Count::Rest | Count::Once => Ok(()),
+    }
+}
+
 // Adds the offset of the number of a part.
 fn push_count(part: &Part, own: &mut Vec<usize>) -> Result<(), AllocError>
     ensures { OnOk result (own.new.items ≡ own.old.items ++ count_at part.now) }
 {
     match *part {
-        Part::Entries(_, Count::Field(place), _) => push_place(place, own),
-        Part::Numbers(_, _, Count::Field(place)) => push_place(place, own),
-        Part::Entries(_, Count::Rest, _) => Ok(()),
-        Part::Numbers(_, _, Count::Rest) => Ok(()),
+        Part::Entries(_, count, _) => push_counted(count, own),
+        Part::Numbers(_, _, count) => push_counted(count, own),
         Part::Bytes(_, place) => push_place(place, own),
         Part::Until(_, place) => push_place(place, own),
         Part::Fields(_) | Part::Between(_, _, _) | Part::Group(_, _) => Ok(()),
@@ -539,34 +550,93 @@ fn all_sides(alloc: Global, parts: &[Part]) -> Result<Vec<usize>, AllocError>
     Ok(ones)
 }
 
+// Adds the offset of the number that a structure within another has of its size.
+fn push_inner_size(size: InnerSize, own: &mut Vec<usize>) -> Result<(), AllocError>
+    ensures { OnOk result (own.new.items ≡ own.old.items ++ inner_size_at size) }
+{
+    match size {
+        InnerSize::Walked(sizes) => push_size(sizes, own),
+        InnerSize::Counted(_, count, _) => push_place(count, own),
+        InnerSize::Rest => Ok(()),
+    }
+}
+
+// Adds the lines of a structure within another.
+fn push_inner_form(alloc: Global, form: &InnerForm, text: &mut String) -> Result<(), AllocError>
+    ensures { OnOk result (string_bytes text.new ≡ string_bytes text.old ++ inner_form_lines form.now) }
+{
+    let mut own = Vec::new(alloc);
+    push_inner_size(form.size, &mut own)?;
+    let known = Known {
+        signature: "",
+        own: &own,
+        ones: &[],
+    };
+    push_title(0, form.name, text)?;
+    push_parts(1, &known, 0, form.parts, text)
+}
+
+fn push_inner_forms(alloc: Global, forms: &[InnerForm], text: &mut String) -> Result<(), AllocError>
+    ensures { OnOk result (string_bytes text.new ≡ string_bytes text.old ++ inner_forms_lines forms.now) }
+{
+    'forms: for form in forms {
+        push_inner_form(alloc, form, text)?;
+    }
+    Ok(())
+}
+
+fn push_inner_lists(alloc: Global, lists: &[InnerList], text: &mut String) -> Result<(), AllocError>
+    ensures { OnOk result (string_bytes text.new ≡ string_bytes text.old ++ inner_lists_lines lists.now) }
+{
+    'lists: for list in lists {
+        push_inner_forms(alloc, list.forms, text)?;
+    }
+    Ok(())
+}
+
 // Adds the lines of structures within.
 fn push_inner(alloc: Global, inner: &Inner, text: &mut String) -> Result<(), AllocError>
     ensures { OnOk result (string_bytes text.new ≡ string_bytes text.old ++ inner_lines inner.now) }
 {
     match *inner {
         Inner::Nothing => Ok(()),
-        Inner::Structures(_, name, sizes, parts) => {
-            let mut own = Vec::new(alloc);
-            push_size(sizes, &mut own)?;
-            let known = Known {
-                signature: "",
-                own: &own,
-                ones: &[],
-            };
-            push_title(0, name, text)?;
-            push_parts(1, &known, 0, parts, text)
-        }
+        Inner::Lists(_, lists) => push_inner_lists(alloc, lists, text),
+    }
+}
+
+fn push_lists_counts(lists: &[InnerList], own: &mut Vec<usize>) -> Result<(), AllocError>
+    ensures { OnOk result (own.new.items ≡ own.old.items ++ lists_counts_at lists.now) }
+{
+    'lists: for list in lists {
+        push_counted(list.count, own)?;
+    }
+    Ok(())
+}
+
+// Adds the offsets of the numbers that the outer structure has of those within it.
+fn push_inner_counts(inner: &Inner, own: &mut Vec<usize>) -> Result<(), AllocError>
+    ensures { OnOk result (own.new.items ≡ own.old.items ++ inner_counts_at inner.now) }
+{
+    match *inner {
+        Inner::Nothing => Ok(()),
+        Inner::Lists(_, lists) => push_lists_counts(lists, own),
     }
 }
 
 // Returns the offsets of a structure's own numbers.
-fn structure_own(alloc: Global, walk: &Walk, parts: &[Part]) -> Result<Vec<usize>, AllocError>
-    ensures { IfOk result (λ own. own.items ≡ (structure_known walk.now parts.now).own) }
+fn structure_own(
+    alloc: Global,
+    walk: &Walk,
+    parts: &[Part],
+    inner: &Inner,
+) -> Result<Vec<usize>, AllocError>
+    ensures { IfOk result (λ own. own.items ≡ (structure_known walk.now parts.now inner.now).own) }
 {
     let mut own = Vec::new(alloc);
     push_place(walk.kind, &mut own)?;
     push_size(walk.sizes, &mut own)?;
     push_counts(parts, &mut own)?;
+    push_inner_counts(inner, &mut own)?;
     Ok(own)
 }
 
@@ -579,7 +649,7 @@ fn push_structure(
 ) -> Result<(), AllocError>
     ensures { OnOk result (string_bytes text.new ≡ string_bytes text.old ++ structure_lines walk.now form.now) }
 {
-    let own = structure_own(alloc, walk, form.parts)?;
+    let own = structure_own(alloc, walk, form.parts, form.inner)?;
     let ones = all_sides(alloc, form.parts)?;
     let known = Known {
         signature: "",
@@ -614,10 +684,10 @@ fn push_structures(
     table: &TableForm,
     text: &mut String,
 ) -> Result<(), AllocError>
-    ensures { OnOk result (string_bytes text.new ≡ string_bytes text.old ++ structures_text walk (all_forms table.now)) }
+    ensures { OnOk result (string_bytes text.new ≡ string_bytes text.old ++ structures_text walk table.now) }
 {
     let Some(walk) = walk else {
-        return Ok(());
+        return push_inner(alloc, table.inner, text);
     };
     push_list(alloc, &walk, table.structures, text)?;
     push_list(alloc, &walk, table.further, text)
@@ -658,15 +728,16 @@ fn table_own(
     alloc: Global,
     file_kind: FileKind,
     walk: Option<Walk>,
-    parts: &[Part],
+    form: &TableForm,
 ) -> Result<Vec<usize>, AllocError>
-    ensures { IfOk result (λ own. own.items ≡ table_own file_kind walk parts.now) }
+    ensures { IfOk result (λ own. own.items ≡ table_own file_kind walk form.now) }
 {
     let mut own = Vec::new(alloc);
     own.push(length_own(file_kind, 0).offset)?;
     push_sums(file_kind, &mut own)?;
     push_walk(walk, &mut own)?;
-    push_counts(parts, &mut own)?;
+    push_counts(form.parts, &mut own)?;
+    push_inner_counts(form.inner, &mut own)?;
     Ok(own)
 }
 
@@ -682,7 +753,7 @@ pub fn template_of(
 ) -> Result<String, AllocError>
     ensures { IfOk result (λ text. string_bytes text ≡ template_text signature.now file_kind form.now walk) }
 {
-    let own = table_own(alloc, file_kind, walk, form.parts)?;
+    let own = table_own(alloc, file_kind, walk, form)?;
     let ones = all_sides(alloc, form.parts)?;
     let known = Known {
         signature,

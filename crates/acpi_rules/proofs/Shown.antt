@@ -12,19 +12,22 @@ use Rattle.acpi_base.specs.declared.row.Row.TheVariants as rows
 use Rattle.acpi_base.specs.declared.walk.Sizes.{Sizes}
 use Rattle.acpi_text.specs.Form.{number_at, count_of, find_choice}
 use Rattle.acpi_text.specs.Names as names
-use Rattle.acpi_text.specs.Size.{front_size}
+use Rattle.acpi_text.specs.Piece.{SizeOf, OfBytes, piece_and, pieces_then, front_then}
+use Rattle.acpi_text.specs.Size.{front_size, start_in, inner_form, inner_size}
 use Rattle.acpi_text.specs.Structure.{all_forms, find_form, form_parts, form_inner}
 use Rattle.acpi_text.specs.Table.{start_of}
 use Rattle.acpi_text.specs.declared.form.Choice.{Choice}
 use Rattle.acpi_text.specs.declared.form.Inner.{Inner}
-use Rattle.acpi_text.specs.declared.form.Inner.TheVariants.{Nothing, Structures}
+use Rattle.acpi_text.specs.declared.form.Inner.TheVariants.{Nothing, Lists}
+use Rattle.acpi_text.specs.declared.form.InnerForm.{InnerForm}
+use Rattle.acpi_text.specs.declared.form.InnerList.{InnerList}
 use Rattle.acpi_text.specs.declared.form.Part.{Part}
 use Rattle.acpi_text.specs.declared.form.Part.TheVariants as parts
 use Rattle.acpi_rules.proofs.Found.{all_none}
 use Rattle.acpi_rules.specs.Field.{Field, Wanted, sized, until, unnamed, row_wanted, rows_wanted, times, choice_wanted}
 use Rattle.acpi_rules.specs.Field.{part_wanted}
 use Rattle.acpi_rules.specs.Field.{Found, ended, after_field, after_all, from, parts_fields, Structure, structure_and}
-use Rattle.acpi_rules.specs.Field.{structures_up_to, structures_of, fields_and_structures, content_fields, structure_fields}
+use Rattle.acpi_rules.specs.Field.{structures_up_to, structures_of, no_fields, fields_by_form, inner_fields, lists_fields, content_fields, structure_fields}
 use Rattle.acpi_rules.specs.Laws.{plain, FieldsAreShown}
 
 -- ---- what forms say
@@ -151,57 +154,87 @@ all_same (until name end ∷ wanted) at bytes old =
 all_same (unnamed ∷ wanted) at bytes old = none_found wanted (at + length bytes) [] old refl
 
 parts_alike : (parts : List Part) (at : ℕ) (piece : List ℕ)
-    → map plain (parts_fields parts at piece) ≡ names.parts_fields at piece parts
+    → map plain (parts_fields parts at piece) ≡ names.parts_fields parts at piece
 parts_alike parts at piece =
     all_same (flat_map (part_wanted at piece) parts) at piece []
     ∙ ap (λ l. names.fields_of at l piece) (parts_same at piece parts)
 
 -- ---- structures
 
-module _ (sizes : Sizes) (one : Structure → List Field) (other : ℕ → List ℕ → List names.Named)
-    (alike : (k : ℕ) (l : List ℕ) → map plain (one (record { offset = k; bytes = l })) ≡ other k l) where
-  front_alike : (front : Option ℕ) (others : ℕ → List ℕ → List Structure) (more : ℕ → List ℕ
-      → List names.Named) (at : ℕ) (bytes : List ℕ)
-      → ((k : ℕ) (l : List ℕ) → map plain (flat_map one (others k l)) ≡ more k l)
-      → map plain (flat_map one (structure_and front others at bytes)) ≡ names.structure_and front other more at bytes
-  front_alike (Some size) others more at bytes same =
-      map-append plain (one (record { offset = at; bytes = take size bytes }))
-      (flat_map one (others (at + size) (drop size bytes)))
-      ∙ ap (λ l. l ++ map plain (flat_map one (others (at + size) (drop size bytes)))) (alike at (take size bytes))
-      ∙ ap (λ l. other at (take size bytes) ++ l) (same (at + size) (drop size bytes))
-  front_alike None others more at bytes same = refl
+-- two functions find the same fields of any bytes
+abbrev Alike : OfBytes Field → OfBytes names.Named → Type 0
+Alike one other = (at : ℕ) (bytes : List ℕ) → map plain (one at bytes) ≡ other at bytes
 
-  structures_alike : (n at : ℕ) (bytes : List ℕ)
-      → map plain (flat_map one (structures_up_to n sizes at bytes)) ≡ names.structures_up_to n sizes other at bytes
-  structures_alike zero at bytes = refl
-  structures_alike (suc n) at bytes =
-      front_alike (front_size sizes bytes) (λ k rest. structures_up_to n sizes k rest)
-      (λ k rest. names.structures_up_to n sizes other k rest) at bytes
-      (λ k l. structures_alike n k l)
+joined_alike : (a b : List Field) (x y : List names.Named) → map plain a ≡ x → map plain b ≡ y → map plain (a ++ b) ≡ x ++ y
+joined_alike a b x y first second = map-append plain a b ∙ ap (λ l. l ++ map plain b) first ∙ ap (λ l. x ++ l) second
 
-  both_alike : (parts : List Part) (start at : ℕ) (bytes : List ℕ)
-      → map plain (fields_and_structures parts start sizes one at bytes)
-      ≡ names.fields_and_structures parts start sizes other at bytes
-  both_alike parts start at bytes =
-      let front = take start bytes in
-      let rest = drop start bytes in
-      map-append plain (parts_fields parts at front) (flat_map one (structures_of sizes (at + length front) rest))
-      ∙ ap (λ l. l ++ map plain (flat_map one (structures_of sizes (at + length front) rest))) (parts_alike parts at front)
-      ∙ ap (λ l. names.parts_fields at front parts ++ l) (structures_alike (length rest) (at + length front) rest)
+module _ (size : SizeOf) (one : OfBytes Field) (other : OfBytes names.Named) (alike : Alike one other) where
+  piece_alike : (front : Option ℕ) (others : OfBytes Field) (more : OfBytes names.Named) → Alike others more
+      → Alike (λ at bytes. piece_and front one others no_fields at bytes) (λ at bytes. piece_and front other more names.no_fields at bytes)
+  piece_alike (Some k) others more same at bytes =
+      joined_alike (one at (take k bytes)) (others (at + k) (drop k bytes)) _ _ (alike at (take k bytes)) (same (at + k) (drop k bytes))
+  piece_alike None others more same at bytes = refl
+
+  pieces_alike : (n : ℕ) (after : OfBytes Field) (left : OfBytes names.Named) → Alike after left
+      → Alike (λ at bytes. pieces_then n size one no_fields after at bytes) (λ at bytes. pieces_then n size other names.no_fields left at bytes)
+  pieces_alike zero after left end at bytes = end at bytes
+  pieces_alike (suc n) after left end at bytes =
+      piece_alike (size bytes) (λ k rest. pieces_then n size one no_fields after k rest) (λ k rest. pieces_then n size other names.no_fields left k rest)
+      (pieces_alike n after left end) at bytes
+
+front_alike : (parts : List Part) (start : ℕ) (others : OfBytes Field) (more : OfBytes names.Named) → Alike others more
+    → Alike (λ at bytes. front_then (parts_fields parts) start others at bytes)
+    (λ at bytes. front_then (names.parts_fields parts) start more at bytes)
+front_alike parts start others more same at bytes =
+    let front = take start bytes in
+    joined_alike (parts_fields parts at front) (others (at + length front) (drop start bytes)) _ _
+    (parts_alike parts at front) (same (at + length front) (drop start bytes))
+
+-- ---- structures within another
+
+inner_alike : (form : Option InnerForm) → Alike (fields_by_form form) (names.fields_by_form form)
+inner_alike (Some form) at piece = parts_alike form.parts.now at piece
+inner_alike None at piece = refl
+
+lists_alike : (whole : List ℕ) (lists : List InnerList)
+    → Alike (λ k rest. lists_fields whole lists k rest) (λ k rest. names.lists_fields whole lists k rest)
+lists_alike whole [] at bytes = refl
+lists_alike whole (list ∷ lists) at bytes =
+    pieces_alike (inner_size list) (inner_fields list) (names.inner_fields list) (λ k piece. inner_alike (inner_form list piece) k piece)
+    (count_of list.count whole) (λ k rest. lists_fields whole lists k rest) (λ k rest. names.lists_fields whole lists k rest)
+    (lists_alike whole lists) at bytes
+
+content_alike : (parts : List Part) (inner : Inner) → Alike (content_fields parts inner) (names.content_fields parts inner)
+content_alike parts Nothing at piece = parts_alike parts at piece
+content_alike parts (Lists start lists) at piece =
+    front_alike parts (start_in start piece) (λ k rest. lists_fields piece lists.now k rest) (λ k rest. names.lists_fields piece lists.now k rest)
+    (lists_alike piece lists.now) at piece
 
 -- ---- tables
 
-content_alike : (parts : List Part) (inner : Inner) (at : ℕ) (piece : List ℕ)
-    → map plain (content_fields parts inner at piece) ≡ names.content_fields parts inner at piece
-content_alike parts Nothing at piece = parts_alike parts at piece
-content_alike parts (Structures start name sizes inner) at piece =
-    both_alike sizes (λ s. parts_fields inner.now s.offset s.bytes) (λ k one. names.parts_fields k one inner.now)
-    (λ k l. parts_alike inner.now k l) parts start at piece
+module _ (sizes : Sizes) (one : Structure → List Field) (other : OfBytes names.Named)
+    (alike : (k : ℕ) (l : List ℕ) → map plain (one (record { offset = k; bytes = l })) ≡ other k l) where
+  walked_alike : (front : Option ℕ) (others : ℕ → List ℕ → List Structure) (more : OfBytes names.Named)
+      → ((k : ℕ) (l : List ℕ) → map plain (flat_map one (others k l)) ≡ more k l)
+      → (at : ℕ) (bytes : List ℕ) → map plain (flat_map one (structure_and front others at bytes)) ≡ piece_and front other more names.no_fields at bytes
+  walked_alike (Some k) others more same at bytes =
+      joined_alike (one (record { offset = at; bytes = take k bytes })) (flat_map one (others (at + k) (drop k bytes))) _ _
+      (alike at (take k bytes)) (same (at + k) (drop k bytes))
+  walked_alike None others more same at bytes = refl
+
+  structures_alike : (n at : ℕ) (bytes : List ℕ)
+      → map plain (flat_map one (structures_up_to n sizes at bytes)) ≡ pieces_then n (front_size sizes) other names.no_fields names.no_fields at bytes
+  structures_alike zero at bytes = refl
+  structures_alike (suc n) at bytes =
+      walked_alike (front_size sizes bytes) (λ k rest. structures_up_to n sizes k rest)
+      (λ k rest. pieces_then n (front_size sizes) other names.no_fields names.no_fields k rest) (λ k l. structures_alike n k l) at bytes
 
 pub fields_are_shown : FieldsAreShown
-fields_are_shown form None bytes = parts_alike form.parts.now 0 bytes
+fields_are_shown form None bytes = content_alike form.parts.now form.inner.now 0 bytes
 fields_are_shown form (Some walk) bytes =
-    both_alike walk.sizes (structure_fields walk.kind (all_forms form)) (names.structure_fields walk.kind (all_forms form))
-    (λ k l.
-    let form_of = find_form (number_at walk.kind l) (all_forms form) in content_alike (form_parts form_of)
-    (form_inner form_of) k l) form.parts.now (start_of walk bytes) 0 bytes
+    let forms = all_forms form in
+    front_alike form.parts.now (start_of walk bytes) (λ k rest. flat_map (structure_fields walk.kind forms) (structures_of walk.sizes k rest))
+    (λ k rest. pieces_then (length rest) (front_size walk.sizes) (names.structure_fields walk.kind forms) names.no_fields names.no_fields k rest)
+    (λ k rest. structures_alike walk.sizes (structure_fields walk.kind forms) (names.structure_fields walk.kind forms)
+    (λ at l. let form_of = find_form (number_at walk.kind l) forms in content_alike (form_parts form_of) (form_inner form_of) at l)
+    (length rest) k rest) 0 bytes

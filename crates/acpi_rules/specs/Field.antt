@@ -12,12 +12,15 @@ use Rattle.acpi_base.specs.declared.walk.Place.{Place}
 use Rattle.acpi_base.specs.declared.walk.Sizes.{Sizes}
 use Rattle.acpi_base.specs.declared.walk.Walk.{Walk}
 use Rattle.acpi_text.specs.Form.{number_at, count_of, find_choice}
-use Rattle.acpi_text.specs.Size.{front_size}
+use Rattle.acpi_text.specs.Piece.{OfBytes, pieces_then, front_then}
+use Rattle.acpi_text.specs.Size.{front_size, start_in, inner_form, inner_size}
 use Rattle.acpi_text.specs.Structure.{all_forms, find_form, form_parts, form_inner}
 use Rattle.acpi_text.specs.Table.{start_of}
 use Rattle.acpi_text.specs.declared.form.Choice.{Choice}
 use Rattle.acpi_text.specs.declared.form.Inner.{Inner}
-use Rattle.acpi_text.specs.declared.form.Inner.TheVariants.{Nothing, Structures}
+use Rattle.acpi_text.specs.declared.form.Inner.TheVariants.{Nothing, Lists}
+use Rattle.acpi_text.specs.declared.form.InnerForm.{InnerForm}
+use Rattle.acpi_text.specs.declared.form.InnerList.{InnerList}
 use Rattle.acpi_text.specs.declared.form.Part.{Part}
 use Rattle.acpi_text.specs.declared.form.Part.TheVariants as parts
 use Rattle.acpi_text.specs.declared.form.Part.TheVariants.{Fields, Between, Group, Entries, Numbers, Matrix, Until, Chosen}
@@ -156,19 +159,32 @@ structures_up_to (suc n) sizes at bytes =
 abbrev pub structures_of : Sizes → ℕ → List ℕ → List Structure
 structures_of sizes at bytes = structures_up_to (length bytes) sizes at bytes
 
--- the fields of the bytes before an index, and those of the structures from there on
-abbrev pub fields_and_structures : List Part → ℕ → Sizes → (Structure → List Field) → ℕ → List ℕ → List Field
-fields_and_structures parts start sizes fields at bytes =
-    let front = take start bytes in
-    parts_fields parts at front ++ flat_map fields (structures_of sizes (at + length front) (drop start bytes))
-
 -- ---- a table
 
+-- no fields
+abbrev pub no_fields : OfBytes Field
+no_fields at bytes = []
+
+-- the fields of a structure within another, by its form
+abbrev pub fields_by_form : Option InnerForm → OfBytes Field
+fields_by_form (Some form) at piece = parts_fields form.parts.now at piece
+fields_by_form None at piece = []
+
+abbrev pub inner_fields : InnerList → OfBytes Field
+inner_fields list at piece = fields_by_form (inner_form list piece) at piece
+
+-- those of lists of structures within a whole
+abbrev pub lists_fields : List ℕ → List InnerList → OfBytes Field
+lists_fields whole [] at bytes = []
+lists_fields whole (list ∷ lists) at bytes =
+    pieces_then (count_of list.count whole) (inner_size list) (inner_fields list) no_fields
+    (λ k rest. lists_fields whole lists k rest) at bytes
+
 -- the fields of a structure by its parts, and of the structures within it
-abbrev pub content_fields : List Part → Inner → ℕ → List ℕ → List Field
+abbrev pub content_fields : List Part → Inner → OfBytes Field
 content_fields parts Nothing at piece = parts_fields parts at piece
-content_fields parts (Structures start name sizes inner) at piece =
-    fields_and_structures parts start sizes (λ s. parts_fields inner.now s.offset s.bytes) at piece
+content_fields parts (Lists start lists) at piece =
+    front_then (parts_fields parts) (start_in start piece) (λ k rest. lists_fields piece lists.now k rest) at piece
 
 -- the fields of a structure by the form that has its type
 abbrev pub structure_fields : Place → List StructureForm → Structure → List Field
@@ -178,9 +194,10 @@ structure_fields kind forms s =
 
 -- the fields of a table
 abbrev pub table_fields : TableForm → Option Walk → List ℕ → List Field
-table_fields form None bytes = parts_fields form.parts.now 0 bytes
+table_fields form None bytes = content_fields form.parts.now form.inner.now 0 bytes
 table_fields form (Some walk) bytes =
-    fields_and_structures form.parts.now (start_of walk bytes) walk.sizes (structure_fields walk.kind (all_forms form)) 0 bytes
+    front_then (parts_fields form.parts.now) (start_of walk bytes)
+    (λ k rest. flat_map (structure_fields walk.kind (all_forms form)) (structures_of walk.sizes k rest)) 0 bytes
 
 -- ---- what calls find
 

@@ -11,5 +11,8 @@ pub mod Matrix
 pub mod Reference
 pub mod Relation
 pub mod Standard
+pub mod Link
+pub mod Across
+pub mod Machine
 pub mod Laws
 pub mod Difference

@@ -10,7 +10,7 @@ use Rattle.acpi_rules.specs.Finding.{Finding}
 use Rattle.acpi_rules.specs.declared.finding.Rule.{Rule}
 use Rattle.acpi_rules.specs.declared.finding.Rule.TheVariants.{ReservedBytes, ReservedBits, ReservedValue, StructureLength, Range}
 use Rattle.acpi_rules.specs.declared.finding.Rule.TheVariants.{Unique, Overlap, AtMost, NoOverflow, Count, Pair, Required}
-use Rattle.acpi_rules.specs.declared.finding.Rule.TheVariants.{Reference, Distance, Needs, Multiple}
+use Rattle.acpi_rules.specs.declared.finding.Rule.TheVariants.{Reference, Distance, Needs, Multiple, Defined, Below}
 
 -- the tables that ACPI 6.5 defines; another standard defines each other table
 abbrev pub standard_tables : List (List ℕ)
@@ -49,6 +49,8 @@ rule_name Needs = codes "needs"
 rule_name Multiple = codes "multiple"
 rule_name Reference = codes "reference"
 rule_name Distance = codes "distance"
+rule_name Defined = codes "defined"
+rule_name Below = codes "below"
 
 -- a number in hexadecimal: two digits for each byte, from the highest that isn't zero
 abbrev pub hex_text : ℕ → List ℕ
@@ -77,6 +79,18 @@ pair_text AtMost number most other = codes " is above " ++ label other ++ codes 
 pair_text NoOverflow number most other = codes " with " ++ label other ++ codes ", which is too long"
 pair_text rule number most other = range_text number most
 
+-- the number of a field
+abbrev pub own_text : ℕ → List ℕ
+own_text n = codes ": " ++ decimal n
+
+-- what stands before a number that isn't greater
+unfoldable pub below_text : List ℕ
+below_text = codes " isn't below the "
+
+-- that the number of a field isn't below that of another one
+abbrev pub limit_text : ℕ → List ℕ → List ℕ
+limit_text n other = below_text ++ label other ++ codes ", which is " ++ decimal n
+
 -- what a finding on several fields says of the bytes of its field
 abbrev pub relates_text : Rule → ℕ → ℕ → List ℕ → List ℕ
 relates_text Unique number most other = codes ": also at " ++ decimal number
@@ -85,6 +99,8 @@ relates_text Overlap number most other =
 relates_text Count number most other = codes " in " ++ decimal most ++ codes " bytes"
 relates_text Multiple number most other = codes " isn't n * " ++ decimal number
 relates_text Reference number most other = codes " isn't the " ++ label other ++ codes " of such a structure"
+relates_text Defined number most other = codes " isn't any " ++ label other
+relates_text Below number most other = own_text most ++ limit_text number other
 relates_text rule number most other = pair_text rule number most other
 
 -- what a finding says of the bytes of its field

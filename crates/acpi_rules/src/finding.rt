@@ -35,6 +35,10 @@ pub enum Rule {
     Reference,
     /// A distance is 10 from a locality to itself, and otherwise not below 10. The numbers are as those of a range.
     Distance,
+    /// A number is one of another table of the machine.
+    Defined,
+    /// A number is below one of another table of the machine. The number is that one, and the greatest number is the field's own.
+    Below,
 }
 
 /// A rule that a field of a table breaks.
@@ -54,6 +58,7 @@ pub struct Finding<'a> {
     pub number: u64,
     /// The greatest number that is allowed, or 0 if the rule isn't on a range.
     pub most: u64,
-    /// The other field of which the rule speaks, or nothing if it speaks of one alone.
+    /// The other field of which the rule speaks, or nothing if it speaks of one alone. A field of another table is followed by
+    /// the signature.
     pub other: &'static str,
 }

@@ -1,7 +1,8 @@
-//! Rules of the standard that the bytes of one table break.
+//! Rules of the standard that the bytes of one table break, or those of several tables of one machine.
 
 #![tactic(auto)]
 
+pub mod across;
 pub mod allowed;
 pub mod apart;
 pub mod demand;
@@ -12,6 +13,8 @@ pub mod item;
 pub mod laws;
 pub mod limit;
 pub mod line;
+pub mod link;
+pub mod machine;
 pub mod matrix;
 pub mod order;
 pub mod part;

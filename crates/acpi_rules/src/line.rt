@@ -3,7 +3,8 @@
 ghost use Rattle.std.specs.Prelude.{◌≡◌, ◌++◌, OnOk, string_bytes};
 ghost use Rattle.acpi_rules.specs.Finding.{noted};
 ghost use Rattle.acpi_rules.specs.Line.{standard_tables, contains, severity, rule_name, hex_text, one_text};
-ghost use Rattle.acpi_rules.specs.Line.{reserved_text, range_text, pair_text, relates_text};
+ghost use Rattle.acpi_rules.specs.Line.{reserved_text, range_text, pair_text, own_text, below_text, limit_text};
+ghost use Rattle.acpi_rules.specs.Line.{relates_text};
 ghost use Rattle.acpi_rules.specs.Line.{says, field_text, source_text, finding_text};
 
 use crate::finding::{Finding, Rule};
@@ -75,6 +76,8 @@ impl Rule {
             Rule::Multiple => "multiple",
             Rule::Reference => "reference",
             Rule::Distance => "distance",
+            Rule::Defined => "defined",
+            Rule::Below => "below",
         }
     }
 }
@@ -159,6 +162,32 @@ fn push_pair(
     }
 }
 
+// Adds the number of a field.
+fn push_own(number: u64, text: &mut String) -> Result<(), AllocError>
+    ensures { OnOk result (string_bytes text.new ≡ string_bytes text.old ++ own_text number) }
+{
+    text.push_str(": ")?;
+    text.push_str(Buffer::new().format(number))
+}
+
+// Adds what stands before a number that isn't greater.
+#[tactic(auto, unfolding(crate::specs::Line::below_text))]
+fn push_below(text: &mut String) -> Result<(), AllocError>
+    ensures { OnOk result (string_bytes text.new ≡ string_bytes text.old ++ below_text) }
+{
+    text.push_str(" isn't below the ")
+}
+
+// Adds that the number of a field isn't below that of another one.
+fn push_limit(number: u64, other: &str, text: &mut String) -> Result<(), AllocError>
+    ensures { OnOk result (string_bytes text.new ≡ string_bytes text.old ++ limit_text number other.now) }
+{
+    push_below(text)?;
+    push_label(other, text)?;
+    text.push_str(", which is ")?;
+    text.push_str(Buffer::new().format(number))
+}
+
 // Adds what a finding on several fields says of the bytes of its field.
 fn push_relates(
     rule: Rule,
@@ -193,6 +222,14 @@ fn push_relates(
             text.push_str(" isn't the ")?;
             push_label(other, text)?;
             text.push_str(" of such a structure")
+        }
+        Rule::Defined => {
+            text.push_str(" isn't any ")?;
+            push_label(other, text)
+        }
+        Rule::Below => {
+            push_own(most, text)?;
+            push_limit(number, other, text)
         }
         _ => push_pair(rule, number, most, other, text),
     }

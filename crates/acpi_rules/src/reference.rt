@@ -129,7 +129,8 @@ fn target_name(demand: &Demand) -> &'static str
     }
 }
 
-fn contains(numbers: &[u64], number: u64) -> bool
+/// Returns whether a number is one of these.
+pub fn contains(numbers: &[u64], number: u64) -> bool
     ensures { result ≡ contains numbers.now number }
 {
     'numbers: for one in numbers {

@@ -1,46 +1,100 @@
 //! The fields of a table by its form.
 
-ghost use Rattle.std.specs.Prelude.{◌≡◌, ◌+◌, ◌<◌, ◌^◌, ◌++◌, length, map, OnOk, IfOk, Some};
+ghost use Rattle.std.specs.Prelude.{◌≡◌, ◌+◌, ◌<◌, ◌^◌, ◌++◌, length, map, OnOk, MatchOption, IfOk, Some};
 ghost use Rattle.std.specs.List.{flat_map};
-ghost use Rattle.acpi_rules.specs.Field.{seen, parts_fields, content_fields, structure_fields, structures_of, table_fields};
+ghost use Rattle.acpi_rules.specs.Field.{seen, no_fields, inner_fields, lists_fields};
+ghost use Rattle.acpi_rules.specs.Field.{content_fields, structure_fields, structures_of, table_fields};
+ghost use Rattle.acpi_text.specs.Piece.{PiecesShowed, AllShowed};
+ghost use Rattle.acpi_text.specs.Size.{inner_size};
 ghost use Rattle.acpi_text.specs.Structure.{all_forms};
 
 use crate::field::Field;
 use crate::part::push_parts;
-use acpi_base::walk::{Place, Sizes, Walk};
-use acpi_text::form::{Inner, Part, TableForm};
-use acpi_text::inner::split_within;
-use acpi_text::part::number_at;
+use acpi_base::walk::{Place, Walk};
+use acpi_text::form::{Inner, InnerList, Part, TableForm};
+use acpi_text::inner::{split_inner, split_within};
+use acpi_text::part::{count_of, number_at};
 use acpi_text::piece::{find_form, inner_of, parts_of};
-use acpi_text::size::front_size;
+use acpi_text::size::{front_size, inner_form, next_size};
 use acpi_text::table::start_of;
 use std::alloc::{AllocError, Global};
 
-// Adds the fields of structures that stand one after another, and all have the same parts.
-fn push_inners<'a>(
-    sizes: Sizes,
-    parts: &[Part],
+// Adds the fields of a structure within another, by its form.
+fn push_inner<'a>(
+    list: &InnerList,
+    at: usize,
+    piece: &'a [u8],
+    fields: &mut Vec<Field<'a>>,
+) -> Result<(), AllocError>
+    requires { at + length piece.now < 2 ^ 64 }
+    ensures { OnOk result (map seen fields.new.items ≡ map seen fields.old.items ++ inner_fields list.now at piece.now) }
+{
+    match inner_form(list, piece) {
+        Some(form) => push_parts(form.parts, at, piece, fields),
+        None => Ok(()),
+    }
+}
+
+// Adds the fields of `count` structures of a list, and returns how many bytes these have. If there are fewer, it adds the fields
+// of these, and returns nothing.
+fn push_list<'a>(
+    list: &InnerList,
+    count: usize,
+    start: usize,
+    bytes: &'a [u8],
+    fields: &mut Vec<Field<'a>>,
+) -> Result<Option<usize>, AllocError>
+    requires { start + length bytes.now < 2 ^ 64 }
+    ensures { IfOk result (λ found. MatchOption found
+        (AllShowed count (inner_size list.now) (inner_fields list.now) no_fields start bytes.now
+        (map seen fields.old.items) (map seen fields.new.items))
+        (λ n. PiecesShowed count (inner_size list.now) (inner_fields list.now) no_fields start bytes.now
+        (map seen fields.old.items) (map seen fields.new.items) n)) }
+{
+    let mut at = 0;
+    let mut left = count;
+    let mut rest = bytes;
+    'inners: while let Some(size) = next_size(left, list, rest) {
+        let (piece, more) = rest.split_at(size);
+        push_inner(list, start + at, piece, fields)?;
+        at += size;
+        left -= 1;
+        rest = more;
+    }
+    if left == 0 {
+        return Ok(Some(at));
+    }
+    Ok(None)
+}
+
+// Adds the fields of lists of structures within a whole, one after another.
+fn push_lists<'a>(
+    whole: &[u8],
+    lists: &[InnerList],
     start: usize,
     bytes: &'a [u8],
     fields: &mut Vec<Field<'a>>,
 ) -> Result<(), AllocError>
     requires { start + length bytes.now < 2 ^ 64 }
-    ensures { OnOk result (map seen fields.new.items ≡ map seen fields.old.items
-        ++ flat_map (λ s. parts_fields parts.now s.offset s.bytes) (structures_of sizes start bytes.now)) }
+    ensures { OnOk result (map seen fields.new.items
+        ≡ map seen fields.old.items ++ lists_fields whole.now lists.now start bytes.now) }
 {
-    let mut at = start;
+    let mut at = 0;
     let mut rest = bytes;
-    'inners: while let Some(size) = front_size(sizes, rest) {
-        let (piece, more) = rest.split_at(size);
-        push_parts(parts, at, piece, fields)?;
-        at += size;
+    'lists: for list in lists {
+        let Some(found) = push_list(list, count_of(list.count, whole), start + at, rest, fields)?
+        else {
+            return Ok(());
+        };
+        let (_, more) = rest.split_at(found);
+        at += found;
         rest = more;
     }
     Ok(())
 }
 
-// Adds the fields of a structure by its parts, and of the structures within it.
-fn push_content<'a>(
+/// Adds the fields of a structure by its parts, and of the structures within it.
+pub fn push_content<'a>(
     parts: &[Part],
     inner: &Inner,
     at: usize,
@@ -53,10 +107,10 @@ fn push_content<'a>(
 {
     match *inner {
         Inner::Nothing => push_parts(parts, at, piece, fields),
-        Inner::Structures(start, _, sizes, within) => {
-            let (front, rest) = split_within(start, piece);
+        Inner::Lists(start, lists) => {
+            let (front, rest) = split_inner(start, piece);
             push_parts(parts, at, front, fields)?;
-            push_inners(sizes, within, at + front.len(), rest, fields)
+            push_lists(piece, lists, at + front.len(), rest, fields)
         }
     }
 }
@@ -128,7 +182,7 @@ pub fn fields_of<'a>(
     let mut fields = Vec::new(alloc);
     match walk {
         Some(walk) => push_walked(form, &walk, bytes, &mut fields)?,
-        None => push_parts(form.parts, 0, bytes, &mut fields)?,
+        None => push_content(form.parts, form.inner, 0, bytes, &mut fields)?,
     }
     Ok(fields)
 }

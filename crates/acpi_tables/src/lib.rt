@@ -6,6 +6,7 @@
 //! ```
 //! use acpi_tables::aml::{ONE, Package, ZERO};
 //! use acpi_tables::bert::BERT;
+//! use acpi_tables::bgrt::{BGRT, Orientation};
 //! use acpi_tables::cedt::{CEDT, CxlHostBridge, CxlVersion};
 //! use acpi_tables::dbg2::{DBG2, DebugDevice, DebugPort};
 //! use acpi_tables::facs::FACS;
@@ -14,6 +15,7 @@
 //! use acpi_tables::gtdt::{GTDT, Timer, Timers};
 //! use acpi_tables::hest::{HEST, PcieAerRootPort};
 //! use acpi_tables::hmat::{HMAT, MemoryProximityDomain};
+//! use acpi_tables::hpet::{EventTimerBlockId, HPET};
 //! use acpi_tables::iort::{IORT, IdMapping, ItsGroup, Output, RootComplex};
 //! use acpi_tables::layout::{Image, ImageFault, Located, check_image, lay};
 //! use acpi_tables::madt::{EnabledStatus, LocalInterruptController, MADT, ProcessorLocalApic};
@@ -31,6 +33,8 @@
 //! use acpi_tables::text::{Made, MakeError, make, show};
 //! use acpi_tables::tpm2::{PlatformClass, StartMethod, Tpm2};
 //! use acpi_tables::viot::{PciDevice, PciRange, VIOT, VirtIoPciIommu};
+//! use acpi_tables::waet::WAET;
+//! use acpi_tables::wsmt::WSMT;
 //! use acpi_tables::xsdt::XSDT;
 //! use acpi_tables::{Aml, AmlSink, R};
 //! use std::alloc::Global;
@@ -65,6 +69,20 @@
 //!     let mut module = Tpm2::new(OEM, TABLE, 1, class, 0xfed4_0000, StartMethod::Crb);
 //!     module.set_log_area(0x1_0000, 0x1c12_0000)?;
 //!     module.to_aml_bytes(sink)
+//! }
+//!
+//! fn pc(sink: &mut dyn AmlSink) -> R<()> {
+//!     // hpet: a block of three timers at 0xfed00000, whose main counter has 64 bits.
+//!     let id = EventTimerBlockId::new(1, 3, 0x8086).wide_counter();
+//!     let registers = GAS::new(AddressSpace::SystemMemory, 64, 0, AccessSize::Undefined, 0xfed0_0000);
+//!     HPET::new(OEM, TABLE, 1, id, registers).to_aml_bytes(sink)?;
+//!     // waet: a PM timer that is read once.
+//!     WAET::new(OEM, TABLE, 1).pm_timer_good().to_aml_bytes(sink)?;
+//!     // bgrt: the picture on the screen, turned by 90 degrees.
+//!     let picture = BGRT::new(OEM, TABLE, 1, 0x7000_0000, 40, 30);
+//!     picture.displayed().orientation(Orientation::Degrees90).to_aml_bytes(sink)?;
+//!     // wsmt: firmware that checks buffers and the pointers in them.
+//!     WSMT::new(OEM, TABLE, 1).nested_ptr_protection().to_aml_bytes(sink)
 //! }
 //!
 //! fn lists(alloc: Global, sink: &mut dyn AmlSink) -> R<()> {
@@ -212,6 +230,11 @@ pub mod bert {
     pub use acpi_fixed::bert::BERT;
 }
 
+/// The Boot Graphics Resource Table (ACPI 6.5, 5.2.23).
+pub mod bgrt {
+    pub use acpi_fixed::bgrt::{BGRT, Orientation};
+}
+
 /// The CXL Early Discovery Table and its structures (this project's profile).
 pub mod cedt {
     pub use acpi_lists::cedt::{
@@ -265,6 +288,11 @@ pub mod hmat {
         Associativity, CacheLevel, DataType, HMAT, LocalityType, MemoryProximityDomain,
         MemorySideCache, MinTransferSize, SystemLocality, WritePolicy,
     };
+}
+
+/// The IA-PC High Precision Event Timer Table (IA-PC HPET Specification 1.0a, 3.2.4).
+pub mod hpet {
+    pub use acpi_fixed::hpet::{EventTimerBlockId, HPET, PageProtection};
 }
 
 /// The I/O Remapping Table and its nodes (Arm DEN0049E.d). `rimt` has a type `IdMapping`, too: write `iort::IdMapping`.
@@ -374,9 +402,9 @@ pub mod text {
     pub use acpi_base::walk::{Place, Sizes, Walk};
     pub use acpi_forms::make::{make, template};
     pub use acpi_forms::show::{show, show_facs, show_rsdp};
+    pub use acpi_make::extent::Own;
     pub use acpi_make::fault::{Fault, MakeError, Wanted};
     pub use acpi_make::make::Made;
-    pub use acpi_make::own::Own;
     pub use acpi_terms_text::annotate::annotated;
     pub use acpi_terms_text::methods::own_arities;
     pub use acpi_text::comment::push_comment;
@@ -395,6 +423,16 @@ pub mod viot {
     pub use acpi_nodes::viot::{
         MmioEndpoint, PciDevice, PciRange, TranslationHandle, VIOT, VirtIoMmioIommu, VirtIoPciIommu,
     };
+}
+
+/// The Windows ACPI Emulated Devices Table (Microsoft, WAET 1.2).
+pub mod waet {
+    pub use acpi_fixed::waet::WAET;
+}
+
+/// The Windows SMM Security Mitigations Table (Microsoft, WSMT 1.0).
+pub mod wsmt {
+    pub use acpi_fixed::wsmt::WSMT;
 }
 
 /// The Extended System Description Table (ACPI 6.5, 5.2.8).

@@ -9,26 +9,27 @@ use Rattle.acpi_base.specs.Bytes.{AreBytes, carried}
 use Rattle.acpi_base.specs.Walk.{place_offset, place_width, end_of}
 use Rattle.acpi_base.specs.declared.walk.Place.{Place}
 use Rattle.acpi_base.specs.declared.walk.Place.TheVariants.{Nowhere, Byte, Word, DWord}
-use Rattle.acpi_base.specs.declared.walk.Sizes.{Sizes}
 use Rattle.acpi_base.specs.declared.walk.Walk.{Walk}
 use Rattle.acpi_base.proofs.Bytes.{bytes_take, bytes_drop}
 use Rattle.acpi_text.specs.declared.form.Inner.{Inner}
-use Rattle.acpi_text.specs.declared.form.Inner.TheVariants.{Nothing, Structures}
+use Rattle.acpi_text.specs.declared.form.Inner.TheVariants.{Nothing, Lists}
+use Rattle.acpi_text.specs.declared.form.InnerForm.{InnerForm}
+use Rattle.acpi_text.specs.declared.form.InnerList.{InnerList}
 use Rattle.acpi_text.specs.declared.form.Part.{Part}
 use Rattle.acpi_text.specs.declared.form.StructureForm.{StructureForm}
 use Rattle.acpi_text.specs.declared.form.TableForm.{TableForm}
-use Rattle.acpi_text.specs.Form.{number_at, parts_slots}
+use Rattle.acpi_text.specs.Form.{number_at, count_of, parts_slots}
 use Rattle.acpi_text.specs.Label.{label}
 use Rattle.acpi_text.specs.Line.{line, title}
 use Rattle.acpi_base.specs.Look.{Look}
 use Rattle.acpi_base.specs.Look as looks
-use Rattle.acpi_text.specs.Piece.{piece_and, pieces_up_to, pieces_text, parts_and_pieces}
-use Rattle.acpi_text.specs.Size.{front_size}
+use Rattle.acpi_text.specs.Piece.{SizeOf, TextOf, piece_and, pieces_then, pieces_text, front_then, parts_text}
+use Rattle.acpi_text.specs.Size.{front_size, start_in, inner_form, inner_size}
 use Rattle.acpi_text.specs.Slot.{Slot, heading, field, upto, unknown, nameless, nameless_lines, field_text, slots_text}
-use Rattle.acpi_text.specs.Structure.{all_forms, find_form, form_name, form_parts, form_inner, inner_text, content_text, kind_text, piece_line, piece_text}
+use Rattle.acpi_text.specs.Structure.{all_forms, find_form, form_name, form_parts, form_inner, inner_by_form, inner_text, lists_text, content_text, kind_text, piece_line, piece_text}
 use Rattle.acpi_text.specs.Table.{start_of, body_text, table_text}
 use Rattle.acpi_text.proofs.Numbers.{narrow_carried}
-use Rattle.acpi_text.proofs.Pieces.{front_within}
+use Rattle.acpi_text.proofs.Pieces.{AreWithin, front_within, inner_within}
 use Rattle.acpi_text.proofs.Printed.{Quiet, quiet_append, quiet_text, quiet_label, quiet_decimal}
 
 -- A relation of whole lines and their bytes, which holds of each line, and of lines after lines.
@@ -154,50 +155,55 @@ module _ (R : List ℕ → List ℕ → Type 0) (r : Composes R) where
       (quiet_name form))
 
   -- a text of each structure has the structure's bytes
-  abbrev Each : (ℕ → List ℕ → List ℕ) → Type 0
+  abbrev Each : TextOf → Type 0
   Each shown = (at : ℕ) (piece : List ℕ) → AreBytes piece → 0 < length piece → at + length piece < 2 ^ 64 → R (shown at piece) piece
 
-  front_by : (sizes : Sizes) (shown : ℕ → List ℕ → List ℕ) → Each shown
-      → (front : Option ℕ) (n at : ℕ) (bytes : List ℕ) → front_size sizes bytes ≡ front → AreBytes bytes → at + length bytes < 2 ^ 64
-      → ((k : ℕ) (rest : List ℕ) → AreBytes rest → k + length rest < 2 ^ 64 → R (pieces_up_to n sizes shown k rest) rest)
-      → R (piece_and front shown (λ k rest. pieces_up_to n sizes shown k rest) at bytes) bytes
-  front_by sizes shown each None n at bytes is are small others = all_nameless at bytes are small
-  front_by sizes shown each (Some size) n at bytes is are small others =
-      let within = front_within sizes size bytes is in
-      let long = length-take-le size bytes within.fits in
-      parts_by _ size bytes (r.append (shown at (take size bytes)) (pieces_up_to n sizes shown (at + size) (drop size bytes)) (take size bytes) (drop size bytes)
-      (each at (take size bytes) (bytes_take size bytes are) (omega (arith, within.some, long)) (omega (arith, small, within.fits, long)))
-      (others (at + size) (drop size bytes) (bytes_drop size bytes are) (omega (arith, small, within.fits, length-drop size bytes))))
+  -- a text of any bytes has them
+  abbrev All : TextOf → Type 0
+  All shown = (at : ℕ) (bytes : List ℕ) → AreBytes bytes → at + length bytes < 2 ^ 64 → R (shown at bytes) bytes
 
-  pieces_by : (sizes : Sizes) (shown : ℕ → List ℕ → List ℕ) → Each shown
-      → (n at : ℕ) (bytes : List ℕ) → AreBytes bytes → at + length bytes < 2 ^ 64 → R (pieces_up_to n sizes shown at bytes) bytes
-  pieces_by sizes shown each zero at bytes are small = all_nameless at bytes are small
-  pieces_by sizes shown each (suc n) at bytes are small =
-      front_by sizes shown each (front_size sizes bytes) n at bytes refl are small
-      (λ k rest bytes fits. pieces_by sizes shown each n k rest bytes fits)
+  module _ (size : SizeOf) (within : AreWithin size) (shown after : TextOf) (each : Each shown) (left : All after) where
+    front_by : (front : Option ℕ) (n at : ℕ) (bytes : List ℕ) → size bytes ≡ front → AreBytes bytes → at + length bytes < 2 ^ 64
+        → All (λ k rest. pieces_then n size shown nameless after k rest)
+        → R (piece_and front shown (λ k rest. pieces_then n size shown nameless after k rest) nameless at bytes) bytes
+    front_by None n at bytes is are small others = all_nameless at bytes are small
+    front_by (Some k) n at bytes is are small others =
+        let fits = within k bytes is in
+        let long = length-take-le k bytes fits.fits in
+        parts_by _ k bytes (r.append (shown at (take k bytes)) (pieces_then n size shown nameless after (at + k) (drop k bytes)) (take k bytes) (drop k bytes)
+        (each at (take k bytes) (bytes_take k bytes are) (omega (arith, fits.some, long)) (omega (arith, small, fits.fits, long)))
+        (others (at + k) (drop k bytes) (bytes_drop k bytes are) (omega (arith, small, fits.fits, length-drop k bytes))))
 
-  parts_and_pieces_by : (sizes : Sizes) (shown : ℕ → List ℕ → List ℕ) → Each shown
-      → (parts : List Part) (start at : ℕ) (bytes : List ℕ) → AreBytes bytes → at + length bytes < 2 ^ 64
-      → R (parts_and_pieces parts start sizes shown at bytes) bytes
-  parts_and_pieces_by sizes shown each parts start at bytes are small =
+    pieces_by : (n : ℕ) → All (λ k rest. pieces_then n size shown nameless after k rest)
+    pieces_by zero at bytes are small = left at bytes are small
+    pieces_by (suc n) at bytes are small = front_by (size bytes) n at bytes refl are small (pieces_by n)
+
+  parts_then_by : (parts : List Part) (start : ℕ) (others : TextOf) → All others → All (λ at bytes. front_then (parts_text parts) start others at bytes)
+  parts_then_by parts start others all at bytes are small =
       let front = take start bytes in
       let rest = drop start bytes in
       let joined : length front + length rest ≡ length bytes = sym (length-append front rest) ∙ ap length (take-append-drop start bytes) in
-      parts_by _ start bytes (r.append (slots_text at (parts_slots 0 at front parts) front) (pieces_text sizes shown (at + length front) rest) front rest
+      parts_by _ start bytes (r.append (slots_text at (parts_slots 0 at front parts) front) (others (at + length front) rest) front rest
       (slots_by at (parts_slots 0 at front parts) front (bytes_take start bytes are) (omega (arith, small, joined)))
-      (pieces_by sizes shown each (length rest) (at + length front) rest (bytes_drop start bytes are) (omega (arith, small, joined))))
+      (all (at + length front) rest (bytes_drop start bytes are) (omega (arith, small, joined))))
 
-  inner_by : (name : List ℕ) (parts : List Part) → Each (inner_text name parts)
-  inner_by name parts at piece are some small =
-      r.append (title 0 at name) (slots_text at (parts_slots 1 at piece parts) piece) [] piece
-      (r.titles 0 at name (omega (arith, small)))
-      (slots_by at (parts_slots 1 at piece parts) piece are small)
+  inner_by : (form : Option InnerForm) → Each (inner_by_form form)
+  inner_by (Some form) at piece are some small =
+      r.append (title 0 at form.name.now) (slots_text at (parts_slots 1 at piece form.parts.now) piece) [] piece
+      (r.titles 0 at form.name.now (omega (arith, small)))
+      (slots_by at (parts_slots 1 at piece form.parts.now) piece are small)
+  inner_by None at piece are some small = all_nameless at piece are small
 
-  content_by : (parts : List Part) (inner : Inner) (at : ℕ) (piece : List ℕ) → AreBytes piece → at + length piece < 2 ^ 64
-      → R (content_text parts inner at piece) piece
+  lists_by : (whole : List ℕ) (lists : List InnerList) → All (λ k rest. lists_text whole lists k rest)
+  lists_by whole [] at bytes are small = all_nameless at bytes are small
+  lists_by whole (list ∷ lists) at bytes are small =
+      pieces_by (inner_size list) (inner_within list) (inner_text list) (λ k rest. lists_text whole lists k rest)
+      (λ k piece fits some less. inner_by (inner_form list piece) k piece fits some less) (lists_by whole lists) (count_of list.count whole) at bytes are small
+
+  content_by : (parts : List Part) (inner : Inner) → All (λ at piece. content_text parts inner at piece)
   content_by parts Nothing at piece are small = slots_by at (parts_slots 0 at piece parts) piece are small
-  content_by parts (Structures start name sizes inner) at piece are small =
-      parts_and_pieces_by sizes (inner_text name.now inner.now) (inner_by name.now inner.now) parts start at piece are small
+  content_by parts (Lists start lists) at piece are small =
+      parts_then_by parts (start_in start piece) (λ k rest. lists_text piece lists.now k rest) (lists_by piece lists.now) at piece are small
 
   piece_by : (kind : Place) (forms : List StructureForm) → Each (piece_text kind forms)
   piece_by kind forms at piece are some small =
@@ -210,10 +216,12 @@ module _ (R : List ℕ → List ℕ → Type 0) (r : Composes R) where
 
   body_by : (form : TableForm) (walk : Option Walk) (bytes : List ℕ) → AreBytes bytes → length bytes < 2 ^ 64
       → R (body_text form walk bytes) bytes
-  body_by form None bytes are small = slots_by 0 (parts_slots 0 0 bytes form.parts.now) bytes are (omega (arith, small))
+  body_by form None bytes are small = content_by form.parts.now form.inner.now 0 bytes are (omega (arith, small))
   body_by form (Some walk) bytes are small =
-      parts_and_pieces_by walk.sizes (piece_text walk.kind (all_forms form)) (piece_by walk.kind (all_forms form))
-      form.parts.now (start_of walk bytes) 0 bytes are (omega (arith, small))
+      let shown = piece_text walk.kind (all_forms form) in
+      parts_then_by form.parts.now (start_of walk bytes) (λ k rest. pieces_text (front_size walk.sizes) shown k rest)
+      (λ k rest each fits. pieces_by (front_size walk.sizes) (front_within walk.sizes) shown nameless (piece_by walk.kind (all_forms form)) all_nameless (length rest) k rest each fits)
+      0 bytes are (omega (arith, small))
 
   pub table_by : (form : TableForm) (walk : Option Walk) (bytes : List ℕ) → AreBytes bytes → length bytes < 2 ^ 64
       → R (table_text form walk bytes) bytes

@@ -1,5 +1,5 @@
 -- What a line says after its numbers: nothing, or a comment.
-use Rattle.std.proofs.Common.{◌≡◌, ℕ, ◌-◌, ◌*◌, ◌/◌, ◌%◌, ◌^◌, ◌<◌, ◌≤◌, ◌==◌, ◌&&◌, nat_le, nat_lt, not, true, false, Bool, cond}
+use Rattle.std.proofs.Common.{◌≡◌, ℕ, ◌*◌, ◌/◌, ◌%◌, ◌^◌, ◌<◌, ◌≤◌, ◌==◌, ◌&&◌, nat_le, nat_lt, not, true, false, Bool, cond}
 use Rattle.std.proofs.Common.{List, [], ◌∷◌, ◌++◌, length, codes, refl, ap, ◌∙◌, arith, Option, Some, None}
 use Rattle.std.specs.Prelude.{bit_and}
 use Rattle.std.specs.Fmt.{decimal}

@@ -7,11 +7,12 @@ use Rattle.std.proofs.lemmas.List.{append-nil, length-take-le}
 use Rattle.std.proofs.lemmas.Bool.{ltb-false}
 use Rattle.acpi_base.specs.Bytes.{AreBytes}
 use Rattle.acpi_base.specs.declared.walk.Place.{Place}
-use Rattle.acpi_base.specs.declared.walk.Sizes.{Sizes}
 use Rattle.acpi_base.specs.declared.walk.Walk.{Walk}
 use Rattle.acpi_base.proofs.Bytes.{bytes_take, bytes_drop}
 use Rattle.acpi_text.specs.declared.form.Inner.{Inner}
-use Rattle.acpi_text.specs.declared.form.Inner.TheVariants.{Nothing, Structures}
+use Rattle.acpi_text.specs.declared.form.Inner.TheVariants.{Nothing, Lists}
+use Rattle.acpi_text.specs.declared.form.InnerForm.{InnerForm}
+use Rattle.acpi_text.specs.declared.form.InnerList.{InnerList}
 use Rattle.acpi_text.specs.declared.form.Part.{Part}
 use Rattle.acpi_text.specs.declared.form.StructureForm.{StructureForm}
 use Rattle.acpi_text.specs.declared.form.TableForm.{TableForm}
@@ -26,16 +27,16 @@ use Rattle.acpi_text.specs.Hex.{number_text, numbers_text}
 use Rattle.acpi_text.specs.Label.{label}
 use Rattle.acpi_text.specs.Line.{spaces, margin, padded, line, title}
 use Rattle.acpi_text.specs.Names.{OneLine, WholeLines, Named, Names, Wanted, sized, until, unnamed, row_fields, rows_fields, times, choice_fields, part_fields}
-use Rattle.acpi_text.specs.Names.{field_and, fields_of, parts_fields, structure_and, structures_up_to, fields_and_structures, content_fields, structure_fields}
-use Rattle.acpi_text.specs.Names.{table_fields, LinesHaveNames, TextsHaveNames}
+use Rattle.acpi_text.specs.Names.{field_and, fields_of, parts_fields, no_fields, fields_by_form, inner_fields}
+use Rattle.acpi_text.specs.Names.{lists_fields, content_fields, structure_fields, table_fields, LinesHaveNames, TextsHaveNames}
 use Rattle.acpi_base.specs.Look.{Look}
 use Rattle.acpi_base.specs.Look as looks
 use Rattle.acpi_text.specs.Note.{meaning}
-use Rattle.acpi_text.specs.Piece.{piece_and, pieces_up_to, parts_and_pieces}
+use Rattle.acpi_text.specs.Piece.{SizeOf, OfBytes, TextOf, piece_and, pieces_then, pieces_text, front_then, parts_text}
 use Rattle.acpi_text.specs.Reading.{at_start, in_number, read}
-use Rattle.acpi_text.specs.Size.{front_size}
+use Rattle.acpi_text.specs.Size.{front_size, start_in, inner_form, inner_size}
 use Rattle.acpi_text.specs.Slot.{Slot, heading, field, upto, unknown, nameless_lines, nameless, field_text, slots_text, row_slots}
-use Rattle.acpi_text.specs.Structure.{all_forms, find_form, form_name, form_parts, form_inner, inner_text, content_text, kind_text, piece_line, piece_text}
+use Rattle.acpi_text.specs.Structure.{all_forms, find_form, form_name, form_parts, form_inner, inner_by_form, inner_text, lists_text, content_text, kind_text, piece_line, piece_text}
 use Rattle.acpi_text.specs.Table.{start_of, body_text}
 use Rattle.acpi_text.proofs.Lines.{meaning_ends}
 use Rattle.acpi_text.proofs.Meanings.{meaning_by}
@@ -165,11 +166,11 @@ none_chosen : (b : Bool) (x : List Named) → x ≡ [] → cond b x [] ≡ []
 none_chosen true x none = none
 none_chosen false x none = refl
 
-no_fields : (at : ℕ) (wanted : List Wanted) → fields_of at wanted [] ≡ []
-no_fields at [] = refl
-no_fields at (sized name size ∷ wanted) = refl
-no_fields at (until name end ∷ wanted) = none_chosen (nat_le end at) (fields_of at wanted []) (no_fields at wanted)
-no_fields at (unnamed ∷ wanted) = refl
+no_bytes_no_fields : (at : ℕ) (wanted : List Wanted) → fields_of at wanted [] ≡ []
+no_bytes_no_fields at [] = refl
+no_bytes_no_fields at (sized name size ∷ wanted) = refl
+no_bytes_no_fields at (until name end ∷ wanted) = none_chosen (nat_le end at) (fields_of at wanted []) (no_bytes_no_fields at wanted)
+no_bytes_no_fields at (unnamed ∷ wanted) = refl
 
 module _ (fields : ℕ → List ℕ → List Named) (after : ℕ → List ℕ → List ℕ)
     (others : (k : ℕ) (rest : List ℕ) → AreBytes rest → Names (fields k rest) (after k rest)) where
@@ -210,7 +211,7 @@ either_named false fields others text other one two = two
 slots_named : (at : ℕ) (slots : List Slot) (bytes : List ℕ) → AreBytes bytes → Names (fields_of at (want slots) bytes) (slots_text at slots bytes)
 slots_named at [] bytes are = nameless_whole _ at bytes
 slots_named at (unknown ∷ slots) bytes are = nameless_whole _ at bytes
-slots_named at (heading depth name ∷ slots) [] are = subst (λ l. Names l []) (sym (no_fields at (want slots))) tt
+slots_named at (heading depth name ∷ slots) [] are = subst (λ l. Names l []) (sym (no_bytes_no_fields at (want slots))) tt
 slots_named at (heading depth name ∷ slots) (b ∷ bytes) are =
     subst (λ none. Names (fields_of at (want slots) (b ∷ bytes)) (cond none [] (title depth at name ++ slots_text at slots (b ∷ bytes))))
     (sym (some_bytes (b ∷ bytes) (omega arith)))
@@ -296,7 +297,7 @@ part_wanted depth start whole (parts.Until name end) = refl
 part_wanted depth start whole (parts.Chosen by choices) = choice_wanted depth (find_choice (number_at by whole) choices.now)
 
 parts_named : (depth at : ℕ) (list : List Part) (piece : List ℕ) → AreBytes piece
-    → Names (parts_fields at piece list) (slots_text at (parts_slots depth at piece list) piece)
+    → Names (parts_fields list at piece) (slots_text at (parts_slots depth at piece list) piece)
 parts_named depth at list piece are =
     subst (λ wanted. Names (fields_of at wanted piece) (slots_text at (parts_slots depth at piece list) piece))
     (each_wanted (part_slots depth at piece) (part_fields at piece) (part_wanted depth at piece) list)
@@ -308,41 +309,54 @@ parts_named depth at list piece are =
 abbrev EachNames : (ℕ → List ℕ → List Named) → (ℕ → List ℕ → List ℕ) → Type 0
 EachNames fields shown = (at : ℕ) (piece : List ℕ) → AreBytes piece → Names (fields at piece) (shown at piece)
 
-module _ (sizes : Sizes) (fields : ℕ → List ℕ → List Named) (shown : ℕ → List ℕ → List ℕ) (each : EachNames fields shown) where
+none_named : EachNames no_fields nameless
+none_named at bytes are = nameless_whole _ at bytes
+
+-- the text of structures names their fields, and then those of what is left
+module _ (size : SizeOf) (fields others : OfBytes Named) (shown after : TextOf) (each : EachNames fields shown) (left : EachNames others after) where
   front_names : (front : Option ℕ) (n at : ℕ) (bytes : List ℕ) → AreBytes bytes
-      → ((k : ℕ) (rest : List ℕ) → AreBytes rest → Names (structures_up_to n sizes fields k rest) (pieces_up_to n sizes shown k rest))
-      → Names (structure_and front fields (λ k rest. structures_up_to n sizes fields k rest) at bytes)
-      (piece_and front shown (λ k rest. pieces_up_to n sizes shown k rest) at bytes)
-  front_names None n at bytes are others = nameless_whole _ at bytes
-  front_names (Some size) n at bytes are others =
-      names_append (fields at (take size bytes)) (structures_up_to n sizes fields (at + size) (drop size bytes))
-      (shown at (take size bytes)) (pieces_up_to n sizes shown (at + size) (drop size bytes))
-      (each at (take size bytes) (bytes_take size bytes are)) (others (at + size) (drop size bytes) (bytes_drop size bytes are))
+      → ((k : ℕ) (rest : List ℕ) → AreBytes rest → Names (pieces_then n size fields no_fields others k rest) (pieces_then n size shown nameless after k rest))
+      → Names (piece_and front fields (λ k rest. pieces_then n size fields no_fields others k rest) no_fields at bytes)
+      (piece_and front shown (λ k rest. pieces_then n size shown nameless after k rest) nameless at bytes)
+  front_names None n at bytes are more = none_named at bytes are
+  front_names (Some k) n at bytes are more =
+      names_append (fields at (take k bytes)) (pieces_then n size fields no_fields others (at + k) (drop k bytes))
+      (shown at (take k bytes)) (pieces_then n size shown nameless after (at + k) (drop k bytes))
+      (each at (take k bytes) (bytes_take k bytes are)) (more (at + k) (drop k bytes) (bytes_drop k bytes are))
 
-  pieces_names : (n at : ℕ) (bytes : List ℕ) → AreBytes bytes → Names (structures_up_to n sizes fields at bytes) (pieces_up_to n sizes shown at bytes)
-  pieces_names zero at bytes are = nameless_whole _ at bytes
-  pieces_names (suc n) at bytes are = front_names (front_size sizes bytes) n at bytes are (λ k rest fits. pieces_names n k rest fits)
+  pieces_names : (n at : ℕ) (bytes : List ℕ) → AreBytes bytes
+      → Names (pieces_then n size fields no_fields others at bytes) (pieces_then n size shown nameless after at bytes)
+  pieces_names zero at bytes are = left at bytes are
+  pieces_names (suc n) at bytes are = front_names (size bytes) n at bytes are (λ k rest fits. pieces_names n k rest fits)
 
-  all_names : (list : List Part) (start at : ℕ) (bytes : List ℕ) → AreBytes bytes
-      → Names (fields_and_structures list start sizes fields at bytes) (parts_and_pieces list start sizes shown at bytes)
-  all_names list start at bytes are =
-      let front = take start bytes in
-      let rest = drop start bytes in
-      names_append (parts_fields at front list) (structures_up_to (length rest) sizes fields (at + length front) rest)
-      (slots_text at (parts_slots 0 at front list) front) (pieces_up_to (length rest) sizes shown (at + length front) rest)
-      (parts_named 0 at list front (bytes_take start bytes are))
-      (pieces_names (length rest) (at + length front) rest (bytes_drop start bytes are))
+parts_and_names : (list : List Part) (start : ℕ) (fields : OfBytes Named) (shown : TextOf) → EachNames fields shown
+    → (at : ℕ) (bytes : List ℕ) → AreBytes bytes → Names (front_then (parts_fields list) start fields at bytes) (front_then (parts_text list) start shown at bytes)
+parts_and_names list start fields shown each at bytes are =
+    let front = take start bytes in
+    let rest = drop start bytes in
+    names_append (parts_fields list at front) (fields (at + length front) rest)
+    (slots_text at (parts_slots 0 at front list) front) (shown (at + length front) rest)
+    (parts_named 0 at list front (bytes_take start bytes are))
+    (each (at + length front) rest (bytes_drop start bytes are))
 
-inner_names : (name : List ℕ) (list : List Part) → EachNames (λ k one. parts_fields k one list) (inner_text name list)
-inner_names name list at piece are =
-    names_after (parts_fields at piece list) (title 0 at name) (slots_text at (parts_slots 1 at piece list) piece)
-    (ended (margin 0 at name)) (parts_named 1 at list piece are)
+inner_names : (form : Option InnerForm) → EachNames (fields_by_form form) (inner_by_form form)
+inner_names (Some form) at piece are =
+    names_after (parts_fields form.parts.now at piece) (title 0 at form.name.now) (slots_text at (parts_slots 1 at piece form.parts.now) piece)
+    (ended (margin 0 at form.name.now)) (parts_named 1 at form.parts.now piece are)
+inner_names None at piece are = none_named at piece are
+
+lists_names : (whole : List ℕ) (lists : List InnerList) → EachNames (λ k rest. lists_fields whole lists k rest) (λ k rest. lists_text whole lists k rest)
+lists_names whole [] at bytes are = none_named at bytes are
+lists_names whole (list ∷ lists) at bytes are =
+    pieces_names (inner_size list) (inner_fields list) (λ k rest. lists_fields whole lists k rest) (inner_text list) (λ k rest. lists_text whole lists k rest)
+    (λ k piece fits. inner_names (inner_form list piece) k piece fits) (lists_names whole lists) (count_of list.count whole) at bytes are
 
 content_names : (list : List Part) (inner : Inner) (at : ℕ) (piece : List ℕ) → AreBytes piece
     → Names (content_fields list inner at piece) (content_text list inner at piece)
 content_names list Nothing at piece are = parts_named 0 at list piece are
-content_names list (Structures start name sizes inner) at piece are =
-    all_names sizes (λ k one. parts_fields k one inner.now) (inner_text name.now inner.now) (inner_names name.now inner.now) list start at piece are
+content_names list (Lists start lists) at piece are =
+    parts_and_names list (start_in start piece) (λ k rest. lists_fields piece lists.now k rest) (λ k rest. lists_text piece lists.now k rest)
+    (lists_names piece lists.now) at piece are
 
 piece_names : (kind : Place) (forms : List StructureForm) → EachNames (structure_fields kind forms) (piece_text kind forms)
 piece_names kind forms at piece are =
@@ -355,10 +369,14 @@ piece_names kind forms at piece are =
 
 body_names : (form : TableForm) (walk : Option Walk) (bytes : List ℕ) → AreBytes bytes
     → Names (table_fields form walk bytes) (body_text form walk bytes)
-body_names form None bytes are = parts_named 0 0 form.parts.now bytes are
+body_names form None bytes are = content_names form.parts.now form.inner.now 0 bytes are
 body_names form (Some walk) bytes are =
-    all_names walk.sizes (structure_fields walk.kind (all_forms form)) (piece_text walk.kind (all_forms form))
-    (piece_names walk.kind (all_forms form)) form.parts.now (start_of walk bytes) 0 bytes are
+    let forms = all_forms form in
+    let size = front_size walk.sizes in
+    parts_and_names form.parts.now (start_of walk bytes) (λ k rest. pieces_then (length rest) size (structure_fields walk.kind forms) no_fields no_fields k rest)
+    (λ k rest. pieces_text size (piece_text walk.kind forms) k rest)
+    (λ k rest fits. pieces_names size (structure_fields walk.kind forms) no_fields (piece_text walk.kind forms) nameless
+    (piece_names walk.kind forms) none_named (length rest) k rest fits) 0 bytes are
 
 pub tables_named : TextsHaveNames
 tables_named form walk bytes are small =

@@ -6,18 +6,20 @@ use Rattle.std.proofs.Math.Seq.{take-append_seam, drop-append_seam}
 use Rattle.std.proofs.lemmas.List.{append-nil, drop-append-le, drop-drop, take-append-drop}
 use Rattle.std.proofs.lemmas.Bool.{ltb-false}
 use Rattle.acpi_base.specs.declared.walk.Place.{Place}
-use Rattle.acpi_base.specs.declared.walk.Sizes.{Sizes}
 use Rattle.acpi_text.specs.declared.form.Inner.{Inner}
-use Rattle.acpi_text.specs.declared.form.Inner.TheVariants.{Nothing, Structures}
+use Rattle.acpi_text.specs.declared.form.Inner.TheVariants.{Nothing, Lists}
+use Rattle.acpi_text.specs.declared.form.InnerForm.{InnerForm}
+use Rattle.acpi_text.specs.declared.form.InnerList.{InnerList}
 use Rattle.acpi_text.specs.declared.form.Part.{Part}
 use Rattle.acpi_text.specs.declared.form.StructureForm.{StructureForm}
-use Rattle.acpi_text.specs.Form.{number_at}
-use Rattle.acpi_text.specs.Names.{Named, Wanted, sized, until, unnamed, part_fields, field_and, fields_of, parts_fields, structure_and, structures_up_to}
-use Rattle.acpi_text.specs.Names.{fields_and_structures, content_fields, structure_fields, Stands, AllStand, FieldsStand}
-use Rattle.acpi_text.specs.Size.{front_size}
+use Rattle.acpi_text.specs.Form.{number_at, count_of}
+use Rattle.acpi_text.specs.Names.{Named, Wanted, sized, until, unnamed, part_fields, field_and, fields_of, parts_fields, no_fields}
+use Rattle.acpi_text.specs.Names.{fields_by_form, inner_fields, lists_fields, content_fields, structure_fields, Stands, AllStand, FieldsStand}
+use Rattle.acpi_text.specs.Piece.{SizeOf, OfBytes, piece_and, pieces_then, front_then}
+use Rattle.acpi_text.specs.Size.{front_size, start_in, inner_form, inner_size}
 use Rattle.acpi_text.specs.Structure.{all_forms, find_form, form_parts, form_inner}
 use Rattle.acpi_text.specs.Table.{start_of}
-use Rattle.acpi_text.proofs.Pieces.{front_within}
+use Rattle.acpi_text.proofs.Pieces.{AreWithin, front_within, inner_within}
 
 module _ (table : List ℕ) where
   -- these bytes stand in the table at an offset
@@ -73,45 +75,58 @@ module _ (table : List ℕ) where
       (fields_stand wanted at bytes here)
       (field_stands (λ k rest. fields_of k wanted rest) (fields_stand wanted) at name (end - at) bytes here)
 
-  parts_stand : (list : List Part) → Finds (λ at piece. parts_fields at piece list)
+  parts_stand : (list : List Part) → Finds (λ at piece. parts_fields list at piece)
   parts_stand list at piece here = fields_stand (flat_map (part_fields at piece) list) at piece here
 
-  module _ (sizes : Sizes) (fields : ℕ → List ℕ → List Named) (each : Finds fields) where
-    front_stands : (front : Option ℕ) (n at : ℕ) (bytes : List ℕ) → front_size sizes bytes ≡ front → At at bytes
-        → Finds (λ k rest. structures_up_to n sizes fields k rest)
-        → AllStand table (structure_and front fields (λ k rest. structures_up_to n sizes fields k rest) at bytes)
-    front_stands None n at bytes is here others = tt
-    front_stands (Some size) n at bytes is here others =
-        all_append (fields at (take size bytes)) (structures_up_to n sizes fields (at + size) (drop size bytes))
-        (each at (take size bytes) (at_front at size bytes here))
-        (others (at + size) (drop size bytes) (at_rest at size bytes here (front_within sizes size bytes is).fits))
+  module _ (size : SizeOf) (within : AreWithin size) (fields others : OfBytes Named) (each : Finds fields) (left : Finds others) where
+    front_stands : (front : Option ℕ) (n at : ℕ) (bytes : List ℕ) → size bytes ≡ front → At at bytes
+        → Finds (λ k rest. pieces_then n size fields no_fields others k rest)
+        → AllStand table (piece_and front fields (λ k rest. pieces_then n size fields no_fields others k rest) no_fields at bytes)
+    front_stands None n at bytes is here more = tt
+    front_stands (Some k) n at bytes is here more =
+        all_append (fields at (take k bytes)) (pieces_then n size fields no_fields others (at + k) (drop k bytes))
+        (each at (take k bytes) (at_front at k bytes here))
+        (more (at + k) (drop k bytes) (at_rest at k bytes here (within k bytes is).fits))
 
-    structures_stand : (n : ℕ) → Finds (λ at bytes. structures_up_to n sizes fields at bytes)
-    structures_stand zero at bytes here = tt
-    structures_stand (suc n) at bytes here = front_stands (front_size sizes bytes) n at bytes refl here (structures_stand n)
+    structures_stand : (n : ℕ) → Finds (λ at bytes. pieces_then n size fields no_fields others at bytes)
+    structures_stand zero at bytes here = left at bytes here
+    structures_stand (suc n) at bytes here = front_stands (size bytes) n at bytes refl here (structures_stand n)
 
-    -- the bytes before an index are all bytes, or as many as the index says
-    rest_stands : (start at : ℕ) (bytes : List ℕ) → At at bytes → At (at + length (take start bytes)) (drop start bytes)
-    rest_stands start at bytes (rest, is) = (
-      rest,
-      sym (drop-drop (length (take start bytes)) at table) ∙ ap (drop (length (take start bytes))) is
-          ∙ ap (λ (l : List ℕ). drop (length (take start bytes)) (l ++ rest)) (sym (take-append-drop start bytes))
-          ∙ ap (drop (length (take start bytes))) (append_assoc (take start bytes) (drop start bytes) rest)
-          ∙ drop-append_seam (take start bytes) (drop start bytes ++ rest),
-    )
+  -- the bytes before an index are all bytes, or as many as the index says
+  rest_stands : (start at : ℕ) (bytes : List ℕ) → At at bytes → At (at + length (take start bytes)) (drop start bytes)
+  rest_stands start at bytes (rest, is) = (
+    rest,
+    sym (drop-drop (length (take start bytes)) at table) ∙ ap (drop (length (take start bytes))) is
+        ∙ ap (λ (l : List ℕ). drop (length (take start bytes)) (l ++ rest)) (sym (take-append-drop start bytes))
+        ∙ ap (drop (length (take start bytes))) (append_assoc (take start bytes) (drop start bytes) rest)
+        ∙ drop-append_seam (take start bytes) (drop start bytes ++ rest),
+  )
 
-    all_stand : (list : List Part) (start : ℕ) → Finds (λ at bytes. fields_and_structures list start sizes fields at bytes)
-    all_stand list start at bytes here =
-        let front = take start bytes in
-        let rest = drop start bytes in
-        all_append (parts_fields at front list) (structures_up_to (length rest) sizes fields (at + length front) rest)
-        (parts_stand list at front (at_front at start bytes here))
-        (structures_stand (length rest) (at + length front) rest (rest_stands start at bytes here))
+  fields_then_stand : (list : List Part) (start : ℕ) (others : OfBytes Named) → Finds others → Finds (λ at bytes. front_then (parts_fields list) start others at bytes)
+  fields_then_stand list start others find at bytes here =
+      let front = take start bytes in
+      let rest = drop start bytes in
+      all_append (parts_fields list at front) (others (at + length front) rest)
+      (parts_stand list at front (at_front at start bytes here))
+      (find (at + length front) rest (rest_stands start at bytes here))
+
+  none_stand : Finds no_fields
+  none_stand at bytes here = tt
+
+  inner_stands : (form : Option InnerForm) → Finds (fields_by_form form)
+  inner_stands (Some form) at piece here = parts_stand form.parts.now at piece here
+  inner_stands None at piece here = tt
+
+  lists_stand : (whole : List ℕ) (lists : List InnerList) → Finds (λ k rest. lists_fields whole lists k rest)
+  lists_stand whole [] at bytes here = tt
+  lists_stand whole (list ∷ lists) at bytes here =
+      structures_stand (inner_size list) (inner_within list) (inner_fields list) (λ k rest. lists_fields whole lists k rest)
+      (λ k piece stands. inner_stands (inner_form list piece) k piece stands) (lists_stand whole lists) (count_of list.count whole) at bytes here
 
   content_stands : (list : List Part) (inner : Inner) → Finds (λ at piece. content_fields list inner at piece)
   content_stands list Nothing at piece here = parts_stand list at piece here
-  content_stands list (Structures start name sizes inner) at piece here =
-      all_stand sizes (λ k one. parts_fields k one inner.now) (parts_stand inner.now) list start at piece here
+  content_stands list (Lists start lists) at piece here =
+      fields_then_stand list (start_in start piece) (λ k rest. lists_fields piece lists.now k rest) (lists_stand piece lists.now) at piece here
 
   structure_stands : (kind : Place) (forms : List StructureForm) → Finds (λ at piece. structure_fields kind forms at piece)
   structure_stands kind forms at piece here =
@@ -119,7 +134,10 @@ module _ (table : List ℕ) where
       content_stands (form_parts form) (form_inner form) at piece here
 
 pub tables_stand : FieldsStand
-tables_stand form None bytes = parts_stand bytes form.parts.now 0 bytes ([], sym (append-nil bytes))
+tables_stand form None bytes = content_stands bytes form.parts.now form.inner.now 0 bytes ([], sym (append-nil bytes))
 tables_stand form (Some walk) bytes =
-    all_stand bytes walk.sizes (λ at piece. structure_fields walk.kind (all_forms form) at piece) (structure_stands bytes walk.kind (all_forms form))
-    form.parts.now (start_of walk bytes) 0 bytes ([], sym (append-nil bytes))
+    let fields : OfBytes Named = structure_fields walk.kind (all_forms form) in
+    fields_then_stand bytes form.parts.now (start_of walk bytes) (λ k rest. pieces_then (length rest) (front_size walk.sizes) fields no_fields no_fields k rest)
+    (λ k rest here. structures_stand bytes (front_size walk.sizes) (front_within walk.sizes) fields no_fields
+    (structure_stands bytes walk.kind (all_forms form)) (none_stand bytes) (length rest) k rest here)
+    0 bytes ([], sym (append-nil bytes))

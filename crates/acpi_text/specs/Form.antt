@@ -9,7 +9,7 @@ use Rattle.acpi_base.specs.declared.row.Row.{Row}
 use Rattle.acpi_text.specs.Slot.{Slot, heading, field, upto, unknown, row_slots}
 use Rattle.acpi_text.specs.declared.form.Choice.{Choice}
 use Rattle.acpi_text.specs.declared.form.Count.{Count}
-use Rattle.acpi_text.specs.declared.form.Count.TheVariants.{Field, Rest}
+use Rattle.acpi_text.specs.declared.form.Count.TheVariants.{Field, Rest, Once}
 use Rattle.acpi_text.specs.declared.form.Part.{Part}
 use Rattle.acpi_text.specs.declared.form.Part.TheVariants.{Fields, Between, Group, Entries, Numbers, Matrix, Bytes, Until, Chosen}
 
@@ -21,6 +21,7 @@ number_at place whole = if nat_le (end_of place) (length whole) then number_in p
 abbrev pub count_of : Count → List ℕ → ℕ
 count_of (Field place) whole = number_at place whole
 count_of Rest whole = length whole
+count_of Once whole = 1
 
 abbrev pub repeated : ℕ → List Slot → List Slot
 repeated zero slots = []

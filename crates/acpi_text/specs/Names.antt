@@ -8,19 +8,21 @@ use Rattle.acpi_base.specs.Fields.{row_name, row_width}
 use Rattle.acpi_base.specs.declared.row.Row.{Row}
 use Rattle.acpi_base.specs.declared.row.Row.TheVariants as rows
 use Rattle.acpi_base.specs.declared.walk.Place.{Place}
-use Rattle.acpi_base.specs.declared.walk.Sizes.{Sizes}
 use Rattle.acpi_base.specs.declared.walk.Walk.{Walk}
 use Rattle.acpi_text.specs.Form.{number_at, count_of, find_choice}
 use Rattle.acpi_text.specs.Label.{label}
 use Rattle.acpi_text.specs.Line.{line}
 use Rattle.acpi_base.specs.Look.{Look}
 use Rattle.acpi_text.specs.Reading.{in_number, read, bytes_of}
-use Rattle.acpi_text.specs.Size.{front_size}
+use Rattle.acpi_text.specs.Piece.{OfBytes, pieces_then, front_then}
+use Rattle.acpi_text.specs.Size.{front_size, start_in, inner_form, inner_size}
 use Rattle.acpi_text.specs.Structure.{all_forms, find_form, form_parts, form_inner}
 use Rattle.acpi_text.specs.Table.{start_of, table_text}
 use Rattle.acpi_text.specs.declared.form.Choice.{Choice}
 use Rattle.acpi_text.specs.declared.form.Inner.{Inner}
-use Rattle.acpi_text.specs.declared.form.Inner.TheVariants.{Nothing, Structures}
+use Rattle.acpi_text.specs.declared.form.Inner.TheVariants.{Nothing, Lists}
+use Rattle.acpi_text.specs.declared.form.InnerList.{InnerList}
+use Rattle.acpi_text.specs.declared.form.InnerForm.{InnerForm}
 use Rattle.acpi_text.specs.declared.form.Part.{Part}
 use Rattle.acpi_text.specs.declared.form.Part.TheVariants as parts
 use Rattle.acpi_text.specs.declared.form.Part.TheVariants.{Fields, Between, Group, Entries, Numbers, Matrix, Until, Chosen}
@@ -127,32 +129,33 @@ fields_of at (until name end ∷ wanted) bytes =
 fields_of at (unnamed ∷ wanted) bytes = []
 
 -- the fields of a structure by its parts
-abbrev pub parts_fields : ℕ → List ℕ → List Part → List Named
-parts_fields at piece parts = fields_of at (flat_map (part_fields at piece) parts) piece
+abbrev pub parts_fields : List Part → OfBytes Named
+parts_fields parts at piece = fields_of at (flat_map (part_fields at piece) parts) piece
 
--- the fields of one structure of this size, and of those after it
-abbrev pub structure_and : Option ℕ → (ℕ → List ℕ → List Named) → (ℕ → List ℕ → List Named) → ℕ → List ℕ → List Named
-structure_and (Some size) one after at bytes = one at (take size bytes) ++ after (at + size) (drop size bytes)
-structure_and None one after at bytes = []
+-- no fields
+abbrev pub no_fields : OfBytes Named
+no_fields at bytes = []
 
--- the fields of n structures at most
-abbrev pub structures_up_to : ℕ → Sizes → (ℕ → List ℕ → List Named) → ℕ → List ℕ → List Named
-structures_up_to zero sizes one at bytes = []
-structures_up_to (suc n) sizes one at bytes =
-    structure_and (front_size sizes bytes) one (λ k rest. structures_up_to n sizes one k rest) at bytes
+-- the fields of a structure within another, by its form
+abbrev pub fields_by_form : Option InnerForm → OfBytes Named
+fields_by_form (Some form) at piece = parts_fields form.parts.now at piece
+fields_by_form None at piece = []
 
--- the fields of parts before an index, and of the structures from there on
-abbrev pub fields_and_structures : List Part → ℕ → Sizes → (ℕ → List ℕ → List Named) → ℕ → List ℕ → List Named
-fields_and_structures parts start sizes one at bytes =
-    let front = take start bytes in
-    let rest = drop start bytes in
-    parts_fields at front parts ++ structures_up_to (length rest) sizes one (at + length front) rest
+abbrev pub inner_fields : InnerList → OfBytes Named
+inner_fields list at piece = fields_by_form (inner_form list piece) at piece
+
+-- those of lists of structures within a whole
+abbrev pub lists_fields : List ℕ → List InnerList → OfBytes Named
+lists_fields whole [] at bytes = []
+lists_fields whole (list ∷ lists) at bytes =
+    pieces_then (count_of list.count whole) (inner_size list) (inner_fields list) no_fields
+    (λ k rest. lists_fields whole lists k rest) at bytes
 
 -- the fields of a structure by its parts, and of the structures within it
-abbrev pub content_fields : List Part → Inner → ℕ → List ℕ → List Named
-content_fields parts Nothing at piece = parts_fields at piece parts
-content_fields parts (Structures start name sizes inner) at piece =
-    fields_and_structures parts start sizes (λ k one. parts_fields k one inner.now) at piece
+abbrev pub content_fields : List Part → Inner → OfBytes Named
+content_fields parts Nothing at piece = parts_fields parts at piece
+content_fields parts (Lists start lists) at piece =
+    front_then (parts_fields parts) (start_in start piece) (λ k rest. lists_fields piece lists.now k rest) at piece
 
 -- the fields of a structure by the form that has its type
 abbrev pub structure_fields : Place → List StructureForm → ℕ → List ℕ → List Named
@@ -162,9 +165,11 @@ structure_fields kind forms at piece =
 
 -- the fields of a table
 abbrev pub table_fields : TableForm → Option Walk → List ℕ → List Named
-table_fields form None bytes = parts_fields 0 bytes form.parts.now
+table_fields form None bytes = content_fields form.parts.now form.inner.now 0 bytes
 table_fields form (Some walk) bytes =
-    fields_and_structures form.parts.now (start_of walk bytes) walk.sizes (structure_fields walk.kind (all_forms form)) 0 bytes
+    front_then (parts_fields form.parts.now) (start_of walk bytes)
+    (λ k rest. pieces_then (length rest) (front_size walk.sizes) (structure_fields walk.kind (all_forms form))
+    no_fields no_fields k rest) 0 bytes
 
 -- ---- where fields stand
 

@@ -3,13 +3,16 @@ use Rattle.std.specs.Prelude.{ℕ, ◌==◌, if◌then◌else◌, List, [], ◌�
 use Rattle.std.specs.Fmt.{decimal}
 use Rattle.acpi_base.specs.Walk.{place_width}
 use Rattle.acpi_base.specs.declared.walk.Place.{Place}
-use Rattle.acpi_text.specs.Form.{number_at, parts_slots}
+use Rattle.acpi_text.specs.Form.{number_at, count_of, parts_slots}
 use Rattle.acpi_text.specs.Label.{label}
 use Rattle.acpi_text.specs.Line.{title}
-use Rattle.acpi_text.specs.Piece.{parts_and_pieces}
-use Rattle.acpi_text.specs.Slot.{slots_text}
+use Rattle.acpi_text.specs.Piece.{pieces_then, front_then, parts_text}
+use Rattle.acpi_text.specs.Size.{start_in, inner_form, inner_size}
+use Rattle.acpi_text.specs.Slot.{nameless, slots_text}
 use Rattle.acpi_text.specs.declared.form.Inner.{Inner}
-use Rattle.acpi_text.specs.declared.form.Inner.TheVariants.{Nothing, Structures}
+use Rattle.acpi_text.specs.declared.form.Inner.TheVariants.{Nothing, Lists}
+use Rattle.acpi_text.specs.declared.form.InnerList.{InnerList}
+use Rattle.acpi_text.specs.declared.form.InnerForm.{InnerForm}
 use Rattle.acpi_text.specs.declared.form.Part.{Part}
 use Rattle.acpi_text.specs.declared.form.StructureForm.{StructureForm}
 use Rattle.acpi_text.specs.declared.form.TableForm.{TableForm}
@@ -38,15 +41,26 @@ form_inner None = Nothing
 
 -- ---- what stands within it
 
--- a structure within another: its name, and its parts a level below
-abbrev pub inner_text : List ℕ → List Part → ℕ → List ℕ → List ℕ
-inner_text name parts at piece = title 0 at name ++ slots_text at (parts_slots 1 at piece parts) piece
+-- a structure within another by its form: its name, and its parts a level below
+abbrev pub inner_by_form : Option InnerForm → ℕ → List ℕ → List ℕ
+inner_by_form (Some form) at piece = title 0 at form.name.now ++ slots_text at (parts_slots 1 at piece form.parts.now) piece
+inner_by_form None at piece = nameless at piece
+
+abbrev pub inner_text : InnerList → ℕ → List ℕ → List ℕ
+inner_text list at piece = inner_by_form (inner_form list piece) at piece
+
+-- Lists of structures within a whole, one after another. Where one has fewer structures than it says, the rest has no names.
+abbrev pub lists_text : List ℕ → List InnerList → ℕ → List ℕ → List ℕ
+lists_text whole [] at bytes = nameless at bytes
+lists_text whole (list ∷ lists) at bytes =
+    pieces_then (count_of list.count whole) (inner_size list) (inner_text list) nameless
+    (λ k rest. lists_text whole lists k rest) at bytes
 
 -- the parts of a structure, and the structures within it
 abbrev pub content_text : List Part → Inner → ℕ → List ℕ → List ℕ
-content_text parts Nothing at piece = slots_text at (parts_slots 0 at piece parts) piece
-content_text parts (Structures start name sizes inner) at piece =
-    parts_and_pieces parts start sizes (inner_text name.now inner.now) at piece
+content_text parts Nothing at piece = parts_text parts at piece
+content_text parts (Lists start lists) at piece =
+    front_then (parts_text parts) (start_in start piece) (λ k rest. lists_text piece lists.now k rest) at piece
 
 -- ---- the whole structure
 

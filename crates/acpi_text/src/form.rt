@@ -10,6 +10,8 @@ pub enum Count {
     Field(Place),
     /// As many as there are bytes for.
     Rest,
+    /// One.
+    Once,
 }
 
 /// Fields that a structure has if another field has this number, and a name over them.
@@ -44,13 +46,51 @@ pub enum Part {
     Chosen(Place, &'static [Choice]),
 }
 
+/// Where the structures within another begin, counted from its beginning.
+#[derive(Clone, Copy, Debug)]
+pub enum Start {
+    /// At this offset.
+    At(usize),
+    /// At the sum of this offset and the number in a field of the outer structure.
+    After(usize, Place),
+}
+
+/// How long a structure within another is.
+#[derive(Clone, Copy, Debug)]
+pub enum InnerSize {
+    /// As long as the structures of a walk.
+    Walked(Sizes),
+    /// This many bytes, and entries: the field that contains their number, and the length of one.
+    Counted(usize, Place, usize),
+    /// All bytes that are left.
+    Rest,
+}
+
+/// A kind of structure within another: the number in its type field, the name over it, how long it is, and its parts.
+/// Structures without a type have the number 0.
+#[derive(Clone, Copy, Debug)]
+pub struct InnerForm {
+    pub number: usize,
+    pub name: &'static str,
+    pub size: InnerSize,
+    pub parts: &'static [Part],
+}
+
+/// Structures within another, one after another: how many there are (a field is one of the outer structure), the field that
+/// contains the type of each, and their kinds. The list ends before a structure of another kind.
+#[derive(Clone, Copy, Debug)]
+pub struct InnerList {
+    pub count: Count,
+    pub kind: Place,
+    pub forms: &'static [InnerForm],
+}
+
 /// What a structure contains after its parts.
 #[derive(Clone, Copy, Debug)]
 pub enum Inner {
     Nothing,
-    /// Structures, one after another: the offset of the first from the beginning of the outer structure, the name over each,
-    /// how long each is, and its parts.
-    Structures(usize, &'static str, Sizes, &'static [Part]),
+    /// Lists of structures, one after another, and where the first list begins.
+    Lists(Start, &'static [InnerList]),
 }
 
 /// A kind of structure: the number in its type field, its name in the standard, its parts, and what stands after them.
@@ -64,7 +104,8 @@ pub struct StructureForm {
 }
 
 /// A kind of table: its name in the standard, its parts before any structures, and the kinds of these. The kinds are two lists,
-/// one after the other, since a list that is long is too much for one proof.
+/// one after the other, since a list that is long is too much for one proof. A table without a walk has what its `inner` says
+/// after its parts.
 #[derive(Clone, Copy, Debug)]
 pub struct TableForm {
     pub name: &'static str,
@@ -72,4 +113,5 @@ pub struct TableForm {
     pub structures: &'static [StructureForm],
     /// The kinds that come after those.
     pub further: &'static [StructureForm],
+    pub inner: &'static Inner,
 }

@@ -33,6 +33,7 @@ pub fn count_of(count: Count, whole: &[u8]) -> usize
     match count {
         Count::Field(place) => number_at(place, whole),
         Count::Rest => whole.len(),
+        Count::Once => 1,
     }
 }
 

@@ -2,6 +2,7 @@
 
 ghost use Rattle.std.specs.Prelude.{◌≡◌, ◌+◌, ◌<◌, ◌^◌, ◌++◌, length, OnOk, string_bytes};
 ghost use Rattle.acpi_text.specs.Piece.{pieces_text};
+ghost use Rattle.acpi_text.specs.Size.{front_size};
 ghost use Rattle.acpi_text.specs.Structure.{all_forms, find_form, form_name, form_parts, form_inner};
 ghost use Rattle.acpi_text.specs.Structure.{kind_text, piece_line, piece_text};
 
@@ -124,7 +125,7 @@ pub fn push_pieces(
 ) -> Result<(), AllocError>
     requires { start + length bytes.now < 2 ^ 64 }
     ensures { OnOk result (string_bytes text.new ≡ string_bytes text.old
-        ++ pieces_text sizes (piece_text kind (all_forms table.now)) start bytes.now) }
+        ++ pieces_text (front_size sizes) (piece_text kind (all_forms table.now)) start bytes.now) }
 {
     let mut at = start;
     let mut rest = bytes;

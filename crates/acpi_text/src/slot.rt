@@ -60,8 +60,8 @@ pub fn push_heading(
     Ok(0)
 }
 
-// Returns the size of `count` numbers of `width` bytes, if there are as many bytes.
-fn size_within(width: usize, count: usize, left: usize) -> Option<usize>
+/// Returns the size of `count` numbers of `width` bytes, if there are as many bytes.
+pub fn size_within(width: usize, count: usize, left: usize) -> Option<usize>
     ensures { MatchOption result (left < width * count) (λ size. (size ≡ width * count) × (size ≤ left)) }
 {
     match width.checked_mul(count) {

@@ -4,7 +4,7 @@ ghost use Rattle.std.specs.Prelude.{◌≡◌, ◌++◌, Some, OnOk, IfOk, strin
 ghost use Rattle.acpi_text.specs.Table.{start_of, body_text, table_text};
 
 use crate::form::TableForm;
-use crate::inner::split_within;
+use crate::inner::{push_content, split_within};
 use crate::part::{number_at, push_parts};
 use crate::piece::push_pieces;
 use crate::space::push_label;
@@ -51,7 +51,7 @@ pub fn show_by(
     text.push_str("\n")?;
     match walk {
         Some(walk) => push_walked(form, walk, bytes, &mut text)?,
-        None => push_parts(0, form.parts, 0, bytes, &mut text)?,
+        None => push_content(form.parts, form.inner, 0, bytes, &mut text)?,
     }
     Ok(text)
 }

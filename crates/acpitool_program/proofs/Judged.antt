@@ -1,6 +1,6 @@
 -- Whether a made table is to be written.
 use Rattle.std.proofs.Common.{◌≡◌, ℕ, Bool, List, Option, subst}
-use Rattle.acpi_make.specs.declared.own.Own.{Own}
+use Rattle.acpi_make.specs.declared.extent.Own.{Own}
 use Rattle.acpitool_program.specs.Making.{IsJudged}
 
 -- what was judged of the same numbers and the same bytes

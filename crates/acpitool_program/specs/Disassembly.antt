@@ -20,7 +20,7 @@ pub record IsNoTable (bytes : List ℕ) (fault : Fault) : Type 0 where
 -- they are a table with another signature
 pub record IsNoBlock (bytes : List ℕ) (fault : Fault) : Type 0 where
   pub none : has_terms bytes ≡ false
-  pub says : Says (Some 0) (codes "not the signature of a definition block, DSDT or SSDT") fault
+  pub says : Says (Some 0) (codes "not the signature of a definition block") fault
 
 -- no terms follow the header, and a fault says why, or memory ran out
 pub record HasNoTerms (stated : List (List ℕ × ℕ)) (bytes : List ℕ) (fault : Fault) : Type 0 where

@@ -7,7 +7,7 @@ use Rattle.acpi_make.specs.Fault.{fault_of, explained}
 use Rattle.acpi_make.specs.declared.fault.Fault as texts
 use Rattle.acpi_make.specs.declared.fault.MakeError.TheVariants as errors
 use Rattle.acpi_make.specs.declared.make.Made.{Made}
-use Rattle.acpi_make.specs.declared.own.Own.{Own}
+use Rattle.acpi_make.specs.declared.extent.Own.{Own}
 use Rattle.acpitool_program.specs.Hint.{meant_in, hint}
 use Rattle.acpitool_program.specs.Listing.{NotRead}
 use Rattle.acpitool_program.specs.Outcome.{fault_line}

@@ -23,7 +23,7 @@ use std::rt::Files;
 // What is wrong with a table that isn't a definition block.
 const NO_BLOCK: Fault = Fault {
     place: Some(0),
-    words: "not the signature of a definition block, DSDT or SSDT",
+    words: "not the signature of a definition block",
 };
 
 // Returns the text of a table with terms.

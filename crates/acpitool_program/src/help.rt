@@ -18,7 +18,7 @@ usage: acpitool show [--no-offsets] FILE .. [NAME=N ..] | show --json FILE .. | 
 const HELP: &str = "
 show prints each table field by field: the offset, the name and the value of each field, and what the value
 means. The text has all bytes of the table. A FILE is a table, an RSDP, a FACS, a dump of tables as text (of
-acpidump), or a folder of such files; - is standard input. The terms of a DSDT or an SSDT follow as comments.
+acpidump), or a folder of such files; - is standard input. The terms of a definition block follow as comments.
 NAME=N states how many arguments calls of NAME have. Calls of other names have as many as the table states for
 the method of this name, or else none. With --no-offsets right after it, show leaves out the offsets at the front of
 lines, so that a text diff of two tables has only what differs. make reads such a text, too.
@@ -38,10 +38,10 @@ in the second table in hexadecimal, the highest first, or none. Fields are compa
 offsets, so a structure that only one table has doesn't shift those after it. A line says if only bytes without a name
 differ, or if the tables have different signatures. A FILE is a table, an RSDP or a FACS; - is standard input.
 
-disassemble prints a DSDT or an SSDT as ASL, the language that compilers take. FILE is its table, or - for
+disassemble prints a definition block as ASL, the language that compilers take. FILE is its table, or - for
 standard input.
 
-names prints the objects that a DSDT or an SSDT makes when it is loaded, as a tree: the name of each, what it is,
+names prints the objects that a definition block makes when it is loaded, as a tree: the name of each, what it is,
 the number of a method's arguments, and a value that has space in the line, such as that of _HID. FILE is its
 table, or - for standard input.
 

@@ -3,4 +3,5 @@
 mod dbg2;
 mod gtdt;
 mod iort;
+mod iort_limits;
 mod read_back;

@@ -173,18 +173,21 @@ fn pci_ranges(rt: HostRuntime) -> Result<(), Fail> {
 
 #[test]
 fn nodes_past_a_byte(rt: HostRuntime) -> Result<(), Fail> {
-    let mut table = table(rt.alloc());
+    past_a_byte(rt.alloc(), &mut table(rt.alloc()))
+}
+
+fn past_a_byte(alloc: Global, table: &mut VIOT) -> Result<(), Fail> {
     for _ in 0..256u16 {
-        let _ = add_iommu(&mut table)?;
+        let _ = add_iommu(table)?;
     }
     stands(
-        rt.alloc(),
-        &table,
+        alloc,
+        table,
         0,
         b"VIOT\x30\x10\0\0\x01\0FOOBARCAFEDEAD\xef\xbe\xad\xdeRVAT\0\0\0\x01\0\x01\x30\0\0\0\0\0\0\0\0\0",
     )?;
     let fixed = b"\0\x01\x30\0\0\0\0\0\0\0\0\0";
-    many(rt.alloc(), &table, b"VIOT", 1, fixed, &MMIO_IOMMU, 256)
+    many(alloc, table, b"VIOT", 1, fixed, &MMIO_IOMMU, 256)
 }
 
 // Fills a table with 4,092 IOMMUs, and fails unless an endpoint has the offset of each.
@@ -240,11 +243,10 @@ fn add_endpoints(table: &mut VIOT) -> R<TranslationHandle> {
 
 fn has_endpoints(alloc: Global, table: &VIOT) -> Result<(), Fail> {
     let endpoint = b"\x02\0\x18\0\0\0\0\0\0\0\0\0\0\0\0\0\x30\0\0\0\0\0\0\0";
-    let mut fixed = [0; 28];
-    fixed[2] = 0x30;
-    fixed[12..28].copy_from_slice(&MMIO_IOMMU);
-    fixed[..2].copy_from_slice(&[0xa8, 0x0a]);
-    many(alloc, table, b"VIOT", 1, &fixed, endpoint, 2727)
+    // the fixed fields, and the IOMMU
+    let fixed = b"\xa8\x0a\x30\0\0\0\0\0\0\0\0\0\
+\x04\0\x10\0\0\0\0\0\0\0\0\0\0\0\0\0";
+    many(alloc, table, b"VIOT", 1, fixed, endpoint, 2727)
 }
 
 // A node of 24 bytes would make such a table 65,536 bytes long, and is refused. One of 16 makes it 65,528 bytes long, and another

@@ -2,12 +2,16 @@
 
 use crate::short::{starve, starve_all};
 use acpi_tables::bert::BERT;
+use acpi_tables::bgrt::BGRT;
 use acpi_tables::facs::FACS;
 use acpi_tables::fadt::FADTBuilder;
 use acpi_tables::gas::{AccessSize, AddressSpace, GAS};
+use acpi_tables::hpet::{EventTimerBlockId, HPET};
 use acpi_tables::rsdp::Rsdp;
 use acpi_tables::spcr::SPCR;
 use acpi_tables::tpm2::{PlatformClass, StartMethod, Tpm2, TpmClient1_2, TpmServer1_2};
+use acpi_tables::waet::WAET;
+use acpi_tables::wsmt::WSMT;
 use std::test::Fail;
 use test_support::{OEM, OEM_REVISION, OEM_TABLE};
 
@@ -21,6 +25,7 @@ fn records(rt: HostRuntime) -> Result<(), Fail> {
         AccessSize::WordAccess,
         0x0807_0605_0403_0201,
     );
+    let timers = EventTimerBlockId::new(1, 3, 4);
     starve_all(
         alloc,
         &[
@@ -35,6 +40,13 @@ fn records(rt: HostRuntime) -> Result<(), Fail> {
             (90, &SPCR::sbi(OEM, OEM_TABLE, OEM_REVISION)),
             (50, &TpmClient1_2::new(OEM, OEM_TABLE, OEM_REVISION, 1, 2)),
             (100, &TpmServer1_2::new(OEM, OEM_TABLE, OEM_REVISION)),
+            (40, &WAET::new(OEM, OEM_TABLE, OEM_REVISION)),
+            (56, &BGRT::new(OEM, OEM_TABLE, OEM_REVISION, 1, 2, 3)),
+            (40, &WSMT::new(OEM, OEM_TABLE, OEM_REVISION)),
+            (
+                56,
+                &HPET::new(OEM, OEM_TABLE, OEM_REVISION, timers, register),
+            ),
         ],
     )
 }

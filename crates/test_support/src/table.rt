@@ -103,8 +103,8 @@ pub fn mend(table: &mut [u8])
     }
 }
 
-// Lists of bytes, joined.
-fn joined(alloc: Global, parts: &[&[u8]]) -> R<Vec<u8>>
+/// Lists of bytes, joined.
+pub fn joined(alloc: Global, parts: &[&[u8]]) -> R<Vec<u8>>
     ensures { IfOk result (λ bytes. bytes.items ≡ flat_map (λ part. part.now) parts.now) }
 {
     let mut bytes = Vec::new(alloc);

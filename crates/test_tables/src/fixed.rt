@@ -1,6 +1,7 @@
 //! Layouts byte for byte, with checksums that were worked out by hand.
 
 mod fadt;
+mod pc;
 mod serial;
 mod tpm;
 

@@ -1,5 +1,6 @@
 //! The numbers of enums, as their declarations have them.
 
+use acpi_tables::bgrt::Orientation;
 use acpi_tables::cedt::{
     CxlVersion, InterleaveArithmetic, InterleaveGranularity, InterleaveWays, ProtocolType,
     WindowRestrictions,
@@ -7,6 +8,7 @@ use acpi_tables::cedt::{
 use acpi_tables::fadt::{Flags, PmProfile};
 use acpi_tables::gas::{AccessSize, AddressSpace};
 use acpi_tables::hest::{EnabledStatus, ErrorSeverity, FirmwareFirst, NotificationType};
+use acpi_tables::hpet::PageProtection;
 use acpi_tables::madt::{self, GicVersion, HartStatus, Polarity, TriggerMode};
 use acpi_tables::rqsc::{ControllerType, ResourceType};
 use acpi_tables::spcr::{BaudRate, FlowControl, InterfaceType, InterruptController, TerminalType};
@@ -60,6 +62,13 @@ fn fixed() -> Result<(), Fail> {
         (StartMethod::CrbAndAcpiStart as u32, 8),
         (StartMethod::CrbAndSmcHvc as u32, 11),
         (StartMethod::I2cFifo as u32, 12),
+        (PageProtection::NoGuarantee as u32, 0),
+        (PageProtection::Page4Kb as u32, 1),
+        (PageProtection::Page64Kb as u32, 2),
+        (Orientation::Upright as u32, 0),
+        (Orientation::Degrees90 as u32, 2),
+        (Orientation::Degrees180 as u32, 4),
+        (Orientation::Degrees270 as u32, 6),
     ] {
         equal(&number, &wanted)?;
     }

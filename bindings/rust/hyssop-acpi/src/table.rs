@@ -40,7 +40,7 @@ pub fn check_aml(bytes: &[u8], arities: &str) -> Result<(), Error> {
     Error::of(number, place)
 }
 
-/// Returns the ASL of a DSDT or SSDT (ACPI 6.5, 19). `arities` is that of `check_aml`; a name that isn't there has the number of
+/// Returns the ASL of a definition block (ACPI 6.5, 19). `arities` is that of `check_aml`; a name that isn't there has the number of
 /// arguments that the block itself states. The place of an error is an offset.
 pub fn disassemble(bytes: &[u8], arities: &str) -> Result<String, Error> {
     let text = filled(|out, room, size, place| unsafe {
@@ -58,7 +58,7 @@ pub fn disassemble(bytes: &[u8], arities: &str) -> Result<String, Error> {
     Ok(crate::text::text_of(text))
 }
 
-/// Returns the objects that a DSDT or SSDT makes when it is loaded (ACPI 6.5, 5.3), as a tree of names. All else is as for
+/// Returns the objects that a definition block makes when it is loaded (ACPI 6.5, 5.3), as a tree of names. All else is as for
 /// `disassemble`.
 pub fn names(bytes: &[u8], arities: &str) -> Result<String, Error> {
     let text = filled(|out, room, size, place| unsafe {

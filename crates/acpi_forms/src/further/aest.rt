@@ -69,4 +69,5 @@ pub const AEST: TableForm = TableForm {
     parts: &[Part::Fields(&HEADER)],
     structures: &NODES,
     further: &[],
+    inner: &Inner::Nothing,
 };

@@ -2,7 +2,7 @@
 
 use acpi_base::header::HEADER;
 use acpi_base::row::{Bits, Row, Word};
-use acpi_text::form::{Part, TableForm};
+use acpi_text::form::{Inner, Part, TableForm};
 
 const SIGNALING_MODES: [Word; 2] = [Word(0x0, "SDEI"), Word(0x1, "Interrupt")];
 
@@ -21,4 +21,5 @@ pub const AGDI: TableForm = TableForm {
     parts: &[Part::Fields(&HEADER), Part::Fields(&AGDI_ROWS)],
     structures: &[],
     further: &[],
+    inner: &Inner::Nothing,
 };

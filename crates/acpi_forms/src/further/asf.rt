@@ -176,4 +176,5 @@ pub const ASF: TableForm = TableForm {
     parts: &[Part::Fields(&HEADER)],
     structures: &RECORDS,
     further: &[],
+    inner: &Inner::Nothing,
 };

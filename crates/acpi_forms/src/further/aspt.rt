@@ -59,4 +59,5 @@ pub const ASPT: TableForm = TableForm {
         },
     ],
     further: &[],
+    inner: &Inner::Nothing,
 };

@@ -2,7 +2,7 @@
 
 use acpi_base::header::HEADER;
 use acpi_base::row::Row;
-use acpi_text::form::{Part, TableForm};
+use acpi_text::form::{Inner, Part, TableForm};
 
 const BDAT_ROWS: [Row; 1] = [Row::Register("BDAT Generic Address")];
 
@@ -12,4 +12,5 @@ pub const BDAT: TableForm = TableForm {
     parts: &[Part::Fields(&HEADER), Part::Fields(&BDAT_ROWS)],
     structures: &[],
     further: &[],
+    inner: &Inner::Nothing,
 };

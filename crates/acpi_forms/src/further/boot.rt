@@ -2,7 +2,7 @@
 
 use acpi_base::header::HEADER;
 use acpi_base::row::Row;
-use acpi_text::form::{Part, TableForm};
+use acpi_text::form::{Inner, Part, TableForm};
 
 const BOOT_ROWS: [Row; 2] = [Row::Number("CMOS Index", 1), Row::Reserved(3)];
 
@@ -12,4 +12,5 @@ pub const BOOT: TableForm = TableForm {
     parts: &[Part::Fields(&HEADER), Part::Fields(&BOOT_ROWS)],
     structures: &[],
     further: &[],
+    inner: &Inner::Nothing,
 };

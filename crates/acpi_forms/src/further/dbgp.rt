@@ -2,7 +2,7 @@
 
 use acpi_base::header::HEADER;
 use acpi_base::row::{Row, Word};
-use acpi_text::form::{Part, TableForm};
+use acpi_text::form::{Inner, Part, TableForm};
 
 const INTERFACES: [Word; 2] = [Word(0, "Full 16550"), Word(1, "16550 Subset")];
 
@@ -18,4 +18,5 @@ pub const DBGP: TableForm = TableForm {
     parts: &[Part::Fields(&HEADER), Part::Fields(&DBGP_ROWS)],
     structures: &[],
     further: &[],
+    inner: &Inner::Nothing,
 };

@@ -3,7 +3,9 @@
 use acpi_base::header::HEADER;
 use acpi_base::row::{Bits, Row, Word};
 use acpi_base::walk::{Place, Sizes};
-use acpi_text::form::{Count, Inner, Part, StructureForm, TableForm};
+use acpi_text::form::{
+    Count, Inner, InnerForm, InnerList, InnerSize, Part, Start, StructureForm, TableForm,
+};
 
 const DMAR_FLAGS: [Bits; 3] = [
     Bits::Flag(0x1, "INTR_REMAP"),
@@ -52,11 +54,18 @@ const SCOPE_PARTS: [Part; 2] = [
     Part::Entries("Path", Count::Rest, &SCOPE_PATH),
 ];
 
-const SCOPES_AT_16: Inner = Inner::Structures(
-    16,
-    "Device Scope Structure",
-    Sizes::ToldAt(Place::Byte(1)),
-    &SCOPE_PARTS,
+const SCOPES_AT_16: Inner = Inner::Lists(
+    Start::At(16),
+    &[InnerList {
+        count: Count::Rest,
+        kind: Place::Nowhere,
+        forms: &[InnerForm {
+            number: 0,
+            name: "Device Scope Structure",
+            size: InnerSize::Walked(Sizes::ToldAt(Place::Byte(1))),
+            parts: &SCOPE_PARTS,
+        }],
+    }],
 );
 
 const RMRR: [Row; 6] = [
@@ -68,11 +77,18 @@ const RMRR: [Row; 6] = [
     Row::Hex("Reserved Memory Region Limit Address", 8),
 ];
 
-const SCOPES_AT_24: Inner = Inner::Structures(
-    24,
-    "Device Scope Structure",
-    Sizes::ToldAt(Place::Byte(1)),
-    &SCOPE_PARTS,
+const SCOPES_AT_24: Inner = Inner::Lists(
+    Start::At(24),
+    &[InnerList {
+        count: Count::Rest,
+        kind: Place::Nowhere,
+        forms: &[InnerForm {
+            number: 0,
+            name: "Device Scope Structure",
+            size: InnerSize::Walked(Sizes::ToldAt(Place::Byte(1))),
+            parts: &SCOPE_PARTS,
+        }],
+    }],
 );
 
 const ATSR_FLAGS: [Bits; 1] = [Bits::Flag(0x1, "ALL_PORTS")];
@@ -85,11 +101,18 @@ const ATSR: [Row; 5] = [
     Row::Hex("Segment Number", 2),
 ];
 
-const SCOPES_AT_8: Inner = Inner::Structures(
-    8,
-    "Device Scope Structure",
-    Sizes::ToldAt(Place::Byte(1)),
-    &SCOPE_PARTS,
+const SCOPES_AT_8: Inner = Inner::Lists(
+    Start::At(8),
+    &[InnerList {
+        count: Count::Rest,
+        kind: Place::Nowhere,
+        forms: &[InnerForm {
+            number: 0,
+            name: "Device Scope Structure",
+            size: InnerSize::Walked(Sizes::ToldAt(Place::Byte(1))),
+            parts: &SCOPE_PARTS,
+        }],
+    }],
 );
 
 const RHSA: [Row; 5] = [
@@ -179,4 +202,5 @@ pub const DMAR: TableForm = TableForm {
     parts: &[Part::Fields(&HEADER), Part::Fields(&DMAR_FIXED)],
     structures: &REMAPPING_STRUCTURES,
     further: &[],
+    inner: &Inner::Nothing,
 };

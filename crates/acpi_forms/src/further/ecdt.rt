@@ -3,7 +3,7 @@
 use acpi_base::header::HEADER;
 use acpi_base::row::Row;
 use acpi_base::walk::Place;
-use acpi_text::form::{Part, TableForm};
+use acpi_text::form::{Inner, Part, TableForm};
 
 const ECDT_ROWS: [Row; 4] = [
     Row::Register("EC_CONTROL"),
@@ -22,4 +22,5 @@ pub const ECDT: TableForm = TableForm {
     ],
     structures: &[],
     further: &[],
+    inner: &Inner::Nothing,
 };

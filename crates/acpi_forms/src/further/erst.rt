@@ -2,7 +2,7 @@
 
 use acpi_base::header::HEADER;
 use acpi_base::row::{Bits, Row, Word};
-use acpi_text::form::{Inner, Part, StructureForm, TableForm};
+use acpi_text::form::{Count, Inner, Part, StructureForm, TableForm};
 
 const ERST_FIXED: [Row; 3] = [
     Row::Number("Serialization Header Size", 4),
@@ -74,4 +74,5 @@ pub const ERST: TableForm = TableForm {
         inner: &Inner::Nothing,
     }],
     further: &[],
+    inner: &Inner::Nothing,
 };

@@ -41,4 +41,5 @@ pub const FPDT: TableForm = TableForm {
     parts: &[Part::Fields(&HEADER)],
     structures: &FPDT_RECORDS,
     further: &[],
+    inner: &Inner::Nothing,
 };

@@ -2,7 +2,7 @@
 
 use acpi_base::header::HEADER;
 use acpi_base::row::{Bits, Row};
-use acpi_text::form::{Part, TableForm};
+use acpi_text::form::{Inner, Part, TableForm};
 
 const IBFT_FIXED: [Row; 1] = [Row::Reserved(12)];
 
@@ -33,4 +33,5 @@ pub const IBFT: TableForm = TableForm {
     ],
     structures: &[],
     further: &[],
+    inner: &Inner::Nothing,
 };

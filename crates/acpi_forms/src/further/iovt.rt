@@ -3,7 +3,9 @@
 use acpi_base::header::HEADER;
 use acpi_base::row::{Bits, Row, Word};
 use acpi_base::walk::{Place, Sizes};
-use acpi_text::form::{Inner, Part, StructureForm, TableForm};
+use acpi_text::form::{
+    Count, Inner, InnerForm, InnerList, InnerSize, Part, Start, StructureForm, TableForm,
+};
 
 const IOVT_FIXED: [Row; 3] = [
     Row::Number("Number of IOMMUs", 2),
@@ -51,11 +53,18 @@ const DEVICE: [Row; 5] = [
     Row::Hex("Device ID", 2),
 ];
 
-const DEVICES: Inner = Inner::Structures(
-    64,
-    "Device Entry",
-    Sizes::ToldAt(Place::Byte(1)),
-    &[Part::Fields(&DEVICE)],
+const DEVICES: Inner = Inner::Lists(
+    Start::At(64),
+    &[InnerList {
+        count: Count::Rest,
+        kind: Place::Nowhere,
+        forms: &[InnerForm {
+            number: 0,
+            name: "Device Entry",
+            size: InnerSize::Walked(Sizes::ToldAt(Place::Byte(1))),
+            parts: &[Part::Fields(&DEVICE)],
+        }],
+    }],
 );
 
 /// The I/O Virtualization Table (LoongArch). The layout is that of ACPICA's template; the names are from memory.
@@ -69,4 +78,5 @@ pub const IOVT: TableForm = TableForm {
         inner: &DEVICES,
     }],
     further: &[],
+    inner: &Inner::Nothing,
 };

@@ -3,7 +3,9 @@
 use acpi_base::header::HEADER;
 use acpi_base::row::{Bits, Row, Word};
 use acpi_base::walk::{Place, Sizes, Types};
-use acpi_text::form::{Choice, Inner, Part, StructureForm, TableForm};
+use acpi_text::form::{
+    Choice, Count, Inner, InnerForm, InnerList, InnerSize, Part, Start, StructureForm, TableForm,
+};
 
 const IV_INFO: [Bits; 5] = [
     Bits::Flag(0x1, "EFRSup"),
@@ -154,18 +156,32 @@ const ENTRY_PARTS: [Part; 2] = [
     Part::Bytes("UID", Place::Byte(21)),
 ];
 
-const ENTRIES_AT_24: Inner = Inner::Structures(
-    24,
-    "Device Entry",
-    Sizes::ByType(Place::Byte(0), Types::DeviceEntries),
-    &ENTRY_PARTS,
+const ENTRIES_AT_24: Inner = Inner::Lists(
+    Start::At(24),
+    &[InnerList {
+        count: Count::Rest,
+        kind: Place::Nowhere,
+        forms: &[InnerForm {
+            number: 0,
+            name: "Device Entry",
+            size: InnerSize::Walked(Sizes::ByType(Place::Byte(0), Types::DeviceEntries)),
+            parts: &ENTRY_PARTS,
+        }],
+    }],
 );
 
-const ENTRIES_AT_40: Inner = Inner::Structures(
-    40,
-    "Device Entry",
-    Sizes::ByType(Place::Byte(0), Types::DeviceEntries),
-    &ENTRY_PARTS,
+const ENTRIES_AT_40: Inner = Inner::Lists(
+    Start::At(40),
+    &[InnerList {
+        count: Count::Rest,
+        kind: Place::Nowhere,
+        forms: &[InnerForm {
+            number: 0,
+            name: "Device Entry",
+            size: InnerSize::Walked(Sizes::ByType(Place::Byte(0), Types::DeviceEntries)),
+            parts: &ENTRY_PARTS,
+        }],
+    }],
 );
 
 const BLOCKS: [StructureForm; 6] = [
@@ -234,4 +250,5 @@ pub const IVRS: TableForm = TableForm {
     parts: &[Part::Fields(&HEADER), Part::Fields(&IVRS_FIXED)],
     structures: &BLOCKS,
     further: &[],
+    inner: &Inner::Nothing,
 };

@@ -33,4 +33,5 @@ pub const LPIT: TableForm = TableForm {
         inner: &Inner::Nothing,
     }],
     further: &[],
+    inner: &Inner::Nothing,
 };

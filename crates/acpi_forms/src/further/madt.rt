@@ -3,7 +3,7 @@
 
 use acpi_base::row::{Bits, Row, Word};
 use acpi_base::walk::Place;
-use acpi_text::form::{Inner, Part, StructureForm};
+use acpi_text::form::{Count, Inner, Part, Start, StructureForm};
 
 // The Multiprocessor Wakeup Structure (ACPI 6.5, 5.2.12.19). What later versions have after the address has no name.
 const WAKEUP: [Row; 5] = [

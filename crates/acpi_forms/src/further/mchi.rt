@@ -2,7 +2,7 @@
 
 use acpi_base::header::HEADER;
 use acpi_base::row::Row;
-use acpi_text::form::{Part, TableForm};
+use acpi_text::form::{Inner, Part, TableForm};
 
 const MCHI_ROWS: [Row; 12] = [
     Row::Hex("Interface Type", 1),
@@ -25,4 +25,5 @@ pub const MCHI: TableForm = TableForm {
     parts: &[Part::Fields(&HEADER), Part::Fields(&MCHI_ROWS)],
     structures: &[],
     further: &[],
+    inner: &Inner::Nothing,
 };

@@ -2,7 +2,10 @@
 
 use acpi_base::header::HEADER;
 use acpi_base::row::{Row, Word};
-use acpi_text::form::{Inner, Part, StructureForm, TableForm};
+use acpi_base::walk::Place;
+use acpi_text::form::{
+    Count, Inner, InnerForm, InnerList, InnerSize, Part, Start, StructureForm, TableForm,
+};
 
 const INTERFACES: [Word; 2] = [Word(0, "MMIO"), Word(10, "PCC")];
 
@@ -27,8 +30,49 @@ const NODE: [Row; 18] = [
     Row::Number("Number of Resource Nodes", 4),
 ];
 
-/// The Memory System Resource Partitioning and Monitoring Table (Arm DEN0065). The resource nodes of a controller have no length
-/// of their own, so they have no names here.
+const LOCATORS: [Word; 7] = [
+    Word(0, "Processor Cache"),
+    Word(1, "Memory"),
+    Word(2, "SMMU"),
+    Word(3, "Memory-side Cache"),
+    Word(4, "ACPI Device"),
+    Word(5, "Interconnect"),
+    Word(255, "Unknown"),
+];
+
+const RESOURCE: [Row; 7] = [
+    Row::Hex("Identifier", 4),
+    Row::Number("RIS Index", 1),
+    Row::Reserved(2),
+    Row::OneOf("Locator Type", 1, &LOCATORS),
+    Row::Hex("Locator Descriptor 1", 8),
+    Row::Hex("Locator Descriptor 2", 4),
+    Row::Number("Number of Functional Dependencies", 4),
+];
+
+const DEPENDENCY: [Row; 2] = [Row::Hex("Producer", 4), Row::Reserved(4)];
+
+// A resource node has 24 bytes, and 8 for each functional dependency.
+const RESOURCES: [InnerList; 1] = [InnerList {
+    count: Count::Field(Place::DWord(68)),
+    kind: Place::Nowhere,
+    forms: &[InnerForm {
+        number: 0,
+        name: "Resource Node",
+        size: InnerSize::Counted(24, Place::DWord(20), 8),
+        parts: &[
+            Part::Fields(&RESOURCE),
+            Part::Entries(
+                "Functional Dependency",
+                Count::Field(Place::DWord(20)),
+                &DEPENDENCY,
+            ),
+        ],
+    }],
+}];
+
+/// The Memory System Resource Partitioning and Monitoring Table (Arm DEN0065). Data of a vendor may follow the resource nodes of
+/// a controller; it has no name.
 pub const MPAM: TableForm = TableForm {
     name: "Memory System Resource Partitioning and Monitoring Table (MPAM)",
     parts: &[Part::Fields(&HEADER)],
@@ -36,7 +80,8 @@ pub const MPAM: TableForm = TableForm {
         number: 0,
         name: "MPAM MSC Node",
         parts: &[Part::Fields(&NODE)],
-        inner: &Inner::Nothing,
+        inner: &Inner::Lists(Start::At(72), &RESOURCES),
     }],
     further: &[],
+    inner: &Inner::Nothing,
 };

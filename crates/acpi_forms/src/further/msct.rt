@@ -31,4 +31,5 @@ pub const MSCT: TableForm = TableForm {
         inner: &Inner::Nothing,
     }],
     further: &[],
+    inner: &Inner::Nothing,
 };

@@ -3,7 +3,7 @@
 use acpi_base::header::HEADER;
 use acpi_base::row::Row;
 use acpi_base::walk::Place;
-use acpi_text::form::{Part, TableForm};
+use acpi_text::form::{Inner, Part, TableForm};
 
 const MSDM_ROWS: [Row; 5] = [
     Row::Number("Version", 4),
@@ -24,4 +24,5 @@ pub const MSDM: TableForm = TableForm {
     ],
     structures: &[],
     further: &[],
+    inner: &Inner::Nothing,
 };

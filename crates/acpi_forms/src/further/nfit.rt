@@ -3,7 +3,7 @@
 use acpi_base::header::HEADER;
 use acpi_base::row::{Bits, Row};
 use acpi_base::walk::Place;
-use acpi_text::form::{Count, Inner, Part, StructureForm, TableForm};
+use acpi_text::form::{Count, Inner, Part, Start, StructureForm, TableForm};
 
 const NFIT_FIXED: [Row; 1] = [Row::Reserved(4)];
 
@@ -208,4 +208,5 @@ pub const NFIT: TableForm = TableForm {
     parts: &[Part::Fields(&HEADER), Part::Fields(&NFIT_FIXED)],
     structures: &NFIT_STRUCTURES,
     further: &[],
+    inner: &Inner::Nothing,
 };

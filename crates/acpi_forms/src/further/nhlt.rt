@@ -2,7 +2,7 @@
 
 use acpi_base::header::HEADER;
 use acpi_base::row::Row;
-use acpi_text::form::{Part, TableForm};
+use acpi_text::form::{Count, Inner, Part, TableForm};
 
 const NHLT_FIXED: [Row; 1] = [Row::Number("Endpoint Count", 1)];
 
@@ -12,4 +12,5 @@ pub const NHLT: TableForm = TableForm {
     parts: &[Part::Fields(&HEADER), Part::Fields(&NHLT_FIXED)],
     structures: &[],
     further: &[],
+    inner: &Inner::Nothing,
 };

@@ -144,4 +144,5 @@ pub const PCCT: TableForm = TableForm {
     parts: &[Part::Fields(&HEADER), Part::Fields(&PCCT_FIXED)],
     structures: &SUBSPACES,
     further: &[],
+    inner: &Inner::Nothing,
 };

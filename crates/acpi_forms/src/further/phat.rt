@@ -68,4 +68,5 @@ pub const PHAT: TableForm = TableForm {
     parts: &[Part::Fields(&HEADER)],
     structures: &RECORDS,
     further: &[],
+    inner: &Inner::Nothing,
 };

@@ -2,7 +2,8 @@
 
 use acpi_base::header::HEADER;
 use acpi_base::row::{Bits, Row, Word};
-use acpi_text::form::{Inner, Part, StructureForm, TableForm};
+use acpi_base::walk::Place;
+use acpi_text::form::{Choice, Inner, Part, StructureForm, TableForm};
 
 const PMTT_FIXED: [Row; 1] = [Row::Number("Number of Memory Devices", 4)];
 
@@ -17,6 +18,42 @@ const DEVICE_FLAGS: [Bits; 3] = [
     Bits::Flag(0x2, "Physical Element"),
     Bits::OneOf(0xc, &MEMORIES),
 ];
+
+const DEVICE_SOCKET: [Row; 3] = [
+    Row::Number("Number of Memory Devices", 4),
+    Row::Number("Socket Identifier", 2),
+    Row::Reserved(2),
+];
+
+const DEVICE_CONTROLLER: [Row; 3] = [
+    Row::Number("Number of Memory Devices", 4),
+    Row::Number("Memory Controller Identifier", 2),
+    Row::Reserved(2),
+];
+
+const DEVICE_DIMM: [Row; 2] = [
+    Row::Number("Number of Memory Devices", 4),
+    Row::Hex("SMBIOS Handle", 4),
+];
+
+// What a device has after its flags, by its length: that of revision 2 of the table has 16 bytes.
+const SOCKET_FIELDS: [Choice; 1] = [Choice {
+    number: 16,
+    name: "Socket Fields",
+    rows: &DEVICE_SOCKET,
+}];
+
+const CONTROLLER_FIELDS: [Choice; 1] = [Choice {
+    number: 16,
+    name: "Memory Controller Fields",
+    rows: &DEVICE_CONTROLLER,
+}];
+
+const DIMM_FIELDS: [Choice; 1] = [Choice {
+    number: 16,
+    name: "DIMM Fields",
+    rows: &DEVICE_DIMM,
+}];
 
 const SOCKET: [Row; 5] = [
     Row::Preset("Type", 1, 0),
@@ -54,19 +91,28 @@ const DEVICES: [StructureForm; 4] = [
     StructureForm {
         number: 0,
         name: "Socket",
-        parts: &[Part::Fields(&SOCKET)],
+        parts: &[
+            Part::Fields(&SOCKET),
+            Part::Chosen(Place::Word(2), &SOCKET_FIELDS),
+        ],
         inner: &Inner::Nothing,
     },
     StructureForm {
         number: 1,
         name: "Memory Controller",
-        parts: &[Part::Fields(&CONTROLLER)],
+        parts: &[
+            Part::Fields(&CONTROLLER),
+            Part::Chosen(Place::Word(2), &CONTROLLER_FIELDS),
+        ],
         inner: &Inner::Nothing,
     },
     StructureForm {
         number: 2,
         name: "DIMM",
-        parts: &[Part::Fields(&DIMM)],
+        parts: &[
+            Part::Fields(&DIMM),
+            Part::Chosen(Place::Word(2), &DIMM_FIELDS),
+        ],
         inner: &Inner::Nothing,
     },
     StructureForm {
@@ -77,11 +123,12 @@ const DEVICES: [StructureForm; 4] = [
     },
 ];
 
-/// The Platform Memory Topology Table (ACPI 6.5, 5.2.22). What a device has after its flags differs between the revisions, and
-/// further devices stand within it, so this has no names here.
+/// The Platform Memory Topology Table (ACPI 6.5, 5.2.22). A device of another length is one of revision 1 of the table, which has
+/// other fields after the flags. These have no names here, and neither has what a vendor's device has there.
 pub const PMTT: TableForm = TableForm {
     name: "Platform Memory Topology Table (PMTT)",
     parts: &[Part::Fields(&HEADER), Part::Fields(&PMTT_FIXED)],
     structures: &DEVICES,
     further: &[],
+    inner: &Inner::Nothing,
 };

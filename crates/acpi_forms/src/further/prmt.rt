@@ -3,7 +3,9 @@
 use acpi_base::header::HEADER;
 use acpi_base::row::Row;
 use acpi_base::walk::{Place, Sizes};
-use acpi_text::form::{Inner, Part, StructureForm, TableForm};
+use acpi_text::form::{
+    Count, Inner, InnerForm, InnerList, InnerSize, Part, Start, StructureForm, TableForm,
+};
 
 const PRMT_FIXED: [Row; 3] = [
     Row::Uuid("PRM Platform GUID"),
@@ -33,11 +35,18 @@ const HANDLER: [Row; 6] = [
 
 const HANDLER_PARTS: [Part; 1] = [Part::Fields(&HANDLER)];
 
-const HANDLERS: Inner = Inner::Structures(
-    38,
-    "PRM Handler Information Structure",
-    Sizes::ToldAt(Place::Word(2)),
-    &HANDLER_PARTS,
+const HANDLERS: Inner = Inner::Lists(
+    Start::At(38),
+    &[InnerList {
+        count: Count::Rest,
+        kind: Place::Nowhere,
+        forms: &[InnerForm {
+            number: 0,
+            name: "PRM Handler Information Structure",
+            size: InnerSize::Walked(Sizes::ToldAt(Place::Word(2))),
+            parts: &HANDLER_PARTS,
+        }],
+    }],
 );
 
 /// The Platform Runtime Mechanism Table (UEFI Forum, Platform Runtime Mechanism Specification 1.0). The handlers of a module
@@ -52,4 +61,5 @@ pub const PRMT: TableForm = TableForm {
         inner: &HANDLERS,
     }],
     further: &[],
+    inner: &Inner::Nothing,
 };

@@ -2,7 +2,7 @@
 
 use acpi_base::header::HEADER;
 use acpi_base::row::Row;
-use acpi_text::form::{Part, TableForm};
+use acpi_text::form::{Inner, Part, TableForm};
 
 const RASF_ROWS: [Row; 1] = [Row::Bytes("RASF Platform Communication Channel Identifier", 12)];
 
@@ -12,4 +12,5 @@ pub const RASF: TableForm = TableForm {
     parts: &[Part::Fields(&HEADER), Part::Fields(&RASF_ROWS)],
     structures: &[],
     further: &[],
+    inner: &Inner::Nothing,
 };

@@ -2,7 +2,7 @@
 
 use acpi_base::header::HEADER;
 use acpi_base::row::{Row, Word};
-use acpi_text::form::{Part, TableForm};
+use acpi_text::form::{Inner, Part, TableForm};
 
 const IMAGE_TYPES: [Word; 1] = [Word(1, "PNG")];
 
@@ -18,4 +18,5 @@ pub const RGRT: TableForm = TableForm {
     parts: &[Part::Fields(&HEADER), Part::Fields(&RGRT_ROWS)],
     structures: &[],
     further: &[],
+    inner: &Inner::Nothing,
 };

@@ -17,4 +17,5 @@ pub const RSDT: TableForm = TableForm {
         inner: &Inner::Nothing,
     }],
     further: &[],
+    inner: &Inner::Nothing,
 };

@@ -2,7 +2,7 @@
 
 use acpi_base::header::HEADER;
 use acpi_base::row::Row;
-use acpi_text::form::{Part, TableForm};
+use acpi_text::form::{Inner, Part, TableForm};
 
 const SBST_ROWS: [Row; 3] = [
     Row::Number("Warning Energy Level", 4),
@@ -16,4 +16,5 @@ pub const SBST: TableForm = TableForm {
     parts: &[Part::Fields(&HEADER), Part::Fields(&SBST_ROWS)],
     structures: &[],
     further: &[],
+    inner: &Inner::Nothing,
 };

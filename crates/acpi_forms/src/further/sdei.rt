@@ -1,7 +1,7 @@
 //! The Software Delegated Exceptions Interface Table.
 
 use acpi_base::header::HEADER;
-use acpi_text::form::{Part, TableForm};
+use acpi_text::form::{Inner, Part, TableForm};
 
 /// The Software Delegated Exceptions Interface Table (Arm DEN0054): a header.
 pub const SDEI: TableForm = TableForm {
@@ -9,4 +9,5 @@ pub const SDEI: TableForm = TableForm {
     parts: &[Part::Fields(&HEADER)],
     structures: &[],
     further: &[],
+    inner: &Inner::Nothing,
 };

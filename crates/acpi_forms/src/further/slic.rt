@@ -51,4 +51,5 @@ pub const SLIC: TableForm = TableForm {
     parts: &[Part::Fields(&HEADER)],
     structures: &LICENSES,
     further: &[],
+    inner: &Inner::Nothing,
 };

@@ -2,7 +2,7 @@
 
 use acpi_base::header::HEADER;
 use acpi_base::row::{Bits, Row, Word};
-use acpi_text::form::{Part, TableForm};
+use acpi_text::form::{Inner, Part, TableForm};
 
 const INTERFACES: [Word; 4] = [
     Word(1, "KCS"),
@@ -43,4 +43,5 @@ pub const SPMI: TableForm = TableForm {
     parts: &[Part::Fields(&HEADER), Part::Fields(&SPMI_ROWS)],
     structures: &[],
     further: &[],
+    inner: &Inner::Nothing,
 };

@@ -3,7 +3,7 @@
 use acpi_base::header::HEADER;
 use acpi_base::row::{Row, Word};
 use acpi_base::walk::Place;
-use acpi_text::form::{Part, TableForm};
+use acpi_text::form::{Inner, Part, TableForm};
 
 // Whether the UART of an SPCR is left to the hypervisor.
 const UART_WORDS: [Word; 2] = [Word(0, "Used"), Word(1, "Ignored")];
@@ -20,4 +20,5 @@ pub const STAO: TableForm = TableForm {
     ],
     structures: &[],
     further: &[],
+    inner: &Inner::Nothing,
 };

@@ -27,4 +27,5 @@ pub const SWFT: TableForm = TableForm {
         inner: &Inner::Nothing,
     }],
     further: &[],
+    inner: &Inner::Nothing,
 };

@@ -2,7 +2,7 @@
 
 use acpi_base::header::HEADER;
 use acpi_base::row::Row;
-use acpi_text::form::{Part, TableForm};
+use acpi_text::form::{Inner, Part, Start, TableForm};
 
 const TDEL_ROWS: [Row; 3] = [
     Row::Reserved(4),
@@ -16,4 +16,5 @@ pub const TDEL: TableForm = TableForm {
     parts: &[Part::Fields(&HEADER), Part::Fields(&TDEL_ROWS)],
     structures: &[],
     further: &[],
+    inner: &Inner::Nothing,
 };

@@ -2,7 +2,7 @@
 
 use acpi_base::header::HEADER;
 use acpi_base::row::Row;
-use acpi_text::form::{Part, TableForm};
+use acpi_text::form::{Inner, Part, TableForm};
 
 // The data begin after these fields.
 const UEFI_ROWS: [Row; 2] = [Row::Uuid("Identifier"), Row::Preset("DataOffset", 2, 54)];
@@ -13,4 +13,5 @@ pub const UEFI: TableForm = TableForm {
     parts: &[Part::Fields(&HEADER), Part::Fields(&UEFI_ROWS)],
     structures: &[],
     further: &[],
+    inner: &Inner::Nothing,
 };

@@ -2,7 +2,7 @@
 
 use acpi_base::header::HEADER;
 use acpi_base::row::Row;
-use acpi_text::form::{Part, TableForm};
+use acpi_text::form::{Count, Inner, Part, TableForm};
 
 const WDDT_ROWS: [Row; 9] = [
     Row::Hex("Specification Version", 2),
@@ -22,4 +22,5 @@ pub const WDDT: TableForm = TableForm {
     parts: &[Part::Fields(&HEADER), Part::Fields(&WDDT_ROWS)],
     structures: &[],
     further: &[],
+    inner: &Inner::Nothing,
 };

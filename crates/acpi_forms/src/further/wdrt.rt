@@ -2,7 +2,7 @@
 
 use acpi_base::header::HEADER;
 use acpi_base::row::Row;
-use acpi_text::form::{Part, TableForm};
+use acpi_text::form::{Count, Inner, Part, TableForm};
 
 const WDRT_ROWS: [Row; 10] = [
     Row::Register("Control Register Address"),
@@ -23,4 +23,5 @@ pub const WDRT: TableForm = TableForm {
     parts: &[Part::Fields(&HEADER), Part::Fields(&WDRT_ROWS)],
     structures: &[],
     further: &[],
+    inner: &Inner::Nothing,
 };

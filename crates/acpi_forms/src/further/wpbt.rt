@@ -3,7 +3,7 @@
 use acpi_base::header::HEADER;
 use acpi_base::row::{Row, Word};
 use acpi_base::walk::Place;
-use acpi_text::form::{Part, TableForm};
+use acpi_text::form::{Inner, Part, TableForm};
 
 const LAYOUTS: [Word; 1] = [Word(1, "Single PE Image")];
 
@@ -27,4 +27,5 @@ pub const WPBT: TableForm = TableForm {
     ],
     structures: &[],
     further: &[],
+    inner: &Inner::Nothing,
 };

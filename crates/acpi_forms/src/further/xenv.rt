@@ -2,7 +2,7 @@
 
 use acpi_base::header::HEADER;
 use acpi_base::row::{Bits, Row, Word};
-use acpi_text::form::{Part, TableForm};
+use acpi_text::form::{Inner, Part, TableForm};
 
 const TRIGGERS: [Word; 2] = [Word(0x0, "Level Triggered"), Word(0x1, "Edge Triggered")];
 
@@ -23,4 +23,5 @@ pub const XENV: TableForm = TableForm {
     parts: &[Part::Fields(&HEADER), Part::Fields(&XENV_ROWS)],
     structures: &[],
     further: &[],
+    inner: &Inner::Nothing,
 };

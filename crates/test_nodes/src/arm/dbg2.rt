@@ -9,11 +9,20 @@ use std::test::Fail;
 use test_support::table::all_stand;
 use test_support::{OEM, OEM_REVISION, OEM_TABLE, equal, refuses, sized, writes};
 
-// The type and the subtype of each port, at offsets 12 and 14.
+// Fails unless a device without lists has these bytes of its port: the first of the type, at offset 12, and those of the
+// subtype, at offset 14.
+fn is_of_port(alloc: Global, device: DebugDevice, [kind, low, high]: [u8; 3]) -> Result<(), Fail> {
+    let wanted = [
+        0, 0x18, 0, 0, 2, 0, 0x16, 0, 0, 0, 0, 0, kind, 0x80, low, high, 0, 0, 0x16, 0, 0x16, 0,
+        b'.', 0,
+    ];
+    writes(alloc, &device, &wanted)
+}
+
 #[test]
 fn ports(rt: HostRuntime) -> Result<(), Fail> {
     let alloc = rt.alloc();
-    for (port, [type_low, subtype_low, subtype_high]) in [
+    for (port, numbers) in [
         (DebugPort::Serial(InterfaceType::Uart16550), [0, 0, 0]),
         (DebugPort::Serial(InterfaceType::ArmPl011), [0, 3, 0]),
         (DebugPort::Serial(InterfaceType::ArmSbsa32Bit), [0, 13, 0]),
@@ -29,28 +38,32 @@ fn ports(rt: HostRuntime) -> Result<(), Fail> {
         (DebugPort::UsbEhci, [2, 1, 0]),
         (DebugPort::Net(0x8086), [3, 0x86, 0x80]),
     ] {
-        let mut wanted = *b"\0\x18\0\0\x02\0\x16\0\0\0\0\0\0\x80\0\0\0\0\x16\0\x16\0.\0";
-        wanted[12] = type_low;
-        wanted[14] = subtype_low;
-        wanted[15] = subtype_high;
-        writes(alloc, &DebugDevice::new(alloc, port), &wanted)?;
+        is_of_port(alloc, DebugDevice::new(alloc, port), numbers)?;
     }
     Ok(())
 }
 
-// Two registers: of 32 bits in memory, and of 8 bits in I/O space.
-fn two_registers(alloc: Global) -> R<DebugDevice> {
-    let memory = GAS::new(
+// A register of 32 bits in memory.
+fn memory() -> GAS {
+    let size = AccessSize::DwordAccess;
+    GAS::new(
         AddressSpace::SystemMemory,
         32,
         1,
-        AccessSize::DwordAccess,
+        size,
         0x0807_0605_0403_0201,
-    );
-    let io = GAS::new(AddressSpace::SystemIo, 8, 0, AccessSize::ByteAccess, 0x3f8);
+    )
+}
+
+// A register of 8 bits in I/O space.
+fn port() -> GAS {
+    GAS::new(AddressSpace::SystemIo, 8, 0, AccessSize::ByteAccess, 0x3f8)
+}
+
+fn two_registers(alloc: Global) -> R<DebugDevice> {
     DebugDevice::new(alloc, DebugPort::Serial(InterfaceType::ArmPl011))
-        .register(memory, 0x1413_1211)?
-        .register(io, 8)
+        .register(memory(), 0x1413_1211)?
+        .register(port(), 8)
 }
 
 fn full_device(alloc: Global) -> R<DebugDevice> {
@@ -73,20 +86,13 @@ fn table(alloc: Global) -> DBG2 {
     DBG2::new(alloc, OEM, OEM_TABLE, OEM_REVISION)
 }
 
-fn two_devices(alloc: Global) -> R<DBG2> {
-    let mut table = table(alloc);
+fn takes_two_devices(alloc: Global, table: &mut DBG2) -> Result<(), Fail> {
     table.add_device(full_device(alloc)?)?;
     table.add_device(DebugDevice::new(alloc, DebugPort::UsbXhci))?;
-    Ok(table)
-}
-
-#[test]
-fn a_table_of_two_devices(rt: HostRuntime) -> Result<(), Fail> {
-    let table = two_devices(rt.alloc())?;
     equal(&(table.len(), table.count()), &(135, 2))?;
     all_stand(
-        rt.alloc(),
-        &table,
+        alloc,
+        table,
         &[
             (36, b"\x2c\0\0\0\x02\0\0\0"),
             (44, FULL_DEVICE),
@@ -96,6 +102,11 @@ fn a_table_of_two_devices(rt: HostRuntime) -> Result<(), Fail> {
             ),
         ],
     )
+}
+
+#[test]
+fn a_table_of_two_devices(rt: HostRuntime) -> Result<(), Fail> {
+    takes_two_devices(rt.alloc(), &mut table(rt.alloc()))
 }
 
 #[test]
@@ -129,17 +140,26 @@ fn device(alloc: Global, (count, length, size): (u16, usize, usize)) -> R<DebugD
     Ok(device.oem_data(vec![in alloc; 0xa5; size]?))
 }
 
-fn takes(alloc: Global, parts: (u16, usize, usize), size: usize) -> Result<(), Fail> {
-    sized(alloc, &device(alloc, parts)?, size)?;
-    let mut table = table(alloc);
-    table.add_device(device(alloc, parts)?)?;
+// Fails unless a device has this size, and a table takes it.
+fn stands(alloc: Global, table: &mut DBG2, device: DebugDevice, size: usize) -> Result<(), Fail> {
+    sized(alloc, &device, size)?;
+    table.add_device(device)?;
     equal(&table.count(), &1)
 }
 
-fn is_too_long(alloc: Global, parts: (u16, usize, usize)) -> Result<(), Fail> {
-    let mut table = table(alloc);
-    refuses(table.add_device(device(alloc, parts)?), Error::FieldWidth)?;
+fn takes(alloc: Global, parts: (u16, usize, usize), size: usize) -> Result<(), Fail> {
+    let device = device(alloc, parts)?;
+    stands(alloc, &mut table(alloc), device, size)
+}
+
+fn is_refused(table: &mut DBG2, device: DebugDevice) -> Result<(), Fail> {
+    refuses(table.add_device(device), Error::FieldWidth)?;
     equal(&table.count(), &0)
+}
+
+fn is_too_long(alloc: Global, parts: (u16, usize, usize)) -> Result<(), Fail> {
+    let device = device(alloc, parts)?;
+    is_refused(&mut table(alloc), device)
 }
 
 // Devices of at most 65,535 bytes.

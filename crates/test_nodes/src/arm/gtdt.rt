@@ -4,7 +4,7 @@ use acpi_base::error::{Error, R};
 use acpi_tables::gtdt::{GTDT, GenericWatchdog, GtBlock, GtBlockTimer, Interrupt, Timer, Timers};
 use std::alloc::Global;
 use std::test::Fail;
-use test_support::table::stands;
+use test_support::table::all_stand;
 use test_support::{OEM, OEM_REVISION, OEM_TABLE, all, equal, refuses, writes};
 
 // Flags that are set again stay as they are.
@@ -114,11 +114,14 @@ fn timers_of_processors(rt: HostRuntime) -> Result<(), Fail> {
         ),
     ];
     for (timers, wanted) in &rows {
-        let table = GTDT::new(alloc, OEM, OEM_TABLE, OEM_REVISION, *timers);
-        stands(alloc, &table, 0, b"GTDT\x68\0\0\0\x03")?;
-        stands(alloc, &table, 36, *wanted)?;
+        has_timers(alloc, *timers, *wanted)?;
     }
     Ok(())
+}
+
+fn has_timers(alloc: Global, timers: Timers, wanted: &[u8]) -> Result<(), Fail> {
+    let table = GTDT::new(alloc, OEM, OEM_TABLE, OEM_REVISION, timers);
+    all_stand(alloc, &table, &[(0, b"GTDT\x68\0\0\0\x03"), (36, wanted)])
 }
 
 const BASE: u64 = 0x0807_0605_0403_0201;
@@ -134,21 +137,30 @@ fn a_block_of_a_timer(rt: HostRuntime) -> Result<(), Fail> {
     )
 }
 
+// Adds seven timers.
+fn fill(block: &mut GtBlock, timer: GtBlockTimer) -> R<()> {
+    for _ in 1..8u8 {
+        block.add_timer(timer)?;
+    }
+    Ok(())
+}
+
 // A block of eight timers, the most that it can have.
 fn full_block(alloc: Global) -> R<GtBlock> {
     let timer = GtBlockTimer::new(0, 1);
     let mut block = GtBlock::new(alloc, BASE, timer)?;
-    for _ in 1..8u8 {
-        block.add_timer(timer)?;
-    }
+    fill(&mut block, timer)?;
     Ok(block)
+}
+
+fn is_full(block: &mut GtBlock) -> Result<(), Fail> {
+    refuses(block.add_timer(GtBlockTimer::new(0, 1)), Error::FieldWidth)?;
+    equal(&block.timer_count(), &8)
 }
 
 #[test]
 fn a_ninth_timer(rt: HostRuntime) -> Result<(), Fail> {
-    let mut block = full_block(rt.alloc())?;
-    refuses(block.add_timer(GtBlockTimer::new(0, 1)), Error::FieldWidth)?;
-    equal(&block.timer_count(), &8)
+    is_full(&mut full_block(rt.alloc())?)
 }
 
 // Fails unless a table takes a watchdog and such a block.
@@ -156,12 +168,16 @@ fn takes_both(alloc: Global, table: &mut GTDT) -> Result<(), Fail> {
     table.add_generic_watchdog(GenericWatchdog::new(0, 0, 0))?;
     table.add_gt_block(full_block(alloc)?)?;
     equal(&(table.len(), table.count()), &(472, 2))?;
-    stands(alloc, table, 88, b"\x02\0\0\0\x68\0\0\0")?;
-    stands(
+    all_stand(
         alloc,
         table,
-        132,
-        b"\0\x54\x01\0\x01\x02\x03\x04\x05\x06\x07\x08\x08\0\0\0\x14\0\0\0\0\0\0\0\x01",
+        &[
+            (88, b"\x02\0\0\0\x68\0\0\0"),
+            (
+                132,
+                b"\0\x54\x01\0\x01\x02\x03\x04\x05\x06\x07\x08\x08\0\0\0\x14\0\0\0\0\0\0\0\x01",
+            ),
+        ],
     )
 }
 

@@ -9,15 +9,15 @@ use acpi_tables::iort::{
 };
 use std::alloc::Global;
 use std::test::Fail;
-use test_support::table::all_stand;
-use test_support::{OEM, OEM_REVISION, OEM_TABLE, all, equal, refuses, sized, writes};
+use test_support::table::{all_stand, joined};
+use test_support::{OEM, OEM_REVISION, OEM_TABLE, all, equal, refuses, writes};
 
-fn table(alloc: Global) -> IORT {
+pub(crate) fn table(alloc: Global) -> IORT {
     IORT::new(alloc, OEM, OEM_TABLE, OEM_REVISION)
 }
 
 // A mapping to an ITS group that is the first node of a table.
-fn mapping(alloc: Global) -> R<IdMapping> {
+pub(crate) fn mapping(alloc: Global) -> R<IdMapping> {
     let services = table(alloc).add_its_group(ItsGroup::new(alloc))?;
     Ok(IdMapping::new(
         0x0403_0201,
@@ -33,10 +33,6 @@ const MAPPING: &[u8] = b"\x01\x02\x03\x04\x05\x06\x07\x08\x09\x0a\x0b\x0c\x30\0\
 fn mappings_and_ranges(rt: HostRuntime) -> Result<(), Fail> {
     let alloc = rt.alloc();
     let mapping = mapping(alloc)?;
-    let mut services = ItsGroup::new(alloc);
-    services.add_its(0x0403_0201)?;
-    services.add_its(0)?;
-    equal(&services.service_count(), &2)?;
     all(
         alloc,
         &[
@@ -59,16 +55,39 @@ fn mappings_and_ranges(rt: HostRuntime) -> Result<(), Fail> {
                     .edge_triggered(),
                 b"\x01\x02\x03\x04\x01\0\0\0",
             ),
-            (
-                &ItsGroup::new(alloc),
-                b"\0\x14\0\x01\0\0\0\0\0\0\0\0\0\0\0\0\0\0\0\0",
-            ),
-            (
-                &services,
-                b"\0\x1c\0\x01\0\0\0\0\0\0\0\0\0\0\0\0\x02\0\0\0\x01\x02\x03\x04\0\0\0\0",
-            ),
         ],
     )
+}
+
+// Adds two services to a group without any.
+fn takes_services(alloc: Global, group: &mut ItsGroup) -> Result<(), Fail> {
+    writes(
+        alloc,
+        group,
+        b"\0\x14\0\x01\0\0\0\0\0\0\0\0\0\0\0\0\0\0\0\0",
+    )?;
+    group.add_its(0x0403_0201)?;
+    group.add_its(0)?;
+    equal(&group.service_count(), &2)?;
+    writes(
+        alloc,
+        group,
+        b"\0\x1c\0\x01\0\0\0\0\0\0\0\0\0\0\0\0\x02\0\0\0\x01\x02\x03\x04\0\0\0\0",
+    )
+}
+
+#[test]
+fn services(rt: HostRuntime) -> Result<(), Fail> {
+    takes_services(rt.alloc(), &mut ItsGroup::new(rt.alloc()))
+}
+
+// Puts these numbers at their offsets.
+fn put_each(bytes: &mut [u8], changes: &[(usize, u8)]) {
+    for (at, number) in changes {
+        if *at < bytes.len() {
+            bytes[*at] = *number;
+        }
+    }
 }
 
 // Fails unless an object writes these bytes, with those numbers at their offsets.
@@ -79,11 +98,7 @@ fn changed(
     changes: &[(usize, u8)],
 ) -> Result<(), Fail> {
     let mut wanted = Vec::from_slice(alloc, plain)?;
-    for (at, number) in changes {
-        if *at < wanted.len() {
-            wanted[*at] = *number;
-        }
-    }
+    put_each(&mut wanted, changes);
     writes(alloc, aml, &wanted)
 }
 
@@ -91,19 +106,24 @@ fn changed(
 const COMPONENT: [u8; 32] =
     *b"\x01\x20\0\x04\0\0\0\0\0\0\0\0\0\0\0\0\0\0\0\0\0\0\0\0\0\0\0\0\0\0\0\0";
 
-fn accesses(alloc: Global, access: MemoryAccess, changes: &[(usize, u8)]) -> Result<(), Fail> {
-    let component = NamedComponent::new(alloc, String::new(alloc)).memory_access(access);
-    changed(alloc, &component, &COMPONENT, changes)
+fn component(alloc: Global, node: NamedComponent, changes: &[(usize, u8)]) -> Result<(), Fail> {
+    changed(alloc, &node, &COMPONENT, changes)
+}
+
+fn plain_component(alloc: Global) -> NamedComponent {
+    NamedComponent::new(alloc, String::new(alloc))
+}
+
+fn stalled(alloc: Global) -> NamedComponent {
+    plain_component(alloc).substream_width(31).stall_supported()
 }
 
 // Flags that are set again stay as they are.
 #[test]
 fn flags_of_components(rt: HostRuntime) -> Result<(), Fail> {
-    let component = NamedComponent::new(rt.alloc(), String::new(rt.alloc()));
-    let component = component.substream_width(31).stall_supported();
-    changed(rt.alloc(), &component, &COMPONENT, &[(16, 0x3f)])?;
-    let component = component.substream_width(20);
-    changed(rt.alloc(), &component, &COMPONENT, &[(16, 0x29)])
+    let alloc = rt.alloc();
+    component(alloc, stalled(alloc), &[(16, 0x3f)])?;
+    component(alloc, stalled(alloc).substream_width(20), &[(16, 0x29)])
 }
 
 #[test]
@@ -133,7 +153,8 @@ fn memory_accesses(rt: HostRuntime) -> Result<(), Fail> {
         (again, &[(20, 1), (24, 15), (27, 3)]),
     ];
     for (access, changes) in &rows {
-        accesses(rt.alloc(), *access, *changes)?;
+        let node = plain_component(rt.alloc()).memory_access(*access);
+        component(rt.alloc(), node, *changes)?;
     }
     Ok(())
 }
@@ -166,7 +187,7 @@ fn root_complexes(rt: HostRuntime) -> Result<(), Fail> {
     )
 }
 
-fn plain_root(alloc: Global) -> RootComplex {
+pub(crate) fn plain_root(alloc: Global) -> RootComplex {
     RootComplex::new(alloc, 0)
 }
 
@@ -217,45 +238,54 @@ fn pasids_of_root_complexes(rt: HostRuntime) -> Result<(), Fail> {
     )
 }
 
-fn mapped_root(alloc: Global) -> R<RootComplex> {
-    let mut mapped = RootComplex::new(alloc, 1);
-    mapped.add_mapping(mapping(alloc)?)?;
-    mapped.add_mapping(mapping(alloc)?.single())?;
-    Ok(mapped)
-}
-
-#[test]
-fn mappings_of_a_root_complex(rt: HostRuntime) -> Result<(), Fail> {
-    let mapped = mapped_root(rt.alloc())?;
-    equal(&mapped.mapping_count(), &2)?;
+fn maps_root(alloc: Global, root_complex: &mut RootComplex) -> Result<(), Fail> {
+    let mapping = mapping(alloc)?;
+    root_complex.add_mapping(mapping)?;
+    root_complex.add_mapping(mapping.single())?;
+    equal(&root_complex.mapping_count(), &2)?;
     writes(
-        rt.alloc(),
-        &mapped,
+        alloc,
+        root_complex,
         b"\x02\x50\0\x04\0\0\0\0\x02\0\0\0\x28\0\0\0\0\0\0\0\0\0\0\0\0\0\0\0\x01\0\0\0\0\0\0\0\0\0\0\0\
             \x01\x02\x03\x04\x05\x06\x07\x08\x09\x0a\x0b\x0c\x30\0\0\0\0\0\0\0\
             \x01\x02\x03\x04\x05\x06\x07\x08\x09\x0a\x0b\x0c\x30\0\0\0\x01\0\0\0",
     )
 }
 
-fn named(alloc: Global, name: &str) -> R<NamedComponent> {
-    let component = NamedComponent::new(alloc, String::from_str(alloc, name)?);
-    let mut component = component
-        .stall_supported()
-        .substream_width(31)
-        .stall_supported()
-        .substream_width(31)
-        .address_size_limit(48);
-    component.add_mapping(mapping(alloc)?)?;
-    Ok(component)
+#[test]
+fn mappings_of_a_root_complex(rt: HostRuntime) -> Result<(), Fail> {
+    maps_root(rt.alloc(), &mut RootComplex::new(rt.alloc(), 1))
 }
 
-// The bytes of such a component: those up to the name, the name and what is behind it, and the mapping.
-fn named_bytes(alloc: Global, [size, at]: [u8; 2], behind: &[u8]) -> R<Vec<u8>> {
-    let mut bytes = Vec::from_slice(alloc, &[1, size, 0, 4, 0, 0, 0, 0, 1, 0, 0, 0, at])?;
-    bytes.extend_from_slice(b"\0\0\0\x3f\0\0\0\0\0\0\0\0\0\0\0\x30")?;
-    bytes.extend_from_slice(behind)?;
-    bytes.extend_from_slice(MAPPING)?;
-    Ok(bytes)
+fn named(alloc: Global, name: &str) -> R<NamedComponent> {
+    let component = NamedComponent::new(alloc, String::from_str(alloc, name)?);
+    Ok(
+        component
+            .stall_supported()
+            .substream_width(31)
+            .stall_supported()
+            .substream_width(31)
+            .address_size_limit(48),
+    )
+}
+
+// Adds a mapping to such a component. Its bytes are those up to the name, the name and what is behind it, and the mapping.
+fn maps_component(
+    alloc: Global,
+    component: &mut NamedComponent,
+    [size, at]: [u8; 2],
+    behind: &[u8],
+) -> Result<(), Fail> {
+    component.add_mapping(mapping(alloc)?)?;
+    equal(&component.mapping_count(), &1)?;
+    let front = [1, size, 0, 4, 0, 0, 0, 0, 1, 0, 0, 0, at];
+    let fields = b"\0\0\0\x3f\0\0\0\0\0\0\0\0\0\0\0\x30";
+    let wanted = joined(alloc, &[&front, fields, behind, MAPPING])?;
+    writes(alloc, component, &wanted)
+}
+
+fn is_named(alloc: Global, name: &str, sizes: [u8; 2], behind: &[u8]) -> Result<(), Fail> {
+    maps_component(alloc, &mut named(alloc, name)?, sizes, behind)
 }
 
 // The name of a component and its zeros end at a multiple of 4.
@@ -270,14 +300,12 @@ fn names_of_components(rt: HostRuntime) -> Result<(), Fail> {
         ("abcd", [0x38, 0x24], b"abcd\0\0\0"),
     ];
     for (name, sizes, behind) in &rows {
-        let component = named(alloc, *name)?;
-        equal(&component.mapping_count(), &1)?;
-        writes(alloc, &component, &named_bytes(alloc, *sizes, *behind)?)?;
+        is_named(alloc, *name, *sizes, *behind)?;
     }
     Ok(())
 }
 
-fn fault() -> SmmuInterrupt {
+pub(crate) fn fault() -> SmmuInterrupt {
     SmmuInterrupt::new(0x2423_2221)
 }
 
@@ -292,11 +320,15 @@ fn smmu(alloc: Global, model: SmmuModel) -> Smmu {
     Smmu::new(alloc, model, base, span, fault())
 }
 
+// Fails unless an SMMU has those bytes, with this number at this offset.
+fn smmu_is(alloc: Global, smmu: Smmu, at: usize, number: u8) -> Result<(), Fail> {
+    changed(alloc, &smmu, &SMMU, &[(at, number)])
+}
+
 #[test]
 fn flags_of_smmus(rt: HostRuntime) -> Result<(), Fail> {
     let smmu = smmu(rt.alloc(), SmmuModel::GenericV1);
-    let both = smmu.coherent_walk().dvm_supported();
-    changed(rt.alloc(), &both, &SMMU, &[(36, 3)])
+    smmu_is(rt.alloc(), smmu.coherent_walk().dvm_supported(), 36, 3)
 }
 
 #[test]
@@ -310,9 +342,7 @@ fn models_of_smmus(rt: HostRuntime) -> Result<(), Fail> {
         (SmmuModel::CoreLinkMmu401, 4),
         (SmmuModel::CaviumThunderX, 5),
     ] {
-        let mut wanted = SMMU;
-        wanted[32] = number;
-        writes(alloc, &smmu(alloc, model).coherent_walk(), &wanted)?;
+        smmu_is(alloc, smmu(alloc, model).coherent_walk(), 32, number)?;
     }
     Ok(())
 }
@@ -326,24 +356,21 @@ fn plain_smmu(alloc: Global) -> Smmu {
         .configuration_fault(SmmuInterrupt::new(0x3433_3231).edge_triggered())
 }
 
-// An SMMU with two interrupts of contexts, one of monitors, and a mapping.
-fn full_smmu(alloc: Global) -> R<Smmu> {
-    let mut smmu = plain_smmu(alloc);
+// Adds two interrupts of contexts, one of monitors, and a mapping.
+fn fill_smmu(alloc: Global, smmu: &mut Smmu) -> R<()> {
     smmu.add_context_interrupt(SmmuInterrupt::new(1))?;
     smmu.add_context_interrupt(SmmuInterrupt::new(2).edge_triggered())?;
     smmu.add_pmu_interrupt(SmmuInterrupt::new(3))?;
-    smmu.add_mapping(mapping(alloc)?)?;
-    Ok(smmu)
+    smmu.add_mapping(mapping(alloc)?)
 }
 
-#[test]
-fn lists_of_an_smmu(rt: HostRuntime) -> Result<(), Fail> {
-    let smmu = full_smmu(rt.alloc())?;
+fn takes_lists(alloc: Global, smmu: &mut Smmu) -> Result<(), Fail> {
+    fill_smmu(alloc, smmu)?;
     let counts = (smmu.context_interrupt_count(), smmu.pmu_interrupt_count());
     equal(&(counts, smmu.mapping_count()), &((2, 1), 1))?;
     writes(
-        rt.alloc(),
-        &smmu,
+        alloc,
+        smmu,
         b"\x03\x78\0\x03\0\0\0\0\x01\0\0\0\x64\0\0\0\0\0\0\0\0\0\0\0\0\0\0\0\0\0\0\0\x01\0\0\0\x03\0\0\0\
             \x3c\0\0\0\x02\0\0\0\x4c\0\0\0\x01\0\0\0\x5c\0\0\0\
             \x21\x22\x23\x24\x01\0\0\0\x31\x32\x33\x34\x01\0\0\0\
@@ -352,23 +379,27 @@ fn lists_of_an_smmu(rt: HostRuntime) -> Result<(), Fail> {
     )
 }
 
-fn mapped_smmu_v3(alloc: Global) -> R<SmmuV3> {
-    let mut mapped = SmmuV3::new(alloc, SmmuV3Model::Generic, 0x0807_0605_0403_0201);
-    mapped.add_mapping(mapping(alloc)?)?;
-    Ok(mapped)
+#[test]
+fn lists_of_an_smmu(rt: HostRuntime) -> Result<(), Fail> {
+    takes_lists(rt.alloc(), &mut plain_smmu(rt.alloc()))
 }
 
-#[test]
-fn mappings_of_an_smmu_v3(rt: HostRuntime) -> Result<(), Fail> {
-    let mapped = mapped_smmu_v3(rt.alloc())?;
-    equal(&mapped.mapping_count(), &1)?;
+fn maps_smmu_v3(alloc: Global, smmu: &mut SmmuV3) -> Result<(), Fail> {
+    smmu.add_mapping(mapping(alloc)?)?;
+    equal(&smmu.mapping_count(), &1)?;
     writes(
-        rt.alloc(),
-        &mapped,
+        alloc,
+        smmu,
         b"\x04\x58\0\x04\0\0\0\0\x01\0\0\0\x44\0\0\0\x01\x02\x03\x04\x05\x06\x07\x08\0\0\0\0\0\0\0\0\0\0\0\0\0\0\0\0\
             \0\0\0\0\0\0\0\0\0\0\0\0\0\0\0\0\0\0\0\0\0\0\0\0\0\0\0\0\
             \x01\x02\x03\x04\x05\x06\x07\x08\x09\x0a\x0b\x0c\x30\0\0\0\0\0\0\0",
     )
+}
+
+#[test]
+fn mappings_of_an_smmu_v3(rt: HostRuntime) -> Result<(), Fail> {
+    let (model, base) = (SmmuV3Model::Generic, 0x0807_0605_0403_0201);
+    maps_smmu_v3(rt.alloc(), &mut SmmuV3::new(rt.alloc(), model, base))
 }
 
 fn smmu_v3(alloc: Global, smmu: SmmuV3, changes: &[(usize, u8)]) -> Result<(), Fail> {
@@ -379,7 +410,7 @@ fn smmu_v3(alloc: Global, smmu: SmmuV3, changes: &[(usize, u8)]) -> Result<(), F
 }
 
 // An SMMUv3 whose registers are at the address 0.
-fn generic(alloc: Global) -> SmmuV3 {
+pub(crate) fn generic(alloc: Global) -> SmmuV3 {
     SmmuV3::new(alloc, SmmuV3Model::Generic, 0)
 }
 
@@ -473,26 +504,29 @@ fn attributes_of_reserved_memory(rt: HostRuntime) -> Result<(), Fail> {
     Ok(())
 }
 
-fn full_memory(alloc: Global) -> R<ReservedMemory> {
-    let mut full = ReservedMemory::new(alloc, AccessAttributes::DeviceNGnRnE);
-    full.add_range(MemoryRange::new(0x1_0000, 0x2_0000))?;
-    full.add_range(MemoryRange::new(0x8_0000, 0x1_0000))?;
-    full.add_mapping(mapping(alloc)?)?;
-    Ok(full)
+pub(crate) fn plain_memory(alloc: Global) -> ReservedMemory {
+    ReservedMemory::new(alloc, AccessAttributes::DeviceNGnRnE)
 }
 
-#[test]
-fn ranges_of_reserved_memory(rt: HostRuntime) -> Result<(), Fail> {
-    let full = full_memory(rt.alloc())?;
-    equal(&(full.range_count(), full.mapping_count()), &(2, 1))?;
+// Adds two ranges and a mapping.
+fn takes_ranges(alloc: Global, memory: &mut ReservedMemory) -> Result<(), Fail> {
+    memory.add_range(MemoryRange::new(0x1_0000, 0x2_0000))?;
+    memory.add_range(MemoryRange::new(0x8_0000, 0x1_0000))?;
+    memory.add_mapping(mapping(alloc)?)?;
+    equal(&(memory.range_count(), memory.mapping_count()), &(2, 1))?;
     writes(
-        rt.alloc(),
-        &full,
+        alloc,
+        memory,
         b"\x06\x58\0\x03\0\0\0\0\x01\0\0\0\x44\0\0\0\0\0\0\0\x02\0\0\0\x1c\0\0\0\
             \0\0\x01\0\0\0\0\0\0\0\x02\0\0\0\0\0\0\0\0\0\
             \0\0\x08\0\0\0\0\0\0\0\x01\0\0\0\0\0\0\0\0\0\
             \x01\x02\x03\x04\x05\x06\x07\x08\x09\x0a\x0b\x0c\x30\0\0\0\0\0\0\0",
     )
+}
+
+#[test]
+fn ranges_of_reserved_memory(rt: HostRuntime) -> Result<(), Fail> {
+    takes_ranges(rt.alloc(), &mut plain_memory(rt.alloc()))
 }
 
 #[test]
@@ -541,31 +575,32 @@ fn monitor(alloc: Global, table: &mut IORT, node: Monitored) -> R<()> {
     table.add_pmcg(Pmcg::new(alloc, 0, node))
 }
 
-// A node of each kind.
-fn all_nodes(alloc: Global) -> R<IORT> {
-    let mut table = table(alloc);
-    let outputs = add_outputs(alloc, &mut table)?;
-    let root_complex = table.add_root_complex(root_of(alloc, &outputs)?)?;
-    let component = table.add_named_component(NamedComponent::new(alloc, String::new(alloc)))?;
+// Adds a group of monitors of each of these that can have one.
+fn monitor_each(alloc: Global, table: &mut IORT, outputs: &[Output]) -> R<()> {
     for output in outputs {
-        if let Some(node) = monitored(output) {
-            monitor(alloc, &mut table, node)?;
+        if let Some(node) = monitored(*output) {
+            monitor(alloc, table, node)?;
         }
     }
-    monitor(alloc, &mut table, Monitored::RootComplex(root_complex))?;
-    monitor(alloc, &mut table, Monitored::NamedComponent(component))?;
-    table.add_reserved_memory(ReservedMemory::new(alloc, AccessAttributes::DeviceNGnRnE))?;
-    Ok(table)
+    Ok(())
 }
 
-// Identifiers are indices, and references are offsets.
-#[test]
-fn nodes_refer_to_each_other(rt: HostRuntime) -> Result<(), Fail> {
-    let table = all_nodes(rt.alloc())?;
+// Adds a node of each kind.
+fn add_nodes(alloc: Global, table: &mut IORT) -> R<()> {
+    let outputs = add_outputs(alloc, table)?;
+    let root_complex = table.add_root_complex(root_of(alloc, &outputs)?)?;
+    let component = table.add_named_component(plain_component(alloc))?;
+    monitor_each(alloc, table, &outputs)?;
+    monitor(alloc, table, Monitored::RootComplex(root_complex))?;
+    monitor(alloc, table, Monitored::NamedComponent(component))?;
+    table.add_reserved_memory(plain_memory(alloc))
+}
+
+fn has_all_nodes(alloc: Global, table: &IORT) -> Result<(), Fail> {
     equal(&(table.len(), table.count()), &(532, 10))?;
     all_stand(
-        rt.alloc(),
-        &table,
+        alloc,
+        table,
         &[
             (36, b"\x0a\0\0\0\x30\0\0\0\0\0\0\0\0\x14\0\x01\0\0\0\0"),
             (68, b"\x03\x4c\0\x03\x01\0\0\0"),
@@ -588,130 +623,40 @@ fn nodes_refer_to_each_other(rt: HostRuntime) -> Result<(), Fail> {
     )
 }
 
+// Identifiers are indices, and references are offsets.
+#[test]
+fn nodes_refer_to_each_other(rt: HostRuntime) -> Result<(), Fail> {
+    let mut table = table(rt.alloc());
+    add_nodes(rt.alloc(), &mut table)?;
+    has_all_nodes(rt.alloc(), &table)
+}
+
 // A group of monitors of an SMMU that is the first node of a table.
 fn monitors(alloc: Global) -> R<Pmcg> {
     let smmu = Smmu::new(alloc, SmmuModel::GenericV2, 0, 0, fault());
     let smmu = table(alloc).add_smmu(smmu)?;
     let monitor = Pmcg::new(alloc, 0x0807_0605_0403_0201, Monitored::Smmu(smmu));
-    let mut monitor = monitor
-        .overflow_gsiv(0x2423_2221)
-        .page_1(0x1817_1615_1413_1211);
-    monitor.add_mapping(mapping(alloc)?)?;
-    Ok(monitor)
+    Ok(
+        monitor
+            .overflow_gsiv(0x2423_2221)
+            .page_1(0x1817_1615_1413_1211),
+    )
 }
 
-#[test]
-fn a_group_of_monitors_has_one_mapping(rt: HostRuntime) -> Result<(), Fail> {
-    let mut monitor = monitors(rt.alloc())?;
-    refuses(monitor.add_mapping(mapping(rt.alloc())?), Error::FieldWidth)?;
+fn maps_once(alloc: Global, monitor: &mut Pmcg) -> Result<(), Fail> {
+    let mapping = mapping(alloc)?;
+    monitor.add_mapping(mapping)?;
+    refuses(monitor.add_mapping(mapping), Error::FieldWidth)?;
     equal(&monitor.mapping_count(), &1)?;
     writes(
-        rt.alloc(),
-        &monitor,
+        alloc,
+        monitor,
         b"\x05\x3c\0\x02\0\0\0\0\x01\0\0\0\x28\0\0\0\x01\x02\x03\x04\x05\x06\x07\x08\x21\x22\x23\x24\x30\0\0\0\
             \x11\x12\x13\x14\x15\x16\x17\x18\x01\x02\x03\x04\x05\x06\x07\x08\x09\x0a\x0b\x0c\x30\0\0\0\0\0\0\0",
     )
 }
 
-// Nodes of as many entries as they can have.
 #[test]
-fn the_most_services(rt: HostRuntime) -> Result<(), Fail> {
-    let mut services = ItsGroup::new(rt.alloc());
-    for _ in 0..16_378u16 {
-        services.add_its(0)?;
-    }
-    refuses(services.add_its(0), Error::FieldWidth)?;
-    sized(rt.alloc(), &services, 65_532)
-}
-
-#[test]
-fn the_most_mappings_of_an_smmu_v3(rt: HostRuntime) -> Result<(), Fail> {
-    let mapping = mapping(rt.alloc())?;
-    let mut smmu = generic(rt.alloc());
-    for _ in 0..3273u16 {
-        smmu.add_mapping(mapping)?;
-    }
-    refuses(smmu.add_mapping(mapping), Error::FieldWidth)?;
-    sized(rt.alloc(), &smmu, 65_528)
-}
-
-#[test]
-fn the_most_mappings_of_a_root_complex(rt: HostRuntime) -> Result<(), Fail> {
-    let mapping = mapping(rt.alloc())?;
-    let mut root_complex = RootComplex::new(rt.alloc(), 0);
-    for _ in 0..3274u16 {
-        root_complex.add_mapping(mapping)?;
-    }
-    refuses(root_complex.add_mapping(mapping), Error::FieldWidth)?;
-    sized(rt.alloc(), &root_complex, 65_520)
-}
-
-// An SMMU with as many interrupts of contexts as it can have.
-fn long_smmu(alloc: Global) -> R<Smmu> {
-    let mut smmu = Smmu::new(alloc, SmmuModel::GenericV1, 0, 0, fault());
-    for _ in 0..8182u16 {
-        smmu.add_context_interrupt(fault())?;
-    }
-    Ok(smmu)
-}
-
-// Nodes of several lists may have fewer entries than each list alone: of at most 65,535 bytes.
-#[test]
-fn the_longest_smmu(rt: HostRuntime) -> Result<(), Fail> {
-    let mut smmu = long_smmu(rt.alloc())?;
-    refuses(smmu.add_context_interrupt(fault()), Error::FieldWidth)?;
-    sized(rt.alloc(), &smmu, 65_532)?;
-    let _ = table(rt.alloc()).add_smmu(smmu)?;
-    let mut longer = long_smmu(rt.alloc())?;
-    longer.add_pmu_interrupt(fault())?;
-    refuses(table(rt.alloc()).add_smmu(longer), Error::FieldWidth)
-}
-
-// Reserved memory with as many ranges as it can have.
-fn long_memory(alloc: Global) -> R<ReservedMemory> {
-    let mut memory = ReservedMemory::new(alloc, AccessAttributes::DeviceNGnRnE);
-    for _ in 0..3275u16 {
-        memory.add_range(MemoryRange::new(0, 0))?;
-    }
-    Ok(memory)
-}
-
-#[test]
-fn the_longest_reserved_memory(rt: HostRuntime) -> Result<(), Fail> {
-    let mut memory = long_memory(rt.alloc())?;
-    refuses(memory.add_range(MemoryRange::new(0, 0)), Error::FieldWidth)?;
-    sized(rt.alloc(), &memory, 65_528)?;
-    table(rt.alloc()).add_reserved_memory(memory)?;
-    let mut longer = long_memory(rt.alloc())?;
-    longer.add_mapping(mapping(rt.alloc())?)?;
-    refuses(
-        table(rt.alloc()).add_reserved_memory(longer),
-        Error::FieldWidth,
-    )
-}
-
-// A component with this name and this many mappings.
-fn long_component(alloc: Global, name: &str, count: u16) -> R<NamedComponent> {
-    let mut component = NamedComponent::new(alloc, String::from_str(alloc, name)?);
-    let mapping = mapping(alloc)?;
-    for _ in 0..count {
-        component.add_mapping(mapping)?;
-    }
-    Ok(component)
-}
-
-#[test]
-fn the_longest_components(rt: HostRuntime) -> Result<(), Fail> {
-    let alloc = rt.alloc();
-    for (name, size) in [("ab", 65_512), ("abc", 65_516), ("abcdef", 65_516)] {
-        sized(alloc, &long_component(alloc, name, 3274)?, size)?;
-        let component = long_component(alloc, name, 3274)?;
-        let _ = table(alloc).add_named_component(component)?;
-    }
-    let mut component = long_component(alloc, "abcdefg", 3275)?;
-    refuses(component.add_mapping(mapping(alloc)?), Error::FieldWidth)?;
-    refuses(
-        table(alloc).add_named_component(component),
-        Error::FieldWidth,
-    )
+fn a_group_of_monitors_has_one_mapping(rt: HostRuntime) -> Result<(), Fail> {
+    maps_once(rt.alloc(), &mut monitors(rt.alloc())?)
 }

@@ -2,7 +2,9 @@
 
 use acpi_base::row::{Bits, Row, Word};
 use acpi_base::walk::{Place, Sizes, Walk};
-use acpi_text::form::{Count, Inner, Part, StructureForm, TableForm};
+use acpi_text::form::{
+    Count, Inner, InnerForm, InnerList, InnerSize, Part, Start, StructureForm, TableForm,
+};
 use acpi_text::table::show_by;
 use std::test::Fail;
 use test_support::agree;
@@ -38,6 +40,7 @@ const FORM: TableForm = TableForm {
     ],
     structures: &[],
     further: &[],
+    inner: &Inner::Nothing,
 };
 
 // Names with the end of a line or a colon are question marks. There are no rows past the last, nor where the first index isn't
@@ -70,18 +73,26 @@ const INNER: TableForm = TableForm {
         number: 0,
         name: "Outer",
         parts: &[],
-        inner: &Inner::Structures(
-            2,
-            "Inner",
-            Sizes::EachOf(9),
-            &[
-                Part::Fields(&[Row::Number("Offset of End", 1), Row::Number("Columns", 1)]),
-                Part::Until("Before", Place::Byte(0)),
-                Part::Matrix("Row", 1, Place::Byte(1), Place::Byte(1)),
-            ],
+        inner: &Inner::Lists(
+            Start::At(2),
+            &[InnerList {
+                count: Count::Rest,
+                kind: Place::Nowhere,
+                forms: &[InnerForm {
+                    number: 0,
+                    name: "Inner",
+                    size: InnerSize::Walked(Sizes::EachOf(9)),
+                    parts: &[
+                        Part::Fields(&[Row::Number("Offset of End", 1), Row::Number("Columns", 1)]),
+                        Part::Until("Before", Place::Byte(0)),
+                        Part::Matrix("Row", 1, Place::Byte(1), Place::Byte(1)),
+                    ],
+                }],
+            }],
         ),
     }],
     further: &[],
+    inner: &Inner::Nothing,
 };
 
 const ENTRIES: Walk = Walk {
@@ -117,4 +128,104 @@ Parts
         \x04\x02\0\0\x01\x02\x03\x04\x05\
         \x02\x03\x01\x02\x03\x04\x05\x06\x07";
     agree(&show_by(rt.alloc(), &INNER, Some(ENTRIES), bytes)?, lines)
+}
+
+// Two lists: as many structures of two kinds as a field says, and one structure of all bytes that are left.
+const LISTS: TableForm = TableForm {
+    name: "Lists",
+    parts: &[Part::Fields(&[Row::Number("Count", 1), Row::Number("Gap", 1)])],
+    structures: &[],
+    further: &[],
+    inner: &Inner::Lists(
+        Start::After(2, Place::Byte(1)),
+        &[
+            InnerList {
+                count: Count::Field(Place::Byte(0)),
+                kind: Place::Byte(0),
+                forms: &[
+                    InnerForm {
+                        number: 1,
+                        name: "One",
+                        size: InnerSize::Walked(Sizes::EachOf(3)),
+                        parts: &[Part::Fields(&[Row::Number("Type", 1), Row::Number("A", 2)])],
+                    },
+                    InnerForm {
+                        number: 2,
+                        name: "Two",
+                        size: InnerSize::Counted(2, Place::Byte(1), 2),
+                        parts: &[
+                            Part::Fields(&[Row::Number("Type", 1), Row::Number("Number", 1)]),
+                            Part::Numbers("N", 2, Count::Field(Place::Byte(1))),
+                        ],
+                    },
+                ],
+            },
+            InnerList {
+                count: Count::Once,
+                kind: Place::Nowhere,
+                forms: &[InnerForm {
+                    number: 0,
+                    name: "Last",
+                    size: InnerSize::Rest,
+                    parts: &[Part::Until("All", Place::Byte(0))],
+                }],
+            },
+        ],
+    ),
+};
+
+// Lists begin after a number of bytes, which have no names, and a structure of each kind is as long as its form says. From a
+// structure on that isn't of a kind, or that passes the end, no byte has a name. There may be no bytes for lists.
+#[test]
+fn lists_within(rt: HostRuntime) -> Result<(), Fail> {
+    let whole = "\
+Lists
+  0 Count                               : 02
+  1 Gap                                 : 01
+  2 Bytes                               : ff
+  3 Two
+    3 Type                              : 02
+    4 Number                            : 01
+    5 N                                 : 1211  // 4625
+  7 One
+    7 Type                              : 01
+    8 A                                 : 2221  // 8737
+  10 Last
+    10 All                              : 03 aa bb
+";
+    let strange = "\
+Lists
+  0 Count                               : 02
+  1 Gap                                 : 00
+  2 One
+    2 Type                              : 01
+    3 A                                 : 2221  // 8737
+  5 Bytes                               : 03 01 02
+";
+    let long = "\
+Lists
+  0 Count                               : 01
+  1 Gap                                 : 00
+  2 Bytes                               : 02 02 11 12 13
+";
+    let far = "\
+Lists
+  0 Count                               : 01
+  1 Gap                                 : 04
+  2 Bytes                               : 01 02 03
+";
+    let bytes = b"\x02\x01\xff\x02\x01\x11\x12\x01\x21\x22\x03\xaa\xbb";
+    agree(&show_by(rt.alloc(), &LISTS, None, bytes)?, whole)?;
+    agree(
+        &show_by(rt.alloc(), &LISTS, None, b"\x02\0\x01\x21\x22\x03\x01\x02")?,
+        strange,
+    )?;
+    agree(
+        &show_by(rt.alloc(), &LISTS, None, b"\x01\0\x02\x02\x11\x12\x13")?,
+        long,
+    )?;
+    agree(
+        &show_by(rt.alloc(), &LISTS, None, b"\x01\x04\x01\x02\x03")?,
+        far,
+    )
 }

@@ -17,4 +17,4 @@ returns c =
           (tt),
         ),
       ),
-    ) c.boot_form-other.ensures
+    ) c.pc_form-other.ensures
