@@ -59,7 +59,7 @@ impl EventTimerBlockId {
     }
 }
 
-/// The memory beside the registers of a block that software may access (bits 0 to 3 of offset 55). The registers have 1 KB.
+/// The memory next to the registers of a block that software may access (bits 0 to 3 of offset 55). The registers have 1 KB.
 #[derive(Clone, Copy, Debug, PartialEq)]
 pub enum PageProtection {
     /// None: other registers may be in it.
@@ -113,7 +113,7 @@ impl HPET {
         }
     }
 
-    /// Sets the number of the block (offset 52). Blocks of a machine are numbered from 0, each in a table of its own.
+    /// Sets the number of the block (offset 52). Blocks of a machine are numbered from 0, each in a separate table.
     pub fn number(mut self, number: u8) -> HPET
         ensures { result ≡ record self { number = number } }
     {

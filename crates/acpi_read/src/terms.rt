@@ -98,7 +98,7 @@ fn term<'a>(
 }
 
 /// Reads the children of a head that was opened at an offset, and returns the term. Each kind of term with
-/// children has a function of its own: Rattle clears all locals of a function on entry, so one large function would be slow.
+/// children has a separate function: Rattle clears all locals of a function on entry, so one large function would be slow.
 #[cycle(read)]
 #[tactic(auto, unfolding(acpi_term::specs::Reading::close, acpi_term::specs::Reading::counted))]
 fn close<'a>(

@@ -168,7 +168,7 @@ impl Arities {
         count_by(&self.index, &self.counts, name)
     }
 
-    /// The same list once more, in memory of its own.
+    /// A copy of the list.
     pub fn copy(&self, alloc: Global) -> Result<Arities, AllocError>
         ensures { IfOk result (λ arities. arities ≡ self.now) }
     {
