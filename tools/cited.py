@@ -11,7 +11,7 @@ DOCUMENTS = ["README.md", *sorted(glob.glob("docs/*.md")), "tools/README.md"]
 # Words of examples, of other programs, and of the Rust crate.
 OTHERS = set("Alias microvm no_std fwts vmm ListTable PcieAer acpi_rsdp_addr dac8208d650f15bf".split())
 # The table of the recipe.
-OTHERS |= set("Nfit NfitKind nfit_is_walked IsNfit nfit_form nfit_names the_nfit".split())
+OTHERS |= set("Lpit LpitKind lpit_is_walked IsLpit lpit_form lpit_names the_lpit".split())
 
 
 def read(path):

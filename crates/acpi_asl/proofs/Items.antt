@@ -1,22 +1,32 @@
 -- Items of a template, one after the other.
 use Rattle.std.proofs.Common.{◌≡◌, ℕ, zero, suc, ◌+◌, ◌-◌, ◌<◌, ◌≤◌, Bool, true, false, List, [], ◌∷◌, ◌++◌, length, get_or, take, drop, refl, ap, sym, ◌∙◌, append_assoc, arith}
-use Rattle.std.specs.Prelude.{codes, nat_lt, if◌then◌else◌}
-use Rattle.std.proofs.lemmas.Bool.{ne_eqb}
+use Rattle.std.specs.Prelude.{codes, nat_lt, ◌&&◌, not, if◌then◌else◌, Option}
+use Rattle.std.proofs.lemmas.Bool.{ne_eqb, eq-eqb}
 use Rattle.std.proofs.lemmas.List.{take_rest}
 use Rattle.acpi_read.proofs.Texts.{after_two}
 use Rattle.acpi_asl.specs.Number.{upper_byte}
 use Rattle.acpi_asl.specs.Place.{new_line}
-use Rattle.acpi_asl.specs.Template.{comma, digits_at, dwords, pins, item_size, found, is_found, found_text, is_zero_alone, is_template, items_text}
+use Rattle.acpi_asl.specs.declared.macros.Descriptor.{Descriptor}
+use Rattle.acpi_asl.specs.Content.{digits_at}
+use Rattle.acpi_asl.specs.Descriptor.{descriptors}
+use Rattle.acpi_asl.specs.Template.{comma, dwords, pairs, item_size, found_in, found, is_found, is_zero_alone, is_inside, may_follow, is_template, item_text, items_text}
 
-skip_test : (k : ℕ) (bytes : List ℕ) → is_template k bytes ≡ is_template 0 (drop k bytes)
-skip_test zero bytes = refl
-skip_test (suc k) [] = refl
-skip_test (suc k) (b ∷ bytes) = skip_test k bytes
+-- the descriptor of an item of the size that it states
+pub found_is : (item : List ℕ) (size : ℕ) (ds : List Descriptor) (r : Option Descriptor) → length item ≡ size → size ≡ item_size item
+    → ds ≡ descriptors → r ≡ found_in ds item → r ≡ found item
+unfolding found
+found_is item size ds r same sized all is =
+    is ∙ ap (λ (l : List Descriptor). found_in l item) all ∙ rw (eq-eqb (length item) (item_size item) (same ∙ sized)) refl
 
-skip_text : (d k : ℕ) (bytes : List ℕ) → items_text d k bytes ≡ items_text d 0 (drop k bytes)
-skip_text d zero bytes = refl
-skip_text d (suc k) [] = refl
-skip_text d (suc k) (b ∷ bytes) = skip_text d k bytes
+skip_test : (inside : Bool) (k : ℕ) (bytes : List ℕ) → is_template inside k bytes ≡ is_template inside 0 (drop k bytes)
+skip_test inside zero bytes = refl
+skip_test inside (suc k) [] = refl
+skip_test inside (suc k) (b ∷ bytes) = skip_test inside k bytes
+
+skip_text : (d : ℕ) (inside : Bool) (k : ℕ) (bytes : List ℕ) → items_text d inside k bytes ≡ items_text d inside 0 (drop k bytes)
+skip_text d inside zero bytes = refl
+skip_text d inside (suc k) [] = refl
+skip_text d inside (suc k) (b ∷ bytes) = skip_text d inside k bytes
 
 -- an item has at least one byte
 some_size : (tag : ℕ) (more : List ℕ) → item_size (tag ∷ more) ≡ suc (item_size (tag ∷ more) - 1)
@@ -32,52 +42,69 @@ after_front : (rest after more : List ℕ) (tag size : ℕ) → rest ≡ tag ∷
 after_front rest after more tag size is sized next =
     next ∙ ap (λ (k : ℕ). drop k rest) sized ∙ ap (drop (item_size (tag ∷ more))) is ∙ ap (λ (k : ℕ). drop k (tag ∷ more)) (some_size tag more)
 
-test_step : (tag : ℕ) (more : List ℕ) → (tag ≡ 0x79 → ⊥) → (known : Bool) → known ≡ is_found (found (take (item_size (tag ∷ more)) (tag ∷ more)))
-    → is_template 0 (tag ∷ more) ≡ (if known then is_template (item_size (tag ∷ more) - 1) more else false)
-test_step tag more other true is = rw (ne_eqb tag 0x79 other, ← is) refl
-test_step tag more other false is = rw (ne_eqb tag 0x79 other, ← is) refl
+and_is : (second more : Bool) → (second && more) ≡ (if second then more else false)
+and_is true more = refl
+and_is false more = refl
+
+-- two tests, one after the other, are one
+and_if : (first second more known : Bool) → known ≡ (first && second) → (first && second && more) ≡ (if known then more else false)
+and_if true second more known is = rw is (and_is second more)
+and_if false second more known is = rw is refl
+
+test_step : (inside : Bool) (tag : ℕ) (more : List ℕ) → (tag ≡ 0x79 → ⊥) → (known : Bool)
+    → known ≡ (may_follow inside tag && is_found (found (take (item_size (tag ∷ more)) (tag ∷ more))))
+    → is_template inside 0 (tag ∷ more) ≡ (if known then is_template (is_inside inside tag) (item_size (tag ∷ more) - 1) more else false)
+test_step inside tag more other known is =
+    rw (ne_eqb tag 0x79 other)
+    (and_if (may_follow inside tag) (is_found (found (take (item_size (tag ∷ more)) (tag ∷ more)))) (is_template (is_inside inside tag) (item_size (tag ∷ more) - 1) more) known is)
 
 here : (rest more : List ℕ) (tag size : ℕ) → rest ≡ tag ∷ more → size ≡ item_size (tag ∷ more) → take size rest ≡ take (item_size (tag ∷ more)) (tag ∷ more)
 here rest more tag size is sized = ap (λ (k : ℕ). take k rest) sized ∙ ap (take (item_size (tag ∷ more))) is
 
-pub test_goes_on : (bytes rest after more : List ℕ) (tag size : ℕ) (known : Bool) → rest ≡ tag ∷ more → (tag ≡ 0x79 → ⊥) → size ≡ item_size (tag ∷ more)
-    → known ≡ is_found (found (take size rest)) → known ≡ true → after ≡ drop size rest → is_template 0 bytes ≡ is_template 0 rest → is_template 0 bytes ≡ is_template 0 after
-test_goes_on bytes rest after more tag size known is other sized known_is holds next before =
-    before ∙ ap (is_template 0) is
-    ∙ test_step tag more other true (sym holds ∙ known_is ∙ ap (λ (l : List ℕ). is_found (found l)) (here rest more tag size is sized))
-    ∙ skip_test (item_size (tag ∷ more) - 1) more ∙ ap (is_template 0) (sym (after_front rest after more tag size is sized next))
+pub test_goes_on : (bytes rest after more : List ℕ) (was inside next_inside : Bool) (tag size : ℕ) (known : Bool) → rest ≡ tag ∷ more → (tag ≡ 0x79 → ⊥)
+    → size ≡ item_size (tag ∷ more) → known ≡ (may_follow inside tag && is_found (found (take size rest))) → known ≡ true → after ≡ drop size rest
+    → next_inside ≡ is_inside inside tag → is_template was 0 bytes ≡ is_template inside 0 rest → is_template was 0 bytes ≡ is_template next_inside 0 after
+test_goes_on bytes rest after more was inside next_inside tag size known is other sized known_is holds next turned before =
+    before ∙ ap (is_template inside 0) is
+    ∙ test_step inside tag more other true (sym holds ∙ known_is ∙ ap (λ (l : List ℕ). may_follow inside tag && is_found (found l)) (here rest more tag size is sized))
+    ∙ skip_test (is_inside inside tag) (item_size (tag ∷ more) - 1) more
+    ∙ ap (is_template (is_inside inside tag) 0) (sym (after_front rest after more tag size is sized next))
+    ∙ ap (λ (v : Bool). is_template v 0 after) (sym turned)
 
-pub test_fails : (bytes rest more : List ℕ) (tag size : ℕ) (known : Bool) → rest ≡ tag ∷ more → (tag ≡ 0x79 → ⊥) → size ≡ item_size (tag ∷ more)
-    → known ≡ is_found (found (take size rest)) → known ≡ false → is_template 0 bytes ≡ is_template 0 rest → false ≡ is_template 0 bytes
-test_fails bytes rest more tag size known is other sized known_is fails before =
-    sym (before ∙ ap (is_template 0) is ∙ test_step tag more other false (sym fails ∙ known_is ∙ ap (λ (l : List ℕ). is_found (found l)) (here rest more tag size is sized)))
+pub test_fails : (bytes rest more : List ℕ) (was inside : Bool) (tag size : ℕ) (known : Bool) → rest ≡ tag ∷ more → (tag ≡ 0x79 → ⊥) → size ≡ item_size (tag ∷ more)
+    → known ≡ (may_follow inside tag && is_found (found (take size rest))) → known ≡ false → is_template was 0 bytes ≡ is_template inside 0 rest → false ≡ is_template was 0 bytes
+test_fails bytes rest more was inside tag size known is other sized known_is fails before =
+    sym (before ∙ ap (is_template inside 0) is ∙ test_step inside tag more other false (sym fails ∙ known_is ∙ ap (λ (l : List ℕ). may_follow inside tag && is_found (found l)) (here rest more tag size is sized)))
 
-pub test_ends : (bytes rest more : List ℕ) (tag : ℕ) (last : Bool) → rest ≡ tag ∷ more → tag ≡ 0x79 → last ≡ is_zero_alone more
-    → is_template 0 bytes ≡ is_template 0 rest → last ≡ is_template 0 bytes
-test_ends bytes rest more tag last is end last_is before = last_is ∙ sym (before ∙ ap (is_template 0) is ∙ rw end refl)
+pub test_ends : (bytes rest more : List ℕ) (was inside : Bool) (tag : ℕ) (last : Bool) → rest ≡ tag ∷ more → tag ≡ 0x79 → last ≡ (not inside && is_zero_alone more)
+    → is_template was 0 bytes ≡ is_template inside 0 rest → last ≡ is_template was 0 bytes
+test_ends bytes rest more was inside tag last is end last_is before = last_is ∙ sym (before ∙ ap (is_template inside 0) is ∙ rw end refl)
 
-text_step : (d tag : ℕ) (more : List ℕ) → (tag ≡ 0x79 → ⊥) → items_text d 0 (tag ∷ more) ≡ (new_line d ++ found_text (found (take (item_size (tag ∷ more)) (tag ∷ more))) (length (tag ∷ more)) (take (item_size (tag ∷ more)) (tag ∷ more))) ++ items_text d (item_size (tag ∷ more) - 1) more
-text_step d tag more other = rw (ne_eqb tag 0x79 other) refl
+text_step : (d : ℕ) (inside : Bool) (tag : ℕ) (more : List ℕ) → (tag ≡ 0x79 → ⊥)
+    → items_text d inside 0 (tag ∷ more) ≡ item_text d inside tag (take (item_size (tag ∷ more)) (tag ∷ more)) (tag ∷ more) ++ items_text d (is_inside inside tag) (item_size (tag ∷ more) - 1) more
+text_step d inside tag more other = rw (ne_eqb tag 0x79 other) refl
 
-pub text_goes_on : (d : ℕ) (whole old rest after more new : List ℕ) (tag size : ℕ) → rest ≡ tag ∷ more → (tag ≡ 0x79 → ⊥) → size ≡ item_size (tag ∷ more)
-    → after ≡ drop size rest → new ≡ old ++ (new_line d ++ found_text (found (take size rest)) (length rest) (take size rest))
-    → old ++ items_text d 0 rest ≡ whole → new ++ items_text d 0 after ≡ whole
-text_goes_on d whole old rest after more new tag size is other sized next added before =
-    let line : List ℕ = new_line d ++ found_text (found (take size rest)) (length rest) (take size rest) in
-    let later : items_text d 0 after ≡ items_text d (item_size (tag ∷ more) - 1) more =
-    ap (items_text d 0) (after_front rest after more tag size is sized next) ∙ sym (skip_text d (item_size (tag ∷ more) - 1) more)
+pub text_goes_on : (d : ℕ) (inside next_inside : Bool) (whole old rest after more new : List ℕ) (tag size : ℕ) → rest ≡ tag ∷ more → (tag ≡ 0x79 → ⊥) → size ≡ item_size (tag ∷ more)
+    → after ≡ drop size rest → next_inside ≡ is_inside inside tag → new ≡ old ++ item_text d inside tag (take size rest) rest
+    → old ++ items_text d inside 0 rest ≡ whole → new ++ items_text d next_inside 0 after ≡ whole
+text_goes_on d inside next_inside whole old rest after more new tag size is other sized next turned added before =
+    let line : List ℕ = item_text d inside tag (take size rest) rest in
+    let later : items_text d next_inside 0 after ≡ items_text d (is_inside inside tag) (item_size (tag ∷ more) - 1) more =
+    ap (λ (v : Bool). items_text d v 0 after) turned
+    ∙ ap (items_text d (is_inside inside tag) 0) (after_front rest after more tag size is sized next)
+    ∙ sym (skip_text d (is_inside inside tag) (item_size (tag ∷ more) - 1) more)
     in
-    let step : items_text d 0 rest ≡ line ++ items_text d 0 after =
-    ap (items_text d 0) is ∙ text_step d tag more other
-    ∙ ap (λ (l : List ℕ). (new_line d ++ found_text (found l) (length (tag ∷ more)) l) ++ items_text d (item_size (tag ∷ more) - 1) more) (sym (here rest more tag size is sized))
-    ∙ ap (λ (l : List ℕ). (new_line d ++ found_text (found (take size rest)) (length l) (take size rest)) ++ items_text d (item_size (tag ∷ more) - 1) more) (sym is)
+    let step : items_text d inside 0 rest ≡ line ++ items_text d next_inside 0 after =
+    ap (items_text d inside 0) is ∙ text_step d inside tag more other
+    ∙ ap (λ (l : List ℕ). item_text d inside tag l (tag ∷ more) ++ items_text d (is_inside inside tag) (item_size (tag ∷ more) - 1) more) (sym (here rest more tag size is sized))
+    ∙ ap (λ (l : List ℕ). item_text d inside tag (take size rest) l ++ items_text d (is_inside inside tag) (item_size (tag ∷ more) - 1) more) (sym is)
     ∙ ap (λ (l : List ℕ). line ++ l) (sym later)
     in
-    ap (λ (l : List ℕ). l ++ items_text d 0 after) added ∙ append_assoc old line (items_text d 0 after) ∙ ap (λ (l : List ℕ). old ++ l) (sym step) ∙ before
+    ap (λ (l : List ℕ). l ++ items_text d next_inside 0 after) added ∙ append_assoc old line (items_text d next_inside 0 after) ∙ ap (λ (l : List ℕ). old ++ l) (sym step) ∙ before
 
-pub text_ends : (d : ℕ) (whole now rest more : List ℕ) (tag : ℕ) → rest ≡ tag ∷ more → tag ≡ 0x79 → now ++ items_text d 0 rest ≡ whole → now ++ [] ≡ whole
-text_ends d whole now rest more tag is end before =
-    let none : items_text d 0 rest ≡ [] = ap (items_text d 0) is ∙ rw end refl in
+pub text_ends : (d : ℕ) (inside : Bool) (whole now rest more : List ℕ) (tag : ℕ) → rest ≡ tag ∷ more → tag ≡ 0x79 → now ++ items_text d inside 0 rest ≡ whole → now ++ [] ≡ whole
+text_ends d inside whole now rest more tag is end before =
+    let none : items_text d inside 0 rest ≡ [] = ap (items_text d inside 0) is ∙ rw end refl in
     ap (λ (l : List ℕ). now ++ l) (sym none) ∙ before
 
 -- ---- numbers of four bytes
@@ -93,14 +120,14 @@ pub dwords_step : (first : Bool) (s : List ℕ) → 4 ≤ length s → dwords fi
 dwords_step first s some =
     parts_step first s some ∙ ap (λ (l : List ℕ). (comma first ++ (codes "0x" ++ digits_at 4 0 s)) ++ dwords false l) (sym (take_rest s 4))
 
-pins_cut : (first : Bool) (s : List ℕ) → 2 ≤ length s → pins first s ≡ (comma first ++ (codes "0x" ++ digits_at 2 0 s)) ++ pins false (drop 2 s)
-pins_cut first [] some = absurd (omega (arith, some))
-pins_cut first (a ∷ []) some = absurd (omega (arith, some))
-pins_cut first (a ∷ b ∷ rest) some = refl
+pairs_cut : (first : Bool) (s : List ℕ) → 2 ≤ length s → pairs first s ≡ (comma first ++ (codes "0x" ++ digits_at 2 0 s)) ++ pairs false (drop 2 s)
+pairs_cut first [] some = absurd (omega (arith, some))
+pairs_cut first (a ∷ []) some = absurd (omega (arith, some))
+pairs_cut first (a ∷ b ∷ rest) some = refl
 
-pub pins_step : (first : Bool) (s : List ℕ) → 2 ≤ length s → pins first s ≡ (comma first ++ (codes "0x" ++ digits_at 2 0 s)) ++ pins false (take (length s - 2) (drop 2 s))
-pins_step first s some =
-    pins_cut first s some ∙ ap (λ (l : List ℕ). (comma first ++ (codes "0x" ++ digits_at 2 0 s)) ++ pins false l) (sym (take_rest s 2))
+pub pairs_step : (first : Bool) (s : List ℕ) → 2 ≤ length s → pairs first s ≡ (comma first ++ (codes "0x" ++ digits_at 2 0 s)) ++ pairs false (take (length s - 2) (drop 2 s))
+pairs_step first s some =
+    pairs_cut first s some ∙ ap (λ (l : List ℕ). (comma first ++ (codes "0x" ++ digits_at 2 0 s)) ++ pairs false l) (sym (take_rest s 2))
 
 -- ---- digits
 

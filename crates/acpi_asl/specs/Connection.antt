@@ -1,7 +1,7 @@
 -- The connections of fields, and how fields are accessed (ACPI 6.5, 19.6.1 and 19.6.15).
 use Rattle.std.specs.Prelude.{ℕ, ◌==◌, ◌&&◌, Bool, true, false, if◌then◌else◌, List, [], ◌∷◌, ◌++◌, length, codes}
 use Rattle.acpi_asl.specs.Number.{hex, least_bytes, number_text}
-use Rattle.acpi_asl.specs.Template.{comma, found, is_found, found_text}
+use Rattle.acpi_asl.specs.Template.{found, is_found, found_text, listed_bytes}
 use Rattle.acpi_asl.specs.declared.word.Keyword.TheVariants.{AccessType, AccessAttribute, ExtendedAttribute}
 use Rattle.acpi_asl.specs.Word.{keyword_text}
 
@@ -24,10 +24,6 @@ extended_access_text access attribute size = access_front access ++ extended_tex
 -- whether a buffer of this size, a number of v bytes, is what the macro of a descriptor makes
 abbrev pub is_macro : ℕ → ℕ → List ℕ → Bool
 is_macro size v bytes = size == length bytes && v == least_bytes (length bytes) && is_found (found bytes)
-
-abbrev pub listed_bytes : Bool → List ℕ → List ℕ
-listed_bytes first [] = []
-listed_bytes first (b ∷ bytes) = (comma first ++ hex 1 b) ++ listed_bytes false bytes
 
 abbrev pub raw_text : ℕ → ℕ → List ℕ → List ℕ
 raw_text size v bytes = (codes "Buffer (" ++ number_text size v ++ codes ") {") ++ listed_bytes true bytes ++ codes "}"

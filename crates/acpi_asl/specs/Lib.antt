@@ -5,6 +5,7 @@ pub mod Word
 pub mod Place
 pub mod Opening
 pub mod Descriptor
+pub mod Content
 pub mod Template
 pub mod Connection
 pub mod Row

@@ -58,7 +58,7 @@ has_size n (term h w children others) = is_shortest n h w
 
 -- whether a head with these children is a buffer that a resource template makes: with the number of its bytes as its size
 abbrev pub is_template_buffer : Head → Terms → Bool
-is_template_buffer (def_buffer bytes) children = has_size (length bytes) children && is_template 0 bytes
+is_template_buffer (def_buffer bytes) children = has_size (length bytes) children && is_template false 0 bytes
 is_template_buffer _ children = false
 
 -- ---- UUIDs

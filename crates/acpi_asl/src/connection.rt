@@ -3,12 +3,13 @@
 
 ghost use Rattle.std.specs.Prelude.{◌≡◌, ◌++◌, true, length, codes, OnOk, string_bytes};
 ghost use Rattle.acpi_asl.specs.Connection.{access_front, access_text, extended_text, extended_access_text, is_macro};
-ghost use Rattle.acpi_asl.specs.Connection.{listed_bytes, raw_text, buffer_text, connection_text};
+ghost use Rattle.acpi_asl.specs.Connection.{raw_text, buffer_text, connection_text};
 ghost use Rattle.acpi_asl.specs.Name.{asl_name};
 ghost use Rattle.acpi_asl.specs.Number.{hex, number_text};
-ghost use Rattle.acpi_asl.specs.Template.{comma};
+ghost use Rattle.acpi_asl.specs.Template.{listed_bytes};
 
-use crate::item::{comma, is_known, push_item};
+use crate::item::{is_known, push_item};
+use crate::list::push_bytes;
 use crate::name::push_name;
 use crate::number::{least_bytes, push_hex, push_number};
 use crate::word::{Keyword, push_keyword};
@@ -63,24 +64,6 @@ fn is_macro(size: u64, width: u8, bytes: &[u8]) -> bool
     ensures { result ≡ is_macro size width bytes.now }
 {
     size == bytes.len() as u64 && width == least_bytes(bytes.len() as u64) && is_known(bytes)
-}
-
-fn push_listed(first: bool, byte: u8, text: &mut String) -> Result<(), AllocError>
-    ensures { OnOk result (string_bytes text.new ≡ string_bytes text.old ++ (comma first ++ hex 1 byte)) }
-{
-    text.push_str(comma(first))?;
-    push_hex(1, u64::from(byte), text)
-}
-
-fn push_bytes(bytes: &[u8], text: &mut String) -> Result<(), AllocError>
-    ensures { OnOk result (string_bytes text.new ≡ string_bytes text.old ++ listed_bytes true bytes.now) }
-{
-    let mut first = true;
-    'bytes: for byte in bytes {
-        push_listed(first, *byte, text)?;
-        first = false;
-    }
-    Ok(())
 }
 
 #[tactic(auto, using(acpi_read::proofs::Texts::after_three))]

@@ -4,9 +4,12 @@
 pub mod asl;
 pub mod block;
 mod connection;
+mod content;
 mod descriptor;
 mod eisa;
 mod item;
+mod list;
+mod macros;
 mod name;
 pub mod namespace;
 mod number;

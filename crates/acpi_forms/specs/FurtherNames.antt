@@ -165,14 +165,19 @@ faults_tables =
     (one_kind "Corrected Platform Error Polling Processor Structure")
     ∷ only_read "RASF" "ACPI RAS Feature Table (RASF)" []
     ∷ only_read "RAS2" "ACPI RAS2 Feature Table (RAS2)" (one_kind "RAS2 PCC Descriptor")
-    ∷ only_read "AEST" "Arm Error Source Table (AEST)" aest_kinds
     ∷ only_read "PHAT" "Platform Health Assessment Table (PHAT)" phat_kinds
     ∷ only_read "PDTT" "Platform Debug Trigger Table (PDTT)" (one_kind "Trigger Identifier")
-    ∷ only_read "AGDI" "Arm Generic Diagnostic Dump and Reset Interface Table (AGDI)" []
-    ∷ only_read "SDEI" "Software Delegated Exceptions Interface Table (SDEI)" []
     ∷ only_read "WDAT" "Watchdog Action Table (WDAT)" (one_kind "Watchdog Instruction Entry")
     ∷ only_read "WDRT" "Watchdog Resource Table (WDRT)" []
     ∷ only_read "WDDT" "Watchdog Descriptor Table (WDDT)" []
+    ∷ []
+
+-- errors of Arm machines
+abbrev pub arm_faults_tables : List Named
+arm_faults_tables =
+    only_read "AEST" "Arm Error Source Table (AEST)" aest_kinds
+    ∷ only_read "AGDI" "Arm Generic Diagnostic Dump and Reset Interface Table (AGDI)" []
+    ∷ only_read "SDEI" "Software Delegated Exceptions Interface Table (SDEI)" []
     ∷ []
 
 -- devices
@@ -203,4 +208,5 @@ memory_tables =
     ∷ only_read "PMTT" "Platform Memory Topology Table (PMTT)" pmtt_kinds
     ∷ only_read "MPAM" "Memory System Resource Partitioning and Monitoring Table (MPAM)" (one_kind "MPAM MSC Node")
     ∷ only_read "MRRM" "Memory Range and Region Mapping Structure (MRRM)" (one_kind "Memory Range Entry")
+    ∷ only_read "ERDT" "Enhanced Resource Director Technology Table (ERDT)" []
     ∷ []

@@ -18,6 +18,7 @@ pub mod drtm;
 pub mod dtpr;
 pub mod ecdt;
 pub mod einj;
+pub mod erdt;
 pub mod erst;
 pub mod fpdt;
 pub mod hest;
@@ -101,20 +102,25 @@ pub const SECURITY_FORMS: [([u8; 4], TableForm); 10] = [
 
 /// Errors, watchdogs and diagnosis.
 #[rattlefmt::skip]
-pub const FAULTS_FORMS: [([u8; 4], TableForm); 13] = [
+pub const FAULTS_FORMS: [([u8; 4], TableForm); 10] = [
     (*b"ERST", erst::ERST),
     (*b"EINJ", einj::EINJ),
     (*b"CPEP", cpep::CPEP),
     (*b"RASF", rasf::RASF),
     (*b"RAS2", ras2::RAS2),
-    (*b"AEST", aest::AEST),
     (*b"PHAT", phat::PHAT),
     (*b"PDTT", pdtt::PDTT),
-    (*b"AGDI", agdi::AGDI),
-    (*b"SDEI", sdei::SDEI),
     (*b"WDAT", wdat::WDAT),
     (*b"WDRT", wdrt::WDRT),
     (*b"WDDT", wddt::WDDT),
+];
+
+/// Errors of Arm machines.
+#[rattlefmt::skip]
+pub const ARM_FAULTS_FORMS: [([u8; 4], TableForm); 3] = [
+    (*b"AEST", aest::AEST),
+    (*b"AGDI", agdi::AGDI),
+    (*b"SDEI", sdei::SDEI),
 ];
 
 /// Devices.
@@ -135,7 +141,7 @@ pub const DEVICES_FORMS: [([u8; 4], TableForm); 11] = [
 
 /// Memory, power and performance.
 #[rattlefmt::skip]
-pub const MEMORY_FORMS: [([u8; 4], TableForm); 8] = [
+pub const MEMORY_FORMS: [([u8; 4], TableForm); 9] = [
     (*b"NFIT", nfit::NFIT),
     (*b"PCCT", pcct::PCCT),
     (*b"LPIT", lpit::LPIT),
@@ -144,4 +150,5 @@ pub const MEMORY_FORMS: [([u8; 4], TableForm); 8] = [
     (*b"PMTT", pmtt::PMTT),
     (*b"MPAM", mpam::MPAM),
     (*b"MRRM", mrrm::MRRM),
+    (*b"ERDT", erdt::ERDT),
 ];

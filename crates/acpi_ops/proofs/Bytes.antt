@@ -15,9 +15,16 @@ use Rattle.acpi_ops.specs.declared.address_space.Movable.{Movable}
 use Rattle.acpi_ops.specs.AddressSpace.{byte, word, record_of, or_zero, end_flags, fixed_flags, granularity_in, size_of}
 use Rattle.acpi_ops.specs.AddressSpace.{is_range, space_bytes}
 use Rattle.acpi_ops.specs.Descriptor.{bit, vector_flags, fixed_fields, port_fields, interrupt_fields, register_fields}
+use Rattle.acpi_ops.specs.declared.gpio.PinConfig.{PinConfig}
 use Rattle.acpi_ops.specs.declared.gpio.Settings.{Settings}
+use Rattle.acpi_ops.specs.declared.pins.PinSetting.{PinSetting}
+use Rattle.acpi_ops.specs.declared.pins.PinUse.{PinUse}
 use Rattle.acpi_ops.specs.declared.serial.Bus.{Bus}
-use Rattle.acpi_ops.specs.Gpio.{config_number, source_at, vendor_at, gpio_head_fields, pins_bytes, gpio_bytes}
+use Rattle.acpi_ops.specs.Gpio.{config_number, gpio_head_fields, gpio_bytes}
+use Rattle.acpi_ops.specs.Parts.{name_at, vendor_at, length_of, parts_bytes, pins_bytes}
+use Rattle.acpi_ops.specs.Pins.{setting_number, use_flags, function_fields, function_bytes, configuration_fields, configuration_bytes}
+use Rattle.acpi_ops.specs.Pins.{group_fields, group_bytes, group_function_fields, group_function_bytes}
+use Rattle.acpi_ops.specs.Pins.{group_configuration_fields, group_configuration_bytes}
 use Rattle.acpi_ops.specs.Interrupts.{interrupts_head_fields, numbers_bytes, interrupts_bytes}
 use Rattle.acpi_ops.specs.Memory.{memory_24_fields, memory_32_fields}
 use Rattle.acpi_ops.specs.Serial.{general_flags, length_after, serial_head_fields, serial_bytes}
@@ -91,40 +98,62 @@ short content are = named (vendor_short_fields content) (bytes_le 1 (0x70 + leng
 long : (content : List ℕ) → AreBytes content → AreBytes (fields_joined (vendor_long_fields content))
 long content are = named (vendor_long_fields content) (bytes_le 1 0x84, (bytes_le 2 (length content), (are, tt)))
 
+-- a name with a zero, and a vendor's data, after a table
+parts_are : (table name vendor : List ℕ) → AreBytes table → AreBytes name → AreBytes vendor → AreBytes (parts_bytes table name vendor)
+parts_are table name vendor p q r = bytes_both table (name ++ (0 ∷ vendor)) p (bytes_both name (0 ∷ vendor) q (lit< tt, r))
+
+list_is : (pins : List ℕ) → AreBytes (pins_bytes pins)
+list_is pins = lists (λ n. le 2 n) pins (λ n. bytes_le 2 n)
+
+zero_after : (source : List ℕ) → AreBytes source → AreBytes (source ++ 0 ∷ [])
+zero_after source p = bytes_both source (0 ∷ []) p (lit< tt, tt)
+
+with_parts : (fields : List NamedField) (table name vendor : List ℕ) → AreNamed fields → AreBytes table → AreBytes name → AreBytes vendor
+    → AreBytes (fields_joined fields ++ parts_bytes table name vendor)
+with_parts fields table name vendor are p q r =
+    bytes_both (fields_joined fields) (parts_bytes table name vendor) (named fields are) (parts_are table name vendor p q r)
+
 pins_are : (s : Settings) (pins source vendor : List ℕ) → AreBytes source → AreBytes vendor → AreBytes (gpio_bytes s pins source vendor)
-pins_are s pins source vendor p q =
+pins_are s pins source vendor q r =
     let n = length pins in let k = length source in let m = length vendor in
-    bytes_both (fields_joined (gpio_head_fields s n k m)) (pins_bytes pins ++ (source ++ (0 ∷ vendor)))
-    (named (gpio_head_fields s n k m) (
-      bytes_le 1 0x8c,
-      (
-        bytes_le 2 (vendor_at n k + m - 3),
-        (
-          bytes_le 1 1,
-          (
-            bytes_le 1 s.connection,
-            (
-              bytes_le 2 (bit s.consumer 1),
-              (
-                bytes_le 2 s.flags,
-                (
-                  bytes_le 1 (config_number s.pin_config),
-                  (
-                    bytes_le 2 s.drive_strength,
-                    (
-                      bytes_le 2 s.debounce_timeout,
-                      (bytes_le 2 23, (bytes_le 1 0, (bytes_le 2 (source_at n), (bytes_le 2 (vendor_at n k), (bytes_le 2 m, tt))))),
-                    ),
-                  ),
-                ),
-              ),
-            ),
-          ),
-        ),
-      ),
-    ))
-    (bytes_both (pins_bytes pins) (source ++ (0 ∷ vendor)) (lists (λ n. le 2 n) pins (λ n. bytes_le 2 n))
-    (bytes_both source (0 ∷ vendor) p (lit< tt, q)))
+    with_parts (gpio_head_fields s n k m) (pins_bytes pins) source vendor
+    (bytes_le 1 0x8c, (bytes_le 2 (length_of 23 (2 * n) k m), (bytes_le 1 1, (bytes_le 1 s.connection, (bytes_le 2 (bit s.consumer 1), (bytes_le 2 s.flags, (bytes_le 1 (config_number s.pin_config), (bytes_le 2 s.drive_strength, (bytes_le 2 s.debounce_timeout, (bytes_le 2 23, (bytes_le 1 0, (bytes_le 2 (name_at 23 (2 * n)), (bytes_le 2 (vendor_at 23 (2 * n) k), (bytes_le 2 m, tt))))))))))))))
+    (list_is pins) q r
+
+function_is : (shared : Bool) (c : PinConfig) (number : ℕ) (pins source vendor : List ℕ) → AreBytes source → AreBytes vendor → AreBytes (function_bytes shared c number pins source vendor)
+function_is shared c number pins source vendor q r =
+    let n = length pins in let k = length source in let m = length vendor in
+    with_parts (function_fields shared c number n k m) (pins_bytes pins) source vendor
+    (bytes_le 1 0x8d, (bytes_le 2 (length_of 18 (2 * n) k m), (bytes_le 1 1, (bytes_le 2 (bit shared 1), (bytes_le 1 (config_number c), (bytes_le 2 number, (bytes_le 2 18, (bytes_le 1 0, (bytes_le 2 (name_at 18 (2 * n)), (bytes_le 2 (vendor_at 18 (2 * n) k), (bytes_le 2 m, tt)))))))))))
+    (list_is pins) q r
+
+configuration_is : (u : PinUse) (setting : PinSetting) (value : ℕ) (pins source vendor : List ℕ) → AreBytes source → AreBytes vendor → AreBytes (configuration_bytes u setting value pins source vendor)
+configuration_is u setting value pins source vendor q r =
+    let n = length pins in let k = length source in let m = length vendor in
+    with_parts (configuration_fields u setting value n k m) (pins_bytes pins) source vendor
+    (bytes_le 1 0x8f, (bytes_le 2 (length_of 20 (2 * n) k m), (bytes_le 1 1, (bytes_le 2 (use_flags u), (bytes_le 1 (setting_number setting), (bytes_le 4 value, (bytes_le 2 20, (bytes_le 1 0, (bytes_le 2 (name_at 20 (2 * n)), (bytes_le 2 (vendor_at 20 (2 * n) k), (bytes_le 2 m, tt)))))))))))
+    (list_is pins) q r
+
+group_is : (consumer : Bool) (pins label vendor : List ℕ) → AreBytes label → AreBytes vendor → AreBytes (group_bytes consumer pins label vendor)
+group_is consumer pins label vendor q r =
+    let n = length pins in let k = length label in let m = length vendor in
+    with_parts (group_fields consumer n k m) (pins_bytes pins) label vendor
+    (bytes_le 1 0x90, (bytes_le 2 (length_of 14 (2 * n) k m), (bytes_le 1 1, (bytes_le 2 (bit consumer 1), (bytes_le 2 14, (bytes_le 2 (name_at 14 (2 * n)), (bytes_le 2 (vendor_at 14 (2 * n) k), (bytes_le 2 m, tt))))))))
+    (list_is pins) q r
+
+group_function_is : (u : PinUse) (number : ℕ) (source label vendor : List ℕ) → AreBytes source → AreBytes label → AreBytes vendor → AreBytes (group_function_bytes u number source label vendor)
+group_function_is u number source label vendor p q r =
+    let n = length source in let k = length label in let m = length vendor in
+    with_parts (group_function_fields u number n k m) (source ++ 0 ∷ []) label vendor
+    (bytes_le 1 0x91, (bytes_le 2 (length_of 17 (n + 1) k m), (bytes_le 1 1, (bytes_le 2 (use_flags u), (bytes_le 2 number, (bytes_le 1 0, (bytes_le 2 17, (bytes_le 2 (name_at 17 (n + 1)), (bytes_le 2 (vendor_at 17 (n + 1) k), (bytes_le 2 m, tt))))))))))
+    (zero_after source p) q r
+
+group_configuration_is : (u : PinUse) (setting : PinSetting) (value : ℕ) (source label vendor : List ℕ) → AreBytes source → AreBytes label → AreBytes vendor → AreBytes (group_configuration_bytes u setting value source label vendor)
+group_configuration_is u setting value source label vendor p q r =
+    let n = length source in let k = length label in let m = length vendor in
+    with_parts (group_configuration_fields u setting value n k m) (source ++ 0 ∷ []) label vendor
+    (bytes_le 1 0x92, (bytes_le 2 (length_of 20 (n + 1) k m), (bytes_le 1 1, (bytes_le 2 (use_flags u), (bytes_le 1 (setting_number setting), (bytes_le 4 value, (bytes_le 1 0, (bytes_le 2 20, (bytes_le 2 (name_at 20 (n + 1)), (bytes_le 2 (vendor_at 20 (n + 1) k), (bytes_le 2 m, tt)))))))))))
+    (zero_after source p) q r
 
 bus_are : (b : Bus) (own vendor source : List ℕ) → AreBytes own → AreBytes vendor → AreBytes source → AreBytes (serial_bytes b own vendor source)
 bus_are b own vendor source p q r =
@@ -199,5 +228,14 @@ descriptors_are_bytes = record {
   short = λ content p. provided_bytes _ (fields_joined (vendor_short_fields content)) (short content p);
   long = λ content p. provided_bytes _ (fields_joined (vendor_long_fields content)) (long content p);
   pins = λ s pins source vendor p q. provided_bytes _ (gpio_bytes s pins source vendor) (pins_are s pins source vendor p q);
+  function = λ shared c number pins source vendor p q.
+      provided_bytes _ (function_bytes shared c number pins source vendor) (function_is shared c number pins source vendor p q);
+  configuration = λ u setting value pins source vendor p q.
+      provided_bytes _ (configuration_bytes u setting value pins source vendor) (configuration_is u setting value pins source vendor p q);
+  group = λ consumer pins label vendor p q. provided_bytes _ (group_bytes consumer pins label vendor) (group_is consumer pins label vendor p q);
+  group_function = λ u number source label vendor p q r.
+      provided_bytes _ (group_function_bytes u number source label vendor) (group_function_is u number source label vendor p q r);
+  group_configuration = λ u setting value source label vendor p q r.
+      provided_bytes _ (group_configuration_bytes u setting value source label vendor) (group_configuration_is u setting value source label vendor p q r);
   bus = λ b own vendor source p q r. provided_bytes _ (serial_bytes b own vendor source) (bus_are b own vendor source p q r);
 }

@@ -10,10 +10,15 @@ use Rattle.acpi_base.specs.Bytes.{le, carried}
 use Rattle.acpi_base.specs.Fields.{fields_joined}
 use Rattle.acpi_base.specs.Object.{whole, provided}
 use Rattle.acpi_base.proofs.Bytes.{carried_le, length_le}
+use Rattle.acpi_ops.specs.declared.gpio.PinConfig.{PinConfig}
 use Rattle.acpi_ops.specs.declared.gpio.Settings.{Settings}
+use Rattle.acpi_ops.specs.declared.pins.PinSetting.{PinSetting}
+use Rattle.acpi_ops.specs.declared.pins.PinUse.{PinUse}
 use Rattle.acpi_ops.specs.declared.serial.Bus.{Bus}
 use Rattle.acpi_ops.specs.Descriptor.{bit, vector_flags}
-use Rattle.acpi_ops.specs.Gpio.{config_number, source_at, vendor_at, pins_bytes, gpio_fits, gpio_bytes}
+use Rattle.acpi_ops.specs.Gpio.{config_number, gpio_bytes}
+use Rattle.acpi_ops.specs.Parts.{name_at, vendor_at, length_of, parts_fit, parts_bytes, pins_bytes}
+use Rattle.acpi_ops.specs.Pins.{setting_number, use_flags, function_bytes, configuration_bytes, group_bytes, group_function_bytes, group_configuration_bytes}
 use Rattle.acpi_ops.specs.Interrupts.{numbers_bytes, interrupts_bytes}
 use Rattle.acpi_ops.specs.Serial.{general_flags, length_after, serial_fits, serial_bytes}
 use Rattle.acpi_ops.specs.Vendor.{vendor_short_fields, vendor_long_fields}
@@ -111,24 +116,85 @@ several_item flags numbers few =
     large 0x89 (2 + 4 * length numbers) (le 1 flags ++ (le 1 (length numbers) ++ numbers_bytes numbers)) refl
     (several_few (length numbers) few) (omega (arith, list))
 
-gpio_few : (p s v : ℕ) → gpio_fits p s v ≡ true → vendor_at p s + v - 3 < 65536
-gpio_few p s v fits = grind (arith, nat_tests)
+-- ---- heads of h bytes with parts after them: a table of t bytes, a name and a vendor's data
 
-abbrev gpio_rest : Settings → List ℕ → List ℕ → List ℕ → List ℕ
-gpio_rest s pins source vendor =
+parts_few : (h t n v : ℕ) → parts_fit h t n v ≡ true → length_of h t n v < 65536
+parts_few h t n v fits = grind (arith, nat_tests)
+
+parts_length : (table name vendor : List ℕ) → length (parts_bytes table name vendor) ≡ length table + length name + 1 + length vendor
+parts_length table name vendor = omega (arith, length-append table (name ++ (0 ∷ vendor)), length-append name (0 ∷ vendor))
+
+pins_length : (pins : List ℕ) → length (pins_bytes pins) ≡ 2 * length pins
+pins_length pins = lists (λ n. le 2 n) 2 pins (λ n. length_le 2 n)
+
+-- the fields after Length, and the parts
+parts_item : (tag h t : ℕ) (fields table name vendor : List ℕ) → nat_lt tag 128 ≡ false → 3 + length fields ≡ h → length table ≡ t
+    → parts_fit h t (length name) (length vendor) ≡ true
+    → IsItem (tag ∷ (le 2 (length_of h t (length name) (length vendor)) ++ (fields ++ parts_bytes table name vendor)))
+parts_item tag h t fields table name vendor big head sized fits =
+    large tag (length_of h t (length name) (length vendor)) (fields ++ parts_bytes table name vendor) big
+    (parts_few h t (length name) (length vendor) fits)
+    (omega (arith, head, sized, length-append fields (parts_bytes table name vendor), parts_length table name vendor))
+
+abbrev gpio_rest : Settings → ℕ → ℕ → ℕ → List ℕ
+gpio_rest s p n v =
     le 1 1 ++ (le 1 s.connection ++ (le 2 (bit s.consumer 1) ++ (le 2 s.flags ++ (le 1 (config_number s.pin_config)
-    ++ (le 2 s.drive_strength ++ (le 2 s.debounce_timeout ++ (le 2 23 ++ (le 1 0 ++ (le 2 (source_at (length pins))
-    ++ (le 2 (vendor_at (length pins) (length source)) ++ (le 2 (length vendor) ++ (pins_bytes pins ++ (source ++ (0 ∷ vendor))))))))))))))
+    ++ (le 2 s.drive_strength ++ (le 2 s.debounce_timeout ++ (le 2 23 ++ (le 1 0 ++ (le 2 (name_at 23 (2 * p))
+    ++ (le 2 (vendor_at 23 (2 * p) n) ++ le 2 v))))))))))
 
-gpio_length : (pins source vendor : List ℕ) → length (pins_bytes pins ++ (source ++ (0 ∷ vendor))) ≡ 2 * length pins + length source + 1 + length vendor
-gpio_length pins source vendor =
-    let list : length (pins_bytes pins) ≡ 2 * length pins = lists (λ n. le 2 n) 2 pins (λ n. length_le 2 n) in
-    omega (arith, list, length-append (pins_bytes pins) (source ++ (0 ∷ vendor)), length-append source (0 ∷ vendor))
+gpio_item : (s : Settings) (pins source vendor : List ℕ) → parts_fit 23 (2 * length pins) (length source) (length vendor) ≡ true → IsItem (gpio_bytes s pins source vendor)
+gpio_item s pins source vendor =
+    parts_item 0x8c 23 (2 * length pins) (gpio_rest s (length pins) (length source) (length vendor)) (pins_bytes pins) source vendor refl refl (pins_length pins)
 
-gpio_item : (s : Settings) (pins source vendor : List ℕ) → gpio_fits (length pins) (length source) (length vendor) ≡ true → IsItem (gpio_bytes s pins source vendor)
-gpio_item s pins source vendor fits =
-    large 0x8c (vendor_at (length pins) (length source) + length vendor - 3) (gpio_rest s pins source vendor) refl
-    (gpio_few (length pins) (length source) (length vendor) fits) (omega (arith, gpio_length pins source vendor))
+abbrev function_rest : Bool → PinConfig → ℕ → ℕ → ℕ → ℕ → List ℕ
+function_rest shared c number p n v =
+    le 1 1 ++ (le 2 (bit shared 1) ++ (le 1 (config_number c) ++ (le 2 number ++ (le 2 18 ++ (le 1 0 ++ (le 2 (name_at 18 (2 * p))
+    ++ (le 2 (vendor_at 18 (2 * p) n) ++ le 2 v)))))))
+
+function_item : (shared : Bool) (c : PinConfig) (number : ℕ) (pins source vendor : List ℕ)
+    → parts_fit 18 (2 * length pins) (length source) (length vendor) ≡ true → IsItem (function_bytes shared c number pins source vendor)
+function_item shared c number pins source vendor =
+    parts_item 0x8d 18 (2 * length pins) (function_rest shared c number (length pins) (length source) (length vendor)) (pins_bytes pins) source vendor refl refl (pins_length pins)
+
+abbrev configuration_rest : PinUse → PinSetting → ℕ → ℕ → ℕ → ℕ → List ℕ
+configuration_rest u setting value p n v =
+    le 1 1 ++ (le 2 (use_flags u) ++ (le 1 (setting_number setting) ++ (le 4 value ++ (le 2 20 ++ (le 1 0 ++ (le 2 (name_at 20 (2 * p))
+    ++ (le 2 (vendor_at 20 (2 * p) n) ++ le 2 v)))))))
+
+configuration_item : (u : PinUse) (setting : PinSetting) (value : ℕ) (pins source vendor : List ℕ)
+    → parts_fit 20 (2 * length pins) (length source) (length vendor) ≡ true → IsItem (configuration_bytes u setting value pins source vendor)
+configuration_item u setting value pins source vendor =
+    parts_item 0x8f 20 (2 * length pins) (configuration_rest u setting value (length pins) (length source) (length vendor)) (pins_bytes pins) source vendor refl refl (pins_length pins)
+
+abbrev group_rest : Bool → ℕ → ℕ → ℕ → List ℕ
+group_rest consumer p n v =
+    le 1 1 ++ (le 2 (bit consumer 1) ++ (le 2 14 ++ (le 2 (name_at 14 (2 * p)) ++ (le 2 (vendor_at 14 (2 * p) n) ++ le 2 v))))
+
+group_item : (consumer : Bool) (pins label vendor : List ℕ) → parts_fit 14 (2 * length pins) (length label) (length vendor) ≡ true
+    → IsItem (group_bytes consumer pins label vendor)
+group_item consumer pins label vendor =
+    parts_item 0x90 14 (2 * length pins) (group_rest consumer (length pins) (length label) (length vendor)) (pins_bytes pins) label vendor refl refl (pins_length pins)
+
+abbrev group_function_rest : PinUse → ℕ → ℕ → ℕ → ℕ → List ℕ
+group_function_rest u number s n v =
+    le 1 1 ++ (le 2 (use_flags u) ++ (le 2 number ++ (le 1 0 ++ (le 2 17 ++ (le 2 (name_at 17 (s + 1)) ++ (le 2 (vendor_at 17 (s + 1) n) ++ le 2 v))))))
+
+group_function_item : (u : PinUse) (number : ℕ) (source label vendor : List ℕ)
+    → parts_fit 17 (length source + 1) (length label) (length vendor) ≡ true → IsItem (group_function_bytes u number source label vendor)
+group_function_item u number source label vendor =
+    parts_item 0x91 17 (length source + 1) (group_function_rest u number (length source) (length label) (length vendor)) (source ++ 0 ∷ []) label vendor refl refl
+    (length-append source (0 ∷ []))
+
+abbrev group_configuration_rest : PinUse → PinSetting → ℕ → ℕ → ℕ → ℕ → List ℕ
+group_configuration_rest u setting value s n v =
+    le 1 1 ++ (le 2 (use_flags u) ++ (le 1 (setting_number setting) ++ (le 4 value ++ (le 1 0 ++ (le 2 20 ++ (le 2 (name_at 20 (s + 1))
+    ++ (le 2 (vendor_at 20 (s + 1) n) ++ le 2 v)))))))
+
+group_configuration_item : (u : PinUse) (setting : PinSetting) (value : ℕ) (source label vendor : List ℕ)
+    → parts_fit 20 (length source + 1) (length label) (length vendor) ≡ true → IsItem (group_configuration_bytes u setting value source label vendor)
+group_configuration_item u setting value source label vendor =
+    parts_item 0x92 20 (length source + 1) (group_configuration_rest u setting value (length source) (length label) (length vendor)) (source ++ 0 ∷ []) label vendor refl refl
+    (length-append source (0 ∷ []))
 
 serial_few : (o v s : ℕ) → serial_fits o v s ≡ true → length_after (o + v) s < 65536
 serial_few o v s fits = grind (arith, nat_tests)
@@ -173,5 +239,14 @@ descriptors_are_items = record {
   short = λ content. provided_item _ (fields_joined (vendor_short_fields content)) (short_item content);
   long = λ content. provided_item _ (fields_joined (vendor_long_fields content)) (long_item content);
   pins = λ s pins source vendor. provided_item _ (gpio_bytes s pins source vendor) (gpio_item s pins source vendor);
+  function = λ shared c number pins source vendor.
+      provided_item _ (function_bytes shared c number pins source vendor) (function_item shared c number pins source vendor);
+  configuration = λ u setting value pins source vendor.
+      provided_item _ (configuration_bytes u setting value pins source vendor) (configuration_item u setting value pins source vendor);
+  group = λ consumer pins label vendor. provided_item _ (group_bytes consumer pins label vendor) (group_item consumer pins label vendor);
+  group_function = λ u number source label vendor.
+      provided_item _ (group_function_bytes u number source label vendor) (group_function_item u number source label vendor);
+  group_configuration = λ u setting value source label vendor.
+      provided_item _ (group_configuration_bytes u setting value source label vendor) (group_configuration_item u setting value source label vendor);
   bus = λ b own vendor source. provided_item _ (serial_bytes b own vendor source) (serial_item b own vendor source);
 }

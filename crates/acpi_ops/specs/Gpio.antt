@@ -1,12 +1,11 @@
 -- Connections to GPIO pins (ACPI 6.5, 6.4.3.8.1). Each line has a field with its name in the standard, and its offset.
-use Rattle.std.specs.Prelude.{ℕ, ◌+◌, ◌-◌, ◌*◌, nat_le, ◌&&◌, Bool, List, [], ◌∷◌, ◌++◌, length}
-use Rattle.std.specs.List.{flat_map}
+use Rattle.std.specs.Prelude.{ℕ, ◌+◌, ◌*◌, List, [], ◌∷◌, ◌++◌, length}
 use Rattle.acpi_base.specs.declared.error.Error.TheVariants.{FieldWidth}
-use Rattle.acpi_base.specs.Bytes.{le}
 use Rattle.acpi_base.specs.Fields.{NamedField, byte, word, hex, preset, flags, one_of, fields_joined}
 use Rattle.acpi_base.specs.Look.{Part, choice, means}
 use Rattle.acpi_base.specs.Object.{Object, whole, provided}
 use Rattle.acpi_ops.specs.Descriptor.{bit}
+use Rattle.acpi_ops.specs.Parts.{name_at, vendor_at, length_of, parts_fit, parts_bytes, pins_bytes}
 use Rattle.acpi_ops.specs.declared.gpio.GpioPolarity.{GpioPolarity}
 use Rattle.acpi_ops.specs.declared.gpio.GpioPolarity.TheVariants as polarities
 use Rattle.acpi_ops.specs.declared.gpio.IoRestriction.{IoRestriction}
@@ -81,19 +80,11 @@ of_io s = record {
   debounce_timeout = s.debounce_timeout;
 }
 
--- the offset of the name of the controller, after this many pins of two bytes each
-abbrev pub source_at : ℕ → ℕ
-source_at pins = 23 + 2 * pins
-
--- the offset of the vendor's data, after this many pins, and a name of this many bytes and a zero
-abbrev pub vendor_at : ℕ → ℕ → ℕ
-vendor_at pins source = source_at pins + source + 1
-
 -- GPIO Connection Descriptor before its pins: this many, a name of this many bytes, and this many bytes of the vendor
 abbrev pub gpio_head_fields : Settings → ℕ → ℕ → ℕ → List NamedField
 gpio_head_fields s pins source vendor =
     preset byte "GPIO Connection Descriptor" 0x8c  -- 0
-    ∷ word "Length" (vendor_at pins source + vendor - 3)  -- 1
+    ∷ word "Length" (length_of 23 (2 * pins) source vendor)  -- 1
     ∷ preset byte "Revision ID" 1  -- 3
     ∷ one_of connection_types byte "GPIO Connection Type" s.connection  -- 4
     ∷ flags general_bits word "General Flags" (bit s.consumer 1)  -- 5
@@ -103,25 +94,16 @@ gpio_head_fields s pins source vendor =
     ∷ word "Debounce Timeout" s.debounce_timeout  -- 12: in hundredths of a millisecond
     ∷ preset word "Pin Table Offset" 23  -- 14
     ∷ preset byte "Resource Source Index" 0  -- 16
-    ∷ word "Resource Source Name Offset" (source_at pins)  -- 17
-    ∷ word "Vendor Data Offset" (vendor_at pins source)  -- 19
+    ∷ word "Resource Source Name Offset" (name_at 23 (2 * pins))  -- 17
+    ∷ word "Vendor Data Offset" (vendor_at 23 (2 * pins) source)  -- 19
     ∷ word "Vendor Data Length" vendor  -- 21
     ∷ []
 
--- Pin Table, from 23 on
-abbrev pub pins_bytes : List ℕ → List ℕ
-pins_bytes pins = flat_map (λ pin. le 2 pin) pins
-
--- Resource Source and Vendor Data follow the pins.
+-- The pins, the name of the controller and the vendor's data follow.
 abbrev pub gpio_bytes : Settings → List ℕ → List ℕ → List ℕ → List ℕ
 gpio_bytes s pins source vendor =
-    fields_joined (gpio_head_fields s (length pins) (length source) (length vendor))
-    ++ (pins_bytes pins ++ (source ++ (0 ∷ vendor)))
-
--- the offset of the vendor's data and the length fit their fields
-abbrev pub gpio_fits : ℕ → ℕ → ℕ → Bool
-gpio_fits pins source vendor = nat_le (vendor_at pins source) 65535 && nat_le (vendor_at pins source + vendor) 65538
+    fields_joined (gpio_head_fields s (length pins) (length source) (length vendor)) ++ parts_bytes (pins_bytes pins) source vendor
 
 abbrev pub gpio : Settings → List ℕ → List ℕ → List ℕ → Object
 gpio s pins source vendor =
-    provided (gpio_fits (length pins) (length source) (length vendor)) FieldWidth (whole (gpio_bytes s pins source vendor))
+    provided (parts_fit 23 (2 * length pins) (length source) (length vendor)) FieldWidth (whole (gpio_bytes s pins source vendor))

@@ -14,13 +14,17 @@ use Rattle.acpi_term.specs.Template.{end_tag, template_bytes, buffer_of_bytes, t
 use Rattle.acpi_ops.specs.declared.address_space.AddressSpace.{AddressSpace}
 use Rattle.acpi_ops.specs.AddressSpace.{space, word_space, dword_space, qword_space}
 use Rattle.acpi_ops.specs.declared.descriptor.InterruptFlags.{InterruptFlags}
+use Rattle.acpi_ops.specs.declared.gpio.PinConfig.{PinConfig}
 use Rattle.acpi_ops.specs.declared.gpio.Settings.{Settings}
+use Rattle.acpi_ops.specs.declared.pins.PinSetting.{PinSetting}
+use Rattle.acpi_ops.specs.declared.pins.PinUse.{PinUse}
 use Rattle.acpi_ops.specs.declared.serial.Bus.{Bus}
 use Rattle.acpi_ops.specs.declared.small.DmaWidth.{DmaWidth}
 use Rattle.acpi_ops.specs.Descriptor.{fixed_bytes, port_bytes, port_10_bytes, interrupt_bytes, register_bytes}
 use Rattle.acpi_ops.specs.Gpio.{gpio}
 use Rattle.acpi_ops.specs.Interrupts.{interrupts}
 use Rattle.acpi_ops.specs.Memory.{memory_24_bytes, memory_32_bytes}
+use Rattle.acpi_ops.specs.Pins.{function, configuration, group, group_function, group_configuration}
 use Rattle.acpi_ops.specs.Serial.{serial}
 use Rattle.acpi_ops.specs.Small.{irq_bytes, irq_no_flags_bytes, dma_bytes, fixed_port_bytes, fixed_dma_bytes}
 use Rattle.acpi_ops.specs.Small.{start_dependent_bytes, start_dependent_no_priority_bytes, end_dependent_bytes}
@@ -71,6 +75,18 @@ pub record DescriptorsAreItems : Type 0 where
   pub long : (content : List ℕ) → (vendor_long content).end ≡ None → IsItem (vendor_long content).front
   pub pins : (s : Settings) (pins source vendor : List ℕ) → (gpio s pins source vendor).end ≡ None
       → IsItem (gpio s pins source vendor).front
+  pub function : (shared : Bool) (c : PinConfig) (number : ℕ) (pins source vendor : List ℕ)
+      → (function shared c number pins source vendor).end ≡ None → IsItem (function shared c number pins source vendor).front
+  pub configuration : (u : PinUse) (setting : PinSetting) (value : ℕ) (pins source vendor : List ℕ)
+      → (configuration u setting value pins source vendor).end ≡ None
+      → IsItem (configuration u setting value pins source vendor).front
+  pub group : (consumer : Bool) (pins label vendor : List ℕ) → (group consumer pins label vendor).end ≡ None
+      → IsItem (group consumer pins label vendor).front
+  pub group_function : (u : PinUse) (number : ℕ) (source label vendor : List ℕ)
+      → (group_function u number source label vendor).end ≡ None → IsItem (group_function u number source label vendor).front
+  pub group_configuration : (u : PinUse) (setting : PinSetting) (value : ℕ) (source label vendor : List ℕ)
+      → (group_configuration u setting value source label vendor).end ≡ None
+      → IsItem (group_configuration u setting value source label vendor).front
   pub bus : (b : Bus) (own vendor source : List ℕ) → (serial b own vendor source).end ≡ None
       → IsItem (serial b own vendor source).front
 
@@ -108,5 +124,16 @@ pub record DescriptorsAreBytes : Type 0 where
   pub long : (content : List ℕ) → AreBytes content → AreBytes (vendor_long content).front
   pub pins : (s : Settings) (pins source vendor : List ℕ) → AreBytes source → AreBytes vendor
       → AreBytes (gpio s pins source vendor).front
+  pub function : (shared : Bool) (c : PinConfig) (number : ℕ) (pins source vendor : List ℕ) → AreBytes source → AreBytes vendor
+      → AreBytes (function shared c number pins source vendor).front
+  pub configuration : (u : PinUse) (setting : PinSetting) (value : ℕ) (pins source vendor : List ℕ)
+      → AreBytes source → AreBytes vendor → AreBytes (configuration u setting value pins source vendor).front
+  pub group : (consumer : Bool) (pins label vendor : List ℕ) → AreBytes label → AreBytes vendor
+      → AreBytes (group consumer pins label vendor).front
+  pub group_function : (u : PinUse) (number : ℕ) (source label vendor : List ℕ)
+      → AreBytes source → AreBytes label → AreBytes vendor → AreBytes (group_function u number source label vendor).front
+  pub group_configuration : (u : PinUse) (setting : PinSetting) (value : ℕ) (source label vendor : List ℕ)
+      → AreBytes source → AreBytes label → AreBytes vendor
+      → AreBytes (group_configuration u setting value source label vendor).front
   pub bus : (b : Bus) (own vendor source : List ℕ) → AreBytes own → AreBytes vendor → AreBytes source
       → AreBytes (serial b own vendor source).front

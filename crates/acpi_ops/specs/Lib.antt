@@ -5,6 +5,8 @@ pub mod Interrupts
 pub mod Item
 pub mod Laws
 pub mod Memory
+pub mod Parts
+pub mod Pins
 pub mod Serial
 pub mod Small
 pub mod Vendor

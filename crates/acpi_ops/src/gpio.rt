@@ -1,12 +1,14 @@
 //! Connections to GPIO pins.
 
-ghost use Rattle.std.specs.Prelude.{◌≡◌, ℕ, true, length, IfOk, IfErr, IsTrue};
+ghost use Rattle.std.specs.Prelude.{◌≡◌, ◌*◌, ℕ, true};
 ghost use Rattle.acpi_base.specs.Fields.{AreRowsOf, fields_joined};
 ghost use Rattle.acpi_base.specs.Object.{Builds};
-ghost use Rattle.acpi_ops.specs.Gpio.{of_interrupt, of_io, gpio_head_fields, pins_bytes, gpio_fits, gpio};
+ghost use Rattle.acpi_ops.specs.Gpio.{of_interrupt, of_io, gpio_head_fields, gpio};
+ghost use Rattle.acpi_ops.specs.Parts.{parts_fit};
 ghost use Rattle.acpi_ops.specs.declared.gpio.Settings.{Settings as GpioSettings};
 
 use crate::descriptor::bit;
+use crate::parts::{pins_bytes, pins_fit};
 use crate::variable::VariableDescriptor;
 use acpi_base::error::{Error, R};
 use acpi_base::row::{Bits, Row, Word, record_of_numbers};
@@ -162,7 +164,7 @@ fn connection<Kind>(
     ensures { Builds result (gpio settings pins.now source.now vendor.now) }
 {
     let (pin_count, source_size) = (pins.len(), source.len());
-    if !fits(pin_count, source_size, vendor.len()) {
+    if !pins_fit(23, pin_count, source_size, vendor.len()) {
         return Err(Error::FieldWidth);
     }
     let list = pins_bytes(alloc, pins)?;
@@ -170,20 +172,9 @@ fn connection<Kind>(
     VariableDescriptor::of(alloc, &[&head, &list, source.as_bytes(), &[0], vendor])
 }
 
-// Whether the offset of the vendor's data and the length fit their fields.
-fn fits(pins: usize, source: usize, vendor: usize) -> bool
-    ensures { result ≡ gpio_fits pins source vendor }
-{
-    pins <= 0xffff
-        && source <= 0xffff
-        && vendor <= 0xffff
-        && 24 + 2 * pins + source <= 0xffff
-        && 24 + 2 * pins + source + vendor <= 0x1_0002
-}
-
 // The descriptor before its pins.
 fn head(settings: &Settings, pins: usize, source: usize, vendor: usize) -> [u8; 23]
-    requires { gpio_fits pins source vendor ≡ true }
+    requires { parts_fit 23 (2 * pins) source vendor ≡ true }
     ensures { result ≡ fields_joined (gpio_head_fields settings.now pins source vendor) }
 {
     let source_at = 23 + 2 * pins as u64;
@@ -209,17 +200,13 @@ fn head(settings: &Settings, pins: usize, source: usize, vendor: usize) -> [u8; 
     )
 }
 
-// The pins in order, two bytes each.
-fn pins_bytes(alloc: Global, pins: &[u16]) -> R<Vec<u8>>
-    ensures ok { IfOk result (λ bytes. bytes.items ≡ pins_bytes pins.now) }
-    ensures err { IfErr result (λ e. e ≡ Error.Memory) }
-{
-    let mut bytes = Vec::new(alloc);
-    'pins: for pin in pins {
-        bytes.extend_from_slice(&pin.to_le_bytes())?;
-    }
-    Ok(bytes)
-}
+/// The numbers of pull resistors.
+pub(crate) const PIN_CONFIGS: [Word; 4] = [
+    Word(0, "Default"),
+    Word(1, "Pull-up"),
+    Word(2, "Pull-down"),
+    Word(3, "No Pull"),
+];
 
 const GPIO_HEAD: [Row; 14] = [
     Row::Preset("GPIO Connection Descriptor", 1, 0x8c),
@@ -236,16 +223,7 @@ const GPIO_HEAD: [Row; 14] = [
         &[Bits::OneOf(0x1, &[Word(0x0, "Producer"), Word(0x1, "Consumer")])],
     ),
     Row::Hex("Interrupt and IO Flags", 2),
-    Row::OneOf(
-        "Pin Configuration",
-        1,
-        &[
-            Word(0, "Default"),
-            Word(1, "Pull-up"),
-            Word(2, "Pull-down"),
-            Word(3, "No Pull"),
-        ],
-    ),
+    Row::OneOf("Pin Configuration", 1, &PIN_CONFIGS),
     Row::Number("Output Drive Strength", 2),
     Row::Number("Debounce Timeout", 2),
     Row::Preset("Pin Table Offset", 2, 23),

@@ -13,6 +13,8 @@ pub mod laws;
 pub mod memory;
 pub mod objects;
 pub mod operator;
+mod parts;
+pub mod pins;
 pub mod serial;
 pub mod small;
 pub mod statement;

@@ -9,23 +9,30 @@
 //! use acpi_tables::bgrt::{BGRT, Orientation};
 //! use acpi_tables::cedt::{CEDT, CxlHostBridge, CxlVersion};
 //! use acpi_tables::dbg2::{DBG2, DebugDevice, DebugPort};
+//! use acpi_tables::dmar::{DMAR, DeviceScope, Drhd, INTR_REMAP, ScopeType};
+//! use acpi_tables::erst::{Action, ERST, Instruction, SerializationEntry};
 //! use acpi_tables::facs::FACS;
 //! use acpi_tables::fadt::{FADTBuilder, Flags};
+//! use acpi_tables::fpdt::FPDT;
 //! use acpi_tables::gas::{AccessSize, AddressSpace, GAS};
 //! use acpi_tables::gtdt::{GTDT, Timer, Timers};
 //! use acpi_tables::hest::{HEST, PcieAerRootPort};
 //! use acpi_tables::hmat::{HMAT, MemoryProximityDomain};
 //! use acpi_tables::hpet::{EventTimerBlockId, HPET};
 //! use acpi_tables::iort::{IORT, IdMapping, ItsGroup, Output, RootComplex};
+//! use acpi_tables::ivrs::{DeviceEntry, IVRS, IvInfo, Ivhd};
 //! use acpi_tables::layout::{Image, ImageFault, Located, check_image, lay};
 //! use acpi_tables::madt::{EnabledStatus, LocalInterruptController, MADT, ProcessorLocalApic};
 //! use acpi_tables::mcfg::MCFG;
+//! use acpi_tables::nfit::{NFIT, RangeType, SpaRange};
+//! use acpi_tables::pcct::{Channel, Doorbell, GenericSubspace, PCCT};
 //! use acpi_tables::pptt::{PPTT, ProcessorNode};
 //! use acpi_tables::read::{ReadError, Table, report_table};
 //! use acpi_tables::rhct::{HartInfoNode, RHCT};
 //! use acpi_tables::rimt::{Iommu, RIMT};
 //! use acpi_tables::rqsc::{ControllerType, QoSController, RQSC};
 //! use acpi_tables::rsdp::Rsdp;
+//! use acpi_tables::rsdt::RSDT;
 //! use acpi_tables::sdt::{Sdt, append_object};
 //! use acpi_tables::slit::SLIT;
 //! use acpi_tables::spcr::{InterfaceType, SPCR};
@@ -36,7 +43,7 @@
 //! use acpi_tables::waet::WAET;
 //! use acpi_tables::wsmt::WSMT;
 //! use acpi_tables::xsdt::XSDT;
-//! use acpi_tables::{Aml, AmlSink, R};
+//! use acpi_tables::{Aml, AmlSink, R, ivrs};
 //! use std::alloc::Global;
 //!
 //! const OEM: [u8; 6] = *b"FOOBAR";
@@ -162,6 +169,53 @@
 //!     nodes.to_aml_bytes(sink)
 //! }
 //!
+//! fn remapping(alloc: Global, sink: &mut dyn AmlSink) -> R<()> {
+//!     // dmar: a remapping unit of Intel for an I/O APIC, function 0 of device 31 on bus 0.
+//!     let mut unit = Drhd::new(alloc, 0, 0xfed9_0000);
+//!     unit.add_scope(&DeviceScope::new(alloc, ScopeType::IoApic, 8, 0, 31, 0)?)?;
+//!     let mut units = DMAR::new(alloc, OEM, TABLE, 1, 47, INTR_REMAP);
+//!     units.add_drhd(unit)?;
+//!     units.to_aml_bytes(sink)?;
+//!     // ivrs: an IOMMU of AMD, at function 2 of device 0 on bus 0, for all devices.
+//!     let (device, base) = (2, 0xfed8_0000);
+//!     let iommu = ivrs::Iommu { flags: 0, device, capability: 0x40, base, segment: 0, info: 0 };
+//!     let mut unit = Ivhd::new(alloc, iommu, 0);
+//!     unit.add_entry(DeviceEntry::All(0))?;
+//!     let mut blocks = IVRS::new(alloc, OEM, TABLE, 1, IvInfo::new(2, 48, 64));
+//!     blocks.add_ivhd(unit)?;
+//!     blocks.to_aml_bytes(sink)
+//! }
+//!
+//! fn platform(alloc: Global, sink: &mut dyn AmlSink) -> R<()> {
+//!     // rsdt: the address of a table below 4 GiB.
+//!     let mut addresses = RSDT::new(alloc, OEM, TABLE, 1);
+//!     addresses.add_entry(0x1c00_0100)?;
+//!     addresses.to_aml_bytes(sink)?;
+//!     // erst: the step by which a write of an error record begins.
+//!     let size = AccessSize::DwordAccess;
+//!     let register = GAS::new(AddressSpace::SystemMemory, 32, 0, size, 0xfebf_3000);
+//!     let (action, write) = (Action::BeginWrite, Instruction::WriteRegisterValue);
+//!     let mut steps = ERST::new(alloc, OEM, TABLE, 1);
+//!     steps.add_entry(SerializationEntry::new(action, write, register, 0, 0xffff_ffff))?;
+//!     steps.to_aml_bytes(sink)?;
+//!     // nfit: 256 MiB of persistent memory.
+//!     let mut modules = NFIT::new(alloc, OEM, TABLE, 1);
+//!     let (base, size) = (0x1_0000_0000, 0x1000_0000);
+//!     modules.add_spa_range(SpaRange::new(1, RangeType::Persistent, base, size, 0x8008))?;
+//!     modules.to_aml_bytes(sink)?;
+//!     // pcct: a channel of 4 KiB with a doorbell.
+//!     let doorbell = Doorbell { register, preserve: 0, write: 1 };
+//!     let (base, size, latency) = (0x7000_0000, 0x1000, 100);
+//!     let channel = Channel { base, size, doorbell, latency, access_rate: 0, turnaround: 0 };
+//!     let mut channels = PCCT::new(alloc, OEM, TABLE, 1, 0);
+//!     channels.add_generic(GenericSubspace::new(channel))?;
+//!     channels.to_aml_bytes(sink)?;
+//!     // fpdt: the address of the times of the last boot.
+//!     let mut times = FPDT::new(alloc, OEM, TABLE, 1);
+//!     times.add_boot_pointer(0x7000_1000)?;
+//!     times.to_aml_bytes(sink)
+//! }
+//!
 //! fn matrices(alloc: Global, sink: &mut dyn AmlSink) -> R<()> {
 //!     // slit: the distance of two localities.
 //!     let mut distances = SLIT::new(alloc, OEM, TABLE, 1, 2)?;
@@ -249,6 +303,19 @@ pub mod dbg2 {
     pub use acpi_arm::dbg2::{DBG2, DebugDevice, DebugPort};
 }
 
+/// The DMA Remapping Reporting Table and its structures (Intel Virtualization Technology for Directed I/O 4.1, 8).
+pub mod dmar {
+    pub use acpi_pc::dmar::{
+        Andd, Atsr, DMA_CTRL_PLATFORM_OPT_IN, DMAR, DeviceScope, Drhd, INTR_REMAP, Rhsa, Rmrr,
+        Satc, ScopeType, X2APIC_OPT_OUT,
+    };
+}
+
+/// The Error Record Serialization Table (ACPI 6.5, 18.5.1).
+pub mod erst {
+    pub use acpi_pc::erst::{Action, ERST, Instruction, SerializationEntry};
+}
+
 /// The Firmware ACPI Control Structure (ACPI 6.5, 5.2.10).
 pub mod facs {
     pub use acpi_fixed::facs::FACS;
@@ -257,6 +324,11 @@ pub mod facs {
 /// The Fixed ACPI Description Table (ACPI 6.5, 5.2.9).
 pub mod fadt {
     pub use acpi_fixed::fadt::{FADT, FADTBuilder, Flags, PmProfile};
+}
+
+/// The Firmware Performance Data Table (ACPI 6.5, 5.2.24).
+pub mod fpdt {
+    pub use acpi_pc::fpdt::FPDT;
 }
 
 /// Addresses of registers (ACPI 6.5, 5.2.3.2).
@@ -305,6 +377,15 @@ pub mod iort {
     };
 }
 
+/// The I/O Virtualization Reporting Structure, its blocks and their device entries (AMD 48882, 5.2). `rimt` has a type `Iommu`, too:
+/// write `ivrs::Iommu`.
+pub mod ivrs {
+    pub use acpi_pc::ivrs::{
+        AcpiDevice, DeviceEntry, ExtendedIvhd, ExtendedType, IVRS, Iommu, IvInfo, Ivhd, Ivmd,
+        Peripherals, SpecialDevice,
+    };
+}
+
 /// The tables of a guest at their addresses, in one image, which is made and checked.
 pub mod layout {
     pub use acpi_layout::check::check_image;
@@ -329,6 +410,24 @@ pub mod madt {
 /// Memory mapped configuration spaces of PCI (PCI Firmware Specification 3.3, 4.1.2).
 pub mod mcfg {
     pub use acpi_lists::mcfg::MCFG;
+}
+
+/// The NVDIMM Firmware Interface Table and its structures (ACPI 6.5, 5.2.26).
+pub mod nfit {
+    pub use acpi_pc::nfit::{
+        BlockWindows, Capabilities, ControlRegion, DataWindow, FlushHint, Interleave, NFIT,
+        RangeType, RegionMapping, SmbiosInformation, SpaRange,
+    };
+}
+
+/// The Platform Communications Channel Table and its subspaces (ACPI 6.5, 14.1). `gtdt` has a type `Interrupt`, too: write
+/// `pcct::Interrupt`.
+pub mod pcct {
+    pub use acpi_pc::pcct::{
+        AcknowledgedSubspace, Channel, Doorbell, ExtendedChannel, ExtendedSubspace,
+        GenericSubspace, Interrupt, Masked, PCCT, PLATFORM_INTERRUPT, ReducedSubspace,
+        RegisterChannel, RegistersSubspace, Role,
+    };
 }
 
 /// The Processor Properties Topology Table and its nodes (ACPI 6.5, 5.2.30). `hmat` has a type `WritePolicy`, too: write
@@ -367,6 +466,11 @@ pub mod rqsc {
 /// The Root System Description Pointer (ACPI 6.5, 5.2.5.3).
 pub mod rsdp {
     pub use acpi_fixed::rsdp::Rsdp;
+}
+
+/// The Root System Description Table (ACPI 6.5, 5.2.7).
+pub mod rsdt {
+    pub use acpi_pc::rsdt::RSDT;
 }
 
 /// Tables with the standard header and the caller's content (ACPI 6.5, 5.2.6).

@@ -4,6 +4,7 @@ mod Commands
 mod Judged
 mod Kept
 mod Layings
+mod Machines
 mod Outcomes
 mod Paths
 mod Pointers

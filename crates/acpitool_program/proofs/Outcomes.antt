@@ -14,6 +14,7 @@ use Rattle.acpitool_program.specs.Object.{IsObject}
 use Rattle.acpitool_program.specs.Outcome.{Outcome, shown, checked, listed, refused, broken, unread, output, complaint, status, outputs, complaints, worst}
 use Rattle.acpitool_program.specs.Outcome.{heading, labelled, fault_line, fault_status, AreTrueOutcomes, AreEach, AreOfTables, AreOfDump, AreOfBytesBy, AreOfBytes}
 use Rattle.acpitool_program.specs.Outcome.{IsUnread, AreOfFile, AreGroups, joined, AreOfEach, Printed, PrintedAs}
+use Rattle.acpitool_program.specs.Outcome.{checked_of, checked_in, KeptAs}
 use Rattle.acpitool_program.specs.Program.{IsShown, NotStated, IsMisstatedAs, wrong_text}
 use Rattle.acpitool_program.specs.declared.command.Wrong.{Wrong}
 use Rattle.acpi_forms.specs.Kind.{kind_of}
@@ -37,6 +38,10 @@ complaints_append (o ∷ a) b = ap (λ l. complaint o ++ l) (complaints_append a
 worst_append : (a b : List Outcome) → worst (a ++ b) ≡ max (worst a) (worst b)
 worst_append [] b = grind arith
 worst_append (o ∷ a) b = ap (λ n. max (status o) n) (worst_append a b) ∙ grind arith
+
+checked_append : (a b : List Outcome) → checked_in (a ++ b) ≡ checked_in a ++ checked_in b
+checked_append [] b = refl
+checked_append (o ∷ a) b = ap (λ l. checked_of o ++ l) (checked_append a b) ∙ sym (append_assoc (checked_of o) (checked_in a) (checked_in b))
 
 are_append : (job : Job) (a b : List Outcome) → AreTrueOutcomes job a → AreTrueOutcomes job b → AreTrueOutcomes job (a ++ b)
 are_append job [] b one two = two
@@ -72,10 +77,68 @@ same_status {job} {outcomes} {o} {o'} {e} {e'} is one =
     let P : ℕ → Type 0 = λ n. Printed job outcomes o o' e e' n in subst P (sym is) one
 
 -- of which more is known
-pub as_these : {job : Job} {P Q : List Outcome → Type 0} {o o' e e' : Option (List ℕ)} {s : ℕ}
-    → ((outcomes : List Outcome) → P outcomes → Q outcomes) → PrintedAs job P o o' e e' s → PrintedAs job Q o o' e e' s
-as_these {job} {P} {Q} {o} {o'} {e} {e'} {s} follows one =
-    record { outcomes = one.outcomes; are = follows one.outcomes one.are; printed = one.printed }
+pub as_these : {job : Job} {P Q : List Outcome → Type 0} {o o' e e' : Option (List ℕ)} {k k' : List (List ℕ × List ℕ)} {s : ℕ}
+    → ((outcomes : List Outcome) → P outcomes → Q outcomes) → KeptAs job P o o' e e' k k' s → KeptAs job Q o o' e e' k k' s
+as_these {job} {P} {Q} {o} {o'} {e} {e'} {k} {k'} {s} follows one =
+    record { outcomes = one.outcomes; are = follows one.outcomes one.are; printed = one.printed; keeps = one.keeps }
+
+-- ---- tables that are kept
+
+keeps_none : (k : List (List ℕ × List ℕ)) (outcomes : List Outcome) → checked_in outcomes ≡ [] → k ≡ k ++ checked_in outcomes
+keeps_none k outcomes none = sym (ap (λ l. k ++ l) none ∙ append-nil k)
+
+keeps_then : (k k' k'' : List (List ℕ × List ℕ)) (a b : List Outcome) → k' ≡ k ++ checked_in a → k'' ≡ k' ++ checked_in b
+    → k'' ≡ k ++ checked_in (a ++ b)
+keeps_then k k' k'' a b one two =
+    two ∙ ap (λ l. l ++ checked_in b) one ∙ append_assoc k (checked_in a) (checked_in b) ∙ ap (λ l. k ++ l) (sym (checked_append a b))
+
+-- what is shown isn't checked
+none_shown : (bare : Bool) (stated : List (List ℕ × ℕ)) (outcomes : List Outcome) → AreTrueOutcomes (shows bare stated) outcomes
+    → checked_in outcomes ≡ []
+none_shown bare stated [] all = refl
+none_shown bare stated (shown several name bytes text after fault ∷ more) all = none_shown bare stated more all.1
+none_shown bare stated (checked json name bytes found fault ∷ more) all = absurd all.0.0
+none_shown bare stated (listed name bytes object fault ∷ more) all = none_shown bare stated more all.1
+none_shown bare stated (refused name bytes fault ∷ more) all = none_shown bare stated more all.1
+none_shown bare stated (broken name dump fault ∷ more) all = none_shown bare stated more all.1
+none_shown bare stated (unread name why ∷ more) all = none_shown bare stated more all.1
+
+-- nor is what is listed
+none_listed : (outcomes : List Outcome) → AreTrueOutcomes lists outcomes → checked_in outcomes ≡ []
+none_listed [] all = refl
+none_listed (shown several name bytes text after fault ∷ more) all = none_listed more all.1
+none_listed (checked json name bytes found fault ∷ more) all = absurd all.0.0
+none_listed (listed name bytes object fault ∷ more) all = none_listed more all.1
+none_listed (refused name bytes fault ∷ more) all = none_listed more all.1
+none_listed (broken name dump fault ∷ more) all = none_listed more all.1
+none_listed (unread name why ∷ more) all = none_listed more all.1
+
+pub shown_keep : {job : Job} {bare : Bool} {stated : List (List ℕ × ℕ)} {P : List Outcome → Type 0} {o o' e e' : Option (List ℕ)} {s : ℕ}
+    (k : List (List ℕ × List ℕ)) → job ≡ shows bare stated → PrintedAs (shows bare stated) P o o' e e' s → KeptAs job P o o' e e' k k s
+shown_keep {job} {bare} {stated} {P} {o} {o'} {e} {e'} {s} k is one =
+    let K : Job → Type 0 = λ j. KeptAs j P o o' e e' k k s in
+    subst K (sym is) (record {
+      outcomes = one.outcomes;
+      are = one.are;
+      printed = one.printed;
+      keeps = keeps_none k one.outcomes (none_shown bare stated one.outcomes one.printed.are);
+    })
+
+pub listed_keep : {job : Job} {P : List Outcome → Type 0} {o o' e e' : Option (List ℕ)} {s : ℕ}
+    (k : List (List ℕ × List ℕ)) → job ≡ lists → PrintedAs lists P o o' e e' s → KeptAs job P o o' e e' k k s
+listed_keep {job} {P} {o} {o'} {e} {e'} {s} k is one =
+    let K : Job → Type 0 = λ j. KeptAs j P o o' e e' k k s in
+    subst K (sym is) (record {
+      outcomes = one.outcomes;
+      are = one.are;
+      printed = one.printed;
+      keeps = keeps_none k one.outcomes (none_listed one.outcomes one.printed.are);
+    })
+
+-- which tables are kept needn't be known
+pub is_printed : {job : Job} {P : List Outcome → Type 0} {o o' e e' : Option (List ℕ)} {k k' : List (List ℕ × List ℕ)} {s : ℕ}
+    → KeptAs job P o o' e e' k k' s → PrintedAs job P o o' e e' s
+is_printed {job} {P} {o} {o'} {e} {e'} {k} {k'} {s} one = record { outcomes = one.outcomes; are = one.are; printed = one.printed }
 
 -- ---- one outcome
 
@@ -101,11 +164,13 @@ one_shown bare stated out out' err err' several name before bytes text after fau
       };
     }
 
-pub one_checked : (json : Bool) (out out' err err' : Option (List ℕ)) (several : Bool) (name bytes lines : List ℕ) (found : List Finding)
-    (fault : Option Fault) (s : ℕ) → AreFindings bytes found → lines ≡ printed_findings json name bytes found
+pub one_checked : (json : Bool) (out out' err err' : Option (List ℕ)) (kept kept' : List (List ℕ × List ℕ)) (several : Bool)
+    (name bytes lines : List ℕ) (found : List Finding) (fault : Option Fault) (s : ℕ)
+    → AreFindings bytes found → lines ≡ printed_findings json name bytes found
     → HasFault (kind_of bytes) bytes fault → Appends out out' lines → Appends err err' (fault_line name fault)
-    → s ≡ max (finding_status found) (fault_status fault) → PrintedAs (checks json) (AreOfTables several ((name, bytes) ∷ [])) out out' err err' s
-one_checked json out out' err err' several name bytes lines found fault s are is has wrote told same =
+    → kept' ≡ kept ++ (name, bytes) ∷ [] → s ≡ max (finding_status found) (fault_status fault)
+    → KeptAs (checks json) (AreOfTables several ((name, bytes) ∷ [])) out out' err err' kept kept' s
+one_checked json out out' err err' kept kept' several name bytes lines found fault s are is has wrote told added same =
     let Q : List ℕ → Type 0 = λ l. Appends out out' l in
     let R : List ℕ → Type 0 = λ l. Appends err err' l in
     record {
@@ -117,6 +182,7 @@ one_checked json out out' err err' several name bytes lines found fault s are is
         complained = subst R (sym (append-nil (fault_line name fault))) told;
         is = same ∙ most_of_one (max (finding_status found) (fault_status fault));
       };
+      keeps = added;
     }
 
 pub one_listed : (out out' err err' : Option (List ℕ)) (several : Bool) (name bytes object line : List ℕ) (fault : Option Fault) (s : ℕ)
@@ -137,10 +203,10 @@ one_listed out out' err err' several name bytes object line fault s is said has 
       };
     }
 
-pub one_refused : (job : Job) (out err err' : Option (List ℕ)) (several : Bool) (name bytes : List ℕ) (fault : Fault) (why : List ℕ)
+pub one_refused : (job : Job) (out err err' : Option (List ℕ)) (kept : List (List ℕ × List ℕ)) (several : Bool) (name bytes : List ℕ) (fault : Fault) (why : List ℕ)
     → IsTextFault bytes fault → why ≡ line_of fault → Appends err err' (name ++ codes ": " ++ why ++ 10 ∷ [])
-    → PrintedAs job (AreOfTables several ((name, bytes) ∷ [])) out out err err' 1
-one_refused job out err err' several name bytes fault why is says wrote =
+    → KeptAs job (AreOfTables several ((name, bytes) ∷ [])) out out err err' kept kept 1
+one_refused job out err err' kept several name bytes fault why is says wrote =
     let P : List ℕ → Type 0 = λ l. Appends err err' l in
     let Q : List ℕ → Type 0 = λ l. Appends err err' (name ++ codes ": " ++ l ++ 10 ∷ []) in
     record {
@@ -152,12 +218,13 @@ one_refused job out err err' several name bytes fault why is says wrote =
         complained = subst P (sym (append-nil (name ++ codes ": " ++ line_of fault ++ 10 ∷ []))) (subst Q says wrote);
         is = refl;
       };
+      keeps = sym (append-nil kept);
     }
 
-pub one_broken : (job : Job) (out err err' : Option (List ℕ)) (name dump why : List ℕ) (fault : DumpFault)
+pub one_broken : (job : Job) (out err err' : Option (List ℕ)) (kept : List (List ℕ × List ℕ)) (name dump why : List ℕ) (fault : DumpFault)
     → tables_of dump ≡ Err fault → why ≡ text_of fault → Appends err err' (name ++ codes ": " ++ why ++ 10 ∷ [])
-    → PrintedAs job (AreOfDump name dump) out out err err' 1
-one_broken job out err err' name dump why fault is says wrote =
+    → KeptAs job (AreOfDump name dump) out out err err' kept kept 1
+one_broken job out err err' kept name dump why fault is says wrote =
     let P : List ℕ → Type 0 = λ l. Appends err err' l in
     record {
       outcomes = broken name dump fault ∷ [];
@@ -168,11 +235,12 @@ one_broken job out err err' name dump why fault is says wrote =
         complained = subst P (ap (λ (l : List ℕ). name ++ codes ": " ++ l ++ 10 ∷ []) says ∙ sym (append-nil (name ++ codes ": " ++ text_of fault ++ 10 ∷ []))) wrote;
         is = refl;
       };
+      keeps = sym (append-nil kept);
     }
 
-pub one_unread : (job : Job) (out err err' : Option (List ℕ)) (name why : List ℕ) (s : ℕ)
-    → Appends err err' (name ++ codes ": " ++ why ++ 10 ∷ []) → s ≡ 2 → PrintedAs job (IsUnread name) out out err err' s
-one_unread job out err err' name why s wrote is =
+pub one_unread : (job : Job) (out err err' : Option (List ℕ)) (kept : List (List ℕ × List ℕ)) (name why : List ℕ) (s : ℕ)
+    → Appends err err' (name ++ codes ": " ++ why ++ 10 ∷ []) → s ≡ 2 → KeptAs job (IsUnread name) out out err err' kept kept s
+one_unread job out err err' kept name why s wrote is =
     let P : List ℕ → Type 0 = λ l. Appends err err' l in
     record {
       outcomes = unread name why ∷ [];
@@ -183,30 +251,35 @@ one_unread job out err err' name why s wrote is =
         complained = subst P (sym (append-nil (name ++ codes ": " ++ why ++ 10 ∷ []))) wrote;
         is = is;
       };
+      keeps = sym (append-nil kept);
     }
 
 -- ---- tables
 
-pub no_tables : (job : Job) (several : Bool) (out err : Option (List ℕ))
-    → PrintedAs job (AreOfTables several []) out out err err 0
-no_tables job several out err = record { outcomes = []; are = record { each = tt }; printed = nothing job out err }
+pub no_tables : (job : Job) (several : Bool) (out err : Option (List ℕ)) (kept : List (List ℕ × List ℕ))
+    → KeptAs job (AreOfTables several []) out out err err kept kept 0
+no_tables job several out err kept =
+    record { outcomes = []; are = record { each = tt }; printed = nothing job out err; keeps = sym (append-nil kept) }
 
-pub tables_then : {job : Job} {several : Bool} {xs ys : List (List ℕ × List ℕ)} {o o' o'' e e' e'' : Option (List ℕ)} {a b : ℕ}
-    → PrintedAs job (AreOfTables several xs) o o' e e' a → PrintedAs job (AreOfTables several ys) o' o'' e' e'' b
-    → PrintedAs job (AreOfTables several (xs ++ ys)) o o'' e e'' (max a b)
-tables_then {job} {several} {xs} {ys} one two = record {
+pub tables_then : {job : Job} {several : Bool} {xs ys : List (List ℕ × List ℕ)} {o o' o'' e e' e'' : Option (List ℕ)}
+    {k k' k'' : List (List ℕ × List ℕ)} {a b : ℕ}
+    → KeptAs job (AreOfTables several xs) o o' e e' k k' a → KeptAs job (AreOfTables several ys) o' o'' e' e'' k' k'' b
+    → KeptAs job (AreOfTables several (xs ++ ys)) o o'' e e'' k k'' (max a b)
+tables_then {job} {several} {xs} {ys} {k = k} {k' = k'} {k'' = k''} one two = record {
   outcomes = one.outcomes ++ two.outcomes;
   are = record { each = tables_append several xs ys one.outcomes two.outcomes one.are.each two.are.each };
   printed = and_then one.printed two.printed;
+  keeps = keeps_then k k' k'' one.outcomes two.outcomes one.keeps two.keeps;
 }
 
 -- of the same tables, with the same status
-pub same_tables : {job : Job} {several : Bool} {xs ys : List (List ℕ × List ℕ)} {o o' e e' : Option (List ℕ)} {a b : ℕ}
-    → xs ≡ ys → a ≡ b → PrintedAs job (AreOfTables several xs) o o' e e' b
-    → PrintedAs job (AreOfTables several ys) o o' e e' a
-same_tables {job} {several} {xs} {ys} {o} {o'} {e} {e'} {a} {b} same is one =
-    let P : List (List ℕ × List ℕ) → Type 0 = λ l. PrintedAs job (AreOfTables several l) o o' e e' a in
-    let Q : ℕ → Type 0 = λ n. PrintedAs job (AreOfTables several xs) o o' e e' n in
+pub same_tables : {job : Job} {several : Bool} {xs ys : List (List ℕ × List ℕ)} {o o' e e' : Option (List ℕ)}
+    {k k' : List (List ℕ × List ℕ)} {a b : ℕ}
+    → xs ≡ ys → a ≡ b → KeptAs job (AreOfTables several xs) o o' e e' k k' b
+    → KeptAs job (AreOfTables several ys) o o' e e' k k' a
+same_tables {job} {several} {xs} {ys} {o} {o'} {e} {e'} {k} {k'} {a} {b} same is one =
+    let P : List (List ℕ × List ℕ) → Type 0 = λ l. KeptAs job (AreOfTables several l) o o' e e' k k' a in
+    let Q : ℕ → Type 0 = λ n. KeptAs job (AreOfTables several xs) o o' e e' k k' n in
     subst P same (subst Q (sym is) one)
 
 -- the tables of a dump, each with its own name
@@ -252,17 +325,21 @@ groups_append Of [] word (other ∷ groups) group one two = absurd one
 groups_append Of (first ∷ words) word [] group one two = absurd one
 groups_append Of (first ∷ words) word (other ∷ groups) group one two = (one.0, groups_append Of words word groups group one.1 two)
 
-pub no_words : (job : Job) (Of : List ℕ → List Outcome → Type 0) (out err : Option (List ℕ))
-    → PrintedAs job (AreOfEach Of []) out out err err 0
-no_words job Of out err =
-    record { outcomes = []; are = record { groups = []; each = tt; are = refl }; printed = nothing job out err }
+pub no_words : (job : Job) (Of : List ℕ → List Outcome → Type 0) (out err : Option (List ℕ)) (kept : List (List ℕ × List ℕ))
+    → KeptAs job (AreOfEach Of []) out out err err kept kept 0
+no_words job Of out err kept = record {
+  outcomes = [];
+  are = record { groups = []; each = tt; are = refl };
+  printed = nothing job out err;
+  keeps = sym (append-nil kept);
+}
 
 -- one more word, in the same list of words, with the same status
 pub word_then : {job : Job} (Of : List ℕ → List Outcome → Type 0) (words all : List (List ℕ)) (word : List ℕ)
-    {o o' o'' e e' e'' : Option (List ℕ)} {a b s : ℕ} → words ++ word ∷ [] ≡ all → s ≡ max a b
-    → PrintedAs job (AreOfEach Of words) o o' e e' a → PrintedAs job (Of word) o' o'' e' e'' b
-    → PrintedAs job (AreOfEach Of all) o o'' e e'' s
-word_then {job} Of words all word {o} {o'} {o''} {e} {e'} {e''} {a} {b} {s} same is one two =
+    {o o' o'' e e' e'' : Option (List ℕ)} {k k' k'' : List (List ℕ × List ℕ)} {a b s : ℕ} → words ++ word ∷ [] ≡ all → s ≡ max a b
+    → KeptAs job (AreOfEach Of words) o o' e e' k k' a → KeptAs job (Of word) o' o'' e' e'' k' k'' b
+    → KeptAs job (AreOfEach Of all) o o'' e e'' k k'' s
+word_then {job} Of words all word {o} {o'} {o''} {e} {e'} {e''} {k} {k'} {k''} {a} {b} {s} same is one two =
     let P : List (List ℕ) → Type 0 = λ l. AreOfEach Of l (one.outcomes ++ two.outcomes) in
     record {
       outcomes = one.outcomes ++ two.outcomes;
@@ -272,6 +349,7 @@ word_then {job} Of words all word {o} {o'} {o''} {e} {e'} {e''} {a} {b} {s} same
         are = ap (λ l. l ++ two.outcomes) one.are.are ∙ sym (joined_append one.are.groups two.outcomes);
       });
       printed = same_status is (and_then one.printed two.printed);
+      keeps = keeps_then k k' k'' one.outcomes two.outcomes one.keeps two.keeps;
     }
 
 -- ---- a run

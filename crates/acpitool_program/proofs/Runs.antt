@@ -3,15 +3,16 @@ use Rattle.std.proofs.Common.{ℕ, Bool, true, false, List, Option, inl, inr}
 use Rattle.std.specs.Io.KnownBytes.{Keeps}
 use Rattle.acpitool_program.proofs.Kept.{unread_kept, unpacked_kept, written_kept, archived_kept, laid_kept, compared_kept}
 use Rattle.acpitool_program.proofs.Streams.{keeps_kept, appends_kept}
+use Rattle.acpitool_program.specs.Checking.{AreChecked}
 use Rattle.acpitool_program.specs.Disassembly.{DisassemblesFile}
 use Rattle.acpi_asl.specs.declared.block.BlockText.{BlockText}
 use Rattle.acpi_asl.specs.declared.block.BlockText.TheVariants as blocks
-use Rattle.acpitool_program.specs.Job.{Job, shows, checks, lists}
+use Rattle.acpitool_program.specs.Job.{Job, shows}
 use Rattle.acpitool_program.specs.Listing.{Listed}
 use Rattle.acpitool_program.specs.Making.{MakesWord, Makes}
 use Rattle.acpitool_program.specs.Outcome.{Outcome, Printed}
 use Rattle.acpi_forms.specs.Known.{is_known}
-use Rattle.acpitool_program.specs.Program.{Ended, IsDone, IsShown, AreListed, AreChecked, IsBlockShown, NotStated, IsTemplated}
+use Rattle.acpitool_program.specs.Program.{Ended, IsDone, IsShown, AreListed, IsBlockShown, NotStated, IsTemplated}
 use Rattle.acpitool_program.specs.declared.command.Command.{Command}
 use Rattle.acpitool_program.specs.declared.command.Command.TheVariants.{Help, Version, Show, Check, Image, Make, Template}
 use Rattle.acpitool_program.specs.declared.command.Command.TheVariants.{Disassemble, Names, Unpack, Cpio, Lay, Diff, Json}
@@ -44,23 +45,27 @@ shown_kept bare files numbers o o' o'' e e' s kept (inl all) = inl (record {
 })
 shown_kept bare files numbers o o' o'' e e' s kept (inr not) = inr (unstated_kept numbers o o' o'' e e' s kept not)
 
-json_kept : (job : Job) (files : List (List ℕ)) (o o' o'' e e' : Option (List ℕ)) (s : ℕ) → Keeps o' o''
-    → AreListed job files o o' e e' s → AreListed job files o o'' e e' s
-json_kept job files o o' o'' e e' s kept all =
+listed_kept : (files : List (List ℕ)) (o o' o'' e e' : Option (List ℕ)) (s : ℕ) → Keeps o' o''
+    → AreListed files o o' e e' s → AreListed files o o'' e e' s
+listed_kept files o o' o'' e e' s kept all =
     record { lines = all.lines; listed = all.listed; wrote = appends_kept o o' o'' _ all.wrote kept }
 
 checked_kept : (json : Bool) (files : List (List ℕ)) (o o' o'' e e' : Option (List ℕ)) (s : ℕ) → Keeps o' o''
     → AreChecked json files o o' e e' s → AreChecked json files o o'' e e' s
-checked_kept true files o o' o'' e e' s kept all = json_kept (checks true) files o o' o'' e e' s kept all
+checked_kept true files o o' o'' e e' s kept all =
+    record { lines = all.lines; checked = all.checked; wrote = appends_kept o o' o'' _ all.wrote kept }
 checked_kept false files o o' o'' e e' s kept all = record {
   outcomes = all.outcomes;
   are = all.are;
-  printed = printed_kept (checks false) all.outcomes o o' o'' e e' s kept all.printed;
+  hold = all.hold;
+  wrote = appends_kept o o' o'' _ all.wrote kept;
+  complained = all.complained;
+  is = all.is;
 }
 
-listed_kept : (json : Bool) (file : List ℕ) (base : ℕ) (o o' o'' e e' : Option (List ℕ)) (s : ℕ) → Keeps o' o''
+image_kept : (json : Bool) (file : List ℕ) (base : ℕ) (o o' o'' e e' : Option (List ℕ)) (s : ℕ) → Keeps o' o''
     → Listed json file base o o' e e' s → Listed json file base o o'' e e' s
-listed_kept json file base o o' o'' e e' s kept (inl (bytes, inl all)) = inl (
+image_kept json file base o o' o'' e e' s kept (inl (bytes, inl all)) = inl (
   bytes,
   inl (record {
     tables = all.tables;
@@ -70,7 +75,7 @@ listed_kept json file base o o' o'' e e' s kept (inl (bytes, inl all)) = inl (
     is = all.is;
   }),
 )
-listed_kept json file base o o' o'' e e' s kept (inl (bytes, inr not)) = inl (
+image_kept json file base o o' o'' e e' s kept (inl (bytes, inr not)) = inl (
   bytes,
   inr (record {
     fault = not.fault;
@@ -80,7 +85,7 @@ listed_kept json file base o o' o'' e e' s kept (inl (bytes, inr not)) = inl (
     is = not.is;
   }),
 )
-listed_kept json file base o o' o'' e e' s kept (inr not) = inr (unread_kept file o o' o'' e e' s kept not)
+image_kept json file base o o' o'' e e' s kept (inr not) = inr (unread_kept file o o' o'' e e' s kept not)
 
 disassembled_kept : (block : BlockText) (stated : List (List ℕ × ℕ)) (file : List ℕ) (o o' o'' e e' : Option (List ℕ)) (s : ℕ) → Keeps o' o''
     → DisassemblesFile block stated file o o' e e' s → DisassemblesFile block stated file o o'' e e' s
@@ -141,9 +146,9 @@ done_kept : (o o' o'' e e' : Option (List ℕ)) (s : ℕ) (command : Command) �
 done_kept o o' o'' e e' s Help kept done = (done.0, done.1, appends_kept o o' o'' _ done.2 kept, done.3)
 done_kept o o' o'' e e' s Version kept done = (done.0, appends_kept o o' o'' _ done.1 kept, done.2)
 done_kept o o' o'' e e' s (Show bare files numbers) kept done = shown_kept bare _ _ o o' o'' e e' s kept done
-done_kept o o' o'' e e' s (Json files) kept done = json_kept lists _ o o' o'' e e' s kept done
+done_kept o o' o'' e e' s (Json files) kept done = listed_kept _ o o' o'' e e' s kept done
 done_kept o o' o'' e e' s (Check json files) kept done = checked_kept json _ o o' o'' e e' s kept done
-done_kept o o' o'' e e' s (Image json file base) kept done = listed_kept json file.now base o o' o'' e e' s kept done
+done_kept o o' o'' e e' s (Image json file base) kept done = image_kept json file.now base o o' o'' e e' s kept done
 done_kept o o' o'' e e' s (Template signature) kept done = templated_kept (is_known signature.now) signature.now o o' o'' e e' s kept done
 done_kept o o' o'' e e' s (Disassemble file numbers) kept done = block_kept blocks.Asl file.now _ o o' o'' e e' s kept done
 done_kept o o' o'' e e' s (Names file numbers) kept done = block_kept blocks.Names file.now _ o o' o'' e e' s kept done

@@ -16,7 +16,9 @@ pub mod Unpacking
 pub mod Archiving
 pub mod Laying
 pub mod Comparing
+pub mod Machine
 pub mod Outcome
+pub mod Checking
 pub mod Disassembly
 pub mod Program
 pub mod Laws

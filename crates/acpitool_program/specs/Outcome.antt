@@ -222,9 +222,30 @@ AreOfWord several word outcomes = AreOfFile several word outcomes ⊎ ((word ≢
 
 -- ---- what calls print
 
+-- the tables that were checked, each with its name
+abbrev pub checked_of : Outcome → List (List ℕ × List ℕ)
+checked_of (shown several name bytes text after fault) = []
+checked_of (checked json name bytes findings fault) = (name, bytes) ∷ []
+checked_of (listed name bytes object fault) = []
+checked_of (refused name bytes fault) = []
+checked_of (broken name dump fault) = []
+checked_of (unread name why) = []
+
+abbrev pub checked_in : List Outcome → List (List ℕ × List ℕ)
+checked_in [] = []
+checked_in (outcome ∷ more) = checked_of outcome ++ checked_in more
+
 -- outcomes that are these were printed
 pub record PrintedAs (job : Job) (Are : List Outcome → Type 0)
     (out out' err err' : Option (List ℕ)) (returned : ℕ) : Type 0 where
   pub outcomes : List Outcome
   pub are : Are outcomes
   pub printed : Printed job outcomes out out' err err' returned
+
+-- the same, and the tables that were checked were added to those that are kept
+pub record KeptAs (job : Job) (Are : List Outcome → Type 0) (out out' err err' : Option (List ℕ))
+    (kept kept' : List (List ℕ × List ℕ)) (returned : ℕ) : Type 0 where
+  pub outcomes : List Outcome
+  pub are : Are outcomes
+  pub printed : Printed job outcomes out out' err err' returned
+  pub keeps : kept' ≡ kept ++ checked_in outcomes

@@ -10,10 +10,11 @@ use Rattle.acpi_forms.specs.Makes.{IsTemplateOf}
 use Rattle.acpi_input.specs.Stated.{stated}
 use Rattle.acpitool_program.specs.Command.{Asks, IsWrong, IsMisstated}
 use Rattle.acpitool_program.specs.Archiving.{Archives}
+use Rattle.acpitool_program.specs.Checking.{AreChecked}
 use Rattle.acpitool_program.specs.Comparing.{Compares}
 use Rattle.acpitool_program.specs.Disassembly.{DisassemblesFile}
 use Rattle.acpi_json.specs.Array.{array}
-use Rattle.acpitool_program.specs.Job.{Job, shows, checks, lists}
+use Rattle.acpitool_program.specs.Job.{shows, lists}
 use Rattle.acpitool_program.specs.Laying.{LaysFolder}
 use Rattle.acpitool_program.specs.Listing.{Listed}
 use Rattle.acpitool_program.specs.Making.{Makes}
@@ -105,19 +106,10 @@ IsShown bare files numbers out out' err err' status =
 -- ---- JSON
 
 -- each file has its outcomes, whose objects are printed as an array
-pub record AreListed (job : Job) (files : List (List ℕ)) (out out' err err' : Option (List ℕ)) (status : ℕ) : Type 0 where
+pub record AreListed (files : List (List ℕ)) (out out' err err' : Option (List ℕ)) (status : ℕ) : Type 0 where
   pub lines : List ℕ
-  pub listed : PrintedAs job (AreOfEach (AreOfWord (nat_lt 1 (length files))) files) (Some []) (Some lines) err err' status
+  pub listed : PrintedAs lists (AreOfEach (AreOfWord (nat_lt 1 (length files))) files) (Some []) (Some lines) err err' status
   pub wrote : Appends out out' (array lines)
-
--- ---- check
-
--- each file has its outcomes, whose objects are printed as an array if JSON is asked for
-abbrev pub AreChecked : Bool → List (List ℕ)
-    → Option (List ℕ) → Option (List ℕ) → Option (List ℕ) → Option (List ℕ) → ℕ → Type 0
-AreChecked true files out out' err err' status = AreListed (checks true) files out out' err err' status
-AreChecked false files out out' err err' status =
-    PrintedAs (checks false) (AreOfEach (AreOfWord (nat_lt 1 (length files))) files) out out' err err' status
 
 -- ---- disassemble and names
 
@@ -164,7 +156,7 @@ IsDone (Show bare files numbers) out out' err err' status =
     IsShown bare (map (λ word. string_bytes word) files.now) (map (λ word. string_bytes word) numbers.now)
     out out' err err' status
 IsDone (Json files) out out' err err' status =
-    AreListed lists (map (λ word. string_bytes word) files.now) out out' err err' status
+    AreListed (map (λ word. string_bytes word) files.now) out out' err err' status
 IsDone (Check json files) out out' err err' status =
     AreChecked json (map (λ word. string_bytes word) files.now) out out' err err' status
 IsDone (Image json file base) out out' err err' status = Listed json file.now base out out' err err' status

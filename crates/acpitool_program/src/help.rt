@@ -30,8 +30,9 @@ length, its fields by offset, name and value, its structures with their fields, 
 check prints a line for each rule of the standard that a table breaks: reserved bits and bytes that aren't zero,
 numbers that are reserved, and numbers outside their range. The line has the offset and the name of the field, its
 bytes, and the section of the standard. FILE is as for show. A rule that a table of another standard breaks is a
-warning, since newer revisions of that standard may allow it. check --json prints an array of JSON with an object for
-each such rule.
+warning, since newer revisions of that standard may allow it. Then the tables of all files are compared, as those
+of one machine: numbers of one that another has to define, such as the APIC IDs of a SRAT, which are those of the MADT.
+check --json prints an array of JSON with an object for each such rule.
 
 diff prints a line for each field in which two tables differ: its offset and its name, and its bytes in the first and
 in the second table in hexadecimal, the highest first, or none. Fields are compared in their order and not by their

@@ -4,6 +4,7 @@
 pub mod archiving;
 pub mod check;
 pub mod checked;
+pub mod checking;
 pub mod command;
 pub mod comparing;
 pub mod complaint;
@@ -17,6 +18,7 @@ pub mod job;
 pub mod laws;
 pub mod laying;
 pub mod listing;
+pub mod machine;
 pub mod making;
 pub mod object;
 pub mod offsets;

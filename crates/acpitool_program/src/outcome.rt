@@ -4,13 +4,15 @@ ghost use Rattle.std.specs.Prelude.{◌≡◌, ℕ, List, [], ◌∷◌, ◌++�
 ghost use Rattle.std.specs.Io.KnownBytes.{Appends};
 ghost use Rattle.acpi_dump.specs.Dump.{titled, is_dump, tables_of};
 ghost use Rattle.acpitool_program.specs.Job.{shows, checks, lists, asked};
+ghost use Rattle.acpitool_program.specs.Machine.{kept_by};
 ghost use Rattle.acpitool_program.specs.Outcome.{heading, fault_line, fault_status, label, labelled};
-ghost use Rattle.acpitool_program.specs.Outcome.{AreOfTables, AreOfDump, AreOfBytes, PrintedAs};
+ghost use Rattle.acpitool_program.specs.Outcome.{AreOfTables, AreOfDump, AreOfBytes, PrintedAs, KeptAs};
 
 use crate::checked::{findings_of, printed_of, status_of};
 use crate::complaint::complain;
 use crate::fault::Fault;
 use crate::job::{Job, Showing};
+use crate::machine::{Kept, keep};
 use crate::object::object_of;
 use crate::structures::structures_fault;
 use crate::terms::lines_after;
@@ -94,7 +96,7 @@ fn show_table<O: Write, E: Write>(
 }
 
 // Prints a line on `out` for each rule that a table, a pointer or a control structure breaks, or an object in a line. Prints on
-// `err` what is wrong with its structures, or why it isn't checked. Returns 0 or 1.
+// `err` what is wrong with its structures, or why it isn't checked. Keeps it if it is checked. Returns 0 or 1.
 fn check_table<O: Write, E: Write>(
     alloc: Global,
     json: bool,
@@ -103,9 +105,11 @@ fn check_table<O: Write, E: Write>(
     several: bool,
     out: &mut O,
     err: &mut E,
+    kept: &mut Vec<Kept>,
 ) -> io::Result<u8>
-    ensures { IfOk result (λ status. PrintedAs (checks json) (AreOfTables several ((name.now, bytes.now) ∷ []))
-        (O.contents out.old) (O.contents out.new) (E.contents err.old) (E.contents err.new) status) }
+    ensures { IfOk result (λ status. KeptAs (checks json) (AreOfTables several ((name.now, bytes.now) ∷ []))
+        (O.contents out.old) (O.contents out.new) (E.contents err.old) (E.contents err.new)
+        (map kept_by kept.old.items) (map kept_by kept.new.items) status) }
 {
     match findings_of(alloc, bytes) {
         Ok(findings) => {
@@ -113,6 +117,7 @@ fn check_table<O: Write, E: Write>(
             let fault = structures_fault(alloc, bytes)?;
             out.write_all(&lines)?;
             let told = tell_fault(alloc, name, &fault, err)?;
+            keep(alloc, name, bytes, kept)?;
             Ok(worst_of(status_of(&findings), told))
         }
         Err(fault) => {
@@ -149,7 +154,7 @@ fn list_table<O: Write, E: Write>(
     }
 }
 
-// Prints the text or the object of a table, or the rules that it breaks.
+// Prints the text or the object of a table, or the rules that it breaks. Keeps it if it is checked.
 fn print_table<O: Write, E: Write>(
     alloc: Global,
     job: &Job<'_>,
@@ -158,13 +163,15 @@ fn print_table<O: Write, E: Write>(
     several: bool,
     out: &mut O,
     err: &mut E,
+    kept: &mut Vec<Kept>,
 ) -> io::Result<u8>
-    ensures { IfOk result (λ status. PrintedAs (asked job.now) (AreOfTables several ((name.now, bytes.now) ∷ []))
-        (O.contents out.old) (O.contents out.new) (E.contents err.old) (E.contents err.new) status) }
+    ensures { IfOk result (λ status. KeptAs (asked job.now) (AreOfTables several ((name.now, bytes.now) ∷ []))
+        (O.contents out.old) (O.contents out.new) (E.contents err.old) (E.contents err.new)
+        (map kept_by kept.old.items) (map kept_by kept.new.items) status) }
 {
     match *job {
         Job::Shows(showing) => Ok(show_table(alloc, showing, name, bytes, several, out, err)?),
-        Job::Checks(json) => Ok(check_table(alloc, json, name, bytes, several, out, err)?),
+        Job::Checks(json) => Ok(check_table(alloc, json, name, bytes, several, out, err, kept)?),
         Job::Lists => Ok(list_table(alloc, name, bytes, several, out, err)?),
     }
 }
@@ -194,12 +201,23 @@ fn show_dumped<O: Write, E: Write>(
     table: &Dumped,
     out: &mut O,
     err: &mut E,
+    kept: &mut Vec<Kept>,
 ) -> io::Result<u8>
-    ensures { IfOk result (λ status. PrintedAs (asked job.now) (AreOfTables true (labelled name.now (titled table.now) ∷ []))
-        (O.contents out.old) (O.contents out.new) (E.contents err.old) (E.contents err.new) status) }
+    ensures { IfOk result (λ status. KeptAs (asked job.now) (AreOfTables true (labelled name.now (titled table.now) ∷ []))
+        (O.contents out.old) (O.contents out.new) (E.contents err.old) (E.contents err.new)
+        (map kept_by kept.old.items) (map kept_by kept.new.items) status) }
 {
     let label = label(alloc, name, &table.title)?;
-    Ok(print_table(alloc, job, label.as_str(), &table.bytes, true, out, err)?)
+    Ok(print_table(
+        alloc,
+        job,
+        label.as_str(),
+        &table.bytes,
+        true,
+        out,
+        err,
+        kept,
+    )?)
 }
 
 // Shows, checks or lists the tables of a dump, and returns the greatest status.
@@ -210,14 +228,16 @@ fn show_tables<O: Write, E: Write>(
     tables: &[Dumped],
     out: &mut O,
     err: &mut E,
+    kept: &mut Vec<Kept>,
 ) -> io::Result<u8>
-    ensures { IfOk result (λ status. PrintedAs (asked job.now)
+    ensures { IfOk result (λ status. KeptAs (asked job.now)
         (AreOfTables true (map (λ table. labelled name.now (titled table)) tables.now))
-        (O.contents out.old) (O.contents out.new) (E.contents err.old) (E.contents err.new) status) }
+        (O.contents out.old) (O.contents out.new) (E.contents err.old) (E.contents err.new)
+        (map kept_by kept.old.items) (map kept_by kept.new.items) status) }
 {
     let mut worst = 0;
     'tables: for table in tables {
-        let status = show_dumped(alloc, job, name, table, out, err)?;
+        let status = show_dumped(alloc, job, name, table, out, err, kept)?;
         worst = worst_of(worst, status);
     }
     Ok(worst)
@@ -231,13 +251,15 @@ fn show_dump<O: Write, E: Write>(
     dump: &[u8],
     out: &mut O,
     err: &mut E,
+    kept: &mut Vec<Kept>,
 ) -> io::Result<u8>
     requires { is_dump dump.now ≡ true }
-    ensures { IfOk result (λ status. PrintedAs (asked job.now) (AreOfDump name.now dump.now)
-        (O.contents out.old) (O.contents out.new) (E.contents err.old) (E.contents err.new) status) }
+    ensures { IfOk result (λ status. KeptAs (asked job.now) (AreOfDump name.now dump.now)
+        (O.contents out.old) (O.contents out.new) (E.contents err.old) (E.contents err.new)
+        (map kept_by kept.old.items) (map kept_by kept.new.items) status) }
 {
     match tables_of(alloc, dump) {
-        Ok(tables) => Ok(show_tables(alloc, job, name, &tables, out, err)?),
+        Ok(tables) => Ok(show_tables(alloc, job, name, &tables, out, err, kept)?),
         Err(DumpFault::Memory) => Err(io::Error::from(AllocError)),
         Err(fault) => {
             complain(alloc, name, &fault, err)?;
@@ -247,7 +269,8 @@ fn show_dump<O: Write, E: Write>(
 }
 
 /// Shows, checks or lists what is in a file: a table, a pointer, a control structure, or the tables of a dump. What can't be
-/// shown has a line on `err`, and so has a table whose structures can't be found. Returns 0 or 1.
+/// shown has a line on `err`, and so has a table whose structures can't be found. Tables that were checked are added to those
+/// that are kept. Returns 0 or 1.
 pub fn show_content<O: Write, E: Write>(
     alloc: Global,
     job: &Job<'_>,
@@ -256,14 +279,16 @@ pub fn show_content<O: Write, E: Write>(
     several: bool,
     out: &mut O,
     err: &mut E,
+    kept: &mut Vec<Kept>,
 ) -> io::Result<u8>
-    ensures { IfOk result (λ status. PrintedAs (asked job.now) (AreOfBytes several name.now bytes.now)
-        (O.contents out.old) (O.contents out.new) (E.contents err.old) (E.contents err.new) status) }
+    ensures { IfOk result (λ status. KeptAs (asked job.now) (AreOfBytes several name.now bytes.now)
+        (O.contents out.old) (O.contents out.new) (E.contents err.old) (E.contents err.new)
+        (map kept_by kept.old.items) (map kept_by kept.new.items) status) }
 {
     if is_dump(bytes) {
-        return Ok(show_dump(alloc, job, name, bytes, out, err)?);
+        return Ok(show_dump(alloc, job, name, bytes, out, err, kept)?);
     }
-    Ok(print_table(alloc, job, name, bytes, several, out, err)?)
+    Ok(print_table(alloc, job, name, bytes, several, out, err, kept)?)
 }
 
 /// Prints why a file can't be read, and returns 2.

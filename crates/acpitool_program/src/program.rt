@@ -8,15 +8,15 @@ ghost use Rattle.acpi_forms.specs.Makes.{IsTemplateOf};
 ghost use Rattle.acpitool_program.specs.Program.{as_word, suggestion, unknown_line, IsTemplated, Ended, IsLost, Started};
 
 use crate::archiving::archive_folder;
+use crate::checking::check_all;
 use crate::command::{Command, parse};
 use crate::comparing::compare_files;
 use crate::disassembly::disassemble;
 use crate::help::{print_help, print_version, tell_wrong};
-use crate::job::Job;
 use crate::laying::lay_folder;
 use crate::listing::list_file;
 use crate::making::make_file;
-use crate::show::{check_all, list_all, show_all};
+use crate::show::{list_all, show_all};
 use crate::unpacking::unpack;
 use acpi_asl::block::BlockText;
 use acpi_forms::known::{is_known, meant};
@@ -122,7 +122,7 @@ pub fn run<R: Files + Input + AllocGlobal + Clone + Drop, O: Write, E: Write>(
         Ok(Command::Names(file, words)) => {
             disassemble(rt, alloc, BlockText::Names, file, words, out, err)
         }
-        Ok(Command::Json(files)) => list_all(rt, alloc, &Job::Lists, files, out, err),
+        Ok(Command::Json(files)) => list_all(rt, alloc, files, out, err),
         Ok(Command::Check(json, files)) => check_all(rt, alloc, json, files, out, err),
         Ok(Command::Image(json, file, base)) => list_file(rt, alloc, json, file, base, out, err),
         Ok(Command::Template(signature)) => template_of(alloc, signature, out, err),

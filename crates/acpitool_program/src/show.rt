@@ -2,13 +2,15 @@
 
 ghost use Rattle.std.specs.Prelude.{true, IfOk, IfErr, map, string_bytes};
 ghost use Rattle.acpitool_program.specs.Job.{asked};
-ghost use Rattle.acpitool_program.specs.Outcome.{IsUnread, AreOfBytes, AreOfFile, AreOfEach, AreOfFolder, AreOfWord, PrintedAs};
-ghost use Rattle.acpitool_program.specs.Program.{IsShown, AreListed, AreChecked};
+ghost use Rattle.acpitool_program.specs.Machine.{kept_by};
+ghost use Rattle.acpitool_program.specs.Outcome.{IsUnread, AreOfBytes, AreOfFile, AreOfEach, AreOfFolder, AreOfWord, KeptAs};
+ghost use Rattle.acpitool_program.specs.Program.{IsShown, AreListed};
 
 use crate::command::{Misstated, Wrong, numbers};
 use crate::files::{files_in, is_folder, read_file, read_word};
 use crate::help::tell_wrong;
 use crate::job::{Job, Showing};
+use crate::machine::Kept;
 use crate::outcome::{show_content, tell_unread, worst_of};
 use acpi_json::array::array_of;
 use std::alloc::{AllocError, Global};
@@ -25,16 +27,20 @@ fn show_bytes<O: Write, E: Write>(
     several: bool,
     out: &mut O,
     err: &mut E,
+    kept: &mut Vec<Kept>,
 ) -> io::Result<u8>
-    ensures file { IfOk result (λ status. IfOk read (λ bytes. PrintedAs (asked job.now) (AreOfBytes several name.now bytes.items)
-        (O.contents out.old) (O.contents out.new) (E.contents err.old) (E.contents err.new) status)) }
-    ensures unread { IfOk result (λ status. IfErr read (λ _. PrintedAs (asked job.now) (IsUnread name.now)
-        (O.contents out.old) (O.contents out.new) (E.contents err.old) (E.contents err.new) status)) }
-    ensures any { IfOk result (λ status. PrintedAs (asked job.now) (AreOfFile several name.now)
-        (O.contents out.old) (O.contents out.new) (E.contents err.old) (E.contents err.new) status) }
+    ensures file { IfOk result (λ status. IfOk read (λ bytes. KeptAs (asked job.now) (AreOfBytes several name.now bytes.items)
+        (O.contents out.old) (O.contents out.new) (E.contents err.old) (E.contents err.new)
+        (map kept_by kept.old.items) (map kept_by kept.new.items) status)) }
+    ensures unread { IfOk result (λ status. IfErr read (λ _. KeptAs (asked job.now) (IsUnread name.now)
+        (O.contents out.old) (O.contents out.new) (E.contents err.old) (E.contents err.new)
+        (map kept_by kept.old.items) (map kept_by kept.new.items) status)) }
+    ensures any { IfOk result (λ status. KeptAs (asked job.now) (AreOfFile several name.now)
+        (O.contents out.old) (O.contents out.new) (E.contents err.old) (E.contents err.new)
+        (map kept_by kept.old.items) (map kept_by kept.new.items) status) }
 {
     match read {
-        Ok(bytes) => Ok(show_content(alloc, job, name, &bytes, several, out, err)?),
+        Ok(bytes) => Ok(show_content(alloc, job, name, &bytes, several, out, err, kept)?),
         Err(error) => Ok(tell_unread(alloc, name, &error, err)?),
     }
 }
@@ -47,16 +53,18 @@ fn show_files<R: Files, O: Write, E: Write>(
     paths: &[String],
     out: &mut O,
     err: &mut E,
+    kept: &mut Vec<Kept>,
 ) -> io::Result<u8>
-    ensures { IfOk result (λ status. PrintedAs (asked job.now)
+    ensures { IfOk result (λ status. KeptAs (asked job.now)
         (AreOfEach (AreOfFile true) (map (λ path. string_bytes path) paths.now))
-        (O.contents out.old) (O.contents out.new) (E.contents err.old) (E.contents err.new) status) }
+        (O.contents out.old) (O.contents out.new) (E.contents err.old) (E.contents err.new)
+        (map kept_by kept.old.items) (map kept_by kept.new.items) status) }
 {
     let mut worst = 0;
     for path in paths {
         let name = path.as_str();
         let read = read_file(rt, alloc, name);
-        let status = show_bytes(alloc, job, name, read, true, out, err)?;
+        let status = show_bytes(alloc, job, name, read, true, out, err, kept)?;
         worst = worst_of(worst, status);
     }
     Ok(worst)
@@ -70,12 +78,14 @@ fn show_folder<R: Files + AllocGlobal + Clone + Drop, O: Write, E: Write>(
     folder: &str,
     out: &mut O,
     err: &mut E,
+    kept: &mut Vec<Kept>,
 ) -> io::Result<u8>
-    ensures { IfOk result (λ status. PrintedAs (asked job.now) (AreOfFolder folder.now)
-        (O.contents out.old) (O.contents out.new) (E.contents err.old) (E.contents err.new) status) }
+    ensures { IfOk result (λ status. KeptAs (asked job.now) (AreOfFolder folder.now)
+        (O.contents out.old) (O.contents out.new) (E.contents err.old) (E.contents err.new)
+        (map kept_by kept.old.items) (map kept_by kept.new.items) status) }
 {
     match files_in(rt, alloc, folder) {
-        Ok(paths) => Ok(show_files(rt, alloc, job, &paths, out, err)?),
+        Ok(paths) => Ok(show_files(rt, alloc, job, &paths, out, err, kept)?),
         Err(error) => Ok(tell_unread(alloc, folder, &error, err)?),
     }
 }
@@ -89,19 +99,22 @@ fn show_word<R: Files + Input + AllocGlobal + Clone + Drop, O: Write, E: Write>(
     several: bool,
     out: &mut O,
     err: &mut E,
+    kept: &mut Vec<Kept>,
 ) -> io::Result<u8>
-    ensures { IfOk result (λ status. PrintedAs (asked job.now) (AreOfWord several word.now)
-        (O.contents out.old) (O.contents out.new) (E.contents err.old) (E.contents err.new) status) }
+    ensures { IfOk result (λ status. KeptAs (asked job.now) (AreOfWord several word.now)
+        (O.contents out.old) (O.contents out.new) (E.contents err.old) (E.contents err.new)
+        (map kept_by kept.old.items) (map kept_by kept.new.items) status) }
 {
     if is_folder(rt, word) {
-        return Ok(show_folder(rt, alloc, job, word, out, err)?);
+        return Ok(show_folder(rt, alloc, job, word, out, err, kept)?);
     }
     let read = read_word(rt, alloc, word);
-    Ok(show_bytes(alloc, job, word, read, several, out, err)?)
+    Ok(show_bytes(alloc, job, word, read, several, out, err, kept)?)
 }
 
-// Shows what the files of `show` name, in order, and returns the greatest status.
-fn show_words<R: Files + Input + AllocGlobal + Clone + Drop, O: Write, E: Write>(
+/// Shows, checks or lists what words name, in order, and returns the greatest status. Adds the tables that were checked to those
+/// that are kept.
+pub fn show_words<R: Files + Input + AllocGlobal + Clone + Drop, O: Write, E: Write>(
     rt: &R,
     alloc: Global,
     job: &Job<'_>,
@@ -109,14 +122,16 @@ fn show_words<R: Files + Input + AllocGlobal + Clone + Drop, O: Write, E: Write>
     several: bool,
     out: &mut O,
     err: &mut E,
+    kept: &mut Vec<Kept>,
 ) -> io::Result<u8>
-    ensures { IfOk result (λ status. PrintedAs (asked job.now)
+    ensures { IfOk result (λ status. KeptAs (asked job.now)
         (AreOfEach (AreOfWord several) (map (λ file. string_bytes file) files.now))
-        (O.contents out.old) (O.contents out.new) (E.contents err.old) (E.contents err.new) status) }
+        (O.contents out.old) (O.contents out.new) (E.contents err.old) (E.contents err.new)
+        (map kept_by kept.old.items) (map kept_by kept.new.items) status) }
 {
     let mut worst = 0;
     for word in files {
-        let status = show_word(rt, alloc, job, word.as_str(), several, out, err)?;
+        let status = show_word(rt, alloc, job, word.as_str(), several, out, err, kept)?;
         worst = worst_of(worst, status);
     }
     Ok(worst)
@@ -143,7 +158,17 @@ pub fn show_all<R: Files + Input + AllocGlobal + Clone + Drop, O: Write, E: Writ
                 stated: &stated,
             };
             let several = files.len() > 1;
-            Ok(show_words(rt, alloc, &Job::Shows(&showing), files, several, out, err)?)
+            let mut kept = Vec::new(alloc);
+            Ok(show_words(
+                rt,
+                alloc,
+                &Job::Shows(&showing),
+                files,
+                several,
+                out,
+                err,
+                &mut kept,
+            )?)
         }
         Err(Misstated::Word(word)) => Ok(tell_wrong(&Wrong::Number(word), err)?),
         Err(Misstated::Twice) => Ok(tell_wrong(&Wrong::Twice, err)?),
@@ -151,41 +176,31 @@ pub fn show_all<R: Files + Input + AllocGlobal + Clone + Drop, O: Write, E: Writ
     }
 }
 
-/// Prints what comes of files as an array of JSON, and returns the greatest status.
+/// Prints the objects of what files name as an array of JSON, and returns the greatest status.
 pub fn list_all<R: Files + Input + AllocGlobal + Clone + Drop, O: Write, E: Write>(
     rt: &R,
     alloc: Global,
-    job: &Job<'_>,
     files: &[String],
     out: &mut O,
     err: &mut E,
 ) -> io::Result<u8>
-    ensures { IfOk result (λ status. AreListed (asked job.now) (map (λ word. string_bytes word) files.now)
+    ensures { IfOk result (λ status. AreListed (map (λ word. string_bytes word) files.now)
         (O.contents out.old) (O.contents out.new) (E.contents err.old) (E.contents err.new) status) }
 {
     let several = files.len() > 1;
     let mut lines = Vec::new(alloc);
-    let status = show_words(rt, alloc, job, files, several, &mut lines, err)?;
+    let mut kept = Vec::new(alloc);
+    let status = show_words(
+        rt,
+        alloc,
+        &Job::Lists,
+        files,
+        several,
+        &mut lines,
+        err,
+        &mut kept,
+    )?;
     let array = array_of(alloc, &lines)?;
     out.write_all(&array)?;
     Ok(status)
-}
-
-/// Checks what files name, prints what is found as an array of JSON or as lines, and returns the greatest status.
-pub fn check_all<R: Files + Input + AllocGlobal + Clone + Drop, O: Write, E: Write>(
-    rt: &R,
-    alloc: Global,
-    json: bool,
-    files: &[String],
-    out: &mut O,
-    err: &mut E,
-) -> io::Result<u8>
-    ensures { IfOk result (λ status. AreChecked json (map (λ word. string_bytes word) files.now)
-        (O.contents out.old) (O.contents out.new) (E.contents err.old) (E.contents err.new) status) }
-{
-    if json {
-        return Ok(list_all(rt, alloc, &Job::Checks(true), files, out, err)?);
-    }
-    let several = files.len() > 1;
-    Ok(show_words(rt, alloc, &Job::Checks(false), files, several, out, err)?)
 }

@@ -25,6 +25,8 @@ mod operators;
 #[cfg(test)]
 mod packages;
 #[cfg(test)]
+mod pins;
+#[cfg(test)]
 mod reading;
 #[cfg(test)]
 mod refusing;

@@ -4,8 +4,9 @@ use acpi_tables::R;
 use acpi_tables::aml::{
     DataBits, FlowControl, GpioInt, GpioIntSettings, GpioIo, GpioIoSettings, GpioPolarity,
     I2cSerialBus, I2cSettings, InterruptFlags, Interrupts, IoRestriction, Parity, PinConfig,
-    SerialFlags, SpiSerialBus, SpiSettings, StopBits, UartSerialBus, UartSettings, VendorLong,
-    VendorShort,
+    PinConfiguration, PinFunction, PinGroup, PinGroupConfiguration, PinGroupFunction, PinSetting,
+    PinUse, SerialFlags, SpiSerialBus, SpiSettings, StopBits, UartSerialBus, UartSettings,
+    VendorLong, VendorShort,
 };
 use std::alloc::Global;
 use test_support::bytes_of;
@@ -71,7 +72,14 @@ const MODEM: UartSettings = UartSettings {
     transmit_fifo: 64,
 };
 
-pub const DESCRIPTORS: u8 = 8;
+const CONTROLLER: &str = "\\_SB.GPI0";
+
+const USED: PinUse = PinUse {
+    shared: true,
+    consumer: true,
+};
+
+pub const DESCRIPTORS: u8 = 13;
 
 /// Descriptors whose number of bytes depends on what is in them.
 pub fn descriptor(alloc: Global, which: u8) -> R<Vec<u8>> {
@@ -92,9 +100,40 @@ pub fn descriptor(alloc: Global, which: u8) -> R<Vec<u8>> {
             alloc,
             SpiSerialBus::new(alloc, FLASH, CONSUMED, "\\_SB.SPI0", &[]),
         ),
-        _ => bytes_of(
+        7 => bytes_of(
             alloc,
             UartSerialBus::new(alloc, MODEM, CONSUMED, "\\_SB.UAR0", &[]),
+        ),
+        _ => pins(alloc, which),
+    }
+}
+
+fn pins(alloc: Global, which: u8) -> R<Vec<u8>> {
+    match which {
+        8 => bytes_of(
+            alloc,
+            PinFunction::new(alloc, true, PinConfig::PullUp, 1, &[0x102], CONTROLLER, &[]),
+        ),
+        9 => bytes_of(
+            alloc,
+            PinConfiguration::new(
+                alloc,
+                USED,
+                PinSetting::DriveStrength,
+                5,
+                &[0x102],
+                CONTROLLER,
+                &[],
+            ),
+        ),
+        10 => bytes_of(alloc, PinGroup::new(alloc, false, &[7], "A", &[])),
+        11 => bytes_of(
+            alloc,
+            PinGroupFunction::new(alloc, USED, 3, CONTROLLER, "A", &[]),
+        ),
+        _ => bytes_of(
+            alloc,
+            PinGroupConfiguration::new(alloc, USED, PinSetting::SlewRate, 5, CONTROLLER, "A", &[]),
         ),
     }
 }

@@ -4,7 +4,7 @@
 //!
 //! These bytes are counted, in this order:
 //!
-//! - each type of `fill_lists`, `fill_others` and `fill_arm`, once for each of its `WAYS`: `empty`, after five calls of `grow` in
+//! - each type of `fill_lists`, `fill_others`, `fill_arm` and `fill_pc`, once for each of its `WAYS`: `empty`, after five calls of `grow` in
 //!   this way. `grow` of MADT in way 1 adds one structure in all, since a MADT has one IMSIC at most;
 //! - the error data entry with five objects of three bytes, and the three clones (`errors`);
 //! - each object of `part`, `aml`, `descriptors`, `operators` and `built`, once;
@@ -31,6 +31,7 @@ mod lists;
 mod matrices;
 mod nodes;
 mod operators;
+mod pc;
 mod reading;
 mod trial;
 
@@ -40,6 +41,7 @@ use acpi_tables::R;
 use acpi_tables::aml::PackageBuilder;
 use acpi_tables::cedt::{CEDT, XorInterleaveMath};
 use acpi_tables::dbg2::DBG2;
+use acpi_tables::dmar::DMAR;
 use acpi_tables::gtdt::{GTDT, GtBlock};
 use acpi_tables::hest::HEST;
 use acpi_tables::hmat::{HMAT, MemorySideCache};
@@ -48,10 +50,12 @@ use acpi_tables::iort::{
 };
 use acpi_tables::madt::MADT;
 use acpi_tables::mcfg::MCFG;
+use acpi_tables::nfit::NFIT;
 use acpi_tables::pptt::PPTT;
 use acpi_tables::rhct::RHCT;
 use acpi_tables::rimt::RIMT;
 use acpi_tables::rqsc::{QoSController, RQSC};
+use acpi_tables::rsdt::RSDT;
 use acpi_tables::sdt::Sdt;
 use acpi_tables::srat::SRAT;
 use acpi_tables::viot::VIOT;
@@ -64,6 +68,7 @@ fn main(rt: HostRuntime) -> Result<(), Fault> {
     fill_lists(&mut trial, rt.alloc())?;
     fill_others(&mut trial, rt.alloc())?;
     fill_arm(&mut trial, rt.alloc())?;
+    fill_pc(&mut trial, rt.alloc())?;
     errors::entry(&mut trial, rt.alloc())?;
     errors::clones(&mut trial, rt.alloc())?;
     make_objects(&mut trial, rt.alloc())?;
@@ -113,6 +118,12 @@ fn fill_arm(trial: &mut Trial, alloc: Global) -> Result<(), Fault> {
     trial.fill::<SmmuV3>(alloc)?;
     trial.fill::<ReservedMemory>(alloc)?;
     trial.fill::<IORT>(alloc)
+}
+
+fn fill_pc(trial: &mut Trial, alloc: Global) -> Result<(), Fault> {
+    trial.fill::<RSDT>(alloc)?;
+    trial.fill::<DMAR>(alloc)?;
+    trial.fill::<NFIT>(alloc)
 }
 
 // Structures and tables that are made whole by one call.

@@ -1,5 +1,5 @@
-//! Tests of tables of nodes, which refer to each other by offset, of tables of matrices, and of those of Arm machines, against
-//! bytes that were worked out by hand from the layouts.
+//! Tests of tables of nodes, which refer to each other by offset, of tables of matrices, and of those of Arm machines and PCs,
+//! against bytes that were worked out by hand from the layouts.
 #![tactic(auto)]
 
 #[cfg(test)]
@@ -12,6 +12,8 @@ mod later_offsets;
 mod matrices;
 #[cfg(test)]
 mod numbers;
+#[cfg(test)]
+mod pc;
 #[cfg(test)]
 mod pptt;
 #[cfg(test)]

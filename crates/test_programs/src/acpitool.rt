@@ -6,6 +6,7 @@ mod files;
 mod folders;
 mod json;
 mod laid;
+mod machine;
 mod program;
 mod words;
 mod writes;

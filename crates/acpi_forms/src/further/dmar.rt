@@ -1,53 +1,12 @@
 //! The DMA Remapping Reporting Table.
 
 use acpi_base::header::HEADER;
-use acpi_base::row::{Bits, Row, Word};
+use acpi_base::row::{Row, Word};
 use acpi_base::walk::{Place, Sizes};
+use acpi_pc::dmar::{ANDD, ATSR, DEVICE_SCOPE, DMAR_FIXED, DRHD, RHSA, RMRR, SATC, SCOPE_PATH};
 use acpi_text::form::{
     Count, Inner, InnerForm, InnerList, InnerSize, Part, Start, StructureForm, TableForm,
 };
-
-const DMAR_FLAGS: [Bits; 3] = [
-    Bits::Flag(0x1, "INTR_REMAP"),
-    Bits::Flag(0x2, "X2APIC_OPT_OUT"),
-    Bits::Flag(0x4, "DMA_CTRL_PLATFORM_OPT_IN_FLAG"),
-];
-
-const DMAR_FIXED: [Row; 3] = [
-    Row::Number("Host Address Width", 1),
-    Row::Flags("Flags", 1, &DMAR_FLAGS),
-    Row::Reserved(10),
-];
-
-const DRHD_FLAGS: [Bits; 1] = [Bits::Flag(0x1, "INCLUDE_PCI_ALL")];
-
-const DRHD: [Row; 6] = [
-    Row::Preset("Type", 2, 0),
-    Row::Number("Length", 2),
-    Row::Flags("Flags", 1, &DRHD_FLAGS),
-    Row::Number("Size", 1),
-    Row::Hex("Segment Number", 2),
-    Row::Hex("Register Base Address", 8),
-];
-
-const SCOPE_TYPES: [Word; 5] = [
-    Word(1, "PCI Endpoint Device"),
-    Word(2, "PCI Sub-hierarchy"),
-    Word(3, "IOAPIC"),
-    Word(4, "MSI_CAPABLE_HPET"),
-    Word(5, "ACPI_NAMESPACE_DEVICE"),
-];
-
-const DEVICE_SCOPE: [Row; 6] = [
-    Row::OneOf("Type", 1, &SCOPE_TYPES),
-    Row::Number("Length", 1),
-    Row::Hex("Flags", 1),
-    Row::Reserved(1),
-    Row::Hex("Enumeration ID", 1),
-    Row::Hex("Start Bus Number", 1),
-];
-
-const SCOPE_PATH: [Row; 2] = [Row::Hex("Device", 1), Row::Hex("Function", 1)];
 
 const SCOPE_PARTS: [Part; 2] = [
     Part::Fields(&DEVICE_SCOPE),
@@ -68,15 +27,6 @@ const SCOPES_AT_16: Inner = Inner::Lists(
     }],
 );
 
-const RMRR: [Row; 6] = [
-    Row::Preset("Type", 2, 1),
-    Row::Number("Length", 2),
-    Row::Reserved(2),
-    Row::Hex("Segment Number", 2),
-    Row::Hex("Reserved Memory Region Base Address", 8),
-    Row::Hex("Reserved Memory Region Limit Address", 8),
-];
-
 const SCOPES_AT_24: Inner = Inner::Lists(
     Start::At(24),
     &[InnerList {
@@ -91,16 +41,6 @@ const SCOPES_AT_24: Inner = Inner::Lists(
     }],
 );
 
-const ATSR_FLAGS: [Bits; 1] = [Bits::Flag(0x1, "ALL_PORTS")];
-
-const ATSR: [Row; 5] = [
-    Row::Preset("Type", 2, 2),
-    Row::Number("Length", 2),
-    Row::Flags("Flags", 1, &ATSR_FLAGS),
-    Row::Reserved(1),
-    Row::Hex("Segment Number", 2),
-];
-
 const SCOPES_AT_8: Inner = Inner::Lists(
     Start::At(8),
     &[InnerList {
@@ -114,31 +54,6 @@ const SCOPES_AT_8: Inner = Inner::Lists(
         }],
     }],
 );
-
-const RHSA: [Row; 5] = [
-    Row::Preset("Type", 2, 3),
-    Row::Preset("Length", 2, 20),
-    Row::Reserved(4),
-    Row::Hex("Register Base Address", 8),
-    Row::Hex("Proximity Domain", 4),
-];
-
-const ANDD: [Row; 4] = [
-    Row::Preset("Type", 2, 4),
-    Row::Number("Length", 2),
-    Row::Reserved(3),
-    Row::Number("ACPI Device Number", 1),
-];
-
-const SATC_FLAGS: [Bits; 1] = [Bits::Flag(0x1, "ATC_REQUIRED")];
-
-const SATC: [Row; 5] = [
-    Row::Preset("Type", 2, 5),
-    Row::Number("Length", 2),
-    Row::Flags("Flags", 1, &SATC_FLAGS),
-    Row::Reserved(1),
-    Row::Hex("Segment Number", 2),
-];
 
 const SIDP: [Row; 4] = [
     Row::Preset("Type", 2, 6),

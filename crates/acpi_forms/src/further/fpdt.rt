@@ -1,24 +1,8 @@
 //! The Firmware Performance Data Table.
 
 use acpi_base::header::HEADER;
-use acpi_base::row::Row;
+use acpi_pc::fpdt::{BOOT_POINTER, S3_POINTER};
 use acpi_text::form::{Inner, Part, StructureForm, TableForm};
-
-const BOOT_POINTER: [Row; 5] = [
-    Row::Preset("Performance Record Type", 2, 0),
-    Row::Preset("Record Length", 1, 16),
-    Row::Preset("Revision", 1, 1),
-    Row::Reserved(4),
-    Row::Hex("FBPT Pointer", 8),
-];
-
-const S3_POINTER: [Row; 5] = [
-    Row::Preset("Performance Record Type", 2, 1),
-    Row::Preset("Record Length", 1, 16),
-    Row::Preset("Revision", 1, 1),
-    Row::Reserved(4),
-    Row::Hex("S3PT Pointer", 8),
-];
 
 const FPDT_RECORDS: [StructureForm; 2] = [
     StructureForm {

@@ -3,19 +3,10 @@
 use acpi_base::header::HEADER;
 use acpi_base::row::{Bits, Row, Word};
 use acpi_base::walk::{Place, Sizes, Types};
+use acpi_pc::ivrs::{EXTENDED, IVRS_FIXED, OF_ALIAS, OF_DEVICE, SPECIAL_DEVICE};
 use acpi_text::form::{
     Choice, Count, Inner, InnerForm, InnerList, InnerSize, Part, Start, StructureForm, TableForm,
 };
-
-const IV_INFO: [Bits; 5] = [
-    Bits::Flag(0x1, "EFRSup"),
-    Bits::Number(0xe0, 0x20, "GVASize"),
-    Bits::Number(0x7f00, 0x100, "PASize"),
-    Bits::Number(0x3f_8000, 0x8000, "VASize"),
-    Bits::Flag(0x40_0000, "HtAtsResv"),
-];
-
-const IVRS_FIXED: [Row; 2] = [Row::Flags("IVinfo", 4, &IV_INFO), Row::Reserved(8)];
 
 // The last two are reserved in the newer types.
 const IVHD_FLAGS: [Bits; 8] = [
@@ -77,51 +68,16 @@ const DTE_SETTING: [Bits; 6] = [
     Bits::Flag(0x80, "Lint1Pass"),
 ];
 
-const EXTENDED_DTE_SETTING: [Bits; 1] = [Bits::Flag(0x8000_0000, "AtsDisabled")];
-
-const SPECIAL_DEVICES: [Word; 2] = [Word(1, "IOAPIC"), Word(2, "HPET")];
-
 const UID_FORMATS: [Word; 3] = [Word(0, "None"), Word(1, "Integer"), Word(2, "String")];
 
 const PAD_4: [Row; 2] = [Row::Preset("Type", 1, 0), Row::Reserved(3)];
 
 const PAD_8: [Row; 2] = [Row::Preset("Type", 1, 64), Row::Reserved(7)];
 
-const OF_DEVICE: [Row; 3] = [
-    Row::Hex("Type", 1),
-    Row::Hex("DeviceID", 2),
-    Row::Flags("DTE Setting", 1, &DTE_SETTING),
-];
-
 const END_OF_RANGE: [Row; 3] = [
     Row::Preset("Type", 1, 4),
     Row::Hex("DeviceID", 2),
     Row::Reserved(1),
-];
-
-const OF_ALIAS: [Row; 6] = [
-    Row::Hex("Type", 1),
-    Row::Hex("DeviceID", 2),
-    Row::Flags("DTE Setting", 1, &DTE_SETTING),
-    Row::Reserved(1),
-    Row::Hex("Source DeviceID", 2),
-    Row::Reserved(1),
-];
-
-const EXTENDED: [Row; 4] = [
-    Row::Hex("Type", 1),
-    Row::Hex("DeviceID", 2),
-    Row::Flags("DTE Setting", 1, &DTE_SETTING),
-    Row::Flags("Extended DTE Setting", 4, &EXTENDED_DTE_SETTING),
-];
-
-const SPECIAL_DEVICE: [Row; 6] = [
-    Row::Preset("Type", 1, 72),
-    Row::Reserved(2),
-    Row::Flags("DTE Setting", 1, &DTE_SETTING),
-    Row::Hex("Handle", 1),
-    Row::Hex("Source DeviceID", 2),
-    Row::OneOf("Variety", 1, &SPECIAL_DEVICES),
 ];
 
 const ACPI_DEVICE: [Row; 7] = [

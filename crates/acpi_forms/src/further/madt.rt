@@ -3,15 +3,29 @@
 
 use acpi_base::row::{Bits, Row, Word};
 use acpi_base::walk::Place;
-use acpi_text::form::{Count, Inner, Part, Start, StructureForm};
+use acpi_text::form::{Choice, Count, Inner, Part, Start, StructureForm};
 
-// The Multiprocessor Wakeup Structure (ACPI 6.5, 5.2.12.19). What later versions have after the address has no name.
+// The Multiprocessor Wakeup Structure (ACPI 6.5, 5.2.12.19).
 const WAKEUP: [Row; 5] = [
     Row::Preset("Type", 1, 0x10),
-    Row::Preset("Length", 1, 16),
+    Row::Number("Length", 1),
     Row::Number("MailBoxVersion", 2),
     Row::Reserved(4),
     Row::Hex("MailBoxAddress", 8),
+];
+
+// What it has after that, by its length: version 1 of the mailbox has a vector (ACPI 6.6, 5.2.12.19).
+const WAKEUP_ENDS: [Choice; 2] = [
+    Choice {
+        number: 16,
+        name: "Mailbox of Version 0",
+        rows: &[],
+    },
+    Choice {
+        number: 24,
+        name: "Mailbox of Version 1",
+        rows: &[Row::Hex("ResetVector", 8)],
+    },
 ];
 
 // ---- SAPICs, the interrupt controllers of Itanium
@@ -231,7 +245,10 @@ pub const MADT_FURTHER: [StructureForm; 14] = [
     StructureForm {
         number: 16,
         name: "Multiprocessor Wakeup Structure",
-        parts: &[Part::Fields(&WAKEUP)],
+        parts: &[
+            Part::Fields(&WAKEUP),
+            Part::Chosen(Place::Byte(1), &WAKEUP_ENDS),
+        ],
         inner: &Inner::Nothing,
     },
     StructureForm {

@@ -94,7 +94,8 @@ const LISTS: [InnerList; 2] = [
     },
 ];
 
-/// The Memory Power State Table (ACPI 6.5, 5.2.22).
+/// The Memory Power State Table (ACPI 6.5, 5.2.22). A node whose length is 0, as in ACPICA's template, doesn't say where it ends.
+/// So it and all that follows have no names.
 pub const MPST: TableForm = TableForm {
     name: "Memory Power State Table (MPST)",
     parts: &[Part::Fields(&HEADER), Part::Fields(&MPST_FIXED)],

@@ -2,23 +2,10 @@
 
 use acpi_base::header::HEADER;
 use acpi_base::row::{Bits, Row, Word};
+use acpi_pc::pcct::{
+    ACKNOWLEDGED_SUBSPACE, GENERIC_SUBSPACE, PCCT_FIXED, REDUCED_SUBSPACE, REGISTERS_SUBSPACE,
+};
 use acpi_text::form::{Inner, Part, StructureForm, TableForm};
-
-const PCCT_FLAGS: [Bits; 1] = [Bits::Flag(0x1, "Platform Interrupt")];
-
-const PCCT_FIXED: [Row; 2] = [Row::Flags("Flags", 4, &PCCT_FLAGS), Row::Reserved(8)];
-
-// The memory and the registers of a channel (ACPI 6.5, 14.1.2, 14.1.4 and 14.1.5).
-const CHANNEL: [Row; 8] = [
-    Row::Hex("Base Address", 8),
-    Row::Number("Memory Length", 8),
-    Row::Register("Doorbell Register"),
-    Row::Hex("Doorbell Preserve", 8),
-    Row::Hex("Doorbell Write", 8),
-    Row::Number("Nominal Latency", 4),
-    Row::Number("Maximum Periodic Access Rate", 4),
-    Row::Number("Minimum Request Turnaround Time", 2),
-];
 
 const POLARITIES: [Word; 2] = [Word(0x0, "Active High"), Word(0x1, "Active Low")];
 
@@ -30,12 +17,6 @@ const INTERRUPT: [Row; 3] = [
     Row::Number("Platform Interrupt", 4),
     Row::Flags("Platform Interrupt Flags", 1, &INTERRUPT_FLAGS),
     Row::Reserved(1),
-];
-
-const ACK: [Row; 3] = [
-    Row::Register("Platform Interrupt Ack Register"),
-    Row::Hex("Platform Interrupt Ack Preserve", 8),
-    Row::Hex("Platform Interrupt Ack Write", 8),
 ];
 
 // An extended channel after its interrupt (ACPI 6.5, 14.1.6).
@@ -61,53 +42,23 @@ const EXTENDED: [Row; 19] = [
     Row::Hex("Error Status Mask", 8),
 ];
 
-const REGISTERS: [Row; 14] = [
-    Row::Preset("Type", 1, 5),
-    Row::Preset("Length", 1, 96),
-    Row::Number("Version", 2),
-    Row::Hex("Base Address", 8),
-    Row::Number("Shared Memory Range Length", 8),
-    Row::Register("Doorbell Register"),
-    Row::Hex("Doorbell Preserve", 8),
-    Row::Hex("Doorbell Write", 8),
-    Row::Register("Command Complete Check Register"),
-    Row::Hex("Command Complete Check Mask", 8),
-    Row::Register("Error Status Register"),
-    Row::Hex("Error Status Mask", 8),
-    Row::Number("Nominal Latency", 4),
-    Row::Number("Minimum Request Turnaround Time", 4),
-];
-
 const SUBSPACES: [StructureForm; 6] = [
     StructureForm {
         number: 0,
         name: "Generic Communications Subspace Structure",
-        parts: &[
-            Part::Fields(&[Row::Preset("Type", 1, 0), Row::Preset("Length", 1, 62)]),
-            Part::Fields(&[Row::Reserved(6)]),
-            Part::Fields(&CHANNEL),
-        ],
+        parts: &[Part::Fields(&GENERIC_SUBSPACE)],
         inner: &Inner::Nothing,
     },
     StructureForm {
         number: 1,
         name: "HW-Reduced Communications Subspace Structure",
-        parts: &[
-            Part::Fields(&[Row::Preset("Type", 1, 1), Row::Preset("Length", 1, 62)]),
-            Part::Fields(&INTERRUPT),
-            Part::Fields(&CHANNEL),
-        ],
+        parts: &[Part::Fields(&REDUCED_SUBSPACE)],
         inner: &Inner::Nothing,
     },
     StructureForm {
         number: 2,
         name: "HW-Reduced Communications Subspace Structure Type 2",
-        parts: &[
-            Part::Fields(&[Row::Preset("Type", 1, 2), Row::Preset("Length", 1, 90)]),
-            Part::Fields(&INTERRUPT),
-            Part::Fields(&CHANNEL),
-            Part::Fields(&ACK),
-        ],
+        parts: &[Part::Fields(&ACKNOWLEDGED_SUBSPACE)],
         inner: &Inner::Nothing,
     },
     StructureForm {
@@ -133,7 +84,7 @@ const SUBSPACES: [StructureForm; 6] = [
     StructureForm {
         number: 5,
         name: "HW Registers Based Communications Subspace Structure",
-        parts: &[Part::Fields(&REGISTERS)],
+        parts: &[Part::Fields(&REGISTERS_SUBSPACE)],
         inner: &Inner::Nothing,
     },
 ];

@@ -79,12 +79,14 @@ const DIMM: [Row; 5] = [
     Row::Reserved(2),
 ];
 
-const VENDOR: [Row; 5] = [
+const VENDOR: [Row; 7] = [
     Row::Preset("Type", 1, 255),
     Row::Reserved(1),
     Row::Number("Length", 2),
     Row::Flags("Flags", 2, &DEVICE_FLAGS),
     Row::Reserved(2),
+    Row::Number("Number of Memory Devices", 4),
+    Row::Uuid("Type UUID"),
 ];
 
 const DEVICES: [StructureForm; 4] = [
@@ -118,13 +120,16 @@ const DEVICES: [StructureForm; 4] = [
     StructureForm {
         number: 255,
         name: "Vendor Specific Memory Device",
-        parts: &[Part::Fields(&VENDOR)],
+        parts: &[
+            Part::Fields(&VENDOR),
+            Part::Until("Vendor Specific Data", Place::Word(2)),
+        ],
         inner: &Inner::Nothing,
     },
 ];
 
 /// The Platform Memory Topology Table (ACPI 6.5, 5.2.22). A device of another length is one of revision 1 of the table, which has
-/// other fields after the flags. These have no names here, and neither has what a vendor's device has there.
+/// other fields after the flags, and contains the devices below it. These have no names here.
 pub const PMTT: TableForm = TableForm {
     name: "Platform Memory Topology Table (PMTT)",
     parts: &[Part::Fields(&HEADER), Part::Fields(&PMTT_FIXED)],

@@ -1,10 +1,8 @@
 //! The Root System Description Table.
 
 use acpi_base::header::HEADER;
-use acpi_base::row::Row;
+use acpi_pc::rsdt::RSDT_ENTRY;
 use acpi_text::form::{Inner, Part, StructureForm, TableForm};
-
-const RSDT_ENTRY: [Row; 1] = [Row::Hex("Entry", 4)];
 
 /// The Root System Description Table (ACPI 6.5, 5.2.7). Its entries are the physical addresses of the other tables.
 pub const RSDT: TableForm = TableForm {

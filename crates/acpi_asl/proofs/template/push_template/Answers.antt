@@ -1,4 +1,4 @@
-use Rattle.std.proofs.Common.{◌≡◌, ℕ, suc, ◌++◌, ap, ◌∙◌, rules, string_bytes}
+use Rattle.std.proofs.Common.{◌≡◌, ℕ, false, suc, ◌++◌, ap, ◌∙◌, rules, string_bytes}
 use Rattle.std.specs.Prelude.{codes}
 use Rattle.acpi_read.proofs.Texts.{after_four}
 use Rattle.acpi_asl.specs.Template.{items_text}
@@ -8,4 +8,4 @@ pub returns : goal.returns
 returns c =
     let inner_is : c.in-Some.inner ≡ suc c.args.depth = search rules in
     after_four _ (codes "ResourceTemplate ()") _ _ _ _ _ _ _ c.in_ok-push_str.ensures.bytes c.in_ok-push_brace.ensures
-    (c.in_ok-push_items.ensures ∙ ap (λ (k : ℕ). string_bytes c.push_brace.new.text ++ items_text k 0 c.args.bytes.now) inner_is) c.in_ok-push_brace-2.ensures
+    (c.in_ok-push_items.ensures ∙ ap (λ (k : ℕ). string_bytes c.push_brace.new.text ++ items_text k false 0 c.args.bytes.now) inner_is) c.in_ok-push_brace-2.ensures

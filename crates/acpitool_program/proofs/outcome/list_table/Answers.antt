@@ -1,5 +1,5 @@
-use Rattle.std.proofs.Common.{rules}
-use Rattle.acpitool_program.proofs.Outcomes.{one_listed, one_refused}
+use Rattle.std.proofs.Common.{[], rules}
+use Rattle.acpitool_program.proofs.Outcomes.{is_printed, one_listed, one_refused}
 use Rattle.acpitool_program.proofs.outcome.list_table.Goals as goal
 
 pub returns-in_ok-tell_fault-in-Ok : goal.returns-in_ok-tell_fault-in-Ok
@@ -11,4 +11,4 @@ returns-in_ok-tell_fault-in-Ok g c =
 pub returns-in_ok-complain-in-Err : goal.returns-in_ok-complain-in-Err
 returns-in_ok-complain-in-Err g c =
     let line = c.in_ok-complain-in-Err.ensures in
-    one_refused _ _ _ _ c.args.several c.args.name.now c.args.bytes.now _ line.0 c.in-Err.ensures.err line.1 line.2
+    is_printed (one_refused _ _ _ _ [] c.args.several c.args.name.now c.args.bytes.now _ line.0 c.in-Err.ensures.err line.1 line.2)

@@ -10,4 +10,4 @@ returns-in_ok-show_tables-in-Ok g c =
 pub returns-in_ok-complain-in-Err : goal.returns-in_ok-complain-in-Err
 returns-in_ok-complain-in-Err g c =
     let line = c.in_ok-complain-in-Err.ensures in
-    one_broken _ _ _ _ c.args.name.now c.args.dump.now line.0 c.in-Err.fault (search rules) line.1 line.2
+    one_broken _ _ _ _ _ c.args.name.now c.args.dump.now line.0 c.in-Err.fault (search rules) line.1 line.2

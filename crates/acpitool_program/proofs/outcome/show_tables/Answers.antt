@@ -7,7 +7,7 @@ use Rattle.acpitool_program.proofs.Outcomes.{no_tables, tables_then, same_tables
 use Rattle.acpitool_program.proofs.outcome.show_tables.Goals as goal
 
 pub tables-init : goal.tables-init
-tables-init g c = no_tables _ _ _ _
+tables-init g c = no_tables _ _ _ _ _
 
 pub tables-preserved : goal.tables-preserved
 tables-preserved g c =

@@ -11,9 +11,9 @@ returns-in_ok-show_content-in-Ok-clause-any g c =
 pub returns-in_ok-tell_unread-in-Err-clause-unread : goal.returns-in_ok-tell_unread-in-Err-clause-unread
 returns-in_ok-tell_unread-in-Err-clause-unread g c =
     let line = c.in_ok-tell_unread-in-Err.ensures.line in
-    if_err c.args.read (one_unread _ _ _ _ _ line.0 _ line.1 c.in_ok-tell_unread-in-Err.ensures.is)
+    if_err c.args.read (one_unread _ _ _ _ _ _ line.0 _ line.1 c.in_ok-tell_unread-in-Err.ensures.is)
 
 pub returns-in_ok-tell_unread-in-Err-clause-any : goal.returns-in_ok-tell_unread-in-Err-clause-any
 returns-in_ok-tell_unread-in-Err-clause-any g c =
     let line = c.in_ok-tell_unread-in-Err.ensures.line in
-    as_these (λ (outcomes : List Outcome). λ are. inr are) (one_unread _ _ _ _ _ line.0 _ line.1 c.in_ok-tell_unread-in-Err.ensures.is)
+    as_these (λ (outcomes : List Outcome). λ are. inr are) (one_unread _ _ _ _ _ _ line.0 _ line.1 c.in_ok-tell_unread-in-Err.ensures.is)

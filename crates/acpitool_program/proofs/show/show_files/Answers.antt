@@ -5,7 +5,7 @@ use Rattle.acpitool_program.proofs.Outcomes.{no_words, word_then}
 use Rattle.acpitool_program.proofs.show.show_files.Goals as goal
 
 pub loop-path-init : goal.loop-path-init
-loop-path-init g c = no_words _ _ _ _
+loop-path-init g c = no_words _ _ _ _ _
 
 pub loop-path-preserved : goal.loop-path-preserved
 loop-path-preserved g c =

@@ -1,9 +1,11 @@
 use Rattle.std.proofs.Common.{true, take, map, string_bytes}
 use Rattle.acpitool_program.specs.Job.{asked}
-use Rattle.acpitool_program.specs.Outcome.{AreOfFile, AreOfEach, PrintedAs}
+use Rattle.acpitool_program.specs.Machine.{kept_by}
+use Rattle.acpitool_program.specs.Outcome.{AreOfFile, AreOfEach, KeptAs}
 use Rattle.acpitool_program.proofs.show.show_files.Given as goal
 
 abbrev pub invariant-loop-path : goal.invariant-loop-path
 invariant-loop-path g l =
-    PrintedAs (asked l.job) (AreOfEach (AreOfFile true) (map (λ word. string_bytes word) (take l.path-index l.paths)))
-    (g.O.Write.contents l.initial.out) (g.O.Write.contents l.out) (g.E.Write.contents l.initial.err) (g.E.Write.contents l.err) l.worst
+    KeptAs (asked l.job) (AreOfEach (AreOfFile true) (map (λ word. string_bytes word) (take l.path-index l.paths)))
+    (g.O.Write.contents l.initial.out) (g.O.Write.contents l.out) (g.E.Write.contents l.initial.err) (g.E.Write.contents l.err)
+    (map kept_by l.initial.kept.items) (map kept_by l.kept.items) l.worst

@@ -10,4 +10,4 @@ returns-in_ok-show_files-in-Ok g c =
 pub returns-in_ok-tell_unread-in-Err : goal.returns-in_ok-tell_unread-in-Err
 returns-in_ok-tell_unread-in-Err g c =
     let line = c.in_ok-tell_unread-in-Err.ensures.line in
-    as_these (λ (outcomes : List Outcome). λ are. inr are) (one_unread _ _ _ _ _ line.0 _ line.1 c.in_ok-tell_unread-in-Err.ensures.is)
+    as_these (λ (outcomes : List Outcome). λ are. inr are) (one_unread _ _ _ _ _ _ line.0 _ line.1 c.in_ok-tell_unread-in-Err.ensures.is)

@@ -5,7 +5,7 @@ use Rattle.acpitool_program.proofs.Outcomes.{no_words, word_then}
 use Rattle.acpitool_program.proofs.show.show_words.Goals as goal
 
 pub loop-word-init : goal.loop-word-init
-loop-word-init g c = no_words _ _ _ _
+loop-word-init g c = no_words _ _ _ _ _
 
 pub loop-word-preserved : goal.loop-word-preserved
 loop-word-preserved g c =

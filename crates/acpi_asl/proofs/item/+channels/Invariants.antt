@@ -1,4 +1,0 @@
-use Rattle.acpi_asl.proofs.item.+channels.Given as goal
-
-abbrev pub decreases-push_channels : goal.decreases-push_channels
-decreases-push_channels l = l.left

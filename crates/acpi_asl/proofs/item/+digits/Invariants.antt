@@ -1,4 +1,0 @@
-use Rattle.acpi_asl.proofs.item.+digits.Given as goal
-
-abbrev pub decreases-push_digits_at : goal.decreases-push_digits_at
-decreases-push_digits_at l = l.width

@@ -1,0 +1,15 @@
+pub mod Dmar
+pub mod DmarLaws
+pub mod DmarScopes
+pub mod Erst
+pub mod Fpdt
+pub mod Grown
+pub mod Ivrs
+pub mod IvrsEntries
+pub mod IvrsLaws
+pub mod Nfit
+pub mod NfitLaws
+pub mod NfitLists
+pub mod Pcct
+pub mod PcctLaws
+pub mod Rsdt

@@ -1,0 +1,360 @@
+//! ERST and its entries.
+
+use acpi_base::error::R;
+use acpi_tables::erst::{Action, ERST, Instruction, SerializationEntry};
+use acpi_tables::gas::{AccessSize, AddressSpace, GAS};
+use std::alloc::Global;
+use std::test::Fail;
+use test_support::table::table;
+use test_support::{OEM, OEM_REVISION, OEM_TABLE, equal, writes};
+
+fn step(action: Action, instruction: Instruction) -> SerializationEntry {
+    let register = GAS::new(
+        AddressSpace::SystemIo,
+        8,
+        3,
+        AccessSize::WordAccess,
+        0x0807_0605_0403_0201,
+    );
+    let (value, mask) = (0x1817_1615_1413_1211, 0x2827_2625_2423_2221);
+    SerializationEntry::new(action, instruction, register, value, mask)
+}
+
+// Fails unless an entry has these first three bytes, and the values of `step` after them.
+fn begins(alloc: Global, entry: SerializationEntry, first: [u8; 3]) -> Result<(), Fail> {
+    let [action, instruction, flags] = first;
+    let wanted = [
+        action,
+        instruction,
+        flags,
+        0,
+        1,
+        8,
+        3,
+        2,
+        1,
+        2,
+        3,
+        4,
+        5,
+        6,
+        7,
+        8,
+        0x11,
+        0x12,
+        0x13,
+        0x14,
+        0x15,
+        0x16,
+        0x17,
+        0x18,
+        0x21,
+        0x22,
+        0x23,
+        0x24,
+        0x25,
+        0x26,
+        0x27,
+        0x28,
+    ];
+    writes(alloc, &entry, &wanted)
+}
+
+#[test]
+fn actions(rt: HostRuntime) -> Result<(), Fail> {
+    for (action, number) in [
+        (Action::BeginWrite, 0),
+        (Action::BeginRead, 1),
+        (Action::BeginClear, 2),
+        (Action::End, 3),
+        (Action::SetRecordOffset, 4),
+        (Action::Execute, 5),
+        (Action::CheckBusyStatus, 6),
+        (Action::GetCommandStatus, 7),
+        (Action::GetRecordIdentifier, 8),
+        (Action::SetRecordIdentifier, 9),
+        (Action::GetRecordCount, 10),
+        (Action::BeginDummyWrite, 11),
+        (Action::GetErrorLogAddressRange, 13),
+        (Action::GetErrorLogAddressRangeLength, 14),
+        (Action::GetErrorLogAddressRangeAttributes, 15),
+        (Action::GetExecuteTimings, 16),
+    ] {
+        begins(rt.alloc(), step(action, Instruction::Noop), [number, 4, 0])?;
+    }
+    Ok(())
+}
+
+#[test]
+fn instructions(rt: HostRuntime) -> Result<(), Fail> {
+    for (instruction, number) in [
+        (Instruction::ReadRegister, 0),
+        (Instruction::ReadRegisterValue, 1),
+        (Instruction::WriteRegister, 2),
+        (Instruction::WriteRegisterValue, 3),
+        (Instruction::Noop, 4),
+        (Instruction::LoadVar1, 5),
+        (Instruction::LoadVar2, 6),
+        (Instruction::StoreVar1, 7),
+        (Instruction::Add, 8),
+        (Instruction::Subtract, 9),
+        (Instruction::AddValue, 10),
+        (Instruction::SubtractValue, 11),
+        (Instruction::Stall, 12),
+        (Instruction::StallWhileTrue, 13),
+        (Instruction::SkipNextInstructionIfTrue, 14),
+        (Instruction::Goto, 15),
+        (Instruction::SetSourceAddressBase, 16),
+        (Instruction::SetDestinationAddressBase, 17),
+        (Instruction::MoveData, 18),
+    ] {
+        let entry = step(Action::End, instruction).preserve_register();
+        begins(rt.alloc(), entry, [3, number, 1])?;
+        begins(rt.alloc(), entry.preserve_register(), [3, number, 1])?;
+    }
+    Ok(())
+}
+
+// A register of QEMU's device for error records, in memory.
+fn register(bits: u8, size: AccessSize, address: u64) -> GAS {
+    GAS::new(AddressSpace::SystemMemory, bits, 0, size, address)
+}
+
+const LOW: u64 = 0xffff_ffff;
+
+const ALL: u64 = 0xffff_ffff_ffff_ffff;
+
+// The entries of the table that QEMU 7.2 writes for this device at 0xfebf3000, and the bytes of each.
+fn add_entries(erst: &mut ERST) -> R<()> {
+    let action = register(32, AccessSize::DwordAccess, 0xfebf_3000);
+    let value = register(32, AccessSize::DwordAccess, 0xfebf_3008);
+    let wide = register(64, AccessSize::QwordAccess, 0xfebf_3008);
+    for (operation, instruction, register, number, mask) in [
+        (
+            Action::BeginWrite,
+            Instruction::WriteRegisterValue,
+            action,
+            0,
+            LOW,
+        ),
+        (
+            Action::BeginRead,
+            Instruction::WriteRegisterValue,
+            action,
+            1,
+            LOW,
+        ),
+        (
+            Action::BeginClear,
+            Instruction::WriteRegisterValue,
+            action,
+            2,
+            LOW,
+        ),
+        (Action::End, Instruction::WriteRegisterValue, action, 3, LOW),
+        (
+            Action::SetRecordOffset,
+            Instruction::WriteRegister,
+            value,
+            0,
+            LOW,
+        ),
+        (
+            Action::SetRecordOffset,
+            Instruction::WriteRegisterValue,
+            action,
+            4,
+            LOW,
+        ),
+        (
+            Action::Execute,
+            Instruction::WriteRegisterValue,
+            value,
+            0x9c,
+            LOW,
+        ),
+        (
+            Action::Execute,
+            Instruction::WriteRegisterValue,
+            action,
+            5,
+            LOW,
+        ),
+        (
+            Action::CheckBusyStatus,
+            Instruction::WriteRegisterValue,
+            action,
+            6,
+            LOW,
+        ),
+        (
+            Action::CheckBusyStatus,
+            Instruction::ReadRegisterValue,
+            value,
+            1,
+            LOW,
+        ),
+        (
+            Action::GetCommandStatus,
+            Instruction::WriteRegisterValue,
+            action,
+            7,
+            LOW,
+        ),
+        (
+            Action::GetCommandStatus,
+            Instruction::ReadRegister,
+            value,
+            0,
+            LOW,
+        ),
+        (
+            Action::GetRecordIdentifier,
+            Instruction::WriteRegisterValue,
+            action,
+            8,
+            LOW,
+        ),
+        (
+            Action::GetRecordIdentifier,
+            Instruction::ReadRegister,
+            wide,
+            0,
+            ALL,
+        ),
+        (
+            Action::SetRecordIdentifier,
+            Instruction::WriteRegister,
+            wide,
+            0,
+            ALL,
+        ),
+        (
+            Action::SetRecordIdentifier,
+            Instruction::WriteRegisterValue,
+            action,
+            9,
+            LOW,
+        ),
+        (
+            Action::GetRecordCount,
+            Instruction::WriteRegisterValue,
+            action,
+            10,
+            LOW,
+        ),
+        (
+            Action::GetRecordCount,
+            Instruction::ReadRegister,
+            value,
+            0,
+            LOW,
+        ),
+        (
+            Action::BeginDummyWrite,
+            Instruction::WriteRegisterValue,
+            action,
+            11,
+            LOW,
+        ),
+        (
+            Action::GetErrorLogAddressRange,
+            Instruction::WriteRegisterValue,
+            action,
+            13,
+            LOW,
+        ),
+        (
+            Action::GetErrorLogAddressRange,
+            Instruction::ReadRegister,
+            wide,
+            0,
+            ALL,
+        ),
+        (
+            Action::GetErrorLogAddressRangeLength,
+            Instruction::WriteRegisterValue,
+            action,
+            14,
+            LOW,
+        ),
+        (
+            Action::GetErrorLogAddressRangeLength,
+            Instruction::ReadRegister,
+            wide,
+            0,
+            ALL,
+        ),
+        (
+            Action::GetErrorLogAddressRangeAttributes,
+            Instruction::WriteRegisterValue,
+            action,
+            15,
+            LOW,
+        ),
+        (
+            Action::GetErrorLogAddressRangeAttributes,
+            Instruction::ReadRegister,
+            value,
+            0,
+            LOW,
+        ),
+        (
+            Action::GetExecuteTimings,
+            Instruction::WriteRegisterValue,
+            action,
+            16,
+            LOW,
+        ),
+        (
+            Action::GetExecuteTimings,
+            Instruction::ReadRegister,
+            wide,
+            0,
+            ALL,
+        ),
+    ] {
+        erst.add_entry(SerializationEntry::new(operation, instruction, register, number, mask))?;
+    }
+    Ok(())
+}
+
+const ENTRIES: &[u8] = b"\x30\0\0\0\0\0\0\0\x1b\0\0\0\
+    \0\x03\0\0\0\x20\0\x03\0\x30\xbf\xfe\0\0\0\0\0\0\0\0\0\0\0\0\xff\xff\xff\xff\0\0\0\0\
+    \x01\x03\0\0\0\x20\0\x03\0\x30\xbf\xfe\0\0\0\0\x01\0\0\0\0\0\0\0\xff\xff\xff\xff\0\0\0\0\
+    \x02\x03\0\0\0\x20\0\x03\0\x30\xbf\xfe\0\0\0\0\x02\0\0\0\0\0\0\0\xff\xff\xff\xff\0\0\0\0\
+    \x03\x03\0\0\0\x20\0\x03\0\x30\xbf\xfe\0\0\0\0\x03\0\0\0\0\0\0\0\xff\xff\xff\xff\0\0\0\0\
+    \x04\x02\0\0\0\x20\0\x03\x08\x30\xbf\xfe\0\0\0\0\0\0\0\0\0\0\0\0\xff\xff\xff\xff\0\0\0\0\
+    \x04\x03\0\0\0\x20\0\x03\0\x30\xbf\xfe\0\0\0\0\x04\0\0\0\0\0\0\0\xff\xff\xff\xff\0\0\0\0\
+    \x05\x03\0\0\0\x20\0\x03\x08\x30\xbf\xfe\0\0\0\0\x9c\0\0\0\0\0\0\0\xff\xff\xff\xff\0\0\0\0\
+    \x05\x03\0\0\0\x20\0\x03\0\x30\xbf\xfe\0\0\0\0\x05\0\0\0\0\0\0\0\xff\xff\xff\xff\0\0\0\0\
+    \x06\x03\0\0\0\x20\0\x03\0\x30\xbf\xfe\0\0\0\0\x06\0\0\0\0\0\0\0\xff\xff\xff\xff\0\0\0\0\
+    \x06\x01\0\0\0\x20\0\x03\x08\x30\xbf\xfe\0\0\0\0\x01\0\0\0\0\0\0\0\xff\xff\xff\xff\0\0\0\0\
+    \x07\x03\0\0\0\x20\0\x03\0\x30\xbf\xfe\0\0\0\0\x07\0\0\0\0\0\0\0\xff\xff\xff\xff\0\0\0\0\
+    \x07\0\0\0\0\x20\0\x03\x08\x30\xbf\xfe\0\0\0\0\0\0\0\0\0\0\0\0\xff\xff\xff\xff\0\0\0\0\
+    \x08\x03\0\0\0\x20\0\x03\0\x30\xbf\xfe\0\0\0\0\x08\0\0\0\0\0\0\0\xff\xff\xff\xff\0\0\0\0\
+    \x08\0\0\0\0\x40\0\x04\x08\x30\xbf\xfe\0\0\0\0\0\0\0\0\0\0\0\0\xff\xff\xff\xff\xff\xff\xff\xff\
+    \x09\x02\0\0\0\x40\0\x04\x08\x30\xbf\xfe\0\0\0\0\0\0\0\0\0\0\0\0\xff\xff\xff\xff\xff\xff\xff\xff\
+    \x09\x03\0\0\0\x20\0\x03\0\x30\xbf\xfe\0\0\0\0\x09\0\0\0\0\0\0\0\xff\xff\xff\xff\0\0\0\0\
+    \x0a\x03\0\0\0\x20\0\x03\0\x30\xbf\xfe\0\0\0\0\x0a\0\0\0\0\0\0\0\xff\xff\xff\xff\0\0\0\0\
+    \x0a\0\0\0\0\x20\0\x03\x08\x30\xbf\xfe\0\0\0\0\0\0\0\0\0\0\0\0\xff\xff\xff\xff\0\0\0\0\
+    \x0b\x03\0\0\0\x20\0\x03\0\x30\xbf\xfe\0\0\0\0\x0b\0\0\0\0\0\0\0\xff\xff\xff\xff\0\0\0\0\
+    \x0d\x03\0\0\0\x20\0\x03\0\x30\xbf\xfe\0\0\0\0\x0d\0\0\0\0\0\0\0\xff\xff\xff\xff\0\0\0\0\
+    \x0d\0\0\0\0\x40\0\x04\x08\x30\xbf\xfe\0\0\0\0\0\0\0\0\0\0\0\0\xff\xff\xff\xff\xff\xff\xff\xff\
+    \x0e\x03\0\0\0\x20\0\x03\0\x30\xbf\xfe\0\0\0\0\x0e\0\0\0\0\0\0\0\xff\xff\xff\xff\0\0\0\0\
+    \x0e\0\0\0\0\x40\0\x04\x08\x30\xbf\xfe\0\0\0\0\0\0\0\0\0\0\0\0\xff\xff\xff\xff\xff\xff\xff\xff\
+    \x0f\x03\0\0\0\x20\0\x03\0\x30\xbf\xfe\0\0\0\0\x0f\0\0\0\0\0\0\0\xff\xff\xff\xff\0\0\0\0\
+    \x0f\0\0\0\0\x20\0\x03\x08\x30\xbf\xfe\0\0\0\0\0\0\0\0\0\0\0\0\xff\xff\xff\xff\0\0\0\0\
+    \x10\x03\0\0\0\x20\0\x03\0\x30\xbf\xfe\0\0\0\0\x10\0\0\0\0\0\0\0\xff\xff\xff\xff\0\0\0\0\
+    \x10\0\0\0\0\x40\0\x04\x08\x30\xbf\xfe\0\0\0\0\0\0\0\0\0\0\0\0\xff\xff\xff\xff\xff\xff\xff\xff";
+
+#[test]
+fn erst(rt: HostRuntime) -> Result<(), Fail> {
+    let alloc = rt.alloc();
+    let mut erst = ERST::new(alloc, OEM, OEM_TABLE, OEM_REVISION);
+    let none = table(alloc, b"ERST", 1, &[b"\x30\0\0\0\0\0\0\0\0\0\0\0"])?;
+    writes(alloc, &erst, &none)?;
+    add_entries(&mut erst)?;
+    equal(&(erst.len(), erst.count()), &(912, 27))?;
+    writes(alloc, &erst, &table(alloc, b"ERST", 1, &[ENTRIES])?)
+}
