@@ -7,7 +7,7 @@ set -eu
 cd "$(dirname "$0")/.."
 copy=$(mktemp -d)
 trap 'rm -rf "$copy"' EXIT
-git ls-files -z | xargs -0 cp --parents -t "$copy"
+git ls-files -z | xargs -0 cp -d --parents -t "$copy"
 cd "$copy"
 rm -rf crates/*/must-fail
 
