@@ -28,6 +28,8 @@ FURTHER = "acpi_forms/src/further/"
 UNSEEN = ["Without PASID", "Device Handle", "Header"]
 # Structures that are only read: they are in cases/further.cases.
 UNSEEN += ["Generic Port Affinity Structure", "ID Structure"]
+# What no table of crates/acpitool/data has, before its nodes and after the string of a node: it is in cases/shown.cases.
+UNSEEN += ["Optional Padding", "Padding"]
 
 
 def read(path):

@@ -72,7 +72,7 @@ for table in "$tables"/* "$tables"/arm/*; do
     name=${table##*/}
     # All tables at their addresses.
     [ "$name" != image ] && [ -f "$table" ] || continue
-    text=$work/$name.dsl
+    text=$work/$(printf %s "$name" | tr . _).dsl
     if ! disassemble "$table" "$text"; then
         echo "$name: refused by iasl" >&2
         grep -Ei "$said" "$work/log" >&2 || cat "$work/log" >&2
@@ -89,7 +89,7 @@ done
 [ $# -eq 0 ] || exit 0
 for table in crates/acpitool/data/*; do
     name=${table##*/}
-    text=$work/$name.dsl
+    text=$work/$(printf %s "$name" | tr . _).dsl
     rm -f "$text"
     disassemble "$table" "$text" || true
     if [ ! -s "$text" ] || grep -q 'Unknown ACPI table signature' "$text"; then

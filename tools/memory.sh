@@ -27,10 +27,16 @@ device() {
     printf '\211\006\0\003\001\004\0\0\0\107\001\370\003\370\003\0\010\171\0'
 }
 
-# A MADT of two processors, a device's AML, and a definition block that holds the device.
+# Two devices with a method of the same name. The second method, of two arguments, calls itself (ACPI 6.5, 5.3).
+methods() {
+    printf '\133\202\014DEV0\024\006GETX\001\133\202\023DEV1\024\015GETX\002\244GETX\001h'
+}
+
+# A MADT of two processors, a device's AML, and definition blocks that hold the device and the methods.
 { header 'APIC\074\0\0\0\001\150' && printf '\0\0\340\376\0\0\0\0\0\010\0\0\001\0\0\0\0\010\001\001\001\0\0\0'; } >"$work/table"
 device >"$work/aml"
 { header 'DSDT\126\0\0\0\002\107' && device; } >"$work/dsdt"
+{ header 'DSDT\107\0\0\0\002\121' && methods; } >"$work/scopes"
 
 if [ "${1-}" != built ]; then
     prove test_memory acpiread acpitool
@@ -118,6 +124,8 @@ each is_whole_or_refused 1 "$read" aml "$work/aml"
 each is_whole_or_refused 1 "$read" dsdt "$work/dsdt"
 each is_whole_or_says_memory 1 "$tool" show "$work/table"
 each is_whole_or_says_memory 1 "$tool" show "$work/dsdt"
+each is_whole_or_says_memory 1 "$tool" disassemble "$work/dsdt"
+each is_whole_or_says_memory 1 "$tool" disassemble "$work/scopes"
 each is_whole_or_says_memory 1 "$tool" template APIC
 "$tool" show "$work/table" >"$work/text"
 each is_made_or_says_memory 1 "$tool" make "$work/text" "$work/made"

@@ -12,6 +12,7 @@ use acpi_term::name_string::Arities;
 use acpi_term::read_error::ReadError;
 use acpi_term::term::Term;
 use acpi_terms_text::methods::own_arities;
+use acpi_terms_text::scoped::in_scopes;
 use std::alloc::{AllocError, Global};
 
 /// The offset of the terms of a definition block: they follow its header (ACPI 6.5, 5.2.11.1).
@@ -74,13 +75,14 @@ fn text_of_body(
     ensures place { IfErr result (λ e. IfSome (offset_of e) (λ offset. offset ≤ length body.now)) }
 {
     let own = own_arities(alloc, body, stated)?;
-    let terms = standard_terms(body, &own)?;
+    let whole = standard_terms(body, &own)?;
+    let terms = in_scopes(alloc, stated, &own, whole)?;
     let text = text_of_terms(alloc, block, header, &terms)?;
     Ok(text)
 }
 
 /// Returns the text of a definition block. Its terms are read in the language of the standard. Names take the stated numbers of
-/// arguments, or else those of the block's own methods. The errors are those of `standard_terms`, with offsets from the first
+/// arguments, or else those of the block's own methods, in a method those of the nearest ones (ACPI 6.5, 5.3). The errors are those of `standard_terms`, with offsets from the first
 /// byte after the header.
 pub fn text_of_block(
     alloc: Global,

@@ -172,11 +172,16 @@ faults_tables =
     ∷ only_read "WDDT" "Watchdog Descriptor Table (WDDT)" []
     ∷ []
 
+abbrev pub aest_names : Named
+aest_names = only_read "AEST" "Arm Error Source Table (AEST)" aest_kinds
+
 -- errors of Arm machines
+abbrev pub arm_errors_tables : List Named
+arm_errors_tables = aest_names ∷ []
+
 abbrev pub arm_faults_tables : List Named
 arm_faults_tables =
-    only_read "AEST" "Arm Error Source Table (AEST)" aest_kinds
-    ∷ only_read "AGDI" "Arm Generic Diagnostic Dump and Reset Interface Table (AGDI)" []
+    only_read "AGDI" "Arm Generic Diagnostic Dump and Reset Interface Table (AGDI)" []
     ∷ only_read "SDEI" "Software Delegated Exceptions Interface Table (SDEI)" []
     ∷ []
 

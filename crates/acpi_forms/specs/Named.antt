@@ -3,7 +3,7 @@ use Rattle.std.specs.Prelude.{ℕ, ◌==◌, List, [], ◌∷◌, codes, if◌th
 use Rattle.acpi_base.specs.Walk.{named}
 use Rattle.acpi_text.specs.declared.form.TableForm.{TableForm}
 use Rattle.acpi_forms.specs.FurtherNames.{boot_tables, security_tables, faults_tables, arm_faults_tables, devices_tables}
-use Rattle.acpi_forms.specs.FurtherNames.{memory_tables}
+use Rattle.acpi_forms.specs.FurtherNames.{arm_errors_tables, memory_tables}
 use Rattle.acpi_forms.specs.Written.{the_bert, the_cedt, the_dbg2, the_facs, the_fadt, the_gtdt, the_header, the_hest}
 use Rattle.acpi_forms.specs.Written.{the_hmat, the_iort, the_madt, the_mcfg, the_pptt, the_rhct, the_rimt, the_rqsc}
 use Rattle.acpi_forms.specs.Written.{the_rsdp, the_slit, the_spcr, the_srat, the_tcpa, the_tpm2, the_viot, the_xsdt}
@@ -293,8 +293,11 @@ named_memory s = find_named s memory_tables unknown
 abbrev pub named_devices : ℕ → Named
 named_devices s = find_named s devices_tables (named_memory s)
 
+abbrev pub named_arm_errors : ℕ → Named
+named_arm_errors s = find_named s arm_errors_tables (named_devices s)
+
 abbrev pub named_arm_faults : ℕ → Named
-named_arm_faults s = find_named s arm_faults_tables (named_devices s)
+named_arm_faults s = find_named s arm_faults_tables (named_arm_errors s)
 
 abbrev pub named_faults : ℕ → Named
 named_faults s = find_named s faults_tables (named_arm_faults s)

@@ -215,6 +215,7 @@ const IORT: TableForm = TableForm {
             Row::Number("Offset to Array of IORT Nodes", 4),
             Row::Reserved(4),
         ]),
+        Part::Until("Optional Padding", Place::DWord(40)),
     ],
     structures: &IORT_NODES,
     further: &IORT_FURTHER,

@@ -4,7 +4,7 @@ ghost use Rattle.std.specs.Prelude.{◌≡◌};
 ghost use Rattle.acpi_base.specs.Walk.{named};
 ghost use Rattle.acpi_forms.specs.Named.{find_form, names_of, IsNamed};
 ghost use Rattle.acpi_forms.specs.Named.{named_boot, named_security, named_faults, named_arm_faults, named_devices};
-ghost use Rattle.acpi_forms.specs.Named.{named_memory, named_node, named_arm, named_pc};
+ghost use Rattle.acpi_forms.specs.Named.{named_arm_errors, named_memory, named_node, named_arm, named_pc};
 
 use crate::arm::{dbg2_form, gtdt_form, iort_form};
 use crate::fixed::{
@@ -12,6 +12,7 @@ use crate::fixed::{
     tpm2_form, unknown_form, waet_form, wsmt_form,
 };
 pub use crate::fixed::{facs_form, rsdp_form};
+use crate::further::aest::aest_form;
 use crate::further::{
     ARM_FAULTS_FORMS, BOOT_FORMS, DEVICES_FORMS, FAULTS_FORMS, MEMORY_FORMS, SECURITY_FORMS,
 };
@@ -41,7 +42,7 @@ fn find_form(signature: u32, rows: &[([u8; 4], TableForm)], other: TableForm) ->
     other
 }
 
-// There is a function for each list, since the proof goes through the whole list. The first six are those of tables that are
+// There is a function for each list, since the proof goes through the whole list. The first seven are those of tables that are
 // only read.
 fn memory_form(signature: u32) -> TableForm
     ensures { IsNamed result (named_memory signature) }
@@ -55,10 +56,17 @@ fn devices_form(signature: u32) -> TableForm
     find_form(signature, &DEVICES_FORMS, memory_form(signature))
 }
 
+fn arm_errors_form(signature: u32) -> TableForm
+    ensures { IsNamed result (named_arm_errors signature) }
+{
+    let other = devices_form(signature);
+    find_form(signature, &[(*b"AEST", aest_form())], other)
+}
+
 fn arm_faults_form(signature: u32) -> TableForm
     ensures { IsNamed result (named_arm_faults signature) }
 {
-    find_form(signature, &ARM_FAULTS_FORMS, devices_form(signature))
+    find_form(signature, &ARM_FAULTS_FORMS, arm_errors_form(signature))
 }
 
 fn faults_form(signature: u32) -> TableForm

@@ -115,10 +115,9 @@ pub const FAULTS_FORMS: [([u8; 4], TableForm); 10] = [
     (*b"WDDT", wddt::WDDT),
 ];
 
-/// Errors of Arm machines.
+/// Errors of Arm machines. AEST has a function, since it has many rows.
 #[rattlefmt::skip]
-pub const ARM_FAULTS_FORMS: [([u8; 4], TableForm); 3] = [
-    (*b"AEST", aest::AEST),
+pub const ARM_FAULTS_FORMS: [([u8; 4], TableForm); 2] = [
     (*b"AGDI", agdi::AGDI),
     (*b"SDEI", sdei::SDEI),
 ];

@@ -58,6 +58,7 @@ const RHCT_NODES: [StructureForm; 4] = [
         parts: &[
             Part::Fields(&ISA_STRING),
             Part::Bytes("ISA String", Place::Word(6)),
+            Part::Until("Padding", Place::Word(2)),
         ],
         inner: &Inner::Nothing,
     },

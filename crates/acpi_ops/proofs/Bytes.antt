@@ -1,5 +1,5 @@
 -- Descriptors are bytes.
-use Rattle.std.proofs.Common.{ℕ, ◌+◌, ◌*◌, ◌-◌, ◌<◌, List, [], ◌∷◌, ◌++◌, length, Bool, true, false, Some, None, lit<, arith}
+use Rattle.std.proofs.Common.{ℕ, ◌+◌, ◌*◌, ◌<◌, List, [], ◌∷◌, ◌++◌, length, Bool, true, false, Some, None, lit<, arith}
 use Rattle.std.specs.Prelude.{Option}
 use Rattle.std.specs.List.{flat_map}
 use Rattle.acpi_base.specs.declared.error.Error.TheVariants.{AddressRange, FieldWidth}
@@ -13,7 +13,7 @@ use Rattle.acpi_ops.specs.declared.address_space.FixedEnd.{FixedEnd}
 use Rattle.acpi_ops.specs.declared.address_space.FixedEnd.TheVariants as ends
 use Rattle.acpi_ops.specs.declared.address_space.Movable.{Movable}
 use Rattle.acpi_ops.specs.AddressSpace.{byte, word, record_of, or_zero, end_flags, fixed_flags, granularity_in, size_of}
-use Rattle.acpi_ops.specs.AddressSpace.{is_range, space_bytes}
+use Rattle.acpi_ops.specs.AddressSpace.{is_range, spaced, space_bytes, space_from_bytes}
 use Rattle.acpi_ops.specs.Descriptor.{bit, vector_flags, fixed_fields, port_fields, interrupt_fields, register_fields}
 use Rattle.acpi_ops.specs.declared.gpio.PinConfig.{PinConfig}
 use Rattle.acpi_ops.specs.declared.gpio.Settings.{Settings}
@@ -21,11 +21,16 @@ use Rattle.acpi_ops.specs.declared.pins.PinSetting.{PinSetting}
 use Rattle.acpi_ops.specs.declared.pins.PinUse.{PinUse}
 use Rattle.acpi_ops.specs.declared.serial.Bus.{Bus}
 use Rattle.acpi_ops.specs.Gpio.{config_number, gpio_head_fields, gpio_bytes}
-use Rattle.acpi_ops.specs.Parts.{name_at, vendor_at, length_of, parts_bytes, pins_bytes}
+use Rattle.acpi_ops.specs.Parts.{name_at, vendor_at, length_of, parts_bytes, pins_bytes, source_size}
 use Rattle.acpi_ops.specs.Pins.{setting_number, use_flags, function_fields, function_bytes, configuration_fields, configuration_bytes}
 use Rattle.acpi_ops.specs.Pins.{group_fields, group_bytes, group_function_fields, group_function_bytes}
 use Rattle.acpi_ops.specs.Pins.{group_configuration_fields, group_configuration_bytes}
+use Rattle.acpi_ops.specs.declared.clock.ClockSettings.{ClockSettings}
+use Rattle.acpi_ops.specs.declared.csi2.Csi2Settings.{Csi2Settings}
+use Rattle.acpi_ops.specs.Clock.{clock_flags, clock_fields, clock_from_bytes}
+use Rattle.acpi_ops.specs.Csi2.{csi2_flags, csi2_type_flags, csi2_head_fields, csi2_bytes}
 use Rattle.acpi_ops.specs.Interrupts.{interrupts_head_fields, numbers_bytes, interrupts_bytes}
+use Rattle.acpi_ops.specs.Interrupts.{from_length, from_head_fields, from_bytes}
 use Rattle.acpi_ops.specs.Memory.{memory_24_fields, memory_32_fields}
 use Rattle.acpi_ops.specs.Serial.{general_flags, length_after, serial_head_fields, serial_bytes}
 use Rattle.acpi_ops.specs.Vendor.{vendor_short_fields, vendor_long_fields}
@@ -63,10 +68,10 @@ bit_few false = lit< tt
 general_is_byte : (set : Bool) (m : Option (Movable ℕ)) → bit set 2 + fixed_flags (λ n. n) m < 256
 general_is_byte set m = omega (arith, bit_few set, fixed_few m)
 
-space_is_bytes : (tag w : ℕ) (a : AddressSpace ℕ) → tag < 256 → a.kind < 256 → a.flags < 256 → AreBytes (space_bytes (λ n. n) tag w a)
-space_is_bytes tag w a p q r =
-    joined (byte tag ∷ word (3 + 5 * w) ∷ byte a.kind ∷ byte (bit a.subtractive 2 + fixed_flags (λ n. n) a.movable) ∷ byte a.flags ∷ le w (granularity_in (λ n. n) a.movable) ∷ le w a.min ∷ le w a.max ∷ le w (or_zero (λ n. n) a.translation) ∷ le w (size_of (λ n. n) a) ∷ [])
-    ((p, tt), (bytes_le 2 (3 + 5 * w), ((q, tt), ((general_is_byte a.subtractive a.movable, tt), ((r, tt), (bytes_le w (granularity_in (λ n. n) a.movable), (bytes_le w a.min, (bytes_le w a.max, (bytes_le w (or_zero (λ n. n) a.translation), (bytes_le w (size_of (λ n. n) a), tt))))))))))
+spaced_is_bytes : (size tag w : ℕ) (a : AddressSpace ℕ) → tag < 256 → a.kind < 256 → a.flags < 256 → AreBytes (spaced (λ n. n) size tag w a)
+spaced_is_bytes size tag w a p q r =
+    joined (byte tag ∷ word size ∷ byte a.kind ∷ byte (bit a.subtractive 2 + fixed_flags (λ n. n) a.movable) ∷ byte a.flags ∷ le w (granularity_in (λ n. n) a.movable) ∷ le w a.min ∷ le w a.max ∷ le w (or_zero (λ n. n) a.translation) ∷ le w (size_of (λ n. n) a) ∷ [])
+    ((p, tt), (bytes_le 2 size, ((q, tt), ((general_is_byte a.subtractive a.movable, tt), ((r, tt), (bytes_le w (granularity_in (λ n. n) a.movable), (bytes_le w a.min, (bytes_le w a.max, (bytes_le w (or_zero (λ n. n) a.translation), (bytes_le w (size_of (λ n. n) a), tt))))))))))
 
 abbrev AreNamed : List NamedField → Type 0
 AreNamed [] = Unit {0}
@@ -178,6 +183,42 @@ bus_are b own vendor source p q r =
     (bytes_both own (vendor ++ (source ++ 0 ∷ [])) p
     (bytes_both vendor (source ++ 0 ∷ []) q (bytes_both source (0 ∷ []) r (lit< tt, tt))))
 
+-- ---- cameras, clocks and resource sources
+
+csi2_are : (s : Csi2Settings) (vendor source : List ℕ) → AreBytes vendor → AreBytes source → AreBytes (csi2_bytes s vendor source)
+csi2_are s vendor source q r =
+    let n = length vendor in let k = length source in
+    bytes_both (fields_joined (csi2_head_fields s n k)) (vendor ++ (source ++ 0 ∷ []))
+    (named (csi2_head_fields s n k)
+    (bytes_le 1 0x8e, (bytes_le 2 (length_after n k), (bytes_le 1 1, (bytes_le 1 s.remote_port, (bytes_le 1 4, (bytes_le 1 (csi2_flags s), (bytes_le 2 (csi2_type_flags s), (bytes_le 1 1, (bytes_le 2 n, tt))))))))))
+    (bytes_both vendor (source ++ 0 ∷ []) q (zero_after source r))
+
+clock_are : (c : ClockSettings) (more : ℕ) → AreBytes (fields_joined (clock_fields c more))
+clock_are c more = named (clock_fields c more)
+    (bytes_le 1 0x93, (bytes_le 2 (9 + more), (bytes_le 1 1, (bytes_le 2 (clock_flags c), (bytes_le 2 c.divisor, (bytes_le 4 c.numerator, tt))))))
+
+clock_from_are : (c : ClockSettings) (index : ℕ) (source : List ℕ) → index < 256 → AreBytes source → AreBytes (clock_from_bytes c index source)
+clock_from_are c index source p q =
+    bytes_both (fields_joined (clock_fields c (source_size (length source)))) (index ∷ (source ++ 0 ∷ []))
+    (clock_are c (source_size (length source))) (p, zero_after source q)
+
+from_are : (flags : ℕ) (numbers : List ℕ) (index : ℕ) (source : List ℕ) → index < 256 → AreBytes source → AreBytes (from_bytes flags numbers index source)
+from_are flags numbers index source p q =
+    let n = length numbers in let k = length source in
+    bytes_both (fields_joined (from_head_fields flags n k)) (numbers_bytes numbers ++ (index ∷ (source ++ 0 ∷ [])))
+    (named (from_head_fields flags n k) (bytes_le 1 0x89, (bytes_le 2 (from_length n k), (bytes_le 1 flags, (bytes_le 1 n, tt)))))
+    (bytes_both (numbers_bytes numbers) (index ∷ (source ++ 0 ∷ [])) (lists (λ n. le 4 n) numbers (λ n. bytes_le 4 n)) (p, zero_after source q))
+
+space_from_are : (tag w : ℕ) (a : AddressSpace ℕ) (index : ℕ) (source : List ℕ) → tag < 256 → a.kind < 256 → a.flags < 256 → index < 256 → AreBytes source
+    → AreBytes (space_from_bytes (λ n. n) tag w a index source)
+space_from_are tag w a index source p q r i s =
+    bytes_both (spaced (λ n. n) (3 + 5 * w + source_size (length source)) tag w a) (index ∷ (source ++ 0 ∷ []))
+    (spaced_is_bytes (3 + 5 * w + source_size (length source)) tag w a p q r) (i, zero_after source s)
+
+in_range : (range test : Bool) (bytes : List ℕ) → AreBytes bytes → AreBytes (provided range AddressRange (provided test FieldWidth (whole bytes))).front
+in_range true test bytes is = provided_bytes test bytes is
+in_range false test bytes is = tt
+
 -- ---- all of them
 
 pub descriptors_are_bytes : DescriptorsAreBytes
@@ -224,7 +265,7 @@ descriptors_are_bytes = record {
       ),
     ),
   );
-  space = λ tag w a p q r. tested (is_range (λ n. n) w a) (space_bytes (λ n. n) tag w a) (space_is_bytes tag w a p q r);
+  space = λ tag w a p q r. tested (is_range (λ n. n) w a) (space_bytes (λ n. n) tag w a) (spaced_is_bytes (3 + 5 * w) tag w a p q r);
   short = λ content p. provided_bytes _ (fields_joined (vendor_short_fields content)) (short content p);
   long = λ content p. provided_bytes _ (fields_joined (vendor_long_fields content)) (long content p);
   pins = λ s pins source vendor p q. provided_bytes _ (gpio_bytes s pins source vendor) (pins_are s pins source vendor p q);
@@ -238,4 +279,11 @@ descriptors_are_bytes = record {
   group_configuration = λ u setting value source label vendor p q r.
       provided_bytes _ (group_configuration_bytes u setting value source label vendor) (group_configuration_is u setting value source label vendor p q r);
   bus = λ b own vendor source p q r. provided_bytes _ (serial_bytes b own vendor source) (bus_are b own vendor source p q r);
+  camera = λ s vendor source p q. provided_bytes _ (csi2_bytes s vendor source) (csi2_are s vendor source p q);
+  clock = λ c. clock_are c 0;
+  clock_from = λ c index source p q. provided_bytes _ (clock_from_bytes c index source) (clock_from_are c index source p q);
+  several_from = λ f numbers index source p q.
+      provided_bytes _ (from_bytes (vector_flags f) numbers index source) (from_are (vector_flags f) numbers index source p q);
+  space_from = λ tag w a index source p q r i s.
+      in_range _ _ (space_from_bytes (λ n. n) tag w a index source) (space_from_are tag w a index source p q r i s);
 }

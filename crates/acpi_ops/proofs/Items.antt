@@ -1,5 +1,5 @@
 -- Resource items.
-use Rattle.std.proofs.Common.{◌≡◌, ℕ, ◌+◌, ◌*◌, ◌-◌, ◌<◌, List, [], ◌∷◌, ◌++◌, length, take, Bool, true, false, ◌&&◌, cond, Some, None, refl, sym, ap, ◌∙◌, arith}
+use Rattle.std.proofs.Common.{◌≡◌, ℕ, ◌+◌, ◌*◌, ◌<◌, List, [], ◌∷◌, ◌++◌, length, take, Bool, true, false, ◌&&◌, cond, Some, None, refl, sym, ap, ◌∙◌, arith}
 use Rattle.std.specs.Prelude.{nat_lt, nat_le}
 use Rattle.std.specs.List.{concat, flat_map}
 use Rattle.std.proofs.Math.Seq.{take-append_seam}
@@ -17,12 +17,19 @@ use Rattle.acpi_ops.specs.declared.pins.PinUse.{PinUse}
 use Rattle.acpi_ops.specs.declared.serial.Bus.{Bus}
 use Rattle.acpi_ops.specs.Descriptor.{bit, vector_flags}
 use Rattle.acpi_ops.specs.Gpio.{config_number, gpio_bytes}
-use Rattle.acpi_ops.specs.Parts.{name_at, vendor_at, length_of, parts_fit, parts_bytes, pins_bytes}
+use Rattle.acpi_ops.specs.Parts.{name_at, vendor_at, length_of, parts_fit, parts_bytes, pins_bytes, source_size}
 use Rattle.acpi_ops.specs.Pins.{setting_number, use_flags, function_bytes, configuration_bytes, group_bytes, group_function_bytes, group_configuration_bytes}
-use Rattle.acpi_ops.specs.Interrupts.{numbers_bytes, interrupts_bytes}
+use Rattle.acpi_ops.specs.declared.clock.ClockSettings.{ClockSettings}
+use Rattle.acpi_ops.specs.declared.csi2.Csi2Settings.{Csi2Settings}
+use Rattle.acpi_ops.specs.Clock.{clock_flags, clock_from_bytes}
+use Rattle.acpi_ops.specs.Csi2.{csi2_flags, csi2_type_flags, csi2_bytes, csi2_fits}
+use Rattle.acpi_ops.specs.Interrupts.{numbers_bytes, interrupts_bytes, from_length, from_bytes, from_fits}
 use Rattle.acpi_ops.specs.Serial.{general_flags, length_after, serial_fits, serial_bytes}
 use Rattle.acpi_ops.specs.Vendor.{vendor_short_fields, vendor_long_fields}
-use Rattle.acpi_ops.specs.AddressSpace.{is_range, space_bytes}
+use Rattle.acpi_ops.specs.AddressSpace.{is_range, space_bytes, space_from_fits, space_from_bytes}
+use Rattle.acpi_ops.specs.AddressSpace.{fixed_flags, granularity_in, or_zero, size_of}
+use Rattle.acpi_ops.specs.declared.address_space.AddressSpace.{AddressSpace}
+use Rattle.acpi_ops.proofs.Spaces.{numbers}
 use Rattle.acpi_ops.specs.Item.{large_size, item_size, IsItem, AreItems, SplitsInto}
 use Rattle.acpi_ops.specs.Laws.{DescriptorsAreItems}
 
@@ -213,6 +220,74 @@ serial_item b own vendor source fits =
     large 0x8e (length_after (length own + length vendor) (length source)) (serial_rest b own vendor source) refl
     (serial_few (length own) (length vendor) (length source) fits) (omega (arith, serial_length own vendor source))
 
+-- ---- cameras, clocks and resource sources
+
+csi2_few : (p v s : ℕ) → csi2_fits p v s ≡ true → length_after v s < 65536
+csi2_few p v s fits = grind (arith, nat_tests)
+
+named_length : (name : List ℕ) → length (name ++ 0 ∷ []) ≡ length name + 1
+named_length name = length-append name (0 ∷ [])
+
+csi2_length : (vendor source : List ℕ) → length (vendor ++ (source ++ 0 ∷ [])) ≡ length vendor + length source + 1
+csi2_length vendor source = omega (arith, length-append vendor (source ++ 0 ∷ []), named_length source)
+
+abbrev csi2_rest : Csi2Settings → List ℕ → List ℕ → List ℕ
+csi2_rest s vendor source =
+    le 1 1 ++ (le 1 s.remote_port ++ (le 1 4 ++ (le 1 (csi2_flags s) ++ (le 2 (csi2_type_flags s) ++ (le 1 1
+    ++ (le 2 (length vendor) ++ (vendor ++ (source ++ 0 ∷ []))))))))
+
+csi2_item : (s : Csi2Settings) (vendor source : List ℕ) → csi2_fits s.local_port (length vendor) (length source) ≡ true → IsItem (csi2_bytes s vendor source)
+csi2_item s vendor source fits =
+    large 0x8e (length_after (length vendor) (length source)) (csi2_rest s vendor source) refl
+    (csi2_few s.local_port (length vendor) (length source) fits) (omega (arith, csi2_length vendor source))
+
+clock_few : (s : ℕ) → nat_le (9 + source_size s) 65535 ≡ true → 9 + source_size s < 65536
+clock_few s fits = grind (arith, nat_tests)
+
+abbrev clock_rest : ClockSettings → ℕ → List ℕ → List ℕ
+clock_rest c index source =
+    le 1 1 ++ (le 2 (clock_flags c) ++ (le 2 c.divisor ++ (le 4 c.numerator ++ (index ∷ (source ++ 0 ∷ [])))))
+
+clock_item : (c : ClockSettings) (index : ℕ) (source : List ℕ) → nat_le (9 + source_size (length source)) 65535 ≡ true → IsItem (clock_from_bytes c index source)
+clock_item c index source fits =
+    large 0x93 (9 + source_size (length source)) (clock_rest c index source) refl
+    (clock_few (length source) fits) (omega (arith, named_length source))
+
+from_few : (n s : ℕ) → from_fits n s ≡ true → from_length n s < 65536
+from_few n s fits = grind (arith, nat_tests)
+
+from_item : (flags : ℕ) (numbers : List ℕ) (index : ℕ) (source : List ℕ) → from_fits (length numbers) (length source) ≡ true → IsItem (from_bytes flags numbers index source)
+from_item flags numbers index source fits =
+    let list : length (numbers_bytes numbers) ≡ 4 * length numbers = lists (λ n. le 4 n) 4 numbers (λ n. length_le 4 n) in
+    large 0x89 (from_length (length numbers) (length source))
+    (le 1 flags ++ (le 1 (length numbers) ++ (numbers_bytes numbers ++ (index ∷ (source ++ 0 ∷ []))))) refl
+    (from_few (length numbers) (length source) fits)
+    (omega (arith, list, length-append (numbers_bytes numbers) (index ∷ (source ++ 0 ∷ [])), named_length source))
+
+spaced_few : (w s : ℕ) → space_from_fits w s ≡ true → 3 + 5 * w + source_size s < 65536
+spaced_few w s fits = grind (arith, nat_tests)
+
+abbrev spaced_rest : ℕ → AddressSpace ℕ → List ℕ
+spaced_rest w a =
+    a.kind ∷ (bit a.subtractive 2 + fixed_flags (λ n. n) a.movable) ∷ a.flags ∷ (le w (granularity_in (λ n. n) a.movable) ++ (le w a.min
+    ++ (le w a.max ++ (le w (or_zero (λ n. n) a.translation) ++ (le w (size_of (λ n. n) a) ++ [])))))
+
+spaced_size : (w : ℕ) (a : AddressSpace ℕ) → length (spaced_rest w a) ≡ 3 + 5 * w
+spaced_size w a = omega (arith, numbers w (granularity_in (λ n. n) a.movable) a.min a.max (or_zero (λ n. n) a.translation) (size_of (λ n. n) a))
+
+space_from_item : (tag w : ℕ) (a : AddressSpace ℕ) (index : ℕ) (source : List ℕ) → nat_lt tag 128 ≡ false → space_from_fits w (length source) ≡ true
+    → IsItem (space_from_bytes (λ n. n) tag w a index source)
+space_from_item tag w a index source big fits =
+    large tag (3 + 5 * w + source_size (length source)) (spaced_rest w a ++ (index ∷ (source ++ 0 ∷ []))) big
+    (spaced_few w (length source) fits)
+    (omega (arith, spaced_size w a, length-append (spaced_rest w a) (index ∷ (source ++ 0 ∷ [])), named_length source))
+
+-- a range, and then a length
+in_range : (range test : Bool) (bytes : List ℕ) → (test ≡ true → IsItem bytes)
+    → (provided range AddressRange (provided test FieldWidth (whole bytes))).end ≡ None → IsItem (provided range AddressRange (provided test FieldWidth (whole bytes))).front
+in_range true test bytes is h = provided_item test bytes is h
+in_range false test bytes is h = absurd cc
+
 -- ---- all of them
 
 pub descriptors_are_items : DescriptorsAreItems
@@ -249,4 +324,11 @@ descriptors_are_items = record {
   group_configuration = λ u setting value source label vendor.
       provided_item _ (group_configuration_bytes u setting value source label vendor) (group_configuration_item u setting value source label vendor);
   bus = λ b own vendor source. provided_item _ (serial_bytes b own vendor source) (serial_item b own vendor source);
+  camera = λ s vendor source. provided_item _ (csi2_bytes s vendor source) (csi2_item s vendor source);
+  clock = λ c. record { size = refl };
+  clock_from = λ c index source. provided_item _ (clock_from_bytes c index source) (clock_item c index source);
+  several_from = λ f numbers index source.
+      provided_item _ (from_bytes (vector_flags f) numbers index source) (from_item (vector_flags f) numbers index source);
+  space_from = λ tag w a index source big.
+      in_range _ _ (space_from_bytes (λ n. n) tag w a index source) (space_from_item tag w a index source big);
 }

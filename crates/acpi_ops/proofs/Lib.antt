@@ -3,4 +3,5 @@ pub mod Bytes
 pub mod Items
 pub mod Meanings
 pub mod Spaces
+pub mod Standard
 pub mod Templates

@@ -1,10 +1,11 @@
 -- Address spaces (ACPI 6.5, 6.4.3.5).
-use Rattle.std.specs.Prelude.{◌≢◌, ℕ, ◌+◌, ◌-◌, ◌*◌, ◌^◌, nat_le, nat_lt, ◌&&◌, Bool, false, List, [], ◌∷◌, ◌++◌}
+use Rattle.std.specs.Prelude.{◌≢◌, ℕ, ◌+◌, ◌-◌, ◌*◌, ◌^◌, nat_le, nat_lt, ◌&&◌, Bool, false, List, [], ◌∷◌, ◌++◌, length}
 use Rattle.std.specs.Prelude.{Option, Some, None}
-use Rattle.acpi_base.specs.declared.error.Error.TheVariants.{Memory, AddressRange}
+use Rattle.acpi_base.specs.declared.error.Error.TheVariants.{Memory, AddressRange, FieldWidth}
 use Rattle.acpi_base.specs.Bytes.{le}
 use Rattle.acpi_base.specs.Object.{Object, whole, provided, provided_ends_well}
 use Rattle.acpi_ops.specs.Descriptor.{bit}
+use Rattle.acpi_ops.specs.Parts.{source_bytes, source_size}
 use Rattle.acpi_ops.specs.declared.address_space.AddressSpace.{AddressSpace}
 use Rattle.acpi_ops.specs.declared.address_space.AddressSpaceCacheable.{AddressSpaceCacheable}
 use Rattle.acpi_ops.specs.declared.address_space.AddressSpaceCacheable.TheVariants as cacheable
@@ -49,6 +50,10 @@ fixed_range kind flags min max translation = record {
   movable = None;
 }
 
+-- with a resource source, whose name has this many bytes, the length fits its field
+abbrev pub space_from_fits : ℕ → ℕ → Bool
+space_from_fits w source = nat_le (3 + 5 * w + source_size source) 65535
+
 module _ {T : Type 0} (number : T → ℕ) where
   abbrev pub or_zero : Option T → ℕ
   or_zero (Some v) = number v
@@ -75,11 +80,11 @@ module _ {T : Type 0} (number : T → ℕ) where
   abbrev pub is_range : ℕ → AddressSpace T → Bool
   is_range w a = nat_le (number a.min) (number a.max) && nat_lt (size_of a) (2 ^ (8 * w))
 
-  -- a descriptor with this first byte, whose addresses have w bytes
-  abbrev pub space_bytes : ℕ → ℕ → AddressSpace T → List ℕ
-  space_bytes tag w a = record_of
+  -- a descriptor with this Length and first byte, whose addresses have w bytes
+  abbrev pub spaced : ℕ → ℕ → ℕ → AddressSpace T → List ℕ
+  spaced size tag w a = record_of
       (byte tag  -- 0
-      ∷ word (3 + 5 * w)  -- 1: Length
+      ∷ word size  -- 1: Length
       ∷ byte a.kind  -- 3: Resource Type
       ∷ byte (bit a.subtractive 0x02 + fixed_flags a.movable)  -- 4: General Flags, Decode Type and which ends are fixed
       ∷ byte a.flags  -- 5: Type Specific Flags
@@ -90,8 +95,21 @@ module _ {T : Type 0} (number : T → ℕ) where
       ∷ le w (size_of a)  -- 6 + 4 w: Address Length
       ∷ [])
 
+  abbrev pub space_bytes : ℕ → ℕ → AddressSpace T → List ℕ
+  space_bytes tag w a = spaced (3 + 5 * w) tag w a
+
   abbrev pub space : ℕ → ℕ → AddressSpace T → Object
   space tag w a = provided (is_range w a) AddressRange (whole (space_bytes tag w a))
+
+  -- with a resource source, from offset 6 + 5 w on
+  abbrev pub space_from_bytes : ℕ → ℕ → AddressSpace T → ℕ → List ℕ → List ℕ
+  space_from_bytes tag w a index source =
+      spaced (3 + 5 * w + source_size (length source)) tag w a ++ source_bytes index source
+
+  abbrev pub space_from : ℕ → ℕ → AddressSpace T → ℕ → List ℕ → Object
+  space_from tag w a index source =
+      provided (is_range w a) AddressRange
+      (provided (space_from_fits w (length source)) FieldWidth (whole (space_from_bytes tag w a index source)))
 
 -- Word, DWord and QWord Address Space Descriptors (6.4.3.5.3, 6.4.3.5.2 and 6.4.3.5.1)
 abbrev pub word_space : AddressSpace ℕ → Object

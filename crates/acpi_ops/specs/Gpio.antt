@@ -102,7 +102,8 @@ gpio_head_fields s pins source vendor =
 -- The pins, the name of the controller and the vendor's data follow.
 abbrev pub gpio_bytes : Settings → List ℕ → List ℕ → List ℕ → List ℕ
 gpio_bytes s pins source vendor =
-    fields_joined (gpio_head_fields s (length pins) (length source) (length vendor)) ++ parts_bytes (pins_bytes pins) source vendor
+    fields_joined (gpio_head_fields s (length pins) (length source) (length vendor))
+    ++ parts_bytes (pins_bytes pins) source vendor
 
 abbrev pub gpio : Settings → List ℕ → List ℕ → List ℕ → Object
 gpio s pins source vendor =

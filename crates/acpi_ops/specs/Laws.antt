@@ -1,18 +1,29 @@
 -- Laws about the definitions, which hold for all calls.
-use Rattle.std.specs.Prelude.{◌≡◌, ℕ, ◌<◌, Bool, List, [], ◌∷◌, ◌++◌, map, None}
+use Rattle.std.specs.Prelude.{◌≡◌, ℕ, ◌<◌, ◌^◌, nat_lt, Bool, true, false, List, [], ◌∷◌, ◌++◌, length, map, None}
 use Rattle.acpi_base.specs.declared.gas.GAS.{GAS}
 use Rattle.acpi_base.specs.Bytes.{AreBytes}
 use Rattle.acpi_base.specs.Object.{Object, all_of}
 use Rattle.acpi_term.specs.declared.mode.Mode.{Mode}
 use Rattle.acpi_term.specs.declared.mode.Mode.TheVariants.{Term}
 use Rattle.acpi_term.specs.declared.op.Op.{Op}
-use Rattle.acpi_term.specs.declared.op.Op.TheVariants.{LNot}
-use Rattle.acpi_term.specs.Tree.{op, Terms, one}
-use Rattle.acpi_term.specs.Row.{row}
-use Rattle.acpi_term.specs.Spelling.{SpellEach, Spells}
+use Rattle.acpi_term.specs.declared.op.Op.TheVariants.{LNot, Match}
+use Rattle.acpi_term.specs.declared.language.Language.TheVariants.{Standard}
+use Rattle.acpi_term.specs.Language.{grammar_of}
+use Rattle.acpi_term.specs.Name.{IsNameString}
+use Rattle.acpi_term.specs.Tree.{Head, op, def_fatal, match_test, Terms, one}
+use Rattle.acpi_term.specs.Row.{row, writer_width}
+use Rattle.acpi_term.specs.Spelling.{SpellEach, Spells, SpellEachIn, SpellsIn, AreStandardEntries, inner, is_test}
+use Rattle.acpi_aml.specs.declared.field.FieldAccessType.{FieldAccessType}
+use Rattle.acpi_aml.specs.declared.field.FieldEntry.{FieldEntry}
+use Rattle.acpi_aml.specs.declared.field.FieldLockRule.{FieldLockRule}
+use Rattle.acpi_aml.specs.declared.field.FieldUpdateRule.{FieldUpdateRule}
+use Rattle.acpi_aml.specs.Field.{entries_of}
+use Rattle.acpi_ops.specs.Field.{index_field_head, bank_field_head}
+use Rattle.acpi_ops.specs.declared.search.Comparison.{Comparison}
+use Rattle.acpi_ops.specs.Search.{comparison_number}
 use Rattle.acpi_term.specs.Template.{end_tag, template_bytes, buffer_of_bytes, template}
 use Rattle.acpi_ops.specs.declared.address_space.AddressSpace.{AddressSpace}
-use Rattle.acpi_ops.specs.AddressSpace.{space, word_space, dword_space, qword_space}
+use Rattle.acpi_ops.specs.AddressSpace.{space, word_space, dword_space, qword_space, space_from}
 use Rattle.acpi_ops.specs.declared.descriptor.InterruptFlags.{InterruptFlags}
 use Rattle.acpi_ops.specs.declared.gpio.PinConfig.{PinConfig}
 use Rattle.acpi_ops.specs.declared.gpio.Settings.{Settings}
@@ -20,9 +31,13 @@ use Rattle.acpi_ops.specs.declared.pins.PinSetting.{PinSetting}
 use Rattle.acpi_ops.specs.declared.pins.PinUse.{PinUse}
 use Rattle.acpi_ops.specs.declared.serial.Bus.{Bus}
 use Rattle.acpi_ops.specs.declared.small.DmaWidth.{DmaWidth}
+use Rattle.acpi_ops.specs.declared.clock.ClockSettings.{ClockSettings}
+use Rattle.acpi_ops.specs.declared.csi2.Csi2Settings.{Csi2Settings}
+use Rattle.acpi_ops.specs.Clock.{clock_bytes, clock_from}
+use Rattle.acpi_ops.specs.Csi2.{csi2}
 use Rattle.acpi_ops.specs.Descriptor.{fixed_bytes, port_bytes, port_10_bytes, interrupt_bytes, register_bytes}
 use Rattle.acpi_ops.specs.Gpio.{gpio}
-use Rattle.acpi_ops.specs.Interrupts.{interrupts}
+use Rattle.acpi_ops.specs.Interrupts.{interrupts, interrupts_from}
 use Rattle.acpi_ops.specs.Memory.{memory_24_bytes, memory_32_bytes}
 use Rattle.acpi_ops.specs.Pins.{function, configuration, group, group_function, group_configuration}
 use Rattle.acpi_ops.specs.Serial.{serial}
@@ -43,6 +58,43 @@ pub record NegationMeans (o : Op) (objects : List Object) : Type 0 where
   pub spells : (arity : List ℕ → ℕ) (m : Mode) (ts : Terms) → SpellEach arity Term objects ts
       → (row (op LNot) (row (op o) objects ∷ [])).end ≡ None
       → Spells arity m (row (op LNot) (row (op o) objects ∷ [])).front (one (op LNot) 0 (one (op o) 0 ts))
+
+-- ---- what the language Standard alone has
+
+-- a term that stands in the place of a test of a Match, or in the others
+abbrev pub stands_in : Bool → Mode → Type 0
+stands_in test m = is_test Standard m ≡ test
+
+-- If each child spells a term of its place, the head spells its own term over these, in every place of that kind and in the width
+-- that is written.
+pub record HeadMeans (test : Bool) (h : Head) (objects : List Object) : Type 0 where
+  pub spells : (arity : List ℕ → ℕ) (m : Mode) (ts : Terms) → stands_in test m
+      → SpellEachIn (grammar_of Standard arity) (inner h) objects ts → (row h objects).end ≡ None
+      → SpellsIn (grammar_of Standard arity) m (row h objects).front
+      (one h (writer_width h (length objects) (all_of objects).front) ts)
+
+-- A search, whose tests spell tests, and each test, whose operand spells a term.
+pub record SearchesMean : Type 0 where
+  pub search : (searched first second start : Object) → HeadMeans false (op Match) (searched ∷ first ∷ second ∷ start ∷ [])
+  pub test : (c : Comparison) (operand : Object) → HeadMeans true (match_test (comparison_number c)) (operand ∷ [])
+
+-- fatal errors of every type and code
+abbrev pub FatalMeans : Type 0
+FatalMeans =
+    (kind code : ℕ) (argument : Object) → kind < 2 ^ 8 → code < 2 ^ 32 → HeadMeans false (def_fatal kind code) (argument ∷ [])
+
+-- Fields that are reached by another field, with every access type, lock rule and update rule.
+pub record FieldsOfFieldsMean (access : FieldAccessType) (lock : FieldLockRule) (update : FieldUpdateRule)
+    (entries : List FieldEntry) : Type 0 where
+  pub index : (index name : List ℕ) → IsNameString index → IsNameString name
+      → HeadMeans false (index_field_head index name access lock update entries) []
+  pub bank : (region bank : List ℕ) (value : Object) → IsNameString region → IsNameString bank
+      → HeadMeans false (bank_field_head region bank access lock update entries) (value ∷ [])
+
+abbrev pub FieldsMean : Type 0
+FieldsMean =
+    (access : FieldAccessType) (lock : FieldLockRule) (update : FieldUpdateRule) (entries : List FieldEntry)
+    → AreStandardEntries Standard (entries_of entries) → FieldsOfFieldsMean access lock update entries
 
 -- ---- resource items
 
@@ -89,6 +141,15 @@ pub record DescriptorsAreItems : Type 0 where
       → IsItem (group_configuration u setting value source label vendor).front
   pub bus : (b : Bus) (own vendor source : List ℕ) → (serial b own vendor source).end ≡ None
       → IsItem (serial b own vendor source).front
+  pub camera : (s : Csi2Settings) (vendor source : List ℕ) → (csi2 s vendor source).end ≡ None
+      → IsItem (csi2 s vendor source).front
+  pub clock : (c : ClockSettings) → IsItem (clock_bytes c)
+  pub clock_from : (c : ClockSettings) (index : ℕ) (source : List ℕ) → (clock_from c index source).end ≡ None
+      → IsItem (clock_from c index source).front
+  pub several_from : (f : InterruptFlags) (numbers : List ℕ) (index : ℕ) (source : List ℕ)
+      → (interrupts_from f numbers index source).end ≡ None → IsItem (interrupts_from f numbers index source).front
+  pub space_from : (tag w : ℕ) (a : AddressSpace ℕ) (index : ℕ) (source : List ℕ) → nat_lt tag 128 ≡ false
+      → (space_from (λ n. n) tag w a index source).end ≡ None → IsItem (space_from (λ n. n) tag w a index source).front
 
 -- A template is the buffer of bytes that split into its descriptors and the end tag.
 pub record TemplateSplits (descriptors : List Object) : Type 0 where
@@ -137,3 +198,12 @@ pub record DescriptorsAreBytes : Type 0 where
       → AreBytes (group_configuration u setting value source label vendor).front
   pub bus : (b : Bus) (own vendor source : List ℕ) → AreBytes own → AreBytes vendor → AreBytes source
       → AreBytes (serial b own vendor source).front
+  pub camera : (s : Csi2Settings) (vendor source : List ℕ) → AreBytes vendor → AreBytes source
+      → AreBytes (csi2 s vendor source).front
+  pub clock : (c : ClockSettings) → AreBytes (clock_bytes c)
+  pub clock_from : (c : ClockSettings) (index : ℕ) (source : List ℕ) → index < 256 → AreBytes source
+      → AreBytes (clock_from c index source).front
+  pub several_from : (f : InterruptFlags) (numbers : List ℕ) (index : ℕ) (source : List ℕ) → index < 256 → AreBytes source
+      → AreBytes (interrupts_from f numbers index source).front
+  pub space_from : (tag w : ℕ) (a : AddressSpace ℕ) (index : ℕ) (source : List ℕ) → tag < 256 → a.kind < 256 → a.flags < 256
+      → index < 256 → AreBytes source → AreBytes (space_from (λ n. n) tag w a index source).front

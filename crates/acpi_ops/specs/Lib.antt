@@ -1,5 +1,8 @@
 pub mod AddressSpace
+pub mod Clock
+pub mod Csi2
 pub mod Descriptor
+pub mod Field
 pub mod Gpio
 pub mod Interrupts
 pub mod Item
@@ -7,6 +10,7 @@ pub mod Laws
 pub mod Memory
 pub mod Parts
 pub mod Pins
+pub mod Search
 pub mod Serial
 pub mod Small
 pub mod Vendor

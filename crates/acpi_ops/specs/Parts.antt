@@ -1,5 +1,5 @@
 -- The parts after the head of a descriptor: a table, a name with a zero, and the data of a vendor (ACPI 6.5, 6.4.3.8.1).
-use Rattle.std.specs.Prelude.{ℕ, ◌+◌, ◌-◌, nat_le, ◌&&◌, Bool, List, ◌∷◌, ◌++◌}
+use Rattle.std.specs.Prelude.{ℕ, ◌+◌, ◌-◌, nat_le, ◌&&◌, Bool, List, [], ◌∷◌, ◌++◌}
 use Rattle.std.specs.List.{flat_map}
 use Rattle.acpi_base.specs.Bytes.{le}
 
@@ -26,3 +26,13 @@ parts_bytes table name vendor = table ++ (name ++ (0 ∷ vendor))
 -- Pin Table: pins of two bytes each
 abbrev pub pins_bytes : List ℕ → List ℕ
 pins_bytes pins = flat_map (λ pin. le 2 pin) pins
+
+-- ---- resource sources (6.4.3.5)
+
+-- the index of the resource there, and the name of the device with a zero
+abbrev pub source_bytes : ℕ → List ℕ → List ℕ
+source_bytes index name = index ∷ (name ++ 0 ∷ [])
+
+-- the size of these
+abbrev pub source_size : ℕ → ℕ
+source_size name = 2 + name

@@ -56,7 +56,8 @@ use_bits = sharing ∷ choice 0x2 (means 0x0 "Producer" ∷ means 0x2 "Consumer"
 abbrev pub group_bits : List Part
 group_bits = choice 0x1 (means 0x0 "Producer" ∷ means 0x1 "Consumer" ∷ []) ∷ []
 
--- ---- Pin Function Descriptor (6.4.3.9) before its pins: the number of pins, and the sizes of the controller's name and the vendor's data
+-- ---- Pin Function Descriptor (6.4.3.9) before its pins: the number of pins, and the sizes of the controller's name and the
+-- vendor's data
 
 abbrev pub function_fields : Bool → PinConfig → ℕ → ℕ → ℕ → ℕ → List NamedField
 function_fields shared config number pins source vendor =
@@ -126,7 +127,8 @@ group_fields consumer pins label vendor =
 
 abbrev pub group_bytes : Bool → List ℕ → List ℕ → List ℕ → List ℕ
 group_bytes consumer pins label vendor =
-    fields_joined (group_fields consumer (length pins) (length label) (length vendor)) ++ parts_bytes (pins_bytes pins) label vendor
+    fields_joined (group_fields consumer (length pins) (length label) (length vendor))
+    ++ parts_bytes (pins_bytes pins) label vendor
 
 abbrev pub group : Bool → List ℕ → List ℕ → List ℕ → Object
 group consumer pins label vendor =

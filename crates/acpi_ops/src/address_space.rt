@@ -3,16 +3,20 @@
 ghost use Rattle.std.specs.Prelude.{◌≡◌, ℕ, ◌+◌, ◌*◌, ◌^◌, ◌<◌, length, true, refl, OnOk, IfOk, IfErr, None, Some};
 ghost use Rattle.acpi_base.specs.Bytes.{le};
 ghost use Rattle.acpi_base.specs.Record.{field_bytes, fields_bytes};
+ghost use Rattle.acpi_base.specs.Object.{Builds};
 ghost use Rattle.acpi_base.specs.Sink.{Took, Refused};
 ghost use Rattle.acpi_ops.specs.Descriptor.{bit};
 ghost use Rattle.acpi_ops.specs.AddressSpace.{cacheable_number, end_flags, fixed_range, or_zero, fixed_flags, granularity_in};
-ghost use Rattle.acpi_ops.specs.AddressSpace.{size_of, is_range, space_bytes, space, space_ends_well};
+ghost use Rattle.acpi_ops.specs.AddressSpace.{size_of, is_range, spaced, space_bytes, space};
+ghost use Rattle.acpi_ops.specs.AddressSpace.{space_ends_well, space_from};
 
 use crate::descriptor::bit;
+use crate::variable::VariableDescriptor;
 use acpi_base::error::{Error, R};
 use acpi_base::object::Aml;
 use acpi_base::record::{Field, record};
 use acpi_base::sink::AmlSink;
+use std::alloc::Global;
 
 /// A type of addresses, with the tag of its descriptor (ACPI 6.5, 6.4.3.5).
 pub trait Address: Copy {
@@ -43,6 +47,12 @@ pub trait Address: Copy {
     fn field(value: u64) -> Field<'static>
         requires { value < LAST + 1 }
         ensures { field_bytes result ≡ le WIDTH value };
+
+    /// The bytes of the fields of a descriptor. Five of them are addresses.
+    fn bytes(alloc: Global, fields: &[Field]) -> R<Vec<u8>>
+        requires { length (fields_bytes fields.now) ≡ 6 + 5 * WIDTH }
+        ensures ok { IfOk result (λ bytes. bytes.items ≡ fields_bytes fields.now) }
+        ensures err { IfErr result (λ e. e ≡ Error.Memory) };
 
     /// Writes the fields of a descriptor. Five of them are addresses.
     fn write(fields: &[Field], sink: &mut dyn AmlSink) -> R<()>
@@ -85,6 +95,10 @@ impl Address for u16 {
         Field::Word(value as u16)
     }
 
+    fn bytes(alloc: Global, fields: &[Field]) -> R<Vec<u8>> {
+        Ok(Vec::from_slice(alloc, &record::<16>(fields))?)
+    }
+
     fn write(fields: &[Field], sink: &mut dyn AmlSink) -> R<()> {
         sink.vec(&record::<16>(fields))
     }
@@ -120,6 +134,10 @@ impl Address for u32 {
         Field::DWord(value as u32)
     }
 
+    fn bytes(alloc: Global, fields: &[Field]) -> R<Vec<u8>> {
+        Ok(Vec::from_slice(alloc, &record::<26>(fields))?)
+    }
+
     fn write(fields: &[Field], sink: &mut dyn AmlSink) -> R<()> {
         sink.vec(&record::<26>(fields))
     }
@@ -153,6 +171,10 @@ impl Address for u64 {
 
     fn field(value: u64) -> Field<'static> {
         Field::QWord(value)
+    }
+
+    fn bytes(alloc: Global, fields: &[Field]) -> R<Vec<u8>> {
+        Ok(Vec::from_slice(alloc, &record::<46>(fields))?)
     }
 
     fn write(fields: &[Field], sink: &mut dyn AmlSink) -> R<()> {
@@ -344,10 +366,19 @@ impl<T: Address> AddressSpace<T> {
         requires is { size ≡ size_of T.number self.now }
         ensures { fields_bytes result ≡ space_bytes T.number T.TAG T.WIDTH self.now }
     {
+        self.fields_of(T::LENGTH, size)
+    }
+
+    // The same with this Length.
+    fn fields_of(&self, length_of: u16, size: u64) -> [Field<'static>; 10]
+        requires within { size < T.LAST + 1 }
+        requires is { size ≡ size_of T.number self.now }
+        ensures { fields_bytes result ≡ spaced T.number length_of T.TAG T.WIDTH self.now }
+    {
         let (fixed, granularity) = self.ends();
         [
             Field::Byte(T::TAG),
-            Field::Word(T::LENGTH),
+            Field::Word(length_of),
             Field::Byte(self.kind),
             Field::Byte(bit(self.subtractive, 0x02) + fixed),
             Field::Byte(self.flags),
@@ -368,5 +399,32 @@ impl<T: Address> Aml for AddressSpace<T> {
     fn to_aml_bytes(&self, sink: &mut dyn AmlSink) -> R<()> {
         let size = self.size()?;
         T::write(&self.fields(size), sink)
+    }
+}
+
+/// A range of addresses that another device provides (ACPI 6.5, 6.4.3.5, Address Space Resource Descriptors).
+pub type AddressSpaceFrom = VariableDescriptor<AddressSpaceFromKind>;
+
+/// The kind of `AddressSpaceFrom`.
+pub struct AddressSpaceFromKind;
+
+impl VariableDescriptor<AddressSpaceFromKind> {
+    /// The offsets are those of the range's descriptor. The index of the range at its provider follows the addresses, and then
+    /// the provider's name `source` and a zero. The error is that of the range, or `FieldWidth` if the length exceeds 65,535.
+    pub fn new<T: Address>(
+        alloc: Global,
+        range: AddressSpace<T>,
+        index: u8,
+        source: &str,
+    ) -> R<VariableDescriptor<AddressSpaceFromKind>>
+        ensures { Builds result (space_from T.number T.TAG T.WIDTH range index source.now) }
+    {
+        let size = range.size()?;
+        let more = 2 + source.len();
+        if source.len() > 0xffff || usize::from(T::LENGTH) + more > 0xffff {
+            return Err(Error::FieldWidth);
+        }
+        let head = T::bytes(alloc, &range.fields_of(T::LENGTH + more as u16, size))?;
+        VariableDescriptor::of(alloc, &[&head, &[index], source.as_bytes(), &[0]])
     }
 }

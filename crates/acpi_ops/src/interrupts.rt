@@ -1,10 +1,11 @@
 //! Several interrupts in one resource descriptor.
 
-ghost use Rattle.std.specs.Prelude.{◌≡◌, ◌++◌, ◌<◌, ℕ, IfOk, IfErr};
+ghost use Rattle.std.specs.Prelude.{◌≡◌, ◌++◌, ◌<◌, ℕ, true, IfOk, IfErr};
 ghost use Rattle.acpi_base.specs.Fields.{AreRowsOf, fields_joined};
 ghost use Rattle.acpi_base.specs.Object.{Builds};
 ghost use Rattle.acpi_ops.specs.Descriptor.{vector_flags};
 ghost use Rattle.acpi_ops.specs.Interrupts.{interrupts_head_fields, numbers_bytes, interrupts};
+ghost use Rattle.acpi_ops.specs.Interrupts.{from_fits, from_head_fields, interrupts_from};
 
 use crate::descriptor::{InterruptFlags, VECTOR_BITS};
 use crate::variable::VariableDescriptor;
@@ -35,6 +36,59 @@ impl VariableDescriptor<InterruptsKind> {
         let list = numbers_bytes(alloc, numbers)?;
         VariableDescriptor::of(alloc, &[&head(flags, numbers.len() as u64), &list])
     }
+}
+
+/// From 1 to 255 interrupts that another device provides (ACPI 6.5, 6.4.3.6, Extended Interrupt Descriptor).
+pub type InterruptsFrom = VariableDescriptor<InterruptsFromKind>;
+
+/// The kind of `InterruptsFrom`.
+pub struct InterruptsFromKind;
+
+impl VariableDescriptor<InterruptsFromKind> {
+    /// The offsets are those of `Interrupts`. The index of the interrupts at their provider follows the numbers, and then the
+    /// provider's name `source` and a zero. The error is `FieldWidth` if there are no interrupts, or more than 255, or if the
+    /// length exceeds 65,535.
+    #[tactic(auto, using(crate::proofs::Built::built))]
+    pub fn new(
+        alloc: Global,
+        flags: InterruptFlags,
+        numbers: &[u32],
+        index: u8,
+        source: &str,
+    ) -> R<VariableDescriptor<InterruptsFromKind>>
+        ensures { Builds result (interrupts_from flags numbers.now index source.now) }
+    {
+        let (count, size) = (numbers.len(), source.len());
+        if !from_fits(count, size) {
+            return Err(Error::FieldWidth);
+        }
+        let list = numbers_bytes(alloc, numbers)?;
+        let head = from_head(flags, count as u64, size as u64);
+        VariableDescriptor::of(alloc, &[&head, &list, &[index], source.as_bytes(), &[0]])
+    }
+}
+
+// Whether the number of interrupts and the length fit their fields.
+fn from_fits(count: usize, source: usize) -> bool
+    ensures { result ≡ from_fits count source }
+{
+    count >= 1 && count <= 255 && source <= 65_531 - 4 * count
+}
+
+// The descriptor before the numbers of its interrupts, if a source follows them.
+fn from_head(flags: InterruptFlags, count: u64, source: u64) -> [u8; 5]
+    requires { from_fits count source ≡ true }
+    ensures { result ≡ fields_joined (from_head_fields (vector_flags flags) count source) }
+{
+    record_of_numbers(
+        &INTERRUPTS_HEAD,
+        &[
+            0x89,
+            2 + 4 * count + (2 + source),
+            u64::from(flags.byte()),
+            count,
+        ],
+    )
 }
 
 // The descriptor before the numbers of its interrupts.

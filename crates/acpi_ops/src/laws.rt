@@ -3,6 +3,7 @@
 ghost use Rattle.std.specs.Prelude.{List, [], ◌∷◌};
 ghost use Rattle.acpi_base.specs.Object.{Object};
 ghost use Rattle.acpi_ops.specs.Laws.{OperatorMeans, NegationMeans, SplitsInOneWay};
+ghost use Rattle.acpi_ops.specs.Laws.{SearchesMean, FatalMeans, FieldsMean};
 ghost use Rattle.acpi_ops.specs.Laws.{DescriptorsAreItems, TemplatesSplit, DescriptorsAreBytes};
 ghost use Rattle.acpi_term.specs.declared.op.Op.TheVariants as ops;
 
@@ -58,6 +59,26 @@ pub fn break_means()
 #[tactic(auto, using(crate::proofs::Meanings::negation_means))]
 pub fn negation_means<O: Operator<2>>()
     ensures { (left right : Object) → NegationMeans O.OPERATOR (left ∷ right ∷ []) }
+{}
+
+// ---- what the language `Standard` alone has: if each child spells a term of its place, the object spells its own term over them
+
+/// `Match` and `MatchTest`.
+#[tactic(auto, using(crate::proofs::Standard::searches_mean))]
+pub fn searches_mean()
+    ensures { SearchesMean }
+{}
+
+/// `Fatal`.
+#[tactic(auto, using(crate::proofs::Standard::fatal_means))]
+pub fn fatal_means()
+    ensures { FatalMeans }
+{}
+
+/// `IndexField` and `BankField`.
+#[tactic(auto, using(crate::proofs::Standard::fields_mean))]
+pub fn fields_mean()
+    ensures { FieldsMean }
 {}
 
 // ---- resource descriptors

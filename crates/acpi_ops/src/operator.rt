@@ -27,7 +27,7 @@ pub trait Operator<const N: usize> {
     ghost takes: { IsKnown OPERATOR N };
 }
 
-/// An operator's opcode, and its operands in the order of its shape.
+/// An opcode, and operands in the order of a shape.
 #[derive(Drop)]
 pub struct Operation<Shape, O> {
     bytes: Vec<u8>,
@@ -53,15 +53,22 @@ impl<Shape, O> Aml for Operation<Shape, O> {
 }
 
 impl<Shape, O> Operation<Shape, O> {
+    // An operation of these bytes.
+    pub(crate) fn of(bytes: Vec<u8>) -> Operation<Shape, O>
+        ensures { result ≡ bytes.items }
+    {
+        Operation {
+            bytes,
+            shape: PhantomData,
+            operator: PhantomData,
+        }
+    }
+
     fn over(alloc: Global, operator: Op, operands: &[&dyn Aml]) -> R<Operation<Shape, O>>
         ensures { Builds result (row (op operator) (map (λ a. object a.now) operands.now)) }
     {
         let bytes = bare(alloc, operator.code(), operands)?;
-        Ok(Operation {
-            bytes,
-            shape: PhantomData,
-            operator: PhantomData,
-        })
+        Ok(Operation::of(bytes))
     }
 }
 
@@ -167,10 +174,6 @@ impl<O: Operator<2>> Operation<Negated, O> {
         let mut bytes = with_room(alloc, Op::LNot.code())?;
         bytes.extend_from_slice(O::OPERATOR.code())?;
         append_all(&[left, right], &mut bytes)?;
-        Ok(Operation {
-            bytes,
-            shape: PhantomData,
-            operator: PhantomData,
-        })
+        Ok(Operation::of(bytes))
     }
 }

@@ -1,9 +1,9 @@
 //! Statements and fields of buffers.
 
-ghost use Rattle.std.specs.Prelude.{[], refl};
-ghost use Rattle.acpi_base.specs.Object.{whole_ends_well};
+ghost use Rattle.std.specs.Prelude.{[], ◌∷◌, refl};
+ghost use Rattle.acpi_base.specs.Object.{whole_ends_well, Builds};
 ghost use Rattle.acpi_term.specs.declared.op.Op.TheVariants as ops;
-ghost use Rattle.acpi_term.specs.Tree.{op};
+ghost use Rattle.acpi_term.specs.Tree.{op, def_fatal};
 ghost use Rattle.acpi_term.specs.Operator.{opcode};
 ghost use Rattle.acpi_term.specs.Row.{row};
 
@@ -12,6 +12,8 @@ use acpi_base::error::R;
 use acpi_base::object::Aml;
 use acpi_base::sink::AmlSink;
 use acpi_term::op::Op;
+use acpi_term::row::bare;
+use std::alloc::Global;
 
 /// Stores a value in the object that the first argument names (ACPI 6.5, 20.2.5.4).
 pub type Store = Operation<Put, StoreOp>;
@@ -115,5 +117,30 @@ impl Aml for Break {
 
     fn to_aml_bytes(&self, sink: &mut dyn AmlSink) -> R<()> {
         sink.vec(Op::Break.code())
+    }
+}
+
+/// Tells the operating system of a fatal error (ACPI 6.5, 20.2.5.3, DefFatal).
+pub type Fatal = Operation<Stop, FatalOp>;
+
+/// The type of an error, its code, and an argument.
+pub struct Stop;
+
+/// The operator of `Fatal`.
+pub struct FatalOp;
+
+impl Operation<Stop, FatalOp> {
+    /// The type and the code are those of the vendor. The argument is borrowed for the call. The error is the argument's.
+    pub fn new(
+        alloc: Global,
+        kind: u8,
+        code: u32,
+        argument: &dyn Aml,
+    ) -> R<Operation<Stop, FatalOp>>
+        ensures { Builds result (row (def_fatal kind code) (object argument.now ∷ [])) }
+    {
+        let [a, b, c, d] = code.to_le_bytes();
+        let bytes = bare(alloc, &[0x5b, 0x32, kind, a, b, c, d], &[argument])?;
+        Ok(Operation::of(bytes))
     }
 }

@@ -4,6 +4,7 @@ pub mod Templates
 pub mod Runs
 pub mod Walks
 pub mod Dots
+pub mod Scopes
 pub mod Single
 pub mod Placed
 pub mod Kept

@@ -1,12 +1,13 @@
 -- Walks over terms and their children.
-use Rattle.std.proofs.Common.{◌≡◌, ℕ, ◌+◌, ◌<◌, ◌≤◌, Bool, List, [], ◌∷◌, ◌++◌, length, get_or, drop, refl, sym, ap, ◌∙◌, append_assoc, arith}
+use Rattle.std.proofs.Common.{◌≡◌, ℕ, suc, ◌+◌, ◌-◌, ◌<◌, ◌≤◌, ◌==◌, if◌then◌else◌, Bool, List, [], ◌∷◌, ◌++◌, length, map, get_or, drop, refl, sym, ap, ◌∙◌, append_assoc, arith}
 use Rattle.std.proofs.lemmas.List.{append-nil}
-use Rattle.acpi_read.proofs.Texts.{dropped, past}
 use Rattle.acpi_term.specs.declared.term.Term.{Term}
 use Rattle.acpi_term.specs.Arity.{with_new, with_all}
 use Rattle.acpi_term.specs.Tree.{Head}
 use Rattle.acpi_term.specs.View.{view, views, single, IsApart}
-use Rattle.acpi_terms_text.specs.Methods.{inside, own_stated, methods}
+use Rattle.acpi_read.proofs.Texts.{dropped}
+use Rattle.acpi_terms_text.specs.declared.methods.Method.{Method}
+use Rattle.acpi_terms_text.specs.Methods.{inside, Callee, callee_by, own_method, numbers, numbers_of, numbers_from, methods}
 use Rattle.acpi_terms_text.specs.Comment.{has_ids, has_size, note}
 use Rattle.acpi_terms_text.specs.Woven.{entry_notes, notes}
 
@@ -19,51 +20,66 @@ pub both_added : (all a b : Counts) → with_all all (a ++ b) ≡ with_all (with
 both_added all [] b = refl
 both_added all (x ∷ a) b = both_added (with_new all x) a b
 
-methods_step : (scope : List ℕ) (t : Term) (ts : List Term) → methods scope (views (t ∷ ts)) ≡ methods scope (single (view t)) ++ methods scope (views ts)
+-- of one number of arguments
+pub numbers_on : (n : ℕ) (ms : List Method) (i : ℕ) (m : Method) (now new whole : Counts) → i < length ms → m ≡ get_or ms i m
+    → new ≡ with_all now (if (callee_by m).args == n then numbers (callee_by m) else [])
+    → with_all now (numbers_of n (map callee_by (drop i ms))) ≡ whole → with_all new (numbers_of n (map callee_by (drop (i + 1) ms))) ≡ whole
+numbers_on n ms i m now new whole inside is added before =
+    let rest = numbers_of n (map callee_by (drop (i + 1) ms)) in
+    ap (λ (l : Counts). with_all l rest) added ∙ sym (both_added now (if (callee_by m).args == n then numbers (callee_by m) else []) rest)
+    ∙ ap (λ (l : List Method). with_all now (numbers_of n (map callee_by l))) (sym (dropped ms i m inside is)) ∙ before
+
+-- of the numbers from k to 7
+numbers_more : (n k : ℕ) (all : List Callee) → k < n → numbers_from (n - k) k all ≡ numbers_of k all ++ numbers_from (n - (k + 1)) (k + 1) all
+numbers_more n k all more =
+    let left : n - k ≡ suc (n - (k + 1)) = omega (arith, more) in
+    let after : suc k ≡ k + 1 = omega arith in
+    ap (λ (l : ℕ). numbers_from l k all) left ∙ ap (λ (l : ℕ). numbers_of k all ++ numbers_from (n - (k + 1)) l all) after
+
+pub called_on : (n k : ℕ) (all : List Callee) (now new whole : Counts) → k < n → new ≡ with_all now (numbers_of k all)
+    → with_all now (numbers_from (n - k) k all) ≡ whole → with_all new (numbers_from (n - (k + 1)) (k + 1) all) ≡ whole
+called_on n k all now new whole more added before =
+    let rest = numbers_from (n - (k + 1)) (k + 1) all in
+    ap (λ (l : Counts). with_all l rest) added ∙ sym (both_added now (numbers_of k all) rest) ∙ ap (with_all now) (sym (numbers_more n k all more)) ∙ before
+
+pub called_done : (n k : ℕ) (all : List Callee) (now whole : Counts) → n ≤ k → with_all now (numbers_from (n - k) k all) ≡ whole → now ≡ whole
+called_done n k all now whole least before =
+    let none : 0 ≡ n - k = omega (arith, least) in
+    ap (λ (l : ℕ). with_all now (numbers_from l k all)) none ∙ before
+
+-- ---- methods
+
+abbrev Callees : Type 0
+Callees = List Callee
+
+pub methods_step : (scope : List ℕ) (t : Term) (ts : List Term) → methods scope (views (t ∷ ts)) ≡ methods scope (single (view t)) ++ methods scope (views ts)
 methods_step scope t ts =
-    let own = own_stated scope (view t).0 in
+    let own = own_method scope (view t).0 in
     let inner = methods (inside scope (view t).0) (view t).2 in
-    ap (λ (l : Counts). own ++ (l ++ methods scope (views ts))) (sym (append-nil inner)) ∙ sym (append_assoc own (inner ++ []) (methods scope (views ts)))
+    ap (λ (l : Callees). own ++ (l ++ methods scope (views ts))) (sym (append-nil inner)) ∙ sym (append_assoc own (inner ++ []) (methods scope (views ts)))
 
 methods_both : (scope : List ℕ) (a b : List Term) → methods scope (views (a ++ b)) ≡ methods scope (views a) ++ methods scope (views b)
 methods_both scope [] b = refl
 methods_both scope (t ∷ a) b =
     let one = methods scope (single (view t)) in
-    methods_step scope t (a ++ b) ∙ ap (λ (l : Counts). one ++ l) (methods_both scope a b) ∙ sym (append_assoc one (methods scope (views a)) (methods scope (views b)))
-    ∙ ap (λ (l : Counts). l ++ methods scope (views b)) (sym (methods_step scope t a))
-
--- as far as i
-pub record Counted (scope : List ℕ) (ts : List Term) (i : ℕ) (old now : Counts) : Type 0 where
-  pub is : with_all now (methods scope (views (drop i ts))) ≡ with_all old (methods scope (views ts))
-
-pub counted_start : (scope : List ℕ) (ts : List Term) (old : Counts) → Counted scope ts 0 old old
-counted_start scope ts old = record { is = refl }
-
-module _ (scope : List ℕ) (ts : List Term) (i : ℕ) (old now : Counts) (g : Counted scope ts i old now) where
-  pub counted_on : (t : Term) (new : Counts) → i < length ts → t ≡ get_or ts i t → new ≡ with_all now (methods scope (single (view t))) → Counted scope ts (i + 1) old new
-  counted_on t new inside is added =
-      let rest = methods scope (views (drop (i + 1) ts)) in
-      record {
-        is = ap (λ (l : Counts). with_all l rest) added ∙ sym (both_added now (methods scope (single (view t))) rest)
-            ∙ ap (with_all now) (sym (methods_step scope t (drop (i + 1) ts)) ∙ ap (λ (l : List Term). methods scope (views l)) (sym (dropped ts i t inside is)))
-            ∙ g.is;
-      }
-
-  pub counted_done : length ts ≤ i → now ≡ with_all old (methods scope (views ts))
-  counted_done all = ap (λ (l : List Term). with_all now (methods scope (views l))) (sym (past ts i all)) ∙ g.is
+    methods_step scope t (a ++ b) ∙ ap (λ (l : Callees). one ++ l) (methods_both scope a b) ∙ sym (append_assoc one (methods scope (views a)) (methods scope (views b)))
+    ∙ ap (λ (l : Callees). l ++ methods scope (views b)) (sym (methods_step scope t a))
 
 -- a term, and then its children in two lists
-pub counted_over : (scope inner : List ℕ) (t : Term) (h : Head) (w : ℕ) (a b : List Term) → IsApart t h w a b → inner ≡ inside scope h
-    → (old one two new : Counts) → one ≡ with_all old (own_stated scope h) → two ≡ with_all one (methods inner (views a))
-    → new ≡ with_all two (methods inner (views b)) → new ≡ with_all old (methods scope (single (view t)))
-counted_over scope inner t h w a b apart into old one two new p q r =
-    let children : methods inner (views a) ++ methods inner (views b) ≡ methods (inside scope (view t).0) (view t).2 =
+pub methods_over : (scope inner : List ℕ) (t : Term) (h : Head) (w : ℕ) (a b : List Term) → IsApart t h w a b → inner ≡ inside scope h
+    → (old one two new : Callees) → one ≡ old ++ own_method scope h → two ≡ one ++ methods inner (views a)
+    → new ≡ two ++ methods inner (views b) → new ≡ old ++ methods scope (single (view t))
+methods_over scope inner t h w a b apart into old one two new p q r =
+    let own = own_method scope (view t).0 in
+    let after = methods (inside scope (view t).0) (view t).2 in
+    let children : methods inner (views a) ++ methods inner (views b) ≡ after =
     sym (methods_both inner a b) ∙ ap (methods inner) apart.children ∙ ap (λ (s : List ℕ). methods s (view t).2) (into ∙ ap (inside scope) apart.head)
     in
-    r ∙ ap (λ (l : Counts). with_all l (methods inner (views b))) q ∙ sym (both_added one (methods inner (views a)) (methods inner (views b)))
-    ∙ ap (with_all one) children ∙ ap (λ (l : Counts). with_all l (methods (inside scope (view t).0) (view t).2)) (p ∙ ap (λ (k : Head). with_all old (own_stated scope k)) apart.head)
-    ∙ sym (both_added old (own_stated scope (view t).0) (methods (inside scope (view t).0) (view t).2))
-    ∙ ap (λ (l : Counts). with_all old (own_stated scope (view t).0 ++ l)) (sym (append-nil _))
+    r ∙ ap (λ (l : Callees). l ++ methods inner (views b)) q ∙ append_assoc one (methods inner (views a)) (methods inner (views b))
+    ∙ ap (λ (l : Callees). one ++ l) children
+    ∙ ap (λ (l : Callees). l ++ after) (p ∙ ap (λ (k : Head). old ++ own_method scope k) apart.head)
+    ∙ append_assoc old own after
+    ∙ ap (λ (l : Callees). old ++ (own ++ l)) (sym (append-nil after))
 
 -- ---- comments
 

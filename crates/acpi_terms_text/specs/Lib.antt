@@ -1,4 +1,5 @@
 pub mod Methods
+pub mod Scoped
 pub mod Eisa
 pub mod Uuid
 pub mod Descriptor

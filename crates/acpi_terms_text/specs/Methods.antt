@@ -1,9 +1,10 @@
--- How many arguments methods take by a definition block, by the names of calls.
-use Rattle.std.specs.Prelude.{◌≡◌, ℕ, ◌==◌, nat_le, ◌&&◌, Bool, if◌then◌else◌, List, [], ◌∷◌, ◌++◌}
+-- The methods of a definition block, and how many arguments they take by the names of calls.
+use Rattle.std.specs.Prelude.{◌≡◌, ℕ, zero, suc, ◌==◌, nat_le, ◌&&◌, Bool, if◌then◌else◌, List, [], ◌∷◌, ◌++◌, codes, string_bytes}
 use Rattle.acpi_term.specs.Arity.{arity, with_all}
 use Rattle.acpi_term.specs.declared.language.Language.TheVariants.{Standard}
 use Rattle.acpi_term.specs.Language.{grammar_of}
 use Rattle.acpi_term.specs.PathText.{is_rooted, unrooted, path_spelling, is_name_text}
+use Rattle.acpi_terms_text.specs.declared.methods.Method.{Method}
 use Rattle.acpi_term.specs.Tree.{Head, def_scope, def_device, def_method, def_power_res, def_leveled_method}
 use Rattle.acpi_term.specs.Tree.{def_processor, def_thermal_zone, def_external, Terms, end, term}
 use Rattle.acpi_read.specs.Lines.{name_text}
@@ -53,23 +54,55 @@ all_stated n (text ∷ texts) = stated n text ++ all_stated n texts
 abbrev pub is_method : ℕ → ℕ → Bool
 is_method kind args = kind == 8 && nat_le args 7
 
--- The names of a head that is a method, each with the method's number of arguments (ACPI 6.5, 20.2.5.2, MethodFlags), or of a
--- method of another block.
-abbrev pub own_stated : List ℕ → Head → List (List ℕ × ℕ)
-own_stated scope (def_method name args serialized) = all_stated args (calls (placed scope (name_text name)))
-own_stated scope (def_leveled_method name args serialized level) = all_stated args (calls (placed scope (name_text name)))
-own_stated scope (def_external name kind args) =
-    if is_method kind args then all_stated args (calls (placed scope (name_text name))) else []
-own_stated scope _ = []
+-- a method: the scope of the term that makes it, its name there, and the number of its arguments
+pub record Callee : Type 0 where
+  pub scope : List ℕ
+  pub name : List ℕ
+  pub args : ℕ
 
--- the same of all terms, in the order of the bytes
-abbrev pub methods : List ℕ → Terms → List (List ℕ × ℕ)
+abbrev pub callee : List ℕ → List ℕ → ℕ → Callee
+callee s n k = record { scope = s; name = n; args = k }
+
+abbrev pub callee_by : Method → Callee
+callee_by m = callee (string_bytes m.scope) m.name m.args
+
+-- the method that a head makes (ACPI 6.5, 20.2.5.2, MethodFlags), or that another block has
+abbrev pub own_method : List ℕ → Head → List Callee
+own_method scope (def_method name args serialized) = callee scope name args ∷ []
+own_method scope (def_leveled_method name args serialized level) = callee scope name args ∷ []
+own_method scope (def_external name kind args) = if is_method kind args then callee scope name args ∷ [] else []
+own_method scope _ = []
+
+-- those of all terms, in the order of the bytes
+abbrev pub methods : List ℕ → Terms → List Callee
 methods scope end = []
-methods scope (term h w children others) = own_stated scope h ++ (methods (inside scope h) children ++ methods scope others)
+methods scope (term h w children others) = own_method scope h ++ (methods (inside scope h) children ++ methods scope others)
 
--- The numbers that a caller states, and those of the methods of the terms that the bytes spell with the stated numbers. If there
--- are several for a name, the first one holds.
+-- the number of arguments of a method, for the names by which its path is called
+abbrev pub numbers : Callee → List (List ℕ × ℕ)
+numbers m = all_stated m.args (calls (placed m.scope (name_text m.name)))
+
+-- the same of the methods with this number of arguments
+abbrev pub numbers_of : ℕ → List Callee → List (List ℕ × ℕ)
+numbers_of n [] = []
+numbers_of n (m ∷ all) = (if m.args == n then numbers m else []) ++ numbers_of n all
+
+-- the same of n numbers of arguments from k on
+abbrev pub numbers_from : ℕ → ℕ → List Callee → List (List ℕ × ℕ)
+numbers_from zero k all = []
+numbers_from (suc n) k all = numbers_of k all ++ numbers_from n (suc k) all
+
+-- the same of all methods; those with the fewest arguments come first
+abbrev pub called : List Callee → List (List ℕ × ℕ)
+called all = numbers_from 8 0 all
+
+-- the names of the method that the operating system has: _OSI takes one argument (ACPI 6.5, 5.7.2)
+abbrev pub predefined : List (List ℕ × ℕ)
+predefined = all_stated 1 (calls (codes "_OSI"))
+
+-- The numbers that a caller states, those of the methods of the terms that the bytes spell with the stated numbers, and those of
+-- the operating system. If there are several for a name, the first one holds.
 pub record AreOwn (stated : List (List ℕ × ℕ)) (bytes : List ℕ) (all : List (List ℕ × ℕ)) : Type 0 where
   pub terms : Terms
   pub read : AreReadIn (grammar_of Standard (arity stated)) bytes terms
-  pub is : all ≡ with_all stated (methods [] terms)
+  pub is : all ≡ with_all (with_all stated (called (methods [] terms))) predefined

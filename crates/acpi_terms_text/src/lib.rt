@@ -7,4 +7,5 @@ mod eisa;
 pub mod laws;
 pub mod methods;
 mod note;
+pub mod scoped;
 pub mod uuid;

@@ -1,6 +1,6 @@
-//! How many arguments methods take by a definition block.
+//! The methods of a definition block, and how many arguments they take.
 
-ghost use Rattle.std.specs.Prelude.{◌≡◌, ◌++◌, OnOk, IfOk, IfErr, string_bytes, [], unwrap_or};
+ghost use Rattle.std.specs.Prelude.{◌≡◌, ◌==◌, ◌++◌, OnOk, IfOk, IfErr, string_bytes, [], ◌∷◌, map, unwrap_or, if◌then◌else◌};
 ghost use Rattle.std.specs.Option.{option_map};
 ghost use Rattle.acpi_term.specs.Arity.{arity, with_all};
 ghost use Rattle.acpi_term.specs.PathText.{is_name_text};
@@ -10,13 +10,13 @@ ghost use Rattle.acpi_term.specs.declared.language.Language.TheVariants.{Standar
 ghost use Rattle.acpi_term.specs.Language.{grammar_of};
 ghost use Rattle.acpi_read.specs.Terms.{IsUnreadIn};
 ghost use Rattle.acpi_terms_text.specs.Methods.{placed, opened, inside, after_dots, calls, stated, all_stated};
-ghost use Rattle.acpi_terms_text.specs.Methods.{is_method, own_stated};
-ghost use Rattle.acpi_terms_text.specs.Methods.{methods, AreOwn};
+ghost use Rattle.acpi_terms_text.specs.Methods.{is_method, callee, callee_by, own_method, numbers, numbers_of, called};
+ghost use Rattle.acpi_terms_text.specs.Methods.{methods, predefined, AreOwn};
 
 use acpi_read::report::words::push_named;
 use acpi_read::terms::standard_terms;
 use acpi_term::apart::{Kind, parts_of};
-use acpi_term::name_string::{Arities, NameString};
+use acpi_term::name_string::{Arities, NameString, name_of};
 use acpi_term::read_error::ReadError;
 use acpi_term::term::Term;
 use std::alloc::{AllocError, Global};
@@ -46,7 +46,7 @@ fn placed(alloc: Global, scope: &str, name: &NameString) -> Result<String, Alloc
 }
 
 // The path of a scope, and a dot.
-fn opened(alloc: Global, scope: &str, name: &NameString) -> Result<String, AllocError>
+pub(crate) fn opened(alloc: Global, scope: &str, name: &NameString) -> Result<String, AllocError>
     ensures { IfOk result (λ path. string_bytes path ≡ opened scope.now name.now) }
 {
     let mut path = placed(alloc, scope, name)?;
@@ -123,76 +123,157 @@ fn is_method(kind: u8, args: u8) -> bool
     kind == 8 && args <= 7
 }
 
-// Adds a number of arguments for the names of a method in a scope.
-fn add_method(
+// ---- the methods of terms
+
+/// A method: the scope of the term that makes it, its name there, and the number of its arguments. The scope is a path from the
+/// root, without the root, with a dot after each segment.
+#[derive(Debug, Drop)]
+pub struct Method {
+    pub(crate) scope: String,
+    pub(crate) name: NameString,
+    pub(crate) args: u8,
+}
+
+// Adds a method.
+fn push_method(
     alloc: Global,
     scope: &str,
     name: &NameString,
     args: u8,
-    all: &mut Arities,
+    all: &mut Vec<Method>,
 ) -> Result<(), AllocError>
-    ensures { OnOk result (all.new ≡ with_all all.old (all_stated args (calls (placed scope.now (name_text name.now))))) }
+    ensures { OnOk result (map callee_by all.new.items ≡ map callee_by all.old.items ++ callee scope.now name.now args ∷ []) }
 {
-    let path = placed(alloc, scope, name)?;
-    add_calls(alloc, path.as_str(), args, all)
+    let scope = String::from_str(alloc, scope)?;
+    let name = name_of(alloc, name.as_bytes())?;
+    all.push(Method { scope, name, args })?;
+    Ok(())
 }
 
-// Adds the names of a term that is a method, of this block or of another.
-fn add_own(alloc: Global, scope: &str, kind: Kind<'_>, all: &mut Arities) -> Result<(), AllocError>
-    ensures { OnOk result (all.new ≡ with_all all.old (own_stated scope.now (head_of kind.entry))) }
+// Adds the method that a term makes, or that another block has.
+fn push_own(
+    alloc: Global,
+    scope: &str,
+    kind: Kind<'_>,
+    all: &mut Vec<Method>,
+) -> Result<(), AllocError>
+    ensures { OnOk result (map callee_by all.new.items ≡ map callee_by all.old.items ++ own_method scope.now (head_of kind.entry)) }
 {
     match kind {
         Kind::Method(name, args, _) | Kind::LeveledMethod(name, args, ..) => {
-            add_method(alloc, scope, name, args, all)
+            push_method(alloc, scope, name, args, all)
         }
         Kind::External(name, kind, args) if is_method(kind, args) => {
-            add_method(alloc, scope, name, args, all)
+            push_method(alloc, scope, name, args, all)
         }
         _ => Ok(()),
     }
 }
 
-// Adds the names of the methods of terms.
+// Adds the methods of terms.
 #[cycle(methods)]
-fn add_terms(
+fn push_terms(
     alloc: Global,
     scope: &String,
     terms: &[Term],
-    all: &mut Arities,
+    all: &mut Vec<Method>,
 ) -> Result<(), AllocError>
-    ensures { OnOk result (all.new ≡ with_all all.old (methods (string_bytes scope.now) (views terms.now))) }
+    ensures { OnOk result (map callee_by all.new.items ≡ map callee_by all.old.items
+        ++ methods (string_bytes scope.now) (views terms.now)) }
 {
     for term in terms {
-        add_term(alloc, scope, term, all)?;
+        push_term(alloc, scope, term, all)?;
     }
     Ok(())
 }
 
 #[cycle(methods)]
-fn add_term(alloc: Global, scope: &String, term: &Term, all: &mut Arities) -> Result<(), AllocError>
-    ensures { OnOk result (all.new ≡ with_all all.old (methods (string_bytes scope.now) (single (view term.now)))) }
+fn push_term(
+    alloc: Global,
+    scope: &String,
+    term: &Term,
+    all: &mut Vec<Method>,
+) -> Result<(), AllocError>
+    ensures { OnOk result (map callee_by all.new.items ≡ map callee_by all.old.items
+        ++ methods (string_bytes scope.now) (single (view term.now))) }
 {
     let parts = parts_of(term);
-    add_own(alloc, scope.as_str(), parts.kind, all)?;
+    push_own(alloc, scope.as_str(), parts.kind, all)?;
     let own = inside(alloc, scope.as_str(), parts.kind)?;
     let inner = inner_scope(scope, &own);
-    add_terms(alloc, inner, parts.first, all)?;
-    add_terms(alloc, inner, parts.others, all)?;
+    push_terms(alloc, inner, parts.first, all)?;
+    push_terms(alloc, inner, parts.others, all)?;
     Ok(())
 }
 
-/// How many arguments names take in a definition block: the stated numbers, and those of the methods that the block itself
-/// defines, or declares as external. `bytes` are its terms, without the header. Each method adds its path from the root, and
-/// the path without the root from each of its segments on, as calls may name it. A name that is stated keeps its number, and a
-/// name of several methods has that of the first. The errors are those of `acpi_read::terms::standard_terms` with the stated
-/// numbers.
+// Returns the methods of the terms of a block.
+pub(crate) fn methods_of(alloc: Global, terms: &[Term]) -> Result<Vec<Method>, AllocError>
+    ensures { IfOk result (λ all. map callee_by all.items ≡ methods [] (views terms.now)) }
+{
+    let root = String::new(alloc);
+    let mut all = Vec::new(alloc);
+    push_terms(alloc, &root, terms, &mut all)?;
+    Ok(all)
+}
+
+// ---- numbers of arguments
+
+// Adds the number of arguments of a method for the names by which its path is called, if it is this one.
+fn add_method(alloc: Global, args: u8, method: &Method, all: &mut Arities) -> Result<(), AllocError>
+    ensures { OnOk result (all.new ≡ with_all all.old (if (callee_by method.now).args == args then numbers (callee_by method.now)
+        else [])) }
+{
+    if method.args != args {
+        return Ok(());
+    }
+    let path = placed(alloc, method.scope.as_str(), &method.name)?;
+    add_calls(alloc, path.as_str(), method.args, all)
+}
+
+// Adds those of the methods with this number of arguments.
+fn add_of(alloc: Global, args: u8, methods: &[Method], all: &mut Arities) -> Result<(), AllocError>
+    ensures { OnOk result (all.new ≡ with_all all.old (numbers_of args (map callee_by methods.now))) }
+{
+    'methods: for method in methods {
+        add_method(alloc, args, method, all)?;
+    }
+    Ok(())
+}
+
+// Adds those of all methods. Those with the fewest arguments come first.
+pub(crate) fn add_methods(
+    alloc: Global,
+    methods: &[Method],
+    all: &mut Arities,
+) -> Result<(), AllocError>
+    ensures { OnOk result (all.new ≡ with_all all.old (called (map callee_by methods.now))) }
+{
+    'numbers: for args in 0..8 {
+        add_of(alloc, args, methods, all)?;
+    }
+    Ok(())
+}
+
+// Adds the number of arguments of the method that the operating system has.
+pub(crate) fn add_predefined(alloc: Global, all: &mut Arities) -> Result<(), AllocError>
+    ensures { OnOk result (all.new ≡ with_all all.old predefined) }
+{
+    add_calls(alloc, "_OSI", 1, all)
+}
+
+/// How many arguments names take in a definition block: the stated numbers, those of the methods that the block itself defines,
+/// or declares as external, and that of `_OSI`, which the operating system has (ACPI 6.5, 5.7.2). `bytes` are its terms, without
+/// the header. Each method adds its path from the root, and the path without the root from each of its segments on, as calls may
+/// name it. A name that is stated keeps its number, and a name of several methods has the least of their numbers. The errors are
+/// those of `acpi_read::terms::standard_terms` with the stated numbers.
 pub fn own_arities(alloc: Global, bytes: &[u8], stated: &Arities) -> Result<Arities, ReadError>
     ensures ok { IfOk result (λ all. AreOwn stated.now bytes.now all) }
     ensures err { IfErr result (IsUnreadIn (grammar_of Standard (arity stated.now)) bytes.now) }
 {
     let terms = standard_terms(bytes, stated)?;
+    let methods = methods_of(alloc, &terms)?;
     let mut all = stated.copy(alloc)?;
-    let root = String::new(alloc);
-    add_terms(alloc, &root, &terms, &mut all)?;
+    add_methods(alloc, &methods, &mut all)?;
+    add_predefined(alloc, &mut all)?;
     Ok(all)
 }

@@ -31,6 +31,10 @@ mod reading;
 #[cfg(test)]
 mod refusing;
 #[cfg(test)]
+mod sources;
+#[cfg(test)]
 mod spaces;
+#[cfg(test)]
+mod standard;
 #[cfg(test)]
 mod tables;

@@ -2,10 +2,10 @@
 
 use crate::trial::Grows;
 use acpi_tables::aml::{
-    BufferData, BufferTerm, Device, Else, Field, FieldAccessType, FieldEntry, FieldLockRule,
-    FieldUpdateRule, If, Interrupt, Method, MethodCall, Name, ONE, OpRegion, OpRegionSpace,
-    Package, PackageBuilder, Path, PowerResource, ResourceTemplate, Scope, VarPackageTerm, While,
-    ZERO,
+    BankField, BufferData, BufferTerm, Comparison, Device, Else, Fatal, Field, FieldAccessType,
+    FieldEntry, FieldLockRule, FieldUpdateRule, If, IndexField, Interrupt, Match, MatchTest,
+    Method, MethodCall, Name, ONE, OpRegion, OpRegionSpace, Package, PackageBuilder, Path,
+    PowerResource, ResourceTemplate, Scope, VarPackageTerm, While, ZERO,
 };
 use acpi_tables::{Aml, R};
 use std::alloc::Global;
@@ -65,6 +65,43 @@ pub fn framed(alloc: Global, child: &u32, which: u8) -> R<Vec<u8>> {
 fn resources(alloc: Global) -> R<ResourceTemplate> {
     let interrupt = Interrupt::new(true, true, false, false, 4);
     ResourceTemplate::new(vec![in alloc; &interrupt as &dyn Aml]?)
+}
+
+pub const STANDARD: u8 = 5;
+
+/// What the language `Standard` alone has.
+pub fn standard(alloc: Global, child: &u32, which: u8) -> R<Vec<u8>> {
+    let test = MatchTest::new(alloc, Comparison::Equal, child)?;
+    match which {
+        0 => written(alloc, &test),
+        1 => bytes_of(alloc, Match::new(alloc, child, &test, &test, &ZERO)),
+        2 => bytes_of(alloc, Fatal::new(alloc, 1, 2, child)),
+        3 => bytes_of(alloc, index_field(alloc)),
+        _ => bytes_of(alloc, bank_field(alloc, child)),
+    }
+}
+
+fn index_field(alloc: Global) -> R<IndexField> {
+    IndexField::new(
+        path(alloc)?,
+        path(alloc)?,
+        FieldAccessType::Byte,
+        FieldLockRule::NoLock,
+        FieldUpdateRule::Preserve,
+        vec![in alloc; FieldEntry::Reserved(32), FieldEntry::Named(*b"READ", 64)]?,
+    )
+}
+
+fn bank_field(alloc: Global, child: &u32) -> R<BankField> {
+    BankField::new(
+        path(alloc)?,
+        path(alloc)?,
+        child,
+        FieldAccessType::Byte,
+        FieldLockRule::NoLock,
+        FieldUpdateRule::Preserve,
+        vec![in alloc; FieldEntry::Reserved(32), FieldEntry::Named(*b"READ", 64)]?,
+    )
 }
 
 pub const DATA: u8 = 4;

@@ -2,11 +2,12 @@
 
 use acpi_tables::R;
 use acpi_tables::aml::{
-    DataBits, FlowControl, GpioInt, GpioIntSettings, GpioIo, GpioIoSettings, GpioPolarity,
-    I2cSerialBus, I2cSettings, InterruptFlags, Interrupts, IoRestriction, Parity, PinConfig,
-    PinConfiguration, PinFunction, PinGroup, PinGroupConfiguration, PinGroupFunction, PinSetting,
-    PinUse, SerialFlags, SpiSerialBus, SpiSettings, StopBits, UartSerialBus, UartSettings,
-    VendorLong, VendorShort,
+    AddressSpace, AddressSpaceFrom, ClockInputFrom, ClockScale, ClockSettings, Csi2Bus, Csi2Phy,
+    Csi2Settings, DataBits, FlowControl, GpioInt, GpioIntSettings, GpioIo, GpioIoSettings,
+    GpioPolarity, I2cSerialBus, I2cSettings, InterruptFlags, Interrupts, InterruptsFrom,
+    IoRestriction, Parity, PinConfig, PinConfiguration, PinFunction, PinGroup,
+    PinGroupConfiguration, PinGroupFunction, PinSetting, PinUse, SerialFlags, SpiSerialBus,
+    SpiSettings, StopBits, UartSerialBus, UartSettings, VendorLong, VendorShort,
 };
 use std::alloc::Global;
 use test_support::bytes_of;
@@ -79,7 +80,22 @@ const USED: PinUse = PinUse {
     consumer: true,
 };
 
-pub const DESCRIPTORS: u8 = 13;
+const CAMERA: Csi2Settings = Csi2Settings {
+    device_initiated: false,
+    consumer: true,
+    phy: Csi2Phy::DPhy,
+    local_port: 2,
+    remote_port: 3,
+};
+
+const CLOCK: ClockSettings = ClockSettings {
+    variable: true,
+    scale: ClockScale::Megahertz,
+    numerator: 25,
+    divisor: 2,
+};
+
+pub const DESCRIPTORS: u8 = 17;
 
 /// Descriptors whose number of bytes depends on what is in them.
 pub fn descriptor(alloc: Global, which: u8) -> R<Vec<u8>> {
@@ -104,17 +120,27 @@ pub fn descriptor(alloc: Global, which: u8) -> R<Vec<u8>> {
             alloc,
             UartSerialBus::new(alloc, MODEM, CONSUMED, "\\_SB.UAR0", &[]),
         ),
+        8 => bytes_of(alloc, Csi2Bus::new(alloc, CAMERA, "\\_SB.CSI0", &[])),
+        9 => bytes_of(alloc, ClockInputFrom::new(alloc, CLOCK, 1, "\\_SB.CLK0")),
+        10 => bytes_of(
+            alloc,
+            InterruptsFrom::new(alloc, WAKING, &[5, 9], 1, "\\_SB.LNKA"),
+        ),
+        11 => bytes_of(
+            alloc,
+            AddressSpaceFrom::new(alloc, AddressSpace::new_io(1u32, 2, None), 1, "\\_SB.PCI0"),
+        ),
         _ => pins(alloc, which),
     }
 }
 
 fn pins(alloc: Global, which: u8) -> R<Vec<u8>> {
     match which {
-        8 => bytes_of(
+        12 => bytes_of(
             alloc,
             PinFunction::new(alloc, true, PinConfig::PullUp, 1, &[0x102], CONTROLLER, &[]),
         ),
-        9 => bytes_of(
+        13 => bytes_of(
             alloc,
             PinConfiguration::new(
                 alloc,
@@ -126,8 +152,8 @@ fn pins(alloc: Global, which: u8) -> R<Vec<u8>> {
                 &[],
             ),
         ),
-        10 => bytes_of(alloc, PinGroup::new(alloc, false, &[7], "A", &[])),
-        11 => bytes_of(
+        14 => bytes_of(alloc, PinGroup::new(alloc, false, &[7], "A", &[])),
+        15 => bytes_of(
             alloc,
             PinGroupFunction::new(alloc, USED, 3, CONTROLLER, "A", &[]),
         ),

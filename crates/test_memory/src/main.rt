@@ -150,6 +150,11 @@ fn make_objects(trial: &mut Trial, alloc: Global) -> Result<(), Fault> {
     )?;
     trial.all(
         &child,
+        aml::STANDARD,
+        |which: u8| aml::standard(alloc, &child, which),
+    )?;
+    trial.all(
+        &child,
         aml::DATA,
         |which: u8| aml::data(alloc, &child, which),
     )?;

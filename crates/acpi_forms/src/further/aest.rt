@@ -1,9 +1,12 @@
 //! The Arm Error Source Table.
 
+ghost use Rattle.acpi_forms.specs.FurtherNames.{aest_names};
+ghost use Rattle.acpi_forms.specs.Name.{IsNamed};
+
 use acpi_base::header::HEADER;
 use acpi_base::row::{Bits, Row, Word};
 use acpi_base::walk::Place;
-use acpi_text::form::{Count, Inner, Part, StructureForm, TableForm};
+use acpi_text::form::{Choice, Count, Inner, Part, StructureForm, TableForm};
 
 // The fields of a node after its type.
 const NODE: [Row; 9] = [
@@ -17,6 +20,122 @@ const NODE: [Row; 9] = [
     Row::Reserved(8),
     Row::Number("Error Injection Countdown Rate", 8),
 ];
+
+// ---- the data of a node
+
+const DATA: &str = "Node-specific Data";
+
+const RESOURCES: [Word; 3] = [Word(0, "Cache"), Word(1, "TLB"), Word(2, "Generic")];
+
+const PROCESSOR: [Row; 6] = [
+    Row::Hex("ACPI Processor ID", 4),
+    Row::OneOf("Resource Type", 1, &RESOURCES),
+    Row::Reserved(1),
+    Row::Flags(
+        "Flags",
+        1,
+        &[Bits::Flag(0x1, "Global"), Bits::Flag(0x2, "Shared")],
+    ),
+    Row::Number("Revision", 1),
+    Row::Hex("Processor Affinity Level Indicator", 8),
+];
+
+// The resource of a processor, by its type.
+const PROCESSOR_RESOURCES: [Choice; 3] = [
+    Choice {
+        number: 0,
+        name: "Cache Resource",
+        rows: &[Row::Hex("Cache Reference", 4), Row::Reserved(4)],
+    },
+    Choice {
+        number: 1,
+        name: "TLB Resource",
+        rows: &[Row::Number("TLB Level", 4), Row::Reserved(4)],
+    },
+    Choice {
+        number: 2,
+        name: "Generic Resource",
+        rows: &[Row::Hex("Vendor-defined Data", 4)],
+    },
+];
+
+const MEMORY: [Row; 1] = [Row::Number("Proximity Domain", 4)];
+
+const SMMU: [Row; 2] = [
+    Row::Hex("IORT Node Reference", 4),
+    Row::Hex("Subcomponent Reference", 4),
+];
+
+// What a vendor defines, by the offset of the interface: the hardware id has 4 bytes in version 1 of the standard.
+const VENDORS: [Choice; 2] = [
+    Choice {
+        number: 72,
+        name: DATA,
+        rows: &[
+            Row::Text("Hardware ID", 8),
+            Row::Hex("Unique ID", 4),
+            Row::Bytes("Vendor-specific Data", 16),
+        ],
+    },
+    Choice {
+        number: 68,
+        name: "Node-specific Data of Version 1",
+        rows: &[
+            Row::Hex("Hardware ID", 4),
+            Row::Hex("Unique ID", 4),
+            Row::Bytes("Vendor-specific Data", 16),
+        ],
+    },
+];
+
+const GIC_INTERFACES: [Word; 4] = [
+    Word(0, "GIC CPU"),
+    Word(1, "GIC Distributor"),
+    Word(2, "GIC Redistributor"),
+    Word(3, "GIC ITS"),
+];
+
+const GIC: [Row; 2] = [
+    Row::OneOf("Interface Type", 4, &GIC_INTERFACES),
+    Row::Hex("Instance Identifier", 4),
+];
+
+const PCIE: [Row; 1] = [Row::Hex("IORT Node Reference", 4)];
+
+const PROXY: [Row; 1] = [Row::Hex("Node Address", 8)];
+
+// ---- the interface of a node
+
+const INTERFACE_TYPES: [Word; 3] = [
+    Word(0, "System Register"),
+    Word(1, "Memory-mapped"),
+    Word(2, "Single Record Memory-mapped"),
+];
+
+const GROUP_FORMATS: [Word; 3] = [Word(0, "4K"), Word(1, "16K"), Word(2, "64K")];
+
+const INTERFACE_FLAGS: [Bits; 7] = [
+    Bits::Flag(0x1, "Shared"),
+    Bits::Flag(0x2, "Clear MISCx"),
+    Bits::Flag(0x4, "Error Node Device Valid"),
+    Bits::Flag(0x8, "Affinity Type"),
+    Bits::Flag(0x10, "Error Group Register Base Valid"),
+    Bits::Flag(0x20, "Fault Injection Register Base Valid"),
+    Bits::Flag(0x40, "Interrupt Config Register Base Valid"),
+];
+
+// What every interface begins with. In version 1 of the standard the group format is reserved.
+const INTERFACE: [Row; 7] = [
+    Row::OneOf("Interface Type", 1, &INTERFACE_TYPES),
+    Row::OneOf("Group Format", 1, &GROUP_FORMATS),
+    Row::Reserved(2),
+    Row::Flags("Flags", 4, &INTERFACE_FLAGS),
+    Row::Hex("Base Address", 8),
+    Row::Number("Start Error Record Index", 4),
+    Row::Number("Number of Error Records", 4),
+];
+
+// ---- interrupts
 
 const INTERRUPT_TYPES: [Word; 2] = [Word(0, "Fault Handling"), Word(1, "Error Recovery")];
 
@@ -33,9 +152,12 @@ const INTERRUPT: [Row; 6] = [
     Row::Reserved(3),
 ];
 
-// A node of a type, by its name.
+// ---- nodes
+
+// A node of a type, by its name and the rows of its data. A node without interrupts has 0 as their offset, and its records end
+// with it.
 macro_rules! node {
-    ($number:literal, $name:literal) => {
+    ($number:literal, $name:literal, $data:ident) => {
         StructureForm {
             number: $number,
             name: $name,
@@ -43,9 +165,12 @@ macro_rules! node {
                 Part::Fields(&[Row::Preset("Type", 1, $number)]),
                 Part::Fields(&NODE),
                 Part::Until("Bytes", Place::DWord(4)),
-                Part::Until("Node-specific Data", Place::DWord(8)),
-                Part::Until("Node Interface", Place::DWord(12)),
+                Part::Group(DATA, &$data),
+                Part::Until("Bytes", Place::DWord(8)),
+                Part::Group("Node Interface", &INTERFACE),
+                Part::Until("Error Records", Place::DWord(12)),
                 Part::Entries("Node Interrupt", Count::Field(Place::DWord(16)), &INTERRUPT),
+                Part::Until("Error Records without Interrupts", Place::Word(1)),
             ],
             inner: &Inner::Nothing,
         }
@@ -53,21 +178,57 @@ macro_rules! node {
 }
 
 const NODES: [StructureForm; 7] = [
-    node!(0, "Processor Error Node"),
-    node!(1, "Memory Error Node"),
-    node!(2, "SMMU Error Node"),
-    node!(3, "Vendor-defined Error Node"),
-    node!(4, "GIC Error Node"),
-    node!(5, "PCIe Error Node"),
-    node!(6, "Proxy Error Node"),
+    StructureForm {
+        number: 0,
+        name: "Processor Error Node",
+        parts: &[
+            Part::Fields(&[Row::Preset("Type", 1, 0)]),
+            Part::Fields(&NODE),
+            Part::Until("Bytes", Place::DWord(4)),
+            Part::Group(DATA, &PROCESSOR),
+            Part::Chosen(Place::Byte(48), &PROCESSOR_RESOURCES),
+            Part::Until("Bytes", Place::DWord(8)),
+            Part::Group("Node Interface", &INTERFACE),
+            Part::Until("Error Records", Place::DWord(12)),
+            Part::Entries("Node Interrupt", Count::Field(Place::DWord(16)), &INTERRUPT),
+            Part::Until("Error Records without Interrupts", Place::Word(1)),
+        ],
+        inner: &Inner::Nothing,
+    },
+    node!(1, "Memory Error Node", MEMORY),
+    node!(2, "SMMU Error Node", SMMU),
+    StructureForm {
+        number: 3,
+        name: "Vendor-defined Error Node",
+        parts: &[
+            Part::Fields(&[Row::Preset("Type", 1, 3)]),
+            Part::Fields(&NODE),
+            Part::Chosen(Place::DWord(8), &VENDORS),
+            Part::Until("Bytes", Place::DWord(8)),
+            Part::Group("Node Interface", &INTERFACE),
+            Part::Until("Error Records", Place::DWord(12)),
+            Part::Entries("Node Interrupt", Count::Field(Place::DWord(16)), &INTERRUPT),
+            Part::Until("Error Records without Interrupts", Place::Word(1)),
+        ],
+        inner: &Inner::Nothing,
+    },
+    node!(4, "GIC Error Node", GIC),
+    node!(5, "PCIe Error Node", PCIE),
+    node!(6, "Proxy Error Node", PROXY),
 ];
 
-/// The Arm Error Source Table (Arm DEN0085). The data and the interface of a node are bytes here, since they differ between the
-/// revisions. Without interrupts the interface has no name.
-pub const AEST: TableForm = TableForm {
+const AEST: TableForm = TableForm {
     name: "Arm Error Source Table (AEST)",
     parts: &[Part::Fields(&HEADER)],
     structures: &NODES,
     further: &[],
     inner: &Inner::Nothing,
 };
+
+/// Returns the form of the Arm Error Source Table (Arm DEN0085, versions 1 and 2). The records of an interface are one line of
+/// bytes, since they differ between the versions and the formats of a group.
+pub fn aest_form() -> TableForm
+    ensures { IsNamed result aest_names }
+{
+    AEST
+}

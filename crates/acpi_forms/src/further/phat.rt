@@ -56,13 +56,14 @@ const RECORDS: [StructureForm; 2] = [
         parts: &[
             Part::Fields(&HEALTH),
             Part::Until("Device Path", Place::DWord(24)),
+            Part::Until("Device Path or Device-specific Data", Place::Word(2)),
         ],
         inner: &Inner::Nothing,
     },
 ];
 
-/// The Platform Health Assessment Table (ACPI 6.5, 5.2.31). A device path ends where the device-specific data begin. If there are
-/// none, the path has no name.
+/// The Platform Health Assessment Table (ACPI 6.5, 5.2.31). A device path ends where the device-specific data begin. If their offset
+/// is 0, there are none, and the path ends with the record.
 pub const PHAT: TableForm = TableForm {
     name: "Platform Health Assessment Table (PHAT)",
     parts: &[Part::Fields(&HEADER)],

@@ -1,42 +1,43 @@
-use Rattle.std.proofs.Common.{◌≡◌, ℕ, List, ◌∙◌, string_bytes, rules, arith, ap}
+use Rattle.std.proofs.Common.{◌≡◌, ℕ, ◌++◌, List, ◌∙◌, refl, map, string_bytes, rules, arith, ap}
 use Rattle.acpi_term.proofs.Depths.{first_shallow, others_shallow, element_shallow}
-use Rattle.acpi_term.specs.Arity.{with_all}
+use Rattle.acpi_term.specs.declared.term.Term.{Term}
 use Rattle.acpi_term.specs.Tree.{depth}
-use Rattle.acpi_term.specs.View.{head_of}
-use Rattle.acpi_terms_text.specs.Methods.{inside, own_stated}
-use Rattle.acpi_terms_text.proofs.Walks.{counted_start, counted_on, counted_done, counted_over}
+use Rattle.acpi_term.specs.View.{views, head_of}
+use Rattle.acpi_terms_text.specs.Methods.{inside, callee_by, own_method, methods}
+use Rattle.acpi_terms_text.proofs.Runs.{runs_start, runs_on, runs_done}
+use Rattle.acpi_terms_text.proofs.Walks.{methods_step, methods_over}
 use Rattle.acpi_terms_text.proofs.methods.+methods.Goals as goal
 
-pub add_terms-loop-term-init : goal.add_terms-loop-term-init
-add_terms-loop-term-init t c = counted_start _ _ _
+pub push_terms-loop-term-init : goal.push_terms-loop-term-init
+push_terms-loop-term-init t c = runs_start _ _ _
 
-pub add_terms-add_term-requires : goal.add_terms-add_term-requires
-add_terms-add_term-requires t c =
+pub push_terms-push_term-requires : goal.push_terms-push_term-requires
+push_terms-push_term-requires t c =
     let shallow = element_shallow c.args.terms.now c.loop-term.term-index c.term-item.result c.loop-term-test.true c.term-item.is in
     (omega (arith, shallow, c.decreases), search rules)
 
-pub add_terms-loop-term-preserved : goal.add_terms-loop-term-preserved
-add_terms-loop-term-preserved t c =
-    counted_on _ _ _ _ _ c.loop-term.invariant c.term-item.result _ c.loop-term-test.true c.term-item.is c.in_ok-add_term.ensures
+pub push_terms-loop-term-preserved : goal.push_terms-loop-term-preserved
+push_terms-loop-term-preserved t c =
+    runs_on (λ (terms : List Term). methods (string_bytes c.args.scope.now) (views terms)) _ _ _ _ c.loop-term.invariant c.term-item.result _ _ c.loop-term-test.true c.term-item.is (methods_step (string_bytes c.args.scope.now) c.term-item.result _) c.in_ok-push_term.ensures
 
-pub add_terms-returns : goal.add_terms-returns
-add_terms-returns t c = counted_done _ _ _ _ _ c.loop-term.invariant c.loop-term-test.false
+pub push_terms-returns : goal.push_terms-returns
+push_terms-returns t c = runs_done (λ (terms : List Term). methods (string_bytes c.args.scope.now) (views terms)) _ _ _ _ c.loop-term.invariant refl c.loop-term-test.false
 
-pub add_term-add_terms-requires : goal.add_term-add_terms-requires
-add_term-add_terms-requires t c =
+pub push_term-push_terms-requires : goal.push_term-push_terms-requires
+push_term-push_terms-requires t c =
     let p = c.parts_of-parts.result in
     let shallow = first_shallow p.first.now p.others.now in
     (omega (arith, shallow, ap depth c.parts_of-parts.ensures.children, c.decreases), search rules)
 
-pub add_term-add_terms-requires-2 : goal.add_term-add_terms-requires-2
-add_term-add_terms-requires-2 t c =
+pub push_term-push_terms-requires-2 : goal.push_term-push_terms-requires-2
+push_term-push_terms-requires-2 t c =
     let p = c.parts_of-parts.result in
     let shallow = others_shallow p.first.now p.others.now in
     (omega (arith, shallow, ap depth c.parts_of-parts.ensures.children, c.decreases), search rules)
 
-pub add_term-returns : goal.add_term-returns
-add_term-returns t c =
+pub push_term-returns : goal.push_term-returns
+push_term-returns t c =
     let p = c.parts_of-parts.result in
     let into : string_bytes c.inner_scope-inner.result.now ≡ inside (string_bytes c.args.scope.now) (head_of p.kind) = search rules in
-    let owned : c.add_own.new.all ≡ with_all c.args.all.now (own_stated (string_bytes c.args.scope.now) (head_of p.kind)) = c.in_ok-add_own.ensures ∙ ap (λ (s : List ℕ). with_all c.args.all.now (own_stated s (head_of p.kind))) c.as_str.ensures.value in
-    counted_over (string_bytes c.args.scope.now) (string_bytes c.inner_scope-inner.result.now) c.args.term.now _ _ p.first.now p.others.now c.parts_of-parts.ensures into _ _ _ _ owned c.in_ok-add_terms.ensures c.in_ok-add_terms-2.ensures
+    let owned : map callee_by c.push_own.new.all.items ≡ map callee_by c.args.all.now.items ++ own_method (string_bytes c.args.scope.now) (head_of p.kind) = c.in_ok-push_own.ensures ∙ ap (λ (s : List ℕ). map callee_by c.args.all.now.items ++ own_method s (head_of p.kind)) c.as_str.ensures.value in
+    methods_over (string_bytes c.args.scope.now) (string_bytes c.inner_scope-inner.result.now) c.args.term.now _ _ p.first.now p.others.now c.parts_of-parts.ensures into _ _ _ _ owned c.in_ok-push_terms.ensures c.in_ok-push_terms-2.ensures

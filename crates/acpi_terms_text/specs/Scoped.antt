@@ -1,0 +1,111 @@
+-- Calls of methods by the search rules of names (ACPI 6.5, 5.3).
+use Rattle.std.specs.Prelude.{◌≡◌, ◌≢◌, ◌⊎◌, ℕ, zero, suc, ◌==◌, ◌-◌, ◌/◌, not, ◌||◌, Bool, true, false}
+use Rattle.std.specs.Prelude.{if◌then◌else◌, List, [], ◌∷◌, ◌++◌, length, take}
+use Rattle.std.specs.Str.{bytes_eq}
+use Rattle.acpi_read.specs.Terms.{AreReadIn, IsUnreadIn}
+use Rattle.acpi_term.specs.Arity.{arity, with_all}
+use Rattle.acpi_term.specs.Carried.{AreCarried}
+use Rattle.acpi_term.specs.Language.{grammar_of}
+use Rattle.acpi_term.specs.Spelling.{spelling}
+use Rattle.acpi_term.specs.Tree.{Head, def_scope, def_device, def_method, def_power_res, def_leveled_method}
+use Rattle.acpi_term.specs.Tree.{def_processor, def_thermal_zone, Terms, end, term}
+use Rattle.acpi_term.specs.declared.language.Language.TheVariants.{Standard}
+use Rattle.acpi_term.specs.declared.read_error.ReadError.{ReadError}
+use Rattle.acpi_term.specs.declared.read_error.ReadError.TheVariants.{Memory}
+use Rattle.acpi_terms_text.specs.Methods.{inside, Callee, called, methods, predefined}
+
+-- ---- the methods that are near to a scope
+
+-- the scope around one: without its last segment, which has four characters and a dot
+abbrev pub outer : List ℕ → List ℕ
+outer scope = take (length scope - 5) scope
+
+-- a method by its name in this scope, if a term of the scope makes it
+abbrev pub here : List ℕ → Callee → List (List ℕ × ℕ)
+here scope m = if bytes_eq m.scope scope then (m.name, m.args) ∷ [] else []
+
+abbrev pub made_in : List ℕ → List Callee → List (List ℕ × ℕ)
+made_in scope [] = []
+made_in scope (m ∷ all) = here scope m ++ made_in scope all
+
+-- those of a scope, and then those of so many scopes around it
+abbrev pub near : ℕ → List ℕ → List Callee → List (List ℕ × ℕ)
+near zero scope all = made_in scope all
+near (suc n) scope all = made_in scope all ++ near n (outer scope) all
+
+-- those of a scope and of all scopes around it; the nearest comes first
+abbrev pub nearest : List ℕ → List Callee → List (List ℕ × ℕ)
+nearest scope all = near (length scope / 5) scope all
+
+-- ---- the terms of a method's body
+
+-- whether one of these numbers of arguments is another than that of its name in a list
+abbrev pub differ : List (List ℕ × ℕ) → List (List ℕ × ℕ) → Bool
+differ own [] = false
+differ own (a ∷ all) = not (arity own a.0 == a.1) || differ own all
+
+-- The numbers in a scope: those that a caller states, those of the nearest methods, and then those of the whole block. If there are
+-- several for a name, the first one holds.
+abbrev pub numbers_in : List (List ℕ × ℕ) → List Callee → List ℕ → List (List ℕ × ℕ)
+numbers_in stated all scope = with_all (with_all (with_all stated (nearest scope all)) (called all)) predefined
+
+-- the bytes of these terms spell others with other numbers
+abbrev pub AreReadAgain : List (List ℕ × ℕ) → Terms → Terms → Type 0
+AreReadAgain numbers old new = AreReadIn (grammar_of Standard (arity numbers)) (spelling old) new
+
+-- the terms stay, since their bytes spell no terms with these numbers
+pub record AreKept (numbers : List (List ℕ × ℕ)) (old new : Terms) : Type 0 where
+  pub is : new ≡ old
+  pub error : ReadError
+  pub no_memory : error ≢ Memory
+  pub unread : AreCarried old → IsUnreadIn (grammar_of Standard (arity numbers)) (spelling old) error
+
+abbrev pub AreIfRead : Bool → List (List ℕ × ℕ) → Terms → Terms → Type 0
+AreIfRead false numbers old new = new ≡ old
+AreIfRead true numbers old new = AreReadAgain numbers old new ⊎ AreKept numbers old new
+
+-- ---- the terms of a block
+
+-- where the names of a head's children are looked for
+pub data Body : Type 0 where
+  -- in the scope that the head makes, with no call but in methods
+  space : Body
+  -- in that scope
+  code : Body
+  -- the children are those of the whole block
+  other : Body
+
+abbrev pub body : Head → Body
+body (def_scope name) = space
+body (def_device name) = space
+body (def_power_res name level order) = space
+body (def_processor name id address size) = space
+body (def_thermal_zone name) = space
+body (def_method name args serialized) = code
+body (def_leveled_method name args serialized level) = code
+body _ = other
+
+abbrev pub OfBody : Body → Type 0 → Type 0 → Type 0 → Type 0
+OfBody space a b c = a
+OfBody code a b c = b
+OfBody other a b c = c
+
+module _ (stated : List (List ℕ × ℕ)) (all : List Callee) (own : List (List ℕ × ℕ)) where
+  -- the terms of a method's body in this scope
+  abbrev pub IsBody : List ℕ → Terms → Terms → Type 0
+  IsBody scope old new = AreIfRead (differ own (nearest scope all)) (numbers_in stated all scope) old new
+
+  -- Terms in a scope, of which each method's body was read with the numbers of its scope.
+  abbrev pub AreScoped : List ℕ → Terms → Terms → Type 0
+  AreScoped scope end end = Unit {0}
+  AreScoped scope end (term h w children others) = ⊥
+  AreScoped scope (term h w children others) end = ⊥
+  AreScoped scope (term h w children others) (term h' w' children' others') =
+      (h' ≡ h)
+      × (w' ≡ w)
+      × OfBody (body h) (AreScoped (inside scope h) children children') (IsBody (inside scope h) children children') (children' ≡ children)
+      × AreScoped scope others others'
+
+-- The terms of a block that were read with the numbers `own`, of which each method's body was read with the numbers of its scope.
+abbrev pub AreInScopes : List (List ℕ × ℕ) → List (List ℕ × ℕ) → Terms → Terms → Type 0
+AreInScopes stated own old new = AreScoped stated (methods [] old) own [] old new
