@@ -1,7 +1,7 @@
 #!/bin/sh
 # Builds the library for callers in C and Rust, and programs that call it: `check` in C and in Rust, on the tables and the image
-# of acpi_example, `monitor`, which builds an image, and `boundary`, which goes to the limits of each function. In C all are built a
-# second time with the address and undefined behaviour sanitizers, and `boundary` is run once for each growth, with that one refused
+# of acpi_example, `monitor`, which builds these tables, and `boundary`, which goes to the limits of each function. In C all are built
+# a second time with the address and undefined behaviour sanitizers, and `boundary` is run once for each growth, with that one refused
 # by memory.c. Where Cargo is there, the tests of bindings/rust run, too. The library and the example are proved before they are
 # built, with everything that they stand on. With `built`, they stand on the crates that `rt ci` left. It leaves no static library, so
 # acpi_c itself is proved once more. The library, with its functions in C and its allocator, is then crates/acpi_c/out/c/libhyssop.a.
@@ -69,6 +69,30 @@ compile examples/monitor.c "$work/monitor_sanitized" -fsanitize=address,undefine
 compile tests/boundary.c "$work/boundary"
 compile tests/boundary.c "$work/boundary_sanitized" -fsanitize=address,undefined -fno-sanitize-recover=all
 
+# A shared library, in which only the functions of the header have a name.
+version=$(sed -n 's/^#define HYSSOP_VERSION //p' "$source/include/hyssop.h")
+sed 's|/\*.*\*/||' "$source/include/hyssop.h" | grep -o '\bhyssop_[a-z0-9_]*(' | tr -d '(' | sort -u >"$work/functions"
+{ echo '{ global:' && sed 's/$/;/' "$work/functions" && echo 'local: *; };'; } >"$work/hyssop.map"
+shared=libhyssop.so.$version
+cc -shared -Wl,-soname,"$shared" -Wl,--version-script="$work/hyssop.map" -Wl,-z,defs -o "$source/out/c/$shared" \
+    -Wl,--whole-archive "$source/out/c/libhyssop.a" -Wl,--no-whole-archive
+ln -sf "$shared" "$source/out/c/libhyssop.so"
+nm -D --defined-only "$source/out/c/$shared" | sed 's/.* //' | sort >"$work/found"
+if ! diff "$work/functions" "$work/found"; then
+    echo 'c.sh: the shared library has the names after >, and not those after <' >&2
+    exit 1
+fi
+echo "$shared: $(wc -l <"$work/found") functions"
+
+# The numbers that programs compile in are those that they were.
+python3 -B tools/c_numbers.py missing
+python3 -B tools/c_numbers.py c >"$work/numbers.c"
+cc -std=c11 -pedantic -Wall -Wextra -Werror -I "$source/include" -fsyntax-only "$work/numbers.c"
+if command -v rustc >/dev/null; then
+    python3 -B tools/c_numbers.py rust | sed "s|\.\./hyssop\.rs|$source/hyssop.rs|" >"$work/numbers.rs"
+    rustc --edition 2024 --crate-type lib --emit metadata -A dead_code -o "$work/numbers.rmeta" "$work/numbers.rs"
+fi
+
 # The header compiles without a warning in each edition of C and C++.
 for edition in c89 c99 c11 c17 c2x; do
     cc -std=$edition -pedantic -Wall -Wextra -Werror -Wno-long-long -fsyntax-only -x c "$source/include/hyssop.h"
@@ -84,8 +108,10 @@ fi
 
 # The tables and the image of the example, and a table without its last byte.
 mkdir "$work/acpi"
-crates/acpi_example/out/acpi_example "$work/acpi" 1c000000 >"$work/told"
-read -r _ base _ rsdp <"$work/told"
+crates/acpi_example/out/acpi_example "$work/acpi" 1c000000 >"$work/told_example"
+cp -r "$work/acpi" "$work/acpi_whole"
+cp "$work/acpi/package" "$work/whole_package"
+read -r _ base _ rsdp <"$work/told_example"
 mv "$work/acpi/image" "$work/image"
 head -c 40 "$work/acpi/package" >"$work/acpi/cut"
 
@@ -114,6 +140,33 @@ checks() {
 
 checks "$work/check"
 checks "$work/check_sanitized"
+
+# The library as it is installed: linked by what pkg-config says, and the shared library by a CMake project.
+sh tools/install "$work/installed" library
+if command -v pkg-config >/dev/null; then
+    # The words of pkg-config are several.
+    # shellcheck disable=SC2046
+    cc -std=c11 -Wall -Wextra -Werror -o "$work/check_shared" "$source/examples/check.c" \
+        $(PKG_CONFIG_PATH=$work/installed/lib/pkgconfig pkg-config --cflags --libs hyssop) -Wl,-rpath,"$work/installed/lib"
+    checks "$work/check_shared"
+fi
+if command -v cmake >/dev/null; then
+    mkdir "$work/project"
+    cp "$source/examples/check.c" "$work/project"
+    cat >"$work/project/CMakeLists.txt" <<'END'
+cmake_minimum_required(VERSION 3.13)
+project(check C)
+find_package(hyssop REQUIRED)
+add_executable(check_by_cmake check.c)
+target_link_libraries(check_by_cmake hyssop::hyssop)
+add_executable(check_by_cmake_static check.c)
+target_link_libraries(check_by_cmake_static hyssop::static)
+END
+    cmake -S "$work/project" -B "$work/project/out" -DCMAKE_PREFIX_PATH="$work/installed" >"$work/told"
+    cmake --build "$work/project/out" >"$work/told"
+    checks "$work/project/out/check_by_cmake"
+    checks "$work/project/out/check_by_cmake_static"
+fi
 if command -v cargo >/dev/null; then
     (cd "$source/examples/rust" && HYSSOP=$source/out/c CARGO_TARGET_DIR=$work/cargo cargo build --quiet --offline)
     checks "$work/cargo/debug/acpi_check"
@@ -124,17 +177,34 @@ if command -v cargo >/dev/null; then
     (cd bindings/rust && HYSSOP=$source/out/c CARGO_TARGET_DIR=$work/cargo cargo run --quiet --offline --example namespace -- \
         "$work/namespace")
     cmp "$work/namespace" "$work/acpi/namespace"
+    (cd bindings/rust && HYSSOP=$source/out/c CARGO_TARGET_DIR=$work/cargo cargo build --quiet --offline --example monitor)
     echo 'hyssop-acpi: its tests pass, and it writes the namespace of acpi_example'
 fi
 
-# The image that a monitor builds, which `monitor` and `check` find correct.
-"$work/monitor" 40000 "$work/built" >"$work/told"
-"$work/monitor_sanitized" 40000 "$work/built_again" >"$work/told_again"
-cmp "$work/built" "$work/built_again"
-cmp "$work/told" "$work/told_again"
-mkdir "$work/none"
-"$work/check" "$work/none" "$work/built" 40000 "$(sed 's/.*RSDP at 0x//' "$work/told")" >/dev/null
-cat "$work/told"
+# What monitors build: the tables and the images of acpi_example, byte for byte.
+mkdir "$work/arm"
+crates/acpi_example/out/acpi_example arm "$work/arm" 40000000 >"$work/arm_told"
+read -r _ base _ rsdp <"$work/told_example"
+builds() {
+    rm -rf "$work/built" && mkdir "$work/built" "$work/built/q35" "$work/built/arm"
+    "$1" "$work/built/q35" "${base#0x}" >"$work/told"
+    cmp "$work/told" "$work/told_example"
+    "$1" arm "$work/built/arm" 40000000 >"$work/told"
+    cmp "$work/told" "$work/arm_told"
+    cp "$work/whole_package" "$work/built/q35/package"
+    diff -r "$work/acpi_whole" "$work/built/q35"
+    diff -r "$work/arm" "$work/built/arm"
+    echo "$(basename "$1"): $(ls "$work/built"/* | grep -c '^[a-z]') files, those of acpi_example"
+}
+builds "$work/monitor"
+builds "$work/monitor_sanitized"
+[ ! -x "$work/cargo/debug/examples/monitor" ] || builds "$work/cargo/debug/examples/monitor"
+if command -v valgrind >/dev/null; then
+    mkdir "$work/read"
+    valgrind --quiet --error-exitcode=3 --leak-check=full "$work/monitor" "$work/read" "${base#0x}" >"$work/told"
+    cmp "$work/read/image" "$work/acpi_whole/image"
+    echo 'monitor: valgrind has nothing to say'
+fi
 
 # To the limits of each function.
 rm "$work/acpi/cut"
@@ -143,6 +213,34 @@ rm "$work/acpi/cut"
 
 # The same results with each growth refused once. A call that returns that memory ran out is made again.
 cc -shared -fPIC -O1 -o "$work/memory.so" tools/memory.c
+
+# A monitor ends with the words of the fault, or builds the same image: a growth of the C library for a file isn't needed.
+monitor_refusing() {
+    status=0
+    rm -f "$work/growths" "$work/less/image"
+    env REFUSED="$1" GROWTHS="$work/growths" LD_PRELOAD="$work/memory.so" "$work/monitor" "$work/less" "${base#0x}" \
+        >"$work/out" 2>"$work/err" || status=$?
+}
+mkdir "$work/less"
+monitor_refusing 0
+read -r growths _ <"$work/growths"
+number=0
+ended=0
+while [ "$number" -lt "$growths" ]; do
+    number=$((number + 1))
+    monitor_refusing "$number"
+    if [ "$status" = 0 ] && cmp -s "$work/less/image" "$work/acpi_whole/image"; then
+        continue
+    fi
+    if [ "$status" != 1 ] || ! grep -q -e ': out of memory, at 0x0$' -e ': Cannot allocate memory$' "$work/err"; then
+        echo "monitor, growth $number refused: status $status" >&2
+        cat "$work/err" >&2
+        exit 1
+    fi
+    ended=$((ended + 1))
+done
+[ "$ended" -gt 5 ] || { echo "c.sh: a monitor ends after $ended refused growths" >&2; exit 1; }
+echo "monitor: $growths growths refused, one a run"
 refusing() {
     status=0
     rm -f "$work/growths"

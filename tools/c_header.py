@@ -19,6 +19,7 @@ TYPES = {
     "u16": ["uint16_t X"],
     "u32": ["uint32_t X"],
     "u64": ["uint64_t X"],
+    "usize": ["size_t X"],
     "&mut u64": ["uint64_t *X"],
     "&mut usize": ["size_t *X"],
     "&[u8]": ["const void *X", "size_t X_size"],

@@ -2,7 +2,8 @@
 # Runs programs once for each growth, with that one refused by memory.c. `test_memory` has to end as ever, since it makes each
 # refused call once more, and has to say that as many calls returned that memory ran out as growths were refused. `acpiread` has
 # to print its whole report, or to end with status 1, `refused: Memory` and no report. `acpitool` has to print a whole text, or to
-# write a whole table, or to end with a line that says that memory ran out, and nothing else. All are proved before they are
+# write a whole table, or to end with a line that says that memory ran out, and nothing else. The whole text of a definition block of
+# which not all can be read has a line on standard error, and status 1. All are proved before they are
 # built, with everything that they stand on; with `built`, those are run that `rt ci` left.
 #
 # A run may go on without these growths, as nothing is missing then, and without no other:
@@ -32,11 +33,17 @@ methods() {
     printf '\133\202\014DEV0\024\006GETX\001\133\202\023DEV1\024\015GETX\002\244GETX\001h'
 }
 
-# A MADT of two processors, a device's AML, and definition blocks that hold the device and the methods.
+# A method after whose first statement no term begins, and a device.
+damaged() {
+    printf '\024\012MTHD\001\244h[\377[\202\013DEV\060\010_UID\001'
+}
+
+# A MADT of two processors, a device's AML, and definition blocks that hold the device, the methods and what can't be read.
 { header 'APIC\074\0\0\0\001\150' && printf '\0\0\340\376\0\0\0\0\0\010\0\0\001\0\0\0\0\010\001\001\001\0\0\0'; } >"$work/table"
 device >"$work/aml"
 { header 'DSDT\126\0\0\0\002\107' && device; } >"$work/dsdt"
 { header 'DSDT\107\0\0\0\002\121' && methods; } >"$work/scopes"
+{ header 'DSDT\074\0\0\0\002\124' && damaged; } >"$work/damaged"
 
 if [ "${1-}" != built ]; then
     prove test_memory acpiread acpitool
@@ -69,8 +76,9 @@ each() {
     may=$2
     shift 2
     refusing 0 "$@"
-    [ "$status" = 0 ] || fail "$@"
+    [ "$status" = "$well" ] || fail "$@"
     cp "$work/out" "$work/whole"
+    cp "$work/err" "$work/said"
     most=$growths
     [ "$most" -gt 0 ] || fail "$@"
     without=0
@@ -87,7 +95,7 @@ each() {
 }
 
 is_whole() {
-    [ "$status" = 0 ] && cmp -s "$work/out" "$work/whole" && [ ! -s "$work/err" ]
+    [ "$status" = "$well" ] && cmp -s "$work/out" "$work/whole" && cmp -s "$work/err" "$work/said"
 }
 
 # test_memory makes the refused call again, and says how many calls returned that memory ran out.
@@ -117,6 +125,8 @@ is_made_or_says_memory() {
     { is_whole && cmp -s "$work/made" "$work/table"; } || { says_memory && [ ! -e "$work/made" ] && [ ! -e "$work/made.part" ]; }
 }
 
+# The status of a run without a refusal.
+well=0
 each is_made_again 0 "$memory"
 cmp "$work/whole" crates/test_memory/stdout
 each is_whole_or_refused 1 "$read" table "$work/table"
@@ -126,6 +136,9 @@ each is_whole_or_says_memory 1 "$tool" show "$work/table"
 each is_whole_or_says_memory 1 "$tool" show "$work/dsdt"
 each is_whole_or_says_memory 1 "$tool" disassemble "$work/dsdt"
 each is_whole_or_says_memory 1 "$tool" disassemble "$work/scopes"
+well=1
+each is_whole_or_says_memory 1 "$tool" disassemble "$work/damaged"
+well=0
 each is_whole_or_says_memory 1 "$tool" template APIC
 "$tool" show "$work/table" >"$work/text"
 each is_made_or_says_memory 1 "$tool" make "$work/text" "$work/made"

@@ -5,7 +5,7 @@
 use std::ffi::{c_char, c_int};
 
 /// `hyssop_version()` returns this, if the library fits these declarations.
-pub const VERSION: u32 = 5;
+pub const VERSION: u32 = 6;
 
 /// The type of a structure, if the structures of its table have none.
 pub const NO_KIND: usize = usize::MAX;
@@ -51,6 +51,7 @@ pub mod fault {
     pub const LAY_NO_FACS: u32 = 61;
     pub const LAY_SHORT_FADT: u32 = 62;
     pub const LAY_NO_SPACE: u32 = 63;
+    pub const NO_POINTER: u32 = 64;
     pub const WANTS_PRINTING: u32 = 65;
     pub const WANTS_SPACE: u32 = 66;
     pub const WANTS_VALUE: u32 = 67;
@@ -91,6 +92,7 @@ pub mod fault {
     pub const TOO_MANY_OPEN: u32 = 109;
     pub const WRITER_STATE: u32 = 110;
     pub const NOT_EMPTY: u32 = 111;
+    pub const OUTSIDE: u32 = 112;
 }
 
 /// A structure of a table: its offset in the table, its type or `NO_KIND`, and the number of its bytes.
@@ -202,6 +204,7 @@ unsafe extern "C" {
         count: *mut usize,
         place: *mut u64,
     ) -> u32;
+    pub fn hyssop_find_rsdp(bytes: *const u8, bytes_size: usize, offset: *mut usize) -> u32;
     pub fn hyssop_show(
         bytes: *const u8,
         bytes_size: usize,
@@ -327,6 +330,7 @@ unsafe extern "C" {
     ) -> u32;
     pub fn hyssop_bus_numbers(writer: *mut Writer, min: u16, max: u16) -> u32;
     pub fn hyssop_io_range(writer: *mut Writer, min: u16, max: u16, translation: u16) -> u32;
+    pub fn hyssop_io_range32(writer: *mut Writer, min: u32, max: u32, translation: u32) -> u32;
     pub fn hyssop_memory_range32(
         writer: *mut Writer,
         memory_type: u32,
@@ -351,6 +355,29 @@ unsafe extern "C" {
         oem_table_id: *const c_char,
         oem_revision: u32,
     ) -> u32;
+    pub fn hyssop_add_fields(writer: *mut Writer) -> u32;
+    pub fn hyssop_add_structure(writer: *mut Writer, kind: u32, offset: *mut usize) -> u32;
+    pub fn hyssop_end_structure(writer: *mut Writer, offset: usize) -> u32;
+    pub fn hyssop_set_number(
+        writer: *mut Writer,
+        offset: usize,
+        name: *const c_char,
+        value: u64,
+    ) -> u32;
+    pub fn hyssop_set_bytes(
+        writer: *mut Writer,
+        offset: usize,
+        name: *const c_char,
+        content: *const u8,
+        content_size: usize,
+    ) -> u32;
+    pub fn hyssop_overwrite(
+        writer: *mut Writer,
+        offset: usize,
+        content: *const u8,
+        content_size: usize,
+    ) -> u32;
+    pub fn hyssop_add_number(writer: *mut Writer, width: usize, value: u64) -> u32;
     pub fn hyssop_finish(writer: *const Writer, size: *mut usize, place: *mut u64) -> u32;
     pub fn hyssop_finish_table(writer: *mut Writer, size: *mut usize, place: *mut u64) -> u32;
     pub fn hyssop_lay(

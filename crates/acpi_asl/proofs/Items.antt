@@ -5,7 +5,6 @@ use Rattle.std.proofs.lemmas.Bool.{ne_eqb, eq-eqb}
 use Rattle.std.proofs.lemmas.List.{take_rest}
 use Rattle.acpi_read.proofs.Texts.{after_two}
 use Rattle.acpi_asl.specs.Number.{upper_byte}
-use Rattle.acpi_asl.specs.Place.{new_line}
 use Rattle.acpi_asl.specs.declared.macros.Descriptor.{Descriptor}
 use Rattle.acpi_asl.specs.Content.{digits_at}
 use Rattle.acpi_asl.specs.Descriptor.{descriptors}

@@ -7,7 +7,8 @@ use Rattle.acpi_term.specs.Language.{grammar_of}
 use Rattle.acpi_term.specs.Tree.{Terms}
 use Rattle.acpi_term.specs.declared.language.Language.TheVariants.{Standard}
 use Rattle.acpi_term.specs.declared.read_error.ReadError.{ReadError}
-use Rattle.acpi_terms_text.specs.Methods.{AreOwn}
+use Rattle.acpi_read.specs.InPart.{AreReadInPart}
+use Rattle.acpi_terms_text.specs.Methods.{Callee, AreOwn, AreOwnInPart}
 use Rattle.acpi_terms_text.specs.Scoped.{AreInScopes}
 use Rattle.acpi_asl.specs.Asl.{asl_text}
 use Rattle.acpi_asl.specs.Namespace.{names}
@@ -32,18 +33,28 @@ block_text Asl header terms = asl_text header terms
 block_text Names header terms = names 0 terms
 
 -- The text is that of a header and the terms that follow it. Names take the stated numbers of arguments, or else those of the
--- block's own methods: in a method those of the nearest ones.
-pub record IsBlockText (block : BlockText) (stated : List (List ℕ × ℕ)) (bytes text : List ℕ) : Type 0 where
+-- methods of the block and of further blocks: in a method those of the nearest ones.
+pub record IsBlockText (block : BlockText) (stated : List (List ℕ × ℕ)) (further : List Callee) (bytes text : List ℕ) : Type 0 where
   pub own : List (List ℕ × ℕ)
-  pub methods : AreOwn stated (drop 36 bytes) own
+  pub methods : AreOwn stated further (drop 36 bytes) own
   pub whole : Terms
   pub read : AreReadIn (grammar_of Standard (arity own)) (drop 36 bytes) whole
   pub terms : Terms
-  pub scoped : AreInScopes stated own whole terms
+  pub scoped : AreInScopes stated further own whole terms
+  pub is : text ≡ block_text block bytes terms
+
+-- The same of the terms that can be read.
+pub record IsTextInPart (block : BlockText) (stated : List (List ℕ × ℕ)) (further : List Callee) (bytes text : List ℕ) : Type 0 where
+  pub own : List (List ℕ × ℕ)
+  pub methods : AreOwnInPart stated further (drop 36 bytes) own
+  pub whole : Terms
+  pub read : AreReadInPart (grammar_of Standard (arity own)) (drop 36 bytes) whole
+  pub terms : Terms
+  pub scoped : AreInScopes stated further own whole terms
   pub is : text ≡ block_text block bytes terms
 
 -- why bytes aren't terms, with or without the block's own methods
-pub record AreNoTerms (stated : List (List ℕ × ℕ)) (body : List ℕ) (error : ReadError) : Type 0 where
+pub record AreNoTerms (stated : List (List ℕ × ℕ)) (further : List Callee) (body : List ℕ) (error : ReadError) : Type 0 where
   pub own : List (List ℕ × ℕ)
-  pub methods : (own ≡ stated) ⊎ AreOwn stated body own
+  pub methods : (own ≡ stated) ⊎ AreOwn stated further body own
   pub unread : IsUnreadIn (grammar_of Standard (arity own)) body error

@@ -1,5 +1,5 @@
 -- The connections of fields, and how fields are accessed (ACPI 6.5, 19.6.1 and 19.6.15).
-use Rattle.std.specs.Prelude.{ℕ, ◌==◌, ◌&&◌, Bool, true, false, if◌then◌else◌, List, [], ◌∷◌, ◌++◌, length, codes}
+use Rattle.std.specs.Prelude.{ℕ, ◌==◌, ◌&&◌, Bool, true, if◌then◌else◌, List, ◌++◌, length, codes}
 use Rattle.acpi_asl.specs.Number.{hex, least_bytes, number_text}
 use Rattle.acpi_asl.specs.Template.{found, is_found, found_text, listed_bytes}
 use Rattle.acpi_asl.specs.declared.word.Keyword.TheVariants.{AccessType, AccessAttribute, ExtendedAttribute}

@@ -9,6 +9,7 @@ pub mod Content
 pub mod Template
 pub mod Connection
 pub mod Row
+pub mod Unread
 pub mod Special
 pub mod Asl
 pub mod Namespace

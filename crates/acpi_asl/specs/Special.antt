@@ -1,12 +1,13 @@
 -- Terms whose text isn't made of their children's.
 use Rattle.std.specs.Prelude.{ℕ, ◌==◌, ◌&&◌, ◌||◌, not, Bool, true, false, if◌then◌else◌, List, [], ◌++◌, length, codes}
-use Rattle.acpi_term.specs.Tree.{Head, number, def_buffer, def_if, def_external, Terms, end, term}
+use Rattle.acpi_term.specs.Tree.{Head, number, def_buffer, def_if, def_external, unread, Terms, end, term}
 use Rattle.acpi_asl.specs.declared.place.Place.{Place}
 use Rattle.acpi_asl.specs.Eisa.{is_eisa, eisa_text}
 use Rattle.acpi_asl.specs.Number.{least_bytes}
 use Rattle.acpi_asl.specs.Opening.{opening}
 use Rattle.acpi_asl.specs.Place.{is_left_out, is_null, new_line}
 use Rattle.acpi_asl.specs.Template.{is_template, template_text}
+use Rattle.acpi_asl.specs.Unread.{unread_text}
 use Rattle.acpi_terms_text.specs.Uuid.{uuid_text}
 
 -- ---- externals
@@ -79,15 +80,21 @@ abbrev pub is_id_number : Place → Head → ℕ → Bool
 is_id_number p (number v) w = p.ids && is_eisa w v
 is_id_number p _ w = false
 
+-- whether a head is bytes that can't be read
+abbrev pub is_unread : Head → Bool
+is_unread (unread error bytes) = true
+is_unread _ = false
+
 -- whether a term in a place is special
 abbrev pub is_special : Place → Head → ℕ → Terms → Bool
 is_special p h w children =
     is_left_out p h w || is_id_number p h w || is_external_block h children || is_uuid p h children
-    || is_template_buffer h children
+    || is_template_buffer h children || is_unread h
 
 -- the text of a special term at its depth: none for a target that is left out
 abbrev pub special_text : Place → Head → ℕ → Terms → ℕ → List ℕ
 special_text p (number v) w children d = if is_left_out p (number v) w then [] else eisa_text v
 special_text p (def_buffer bytes) w children d =
     if is_uuid p (def_buffer bytes) children then to_uuid bytes else template_text d bytes
+special_text p (unread error bytes) w children d = unread_text error bytes d
 special_text p _ w children d = externals_text d true (after_first children)

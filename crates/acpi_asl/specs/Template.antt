@@ -1,17 +1,16 @@
 -- Resource templates (ACPI 6.5, 6.4 and 19.6.114): buffers whose bytes are descriptors that have macros, and the end tag.
 use Rattle.std.specs.Prelude.{ℕ, zero, suc, ◌+◌, ◌-◌, ◌*◌, ◌/◌, ◌%◌, nat_lt, ◌==◌, ◌&&◌, ◌||◌, not, Bool, true, false}
-use Rattle.std.specs.Prelude.{if◌then◌else◌, Option, Some, None, List, [], ◌∷◌, ◌++◌, length, take, drop, slice_index_or, codes}
+use Rattle.std.specs.Prelude.{if◌then◌else◌, Option, Some, None, List, [], ◌∷◌, ◌++◌, length, take, slice_index_or, codes}
 use Rattle.std.specs.Fmt.{decimal}
 use Rattle.acpi_asl.specs.declared.descriptor.Part.{Part}
 use Rattle.acpi_asl.specs.declared.descriptor.Part.TheVariants as parts
-use Rattle.acpi_asl.specs.declared.descriptor.Offset.{Offset}
 use Rattle.acpi_asl.specs.declared.descriptor.Offset.TheVariants as offsets
 use Rattle.acpi_asl.specs.declared.descriptor.Braces.{Braces}
 use Rattle.acpi_asl.specs.declared.descriptor.Braces.TheVariants as tails
 use Rattle.acpi_asl.specs.declared.macros.Descriptor.{Descriptor}
 use Rattle.acpi_asl.specs.Content.{value_of, digits_at, are_zero, offset_of, between, up_to_zero, source_at, all_hold}
 use Rattle.acpi_asl.specs.Descriptor.{words, Row, facts, descriptors}
-use Rattle.acpi_asl.specs.Number.{upper_digit, upper_byte, hex, string_text}
+use Rattle.acpi_asl.specs.Number.{upper_digit, hex, string_text}
 use Rattle.acpi_asl.specs.Place.{new_line}
 use Rattle.acpi_asl.specs.Word.{word_in}
 

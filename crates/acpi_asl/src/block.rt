@@ -1,17 +1,19 @@
 //! Definition blocks, and what is shown of one.
 
-ghost use Rattle.std.specs.Prelude.{◌≡◌, ◌+◌, ◌≤◌, length, drop, string_bytes, IfOk, IfErr, IfSome};
+ghost use Rattle.std.specs.Prelude.{◌≡◌, ◌+◌, ◌≤◌, length, drop, map, string_bytes, IfOk, IfErr, IfSome};
 ghost use Rattle.acpi_term.specs.ReadError.{offset_of};
 ghost use Rattle.acpi_term.specs.View.{views};
-ghost use Rattle.acpi_asl.specs.Block.{begins_block, has_terms, block_text, IsBlockText, AreNoTerms};
+ghost use Rattle.acpi_terms_text.specs.Methods.{callee_by};
+ghost use Rattle.acpi_asl.specs.Block.{begins_block, has_terms, block_text, IsBlockText, IsTextInPart, AreNoTerms};
 
 use crate::asl::asl_of;
 use crate::namespace::namespace_of;
+use acpi_read::terms::in_part::terms_in_part;
 use acpi_read::terms::standard_terms;
 use acpi_term::name_string::Arities;
 use acpi_term::read_error::ReadError;
 use acpi_term::term::Term;
-use acpi_terms_text::methods::own_arities;
+use acpi_terms_text::methods::{Method, own_arities, own_arities_in_part};
 use acpi_terms_text::scoped::in_scopes;
 use std::alloc::{AllocError, Global};
 
@@ -65,36 +67,57 @@ fn text_of_body(
     alloc: Global,
     block: BlockText,
     stated: &Arities,
+    further: &[Method],
     header: &[u8],
     body: &[u8],
 ) -> Result<String, ReadError>
     requires size { 36 ≤ length header.now }
     requires terms { body.now ≡ drop 36 header.now }
-    ensures ok { IfOk result (λ text. IsBlockText block stated.now header.now (string_bytes text)) }
-    ensures err { IfErr result (AreNoTerms stated.now body.now) }
+    ensures ok { IfOk result (λ text. IsBlockText block stated.now (map callee_by further.now) header.now (string_bytes text)) }
+    ensures err { IfErr result (AreNoTerms stated.now (map callee_by further.now) body.now) }
     ensures place { IfErr result (λ e. IfSome (offset_of e) (λ offset. offset ≤ length body.now)) }
 {
-    let own = own_arities(alloc, body, stated)?;
+    let own = own_arities(alloc, body, stated, further)?;
     let whole = standard_terms(body, &own)?;
-    let terms = in_scopes(alloc, stated, &own, whole)?;
+    let terms = in_scopes(alloc, stated, further, &own, whole)?;
     let text = text_of_terms(alloc, block, header, &terms)?;
     Ok(text)
 }
 
 /// Returns the text of a definition block. Its terms are read in the language of the standard. Names take the stated numbers of
-/// arguments, or else those of the block's own methods, in a method those of the nearest ones (ACPI 6.5, 5.3). The errors are those of `standard_terms`, with offsets from the first
-/// byte after the header.
+/// arguments, or else those of the methods of the block and of further blocks: in a method those of the nearest ones (ACPI 6.5,
+/// 5.3). The errors are those of `standard_terms`, with offsets from the first byte after the header.
 pub fn text_of_block(
     alloc: Global,
     block: BlockText,
     stated: &Arities,
+    further: &[Method],
     bytes: &[u8],
 ) -> Result<String, ReadError>
     requires { 36 ≤ length bytes.now }
-    ensures ok { IfOk result (λ text. IsBlockText block stated.now bytes.now (string_bytes text)) }
-    ensures err { IfErr result (AreNoTerms stated.now (drop 36 bytes.now)) }
+    ensures ok { IfOk result (λ text. IsBlockText block stated.now (map callee_by further.now) bytes.now (string_bytes text)) }
+    ensures err { IfErr result (AreNoTerms stated.now (map callee_by further.now) (drop 36 bytes.now)) }
     ensures place { IfErr result (λ e. IfSome (offset_of e) (λ offset. 36 + offset ≤ length bytes.now)) }
 {
     let (_, body) = bytes.split_at(BODY);
-    text_of_body(alloc, block, stated, bytes, body)
+    text_of_body(alloc, block, stated, further, bytes, body)
+}
+
+/// Returns the text of a definition block of which not all can be read. A term that can't be read is shown as a comment, with its
+/// bytes and all that follow them in their list, and with the cause; the other terms are shown as in `text_of_block`.
+pub fn text_in_part(
+    alloc: Global,
+    block: BlockText,
+    stated: &Arities,
+    further: &[Method],
+    bytes: &[u8],
+) -> Result<String, AllocError>
+    requires { 36 ≤ length bytes.now }
+    ensures { IfOk result (λ text. IsTextInPart block stated.now (map callee_by further.now) bytes.now (string_bytes text)) }
+{
+    let (_, body) = bytes.split_at(BODY);
+    let own = own_arities_in_part(alloc, body, stated, further)?;
+    let whole = terms_in_part(body, &own)?;
+    let terms = in_scopes(alloc, stated, further, &own, whole)?;
+    text_of_terms(alloc, block, bytes, &terms)
 }

@@ -18,4 +18,5 @@ pub mod place;
 mod row;
 mod special;
 mod template;
+mod unread;
 mod word;

@@ -63,6 +63,7 @@ pub fn push_word(kind: Kind<'_>, width: u8, text: &mut String) -> Result<(), All
         Kind::BankField(..) => text.push_str("BankField"),
         Kind::Fatal(..) => text.push_str("Fatal"),
         Kind::MatchTest(code) => push_keyword(Keyword::MatchOperator, code, text),
+        Kind::Unread(..) => Ok(()),
     }
 }
 
@@ -342,6 +343,7 @@ pub fn push_own(kind: Kind<'_>, count: usize, text: &mut String) -> Result<(), A
         | Kind::While
         | Kind::Else
         | Kind::MatchTest(_)
+        | Kind::Unread(..)
         | Kind::Op(_) => Ok(()),
     }
 }

@@ -144,7 +144,8 @@ fn push_byte(depth: usize, index: usize, byte: u8, text: &mut String) -> Result<
     push_hex(1, u64::from(byte), text)
 }
 
-fn push_bytes(depth: usize, bytes: &[u8], text: &mut String) -> Result<(), AllocError>
+/// Adds bytes in rows of eight, each row on a line of this depth.
+pub fn push_bytes(depth: usize, bytes: &[u8], text: &mut String) -> Result<(), AllocError>
     ensures { OnOk result (string_bytes text.new ≡ string_bytes text.old ++ bytes_text depth 0 bytes.now) }
 {
     for i in 0..bytes.len() {

@@ -8,7 +8,7 @@ ghost use Rattle.acpi_asl.specs.Opening.{opening};
 ghost use Rattle.acpi_asl.specs.Place.{is_null, new_line};
 ghost use Rattle.acpi_asl.specs.Special.{is_external, are_external, is_end, after_first, is_zero_first, is_external_block};
 ghost use Rattle.acpi_asl.specs.Special.{externals_text, is_shortest, has_size, is_template_buffer, is_uuid, is_id_number};
-ghost use Rattle.acpi_asl.specs.Special.{to_uuid, is_special, special_text};
+ghost use Rattle.acpi_asl.specs.Special.{to_uuid, is_unread, is_special, special_text};
 ghost use Rattle.acpi_asl.specs.Template.{template_text};
 
 use crate::eisa::{is_eisa, push_eisa};
@@ -16,6 +16,7 @@ use crate::number::least_bytes;
 use crate::opening::push_opening;
 use crate::place::{Place, is_left_out, is_null, push_line};
 use crate::template::{is_template, push_template};
+use crate::unread::push_unread;
 use acpi_term::apart::{Kind, Parts, parts_of};
 use acpi_term::term::Term;
 use acpi_terms_text::uuid::push_uuid;
@@ -224,6 +225,15 @@ fn is_id_number(place: Place, kind: Kind<'_>, width: u8) -> bool
     }
 }
 
+fn is_unread(kind: Kind<'_>) -> bool
+    ensures { result ≡ is_unread (head_of kind.entry) }
+{
+    match kind {
+        Kind::Unread(..) => true,
+        _ => false,
+    }
+}
+
 /// Whether a term in a place is special.
 pub fn is_special(place: Place, parts: Parts<'_>) -> bool
     ensures { result ≡ is_special place (head_of parts.entry.kind) parts.entry.width
@@ -234,6 +244,7 @@ pub fn is_special(place: Place, parts: Parts<'_>) -> bool
         || is_external_block(parts.kind, parts.first, parts.others)
         || is_uuid(place, parts.kind, parts.first, parts.others)
         || is_template_buffer(parts.kind, parts.first, parts.others)
+        || is_unread(parts.kind)
 }
 
 fn push_special_number(
@@ -291,6 +302,7 @@ pub fn push_special(
             let uuid = is_uuid_buffer(place, bytes, parts.first, parts.others);
             push_buffer(uuid, depth, bytes, text)
         }
+        Kind::Unread(error, bytes) => push_unread(error, bytes, depth, text),
         _ => {
             let (more, rest) = after_first(parts.first, parts.others);
             push_block(depth, more, rest, text)

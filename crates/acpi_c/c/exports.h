@@ -19,6 +19,7 @@ uint32_t hyssop_export_names(const void *bytes, size_t bytes_size, const void *a
 uint32_t hyssop_export_check_image(const void *bytes, size_t bytes_size, uint64_t base, uint64_t rsdp, uint64_t *place);
 uint32_t hyssop_export_image_tables(const void *bytes, size_t bytes_size, uint64_t base, uint64_t rsdp,
                                     struct hyssop_image_table *out, size_t out_size, size_t *size, uint64_t *place);
+uint32_t hyssop_export_find_rsdp(const void *bytes, size_t bytes_size, size_t *offset);
 uint32_t hyssop_export_show(const void *bytes, size_t bytes_size, void *out, size_t out_size, size_t *size, uint64_t *place);
 uint32_t hyssop_export_findings(const void *bytes, size_t bytes_size, void *out, size_t out_size, size_t *size, uint64_t *place);
 uint32_t hyssop_export_make(const void *text, size_t text_size, void *out, size_t out_size, size_t *size, uint64_t *place);
@@ -83,6 +84,18 @@ uint32_t hyssop_export_interrupt(void *bytes, size_t bytes_size, struct hyssop_s
 uint32_t hyssop_export_memory32_fixed(void *bytes, size_t bytes_size, struct hyssop_state *state, bool read_write, uint32_t base,
                                       uint32_t length);
 uint32_t hyssop_export_bus_numbers(void *bytes, size_t bytes_size, struct hyssop_state *state, uint16_t min, uint16_t max);
+uint32_t hyssop_export_add_fields(void *bytes, size_t bytes_size, struct hyssop_state *state);
+uint32_t hyssop_export_add_structure(void *bytes, size_t bytes_size, struct hyssop_state *state, uint32_t kind, size_t *offset);
+uint32_t hyssop_export_end_structure(void *bytes, size_t bytes_size, struct hyssop_state *state, size_t offset);
+uint32_t hyssop_export_set_number(void *bytes, size_t bytes_size, struct hyssop_state *state, size_t offset, const void *name,
+                                  size_t name_size, uint64_t value);
+uint32_t hyssop_export_set_bytes(void *bytes, size_t bytes_size, struct hyssop_state *state, size_t offset, const void *name,
+                                 size_t name_size, const void *content, size_t content_size);
+uint32_t hyssop_export_overwrite(void *bytes, size_t bytes_size, struct hyssop_state *state, size_t offset, const void *content,
+                                 size_t content_size);
+uint32_t hyssop_export_add_number(void *bytes, size_t bytes_size, struct hyssop_state *state, size_t width, uint64_t value);
+uint32_t hyssop_export_io_range32(void *bytes, size_t bytes_size, struct hyssop_state *state, uint32_t min, uint32_t max,
+                                  uint32_t translation);
 uint32_t hyssop_export_io_range(void *bytes, size_t bytes_size, struct hyssop_state *state, uint16_t min, uint16_t max,
                                 uint16_t translation);
 uint32_t hyssop_export_memory_range32(void *bytes, size_t bytes_size, struct hyssop_state *state, uint32_t memory_type,

@@ -131,6 +131,13 @@ enum hyssop_fault hyssop_image_tables(const void *bytes, size_t bytes_size, uint
                                                          size_or(count, &unwanted), place_or(place, &unwanted));
 }
 
+enum hyssop_fault hyssop_find_rsdp(const void *bytes, size_t bytes_size, size_t *offset) {
+    struct unwanted unwanted;
+    if (is_null(bytes, bytes_size))
+        return null(offset, NULL);
+    return (enum hyssop_fault)hyssop_export_find_rsdp(input(bytes), bytes_size, size_or(offset, &unwanted));
+}
+
 enum hyssop_fault hyssop_show(const void *bytes, size_t bytes_size, char *out, size_t out_size, size_t *size, uint64_t *place) {
     struct unwanted unwanted;
     if (is_null(bytes, bytes_size) || is_null(out, out_size))
@@ -452,6 +459,13 @@ enum hyssop_fault hyssop_io_range(struct hyssop_writer *writer, uint16_t min, ui
                                                      translation);
 }
 
+enum hyssop_fault hyssop_io_range32(struct hyssop_writer *writer, uint32_t min, uint32_t max, uint32_t translation) {
+    if (is_unusable(writer))
+        return null_of(writer);
+    return (enum hyssop_fault)hyssop_export_io_range32(output(writer->bytes), writer->bytes_size, &writer->state, min, max,
+                                                       translation);
+}
+
 enum hyssop_fault hyssop_memory_range32(struct hyssop_writer *writer, uint32_t memory_type, int read_write, uint32_t min,
                                         uint32_t max, uint32_t translation) {
     if (is_unusable(writer))
@@ -475,6 +489,57 @@ enum hyssop_fault hyssop_table(struct hyssop_writer *writer, const char *signatu
     return (enum hyssop_fault)hyssop_export_table(output(writer->bytes), writer->bytes_size, &writer->state, signature,
                                                   strlen(signature), revision, oem_id, strlen(oem_id), oem_table_id,
                                                   strlen(oem_table_id), oem_revision);
+}
+
+enum hyssop_fault hyssop_add_fields(struct hyssop_writer *writer) {
+    if (is_unusable(writer))
+        return null_of(writer);
+    return (enum hyssop_fault)hyssop_export_add_fields(output(writer->bytes), writer->bytes_size, &writer->state);
+}
+
+enum hyssop_fault hyssop_add_structure(struct hyssop_writer *writer, uint32_t kind, size_t *offset) {
+    struct unwanted unwanted;
+    if (is_unusable(writer)) {
+        if (offset != NULL)
+            *offset = 0;
+        return null_of(writer);
+    }
+    return (enum hyssop_fault)hyssop_export_add_structure(output(writer->bytes), writer->bytes_size, &writer->state, kind,
+                                                          size_or(offset, &unwanted));
+}
+
+enum hyssop_fault hyssop_end_structure(struct hyssop_writer *writer, size_t offset) {
+    if (is_unusable(writer))
+        return null_of(writer);
+    return (enum hyssop_fault)hyssop_export_end_structure(output(writer->bytes), writer->bytes_size, &writer->state, offset);
+}
+
+enum hyssop_fault hyssop_set_number(struct hyssop_writer *writer, size_t offset, const char *name, uint64_t value) {
+    if (is_unusable(writer) || name == NULL)
+        return null_of(writer);
+    return (enum hyssop_fault)hyssop_export_set_number(output(writer->bytes), writer->bytes_size, &writer->state, offset, name,
+                                                       strlen(name), value);
+}
+
+enum hyssop_fault hyssop_set_bytes(struct hyssop_writer *writer, size_t offset, const char *name, const void *content,
+                                   size_t content_size) {
+    if (is_unusable(writer) || name == NULL || is_null(content, content_size))
+        return null_of(writer);
+    return (enum hyssop_fault)hyssop_export_set_bytes(output(writer->bytes), writer->bytes_size, &writer->state, offset, name,
+                                                      strlen(name), input(content), content_size);
+}
+
+enum hyssop_fault hyssop_overwrite(struct hyssop_writer *writer, size_t offset, const void *content, size_t content_size) {
+    if (is_unusable(writer) || is_null(content, content_size))
+        return null_of(writer);
+    return (enum hyssop_fault)hyssop_export_overwrite(output(writer->bytes), writer->bytes_size, &writer->state, offset,
+                                                      input(content), content_size);
+}
+
+enum hyssop_fault hyssop_add_number(struct hyssop_writer *writer, size_t width, uint64_t value) {
+    if (is_unusable(writer))
+        return null_of(writer);
+    return (enum hyssop_fault)hyssop_export_add_number(output(writer->bytes), writer->bytes_size, &writer->state, width, value);
 }
 
 enum hyssop_fault hyssop_finish(const struct hyssop_writer *writer, size_t *size, uint64_t *place) {

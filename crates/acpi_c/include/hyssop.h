@@ -32,7 +32,7 @@ extern "C" {
 #endif
 
 /* hyssop_version() returns this, if the library fits this header. It grows when a function or a fault changes. */
-#define HYSSOP_VERSION 5
+#define HYSSOP_VERSION 6
 
 /* The type of a structure, if the structures of its table have none. */
 #define HYSSOP_NO_KIND SIZE_MAX
@@ -75,6 +75,7 @@ enum hyssop_fault {
     HYSSOP_FAULT_LAY_NO_FACS = 61, /* no table is a FACS, and the FADT doesn't have the flag HW_REDUCED_ACPI */
     HYSSOP_FAULT_LAY_SHORT_FADT = 62, /* the FADT has no field X_DSDT */
     HYSSOP_FAULT_LAY_NO_SPACE = 63, /* the tables end after the last address */
+    HYSSOP_FAULT_NO_POINTER = 64, /* no RSDP is at a multiple of 16 */
     HYSSOP_FAULT_WANTS_PRINTING = 65, /* expected a character that prints */
     HYSSOP_FAULT_WANTS_SPACE = 66, /* expected a space */
     HYSSOP_FAULT_WANTS_VALUE = 67, /* expected a value */
@@ -114,7 +115,8 @@ enum hyssop_fault {
     HYSSOP_FAULT_STILL_OPEN = 108, /* an object is still open */
     HYSSOP_FAULT_TOO_MANY_OPEN = 109, /* at most 32 objects are open at a time */
     HYSSOP_FAULT_WRITER_STATE = 110, /* a writer isn't as its last call left it */
-    HYSSOP_FAULT_NOT_EMPTY = 111 /* a table begins in an empty writer */
+    HYSSOP_FAULT_NOT_EMPTY = 111, /* a table begins in an empty writer */
+    HYSSOP_FAULT_OUTSIDE = 112 /* nothing is written at this offset */
 };
 
 /* A structure of a table: its offset in the table, its type or HYSSOP_NO_KIND, and the number of its bytes. */
@@ -258,6 +260,9 @@ HYSSOP_RESULT enum hyssop_fault hyssop_check_image(const void *bytes, size_t byt
 HYSSOP_RESULT enum hyssop_fault hyssop_image_tables(const void *bytes, size_t bytes_size, uint64_t base, uint64_t rsdp,
                                                     struct hyssop_image_table *out, size_t out_count, size_t *count,
                                                     uint64_t *place);
+
+/* Finds the RSDP in memory (5.2.5.1), at a multiple of 16 bytes. *offset is where it is, and 0 with a fault. It takes no memory. */
+HYSSOP_RESULT enum hyssop_fault hyssop_find_rsdp(const void *bytes, size_t bytes_size, size_t *offset);
 
 /* Writes the text of a table, an RSDP or a FACS: a line for each field, by its name. *place is an offset. */
 HYSSOP_RESULT enum hyssop_fault hyssop_show(const void *bytes, size_t bytes_size, char *out, size_t out_size, size_t *size,
@@ -415,6 +420,9 @@ enum hyssop_fault hyssop_bus_numbers(struct hyssop_writer *writer, uint16_t min,
 /* Writes a range of ports, from its first to its last, and what a bridge adds to them (6.4.3.5). */
 enum hyssop_fault hyssop_io_range(struct hyssop_writer *writer, uint16_t min, uint16_t max, uint16_t translation);
 
+/* Writes a range of ports as hyssop_io_range does, with a translation of 32 bits, as for ports that are in memory. */
+enum hyssop_fault hyssop_io_range32(struct hyssop_writer *writer, uint32_t min, uint32_t max, uint32_t translation);
+
 /* Writes a range of memory below 2^32: how it is cached, a HYSSOP_MEMORY_.., its first and its last address, and what a bridge
    adds to them (6.4.3.5). */
 enum hyssop_fault hyssop_memory_range32(struct hyssop_writer *writer, uint32_t memory_type, int read_write, uint32_t min,
@@ -427,6 +435,32 @@ enum hyssop_fault hyssop_memory_range64(struct hyssop_writer *writer, uint32_t m
 /* Begins a table in an empty writer with its header (5.2.6). The signature has 4 bytes, the OEM ID 6 and the OEM Table ID 8. */
 enum hyssop_fault hyssop_table(struct hyssop_writer *writer, const char *signature, uint8_t revision, const char *oem_id,
                                const char *oem_table_id, uint32_t oem_revision);
+
+/* Adds the fields of the table that aren't written yet, up to its first list or its first structure. All are zero. */
+enum hyssop_fault hyssop_add_fields(struct hyssop_writer *writer);
+
+/* Adds a structure of a type to the table, after the fields of the table: the fields of the structure up to its first list. All
+   are zero, but its type and its length. The table gets the number of its structures and the offset of the first, if it has
+   fields for them. A table whose structures have no types takes the type 0. *offset is where the structure begins, and 0 with a
+   fault. It may be NULL. */
+enum hyssop_fault hyssop_add_structure(struct hyssop_writer *writer, uint32_t kind, size_t *offset);
+
+/* Ends the structure at an offset, to which bytes were added: its length is the number of the bytes from there on. */
+enum hyssop_fault hyssop_end_structure(struct hyssop_writer *writer, size_t offset);
+
+/* Sets a field to a number: the first with this name of the structure at an offset, or of the table itself at 0. docs/FIELDS.md
+   has the names. Fields in a list, and those after the first list, aren't sought. */
+enum hyssop_fault hyssop_set_number(struct hyssop_writer *writer, size_t offset, const char *name, uint64_t value);
+
+/* Sets such a field to bytes, of which it takes as many as it has. A register has 12. */
+enum hyssop_fault hyssop_set_bytes(struct hyssop_writer *writer, size_t offset, const char *name, const void *content,
+                                   size_t content_size);
+
+/* Writes bytes over those that are written at an offset. */
+enum hyssop_fault hyssop_overwrite(struct hyssop_writer *writer, size_t offset, const void *content, size_t content_size);
+
+/* Writes a number of `width` bytes, at most 8, lowest byte first. */
+enum hyssop_fault hyssop_add_number(struct hyssop_writer *writer, size_t width, uint64_t value);
 
 /* Ends a writer: *size is the number of the bytes that are written. It returns the first fault, or HYSSOP_FAULT_STILL_OPEN if an
    object is open. Then *size is 0, and *place is how many bytes were written before the fault. */

@@ -7,7 +7,8 @@ ghost use Rattle.acpi_c_calls.specs.Resource.{bus_numbers, io_range, memory_rang
 ghost use Rattle.acpi_c_calls.specs.Writer.{Writes, adds, adds_bytes, piece_of};
 
 use acpi_c_calls::resource::{
-    bus_numbers, interrupt, io, io_range, memory_range32, memory_range64, memory32_fixed,
+    bus_numbers, interrupt, io, io_range, io_range32, memory_range32, memory_range64,
+    memory32_fixed,
 };
 use acpi_c_calls::state::State;
 
@@ -90,6 +91,20 @@ pub extern "C" fn hyssop_export_io_range(
     ensures { Writes (adds (piece_of (word_space (io_range min max translation)))) bytes.old state.old bytes.new state.new result }
 {
     io_range(bytes, state, min, max, translation)
+}
+
+/// Writes a range of ports with 32 bits.
+#[unsafe(no_mangle)]
+pub extern "C" fn hyssop_export_io_range32(
+    bytes: &mut [u8],
+    state: &mut State,
+    min: u32,
+    max: u32,
+    translation: u32,
+) -> u32
+    ensures { Writes (adds (piece_of (dword_space (io_range min max translation)))) bytes.old state.old bytes.new state.new result }
+{
+    io_range32(bytes, state, min, max, translation)
 }
 
 /// Writes a range of memory below 2^32.

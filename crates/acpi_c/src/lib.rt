@@ -3,6 +3,7 @@
 #![tactic(auto)]
 
 mod descriptor;
+mod field;
 mod open;
 mod read;
 mod table;

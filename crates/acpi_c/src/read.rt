@@ -6,6 +6,7 @@ ghost use Rattle.acpi_base.specs.Table.{IsTrueTable};
 ghost use Rattle.acpi_asl.specs.declared.block.BlockText.TheVariants as blocks;
 ghost use Rattle.acpi_c_calls.specs.Aml.{AreTerms, IsAmlRefusal};
 ghost use Rattle.acpi_c_calls.specs.Block.{IsBlock, IsBlockRefusal};
+ghost use Rattle.acpi_c_calls.specs.Find.{Finds};
 ghost use Rattle.acpi_c_calls.specs.Findings.{AreFindings};
 ghost use Rattle.acpi_c_calls.specs.Results.{Checks, Gives, GivesAnywhere};
 ghost use Rattle.acpi_c_calls.specs.Image.{IsImageOfTables, AreImageTables, IsImageRefusal};
@@ -19,6 +20,7 @@ ghost use Rattle.acpi_c_calls.specs.Table.{IsTableRefusal};
 
 use acpi_c_calls::aml::check_aml;
 use acpi_c_calls::block::{disassemble, names};
+use acpi_c_calls::find::find_rsdp;
 use acpi_c_calls::findings::findings;
 use acpi_c_calls::image::{ImageTable, check_image, image_tables};
 use acpi_c_calls::make::{make, template};
@@ -150,6 +152,14 @@ pub extern "C" fn hyssop_export_image_tables(
         size.new }
 {
     image_tables(alloc, bytes, base, rsdp, out, size, place)
+}
+
+/// Finds the Root System Description Pointer in memory.
+#[unsafe(no_mangle)]
+pub extern "C" fn hyssop_export_find_rsdp(bytes: &[u8], offset: &mut usize) -> u32
+    ensures { Finds bytes.now offset.new result }
+{
+    find_rsdp(bytes, offset)
 }
 
 /// Writes the text of a table.

@@ -606,6 +606,7 @@ static void try_random(const uint8_t *table, size_t count) {
 /* ---- writers */
 
 #include "writers.h"
+#include "structures.h"
 
 /* ---- refused memory */
 
@@ -687,6 +688,7 @@ int main(int count, char **files) {
     try_template();
     try_arguments();
     try_writers();
+    try_added();
     size_t length = read_file(files[1], bytes);
     try_image(bytes, length, strtoull(files[2], NULL, 16), strtoull(files[3], NULL, 16));
     for (int i = 4; i < count; i++) {

@@ -62,6 +62,12 @@
     X(fixed, hyssop_memory32_fixed(w, 1, 0xfed00000, 0x400), "\x86\x09\0\x01\0\0\xd0\xfe\0\x04\0\0", "") \
     X(buses, hyssop_bus_numbers(w, 0, 0xff), "\x88\x0d\0\x02\x0c\0\0\0\0\0\xff\0\0\0\0\x01", "") \
     X(ports, hyssop_io_range(w, 0xd00, 0xffff, 2), "\x88\x0d\0\x01\x0c\x03\0\0\0\x0d\xff\xff\x02\0\0\xf3", "") \
+    X(ports32, hyssop_io_range32(w, 0, 0xffff, 0x3eff0000), \
+      "\x87\x17\0\x01\x0c\x03\0\0\0\0\0\0\0\0\xff\xff\0\0\0\0\xff\x3e\0\0\x01\0", "") \
+    X(one_byte, hyssop_add_number(w, 1, 0xfe), "\xfe", "") \
+    X(no_byte, hyssop_add_number(w, 0, 0), "", "") \
+    X(three, hyssop_add_number(w, 3, 0x010203), "\x03\x02\x01", "") \
+    X(eight, hyssop_add_number(w, 8, 0x123456789abcdef0), "\xf0\xde\xbc\x9a\x78\x56\x34\x12", "") \
     X(range32, hyssop_memory_range32(w, HYSSOP_MEMORY_PREFETCHABLE, 0, 0xc0000000, 0xfebfffff, 1), \
       "\x87\x17\0\0\x0c\x06\0\0\0\0\0\0\0\xc0\xff\xff\xbf\xfe\x01\0\0\0\0\0\xc0\x3e", "") \
     X(range64, hyssop_memory_range64(w, HYSSOP_MEMORY_CACHEABLE, 1, 0x800000000, 0x8000000ff, 0x1000000000000002), \
@@ -228,6 +234,8 @@ static void try_refused(void) {
     REFUSED(HYSSOP_FAULT_ADDRESS_RANGE, hyssop_bus_numbers(w, 1, 0));
     REFUSED(HYSSOP_FAULT_ADDRESS_RANGE, hyssop_bus_numbers(w, 0, UINT16_MAX));
     REFUSED(HYSSOP_FAULT_ADDRESS_RANGE, hyssop_io_range(w, 0xd00, 0xcff, 0));
+    REFUSED(HYSSOP_FAULT_ADDRESS_RANGE, hyssop_io_range32(w, 1, 0, 0));
+    REFUSED(HYSSOP_FAULT_ADDRESS_RANGE, hyssop_io_range32(w, 0, UINT32_MAX, 0));
     REFUSED(HYSSOP_FAULT_ADDRESS_RANGE, hyssop_memory_range32(w, 0, 0, 0, UINT32_MAX, 0));
     REFUSED(HYSSOP_FAULT_ADDRESS_RANGE, hyssop_memory_range64(w, 0, 0, 0, UINT64_MAX, 0));
     REFUSED(HYSSOP_FAULT_ADDRESS_RANGE, hyssop_memory_range64(w, 0, 0, 2, 1, 0));

@@ -13,5 +13,7 @@ mod Layings
 mod Paths
 mod Operators
 mod Pieces
+mod Placed
+mod Pointers
 mod Nested
 pub mod Numbers

@@ -1,5 +1,5 @@
 -- Texts of definition blocks.
-use Rattle.std.specs.Prelude.{◌≡◌, ◌⊎◌, ℕ, ◌+◌, true, false, List, drop}
+use Rattle.std.specs.Prelude.{◌≡◌, ◌⊎◌, ℕ, ◌+◌, true, false, List, [], drop}
 use Rattle.std.specs.Option.{option_map}
 use Rattle.acpi_asl.specs.Block.{has_terms, IsBlockText, AreNoTerms}
 use Rattle.acpi_asl.specs.declared.block.BlockText.{BlockText}
@@ -18,7 +18,7 @@ pub record IsBlock (block : BlockText) (arities bytes text : List ℕ) : Type 0 
   pub is_block : has_terms bytes ≡ true
   pub numbers : List (List ℕ × ℕ)
   pub stated : AreStated arities numbers
-  pub is : IsBlockText block numbers bytes text
+  pub is : IsBlockText block numbers [] bytes text
 
 -- a table with another signature
 pub record IsNoBlock (bytes : List ℕ) (refused : Refused) : Type 0 where
@@ -37,7 +37,7 @@ pub record HasNoTerms (arities bytes : List ℕ) (refused : Refused) : Type 0 wh
   pub stated : AreStated arities numbers
   pub error : ReadError
   pub is : refused ≡ by_terms error
-  pub why : AreNoTerms numbers (drop 36 bytes) error
+  pub why : AreNoTerms numbers [] (drop 36 bytes) error
 
 -- why there is no text
 abbrev pub IsBlockRefusal : List ℕ → List ℕ → Refused → Type 0

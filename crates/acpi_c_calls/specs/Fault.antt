@@ -60,6 +60,7 @@ facts fault.LayNoDsdt = known 60 (codes "no table is a DSDT")
 facts fault.LayNoFacs = known 61 (codes "no table is a FACS, and the FADT doesn't have the flag HW_REDUCED_ACPI")
 facts fault.LayShortFadt = known 62 (codes "the FADT has no field X_DSDT")
 facts fault.LayNoSpace = known 63 (codes "the tables end after the last address")
+facts fault.NoPointer = known 64 (codes "no RSDP is at a multiple of 16")
 facts fault.WantsPrinting = known 65 (expected wanted.Printing)
 facts fault.WantsSpace = known 66 (expected wanted.Space)
 facts fault.WantsValue = known 67 (expected wanted.Value)
@@ -100,6 +101,7 @@ facts fault.StillOpen = known 108 (codes "an object is still open")
 facts fault.TooManyOpen = known 109 (codes "at most 32 objects are open at a time")
 facts fault.WriterState = known 110 (codes "a writer isn't as its last call left it")
 facts fault.NotEmpty = known 111 (codes "a table begins in an empty writer")
+facts fault.Outside = known 112 (codes "nothing is written at this offset")
 
 abbrev pub number_of : Fault → ℕ
 number_of f = (facts f).number
@@ -115,7 +117,7 @@ first_faults =
     fault.Opcode ∷ fault.PkgLength ∷ fault.Number ∷ fault.Flags ∷ fault.Text ∷ fault.TooDeep ∷ fault.ImageOutside ∷
     fault.ImageSignature ∷ fault.ImageLength ∷ fault.ImageRevision ∷ fault.ImageSum ∷ fault.ImageEntries ∷ fault.ImageNoFadt ∷
     fault.ImageSecondFadt ∷ fault.ImageOverlap ∷ fault.LayBase ∷ fault.LaySecond ∷ fault.LayNoFadt ∷ fault.LayNoDsdt ∷
-    fault.LayNoFacs ∷ fault.LayShortFadt ∷ fault.LayNoSpace ∷ []
+    fault.LayNoFacs ∷ fault.LayShortFadt ∷ fault.LayNoSpace ∷ fault.NoPointer ∷ []
 
 -- those of texts and writers
 abbrev pub later_faults : List Fault
@@ -126,7 +128,8 @@ later_faults =
     fault.WantsEnd ∷ fault.WantsStructure ∷ fault.WantsWidth ∷ fault.WantsWhole ∷ fault.WantsOneTable ∷ fault.WantsTable ∷
     fault.WantsFieldOf ∷ fault.WantsAnotherNumber ∷ fault.NamePart ∷ fault.PathParts ∷ fault.EisaText ∷ fault.UuidText ∷
     fault.ArgNumber ∷ fault.LocalNumber ∷ fault.MethodArgs ∷ fault.ObjectLength ∷ fault.AddressRange ∷ fault.UnknownChoice ∷
-    fault.OemText ∷ fault.NoneOpen ∷ fault.StillOpen ∷ fault.TooManyOpen ∷ fault.WriterState ∷ fault.NotEmpty ∷ []
+    fault.OemText ∷ fault.NoneOpen ∷ fault.StillOpen ∷ fault.TooManyOpen ∷ fault.WriterState ∷ fault.NotEmpty ∷
+    fault.Outside ∷ []
 
 abbrev pub fault_among : List Fault → ℕ → Option Fault
 fault_among faults n = find (λ f. number_of f == n) faults

@@ -8,6 +8,7 @@ pub mod Block
 pub mod Image
 pub mod Show
 pub mod Findings
+pub mod Find
 pub mod Make
 pub mod Notes
 pub mod Names
@@ -20,6 +21,11 @@ pub mod Field
 pub mod Resource
 pub mod Finish
 pub mod Begin
+pub mod Seek
+pub mod Over
+pub mod Add
+pub mod Set
+pub mod Formed
 pub mod Nested
 pub mod Lay
 pub mod Laws

@@ -1,6 +1,6 @@
 //! Texts of definition blocks.
 
-ghost use Rattle.std.specs.Prelude.{◌≡◌, ◌≤◌, ◌+◌, ◌<◌, ◌^◌, true, length, drop, IfOk, IfErr, IfSome, string_bytes};
+ghost use Rattle.std.specs.Prelude.{◌≡◌, ◌≤◌, ◌+◌, ◌<◌, ◌^◌, [], true, length, drop, IfOk, IfErr, IfSome, string_bytes};
 ghost use Rattle.acpi_asl.specs.Block.{has_terms, IsBlockText, AreNoTerms};
 ghost use Rattle.acpi_asl.specs.declared.block.BlockText.TheVariants as blocks;
 ghost use Rattle.acpi_base.specs.Table.{IsTrueTable};
@@ -38,11 +38,11 @@ fn text_of(
     numbers: &Arities,
 ) -> Result<Vec<u8>, Refused>
     requires { 36 ≤ length bytes.now }
-    ensures ok { IfOk result (λ text. IsBlockText block numbers.now bytes.now text.items) }
+    ensures ok { IfOk result (λ text. IsBlockText block numbers.now [] bytes.now text.items) }
     ensures err { IfErr result (λ refused. (error : ReadError) × (refused ≡ by_terms error)
-        × AreNoTerms numbers.now (drop 36 bytes.now) error) }
+        × AreNoTerms numbers.now [] (drop 36 bytes.now) error) }
 {
-    match text_of_block(alloc, block, numbers, bytes) {
+    match text_of_block(alloc, block, numbers, &[], bytes) {
         Ok(text) => Ok(text.into_bytes()),
         Err(error) => Err(of_terms(error)),
     }

@@ -43,6 +43,7 @@ pub enum Fault {
     LayNoFacs,
     LayShortFadt,
     LayNoSpace,
+    NoPointer,
     WantsPrinting,
     WantsSpace,
     WantsValue,
@@ -83,6 +84,7 @@ pub enum Fault {
     TooManyOpen,
     WriterState,
     NotEmpty,
+    Outside,
 }
 
 /// Every fault: its number and its words. Those of texts and writers come after those of tables, AML and images.
@@ -125,6 +127,7 @@ macro_rules! faults {
             LayNoFacs 61 "no table is a FACS, and the FADT doesn't have the flag HW_REDUCED_ACPI"
             LayShortFadt 62 "the FADT has no field X_DSDT"
             LayNoSpace 63 "the tables end after the last address"
+            NoPointer 64 "no RSDP is at a multiple of 16"
             ;
             WantsPrinting 65 "expected a character that prints"
             WantsSpace 66 "expected a space"
@@ -166,6 +169,7 @@ macro_rules! faults {
             TooManyOpen 109 "at most 32 objects are open at a time"
             WriterState 110 "a writer isn't as its last call left it"
             NotEmpty 111 "a table begins in an empty writer"
+            Outside 112 "nothing is written at this offset"
         }
     };
 }

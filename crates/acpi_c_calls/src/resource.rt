@@ -91,6 +91,23 @@ pub fn io_range(bytes: &mut [u8], state: &mut State, min: u16, max: u16, transla
     )
 }
 
+/// Writes a range of ports with 32 bits, as `io_range` does (ACPI 6.5, 6.4.3.5.2): ports of a bridge that are in memory may have
+/// a translation of 32 bits.
+#[tactic(auto, using(crate::proofs::Pieces::space_few, crate::proofs::Pieces::space_dry))]
+pub fn io_range32(bytes: &mut [u8], state: &mut State, min: u32, max: u32, translation: u32) -> u32
+    ensures { Writes (adds (piece_of (dword_space (io_range min max translation))))
+        bytes.old state.old bytes.new state.new result }
+{
+    if state.fault != 0 {
+        return state.fault;
+    }
+    put_object(
+        bytes,
+        state,
+        &AddressSpace::<u32>::new_io(min, max, Some(translation)),
+    )
+}
+
 // How memory may be cached, by its number.
 fn memory_type(number: u32) -> Option<AddressSpaceCacheable>
     ensures { result ≡ memory_type number }

@@ -2,17 +2,19 @@
 
 ghost use Rattle.std.specs.Prelude.{◌≡◌, ◌≢◌, ◌++◌, [], ◌∷◌, OnOk, IfOk, IfErr, None, Some};
 ghost use Rattle.acpi_base.specs.Object.{whole, Builds, IsOwnEnd};
-ghost use Rattle.acpi_term.specs.Row.{row, field_flags, entry_bytes, entries_bytes, entries_end};
-ghost use Rattle.acpi_aml.specs.Field.{access_number, lock_number, update_number, entry_of, entries_of};
+ghost use Rattle.acpi_term.specs.Row.{row, field_flags, entries_bytes, entries_end};
+ghost use Rattle.acpi_aml.specs.Field.{access_number, lock_number, update_number, entries_of};
 ghost use Rattle.acpi_ops.specs.Field.{index_field_head, bank_field_head};
 
 use crate::operator::Operation;
-use acpi_aml::field::{FieldAccessType, FieldEntry, FieldLockRule, FieldUpdateRule};
+use acpi_aml::field::{
+    FieldAccessType, FieldEntry, FieldLockRule, FieldUpdateRule, append_entries,
+};
 use acpi_aml::path::Path;
 use acpi_base::buffer::append_value;
 use acpi_base::error::{Error, R};
 use acpi_base::object::Aml;
-use acpi_term::row::{field_length, framed};
+use acpi_term::row::framed;
 use std::alloc::Global;
 
 /// Names for bits that are reached by two other fields: a field takes the index of a byte, and another then has this byte (ACPI
@@ -104,36 +106,4 @@ fn units(
     bytes.push(flags)?;
     append_entries(fields, &mut bytes)?;
     Ok(bytes)
-}
-
-// Writes entries at the end of a vector, in order.
-fn append_entries(entries: &[FieldEntry], bytes: &mut Vec<u8>) -> R<()>
-    ensures ok { OnOk result (bytes.new.items ≡ bytes.old.items ++ entries_bytes (entries_of entries.now)) }
-    ensures end { OnOk result (entries_end (entries_of entries.now) ≡ None) }
-    ensures err { IfErr result (λ e. e ≢ Error.Memory → entries_end (entries_of entries.now) ≡ Some e) }
-{
-    for entry in entries {
-        append_entry(*entry, bytes)?;
-    }
-    Ok(())
-}
-
-fn append_entry(entry: FieldEntry, bytes: &mut Vec<u8>) -> R<()>
-    ensures ok { OnOk result (bytes.new.items ≡ bytes.old.items ++ entry_bytes (entry_of entry)) }
-    ensures end { OnOk result (entries_end (entry_of entry ∷ []) ≡ None) }
-    ensures err { IfErr result (λ e. e ≢ Error.Memory → entries_end (entry_of entry ∷ []) ≡ Some e) }
-{
-    match entry {
-        FieldEntry::Named(name, bits) => {
-            let (length, used) = field_length(bits)?;
-            bytes.extend_from_slice(&name)?;
-            bytes.extend_from_slice(&length[..used])?;
-        }
-        FieldEntry::Reserved(bits) => {
-            let (length, used) = field_length(bits)?;
-            bytes.push(0x00)?;
-            bytes.extend_from_slice(&length[..used])?;
-        }
-    }
-    Ok(())
 }

@@ -50,7 +50,7 @@ enough : (h : Head) (w : ℕ) (c : Terms) (after : List ℕ) → least_of h ≤ 
 unfolding assembled
 enough h w c after le = let long : ltb (count c) (least_of h) ≡ false = le-ltb (count c) (least_of h) le in rw long refl
 
-block_least : (f : Block) → least_of (block_head f) ≡ 0
+pub block_least : (f : Block) → least_of (block_head f) ≡ 0
 block_least (blocks.Scope w name) = refl
 block_least (blocks.Device w name) = refl
 block_least (blocks.Method w name args serialized) = refl
@@ -70,7 +70,7 @@ block_mode (blocks.LeveledMethod w name args serialized level) = refl
 block_mode (blocks.Processor w name id address size) = refl
 block_mode (blocks.ThermalZone w name) = refl
 
-first_least : (f : FirstAndBlock) → least_of (first_head f) ≡ 1
+pub first_least : (f : FirstAndBlock) → least_of (first_head f) ≡ 1
 first_least (firsts.VarPackage w) = refl
 first_least (firsts.If w) = refl
 first_least (firsts.While w) = refl

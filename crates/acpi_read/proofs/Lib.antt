@@ -6,6 +6,7 @@ pub mod Strings
 pub mod Within
 pub mod TermLists
 pub mod Closings
+pub mod InParts
 pub mod Refusals
 pub mod Texts
 pub mod Dotted

@@ -3,6 +3,7 @@ pub mod Cause
 pub mod TermReader
 pub mod TermStart
 pub mod Terms
+pub mod InPart
 pub mod Pieces
 pub mod Report
 pub mod Lines

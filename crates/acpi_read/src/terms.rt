@@ -3,6 +3,7 @@
 mod cause;
 mod field;
 mod frame;
+pub mod in_part;
 mod name;
 mod open;
 mod text;
@@ -19,7 +20,7 @@ ghost use Rattle.acpi_term.specs.Tree.{call, def_op_region, def_name, def_packag
 ghost use Rattle.acpi_term.specs.Tree.{def_fatal, match_test};
 ghost use Rattle.acpi_term.specs.View.{view, views, single};
 ghost use Rattle.acpi_read.specs.Cause.{Answers, Gives, IsPlaced, error_kind};
-ghost use Rattle.acpi_read.specs.TermReader.{reads};
+ghost use Rattle.acpi_read.specs.TermReader.{grammar, reads};
 ghost use Rattle.acpi_read.specs.TermStart.{seen, block_head, block_width, first_head, first_width, LiesWithin, IsAlone};
 ghost use Rattle.acpi_read.specs.Terms.{AreRead, IsUnread, AreReadIn, IsUnreadIn};
 
@@ -50,7 +51,9 @@ struct TermReader<'a> {
 impl<'a> TermReader<'a> {
     // The reader of a list of terms.
     fn new(language: Language, arities: &'a Arities) -> TermReader<'a>
-        ensures { reads result ≡ term_at (grammar_of language (arity arities.now)) MAX_DEPTH }
+        ensures reads { reads result ≡ term_at (grammar_of language (arity arities.now)) MAX_DEPTH }
+        ensures grammar { grammar result ≡ grammar_of language (arity arities.now) }
+        ensures depth { result.depth ≡ MAX_DEPTH }
     {
         TermReader {
             language,

@@ -510,7 +510,7 @@ pub mod text {
     pub use acpi_make::fault::{Fault, MakeError, Wanted};
     pub use acpi_make::make::Made;
     pub use acpi_terms_text::annotate::annotated;
-    pub use acpi_terms_text::methods::own_arities;
+    pub use acpi_terms_text::methods::{Method, add_methods_in, own_arities, own_arities_in_part};
     pub use acpi_text::comment::push_comment;
     pub use acpi_text::form::{Choice, Count, Inner, Part, StructureForm, TableForm};
     pub use acpi_text::table::show_by;

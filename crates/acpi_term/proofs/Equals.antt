@@ -11,6 +11,9 @@ use mathlib.Core.Bool.{beq}
 use Rattle.acpi_term.specs.declared.op.Op.{Op}
 use Rattle.acpi_term.specs.declared.op.Op.TheVariants.{LNot}
 use Rattle.acpi_term.specs.contracts.op.Op.{the_type}
+use Rattle.acpi_term.specs.declared.read_error.ReadError.{ReadError}
+use Rattle.acpi_term.specs.declared.read_error.ReadError.TheVariants as errors
+use Rattle.acpi_term.specs.contracts.read_error.ReadErrorPartialEq.TheImpl.{eq-value as eq-error}
 use Rattle.acpi_term.specs.declared.term.TermEntry.{TermEntry}
 use Rattle.acpi_term.specs.declared.term.TermEntry.TheVariants.{Named, Reserved, AccessAs, ExtendedAccessAs, Connection, ConnectionBuffer}
 use Rattle.acpi_term.specs.contracts.term.TermEntryPartialEq.TheImpl.{eq-value}
@@ -21,7 +24,7 @@ use Rattle.acpi_term.specs.declared.term.Term.TheViews.{out-Term, roll-Term, rol
 use Rattle.acpi_term.specs.declared.term.Term.TheBlock.{the_members, the_family, the_depth, member-Term, seen-the_row-Term-0, shape-the_row-Term-0, hidden-the_row-Term-0, shown-the_row-Term-0}
 use Rattle.acpi_term.specs.contracts.term.TermPartialEq.TheImpl.{the_step}
 use Rattle.acpi_term.specs.contracts.term.TermPartialEq.TheImpl.Laws.{local}
-use Rattle.acpi_term.specs.Tree.{Head, number, ones, string, local as local_object, arg, call, def_scope, def_device, def_method, def_power_res, def_field, def_op_region, def_name, def_mutex, def_acquire, def_release, def_buffer, def_package, def_var_package, def_if, def_while, def_else, op, def_external, def_leveled_method, def_processor, def_thermal_zone, def_roomy_package, def_index_field, def_bank_field, def_fatal, match_test}
+use Rattle.acpi_term.specs.Tree.{Head, number, ones, string, local as local_object, arg, call, def_scope, def_device, def_method, def_power_res, def_field, def_op_region, def_name, def_mutex, def_acquire, def_release, def_buffer, def_package, def_var_package, def_if, def_while, def_else, op, def_external, def_leveled_method, def_processor, def_thermal_zone, def_roomy_package, def_index_field, def_bank_field, def_fatal, match_test, unread}
 use Rattle.acpi_term.specs.View.{Parts, entry_view, view, views, view_step}
 
 -- ---- values
@@ -55,6 +58,27 @@ op_itself o = refl
 
 op_same : (a b : Op) → a ≡ b → sameb the_type a b ≡ true
 op_same a b e = rw e (op_itself b)
+
+error_itself : (e : ReadError) → eq-error.it e e ≡ true
+error_itself errors.Memory = refl
+error_itself (errors.Truncated o) = nat_same o o refl
+error_itself (errors.Opcode o) = nat_same o o refl
+error_itself errors.NameText = refl
+error_itself (errors.Length o) = nat_same o o refl
+error_itself (errors.Number o) = nat_same o o refl
+error_itself (errors.Count o) = nat_same o o refl
+error_itself (errors.Flags o) = nat_same o o refl
+error_itself (errors.Text o) = nat_same o o refl
+error_itself (errors.TooDeep o) = nat_same o o refl
+error_itself errors.Arity = refl
+error_itself (errors.ShortHeader o) = nat_same o o refl
+error_itself (errors.TableLength o) = nat_same o o refl
+error_itself (errors.Sum o) = nat_same o o refl
+error_itself (errors.Structure o) = nat_same o o refl
+error_itself (errors.UnknownSource o) = nat_same o o refl
+
+error_same : (a b : ReadError) → a ≡ b → eq-error.it a b ≡ true
+error_same a b e = rw e (error_itself b)
 
 entry_same : (x y : TermEntry) → entry_view x ≡ entry_view y → eq-value.it x y ≡ true
 entry_same (Named name bits w) (Named name' bits' w') e =
@@ -142,6 +166,7 @@ tag (def_index_field a b c d e f) = 28
 tag (def_fatal a b) = 29
 tag (match_test a) = 30
 tag (def_bank_field a b c d e f) = 31
+tag (unread a b) = 32
 
 shape : Term-F Term → ℕ
 shape (Term-F.Number a b) = 0
@@ -176,6 +201,7 @@ shape (Term-F.IndexField a b c d e f g) = 28
 shape (Term-F.Fatal a b c) = 29
 shape (Term-F.MatchTest a b) = 30
 shape (Term-F.BankField a b c d e f g h) = 31
+shape (Term-F.Unread a b) = 32
 
 shape_is : (x : Term-F Term) → tag (seen x).0 ≡ shape x
 unfolding seen tag shape
@@ -211,6 +237,7 @@ shape_is (Term-F.IndexField a b c d e f g) = refl
 shape_is (Term-F.Fatal a b c) = refl
 shape_is (Term-F.MatchTest a b) = refl
 shape_is (Term-F.BankField a b c d e f g h) = refl
+shape_is (Term-F.Unread a b) = refl
 
 differ : (a b : ℕ) → eqb a b ≡ false → a ≡ b → ⊥
 differ a b other e = grind (arith, nat_tests)
@@ -289,6 +316,8 @@ layer n below (Term-F.BankField a name bank value access lock update entries) (T
     let l : map entry_view entries.items ≡ map entry_view entries'.items = cc in
     both _ _ (nat_same a b w) (both _ _ (bytes_same name name' d)
     (both _ _ (bytes_same bank bank' e) (both _ _ (below value.value value'.value (first_view value.value value'.value [] [] c)) (both _ _ (nat_same access access' f) (both _ _ (nat_same lock lock' g) (both _ _ (nat_same update update' k) (entries_same entries.items entries'.items l)))))))
+layer n below (Term-F.Unread error bytes) (Term-F.Unread error' bytes') s h w c =
+    let e : error ≡ error' = cc in let f : bytes.items ≡ bytes'.items = cc in both _ _ (error_same error error' e) (bytes_same bytes.items bytes'.items f)
 layer n below x y s h w c = absurd (differ (shape x) (shape y) refl s)
 
 within_none : (t u : Term) → same_at zero t u ≡ true

@@ -10,7 +10,7 @@ use Rattle.acpi_base.specs.Number.{number_limit, number_bytes}
 use Rattle.acpi_term.specs.declared.op.Op.{Op}
 use Rattle.acpi_term.specs.declared.op.Op.TheVariants.{CreateField}
 use Rattle.acpi_term.specs.declared.mode.Mode.{Mode}
-use Rattle.acpi_term.specs.Tree.{Entry, Head, number, ones, string, local, arg, call, def_scope, def_device, def_method, def_power_res, def_field, def_op_region, def_name, def_mutex, def_acquire, def_release, def_buffer, def_package, def_var_package, def_if, def_while, def_else, op, def_external, def_leveled_method, def_processor, def_thermal_zone, def_roomy_package, def_index_field, def_bank_field, def_fatal, match_test}
+use Rattle.acpi_term.specs.Tree.{Entry, Head, number, ones, string, local, arg, call, def_scope, def_device, def_method, def_power_res, def_field, def_op_region, def_name, def_mutex, def_acquire, def_release, def_buffer, def_package, def_var_package, def_if, def_while, def_else, op, def_external, def_leveled_method, def_processor, def_thermal_zone, def_roomy_package, def_index_field, def_bank_field, def_fatal, match_test, unread}
 use Rattle.acpi_term.specs.Name.{IsNameIn}
 use Rattle.acpi_term.specs.Length.{with_length, FrameFits}
 use Rattle.acpi_term.specs.declared.language.Language.{Language}
@@ -265,6 +265,7 @@ module _ (g : Grammar) (m : Mode) where
       (ap (λ (l : List ℕ). head_at g m (91 ∷ 50 ∷ kind ∷ l)) (append_assoc (le 4 code) inside after) ∙ fatal_opens (kind ∷ (le 4 code ++ (inside ++ after))) f.is_standard.0
       ∙ rw (high_again 4 code (inside ++ after) f.is_standard.2) refl)
   head_again (match_test k) w n inside after f plain nothing = let clash : true ≡ false = sym f.stands ∙ plain in absurd cc
+  head_again (unread error bytes) w n inside after f plain nothing = absurd f.is_standard
 
   -- the same in every place
   pub open_again : (h : Head) (w n : ℕ) (inside after : List ℕ) → IsLegal g m h w n inside → (n ≡ 0 → inside ≡ []) → open_at g m (spelled h w n inside ++ after) ≡ Ok (opened g.language h w n inside after)

@@ -26,7 +26,7 @@ module _ (g : Grammar) (m : Mode) where
       let d = max (depth ts) (depth us) in
       ok_is ts us (sym (reads_shallow d bytes ts s (omega arith)) ∙ reads_shallow d bytes us t (omega arith))
 
-  first_reads : (d : ℕ) (t : Terms) (rest : List ℕ) → AreLegal g m t → depth t ≤ d → counted (term_at g d) (count t) m (spelling t ++ rest) ≡ Ok (t, rest)
+  pub first_reads : (d : ℕ) (t : Terms) (rest : List ℕ) → AreLegal g m t → depth t ≤ d → counted (term_at g d) (count t) m (spelling t ++ rest) ≡ Ok (t, rest)
   first_reads d t rest f shallow = (again g t).several d m rest f ∙ ap (λ b. guarded b (t, rest)) (within_is t d ∙ le-leb (depth t) d shallow)
 
   -- this many terms at the front are these, and the bytes after them are those

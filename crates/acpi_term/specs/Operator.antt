@@ -23,7 +23,7 @@ pub record Facts : Type 0 where
 abbrev pub known : List ℕ → ℕ → List ℕ → Facts
 known code count text = record { opcode = code; operands = count; word = text; language = Written; place = Term }
 
--- an operator that this library doesn't write
+-- an operator that only the standard has
 abbrev pub other : List ℕ → ℕ → List ℕ → Facts
 other code count text = record { opcode = code; operands = count; word = text; language = Standard; place = Term }
 
@@ -116,7 +116,7 @@ language_of o = (facts o).language
 abbrev pub place : Op → Mode
 place o = (facts o).place
 
--- this library writes the operator, with n operands in places of terms
+-- both languages have the operator, with n operands in places of terms
 abbrev pub IsKnown : Op → ℕ → Type 0
 IsKnown o n = facts o ≡ known (opcode o) n (word o)
 

@@ -12,7 +12,7 @@ use Rattle.acpi_term.specs.Tree.{def_acquire, def_release, def_buffer, def_packa
 use Rattle.acpi_term.specs.Tree.{def_if, def_while, def_else, op, Terms, end, term, count, one}
 use Rattle.acpi_term.specs.Tree.{def_external, def_leveled_method, def_processor, def_thermal_zone, def_roomy_package}
 use Rattle.acpi_term.specs.Tree.{def_index_field, def_bank_field}
-use Rattle.acpi_term.specs.Tree.{def_fatal, match_test}
+use Rattle.acpi_term.specs.Tree.{def_fatal, match_test, unread}
 use Rattle.acpi_term.specs.declared.language.Language.TheVariants.{Written, Standard}
 use Rattle.acpi_term.specs.Name.{AreSegments, IsNameIn, IsText, without_parents}
 use Rattle.acpi_term.specs.Length.{limit, least_width, with_length, FrameFits}
@@ -115,6 +115,7 @@ IsStandard l (def_bank_field name bank access lock update entries) = (has l Stan
     × IsNameIn l bank × (access ≤ 5) × (lock ≤ 1) × (update ≤ 2) × AreStandardEntries l entries
 IsStandard l (def_fatal kind code) = (has l Standard ≡ true) × (kind < 2 ^ 8) × (code < 2 ^ 32)
 IsStandard l (match_test k) = (has l Standard ≡ true) × (k ≤ 5)
+IsStandard l (unread error bytes) = ⊥
 IsStandard l _ = Unit {0}
 
 -- An entry's bits fit its width. A buffer's size fits its own width, and the buffer's length counts itself and the content.

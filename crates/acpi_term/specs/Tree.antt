@@ -1,6 +1,7 @@
 -- Terms without their place in memory (ACPI 6.5, 20.2.5): each is a head, a width and its children.
 use Rattle.std.specs.Prelude.{ℕ, suc, max, List, Bool}
 use Rattle.acpi_term.specs.declared.op.Op.{Op}
+use Rattle.acpi_term.specs.declared.read_error.ReadError.{ReadError}
 
 -- An entry of a field (ACPI 6.5, 20.2.5.2). The width of a number of bits is in how many bytes it is written.
 pub data Entry : Type 0 where
@@ -51,7 +52,7 @@ pub data Head : Type 0 where
   def_while : Head
   def_else : Head
   op : Op → Head
-  -- what this library doesn't write: a name that another block defines, its object type and number of arguments
+  -- what only the standard has: a name that another block defines, its object type and number of arguments
   def_external : List ℕ → ℕ → ℕ → Head
   -- name, number of arguments, whether serialized, synchronization level
   def_leveled_method : List ℕ → ℕ → Bool → ℕ → Head
@@ -68,6 +69,8 @@ pub data Head : Type 0 where
   def_fatal : ℕ → ℕ → Head
   -- a test of a Match: a MatchOpcode, whose operand is the child
   match_test : ℕ → Head
+  -- bytes that are no term, up to the end of a list, and why: no language has it
+  unread : ReadError → List ℕ → Head
 
 -- A list of terms: the first one's head, width and children, and the others. The width of a number is the number of its bytes
 -- after the prefix, or 0 for the bytes 00 and 01. The width of a term with a frame is that of its PkgLength, 1 to 4. Any other

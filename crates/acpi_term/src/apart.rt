@@ -7,6 +7,7 @@ ghost use Rattle.acpi_term.specs.View.{head_of, IsApart};
 
 use crate::name_string::NameString;
 use crate::op::Op;
+use crate::read_error::ReadError;
 use crate::term::{Term, TermEntry};
 use std::slice::from_ref;
 
@@ -58,6 +59,8 @@ pub enum Kind<'a> {
     Fatal(u8, u32),
     /// How elements are compared.
     MatchTest(u8),
+    /// Why the bytes are no term, and the bytes.
+    Unread(ReadError, &'a [u8]),
 }
 
 /// The parts of a term. Its children are those of the first list and then those of the second.
@@ -233,6 +236,7 @@ pub fn parts_of(term: &Term) -> Parts<'_>
             from_ref(operand),
             &[],
         ),
+        Term::Unread { error, bytes } => apart(Kind::Unread(*error, bytes), 0, &[], &[]),
     }
 }
 
@@ -277,6 +281,6 @@ pub fn frame_code(kind: Kind<'_>) -> Option<&'static [u8]>
         Kind::Number(_) | Kind::Ones | Kind::Text(_) | Kind::Local(_) | Kind::Arg(_) => None,
         Kind::Call(_) | Kind::OpRegion(..) | Kind::Name(_) | Kind::Mutex(..) => None,
         Kind::Acquire(..) | Kind::Release(_) | Kind::Op(_) | Kind::External(..) => None,
-        Kind::Fatal(..) | Kind::MatchTest(_) => None,
+        Kind::Fatal(..) | Kind::MatchTest(_) | Kind::Unread(..) => None,
     }
 }

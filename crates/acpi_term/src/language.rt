@@ -6,7 +6,7 @@ ghost use Rattle.acpi_term.specs.Language.{has, is_standard};
 /// Which AML is read.
 #[derive(Clone, Copy, Debug, PartialEq, Eq)]
 pub enum Language {
-    /// The terms and names that this library writes.
+    /// The terms and names that `terms` reads: those that the Rust crate writes.
     Written,
     /// These and the others of the standard (ACPI 6.5, 20.2).
     Standard,

@@ -94,8 +94,8 @@ impl ReadError {
         }
     }
 
-    // The text without the offset.
-    fn message(self) -> &'static str
+    /// The error as text, without its offset.
+    pub fn message(self) -> &'static str
         ensures { result.now ≡ message_of self }
     {
         match self {

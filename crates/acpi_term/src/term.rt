@@ -2,6 +2,7 @@
 
 use crate::name_string::NameString;
 use crate::op::Op;
+use crate::read_error::ReadError;
 
 /// The reader reads terms that are nested at most this deep.
 pub const MAX_DEPTH: usize = 255;
@@ -13,8 +14,8 @@ pub enum TermEntry {
     Named([u8; 4], u32, u8),
     /// The bits and the width.
     Reserved(u32, u8),
-    /// AccessField, which says how the fields after it are accessed: AccessType and AccessAttrib. This library doesn't write it,
-    /// nor the entries below.
+    /// AccessField, which says how the fields after it are accessed: AccessType and AccessAttrib. Only the language of the
+    /// standard has it and the entries below.
     AccessAs(u8, u8),
     /// ExtendedAccessField: AccessType, ExtendedAccessAttrib and AccessLength.
     ExtendedAccessAs(u8, u8, u8),
@@ -132,8 +133,8 @@ pub enum Term {
         op: Op,
         operands: Vec<Term>,
     },
-    /// A name that another block defines: its object type, and how many arguments it takes. This library doesn't write it, nor
-    /// the terms below.
+    /// A name that another block defines: its object type, and how many arguments it takes. Only the language of the standard has
+    /// it and the terms below.
     External {
         name: NameString,
         kind: u8,
@@ -199,5 +200,11 @@ pub enum Term {
     MatchTest {
         code: u8,
         operand: Box<Term>,
+    },
+    /// Bytes that are no term: those from a term that can't be read up to the end of the list that it is in. Only a reader that
+    /// goes on after faults makes it, and no bytes spell it. The error is that of reading the term.
+    Unread {
+        error: ReadError,
+        bytes: Vec<u8>,
     },
 }

@@ -9,6 +9,7 @@ use Rattle.acpi_term.specs.Tree.{Head, def_scope, def_device, def_method, def_po
 use Rattle.acpi_term.specs.Tree.{def_processor, def_thermal_zone, def_external, Terms, end, term}
 use Rattle.acpi_read.specs.Lines.{name_text}
 use Rattle.acpi_read.specs.Terms.{AreReadIn}
+use Rattle.acpi_read.specs.InPart.{AreReadInPart}
 
 -- ---- paths as texts, without a root
 
@@ -100,9 +101,35 @@ called all = numbers_from 8 0 all
 abbrev pub predefined : List (List ℕ × ℕ)
 predefined = all_stated 1 (calls (codes "_OSI"))
 
--- The numbers that a caller states, those of the methods of the terms that the bytes spell with the stated numbers, and those of
--- the operating system. If there are several for a name, the first one holds.
-pub record AreOwn (stated : List (List ℕ × ℕ)) (bytes : List ℕ) (all : List (List ℕ × ℕ)) : Type 0 where
+-- The methods of a block's terms, and those of further blocks, which have the same namespace.
+abbrev pub all_methods : Terms → List Callee → List Callee
+all_methods terms further = methods [] terms ++ further
+
+-- The numbers that a caller states, those of methods, and those of the operating system. If there are several for a name, the first
+-- one holds.
+abbrev pub own_numbers : List (List ℕ × ℕ) → List Callee → List (List ℕ × ℕ)
+own_numbers stated all = with_all (with_all stated (called all)) predefined
+
+-- The methods of the terms that can be read of bytes, with the stated numbers.
+pub record AreMethodsIn (stated : List (List ℕ × ℕ)) (bytes : List ℕ) (all : List Callee) : Type 0 where
+  pub terms : Terms
+  pub read : AreReadInPart (grammar_of Standard (arity stated)) bytes terms
+  pub is : all ≡ methods [] terms
+
+-- They were added to others.
+pub record AddMethodsIn (stated : List (List ℕ × ℕ)) (bytes : List ℕ) (old new : List Callee) : Type 0 where
+  pub more : List Callee
+  pub are : AreMethodsIn stated bytes more
+  pub added : new ≡ old ++ more
+
+-- The numbers of the terms that the bytes spell with the stated numbers, and of the methods of further blocks.
+pub record AreOwn (stated : List (List ℕ × ℕ)) (further : List Callee) (bytes : List ℕ) (all : List (List ℕ × ℕ)) : Type 0 where
   pub terms : Terms
   pub read : AreReadIn (grammar_of Standard (arity stated)) bytes terms
-  pub is : all ≡ with_all (with_all stated (called (methods [] terms))) predefined
+  pub is : all ≡ own_numbers stated (all_methods terms further)
+
+-- The same of terms that are read as far as they can be.
+pub record AreOwnInPart (stated : List (List ℕ × ℕ)) (further : List Callee) (bytes : List ℕ) (all : List (List ℕ × ℕ)) : Type 0 where
+  pub own : List Callee
+  pub are : AreMethodsIn stated bytes own
+  pub is : all ≡ own_numbers stated (own ++ further)

@@ -12,7 +12,7 @@ use Rattle.acpi_term.specs.Tree.{def_processor, def_thermal_zone, Terms, end, te
 use Rattle.acpi_term.specs.declared.language.Language.TheVariants.{Standard}
 use Rattle.acpi_term.specs.declared.read_error.ReadError.{ReadError}
 use Rattle.acpi_term.specs.declared.read_error.ReadError.TheVariants.{Memory}
-use Rattle.acpi_terms_text.specs.Methods.{inside, Callee, called, methods, predefined}
+use Rattle.acpi_terms_text.specs.Methods.{inside, Callee, called, all_methods, predefined}
 
 -- ---- the methods that are near to a scope
 
@@ -106,6 +106,7 @@ module _ (stated : List (List ℕ × ℕ)) (all : List Callee) (own : List (List
       × OfBody (body h) (AreScoped (inside scope h) children children') (IsBody (inside scope h) children children') (children' ≡ children)
       × AreScoped scope others others'
 
--- The terms of a block that were read with the numbers `own`, of which each method's body was read with the numbers of its scope.
-abbrev pub AreInScopes : List (List ℕ × ℕ) → List (List ℕ × ℕ) → Terms → Terms → Type 0
-AreInScopes stated own old new = AreScoped stated (methods [] old) own [] old new
+-- The terms of a block that were read with the numbers `own`, of which each method's body was read with the numbers of its scope,
+-- by the block's methods and those of further blocks.
+abbrev pub AreInScopes : List (List ℕ × ℕ) → List Callee → List (List ℕ × ℕ) → Terms → Terms → Type 0
+AreInScopes stated further own old new = AreScoped stated (all_methods old further) own [] old new

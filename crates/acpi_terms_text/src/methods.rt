@@ -11,9 +11,11 @@ ghost use Rattle.acpi_term.specs.Language.{grammar_of};
 ghost use Rattle.acpi_read.specs.Terms.{IsUnreadIn};
 ghost use Rattle.acpi_terms_text.specs.Methods.{placed, opened, inside, after_dots, calls, stated, all_stated};
 ghost use Rattle.acpi_terms_text.specs.Methods.{is_method, callee, callee_by, own_method, numbers, numbers_of, called};
-ghost use Rattle.acpi_terms_text.specs.Methods.{methods, predefined, AreOwn};
+ghost use Rattle.acpi_terms_text.specs.Methods.{methods, predefined, all_methods, own_numbers};
+ghost use Rattle.acpi_terms_text.specs.Methods.{AreOwn, AreOwnInPart, AddMethodsIn};
 
 use acpi_read::report::words::push_named;
+use acpi_read::terms::in_part::terms_in_part;
 use acpi_read::terms::standard_terms;
 use acpi_term::apart::{Kind, parts_of};
 use acpi_term::name_string::{Arities, NameString, name_of};
@@ -206,13 +208,35 @@ fn push_term(
     Ok(())
 }
 
-// Returns the methods of the terms of a block.
-pub(crate) fn methods_of(alloc: Global, terms: &[Term]) -> Result<Vec<Method>, AllocError>
-    ensures { IfOk result (λ all. map callee_by all.items ≡ methods [] (views terms.now)) }
+// Adds a copy of a method.
+fn push_copy(alloc: Global, method: &Method, all: &mut Vec<Method>) -> Result<(), AllocError>
+    ensures { OnOk result (map callee_by all.new.items ≡ map callee_by all.old.items ++ callee_by method.now ∷ []) }
+{
+    push_method(alloc, method.scope.as_str(), &method.name, method.args, all)
+}
+
+// Adds copies of methods.
+fn push_copies(alloc: Global, methods: &[Method], all: &mut Vec<Method>) -> Result<(), AllocError>
+    ensures { OnOk result (map callee_by all.new.items ≡ map callee_by all.old.items ++ map callee_by methods.now) }
+{
+    'copies: for method in methods {
+        push_copy(alloc, method, all)?;
+    }
+    Ok(())
+}
+
+// Returns the methods of the terms of a block, and those of further blocks.
+pub(crate) fn all_methods(
+    alloc: Global,
+    terms: &[Term],
+    further: &[Method],
+) -> Result<Vec<Method>, AllocError>
+    ensures { IfOk result (λ all. map callee_by all.items ≡ all_methods (views terms.now) (map callee_by further.now)) }
 {
     let root = String::new(alloc);
     let mut all = Vec::new(alloc);
     push_terms(alloc, &root, terms, &mut all)?;
+    push_copies(alloc, further, &mut all)?;
     Ok(all)
 }
 
@@ -261,19 +285,62 @@ pub(crate) fn add_predefined(alloc: Global, all: &mut Arities) -> Result<(), All
     add_calls(alloc, "_OSI", 1, all)
 }
 
+// Returns the stated numbers, those of methods, and that of the operating system.
+fn own_numbers(alloc: Global, stated: &Arities, methods: &[Method]) -> Result<Arities, AllocError>
+    ensures { IfOk result (λ all. all ≡ own_numbers stated.now (map callee_by methods.now)) }
+{
+    let mut all = stated.copy(alloc)?;
+    add_methods(alloc, methods, &mut all)?;
+    add_predefined(alloc, &mut all)?;
+    Ok(all)
+}
+
 /// How many arguments names take in a definition block: the stated numbers, those of the methods that the block itself defines,
-/// or declares as external, and that of `_OSI`, which the operating system has (ACPI 6.5, 5.7.2). `bytes` are its terms, without
-/// the header. Each method adds its path from the root, and the path without the root from each of its segments on, as calls may
-/// name it. A name that is stated keeps its number, and a name of several methods has the least of their numbers. The errors are
-/// those of `acpi_read::terms::standard_terms` with the stated numbers.
-pub fn own_arities(alloc: Global, bytes: &[u8], stated: &Arities) -> Result<Arities, ReadError>
-    ensures ok { IfOk result (λ all. AreOwn stated.now bytes.now all) }
+/// or declares as external, those of the methods of further blocks, and that of `_OSI`, which the operating system has (ACPI 6.5,
+/// 5.7.2). `bytes` are its terms, without the header. Each method adds its path from the root, and the path without the root from
+/// each of its segments on, as calls may name it. A name that is stated keeps its number, and a name of several methods has the
+/// least of their numbers. The errors are those of `acpi_read::terms::standard_terms` with the stated numbers.
+pub fn own_arities(
+    alloc: Global,
+    bytes: &[u8],
+    stated: &Arities,
+    further: &[Method],
+) -> Result<Arities, ReadError>
+    ensures ok { IfOk result (λ all. AreOwn stated.now (map callee_by further.now) bytes.now all) }
     ensures err { IfErr result (IsUnreadIn (grammar_of Standard (arity stated.now)) bytes.now) }
 {
     let terms = standard_terms(bytes, stated)?;
-    let methods = methods_of(alloc, &terms)?;
-    let mut all = stated.copy(alloc)?;
-    add_methods(alloc, &methods, &mut all)?;
-    add_predefined(alloc, &mut all)?;
+    let methods = all_methods(alloc, &terms, further)?;
+    let all = own_numbers(alloc, stated, &methods)?;
     Ok(all)
+}
+
+/// Adds the methods of a further definition block, by which it and others have the same namespace (ACPI 6.5, 5.3). `bytes` are its
+/// terms, without the header. The methods are those of the terms that can be read with the stated numbers.
+pub fn add_methods_in(
+    alloc: Global,
+    bytes: &[u8],
+    stated: &Arities,
+    all: &mut Vec<Method>,
+) -> Result<(), AllocError>
+    ensures { OnOk result (AddMethodsIn stated.now bytes.now (map callee_by all.old.items) (map callee_by all.new.items)) }
+{
+    let terms = terms_in_part(bytes, stated)?;
+    let root = String::new(alloc);
+    push_terms(alloc, &root, &terms, all)
+}
+
+/// The numbers of `own_arities` for bytes of which not all can be read: the methods are those of the terms that can.
+pub fn own_arities_in_part(
+    alloc: Global,
+    bytes: &[u8],
+    stated: &Arities,
+    further: &[Method],
+) -> Result<Arities, AllocError>
+    ensures { IfOk result (λ all. AreOwnInPart stated.now (map callee_by further.now) bytes.now all) }
+{
+    let mut methods = Vec::new(alloc);
+    add_methods_in(alloc, bytes, stated, &mut methods)?;
+    push_copies(alloc, further, &mut methods)?;
+    own_numbers(alloc, stated, &methods)
 }

@@ -7,7 +7,7 @@ ghost use Rattle.acpi_terms_text.specs.Methods.{callee_by};
 ghost use Rattle.acpi_terms_text.specs.Scoped.{outer, here, made_in, near, nearest, differ, numbers_in};
 ghost use Rattle.acpi_terms_text.specs.Scoped.{AreReadAgain, AreKept, IsBody, AreScoped, AreInScopes};
 
-use crate::methods::{Method, add_methods, add_predefined, methods_of, opened};
+use crate::methods::{Method, add_methods, add_predefined, all_methods, opened};
 use acpi_base::error::Error;
 use acpi_read::terms::standard_terms;
 use acpi_term::name_string::{Arities, name_of};
@@ -290,16 +290,18 @@ fn scoped_term(
 /// Returns the terms of a definition block, of which each method's body is read by the search rules of names (ACPI 6.5, 5.3). `own`
 /// are the numbers of arguments by which the block was read, and `stated` those of them that a caller states. A call by a name
 /// takes as many arguments as the method of this name in the nearest scope: that of the call, or one around it. Stated numbers come
-/// first, and what no method near has is read as before. A body stays as it is if its bytes spell no terms with these numbers.
+/// first, and what no method near has is read as before. The methods of further blocks count as those of the block itself. A body
+/// stays as it is if its bytes spell no terms with these numbers.
 pub fn in_scopes(
     alloc: Global,
     stated: &Arities,
+    further: &[Method],
     own: &Arities,
     terms: Vec<Term>,
 ) -> Result<Vec<Term>, AllocError>
-    ensures { IfOk result (λ all. AreInScopes stated.now own.now (views terms.items) (views all.items)) }
+    ensures { IfOk result (λ all. AreInScopes stated.now (map callee_by further.now) own.now (views terms.items) (views all.items)) }
 {
-    let methods = methods_of(alloc, &terms)?;
+    let methods = all_methods(alloc, &terms, further)?;
     let numbers = Numbers {
         stated,
         methods: &methods,

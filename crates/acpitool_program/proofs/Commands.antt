@@ -6,7 +6,7 @@ use Rattle.acpitool_program.specs.Command.{begins_with_json, begins_with_bare, a
 use Rattle.acpitool_program.specs.Laws.{Content, option_if, content, AskForOne}
 use Rattle.acpitool_program.specs.declared.command.Command.{Command}
 use Rattle.acpitool_program.specs.declared.command.Command.TheVariants.{Help, Version, Show, Check, Image, Make, Template}
-use Rattle.acpitool_program.specs.declared.command.Command.TheVariants.{Disassemble, Names, Unpack, Cpio, Lay, Diff, Json}
+use Rattle.acpitool_program.specs.declared.command.Command.TheVariants.{Disassemble, Names, Unpack, Cpio, Lay, Loader, Diff, Json}
 use Rattle.acpitool_program.specs.declared.command.Verb.{Verb}
 use Rattle.acpitool_program.specs.declared.command.Verb.TheVariants as verbs
 
@@ -66,6 +66,8 @@ IsOf verbs.Cpio more k =
 IsOf verbs.Lay more k =
     (folder : List ℕ) × (file : List ℕ) × (base : ℕ) × AreLay more folder file base
     × (k ≡ (codes "lay", folder ∷ file ∷ [], [], base, []))
+IsOf verbs.Loader more k =
+    (folder : List ℕ) × (to : List ℕ) × (more ≡ folder ∷ to ∷ []) × (k ≡ (codes "loader", folder ∷ to ∷ [], [], 0, []))
 IsOf verbs.Diff more k =
     (first : List ℕ) × (second : List ℕ) × (more ≡ first ∷ second ∷ []) × (k ≡ (codes "diff", first ∷ second ∷ [], [], 0, []))
 
@@ -106,6 +108,7 @@ one_of verbs.Lay more k l one two =
     let file : one.1 ≡ two.1 = cc (these.1, those.1) in
     let base = same_addresses these.0 those.0 one.2 two.2 word these.2 those.2 in
     cc (one.4, two.4, folder, file, base)
+one_of verbs.Loader more k l one two = cc (one.2, one.3, two.2, two.3)
 one_of verbs.Diff more k l one two = cc (one.2, one.3, two.2, two.3)
 
 -- a command with the words after its own, and what it contains
@@ -182,6 +185,8 @@ are_of words (Cpio folder file) all =
     inr (inr (record { verb = verbs.Cpio; more = all.0; after = all.1; of = (_, _, all.2, refl) }))
 are_of words (Lay folder file base) all =
     inr (inr (record { verb = verbs.Lay; more = all.0; after = all.1; of = (_, _, _, all.2, refl) }))
+are_of words (Loader folder to) all =
+    inr (inr (record { verb = verbs.Loader; more = all.0; after = all.1; of = (_, _, all.2, refl) }))
 are_of words (Diff first second) all =
     inr (inr (record { verb = verbs.Diff; more = all.0; after = all.1; of = (_, _, all.2, refl) }))
 are_of words (Make force text file) all = inr (inr (record {

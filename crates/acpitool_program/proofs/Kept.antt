@@ -7,6 +7,8 @@ use Rattle.acpitool_program.specs.Archiving.{Archives}
 use Rattle.acpitool_program.specs.Comparing.{ComparesBytes, ComparesWith, Compares}
 use Rattle.acpitool_program.specs.Laying.{IsSavedTo, IsSaved, LaysFolder}
 use Rattle.acpitool_program.specs.Listing.{NotRead}
+use Rattle.acpitool_program.specs.Loading.{ArePut, files_of, IsPutOut, LoadsFolder}
+use Rattle.acpi_loader.specs.declared.loader.Loader.{Loader}
 use Rattle.acpitool_program.specs.Making.{IsWritten}
 use Rattle.acpitool_program.specs.Unpacking.{NotMade, AreUnpacked, AreFiles, UnpacksDump, UnpacksImage, UnpacksBy, Unpacks}
 use Rattle.acpitool_program.proofs.Streams.{keeps_kept, appends_kept}
@@ -117,6 +119,31 @@ laid_kept folder file base o o' o'' e e' s kept (inl out) = inl (record {
   saved = saved_kept out.image file o o' o'' e e' s kept out.saved;
 })
 laid_kept folder file base o o' o'' e e' s kept (inr none) = inr (none.0, keeps_kept o o' o'' none.1 kept)
+
+put_kept : (files : List (List ℕ × List ℕ)) (o o' o'' e e' : Option (List ℕ)) (s : ℕ) → Keeps o' o'' → ArePut files o o' e e' s → ArePut files o o'' e e' s
+put_kept [] o o' o'' e e' s kept none = (keeps_kept o o' o'' none.0 kept, none.1, none.2)
+put_kept (file ∷ files) o o' o'' e e' s kept (inl not) = inl (not_made_kept file.0 o o' o'' e e' s kept not)
+put_kept (file ∷ files) o o' o'' e e' s kept (inr one) = inr (record {
+  out' = one.out';
+  err' = one.err';
+  wrote = one.wrote;
+  rest = put_kept files one.out' o' o'' one.err' e' s kept one.rest;
+})
+
+put_out_kept : (loader : Loader) (to : List ℕ) (o o' o'' e e' : Option (List ℕ)) (s : ℕ) → Keeps o' o''
+    → IsPutOut loader to o o' e e' s → IsPutOut loader to o o'' e e' s
+put_out_kept loader to o o' o'' e e' s kept (inl not) = inl (not.0, not.1, keeps_kept o o' o'' not.2 kept)
+put_out_kept loader to o o' o'' e e' s kept (inr put) = inr (put_kept (files_of loader to) o o' o'' e e' s kept put)
+
+pub loaded_kept : (folder to : List ℕ) (o o' o'' e e' : Option (List ℕ)) (s : ℕ) → Keeps o' o''
+    → LoadsFolder folder to o o' e e' s → LoadsFolder folder to o o'' e e' s
+loaded_kept folder to o o' o'' e e' s kept (inl all) = inl (record {
+  paths = all.paths;
+  loader = all.loader;
+  of = all.of;
+  put = put_out_kept all.loader to o o' o'' e e' s kept all.put;
+})
+loaded_kept folder to o o' o'' e e' s kept (inr none) = inr (none.0, keeps_kept o o' o'' none.1 kept)
 
 bytes_compared : (first a second b : List ℕ) (o o' o'' e e' : Option (List ℕ)) (s : ℕ) → Keeps o' o''
     → ComparesBytes first a second b o o' e e' s → ComparesBytes first a second b o o'' e e' s

@@ -4,6 +4,7 @@ mod Commands
 mod Judged
 mod Kept
 mod Layings
+mod Loadings
 mod Machines
 mod Outcomes
 mod Paths

@@ -1,7 +1,7 @@
 -- A flush after a run, which keeps what was printed.
-use Rattle.std.proofs.Common.{ℕ, Bool, true, false, List, Option, inl, inr}
+use Rattle.std.proofs.Common.{◌⊎◌, ℕ, Bool, true, false, List, Option, map, string_bytes, inl, inr}
 use Rattle.std.specs.Io.KnownBytes.{Keeps}
-use Rattle.acpitool_program.proofs.Kept.{unread_kept, unpacked_kept, written_kept, archived_kept, laid_kept, compared_kept}
+use Rattle.acpitool_program.proofs.Kept.{unread_kept, unpacked_kept, written_kept, archived_kept, laid_kept, loaded_kept, compared_kept}
 use Rattle.acpitool_program.proofs.Streams.{keeps_kept, appends_kept}
 use Rattle.acpitool_program.specs.Checking.{AreChecked}
 use Rattle.acpitool_program.specs.Disassembly.{DisassemblesFile}
@@ -12,10 +12,11 @@ use Rattle.acpitool_program.specs.Listing.{Listed}
 use Rattle.acpitool_program.specs.Making.{MakesWord, Makes}
 use Rattle.acpitool_program.specs.Outcome.{Outcome, Printed}
 use Rattle.acpi_forms.specs.Known.{is_known}
-use Rattle.acpitool_program.specs.Program.{Ended, IsDone, IsShown, AreListed, IsBlockShown, NotStated, IsTemplated}
+use Rattle.acpi_terms_text.specs.Methods.{Callee}
+use Rattle.acpitool_program.specs.Program.{Ended, IsDone, IsShown, AreListed, IsBlockAmong, IsNoneAmong, IsBlockShown, NotStated, IsTemplated}
 use Rattle.acpitool_program.specs.declared.command.Command.{Command}
 use Rattle.acpitool_program.specs.declared.command.Command.TheVariants.{Help, Version, Show, Check, Image, Make, Template}
-use Rattle.acpitool_program.specs.declared.command.Command.TheVariants.{Disassemble, Names, Unpack, Cpio, Lay, Diff, Json}
+use Rattle.acpitool_program.specs.declared.command.Command.TheVariants.{Disassemble, Names, Unpack, Cpio, Lay, Loader, Diff, Json}
 
 printed_kept : (job : Job) (outcomes : List Outcome) (o o' o'' e e' : Option (List ℕ)) (s : ℕ) → Keeps o' o''
     → Printed job outcomes o o' e e' s → Printed job outcomes o o'' e e' s
@@ -87,29 +88,57 @@ image_kept json file base o o' o'' e e' s kept (inl (bytes, inr not)) = inl (
 )
 image_kept json file base o o' o'' e e' s kept (inr not) = inr (unread_kept file o o' o'' e e' s kept not)
 
-disassembled_kept : (block : BlockText) (stated : List (List ℕ × ℕ)) (file : List ℕ) (o o' o'' e e' : Option (List ℕ)) (s : ℕ) → Keeps o' o''
-    → DisassemblesFile block stated file o o' e e' s → DisassemblesFile block stated file o o'' e e' s
-disassembled_kept block stated file o o' o'' e e' s kept (inl (bytes, inl all)) = inl (
+disassembled_kept : (block : BlockText) (stated : List (List ℕ × ℕ)) (further : List Callee) (file : List ℕ) (o o' o'' e e' : Option (List ℕ)) (s : ℕ) → Keeps o' o''
+    → DisassemblesFile block stated further file o o' e e' s → DisassemblesFile block stated further file o o'' e e' s
+disassembled_kept block stated further file o o' o'' e e' s kept (inl (bytes, inl all)) = inl (
   bytes,
   inl (record { text = all.text; of = all.of; wrote = appends_kept o o' o'' _ all.wrote kept; silent = all.silent; is = all.is }),
 )
-disassembled_kept block stated file o o' o'' e e' s kept (inl (bytes, inr not)) = inl (
+disassembled_kept block stated further file o o' o'' e e' s kept (inl (bytes, inr (inl part))) = inl (
   bytes,
-  inr (record {
+  inr (inl (record {
+    text = part.text;
+    of = part.of;
+    wrote = appends_kept o o' o'' _ part.wrote kept;
+    fault = part.fault;
+    cause = part.cause;
+    complained = part.complained;
+    is = part.is;
+  })),
+)
+disassembled_kept block stated further file o o' o'' e e' s kept (inl (bytes, inr (inr not))) = inl (
+  bytes,
+  inr (inr (record {
     fault = not.fault;
     cause = not.cause;
     complained = not.complained;
     silent = keeps_kept o o' o'' not.silent kept;
     is = not.is;
-  }),
+  })),
 )
-disassembled_kept block stated file o o' o'' e e' s kept (inr not) = inr (unread_kept file o o' o'' e e' s kept not)
+disassembled_kept block stated further file o o' o'' e e' s kept (inr not) = inr (unread_kept file o o' o'' e e' s kept not)
 
-block_kept : (block : BlockText) (file : List ℕ) (numbers : List (List ℕ)) (o o' o'' e e' : Option (List ℕ)) (s : ℕ) → Keeps o' o''
-    → IsBlockShown block file numbers o o' e e' s → IsBlockShown block file numbers o o'' e e' s
-block_kept block file numbers o o' o'' e e' s kept (inl all) =
-    inl (record { all = all.all; stated = all.stated; disassembles = disassembled_kept block all.all file o o' o'' e e' s kept all.disassembles })
-block_kept block file numbers o o' o'' e e' s kept (inr not) = inr (unstated_kept numbers o o' o'' e e' s kept not)
+among_kept : (block : BlockText) (all : List (List ℕ × ℕ)) (file : List ℕ) (names : List (List ℕ)) (o o' o'' e e' : Option (List ℕ)) (s : ℕ) → Keeps o' o''
+    → IsBlockAmong block all file names o o' e e' s ⊎ IsNoneAmong all names o o' e e' s
+    → IsBlockAmong block all file names o o'' e e' s ⊎ IsNoneAmong all names o o'' e e' s
+among_kept block all file names o o' o'' e e' s kept (inl among) = inl (record {
+  further = among.further;
+  said = among.said;
+  adds = among.adds;
+  disassembles = disassembled_kept block all among.further file o o' o'' among.said e' s kept among.disassembles;
+})
+among_kept block all file names o o' o'' e e' s kept (inr none) = inr (record {
+  further = none.further;
+  adds = none.adds;
+  some = none.some;
+  silent = keeps_kept o o' o'' none.silent kept;
+})
+
+block_kept : (block : BlockText) (file : List ℕ) (words : List (List ℕ)) (o o' o'' e e' : Option (List ℕ)) (s : ℕ) → Keeps o' o''
+    → IsBlockShown block file words o o' e e' s → IsBlockShown block file words o o'' e e' s
+block_kept block file words o o' o'' e e' s kept (inl all) =
+    inl (record { all = all.all; stated = all.stated; disassembles = among_kept block all.all file _ o o' o'' e e' s kept all.disassembles })
+block_kept block file words o o' o'' e e' s kept (inr not) = inr (unstated_kept _ o o' o'' e e' s kept not)
 
 word_kept : (force : Bool) (name file : List ℕ) (o o' o'' e e' : Option (List ℕ)) (s : ℕ) → Keeps o' o''
     → MakesWord force name file o o' e e' s → MakesWord force name file o o'' e e' s
@@ -150,11 +179,12 @@ done_kept o o' o'' e e' s (Json files) kept done = listed_kept _ o o' o'' e e' s
 done_kept o o' o'' e e' s (Check json files) kept done = checked_kept json _ o o' o'' e e' s kept done
 done_kept o o' o'' e e' s (Image json file base) kept done = image_kept json file.now base o o' o'' e e' s kept done
 done_kept o o' o'' e e' s (Template signature) kept done = templated_kept (is_known signature.now) signature.now o o' o'' e e' s kept done
-done_kept o o' o'' e e' s (Disassemble file numbers) kept done = block_kept blocks.Asl file.now _ o o' o'' e e' s kept done
-done_kept o o' o'' e e' s (Names file numbers) kept done = block_kept blocks.Names file.now _ o o' o'' e e' s kept done
+done_kept o o' o'' e e' s (Disassemble file numbers) kept done = block_kept blocks.Asl file.now (map (λ word. string_bytes word) numbers.now) o o' o'' e e' s kept done
+done_kept o o' o'' e e' s (Names file numbers) kept done = block_kept blocks.Names file.now (map (λ word. string_bytes word) numbers.now) o o' o'' e e' s kept done
 done_kept o o' o'' e e' s (Unpack file folder base) kept done = unpacked_kept file.now folder.now base o o' o'' e e' s kept done
 done_kept o o' o'' e e' s (Cpio folder file) kept done = archived_kept folder.now file.now o o' o'' e e' s kept done
 done_kept o o' o'' e e' s (Lay folder file base) kept done = laid_kept folder.now file.now base o o' o'' e e' s kept done
+done_kept o o' o'' e e' s (Loader folder to) kept done = loaded_kept folder.now to.now o o' o'' e e' s kept done
 done_kept o o' o'' e e' s (Diff first second) kept done = compared_kept first.now second.now o o' o'' e e' s kept done
 done_kept o o' o'' e e' s (Make force text file) kept done = made_kept force text.now file.now o o' o'' e e' s kept done
 

@@ -25,8 +25,9 @@ verb_of word =
     else (if bytes_eq word (codes "unpack") then Some verbs.Unpack
     else (if bytes_eq word (codes "cpio") then Some verbs.Cpio
     else (if bytes_eq word (codes "lay") then Some verbs.Lay
+    else (if bytes_eq word (codes "loader") then Some verbs.Loader
     else (if bytes_eq word (codes "diff") then Some verbs.Diff
-    else None))))))))))
+    else None)))))))))))
 
 verb_is : (verb : Verb) → verb_of (word_of verb) ≡ Some verb
 verb_is verbs.Show = refl
@@ -39,6 +40,7 @@ verb_is verbs.Names = refl
 verb_is verbs.Unpack = refl
 verb_is verbs.Cpio = refl
 verb_is verbs.Lay = refl
+verb_is verbs.Loader = refl
 verb_is verbs.Diff = refl
 
 pub same_verb : (a b : Verb) → word_of a ≡ word_of b → a ≡ b

@@ -6,7 +6,7 @@ use Rattle.acpitool_program.specs.Command.{IsAfterBase, IsAfterFile, IsAfterUnpa
 use Rattle.acpitool_program.specs.Laws.{WrongAskForNothing}
 use Rattle.acpitool_program.specs.declared.command.Command.{Command}
 use Rattle.acpitool_program.specs.declared.command.Command.TheVariants.{Help, Version, Show, Check, Image, Make, Template}
-use Rattle.acpitool_program.specs.declared.command.Command.TheVariants.{Disassemble, Names, Unpack, Cpio, Lay, Diff, Json}
+use Rattle.acpitool_program.specs.declared.command.Command.TheVariants.{Disassemble, Names, Unpack, Cpio, Lay, Loader, Diff, Json}
 use Rattle.acpitool_program.specs.declared.command.Verb.{Verb}
 use Rattle.acpitool_program.specs.declared.command.Verb.TheVariants as verbs
 use Rattle.acpitool_program.specs.declared.command.Wrong.{Wrong}
@@ -29,6 +29,7 @@ IsTaken verbs.Names more = (file : List ℕ) × (numbers : List (List ℕ)) × (
 IsTaken verbs.Unpack more = (file : List ℕ) × (folder : List ℕ) × (base : ℕ) × AreUnpack more file folder base
 IsTaken verbs.Cpio more = (folder : List ℕ) × (file : List ℕ) × (more ≡ folder ∷ file ∷ [])
 IsTaken verbs.Lay more = (folder : List ℕ) × (file : List ℕ) × (base : ℕ) × AreLay more folder file base
+IsTaken verbs.Loader more = (folder : List ℕ) × (to : List ℕ) × (more ≡ folder ∷ to ∷ [])
 IsTaken verbs.Diff more = (first : List ℕ) × (second : List ℕ) × (more ≡ first ∷ second ∷ [])
 
 -- they ask for the usage, or are what the command takes
@@ -95,6 +96,8 @@ asked words (Cpio folder file) all =
     inr (inr (record { verb = verbs.Cpio; more = all.0; is = all.1.0; are = inr (all.1.1, (folder.now, file.now, all.2)) }))
 asked words (Lay folder file base) all =
     inr (inr (record { verb = verbs.Lay; more = all.0; is = all.1.0; are = inr (all.1.1, (folder.now, file.now, base, all.2)) }))
+asked words (Loader folder to) all =
+    inr (inr (record { verb = verbs.Loader; more = all.0; is = all.1.0; are = inr (all.1.1, (folder.now, to.now, all.2)) }))
 asked words (Diff first second) all =
     inr (inr (record { verb = verbs.Diff; more = all.0; is = all.1.0; are = inr (all.1.1, (first.now, second.now, all.2)) }))
 asked words (Make force text file) all =
@@ -217,7 +220,13 @@ wronged words (Unknown word) (inr (inr (inr (inr (inr (inr (inr (inl third))))))
   is = third.after.0;
   are = inr (third.after.1, λ taken. cc (third.is, taken.2));
 }))
-wronged words (Unknown word) (inr (inr (inr (inr (inr (inr (inr (inr second)))))))) = inr (inr (record {
+wronged words (Unknown word) (inr (inr (inr (inr (inr (inr (inr (inr (inl third))))))))) = inr (inr (record {
+  verb = verbs.Loader;
+  more = third.more;
+  is = third.after.0;
+  are = inr (third.after.1, λ taken. cc (third.is, taken.2));
+}))
+wronged words (Unknown word) (inr (inr (inr (inr (inr (inr (inr (inr (inr second))))))))) = inr (inr (record {
   verb = verbs.Template;
   more = second.more;
   is = second.after.0;
@@ -265,11 +274,19 @@ wronged words NoTable all = inr (inr (record {
 }))
 wronged words NoPacked is =
     inr (inr (record { verb = verbs.Unpack; more = []; is = is; are = inr (refl, λ taken. cc (taken.3.1)) }))
-wronged words NoFolder all =
+wronged words NoFolder (inl all) =
     inr (inr (record { verb = verbs.Unpack; more = all.0; is = all.1.0; are = inr (all.1.1, λ taken. only_file all.0 all.2 taken.0 taken.1 taken.2 taken.3) }))
+wronged words NoFolder (inr all) = inr (inr (record {
+  verb = verbs.Loader;
+  more = all.0;
+  is = all.1.0;
+  are = inr (all.1.1, λ taken. let one = all.2 in let two = ap length taken.2 in omega (arith, one, two));
+}))
 wronged words NoTables (inl is) =
     inr (inr (record { verb = verbs.Cpio; more = []; is = is; are = inr (refl, λ taken. cc (taken.2)) }))
-wronged words NoTables (inr is) =
+wronged words NoTables (inr (inr is)) =
+    inr (inr (record { verb = verbs.Loader; more = []; is = is; are = inr (refl, λ taken. cc (taken.2)) }))
+wronged words NoTables (inr (inl is)) =
     inr (inr (record { verb = verbs.Lay; more = []; is = is; are = inr (refl, λ taken. cc (taken.3.1)) }))
 wronged words NoImageFile all = inr (inr (record {
   verb = verbs.Lay;
@@ -321,6 +338,7 @@ is_command words word verbs.Names none is = none.no_names is
 is_command words word verbs.Unpack none is = none.no_unpack is
 is_command words word verbs.Cpio none is = none.no_cpio is
 is_command words word verbs.Lay none is = none.no_lay is
+is_command words word verbs.Loader none is = none.no_loader is
 is_command words word verbs.Diff none is = none.no_diff is
 
 no_help_first : (words : List (List ℕ)) (word first : List ℕ) → IsNoCommand words word → IsHelp first ⊎ (first ≡ codes "help")

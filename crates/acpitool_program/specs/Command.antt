@@ -9,7 +9,7 @@ use Rattle.std.specs.Str.Parse.{IsNumeral, digits_value, without_leading_plus}
 use Rattle.acpi_input.specs.Stated.{stated_by, stated}
 use Rattle.acpitool_program.specs.declared.command.Command.{Command}
 use Rattle.acpitool_program.specs.declared.command.Command.TheVariants.{Help, Version, Show, Check, Image, Make, Template}
-use Rattle.acpitool_program.specs.declared.command.Command.TheVariants.{Disassemble, Names, Unpack, Cpio, Lay, Diff, Json}
+use Rattle.acpitool_program.specs.declared.command.Command.TheVariants.{Disassemble, Names, Unpack, Cpio, Lay, Loader, Diff, Json}
 use Rattle.acpitool_program.specs.declared.command.Misstated.{Misstated}
 use Rattle.acpitool_program.specs.declared.command.Misstated.TheVariants as misstated
 use Rattle.acpitool_program.specs.declared.command.Verb.{Verb}
@@ -98,6 +98,7 @@ word_of verbs.Names = codes "names"
 word_of verbs.Unpack = codes "unpack"
 word_of verbs.Cpio = codes "cpio"
 word_of verbs.Lay = codes "lay"
+word_of verbs.Loader = codes "loader"
 word_of verbs.Diff = codes "diff"
 
 -- an option that asks for how the program is used
@@ -226,6 +227,7 @@ Asks words (Unpack file folder base) =
 Asks words (Cpio folder file) = (more : List (List ℕ)) × AreAfter verbs.Cpio words more × (more ≡ folder.now ∷ file.now ∷ [])
 Asks words (Lay folder file base) =
     (more : List (List ℕ)) × AreAfter verbs.Lay words more × AreLay more folder.now file.now base
+Asks words (Loader folder to) = (more : List (List ℕ)) × AreAfter verbs.Loader words more × (more ≡ folder.now ∷ to.now ∷ [])
 Asks words (Diff first second) =
     (more : List (List ℕ)) × AreAfter verbs.Diff words more × (more ≡ first.now ∷ second.now ∷ [])
 Asks words (Make force text file) =
@@ -249,6 +251,7 @@ pub record IsNoCommand (words : List (List ℕ)) (word : List ℕ) : Type 0 wher
   pub no_unpack : word ≢ codes "unpack"
   pub no_cpio : word ≢ codes "cpio"
   pub no_lay : word ≢ codes "lay"
+  pub no_loader : word ≢ codes "loader"
   pub no_diff : word ≢ codes "diff"
 
 -- A word after a command is an option that there isn't, or one that the command takes, but only right after its own word.
@@ -316,6 +319,15 @@ pub record IsAfterLaid (words : List (List ℕ)) (word : List ℕ) : Type 0 wher
   pub others : List (List ℕ)
   pub is : more ≡ folder ∷ file ∷ base ∷ word ∷ others
 
+-- a word after `loader FOLDER OUT`
+pub record IsAfterLoaded (words : List (List ℕ)) (word : List ℕ) : Type 0 where
+  pub more : List (List ℕ)
+  pub after : AreAfter verbs.Loader words more
+  pub folder : List ℕ
+  pub to : List ℕ
+  pub others : List (List ℕ)
+  pub is : more ≡ folder ∷ to ∷ word ∷ others
+
 -- a word after `diff FILE FILE`
 pub record IsAfterCompared (words : List (List ℕ)) (word : List ℕ) : Type 0 where
   pub more : List (List ℕ)
@@ -357,7 +369,7 @@ IsWrong words NoCommand = words ≡ []
 IsWrong words (Unknown word) =
     IsNoCommand words word.now ⊎ IsNoOption false words word.now ⊎ IsAfterBase words word.now ⊎ IsAfterFile words word.now
     ⊎ IsAfterUnpacked words word.now ⊎ IsAfterArchive words word.now ⊎ IsAfterLaid words word.now
-    ⊎ IsAfterCompared words word.now ⊎ IsAfterSignature words word.now
+    ⊎ IsAfterCompared words word.now ⊎ IsAfterLoaded words word.now ⊎ IsAfterSignature words word.now
 IsWrong words (Placed word) = IsNoOption true words word.now
 IsWrong words NoFile = (more : List (List ℕ)) × AreAfter verbs.Show words more × (files_after more ≡ 0)
 IsWrong words NoFileToCheck =
@@ -371,8 +383,11 @@ IsWrong words (Signature word) =
 IsWrong words NoText = (more : List (List ℕ)) × AreAfter verbs.Make words more × (unforced more ≡ [])
 IsWrong words NoTable = (more : List (List ℕ)) × AreAfter verbs.Make words more × (length (unforced more) ≡ 1)
 IsWrong words NoPacked = words ≡ codes "unpack" ∷ []
-IsWrong words NoFolder = (more : List (List ℕ)) × AreAfter verbs.Unpack words more × (length more ≡ 1)
-IsWrong words NoTables = (words ≡ codes "cpio" ∷ []) ⊎ (words ≡ codes "lay" ∷ [])
+IsWrong words NoFolder =
+    ((more : List (List ℕ)) × AreAfter verbs.Unpack words more × (length more ≡ 1))
+    ⊎ ((more : List (List ℕ)) × AreAfter verbs.Loader words more × (length more ≡ 1))
+IsWrong words NoTables =
+    (words ≡ codes "cpio" ∷ []) ⊎ (words ≡ codes "lay" ∷ []) ⊎ (words ≡ codes "loader" ∷ [])
 IsWrong words NoArchive = (more : List (List ℕ)) × AreAfter verbs.Cpio words more × (length more ≡ 1)
 IsWrong words NoImageFile = (more : List (List ℕ)) × AreAfter verbs.Lay words more × (length more ≡ 1)
 IsWrong words NoBase = (more : List (List ℕ)) × AreAfter verbs.Lay words more × (length more ≡ 2)

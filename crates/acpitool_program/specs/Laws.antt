@@ -3,7 +3,7 @@ use Rattle.std.specs.Prelude.{◌≡◌, ℕ, Bool, true, false, List, [], ◌�
 use Rattle.acpitool_program.specs.Command.{Asks, IsWrong}
 use Rattle.acpitool_program.specs.declared.command.Command.{Command}
 use Rattle.acpitool_program.specs.declared.command.Command.TheVariants.{Help, Version, Show, Check, Image, Make, Template}
-use Rattle.acpitool_program.specs.declared.command.Command.TheVariants.{Disassemble, Names, Unpack, Cpio, Lay, Diff, Json}
+use Rattle.acpitool_program.specs.declared.command.Command.TheVariants.{Disassemble, Names, Unpack, Cpio, Lay, Loader, Diff, Json}
 use Rattle.acpitool_program.specs.declared.command.Wrong.{Wrong}
 
 -- what a command contains: its word, its files, folders or signature, the words that state numbers, an address, and its option
@@ -37,6 +37,7 @@ content (Make force text file) = (codes "make", text.now ∷ file.now ∷ [], []
 content (Unpack file folder base) = (codes "unpack", file.now ∷ folder.now ∷ [], [], base, [])
 content (Cpio folder file) = (codes "cpio", folder.now ∷ file.now ∷ [], [], 0, [])
 content (Lay folder file base) = (codes "lay", folder.now ∷ file.now ∷ [], [], base, [])
+content (Loader folder to) = (codes "loader", folder.now ∷ to.now ∷ [], [], 0, [])
 content (Diff first second) = (codes "diff", first.now ∷ second.now ∷ [], [], 0, [])
 
 -- words ask for at most one command

@@ -15,6 +15,7 @@ pub mod Object
 pub mod Unpacking
 pub mod Archiving
 pub mod Laying
+pub mod Loading
 pub mod Comparing
 pub mod Machine
 pub mod Outcome

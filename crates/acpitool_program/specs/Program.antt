@@ -1,5 +1,5 @@
 -- What a run of the program prints.
-use Rattle.std.specs.Prelude.{◌≡◌, ◌≢◌, ◌⊎◌, ℕ, nat_lt, Bool, true, false, List, [], ◌++◌, Option, Some, None, length, codes, map}
+use Rattle.std.specs.Prelude.{◌≡◌, ◌≢◌, ◌⊎◌, ℕ, nat_lt, Bool, true, false, List, [], ◌++◌, Option, Some, None, length, take, drop, codes, map}
 use Rattle.std.specs.Prelude.{string_bytes, if◌then◌else◌}
 use Rattle.std.specs.Str.{bytes_eq}
 use Rattle.std.specs.Io.KnownBytes.{Keeps, Appends}
@@ -8,21 +8,23 @@ use Rattle.std.specs.declared.io.ErrorKind.TheVariants.{BrokenPipe}
 use Rattle.acpi_forms.specs.Known.{is_known, meant}
 use Rattle.acpi_forms.specs.Makes.{IsTemplateOf}
 use Rattle.acpi_input.specs.Stated.{stated}
-use Rattle.acpitool_program.specs.Command.{Asks, IsWrong, IsMisstated}
+use Rattle.acpitool_program.specs.Command.{Asks, IsWrong, IsMisstated, files_in}
 use Rattle.acpitool_program.specs.Archiving.{Archives}
 use Rattle.acpitool_program.specs.Checking.{AreChecked}
 use Rattle.acpitool_program.specs.Comparing.{Compares}
-use Rattle.acpitool_program.specs.Disassembly.{DisassemblesFile}
+use Rattle.acpi_terms_text.specs.Methods.{Callee}
+use Rattle.acpitool_program.specs.Disassembly.{DisassemblesFile, AddsFiles}
 use Rattle.acpi_json.specs.Array.{array}
 use Rattle.acpitool_program.specs.Job.{shows, lists}
 use Rattle.acpitool_program.specs.Laying.{LaysFolder}
 use Rattle.acpitool_program.specs.Listing.{Listed}
+use Rattle.acpitool_program.specs.Loading.{LoadsFolder}
 use Rattle.acpitool_program.specs.Making.{Makes}
 use Rattle.acpitool_program.specs.Outcome.{AreOfEach, AreOfWord, PrintedAs}
 use Rattle.acpitool_program.specs.Unpacking.{Unpacks}
 use Rattle.acpitool_program.specs.declared.command.Command.{Command}
 use Rattle.acpitool_program.specs.declared.command.Command.TheVariants.{Help, Version, Show, Check, Image, Make, Template}
-use Rattle.acpitool_program.specs.declared.command.Command.TheVariants.{Disassemble, Names, Unpack, Cpio, Lay, Diff, Json}
+use Rattle.acpitool_program.specs.declared.command.Command.TheVariants.{Disassemble, Names, Unpack, Cpio, Lay, Loader, Diff, Json}
 use Rattle.acpitool_program.specs.declared.command.Misstated.TheVariants as misstated
 use Rattle.acpi_asl.specs.declared.block.BlockText.{BlockText}
 use Rattle.acpi_asl.specs.declared.block.BlockText.TheVariants as blocks
@@ -39,9 +41,9 @@ abbrev pub usage : List ℕ
 usage =
     codes "usage: acpitool show [--no-offsets] FILE .. [NAME=N ..] | show --json FILE .. | check [--json] FILE .."
     ++ codes " | diff FILE FILE"
-    ++ codes " | disassemble FILE [NAME=N ..] | names FILE [NAME=N ..] | image [--json] FILE [BASE]"
+    ++ codes " | disassemble FILE .. [NAME=N ..] | names FILE .. [NAME=N ..] | image [--json] FILE [BASE]"
     ++ codes " | make [--force] TEXT FILE | template SIGNATURE"
-    ++ codes " | unpack FILE FOLDER [BASE] | cpio FOLDER FILE | lay FOLDER FILE BASE | --help | --version\n"
+    ++ codes " | unpack FILE FOLDER [BASE] | cpio FOLDER FILE | lay FOLDER FILE BASE | loader FOLDER OUT | --help | --version\n"
 
 abbrev pub version : List ℕ
 version = codes "acpitool 0.1.0\n"
@@ -113,17 +115,38 @@ pub record AreListed (files : List (List ℕ)) (out out' err err' : Option (List
 
 -- ---- disassemble and names
 
--- words state these numbers of arguments, and the text of the file's definition block is printed
-pub record IsBlockOf (block : BlockText) (file : List ℕ) (numbers : List (List ℕ))
+-- the methods of the further blocks are known, and the text of the file's definition block is printed
+pub record IsBlockAmong (block : BlockText) (all : List (List ℕ × ℕ)) (file : List ℕ) (names : List (List ℕ))
+    (out out' err err' : Option (List ℕ)) (status : ℕ) : Type 0 where
+  pub further : List Callee
+  pub said : Option (List ℕ)
+  pub adds : AddsFiles all names [] further err said 0
+  pub disassembles : DisassemblesFile block all further file out out' said err' status
+
+-- a further file has no definition block
+pub record IsNoneAmong (all : List (List ℕ × ℕ)) (names : List (List ℕ)) (out out' err err' : Option (List ℕ)) (status : ℕ) : Type 0 where
+  pub further : List Callee
+  pub adds : AddsFiles all names [] further err err' status
+  pub some : status ≢ 0
+  pub silent : Keeps out out'
+
+-- Words state these numbers of arguments, and the text is printed, or a further file has no definition block.
+pub record IsBlockOf (block : BlockText) (file : List ℕ) (names stating : List (List ℕ))
     (out out' err err' : Option (List ℕ)) (status : ℕ) : Type 0 where
   pub all : List (List ℕ × ℕ)
-  pub stated : stated numbers ≡ Some all
-  pub disassembles : DisassemblesFile block all file out out' err err' status
+  pub stated : stated stating ≡ Some all
+  pub disassembles : IsBlockAmong block all file names out out' err err' status ⊎ IsNoneAmong all names out out' err err' status
 
+abbrev pub IsBlockBy : BlockText → List ℕ → List (List ℕ) → List (List ℕ)
+    → Option (List ℕ) → Option (List ℕ) → Option (List ℕ) → Option (List ℕ) → ℕ → Type 0
+IsBlockBy block file names stating out out' err err' status =
+    IsBlockOf block file names stating out out' err err' status ⊎ NotStated stating out out' err err' status
+
+-- Words after the file are further files, up to the first that states a number of arguments.
 abbrev pub IsBlockShown : BlockText → List ℕ → List (List ℕ)
     → Option (List ℕ) → Option (List ℕ) → Option (List ℕ) → Option (List ℕ) → ℕ → Type 0
-IsBlockShown block file numbers out out' err err' status =
-    IsBlockOf block file numbers out out' err err' status ⊎ NotStated numbers out out' err err' status
+IsBlockShown block file words out out' err err' status =
+    IsBlockBy block file (take (files_in words) words) (drop (files_in words) words) out out' err err' status
 
 -- ---- template
 
@@ -169,6 +192,7 @@ IsDone (Names file numbers) out out' err err' status =
 IsDone (Unpack file folder base) out out' err err' status = Unpacks file.now folder.now base out out' err err' status
 IsDone (Cpio folder file) out out' err err' status = Archives folder.now file.now out out' err err' status
 IsDone (Lay folder file base) out out' err err' status = LaysFolder folder.now file.now base out out' err err' status
+IsDone (Loader folder to) out out' err err' status = LoadsFolder folder.now to.now out out' err err' status
 IsDone (Diff first second) out out' err err' status = Compares first.now second.now out out' err err' status
 IsDone (Make force text file) out out' err err' status = Makes force text.now file.now out out' err err' status
 

@@ -16,7 +16,7 @@ use Rattle.acpitool_program.specs.declared.fault.Fault.{Fault}
 -- own methods.
 pub record IsReport (stated : List (List ℕ × ℕ)) (terms text : List ℕ) : Type 0 where
   pub own : List (List ℕ × ℕ)
-  pub methods : AreOwn stated terms own
+  pub methods : AreOwn stated [] terms own
   pub annotated : IsAnnotated (arity own) terms text
 
 -- the lines of a report
@@ -42,7 +42,7 @@ pub record HasReport (stated : List (List ℕ × ℕ)) (bytes after : List ℕ) 
 pub record HasError (stated : List (List ℕ × ℕ)) (bytes after : List ℕ) : Type 0 where
   pub error : ReadError
   pub no_memory : error ≢ Memory
-  pub no_report : AreNoTerms stated (drop 36 bytes) error
+  pub no_report : AreNoTerms stated [] (drop 36 bytes) error
   pub fault : Fault
   pub says : IsFaultAfter 36 error fault
   pub is : after ≡ error_line fault

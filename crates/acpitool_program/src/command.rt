@@ -38,10 +38,10 @@ pub enum Command<'a> {
     Make(bool, &'a str, &'a str),
     /// `template SIGNATURE`: a text of a table of the signature, for a start.
     Template(&'a str),
-    /// `disassemble FILE [NAME=N ..]`: the ASL of a definition block in a file, or on standard input where the word is `-`, and
-    /// the words that state numbers of arguments.
+    /// `disassemble FILE .. [NAME=N ..]`: the ASL of a definition block in a file, or on standard input where the word is
+    /// `-`, and the other words: files with further blocks, and words that state numbers of arguments.
     Disassemble(&'a str, &'a [String]),
-    /// `names FILE [NAME=N ..]`: the objects that such a definition block makes, and the same words.
+    /// `names FILE .. [NAME=N ..]`: the objects that such a definition block makes, and the same words.
     Names(&'a str, &'a [String]),
     /// `unpack FILE FOLDER [BASE]`: each table of a dump, or of an image that begins at the physical address BASE in hexadecimal,
     /// or at 0, to a file of a folder. The file with the dump or the image is standard input where the word is `-`.
@@ -52,6 +52,8 @@ pub enum Command<'a> {
     /// `lay FOLDER FILE BASE`: the image of the tables of a folder, which begins at the physical address BASE in hexadecimal, to
     /// a file, or to standard output where the word is `-`.
     Lay(&'a str, &'a str, u64),
+    /// `loader FOLDER OUT`: the files that QEMU hands to firmware, of the tables of a folder, to new files of another folder.
+    Loader(&'a str, &'a str),
     /// `diff FILE FILE`: the fields in which the tables in two files differ, or on standard input where a word is `-`.
     Diff(&'a str, &'a str),
 }
@@ -69,6 +71,7 @@ pub enum Verb {
     Unpack,
     Cpio,
     Lay,
+    Loader,
     Diff,
 }
 
@@ -97,9 +100,9 @@ pub enum Wrong<'a> {
     NoBlock,
     /// `unpack` has no file.
     NoPacked,
-    /// `unpack` has no folder.
+    /// `unpack` or `loader` has no folder for its files.
     NoFolder,
-    /// `cpio` or `lay` has no folder.
+    /// `cpio`, `lay` or `loader` has no folder.
     NoTables,
     /// `cpio` has no file for the archive.
     NoArchive,
@@ -154,7 +157,7 @@ fn takes(verb: Verb, word: &str) -> bool
         Verb::Make => is_force(word),
         Verb::Show | Verb::Check | Verb::Image | Verb::Template => false,
         Verb::Disassemble | Verb::Names | Verb::Unpack | Verb::Cpio => false,
-        Verb::Lay | Verb::Diff => false,
+        Verb::Lay | Verb::Loader | Verb::Diff => false,
     }
 }
 
@@ -200,7 +203,8 @@ fn leads(verb: Verb, word: &str) -> bool
         Verb::Show => is_json(word) || is_bare(word),
         Verb::Check | Verb::Image => is_json(word),
         Verb::Make | Verb::Template | Verb::Disassemble => false,
-        Verb::Names | Verb::Unpack | Verb::Cpio | Verb::Lay | Verb::Diff => false,
+        Verb::Names | Verb::Unpack | Verb::Cpio | Verb::Lay => false,
+        Verb::Loader | Verb::Diff => false,
     }
 }
 
@@ -294,8 +298,8 @@ fn is_number(word: &[u8]) -> bool
     has(b'=', word) && !has(b'/', word)
 }
 
-// Returns how many words are files.
-fn files_in(words: &[String]) -> usize
+/// Returns how many words are files: those before the first that states a number of arguments.
+pub fn files_in(words: &[String]) -> usize
     ensures is { result ≡ files_in (map (λ word. string_bytes word) words.now) }
     ensures within { result ≤ length words.now }
 {
@@ -541,6 +545,20 @@ fn lay(words: &[String]) -> Result<Command<'_>, Wrong<'_>>
     }
 }
 
+// Returns what `loader` and these words, which aren't options, ask for.
+fn loader(words: &[String]) -> Result<Command<'_>, Wrong<'_>>
+    requires { first_option verbs.Loader (map (λ word. string_bytes word) words.now) ≡ None }
+    ensures { (all : List (List ℕ)) → all ≡ codes "loader" ∷ map (λ word. string_bytes word) words.now
+        → MatchResult result (Asks all) (IsWrong all) }
+{
+    match words {
+        [] => Err(Wrong::NoTables),
+        [_] => Err(Wrong::NoFolder),
+        [folder, to] => Ok(Command::Loader(folder.as_str(), to.as_str())),
+        [_, _, extra, ..] => Err(Wrong::Unknown(extra.as_str())),
+    }
+}
+
 // Returns what `diff` and these words, which aren't options, ask for.
 fn diff(words: &[String]) -> Result<Command<'_>, Wrong<'_>>
     requires { first_option verbs.Diff (map (λ word. string_bytes word) words.now) ≡ None }
@@ -576,6 +594,7 @@ fn asked(verb: Verb, words: &[String]) -> Result<Command<'_>, Wrong<'_>>
             Verb::Unpack => unpack(words),
             Verb::Cpio => cpio(words),
             Verb::Lay => lay(words),
+            Verb::Loader => loader(words),
             Verb::Diff => diff(words),
         },
     }
@@ -604,6 +623,7 @@ pub fn parse(words: &[String]) -> Result<Command<'_>, Wrong<'_>>
         "unpack" => asked(Verb::Unpack, rest),
         "cpio" => asked(Verb::Cpio, rest),
         "lay" => asked(Verb::Lay, rest),
+        "loader" => asked(Verb::Loader, rest),
         "diff" => asked(Verb::Diff, rest),
         word => Err(Wrong::Unknown(word)),
     }

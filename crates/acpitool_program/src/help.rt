@@ -10,8 +10,9 @@ use std::io::Write;
 
 const USAGE: &str = "\
 usage: acpitool show [--no-offsets] FILE .. [NAME=N ..] | show --json FILE .. | check [--json] FILE .. | diff FILE FILE \
-| disassemble FILE [NAME=N ..] | names FILE [NAME=N ..] | image [--json] FILE [BASE] | make [--force] TEXT FILE \
-| template SIGNATURE | unpack FILE FOLDER [BASE] | cpio FOLDER FILE | lay FOLDER FILE BASE | --help | --version
+| disassemble FILE .. [NAME=N ..] | names FILE .. [NAME=N ..] | image [--json] FILE [BASE] | make [--force] TEXT FILE \
+| template SIGNATURE | unpack FILE FOLDER [BASE] | cpio FOLDER FILE | lay FOLDER FILE BASE | loader FOLDER OUT \
+| --help | --version
 ";
 
 // What `--help`, `-h` and `help` print after the usage.
@@ -39,12 +40,13 @@ in the second table in hexadecimal, the highest first, or none. Fields are compa
 offsets, so a structure that only one table has doesn't shift those after it. A line says if only bytes without a name
 differ, or if the tables have different signatures. A FILE is a table, an RSDP or a FACS; - is standard input.
 
-disassemble prints a definition block as ASL, the language that compilers take. FILE is its table, or - for
-standard input.
+disassemble prints a definition block as ASL, the language that compilers take. The first FILE is its table, or -
+for standard input. The block may call the methods of those in further FILEs, as an SSDT calls those of the DSDT.
+Terms that can't be read are a comment with their bytes, and a line says why.
 
 names prints the objects that a definition block makes when it is loaded, as a tree: the name of each, what it is,
-the number of a method's arguments, and a value that has space in the line, such as that of _HID. FILE is its
-table, or - for standard input.
+the number of a method's arguments, and a value that has space in the line, such as that of _HID. FILEs are as for
+disassemble.
 
 image finds the RSDP in a file with the bytes of a guest's memory, follows it to all tables, and checks them.
 It prints the address, signature, length and revision of each. BASE is the address of the first byte in
@@ -75,6 +77,11 @@ has the flag HW_REDUCED_ACPI. The image has an RSDP and an XSDT of its own, so t
 RSDT. Of the tables only the FADT is changed: it points to the FACS and the DSDT. Tables are laid in the order of their
 files' names. A line has the address of the RSDP. As FILE, - is standard output, and the line goes to standard error; a
 regular FILE is replaced as make does it, unless it is one of the tables.
+
+loader writes the files by which QEMU hands the tables of FOLDER to firmware: OUT/etc/acpi/tables, OUT/etc/acpi/rsdp and
+OUT/etc/table-loader. The tables are laid as lay does it, without addresses. The last file has the commands by which
+firmware puts the addresses and the checksums in. A line says the path and the length of each file. Folders are made if
+they aren't there. A file that is there isn't replaced, and no further file is written then.
 
 The status is 0 if everything is shown or written, 1 if something isn't a table, an image or a text of a table,
 its structures or numbers are wrong, a table breaks a rule, two tables differ, tables have no image, no table has

@@ -61,7 +61,7 @@ fn read_one<R: Files, E: Write>(
 }
 
 // Returns the bytes of files, or prints why the first that is refused is, and returns the status.
-fn read_files<R: Files, E: Write>(
+pub(crate) fn read_files<R: Files, E: Write>(
     rt: &R,
     alloc: Global,
     paths: &[String],
@@ -104,7 +104,7 @@ fn tell_replaced<E: Write>(file: &str, err: &mut E) -> io::Result<u8>
 }
 
 // Returns what a fault is said of: the file that is a second one of its signature, or else the folder.
-fn blamed<'a>(folder: &'a str, paths: &'a [String], fault: LayFault) -> &'a str
+pub(crate) fn blamed<'a>(folder: &'a str, paths: &'a [String], fault: LayFault) -> &'a str
     ensures { result.now ≡ blamed folder.now (map (λ path. string_bytes path) paths.now) fault }
 {
     match fault {

@@ -18,6 +18,7 @@ pub mod job;
 pub mod laws;
 pub mod laying;
 pub mod listing;
+pub mod loading;
 pub mod machine;
 pub mod making;
 pub mod object;

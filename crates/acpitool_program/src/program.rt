@@ -15,6 +15,7 @@ use crate::disassembly::disassemble;
 use crate::help::{print_help, print_version, tell_wrong};
 use crate::laying::lay_folder;
 use crate::listing::list_file;
+use crate::loading::load_folder;
 use crate::making::make_file;
 use crate::show::{list_all, show_all};
 use crate::unpacking::unpack;
@@ -129,6 +130,7 @@ pub fn run<R: Files + Input + AllocGlobal + Clone + Drop, O: Write, E: Write>(
         Ok(Command::Unpack(file, folder, base)) => unpack(rt, alloc, file, folder, base, out, err),
         Ok(Command::Cpio(folder, file)) => archive_folder(rt, alloc, folder, file, out, err),
         Ok(Command::Lay(folder, file, base)) => lay_folder(rt, alloc, folder, file, base, out, err),
+        Ok(Command::Loader(folder, to)) => load_folder(rt, alloc, folder, to, out, err),
         Ok(Command::Diff(first, second)) => compare_files(rt, alloc, first, second, out, err),
         Ok(Command::Make(force, text, file)) => make_file(rt, alloc, force, text, file, out, err),
         Err(wrong) => tell_wrong(&wrong, err),

@@ -1,6 +1,6 @@
 //! The terms of a definition block, in comments after its text.
 
-ghost use Rattle.std.specs.Prelude.{◌≡◌, ◌≢◌, ◌+◌, ◌<◌, ◌≤◌, ◌^◌, ◌⊎◌, length, drop, IfOk, IfErr, IfSome, Some, string_bytes};
+ghost use Rattle.std.specs.Prelude.{◌≡◌, ◌≢◌, ◌+◌, ◌<◌, ◌≤◌, ◌^◌, ◌⊎◌, [], length, drop, IfOk, IfErr, IfSome, Some, string_bytes};
 ghost use Rattle.acpi_term.specs.ReadError.{offset_of};
 ghost use Rattle.acpi_term.specs.declared.read_error.ReadError.TheVariants.{Memory};
 ghost use Rattle.acpitool_program.specs.Terms.{report_lines, unread_line, error_line, IsReport, HasReport};
@@ -20,10 +20,10 @@ use std::alloc::{AllocError, Global};
 // Returns the report of terms with comments.
 fn report(alloc: Global, stated: &Arities, terms: &[u8]) -> Result<String, ReadError>
     ensures ok { IfOk result (λ text. IsReport stated.now terms.now (string_bytes text)) }
-    ensures err { IfErr result (AreNoTerms stated.now terms.now) }
+    ensures err { IfErr result (AreNoTerms stated.now [] terms.now) }
     ensures place { IfErr result (λ e. IfSome (offset_of e) (λ offset. offset ≤ length terms.now)) }
 {
-    let own = own_arities(alloc, terms, stated)?;
+    let own = own_arities(alloc, terms, stated, &[])?;
     annotated(alloc, terms, &own)
 }
 

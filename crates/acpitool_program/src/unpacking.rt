@@ -122,7 +122,7 @@ fn why_not(alloc: Global, error: &io::Error) -> Result<String, AllocError> {
 }
 
 // Prints why a file or a folder can't be made, and returns 1.
-fn tell_not_made<E: Write>(
+pub(crate) fn tell_not_made<E: Write>(
     alloc: Global,
     path: &str,
     error: &io::Error,
@@ -146,7 +146,7 @@ fn print_file<O: Write>(path: &str, table: &[u8], out: &mut O) -> io::Result<()>
 }
 
 // Writes a table to a new file.
-fn unpack_table<R: Files, O: Write, E: Write>(
+pub(crate) fn unpack_table<R: Files, O: Write, E: Write>(
     rt: &R,
     alloc: Global,
     path: &str,
@@ -204,7 +204,7 @@ fn unpack_all<R: Files, O: Write, E: Write>(
 }
 
 // Makes a folder, unless it is there.
-fn make_folder<R: Files>(rt: &R, folder: &str) -> io::Result<()> {
+pub(crate) fn make_folder<R: Files>(rt: &R, folder: &str) -> io::Result<()> {
     if is_folder(rt, folder) {
         return Ok(());
     }

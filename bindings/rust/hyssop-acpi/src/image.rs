@@ -38,6 +38,13 @@ pub fn image_tables(bytes: &[u8], base: u64, rsdp: u64) -> Result<Vec<ImageTable
     })
 }
 
+/// Finds the RSDP in memory (ACPI 6.5, 5.2.5.1), at a multiple of 16 bytes, and returns its offset.
+pub fn find_rsdp(bytes: &[u8]) -> Result<usize, Error> {
+    let mut offset = 0;
+    let number = unsafe { sys::hyssop_find_rsdp(bytes.as_ptr(), bytes.len(), &mut offset) };
+    Error::of(number, 0).map(|()| offset)
+}
+
 /// Lays tables into an image for the physical address `base`, a multiple of 64: the FADT, the DSDT, the FACS, and others. The
 /// image gets an XSDT and an RSDP. The place of an error is which table is wrong, counted from 0.
 pub fn lay(tables: &[&[u8]], base: u64) -> Result<Image, Error> {

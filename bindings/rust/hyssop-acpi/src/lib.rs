@@ -16,15 +16,34 @@
 //! # Ok::<(), hyssop_acpi::Error>(())
 //! ```
 
+pub mod aml;
+pub mod bert;
 mod error;
+pub mod facs;
+pub mod fadt;
+pub mod gas;
+pub mod hmat;
 mod image;
+pub mod madt;
+pub mod mcfg;
+mod object;
+pub mod pptt;
+pub mod rsdp;
+pub mod sdt;
+pub mod slit;
+pub mod spcr;
+pub mod srat;
+mod structure;
 mod table;
 mod text;
+pub mod viot;
 mod writer;
+pub mod xsdt;
 
 pub use error::Error;
 pub use hyssop_acpi_sys::{ImageTable, NO_KIND, Note, Structure, fault};
-pub use image::{Image, check_image, image_tables, lay};
+pub use image::{Image, check_image, find_rsdp, image_tables, lay};
+pub use object::{Aml, AmlSink, u8sum};
 pub use table::{check_aml, check_table, disassemble, names, seal, structures};
 pub use text::{findings, make, notes, show, template};
 pub use writer::{Access, MemoryType, Op, RegionSpace, Update, Writer};

@@ -1,7 +1,10 @@
 //! A writer of AML and of tables.
 
 use crate::Error;
+use crate::gas::GAS;
+use crate::object::bytes_of;
 use hyssop_acpi_sys as sys;
+use std::cell::Cell;
 use std::ffi::{CString, c_char};
 use sys::fault;
 
@@ -129,7 +132,7 @@ pub enum Op {
 /// A writer of AML (ACPI 6.5, 20), or of a table. Its bytes grow as far as they have to. No call returns a `Result`: the writer
 /// keeps its first error, later calls do nothing, and `finish` returns it. A call that opens an object takes what is written
 /// inside of it, so each object is closed.
-#[derive(Debug)]
+#[derive(Clone, Debug)]
 pub struct Writer {
     bytes: Vec<u8>,
     state: sys::State,
@@ -180,6 +183,11 @@ impl Writer {
             });
         });
         writer
+    }
+
+    // How many bytes are written.
+    pub(crate) fn len(&self) -> usize {
+        self.state.size
     }
 
     // Makes a call, and makes it again with a larger buffer as long as there isn't space.
@@ -545,6 +553,11 @@ impl Writer {
         self.call(|inner| unsafe { sys::hyssop_io_range(inner, min, max, translation) })
     }
 
+    /// A range of ports as `io_range`, with a translation of 32 bits, as for ports that are in memory.
+    pub fn io_range32(&mut self, min: u32, max: u32, translation: u32) -> &mut Writer {
+        self.call(|inner| unsafe { sys::hyssop_io_range32(inner, min, max, translation) })
+    }
+
     /// A range of memory below 2^32: how it is cached, its first and its last address, and what a bridge adds to them (ACPI 6.5,
     /// 6.4.3.5).
     pub fn memory_range32(
@@ -586,6 +599,59 @@ impl Writer {
                 translation,
             )
         })
+    }
+
+    /// Adds the fields of the table that aren't written yet, up to its first list or its first structure. All are zero.
+    pub fn add_fields(&mut self) -> &mut Writer {
+        self.call(|inner| unsafe { sys::hyssop_add_fields(inner) })
+    }
+
+    /// Adds a structure of a type to the table, after the fields of the table, and returns its offset, or 0 with an error. All its
+    /// fields up to its first list are zero, but its type and its length. The table gets the number of its structures and the
+    /// offset of the first, if it has fields for them. A table whose structures have no types takes the type 0.
+    pub fn add_structure(&mut self, kind: u32) -> usize {
+        let offset = Cell::new(0);
+        self.call(|inner| unsafe { sys::hyssop_add_structure(inner, kind, offset.as_ptr()) });
+        offset.get()
+    }
+
+    /// Ends the structure at an offset, to which bytes were added: its length is the number of the bytes from there on.
+    pub fn end_structure(&mut self, offset: usize) -> &mut Writer {
+        self.call(|inner| unsafe { sys::hyssop_end_structure(inner, offset) })
+    }
+
+    /// Sets a field to a number: the first with this name of the structure at an offset, or of the table itself at 0.
+    /// `docs/FIELDS.md` has the names. Fields in a list, and those after the first list, aren't sought.
+    pub fn set_number(&mut self, offset: usize, name: &str, value: u64) -> &mut Writer {
+        self.with_text(name, |writer, name| {
+            writer.call(|inner| unsafe { sys::hyssop_set_number(inner, offset, name, value) });
+        })
+    }
+
+    /// Sets such a field to bytes, of which it takes as many as it has.
+    pub fn set_bytes(&mut self, offset: usize, name: &str, bytes: &[u8]) -> &mut Writer {
+        self.with_text(name, |writer, name| {
+            writer.call(|inner| unsafe {
+                sys::hyssop_set_bytes(inner, offset, name, bytes.as_ptr(), bytes.len())
+            });
+        })
+    }
+
+    /// Sets such a field to the address of a register.
+    pub fn set_register(&mut self, offset: usize, name: &str, register: &GAS) -> &mut Writer {
+        self.set_bytes(offset, name, &bytes_of(register))
+    }
+
+    /// Writes bytes over those that are written at an offset.
+    pub fn overwrite(&mut self, offset: usize, bytes: &[u8]) -> &mut Writer {
+        self.call(|inner| unsafe {
+            sys::hyssop_overwrite(inner, offset, bytes.as_ptr(), bytes.len())
+        })
+    }
+
+    /// A number of `width` bytes, at most 8, lowest byte first.
+    pub fn add_number(&mut self, width: usize, value: u64) -> &mut Writer {
+        self.call(|inner| unsafe { sys::hyssop_add_number(inner, width, value) })
     }
 
     /// The bytes that are written, or the first error, whose place is how many bytes were written before it. A table gets its

@@ -225,5 +225,6 @@ pub fn push_head(kind: Kind<'_>, count: usize, text: &mut String) -> Result<(), 
         }
         Kind::Fatal(kind, code) => push_fatal(kind, code, text),
         Kind::MatchTest(code) => push_number("test ", u64::from(code), text),
+        Kind::Unread(_, bytes) => push_bytes("unread", bytes, text),
     }
 }

@@ -8,16 +8,16 @@ use std::fs;
 use std::test::Fail;
 use test_support::{equal, same};
 
-// A DSDT without terms.
-const DSDT: [u8; 36] =
+/// A DSDT without terms.
+pub const DSDT: [u8; 36] =
     *b"DSDT\x24\x00\x00\x00\x02\x96FOOBARCAFEDEAD\x01\x00\x00\x00RVAT\x00\x00\x00\x01";
 
-// The first bytes of a FADT of 148 bytes. The others are 0, and all of them sum to 0.
-const FADT: [u8; 36] =
+/// The first bytes of a FADT of 148 bytes. The others are 0, and all of them sum to 0.
+pub const FADT: [u8; 36] =
     *b"FACP\x94\x00\x00\x00\x06\x37FOOBARCAFEDEAD\x01\x00\x00\x00RVAT\x00\x00\x00\x01";
 
-// The first bytes of a FACS of 64 bytes, up to its version. The others are 0.
-const FACS: [u8; 33] =
+/// The first bytes of a FACS of 64 bytes, up to its version. The others are 0.
+pub const FACS: [u8; 33] =
     *b"FACS\x40\x00\x00\x00\x00\x00\x00\x00\x00\x00\x00\x00\x00\x00\x00\x00\x00\x00\x00\x00\x00\x00\x00\x00\x00\x00\x00\x00\x02";
 
 // The XSDT of the image of the folder `laid`, which lists the FADT and the table, and its RSDP.
@@ -46,8 +46,8 @@ const LAID: [(usize, &[u8]); 8] = [
     (0x184, &[]),
 ];
 
-// Adds groups of bytes, each at its offset.
-fn joined(rt: &HostRuntime, groups: &[(usize, &[u8])]) -> Result<Vec<u8>, AllocError> {
+/// Adds groups of bytes, each at its offset.
+pub fn joined(rt: &HostRuntime, groups: &[(usize, &[u8])]) -> Result<Vec<u8>, AllocError> {
     let mut bytes = Vec::new(rt.alloc());
     for (offset, group) in groups {
         bytes.resize(*offset, 0)?;
@@ -56,8 +56,8 @@ fn joined(rt: &HostRuntime, groups: &[(usize, &[u8])]) -> Result<Vec<u8>, AllocE
     Ok(bytes)
 }
 
-// Writes a file with these first bytes, and zeros after them.
-fn write_padded(rt: &HostRuntime, name: &str, front: &[u8], size: usize) -> Result<(), Fail> {
+/// Writes a file with these first bytes, and zeros after them.
+pub fn write_padded(rt: &HostRuntime, name: &str, front: &[u8], size: usize) -> Result<(), Fail> {
     let bytes = joined(rt, &[(0, front), (size, &[])])?;
     write(rt, name, &bytes)
 }
@@ -130,8 +130,8 @@ fn laid_again(rt: HostRuntime) -> Result<(), Fail> {
     same(&fs::read(&rt, "second_image")?, &wanted)
 }
 
-// A hardware-reduced FADT: its checksum, and its flags at offset 112.
-const REDUCED: [(usize, &[u8]); 3] = [
+/// A hardware-reduced FADT: its checksum, and its flags at offset 112.
+pub const REDUCED: [(usize, &[u8]); 3] = [
     (
         0,
         b"FACP\x94\x00\x00\x00\x06\x27FOOBARCAFEDEAD\x01\x00\x00\x00RVAT\x00\x00\x00\x01",
@@ -140,7 +140,8 @@ const REDUCED: [(usize, &[u8]); 3] = [
     (148, &[]),
 ];
 
-const OEM1: [u8; 36] =
+/// Another table of an unknown signature.
+pub const OEM1: [u8; 36] =
     *b"OEM1\x24\x00\x00\x00\x01\xb4FOOBARCAFEDEAD\x01\x00\x00\x00RVAT\x00\x00\x00\x01";
 
 // The tables of its image.

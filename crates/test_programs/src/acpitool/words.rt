@@ -6,8 +6,9 @@ use std::test::Fail;
 // What is printed after the line of a wrong word.
 const USAGE: &str = "\
 usage: acpitool show [--no-offsets] FILE .. [NAME=N ..] | show --json FILE .. | check [--json] FILE .. | diff FILE FILE \
-| disassemble FILE [NAME=N ..] | names FILE [NAME=N ..] | image [--json] FILE [BASE] | make [--force] TEXT FILE \
-| template SIGNATURE | unpack FILE FOLDER [BASE] | cpio FOLDER FILE | lay FOLDER FILE BASE | --help | --version
+| disassemble FILE .. [NAME=N ..] | names FILE .. [NAME=N ..] | image [--json] FILE [BASE] | make [--force] TEXT FILE \
+| template SIGNATURE | unpack FILE FOLDER [BASE] | cpio FOLDER FILE | lay FOLDER FILE BASE | loader FOLDER OUT \
+| --help | --version
 ";
 
 // The template of a definition block.
@@ -75,8 +76,11 @@ fn wrong_commands(rt: HostRuntime) -> Result<(), Fail> {
             (&["cpio"], "no folder with tables\n"),
             (&["cpio", "x"], "no file for the archive\n"),
             (&["cpio", "x", "y", "z"], "unknown word z\n"),
+            (&["loader"], "no folder with tables\n"),
+            (&["loader", "x"], "no folder for the tables\n"),
+            (&["loader", "x", "y", "z"], "unknown word z\n"),
             (
-                &["disassemble", "x", "y"],
+                &["disassemble", "x", "MTHD=1", "y"],
                 "not NAME=N with N from 0 to 7: y\n",
             ),
         ],

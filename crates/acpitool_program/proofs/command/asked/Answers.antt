@@ -46,3 +46,7 @@ returns-in-Lay c = λ all is. c.lay.ensures all
 pub returns-in-Diff : goal.returns-in-Diff
 returns-in-Diff c = λ all is. c.diff.ensures all
     (is ∙ ap (λ (verb : Verb). word_of verb ∷ map (λ word. string_bytes word) c.args.words.now) c.in-Diff.is)
+
+pub returns-in-Loader : goal.returns-in-Loader
+returns-in-Loader c = λ all is. c.loader.ensures all
+    (is ∙ ap (λ (verb : Verb). word_of verb ∷ map (λ word. string_bytes word) c.args.words.now) c.in-Loader.is)

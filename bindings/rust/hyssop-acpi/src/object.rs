@@ -1,0 +1,87 @@
+//! Objects that write themselves into a sink, as in the Rust crate `acpi_tables`.
+
+use crate::{Error, Writer};
+
+/// What takes bytes.
+pub trait AmlSink {
+    /// Takes a byte.
+    fn byte(&mut self, byte: u8);
+
+    /// Takes a number of two bytes, lowest byte first.
+    fn word(&mut self, word: u16) {
+        self.vec(&word.to_le_bytes());
+    }
+
+    /// Takes a number of four bytes, lowest byte first.
+    fn dword(&mut self, dword: u32) {
+        self.vec(&dword.to_le_bytes());
+    }
+
+    /// Takes a number of eight bytes, lowest byte first.
+    fn qword(&mut self, qword: u64) {
+        self.vec(&qword.to_le_bytes());
+    }
+
+    /// Takes bytes.
+    fn vec(&mut self, v: &[u8]) {
+        for byte in v {
+            self.byte(*byte);
+        }
+    }
+}
+
+impl AmlSink for Vec<u8> {
+    fn byte(&mut self, byte: u8) {
+        self.push(byte);
+    }
+
+    fn vec(&mut self, v: &[u8]) {
+        self.extend_from_slice(v);
+    }
+}
+
+/// An object of AML, a table or a structure, which writes its bytes.
+pub trait Aml {
+    /// Writes the bytes. It panics if the object has no bytes by the standard: a path of no four characters, an argument past 6,
+    /// or a length that doesn't fit.
+    fn to_aml_bytes(&self, sink: &mut dyn AmlSink);
+}
+
+/// The sum of an object's bytes, modulo 256.
+pub fn u8sum(aml: &dyn Aml) -> u8 {
+    let bytes = bytes_of(aml);
+    bytes.iter().fold(0, |sum, byte| sum.wrapping_add(*byte))
+}
+
+pub(crate) fn bytes_of(object: &dyn Aml) -> Vec<u8> {
+    let mut bytes = Vec::new();
+    object.to_aml_bytes(&mut bytes);
+    bytes
+}
+
+// The bytes that were written. As in `acpi_tables`, an object that can't be written panics.
+pub(crate) fn written(result: Result<Vec<u8>, Error>) -> Vec<u8> {
+    result.unwrap_or_else(|error| panic!("{}", error.words()))
+}
+
+// Writes what a writer writes.
+pub(crate) fn emit(sink: &mut dyn AmlSink, write: impl FnOnce(&mut Writer)) {
+    let mut writer = Writer::new();
+    write(&mut writer);
+    sink.vec(&written(writer.finish()));
+}
+
+impl Writer {
+    /// An object, or whatever writes itself into a sink.
+    pub fn add(&mut self, object: &dyn Aml) -> &mut Writer {
+        self.bytes(&bytes_of(object))
+    }
+
+    // Objects, one after another.
+    pub(crate) fn add_all(&mut self, objects: &[&dyn Aml]) -> &mut Writer {
+        for object in objects {
+            self.add(*object);
+        }
+        self
+    }
+}

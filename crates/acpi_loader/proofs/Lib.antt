@@ -1,0 +1,6 @@
+pub mod Joined
+pub mod Moves
+pub mod Shapes
+pub mod Pointers
+pub mod Loads
+pub mod Placed
