@@ -1,7 +1,7 @@
 #!/bin/sh
 # Boots an unmodified Linux under QEMU from an image of tables, and prints what the kernel says of each. Not a part of the gate.
 #
-#     VMLINUZ=KERNEL sh tools/boot.sh IMAGE [BASE [NODES PROCESSORS]]
+#     VMLINUZ=KERNEL [INITRD=ARCHIVE] sh tools/boot.sh IMAGE [BASE [NODES PROCESSORS]]
 #
 # The bytes of the image begin at the address BASE, in hexadecimal with or without 0x (1c000000 if none is named). The tables
 # are in the first MiB from there, and the 3 MiB after it are reserved for pages that tables point to. Its RSDP is the last one
@@ -11,10 +11,13 @@
 # if the kernel didn't take the RSDP or a table, found another number of nodes or processors or a processor without a domain,
 # complains about a table, AML or what they describe, or doesn't come so far.
 #
+# ARCHIVE is one of `acpitool cpio`. Linux has to find each of its tables in the initrd, and to install it, or to take it in place of
+# that of the image.
+#
 # Linux doesn't sum an RSDP that acpi_rsdp= names, and on x86 it doesn't read the PPTT: of these, `acpitool image` checks the sums
 # of the RSDP, and only the sum of the PPTT is seen here.
 #
-# It takes qemu-system-x86_64 (Debian's package qemu-system-x86) and a kernel with a serial console. Debian's
+# It takes qemu-system-x86_64 (Debian's package qemu-system-x86), cpio for ARCHIVE, and a kernel with a serial console. Debian's
 # linux-image-cloud-amd64 has one: `apt-get download` the package that it depends on, and unpack it with `dpkg-deb -x`.
 set -eu
 export LC_ALL=C
@@ -40,6 +43,9 @@ command -v qemu-system-x86_64 >/dev/null || fail "qemu-system-x86_64 isn't here:
 [ -n "${VMLINUZ:-}" ] || fail 'VMLINUZ has to name a kernel: a vmlinuz file'
 [ -r "$VMLINUZ" ] || fail "the kernel $VMLINUZ can't be read"
 [ -r "$image" ] || fail "the image $image can't be read"
+initrd=${INITRD:-}
+[ -z "$initrd" ] || [ -r "$initrd" ] || fail "the archive $initrd can't be read"
+[ -z "$initrd" ] || command -v cpio >/dev/null || fail "cpio isn't here: Debian has it in cpio"
 
 at=$(grep -abo 'RSD PTR ' "$image" | tail -n 1 | cut -d: -f1)
 [ -n "$at" ] || fail "there is no RSDP in $image"
@@ -93,7 +99,7 @@ od -An -v -tu1 -w1 "$image" | awk -v domains="$work/domains" '
 
 # Without nokaslr the kernel may put itself where the tables are, and without the last word it doesn't sum their bytes.
 timeout 300 qemu-system-x86_64 -M q35 -m 512 -smp "$processors,sockets=$processors" -nographic -no-reboot -kernel "$VMLINUZ" \
-    -device "loader,file=$image,addr=$base,force-raw=on" \
+    ${initrd:+-initrd "$initrd"} -device "loader,file=$image,addr=$base,force-raw=on" \
     -append "console=ttyS0 panic=-1 acpi_rsdp=$rsdp memmap=1M#$base memmap=3M\$$errors nokaslr acpi_force_table_verification" \
     </dev/null >"$work/console" 2>&1 || { cat "$work/console" >&2; fail "QEMU didn't end as it should"; }
 tr -d '\r' <"$work/console" >"$work/lines"
@@ -111,6 +117,17 @@ while read -r signature from; do
     count=$(grep -acE "ACPI: $signature 0x0*$address " "$work/lines" || true)
     [ "$count" -eq 1 ] || fail "the kernel took the $signature at 0x$address $count times"
 done <"$work/tables"
+
+# Each table of the archive is found in it, and is installed, or taken in place of another one.
+if [ -n "$initrd" ]; then
+    cpio -t <"$initrd" 2>/dev/null | sed 1,3d >"$work/files"
+    while read -r name; do
+        grep -aqF "ACPI table found in initrd [$name]" "$work/lines" || fail "the kernel didn't find $name"
+    done <"$work/files"
+    given=$(wc -l <"$work/files")
+    taken=$(grep -acE 'ACPI: Table Upgrade: (install|override) ' "$work/lines" || true)
+    [ "$taken" -eq "$given" ] || fail "the kernel took $taken tables of the archive, and not $given"
+fi
 
 found=$(sed -n 's/.*smp: Brought up \([0-9]*\) nodes*, \([0-9]*\) CPUs*.*/\1 \2/p' "$work/lines")
 [ "$found" = "$nodes $processors" ] || fail "the kernel found ${found:-no} nodes and processors, and not $nodes $processors"

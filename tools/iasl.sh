@@ -3,13 +3,16 @@
 # AML, and prints a line for each. It compares the fields that iasl writes with those that `acpitool show` prints, as
 # iasl_fields.py says. With a folder as its argument, the tables are the files of that folder. Without one they are those of the
 # example, and then the fields of crates/acpitool/data are compared, too: these tables have each structure, with values that iasl
-# needn't accept. The programs and what they stand on are proved first. Not a part of the gate. The status is 1 if iasl refuses a
-# table, if its fields are others, or if there is no table.
+# needn't accept. The programs and what they stand on are proved first. Not a part of the gate. It goes over all tables. Its last
+# line has the numbers of tables, of those that iasl refuses, and of those whose fields are others. The status is 1 if one of the
+# last two isn't 0, or if there is no table.
 #
 # iasl refuses a table if it ends with an error, writes no text, or says that the bytes are wrong. It also warns of what it can't
 # know from one table, as of names that another definition block declares. These warnings are printed, and don't count.
 #
-# Tried with release 20200925, Debian's package acpica-tools. It knows ACPI 6.3. In these tables it doesn't know:
+# Tried with Debian's package acpica-tools of three releases. Release 20260408 knows all tables that acpitool shows, but for an
+# RSDP; what it writes otherwise is in iasl_fields.py. Release 20250404 doesn't know the newest structures. Release 20200925 knows
+# ACPI 6.3. In the example's tables it doesn't know:
 # - PPTT: the cache's id (offset 24 of a cache's node, and the flag 128 for it);
 # - HMAT: the minimum transfer size (offset 10 of a matrix) and the flags 16 and 32 beside the hierarchy.
 # It doesn't write of these, so nothing here says that they are right. Nor does it see a last structure that is longer than the
@@ -60,34 +63,47 @@ disassemble() {
         ! grep -Ei "$said" "$work/log" | grep -Evq "$warned" && ! grep -E "$written" "$text" | grep -Evq "$warned"
 }
 
-# Compares the fields in a table's text with those that acpitool shows, and prints what differs.
+count=0
+refused=0
+different=0
+
+# Compares the fields in a table's text with those that acpitool shows, and prints what differs. A table with a fault is shown,
+# too.
 compare_fields() {
-    "$tool" show "$1" >"$work/shown" || fail "$1: acpitool doesn't show it"
-    python3 -B tools/iasl_fields.py "$work/shown" "$2" >"$work/compared" || { cat "$work/compared" >&2; fail "$1: its fields differ"; }
+    "$tool" show "$1" >"$work/shown" || [ -s "$work/shown" ] || {
+        echo "${1##*/}: acpitool doesn't show it" >&2
+        different=$((different + 1))
+        return 0
+    }
+    python3 -B tools/iasl_fields.py "$work/shown" "$2" >"$work/compared" || {
+        echo "${1##*/}: its fields differ" >&2
+        different=$((different + 1))
+    }
     sed "s|^|${1##*/}: |" "$work/compared"
 }
 
-count=0
 for table in "$tables"/* "$tables"/arm/*; do
     name=${table##*/}
     # All tables at their addresses.
     [ "$name" != image ] && [ -f "$table" ] || continue
+    count=$((count + 1))
     text=$work/$(printf %s "$name" | tr . _).dsl
+    rm -f "$text"
     if ! disassemble "$table" "$text"; then
+        refused=$((refused + 1))
         echo "$name: refused by iasl" >&2
         grep -Ei "$said" "$work/log" >&2 || cat "$work/log" >&2
         grep -Es "$written" "$text" >&2 || true
-        exit 1
+        continue
     fi
     grep -E "$warned" "$work/log" | sed "s/^/$name: /" || true
     echo "$name: $(sed -n 's/^ACPI: \(....\) .*/\1/p' "$work/log") disassembled"
     compare_fields "$table" "$text"
-    count=$((count + 1))
 done
 [ "$count" -gt 0 ] || fail "there is no table"
 
-[ $# -eq 0 ] || exit 0
-for table in crates/acpitool/data/*; do
+[ $# -gt 0 ] || for table in crates/acpitool/data/*; do
+    count=$((count + 1))
     name=${table##*/}
     text=$work/$(printf %s "$name" | tr . _).dsl
     rm -f "$text"
@@ -98,3 +114,6 @@ for table in crates/acpitool/data/*; do
         compare_fields "$table" "$text"
     fi
 done
+
+echo "$count tables: $refused refused by iasl, $different with other fields"
+[ "$refused" -eq 0 ] && [ "$different" -eq 0 ]

@@ -16,11 +16,13 @@ Rules, for all tables:
 """
 import re
 import sys
+import uuid
 
 from shown import tables_of
 
-# What iasl of release 20200925 has otherwise: a signature, the type of a structure (None: the table's own fields), the offset of
-# the first byte and of the first byte after it from the beginning of the structure (None: its end), and why.
+# What iasl has otherwise, of release 20200925 if no other is named: a signature, the type of a structure (None: the table's own
+# fields), the offset of the first byte and of the first byte after it from the beginning of the structure (None: its end), and
+# why.
 EXPLAINED = [
     ("FACS", None, 40, 64, "iasl doesn't write the last reserved bytes"),
     ("APIC", 11, 80, 82, "iasl doesn't know the TRBE interrupt of ACPI 6.5"),
@@ -35,16 +37,40 @@ EXPLAINED = [
     ("SPCR", None, 63, 64, "iasl gives the language the offset 76, which is that of the clock frequency"),
     ("SPCR", None, 76, 77, "iasl gives the language the offset 76, which is that of the clock frequency"),
     ("SPCR", None, 80, None, "iasl knows revision 2, which ends at offset 80"),
+    ("CCEL", None, 38, 42, "iasl 20250404 has 4 bytes for the 2 that are reserved"),
+    ("DBG2", None, 11, None, "iasl 20260408 gives the data of the OEM the offset in their structure"),
+    ("IORT", 1, 44, None, "iasl 20260408 writes the first bytes of the table for the padding of a name"),
+    ("MPST", None, 44, None, "the nodes of ACPICA's template have the length 0, and iasl's fields overlap"),
+    ("NFIT", None, 8, 40, "iasl 20260408 gives the data of SMBIOS the offset in their structure"),
+    ("NFIT", 3, 8, None, "iasl 20260408 gives the data of SMBIOS the offset in their structure"),
+    ("RHCT", 0, 6, None, "iasl 20250404 looks for the padding of an ISA string in other places"),
+    ("SDEV", None, 0, 36, "iasl 20260408 gives the fields after a structure's first ones the offset in the structure"),
+    ("SDEV", 0, 0, None, "iasl 20260408 gives the fields after a structure's first ones the offset in the structure"),
+    ("SDEV", 1, 0, None, "iasl 20260408 gives the fields after a structure's first ones the offset in the structure"),
+    ("WPBT", None, 52, None, "iasl 20260408 writes the first bytes of the table for the arguments"),
 ]
 
-FIELD = re.compile(r"\[[0-9A-F]+h (\d+) +(\d+)\] *(.*?) : (.*)")
+# The offset and the width of a field are decimal, but the width is hexadecimal with an `h` from release 20250404 on.
+FIELD = re.compile(r"\[[0-9A-F]+h (\d+) +([0-9A-F]+)(h?)\] *(.*?) : (.*)")
+
+
+# A further line of a value: from release 20250404 on with the offset of its first byte before it, and its characters after it.
+FURTHER = re.compile(r"(?:/\* [0-9A-F]+h \d+ +\d+ \*/)? +((?:[0-9A-F]{2} ?)+?) *(?:\\|/\*.*)?")
+
+UUID = re.compile(r"[0-9A-Fa-f]{8}(?:-[0-9A-Fa-f]{4}){3}-[0-9A-Fa-f]{12}")
 
 
 def bytes_of_iasl(text, width):
     """Returns the bytes of a value as iasl writes it, or None if there is none."""
     text = text.strip()
     if text.startswith('"'):
-        return text[1 : text.rindex('"')].encode().ljust(width, b"\0")
+        said = text[1 : text.rindex('"')]
+        wide = width > 2 and width == 2 * (len(said) + 1)
+        return said.encode("utf-16-le" if wide else "utf-8").ljust(width, b"\0")
+    if UUID.match(text):
+        return uuid.UUID(UUID.match(text)[0]).bytes_le
+    if re.fullmatch(r"[0-9A-F]{2},[0-9A-F]{2}", text):
+        return bytes.fromhex(text.replace(",", ""))
     digits = re.match(r"(?:[0-9A-F]{2} )*[0-9A-F]+(?= |$)", text)
     if not digits:
         return None
@@ -55,13 +81,17 @@ def bytes_of_iasl(text, width):
 
 def fields_of_iasl(text):
     """Returns the fields of a disassembled table: offset, bytes and name. A value of several lines goes on until the next `[`."""
-    fields = []
-    text = text.split("Raw Table Data:")[0]
-    for at, width, name, value in FIELD.findall(re.sub(r"\n +((?:[0-9A-F]{2} ?)+)(?=\n)", r" \1", text)):
-        found = bytes_of_iasl(value, int(width))
-        if found is not None:
-            fields.append((int(at), found, name.strip()))
-    return fields
+    found = []
+    for line in text.split("Raw Table Data:")[0].splitlines():
+        field, further = FIELD.match(line), FURTHER.fullmatch(line)
+        if field:
+            at, width, h, name, value = field.groups()
+            found.append([int(at), int(width, 16 if h else 10), name.strip(), value])
+        elif further and found and re.match(r"[0-9A-F]{2} ", found[-1][3]):
+            first = re.match(r"(?:[0-9A-F]{2} ?)+", found[-1][3])[0].strip()
+            found[-1][3] = f"{first} {further[1].strip()}"
+    fields = ((at, bytes_of_iasl(value, width), name) for at, width, name, value in found)
+    return [it for it in fields if it[1] is not None]
 
 
 def fields_of_acpitool(lines, structure=None):

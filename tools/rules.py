@@ -20,7 +20,7 @@ BEGIN_SEVERAL = "<!-- rules on several tables: tools/rules.py makes these lines 
 END_SEVERAL = "<!-- end of rules on several tables -->\n"
 NAMES = {"Differs": "unique", "Apart": "overlap", "AtMost": "at-most", "Addresses": "no-overflow", "Counts": "count"}
 NAMES.update({"Agrees": "pair", "Needed": "required", "Needs": "needs", "Between": "range", "Multiple": "multiple"})
-NAMES.update({"Points": "reference", "Refers": "reference", "Distances": "distance"})
+NAMES.update({"Points": "reference", "Refers": "reference", "Ends": "cycle", "Distances": "distance"})
 
 
 def stop(why):
@@ -134,6 +134,8 @@ def demand(text):
         return f"is zero, or the offset of a structure of {types(arguments[0].strip('&[]').split(', '))}"
     if kind == "Refers":
         return f"is zero, or {spot(arguments[1])[2]} of a structure of type {arguments[0]}"
+    if kind == "Ends":
+        return "structures of which each has the offset of the next one there come to an end"
     if kind == "Distances":
         return "is the number of localities: the distance from each to itself is 10, and each other one is at least 10"
     stop(f"{SOURCE} has a demand that isn't known: {kind}")

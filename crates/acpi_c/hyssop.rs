@@ -5,7 +5,7 @@
 use std::ffi::{c_char, c_int};
 
 /// `hyssop_version()` returns this, if the library fits these declarations.
-pub const VERSION: u32 = 6;
+pub const VERSION: u32 = 7;
 
 /// The type of a structure, if the structures of its table have none.
 pub const NO_KIND: usize = usize::MAX;
@@ -272,6 +272,8 @@ unsafe extern "C" {
     pub fn hyssop_open_else(writer: *mut Writer) -> u32;
     pub fn hyssop_open_while(writer: *mut Writer) -> u32;
     pub fn hyssop_open_buffer(writer: *mut Writer) -> u32;
+    pub fn hyssop_open_sized_buffer(writer: *mut Writer) -> u32;
+    pub fn hyssop_open_var_package(writer: *mut Writer) -> u32;
     pub fn hyssop_open_resources(writer: *mut Writer) -> u32;
     pub fn hyssop_open_field(
         writer: *mut Writer,
@@ -347,6 +349,25 @@ unsafe extern "C" {
         max: u64,
         translation: u64,
     ) -> u32;
+    pub fn hyssop_memory_range16(
+        writer: *mut Writer,
+        memory_type: u32,
+        read_write: c_int,
+        min: u16,
+        max: u16,
+        translation: u16,
+    ) -> u32;
+    pub fn hyssop_io_range64(writer: *mut Writer, min: u64, max: u64, translation: u64) -> u32;
+    pub fn hyssop_bus_numbers32(writer: *mut Writer, min: u32, max: u32) -> u32;
+    pub fn hyssop_bus_numbers64(writer: *mut Writer, min: u64, max: u64) -> u32;
+    pub fn hyssop_register(
+        writer: *mut Writer,
+        space: u8,
+        width: u8,
+        offset: u8,
+        access: u8,
+        address: u64,
+    ) -> u32;
     pub fn hyssop_table(
         writer: *mut Writer,
         signature: *const c_char,
@@ -357,6 +378,12 @@ unsafe extern "C" {
     ) -> u32;
     pub fn hyssop_add_fields(writer: *mut Writer) -> u32;
     pub fn hyssop_add_structure(writer: *mut Writer, kind: u32, offset: *mut usize) -> u32;
+    pub fn hyssop_add_structure_bytes(
+        writer: *mut Writer,
+        content: *const u8,
+        content_size: usize,
+        offset: *mut usize,
+    ) -> u32;
     pub fn hyssop_end_structure(writer: *mut Writer, offset: usize) -> u32;
     pub fn hyssop_set_number(
         writer: *mut Writer,

@@ -8,7 +8,7 @@ use Rattle.acpi_term.specs.Tree.{Terms}
 use Rattle.acpi_term.specs.declared.language.Language.TheVariants.{Standard}
 use Rattle.acpi_term.specs.declared.read_error.ReadError.{ReadError}
 use Rattle.acpi_read.specs.InPart.{AreReadInPart}
-use Rattle.acpi_terms_text.specs.Methods.{Callee, AreOwn, AreOwnInPart}
+use Rattle.acpi_terms_text.specs.Objects.{Callee, AreOwn, AreOwnInPart}
 use Rattle.acpi_terms_text.specs.Scoped.{AreInScopes}
 use Rattle.acpi_asl.specs.Asl.{asl_text}
 use Rattle.acpi_asl.specs.Namespace.{names}
@@ -33,7 +33,7 @@ block_text Asl header terms = asl_text header terms
 block_text Names header terms = names 0 terms
 
 -- The text is that of a header and the terms that follow it. Names take the stated numbers of arguments, or else those of the
--- methods of the block and of further blocks: in a method those of the nearest ones.
+-- objects of the block and of further blocks: in a method those of the nearest ones.
 pub record IsBlockText (block : BlockText) (stated : List (List ℕ × ℕ)) (further : List Callee) (bytes text : List ℕ) : Type 0 where
   pub own : List (List ℕ × ℕ)
   pub methods : AreOwn stated further (drop 36 bytes) own

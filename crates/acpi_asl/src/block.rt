@@ -3,7 +3,7 @@
 ghost use Rattle.std.specs.Prelude.{◌≡◌, ◌+◌, ◌≤◌, length, drop, map, string_bytes, IfOk, IfErr, IfSome};
 ghost use Rattle.acpi_term.specs.ReadError.{offset_of};
 ghost use Rattle.acpi_term.specs.View.{views};
-ghost use Rattle.acpi_terms_text.specs.Methods.{callee_by};
+ghost use Rattle.acpi_terms_text.specs.Objects.{callee_by};
 ghost use Rattle.acpi_asl.specs.Block.{begins_block, has_terms, block_text, IsBlockText, IsTextInPart, AreNoTerms};
 
 use crate::asl::asl_of;
@@ -13,7 +13,7 @@ use acpi_read::terms::standard_terms;
 use acpi_term::name_string::Arities;
 use acpi_term::read_error::ReadError;
 use acpi_term::term::Term;
-use acpi_terms_text::methods::{Method, own_arities, own_arities_in_part};
+use acpi_terms_text::objects::{Object, own_arities, own_arities_in_part};
 use acpi_terms_text::scoped::in_scopes;
 use std::alloc::{AllocError, Global};
 
@@ -67,7 +67,7 @@ fn text_of_body(
     alloc: Global,
     block: BlockText,
     stated: &Arities,
-    further: &[Method],
+    further: &[Object],
     header: &[u8],
     body: &[u8],
 ) -> Result<String, ReadError>
@@ -85,13 +85,13 @@ fn text_of_body(
 }
 
 /// Returns the text of a definition block. Its terms are read in the language of the standard. Names take the stated numbers of
-/// arguments, or else those of the methods of the block and of further blocks: in a method those of the nearest ones (ACPI 6.5,
+/// arguments, or else those of the objects of the block and of further blocks: in a method those of the nearest ones (ACPI 6.5,
 /// 5.3). The errors are those of `standard_terms`, with offsets from the first byte after the header.
 pub fn text_of_block(
     alloc: Global,
     block: BlockText,
     stated: &Arities,
-    further: &[Method],
+    further: &[Object],
     bytes: &[u8],
 ) -> Result<String, ReadError>
     requires { 36 ≤ length bytes.now }
@@ -109,7 +109,7 @@ pub fn text_in_part(
     alloc: Global,
     block: BlockText,
     stated: &Arities,
-    further: &[Method],
+    further: &[Object],
     bytes: &[u8],
 ) -> Result<String, AllocError>
     requires { 36 ≤ length bytes.now }

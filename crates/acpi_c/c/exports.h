@@ -44,6 +44,8 @@ uint32_t hyssop_export_open_if(void *bytes, size_t bytes_size, struct hyssop_sta
 uint32_t hyssop_export_open_else(void *bytes, size_t bytes_size, struct hyssop_state *state);
 uint32_t hyssop_export_open_while(void *bytes, size_t bytes_size, struct hyssop_state *state);
 uint32_t hyssop_export_open_buffer(void *bytes, size_t bytes_size, struct hyssop_state *state);
+uint32_t hyssop_export_open_sized_buffer(void *bytes, size_t bytes_size, struct hyssop_state *state);
+uint32_t hyssop_export_open_var_package(void *bytes, size_t bytes_size, struct hyssop_state *state);
 uint32_t hyssop_export_open_resources(void *bytes, size_t bytes_size, struct hyssop_state *state);
 uint32_t hyssop_export_open_field(void *bytes, size_t bytes_size, struct hyssop_state *state, const void *region,
                                   size_t region_size, uint32_t access, bool lock, uint32_t update);
@@ -86,6 +88,8 @@ uint32_t hyssop_export_memory32_fixed(void *bytes, size_t bytes_size, struct hys
 uint32_t hyssop_export_bus_numbers(void *bytes, size_t bytes_size, struct hyssop_state *state, uint16_t min, uint16_t max);
 uint32_t hyssop_export_add_fields(void *bytes, size_t bytes_size, struct hyssop_state *state);
 uint32_t hyssop_export_add_structure(void *bytes, size_t bytes_size, struct hyssop_state *state, uint32_t kind, size_t *offset);
+uint32_t hyssop_export_add_structure_bytes(void *bytes, size_t bytes_size, struct hyssop_state *state, const void *content,
+                                           size_t content_size, size_t *offset);
 uint32_t hyssop_export_end_structure(void *bytes, size_t bytes_size, struct hyssop_state *state, size_t offset);
 uint32_t hyssop_export_set_number(void *bytes, size_t bytes_size, struct hyssop_state *state, size_t offset, const void *name,
                                   size_t name_size, uint64_t value);
@@ -102,6 +106,14 @@ uint32_t hyssop_export_memory_range32(void *bytes, size_t bytes_size, struct hys
                                       bool read_write, uint32_t min, uint32_t max, uint32_t translation);
 uint32_t hyssop_export_memory_range64(void *bytes, size_t bytes_size, struct hyssop_state *state, uint32_t memory_type,
                                       bool read_write, uint64_t min, uint64_t max, uint64_t translation);
+uint32_t hyssop_export_memory_range16(void *bytes, size_t bytes_size, struct hyssop_state *state, uint32_t memory_type,
+                                      bool read_write, uint16_t min, uint16_t max, uint16_t translation);
+uint32_t hyssop_export_io_range64(void *bytes, size_t bytes_size, struct hyssop_state *state, uint64_t min, uint64_t max,
+                                  uint64_t translation);
+uint32_t hyssop_export_bus_numbers32(void *bytes, size_t bytes_size, struct hyssop_state *state, uint32_t min, uint32_t max);
+uint32_t hyssop_export_bus_numbers64(void *bytes, size_t bytes_size, struct hyssop_state *state, uint64_t min, uint64_t max);
+uint32_t hyssop_export_register(void *bytes, size_t bytes_size, struct hyssop_state *state, uint8_t space, uint8_t width,
+                                uint8_t offset, uint8_t access, uint64_t address);
 uint32_t hyssop_export_table(void *bytes, size_t bytes_size, struct hyssop_state *state, const void *signature,
                              size_t signature_size, uint8_t revision, const void *oem_id, size_t oem_id_size,
                              const void *oem_table_id, size_t oem_table_id_size, uint32_t oem_revision);

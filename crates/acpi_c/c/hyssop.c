@@ -273,6 +273,18 @@ enum hyssop_fault hyssop_open_buffer(struct hyssop_writer *writer) {
     return (enum hyssop_fault)hyssop_export_open_buffer(output(writer->bytes), writer->bytes_size, &writer->state);
 }
 
+enum hyssop_fault hyssop_open_sized_buffer(struct hyssop_writer *writer) {
+    if (is_unusable(writer))
+        return null_of(writer);
+    return (enum hyssop_fault)hyssop_export_open_sized_buffer(output(writer->bytes), writer->bytes_size, &writer->state);
+}
+
+enum hyssop_fault hyssop_open_var_package(struct hyssop_writer *writer) {
+    if (is_unusable(writer))
+        return null_of(writer);
+    return (enum hyssop_fault)hyssop_export_open_var_package(output(writer->bytes), writer->bytes_size, &writer->state);
+}
+
 enum hyssop_fault hyssop_open_resources(struct hyssop_writer *writer) {
     if (is_unusable(writer))
         return null_of(writer);
@@ -482,6 +494,41 @@ enum hyssop_fault hyssop_memory_range64(struct hyssop_writer *writer, uint32_t m
                                                            read_write != 0, min, max, translation);
 }
 
+enum hyssop_fault hyssop_memory_range16(struct hyssop_writer *writer, uint32_t memory_type, int read_write, uint16_t min,
+                                        uint16_t max, uint16_t translation) {
+    if (is_unusable(writer))
+        return null_of(writer);
+    return (enum hyssop_fault)hyssop_export_memory_range16(output(writer->bytes), writer->bytes_size, &writer->state, memory_type,
+                                                           read_write != 0, min, max, translation);
+}
+
+enum hyssop_fault hyssop_io_range64(struct hyssop_writer *writer, uint64_t min, uint64_t max, uint64_t translation) {
+    if (is_unusable(writer))
+        return null_of(writer);
+    return (enum hyssop_fault)hyssop_export_io_range64(output(writer->bytes), writer->bytes_size, &writer->state, min, max,
+                                                       translation);
+}
+
+enum hyssop_fault hyssop_bus_numbers32(struct hyssop_writer *writer, uint32_t min, uint32_t max) {
+    if (is_unusable(writer))
+        return null_of(writer);
+    return (enum hyssop_fault)hyssop_export_bus_numbers32(output(writer->bytes), writer->bytes_size, &writer->state, min, max);
+}
+
+enum hyssop_fault hyssop_bus_numbers64(struct hyssop_writer *writer, uint64_t min, uint64_t max) {
+    if (is_unusable(writer))
+        return null_of(writer);
+    return (enum hyssop_fault)hyssop_export_bus_numbers64(output(writer->bytes), writer->bytes_size, &writer->state, min, max);
+}
+
+enum hyssop_fault hyssop_register(struct hyssop_writer *writer, uint8_t space, uint8_t width, uint8_t offset, uint8_t access,
+                                  uint64_t address) {
+    if (is_unusable(writer))
+        return null_of(writer);
+    return (enum hyssop_fault)hyssop_export_register(output(writer->bytes), writer->bytes_size, &writer->state, space, width,
+                                                     offset, access, address);
+}
+
 enum hyssop_fault hyssop_table(struct hyssop_writer *writer, const char *signature, uint8_t revision, const char *oem_id,
                                const char *oem_table_id, uint32_t oem_revision) {
     if (is_unusable(writer) || signature == NULL || oem_id == NULL || oem_table_id == NULL)
@@ -506,6 +553,18 @@ enum hyssop_fault hyssop_add_structure(struct hyssop_writer *writer, uint32_t ki
     }
     return (enum hyssop_fault)hyssop_export_add_structure(output(writer->bytes), writer->bytes_size, &writer->state, kind,
                                                           size_or(offset, &unwanted));
+}
+
+enum hyssop_fault hyssop_add_structure_bytes(struct hyssop_writer *writer, const void *content, size_t content_size,
+                                             size_t *offset) {
+    struct unwanted unwanted;
+    if (is_unusable(writer) || is_null(content, content_size)) {
+        if (offset != NULL)
+            *offset = 0;
+        return null_of(writer);
+    }
+    return (enum hyssop_fault)hyssop_export_add_structure_bytes(output(writer->bytes), writer->bytes_size, &writer->state,
+                                                                input(content), content_size, size_or(offset, &unwanted));
 }
 
 enum hyssop_fault hyssop_end_structure(struct hyssop_writer *writer, size_t offset) {

@@ -32,7 +32,7 @@ extern "C" {
 #endif
 
 /* hyssop_version() returns this, if the library fits this header. It grows when a function or a fault changes. */
-#define HYSSOP_VERSION 6
+#define HYSSOP_VERSION 7
 
 /* The type of a structure, if the structures of its table have none. */
 #define HYSSOP_NO_KIND SIZE_MAX
@@ -330,6 +330,12 @@ enum hyssop_fault hyssop_open_while(struct hyssop_writer *writer);
 /* Opens a buffer, whose bytes follow (20.2.5.4, DefBuffer). Closing it writes their number before them. */
 enum hyssop_fault hyssop_open_buffer(struct hyssop_writer *writer);
 
+/* Opens a buffer whose size is the first object, before its bytes (20.2.5.4, DefBuffer). Closing it adds nothing inside. */
+enum hyssop_fault hyssop_open_sized_buffer(struct hyssop_writer *writer);
+
+/* Opens a package whose number of elements is the first object, before the elements (20.2.5.4, DefVarPackage). */
+enum hyssop_fault hyssop_open_var_package(struct hyssop_writer *writer);
+
 /* Opens a buffer of resource descriptors, which follow (6.4). Closing it writes the end tag, too. */
 enum hyssop_fault hyssop_open_resources(struct hyssop_writer *writer);
 
@@ -432,6 +438,22 @@ enum hyssop_fault hyssop_memory_range32(struct hyssop_writer *writer, uint32_t m
 enum hyssop_fault hyssop_memory_range64(struct hyssop_writer *writer, uint32_t memory_type, int read_write, uint64_t min,
                                         uint64_t max, uint64_t translation);
 
+/* Writes a range of memory with addresses of 16 bits, as hyssop_memory_range32 does. */
+enum hyssop_fault hyssop_memory_range16(struct hyssop_writer *writer, uint32_t memory_type, int read_write, uint16_t min,
+                                        uint16_t max, uint16_t translation);
+
+/* Writes a range of ports with 64 bits, as hyssop_io_range does. */
+enum hyssop_fault hyssop_io_range64(struct hyssop_writer *writer, uint64_t min, uint64_t max, uint64_t translation);
+
+/* Write ranges of bus numbers of 32 and of 64 bits, as hyssop_bus_numbers does. */
+enum hyssop_fault hyssop_bus_numbers32(struct hyssop_writer *writer, uint32_t min, uint32_t max);
+enum hyssop_fault hyssop_bus_numbers64(struct hyssop_writer *writer, uint64_t min, uint64_t max);
+
+/* Writes a register (6.4.3.7) by the numbers of its address (5.2.3.2): its address space, its width and its offset in bits, the
+   size of an access, and the address. */
+enum hyssop_fault hyssop_register(struct hyssop_writer *writer, uint8_t space, uint8_t width, uint8_t offset, uint8_t access,
+                                  uint64_t address);
+
 /* Begins a table in an empty writer with its header (5.2.6). The signature has 4 bytes, the OEM ID 6 and the OEM Table ID 8. */
 enum hyssop_fault hyssop_table(struct hyssop_writer *writer, const char *signature, uint8_t revision, const char *oem_id,
                                const char *oem_table_id, uint32_t oem_revision);
@@ -444,6 +466,11 @@ enum hyssop_fault hyssop_add_fields(struct hyssop_writer *writer);
    fields for them. A table whose structures have no types takes the type 0. *offset is where the structure begins, and 0 with a
    fault. It may be NULL. */
 enum hyssop_fault hyssop_add_structure(struct hyssop_writer *writer, uint32_t kind, size_t *offset);
+
+/* Adds a structure as its bytes to the table, after the fields of the table. They are as many as their length field or their type
+   says. All else is as for hyssop_add_structure. */
+enum hyssop_fault hyssop_add_structure_bytes(struct hyssop_writer *writer, const void *content, size_t content_size,
+                                             size_t *offset);
 
 /* Ends the structure at an offset, to which bytes were added: its length is the number of the bytes from there on. */
 enum hyssop_fault hyssop_end_structure(struct hyssop_writer *writer, size_t offset);

@@ -1,12 +1,14 @@
 //! Structures of a table that a writer writes, and their fields.
 
 ghost use Rattle.std.specs.Prelude.{◌≡◌, ◌==◌, if◌then◌else◌};
-ghost use Rattle.acpi_c_calls.specs.Add.{adds_structure, adds_fields, ends_structure};
-ghost use Rattle.acpi_c_calls.specs.Formed.{WritesBy};
+ghost use Rattle.acpi_c_calls.specs.Add.{adds_structure, adds_piece, adds_fields, ends_structure};
+ghost use Rattle.acpi_c_calls.specs.Formed.{WritesBy, WritesByWalk};
 ghost use Rattle.acpi_c_calls.specs.Set.{sets, sets_bytes, overwrites, adds_number};
 ghost use Rattle.acpi_c_calls.specs.Writer.{Writes};
 
-use acpi_c_calls::formed::{add_fields, add_structure, end_structure, set_bytes, set_number};
+use acpi_c_calls::formed::{
+    add_fields, add_structure, add_structure_bytes, end_structure, set_bytes, set_number,
+};
 use acpi_c_calls::set::{add_number, overwrite};
 use acpi_c_calls::state::State;
 
@@ -30,6 +32,20 @@ pub extern "C" fn hyssop_export_add_structure(
     ensures offset { offset.new ≡ (if result == 0 then state.old.size else 0) }
 {
     add_structure(bytes, state, kind, offset)
+}
+
+/// Adds a structure as its bytes to a table.
+#[unsafe(no_mangle)]
+pub extern "C" fn hyssop_export_add_structure_bytes(
+    bytes: &mut [u8],
+    state: &mut State,
+    content: &[u8],
+    offset: &mut usize,
+) -> u32
+    ensures call { WritesByWalk (λ walk. adds_piece content.now walk) bytes.old state.old bytes.new state.new result }
+    ensures offset { offset.new ≡ (if result == 0 then state.old.size else 0) }
+{
+    add_structure_bytes(bytes, state, content, offset)
 }
 
 /// Ends a structure to which bytes were added.

@@ -4,7 +4,7 @@ ghost use Rattle.std.specs.Prelude.{◌≡◌, []};
 ghost use Rattle.acpi_term.specs.PathText.{path_of};
 ghost use Rattle.acpi_term.specs.Tree.{def_scope, def_device, def_thermal_zone, def_power_res, def_method, def_package};
 ghost use Rattle.acpi_term.specs.Tree.{def_if, def_else, def_while, def_buffer, def_processor, def_field};
-ghost use Rattle.acpi_term.specs.Tree.{def_index_field};
+ghost use Rattle.acpi_term.specs.Tree.{def_index_field, def_var_package};
 ghost use Rattle.acpi_c_calls.specs.Field.{lock_rule, opens_field, opens_index_field};
 ghost use Rattle.acpi_c_calls.specs.Finish.{begun, Nulls};
 ghost use Rattle.acpi_c_calls.specs.Writer.{Writes, opens_named, opens_row, closes, piece_of};
@@ -14,7 +14,8 @@ use acpi_c_calls::field::{open_field, open_index_field};
 use acpi_c_calls::finish::{begin, null};
 use acpi_c_calls::open::{
     open_buffer, open_device, open_else, open_if, open_method, open_package, open_power_resource,
-    open_processor, open_resources, open_scope, open_thermal_zone, open_while,
+    open_processor, open_resources, open_scope, open_sized_buffer, open_thermal_zone,
+    open_var_package, open_while,
 };
 use acpi_c_calls::state::State;
 
@@ -154,6 +155,22 @@ pub extern "C" fn hyssop_export_open_buffer(bytes: &mut [u8], state: &mut State)
     ensures { Writes (opens_row 1 (def_buffer []) 0) bytes.old state.old bytes.new state.new result }
 {
     open_buffer(bytes, state)
+}
+
+/// Opens a buffer whose size is a term.
+#[unsafe(no_mangle)]
+pub extern "C" fn hyssop_export_open_sized_buffer(bytes: &mut [u8], state: &mut State) -> u32
+    ensures { Writes (opens_row 0 (def_buffer []) 0) bytes.old state.old bytes.new state.new result }
+{
+    open_sized_buffer(bytes, state)
+}
+
+/// Opens a package whose number of elements is a term.
+#[unsafe(no_mangle)]
+pub extern "C" fn hyssop_export_open_var_package(bytes: &mut [u8], state: &mut State) -> u32
+    ensures { Writes (opens_row 0 def_var_package 0) bytes.old state.old bytes.new state.new result }
+{
+    open_var_package(bytes, state)
 }
 
 /// Opens a buffer of resource descriptors.

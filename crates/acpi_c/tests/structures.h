@@ -83,6 +83,50 @@ static void try_counted(void) {
         writer.state.fault = 0; \
     } while (0)
 
+/* Structures as their bytes: in a MADT, which doesn't count them, in an IORT, whose number and offset are in the table, and in a
+   HEST, whose sources are as long as their types say. */
+static void try_whole_structures(void) {
+    static const uint8_t apic[] = "\0\x08\x05\x03\x01\0\0";
+    static const uint8_t group[] = "\0\x14\0\0\0\0\0\0\0\0\0\0\0\0\0\0\0\0\0";
+    uint8_t source[44] = {7};
+    size_t at = 1;
+    struct hyssop_writer writer = begin_table(1000, "APIC");
+    HAS_FAULT(HYSSOP_FAULT_WANTS_WHOLE, hyssop_add_structure_bytes(w, apic, 8, &at));
+    want(at == 0 && hyssop_add_fields(&writer) == 0);
+    want(hyssop_add_structure_bytes(&writer, apic, 8, &at) == 0 && at == 44 && writer.state.size == 52);
+    want(hyssop_add_structure_bytes(&writer, apic, 8, NULL) == 0 && memcmp(writer.bytes + 52, apic, 8) == 0);
+    want(is_blank(writer.bytes + 60, 1000 - 60));
+    HAS_FAULT(HYSSOP_FAULT_STRUCTURE, hyssop_add_structure_bytes(w, apic, 7, &at));
+    HAS_FAULT(HYSSOP_FAULT_STRUCTURE, hyssop_add_structure_bytes(w, apic, 1, &at));
+    HAS_FAULT(HYSSOP_FAULT_STRUCTURE, hyssop_add_structure_bytes(w, NULL, 0, &at));
+    HAS_FAULT(HYSSOP_FAULT_NULL, hyssop_add_structure_bytes(w, NULL, 1, &at));
+    want(at == 0);
+    for (size_t space = 44; space < 52; space++) {
+        writer = begin_table(space, "APIC");
+        hyssop_add_fields(&writer);
+        HAS_FAULT(HYSSOP_FAULT_BUFFER, hyssop_add_structure_bytes(w, apic, 8, &at));
+    }
+    writer = begin_table(1000, "IORT");
+    hyssop_add_fields(&writer);
+    want(hyssop_add_structure_bytes(&writer, group, 20, &at) == 0 && at == 48);
+    want(hyssop_add_structure_bytes(&writer, group, 20, &at) == 0 && at == 68 && finish(&writer) == 0 && size == 88);
+    want(memcmp(writer.bytes + 36, "\x02\0\0\0\x30\0\0\0", 8) == 0);
+    writer = begin_table(1000, "HEST");
+    hyssop_add_fields(&writer);
+    HAS_FAULT(HYSSOP_FAULT_STRUCTURE, hyssop_add_structure_bytes(w, source, 43, &at));
+    want(hyssop_add_structure_bytes(&writer, source, 44, &at) == 0 && at == 40 && writer.bytes[36] == 1);
+    writer.bytes[36] = writer.bytes[37] = writer.bytes[38] = writer.bytes[39] = 0xff;
+    HAS_FAULT(HYSSOP_FAULT_COUNT, hyssop_add_structure_bytes(w, source, 44, &at));
+    source[0] = 5;
+    HAS_FAULT(HYSSOP_FAULT_STRUCTURE, hyssop_add_structure_bytes(w, source, 44, &at));
+    writer = begin_table(1000, "DSDT");
+    HAS_FAULT(HYSSOP_FAULT_WANTS_STRUCTURE, hyssop_add_structure_bytes(w, apic, 8, &at));
+    writer = begin(1000);
+    HAS_FAULT(HYSSOP_FAULT_SHORT_HEADER, hyssop_add_structure_bytes(w, apic, 8, &at));
+    at = 1;
+    want(hyssop_add_structure_bytes(NULL, apic, 8, &at) == HYSSOP_FAULT_NULL && at == 0);
+}
+
 static void try_structure_faults(void) {
     static const uint8_t many[512];
     size_t at = 1;
@@ -158,7 +202,7 @@ static void try_random_structures(void) {
             (void)hyssop_add_fields(&writer);
         for (size_t i = any(20); i > 0; i--) {
             writer.state.fault = 0;
-            switch (any(8)) {
+            switch (any(9)) {
             case 0: (void)hyssop_add_structure(&writer, (uint32_t)any(16), &at); break;
             case 1: (void)hyssop_end_structure(&writer, at); break;
             case 2: (void)hyssop_set_number(&writer, at, names[any(8)], any(300)); break;
@@ -166,6 +210,7 @@ static void try_random_structures(void) {
             case 4: (void)hyssop_overwrite(&writer, at + any(20), bytes, any(20)); break;
             case 5: (void)hyssop_add_number(&writer, any(10), any(70000)); break;
             case 6: (void)hyssop_add_fields(&writer); break;
+            case 7: (void)hyssop_add_structure_bytes(&writer, bytes, any(20), &at); break;
             default: at = any(300); break;
             }
             want(writer.state.size <= space && is_blank(writer.bytes + writer.state.size, space - writer.state.size));
@@ -217,6 +262,7 @@ static void try_find(void) {
 static void try_added(void) {
     try_madt();
     try_counted();
+    try_whole_structures();
     try_structure_faults();
     try_random_structures();
     with_stack(128 * 1024, write_one);

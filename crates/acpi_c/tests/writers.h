@@ -13,10 +13,12 @@
     X(method, hyssop_open_method(w, "MTHD", 7, 0), "\x14MTHD\x07", "\x14\x06MTHD\x07") \
     X(serialized, hyssop_open_method(w, "MTHD", 1, 2), "\x14MTHD\x09", "\x14\x06MTHD\x09") \
     X(package, hyssop_open_package(w, 255), "\x12\xff", "\x12\x02\xff") \
+    X(var_package, hyssop_open_var_package(w), "\x13", "\x13\x01") \
     X(if, hyssop_open_if(w), "\xa0", "\xa0\x01") \
     X(else, hyssop_open_else(w), "\xa1", "\xa1\x01") \
     X(while, hyssop_open_while(w), "\xa2", "\xa2\x01") \
     X(buffer, hyssop_open_buffer(w), "\x11", "\x11\x02\0") \
+    X(sized_buffer, hyssop_open_sized_buffer(w), "\x11", "\x11\x01") \
     X(resources, hyssop_open_resources(w), "\x11", "\x11\x05\x0a\x02\x79\0") \
     X(field, hyssop_open_field(w, "GPIO", HYSSOP_ACCESS_DWORD, 0, HYSSOP_UPDATE_PRESERVE), "\x5b\x81GPIO\x03", \
       "\x5b\x81\x06GPIO\x03") \
@@ -64,6 +66,16 @@
     X(ports, hyssop_io_range(w, 0xd00, 0xffff, 2), "\x88\x0d\0\x01\x0c\x03\0\0\0\x0d\xff\xff\x02\0\0\xf3", "") \
     X(ports32, hyssop_io_range32(w, 0, 0xffff, 0x3eff0000), \
       "\x87\x17\0\x01\x0c\x03\0\0\0\0\0\0\0\0\xff\xff\0\0\0\0\xff\x3e\0\0\x01\0", "") \
+    X(ports64, hyssop_io_range64(w, 1, 0x100000002, 3), \
+      "\x8a\x2b\0\x01\x0c\x03\0\0\0\0\0\0\0\0\x01\0\0\0\0\0\0\0\x02\0\0\0\x01\0\0\0\x03\0\0\0\0\0\0\0\x02\0\0\0\x01\0\0\0", "") \
+    X(buses32, hyssop_bus_numbers32(w, 0x10000, 0x10001), \
+      "\x87\x17\0\x02\x0c\0\0\0\0\0\0\0\x01\0\x01\0\x01\0\0\0\0\0\x02\0\0\0", "") \
+    X(buses64, hyssop_bus_numbers64(w, 4, 6), \
+      "\x8a\x2b\0\x02\x0c\0\0\0\0\0\0\0\0\0\x04\0\0\0\0\0\0\0\x06\0\0\0\0\0\0\0\0\0\0\0\0\0\0\0\x03\0\0\0\0\0\0\0", "") \
+    X(register, hyssop_register(w, 0x7f, 8, 1, 3, 0x0102030405060708), \
+      "\x82\x0c\0\x7f\x08\x01\x03\x08\x07\x06\x05\x04\x03\x02\x01", "") \
+    X(range16, hyssop_memory_range16(w, HYSSOP_MEMORY_WRITE_COMBINING, 1, 0x100, 0x1ff, 2), \
+      "\x88\x0d\0\0\x0c\x05\0\0\0\x01\xff\x01\x02\0\0\x01", "") \
     X(one_byte, hyssop_add_number(w, 1, 0xfe), "\xfe", "") \
     X(no_byte, hyssop_add_number(w, 0, 0), "", "") \
     X(three, hyssop_add_number(w, 3, 0x010203), "\x03\x02\x01", "") \
@@ -230,9 +242,14 @@ static void try_refused(void) {
     for (size_t i = 0; i < sizeof codes / sizeof *codes; i++)
         REFUSED(HYSSOP_FAULT_UNKNOWN_CHOICE, hyssop_operator(w, codes[i]));
     REFUSED(HYSSOP_FAULT_UNKNOWN_CHOICE, hyssop_memory_range32(w, 4, 0, 0, 1, 0));
+    REFUSED(HYSSOP_FAULT_UNKNOWN_CHOICE, hyssop_memory_range16(w, 4, 0, 0, 1, 0));
     REFUSED(HYSSOP_FAULT_UNKNOWN_CHOICE, hyssop_memory_range64(w, UINT32_MAX, 0, 0, 1, 0));
     REFUSED(HYSSOP_FAULT_ADDRESS_RANGE, hyssop_bus_numbers(w, 1, 0));
     REFUSED(HYSSOP_FAULT_ADDRESS_RANGE, hyssop_bus_numbers(w, 0, UINT16_MAX));
+    REFUSED(HYSSOP_FAULT_ADDRESS_RANGE, hyssop_bus_numbers32(w, 1, 0));
+    REFUSED(HYSSOP_FAULT_ADDRESS_RANGE, hyssop_bus_numbers64(w, 0, UINT64_MAX));
+    REFUSED(HYSSOP_FAULT_ADDRESS_RANGE, hyssop_io_range64(w, 0, UINT64_MAX, 0));
+    REFUSED(HYSSOP_FAULT_ADDRESS_RANGE, hyssop_memory_range16(w, 0, 0, 0, UINT16_MAX, 0));
     REFUSED(HYSSOP_FAULT_ADDRESS_RANGE, hyssop_io_range(w, 0xd00, 0xcff, 0));
     REFUSED(HYSSOP_FAULT_ADDRESS_RANGE, hyssop_io_range32(w, 1, 0, 0));
     REFUSED(HYSSOP_FAULT_ADDRESS_RANGE, hyssop_io_range32(w, 0, UINT32_MAX, 0));

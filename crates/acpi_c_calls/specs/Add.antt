@@ -1,7 +1,8 @@
 -- Structures and fields that a writer adds to a table.
-use Rattle.std.specs.Prelude.{ℕ, ◌+◌, ◌-◌, ◌==◌, nat_le, ◌&&◌, if◌then◌else◌, List, [], length, take, drop}
+use Rattle.std.specs.Prelude.{ℕ, ◌+◌, ◌-◌, ◌==◌, nat_le, ◌&&◌, Bool, false, if◌then◌else◌, List, [], length, take, drop}
 use Rattle.std.specs.Prelude.{Option, Some, None, Result, Ok, Err}
 use Rattle.acpi_base.specs.Bytes.{put, zeros}
+use Rattle.acpi_base.specs.Walk.{end_of, number_in, rows_of, type_size}
 use Rattle.acpi_base.specs.declared.walk.Place.{Place}
 use Rattle.acpi_base.specs.declared.walk.Place.TheVariants.{Nowhere}
 use Rattle.acpi_base.specs.declared.walk.Sizes.{Sizes}
@@ -68,6 +69,42 @@ abbrev pub adds_structure : ℕ → TableForm → Option Walk → List ℕ → S
 adds_structure kind form (Some walk) old before =
     if nat_le walk.start before.size then adds_form walk (find_form kind (all_forms form)) old before else Err fault.WantsWhole
 adds_structure kind form None old before = Err fault.WantsStructure
+
+-- ---- one structure, as its bytes
+
+abbrev pub is_size : Option ℕ → ℕ → Bool
+is_size (Some size) n = size == n
+is_size None n = false
+
+-- whether bytes are one structure: their number is the length that its type or its length field gives
+abbrev pub is_piece : Sizes → List ℕ → Bool
+is_piece (EachOf size) piece = length piece == size
+is_piece (ToldAt place) piece = nat_le (end_of place) (length piece) && number_in place piece == length piece
+is_piece (ByType kind types) piece = is_size (type_size kind (rows_of types) piece) (length piece)
+
+-- a table with these bytes at its end, and how many structures there are with them
+abbrev pub with_piece : Walk → List ℕ → ℕ → List ℕ → State → Written
+with_piece walk piece count old before = record {
+  bytes = placed walk.count count (pointed walk before.size (put before.size piece old));
+  state = record before { size = before.size + length piece };
+}
+
+abbrev pub adds_piece_counted : Walk → List ℕ → Option ℕ → List ℕ → State → Result Written Fault
+adds_piece_counted walk piece (Some count) old before =
+    if nat_le (before.size + length piece) (length old) then Ok (with_piece walk piece count old before) else Err fault.Buffer
+adds_piece_counted walk piece None old before = Err fault.Count
+
+abbrev pub adds_piece_by : Walk → List ℕ → List ℕ → State → Result Written Fault
+adds_piece_by walk piece old before =
+    if is_piece walk.sizes piece
+    then adds_piece_counted walk piece (next_count walk.count old) old before
+    else Err fault.Structure
+
+-- bytes that are one structure, after the table's own fields
+abbrev pub adds_piece : List ℕ → Option Walk → List ℕ → State → Result Written Fault
+adds_piece piece (Some walk) old before =
+    if nat_le walk.start before.size then adds_piece_by walk piece old before else Err fault.WantsWhole
+adds_piece piece None old before = Err fault.WantsStructure
 
 -- ---- the table's own fields
 

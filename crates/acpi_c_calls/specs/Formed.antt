@@ -20,3 +20,8 @@ pub record WritesBy (call : TableForm → Option Walk → List ℕ → State →
   pub form : TableForm
   pub is_named : IsNamed form (names_of (signature_in old))
   pub writes : Writes (in_table (call form (table_walk_of (signature_in old)))) old before new after number
+
+-- A call does this by the walk of the table's signature.
+abbrev pub WritesByWalk : (Option Walk → List ℕ → State → Result Written Fault) → List ℕ → State → List ℕ → State → ℕ → Type 0
+WritesByWalk call old before new after number =
+    Writes (in_table (call (table_walk_of (signature_in old)))) old before new after number

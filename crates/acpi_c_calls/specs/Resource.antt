@@ -1,5 +1,6 @@
 -- Address spaces of a bridge, by numbers (ACPI 6.5, 6.4.3.5).
-use Rattle.std.specs.Prelude.{ℕ, ◌+◌, ◌*◌, ◌==◌, if◌then◌else◌, Bool, List, Option, Some, None, Result, Err}
+use Rattle.std.specs.Prelude.{ℕ, ◌+◌, ◌*◌, ◌==◌, if◌then◌else◌, Bool, List, ◌∷◌, Option, Some, None, Result, Err}
+use Rattle.acpi_base.specs.Bytes.{le}
 use Rattle.acpi_base.specs.Object.{Object}
 use Rattle.acpi_ops.specs.AddressSpace.{cacheable_number, fixed_range}
 use Rattle.acpi_ops.specs.Descriptor.{bit}
@@ -19,6 +20,18 @@ io_range min max translation = fixed_range 1 3 min max (Some translation)
 abbrev pub memory_range : AddressSpaceCacheable → Bool → ℕ → ℕ → ℕ → AddressSpace ℕ
 memory_range cached read_write min max translation =
     fixed_range 0 (2 * cacheable_number cached + bit read_write 1) min max (Some translation)
+
+-- A register by the numbers of its address (ACPI 6.5, 6.4.3.7): its address space, its width and its offset in bits, the size of
+-- an access, and the address.
+abbrev pub register_piece : ℕ → ℕ → ℕ → ℕ → ℕ → List ℕ
+register_piece space width offset access address =
+    0x82  -- 0: Generic Register Descriptor
+    ∷ 12 ∷ 0  -- 1: Length
+    ∷ space  -- 3: Address Space ID
+    ∷ width  -- 4: Register Bit Width
+    ∷ offset  -- 5: Register Bit Offset
+    ∷ access  -- 6: Access Size
+    ∷ le 8 address  -- 7: Register Address
 
 -- how memory may be cached, by its number
 abbrev pub memory_type : ℕ → Option AddressSpaceCacheable

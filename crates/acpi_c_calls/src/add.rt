@@ -4,7 +4,7 @@ ghost use Rattle.std.specs.Prelude.{◌≡◌, ◌≤◌, ◌+◌, ◌-◌, leng
 ghost use Rattle.acpi_base.specs.Bytes.{put, zeros};
 ghost use Rattle.acpi_c_calls.specs.Over.{placed, next_count};
 ghost use Rattle.acpi_c_calls.specs.Add.{in_table, told_place, fresh, pointed, adds_counted, adds_form, adds_structure, adds_fields};
-ghost use Rattle.acpi_c_calls.specs.Add.{ends_structure, ends_by};
+ghost use Rattle.acpi_c_calls.specs.Add.{ends_structure, ends_by, is_size, is_piece, adds_piece_by, adds_piece};
 ghost use Rattle.acpi_c_calls.specs.Writer.{IsDone, Writes, adds_bytes};
 
 use crate::fault::Fault;
@@ -12,6 +12,7 @@ use crate::over::{clear, fits_at, next_count, place_number};
 use crate::put::fail;
 use crate::seek::fixed_end;
 use crate::state::State;
+use acpi_base::patch::write_at;
 use acpi_base::walk::{Place, Sizes, Walk};
 use acpi_text::form::{StructureForm, TableForm};
 use acpi_text::part::number_at;
@@ -111,6 +112,71 @@ pub(crate) fn add_to(
         return fail(bytes, state, Fault::WantsWhole);
     }
     add_form(bytes, state, &walk, find_form(kind, form))
+}
+
+// Returns whether a length is this.
+fn is_size(found: Option<usize>, size: usize) -> bool
+    ensures { result ≡ is_size found size }
+{
+    match found {
+        Some(found) => found == size,
+        None => false,
+    }
+}
+
+// Returns whether bytes are one structure.
+fn is_piece(sizes: Sizes, piece: &[u8]) -> bool
+    ensures { result ≡ is_piece sizes piece.now }
+{
+    match sizes {
+        Sizes::EachOf(size) => piece.len() == usize::from(size),
+        Sizes::ToldAt(place) => place.end() <= piece.len() && place.number(piece) == piece.len(),
+        Sizes::ByType(kind, types) => is_size(types.size(kind, piece), piece.len()),
+    }
+}
+
+// Adds a structure of these bytes by a walk.
+fn add_piece_by(bytes: &mut [u8], state: &mut State, walk: &Walk, piece: &[u8]) -> u32
+    requires { state.old.size ≤ length bytes.old }
+    ensures { IsDone (adds_piece_by walk.now piece.now bytes.old state.old) bytes.old state.old bytes.new state.new result }
+{
+    if !is_piece(walk.sizes, piece) {
+        return fail(bytes, state, Fault::Structure);
+    }
+    let Some(count) = next_count(walk.count, bytes) else {
+        return fail(bytes, state, Fault::Count);
+    };
+    if piece.len() > bytes.len() - state.size {
+        return fail(bytes, state, Fault::Buffer);
+    }
+    write_at(bytes, state.size, piece);
+    count_structure(bytes, walk, state.size, count);
+    state.size += piece.len();
+    0
+}
+
+/// Adds a structure of these bytes to a table of a walk.
+pub(crate) fn add_piece_to(
+    bytes: &mut [u8],
+    state: &mut State,
+    walk: Option<Walk>,
+    piece: &[u8],
+) -> u32
+    ensures { Writes (in_table (adds_piece piece.now walk)) bytes.old state.old bytes.new state.new result }
+{
+    if state.fault != 0 {
+        return state.fault;
+    }
+    if state.size < 36 || state.size > bytes.len() {
+        return fail(bytes, state, Fault::ShortHeader);
+    }
+    let Some(walk) = walk else {
+        return fail(bytes, state, Fault::WantsStructure);
+    };
+    if state.size < walk.start {
+        return fail(bytes, state, Fault::WantsWhole);
+    }
+    add_piece_by(bytes, state, &walk, piece)
 }
 
 // Writes zeros over the bytes at an offset.

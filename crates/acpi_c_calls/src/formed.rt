@@ -1,11 +1,11 @@
 //! Calls that go by the form of the table that is written.
 
 ghost use Rattle.std.specs.Prelude.{◌≡◌, ◌==◌, if◌then◌else◌};
-ghost use Rattle.acpi_c_calls.specs.Add.{adds_structure, adds_fields, ends_structure};
-ghost use Rattle.acpi_c_calls.specs.Formed.{signature_in, WritesBy};
+ghost use Rattle.acpi_c_calls.specs.Add.{adds_structure, adds_piece, adds_fields, ends_structure};
+ghost use Rattle.acpi_c_calls.specs.Formed.{signature_in, WritesBy, WritesByWalk};
 ghost use Rattle.acpi_c_calls.specs.Set.{sets, sets_bytes};
 
-use crate::add::{add_fields_to, add_to, end_in};
+use crate::add::{add_fields_to, add_piece_to, add_to, end_in};
 use crate::set::{set_bytes_in, set_in};
 use crate::state::State;
 use acpi_base::further_walk::table_walk_of;
@@ -39,6 +39,28 @@ pub fn add_structure(bytes: &mut [u8], state: &mut State, kind: u32, offset: &mu
     let walk = table_walk_of(signature);
     let start = state.size;
     let number = add_to(bytes, state, &form, walk, kind as usize);
+    *offset = if number == 0 { start } else { 0 };
+    number
+}
+
+/// Adds a structure as its bytes to a table, after the table's own fields. The table gets the number of its structures, and the
+/// offset of the first, if it has fields for these. `offset` is where the structure begins, or 0 with a fault.
+///
+/// The fault is `ShortHeader` if the header isn't written, `WantsStructure` if the table has no structures, `WantsWhole` if the
+/// table's own fields aren't written, `Structure` if the bytes aren't as long as their length field or their type says, `Count` if
+/// the number of structures doesn't fit its field, and `Buffer` if there is too little space.
+pub fn add_structure_bytes(
+    bytes: &mut [u8],
+    state: &mut State,
+    content: &[u8],
+    offset: &mut usize,
+) -> u32
+    ensures call { WritesByWalk (λ walk. adds_piece content.now walk) bytes.old state.old bytes.new state.new result }
+    ensures offset { offset.new ≡ (if result == 0 then state.old.size else 0) }
+{
+    let walk = table_walk_of(signature_in(bytes));
+    let start = state.size;
+    let number = add_piece_to(bytes, state, walk, content);
     *offset = if number == 0 { start } else { 0 };
     number
 }

@@ -3,7 +3,7 @@
 ghost use Rattle.std.specs.Prelude.{◌++◌, []};
 ghost use Rattle.acpi_term.specs.PathText.{path_of};
 ghost use Rattle.acpi_term.specs.Tree.{def_scope, def_device, def_thermal_zone, def_power_res, def_processor, def_method};
-ghost use Rattle.acpi_term.specs.Tree.{def_if, def_else, def_while, def_buffer, def_package};
+ghost use Rattle.acpi_term.specs.Tree.{def_if, def_else, def_while, def_buffer, def_package, def_var_package};
 ghost use Rattle.acpi_c_calls.specs.Writer.{IsDone, Writes, opens, opens_row, opens_named, piece_of};
 
 use crate::fault::Fault;
@@ -187,6 +187,17 @@ pub fn open_package(bytes: &mut [u8], state: &mut State, elements: u8) -> u32
     open(bytes, state, 0, &[0x12], &[elements], &[])
 }
 
+/// Opens a package whose number of elements is the first object that follows, before the elements (ACPI 6.5, 20.2.5.4,
+/// DefVarPackage).
+pub fn open_var_package(bytes: &mut [u8], state: &mut State) -> u32
+    ensures { Writes (opens_row 0 def_var_package 0) bytes.old state.old bytes.new state.new result }
+{
+    if state.fault != 0 {
+        return state.fault;
+    }
+    open(bytes, state, 0, &[0x13], &[], &[])
+}
+
 /// Opens statements that are run if a predicate is true, which is the first object (ACPI 6.5, 20.2.5.3, DefIfElse).
 pub fn open_if(bytes: &mut [u8], state: &mut State) -> u32
     ensures { Writes (opens_row 0 def_if 0) bytes.old state.old bytes.new state.new result }
@@ -236,4 +247,15 @@ pub fn open_resources(bytes: &mut [u8], state: &mut State) -> u32
         return state.fault;
     }
     open(bytes, state, 2, &[0x11], &[], &[])
+}
+
+/// Opens a buffer whose size is the first object that follows, before its bytes (ACPI 6.5, 20.2.5.4, DefBuffer). Nothing is added
+/// when it is closed.
+pub fn open_sized_buffer(bytes: &mut [u8], state: &mut State) -> u32
+    ensures { Writes (opens_row 0 (def_buffer []) 0) bytes.old state.old bytes.new state.new result }
+{
+    if state.fault != 0 {
+        return state.fault;
+    }
+    open(bytes, state, 0, &[0x11], &[], &[])
 }

@@ -3,11 +3,11 @@
 ghost use Rattle.std.specs.Prelude.{◌≡◌};
 ghost use Rattle.acpi_ops.specs.AddressSpace.{word_space, dword_space, qword_space};
 ghost use Rattle.acpi_ops.specs.Descriptor.{port_bytes, fixed_bytes, interrupt_bytes, interrupt_flags};
-ghost use Rattle.acpi_c_calls.specs.Resource.{bus_numbers, io_range, memory_range, memory_type, memory_piece};
+ghost use Rattle.acpi_c_calls.specs.Resource.{bus_numbers, io_range, memory_range, memory_type, memory_piece, register_piece};
 ghost use Rattle.acpi_c_calls.specs.Writer.{Writes, adds, adds_bytes, piece_of};
 
 use crate::fault::Fault;
-use crate::put::{fail, put_object};
+use crate::put::{fail, put, put_object};
 use crate::state::State;
 use acpi_ops::address_space::{AddressSpace, AddressSpaceCacheable};
 use acpi_ops::descriptor::{IO, Interrupt, Memory32Fixed};
@@ -62,6 +62,32 @@ pub fn memory32_fixed(
     put_object(bytes, state, &Memory32Fixed::new(read_write, base, length))
 }
 
+/// Writes a register by the numbers of its address (ACPI 6.5, 6.4.3.7): its address space, its width and its offset in bits, the
+/// size of an access (5.2.3.2), and the address.
+pub fn register(
+    bytes: &mut [u8],
+    state: &mut State,
+    space: u8,
+    width: u8,
+    offset: u8,
+    access: u8,
+    address: u64,
+) -> u32
+    ensures { Writes (adds_bytes (register_piece space width offset access address)) bytes.old state.old bytes.new state.new
+        result }
+{
+    if state.fault != 0 {
+        return state.fault;
+    }
+    put(
+        bytes,
+        state,
+        &[0x82, 12, 0, space, width, offset, access],
+        &address.to_le_bytes(),
+        &[],
+    )
+}
+
 /// Writes a range of bus numbers, from its first to its last (ACPI 6.5, 6.4.3.5.3). The fault is `AddressRange` if its end is
 /// before its start, or if it has all numbers of 16 bits.
 #[tactic(auto, using(crate::proofs::Pieces::space_few, crate::proofs::Pieces::space_dry))]
@@ -72,6 +98,28 @@ pub fn bus_numbers(bytes: &mut [u8], state: &mut State, min: u16, max: u16) -> u
         return state.fault;
     }
     put_object(bytes, state, &AddressSpace::<u16>::new_bus_number(min, max))
+}
+
+/// Writes a range of bus numbers of 32 bits, as `bus_numbers` does (ACPI 6.5, 6.4.3.5.2).
+#[tactic(auto, using(crate::proofs::Pieces::space_few, crate::proofs::Pieces::space_dry))]
+pub fn bus_numbers32(bytes: &mut [u8], state: &mut State, min: u32, max: u32) -> u32
+    ensures { Writes (adds (piece_of (dword_space (bus_numbers min max)))) bytes.old state.old bytes.new state.new result }
+{
+    if state.fault != 0 {
+        return state.fault;
+    }
+    put_object(bytes, state, &AddressSpace::<u32>::new_bus_number(min, max))
+}
+
+/// Writes a range of bus numbers of 64 bits, as `bus_numbers` does (ACPI 6.5, 6.4.3.5.1).
+#[tactic(auto, using(crate::proofs::Pieces::space_few, crate::proofs::Pieces::space_dry))]
+pub fn bus_numbers64(bytes: &mut [u8], state: &mut State, min: u64, max: u64) -> u32
+    ensures { Writes (adds (piece_of (qword_space (bus_numbers min max)))) bytes.old state.old bytes.new state.new result }
+{
+    if state.fault != 0 {
+        return state.fault;
+    }
+    put_object(bytes, state, &AddressSpace::<u64>::new_bus_number(min, max))
 }
 
 /// Writes a range of ports, from its first to its last, and what is added to a port to get the one on the other side of a bridge
@@ -105,6 +153,22 @@ pub fn io_range32(bytes: &mut [u8], state: &mut State, min: u32, max: u32, trans
         bytes,
         state,
         &AddressSpace::<u32>::new_io(min, max, Some(translation)),
+    )
+}
+
+/// Writes a range of ports with 64 bits, as `io_range` does (ACPI 6.5, 6.4.3.5.1).
+#[tactic(auto, using(crate::proofs::Pieces::space_few, crate::proofs::Pieces::space_dry))]
+pub fn io_range64(bytes: &mut [u8], state: &mut State, min: u64, max: u64, translation: u64) -> u32
+    ensures { Writes (adds (piece_of (qword_space (io_range min max translation))))
+        bytes.old state.old bytes.new state.new result }
+{
+    if state.fault != 0 {
+        return state.fault;
+    }
+    put_object(
+        bytes,
+        state,
+        &AddressSpace::<u64>::new_io(min, max, Some(translation)),
     )
 }
 
@@ -176,6 +240,38 @@ pub fn memory_range64(
     match memory_type(cached) {
         Some(cached) => {
             let range = AddressSpace::<u64>::new_memory(
+                cached,
+                read_write,
+                min,
+                max,
+                Some(translation),
+            );
+            put_object(bytes, state, &range)
+        }
+        None => fail(bytes, state, Fault::UnknownChoice),
+    }
+}
+
+/// Writes a range of memory with addresses of 16 bits (ACPI 6.5, 6.4.3.5.3). All else is as for `memory_range32`.
+#[tactic(auto, using(crate::proofs::Pieces::space_few, crate::proofs::Pieces::space_dry))]
+pub fn memory_range16(
+    bytes: &mut [u8],
+    state: &mut State,
+    cached: u32,
+    read_write: bool,
+    min: u16,
+    max: u16,
+    translation: u16,
+) -> u32
+    ensures { Writes (adds (memory_piece cached (λ cacheable. word_space (memory_range cacheable read_write min max translation))))
+        bytes.old state.old bytes.new state.new result }
+{
+    if state.fault != 0 {
+        return state.fault;
+    }
+    match memory_type(cached) {
+        Some(cached) => {
+            let range = AddressSpace::<u16>::new_memory(
                 cached,
                 read_write,
                 min,

@@ -12,7 +12,7 @@ use Rattle.acpi_fixed.specs.declared.fadt.FADTBuilder.{FADTBuilder}
 use Rattle.acpi_fixed.specs.declared.tpm2.LogArea.{LogArea}
 use Rattle.acpi_fixed.specs.declared.tpm2.Tpm2.{Tpm2}
 use Rattle.acpi_fixed.specs.Fadt.{builder_bytes, fadt_bytes}
-use Rattle.acpi_fixed.specs.Laws.{PointersSumToZero}
+use Rattle.acpi_fixed.specs.Laws.{PointersSumToZero, FirstPointersSumToZero}
 use Rattle.acpi_fixed.specs.Rsdp.{rsdp_bytes, unsummed, with_first}
 use Rattle.acpi_fixed.specs.Tpm2.{tpm2_fields, tpm2_with, tpm2_size}
 
@@ -52,6 +52,11 @@ pointers (o0 ∷ o1 ∷ o2 ∷ o3 ∷ o4 ∷ o5 ∷ []) xsdt_addr six =
       sum_zero (take 32 (rsdp_bytes (with_first (unsummed oem_id xsdt_addr)))) (0 ∷ 0 ∷ 0 ∷ []),
     )
 pointers oem_id xsdt_addr six = absurd (omega arith)
+
+pub first_pointers : FirstPointersSumToZero
+first_pointers (o0 ∷ o1 ∷ o2 ∷ o3 ∷ o4 ∷ o5 ∷ []) rsdt_addr six =
+    (refl, sum_zero (codes "RSD PTR ") (o0 ∷ o1 ∷ o2 ∷ o3 ∷ o4 ∷ o5 ∷ 0 ∷ le 4 rsdt_addr))
+first_pointers oem_id rsdt_addr six = absurd (omega arith)
 
 -- ---- FADT, whose header is the caller's
 

@@ -15,7 +15,7 @@ use Rattle.acpi_fixed.specs.declared.wsmt.WSMT.{WSMT}
 use Rattle.acpi_fixed.specs.Bert.{bert_bytes}
 use Rattle.acpi_fixed.specs.Bgrt.{bgrt_bytes}
 use Rattle.acpi_fixed.specs.Hpet.{hpet_bytes}
-use Rattle.acpi_fixed.specs.Rsdp.{rsdp_bytes, rsdp_for}
+use Rattle.acpi_fixed.specs.Rsdp.{rsdp_bytes, rsdp_for, rsdp0_bytes, rsdp0_for}
 use Rattle.acpi_fixed.specs.Spcr.{spcr_bytes}
 use Rattle.acpi_fixed.specs.Tcpa.{client_bytes, server_bytes}
 use Rattle.acpi_fixed.specs.Tpm2.{tpm2_bytes, tpm2_size}
@@ -29,6 +29,12 @@ PointersSumToZero =
     → (length (rsdp_bytes (rsdp_for oem_id xsdt_addr)) ≡ 36)
     × (sum (take 20 (rsdp_bytes (rsdp_for oem_id xsdt_addr))) % 256 ≡ 0)
     × (sum (rsdp_bytes (rsdp_for oem_id xsdt_addr)) % 256 ≡ 0)
+
+-- all 20 bytes of a new pointer to an RSDT sum to zero
+abbrev pub FirstPointersSumToZero : Type 0
+FirstPointersSumToZero =
+    (oem_id : List ℕ) (rsdt_addr : ℕ) → length oem_id ≡ 6
+    → (length (rsdp0_bytes (rsdp0_for oem_id rsdt_addr)) ≡ 20) × (sum (rsdp0_bytes (rsdp0_for oem_id rsdt_addr)) % 256 ≡ 0)
 
 -- ---- each table of this maker is a correct table of its size, without structures, for all values of its other fields
 

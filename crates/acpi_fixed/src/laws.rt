@@ -5,7 +5,7 @@ ghost use Rattle.acpi_base.specs.Table.{IsTrueTable};
 ghost use Rattle.acpi_base.specs.Walk.{ArePiecesOf};
 ghost use Rattle.acpi_fixed.specs.Fadt.{fadt_bytes};
 ghost use Rattle.acpi_fixed.specs.FadtCalls.{FadtsAreValid};
-ghost use Rattle.acpi_fixed.specs.Laws.{PointersSumToZero};
+ghost use Rattle.acpi_fixed.specs.Laws.{PointersSumToZero, FirstPointersSumToZero};
 ghost use Rattle.acpi_fixed.specs.Laws.{BertsAreTrue, SpcrsAreTrue, ClientsAreTrue, ServersAreTrue, Tpm2sAreTrue};
 ghost use Rattle.acpi_fixed.specs.Laws.{HpetsAreTrue, WaetsAreTrue, BgrtsAreTrue, WsmtsAreTrue};
 
@@ -16,6 +16,11 @@ use acpi_base::oem::Oem;
 /// The first 20 bytes of an RSDP that `Rsdp::new` made sum to zero, and so do all 36.
 pub fn pointers_sum_to_zero()
     ensures { PointersSumToZero }
+{}
+
+/// All 20 bytes of an RSDP that `Rsdp0::new` made sum to zero.
+pub fn first_pointers_sum_to_zero()
+    ensures { FirstPointersSumToZero }
 {}
 
 /// Every BERT, SPCR, TCPA, TPM2, HPET, WAET, BGRT and WSMT of a maker contains its length and sums to zero, after any setters.

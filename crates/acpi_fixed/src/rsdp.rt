@@ -3,7 +3,7 @@
 ghost use Rattle.std.specs.Prelude.{◌≡◌, sum};
 ghost use Rattle.acpi_base.specs.Bytes.{complement};
 ghost use Rattle.acpi_base.specs.Object.{whole, whole_ends_well};
-ghost use Rattle.acpi_fixed.specs.Rsdp.{rsdp_for, rsdp_fields, rsdp_bytes};
+ghost use Rattle.acpi_fixed.specs.Rsdp.{rsdp_for, rsdp_fields, rsdp_bytes, rsdp0_for, rsdp0_fields, rsdp0_bytes};
 
 use acpi_base::error::R;
 use acpi_base::object::Aml;
@@ -108,6 +108,67 @@ impl Aml for Rsdp {
     ghost object = { λ r. whole (rsdp_bytes r) };
 
     ghost ends_well = { λ r. whole_ends_well (rsdp_bytes r) };
+
+    fn to_aml_bytes(&self, sink: &mut dyn AmlSink) -> R<()> {
+        write_record(self, sink)
+    }
+}
+
+/// The Root System Description Pointer of revision 0 (ACPI 6.5, 5.2.5.3): 20 bytes, as ACPI 1.0 has it. It points to an RSDT.
+#[derive(Clone, Copy)]
+pub struct Rsdp0 {
+    oem_id: [u8; 6],
+    checksum: u8,
+    rsdt_addr: u32,
+}
+
+impl Rsdp0 {
+    /// The pointer to an RSDT at a physical address below 4 GiB, with its checksum.
+    pub fn new(oem_id: [u8; 6], rsdt_addr: u32) -> Rsdp0
+        ensures { result ≡ rsdp0_for oem_id rsdt_addr }
+    {
+        let mut rsdp = Rsdp0 {
+            oem_id,
+            checksum: 0,
+            rsdt_addr,
+        };
+        rsdp.checksum = complement_of(&rsdp.bytes());
+        rsdp
+    }
+
+    /// The size in bytes.
+    pub fn len() -> usize
+        ensures { result ≡ 20 }
+    {
+        20
+    }
+}
+
+impl Record<20> for Rsdp0 {
+    ghost fields = { rsdp0_fields };
+
+    fn rows() -> &'static [Row] {
+        &RSDP_ROWS[..5]
+    }
+
+    fn bytes(&self) -> [u8; 20] {
+        record_of(
+            &RSDP_ROWS[..5],
+            &[
+                Value::Bytes(b"RSD PTR "),
+                Value::Number(u64::from(self.checksum)),
+                Value::Bytes(&self.oem_id),
+                Value::Number(0),
+                Value::Number(u64::from(self.rsdt_addr)),
+            ],
+        )
+    }
+}
+
+impl Aml for Rsdp0 {
+    ghost object = { λ r. whole (rsdp0_bytes r) };
+
+    ghost ends_well = { λ r. whole_ends_well (rsdp0_bytes r) };
 
     fn to_aml_bytes(&self, sink: &mut dyn AmlSink) -> R<()> {
         write_record(self, sink)

@@ -8,7 +8,7 @@ use Rattle.acpi_rules.specs.Finding.{Finding}
 use Rattle.acpi_rules.specs.Line.{severity, rule_name}
 use Rattle.acpi_rules.specs.declared.finding.Rule.{Rule}
 use Rattle.acpi_rules.specs.declared.finding.Rule.TheVariants.{ReservedBytes, ReservedBits, ReservedValue, StructureLength, Range}
-use Rattle.acpi_rules.specs.declared.finding.Rule.TheVariants.{Unique, Overlap, AtMost, Count, Pair, Distance, Multiple}
+use Rattle.acpi_rules.specs.declared.finding.Rule.TheVariants.{Unique, Overlap, AtMost, Count, Pair, Cycle, Distance, Multiple, Below}
 
 -- a number of eight bytes
 unfoldable pub word : ℕ → List ℕ
@@ -26,11 +26,13 @@ range least most = member (codes ",\"least\":") least ++ member (codes ",\"most\
 abbrev pub other_member : List ℕ → List ℕ
 other_member other = codes ",\"other\":" ++ string other
 
--- the member with the number of a rule on two fields: the offset of the part with the same number, or the other field's number
+-- the member with the number of a rule on two fields: the offset of the part with the same number, the other field's number, or the
+-- number below which the field's own has to be
 abbrev pub other_number : Rule → ℕ → List ℕ
 other_number Overlap n = member (codes ",\"also_at\":") n
 other_number AtMost n = member (codes ",\"other_value\":") n
 other_number Pair n = member (codes ",\"other_value\":") n
+other_number Below n = member (codes ",\"below\":") n
 other_number rule n = []
 
 -- the members of a rule on two fields
@@ -39,9 +41,10 @@ relates rule n other = other_member other ++ other_number rule n
 
 -- The members that say what a rule allows, or what is wrong with the value: the bits or the number that is reserved; the numbers
 -- that are allowed; the offset of the part with the same number; how many bytes there are for entries; the number of which the
--- value isn't a multiple; the other field and what it has. Reserved bytes that aren't zero have none.
+-- value isn't a multiple; the other field and what it has. Reserved bytes that aren't zero have none, nor has a circle.
 unfoldable pub said : Rule → ℕ → ℕ → List ℕ → List ℕ
 said ReservedBytes n most other = []
+said Cycle n most other = []
 said ReservedBits n most other = member (codes ",\"reserved\":") n
 said ReservedValue n most other = member (codes ",\"reserved\":") n
 said StructureLength n most other = range n n

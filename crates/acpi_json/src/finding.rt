@@ -52,6 +52,7 @@ fn push_other_number(rule: Rule, number: u64, text: &mut Vec<u8>) -> Result<(), 
         Rule::Overlap => push_member(b",\"also_at\":", number, text),
         Rule::AtMost => push_member(b",\"other_value\":", number, text),
         Rule::Pair => push_member(b",\"other_value\":", number, text),
+        Rule::Below => push_member(b",\"below\":", number, text),
         _ => Ok(()),
     }
 }
@@ -76,7 +77,7 @@ fn push_said(
     ensures { OnOk result (text.new.items ≡ text.old.items ++ said rule number most other.now) }
 {
     match rule {
-        Rule::ReservedBytes => Ok(()),
+        Rule::ReservedBytes | Rule::Cycle => Ok(()),
         Rule::ReservedBits => push_member(b",\"reserved\":", number, text),
         Rule::ReservedValue => push_member(b",\"reserved\":", number, text),
         Rule::StructureLength => push_range(number, number, text),

@@ -94,18 +94,18 @@ listing_next base oem places i entry t new inside before bytes grown =
     grown ∙ ap (λ (s : Listing). with_structure s entry) before ∙ ap (with_structure (listing base oem (take i places))) bytes
     ∙ rw (take_more places i 0 inside, map-append) refl
 
-accepted_room : (b : Bool) → (if b then None else Some FieldWidth) ≡ None → b ≡ true
+pub accepted_room : (b : Bool) → (if b then None else Some FieldWidth) ≡ None → b ≡ true
 accepted_room true h = refl
 accepted_room false h = absurd cc
 
-refused_room : (b : Bool) (e : Error) → (if b then None else Some FieldWidth) ≡ Some e → (e ≡ FieldWidth) × (b ≡ false)
+pub refused_room : (b : Bool) (e : Error) → (if b then None else Some FieldWidth) ≡ Some e → (e ≡ FieldWidth) × (b ≡ false)
 refused_room true e h = absurd cc
 refused_room false e h = (cc, refl)
 
-room_is : (size more limit count : ℕ) → has_space size more limit count 0 ≡ true → size + more < limit
+pub room_is : (size more limit count : ℕ) → has_space size more limit count 0 ≡ true → size + more < limit
 room_is size more limit count h = grind (arith, nat_tests, h)
 
-no_room_is : (size more limit count : ℕ) → has_space size more limit count 0 ≡ false → limit ≤ size + more
+pub no_room_is : (size more limit count : ℕ) → has_space size more limit count 0 ≡ false → limit ≤ size + more
 no_room_is size more limit count h = grind (arith, nat_tests, h)
 
 module _ (base : ℕ) (oem : Oem) (places : List ℕ) (i : ℕ) (inside : i < length places) (t : Listing) (is : t ≡ listing base oem (take i places)) where

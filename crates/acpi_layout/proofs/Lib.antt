@@ -10,3 +10,6 @@ pub mod Listed
 pub mod ReadBack
 pub mod Faults
 pub mod FromFiles
+pub mod Low
+pub mod LowAnswered
+pub mod LowLaws

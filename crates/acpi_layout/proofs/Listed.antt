@@ -121,7 +121,7 @@ all_one P x p zero d inside = p
 all_one P x p (suc k) d inside = absurd (omega (arith, inside))
 
 -- a table begins among the bytes, or at their end
-places_inside : (tables : List (List ℕ)) (laid : Laid) → All (λ place. place ≤ length laid.bytes) laid.places
+pub places_inside : (tables : List (List ℕ)) (laid : Laid) → All (λ place. place ≤ length laid.bytes) laid.places
     → All (λ place. place ≤ length (all_placed tables laid).bytes) (all_placed tables laid).places
 places_inside [] laid all = all
 places_inside (t ∷ tables) laid all =

@@ -33,7 +33,7 @@ bytes_in_fadt p place w b header within is =
     ∙ ap (λ n. take w (drop n (head ++ rest))) past
     ∙ ap (take w) (drop-append-add head rest place) ∙ is
 
-number_in_fadt : (p : FADTBuilder) (place w v : ℕ) → length (fields_joined (header_fields p)) ≡ 36 → place + w ≤ 240 → take w (drop place (fields_joined (fadt_fields p))) ≡ le w v
+pub number_in_fadt : (p : FADTBuilder) (place w v : ℕ) → length (fields_joined (header_fields p)) ≡ 36 → place + w ≤ 240 → take w (drop place (fields_joined (fadt_fields p))) ≡ le w v
     → v < 256 ^ w → field_at (36 + place) w (fadt_bytes p) ≡ v
 number_in_fadt p place w v header within is small = ap carried (bytes_in_fadt p place w (le w v) header within is) ∙ carried_le w v small
 

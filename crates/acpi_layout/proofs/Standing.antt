@@ -35,12 +35,12 @@ pub length-padded : (unit : ℕ) (bytes : List ℕ) → length (padded unit byte
 length-padded unit bytes = omega (arith, length-append bytes (zeros (gap unit (length bytes))), length-replicate {A = ℕ} (gap unit (length bytes)) 0)
 
 -- what is padded to a unit, and one more after it
-stand_padded : (unit base : ℕ) (all : List Standing) (bytes b : List ℕ) → Stand base all bytes
+pub stand_padded : (unit base : ℕ) (all : List Standing) (bytes b : List ℕ) → Stand base all bytes
     → Stand base (all ++ record { address = base + length (padded unit bytes); bytes = b } ∷ []) (padded unit bytes ++ b)
 stand_padded unit base all bytes b h = stand_push base (base + length (padded unit bytes)) all bytes b (gap unit (length bytes)) (omega (arith, length-padded unit bytes)) h
 
 module _ (base : ℕ) (before : List Standing) where
-  all_stand : (tables : List (List ℕ)) (laid : Laid) (done : List (List ℕ)) → length laid.places ≡ length done → Stand base (before ++ standing_at base laid.places done) laid.bytes
+  pub all_stand : (tables : List (List ℕ)) (laid : Laid) (done : List (List ℕ)) → length laid.places ≡ length done → Stand base (before ++ standing_at base laid.places done) laid.bytes
       → Stand base (before ++ standing_at base (all_placed tables laid).places (done ++ tables)) (all_placed tables laid).bytes
   all_stand [] laid done same h = rw (append-nil done) h
   all_stand (t ∷ tables) laid done same h =
@@ -56,7 +56,7 @@ regrouped : (a b s : List Standing) (x y : Standing) → (((a ++ b) ++ s) ++ x �
 regrouped a b s x y = simp append_assoc
 
 -- the FACS if there is one, and the DSDT
-begins : (base : ℕ) (facs : Option (List ℕ)) (dsdt : List ℕ)
+pub begins : (base : ℕ) (facs : Option (List ℕ)) (dsdt : List ℕ)
     → Stand base (standing_control base facs ++ record { address = base + length (control_bytes facs); bytes = dsdt } ∷ []) (control_bytes facs ++ dsdt)
 begins base None dsdt = (0, [], omega arith, sym (append-nil dsdt), refl)
 begins base (Some facs) dsdt = (0, dsdt, omega arith, refl, (0, [], omega arith, sym (append-nil dsdt), refl))
@@ -82,7 +82,7 @@ stand base oem facs dsdt fadt tables =
 
 -- ---- multiples
 
-padded_8 : (base : ℕ) (bytes : List ℕ) → base % 64 ≡ 0 → (base + length (padded 8 bytes)) % 8 ≡ 0
+pub padded_8 : (base : ℕ) (bytes : List ℕ) → base % 64 ≡ 0 → (base + length (padded 8 bytes)) % 8 ≡ 0
 padded_8 base bytes aligned = omega (arith, aligned, length-padded 8 bytes)
 
 padded_16 : (base : ℕ) (bytes : List ℕ) → base % 64 ≡ 0 → (base + length (padded 16 bytes)) % 16 ≡ 0
@@ -92,7 +92,7 @@ aligned_push : (base place : ℕ) (places : List ℕ) → (base + place) % 8 ≡
 aligned_push base place [] here all = (here, tt)
 aligned_push base place (p ∷ places) here all = (all.0, aligned_push base place places here all.1)
 
-all_aligned : (base : ℕ) (tables : List (List ℕ)) (laid : Laid) → base % 64 ≡ 0 → AreAligned base laid.places → AreAligned base (all_placed tables laid).places
+pub all_aligned : (base : ℕ) (tables : List (List ℕ)) (laid : Laid) → base % 64 ≡ 0 → AreAligned base laid.places → AreAligned base (all_placed tables laid).places
 all_aligned base [] laid aligned all = all
 all_aligned base (t ∷ tables) laid aligned all =
     all_aligned base tables (placed t laid) aligned (aligned_push base (length (padded 8 laid.bytes)) laid.places (padded_8 base laid.bytes aligned) all)
@@ -116,14 +116,14 @@ end_push : (from : ℕ) (all : List Standing) (s : Standing) → end_of from (al
 end_push from [] s = refl
 end_push from (t ∷ all) s = end_push (t.address + length t.bytes) all s
 
-near_8 : (base : ℕ) (bytes : List ℕ) → base + length (padded 8 bytes) < base + length bytes + 8
+pub near_8 : (base : ℕ) (bytes : List ℕ) → base + length (padded 8 bytes) < base + length bytes + 8
 near_8 base bytes = omega (arith, length-padded 8 bytes)
 
 near_16 : (base : ℕ) (bytes : List ℕ) → base + length (padded 16 bytes) < base + length bytes + 16
 near_16 base bytes = omega (arith, length-padded 16 bytes)
 
 module _ (base from : ℕ) where
-  all_close : (tables : List (List ℕ)) (laid : Laid) (done : List (List ℕ)) → length laid.places ≡ length done
+  pub all_close : (tables : List (List ℕ)) (laid : Laid) (done : List (List ℕ)) → length laid.places ≡ length done
       → AreClose 8 from (standing_at base laid.places done) → end_of from (standing_at base laid.places done) ≡ base + length laid.bytes
       → AreClose 8 from (standing_at base (all_placed tables laid).places (done ++ tables))
       × (end_of from (standing_at base (all_placed tables laid).places (done ++ tables)) ≡ base + length (all_placed tables laid).bytes)

@@ -9,3 +9,6 @@ pub mod Fault
 pub mod FaultText
 pub mod Files
 pub mod FilesText
+pub mod Rsdt
+pub mod RsdtText
+pub mod RsdtLaws

@@ -49,7 +49,7 @@ impl Image {
 }
 
 // The FACS at base, if there is one. Returns its address, or 0.
-fn place_control(base: u64, facs: Option<FACS>, bytes: &mut Vec<u8>) -> R<u64>
+pub(crate) fn place_control(base: u64, facs: Option<FACS>, bytes: &mut Vec<u8>) -> R<u64>
     requires { bytes.old.items ≡ [] }
     ensures address { IfOk result (λ address. address ≡ control_address base (option_map facs_bytes facs)) }
     ensures bytes { OnOk result (bytes.new.items ≡ control_bytes (option_map facs_bytes facs)) }

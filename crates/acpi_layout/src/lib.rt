@@ -11,3 +11,5 @@ pub mod lay_fault;
 pub mod layout;
 pub mod located;
 mod place;
+pub mod rsdt;
+pub mod rsdt_fault;

@@ -52,3 +52,10 @@ pub(crate) fn address(base: u64, place: u64) -> u64
 {
     base.wrapping_add(place)
 }
+
+// The address of a place below 4 GiB. Past 2^32 - 1 only its lowest 32 bits.
+pub(crate) fn low_address(base: u32, place: u64) -> u32
+    ensures { le 4 result ≡ le 4 (base + place) }
+{
+    (address(u64::from(base), place) % 0x1_0000_0000) as u32
+}

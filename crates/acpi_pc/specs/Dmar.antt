@@ -10,6 +10,7 @@ use Rattle.acpi_pc.specs.declared.dmar.scoped.Atsr.{Atsr}
 use Rattle.acpi_pc.specs.declared.dmar.scoped.Drhd.{Drhd}
 use Rattle.acpi_pc.specs.declared.dmar.scoped.Rmrr.{Rmrr}
 use Rattle.acpi_pc.specs.declared.dmar.scoped.Satc.{Satc}
+use Rattle.acpi_pc.specs.declared.dmar.scoped.Sidp.{Sidp}
 
 -- Flags of the table (8.1)
 abbrev pub dmar_bits : List Part
@@ -176,3 +177,22 @@ satc_head s = fields_joined (satc_head_fields s)
 
 abbrev pub satc_bytes : Satc → List ℕ
 satc_bytes s = satc_head s ++ s.scopes  -- 8: Device Scope
+
+-- ---- SoC Integrated Device Property Reporting (8.9)
+
+abbrev pub sidp : ℕ → Sidp
+sidp segment = record { segment = segment; scopes = [] }
+
+abbrev pub sidp_head_fields : Sidp → List NamedField
+sidp_head_fields s =
+    preset word "Type" 6  -- 0
+    ∷ word "Length" (8 + length s.scopes)  -- 2
+    ∷ reserved 2  -- 4
+    ∷ hex word "Segment Number" s.segment  -- 6
+    ∷ []
+
+abbrev pub sidp_head : Sidp → List ℕ
+sidp_head s = fields_joined (sidp_head_fields s)
+
+abbrev pub sidp_bytes : Sidp → List ℕ
+sidp_bytes s = sidp_head s ++ s.scopes  -- 8: Device Scope

@@ -10,6 +10,7 @@ ghost use Rattle.acpi_core.specs.Calls.{IsAfterItsCalls};
 ghost use Rattle.acpi_core.specs.Listing.{bytes_of, length_limit};
 ghost use Rattle.acpi_core.specs.Walk.{IsWalked, Keeps};
 ghost use Rattle.acpi_pc.specs.Dmar.{dmar, dmar_fields, drhd_bytes, rmrr_bytes, atsr_bytes, rhsa_bytes, andd_bytes, satc_bytes};
+ghost use Rattle.acpi_pc.specs.Dmar.{sidp_bytes};
 ghost use Rattle.acpi_pc.specs.DmarLaws.{StructuresTellKinds, ScopesAreRead};
 
 mod devices;
@@ -28,7 +29,8 @@ use acpi_core::walked::{Walked, is_walked};
 pub use devices::{ANDD, Andd, RHSA, Rhsa, andd_rows};
 pub use scope::{DEVICE_SCOPE, DeviceScope, SCOPE_PATH, ScopeType, scope_rows};
 pub use scoped::{
-    ATSR, Atsr, DRHD, Drhd, RMRR, Rmrr, SATC, Satc, atsr_rows, drhd_rows, rmrr_rows, satc_rows,
+    ATSR, Atsr, DRHD, Drhd, RMRR, Rmrr, SATC, SIDP, Satc, Sidp, atsr_rows, drhd_rows, rmrr_rows,
+    satc_rows, sidp_rows,
 };
 use std::alloc::Global;
 
@@ -140,6 +142,14 @@ impl DMAR {
     /// reach 2^32.
     pub fn add_satc(&mut self, devices: Satc) -> R<()>
         ensures { Adds result self.old.table (whole (satc_bytes devices)) self.new.table }
+    {
+        self.table.add_object(&devices)
+    }
+
+    /// Adds the integrated devices whose scopes have flags of their own. The error is `FieldWidth` if the table's length would
+    /// reach 2^32.
+    pub fn add_sidp(&mut self, devices: Sidp) -> R<()>
+        ensures { Adds result self.old.table (whole (sidp_bytes devices)) self.new.table }
     {
         self.table.add_object(&devices)
     }

@@ -29,7 +29,7 @@ use Rattle.acpi_read.specs.declared.terms.in_part.ListFrame.{ListFrame}
 use Rattle.acpi_read.specs.declared.terms.in_part.ListFrame.TheVariants as frames
 use Rattle.acpi_read.proofs.Closings.{block_least, first_least}
 use Rattle.acpi_read.specs.InPart.{Content, terms, first_and_terms, content, has_terms, opens_terms, IsFrameOf, IsFrameAt, IsFault, IsTerm, BeginNoTerm, IsBefore, BeginNoFrame, BeginNoList, IsUnreadTerm, IsFrame, AreInPart, IsOneInPart, IsListInPart, IsBranch}
-use Rattle.acpi_read.proofs.TermLists.{joins, and_one}
+use Rattle.acpi_read.proofs.TermLists.{joins, and_one, joins_more, joins_end}
 
 -- ---- lists of terms
 
@@ -37,14 +37,6 @@ spelling_joins : (a b : Terms) → spelling (joins a b) ≡ spelling a ++ spelli
 spelling_joins end b = refl
 spelling_joins (term h w c o) b =
     ap (λ (l : List ℕ). spelled h w (count c) (spelling c) ++ l) (spelling_joins o b) ∙ sym (append_assoc (spelled h w (count c) (spelling c)) (spelling o) (spelling b))
-
-joins_more : (front : Terms) (h : Head) (w : ℕ) (c o : Terms) → joins front (term h w c o) ≡ joins (and_one front h w c) o
-joins_more end h w c o = refl
-joins_more (term g v d front) h w c o = ap (term g v d) (joins_more front h w c o)
-
-joins_end : (front : Terms) → joins front end ≡ front
-joins_end end = refl
-joins_end (term h w c o) = ap (term h w c) (joins_end o)
 
 -- an error of reading a term that isn't out of memory
 pub is_fault : (to : ℕ) (e : ReadError) → IsPlaced to e → (e ≡ errors.Memory → ⊥) → IsFault to e

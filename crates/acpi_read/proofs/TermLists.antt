@@ -33,11 +33,11 @@ joins (term h w c o) others = term h w c (joins o others)
 abbrev pub and_one : Terms → Head → ℕ → Terms → Terms
 and_one front h w c = joins front (term h w c end)
 
-joins_more : (front : Terms) (h : Head) (w : ℕ) (c o : Terms) → joins front (term h w c o) ≡ joins (and_one front h w c) o
+pub joins_more : (front : Terms) (h : Head) (w : ℕ) (c o : Terms) → joins front (term h w c o) ≡ joins (and_one front h w c) o
 joins_more end h w c o = refl
 joins_more (term g v d front) h w c o = ap (term g v d) (joins_more front h w c o)
 
-joins_end : (front : Terms) → joins front end ≡ front
+pub joins_end : (front : Terms) → joins front end ≡ front
 joins_end end = refl
 joins_end (term h w c o) = ap (term h w c) (joins_end o)
 

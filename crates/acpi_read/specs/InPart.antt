@@ -112,7 +112,7 @@ module _ (g : Grammar) where
 
   -- ---- lists of terms
 
-  -- a frame around these children, which are not all legal
+  -- a frame around these children, which may have unread terms inside
   abbrev pub IsFrame : ℕ → Head → ℕ → Terms → Type 0
   IsFrame d h w children = (1 ≤ d) × IsLegal g Term h w (count children) (spelling children)
 

@@ -3,3 +3,4 @@ pub mod Structures
 mod Entries
 mod Shown
 mod Differences
+mod Chains

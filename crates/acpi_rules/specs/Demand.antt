@@ -29,6 +29,7 @@ spot_by s = record { offset = s.offset; width = s.width; name = s.name.now }
 -- - multiple: it is a multiple of a number;
 -- - points: it is zero, or the offset of a structure of one of these types;
 -- - refers: it is zero, or the number in this field of a structure of this type;
+-- - ends: parts of which each has the offset of the next one there come to an end;
 -- - distances: it is the number of localities, whose distances begin in this field (ACPI 6.5, 5.2.17).
 pub data Demand : Type 0 where
   differs : Demand
@@ -43,6 +44,7 @@ pub data Demand : Type 0 where
   multiple : ℕ → Demand
   points : List ℕ → Demand
   refers : ℕ → Spot → Demand
+  ends : Demand
   distances : Spot → Demand
 
 abbrev pub demand_by : DemandData → Demand
@@ -58,6 +60,7 @@ demand_by (demands.Between from to) = between from to
 demand_by (demands.Multiple unit) = multiple unit
 demand_by (demands.Points types) = points types.now
 demand_by (demands.Refers kind spot) = refers kind (spot_by spot)
+demand_by demands.Ends = ends
 demand_by (demands.Distances first) = distances (spot_by first)
 
 -- In tables of this signature, the field at a spot of each of these parts is as demanded by a section.

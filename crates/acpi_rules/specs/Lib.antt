@@ -9,6 +9,7 @@ pub mod Apart
 pub mod Order
 pub mod Matrix
 pub mod Reference
+pub mod Chain
 pub mod Relation
 pub mod Standard
 pub mod Link

@@ -10,7 +10,7 @@ use Rattle.acpi_rules.specs.Finding.{Finding}
 use Rattle.acpi_rules.specs.declared.finding.Rule.{Rule}
 use Rattle.acpi_rules.specs.declared.finding.Rule.TheVariants.{ReservedBytes, ReservedBits, ReservedValue, StructureLength, Range}
 use Rattle.acpi_rules.specs.declared.finding.Rule.TheVariants.{Unique, Overlap, AtMost, NoOverflow, Count, Pair, Required}
-use Rattle.acpi_rules.specs.declared.finding.Rule.TheVariants.{Reference, Distance, Needs, Multiple, Defined, Below}
+use Rattle.acpi_rules.specs.declared.finding.Rule.TheVariants.{Reference, Cycle, Distance, Needs, Multiple, Defined, Below}
 
 -- the tables that ACPI 6.5 defines; another standard defines each other table
 abbrev pub standard_tables : List (List ℕ)
@@ -48,6 +48,7 @@ rule_name Required = codes "required"
 rule_name Needs = codes "needs"
 rule_name Multiple = codes "multiple"
 rule_name Reference = codes "reference"
+rule_name Cycle = codes "cycle"
 rule_name Distance = codes "distance"
 rule_name Defined = codes "defined"
 rule_name Below = codes "below"
@@ -99,6 +100,7 @@ relates_text Overlap number most other =
 relates_text Count number most other = codes " in " ++ decimal most ++ codes " bytes"
 relates_text Multiple number most other = codes " isn't n * " ++ decimal number
 relates_text Reference number most other = codes " isn't the " ++ label other ++ codes " of such a structure"
+relates_text Cycle number most other = codes " leads to a circle"
 relates_text Defined number most other = codes " isn't any " ++ label other
 relates_text Below number most other = own_text most ++ limit_text number other
 relates_text rule number most other = pair_text rule number most other

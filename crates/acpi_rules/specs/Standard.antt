@@ -10,7 +10,7 @@ use Rattle.acpi_rules.specs.declared.demand.Of.TheVariants.{Whole, Each, Kind, E
 use Rattle.acpi_rules.specs.declared.demand.When.{When}
 use Rattle.acpi_rules.specs.declared.demand.When.TheVariants.{Always, Is, Not}
 use Rattle.acpi_rules.specs.Demand.{Spot, Demand, Relation, differs, apart, at_most, addresses, counts, agrees, needed, needs}
-use Rattle.acpi_rules.specs.Demand.{between, multiple, points, refers, distances}
+use Rattle.acpi_rules.specs.Demand.{between, multiple, points, refers, ends, distances}
 use Rattle.acpi_rules.specs.Field.{table_fields}
 use Rattle.acpi_rules.specs.Finding.{Finding}
 use Rattle.acpi_rules.specs.Relation.{relations_findings}
@@ -349,8 +349,15 @@ referred =
     ∷ rule "IORT" (Entries 6 (DWord 12) 16 (Field (DWord 8)) 20) Always (spot 12 4 "Output Reference")
     (points (0 ∷ 3 ∷ 4 ∷ 7 ∷ [])) "Arm DEN0049E.d"
     ∷ rule "IORT" (Kind 5) Always (spot 28 4 "Node Reference") (points (0 ∷ 1 ∷ 2 ∷ 3 ∷ 4 ∷ 7 ∷ [])) "Arm DEN0049E.d"
+    ∷ rule "RIMT" (Entries 1 (Word 12) 16 (Field (Word 14)) 20) Always (spot 12 4 "Destination IOMMU Offset") (points (0 ∷ []))
+    "RISC-V RIMT"
+    ∷ rule "RIMT" (Entries 2 (Word 8) 12 (Field (Word 10)) 20) Always (spot 12 4 "Destination IOMMU Offset") (points (0 ∷ []))
+    "RISC-V RIMT"
     ∷ rule "VIOT" (Kind 1) Always (spot 16 2 "Output Node") (points (3 ∷ 4 ∷ [])) "ACPI 6.5, 5.2.32"
     ∷ rule "VIOT" (Kind 2) Always (spot 16 2 "Output Node") (points (3 ∷ 4 ∷ [])) "ACPI 6.5, 5.2.32"
+    -- Structures of which each has the offset of the next.
+    ∷ rule "PPTT" (Kind 0) Always (spot 8 4 "Parent") ends "ACPI 6.5, 5.2.30.1"
+    ∷ rule "PPTT" (Kind 1) Always (spot 8 4 "Next Level of Cache") ends "ACPI 6.5, 5.2.30.2"
     -- Numbers of other structures.
     ∷ rule "NFIT" (Kind 1) Always (spot 12 2 "SPA Range Structure Index") (refers 0 (spot 4 2 "SPA Range Structure Index"))
     "ACPI 6.5, 5.2.26.3"

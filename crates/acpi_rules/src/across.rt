@@ -51,8 +51,8 @@ fn is_of(column: &Column, table: &[u8]) -> bool
     column.table.as_bytes() == signature_of(table)
 }
 
-// Returns the parts of a table that a column has.
-fn column_items<'a>(
+/// Returns the parts of a table that a column has. The only error is that memory ran out.
+pub fn column_items<'a>(
     alloc: Global,
     column: &Column,
     table: &'a [u8],
@@ -66,8 +66,9 @@ fn column_items<'a>(
     }
 }
 
-// Returns the number of a part.
-fn whole_number(alloc: Global, high: &Spot, item: &Item<'_>) -> Result<u64, AllocError>
+/// Returns the number of a part: that of its field, with the bytes of another one above it. The only error is that memory ran
+/// out.
+pub fn whole_number(alloc: Global, high: &Spot, item: &Item<'_>) -> Result<u64, AllocError>
     ensures { IfOk result (λ number. number ≡ whole_number (spot_by high.now) (item_by item.now)) }
 {
     let mut bytes = Vec::new(alloc);

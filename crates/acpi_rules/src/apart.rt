@@ -39,6 +39,7 @@ fn clash(demand: &Demand, a: &Item<'_>, b: &Item<'_>) -> bool
         | Demand::Multiple(_)
         | Demand::Points(_)
         | Demand::Refers(_, _)
+        | Demand::Ends
         | Demand::Distances(_) => false,
     }
 }

@@ -76,6 +76,8 @@ pub enum Demand {
     Points(&'static [usize]),
     /// The field is zero, or the number in this one of a structure of this type.
     Refers(usize, Spot),
+    /// Parts of which each has the offset of the next one in the field come to an end.
+    Ends,
     /// The field is the number of localities, whose distances begin at this one (ACPI 6.5, 5.2.17).
     Distances(Spot),
 }

@@ -33,6 +33,8 @@ pub enum Rule {
     Multiple,
     /// A number is the offset of a structure of a type, or that of a field of one.
     Reference,
+    /// Structures of which each names the next one come to an end.
+    Cycle,
     /// A distance is 10 from a locality to itself, and otherwise not below 10. The numbers are as those of a range.
     Distance,
     /// A number is one of another table of the machine.

@@ -5,6 +5,7 @@
 pub mod across;
 pub mod allowed;
 pub mod apart;
+pub mod chain;
 pub mod demand;
 pub mod difference;
 pub mod field;

@@ -75,6 +75,7 @@ impl Rule {
             Rule::Needs => "needs",
             Rule::Multiple => "multiple",
             Rule::Reference => "reference",
+            Rule::Cycle => "cycle",
             Rule::Distance => "distance",
             Rule::Defined => "defined",
             Rule::Below => "below",
@@ -223,6 +224,7 @@ fn push_relates(
             push_label(other, text)?;
             text.push_str(" of such a structure")
         }
+        Rule::Cycle => text.push_str(" leads to a circle"),
         Rule::Defined => {
             text.push_str(" isn't any ")?;
             push_label(other, text)

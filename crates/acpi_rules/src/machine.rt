@@ -125,9 +125,9 @@ const SUBSPACES: Column = column!("PCCT", Each, Always, spot!(0, 1, "Type"));
 
 // ---- rules
 
-// Numbers of processors, and of proximity domains, in a SRAT.
+/// The rules on numbers of processors, and of proximity domains, in a SRAT.
 #[rattlefmt::skip]
-const AFFINITIES: [Link; 13] = [
+pub const AFFINITIES: [Link; 13] = [
     link!(column!("SRAT", Kind(0), Is(DWord(4), 1, 1), spot!(3, 1, "APIC ID")),
         OneOf(&PROCESSORS), "APIC ID, Local SAPIC ID, X2APIC ID or Physical Processor ID of APIC", "ACPI 6.5, 5.2.16.1"),
     link!(column!("SRAT", Kind(2), Is(DWord(12), 1, 1), spot!(8, 4, "X2APIC ID")),
@@ -157,9 +157,9 @@ const AFFINITIES: [Link; 13] = [
         Below(LOCALITIES), "Number of System Localities of SLIT", "ACPI 6.5, 5.2.17"),
 ];
 
-// Numbers in other tables.
+/// The rules on numbers in other tables.
 #[rattlefmt::skip]
-const NAMED: [Link; 11] = [
+pub const NAMED: [Link; 11] = [
     link!(column!("HMAT", Kind(0), Is(Word(8), 1, 1), spot!(12, 4, "Proximity Domain for the Attached Initiator")),
         OneOf(&DOMAINS), "Proximity Domain of SRAT", "ACPI 6.5, 5.2.28.3"),
     link!(column!("HMAT", Kind(0), Always, spot!(16, 4, "Proximity Domain for the Memory")),

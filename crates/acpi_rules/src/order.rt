@@ -252,6 +252,7 @@ fn check_numbers<'a>(
         | Demand::Apart(_, _)
         | Demand::Points(_)
         | Demand::Refers(_, _)
+        | Demand::Ends
         | Demand::Distances(_) => Ok(()),
     }
 }

@@ -16,15 +16,15 @@ use crate::rules::number_of;
 use acpi_base::walk::Walk;
 use std::alloc::{AllocError, Global};
 
-// Where a part begins.
-const START: Spot = Spot {
+/// Where a part begins.
+pub const START: Spot = Spot {
     offset: 0,
     width: 0,
     name: "offset",
 };
 
-// Returns the structures of a type.
-fn of_kind(kind: usize) -> Among
+/// Returns the structures of a type.
+pub fn of_kind(kind: usize) -> Among
     ensures { result ≡ of_kind kind }
 {
     Among {

@@ -9,6 +9,7 @@ ghost use Rattle.acpi_rules.specs.Reference.{targets};
 ghost use Rattle.acpi_rules.specs.Relation.{demand_findings, relation_findings, relations_findings};
 
 use crate::apart::check_apart;
+use crate::chain::check_chains;
 use crate::demand::{Demand, Relation};
 use crate::finding::Finding;
 use crate::item::{Item, items_of};
@@ -19,22 +20,25 @@ use crate::rules::signature_of;
 use acpi_base::walk::Walk;
 use std::alloc::{AllocError, Global};
 
-// Adds what parts of a table break of a demand, where these numbers are allowed besides zero.
+// Adds what parts of a table break of a demand on their field at an offset, where these numbers are allowed besides zero.
 fn check_demand<'a>(
+    alloc: Global,
     demand: &Demand,
+    at: usize,
     section: &'static str,
     numbers: &[u64],
     items: &[Item<'a>],
     findings: &mut Vec<Finding<'a>>,
 ) -> Result<(), AllocError>
     ensures { OnOk result (map noted findings.new.items ≡ map noted findings.old.items
-        ++ demand_findings (demand_by demand.now) section.now numbers.now (map item_by items.now)) }
+        ++ demand_findings (demand_by demand.now) at section.now numbers.now (map item_by items.now)) }
 {
     match *demand {
         Demand::Differs | Demand::Apart(_, _) => check_apart(demand, section, items, findings),
         Demand::Points(_) | Demand::Refers(_, _) => {
             check_references(demand, section, numbers, items, findings)
         }
+        Demand::Ends => check_chains(alloc, at, section, items, findings),
         Demand::Distances(first) => check_matrices(section, &first, items, findings),
         Demand::AtMost(_)
         | Demand::Addresses(_)
@@ -56,12 +60,21 @@ fn check_table<'a>(
     findings: &mut Vec<Finding<'a>>,
 ) -> Result<(), AllocError>
     ensures { OnOk result (map noted findings.new.items ≡ map noted findings.old.items
-        ++ demand_findings (demand_by row.now.demand) row.now.section.now (targets (demand_by row.now.demand) walk table.now)
+        ++ demand_findings (demand_by row.now.demand) row.now.spot.offset row.now.section.now (targets (demand_by row.now.demand) walk table.now)
         (items row.now.among (spot_by row.now.spot) walk table.now)) }
 {
     let numbers = targets_of(alloc, &row.demand, walk, table)?;
     let items = items_of(alloc, &row.among, &row.spot, walk, table)?;
-    check_demand(&row.demand, row.section, &numbers, &items, findings)
+    let at = usize::from(row.spot.offset);
+    check_demand(
+        alloc,
+        &row.demand,
+        at,
+        row.section,
+        &numbers,
+        &items,
+        findings,
+    )
 }
 
 // Adds what a table breaks of a rule.

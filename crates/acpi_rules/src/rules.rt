@@ -47,8 +47,8 @@ pub(crate) fn number_in_bytes(bytes: &[u8]) -> u64
     }
 }
 
-// Returns the number in the bytes of a field, of which it has eight at most.
-pub(crate) fn number_of(field: &Field<'_>) -> u64
+/// Returns the number in the bytes of a field, of which it has eight at most.
+pub fn number_of(field: &Field<'_>) -> u64
     ensures { result ≡ number_of (seen field.now) }
 {
     number_in_bytes(field.bytes)

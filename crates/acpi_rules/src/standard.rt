@@ -10,8 +10,8 @@ ghost use Rattle.acpi_rules.specs.Standard.{bounded, referred, standard_findings
 
 use crate::allowed::Allowed;
 use crate::demand::Demand::{
-    Addresses, Agrees, Apart, AtMost, Between, Counts, Differs, Distances, Multiple, Needed, Needs,
-    Points, Refers,
+    Addresses, Agrees, Apart, AtMost, Between, Counts, Differs, Distances, Ends, Multiple, Needed,
+    Needs, Points, Refers,
 };
 use crate::demand::Of::{Each, Entries, Kind, Whole};
 use crate::demand::When::{Always, Is, Not};
@@ -405,9 +405,9 @@ const BOUNDED: [Relation; 24] = [
     rule!("TCPA", Whole, Is(Word(36), 65535, 1), spot!(4, 4, "Length"), Between(100, 100), "TCG ACPI Specification 1.4"),
 ];
 
-// Fields that are those of other structures of a table.
+/// The rules on fields that are those of other structures of a table.
 #[rattlefmt::skip]
-const REFERRED: [Relation; 17] = [
+pub const REFERRED: [Relation; 21] = [
     // Offsets of structures.
     rule!("PPTT", Kind(0), Always, spot!(8, 4, "Parent"), Points(&[0]), "ACPI 6.5, 5.2.30.1"),
     rule!("PPTT", Entries(0, Nowhere, 20, FieldCount(DWord(16)), 4), Always, spot!(0, 4, "Private Resource"), Points(&[1, 2]),
@@ -428,8 +428,15 @@ const REFERRED: [Relation; 17] = [
     rule!("IORT", Entries(6, DWord(12), 16, FieldCount(DWord(8)), 20), Always, spot!(12, 4, "Output Reference"),
         Points(&[0, 3, 4, 7]), "Arm DEN0049E.d"),
     rule!("IORT", Kind(5), Always, spot!(28, 4, "Node Reference"), Points(&[0, 1, 2, 3, 4, 7]), "Arm DEN0049E.d"),
+    rule!("RIMT", Entries(1, Word(12), 16, FieldCount(Word(14)), 20), Always, spot!(12, 4, "Destination IOMMU Offset"),
+        Points(&[0]), "RISC-V RIMT"),
+    rule!("RIMT", Entries(2, Word(8), 12, FieldCount(Word(10)), 20), Always, spot!(12, 4, "Destination IOMMU Offset"),
+        Points(&[0]), "RISC-V RIMT"),
     rule!("VIOT", Kind(1), Always, spot!(16, 2, "Output Node"), Points(&[3, 4]), "ACPI 6.5, 5.2.32"),
     rule!("VIOT", Kind(2), Always, spot!(16, 2, "Output Node"), Points(&[3, 4]), "ACPI 6.5, 5.2.32"),
+    // Structures of which each has the offset of the next.
+    rule!("PPTT", Kind(0), Always, spot!(8, 4, "Parent"), Ends, "ACPI 6.5, 5.2.30.1"),
+    rule!("PPTT", Kind(1), Always, spot!(8, 4, "Next Level of Cache"), Ends, "ACPI 6.5, 5.2.30.2"),
     // Numbers of other structures.
     rule!("NFIT", Kind(1), Always, spot!(12, 2, "SPA Range Structure Index"),
         Refers(0, spot!(4, 2, "SPA Range Structure Index")), "ACPI 6.5, 5.2.26.3"),

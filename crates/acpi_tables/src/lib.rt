@@ -307,7 +307,7 @@ pub mod dbg2 {
 pub mod dmar {
     pub use acpi_pc::dmar::{
         Andd, Atsr, DMA_CTRL_PLATFORM_OPT_IN, DMAR, DeviceScope, Drhd, INTR_REMAP, Rhsa, Rmrr,
-        Satc, ScopeType, X2APIC_OPT_OUT,
+        Satc, ScopeType, Sidp, X2APIC_OPT_OUT,
     };
 }
 
@@ -394,6 +394,8 @@ pub mod layout {
     pub use acpi_layout::lay_fault::LayFault;
     pub use acpi_layout::layout::{Image, lay, lay_reduced};
     pub use acpi_layout::located::Located;
+    pub use acpi_layout::rsdt::{RsdtImage, lay_reduced_rsdt, lay_rsdt};
+    pub use acpi_layout::rsdt_fault::RsdtFault;
 }
 
 /// The Multiple APIC Description Table and its structures (ACPI 6.5, 5.2.12). `hest` has a type `EnabledStatus`, too: write
@@ -465,7 +467,7 @@ pub mod rqsc {
 
 /// The Root System Description Pointer (ACPI 6.5, 5.2.5.3).
 pub mod rsdp {
-    pub use acpi_fixed::rsdp::Rsdp;
+    pub use acpi_fixed::rsdp::{Rsdp, Rsdp0};
 }
 
 /// The Root System Description Table (ACPI 6.5, 5.2.7).
@@ -510,7 +512,7 @@ pub mod text {
     pub use acpi_make::fault::{Fault, MakeError, Wanted};
     pub use acpi_make::make::Made;
     pub use acpi_terms_text::annotate::annotated;
-    pub use acpi_terms_text::methods::{Method, add_methods_in, own_arities, own_arities_in_part};
+    pub use acpi_terms_text::objects::{Object, add_objects_in, own_arities, own_arities_in_part};
     pub use acpi_text::comment::push_comment;
     pub use acpi_text::form::{Choice, Count, Inner, Part, StructureForm, TableForm};
     pub use acpi_text::table::show_by;

@@ -7,7 +7,7 @@ use Rattle.std.proofs.lemmas.Bool.Decides.{nat_tests}
 use Rattle.std.proofs.lemmas.List.Sums.{split_at_first, passes_at_first, fails_before_first}
 use Rattle.acpi_term.specs.Arity.{with_all}
 use Rattle.acpi_term.specs.PathText.{IsDotless}
-use Rattle.acpi_terms_text.specs.Methods.{placed, after_dots, stated, all_stated}
+use Rattle.acpi_terms_text.specs.Objects.{placed, after_dots, stated, all_stated}
 use Rattle.acpi_terms_text.proofs.Walks.{both_added}
 
 -- ---- roots

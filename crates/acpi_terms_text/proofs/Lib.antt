@@ -5,6 +5,8 @@ pub mod Runs
 pub mod Walks
 pub mod Dots
 pub mod Scopes
+pub mod Operands
+pub mod Segments
 pub mod Single
 pub mod Placed
 pub mod Kept

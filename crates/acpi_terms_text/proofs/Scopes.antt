@@ -1,49 +1,83 @@
 -- The numbers of arguments in scopes.
-use Rattle.std.proofs.Common.{◌≡◌, ℕ, zero, suc, ◌+◌, ◌-◌, ◌<◌, ◌≤◌, ◌==◌, not, ◌||◌, Bool, true, false, List, [], ◌∷◌, ◌++◌, length, map, get_or, drop, refl, sym, ap, ◌∙◌, arith}
+use Rattle.std.proofs.Common.{◌≡◌, ℕ, zero, suc, ◌+◌, ◌-◌, ◌<◌, ◌≤◌, ◌==◌, not, ◌&&◌, ◌||◌, Bool, true, false, List, [], ◌∷◌, ◌++◌, length, map, get_or, drop, refl, sym, ap, ◌∙◌, arith}
 use Rattle.std.specs.Iterator.{Yields}
 use Rattle.std.specs.Vec.Iter.{into_iter_items, into_iter_steps}
 use Rattle.std.specs.declared.vec.IntoIter.{IntoIter}
 use Rattle.acpi_read.proofs.Texts.{dropped}
 use Rattle.acpi_term.proofs.Depths.{first_shallow, others_shallow}
-use Rattle.acpi_term.specs.Tree.{depth}
-use Rattle.acpi_term.specs.View.{view, views, single}
+use Rattle.acpi_term.specs.Tree.{Head, Terms, depth}
+use Rattle.acpi_term.specs.View.{view, views, single, IsApart}
 use Rattle.acpi_term.specs.declared.term.Term.{Term}
 use Rattle.acpi_term.specs.Arity.{arity, with_all}
-use Rattle.acpi_terms_text.specs.declared.methods.Method.{Method}
-use Rattle.acpi_terms_text.specs.Methods.{Callee, callee_by}
-use Rattle.acpi_terms_text.specs.Scoped.{outer, here, made_in, near, differ, AreScoped}
+use Rattle.acpi_terms_text.specs.declared.objects.Object.{Object}
+use Rattle.acpi_terms_text.specs.Objects.{Callee, callee_by}
+use Rattle.acpi_terms_text.specs.Scoped.{outer, here, made_in, near, may_name, mention, differ, AreScoped}
 use Rattle.acpi_terms_text.proofs.Walks.{both_added}
 
 abbrev Counts : Type 0
 Counts = List (List ℕ × ℕ)
+
+or_false : (a : Bool) → (a || false) ≡ a
+or_false true = refl
+or_false false = refl
 
 or_joined : (a b c : Bool) → (a || (b || c)) ≡ ((a || b) || c)
 or_joined true b c = refl
 or_joined false b c = refl
 
 -- one of two lists has another number
-pub differ_both : (own a b : Counts) → differ own (a ++ b) ≡ (differ own a || differ own b)
-differ_both own [] b = refl
-differ_both own (x ∷ a) b =
-    ap (λ (t : Bool). not (arity own x.0 == x.1) || t) (differ_both own a b) ∙ or_joined (not (arity own x.0 == x.1)) (differ own a) (differ own b)
+pub differ_both : (own : Counts) (terms : Terms) (a b : Counts) → differ own terms (a ++ b) ≡ (differ own terms a || differ own terms b)
+differ_both own terms [] b = refl
+differ_both own terms (x ∷ a) b =
+    let one = not (arity own x.0 == x.1) && mention x.0 terms in
+    ap (λ (t : Bool). one || t) (differ_both own terms a b) ∙ or_joined one (differ own terms a) (differ own terms b)
 
--- ---- loops over methods
+-- ---- terms that mention a name
 
-pub made_on : (scope : List ℕ) (ms : List Method) (i : ℕ) (m : Method) (now new whole : Counts) → i < length ms → m ≡ get_or ms i m
-    → new ≡ with_all now (here scope (callee_by m)) → with_all now (made_in scope (map callee_by (drop i ms))) ≡ whole
-    → with_all new (made_in scope (map callee_by (drop (i + 1) ms))) ≡ whole
-made_on scope ms i m now new whole inside is added before =
-    let rest = made_in scope (map callee_by (drop (i + 1) ms)) in
-    ap (λ (l : Counts). with_all l rest) added ∙ sym (both_added now (here scope (callee_by m)) rest)
-    ∙ ap (λ (l : List Method). with_all now (made_in scope (map callee_by l))) (sym (dropped ms i m inside is)) ∙ before
+pub mention_first : (name : List ℕ) (t : Term) (ts : List Term) → mention name (views (t ∷ ts)) ≡ (mention name (single (view t)) || mention name (views ts))
+mention_first name t ts =
+    let one = may_name name (view t).0 in
+    let inner = mention name (view t).2 in
+    ap (λ (b : Bool). one || b) (ap (λ (b : Bool). b || mention name (views ts)) (sym (or_false inner))) ∙ or_joined one (inner || false) (mention name (views ts))
 
--- what is said of the methods from i on is what is said of the method i and of those after it
-pub differs_split : (own : Counts) (scope : List ℕ) (ms : List Method) (i : ℕ) (m : Method) → i < length ms → m ≡ get_or ms i m
-    → differ own (made_in scope (map callee_by (drop i ms)))
-    ≡ (differ own (here scope (callee_by m)) || differ own (made_in scope (map callee_by (drop (i + 1) ms))))
-differs_split own scope ms i m inside is =
-    ap (λ (l : List Method). differ own (made_in scope (map callee_by l))) (dropped ms i m inside is)
-    ∙ differ_both own (here scope (callee_by m)) (made_in scope (map callee_by (drop (i + 1) ms)))
+mention_both : (name : List ℕ) (a b : List Term) → mention name (views (a ++ b)) ≡ (mention name (views a) || mention name (views b))
+mention_both name [] b = refl
+mention_both name (t ∷ a) b =
+    let one = mention name (single (view t)) in
+    mention_first name t (a ++ b) ∙ ap (λ (l : Bool). one || l) (mention_both name a b) ∙ or_joined one (mention name (views a)) (mention name (views b))
+    ∙ ap (λ (l : Bool). l || mention name (views b)) (sym (mention_first name t a))
+
+-- of the terms from i on: of the term i, and of those after it
+pub mention_split : (name : List ℕ) (ts : List Term) (i : ℕ) (t : Term) → i < length ts → t ≡ get_or ts i t
+    → mention name (views (drop i ts)) ≡ (mention name (single (view t)) || mention name (views (drop (i + 1) ts)))
+mention_split name ts i t inside is =
+    ap (λ (l : List Term). mention name (views l)) (dropped ts i t inside is) ∙ mention_first name t (drop (i + 1) ts)
+
+-- of a term, and of its children in two lists
+module _ (name : List ℕ) (t : Term) (h : Head) (w : ℕ) (a b : List Term) (apart : IsApart t h w a b) where
+  mention_over : (may_name name h || (mention name (views a) || mention name (views b))) ≡ mention name (single (view t))
+  mention_over =
+      ap (λ (l : Bool). may_name name h || l) (sym (mention_both name a b) ∙ ap (mention name) apart.children ∙ sym (or_false (mention name (view t).2)))
+      ∙ ap (λ (k : Head). may_name name k || (mention name (view t).2 || false)) apart.head
+
+  mention_after : (r : Bool) → may_name name h ≡ false → r ≡ (mention name (views a) || mention name (views b)) → r ≡ mention name (single (view t))
+  mention_after r none is = is ∙ ap (λ (l : Bool). l || (mention name (views a) || mention name (views b))) (sym none) ∙ mention_over
+
+  pub mention_in_first : may_name name h ≡ false → mention name (views a) ≡ true → true ≡ mention name (single (view t))
+  mention_in_first none holds = mention_after true none (ap (λ (l : Bool). l || mention name (views b)) (sym holds))
+
+  pub mention_in_others : (r : Bool) → may_name name h ≡ false → mention name (views a) ≡ false → r ≡ mention name (views b) → r ≡ mention name (single (view t))
+  mention_in_others r none first is = mention_after r none (is ∙ ap (λ (l : Bool). l || mention name (views b)) (sym first))
+
+-- ---- loops over objects
+
+-- what is said of the objects from i on is what is said of the object i and of those after it
+pub differs_split : (own : Counts) (terms : Terms) (scope : List ℕ) (ms : List Object) (i : ℕ) (m : Object) → i < length ms → m ≡ get_or ms i m
+    → differ own terms (made_in scope (map callee_by (drop i ms)))
+    ≡ (differ own terms (here scope (callee_by m)) || differ own terms (made_in scope (map callee_by (drop (i + 1) ms))))
+differs_split own terms scope ms i m inside is =
+    ap (λ (l : List Object). differ own terms (made_in scope (map callee_by l))) (dropped ms i m inside is)
+    ∙ differ_both own terms (here scope (callee_by m)) (made_in scope (map callee_by (drop (i + 1) ms)))
 
 -- ---- scopes around a scope
 
@@ -59,19 +93,19 @@ module _ (all : List Callee) where
       q ∙ ap (λ (s : List ℕ). with_all one (near (n - 1) s all)) into ∙ ap (λ (l : Counts). with_all l rest) p
       ∙ sym (both_added old (made_in scope all) rest) ∙ ap (with_all old) (sym (near_more n scope some))
 
-  pub differs_first : (own : Counts) (n : ℕ) (scope : List ℕ) (found : Bool) → found ≡ differ own (made_in scope all) → found ≡ true
-      → found ≡ differ own (near n scope all)
-  differs_first own zero scope found is holds = is
-  differs_first own (suc n) scope found is holds =
-      holds ∙ ap (λ (t : Bool). t || differ own (near n (outer scope) all)) (sym holds ∙ is) ∙ sym (differ_both own (made_in scope all) (near n (outer scope) all))
+  pub differs_first : (own : Counts) (terms : Terms) (n : ℕ) (scope : List ℕ) (found : Bool) → found ≡ differ own terms (made_in scope all) → found ≡ true
+      → found ≡ differ own terms (near n scope all)
+  differs_first own terms zero scope found is holds = is
+  differs_first own terms (suc n) scope found is holds =
+      holds ∙ ap (λ (t : Bool). t || differ own terms (near n (outer scope) all)) (sym holds ∙ is) ∙ sym (differ_both own terms (made_in scope all) (near n (outer scope) all))
 
-  pub differs_after : (own : Counts) (n : ℕ) (scope inner : List ℕ) (first found : Bool) → 0 < n → inner ≡ outer scope
-      → first ≡ differ own (made_in scope all) → first ≡ false → found ≡ differ own (near (n - 1) inner all)
-      → found ≡ differ own (near n scope all)
-  differs_after own n scope inner first found some into is fails p =
+  pub differs_after : (own : Counts) (terms : Terms) (n : ℕ) (scope inner : List ℕ) (first found : Bool) → 0 < n → inner ≡ outer scope
+      → first ≡ differ own terms (made_in scope all) → first ≡ false → found ≡ differ own terms (near (n - 1) inner all)
+      → found ≡ differ own terms (near n scope all)
+  differs_after own terms n scope inner first found some into is fails p =
       let rest = near (n - 1) (outer scope) all in
-      p ∙ ap (λ (s : List ℕ). differ own (near (n - 1) s all)) into ∙ ap (λ (t : Bool). t || differ own rest) (sym fails ∙ is)
-      ∙ sym (differ_both own (made_in scope all) rest) ∙ ap (differ own) (sym (near_more n scope some))
+      p ∙ ap (λ (s : List ℕ). differ own terms (near (n - 1) s all)) into ∙ ap (λ (t : Bool). t || differ own terms rest) (sym fails ∙ is)
+      ∙ sym (differ_both own terms (made_in scope all) rest) ∙ ap (differ own terms) (sym (near_more n scope some))
 
 -- ---- terms in scopes
 

@@ -6,8 +6,8 @@ use Rattle.acpi_term.specs.Arity.{with_new, with_all}
 use Rattle.acpi_term.specs.Tree.{Head}
 use Rattle.acpi_term.specs.View.{view, views, single, IsApart}
 use Rattle.acpi_read.proofs.Texts.{dropped}
-use Rattle.acpi_terms_text.specs.declared.methods.Method.{Method}
-use Rattle.acpi_terms_text.specs.Methods.{inside, Callee, callee_by, own_method, numbers, numbers_of, numbers_from, methods}
+use Rattle.acpi_terms_text.specs.declared.objects.Object.{Object}
+use Rattle.acpi_terms_text.specs.Objects.{inside, Callee, callee_by, own_objects, numbers, numbers_of, numbers_from, objects}
 use Rattle.acpi_terms_text.specs.Comment.{has_ids, has_size, note}
 use Rattle.acpi_terms_text.specs.Woven.{entry_notes, notes}
 
@@ -20,14 +20,14 @@ pub both_added : (all a b : Counts) → with_all all (a ++ b) ≡ with_all (with
 both_added all [] b = refl
 both_added all (x ∷ a) b = both_added (with_new all x) a b
 
--- of one number of arguments
-pub numbers_on : (n : ℕ) (ms : List Method) (i : ℕ) (m : Method) (now new whole : Counts) → i < length ms → m ≡ get_or ms i m
-    → new ≡ with_all now (if (callee_by m).args == n then numbers (callee_by m) else [])
-    → with_all now (numbers_of n (map callee_by (drop i ms))) ≡ whole → with_all new (numbers_of n (map callee_by (drop (i + 1) ms))) ≡ whole
-numbers_on n ms i m now new whole inside is added before =
-    let rest = numbers_of n (map callee_by (drop (i + 1) ms)) in
-    ap (λ (l : Counts). with_all l rest) added ∙ sym (both_added now (if (callee_by m).args == n then numbers (callee_by m) else []) rest)
-    ∙ ap (λ (l : List Method). with_all now (numbers_of n (map callee_by l))) (sym (dropped ms i m inside is)) ∙ before
+-- of each of a list of objects
+pub counts_on : (each : List Object → Counts) (os : List Object) (i : ℕ) (o : Object) (one now new whole : Counts) → i < length os
+    → o ≡ get_or os i o → each (o ∷ drop (i + 1) os) ≡ one ++ each (drop (i + 1) os) → new ≡ with_all now one
+    → with_all now (each (drop i os)) ≡ whole → with_all new (each (drop (i + 1) os)) ≡ whole
+counts_on each os i o one now new whole inside is step added before =
+    let rest = each (drop (i + 1) os) in
+    ap (λ (l : Counts). with_all l rest) added ∙ sym (both_added now one rest) ∙ ap (with_all now) (sym step)
+    ∙ ap (λ (l : List Object). with_all now (each l)) (sym (dropped os i o inside is)) ∙ before
 
 -- of the numbers from k to 7
 numbers_more : (n k : ℕ) (all : List Callee) → k < n → numbers_from (n - k) k all ≡ numbers_of k all ++ numbers_from (n - (k + 1)) (k + 1) all
@@ -47,37 +47,40 @@ called_done n k all now whole least before =
     let none : 0 ≡ n - k = omega (arith, least) in
     ap (λ (l : ℕ). with_all now (numbers_from l k all)) none ∙ before
 
--- ---- methods
+-- ---- objects
 
 abbrev Callees : Type 0
 Callees = List Callee
 
-pub methods_step : (scope : List ℕ) (t : Term) (ts : List Term) → methods scope (views (t ∷ ts)) ≡ methods scope (single (view t)) ++ methods scope (views ts)
-methods_step scope t ts =
-    let own = own_method scope (view t).0 in
-    let inner = methods (inside scope (view t).0) (view t).2 in
-    ap (λ (l : Callees). own ++ (l ++ methods scope (views ts))) (sym (append-nil inner)) ∙ sym (append_assoc own (inner ++ []) (methods scope (views ts)))
+pub objects_step : (scope : List ℕ) (t : Term) (ts : List Term) → objects scope (views (t ∷ ts)) ≡ objects scope (single (view t)) ++ objects scope (views ts)
+objects_step scope t ts =
+    let own = own_objects scope (view t).0 (view t).2 in
+    let inner = objects (inside scope (view t).0) (view t).2 in
+    ap (λ (l : Callees). own ++ (l ++ objects scope (views ts))) (sym (append-nil inner)) ∙ sym (append_assoc own (inner ++ []) (objects scope (views ts)))
 
-methods_both : (scope : List ℕ) (a b : List Term) → methods scope (views (a ++ b)) ≡ methods scope (views a) ++ methods scope (views b)
-methods_both scope [] b = refl
-methods_both scope (t ∷ a) b =
-    let one = methods scope (single (view t)) in
-    methods_step scope t (a ++ b) ∙ ap (λ (l : Callees). one ++ l) (methods_both scope a b) ∙ sym (append_assoc one (methods scope (views a)) (methods scope (views b)))
-    ∙ ap (λ (l : Callees). l ++ methods scope (views b)) (sym (methods_step scope t a))
+objects_both : (scope : List ℕ) (a b : List Term) → objects scope (views (a ++ b)) ≡ objects scope (views a) ++ objects scope (views b)
+objects_both scope [] b = refl
+objects_both scope (t ∷ a) b =
+    let one = objects scope (single (view t)) in
+    objects_step scope t (a ++ b) ∙ ap (λ (l : Callees). one ++ l) (objects_both scope a b) ∙ sym (append_assoc one (objects scope (views a)) (objects scope (views b)))
+    ∙ ap (λ (l : Callees). l ++ objects scope (views b)) (sym (objects_step scope t a))
 
 -- a term, and then its children in two lists
-pub methods_over : (scope inner : List ℕ) (t : Term) (h : Head) (w : ℕ) (a b : List Term) → IsApart t h w a b → inner ≡ inside scope h
-    → (old one two new : Callees) → one ≡ old ++ own_method scope h → two ≡ one ++ methods inner (views a)
-    → new ≡ two ++ methods inner (views b) → new ≡ old ++ methods scope (single (view t))
-methods_over scope inner t h w a b apart into old one two new p q r =
-    let own = own_method scope (view t).0 in
-    let after = methods (inside scope (view t).0) (view t).2 in
-    let children : methods inner (views a) ++ methods inner (views b) ≡ after =
-    sym (methods_both inner a b) ∙ ap (methods inner) apart.children ∙ ap (λ (s : List ℕ). methods s (view t).2) (into ∙ ap (inside scope) apart.head)
+pub objects_over : (scope inner : List ℕ) (t : Term) (h : Head) (w : ℕ) (a b : List Term) → IsApart t h w a b → inner ≡ inside scope h
+    → (old one two new : Callees) → one ≡ old ++ own_objects scope h (views (a ++ b)) → two ≡ one ++ objects inner (views a)
+    → new ≡ two ++ objects inner (views b) → new ≡ old ++ objects scope (single (view t))
+objects_over scope inner t h w a b apart into old one two new p q r =
+    let own = own_objects scope (view t).0 (view t).2 in
+    let after = objects (inside scope (view t).0) (view t).2 in
+    let children : objects inner (views a) ++ objects inner (views b) ≡ after =
+    sym (objects_both inner a b) ∙ ap (objects inner) apart.children ∙ ap (λ (s : List ℕ). objects s (view t).2) (into ∙ ap (inside scope) apart.head)
     in
-    r ∙ ap (λ (l : Callees). l ++ methods inner (views b)) q ∙ append_assoc one (methods inner (views a)) (methods inner (views b))
+    let owned : own_objects scope h (views (a ++ b)) ≡ own =
+    ap (own_objects scope h) apart.children ∙ ap (λ (k : Head). own_objects scope k (view t).2) apart.head
+    in
+    r ∙ ap (λ (l : Callees). l ++ objects inner (views b)) q ∙ append_assoc one (objects inner (views a)) (objects inner (views b))
     ∙ ap (λ (l : Callees). one ++ l) children
-    ∙ ap (λ (l : Callees). l ++ after) (p ∙ ap (λ (k : Head). old ++ own_method scope k) apart.head)
+    ∙ ap (λ (l : Callees). l ++ after) (p ∙ ap (λ (l : Callees). old ++ l) owned)
     ∙ append_assoc old own after
     ∙ ap (λ (l : Callees). old ++ (own ++ l)) (sym (append-nil after))
 

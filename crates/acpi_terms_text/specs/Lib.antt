@@ -1,4 +1,4 @@
-pub mod Methods
+pub mod Objects
 pub mod Scoped
 pub mod Eisa
 pub mod Uuid

@@ -1,26 +1,27 @@
--- Calls of methods by the search rules of names (ACPI 6.5, 5.3).
-use Rattle.std.specs.Prelude.{◌≡◌, ◌≢◌, ◌⊎◌, ℕ, zero, suc, ◌==◌, ◌-◌, ◌/◌, not, ◌||◌, Bool, true, false}
+-- Calls by the search rules of names (ACPI 6.5, 5.3).
+use Rattle.std.specs.Prelude.{◌≡◌, ◌≢◌, ◌⊎◌, ℕ, zero, suc, ◌==◌, ◌-◌, ◌/◌, not, ◌&&◌, ◌||◌, Bool, true, false}
 use Rattle.std.specs.Prelude.{if◌then◌else◌, List, [], ◌∷◌, ◌++◌, length, take}
 use Rattle.std.specs.Str.{bytes_eq}
 use Rattle.acpi_read.specs.Terms.{AreReadIn, IsUnreadIn}
 use Rattle.acpi_term.specs.Arity.{arity, with_all}
 use Rattle.acpi_term.specs.Carried.{AreCarried}
 use Rattle.acpi_term.specs.Language.{grammar_of}
+use Rattle.acpi_term.specs.Name.{without_parents}
 use Rattle.acpi_term.specs.Spelling.{spelling}
-use Rattle.acpi_term.specs.Tree.{Head, def_scope, def_device, def_method, def_power_res, def_leveled_method}
-use Rattle.acpi_term.specs.Tree.{def_processor, def_thermal_zone, Terms, end, term}
+use Rattle.acpi_term.specs.Tree.{Head, call, def_scope, def_device, def_method, def_power_res, def_leveled_method}
+use Rattle.acpi_term.specs.Tree.{def_processor, def_thermal_zone, unread, Terms, end, term}
 use Rattle.acpi_term.specs.declared.language.Language.TheVariants.{Standard}
 use Rattle.acpi_term.specs.declared.read_error.ReadError.{ReadError}
 use Rattle.acpi_term.specs.declared.read_error.ReadError.TheVariants.{Memory}
-use Rattle.acpi_terms_text.specs.Methods.{inside, Callee, called, all_methods, predefined}
+use Rattle.acpi_terms_text.specs.Objects.{inside, Callee, called, all_callees, predefined}
 
--- ---- the methods that are near to a scope
+-- ---- the objects that are near to a scope
 
 -- the scope around one: without its last segment, which has four characters and a dot
 abbrev pub outer : List ℕ → List ℕ
 outer scope = take (length scope - 5) scope
 
--- a method by its name in this scope, if a term of the scope makes it
+-- an object by its name in this scope, if a term of the scope makes it
 abbrev pub here : List ℕ → Callee → List (List ℕ × ℕ)
 here scope m = if bytes_eq m.scope scope then (m.name, m.args) ∷ [] else []
 
@@ -39,12 +40,23 @@ nearest scope all = near (length scope / 5) scope all
 
 -- ---- the terms of a method's body
 
--- whether one of these numbers of arguments is another than that of its name in a list
-abbrev pub differ : List (List ℕ × ℕ) → List (List ℕ × ℕ) → Bool
-differ own [] = false
-differ own (a ∷ all) = not (arity own a.0 == a.1) || differ own all
+-- whether a head is this name, or has bytes that aren't read, which may have it
+abbrev pub may_name : List ℕ → Head → Bool
+may_name name (call other) = bytes_eq (without_parents other) name
+may_name name (unread error bytes) = true
+may_name name _ = false
 
--- The numbers in a scope: those that a caller states, those of the nearest methods, and then those of the whole block. If there are
+-- whether one of these terms, or of those in them, is
+abbrev pub mention : List ℕ → Terms → Bool
+mention name end = false
+mention name (term h w children others) = may_name name h || (mention name children || mention name others)
+
+-- whether one of these numbers of arguments is another than that of its name in a list, and terms have the name
+abbrev pub differ : List (List ℕ × ℕ) → Terms → List (List ℕ × ℕ) → Bool
+differ own terms [] = false
+differ own terms (a ∷ all) = not (arity own a.0 == a.1) && mention a.0 terms || differ own terms all
+
+-- The numbers in a scope: those that a caller states, those of the nearest objects, and then those of the whole block. If there are
 -- several for a name, the first one holds.
 abbrev pub numbers_in : List (List ℕ × ℕ) → List Callee → List ℕ → List (List ℕ × ℕ)
 numbers_in stated all scope = with_all (with_all (with_all stated (nearest scope all)) (called all)) predefined
@@ -93,7 +105,7 @@ OfBody other a b c = c
 module _ (stated : List (List ℕ × ℕ)) (all : List Callee) (own : List (List ℕ × ℕ)) where
   -- the terms of a method's body in this scope
   abbrev pub IsBody : List ℕ → Terms → Terms → Type 0
-  IsBody scope old new = AreIfRead (differ own (nearest scope all)) (numbers_in stated all scope) old new
+  IsBody scope old new = AreIfRead (differ own old (nearest scope all)) (numbers_in stated all scope) old new
 
   -- Terms in a scope, of which each method's body was read with the numbers of its scope.
   abbrev pub AreScoped : List ℕ → Terms → Terms → Type 0
@@ -107,6 +119,6 @@ module _ (stated : List (List ℕ × ℕ)) (all : List Callee) (own : List (List
       × AreScoped scope others others'
 
 -- The terms of a block that were read with the numbers `own`, of which each method's body was read with the numbers of its scope,
--- by the block's methods and those of further blocks.
+-- by the block's objects and those of further blocks.
 abbrev pub AreInScopes : List (List ℕ × ℕ) → List Callee → List (List ℕ × ℕ) → Terms → Terms → Type 0
-AreInScopes stated further own old new = AreScoped stated (all_methods old further) own [] old new
+AreInScopes stated further own old new = AreScoped stated (all_callees old further) own [] old new

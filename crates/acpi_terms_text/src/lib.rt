@@ -5,7 +5,7 @@ pub mod annotate;
 mod descriptor;
 mod eisa;
 pub mod laws;
-pub mod methods;
 mod note;
+pub mod objects;
 pub mod scoped;
 pub mod uuid;

@@ -1,16 +1,17 @@
-//! Calls of methods by the search rules of names (ACPI 6.5, 5.3).
+//! Calls by the search rules of names (ACPI 6.5, 5.3).
 
 ghost use Rattle.std.specs.Prelude.{◌≡◌, ◌++◌, ◌-◌, ◌/◌, ◌||◌, ◌⊎◌, OnOk, IfOk, IfErr, string_bytes, [], ◌∷◌, map, length};
 ghost use Rattle.acpi_term.specs.Arity.{arity, with_all};
-ghost use Rattle.acpi_term.specs.View.{view, views, single};
-ghost use Rattle.acpi_terms_text.specs.Methods.{callee_by};
-ghost use Rattle.acpi_terms_text.specs.Scoped.{outer, here, made_in, near, nearest, differ, numbers_in};
+ghost use Rattle.acpi_term.specs.View.{head_of, view, views, single};
+ghost use Rattle.acpi_terms_text.specs.Objects.{callee_by};
+ghost use Rattle.acpi_terms_text.specs.Scoped.{outer, here, made_in, near, nearest, may_name, mention, differ, numbers_in};
 ghost use Rattle.acpi_terms_text.specs.Scoped.{AreReadAgain, AreKept, IsBody, AreScoped, AreInScopes};
 
-use crate::methods::{Method, add_methods, add_predefined, all_methods, opened};
+use crate::objects::{Object, add_objects, add_predefined, all_callees, opened};
 use acpi_base::error::Error;
 use acpi_read::terms::standard_terms;
-use acpi_term::name_string::{Arities, name_of};
+use acpi_term::apart::{Kind, parts_of};
+use acpi_term::name_string::{Arities, name_of, without_parents};
 use acpi_term::read_error::ReadError;
 use acpi_term::spell::spell;
 use acpi_term::term::Term;
@@ -21,7 +22,7 @@ use std::alloc::{AllocError, Global};
 struct Numbers<'a> {
     // The numbers that a caller states.
     stated: &'a Arities,
-    methods: &'a [Method],
+    objects: &'a [Object],
     // The numbers by which the whole block was read.
     own: &'a Arities,
 }
@@ -33,33 +34,33 @@ fn outer(scope: &[u8]) -> &[u8]
     &scope[..scope.len().saturating_sub(5)]
 }
 
-// Adds the number of a method, if a term of this scope makes it.
+// Adds the number of an object, if a term of this scope makes it.
 fn add_here(
     alloc: Global,
     scope: &[u8],
-    method: &Method,
+    object: &Object,
     all: &mut Arities,
 ) -> Result<(), AllocError>
-    ensures { OnOk result (all.new ≡ with_all all.old (here scope.now (callee_by method.now))) }
+    ensures { OnOk result (all.new ≡ with_all all.old (here scope.now (callee_by object.now))) }
 {
-    if method.scope.as_bytes() != scope {
+    if object.scope.as_bytes() != scope {
         return Ok(());
     }
-    let name = name_of(alloc, method.name.as_bytes())?;
-    all.add(name, method.args)
+    let name = name_of(alloc, object.name.as_bytes())?;
+    all.add(name, object.args)
 }
 
-// Adds the numbers of the methods that terms of a scope make.
+// Adds the numbers of the objects that terms of a scope make.
 fn add_made_in(
     alloc: Global,
     scope: &[u8],
-    methods: &[Method],
+    objects: &[Object],
     all: &mut Arities,
 ) -> Result<(), AllocError>
-    ensures { OnOk result (all.new ≡ with_all all.old (made_in scope.now (map callee_by methods.now))) }
+    ensures { OnOk result (all.new ≡ with_all all.old (made_in scope.now (map callee_by objects.now))) }
 {
-    'methods: for method in methods {
-        add_here(alloc, scope, method, all)?;
+    'objects: for object in objects {
+        add_here(alloc, scope, object, all)?;
     }
     Ok(())
 }
@@ -70,31 +71,73 @@ fn add_near(
     alloc: Global,
     levels: usize,
     scope: &[u8],
-    methods: &[Method],
+    objects: &[Object],
     all: &mut Arities,
 ) -> Result<(), AllocError>
-    ensures { OnOk result (all.new ≡ with_all all.old (near levels scope.now (map callee_by methods.now))) }
+    ensures { OnOk result (all.new ≡ with_all all.old (near levels scope.now (map callee_by objects.now))) }
 {
-    add_made_in(alloc, scope, methods, all)?;
+    add_made_in(alloc, scope, objects, all)?;
     if levels > 0 {
-        add_near(alloc, levels - 1, outer(scope), methods, all)?;
+        add_near(alloc, levels - 1, outer(scope), objects, all)?;
     }
     Ok(())
 }
 
-// Returns whether a method that a term of this scope makes has another number than its name in a list.
-fn differs_here(own: &Arities, scope: &[u8], method: &Method) -> bool
-    ensures { result ≡ differ own.now (here scope.now (callee_by method.now)) }
+// ---- whether a body is read again
+
+// Returns whether a term is this name, or has bytes that aren't read.
+fn may_name(name: &[u8], kind: Kind<'_>) -> bool
+    ensures { result ≡ may_name name.now (head_of kind.entry) }
 {
-    method.scope.as_bytes() == scope && own.count_of(method.name.as_bytes()) != method.args
+    match kind {
+        Kind::Call(other) => without_parents(other.as_bytes()) == name,
+        Kind::Unread(..) => true,
+        _ => false,
+    }
+}
+
+// Returns whether one of these terms, or of those in them, is.
+#[cycle(mention)]
+fn mention(name: &[u8], terms: &[Term]) -> bool
+    ensures { result ≡ mention name.now (views terms.now) }
+{
+    for term in terms {
+        if mentions(name, term) {
+            return true;
+        }
+    }
+    false
+}
+
+#[cycle(mention)]
+fn mentions(name: &[u8], term: &Term) -> bool
+    ensures { result ≡ mention name.now (single (view term.now)) }
+{
+    let parts = parts_of(term);
+    if may_name(name, parts.kind) {
+        return true;
+    }
+    if mention(name, parts.first) {
+        return true;
+    }
+    mention(name, parts.others)
+}
+
+// Returns whether an object that a term of this scope makes has another number than its name in a list, and a body has the name.
+fn differs_here(own: &Arities, scope: &[u8], body: &[Term], object: &Object) -> bool
+    ensures { result ≡ differ own.now (views body.now) (here scope.now (callee_by object.now)) }
+{
+    object.scope.as_bytes() == scope
+        && own.count_of(object.name.as_bytes()) != object.args
+        && mention(object.name.as_bytes(), body)
 }
 
 // Returns whether one of them has.
-fn differs_in(own: &Arities, scope: &[u8], methods: &[Method]) -> bool
-    ensures { result ≡ differ own.now (made_in scope.now (map callee_by methods.now)) }
+fn differs_in(own: &Arities, scope: &[u8], body: &[Term], objects: &[Object]) -> bool
+    ensures { result ≡ differ own.now (views body.now) (made_in scope.now (map callee_by objects.now)) }
 {
-    'methods: for method in methods {
-        if differs_here(own, scope, method) {
+    'objects: for object in objects {
+        if differs_here(own, scope, body, object) {
             return true;
         }
     }
@@ -103,22 +146,28 @@ fn differs_in(own: &Arities, scope: &[u8], methods: &[Method]) -> bool
 
 // Returns the same of a scope, and of so many scopes around it.
 #[cycle(differs)]
-fn differs_near(own: &Arities, levels: usize, scope: &[u8], methods: &[Method]) -> bool
-    ensures { result ≡ differ own.now (near levels scope.now (map callee_by methods.now)) }
+fn differs_near(
+    own: &Arities,
+    levels: usize,
+    scope: &[u8],
+    body: &[Term],
+    objects: &[Object],
+) -> bool
+    ensures { result ≡ differ own.now (views body.now) (near levels scope.now (map callee_by objects.now)) }
 {
-    differs_in(own, scope, methods)
-        || levels > 0 && differs_near(own, levels - 1, outer(scope), methods)
+    differs_in(own, scope, body, objects)
+        || levels > 0 && differs_near(own, levels - 1, outer(scope), body, objects)
 }
 
 // ---- the terms of a method's body
 
 // Returns the numbers in a scope.
 fn numbers_in(alloc: Global, numbers: &Numbers<'_>, scope: &[u8]) -> Result<Arities, AllocError>
-    ensures { IfOk result (λ all. all ≡ numbers_in numbers.now.stated.now (map callee_by numbers.now.methods.now) scope.now) }
+    ensures { IfOk result (λ all. all ≡ numbers_in numbers.now.stated.now (map callee_by numbers.now.objects.now) scope.now) }
 {
     let mut all = numbers.stated.copy(alloc)?;
-    add_near(alloc, scope.len() / 5, scope, numbers.methods, &mut all)?;
-    add_methods(alloc, numbers.methods, &mut all)?;
+    add_near(alloc, scope.len() / 5, scope, numbers.objects, &mut all)?;
+    add_objects(alloc, numbers.objects, &mut all)?;
     add_predefined(alloc, &mut all)?;
     Ok(all)
 }
@@ -131,8 +180,8 @@ fn read_again(
     body: Vec<Term>,
 ) -> Result<Vec<Term>, AllocError>
     ensures { IfOk result (λ terms. AreReadAgain
-        (numbers_in numbers.now.stated.now (map callee_by numbers.now.methods.now) scope.now) (views body.items) (views terms.items)
-        ⊎ AreKept (numbers_in numbers.now.stated.now (map callee_by numbers.now.methods.now) scope.now) (views body.items)
+        (numbers_in numbers.now.stated.now (map callee_by numbers.now.objects.now) scope.now) (views body.items) (views terms.items)
+        ⊎ AreKept (numbers_in numbers.now.stated.now (map callee_by numbers.now.objects.now) scope.now) (views body.items)
         (views terms.items)) }
 {
     let all = numbers_in(alloc, numbers, scope)?;
@@ -155,10 +204,10 @@ fn body_in(
     scope: &[u8],
     body: Vec<Term>,
 ) -> Result<Vec<Term>, AllocError>
-    ensures { IfOk result (λ terms. IsBody numbers.now.stated.now (map callee_by numbers.now.methods.now) numbers.now.own.now scope.now
+    ensures { IfOk result (λ terms. IsBody numbers.now.stated.now (map callee_by numbers.now.objects.now) numbers.now.own.now scope.now
         (views body.items) (views terms.items)) }
 {
-    if differs_near(numbers.own, scope.len() / 5, scope, numbers.methods) {
+    if differs_near(numbers.own, scope.len() / 5, scope, &body, numbers.objects) {
         read_again(alloc, numbers, scope, body)
     } else {
         Ok(body)
@@ -175,7 +224,7 @@ fn scoped_terms(
     scope: &String,
     terms: Vec<Term>,
 ) -> Result<Vec<Term>, AllocError>
-    ensures { IfOk result (λ all. AreScoped numbers.now.stated.now (map callee_by numbers.now.methods.now) numbers.now.own.now
+    ensures { IfOk result (λ all. AreScoped numbers.now.stated.now (map callee_by numbers.now.objects.now) numbers.now.own.now
         (string_bytes scope.now) (views terms.items) (views all.items)) }
 {
     let mut all = Vec::with_capacity(alloc, terms.len())?;
@@ -192,7 +241,7 @@ fn scoped_term(
     scope: &String,
     term: Term,
 ) -> Result<Term, AllocError>
-    ensures { IfOk result (λ new. AreScoped numbers.now.stated.now (map callee_by numbers.now.methods.now) numbers.now.own.now
+    ensures { IfOk result (λ new. AreScoped numbers.now.stated.now (map callee_by numbers.now.objects.now) numbers.now.own.now
         (string_bytes scope.now) (single (view term)) (single (view new))) }
 {
     match term {
@@ -289,22 +338,23 @@ fn scoped_term(
 
 /// Returns the terms of a definition block, of which each method's body is read by the search rules of names (ACPI 6.5, 5.3). `own`
 /// are the numbers of arguments by which the block was read, and `stated` those of them that a caller states. A call by a name
-/// takes as many arguments as the method of this name in the nearest scope: that of the call, or one around it. Stated numbers come
-/// first, and what no method near has is read as before. The methods of further blocks count as those of the block itself. A body
-/// stays as it is if its bytes spell no terms with these numbers.
+/// takes as many arguments as the object of this name in the nearest scope: that of the call, or one around it. Stated numbers come
+/// first, and what no object near has is read as before. The objects of further blocks count as those of the block itself. A body
+/// is read again if it has a name whose number in its scope is another than in `own`, or bytes that aren't read. It stays as it is
+/// if its bytes spell no terms with the numbers of its scope.
 pub fn in_scopes(
     alloc: Global,
     stated: &Arities,
-    further: &[Method],
+    further: &[Object],
     own: &Arities,
     terms: Vec<Term>,
 ) -> Result<Vec<Term>, AllocError>
     ensures { IfOk result (λ all. AreInScopes stated.now (map callee_by further.now) own.now (views terms.items) (views all.items)) }
 {
-    let methods = all_methods(alloc, &terms, further)?;
+    let objects = all_callees(alloc, &terms, further)?;
     let numbers = Numbers {
         stated,
-        methods: &methods,
+        objects: &objects,
         own,
     };
     let root = String::new(alloc);

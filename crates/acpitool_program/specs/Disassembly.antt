@@ -4,7 +4,7 @@ use Rattle.std.specs.Io.KnownBytes.{Keeps, Appends}
 use Rattle.acpi_asl.specs.Block.{has_terms, IsBlockText, IsTextInPart, AreNoTerms}
 use Rattle.acpi_asl.specs.declared.block.BlockText.{BlockText}
 use Rattle.acpi_base.specs.Table.{IsTrueTable}
-use Rattle.acpi_terms_text.specs.Methods.{Callee, AddMethodsIn}
+use Rattle.acpi_terms_text.specs.Objects.{Callee, AddObjectsIn}
 use Rattle.acpi_make.specs.declared.file_kind.FileKind.TheVariants as kinds
 use Rattle.acpi_term.specs.declared.read_error.ReadError.{ReadError}
 use Rattle.acpi_term.specs.declared.read_error.ReadError.TheVariants.{Memory}
@@ -83,7 +83,7 @@ DisassemblesFile block stated further name out out' err err' status =
 pub record IsFurtherBlock (stated : List (List ℕ × ℕ)) (old new : List Callee) (err err' : Option (List ℕ)) (status : ℕ) : Type 0 where
   pub bytes : List ℕ
   pub is_block : has_terms bytes ≡ true
-  pub added : AddMethodsIn stated (drop 36 bytes) old new
+  pub added : AddObjectsIn stated (drop 36 bytes) old new
   pub silent : Keeps err err'
   pub is : status ≡ 0
 

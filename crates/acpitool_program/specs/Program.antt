@@ -12,7 +12,7 @@ use Rattle.acpitool_program.specs.Command.{Asks, IsWrong, IsMisstated, files_in}
 use Rattle.acpitool_program.specs.Archiving.{Archives}
 use Rattle.acpitool_program.specs.Checking.{AreChecked}
 use Rattle.acpitool_program.specs.Comparing.{Compares}
-use Rattle.acpi_terms_text.specs.Methods.{Callee}
+use Rattle.acpi_terms_text.specs.Objects.{Callee}
 use Rattle.acpitool_program.specs.Disassembly.{DisassemblesFile, AddsFiles}
 use Rattle.acpi_json.specs.Array.{array}
 use Rattle.acpitool_program.specs.Job.{shows, lists}

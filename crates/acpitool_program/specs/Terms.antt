@@ -7,7 +7,7 @@ use Rattle.acpi_asl.specs.Block.{has_terms, AreNoTerms}
 use Rattle.acpi_term.specs.declared.read_error.ReadError.{ReadError}
 use Rattle.acpi_term.specs.declared.read_error.ReadError.TheVariants.{Memory}
 use Rattle.acpi_terms_text.specs.Comment.{IsAnnotated}
-use Rattle.acpi_terms_text.specs.Methods.{AreOwn}
+use Rattle.acpi_terms_text.specs.Objects.{AreOwn}
 use Rattle.acpi_text.specs.Comment.{comment}
 use Rattle.acpitool_program.specs.Fault.{IsFaultAfter}
 use Rattle.acpitool_program.specs.declared.fault.Fault.{Fault}

@@ -1,7 +1,7 @@
 //! Definition blocks as ASL, and the objects that they make.
 
 ghost use Rattle.std.specs.Prelude.{◌≡◌, ◌≤◌, ◌⊎◌, true, length, take, drop, map, string_bytes, IfOk, OnOk, IfErr};
-ghost use Rattle.acpi_terms_text.specs.Methods.{callee_by};
+ghost use Rattle.acpi_terms_text.specs.Objects.{callee_by};
 ghost use Rattle.acpitool_program.specs.Disassembly.{IsNoText, IsDisassembled, DisassemblesFile};
 ghost use Rattle.acpitool_program.specs.Disassembly.{AddsFile, AddsFiles};
 ghost use Rattle.acpi_asl.specs.Block.{has_terms};
@@ -19,7 +19,7 @@ use acpi_make::file_kind::FileKind;
 use acpi_read::table::Table;
 use acpi_term::name_string::Arities;
 use acpi_term::read_error::ReadError;
-use acpi_terms_text::methods::{Method, add_methods_in};
+use acpi_terms_text::objects::{Object, add_objects_in};
 use std::alloc::{AllocError, Global};
 use std::io;
 use std::io::{Input, Write};
@@ -52,7 +52,7 @@ fn print_terms<O: Write, E: Write>(
     alloc: Global,
     block: BlockText,
     stated: &Arities,
-    further: &[Method],
+    further: &[Object],
     name: &str,
     bytes: &[u8],
     out: &mut O,
@@ -82,7 +82,7 @@ fn print_block<O: Write, E: Write>(
     alloc: Global,
     block: BlockText,
     stated: &Arities,
-    further: &[Method],
+    further: &[Object],
     name: &str,
     bytes: &[u8],
     out: &mut O,
@@ -104,7 +104,7 @@ fn disassemble_word<R: Files + Input, O: Write, E: Write>(
     alloc: Global,
     block: BlockText,
     stated: &Arities,
-    further: &[Method],
+    further: &[Object],
     name: &str,
     out: &mut O,
     err: &mut E,
@@ -124,7 +124,7 @@ fn add_block<E: Write>(
     stated: &Arities,
     name: &str,
     bytes: &[u8],
-    all: &mut Vec<Method>,
+    all: &mut Vec<Object>,
     err: &mut E,
 ) -> io::Result<u8>
     ensures { IfOk result (λ status. AddsFile stated.now name.now (map callee_by all.old.items) (map callee_by all.new.items)
@@ -135,7 +135,7 @@ fn add_block<E: Write>(
         return Ok(1);
     }
     let (_, body) = bytes.split_at(BODY);
-    add_methods_in(alloc, body, stated, all)?;
+    add_objects_in(alloc, body, stated, all)?;
     Ok(0)
 }
 
@@ -145,7 +145,7 @@ fn add_file<R: Files + Input, E: Write>(
     alloc: Global,
     stated: &Arities,
     name: &str,
-    all: &mut Vec<Method>,
+    all: &mut Vec<Object>,
     err: &mut E,
 ) -> io::Result<u8>
     ensures { IfOk result (λ status. AddsFile stated.now name.now (map callee_by all.old.items) (map callee_by all.new.items)
@@ -164,7 +164,7 @@ fn add_files<R: Files + Input, E: Write>(
     alloc: Global,
     stated: &Arities,
     files: &[String],
-    all: &mut Vec<Method>,
+    all: &mut Vec<Object>,
     err: &mut E,
 ) -> io::Result<u8>
     ensures { IfOk result (λ status. AddsFiles stated.now (map (λ word. string_bytes word) files.now) (map callee_by all.old.items)

@@ -13,7 +13,7 @@ use acpi_read::report::push_number;
 use acpi_term::name_string::Arities;
 use acpi_term::read_error::ReadError;
 use acpi_terms_text::annotate::annotated;
-use acpi_terms_text::methods::own_arities;
+use acpi_terms_text::objects::own_arities;
 use acpi_text::comment::push_comment;
 use std::alloc::{AllocError, Global};
 

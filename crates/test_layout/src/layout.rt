@@ -52,7 +52,12 @@ pub(crate) fn image(alloc: Global, units: u64, sdt: &Sdt, tables: &[&dyn Aml]) -
 }
 
 // All bytes are zero but these at their offsets.
-fn holds(alloc: Global, bytes: &[u8], size: usize, parts: &[(usize, &[u8])]) -> Result<(), Fail> {
+pub(crate) fn holds(
+    alloc: Global,
+    bytes: &[u8],
+    size: usize,
+    parts: &[(usize, &[u8])],
+) -> Result<(), Fail> {
     let mut wanted = Vec::new(alloc);
     wanted.resize(size, 0)?;
     for (at, part) in parts {
@@ -80,7 +85,8 @@ pub(crate) fn is(
 pub(crate) const SHARED: [u8; 33] =
     *b"FACS\x40\0\0\0\0\0\0\0\0\0\0\0\0\0\0\0\0\0\0\0\0\0\0\0\0\0\0\0\x01";
 
-const EMPTY_DSDT: [u8; 36] = *b"DSDT\x24\0\0\0\x02_FOOBARCAFEDEAD\xef\xbe\xad\xdeRVAT\0\0\0\x01";
+pub(crate) const EMPTY_DSDT: [u8; 36] =
+    *b"DSDT\x24\0\0\0\x02_FOOBARCAFEDEAD\xef\xbe\xad\xdeRVAT\0\0\0\x01";
 
 const FIXED: [u8; 36] = *b"FACP\x14\x01\0\0\x06\x1aFOOBARCAFEDEAD\xef\xbe\xad\xdeRVAT\0\0\0\x01";
 

@@ -15,3 +15,5 @@ mod plain;
 mod pointers;
 #[cfg(test)]
 mod reduced;
+#[cfg(test)]
+mod rsdt;

@@ -17,6 +17,8 @@ mod pc;
 #[cfg(test)]
 mod pptt;
 #[cfg(test)]
+mod qemu;
+#[cfg(test)]
 mod read_back;
 #[cfg(test)]
 mod rhct;

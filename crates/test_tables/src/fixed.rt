@@ -2,6 +2,7 @@
 
 mod fadt;
 mod pc;
+mod qemu;
 mod serial;
 mod tpm;
 

@@ -7,3 +7,4 @@ mod entries;
 mod interrupts;
 mod madt;
 mod processors;
+mod qemu;

@@ -8,8 +8,8 @@ mod resource;
 mod statement;
 
 pub use data::{
-    AmlStr, AmlString, BufferData, Byte, DWord, EISAName, ONE, ONES, One, Ones, Package,
-    PackageBuilder, QWord, Usize, Uuid, Word, ZERO, Zero,
+    AmlStr, AmlString, BufferData, BufferTerm, Byte, DWord, EISAName, ONE, ONES, One, Ones,
+    Package, PackageBuilder, QWord, Usize, Uuid, VarPackageTerm, Word, ZERO, Zero,
 };
 pub use field::{
     Field, FieldAccessType, FieldEntry, FieldLockRule, FieldUpdateRule, OpRegion, OpRegionSpace,
@@ -21,7 +21,9 @@ pub use operator::{
     Mod, Multiply, Nand, Nor, NotEqual, Notify, ObjectType, Or, Release, ShiftLeft, ShiftRight,
     SizeOf, Store, Subtract, ToBuffer, ToInteger, ToString, Xor,
 };
+#[allow(deprecated)]
+pub use resource::AddressSpaceCachable;
 pub use resource::{
-    AddressSpace, AddressSpaceCacheable, IO, Interrupt, Memory32Fixed, ResourceTemplate,
+    AddressSpace, AddressSpaceCacheable, IO, Interrupt, Memory32Fixed, Register, ResourceTemplate,
 };
 pub use statement::{Else, If, Return, While};

@@ -1,6 +1,7 @@
 //! The Heterogeneous Memory Attribute Table (ACPI 6.5, 5.2.28).
 
-use crate::structure::{begin, made, structure, table};
+use crate::structure::{begin, made, piece, structure, table};
+use crate::{Aml, AmlSink};
 
 const TABLE: &str = "HMAT";
 
@@ -18,43 +19,11 @@ impl HMAT {
     }
 
     pub fn add_system_locality(&mut self, s: SystemLocality) {
-        let (initiators, targets) = (s.initiators.len() as u64, s.targets.len() as u64);
-        let at = self.table.add_structure(1);
-        self.table
-            .set_number(at, "Flags", s.flags.into())
-            .set_number(at, "Data Type", s.data_type as u64)
-            .set_number(at, "MinTransferSize", s.min_transfer_size as u64)
-            .set_number(at, "Number of Initiator Proximity Domains", initiators)
-            .set_number(at, "Number of Target Proximity Domains", targets)
-            .set_number(at, "Entry Base Unit", s.entry_base_unit);
-        for domain in s.initiators.iter().chain(&s.targets) {
-            self.table.add_number(4, (*domain).into());
-        }
-        for entry in &s.entries {
-            self.table.add_number(2, (*entry).into());
-        }
-        self.table.end_structure(at);
+        self.table.add_object(&s);
     }
 
     pub fn add_memory_side_cache(&mut self, c: MemorySideCache) {
-        let at = self.table.add_structure(2);
-        self.table
-            .set_number(
-                at,
-                "Proximity Domain for the Memory",
-                c.proximity_domain.into(),
-            )
-            .set_number(at, "Memory Side Cache Size", c.cache_size)
-            .set_number(at, "Cache Attributes", c.attributes.into())
-            .set_number(
-                at,
-                "Number of SMBIOS Handles",
-                c.smbios_handles.len() as u64,
-            );
-        for handle in &c.smbios_handles {
-            self.table.add_number(2, (*handle).into());
-        }
-        self.table.end_structure(at);
+        self.table.add_object(&c);
     }
 }
 
@@ -169,6 +138,28 @@ impl SystemLocality {
     }
 }
 
+impl Aml for SystemLocality {
+    fn to_aml_bytes(&self, sink: &mut dyn AmlSink) {
+        let initiators = "Number of Initiator Proximity Domains";
+        let targets = "Number of Target Proximity Domains";
+        sink.vec(&piece(TABLE, 1, |table, at| {
+            table
+                .set_number(at, "Flags", self.flags.into())
+                .set_number(at, "Data Type", self.data_type as u64)
+                .set_number(at, "MinTransferSize", self.min_transfer_size as u64)
+                .set_number(at, initiators, self.initiators.len() as u64)
+                .set_number(at, targets, self.targets.len() as u64)
+                .set_number(at, "Entry Base Unit", self.entry_base_unit);
+            for domain in self.initiators.iter().chain(&self.targets) {
+                table.add_number(4, (*domain).into());
+            }
+            for entry in &self.entries {
+                table.add_number(2, (*entry).into());
+            }
+        }));
+    }
+}
+
 /// The level of a cache.
 #[repr(u32)]
 #[derive(Clone, Copy, Debug)]
@@ -228,5 +219,21 @@ impl MemorySideCache {
 
     pub fn add_smbios_handle(&mut self, handle: u16) {
         self.smbios_handles.push(handle);
+    }
+}
+
+impl Aml for MemorySideCache {
+    fn to_aml_bytes(&self, sink: &mut dyn AmlSink) {
+        let (domain, handles) = (self.proximity_domain, self.smbios_handles.len());
+        sink.vec(&piece(TABLE, 2, |table, at| {
+            table
+                .set_number(at, "Proximity Domain for the Memory", domain.into())
+                .set_number(at, "Memory Side Cache Size", self.cache_size)
+                .set_number(at, "Cache Attributes", self.attributes.into())
+                .set_number(at, "Number of SMBIOS Handles", handles as u64);
+            for handle in &self.smbios_handles {
+                table.add_number(2, (*handle).into());
+            }
+        }));
     }
 }

@@ -196,9 +196,7 @@ impl GicMsi {
     /// A frame whose count and base of interrupts aren't set.
     pub fn new() -> Self {
         GicMsi {
-            bytes: made(TABLE, 13, |table, at| {
-                table.set_number(at, "Flags", 1);
-            }),
+            bytes: made(TABLE, 13, |_, _| {}),
         }
     }
 
@@ -213,12 +211,13 @@ impl GicMsi {
         base_addr u64, "Physical Base Address";
     }
 
+    /// Sets the count and the base of interrupts, and the flag that they are used.
     pub fn spi_count_and_base(self, spi_count: u16, spi_base: u16) -> Self {
         self.with(|table, at| {
             table
                 .set_number(at, "SPI Count", spi_count.into())
                 .set_number(at, "SPI Base", spi_base.into())
-                .set_number(at, "Flags", 0);
+                .set_number(at, "Flags", 1);
         })
     }
 }

@@ -2,6 +2,12 @@
 
 use crate::{Error, Writer};
 
+/// The creator in the header of a table that the library writes.
+pub const CREATOR_ID: [u8; 4] = *b"RVAT";
+
+/// The revision of this creator.
+pub const CREATOR_REVISION: [u8; 4] = [0, 0, 0, 1];
+
 /// What takes bytes.
 pub trait AmlSink {
     /// Takes a byte.
@@ -47,10 +53,59 @@ pub trait Aml {
     fn to_aml_bytes(&self, sink: &mut dyn AmlSink);
 }
 
+/// The sum of bytes, modulo 256.
+#[derive(Clone, Copy, Debug, Default, PartialEq, Eq)]
+pub struct Checksum {
+    sum: u8,
+}
+
+impl Checksum {
+    /// Adds bytes.
+    pub fn append(&mut self, data: &[u8]) {
+        for byte in data {
+            self.add(*byte);
+        }
+    }
+
+    /// Subtracts bytes.
+    pub fn delete(&mut self, data: &[u8]) {
+        for byte in data {
+            self.sub(*byte);
+        }
+    }
+
+    /// Adds a byte.
+    pub fn add(&mut self, data: u8) {
+        self.sum = self.sum.wrapping_add(data);
+    }
+
+    /// Subtracts a byte.
+    pub fn sub(&mut self, data: u8) {
+        self.sum = self.sum.wrapping_sub(data);
+    }
+
+    /// The sum.
+    pub fn raw_value(&self) -> u8 {
+        self.sum
+    }
+
+    /// The byte with which the sum is zero.
+    pub fn value(&self) -> u8 {
+        self.sum.wrapping_neg()
+    }
+}
+
+impl AmlSink for Checksum {
+    fn byte(&mut self, byte: u8) {
+        self.add(byte);
+    }
+}
+
 /// The sum of an object's bytes, modulo 256.
 pub fn u8sum(aml: &dyn Aml) -> u8 {
-    let bytes = bytes_of(aml);
-    bytes.iter().fold(0, |sum, byte| sum.wrapping_add(*byte))
+    let mut sum = Checksum::default();
+    aml.to_aml_bytes(&mut sum);
+    sum.raw_value()
 }
 
 pub(crate) fn bytes_of(object: &dyn Aml) -> Vec<u8> {
@@ -75,6 +130,11 @@ impl Writer {
     /// An object, or whatever writes itself into a sink.
     pub fn add(&mut self, object: &dyn Aml) -> &mut Writer {
         self.bytes(&bytes_of(object))
+    }
+
+    /// Adds an object that is one structure to the table, and returns its offset, as `add_structure_bytes`.
+    pub fn add_object(&mut self, object: &dyn Aml) -> usize {
+        self.add_structure_bytes(&bytes_of(object))
     }
 
     // Objects, one after another.

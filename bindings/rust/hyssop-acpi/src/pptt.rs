@@ -1,6 +1,7 @@
 //! The Processor Properties Topology Table (ACPI 6.5, 5.2.30).
 
-use crate::structure::{begin, made, structure, table};
+use crate::structure::{begin, made, piece, structure, table};
+use crate::{Aml, AmlSink};
 
 const TABLE: &str = "PPTT";
 
@@ -23,24 +24,12 @@ impl PPTT {
 
     /// Adds a processor or a package.
     pub fn add_processor(&mut self, node: ProcessorNode) -> ProcessorHandle {
-        let at = self.table.add_structure(0);
-        self.table
-            .set_number(at, "Flags", node.flags.into())
-            .set_number(at, "Parent", node.parent.into())
-            .set_number(at, "ACPI Processor ID", node.acpi_processor_id.into())
-            .set_number(at, "Number of private resources", node.caches.len() as u64);
-        for cache in &node.caches {
-            self.table.add_number(4, cache.0 as u64);
-        }
-        self.table.end_structure(at);
-        ProcessorHandle(at)
+        ProcessorHandle(self.table.add_object(&node))
     }
 
     /// Adds a cache.
     pub fn add_cache(&mut self, node: CacheNode) -> CacheHandle {
-        let at = self.table.len();
-        self.table.add(&node);
-        CacheHandle(at)
+        CacheHandle(self.table.add_object(&node))
     }
 }
 
@@ -97,6 +86,21 @@ impl ProcessorNode {
     /// All below it are alike.
     pub fn identical(self) -> Self {
         self.flag(16)
+    }
+}
+
+impl Aml for ProcessorNode {
+    fn to_aml_bytes(&self, sink: &mut dyn AmlSink) {
+        sink.vec(&piece(TABLE, 0, |table, at| {
+            table
+                .set_number(at, "Flags", self.flags.into())
+                .set_number(at, "Parent", self.parent.into())
+                .set_number(at, "ACPI Processor ID", self.acpi_processor_id.into())
+                .set_number(at, "Number of private resources", self.caches.len() as u64);
+            for cache in &self.caches {
+                table.add_number(4, cache.0 as u64);
+            }
+        }));
     }
 }
 

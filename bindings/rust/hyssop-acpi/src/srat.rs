@@ -1,6 +1,8 @@
 //! The System Resource Affinity Table (ACPI 6.5, 5.2.16).
 
+use crate::object::emit;
 use crate::structure::{begin, changed, made, structure, table};
+use crate::{Aml, AmlSink};
 
 const TABLE: &str = "SRAT";
 
@@ -97,6 +99,26 @@ impl Handle {
             device,
             function,
         }
+    }
+}
+
+impl Aml for Handle {
+    fn to_aml_bytes(&self, sink: &mut dyn AmlSink) {
+        emit(sink, |writer| {
+            match *self {
+                Handle::Acpi { hid, uid } => writer.bytes(&hid).bytes(&uid).add_number(4, 0),
+                Handle::Pci {
+                    segment,
+                    bus,
+                    device,
+                    function,
+                } => writer
+                    .add_number(2, segment.into())
+                    .add_number(1, bus.into())
+                    .add_number(1, (device << 3 | function).into())
+                    .bytes(&[0; 12]),
+            };
+        });
     }
 }
 

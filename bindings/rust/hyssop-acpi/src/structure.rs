@@ -53,6 +53,15 @@ pub(crate) fn changed<const N: usize>(
     from(&table, at)
 }
 
+// The bytes of a structure of a type, of any size: fields that are set, and what is written after them.
+pub(crate) fn piece(signature: &str, kind: u32, write: impl FnOnce(&mut Writer, usize)) -> Vec<u8> {
+    let mut table = begin(signature, 1, [0; 6], [0; 8], 0);
+    let at = table.add_structure(kind);
+    write(&mut table, at);
+    table.end_structure(at);
+    finished(&table).split_off(at)
+}
+
 // A structure, which has its bytes.
 macro_rules! structure {
     ($(#[$meta:meta])* $name:ident, $size:literal) => {

@@ -1,6 +1,9 @@
 //! The Virtual I/O Translation Table (ACPI 6.5, 5.2.31).
 
-use crate::structure::{begin, table};
+use crate::structure::{begin, piece, table};
+use crate::{Aml, AmlSink};
+
+const TABLE: &str = "VIOT";
 
 table!(/** VIOT: which IOMMU translates the addresses of a device. */ VIOT);
 
@@ -10,47 +13,29 @@ pub struct TranslationHandle(usize);
 
 impl VIOT {
     pub fn new(oem_id: [u8; 6], oem_table_id: [u8; 8], oem_revision: u32) -> Self {
-        let mut table = begin("VIOT", 1, oem_id, oem_table_id, oem_revision);
+        let mut table = begin(TABLE, 1, oem_id, oem_table_id, oem_revision);
         table.set_number(0, "Node Offset", 48);
         VIOT { table }
     }
 
     /// Adds devices of PCI.
     pub fn add_pci_range(&mut self, range: PciRange) {
-        let (first, last) = (range.first, range.last);
-        let at = self.table.add_structure(1);
-        self.table
-            .set_number(at, "Endpoint Start", first.bdf())
-            .set_number(at, "PCI Segment Start", first.segment.into())
-            .set_number(at, "PCI Segment End", last.segment.into())
-            .set_number(at, "PCI BDF Start", first.bdf())
-            .set_number(at, "PCI BDF End", last.bdf())
-            .set_number(at, "Output Node", range.translation as u64);
+        self.table.add_object(&range);
     }
 
     /// Adds a device in memory.
     pub fn add_mmio_endpoint(&mut self, ep: MmioEndpoint) {
-        let at = self.table.add_structure(2);
-        self.table
-            .set_number(at, "Endpoint ID", ep.endpoint_id.into())
-            .set_number(at, "Base Address", ep.base_addr)
-            .set_number(at, "Output Node", ep.translation as u64);
+        self.table.add_object(&ep);
     }
 
     /// Adds an IOMMU that is a device of PCI.
     pub fn add_virtio_pci_iommu(&mut self, iommu: VirtIoPciIommu) -> TranslationHandle {
-        let at = self.table.add_structure(3);
-        self.table
-            .set_number(at, "PCI Segment", iommu.device.segment.into())
-            .set_number(at, "PCI BDF Number", iommu.device.bdf());
-        TranslationHandle(at)
+        TranslationHandle(self.table.add_object(&iommu))
     }
 
     /// Adds an IOMMU in memory.
     pub fn add_virtio_mmio_iommu(&mut self, iommu: VirtIoMmioIommu) -> TranslationHandle {
-        let at = self.table.add_structure(4);
-        self.table.set_number(at, "Base Address", iommu.base_addr);
-        TranslationHandle(at)
+        TranslationHandle(self.table.add_object(&iommu))
     }
 }
 
@@ -75,7 +60,11 @@ impl PciDevice {
         }
     }
 
-    fn bdf(self) -> u64 {
+    pub(crate) fn segment(self) -> u16 {
+        self.segment
+    }
+
+    pub(crate) fn bdf(self) -> u64 {
         u64::from(self.bus) << 8 | u64::from(self.device) << 3 | u64::from(self.function)
     }
 }
@@ -98,6 +87,21 @@ impl PciRange {
     }
 }
 
+impl Aml for PciRange {
+    fn to_aml_bytes(&self, sink: &mut dyn AmlSink) {
+        let (first, last) = (self.first, self.last);
+        sink.vec(&piece(TABLE, 1, |table, at| {
+            table
+                .set_number(at, "Endpoint Start", first.bdf())
+                .set_number(at, "PCI Segment Start", first.segment.into())
+                .set_number(at, "PCI Segment End", last.segment.into())
+                .set_number(at, "PCI BDF Start", first.bdf())
+                .set_number(at, "PCI BDF End", last.bdf())
+                .set_number(at, "Output Node", self.translation as u64);
+        }));
+    }
+}
+
 /// A device in memory.
 #[derive(Clone, Copy, Debug)]
 pub struct MmioEndpoint {
@@ -116,6 +120,17 @@ impl MmioEndpoint {
     }
 }
 
+impl Aml for MmioEndpoint {
+    fn to_aml_bytes(&self, sink: &mut dyn AmlSink) {
+        sink.vec(&piece(TABLE, 2, |table, at| {
+            table
+                .set_number(at, "Endpoint ID", self.endpoint_id.into())
+                .set_number(at, "Base Address", self.base_addr)
+                .set_number(at, "Output Node", self.translation as u64);
+        }));
+    }
+}
+
 /// An IOMMU that is a device of PCI.
 #[derive(Clone, Copy, Debug)]
 pub struct VirtIoPciIommu {
@@ -128,6 +143,16 @@ impl VirtIoPciIommu {
     }
 }
 
+impl Aml for VirtIoPciIommu {
+    fn to_aml_bytes(&self, sink: &mut dyn AmlSink) {
+        sink.vec(&piece(TABLE, 3, |table, at| {
+            table
+                .set_number(at, "PCI Segment", self.device.segment.into())
+                .set_number(at, "PCI BDF Number", self.device.bdf());
+        }));
+    }
+}
+
 /// An IOMMU in memory.
 #[derive(Clone, Copy, Debug)]
 pub struct VirtIoMmioIommu {
@@ -137,5 +162,13 @@ pub struct VirtIoMmioIommu {
 impl VirtIoMmioIommu {
     pub fn new(base_addr: u64) -> Self {
         VirtIoMmioIommu { base_addr }
+    }
+}
+
+impl Aml for VirtIoMmioIommu {
+    fn to_aml_bytes(&self, sink: &mut dyn AmlSink) {
+        sink.vec(&piece(TABLE, 4, |table, at| {
+            table.set_number(at, "Base Address", self.base_addr);
+        }));
     }
 }

@@ -309,6 +309,12 @@ impl Writer {
         self.opened(inside)
     }
 
+    /// A package whose number of elements is the first object, before the elements (ACPI 6.5, 20.2.5.4, DefVarPackage).
+    pub fn var_package(&mut self, inside: impl FnOnce(&mut Writer)) -> &mut Writer {
+        self.call(|inner| unsafe { sys::hyssop_open_var_package(inner) });
+        self.opened(inside)
+    }
+
     /// Statements after a predicate, which is the first object (ACPI 6.5, 20.2.5.3, DefIfElse).
     pub fn if_true(&mut self, inside: impl FnOnce(&mut Writer)) -> &mut Writer {
         self.call(|inner| unsafe { sys::hyssop_open_if(inner) });
@@ -330,6 +336,12 @@ impl Writer {
     /// A buffer, whose bytes are written inside (ACPI 6.5, 20.2.5.4, DefBuffer).
     pub fn buffer(&mut self, inside: impl FnOnce(&mut Writer)) -> &mut Writer {
         self.call(|inner| unsafe { sys::hyssop_open_buffer(inner) });
+        self.opened(inside)
+    }
+
+    /// A buffer whose size is the first object, before its bytes (ACPI 6.5, 20.2.5.4, DefBuffer).
+    pub fn sized_buffer(&mut self, inside: impl FnOnce(&mut Writer)) -> &mut Writer {
+        self.call(|inner| unsafe { sys::hyssop_open_sized_buffer(inner) });
         self.opened(inside)
     }
 
@@ -548,6 +560,30 @@ impl Writer {
         self.call(|inner| unsafe { sys::hyssop_bus_numbers(inner, min, max) })
     }
 
+    /// A range of bus numbers of 32 bits, as `bus_numbers`.
+    pub fn bus_numbers32(&mut self, min: u32, max: u32) -> &mut Writer {
+        self.call(|inner| unsafe { sys::hyssop_bus_numbers32(inner, min, max) })
+    }
+
+    /// A range of bus numbers of 64 bits, as `bus_numbers`.
+    pub fn bus_numbers64(&mut self, min: u64, max: u64) -> &mut Writer {
+        self.call(|inner| unsafe { sys::hyssop_bus_numbers64(inner, min, max) })
+    }
+
+    /// A register (ACPI 6.5, 6.4.3.7).
+    pub fn register(&mut self, register: &GAS) -> &mut Writer {
+        self.call(|inner| unsafe {
+            sys::hyssop_register(
+                inner,
+                register.address_space_id as u8,
+                register.register_bit_width,
+                register.register_bit_offset,
+                register.access_size as u8,
+                register.address,
+            )
+        })
+    }
+
     /// A range of ports, from its first to its last, and what a bridge adds to them (ACPI 6.5, 6.4.3.5).
     pub fn io_range(&mut self, min: u16, max: u16, translation: u16) -> &mut Writer {
         self.call(|inner| unsafe { sys::hyssop_io_range(inner, min, max, translation) })
@@ -556,6 +592,32 @@ impl Writer {
     /// A range of ports as `io_range`, with a translation of 32 bits, as for ports that are in memory.
     pub fn io_range32(&mut self, min: u32, max: u32, translation: u32) -> &mut Writer {
         self.call(|inner| unsafe { sys::hyssop_io_range32(inner, min, max, translation) })
+    }
+
+    /// A range of ports with 64 bits, as `io_range`.
+    pub fn io_range64(&mut self, min: u64, max: u64, translation: u64) -> &mut Writer {
+        self.call(|inner| unsafe { sys::hyssop_io_range64(inner, min, max, translation) })
+    }
+
+    /// A range of memory with addresses of 16 bits, as `memory_range32`.
+    pub fn memory_range16(
+        &mut self,
+        memory_type: MemoryType,
+        read_write: bool,
+        min: u16,
+        max: u16,
+        translation: u16,
+    ) -> &mut Writer {
+        self.call(|inner| unsafe {
+            sys::hyssop_memory_range16(
+                inner,
+                memory_type as u32,
+                read_write.into(),
+                min,
+                max,
+                translation,
+            )
+        })
     }
 
     /// A range of memory below 2^32: how it is cached, its first and its last address, and what a bridge adds to them (ACPI 6.5,
@@ -612,6 +674,16 @@ impl Writer {
     pub fn add_structure(&mut self, kind: u32) -> usize {
         let offset = Cell::new(0);
         self.call(|inner| unsafe { sys::hyssop_add_structure(inner, kind, offset.as_ptr()) });
+        offset.get()
+    }
+
+    /// Adds a structure as its bytes to the table, after the fields of the table, and returns its offset, or 0 with an error. They
+    /// are as many as their length field or their type says. All else is as for `add_structure`.
+    pub fn add_structure_bytes(&mut self, bytes: &[u8]) -> usize {
+        let offset = Cell::new(0);
+        self.call(|inner| unsafe {
+            sys::hyssop_add_structure_bytes(inner, bytes.as_ptr(), bytes.len(), offset.as_ptr())
+        });
         offset.get()
     }
 

@@ -222,10 +222,10 @@ fn interrupt_controllers() {
     let frame = GicMsi::new().gic_msi_frame_id(2).base_addr(0x10);
     assert_eq!(
         bytes(&frame),
-        b"\x0d\x18\0\0\x02\0\0\0\x10\0\0\0\0\0\0\0\x01\0\0\0\0\0\0\0"
+        b"\x0d\x18\0\0\x02\0\0\0\x10\0\0\0\0\0\0\0\0\0\0\0\0\0\0\0"
     );
     let frame = frame.spi_count_and_base(3, 4);
-    assert_eq!(bytes(&frame)[16..], *b"\0\0\0\0\x03\0\x04\0");
+    assert_eq!(bytes(&frame)[16..], *b"\x01\0\0\0\x03\0\x04\0");
     assert_eq!(
         bytes(&Gicr::new(0x10, 0x20)),
         b"\x0e\x10\0\0\x10\0\0\0\0\0\0\0\x20\0\0\0"

@@ -1,9 +1,10 @@
 //! The DMA Remapping Reporting Table.
 
 use acpi_base::header::HEADER;
-use acpi_base::row::{Row, Word};
 use acpi_base::walk::{Place, Sizes};
-use acpi_pc::dmar::{ANDD, ATSR, DEVICE_SCOPE, DMAR_FIXED, DRHD, RHSA, RMRR, SATC, SCOPE_PATH};
+use acpi_pc::dmar::{
+    ANDD, ATSR, DEVICE_SCOPE, DMAR_FIXED, DRHD, RHSA, RMRR, SATC, SCOPE_PATH, SIDP,
+};
 use acpi_text::form::{
     Count, Inner, InnerForm, InnerList, InnerSize, Part, Start, StructureForm, TableForm,
 };
@@ -54,13 +55,6 @@ const SCOPES_AT_8: Inner = Inner::Lists(
         }],
     }],
 );
-
-const SIDP: [Row; 4] = [
-    Row::Preset("Type", 2, 6),
-    Row::Number("Length", 2),
-    Row::Reserved(2),
-    Row::Hex("Segment Number", 2),
-];
 
 const REMAPPING_STRUCTURES: [StructureForm; 7] = [
     StructureForm {

@@ -6,13 +6,14 @@ ghost use Rattle.acpi_base.specs.Object.{whole, whole_ends_well};
 ghost use Rattle.acpi_pc.specs.Dmar.{drhd, drhd_head_fields, drhd_head, drhd_bytes, rmrr, rmrr_head_fields, rmrr_head};
 ghost use Rattle.acpi_pc.specs.Dmar.{rmrr_bytes};
 ghost use Rattle.acpi_pc.specs.Dmar.{atsr, atsr_head_fields, atsr_head, atsr_bytes, satc, satc_head_fields, satc_head};
-ghost use Rattle.acpi_pc.specs.Dmar.{satc_bytes};
+ghost use Rattle.acpi_pc.specs.Dmar.{satc_bytes, sidp, sidp_head_fields, sidp_head, sidp_bytes};
 ghost use Rattle.acpi_pc.specs.DmarScopes.{scope_bytes};
 ghost use Rattle.acpi_pc.specs.Grown.{Grows};
 ghost use Rattle.acpi_pc.specs.declared.dmar.scoped.Atsr.{Atsr};
 ghost use Rattle.acpi_pc.specs.declared.dmar.scoped.Drhd.{Drhd};
 ghost use Rattle.acpi_pc.specs.declared.dmar.scoped.Rmrr.{Rmrr};
 ghost use Rattle.acpi_pc.specs.declared.dmar.scoped.Satc.{Satc};
+ghost use Rattle.acpi_pc.specs.declared.dmar.scoped.Sidp.{Sidp};
 
 use crate::dmar::scope::DeviceScope;
 use crate::tail::Tail;
@@ -327,6 +328,65 @@ pub fn satc_rows() -> &'static [Row]
     &SATC
 }
 
+/// Integrated devices whose scopes have flags of their own: 8 bytes, and their scopes (VT-d 4.1, 8.9, SoC Integrated Device
+/// Property Reporting).
+#[derive(Drop)]
+pub struct Sidp {
+    segment: u16,
+    scopes: Tail<65527>,
+}
+
+impl Sidp {
+    /// The integrated devices of a PCI segment (offset 6), without scopes.
+    pub fn new(alloc: Global, segment: u16) -> Sidp
+        ensures { result ≡ sidp segment }
+    {
+        Sidp {
+            segment,
+            scopes: Tail::new(alloc),
+        }
+    }
+
+    /// Adds a scope. The error is `FieldWidth` if the structure would have more than 65,535 bytes. After an error it is
+    /// unchanged.
+    pub fn add_scope(&mut self, scope: &DeviceScope) -> R<()>
+        ensures { Grows result self.old (record self.old { scopes = self.old.scopes ++ scope_bytes scope.now }) self.new
+            (length self.old.scopes + length (scope_bytes scope.now)) 65527 }
+    {
+        self.scopes.push(&scope.head(), scope.path())
+    }
+
+    // The bytes of the structure before its scopes.
+    fn head(&self) -> [u8; 8]
+        ensures { result ≡ sidp_head self.now }
+    {
+        record_of_numbers(
+            &SIDP,
+            &[
+                6,
+                8 + self.scopes.as_slice().len() as u64,
+                0,
+                u64::from(self.segment),
+            ],
+        )
+    }
+}
+
+/// The rows of an SIDP before its scopes.
+pub const SIDP: [Row; 4] = [
+    Row::Preset("Type", 2, 6),
+    Row::Number("Length", 2),
+    Row::Reserved(2),
+    Row::Hex("Segment Number", 2),
+];
+
+/// The rows of the fields before the scopes of devices with flags of their own, in order.
+pub fn sidp_rows() -> &'static [Row]
+    ensures { (s : Sidp) → AreRowsOf result.now (sidp_head_fields s) }
+{
+    &SIDP
+}
+
 impl Aml for Drhd {
     ghost object = { λ d. whole (drhd_bytes d) };
 
@@ -361,6 +421,16 @@ impl Aml for Satc {
     ghost object = { λ s. whole (satc_bytes s) };
 
     ghost ends_well = { λ s. whole_ends_well (satc_bytes s) };
+
+    fn to_aml_bytes(&self, sink: &mut dyn AmlSink) -> R<()> {
+        write_parts(sink, &[&self.head(), self.scopes.as_slice()])
+    }
+}
+
+impl Aml for Sidp {
+    ghost object = { λ s. whole (sidp_bytes s) };
+
+    ghost ends_well = { λ s. whole_ends_well (sidp_bytes s) };
 
     fn to_aml_bytes(&self, sink: &mut dyn AmlSink) -> R<()> {
         write_parts(sink, &[&self.head(), self.scopes.as_slice()])

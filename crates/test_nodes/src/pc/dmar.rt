@@ -3,7 +3,7 @@
 use acpi_base::error::{Error, R};
 use acpi_tables::dmar::{
     Andd, Atsr, DMA_CTRL_PLATFORM_OPT_IN, DMAR, DeviceScope, Drhd, INTR_REMAP, Rhsa, Rmrr, Satc,
-    ScopeType, X2APIC_OPT_OUT,
+    ScopeType, Sidp, X2APIC_OPT_OUT,
 };
 use std::alloc::Global;
 use std::test::Fail;
@@ -108,6 +108,16 @@ fn satc(alloc: Global, scopes: &[DeviceScope]) -> R<Satc> {
     Ok(devices.atc_required())
 }
 
+const SIDP: &[u8] = b"\x06\0\x34\0\0\0\x01\x02";
+
+fn sidp(alloc: Global, scopes: &[DeviceScope]) -> R<Sidp> {
+    let mut devices = Sidp::new(alloc, 0x0201);
+    for scope in scopes {
+        devices.add_scope(scope)?;
+    }
+    Ok(devices)
+}
+
 const RHSA: &[u8] = b"\x03\0\x14\0\0\0\0\0\x11\x12\x13\x14\x15\x16\x17\x18\x01\x02\x03\x04";
 
 const ANDD: &[u8] = b"\x04\0\x12\0\0\0\0\x0a\\_SB.I2C0\0";
@@ -118,7 +128,8 @@ fn add_each(alloc: Global, dmar: &mut DMAR, scopes: &[DeviceScope]) -> R<()> {
     dmar.add_atsr(atsr(alloc, scopes)?)?;
     dmar.add_rhsa(Rhsa::new(BASE, 0x0403_0201))?;
     dmar.add_andd(Andd::new(alloc, 10, "\\_SB.I2C0")?)?;
-    dmar.add_satc(satc(alloc, scopes)?)
+    dmar.add_satc(satc(alloc, scopes)?)?;
+    dmar.add_sidp(sidp(alloc, scopes)?)
 }
 
 // One structure of each type, in the order of the calls.
@@ -131,7 +142,7 @@ fn each_structure(rt: HostRuntime) -> Result<(), Fail> {
     writes(alloc, &dmar, &table(alloc, b"DMAR", 1, &[fixed])?)?;
     add_each(alloc, &mut dmar, &scopes(alloc)?)?;
     let parts = [
-        fixed, DRHD, SCOPES, RMRR, SCOPES, ATSR, SCOPES, RHSA, ANDD, SATC, SCOPES,
+        fixed, DRHD, SCOPES, RMRR, SCOPES, ATSR, SCOPES, RHSA, ANDD, SATC, SCOPES, SIDP, SCOPES,
     ];
     writes(alloc, &dmar, &table(alloc, b"DMAR", 1, &parts)?)
 }

@@ -11,35 +11,51 @@ use std::test::Fail;
 use test_support::table::table;
 use test_support::{OEM, OEM_REVISION, OEM_TABLE, all, equal, refuses, sized, writes};
 
-const QEMU: &[u8] = b"\0\0\0\0\
-    \0\0\x38\0\x04\0\x03\0\0\0\0\0\x02\0\0\0\
+// The range of addresses of a module of 128 MiB, in a PC of QEMU 7.2 and in its Arm machine `virt`.
+const PC_RANGE: &[u8] = b"\0\0\x38\0\x04\0\x03\0\0\0\0\0\x02\0\0\0\
     \x79\xd3\xf0\x66\xf3\xb4\x74\x40\xac\x43\x0d\x33\x18\xb7\x8c\xdb\
-    \0\0\0\x08\x01\0\0\0\0\0\0\x08\0\0\0\0\x08\x80\0\0\0\0\0\0\
-    \x01\0\x30\0\x02\0\0\0\0\0\0\0\x04\0\x05\0\0\0\0\x08\0\0\0\0\
+    \0\0\0\x08\x01\0\0\0\0\0\0\x08\0\0\0\0\x08\x80\0\0\0\0\0\0";
+
+const VIRT_RANGE: &[u8] = b"\0\0\x38\0\x04\0\x03\0\0\0\0\0\x01\0\0\0\
+    \x79\xd3\xf0\x66\xf3\xb4\x74\x40\xac\x43\x0d\x33\x18\xb7\x8c\xdb\
+    \0\0\0\x88\0\0\0\0\0\0\0\x08\0\0\0\0\x08\x80\0\0\0\0\0\0";
+
+// The module's mapping and its control region.
+const MODULE: &[u8] = b"\x01\0\x30\0\x02\0\0\0\0\0\0\0\x04\0\x05\0\0\0\0\x08\0\0\0\0\
     \0\0\0\0\0\0\0\0\0\0\0\0\0\0\0\0\0\0\x01\0\0\0\0\0\
     \x04\0\x50\0\x05\0\x86\x80\x01\0\x01\0\0\0\0\0\0\0\0\0\0\0\0\0\x57\x34\x12\0\x01\x03\0\0\
     \0\0\0\0\0\0\0\0\0\0\0\0\0\0\0\0\0\0\0\0\0\0\0\0\
-    \0\0\0\0\0\0\0\0\0\0\0\0\0\0\0\0\0\0\0\0\0\0\0\0\
-    \x07\0\x10\0\x01\0\0\0\x03\0\0\0\0\0\0\0";
+    \0\0\0\0\0\0\0\0\0\0\0\0\0\0\0\0\0\0\0\0\0\0\0\0";
 
-fn add_qemu(nfit: &mut NFIT) -> R<()> {
-    let range = SpaRange::new(4, RangeType::Persistent, 0x1_0800_0000, 0x800_0000, 0x8008);
-    nfit.add_spa_range(range.hot_add_only().proximity_domain(2))?;
+const CAPABILITIES: &[u8] = b"\x07\0\x10\0\x01\0\0\0\x03\0\0\0\0\0\0\0";
+
+fn add_module(nfit: &mut NFIT, base: u64, domain: u32) -> R<()> {
+    let range = SpaRange::new(4, RangeType::Persistent, base, 0x800_0000, 0x8008);
+    nfit.add_spa_range(range.hot_add_only().proximity_domain(domain))?;
     nfit.add_region_mapping(RegionMapping::new(2, 4, 5, 0x800_0000))?;
-    nfit.add_control_region(ControlRegion::new(5, 0x8086, 1, 1, 0x12_3457, 0x301))?;
-    nfit.add_capabilities(Capabilities::new(1).cache_flush().controller_flush())
+    nfit.add_control_region(ControlRegion::new(5, 0x8086, 1, 1, 0x12_3457, 0x301))
 }
 
-// The table that QEMU 7.2 writes for a PC with one module of 128 MiB.
+// The tables that QEMU 7.2 writes for a PC and for `virt`. That of `virt` has no capabilities.
 #[test]
 fn of_qemu(rt: HostRuntime) -> Result<(), Fail> {
     let alloc = rt.alloc();
-    let mut nfit = NFIT::new(alloc, OEM, OEM_TABLE, OEM_REVISION);
-    let none = table(alloc, b"NFIT", 1, &[b"\0\0\0\0"])?;
-    writes(alloc, &nfit, &none)?;
-    add_qemu(&mut nfit)?;
-    equal(&(nfit.len(), nfit.count()), &(240, 4))?;
-    writes(alloc, &nfit, &table(alloc, b"NFIT", 1, &[QEMU])?)
+    let none: &[u8] = b"\0\0\0\0";
+    for (base, domain, range) in [(0x1_0800_0000, 2, PC_RANGE), (0x8800_0000, 1, VIRT_RANGE)] {
+        let mut nfit = NFIT::new(alloc, OEM, OEM_TABLE, OEM_REVISION);
+        writes(alloc, &nfit, &table(alloc, b"NFIT", 1, &[none])?)?;
+        add_module(&mut nfit, base, domain)?;
+        writes(
+            alloc,
+            &nfit,
+            &table(alloc, b"NFIT", 1, &[none, range, MODULE])?,
+        )?;
+        nfit.add_capabilities(Capabilities::new(1).cache_flush().controller_flush())?;
+        equal(&(nfit.len(), nfit.count()), &(240, 4))?;
+        let parts = [none, range, MODULE, CAPABILITIES];
+        writes(alloc, &nfit, &table(alloc, b"NFIT", 1, &parts)?)?;
+    }
+    Ok(())
 }
 
 // Fails unless a range of a type has this GUID.

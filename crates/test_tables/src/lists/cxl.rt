@@ -8,7 +8,7 @@ use acpi_tables::cedt::{
 };
 use std::alloc::Global;
 use std::test::Fail;
-use test_support::table::many;
+use test_support::table::{many, table as table_of};
 use test_support::{OEM, OEM_REVISION, OEM_TABLE, all, equal, refuses, writes};
 
 fn table(alloc: Global) -> CEDT {
@@ -395,4 +395,37 @@ fn takes_windows(alloc: Global, table: &mut CEDT) -> Result<(), Fail> {
 #[test]
 fn many_windows(rt: HostRuntime) -> Result<(), Fail> {
     takes_windows(rt.alloc(), &mut table(rt.alloc()))
+}
+
+const CXL_OF_QEMU: &[u8] =
+    b"\0\0\x20\0\xde\0\0\0\x01\0\0\0\0\0\0\0\0\0\0\0\x01\0\0\0\0\0\x01\0\0\0\0\0\
+    \0\0\x20\0\x0c\0\0\0\x01\0\0\0\0\0\0\0\0\0\x01\0\x01\0\0\0\0\0\x01\0\0\0\0\0\
+    \x01\0\x28\0\0\0\0\0\0\0\0\x10\x01\0\0\0\0\0\0\0\x01\0\0\0\0\0\0\0\x05\0\0\0\x0f\0\0\0\x0c\0\0\0\
+    \x01\0\x2c\0\0\0\0\0\0\0\0\x10\x02\0\0\0\0\0\0\0\x01\0\0\0\x01\0\0\0\x05\0\0\0\x0f\0\0\0\x0c\0\0\0\xde\0\0\0";
+
+// A window of 4 GiB for these host bridges.
+fn window_of(alloc: Global, base: u64, ways: InterleaveWays, uids: &[u8]) -> R<CxlFixedMemory> {
+    let granularity = InterleaveGranularity::Granularity8kb;
+    let modulo = InterleaveArithmetic::Modulo;
+    let mut window = CxlFixedMemory::new(alloc, base, 0x1_0000_0000, modulo, granularity, ways, 0)
+        .cxl_type_2_memory()
+        .cxl_type_3_memory()
+        .volatile()
+        .persistent();
+    for uid in uids {
+        window.add_target([*uid, 0, 0, 0])?;
+    }
+    Ok(window)
+}
+
+// The table that QEMU 7.2 writes for a Q35 with two CXL host bridges, but for its maker.
+#[test]
+fn of_qemu(rt: HostRuntime) -> Result<(), Fail> {
+    let alloc = rt.alloc();
+    let mut cedt = table(alloc);
+    cedt.add_host_bridge(CxlHostBridge::new(0xde, CxlVersion::Cxl2, 0x1_0000_0000))?;
+    cedt.add_host_bridge(CxlHostBridge::new(0xc, CxlVersion::Cxl2, 0x1_0001_0000))?;
+    cedt.add_fixed_memory(window_of(alloc, 0x1_1000_0000, InterleaveWays::Ways1, &[0xc])?)?;
+    cedt.add_fixed_memory(window_of(alloc, 0x2_1000_0000, InterleaveWays::Ways2, &[0xc, 0xde])?)?;
+    writes(alloc, &cedt, &table_of(alloc, b"CEDT", 1, &[CXL_OF_QEMU])?)
 }

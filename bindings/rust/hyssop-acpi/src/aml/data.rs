@@ -161,6 +161,48 @@ impl Aml for BufferData {
     }
 }
 
+/// A buffer whose size and bytes an object writes.
+pub struct BufferTerm<'a> {
+    data: &'a dyn Aml,
+}
+
+impl<'a> BufferTerm<'a> {
+    pub fn new(data: &'a dyn Aml) -> Self {
+        BufferTerm { data }
+    }
+}
+
+impl Aml for BufferTerm<'_> {
+    fn to_aml_bytes(&self, sink: &mut dyn AmlSink) {
+        emit(sink, |writer| {
+            writer.sized_buffer(|buffer| {
+                buffer.add(self.data);
+            });
+        });
+    }
+}
+
+/// A package whose number of elements and elements an object writes.
+pub struct VarPackageTerm<'a> {
+    data: &'a dyn Aml,
+}
+
+impl<'a> VarPackageTerm<'a> {
+    pub fn new(data: &'a dyn Aml) -> Self {
+        VarPackageTerm { data }
+    }
+}
+
+impl Aml for VarPackageTerm<'_> {
+    fn to_aml_bytes(&self, sink: &mut dyn AmlSink) {
+        emit(sink, |writer| {
+            writer.var_package(|package| {
+                package.add(self.data);
+            });
+        });
+    }
+}
+
 // The number of a package's elements, which has a byte.
 fn elements(count: usize) -> u8 {
     u8::try_from(count).expect("a package has at most 255 elements")

@@ -1,5 +1,6 @@
 //! Resource descriptors (ACPI 6.5, 6.4).
 
+use crate::gas::GAS;
 use crate::object::emit;
 use crate::{Aml, AmlSink, MemoryType};
 
@@ -120,6 +121,26 @@ impl Aml for Interrupt {
     }
 }
 
+/// A register.
+#[derive(Clone, Copy, Debug)]
+pub struct Register {
+    reg: GAS,
+}
+
+impl Register {
+    pub fn new(reg: GAS) -> Self {
+        Register { reg }
+    }
+}
+
+impl Aml for Register {
+    fn to_aml_bytes(&self, sink: &mut dyn AmlSink) {
+        emit(sink, |writer| {
+            writer.register(&self.reg);
+        });
+    }
+}
+
 /// How memory may be cached.
 #[derive(Clone, Copy, Debug, PartialEq)]
 pub enum AddressSpaceCacheable {
@@ -128,6 +149,10 @@ pub enum AddressSpaceCacheable {
     WriteCombining,
     PreFetchable,
 }
+
+/// `AddressSpaceCacheable` under the name that it had before.
+#[deprecated = "it is AddressSpaceCacheable"]
+pub type AddressSpaceCachable = AddressSpaceCacheable;
 
 impl AddressSpaceCacheable {
     fn memory_type(self) -> MemoryType {
@@ -147,8 +172,7 @@ enum Kind {
     BusNumber,
 }
 
-/// A range that a bridge passes on, from its first to its last address, port or bus. The library has memory of 32 and 64 bits,
-/// ports of 16 and 32 bits, and bus numbers of 16 bits; others panic when they are written.
+/// A range that a bridge passes on, from its first to its last address, port or bus, with 16, 32 or 64 bits.
 #[derive(Clone, Copy, Debug)]
 pub struct AddressSpace<T> {
     kind: Kind,
@@ -192,46 +216,29 @@ impl<T: Default> AddressSpace<T> {
     }
 }
 
-impl Aml for AddressSpace<u16> {
-    fn to_aml_bytes(&self, sink: &mut dyn AmlSink) {
-        emit(sink, |writer| {
-            match self.kind {
-                Kind::Memory(_, _) => panic!("a range of memory has 32 or 64 bits"),
-                Kind::Io => writer.io_range(self.min, self.max, self.translation),
-                Kind::BusNumber => writer.bus_numbers(self.min, self.max),
-            };
-        });
-    }
+// A range of a number of bits, and the calls that write it: those of memory, of ports and of bus numbers.
+macro_rules! written {
+    ($($number:ty, $memory:ident $io:ident $bus:ident;)*) => {$(
+        impl Aml for AddressSpace<$number> {
+            fn to_aml_bytes(&self, sink: &mut dyn AmlSink) {
+                let (min, max, translation) = (self.min, self.max, self.translation);
+                emit(sink, |writer| {
+                    match self.kind {
+                        Kind::Memory(cacheable, read_write) => {
+                            let memory = cacheable.memory_type();
+                            writer.$memory(memory, read_write, min, max, translation)
+                        }
+                        Kind::Io => writer.$io(min, max, translation),
+                        Kind::BusNumber => writer.$bus(min, max),
+                    };
+                });
+            }
+        }
+    )*};
 }
 
-impl Aml for AddressSpace<u32> {
-    fn to_aml_bytes(&self, sink: &mut dyn AmlSink) {
-        let (min, max, translation) = (self.min, self.max, self.translation);
-        emit(sink, |writer| {
-            match self.kind {
-                Kind::Memory(cacheable, read_write) => {
-                    let memory = cacheable.memory_type();
-                    writer.memory_range32(memory, read_write, min, max, translation)
-                }
-                Kind::Io => writer.io_range32(min, max, translation),
-                Kind::BusNumber => panic!("a range of bus numbers has 16 bits"),
-            };
-        });
-    }
-}
-
-impl Aml for AddressSpace<u64> {
-    fn to_aml_bytes(&self, sink: &mut dyn AmlSink) {
-        let (min, max, translation) = (self.min, self.max, self.translation);
-        emit(sink, |writer| {
-            match self.kind {
-                Kind::Memory(cacheable, read_write) => {
-                    let memory = cacheable.memory_type();
-                    writer.memory_range64(memory, read_write, min, max, translation)
-                }
-                Kind::Io => panic!("a range of ports has 16 or 32 bits"),
-                Kind::BusNumber => panic!("a range of bus numbers has 16 bits"),
-            };
-        });
-    }
+written! {
+    u16, memory_range16 io_range bus_numbers;
+    u32, memory_range32 io_range32 bus_numbers32;
+    u64, memory_range64 io_range64 bus_numbers64;
 }

@@ -3,7 +3,7 @@ use Rattle.std.proofs.iter.Next.{Yields-more}
 use Rattle.std.specs.Vec.Iter.{into_iter_steps}
 use Rattle.acpi_term.specs.View.{views}
 use Rattle.acpi_term.specs.declared.term.Term.{Term}
-use Rattle.acpi_terms_text.specs.Methods.{callee_by}
+use Rattle.acpi_terms_text.specs.Objects.{callee_by}
 use Rattle.acpi_terms_text.specs.Scoped.{AreScoped}
 use Rattle.acpi_terms_text.proofs.Scopes.{given_shallow, scoped_on}
 use Rattle.acpi_terms_text.proofs.scoped.+scoped.Goals as goal
@@ -18,7 +18,7 @@ scoped_terms-scoped_term-requires t c =
 pub scoped_terms-loop-term-preserved : goal.scoped_terms-loop-term-preserved
 scoped_terms-loop-term-preserved t c =
     let stated = c.args.numbers.now.stated.now in
-    let all = map callee_by c.args.numbers.now.methods.now in
+    let all = map callee_by c.args.numbers.now.objects.now in
     let own = c.args.numbers.now.own.now in
     let scope = string_bytes c.args.scope.now in
     let more = scoped_on stated all own scope c.loop-term.yielded c.loop-term.all.items c.in-Some.term c.in_ok-scoped_term.field-0 c.loop-term.invariant c.in_ok-scoped_term.ensures in

@@ -1,7 +1,7 @@
 use Rattle.std.proofs.Common.{◌+◌, ◌*◌, map, string_bytes}
 use Rattle.acpi_term.specs.Tree.{depth}
 use Rattle.acpi_term.specs.View.{view, views, single}
-use Rattle.acpi_terms_text.specs.Methods.{callee_by}
+use Rattle.acpi_terms_text.specs.Objects.{callee_by}
 use Rattle.acpi_terms_text.specs.Scoped.{AreScoped}
 use Rattle.acpi_terms_text.proofs.scoped.+scoped.Given as goal
 
@@ -13,4 +13,4 @@ decreases-scoped_term l = 2 * depth (single (view l.term))
 
 abbrev pub invariant-scoped_terms-loop-term : goal.invariant-scoped_terms-loop-term
 invariant-scoped_terms-loop-term l =
-    AreScoped l.numbers.stated.now (map callee_by l.numbers.methods.now) l.numbers.own.now (string_bytes l.scope) (views l.yielded) (views l.all.items)
+    AreScoped l.numbers.stated.now (map callee_by l.numbers.objects.now) l.numbers.own.now (string_bytes l.scope) (views l.yielded) (views l.all.items)

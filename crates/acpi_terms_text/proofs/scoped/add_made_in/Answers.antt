@@ -1,6 +1,10 @@
-use Rattle.acpi_terms_text.proofs.Scopes.{made_on}
+use Rattle.std.proofs.Common.{List, map, refl}
+use Rattle.acpi_terms_text.specs.declared.objects.Object.{Object}
+use Rattle.acpi_terms_text.specs.Objects.{callee_by}
+use Rattle.acpi_terms_text.specs.Scoped.{made_in}
+use Rattle.acpi_terms_text.proofs.Walks.{counts_on}
 use Rattle.acpi_terms_text.proofs.scoped.add_made_in.Goals as goal
 
-pub methods-preserved : goal.methods-preserved
-methods-preserved c =
-    made_on c.args.scope.now c.args.methods.now c.methods.method-index c.method-item.result c.methods.all _ _ c.methods-test.true c.method-item.is c.in_ok-add_here.ensures c.methods.invariant
+pub objects-preserved : goal.objects-preserved
+objects-preserved c =
+    counts_on (λ (objects : List Object). made_in c.args.scope.now (map callee_by objects)) _ _ _ _ _ _ _ c.objects-test.true c.object-item.is refl c.in_ok-add_here.ensures c.objects.invariant

@@ -1,10 +1,10 @@
 use Rattle.std.proofs.Common.{◌≡◌, map, drop}
 use Rattle.acpi_term.specs.Arity.{with_all}
-use Rattle.acpi_terms_text.specs.Methods.{callee_by}
+use Rattle.acpi_terms_text.specs.Objects.{callee_by}
 use Rattle.acpi_terms_text.specs.Scoped.{made_in}
 use Rattle.acpi_terms_text.proofs.scoped.add_made_in.Given as goal
 
-abbrev pub invariant-methods : goal.invariant-methods
-invariant-methods l =
-    with_all l.all (made_in l.scope (map callee_by (drop l.method-index l.methods)))
-    ≡ with_all l.initial.all (made_in l.scope (map callee_by l.methods))
+abbrev pub invariant-objects : goal.invariant-objects
+invariant-objects l =
+    with_all l.all (made_in l.scope (map callee_by (drop l.object-index l.objects)))
+    ≡ with_all l.initial.all (made_in l.scope (map callee_by l.objects))

@@ -1,8 +1,0 @@
-use Rattle.std.proofs.Common.{◌≡◌, ◌-◌, map}
-use Rattle.acpi_term.specs.Arity.{with_all}
-use Rattle.acpi_terms_text.specs.Methods.{callee_by, numbers_from, called}
-use Rattle.acpi_terms_text.proofs.methods.add_methods.Given as goal
-
-abbrev pub invariant-numbers : goal.invariant-numbers
-invariant-numbers l =
-    with_all l.all (numbers_from (8 - l.args) l.args (map callee_by l.methods)) ≡ with_all l.initial.all (called (map callee_by l.methods))

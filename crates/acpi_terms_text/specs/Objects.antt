@@ -1,0 +1,240 @@
+-- The objects of a definition block, and how many arguments the methods of them take by the names of calls.
+use Rattle.std.specs.Prelude.{◌≡◌, ℕ, zero, suc, ◌==◌, ◌-◌, nat_le, ◌&&◌, ◌||◌, Bool, if◌then◌else◌}
+use Rattle.std.specs.Prelude.{List, [], ◌∷◌, ◌++◌, length, drop, Option, Some, None, codes, string_bytes}
+use Rattle.acpi_term.specs.Arity.{arity, with_all}
+use Rattle.acpi_term.specs.declared.language.Language.TheVariants.{Standard}
+use Rattle.acpi_term.specs.Language.{grammar_of}
+use Rattle.acpi_term.specs.Name.{is_segment}
+use Rattle.acpi_term.specs.PathText.{is_rooted, unrooted, path_spelling, is_name_text}
+use Rattle.acpi_terms_text.specs.declared.objects.Object.{Object}
+use Rattle.acpi_term.specs.Tree.{Entry, named, Head, call, op, def_scope, def_device, def_method, def_power_res, def_field}
+use Rattle.acpi_term.specs.Tree.{def_op_region, def_name, def_mutex, def_external, def_leveled_method, def_processor}
+use Rattle.acpi_term.specs.Tree.{def_thermal_zone, def_index_field, def_bank_field, Terms, end, term}
+use Rattle.acpi_term.specs.declared.op.Op.{Op}
+use Rattle.acpi_term.specs.declared.op.Op.TheVariants as ops
+use Rattle.acpi_read.specs.Lines.{name_text}
+use Rattle.acpi_read.specs.Terms.{AreReadIn}
+use Rattle.acpi_read.specs.InPart.{AreReadInPart}
+
+-- ---- paths as texts, without a root
+
+-- the path of a name in a scope: from the root if the name has one, and otherwise after the scope's path and a dot (ACPI 6.5, 5.3)
+abbrev pub placed : List ℕ → List ℕ → List ℕ
+placed scope text = if is_rooted text then unrooted text else scope ++ text
+
+-- the path of a scope, and a dot: what the paths of the names in it begin with
+abbrev pub opened : List ℕ → List ℕ → List ℕ
+opened scope name = placed scope (name_text name) ++ 0x2e ∷ []
+
+-- the scope of a head's children; that of the root is empty
+abbrev pub inside : List ℕ → Head → List ℕ
+inside scope (def_scope name) = opened scope name
+inside scope (def_device name) = opened scope name
+inside scope (def_method name args serialized) = opened scope name
+inside scope (def_power_res name level order) = opened scope name
+inside scope (def_leveled_method name args serialized level) = opened scope name
+inside scope (def_processor name id address size) = opened scope name
+inside scope (def_thermal_zone name) = opened scope name
+inside scope _ = scope
+
+-- ---- the names of an object
+
+-- the texts after each dot
+abbrev pub after_dots : List ℕ → List (List ℕ)
+after_dots [] = []
+after_dots (c ∷ text) = if c == 0x2e then text ∷ after_dots text else after_dots text
+
+-- the names by which a path is called: the path from the root, the path without a root, and from each further segment on
+abbrev pub calls : List ℕ → List (List ℕ)
+calls path = (0x5c ∷ path) ∷ path ∷ after_dots path
+
+-- a number of arguments for the name of a text; a path of more than 255 segments has no name
+abbrev pub stated : ℕ → List ℕ → List (List ℕ × ℕ)
+stated n text = if is_name_text text then (path_spelling text, n) ∷ [] else []
+
+abbrev pub all_stated : ℕ → List (List ℕ) → List (List ℕ × ℕ)
+all_stated n [] = []
+all_stated n (text ∷ texts) = stated n text ++ all_stated n texts
+
+-- whether an external object is a method, whose number of arguments is there (ACPI 6.5, 19.6.44 and 20.2.5.2, DefExternal)
+abbrev pub is_method : ℕ → ℕ → Bool
+is_method kind args = kind == 8 && nat_le args 7
+
+-- An object that a call may name: the scope of the term that makes it, its name there, and the number of its arguments. Only methods
+-- have arguments.
+pub record Callee : Type 0 where
+  pub scope : List ℕ
+  pub name : List ℕ
+  pub args : ℕ
+
+abbrev pub callee : List ℕ → List ℕ → ℕ → Callee
+callee s n k = record { scope = s; name = n; args = k }
+
+abbrev pub callee_by : Object → Callee
+callee_by o = callee (string_bytes o.scope) o.name o.args
+
+-- one object
+abbrev pub makes : List ℕ → List ℕ → ℕ → List Callee
+makes scope name args = callee scope name args ∷ []
+
+-- an object without arguments, if there is a name for it
+abbrev pub if_named : List ℕ → Option (List ℕ) → List Callee
+if_named scope None = []
+if_named scope (Some name) = makes scope name 0
+
+-- bytes that are a segment
+abbrev pub as_segment : List ℕ → Option (List ℕ)
+as_segment (a ∷ b ∷ c ∷ d ∷ []) = if is_segment a b c d then Some (a ∷ b ∷ c ∷ d ∷ []) else None
+as_segment _ = None
+
+-- that of an entry of a field (ACPI 6.5, 20.2.5.2, NamedField)
+abbrev pub own_unit : List ℕ → Entry → List Callee
+own_unit scope (named name bits width) = if_named scope (as_segment name)
+own_unit scope _ = []
+
+abbrev pub own_units : List ℕ → List Entry → List Callee
+own_units scope [] = []
+own_units scope (e ∷ entries) = own_unit scope e ++ own_units scope entries
+
+-- An object of another block. What has no type (0) may be a method (8) of any number of arguments.
+abbrev pub own_external : List ℕ → List ℕ → ℕ → ℕ → List Callee
+own_external scope name kind args =
+    if is_method kind args then makes scope name args else if kind == 0 || kind == 8 then [] else makes scope name 0
+
+-- the place of the operand that names the object which an operator makes
+abbrev pub made_by : Op → Option ℕ
+made_by ops.Event = Some 0
+made_by ops.DataRegion = Some 0
+made_by ops.CreateBitField = Some 2
+made_by ops.CreateByteField = Some 2
+made_by ops.CreateWordField = Some 2
+made_by ops.CreateDWordField = Some 2
+made_by ops.CreateQWordField = Some 2
+made_by ops.CreateField = Some 3
+made_by _ = None
+
+-- the name that stands alone at a place of a list
+abbrev pub name_of : Head → Option (List ℕ)
+name_of (call name) = Some name
+name_of _ = None
+
+abbrev pub name_at : ℕ → Terms → Option (List ℕ)
+name_at n end = None
+name_at zero (term h w children others) = name_of h
+name_at (suc n) (term h w children others) = name_at n others
+
+abbrev pub own_operand : List ℕ → Option ℕ → Terms → List Callee
+own_operand scope None operands = []
+own_operand scope (Some place) operands = if_named scope (name_at place operands)
+
+-- the objects that a head with these children makes in a scope (ACPI 6.5, 20.2.5.1 and 20.2.5.2)
+abbrev pub own_objects : List ℕ → Head → Terms → List Callee
+own_objects scope (def_method name args serialized) children = makes scope name args
+own_objects scope (def_leveled_method name args serialized level) children = makes scope name args
+own_objects scope (def_external name kind args) children = own_external scope name kind args
+own_objects scope (def_name name) children = makes scope name 0
+own_objects scope (def_device name) children = makes scope name 0
+own_objects scope (def_mutex name level) children = makes scope name 0
+own_objects scope (def_op_region name space) children = makes scope name 0
+own_objects scope (def_power_res name level order) children = makes scope name 0
+own_objects scope (def_processor name id address size) children = makes scope name 0
+own_objects scope (def_thermal_zone name) children = makes scope name 0
+own_objects scope (def_field name access lock update entries) children = own_units scope entries
+own_objects scope (def_index_field name other access lock update entries) children = own_units scope entries
+own_objects scope (def_bank_field name bank access lock update entries) children = own_units scope entries
+own_objects scope (op o) children = own_operand scope (made_by o) children
+own_objects scope _ children = []
+
+-- those of all terms, in the order of the bytes
+abbrev pub objects : List ℕ → Terms → List Callee
+objects scope end = []
+objects scope (term h w children others) =
+    own_objects scope h children ++ (objects (inside scope h) children ++ objects scope others)
+
+-- ---- the objects whose number of arguments matters
+
+-- the last segment of a name
+abbrev pub segment : List ℕ → List ℕ
+segment name = drop (length name - 4) name
+
+-- the number of arguments of a segment
+abbrev pub counted : ℕ → Option (List ℕ) → List (List ℕ × ℕ)
+counted args None = []
+counted args (Some name) = (name, args) ∷ []
+
+-- the last segment of a method with arguments
+abbrev pub own_segment : Callee → List (List ℕ × ℕ)
+own_segment m = if m.args == 0 then [] else counted m.args (as_segment (segment m.name))
+
+abbrev pub segments : List Callee → List (List ℕ × ℕ)
+segments [] = []
+segments (m ∷ all) = own_segment m ++ segments all
+
+-- an object, if its last segment is one of these
+abbrev pub if_among : List (List ℕ × ℕ) → Callee → List Callee
+if_among among m = if arity among (segment m.name) == 0 then [] else m ∷ []
+
+abbrev pub all_among : List (List ℕ × ℕ) → List Callee → List Callee
+all_among among [] = []
+all_among among (m ∷ all) = if_among among m ++ all_among among all
+
+-- The methods with arguments, and all objects whose names end as those of one of them. Any other name takes no arguments.
+abbrev pub callees : List Callee → List Callee
+callees all = all_among (with_all [] (segments all)) all
+
+-- ---- numbers of arguments
+
+-- the number of arguments of an object, for the names by which its path is called
+abbrev pub numbers : Callee → List (List ℕ × ℕ)
+numbers m = all_stated m.args (calls (placed m.scope (name_text m.name)))
+
+-- the same of the objects with this number of arguments
+abbrev pub numbers_of : ℕ → List Callee → List (List ℕ × ℕ)
+numbers_of n [] = []
+numbers_of n (m ∷ all) = (if m.args == n then numbers m else []) ++ numbers_of n all
+
+-- the same of n numbers of arguments from k on
+abbrev pub numbers_from : ℕ → ℕ → List Callee → List (List ℕ × ℕ)
+numbers_from zero k all = []
+numbers_from (suc n) k all = numbers_of k all ++ numbers_from n (suc k) all
+
+-- the same of all; those with the fewest arguments come first
+abbrev pub called : List Callee → List (List ℕ × ℕ)
+called all = numbers_from 8 0 all
+
+-- the names of the method that the operating system has: _OSI takes one argument (ACPI 6.5, 5.7.2)
+abbrev pub predefined : List (List ℕ × ℕ)
+predefined = all_stated 1 (calls (codes "_OSI"))
+
+-- what calls may name in a block's terms: its objects, and those of further blocks, which have the same namespace
+abbrev pub all_callees : Terms → List Callee → List Callee
+all_callees terms further = callees (objects [] terms ++ further)
+
+-- The numbers that a caller states, those of objects, and those of the operating system. If there are several for a name, the first
+-- one holds.
+abbrev pub own_numbers : List (List ℕ × ℕ) → List Callee → List (List ℕ × ℕ)
+own_numbers stated all = with_all (with_all stated (called all)) predefined
+
+-- The objects of the terms that can be read of bytes, with the stated numbers.
+pub record AreObjectsIn (stated : List (List ℕ × ℕ)) (bytes : List ℕ) (all : List Callee) : Type 0 where
+  pub terms : Terms
+  pub read : AreReadInPart (grammar_of Standard (arity stated)) bytes terms
+  pub is : all ≡ objects [] terms
+
+-- They were added to others.
+pub record AddObjectsIn (stated : List (List ℕ × ℕ)) (bytes : List ℕ) (old new : List Callee) : Type 0 where
+  pub more : List Callee
+  pub are : AreObjectsIn stated bytes more
+  pub added : new ≡ old ++ more
+
+-- The numbers of the terms that the bytes spell with the stated numbers, and of the objects of further blocks.
+pub record AreOwn (stated : List (List ℕ × ℕ)) (further : List Callee) (bytes : List ℕ) (all : List (List ℕ × ℕ)) : Type 0 where
+  pub terms : Terms
+  pub read : AreReadIn (grammar_of Standard (arity stated)) bytes terms
+  pub is : all ≡ own_numbers stated (all_callees terms further)
+
+-- The same of terms that are read as far as they can be.
+pub record AreOwnInPart (stated : List (List ℕ × ℕ)) (further : List Callee) (bytes : List ℕ) (all : List (List ℕ × ℕ)) : Type 0 where
+  pub own : List Callee
+  pub are : AreObjectsIn stated bytes own
+  pub is : all ≡ own_numbers stated (callees (own ++ further))

@@ -1,0 +1,572 @@
+//! The objects of a definition block, and how many arguments the methods of them take.
+
+ghost use Rattle.std.specs.Prelude.{◌≡◌, ◌==◌, ◌++◌, OnOk, IfOk, IfErr, string_bytes, [], ◌∷◌, map, unwrap_or, if◌then◌else◌};
+ghost use Rattle.std.specs.Option.{option_map};
+ghost use Rattle.acpi_term.specs.Arity.{arity, with_all};
+ghost use Rattle.acpi_term.specs.PathText.{is_name_text};
+ghost use Rattle.acpi_term.specs.View.{entry_view, head_of, view, views, single};
+ghost use Rattle.acpi_read.specs.Lines.{name_text};
+ghost use Rattle.acpi_term.specs.declared.language.Language.TheVariants.{Standard};
+ghost use Rattle.acpi_term.specs.Language.{grammar_of};
+ghost use Rattle.acpi_read.specs.Terms.{IsUnreadIn};
+ghost use Rattle.acpi_terms_text.specs.Objects.{placed, opened, inside, after_dots, calls, stated, all_stated};
+ghost use Rattle.acpi_terms_text.specs.Objects.{is_method, callee_by, makes, as_segment, own_unit, own_units, own_external};
+ghost use Rattle.acpi_terms_text.specs.Objects.{made_by, name_of, name_at, own_operand, own_objects, objects};
+ghost use Rattle.acpi_terms_text.specs.Objects.{segment, own_segment, segments, if_among, all_among, callees, all_callees};
+ghost use Rattle.acpi_terms_text.specs.Objects.{numbers, numbers_of, called, predefined, own_numbers};
+ghost use Rattle.acpi_terms_text.specs.Objects.{AreOwn, AreOwnInPart, AddObjectsIn};
+
+use acpi_read::report::words::push_named;
+use acpi_read::terms::in_part::terms_in_part;
+use acpi_read::terms::standard_terms;
+use acpi_term::apart::{Kind, parts_of};
+use acpi_term::name_string::{Arities, NameString, name_of};
+use acpi_term::op::Op;
+use acpi_term::read_error::ReadError;
+use acpi_term::segment::is_segment;
+use acpi_term::term::{Term, TermEntry};
+use std::alloc::{AllocError, Global};
+
+// Adds the path of the text of a name in a scope.
+fn push_placed(scope: &str, text: &str, path: &mut String) -> Result<(), AllocError>
+    ensures { OnOk result (string_bytes path.new ≡ string_bytes path.old ++ placed scope.now text.now) }
+{
+    let Some(rest) = text.strip_prefix('\\') else {
+        path.push_str(scope)?;
+        path.push_str(text)?;
+        return Ok(());
+    };
+    path.push_str(rest)?;
+    Ok(())
+}
+
+// The path of a name in a scope.
+fn placed(alloc: Global, scope: &str, name: &NameString) -> Result<String, AllocError>
+    ensures { IfOk result (λ path. string_bytes path ≡ placed scope.now (name_text name.now)) }
+{
+    let mut text = String::new(alloc);
+    push_named("", name, &mut text)?;
+    let mut path = String::new(alloc);
+    push_placed(scope, text.as_str(), &mut path)?;
+    Ok(path)
+}
+
+// The path of a scope, and a dot.
+pub(crate) fn opened(alloc: Global, scope: &str, name: &NameString) -> Result<String, AllocError>
+    ensures { IfOk result (λ path. string_bytes path ≡ opened scope.now name.now) }
+{
+    let mut path = placed(alloc, scope, name)?;
+    path.push('.')?;
+    Ok(path)
+}
+
+// The scope of a term's children, if it isn't the one around the term.
+fn inside(alloc: Global, scope: &str, kind: Kind<'_>) -> Result<Option<String>, AllocError>
+    ensures { IfOk result (λ own. unwrap_or (option_map (λ path. string_bytes path) own) scope.now
+        ≡ inside scope.now (head_of kind.entry)) }
+{
+    match kind {
+        Kind::Scope(name)
+        | Kind::Device(name)
+        | Kind::Method(name, ..)
+        | Kind::PowerResource(name, ..)
+        | Kind::LeveledMethod(name, ..)
+        | Kind::Processor(name, ..)
+        | Kind::ThermalZone(name) => Ok(Some(opened(alloc, scope, name)?)),
+        _ => Ok(None),
+    }
+}
+
+// The scope of a term's children: its own, or the one around the term.
+fn inner_scope<'a>(scope: &'a String, own: &'a Option<String>) -> &'a String
+    ensures { string_bytes result.now ≡ unwrap_or (option_map (λ path. string_bytes path) own.now) (string_bytes scope.now) }
+{
+    match own {
+        Some(path) => path,
+        None => scope,
+    }
+}
+
+// Adds a number of arguments for the name of a text.
+fn add_text(alloc: Global, text: &str, args: u8, all: &mut Arities) -> Result<(), AllocError>
+    ensures { OnOk result (all.new ≡ with_all all.old (stated args text.now)) }
+{
+    match NameString::new(alloc, text) {
+        Ok(name) => all.add(name, args),
+        Err(ReadError::Memory) => Err(AllocError),
+        Err(_) => Ok(()),
+    }
+}
+
+// Adds a number of arguments for the texts after each dot.
+fn add_after_dots(alloc: Global, path: &str, args: u8, all: &mut Arities) -> Result<(), AllocError>
+    ensures { OnOk result (all.new ≡ with_all all.old (all_stated args (after_dots path.now))) }
+{
+    let mut rest = path;
+    'dots: while let Some((_, more)) = rest.split_once('.') {
+        add_text(alloc, more, args, all)?;
+        rest = more;
+    }
+    Ok(())
+}
+
+// Adds a number of arguments for the names by which a path is called.
+fn add_calls(alloc: Global, path: &str, args: u8, all: &mut Arities) -> Result<(), AllocError>
+    ensures { OnOk result (all.new ≡ with_all all.old (all_stated args (calls path.now))) }
+{
+    let mut rooted = String::new(alloc);
+    rooted.push('\\')?;
+    rooted.push_str(path)?;
+    add_text(alloc, rooted.as_str(), args, all)?;
+    add_text(alloc, path, args, all)?;
+    add_after_dots(alloc, path, args, all)
+}
+
+// Returns whether an external object is a method, whose number of arguments is there.
+fn is_method(kind: u8, args: u8) -> bool
+    ensures { result ≡ is_method kind args }
+{
+    kind == 8 && args <= 7
+}
+
+// ---- the objects of terms
+
+/// An object that calls may name: the scope of the term that makes it, its name there, and the number of its arguments. Only methods
+/// have arguments. The scope is a path from the root, without the root, with a dot after each segment.
+#[derive(Debug, Drop)]
+pub struct Object {
+    pub(crate) scope: String,
+    pub(crate) name: NameString,
+    pub(crate) args: u8,
+}
+
+// Adds an object.
+fn push_object(
+    alloc: Global,
+    scope: &str,
+    name: &NameString,
+    args: u8,
+    all: &mut Vec<Object>,
+) -> Result<(), AllocError>
+    ensures { OnOk result (map callee_by all.new.items ≡ map callee_by all.old.items ++ makes scope.now name.now args) }
+{
+    let scope = String::from_str(alloc, scope)?;
+    let name = name_of(alloc, name.as_bytes())?;
+    all.push(Object { scope, name, args })?;
+    Ok(())
+}
+
+// Returns the name that is a segment alone, if these bytes are one.
+fn as_segment(alloc: Global, bytes: &[u8]) -> Result<Option<NameString>, AllocError>
+    ensures { IfOk result (λ name. name ≡ as_segment bytes.now) }
+{
+    match bytes {
+        [a, b, c, d] if is_segment(*a, *b, *c, *d) => Ok(Some(name_of(alloc, bytes)?)),
+        _ => Ok(None),
+    }
+}
+
+// Adds that of an entry of a field.
+fn push_unit(
+    alloc: Global,
+    scope: &str,
+    entry: &TermEntry,
+    all: &mut Vec<Object>,
+) -> Result<(), AllocError>
+    ensures { OnOk result (map callee_by all.new.items ≡ map callee_by all.old.items ++ own_unit scope.now (entry_view entry.now)) }
+{
+    let TermEntry::Named(bytes, ..) = entry else {
+        return Ok(());
+    };
+    let Some(name) = as_segment(alloc, bytes)? else {
+        return Ok(());
+    };
+    push_object(alloc, scope, &name, 0, all)
+}
+
+// Adds those of the entries of a field.
+fn push_units(
+    alloc: Global,
+    scope: &str,
+    entries: &[TermEntry],
+    all: &mut Vec<Object>,
+) -> Result<(), AllocError>
+    ensures { OnOk result (map callee_by all.new.items ≡ map callee_by all.old.items
+        ++ own_units scope.now (map entry_view entries.now)) }
+{
+    'entries: for entry in entries {
+        push_unit(alloc, scope, entry, all)?;
+    }
+    Ok(())
+}
+
+// Adds an object of another block.
+fn push_external(
+    alloc: Global,
+    scope: &str,
+    name: &NameString,
+    kind: u8,
+    args: u8,
+    all: &mut Vec<Object>,
+) -> Result<(), AllocError>
+    ensures { OnOk result (map callee_by all.new.items ≡ map callee_by all.old.items
+        ++ own_external scope.now name.now kind args) }
+{
+    if is_method(kind, args) {
+        push_object(alloc, scope, name, args, all)
+    } else if kind == 0 || kind == 8 {
+        Ok(())
+    } else {
+        push_object(alloc, scope, name, 0, all)
+    }
+}
+
+// Returns the place of the operand that names the object which an operator makes.
+fn made_by(op: Op) -> Option<usize>
+    ensures { result ≡ made_by op }
+{
+    match op {
+        Op::Event | Op::DataRegion => Some(0),
+        Op::CreateBitField
+        | Op::CreateByteField
+        | Op::CreateWordField
+        | Op::CreateDWordField
+        | Op::CreateQWordField => Some(2),
+        Op::CreateField => Some(3),
+        _ => None,
+    }
+}
+
+// Returns the name that a term is, if it is nothing else.
+fn alone(term: &Term) -> Option<&NameString>
+    ensures { option_map (λ name. name.now) result ≡ name_of (view term.now).0 }
+{
+    match parts_of(term).kind {
+        Kind::Call(name) => Some(name),
+        _ => None,
+    }
+}
+
+// Returns the name that stands alone at a place of two lists.
+fn name_at<'a>(place: usize, first: &'a [Term], others: &'a [Term]) -> Option<&'a NameString>
+    ensures { option_map (λ name. name.now) result ≡ name_at place (views (first.now ++ others.now)) }
+{
+    if place < first.len() {
+        alone(first.get(place)?)
+    } else {
+        alone(others.get(place - first.len())?)
+    }
+}
+
+// Adds the object that an operator with these operands makes.
+fn push_made(
+    alloc: Global,
+    scope: &str,
+    op: Op,
+    first: &[Term],
+    others: &[Term],
+    all: &mut Vec<Object>,
+) -> Result<(), AllocError>
+    ensures { OnOk result (map callee_by all.new.items ≡ map callee_by all.old.items
+        ++ own_operand scope.now (made_by op) (views (first.now ++ others.now))) }
+{
+    let Some(place) = made_by(op) else {
+        return Ok(());
+    };
+    let Some(name) = name_at(place, first, others) else {
+        return Ok(());
+    };
+    push_object(alloc, scope, name, 0, all)
+}
+
+// Adds the objects that a term with these children makes in a scope.
+fn push_own(
+    alloc: Global,
+    scope: &str,
+    kind: Kind<'_>,
+    first: &[Term],
+    others: &[Term],
+    all: &mut Vec<Object>,
+) -> Result<(), AllocError>
+    ensures { OnOk result (map callee_by all.new.items ≡ map callee_by all.old.items
+        ++ own_objects scope.now (head_of kind.entry) (views (first.now ++ others.now))) }
+{
+    match kind {
+        Kind::Method(name, args, _) | Kind::LeveledMethod(name, args, ..) => {
+            push_object(alloc, scope, name, args, all)
+        }
+        Kind::External(name, kind, args) => push_external(alloc, scope, name, kind, args, all),
+        Kind::Name(name)
+        | Kind::Device(name)
+        | Kind::Mutex(name, _)
+        | Kind::OpRegion(name, _)
+        | Kind::PowerResource(name, ..)
+        | Kind::Processor(name, ..)
+        | Kind::ThermalZone(name) => push_object(alloc, scope, name, 0, all),
+        Kind::Field(_, _, _, _, entries)
+        | Kind::IndexField(_, _, _, _, _, entries)
+        | Kind::BankField(_, _, _, _, _, entries) => push_units(alloc, scope, entries, all),
+        Kind::Op(op) => push_made(alloc, scope, op, first, others, all),
+        _ => Ok(()),
+    }
+}
+
+// Adds the objects of terms.
+#[cycle(objects)]
+fn push_terms(
+    alloc: Global,
+    scope: &String,
+    terms: &[Term],
+    all: &mut Vec<Object>,
+) -> Result<(), AllocError>
+    ensures { OnOk result (map callee_by all.new.items ≡ map callee_by all.old.items
+        ++ objects (string_bytes scope.now) (views terms.now)) }
+{
+    for term in terms {
+        push_term(alloc, scope, term, all)?;
+    }
+    Ok(())
+}
+
+#[cycle(objects)]
+fn push_term(
+    alloc: Global,
+    scope: &String,
+    term: &Term,
+    all: &mut Vec<Object>,
+) -> Result<(), AllocError>
+    ensures { OnOk result (map callee_by all.new.items ≡ map callee_by all.old.items
+        ++ objects (string_bytes scope.now) (single (view term.now))) }
+{
+    let parts = parts_of(term);
+    push_own(
+        alloc,
+        scope.as_str(),
+        parts.kind,
+        parts.first,
+        parts.others,
+        all,
+    )?;
+    let own = inside(alloc, scope.as_str(), parts.kind)?;
+    let inner = inner_scope(scope, &own);
+    push_terms(alloc, inner, parts.first, all)?;
+    push_terms(alloc, inner, parts.others, all)?;
+    Ok(())
+}
+
+// Adds a copy of an object.
+fn push_copy(alloc: Global, object: &Object, all: &mut Vec<Object>) -> Result<(), AllocError>
+    ensures { OnOk result (map callee_by all.new.items ≡ map callee_by all.old.items ++ callee_by object.now ∷ []) }
+{
+    push_object(alloc, object.scope.as_str(), &object.name, object.args, all)
+}
+
+// Adds copies of objects.
+fn push_copies(alloc: Global, objects: &[Object], all: &mut Vec<Object>) -> Result<(), AllocError>
+    ensures { OnOk result (map callee_by all.new.items ≡ map callee_by all.old.items ++ map callee_by objects.now) }
+{
+    'copies: for object in objects {
+        push_copy(alloc, object, all)?;
+    }
+    Ok(())
+}
+
+// ---- the objects whose number of arguments matters
+
+// Returns the last segment of a name.
+fn segment(name: &[u8]) -> &[u8]
+    ensures { result.now ≡ segment name.now }
+{
+    &name[name.len().saturating_sub(4)..]
+}
+
+// Adds the last segment of a method with arguments.
+fn add_segment(alloc: Global, object: &Object, all: &mut Arities) -> Result<(), AllocError>
+    ensures { OnOk result (all.new ≡ with_all all.old (own_segment (callee_by object.now))) }
+{
+    if object.args == 0 {
+        return Ok(());
+    }
+    match as_segment(alloc, segment(object.name.as_bytes()))? {
+        Some(name) => all.add(name, object.args),
+        None => Ok(()),
+    }
+}
+
+// Returns an empty list of numbers.
+fn no_numbers(alloc: Global) -> Result<Arities, AllocError>
+    ensures { IfOk result (λ all. all ≡ []) }
+{
+    match Arities::new(Vec::new(alloc)) {
+        Ok(all) => Ok(all),
+        Err(_) => Err(AllocError),
+    }
+}
+
+// Returns the last segments of the methods with arguments.
+fn segments(alloc: Global, objects: &[Object]) -> Result<Arities, AllocError>
+    ensures { IfOk result (λ all. all ≡ with_all [] (segments (map callee_by objects.now))) }
+{
+    let mut all = no_numbers(alloc)?;
+    'objects: for object in objects {
+        add_segment(alloc, object, &mut all)?;
+    }
+    Ok(all)
+}
+
+// Adds an object, if its last segment is among these.
+fn push_among(among: &Arities, object: Object, all: &mut Vec<Object>) -> Result<(), AllocError>
+    ensures { OnOk result (map callee_by all.new.items ≡ map callee_by all.old.items
+        ++ if_among among.now (callee_by object)) }
+{
+    if among.count_of(segment(object.name.as_bytes())) == 0 {
+        return Ok(());
+    }
+    all.push(object)?;
+    Ok(())
+}
+
+// Returns the objects whose last segment is among these.
+fn all_among(
+    alloc: Global,
+    among: &Arities,
+    objects: Vec<Object>,
+) -> Result<Vec<Object>, AllocError>
+    ensures { IfOk result (λ all. map callee_by all.items ≡ all_among among.now (map callee_by objects.items)) }
+{
+    let mut all = Vec::new(alloc);
+    'objects: for object in objects {
+        push_among(among, object, &mut all)?;
+    }
+    Ok(all)
+}
+
+// Returns the methods with arguments, and the objects whose names end as those of one of them.
+fn callees(alloc: Global, objects: Vec<Object>) -> Result<Vec<Object>, AllocError>
+    ensures { IfOk result (λ all. map callee_by all.items ≡ callees (map callee_by objects.items)) }
+{
+    let among = segments(alloc, &objects)?;
+    all_among(alloc, &among, objects)
+}
+
+// Returns what calls may name in the terms of a block: its objects, and those of further blocks.
+pub(crate) fn all_callees(
+    alloc: Global,
+    terms: &[Term],
+    further: &[Object],
+) -> Result<Vec<Object>, AllocError>
+    ensures { IfOk result (λ all. map callee_by all.items ≡ all_callees (views terms.now) (map callee_by further.now)) }
+{
+    let root = String::new(alloc);
+    let mut all = Vec::new(alloc);
+    push_terms(alloc, &root, terms, &mut all)?;
+    push_copies(alloc, further, &mut all)?;
+    callees(alloc, all)
+}
+
+// ---- numbers of arguments
+
+// Adds the number of arguments of an object for the names by which its path is called, if it is this one.
+fn add_object(alloc: Global, args: u8, object: &Object, all: &mut Arities) -> Result<(), AllocError>
+    ensures { OnOk result (all.new ≡ with_all all.old (if (callee_by object.now).args == args then numbers (callee_by object.now)
+        else [])) }
+{
+    if object.args != args {
+        return Ok(());
+    }
+    let path = placed(alloc, object.scope.as_str(), &object.name)?;
+    add_calls(alloc, path.as_str(), object.args, all)
+}
+
+// Adds those of the objects with this number of arguments.
+fn add_of(alloc: Global, args: u8, objects: &[Object], all: &mut Arities) -> Result<(), AllocError>
+    ensures { OnOk result (all.new ≡ with_all all.old (numbers_of args (map callee_by objects.now))) }
+{
+    'objects: for object in objects {
+        add_object(alloc, args, object, all)?;
+    }
+    Ok(())
+}
+
+// Adds those of all objects. Those with the fewest arguments come first.
+pub(crate) fn add_objects(
+    alloc: Global,
+    objects: &[Object],
+    all: &mut Arities,
+) -> Result<(), AllocError>
+    ensures { OnOk result (all.new ≡ with_all all.old (called (map callee_by objects.now))) }
+{
+    'numbers: for args in 0..8 {
+        add_of(alloc, args, objects, all)?;
+    }
+    Ok(())
+}
+
+// Adds the number of arguments of the method that the operating system has.
+pub(crate) fn add_predefined(alloc: Global, all: &mut Arities) -> Result<(), AllocError>
+    ensures { OnOk result (all.new ≡ with_all all.old predefined) }
+{
+    add_calls(alloc, "_OSI", 1, all)
+}
+
+// Returns the stated numbers, those of objects, and that of the operating system.
+fn own_numbers(alloc: Global, stated: &Arities, objects: &[Object]) -> Result<Arities, AllocError>
+    ensures { IfOk result (λ all. all ≡ own_numbers stated.now (map callee_by objects.now)) }
+{
+    let mut all = stated.copy(alloc)?;
+    add_objects(alloc, objects, &mut all)?;
+    add_predefined(alloc, &mut all)?;
+    Ok(all)
+}
+
+/// How many arguments names take in a definition block: the stated numbers, those of the objects that the block itself makes, or
+/// declares as external, those of the objects of further blocks, and that of `_OSI`, which the operating system has (ACPI 6.5,
+/// 5.7.2). `bytes` are its terms, without the header. A method adds its path from the root, and the path without the root from
+/// each of its segments on, as calls may name it. So does another object whose name ends as that of a method with arguments; its
+/// number is 0. A name that is stated keeps its number, and a name of several objects has the least of their numbers. The errors
+/// are those of `acpi_read::terms::standard_terms` with the stated numbers.
+pub fn own_arities(
+    alloc: Global,
+    bytes: &[u8],
+    stated: &Arities,
+    further: &[Object],
+) -> Result<Arities, ReadError>
+    ensures ok { IfOk result (λ all. AreOwn stated.now (map callee_by further.now) bytes.now all) }
+    ensures err { IfErr result (IsUnreadIn (grammar_of Standard (arity stated.now)) bytes.now) }
+{
+    let terms = standard_terms(bytes, stated)?;
+    let objects = all_callees(alloc, &terms, further)?;
+    let all = own_numbers(alloc, stated, &objects)?;
+    Ok(all)
+}
+
+/// Adds the objects of a further definition block, by which it and others have the same namespace (ACPI 6.5, 5.3). `bytes` are its
+/// terms, without the header. The objects are those of the terms that can be read with the stated numbers.
+pub fn add_objects_in(
+    alloc: Global,
+    bytes: &[u8],
+    stated: &Arities,
+    all: &mut Vec<Object>,
+) -> Result<(), AllocError>
+    ensures { OnOk result (AddObjectsIn stated.now bytes.now (map callee_by all.old.items) (map callee_by all.new.items)) }
+{
+    let terms = terms_in_part(bytes, stated)?;
+    let root = String::new(alloc);
+    push_terms(alloc, &root, &terms, all)
+}
+
+/// The numbers of `own_arities` for bytes of which not all can be read: the objects are those of the terms that can.
+pub fn own_arities_in_part(
+    alloc: Global,
+    bytes: &[u8],
+    stated: &Arities,
+    further: &[Object],
+) -> Result<Arities, AllocError>
+    ensures { IfOk result (λ all. AreOwnInPart stated.now (map callee_by further.now) bytes.now all) }
+{
+    let mut objects = Vec::new(alloc);
+    add_objects_in(alloc, bytes, stated, &mut objects)?;
+    push_copies(alloc, further, &mut objects)?;
+    let objects = callees(alloc, objects)?;
+    own_numbers(alloc, stated, &objects)
+}
