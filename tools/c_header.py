@@ -29,6 +29,7 @@ TYPES = {
     "&mut [Structure]": ["struct hyssop_structure *X", "size_t X_size"],
     "&mut [Note]": ["struct hyssop_note *X", "size_t X_size"],
     "&mut [ImageTable]": ["struct hyssop_image_table *X", "size_t X_size"],
+    "&[Range<'_>]": ["const struct hyssop_range *X", "size_t X_size"],
 }
 # A type of hyssop.h, and that of hyssop.rs.
 RUST = {
@@ -50,6 +51,7 @@ RUST = {
     "struct hyssop_structure *": "*mut Structure",
     "struct hyssop_note *": "*mut Note",
     "struct hyssop_image_table *": "*mut ImageTable",
+    "const struct hyssop_range *": "*const Range",
 }
 status = 0
 
@@ -134,7 +136,7 @@ public = declarations(header)
 hidden = ("hyssop_export_fault_name", "hyssop_export_null", "hyssop_export_begin")
 wanted = [(name.replace("_export", ""), seen(given)) for name, given in in_c.items() if name not in hidden]
 wanted += [("hyssop_fault_words", ["number"]), ("hyssop_begin", ["writer", "bytes", "bytes_size"])]
-same = {"out_count": "out_size", "count": "size"}
+same = {"out_count": "out_size", "ranges_count": "ranges_size", "count": "size"}
 compare("hyssop.h", "function", wanted, [(name, [same.get(typed(it)[1], typed(it)[1]) for it in given]) for _, name, given in public])
 declared = [
     f"pub fn {name}({in_rust(given)}) -> " + ("*const c_char" if result == "const char *" else RUST[result])
@@ -152,13 +154,19 @@ C_FIELDS = {
     "[u32; 32]": "uint32_t X[HYSSOP_DEPTH];",
     "[usize; 32]": "size_t X[HYSSOP_DEPTH];",
 }
-for name, file in (("Structure", "structures"), ("Note", "notes"), ("ImageTable", "image"), ("State", "state")):
-    fields = re.findall(r"pub (\w+): ([^,]*),", re.search(rf"pub struct {name} {{(.*?)\n}}", read(f"{RUN}/{file}.rt"), re.S)[1])
+# A slice is a pointer and a size in C and in hyssop.rs.
+SLICE = {"&'a [u8]": (["const void *X;", "size_t size;"], [("X", "*const u8"), ("size", "usize")])}
+STRUCTS = [(name, f"{RUN}/{file}.rt") for name, file in
+           (("Structure", "structures"), ("Note", "notes"), ("ImageTable", "image"), ("State", "state"))]
+for name, path in [*STRUCTS, ("Range", "crates/acpi_layout/src/range.rt")]:
+    fields = re.findall(r"pub (\w+): ([^,]*),", re.search(rf"pub struct {name}(?:<'a>)? {{(.*?)\n}}", read(path), re.S)[1])
     in_c = f"struct hyssop_{constant(name).lower()}"
     body = re.search(rf"{in_c} {{\n(.*?)}};", header, re.S)[1]
-    if [re.sub(r" */\*.*\*/", "", line).strip() for line in body.splitlines()] != [C_FIELDS[kind].replace("X", it) for it, kind in fields]:
+    wanted = [one.replace("X", it) for it, kind in fields for one in SLICE.get(kind, ([C_FIELDS.get(kind)], []))[0]]
+    if [re.sub(r" */\*.*\*/", "", line).strip() for line in body.splitlines()] != wanted:
         differs(f"the fields of `{in_c}` in hyssop.h aren't {fields}")
-    if re.findall(r"pub (\w+): ([^,]*),", re.search(rf"pub struct {name} {{(.*?)\n}}", rust, re.S)[1]) != fields:
+    wanted = [(one.replace("X", it), its) for it, kind in fields for one, its in SLICE.get(kind, ([], [("X", kind)]))[1]]
+    if re.findall(r"pub (\w+): ([^,]*),", re.search(rf"pub struct {name} {{(.*?)\n}}", rust, re.S)[1]) != wanted:
         differs(f"the fields of `{name}` in hyssop.rs aren't {fields}")
 
 # A writer's depth, the operators by their opcodes, the types of memory, and what regions and fields may be.

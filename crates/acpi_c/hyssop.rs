@@ -5,7 +5,7 @@
 use std::ffi::{c_char, c_int};
 
 /// `hyssop_version()` returns this, if the library fits these declarations.
-pub const VERSION: u32 = 7;
+pub const VERSION: u32 = 8;
 
 /// The type of a structure, if the structures of its table have none.
 pub const NO_KIND: usize = usize::MAX;
@@ -28,6 +28,7 @@ pub mod fault {
     pub const COUNT: u32 = 20;
     pub const UNKNOWN_SOURCE: u32 = 21;
     pub const NO_BLOCK: u32 = 22;
+    pub const FURTHER_BLOCK: u32 = 23;
     pub const TRUNCATED: u32 = 32;
     pub const OPCODE: u32 = 33;
     pub const PKG_LENGTH: u32 = 34;
@@ -123,6 +124,15 @@ pub struct ImageTable {
     pub signature: [u8; 4],
 }
 
+/// A range of a guest's memory: the physical address of its first byte, its bytes, which aren't NULL, and their number.
+#[repr(C)]
+#[derive(Clone, Copy, Debug)]
+pub struct Range {
+    pub address: u64,
+    pub bytes: *const u8,
+    pub size: usize,
+}
+
 /// How many objects of a writer may be open at a time.
 pub const DEPTH: usize = 32;
 
@@ -187,6 +197,32 @@ unsafe extern "C" {
         size: *mut usize,
         place: *mut u64,
     ) -> u32;
+    pub fn hyssop_disassemble_among(
+        bytes: *const u8,
+        bytes_size: usize,
+        further: *const u8,
+        further_size: usize,
+        arities: *const u8,
+        arities_size: usize,
+        out: *mut u8,
+        out_size: usize,
+        size: *mut usize,
+        unread: *mut usize,
+        place: *mut u64,
+    ) -> u32;
+    pub fn hyssop_names_among(
+        bytes: *const u8,
+        bytes_size: usize,
+        further: *const u8,
+        further_size: usize,
+        arities: *const u8,
+        arities_size: usize,
+        out: *mut u8,
+        out_size: usize,
+        size: *mut usize,
+        unread: *mut usize,
+        place: *mut u64,
+    ) -> u32;
     pub fn hyssop_check_image(
         bytes: *const u8,
         bytes_size: usize,
@@ -198,6 +234,21 @@ unsafe extern "C" {
         bytes: *const u8,
         bytes_size: usize,
         base: u64,
+        rsdp: u64,
+        out: *mut ImageTable,
+        out_count: usize,
+        count: *mut usize,
+        place: *mut u64,
+    ) -> u32;
+    pub fn hyssop_check_memory(
+        ranges: *const Range,
+        ranges_count: usize,
+        rsdp: u64,
+        place: *mut u64,
+    ) -> u32;
+    pub fn hyssop_memory_tables(
+        ranges: *const Range,
+        ranges_count: usize,
         rsdp: u64,
         out: *mut ImageTable,
         out_count: usize,

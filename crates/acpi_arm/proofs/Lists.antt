@@ -6,11 +6,11 @@ use Rattle.std.proofs.lemmas.Bool.Decides.{nat_tests}
 use Rattle.acpi_base.specs.Bytes.{carried, le, zeros, field_at}
 use Rattle.acpi_base.proofs.Bytes.{carried_le}
 use Rattle.acpi_core.specs.Offset.{StandIn}
-use Rattle.acpi_arm.specs.Dbg2.{Device, sizes_at, name_at, oem_data_at, device_head, device_bytes}
+use Rattle.acpi_arm.specs.Dbg2.{sizes_at, name_at, oem_data_at, device_head, device_bytes}
 use Rattle.acpi_arm.specs.Gtdt.{gt_block_head, gt_block_bytes}
-use Rattle.acpi_arm.specs.IortNodes.{name_end, component_start, component_head, component_bytes, its_group_head, its_group_bytes, root_complex_head, root_complex_bytes}
-use Rattle.acpi_arm.specs.IortNodes.{pmcg_head, pmcg_bytes, reserved_memory_head, reserved_memory_bytes}
-use Rattle.acpi_arm.specs.IortSmmus.{monitors_at, smmu_mappings_at, smmu_head, smmu_bytes, smmu_v3_head, smmu_v3_bytes}
+use Rattle.acpi_arm.specs.IortNodes.{name_end, component_start, component_head, component_bytes, its_group_head, its_group_bytes, root_complex_head, earlier_root_complex_head}
+use Rattle.acpi_arm.specs.IortNodes.{pmcg_head, reserved_memory_head, reserved_memory_bytes}
+use Rattle.acpi_arm.specs.IortSmmus.{monitors_at, smmu_mappings_at, smmu_head, smmu_bytes, smmu_v3_head}
 use Rattle.acpi_arm.specs.Lists.{HasList, TimersAreRead, DevicesAreRead, ListsAreRead}
 use Rattle.acpi_arm.specs.Offsets.{offset_if}
 use Rattle.acpi_arm.specs.declared.iort.components.NamedComponent.{NamedComponent}
@@ -190,6 +190,10 @@ nodes = record {
   root_complex_mappings = λ c few. record {
     counted = carried_le 4 c.mappings.count few;
     stands = after_head (root_complex_head c) c.mappings.bytes c.mappings.count 40 refl (omega arith);
+  };
+  earlier_root_complex_mappings = λ c few. record {
+    counted = carried_le 4 c.root_complex.mappings.count few;
+    stands = after_head (earlier_root_complex_head c) c.root_complex.mappings.bytes c.root_complex.mappings.count 36 refl (omega arith);
   };
   contexts = λ s small few. contexts s few;
   monitors = monitors;

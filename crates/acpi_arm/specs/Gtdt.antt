@@ -1,10 +1,14 @@
 -- The Generic Timer Description Table (ACPI 6.5, 5.2.25).
-use Rattle.std.specs.Prelude.{ℕ, ◌+◌, List, [], ◌∷◌, ◌++◌, length, codes}
+use Rattle.std.specs.Prelude.{◌≡◌, ℕ, ◌+◌, List, [], ◌∷◌, ◌++◌, length, codes}
 use Rattle.acpi_base.specs.Fields.{NamedField, byte, word, dword, qword, hex, preset, flags, reserved, fields_joined}
 use Rattle.acpi_base.specs.Look.{Part, flag, choice, means}
+use Rattle.acpi_base.specs.FurtherWalk.{AreStructuresOf}
+use Rattle.acpi_base.specs.Table.{IsTrueTable}
 use Rattle.acpi_base.specs.declared.oem.Oem.{Oem}
 use Rattle.acpi_core.specs.Entries.{no_entries, with_entry}
 use Rattle.acpi_core.specs.Listing.{Listing, length_limit}
+use Rattle.acpi_fixed.specs.Sealed.{padded}
+use Rattle.acpi_arm.specs.declared.gtdt.EarlierGTDT.{EarlierGTDT}
 use Rattle.acpi_arm.specs.declared.gtdt.Timer.{Timer}
 use Rattle.acpi_arm.specs.declared.gtdt.Timers.{Timers}
 use Rattle.acpi_arm.specs.declared.gtdt.Interrupt.{Interrupt}
@@ -76,6 +80,21 @@ gtdt oem t = record {
   limit = length_limit;
   structures = [];
 }
+
+-- ---- the table of revision 2 (ACPI 6.2, 5.2.24)
+
+abbrev pub earlier_gtdt : Oem → Timers → EarlierGTDT
+earlier_gtdt oem t = record { oem = oem; timers = t }
+
+-- the timers, and after them 0 as Platform Timer Count (88) and as Platform Timer Offset (92)
+abbrev pub earlier_gtdt_bytes : EarlierGTDT → List ℕ
+earlier_gtdt_bytes t = padded 96 (codes "GTDT") 2 t.oem (fields_joined (timers_fields t.timers))
+
+-- Each table of this maker is correct, has 96 bytes, and no platform timers.
+abbrev pub EarlierGtdtsAreTrue : Oem → Type 0
+EarlierGtdtsAreTrue oem =
+    (t : EarlierGTDT) → t.oem ≡ oem
+    → IsTrueTable (earlier_gtdt_bytes t) × (length (earlier_gtdt_bytes t) ≡ 96) × AreStructuresOf (earlier_gtdt_bytes t) []
 
 -- ---- GT Block Structure (5.2.25.1)
 

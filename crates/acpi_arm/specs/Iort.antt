@@ -12,11 +12,11 @@ use Rattle.acpi_arm.specs.declared.iort.mapping.MemoryAccess.{MemoryAccess}
 use Rattle.acpi_arm.specs.declared.iort.mapping.Output.{Output}
 use Rattle.acpi_arm.specs.declared.iort.mapping.Output.TheVariants as outputs
 
--- A table without nodes. At offset 36: the number of nodes, of four bytes.
-abbrev pub iort : Oem → Listing
-iort oem = record {
+-- A table of a revision without nodes. At offset 36: the number of nodes, of four bytes.
+abbrev pub iort_of : ℕ → Oem → Listing
+iort_of revision oem = record {
   signature = codes "IORT";
-  revision = 5;
+  revision = revision;
   oem = oem;
   before = [];
   count_width = 4;
@@ -24,6 +24,10 @@ iort oem = record {
   limit = length_limit;
   structures = [];
 }
+
+-- that of the revision of `new`
+abbrev pub iort : Oem → Listing
+iort oem = iort_of 5 oem
 
 -- A list of a node has one more entry, which makes the node `more`. Or the call failed, and the node is unchanged. The error is
 -- `FieldWidth` if there were as many entries as a node can have.

@@ -9,6 +9,7 @@ use Rattle.acpi_core.specs.Entries.{no_entries}
 use Rattle.acpi_arm.specs.Offsets.{offset_if}
 use Rattle.acpi_arm.specs.declared.iort.components.NamedComponent.{NamedComponent}
 use Rattle.acpi_arm.specs.declared.iort.components.RootComplex.{RootComplex}
+use Rattle.acpi_arm.specs.declared.iort.components.EarlierRootComplex.{EarlierRootComplex}
 use Rattle.acpi_arm.specs.declared.iort.its.ItsGroup.{ItsGroup}
 use Rattle.acpi_arm.specs.declared.iort.monitor.Monitored.{Monitored}
 use Rattle.acpi_arm.specs.declared.iort.monitor.Monitored.TheVariants as monitored
@@ -165,6 +166,34 @@ root_complex_head c = fields_joined (root_complex_head_fields c)
 
 abbrev pub root_complex_bytes : RootComplex → List ℕ
 root_complex_bytes c = root_complex_head c ++ c.mappings.bytes  -- 40: ID mappings
+
+-- that of node revision 3 (DEN0049E.b), with this identifier
+abbrev pub earlier_root_complex : ℕ → RootComplex → EarlierRootComplex
+earlier_root_complex identifier c = record { root_complex = record c { identifier = identifier } }
+
+abbrev pub earlier_root_complex_head_fields : EarlierRootComplex → List NamedField
+earlier_root_complex_head_fields c =
+    preset byte "Type" 2  -- 0
+    ∷ word "Length" (36 + length c.root_complex.mappings.bytes)  -- 1
+    ∷ preset byte "Revision" 3  -- 3
+    ∷ hex dword "Identifier" c.root_complex.identifier  -- 4
+    ∷ dword "Number of ID Mappings" c.root_complex.mappings.count  -- 8
+    ∷ dword "Reference to ID Array" (offset_if c.root_complex.mappings.count 36)  -- 12
+    ∷ one_of coherent_words dword "Cache Coherent Attribute" c.root_complex.access.cache_coherent  -- 16
+    ∷ flags hint_bits byte "Allocation Hints" c.root_complex.access.hints  -- 20
+    ∷ reserved 2  -- 21
+    ∷ flags access_bits byte "Memory Access Flags" c.root_complex.access.flags  -- 23
+    ∷ flags ats_bits dword "ATS Attribute" c.root_complex.ats_attribute  -- 24
+    ∷ dword "PCI Segment Number" c.root_complex.segment  -- 28
+    ∷ byte "Memory Address Size Limit" c.root_complex.address_size_limit  -- 32
+    ∷ reserved 3  -- 33
+    ∷ []
+
+abbrev pub earlier_root_complex_head : EarlierRootComplex → List ℕ
+earlier_root_complex_head c = fields_joined (earlier_root_complex_head_fields c)
+
+abbrev pub earlier_root_complex_bytes : EarlierRootComplex → List ℕ
+earlier_root_complex_bytes c = earlier_root_complex_head c ++ c.root_complex.mappings.bytes  -- 36: ID mappings
 
 -- ---- Performance Monitoring Counter Group (PMCG)
 

@@ -5,10 +5,12 @@ use Rattle.acpi_core.specs.Offset.{StandIn}
 use Rattle.acpi_arm.specs.Dbg2.{Device, device_bytes}
 use Rattle.acpi_arm.specs.Gtdt.{gt_block_bytes}
 use Rattle.acpi_arm.specs.IortNodes.{its_group_bytes, component_bytes, root_complex_bytes, pmcg_bytes, reserved_memory_bytes}
+use Rattle.acpi_arm.specs.IortNodes.{earlier_root_complex_bytes}
 use Rattle.acpi_arm.specs.IortSmmus.{smmu_bytes, smmu_v3_bytes}
 use Rattle.acpi_arm.specs.declared.gtdt.GtBlock.{GtBlock}
 use Rattle.acpi_arm.specs.declared.iort.components.NamedComponent.{NamedComponent}
 use Rattle.acpi_arm.specs.declared.iort.components.RootComplex.{RootComplex}
+use Rattle.acpi_arm.specs.declared.iort.components.EarlierRootComplex.{EarlierRootComplex}
 use Rattle.acpi_arm.specs.declared.iort.its.ItsGroup.{ItsGroup}
 use Rattle.acpi_arm.specs.declared.iort.monitor.Pmcg.{Pmcg}
 use Rattle.acpi_arm.specs.declared.iort.regions.ReservedMemory.{ReservedMemory}
@@ -47,6 +49,8 @@ pub record ListsAreRead : Type 0 where
       → HasList (component_bytes c) 8 4 c.mappings.count 12 4 c.mappings.bytes
   pub root_complex_mappings : (c : RootComplex) → c.mappings.count < 2 ^ 32
       → HasList (root_complex_bytes c) 8 4 c.mappings.count 12 4 c.mappings.bytes
+  pub earlier_root_complex_mappings : (c : EarlierRootComplex) → c.root_complex.mappings.count < 2 ^ 32
+      → HasList (earlier_root_complex_bytes c) 8 4 c.root_complex.mappings.count 12 4 c.root_complex.mappings.bytes
   pub contexts : (s : Smmu) → length (smmu_bytes s) < 2 ^ 16 → s.contexts.count < 2 ^ 32
       → HasList (smmu_bytes s) 44 4 s.contexts.count 48 4 s.contexts.bytes
   pub monitors : (s : Smmu) → length (smmu_bytes s) < 2 ^ 16 → s.monitors.count < 2 ^ 32

@@ -12,6 +12,7 @@ ghost use Rattle.acpi_core.specs.Walk.{IsWalked, Keeps};
 ghost use Rattle.acpi_arm.specs.Lists.{TimersAreRead};
 ghost use Rattle.acpi_arm.specs.declared.gtdt.GtBlock.{GtBlock};
 ghost use Rattle.acpi_arm.specs.declared.gtdt.Timers.{Timers};
+ghost use Rattle.acpi_arm.specs.Gtdt.{earlier_gtdt, earlier_gtdt_bytes, EarlierGtdtsAreTrue};
 ghost use Rattle.acpi_arm.specs.Gtdt.{gtdt, timer, timers, timers_fields, last_fields, interrupt};
 ghost use Rattle.acpi_arm.specs.Gtdt.{gt_block_timer, gt_block_timer_fields, gt_block_timer_bytes};
 ghost use Rattle.acpi_arm.specs.Gtdt.{gt_block, with_timer, gt_block_head_fields, gt_block_head, gt_block_bytes};
@@ -28,6 +29,7 @@ use acpi_core::form::Form;
 use acpi_core::kind::Kind;
 use acpi_core::table::Table;
 use acpi_core::walked::{Walked, is_walked};
+use acpi_fixed::sealed::write_padded;
 use std::alloc::Global;
 
 /// The Generic Timer Description Table (ACPI 6.5, 5.2.25), revision 3: the timers of each processor, and platform timers. Their
@@ -116,6 +118,46 @@ pub fn gtdt_is_walked(table: &GTDT)
 {
     is_walked(&table.table)
 }
+
+/// The Generic Timer Description Table of revision 2 (ACPI 5.1 to 6.2), without platform timers: 96 bytes. Their number and the
+/// offset of the first (offsets 88 and 92) are 0.
+#[derive(Drop)]
+pub struct EarlierGTDT {
+    oem: Oem,
+    timers: Timers,
+}
+
+impl EarlierGTDT {
+    /// A table of these timers but the virtual timer of EL2, which revision 2 doesn't have.
+    pub fn new(
+        oem_id: [u8; 6],
+        oem_table_id: [u8; 8],
+        oem_revision: u32,
+        timers: Timers,
+    ) -> EarlierGTDT
+        ensures { result ≡ earlier_gtdt (record { id = oem_id; table_id = oem_table_id; revision = oem_revision }) timers }
+    {
+        EarlierGTDT {
+            oem: Oem::new(oem_id, oem_table_id, oem_revision),
+            timers,
+        }
+    }
+}
+
+impl Aml for EarlierGTDT {
+    ghost object = { λ t. whole (earlier_gtdt_bytes t) };
+
+    ghost ends_well = { λ t. whole_ends_well (earlier_gtdt_bytes t) };
+
+    fn to_aml_bytes(&self, sink: &mut dyn AmlSink) -> R<()> {
+        write_padded::<96>(*b"GTDT", 2, self.oem, &self.timers.first(), sink)
+    }
+}
+
+/// A law: a table of revision 2 of this maker contains its length, sums to zero, and has no platform timers, for all timers.
+pub fn earlier_gtdts_are_true(oem: Oem)
+    ensures { EarlierGtdtsAreTrue oem }
+{}
 
 /// A law: the bytes of a block of timers contain their number and their offset, and have them there.
 pub fn gtdt_timers_are_read()

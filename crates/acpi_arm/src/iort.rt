@@ -1,6 +1,6 @@
 //! IORT: how the ids of devices reach SMMUs and interrupt translation services.
 
-ghost use Rattle.std.specs.Prelude.{◌≡◌, false, true, length};
+ghost use Rattle.std.specs.Prelude.{◌≡◌, ℕ, false, true, length};
 ghost use Rattle.acpi_base.specs.Object.{whole, whole_ends_well};
 ghost use Rattle.acpi_base.specs.FurtherWalk.{iort_walk};
 ghost use Rattle.acpi_base.specs.declared.oem.Oem.{Oem};
@@ -9,9 +9,10 @@ ghost use Rattle.acpi_core.specs.Calls.{IsAfterItsCalls};
 ghost use Rattle.acpi_core.specs.Listing.{bytes_of, length_limit};
 ghost use Rattle.acpi_core.specs.Structure.{structure_of};
 ghost use Rattle.acpi_core.specs.Walk.{IsWalked, Keeps};
-ghost use Rattle.acpi_arm.specs.Iort.{iort};
+ghost use Rattle.acpi_arm.specs.Iort.{iort, iort_of};
 ghost use Rattle.acpi_arm.specs.IortLaws.{NodesTellKinds, NodesStand, IdentifiersAreRead, ReferencesAreRead};
 ghost use Rattle.acpi_arm.specs.IortNodes.{its_group_bytes, component_bytes, root_complex_bytes, pmcg_bytes};
+ghost use Rattle.acpi_arm.specs.IortNodes.{earlier_root_complex, earlier_root_complex_bytes};
 ghost use Rattle.acpi_arm.specs.IortNodes.{reserved_memory_bytes};
 ghost use Rattle.acpi_arm.specs.IortSmmus.{smmu_bytes, smmu_v3_bytes};
 ghost use Rattle.acpi_arm.specs.Lists.{ListsAreRead};
@@ -33,8 +34,9 @@ use acpi_core::kind::Kind;
 use acpi_core::table::Table;
 use acpi_core::walked::{Walked, is_walked};
 pub use components::{
-    NAMED_COMPONENT, NamedComponent, ROOT_COMPLEX, ROOT_COMPLEX_PASID, RootComplex,
-    named_component_rows, root_complex_rows,
+    EARLIER_ROOT_COMPLEX, EarlierRootComplex, NAMED_COMPONENT, NamedComponent, ROOT_COMPLEX,
+    ROOT_COMPLEX_PASID, RootComplex, earlier_root_complex_rows, named_component_rows,
+    root_complex_rows,
 };
 pub use its::{ITS_GROUP, ItsGroup, its_group_rows};
 pub use mapping::{ID_MAPPING, IdMapping, MemoryAccess, Output};
@@ -99,8 +101,23 @@ impl IORT {
     pub fn new(alloc: Global, oem_id: [u8; 6], oem_table_id: [u8; 8], oem_revision: u32) -> IORT
         ensures { result.table.table ≡ iort (record { id = oem_id; table_id = oem_table_id; revision = oem_revision }) }
     {
+        IORT::of_revision(alloc, 5, oem_id, oem_table_id, oem_revision)
+    }
+
+    /// A table of a revision without nodes. Revision 3 is that of DEN0049E.b. Nodes have revisions of their own, which this
+    /// doesn't change.
+    pub fn of_revision(
+        alloc: Global,
+        revision: u8,
+        oem_id: [u8; 6],
+        oem_table_id: [u8; 8],
+        oem_revision: u32,
+    ) -> IORT
+        ensures { result.table.table
+            ≡ iort_of revision (record { id = oem_id; table_id = oem_table_id; revision = oem_revision }) }
+    {
         let oem = Oem::new(oem_id, oem_table_id, oem_revision);
-        let form = Form::new(*b"IORT", 5, oem, 4);
+        let form = Form::new(*b"IORT", revision, oem, 4);
         IORT {
             table: Walked::of(Table::new(alloc, form, &[], &[48, 0, 0, 0, 0, 0, 0, 0])),
         }
@@ -135,6 +152,17 @@ impl IORT {
     {
         root_complex.identifier = self.table.count();
         Ok(Handle::at(self.table.add_object_at(&root_complex)?))
+    }
+
+    /// Adds a root complex in the form of node revision 3, and returns its handle. The error is `FieldWidth` if the table's
+    /// length would reach 2^32.
+    pub fn add_earlier_root_complex(&mut self, mut node: EarlierRootComplex) -> R<RootComplexHandle>
+        ensures { AddsAt result self.old.table
+            (whole (earlier_root_complex_bytes
+            (earlier_root_complex (length self.old.table.table.structures) node.root_complex))) self.new.table }
+    {
+        node.root_complex.identifier = self.table.count();
+        Ok(Handle::at(self.table.add_object_at(&node)?))
     }
 
     /// Adds an SMMUv1 or SMMUv2, and returns its handle. The error is `FieldWidth` if the node would have more than 65,535 bytes,
@@ -198,7 +226,7 @@ impl IORT {
 pub fn iort_is_walked(table: &IORT)
     ensures keeps { Keeps false iort_walk length_limit true table.now.table.table }
     ensures walked { IsWalked false iort_walk table.now.table.table }
-    ensures calls { (oem : Oem) → IsAfterItsCalls false iort_walk (iort oem) table.now.table }
+    ensures calls { (revision : ℕ) (oem : Oem) → IsAfterItsCalls false iort_walk (iort_of revision oem) table.now.table }
     ensures nodes { NodesStand table.now.table.table }
 {
     is_walked(&table.table)

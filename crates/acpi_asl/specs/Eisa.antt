@@ -24,3 +24,7 @@ id_text n = letters n ++ digits_of 2 n
 
 abbrev pub eisa_text : ℕ → List ℕ
 eisa_text value = codes "EisaId (\"" ++ id_text (swap_bytes w32 value) ++ codes "\")"
+
+-- an id as a string of JSON
+unfoldable pub json_eisa : ℕ → List ℕ
+json_eisa value = codes "\"" ++ id_text (swap_bytes w32 value) ++ codes "\""

@@ -13,4 +13,5 @@ pub mod Unread
 pub mod Special
 pub mod Asl
 pub mod Namespace
+pub mod Objects
 pub mod Block

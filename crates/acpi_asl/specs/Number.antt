@@ -1,6 +1,7 @@
 -- Numbers and strings of ASL (ACPI 6.5, 19.2.4 and 19.3.2).
 use Rattle.std.specs.Prelude.{ℕ, zero, suc, ◌+◌, ◌/◌, ◌%◌, ◌^◌, nat_lt, nat_le, ◌==◌, ◌&&◌, ◌||◌, if◌then◌else◌}
 use Rattle.std.specs.Prelude.{List, [], ◌∷◌, ◌++◌, codes}
+use Rattle.std.specs.Fmt.{decimal}
 
 -- a hexadecimal digit, in upper case
 abbrev pub upper_digit : ℕ → ℕ
@@ -31,16 +32,28 @@ least_bytes v = if nat_lt v (2 ^ 8) then 1 else (if nat_lt v (2 ^ 16) then 2 els
 abbrev pub short_hex : ℕ → List ℕ
 short_hex v = hex (least_bytes v) v
 
--- A byte of a string: `"` and `\` have a `\` before them, and a byte that isn't printable is `\x` and two digits.
-abbrev pub string_byte : ℕ → List ℕ
-string_byte b =
+-- A byte of a string: `"` and `\` have a `\` before them, and a byte that isn't printable is an escape and two digits.
+abbrev pub string_byte : List ℕ → ℕ → List ℕ
+string_byte escape b =
     if b == 34 || b == 92 then 92 ∷ b ∷ []
-    else (if nat_le 32 b && nat_le b 126 then b ∷ [] else 92 ∷ 120 ∷ upper_byte b)
+    else (if nat_le 32 b && nat_le b 126 then b ∷ [] else escape ++ upper_byte b)
 
-abbrev pub string_bytes_text : List ℕ → List ℕ
-string_bytes_text [] = []
-string_bytes_text (b ∷ bytes) = string_byte b ++ string_bytes_text bytes
+abbrev pub string_bytes_text : List ℕ → List ℕ → List ℕ
+string_bytes_text escape [] = []
+string_bytes_text escape (b ∷ bytes) = string_byte escape b ++ string_bytes_text escape bytes
 
 -- a string between quotation marks
+abbrev pub quoted : List ℕ → List ℕ → List ℕ
+quoted escape bytes = codes "\"" ++ string_bytes_text escape bytes ++ codes "\""
+
+-- a string of ASL
 abbrev pub string_text : List ℕ → List ℕ
-string_text bytes = codes "\"" ++ string_bytes_text bytes ++ codes "\""
+string_text bytes = quoted (codes "\\x") bytes
+
+-- a string of JSON, in which each byte is the character that has its number (RFC 8259, section 7)
+unfoldable pub json_string : List ℕ → List ℕ
+json_string bytes = quoted (codes "\\u00") bytes
+
+-- a number of JSON, or if it is above 2^53, on which readers of JSON don't agree, a string with its hexadecimal digits
+unfoldable pub json_number : ℕ → List ℕ
+json_number v = if nat_le v (2 ^ 53) then decimal v else (codes "\"0x" ++ digits_of 8 v ++ codes "\"")

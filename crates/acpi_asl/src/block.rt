@@ -8,12 +8,13 @@ ghost use Rattle.acpi_asl.specs.Block.{begins_block, has_terms, block_text, IsBl
 
 use crate::asl::asl_of;
 use crate::namespace::namespace_of;
+use crate::objects::objects_of;
 use acpi_read::terms::in_part::terms_in_part;
 use acpi_read::terms::standard_terms;
 use acpi_term::name_string::Arities;
 use acpi_term::read_error::ReadError;
 use acpi_term::term::Term;
-use acpi_terms_text::objects::{Object, own_arities, own_arities_in_part};
+use acpi_terms_text::objects::{Object, own_arities};
 use acpi_terms_text::scoped::in_scopes;
 use std::alloc::{AllocError, Global};
 
@@ -27,6 +28,8 @@ pub enum BlockText {
     Asl,
     /// The objects that it makes when it is loaded.
     Names,
+    /// The same as JSON.
+    Objects,
 }
 
 // Returns whether bytes begin with the signature of a definition block.
@@ -59,6 +62,7 @@ fn text_of_terms(
     match block {
         BlockText::Asl => asl_of(alloc, header, terms),
         BlockText::Names => namespace_of(alloc, terms),
+        BlockText::Objects => objects_of(alloc, header, terms),
     }
 }
 
@@ -116,7 +120,7 @@ pub fn text_in_part(
     ensures { IfOk result (λ text. IsTextInPart block stated.now (map callee_by further.now) bytes.now (string_bytes text)) }
 {
     let (_, body) = bytes.split_at(BODY);
-    let own = own_arities_in_part(alloc, body, stated, further)?;
+    let own = own_arities(alloc, body, stated, further)?;
     let whole = terms_in_part(body, &own)?;
     let terms = in_scopes(alloc, stated, further, &own, whole)?;
     text_of_terms(alloc, block, bytes, &terms)

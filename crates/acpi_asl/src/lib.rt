@@ -13,6 +13,7 @@ mod macros;
 mod name;
 pub mod namespace;
 mod number;
+pub mod objects;
 mod opening;
 pub mod place;
 mod row;

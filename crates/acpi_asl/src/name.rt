@@ -117,8 +117,8 @@ pub fn push_segments(follows: bool, segments: &[u8], text: &mut String) -> Resul
     Ok(())
 }
 
-// The segments of a path, without the prefix that counts them. A null path has none.
-fn segments_of(path: &[u8]) -> &[u8]
+/// The segments of a path, without the prefix that counts them. A null path has none.
+pub fn segments_of(path: &[u8]) -> &[u8]
     ensures { result.now ≡ segments_of path.now }
 {
     match path {

@@ -132,8 +132,8 @@ fn push_method(
 
 // ---- the value of a name
 
-// Returns whether the value of a name can be an EISA id (ACPI 6.5, 6.1.2 and 6.1.5).
-fn has_id(name: &NameString) -> bool
+/// Returns whether the value of a name can be an EISA id (ACPI 6.5, 6.1.2 and 6.1.5).
+pub(crate) fn has_id(name: &NameString) -> bool
     ensures { result ≡ has_id name.now }
 {
     let bytes = name.as_bytes();
@@ -224,7 +224,8 @@ fn push_named_value(
 
 // ---- the name that an operator makes
 
-fn made_by(op: Op) -> Option<&'static str>
+/// Returns the word of an operator that makes a name.
+pub(crate) fn made_by(op: Op) -> Option<&'static str>
     ensures { option_map (λ word. word.now) result ≡ made_by op }
 {
     match op {
@@ -260,9 +261,9 @@ fn last_name<'a>(found: Option<&'a NameString>, operands: &'a [Term]) -> Option<
     last
 }
 
-// Returns the name of the last of operands in two lists.
+/// Returns the name of the last of operands in two lists.
 #[tactic(auto, using(crate::proofs::Namespaces::last_of_both))]
-fn last_operand<'a>(first: &'a [Term], others: &'a [Term]) -> Option<&'a NameString>
+pub(crate) fn last_operand<'a>(first: &'a [Term], others: &'a [Term]) -> Option<&'a NameString>
     ensures { option_map (λ name. name.now) result ≡ last_name None (views (first.now ++ others.now)) }
 {
     last_name(last_name(None, first), others)
@@ -317,8 +318,8 @@ fn push_lines(
     }
 }
 
-// Returns whether terms inside a term make names when the block is loaded.
-fn has_inside(kind: Kind<'_>) -> bool
+/// Returns whether terms inside a term make names when the block is loaded.
+pub(crate) fn has_inside(kind: Kind<'_>) -> bool
     ensures { result ≡ has_inside (head_of kind.entry) }
 {
     match kind {

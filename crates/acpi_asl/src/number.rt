@@ -1,9 +1,9 @@
 //! Numbers and strings of ASL (ACPI 6.5, 19.2.4 and 19.3.2). A function whose name begins with `push` adds to a text.
 
-ghost use Rattle.std.specs.Prelude.{◌≡◌, ◌<◌, ◌++◌, ◌∷◌, [], OnOk, string_bytes};
+ghost use Rattle.std.specs.Prelude.{◌≡◌, ◌<◌, ◌++◌, ◌∷◌, [], OnOk, string_bytes, codes};
 ghost use Rattle.std.specs.Fmt.{decimal};
 ghost use Rattle.acpi_asl.specs.Number.{upper_digit, upper_byte, digits_of, hex, number_text, least_bytes, short_hex};
-ghost use Rattle.acpi_asl.specs.Number.{string_byte, string_bytes_text, string_text};
+ghost use Rattle.acpi_asl.specs.Number.{string_byte, string_bytes_text, quoted, string_text, json_string, json_number};
 
 use std::alloc::AllocError;
 
@@ -87,39 +87,76 @@ pub fn push_decimal(n: u64, text: &mut String) -> Result<(), AllocError>
     write!(text, "{n}")
 }
 
-fn push_escaped(byte: u8, text: &mut String) -> Result<(), AllocError>
-    ensures { OnOk result (string_bytes text.new ≡ string_bytes text.old ++ 92 ∷ 120 ∷ upper_byte byte) }
+#[tactic(auto, using(acpi_read::proofs::Texts::after_two))]
+fn push_escaped(escape: &str, byte: u8, text: &mut String) -> Result<(), AllocError>
+    ensures { OnOk result (string_bytes text.new ≡ string_bytes text.old ++ (escape.now ++ upper_byte byte)) }
 {
-    text.push_str("\\x")?;
+    text.push_str(escape)?;
     push_upper_byte(byte, text)
 }
 
-fn push_string_byte(byte: u8, text: &mut String) -> Result<(), AllocError>
-    ensures { OnOk result (string_bytes text.new ≡ string_bytes text.old ++ string_byte byte) }
+fn push_string_byte(escape: &str, byte: u8, text: &mut String) -> Result<(), AllocError>
+    ensures { OnOk result (string_bytes text.new ≡ string_bytes text.old ++ string_byte escape.now byte) }
 {
     match byte {
         b'"' => text.push_str("\\\""),
         b'\\' => text.push_str("\\\\"),
         0x20..=0x7e => text.push(byte as char),
-        _ => push_escaped(byte, text),
+        _ => push_escaped(escape, byte, text),
     }
 }
 
-fn push_string_bytes(bytes: &[u8], text: &mut String) -> Result<(), AllocError>
-    ensures { OnOk result (string_bytes text.new ≡ string_bytes text.old ++ string_bytes_text bytes.now) }
+fn push_string_bytes(escape: &str, bytes: &[u8], text: &mut String) -> Result<(), AllocError>
+    ensures { OnOk result (string_bytes text.new ≡ string_bytes text.old ++ string_bytes_text escape.now bytes.now) }
 {
     for byte in bytes {
-        push_string_byte(*byte, text)?;
+        push_string_byte(escape, *byte, text)?;
     }
     Ok(())
 }
 
-/// Adds a string between quotation marks.
+// Adds a string between quotation marks.
 #[tactic(auto, using(acpi_read::proofs::Texts::after_three))]
+fn push_quoted(escape: &str, bytes: &[u8], text: &mut String) -> Result<(), AllocError>
+    ensures { OnOk result (string_bytes text.new ≡ string_bytes text.old ++ quoted escape.now bytes.now) }
+{
+    text.push_str("\"")?;
+    push_string_bytes(escape, bytes, text)?;
+    text.push_str("\"")
+}
+
+/// Adds a string of ASL.
 pub fn push_string(bytes: &[u8], text: &mut String) -> Result<(), AllocError>
     ensures { OnOk result (string_bytes text.new ≡ string_bytes text.old ++ string_text bytes.now) }
 {
-    text.push_str("\"")?;
-    push_string_bytes(bytes, text)?;
+    push_quoted("\\x", bytes, text)
+}
+
+/// Adds a string of JSON.
+#[tactic(auto, unfolding(crate::specs::Number::json_string))]
+pub fn push_json_string(bytes: &[u8], text: &mut String) -> Result<(), AllocError>
+    ensures { OnOk result (string_bytes text.new ≡ string_bytes text.old ++ json_string bytes.now) }
+{
+    push_quoted("\\u00", bytes, text)
+}
+
+// Adds a number as a string of JSON.
+#[tactic(auto, using(acpi_read::proofs::Texts::after_three))]
+fn push_json_digits(value: u64, text: &mut String) -> Result<(), AllocError>
+    ensures { OnOk result (string_bytes text.new ≡ string_bytes text.old ++ (codes "\"0x" ++ digits_of 8 value ++ codes "\"")) }
+{
+    text.push_str("\"0x")?;
+    push_digits(8, value, text)?;
     text.push_str("\"")
+}
+
+/// Adds a number of JSON.
+#[tactic(auto, unfolding(crate::specs::Number::json_number))]
+pub fn push_json_number(value: u64, text: &mut String) -> Result<(), AllocError>
+    ensures { OnOk result (string_bytes text.new ≡ string_bytes text.old ++ json_number value) }
+{
+    if value <= 0x20_0000_0000_0000 {
+        return push_decimal(value, text);
+    }
+    push_json_digits(value, text)
 }

@@ -10,11 +10,13 @@ static union {
     struct hyssop_structure structure;
     struct hyssop_note note;
     struct hyssop_image_table table;
+    struct hyssop_range range;
 } nothing;
 
 /* Results that a caller doesn't ask for. */
 struct unwanted {
     size_t size;
+    size_t unread;
     uint64_t place;
 };
 
@@ -36,6 +38,10 @@ static size_t *size_or(size_t *size, struct unwanted *unwanted) {
 
 static uint64_t *place_or(uint64_t *place, struct unwanted *unwanted) {
     return place == NULL ? &unwanted->place : place;
+}
+
+static size_t *unread_or(size_t *unread, struct unwanted *unwanted) {
+    return unread == NULL ? &unwanted->unread : unread;
 }
 
 /* The fault of a NULL whose size isn't 0. */
@@ -115,6 +121,32 @@ enum hyssop_fault hyssop_names(const void *bytes, size_t bytes_size, const char 
                                                   size_or(size, &unwanted), place_or(place, &unwanted));
 }
 
+enum hyssop_fault hyssop_disassemble_among(const void *bytes, size_t bytes_size, const void *further, size_t further_size,
+                                           const char *arities, size_t arities_size, char *out, size_t out_size, size_t *size,
+                                           size_t *unread, uint64_t *place) {
+    struct unwanted unwanted;
+    unread = unread_or(unread, &unwanted);
+    *unread = 0;
+    if (is_null(bytes, bytes_size) || is_null(further, further_size) || is_null(arities, arities_size) || is_null(out, out_size))
+        return null(size, place);
+    return (enum hyssop_fault)hyssop_export_disassemble_among(input(bytes), bytes_size, input(further), further_size,
+                                                              input(arities), arities_size, output(out), out_size,
+                                                              size_or(size, &unwanted), unread, place_or(place, &unwanted));
+}
+
+enum hyssop_fault hyssop_names_among(const void *bytes, size_t bytes_size, const void *further, size_t further_size,
+                                     const char *arities, size_t arities_size, char *out, size_t out_size, size_t *size,
+                                     size_t *unread, uint64_t *place) {
+    struct unwanted unwanted;
+    unread = unread_or(unread, &unwanted);
+    *unread = 0;
+    if (is_null(bytes, bytes_size) || is_null(further, further_size) || is_null(arities, arities_size) || is_null(out, out_size))
+        return null(size, place);
+    return (enum hyssop_fault)hyssop_export_names_among(input(bytes), bytes_size, input(further), further_size, input(arities),
+                                                        arities_size, output(out), out_size, size_or(size, &unwanted), unread,
+                                                        place_or(place, &unwanted));
+}
+
 enum hyssop_fault hyssop_check_image(const void *bytes, size_t bytes_size, uint64_t base, uint64_t rsdp, uint64_t *place) {
     struct unwanted unwanted;
     if (is_null(bytes, bytes_size))
@@ -129,6 +161,33 @@ enum hyssop_fault hyssop_image_tables(const void *bytes, size_t bytes_size, uint
         return null(count, place);
     return (enum hyssop_fault)hyssop_export_image_tables(input(bytes), bytes_size, base, rsdp, output(out), out_count,
                                                          size_or(count, &unwanted), place_or(place, &unwanted));
+}
+
+/* Whether an array of ranges is NULL, or the bytes of one. */
+static int are_null(const struct hyssop_range *ranges, size_t count) {
+    size_t i = 0;
+    if (is_null(ranges, count))
+        return 1;
+    for (i = 0; i < count; i++)
+        if (ranges[i].bytes == NULL)
+            return 1;
+    return 0;
+}
+
+enum hyssop_fault hyssop_check_memory(const struct hyssop_range *ranges, size_t ranges_count, uint64_t rsdp, uint64_t *place) {
+    struct unwanted unwanted;
+    if (are_null(ranges, ranges_count))
+        return null(NULL, place);
+    return (enum hyssop_fault)hyssop_export_check_memory(input(ranges), ranges_count, rsdp, place_or(place, &unwanted));
+}
+
+enum hyssop_fault hyssop_memory_tables(const struct hyssop_range *ranges, size_t ranges_count, uint64_t rsdp,
+                                       struct hyssop_image_table *out, size_t out_count, size_t *count, uint64_t *place) {
+    struct unwanted unwanted;
+    if (are_null(ranges, ranges_count) || is_null(out, out_count))
+        return null(count, place);
+    return (enum hyssop_fault)hyssop_export_memory_tables(input(ranges), ranges_count, rsdp, output(out), out_count,
+                                                          size_or(count, &unwanted), place_or(place, &unwanted));
 }
 
 enum hyssop_fault hyssop_find_rsdp(const void *bytes, size_t bytes_size, size_t *offset) {

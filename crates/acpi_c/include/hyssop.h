@@ -3,12 +3,13 @@
    A function returns HYSSOP_FINE, or the fault that it found. The numbers of faults never change. What a caller owes:
 
    - A pointer whose size isn't 0 is valid for that size and aligned for its type. The size counts bytes, and elements where its
-     name is `out_count`. NULL is allowed with a size of 0, and for `size`, `count` and `place`, which are then not written.
+     name ends with `count`. NULL is allowed with a size of 0, but not in a range, and for `size`, `count`, `place` and the like,
+     which are then not written.
    - Memory that is written overlaps no other argument. During the call no other thread uses it, and none writes to what is read.
    - malloc, realloc and free are those of one allocator, and align a block as C says. No call is made from a signal handler, or
      from the forked child of a process with threads.
-   - The stack has 512 KiB for hyssop_check_aml, 2 MiB for hyssop_disassemble and hyssop_names, and 128 KiB for every other
-     function.
+   - The stack has 512 KiB for hyssop_check_aml, 2 MiB for hyssop_disassemble, hyssop_names, hyssop_disassemble_among and
+     hyssop_names_among, and 128 KiB for every other function.
 
    Nothing is kept between calls, and several threads may call at once. What is found is written to the front of `out`, and *size
    or *count is how much that is. Texts have no zero at their end. If it is more than fits, the result is HYSSOP_FAULT_BUFFER, and
@@ -32,7 +33,7 @@ extern "C" {
 #endif
 
 /* hyssop_version() returns this, if the library fits this header. It grows when a function or a fault changes. */
-#define HYSSOP_VERSION 7
+#define HYSSOP_VERSION 8
 
 /* The type of a structure, if the structures of its table have none. */
 #define HYSSOP_NO_KIND SIZE_MAX
@@ -52,6 +53,7 @@ enum hyssop_fault {
     HYSSOP_FAULT_COUNT = 20, /* a count isn't the number of what it counts */
     HYSSOP_FAULT_UNKNOWN_SOURCE = 21, /* the size of an error source isn't known */
     HYSSOP_FAULT_NO_BLOCK = 22, /* the signature isn't that of a definition block */
+    HYSSOP_FAULT_FURTHER_BLOCK = 23, /* a further block isn't a whole definition block */
     HYSSOP_FAULT_TRUNCATED = 32, /* the bytes end within a term */
     HYSSOP_FAULT_OPCODE = 33, /* no term begins so */
     HYSSOP_FAULT_PKG_LENGTH = 34, /* a PkgLength doesn't fit what surrounds it */
@@ -139,6 +141,13 @@ struct hyssop_image_table {
     uint64_t address;
     uint32_t length;
     uint8_t signature[4];
+};
+
+/* A range of a guest's memory: the physical address of its first byte, its bytes, which aren't NULL, and their number. */
+struct hyssop_range {
+    uint64_t address;
+    const void *bytes;
+    size_t size;
 };
 
 /* How many objects of a writer may be open at a time. */
@@ -250,6 +259,20 @@ HYSSOP_RESULT enum hyssop_fault hyssop_disassemble(const void *bytes, size_t byt
 HYSSOP_RESULT enum hyssop_fault hyssop_names(const void *bytes, size_t bytes_size, const char *arities, size_t arities_size,
                                              char *out, size_t out_size, size_t *size, uint64_t *place);
 
+/* Writes the ASL of a definition block as hyssop_disassemble, but among the blocks in `further`, which have the same namespace
+   (5.3). They lie one after another, each as long as its length says: calls have the numbers of arguments that they state, too. A
+   block of which not all terms can be read has a text, too, with the others as comments. *unread is then the offset at which a term
+   can't be read, and 0 if all are read. *place is an offset in `bytes`, and with HYSSOP_FAULT_FURTHER_BLOCK one in `further`. */
+HYSSOP_RESULT enum hyssop_fault hyssop_disassemble_among(const void *bytes, size_t bytes_size, const void *further,
+                                                         size_t further_size, const char *arities, size_t arities_size,
+                                                         char *out, size_t out_size, size_t *size, size_t *unread,
+                                                         uint64_t *place);
+
+/* Writes the objects that a definition block makes when it is loaded, as a tree of names. All else is as above. */
+HYSSOP_RESULT enum hyssop_fault hyssop_names_among(const void *bytes, size_t bytes_size, const void *further, size_t further_size,
+                                                   const char *arities, size_t arities_size, char *out, size_t out_size,
+                                                   size_t *size, size_t *unread, uint64_t *place);
+
 /* Checks the tables in a guest's memory from the RSDP on (5.2.5 to 5.2.10). The bytes begin at the physical address `base`, and
    the RSDP is at the address `rsdp`. *place is the address of a table. */
 HYSSOP_RESULT enum hyssop_fault hyssop_check_image(const void *bytes, size_t bytes_size, uint64_t base, uint64_t rsdp,
@@ -260,6 +283,16 @@ HYSSOP_RESULT enum hyssop_fault hyssop_check_image(const void *bytes, size_t byt
 HYSSOP_RESULT enum hyssop_fault hyssop_image_tables(const void *bytes, size_t bytes_size, uint64_t base, uint64_t rsdp,
                                                     struct hyssop_image_table *out, size_t out_count, size_t *count,
                                                     uint64_t *place);
+
+/* Checks the tables in a guest's memory as hyssop_check_image, where this is several ranges that don't overlap. The RSDP is at the
+   address `rsdp`. Each table lies in one range with its whole length. *place is the address of a table. */
+HYSSOP_RESULT enum hyssop_fault hyssop_check_memory(const struct hyssop_range *ranges, size_t ranges_count, uint64_t rsdp,
+                                                    uint64_t *place);
+
+/* Writes the tables in such memory, as hyssop_image_tables. *place is the address of a table. */
+HYSSOP_RESULT enum hyssop_fault hyssop_memory_tables(const struct hyssop_range *ranges, size_t ranges_count, uint64_t rsdp,
+                                                     struct hyssop_image_table *out, size_t out_count, size_t *count,
+                                                     uint64_t *place);
 
 /* Finds the RSDP in memory (5.2.5.1), at a multiple of 16 bytes. *offset is where it is, and 0 with a fault. It takes no memory. */
 HYSSOP_RESULT enum hyssop_fault hyssop_find_rsdp(const void *bytes, size_t bytes_size, size_t *offset);

@@ -3,12 +3,15 @@
 ghost use Rattle.std.specs.Prelude.{◌≡◌};
 ghost use Rattle.acpi_base.specs.Number.{number};
 ghost use Rattle.acpi_base.specs.Table.{IsTrueTable};
+ghost use Rattle.acpi_layout.specs.Addresses.{memory_of};
 ghost use Rattle.acpi_asl.specs.declared.block.BlockText.TheVariants as blocks;
 ghost use Rattle.acpi_c_calls.specs.Aml.{AreTerms, IsAmlRefusal};
+ghost use Rattle.acpi_c_calls.specs.Among.{IsAmong, IsAmongRefusal};
 ghost use Rattle.acpi_c_calls.specs.Block.{IsBlock, IsBlockRefusal};
 ghost use Rattle.acpi_c_calls.specs.Find.{Finds};
 ghost use Rattle.acpi_c_calls.specs.Findings.{AreFindings};
 ghost use Rattle.acpi_c_calls.specs.Results.{Checks, Gives, GivesAnywhere};
+ghost use Rattle.acpi_c_calls.specs.Image.{HasSomeTables, AreTablesOf, HasNoTables};
 ghost use Rattle.acpi_c_calls.specs.Image.{IsImageOfTables, AreImageTables, IsImageRefusal};
 ghost use Rattle.acpi_c_calls.specs.Make.{IsTableOf, IsMakeRefusal, IsTemplate, IsTemplateRefusal};
 ghost use Rattle.acpi_c_calls.specs.Names.{version, IsName, IsNoName};
@@ -19,10 +22,11 @@ ghost use Rattle.acpi_c_calls.specs.Structures.{AreStructures, IsStructuresRefus
 ghost use Rattle.acpi_c_calls.specs.Table.{IsTableRefusal};
 
 use acpi_c_calls::aml::check_aml;
+use acpi_c_calls::among::{disassemble_among, names_among};
 use acpi_c_calls::block::{disassemble, names};
 use acpi_c_calls::find::find_rsdp;
 use acpi_c_calls::findings::findings;
-use acpi_c_calls::image::{ImageTable, check_image, image_tables};
+use acpi_c_calls::image::{ImageTable, check_image, check_memory, image_tables, memory_tables};
 use acpi_c_calls::make::{make, template};
 use acpi_c_calls::names::{fault_name, version};
 use acpi_c_calls::notes::{Note, make_notes};
@@ -30,6 +34,7 @@ use acpi_c_calls::seal::seal;
 use acpi_c_calls::show::show;
 use acpi_c_calls::structures::{Structure, table_structures};
 use acpi_c_calls::table::check_table;
+use acpi_layout::range::Range;
 use std::alloc::Global;
 
 /// The version of these functions.
@@ -123,6 +128,42 @@ pub extern "C" fn hyssop_export_names(
     names(alloc, bytes, arities, out, size, place)
 }
 
+/// Writes the ASL of a definition block among further ones.
+#[unsafe(no_mangle)]
+pub extern "C" fn hyssop_export_disassemble_among(
+    alloc: Global,
+    bytes: &[u8],
+    further: &[u8],
+    arities: &[u8],
+    out: &mut [u8],
+    size: &mut usize,
+    unread: &mut usize,
+    place: &mut u64,
+) -> u32
+    ensures { Gives (IsAmong blocks.Asl arities.now further.now bytes.now unread.new)
+        (IsAmongRefusal arities.now further.now bytes.now unread.new) out.old out.new result place.new size.new }
+{
+    disassemble_among(alloc, bytes, further, arities, out, size, unread, place)
+}
+
+/// Writes the objects that a definition block makes, among further ones.
+#[unsafe(no_mangle)]
+pub extern "C" fn hyssop_export_names_among(
+    alloc: Global,
+    bytes: &[u8],
+    further: &[u8],
+    arities: &[u8],
+    out: &mut [u8],
+    size: &mut usize,
+    unread: &mut usize,
+    place: &mut u64,
+) -> u32
+    ensures { Gives (IsAmong blocks.Names arities.now further.now bytes.now unread.new)
+        (IsAmongRefusal arities.now further.now bytes.now unread.new) out.old out.new result place.new size.new }
+{
+    names_among(alloc, bytes, further, arities, out, size, unread, place)
+}
+
 /// Checks the tables of an image.
 #[unsafe(no_mangle)]
 pub extern "C" fn hyssop_export_check_image(
@@ -152,6 +193,35 @@ pub extern "C" fn hyssop_export_image_tables(
         size.new }
 {
     image_tables(alloc, bytes, base, rsdp, out, size, place)
+}
+
+/// Checks the tables in memory.
+#[unsafe(no_mangle)]
+pub extern "C" fn hyssop_export_check_memory(
+    alloc: Global,
+    ranges: &[Range<'_>],
+    rsdp: u64,
+    place: &mut u64,
+) -> u32
+    ensures { Checks (HasSomeTables (memory_of ranges.now) rsdp) (HasNoTables (memory_of ranges.now) rsdp) result place.new }
+{
+    check_memory(alloc, ranges, rsdp, place)
+}
+
+/// Writes the tables in memory.
+#[unsafe(no_mangle)]
+pub extern "C" fn hyssop_export_memory_tables(
+    alloc: Global,
+    ranges: &[Range<'_>],
+    rsdp: u64,
+    out: &mut [ImageTable],
+    size: &mut usize,
+    place: &mut u64,
+) -> u32
+    ensures { Gives (AreTablesOf (memory_of ranges.now) rsdp) (HasNoTables (memory_of ranges.now) rsdp) out.old out.new result
+        place.new size.new }
+{
+    memory_tables(alloc, ranges, rsdp, out, size, place)
 }
 
 /// Finds the Root System Description Pointer in memory.

@@ -44,7 +44,7 @@ static struct edge make_edge(void) {
     return (struct edge){start + MOST};
 }
 
-static struct edge input, second, output;
+static struct edge input, second, third, output;
 
 static uint8_t *put(struct edge edge, const void *bytes, size_t size) {
     return memmove(edge.end - size, bytes, size);
@@ -101,6 +101,30 @@ static uint32_t image_tables(const void *bytes, size_t bytes_size, uint64_t base
     return kept(number, out, out_count, sizeof *all);
 }
 
+/* Ranges, whose bytes are at an edge where they are one of the first two. */
+static const struct hyssop_range *put_ranges(const struct hyssop_range *ranges, size_t count) {
+    static struct hyssop_range placed[9];
+    for (size_t i = 0; i < count; i++) {
+        placed[i] = ranges[i];
+        if (i < 2)
+            placed[i].bytes = put(i == 0 ? input : second, ranges[i].bytes, ranges[i].size);
+    }
+    return (const struct hyssop_range *)(const void *)put(third, placed, count * sizeof *placed);
+}
+
+static uint32_t check_memory(const struct hyssop_range *ranges, size_t count, uint64_t rsdp) {
+    place = UNTOLD;
+    return hyssop_check_memory(put_ranges(ranges, count), count, rsdp, &place);
+}
+
+static uint32_t memory_tables(const struct hyssop_range *ranges, size_t count, uint64_t rsdp, size_t out_count) {
+    uint8_t *out = blank(out_count * sizeof(struct hyssop_image_table));
+    struct hyssop_image_table *all = (struct hyssop_image_table *)(void *)out;
+    place = UNTOLD;
+    uint32_t number = hyssop_memory_tables(put_ranges(ranges, count), count, rsdp, all, out_count, &size, &place);
+    return kept(number, out, out_count, sizeof *all);
+}
+
 /* A function that writes a text of a definition block. */
 typedef enum hyssop_fault block_text(const void *bytes, size_t bytes_size, const char *arities, size_t arities_size, char *out,
                                      size_t out_size, size_t *size, uint64_t *place);
@@ -112,6 +136,30 @@ static uint32_t block(block_text *text, const void *bytes, size_t bytes_size, co
     place = UNTOLD;
     uint32_t number =
         text(put(input, bytes, bytes_size), bytes_size, words, arities_size, (char *)out, out_size, &size, &place);
+    return kept(number, out, out_size, 1);
+}
+
+/* The same among further blocks. */
+typedef enum hyssop_fault among_text(const void *bytes, size_t bytes_size, const void *further, size_t further_size,
+                                     const char *arities, size_t arities_size, char *out, size_t out_size, size_t *size,
+                                     size_t *unread, uint64_t *place);
+
+static size_t unread;
+
+static uint32_t among(among_text *text, const void *bytes, size_t bytes_size, const void *further, size_t further_size,
+                      const char *arities, size_t out_size) {
+    uint8_t *out = blank(out_size);
+    size_t length = strlen(arities);
+    const char *words = (char *)put(second, arities, length);
+    place = UNTOLD;
+    unread = SIZE_MAX;
+    uint32_t number = text(put(input, bytes, bytes_size), bytes_size, put(third, further, further_size), further_size, words,
+                           length, (char *)out, out_size, &size, &unread, &place);
+    want(unread != SIZE_MAX && (unread == 0 || number == 0 || number == HYSSOP_FAULT_BUFFER));
+    if (number == HYSSOP_FAULT_FURTHER_BLOCK) {
+        want(size == 0 && place < further_size && is_blank(out, out_size));
+        return number;
+    }
     return kept(number, out, out_size, 1);
 }
 
@@ -186,7 +234,7 @@ static void try_numbers(void) {
     want(HYSSOP_FAULT_ARITIES == 4 && HYSSOP_FAULT_SIGNATURE == 5 && HYSSOP_FAULT_NULL == 6);
     want(HYSSOP_FAULT_SHORT_HEADER == 16 && HYSSOP_FAULT_TABLE_LENGTH == 17 && HYSSOP_FAULT_SUM == 18);
     want(HYSSOP_FAULT_STRUCTURE == 19 && HYSSOP_FAULT_COUNT == 20 && HYSSOP_FAULT_UNKNOWN_SOURCE == 21);
-    want(HYSSOP_FAULT_NO_BLOCK == 22);
+    want(HYSSOP_FAULT_NO_BLOCK == 22 && HYSSOP_FAULT_FURTHER_BLOCK == 23);
     want(HYSSOP_FAULT_TRUNCATED == 32 && HYSSOP_FAULT_OPCODE == 33 && HYSSOP_FAULT_PKG_LENGTH == 34);
     want(HYSSOP_FAULT_NUMBER == 35 && HYSSOP_FAULT_FLAGS == 36 && HYSSOP_FAULT_TEXT == 37 && HYSSOP_FAULT_TOO_DEEP == 38);
     want(HYSSOP_FAULT_IMAGE_OUTSIDE == 48 && HYSSOP_FAULT_IMAGE_SIGNATURE == 49 && HYSSOP_FAULT_IMAGE_LENGTH == 50);
@@ -238,6 +286,26 @@ static void try_null(void) {
     want(hyssop_names(NULL, 1, NULL, 0, NULL, 0, NULL, NULL) == HYSSOP_FAULT_NULL);
     want(hyssop_names("", 0, NULL, 1, NULL, 0, NULL, NULL) == HYSSOP_FAULT_NULL);
     want(hyssop_names("", 0, "", 0, NULL, 1, NULL, NULL) == HYSSOP_FAULT_NULL);
+    static among_text *const amongs[] = {hyssop_disassemble_among, hyssop_names_among};
+    for (size_t i = 0; i < 2; i++) {
+        want(amongs[i](NULL, 0, NULL, 0, NULL, 0, NULL, 0, NULL, NULL, NULL) == HYSSOP_FAULT_SHORT_HEADER);
+        want(amongs[i](NULL, 1, NULL, 0, NULL, 0, NULL, 0, NULL, NULL, NULL) == HYSSOP_FAULT_NULL);
+        want(amongs[i]("", 0, NULL, 1, NULL, 0, NULL, 0, NULL, NULL, NULL) == HYSSOP_FAULT_NULL);
+        want(amongs[i]("", 0, "", 0, NULL, 1, NULL, 0, NULL, NULL, NULL) == HYSSOP_FAULT_NULL);
+        size_t begins = 1;
+        found = 1, at = 1;
+        want(amongs[i]("", 0, "", 0, "", 0, NULL, 1, &found, &begins, &at) == HYSSOP_FAULT_NULL);
+        want(found == 0 && begins == 0 && at == 0);
+    }
+    const struct hyssop_range no_bytes[] = {{0, "", 0}, {0, NULL, 0}};
+    want(hyssop_check_memory(NULL, 0, 0, NULL) == HYSSOP_FAULT_IMAGE_OUTSIDE);
+    want(hyssop_check_memory(NULL, 1, 0, NULL) == HYSSOP_FAULT_NULL);
+    want(hyssop_check_memory(no_bytes, 1, 0, NULL) == HYSSOP_FAULT_IMAGE_OUTSIDE);
+    want(hyssop_check_memory(no_bytes, 2, 0, &at) == HYSSOP_FAULT_NULL && at == 0);
+    want(hyssop_memory_tables(NULL, 0, 0, NULL, 0, NULL, NULL) == HYSSOP_FAULT_IMAGE_OUTSIDE);
+    want(hyssop_memory_tables(NULL, 1, 0, NULL, 0, NULL, NULL) == HYSSOP_FAULT_NULL);
+    want(hyssop_memory_tables(no_bytes, 2, 0, NULL, 0, &found, NULL) == HYSSOP_FAULT_NULL && found == 0);
+    want(hyssop_memory_tables(no_bytes, 1, 0, NULL, 1, NULL, NULL) == HYSSOP_FAULT_NULL);
     want(hyssop_image_tables(NULL, 0, 0, 0, NULL, 0, NULL, NULL) == HYSSOP_FAULT_IMAGE_OUTSIDE);
     want(hyssop_image_tables(NULL, 1, 0, 0, NULL, 0, NULL, NULL) == HYSSOP_FAULT_NULL);
     want(hyssop_image_tables("", 0, 0, 0, NULL, 1, NULL, NULL) == HYSSOP_FAULT_NULL);
@@ -374,6 +442,50 @@ static void try_block(void) {
     want(block(hyssop_names, bytes, length, "", 0, 0) == 0 && size == 0 && place == 0);
 }
 
+/* Store (MTHD (One), Local0), where another block has Method (MTHD, 1) {Return (Arg0)} and Device (\_SB.DEV0) {} (20.2.5). */
+static void try_among(void) {
+    static const char asl[] = "DefinitionBlock (\"\", \"SSDT\", 2, \"FOOBAR\", \"CAFEDEAD\", 0x00000001)\n{\n"
+                              "    Store (MTHD (One), Local0)\n}\n";
+    static const struct {
+        among_text *text;
+        const char *wanted;
+    } texts[] = {{hyssop_disassemble_among, asl}, {hyssop_names_among, ""}};
+    static uint8_t bytes[1000], further[1000];
+    size_t length = make_block(bytes, "SSDT", "\x70" "MTHD" "\x01\x60", 7);
+    size_t first = make_block(further, "SSDT", "\x5b\x82\x0b" "\\._SB_DEV0", 13);
+    size_t both = first + make_block(further + first, "DSDT", "\x14\x08" "MTHD" "\x01\xa4\x68", 9);
+    for (size_t i = 0; i < sizeof texts / sizeof *texts; i++) {
+        among_text *text = texts[i].text;
+        size_t all = strlen(texts[i].wanted);
+        want(among(text, bytes, length, further, both, "", all) == 0 && is_text(texts[i].wanted, all) && unread == 0);
+        want(all == 0 || (among(text, bytes, length, further, both, "", all - 1) == HYSSOP_FAULT_BUFFER && size == all));
+        /* Without the method's block One is its own term, and the name at the end has no target after it. */
+        want(among(text, bytes, length, "", 0, "", PLENTY) == 0 && place == 0);
+        /* A stated number of arguments comes first: a target is missing at the end. */
+        want(among(text, bytes, length, further, both, "MTHD=2", PLENTY) == 0 && unread == length);
+        want(among(text, bytes, length, further, both, "MTHD", PLENTY) == HYSSOP_FAULT_ARITIES && place == 0);
+        want(among(text, bytes, length - 1, further, both, "", PLENTY) == HYSSOP_FAULT_TABLE_LENGTH && place == 4);
+        for (size_t cut = 1; cut < both; cut++) {
+            if (cut == first)
+                continue;
+            want(among(text, bytes, length, further, cut, "", PLENTY) == HYSSOP_FAULT_FURTHER_BLOCK);
+            want(place == (cut < first ? 0u : first));
+        }
+        further[first + 9]++;
+        want(among(text, bytes, length, further, both, "", PLENTY) == HYSSOP_FAULT_FURTHER_BLOCK && place == first);
+        further[first + 9]--;
+    }
+    make_block(further, "OEM1", "", 0);
+    want(among(hyssop_names_among, bytes, length, further, 36, "", PLENTY) == HYSSOP_FAULT_FURTHER_BLOCK && place == 0);
+    length = make_block(bytes, "OEM1", "", 0);
+    want(among(hyssop_names_among, bytes, length, "", 0, "", PLENTY) == HYSSOP_FAULT_NO_BLOCK && place == 0);
+    /* An opcode that no term begins with, after a term of one byte. */
+    length = make_block(bytes, "SSDT", "\x01\xfe", 2);
+    want(among(hyssop_names_among, bytes, length, "", 0, "", PLENTY) == 0 && unread == 37 && place == 0);
+    want(among(hyssop_disassemble_among, bytes, length, "", 0, "", PLENTY) == 0 && unread == 37 && place == 0);
+    want(among(hyssop_disassemble_among, bytes, length, "", 0, "", 0) == HYSSOP_FAULT_BUFFER && unread == 37 && place == 0);
+}
+
 /* Packages that nest as deep as terms may (20.2.5.4), and one level deeper, with a stack of 512 KiB. */
 static size_t nested(uint8_t *bytes, size_t levels) {
     size_t at = MOST;
@@ -405,8 +517,11 @@ static void *show_nested(void *unused) {
     size_t length = make_block(bytes, "DSDT", terms, nested(terms, 255));
     want(block(hyssop_disassemble, bytes, length, "", 0, MOST) == HYSSOP_FINE);
     want(block(hyssop_names, bytes, length, "", 0, MOST) == HYSSOP_FINE);
+    want(among(hyssop_disassemble_among, bytes, length, bytes, length, "", MOST) == HYSSOP_FINE && unread == 0);
+    want(among(hyssop_names_among, bytes, length, bytes, length, "", MOST) == HYSSOP_FINE && unread == 0);
     length = make_block(bytes, "DSDT", terms, nested(terms, 256));
     want(block(hyssop_disassemble, bytes, length, "", 0, MOST) == HYSSOP_FAULT_TOO_DEEP);
+    want(among(hyssop_disassemble_among, bytes, length, bytes, length, "", MOST) == HYSSOP_FINE && unread >= 36);
     return NULL;
 }
 
@@ -543,6 +658,48 @@ static void try_image(const uint8_t *image, size_t count, uint64_t base, uint64_
     }
 }
 
+/* The same image in two ranges, cut at each byte: a table that is cut lies in neither. The RSDP may be somewhere else, as firmware
+   puts it below 1 MiB (5.2.5.1). */
+static void try_ranges(const uint8_t *image, size_t count, uint64_t base, uint64_t rsdp) {
+    static uint8_t without[MOST];
+    static struct hyssop_image_table tables[99];
+    want(image_tables(image, count, base, rsdp, 99) == 0);
+    size_t all = size;
+    memcpy(tables, output.end - sizeof tables, all * sizeof *tables);
+    for (size_t cut = 0; cut <= count; cut++) {
+        const struct hyssop_range ranges[] = {{base + cut, image + cut, count - cut}, {base, image, cut}};
+        uint64_t away = 0;
+        for (size_t i = all; i-- > 0;)
+            if (tables[i].address < base + cut && base + cut < tables[i].address + tables[i].length)
+                away = tables[i].address;
+        want(check_memory(ranges, 2, rsdp) == (away == 0 ? HYSSOP_FINE : HYSSOP_FAULT_IMAGE_OUTSIDE) && place == away);
+        if (cut % 64 != 0)
+            continue;
+        want((memory_tables(ranges, 2, rsdp, all) == 0) == (away == 0) && size == (away == 0 ? all : 0));
+        want(away != 0 || memcmp(output.end - all * sizeof *tables, tables, all * sizeof *tables) == 0);
+    }
+    memcpy(without, image, count);
+    memset(without + (rsdp - base), 0, 36);
+    const uint64_t low = 0xe0000;
+    const struct hyssop_range apart[] = {{low, image + (rsdp - base), 36}, {base, without, count}, {low + 36, "", 0}};
+    want(check_memory(apart, 3, low) == 0 && check_memory(apart, 2, low) == 0);
+    want(check_memory(apart, 1, low) == HYSSOP_FAULT_IMAGE_OUTSIDE && place == tables[1].address);
+    want(check_memory(apart, 3, rsdp) == HYSSOP_FAULT_IMAGE_SIGNATURE && place == rsdp);
+    want(check_memory(apart, 3, low + 1) == HYSSOP_FAULT_IMAGE_OUTSIDE && place == low + 1);
+    want(check_memory(apart, 3, 0) == HYSSOP_FAULT_IMAGE_OUTSIDE && place == 0);
+    want(check_memory(apart, 0, low) == HYSSOP_FAULT_IMAGE_OUTSIDE && place == low);
+    want(memory_tables(apart, 3, low, 0) == HYSSOP_FAULT_BUFFER && size == all);
+    want(memory_tables(apart, 3, low, all - 1) == HYSSOP_FAULT_BUFFER && size == all);
+    want(memory_tables(apart, 3, low, all) == 0 && size == all && place == 0);
+    const struct hyssop_image_table *found = (const struct hyssop_image_table *)(const void *)output.end - all;
+    want(found[0].address == low && memcmp(found + 1, tables + 1, (all - 1) * sizeof *tables) == 0);
+    /* Of ranges that overlap the first counts, and a range may end with the last address. */
+    const struct hyssop_range twice[] = {{base, image, count}, {base, without, count}, {UINT64_MAX - 35, without, 36}};
+    want(check_memory(twice, 2, rsdp) == 0 && check_memory(twice + 1, 2, rsdp) == HYSSOP_FAULT_IMAGE_SIGNATURE);
+    want(check_memory(twice, 3, UINT64_MAX - 35) == HYSSOP_FAULT_IMAGE_SIGNATURE && place == UINT64_MAX - 35);
+    want(check_memory(twice, 3, UINT64_MAX - 34) == HYSSOP_FAULT_IMAGE_OUTSIDE && place == UINT64_MAX - 34);
+}
+
 /* ---- random input */
 
 static uint64_t state = 0x9e3779b97f4a7c15u;
@@ -589,7 +746,14 @@ static void try_random(const uint8_t *table, size_t count) {
         findings(bytes, some, any(2) == 0 ? PLENTY : any(400));
         check_image(bytes, some, any(2) == 0 ? 0 : UINT64_MAX - any(400), any(400));
         image_tables(bytes, some, any(2) == 0 ? 0 : UINT64_MAX - any(400), any(400), any(9));
+        size_t cut = any(some + 1);
+        const struct hyssop_range ranges[] = {{any(2) == 0 ? cut : UINT64_MAX - any(400), bytes + cut, some - cut},
+                                              {any(9), bytes, cut}};
+        check_memory(ranges, any(3), any(400));
+        memory_tables(ranges, any(3), any(400), any(9));
         block(any(2) == 0 ? hyssop_names : hyssop_disassemble, bytes, some, words, any(sizeof words), any(4000));
+        among(any(2) == 0 ? hyssop_names_among : hyssop_disassemble_among, bytes, some, bytes, any(3) == 0 ? some : 0, "",
+              any(4000));
         check_aml(bytes, some, words, any(sizeof words));
         if (some >= 36)
             check_aml(bytes + 36, some - 36, "", 0);
@@ -652,6 +816,10 @@ static void try_memory(void) {
     tell("disassemble", number, MOST);
     while (is_refused(number = block(hyssop_names, table, count, "", 0, MOST))) {}
     tell("names", number, MOST);
+    while (is_refused(number = among(hyssop_disassemble_among, table, count, table, count, "", MOST))) {}
+    tell("disassemble_among", number, MOST);
+    while (is_refused(number = among(hyssop_names_among, table, count, table, count, "MTHD=2", MOST))) {}
+    tell("names_among", number, MOST);
     uint64_t rsdp = 0;
     build_tables(table);
     while (is_refused(number = lay(table, all_tables, 0x40000, MOST, &rsdp))) {}
@@ -670,6 +838,7 @@ int main(int count, char **files) {
     static uint8_t bytes[MOST];
     input = make_edge();
     second = make_edge();
+    third = make_edge();
     output = make_edge();
     if (count == 1) {
         try_memory();
@@ -682,6 +851,7 @@ int main(int count, char **files) {
     try_notes();
     try_seal();
     try_block();
+    try_among();
     try_findings();
     try_stack();
     try_empty();
@@ -691,6 +861,7 @@ int main(int count, char **files) {
     try_added();
     size_t length = read_file(files[1], bytes);
     try_image(bytes, length, strtoull(files[2], NULL, 16), strtoull(files[3], NULL, 16));
+    try_ranges(bytes, length, strtoull(files[2], NULL, 16), strtoull(files[3], NULL, 16));
     for (int i = 4; i < count; i++) {
         length = read_file(files[i], bytes);
         try_table(bytes, length);

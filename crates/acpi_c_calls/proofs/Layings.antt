@@ -33,18 +33,21 @@ is_table bytes long told =
     let same : nat_lt (length bytes) (length bytes) ≡ false = grind (arith, nat_tests) in
     rw (told, enough, same) refl
 
+-- the length of the first n bytes
+pub told_in : (bytes : List ℕ) (n : ℕ) → 8 ≤ n → field_at 4 4 (take n bytes) ≡ field_at 4 4 bytes
+told_in bytes n long =
+    let split : n ≡ 4 + (n - 4) = omega (arith, long) in
+    ap (λ (m : ℕ). carried (take 4 (drop 4 (take m bytes)))) split ∙ ap (λ (l : List ℕ). carried (take 4 l)) (drop-take 4 (n - 4) bytes)
+    ∙ ap carried (take-take 4 (n - 4) (drop 4 bytes) (omega (arith, long)))
+
 -- the first table of bytes
 one_table : (bytes : List ℕ) (n : ℕ) → first_table bytes ≡ Some n → IsOneTable (take n bytes)
 one_table bytes n is =
     let at = found bytes n is in
     let size : length (take n bytes) ≡ n = length-take-le n bytes at.whole in
-    let split : n ≡ 4 + (n - 4) = omega (arith, at.long) in
-    let field : field_at 4 4 (take n bytes) ≡ field_at 4 4 bytes =
-    ap (λ (m : ℕ). carried (take 4 (drop 4 (take m bytes)))) split ∙ ap (λ (l : List ℕ). carried (take 4 l)) (drop-take 4 (n - 4) bytes)
-    ∙ ap carried (take-take 4 (n - 4) (drop 4 bytes) (omega (arith, at.long))) in
-    is_table (take n bytes) (omega (arith, size, at.long)) (field ∙ at.told ∙ sym size)
+    is_table (take n bytes) (omega (arith, size, at.long)) (told_in bytes n at.long ∙ at.told ∙ sym size)
 
-concat_push : (tables : List (List ℕ)) (table rest : List ℕ) → concat (tables ++ table ∷ []) ++ rest ≡ concat tables ++ (table ++ rest)
+pub concat_push : (tables : List (List ℕ)) (table rest : List ℕ) → concat (tables ++ table ∷ []) ++ rest ≡ concat tables ++ (table ++ rest)
 concat_push [] table rest = ap (λ (l : List ℕ). l ++ rest) (append-nil table)
 concat_push (t ∷ tables) table rest =
     append_assoc t (concat (tables ++ table ∷ [])) rest ∙ ap (λ (l : List ℕ). t ++ l) (concat_push tables table rest)

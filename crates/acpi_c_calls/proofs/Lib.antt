@@ -10,6 +10,7 @@ mod Joins
 mod Helds
 mod Closings
 mod Layings
+mod Amongs
 mod Paths
 mod Operators
 mod Pieces

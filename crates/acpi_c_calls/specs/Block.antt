@@ -12,6 +12,12 @@ use Rattle.acpi_c_calls.specs.Table.{IsTableRefusal}
 use Rattle.acpi_c_calls.specs.declared.fault.Fault.TheVariants.{NoBlock}
 use Rattle.acpi_c_calls.specs.declared.refused.Refused.{Refused}
 
+-- bytes are a definition block, and names take these numbers of arguments by a text
+pub record IsStatedIn (arities bytes : List ℕ) (numbers : List (List ℕ × ℕ)) : Type 0 where
+  pub table : IsTrueTable bytes
+  pub is_block : has_terms bytes ≡ true
+  pub stated : AreStated arities numbers
+
 -- bytes are a definition block, names take these numbers of arguments, and this is the text of the block
 pub record IsBlock (block : BlockText) (arities bytes text : List ℕ) : Type 0 where
   pub table : IsTrueTable bytes
@@ -25,6 +31,10 @@ pub record IsNoBlock (bytes : List ℕ) (refused : Refused) : Type 0 where
   pub table : IsTrueTable bytes
   pub none : has_terms bytes ≡ false
   pub is : refused ≡ record { fault = NoBlock; place = 0 }
+
+-- bytes are no definition block, or a text states no numbers of arguments
+abbrev pub IsNotStatedIn : List ℕ → List ℕ → Refused → Type 0
+IsNotStatedIn arities bytes refused = IsTableRefusal bytes refused ⊎ IsNoBlock bytes refused ⊎ AreNotStated arities refused
 
 -- the error of terms after the header, with its offset in the table
 abbrev pub by_terms : ReadError → Refused

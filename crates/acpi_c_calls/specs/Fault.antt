@@ -37,6 +37,7 @@ facts fault.Structure = known 19 (message_of (errors.Structure 0))
 facts fault.Count = known 20 (message_of (errors.Count 0))
 facts fault.UnknownSource = known 21 (message_of (errors.UnknownSource 0))
 facts fault.NoBlock = known 22 (codes "the signature isn't that of a definition block")
+facts fault.FurtherBlock = known 23 (codes "a further block isn't a whole definition block")
 facts fault.Truncated = known 32 (message_of (errors.Truncated 0))
 facts fault.Opcode = known 33 (message_of (errors.Opcode 0))
 facts fault.PkgLength = known 34 (message_of (errors.Length 0))
@@ -113,11 +114,11 @@ words f = (facts f).words
 abbrev pub first_faults : List Fault
 first_faults =
     fault.Memory ∷ fault.Buffer ∷ fault.UnknownNumber ∷ fault.Arities ∷ fault.Signature ∷ fault.Null ∷ fault.ShortHeader ∷
-    fault.TableLength ∷ fault.Sum ∷ fault.Structure ∷ fault.Count ∷ fault.UnknownSource ∷ fault.NoBlock ∷ fault.Truncated ∷
-    fault.Opcode ∷ fault.PkgLength ∷ fault.Number ∷ fault.Flags ∷ fault.Text ∷ fault.TooDeep ∷ fault.ImageOutside ∷
-    fault.ImageSignature ∷ fault.ImageLength ∷ fault.ImageRevision ∷ fault.ImageSum ∷ fault.ImageEntries ∷ fault.ImageNoFadt ∷
-    fault.ImageSecondFadt ∷ fault.ImageOverlap ∷ fault.LayBase ∷ fault.LaySecond ∷ fault.LayNoFadt ∷ fault.LayNoDsdt ∷
-    fault.LayNoFacs ∷ fault.LayShortFadt ∷ fault.LayNoSpace ∷ fault.NoPointer ∷ []
+    fault.TableLength ∷ fault.Sum ∷ fault.Structure ∷ fault.Count ∷ fault.UnknownSource ∷ fault.NoBlock ∷ fault.FurtherBlock ∷
+    fault.Truncated ∷ fault.Opcode ∷ fault.PkgLength ∷ fault.Number ∷ fault.Flags ∷ fault.Text ∷ fault.TooDeep ∷
+    fault.ImageOutside ∷ fault.ImageSignature ∷ fault.ImageLength ∷ fault.ImageRevision ∷ fault.ImageSum ∷ fault.ImageEntries ∷
+    fault.ImageNoFadt ∷ fault.ImageSecondFadt ∷ fault.ImageOverlap ∷ fault.LayBase ∷ fault.LaySecond ∷ fault.LayNoFadt ∷
+    fault.LayNoDsdt ∷ fault.LayNoFacs ∷ fault.LayShortFadt ∷ fault.LayNoSpace ∷ fault.NoPointer ∷ []
 
 -- those of texts and writers
 abbrev pub later_faults : List Fault

@@ -5,6 +5,7 @@ pub mod Table
 pub mod Structures
 pub mod Aml
 pub mod Block
+pub mod Among
 pub mod Image
 pub mod Show
 pub mod Findings

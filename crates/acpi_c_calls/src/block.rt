@@ -5,7 +5,7 @@ ghost use Rattle.acpi_asl.specs.Block.{has_terms, IsBlockText, AreNoTerms};
 ghost use Rattle.acpi_asl.specs.declared.block.BlockText.TheVariants as blocks;
 ghost use Rattle.acpi_base.specs.Table.{IsTrueTable};
 ghost use Rattle.acpi_term.specs.ReadError.{offset_of};
-ghost use Rattle.acpi_c_calls.specs.Block.{by_terms, IsBlock, HasNoTerms, IsBlockRefusal};
+ghost use Rattle.acpi_c_calls.specs.Block.{by_terms, IsStatedIn, IsNotStatedIn, IsBlock, IsBlockRefusal};
 ghost use Rattle.acpi_c_calls.specs.Results.{seen, IsOutcome, Gives};
 
 use crate::aml::stated;
@@ -48,16 +48,24 @@ fn text_of(
     }
 }
 
-// Returns the text of the definition block that bytes are.
-fn shown(alloc: Global, block: BlockText, bytes: &[u8], arities: &[u8]) -> Result<Vec<u8>, Refused>
-    ensures { IsOutcome (IsBlock block arities.now bytes.now) (IsBlockRefusal arities.now bytes.now)
-        (seen (λ text. text.items) result) }
+// Returns how many arguments names take by a text, if bytes are a definition block.
+pub(crate) fn stated_in(alloc: Global, bytes: &[u8], arities: &[u8]) -> Result<Arities, Refused>
+    ensures ok { IfOk result (IsStatedIn arities.now bytes.now) }
+    ensures err { IfErr result (IsNotStatedIn arities.now bytes.now) }
 {
     Table::check(bytes)?;
     if !has_terms(bytes) {
         return Err(Refused::anywhere(Fault::NoBlock));
     }
-    let numbers = stated(alloc, arities)?;
+    stated(alloc, arities)
+}
+
+// Returns the text of the definition block that bytes are.
+fn shown(alloc: Global, block: BlockText, bytes: &[u8], arities: &[u8]) -> Result<Vec<u8>, Refused>
+    ensures { IsOutcome (IsBlock block arities.now bytes.now) (IsBlockRefusal arities.now bytes.now)
+        (seen (λ text. text.items) result) }
+{
+    let numbers = stated_in(alloc, bytes, arities)?;
     text_of(alloc, block, bytes, &numbers)
 }
 

@@ -20,6 +20,7 @@ pub enum Fault {
     Count,
     UnknownSource,
     NoBlock,
+    FurtherBlock,
     Truncated,
     Opcode,
     PkgLength,
@@ -104,6 +105,7 @@ macro_rules! faults {
             Count 20 "a count isn't the number of what it counts"
             UnknownSource 21 "the size of an error source isn't known"
             NoBlock 22 "the signature isn't that of a definition block"
+            FurtherBlock 23 "a further block isn't a whole definition block"
             Truncated 32 "the bytes end within a term"
             Opcode 33 "no term begins so"
             PkgLength 34 "a PkgLength doesn't fit what surrounds it"

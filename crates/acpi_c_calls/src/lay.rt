@@ -15,7 +15,7 @@ use acpi_read::bytes::dword_at;
 use std::alloc::Global;
 
 // The size of the table at the front of bytes, by its length at offset 4, if it is there as a whole.
-fn first_table(bytes: &[u8]) -> Option<usize>
+pub(crate) fn first_table(bytes: &[u8]) -> Option<usize>
     ensures { result ≡ first_table bytes.now }
 {
     if bytes.len() < 8 {

@@ -3,6 +3,7 @@
 
 mod add;
 pub mod aml;
+pub mod among;
 pub mod begin;
 pub mod block;
 pub mod close;

@@ -3,6 +3,7 @@ use Rattle.std.specs.Prelude.{◌≡◌, ℕ, ◌%◌, List, [], length, sum, ta
 use Rattle.acpi_base.specs.Table.{IsTrueTable}
 use Rattle.acpi_base.specs.Walk.{ArePiecesOf}
 use Rattle.acpi_base.specs.declared.oem.Oem.{Oem}
+use Rattle.acpi_fixed.specs.declared.spcr.EarlierSPCR.{EarlierSPCR}
 use Rattle.acpi_fixed.specs.declared.bert.BERT.{BERT}
 use Rattle.acpi_fixed.specs.declared.bgrt.BGRT.{BGRT}
 use Rattle.acpi_fixed.specs.declared.hpet.HPET.{HPET}
@@ -16,7 +17,7 @@ use Rattle.acpi_fixed.specs.Bert.{bert_bytes}
 use Rattle.acpi_fixed.specs.Bgrt.{bgrt_bytes}
 use Rattle.acpi_fixed.specs.Hpet.{hpet_bytes}
 use Rattle.acpi_fixed.specs.Rsdp.{rsdp_bytes, rsdp_for, rsdp0_bytes, rsdp0_for}
-use Rattle.acpi_fixed.specs.Spcr.{spcr_bytes}
+use Rattle.acpi_fixed.specs.Spcr.{spcr_bytes, earlier_spcr_bytes}
 use Rattle.acpi_fixed.specs.Tcpa.{client_bytes, server_bytes}
 use Rattle.acpi_fixed.specs.Tpm2.{tpm2_bytes, tpm2_size}
 use Rattle.acpi_fixed.specs.Waet.{waet_bytes}
@@ -47,6 +48,11 @@ abbrev pub SpcrsAreTrue : Oem → Type 0
 SpcrsAreTrue oem =
     (t : SPCR) → t.oem ≡ oem
     → IsTrueTable (spcr_bytes t) × (length (spcr_bytes t) ≡ 90) × ArePiecesOf (spcr_bytes t) []
+
+abbrev pub EarlierSpcrsAreTrue : Oem → Type 0
+EarlierSpcrsAreTrue oem =
+    (t : EarlierSPCR) → t.table.oem ≡ oem
+    → IsTrueTable (earlier_spcr_bytes t) × (length (earlier_spcr_bytes t) ≡ 80) × ArePiecesOf (earlier_spcr_bytes t) []
 
 abbrev pub ClientsAreTrue : Oem → Type 0
 ClientsAreTrue oem =

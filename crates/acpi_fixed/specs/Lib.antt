@@ -1,4 +1,5 @@
 pub mod Oem
+pub mod Sealed
 pub mod Bert
 pub mod Facs
 pub mod Rsdp
@@ -12,4 +13,5 @@ pub mod Bgrt
 pub mod Wsmt
 pub mod Fadt
 pub mod FadtCalls
+pub mod EarlierFadt
 pub mod Laws

@@ -1,5 +1,5 @@
 -- The Serial Port Console Redirection table (Microsoft, SPCR revision 4).
-use Rattle.std.specs.Prelude.{ℕ, List, [], ◌∷◌, ◌++◌, codes, bit_or}
+use Rattle.std.specs.Prelude.{ℕ, List, [], ◌∷◌, ◌++◌, codes, bit_or, take}
 use Rattle.acpi_base.specs.Fields.{NamedField, byte, word, dword, hex, preset, flags, one_of, text, reserved, fields_joined}
 use Rattle.acpi_base.specs.Look.{Part, flag, means}
 use Rattle.acpi_base.specs.Gas.{register, no_register}
@@ -14,6 +14,8 @@ use Rattle.acpi_fixed.specs.declared.spcr.InterfaceType.{InterfaceType}
 use Rattle.acpi_fixed.specs.declared.spcr.InterfaceType.TheVariants as interfaces
 use Rattle.acpi_fixed.specs.declared.spcr.InterruptController.{InterruptController}
 use Rattle.acpi_fixed.specs.declared.spcr.InterruptController.TheVariants as controllers
+use Rattle.acpi_fixed.specs.Sealed.{padded}
+use Rattle.acpi_fixed.specs.declared.spcr.EarlierSPCR.{EarlierSPCR}
 use Rattle.acpi_fixed.specs.declared.spcr.SPCR.{SPCR}
 use Rattle.acpi_fixed.specs.declared.spcr.TerminalType.{TerminalType}
 use Rattle.acpi_fixed.specs.declared.spcr.TerminalType.TheVariants as terminals
@@ -180,6 +182,10 @@ spcr_fields t =
 
 abbrev pub spcr_bytes : SPCR → List ℕ
 spcr_bytes t = table_of (codes "SPCR") 4 t.oem (fields_joined (spcr_fields t))
+
+-- the table of revision 2, which has the same fields up to PCI Segment, and 4 reserved bytes after it
+abbrev pub earlier_spcr_bytes : EarlierSPCR → List ℕ
+earlier_spcr_bytes t = padded 80 (codes "SPCR") 2 t.table.oem (take 40 (fields_joined (spcr_fields t.table)))
 
 -- a port with this many stop bits, whose other fields are 0; the ids of a PCI device are 0xffff where there is none
 abbrev pub spcr_at_first : Oem → InterfaceType → GAS → ℕ → SPCR

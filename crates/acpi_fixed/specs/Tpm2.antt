@@ -55,7 +55,7 @@ tpm2_fields t area =
     ∷ area_fields area
 
 abbrev pub tpm2_with : Tpm2 → Option LogArea → List ℕ
-tpm2_with t area = table_of (codes "TPM2") 1 t.oem (fields_joined (tpm2_fields t area))
+tpm2_with t area = table_of (codes "TPM2") t.revision t.oem (fields_joined (tpm2_fields t area))
 
 abbrev pub tpm2_bytes : Tpm2 → List ℕ
 tpm2_bytes t = tpm2_with t t.log_area
@@ -64,15 +64,20 @@ abbrev pub tpm2_size : Option LogArea → ℕ
 tpm2_size None = 52
 tpm2_size (Some area) = 76
 
--- a table without a log area
-abbrev pub tpm2_for : Oem → PlatformClass → ℕ → StartMethod → Tpm2
-tpm2_for oem class address method = record {
+-- a table of a revision without a log area
+abbrev pub tpm2_of : ℕ → Oem → PlatformClass → ℕ → StartMethod → Tpm2
+tpm2_of revision oem class address method = record {
+  revision = revision;
   oem = oem;
   platform_class = class;
   crb_or_fifo_base = address;
   start_method = method;
   log_area = None;
 }
+
+-- that of the revision of `new`
+abbrev pub tpm2_for : Oem → PlatformClass → ℕ → StartMethod → Tpm2
+tpm2_for oem class address method = tpm2_of 1 oem class address method
 
 abbrev pub with_area : ℕ → ℕ → Tpm2 → Tpm2
 with_area min_len base_addr t = record t { log_area = Some (record { min_len = min_len; base_addr = base_addr }) }

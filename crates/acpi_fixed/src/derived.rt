@@ -4,7 +4,7 @@ ghost use Rattle.acpi_base.specs.Derived.{IsDefault, IsEquality};
 ghost use Rattle.acpi_fixed.specs.Fadt.{no_fields};
 
 use crate::bgrt::Orientation;
-use crate::fadt::{FADTBuilder, Flags, PmProfile};
+use crate::fadt::{FADTBuilder, FadtRelease, Flags, PmProfile};
 use crate::hpet::{EventTimerBlockId, PageProtection};
 use crate::spcr::{BaudRate, FlowControl, InterfaceType, InterruptController, TerminalType};
 use crate::tpm2::{PlatformClass, StartMethod};
@@ -12,6 +12,7 @@ use crate::tpm2::{PlatformClass, StartMethod};
 /// Two values are equal if and only if they are the same.
 pub fn equal_values_are_the_same()
     ensures flags { IsEquality ⟦<Flags as PartialEq>⟧.eq }
+    ensures fadt_release { IsEquality ⟦<FadtRelease as PartialEq>⟧.eq }
     ensures pm_profile { IsEquality ⟦<PmProfile as PartialEq>⟧.eq }
     ensures platform_class { IsEquality ⟦<PlatformClass as PartialEq>⟧.eq }
     ensures start_method { IsEquality ⟦<StartMethod as PartialEq>⟧.eq }

@@ -8,6 +8,8 @@ ghost use Rattle.acpi_fixed.specs.declared.fadt.FADTBuilder.{FADTBuilder};
 ghost use Rattle.acpi_fixed.specs.Fadt.{fadt_bytes, fadt_at_first, with_dsdt, with_facs, with_commands, with_flag};
 ghost use Rattle.acpi_fixed.specs.Fadt.{with_profile, with_gpe_info, fadt_fields};
 
+mod earlier;
+
 use crate::sealed::sealed_table;
 use acpi_base::error::R;
 use acpi_base::gas::GAS;
@@ -15,6 +17,7 @@ use acpi_base::header::{CREATOR_ID, CREATOR_REVISION, HEADER};
 use acpi_base::object::Aml;
 use acpi_base::row::{Bits, Record, Row, Value, Word, record_of};
 use acpi_base::sink::AmlSink;
+pub use earlier::{EarlierFADT, FadtRelease};
 use std::marker::Model;
 
 /// Fixed feature flags (ACPI 6.5, 5.2.9, table 5.10). Bits 1 to 3, 7, 8, 13, 14, 16 and 17 are ignored on hardware-reduced

@@ -5,8 +5,10 @@ ghost use Rattle.acpi_base.specs.Table.{IsTrueTable};
 ghost use Rattle.acpi_base.specs.Walk.{ArePiecesOf};
 ghost use Rattle.acpi_fixed.specs.Fadt.{fadt_bytes};
 ghost use Rattle.acpi_fixed.specs.FadtCalls.{FadtsAreValid};
+ghost use Rattle.acpi_fixed.specs.EarlierFadt.{EarlierFadtsAreValid};
 ghost use Rattle.acpi_fixed.specs.Laws.{PointersSumToZero, FirstPointersSumToZero};
-ghost use Rattle.acpi_fixed.specs.Laws.{BertsAreTrue, SpcrsAreTrue, ClientsAreTrue, ServersAreTrue, Tpm2sAreTrue};
+ghost use Rattle.acpi_fixed.specs.Laws.{BertsAreTrue, SpcrsAreTrue, EarlierSpcrsAreTrue};
+ghost use Rattle.acpi_fixed.specs.Laws.{ClientsAreTrue, ServersAreTrue, Tpm2sAreTrue};
 ghost use Rattle.acpi_fixed.specs.Laws.{HpetsAreTrue, WaetsAreTrue, BgrtsAreTrue, WsmtsAreTrue};
 
 pub use crate::derived::{defaults_are_these, equal_values_are_the_same};
@@ -28,6 +30,7 @@ pub fn first_pointers_sum_to_zero()
 pub fn tables_are_true(oem: Oem)
     ensures bert { BertsAreTrue oem }
     ensures spcr { SpcrsAreTrue oem }
+    ensures earlier_spcr { EarlierSpcrsAreTrue oem }
     ensures client { ClientsAreTrue oem }
     ensures server { ServersAreTrue oem }
     ensures tpm2 { Tpm2sAreTrue oem }
@@ -49,4 +52,10 @@ pub fn fadt_is_true(fields: FADTBuilder)
 /// After any list of calls of its builder a FADT is valid: 276 bytes, which contain their number and sum to zero.
 pub fn fadts_are_valid()
     ensures { FadtsAreValid }
+{}
+
+/// After any list of calls of its builder the FADT of an earlier release is valid: it has the size of the release, contains it,
+/// and sums to zero.
+pub fn earlier_fadts_are_valid()
+    ensures { EarlierFadtsAreValid }
 {}

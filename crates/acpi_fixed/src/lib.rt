@@ -9,7 +9,7 @@ pub mod fadt;
 pub mod hpet;
 pub mod laws;
 pub mod rsdp;
-mod sealed;
+pub mod sealed;
 pub mod spcr;
 pub mod tpm2;
 pub mod waet;

@@ -5,10 +5,11 @@ ghost use Rattle.acpi_base.specs.Fields.{AreRowsOf};
 ghost use Rattle.acpi_base.specs.Object.{whole, whole_ends_well};
 ghost use Rattle.acpi_fixed.specs.Oem.{oem_of};
 ghost use Rattle.acpi_fixed.specs.Spcr.{spcr_for, spcr_at_first, spcr_fields, spcr_bytes, with_interrupt, controller_flag};
-ghost use Rattle.acpi_fixed.specs.Spcr.{interface_number, rate_number, flow_flag, terminal_number, with_pci_address};
+ghost use Rattle.acpi_fixed.specs.Spcr.{interface_number, rate_number, flow_flag, terminal_number};
+ghost use Rattle.acpi_fixed.specs.Spcr.{with_pci_address, earlier_spcr_bytes};
 ghost use Rattle.acpi_fixed.specs.declared.spcr.SPCR.{SPCR};
 
-use crate::sealed::write_table;
+use crate::sealed::{write_padded, write_table};
 use acpi_base::error::R;
 use acpi_base::gas::GAS;
 use acpi_base::object::Aml;
@@ -331,6 +332,15 @@ impl SPCR<'_> {
     }
 }
 
+impl<'a> SPCR<'a> {
+    /// The same console in a table of revision 2: 80 bytes, without the fields from offset 76 on.
+    pub fn earlier(self) -> EarlierSPCR<'a>
+        ensures { result ≡ record { table = self.entry } }
+    {
+        EarlierSPCR { table: self }
+    }
+}
+
 // The names of interface types.
 const INTERFACE_TYPES: [Word; 21] = [
     Word(0, "16550"),
@@ -475,5 +485,23 @@ impl Aml for SPCR<'_> {
 
     fn to_aml_bytes(&self, sink: &mut dyn AmlSink) -> R<()> {
         write_table::<54, 90, SPCR>(*b"SPCR", 4, self.oem, self, sink)
+    }
+}
+
+/// The Serial Port Console Redirection table of revision 2, which `SPCR::earlier` makes: 80 bytes. The last four, from offset 76
+/// on, are reserved.
+#[derive(Drop)]
+pub struct EarlierSPCR<'a> {
+    table: SPCR<'a>,
+}
+
+impl Aml for EarlierSPCR<'_> {
+    ghost object = { λ t. whole (earlier_spcr_bytes t) };
+
+    ghost ends_well = { λ t. whole_ends_well (earlier_spcr_bytes t) };
+
+    fn to_aml_bytes(&self, sink: &mut dyn AmlSink) -> R<()> {
+        let fields: [u8; 54] = self.table.bytes();
+        write_padded::<80>(*b"SPCR", 2, self.table.oem, &fields[..40], sink)
     }
 }

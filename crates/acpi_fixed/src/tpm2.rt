@@ -10,7 +10,7 @@ ghost use Rattle.acpi_fixed.specs.Oem.{oem_of};
 ghost use Rattle.acpi_fixed.specs.Tcpa.{client_for, client_fields, client_bytes, server_at_first, with_log_area};
 ghost use Rattle.acpi_fixed.specs.Tcpa.{with_device_flag, with_interrupt_flag, with_gpe, with_gsi, with_base, with_config};
 ghost use Rattle.acpi_fixed.specs.Tcpa.{with_pci, server_fields, server_bytes};
-ghost use Rattle.acpi_fixed.specs.Tpm2.{tpm2_for, LogAreaOnce, tpm2_bytes};
+ghost use Rattle.acpi_fixed.specs.Tpm2.{tpm2_of, tpm2_for, LogAreaOnce, tpm2_bytes};
 ghost use Rattle.acpi_fixed.specs.declared.tpm2.Logged.{Logged};
 
 use crate::sealed::write_table;
@@ -345,6 +345,7 @@ struct LogArea {
 /// TPM2 (TCG ACPI Specification, TPM 2.0): 52 bytes, or 76 with a log area.
 #[derive(Drop)]
 pub struct Tpm2 {
+    revision: u8,
     oem: Oem,
     platform_class: PlatformClass,
     crb_or_fifo_base: u64,
@@ -364,7 +365,32 @@ impl Tpm2 {
     ) -> Tpm2
         ensures { result ≡ tpm2_for (oem_of oem_id oem_table_id oem_revision) platform_class crb_or_fifo_base start_method }
     {
+        Tpm2::of_revision(
+            1,
+            oem_id,
+            oem_table_id,
+            oem_revision,
+            platform_class,
+            crb_or_fifo_base,
+            start_method,
+        )
+    }
+
+    /// A table of a revision without a log area. Revision 4 is that of the TCG ACPI Specification 1.2.
+    pub fn of_revision(
+        revision: u8,
+        oem_id: [u8; 6],
+        oem_table_id: [u8; 8],
+        oem_revision: u32,
+        platform_class: PlatformClass,
+        crb_or_fifo_base: u64,
+        start_method: StartMethod,
+    ) -> Tpm2
+        ensures { result ≡
+            tpm2_of revision (oem_of oem_id oem_table_id oem_revision) platform_class crb_or_fifo_base start_method }
+    {
         Tpm2 {
+            revision,
             oem: Oem::new(oem_id, oem_table_id, oem_revision),
             platform_class,
             crb_or_fifo_base,
@@ -479,10 +505,10 @@ impl Aml for Tpm2 {
 
     fn to_aml_bytes(&self, sink: &mut dyn AmlSink) -> R<()> {
         match self.log_area {
-            None => write_table::<16, 52, Tpm2>(*b"TPM2", 1, self.oem, self, sink),
+            None => write_table::<16, 52, Tpm2>(*b"TPM2", self.revision, self.oem, self, sink),
             Some(area) => {
                 let logged = Logged { table: self, area };
-                write_table::<40, 76, Logged>(*b"TPM2", 1, self.oem, &logged, sink)
+                write_table::<40, 76, Logged>(*b"TPM2", self.revision, self.oem, &logged, sink)
             }
         }
     }

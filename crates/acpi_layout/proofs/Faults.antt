@@ -5,6 +5,7 @@ use Rattle.std.specs.Prelude.{Result, Ok, Err, IsErrAnd, IfErr, Bool, false, IsT
 use Rattle.acpi_base.specs.Bytes.{carried, field_at}
 use Rattle.acpi_layout.specs.declared.fault.ImageFault.{ImageFault}
 use Rattle.acpi_layout.specs.declared.located.Located.{Located}
+use Rattle.acpi_layout.specs.Addresses.{Space}
 use Rattle.acpi_layout.specs.Found.{contents, IsPointer, IsNamedTableAt, IsXsdt, AreEntries, IsOnlyFadt, IsFadt, dsdt_address, IsControlOf, if_found, AreApart, Found, tables_of}
 use Rattle.acpi_layout.proofs.Founds.{at_exit}
 
@@ -30,20 +31,20 @@ four_are b long = absurd (omega (arith, long))
 
 -- ---- what is found
 
-module _ (bytes : List ℕ) (base rsdp : ℕ) (p x : Located) (p_is : IsPointer base bytes rsdp p) (x_is : IsNamedTableAt base bytes (codes "XSDT") (field_at 24 8 (contents base bytes p)) x) where
-  pub xsdt_is : IsXsdt base bytes rsdp x
+module _ (memory : Space) (rsdp : ℕ) (p x : Located) (p_is : IsPointer memory rsdp p) (x_is : IsNamedTableAt memory (codes "XSDT") (field_at 24 8 (contents memory p)) x) where
+  pub xsdt_is : IsXsdt memory rsdp x
   xsdt_is = record { pointer = p; pointer_is = p_is; is = x_is }
 
-  module _ (es ys : List Located) (es_are : AreEntries base bytes x es) (read : ys ≡ es) (f : Located) (f_is : IsOnlyFadt ys f) where
+  module _ (es ys : List Located) (es_are : AreEntries memory x es) (read : ys ≡ es) (f : Located) (f_is : IsOnlyFadt ys f) where
     pub fadt_there : IsOnlyFadt es f
     fadt_there = subst (λ (l : List Located). IsOnlyFadt l f) read f_is
 
-    pub fadt_is : IsFadt base bytes rsdp f
+    pub fadt_is : IsFadt memory rsdp f
     fadt_is = record { xsdt = x; entries = es; xsdt_is = xsdt_is; entries_are = es_are; is = fadt_there }
 
-    module _ (a : Option Located) (d : Located) (a_is : IsControlOf base bytes (contents base bytes f) a)
-        (d_is : IsNamedTableAt base bytes (codes "DSDT") (dsdt_address (contents base bytes f)) d) where
-      abbrev pub all_found : Found bytes base rsdp
+    module _ (a : Option Located) (d : Located) (a_is : IsControlOf memory (contents memory f) a)
+        (d_is : IsNamedTableAt memory (codes "DSDT") (dsdt_address (contents memory f)) d) where
+      abbrev pub all_found : Found memory rsdp
       all_found = record {
         pointer = p;
         xsdt = x;

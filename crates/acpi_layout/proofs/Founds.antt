@@ -5,6 +5,7 @@ use Rattle.std.proofs.lemmas.List.{take_rest, get_or_push, get_or_append_left, g
 use Rattle.std.proofs.lemmas.Result.{err_from_is_err_and}
 use Rattle.acpi_base.specs.Bytes.{field_at}
 use Rattle.acpi_layout.specs.declared.located.Located.{Located}
+use Rattle.acpi_layout.specs.Addresses.{Space}
 use Rattle.acpi_layout.specs.Found.{contents, IsTableAt, AreEntries, IsOnlyFadt, facs_address, IsControlAt, has_no_control, IsControlOf}
 
 -- ---- exits
@@ -31,33 +32,33 @@ signature_at xs i e s inside is d = ap (λ (t : Located). t.signature) (same_at 
 
 -- ---- the tables that an XSDT lists
 
-module _ (base : ℕ) (bytes whole : List ℕ) (xsdt : Located) (is : whole ≡ contents base bytes xsdt) where
+module _ (memory : Space) (whole : List ℕ) (xsdt : Located) (is : whole ≡ contents memory xsdt) where
   pub entry_refused : (count : ℕ) → xsdt.length ≡ 36 + 8 * count → (i address : ℕ) → address ≡ field_at (36 + 8 * i) 8 whole → i < count
-      → ((table : Located) → IsTableAt base bytes address table → ⊥) → (entries : List Located) → AreEntries base bytes xsdt entries → ⊥
+      → ((table : Located) → IsTableAt memory address table → ⊥) → (entries : List Located) → AreEntries memory xsdt entries → ⊥
   entry_refused count counted i address from within none entries are =
       let inside : i < length entries = omega (arith, are.counted, counted, within) in
-      let at : field_at (36 + 8 * i) 8 (contents base bytes xsdt) ≡ address = ap (λ (b : List ℕ). field_at (36 + 8 * i) 8 b) (sym is) ∙ sym from in
-      none (get_or entries i none_yet) (subst (λ a. IsTableAt base bytes a (get_or entries i none_yet)) at (are.each i none_yet inside))
+      let at : field_at (36 + 8 * i) 8 (contents memory xsdt) ≡ address = ap (λ (b : List ℕ). field_at (36 + 8 * i) 8 b) (sym is) ∙ sym from in
+      none (get_or entries i none_yet) (subst (λ a. IsTableAt memory a (get_or entries i none_yet)) at (are.each i none_yet inside))
 
   pub entries_are : (entries : List Located) → xsdt.length ≡ 36 + 8 * length entries
-      → ((k : ℕ) (d : Located) → k < length entries → IsTableAt base bytes (field_at (36 + 8 * k) 8 whole) (get_or entries k d)) → AreEntries base bytes xsdt entries
+      → ((k : ℕ) (d : Located) → k < length entries → IsTableAt memory (field_at (36 + 8 * k) 8 whole) (get_or entries k d)) → AreEntries memory xsdt entries
   entries_are entries counted each = record {
     counted = counted;
-    each = λ k d inside. subst (λ (b : List ℕ). IsTableAt base bytes (field_at (36 + 8 * k) 8 b) (get_or entries k d)) is (each k d inside);
+    each = λ k d inside. subst (λ (b : List ℕ). IsTableAt memory (field_at (36 + 8 * k) 8 b) (get_or entries k d)) is (each k d inside);
   }
 
-pub entries_next : (base : ℕ) (bytes whole : List ℕ) (entries new : List Located) (i address : ℕ) (table : Located) → new ≡ entries ++ table ∷ [] → length entries ≡ i
-    → ((k : ℕ) (d : Located) → k < i → IsTableAt base bytes (field_at (36 + 8 * k) 8 whole) (get_or entries k d))
-    → address ≡ field_at (36 + 8 * i) 8 whole → IsTableAt base bytes address table
-    → (k : ℕ) (d : Located) → k < i + 1 → IsTableAt base bytes (field_at (36 + 8 * k) 8 whole) (get_or new k d)
-entries_next base bytes whole entries new i address table pushed size each from here k d below =
-    let P : ℕ → Type 0 = λ j. (d : Located) → IsTableAt base bytes (field_at (36 + 8 * j) 8 whole) (get_or new j d) in
+pub entries_next : (memory : Space) (whole : List ℕ) (entries new : List Located) (i address : ℕ) (table : Located) → new ≡ entries ++ table ∷ [] → length entries ≡ i
+    → ((k : ℕ) (d : Located) → k < i → IsTableAt memory (field_at (36 + 8 * k) 8 whole) (get_or entries k d))
+    → address ≡ field_at (36 + 8 * i) 8 whole → IsTableAt memory address table
+    → (k : ℕ) (d : Located) → k < i + 1 → IsTableAt memory (field_at (36 + 8 * k) 8 whole) (get_or new k d)
+entries_next memory whole entries new i address table pushed size each from here k d below =
+    let P : ℕ → Type 0 = λ j. (d : Located) → IsTableAt memory (field_at (36 + 8 * j) 8 whole) (get_or new j d) in
     let left : (j : ℕ) (d : Located) → j < i → get_or new j d ≡ get_or entries j d =
     λ j d h. ap (λ (l : List Located). get_or l j d) pushed ∙ get_or_append_left entries (table ∷ []) d j (omega (arith, size, h)) in
     let last : (d : Located) → get_or new i d ≡ table = λ d. ap (λ (l : List Located). get_or l i d) pushed ∙ get_or_push entries table d i size in
     below_more P i
-    (λ j h d. subst (λ (t : Located). IsTableAt base bytes (field_at (36 + 8 * j) 8 whole) t) (sym (left j d h)) (each j d h))
-    (λ d. subst (λ (t : Located). IsTableAt base bytes (field_at (36 + 8 * i) 8 whole) t) (sym (last d)) (subst (λ a. IsTableAt base bytes a table) from here)) k below d
+    (λ j h d. subst (λ (t : Located). IsTableAt memory (field_at (36 + 8 * j) 8 whole) t) (sym (left j d h)) (each j d h))
+    (λ d. subst (λ (t : Located). IsTableAt memory (field_at (36 + 8 * i) 8 whole) t) (sym (last d)) (subst (λ a. IsTableAt memory a table) from here)) k below d
 
 -- ---- the FADT
 
@@ -86,13 +87,13 @@ only_is xs at e inside signature long before after = record {
 -- ---- the FACS
 
 -- a FADT that doesn't say that there is none, and points to none
-pub no_control : (base : ℕ) (bytes whole fadt : List ℕ) (address : ℕ) → whole ≡ fadt → address ≡ facs_address whole → has_no_control whole ≡ false
-    → ((facs : Located) → IsControlAt base bytes address facs → ⊥) → (facs : Option Located) → IsControlOf base bytes fadt facs → ⊥
-no_control base bytes whole fadt address same from says none None is =
+pub no_control : (memory : Space) (whole fadt : List ℕ) (address : ℕ) → whole ≡ fadt → address ≡ facs_address whole → has_no_control whole ≡ false
+    → ((facs : Located) → IsControlAt memory address facs → ⊥) → (facs : Option Located) → IsControlOf memory fadt facs → ⊥
+no_control memory whole fadt address same from says none None is =
     let both : true ≡ false = sym is ∙ sym (ap has_no_control same) ∙ says in
     absurd cc
-no_control base bytes whole fadt address same from says none (Some facs) is =
-    none facs (subst (λ a. IsControlAt base bytes a facs) (sym (from ∙ ap facs_address same)) is.1)
+no_control memory whole fadt address same from says none (Some facs) is =
+    none facs (subst (λ a. IsControlAt memory a facs) (sym (from ∙ ap facs_address same)) is.1)
 
 -- ---- the elements behind
 

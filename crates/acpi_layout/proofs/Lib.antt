@@ -9,6 +9,7 @@ pub mod There
 pub mod Listed
 pub mod ReadBack
 pub mod Faults
+pub mod Ranges
 pub mod FromFiles
 pub mod Low
 pub mod LowAnswered

@@ -13,37 +13,38 @@ use Rattle.acpi_fixed.specs.Fadt.{fadt_bytes}
 use Rattle.acpi_fixed.specs.Rsdp.{rsdp_bytes, rsdp_for}
 use Rattle.acpi_fixed.proofs.Tables.{pointers}
 use Rattle.acpi_layout.specs.declared.located.Located.{Located}
-use Rattle.acpi_layout.specs.Addresses.{bytes_at}
+use Rattle.acpi_layout.specs.Addresses.{Space, image_at, bytes_at}
 use Rattle.acpi_layout.specs.Image.{Laid, padded, placed, all_placed, control_bytes, pointed_fadt, listing, tables_laid, image}
 use Rattle.acpi_layout.specs.Laws.{Standing, xsdt_address}
-use Rattle.acpi_layout.specs.Found.{located, contents, IsTableAt, IsPointer, IsNamedTableAt, AreAddresses, AreListed, ImagesListOnce}
+use Rattle.acpi_layout.specs.Found.{located, contents, IsTableAt, IsPointer, IsNamedTableAt, AreAddresses, Lists, AreListed, ImagesListOnce}
 use Rattle.acpi_layout.specs.ReadBack.{found_at, ImagesListTheirTables}
 use Rattle.acpi_layout.proofs.Images.{size_listing}
 use Rattle.acpi_layout.proofs.Standing.{length-padded}
 use Rattle.acpi_layout.proofs.Pointing.{is_listing, is_true_listing, entry, in_pointer}
 use Rattle.acpi_layout.proofs.There.{IsThere, all_there, place_is, table_there}
 
--- ---- the same bytes list one list
+-- ---- the same memory lists one list
 
-module _ (base : ℕ) (bytes : List ℕ) (rsdp : ℕ) (addresses : List ℕ) (listed : AreListed base bytes rsdp addresses) (p : Located) (p_is : IsPointer base bytes rsdp p) where
-  pub xsdt_listed : IsNamedTableAt base bytes (codes "XSDT") (field_at 24 8 (contents base bytes p)) listed.xsdt
+module _ (memory : Space) (rsdp : ℕ) (addresses : List ℕ) (listed : Lists memory rsdp addresses) (p : Located) (p_is : IsPointer memory rsdp p) where
+  pub xsdt_listed : IsNamedTableAt memory (codes "XSDT") (field_at 24 8 (contents memory p)) listed.xsdt
   xsdt_listed =
       let same : listed.xsdt_is.pointer ≡ p = listed.xsdt_is.pointer_is.is ∙ sym p_is.is in
-      subst (λ (t : Located). IsNamedTableAt base bytes (codes "XSDT") (field_at 24 8 (contents base bytes t)) listed.xsdt) same listed.xsdt_is.is
+      subst (λ (t : Located). IsNamedTableAt memory (codes "XSDT") (field_at 24 8 (contents memory t)) listed.xsdt) same listed.xsdt_is.is
 
-  pub addresses_listed : (x : Located) → IsNamedTableAt base bytes (codes "XSDT") (field_at 24 8 (contents base bytes p)) x → AreAddresses base bytes x addresses
+  pub addresses_listed : (x : Located) → IsNamedTableAt memory (codes "XSDT") (field_at 24 8 (contents memory p)) x → AreAddresses memory x addresses
   addresses_listed x x_is =
       let same : listed.xsdt ≡ x = xsdt_listed.is_table.is ∙ sym x_is.is_table.is in
-      subst (λ (t : Located). AreAddresses base bytes t addresses) same listed.addresses_are
+      subst (λ (t : Located). AreAddresses memory t addresses) same listed.addresses_are
 
-one_list : (base : ℕ) (bytes : List ℕ) (xsdt : Located) (a b : List ℕ) → AreAddresses base bytes xsdt a → AreAddresses base bytes xsdt b → a ≡ b
-one_list base bytes xsdt a b a_are b_are =
+one_list : (memory : Space) (xsdt : Located) (a b : List ℕ) → AreAddresses memory xsdt a → AreAddresses memory xsdt b → a ≡ b
+one_list memory xsdt a b a_are b_are =
     let same : length a ≡ length b = omega (arith, a_are.counted, b_are.counted) in
     ext_get_or 0 a b same (λ i inside. a_are.each i inside ∙ sym (b_are.each i (omega (arith, same, inside))))
 
 pub list_once : ImagesListOnce
 list_once bytes base rsdp a b a_listed b_listed =
-    one_list base bytes b_listed.xsdt a b (addresses_listed base bytes rsdp a a_listed b_listed.xsdt_is.pointer b_listed.xsdt_is.pointer_is b_listed.xsdt b_listed.xsdt_is.is) b_listed.addresses_are
+    let memory = image_at base bytes in
+    one_list memory b_listed.xsdt a b (addresses_listed memory rsdp a a_listed b_listed.xsdt_is.pointer b_listed.xsdt_is.pointer_is b_listed.xsdt b_listed.xsdt_is.is) b_listed.addresses_are
 
 -- ---- the XSDT
 
@@ -75,14 +76,14 @@ module _ (id : List ℕ) (a : ℕ) (six : length id ≡ 6) where
 
 module _ (base : ℕ) (oem : Oem) (places total : List ℕ) (x_at r_at : ℕ) (six : length oem.id ≡ 6) (eight : length oem.table_id ≡ 8) (fits : 36 + 8 * length places < 2 ^ 32) (x_low : x_at < 2 ^ 64)
     (x_there : IsThere base total (record { address = x_at; bytes = bytes_of (listing base oem places) })) (r_there : IsThere base total (record { address = r_at; bytes = rsdp_bytes (rsdp_for oem.id x_at) })) where
-  pub pointer_there : IsPointer base total r_at (found_at (record { address = r_at; bytes = rsdp_bytes (rsdp_for oem.id x_at) }))
+  pub pointer_there : IsPointer (image_at base total) r_at (found_at (record { address = r_at; bytes = rsdp_bytes (rsdp_for oem.id x_at) }))
   pointer_there =
       let r : Standing = record { address = r_at; bytes = rsdp_bytes (rsdp_for oem.id x_at) } in
       let ptr = pointers oem.id x_at six in
       let is : bytes_at base total r_at 36 ≡ r.bytes = ap (λ n. bytes_at base total r_at n) (sym ptr.0) ∙ r_there.is in
       record {
         whole = record { begins = r_there.lies.begins; ends = omega (arith, r_there.lies.ends, ptr.0) };
-        is = place_is base total r r_there ∙ ap (located base total r_at) ptr.0;
+        is = place_is base total r r_there ∙ ap (located (image_at base total) r_at) ptr.0;
         signature = ap (take 8) is;
         checksum = ap (λ b. sum (take 20 b) % 256) is ∙ ptr.1;
         revision = ap (λ b. field_at 15 1 b) is ∙ revision_is oem.id x_at six;
@@ -90,13 +91,13 @@ module _ (base : ℕ) (oem : Oem) (places total : List ℕ) (x_at r_at : ℕ) (s
         extended_checksum = ap (λ b. sum b % 256) is ∙ ptr.2;
       }
 
-  pub xsdt_there : IsNamedTableAt base total (codes "XSDT") (field_at 24 8 (contents base total (found_at (record { address = r_at; bytes = rsdp_bytes (rsdp_for oem.id x_at) }))))
+  pub xsdt_there : IsNamedTableAt (image_at base total) (codes "XSDT") (field_at 24 8 (contents (image_at base total) (found_at (record { address = r_at; bytes = rsdp_bytes (rsdp_for oem.id x_at) }))))
       (found_at (record { address = x_at; bytes = bytes_of (listing base oem places) }))
   xsdt_there =
       let x : Standing = record { address = x_at; bytes = bytes_of (listing base oem places) } in
       let at : field_at 24 8 (bytes_at base total r_at (length (rsdp_bytes (rsdp_for oem.id x_at)))) ≡ x_at = ap (λ b. field_at 24 8 b) r_there.is ∙ in_pointer oem.id x_at six x_low in
       record {
-        is_table = subst (λ n. IsTableAt base total n (found_at x)) (sym at) (table_there base total x x_there (is_true_listing base oem places six eight fits));
+        is_table = subst (λ n. IsTableAt (image_at base total) n (found_at x)) (sym at) (table_there base total x x_there (is_true_listing base oem places six eight fits));
         is_named = xsdt_named base oem places six eight fits;
       }
 

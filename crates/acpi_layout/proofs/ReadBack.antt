@@ -17,7 +17,7 @@ use Rattle.acpi_fixed.specs.Fadt.{fadt_bytes, builder_bytes, header_fields, fadt
 use Rattle.acpi_fixed.specs.Rsdp.{rsdp_bytes, rsdp_for}
 use Rattle.acpi_fixed.proofs.Tables.{true_fadt, length-fadt}
 use Rattle.acpi_layout.specs.declared.located.Located.{Located}
-use Rattle.acpi_layout.specs.Addresses.{bytes_at}
+use Rattle.acpi_layout.specs.Addresses.{image_at, bytes_at}
 use Rattle.acpi_layout.specs.Image.{control_bytes, control_address, pointed_fadt, listing, tables_laid, image}
 use Rattle.acpi_layout.specs.Laws.{Standing, Stand, standing_at, standing_control, xsdt_address, Points}
 use Rattle.acpi_layout.specs.Found.{located, contents, IsTableAt, address_of, facs_address, dsdt_address, IsControlAt, is_reduced, has_no_control, IsControlOf, if_found, IsApart, AreApart, Found, IsImage}
@@ -120,28 +120,28 @@ control_apart base None fadt d x r ms bytes h = apart_is base (d ∷ []) ms x r 
 control_apart base (Some facs) fadt d x r ms bytes h =
     some_apart base (is_reduced fadt.flags && (base == 0)) (record { address = base; bytes = facs }) d x r ms bytes h
 
-some_found : (base : ℕ) (total fadt : List ℕ) (b : Bool) (f : Located) → has_no_control fadt ≡ b → IsControlAt base total (facs_address fadt) f
-    → IsControlOf base total fadt (if b then None else Some f)
+some_found : (base : ℕ) (total fadt : List ℕ) (b : Bool) (f : Located) → has_no_control fadt ≡ b → IsControlAt (image_at base total) (facs_address fadt) f
+    → IsControlOf (image_at base total) fadt (if b then None else Some f)
 some_found base total fadt true f says is = says
 some_found base total fadt false f says is = (says, is)
 
 control_found : (base : ℕ) (total whole : List ℕ) (facs : Option (List ℕ)) (fadt : FADTBuilder) → IsControl fadt facs → AreThere base total (standing_control base facs)
-    → facs_address whole ≡ control_address base facs → is_reduced (field_at 112 4 whole) ≡ is_reduced fadt.flags → IsControlOf base total whole (found_control base facs fadt)
+    → facs_address whole ≡ control_address base facs → is_reduced (field_at 112 4 whole) ≡ is_reduced fadt.flags → IsControlOf (image_at base total) whole (found_control base facs fadt)
 control_found base total whole None fadt are there at flags =
     ap (λ b. b && (facs_address whole == 0)) (flags ∙ are) ∙ ap (λ n. true && (n == 0)) at
 control_found base total whole (Some facs) fadt are there at flags =
     let f : Standing = record { address = base; bytes = facs } in
     let f_there = there.0 in
     let f_bytes : bytes_at base total base 64 ≡ facs = ap (λ n. bytes_at base total base n) (sym are.size) ∙ f_there.is in
-    let is : IsControlAt base total base (found_at f) = record {
+    let is : IsControlAt (image_at base total) base (found_at f) = record {
       whole = record { begins = f_there.lies.begins; ends = omega (arith, f_there.lies.ends, are.size) };
-      is = place_is base total f f_there ∙ ap (located base total base) are.size;
+      is = place_is base total f f_there ∙ ap (located (image_at base total) base) are.size;
       signature = are.signature;
       tells = ap (λ b. field_at 4 4 b) f_bytes ∙ are.tells;
     } in
     some_found base total whole (is_reduced fadt.flags && (base == 0)) (found_at f)
     (ap (λ b. b && (facs_address whole == 0)) flags ∙ ap (λ n. is_reduced fadt.flags && (n == 0)) at)
-    (subst (λ n. IsControlAt base total n (found_at f)) (sym at) is)
+    (subst (λ n. IsControlAt (image_at base total) n (found_at f)) (sym at) is)
 
 -- ---- HW_REDUCED_ACPI
 
@@ -230,28 +230,28 @@ module _ (base : ℕ) (oem : Oem) (facs : Option (List ℕ)) (dsdt : List ℕ) (
       let same : length laid.places ≡ length all = omega (arith, there.listed) in
       let counted = rows_counted base laid.places all same in
       let true_at : (i : ℕ) → i < length all → IsTrueTable (get_or all i []) = λ i inside. all_true (fadt_bytes p) tables p_true are.are_correct i inside in
-      let x_contents : contents base total (found_at x) ≡ x.bytes = x_there.is in
-      let entry : (i : ℕ) → i < length laid.places → IsTableAt base total (base + get_or laid.places i 0) (found_at (get_or rows i no_row)) = λ i inside.
+      let x_contents : contents (image_at base total) (found_at x) ≡ x.bytes = x_there.is in
+      let entry : (i : ℕ) → i < length laid.places → IsTableAt (image_at base total) (base + get_or laid.places i 0) (found_at (get_or rows i no_row)) = λ i inside.
       let row = row_at base laid.places all i no_row same inside in
       let here = one_there base total rows i no_row there.rows (omega (arith, counted, inside)) in
       let correct : IsTrueTable (get_or rows i no_row).bytes = subst (λ (w : Standing). IsTrueTable w.bytes) (sym row) (true_at i (omega (arith, same, inside))) in
-      subst (λ n. IsTableAt base total n (found_at (get_or rows i no_row))) (ap (λ (w : Standing). w.address) row) (table_there base total (get_or rows i no_row) here correct) in
+      subst (λ n. IsTableAt (image_at base total) n (found_at (get_or rows i no_row))) (ap (λ (w : Standing). w.address) row) (table_there base total (get_or rows i no_row) here correct) in
       let small : (i : ℕ) → i < length laid.places → base + get_or laid.places i 0 < 2 ^ 64 = λ i inside. let e = entry i inside in omega (arith, e.header.ends, low) in
       let first = get_or rows 0 no_row in
       let some : 0 < length laid.places = omega (arith, there.listed) in
       let first_is = row_at base laid.places all 0 no_row same some in
       let first_bytes : first.bytes ≡ fadt_bytes p = ap (λ (w : Standing). w.bytes) first_is in
       let first_there = one_there base total rows 0 no_row there.rows (omega (arith, counted, some)) in
-      let first_contents : contents base total (found_at first) ≡ fadt_bytes p = first_there.is ∙ first_bytes in
-      let f_at : facs_address (contents base total (found_at first)) ≡ control_address base facs =
+      let first_contents : contents (image_at base total) (found_at first) ≡ fadt_bytes p = first_there.is ∙ first_bytes in
+      let f_at : facs_address (contents (image_at base total) (found_at first)) ≡ control_address base facs =
       ap facs_address first_contents ∙ address_is (fadt_bytes p) 36 132 (control_address base facs) pt.firmware_ctrl pt.x_firmware_ctrl in
-      let d_at : dsdt_address (contents base total (found_at first)) ≡ base + length (control_bytes facs) =
+      let d_at : dsdt_address (contents (image_at base total) (found_at first)) ≡ base + length (control_bytes facs) =
       ap dsdt_address first_contents ∙ address_is (fadt_bytes p) 40 140 (base + length (control_bytes facs)) pt.dsdt pt.x_dsdt in
       let placed : (i : ℕ) → i < length rows → i < length laid.places = λ i inside. omega (arith, counted, inside) in
       let mapped : (i : ℕ) → i < length (map found_at rows) → i < length rows = λ i inside. omega (arith, length-map rows found_at, inside) in
-      let flags_at : is_reduced (field_at 112 4 (contents base total (found_at first))) ≡ is_reduced fadt.flags =
+      let flags_at : is_reduced (field_at 112 4 (contents (image_at base total) (found_at first))) ≡ is_reduced fadt.flags =
       ap (λ b. is_reduced (field_at 112 4 b)) first_contents ∙ ap is_reduced (flags_in_fadt p are.fadt_header) ∙ flags_told fadt.flags in
-      let all_found : Found total base r.address = record {
+      let all_found : Found (image_at base total) r.address = record {
         pointer = found_at r;
         xsdt = found_at x;
         entries = map found_at rows;
@@ -263,11 +263,11 @@ module _ (base : ℕ) (oem : Oem) (facs : Option (List ℕ)) (dsdt : List ℕ) (
         entries_are = record {
           counted = omega (arith, x_size, counted, length-map rows found_at);
           each = λ i e inside.
-              let at : field_at (36 + 8 * i) 8 (contents base total (found_at x)) ≡ base + get_or laid.places i 0 =
+              let at : field_at (36 + 8 * i) 8 (contents (image_at base total) (found_at x)) ≡ base + get_or laid.places i 0 =
               ap (λ b. field_at (36 + 8 * i) 8 b) x_contents ∙ pt.entries i (placed i (mapped i inside)) (small i (placed i (mapped i inside))) in
               let is : get_or (map found_at rows) i e ≡ found_at (get_or rows i no_row) = get_or-map found_at rows i no_row e (mapped i inside) in
-              subst (λ n. IsTableAt base total n (get_or (map found_at rows) i e)) (sym at)
-              (subst (λ (t : Located). IsTableAt base total (base + get_or laid.places i 0) t) (sym is) (entry i (placed i (mapped i inside))));
+              subst (λ n. IsTableAt (image_at base total) n (get_or (map found_at rows) i e)) (sym at)
+              (subst (λ (t : Located). IsTableAt (image_at base total) (base + get_or laid.places i 0) t) (sym is) (entry i (placed i (mapped i inside))));
         };
         fadt_is = record {
           index = 0;
@@ -282,9 +282,9 @@ module _ (base : ℕ) (oem : Oem) (facs : Option (List ℕ)) (dsdt : List ℕ) (
               other (sym (ap (λ (w : Standing). take 4 w.bytes) row) ∙ sym (ap (λ (t : Located). t.signature) is) ∙ named));
           has_addresses = omega (arith, ap length first_bytes, p_size);
         };
-        facs_is = control_found base total (contents base total (found_at first)) facs fadt are.control there.control f_at flags_at;
+        facs_is = control_found base total (contents (image_at base total) (found_at first)) facs fadt are.control there.control f_at flags_at;
         dsdt_is = record {
-          is_table = subst (λ n. IsTableAt base total n (found_at d)) (sym d_at) (table_there base total d there.block are.dsdt_is_correct);
+          is_table = subst (λ n. IsTableAt (image_at base total) n (found_at d)) (sym d_at) (table_there base total d there.block are.dsdt_is_correct);
           is_named = are.dsdt_signature;
         };
       } in
@@ -293,7 +293,7 @@ module _ (base : ℕ) (oem : Oem) (facs : Option (List ℕ)) (dsdt : List ℕ) (
         listed = refl;
         apart = control_apart base facs fadt d x r rows total (stand base oem facs dsdt fadt tables).all;
         xsdt_is_correct = subst IsTrueTable (sym x_there.is) pt.xsdt_is_true;
-        entries_are_correct = All-map (λ (t : Located). IsTrueTable (contents base total t)) found_at rows (λ i e inside.
+        entries_are_correct = All-map (λ (t : Located). IsTrueTable (contents (image_at base total) t)) found_at rows (λ i e inside.
             let row = row_at base laid.places all i e same (placed i inside) in
             let here = one_there base total rows i e there.rows inside in
             let correct : IsTrueTable (get_or rows i e).bytes = subst (λ (w : Standing). IsTrueTable w.bytes) (sym row) (true_at i (omega (arith, same, placed i inside))) in

@@ -10,7 +10,7 @@ use Rattle.acpi_core.specs.Listing.{bytes_of}
 use Rattle.acpi_fixed.specs.declared.fadt.FADTBuilder.{FADTBuilder}
 use Rattle.acpi_fixed.specs.Fadt.{fadt_bytes}
 use Rattle.acpi_fixed.specs.Rsdp.{rsdp_bytes, rsdp_for}
-use Rattle.acpi_layout.specs.Addresses.{Lies, bytes_at}
+use Rattle.acpi_layout.specs.Addresses.{image_at, Lies, bytes_at}
 use Rattle.acpi_layout.specs.Image.{Laid, Picture, control_bytes, pointed_fadt, listing, tables_laid, image}
 use Rattle.acpi_layout.specs.Laws.{Standing, Stand, standing_at, standing_control, xsdt_address}
 use Rattle.acpi_layout.specs.Found.{located, IsTableAt}
@@ -56,7 +56,7 @@ one_there base total (s ∷ ms) zero e h inside = h.0
 one_there base total (s ∷ ms) (suc i) e h inside = one_there base total ms i e h.1 (omega (arith, inside))
 
 -- the same by its address, with all that a reader reads
-pub place_is : (base : ℕ) (total : List ℕ) (s : Standing) → IsThere base total s → found_at s ≡ located base total s.address (length s.bytes)
+pub place_is : (base : ℕ) (total : List ℕ) (s : Standing) → IsThere base total s → found_at s ≡ located (image_at base total) s.address (length s.bytes)
 place_is base total s there = ap (λ (b : List ℕ). record { address = s.address; length = length s.bytes; signature = take 4 b }) (sym there.is)
 
 header_kept : (m n : ℕ) (b : List ℕ) → 8 ≤ n → m + 8 ≡ n → take 4 (drop 4 (take n b)) ≡ take 4 (drop 4 b)
@@ -67,13 +67,13 @@ header_kept m n b long is =
 length_told : (n : ℕ) (b : List ℕ) → 36 ≤ n → field_at 4 4 (take 36 b) ≡ field_at 4 4 (take n b)
 length_told n b long = ap carried (header_kept 28 36 b (omega arith) refl ∙ sym (header_kept (n - 8) n b (omega (arith, long)) (omega (arith, long))))
 
-pub table_there : (base : ℕ) (total : List ℕ) (s : Standing) → IsThere base total s → IsTrueTable s.bytes → IsTableAt base total s.address (found_at s)
+pub table_there : (base : ℕ) (total : List ℕ) (s : Standing) → IsThere base total s → IsTrueTable s.bytes → IsTableAt (image_at base total) s.address (found_at s)
 table_there base total s there correct =
     let told : field_at 4 4 (bytes_at base total s.address 36) ≡ length s.bytes =
     length_told (length s.bytes) (drop (s.address - base) total) correct.header ∙ ap (λ b. field_at 4 4 b) there.is ∙ correct.tells in
     record {
       header = record { begins = there.lies.begins; ends = omega (arith, there.lies.ends, correct.header) };
-      is = place_is base total s there ∙ ap (located base total s.address) (sym told);
+      is = place_is base total s there ∙ ap (located (image_at base total) s.address) (sym told);
       whole = there.lies;
       has_header = correct.header;
     }

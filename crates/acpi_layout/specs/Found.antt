@@ -5,59 +5,59 @@ use Rattle.std.specs.List.{All}
 use Rattle.acpi_base.specs.Bytes.{field_at}
 use Rattle.acpi_base.specs.Table.{IsTrueTable}
 use Rattle.acpi_layout.specs.declared.located.Located.{Located}
-use Rattle.acpi_layout.specs.Addresses.{Lies, bytes_at}
+use Rattle.acpi_layout.specs.Addresses.{Space, image_at, LiesIn, bytes_in}
 
 -- ---- tables at addresses
 
 -- the table of this length at an address, whose first four bytes are its signature
-abbrev pub located : ℕ → List ℕ → ℕ → ℕ → Located
-located base bytes address n = record { address = address; length = n; signature = take 4 (bytes_at base bytes address n) }
+abbrev pub located : Space → ℕ → ℕ → Located
+located memory address n = record { address = address; length = n; signature = take 4 (bytes_in memory address n) }
 
 -- all bytes of a table
-abbrev pub contents : ℕ → List ℕ → Located → List ℕ
-contents base bytes table = bytes_at base bytes table.address table.length
+abbrev pub contents : Space → Located → List ℕ
+contents memory table = bytes_in memory table.address table.length
 
 -- A table with the standard header is at this address (5.2.6): its length is the one at offset 4, and all of it is in the image.
-pub record IsTableAt (base : ℕ) (bytes : List ℕ) (address : ℕ) (table : Located) : Type 0 where
-  pub header : Lies base bytes address 36
-  pub is : table ≡ located base bytes address (field_at 4 4 (bytes_at base bytes address 36))
-  pub whole : Lies base bytes address table.length
+pub record IsTableAt (memory : Space) (address : ℕ) (table : Located) : Type 0 where
+  pub header : LiesIn memory address 36
+  pub is : table ≡ located memory address (field_at 4 4 (bytes_in memory address 36))
+  pub whole : LiesIn memory address table.length
   pub has_header : 36 ≤ table.length
 
 -- ---- each table
 
 -- The RSDP at this address (5.2.5.3). The checksum at offset 8 is that of the first 20 bytes, and the one at 32 that of all.
-pub record IsPointer (base : ℕ) (bytes : List ℕ) (address : ℕ) (rsdp : Located) : Type 0 where
-  pub whole : Lies base bytes address 36
-  pub is : rsdp ≡ located base bytes address 36
-  pub signature : take 8 (bytes_at base bytes address 36) ≡ codes "RSD PTR "
-  pub checksum : sum (take 20 (bytes_at base bytes address 36)) % 256 ≡ 0
-  pub revision : field_at 15 1 (bytes_at base bytes address 36) ≡ 2
-  pub tells : field_at 20 4 (bytes_at base bytes address 36) ≡ 36
-  pub extended_checksum : sum (bytes_at base bytes address 36) % 256 ≡ 0
+pub record IsPointer (memory : Space) (address : ℕ) (rsdp : Located) : Type 0 where
+  pub whole : LiesIn memory address 36
+  pub is : rsdp ≡ located memory address 36
+  pub signature : take 8 (bytes_in memory address 36) ≡ codes "RSD PTR "
+  pub checksum : sum (take 20 (bytes_in memory address 36)) % 256 ≡ 0
+  pub revision : field_at 15 1 (bytes_in memory address 36) ≡ 2
+  pub tells : field_at 20 4 (bytes_in memory address 36) ≡ 36
+  pub extended_checksum : sum (bytes_in memory address 36) % 256 ≡ 0
 
 -- The XSDT (5.2.8) or the DSDT (5.2.11.1) at this address, by its signature.
-pub record IsNamedTableAt (base : ℕ) (bytes : List ℕ) (signature : List ℕ) (address : ℕ) (table : Located) : Type 0 where
-  pub is_table : IsTableAt base bytes address table
+pub record IsNamedTableAt (memory : Space) (signature : List ℕ) (address : ℕ) (table : Located) : Type 0 where
+  pub is_table : IsTableAt memory address table
   pub is_named : table.signature ≡ signature
 
 -- The XSDT to which the RSDP at this address points.
-pub record IsXsdt (base : ℕ) (bytes : List ℕ) (rsdp : ℕ) (xsdt : Located) : Type 0 where
+pub record IsXsdt (memory : Space) (rsdp : ℕ) (xsdt : Located) : Type 0 where
   pub pointer : Located
-  pub pointer_is : IsPointer base bytes rsdp pointer
-  pub is : IsNamedTableAt base bytes (codes "XSDT") (field_at 24 8 (contents base bytes pointer)) xsdt
+  pub pointer_is : IsPointer memory rsdp pointer
+  pub is : IsNamedTableAt memory (codes "XSDT") (field_at 24 8 (contents memory pointer)) xsdt
 
 -- The addresses that the XSDT lists, in order (5.2.8): after its header, it has 8 bytes for each.
-pub record AreAddresses (base : ℕ) (bytes : List ℕ) (xsdt : Located) (addresses : List ℕ) : Type 0 where
+pub record AreAddresses (memory : Space) (xsdt : Located) (addresses : List ℕ) : Type 0 where
   pub counted : xsdt.length ≡ 36 + 8 * length addresses
   pub each : (i : ℕ) → i < length addresses
-      → slice_index addresses i ≡ field_at (36 + 8 * i) 8 (contents base bytes xsdt)
+      → slice_index addresses i ≡ field_at (36 + 8 * i) 8 (contents memory xsdt)
 
 -- The tables that the XSDT lists, in order (5.2.8): after its header, it has 8 bytes for the address of each.
-pub record AreEntries (base : ℕ) (bytes : List ℕ) (xsdt : Located) (entries : List Located) : Type 0 where
+pub record AreEntries (memory : Space) (xsdt : Located) (entries : List Located) : Type 0 where
   pub counted : xsdt.length ≡ 36 + 8 * length entries
   pub each : (i : ℕ) (d : Located) → i < length entries
-      → IsTableAt base bytes (field_at (36 + 8 * i) 8 (contents base bytes xsdt)) (slice_index_or entries i d)
+      → IsTableAt memory (field_at (36 + 8 * i) 8 (contents memory xsdt)) (slice_index_or entries i d)
 
 -- The FADT (5.2.9) is the only one of these tables that has its signature, and has its fields up to X_DSDT, which ends at 148.
 pub record IsOnlyFadt (tables : List Located) (fadt : Located) : Type 0 where
@@ -69,11 +69,11 @@ pub record IsOnlyFadt (tables : List Located) (fadt : Located) : Type 0 where
   pub has_addresses : 148 ≤ fadt.length
 
 -- The FADT to which the RSDP at this address leads.
-pub record IsFadt (base : ℕ) (bytes : List ℕ) (rsdp : ℕ) (fadt : Located) : Type 0 where
+pub record IsFadt (memory : Space) (rsdp : ℕ) (fadt : Located) : Type 0 where
   pub xsdt : Located
   pub entries : List Located
-  pub xsdt_is : IsXsdt base bytes rsdp xsdt
-  pub entries_are : AreEntries base bytes xsdt entries
+  pub xsdt_is : IsXsdt memory rsdp xsdt
+  pub entries_are : AreEntries memory xsdt entries
   pub is : IsOnlyFadt entries fadt
 
 -- The address that a FADT has in two fields (5.2.9): that of 64 bits if it isn't 0, and that of 32 bits otherwise.
@@ -89,11 +89,11 @@ abbrev pub dsdt_address : List ℕ → ℕ
 dsdt_address fadt = address_of fadt 40 140
 
 -- The FACS at this address (5.2.10), which has no checksum.
-pub record IsControlAt (base : ℕ) (bytes : List ℕ) (address : ℕ) (facs : Located) : Type 0 where
-  pub whole : Lies base bytes address 64
-  pub is : facs ≡ located base bytes address 64
+pub record IsControlAt (memory : Space) (address : ℕ) (facs : Located) : Type 0 where
+  pub whole : LiesIn memory address 64
+  pub is : facs ≡ located memory address 64
   pub signature : facs.signature ≡ codes "FACS"
-  pub tells : field_at 4 4 (bytes_at base bytes address 64) ≡ 64
+  pub tells : field_at 4 4 (bytes_in memory address 64) ≡ 64
 
 -- HW_REDUCED_ACPI: bit 20 of a FADT's Flags (5.2.9).
 abbrev pub is_reduced : ℕ → Bool
@@ -105,9 +105,9 @@ abbrev pub has_no_control : List ℕ → Bool
 has_no_control fadt = is_reduced (field_at 112 4 fadt) && (facs_address fadt == 0)
 
 -- The FACS of a FADT, or none.
-abbrev pub IsControlOf : ℕ → List ℕ → List ℕ → Option Located → Type 0
-IsControlOf base bytes fadt None = has_no_control fadt ≡ true
-IsControlOf base bytes fadt (Some facs) = (has_no_control fadt ≡ false) × IsControlAt base bytes (facs_address fadt) facs
+abbrev pub IsControlOf : Space → List ℕ → Option Located → Type 0
+IsControlOf memory fadt None = has_no_control fadt ≡ true
+IsControlOf memory fadt (Some facs) = (has_no_control fadt ≡ false) × IsControlAt memory (facs_address fadt) facs
 
 -- a table, if there is one
 abbrev pub if_found : Option Located → List Located
@@ -128,33 +128,37 @@ AreApart (table ∷ tables) = All (IsApart table) tables × AreApart tables
 
 -- What is found in these bytes, from the address base on. The RSDP at the address rsdp points to the XSDT. Its entries point to
 -- the FADT and the others. The FADT points to the FACS, or says that there is none, and to the DSDT.
-pub record Found (bytes : List ℕ) (base rsdp : ℕ) : Type 0 where
+pub record Found (memory : Space) (rsdp : ℕ) : Type 0 where
   pub pointer : Located
   pub xsdt : Located
   pub entries : List Located
   pub fadt : Located
   pub facs : Option Located
   pub dsdt : Located
-  pub pointer_is : IsPointer base bytes rsdp pointer
-  pub xsdt_is : IsNamedTableAt base bytes (codes "XSDT") (field_at 24 8 (contents base bytes pointer)) xsdt
-  pub entries_are : AreEntries base bytes xsdt entries
+  pub pointer_is : IsPointer memory rsdp pointer
+  pub xsdt_is : IsNamedTableAt memory (codes "XSDT") (field_at 24 8 (contents memory pointer)) xsdt
+  pub entries_are : AreEntries memory xsdt entries
   pub fadt_is : IsOnlyFadt entries fadt
-  pub facs_is : IsControlOf base bytes (contents base bytes fadt) facs
-  pub dsdt_is : IsNamedTableAt base bytes (codes "DSDT") (dsdt_address (contents base bytes fadt)) dsdt
+  pub facs_is : IsControlOf memory (contents memory fadt) facs
+  pub dsdt_is : IsNamedTableAt memory (codes "DSDT") (dsdt_address (contents memory fadt)) dsdt
 
 -- these tables, in the order in which they are found
-abbrev pub tables_of : {bytes : List ℕ} {base rsdp : ℕ} → Found bytes base rsdp → List Located
+abbrev pub tables_of : {memory : Space} {rsdp : ℕ} → Found memory rsdp → List Located
 tables_of found = found.pointer ∷ found.xsdt ∷ (found.entries ++ (if_found found.facs ++ (found.dsdt ∷ [])))
 
--- These bytes are the image of these tables: they are found. Each with the standard header has its length and sums to zero, and
--- no two overlap, so none is listed twice.
-pub record IsImage (bytes : List ℕ) (base rsdp : ℕ) (tables : List Located) : Type 0 where
-  pub found : Found bytes base rsdp
+-- This memory has these tables: they are found. Each with the standard header has its length and sums to zero, and no two overlap,
+-- so none is listed twice.
+pub record HasTables (memory : Space) (rsdp : ℕ) (tables : List Located) : Type 0 where
+  pub found : Found memory rsdp
   pub listed : tables ≡ tables_of found
   pub apart : AreApart tables
-  pub xsdt_is_correct : IsTrueTable (contents base bytes found.xsdt)
-  pub entries_are_correct : All (λ table. IsTrueTable (contents base bytes table)) found.entries
-  pub dsdt_is_correct : IsTrueTable (contents base bytes found.dsdt)
+  pub xsdt_is_correct : IsTrueTable (contents memory found.xsdt)
+  pub entries_are_correct : All (λ table. IsTrueTable (contents memory table)) found.entries
+  pub dsdt_is_correct : IsTrueTable (contents memory found.dsdt)
+
+-- These bytes, from the address base on, are the image of these tables.
+abbrev pub IsImage : List ℕ → ℕ → ℕ → List Located → Type 0
+IsImage bytes base rsdp tables = HasTables (image_at base bytes) rsdp tables
 
 -- The same bytes are the image of one list of tables at most, for one base and one address of the RSDP.
 abbrev pub ImagesHaveOneList : Type 0
@@ -164,10 +168,14 @@ ImagesHaveOneList =
 -- ---- the addresses alone
 
 -- These addresses are those that the XSDT lists to which the RSDP at the address rsdp points. Nothing is said of what is there.
-pub record AreListed (base : ℕ) (bytes : List ℕ) (rsdp : ℕ) (addresses : List ℕ) : Type 0 where
+pub record Lists (memory : Space) (rsdp : ℕ) (addresses : List ℕ) : Type 0 where
   pub xsdt : Located
-  pub xsdt_is : IsXsdt base bytes rsdp xsdt
-  pub addresses_are : AreAddresses base bytes xsdt addresses
+  pub xsdt_is : IsXsdt memory rsdp xsdt
+  pub addresses_are : AreAddresses memory xsdt addresses
+
+-- The same of bytes from the address base on.
+abbrev pub AreListed : ℕ → List ℕ → ℕ → List ℕ → Type 0
+AreListed base bytes rsdp addresses = Lists (image_at base bytes) rsdp addresses
 
 -- The same bytes list one list of addresses at most, for one base and one address of the RSDP.
 abbrev pub ImagesListOnce : Type 0

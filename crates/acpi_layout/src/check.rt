@@ -3,13 +3,15 @@
 ghost use Rattle.std.specs.Prelude.{◌≡◌, ◌≢◌, List, [], ◌∷◌, ◌++◌, IfOk, IfErr};
 ghost use Rattle.acpi_layout.specs.declared.fault.ImageFault.TheVariants.{Memory};
 ghost use Rattle.acpi_layout.specs.declared.located.Located.{Located};
-ghost use Rattle.acpi_layout.specs.Found.{if_found, IsImage};
-ghost use Rattle.acpi_layout.specs.Fault.{IsImageFault};
+ghost use Rattle.acpi_layout.specs.Addresses.{memory_of};
+ghost use Rattle.acpi_layout.specs.Found.{if_found, HasTables, IsImage};
+ghost use Rattle.acpi_layout.specs.Fault.{HasFault, IsImageFault};
 
 use crate::apart::are_apart;
 use crate::fault::ImageFault;
 use crate::found::{are_correct, control, dsdt, entries, is_correct, only_fadt, pointer, xsdt};
 use crate::located::Located;
+use crate::range::Range;
 use std::alloc::Global;
 
 // The tables in the order in which they are found.
@@ -34,19 +36,43 @@ fn in_order(
     Ok(tables)
 }
 
-/// Checks the tables of an image, as an operating system finds them. The bytes begin at the physical address `base`, and the RSDP
-/// is at the address `rsdp`. The RSDP (ACPI 6.5, 5.2.5.3) of revision 2 points to the XSDT (5.2.8), and its entries to the FADT
-/// and the others. X_FIRMWARE_CTRL of the FADT (5.2.9) points to the FACS (5.2.10), and X_DSDT to the DSDT. Where such a field of
-/// 64 bits is 0, the field of 32 bits counts, FIRMWARE_CTRL or DSDT. There is no FACS if both are 0 and the FADT's flag
-/// HW_REDUCED_ACPI is set. Each table is in the image with its whole length and sums to zero, except the FACS, which has no
-/// checksum. No two overlap.
+/// Checks the tables in memory, as an operating system finds them. The RSDP is at the address `rsdp`. The RSDP (ACPI 6.5, 5.2.5.3)
+/// of revision 2 points to the XSDT (5.2.8), and its entries to the FADT and the others. X_FIRMWARE_CTRL of the FADT (5.2.9) points
+/// to the FACS (5.2.10), and X_DSDT to the DSDT. Where such a field of 64 bits is 0, the field of 32 bits counts, FIRMWARE_CTRL or
+/// DSDT. There is no FACS if both are 0 and the FADT's flag HW_REDUCED_ACPI is set. Each table is in one range with its whole
+/// length, the first that holds its first byte. It sums to zero, except the FACS, which has no checksum. No two overlap.
 ///
 /// Firmware also has to put the RSDP at a multiple of 16 (5.2.5.1), and the FACS at a multiple of 64 (5.2.10). Both are accepted
 /// at any address.
 ///
 /// Returns the tables in the order in which they are found: the RSDP, the XSDT, its entries in order, the FACS if there is one,
 /// and the DSDT. The RSDP's address of an RSDT is not read. The tables are sorted to find those that overlap, so n tables take
-/// a time of n log n. No byte of a table is copied.
+/// a time of n log n, and each is looked up in the ranges one after another. No byte of a table is copied.
+pub fn check_memory(
+    alloc: Global,
+    ranges: &[Range<'_>],
+    rsdp: u64,
+) -> Result<Vec<Located>, ImageFault>
+    ensures ok { IfOk result (λ tables. HasTables (memory_of ranges.now) rsdp tables.items) }
+    ensures err { IfErr result (λ e. e ≢ Memory → (tables : List Located) → ¬ HasTables (memory_of ranges.now) rsdp tables) }
+    ensures fault { IfErr result (λ e. e ≢ Memory → HasFault (memory_of ranges.now) rsdp e) }
+{
+    let pointer = pointer(ranges, rsdp)?;
+    let xsdt = xsdt(ranges, pointer)?;
+    let entries = entries(alloc, ranges, xsdt)?;
+    let fadt = only_fadt(xsdt.address, &entries)?;
+    let facs = control(ranges, fadt)?;
+    let dsdt = dsdt(ranges, fadt)?;
+    let tables = in_order(alloc, pointer, xsdt, &entries, facs, dsdt)?;
+    are_apart(alloc, &tables)?;
+    is_correct(ranges, xsdt)?;
+    are_correct(ranges, &entries)?;
+    is_correct(ranges, dsdt)?;
+    Ok(tables)
+}
+
+/// Checks the tables of an image, as `check_memory` those of memory. The bytes begin at the physical address `base`, and the RSDP is
+/// at the address `rsdp`.
 pub fn check_image(
     alloc: Global,
     bytes: &[u8],
@@ -57,16 +83,9 @@ pub fn check_image(
     ensures err { IfErr result (λ e. e ≢ Memory → (tables : List Located) → ¬ IsImage bytes.now base rsdp tables) }
     ensures fault { IfErr result (λ e. e ≢ Memory → IsImageFault bytes.now base rsdp e) }
 {
-    let pointer = pointer(bytes, base, rsdp)?;
-    let xsdt = xsdt(bytes, base, pointer)?;
-    let entries = entries(alloc, bytes, base, xsdt)?;
-    let fadt = only_fadt(xsdt.address, &entries)?;
-    let facs = control(bytes, base, fadt)?;
-    let dsdt = dsdt(bytes, base, fadt)?;
-    let tables = in_order(alloc, pointer, xsdt, &entries, facs, dsdt)?;
-    are_apart(alloc, &tables)?;
-    is_correct(bytes, base, xsdt)?;
-    are_correct(bytes, base, &entries)?;
-    is_correct(bytes, base, dsdt)?;
-    Ok(tables)
+    let range = Range {
+        address: base,
+        bytes,
+    };
+    check_memory(alloc, &[range], rsdp)
 }

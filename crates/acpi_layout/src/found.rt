@@ -7,63 +7,34 @@ ghost use Rattle.acpi_base.specs.Bytes.{field_at};
 ghost use Rattle.acpi_base.specs.Table.{IsTrueTable};
 ghost use Rattle.acpi_layout.specs.declared.fault.ImageFault.TheVariants.{Memory};
 ghost use Rattle.acpi_layout.specs.declared.located.Located.{Located};
-ghost use Rattle.acpi_layout.specs.Addresses.{Lies, bytes_at};
+ghost use Rattle.acpi_layout.specs.Addresses.{LiesIn, memory_of};
 ghost use Rattle.acpi_layout.specs.Found.{contents, IsTableAt, IsPointer, IsNamedTableAt, AreAddresses, AreEntries};
 ghost use Rattle.acpi_layout.specs.Found.{IsOnlyFadt, IsControlAt};
 ghost use Rattle.acpi_layout.specs.Found.{address_of, facs_address, dsdt_address, is_reduced, has_no_control};
-ghost use Rattle.acpi_layout.specs.Found.{IsControlOf, AreListed};
+ghost use Rattle.acpi_layout.specs.Found.{IsControlOf, Lists};
 ghost use Rattle.acpi_layout.specs.Fault.{IsTableFault, IsNamedTableFault, IsPointerFault, IsControlFault};
 ghost use Rattle.acpi_layout.specs.Fault.{HasPartOfEntry, IsEntriesFault};
-ghost use Rattle.acpi_layout.specs.Fault.{IsListFault, IsFadtFault};
+ghost use Rattle.acpi_layout.specs.Fault.{IsNoList, IsFadtFault};
 
 use crate::fault::ImageFault;
 use crate::located::Located;
+use crate::range::{Range, contents, part};
 use acpi_read::bytes::{dword_at, qword_at, sums_to_zero};
 use acpi_read::table::Table;
 use std::alloc::Global;
 
-// The bytes from an address on.
-fn part(bytes: &[u8], base: u64, address: u64, size: u32) -> Result<&[u8], ImageFault>
-    ensures ok { IfOk result (λ part. part.now ≡ bytes_at base bytes.now address size) }
-    ensures size { IfOk result (λ part. length part.now ≡ size) }
-    ensures lies { OnOk result (Lies base bytes.now address size) }
-    ensures err { OnErr result (¬ Lies base bytes.now address size) }
-    ensures fault { IfErr result (λ e. e ≡ ImageFault.Outside address) }
-{
-    if address < base {
-        return Err(ImageFault::Outside(address));
-    }
-    let offset = address - base;
-    let count = bytes.len() as u64;
-    if offset > count || size as u64 > count - offset {
-        return Err(ImageFault::Outside(address));
-    }
-    let offset = offset as usize;
-    Ok(&bytes[offset..offset + size as usize])
-}
-
-// All bytes of a table.
-fn contents(bytes: &[u8], base: u64, table: Located) -> &[u8]
-    requires { Lies base bytes.now table.address table.length }
-    ensures is { result.now ≡ contents base bytes.now table }
-    ensures size { length result.now ≡ table.length }
-{
-    let offset = (table.address - base) as usize;
-    &bytes[offset..offset + table.length as usize]
-}
-
 // The table with the standard header at an address.
-fn table(bytes: &[u8], base: u64, address: u64) -> Result<Located, ImageFault>
-    ensures ok { IfOk result (λ table. IsTableAt base bytes.now address table) }
-    ensures err { OnErr result ((table : Located) → ¬ IsTableAt base bytes.now address table) }
-    ensures fault { IfErr result (IsTableFault base bytes.now address) }
+fn table(ranges: &[Range<'_>], address: u64) -> Result<Located, ImageFault>
+    ensures ok { IfOk result (λ table. IsTableAt (memory_of ranges.now) address table) }
+    ensures err { OnErr result ((table : Located) → ¬ IsTableAt (memory_of ranges.now) address table) }
+    ensures fault { IfErr result (IsTableFault (memory_of ranges.now) address) }
 {
-    let header = part(bytes, base, address, 36)?;
+    let header = part(ranges, address, 36)?;
     let length = dword_at(header, 4);
     if length < 36 {
         return Err(ImageFault::Length(address));
     }
-    let whole = part(bytes, base, address, length)?;
+    let whole = part(ranges, address, length)?;
     let signature = [whole[0], whole[1], whole[2], whole[3]];
     Ok(Located {
         address,
@@ -74,16 +45,15 @@ fn table(bytes: &[u8], base: u64, address: u64) -> Result<Located, ImageFault>
 
 // The table with the standard header and this signature at an address.
 fn named_table(
-    bytes: &[u8],
-    base: u64,
+    ranges: &[Range<'_>],
     signature: [u8; 4],
     address: u64,
 ) -> Result<Located, ImageFault>
-    ensures ok { IfOk result (λ table. IsNamedTableAt base bytes.now signature address table) }
-    ensures err { OnErr result ((table : Located) → ¬ IsNamedTableAt base bytes.now signature address table) }
-    ensures fault { IfErr result (IsNamedTableFault base bytes.now signature address) }
+    ensures ok { IfOk result (λ table. IsNamedTableAt (memory_of ranges.now) signature address table) }
+    ensures err { OnErr result ((table : Located) → ¬ IsNamedTableAt (memory_of ranges.now) signature address table) }
+    ensures fault { IfErr result (IsNamedTableFault (memory_of ranges.now) signature address) }
 {
-    let found = table(bytes, base, address)?;
+    let found = table(ranges, address)?;
     if found.signature != signature {
         return Err(ImageFault::Signature(address));
     }
@@ -91,12 +61,12 @@ fn named_table(
 }
 
 // The RSDP at an address.
-pub(crate) fn pointer(bytes: &[u8], base: u64, address: u64) -> Result<Located, ImageFault>
-    ensures ok { IfOk result (λ rsdp. IsPointer base bytes.now address rsdp) }
-    ensures err { OnErr result ((rsdp : Located) → ¬ IsPointer base bytes.now address rsdp) }
-    ensures fault { IfErr result (IsPointerFault base bytes.now address) }
+pub(crate) fn pointer(ranges: &[Range<'_>], address: u64) -> Result<Located, ImageFault>
+    ensures ok { IfOk result (λ rsdp. IsPointer (memory_of ranges.now) address rsdp) }
+    ensures err { OnErr result ((rsdp : Located) → ¬ IsPointer (memory_of ranges.now) address rsdp) }
+    ensures fault { IfErr result (IsPointerFault (memory_of ranges.now) address) }
 {
-    let whole = part(bytes, base, address, 36)?;
+    let whole = part(ranges, address, 36)?;
     if whole[..8] != b"RSD PTR "[..] {
         return Err(ImageFault::Signature(address));
     }
@@ -118,18 +88,18 @@ pub(crate) fn pointer(bytes: &[u8], base: u64, address: u64) -> Result<Located, 
 }
 
 // The XSDT of an RSDP.
-pub(crate) fn xsdt(bytes: &[u8], base: u64, pointer: Located) -> Result<Located, ImageFault>
-    requires lies { Lies base bytes.now pointer.address pointer.length }
+pub(crate) fn xsdt(ranges: &[Range<'_>], pointer: Located) -> Result<Located, ImageFault>
+    requires lies { LiesIn (memory_of ranges.now) pointer.address pointer.length }
     requires within { 32 ≤ pointer.length }
     ensures ok { IfOk result (λ xsdt.
-        IsNamedTableAt base bytes.now (codes "XSDT") (field_at 24 8 (contents base bytes.now pointer)) xsdt) }
+        IsNamedTableAt (memory_of ranges.now) (codes "XSDT") (field_at 24 8 (contents (memory_of ranges.now) pointer)) xsdt) }
     ensures err { OnErr result ((xsdt : Located)
-        → ¬ IsNamedTableAt base bytes.now (codes "XSDT") (field_at 24 8 (contents base bytes.now pointer)) xsdt) }
+        → ¬ IsNamedTableAt (memory_of ranges.now) (codes "XSDT") (field_at 24 8 (contents (memory_of ranges.now) pointer)) xsdt) }
     ensures fault { IfErr result
-        (IsNamedTableFault base bytes.now (codes "XSDT") (field_at 24 8 (contents base bytes.now pointer))) }
+        (IsNamedTableFault (memory_of ranges.now) (codes "XSDT") (field_at 24 8 (contents (memory_of ranges.now) pointer))) }
 {
-    let address = qword_at(contents(bytes, base, pointer), 24);
-    named_table(bytes, base, *b"XSDT", address)
+    let address = qword_at(contents(ranges, pointer), 24);
+    named_table(ranges, *b"XSDT", address)
 }
 
 // The address that a FADT has in two fields: that of 64 bits if it isn't 0, and that of 32 bits otherwise.
@@ -163,18 +133,18 @@ fn dsdt_address(fadt: &[u8]) -> u64
 }
 
 // The DSDT of a FADT.
-pub(crate) fn dsdt(bytes: &[u8], base: u64, fadt: Located) -> Result<Located, ImageFault>
-    requires lies { Lies base bytes.now fadt.address fadt.length }
+pub(crate) fn dsdt(ranges: &[Range<'_>], fadt: Located) -> Result<Located, ImageFault>
+    requires lies { LiesIn (memory_of ranges.now) fadt.address fadt.length }
     requires within { 148 ≤ fadt.length }
     ensures ok { IfOk result (λ dsdt.
-        IsNamedTableAt base bytes.now (codes "DSDT") (dsdt_address (contents base bytes.now fadt)) dsdt) }
+        IsNamedTableAt (memory_of ranges.now) (codes "DSDT") (dsdt_address (contents (memory_of ranges.now) fadt)) dsdt) }
     ensures err { OnErr result ((dsdt : Located)
-        → ¬ IsNamedTableAt base bytes.now (codes "DSDT") (dsdt_address (contents base bytes.now fadt)) dsdt) }
+        → ¬ IsNamedTableAt (memory_of ranges.now) (codes "DSDT") (dsdt_address (contents (memory_of ranges.now) fadt)) dsdt) }
     ensures fault { IfErr result
-        (IsNamedTableFault base bytes.now (codes "DSDT") (dsdt_address (contents base bytes.now fadt))) }
+        (IsNamedTableFault (memory_of ranges.now) (codes "DSDT") (dsdt_address (contents (memory_of ranges.now) fadt))) }
 {
-    let address = dsdt_address(contents(bytes, base, fadt));
-    named_table(bytes, base, *b"DSDT", address)
+    let address = dsdt_address(contents(ranges, fadt));
+    named_table(ranges, *b"DSDT", address)
 }
 
 // Whether these are a FADT's Flags of a hardware-reduced machine: bit 20 is HW_REDUCED_ACPI.
@@ -193,12 +163,12 @@ fn has_no_control(fadt: &[u8]) -> bool
 }
 
 // The FACS at an address.
-fn control_at(bytes: &[u8], base: u64, address: u64) -> Result<Located, ImageFault>
-    ensures ok { IfOk result (λ facs. IsControlAt base bytes.now address facs) }
-    ensures err { OnErr result ((facs : Located) → ¬ IsControlAt base bytes.now address facs) }
-    ensures fault { IfErr result (IsControlFault base bytes.now address) }
+fn control_at(ranges: &[Range<'_>], address: u64) -> Result<Located, ImageFault>
+    ensures ok { IfOk result (λ facs. IsControlAt (memory_of ranges.now) address facs) }
+    ensures err { OnErr result ((facs : Located) → ¬ IsControlAt (memory_of ranges.now) address facs) }
+    ensures fault { IfErr result (IsControlFault (memory_of ranges.now) address) }
 {
-    let whole = part(bytes, base, address, 64)?;
+    let whole = part(ranges, address, 64)?;
     let signature = [whole[0], whole[1], whole[2], whole[3]];
     if signature != *b"FACS" {
         return Err(ImageFault::Signature(address));
@@ -214,19 +184,19 @@ fn control_at(bytes: &[u8], base: u64, address: u64) -> Result<Located, ImageFau
 }
 
 // The FACS of a FADT, or none.
-pub(crate) fn control(bytes: &[u8], base: u64, fadt: Located) -> Result<Option<Located>, ImageFault>
-    requires lies { Lies base bytes.now fadt.address fadt.length }
+pub(crate) fn control(ranges: &[Range<'_>], fadt: Located) -> Result<Option<Located>, ImageFault>
+    requires lies { LiesIn (memory_of ranges.now) fadt.address fadt.length }
     requires within { 148 ≤ fadt.length }
-    ensures ok { IfOk result (λ facs. IsControlOf base bytes.now (contents base bytes.now fadt) facs) }
-    ensures err { OnErr result ((facs : Option Located) → ¬ IsControlOf base bytes.now (contents base bytes.now fadt) facs) }
-    ensures says { OnErr result (has_no_control (contents base bytes.now fadt) ≡ false) }
-    ensures fault { IfErr result (IsControlFault base bytes.now (facs_address (contents base bytes.now fadt))) }
+    ensures ok { IfOk result (λ facs. IsControlOf (memory_of ranges.now) (contents (memory_of ranges.now) fadt) facs) }
+    ensures err { OnErr result ((facs : Option Located) → ¬ IsControlOf (memory_of ranges.now) (contents (memory_of ranges.now) fadt) facs) }
+    ensures says { OnErr result (has_no_control (contents (memory_of ranges.now) fadt) ≡ false) }
+    ensures fault { IfErr result (IsControlFault (memory_of ranges.now) (facs_address (contents (memory_of ranges.now) fadt))) }
 {
-    let fields = contents(bytes, base, fadt);
+    let fields = contents(ranges, fadt);
     if has_no_control(fields) {
         return Ok(None);
     }
-    let facs = control_at(bytes, base, facs_address(fields))?;
+    let facs = control_at(ranges, facs_address(fields))?;
     Ok(Some(facs))
 }
 
@@ -245,15 +215,15 @@ fn entry_count(xsdt: Located) -> Result<usize, ImageFault>
 }
 
 // The addresses that an XSDT lists.
-fn addresses(alloc: Global, bytes: &[u8], base: u64, xsdt: Located) -> Result<Vec<u64>, ImageFault>
-    requires lies { Lies base bytes.now xsdt.address xsdt.length }
+fn addresses(alloc: Global, ranges: &[Range<'_>], xsdt: Located) -> Result<Vec<u64>, ImageFault>
+    requires lies { LiesIn (memory_of ranges.now) xsdt.address xsdt.length }
     requires within { 36 ≤ xsdt.length }
-    ensures ok { IfOk result (λ addresses. AreAddresses base bytes.now xsdt addresses.items) }
-    ensures err { IfErr result (λ e. e ≢ Memory → (addresses : List ℕ) → ¬ AreAddresses base bytes.now xsdt addresses) }
+    ensures ok { IfOk result (λ addresses. AreAddresses (memory_of ranges.now) xsdt addresses.items) }
+    ensures err { IfErr result (λ e. e ≢ Memory → (addresses : List ℕ) → ¬ AreAddresses (memory_of ranges.now) xsdt addresses) }
     ensures fault { IfErr result (λ e. e ≢ Memory → HasPartOfEntry xsdt × (e ≡ ImageFault.Entries xsdt.address)) }
 {
     let count = entry_count(xsdt)?;
-    let whole = contents(bytes, base, xsdt);
+    let whole = contents(ranges, xsdt);
     let mut addresses = Vec::new(alloc);
     for i in 0..count {
         addresses.push(qword_at(whole, 36 + 8 * i))?;
@@ -262,39 +232,33 @@ fn addresses(alloc: Global, bytes: &[u8], base: u64, xsdt: Located) -> Result<Ve
 }
 
 // The addresses that the XSDT of the RSDP at an address lists.
-pub(crate) fn listed(
-    alloc: Global,
-    bytes: &[u8],
-    base: u64,
-    rsdp: u64,
-) -> Result<Vec<u64>, ImageFault>
-    ensures ok { IfOk result (λ addresses. AreListed base bytes.now rsdp addresses.items) }
-    ensures err { IfErr result (λ e. e ≢ Memory → (addresses : List ℕ) → ¬ AreListed base bytes.now rsdp addresses) }
-    ensures fault { IfErr result (λ e. e ≢ Memory → IsListFault bytes.now base rsdp e) }
+pub(crate) fn listed(alloc: Global, ranges: &[Range<'_>], rsdp: u64) -> Result<Vec<u64>, ImageFault>
+    ensures ok { IfOk result (λ addresses. Lists (memory_of ranges.now) rsdp addresses.items) }
+    ensures err { IfErr result (λ e. e ≢ Memory → (addresses : List ℕ) → ¬ Lists (memory_of ranges.now) rsdp addresses) }
+    ensures fault { IfErr result (λ e. e ≢ Memory → IsNoList (memory_of ranges.now) rsdp e) }
 {
-    let pointer = pointer(bytes, base, rsdp)?;
-    let xsdt = xsdt(bytes, base, pointer)?;
-    addresses(alloc, bytes, base, xsdt)
+    let pointer = pointer(ranges, rsdp)?;
+    let xsdt = xsdt(ranges, pointer)?;
+    addresses(alloc, ranges, xsdt)
 }
 
 // The tables that an XSDT lists.
 pub(crate) fn entries(
     alloc: Global,
-    bytes: &[u8],
-    base: u64,
+    ranges: &[Range<'_>],
     xsdt: Located,
 ) -> Result<Vec<Located>, ImageFault>
-    requires lies { Lies base bytes.now xsdt.address xsdt.length }
+    requires lies { LiesIn (memory_of ranges.now) xsdt.address xsdt.length }
     requires within { 36 ≤ xsdt.length }
-    ensures ok { IfOk result (λ entries. AreEntries base bytes.now xsdt entries.items) }
-    ensures err { IfErr result (λ e. e ≢ Memory → (entries : List Located) → ¬ AreEntries base bytes.now xsdt entries) }
-    ensures fault { IfErr result (λ e. e ≢ Memory → IsEntriesFault base bytes.now xsdt e) }
+    ensures ok { IfOk result (λ entries. AreEntries (memory_of ranges.now) xsdt entries.items) }
+    ensures err { IfErr result (λ e. e ≢ Memory → (entries : List Located) → ¬ AreEntries (memory_of ranges.now) xsdt entries) }
+    ensures fault { IfErr result (λ e. e ≢ Memory → IsEntriesFault (memory_of ranges.now) xsdt e) }
 {
     let count = entry_count(xsdt)?;
-    let whole = contents(bytes, base, xsdt);
+    let whole = contents(ranges, xsdt);
     let mut entries = Vec::new(alloc);
     for i in 0..count {
-        entries.push(table(bytes, base, qword_at(whole, 36 + 8 * i))?)?;
+        entries.push(table(ranges, qword_at(whole, 36 + 8 * i))?)?;
     }
     Ok(entries)
 }
@@ -337,27 +301,27 @@ pub(crate) fn only_fadt(xsdt: u64, tables: &[Located]) -> Result<Located, ImageF
 }
 
 // Each table sums to zero, and has its length.
-pub(crate) fn are_correct(bytes: &[u8], base: u64, tables: &[Located]) -> Result<(), ImageFault>
-    requires { All (λ table. Lies base bytes.now table.address table.length) tables.now }
-    ensures ok { OnOk result (All (λ table. IsTrueTable (contents base bytes.now table)) tables.now) }
-    ensures err { OnErr result (¬ All (λ table. IsTrueTable (contents base bytes.now table)) tables.now) }
+pub(crate) fn are_correct(ranges: &[Range<'_>], tables: &[Located]) -> Result<(), ImageFault>
+    requires { All (λ table. LiesIn (memory_of ranges.now) table.address table.length) tables.now }
+    ensures ok { OnOk result (All (λ table. IsTrueTable (contents (memory_of ranges.now) table)) tables.now) }
+    ensures err { OnErr result (¬ All (λ table. IsTrueTable (contents (memory_of ranges.now) table)) tables.now) }
     ensures fault { IfErr result (λ e. (table : Located) × Contains tables.now table
-        × ¬ IsTrueTable (contents base bytes.now table) × (e ≡ ImageFault.Sum table.address)) }
+        × ¬ IsTrueTable (contents (memory_of ranges.now) table) × (e ≡ ImageFault.Sum table.address)) }
 {
     for table in tables {
-        is_correct(bytes, base, *table)?;
+        is_correct(ranges, *table)?;
     }
     Ok(())
 }
 
 // A table sums to zero, and has its length.
-pub(crate) fn is_correct(bytes: &[u8], base: u64, table: Located) -> Result<(), ImageFault>
-    requires { Lies base bytes.now table.address table.length }
-    ensures ok { OnOk result (IsTrueTable (contents base bytes.now table)) }
-    ensures err { OnErr result (¬ IsTrueTable (contents base bytes.now table)) }
+pub(crate) fn is_correct(ranges: &[Range<'_>], table: Located) -> Result<(), ImageFault>
+    requires { LiesIn (memory_of ranges.now) table.address table.length }
+    ensures ok { OnOk result (IsTrueTable (contents (memory_of ranges.now) table)) }
+    ensures err { OnErr result (¬ IsTrueTable (contents (memory_of ranges.now) table)) }
     ensures fault { IfErr result (λ e. e ≡ ImageFault.Sum table.address) }
 {
-    if Table::check(contents(bytes, base, table)).is_err() {
+    if Table::check(contents(ranges, table)).is_err() {
         return Err(ImageFault::Sum(table.address));
     }
     Ok(())

@@ -13,6 +13,7 @@ ghost use Rattle.acpi_layout.specs.Lays.{Lays};
 use crate::fault::ImageFault;
 use crate::found::listed;
 use crate::place::{address, begin, pad, place_all};
+use crate::range::Range;
 use acpi_base::buffer::append_value;
 use acpi_base::error::{Error, R};
 use acpi_base::object::Aml;
@@ -44,7 +45,11 @@ impl Image {
             → ¬ AreListed base self.now.bytes.items self.now.rsdp addresses) }
         ensures fault { IfErr result (λ e. e ≢ ImageFault.Memory → IsListFault self.now.bytes.items base self.now.rsdp e) }
     {
-        listed(alloc, &self.bytes, base, self.rsdp)
+        let range = Range {
+            address: base,
+            bytes: &self.bytes,
+        };
+        listed(alloc, &[range], self.rsdp)
     }
 }
 

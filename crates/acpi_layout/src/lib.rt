@@ -11,5 +11,6 @@ pub mod lay_fault;
 pub mod layout;
 pub mod located;
 mod place;
+pub mod range;
 pub mod rsdt;
 pub mod rsdt_fault;

@@ -9,7 +9,7 @@ use Rattle.acpi_base.specs.declared.error.Error.TheVariants.{ImsicSet}
 use Rattle.acpi_base.specs.declared.oem.Oem.{Oem}
 use Rattle.acpi_core.specs.Addition.{Adds}
 use Rattle.acpi_core.specs.Listing.{Listing, length_limit}
-use Rattle.acpi_lists.specs.MadtArm.{gicc_bytes, gicd_bytes, gic_msi_bytes, gicr_bytes, gic_its_bytes}
+use Rattle.acpi_lists.specs.MadtArm.{gicc_bytes, earlier_gicc_bytes, gicd_bytes, gic_msi_bytes, gicr_bytes, gic_its_bytes}
 use Rattle.acpi_lists.specs.MadtInterrupts.{source_override_bytes, nmi_source_bytes, local_apic_nmi_bytes, local_x2apic_nmi_bytes}
 use Rattle.acpi_lists.specs.MadtLocalApics.{address_override_bytes, local_x2apic_bytes}
 use Rattle.acpi_lists.specs.MadtRiscv.{rintc_bytes, imsic_bytes, aplic_bytes, plic_bytes}
@@ -20,6 +20,7 @@ use Rattle.acpi_lists.specs.declared.madt.LocalInterruptController.TheVariants.{
 use Rattle.acpi_lists.specs.declared.madt.x86.ProcessorLocalApic.{ProcessorLocalApic}
 use Rattle.acpi_lists.specs.declared.madt.x86.IoApic.{IoApic}
 use Rattle.acpi_lists.specs.declared.madt.arm.Gicc.{Gicc}
+use Rattle.acpi_lists.specs.declared.madt.arm.EarlierGicc.{EarlierGicc}
 use Rattle.acpi_lists.specs.declared.madt.arm.Gicd.{Gicd}
 use Rattle.acpi_lists.specs.declared.madt.arm.GicMsi.{GicMsi}
 use Rattle.acpi_lists.specs.declared.madt.arm.Gicr.{Gicr}
@@ -91,6 +92,7 @@ pub record StructuresTellTheirLength : Type 0 where
   pub local_x2apic : (s : ProcessorLocalX2Apic) → IsPiece madt_walk.sizes (local_x2apic_bytes s)
   pub local_x2apic_nmi : (s : LocalX2ApicNmi) → IsPiece madt_walk.sizes (local_x2apic_nmi_bytes s)
   pub gicc : (s : Gicc) → IsPiece madt_walk.sizes (gicc_bytes s)
+  pub earlier_gicc : (s : EarlierGicc) → IsPiece madt_walk.sizes (earlier_gicc_bytes s)
   pub gicd : (s : Gicd) → IsPiece madt_walk.sizes (gicd_bytes s)
   pub gic_msi : (s : GicMsi) → IsPiece madt_walk.sizes (gic_msi_bytes s)
   pub gicr : (s : Gicr) → IsPiece madt_walk.sizes (gicr_bytes s)

@@ -9,6 +9,7 @@ use Rattle.acpi_lists.specs.declared.madt.arm.Trigger.TheVariants.{Edge, Level}
 use Rattle.acpi_lists.specs.declared.madt.arm.GicVersion.{GicVersion}
 use Rattle.acpi_lists.specs.declared.madt.arm.GicVersion.TheVariants.{Unspecified, GICv1, GICv2, GICv3, GICv4}
 use Rattle.acpi_lists.specs.declared.madt.arm.Gicc.{Gicc}
+use Rattle.acpi_lists.specs.declared.madt.arm.EarlierGicc.{EarlierGicc}
 use Rattle.acpi_lists.specs.declared.madt.arm.Gicd.{Gicd}
 use Rattle.acpi_lists.specs.declared.madt.arm.GicMsi.{GicMsi}
 use Rattle.acpi_lists.specs.declared.madt.arm.Gicr.{Gicr}
@@ -50,6 +51,32 @@ gicc_fields s =
 
 abbrev pub gicc_bytes : Gicc → List ℕ
 gicc_bytes s = fields_joined (gicc_fields s)
+
+-- that of ACPI 6.0 to 6.4 (ACPI 6.3, 5.2.12.14)
+abbrev pub earlier_gicc_fields : EarlierGicc → List NamedField
+earlier_gicc_fields s =
+    preset byte "Type" 0x0b  -- 0
+    ∷ preset byte "Length" 80  -- 1
+    ∷ reserved 2  -- 2
+    ∷ dword "CPU Interface Number" s.gicc.cpu_interface_number  -- 4
+    ∷ hex dword "ACPI Processor UID" s.gicc.acpi_processor_uid  -- 8
+    ∷ flags gicc_bits dword "Flags" s.gicc.flags  -- 12
+    ∷ dword "Parking Protocol Version" s.gicc.parking_protocol_version  -- 16
+    ∷ dword "Performance Interrupt GSIV" s.gicc.performance_interrupt  -- 20
+    ∷ hex qword "Parked Address" s.gicc.parked_address  -- 24
+    ∷ hex qword "Physical Base Address" s.gicc.base_address  -- 32
+    ∷ hex qword "GICV" s.gicc.virtual_registers  -- 40
+    ∷ hex qword "GICH" s.gicc.control_block_registers  -- 48
+    ∷ dword "VGIC Maintenance Interrupt" s.gicc.maintenance_interrupt  -- 56
+    ∷ hex qword "GICR Base Address" s.gicc.redistributor_base  -- 60
+    ∷ hex qword "MPIDR" s.gicc.mpidr  -- 68
+    ∷ byte "Processor Power Efficiency Class" s.gicc.power_efficiency_class  -- 76
+    ∷ reserved 1  -- 77
+    ∷ word "SPE Overflow Interrupt" s.gicc.overflow_interrupt  -- 78: reserved before ACPI 6.3
+    ∷ []
+
+abbrev pub earlier_gicc_bytes : EarlierGicc → List ℕ
+earlier_gicc_bytes s = fields_joined (earlier_gicc_fields s)
 
 -- GICC CPU Interface Flags: Enabled at bit 0, Online Capable at bit 3
 abbrev pub gicc_flags : EnabledStatus → ℕ

@@ -31,7 +31,8 @@ use acpi_core::kind::Kind;
 use acpi_core::table::Table;
 use acpi_core::walked::{Walked, is_walked};
 pub use arm::{
-    GIC_ITS, GIC_MSI, GICC, GICD, GICR, GicIts, GicMsi, GicVersion, Gicc, Gicd, Gicr, Trigger,
+    EARLIER_GICC, EarlierGicc, GIC_ITS, GIC_MSI, GICC, GICD, GICR, GicIts, GicMsi, GicVersion,
+    Gicc, Gicd, Gicr, Trigger,
 };
 pub use interrupts::{
     INTERRUPT_SOURCE_OVERRIDE, InterruptSourceOverride, LOCAL_APIC_NMI, LOCAL_X2APIC_NMI,

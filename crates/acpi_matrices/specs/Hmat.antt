@@ -30,13 +30,17 @@ proximity_bits =
     flag 0x1 "Attached Initiator Valid"
     ∷ []
 
+-- a memory with an initiator
+abbrev pub proximity : ℕ → ℕ → MemoryProximityDomain
+proximity initiator memory = record { flags = 1; initiator = initiator; memory = memory }
+
 -- Memory Proximity Domain Attributes Structure (5.2.28.3)
 abbrev pub proximity_fields : MemoryProximityDomain → List NamedField
 proximity_fields m =
     preset word "Type" 0  -- 0
     ∷ reserved 2  -- 2
     ∷ preset dword "Length" 40  -- 4
-    ∷ flags proximity_bits word "Flags" 1  -- 8: the initiator's domain is valid
+    ∷ flags proximity_bits word "Flags" m.flags  -- 8
     ∷ reserved 2  -- 10
     ∷ dword "Proximity Domain for the Attached Initiator" m.initiator  -- 12
     ∷ dword "Proximity Domain for the Memory" m.memory  -- 16

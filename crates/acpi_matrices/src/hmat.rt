@@ -11,7 +11,7 @@ ghost use Rattle.acpi_core.specs.Walk.{IsWalked, Keeps};
 ghost use Rattle.acpi_matrices.specs.Hmat.{hmat, hmat_of, proximity_bytes};
 ghost use Rattle.acpi_matrices.specs.Locality.{locality_bytes, CellsAreSet, NewCellsAreUnreachable};
 ghost use Rattle.acpi_matrices.specs.Cache.{cache_bytes};
-ghost use Rattle.acpi_matrices.specs.Hmat.{proximity_fields};
+ghost use Rattle.acpi_matrices.specs.Hmat.{proximity, proximity_fields};
 
 mod cache;
 mod locality;
@@ -144,26 +144,40 @@ pub fn new_cells_are_unreachable()
     ensures { NewCellsAreUnreachable }
 {}
 
+// The flag of a proximity domain (ACPI 6.5, 5.2.28.3, offset 8) that says that the initiator's domain is valid.
+const INITIATOR_VALID: u16 = 1;
+
 /// The initiator's domain that is attached to a memory's domain (Memory Proximity Domain Attributes Structure, ACPI 6.5,
 /// 5.2.28.3): 40 bytes. Flag 1 says that the initiator's domain is valid.
 #[derive(Clone, Copy, Debug)]
 pub struct MemoryProximityDomain {
+    flags: u16,
     initiator: u32,
     memory: u32,
 }
 
 impl MemoryProximityDomain {
-    /// The proximity domains of the initiator and of the memory.
+    /// The proximity domains of the initiator and of the memory, and flag 1 (offset 8).
     pub fn new(
         proximity_domain_initiator: u32,
         proximity_domain_memory: u32,
     ) -> MemoryProximityDomain
-        ensures { result ≡ record { initiator = proximity_domain_initiator; memory = proximity_domain_memory } }
+        ensures { result ≡ proximity proximity_domain_initiator proximity_domain_memory }
     {
         MemoryProximityDomain {
+            flags: INITIATOR_VALID,
             initiator: proximity_domain_initiator,
             memory: proximity_domain_memory,
         }
+    }
+
+    /// Clears flag 1 (offset 8): no initiator is attached to the memory, or it isn't known. Readers ignore the initiator's
+    /// domain then, which keeps its number.
+    pub fn without_initiator(mut self) -> MemoryProximityDomain
+        ensures { result ≡ record self { flags = 0 } }
+    {
+        self.flags = 0;
+        self
     }
 }
 
@@ -193,7 +207,7 @@ impl Record<40> for MemoryProximityDomain {
                 Value::Number(0),
                 Value::Number(0),
                 Value::Number(40),
-                Value::Number(1),
+                Value::Number(u64::from(self.flags)),
                 Value::Number(0),
                 Value::Number(u64::from(self.initiator)),
                 Value::Number(u64::from(self.memory)),

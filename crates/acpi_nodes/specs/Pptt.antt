@@ -19,11 +19,11 @@ use Rattle.acpi_nodes.specs.declared.pptt.CacheNode.{CacheNode}
 use Rattle.acpi_nodes.specs.declared.pptt.CacheNodeBuilder.{CacheNodeBuilder}
 use Rattle.acpi_nodes.specs.Resources.{no_resources, with_resource}
 
--- a table without nodes
-abbrev pub pptt : Oem → Listing
-pptt oem = record {
+-- a table of a revision without nodes
+abbrev pub pptt_of : ℕ → Oem → Listing
+pptt_of revision oem = record {
   signature = codes "PPTT";
-  revision = 3;
+  revision = revision;
   oem = oem;
   before = [];
   count_width = 0;
@@ -31,6 +31,10 @@ pptt oem = record {
   limit = length_limit;
   structures = [];
 }
+
+-- that of the revision of `new`
+abbrev pub pptt : Oem → Listing
+pptt oem = pptt_of 3 oem
 
 -- ---- Processor hierarchy node structure (5.2.30.1)
 

@@ -1,6 +1,6 @@
 //! PPTT: the hierarchy of processors and their caches.
 
-ghost use Rattle.std.specs.Prelude.{◌≡◌, ◌≢◌, ◌<◌, true, bit_or, IsNone, IfSome, OnOk, IfOk, IfErr, length};
+ghost use Rattle.std.specs.Prelude.{◌≡◌, ◌≢◌, ℕ, ◌<◌, true, bit_or, IsNone, IfSome, OnOk, IfOk, IfErr, length};
 ghost use Rattle.acpi_base.specs.Fields.{AreRowsOf};
 ghost use Rattle.acpi_base.specs.Object.{whole, whole_ends_well};
 ghost use Rattle.acpi_base.specs.Walk.{pptt_walk};
@@ -10,7 +10,7 @@ ghost use Rattle.acpi_core.specs.Calls.{IsAfterItsCalls};
 ghost use Rattle.acpi_core.specs.Listing.{bytes_of, length_limit};
 ghost use Rattle.acpi_core.specs.Walk.{IsWalked, Keeps};
 ghost use Rattle.acpi_nodes.specs.Resources.{with_resource};
-ghost use Rattle.acpi_nodes.specs.Pptt.{pptt, processor, processor_head_fields, processor_head, processor_bytes};
+ghost use Rattle.acpi_nodes.specs.Pptt.{pptt, pptt_of, processor, processor_head_fields, processor_head, processor_bytes};
 ghost use Rattle.acpi_nodes.specs.Pptt.{allocation_number, type_number, policy_number, cache_of, cache_bytes};
 ghost use Rattle.acpi_nodes.specs.Pptt.{NodesTellKinds, NodesStand, ReferencesAreRead};
 ghost use Rattle.acpi_nodes.specs.declared.pptt.ProcessorNode.{ProcessorNode};
@@ -64,8 +64,23 @@ impl PPTT {
     pub fn new(alloc: Global, oem_id: [u8; 6], oem_table_id: [u8; 8], oem_revision: u32) -> PPTT
         ensures { result.table.table ≡ pptt (record { id = oem_id; table_id = oem_table_id; revision = oem_revision }) }
     {
+        PPTT::of_revision(alloc, 3, oem_id, oem_table_id, oem_revision)
+    }
+
+    /// A table of a revision without nodes. Revision 1 is that of ACPI 6.2, 2 that of ACPI 6.3, and 3 that of ACPI 6.4 and later,
+    /// in which a cache has its id at the end. The node of a cache has that field in every revision.
+    pub fn of_revision(
+        alloc: Global,
+        revision: u8,
+        oem_id: [u8; 6],
+        oem_table_id: [u8; 8],
+        oem_revision: u32,
+    ) -> PPTT
+        ensures { result.table.table
+            ≡ pptt_of revision (record { id = oem_id; table_id = oem_table_id; revision = oem_revision }) }
+    {
         let oem = Oem::new(oem_id, oem_table_id, oem_revision);
-        let form = Form::new(*b"PPTT", 3, oem, 0);
+        let form = Form::new(*b"PPTT", revision, oem, 0);
         PPTT {
             table: Walked::of(Table::new(alloc, form, &[], &[])),
         }
@@ -105,7 +120,7 @@ impl PPTT {
 pub fn pptt_is_walked(table: &PPTT)
     ensures keeps { Keeps true pptt_walk length_limit true table.now.table.table }
     ensures walked { IsWalked true pptt_walk table.now.table.table }
-    ensures calls { (oem : Oem) → IsAfterItsCalls true pptt_walk (pptt oem) table.now.table }
+    ensures calls { (revision : ℕ) (oem : Oem) → IsAfterItsCalls true pptt_walk (pptt_of revision oem) table.now.table }
     ensures nodes { NodesStand table.now.table.table }
 {
     is_walked(&table.table)

@@ -323,7 +323,7 @@ pub mod facs {
 
 /// The Fixed ACPI Description Table (ACPI 6.5, 5.2.9).
 pub mod fadt {
-    pub use acpi_fixed::fadt::{FADT, FADTBuilder, Flags, PmProfile};
+    pub use acpi_fixed::fadt::{EarlierFADT, FADT, FADTBuilder, FadtRelease, Flags, PmProfile};
 }
 
 /// The Firmware Performance Data Table (ACPI 6.5, 5.2.24).
@@ -339,7 +339,7 @@ pub mod gas {
 /// The Generic Timer Description Table and its platform timers (ACPI 6.5, 5.2.25).
 pub mod gtdt {
     pub use acpi_arm::gtdt::{
-        GTDT, GenericWatchdog, GtBlock, GtBlockTimer, Interrupt, Timer, Timers,
+        EarlierGTDT, GTDT, GenericWatchdog, GtBlock, GtBlockTimer, Interrupt, Timer, Timers,
     };
 }
 
@@ -370,10 +370,10 @@ pub mod hpet {
 /// The I/O Remapping Table and its nodes (Arm DEN0049E.d). `rimt` has a type `IdMapping`, too: write `iort::IdMapping`.
 pub mod iort {
     pub use acpi_arm::iort::{
-        AccessAttributes, Httu, IORT, IdMapping, ItsGroup, ItsGroupHandle, MemoryAccess,
-        MemoryRange, Monitored, NamedComponent, NamedComponentHandle, Output, Pmcg, ReservedMemory,
-        RootComplex, RootComplexHandle, Smmu, SmmuHandle, SmmuInterrupt, SmmuModel, SmmuV3,
-        SmmuV3Handle, SmmuV3Model,
+        AccessAttributes, EarlierRootComplex, Httu, IORT, IdMapping, ItsGroup, ItsGroupHandle,
+        MemoryAccess, MemoryRange, Monitored, NamedComponent, NamedComponentHandle, Output, Pmcg,
+        ReservedMemory, RootComplex, RootComplexHandle, Smmu, SmmuHandle, SmmuInterrupt, SmmuModel,
+        SmmuV3, SmmuV3Handle, SmmuV3Model,
     };
 }
 
@@ -388,12 +388,13 @@ pub mod ivrs {
 
 /// The tables of a guest at their addresses, in one image, which is made and checked.
 pub mod layout {
-    pub use acpi_layout::check::check_image;
+    pub use acpi_layout::check::{check_image, check_memory};
     pub use acpi_layout::fault::ImageFault;
     pub use acpi_layout::files::lay_files;
     pub use acpi_layout::lay_fault::LayFault;
     pub use acpi_layout::layout::{Image, lay, lay_reduced};
     pub use acpi_layout::located::Located;
+    pub use acpi_layout::range::Range;
     pub use acpi_layout::rsdt::{RsdtImage, lay_reduced_rsdt, lay_rsdt};
     pub use acpi_layout::rsdt_fault::RsdtFault;
 }
@@ -402,8 +403,8 @@ pub mod layout {
 /// `madt::EnabledStatus`.
 pub mod madt {
     pub use acpi_lists::madt::{
-        APLIC, EnabledStatus, GicIts, GicMsi, GicVersion, Gicc, Gicd, Gicr, HartStatus, IMSIC,
-        InterruptSourceOverride, IoApic, LocalApicAddressOverride, LocalApicNmi,
+        APLIC, EarlierGicc, EnabledStatus, GicIts, GicMsi, GicVersion, Gicc, Gicd, Gicr,
+        HartStatus, IMSIC, InterruptSourceOverride, IoApic, LocalApicAddressOverride, LocalApicNmi,
         LocalInterruptController, LocalX2ApicNmi, MADT, NmiSource, PCAT_COMPAT, PLIC, Polarity,
         ProcessorLocalApic, ProcessorLocalX2Apic, RINTC, Trigger, TriggerMode,
     };
@@ -490,7 +491,7 @@ pub mod slit {
 /// The Serial Port Console Redirection table (Microsoft).
 pub mod spcr {
     pub use acpi_fixed::spcr::{
-        BaudRate, FlowControl, InterfaceType, InterruptController, SPCR, TerminalType,
+        BaudRate, EarlierSPCR, FlowControl, InterfaceType, InterruptController, SPCR, TerminalType,
     };
 }
 
@@ -512,7 +513,7 @@ pub mod text {
     pub use acpi_make::fault::{Fault, MakeError, Wanted};
     pub use acpi_make::make::Made;
     pub use acpi_terms_text::annotate::annotated;
-    pub use acpi_terms_text::objects::{Object, add_objects_in, own_arities, own_arities_in_part};
+    pub use acpi_terms_text::objects::{Object, add_objects_in, own_arities};
     pub use acpi_text::comment::push_comment;
     pub use acpi_text::form::{Choice, Count, Inner, Part, StructureForm, TableForm};
     pub use acpi_text::table::show_by;

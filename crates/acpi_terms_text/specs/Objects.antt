@@ -13,7 +13,6 @@ use Rattle.acpi_term.specs.Tree.{def_thermal_zone, def_index_field, def_bank_fie
 use Rattle.acpi_term.specs.declared.op.Op.{Op}
 use Rattle.acpi_term.specs.declared.op.Op.TheVariants as ops
 use Rattle.acpi_read.specs.Lines.{name_text}
-use Rattle.acpi_read.specs.Terms.{AreReadIn}
 use Rattle.acpi_read.specs.InPart.{AreReadInPart}
 
 -- ---- paths as texts, without a root
@@ -227,14 +226,8 @@ pub record AddObjectsIn (stated : List (List ℕ × ℕ)) (bytes : List ℕ) (ol
   pub are : AreObjectsIn stated bytes more
   pub added : new ≡ old ++ more
 
--- The numbers of the terms that the bytes spell with the stated numbers, and of the objects of further blocks.
+-- The numbers of names in a block with these bytes, if further blocks have these objects.
 pub record AreOwn (stated : List (List ℕ × ℕ)) (further : List Callee) (bytes : List ℕ) (all : List (List ℕ × ℕ)) : Type 0 where
-  pub terms : Terms
-  pub read : AreReadIn (grammar_of Standard (arity stated)) bytes terms
-  pub is : all ≡ own_numbers stated (all_callees terms further)
-
--- The same of terms that are read as far as they can be.
-pub record AreOwnInPart (stated : List (List ℕ × ℕ)) (further : List Callee) (bytes : List ℕ) (all : List (List ℕ × ℕ)) : Type 0 where
   pub own : List Callee
   pub are : AreObjectsIn stated bytes own
   pub is : all ≡ own_numbers stated (callees (own ++ further))

@@ -8,17 +8,15 @@ ghost use Rattle.acpi_term.specs.View.{entry_view, head_of, view, views, single}
 ghost use Rattle.acpi_read.specs.Lines.{name_text};
 ghost use Rattle.acpi_term.specs.declared.language.Language.TheVariants.{Standard};
 ghost use Rattle.acpi_term.specs.Language.{grammar_of};
-ghost use Rattle.acpi_read.specs.Terms.{IsUnreadIn};
 ghost use Rattle.acpi_terms_text.specs.Objects.{placed, opened, inside, after_dots, calls, stated, all_stated};
 ghost use Rattle.acpi_terms_text.specs.Objects.{is_method, callee_by, makes, as_segment, own_unit, own_units, own_external};
 ghost use Rattle.acpi_terms_text.specs.Objects.{made_by, name_of, name_at, own_operand, own_objects, objects};
 ghost use Rattle.acpi_terms_text.specs.Objects.{segment, own_segment, segments, if_among, all_among, callees, all_callees};
 ghost use Rattle.acpi_terms_text.specs.Objects.{numbers, numbers_of, called, predefined, own_numbers};
-ghost use Rattle.acpi_terms_text.specs.Objects.{AreOwn, AreOwnInPart, AddObjectsIn};
+ghost use Rattle.acpi_terms_text.specs.Objects.{AreOwn, AddObjectsIn};
 
 use acpi_read::report::words::push_named;
 use acpi_read::terms::in_part::terms_in_part;
-use acpi_read::terms::standard_terms;
 use acpi_term::apart::{Kind, parts_of};
 use acpi_term::name_string::{Arities, NameString, name_of};
 use acpi_term::op::Op;
@@ -519,27 +517,6 @@ fn own_numbers(alloc: Global, stated: &Arities, objects: &[Object]) -> Result<Ar
     Ok(all)
 }
 
-/// How many arguments names take in a definition block: the stated numbers, those of the objects that the block itself makes, or
-/// declares as external, those of the objects of further blocks, and that of `_OSI`, which the operating system has (ACPI 6.5,
-/// 5.7.2). `bytes` are its terms, without the header. A method adds its path from the root, and the path without the root from
-/// each of its segments on, as calls may name it. So does another object whose name ends as that of a method with arguments; its
-/// number is 0. A name that is stated keeps its number, and a name of several objects has the least of their numbers. The errors
-/// are those of `acpi_read::terms::standard_terms` with the stated numbers.
-pub fn own_arities(
-    alloc: Global,
-    bytes: &[u8],
-    stated: &Arities,
-    further: &[Object],
-) -> Result<Arities, ReadError>
-    ensures ok { IfOk result (λ all. AreOwn stated.now (map callee_by further.now) bytes.now all) }
-    ensures err { IfErr result (IsUnreadIn (grammar_of Standard (arity stated.now)) bytes.now) }
-{
-    let terms = standard_terms(bytes, stated)?;
-    let objects = all_callees(alloc, &terms, further)?;
-    let all = own_numbers(alloc, stated, &objects)?;
-    Ok(all)
-}
-
 /// Adds the objects of a further definition block, by which it and others have the same namespace (ACPI 6.5, 5.3). `bytes` are its
 /// terms, without the header. The objects are those of the terms that can be read with the stated numbers.
 pub fn add_objects_in(
@@ -555,14 +532,19 @@ pub fn add_objects_in(
     push_terms(alloc, &root, &terms, all)
 }
 
-/// The numbers of `own_arities` for bytes of which not all can be read: the objects are those of the terms that can.
-pub fn own_arities_in_part(
+/// How many arguments names take in a definition block: the stated numbers, those of the objects that the block itself makes, or
+/// declares as external, those of the objects of further blocks, and that of `_OSI`, which the operating system has (ACPI 6.5,
+/// 5.7.2). `bytes` are its terms, without the header. A method adds its path from the root, and the path without the root from
+/// each of its segments on, as calls may name it. So does another object whose name ends as that of a method with arguments; its
+/// number is 0. A name that is stated keeps its number, and a name of several objects has the least of their numbers. The block's
+/// objects are those of the terms that can be read with the stated numbers.
+pub fn own_arities(
     alloc: Global,
     bytes: &[u8],
     stated: &Arities,
     further: &[Object],
 ) -> Result<Arities, AllocError>
-    ensures { IfOk result (λ all. AreOwnInPart stated.now (map callee_by further.now) bytes.now all) }
+    ensures { IfOk result (λ all. AreOwn stated.now (map callee_by further.now) bytes.now all) }
 {
     let mut objects = Vec::new(alloc);
     add_objects_in(alloc, bytes, stated, &mut objects)?;

@@ -2,11 +2,11 @@
 use Rattle.std.proofs.Common.{◌≡◌, ◌⊎◌, ℕ, Bool, true, false, map, List, [], ◌∷◌, ◌++◌, length, refl, sym, ap, subst, ◌∙◌, inl, inr, arith, codes, string_bytes}
 use Rattle.std.proofs.lemmas.List.{length-map}
 use Rattle.acpitool_program.proofs.Verbs.{heads, tails, same_verb, no_version, no_help, asks_no_help}
-use Rattle.acpitool_program.specs.Command.{begins_with_json, begins_with_bare, after_option, files_in, forces, unforced, IsAddress, AreImage, AreUnpack, AreLay, AreAfter, IsHelp, BeginsWithHelp, AsksForHelp, Asks}
+use Rattle.acpitool_program.specs.Command.{begins_with_json, begins_with_bare, begins_with_dot, after_option, files_in, forces, unforced, IsAddress, AreImage, AreUnpack, AreLay, AreAfter, IsHelp, BeginsWithHelp, AsksForHelp, Asks}
 use Rattle.acpitool_program.specs.Laws.{Content, option_if, content, AskForOne}
 use Rattle.acpitool_program.specs.declared.command.Command.{Command}
 use Rattle.acpitool_program.specs.declared.command.Command.TheVariants.{Help, Version, Show, Check, Image, Make, Template}
-use Rattle.acpitool_program.specs.declared.command.Command.TheVariants.{Disassemble, Names, Unpack, Cpio, Lay, Loader, Diff, Json}
+use Rattle.acpitool_program.specs.declared.command.Command.TheVariants.{Disassemble, Names, Unpack, Cpio, Lay, Loader, Diff, Json, Tree}
 use Rattle.acpitool_program.specs.declared.command.Verb.{Verb}
 use Rattle.acpitool_program.specs.declared.command.Verb.TheVariants as verbs
 
@@ -57,7 +57,8 @@ IsOf verbs.Template more k = (signature : List ℕ) × (more ≡ signature ∷ [
 IsOf verbs.Disassemble more k =
     (file : List ℕ) × (numbers : List (List ℕ)) × (more ≡ file ∷ numbers) × (k ≡ (codes "disassemble", file ∷ [], numbers, 0, []))
 IsOf verbs.Names more k =
-    (file : List ℕ) × (numbers : List (List ℕ)) × (more ≡ file ∷ numbers) × (k ≡ (codes "names", file ∷ [], numbers, 0, []))
+    (file : List ℕ) × (numbers : List (List ℕ)) × (after_option verbs.Names more ≡ file ∷ numbers)
+    × (k ≡ (codes "names", file ∷ [], numbers, 0, option_if (begins_with_json more) (codes "--json")))
 IsOf verbs.Unpack more k =
     (file : List ℕ) × (folder : List ℕ) × (base : ℕ) × AreUnpack more file folder base
     × (k ≡ (codes "unpack", file ∷ folder ∷ [], [], base, []))
@@ -70,6 +71,9 @@ IsOf verbs.Loader more k =
     (folder : List ℕ) × (to : List ℕ) × (more ≡ folder ∷ to ∷ []) × (k ≡ (codes "loader", folder ∷ to ∷ [], [], 0, []))
 IsOf verbs.Diff more k =
     (first : List ℕ) × (second : List ℕ) × (more ≡ first ∷ second ∷ []) × (k ≡ (codes "diff", first ∷ second ∷ [], [], 0, []))
+IsOf verbs.Tree more k =
+    (file : List ℕ) × (after_option verbs.Tree more ≡ file ∷ [])
+    × (k ≡ (codes "tree", file ∷ [], [], 0, option_if (begins_with_dot more) (codes "--dot")))
 
 one_of : (verb : Verb) (more : List (List ℕ)) (k l : Content) → IsOf verb more k → IsOf verb more l → k ≡ l
 one_of verbs.Show more k l (inl one) (inl two) =
@@ -110,6 +114,7 @@ one_of verbs.Lay more k l one two =
     cc (one.4, two.4, folder, file, base)
 one_of verbs.Loader more k l one two = cc (one.2, one.3, two.2, two.3)
 one_of verbs.Diff more k l one two = cc (one.2, one.3, two.2, two.3)
+one_of verbs.Tree more k l one two = cc (one.1, one.2, two.1, two.2)
 
 -- a command with the words after its own, and what it contains
 record Contains (words : List (List ℕ)) (k : Content) : Type 0 where
@@ -177,8 +182,19 @@ are_of words (Template signature) all =
     inr (inr (record { verb = verbs.Template; more = all.0; after = all.1; of = (_, all.2, refl) }))
 are_of words (Disassemble file numbers) all =
     inr (inr (record { verb = verbs.Disassemble; more = all.0; after = all.1; of = (_, _, all.2, refl) }))
-are_of words (Names file numbers) all =
-    inr (inr (record { verb = verbs.Names; more = all.0; after = all.1; of = (_, _, all.2, refl) }))
+are_of words (Names json file numbers) all = inr (inr (record {
+  verb = verbs.Names;
+  more = all.0;
+  after = all.1;
+  of = (
+    file.now,
+    map (λ word. string_bytes word) numbers.now,
+    all.3,
+    ap
+        (λ (b : Bool). (codes "names", file.now ∷ [], map (λ word. string_bytes word) numbers.now, 0, option_if b (codes "--json")))
+        all.2,
+  );
+}))
 are_of words (Unpack file folder base) all =
     inr (inr (record { verb = verbs.Unpack; more = all.0; after = all.1; of = (_, _, _, all.2, refl) }))
 are_of words (Cpio folder file) all =
@@ -189,6 +205,16 @@ are_of words (Loader folder to) all =
     inr (inr (record { verb = verbs.Loader; more = all.0; after = all.1; of = (_, _, all.2, refl) }))
 are_of words (Diff first second) all =
     inr (inr (record { verb = verbs.Diff; more = all.0; after = all.1; of = (_, _, all.2, refl) }))
+are_of words (Tree dot file) all = inr (inr (record {
+  verb = verbs.Tree;
+  more = all.0;
+  after = all.1;
+  of = (
+    file.now,
+    all.3,
+    ap (λ (b : Bool). (codes "tree", file.now ∷ [], [], 0, option_if b (codes "--dot"))) all.2,
+  );
+}))
 are_of words (Make force text file) all = inr (inr (record {
   verb = verbs.Make;
   more = all.0;

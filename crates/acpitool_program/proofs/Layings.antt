@@ -1,39 +1,112 @@
 -- The image of a folder's files.
-use Rattle.std.proofs.Common.{◌≡◌, ℕ, ◌<◌, List, [], ◌∷◌, ◌++◌, ◌+◌, Option, length, take, drop, map, get_or, sym, ap, subst, ◌∙◌, inl, inr, Result, Ok, Err, MatchResult}
+use Rattle.std.proofs.Common.{◌≡◌, ◌⊎◌, ℕ, ◌<◌, Bool, true, false, List, [], ◌∷◌, ◌++◌, ◌+◌, Option, None, length, take, drop, map, get_or, sym, ap, subst, ◌∙◌, inl, inr, Result, Ok, Err, MatchResult}
 use Rattle.std.proofs.lemmas.List.{at_drop_more, map-append, map_more, take-append-drop}
-use Rattle.std.specs.Io.KnownBytes.{Keeps}
+use Rattle.std.specs.Io.KnownBytes.{Keeps, Appends}
 use Rattle.acpi_forms.specs.Kind.{kind_of}
 use Rattle.acpi_layout.specs.Files.{IsLaid}
 use Rattle.acpi_layout.specs.declared.layout.Image.{Image}
 use Rattle.acpi_layout.specs.declared.located.Located.{Located}
+use Rattle.acpi_make.specs.declared.extent.Own.{Own}
 use Rattle.acpitool_program.proofs.Archives.{saved_then, not_saved_then}
-use Rattle.acpitool_program.proofs.Streams.{keeps_kept, keeps_then}
+use Rattle.acpitool_program.proofs.Streams.{keeps_kept, keeps_then, appends_nothing}
 use Rattle.acpitool_program.specs.Image.{IsFoundImage}
+use Rattle.acpitool_program.specs.Laying.{is_text, IsTableOf, AreOfText, IsFile, IsNoFile, IsUnmade}
 use Rattle.acpitool_program.specs.Laying.{AreFiles, IsRefused, IsMisread, IsNotFound, HaveNoneLaid, IsNotLaid, IsFoundOf, IsImageOf}
 use Rattle.acpitool_program.specs.Laying.{IsSavedTo, IsSaved, IsLaidOut}
+use Rattle.acpitool_program.specs.Making.{IsChecked, warnings, IsJudged, MadeText, Held, NotMade}
+use Rattle.acpitool_program.specs.Structures.{IsSoundOr}
 use Rattle.acpitool_program.specs.Text.{IsKind}
+use Rattle.acpitool_program.specs.declared.fault.Fault.{Fault}
 
 -- ---- files
 
+unforced : (owns : List Own) (fault : Option Fault) → (false ≡ true) ⊎ ((owns ≡ []) × (fault ≡ None)) → (owns ≡ []) × (fault ≡ None)
+unforced owns fault (inl is) = absurd (cc (is))
+unforced owns fault (inr are) = are
+
+-- nothing was printed of a table that is to be written without force
+quietly : (path : List ℕ) (owns : List Own) (bytes : List ℕ) (a b : Option (List ℕ)) → IsJudged false path owns bytes a b true
+    → Keeps a b × (owns ≡ []) × IsSoundOr bytes None
+quietly path owns bytes a b judged =
+    let are = unforced owns judged.fault judged.right in
+    let Q : List Own → Type 0 = λ l. IsChecked l bytes judged.fault in
+    let R : Option Fault → Type 0 = λ f. IsSoundOr bytes f in
+    let S : List Own → Type 0 = λ l. Appends a b (warnings path l judged.fault) in
+    let T : Option Fault → Type 0 = λ f. Appends a b (warnings path [] f) in
+    (appends_nothing a b (subst T are.1 (subst S are.0 judged.noted)), are.0, subst R are.1 (subst Q are.0 judged.checked))
+
+pub made_then : (path text bytes : List ℕ) (a b : Option (List ℕ)) → MadeText false path text bytes a b → IsTableOf text bytes × Keeps a b
+made_then path text bytes a b one =
+    let all = quietly path one.made.untrue.items one.made.bytes.items a b one.judged in
+    let P : List ℕ → Type 0 = λ l. IsSoundOr l None in
+    (record { made = one.made; is = one.is; same = one.same; right = all.1; sound = subst P one.same all.2 }, all.0)
+
+-- a file of its own bytes, and that of a text's table
+pub plain_file : {Y : Type 0} (g : Y → List ℕ) (path : List ℕ) (bytes : Y) (found : Result Y ℕ) (a b : Option (List ℕ)) → is_text path ≡ false
+    → MatchResult found (λ file. (file ≡ bytes) × IsKind (kind_of (g file)) (g file) × Keeps a b) (λ status. IsNoFile path (g bytes) a b status)
+    → MatchResult found (λ file. IsFile path (g file) × Keeps a b) (λ status. IsRefused path a b status)
+plain_file g path bytes (Ok file) a b plain read =
+    let P : Bool → Type 0 = λ t. AreOfText t (g file) in
+    (record { of = subst P (sym plain) tt; kind = read.1 }, read.2)
+plain_file g path bytes (Err status) a b plain not = inl (g bytes, not)
+
+pub text_file : {Y : Type 0} (g : Y → List ℕ) (path text : List ℕ) (table : Y) (found : Result Y ℕ) (a b c : Option (List ℕ)) → is_text path ≡ true
+    → IsTableOf text (g table) × Keeps a b
+    → MatchResult found (λ file. (file ≡ table) × IsKind (kind_of (g file)) (g file) × Keeps b c) (λ status. IsNoFile path (g table) b c status)
+    → MatchResult found (λ file. IsFile path (g file) × Keeps a c) (λ status. IsRefused path a c status)
+text_file g path text table (Ok file) a b c textual made read =
+    let P : Bool → Type 0 = λ t. AreOfText t (g file) in
+    let Q : List ℕ → Type 0 = λ l. IsTableOf text l in
+    (record { of = subst P (sym textual) (text, subst Q (ap g (sym read.0)) made.0); kind = read.1 }, keeps_kept a b c made.1 read.2)
+text_file g path text table (Err status) a b c textual made not = inl (
+  g table,
+  record { fault = not.fault; cause = not.cause; complained = keeps_then a b c _ made.1 not.complained; is = not.is },
+)
+
 -- one more file
-are_more : (paths files : List (List ℕ)) (path file : List ℕ) → AreFiles paths files → IsKind (kind_of file) file
+are_more : (paths files : List (List ℕ)) (path file : List ℕ) → AreFiles paths files → IsFile path file
     → AreFiles (paths ++ path ∷ []) (files ++ file ∷ [])
 are_more [] [] path file are one = (one, tt)
 are_more [] (x ∷ files) path file are one = absurd are
 are_more (p ∷ paths) [] path file are one = absurd are
 are_more (p ∷ paths) (x ∷ files) path file are one = (are.0, are_more paths files path file are.1 one)
 
+-- a text that has no table, after others
+held_then : (path text : List ℕ) (a b c : Option (List ℕ)) → Keeps a b → Held false path text b c → Held false path text a c
+held_then path text a b c kept not = record {
+  made = not.made;
+  is = not.is;
+  judged = record {
+    fault = not.judged.fault;
+    checked = not.judged.checked;
+    wrong = not.judged.wrong;
+    no_force = not.judged.no_force;
+    noted = keeps_then a b c _ kept not.judged.noted;
+  };
+}
+
+unmade_by : (path text : List ℕ) (a b c : Option (List ℕ)) → Keeps a b → Held false path text b c ⊎ NotMade path text b c
+    → Held false path text a c ⊎ NotMade path text a c
+unmade_by path text a b c kept (inl not) = inl (held_then path text a b c kept not)
+unmade_by path text a b c kept (inr not) =
+    inr (record { wrong = not.wrong; is = not.is; complained = keeps_then a b c _ kept not.complained })
+
+unmade_then : (path : List ℕ) (a b c : Option (List ℕ)) (status : ℕ) → Keeps a b → IsUnmade path b c status → IsUnmade path a c status
+unmade_then path a b c status kept one =
+    record { text = one.text; not = unmade_by path one.text a b c kept one.not; is = one.is }
+
 -- a file that is refused after others
 refused_then : (path : List ℕ) (a b c : Option (List ℕ)) (status : ℕ) → Keeps a b → IsRefused path b c status → IsRefused path a c status
 refused_then path a b c status kept (inl (bytes, none)) =
     inl (bytes, record { fault = none.fault; cause = none.cause; complained = keeps_then a b c _ kept none.complained; is = none.is })
-refused_then path a b c status kept (inr unread) =
-    inr (record { why = unread.why; complained = keeps_then a b c _ kept unread.complained; is = unread.is })
+refused_then path a b c status kept (inr (inl unread)) =
+    inr (inl (record { why = unread.why; complained = keeps_then a b c _ kept unread.complained; is = unread.is }))
+refused_then path a b c status kept (inr (inr (text, not))) = inr (inr (text, unmade_then path a b c status kept not))
 
 module _ {X Y : Type 0} (f : X → List ℕ) (g : Y → List ℕ) (paths : List X) (i : ℕ) (x : X) (inside : i < length paths)
     (is : x ≡ get_or paths i x) where
   pub file_then : (files : List Y) (more : List Y) (file : Y) → more ≡ files ++ file ∷ [] → AreFiles (map f (take i paths)) (map g files)
-      → IsKind (kind_of (g file)) (g file) → AreFiles (map f (take (i + 1) paths)) (map g more)
+      → IsFile (f x) (g file) → AreFiles (map f (take (i + 1) paths)) (map g more)
   file_then files more file grown are one =
       let front : map f (take (i + 1) paths) ≡ map f (take i paths) ++ f x ∷ []
       = map_more f paths i x inside ∙ ap (λ (y : X). map f (take i paths) ++ f y ∷ []) (sym is) in

@@ -7,16 +7,17 @@ use Rattle.acpitool_program.specs.Checking.{AreChecked}
 use Rattle.acpitool_program.specs.Disassembly.{DisassemblesFile}
 use Rattle.acpi_asl.specs.declared.block.BlockText.{BlockText}
 use Rattle.acpi_asl.specs.declared.block.BlockText.TheVariants as blocks
+use Rattle.acpitool_program.specs.Drawing.{Draws}
 use Rattle.acpitool_program.specs.Job.{Job, shows}
 use Rattle.acpitool_program.specs.Listing.{Listed}
 use Rattle.acpitool_program.specs.Making.{MakesWord, Makes}
 use Rattle.acpitool_program.specs.Outcome.{Outcome, Printed}
 use Rattle.acpi_forms.specs.Known.{is_known}
 use Rattle.acpi_terms_text.specs.Objects.{Callee}
-use Rattle.acpitool_program.specs.Program.{Ended, IsDone, IsShown, AreListed, IsBlockAmong, IsNoneAmong, IsBlockShown, NotStated, IsTemplated}
+use Rattle.acpitool_program.specs.Program.{Ended, IsDone, IsShown, AreListed, IsBlockAmong, IsNoneAmong, IsBlockShown, NotStated, names_text, IsTemplated}
 use Rattle.acpitool_program.specs.declared.command.Command.{Command}
 use Rattle.acpitool_program.specs.declared.command.Command.TheVariants.{Help, Version, Show, Check, Image, Make, Template}
-use Rattle.acpitool_program.specs.declared.command.Command.TheVariants.{Disassemble, Names, Unpack, Cpio, Lay, Loader, Diff, Json}
+use Rattle.acpitool_program.specs.declared.command.Command.TheVariants.{Disassemble, Names, Unpack, Cpio, Lay, Loader, Diff, Json, Tree}
 
 printed_kept : (job : Job) (outcomes : List Outcome) (o o' o'' e e' : Option (List ℕ)) (s : ℕ) → Keeps o' o''
     → Printed job outcomes o o' e e' s → Printed job outcomes o o'' e e' s
@@ -166,6 +167,24 @@ made_kept force name file o o' o'' e e' s kept (inl its) = inl (record {
 })
 made_kept force name file o o' o'' e e' s kept (inr word) = inr (word_kept force name file o o' o'' e e' s kept word)
 
+drawn_kept : (dot : Bool) (name : List ℕ) (o o' o'' e e' : Option (List ℕ)) (s : ℕ) → Keeps o' o''
+    → Draws dot name o o' e e' s → Draws dot name o o'' e e' s
+drawn_kept dot name o o' o'' e e' s kept (inl (bytes, inl all)) = inl (
+  bytes,
+  inl (record { walk = all.walk; has = all.has; wrote = appends_kept o o' o'' _ all.wrote kept; silent = all.silent; is = all.is }),
+)
+drawn_kept dot name o o' o'' e e' s kept (inl (bytes, inr not)) = inl (
+  bytes,
+  inr (record {
+    fault = not.fault;
+    cause = not.cause;
+    complained = not.complained;
+    silent = keeps_kept o o' o'' not.silent kept;
+    is = not.is;
+  }),
+)
+drawn_kept dot name o o' o'' e e' s kept (inr not) = inr (unread_kept name o o' o'' e e' s kept not)
+
 templated_kept : (known : Bool) (signature : List ℕ) (o o' o'' e e' : Option (List ℕ)) (s : ℕ) → Keeps o' o''
     → IsTemplated known signature o o' e e' s → IsTemplated known signature o o'' e e' s
 templated_kept true signature o o' o'' e e' s kept done = (done.0, done.1, appends_kept o o' o'' _ done.2 kept, done.3, done.4)
@@ -180,12 +199,13 @@ done_kept o o' o'' e e' s (Check json files) kept done = checked_kept json _ o o
 done_kept o o' o'' e e' s (Image json file base) kept done = image_kept json file.now base o o' o'' e e' s kept done
 done_kept o o' o'' e e' s (Template signature) kept done = templated_kept (is_known signature.now) signature.now o o' o'' e e' s kept done
 done_kept o o' o'' e e' s (Disassemble file numbers) kept done = block_kept blocks.Asl file.now (map (λ word. string_bytes word) numbers.now) o o' o'' e e' s kept done
-done_kept o o' o'' e e' s (Names file numbers) kept done = block_kept blocks.Names file.now (map (λ word. string_bytes word) numbers.now) o o' o'' e e' s kept done
+done_kept o o' o'' e e' s (Names json file numbers) kept done = block_kept (names_text json) file.now (map (λ word. string_bytes word) numbers.now) o o' o'' e e' s kept done
 done_kept o o' o'' e e' s (Unpack file folder base) kept done = unpacked_kept file.now folder.now base o o' o'' e e' s kept done
 done_kept o o' o'' e e' s (Cpio folder file) kept done = archived_kept folder.now file.now o o' o'' e e' s kept done
 done_kept o o' o'' e e' s (Lay folder file base) kept done = laid_kept folder.now file.now base o o' o'' e e' s kept done
 done_kept o o' o'' e e' s (Loader folder to) kept done = loaded_kept folder.now to.now o o' o'' e e' s kept done
 done_kept o o' o'' e e' s (Diff first second) kept done = compared_kept first.now second.now o o' o'' e e' s kept done
+done_kept o o' o'' e e' s (Tree dot file) kept done = drawn_kept dot file.now o o' o'' e e' s kept done
 done_kept o o' o'' e e' s (Make force text file) kept done = made_kept force text.now file.now o o' o'' e e' s kept done
 
 pub ended_kept : (words : List (List ℕ)) (o o' o'' e e' : Option (List ℕ)) (s : ℕ) → Keeps o' o'' → Ended words o o' e e' s → Ended words o o'' e e' s

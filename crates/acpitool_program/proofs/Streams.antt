@@ -23,6 +23,11 @@ pub appends_none : (a : Option (List ℕ)) → Appends a a []
 appends_none None = tt
 appends_none (Some xs) = sym (append-nil xs)
 
+pub appends_nothing : (a b : Option (List ℕ)) → Appends a b [] → Keeps a b
+appends_nothing None b none = tt
+appends_nothing (Some xs) None none = absurd none
+appends_nothing (Some xs) (Some ys) none = none ∙ append-nil xs
+
 pub appends_kept : (a b c : Option (List ℕ)) (x : List ℕ) → Appends a b x → Keeps b c → Appends a c x
 appends_kept None b c x one two = tt
 appends_kept (Some xs) None c x one two = absurd one

@@ -27,7 +27,8 @@ verb_of word =
     else (if bytes_eq word (codes "lay") then Some verbs.Lay
     else (if bytes_eq word (codes "loader") then Some verbs.Loader
     else (if bytes_eq word (codes "diff") then Some verbs.Diff
-    else None)))))))))))
+    else (if bytes_eq word (codes "tree") then Some verbs.Tree
+    else None))))))))))))
 
 verb_is : (verb : Verb) → verb_of (word_of verb) ≡ Some verb
 verb_is verbs.Show = refl
@@ -42,6 +43,7 @@ verb_is verbs.Cpio = refl
 verb_is verbs.Lay = refl
 verb_is verbs.Loader = refl
 verb_is verbs.Diff = refl
+verb_is verbs.Tree = refl
 
 pub same_verb : (a b : Verb) → word_of a ≡ word_of b → a ≡ b
 same_verb a b is = let e : Some a ≡ Some b = sym (verb_is a) ∙ ap verb_of is ∙ verb_is b in cc

@@ -48,3 +48,10 @@ fourth_word f (a ∷ b ∷ []) x t has is some = absurd (omega (arith, some))
 fourth_word f (a ∷ b ∷ d ∷ []) x t has is some = absurd (omega (arith, some))
 fourth_word f (a ∷ b ∷ d ∷ y ∷ ys) x t has is some =
     (f a, f b, f d, map f ys, ap (λ z. f a ∷ f b ∷ f d ∷ z ∷ map f ys) (ap f (sym is) ∙ sym has))
+
+-- the second word
+pub second_word : {A B : Type 0} (f : A → B) (xs : List A) (x : A) (t : B) → t ≡ f x → x ≡ get_or xs 1 x → 2 ≤ length xs
+    → (a : B) × (others : List B) × (map f xs ≡ a ∷ t ∷ others)
+second_word f [] x t has is some = absurd (omega (arith, some))
+second_word f (a ∷ []) x t has is some = absurd (omega (arith, some))
+second_word f (a ∷ y ∷ ys) x t has is some = (f a, map f ys, ap (λ z. f a ∷ z ∷ map f ys) (ap f (sym is) ∙ sym has))

@@ -6,14 +6,14 @@ use Rattle.acpitool_program.specs.Command.{IsAfterBase, IsAfterFile, IsAfterUnpa
 use Rattle.acpitool_program.specs.Laws.{WrongAskForNothing}
 use Rattle.acpitool_program.specs.declared.command.Command.{Command}
 use Rattle.acpitool_program.specs.declared.command.Command.TheVariants.{Help, Version, Show, Check, Image, Make, Template}
-use Rattle.acpitool_program.specs.declared.command.Command.TheVariants.{Disassemble, Names, Unpack, Cpio, Lay, Loader, Diff, Json}
+use Rattle.acpitool_program.specs.declared.command.Command.TheVariants.{Disassemble, Names, Unpack, Cpio, Lay, Loader, Diff, Json, Tree}
 use Rattle.acpitool_program.specs.declared.command.Verb.{Verb}
 use Rattle.acpitool_program.specs.declared.command.Verb.TheVariants as verbs
 use Rattle.acpitool_program.specs.declared.command.Wrong.{Wrong}
 use Rattle.acpitool_program.specs.declared.command.Wrong.TheVariants.{NoCommand, Unknown, Placed, NoFile, NoFileToCheck, NoImage, NoText}
 use Rattle.acpitool_program.specs.declared.command.Wrong.TheVariants.{NoTable, Base, Number, Twice, NoSignature, Signature, NoBlock}
 use Rattle.acpitool_program.specs.declared.command.Wrong.TheVariants.{NoPacked, NoFolder, NoTables, NoArchive}
-use Rattle.acpitool_program.specs.declared.command.Wrong.TheVariants.{NoImageFile, NoBase, NoFirst, NoSecond}
+use Rattle.acpitool_program.specs.declared.command.Wrong.TheVariants.{NoImageFile, NoBase, NoFirst, NoSecond, NoDrawing}
 
 -- ---- the words after a command
 
@@ -25,11 +25,12 @@ IsTaken verbs.Image more = (file : List ℕ) × (base : ℕ) × AreImage (after_
 IsTaken verbs.Make more = (text : List ℕ) × (file : List ℕ) × (unforced more ≡ text ∷ file ∷ [])
 IsTaken verbs.Template more = (signature : List ℕ) × (more ≡ signature ∷ []) × (length signature ≡ 4)
 IsTaken verbs.Disassemble more = (file : List ℕ) × (numbers : List (List ℕ)) × (more ≡ file ∷ numbers)
-IsTaken verbs.Names more = (file : List ℕ) × (numbers : List (List ℕ)) × (more ≡ file ∷ numbers)
+IsTaken verbs.Names more = (file : List ℕ) × (numbers : List (List ℕ)) × (after_option verbs.Names more ≡ file ∷ numbers)
 IsTaken verbs.Unpack more = (file : List ℕ) × (folder : List ℕ) × (base : ℕ) × AreUnpack more file folder base
 IsTaken verbs.Cpio more = (folder : List ℕ) × (file : List ℕ) × (more ≡ folder ∷ file ∷ [])
 IsTaken verbs.Lay more = (folder : List ℕ) × (file : List ℕ) × (base : ℕ) × AreLay more folder file base
 IsTaken verbs.Loader more = (folder : List ℕ) × (to : List ℕ) × (more ≡ folder ∷ to ∷ [])
+IsTaken verbs.Tree more = (file : List ℕ) × (after_option verbs.Tree more ≡ file ∷ [])
 IsTaken verbs.Diff more = (first : List ℕ) × (second : List ℕ) × (more ≡ first ∷ second ∷ [])
 
 -- they ask for the usage, or are what the command takes
@@ -88,8 +89,8 @@ asked words (Template signature) all =
     inr (inr (record { verb = verbs.Template; more = all.0; is = all.1.0; are = inr (all.1.1, (signature.now, all.2, all.3)) }))
 asked words (Disassemble file numbers) all =
     inr (inr (record { verb = verbs.Disassemble; more = all.0; is = all.1.0; are = inr (all.1.1, (file.now, map (λ word. string_bytes word) numbers.now, all.2)) }))
-asked words (Names file numbers) all =
-    inr (inr (record { verb = verbs.Names; more = all.0; is = all.1.0; are = inr (all.1.1, (file.now, map (λ word. string_bytes word) numbers.now, all.2)) }))
+asked words (Names json file numbers) all =
+    inr (inr (record { verb = verbs.Names; more = all.0; is = all.1.0; are = inr (all.1.1, (file.now, map (λ word. string_bytes word) numbers.now, all.3)) }))
 asked words (Unpack file folder base) all =
     inr (inr (record { verb = verbs.Unpack; more = all.0; is = all.1.0; are = inr (all.1.1, (file.now, folder.now, base, all.2)) }))
 asked words (Cpio folder file) all =
@@ -100,6 +101,8 @@ asked words (Loader folder to) all =
     inr (inr (record { verb = verbs.Loader; more = all.0; is = all.1.0; are = inr (all.1.1, (folder.now, to.now, all.2)) }))
 asked words (Diff first second) all =
     inr (inr (record { verb = verbs.Diff; more = all.0; is = all.1.0; are = inr (all.1.1, (first.now, second.now, all.2)) }))
+asked words (Tree dot file) all =
+    inr (inr (record { verb = verbs.Tree; more = all.0; is = all.1.0; are = inr (all.1.1, (file.now, all.3)) }))
 asked words (Make force text file) all =
     inr (inr (record { verb = verbs.Make; more = all.0; is = all.1.0; are = inr (all.1.1, (text.now, file.now, all.3)) }))
 
@@ -226,7 +229,13 @@ wronged words (Unknown word) (inr (inr (inr (inr (inr (inr (inr (inr (inl third)
   is = third.after.0;
   are = inr (third.after.1, λ taken. cc (third.is, taken.2));
 }))
-wronged words (Unknown word) (inr (inr (inr (inr (inr (inr (inr (inr (inr second))))))))) = inr (inr (record {
+wronged words (Unknown word) (inr (inr (inr (inr (inr (inr (inr (inr (inr (inr second)))))))))) = inr (inr (record {
+  verb = verbs.Tree;
+  more = second.more;
+  is = second.after.0;
+  are = inr (second.after.1, λ taken. cc (second.is, taken.1));
+}))
+wronged words (Unknown word) (inr (inr (inr (inr (inr (inr (inr (inr (inr (inl second)))))))))) = inr (inr (record {
   verb = verbs.Template;
   more = second.more;
   is = second.after.0;
@@ -256,8 +265,12 @@ wronged words NoSignature is =
     inr (inr (record { verb = verbs.Template; more = []; is = is; are = inr (refl, λ taken. cc (taken.1)) }))
 wronged words NoBlock (inl is) =
     inr (inr (record { verb = verbs.Disassemble; more = []; is = is; are = inr (refl, λ taken. cc (taken.2)) }))
-wronged words NoBlock (inr is) =
-    inr (inr (record { verb = verbs.Names; more = []; is = is; are = inr (refl, λ taken. cc (taken.2)) }))
+wronged words NoBlock (inr all) = inr (inr (record {
+  verb = verbs.Names;
+  more = all.0;
+  is = all.1.0;
+  are = inr (all.1.1, λ taken. let none = all.2 in let some = ap length taken.2 in omega (arith, none, some));
+}))
 wronged words (Signature word) all = inr (inr (record {
   verb = verbs.Template;
   more = all.0;
@@ -308,6 +321,12 @@ wronged words NoSecond all = inr (inr (record {
   is = all.1.0;
   are = inr (all.1.1, λ taken. let one = all.2 in let two = ap length taken.2 in omega (arith, one, two));
 }))
+wronged words NoDrawing all = inr (inr (record {
+  verb = verbs.Tree;
+  more = all.0;
+  is = all.1.0;
+  are = inr (all.1.1, λ taken. let none = all.2 in let some = ap length taken.1 in omega (arith, none, some));
+}))
 wronged words NoArchive all = inr (inr (record {
   verb = verbs.Cpio;
   more = all.0;
@@ -340,6 +359,7 @@ is_command words word verbs.Cpio none is = none.no_cpio is
 is_command words word verbs.Lay none is = none.no_lay is
 is_command words word verbs.Loader none is = none.no_loader is
 is_command words word verbs.Diff none is = none.no_diff is
+is_command words word verbs.Tree none is = none.no_tree is
 
 no_help_first : (words : List (List ℕ)) (word first : List ℕ) → IsNoCommand words word → IsHelp first ⊎ (first ≡ codes "help")
     → word ≡ first → ⊥

@@ -9,7 +9,7 @@ use Rattle.std.specs.Str.Parse.{IsNumeral, digits_value, without_leading_plus}
 use Rattle.acpi_input.specs.Stated.{stated_by, stated}
 use Rattle.acpitool_program.specs.declared.command.Command.{Command}
 use Rattle.acpitool_program.specs.declared.command.Command.TheVariants.{Help, Version, Show, Check, Image, Make, Template}
-use Rattle.acpitool_program.specs.declared.command.Command.TheVariants.{Disassemble, Names, Unpack, Cpio, Lay, Loader, Diff, Json}
+use Rattle.acpitool_program.specs.declared.command.Command.TheVariants.{Disassemble, Names, Unpack, Cpio, Lay, Loader, Diff, Json, Tree}
 use Rattle.acpitool_program.specs.declared.command.Misstated.{Misstated}
 use Rattle.acpitool_program.specs.declared.command.Misstated.TheVariants as misstated
 use Rattle.acpitool_program.specs.declared.command.Verb.{Verb}
@@ -19,7 +19,7 @@ use Rattle.acpitool_program.specs.declared.command.Wrong.TheVariants.{NoCommand,
 use Rattle.acpitool_program.specs.declared.command.Wrong.TheVariants.{NoImage, NoText, NoTable, Base, Number, Twice, NoSignature}
 use Rattle.acpitool_program.specs.declared.command.Wrong.TheVariants.{Signature, NoBlock}
 use Rattle.acpitool_program.specs.declared.command.Wrong.TheVariants.{NoPacked, NoFolder, NoTables, NoArchive}
-use Rattle.acpitool_program.specs.declared.command.Wrong.TheVariants.{NoImageFile, NoBase, NoFirst, NoSecond}
+use Rattle.acpitool_program.specs.declared.command.Wrong.TheVariants.{NoImageFile, NoBase, NoFirst, NoSecond, NoDrawing}
 
 -- whether a word is an option: a dash and more
 abbrev pub is_option : List ℕ → Bool
@@ -42,11 +42,17 @@ is_json word = bytes_eq word (codes "--json")
 abbrev pub is_bare : List ℕ → Bool
 is_bare word = bytes_eq word (codes "--no-offsets")
 
+-- the option of `tree` that asks for a graph
+abbrev pub is_dot : List ℕ → Bool
+is_dot word = bytes_eq word (codes "--dot")
+
 -- whether a command takes an option right after its own word
 abbrev pub leads : Verb → List ℕ → Bool
 leads verbs.Show word = is_json word || is_bare word
 leads verbs.Check word = is_json word
 leads verbs.Image word = is_json word
+leads verbs.Names word = is_json word
+leads verbs.Tree word = is_dot word
 leads verb word = false
 
 -- whether the first word after a command is one of these
@@ -57,6 +63,10 @@ begins_with_json (word ∷ words) = is_json word
 abbrev pub begins_with_bare : List (List ℕ) → Bool
 begins_with_bare [] = false
 begins_with_bare (word ∷ words) = is_bare word
+
+abbrev pub begins_with_dot : List (List ℕ) → Bool
+begins_with_dot [] = false
+begins_with_dot (word ∷ words) = is_dot word
 
 abbrev pub begins_with_option : Verb → List (List ℕ) → Bool
 begins_with_option verb [] = false
@@ -100,6 +110,7 @@ word_of verbs.Cpio = codes "cpio"
 word_of verbs.Lay = codes "lay"
 word_of verbs.Loader = codes "loader"
 word_of verbs.Diff = codes "diff"
+word_of verbs.Tree = codes "tree"
 
 -- an option that asks for how the program is used
 abbrev pub IsHelp : List ℕ → Type 0
@@ -220,8 +231,11 @@ Asks words (Template signature) =
 Asks words (Disassemble file numbers) =
     (more : List (List ℕ)) × AreAfter verbs.Disassemble words more
     × (more ≡ file.now ∷ map (λ word. string_bytes word) numbers.now)
-Asks words (Names file numbers) =
-    (more : List (List ℕ)) × AreAfter verbs.Names words more × (more ≡ file.now ∷ map (λ word. string_bytes word) numbers.now)
+Asks words (Names json file numbers) =
+    (more : List (List ℕ))
+    × AreAfter verbs.Names words more
+    × (json ≡ begins_with_json more)
+    × (after_option verbs.Names more ≡ file.now ∷ map (λ word. string_bytes word) numbers.now)
 Asks words (Unpack file folder base) =
     (more : List (List ℕ)) × AreAfter verbs.Unpack words more × AreUnpack more file.now folder.now base
 Asks words (Cpio folder file) = (more : List (List ℕ)) × AreAfter verbs.Cpio words more × (more ≡ folder.now ∷ file.now ∷ [])
@@ -230,6 +244,11 @@ Asks words (Lay folder file base) =
 Asks words (Loader folder to) = (more : List (List ℕ)) × AreAfter verbs.Loader words more × (more ≡ folder.now ∷ to.now ∷ [])
 Asks words (Diff first second) =
     (more : List (List ℕ)) × AreAfter verbs.Diff words more × (more ≡ first.now ∷ second.now ∷ [])
+Asks words (Tree dot file) =
+    (more : List (List ℕ))
+    × AreAfter verbs.Tree words more
+    × (dot ≡ begins_with_dot more)
+    × (after_option verbs.Tree more ≡ file.now ∷ [])
 Asks words (Make force text file) =
     (more : List (List ℕ)) × AreAfter verbs.Make words more × (force ≡ forces more) × (unforced more ≡ text.now ∷ file.now ∷ [])
 
@@ -253,6 +272,7 @@ pub record IsNoCommand (words : List (List ℕ)) (word : List ℕ) : Type 0 wher
   pub no_lay : word ≢ codes "lay"
   pub no_loader : word ≢ codes "loader"
   pub no_diff : word ≢ codes "diff"
+  pub no_tree : word ≢ codes "tree"
 
 -- A word after a command is an option that there isn't, or one that the command takes, but only right after its own word.
 pub record IsNoOption (leading : Bool) (words : List (List ℕ)) (word : List ℕ) : Type 0 where
@@ -337,6 +357,14 @@ pub record IsAfterCompared (words : List (List ℕ)) (word : List ℕ) : Type 0 
   pub others : List (List ℕ)
   pub is : more ≡ first ∷ second ∷ word ∷ others
 
+-- a word after `tree FILE`
+pub record IsAfterDrawn (words : List (List ℕ)) (word : List ℕ) : Type 0 where
+  pub more : List (List ℕ)
+  pub after : AreAfter verbs.Tree words more
+  pub file : List ℕ
+  pub others : List (List ℕ)
+  pub is : after_option verbs.Tree more ≡ file ∷ word ∷ others
+
 -- the word in the place of BASE after `lay` isn't an address
 pub record IsNoLayBase (words : List (List ℕ)) (word : List ℕ) : Type 0 where
   pub more : List (List ℕ)
@@ -370,6 +398,7 @@ IsWrong words (Unknown word) =
     IsNoCommand words word.now ⊎ IsNoOption false words word.now ⊎ IsAfterBase words word.now ⊎ IsAfterFile words word.now
     ⊎ IsAfterUnpacked words word.now ⊎ IsAfterArchive words word.now ⊎ IsAfterLaid words word.now
     ⊎ IsAfterCompared words word.now ⊎ IsAfterLoaded words word.now ⊎ IsAfterSignature words word.now
+    ⊎ IsAfterDrawn words word.now
 IsWrong words (Placed word) = IsNoOption true words word.now
 IsWrong words NoFile = (more : List (List ℕ)) × AreAfter verbs.Show words more × (files_after more ≡ 0)
 IsWrong words NoFileToCheck =
@@ -377,7 +406,9 @@ IsWrong words NoFileToCheck =
 IsWrong words NoImage =
     (more : List (List ℕ)) × AreAfter verbs.Image words more × (length (after_option verbs.Image more) ≡ 0)
 IsWrong words NoSignature = words ≡ codes "template" ∷ []
-IsWrong words NoBlock = (words ≡ codes "disassemble" ∷ []) ⊎ (words ≡ codes "names" ∷ [])
+IsWrong words NoBlock =
+    (words ≡ codes "disassemble" ∷ [])
+    ⊎ ((more : List (List ℕ)) × AreAfter verbs.Names words more × (length (after_option verbs.Names more) ≡ 0))
 IsWrong words (Signature word) =
     (more : List (List ℕ)) × AreAfter verbs.Template words more × (more ≡ word.now ∷ []) × (length word.now ≢ 4)
 IsWrong words NoText = (more : List (List ℕ)) × AreAfter verbs.Make words more × (unforced more ≡ [])
@@ -393,6 +424,8 @@ IsWrong words NoImageFile = (more : List (List ℕ)) × AreAfter verbs.Lay words
 IsWrong words NoBase = (more : List (List ℕ)) × AreAfter verbs.Lay words more × (length more ≡ 2)
 IsWrong words NoFirst = words ≡ codes "diff" ∷ []
 IsWrong words NoSecond = (more : List (List ℕ)) × AreAfter verbs.Diff words more × (length more ≡ 1)
+IsWrong words NoDrawing =
+    (more : List (List ℕ)) × AreAfter verbs.Tree words more × (length (after_option verbs.Tree more) ≡ 0)
 IsWrong words (Base word) = IsNoBase words word.now ⊎ IsNoUnpackBase words word.now ⊎ IsNoLayBase words word.now
 IsWrong words (Number word) = ⊥
 IsWrong words Twice = ⊥

@@ -3,7 +3,7 @@ use Rattle.std.specs.Prelude.{◌≡◌, ℕ, Bool, true, false, List, [], ◌�
 use Rattle.acpitool_program.specs.Command.{Asks, IsWrong}
 use Rattle.acpitool_program.specs.declared.command.Command.{Command}
 use Rattle.acpitool_program.specs.declared.command.Command.TheVariants.{Help, Version, Show, Check, Image, Make, Template}
-use Rattle.acpitool_program.specs.declared.command.Command.TheVariants.{Disassemble, Names, Unpack, Cpio, Lay, Loader, Diff, Json}
+use Rattle.acpitool_program.specs.declared.command.Command.TheVariants.{Disassemble, Names, Unpack, Cpio, Lay, Loader, Diff, Json, Tree}
 use Rattle.acpitool_program.specs.declared.command.Wrong.{Wrong}
 
 -- what a command contains: its word, its files, folders or signature, the words that state numbers, an address, and its option
@@ -32,12 +32,19 @@ content (Check json files) =
 content (Image json file base) = (codes "image", file.now ∷ [], [], base, option_if json (codes "--json"))
 content (Template signature) = (codes "template", signature.now ∷ [], [], 0, [])
 content (Disassemble file numbers) = (codes "disassemble", file.now ∷ [], map (λ word. string_bytes word) numbers.now, 0, [])
-content (Names file numbers) = (codes "names", file.now ∷ [], map (λ word. string_bytes word) numbers.now, 0, [])
+content (Names json file numbers) = (
+  codes "names",
+  file.now ∷ [],
+  map (λ word. string_bytes word) numbers.now,
+  0,
+  option_if json (codes "--json"),
+)
 content (Make force text file) = (codes "make", text.now ∷ file.now ∷ [], [], 0, option_if force (codes "--force"))
 content (Unpack file folder base) = (codes "unpack", file.now ∷ folder.now ∷ [], [], base, [])
 content (Cpio folder file) = (codes "cpio", folder.now ∷ file.now ∷ [], [], 0, [])
 content (Lay folder file base) = (codes "lay", folder.now ∷ file.now ∷ [], [], base, [])
 content (Loader folder to) = (codes "loader", folder.now ∷ to.now ∷ [], [], 0, [])
+content (Tree dot file) = (codes "tree", file.now ∷ [], [], 0, option_if dot (codes "--dot"))
 content (Diff first second) = (codes "diff", first.now ∷ second.now ∷ [], [], 0, [])
 
 -- words ask for at most one command

@@ -1,9 +1,10 @@
 -- The image of the tables of a folder.
-use Rattle.std.specs.Prelude.{◌≡◌, ◌≢◌, ◌⊎◌, ℕ, List, [], ◌∷◌, ◌++◌, Bool, true, false, ◌||◌, Option, Some, None, codes}
-use Rattle.std.specs.List.{slice_get}
+use Rattle.std.specs.Prelude.{◌≡◌, ◌≢◌, ◌⊎◌, ℕ, nat_eq, List, [], ◌∷◌, ◌++◌, Bool, true, false, ◌||◌, Option, Some, None, Ok, codes}
+use Rattle.std.specs.List.{slice_get, ends_with}
 use Rattle.std.specs.Str.{bytes_eq}
 use Rattle.std.specs.Io.KnownBytes.{Keeps, Appends}
 use Rattle.acpi_forms.specs.Kind.{kind_of}
+use Rattle.acpi_forms.specs.Makes.{IsMade}
 use Rattle.acpi_layout.specs.FaultText.{hexadecimal}
 use Rattle.acpi_layout.specs.Files.{IsLaid, IsLayFault}
 use Rattle.acpi_layout.specs.FilesText.{text_of}
@@ -11,21 +12,44 @@ use Rattle.acpi_layout.specs.declared.lay_fault.LayFault.{LayFault}
 use Rattle.acpi_layout.specs.declared.lay_fault.LayFault.TheVariants.{Memory, Second}
 use Rattle.acpi_layout.specs.declared.layout.Image.{Image}
 use Rattle.acpi_layout.specs.declared.located.Located.{Located}
+use Rattle.acpi_make.specs.declared.make.Made.{Made}
 use Rattle.acpitool_program.specs.Archiving.{CantBeRead}
 use Rattle.acpitool_program.specs.Fault.{line_of}
 use Rattle.acpitool_program.specs.Image.{IsFoundImage}
 use Rattle.acpitool_program.specs.Listing.{IsNoImage, why}
-use Rattle.acpitool_program.specs.Making.{Saved, NotSaved}
+use Rattle.acpitool_program.specs.Making.{Held, NotMade, Saved, NotSaved}
+use Rattle.acpitool_program.specs.Structures.{IsSoundOr}
 use Rattle.acpitool_program.specs.Text.{IsKind, IsTextFault}
 use Rattle.acpitool_program.specs.declared.fault.Fault.{Fault}
 use Rattle.acpitool_program.specs.declared.image.NoImage.{NoImage}
 
 -- ---- files
 
--- these are the bytes of the files, each of which is what its signature says: a table, an RSDP or a FACS
+-- whether a file is a text by its name
+abbrev pub is_text : List ℕ → Bool
+is_text path = ends_with nat_eq path (codes ".txt")
+
+-- the text is made into a table of these bytes, with which nothing is wrong
+pub record IsTableOf (text bytes : List ℕ) : Type 0 where
+  pub made : Made
+  pub is : IsMade text (Ok made)
+  pub same : made.bytes.items ≡ bytes
+  pub right : made.untrue.items ≡ []
+  pub sound : IsSoundOr bytes None
+
+-- whether bytes are those of a text's table
+abbrev pub AreOfText : Bool → List ℕ → Type 0
+AreOfText true bytes = (text : List ℕ) × IsTableOf text bytes
+AreOfText false bytes = Unit {0}
+
+-- These are the bytes of a file, or those of the table of a text. They are what their signature says: a table, an RSDP or a FACS.
+pub record IsFile (path bytes : List ℕ) : Type 0 where
+  pub of : AreOfText (is_text path) bytes
+  pub kind : IsKind (kind_of bytes) bytes
+
 abbrev pub AreFiles : List (List ℕ) → List (List ℕ) → Type 0
 AreFiles [] [] = Unit {0}
-AreFiles (path ∷ paths) (file ∷ files) = IsKind (kind_of file) file × AreFiles paths files
+AreFiles (path ∷ paths) (file ∷ files) = IsFile path file × AreFiles paths files
 AreFiles _ _ = ⊥
 
 -- the bytes of a file aren't what their signature says, and a line says why
@@ -35,9 +59,17 @@ pub record IsNoFile (path bytes : List ℕ) (err err' : Option (List ℕ)) (stat
   pub complained : Appends err err' (path ++ codes ": " ++ line_of fault ++ 10 ∷ [])
   pub is : status ≡ 1
 
--- a file isn't laid: it can't be read, or isn't what its signature says
+-- a text isn't made into a table, or numbers of its table are wrong, and lines say so
+pub record IsUnmade (path : List ℕ) (err err' : Option (List ℕ)) (status : ℕ) : Type 0 where
+  pub text : List ℕ
+  pub not : Held false path text err err' ⊎ NotMade path text err err'
+  pub is : status ≡ 1
+
+-- a file isn't laid: it can't be read, isn't what its signature says, or is a text without a table
 abbrev pub IsRefused : List ℕ → Option (List ℕ) → Option (List ℕ) → ℕ → Type 0
-IsRefused path err err' status = ((bytes : List ℕ) × IsNoFile path bytes err err' status) ⊎ CantBeRead path err err' status
+IsRefused path err err' status =
+    ((bytes : List ℕ) × IsNoFile path bytes err err' status) ⊎ CantBeRead path err err' status
+    ⊎ ((is_text path ≡ true) × IsUnmade path err err' status)
 
 -- one of the files is refused: the first, as no more of them is read
 pub record IsMisread (paths : List (List ℕ)) (err err' : Option (List ℕ)) (status : ℕ) : Type 0 where

@@ -21,5 +21,6 @@ pub mod Machine
 pub mod Outcome
 pub mod Checking
 pub mod Disassembly
+pub mod Drawing
 pub mod Program
 pub mod Laws

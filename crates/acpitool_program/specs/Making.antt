@@ -38,7 +38,7 @@ warnings name owns fault = notes name owns ++ fault_line name fault
 
 -- the line after these of a table that isn't written
 abbrev pub held_line : List ℕ → List ℕ
-held_line name = name ++ codes ": not written (--force writes it)\n"
+held_line name = name ++ codes ": not written (make --force writes it)\n"
 
 -- A made table is to be written. A line says of each number that isn't right which would be, or what is wrong with the table:
 -- there is none, unless such a table is written by force.

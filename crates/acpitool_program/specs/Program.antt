@@ -16,6 +16,7 @@ use Rattle.acpi_terms_text.specs.Objects.{Callee}
 use Rattle.acpitool_program.specs.Disassembly.{DisassemblesFile, AddsFiles}
 use Rattle.acpi_json.specs.Array.{array}
 use Rattle.acpitool_program.specs.Job.{shows, lists}
+use Rattle.acpitool_program.specs.Drawing.{Draws}
 use Rattle.acpitool_program.specs.Laying.{LaysFolder}
 use Rattle.acpitool_program.specs.Listing.{Listed}
 use Rattle.acpitool_program.specs.Loading.{LoadsFolder}
@@ -24,7 +25,7 @@ use Rattle.acpitool_program.specs.Outcome.{AreOfEach, AreOfWord, PrintedAs}
 use Rattle.acpitool_program.specs.Unpacking.{Unpacks}
 use Rattle.acpitool_program.specs.declared.command.Command.{Command}
 use Rattle.acpitool_program.specs.declared.command.Command.TheVariants.{Help, Version, Show, Check, Image, Make, Template}
-use Rattle.acpitool_program.specs.declared.command.Command.TheVariants.{Disassemble, Names, Unpack, Cpio, Lay, Loader, Diff, Json}
+use Rattle.acpitool_program.specs.declared.command.Command.TheVariants.{Disassemble, Names, Unpack, Cpio, Lay, Loader, Diff, Json, Tree}
 use Rattle.acpitool_program.specs.declared.command.Misstated.TheVariants as misstated
 use Rattle.acpi_asl.specs.declared.block.BlockText.{BlockText}
 use Rattle.acpi_asl.specs.declared.block.BlockText.TheVariants as blocks
@@ -33,7 +34,7 @@ use Rattle.acpitool_program.specs.declared.command.Wrong.TheVariants.{NoCommand,
 use Rattle.acpitool_program.specs.declared.command.Wrong.TheVariants.{NoImage, NoText, NoTable, Base, Number, Twice, NoSignature}
 use Rattle.acpitool_program.specs.declared.command.Wrong.TheVariants.{Signature, NoBlock}
 use Rattle.acpitool_program.specs.declared.command.Wrong.TheVariants.{NoPacked, NoFolder, NoTables, NoArchive}
-use Rattle.acpitool_program.specs.declared.command.Wrong.TheVariants.{NoImageFile, NoBase, NoFirst, NoSecond}
+use Rattle.acpitool_program.specs.declared.command.Wrong.TheVariants.{NoImageFile, NoBase, NoFirst, NoSecond, NoDrawing}
 
 -- ---- how the program is used
 
@@ -41,9 +42,11 @@ abbrev pub usage : List ℕ
 usage =
     codes "usage: acpitool show [--no-offsets] FILE .. [NAME=N ..] | show --json FILE .. | check [--json] FILE .."
     ++ codes " | diff FILE FILE"
-    ++ codes " | disassemble FILE .. [NAME=N ..] | names FILE .. [NAME=N ..] | image [--json] FILE [BASE]"
+    ++ codes " | disassemble FILE .. [NAME=N ..] | names [--json] FILE .. [NAME=N ..]"
+    ++ codes " | image [--json] FILE [BASE]"
     ++ codes " | make [--force] TEXT FILE | template SIGNATURE"
-    ++ codes " | unpack FILE FOLDER [BASE] | cpio FOLDER FILE | lay FOLDER FILE BASE | loader FOLDER OUT | --help | --version\n"
+    ++ codes " | unpack FILE FOLDER [BASE] | cpio FOLDER FILE | lay FOLDER FILE BASE | loader FOLDER OUT"
+    ++ codes " | tree [--dot] FILE | --help | --version\n"
 
 abbrev pub version : List ℕ
 version = codes "acpitool 0.1.0\n"
@@ -68,6 +71,7 @@ wrong_line NoImageFile = codes "acpitool: no file for the image\n"
 wrong_line NoBase = codes "acpitool: no address for the image\n"
 wrong_line NoFirst = codes "acpitool: no files to compare\n"
 wrong_line NoSecond = codes "acpitool: no second file to compare\n"
+wrong_line NoDrawing = codes "acpitool: no file to draw\n"
 wrong_line (Signature word) = codes "acpitool: not a signature of four characters: " ++ word.now ++ codes "\n"
 wrong_line (Base word) = codes "acpitool: not an address in hexadecimal: " ++ word.now ++ codes "\n"
 wrong_line (Number word) = codes "acpitool: not NAME=N with N from 0 to 7: " ++ word.now ++ codes "\n"
@@ -148,6 +152,11 @@ abbrev pub IsBlockShown : BlockText → List ℕ → List (List ℕ)
 IsBlockShown block file words out out' err err' status =
     IsBlockBy block file (take (files_in words) words) (drop (files_in words) words) out out' err err' status
 
+-- what is printed of the objects of a definition block: JSON, or lines
+abbrev pub names_text : Bool → BlockText
+names_text true = blocks.Objects
+names_text false = blocks.Names
+
 -- ---- template
 
 -- a signature as a word for a shell: that of a pointer ends in a space
@@ -187,13 +196,14 @@ IsDone (Template signature) out out' err err' status =
     IsTemplated (is_known signature.now) signature.now out out' err err' status
 IsDone (Disassemble file numbers) out out' err err' status =
     IsBlockShown blocks.Asl file.now (map (λ word. string_bytes word) numbers.now) out out' err err' status
-IsDone (Names file numbers) out out' err err' status =
-    IsBlockShown blocks.Names file.now (map (λ word. string_bytes word) numbers.now) out out' err err' status
+IsDone (Names json file numbers) out out' err err' status =
+    IsBlockShown (names_text json) file.now (map (λ word. string_bytes word) numbers.now) out out' err err' status
 IsDone (Unpack file folder base) out out' err err' status = Unpacks file.now folder.now base out out' err err' status
 IsDone (Cpio folder file) out out' err err' status = Archives folder.now file.now out out' err err' status
 IsDone (Lay folder file base) out out' err err' status = LaysFolder folder.now file.now base out out' err err' status
 IsDone (Loader folder to) out out' err err' status = LoadsFolder folder.now to.now out out' err err' status
 IsDone (Diff first second) out out' err err' status = Compares first.now second.now out out' err err' status
+IsDone (Tree dot file) out out' err err' status = Draws dot file.now out out' err err' status
 IsDone (Make force text file) out out' err err' status = Makes force text.now file.now out out' err err' status
 
 -- a command that the words ask for was done

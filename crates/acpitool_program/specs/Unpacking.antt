@@ -10,6 +10,7 @@ use Rattle.std.specs.Io.KnownBytes.{Keeps, Appends}
 use Rattle.acpi_dump.specs.Dump.{is_dump, tables_of}
 use Rattle.acpi_dump.specs.Fault.{text_of}
 use Rattle.acpi_dump.specs.declared.fault.DumpFault.{DumpFault}
+use Rattle.acpi_layout.specs.Addresses.{image_at}
 use Rattle.acpi_layout.specs.Found.{contents}
 use Rattle.acpi_layout.specs.declared.located.Located.{Located}
 use Rattle.acpitool_program.specs.Image.{IsFoundImage}
@@ -113,7 +114,7 @@ abbrev pub UnpacksImage : List ℕ → List ℕ → ℕ → List ℕ
     → Option (List ℕ) → Option (List ℕ) → Option (List ℕ) → Option (List ℕ) → ℕ → Type 0
 UnpacksImage name folder base bytes out out' err err' status =
     ((tables : List Located) × IsFoundImage base bytes tables
-    × AreFiles folder (map (contents base bytes) tables) out out' err err' status)
+    × AreFiles folder (map (contents (image_at base bytes)) tables) out out' err err' status)
     ⊎ NotListed name base bytes out out' err err' status
 
 abbrev pub UnpacksBy : Bool → List ℕ → List ℕ → ℕ → List ℕ

@@ -5,8 +5,8 @@ ghost use Rattle.std.specs.List.{slice_get};
 ghost use Rattle.std.specs.Prelude.{MatchResult, MatchOption, IfOk, None, Some};
 ghost use Rattle.std.specs.List.{starts_with};
 ghost use Rattle.acpi_input.specs.Stated.{stated};
-ghost use Rattle.acpitool_program.specs.Command.{is_option, is_force, is_json, is_bare, leads, begins_with_json};
-ghost use Rattle.acpitool_program.specs.Command.{begins_with_bare, begins_with_option, after_option, takes, option_in};
+ghost use Rattle.acpitool_program.specs.Command.{is_option, is_force, is_json, is_bare, is_dot, leads, begins_with_json};
+ghost use Rattle.acpitool_program.specs.Command.{begins_with_bare, begins_with_dot, begins_with_option, after_option, takes, option_in};
 ghost use Rattle.acpitool_program.specs.Command.{first_option, forces, unforced, has, is_number};
 ghost use Rattle.acpitool_program.specs.Command.{files_in, first_unstated, IsMisstated};
 ghost use Rattle.acpitool_program.specs.Command.{word_of, IsAddress, Asks, IsWrong};
@@ -41,8 +41,9 @@ pub enum Command<'a> {
     /// `disassemble FILE .. [NAME=N ..]`: the ASL of a definition block in a file, or on standard input where the word is
     /// `-`, and the other words: files with further blocks, and words that state numbers of arguments.
     Disassemble(&'a str, &'a [String]),
-    /// `names FILE .. [NAME=N ..]`: the objects that such a definition block makes, and the same words.
-    Names(&'a str, &'a [String]),
+    /// `names [--json] FILE .. [NAME=N ..]`: the objects that such a definition block makes, and the same words. `--json` is there or
+    /// not.
+    Names(bool, &'a str, &'a [String]),
     /// `unpack FILE FOLDER [BASE]`: each table of a dump, or of an image that begins at the physical address BASE in hexadecimal,
     /// or at 0, to a file of a folder. The file with the dump or the image is standard input where the word is `-`.
     Unpack(&'a str, &'a str, u64),
@@ -56,6 +57,9 @@ pub enum Command<'a> {
     Loader(&'a str, &'a str),
     /// `diff FILE FILE`: the fields in which the tables in two files differ, or on standard input where a word is `-`.
     Diff(&'a str, &'a str),
+    /// `tree [--dot] FILE`: the structures of the table in a file, or on standard input where the word is `-`, as a tree. With
+    /// `--dot` they are a graph.
+    Tree(bool, &'a str),
 }
 
 /// A command that takes words.
@@ -73,6 +77,7 @@ pub enum Verb {
     Lay,
     Loader,
     Diff,
+    Tree,
 }
 
 /// Why words ask for nothing.
@@ -114,6 +119,8 @@ pub enum Wrong<'a> {
     NoFirst,
     /// `diff` has no second file.
     NoSecond,
+    /// `tree` has no file.
+    NoDrawing,
     /// The word isn't a signature of four bytes.
     Signature(&'a str),
     /// The word isn't an address in hexadecimal.
@@ -157,7 +164,7 @@ fn takes(verb: Verb, word: &str) -> bool
         Verb::Make => is_force(word),
         Verb::Show | Verb::Check | Verb::Image | Verb::Template => false,
         Verb::Disassemble | Verb::Names | Verb::Unpack | Verb::Cpio => false,
-        Verb::Lay | Verb::Loader | Verb::Diff => false,
+        Verb::Lay | Verb::Loader | Verb::Diff | Verb::Tree => false,
     }
 }
 
@@ -173,6 +180,13 @@ fn is_bare(word: &str) -> bool
     ensures { result ≡ is_bare word.now }
 {
     word == "--no-offsets"
+}
+
+// Returns whether a word is `--dot`.
+fn is_dot(word: &str) -> bool
+    ensures { result ≡ is_dot word.now }
+{
+    word == "--dot"
 }
 
 // Returns whether the first word is `--json`.
@@ -195,15 +209,26 @@ fn begins_with_bare(words: &[String]) -> bool
     }
 }
 
+// Returns whether the first word is `--dot`.
+fn begins_with_dot(words: &[String]) -> bool
+    ensures { result ≡ begins_with_dot (map (λ word. string_bytes word) words.now) }
+{
+    match words {
+        [] => false,
+        [word, ..] => is_dot(word.as_str()),
+    }
+}
+
 // Returns whether a word is an option that a command takes right after its own word.
 fn leads(verb: Verb, word: &str) -> bool
     ensures { result ≡ leads verb word.now }
 {
     match verb {
         Verb::Show => is_json(word) || is_bare(word),
-        Verb::Check | Verb::Image => is_json(word),
+        Verb::Check | Verb::Image | Verb::Names => is_json(word),
+        Verb::Tree => is_dot(word),
         Verb::Make | Verb::Template | Verb::Disassemble => false,
-        Verb::Names | Verb::Unpack | Verb::Cpio | Verb::Lay => false,
+        Verb::Unpack | Verb::Cpio | Verb::Lay => false,
         Verb::Loader | Verb::Diff => false,
     }
 }
@@ -483,9 +508,10 @@ fn names(words: &[String]) -> Result<Command<'_>, Wrong<'_>>
     ensures { (all : List (List ℕ)) → all ≡ codes "names" ∷ map (λ word. string_bytes word) words.now
         → MatchResult result (Asks all) (IsWrong all) }
 {
-    match words {
+    let json = begins_with_json(words);
+    match after_option(Verb::Names, words) {
         [] => Err(Wrong::NoBlock),
-        [file, numbers @ ..] => Ok(Command::Names(file.as_str(), numbers)),
+        [file, numbers @ ..] => Ok(Command::Names(json, file.as_str(), numbers)),
     }
 }
 
@@ -573,6 +599,20 @@ fn diff(words: &[String]) -> Result<Command<'_>, Wrong<'_>>
     }
 }
 
+// Returns what `tree` and these words, which aren't options, ask for.
+fn tree(words: &[String]) -> Result<Command<'_>, Wrong<'_>>
+    requires { first_option verbs.Tree (map (λ word. string_bytes word) words.now) ≡ None }
+    ensures { (all : List (List ℕ)) → all ≡ codes "tree" ∷ map (λ word. string_bytes word) words.now
+        → MatchResult result (Asks all) (IsWrong all) }
+{
+    let dot = begins_with_dot(words);
+    match after_option(Verb::Tree, words) {
+        [] => Err(Wrong::NoDrawing),
+        [file] => Ok(Command::Tree(dot, file.as_str())),
+        [_, extra, ..] => Err(Wrong::Unknown(extra.as_str())),
+    }
+}
+
 // Returns what a command and the words after it ask for.
 fn asked(verb: Verb, words: &[String]) -> Result<Command<'_>, Wrong<'_>>
     ensures { (all : List (List ℕ)) → all ≡ word_of verb ∷ map (λ word. string_bytes word) words.now
@@ -596,6 +636,7 @@ fn asked(verb: Verb, words: &[String]) -> Result<Command<'_>, Wrong<'_>>
             Verb::Lay => lay(words),
             Verb::Loader => loader(words),
             Verb::Diff => diff(words),
+            Verb::Tree => tree(words),
         },
     }
 }
@@ -625,6 +666,7 @@ pub fn parse(words: &[String]) -> Result<Command<'_>, Wrong<'_>>
         "lay" => asked(Verb::Lay, rest),
         "loader" => asked(Verb::Loader, rest),
         "diff" => asked(Verb::Diff, rest),
+        "tree" => asked(Verb::Tree, rest),
         word => Err(Wrong::Unknown(word)),
     }
 }

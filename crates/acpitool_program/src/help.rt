@@ -10,9 +10,9 @@ use std::io::Write;
 
 const USAGE: &str = "\
 usage: acpitool show [--no-offsets] FILE .. [NAME=N ..] | show --json FILE .. | check [--json] FILE .. | diff FILE FILE \
-| disassemble FILE .. [NAME=N ..] | names FILE .. [NAME=N ..] | image [--json] FILE [BASE] | make [--force] TEXT FILE \
-| template SIGNATURE | unpack FILE FOLDER [BASE] | cpio FOLDER FILE | lay FOLDER FILE BASE | loader FOLDER OUT \
-| --help | --version
+| disassemble FILE .. [NAME=N ..] | names [--json] FILE .. [NAME=N ..] | image [--json] FILE [BASE] \
+| make [--force] TEXT FILE | template SIGNATURE | unpack FILE FOLDER [BASE] | cpio FOLDER FILE | lay FOLDER FILE BASE \
+| loader FOLDER OUT | tree [--dot] FILE | --help | --version
 ";
 
 // What `--help`, `-h` and `help` print after the usage.
@@ -46,7 +46,8 @@ Terms that can't be read are a comment with their bytes, and a line says why.
 
 names prints the objects that a definition block makes when it is loaded, as a tree: the name of each, what it is,
 the number of a method's arguments, and a value that has space in the line, such as that of _HID. FILEs are as for
-disassemble.
+disassemble. names --json prints an array of JSON with an object for the table, which has a list of these objects, each
+with its path from the root.
 
 image finds the RSDP in a file with the bytes of a guest's memory, follows it to all tables, and checks them.
 It prints the address, signature, length and revision of each. BASE is the address of the first byte in
@@ -72,16 +73,22 @@ for byte as cpio -H newc makes it, with root as owner and the time 0. Each file 
 header. As FILE, - is standard output; a regular FILE is replaced as make does it.
 
 lay writes the image of the tables of FOLDER for the physical address BASE in hexadecimal, a multiple of 0x40. Each file
-has to be a table, an RSDP or a FACS. One is the FADT, one the DSDT, and one the FACS, which may be missing if the FADT
-has the flag HW_REDUCED_ACPI. The image has an RSDP and an XSDT of its own, so those of FOLDER aren't laid, nor is an
-RSDT. Of the tables only the FADT is changed: it points to the FACS and the DSDT. Tables are laid in the order of their
-files' names. A line has the address of the RSDP. As FILE, - is standard output, and the line goes to standard error; a
-regular FILE is replaced as make does it, unless it is one of the tables.
+has to be a table, an RSDP or a FACS, or a text whose name ends in .txt, which make would make into one. One is the FADT,
+one the DSDT, and one the FACS, which may be missing if the FADT has the flag HW_REDUCED_ACPI. The image has an RSDP and
+an XSDT of its own, so those of FOLDER aren't laid, nor is an RSDT. Of the tables only the FADT is changed: it points to
+the FACS and the DSDT. Tables are laid in the order of their files' names. A line has the address of the RSDP. As FILE, -
+is standard output, and the line goes to standard error; a regular FILE is replaced as make does it, unless it is one of
+the tables.
 
 loader writes the files by which QEMU hands the tables of FOLDER to firmware: OUT/etc/acpi/tables, OUT/etc/acpi/rsdp and
 OUT/etc/table-loader. The tables are laid as lay does it, without addresses. The last file has the commands by which
 firmware puts the addresses and the checksums in. A line says the path and the length of each file. Folders are made if
 they aren't there. A file that is there isn't replaced, and no further file is written then.
+
+tree prints the structures of a table as a tree, each with its offset, its type and its size. Below a structure, further
+in, are those whose offsets it has: the parent and the caches of a processor (PPTT), the output of an ID mapping (IORT,
+RIMT), the node behind which an endpoint is (VIOT). One that is shown above has a line that says so. tree --dot prints
+them as a graph for graphviz.
 
 The status is 0 if everything is shown or written, 1 if something isn't a table, an image or a text of a table,
 its structures or numbers are wrong, a table breaks a rule, two tables differ, tables have no image, no table has
@@ -134,6 +141,7 @@ fn print_wrong<E: Write>(wrong: &Wrong<'_>, err: &mut E) -> io::Result<()>
         Wrong::NoBase => err.write_all(b"acpitool: no address for the image\n"),
         Wrong::NoFirst => err.write_all(b"acpitool: no files to compare\n"),
         Wrong::NoSecond => err.write_all(b"acpitool: no second file to compare\n"),
+        Wrong::NoDrawing => err.write_all(b"acpitool: no file to draw\n"),
         Wrong::Signature(word) => {
             writeln!(err, "acpitool: not a signature of four characters: {word}")
         }

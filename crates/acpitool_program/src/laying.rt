@@ -5,7 +5,8 @@ ghost use Rattle.std.specs.Io.KnownBytes.{Keeps, Appends};
 ghost use Rattle.acpi_forms.specs.Kind.{kind_of};
 ghost use Rattle.acpi_layout.specs.declared.located.Located.{Located};
 ghost use Rattle.acpitool_program.specs.Image.{IsFoundImage};
-ghost use Rattle.acpitool_program.specs.Laying.{AreFiles, IsNoFile, IsRefused, IsMisread, has_path, replaced_line, blamed};
+ghost use Rattle.acpitool_program.specs.Laying.{is_text, IsTableOf, IsUnmade, IsFile, AreFiles, IsNoFile, IsRefused, IsMisread};
+ghost use Rattle.acpitool_program.specs.Laying.{has_path, replaced_line, blamed};
 ghost use Rattle.acpitool_program.specs.Laying.{IsNotFound, HaveNoneLaid, IsNotLaid, IsFoundOf, IsImageOf, rsdp_line};
 ghost use Rattle.acpitool_program.specs.Laying.{IsSavedTo, IsSaved, HasNoImage, LaysFolder};
 ghost use Rattle.acpitool_program.specs.Text.{IsKind};
@@ -14,7 +15,7 @@ use crate::complaint::complain;
 use crate::files::{files_in, read_file};
 use crate::image::find_tables;
 use crate::listing::tell_no_image;
-use crate::making::save;
+use crate::making::{make_text, save};
 use crate::outcome::tell_unread;
 use crate::text::check_kind;
 use acpi_layout::files::lay_files;
@@ -33,7 +34,7 @@ fn sound<E: Write>(
     err: &mut E,
 ) -> io::Result<Result<Vec<u8>, u8>>
     ensures { IfOk result (λ file. MatchResult file
-        (λ file. IsKind (kind_of file.items) file.items × Keeps (E.contents err.old) (E.contents err.new))
+        (λ file. (file ≡ bytes) × IsKind (kind_of file.items) file.items × Keeps (E.contents err.old) (E.contents err.new))
         (λ status. IsNoFile path.now bytes.items (E.contents err.old) (E.contents err.new) status)) }
 {
     if let Err(fault) = check_kind(&bytes) {
@@ -41,6 +42,50 @@ fn sound<E: Write>(
         return Ok(Err(1));
     }
     Ok(Ok(bytes))
+}
+
+// Returns whether a file is a text by its name.
+fn is_text(path: &str) -> bool
+    ensures { result ≡ is_text path.now }
+{
+    path.as_bytes().ends_with(b".txt")
+}
+
+// Returns the table of a text, or prints why it has none, and returns 1.
+fn table_of<E: Write>(
+    alloc: Global,
+    path: &str,
+    text: &[u8],
+    err: &mut E,
+) -> io::Result<Result<Vec<u8>, u8>>
+    ensures { IfOk result (λ file. MatchResult file
+        (λ file. IsTableOf text.now file.items × Keeps (E.contents err.old) (E.contents err.new))
+        (λ status. IsUnmade path.now (E.contents err.old) (E.contents err.new) status)) }
+{
+    match make_text(alloc, false, path, text, err)? {
+        Some(bytes) => Ok(Ok(bytes)),
+        None => Ok(Err(1)),
+    }
+}
+
+// Returns the bytes of a file that was read: a text becomes its table. Or prints why they are refused, and returns the status.
+fn file_of<E: Write>(
+    alloc: Global,
+    path: &str,
+    bytes: Vec<u8>,
+    err: &mut E,
+) -> io::Result<Result<Vec<u8>, u8>>
+    ensures { IfOk result (λ file. MatchResult file
+        (λ file. IsFile path.now file.items × Keeps (E.contents err.old) (E.contents err.new))
+        (λ status. IsRefused path.now (E.contents err.old) (E.contents err.new) status)) }
+{
+    if !is_text(path) {
+        return Ok(sound(alloc, path, bytes, err)?);
+    }
+    match table_of(alloc, path, &bytes, err)? {
+        Ok(table) => Ok(sound(alloc, path, table, err)?),
+        Err(status) => Ok(Err(status)),
+    }
 }
 
 // Returns the bytes of a file, or prints why it is refused, and returns the status.
@@ -51,11 +96,11 @@ fn read_one<R: Files, E: Write>(
     err: &mut E,
 ) -> io::Result<Result<Vec<u8>, u8>>
     ensures { IfOk result (λ file. MatchResult file
-        (λ file. IsKind (kind_of file.items) file.items × Keeps (E.contents err.old) (E.contents err.new))
+        (λ file. IsFile path.now file.items × Keeps (E.contents err.old) (E.contents err.new))
         (λ status. IsRefused path.now (E.contents err.old) (E.contents err.new) status)) }
 {
     match read_file(rt, alloc, path) {
-        Ok(bytes) => sound(alloc, path, bytes, err),
+        Ok(bytes) => file_of(alloc, path, bytes, err),
         Err(error) => Ok(Err(tell_unread(alloc, path, &error, err)?)),
     }
 }
@@ -256,11 +301,13 @@ fn save_image<R: Files, O: Write, E: Write>(
 
 /// Writes the image of the tables of a folder, which is for the physical address `base`, to a file, or to standard output if it
 /// is `-`. The tables are laid as `lay_files` does it, in the order of the files' names. Each file has to be a table, an RSDP or
-/// a FACS by its signature. A line on `out` has the address of the image's RSDP, or on `err` if the image goes to `out`.
+/// a FACS by its signature, or a text whose name ends in `.txt`: it becomes its table. A line on `out` has the address of the
+/// image's RSDP, or on `err` if the image goes to `out`.
 ///
-/// If the files have no image, nothing is written, and a line on `err` says why: a file can't be read or isn't what its signature
-/// says, the file with the image would be one of them, they can't be laid, or the tables of the image aren't found again. The
-/// status is 1 then or if the image can't be written, and 2 if a file or the folder can't be read.
+/// If the files have no image, nothing is written, and lines on `err` say why: a file can't be read or isn't what its signature
+/// says, a text isn't made into a table or numbers of its table are wrong, the file with the image would be one of them, they can't
+/// be laid, or the tables of the image aren't found again. The status is 1 then or if the image can't be written, and 2 if a file
+/// or the folder can't be read.
 pub fn lay_folder<R: Files + AllocGlobal + Clone + Drop, O: Write, E: Write>(
     rt: &R,
     alloc: Global,

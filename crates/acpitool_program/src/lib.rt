@@ -9,6 +9,7 @@ pub mod command;
 pub mod comparing;
 pub mod complaint;
 pub mod disassembly;
+pub mod drawing;
 pub mod fault;
 pub mod files;
 pub mod help;

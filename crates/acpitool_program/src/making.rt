@@ -91,7 +91,7 @@ fn tell_held<E: Write>(
         (warnings name.now owns.now fault.now ++ held_line name.now)) }
 {
     warn(alloc, name, owns, fault, err)?;
-    writeln!(err, "{name}: not written (--force writes it)")
+    writeln!(err, "{name}: not written (make --force writes it)")
 }
 
 // Returns whether a table isn't written.

@@ -5,13 +5,14 @@ ghost use Rattle.std.specs.IoError.{error_kind};
 ghost use Rattle.std.specs.Io.KnownBytes.{Appends};
 ghost use Rattle.acpi_forms.specs.Known.{is_known};
 ghost use Rattle.acpi_forms.specs.Makes.{IsTemplateOf};
-ghost use Rattle.acpitool_program.specs.Program.{as_word, suggestion, unknown_line, IsTemplated, Ended, IsLost, Started};
+ghost use Rattle.acpitool_program.specs.Program.{as_word, suggestion, unknown_line, IsTemplated, names_text, Ended, IsLost, Started};
 
 use crate::archiving::archive_folder;
 use crate::checking::check_all;
 use crate::command::{Command, parse};
 use crate::comparing::compare_files;
 use crate::disassembly::disassemble;
+use crate::drawing::draw;
 use crate::help::{print_help, print_version, tell_wrong};
 use crate::laying::lay_folder;
 use crate::listing::list_file;
@@ -91,6 +92,17 @@ fn template_of<O: Write, E: Write>(
     Ok(tell_unknown(signature, err)?)
 }
 
+// Returns what is printed of the objects of a definition block: JSON, or lines.
+fn names_text(json: bool) -> BlockText
+    ensures { result ≡ names_text json }
+{
+    if json {
+        BlockText::Objects
+    } else {
+        BlockText::Names
+    }
+}
+
 /// Runs the program on the words after its name, and returns its exit status:
 ///
 /// - 0: everything that was asked for went to `out` or to a file, and nothing to `err` but notes on numbers of a table that was
@@ -120,8 +132,8 @@ pub fn run<R: Files + Input + AllocGlobal + Clone + Drop, O: Write, E: Write>(
         Ok(Command::Disassemble(file, words)) => {
             disassemble(rt, alloc, BlockText::Asl, file, words, out, err)
         }
-        Ok(Command::Names(file, words)) => {
-            disassemble(rt, alloc, BlockText::Names, file, words, out, err)
+        Ok(Command::Names(json, file, words)) => {
+            disassemble(rt, alloc, names_text(json), file, words, out, err)
         }
         Ok(Command::Json(files)) => list_all(rt, alloc, files, out, err),
         Ok(Command::Check(json, files)) => check_all(rt, alloc, json, files, out, err),
@@ -131,6 +143,7 @@ pub fn run<R: Files + Input + AllocGlobal + Clone + Drop, O: Write, E: Write>(
         Ok(Command::Cpio(folder, file)) => archive_folder(rt, alloc, folder, file, out, err),
         Ok(Command::Lay(folder, file, base)) => lay_folder(rt, alloc, folder, file, base, out, err),
         Ok(Command::Loader(folder, to)) => load_folder(rt, alloc, folder, to, out, err),
+        Ok(Command::Tree(dot, file)) => draw(rt, alloc, dot, file, out, err),
         Ok(Command::Diff(first, second)) => compare_files(rt, alloc, first, second, out, err),
         Ok(Command::Make(force, text, file)) => make_file(rt, alloc, force, text, file, out, err),
         Err(wrong) => tell_wrong(&wrong, err),

@@ -4,7 +4,7 @@ ghost use Rattle.std.specs.Prelude.{◌≡◌, ◌≤◌, ℕ, List, [], ◌∷�
 ghost use Rattle.std.specs.Prelude.{OnOk, string_bytes};
 ghost use Rattle.std.specs.Io.KnownBytes.{Appends};
 ghost use Rattle.acpi_dump.specs.Dump.{is_dump};
-ghost use Rattle.acpi_layout.specs.Addresses.{Lies};
+ghost use Rattle.acpi_layout.specs.Addresses.{Lies, image_at};
 ghost use Rattle.acpi_layout.specs.Found.{contents};
 ghost use Rattle.acpitool_program.specs.Unpacking.{letter, stem, count, number, path_of, file_line, IsUnpacked};
 ghost use Rattle.acpitool_program.specs.Unpacking.{AreUnpacked, AreFiles};
@@ -268,7 +268,7 @@ fn unpack_dump<R: Files, O: Write, E: Write>(
 
 // Returns the bytes of a table of an image.
 fn contents<'a>(base: u64, bytes: &'a [u8], table: &Located) -> &'a [u8]
-    ensures { result.now ≡ contents base bytes.now table.now }
+    ensures { result.now ≡ contents (image_at base bytes.now) table.now }
 {
     let start = table.address.saturating_sub(base);
     if start >= bytes.len() as u64 {
@@ -290,7 +290,7 @@ fn located<'a>(
     bytes: &'a [u8],
     tables: &[Located],
 ) -> Result<Vec<&'a [u8]>, AllocError>
-    ensures { IfOk result (λ all. map (λ table. table.now) all.items ≡ map (contents base bytes.now) tables.now) }
+    ensures { IfOk result (λ all. map (λ table. table.now) all.items ≡ map (contents (image_at base bytes.now)) tables.now) }
 {
     let mut all = Vec::new(alloc);
     'tables: for table in tables {

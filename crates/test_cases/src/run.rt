@@ -40,6 +40,8 @@ fn push_command(words: &mut Vec<String>, command: &str) -> io::Result<()> {
         "bare" => push_both(words, "show", "--no-offsets"),
         "findings" => push_both(words, "check", "--json"),
         "listing" => push_both(words, "image", "--json"),
+        "objects" => push_both(words, "names", "--json"),
+        "dot" => push_both(words, "tree", "--dot"),
         _ => push(words, command),
     }
 }

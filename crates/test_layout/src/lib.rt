@@ -14,6 +14,8 @@ mod plain;
 #[cfg(test)]
 mod pointers;
 #[cfg(test)]
+mod ranges;
+#[cfg(test)]
 mod reduced;
 #[cfg(test)]
 mod rsdt;

@@ -1,12 +1,15 @@
-//! HMAT, SLIT, VIOT and DBG2 of the machines of QEMU 7.2, but for the maker in their headers.
+//! HMAT, SLIT, VIOT, PPTT, GTDT, IORT and DBG2 of the machines of QEMU 7.2, but for the maker in their headers.
 
 use acpi_base::error::R;
 use acpi_tables::dbg2::{DBG2, DebugDevice, DebugPort};
 use acpi_tables::gas::{AccessSize, AddressSpace, GAS};
+use acpi_tables::gtdt::{EarlierGTDT, Timer, Timers};
 use acpi_tables::hmat::{
     Associativity, CacheLevel, DataType, HMAT, LocalityType, MemoryProximityDomain,
     MemorySideCache, MinTransferSize, SystemLocality, WritePolicy,
 };
+use acpi_tables::iort::{IORT, IdMapping, ItsGroup, MemoryAccess, Output, RootComplex};
+use acpi_tables::pptt::{PPTT, ProcessorHandle, ProcessorNode};
 use acpi_tables::slit::SLIT;
 use acpi_tables::spcr::InterfaceType;
 use acpi_tables::viot::{PciDevice, PciRange, VIOT, VirtIoPciIommu};
@@ -57,6 +60,55 @@ fn attributes(rt: HostRuntime) -> Result<(), Fail> {
     let mut hmat = HMAT::of_revision(alloc, 2, OEM, OEM_TABLE, OEM_REVISION);
     add_attributes(alloc, &mut hmat)?;
     writes(alloc, &hmat, &table(alloc, b"HMAT", 2, &[HMAT_OF_PC])?)
+}
+
+// The table of `virt`, which is also that of a Q35 whose third domain has no initiator.
+const HMAT_OF_VIRT: &[u8] = b"\0\0\0\0\
+    \0\0\0\0\x28\0\0\0\x01\0\0\0\0\0\0\0\0\0\0\0\0\0\0\0\0\0\0\0\0\0\0\0\0\0\0\0\0\0\0\0\
+    \0\0\0\0\x28\0\0\0\x01\0\0\0\x01\0\0\0\x01\0\0\0\0\0\0\0\0\0\0\0\0\0\0\0\0\0\0\0\0\0\0\0\
+    \0\0\0\0\x28\0\0\0\0\0\0\0\x80\0\0\0\x02\0\0\0\0\0\0\0\0\0\0\0\0\0\0\0\0\0\0\0\0\0\0\0\
+    \x01\0\0\0\x40\0\0\0\0\0\0\0\x02\0\0\0\x03\0\0\0\0\0\0\0\x10\x27\0\0\0\0\0\0\
+    \0\0\0\0\x01\0\0\0\0\0\0\0\x01\0\0\0\x02\0\0\0\x01\0\x02\0\x03\0\x02\0\x01\0\x03\0\
+    \x01\0\0\0\x40\0\0\0\0\x03\0\0\x02\0\0\0\x03\0\0\0\0\0\0\0\x01\0\0\0\0\0\0\0\
+    \0\0\0\0\x01\0\0\0\0\0\0\0\x01\0\0\0\x02\0\0\0\x0a\0\x05\0\x01\0\x05\0\x0a\0\x01\0";
+
+// A matrix of two initiators and three targets, by initiator.
+fn wide_matrix(
+    alloc: Global,
+    data: DataType,
+    unit: u64,
+    entries: &[[u16; 3]; 2],
+) -> R<SystemLocality> {
+    let (kind, size) = (LocalityType::Memory, MinTransferSize::SizeByteAligned);
+    let mut matrix = SystemLocality::new(alloc, kind, data, size, unit, 2, 3)?;
+    matrix.set_initiator_value(1, 1)?;
+    matrix.set_target_value(1, 1)?;
+    matrix.set_target_value(2, 2)?;
+    for (row, [first, second, third]) in [(0, entries[0]), (1, entries[1])] {
+        matrix.set_entry_value(row, 0, first)?;
+        matrix.set_entry_value(row, 1, second)?;
+        matrix.set_entry_value(row, 2, third)?;
+    }
+    Ok(matrix)
+}
+
+// The memory of the last domain has no initiator, whose number is 128 then.
+fn add_domains(alloc: Global, hmat: &mut HMAT) -> R<()> {
+    hmat.add_memory_proximity(MemoryProximityDomain::new(0, 0))?;
+    hmat.add_memory_proximity(MemoryProximityDomain::new(1, 1))?;
+    hmat.add_memory_proximity(MemoryProximityDomain::new(128, 2).without_initiator())?;
+    let latencies = [[1, 2, 3], [2, 1, 3]];
+    hmat.add_system_locality(wide_matrix(alloc, DataType::AccessLatency, 10_000, &latencies)?)?;
+    let bandwidths = [[10, 5, 1], [5, 10, 1]];
+    hmat.add_system_locality(wide_matrix(alloc, DataType::AccessBandwidth, 1, &bandwidths)?)
+}
+
+#[test]
+fn attributes_of_virt(rt: HostRuntime) -> Result<(), Fail> {
+    let alloc = rt.alloc();
+    let mut hmat = HMAT::of_revision(alloc, 2, OEM, OEM_TABLE, OEM_REVISION);
+    add_domains(alloc, &mut hmat)?;
+    writes(alloc, &hmat, &table(alloc, b"HMAT", 2, &[HMAT_OF_VIRT])?)
 }
 
 #[test]
@@ -121,4 +173,88 @@ fn debug_ports(rt: HostRuntime) -> Result<(), Fail> {
         \0\x2b\0\x01\x05\0\x26\0\0\0\0\0\0\x80\x03\0\0\0\x16\0\x22\0\
         \0\x08\0\x01\0\0\0\x09\0\0\0\0\0\x10\0\0COM0\0";
     writes(alloc, &dbg2, &table(alloc, b"DBG2", 0, &[wanted])?)
+}
+
+const ONE_PROCESSOR: &[u8] = b"\0\x14\0\0\x01\0\0\0\0\0\0\0\0\0\0\0\0\0\0\0\
+    \0\x14\0\0\0\0\0\0\x24\0\0\0\0\0\0\0\0\0\0\0\
+    \0\x14\0\0\x0a\0\0\0\x38\0\0\0\0\0\0\0\0\0\0\0";
+
+const FOUR_PROCESSORS: &[u8] = b"\0\x14\0\0\x01\0\0\0\0\0\0\0\0\0\0\0\0\0\0\0\
+    \0\x14\0\0\0\0\0\0\x24\0\0\0\0\0\0\0\0\0\0\0\
+    \0\x14\0\0\x0a\0\0\0\x38\0\0\0\0\0\0\0\0\0\0\0\
+    \0\x14\0\0\x0a\0\0\0\x38\0\0\0\x01\0\0\0\0\0\0\0\
+    \0\x14\0\0\x01\0\0\0\0\0\0\0\x01\0\0\0\0\0\0\0\
+    \0\x14\0\0\0\0\0\0\x74\0\0\0\0\0\0\0\0\0\0\0\
+    \0\x14\0\0\x0a\0\0\0\x88\0\0\0\x02\0\0\0\0\0\0\0\
+    \0\x14\0\0\x0a\0\0\0\x88\0\0\0\x03\0\0\0\0\0\0\0";
+
+// Adds a package of `virt` with a cluster, and returns the cluster's handle.
+fn add_cluster(alloc: Global, pptt: &mut PPTT, package: u32) -> R<ProcessorHandle> {
+    let socket = pptt.add_processor(ProcessorNode::new(alloc, None, package).physical())?;
+    pptt.add_processor(ProcessorNode::new(alloc, Some(&socket), 0))
+}
+
+// Adds this many processors from a number on.
+fn add_processors(alloc: Global, pptt: &mut PPTT, package: u32, first: u32, end: u32) -> R<()> {
+    let cluster = add_cluster(alloc, pptt, package)?;
+    for number in first..end {
+        let node = ProcessorNode::new(alloc, Some(&cluster), number);
+        pptt.add_processor(node.valid().leaf())?;
+    }
+    Ok(())
+}
+
+// `virt` with one processor, and with four in two packages.
+#[test]
+fn topologies(rt: HostRuntime) -> Result<(), Fail> {
+    let alloc = rt.alloc();
+    let mut one = PPTT::of_revision(alloc, 2, OEM, OEM_TABLE, OEM_REVISION);
+    add_processors(alloc, &mut one, 0, 0, 1)?;
+    writes(alloc, &one, &table(alloc, b"PPTT", 2, &[ONE_PROCESSOR])?)?;
+    let mut four = PPTT::of_revision(alloc, 2, OEM, OEM_TABLE, OEM_REVISION);
+    add_processors(alloc, &mut four, 0, 0, 2)?;
+    add_processors(alloc, &mut four, 1, 2, 4)?;
+    writes(alloc, &four, &table(alloc, b"PPTT", 2, &[FOUR_PROCESSORS])?)
+}
+
+#[test]
+fn timers_of_virt(rt: HostRuntime) -> Result<(), Fail> {
+    let timers = Timers::new(Timer::new(0x1e).always_on(), Timer::new(0x1b))
+        .secure_el1(Timer::new(0x1d))
+        .el2(Timer::new(0x1a));
+    let wanted: &[u8] = b"\xff\xff\xff\xff\xff\xff\xff\xff\0\0\0\0\x1d\0\0\0\0\0\0\0\
+        \x1e\0\0\0\x04\0\0\0\x1b\0\0\0\0\0\0\0\x1a\0\0\0\
+        \0\0\0\0\xff\xff\xff\xff\xff\xff\xff\xff\0\0\0\0\0\0\0\0";
+    let gtdt = EarlierGTDT::new(OEM, OEM_TABLE, OEM_REVISION, timers);
+    writes(
+        rt.alloc(),
+        &gtdt,
+        &table(rt.alloc(), b"GTDT", 2, &[wanted])?,
+    )
+}
+
+// Adds the ITS of `virt`, and its root complex, all of whose ids go to it.
+fn add_routes(alloc: Global, iort: &mut IORT) -> R<()> {
+    let mut group = ItsGroup::new(alloc);
+    group.add_its(0)?;
+    let its = iort.add_its_group(group)?;
+    let access = MemoryAccess::new().cache_coherent().coherent_path();
+    let mut bridge = RootComplex::new(alloc, 0)
+        .memory_access(access.cacheable_attributes())
+        .address_size_limit(0x40);
+    bridge.add_mapping(IdMapping::new(0, 0xffff, 0, Output::ItsGroup(its)))?;
+    iort.add_earlier_root_complex(bridge.earlier())?;
+    Ok(())
+}
+
+#[test]
+fn routes(rt: HostRuntime) -> Result<(), Fail> {
+    let alloc = rt.alloc();
+    let mut iort = IORT::of_revision(alloc, 3, OEM, OEM_TABLE, OEM_REVISION);
+    add_routes(alloc, &mut iort)?;
+    let wanted: &[u8] = b"\x02\0\0\0\x30\0\0\0\0\0\0\0\
+        \0\x18\0\x01\0\0\0\0\0\0\0\0\0\0\0\0\x01\0\0\0\0\0\0\0\
+        \x02\x38\0\x03\x01\0\0\0\x01\0\0\0\x24\0\0\0\x01\0\0\0\0\0\0\x03\0\0\0\0\0\0\0\0\x40\0\0\0\
+        \0\0\0\0\xff\xff\0\0\0\0\0\0\x30\0\0\0\0\0\0\0";
+    writes(alloc, &iort, &table(alloc, b"IORT", 3, &[wanted])?)
 }

@@ -38,6 +38,42 @@ pub fn image_tables(bytes: &[u8], base: u64, rsdp: u64) -> Result<Vec<ImageTable
     })
 }
 
+/// A range of a guest's memory.
+#[derive(Clone, Copy, Debug, PartialEq, Eq)]
+pub struct Range<'a> {
+    /// The physical address of its first byte.
+    pub address: u64,
+    /// Its bytes.
+    pub bytes: &'a [u8],
+}
+
+/// Checks the tables in a guest's memory as `check_image`, where this is several ranges that don't overlap. The RSDP is at the
+/// address `rsdp`. Each table lies in one range with its whole length. The place of an error is an address.
+pub fn check_memory(ranges: &[Range<'_>], rsdp: u64) -> Result<(), Error> {
+    let ranges = in_c(ranges);
+    let mut place = 0;
+    let number =
+        unsafe { sys::hyssop_check_memory(ranges.as_ptr(), ranges.len(), rsdp, &mut place) };
+    Error::of(number, place)
+}
+
+/// Returns the tables in such memory, as `image_tables`. The place of an error is an address.
+pub fn memory_tables(ranges: &[Range<'_>], rsdp: u64) -> Result<Vec<ImageTable>, Error> {
+    let ranges = in_c(ranges);
+    filled(|out, room, count, place| unsafe {
+        sys::hyssop_memory_tables(ranges.as_ptr(), ranges.len(), rsdp, out, room, count, place)
+    })
+}
+
+fn in_c(ranges: &[Range<'_>]) -> Vec<sys::Range> {
+    let one = |range: &Range<'_>| sys::Range {
+        address: range.address,
+        bytes: range.bytes.as_ptr(),
+        size: range.bytes.len(),
+    };
+    ranges.iter().map(one).collect()
+}
+
 /// Finds the RSDP in memory (ACPI 6.5, 5.2.5.1), at a multiple of 16 bytes, and returns its offset.
 pub fn find_rsdp(bytes: &[u8]) -> Result<usize, Error> {
     let mut offset = 0;

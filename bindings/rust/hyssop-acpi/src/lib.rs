@@ -48,9 +48,14 @@ pub mod xsdt;
 
 pub use error::Error;
 pub use hyssop_acpi_sys::{ImageTable, NO_KIND, Note, Structure, fault};
-pub use image::{Image, check_image, find_rsdp, image_tables, lay};
+pub use image::{
+    Image, Range, check_image, check_memory, find_rsdp, image_tables, lay, memory_tables,
+};
 pub use object::{Aml, AmlSink, CREATOR_ID, CREATOR_REVISION, Checksum, u8sum};
-pub use table::{check_aml, check_table, disassemble, names, seal, structures};
+pub use table::{
+    AmongText, check_aml, check_table, disassemble, disassemble_among, names, names_among, seal,
+    structures,
+};
 pub use text::{findings, make, notes, show, template};
 pub use writer::{Access, MemoryType, Op, RegionSpace, Update, Writer};
 

@@ -75,3 +75,66 @@ pub fn names(bytes: &[u8], arities: &str) -> Result<String, Error> {
     })?;
     Ok(crate::text::text_of(text))
 }
+
+/// The text of a definition block that is read among others.
+#[derive(Clone, Debug, PartialEq, Eq)]
+pub struct AmongText {
+    /// The text. What can't be read is a comment in it.
+    pub text: String,
+    /// The offset at which a term can't be read, if not all can be.
+    pub unread: Option<usize>,
+}
+
+/// Returns the ASL of a definition block as `disassemble`, but among further blocks, which have the same namespace (ACPI 6.5, 5.3):
+/// calls have the numbers of arguments that they state, too. A block of which not all terms can be read has a text, too. The place of
+/// an error is an offset. With `FURTHER_BLOCK` it is one in the further blocks, counted through all of them.
+pub fn disassemble_among(
+    bytes: &[u8],
+    further: &[&[u8]],
+    arities: &str,
+) -> Result<AmongText, Error> {
+    among(sys::hyssop_disassemble_among, bytes, further, arities)
+}
+
+/// Returns the objects that a definition block makes when it is loaded, as a tree of names. All else is as for `disassemble_among`.
+pub fn names_among(bytes: &[u8], further: &[&[u8]], arities: &str) -> Result<AmongText, Error> {
+    among(sys::hyssop_names_among, bytes, further, arities)
+}
+
+type Among = unsafe extern "C" fn(
+    *const u8,
+    usize,
+    *const u8,
+    usize,
+    *const u8,
+    usize,
+    *mut u8,
+    usize,
+    *mut usize,
+    *mut usize,
+    *mut u64,
+) -> u32;
+
+fn among(call: Among, bytes: &[u8], further: &[&[u8]], arities: &str) -> Result<AmongText, Error> {
+    let further = further.concat();
+    let mut unread = 0;
+    let text = filled(|out, room, size, place| unsafe {
+        call(
+            bytes.as_ptr(),
+            bytes.len(),
+            further.as_ptr(),
+            further.len(),
+            arities.as_ptr(),
+            arities.len(),
+            out,
+            room,
+            size,
+            &mut unread,
+            place,
+        )
+    })?;
+    Ok(AmongText {
+        text: crate::text::text_of(text),
+        unread: (unread != 0).then_some(unread),
+    })
+}

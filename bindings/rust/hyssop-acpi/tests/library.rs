@@ -211,6 +211,30 @@ fn definition_blocks() {
     assert!(names(&dsdt, "").unwrap().contains("COM1"));
 }
 
+/// A block that calls a method of another one (ACPI 6.5, 5.3).
+#[test]
+fn further_blocks() {
+    let block = |signature, body: &[u8]| {
+        let mut block = Writer::table(signature, 2, OEM.0, OEM.1, 1);
+        block.bytes(body);
+        block.finish().unwrap()
+    };
+    let caller = block("SSDT", b"\x70MTHD\x01\x60");
+    let owner = block("DSDT", b"\x14\x08MTHD\x01\xa4\x68");
+    let shown = disassemble_among(&caller, &[&caller, &owner], "").unwrap();
+    assert!(shown.text.contains("Store (MTHD (One), Local0)"));
+    assert_eq!(shown.unread, None);
+    let tree = names_among(&owner, &[&caller], "").unwrap();
+    assert_eq!(tree.text, "MTHD Method, arguments: 1\n");
+    let cut = disassemble_among(&block("SSDT", &[1, 0xfe]), &[], "").unwrap();
+    assert_eq!(cut.unread, Some(37));
+    let error = names_among(&caller, &[&caller, &owner[..40]], "").unwrap_err();
+    assert_eq!(
+        (error.fault, error.place),
+        (fault::FURTHER_BLOCK, caller.len() as u64)
+    );
+}
+
 #[test]
 fn images() {
     let fadt = {
@@ -227,4 +251,19 @@ fn images() {
     let signatures: Vec<_> = tables.iter().map(|table| &table.signature).collect();
     assert_eq!(signatures, [b"RSD ", b"XSDT", b"FACP", b"APIC", b"DSDT"]);
     assert!(lay(&[&fadt], 0x4_0000).is_err());
+    let at = (image.rsdp - 0x4_0000) as usize;
+    let ranges = [
+        Range {
+            address: 0xe_0000,
+            bytes: &image.bytes[at..at + 36],
+        },
+        Range {
+            address: 0x4_0000,
+            bytes: &image.bytes[..at],
+        },
+    ];
+    assert_eq!(check_memory(&ranges, 0xe_0000), Ok(()));
+    let found = memory_tables(&ranges, 0xe_0000).unwrap();
+    assert_eq!((found[0].address, &found[1..]), (0xe_0000, &tables[1..]));
+    assert!(check_memory(&ranges[..1], 0xe_0000).is_err());
 }

@@ -9,6 +9,9 @@ ghost use Rattle.acpi_arm.specs.Iort.{Pushes, mapping_bytes};
 ghost use Rattle.acpi_arm.specs.IortNodes.{named_component, name_end, component_start, component_size};
 ghost use Rattle.acpi_arm.specs.IortNodes.{component_head_fields, component_head, component_bytes};
 ghost use Rattle.acpi_arm.specs.IortNodes.{root_complex, root_complex_head_fields, root_complex_head, root_complex_bytes};
+ghost use Rattle.acpi_arm.specs.IortNodes.{earlier_root_complex_head_fields, earlier_root_complex_head};
+ghost use Rattle.acpi_arm.specs.IortNodes.{earlier_root_complex_bytes};
+ghost use Rattle.acpi_arm.specs.declared.iort.components.EarlierRootComplex.{EarlierRootComplex};
 ghost use Rattle.acpi_arm.specs.declared.iort.components.NamedComponent.{NamedComponent};
 ghost use Rattle.acpi_arm.specs.declared.iort.components.RootComplex.{RootComplex};
 
@@ -299,6 +302,14 @@ impl RootComplex {
         self.mappings.push(mapping.bytes())
     }
 
+    /// The same root complex in the form of node revision 3 (DEN0049E.b), which has nothing about PASIDs: 36 bytes before its
+    /// mappings.
+    pub fn earlier(self) -> EarlierRootComplex
+        ensures { result ≡ record { root_complex = self } }
+    {
+        EarlierRootComplex { root_complex: self }
+    }
+
     // The bytes of the node before its mappings.
     fn head(&self) -> [u8; 40]
         ensures { result ≡ root_complex_head self.now }
@@ -328,6 +339,12 @@ impl RootComplex {
     }
 }
 
+const ATS_ATTRIBUTE: [Bits; 3] = [
+    Bits::Flag(0x1, "ATS Supported"),
+    Bits::Flag(0x2, "PRI Supported"),
+    Bits::Flag(0x4, "PASID Forwarding Supported"),
+];
+
 const PASID_CAPABILITIES: [Bits; 1] = [Bits::Number(0x1f, 0x1, "Max PASID Width")];
 
 const ROOT_COMPLEX_FLAGS: [Bits; 1] = [Bits::Flag(0x1, "PASID Supported")];
@@ -351,15 +368,7 @@ pub const ROOT_COMPLEX: [Row; 16] = [
     Row::Flags("Allocation Hints", 1, &HINTS),
     Row::Reserved(2),
     Row::Flags("Memory Access Flags", 1, &ACCESS_FLAGS),
-    Row::Flags(
-        "ATS Attribute",
-        4,
-        &[
-            Bits::Flag(0x1, "ATS Supported"),
-            Bits::Flag(0x2, "PRI Supported"),
-            Bits::Flag(0x4, "PASID Forwarding Supported"),
-        ],
-    ),
+    Row::Flags("ATS Attribute", 4, &ATS_ATTRIBUTE),
     Row::Number("PCI Segment Number", 4),
     Row::Number("Memory Address Size Limit", 1),
     Row::Flags("PASID Capabilities", 2, &PASID_CAPABILITIES),
@@ -381,5 +390,76 @@ impl Aml for RootComplex {
 
     fn to_aml_bytes(&self, sink: &mut dyn AmlSink) -> R<()> {
         write_parts(sink, &[&self.head(), self.mappings.as_slice()])
+    }
+}
+
+/// A PCI root complex in the form of node revision 3 (DEN0049E.b), which `RootComplex::earlier` makes: 36 bytes, and 20 for each
+/// mapping.
+#[derive(Drop)]
+pub struct EarlierRootComplex {
+    pub(crate) root_complex: RootComplex,
+}
+
+impl EarlierRootComplex {
+    // The bytes of the node before its mappings.
+    fn head(&self) -> [u8; 36]
+        ensures { result ≡ earlier_root_complex_head self.now }
+    {
+        let node = &self.root_complex;
+        let mappings = node.mappings.len();
+        record_of_numbers(
+            &EARLIER_ROOT_COMPLEX,
+            &[
+                2,
+                36 + node.mappings.as_slice().len() as u64,
+                3,
+                u64::from(node.identifier),
+                mappings as u64,
+                u64::from(offset_if(mappings, 36)),
+                u64::from(node.access.cache_coherent),
+                u64::from(node.access.hints),
+                0,
+                u64::from(node.access.flags),
+                u64::from(node.ats_attribute),
+                u64::from(node.segment),
+                u64::from(node.address_size_limit),
+                0,
+            ],
+        )
+    }
+}
+
+/// The rows of a root complex node of revision 3 before its mappings.
+pub const EARLIER_ROOT_COMPLEX: [Row; 14] = [
+    Row::Preset("Type", 1, 2),
+    Row::Number("Length", 2),
+    Row::Preset("Revision", 1, 3),
+    Row::Hex("Identifier", 4),
+    Row::Number("Number of ID Mappings", 4),
+    Row::Number("Reference to ID Array", 4),
+    Row::OneOf("Cache Coherent Attribute", 4, &COHERENT),
+    Row::Flags("Allocation Hints", 1, &HINTS),
+    Row::Reserved(2),
+    Row::Flags("Memory Access Flags", 1, &ACCESS_FLAGS),
+    Row::Flags("ATS Attribute", 4, &ATS_ATTRIBUTE),
+    Row::Number("PCI Segment Number", 4),
+    Row::Number("Memory Address Size Limit", 1),
+    Row::Reserved(3),
+];
+
+/// The rows of the fields before the mappings of a root complex of node revision 3, in order.
+pub fn earlier_root_complex_rows() -> &'static [Row]
+    ensures { (c : EarlierRootComplex) → AreRowsOf result.now (earlier_root_complex_head_fields c) }
+{
+    &EARLIER_ROOT_COMPLEX
+}
+
+impl Aml for EarlierRootComplex {
+    ghost object = { λ c. whole (earlier_root_complex_bytes c) };
+
+    ghost ends_well = { λ c. whole_ends_well (earlier_root_complex_bytes c) };
+
+    fn to_aml_bytes(&self, sink: &mut dyn AmlSink) -> R<()> {
+        write_parts(sink, &[&self.head(), self.root_complex.mappings.as_slice()])
     }
 }

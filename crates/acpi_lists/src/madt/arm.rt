@@ -3,6 +3,7 @@
 ghost use Rattle.std.specs.Prelude.{◌≡◌};
 ghost use Rattle.acpi_base.specs.Object.{whole, whole_ends_well};
 ghost use Rattle.acpi_lists.specs.MadtArm.{with_edge, gicc, gicc_bytes, with_performance_interrupt};
+ghost use Rattle.acpi_lists.specs.MadtArm.{earlier_gicc_bytes, earlier_gicc_fields};
 ghost use Rattle.acpi_lists.specs.MadtArm.{with_maintenance_interrupt, gicc_fields, gicd, gicd_bytes, gicd_fields};
 ghost use Rattle.acpi_lists.specs.MadtArm.{gic_msi, gic_msi_bytes, with_spis, gic_msi_fields, gicr, gicr_bytes};
 ghost use Rattle.acpi_lists.specs.MadtArm.{gicr_fields, gic_its, gic_its_bytes, gic_its_fields};
@@ -209,7 +210,22 @@ impl Gicc {
         self.trbe_interrupt = trbe_interrupt;
         self
     }
+
+    /// The same interface in the form of ACPI 6.0 to 6.4: its first 80 bytes, without the interrupt of the Trace Buffer Extension.
+    pub fn earlier(self) -> EarlierGicc
+        ensures { result ≡ record { gicc = self } }
+    {
+        EarlierGicc { gicc: self }
+    }
 }
+
+// The names of the flags of a CPU interface.
+const GICC_FLAGS: [Bits; 4] = [
+    Bits::Flag(0x1, "Enabled"),
+    Bits::Flag(0x2, "Performance Interrupt Edge Triggered"),
+    Bits::Flag(0x4, "VGIC Maintenance Interrupt Edge Triggered"),
+    Bits::Flag(0x8, "Online Capable"),
+];
 
 /// The rows of a GIC CPU Interface (GICC) Structure.
 pub const GICC: [Row; 19] = [
@@ -218,16 +234,7 @@ pub const GICC: [Row; 19] = [
     Row::Reserved(2),
     Row::Number("CPU Interface Number", 4),
     Row::Hex("ACPI Processor UID", 4),
-    Row::Flags(
-        "Flags",
-        4,
-        &[
-            Bits::Flag(0x1, "Enabled"),
-            Bits::Flag(0x2, "Performance Interrupt Edge Triggered"),
-            Bits::Flag(0x4, "VGIC Maintenance Interrupt Edge Triggered"),
-            Bits::Flag(0x8, "Online Capable"),
-        ],
-    ),
+    Row::Flags("Flags", 4, &GICC_FLAGS),
     Row::Number("Parking Protocol Version", 4),
     Row::Number("Performance Interrupt GSIV", 4),
     Row::Hex("Parked Address", 8),
@@ -282,6 +289,80 @@ impl Aml for Gicc {
     ghost object = { λ s. whole (gicc_bytes s) };
 
     ghost ends_well = { λ s. whole_ends_well (gicc_bytes s) };
+
+    fn to_aml_bytes(&self, sink: &mut dyn AmlSink) -> R<()> {
+        write_record(self, sink)
+    }
+}
+
+/// A processor and its interface to a GIC in the form of ACPI 6.0 to 6.4, which `Gicc::earlier` makes: 80 bytes (ACPI 6.3,
+/// 5.2.12.14). Before ACPI 6.3 the buffer overflow interrupt (offset 78) is reserved, so it has to be 0.
+#[derive(Clone, Copy, Debug)]
+pub struct EarlierGicc {
+    gicc: Gicc,
+}
+
+/// The rows of a GIC CPU Interface (GICC) Structure of ACPI 6.0 to 6.4.
+pub const EARLIER_GICC: [Row; 18] = [
+    Row::Preset("Type", 1, 0x0b),
+    Row::Preset("Length", 1, 80),
+    Row::Reserved(2),
+    Row::Number("CPU Interface Number", 4),
+    Row::Hex("ACPI Processor UID", 4),
+    Row::Flags("Flags", 4, &GICC_FLAGS),
+    Row::Number("Parking Protocol Version", 4),
+    Row::Number("Performance Interrupt GSIV", 4),
+    Row::Hex("Parked Address", 8),
+    Row::Hex("Physical Base Address", 8),
+    Row::Hex("GICV", 8),
+    Row::Hex("GICH", 8),
+    Row::Number("VGIC Maintenance Interrupt", 4),
+    Row::Hex("GICR Base Address", 8),
+    Row::Hex("MPIDR", 8),
+    Row::Number("Processor Power Efficiency Class", 1),
+    Row::Reserved(1),
+    Row::Number("SPE Overflow Interrupt", 2),
+];
+
+impl Record<80> for EarlierGicc {
+    ghost fields = { earlier_gicc_fields };
+
+    fn rows() -> &'static [Row] {
+        &EARLIER_GICC
+    }
+
+    fn bytes(&self) -> [u8; 80] {
+        let gicc = self.gicc;
+        record_of_numbers(
+            &EARLIER_GICC,
+            &[
+                0x0b,
+                80,
+                0,
+                u64::from(gicc.cpu_interface_number),
+                u64::from(gicc.acpi_processor_uid),
+                u64::from(gicc.flags),
+                u64::from(gicc.parking_protocol_version),
+                u64::from(gicc.performance_interrupt),
+                gicc.parked_address,
+                gicc.base_address,
+                gicc.virtual_registers,
+                gicc.control_block_registers,
+                u64::from(gicc.maintenance_interrupt),
+                gicc.redistributor_base,
+                gicc.mpidr,
+                u64::from(gicc.power_efficiency_class),
+                0,
+                u64::from(gicc.overflow_interrupt),
+            ],
+        )
+    }
+}
+
+impl Aml for EarlierGicc {
+    ghost object = { λ s. whole (earlier_gicc_bytes s) };
+
+    ghost ends_well = { λ s. whole_ends_well (earlier_gicc_bytes s) };
 
     fn to_aml_bytes(&self, sink: &mut dyn AmlSink) -> R<()> {
         write_record(self, sink)

@@ -124,11 +124,11 @@ const LOW: u64 = 0xffff_ffff;
 
 const ALL: u64 = 0xffff_ffff_ffff_ffff;
 
-// The entries of the table that QEMU 7.2 writes for this device at 0xfebf3000, and the bytes of each.
-fn add_entries(erst: &mut ERST) -> R<()> {
-    let action = register(32, AccessSize::DwordAccess, 0xfebf_3000);
-    let value = register(32, AccessSize::DwordAccess, 0xfebf_3008);
-    let wide = register(64, AccessSize::QwordAccess, 0xfebf_3008);
+// The entries of the table that QEMU 7.2 writes for this device, whose registers of the action and of the value are at addresses.
+fn add_entries(erst: &mut ERST, action: u64, value: u64) -> R<()> {
+    let action = register(32, AccessSize::DwordAccess, action);
+    let wide = register(64, AccessSize::QwordAccess, value);
+    let value = register(32, AccessSize::DwordAccess, value);
     for (operation, instruction, register, number, mask) in [
         (
             Action::BeginWrite,
@@ -319,6 +319,7 @@ fn add_entries(erst: &mut ERST) -> R<()> {
     Ok(())
 }
 
+// That of a PC at 0xfebf3000.
 const ENTRIES: &[u8] = b"\x30\0\0\0\0\0\0\0\x1b\0\0\0\
     \0\x03\0\0\0\x20\0\x03\0\x30\xbf\xfe\0\0\0\0\0\0\0\0\0\0\0\0\xff\xff\xff\xff\0\0\0\0\
     \x01\x03\0\0\0\x20\0\x03\0\x30\xbf\xfe\0\0\0\0\x01\0\0\0\0\0\0\0\xff\xff\xff\xff\0\0\0\0\
@@ -348,13 +349,50 @@ const ENTRIES: &[u8] = b"\x30\0\0\0\0\0\0\0\x1b\0\0\0\
     \x10\x03\0\0\0\x20\0\x03\0\x30\xbf\xfe\0\0\0\0\x10\0\0\0\0\0\0\0\xff\xff\xff\xff\0\0\0\0\
     \x10\0\0\0\0\x40\0\x04\x08\x30\xbf\xfe\0\0\0\0\0\0\0\0\0\0\0\0\xff\xff\xff\xff\xff\xff\xff\xff";
 
+// On a microvm this device has no address when the table is written: the address is 2^64 - 1.
+const ENTRIES_OF_MICROVM: &[u8] = b"\x30\0\0\0\0\0\0\0\x1b\0\0\0\
+    \0\x03\0\0\0\x20\0\x03\xff\xff\xff\xff\xff\xff\xff\xff\0\0\0\0\0\0\0\0\xff\xff\xff\xff\0\0\0\0\
+    \x01\x03\0\0\0\x20\0\x03\xff\xff\xff\xff\xff\xff\xff\xff\x01\0\0\0\0\0\0\0\xff\xff\xff\xff\0\0\0\0\
+    \x02\x03\0\0\0\x20\0\x03\xff\xff\xff\xff\xff\xff\xff\xff\x02\0\0\0\0\0\0\0\xff\xff\xff\xff\0\0\0\0\
+    \x03\x03\0\0\0\x20\0\x03\xff\xff\xff\xff\xff\xff\xff\xff\x03\0\0\0\0\0\0\0\xff\xff\xff\xff\0\0\0\0\
+    \x04\x02\0\0\0\x20\0\x03\x07\0\0\0\0\0\0\0\0\0\0\0\0\0\0\0\xff\xff\xff\xff\0\0\0\0\
+    \x04\x03\0\0\0\x20\0\x03\xff\xff\xff\xff\xff\xff\xff\xff\x04\0\0\0\0\0\0\0\xff\xff\xff\xff\0\0\0\0\
+    \x05\x03\0\0\0\x20\0\x03\x07\0\0\0\0\0\0\0\x9c\0\0\0\0\0\0\0\xff\xff\xff\xff\0\0\0\0\
+    \x05\x03\0\0\0\x20\0\x03\xff\xff\xff\xff\xff\xff\xff\xff\x05\0\0\0\0\0\0\0\xff\xff\xff\xff\0\0\0\0\
+    \x06\x03\0\0\0\x20\0\x03\xff\xff\xff\xff\xff\xff\xff\xff\x06\0\0\0\0\0\0\0\xff\xff\xff\xff\0\0\0\0\
+    \x06\x01\0\0\0\x20\0\x03\x07\0\0\0\0\0\0\0\x01\0\0\0\0\0\0\0\xff\xff\xff\xff\0\0\0\0\
+    \x07\x03\0\0\0\x20\0\x03\xff\xff\xff\xff\xff\xff\xff\xff\x07\0\0\0\0\0\0\0\xff\xff\xff\xff\0\0\0\0\
+    \x07\0\0\0\0\x20\0\x03\x07\0\0\0\0\0\0\0\0\0\0\0\0\0\0\0\xff\xff\xff\xff\0\0\0\0\
+    \x08\x03\0\0\0\x20\0\x03\xff\xff\xff\xff\xff\xff\xff\xff\x08\0\0\0\0\0\0\0\xff\xff\xff\xff\0\0\0\0\
+    \x08\0\0\0\0\x40\0\x04\x07\0\0\0\0\0\0\0\0\0\0\0\0\0\0\0\xff\xff\xff\xff\xff\xff\xff\xff\
+    \x09\x02\0\0\0\x40\0\x04\x07\0\0\0\0\0\0\0\0\0\0\0\0\0\0\0\xff\xff\xff\xff\xff\xff\xff\xff\
+    \x09\x03\0\0\0\x20\0\x03\xff\xff\xff\xff\xff\xff\xff\xff\x09\0\0\0\0\0\0\0\xff\xff\xff\xff\0\0\0\0\
+    \x0a\x03\0\0\0\x20\0\x03\xff\xff\xff\xff\xff\xff\xff\xff\x0a\0\0\0\0\0\0\0\xff\xff\xff\xff\0\0\0\0\
+    \x0a\0\0\0\0\x20\0\x03\x07\0\0\0\0\0\0\0\0\0\0\0\0\0\0\0\xff\xff\xff\xff\0\0\0\0\
+    \x0b\x03\0\0\0\x20\0\x03\xff\xff\xff\xff\xff\xff\xff\xff\x0b\0\0\0\0\0\0\0\xff\xff\xff\xff\0\0\0\0\
+    \x0d\x03\0\0\0\x20\0\x03\xff\xff\xff\xff\xff\xff\xff\xff\x0d\0\0\0\0\0\0\0\xff\xff\xff\xff\0\0\0\0\
+    \x0d\0\0\0\0\x40\0\x04\x07\0\0\0\0\0\0\0\0\0\0\0\0\0\0\0\xff\xff\xff\xff\xff\xff\xff\xff\
+    \x0e\x03\0\0\0\x20\0\x03\xff\xff\xff\xff\xff\xff\xff\xff\x0e\0\0\0\0\0\0\0\xff\xff\xff\xff\0\0\0\0\
+    \x0e\0\0\0\0\x40\0\x04\x07\0\0\0\0\0\0\0\0\0\0\0\0\0\0\0\xff\xff\xff\xff\xff\xff\xff\xff\
+    \x0f\x03\0\0\0\x20\0\x03\xff\xff\xff\xff\xff\xff\xff\xff\x0f\0\0\0\0\0\0\0\xff\xff\xff\xff\0\0\0\0\
+    \x0f\0\0\0\0\x20\0\x03\x07\0\0\0\0\0\0\0\0\0\0\0\0\0\0\0\xff\xff\xff\xff\0\0\0\0\
+    \x10\x03\0\0\0\x20\0\x03\xff\xff\xff\xff\xff\xff\xff\xff\x10\0\0\0\0\0\0\0\xff\xff\xff\xff\0\0\0\0\
+    \x10\0\0\0\0\x40\0\x04\x07\0\0\0\0\0\0\0\0\0\0\0\0\0\0\0\xff\xff\xff\xff\xff\xff\xff\xff";
+
 #[test]
 fn erst(rt: HostRuntime) -> Result<(), Fail> {
     let alloc = rt.alloc();
-    let mut erst = ERST::new(alloc, OEM, OEM_TABLE, OEM_REVISION);
+    let erst = ERST::new(alloc, OEM, OEM_TABLE, OEM_REVISION);
     let none = table(alloc, b"ERST", 1, &[b"\x30\0\0\0\0\0\0\0\0\0\0\0"])?;
     writes(alloc, &erst, &none)?;
-    add_entries(&mut erst)?;
-    equal(&(erst.len(), erst.count()), &(912, 27))?;
-    writes(alloc, &erst, &table(alloc, b"ERST", 1, &[ENTRIES])?)
+    for (action, value, wanted) in [
+        (0xfebf_3000, 0xfebf_3008, ENTRIES),
+        (0xffff_ffff_ffff_ffff, 7, ENTRIES_OF_MICROVM),
+    ] {
+        let mut erst = ERST::new(alloc, OEM, OEM_TABLE, OEM_REVISION);
+        add_entries(&mut erst, action, value)?;
+        equal(&(erst.len(), erst.count()), &(912, 27))?;
+        writes(alloc, &erst, &table(alloc, b"ERST", 1, &[wanted])?)?;
+    }
+    Ok(())
 }

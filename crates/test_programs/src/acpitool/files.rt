@@ -78,14 +78,14 @@ line\n";
     has(&rt, "kept", &TABLE)
 }
 
-// A text of a table whose length is wrong.
-const WRONG: &str =
+/// A text of a table whose length is wrong.
+pub const WRONG: &str =
     "  : \"OEMX\"\n  Length: 0000002c\n  : 01 85 \"FOOBAR\" \"CAFEDEAD\" 00000001 \"RVAT\" 01000000\n";
 
 // What is printed on its number, and that it isn't written.
 const NOTE: &str = "wrong: note: 36 would be right at offset 4\n";
 
-const HELD: &str = "wrong: not written (--force writes it)\n";
+const HELD: &str = "wrong: not written (make --force writes it)\n";
 
 // A table whose numbers are wrong leaves the file as it is.
 #[test]

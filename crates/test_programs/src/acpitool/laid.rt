@@ -1,5 +1,6 @@
 //! Images of the tables of a folder.
 
+use crate::acpitool::files::WRONG;
 use crate::acpitool::program::{TABLE, ends, write};
 use crate::words::owned;
 use acpitool_program::program::run;
@@ -107,6 +108,44 @@ fn laid(rt: HostRuntime) -> Result<(), Fail> {
     let wanted = joined(&rt, &LAID)?;
     same(&fs::read(&rt, "laid_image")?, &wanted)?;
     ends(&rt, &["image", "laid_image", "1c000000"], 0, &[LISTED], &[])
+}
+
+// The text of the DSDT.
+const DSDT_TEXT: &str =
+    "  : \"DSDT\"\n  Length: ????????\n  : 02 ?? \"FOOBAR\" \"CAFEDEAD\" 00000001 \"RVAT\" 01000000\n";
+
+// A text whose name ends in `.txt` is laid as its table.
+#[test]
+fn texts_are_laid(rt: HostRuntime) -> Result<(), Fail> {
+    fs::create_dir(&rt, "texts")?;
+    write(&rt, "texts/dsdt.txt", DSDT_TEXT.as_bytes())?;
+    write_padded(&rt, "texts/fadt", &FADT, 148)?;
+    write_padded(&rt, "texts/facs", &FACS, 64)?;
+    write(&rt, "texts/table", &TABLE)?;
+    let line = "RSDP at 0x1c000160\n";
+    let words = ["lay", "texts", "texts_image", "1c000000"];
+    ends(&rt, &words, 0, &[line], &[])?;
+    let wanted = joined(&rt, &LAID)?;
+    same(&fs::read(&rt, "texts_image")?, &wanted)
+}
+
+// A text that isn't one of a table, and one whose length is wrong.
+#[test]
+fn texts_without_a_table(rt: HostRuntime) -> Result<(), Fail> {
+    fs::create_dir(&rt, "no_texts")?;
+    let path = "no_texts/a.txt";
+    write(&rt, path, b"  : \"DSDT\"\n\n  Length: 0\n")?;
+    let words = ["lay", "no_texts", "no_texts_image", "0"];
+    let line =
+        "no_texts/a.txt: line 3, column 12: expected the second digit of a byte (#5 and 0x5 are the number 5), found the end \
+of the line\n";
+    ends(&rt, &words, 1, &[], &[line])?;
+    write(&rt, path, WRONG.as_bytes())?;
+    let lines = [
+        "no_texts/a.txt: note: 36 would be right at offset 4\n",
+        "no_texts/a.txt: not written (make --force writes it)\n",
+    ];
+    ends(&rt, &words, 1, &[], &lines)
 }
 
 // What is laid of the tables that an image is unpacked to is the same image.

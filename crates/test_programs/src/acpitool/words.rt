@@ -6,9 +6,9 @@ use std::test::Fail;
 // What is printed after the line of a wrong word.
 const USAGE: &str = "\
 usage: acpitool show [--no-offsets] FILE .. [NAME=N ..] | show --json FILE .. | check [--json] FILE .. | diff FILE FILE \
-| disassemble FILE .. [NAME=N ..] | names FILE .. [NAME=N ..] | image [--json] FILE [BASE] | make [--force] TEXT FILE \
-| template SIGNATURE | unpack FILE FOLDER [BASE] | cpio FOLDER FILE | lay FOLDER FILE BASE | loader FOLDER OUT \
-| --help | --version
+| disassemble FILE .. [NAME=N ..] | names [--json] FILE .. [NAME=N ..] | image [--json] FILE [BASE] \
+| make [--force] TEXT FILE | template SIGNATURE | unpack FILE FOLDER [BASE] | cpio FOLDER FILE | lay FOLDER FILE BASE \
+| loader FOLDER OUT | tree [--dot] FILE | --help | --version
 ";
 
 // The template of a definition block.
@@ -66,6 +66,7 @@ fn wrong_commands(rt: HostRuntime) -> Result<(), Fail> {
             (&["image", "--json"], "no file with an image\n"),
             (&["disassemble"], "no file with a definition block\n"),
             (&["names"], "no file with a definition block\n"),
+            (&["names", "--json"], "no file with a definition block\n"),
             (&["unpack"], "no file to unpack\n"),
             (&["unpack", "x"], "no folder for the tables\n"),
             (
@@ -76,6 +77,9 @@ fn wrong_commands(rt: HostRuntime) -> Result<(), Fail> {
             (&["cpio"], "no folder with tables\n"),
             (&["cpio", "x"], "no file for the archive\n"),
             (&["cpio", "x", "y", "z"], "unknown word z\n"),
+            (&["tree"], "no file to draw\n"),
+            (&["tree", "--dot"], "no file to draw\n"),
+            (&["tree", "x", "y"], "unknown word y\n"),
             (&["loader"], "no folder with tables\n"),
             (&["loader", "x"], "no folder for the tables\n"),
             (&["loader", "x", "y", "z"], "unknown word z\n"),
@@ -102,6 +106,8 @@ fn wrong_places(rt: HostRuntime) -> Result<(), Fail> {
             (&["show", "--no-offsets", "--json", "x"], "--json\n"),
             (&["check", "x", "--json"], "--json\n"),
             (&["image", "x", "--json"], "--json\n"),
+            (&["names", "x", "--json"], "--json\n"),
+            (&["tree", "x", "--dot"], "--dot\n"),
         ],
     )
 }

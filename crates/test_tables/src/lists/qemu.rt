@@ -1,9 +1,10 @@
-//! MADT of the x86 machines of QEMU 7.2, and SRAT of all its machines, but for the maker in their headers.
+//! MADT and SRAT of the machines of QEMU 7.2, but for the maker in their headers.
 
 use acpi_base::error::R;
 use acpi_tables::madt::{
-    EnabledStatus, InterruptSourceOverride, IoApic, LocalApicNmi, LocalInterruptController, MADT,
-    PCAT_COMPAT, Polarity, ProcessorLocalApic, TriggerMode,
+    EnabledStatus, GicMsi, GicVersion, Gicc, Gicd, InterruptSourceOverride, IoApic, LocalApicNmi,
+    LocalInterruptController, MADT, PCAT_COMPAT, Polarity, ProcessorLocalApic, Trigger,
+    TriggerMode,
 };
 use acpi_tables::srat::{GiccAffinity, MemoryAffinity, ProcessorLocalApicAffinity, SRAT};
 use std::alloc::Global;
@@ -187,6 +188,75 @@ fn interrupt_controllers(rt: HostRuntime) -> Result<(), Fail> {
         add_interrupts(&mut madt, timer, levels)?;
         let fixed: &[u8] = b"\0\0\xe0\xfe\x01\0\0\0";
         writes(alloc, &madt, &table(alloc, b"APIC", 1, &[fixed, wanted])?)?;
+    }
+    Ok(())
+}
+
+// The first part of the bytes of `virt`, the bytes of each of its processors, and the last part.
+const DISTRIBUTOR: &[u8] = b"\x0c\x18\0\0\0\0\0\0\0\0\0\x08\0\0\0\0\0\0\0\0\
+        \x02\0\0\0";
+
+const INTERFACES: [&[u8]; 4] = [
+    b"\x0b\x50\0\0\0\0\0\0\0\0\0\0\x01\0\0\0\0\0\0\0\
+        \x17\0\0\0\0\0\0\0\0\0\0\0\0\0\x01\x08\0\0\0\0\
+        \0\0\x04\x08\0\0\0\0\0\0\x03\x08\0\0\0\0\0\0\0\0\
+        \0\0\0\0\0\0\0\0\0\0\0\0\0\0\0\0\0\0\0\0",
+    b"\x0b\x50\0\0\x01\0\0\0\x01\0\0\0\x01\0\0\0\0\0\0\0\
+        \x17\0\0\0\0\0\0\0\0\0\0\0\0\0\x01\x08\0\0\0\0\
+        \0\0\x04\x08\0\0\0\0\0\0\x03\x08\0\0\0\0\0\0\0\0\
+        \0\0\0\0\0\0\0\0\x01\0\0\0\0\0\0\0\0\0\0\0",
+    b"\x0b\x50\0\0\x02\0\0\0\x02\0\0\0\x01\0\0\0\0\0\0\0\
+        \x17\0\0\0\0\0\0\0\0\0\0\0\0\0\x01\x08\0\0\0\0\
+        \0\0\x04\x08\0\0\0\0\0\0\x03\x08\0\0\0\0\0\0\0\0\
+        \0\0\0\0\0\0\0\0\x02\0\0\0\0\0\0\0\0\0\0\0",
+    b"\x0b\x50\0\0\x03\0\0\0\x03\0\0\0\x01\0\0\0\0\0\0\0\
+        \x17\0\0\0\0\0\0\0\0\0\0\0\0\0\x01\x08\0\0\0\0\
+        \0\0\x04\x08\0\0\0\0\0\0\x03\x08\0\0\0\0\0\0\0\0\
+        \0\0\0\0\0\0\0\0\x03\0\0\0\0\0\0\0\0\0\0\0",
+];
+
+const MESSAGES: &[u8] = b"\x0d\x18\0\0\0\0\0\0\0\0\x02\x08\0\0\0\0\x01\0\0\0\
+        \x40\0\x50\0";
+
+// The interface of a processor of `virt`.
+fn interface(number: u32) -> Gicc {
+    Gicc::new(EnabledStatus::Enabled)
+        .cpu_interface_number(number)
+        .acpi_processor_uid(number)
+        .performance_interrupt(0x17, Trigger::Level)
+        .base_address(0x801_0000)
+        .virtual_registers(0x804_0000)
+        .control_block_registers(0x803_0000)
+        .mpidr(u64::from(number))
+}
+
+// Adds the GIC of `virt` with this many processors.
+fn add_gic(madt: &mut MADT, processors: u32) -> R<()> {
+    madt.add_structure(Gicd::new(0, 0x800_0000, GicVersion::GICv2))?;
+    for number in 0..processors {
+        madt.add_structure(interface(number).earlier())?;
+    }
+    let frame = GicMsi::new().base_addr(0x802_0000);
+    madt.add_structure(frame.spi_count_and_base(0x40, 0x50))
+}
+
+// `virt` with one processor, and with four.
+#[test]
+fn interrupt_controllers_of_virt(rt: HostRuntime) -> Result<(), Fail> {
+    let alloc = rt.alloc();
+    let [first, second, third, fourth] = INTERFACES;
+    let rows: [(u32, &[&[u8]]); 2] = [
+        (1, &[&[0; 8], DISTRIBUTOR, first, MESSAGES]),
+        (
+            4,
+            &[&[0; 8], DISTRIBUTOR, first, second, third, fourth, MESSAGES],
+        ),
+    ];
+    for (processors, wanted) in rows {
+        let local = LocalInterruptController::Address(0);
+        let mut madt = MADT::of_revision(alloc, 4, OEM, OEM_TABLE, OEM_REVISION, local, 0);
+        add_gic(&mut madt, processors)?;
+        writes(alloc, &madt, &table(alloc, b"APIC", 4, wanted)?)?;
     }
     Ok(())
 }

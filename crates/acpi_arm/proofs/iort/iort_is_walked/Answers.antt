@@ -5,7 +5,7 @@ use Rattle.acpi_base.specs.Object.{whole}
 use Rattle.acpi_base.proofs.Objects.{is_provided, provided_front}
 use Rattle.acpi_core.specs.Offset.{StandIn}
 use Rattle.acpi_core.specs.Structure.{structure_of, fits_word}
-use Rattle.acpi_arm.specs.IortNodes.{its_group_bytes, component_bytes, root_complex_bytes}
+use Rattle.acpi_arm.specs.IortNodes.{its_group_bytes, component_bytes, root_complex_bytes, earlier_root_complex_bytes}
 use Rattle.acpi_arm.specs.IortSmmus.{smmu_bytes, smmu_v3_bytes}
 use Rattle.acpi_arm.proofs.iort.iort_is_walked.Goals as goal
 
@@ -23,6 +23,7 @@ returns-clause-nodes c =
       its_groups = λ g. holds (whole (its_group_bytes g)) (0 ∷ []) (search rules);
       named_components = λ g. holds (structure_of (component_bytes g)) (1 ∷ []) (begins (component_bytes g) (1 ∷ []) (search rules));
       root_complexes = λ g. holds (whole (root_complex_bytes g)) (2 ∷ []) (search rules);
+      earlier_root_complexes = λ g. holds (whole (earlier_root_complex_bytes g)) (2 ∷ []) (search rules);
       smmus = λ g. holds (structure_of (smmu_bytes g)) (3 ∷ []) (begins (smmu_bytes g) (3 ∷ []) (search rules));
       smmus_v3 = λ g. holds (whole (smmu_v3_bytes g)) (4 ∷ []) (search rules);
     }

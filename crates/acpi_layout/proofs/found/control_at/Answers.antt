@@ -1,12 +1,13 @@
 use Rattle.std.proofs.Common.{◌≡◌, ◌∷◌, [], ap, ◌∙◌, sym, take, get_or, codes, arith}
 use Rattle.acpi_base.specs.Bytes.{field_at}
+use Rattle.acpi_layout.specs.Addresses.{memory_of}
 use Rattle.acpi_layout.specs.Fault.{IsControlFault, facs_is_outside, facs_has_other_signature, facs_has_other_length}
 use Rattle.acpi_layout.proofs.Faults.{at_fault, four_are}
 use Rattle.acpi_layout.proofs.found.control_at.Goals as goal
 
 pub returns-in_err-whole-clause-fault : goal.returns-in_err-whole-clause-fault
 returns-in_err-whole-clause-fault c =
-    at_fault _ (IsControlFault c.args.base c.args.bytes.now c.args.address) _ _ c.from_residual.ensures.1 c.in_err-whole.ensures.fault (facs_is_outside c.in_err-whole.ensures.err)
+    at_fault _ (IsControlFault (memory_of c.args.ranges.now) c.args.address) _ _ c.from_residual.ensures.1 c.in_err-whole.ensures.fault (facs_is_outside c.in_err-whole.ensures.err)
 
 pub returns-then-ne-clause-fault : goal.returns-then-ne-clause-fault
 returns-then-ne-clause-fault c =

@@ -1,4 +1,5 @@
 use Rattle.std.proofs.Common.{◌≢◌, ℕ, ◌+◌, ◌*◌, arith, List, length, ap, ◌∙◌, subst}
+use Rattle.acpi_layout.specs.Addresses.{Space, memory_of}
 use Rattle.acpi_layout.specs.declared.fault.ImageFault.{ImageFault}
 use Rattle.acpi_layout.specs.declared.fault.ImageFault.TheVariants.{Memory}
 use Rattle.acpi_layout.specs.declared.located.Located.{Located}
@@ -10,40 +11,40 @@ use Rattle.acpi_layout.proofs.Founds.{at_exit, entry_refused, entries_next, entr
 use Rattle.acpi_layout.proofs.found.entries.Goals as goal
 
 -- no list of tables is what the XSDT lists
-abbrev IsNone : ℕ → List ℕ → Located → ImageFault → Type 0
-IsNone base bytes xsdt e = e ≢ Memory → (entries : List Located) → AreEntries base bytes xsdt entries → ⊥
+abbrev IsNone : Space → Located → ImageFault → Type 0
+IsNone memory xsdt e = e ≢ Memory → (entries : List Located) → AreEntries memory xsdt entries → ⊥
 
 pub returns-in_err-count-clause-err : goal.returns-in_err-count-clause-err
 returns-in_err-count-clause-err c =
-    at_exit _ (IsNone c.args.base c.args.bytes.now c.args.xsdt) _ c.from_residual.ensures.1 (λ other entries are. c.in_err-count.ensures.err (length entries) are.counted)
+    at_exit _ (IsNone (memory_of c.args.ranges.now) c.args.xsdt) _ c.from_residual.ensures.1 (λ other entries are. c.in_err-count.ensures.err (length entries) are.counted)
 
 pub returns-in_err-table-clause-err : goal.returns-in_err-table-clause-err
 returns-in_err-table-clause-err c =
-    at_exit _ (IsNone c.args.base c.args.bytes.now c.args.xsdt) _ c.from_residual-in_err-table.ensures.1
-    (λ other. entry_refused _ _ _ _ c.contents-whole.ensures.is _ c.in_ok-count.ensures.ok _ _ c.qword_at.ensures c.loop-i-test.true c.in_err-table.ensures.err)
+    at_exit _ (IsNone (memory_of c.args.ranges.now) c.args.xsdt) _ c.from_residual-in_err-table.ensures.1
+    (λ other. entry_refused _ _ _ c.contents-whole.ensures.is _ c.in_ok-count.ensures.ok _ _ c.qword_at.ensures c.loop-i-test.true c.in_err-table.ensures.err)
 
 pub loop-i-preserved : goal.loop-i-preserved
 loop-i-preserved c = record {
   counted = omega (arith, c.in_ok-push.ensures.len, c.loop-i.invariant.counted);
-  each = entries_next _ _ _ _ _ _ _ _ c.in_ok-push.ensures.items c.loop-i.invariant.counted c.loop-i.invariant.each c.qword_at.ensures c.in_ok-table.ensures.ok;
+  each = entries_next _ _ _ _ _ _ _ c.in_ok-push.ensures.items c.loop-i.invariant.counted c.loop-i.invariant.each c.qword_at.ensures c.in_ok-table.ensures.ok;
 }
 
 pub returns-clause-ok : goal.returns-clause-ok
 returns-clause-ok c =
-    entries_are _ _ _ _ c.contents-whole.ensures.is _
+    entries_are _ _ _ c.contents-whole.ensures.is _
     (omega (arith, c.in_ok-count.ensures.ok, c.loop-i.invariant.counted, c.loop-i-test.false, c.loop-i.auto.i-end))
     (λ k d inside. c.loop-i.invariant.each k d (omega (arith, inside, c.loop-i.invariant.counted)))
 
-abbrev Faulty : ℕ → List ℕ → Located → ImageFault → Type 0
-Faulty base bytes xsdt e = e ≢ Memory → IsEntriesFault base bytes xsdt e
+abbrev Faulty : Space → Located → ImageFault → Type 0
+Faulty memory xsdt e = e ≢ Memory → IsEntriesFault memory xsdt e
 
 pub returns-in_err-count-clause-fault : goal.returns-in_err-count-clause-fault
 returns-in_err-count-clause-fault c =
-    at_fault _ (Faulty c.args.base c.args.bytes.now c.args.xsdt) _ _ c.from_residual.ensures.1 c.in_err-count.ensures.fault (λ other. part_of_entry c.in_err-count.ensures.err)
+    at_fault _ (Faulty (memory_of c.args.ranges.now) c.args.xsdt) _ _ c.from_residual.ensures.1 c.in_err-count.ensures.fault (λ other. part_of_entry c.in_err-count.ensures.err)
 
 pub returns-in_err-table-clause-fault : goal.returns-in_err-table-clause-fault
 returns-in_err-table-clause-fault c =
-    at_exit _ (Faulty c.args.base c.args.bytes.now c.args.xsdt) _ c.from_residual-in_err-table.ensures.1
+    at_exit _ (Faulty (memory_of c.args.ranges.now) c.args.xsdt) _ c.from_residual-in_err-table.ensures.1
     (λ other. entry_is_no_table c.loop-i.i (omega (arith, c.in_ok-count.ensures.ok, c.loop-i-test.true))
-    (subst (λ a. IsTableFault c.args.base c.args.bytes.now a c.in_err-table.field-0.0)
+    (subst (λ a. IsTableFault (memory_of c.args.ranges.now) a c.in_err-table.field-0.0)
     (c.qword_at.ensures ∙ ap (field_at (36 + 8 * c.loop-i.i) 8) c.contents-whole.ensures.is) c.in_err-table.ensures.fault))

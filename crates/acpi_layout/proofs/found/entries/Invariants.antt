@@ -1,5 +1,6 @@
 use Rattle.std.proofs.Common.{◌≡◌, ℕ, ◌+◌, ◌*◌, ◌<◌, length, get_or}
 use Rattle.acpi_base.specs.Bytes.{field_at}
+use Rattle.acpi_layout.specs.Addresses.{memory_of}
 use Rattle.acpi_layout.specs.declared.located.Located.{Located}
 use Rattle.acpi_layout.specs.Found.{IsTableAt}
 use Rattle.acpi_layout.proofs.found.entries.Given as goal
@@ -8,5 +9,5 @@ abbrev pub invariant-loop-i : goal.invariant-loop-i
 invariant-loop-i l = record {
   counted : length l.entries.items ≡ l.i;
   each : (k : ℕ) (d : Located) → k < l.i
-      → IsTableAt l.base l.bytes (field_at (36 + 8 * k) 8 l.whole) (get_or l.entries.items k d);
+      → IsTableAt (memory_of l.ranges) (field_at (36 + 8 * k) 8 l.whole) (get_or l.entries.items k d);
 }

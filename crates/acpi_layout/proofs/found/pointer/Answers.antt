@@ -1,6 +1,7 @@
 use Rattle.std.proofs.Common.{◌≡◌, ◌%◌, ap, ◌∙◌, sym, take, codes, arith}
 use Rattle.std.specs.Prelude.{sum}
 use Rattle.acpi_base.specs.Bytes.{field_at}
+use Rattle.acpi_layout.specs.Addresses.{memory_of}
 use Rattle.acpi_layout.specs.Fault.{IsPointerFault, pointer_is_outside, pointer_has_other_signature, pointer_has_other_revision, pointer_has_other_length, pointer_has_wrong_checksum, pointer_has_wrong_extended_checksum}
 use Rattle.acpi_layout.proofs.Faults.{at_fault, byte_is, not_true}
 use Rattle.acpi_layout.proofs.found.pointer.Goals.{then-not-sums_to_zero-via-then-not-sums_to_zero, then-not-sums_to_zero-via-else-not-sums_to_zero+then-not-sums_to_zero-2}
@@ -8,7 +9,7 @@ use Rattle.acpi_layout.proofs.found.pointer.Goals as goal
 
 pub returns-in_err-whole-clause-fault : goal.returns-in_err-whole-clause-fault
 returns-in_err-whole-clause-fault c =
-    at_fault _ (IsPointerFault c.args.base c.args.bytes.now c.args.address) _ _ c.from_residual.ensures.1 c.in_err-whole.ensures.fault (pointer_is_outside c.in_err-whole.ensures.err)
+    at_fault _ (IsPointerFault (memory_of c.args.ranges.now) c.args.address) _ _ c.from_residual.ensures.1 c.in_err-whole.ensures.fault (pointer_is_outside c.in_err-whole.ensures.err)
 
 pub returns-then-ne-clause-fault : goal.returns-then-ne-clause-fault
 returns-then-ne-clause-fault c =

@@ -47,6 +47,10 @@ pub returns-in-Diff : goal.returns-in-Diff
 returns-in-Diff c = λ all is. c.diff.ensures all
     (is ∙ ap (λ (verb : Verb). word_of verb ∷ map (λ word. string_bytes word) c.args.words.now) c.in-Diff.is)
 
+pub returns-in-Tree : goal.returns-in-Tree
+returns-in-Tree c = λ all is. c.tree.ensures all
+    (is ∙ ap (λ (verb : Verb). word_of verb ∷ map (λ word. string_bytes word) c.args.words.now) c.in-Tree.is)
+
 pub returns-in-Loader : goal.returns-in-Loader
 returns-in-Loader c = λ all is. c.loader.ensures all
     (is ∙ ap (λ (verb : Verb). word_of verb ∷ map (λ word. string_bytes word) c.args.words.now) c.in-Loader.is)

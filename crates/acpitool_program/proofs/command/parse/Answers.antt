@@ -91,6 +91,11 @@ returns-in-diff c = c.asked-in-diff.ensures _
     (front_of_all (λ word. string_bytes word) c.args.words.now c.word-item.result _
     (sym c.as_str.ensures.value ∙ c.in-diff.is) c.word-item.is c.in-len1-up.len_at_least)
 
+pub returns-in-tree : goal.returns-in-tree
+returns-in-tree c = c.asked-in-tree.ensures _
+    (front_of_all (λ word. string_bytes word) c.args.words.now c.word-item.result _
+    (sym c.as_str.ensures.value ∙ c.in-tree.is) c.word-item.is c.in-len1-up.len_at_least)
+
 pub returns-in-loader : goal.returns-in-loader
 returns-in-loader c = c.asked-in-loader.ensures _
     (front_of_all (λ word. string_bytes word) c.args.words.now c.word-item.result _

@@ -13,7 +13,7 @@ returns-in-Err g c =
 pub paths-preserved : goal.paths-preserved
 paths-preserved g c =
     let text : String Global → List ℕ = λ path. string_bytes path in
-    let this = rw c.in-Ok.is at c.in_ok-file.ensures in
+    let this = rw (c.in-Ok.is, c.as_str.ensures.value) at c.in_ok-file.ensures in
     record {
       are = file_then text (λ file. file.items) c.args.paths.now c.paths.path-index c.path-item.result c.paths-test.true c.path-item.is
           c.paths.files.items _ c.in-Ok.file c.in_ok-push-in-Ok.ensures.items c.paths.invariant.are this.0;
